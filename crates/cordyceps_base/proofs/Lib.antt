@@ -1,0 +1,9 @@
+pub mod Crosses
+pub mod DoubleChain
+pub mod Forward
+pub mod Memory
+pub mod Nodes
+pub mod Places
+pub mod Sharing
+pub mod SingleChain
+pub mod Values

@@ -1,0 +1,6 @@
+use Rattle.std.proofs.Common.{length, ap, ◌∙◌}
+use Rattle.cordyceps_base.proofs.DoubleChain.{single}
+use Rattle.cordyceps_base.proofs.double_chain.DoubleChain.only.Goals as goal
+
+pub only-requires : goal.only-requires
+only-requires g c = let i = c.self.inside in single i.head.ptr i.tail.ptr i.len i.boxes.blocks c.get.result.now.alloc c.self.invariant (ap length c.self.view_is ∙ c.requires)

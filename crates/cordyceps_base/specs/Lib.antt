@@ -1,0 +1,10 @@
+pub mod Boxes
+pub mod BoxesLends
+pub mod DoubleChain
+pub mod DoubleChainLends
+pub mod Element
+pub mod Forward
+pub mod NodeLends
+pub mod Nodes
+pub mod SingleChain
+pub mod SingleChainLends

@@ -1,0 +1,42 @@
+-- What a clause sees of the nodes of a chain, whatever their links.
+use Rattle.std.specs.Prelude.{◌≡◌, ℕ, zero, suc, List, [], ◌∷◌, map, slice_get, Some}
+use denote.RawPtr.{Ptr}
+use Rattle.std.specs.declared.alloc.Global.{Global}
+use Rattle.cordyceps_base.specs.declared.boxes.Place.{Place}
+use Rattle.cordyceps_base.specs.declared.node.Block.{Block}
+use Rattle.cordyceps_base.specs.Element.{Element, Elements}
+
+-- nodes in order, each as the place where it lies and its element
+abbrev pub Nodes : Type 0 → Type 0
+Nodes X = List (Ptr × Element X)
+
+module _ {X : Type 0} where
+  -- where the nodes lie
+  abbrev pub spots : Nodes X → List Ptr
+  spots = map (λ n. n.0)
+
+  -- node k lies at p
+  abbrev pub IsAt : Nodes X → ℕ → Place → Type 0
+  IsAt c k p = slice_get (spots c) k ≡ Some p.ptr
+
+  -- their elements
+  abbrev pub elements : Nodes X → Elements X
+  elements = map (λ n. n.1)
+
+  -- the same nodes with w as the k-th value
+  abbrev pub with_item : Nodes X → ℕ → X → Nodes X
+  with_item [] k w = []
+  with_item (n ∷ ns) zero w = (n.0, record { id = n.1.id; value = w }) ∷ ns
+  with_item (n ∷ ns) (suc k) w = n ∷ with_item ns k w
+
+-- a node, as a chain owns it: its place, the handle that frees it and its block
+abbrev pub Owned : Type 0 → Type 0 → Type 0
+Owned X L = Ptr × Global × Block X L
+
+module _ {X L : Type 0} where
+  -- the element in a block
+  abbrev pub element_of : Block X L → Element X
+  element_of b = record { id = b.id; value = b.value }
+
+  abbrev pub shown : List (Owned X L) → Nodes X
+  shown = map (λ n. (n.0, element_of n.2))

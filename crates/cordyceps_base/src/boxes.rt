@@ -1,0 +1,138 @@
+//! A row of boxes that are reached through their raw pointers. This is all of the crate's unsafe code.
+ghost use Rattle.std.specs.Prelude.{◌≡◌, ◌≤◌, ℕ, List, [], ◌∷◌, ◌++◌, take, drop, slice_get, Some};
+ghost use Rattle.std.specs.Borrow.{sem};
+ghost use Rattle.std.specs.Box.Ownership.{box_owns};
+ghost use denote.RawPtr.{Ptr};
+ghost use Rattle.cordyceps_base.specs.Boxes.{boxes_own, boxes_lent, places, values};
+
+use std::alloc::Allocator;
+use std::marker::{Model, PhantomData, Send, Sync};
+use std::ptr;
+
+/// Where a box's value lies. It owns nothing.
+#[derive(Clone, Copy)]
+pub struct Place {
+    ptr: *mut u8,
+}
+
+impl Place {
+    /// The place of nothing.
+    pub fn nowhere() -> Place {
+        Place {
+            ptr: ptr::null_mut(),
+        }
+    }
+}
+
+unsafe impl Send for Place {}
+
+unsafe impl Sync for Place {}
+
+/// A box as its pointer and its allocator.
+pub struct Loose<B, A: Allocator> {
+    at: *mut B,
+    alloc: A,
+    ghost value: { B },
+}
+
+impl<B, A: Allocator> Model for Loose<B, A> {
+    ghost also_owns = { λ l. box_owns (A.dealloc_token l.alloc) B.row l.at l.value };
+}
+
+impl<B: Drop, A: Allocator> Loose<B, A> {
+    pub(crate) fn of(value: Box<B, A>) -> Loose<B, A>
+        ensures { result.value ≡ value.value }
+    {
+        let (at, alloc) = Box::into_raw_with_allocator(value);
+        Loose { at, alloc }
+    }
+
+    pub(crate) fn into_box(self) -> Box<B, A>
+        ensures { result.value ≡ self.value }
+    {
+        let Loose { at, alloc } = self;
+        unsafe { Box::from_raw(alloc, at) }
+    }
+}
+
+/// The owner of a row of boxes, each given by its place, its allocator and its value. It takes no space.
+pub struct Boxes<B, A: Allocator> {
+    mark: PhantomData<*mut (B, A)>,
+    ghost blocks: { List (Ptr × A × B) },
+}
+
+impl<B, A: Allocator> Model for Boxes<B, A> {
+    ghost also_owns = { λ b. boxes_own A.dealloc_token B.row b.blocks };
+
+    ghost also_shares = { λ b _ κ. boxes_lent B.row b.blocks κ };
+}
+
+// Boxes may go to another thread if their values and their allocator may.
+unsafe impl<B: Send, A: Allocator + Send> Send for Boxes<B, A> {}
+
+impl<B, A: Allocator> Boxes<B, A> {
+    ghost use Rattle.cordyceps_base.specs.BoxesLends.{lends_value};
+
+    pub(crate) fn empty() -> Boxes<B, A>
+        ensures { result.blocks ≡ [] }
+    {
+        Boxes { mark: PhantomData }
+    }
+
+    pub(crate) fn discard(self)
+        requires { self.blocks ≡ [] }
+    {
+        let Boxes { mark: _ } = self;
+    }
+
+    pub(crate) fn one(block: Loose<B, A>) -> (Place, A, Boxes<B, A>)
+        ensures { result.2.blocks ≡ (result.0.ptr, result.1, block.value) ∷ [] }
+    {
+        let Loose { at, alloc } = block;
+        let ptr = at as *mut u8;
+        (Place { ptr }, alloc, Boxes { mark: PhantomData })
+    }
+
+    pub(crate) fn only(self, at: Place, alloc: A) -> Loose<B, A>
+        requires { (x : B) × (self.blocks ≡ (at.ptr, alloc, x) ∷ []) }
+        ensures { self.blocks ≡ (at.ptr, alloc, result.value) ∷ [] }
+    {
+        let Boxes { mark: _ } = self;
+        let at = at.ptr as *mut B;
+        Loose { at, alloc }
+    }
+
+    pub(crate) fn join(self, other: Boxes<B, A>) -> Boxes<B, A>
+        ensures { result.blocks ≡ self.blocks ++ other.blocks }
+    {
+        let Boxes { mark: _ } = self;
+        let Boxes { mark: _ } = other;
+        Boxes { mark: PhantomData }
+    }
+
+    /// The first `count` boxes, and the others.
+    pub(crate) fn cut(self, count: usize) -> (Boxes<B, A>, Boxes<B, A>)
+        ensures { (result.0.blocks ≡ take count self.blocks) × (result.1.blocks ≡ drop count self.blocks) }
+    {
+        let Boxes { mark: _ } = self;
+        (Boxes { mark: PhantomData }, Boxes { mark: PhantomData })
+    }
+
+    /// `k` is the index of the box at `at`, which only the proof needs.
+    pub(crate) fn get(&self, at: Place, k: usize) -> &B
+        requires { slice_get (places self.now.blocks) k ≡ Some at.ptr }
+        ensures { slice_get (values self.now.blocks) k ≡ Some result.now }
+    {
+        let at = at.ptr as *mut B;
+        unsafe { &*at }
+    }
+
+    pub(crate) fn get_mut(&mut self, at: Place, k: usize) -> &mut B
+        requires { slice_get (places self.old.blocks) k ≡ Some at.ptr }
+        ensures* writes_back { sem 𝓛 (lends_value B.row A.row A.Allocator self.entry k result) }
+        ensures value { slice_get (values self.old.blocks) k ≡ Some result.now }
+    {
+        let at = at.ptr as *mut B;
+        unsafe { &mut *at }
+    }
+}

@@ -1,0 +1,22 @@
+//! The link of the nodes that a single chain links.
+use crate::boxes::Place;
+use crate::node::Sealed;
+use std::marker::PhantomData;
+
+/// The link to the node after. `K` tells apart the collections that link such nodes.
+#[derive(Drop)]
+pub struct NextLink<T, K> {
+    pub(crate) next: Place,
+    value: PhantomData<T>,
+    kind: PhantomData<K>,
+}
+
+impl<T, K> Sealed for NextLink<T, K> {
+    fn unlinked() -> NextLink<T, K> {
+        NextLink {
+            next: Place::nowhere(),
+            value: PhantomData,
+            kind: PhantomData,
+        }
+    }
+}

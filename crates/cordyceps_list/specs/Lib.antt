@@ -1,0 +1,2 @@
+pub mod Fingers
+pub mod Lending

@@ -1,0 +1,164 @@
+//! The list.
+ghost use Rattle.std.specs.Prelude.{◌≡◌, ◌+◌, ◌-◌, ◌<◌, ◌≤◌, ◌==◌, [], ◌∷◌, ◌++◌, length, slice_get, MatchOption, option_copied, Some};
+ghost use Rattle.std.specs.Option.{option_copied_mut};
+ghost use Rattle.std.specs.Borrow.{sem};
+ghost use Rattle.cordyceps_base.specs.Element.{values};
+
+use crate::finger::Fingers;
+use cordyceps_base::double_chain::DoubleChain;
+use cordyceps_base::linked::Linked;
+pub use cordyceps_base::list::Links;
+use std::marker::Model;
+
+/// A doubly linked list of owned nodes. A contract sees its elements, in order.
+///
+/// Handles go in and come out as the same elements; linking takes no memory and cannot be refused. The length is kept.
+/// A drop frees each node once.
+#[derive(Drop)]
+pub struct List<T> {
+    chain: DoubleChain<T>,
+    fingers: Fingers,
+}
+
+impl<T> Model for List<T> {
+    ghost use Rattle.cordyceps_base.specs.Element.{Elements};
+    ghost use Rattle.cordyceps_base.specs.Nodes.{elements};
+    ghost use Rattle.cordyceps_list.specs.Fingers.{AllFit};
+
+    ghost Value = { Elements T };
+
+    ghost view = { λ l. elements l.chain };
+
+    ghost invariant = { λ l. AllFit l.chain l.fingers };
+}
+
+impl<T: Linked<Links<T>>> Default for List<T> {
+    ghost is_default = { λ l. l ≡ [] };
+
+    fn default() -> List<T> {
+        List::new()
+    }
+}
+
+impl<T: Linked<Links<T>>> List<T> {
+    ghost use Rattle.cordyceps_list.specs.Lending.{LendsAt, LendsIfAt};
+
+    /// An empty list. It takes no memory.
+    pub fn new() -> List<T>
+        ensures { result ≡ [] }
+    {
+        let chain = DoubleChain::empty();
+        let fingers = Fingers::new(&chain);
+        List { chain, fingers }
+    }
+
+    /// The number of elements, at once.
+    pub fn len(&self) -> usize
+        ensures { result ≡ length self.now }
+    {
+        self.chain.len()
+    }
+
+    /// Whether there is no element.
+    pub fn is_empty(&self) -> bool
+        ensures { result ≡ (length self.now == 0) }
+    {
+        self.len() == 0
+    }
+
+    /// Puts an element first, at once. There must be room in the length.
+    pub fn push_front(&mut self, handle: T::Handle)
+        requires { length self.old < usize.MAX }
+        ensures { self.new ≡ T.element handle ∷ self.old }
+    {
+        self.fingers = self.fingers.after_push_front();
+        self.chain.link_front(T::into_ptr(handle));
+    }
+
+    /// Puts an element last, at once. There must be room in the length.
+    pub fn push_back(&mut self, handle: T::Handle)
+        requires { length self.old < usize.MAX }
+        ensures { self.new ≡ self.old ++ T.element handle ∷ [] }
+    {
+        let len = self.chain.len();
+        self.fingers = self.fingers.after_change(len, len + 1);
+        self.chain.link_back(T::into_ptr(handle));
+    }
+
+    /// Takes the first element out, at once. `None` where there is none.
+    pub fn pop_front(&mut self) -> Option<T::Handle>
+        ensures { MatchOption result ((self.old ≡ []) × (self.new ≡ [])) (λ h. self.old ≡ T.element h ∷ self.new) }
+    {
+        if self.chain.len() == 0 {
+            return None;
+        }
+        self.fingers = self.fingers.after_pop_front(self.chain.len() - 1);
+        Some(T::from_ptr(self.chain.unlink_front()))
+    }
+
+    /// Takes the last element out, at once. `None` where there is none.
+    pub fn pop_back(&mut self) -> Option<T::Handle>
+        ensures { MatchOption result ((self.old ≡ []) × (self.new ≡ [])) (λ h. self.old ≡ self.new ++ T.element h ∷ []) }
+    {
+        if self.chain.len() == 0 {
+            return None;
+        }
+        let kept = self.chain.len() - 1;
+        self.fingers = self.fingers.after_change(kept, kept);
+        Some(T::from_ptr(self.chain.unlink_back()))
+    }
+
+    /// The first value. `None` where there is none.
+    pub fn front(&self) -> Option<&T>
+        ensures { option_copied result ≡ slice_get (values self.now) 0 }
+    {
+        if self.chain.len() == 0 {
+            return None;
+        }
+        Some(self.chain.get(self.chain.head(), 0))
+    }
+
+    /// The last value. `None` where there is none.
+    pub fn back(&self) -> Option<&T>
+        ensures { option_copied result ≡ slice_get (values self.now) (length self.now - 1) }
+    {
+        if self.chain.len() == 0 {
+            return None;
+        }
+        Some(self.chain.get(self.chain.tail(), self.chain.len() - 1))
+    }
+
+    /// The first value, to be changed. The element keeps its number. `None` where there is none.
+    pub fn front_mut(&mut self) -> Option<&mut T>
+        ensures* writes_back { sem 𝓛 (LendsIfAt T.row self.entry 0 result) }
+        ensures value { option_copied_mut result ≡ slice_get (values self.old) 0 }
+    {
+        if self.chain.len() == 0 {
+            return None;
+        }
+        Some(self.value_mut_at(0))
+    }
+
+    /// The last value, to be changed. The element keeps its number. `None` where there is none.
+    pub fn back_mut(&mut self) -> Option<&mut T>
+        ensures* writes_back { sem 𝓛 (LendsIfAt T.row self.entry (length self.old - 1) result) }
+        ensures value { option_copied_mut result ≡ slice_get (values self.old) (length self.old - 1) }
+    {
+        let len = self.chain.len();
+        if len == 0 {
+            return None;
+        }
+        Some(self.value_mut_at(len - 1))
+    }
+
+    /// Lends the value at a place with an element, in as many moves as it is away from the nearest of the two ends and
+    /// the two fingers.
+    pub(crate) fn value_mut_at(&mut self, at: usize) -> &mut T
+        requires { at < length self.old }
+        ensures* writes_back { sem 𝓛 (LendsAt T.row self.entry at result) }
+        ensures value { slice_get (values self.old) at ≡ Some result.now }
+    {
+        let place = self.fingers.seek(&self.chain, at);
+        self.chain.get_mut(place, at)
+    }
+}

@@ -1,0 +1,11 @@
+pub mod Pieces
+pub mod Leads
+pub mod Blocks
+pub mod Halting
+pub mod Running
+pub mod Splitting
+pub mod Numbers
+pub mod Playing
+pub mod Texts
+pub mod Lines
+pub mod Spelling

@@ -1,0 +1,14 @@
+use Rattle.std.proofs.Common.{◌≡◌, ℕ, ◌<◌, List, [], ◌∷◌, length, map, get_or, arith, sym, ◌∙◌, ap}
+use Rattle.std.proofs.lemmas.Slice.Eq.{bytes_eq-Decides}
+use Rattle.std.specs.Prelude.{string_bytes}
+use Rattle.cordyceps_replay.proofs.choose.Goals as goal
+
+single : {A : Type 0} (f : A → List ℕ) (xs : List A) (x : A) (text : List ℕ) → 0 < length xs → length xs < 2 → x ≡ get_or xs 0 x → f x ≡ text → map f xs ≡ text ∷ []
+single f [] x text some few is same = absurd (omega arith)
+single f (y ∷ []) x text some few is same = ap (λ (t : List ℕ). t ∷ []) (ap f (sym is) ∙ same)
+single f (y ∷ z ∷ xs) x text some few is same = absurd (omega arith)
+
+pub returns-in-len1 : goal.returns-in-len1
+returns-in-len1 c =
+    let same = (bytes_eq-Decides c.as_str.result.now _).0 (sym c.eq.ensures ∙ c.if-eq.true) in
+    single string_bytes c.args.words.now c.word-item.result _ (omega (arith, c.in-len1.len_at_least)) (omega (arith, c.in-len1.len_below)) c.word-item.is (sym c.as_str.ensures.value ∙ same)

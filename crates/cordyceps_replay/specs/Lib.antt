@@ -1,0 +1,10 @@
+pub mod Known
+pub mod Script
+pub mod Steps
+pub mod Halts
+pub mod Faults
+pub mod Words
+pub mod ListScript
+pub mod Spelling
+pub mod Arguments
+pub mod Streams

@@ -1,0 +1,95 @@
+-- The lines of mode list, and their replies.
+use Rattle.std.specs.Prelude.{ℕ, List, [], ◌∷◌, ◌++◌, Option, None, Some, if◌then◌else◌, codes, decimal}
+use Rattle.std.specs.Option.{option_map, option_and_then}
+use Rattle.std.specs.List.{flat_map}
+use Rattle.std.specs.Str.{bytes_eq}
+use Rattle.cordyceps.specs.declared.replay.item.Item.{Item}
+use Rattle.cordyceps.specs.declared.replay.lists.ListCommand.{ListCommand}
+use Rattle.cordyceps.specs.declared.replay.lists.ListCommand.TheVariants as commands
+use Rattle.cordyceps.specs.Tables.{Table, Line, done, found, nothing, len, not_there, step}
+use Rattle.cordyceps_replay.specs.Script.{Machine}
+use Rattle.cordyceps_replay.specs.Words.{words, number_of, structure_number_of}
+use Rattle.cordyceps_replay.specs.declared.list_command.Verb.{Verb}
+use Rattle.cordyceps_replay.specs.declared.list_command.Verb.TheVariants as verbs
+
+abbrev pub verb_of : List ℕ → Option Verb
+verb_of word =
+    if bytes_eq word (codes "pushf") then Some verbs.PushFront
+    else if bytes_eq word (codes "pushb") then Some verbs.PushBack
+    else if bytes_eq word (codes "popf") then Some verbs.PopFront
+    else if bytes_eq word (codes "popb") then Some verbs.PopBack
+    else if bytes_eq word (codes "front") then Some verbs.Front
+    else if bytes_eq word (codes "back") then Some verbs.Back
+    else if bytes_eq word (codes "setf") then Some verbs.SetFront
+    else if bytes_eq word (codes "setb") then Some verbs.SetBack
+    else if bytes_eq word (codes "len") then Some verbs.Len
+    else None
+
+-- the words L
+abbrev pub list_of_words : List (List ℕ) → Option ℕ
+list_of_words (list ∷ []) = structure_number_of list
+list_of_words [] = None
+list_of_words (list ∷ word ∷ words) = None
+
+-- the words ID V
+abbrev pub item_of : List (List ℕ) → Option Item
+item_of (id ∷ value ∷ []) = option_and_then (λ i. option_map (λ v. record { value = v; id = i }) (number_of value)) (number_of id)
+item_of [] = None
+item_of (id ∷ []) = None
+item_of (id ∷ value ∷ word ∷ words) = None
+
+-- the words L ID V
+abbrev pub list_and_item_of : List (List ℕ) → Option (ℕ × Item)
+list_and_item_of [] = None
+list_and_item_of (list ∷ words) = option_and_then (λ l. option_map (λ item. (l, item)) (item_of words)) (structure_number_of list)
+
+-- the words L V
+abbrev pub list_and_value_of : List (List ℕ) → Option (ℕ × ℕ)
+list_and_value_of (list ∷ value ∷ []) = option_and_then (λ l. option_map (λ v. (l, v)) (number_of value)) (structure_number_of list)
+list_and_value_of [] = None
+list_and_value_of (list ∷ []) = None
+list_and_value_of (list ∷ value ∷ word ∷ words) = None
+
+-- what a command word and the words after it mean
+abbrev pub command_with : Verb → List (List ℕ) → Option ListCommand
+command_with verbs.PushFront words = option_map (λ x. commands.PushFront x.0 x.1) (list_and_item_of words)
+command_with verbs.PushBack words = option_map (λ x. commands.PushBack x.0 x.1) (list_and_item_of words)
+command_with verbs.PopFront words = option_map (λ l. commands.PopFront l) (list_of_words words)
+command_with verbs.PopBack words = option_map (λ l. commands.PopBack l) (list_of_words words)
+command_with verbs.Front words = option_map (λ l. commands.Front l) (list_of_words words)
+command_with verbs.Back words = option_map (λ l. commands.Back l) (list_of_words words)
+command_with verbs.SetFront words = option_map (λ x. commands.SetFront x.0 x.1) (list_and_value_of words)
+command_with verbs.SetBack words = option_map (λ x. commands.SetBack x.0 x.1) (list_and_value_of words)
+command_with verbs.Len words = option_map (λ l. commands.Len l) (list_of_words words)
+
+abbrev pub command_of_words : List (List ℕ) → Option ListCommand
+command_of_words [] = None
+command_of_words (verb ∷ words) = option_and_then (λ v. command_with v words) (verb_of verb)
+
+-- what a line means; None where it is bad
+abbrev pub command_of : List ℕ → Option ListCommand
+command_of line = command_of_words (words line)
+
+-- the reply line
+abbrev pub line_text : Line → List ℕ
+line_text done = codes "ok\n"
+line_text (found item) = codes "some " ++ decimal item.id ++ codes " " ++ decimal item.value ++ codes "\n"
+line_text nothing = codes "none\n"
+line_text (len n) = codes "len " ++ decimal n ++ codes "\n"
+line_text not_there = codes "not there\n"
+
+-- the reply lines of a command, one for each of its lines
+abbrev pub text_of : List Line → List ℕ
+text_of replies = flat_map line_text replies
+
+-- the table and the text after a command
+abbrev pub answered : Table × List Line → Table × List (List ℕ)
+answered next = (next.0, text_of next.1 ∷ [])
+
+-- a good line is a command
+abbrev pub take_line : Table → List ℕ → Option (Table × List (List ℕ))
+take_line table line = option_map (λ command. answered (step table command)) (command_of line)
+
+-- Each good line is a command, and its replies are lines. The end completes nothing.
+abbrev pub list_machine : Machine Table
+list_machine = record { step = take_line; ending = λ table. [] }

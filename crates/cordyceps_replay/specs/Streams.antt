@@ -1,0 +1,11 @@
+-- What a source and a sink stand on.
+use Rattle.cordyceps_replay.specs.declared.stream.FromRead.{FromRead}
+use Rattle.cordyceps_replay.specs.declared.stream.ToWrite.{ToWrite}
+
+-- the reader of a source
+abbrev pub reader_of : {R : Type 0} → FromRead R → R
+reader_of source = source.reader
+
+-- the writer of a sink
+abbrev pub writer_of : {W : Type 0} → ToWrite W → W
+writer_of sink = sink.writer

@@ -1,0 +1,121 @@
+//! Runs scripts of commands over lists: reads lines, and writes the replies to them.
+#![tactic(auto)]
+
+ghost use Rattle.std.specs.Prelude.{◌≡◌, List, map, string_bytes};
+ghost use Rattle.cordyceps.specs.Tables.{empty_lists};
+ghost use Rattle.cordyceps_replay.specs.Script.{Runs};
+ghost use Rattle.cordyceps_replay.specs.ListScript.{list_machine};
+ghost use Rattle.cordyceps_replay.specs.Arguments.{Chooses};
+
+mod fault;
+mod list_command;
+mod list_session;
+mod reply;
+mod script;
+mod session;
+mod stream;
+#[cfg(test)]
+mod tests;
+mod text;
+mod words;
+
+pub use fault::Fault;
+use list_session::ListSession;
+pub use script::run_script;
+pub use session::Session;
+use std::alloc::Global;
+use std::io::ErrorKind;
+use std::process::ExitCode;
+use std::{env, io};
+pub use stream::{Failed, FromRead, Sink, Source, ToWrite};
+
+/// The line on standard error where the arguments name no mode, without its line feed.
+pub const USAGE: &str = "usage: cordyceps_replay list|stack|sorted|transfer|queue|share";
+
+/// What the commands of a script are.
+#[derive(Clone, Copy, Debug, PartialEq, Eq)]
+pub enum Mode {
+    /// Commands over sixteen lists.
+    List,
+}
+
+/// What the arguments ask for.
+#[derive(Clone, Copy, Debug, PartialEq, Eq)]
+pub enum Choice {
+    /// To run a script in mode `list`.
+    List,
+}
+
+/// Reads the words after the program's name: exactly one, which names a mode. `None` means that they are not that.
+pub fn choose(words: &[String]) -> Option<Choice>
+    ensures { Chooses (map string_bytes words.now) result }
+{
+    match words {
+        [word] if word.as_str() == "list" => Some(Choice::List),
+        _ => None,
+    }
+}
+
+/// Runs the script that the source gives, and writes its replies to the sink.
+///
+/// A line ends with a line feed, which the last one may lack, and has at most 120 bytes without it. After a bad line or
+/// a failed read the replies to the lines before it stand written. After a failed write, what the sink took is a
+/// beginning of the replies. After refused memory, the replies to the commands before some command stand written, each
+/// as a whole. More may be read than the lines that were taken.
+///
+/// The source is read in blocks of 65,536 bytes, and that is how much of the input and, but for one line's replies, of
+/// the replies waits in memory.
+pub fn run<I: Source, O: Sink>(
+    alloc: Global,
+    mode: Mode,
+    input: &mut I,
+    output: &mut O,
+) -> Result<(), Fault>
+    requires reading { I.has_failed input.old → ⊥ }
+    requires writing { O.has_failed output.old → ⊥ }
+    ensures { Runs list_machine (empty_lists 16) (I.gives input.old input.new) (I.at_end input.new) (I.has_failed input.new) (O.takes output.old output.new) (O.has_failed output.new) result }
+{
+    match mode {
+        Mode::List => {
+            let mut session = ListSession::new(alloc);
+            run_script(alloc, &mut session, input, output)
+        }
+    }
+}
+
+/// The words after the program's name.
+fn arguments(rt: &HostRuntime) -> io::Result<Vec<String>> {
+    let mut words = Vec::new(rt.alloc());
+    for word in env::args(rt)?.skip(1) {
+        words.push(word)?;
+    }
+    Ok(words)
+}
+
+/// Writes a fault's text on standard error. Its status is the program's.
+fn report(rt: &HostRuntime, fault: Fault) -> ExitCode {
+    let _ = rt.eprintln(fault);
+    ExitCode::from(fault.status())
+}
+
+fn main(rt: HostRuntime) -> ExitCode {
+    let choice = match arguments(&rt) {
+        Ok(words) => choose(&words),
+        // an argument that is not text names no mode
+        Err(error) if error.kind() == ErrorKind::InvalidData => None,
+        Err(_) => return report(&rt, Fault::Memory),
+    };
+    let mode = match choice {
+        Some(Choice::List) => Mode::List,
+        None => {
+            let _ = rt.eprintln(USAGE);
+            return ExitCode::from(1);
+        }
+    };
+    let mut input = FromRead::new(rt.reader());
+    let mut output = ToWrite::new(io::writer(&rt));
+    match run(rt.alloc(), mode, &mut input, &mut output) {
+        Ok(()) => ExitCode::SUCCESS,
+        Err(fault) => report(&rt, fault),
+    }
+}

@@ -1,0 +1,11 @@
+//! Tests of the library's crates, each through its public names.
+#![tactic(auto)]
+
+#[cfg(test)]
+mod chains;
+#[cfg(test)]
+mod counted;
+#[cfg(test)]
+mod lists;
+#[cfg(test)]
+mod nodes;
