@@ -9,3 +9,5 @@ mod counted;
 mod lists;
 #[cfg(test)]
 mod nodes;
+#[cfg(test)]
+mod replays;
