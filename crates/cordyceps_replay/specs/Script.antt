@@ -5,8 +5,9 @@ use Rattle.std.specs.List.{slice_split, concat}
 use Rattle.cordyceps_replay.specs.declared.fault.Fault.{Fault}
 use Rattle.cordyceps_replay.specs.declared.fault.Fault.TheVariants as faults
 
--- A mode as a machine over lines. A line leads to a state, and to the texts of the replies to the commands that it
--- completes, a text for each; a bad line leads nowhere. The end of the lines completes the commands that are still open.
+-- What a mode does, as a machine over lines. A line leads to a state, and to the texts of the replies to the commands
+-- that it completes, a text for each; a bad line leads nowhere. The end of the lines completes the commands that are
+-- still open.
 pub record Machine (S : Type 0) : Type 0 where
   pub step : S → List ℕ → Option (S × List (List ℕ))
   pub ending : S → List (List ℕ)

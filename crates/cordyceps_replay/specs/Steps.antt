@@ -24,13 +24,13 @@ HasNoFeed bytes = All (λ b. nat_eq b 10 ≡ false) bytes
 abbrev pub Writes : {O : Type 0} → (O → O → List ℕ → Type 0) → O → List ℕ → O → List ℕ → List ℕ → Type 0
 Writes takes old text new rest added = (written : List ℕ) × takes old new written × (text ++ added ≡ written ++ rest)
 
--- a mode took a line, and its replies were added to the text
+-- a session took a line, and its replies were added to the text
 abbrev pub TakesLine : {S E : Type 0} → Machine S → S → List ℕ → S → List ℕ → List ℕ → Result Bool E → Type 0
 TakesLine machine old line new text after (Ok true) = (texts : List (List ℕ)) × (machine.step old line ≡ Some (new, texts)) × (after ≡ text ++ concat texts)
 TakesLine machine old line new text after (Ok false) = (machine.step old line ≡ None) × (new ≡ old) × (after ≡ text)
 TakesLine {S} machine old line new text after (Err e) = (last : S) × (texts : List (List ℕ)) × (n : ℕ) × (machine.step old line ≡ Some (last, texts)) × (after ≡ text ++ concat (take n texts))
 
--- a mode's last replies were added to the text
+-- a session's last replies were added to the text
 abbrev pub Ends : {S E : Type 0} → Machine S → S → List ℕ → List ℕ → Result (Unit {0}) E → Type 0
 Ends machine old text after (Ok _) = after ≡ text ++ concat (machine.ending old)
 Ends machine old text after (Err e) = (n : ℕ) × (after ≡ text ++ concat (take n (machine.ending old)))

@@ -1,6 +1,6 @@
 -- What a source and a sink stand on.
-use Rattle.cordyceps_replay.specs.declared.stream.FromRead.{FromRead}
-use Rattle.cordyceps_replay.specs.declared.stream.ToWrite.{ToWrite}
+use Rattle.cordyceps_replay.specs.declared.source.FromRead.{FromRead}
+use Rattle.cordyceps_replay.specs.declared.sink.ToWrite.{ToWrite}
 
 -- the reader of a source
 abbrev pub reader_of : {R : Type 0} → FromRead R → R

@@ -1,5 +1,9 @@
 use std::fmt;
 
+/// A read or a write failed.
+#[derive(Clone, Copy, Debug, PartialEq, Eq)]
+pub struct Failed;
+
 /// Why a run stopped before the end of its input. Its text is the line for standard error, without a line feed.
 #[derive(Clone, Copy, Debug, PartialEq, Eq)]
 pub enum Fault {

@@ -1,7 +1,7 @@
 //! Runs scripts of commands over lists: reads lines, and writes the replies to them.
 #![tactic(auto)]
 
-ghost use Rattle.std.specs.Prelude.{◌≡◌, List, map, string_bytes};
+ghost use Rattle.std.specs.Prelude.{map, string_bytes};
 ghost use Rattle.cordyceps.specs.Tables.{empty_lists};
 ghost use Rattle.cordyceps_replay.specs.Script.{Runs};
 ghost use Rattle.cordyceps_replay.specs.ListScript.{list_machine};
@@ -13,21 +13,23 @@ mod list_session;
 mod reply;
 mod script;
 mod session;
-mod stream;
+mod sink;
+mod source;
 #[cfg(test)]
 mod tests;
 mod text;
 mod words;
 
-pub use fault::Fault;
+pub use fault::{Failed, Fault};
 use list_session::ListSession;
 pub use script::run_script;
 pub use session::Session;
+pub use sink::{Sink, ToWrite};
+pub use source::{FromRead, Source};
 use std::alloc::Global;
 use std::io::ErrorKind;
 use std::process::ExitCode;
 use std::{env, io};
-pub use stream::{Failed, FromRead, Sink, Source, ToWrite};
 
 /// The line on standard error where the arguments name no mode, without its line feed.
 pub const USAGE: &str = "usage: cordyceps_replay list|stack|sorted|transfer|queue|share";
@@ -73,7 +75,9 @@ pub fn run<I: Source, O: Sink>(
 ) -> Result<(), Fault>
     requires reading { I.has_failed input.old → ⊥ }
     requires writing { O.has_failed output.old → ⊥ }
-    ensures { Runs list_machine (empty_lists 16) (I.gives input.old input.new) (I.at_end input.new) (I.has_failed input.new) (O.takes output.old output.new) (O.has_failed output.new) result }
+    ensures { Runs list_machine (empty_lists 16)
+        (I.gives input.old input.new) (I.at_end input.new) (I.has_failed input.new)
+        (O.takes output.old output.new) (O.has_failed output.new) result }
 {
     match mode {
         Mode::List => {

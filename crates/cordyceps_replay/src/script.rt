@@ -1,12 +1,13 @@
-ghost use Rattle.std.specs.Prelude.{◌≡◌, ◌++◌, ◌+◌, ◌-◌, ◌<◌, ◌≤◌, ◌^◌, ℕ, List, [], length, take, drop, IfOk, OnErr, OnOk, IsTrue, ◌↔◌, Err};
+ghost use Rattle.std.specs.Prelude.{◌≡◌, ◌+◌, ◌-◌, ◌<◌, ◌≤◌, ◌^◌, [], length, take, drop, IfOk, OnErr, IsTrue, ◌↔◌, Err};
 ghost use Rattle.cordyceps_replay.specs.Steps.{TakesOne, TakesLines, TakesLast, Reads, fault_of};
 ghost use Rattle.cordyceps_replay.specs.Halts.{Halts, EndsLines};
 ghost use Rattle.cordyceps_replay.specs.Script.{Runs};
 ghost use Rattle.cordyceps_replay.specs.declared.fault.Fault.{Fault};
 
-use crate::fault::Fault;
+use crate::fault::{Failed, Fault};
 use crate::session::{Session, Stop};
-use crate::stream::{Failed, Sink, Source};
+use crate::sink::Sink;
+use crate::source::Source;
 use crate::text::flush;
 use memchr::memchr;
 use std::alloc::Global;
@@ -24,7 +25,8 @@ fn take_line<S: Session, O: Sink>(
     text: &mut Vec<u8>,
     output: &mut O,
 ) -> Result<(), Stop>
-    ensures { TakesOne S.machine (S.state session.old) line.now (S.state session.new) O.takes output.old text.old.items output.new text.new.items (O.has_failed output.new) result }
+    ensures { TakesOne S.machine (S.state session.old) line.now (S.state session.new)
+        O.takes output.old text.old.items output.new text.new.items (O.has_failed output.new) result }
 {
     if line.len() > LONGEST_LINE {
         return Err(Stop::Bad);
@@ -49,7 +51,9 @@ fn take_lines<S: Session, O: Sink>(
     output: &mut O,
 ) -> Result<usize, Stop>
     requires { count.old + length block.now < 2 ^ 64 }
-    ensures taken { TakesLines S.machine (S.state session.old) block.now (S.state session.new) O.takes output.old text.old.items output.new text.new.items (O.has_failed output.new) count.old count.new result }
+    ensures taken { TakesLines S.machine (S.state session.old) block.now (S.state session.new)
+        O.takes output.old text.old.items output.new text.new.items (O.has_failed output.new)
+        count.old count.new result }
     ensures bound { count.new ≤ count.old + length block.now }
 {
     let mut start = 0;
@@ -80,7 +84,8 @@ fn take_last<S: Session, O: Sink>(
     text: &mut Vec<u8>,
     output: &mut O,
 ) -> Result<(), Stop>
-    ensures { TakesLast S.machine (S.state session.old) line.now (S.state session.new) O.takes output.old text.old.items output.new text.new.items (O.has_failed output.new) result }
+    ensures { TakesLast S.machine (S.state session.old) line.now (S.state session.new)
+        O.takes output.old text.old.items output.new text.new.items (O.has_failed output.new) result }
 {
     if line.is_empty() {
         return Ok(());
@@ -122,7 +127,9 @@ fn read_lines<S: Session, I: Source, O: Sink>(
     text: &mut Vec<u8>,
 ) -> Result<(), Fault>
     requires { 120 < length block.old }
-    ensures { Halts S.machine (S.state session.old) (S.state session.new) (I.gives input.old input.new) (I.at_end input.new) (I.has_failed input.new) O.takes output.old text.old.items output.new text.new.items (O.has_failed output.new) result }
+    ensures { Halts S.machine (S.state session.old) (S.state session.new)
+        (I.gives input.old input.new) (I.at_end input.new) (I.has_failed input.new)
+        O.takes output.old text.old.items output.new text.new.items (O.has_failed output.new) result }
 {
     let mut count = 0u64;
     let mut held = 0usize;
@@ -180,13 +187,18 @@ fn has_stopped_writing(halt: Result<(), Fault>) -> bool
 }
 
 /// Runs a script: reads its lines, and writes the replies to them.
+///
+/// The lines go to the session, up to the first bad one or to the end of the input, which is then told of the end. What
+/// stands written after a fault is as `run` says. At the call the source, the sink and the session may be in any state.
 pub fn run_script<S: Session, I: Source, O: Sink>(
     alloc: Global,
     session: &mut S,
     input: &mut I,
     output: &mut O,
 ) -> Result<(), Fault>
-    ensures { Runs S.machine (S.state session.old) (I.gives input.old input.new) (I.at_end input.new) (I.has_failed input.new) (O.takes output.old output.new) (O.has_failed output.new) result }
+    ensures { Runs S.machine (S.state session.old)
+        (I.gives input.old input.new) (I.at_end input.new) (I.has_failed input.new)
+        (O.takes output.old output.new) (O.has_failed output.new) result }
 {
     let Ok(mut block) = vec![in alloc; 0u8; BLOCK] else {
         return Err(Fault::Memory);

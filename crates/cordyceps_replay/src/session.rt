@@ -1,5 +1,3 @@
-ghost use Rattle.std.specs.Prelude.{◌≡◌, ◌++◌, ℕ, List, take, IfOk, IfErr, OnErr, Ok, Err, true, false};
-ghost use Rattle.std.specs.List.{concat};
 ghost use Rattle.cordyceps_replay.specs.Script.{Machine};
 ghost use Rattle.cordyceps_replay.specs.Steps.{TakesLine, Ends};
 
@@ -24,7 +22,8 @@ pub trait Session {
     /// of the commands were added, each as a whole, and the session takes no further line. The cost is that of the
     /// commands and their texts.
     fn take(&mut self, line: &[u8], text: &mut Vec<u8>) -> Result<bool, AllocError>
-        ensures { TakesLine machine (state self.old) line.now (state self.new) text.old.items text.new.items result };
+        ensures { TakesLine machine (state self.old) line.now (state self.new)
+            text.old.items text.new.items result };
 
     /// Adds the texts of what the end of the lines completes.
     ///

@@ -73,26 +73,44 @@ const STORED: &[u8] = b"pushb 0 1 1\npushb 0 2 2\npushf 0 3 3\npopf 0\npopb 0\nl
 const REPLIES: &[u8] = b"ok\nok\nok\nsome 3 3\nsome 2 2\nlen 1\nnone\n";
 
 #[test]
-fn replies(rt: HostRuntime) -> Result<(), Fail> {
-    let table: [(&[u8], &[u8]); 5] = [
-        (STORED, REPLIES),
-        (b"", b""),
+fn scripts(rt: HostRuntime) -> Result<(), Fail> {
+    let table: [(&[u8], &[u8], Result<(), Fault>); 8] = [
+        (STORED, REPLIES, Ok(())),
+        (
+            b"popf 0\npopf 16\npopf 0\n",
+            b"none\n",
+            Err(Fault::BadLine(2)),
+        ),
+        (b"", b"", Ok(())),
+        (
+            b"pushf 0 18446744073709551616 0\n",
+            b"",
+            Err(Fault::BadLine(1)),
+        ),
         (
             b"pushf 0 18446744073709551615 18446744073709551615\npopf 0",
             b"ok\nsome 18446744073709551615 18446744073709551615\n",
+            Ok(()),
         ),
         (
             b"pushb 0 1 1\npushb 0 2 2\npushb 0 3 3\npushb 0 4 4\nsetb 0 9\nback 0\nsetf 1 9\nlen 0\n",
             b"ok\nok\nok\nok\nok\nsome 4 9\nnone\nlen 4\n",
+            Ok(()),
         ),
         (
             b"pushb 15 7 70\npushb 15 7 71\nsetf 15 5\nfront 15\nback 15\nsetb 3 0\nfront 3\nback 3\n",
             b"ok\nok\nok\nsome 7 5\nsome 7 71\nnone\nnone\nnone\n",
+            Ok(()),
+        ),
+        (
+            b"len 0\nlen 0\nle",
+            b"len 0\nlen 0\n",
+            Err(Fault::BadLine(3)),
         ),
     ];
-    for (lines, expected) in table {
+    for (lines, expected, ending) in table {
         let (end, text) = outcome(rt.alloc(), whole(lines));
-        assert_eq!(rt; end, Ok(()), "at {lines:?}");
+        assert_eq!(rt; end, ending, "at {lines:?}");
         assert_eq!(rt; text.as_slice(), expected, "at {lines:?}");
     }
     Ok(())

@@ -1,7 +1,8 @@
-ghost use Rattle.std.specs.Prelude.{◌≡◌, ◌++◌, ◌≤◌, ℕ, List, [], length, take, drop, OnErr, OnOk};
+ghost use Rattle.std.specs.Prelude.{◌≡◌, ℕ, List, [], OnErr, OnOk};
 ghost use Rattle.cordyceps_replay.specs.Steps.{Writes};
 
-use crate::stream::{Failed, Sink};
+use crate::fault::Failed;
+use crate::sink::Sink;
 
 /// Writes the whole text, which is empty then.
 pub fn flush<O: Sink>(output: &mut O, text: &mut Vec<u8>) -> Result<(), Failed>

@@ -1,4 +1,4 @@
-ghost use Rattle.std.specs.Prelude.{◌≡◌, ◌∷◌, [], ◌<◌, ◌^◌, ℕ, Some, length, decimal, IfSome, MatchOption};
+ghost use Rattle.std.specs.Prelude.{◌≡◌, ◌<◌, ◌^◌, ℕ, Some, decimal, IfSome};
 ghost use Rattle.cordyceps_replay.specs.Words.{number_of, structure_number_of, words_left};
 
 use memchr::memchr;
