@@ -1,5 +1,5 @@
 -- What stays linked where double chains are joined and cut.
-use Rattle.std.proofs.Common.{◌≡◌, ℕ, zero, suc, ◌+◌, ◌-◌, ◌<◌, List, [], ◌∷◌, ◌++◌, length, take, drop, slice_get, Some, refl, sym, ap, ◌∙◌, subst, arith, length-append}
+use Rattle.std.proofs.Common.{◌≡◌, ℕ, zero, suc, ◌+◌, ◌-◌, ◌<◌, ◌≤◌, List, [], ◌∷◌, ◌++◌, length, take, drop, slice_get, Some, refl, sym, ap, ◌∙◌, subst, arith, length-append}
 use denote.RawPtr.{Ptr}
 use Rattle.std.specs.declared.alloc.Global.{Global}
 use Rattle.cordyceps_base.specs.declared.boxes.Place.{Place}
@@ -9,8 +9,8 @@ use Rattle.cordyceps_base.specs.Boxes.{places, values, set_value}
 use Rattle.cordyceps_base.specs.Forward.{LeadsOn}
 use Rattle.cordyceps_base.specs.Nodes.{Nodes, spots, shown}
 use Rattle.cordyceps_base.specs.DoubleChain.{Owned, next_of, LeadsBackTo, LeadsBack, IsLinked}
-use Rattle.cordyceps_base.proofs.Forward.{next_on, forward_take, forward_drop, forward_keep, left_in, first_in, length-keep}
-use Rattle.cordyceps_base.proofs.Nodes.{with_content, spots-shown, length_is, seen_at, within_values, length-take-within, length-drop-within, length-set_value}
+use Rattle.cordyceps_base.proofs.Forward.{next_on, forward_take, forward_drop, forward_behind, forward_keep, left_in, first_in, length-keep}
+use Rattle.cordyceps_base.proofs.Nodes.{with_content, spots-shown, length_is, seen_at, within_values, length-take-within, length-drop-within, length-take-upto, length-drop-upto, length-set_value}
 
 abbrev Node : Type 0 → Type 0
 Node X = Block X (Links X)
@@ -92,6 +92,38 @@ module _ {X : Type 0} where
       go zero ms f p = absurd (omega arith)
       go (suc j) [] f p = tt
       go (suc j) (m ∷ ms) f p = back_drop m.0 t j ms f
+
+module _ {X : Type 0} where
+  -- ---- a chain is cut behind a node
+  back_ends : (a t : Ptr) (j : ℕ) (ns : List (Owned X)) (at : Ptr) → LeadsBackTo a ns t → slice_get (places ns) j ≡ Some at → LeadsBackTo a (take (suc j) ns) at
+  back_ends a t j [] at f e = cc
+  back_ends a t zero (n ∷ ns) at f e = let same : at ≡ n.0 = cc in (f.0, same)
+  back_ends a t (suc j) (n ∷ ns) at f e = (f.0, back_ends n.0 t j ns at f.1 e)
+
+  ends_there : (t : Ptr) (j : ℕ) (ms : List (Owned X)) (at : Ptr) → LeadsBack ms t → slice_get (places ms) j ≡ Some at → LeadsBack (take (suc j) ms) at
+  ends_there t j [] at f e = tt
+  ends_there t zero (m ∷ ms) at f e = let same : at ≡ m.0 = cc in same
+  ends_there t (suc j) (m ∷ ms) at f e = back_ends m.0 t j ms at f e
+
+  behind_drop : (t : Ptr) (j : ℕ) (ms : List (Owned X)) → LeadsBack ms t → LeadsBack (drop j ms) t
+  behind_drop t zero ms f = f
+  behind_drop t (suc j) [] f = tt
+  behind_drop t (suc j) (m ∷ ms) f = back_drop m.0 t j ms f
+
+  module _ (h t : Ptr) (len : ℕ) (at : Ptr) (k : ℕ) (ns : List (Owned X)) (b : Node X) (linked : IsLinked h t len ns) (pos : 0 < k) (e : slice_get (values ns) (k - 1) ≡ Some b) where
+    pub behind_within : k ≤ len
+    behind_within = let same = linked.0 in omega (arith, within_values ns (k - 1) b e)
+
+    on : suc (k - 1) ≡ k
+    on = omega arith
+
+    pub behind_front : slice_get (places ns) (k - 1) ≡ Some at → IsLinked h at k (take k ns)
+    behind_front q = let same = linked.0 in (length-take-upto k ns (omega (arith, behind_within)), forward_take next_of h k ns linked.1, subst (λ j. LeadsBack (take j ns) at) on (ends_there t (k - 1) ns at linked.2 q))
+
+    pub behind_back : IsLinked b.links.next.ptr t (len - k) (drop k ns)
+    behind_back =
+        let same = linked.0 in
+        (ap (λ l. l - k) linked.0 ∙ length-drop-upto k ns (omega (arith, behind_within)), subst (λ j. LeadsOn next_of b.links.next.ptr (drop j ns)) on (forward_behind next_of h (k - 1) ns b linked.1 e), behind_drop t k ns linked.2)
 
 -- ---- two chains are joined: the last block of the first gets the `next` p, and the first of the second the `prev` q
 module _ {X : Type 0} (h u : Ptr) (p q : Place) (b c : Node X) where

@@ -1,5 +1,5 @@
 -- What a clause sees of the nodes of a chain, whatever their links.
-use Rattle.std.proofs.Common.{◌≡◌, ℕ, zero, suc, ◌-◌, ◌<◌, List, [], ◌∷◌, ◌++◌, length, take, drop, slice_get, Some, refl, sym, ap, ◌∙◌, subst, arith}
+use Rattle.std.proofs.Common.{◌≡◌, ℕ, zero, suc, ◌-◌, ◌<◌, ◌≤◌, List, [], ◌∷◌, ◌++◌, length, take, drop, slice_get, Some, refl, sym, ap, ◌∙◌, subst, arith}
 use denote.RawPtr.{Ptr}
 use Rattle.cordyceps_base.specs.declared.node.Block.{Block}
 use Rattle.cordyceps_base.specs.Boxes.{places, values, set_value}
@@ -82,6 +82,16 @@ module _ {X L : Type 0} where
   length-drop-within zero ns p = omega arith
   length-drop-within (suc k) [] p = absurd (omega arith)
   length-drop-within (suc k) (n ∷ ns) p = let on = length-drop-within k ns (omega arith) in omega arith
+
+  pub length-take-upto : (k : ℕ) (ns : List (Owned X L)) → k ≤ length ns → k ≡ length (take k ns)
+  length-take-upto zero ns p = refl
+  length-take-upto (suc k) [] p = absurd (omega arith)
+  length-take-upto (suc k) (n ∷ ns) p = ap suc (length-take-upto k ns (omega arith))
+
+  pub length-drop-upto : (k : ℕ) (ns : List (Owned X L)) → k ≤ length ns → length ns - k ≡ length (drop k ns)
+  length-drop-upto zero ns p = omega arith
+  length-drop-upto (suc k) [] p = absurd (omega arith)
+  length-drop-upto (suc k) (n ∷ ns) p = let on = length-drop-upto k ns (omega arith) in omega arith
 
   pub length-set_value : (ns : List (Owned X L)) (k : ℕ) (w : Block X L) → length (set_value ns k w) ≡ length ns
   length-set_value [] k w = refl

@@ -1,127 +1,163 @@
--- What stays linked where single chains are joined and cut.
-use Rattle.std.proofs.Common.{◌≡◌, ℕ, zero, suc, ◌+◌, ◌-◌, ◌<◌, ◌≤◌, List, [], ◌∷◌, ◌++◌, length, take, drop, slice_get, Some, refl, sym, ap, ◌∙◌, subst, arith, length-append}
+-- What stays linked where single chains are joined, cut and walked along.
+use Rattle.std.proofs.Common.{◌≡◌, true, false, ℕ, zero, suc, ◌-◌, ◌<◌, List, [], ◌∷◌, ◌++◌, length, take, drop, slice_get, Option, Some, None, refl, sym, ap, ◌∙◌, subst, arith, append_assoc}
+use Rattle.core.specs.Option.{IsSome, is_some, option_or}
 use denote.RawPtr.{Ptr}
 use Rattle.std.specs.declared.alloc.Global.{Global}
 use Rattle.cordyceps_base.specs.declared.boxes.Place.{Place}
 use Rattle.cordyceps_base.specs.declared.node.Block.{Block}
 use Rattle.cordyceps_base.specs.declared.single_link.NextLink.{NextLink}
 use Rattle.cordyceps_base.specs.Boxes.{places, values, set_value}
-use Rattle.cordyceps_base.specs.Forward.{LeadsOn}
-use Rattle.cordyceps_base.specs.Nodes.{Nodes, spots, shown}
-use Rattle.cordyceps_base.specs.SingleChain.{Owned, next_of, EndsAfter, EndsAt, IsLine}
-use Rattle.cordyceps_base.proofs.Forward.{next_on, forward_take, forward_behind, forward_keep, forward_join, left_in, length-keep}
-use Rattle.cordyceps_base.proofs.Nodes.{with_content, spots-shown, length_is, seen_at, within_values}
+use Rattle.cordyceps_base.specs.Element.{Element, values as values_of}
+use Rattle.cordyceps_base.specs.Nodes.{elements, shown, element_of}
+use Rattle.cordyceps_base.specs.SingleChain.{Owned, with_next, relinked, Leads, EndsAfter, EndsAt, IsLed, IsLine, IsFront, IsParted}
 
 abbrev Node : Type 0 → Type 0 → Type 0
 Node X K = Block X (NextLink X K)
 
--- the block with another `next`
-abbrev pub with_next : {X K : Type 0} → Node X K → Place → Node X K
-with_next b p = record b { links = record b.links { next = p } }
+pub is_none : (h : Option Place) → is_some h ≡ false → h ≡ None
+is_none None e = refl
+is_none (Some p) e = cc
+
+pub is_not_none : (h : Option Place) → is_some h ≡ true → ¬ (h ≡ None)
+is_not_none None e = λ _. cc
+is_not_none (Some p) e = λ n. cc
 
 module _ {X K : Type 0} where
-  last_on : (m : Owned X K) (ns : List (Owned X K)) (t : Ptr) → EndsAfter m.0 ns t → slice_get (places (m ∷ ns)) (length ns) ≡ Some t
+  -- ---- the first node
+  pub first_at : (h : Option Place) (ns : List (Owned X K)) (a : Place) → IsLed h ns → h ≡ Some a → slice_get (places ns) 0 ≡ Some a.ptr
+  first_at h [] a f e = cc
+  first_at h (n ∷ ns) a f e = let same : record { ptr = n.0 } ≡ a = cc in ap (λ (p : Place). Some p.ptr) same
+
+  pub no_first : (h : Option Place) (ns : List (Owned X K)) → IsLed h ns → h ≡ None → ns ≡ []
+  no_first h [] f e = refl
+  no_first h (n ∷ ns) f e = cc
+
+  pub some_first : (h : Option Place) (ns : List (Owned X K)) → IsLed h ns → 0 < length ns → IsSome h
+  some_first h [] f p = absurd (omega arith)
+  some_first h (n ∷ ns) f p = subst IsSome (sym f.0) refl
+
+  -- nodes that are shown
+  pub some_nodes : (ns : List (Owned X K)) → (¬ (shown ns ≡ [])) → 0 < length ns
+  some_nodes [] not = absurd (not refl)
+  some_nodes (n ∷ ns) not = omega arith
+
+  pub first_shown : (ns : List (Owned X K)) (w : Node X K) → slice_get (values (take 1 ns)) 0 ≡ Some w → (x : Ptr × Element X) × (shown ns ≡ x ∷ shown (drop 1 ns)) × (shown (take 1 ns) ≡ x ∷ [])
+  first_shown [] w e = cc
+  first_shown (n ∷ ns) w e = ((n.0, element_of n.2), refl, refl)
+
+  pub first_row : (h : Option Place) (ns : List (Owned X K)) (a : Place) (g : Global) → IsLed h ns → h ≡ Some a → (x : Node X K) × (take 1 ns ≡ (a.ptr, g, x) ∷ [])
+  first_row h [] a g f e = cc
+  first_row h (n ∷ ns) a g f e = let same : record { ptr = n.0 } ≡ a = cc in (n.2, ap (λ (p : Place). (p.ptr, g, n.2) ∷ []) same)
+
+  -- ---- the last node
+  last_on : (m : Owned X K) (ns : List (Owned X K)) (t : Ptr) → EndsAfter m.0 ns t → slice_get (places (drop (length ns) (m ∷ ns))) 0 ≡ Some t
   last_on m [] t f = ap Some (sym f)
   last_on m (n ∷ ns) t f = last_on n ns t f
 
-  last_here : (t : Ptr) (ns : List (Owned X K)) → EndsAt ns t → 0 < length ns → slice_get (places ns) (length ns - 1) ≡ Some t
-  last_here t [] f p = absurd (omega arith)
-  last_here t (m ∷ ns) f p = let less : length ns ≡ suc (length ns) - 1 = omega arith in subst (λ j. slice_get (places (m ∷ ns)) j ≡ Some t) less (last_on m ns t f)
+  pub last_place : (ns : List (Owned X K)) (t : Ptr) → EndsAt ns t → 0 < length ns → slice_get (places (drop (length ns - 1) ns)) 0 ≡ Some t
+  last_place [] t f p = absurd (omega arith)
+  last_place (m ∷ ns) t f p = let less : length ns ≡ length (m ∷ ns) - 1 = omega arith in subst (λ j. slice_get (places (drop j (m ∷ ns))) 0 ≡ Some t) less (last_on m ns t f)
 
-  module _ (h t : Ptr) (len : ℕ) (ns : List (Owned X K)) (v : Nodes X) (seen : shown ns ≡ v) (linked : IsLine h t len ns) where
-    pub next_place : (k : ℕ) (b : Node X K) → slice_get (values ns) k ≡ Some b → k + 1 < length v → slice_get (spots v) (k + 1) ≡ Some b.links.next.ptr
-    next_place k b e p =
-        let on : suc k ≡ k + 1 = omega arith in
-        subst (λ j. slice_get (spots v) j ≡ Some b.links.next.ptr) on (seen_at ns v seen (suc k) b.links.next.ptr (next_on next_of h ns k b linked.1 e (omega (arith, length_is ns v seen))))
-
-    pub tail_place : 0 < length v → slice_get (spots v) (length v - 1) ≡ Some t
-    tail_place p =
-        let same : length v ≡ length ns = length_is ns v seen in
-        subst (λ (s : List Ptr × ℕ). slice_get s.0 (s.1 - 1) ≡ Some t) (λ i. (sym (ap spots (sym seen) ∙ spots-shown ns) i, sym same i)) (last_here t ns linked.2 (omega (arith, same)))
+  pub behind_item : (k : ℕ) (ns : List (Owned X K)) → slice_get (values_of (elements (shown (drop k ns)))) 0 ≡ slice_get (values_of (elements (shown ns))) k
+  behind_item zero ns = refl
+  behind_item (suc k) [] = refl
+  behind_item (suc k) (n ∷ ns) = behind_item k ns
 
   -- the only node
-  pub single : (h t : Ptr) (len : ℕ) (ns : List (Owned X K)) (a : Global) → IsLine h t len ns → length (shown ns) ≡ 1 → (x : Node X K) × (ns ≡ (h, a, x) ∷ [])
-  single h t len [] a linked e = absurd (omega arith)
-  single h t len (n ∷ []) a linked e = (n.2, λ i. (sym linked.1.0 i, a, n.2) ∷ [])
-  single h t len (n ∷ m ∷ ns) a linked e = absurd (omega arith)
+  pub single : (t : Ptr) (ns : List (Owned X K)) (g : Global) → EndsAt ns t → length (shown ns) ≡ 1 → (x : Node X K) × (ns ≡ (t, g, x) ∷ [])
+  single t [] g f e = absurd (omega arith)
+  single t (n ∷ []) g f e = (n.2, λ i. (sym f i, g, n.2) ∷ [])
+  single t (n ∷ m ∷ ns) g f e = absurd (omega arith)
 
-  -- ---- a chain is cut
-  length-take-up : (k : ℕ) (ns : List (Owned X K)) → k ≤ length ns → k ≡ length (take k ns)
-  length-take-up zero ns p = refl
-  length-take-up (suc k) [] p = absurd (omega arith)
-  length-take-up (suc k) (n ∷ ns) p = ap suc (length-take-up k ns (omega arith))
+  -- ---- another link in the last node
+  relink_on : (n : Owned X K) (ns : List (Owned X K)) (b : Node X K) (p : Option Place) → slice_get (values (drop (length ns) (n ∷ ns))) 0 ≡ Some b
+      → take (length ns) (n ∷ ns) ++ set_value (drop (length ns) (n ∷ ns)) 0 (with_next b p) ≡ relinked (n ∷ ns) p
+  relink_on n [] b p e = let same : b ≡ n.2 = cc in ap (λ (x : Node X K). (n.0, n.1, with_next x p) ∷ []) same
+  relink_on n (m ∷ ns) b p e = ap (λ l. n ∷ l) (relink_on m ns b p e)
 
-  length-drop-up : (k : ℕ) (ns : List (Owned X K)) → k ≤ length ns → length ns - k ≡ length (drop k ns)
-  length-drop-up zero ns p = omega arith
-  length-drop-up (suc k) [] p = absurd (omega arith)
-  length-drop-up (suc k) (n ∷ ns) p = let on = length-drop-up k ns (omega arith) in omega arith
+  pub relink : (ns : List (Owned X K)) (b : Node X K) (p : Option Place) → 0 < length ns → slice_get (values (drop (length ns - 1) ns)) 0 ≡ Some b
+      → take (length ns - 1) ns ++ set_value (drop (length ns - 1) ns) 0 (with_next b p) ≡ relinked ns p
+  relink [] b p some e = absurd (omega arith)
+  relink (n ∷ ns) b p some e =
+      let less : length (n ∷ ns) - 1 ≡ length ns = omega arith in
+      let here = subst (λ j. slice_get (values (drop j (n ∷ ns))) 0 ≡ Some b) less e in
+      subst (λ j. take j (n ∷ ns) ++ set_value (drop j (n ∷ ns)) 0 (with_next b p) ≡ relinked (n ∷ ns) p) (sym less) (relink_on n ns b p here)
 
-  ends_after : (m : Owned X K) (k : ℕ) (ns : List (Owned X K)) (at : Ptr) → slice_get (places (m ∷ ns)) k ≡ Some at → EndsAfter m.0 (take k ns) at
-  ends_after m zero ns at e = let same : at ≡ m.0 = cc in same
-  ends_after m (suc k) [] at e = cc
-  ends_after m (suc k) (n ∷ ns) at e = ends_after n k ns at e
+  pub shown-relinked : (ns : List (Owned X K)) (p : Option Place) → shown (relinked ns p) ≡ shown ns
+  shown-relinked [] p = refl
+  shown-relinked (n ∷ []) p = refl
+  shown-relinked (n ∷ m ∷ ns) p = ap (λ l. (n.0, element_of n.2) ∷ l) (shown-relinked (m ∷ ns) p)
 
-  ends_take : (k : ℕ) (ns : List (Owned X K)) (at : Ptr) → slice_get (places ns) k ≡ Some at → EndsAt (take (suc k) ns) at
-  ends_take k [] at e = tt
-  ends_take k (n ∷ ns) at e = ends_after n k ns at e
+  leads_relinked : (h z p : Option Place) (n : Owned X K) (ns : List (Owned X K)) → Leads h (n ∷ ns) z → Leads h (relinked (n ∷ ns) p) p
+  leads_relinked h z p n [] f = (f.0, refl)
+  leads_relinked h z p n (m ∷ ns) f = (f.0, leads_relinked n.2.links.next z p m ns f.1)
 
-  ends_tail : (n : Owned X K) (ns : List (Owned X K)) (t : Ptr) → EndsAt (n ∷ ns) t → EndsAt ns t
-  ends_tail n [] t f = tt
-  ends_tail n (m ∷ ns) t f = f
+  -- ---- one row behind another
+  leads_append : (h z w : Option Place) (xs ys : List (Owned X K)) → Leads h xs z → Leads z ys w → Leads h (xs ++ ys) w
+  leads_append h z w [] ys f g = subst (λ o. Leads o ys w) (sym f) g
+  leads_append h z w (x ∷ xs) ys f g = (f.0, leads_append x.2.links.next z w xs ys f.1 g)
 
-  ends_drop : (k : ℕ) (ns : List (Owned X K)) (t : Ptr) → EndsAt ns t → EndsAt (drop k ns) t
-  ends_drop zero ns t f = f
-  ends_drop (suc k) [] t f = tt
-  ends_drop (suc k) (n ∷ ns) t f = ends_drop k ns t (ends_tail n ns t f)
+  ends_append_after : (a : Ptr) (xs : List (Owned X K)) (y : Owned X K) (ys : List (Owned X K)) (t : Ptr) → EndsAfter y.0 ys t → EndsAfter a (xs ++ y ∷ ys) t
+  ends_append_after a [] y ys t f = f
+  ends_append_after a (x ∷ xs) y ys t f = ends_append_after x.0 xs y ys t f
 
-  module _ (h t : Ptr) (len : ℕ) (at : Ptr) (k : ℕ) (ns : List (Owned X K)) (b : Node X K) (linked : IsLine h t len ns) (pos : 0 < k) (e : slice_get (values ns) (k - 1) ≡ Some b) where
-    pub cut_within : k ≤ len
-    cut_within = let same = linked.0 in omega (arith, within_values ns (k - 1) b e)
+  ends_append : (xs : List (Owned X K)) (y : Owned X K) (ys : List (Owned X K)) (t : Ptr) → EndsAfter y.0 ys t → EndsAt (xs ++ y ∷ ys) t
+  ends_append [] y ys t f = f
+  ends_append (x ∷ xs) y ys t f = ends_append_after x.0 xs y ys t f
 
-    on : suc (k - 1) ≡ k
-    on = omega arith
+  ends_back_after : (a : Ptr) (xs : List (Owned X K)) (y : Owned X K) (ys : List (Owned X K)) (t : Ptr) → EndsAfter a (xs ++ y ∷ ys) t → EndsAfter y.0 ys t
+  ends_back_after a [] y ys t f = f
+  ends_back_after a (x ∷ xs) y ys t f = ends_back_after x.0 xs y ys t f
 
-    pub cut_front : slice_get (places ns) (k - 1) ≡ Some at → IsLine h at k (take k ns)
-    cut_front q = let same = linked.0 in (length-take-up k ns (omega (arith, cut_within)), forward_take next_of h k ns linked.1, subst (λ j. EndsAt (take j ns) at) on (ends_take (k - 1) ns at q))
+  ends_back : (xs : List (Owned X K)) (y : Owned X K) (ys : List (Owned X K)) (t : Ptr) → EndsAt (xs ++ y ∷ ys) t → EndsAfter y.0 ys t
+  ends_back [] y ys t f = f
+  ends_back (x ∷ xs) y ys t f = ends_back_after x.0 xs y ys t f
 
-    pub cut_back : IsLine b.links.next.ptr t (len - k) (drop k ns)
-    cut_back =
-        let same = linked.0 in
-        (ap (λ l. l - k) linked.0 ∙ length-drop-up k ns (omega (arith, cut_within)), subst (λ j. LeadsOn next_of b.links.next.ptr (drop j ns)) on (forward_behind next_of h (k - 1) ns b linked.1 e), ends_drop k ns t linked.2)
+  pub line_join : (h p : Option Place) (t u : Ptr) (xs ys : List (Owned X K)) → IsLine h t xs → IsLine p u ys → 0 < length xs → 0 < length ys → IsLine h u (relinked xs p ++ ys)
+  line_join h p t u [] ys f g some more = absurd (omega arith)
+  line_join h p t u (x ∷ xs) [] f g some more = absurd (omega arith)
+  line_join h p t u (x ∷ xs) (y ∷ ys) f g some more = (leads_append h p None (relinked (x ∷ xs) p) (y ∷ ys) (leads_relinked h None p x xs f.0) g.0, ends_append (relinked (x ∷ xs) p) y ys u g.1)
 
-  -- ---- two chains are joined
-  ends_join_after : (a : Ptr) (x : Owned X K) (xs : List (Owned X K)) (y : Owned X K) (ys : List (Owned X K)) (w : Node X K) (u : Ptr) → EndsAfter y.0 ys u → EndsAfter a (set_value (x ∷ xs ++ y ∷ ys) (length xs) w) u
-  ends_join_after a x [] y ys w u f = f
-  ends_join_after a x (z ∷ xs) y ys w u f = ends_join_after x.0 z xs y ys w u f
+  -- ---- a cursor
+  front_is_line : (h at : Option Place) (front : List (Owned X K)) (rest : List (Owned X K)) → IsFront h front at → IsLed at rest → IsLed (option_or h at) (front ++ rest)
+  front_is_line h at [] rest f g = subst (λ o. IsLed (option_or o at) rest) (sym f) g
+  front_is_line h at (n ∷ ns) rest f g = subst (λ o. IsLed (option_or o at) (n ∷ ns ++ rest)) (sym f.0) (refl, leads_append n.2.links.next at None ns rest f.1 g)
 
-  ends_join : (x : Owned X K) (xs : List (Owned X K)) (y : Owned X K) (ys : List (Owned X K)) (w : Node X K) (u : Ptr) → EndsAfter y.0 ys u → EndsAt (set_value (x ∷ xs ++ y ∷ ys) (length xs) w) u
-  ends_join x [] y ys w u f = f
-  ends_join x (z ∷ xs) y ys w u f = ends_join_after x.0 z xs y ys w u f
+  pub closed : (h at : Option Place) (b t : Ptr) (front rest : List (Owned X K)) → IsParted h b at t front rest → IsLine (option_or h at) t (front ++ rest)
+  closed h at b t front rest f = (front_is_line h at front rest f.0 f.2, f.3)
 
-  pub line_join : (h q p u : Ptr) (m k : ℕ) (xs ys ns : List (Owned X K)) (w : Node X K) → ns ≡ xs ++ ys → next_of w ≡ p → IsLine h q m xs → IsLine p u k ys → 0 < m → 0 < k → IsLine h u (m + k) (set_value ns (m - 1) w)
-  line_join h q p u m k [] ys ns w all is f g fm gk = let first = f.0 in absurd (omega arith)
-  line_join h q p u m k (x ∷ xs) [] ns w all is f g fm gk = let second = g.0 in absurd (omega arith)
-  line_join h q p u m k (x ∷ xs) (y ∷ ys) ns w all is f g fm gk =
-      let first = f.0 in let second = g.0 in let there : m - 1 ≡ length xs = omega arith in
-      let long = sym (length-keep ns (m - 1) w) ∙ ap length all ∙ length-append (x ∷ xs) (y ∷ ys) in
-      let led = subst (λ (s : ℕ × List (Owned X K)). LeadsOn next_of h (set_value s.1 s.0 w) × EndsAt (set_value s.1 s.0 w) u) (λ j. (sym there j, sym all j)) (forward_join next_of h p x xs (y ∷ ys) w is f.1 g.1, ends_join x xs y ys w u g.2) in
-      (omega (arith, long), led.0, led.1)
+  front_moved : (h at z : Option Place) (front : List (Owned X K)) (n : Owned X K) → IsFront h front at → at ≡ Some (record { ptr = n.0 }) → n.2.links.next ≡ z → IsFront (option_or h at) (front ++ n ∷ []) z
+  front_moved h at z [] n f e g = (ap (λ o. option_or o at) f ∙ e, g)
+  front_moved h at z (m ∷ ms) n f e g = subst (λ o. Leads (option_or o at) (m ∷ ms ++ n ∷ []) z) (sym f.0) (refl, leads_append m.2.links.next at z ms (n ∷ []) f.1 (e, g))
 
-  pub last_joined : (h t : Ptr) (m : ℕ) (xs ys ns : List (Owned X K)) → ns ≡ xs ++ ys → IsLine h t m xs → 0 < m → slice_get (places ns) (m - 1) ≡ Some t
-  last_joined h t m xs ys ns all f p =
-      let first = f.0 in
-      subst (λ (s : ℕ × List (Owned X K)). slice_get (places s.1) (s.0 - 1) ≡ Some t) (λ i. (sym f.0 i, sym all i)) (left_in xs ys (length xs - 1) t (last_here t xs f.2 (omega arith)))
+  pub moved_on : (h at : Option Place) (b t : Ptr) (front rest : List (Owned X K)) (here : Place) (w : Node X K) → IsParted h b at t front rest → at ≡ Some here → slice_get (values (take 1 rest)) 0 ≡ Some w
+      → IsParted (option_or h at) here.ptr w.links.next t (front ++ take 1 rest) (drop 1 rest)
+  moved_on h at b t front [] here w f e g = cc
+  moved_on h at b t front (n ∷ ns) here w f e g =
+      let same : n.2 ≡ w = cc in let lies : record { ptr = n.0 } ≡ here = cc in let next = ap (λ (x : Node X K). x.links.next) same in (
+        front_moved h at w.links.next front n f.0 f.2.0 next,
+        ends_append front n [] here.ptr (ap (λ (p : Place). p.ptr) (sym lies)),
+        subst (λ o. IsLed o ns) next f.2.1,
+        subst (λ l. EndsAt l t) (sym (append_assoc front (n ∷ []) ns)) f.3,
+      )
 
-  -- ---- a value is written
-  ends_after_keep : (a : Ptr) (ns : List (Owned X K)) (k : ℕ) (w : Node X K) (t : Ptr) → EndsAfter a ns t → EndsAfter a (set_value ns k w) t
-  ends_after_keep a [] k w t f = f
-  ends_after_keep a (n ∷ ns) zero w t f = f
-  ends_after_keep a (n ∷ ns) (suc k) w t f = ends_after_keep n.0 ns k w t f
+  -- the last node, with one more in front of the rest
+  pub ends_with : (at : Option Place) (t : Ptr) (front some rest : List (Owned X K)) (n : Owned X K) → IsLed at rest → EndsAt (front ++ rest) t → (¬ (at ≡ None)) → EndsAt (some ++ n ∷ [] ++ rest) t
+  ends_with at t front some [] n f g not = absurd (not f)
+  ends_with at t front some (m ∷ ms) n f g not = ends_append (some ++ n ∷ []) m ms t (ends_back front m ms t g)
 
-  ends_keep : (ns : List (Owned X K)) (k : ℕ) (w : Node X K) (t : Ptr) → EndsAt ns t → EndsAt (set_value ns k w) t
-  ends_keep [] k w t f = tt
-  ends_keep (n ∷ ns) zero w t f = f
-  ends_keep (n ∷ ns) (suc k) w t f = ends_after_keep n.0 ns k w t f
+  pub ends_here : (at : Option Place) (some rest : List (Owned X K)) (n : Owned X K) → IsLed at rest → at ≡ None → EndsAt (some ++ n ∷ [] ++ rest) n.0
+  ends_here at some [] n f e = subst (λ l. EndsAt l n.0) (sym (append_assoc some (n ∷ []) [])) (ends_append some n [] n.0 refl)
+  ends_here at some (m ∷ ms) n f e = cc
 
-  pub line_keep : (h t : Ptr) (len : ℕ) (ns : List (Owned X K)) (k : ℕ) (b : Node X K) (w : X) → IsLine h t len ns → slice_get (values ns) k ≡ Some b → IsLine h t len (set_value ns k (with_content b w))
-  line_keep h t len ns k b w f e = (f.0 ∙ length-keep ns k (with_content b w), forward_keep next_of h ns k b (with_content b w) refl f.1 e, ends_keep ns k (with_content b w) t f.2)
+  pub joined_behind : (h at : Option Place) (b t u : Ptr) (front rest : List (Owned X K)) (n : Owned X K) → IsParted h b at t front rest → (¬ (h ≡ None)) → n.2.links.next ≡ at
+      → EndsAt (relinked front (Some (record { ptr = n.0 })) ++ n ∷ [] ++ rest) u → IsParted h n.0 at u (relinked front (Some (record { ptr = n.0 })) ++ n ∷ []) rest
+  joined_behind h at b t u [] rest n f not next ends = absurd (not f.0)
+  joined_behind h at b t u (m ∷ ms) rest n f not next ends =
+      let p : Option Place = Some (record { ptr = n.0 }) in let all = leads_append h p at (relinked (m ∷ ms) p) (n ∷ []) (leads_relinked h at p m ms f.0) (refl, next) in
+      (front_of h at (m ∷ ms) p n all, ends_append (relinked (m ∷ ms) p) n [] n.0 refl, f.2, ends)
+    where
+      front_of : (h at : Option Place) (ms : List (Owned X K)) (p : Option Place) (n : Owned X K) → Leads h (relinked ms p ++ n ∷ []) at → IsFront h (relinked ms p ++ n ∷ []) at
+      front_of h at [] p n f = f
+      front_of h at (m ∷ []) p n f = f
+      front_of h at (m ∷ k ∷ ms) p n f = f

@@ -7,4 +7,3 @@ pub mod Forward
 pub mod NodeLends
 pub mod Nodes
 pub mod SingleChain
-pub mod SingleChainLends

@@ -1,5 +1,5 @@
 //! A row of boxes that are reached through their raw pointers. This is all of the crate's unsafe code.
-ghost use Rattle.std.specs.Prelude.{◌≡◌, ◌≤◌, ℕ, List, [], ◌∷◌, ◌++◌, take, drop, slice_get, Some};
+ghost use Rattle.std.specs.Prelude.{◌≡◌, ◌≤◌, ◌-◌, ℕ, List, [], ◌∷◌, ◌++◌, length, take, drop, slice_get, Some};
 ghost use Rattle.std.specs.Borrow.{sem};
 ghost use Rattle.std.specs.Box.Ownership.{box_owns};
 ghost use denote.RawPtr.{Ptr};
@@ -113,6 +113,29 @@ impl<B, A: Allocator> Boxes<B, A> {
     /// The first `count` boxes, and the others.
     pub(crate) fn cut(self, count: usize) -> (Boxes<B, A>, Boxes<B, A>)
         ensures { (result.0.blocks ≡ take count self.blocks) × (result.1.blocks ≡ drop count self.blocks) }
+    {
+        let Boxes { mark: _ } = self;
+        (Boxes { mark: PhantomData }, Boxes { mark: PhantomData })
+    }
+
+    /// The boxes behind the first. It takes no time.
+    pub(crate) fn behind_first(&self) -> &Boxes<B, A>
+        ensures { result.now.blocks ≡ drop 1 self.now.blocks }
+    {
+        self
+    }
+
+    /// The last box alone. It takes no time.
+    pub(crate) fn only_last(&self) -> &Boxes<B, A>
+        ensures { result.now.blocks ≡ drop (length self.now.blocks - 1) self.now.blocks }
+    {
+        self
+    }
+
+    /// All boxes but the last, and the last.
+    pub(crate) fn cut_last(self) -> (Boxes<B, A>, Boxes<B, A>)
+        ensures { let count = length self.blocks - 1 in
+            (result.0.blocks ≡ take count self.blocks) × (result.1.blocks ≡ drop count self.blocks) }
     {
         let Boxes { mark: _ } = self;
         (Boxes { mark: PhantomData }, Boxes { mark: PhantomData })

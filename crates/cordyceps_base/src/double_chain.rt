@@ -220,6 +220,34 @@ impl<T> DoubleChain<T> {
         }
     }
 
+    /// The first `k` nodes, of which `at` is the last, and the others.
+    pub fn cut_behind(self, at: Place, k: usize) -> (DoubleChain<T>, DoubleChain<T>)
+        requires { (0 < k) × (IsAt self (k - 1) at) }
+        ensures { (result.0 ≡ take k self) × (result.1 ≡ drop k self) }
+    {
+        let DoubleChain {
+            head,
+            tail,
+            len,
+            boxes,
+        } = self;
+        let after = boxes.get(at, k - 1).links.next;
+        let (front, back) = boxes.cut(k);
+        let first = DoubleChain {
+            head,
+            tail: at,
+            len: k,
+            boxes: front,
+        };
+        let rest = DoubleChain {
+            head: after,
+            tail,
+            len: len - k,
+            boxes: back,
+        };
+        (first, rest)
+    }
+
     /// The first `k` nodes, and the others, of which `at` is the first.
     pub fn cut(self, at: Place, k: usize) -> (DoubleChain<T>, DoubleChain<T>)
         requires { (0 < k) × (IsAt self k at) }
@@ -297,5 +325,58 @@ impl<T: Drop> DoubleChain<T> {
         let (rest, last) = nodes.cut(last, before);
         self.put(rest);
         last.only()
+    }
+}
+
+impl<T> DoubleChain<T> {
+    /// The nodes before place `k`, and those from there on. `at` is where node `k` lies, if there is one.
+    pub fn split(self, at: Place, k: usize) -> (DoubleChain<T>, DoubleChain<T>)
+        requires within { k ≤ length self }
+        requires on { k < length self → IsAt self k at }
+        ensures front { result.0 ≡ take k self }
+        ensures back { result.1 ≡ drop k self }
+    {
+        if k == 0 {
+            return (DoubleChain::empty(), self);
+        }
+        if k == self.len {
+            return (self, DoubleChain::empty());
+        }
+        self.cut(at, k)
+    }
+
+    /// Puts nodes in at place `k`. `at` is where node `k` lies, if there is one.
+    pub fn splice(&mut self, at: Place, k: usize, nodes: DoubleChain<T>)
+        requires within { k ≤ length self.old }
+        requires on { k < length self.old → IsAt self.old k at }
+        requires fits { length self.old + length nodes < 2 ^ 64 }
+        ensures { self.new ≡ take k self.old ++ (nodes ++ drop k self.old) }
+    {
+        let (front, back) = self.take().split(at, k);
+        self.put(front.join(nodes.join(back)));
+    }
+}
+
+impl<T: Drop> DoubleChain<T> {
+    /// Puts a node in at place `k`. `at` is where node `k` lies, if there is one.
+    pub fn link(&mut self, at: Place, k: usize, node: Node<T, Links<T>>)
+        requires within { k ≤ length self.old }
+        requires on { k < length self.old → IsAt self.old k at }
+        requires fits { length self.old + 1 < 2 ^ 64 }
+        ensures { (place : Ptr) × (self.new ≡ take k self.old ++ (place, node) ∷ drop k self.old) }
+    {
+        self.splice(at, k, DoubleChain::one(node));
+    }
+
+    /// Takes node `k` out, which lies at `at`.
+    pub fn unlink(&mut self, at: Place, k: usize) -> Node<T, Links<T>>
+        requires { IsAt self.old k at }
+        ensures node { (place : Ptr) × (slice_get self.old k ≡ Some (place, result)) }
+        ensures others { self.new ≡ take k self.old ++ drop (k + 1) self.old }
+    {
+        let (front, mut back) = self.take().split(at, k);
+        let node = back.unlink_front();
+        self.put(front.join(back));
+        node
     }
 }

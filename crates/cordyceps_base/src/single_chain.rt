@@ -1,9 +1,10 @@
-//! A singly linked chain of nodes.
-ghost use Rattle.std.specs.Prelude.{◌≡◌, ℕ, ◌+◌, ◌-◌, ◌^◌, ◌<◌, ◌≤◌, [], ◌∷◌, ◌++◌, length, take, drop, slice_get, Some};
-ghost use Rattle.std.specs.Borrow.{sem};
+//! A singly linked chain of nodes, and the two ways to walk along it.
+ghost use Rattle.std.specs.Prelude.{◌≡◌, ◌-◌, ◌<◌, ◌↔◌, [], ◌∷◌, ◌++◌, length, slice_get, Some, IsTrue, IfSome, IfNone};
+ghost use Rattle.std.specs.Iterator.{YieldsFirstRef, item_count};
 ghost use denote.RawPtr.{Ptr};
-ghost use Rattle.cordyceps_base.specs.Element.{ids, values};
-ghost use Rattle.cordyceps_base.specs.Nodes.{elements, IsAt};
+ghost use Rattle.cordyceps_base.specs.Element.{Element, values};
+ghost use Rattle.cordyceps_base.specs.Nodes.{elements};
+ghost use Rattle.cordyceps_base.specs.SingleChain.{EndsAt, relinked};
 
 use crate::boxes::{Boxes, Loose, Place};
 use crate::node::{Block, Node};
@@ -12,15 +13,28 @@ use std::alloc::Global;
 use std::marker::Model;
 use std::mem;
 
-/// Nodes that are linked one way, and the place of the last one. A contract sees them as a list, each as the place where it lies and its element.
+/// The blocks of nodes, each with the link to the node after.
+type Row<T, K> = Boxes<Block<T, NextLink<T, K>>, Global>;
+
+/// The row with another link in its last node, which lies at `last`.
+fn with_last_link<T, K>(row: Row<T, K>, last: Place, next: Option<Place>) -> Row<T, K>
+    requires some { 0 < length row.blocks }
+    requires at { EndsAt row.blocks last.ptr }
+    ensures { result.blocks ≡ relinked row.blocks next }
+{
+    let (front, mut end) = row.cut_last();
+    end.get_mut(last, 0).links.next = next;
+    front.join(end)
+}
+
+/// Nodes that are linked one way. A contract sees them as a list, each as the place where it lies and its element.
 ///
-/// The links are the chain's own, and no call but `drop` walks along them. `next` of the last node means
-/// nothing, nor do `head` and `tail` where there is no node.
+/// There is no bound on how many nodes it can have. The links are the chain's own. `tail` means nothing where there is
+/// no node.
 pub struct SingleChain<T, K> {
-    head: Place,
+    head: Option<Place>,
     tail: Place,
-    len: usize,
-    boxes: Boxes<Block<T, NextLink<T, K>>, Global>,
+    boxes: Row<T, K>,
 }
 
 impl<T, K> Model for SingleChain<T, K> {
@@ -31,13 +45,13 @@ impl<T, K> Model for SingleChain<T, K> {
 
     ghost view = { λ c. shown c.boxes.blocks };
 
-    ghost invariant = { λ c. IsLine c.head.ptr c.tail.ptr c.len c.boxes.blocks };
+    ghost invariant = { λ c. IsLine c.head c.tail.ptr c.boxes.blocks };
 }
 
 /// Frees each node, from the first to the last.
 impl<T: Drop, K> Drop for SingleChain<T, K> {
     fn drop(mut self) {
-        while self.len() > 0 {
+        while !self.is_empty() {
             drop(self.unlink_front());
         }
         self.discard();
@@ -45,17 +59,22 @@ impl<T: Drop, K> Drop for SingleChain<T, K> {
 }
 
 impl<T, K> SingleChain<T, K> {
-    ghost use Rattle.cordyceps_base.specs.SingleChainLends.{lends_item};
-
+    /// The chain of no node.
     pub fn empty() -> SingleChain<T, K>
         ensures { result ≡ [] }
     {
         SingleChain {
-            head: Place::nowhere(),
+            head: None,
             tail: Place::nowhere(),
-            len: 0,
             boxes: Boxes::empty(),
         }
+    }
+
+    /// Whether there is no node.
+    pub fn is_empty(&self) -> bool
+        ensures { IsTrue result ↔ (self.now ≡ []) }
+    {
+        self.head.is_none()
     }
 
     /// Takes the nodes out, and leaves an empty chain.
@@ -81,7 +100,6 @@ impl<T, K> SingleChain<T, K> {
         let SingleChain {
             head: _,
             tail: _,
-            len: _,
             boxes,
         } = self;
         boxes.discard();
@@ -93,12 +111,12 @@ impl<T, K> SingleChain<T, K> {
         T: Drop,
         ensures { (place : Ptr) × (result ≡ (place, node) ∷ []) }
     {
-        let Node { block } = node;
+        let Node { mut block } = node;
+        block.links.next = None;
         let (at, _, boxes) = Boxes::one(Loose::of(block));
         SingleChain {
-            head: at,
+            head: Some(at),
             tail: at,
-            len: 1,
             boxes,
         }
     }
@@ -111,148 +129,102 @@ impl<T, K> SingleChain<T, K> {
         ensures { (place : Ptr) × (self ≡ (place, result) ∷ []) }
     {
         let SingleChain {
-            head,
-            tail: _,
-            len: _,
+            head: _,
+            tail,
             boxes,
         } = self;
-        let alloc = boxes.get(head, 0).alloc;
+        let alloc = boxes.get(tail, 0).alloc;
         Node {
-            block: boxes.only(head, alloc).into_box(),
+            block: boxes.only(tail, alloc).into_box(),
         }
     }
 
-    pub fn len(&self) -> usize
-        ensures { result ≡ length self.now }
+    /// The value of the first node.
+    pub fn first(&self) -> Option<&T>
+        ensures some { IfSome result (λ v. slice_get (values (elements self.now)) 0 ≡ Some v.now) }
+        ensures none { IfNone result (self.now ≡ []) }
     {
-        self.len
+        match self.head {
+            Some(at) => Some(&self.boxes.get(at, 0).value),
+            None => None,
+        }
     }
 
-    /// The place of the first node.
-    pub fn head(&self) -> Place
-        requires { 0 < length self.now }
-        ensures { IsAt self.now 0 result }
+    /// The value of the last node. It takes no walk.
+    pub fn last(&self) -> Option<&T>
+        ensures some { let last = length self.now - 1 in
+            IfSome result (λ v. slice_get (values (elements self.now)) last ≡ Some v.now) }
+        ensures none { IfNone result (self.now ≡ []) }
     {
-        self.head
+        if self.is_empty() {
+            return None;
+        }
+        let last = self.boxes.only_last();
+        Some(&last.get(self.tail, 0).value)
     }
 
-    /// The place of the last node.
-    pub fn tail(&self) -> Place
-        requires { 0 < length self.now }
-        ensures { IsAt self.now (length self.now - 1) result }
+    /// The values, from the first to the last.
+    pub fn values(&self) -> Values<'_, T, K>
+        ensures { result ≡ values (elements self.now) }
     {
-        self.tail
+        Values {
+            next: self.head,
+            rest: &self.boxes,
+        }
     }
 
-    /// The place after that of node `k`, which is `at`.
-    pub fn next(&self, at: Place, k: usize) -> Place
-        requires { IsAt self.now k at }
-        ensures { k + 1 < length self.now → IsAt self.now (k + 1) result }
-    {
-        self.boxes.get(at, k).links.next
-    }
-
-    pub fn id(&self, at: Place, k: usize) -> u64
-        requires { IsAt self.now k at }
-        ensures { slice_get (ids (elements self.now)) k ≡ Some result }
-    {
-        self.boxes.get(at, k).id
-    }
-
-    pub fn get(&self, at: Place, k: usize) -> &T
-        requires { IsAt self.now k at }
-        ensures { slice_get (values (elements self.now)) k ≡ Some result.now }
-    {
-        &self.boxes.get(at, k).value
-    }
-
-    pub fn get_mut(&mut self, at: Place, k: usize) -> &mut T
-        requires { IsAt self.old k at }
-        ensures* writes_back { sem 𝓛 (lends_item T.row K.row self.entry k result) }
-        ensures value { slice_get (values (elements self.old)) k ≡ Some result.now }
-    {
-        let block = self.boxes.get_mut(at, k);
-        &mut block.value
-    }
-
-    /// The nodes of `self` and then those of `other`.
+    /// The nodes of `self` and then those of `other`. It takes no walk.
     pub fn join(self, other: SingleChain<T, K>) -> SingleChain<T, K>
-        requires { length self + length other < 2 ^ 64 }
         ensures { result ≡ self ++ other }
     {
-        if self.len == 0 {
+        if self.is_empty() {
             self.discard();
             return other;
         }
-        if other.len == 0 {
+        if other.is_empty() {
             other.discard();
             return self;
         }
+        let SingleChain { head, tail, boxes } = self;
         let SingleChain {
-            head,
-            tail,
-            len,
-            boxes,
-        } = self;
-        let after = other.head;
-        let SingleChain {
-            head: _,
+            head: after,
             tail: last,
-            len: more,
             boxes: others,
         } = other;
-        let mut boxes = boxes.join(others);
-        boxes.get_mut(tail, len - 1).links.next = after;
         SingleChain {
             head,
             tail: last,
-            len: len + more,
-            boxes,
+            boxes: with_last_link(boxes, tail, after).join(others),
         }
     }
 
-    /// The first `k` nodes, of which `at` is the last, and the others.
-    pub fn cut(self, at: Place, k: usize) -> (SingleChain<T, K>, SingleChain<T, K>)
-        requires { (0 < k) × (IsAt self (k - 1) at) }
-        ensures { (result.0 ≡ take k self) × (result.1 ≡ drop k self) }
+    /// A cursor on the first node.
+    pub fn into_cursor(self) -> Cursor<T, K>
+        ensures { (result.before ≡ []) × (result.rest ≡ self) }
     {
-        let SingleChain {
-            head,
+        let SingleChain { head, tail, boxes } = self;
+        Cursor {
+            head: None,
+            before: Place::nowhere(),
+            at: head,
             tail,
-            len,
-            boxes,
-        } = self;
-        let after = boxes.get(at, k - 1).links.next;
-        let (front, back) = boxes.cut(k);
-        let first = SingleChain {
-            head,
-            tail: at,
-            len: k,
-            boxes: front,
-        };
-        let rest = SingleChain {
-            head: after,
-            tail,
-            len: len - k,
-            boxes: back,
-        };
-        (first, rest)
+            front: Boxes::empty(),
+            rest: boxes,
+        }
     }
 }
 
 impl<T: Drop, K> SingleChain<T, K> {
     /// Puts a node first.
     pub fn link_front(&mut self, node: Node<T, NextLink<T, K>>)
-        requires { length self.old + 1 < 2 ^ 64 }
         ensures { (place : Ptr) × (self.new ≡ (place, node) ∷ self.old) }
     {
         let rest = self.take();
         self.put(SingleChain::one(node).join(rest));
     }
 
-    /// Puts a node last.
+    /// Puts a node last. It takes no walk.
     pub fn link_back(&mut self, node: Node<T, NextLink<T, K>>)
-        requires { length self.old + 1 < 2 ^ 64 }
         ensures { (place : Ptr) × (self.new ≡ self.old ++ (place, node) ∷ []) }
     {
         let rest = self.take();
@@ -264,13 +236,233 @@ impl<T: Drop, K> SingleChain<T, K> {
         requires { 0 < length self.old }
         ensures { (place : Ptr) × (self.old ≡ (place, result) ∷ self.new) }
     {
-        let nodes = self.take();
-        if nodes.len() == 1 {
-            return nodes.only();
+        let (node, others) = self.take().split_first();
+        self.put(others);
+        node
+    }
+
+    /// The first node, and the chain of the others.
+    fn split_first(self) -> (Node<T, NextLink<T, K>>, SingleChain<T, K>)
+        requires { 0 < length self }
+        ensures { (place : Ptr) × (self ≡ (place, result.0) ∷ result.1) }
+    {
+        let SingleChain { head, tail, boxes } = self;
+        let first = head.unwrap();
+        let (front, rest) = boxes.cut(1);
+        let block = front.get(first, 0);
+        let alloc = block.alloc;
+        let others = SingleChain {
+            head: block.links.next,
+            tail,
+            boxes: rest,
+        };
+        let node = Node {
+            block: front.only(first, alloc).into_box(),
+        };
+        (node, others)
+    }
+}
+
+/// The values of a chain's nodes, in order. A contract sees those that are left.
+#[derive(Drop)]
+pub struct Values<'a, T, K> {
+    next: Option<Place>,
+    rest: &'a Row<T, K>,
+}
+
+impl<'a, T, K> Model for Values<'a, T, K> {
+    ghost use Rattle.std.specs.Prelude.{List};
+    ghost use Rattle.cordyceps_base.specs.SingleChain.{IsLed, contents};
+
+    ghost Value = { List T };
+
+    ghost view = { λ v. contents v.rest.now.blocks };
+
+    ghost invariant = { λ v. IsLed v.next v.rest.now.blocks };
+}
+
+impl<'a, T, K> Iterator for Values<'a, T, K> {
+    type Item = &'a T;
+
+    ghost next_gives = { YieldsFirstRef (λ v. v) };
+
+    ghost remaining = { item_count (λ v. v) };
+
+    fn next(&mut self) -> Option<&'a T> {
+        match self.next {
+            Some(at) => {
+                let rest = self.rest;
+                let block = rest.get(at, 0);
+                self.next = block.links.next;
+                self.rest = rest.behind_first();
+                Some(&block.value)
+            }
+            None => None,
         }
-        let first = nodes.head();
-        let (first, rest) = nodes.cut(first, 1);
-        self.put(rest);
-        first.only()
+    }
+}
+
+/// A chain that is walked along, and the node that the walk is on. A contract sees the nodes before that one, and the
+/// rest from it on.
+///
+/// A move writes no memory. `head` is that of the nodes before. `before` is the place of the last of these, and means
+/// nothing where there is none, nor does `tail` where there is no node.
+pub struct Cursor<T, K> {
+    head: Option<Place>,
+    before: Place,
+    at: Option<Place>,
+    tail: Place,
+    front: Row<T, K>,
+    rest: Row<T, K>,
+}
+
+impl<T, K> Model for Cursor<T, K> {
+    ghost use Rattle.cordyceps_base.specs.Nodes.{shown};
+    ghost use Rattle.cordyceps_base.specs.SingleChain.{Parted, IsParted};
+
+    ghost Value = { Parted T };
+
+    ghost view = { λ c. record { before = shown c.front.blocks; rest = shown c.rest.blocks } };
+
+    ghost invariant = { λ c. IsParted c.head c.before.ptr c.at c.tail.ptr c.front.blocks c.rest.blocks };
+}
+
+/// Frees each node, from the first to the last.
+impl<T: Drop, K> Drop for Cursor<T, K> {
+    fn drop(self) {
+        drop(self.close());
+    }
+}
+
+impl<T, K> Cursor<T, K> {
+    /// The value of the node that the cursor is on. It is `None` behind the last node.
+    pub fn current(&self) -> Option<&T>
+        ensures some { IfSome result (λ v. slice_get (values (elements self.now.rest)) 0 ≡ Some v.now) }
+        ensures none { IfNone result (self.now.rest ≡ []) }
+    {
+        match self.at {
+            Some(at) => Some(&self.rest.get(at, 0).value),
+            None => None,
+        }
+    }
+
+    /// Moves on by one node.
+    pub fn advance(&mut self)
+        requires { 0 < length self.old.rest }
+        ensures { (node : Ptr × Element T)
+            × (self.old.rest ≡ node ∷ self.new.rest)
+            × (self.new.before ≡ self.old.before ++ node ∷ []) }
+    {
+        let cursor = self.take();
+        self.put(cursor.moved());
+    }
+
+    fn moved(self) -> Cursor<T, K>
+        requires { 0 < length self.rest }
+        ensures { (node : Ptr × Element T)
+            × (self.rest ≡ node ∷ result.rest)
+            × (result.before ≡ self.before ++ node ∷ []) }
+    {
+        let Cursor {
+            head,
+            before: _,
+            at,
+            tail,
+            front,
+            rest,
+        } = self;
+        let here = at.unwrap();
+        let (first, rest) = rest.cut(1);
+        let next = first.get(here, 0).links.next;
+        Cursor {
+            head: head.or(at),
+            before: here,
+            at: next,
+            tail,
+            front: front.join(first),
+            rest,
+        }
+    }
+
+    fn take(&mut self) -> Cursor<T, K>
+        ensures { (result ≡ self.old) × (self.new.before ≡ []) × (self.new.rest ≡ []) }
+    {
+        mem::replace(self, SingleChain::empty().into_cursor())
+    }
+
+    fn put(&mut self, cursor: Cursor<T, K>)
+        requires { (self.old.before ≡ []) × (self.old.rest ≡ []) }
+        ensures { self.new ≡ cursor }
+    {
+        let empty = mem::replace(self, cursor);
+        empty.close().discard();
+    }
+
+    /// The chain of all nodes. It takes no walk.
+    pub fn close(self) -> SingleChain<T, K>
+        ensures { result ≡ self.before ++ self.rest }
+    {
+        let Cursor {
+            head,
+            before: _,
+            at,
+            tail,
+            front,
+            rest,
+        } = self;
+        SingleChain {
+            head: head.or(at),
+            tail,
+            boxes: front.join(rest),
+        }
+    }
+}
+
+impl<T: Drop, K> Cursor<T, K> {
+    /// Puts a node before the one that the cursor is on. It takes no walk.
+    pub fn insert(&mut self, node: Node<T, NextLink<T, K>>)
+        ensures { (place : Ptr)
+            × (self.new.before ≡ self.old.before ++ (place, node) ∷ [])
+            × (self.new.rest ≡ self.old.rest) }
+    {
+        let cursor = self.take();
+        self.put(cursor.with_node(node));
+    }
+
+    fn with_node(self, node: Node<T, NextLink<T, K>>) -> Cursor<T, K>
+        ensures { (place : Ptr)
+            × (result.before ≡ self.before ++ (place, node) ∷ [])
+            × (result.rest ≡ self.rest) }
+    {
+        let Cursor {
+            head,
+            before,
+            at,
+            tail,
+            front,
+            rest,
+        } = self;
+        let Node { mut block } = node;
+        block.links.next = at;
+        let (place, _, new) = Boxes::one(Loose::of(block));
+        let tail = if at.is_none() { place } else { tail };
+        if head.is_none() {
+            return Cursor {
+                head: Some(place),
+                before: place,
+                at,
+                tail,
+                front: front.join(new),
+                rest,
+            };
+        }
+        Cursor {
+            head,
+            before: place,
+            at,
+            tail,
+            front: with_last_link(front, before, Some(place)).join(new),
+            rest,
+        }
     }
 }

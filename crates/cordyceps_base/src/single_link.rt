@@ -3,10 +3,10 @@ use crate::boxes::Place;
 use crate::node::Sealed;
 use std::marker::PhantomData;
 
-/// The link to the node after. `K` tells apart the collections that link such nodes.
+/// The link to the node after, if there is one. `K` tells apart the collections that link such nodes.
 #[derive(Drop)]
 pub struct NextLink<T, K> {
-    pub(crate) next: Place,
+    pub(crate) next: Option<Place>,
     value: PhantomData<T>,
     kind: PhantomData<K>,
 }
@@ -14,7 +14,7 @@ pub struct NextLink<T, K> {
 impl<T, K> Sealed for NextLink<T, K> {
     fn unlinked() -> NextLink<T, K> {
         NextLink {
-            next: Place::nowhere(),
+            next: None,
             value: PhantomData,
             kind: PhantomData,
         }

@@ -1,13 +1,15 @@
--- Fingers of a chain that changes behind them.
-use Rattle.std.proofs.Common.{◌≡◌, ℕ, ◌+◌, ◌<◌, ◌≤◌, List, [], ◌∷◌, ◌++◌, length, slice_get, Some, sym, ap, ◌∙◌, subst, inl, inr, zero, suc, arith, length-append}
+-- Fingers of a chain that changes.
+use Rattle.std.proofs.Common.{◌≡◌, ℕ, zero, suc, ◌+◌, ◌-◌, ◌<◌, ◌≤◌, List, [], ◌∷◌, ◌++◌, length, take, drop, slice_get, Some, sym, ap, ◌∙◌, subst, inl, inr, arith, length-append, length-drop}
 use Rattle.std.specs.Prelude.{◌⊎◌}
+use Rattle.std.proofs.lemmas.List.{length-take, append-nil, take_all, drop_all}
+use Rattle.std.proofs.Math.Seq.{take-append_seam}
 use denote.RawPtr.{Ptr}
 use Rattle.cordyceps_base.specs.Element.{Element}
-use Rattle.cordyceps_base.specs.Nodes.{Nodes, spots, with_item}
-use Rattle.cordyceps_base.proofs.Places.{spots_before, spots_of_front, spots-with_item, length-with_item}
+use Rattle.cordyceps_base.specs.Nodes.{Nodes, spots, IsAt, with_item}
+use Rattle.cordyceps_base.proofs.Places.{spot_before, spot_pushed, spot_pulled, spots-with_item, length-with_item}
 use Rattle.cordyceps_list.specs.declared.finger.Finger.{Finger}
 use Rattle.cordyceps_list.specs.declared.finger.Fingers.{Fingers}
-use Rattle.cordyceps_list.specs.Fingers.{Fits, AllFit, ChangesBehind}
+use Rattle.cordyceps_list.specs.Fingers.{Fits, AllFit, PutsIn, TakesOut, ChangesBehind}
 
 below_or_not : (a b : ℕ) → (a < b) ⊎ (b ≤ a)
 below_or_not zero b = elim b as (λ n. (zero < n) ⊎ (n ≤ zero)) [ zero ↦ inr (omega arith) | suc n ↦ inl (omega arith) ]
@@ -15,31 +17,88 @@ below_or_not (suc a) zero = inr (omega arith)
 below_or_not (suc a) (suc b) = elim (below_or_not a b) [ inl h ↦ inl (omega arith) | inr h ↦ inr (omega arith) ]
 
 module _ {X : Type 0} where
-  fits_change : (c d : Nodes X) (old new : Finger) (kept len : ℕ) → Fits c old → kept ≤ length c → kept ≤ len → len ≡ length d → ChangesBehind kept len old new → ((k : ℕ) (p : Ptr) → k < kept → slice_get (spots c) k ≡ Some p → slice_get (spots d) k ≡ Some p) → Fits d new
-  fits_change c d old new kept len fits front within is change stays = elim (below_or_not old.index kept) as (λ _. Fits d new) [
-    | inl before ↦
-        let same : new ≡ old = change.0 before in
-        subst (Fits d) (sym same) (record { within = omega arith; on = λ on_node. stays old.index old.at.ptr before (fits.on (omega arith)) })
+  -- the first nodes stay
+  fits_kept : (c d : Nodes X) (f : Finger) (k : ℕ) (more : Nodes X) → Fits c f → f.index < k → k ≤ length c → d ≡ take k c ++ more → Fits d f
+  fits_kept c d f k more fits before front is =
+      let long = ap length is ∙ length-append (take k c) more in
+      let short = length-take k c in
+      record {
+        within = omega arith;
+        on = λ on_node. subst (λ (e : Nodes X). IsAt e f.index f.at) (sym is) (spot_before c more k f.index f.at.ptr before (fits.on (omega arith)));
+      }
+
+  fits_splice : (c d more : Nodes X) (old new : Finger) (k count : ℕ) → Fits c old → k ≤ length c → d ≡ take k c ++ (more ++ drop k c) → count ≡ length more → PutsIn k count old new → Fits d new
+  fits_splice c d more old new k count fits front is many change = elim (below_or_not old.index k) as (λ _. Fits d new) [
+    | inl before ↦ subst (Fits d) (sym (change.0 before)) (fits_kept c d old k (more ++ drop k c) fits before front is)
     | inr behind ↦
-        let gone : new.index ≡ len = change.1 behind in
+        let long = ap length is ∙ length-append (take k c) (more ++ drop k c) in
+        let rest = length-append more (drop k c) in
+        let short = length-take k c in
+        let left = length-drop k c in
+        let within = fits.within in
+        let at = old.at.ptr in
+        subst (Fits d) (sym (change.1 behind)) (record {
+          within = omega arith;
+          on = λ on_node.
+              let there = spot_pushed c more k old.index at behind (fits.on (omega arith)) in
+              subst (λ (e : Nodes X). slice_get (spots e) (old.index + count) ≡ Some at) (sym is) (subst (λ (n : ℕ). slice_get (spots (take k c ++ (more ++ drop k c))) (old.index + n) ≡ Some at) (sym many) there);
+        })
+  ]
+
+  fits_unlink : (c d : Nodes X) (old new : Finger) (k len : ℕ) → Fits c old → k < length c → d ≡ take k c ++ drop (k + 1) c → len ≡ length d → TakesOut k len old new → Fits d new
+  fits_unlink c d old new k len fits inside is many change = elim (below_or_not old.index k) as (λ _. Fits d new) [
+    | inl before ↦ subst (Fits d) (sym (change.0 before)) (fits_kept c d old k (drop (k + 1) c) fits before (omega arith) is)
+    | inr behind ↦ elim (below_or_not k old.index) as (λ _. Fits d new) [
+      | inl after ↦
+          let long = ap length is ∙ length-append (take k c) (drop (k + 1) c) in
+          let short = length-take k c in
+          let left = length-drop (k + 1) c in
+          let within = fits.within in
+          let at = old.at.ptr in
+          subst (Fits d) (sym (change.2 after)) (record {
+            within = omega arith;
+            on = λ on_node. subst (λ (e : Nodes X). slice_get (spots e) (old.index - 1) ≡ Some at) (sym is) (spot_pulled c k old.index at after (fits.on (omega arith)));
+          })
+      | inr not_after ↦
+          let gone : new.index ≡ len = change.1 (omega arith) in
+          record { within = omega arith; on = λ on_node. absurd (omega arith) }
+    ]
+  ]
+
+  fits_front : (c d : Nodes X) (old new : Finger) (k : ℕ) → Fits c old → k ≤ length c → d ≡ take k c → ChangesBehind k k old new → Fits d new
+  fits_front c d old new k fits front is change = elim (below_or_not old.index k) as (λ _. Fits d new) [
+    | inl before ↦ subst (Fits d) (sym (change.0 before)) (fits_kept c d old k [] fits before front (is ∙ sym (append-nil (take k c))))
+    | inr behind ↦
+        let gone : new.index ≡ k = change.1 behind in
+        let long = ap length is ∙ length-take k c in
         record { within = omega arith; on = λ on_node. absurd (omega arith) }
   ]
 
-  all_fit : (c d : Nodes X) (old new : Fingers) (kept len : ℕ) → AllFit c old → kept ≤ length c → kept ≤ len → len ≡ length d → ChangesBehind kept len old.front new.front → ChangesBehind kept len old.back new.back → ((k : ℕ) (p : Ptr) → k < kept → slice_get (spots c) k ≡ Some p → slice_get (spots d) k ≡ Some p) → AllFit d new
-  all_fit c d old new kept len fit front within is f b stays =
-      record { front = fits_change c d old.front new.front kept len fit.front front within is f stays; back = fits_change c d old.back new.back kept len fit.back front within is b stays }
+  pub fit_splice : (c d more : Nodes X) (old new : Fingers) (k count : ℕ) → AllFit c old → k ≤ length c → d ≡ take k c ++ (more ++ drop k c) → count ≡ length more → PutsIn k count old.front new.front → PutsIn k count old.back new.back → AllFit d new
+  fit_splice c d more old new k count fit front is many f b =
+      record { front = fits_splice c d more old.front new.front k count fit.front front is many f; back = fits_splice c d more old.back new.back k count fit.back front is many b }
 
-  -- one more node behind the last
-  pub fit_more : (c d : Nodes X) (n : Ptr × Element X) (old new : Fingers) (kept len : ℕ) → d ≡ c ++ n ∷ [] → kept ≡ length c → len ≡ length c + 1 → AllFit c old → ChangesBehind kept len old.front new.front → ChangesBehind kept len old.back new.back → AllFit d new
-  fit_more c d n old new kept len is at all fit f b =
-      let long : length d ≡ length c + 1 = ap length is ∙ length-append c (n ∷ []) in
-      all_fit c d old new kept len fit (omega arith) (omega arith) (omega arith) f b (λ k p before on. subst (λ (e : Nodes X). slice_get (spots e) k ≡ Some p) (sym is) (spots_before c (n ∷ []) k p on))
+  pub fit_unlink : (c d : Nodes X) (old new : Fingers) (k len : ℕ) → AllFit c old → k < length c → d ≡ take k c ++ drop (k + 1) c → len ≡ length d → TakesOut k len old.front new.front → TakesOut k len old.back new.back → AllFit d new
+  fit_unlink c d old new k len fit inside is many f b =
+      record { front = fits_unlink c d old.front new.front k len fit.front inside is many f; back = fits_unlink c d old.back new.back k len fit.back inside is many b }
+
+  pub fit_front : (c d : Nodes X) (old new : Fingers) (k : ℕ) → AllFit c old → k ≤ length c → d ≡ take k c → ChangesBehind k k old.front new.front → ChangesBehind k k old.back new.back → AllFit d new
+  fit_front c d old new k fit front is f b =
+      record { front = fits_front c d old.front new.front k fit.front front is f; back = fits_front c d old.back new.back k fit.back front is b }
+
+  -- others come behind the last node
+  pub fit_more : (c d more : Nodes X) (old new : Fingers) (k count : ℕ) → AllFit c old → k ≡ length c → d ≡ c ++ more → count ≡ length more → PutsIn k count old.front new.front → PutsIn k count old.back new.back → AllFit d new
+  fit_more c d more old new k count fit end is many f b =
+      let whole : take k c ++ (more ++ drop k c) ≡ c ++ more = rw (take_all k c (omega arith), drop_all k c (omega arith)) (ap (λ t. c ++ t) (append-nil more)) in
+      fit_splice c d more old new k count fit (omega arith) (is ∙ sym whole) many f b
 
   -- the last node is gone
-  pub fit_less : (c d : Nodes X) (n : Ptr × Element X) (old new : Fingers) (kept len : ℕ) → c ≡ d ++ n ∷ [] → kept ≡ length d → len ≡ length d → AllFit c old → ChangesBehind kept len old.front new.front → ChangesBehind kept len old.back new.back → AllFit d new
-  fit_less c d n old new kept len is at all fit f b =
-      let long : length c ≡ length d + 1 = ap length is ∙ length-append d (n ∷ []) in
-      all_fit c d old new kept len fit (omega arith) (omega arith) (omega arith) f b (λ k p before on. spots_of_front d (n ∷ []) k p (omega arith) (subst (λ (e : Nodes X). slice_get (spots e) k ≡ Some p) is on))
+  pub fit_less : (c d : Nodes X) (n : Ptr × Element X) (old new : Fingers) (k len : ℕ) → AllFit c old → k ≡ length d → c ≡ d ++ n ∷ [] → len ≡ length d → TakesOut k len old.front new.front → TakesOut k len old.back new.back → AllFit d new
+  fit_less c d n old new k len fit end is many f b =
+      let long = ap length is ∙ length-append d (n ∷ []) in
+      let front : take k c ≡ d = rw (end, is) (take-append_seam d (n ∷ [])) in
+      let nothing : drop (k + 1) c ≡ [] = drop_all (k + 1) c (omega arith) in
+      fit_unlink c d old new k len fit (omega arith) (sym (rw (front, nothing) (append-nil d))) many f b
 
   -- a written value moves no node
   fits_written : (c : Nodes X) (k : ℕ) (w : X) (f : Finger) → Fits c f → Fits (with_item c k w) f

@@ -19,14 +19,18 @@ module _ {X : Type 0} where
     pub front : Fits c fs.front
     pub back : Fits c fs.back
 
--- a finger where a node was put first
-abbrev pub PutsFirst : Finger → Finger → Type 0
-PutsFirst old new = new ≡ record { at = old.at; index = old.index + 1 }
+-- a finger where so many nodes were put in at a place
+abbrev pub PutsIn : ℕ → ℕ → Finger → Finger → Type 0
+PutsIn k more old new = (old.index < k → new ≡ old) × (k ≤ old.index → new ≡ record { at = old.at; index = old.index + more })
 
--- a finger where the first node was taken out, and so many are left: where it was on that node it is on none
-abbrev pub TakesFirst : ℕ → Finger → Finger → Type 0
-TakesFirst len old new = (old.index ≡ 0 → new.index ≡ len) × (0 < old.index → new ≡ record { at = old.at; index = old.index - 1 })
+-- a finger where the node at a place was taken out, and so many are left: where it was on that node it is on none
+abbrev pub TakesOut : ℕ → ℕ → Finger → Finger → Type 0
+TakesOut k len old new = (old.index < k → new ≡ old) × (old.index ≡ k → new.index ≡ len) × (k < old.index → new ≡ record { at = old.at; index = old.index - 1 })
 
 -- a finger where the chain changed behind the first nodes, and has so many now: if it was on none of those, it is on none
 abbrev pub ChangesBehind : ℕ → ℕ → Finger → Finger → Type 0
 ChangesBehind kept len old new = (old.index < kept → new ≡ old) × (kept ≤ old.index → new.index ≡ len)
+
+-- how many links lie between two places
+abbrev pub moves_between : ℕ → ℕ → ℕ
+moves_between a b = (a - b) + (b - a)

@@ -4,6 +4,7 @@ ghost use Rattle.cordyceps_base.specs.Nodes.{IsAt};
 
 use cordyceps_base::boxes::Place;
 use cordyceps_base::double_chain::DoubleChain;
+use cordyceps_base::steps::{Steps, count_one};
 
 /// The place of a node and its index. At the chain's length it is the place of nothing.
 #[derive(Clone, Copy)]
@@ -13,7 +14,7 @@ pub(crate) struct Finger {
 }
 
 impl Finger {
-    ghost use Rattle.cordyceps_list.specs.Fingers.{IsOn, Fits, PutsFirst, TakesFirst, ChangesBehind};
+    ghost use Rattle.cordyceps_list.specs.Fingers.{IsOn, Fits, moves_between, PutsIn, TakesOut, ChangesBehind};
 
     /// A finger behind the last of so many nodes.
     pub(crate) fn behind(len: usize) -> Finger
@@ -73,22 +74,68 @@ impl Finger {
         finger
     }
 
-    /// After a node was put first.
-    fn after_push_front(self) -> Finger
-        requires { self.index + 1 < 2 ^ 64 }
-        ensures { PutsFirst self result }
+    /// Moves along one link, towards the place `to`, and counts the move. Each counted move is made here.
+    fn moved<T>(self, chain: &DoubleChain<T>, to: usize, steps: &mut Steps) -> Finger
+        requires on { IsOn chain.now self }
+        requires inside { to < length chain.now }
+        requires away { self.index ≡ to → ⊥ }
+        requires room { steps.old + 1 < 2 ^ 64 }
+        ensures on { IsOn chain.now result }
+        ensures nearer { moves_between result.index to + 1 ≡ moves_between self.index to }
+        ensures counted { steps.new ≡ steps.old + 1 }
     {
-        Finger {
-            at: self.at,
-            index: self.index + 1,
+        count_one(steps);
+        if self.index < to {
+            Finger {
+                at: chain.next(self.at, self.index),
+                index: self.index + 1,
+            }
+        } else {
+            Finger {
+                at: chain.prev(self.at, self.index),
+                index: self.index - 1,
+            }
         }
     }
 
-    /// After the first node was taken out, of a chain that has so many nodes now.
-    fn after_pop_front(self, len: usize) -> Finger
-        ensures { TakesFirst len self result }
+    /// Moves to the place `to`, and counts the moves.
+    pub(crate) fn walked_in<T>(self, chain: &DoubleChain<T>, to: usize, steps: &mut Steps) -> Finger
+        requires on { IsOn chain.now self }
+        requires inside { to < length chain.now }
+        requires room { steps.old + moves_between self.index to < 2 ^ 64 }
+        ensures on { IsOn chain.now result }
+        ensures arrived { result.index ≡ to }
+        ensures counted { steps.new ≡ steps.old + moves_between self.index to }
     {
-        if self.index == 0 {
+        let mut finger = self;
+        while finger.index != to {
+            finger = finger.moved(chain, to, steps);
+        }
+        finger
+    }
+
+    /// After so many nodes were put in at place `k`.
+    fn after_splice(self, k: usize, more: usize) -> Finger
+        requires { self.index + more < 2 ^ 64 }
+        ensures { PutsIn k more self result }
+    {
+        if self.index < k {
+            return self;
+        }
+        Finger {
+            at: self.at,
+            index: self.index + more,
+        }
+    }
+
+    /// After node `k` was taken out, of a chain that has so many nodes now.
+    fn after_unlink(self, k: usize, len: usize) -> Finger
+        ensures { TakesOut k len self result }
+    {
+        if self.index < k {
+            return self;
+        }
+        if self.index == k {
             return Finger::behind(len);
         }
         Finger {
@@ -118,17 +165,16 @@ pub(crate) struct Fingers {
 }
 
 impl Fingers {
-    ghost use Rattle.cordyceps_list.specs.Fingers.{AllFit, PutsFirst, TakesFirst, ChangesBehind};
+    ghost use Rattle.cordyceps_list.specs.Fingers.{AllFit, PutsIn, TakesOut, ChangesBehind};
 
-    /// The fingers of an empty chain.
-    pub(crate) fn new<T>(chain: &DoubleChain<T>) -> Fingers
-        requires { length chain.now ≡ 0 }
+    /// Two fingers behind the last node.
+    pub(crate) fn behind<T>(chain: &DoubleChain<T>) -> Fingers
         ensures { AllFit chain.now result }
     {
-        let nowhere = Finger::behind(0);
+        let behind = Finger::behind(chain.len());
         Fingers {
-            front: nowhere,
-            back: nowhere,
+            front: behind,
+            back: behind,
         }
     }
 
@@ -158,27 +204,54 @@ impl Fingers {
         }
     }
 
-    /// After a node was put first.
-    pub(crate) fn after_push_front(self) -> Fingers
-        requires front { self.front.index + 1 < 2 ^ 64 }
-        requires back { self.back.index + 1 < 2 ^ 64 }
-        ensures front { PutsFirst self.front result.front }
-        ensures back { PutsFirst self.back result.back }
+    /// The same where `to` may be the place behind the last node, which is no node's.
+    pub(crate) fn seek_within<T>(&mut self, chain: &DoubleChain<T>, to: usize) -> Place
+        requires { AllFit chain.now self.old }
+        ensures fit { AllFit chain.now self.new }
+        ensures on { to < length chain.now → IsAt chain.now to result }
     {
-        Fingers {
-            front: self.front.after_push_front(),
-            back: self.back.after_push_front(),
+        if to < chain.len() {
+            self.seek(chain, to)
+        } else {
+            Place::nowhere()
         }
     }
 
-    /// After the first node was taken out, of a chain that has so many nodes now.
-    pub(crate) fn after_pop_front(self, len: usize) -> Fingers
-        ensures front { TakesFirst len self.front result.front }
-        ensures back { TakesFirst len self.back result.back }
+    /// The place of a node that is about to go. A finger is left on the node before it, if there is one.
+    pub(crate) fn seek_behind<T>(&mut self, chain: &DoubleChain<T>, to: usize) -> Place
+        requires fit { AllFit chain.now self.old }
+        requires inside { to < length chain.now }
+        ensures fit { AllFit chain.now self.new }
+        ensures at { IsAt chain.now to result }
+    {
+        if to == 0 {
+            return chain.head();
+        }
+        let before = self.seek(chain, to - 1);
+        chain.next(before, to - 1)
+    }
+
+    /// After so many nodes were put in at place `k`.
+    pub(crate) fn after_splice(self, k: usize, more: usize) -> Fingers
+        requires front { self.front.index + more < 2 ^ 64 }
+        requires back { self.back.index + more < 2 ^ 64 }
+        ensures front { PutsIn k more self.front result.front }
+        ensures back { PutsIn k more self.back result.back }
     {
         Fingers {
-            front: self.front.after_pop_front(len),
-            back: self.back.after_pop_front(len),
+            front: self.front.after_splice(k, more),
+            back: self.back.after_splice(k, more),
+        }
+    }
+
+    /// After node `k` was taken out, of a chain that has so many nodes now.
+    pub(crate) fn after_unlink(self, k: usize, len: usize) -> Fingers
+        ensures front { TakesOut k len self.front result.front }
+        ensures back { TakesOut k len self.back result.back }
+    {
+        Fingers {
+            front: self.front.after_unlink(k, len),
+            back: self.back.after_unlink(k, len),
         }
     }
 

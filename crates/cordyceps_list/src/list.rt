@@ -16,8 +16,8 @@ use std::marker::Model;
 /// A drop frees each node once.
 #[derive(Drop)]
 pub struct List<T> {
-    chain: DoubleChain<T>,
-    fingers: Fingers,
+    pub(crate) chain: DoubleChain<T>,
+    pub(crate) fingers: Fingers,
 }
 
 impl<T> Model for List<T> {
@@ -48,7 +48,7 @@ impl<T: Linked<Links<T>>> List<T> {
         ensures { result ≡ [] }
     {
         let chain = DoubleChain::empty();
-        let fingers = Fingers::new(&chain);
+        let fingers = Fingers::behind(&chain);
         List { chain, fingers }
     }
 
@@ -71,7 +71,7 @@ impl<T: Linked<Links<T>>> List<T> {
         requires { length self.old < usize.MAX }
         ensures { self.new ≡ T.element handle ∷ self.old }
     {
-        self.fingers = self.fingers.after_push_front();
+        self.fingers = self.fingers.after_splice(0, 1);
         self.chain.link_front(T::into_ptr(handle));
     }
 
@@ -80,8 +80,7 @@ impl<T: Linked<Links<T>>> List<T> {
         requires { length self.old < usize.MAX }
         ensures { self.new ≡ self.old ++ T.element handle ∷ [] }
     {
-        let len = self.chain.len();
-        self.fingers = self.fingers.after_change(len, len + 1);
+        self.fingers = self.fingers.after_splice(self.chain.len(), 1);
         self.chain.link_back(T::into_ptr(handle));
     }
 
@@ -92,7 +91,7 @@ impl<T: Linked<Links<T>>> List<T> {
         if self.chain.len() == 0 {
             return None;
         }
-        self.fingers = self.fingers.after_pop_front(self.chain.len() - 1);
+        self.fingers = self.fingers.after_unlink(0, self.chain.len() - 1);
         Some(T::from_ptr(self.chain.unlink_front()))
     }
 
@@ -103,8 +102,8 @@ impl<T: Linked<Links<T>>> List<T> {
         if self.chain.len() == 0 {
             return None;
         }
-        let kept = self.chain.len() - 1;
-        self.fingers = self.fingers.after_change(kept, kept);
+        let last = self.chain.len() - 1;
+        self.fingers = self.fingers.after_unlink(last, last);
         Some(T::from_ptr(self.chain.unlink_back()))
     }
 

@@ -38,22 +38,50 @@ fn links_both_ways(rt: HostRuntime) -> Result<(), Fail> {
     Ok(())
 }
 
+/// The values of a chain, in order.
+fn all(alloc: Global, chain: &SingleChain<u64, stack::InStack>) -> Result<Vec<u64>, AllocError> {
+    chain.values().copied().collect(alloc)
+}
+
 #[test]
 fn links_one_way(rt: HostRuntime) -> Result<(), Fail> {
+    let alloc = rt.alloc();
     let mut chain = SingleChain::empty();
-    chain.link_back(single(rt.alloc(), 2, 20)?);
-    chain.link_front(single(rt.alloc(), 1, 10)?);
-    chain.link_back(single(rt.alloc(), 3, 30)?);
-    assert_eq!(rt; chain.len(), 3);
-    let first = chain.head();
-    let second = chain.next(first, 0);
-    assert_eq!(rt; chain.id(second, 1), 2);
-    assert_eq!(rt; *chain.get(chain.tail(), 2), 30);
-    *chain.get_mut(second, 1) = 21;
-    let (front, rest) = chain.cut(first, 1);
-    let mut turned = rest.join(front);
-    assert_eq!(rt; turned.unlink_front().into_value(), 21);
-    assert_eq!(rt; turned.unlink_front().into_value(), 30);
-    assert_eq!(rt; turned.only().into_value(), 10);
+    assert!(rt; chain.is_empty());
+    assert!(rt; chain.first().is_none());
+    assert!(rt; chain.last().is_none());
+    chain.link_back(single(alloc, 2, 20)?);
+    chain.link_front(single(alloc, 1, 10)?);
+    chain.link_back(single(alloc, 3, 30)?);
+    assert_eq!(rt; chain.first().copied(), Some(10));
+    assert_eq!(rt; chain.last().copied(), Some(30));
+    let mut other = SingleChain::one(single(alloc, 4, 40)?);
+    other.link_front(single(alloc, 5, 50)?);
+    let mut both = chain.join(other);
+    assert_eq!(rt; all(alloc, &both)?, vec![in alloc; 10, 20, 30, 50, 40]?);
+    assert_eq!(rt; both.unlink_front().into_value(), 10);
+    assert_eq!(rt; both.unlink_front().id(), 2);
+    assert_eq!(rt; both.last().copied(), Some(40));
+    Ok(())
+}
+
+#[test]
+fn a_cursor_puts_nodes_in(rt: HostRuntime) -> Result<(), Fail> {
+    let alloc = rt.alloc();
+    let mut chain = SingleChain::empty();
+    chain.link_back(single(alloc, 1, 10)?);
+    chain.link_back(single(alloc, 3, 30)?);
+    let mut cursor = chain.into_cursor();
+    assert_eq!(rt; cursor.current().copied(), Some(10));
+    cursor.advance();
+    cursor.insert(single(alloc, 2, 20)?);
+    assert_eq!(rt; cursor.current().copied(), Some(30));
+    cursor.advance();
+    assert!(rt; cursor.current().is_none());
+    cursor.insert(single(alloc, 4, 40)?);
+    assert_eq!(rt;
+        all(alloc, &cursor.close())?,
+        vec![in alloc; 10, 20, 30, 40]?
+    );
     Ok(())
 }

@@ -3,4 +3,4 @@ use Rattle.cordyceps_base.proofs.SingleChain.{single}
 use Rattle.cordyceps_base.proofs.single_chain.SingleChain.only.Goals as goal
 
 pub only-requires : goal.only-requires
-only-requires g c = let i = c.self.inside in single i.head.ptr i.tail.ptr i.len i.boxes.blocks c.get.result.now.alloc c.self.invariant (ap length c.self.view_is ∙ c.requires)
+only-requires g c = let i = c.self.inside in single i.tail.ptr i.boxes.blocks c.get.result.now.alloc c.self.invariant.1 (ap length c.self.view_is ∙ c.requires)

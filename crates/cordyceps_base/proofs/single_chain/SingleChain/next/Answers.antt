@@ -1,9 +1,0 @@
-use Rattle.cordyceps_base.proofs.SingleChain.{next_place}
-use Rattle.cordyceps_base.proofs.Nodes.{at_place}
-use Rattle.cordyceps_base.proofs.single_chain.SingleChain.next.Goals as goal
-
-pub get-requires : goal.get-requires
-get-requires g c = at_place c.self.inside.boxes.blocks c.args.self.now c.self.view_is c.args.k c.args.at.ptr c.requires
-
-pub returns : goal.returns
-returns g c = next_place c.self.inside.head.ptr c.self.inside.tail.ptr c.self.inside.len c.self.inside.boxes.blocks c.args.self.now c.self.view_is c.self.invariant c.args.k c.get.result.now c.get.ensures

@@ -1,0 +1,9 @@
+use Rattle.std.proofs.Common.{◌++◌, ap, ◌∙◌}
+use Rattle.cordyceps_list.proofs.Places.{fit_more}
+use Rattle.cordyceps_list.proofs.list.List.append.Goals as goal
+
+pub invariant_of-self : goal.invariant_of-self
+invariant_of-self g c =
+    let more = c.more.inside.chain in
+    fit_more c.self.inside.chain c.put.new.self more c.self.inside.fingers c.after_splice-self-inside.result c.len.result c.len-2.result c.self.invariant c.len.ensures
+    (c.put.ensures ∙ c.join.ensures ∙ ap (λ s. s ++ more) c.take-nodes.ensures.0) c.len-2.ensures c.after_splice-self-inside.ensures.front c.after_splice-self-inside.ensures.back

@@ -1,0 +1,23 @@
+use Rattle.std.proofs.Common.{◌≡◌, ◌+◌, ◌-◌, ◌<◌, length, take, drop, ap, ◌∙◌, arith, length-append, length-drop}
+use Rattle.std.proofs.lemmas.List.{length-take, length-map}
+use Rattle.cordyceps_base.specs.Nodes.{elements}
+use Rattle.cordyceps_base.proofs.Places.{elements-unlinked, element-at}
+use Rattle.cordyceps_list.proofs.Places.{fit_unlink}
+use Rattle.cordyceps_list.proofs.list.List.remove_at.Goals as goal
+
+pub invariant_of-self : goal.invariant_of-self
+invariant_of-self g c =
+    let nodes = c.self.inside.chain in
+    let at = c.args.at in
+    let inside : at < length nodes = omega (arith, c.requires, ap length c.self.view_is, length-map nodes (λ n. n.1)) in
+    let long : c.len.result - 1 ≡ length c.unlink.new.self = omega (arith, c.len.ensures, inside, ap length c.unlink.ensures.others, length-append (take at nodes) (drop (at + 1) nodes), length-take at nodes, length-drop (at + 1) nodes) in
+    fit_unlink nodes c.unlink.new.self c.seek_behind-place.new.self c.after_unlink-self-inside.result at _ c.seek_behind-place.ensures.fit inside c.unlink.ensures.others long c.after_unlink-self-inside.ensures.front c.after_unlink-self-inside.ensures.back
+
+pub returns-clause-value : goal.returns-clause-value
+returns-clause-value g c =
+    let (place, is) = c.unlink.ensures.node in
+    rw (← c.self.view_is, c.from_ptr.ensures) (element-at c.self.inside.chain c.args.at place c.unlink.result is)
+
+pub returns-clause-kept : goal.returns-clause-kept
+returns-clause-kept g c =
+    rw (← c.self.view_is) (ap elements c.unlink.ensures.others ∙ elements-unlinked c.self.inside.chain c.args.at)

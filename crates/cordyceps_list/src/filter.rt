@@ -1,0 +1,83 @@
+//! Lists that are drained of the elements that pass.
+ghost use Rattle.std.specs.Prelude.{◌≡◌, ℕ, ◌-◌, ◌≤◌, length};
+ghost use Rattle.cordyceps_list.specs.Filter.{RemovesFirst};
+ghost use Rattle.std.specs.Fn.{CalledAt};
+ghost use Rattle.std.specs.Iterator.{at_most, UpTo};
+ghost use Rattle.std.specs.Iterator.SizeHint.{IsWithinCount};
+ghost use denote.Param.Always.{always_mut};
+
+use crate::cursor_mut::CursorMut;
+use crate::list::{Links, List};
+use cordyceps_base::linked::Linked;
+
+/// Takes the elements that pass out of a list, and hands them out, in order. Each element is asked once, when the walk
+/// comes to it; dropped early, it keeps every element that it has not asked.
+pub struct DrainFilter<'a, T, F> {
+    list: &'a mut List<T>,
+    at: usize,
+    predicate: F,
+    ghost inside: { at ≤ length list.now },
+}
+
+impl<'a, T, F: Drop> Drop for DrainFilter<'a, T, F> {
+    ghost use Rattle.cordyceps_list.specs.DrainFilter.{elements};
+
+    fn drop(self)
+        ensures { self.exit.0.now ≡ elements self.entry }
+    {
+        let DrainFilter {
+            list: _,
+            at: _,
+            predicate: _,
+        } = self;
+    }
+}
+
+impl<T: Linked<Links<T>>> List<T> {
+    ghost use Rattle.cordyceps_list.specs.DrainFilter.{elements, place, lender, predicate_of};
+
+    /// Hands out the elements of which the predicate says `true`, and keeps the others. The predicate must be callable on
+    /// every value.
+    pub fn drain_filter<F: FnMut(&T) -> bool + Drop>(
+        &mut self,
+        predicate: F,
+    ) -> DrainFilter<'_, T, F>
+        ensures same_reference { lender result ≡ self.entry.ghost_name }
+        ensures elements { elements result ≡ self.old }
+        ensures place { place result ≡ 0 }
+        ensures predicate { predicate_of result ≡ predicate }
+    {
+        DrainFilter {
+            list: self,
+            at: 0,
+            predicate,
+        }
+    }
+}
+
+impl<'a, T: Linked<Links<T>>, F: FnMut(&T) -> bool + Drop> Iterator for DrainFilter<'a, T, F> {
+    ghost use Rattle.std.specs.Prelude.{◌-◌, length};
+    ghost use Rattle.std.specs.Fn.{CalledAt};
+    ghost use Rattle.std.specs.Iterator.{at_most};
+    ghost use denote.Param.Always.{always_mut};
+    ghost use Rattle.cordyceps_list.specs.DrainFilter.{elements, place, predicate_of, drain_steps};
+
+    type Item = T::Handle;
+
+    ghost can_next = { λ s. always_mut F.FnMut (predicate_of s) };
+
+    ghost next_gives = { drain_steps T.element (CalledAt F.FnMut) };
+
+    ghost remaining = { λ s. at_most (length (elements s) - place s) };
+
+    fn next(&mut self) -> Option<T::Handle> {
+        let mut cursor = CursorMut::at_place(&mut *self.list, self.at);
+        let removed = cursor.remove_first_by(&mut self.predicate);
+        self.at = cursor.at();
+        removed
+    }
+
+    fn size_hint(&self) -> (usize, Option<usize>) {
+        (0, Some(self.list.len()))
+    }
+}

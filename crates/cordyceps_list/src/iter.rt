@@ -1,0 +1,177 @@
+//! Iterators over a list.
+ghost use Rattle.std.specs.Prelude.{◌≡◌, ◌+◌, ◌-◌, ◌<◌, ◌≤◌, [], ◌∷◌, ◌++◌, length};
+ghost use Rattle.std.specs.Iterator.{at_most, YieldsFirstRef, YieldsLastRef, YieldsFirstBy, YieldsLastBy, item_count, IsFinite, UpTo};
+ghost use Rattle.std.specs.Iterator.SizeHint.{IsWithinCount};
+ghost use Rattle.cordyceps_base.specs.Element.{values};
+
+use crate::list::{Links, List};
+use cordyceps_base::boxes::Place;
+use cordyceps_base::double_chain::DoubleChain;
+use cordyceps_base::linked::Linked;
+use std::iter::{DoubleEndedIterator, ExactSizeIterator, FusedIterator};
+use std::marker::Model;
+
+/// The values of a list, from both ends. Each step takes one move along a link.
+#[derive(Drop)]
+pub struct Iter<'a, T> {
+    chain: &'a DoubleChain<T>,
+    first: Place,
+    last: Place,
+    front: usize,
+    back: usize,
+}
+
+impl<'a, T> Model for Iter<'a, T> {
+    ghost use Rattle.std.specs.Prelude.{List, ◌-◌, ◌≤◌, take, drop, length};
+    ghost use Rattle.cordyceps_base.specs.Element.{values};
+    ghost use Rattle.cordyceps_base.specs.Nodes.{elements};
+    ghost use Rattle.cordyceps_list.specs.Left.{IsLeft};
+
+    ghost Value = { List T };
+
+    ghost view = { λ i. values (take (i.back - i.front) (drop i.front (elements i.chain.now))) };
+
+    ghost invariant = { λ i. IsLeft i.chain.now i.first i.last i.front i.back };
+}
+
+impl<T: Linked<Links<T>>> List<T> {
+    /// The values, in order.
+    pub fn iter(&self) -> Iter<'_, T>
+        ensures { result ≡ values self.now }
+    {
+        let chain = &self.chain;
+        let back = chain.len();
+        let (first, last) = if back == 0 {
+            (Place::nowhere(), Place::nowhere())
+        } else {
+            (chain.head(), chain.tail())
+        };
+        Iter {
+            chain,
+            first,
+            last,
+            front: 0,
+            back,
+        }
+    }
+}
+
+impl<'a, T: Linked<Links<T>>> Iterator for Iter<'a, T> {
+    type Item = &'a T;
+
+    ghost next_gives = { YieldsFirstRef (λ s. s) };
+
+    ghost remaining = { item_count (λ s. s) };
+
+    fn next(&mut self) -> Option<&'a T> {
+        if self.front == self.back {
+            return None;
+        }
+        let chain = self.chain;
+        let item = chain.get(self.first, self.front);
+        self.first = chain.next(self.first, self.front);
+        self.front += 1;
+        Some(item)
+    }
+
+    fn size_hint(&self) -> (usize, Option<usize>) {
+        let len = self.back - self.front;
+        (len, Some(len))
+    }
+}
+
+impl<'a, T: Linked<Links<T>>> DoubleEndedIterator for Iter<'a, T> {
+    ghost next_back_gives = { YieldsLastRef (λ s. s) };
+
+    #[tactic(auto, using(crate::proofs::Left::last_left))]
+    fn next_back(&mut self) -> Option<&'a T> {
+        if self.front == self.back {
+            return None;
+        }
+        let chain = self.chain;
+        let at = self.back - 1;
+        let item = chain.get(self.last, at);
+        self.last = chain.prev(self.last, at);
+        self.back = at;
+        Some(item)
+    }
+}
+
+impl<'a, T: Linked<Links<T>>> ExactSizeIterator for Iter<'a, T> {
+    fn len(&self) -> usize {
+        self.back - self.front
+    }
+}
+
+impl<'a, T: Linked<Links<T>>> FusedIterator for Iter<'a, T> {}
+
+impl<'a, T: Linked<Links<T>>> IntoIterator for &'a List<T> {
+    type Item = &'a T;
+
+    type IntoIter = Iter<'a, T>;
+
+    ghost into_iter_gives = { λ l r. r ≡ values l.now };
+
+    fn into_iter(self) -> Iter<'a, T> {
+        self.iter()
+    }
+}
+
+/// The handles of a list, from both ends. A drop frees those that are left.
+#[derive(Drop)]
+pub struct IntoIter<T> {
+    list: List<T>,
+}
+
+impl<T> Model for IntoIter<T> {
+    ghost use Rattle.cordyceps_base.specs.Element.{Elements};
+
+    ghost Value = { Elements T };
+
+    ghost view = { λ i. i.list };
+}
+
+impl<T: Linked<Links<T>>> IntoIterator for List<T> {
+    type Item = T::Handle;
+
+    type IntoIter = IntoIter<T>;
+
+    ghost into_iter_gives = { λ l r. r ≡ l };
+
+    fn into_iter(self) -> IntoIter<T> {
+        IntoIter { list: self }
+    }
+}
+
+impl<T: Linked<Links<T>>> Iterator for IntoIter<T> {
+    type Item = T::Handle;
+
+    ghost next_gives = { YieldsFirstBy T.element (λ s. s) };
+
+    ghost remaining = { item_count (λ s. s) };
+
+    fn next(&mut self) -> Option<T::Handle> {
+        self.list.pop_front()
+    }
+
+    fn size_hint(&self) -> (usize, Option<usize>) {
+        let len = self.list.len();
+        (len, Some(len))
+    }
+}
+
+impl<T: Linked<Links<T>>> DoubleEndedIterator for IntoIter<T> {
+    ghost next_back_gives = { YieldsLastBy T.element (λ s. s) };
+
+    fn next_back(&mut self) -> Option<T::Handle> {
+        self.list.pop_back()
+    }
+}
+
+impl<T: Linked<Links<T>>> ExactSizeIterator for IntoIter<T> {
+    fn len(&self) -> usize {
+        self.list.len()
+    }
+}
+
+impl<T: Linked<Links<T>>> FusedIterator for IntoIter<T> {}

@@ -1,0 +1,94 @@
+//! Values of a list that are lent one at a time.
+ghost use Rattle.std.specs.Prelude.{◌≡◌, ◌+◌, ◌-◌, ◌<◌, ◌≤◌, length, slice_get, Some, None, nat_lt, [], if◌then◌else◌};
+ghost use Rattle.std.specs.Option.{option_copied_mut};
+ghost use Rattle.std.specs.Borrow.{sem};
+ghost use mir.Syntax.{named};
+ghost use Rattle.cordyceps_base.specs.Element.{values};
+
+use crate::finger::Fingers;
+use crate::list::{Links, List};
+use cordyceps_base::linked::Linked;
+
+/// The values of a list from both ends, lent one at a time. Each step takes a move or two along links.
+pub struct IterMut<'a, T> {
+    list: &'a mut List<T>,
+    front: usize,
+    back: usize,
+    ghost ordered: { front ≤ back },
+    ghost inside: { back ≤ length list.now },
+}
+
+impl<T> Drop for IterMut<'_, T> {
+    ghost use Rattle.cordyceps_list.specs.IterMut.{elements};
+
+    fn drop(self)
+        ensures { self.exit.0.now ≡ elements self.entry }
+    {
+        let IterMut {
+            list: _,
+            front: _,
+            back: _,
+        } = self;
+    }
+}
+
+impl<T: Linked<Links<T>>> List<T> {
+    ghost use Rattle.cordyceps_list.specs.IterMut.{elements, from, to, lender};
+
+    /// The values, in order, to be changed.
+    pub fn iter_mut(&mut self) -> IterMut<'_, T>
+        ensures same_reference { lender result ≡ self.entry.ghost_name }
+        ensures elements { elements result ≡ self.old }
+        ensures from { from result ≡ 0 }
+        ensures to { to result ≡ length self.old }
+    {
+        self.fingers = Fingers::behind(&self.chain);
+        let back = self.len();
+        IterMut {
+            list: self,
+            front: 0,
+            back,
+        }
+    }
+}
+
+impl<'a, T: Linked<Links<T>>> IterMut<'a, T> {
+    ghost use Rattle.cordyceps_list.specs.IterMut.{elements, from, to, LendsPlace};
+
+    /// How many values are left.
+    pub fn len(&self) -> usize
+        ensures { result ≡ to self.now - from self.now }
+    {
+        self.back - self.front
+    }
+
+    /// Lends the first value that is left. `None` where none is, from then on.
+    #[tactic(auto, using(cordyceps_base::proofs::Places::length_with_value))]
+    pub fn next(&mut self) -> Option<&mut T>
+        ensures* writes_back { sem 𝓛 (LendsPlace (record { mir = named 1; lft = [] }) T.row self.entry (from self.old) (from self.old + 1) (to self.old) result) }
+        ensures value { option_copied_mut result ≡ (if nat_lt (from self.old) (to self.old) then slice_get (values (elements self.old)) (from self.old) else None) }
+    {
+        let at = self.front;
+        if at == self.back {
+            return None;
+        }
+        self.front = at + 1;
+        let list = &mut *self.list;
+        Some(list.value_mut_at(at))
+    }
+
+    /// Lends the last value that is left. `None` where none is, from then on.
+    #[tactic(auto, using(cordyceps_base::proofs::Places::length_with_value))]
+    pub fn next_back(&mut self) -> Option<&mut T>
+        ensures* writes_back { sem 𝓛 (LendsPlace (record { mir = named 1; lft = [] }) T.row self.entry (to self.old - 1) (from self.old) (to self.old - 1) result) }
+        ensures value { option_copied_mut result ≡ (if nat_lt (from self.old) (to self.old) then slice_get (values (elements self.old)) (to self.old - 1) else None) }
+    {
+        if self.front == self.back {
+            return None;
+        }
+        let at = self.back - 1;
+        self.back = at;
+        let list = &mut *self.list;
+        Some(list.value_mut_at(at))
+    }
+}

@@ -1,0 +1,120 @@
+//! Elements that are put in and taken out at places.
+ghost use Rattle.std.specs.Prelude.{◌≡◌, ◌+◌, ◌<◌, ◌≤◌, [], ◌∷◌, ◌++◌, length, take, drop, slice_get, option_copied, option_map, MatchOption, None, Some};
+ghost use Rattle.cordyceps_base.specs.Element.{found, values, without};
+ghost use Rattle.cordyceps_base.specs.Nodes.{elements};
+ghost use Rattle.cordyceps_list.specs.Fingers.{IsOn};
+
+use crate::finger::Finger;
+use crate::list::{Links, List};
+use cordyceps_base::double_chain::DoubleChain;
+use cordyceps_base::linked::Linked;
+
+/// The first node with a number, sought from the front.
+fn find<T>(chain: &DoubleChain<T>, id: u64) -> Option<Finger>
+    ensures on { MatchOption result (found id (elements chain.now) ≡ None) (λ f. IsOn chain.now f × (found id (elements chain.now) ≡ slice_get (elements chain.now) f.index)) }
+    ensures others { MatchOption result (without id (elements chain.now) ≡ elements chain.now) (λ f. without id (elements chain.now) ≡ take f.index (elements chain.now) ++ drop (f.index + 1) (elements chain.now)) }
+{
+    if chain.len() == 0 {
+        return None;
+    }
+    let mut at = chain.head();
+    for index in 0..chain.len() {
+        if chain.id(at, index) == id {
+            return Some(Finger { at, index });
+        }
+        at = chain.next(at, index);
+    }
+    None
+}
+
+impl<T: Linked<Links<T>>> List<T> {
+    /// Takes out the first element with this number, and answers it. Where there is none it answers `None`, and changes
+    /// nothing. It walks from the front to that element.
+    pub fn remove(&mut self, id: u64) -> Option<T::Handle>
+        ensures answer { option_map T.element result ≡ found id self.old }
+        ensures kept { self.new ≡ without id self.old }
+    {
+        let found = find(&self.chain, id)?;
+        self.fingers.front = found;
+        Some(self.remove_at(found.index))
+    }
+
+    /// Takes out the element at a place.
+    pub(crate) fn remove_at(&mut self, at: usize) -> T::Handle
+        requires { at < length self.old }
+        ensures value { slice_get self.old at ≡ Some (T.element result) }
+        ensures kept { self.new ≡ take at self.old ++ drop (at + 1) self.old }
+    {
+        let place = self.fingers.seek_behind(&self.chain, at);
+        self.fingers = self.fingers.after_unlink(at, self.chain.len() - 1);
+        T::from_ptr(self.chain.unlink(place, at))
+    }
+
+    /// Takes out the element at a place, if there is one.
+    pub(crate) fn take_at(&mut self, at: usize) -> Option<T::Handle>
+        ensures answer { option_map T.element result ≡ slice_get self.old at }
+        ensures kept { self.new ≡ take at self.old ++ drop (at + 1) self.old }
+    {
+        if at < self.chain.len() {
+            Some(self.remove_at(at))
+        } else {
+            None
+        }
+    }
+
+    /// Puts all elements of `other` in at a place.
+    pub(crate) fn splice_at(&mut self, at: usize, other: List<T>)
+        requires within { at ≤ length self.old }
+        requires fits { length self.old + length other ≤ usize.MAX }
+        ensures { self.new ≡ take at self.old ++ other ++ drop at self.old }
+    {
+        let List { chain, fingers: _ } = other;
+        let place = self.fingers.seek_within(&self.chain, at);
+        self.fingers = self.fingers.after_splice(at, chain.len());
+        self.chain.splice(place, at, chain);
+    }
+
+    /// Puts an element in at a place.
+    pub(crate) fn insert_at(&mut self, at: usize, handle: T::Handle)
+        requires within { at ≤ length self.old }
+        requires fits { length self.old < usize.MAX }
+        ensures { self.new ≡ take at self.old ++ T.element handle ∷ drop at self.old }
+    {
+        let place = self.fingers.seek_within(&self.chain, at);
+        self.fingers = self.fingers.after_splice(at, 1);
+        self.chain.link(place, at, T::into_ptr(handle));
+    }
+
+    /// Moves a finger to a place, so that calls near it take few moves.
+    pub(crate) fn stand_at(&mut self, at: usize)
+        ensures { self.new ≡ self.old }
+    {
+        self.fingers.seek_within(&self.chain, at);
+    }
+
+    /// The value at a place, if there is one.
+    pub(crate) fn get_at(&self, at: usize) -> Option<&T>
+        ensures { option_copied result ≡ slice_get (values self.now) at }
+    {
+        if at < self.chain.len() {
+            let mut fingers = self.fingers;
+            let place = fingers.seek(&self.chain, at);
+            Some(self.chain.get(place, at))
+        } else {
+            None
+        }
+    }
+
+    /// Keeps the elements before a place, and answers the others.
+    pub(crate) fn split_at(&mut self, at: usize) -> List<T>
+        requires { at ≤ length self.old }
+        ensures kept { self.new ≡ take at self.old }
+        ensures split { result ≡ drop at self.old }
+    {
+        let place = self.fingers.seek_within(&self.chain, at);
+        self.fingers = self.fingers.after_change(at, at);
+        let (front, rest) = self.chain.take().split(place, at);
+        self.chain.put(front);
+        List::of_chain(rest)
+    }
+}

@@ -1,0 +1,107 @@
+//! Lists that are joined and split.
+ghost use Rattle.std.specs.Prelude.{◌≡◌, ◌+◌, ◌-◌, ◌^◌, ◌<◌, ◌≤◌, ◌↔◌, [], ◌++◌, length, take, drop, min, IsSome, IfSome, IfNone};
+ghost use Rattle.cordyceps_base.specs.Nodes.{elements, IsAt};
+
+use crate::finger::{Finger, Fingers};
+use crate::list::{Links, List};
+use cordyceps_base::boxes::Place;
+use cordyceps_base::double_chain::DoubleChain;
+use cordyceps_base::linked::Linked;
+use cordyceps_base::steps::Steps;
+use std::mem;
+
+/// The place of the node before place `at`, found from the nearer end, from the head where both are equally far.
+fn node_before<T>(chain: &DoubleChain<T>, at: usize, steps: &mut Steps) -> Place
+    requires inside { (0 < at) × (at < length chain.now) }
+    requires room { steps.old + min (at - 1) (length chain.now - at) < 2 ^ 64 }
+    ensures place { IsAt chain.now (at - 1) result }
+    ensures counted { steps.new ≡ steps.old + min (at - 1) (length chain.now - at) }
+{
+    let before = at - 1;
+    let len = chain.len();
+    let end = if before <= len - at {
+        Finger {
+            at: chain.head(),
+            index: 0,
+        }
+    } else {
+        Finger {
+            at: chain.tail(),
+            index: len - 1,
+        }
+    };
+    end.walked_in(chain, before, steps).at
+}
+
+impl<T: Linked<Links<T>>> List<T> {
+    /// A list of the nodes of a chain.
+    pub(crate) fn of_chain(chain: DoubleChain<T>) -> List<T>
+        ensures { result ≡ elements chain }
+    {
+        let fingers = Fingers::behind(&chain);
+        List { chain, fingers }
+    }
+
+    /// Moves all elements of `other` behind those of this list, at once. The sum of the lengths must fit.
+    pub fn append(&mut self, other: &mut List<T>)
+        requires { length self.old + length other.old ≤ usize.MAX }
+        ensures joined { self.new ≡ self.old ++ other.old }
+        ensures emptied { other.new ≡ [] }
+    {
+        let List {
+            chain: more,
+            fingers: _,
+        } = mem::replace(other, List::new());
+        self.fingers = self.fingers.after_splice(self.chain.len(), more.len());
+        let nodes = self.chain.take();
+        self.chain.put(nodes.join(more));
+    }
+
+    /// Keeps the elements before the place `at`, and answers the others. See `try_split_off_in` for its cost.
+    pub fn split_off(&mut self, at: usize) -> List<T>
+        requires { at ≤ length self.old }
+        ensures kept { self.new ≡ take at self.old }
+        ensures split { result ≡ drop at self.old }
+    {
+        match self.try_split_off(at) {
+            Some(rest) => rest,
+            None => unreachable!(),
+        }
+    }
+
+    /// Keeps the elements before the place `at`, and answers the others. Beyond the length it answers `None`, and
+    /// changes nothing. See `try_split_off_in` for its cost.
+    pub fn try_split_off(&mut self, at: usize) -> Option<List<T>>
+        ensures variant { IsSome result ↔ (at ≤ length self.old) }
+        ensures some { IfSome result (λ rest. (self.new ≡ take at self.old) × (rest ≡ drop at self.old)) }
+        ensures none { IfNone result (self.new ≡ self.old) }
+    {
+        self.try_split_off_in(at, &mut Steps::new())
+    }
+
+    /// As `try_split_off`, and adds the moves along links to a count: strictly inside the list it goes to the node
+    /// before the place from the nearer end, and else it makes none. The count must have room for them.
+    pub fn try_split_off_in(&mut self, at: usize, steps: &mut Steps) -> Option<List<T>>
+        requires { steps.old + min (at - 1) (length self.old - at) < 2 ^ 64 }
+        ensures variant { IsSome result ↔ (at ≤ length self.old) }
+        ensures some { IfSome result (λ rest. (self.new ≡ take at self.old) × (rest ≡ drop at self.old)) }
+        ensures none { IfNone result (self.new ≡ self.old) }
+        ensures counted { steps.new ≡ steps.old + min (at - 1) (length self.old - at) }
+    {
+        let len = self.chain.len();
+        if at > len {
+            return None;
+        }
+        if at == 0 {
+            return Some(mem::replace(self, List::new()));
+        }
+        if at == len {
+            return Some(List::new());
+        }
+        let before = node_before(&self.chain, at, steps);
+        self.fingers = self.fingers.after_change(at, at);
+        let (front, rest) = self.chain.take().cut_behind(before, at);
+        self.chain.put(front);
+        Some(List::of_chain(rest))
+    }
+}

@@ -1,0 +1,62 @@
+//! Walks of a predicate along a list.
+ghost use Rattle.std.specs.Prelude.{◌≡◌, ◌+◌, ◌-◌, ◌<◌, ◌≤◌, length, take, drop};
+ghost use Rattle.std.specs.Fn.{CalledAt};
+ghost use Rattle.cordyceps_base.specs.Element.{values};
+ghost use Rattle.cordyceps_base.specs.Nodes.{elements};
+ghost use Rattle.cordyceps_list.specs.Walk.{Walks};
+ghost use Rattle.cordyceps_list.specs.Fingers.{Fits};
+
+use crate::finger::Finger;
+use crate::list::{Links, List};
+use cordyceps_base::double_chain::DoubleChain;
+use cordyceps_base::linked::Linked;
+
+/// Asks the predicate of the values from a finger's place on, up to the first `true`. Answers that place, or the one
+/// behind the last node.
+fn first_passing<T, F: FnMut(&T) -> bool>(
+    chain: &DoubleChain<T>,
+    from: Finger,
+    predicate: &mut F,
+) -> Finger
+    requires fits { Fits chain.now from }
+    requires callable { F.IsAlwaysCallable predicate.old }
+    ensures fits { Fits chain.now result }
+    ensures walks { Walks (CalledAt F.FnMut) predicate.old (drop from.index (values (elements chain.now))) (result.index - from.index) predicate.new }
+    ensures from { from.index ≤ result.index }
+    ensures callable_again { F.IsAlwaysCallable predicate.new }
+{
+    let mut finger = from;
+    while finger.index < chain.len() {
+        if predicate(chain.get(finger.at, finger.index)) {
+            return finger;
+        }
+        finger.at = chain.next(finger.at, finger.index);
+        finger.index += 1;
+    }
+    finger
+}
+
+impl<T: Linked<Links<T>>> List<T> {
+    /// The same, from a place of the list on.
+    pub(crate) fn first_passing<F: FnMut(&T) -> bool>(
+        &mut self,
+        at: usize,
+        predicate: &mut F,
+    ) -> usize
+        requires inside { at ≤ length self.old }
+        requires callable { F.IsAlwaysCallable predicate.old }
+        ensures elements { self.new ≡ self.old }
+        ensures walks { Walks (CalledAt F.FnMut) predicate.old (drop at (values self.old)) (result - at) predicate.new }
+        ensures from { at ≤ result }
+        ensures to { result ≤ length self.old }
+        ensures callable_again { F.IsAlwaysCallable predicate.new }
+    {
+        let from = Finger {
+            at: self.fingers.seek_within(&self.chain, at),
+            index: at,
+        };
+        let found = first_passing(&self.chain, from, predicate);
+        self.fingers.front = found;
+        found.index
+    }
+}

@@ -1,0 +1,169 @@
+use crate::items::{holds, list_of, plain};
+use cordyceps::{Item, List, Node, Steps, list};
+use std::test::Fail;
+
+fn value(item: Option<&Item>) -> Option<u64> {
+    item.map(|item| item.value)
+}
+
+#[test]
+fn iterates_from_both_ends(rt: HostRuntime) -> Result<(), Fail> {
+    let list = list_of(&rt, rt.alloc(), &[1, 2, 3, 4])?;
+    let mut left = list.iter();
+    assert_eq!(rt; left.len(), 4);
+    assert_eq!(rt; value(left.next()), Some(1));
+    assert_eq!(rt; value(left.next()), Some(2));
+    assert_eq!(rt; value(left.next_back()), Some(4));
+    assert_eq!(rt; value(left.next_back()), Some(3));
+    assert_eq!(rt; value(left.next()), None);
+    assert_eq!(rt; value(left.next_back()), None);
+    let mut sum = 0u64;
+    for item in &list {
+        sum = sum.wrapping_add(item.value);
+    }
+    assert_eq!(rt; sum, 10);
+    Ok(())
+}
+
+#[test]
+fn changes_values_from_both_ends(rt: HostRuntime) -> Result<(), Fail> {
+    let mut list = list_of(&rt, rt.alloc(), &[1, 2, 3])?;
+    let mut left = list.iter_mut();
+    assert_eq!(rt; left.len(), 3);
+    for _ in 0..3u8 {
+        if let Some(item) = left.next() {
+            item.value = item.value.wrapping_add(1);
+        }
+    }
+    assert!(rt; left.next().is_none());
+    drop(left);
+    holds(&rt, &list, &[2, 3, 4]);
+    let mut left = list.iter_mut();
+    for want in [4u64, 3, 2] {
+        if let Some(item) = left.next_back() {
+            assert_eq!(rt; item.value, want);
+            item.value = item.value.wrapping_add(1);
+        }
+    }
+    assert!(rt; left.next_back().is_none());
+    drop(left);
+    holds(&rt, &list, &[3, 4, 5]);
+    Ok(())
+}
+
+#[test]
+fn hands_out_its_nodes(rt: HostRuntime) -> Result<(), Fail> {
+    let list = list_of(&rt, rt.alloc(), &[1, 2, 3, 4])?;
+    let mut nodes = list.into_iter();
+    assert_eq!(rt; nodes.next().map(|node| node.id()), Some(1));
+    assert_eq!(rt; nodes.next_back().map(|node| node.id()), Some(4));
+    assert_eq!(rt; nodes.len(), 2);
+    Ok(())
+}
+
+#[test]
+fn splits_everywhere(rt: HostRuntime) -> Result<(), Fail> {
+    let all = [1u64, 2, 3, 4, 5];
+    let moves = [0u64, 0, 1, 2, 1, 0];
+    for at in 0..6usize {
+        let mut list = list_of(&rt, rt.alloc(), &all)?;
+        let mut steps = Steps::new();
+        assert_eq!(rt; list.len(), 5);
+        if let Some(mut rest) = list.try_split_off_in(at, &mut steps) {
+            assert_eq!(rt; Some(&steps.count()), moves.get(at));
+            holds(&rt, &list, &all[..at]);
+            holds(&rt, &rest, &all[at..]);
+            assert!(rt; list.len() <= 5 && rest.len() <= 5);
+            list.append(&mut rest);
+            assert!(rt; rest.is_empty());
+            holds(&rt, &list, &all);
+        } else {
+            assert!(rt; false, "at {at}");
+        }
+    }
+    let mut list = list_of(&rt, rt.alloc(), &all)?;
+    let mut steps = Steps::new();
+    assert_eq!(rt; list.len(), 5);
+    assert!(rt; list.try_split_off_in(6, &mut steps).is_none());
+    assert_eq!(rt; steps.count(), 0);
+    holds(&rt, &list, &all);
+    let rest = list.split_off(4);
+    holds(&rt, &rest, &[5]);
+    holds(&rt, &list, &[1, 2, 3, 4]);
+    Ok(())
+}
+
+#[test]
+fn removes_by_number(rt: HostRuntime) -> Result<(), Fail> {
+    let mut list: List<Item> = List::new();
+    for (id, value) in [(5u64, 50u64), (7, 70), (7, 71)] {
+        assert!(rt; list.len() < usize::MAX);
+        let node: Result<Node<Item, list::Links<Item>>, _> = Node::new(
+            rt.alloc(),
+            id,
+            Item { value, id },
+        );
+        list.push_back(node.map_err(|_| "no memory")?);
+    }
+    assert_eq!(rt; list.remove(7).map(|node| node.get().value), Some(70));
+    assert_eq!(rt; list.remove(7).map(|node| node.get().value), Some(71));
+    assert!(rt; list.remove(7).is_none());
+    holds(&rt, &list, &[50]);
+    Ok(())
+}
+
+#[test]
+fn appends_to_and_from_nothing(rt: HostRuntime) -> Result<(), Fail> {
+    for (first, second, both) in [
+        ([].as_slice(), [].as_slice(), [].as_slice()),
+        (&[1, 2], &[], &[1, 2]),
+        (&[], &[3], &[3]),
+        (&[1, 2], &[3, 4], &[1, 2, 3, 4]),
+    ] {
+        let mut list = list_of(&rt, rt.alloc(), first)?;
+        let mut other = list_of(&rt, rt.alloc(), second)?;
+        assert!(rt; list.len() <= 2 && other.len() <= 2);
+        list.append(&mut other);
+        holds(&rt, &list, both);
+        assert!(rt; other.is_empty());
+        assert!(rt; other.len() < usize::MAX);
+        other.push_front(plain(rt.alloc(), 9)?);
+        holds(&rt, &other, &[9]);
+    }
+    Ok(())
+}
+
+#[test]
+fn a_filter_dropped_early_keeps_the_rest(rt: HostRuntime) -> Result<(), Fail> {
+    let mut list = list_of(&rt, rt.alloc(), &[1, 2, 3, 4])?;
+    let mut even = list.drain_filter(|item: &Item| item.value % 2 == 0);
+    assert_eq!(rt; even.size_hint(), (0, Some(4)));
+    assert_eq!(rt; even.next().map(|node| node.id()), Some(2));
+    drop(even);
+    holds(&rt, &list, &[1, 3, 4]);
+    let mut all = list.drain_filter(|_item: &Item| true);
+    for want in [Some(1u64), Some(3), Some(4), None, None] {
+        assert_eq!(rt; all.next().map(|node| node.id()), want);
+    }
+    drop(all);
+    assert!(rt; list.is_empty());
+    Ok(())
+}
+
+#[test]
+fn restores_what_was_split_off(rt: HostRuntime) -> Result<(), Fail> {
+    let all = [1u64, 2, 3, 4, 5];
+    for at in 0..6usize {
+        let mut list = list_of(&rt, rt.alloc(), &all)?;
+        if let Some(rest) = list.try_split_off(at) {
+            assert!(rt; list.len() <= 5);
+            assert!(rt; rest.len() <= 5);
+            list.extend(rest.into_iter());
+        }
+        holds(&rt, &list, &all);
+        assert_eq!(rt; list.len(), 5);
+        let copy = List::from_iter(list.into_iter());
+        holds(&rt, &copy, &all);
+    }
+    Ok(())
+}
