@@ -1,8 +1,9 @@
-//! Lists of owned nodes, and commands that are replayed on tables of them.
+//! Lists, stacks and sorted lists of owned nodes, and commands that are replayed on tables of lists.
 //!
 //! A [`Node`] owns one element: a number and a value. A type says by [`Linked`] what handle
-//! stands for such a node, and for structures of which [`Kind`]. A [`List`] takes handles and
-//! gives them back, and owns the nodes in between. Linking a node takes no memory.
+//! stands for such a node, and for structures of which [`Kind`]. A [`List`], a [`Stack`] and a
+//! [`SortedList`] take handles and give them back, and own the nodes in between. Linking a node
+//! takes no memory.
 //!
 //! The module [`replay`] runs commands on sixteen lists of [`Item`]s. Each reply, and what the
 //! lists hold afterwards, is proved to be what the commands mean.
@@ -11,10 +12,13 @@
 pub mod list;
 pub mod mpsc_queue;
 pub mod replay;
+pub mod sorted_list;
 pub mod stack;
 
 pub use cordyceps_base::linked::Linked;
 pub use cordyceps_base::node::{Kind, Node, Refused};
 pub use cordyceps_base::steps::Steps;
 pub use cordyceps_list::list::List;
+pub use cordyceps_stack::sorted_list::{SortedList, SortedListIter};
+pub use cordyceps_stack::stack::Stack;
 pub use replay::Item;

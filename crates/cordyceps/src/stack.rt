@@ -1,3 +1,4 @@
-//! The kind of the nodes that stand in stacks.
+//! Stacks, and the kind of the nodes that stand in them.
 
 pub use cordyceps_base::stack::Links;
+pub use cordyceps_stack::stack::Stack;

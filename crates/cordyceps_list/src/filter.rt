@@ -56,9 +56,10 @@ impl<T: Linked<Links<T>>> List<T> {
 }
 
 impl<'a, T: Linked<Links<T>>, F: FnMut(&T) -> bool + Drop> Iterator for DrainFilter<'a, T, F> {
-    ghost use Rattle.std.specs.Prelude.{◌-◌, length};
+    ghost use Rattle.std.specs.Prelude.{◌≡◌, ◌-◌, length, IfSome, Some};
+    ghost use Rattle.std.specs.Iterator.SizeHint.{IsWithinCount};
     ghost use Rattle.std.specs.Fn.{CalledAt};
-    ghost use Rattle.std.specs.Iterator.{at_most};
+    ghost use Rattle.std.specs.Iterator.{at_most, UpTo};
     ghost use denote.Param.Always.{always_mut};
     ghost use Rattle.cordyceps_list.specs.DrainFilter.{elements, place, predicate_of, drain_steps};
 
@@ -77,7 +78,11 @@ impl<'a, T: Linked<Links<T>>, F: FnMut(&T) -> bool + Drop> Iterator for DrainFil
         removed
     }
 
-    fn size_hint(&self) -> (usize, Option<usize>) {
+    fn size_hint(&self) -> (usize, Option<usize>)
+        ensures lower { IsWithinCount result.0 (at_most (length (elements self.now) - place self.now)) }
+        ensures upper { IfSome result.1 (UpTo (at_most (length (elements self.now) - place self.now))) }
+        ensures exact { result ≡ (0, Some (length (elements self.now))) }
+    {
         (0, Some(self.list.len()))
     }
 }

@@ -2,11 +2,15 @@
 #![tactic(auto)]
 
 #[cfg(test)]
+mod asked;
+#[cfg(test)]
 mod chains;
 #[cfg(test)]
 mod counted;
 #[cfg(test)]
 mod cursors;
+#[cfg(test)]
+mod ends;
 #[cfg(test)]
 mod items;
 #[cfg(test)]
@@ -14,6 +18,12 @@ mod lists;
 #[cfg(test)]
 mod nodes;
 #[cfg(test)]
+mod number;
+#[cfg(test)]
 mod replays;
+#[cfg(test)]
+mod sorted_lists;
+#[cfg(test)]
+mod stacks;
 #[cfg(test)]
 mod whole_lists;

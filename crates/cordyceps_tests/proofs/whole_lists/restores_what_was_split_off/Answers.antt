@@ -1,4 +1,4 @@
-use Rattle.std.proofs.Common.{◌≡◌, ◌≤◌, length, ap, arith}
+use Rattle.std.proofs.Common.{length, ap, arith}
 use Rattle.cordyceps_list.proofs.Handed.{handed_within}
 use Rattle.cordyceps_tests.proofs.whole_lists.restores_what_was_split_off.Goals as goal
 

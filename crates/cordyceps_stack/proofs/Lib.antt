@@ -1,0 +1,6 @@
+pub mod Arrangement
+pub mod Elements
+pub mod Grown
+pub mod Places
+pub mod Preorder
+pub mod Taken

@@ -1,0 +1,48 @@
+//! The iterator over a sorted list.
+ghost use Rattle.std.specs.Prelude.{◌≡◌};
+ghost use Rattle.std.specs.Iterator.{YieldsFirstRef, item_count};
+ghost use Rattle.cordyceps_base.specs.Element.{values};
+ghost use Rattle.cordyceps_base.specs.Nodes.{elements};
+
+use cordyceps_base::single_chain::{SingleChain, Values};
+use cordyceps_base::stack::InStack;
+use std::marker::Model;
+
+/// The values of a sorted list, from the first to the last. A contract sees those that are left.
+///
+/// Once it has given `None` it always does.
+#[derive(Drop)]
+pub struct SortedListIter<'a, T> {
+    values: Values<'a, T, InStack>,
+}
+
+impl<'a, T> Model for SortedListIter<'a, T> {
+    ghost use Rattle.std.specs.Prelude.{List};
+
+    ghost Value = { List T };
+
+    ghost view = { λ i. i.values };
+}
+
+impl<'a, T> SortedListIter<'a, T> {
+    /// The values of all nodes of a chain.
+    pub(crate) fn new(chain: &'a SingleChain<T, InStack>) -> SortedListIter<'a, T>
+        ensures { result ≡ values (elements chain.now) }
+    {
+        SortedListIter {
+            values: chain.values(),
+        }
+    }
+}
+
+impl<'a, T> Iterator for SortedListIter<'a, T> {
+    type Item = &'a T;
+
+    ghost next_gives = { YieldsFirstRef (λ i. i) };
+
+    ghost remaining = { item_count (λ i. i) };
+
+    fn next(&mut self) -> Option<&'a T> {
+        self.values.next()
+    }
+}
