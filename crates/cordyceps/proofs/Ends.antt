@@ -1,7 +1,7 @@
 -- The last of some elements, and lists that are all empty.
 use Rattle.std.proofs.Common.{◌≡◌, ℕ, zero, suc, ◌<◌, ◌-◌, [], ◌∷◌, ◌++◌, Some, take, length, slice_get, slice_index_or, refl, ap, arith, length-append}
 use Rattle.cordyceps_base.specs.Element.{Element, Elements, values}
-use Rattle.cordyceps.specs.Tables.{Table, empty_lists}
+use Rattle.cordyceps.specs.Tables.{Table, empty_table}
 
 value_behind : {X : Type 0} (rest : Elements X) (e : Element X) → slice_get (values (rest ++ e ∷ [])) (length rest) ≡ Some e.value
 value_behind [] e = refl
@@ -23,11 +23,11 @@ pub all_but_last : {X : Type 0} (s rest : Elements X) (e : Element X) → s ≡ 
 all_but_last s rest e is = rw (count s rest e is, is) (take_before rest e)
 
 -- a list of so many lists that are all empty
-pub all_empty : (table : Table) (n : ℕ) → length table ≡ n → ((i : ℕ) → i < n → slice_index_or table i [] ≡ []) → table ≡ empty_lists n
+pub all_empty : (table : Table) (n : ℕ) → length table ≡ n → ((i : ℕ) → i < n → slice_index_or table i [] ≡ []) → table ≡ empty_table n
 all_empty [] zero long each = refl
 all_empty [] (suc n) long each = absurd cc
 all_empty (row ∷ table) zero long each = absurd cc
 all_empty (row ∷ table) (suc n) long each =
     let first : row ≡ [] = each 0 (omega arith) in
-    let others : table ≡ empty_lists n = all_empty table n (omega arith) (λ i lt. each (suc i) (omega arith)) in
+    let others : table ≡ empty_table n = all_empty table n (omega arith) (λ i lt. each (suc i) (omega arith)) in
     cc

@@ -1,2 +1,3 @@
-pub mod Plays
 pub mod Ends
+pub mod Plays
+pub mod Replies

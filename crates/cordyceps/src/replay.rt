@@ -4,8 +4,14 @@
 
 mod item;
 mod lists;
+mod played;
 mod reply;
+mod sorteds;
+mod stacks;
 
 pub use item::Item;
-pub use lists::{ListCommand, Lists, Played, replay_lists};
+pub use lists::{ListCommand, Lists, replay_lists};
+pub use played::Played;
 pub use reply::Reply;
+pub use sorteds::SortedCommand;
+pub use stacks::StackCommand;

@@ -4,6 +4,7 @@ pub mod Forward
 pub mod Memory
 pub mod Nodes
 pub mod Places
+pub mod Runs
 pub mod Sharing
 pub mod SingleChain
 pub mod Values

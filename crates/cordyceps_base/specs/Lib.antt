@@ -6,4 +6,5 @@ pub mod Element
 pub mod Forward
 pub mod NodeLends
 pub mod Nodes
+pub mod Runs
 pub mod SingleChain

@@ -1,10 +1,14 @@
 //! Commands on a table of lists.
 ghost use Rattle.std.specs.Prelude.{◌≡◌, ◌++◌, ◌∷◌, [], ◌-◌, length, take, drop, All, IfOk, OnErr, slice_get};
 ghost use Rattle.cordyceps_base.specs.Element.{values};
-ghost use Rattle.cordyceps.specs.Tables.{empty_lists, lines_of, found_or_nothing, element_of, pushed, written, step, step_on, Plays, Fits, list_of};
+ghost use Rattle.cordyceps.specs.Replies.{lines_of, found_or_nothing};
+ghost use Rattle.cordyceps.specs.Tables.{empty_table, element_of};
+ghost use Rattle.cordyceps.specs.Lists.{pushed, written, step, step_on, Fits, list_of};
+ghost use Rattle.cordyceps.specs.Plays.{Plays};
 
 use crate::replay::item::Item;
-use crate::replay::reply::{Reply, reply_of};
+use crate::replay::played::Played;
+use crate::replay::reply::{Reply, done, len_of, not_there, nothing, reply_of};
 use cordyceps_base::list::Links;
 use cordyceps_base::node::Node;
 use cordyceps_list::list::List;
@@ -68,9 +72,9 @@ fn push_front(alloc: Global, list: &mut List<Item>, item: Item) -> Result<Reply,
     let node = node_of(alloc, item)?;
     if list.len() < usize::MAX {
         list.push_front(node);
-        Ok(Reply::Done)
+        Ok(done())
     } else {
-        Ok(Reply::NotThere)
+        Ok(not_there())
     }
 }
 
@@ -82,9 +86,9 @@ fn push_back(alloc: Global, list: &mut List<Item>, item: Item) -> Result<Reply, 
     let node = node_of(alloc, item)?;
     if list.len() < usize::MAX {
         list.push_back(node);
-        Ok(Reply::Done)
+        Ok(done())
     } else {
-        Ok(Reply::NotThere)
+        Ok(not_there())
     }
 }
 
@@ -93,10 +97,7 @@ fn pop_front(list: &mut List<Item>) -> Reply
     ensures kept { list.new ≡ drop 1 list.old }
     ensures reply { lines_of result ≡ found_or_nothing (slice_get (values list.old) 0) ∷ [] }
 {
-    match list.pop_front() {
-        Some(node) => Reply::Found(node.into_value()),
-        None => Reply::Nothing,
-    }
+    reply_of(list.pop_front().map(Node::into_value))
 }
 
 /// Takes out the last item. Its node is gone afterwards.
@@ -105,10 +106,7 @@ fn pop_back(list: &mut List<Item>) -> Reply
     ensures kept { list.new ≡ take (length list.old - 1) list.old }
     ensures reply { lines_of result ≡ found_or_nothing (slice_get (values list.old) (length list.old - 1)) ∷ [] }
 {
-    match list.pop_back() {
-        Some(node) => Reply::Found(node.into_value()),
-        None => Reply::Nothing,
-    }
+    reply_of(list.pop_back().map(Node::into_value))
 }
 
 /// Gives the first item another value.
@@ -116,10 +114,10 @@ fn set_front(list: &mut List<Item>, value: u64) -> Reply
     ensures { (list.new, lines_of result) ≡ written list.old 0 (slice_get (values list.old) 0) value }
 {
     let Some(item) = list.front_mut() else {
-        return Reply::Nothing;
+        return nothing();
     };
     item.value = value;
-    Reply::Done
+    done()
 }
 
 /// Gives the last item another value.
@@ -127,10 +125,10 @@ fn set_back(list: &mut List<Item>, value: u64) -> Reply
     ensures { (list.new, lines_of result) ≡ written list.old (length list.old - 1) (slice_get (values list.old) (length list.old - 1)) value }
 {
     let Some(item) = list.back_mut() else {
-        return Reply::Nothing;
+        return nothing();
     };
     item.value = value;
-    Reply::Done
+    done()
 }
 
 /// Runs a command on its list, unless memory for it is refused.
@@ -147,7 +145,7 @@ fn run_on(alloc: Global, list: &mut List<Item>, command: &ListCommand) -> Result
         ListCommand::Back(_) => Ok(reply_of(list.back().copied())),
         ListCommand::SetFront(_, value) => Ok(set_front(list, *value)),
         ListCommand::SetBack(_, value) => Ok(set_back(list, *value)),
-        ListCommand::Len(_) => Ok(Reply::Len(list.len() as u64)),
+        ListCommand::Len(_) => Ok(len_of(list.len())),
     }
 }
 
@@ -170,7 +168,7 @@ impl Model for Lists {
 impl Lists {
     /// Sixteen empty lists. It takes no memory.
     pub fn new() -> Self
-        ensures { result ≡ empty_lists 16 }
+        ensures { result ≡ empty_table 16 }
     {
         Lists {
             lists: std::array::from_fn(|_| List::new()),
@@ -189,21 +187,12 @@ impl Lists {
 }
 
 impl Default for Lists {
-    ghost is_default = { λ s. s ≡ empty_lists 16 };
+    ghost is_default = { λ s. s ≡ empty_table 16 };
 
     /// Sixteen empty lists, as `new` gives.
     fn default() -> Self {
         Lists::new()
     }
-}
-
-/// What came of commands: the replies to those that were run, and those that were not.
-#[derive(Drop)]
-pub struct Played {
-    /// One reply for each command that was run, in their order.
-    pub replies: Vec<Reply>,
-    /// The commands that were not run, in their order. It is empty if memory sufficed.
-    pub rest: VecDeque<ListCommand>,
 }
 
 /// Runs the commands in order. Each of them must name one of the lists 0 to 15.
@@ -215,9 +204,9 @@ pub struct Played {
 ///
 /// A command takes constant time. The replies take memory in the count of the commands, and
 /// making room for them takes constant time a command over the whole call.
-pub fn replay_lists(alloc: Global, lists: &mut Lists, commands: VecDeque<ListCommand>) -> Played
+pub fn replay_lists(alloc: Global, lists: &mut Lists, commands: VecDeque<ListCommand>) -> Played<ListCommand>
     requires { All Fits commands.items }
-    ensures { Plays lists.old commands.items result.replies.items result.rest.items lists.new }
+    ensures { Plays step lists.old commands.items result.replies.items result.rest.items lists.new }
 {
     let mut replies = Vec::new(alloc);
     let mut rest = commands;

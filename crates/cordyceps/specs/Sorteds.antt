@@ -1,0 +1,53 @@
+-- What commands do to a table of sorted lists.
+use Rattle.std.specs.Prelude.{ℕ, ◌<◌, List, [], ◌∷◌, length, drop, map, Some, slice_get, reverse, if◌then◌else◌, nat_eq, nat_lt}
+use Rattle.std.specs.declared.cmp.Ordering.{Ordering}
+use Rattle.std.specs.Ordering.{is_gt}
+use Rattle.std.specs.List.Sorted.{IsSortedBy}
+use Rattle.cordyceps_base.specs.Element.{Element, Elements, values}
+use Rattle.cordyceps_stack.specs.Arrangement.{less}
+use Rattle.cordyceps.specs.declared.replay.item.Item.{Item}
+use Rattle.cordyceps.specs.declared.replay.sorteds.SortedCommand.{SortedCommand}
+use Rattle.cordyceps.specs.declared.replay.sorteds.SortedCommand.TheVariants as commands
+use Rattle.cordyceps.specs.Replies.{Line, done, show, not_there, found_or_nothing}
+use Rattle.cordyceps.specs.Tables.{Table, element_of, held_at, on}
+
+-- an element more, before the first that is greater
+abbrev pub put : (Item → Item → Ordering) → Elements Item → Element Item → Elements Item
+put cmp [] e = e ∷ []
+put cmp (x ∷ s) e = if is_gt (cmp x.value e.value) then e ∷ x ∷ s else x ∷ put cmp s e
+
+-- elements more, one after the other
+abbrev pub put_all : (Item → Item → Ordering) → Elements Item → Elements Item → Elements Item
+put_all cmp s [] = s
+put_all cmp s (e ∷ more) = put_all cmp (put cmp s e) more
+
+-- the items of a stack on which they were pushed in this order, the last pushed first, put into an empty list
+abbrev pub filled : (Item → Item → Ordering) → List Item → Elements Item → Elements Item × List Line
+filled cmp items s = if nat_eq (length s) 0 then (put_all cmp [] (map element_of (reverse items)), done ∷ []) else (s, not_there ∷ [])
+
+-- The order of the list with this number: that of items in the first six, the same the other way round in the next five,
+-- and the caller's in the others.
+abbrev pub order_of : (own cmp : Item → Item → Ordering) → ℕ → Item → Item → Ordering
+order_of own cmp n = if nat_lt n 6 then own else if nat_lt n 11 then (λ x y. own y x) else cmp
+
+-- the table after a command, and the replies to the command's lines
+abbrev pub step : (ℕ → Item → Item → Ordering) → Table → SortedCommand → Table × List Line
+step order table (commands.Insert list item) = on table list (λ s. (put (order list) s (element_of item), done ∷ []))
+step order table (commands.PopFront list) = on table list (λ s. (drop 1 s, found_or_nothing (slice_get (values s) 0) ∷ []))
+step order table (commands.Show list) = on table list (λ s. (s, show (map Some (values s)) ∷ []))
+step order table (commands.FromStack list items) = on table list (filled (order list) items.items)
+
+-- the number of the list that a command names
+abbrev pub list_of : SortedCommand → ℕ
+list_of (commands.Insert list item) = list
+list_of (commands.PopFront list) = list
+list_of (commands.Show list) = list
+list_of (commands.FromStack list items) = list
+
+-- it names one of sixteen lists
+abbrev pub Fits : SortedCommand → Type 0
+Fits command = list_of command < 16
+
+-- each list of the table is in its order
+abbrev pub AreInOrder : (ℕ → Item → Item → Ordering) → Table → Type 0
+AreInOrder order table = (n : ℕ) → IsSortedBy (less (order n)) (held_at table n)
