@@ -1,6 +1,6 @@
 -- Commands that are run one after the other.
 use Rattle.std.specs.Prelude.{List, map}
-use Rattle.cordyceps_base.specs.Runs.{Ran}
+pub use Rattle.cordyceps_base.specs.Runs.{Ran, after, replies_to}
 use Rattle.cordyceps.specs.declared.replay.reply.Reply.{Reply}
 use Rattle.cordyceps.specs.Replies.{Line, lines_of}
 

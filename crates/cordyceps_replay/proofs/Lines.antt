@@ -1,12 +1,13 @@
--- What a line does to the lists.
-use Rattle.std.proofs.Common.{◌≡◌, ℕ, List, [], ◌∷◌, Some, refl, sym, ◌∙◌, ap}
-use Rattle.cordyceps.specs.declared.replay.lists.ListCommand.{ListCommand}
-use Rattle.cordyceps.specs.Tables.{Table, Line, step}
-use Rattle.cordyceps_replay.specs.ListScript.{command_of, answered, take_line, text_of}
+-- What a line that is a command does.
+use Rattle.std.proofs.Common.{◌≡◌, ℕ, List, [], ◌∷◌, Option, Some, refl, sym, ◌∙◌, ap}
+use Rattle.cordyceps.specs.Replies.{Line}
+use Rattle.cordyceps_replay.specs.Commands.{answered, commands_machine}
+use Rattle.cordyceps_replay.specs.ReplyText.{text_of}
 
-pub taken : (table : Table) (line : List ℕ) (command : ListCommand) → Some command ≡ command_of line → take_line table line ≡ Some (answered (step table command))
-taken table line command is = rw (← is) refl
+module _ {M C : Type 0} (command_of : List ℕ → Option C) (step : M → C → M × List Line) where
+  pub taken : (state : M) (line : List ℕ) (command : C) → Some command ≡ command_of line → (commands_machine command_of step).step state line ≡ Some (answered (step state command))
+  taken state line command is = rw (← is) refl
 
-pub taken_as : (table new : Table) (line : List ℕ) (command : ListCommand) (replies : List Line) → Some command ≡ command_of line → (new, replies) ≡ step table command →
-    take_line table line ≡ Some (new, text_of replies ∷ [])
-taken_as table new line command replies is done = taken table line command is ∙ ap (λ (r : Table × List Line). Some (answered r)) (sym done)
+  pub taken_as : (state new : M) (line : List ℕ) (command : C) (replies : List Line) → Some command ≡ command_of line → (new, replies) ≡ step state command →
+      (commands_machine command_of step).step state line ≡ Some (new, text_of replies ∷ [])
+  taken_as state new line command replies is done = taken state line command is ∙ ap (λ (r : M × List Line). Some (answered r)) (sym done)

@@ -1,8 +1,8 @@
 -- One command and its reply.
 use Rattle.std.proofs.Common.{◌≡◌, List, [], ◌∷◌, ◌++◌, map, sym, ◌∙◌, ap}
-use Rattle.cordyceps.specs.declared.replay.lists.ListCommand.{ListCommand}
 use Rattle.cordyceps.specs.declared.replay.reply.Reply.{Reply}
-use Rattle.cordyceps.specs.Tables.{Table, Line, lines_of, step, replies_to, after, Plays}
+use Rattle.cordyceps.specs.Replies.{Line, lines_of}
+use Rattle.cordyceps.specs.Plays.{Plays, replies_to, after}
 
 no_lines : (front : List Reply) (reply : Reply) → map lines_of (front ++ reply ∷ []) ≡ [] → ⊥
 no_lines [] reply said = cc
@@ -12,19 +12,21 @@ only_line : (front : List Reply) (reply : Reply) (lines : List Line) → map lin
 only_line [] reply lines said = cc
 only_line (first ∷ front) reply lines said = absurd (no_lines front reply cc)
 
-one_ran : (old new : Table) (command : ListCommand) (front : List Reply) (reply : Reply) (rest ran : List ListCommand) →
-    command ∷ [] ≡ ran ++ rest → map lines_of (front ++ reply ∷ []) ≡ replies_to old ran → new ≡ after old ran → (new, lines_of reply) ≡ step old command
-one_ran old new command front reply rest [] split said is = absurd (no_lines front reply said)
-one_ran old new command front reply rest (c ∷ []) split said is =
-    let same : c ≡ command = cc in
-    let answer : lines_of reply ≡ (step old c).1 = only_line front reply (step old c).1 said in
-    rw (← same) (ap (λ (t : Table). (t, lines_of reply)) is ∙ ap (λ (ls : List Line). ((step old c).0, ls)) answer)
-one_ran old new command front reply rest (c ∷ d ∷ ran) split said is = cc
+module _ {M C : Type 0} (step : M → C → M × List Line) where
+  one_ran : (old new : M) (command : C) (front : List Reply) (reply : Reply) (rest ran : List C) →
+      ran ++ rest ≡ command ∷ [] → map lines_of (front ++ reply ∷ []) ≡ replies_to step old ran → new ≡ after step old ran → (new, lines_of reply) ≡ step old command
+  one_ran old new command front reply rest [] split said is = absurd (no_lines front reply said)
+  one_ran old new command front reply rest (c ∷ []) split said is =
+      let same : c ≡ command = cc in
+      let answer : lines_of reply ≡ (step old c).1 = only_line front reply (step old c).1 said in
+      rw (← same) (ap (λ (t : M). (t, lines_of reply)) is ∙ ap (λ (ls : List Line). ((step old c).0, ls)) answer)
+  one_ran old new command front reply rest (c ∷ d ∷ ran) split said is = cc
 
-pub plays_one : (old new : Table) (command : ListCommand) (front replies : List Reply) (reply : Reply) (rest : List ListCommand) →
-    replies ≡ front ++ reply ∷ [] → Plays old (command ∷ []) replies rest new → (new, lines_of reply) ≡ step old command
-plays_one old new command front replies reply rest last (ran, split, said, is) =
-    one_ran old new command front reply rest ran split (ap (λ (rs : List Reply). map lines_of rs) (sym last) ∙ said) is
+  -- where one command was to be run and there is a reply, it was run, and this is the reply
+  pub plays_one : (old new : M) (command : C) (front replies : List Reply) (reply : Reply) (rest : List C) →
+      replies ≡ front ++ reply ∷ [] → Plays step old (command ∷ []) replies rest new → (new, lines_of reply) ≡ step old command
+  plays_one old new command front replies reply rest last plays =
+      one_ran old new command front reply rest plays.ran plays.split (ap (λ (rs : List Reply). map lines_of rs) (sym last) ∙ plays.told) plays.state
 
 pub alone : {A : Type 0} (new old : List A) (x : A) → new ≡ old ++ x ∷ [] → old ≡ [] → new ≡ x ∷ []
 alone {A} new old x added empty = added ∙ ap (λ (xs : List A). xs ++ x ∷ []) empty

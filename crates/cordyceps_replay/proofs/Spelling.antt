@@ -12,7 +12,7 @@ use Rattle.std.proofs.lemmas.Slice.Eq.{bytes_eq-Decides}
 use Rattle.cordyceps.specs.declared.replay.item.Item.{Item}
 use Rattle.cordyceps.specs.declared.replay.lists.ListCommand.{ListCommand}
 use Rattle.cordyceps.specs.declared.replay.lists.ListCommand.TheVariants as commands
-use Rattle.cordyceps.specs.Tables.{Fits}
+use Rattle.cordyceps.specs.Lists.{Fits}
 use Rattle.cordyceps_replay.specs.declared.list_command.Verb.{Verb}
 use Rattle.cordyceps_replay.specs.declared.list_command.Verb.TheVariants as verbs
 use Rattle.cordyceps_replay.specs.Words.{words, number_of, structure_number_of}

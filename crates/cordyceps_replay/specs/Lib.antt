@@ -4,6 +4,8 @@ pub mod Steps
 pub mod Halts
 pub mod Faults
 pub mod Words
+pub mod ReplyText
+pub mod Commands
 pub mod ListScript
 pub mod Spelling
 pub mod Arguments

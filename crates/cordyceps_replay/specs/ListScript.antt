@@ -1,13 +1,14 @@
--- The lines of mode list, and their replies.
-use Rattle.std.specs.Prelude.{ℕ, List, [], ◌∷◌, ◌++◌, Option, None, Some, if◌then◌else◌, codes, decimal}
+-- The lines of mode list.
+use Rattle.std.specs.Prelude.{ℕ, List, [], ◌∷◌, Option, None, Some, if◌then◌else◌, codes}
 use Rattle.std.specs.Option.{option_map, option_and_then}
-use Rattle.std.specs.List.{flat_map}
 use Rattle.std.specs.Str.{bytes_eq}
 use Rattle.cordyceps.specs.declared.replay.item.Item.{Item}
 use Rattle.cordyceps.specs.declared.replay.lists.ListCommand.{ListCommand}
 use Rattle.cordyceps.specs.declared.replay.lists.ListCommand.TheVariants as commands
-use Rattle.cordyceps.specs.Tables.{Table, Line, done, found, nothing, len, not_there, step}
+use Rattle.cordyceps.specs.Tables.{Table}
+use Rattle.cordyceps.specs.Lists.{step}
 use Rattle.cordyceps_replay.specs.Script.{Machine}
+use Rattle.cordyceps_replay.specs.Commands.{commands_machine}
 use Rattle.cordyceps_replay.specs.Words.{words, number_of, structure_number_of}
 use Rattle.cordyceps_replay.specs.declared.list_command.Verb.{Verb}
 use Rattle.cordyceps_replay.specs.declared.list_command.Verb.TheVariants as verbs
@@ -70,26 +71,6 @@ command_of_words (verb ∷ words) = option_and_then (λ v. command_with v words)
 abbrev pub command_of : List ℕ → Option ListCommand
 command_of line = command_of_words (words line)
 
--- the reply line
-abbrev pub line_text : Line → List ℕ
-line_text done = codes "ok\n"
-line_text (found item) = codes "some " ++ decimal item.id ++ codes " " ++ decimal item.value ++ codes "\n"
-line_text nothing = codes "none\n"
-line_text (len n) = codes "len " ++ decimal n ++ codes "\n"
-line_text not_there = codes "not there\n"
-
--- the reply lines of a command, one for each of its lines
-abbrev pub text_of : List Line → List ℕ
-text_of replies = flat_map line_text replies
-
--- the table and the text after a command
-abbrev pub answered : Table × List Line → Table × List (List ℕ)
-answered next = (next.0, text_of next.1 ∷ [])
-
--- a good line is a command
-abbrev pub take_line : Table → List ℕ → Option (Table × List (List ℕ))
-take_line table line = option_map (λ command. answered (step table command)) (command_of line)
-
--- Each good line is a command, and its replies are lines. The end completes nothing.
+-- each line is a command on the table
 abbrev pub list_machine : Machine Table
-list_machine = record { step = take_line; ending = λ table. [] }
+list_machine = commands_machine command_of step

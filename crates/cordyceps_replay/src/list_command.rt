@@ -1,5 +1,5 @@
 ghost use Rattle.std.specs.Prelude.{◌≡◌, Some, IfSome};
-ghost use Rattle.cordyceps.specs.Tables.{Fits};
+ghost use Rattle.cordyceps.specs.Lists.{Fits};
 ghost use Rattle.cordyceps_replay.specs.Words.{words_left};
 ghost use Rattle.cordyceps_replay.specs.ListScript.{verb_of, list_of_words, item_of, list_and_item_of, list_and_value_of, command_of};
 ghost use Rattle.cordyceps_replay.specs.Spelling.{spelling_of, HasNumbers};

@@ -1,5 +1,7 @@
 ghost use Rattle.std.specs.Prelude.{◌≡◌, IfOk};
-ghost use Rattle.cordyceps.specs.Tables.{step, Fits, empty_lists, lines_of};
+ghost use Rattle.cordyceps.specs.Lists.{step, Fits};
+ghost use Rattle.cordyceps.specs.Replies.{lines_of};
+ghost use Rattle.cordyceps.specs.Tables.{empty_table};
 
 use crate::list_command::read_command;
 use crate::reply::push_reply;
@@ -21,7 +23,7 @@ pub struct ListSession {
 impl ListSession {
     /// Sixteen empty lists. This takes no memory.
     pub fn new(alloc: Global) -> Self
-        ensures { result.lists ≡ empty_lists 16 }
+        ensures { result.lists ≡ empty_table 16 }
     {
         ListSession {
             alloc,

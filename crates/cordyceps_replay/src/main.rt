@@ -2,7 +2,7 @@
 #![tactic(auto)]
 
 ghost use Rattle.std.specs.Prelude.{map, string_bytes};
-ghost use Rattle.cordyceps.specs.Tables.{empty_lists};
+ghost use Rattle.cordyceps.specs.Tables.{empty_table};
 ghost use Rattle.cordyceps_replay.specs.Script.{Runs};
 ghost use Rattle.cordyceps_replay.specs.ListScript.{list_machine};
 ghost use Rattle.cordyceps_replay.specs.Arguments.{Chooses};
@@ -75,7 +75,7 @@ pub fn run<I: Source, O: Sink>(
 ) -> Result<(), Fault>
     requires reading { I.has_failed input.old → ⊥ }
     requires writing { O.has_failed output.old → ⊥ }
-    ensures { Runs list_machine (empty_lists 16)
+    ensures { Runs list_machine (empty_table 16)
         (I.gives input.old input.new) (I.at_end input.new) (I.has_failed input.new)
         (O.takes output.old output.new) (O.has_failed output.new) result }
 {

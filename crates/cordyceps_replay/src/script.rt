@@ -25,7 +25,9 @@ fn take_line<S: Session, O: Sink>(
     text: &mut Vec<u8>,
     output: &mut O,
 ) -> Result<(), Stop>
-    ensures { TakesOne S.machine (S.state session.old) line.now (S.state session.new)
+    requires { S.is_ready session.old }
+    ensures ready { S.is_ready session.new }
+    ensures taken { TakesOne S.machine (S.state session.old) line.now (S.state session.new)
         O.takes output.old text.old.items output.new text.new.items (O.has_failed output.new) result }
 {
     if line.len() > LONGEST_LINE {
@@ -50,7 +52,9 @@ fn take_lines<S: Session, O: Sink>(
     text: &mut Vec<u8>,
     output: &mut O,
 ) -> Result<usize, Stop>
-    requires { count.old + length block.now < 2 ^ 64 }
+    requires ready { S.is_ready session.old }
+    requires room { count.old + length block.now < 2 ^ 64 }
+    ensures ready { S.is_ready session.new }
     ensures taken { TakesLines S.machine (S.state session.old) block.now (S.state session.new)
         O.takes output.old text.old.items output.new text.new.items (O.has_failed output.new)
         count.old count.new result }
@@ -84,7 +88,9 @@ fn take_last<S: Session, O: Sink>(
     text: &mut Vec<u8>,
     output: &mut O,
 ) -> Result<(), Stop>
-    ensures { TakesLast S.machine (S.state session.old) line.now (S.state session.new)
+    requires { S.is_ready session.old }
+    ensures ready { S.is_ready session.new }
+    ensures taken { TakesLast S.machine (S.state session.old) line.now (S.state session.new)
         O.takes output.old text.old.items output.new text.new.items (O.has_failed output.new) result }
 {
     if line.is_empty() {
@@ -126,8 +132,10 @@ fn read_lines<S: Session, I: Source, O: Sink>(
     block: &mut [u8],
     text: &mut Vec<u8>,
 ) -> Result<(), Fault>
-    requires { 120 < length block.old }
-    ensures { Halts S.machine (S.state session.old) (S.state session.new)
+    requires ready { S.is_ready session.old }
+    requires block { 120 < length block.old }
+    ensures ready { S.is_ready session.new }
+    ensures halts { Halts S.machine (S.state session.old) (S.state session.new)
         (I.gives input.old input.new) (I.at_end input.new) (I.has_failed input.new)
         O.takes output.old text.old.items output.new text.new.items (O.has_failed output.new) result }
 {
@@ -167,6 +175,7 @@ fn end_lines<S: Session>(
     text: &mut Vec<u8>,
     halt: Result<(), Fault>,
 ) -> Result<(), Fault>
+    requires { S.is_ready session.old }
     ensures { EndsLines S.machine (S.state session.old) text.old.items text.new.items halt result }
 {
     match halt {
@@ -189,13 +198,15 @@ fn has_stopped_writing(halt: Result<(), Fault>) -> bool
 /// Runs a script: reads its lines, and writes the replies to them.
 ///
 /// The lines go to the session, up to the first bad one or to the end of the input, which is then told of the end. What
-/// stands written after a fault is as `run` says. At the call the source, the sink and the session may be in any state.
+/// stands written after a fault is as `run` says. At the call the source and the sink may be in any state, and the session
+/// in any in which it may take lines.
 pub fn run_script<S: Session, I: Source, O: Sink>(
     alloc: Global,
     session: &mut S,
     input: &mut I,
     output: &mut O,
 ) -> Result<(), Fault>
+    requires { S.is_ready session.old }
     ensures { Runs S.machine (S.state session.old)
         (I.gives input.old input.new) (I.at_end input.new) (I.has_failed input.new)
         (O.takes output.old output.new) (O.has_failed output.new) result }

@@ -1,3 +1,4 @@
+ghost use Rattle.std.specs.Prelude.{⊤};
 ghost use Rattle.cordyceps_replay.specs.Script.{Machine};
 ghost use Rattle.cordyceps_replay.specs.Steps.{TakesLine, Ends};
 
@@ -16,19 +17,25 @@ pub trait Session {
 
     ghost state: { Self → State };
 
+    // Holds of a session that may take lines, as long as it lasts.
+    ghost is_ready: { Self → Type 0 } = { λ _. ⊤ };
+
     /// Takes a line, without its line feed, and adds the texts of the commands that it completes.
     ///
     /// `Ok(false)` means that the line is bad, and nothing changes. After an `Err` memory was refused: the texts of some
     /// of the commands were added, each as a whole, and the session takes no further line. The cost is that of the
     /// commands and their texts.
     fn take(&mut self, line: &[u8], text: &mut Vec<u8>) -> Result<bool, AllocError>
-        ensures { TakesLine machine (state self.old) line.now (state self.new)
-            text.old.items text.new.items result };
+        requires { is_ready self.old }
+        ensures taken { TakesLine machine (state self.old) line.now (state self.new)
+            text.old.items text.new.items result }
+        ensures ready { is_ready self.new };
 
     /// Adds the texts of what the end of the lines completes.
     ///
     /// After an `Err` memory was refused, and some of them were added, each as a whole.
     fn end(&mut self, text: &mut Vec<u8>) -> Result<(), AllocError>
+        requires { is_ready self.old }
         ensures { Ends machine (state self.old) text.old.items text.new.items result };
 }
 

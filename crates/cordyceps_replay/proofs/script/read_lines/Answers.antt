@@ -7,7 +7,8 @@ use Rattle.cordyceps_replay.proofs.script.read_lines.Goals as goal
 
 pub loop-end-init : goal.loop-end-init
 loop-end-init g c = record {
-  room = c.requires;
+  ready = c.requires.ready;
+  room = c.requires.block;
   short = omega arith;
   clean = λ k d lt. absurd (omega arith);
   so_far = (
@@ -24,8 +25,8 @@ loop-end-init g c = record {
   );
 }
 
-pub returns-in_default : goal.returns-in_default
-returns-in_default g c =
+pub returns-in_default-clause-halts : goal.returns-in_default-clause-halts
+returns-in_default-clause-halts g c =
     let (bytes, gave, room, so_far) = c.loop-end.invariant.so_far in
     let gave_them = rw append-nil at (g.met.I.Source.gives_more _ _ _ bytes [] gave c.in_default.ensures.err) in
     halts_unread so_far gave_them c.loop-end.invariant.clean (omega (arith, length-take c.loop-end.held c.loop-end.block, c.loop-end.invariant.short)) c.in_default.ensures.fails
@@ -35,8 +36,8 @@ overflow_add-count g c =
     let (bytes, gave, room, so_far) = c.loop-end.invariant.so_far in
     let le = counted_le so_far in omega arith
 
-pub returns-in-Ok-take_last : goal.returns-in-Ok-take_last
-returns-in-Ok-take_last g c =
+pub returns-in-Ok-take_last-clause-halts : goal.returns-in-Ok-take_last-clause-halts
+returns-in-Ok-take_last-clause-halts g c =
     let (bytes, gave, room, so_far) = c.loop-end.invariant.so_far in
     let (more, given, join) = c.in-Ok.ensures.read in
     let held = c.loop-end.held in
@@ -49,10 +50,10 @@ returns-in-Ok-take_last g c =
     (omega (arith, c.loop-end.invariant.short, c.loop-end.invariant.room)) refl (omega (arith, c.in-Ok.ensures.within.1)) refl (omega (arith, c.in-Ok.ensures.room)) room in
     let clean : HasNoFeed (take held block) = rw (nothing_more c.loop-end.block block more held (omega (arith, c.loop-end.invariant.short, c.loop-end.invariant.room)) c.read_more.ensures.len join_held) c.loop-end.invariant.clean in
     let at_end = c.in-Ok.ensures.end stop in
-    halts_ended g.met.O.Sink.takes_more all.1 gave_them clean at_end c.in-Ok-take_last.ensures
+    halts_ended g.met.O.Sink.takes_more all.1 gave_them clean at_end c.in-Ok-take_last.ensures.taken
 
-pub returns-in-Err : goal.returns-in-Err
-returns-in-Err g c =
+pub returns-in-Err-clause-halts : goal.returns-in-Err-clause-halts
+returns-in-Err-clause-halts g c =
     let (bytes, gave, room, so_far) = c.loop-end.invariant.so_far in
     let (more, given, join) = c.in-Ok.ensures.read in
     let held = c.loop-end.held in
@@ -65,10 +66,10 @@ returns-in-Err g c =
     (omega (arith, c.loop-end.invariant.short, c.loop-end.invariant.room)) refl (omega (arith, c.in-Ok.ensures.within.1)) refl (omega (arith, c.in-Ok.ensures.room)) room in
     let clean : HasNoFeed (take held block) = rw (nothing_more c.loop-end.block block more held (omega (arith, c.loop-end.invariant.short, c.loop-end.invariant.room)) c.read_more.ensures.len join_held) c.loop-end.invariant.clean in
     let at_end = c.in-Ok.ensures.end stop in
-    rw c.fault_at.ensures (halts_last g.met.O.Sink.takes_more c.in-Err.stop all.1 gave_them clean at_end c.in-Err.ensures)
+    rw c.fault_at.ensures (halts_last g.met.O.Sink.takes_more c.in-Err.stop all.1 gave_them clean at_end c.in-Err.ensures.taken)
 
-pub take_lines-requires : goal.take_lines-requires
-take_lines-requires g c =
+pub take_lines-requires-clause-room : goal.take_lines-requires-clause-room
+take_lines-requires-clause-room g c =
     let (bytes, gave, room, so_far) = c.loop-end.invariant.so_far in
     let (more, given, join) = c.in-Ok.ensures.read in
     let held = c.loop-end.held in
@@ -89,8 +90,8 @@ overflow_add-count-in-Err-take_lines g c =
     (omega (arith, c.loop-end.invariant.short, c.loop-end.invariant.room)) refl c.in-Ok.ensures.within.1 refl c.in-Ok.ensures.room room in
     let small = all.2 in let bound = c.in-Err-take_lines.ensures.bound in omega arith
 
-pub returns-in-Err-take_lines : goal.returns-in-Err-take_lines
-returns-in-Err-take_lines g c =
+pub returns-in-Err-take_lines-clause-halts : goal.returns-in-Err-take_lines-clause-halts
+returns-in-Err-take_lines-clause-halts g c =
     let (bytes, gave, room, so_far) = c.loop-end.invariant.so_far in
     let (more, given, join) = c.in-Ok.ensures.read in
     let held = c.loop-end.held in
@@ -113,8 +114,8 @@ overflow_add-result g c =
     (omega (arith, c.loop-end.invariant.short, c.loop-end.invariant.room)) refl c.in-Ok.ensures.within.1 refl c.in-Ok.ensures.room room in
     let small = all.2 in let bound = c.in-Ok-take_lines.ensures.bound in omega arith
 
-pub returns-then-held-gt-LONGEST_LINE : goal.returns-then-held-gt-LONGEST_LINE
-returns-then-held-gt-LONGEST_LINE g c =
+pub returns-then-held-gt-LONGEST_LINE-clause-halts : goal.returns-then-held-gt-LONGEST_LINE-clause-halts
+returns-then-held-gt-LONGEST_LINE-clause-halts g c =
     let (bytes, gave, room, so_far) = c.loop-end.invariant.so_far in
     let (more, given, join) = c.in-Ok.ensures.read in
     let held = c.loop-end.held in
@@ -126,8 +127,8 @@ returns-then-held-gt-LONGEST_LINE g c =
     let next = joined g.met.O.Sink.takes_more (g.O.Sink.has_failed c.take_lines.new.output) all.1 c.in-Ok-take_lines.ensures.taken in
     halts_long next gave_them c.in-Ok-take_lines.ensures.taken.4 (omega (arith, c.in-Ok.ensures.within.1, length-drop c.in-Ok-take_lines.used (take end block), length-take end block))
 
-pub returns-in_default-flush : goal.returns-in_default-flush
-returns-in_default-flush g c =
+pub returns-in_default-flush-clause-halts : goal.returns-in_default-flush-clause-halts
+returns-in_default-flush-clause-halts g c =
     let (bytes, gave, room, so_far) = c.loop-end.invariant.so_far in
     let (more, given, join) = c.in-Ok.ensures.read in
     let held = c.loop-end.held in
@@ -152,6 +153,7 @@ loop-end-preserved g c =
     let next = joined g.met.O.Sink.takes_more (g.O.Sink.has_failed c.take_lines.new.output) all.1 c.in-Ok-take_lines.ensures.taken in
     let written = flushed g.met.O.Sink.takes_more next c.in-Ok-flush.ensures.wrote in
     record {
+      ready = c.in-Ok-take_lines.ensures.ready;
       room = omega (arith, c.loop-end.invariant.room, c.keep.ensures.len, c.read_more.ensures.len);
       short = omega (arith, c.if-held-gt-LONGEST_LINE.false);
       clean = rw c.keep.ensures.kept c.in-Ok-take_lines.ensures.taken.4;

@@ -4,6 +4,7 @@ use Rattle.cordyceps_replay.proofs.script.read_lines.Given as goal
 
 abbrev pub invariant-loop-end : goal.invariant-loop-end
 invariant-loop-end g l = record {
+  ready : g.S.Session.is_ready l.session;
   room : 120 + 1 ≤ length l.block;
   short : l.held ≤ 120;
   clean : HasNoFeed (take l.held l.block);

@@ -7,6 +7,7 @@ use Rattle.cordyceps_replay.proofs.script.take_lines.Goals as goal
 
 pub loop-length-init : goal.loop-length-init
 loop-length-init g c = record {
+  ready = c.requires.ready;
   within = omega arith;
   so_far = (
     0,
@@ -33,7 +34,7 @@ returns-in_err-take_line-clause-taken g c =
     let so_far = rw found.cut at c.loop-length.invariant.so_far.3 in
     rw (p.1, p.2) (stopped g.S.Session.machine g.O.Sink.takes g.met.O.Sink.takes_more (g.S.Session.state c.args.session.now) (g.S.Session.state c.loop-length.session) (g.S.Session.state c.take_line.new.session)
     c.args.output.now c.loop-length.output c.take_line.new.output c.args.text.now.items c.loop-length.text.items c.take_line.new.text.items block (take k rest) _ (drop (k + 1) rest)
-    c.args.count.now c.loop-length.count c.loop-length.invariant.so_far.0 (g.O.Sink.has_failed c.take_line.new.output) c.in_err-take_line.field-0.0 so_far c.loop-length.invariant.so_far.1 found.clean (line_of block start k) c.in_err-take_line.ensures)
+    c.args.count.now c.loop-length.count c.loop-length.invariant.so_far.0 (g.O.Sink.has_failed c.take_line.new.output) c.in_err-take_line.field-0.0 so_far c.loop-length.invariant.so_far.1 found.clean (line_of block start k) c.in_err-take_line.ensures.taken)
 
 pub loop-length-preserved : goal.loop-length-preserved
 loop-length-preserved g c =
@@ -46,8 +47,9 @@ loop-length-preserved g c =
     let n = c.loop-length.invariant.so_far.0 in
     let next = go_on g.S.Session.machine g.O.Sink.takes g.met.O.Sink.takes_more (g.S.Session.state c.args.session.now) (g.S.Session.state c.loop-length.session) (g.S.Session.state c.take_line.new.session)
     c.args.output.now c.loop-length.output c.take_line.new.output c.args.text.now.items c.loop-length.text.items c.take_line.new.text.items block (take k rest) _ (drop (k + 1) rest)
-    n (g.O.Sink.has_failed c.take_line.new.output) so_far found.clean (line_of block start k) c.in_ok-take_line.ensures in
+    n (g.O.Sink.has_failed c.take_line.new.output) so_far found.clean (line_of block start k) c.in_ok-take_line.ensures.taken in
     record {
+      ready = c.in_ok-take_line.ensures.ready;
       within = omega (arith, found.within, length-drop start block);
       so_far = (n + 1, omega (arith, c.loop-length.invariant.so_far.1), omega (arith, c.loop-length.invariant.so_far.2), rw (rest_of block start k) next);
     }
