@@ -5,7 +5,8 @@ pub mod Halting
 pub mod Running
 pub mod Splitting
 pub mod Numbers
-pub mod Playing
+pub mod OneCommand
 pub mod Texts
 pub mod Lines
 pub mod Spelling
+pub mod Pairs

@@ -16,7 +16,8 @@ use Rattle.cordyceps.specs.Lists.{Fits}
 use Rattle.cordyceps_replay.specs.declared.list_command.Verb.{Verb}
 use Rattle.cordyceps_replay.specs.declared.list_command.Verb.TheVariants as verbs
 use Rattle.cordyceps_replay.specs.Words.{words, number_of, structure_number_of}
-use Rattle.cordyceps_replay.specs.ListScript.{verb_of, list_of_words, item_of, list_and_item_of, list_and_value_of, command_with, command_of_words, command_of}
+use Rattle.cordyceps_replay.specs.Operands.{structure_of, item_of, structure_and_item_of}
+use Rattle.cordyceps_replay.specs.ListScript.{verb_of, list_and_value_of, command_with, command_of_words, command_of}
 use Rattle.cordyceps_replay.specs.Spelling.{words_of, spelling_of, HasNumbers}
 use Rattle.cordyceps_replay.proofs.Numbers.{is_numeral, numeral_read, numeral_digits, both, from_if}
 
@@ -53,7 +54,7 @@ small (Some m) n is = (from_if (nat_lt m 16) (Some m) n is).1
 structure_word : (word : List ℕ) (n : ℕ) → structure_number_of word ≡ Some n → word ≡ decimal n
 structure_word word n is = (is_numeral word n (small (number_of word) n is)).1
 
-list_words : (ws : List (List ℕ)) (l : ℕ) → list_of_words ws ≡ Some l → ws ≡ decimal l ∷ []
+list_words : (ws : List (List ℕ)) (l : ℕ) → structure_of ws ≡ Some l → ws ≡ decimal l ∷ []
 list_words [] l is = cc
 list_words (word ∷ []) l is = ap (λ (w : List ℕ). w ∷ []) (structure_word word l is)
 list_words (word ∷ next ∷ ws) l is = cc
@@ -85,7 +86,7 @@ chained : {A B : Type 0} (f : A → Option B) (o : Option A) (b : B) → option_
 chained f None b is = cc
 chained f (Some a) b is = (a, refl, is)
 
-list_and_item_words : (ws : List (List ℕ)) (x : ℕ × Item) → list_and_item_of ws ≡ Some x → ws ≡ decimal x.0 ∷ decimal x.1.id ∷ decimal x.1.value ∷ []
+list_and_item_words : (ws : List (List ℕ)) (x : ℕ × Item) → structure_and_item_of ws ≡ Some x → ws ≡ decimal x.0 ∷ decimal x.1.id ∷ decimal x.1.value ∷ []
 list_and_item_words [] x is = cc
 list_and_item_words (list ∷ ws) x is =
     let (l, read, rest) = chained (λ l. option_map (λ item. (l, item)) (item_of ws)) (structure_number_of list) x is in
@@ -103,23 +104,23 @@ list_and_value_words (list ∷ value ∷ next ∷ ws) x is = cc
 
 command_words : (v : Verb) (ws : List (List ℕ)) (command : ListCommand) → command_with v ws ≡ Some command → word_of v ∷ ws ≡ words_of command
 command_words verbs.PushFront ws command is =
-    let (x, found, made) = mapped (λ x. commands.PushFront x.0 x.1) (list_and_item_of ws) command is in rw (← made) (ap (λ (t : List (List ℕ)). codes "pushf" ∷ t) (list_and_item_words ws x found))
+    let (x, found, made) = mapped (λ x. commands.PushFront x.0 x.1) (structure_and_item_of ws) command is in rw (← made) (ap (λ (t : List (List ℕ)). codes "pushf" ∷ t) (list_and_item_words ws x found))
 command_words verbs.PushBack ws command is =
-    let (x, found, made) = mapped (λ x. commands.PushBack x.0 x.1) (list_and_item_of ws) command is in rw (← made) (ap (λ (t : List (List ℕ)). codes "pushb" ∷ t) (list_and_item_words ws x found))
+    let (x, found, made) = mapped (λ x. commands.PushBack x.0 x.1) (structure_and_item_of ws) command is in rw (← made) (ap (λ (t : List (List ℕ)). codes "pushb" ∷ t) (list_and_item_words ws x found))
 command_words verbs.PopFront ws command is =
-    let (l, found, made) = mapped (λ l. commands.PopFront l) (list_of_words ws) command is in rw (← made) (ap (λ (t : List (List ℕ)). codes "popf" ∷ t) (list_words ws l found))
+    let (l, found, made) = mapped (λ l. commands.PopFront l) (structure_of ws) command is in rw (← made) (ap (λ (t : List (List ℕ)). codes "popf" ∷ t) (list_words ws l found))
 command_words verbs.PopBack ws command is =
-    let (l, found, made) = mapped (λ l. commands.PopBack l) (list_of_words ws) command is in rw (← made) (ap (λ (t : List (List ℕ)). codes "popb" ∷ t) (list_words ws l found))
+    let (l, found, made) = mapped (λ l. commands.PopBack l) (structure_of ws) command is in rw (← made) (ap (λ (t : List (List ℕ)). codes "popb" ∷ t) (list_words ws l found))
 command_words verbs.Front ws command is =
-    let (l, found, made) = mapped (λ l. commands.Front l) (list_of_words ws) command is in rw (← made) (ap (λ (t : List (List ℕ)). codes "front" ∷ t) (list_words ws l found))
+    let (l, found, made) = mapped (λ l. commands.Front l) (structure_of ws) command is in rw (← made) (ap (λ (t : List (List ℕ)). codes "front" ∷ t) (list_words ws l found))
 command_words verbs.Back ws command is =
-    let (l, found, made) = mapped (λ l. commands.Back l) (list_of_words ws) command is in rw (← made) (ap (λ (t : List (List ℕ)). codes "back" ∷ t) (list_words ws l found))
+    let (l, found, made) = mapped (λ l. commands.Back l) (structure_of ws) command is in rw (← made) (ap (λ (t : List (List ℕ)). codes "back" ∷ t) (list_words ws l found))
 command_words verbs.SetFront ws command is =
     let (x, found, made) = mapped (λ x. commands.SetFront x.0 x.1) (list_and_value_of ws) command is in rw (← made) (ap (λ (t : List (List ℕ)). codes "setf" ∷ t) (list_and_value_words ws x found))
 command_words verbs.SetBack ws command is =
     let (x, found, made) = mapped (λ x. commands.SetBack x.0 x.1) (list_and_value_of ws) command is in rw (← made) (ap (λ (t : List (List ℕ)). codes "setb" ∷ t) (list_and_value_words ws x found))
 command_words verbs.Len ws command is =
-    let (l, found, made) = mapped (λ l. commands.Len l) (list_of_words ws) command is in rw (← made) (ap (λ (t : List (List ℕ)). codes "len" ∷ t) (list_words ws l found))
+    let (l, found, made) = mapped (λ l. commands.Len l) (structure_of ws) command is in rw (← made) (ap (λ (t : List (List ℕ)). codes "len" ∷ t) (list_words ws l found))
 
 all_words : (ws : List (List ℕ)) (command : ListCommand) → command_of_words ws ≡ Some command → ws ≡ words_of command
 all_words [] command is = cc
@@ -178,7 +179,7 @@ structure_read n small = rw (number_read n (omega arith), lt-ltb n 16 small) ref
 item_read : (item : Item) → item.id < 2 ^ 64 → item.value < 2 ^ 64 → item_of (decimal item.id ∷ decimal item.value ∷ []) ≡ Some item
 item_read item id value = rw (number_read item.id id, number_read item.value value) refl
 
-list_and_item_read : (l : ℕ) (item : Item) → l < 16 → item.id < 2 ^ 64 → item.value < 2 ^ 64 → list_and_item_of (decimal l ∷ decimal item.id ∷ decimal item.value ∷ []) ≡ Some (l, item)
+list_and_item_read : (l : ℕ) (item : Item) → l < 16 → item.id < 2 ^ 64 → item.value < 2 ^ 64 → structure_and_item_of (decimal l ∷ decimal item.id ∷ decimal item.value ∷ []) ≡ Some (l, item)
 list_and_item_read l item small id value = rw (structure_read l small, item_read item id value) refl
 
 list_and_value_read : (l value : ℕ) → l < 16 → value < 2 ^ 64 → list_and_value_of (decimal l ∷ decimal value ∷ []) ≡ Some (l, value)

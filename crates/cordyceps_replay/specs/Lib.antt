@@ -6,7 +6,10 @@ pub mod Faults
 pub mod Words
 pub mod ReplyText
 pub mod Commands
+pub mod Operands
 pub mod ListScript
+pub mod SortedScript
+pub mod StackScript
 pub mod Spelling
 pub mod Arguments
 pub mod Streams

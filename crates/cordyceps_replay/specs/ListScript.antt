@@ -10,6 +10,7 @@ use Rattle.cordyceps.specs.Lists.{step}
 use Rattle.cordyceps_replay.specs.Script.{Machine}
 use Rattle.cordyceps_replay.specs.Commands.{commands_machine}
 use Rattle.cordyceps_replay.specs.Words.{words, number_of, structure_number_of}
+use Rattle.cordyceps_replay.specs.Operands.{structure_of, structure_and_item_of}
 use Rattle.cordyceps_replay.specs.declared.list_command.Verb.{Verb}
 use Rattle.cordyceps_replay.specs.declared.list_command.Verb.TheVariants as verbs
 
@@ -26,24 +27,6 @@ verb_of word =
     else if bytes_eq word (codes "len") then Some verbs.Len
     else None
 
--- the words L
-abbrev pub list_of_words : List (List ℕ) → Option ℕ
-list_of_words (list ∷ []) = structure_number_of list
-list_of_words [] = None
-list_of_words (list ∷ word ∷ words) = None
-
--- the words ID V
-abbrev pub item_of : List (List ℕ) → Option Item
-item_of (id ∷ value ∷ []) = option_and_then (λ i. option_map (λ v. record { value = v; id = i }) (number_of value)) (number_of id)
-item_of [] = None
-item_of (id ∷ []) = None
-item_of (id ∷ value ∷ word ∷ words) = None
-
--- the words L ID V
-abbrev pub list_and_item_of : List (List ℕ) → Option (ℕ × Item)
-list_and_item_of [] = None
-list_and_item_of (list ∷ words) = option_and_then (λ l. option_map (λ item. (l, item)) (item_of words)) (structure_number_of list)
-
 -- the words L V
 abbrev pub list_and_value_of : List (List ℕ) → Option (ℕ × ℕ)
 list_and_value_of (list ∷ value ∷ []) = option_and_then (λ l. option_map (λ v. (l, v)) (number_of value)) (structure_number_of list)
@@ -53,15 +36,15 @@ list_and_value_of (list ∷ value ∷ word ∷ words) = None
 
 -- what a command word and the words after it mean
 abbrev pub command_with : Verb → List (List ℕ) → Option ListCommand
-command_with verbs.PushFront words = option_map (λ x. commands.PushFront x.0 x.1) (list_and_item_of words)
-command_with verbs.PushBack words = option_map (λ x. commands.PushBack x.0 x.1) (list_and_item_of words)
-command_with verbs.PopFront words = option_map (λ l. commands.PopFront l) (list_of_words words)
-command_with verbs.PopBack words = option_map (λ l. commands.PopBack l) (list_of_words words)
-command_with verbs.Front words = option_map (λ l. commands.Front l) (list_of_words words)
-command_with verbs.Back words = option_map (λ l. commands.Back l) (list_of_words words)
+command_with verbs.PushFront words = option_map (λ x. commands.PushFront x.0 x.1) (structure_and_item_of words)
+command_with verbs.PushBack words = option_map (λ x. commands.PushBack x.0 x.1) (structure_and_item_of words)
+command_with verbs.PopFront words = option_map (λ l. commands.PopFront l) (structure_of words)
+command_with verbs.PopBack words = option_map (λ l. commands.PopBack l) (structure_of words)
+command_with verbs.Front words = option_map (λ l. commands.Front l) (structure_of words)
+command_with verbs.Back words = option_map (λ l. commands.Back l) (structure_of words)
 command_with verbs.SetFront words = option_map (λ x. commands.SetFront x.0 x.1) (list_and_value_of words)
 command_with verbs.SetBack words = option_map (λ x. commands.SetBack x.0 x.1) (list_and_value_of words)
-command_with verbs.Len words = option_map (λ l. commands.Len l) (list_of_words words)
+command_with verbs.Len words = option_map (λ l. commands.Len l) (structure_of words)
 
 abbrev pub command_of_words : List (List ℕ) → Option ListCommand
 command_of_words [] = None

@@ -1,12 +1,13 @@
 ghost use Rattle.std.specs.Prelude.{◌≡◌, Some, IfSome};
 ghost use Rattle.cordyceps.specs.Lists.{Fits};
 ghost use Rattle.cordyceps_replay.specs.Words.{words_left};
-ghost use Rattle.cordyceps_replay.specs.ListScript.{verb_of, list_of_words, item_of, list_and_item_of, list_and_value_of, command_of};
+ghost use Rattle.cordyceps_replay.specs.ListScript.{verb_of, list_and_value_of, command_of};
 ghost use Rattle.cordyceps_replay.specs.Spelling.{spelling_of, HasNumbers};
 ghost use Rattle.cordyceps.specs.declared.replay.lists.ListCommand.{ListCommand};
 
+use crate::operands::{structure, structure_and_item};
 use crate::words::{Words, number, structure_number};
-use cordyceps::replay::{Item, ListCommand};
+use cordyceps::replay::ListCommand;
 
 /// The command words of the mode.
 #[derive(Clone, Copy)]
@@ -48,39 +49,6 @@ fn read_verb(word: &[u8]) -> Option<Verb>
     }
 }
 
-/// Reads `L`, and nothing more.
-fn list(mut words: Words) -> Option<u8>
-    ensures { result ≡ list_of_words (words_left words.entry.rest) }
-{
-    let list = words.next_word()?;
-    if words.next_word().is_some() {
-        return None;
-    }
-    structure_number(list)
-}
-
-/// Reads `ID V`, and nothing more.
-fn item(mut words: Words) -> Option<Item>
-    ensures { result ≡ item_of (words_left words.entry.rest) }
-{
-    let id = words.next_word()?;
-    let value = words.next_word()?;
-    if words.next_word().is_some() {
-        return None;
-    }
-    let id = number(id)?;
-    let value = number(value)?;
-    Some(Item { value, id })
-}
-
-/// Reads `L ID V`, and nothing more.
-fn list_and_item(mut words: Words) -> Option<(u8, Item)>
-    ensures { result ≡ list_and_item_of (words_left words.entry.rest) }
-{
-    let list = structure_number(words.next_word()?)?;
-    Some((list, item(words)?))
-}
-
 /// Reads `L V`, and nothing more.
 fn list_and_value(mut words: Words) -> Option<(u8, u64)>
     ensures { result ≡ list_and_value_of (words_left words.entry.rest) }
@@ -103,17 +71,17 @@ fn read_words(line: &[u8]) -> Option<ListCommand>
     let mut words = Words::new(line);
     let command = match read_verb(words.next_word()?)? {
         Verb::PushFront => {
-            let (list, item) = list_and_item(words)?;
+            let (list, item) = structure_and_item(words)?;
             ListCommand::PushFront(list, item)
         }
         Verb::PushBack => {
-            let (list, item) = list_and_item(words)?;
+            let (list, item) = structure_and_item(words)?;
             ListCommand::PushBack(list, item)
         }
-        Verb::PopFront => ListCommand::PopFront(list(words)?),
-        Verb::PopBack => ListCommand::PopBack(list(words)?),
-        Verb::Front => ListCommand::Front(list(words)?),
-        Verb::Back => ListCommand::Back(list(words)?),
+        Verb::PopFront => ListCommand::PopFront(structure(words)?),
+        Verb::PopBack => ListCommand::PopBack(structure(words)?),
+        Verb::Front => ListCommand::Front(structure(words)?),
+        Verb::Back => ListCommand::Back(structure(words)?),
         Verb::SetFront => {
             let (list, value) = list_and_value(words)?;
             ListCommand::SetFront(list, value)
@@ -122,7 +90,7 @@ fn read_words(line: &[u8]) -> Option<ListCommand>
             let (list, value) = list_and_value(words)?;
             ListCommand::SetBack(list, value)
         }
-        Verb::Len => ListCommand::Len(list(words)?),
+        Verb::Len => ListCommand::Len(structure(words)?),
     };
     Some(command)
 }

@@ -4,12 +4,12 @@ ghost use Rattle.cordyceps.specs.Replies.{lines_of};
 ghost use Rattle.cordyceps.specs.Tables.{empty_table};
 
 use crate::list_command::read_command;
+use crate::playing::{alone, last_reply};
 use crate::reply::push_reply;
 use crate::session::Session;
-use cordyceps::replay::{ListCommand, Lists, Played, Reply, replay_lists};
+use cordyceps::replay::{ListCommand, Lists, Reply, replay_lists};
 use std::alloc::{AllocError, Global};
 use std::collections::VecDeque;
-use std::mem;
 
 /// A script in mode `list`: its sixteen lists.
 #[derive(Drop)]
@@ -37,15 +37,10 @@ impl ListSession {
         requires { Fits command }
         ensures { IfOk result (λ reply. (self.new.lists, lines_of reply) ≡ step self.old.lists command) }
     {
-        let mut commands = mem::replace(&mut self.commands, VecDeque::new(self.alloc));
-        commands.clear();
-        commands.push_back(command)?;
-        let Played { mut replies, rest } = replay_lists(self.alloc, &mut self.lists, commands);
-        self.commands = rest;
-        match replies.pop() {
-            Some(reply) => Ok(reply),
-            None => Err(AllocError),
-        }
+        let commands = alone(self.alloc, &mut self.commands, command)?;
+        let played = replay_lists(self.alloc, &mut self.lists, commands);
+        self.commands = played.rest;
+        last_reply(played.replies)
     }
 }
 

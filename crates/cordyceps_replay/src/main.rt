@@ -10,11 +10,15 @@ ghost use Rattle.cordyceps_replay.specs.Arguments.{Chooses};
 mod fault;
 mod list_command;
 mod list_session;
+mod operands;
+mod playing;
 mod reply;
 mod script;
 mod session;
 mod sink;
+mod sorted_command;
 mod source;
+mod stack_command;
 #[cfg(test)]
 mod tests;
 mod text;

@@ -1,5 +1,5 @@
 -- One command and its reply.
-use Rattle.std.proofs.Common.{◌≡◌, List, [], ◌∷◌, ◌++◌, map, sym, ◌∙◌, ap}
+use Rattle.std.proofs.Common.{◌≡◌, List, [], ◌∷◌, ◌++◌, map, Result, Ok, Err, IfOk, sym, ◌∙◌, ap}
 use Rattle.cordyceps.specs.declared.replay.reply.Reply.{Reply}
 use Rattle.cordyceps.specs.Replies.{Line, lines_of}
 use Rattle.cordyceps.specs.Plays.{Plays, replies_to, after}
@@ -28,5 +28,12 @@ module _ {M C : Type 0} (step : M → C → M × List Line) where
   plays_one old new command front replies reply rest last plays =
       one_ran old new command front reply rest plays.ran plays.split (ap (λ (rs : List Reply). map lines_of rs) (sym last) ∙ plays.told) plays.state
 
-pub alone : {A : Type 0} (new old : List A) (x : A) → new ≡ old ++ x ∷ [] → old ≡ [] → new ≡ x ∷ []
-alone {A} new old x added empty = added ∙ ap (λ (xs : List A). xs ++ x ∷ []) empty
+
+
+
+  -- the same of a last reply, if there is one
+  pub replied : {E : Type 0} (old new : M) (command : C) (commands : List C) (replies : List Reply) (rest : List C) (last : Result Reply E) →
+      commands ≡ command ∷ [] → Plays step old commands replies rest new → IfOk last (λ reply. (front : List Reply) × (replies ≡ front ++ reply ∷ [])) →
+      IfOk last (λ reply. (new, lines_of reply) ≡ step old command)
+  replied old new command commands replies rest (Ok reply) are plays (front, is) = plays_one old new command front replies reply rest is (rw are at plays)
+  replied old new command commands replies rest (Err e) are plays is = tt
