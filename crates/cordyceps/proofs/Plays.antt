@@ -1,10 +1,10 @@
 -- The run of commands goes on by one.
-use Rattle.std.proofs.Common.{map, ◌≡◌, ◌<◌, length, get_or, drop, arith, List, [], ◌∷◌, ◌++◌, sym, ap}
+use Rattle.std.proofs.Common.{map, ◌≡◌, ◌<◌, length, get_or, drop, arith, List, [], ◌∷◌, ◌++◌, sym, ap, ◌+◌, ◌∙◌, append_assoc, length-append}
 use Rattle.std.proofs.lemmas.List.{map_push}
 use Rattle.cordyceps.specs.declared.replay.reply.Reply.{Reply}
 use Rattle.cordyceps_base.proofs.Runs.{ran_none, ran_more}
 use Rattle.cordyceps.specs.Replies.{Line, lines_of}
-use Rattle.cordyceps.specs.Plays.{Plays}
+use Rattle.cordyceps.specs.Plays.{Plays, AnswersSome}
 
 module _ {M C : Type 0} (step : M → C → M × List Line) where
   pub plays_nothing : (m : M) (cs : List C) → Plays step m cs [] cs m
@@ -15,6 +15,14 @@ module _ {M C : Type 0} (step : M → C → M × List Line) where
   plays_more old mid new all rest replies c reply ran done =
       rw (map_push, ap (λ (p : M × List Line). p.0) done, ap (λ (p : M × List Line). p.1) done) (ran_more step all old mid (map lines_of replies) c rest ran)
 
-pub first_of : {A : Type 0} (xs : List A) (x : A) → 0 < length xs → x ≡ get_or xs 0 x → xs ≡ x ∷ drop 1 xs
-first_of [] x lt read = absurd (omega arith)
-first_of (y ∷ ys) x lt read = ap (λ z. z ∷ ys) (sym read)
+-- one more command has its reply
+pub answers_more : {C : Type 0} (all rest : List C) (replies : List Reply) (c : C) (reply : Reply) → AnswersSome all replies (c ∷ rest) → AnswersSome all (replies ++ reply ∷ []) rest
+answers_more all rest replies c reply was = (
+  was.0 ++ c ∷ [],
+  append_assoc was.0 (c ∷ []) rest ∙ was.1,
+  simp length-append (ap (λ n. n + 1) was.2),
+)
+
+pub first_waiting : {A : Type 0} (xs : List A) (x : A) → 0 < length xs → x ≡ get_or xs 0 x → xs ≡ x ∷ drop 1 xs
+first_waiting [] x lt read = absurd (omega arith)
+first_waiting (y ∷ ys) x lt read = ap (λ z. z ∷ ys) (sym read)

@@ -1,5 +1,5 @@
 -- What commands do to a table of sorted lists.
-use Rattle.std.specs.Prelude.{ℕ, ◌<◌, List, [], ◌∷◌, length, drop, map, Some, slice_get, reverse, if◌then◌else◌, nat_eq, nat_lt}
+use Rattle.std.specs.Prelude.{ℕ, ◌<◌, List, [], ◌∷◌, length, drop, map, Option, Some, None, slice_get, reverse, if◌then◌else◌, nat_eq, nat_lt}
 use Rattle.std.specs.declared.cmp.Ordering.{Ordering}
 use Rattle.std.specs.Ordering.{is_gt}
 use Rattle.std.specs.List.Sorted.{IsSortedBy}
@@ -30,12 +30,21 @@ filled cmp items s = if nat_eq (length s) 0 then (put_all cmp [] (map element_of
 abbrev pub order_of : (own cmp : Item → Item → Ordering) → ℕ → Item → Item → Ordering
 order_of own cmp n = if nat_lt n 6 then own else if nat_lt n 11 then (λ x y. own y x) else cmp
 
--- the table after a command, and the replies to the command's lines
-abbrev pub step : (ℕ → Item → Item → Ordering) → Table → SortedCommand → Table × List Line
-step order table (commands.Insert list item) = on table list (λ s. (put (order list) s (element_of item), done ∷ []))
-step order table (commands.PopFront list) = on table list (λ s. (drop 1 s, found_or_nothing (slice_get (values s) 0) ∷ []))
-step order table (commands.Show list) = on table list (λ s. (s, show (map Some (values s)) ∷ []))
-step order table (commands.FromStack list items) = on table list (filled (order list) items.items)
+-- the elements of a list after a command on it, and the replies to the command's lines
+abbrev pub step_on : (Item → Item → Ordering) → Elements Item → SortedCommand → Elements Item × List Line
+step_on cmp s (commands.Insert list item) = (put cmp s (element_of item), done ∷ [])
+step_on cmp s (commands.PopFront list) = (drop 1 s, found_or_nothing (slice_get (values s) 0) ∷ [])
+step_on cmp s (commands.Show list) = (s, show (map Some (values s)) ∷ [])
+step_on cmp s (commands.FromStack list items) = filled cmp items.items s
+
+-- the elements of a list, once the stack that it is to be made of, if there is one, is put into an empty list
+abbrev pub made_of : (Item → Item → Ordering) → Elements Item → Option (Elements Item) → Elements Item
+made_of cmp s None = s
+made_of cmp s (Some stack) = put_all cmp [] stack
+
+-- what sorted lists hold, without their orders
+abbrev pub contents : {O : Type 0} → List (Elements Item × O) → Table
+contents lists = map (λ l. l.0) lists
 
 -- the number of the list that a command names
 abbrev pub list_of : SortedCommand → ℕ
@@ -47,6 +56,10 @@ list_of (commands.FromStack list items) = list
 -- it names one of sixteen lists
 abbrev pub Fits : SortedCommand → Type 0
 Fits command = list_of command < 16
+
+-- the table after a command, and the replies to the command's lines
+abbrev pub step : (ℕ → Item → Item → Ordering) → Table → SortedCommand → Table × List Line
+step order table command = on table (list_of command) (λ s. step_on (order (list_of command)) s command)
 
 -- each list of the table is in its order
 abbrev pub AreInOrder : (ℕ → Item → Item → Ordering) → Table → Type 0

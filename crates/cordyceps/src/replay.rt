@@ -4,6 +4,7 @@
 
 mod item;
 mod lists;
+mod nodes;
 mod played;
 mod reply;
 mod sorteds;
@@ -13,5 +14,5 @@ pub use item::Item;
 pub use lists::{ListCommand, Lists, replay_lists};
 pub use played::Played;
 pub use reply::Reply;
-pub use sorteds::SortedCommand;
-pub use stacks::StackCommand;
+pub use sorteds::{SortedCommand, Sorteds, replay_sorted};
+pub use stacks::{StackCommand, Stacks, replay_stacks};

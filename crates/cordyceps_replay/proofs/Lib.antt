@@ -10,3 +10,4 @@ pub mod Texts
 pub mod Lines
 pub mod Spelling
 pub mod Pairs
+pub mod SortedLines

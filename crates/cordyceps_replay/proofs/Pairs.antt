@@ -10,6 +10,7 @@ use Rattle.std.specs.Fmt.{decimal}
 use Rattle.std.specs.Str.{all_ascii_digits}
 use Rattle.std.specs.List.{All, AllByRecursion, slice_split, join_with_byte}
 use Rattle.std.specs.Option.{option_map, option_and_then}
+use Rattle.std.specs.Prelude.{is_some}
 use Rattle.memchr.specs.Find.{IsFirstByte, is_byte}
 use Rattle.cordyceps.specs.declared.replay.item.Item.{Item}
 use Rattle.cordyceps_replay.specs.Words.{number_of}
@@ -67,6 +68,10 @@ read_pair word k h =
     let parts : slice_split colon word ≡ take k word ∷ slice_split colon (drop (k + 1) word) = ap (slice_split colon) at ∙ slice_split_at colon (take k word) 58 (drop (k + 1) word) before refl in
     rw (all, parts) (sym (cut (take k word) (drop (k + 1) word)))
 
+mapped_some : {A B : Type 0} (f : A → B) (o : Option A) → is_some (option_map f o) ≡ is_some o
+mapped_some f None = refl
+mapped_some f (Some a) = refl
+
 -- without a colon it is no pair
 pub no_pair : (word : List ℕ) → IsFirstByte (is_byte 58) word None → None ≡ pair_of word
 no_pair word h = rw (slice_split_none colon word (λ j d lt. rw (get_or_default word j d 0 lt) (is_false _ (h j (omega arith) lt)))) refl
@@ -98,3 +103,10 @@ pairs_bad items word words all is so_far =
 
 pub pairs_done : (items : List Item) (all : List (List ℕ)) → MorePairs items [] all → Some items ≡ pairs_of all
 pairs_done items all so_far = ap Some (sym (append-nil items)) ∙ so_far
+
+-- where the first word is a pair, all words are if the others are
+pub pair_first : (item : Item) (word : List ℕ) (words : List (List ℕ)) → Some item ≡ pair_of word → is_some (pairs_of (word ∷ words)) ≡ is_some (pairs_of words)
+pair_first item word words is = rw (← is) (mapped_some (λ more. item ∷ more) (pairs_of words))
+
+pub bad_first : (word : List ℕ) (words : List (List ℕ)) → None ≡ pair_of word → is_some (pairs_of (word ∷ words)) ≡ false
+bad_first word words is = rw (← is) refl

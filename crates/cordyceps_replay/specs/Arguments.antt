@@ -3,7 +3,13 @@ use Rattle.std.specs.Prelude.{◌≡◌, ◌≢◌, ℕ, List, [], ◌∷◌, Op
 use Rattle.cordyceps_replay.specs.declared.Choice.{Choice}
 use Rattle.cordyceps_replay.specs.declared.Choice.TheVariants as choices
 
+-- the word of a mode
+abbrev pub word_of : Choice → List ℕ
+word_of choices.List = codes "list"
+word_of choices.Stack = codes "stack"
+word_of choices.Sorted = codes "sorted"
+
 -- exactly one argument, which names the mode
 abbrev pub Chooses : List (List ℕ) → Option Choice → Type 0
-Chooses words (Some choices.List) = words ≡ codes "list" ∷ []
-Chooses words None = words ≢ codes "list" ∷ []
+Chooses words (Some choice) = words ≡ word_of choice ∷ []
+Chooses words None = (choice : Choice) → words ≢ word_of choice ∷ []

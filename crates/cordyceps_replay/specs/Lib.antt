@@ -10,6 +10,8 @@ pub mod Operands
 pub mod ListScript
 pub mod SortedScript
 pub mod StackScript
+pub mod Tens
+pub mod Modes
 pub mod Spelling
 pub mod Arguments
 pub mod Streams

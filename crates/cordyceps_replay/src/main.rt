@@ -1,11 +1,10 @@
 //! Runs scripts of commands over lists: reads lines, and writes the replies to them.
 #![tactic(auto)]
 
-ghost use Rattle.std.specs.Prelude.{map, string_bytes};
-ghost use Rattle.cordyceps.specs.Tables.{empty_table};
-ghost use Rattle.cordyceps_replay.specs.Script.{Runs};
-ghost use Rattle.cordyceps_replay.specs.ListScript.{list_machine};
+ghost use Rattle.std.specs.Prelude.{◌≡◌, map, string_bytes};
 ghost use Rattle.cordyceps_replay.specs.Arguments.{Chooses};
+ghost use Rattle.cordyceps_replay.specs.Modes.{IfSorted, RunsIn};
+ghost use Rattle.cordyceps_replay.specs.Tens.{by_tens, ComparesTens};
 
 mod fault;
 mod list_command;
@@ -17,20 +16,26 @@ mod script;
 mod session;
 mod sink;
 mod sorted_command;
+mod sorted_session;
 mod source;
 mod stack_command;
+mod stack_session;
 #[cfg(test)]
 mod tests;
 mod text;
 mod words;
 
 pub use fault::{Failed, Fault};
+use cordyceps::replay::Item;
 use list_session::ListSession;
 pub use script::run_script;
 pub use session::Session;
 pub use sink::{Sink, ToWrite};
+use sorted_session::SortedSession;
 pub use source::{FromRead, Source};
+use stack_session::StackSession;
 use std::alloc::Global;
+use std::cmp::Ordering;
 use std::io::ErrorKind;
 use std::process::ExitCode;
 use std::{env, io};
@@ -39,10 +44,15 @@ use std::{env, io};
 pub const USAGE: &str = "usage: cordyceps_replay list|stack|sorted|transfer|queue|share";
 
 /// What the commands of a script are.
-#[derive(Clone, Copy, Debug, PartialEq, Eq)]
-pub enum Mode {
+#[derive(Clone, Copy, Drop)]
+pub enum Mode<F> {
     /// Commands over sixteen lists.
     List,
+    /// Commands over sixteen stacks.
+    Stack,
+    /// Commands over sixteen sorted lists: six with the least item first, five with the greatest first, and five by the
+    /// function, which must compare the quotients of the values by ten.
+    Sorted(F),
 }
 
 /// What the arguments ask for.
@@ -50,6 +60,10 @@ pub enum Mode {
 pub enum Choice {
     /// To run a script in mode `list`.
     List,
+    /// To run a script in mode `stack`.
+    Stack,
+    /// To run a script in mode `sorted`.
+    Sorted,
 }
 
 /// Reads the words after the program's name: exactly one, which names a mode. `None` means that they are not that.
@@ -58,6 +72,8 @@ pub fn choose(words: &[String]) -> Option<Choice>
 {
     match words {
         [word] if word.as_str() == "list" => Some(Choice::List),
+        [word] if word.as_str() == "stack" => Some(Choice::Stack),
+        [word] if word.as_str() == "sorted" => Some(Choice::Sorted),
         _ => None,
     }
 }
@@ -71,15 +87,17 @@ pub fn choose(words: &[String]) -> Option<Choice>
 ///
 /// The source is read in blocks of 65,536 bytes, and that is how much of the input and, but for one line's replies, of
 /// the replies waits in memory.
-pub fn run<I: Source, O: Sink>(
+pub fn run<F: Fn(&Item, &Item) -> Ordering + Copy, I: Source, O: Sink>(
     alloc: Global,
-    mode: Mode,
+    mode: Mode<F>,
     input: &mut I,
     output: &mut O,
 ) -> Result<(), Fault>
     requires reading { I.has_failed input.old → ⊥ }
     requires writing { O.has_failed output.old → ⊥ }
-    ensures { Runs list_machine (empty_table 16)
+    requires callable { IfSorted mode (λ by. F.IsAlwaysCallable by) }
+    requires tens { IfSorted mode (λ by. ComparesTens F.Fn by) }
+    ensures { RunsIn ⟦<Item as Ord>⟧.cmp mode
         (I.gives input.old input.new) (I.at_end input.new) (I.has_failed input.new)
         (O.takes output.old output.new) (O.has_failed output.new) result }
 {
@@ -88,7 +106,22 @@ pub fn run<I: Source, O: Sink>(
             let mut session = ListSession::new(alloc);
             run_script(alloc, &mut session, input, output)
         }
+        Mode::Stack => {
+            let mut session = StackSession::new(alloc);
+            run_script(alloc, &mut session, input, output)
+        }
+        Mode::Sorted(by) => {
+            let mut session = SortedSession::new(alloc, by);
+            run_script(alloc, &mut session, input, output)
+        }
     }
+}
+
+/// Compares the quotients of the values by ten.
+fn compare_tens(first: &Item, second: &Item) -> Ordering
+    ensures { result ≡ by_tens first.now second.now }
+{
+    (first.value / 10).cmp(&(second.value / 10))
 }
 
 /// The words after the program's name.
@@ -115,6 +148,8 @@ fn main(rt: HostRuntime) -> ExitCode {
     };
     let mode = match choice {
         Some(Choice::List) => Mode::List,
+        Some(Choice::Stack) => Mode::Stack,
+        Some(Choice::Sorted) => Mode::Sorted(compare_tens),
         None => {
             let _ = rt.eprintln(USAGE);
             return ExitCode::from(1);

@@ -2,8 +2,10 @@
 
 ghost use Rattle.std.specs.Prelude.{◌≤◌};
 
-use crate::{Choice, Fault, FromRead, Mode, ToWrite, USAGE, choose, run};
+use crate::{Choice, Fault, FromRead, Mode, ToWrite, USAGE, choose, compare_tens, run};
+use cordyceps::replay::Item;
 use std::alloc::Global;
+use std::cmp::Ordering;
 use std::io::{self, ErrorKind, Read, Write};
 use std::test::Fail;
 
@@ -52,12 +54,22 @@ impl Write for Paper {
     }
 }
 
-/// How a script in mode `list` ends, and what it writes.
-fn outcome(alloc: Global, script: Script) -> (Result<(), Fault>, Vec<u8>) {
+/// How a script ends, and what it writes.
+fn outcome_in(alloc: Global, choice: Choice, script: Script) -> (Result<(), Fault>, Vec<u8>) {
     let mut input = FromRead::new(script);
     let mut output = ToWrite::new(Vec::new(alloc));
-    let end = run(alloc, Mode::List, &mut input, &mut output);
+    let mode = match choice {
+        Choice::List => Mode::List,
+        Choice::Stack => Mode::Stack,
+        Choice::Sorted => Mode::Sorted(compare_tens),
+    };
+    let end = run(alloc, mode, &mut input, &mut output);
     (end, output.into_inner())
+}
+
+/// How a script in mode `list` ends, and what it writes.
+fn outcome(alloc: Global, script: Script) -> (Result<(), Fault>, Vec<u8>) {
+    outcome_in(alloc, Choice::List, script)
 }
 
 fn whole(bytes: &[u8]) -> Script<'_> {
@@ -67,6 +79,8 @@ fn whole(bytes: &[u8]) -> Script<'_> {
         fails: false,
     }
 }
+
+const LIST: Mode<fn(&Item, &Item) -> Ordering> = Mode::List;
 
 const STORED: &[u8] = b"pushb 0 1 1\npushb 0 2 2\npushf 0 3 3\npopf 0\npopb 0\nlen 0\npopf 1\n";
 
@@ -112,6 +126,115 @@ fn scripts(rt: HostRuntime) -> Result<(), Fail> {
         let (end, text) = outcome(rt.alloc(), whole(lines));
         assert_eq!(rt; end, ending, "at {lines:?}");
         assert_eq!(rt; text.as_slice(), expected, "at {lines:?}");
+    }
+    Ok(())
+}
+
+#[test]
+fn stack_scripts(rt: HostRuntime) -> Result<(), Fail> {
+    let table: [(&[u8], &[u8], Result<(), Fault>); 4] = [
+        (
+            b"push 0 1 1\npush 0 2 2\ntake 0 1\nempty 0\ndrain 1\n",
+            b"true\nfalse\nok\ntrue\nshow 2:2 1:1\n",
+            Ok(()),
+        ),
+        (
+            b"push 15 7 70\npush 15 7 71\npop 15\npop 15\npop 15\ndrain 15\nempty 15",
+            b"true\nfalse\nsome 7 71\nsome 7 70\nnone\nshow\ntrue\n",
+            Ok(()),
+        ),
+        (
+            b"push 0 1 1\npush 1 2 2\ntake 0 1\ntake 0 0\ntake 2 3\nempty 0\ndrain 1\n",
+            b"true\ntrue\nnot there\nnot there\nok\nfalse\nshow 2:2\n",
+            Ok(()),
+        ),
+        (
+            b"push 0 1 1\npushf 0 1 1\n",
+            b"true\n",
+            Err(Fault::BadLine(2)),
+        ),
+    ];
+    for (lines, expected, ending) in table {
+        let (end, text) = outcome_in(rt.alloc(), Choice::Stack, whole(lines));
+        assert_eq!(rt; end, ending, "at {lines:?}");
+        assert_eq!(rt; text.as_slice(), expected, "at {lines:?}");
+    }
+    Ok(())
+}
+
+#[test]
+fn sorted_scripts(rt: HostRuntime) -> Result<(), Fail> {
+    let table: [(&[u8], &[u8], Result<(), Fault>); 5] = [
+        (
+            b"from 11 1:21 2:11 3:12 4:20\nshow 11\n",
+            b"ok\nshow 3:12 2:11 4:20 1:21\n",
+            Ok(()),
+        ),
+        (
+            b"insert 0 1 20\ninsert 0 2 10\ninsert 0 3 20\nshow 0\npop 0\npop 0\npop 0\npop 0\nshow 0\n",
+            b"ok\nok\nok\nshow 2:10 1:20 3:20\nsome 2 10\nsome 1 20\nsome 3 20\nnone\nshow\n",
+            Ok(()),
+        ),
+        (
+            b"insert 6 1 20\ninsert 6 2 10\ninsert 6 3 20\nshow 6\nfrom 6 4:4\nfrom 10 4:4 5:5\nshow 10\n",
+            b"ok\nok\nok\nshow 3:20 1:20 2:10\nnot there\nok\nshow 5:5 4:4\n",
+            Ok(()),
+        ),
+        (
+            b"insert 15 1 21\ninsert 15 2 11\ninsert 15 3 12\ninsert 15 4 20\nshow 15",
+            b"ok\nok\nok\nok\nshow 2:11 3:12 1:21 4:20\n",
+            Ok(()),
+        ),
+        (
+            b"show 0\nfrom 0\n",
+            b"show\n",
+            Err(Fault::BadLine(2)),
+        ),
+    ];
+    for (lines, expected, ending) in table {
+        let (end, text) = outcome_in(rt.alloc(), Choice::Sorted, whole(lines));
+        assert_eq!(rt; end, ending, "at {lines:?}");
+        assert_eq!(rt; text.as_slice(), expected, "at {lines:?}");
+    }
+    Ok(())
+}
+
+#[test]
+fn long_pairs(rt: HostRuntime) -> Result<(), Fail> {
+    for (last, expected, ending) in [
+        (b"100:100".as_slice(), b"ok\n".as_slice(), Ok(())),
+        (b"100:1000", b"", Err(Fault::BadLine(1))),
+    ] {
+        let mut line = Vec::new(rt.alloc());
+        line.extend_from_slice(b"from 11 ")?;
+        for _ in 0..15u8 {
+            line.extend_from_slice(b"100:10 ")?;
+        }
+        line.extend_from_slice(last)?;
+        let (end, text) = outcome_in(rt.alloc(), Choice::Sorted, whole(&line));
+        assert_eq!(rt; end, ending);
+        assert_eq!(rt; text.as_slice(), expected);
+    }
+    Ok(())
+}
+
+#[test]
+fn bad_pairs(rt: HostRuntime) -> Result<(), Fail> {
+    let table: [&[u8]; 9] = [
+        b"from 0 1",
+        b"from 0 1:",
+        b"from 0 :1",
+        b"from 0 1:2:3",
+        b"from 0 1:1  2:2",
+        b"from 0 1:1 ",
+        b"from 16 1:1",
+        b"from 0 01:1",
+        b"from 1:1",
+    ];
+    for line in table {
+        let (end, text) = outcome_in(rt.alloc(), Choice::Sorted, whole(line));
+        assert_eq!(rt; end, Err(Fault::BadLine(1)), "at {line:?}");
+        assert_eq!(rt; text.len(), 0);
     }
     Ok(())
 }
@@ -245,7 +368,7 @@ fn failed_writes(rt: HostRuntime) -> Result<(), Fail> {
                 room,
                 fails,
             });
-            let end = run(rt.alloc(), Mode::List, &mut input, &mut output);
+            let end = run(rt.alloc(), LIST, &mut input, &mut output);
             let expected = if room < REPLIES.len() {
                 Err(Fault::Write)
             } else {
@@ -291,7 +414,7 @@ fn refused_memory(rt: HostRuntime) -> Result<(), Fail> {
         bytes: [0; 64],
         used: 0,
     });
-    let end = run(rt.alloc(), Mode::List, &mut input, &mut output);
+    let end = run(rt.alloc(), LIST, &mut input, &mut output);
     let page = output.into_inner();
     let text = &page.bytes[..page.used];
     if end == Ok(()) {
@@ -306,10 +429,12 @@ fn refused_memory(rt: HostRuntime) -> Result<(), Fail> {
 
 #[test]
 fn choices(rt: HostRuntime) -> Result<(), Fail> {
-    let table: [(&[&str], Option<Choice>); 7] = [
+    let table: [(&[&str], Option<Choice>); 9] = [
         (&[], None),
         (&["list"], Some(Choice::List)),
-        (&["stack"], None),
+        (&["stack"], Some(Choice::Stack)),
+        (&["sorted"], Some(Choice::Sorted)),
+        (&["transfer"], None),
         (&["List"], None),
         (&[""], None),
         (&["list", "list"], None),

@@ -43,7 +43,7 @@ pub fn structure_number(word: &[u8]) -> Option<u8>
 }
 
 /// The words of a line that were not read yet. Words are parted by exactly one space.
-#[derive(Drop)]
+#[derive(Clone, Copy)]
 pub struct Words<'a> {
     rest: Option<&'a [u8]>,
 }

@@ -7,9 +7,9 @@ ghost use Rattle.cordyceps.specs.Lists.{pushed, written, step, step_on, Fits, li
 ghost use Rattle.cordyceps.specs.Plays.{Plays};
 
 use crate::replay::item::Item;
+use crate::replay::nodes::node_of;
 use crate::replay::played::Played;
 use crate::replay::reply::{Reply, done, len_of, not_there, nothing, reply_of};
-use cordyceps_base::list::Links;
 use cordyceps_base::node::Node;
 use cordyceps_list::list::List;
 use std::alloc::{AllocError, Global};
@@ -51,16 +51,6 @@ impl ListCommand {
             ListCommand::SetFront(list, _) | ListCommand::SetBack(list, _) => *list,
             ListCommand::Len(list) => *list,
         }
-    }
-}
-
-/// A node with the item and its number, unless memory for it is refused.
-fn node_of(alloc: Global, item: Item) -> Result<Node<Item, Links<Item>>, AllocError>
-    ensures { IfOk result (λ node. node ≡ element_of item) }
-{
-    match Node::new(alloc, item.id, item) {
-        Ok(node) => Ok(node),
-        Err(_) => Err(AllocError),
     }
 }
 
@@ -204,7 +194,11 @@ impl Default for Lists {
 ///
 /// A command takes constant time. The replies take memory in the count of the commands, and
 /// making room for them takes constant time a command over the whole call.
-pub fn replay_lists(alloc: Global, lists: &mut Lists, commands: VecDeque<ListCommand>) -> Played<ListCommand>
+pub fn replay_lists(
+    alloc: Global,
+    lists: &mut Lists,
+    commands: VecDeque<ListCommand>,
+) -> Played<ListCommand>
     requires { All Fits commands.items }
     ensures { Plays step lists.old commands.items result.replies.items result.rest.items lists.new }
 {

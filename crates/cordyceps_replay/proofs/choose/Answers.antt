@@ -12,3 +12,13 @@ pub returns-in-len1 : goal.returns-in-len1
 returns-in-len1 c =
     let same = (bytes_eq-Decides c.as_str.result.now _).0 (sym c.eq.ensures ∙ c.if-eq.true) in
     single string_bytes c.args.words.now c.word-item.result _ (omega (arith, c.in-len1.len_at_least)) (omega (arith, c.in-len1.len_below)) c.word-item.is (sym c.as_str.ensures.value ∙ same)
+
+pub returns-in-len1-2 : goal.returns-in-len1-2
+returns-in-len1-2 c =
+    let same = (bytes_eq-Decides c.as_str-then-words-lt2.result.now _).0 (sym c.eq-then-words-lt2.ensures ∙ c.if-eq-2.true) in
+    single string_bytes c.args.words.now c.word-item-then-words-lt2.result _ (omega (arith, c.in-len1.len_at_least)) (omega (arith, c.in-len1.len_below)) c.word-item-then-words-lt2.is (sym c.as_str-then-words-lt2.ensures.value ∙ same)
+
+pub returns-in-len1-3 : goal.returns-in-len1-3
+returns-in-len1-3 c =
+    let same = (bytes_eq-Decides c.as_str-then-words-lt2-2.result.now _).0 (sym c.eq-then-words-lt2-2.ensures ∙ c.if-eq-3.true) in
+    single string_bytes c.args.words.now c.word-item-then-words-lt2-2.result _ (omega (arith, c.in-len1.len_at_least)) (omega (arith, c.in-len1.len_below)) c.word-item-then-words-lt2-2.is (sym c.as_str-then-words-lt2-2.ensures.value ∙ same)

@@ -2,14 +2,14 @@ use Rattle.std.proofs.Common.{◌≡◌, ◌∷◌, drop}
 use Rattle.std.proofs.lemmas.List.Elements.{All-drop}
 use Rattle.cordyceps.specs.Lists.{step, Fits}
 use Rattle.cordyceps.specs.Plays.{Plays}
-use Rattle.cordyceps.proofs.Plays.{plays_more, first_of}
+use Rattle.cordyceps.proofs.Plays.{plays_more, first_waiting}
 use Rattle.cordyceps.proofs.replay.lists.replay_lists.Goals as goal
 
 pub loop-command-preserved : goal.loop-command-preserved
 loop-command-preserved c =
     let waiting = c.loop-command.rest.items in
     let command = c.in-Some.command.now in
-    let split : waiting ≡ command ∷ drop 1 waiting = first_of waiting command c.in-Some.ensures.item.3.0 c.in-Some.ensures.lookup in
+    let split : waiting ≡ command ∷ drop 1 waiting = first_waiting waiting command c.in-Some.ensures.item.3.0 c.in-Some.ensures.lookup in
     let before : Plays step c.args.lists.now c.args.commands.items c.loop-command.replies.items (command ∷ drop 1 waiting) c.loop-command.lists = rw split at c.loop-command.invariant.played in
     let after = plays_more step c.args.lists.now c.loop-command.lists c.run.new.self c.args.commands.items (drop 1 waiting) c.loop-command.replies.items command c.in-Ok.reply before c.in-Ok.ensures.ok in
     record {

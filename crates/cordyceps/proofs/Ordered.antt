@@ -1,0 +1,147 @@
+-- Lists in order: what a command leaves is in order, and is what the command means.
+use Rattle.std.proofs.Common.{◌≡◌, ℕ, zero, suc, Bool, false, List, [], ◌∷◌, ◌++◌, length, map, drop, reverse, refl, ap, sym, ◌∙◌, subst, append_assoc, cond, Option, Some, None, nat_eq, nat_lt, slice_set, slice_index_or, ◌<◌, arith}
+use Rattle.std.specs.declared.cmp.Ordering.{Ordering}
+use Rattle.std.specs.Ordering.{is_gt}
+use Rattle.std.specs.List.Sorted.{IsSortedBy}
+use Rattle.std.proofs.lemmas.List.{append-nil}
+use Rattle.cordyceps_base.specs.Element.{Element, Elements}
+use Rattle.cordyceps_stack.specs.Arrangement.{less, StandsFor}
+use Rattle.cordyceps_stack.specs.Place.{NoneGreater}
+use Rattle.cordyceps_stack.specs.Preorder.{IsPreorder}
+use Rattle.cordyceps_stack.proofs.Preorder.{by_test, ranks}
+use Rattle.cordyceps_stack.proofs.Places.{stands_put}
+use Rattle.cordyceps_stack.proofs.Taken.{same_arrangement}
+use Rattle.cordyceps_stack.proofs.Arrangement.{arrangement_nil, ascends_from_sorted, sorted_from_ascends}
+use denote.Param.{read}
+use Rattle.std.specs.declared.cmp.Ord.Ghosts.{cmp}
+use Rattle.std.specs.Cmp.{back_total}
+use Rattle.cordyceps_stack.specs.Preorder.{preorder_from_total}
+use Rattle.cordyceps.specs.contracts.replay.item.ItemOrd.TheImpl.{ghosts}
+use Rattle.cordyceps.specs.contracts.replay.item.ItemOrd.TheImpl.Laws.{total-law}
+use Rattle.cordyceps.specs.declared.replay.item.Item.{Item}
+use Rattle.cordyceps.specs.declared.replay.sorteds.SortedCommand.{SortedCommand}
+use Rattle.cordyceps.specs.declared.replay.sorteds.SortedCommand.TheVariants as commands
+use Rattle.cordyceps.specs.Replies.{Line, done, not_there}
+use Rattle.cordyceps.specs.Tables.{Table, empty_table, element_of, held_at}
+use Rattle.cordyceps.specs.Sorteds.{contents, order_of, put, put_all, made_of, filled, step_on, step, list_of, AreInOrder}
+
+-- the order of items
+abbrev pub own : Item → Item → Ordering
+own = read (cmp {X-1 = Item}) ghosts
+
+none_greater_behind : (cmp : Item → Item → Ordering) (v : Item) (front : Elements Item) (x : Element Item) → NoneGreater cmp v front → is_gt (cmp x.value v) ≡ false → NoneGreater cmp v (front ++ x ∷ [])
+none_greater_behind cmp v [] x none is = (is, tt)
+none_greater_behind cmp v (y ∷ front) x none is = (none.0, none_greater_behind cmp v front x none.1 is)
+
+module _ {cmp : Item → Item → Ordering} (o : IsPreorder cmp) where
+  -- an element that is put in behind some front with nothing greater
+  stands_behind : (front s a : Elements Item) (e : Element Item) → NoneGreater cmp e.value front → StandsFor cmp (front ++ s) a → StandsFor cmp (front ++ put cmp s e) (a ++ e ∷ [])
+  stands_behind front [] a e none h = stands_put o front [] a e none tt h
+  stands_behind front (x ∷ s) a e none h =
+      by_test (is_gt (cmp x.value e.value))
+      (λ t. subst (λ b. StandsFor cmp (front ++ cond b (e ∷ x ∷ s) (x ∷ put cmp s e)) (a ++ e ∷ [])) (sym t) (stands_put o front (x ∷ s) a e none t h))
+      (λ f.
+      let before = subst (λ l. StandsFor cmp l a) (sym (append_assoc front (x ∷ []) s)) h in
+      let after = stands_behind (front ++ x ∷ []) s a e (none_greater_behind cmp e.value front x none f) before in
+      subst (λ b. StandsFor cmp (front ++ cond b (e ∷ x ∷ s) (x ∷ put cmp s e)) (a ++ e ∷ [])) (sym f) (subst (λ l. StandsFor cmp l (a ++ e ∷ [])) (append_assoc front (x ∷ []) (put cmp s e)) after))
+
+  put_stands : (s a : Elements Item) (e : Element Item) → StandsFor cmp s a → StandsFor cmp (put cmp s e) (a ++ e ∷ [])
+  put_stands s a e h = stands_behind [] s a e tt h
+
+  put_all_stands : (s a more : Elements Item) → StandsFor cmp s a → StandsFor cmp (put_all cmp s more) (a ++ more)
+  put_all_stands s a [] h = subst (λ l. StandsFor cmp s l) (sym (append-nil a)) h
+  put_all_stands s a (e ∷ more) h = subst (λ l. StandsFor cmp (put_all cmp (put cmp s e) more) l) (append_assoc a (e ∷ []) more) (put_all_stands (put cmp s e) (a ++ e ∷ []) more (put_stands s a e h))
+
+  -- a list in order stands for itself
+  pub stands_for_itself : (s : Elements Item) → IsSortedBy (less cmp) s → StandsFor cmp s s
+  stands_for_itself s h = record { in_order = h; stable = λ x. refl }
+
+  -- what stands for a list in order and one more element is that list with the element put in
+  pub is_put : (s t : Elements Item) (e : Element Item) → IsSortedBy (less cmp) s → StandsFor cmp t (s ++ e ∷ []) → t ≡ put cmp s e
+  is_put s t e h stands = same_arrangement o (s ++ e ∷ []) t (put cmp s e) stands (put_stands s s e (stands_for_itself s h))
+
+  -- what stands for a stack is the empty list with the stack's elements put in
+  pub is_put_all : (t stack : Elements Item) → StandsFor cmp t stack → t ≡ put_all cmp [] stack
+  is_put_all t stack stands = same_arrangement o stack t (put_all cmp [] stack) stands (put_all_stands [] [] stack (arrangement_nil (less cmp)))
+
+  -- what a command leads to, where the list is made of a stack
+  pub made_is : (s t stack : Elements Item) (made : Option (Elements Item)) (lines : List Line) (outcome : Elements Item × List Line) → (made_of cmp s made, lines) ≡ outcome → made ≡ Some stack → StandsFor cmp t stack → (t, lines) ≡ outcome
+  made_is s t stack made lines outcome means is stands = ap (λ l. (l, lines)) (is_put_all t stack stands ∙ ap (made_of cmp s) (sym is)) ∙ means
+
+  put_in_order : (s : Elements Item) (e : Element Item) → IsSortedBy (less cmp) s → IsSortedBy (less cmp) (put cmp s e)
+  put_in_order s e h = (put_stands s s e (stands_for_itself s h)).in_order
+
+  rest_in_order : (s : Elements Item) → IsSortedBy (less cmp) s → IsSortedBy (less cmp) (drop 1 s)
+  rest_in_order [] h = h
+  rest_in_order (x ∷ s) h = sorted_from_ascends (less cmp) s (ascends_from_sorted (less cmp) (ranks o (λ e. e.value)) (x ∷ s) h).1
+
+  filled_in_order : (items : List Item) (s : Elements Item) → IsSortedBy (less cmp) s → IsSortedBy (less cmp) (filled cmp items s).0
+  filled_in_order items s h =
+      let all = put_all cmp [] (map element_of (reverse items)) in
+      let outcome : Bool → Elements Item × List Line = λ b. cond b (all, done ∷ []) (s, not_there ∷ []) in
+      let InOrder : Bool → Type 0 = λ b. IsSortedBy (less cmp) (outcome b).0 in
+      by_test (nat_eq (length s) 0) (λ t. subst InOrder (sym t) (put_all_stands [] [] (map element_of (reverse items)) (arrangement_nil (less cmp))).in_order) (λ f. subst InOrder (sym f) h)
+
+  -- a command leaves its list in order
+  pub step_on_in_order : (s : Elements Item) (command : SortedCommand) → IsSortedBy (less cmp) s → IsSortedBy (less cmp) (step_on cmp s command).0
+  step_on_in_order s (commands.Insert list item) h = put_in_order s (element_of item) h
+  step_on_in_order s (commands.PopFront list) h = rest_in_order s h
+  step_on_in_order s (commands.Show list) h = h
+  step_on_in_order s (commands.FromStack list items) h = filled_in_order items.items s h
+
+-- what a command leads to, where no list is made
+pub left_is : (cmp : Item → Item → Ordering) (s : Elements Item) (made : Option (Elements Item)) (lines : List Line) (outcome : Elements Item × List Line) → (made_of cmp s made, lines) ≡ outcome → made ≡ None → (s, lines) ≡ outcome
+left_is cmp s made lines outcome means is = ap (λ l. (l, lines)) (ap (made_of cmp s) (sym is)) ∙ means
+
+-- items in their order, and in that the other way round
+pub item_order : IsPreorder own
+item_order = preorder_from_total total-law
+
+pub item_order_back : IsPreorder (λ x y. own y x)
+item_order_back = preorder_from_total (back_total total-law)
+
+-- each list has a total preorder, where the caller's is one
+pub each_is_preorder : (cmp : Item → Item → Ordering) → IsPreorder cmp → (n : ℕ) → IsPreorder (order_of own cmp n)
+each_is_preorder cmp o n =
+    by_test (nat_lt n 6)
+    (λ t. subst (λ b. IsPreorder (cond b own (cond (nat_lt n 11) (λ x y. own y x) cmp))) (sym t) item_order)
+    (λ f. subst (λ b. IsPreorder (cond b own (cond (nat_lt n 11) (λ x y. own y x) cmp))) (sym f) (by_test (nat_lt n 11) (λ t. subst (λ b. IsPreorder (cond b (λ x y. own y x) cmp)) (sym t) item_order_back) (λ g. subst (λ b. IsPreorder (cond b (λ x y. own y x) cmp)) (sym g) o)))
+
+-- what holds of each structure holds once one of them holds something else of which it holds
+held_after : (Holds : ℕ → Elements Item → Type 0) (table : Table) (n : ℕ) (s : Elements Item) → ((m : ℕ) → Holds m (held_at table m)) → Holds n s → (m : ℕ) → Holds m (held_at (slice_set table n s) m)
+held_after Holds [] n s each here m = each m
+held_after Holds (row ∷ table) zero s each here zero = here
+held_after Holds (row ∷ table) zero s each here (suc m) = each (suc m)
+held_after Holds (row ∷ table) (suc n) s each here zero = each zero
+held_after Holds (row ∷ table) (suc n) s each here (suc m) = held_after (λ k. Holds (suc k)) table n s (λ k. each (suc k)) here m
+
+-- a command leaves each list in order
+step_in_order : (order : ℕ → Item → Item → Ordering) → ((n : ℕ) → IsPreorder (order n)) → (table : Table) (command : SortedCommand) → AreInOrder order table → AreInOrder order (step order table command).0
+step_in_order order each table command h =
+    let n = list_of command in
+    held_after (λ m s. IsSortedBy (less (order m)) s) table n (step_on (order n) (held_at table n) command).0 h (step_on_in_order (each n) (held_at table n) command (h n))
+
+-- the same of what a command was found to lead to
+pub stays_in_order : (order : ℕ → Item → Item → Ordering) → ((n : ℕ) → IsPreorder (order n)) → (table after : Table) (lines : List Line) (command : SortedCommand) → (after, lines) ≡ step order table command → AreInOrder order table → AreInOrder order after
+stays_in_order order each table after lines command is_step h =
+    let is : (step order table command).0 ≡ after = ap (λ (p : Table × List Line). p.0) (sym is_step) in
+    subst (AreInOrder order) is (step_in_order order each table command h)
+
+held_in_empty : (k n : ℕ) → held_at (empty_table k) n ≡ []
+held_in_empty zero n = refl
+held_in_empty (suc k) zero = refl
+held_in_empty (suc k) (suc n) = held_in_empty k n
+
+-- empty lists are in any order
+pub empty_in_order : (order : ℕ → Item → Item → Ordering) (k : ℕ) → AreInOrder order (empty_table k)
+empty_in_order order k n = subst (IsSortedBy (less (order n))) (sym (held_in_empty k n)) (arrangement_nil (less (order n))).in_order
+
+-- lists that hold nothing are so many empty ones
+pub contents_empty : {O : Type 0} (d : Elements Item × O) (lists : List (Elements Item × O)) (n : ℕ) → length lists ≡ n → ((i : ℕ) → i < n → (slice_index_or lists i d).0 ≡ []) → contents lists ≡ empty_table n
+contents_empty d [] zero long each = refl
+contents_empty d [] (suc n) long each = absurd cc
+contents_empty d (list ∷ lists) zero long each = absurd cc
+contents_empty d (list ∷ lists) (suc n) long each =
+    let first : list.0 ≡ [] = each 0 (omega arith) in
+    let others : contents lists ≡ empty_table n = contents_empty d lists n (omega arith) (λ i lt. each (suc i) (omega arith)) in
+    cc

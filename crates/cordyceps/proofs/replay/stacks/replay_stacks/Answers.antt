@@ -1,0 +1,18 @@
+use Rattle.std.proofs.Common.{◌≡◌, ◌∷◌, drop}
+use Rattle.std.proofs.lemmas.List.Elements.{All-drop}
+use Rattle.cordyceps.specs.Stacks.{step, Fits}
+use Rattle.cordyceps.specs.Plays.{Plays}
+use Rattle.cordyceps.proofs.Plays.{plays_more, first_waiting}
+use Rattle.cordyceps.proofs.replay.stacks.replay_stacks.Goals as goal
+
+pub loop-command-preserved : goal.loop-command-preserved
+loop-command-preserved c =
+    let waiting = c.loop-command.rest.items in
+    let command = c.in-Some.command.now in
+    let split : waiting ≡ command ∷ drop 1 waiting = first_waiting waiting command c.in-Some.ensures.item.3.0 c.in-Some.ensures.lookup in
+    let before : Plays step c.args.stacks.now c.args.commands.items c.loop-command.replies.items (command ∷ drop 1 waiting) c.loop-command.stacks = rw split at c.loop-command.invariant.played in
+    let after = plays_more step c.args.stacks.now c.loop-command.stacks c.run.new.self c.args.commands.items (drop 1 waiting) c.loop-command.replies.items command c.in-Ok.reply before c.in-Ok.ensures.ok in
+    record {
+      played = rw (c.pop_front.ensures.rest, c.in-Ok-push.ensures.items, c.reserve.ensures.items) after;
+      fit = rw c.pop_front.ensures.rest (All-drop Fits 1 waiting c.loop-command.invariant.fit);
+    }
