@@ -1,6 +1,10 @@
+pub mod Blocks
 pub mod Ends
+pub mod Filters
+pub mod Keys
 pub mod Ordered
+pub mod Places
 pub mod Plays
 pub mod Replies
 pub mod Sorteds
-pub mod Keys
+pub mod Walks

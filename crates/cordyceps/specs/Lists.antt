@@ -1,11 +1,14 @@
 -- What commands do to a table of lists.
-use Rattle.std.specs.Prelude.{ℕ, ◌<◌, ◌-◌, List, [], ◌∷◌, ◌++◌, length, take, drop, Option, Some, None, slice_get, if◌then◌else◌, nat_lt}
-use Rattle.cordyceps_base.specs.Element.{Elements, values, with_value}
+use Rattle.std.specs.Prelude.{ℕ, ◌+◌, ◌<◌, ◌-◌, true, not, ◌&&◌, List, [], ◌∷◌, ◌++◌, length, map, take, drop, Option, Some, None, option_map, slice_get, slice_set, if◌then◌else◌, nat_eq, nat_lt, nat_le}
+use Rattle.cordyceps_base.specs.Element.{Elements, values, with_value, found, without}
 use Rattle.cordyceps.specs.declared.replay.item.Item.{Item}
-use Rattle.cordyceps.specs.declared.replay.lists.ListCommand.{ListCommand}
-use Rattle.cordyceps.specs.declared.replay.lists.ListCommand.TheVariants as commands
-use Rattle.cordyceps.specs.Replies.{Line, done, nothing, len, not_there, found_or_nothing}
-use Rattle.cordyceps.specs.Tables.{Table, element_of, on}
+use Rattle.cordyceps.specs.declared.replay.list_command.ListCommand.{ListCommand}
+use Rattle.cordyceps.specs.declared.replay.list_command.ListCommand.TheVariants as commands
+use Rattle.cordyceps.specs.Replies.{Line, done, nothing, len, show, not_there, found_or_nothing}
+use Rattle.cordyceps.specs.Tables.{Table, element_of, held_at, on}
+use Rattle.cordyceps.specs.Walks.{walked, bumped}
+use Rattle.cordyceps.specs.Filters.{drained}
+use Rattle.cordyceps.specs.Blocks.{block, BlockFits}
 
 -- the elements after a push, which has its condition: the length is below the largest `usize`
 abbrev pub pushed : Elements Item → Elements Item → Elements Item × List Line
@@ -16,7 +19,11 @@ abbrev pub written : Elements Item → ℕ → Option Item → ℕ → Elements 
 written s k None value = (s, nothing ∷ [])
 written s k (Some item) value = (with_value s k (record item { value = value }), done ∷ [])
 
--- the elements of a list after a command on it, and the replies to the command's lines
+-- what was taken out is shown, and the rest stays
+abbrev pub shown : List Item × Elements Item → Elements Item × List Line
+shown split = (split.1, show (map Some split.0) ∷ [])
+
+-- The elements of a list after a command on it alone, and the replies to the command's lines. The other commands are not run so.
 abbrev pub step_on : Elements Item → ListCommand → Elements Item × List Line
 step_on s (commands.PushFront list item) = pushed s (element_of item ∷ s)
 step_on s (commands.PushBack list item) = pushed s (s ++ element_of item ∷ [])
@@ -27,8 +34,34 @@ step_on s (commands.Back list) = (s, found_or_nothing (slice_get (values s) (len
 step_on s (commands.SetFront list value) = written s 0 (slice_get (values s) 0) value
 step_on s (commands.SetBack list value) = written s (length s - 1) (slice_get (values s) (length s - 1)) value
 step_on s (commands.Len list) = (s, len (length s) ∷ [])
+step_on s (commands.Remove list id) = (without id s, found_or_nothing (option_map (λ e. e.value) (found id s)) ∷ [])
+step_on s (commands.Bump list by) = (bumped by s, done ∷ [])
+step_on s (commands.Walk list turns) = (s, show (walked turns.items (values s)) ∷ [])
+step_on s (commands.Into list turns) = ([], show (walked turns.items (values s)) ∷ [])
+step_on s (commands.Drain list filter limit) = shown (drained filter limit true s 0)
+step_on s (commands.Show list) = (s, show (map Some (values s)) ∷ [])
+step_on s command = (s, not_there ∷ [])
 
--- the number of the list that a command names
+-- all that the second list holds goes behind the first, where these are two and the sum of the lengths fits
+abbrev pub appended : Table → ℕ → ℕ → Table × List Line
+appended table list other =
+    if not (nat_eq list other) && nat_le (length (held_at table list) + length (held_at table other)) 18446744073709551615
+    then (slice_set (slice_set table other []) list (held_at table list ++ held_at table other), done ∷ [])
+    else (table, not_there ∷ [])
+
+-- so many elements stay, if there are as many, and the others go to the second list
+abbrev pub halved : Table → ℕ → ℕ → ℕ → Table × List Line
+halved table list at other =
+    if nat_le at (length (held_at table list))
+    then (slice_set (slice_set table list (take at (held_at table list))) other (drop at (held_at table list)), done ∷ [])
+    else (table, nothing ∷ [])
+
+-- the same, where these are two lists and the second is empty
+abbrev pub split : Table → ℕ → ℕ → ℕ → Table × List Line
+split table list at other =
+    if not (nat_eq list other) && nat_eq (length (held_at table other)) 0 then halved table list at other else (table, not_there ∷ [])
+
+-- the number of the list that a command names first
 abbrev pub list_of : ListCommand → ℕ
 list_of (commands.PushFront list item) = list
 list_of (commands.PushBack list item) = list
@@ -39,11 +72,31 @@ list_of (commands.Back list) = list
 list_of (commands.SetFront list value) = list
 list_of (commands.SetBack list value) = list
 list_of (commands.Len list) = list
+list_of (commands.Append list other) = list
+list_of (commands.Split list at other) = list
+list_of (commands.Remove list id) = list
+list_of (commands.Bump list by) = list
+list_of (commands.Walk list turns) = list
+list_of (commands.Into list turns) = list
+list_of (commands.Drain list filter limit) = list
+list_of (commands.Show list) = list
+list_of (commands.Cursor list end lines) = list
 
--- it names one of sixteen lists
-abbrev pub Fits : ListCommand → Type 0
-Fits command = list_of command < 16
+-- each list that the command names beside its first is one of sixteen, and in a block an end stands only last
+abbrev pub OthersFit : ListCommand → Type 0
+OthersFit (commands.Append list other) = other < 16
+OthersFit (commands.Split list at other) = other < 16
+OthersFit (commands.Cursor list end lines) = BlockFits lines.items
+OthersFit command = Unit {0}
+
+-- it names lists among sixteen
+pub record Fits (command : ListCommand) : Type 0 where
+  pub first : list_of command < 16
+  pub others : OthersFit command
 
 -- the table after a command, and the replies to the command's lines
 abbrev pub step : Table → ListCommand → Table × List Line
+step table (commands.Append list other) = appended table list other
+step table (commands.Split list at other) = split table list at other
+step table (commands.Cursor list end lines) = block table list end lines.items
 step table command = on table (list_of command) (λ s. step_on s command)

@@ -4,6 +4,8 @@
 #[cfg(test)]
 mod asked;
 #[cfg(test)]
+mod block_replays;
+#[cfg(test)]
 mod chains;
 #[cfg(test)]
 mod counted;

@@ -1,58 +1,25 @@
 //! Commands on a table of lists.
-ghost use Rattle.std.specs.Prelude.{◌≡◌, ◌++◌, ◌∷◌, [], ◌-◌, length, take, drop, All, IfOk, OnErr, slice_get};
+ghost use Rattle.std.specs.Prelude.{◌≡◌, ◌++◌, ◌∷◌, [], ◌-◌, ◌<◌, length, take, drop, All, IfOk, OnErr, slice_get};
 ghost use Rattle.cordyceps_base.specs.Element.{values};
 ghost use Rattle.cordyceps.specs.Replies.{lines_of, found_or_nothing};
 ghost use Rattle.cordyceps.specs.Tables.{empty_table, element_of};
-ghost use Rattle.cordyceps.specs.Lists.{pushed, written, step, step_on, Fits, list_of};
+ghost use Rattle.cordyceps.specs.Lists.{pushed, written, appended, split, step, step_on, Fits};
 ghost use Rattle.cordyceps.specs.Plays.{Plays};
 
+use crate::replay::blocks::run_block;
+use crate::replay::filters::drain;
 use crate::replay::item::Item;
+use crate::replay::list_command::ListCommand;
 use crate::replay::nodes::node_of;
 use crate::replay::played::Played;
 use crate::replay::reply::{Reply, done, len_of, not_there, nothing, reply_of};
+use crate::replay::walks::{bump, show, walk, walk_into};
 use cordyceps_base::node::Node;
 use cordyceps_list::list::List;
 use std::alloc::{AllocError, Global};
 use std::collections::VecDeque;
 use std::marker::Model;
-
-/// One command on lists. Its first field is the number of the list, from 0 to 15.
-#[derive(Debug, PartialEq, Eq, Drop)]
-pub enum ListCommand {
-    /// Puts the item at the front, if the list's length is below `usize::MAX`: `Done` or `NotThere`.
-    PushFront(u8, Item),
-    /// Puts the item at the back, if the list's length is below `usize::MAX`: `Done` or `NotThere`.
-    PushBack(u8, Item),
-    /// Takes out the first item: `Found`, or `Nothing` where the list is empty.
-    PopFront(u8),
-    /// Takes out the last item: `Found`, or `Nothing` where the list is empty.
-    PopBack(u8),
-    /// Looks at the first item: `Found`, or `Nothing` where the list is empty.
-    Front(u8),
-    /// Looks at the last item: `Found`, or `Nothing` where the list is empty.
-    Back(u8),
-    /// Gives the first item another value: `Done`, or `Nothing` where the list is empty.
-    SetFront(u8, u64),
-    /// Gives the last item another value: `Done`, or `Nothing` where the list is empty.
-    SetBack(u8, u64),
-    /// Counts the items: `Len`.
-    Len(u8),
-}
-
-impl ListCommand {
-    /// The number of the list that the command names.
-    fn list(&self) -> u8
-        ensures { result ≡ list_of self.now }
-    {
-        match self {
-            ListCommand::PushFront(list, _) | ListCommand::PushBack(list, _) => *list,
-            ListCommand::PopFront(list) | ListCommand::PopBack(list) => *list,
-            ListCommand::Front(list) | ListCommand::Back(list) => *list,
-            ListCommand::SetFront(list, _) | ListCommand::SetBack(list, _) => *list,
-            ListCommand::Len(list) => *list,
-        }
-    }
-}
+use std::mem;
 
 /// Puts an item at the front, unless memory for its node is refused.
 fn push_front(alloc: Global, list: &mut List<Item>, item: Item) -> Result<Reply, AllocError>
@@ -121,7 +88,8 @@ fn set_back(list: &mut List<Item>, value: u64) -> Reply
     done()
 }
 
-/// Runs a command on its list, unless memory for it is refused.
+/// Runs a command on its list alone, unless memory for it is refused. Blocks, and commands that name a second list, are
+/// not run here.
 fn run_on(alloc: Global, list: &mut List<Item>, command: &ListCommand) -> Result<Reply, AllocError>
     ensures ok { IfOk result (λ reply. (list.new, lines_of reply) ≡ step_on list.old command.now) }
     ensures err { OnErr result (list.new ≡ list.old) }
@@ -136,7 +104,45 @@ fn run_on(alloc: Global, list: &mut List<Item>, command: &ListCommand) -> Result
         ListCommand::SetFront(_, value) => Ok(set_front(list, *value)),
         ListCommand::SetBack(_, value) => Ok(set_back(list, *value)),
         ListCommand::Len(_) => Ok(len_of(list.len())),
+        ListCommand::Remove(_, id) => Ok(reply_of(list.remove(*id).map(Node::into_value))),
+        ListCommand::Bump(_, by) => Ok(bump(list, *by)),
+        ListCommand::Walk(_, turns) => walk(alloc, list, turns),
+        ListCommand::Into(_, turns) => walk_into(alloc, list, turns),
+        ListCommand::Drain(_, filter, limit) => drain(alloc, list, *filter, *limit),
+        ListCommand::Show(_) => show(alloc, list),
+        ListCommand::Append(_, _) | ListCommand::Split(_, _, _) => Ok(not_there()),
+        ListCommand::Cursor(_, _, _) => Ok(not_there()),
     }
+}
+
+/// Moves all items of the second list behind those of the first.
+fn append(lists: &mut [List<Item>], list: usize, other: usize) -> Reply
+    requires list { list < length lists.old }
+    requires other { other < length lists.old }
+    ensures { (lists.new, lines_of result) ≡ appended lists.old list other }
+{
+    if list == other || lists[list].len() > usize::MAX - lists[other].len() {
+        return not_there();
+    }
+    let mut more = mem::replace(&mut lists[other], List::new());
+    lists[list].append(&mut more);
+    done()
+}
+
+/// Keeps so many items, and moves the others to the second list.
+fn split(lists: &mut [List<Item>], list: usize, at: usize, other: usize) -> Reply
+    requires list { list < length lists.old }
+    requires other { other < length lists.old }
+    ensures { (lists.new, lines_of result) ≡ split lists.old list at other }
+{
+    if list == other || lists[other].len() != 0 {
+        return not_there();
+    }
+    let Some(rest) = lists[list].try_split_off(at) else {
+        return nothing();
+    };
+    lists[other] = rest;
+    done()
 }
 
 /// Sixteen lists of items, numbered from 0. Lists without items take no memory.
@@ -171,8 +177,24 @@ impl Lists {
         ensures ok { IfOk result (λ reply. (self.new, lines_of reply) ≡ step self.old command.now) }
         ensures err { OnErr result (self.new ≡ self.old) }
     {
-        let list = &mut self.lists[command.list() as usize];
-        run_on(alloc, list, command)
+        match command {
+            ListCommand::Append(list, other) => {
+                Ok(append(&mut self.lists, *list as usize, *other as usize))
+            }
+            ListCommand::Split(list, at, other) => Ok(split(
+                &mut self.lists,
+                *list as usize,
+                *at as usize,
+                *other as usize,
+            )),
+            ListCommand::Cursor(list, end, lines) => {
+                run_block(alloc, &mut self.lists, *list as usize, *end, lines)
+            }
+            _ => {
+                let list = &mut self.lists[command.list() as usize];
+                run_on(alloc, list, command)
+            }
+        }
     }
 }
 
@@ -185,15 +207,23 @@ impl Default for Lists {
     }
 }
 
-/// Runs the commands in order. Each of them must name one of the lists 0 to 15.
+/// Takes the first command out.
+fn pass(commands: &mut VecDeque<ListCommand>)
+    ensures { commands.new.items ≡ drop 1 commands.old.items }
+{
+    commands.pop_front();
+}
+
+/// Runs the commands in order. Each list that a command names must be one of the lists 0 to 15, and in a block an `End`
+/// must stand last.
 ///
-/// Before a command is run, the room for its reply is made and, where it puts an item into a
-/// list, the item's node. If that memory is refused, the call ends: the rest begins with that
-/// command, which has changed nothing, and the commands before it stay done. The rest may be
-/// played on the same lists later.
+/// Before a command is run, the room for its reply is made, and the node of each item that it puts into a list. If that
+/// memory is refused, the call ends: the rest begins with that command, which has changed nothing, and the commands
+/// before it stay done. The rest may be played on the same lists later. A block is one command.
 ///
-/// A command takes constant time. The replies take memory in the count of the commands, and
-/// making room for them takes constant time a command over the whole call.
+/// A command takes the time of its call. On the ends of a list that is constant, and so it is for `Append` and for each
+/// line of a block but `RemoveFirst`; the others walk along the list. The replies take memory in the count of the
+/// commands and of what they show, and making room for them takes constant time a command over the whole call.
 pub fn replay_lists(
     alloc: Global,
     lists: &mut Lists,
@@ -214,7 +244,7 @@ pub fn replay_lists(
         let Ok(()) = replies.push(reply) else {
             unreachable!()
         };
-        rest.pop_front();
+        pass(&mut rest);
     }
     Played { replies, rest }
 }
