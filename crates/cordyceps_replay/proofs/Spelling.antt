@@ -5,13 +5,13 @@ use Rattle.std.specs.List.{AllByRecursion, join_with_byte}
 use Rattle.std.specs.Char.{is_ascii_digit}
 use Rattle.std.specs.Str.{bytes_eq, all_ascii_digits}
 use Rattle.std.specs.Fmt.{decimal}
-use Rattle.std.proofs.lemmas.Bool.{lt-ltb, ne_eqb}
+use Rattle.std.proofs.lemmas.Bool.{lt-ltb, ltb-true, ne_eqb}
 use Rattle.std.proofs.lemmas.List.Elements.{All-from_recursion}
 use Rattle.std.proofs.lemmas.List.Splits.{slice_split_at, slice_split_none, join_with_byte-slice_split}
 use Rattle.std.proofs.lemmas.Slice.Eq.{bytes_eq-Decides}
 use Rattle.cordyceps.specs.declared.replay.item.Item.{Item}
-use Rattle.cordyceps.specs.declared.replay.lists.ListCommand.{ListCommand}
-use Rattle.cordyceps.specs.declared.replay.lists.ListCommand.TheVariants as commands
+use Rattle.cordyceps.specs.declared.replay.list_command.ListCommand.{ListCommand}
+use Rattle.cordyceps.specs.declared.replay.list_command.ListCommand.TheVariants as commands
 use Rattle.cordyceps.specs.Lists.{Fits}
 use Rattle.cordyceps_replay.specs.declared.list_command.Verb.{Verb}
 use Rattle.cordyceps_replay.specs.declared.list_command.Verb.TheVariants as verbs
@@ -122,6 +122,66 @@ command_words verbs.SetBack ws command is =
 command_words verbs.Len ws command is =
     let (l, found, made) = mapped (λ l. commands.Len l) (structure_of ws) command is in rw (← made) (ap (λ (t : List (List ℕ)). codes "len" ∷ t) (list_words ws l found))
 
+below_16 : (number : Option ℕ) (n : ℕ) → option_and_then (λ m. if nat_lt m 16 then Some m else None) number ≡ Some n → n < 16
+below_16 None n is = cc
+below_16 (Some m) n is =
+    let (test, same) = from_if (nat_lt m 16) (Some m) n is in
+    let e : m ≡ n = cc in
+    rw (← e) (ltb-true m 16 test)
+
+number_fits : (word : List ℕ) (n : ℕ) → structure_number_of word ≡ Some n → n < 16
+number_fits word n is = below_16 (number_of word) n is
+
+structure_fits : (ws : List (List ℕ)) (l : ℕ) → structure_of ws ≡ Some l → l < 16
+structure_fits [] l is = cc
+structure_fits (word ∷ []) l is = number_fits word l is
+structure_fits (word ∷ next ∷ ws) l is = cc
+
+item_fits : (ws : List (List ℕ)) (x : ℕ × Item) → structure_and_item_of ws ≡ Some x → x.0 < 16
+item_fits [] x is = cc
+item_fits (list ∷ ws) x is =
+    let (l, read, rest) = chained (λ l. option_map (λ item. (l, item)) (item_of ws)) (structure_number_of list) x is in
+    let (item, found, made) = mapped (λ item. (l, item)) (item_of ws) x rest in
+    rw (← made) (number_fits list l read)
+
+value_fits : (ws : List (List ℕ)) (x : ℕ × ℕ) → list_and_value_of ws ≡ Some x → x.0 < 16
+value_fits [] x is = cc
+value_fits (list ∷ []) x is = cc
+value_fits (list ∷ value ∷ []) x is =
+    let (l, read, rest) = chained (λ l. option_map (λ v. (l, v)) (number_of value)) (structure_number_of list) x is in
+    let (v, found, made) = mapped (λ v. (l, v)) (number_of value) x rest in
+    rw (← made) (number_fits list l read)
+value_fits (list ∷ value ∷ next ∷ ws) x is = cc
+
+fits_with : (v : Verb) (ws : List (List ℕ)) (command : ListCommand) → command_with v ws ≡ Some command → Fits command
+fits_with verbs.PushFront ws command is =
+    let (x, found, made) = mapped (λ x. commands.PushFront x.0 x.1) (structure_and_item_of ws) command is in rw (← made) (record { first = item_fits ws x found; others = tt })
+fits_with verbs.PushBack ws command is =
+    let (x, found, made) = mapped (λ x. commands.PushBack x.0 x.1) (structure_and_item_of ws) command is in rw (← made) (record { first = item_fits ws x found; others = tt })
+fits_with verbs.PopFront ws command is =
+    let (x, found, made) = mapped (λ l. commands.PopFront l) (structure_of ws) command is in rw (← made) (record { first = structure_fits ws x found; others = tt })
+fits_with verbs.PopBack ws command is =
+    let (x, found, made) = mapped (λ l. commands.PopBack l) (structure_of ws) command is in rw (← made) (record { first = structure_fits ws x found; others = tt })
+fits_with verbs.Front ws command is =
+    let (x, found, made) = mapped (λ l. commands.Front l) (structure_of ws) command is in rw (← made) (record { first = structure_fits ws x found; others = tt })
+fits_with verbs.Back ws command is =
+    let (x, found, made) = mapped (λ l. commands.Back l) (structure_of ws) command is in rw (← made) (record { first = structure_fits ws x found; others = tt })
+fits_with verbs.SetFront ws command is =
+    let (x, found, made) = mapped (λ x. commands.SetFront x.0 x.1) (list_and_value_of ws) command is in rw (← made) (record { first = value_fits ws x found; others = tt })
+fits_with verbs.SetBack ws command is =
+    let (x, found, made) = mapped (λ x. commands.SetBack x.0 x.1) (list_and_value_of ws) command is in rw (← made) (record { first = value_fits ws x found; others = tt })
+fits_with verbs.Len ws command is =
+    let (x, found, made) = mapped (λ l. commands.Len l) (structure_of ws) command is in rw (← made) (record { first = structure_fits ws x found; others = tt })
+
+words_fit : (ws : List (List ℕ)) (command : ListCommand) → command_of_words ws ≡ Some command → Fits command
+words_fit [] command is = cc
+words_fit (word ∷ ws) command is =
+    let (v, read, rest) = chained (λ v. command_with v ws) (verb_of word) command is in fits_with v ws command rest
+
+pub is_fit : (line : List ℕ) (command : Option ListCommand) → command ≡ command_of line → IfSome command Fits
+is_fit line None is = tt
+is_fit line (Some c) is = words_fit (words line) c (sym is)
+
 all_words : (ws : List (List ℕ)) (command : ListCommand) → command_of_words ws ≡ Some command → ws ≡ words_of command
 all_words [] command is = cc
 all_words (word ∷ ws) command is =
@@ -190,27 +250,28 @@ item_words_of l item small id value = (list_word l small, (number_word item.id i
 
 spelled : (command : ListCommand) → Fits command → HasNumbers command → command_of (spelling_of command) ≡ Some command
 spelled (commands.PushFront l item) fits numbers =
-    read (codes "pushf") (decimal l ∷ decimal item.id ∷ decimal item.value ∷ []) (commands.PushFront l item) refl (item_words_of l item fits numbers.0 numbers.1)
-    (ap (λ (o : Option (ℕ × Item)). option_map (λ x. commands.PushFront x.0 x.1) o) (list_and_item_read l item fits numbers.0 numbers.1))
+    read (codes "pushf") (decimal l ∷ decimal item.id ∷ decimal item.value ∷ []) (commands.PushFront l item) refl (item_words_of l item fits.first numbers.0 numbers.1)
+    (ap (λ (o : Option (ℕ × Item)). option_map (λ x. commands.PushFront x.0 x.1) o) (list_and_item_read l item fits.first numbers.0 numbers.1))
 spelled (commands.PushBack l item) fits numbers =
-    read (codes "pushb") (decimal l ∷ decimal item.id ∷ decimal item.value ∷ []) (commands.PushBack l item) refl (item_words_of l item fits numbers.0 numbers.1)
-    (ap (λ (o : Option (ℕ × Item)). option_map (λ x. commands.PushBack x.0 x.1) o) (list_and_item_read l item fits numbers.0 numbers.1))
+    read (codes "pushb") (decimal l ∷ decimal item.id ∷ decimal item.value ∷ []) (commands.PushBack l item) refl (item_words_of l item fits.first numbers.0 numbers.1)
+    (ap (λ (o : Option (ℕ × Item)). option_map (λ x. commands.PushBack x.0 x.1) o) (list_and_item_read l item fits.first numbers.0 numbers.1))
 spelled (commands.PopFront l) fits numbers =
-    read (codes "popf") (decimal l ∷ []) (commands.PopFront l) refl (list_word l fits, tt) (ap (λ (o : Option ℕ). option_map (λ m. commands.PopFront m) o) (structure_read l fits))
+    read (codes "popf") (decimal l ∷ []) (commands.PopFront l) refl (list_word l fits.first, tt) (ap (λ (o : Option ℕ). option_map (λ m. commands.PopFront m) o) (structure_read l fits.first))
 spelled (commands.PopBack l) fits numbers =
-    read (codes "popb") (decimal l ∷ []) (commands.PopBack l) refl (list_word l fits, tt) (ap (λ (o : Option ℕ). option_map (λ m. commands.PopBack m) o) (structure_read l fits))
+    read (codes "popb") (decimal l ∷ []) (commands.PopBack l) refl (list_word l fits.first, tt) (ap (λ (o : Option ℕ). option_map (λ m. commands.PopBack m) o) (structure_read l fits.first))
 spelled (commands.Front l) fits numbers =
-    read (codes "front") (decimal l ∷ []) (commands.Front l) refl (list_word l fits, tt) (ap (λ (o : Option ℕ). option_map (λ m. commands.Front m) o) (structure_read l fits))
+    read (codes "front") (decimal l ∷ []) (commands.Front l) refl (list_word l fits.first, tt) (ap (λ (o : Option ℕ). option_map (λ m. commands.Front m) o) (structure_read l fits.first))
 spelled (commands.Back l) fits numbers =
-    read (codes "back") (decimal l ∷ []) (commands.Back l) refl (list_word l fits, tt) (ap (λ (o : Option ℕ). option_map (λ m. commands.Back m) o) (structure_read l fits))
+    read (codes "back") (decimal l ∷ []) (commands.Back l) refl (list_word l fits.first, tt) (ap (λ (o : Option ℕ). option_map (λ m. commands.Back m) o) (structure_read l fits.first))
 spelled (commands.SetFront l value) fits numbers =
-    read (codes "setf") (decimal l ∷ decimal value ∷ []) (commands.SetFront l value) refl (list_word l fits, (number_word value numbers, tt))
-    (ap (λ (o : Option (ℕ × ℕ)). option_map (λ x. commands.SetFront x.0 x.1) o) (list_and_value_read l value fits numbers))
+    read (codes "setf") (decimal l ∷ decimal value ∷ []) (commands.SetFront l value) refl (list_word l fits.first, (number_word value numbers, tt))
+    (ap (λ (o : Option (ℕ × ℕ)). option_map (λ x. commands.SetFront x.0 x.1) o) (list_and_value_read l value fits.first numbers))
 spelled (commands.SetBack l value) fits numbers =
-    read (codes "setb") (decimal l ∷ decimal value ∷ []) (commands.SetBack l value) refl (list_word l fits, (number_word value numbers, tt))
-    (ap (λ (o : Option (ℕ × ℕ)). option_map (λ x. commands.SetBack x.0 x.1) o) (list_and_value_read l value fits numbers))
+    read (codes "setb") (decimal l ∷ decimal value ∷ []) (commands.SetBack l value) refl (list_word l fits.first, (number_word value numbers, tt))
+    (ap (λ (o : Option (ℕ × ℕ)). option_map (λ x. commands.SetBack x.0 x.1) o) (list_and_value_read l value fits.first numbers))
 spelled (commands.Len l) fits numbers =
-    read (codes "len") (decimal l ∷ []) (commands.Len l) refl (list_word l fits, tt) (ap (λ (o : Option ℕ). option_map (λ m. commands.Len m) o) (structure_read l fits))
+    read (codes "len") (decimal l ∷ []) (commands.Len l) refl (list_word l fits.first, tt) (ap (λ (o : Option ℕ). option_map (λ m. commands.Len m) o) (structure_read l fits.first))
+spelled command fits numbers = absurd numbers
 
 pub read_spelled : (line : List ℕ) (command : ListCommand) → Fits command → HasNumbers command → spelling_of command ≡ line → command_of line ≡ Some command
 read_spelled line command fits numbers is = sym (ap command_of is) ∙ spelled command fits numbers

@@ -3,8 +3,8 @@ use Rattle.std.specs.Prelude.{ℕ, List, [], ◌∷◌, Option, None, Some, if�
 use Rattle.std.specs.Option.{option_map, option_and_then}
 use Rattle.std.specs.Str.{bytes_eq}
 use Rattle.cordyceps.specs.declared.replay.item.Item.{Item}
-use Rattle.cordyceps.specs.declared.replay.lists.ListCommand.{ListCommand}
-use Rattle.cordyceps.specs.declared.replay.lists.ListCommand.TheVariants as commands
+use Rattle.cordyceps.specs.declared.replay.list_command.ListCommand.{ListCommand}
+use Rattle.cordyceps.specs.declared.replay.list_command.ListCommand.TheVariants as commands
 use Rattle.cordyceps.specs.Tables.{Table}
 use Rattle.cordyceps.specs.Lists.{step}
 use Rattle.cordyceps_replay.specs.Script.{Machine}

@@ -3,7 +3,7 @@ ghost use Rattle.cordyceps.specs.Lists.{Fits};
 ghost use Rattle.cordyceps_replay.specs.Words.{words_left};
 ghost use Rattle.cordyceps_replay.specs.ListScript.{verb_of, list_and_value_of, command_of};
 ghost use Rattle.cordyceps_replay.specs.Spelling.{spelling_of, HasNumbers};
-ghost use Rattle.cordyceps.specs.declared.replay.lists.ListCommand.{ListCommand};
+ghost use Rattle.cordyceps.specs.declared.replay.list_command.ListCommand.{ListCommand};
 
 use crate::operands::{structure, structure_and_item};
 use crate::words::{Words, number, structure_number};
@@ -65,8 +65,7 @@ fn list_and_value(mut words: Words) -> Option<(u8, u64)>
 
 /// Reads the command word, and the words that it needs.
 fn read_words(line: &[u8]) -> Option<ListCommand>
-    ensures value { result ≡ command_of line.now }
-    ensures fits { IfSome result Fits }
+    ensures { result ≡ command_of line.now }
 {
     let mut words = Words::new(line);
     let command = match read_verb(words.next_word()?)? {
