@@ -1,12 +1,16 @@
-//! Lists, stacks and sorted lists of owned nodes, and commands that are replayed on tables of lists.
+//! Lists, stacks and sorted lists of owned nodes, the cores of two structures that threads share, and commands that are
+//! replayed on tables of structures.
 //!
 //! A [`Node`] owns one element: a number and a value. A type says by [`Linked`] what handle
 //! stands for such a node, and for structures of which [`Kind`]. A [`List`], a [`Stack`] and a
 //! [`SortedList`] take handles and give them back, and own the nodes in between. Linking a node
 //! takes no memory.
 //!
-//! The module [`replay`] runs commands on sixteen lists of [`Item`]s. Each reply, and what the
-//! lists hold afterwards, is proved to be what the commands mean.
+//! A [`stack::TransferCore`] and an [`mpsc_queue::QueueCore`] are the algorithms of the structures that threads share, as
+//! plain values whose steps are taken in any order.
+//!
+//! The module [`replay`] runs commands on tables of sixteen lists, stacks or sorted lists of [`Item`]s. Each reply, and
+//! what the structures hold afterwards, is proved to be what the commands mean.
 #![tactic(auto)]
 
 pub mod list;

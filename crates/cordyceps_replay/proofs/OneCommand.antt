@@ -28,9 +28,6 @@ module _ {M C : Type 0} (step : M → C → M × List Line) where
   plays_one old new command front replies reply rest last plays =
       one_ran old new command front reply rest plays.ran plays.split (ap (λ (rs : List Reply). map lines_of rs) (sym last) ∙ plays.told) plays.state
 
-
-
-
   -- the same of a last reply, if there is one
   pub replied : {E : Type 0} (old new : M) (command : C) (commands : List C) (replies : List Reply) (rest : List C) (last : Result Reply E) →
       commands ≡ command ∷ [] → Plays step old commands replies rest new → IfOk last (λ reply. (front : List Reply) × (replies ≡ front ++ reply ∷ [])) →

@@ -94,7 +94,7 @@ all_pairs words = no_items (pairs_of words)
 pub pairs_more : (items : List Item) (item : Item) (word : List ℕ) (words all : List (List ℕ)) → Some item ≡ pair_of word → MorePairs items (word ∷ words) all → MorePairs (items ++ item ∷ []) words all
 pairs_more items item word words all is so_far =
     let now : option_map (λ more. items ++ more) (option_map (λ more. item ∷ more) (pairs_of words)) ≡ pairs_of all =
-        ap (λ (o : Option Item). option_map (λ more. items ++ more) (option_and_then (λ i. option_map (λ more. i ∷ more) (pairs_of words)) o)) is ∙ so_far in
+    ap (λ (o : Option Item). option_map (λ more. items ++ more) (option_and_then (λ i. option_map (λ more. i ∷ more) (pairs_of words)) o)) is ∙ so_far in
     sym (more_of items item (pairs_of words)) ∙ now
 
 pub pairs_bad : (items : List Item) (word : List ℕ) (words all : List (List ℕ)) → None ≡ pair_of word → MorePairs items (word ∷ words) all → None ≡ pairs_of all

@@ -25,8 +25,8 @@ mod tests;
 mod text;
 mod words;
 
-pub use fault::{Failed, Fault};
 use cordyceps::replay::Item;
+pub use fault::{Failed, Fault};
 use list_session::ListSession;
 pub use script::run_script;
 pub use session::Session;

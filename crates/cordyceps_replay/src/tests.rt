@@ -185,11 +185,7 @@ fn sorted_scripts(rt: HostRuntime) -> Result<(), Fail> {
             b"ok\nok\nok\nok\nshow 2:11 3:12 1:21 4:20\n",
             Ok(()),
         ),
-        (
-            b"show 0\nfrom 0\n",
-            b"show\n",
-            Err(Fault::BadLine(2)),
-        ),
+        (b"show 0\nfrom 0\n", b"show\n", Err(Fault::BadLine(2))),
     ];
     for (lines, expected, ending) in table {
         let (end, text) = outcome_in(rt.alloc(), Choice::Sorted, whole(lines));

@@ -4,3 +4,16 @@ pub mod Grown
 pub mod Places
 pub mod Preorder
 pub mod Taken
+pub mod TransferAlone
+pub mod TransferChains
+pub mod TransferExact
+pub mod TransferGrowing
+pub mod TransferHistories
+pub mod TransferHands
+pub mod TransferReplayed
+pub mod TransferSound
+pub mod TransferStepped
+pub mod TransferSteps
+pub mod TransferTakeAll
+pub mod TransferWalks
+pub mod Written

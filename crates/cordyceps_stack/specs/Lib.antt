@@ -3,3 +3,8 @@ pub mod ByFn
 pub mod Grow
 pub mod Place
 pub mod Preorder
+pub mod TransferCore
+pub mod TransferHistory
+pub mod TransferMachine
+pub mod TransferMeets
+pub mod TransferWalks

@@ -2,7 +2,12 @@
 ghost use Rattle.std.specs.Prelude.{◌≡◌, ◌==◌, [], ◌∷◌, length, MatchOption};
 ghost use Rattle.std.specs.Iterator.{YieldsFirstBy, item_count};
 
+pub use crate::replayed::Replay;
+pub use crate::replaying::replay;
+pub use crate::transfer_core::TransferCore;
+pub use crate::transfer_step::{TransferAnswer, TransferStep};
 use cordyceps_base::linked::Linked;
+pub use cordyceps_base::shared::StepError;
 use cordyceps_base::single_chain::SingleChain;
 use cordyceps_base::stack::InStack;
 pub use cordyceps_base::stack::Links;

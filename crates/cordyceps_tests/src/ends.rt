@@ -1,5 +1,5 @@
 use crate::number::{Number, make};
-use cordyceps_stack::sorted_list::{Greatest, Least, SortedList};
+use cordyceps_stack::sorted_list::{Greatest, Least, Order, SortedList};
 use cordyceps_stack::stack::Stack;
 use std::alloc::{AllocError, Global};
 use std::test::*;
@@ -52,5 +52,53 @@ fn pops_the_greatest(rt: HostRuntime) -> Result<(), Fail> {
     for want in [Some(6u64), Some(5), None] {
         assert_eq!(rt; list.pop_front().map(|node| node.id()), want);
     }
+    Ok(())
+}
+
+/// Whether the list shows these values, and no more.
+fn shows<O: Order<Number>>(list: &SortedList<Number, O>, wanted: &[u64]) -> bool {
+    let mut seen = list.iter();
+    for value in wanted {
+        match seen.next() {
+            Some(number) => {
+                if number.value != *value {
+                    return false;
+                }
+            }
+            None => return false,
+        }
+    }
+    seen.next().is_none()
+}
+
+#[test]
+fn builtin_sort_min(rt: HostRuntime) -> Result<(), Fail> {
+    let mut list: SortedList<Number, Least> = SortedList::new_min();
+    for value in [20u64, 10, 30, 25, 35, 1, 2, 3] {
+        list.insert(make(rt.alloc(), value)?);
+    }
+    assert!(rt; shows(&list, &[1, 2, 3, 10, 20, 25, 30, 35]));
+    assert!(rt; shows(&list, &[1, 2, 3, 10, 20, 25, 30, 35]));
+    for want in [1u64, 2, 3, 10, 20, 25, 30, 35] {
+        assert_eq!(rt; list.pop_front().map(|node| node.id()), Some(want));
+    }
+    assert!(rt; list.pop_front().is_none());
+    assert!(rt; shows(&list, &[]));
+    Ok(())
+}
+
+#[test]
+fn builtin_sort_max(rt: HostRuntime) -> Result<(), Fail> {
+    let mut list: SortedList<Number, Greatest> = SortedList::new_max();
+    for value in [20u64, 10, 30, 25, 35, 1, 2, 3] {
+        list.insert(make(rt.alloc(), value)?);
+    }
+    assert!(rt; shows(&list, &[35, 30, 25, 20, 10, 3, 2, 1]));
+    assert!(rt; shows(&list, &[35, 30, 25, 20, 10, 3, 2, 1]));
+    for want in [35u64, 30, 25, 20, 10, 3, 2, 1] {
+        assert_eq!(rt; list.pop_front().map(|node| node.id()), Some(want));
+    }
+    assert!(rt; list.pop_front().is_none());
+    assert!(rt; shows(&list, &[]));
     Ok(())
 }

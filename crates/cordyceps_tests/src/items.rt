@@ -38,6 +38,7 @@ pub fn holds(rt: &impl Abort, list: &List<Item>, items: &[u64]) {
     for item in list.iter() {
         assert_eq!(rt; Some(item.value), left.next().copied());
     }
+    assert!(rt; left.next().is_none());
 }
 
 /// Puts the item `v` in before the cursor.

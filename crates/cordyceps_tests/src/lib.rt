@@ -16,16 +16,26 @@ mod ends;
 #[cfg(test)]
 mod items;
 #[cfg(test)]
+mod list_laws;
+#[cfg(test)]
 mod lists;
 #[cfg(test)]
 mod nodes;
 #[cfg(test)]
 mod number;
 #[cfg(test)]
+mod queue_cores;
+#[cfg(test)]
 mod replays;
 #[cfg(test)]
 mod sorted_lists;
 #[cfg(test)]
+mod sorted_replays;
+#[cfg(test)]
+mod stack_replays;
+#[cfg(test)]
 mod stacks;
+#[cfg(test)]
+mod transfer_cores;
 #[cfg(test)]
 mod whole_lists;

@@ -54,6 +54,22 @@ fn pops<O: Order<Asked>>(list: &mut SortedList<Asked, O>, numbers: &[u64]) -> bo
     list.pop_front().is_none()
 }
 
+/// Whether the list shows these numbers, and no more.
+fn shows<O: Order<Asked>>(list: &SortedList<Asked, O>, numbers: &[u64]) -> bool {
+    let mut seen = list.iter();
+    for number in numbers {
+        match seen.next() {
+            Some(element) => {
+                if element.value != *number {
+                    return false;
+                }
+            }
+            None => return false,
+        }
+    }
+    seen.next().is_none()
+}
+
 /// Whether an empty list makes `wanted` of `numbers`, also once it was popped empty.
 fn sorts<O: Order<Asked>>(
     list: &mut SortedList<Asked, O>,
@@ -135,5 +151,40 @@ fn counts_what_it_asks(rt: HostRuntime) -> Result<(), Fail> {
     let counts = no_counts(rt.alloc())?;
     let mut list = SortedList::new_with_cmp(by_number);
     assert!(rt; counts_right(&mut list, rt.alloc(), &counts)?);
+    Ok(())
+}
+
+#[test]
+fn slist_basic(rt: HostRuntime) -> Result<(), Fail> {
+    let counts = no_counts(rt.alloc())?;
+    let mut list = SortedList::new_with_cmp(by_number);
+    let numbers = [20u64, 10, 30, 25, 35, 1, 2, 3];
+    let sorted = [1u64, 2, 3, 10, 20, 25, 30, 35];
+    insert_all(&mut list, rt.alloc(), &numbers, &counts)?;
+    assert!(rt; shows(&list, &sorted));
+    assert!(rt; shows(&list, &sorted));
+    assert!(rt; pops(&mut list, &sorted));
+    insert_all(&mut list, rt.alloc(), &[20, 10, 30], &counts)?;
+    let first = list.pop_front().ok_or("nothing")?;
+    assert_eq!(rt; first.id(), 10);
+    list.insert(first);
+    let first = list.pop_front().ok_or("nothing")?;
+    let second = list.pop_front().ok_or("nothing")?;
+    list.insert(second);
+    list.insert(first);
+    assert!(rt; pops(&mut list, &[10, 20, 30]));
+    Ok(())
+}
+
+#[test]
+fn a_drop_frees_what_is_left(rt: HostRuntime) -> Result<(), Fail> {
+    let counts = no_counts(rt.alloc())?;
+    let mut list = SortedList::new_with_cmp(by_number);
+    insert_all(&mut list, rt.alloc(), &[20, 10, 30, 25, 35], &counts)?;
+    drop(list.pop_front());
+    drop(list.pop_front());
+    assert_eq!(rt; counts.dropped.get(), 2);
+    drop(list);
+    assert_eq!(rt; counts.dropped.get(), 5);
     Ok(())
 }

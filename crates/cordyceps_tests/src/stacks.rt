@@ -36,3 +36,26 @@ fn a_drop_frees_each_element_once(rt: HostRuntime) -> Result<(), Fail> {
     assert_eq!(rt; counts.dropped.get(), 1000);
     Ok(())
 }
+
+#[test]
+fn unsync(rt: HostRuntime) -> Result<(), Fail> {
+    let counts = no_counts(rt.alloc())?;
+    let mut stack: Stack<Asked> = Stack::new();
+    for id in 1..4u64 {
+        stack.push(node(rt.alloc(), id, &counts)?);
+    }
+    let mut taken = stack.take_all();
+    for id in [3u64, 2, 1] {
+        assert_eq!(rt; taken.next().map(|node| node.id()), Some(id));
+        stack.push(node(rt.alloc(), id.wrapping_add(10), &counts)?);
+    }
+    assert!(rt; taken.next().is_none());
+    let mut next = 11u64;
+    for entry in stack.take_all() {
+        assert_eq!(rt; entry.id(), next);
+        next = next.wrapping_add(1);
+    }
+    assert_eq!(rt; next, 14);
+    assert!(rt; stack.is_empty());
+    Ok(())
+}

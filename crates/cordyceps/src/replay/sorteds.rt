@@ -48,7 +48,11 @@ impl SortedCommand {
 }
 
 /// Puts an item in, unless memory for its node is refused.
-fn insert<O: Order<Item>>(alloc: Global, list: &mut SortedList<Item, O>, item: Item) -> Result<Reply, AllocError>
+fn insert<O: Order<Item>>(
+    alloc: Global,
+    list: &mut SortedList<Item, O>,
+    item: Item,
+) -> Result<Reply, AllocError>
     requires { O.can_compare list.old.1 }
     ensures put { OnOk result ((cmp : Item → Item → Ordering)
         → O.compares_by list.old.1 cmp
@@ -130,7 +134,11 @@ fn run_on<O: Order<Item>>(
 }
 
 /// Runs a command on a list that has the least item first, unless memory for it is refused.
-fn run_least(alloc: Global, list: &mut SortedList<Item, Least>, command: &SortedCommand) -> Result<Reply, AllocError>
+fn run_least(
+    alloc: Global,
+    list: &mut SortedList<Item, Least>,
+    command: &SortedCommand,
+) -> Result<Reply, AllocError>
     ensures ok { IfOk result (λ reply. IsSortedBy (less ⟦<Item as Ord>⟧.cmp) list.old.0
         → (list.new.0, lines_of reply) ≡ step_on ⟦<Item as Ord>⟧.cmp list.old.0 command.now) }
     ensures err { OnErr result (list.new ≡ list.old) }
@@ -143,7 +151,11 @@ fn run_least(alloc: Global, list: &mut SortedList<Item, Least>, command: &Sorted
 }
 
 /// Runs a command on a list that has the greatest item first, unless memory for it is refused.
-fn run_greatest(alloc: Global, list: &mut SortedList<Item, Greatest>, command: &SortedCommand) -> Result<Reply, AllocError>
+fn run_greatest(
+    alloc: Global,
+    list: &mut SortedList<Item, Greatest>,
+    command: &SortedCommand,
+) -> Result<Reply, AllocError>
     ensures ok { IfOk result (λ reply. IsSortedBy (less (λ x y. ⟦<Item as Ord>⟧.cmp y x)) list.old.0
         → (list.new.0, lines_of reply) ≡ step_on (λ x y. ⟦<Item as Ord>⟧.cmp y x) list.old.0 command.now) }
     ensures err { OnErr result (list.new ≡ list.old) }
@@ -275,10 +287,10 @@ impl<F> Model for Sorteds<F> {
     ghost view = { λ s. (contents s.least ++ contents s.greatest ++ contents s.own, s.by) };
 
     ghost invariant = { λ s. record {
-        least : length s.least ≡ 6;
-        greatest : length s.greatest ≡ 5;
-        own : length s.own ≡ 5;
-        ordered : All (λ l. l.1 ≡ s.by) s.own;
+      least : length s.least ≡ 6;
+      greatest : length s.greatest ≡ 5;
+      own : length s.own ≡ 5;
+      ordered : All (λ l. l.1 ≡ s.by) s.own;
     } };
 }
 

@@ -1,4 +1,4 @@
-use Rattle.std.proofs.Common.{◌≡◌, ◌∷◌, [], All, refl, arith}
+use Rattle.std.proofs.Common.{◌≡◌, ◌∷◌, [], refl, arith}
 use Rattle.std.proofs.lemmas.List.Elements.{All-set}
 use Rattle.std.proofs.lemmas.Result.{IfOk-weaker}
 use Rattle.cordyceps.proofs.Sorteds.{same_order}
@@ -68,4 +68,3 @@ pub returns-else-at-lt4-clause-order : goal.returns-else-at-lt4-clause-order
 returns-else-at-lt4-clause-order g c =
     let s = c.self.inside in
     All-set (λ l. l.1 ≡ c.args.by) (s.first ∷ s.second ∷ s.third ∷ s.fourth ∷ s.fifth ∷ []) 4 c.run_own-else-at-lt4.new.list c.run_own-else-at-lt4.ensures.order (rw (← c.self.view_is) at c.requires.same)
-

@@ -43,7 +43,7 @@ returns-else-list-lt11-clause-ok g c =
     let whole = ap (λ v. v.0) (sym c.self.view_is) ∙ sym (append-nil (front ++ contents s.own)) in
     IfOk-weaker c.run.result _ _
     (λ reply ran cmp by sorted.
-      let (new, set, means) = ran in
-      let after = ap (λ l. front ++ contents l) set ∙ sym (append-nil (front ++ contents (slice_set s.own (n - 11) new))) in
-      ran_within front [] s.own (n - 11) (order_of own cmp) cmp _ _ ([], s.by) new _ _ at here (order_of_own own cmp list (omega (arith, c.list-list.ensures))) whole after (means cmp (rw (ap (λ v. v.1) c.self.view_is) by)) sorted)
+    let (new, set, means) = ran in
+    let after = ap (λ l. front ++ contents l) set ∙ sym (append-nil (front ++ contents (slice_set s.own (n - 11) new))) in
+    ran_within front [] s.own (n - 11) (order_of own cmp) cmp _ _ ([], s.by) new _ _ at here (order_of_own own cmp list (omega (arith, c.list-list.ensures))) whole after (means cmp (rw (ap (λ v. v.1) c.self.view_is) by)) sorted)
     c.run.ensures.ok

@@ -1,0 +1,17 @@
+use Rattle.std.proofs.Common.{◌≡◌, true, ap, sym, ◌∙◌}
+use Rattle.cordyceps_base.specs.Runs.{after}
+use Rattle.cordyceps_queue.specs.declared.steps.QueueStep.TheVariants as step
+use Rattle.cordyceps_queue.specs.QueueMachine.{Machine, stepped}
+use Rattle.cordyceps_queue.specs.QueueCore.{core_step}
+use Rattle.cordyceps_queue.specs.QueueAlone.{is_ready, enqueue_steps}
+use Rattle.cordyceps_queue.proofs.Enqueues.{enqueued_law}
+use Rattle.cordyceps_queue.proofs.queue_core.QueueCore.enqueue.Goals as goal
+
+pub returns-clause-history : goal.returns-clause-history
+returns-clause-history g c = λ h was.
+    let m = c.args.self.now in
+    let p = c.args.party in
+    let ready : is_ready c.args.self.now c.args.party ≡ true = ap (λ (n : Machine g.row.E.Denot). is_ready n c.args.party) (sym c.self.view_is) ∙ (sym c.is_ready.ensures ∙ c.if-not-is_ready.false) in
+    let same : c.step-3.new.self ≡ after core_step c.args.self.now (enqueue_steps c.args.party c.args.element) =
+    c.step-3.ensures.machine ∙ ap (λ (n : Machine g.row.E.Denot). (stepped n c.args.party step.Link).0) (c.step-2.ensures.machine ∙ ap (λ (n : Machine g.row.E.Denot). (stepped n c.args.party step.Swap).0) c.step.ensures.machine) in
+    rw same (enqueued_law h m p c.args.element was ready)

@@ -1,0 +1,9 @@
+pub mod QueueAlone
+pub mod QueueCore
+pub mod QueueHistory
+pub mod QueueKept
+pub mod QueueLaws
+pub mod QueueMachine
+pub mod QueueMeets
+pub mod QueuePast
+pub mod QueueWords

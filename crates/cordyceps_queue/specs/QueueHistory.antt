@@ -1,0 +1,109 @@
+-- The history of a queue: what its parties, of any type of names P, did to it, the oldest event first.
+use Rattle.std.specs.Prelude.{◌≡◌, ℕ, suc, ◌+◌, ◌<◌, ◌≤◌, ◌≢◌, ◌⊎◌, List, [], ◌∷◌, ◌++◌, drop, length, Option, Some, None}
+
+pub data Event (P E : Type 0) : Type 0 where
+  -- the party put its element behind all others, and later linked it to the one before it
+  Swap : P → E → Event P E
+  Link : P → Event P E
+  -- it took the right to dequeue, or another had it
+  Take : P → Event P E
+  Busy : P → Event P E
+  -- it began a try: an element came out, or nothing was held
+  Look : P → Event P E
+  Out : P → E → Event P E
+  Empty : P → Event P E
+  -- it gave the right back
+  Free : P → Event P E
+
+module _ {P E : Type 0} where
+  -- the elements that were put in, and those that came out
+  abbrev pub came : List (Event P E) → List E
+  came [] = []
+  came (Swap p e ∷ h) = e ∷ came h
+  came (_ ∷ h) = came h
+
+  abbrev pub went : List (Event P E) → List E
+  went [] = []
+  went (Out p e ∷ h) = e ∷ went h
+  went (_ ∷ h) = went h
+
+  -- what came in without what went out, oldest first
+  abbrev pub held : List (Event P E) → List E
+  held h = drop (length (went h)) (came h)
+
+  abbrev pub holder_after : Option P → Event P E → Option P
+  holder_after o (Take p) = Some p
+  holder_after o (Free p) = None
+  holder_after o _ = o
+
+  abbrev pub holder_from : Option P → List (Event P E) → Option P
+  holder_from o [] = o
+  holder_from o (x ∷ h) = holder_from (holder_after o x) h
+
+  -- the party of a taking that has no giving back after it
+  abbrev pub holder : List (Event P E) → Option P
+  holder h = holder_from None h
+
+  -- what has to hold just before an event: takings and givings back alternate, and only the holder tries
+  abbrev pub MayFollow : List (Event P E) → Event P E → Type 0
+  MayFollow h (Swap p e) = Unit {0}
+  MayFollow h (Link p) = Unit {0}
+  MayFollow h (Take p) = holder h ≡ None
+  MayFollow h (Busy p) = (q : P) × (holder h ≡ Some q) × (p ≢ q)
+  MayFollow h (Look p) = holder h ≡ Some p
+  MayFollow h (Out p e) = holder h ≡ Some p
+  MayFollow h (Empty p) = (holder h ≡ Some p) × (went h ≡ came h)
+  MayFollow h (Free p) = holder h ≡ Some p
+
+abbrev pub one_if : {A : Type 0} → Dec A → ℕ
+one_if (yes a) = 1
+one_if (no n) = 0
+
+module _ {P E : Type 0} (same : Discrete P) where
+  abbrev pub swaps_by : P → List (Event P E) → ℕ
+  swaps_by q [] = 0
+  swaps_by q (Swap p e ∷ h) = one_if (same q p) + swaps_by q h
+  swaps_by q (_ ∷ h) = swaps_by q h
+
+  abbrev pub links_by : P → List (Event P E) → ℕ
+  links_by q [] = 0
+  links_by q (Link p ∷ h) = one_if (same q p) + links_by q h
+  links_by q (_ ∷ h) = links_by q h
+
+  abbrev pub looks_by : P → List (Event P E) → ℕ
+  looks_by q [] = 0
+  looks_by q (Look p ∷ h) = one_if (same q p) + looks_by q h
+  looks_by q (_ ∷ h) = looks_by q h
+
+  -- the party has one link fewer than swaps
+  abbrev pub IsPending : P → List (Event P E) → Type 0
+  IsPending q h = suc (links_by q h) ≡ swaps_by q h
+
+  pub record IsLegal (h : List (Event P E)) : Type 0 where
+    -- in every beginning what went out is a beginning of what came in
+    pub in_order : (past later : List (Event P E)) → h ≡ past ++ later → (rest : List E) × (went past ++ rest ≡ came past)
+    -- in every beginning each party has as many links as swaps, or one fewer
+    pub links : (past later : List (Event P E)) → h ≡ past ++ later → (q : P) → (links_by q past ≡ swaps_by q past) ⊎ IsPending q past
+    -- each event may follow those before it
+    pub turns : (past later : List (Event P E)) (x : Event P E) → h ≡ past ++ x ∷ later → MayFollow past x
+
+  -- the oldest or the second oldest held element came by the last swap of a pending party
+  pub record IsBlocked (h : List (Event P E)) : Type 0 where
+    pub by : P
+    pub pending : IsPending by h
+    pub past : List (Event P E)
+    pub element : E
+    pub later : List (Event P E)
+    pub is : h ≡ past ++ Swap by element ∷ later
+    pub last : swaps_by by later ≡ 0
+    pub held_there : length (went h) ≤ length (came past)
+    pub near : length (came past) < length (went h) + 2
+
+  -- some beginning that contains the party's last look is blocked
+  pub record WasBlocked (q : P) (h : List (Event P E)) : Type 0 where
+    pub past : List (Event P E)
+    pub later : List (Event P E)
+    pub is : h ≡ past ++ later
+    pub looked : 0 < looks_by q past
+    pub last : looks_by q later ≡ 0
+    pub blocked : IsBlocked past

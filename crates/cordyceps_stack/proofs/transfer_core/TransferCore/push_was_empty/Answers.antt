@@ -1,0 +1,15 @@
+use Rattle.std.proofs.Common.{◌≡◌, sym, ◌∙◌, rules}
+use Rattle.std.specs.Prelude.{is_none}
+use Rattle.cordyceps_stack.proofs.TransferHands.{push_hands_alone}
+use Rattle.cordyceps_stack.proofs.TransferAlone.{push_alone}
+use Rattle.cordyceps_stack.proofs.transfer_core.TransferCore.push_was_empty.Goals as goal
+
+pub returns-clause-history : goal.returns-clause-history
+returns-clause-history g c = λ h was.
+    let same : c.is_none-was_empty.result ≡ is_none c.args.self.now.head = search rules in
+    let law = push_alone c.args.self.now c.step.new.self c.step-2.new.self c.step-3.new.self c.args.party c.args.element (sym c.is_ready.ensures ∙ c.if-not-is_ready.false) c.step.ensures.machine c.step-2.ensures.machine c.step-3.ensures.machine h was in
+    rw same law
+
+pub returns-clause-walks : goal.returns-clause-walks
+returns-clause-walks g c = λ h was.
+    push_hands_alone c.args.self.now c.step.new.self c.step-2.new.self c.step-3.new.self c.args.party c.args.element (sym c.is_ready.ensures ∙ c.if-not-is_ready.false) c.step.ensures.machine c.step-2.ensures.machine c.step-3.ensures.machine h was

@@ -1,0 +1,34 @@
+use Rattle.std.proofs.Common.{rules, ◌/◌}
+use Rattle.std.specs.Ordering.{nat_cmp}
+use Rattle.std.specs.Cmp.{on_total}
+use Rattle.std.proofs.lemmas.Cmp.{nat_cmp_total}
+use Rattle.cordyceps_stack.specs.Preorder.{preorder_from_total}
+use Rattle.cordyceps.specs.declared.replay.item.Item.{Item}
+use Rattle.cordyceps_tests.proofs.sorted_replays.pops_in_order.Goals as goal
+
+pub new-sorteds-requires-clause-total : goal.new-sorteds-requires-clause-total
+new-sorteds-requires-clause-total g c = (
+  (λ x y. nat_cmp (x.value / 10) (y.value / 10)),
+  record {
+    lawful = preorder_from_total (on_total (λ (x : Item). x.value / 10) nat_cmp_total);
+    answers = λ x y r h. rw (← h.shows.0, ← h.shows.1) (search rules);
+  },
+)
+
+pub replay_sorted-least-requires-clause-total : goal.replay_sorted-least-requires-clause-total
+replay_sorted-least-requires-clause-total g c = rw c.new-sorteds.ensures.function (
+  (λ x y. nat_cmp (x.value / 10) (y.value / 10)),
+  record {
+    lawful = preorder_from_total (on_total (λ (x : Item). x.value / 10) nat_cmp_total);
+    answers = λ x y r h. rw (← h.shows.0, ← h.shows.1) (search rules);
+  },
+)
+
+pub replay_sorted-greatest-requires-clause-total : goal.replay_sorted-greatest-requires-clause-total
+replay_sorted-greatest-requires-clause-total g c = rw (c.replay_sorted-least.ensures.function, c.new-sorteds.ensures.function) (
+  (λ x y. nat_cmp (x.value / 10) (y.value / 10)),
+  record {
+    lawful = preorder_from_total (on_total (λ (x : Item). x.value / 10) nat_cmp_total);
+    answers = λ x y r h. rw (← h.shows.0, ← h.shows.1) (search rules);
+  },
+)
