@@ -8,6 +8,10 @@ pub mod Numbers
 pub mod OneCommand
 pub mod Texts
 pub mod Lines
+pub mod Forms
+pub mod ListForms
 pub mod Spelling
+pub mod CursorSpelling
+pub mod ListLines
 pub mod Pairs
 pub mod SortedLines

@@ -1,5 +1,5 @@
 -- Words that are pairs of numbers, parted by a colon.
-use Rattle.std.proofs.Common.{◌≡◌, ℕ, ◌+◌, ◌-◌, ◌<◌, ◌^◌, List, [], ◌∷◌, ◌++◌, length, take, drop, Some, None, Option, Bool, true, false, refl, sym, ◌∙◌, ap, arith, length-take, length-drop, add-one, nat_eq, append_assoc}
+use Rattle.std.proofs.Common.{◌≡◌, ℕ, ◌+◌, ◌-◌, ◌<◌, List, [], ◌∷◌, ◌++◌, length, take, drop, Some, None, Option, Bool, true, false, refl, sym, ◌∙◌, ap, arith, length-take, length-drop, add-one, nat_eq, append_assoc}
 use Rattle.std.proofs.lemmas.List.{append-nil, take_all, get_or-take, get_or_default, take-append-drop}
 use Rattle.std.proofs.lemmas.List.Elements.{All-from_recursion}
 use Rattle.std.proofs.lemmas.List.Splits.{slice_split_at, slice_split_none, join_with_byte-slice_split}
@@ -14,7 +14,7 @@ use Rattle.std.specs.Prelude.{is_some}
 use Rattle.memchr.specs.Find.{IsFirstByte, is_byte}
 use Rattle.cordyceps.specs.declared.replay.item.Item.{Item}
 use Rattle.cordyceps_replay.specs.Words.{number_of}
-use Rattle.cordyceps_replay.specs.Operands.{item_of}
+use Rattle.cordyceps_replay.specs.LineWords.{item_of}
 use Rattle.cordyceps_replay.specs.SortedScript.{pair_of, pairs_of}
 use Rattle.cordyceps_replay.proofs.Numbers.{is_numeral, numeral_digits, both}
 
@@ -38,7 +38,7 @@ whole word n is =
     slice_split_none colon word (All-from_recursion (λ b. colon b ≡ false) word (rw same (clean (decimal n) (numeral_digits n small))))
 
 abbrev made : Option ℕ → Option ℕ → Option Item
-made id value = option_and_then (λ i. option_map (λ v. record { value = v; id = i }) value) id
+made id value = option_map (λ (x : ℕ × ℕ). record { value = x.1; id = x.0 }) (option_and_then (λ i. option_map (λ v. (i, v)) value) id)
 
 no_value : (id : Option ℕ) → made id None ≡ None
 no_value None = refl
@@ -47,9 +47,9 @@ no_value (Some i) = refl
 cut_parts : (first rest : List ℕ) (parts : List (List ℕ)) (value : Option ℕ) → number_of rest ≡ value → ((n : ℕ) → value ≡ Some n → parts ≡ rest ∷ []) → ((v : List ℕ) → parts ≡ v ∷ [] → v ≡ rest) →
     item_of (first ∷ parts) ≡ item_of (first ∷ rest ∷ [])
 cut_parts first rest parts (Some n) is single only = rw (single n refl) refl
-cut_parts first rest [] None is single only = sym (ap (made (number_of first)) is ∙ no_value (number_of first))
+cut_parts first rest [] None is single only = sym (ap (made (number_of first)) is)
 cut_parts first rest (v ∷ []) None is single only = rw (only v refl) refl
-cut_parts first rest (v ∷ w ∷ parts) None is single only = sym (ap (made (number_of first)) is ∙ no_value (number_of first))
+cut_parts first rest (v ∷ w ∷ parts) None is single only = sym (ap (made (number_of first)) is)
 
 cut : (first rest : List ℕ) → item_of (first ∷ slice_split colon rest) ≡ item_of (first ∷ rest ∷ [])
 cut first rest =
@@ -74,7 +74,7 @@ mapped_some f (Some a) = refl
 
 -- without a colon it is no pair
 pub no_pair : (word : List ℕ) → IsFirstByte (is_byte 58) word None → None ≡ pair_of word
-no_pair word h = rw (slice_split_none colon word (λ j d lt. rw (get_or_default word j d 0 lt) (is_false _ (h j (omega arith) lt)))) refl
+no_pair word h = rw (slice_split_none colon word (λ j d lt. rw (get_or_default word j d 0 lt) (is_false _ (h j (omega arith) lt)))) (sym (no_value (number_of word)))
 
 -- the pairs so far, and those of the words that are left, are all
 abbrev pub MorePairs : List Item → List (List ℕ) → List (List ℕ) → Type 0

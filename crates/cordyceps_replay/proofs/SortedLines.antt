@@ -1,5 +1,5 @@
 -- What a line of mode sorted does.
-use Rattle.std.proofs.Common.{◌≡◌, ℕ, List, Option, Some, None, Bool, true, false, refl}
+use Rattle.std.proofs.Common.{◌≡◌, ℕ, Option, Some, None, true, refl}
 use Rattle.std.specs.Prelude.{is_some}
 use Rattle.std.specs.declared.cmp.Ordering.{Ordering}
 use Rattle.cordyceps.specs.declared.replay.item.Item.{Item}

@@ -1,59 +1,56 @@
--- The lines of mode list.
-use Rattle.std.specs.Prelude.{ℕ, List, [], ◌∷◌, Option, None, Some, if◌then◌else◌, codes}
+-- The lines of mode list, outside of blocks.
+use Rattle.std.specs.Prelude.{ℕ, ◌<◌, List, [], ◌∷◌, Option, None}
 use Rattle.std.specs.Option.{option_map, option_and_then}
-use Rattle.std.specs.Str.{bytes_eq}
-use Rattle.cordyceps.specs.declared.replay.item.Item.{Item}
+use Rattle.cordyceps.specs.declared.replay.list_command.ListEnd.{ListEnd}
+use Rattle.cordyceps.specs.declared.replay.list_command.Turn.{Turn}
 use Rattle.cordyceps.specs.declared.replay.list_command.ListCommand.{ListCommand}
 use Rattle.cordyceps.specs.declared.replay.list_command.ListCommand.TheVariants as commands
-use Rattle.cordyceps.specs.Tables.{Table}
-use Rattle.cordyceps.specs.Lists.{step}
-use Rattle.cordyceps_replay.specs.Script.{Machine}
-use Rattle.cordyceps_replay.specs.Commands.{commands_machine}
-use Rattle.cordyceps_replay.specs.Words.{words, number_of, structure_number_of}
-use Rattle.cordyceps_replay.specs.Operands.{structure_of, structure_and_item_of}
+use Rattle.cordyceps.specs.Lists.{Fits}
+use Rattle.cordyceps_replay.specs.declared.list_command.Entry.{Entry}
+use Rattle.cordyceps_replay.specs.declared.list_command.Entry.TheVariants as entries
 use Rattle.cordyceps_replay.specs.declared.list_command.Verb.{Verb}
 use Rattle.cordyceps_replay.specs.declared.list_command.Verb.TheVariants as verbs
+use Rattle.cordyceps_replay.specs.Words.{words}
+use Rattle.cordyceps_replay.specs.ListWords.{structure_and_turns_of, structure_and_end_of}
+use Rattle.cordyceps_replay.specs.ListVerbs.{verb_of, plain_command_with}
 
-abbrev pub verb_of : List ℕ → Option Verb
-verb_of word =
-    if bytes_eq word (codes "pushf") then Some verbs.PushFront
-    else if bytes_eq word (codes "pushb") then Some verbs.PushBack
-    else if bytes_eq word (codes "popf") then Some verbs.PopFront
-    else if bytes_eq word (codes "popb") then Some verbs.PopBack
-    else if bytes_eq word (codes "front") then Some verbs.Front
-    else if bytes_eq word (codes "back") then Some verbs.Back
-    else if bytes_eq word (codes "setf") then Some verbs.SetFront
-    else if bytes_eq word (codes "setb") then Some verbs.SetBack
-    else if bytes_eq word (codes "len") then Some verbs.Len
-    else None
+-- What a line means. A command with a `Vec` is known by the list in it.
+pub data Meaning : Type 0 where
+  plain : ListCommand → Meaning
+  walk : ℕ → List Turn → Meaning
+  into : ℕ → List Turn → Meaning
+  cursor : ℕ → ListEnd → Meaning
 
--- the words L V
-abbrev pub list_and_value_of : List (List ℕ) → Option (ℕ × ℕ)
-list_and_value_of (list ∷ value ∷ []) = option_and_then (λ l. option_map (λ v. (l, v)) (number_of value)) (structure_number_of list)
-list_and_value_of [] = None
-list_and_value_of (list ∷ []) = None
-list_and_value_of (list ∷ value ∷ word ∷ words) = None
+abbrev pub command_meant : ListCommand → Meaning
+command_meant (commands.Walk list turns) = walk list turns.items
+command_meant (commands.Into list turns) = into list turns.items
+command_meant command = plain command
 
--- what a command word and the words after it mean
-abbrev pub command_with : Verb → List (List ℕ) → Option ListCommand
-command_with verbs.PushFront words = option_map (λ x. commands.PushFront x.0 x.1) (structure_and_item_of words)
-command_with verbs.PushBack words = option_map (λ x. commands.PushBack x.0 x.1) (structure_and_item_of words)
-command_with verbs.PopFront words = option_map (λ l. commands.PopFront l) (structure_of words)
-command_with verbs.PopBack words = option_map (λ l. commands.PopBack l) (structure_of words)
-command_with verbs.Front words = option_map (λ l. commands.Front l) (structure_of words)
-command_with verbs.Back words = option_map (λ l. commands.Back l) (structure_of words)
-command_with verbs.SetFront words = option_map (λ x. commands.SetFront x.0 x.1) (list_and_value_of words)
-command_with verbs.SetBack words = option_map (λ x. commands.SetBack x.0 x.1) (list_and_value_of words)
-command_with verbs.Len words = option_map (λ l. commands.Len l) (structure_of words)
+abbrev pub meant : Entry → Meaning
+meant (entries.Command command) = command_meant command
+meant (entries.Cursor list end) = cursor list end
 
-abbrev pub command_of_words : List (List ℕ) → Option ListCommand
-command_of_words [] = None
-command_of_words (verb ∷ words) = option_and_then (λ v. command_with v words) (verb_of verb)
+-- what a command word and the words behind it mean
+abbrev pub meaning_with : Verb → List (List ℕ) → Option Meaning
+meaning_with (verbs.Plain verb) words = option_map command_meant (plain_command_with verb words)
+meaning_with verbs.Walk words = option_map (λ x. walk x.0 x.1) (structure_and_turns_of words)
+meaning_with verbs.Into words = option_map (λ x. into x.0 x.1) (structure_and_turns_of words)
+meaning_with verbs.Cursor words = option_map (λ x. cursor x.0 x.1) (structure_and_end_of words)
+
+abbrev pub meaning_of_words : List (List ℕ) → Option Meaning
+meaning_of_words [] = None
+meaning_of_words (word ∷ words) = option_and_then (λ verb. meaning_with verb words) (verb_of word)
 
 -- what a line means; None where it is bad
-abbrev pub command_of : List ℕ → Option ListCommand
-command_of line = command_of_words (words line)
+abbrev pub meaning_of : List ℕ → Option Meaning
+meaning_of line = meaning_of_words (words line)
 
--- each line is a command on the table
-abbrev pub list_machine : Machine Table
-list_machine = commands_machine command_of step
+-- the lines of a block are no single line
+abbrev pub IsNoBlock : ListCommand → Type 0
+IsNoBlock (commands.Cursor list end lines) = ⊥
+IsNoBlock command = Unit {0}
+
+-- it names lists among sixteen, and is no block
+abbrev pub EntryFits : Entry → Type 0
+EntryFits (entries.Command command) = Fits command × IsNoBlock command
+EntryFits (entries.Cursor list end) = list < 16

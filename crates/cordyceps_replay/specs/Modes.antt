@@ -1,5 +1,5 @@
 -- What a run of a script in a mode reads, writes and answers.
-use Rattle.std.specs.Prelude.{ℕ, List, Result}
+use Rattle.std.specs.Prelude.{ℕ, List, None, Result}
 use Rattle.std.specs.declared.cmp.Ordering.{Ordering}
 use Rattle.cordyceps.specs.declared.replay.item.Item.{Item}
 use Rattle.cordyceps.specs.Sorteds.{order_of}
@@ -8,7 +8,7 @@ use Rattle.cordyceps_replay.specs.declared.Mode.{Mode}
 use Rattle.cordyceps_replay.specs.declared.Mode.TheVariants as modes
 use Rattle.cordyceps_replay.specs.declared.fault.Fault.{Fault}
 use Rattle.cordyceps_replay.specs.Script.{Runs}
-use Rattle.cordyceps_replay.specs.ListScript.{list_machine}
+use Rattle.cordyceps_replay.specs.ListMachine.{list_machine}
 use Rattle.cordyceps_replay.specs.StackScript.{stack_machine}
 use Rattle.cordyceps_replay.specs.SortedScript.{sorted_machine}
 use Rattle.cordyceps_replay.specs.Tens.{by_tens}
@@ -22,6 +22,6 @@ module _ {F : Type 0} where
 
   -- sixteen structures that are empty at first; items are ordered by `own`
   abbrev pub RunsIn : (own : Item → Item → Ordering) → Mode F → (gave : List ℕ → Type 0) → (ended read_failed : Type 0) → (took : List ℕ → Type 0) → (write_failed : Type 0) → Result (Unit {0}) Fault → Type 0
-  RunsIn own modes.List gave ended read_failed took write_failed result = Runs list_machine (empty_table 16) gave ended read_failed took write_failed result
+  RunsIn own modes.List gave ended read_failed took write_failed result = Runs list_machine (empty_table 16, None) gave ended read_failed took write_failed result
   RunsIn own modes.Stack gave ended read_failed took write_failed result = Runs stack_machine (empty_table 16) gave ended read_failed took write_failed result
   RunsIn own (modes.Sorted by) gave ended read_failed took write_failed result = Runs (sorted_machine (order_of own by_tens)) (empty_table 16) gave ended read_failed took write_failed result

@@ -13,7 +13,7 @@ use Rattle.cordyceps.specs.Sorteds.{step, filled}
 use Rattle.cordyceps_replay.specs.Script.{Machine}
 use Rattle.cordyceps_replay.specs.Commands.{commands_machine}
 use Rattle.cordyceps_replay.specs.Words.{words, structure_number_of}
-use Rattle.cordyceps_replay.specs.Operands.{structure_of, item_of, structure_and_item_of}
+use Rattle.cordyceps_replay.specs.LineWords.{structure_of, item_of, structure_and_item_of}
 use Rattle.cordyceps_replay.specs.declared.sorted_command.Verb.{Verb}
 use Rattle.cordyceps_replay.specs.declared.sorted_command.Verb.TheVariants as verbs
 

@@ -9,7 +9,7 @@ use Rattle.cordyceps.specs.Stacks.{step}
 use Rattle.cordyceps_replay.specs.Script.{Machine}
 use Rattle.cordyceps_replay.specs.Commands.{commands_machine}
 use Rattle.cordyceps_replay.specs.Words.{words}
-use Rattle.cordyceps_replay.specs.Operands.{structure_of, two_structures_of, structure_and_item_of}
+use Rattle.cordyceps_replay.specs.LineWords.{structure_of, two_structures_of, structure_and_item_of}
 use Rattle.cordyceps_replay.specs.declared.stack_command.Verb.{Verb}
 use Rattle.cordyceps_replay.specs.declared.stack_command.Verb.TheVariants as verbs
 

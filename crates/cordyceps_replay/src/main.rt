@@ -6,10 +6,13 @@ ghost use Rattle.cordyceps_replay.specs.Arguments.{Chooses};
 ghost use Rattle.cordyceps_replay.specs.Modes.{IfSorted, RunsIn};
 ghost use Rattle.cordyceps_replay.specs.Tens.{by_tens, ComparesTens};
 
+mod block;
+mod cursor_command;
 mod fault;
+mod line_words;
 mod list_command;
 mod list_session;
-mod operands;
+mod list_words;
 mod playing;
 mod reply;
 mod script;
@@ -85,8 +88,11 @@ pub fn choose(words: &[String]) -> Option<Choice>
 /// beginning of the replies. After refused memory, the replies to the commands before some command stand written, each
 /// as a whole. More may be read than the lines that were taken.
 ///
-/// The source is read in blocks of 65,536 bytes, and that is how much of the input and, but for one line's replies, of
-/// the replies waits in memory.
+/// In mode `list` a cursor block is one command. It is run when its end is met, the end of the input, a bad line or a
+/// failed read.
+///
+/// The source is read in blocks of 65,536 bytes, and that is how much of the input and, but for one command's replies,
+/// of the replies waits in memory. The lines of a cursor block wait too, until it is run.
 pub fn run<F: Fn(&Item, &Item) -> Ordering + Copy, I: Source, O: Sink>(
     alloc: Global,
     mode: Mode<F>,

@@ -4,7 +4,7 @@ ghost use Rattle.cordyceps.specs.Sorteds.{Fits};
 ghost use Rattle.cordyceps_replay.specs.Words.{words_left};
 ghost use Rattle.cordyceps_replay.specs.SortedScript.{verb_of, pair_of, pairs_of, structure_and_pairs_of, from, entry_for, entry_of};
 
-use crate::operands::{item_with, structure, structure_and_item};
+use crate::line_words::{item_with, structure, structure_and_item};
 use crate::words::{Words, structure_number};
 use cordyceps::replay::{Item, SortedCommand};
 use memchr::memchr;

@@ -2,7 +2,7 @@ ghost use Rattle.std.specs.Prelude.{◌≡◌, Some, IfSome};
 ghost use Rattle.cordyceps.specs.Stacks.{Fits};
 ghost use Rattle.cordyceps_replay.specs.StackScript.{verb_of, command_of};
 
-use crate::operands::{structure, structure_and_item, two_structures};
+use crate::line_words::{structure, structure_and_item, two_structures};
 use crate::words::Words;
 use cordyceps::replay::StackCommand;
 

@@ -466,3 +466,5 @@ fn faults(rt: HostRuntime) -> Result<(), Fail> {
     }
     Ok(())
 }
+
+mod list_scripts;

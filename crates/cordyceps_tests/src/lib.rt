@@ -18,6 +18,10 @@ mod items;
 #[cfg(test)]
 mod list_laws;
 #[cfg(test)]
+mod list_operations;
+#[cfg(test)]
+mod list_walks;
+#[cfg(test)]
 mod lists;
 #[cfg(test)]
 mod nodes;

@@ -3,7 +3,7 @@ use Rattle.std.proofs.lemmas.List.{take_all}
 use Rattle.std.specs.List.{flat_map}
 use Rattle.cordyceps.specs.declared.replay.reply.Reply.{Reply}
 use Rattle.cordyceps.specs.Replies.{lines_of, found, len, index}
-use Rattle.cordyceps.proofs.Replies.{found_line, len_line, index_line, show_line, truth_line}
+use Rattle.cordyceps.proofs.Replies.{found_line, len_line, index_line}
 use Rattle.cordyceps_replay.specs.ReplyText.{line_text, text_of}
 use Rattle.cordyceps_replay.proofs.Texts.{block_text, found_text, line_pushed}
 use Rattle.cordyceps_replay.proofs.reply.+push_reply.Goals as goal

@@ -1,4 +1,4 @@
-use Rattle.std.proofs.Common.{◌≡◌, ◌∙◌, Some}
+use Rattle.std.proofs.Common.{◌∙◌, Some}
 use Rattle.cordyceps_replay.specs.ReplyText.{shown_text}
 use Rattle.cordyceps_replay.proofs.Texts.{shown_item, bytes_pushed}
 use Rattle.cordyceps_replay.proofs.reply.push_shown.Goals as goal

@@ -1,4 +1,4 @@
-use Rattle.std.proofs.Common.{◌∙◌, sym, ap}
+use Rattle.std.proofs.Common.{◌∙◌}
 use Rattle.cordyceps_replay.proofs.Pairs.{no_pair, read_pair}
 use Rattle.cordyceps_replay.proofs.sorted_command.pair.Goals as goal
 

@@ -1,12 +1,12 @@
 use Rattle.std.proofs.Common.{◌∙◌}
-use Rattle.cordyceps_replay.proofs.Spelling.{is_fit, is_spelled, read_spelled}
-use Rattle.cordyceps_replay.proofs.list_command.read_command.Goals as goal
+use Rattle.cordyceps_replay.proofs.CursorSpelling.{is_spelled, line_fits, read_spelled}
+use Rattle.cordyceps_replay.proofs.cursor_command.read_cursor_command.Goals as goal
+
+pub returns-clause-fits : goal.returns-clause-fits
+returns-clause-fits c = line_fits c.args.line.now c.read_words.result c.read_words.ensures
 
 pub returns-clause-spelled : goal.returns-clause-spelled
 returns-clause-spelled c = is_spelled c.args.line.now c.read_words.result c.read_words.ensures
 
 pub returns-clause-every : goal.returns-clause-every
 returns-clause-every c = λ command fits numbers is. c.read_words.ensures ∙ read_spelled c.args.line.now command fits numbers is
-
-pub returns-clause-fits : goal.returns-clause-fits
-returns-clause-fits c = is_fit c.args.line.now c.read_words.result c.read_words.ensures
