@@ -11,7 +11,7 @@ use Rattle.std.proofs.lemmas.List.Splits.{slice_split_at, slice_split_none, join
 use Rattle.std.proofs.lemmas.Slice.Eq.{bytes_eq-Decides}
 use Rattle.cordyceps.specs.declared.replay.item.Item.{Item}
 use Rattle.cordyceps_replay.specs.Words.{words, number_of, structure_number_of}
-use Rattle.cordyceps_replay.specs.LineWords.{only_word_of, only, before, nothing_of, structure_of, value_of, item_of, two_structures_of, structure_and_value_of, structure_and_item_of, item_words, HasItemNumbers}
+use Rattle.cordyceps_replay.specs.LineWords.{only_word_of, only, before, nothing_of, structure_of, value_of, item_of, two_structures_of, structure_and_value_of, structure_and_item_of, party_and_item_of, perhaps_item_of, party_and_perhaps_item_of, item_words, perhaps_item_words, HasItemNumbers, HasPerhapsItemNumbers}
 use Rattle.cordyceps_replay.proofs.Numbers.{is_numeral, numeral_read, numeral_digits, both, from_if}
 
 pub mapped : {A B : Type 0} (f : A → B) (o : Option A) (b : B) → option_map f o ≡ Some b → (a : A) × (o ≡ Some a) × (f a ≡ b)
@@ -158,6 +158,32 @@ item_form = record {
 
 pub structure_and_item_form : IsForm structure_and_item_of (λ x. decimal x.0 ∷ item_words x.1) (λ x. (x.0 < 16) × HasItemNumbers x.1)
 structure_and_item_form = before_form structure_kind item_form
+
+pub party_and_item_form : IsForm party_and_item_of (λ x. decimal x.0 ∷ item_words x.1) (λ x. (x.0 < 2 ^ 64) × HasItemNumbers x.1)
+party_and_item_form = before_form number_kind item_form
+
+perhaps_item_form : IsForm perhaps_item_of perhaps_item_words HasPerhapsItemNumbers
+perhaps_item_form = record { sound = perhaps_words; complete = back; ones = clean } where
+  perhaps_words : (ws : List (List ℕ)) (item : Option Item) → perhaps_item_of ws ≡ Some item → (ws ≡ perhaps_item_words item) × HasPerhapsItemNumbers item
+  perhaps_words [] item is =
+      let same : None ≡ item = cc in
+      let P : Option Item → Type 0 = λ o. ([] ≡ perhaps_item_words o) × HasPerhapsItemNumbers o in
+      subst P same (refl, tt)
+  perhaps_words (word ∷ ws) item is =
+      let (i, found, made) = mapped (λ i. Some i) (item_of (word ∷ ws)) item is in
+      let P : Option Item → Type 0 = λ o. (word ∷ ws ≡ perhaps_item_words o) × HasPerhapsItemNumbers o in
+      subst P made (item_form.sound (word ∷ ws) i found)
+
+  back : (item : Option Item) → HasPerhapsItemNumbers item → perhaps_item_of (perhaps_item_words item) ≡ Some item
+  back None can = refl
+  back (Some item) can = ap (λ (o : Option Item). option_map (λ i. Some i) o) (item_form.complete item can)
+
+  clean : (item : Option Item) → HasPerhapsItemNumbers item → AllByRecursion IsOneWord (perhaps_item_words item)
+  clean None can = tt
+  clean (Some item) can = item_form.ones item can
+
+pub party_and_perhaps_item_form : IsForm party_and_perhaps_item_of (λ x. decimal x.0 ∷ perhaps_item_words x.1) (λ x. (x.0 < 2 ^ 64) × HasPerhapsItemNumbers x.1)
+party_and_perhaps_item_form = before_form number_kind perhaps_item_form
 
 -- a word that is looked for in a chain of words
 pub look : {V : Type 0} (P : V → Type 0) (word other : List ℕ) (x : V) (others : Option V) (v : V) → (word ≡ other → P x) → (others ≡ Some v → P v) →

@@ -12,6 +12,8 @@ pub mod Forms
 pub mod ListForms
 pub mod Spelling
 pub mod CursorSpelling
+pub mod TransferSpelling
+pub mod QueueSpelling
 pub mod ListLines
 pub mod Pairs
 pub mod SortedLines

@@ -8,6 +8,8 @@ abbrev pub word_of : Choice → List ℕ
 word_of choices.List = codes "list"
 word_of choices.Stack = codes "stack"
 word_of choices.Sorted = codes "sorted"
+word_of choices.Transfer = codes "transfer"
+word_of choices.Queue = codes "queue"
 
 -- exactly one argument, which names the mode
 abbrev pub Chooses : List (List ℕ) → Option Choice → Type 0

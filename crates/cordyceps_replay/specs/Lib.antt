@@ -5,6 +5,7 @@ pub mod Halts
 pub mod Faults
 pub mod Words
 pub mod ReplyText
+pub mod CoreReplies
 pub mod Commands
 pub mod LineWords
 pub mod ListWords
@@ -15,6 +16,10 @@ pub mod ListMachine
 pub mod OpenBlocks
 pub mod SortedScript
 pub mod StackScript
+pub mod TransferScript
+pub mod TransferSpelling
+pub mod QueueScript
+pub mod QueueSpelling
 pub mod Tens
 pub mod Modes
 pub mod Spelling

@@ -48,10 +48,32 @@ structure_and_value_of words = before structure_number_of value_of words
 abbrev pub structure_and_item_of : List (List ℕ) → Option (ℕ × Item)
 structure_and_item_of words = before structure_number_of item_of words
 
+-- the words P ID V
+abbrev pub party_and_item_of : List (List ℕ) → Option (ℕ × Item)
+party_and_item_of words = before number_of item_of words
+
+-- no words, or the words ID V
+abbrev pub perhaps_item_of : List (List ℕ) → Option (Option Item)
+perhaps_item_of [] = Some None
+perhaps_item_of (word ∷ words) = option_map (λ item. Some item) (item_of (word ∷ words))
+
+-- the word P, or the words P ID V
+abbrev pub party_and_perhaps_item_of : List (List ℕ) → Option (ℕ × Option Item)
+party_and_perhaps_item_of words = before number_of perhaps_item_of words
+
 -- the words ID V of an item
 abbrev pub item_words : Item → List (List ℕ)
 item_words item = decimal item.id ∷ decimal item.value ∷ []
 
+-- the words of an item, if there is one
+abbrev pub perhaps_item_words : Option Item → List (List ℕ)
+perhaps_item_words None = []
+perhaps_item_words (Some item) = item_words item
+
 -- both are below 2 ^ 64
 abbrev pub HasItemNumbers : Item → Type 0
 HasItemNumbers item = (item.id < 2 ^ 64) × (item.value < 2 ^ 64)
+
+abbrev pub HasPerhapsItemNumbers : Option Item → Type 0
+HasPerhapsItemNumbers None = Unit {0}
+HasPerhapsItemNumbers (Some item) = HasItemNumbers item

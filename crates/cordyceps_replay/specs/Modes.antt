@@ -11,6 +11,8 @@ use Rattle.cordyceps_replay.specs.Script.{Runs}
 use Rattle.cordyceps_replay.specs.ListMachine.{list_machine}
 use Rattle.cordyceps_replay.specs.StackScript.{stack_machine}
 use Rattle.cordyceps_replay.specs.SortedScript.{sorted_machine}
+use Rattle.cordyceps_replay.specs.TransferScript as transfers
+use Rattle.cordyceps_replay.specs.QueueScript as queues
 use Rattle.cordyceps_replay.specs.Tens.{by_tens}
 
 module _ {F : Type 0} where
@@ -19,9 +21,13 @@ module _ {F : Type 0} where
   IfSorted (modes.Sorted by) These = These by
   IfSorted modes.List These = Unit {0}
   IfSorted modes.Stack These = Unit {0}
+  IfSorted modes.Transfer These = Unit {0}
+  IfSorted modes.Queue These = Unit {0}
 
-  -- sixteen structures that are empty at first; items are ordered by `own`
+  -- sixteen structures that are empty at first, or a new core; items are ordered by `own`
   abbrev pub RunsIn : (own : Item → Item → Ordering) → Mode F → (gave : List ℕ → Type 0) → (ended read_failed : Type 0) → (took : List ℕ → Type 0) → (write_failed : Type 0) → Result (Unit {0}) Fault → Type 0
   RunsIn own modes.List gave ended read_failed took write_failed result = Runs list_machine (empty_table 16, None) gave ended read_failed took write_failed result
   RunsIn own modes.Stack gave ended read_failed took write_failed result = Runs stack_machine (empty_table 16) gave ended read_failed took write_failed result
   RunsIn own (modes.Sorted by) gave ended read_failed took write_failed result = Runs (sorted_machine (order_of own by_tens)) (empty_table 16) gave ended read_failed took write_failed result
+  RunsIn own modes.Transfer gave ended read_failed took write_failed result = Runs transfers.transfer_machine transfers.new_core gave ended read_failed took write_failed result
+  RunsIn own modes.Queue gave ended read_failed took write_failed result = Runs queues.queue_machine queues.new_core gave ended read_failed took write_failed result

@@ -1,7 +1,7 @@
 //! Reads the words behind a command word, to the end of the line.
 ghost use Rattle.std.specs.Prelude.{◌≡◌, ◌∷◌, [], None, MatchOption};
 ghost use Rattle.cordyceps_replay.specs.Words.{words_left};
-ghost use Rattle.cordyceps_replay.specs.LineWords.{only_word_of, nothing_of, structure_of, value_of, item_of, two_structures_of, structure_and_value_of, structure_and_item_of};
+ghost use Rattle.cordyceps_replay.specs.LineWords.{only_word_of, nothing_of, structure_of, value_of, item_of, two_structures_of, structure_and_value_of, structure_and_item_of, party_and_item_of, perhaps_item_of, party_and_perhaps_item_of};
 
 use crate::words::{Words, number, structure_number};
 use cordyceps::replay::Item;
@@ -81,4 +81,38 @@ pub fn structure_and_item(mut words: Words) -> Option<(u8, Item)>
 {
     let structure = structure_number(words.next_word()?)?;
     Some((structure, item(words)?))
+}
+
+/// Reads `P`.
+pub fn party(words: Words) -> Option<usize>
+    ensures { result ≡ value_of (words_left words.entry.rest) }
+{
+    Some(value(words)? as usize)
+}
+
+/// Reads `P ID V`.
+pub fn party_and_item(mut words: Words) -> Option<(usize, Item)>
+    ensures { result ≡ party_and_item_of (words_left words.entry.rest) }
+{
+    let party = number(words.next_word()?)?;
+    Some((party as usize, item(words)?))
+}
+
+/// Reads no word, or `ID V`.
+fn perhaps_item(words: Words) -> Option<Option<Item>>
+    ensures { result ≡ perhaps_item_of (words_left words.entry.rest) }
+{
+    let mut rest = words;
+    match rest.next_word() {
+        Some(_) => Some(Some(item(words)?)),
+        None => Some(None),
+    }
+}
+
+/// Reads `P`, or `P ID V`.
+pub fn party_and_perhaps_item(mut words: Words) -> Option<(usize, Option<Item>)>
+    ensures { result ≡ party_and_perhaps_item_of (words_left words.entry.rest) }
+{
+    let party = number(words.next_word()?)?;
+    Some((party as usize, perhaps_item(words)?))
 }

@@ -1,4 +1,4 @@
-//! Runs scripts of commands over lists: reads lines, and writes the replies to them.
+//! Runs scripts of commands over lists, stacks and cores: reads lines, and writes the replies to them.
 #![tactic(auto)]
 
 ghost use Rattle.std.specs.Prelude.{◌≡◌, map, string_bytes};
@@ -7,6 +7,7 @@ ghost use Rattle.cordyceps_replay.specs.Modes.{IfSorted, RunsIn};
 ghost use Rattle.cordyceps_replay.specs.Tens.{by_tens, ComparesTens};
 
 mod block;
+mod core_reply;
 mod cursor_command;
 mod fault;
 mod line_words;
@@ -14,6 +15,8 @@ mod list_command;
 mod list_session;
 mod list_words;
 mod playing;
+mod queue_command;
+mod queue_session;
 mod reply;
 mod script;
 mod session;
@@ -26,11 +29,14 @@ mod stack_session;
 #[cfg(test)]
 mod tests;
 mod text;
+mod transfer_command;
+mod transfer_session;
 mod words;
 
 use cordyceps::replay::Item;
 pub use fault::{Failed, Fault};
 use list_session::ListSession;
+use queue_session::QueueSession;
 pub use script::run_script;
 pub use session::Session;
 pub use sink::{Sink, ToWrite};
@@ -42,6 +48,7 @@ use std::cmp::Ordering;
 use std::io::ErrorKind;
 use std::process::ExitCode;
 use std::{env, io};
+use transfer_session::TransferSession;
 
 /// The line on standard error where the arguments name no mode, without its line feed.
 pub const USAGE: &str = "usage: cordyceps_replay list|stack|sorted|transfer|queue|share";
@@ -56,6 +63,10 @@ pub enum Mode<F> {
     /// Commands over sixteen sorted lists: six with the least item first, five with the greatest first, and five by the
     /// function, which must compare the quotients of the values by ten.
     Sorted(F),
+    /// Commands over the core of a transfer stack, which begins with no party.
+    Transfer,
+    /// Commands over the core of a queue, which begins with no party.
+    Queue,
 }
 
 /// What the arguments ask for.
@@ -67,6 +78,10 @@ pub enum Choice {
     Stack,
     /// To run a script in mode `sorted`.
     Sorted,
+    /// To run a script in mode `transfer`.
+    Transfer,
+    /// To run a script in mode `queue`.
+    Queue,
 }
 
 /// Reads the words after the program's name: exactly one, which names a mode. `None` means that they are not that.
@@ -77,6 +92,8 @@ pub fn choose(words: &[String]) -> Option<Choice>
         [word] if word.as_str() == "list" => Some(Choice::List),
         [word] if word.as_str() == "stack" => Some(Choice::Stack),
         [word] if word.as_str() == "sorted" => Some(Choice::Sorted),
+        [word] if word.as_str() == "transfer" => Some(Choice::Transfer),
+        [word] if word.as_str() == "queue" => Some(Choice::Queue),
         _ => None,
     }
 }
@@ -120,6 +137,14 @@ pub fn run<F: Fn(&Item, &Item) -> Ordering + Copy, I: Source, O: Sink>(
             let mut session = SortedSession::new(alloc, by);
             run_script(alloc, &mut session, input, output)
         }
+        Mode::Transfer => {
+            let mut session = TransferSession::new(alloc);
+            run_script(alloc, &mut session, input, output)
+        }
+        Mode::Queue => {
+            let mut session = QueueSession::new(alloc);
+            run_script(alloc, &mut session, input, output)
+        }
     }
 }
 
@@ -156,6 +181,8 @@ fn main(rt: HostRuntime) -> ExitCode {
         Some(Choice::List) => Mode::List,
         Some(Choice::Stack) => Mode::Stack,
         Some(Choice::Sorted) => Mode::Sorted(compare_tens),
+        Some(Choice::Transfer) => Mode::Transfer,
+        Some(Choice::Queue) => Mode::Queue,
         None => {
             let _ = rt.eprintln(USAGE);
             return ExitCode::from(1);

@@ -32,7 +32,11 @@ fn push_all(alloc: Global, text: &mut Vec<u8>, items: &[Option<Item>]) -> Result
 }
 
 /// Adds a line that shows the items. An `Err` adds nothing.
-fn push_show(alloc: Global, text: &mut Vec<u8>, items: &[Option<Item>]) -> Result<(), AllocError>
+pub fn push_show(
+    alloc: Global,
+    text: &mut Vec<u8>,
+    items: &[Option<Item>],
+) -> Result<(), AllocError>
     ensures ok { OnOk result (text.new.items ≡ text.old.items ++ line_text (show items.now)) }
     ensures err { OnErr result (text.new.items ≡ text.old.items) }
 {

@@ -62,6 +62,8 @@ fn outcome_in(alloc: Global, choice: Choice, script: Script) -> (Result<(), Faul
         Choice::List => Mode::List,
         Choice::Stack => Mode::Stack,
         Choice::Sorted => Mode::Sorted(compare_tens),
+        Choice::Transfer => Mode::Transfer,
+        Choice::Queue => Mode::Queue,
     };
     let end = run(alloc, mode, &mut input, &mut output);
     (end, output.into_inner())
@@ -425,12 +427,15 @@ fn refused_memory(rt: HostRuntime) -> Result<(), Fail> {
 
 #[test]
 fn choices(rt: HostRuntime) -> Result<(), Fail> {
-    let table: [(&[&str], Option<Choice>); 9] = [
+    let table: [(&[&str], Option<Choice>); 12] = [
         (&[], None),
         (&["list"], Some(Choice::List)),
         (&["stack"], Some(Choice::Stack)),
         (&["sorted"], Some(Choice::Sorted)),
-        (&["transfer"], None),
+        (&["transfer"], Some(Choice::Transfer)),
+        (&["queue"], Some(Choice::Queue)),
+        (&["share"], None),
+        (&["transfer", "queue"], None),
         (&["List"], None),
         (&[""], None),
         (&["list", "list"], None),
@@ -467,4 +472,5 @@ fn faults(rt: HostRuntime) -> Result<(), Fail> {
     Ok(())
 }
 
+mod core_scripts;
 mod list_scripts;

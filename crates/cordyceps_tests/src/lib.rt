@@ -30,6 +30,8 @@ mod number;
 #[cfg(test)]
 mod queue_cores;
 #[cfg(test)]
+mod queue_refusals;
+#[cfg(test)]
 mod replays;
 #[cfg(test)]
 mod sorted_lists;

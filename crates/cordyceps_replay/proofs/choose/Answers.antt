@@ -22,3 +22,13 @@ pub returns-in-len1-3 : goal.returns-in-len1-3
 returns-in-len1-3 c =
     let same = (bytes_eq-Decides c.as_str-then-words-lt2-2.result.now _).0 (sym c.eq-then-words-lt2-2.ensures ∙ c.if-eq-3.true) in
     single string_bytes c.args.words.now c.word-item-then-words-lt2-2.result _ (omega (arith, c.in-len1.len_at_least)) (omega (arith, c.in-len1.len_below)) c.word-item-then-words-lt2-2.is (sym c.as_str-then-words-lt2-2.ensures.value ∙ same)
+
+pub returns-in-len1-4 : goal.returns-in-len1-4
+returns-in-len1-4 c =
+    let same = (bytes_eq-Decides c.as_str-then-words-lt2-3.result.now _).0 (sym c.eq-then-words-lt2-3.ensures ∙ c.if-eq-4.true) in
+    single string_bytes c.args.words.now c.word-item-then-words-lt2-3.result _ (omega (arith, c.in-len1.len_at_least)) (omega (arith, c.in-len1.len_below)) c.word-item-then-words-lt2-3.is (sym c.as_str-then-words-lt2-3.ensures.value ∙ same)
+
+pub returns-in-len1-5 : goal.returns-in-len1-5
+returns-in-len1-5 c =
+    let same = (bytes_eq-Decides c.as_str-then-words-lt2-4.result.now _).0 (sym c.eq-then-words-lt2-4.ensures ∙ c.if-eq-5.true) in
+    single string_bytes c.args.words.now c.word-item-then-words-lt2-4.result _ (omega (arith, c.in-len1.len_at_least)) (omega (arith, c.in-len1.len_below)) c.word-item-then-words-lt2-4.is (sym c.as_str-then-words-lt2-4.ensures.value ∙ same)

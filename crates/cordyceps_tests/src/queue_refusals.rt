@@ -1,0 +1,117 @@
+//! What a queue's core answers after memory was refused. These tests say more where an allocation is made to fail, as
+//! `rt try --test --fail-alloc N` does.
+use cordyceps_queue::mpsc_queue::{
+    QueueAnswer, QueueCore, QueueStep, StepError, TryDequeueError, replay,
+};
+use std::alloc::{AllocError, Global};
+use std::collections::VecDeque;
+use std::test::*;
+
+/// Adds a party, by a second call where the first was refused memory.
+fn add_party(core: &mut QueueCore<u64>) -> Result<usize, StepError> {
+    match core.add_party() {
+        Err(StepError::Memory) => core.add_party(),
+        answer => answer,
+    }
+}
+
+/// Adds a room, by a second call where the first was refused memory.
+fn add_room(core: &mut QueueCore<u64>, party: usize) -> Result<(), StepError> {
+    match core.add_room(party) {
+        Err(StepError::Memory) => core.add_room(party),
+        answer => answer,
+    }
+}
+
+#[test]
+fn parties_and_rooms_come_at_the_second_call(rt: HostRuntime) {
+    let mut core = QueueCore::new(rt.alloc());
+    for party in 0..9usize {
+        assert_eq!(rt; add_party(&mut core), Ok(party));
+    }
+    for party in 0..9usize {
+        assert_eq!(rt; add_room(&mut core, party), Ok(()));
+    }
+    assert_eq!(rt; core.add_room(9), Err(StepError::NotThere));
+    for party in 0..9usize {
+        assert_eq!(rt; core.enqueue(party, party as u64), Ok(()));
+        assert_eq!(rt; core.enqueue(party, 9), Err((StepError::NotThere, 9)));
+    }
+    for element in 0..9u64 {
+        assert_eq!(rt; core.try_dequeue(8), Ok(Ok(element)));
+    }
+    assert_eq!(rt; core.try_dequeue(8), Ok(Err(TryDequeueError::Empty)));
+}
+
+/// Two parties, the first with a room.
+fn two(alloc: Global) -> Result<QueueCore<u64>, StepError> {
+    let mut core = QueueCore::new(alloc);
+    core.add_party()?;
+    core.add_party()?;
+    core.add_room(0)?;
+    Ok(core)
+}
+
+/// An element that comes in and goes out, with steps that are not there.
+fn script(alloc: Global) -> Result<VecDeque<(usize, QueueStep<u64>)>, AllocError> {
+    let mut steps = VecDeque::new(alloc);
+    steps.push_back((0, QueueStep::Clear(Some(1))))?;
+    steps.push_back((0, QueueStep::Swap))?;
+    steps.push_back((1, QueueStep::Take))?;
+    steps.push_back((1, QueueStep::Clear(Some(2))))?;
+    steps.push_back((1, QueueStep::ReadNext))?;
+    steps.push_back((0, QueueStep::Link))?;
+    steps.push_back((1, QueueStep::ReadHead))?;
+    steps.push_back((7, QueueStep::Give))?;
+    steps.push_back((1, QueueStep::ReadNext))?;
+    steps.push_back((1, QueueStep::ReadNext))?;
+    steps.push_back((1, QueueStep::ReadHead))?;
+    steps.push_back((1, QueueStep::Clear(None)))?;
+    steps.push_back((1, QueueStep::Swap))?;
+    steps.push_back((1, QueueStep::Link))?;
+    steps.push_back((1, QueueStep::ReadNext))?;
+    steps.push_back((1, QueueStep::Give))?;
+    Ok(steps)
+}
+
+/// What the script's steps answer.
+const ANSWERS: [Result<QueueAnswer<u64>, (StepError, Option<u64>)>; 16] = [
+    Ok(QueueAnswer::Done),
+    Ok(QueueAnswer::Done),
+    Ok(QueueAnswer::Taken),
+    Err((StepError::NotThere, Some(2))),
+    Ok(QueueAnswer::Done),
+    Ok(QueueAnswer::Done),
+    Ok(QueueAnswer::Inconsistent),
+    Err((StepError::NotThere, None)),
+    Ok(QueueAnswer::Done),
+    Ok(QueueAnswer::Done),
+    Ok(QueueAnswer::Done),
+    Ok(QueueAnswer::Done),
+    Ok(QueueAnswer::Done),
+    Ok(QueueAnswer::Done),
+    Ok(QueueAnswer::Out(1)),
+    Ok(QueueAnswer::Done),
+];
+
+#[test]
+fn a_replay_goes_on_from_its_rest(rt: HostRuntime) {
+    let Ok(steps) = script(rt.alloc()) else {
+        return;
+    };
+    let Ok(core) = two(rt.alloc()) else {
+        return;
+    };
+    let first = replay(rt.alloc(), core, steps);
+    let taken = first.replies.len();
+    assert!(rt; taken <= ANSWERS.len());
+    assert_eq!(rt; first.replies.as_slice(), &ANSWERS[..taken]);
+    assert_eq!(rt; first.rest.len(), ANSWERS.len() - taken);
+    assert_eq!(rt; first.stopped, taken < ANSWERS.len());
+    assert_eq!(rt; first.back, None);
+    let second = replay(rt.alloc(), first.core, first.rest);
+    if !second.stopped {
+        assert_eq!(rt; second.replies.as_slice(), &ANSWERS[taken..]);
+        assert_eq!(rt; second.rest.len(), 0);
+    }
+}
