@@ -1,10 +1,13 @@
-//! Lists, stacks and sorted lists of owned nodes, the cores of two structures that threads share, and commands that are
-//! replayed on tables of structures.
+//! Lists, stacks and sorted lists of owned nodes, a stack that threads share, the cores of two structures that threads
+//! share, and commands that are replayed on tables of structures.
 //!
 //! A [`Node`] owns one element: a number and a value. A type says by [`Linked`] what handle
 //! stands for such a node, and for structures of which [`Kind`]. A [`List`], a [`Stack`] and a
 //! [`SortedList`] take handles and give them back, and own the nodes in between. Linking a node
 //! takes no memory.
+//!
+//! A [`TransferStack`] is shared by threads, without a lock: each pushes to it by a party of its own, and takes all that it
+//! holds at once.
 //!
 //! A [`stack::TransferCore`] and an [`mpsc_queue::QueueCore`] are the algorithms of the structures that threads share, as
 //! plain values whose steps are taken in any order.
@@ -24,5 +27,5 @@ pub use cordyceps_base::node::{Kind, Node, Refused};
 pub use cordyceps_base::steps::Steps;
 pub use cordyceps_list::list::List;
 pub use cordyceps_stack::sorted_list::{SortedList, SortedListIter};
-pub use cordyceps_stack::stack::Stack;
+pub use cordyceps_stack::stack::{Stack, TransferStack};
 pub use replay::Item;

@@ -1,6 +1,7 @@
-//! Stacks, the kind of the nodes that stand in them, and the core of the transfer stack.
+//! Stacks, the kind of the nodes that stand in them, the stack that threads share, and its core.
 
 pub use cordyceps_base::stack::Links;
 pub use cordyceps_stack::stack::{
-    Replay, Stack, StepError, TransferAnswer, TransferCore, TransferStep, replay,
+    MAX_ROOMS, Party, Replay, Stack, StepError, TransferAnswer, TransferCore, TransferStack,
+    TransferStep, replay,
 };

@@ -53,7 +53,10 @@ fn push_items(alloc: Global, text: &mut Vec<u8>, items: &[Item]) -> Result<(), A
     ensures ok { OnOk result (text.new.items ≡ text.old.items ++ core_text (show items.now)) }
     ensures err { OnErr result (text.new.items ≡ text.old.items) }
 {
-    let shown: Vec<Option<Item>> = items.iter().copied().map(Some).collect(alloc)?;
+    let mut shown = Vec::new(alloc);
+    for item in items {
+        shown.push(Some(*item))?;
+    }
     push_show(alloc, text, &shown)
 }
 

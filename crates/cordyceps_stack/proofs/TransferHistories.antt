@@ -1,6 +1,6 @@
 -- How a history goes on.
 use Rattle.std.proofs.Common.{◌≡◌, List, [], ◌∷◌, ◌++◌, reverse, refl, ap, sym, ◌∙◌, subst, inl, inr, ◌⊎◌, append_assoc}
-use Rattle.cordyceps_stack.specs.TransferHistory.{Event, Load, Push, Taken, held, held_from, held_after, Legal, NoLoad, NoTaken, IsByAnother, SomeByAnother, LastLoad, LastBatch, pushes, taken}
+use Rattle.cordyceps_stack.specs.TransferHistory.{Event, Load, Push, Taken, held, held_from, held_after, Legal, NoLoad, NoTaken, IsByAnother, SomeByAnother, LastLoad, LastBatch, pushes, taken, IsChange, SomeChange}
 use Rattle.std.proofs.lemmas.List.{append-nil, reverse-reverse}
 
 module _ {A : Type 0} where
@@ -115,3 +115,12 @@ module _ {P E : Type 0} where
   -- the batches, each oldest first, and then what is held, are the pushes
   pub nothing_lost : (h : List (Event P E)) → Legal h → taken h ++ held h ≡ pushes h
   nothing_lost h l = lost_from [] h l
+
+  pub change_more : (h k : List (Event P E)) → SomeChange h → SomeChange (h ++ k)
+  change_more [] k s = absurd s
+  change_more (v ∷ h) k (inl s) = inl s
+  change_more (v ∷ h) k (inr s) = inr (change_more h k s)
+
+  pub change_last : (h : List (Event P E)) (v : Event P E) → IsChange v → SomeChange (h ++ v ∷ [])
+  change_last [] v s = inl s
+  change_last (w ∷ h) v s = inr (change_last h v s)

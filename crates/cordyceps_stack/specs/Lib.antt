@@ -3,8 +3,14 @@ pub mod ByFn
 pub mod Grow
 pub mod Place
 pub mod Preorder
+pub mod TransferCalls
 pub mod TransferCore
 pub mod TransferHistory
 pub mod TransferMachine
 pub mod TransferMeets
+pub mod TransferPlays
+pub mod TransferRule
+pub mod TransferStanding
+pub mod TransferView
 pub mod TransferWalks
+pub mod TransferWords

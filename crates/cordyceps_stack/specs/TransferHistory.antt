@@ -84,3 +84,13 @@ module _ {P E : Type 0} where
     pub since : List (Event P E)
     pub loaded : LastLoad p h since
     pub moved : SomeByAnother p since
+
+  -- a push, or a taking of something
+  abbrev pub IsChange : Event P E → Type 0
+  IsChange (Load p) = ⊥
+  IsChange (Push p e) = Unit {0}
+  IsChange (Taken p batch) = batch ≢ []
+
+  abbrev pub SomeChange : List (Event P E) → Type 0
+  SomeChange [] = ⊥
+  SomeChange (v ∷ h) = IsChange v ⊎ SomeChange h

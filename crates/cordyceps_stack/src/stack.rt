@@ -1,13 +1,14 @@
 //! Stacks.
-ghost use Rattle.std.specs.Prelude.{◌≡◌, ◌==◌, [], ◌∷◌, length, MatchOption};
+ghost use Rattle.std.specs.Prelude.{◌≡◌, ◌==◌, [], ◌∷◌, ◌++◌, length, MatchOption};
 ghost use Rattle.std.specs.Iterator.{YieldsFirstBy, item_count};
 
 pub use crate::replayed::Replay;
 pub use crate::replaying::replay;
 pub use crate::transfer_core::TransferCore;
+pub use crate::transfer_stack::{Party, TransferStack};
 pub use crate::transfer_step::{TransferAnswer, TransferStep};
 use cordyceps_base::linked::Linked;
-pub use cordyceps_base::shared::StepError;
+pub use cordyceps_base::shared::{MAX_ROOMS, StepError};
 use cordyceps_base::single_chain::SingleChain;
 use cordyceps_base::stack::InStack;
 pub use cordyceps_base::stack::Links;
@@ -82,6 +83,13 @@ impl<T: Linked<Links<T>>> Stack<T> {
             return None;
         }
         Some(T::from_ptr(self.chain.unlink_front()))
+    }
+
+    /// Puts an element below all others. It takes no walk.
+    pub(crate) fn put_last(&mut self, handle: T::Handle)
+        ensures { self.new ≡ self.old ++ T.element handle ∷ [] }
+    {
+        self.chain.link_back(T::into_ptr(handle));
     }
 
     /// Takes all elements out at once, as a stack of their own, and leaves this one empty.

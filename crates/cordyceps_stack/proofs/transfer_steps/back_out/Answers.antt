@@ -1,0 +1,22 @@
+use Rattle.std.proofs.Common.{[], ◌∷◌, Option, Some, None, sym, ap, ◌∙◌, rules}
+use Rattle.atomic_table.specs.Table.{rest}
+use Rattle.cordyceps_stack.specs.declared.transfer_table.Filled.{Filled}
+use Rattle.cordyceps_stack.specs.TransferRule.{filled}
+use Rattle.cordyceps_stack.proofs.TransferRule.{returns}
+use Rattle.cordyceps_stack.proofs.transfer_steps.back_out.Goals as goal
+
+pub exchange-full-requires : goal.exchange-full-requires
+exchange-full-requires g c =
+    let h = c.requires.missed.1 in
+    (search rules, (_, h ∙ ap (λ z. (c.args.room, Some (filled (c.args.room, c.requires.missed.0))) ∷ rest z) (sym h)))
+
+pub load-requires : goal.load-requires
+load-requires g c =
+    let h = c.requires.missed.1 in
+    let y = c.exchange-full.ensures.3 in
+    let none : Option (Filled g.row.E.Denot) = None in
+    let missed = ap (λ m. m.0.doing) y ∙ c.requires.place.0 in
+    let empty = ap (λ m. m.1) y ∙ ap (λ z. (c.args.room, none) ∷ rest z) h in
+    let t = c.requires.table in
+    let near = c.requires.place.1 in
+    (search rules, search rules, returns _ _ _ _ c.args.room [] missed empty near)

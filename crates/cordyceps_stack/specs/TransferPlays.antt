@@ -1,0 +1,114 @@
+-- What each atomic step tells a party of a transfer stack: of its seat m before, of the word that it found, and of its seat
+-- k after. A seat has a view, and the slots in hand, the last taken first.
+use Rattle.std.specs.Prelude.{◌≡◌, ◌≢◌, ℕ, ◌<◌, ◌≤◌, List, [], ◌∷◌, ◌++◌, length, take, drop, Option, Some, None}
+use Rattle.atomic_table.specs.Table.{Me, Step}
+use Rattle.cordyceps_base.specs.Knowing.{Known, Grown, IsKnown}
+use Rattle.cordyceps_base.specs.Knowing as knowing
+use Rattle.cordyceps_base.specs.Shares.{Name}
+use Rattle.cordyceps_stack.specs.declared.transfer_table.Filled.{Filled}
+use Rattle.cordyceps_stack.specs.TransferHistory.{Event, Load, Push, Taken, Legal}
+use Rattle.cordyceps_stack.specs.TransferMeets.{elements}
+use Rattle.cordyceps_stack.specs.TransferStanding.{EndsPushed, EndsLooked, IsOvertaken}
+use Rattle.cordyceps_stack.specs.TransferView.{Doing, Idle, Loaded, Set, Missed, Walking, View, name, walking}
+use Rattle.cordyceps_stack.specs.TransferWords.{start}
+use Rattle.cordyceps_stack.specs.TransferRule.{filled}
+
+abbrev pub Sat : Type 0 → Type 0
+Sat E = Me (Option (Filled E)) (View E)
+
+abbrev pub At : Type 0 → Type 0
+At E = Step (Option (Filled E))
+
+-- the slots in hand
+abbrev pub Hand : Type 0 → Type 0
+Hand E = List (ℕ × Option (Filled E))
+
+module _ {E : Type 0} where
+  -- the party has seen more, with these events of its own
+  abbrev pub Sees : View E → List (Event Name E) → View E → Type 0
+  Sees v es w = Grown (λ h. Legal h) v.known es w.known
+
+  -- the filled slots of these rooms, in front of others in hand
+  abbrev pub carry : List (ℕ × E) → Hand E → Hand E
+  carry [] cs = cs
+  carry (x ∷ xs) cs = (x.0, Some (filled x)) ∷ carry xs cs
+
+  -- the rooms are of a table with that many slots
+  abbrev pub Near : ℕ → List (ℕ × E) → Type 0
+  Near slots [] = Unit {0}
+  Near slots (x ∷ xs) = (x.0 < slots) × Near slots xs
+
+  -- what a party has yet to hand out
+  abbrev pub batch_of : Doing E → List (ℕ × E)
+  batch_of Idle = []
+  batch_of (Loaded r read) = []
+  batch_of (Set r read) = []
+  batch_of (Missed r) = []
+  batch_of (Walking xs) = xs
+
+  -- ---- the steps
+  -- a load of head by a party that looks whether nothing is held
+  abbrev pub looked : At E → Sat E → ℕ → Sat E → Type 0
+  looked st m read k =
+      (k.0.doing ≡ m.0.doing) × (k.0.free ≡ m.0.free) × (k.1 ≡ m.1) × Sees m.0 (Load (name m.0) ∷ []) k.0
+      × EndsLooked (read ≡ 0) (name m.0) k.0.known.seen
+
+  -- a load of head by a party that begins to push: the slot of its first free room is in hand
+  abbrev pub loaded : At E → Sat E → ℕ → Sat E → Type 0
+  loaded st m read k = (r : ℕ) (rs : List ℕ) → m.0.free ≡ r ∷ rs
+      → (k.0.doing ≡ Loaded r read) × (k.0.free ≡ rs) × (k.1 ≡ (r, None) ∷ m.1) × (r < st.slots) × Sees m.0 (Load (name m.0) ∷ []) k.0
+
+  -- a store of what was read in the room's link
+  abbrev pub wrote : At E → Sat E → ℕ → Sat E → Type 0
+  wrote st m n k = (r read : ℕ) → m.0.doing ≡ Loaded r read → (k.0 ≡ record m.0 { doing = Set r read }) × (k.1 ≡ m.1)
+
+  -- a compare-exchange of head
+  abbrev pub exchanged : At E → Sat E → ℕ → Sat E → Type 0
+  exchanged st m found k = (r read : ℕ) (x : Filled E) (cs : Hand E) → m.0.doing ≡ Set r read → m.1 ≡ (r, Some x) ∷ cs
+      → (found ≡ read → (k.0.doing ≡ Idle) × (k.0.free ≡ m.0.free) × (k.1 ≡ cs) × Sees m.0 (Push (name m.0) x.item ∷ []) k.0 × EndsPushed x.item (found ≡ 0) (name m.0) k.0.known.seen)
+      × (found ≢ read → (k.0.doing ≡ Missed r) × (k.0.free ≡ m.0.free) × (k.1 ≡ m.1) × Sees m.0 [] k.0 × IsOvertaken k.0.known.seen)
+
+  -- a read of the link of a room whose exchange failed: its slot goes back
+  abbrev pub returned : At E → Sat E → ℕ → Sat E → Type 0
+  returned st m found k = (r : ℕ) (cs : Hand E) → m.0.doing ≡ Missed r → m.1 ≡ (r, None) ∷ cs
+      → (k.0 ≡ record m.0 { doing = Idle; free = r ∷ m.0.free }) × (k.1 ≡ cs)
+
+  -- a swap of head: the slots of all that was held are in hand
+  abbrev pub took : At E → Sat E → ℕ → Sat E → Type 0
+  took st m found k = m.0.doing ≡ Idle
+      → (chain : List (ℕ × E)) × (found ≡ start chain) × (k.0.doing ≡ walking chain) × (k.0.free ≡ m.0.free) × (k.1 ≡ carry chain m.1) × Near st.slots chain
+      × Sees m.0 (Taken (name m.0) (elements chain) ∷ []) k.0
+
+  -- a read of the link of the next room to be handed out: its slot goes back
+  abbrev pub walked : At E → Sat E → ℕ → Sat E → Type 0
+  walked st m found k = (x : ℕ × E) (xs : List (ℕ × E)) (cs : Hand E) → m.0.doing ≡ Walking (x ∷ xs) → m.1 ≡ (x.0, None) ∷ cs
+      → (found ≡ start xs) × (k.0 ≡ record m.0 { doing = walking xs; free = x.0 ∷ m.0.free }) × (k.1 ≡ cs) × (length k.0.free ≤ st.slots)
+
+  -- a load of head by a party that took another in
+  abbrev pub forgot : View E → View E
+  forgot v = record v { known = record v.known { told = [] } }
+
+  abbrev pub learned : At E → Sat E → ℕ → Sat E → Type 0
+  learned st m read k = (k.0 ≡ forgot m.0) × (k.1 ≡ m.1) × IsKnown (λ h. Legal h) m.0.known × (length m.0.free ≤ st.slots)
+
+  -- ---- splitting and joining
+  abbrev pub kept : ℕ → View E → View E
+  kept n v = record { known = knowing.kept v.known; free = drop n v.free; doing = v.doing }
+
+  abbrev pub given : ℕ → View E → View E
+  given n v = record { known = knowing.given v.known; free = take n v.free; doing = Idle }
+
+  abbrev pub both : View E → View E → View E
+  both v w = record { known = knowing.both v.known w.known; free = v.free ++ w.free; doing = Idle }
+
+  abbrev pub spent : View E
+  spent = record { known = knowing.spent; free = []; doing = Idle }
+
+  -- ---- between the steps
+  -- the party is between two calls
+  abbrev pub IsResting : Sat E → Type 0
+  IsResting m = (m.0.doing ≡ Idle) × (m.1 ≡ []) × (m.0.known.share ≢ [])
+
+  -- the party has these rooms to hand out, and their slots in hand
+  abbrev pub IsWalking : ℕ → List (ℕ × E) → Sat E → Type 0
+  IsWalking slots xs m = (m.0.doing ≡ walking xs) × (m.1 ≡ carry xs []) × Near slots xs × (m.0.known.share ≢ [])

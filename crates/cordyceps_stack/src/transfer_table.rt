@@ -1,0 +1,57 @@
+//! What the table of a shared transfer stack holds, and what its seats know.
+ghost use Rattle.cordyceps_stack.specs.TransferView.{View, newcomer};
+
+use atomic_table::{Seat, Shared, Table, TableRule};
+use cordyceps_base::tickets::Ticket;
+use std::alloc::Global;
+use std::marker::{Brand, Model, PhantomData};
+
+/// What lies in the slot of a room in use.
+#[derive(Drop)]
+pub(crate) struct Filled<E> {
+    pub ticket: Ticket,
+    pub item: E,
+}
+
+/// What a seat knows. No value of it is made: a contract sees a `View`.
+pub(crate) struct Sight<E> {
+    element: PhantomData<E>,
+}
+
+impl<E> Model for Sight<E> {
+    ghost Value = { View E };
+
+    ghost view = { λ _. newcomer 0 };
+}
+
+/// The rule that each step keeps. Its key is the number of rooms.
+pub(crate) struct Rule;
+
+impl<E> TableRule<Option<Filled<E>>, Sight<E>, usize> for Rule {
+    ghost use Rattle.cordyceps_stack.specs.TransferRule.{Kept};
+
+    ghost holds = { λ _. Kept };
+
+    ghost first = { newcomer };
+}
+
+/// Word 0 is `head`: 0, or 1 more than the room that was pushed last. Word `r + 1` is the link of room `r`, which leads to
+/// the room below, and slot `r` has its ticket and element.
+pub(crate) type Words<E> = Shared<Option<Filled<E>>, Sight<E>, usize, Rule>;
+
+/// The same, with its memory.
+pub(crate) type Rooms<E> = Table<Option<Filled<E>>, Sight<E>, usize, Rule, Global>;
+
+/// A party's seat.
+pub(crate) type Place<E> = Seat<Option<Filled<E>>, Sight<E>>;
+
+/// How many rooms a party gives up. Each call that splits one picks it.
+pub(crate) trait Count {
+    ghost use Rattle.std.specs.Prelude.{ℕ};
+
+    ghost rooms: { ℕ };
+}
+
+impl Count for Brand {
+    ghost rooms = { 0 };
+}
