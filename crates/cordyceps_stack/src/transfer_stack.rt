@@ -77,7 +77,7 @@ impl<T: Linked<Links<T>>> Party<T> {
 impl<T: Linked<Links<T>>> TransferStack<T> {
     /// An empty stack with this many rooms, at most `MAX_ROOMS`, and the party that has them all, which is whole.
     ///
-    /// It makes an allocation for each room, and three for the words and slots of all. `AllocError` where one is refused.
+    /// It makes an allocation for each room, and four for the words and slots of all. `AllocError` where one is refused.
     pub fn new(alloc: Global, rooms: usize) -> Result<(TransferStack<T>, Party<T>), AllocError>
         requires { rooms ≤ 1048576 }
         ensures { IfOk result (λ made. made.1 ≡ new_party made.0 rooms) }
