@@ -18,7 +18,7 @@ const LOOKS: u64 = 10_000_000;
 const TURNS: u64 = 1000;
 
 /// How often the threads race.
-const RACES: u64 = 5;
+const RACES: u64 = 50;
 
 /// Looks at a flag until it is set, and fails where that never comes.
 fn await_flag(rt: &impl Abort, flag: &AtomicBool) {
