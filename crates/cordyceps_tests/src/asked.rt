@@ -87,3 +87,11 @@ pub fn no_counts(alloc: Global) -> Result<Rc<Counts, Global>, AllocError> {
         },
     )?)
 }
+
+/// The number of a node, which is dropped.
+pub fn number(node: Option<Node<Asked, Links<Asked>>>) -> Option<u64> {
+    match node {
+        Some(node) => Some(node.id()),
+        None => None,
+    }
+}

@@ -1,6 +1,6 @@
 use crate::counted::counting_node;
 use cordyceps_base::double_chain::DoubleChain;
-use cordyceps_base::node::Node;
+use cordyceps_base::node::{Node, Refused};
 use cordyceps_base::single_chain::SingleChain;
 use cordyceps_base::stack;
 use std::alloc::{AllocError, Global};
@@ -9,7 +9,10 @@ use std::rc::Rc;
 use std::test::Fail;
 
 fn single(alloc: Global, id: u64, value: u64) -> Result<Node<u64, stack::Links<u64>>, AllocError> {
-    Node::new(alloc, id, value).map_err(|_| AllocError)
+    match Node::new(alloc, id, value) {
+        Ok(node) => Ok(node),
+        Err(Refused { value: _ }) => Err(AllocError),
+    }
 }
 
 #[test]

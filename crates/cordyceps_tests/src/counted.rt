@@ -57,3 +57,11 @@ pub fn counting_node(
         Err(Refused { value: _ }) => Err(AllocError),
     }
 }
+
+/// The number of a node, which is dropped.
+pub fn number(node: Option<Node<Counted, Links<Counted>>>) -> Option<u64> {
+    match node {
+        Some(node) => Some(node.id()),
+        None => None,
+    }
+}

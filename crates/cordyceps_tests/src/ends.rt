@@ -1,7 +1,8 @@
-use crate::number::{Number, make};
+use crate::number::{Number, id_of, make};
 use cordyceps_stack::sorted_list::{Greatest, Least, Order, SortedList};
 use cordyceps_stack::stack::Stack;
 use std::alloc::{AllocError, Global};
+use std::process::Abort;
 use std::test::*;
 
 /// A stack of two numbers.
@@ -12,46 +13,59 @@ fn two(alloc: Global, first: u64, second: u64) -> Result<Stack<Number>, AllocErr
     Ok(stack)
 }
 
-#[test]
-fn pops_the_least(rt: HostRuntime) -> Result<(), Fail> {
+/// Numbers that come in.
+const NUMBERS: [u64; 8] = [20, 10, 30, 25, 35, 1, 2, 3];
+
+/// The numbers from the least.
+const RISING: [u64; 8] = [1, 2, 3, 10, 20, 25, 30, 35];
+
+/// The numbers from the greatest.
+const FALLING: [u64; 8] = [35, 30, 25, 20, 10, 3, 2, 1];
+
+/// A list of the numbers that has its least first.
+fn least(alloc: Global) -> Result<SortedList<Number, Least>, AllocError> {
     let mut list: SortedList<Number, Least> = SortedList::new_min();
-    for value in [20u64, 10, 30, 25, 35, 1, 2, 3] {
-        list.insert(make(rt.alloc(), value)?);
+    for value in NUMBERS {
+        list.insert(make(alloc, value)?);
     }
-    let mut seen = list.iter();
-    for want in [1u64, 2, 3, 10, 20, 25, 30, 35] {
-        assert_eq!(rt; seen.next().map(|number| number.value), Some(want));
+    Ok(list)
+}
+
+/// A list of the numbers that has its greatest first.
+fn greatest(alloc: Global) -> Result<SortedList<Number, Greatest>, AllocError> {
+    let mut list: SortedList<Number, Greatest> = SortedList::new_max();
+    for value in NUMBERS {
+        list.insert(make(alloc, value)?);
     }
-    assert!(rt; seen.next().is_none());
-    for want in [1u64, 2, 3, 10, 20, 25, 30, 35] {
-        assert_eq!(rt; list.pop_front().map(|node| node.id()), Some(want));
+    Ok(list)
+}
+
+/// Asserts that the list pops these numbers, and then nothing.
+fn pops<O: Order<Number>>(rt: &impl Abort, list: &mut SortedList<Number, O>, wanted: &[u64]) {
+    for want in wanted {
+        assert_eq!(rt; id_of(list.pop_front()), Some(*want));
     }
     assert!(rt; list.pop_front().is_none());
+}
+
+#[test]
+fn pops_the_least(rt: HostRuntime) -> Result<(), Fail> {
+    let mut list = least(rt.alloc())?;
+    assert!(rt; shows(&list, &RISING));
+    pops(&rt, &mut list, &RISING);
     list.extend(two(rt.alloc(), 4, 5)?);
-    for want in [Some(4u64), Some(5), None] {
-        assert_eq!(rt; list.pop_front().map(|node| node.id()), want);
-    }
+    pops(&rt, &mut list, &[4, 5]);
     let mut list = SortedList::from_stack_min(two(rt.alloc(), 5, 6)?);
-    for want in [Some(5u64), Some(6), None] {
-        assert_eq!(rt; list.pop_front().map(|node| node.id()), want);
-    }
+    pops(&rt, &mut list, &[5, 6]);
     Ok(())
 }
 
 #[test]
 fn pops_the_greatest(rt: HostRuntime) -> Result<(), Fail> {
-    let mut list: SortedList<Number, Greatest> = SortedList::new_max();
-    for value in [20u64, 10, 30, 25, 35, 1, 2, 3] {
-        list.insert(make(rt.alloc(), value)?);
-    }
-    for want in [35u64, 30, 25, 20, 10, 3, 2, 1] {
-        assert_eq!(rt; list.pop_front().map(|node| node.id()), Some(want));
-    }
-    assert!(rt; list.pop_front().is_none());
+    let mut list = greatest(rt.alloc())?;
+    pops(&rt, &mut list, &FALLING);
     let mut list = SortedList::from_stack_max(two(rt.alloc(), 5, 6)?);
-    for want in [Some(6u64), Some(5), None] {
-        assert_eq!(rt; list.pop_front().map(|node| node.id()), want);
-    }
+    pops(&rt, &mut list, &[6, 5]);
     Ok(())
 }
 
@@ -73,32 +87,20 @@ fn shows<O: Order<Number>>(list: &SortedList<Number, O>, wanted: &[u64]) -> bool
 
 #[test]
 fn builtin_sort_min(rt: HostRuntime) -> Result<(), Fail> {
-    let mut list: SortedList<Number, Least> = SortedList::new_min();
-    for value in [20u64, 10, 30, 25, 35, 1, 2, 3] {
-        list.insert(make(rt.alloc(), value)?);
-    }
-    assert!(rt; shows(&list, &[1, 2, 3, 10, 20, 25, 30, 35]));
-    assert!(rt; shows(&list, &[1, 2, 3, 10, 20, 25, 30, 35]));
-    for want in [1u64, 2, 3, 10, 20, 25, 30, 35] {
-        assert_eq!(rt; list.pop_front().map(|node| node.id()), Some(want));
-    }
-    assert!(rt; list.pop_front().is_none());
+    let mut list = least(rt.alloc())?;
+    assert!(rt; shows(&list, &RISING));
+    assert!(rt; shows(&list, &RISING));
+    pops(&rt, &mut list, &RISING);
     assert!(rt; shows(&list, &[]));
     Ok(())
 }
 
 #[test]
 fn builtin_sort_max(rt: HostRuntime) -> Result<(), Fail> {
-    let mut list: SortedList<Number, Greatest> = SortedList::new_max();
-    for value in [20u64, 10, 30, 25, 35, 1, 2, 3] {
-        list.insert(make(rt.alloc(), value)?);
-    }
-    assert!(rt; shows(&list, &[35, 30, 25, 20, 10, 3, 2, 1]));
-    assert!(rt; shows(&list, &[35, 30, 25, 20, 10, 3, 2, 1]));
-    for want in [35u64, 30, 25, 20, 10, 3, 2, 1] {
-        assert_eq!(rt; list.pop_front().map(|node| node.id()), Some(want));
-    }
-    assert!(rt; list.pop_front().is_none());
+    let mut list = greatest(rt.alloc())?;
+    assert!(rt; shows(&list, &FALLING));
+    assert!(rt; shows(&list, &FALLING));
+    pops(&rt, &mut list, &FALLING);
     assert!(rt; shows(&list, &[]));
     Ok(())
 }

@@ -1,4 +1,4 @@
-use crate::counted::{Counted, counting_node};
+use crate::counted::{Counted, counting_node, number};
 use cordyceps_list::list::List;
 use std::cell::Cell;
 use std::rc::Rc;
@@ -15,7 +15,7 @@ fn is_a_stack_at_the_front(rt: HostRuntime) -> Result<(), Fail> {
     }
     assert_eq!(rt; list.len(), 3);
     for want in [Some(9u64), Some(7), Some(5), None] {
-        assert_eq!(rt; list.pop_front().map(|node| node.id()), want);
+        assert_eq!(rt; number(list.pop_front()), want);
     }
     assert_eq!(rt; drops.get(), 3);
     Ok(())
@@ -29,8 +29,8 @@ fn is_a_queue_from_the_back(rt: HostRuntime) -> Result<(), Fail> {
         assert!(rt; list.len() < usize::MAX);
         list.push_back(counting_node(rt.alloc(), id, &drops)?);
     }
-    assert_eq!(rt; list.pop_front().map(|node| node.id()), Some(1));
-    assert_eq!(rt; list.pop_back().map(|node| node.id()), Some(3));
+    assert_eq!(rt; number(list.pop_front()), Some(1));
+    assert_eq!(rt; number(list.pop_back()), Some(3));
     assert_eq!(rt; list.len(), 1);
     assert_eq!(rt; drops.get(), 2);
     drop(list);
@@ -70,9 +70,9 @@ fn lends_its_ends(rt: HostRuntime) -> Result<(), Fail> {
         *value = Counted::new(&last)?;
     }
     assert_eq!(rt; other.get(), 2);
-    assert_eq!(rt; list.pop_front().map(|node| node.id()), Some(1));
+    assert_eq!(rt; number(list.pop_front()), Some(1));
     assert_eq!(rt; (first.get(), last.get(), other.get()), (1, 0, 2));
-    assert_eq!(rt; list.pop_back().map(|node| node.id()), Some(3));
+    assert_eq!(rt; number(list.pop_back()), Some(3));
     assert_eq!(rt; (first.get(), last.get(), other.get()), (1, 1, 2));
     assert_eq!(rt; list.front().is_some(), true);
     assert_eq!(rt; list.back().is_some(), true);

@@ -7,7 +7,10 @@ use std::marker::Send;
 use std::test::Fail;
 
 fn node<L: Kind>(alloc: Global, id: u64, value: u64) -> Result<Node<u64, L>, AllocError> {
-    Node::new(alloc, id, value).map_err(|_| AllocError)
+    match Node::new(alloc, id, value) {
+        Ok(node) => Ok(node),
+        Err(Refused { value: _ }) => Err(AllocError),
+    }
 }
 
 fn sent<T: Send>(value: T) -> T {

@@ -35,3 +35,11 @@ pub fn make(alloc: Global, value: u64) -> Result<Node<Number, Links<Number>>, Al
         Err(Refused { value: _ }) => Err(AllocError),
     }
 }
+
+/// The number of a node, which is dropped.
+pub fn id_of(node: Option<Node<Number, Links<Number>>>) -> Option<u64> {
+    match node {
+        Some(node) => Some(node.id()),
+        None => None,
+    }
+}

@@ -1,4 +1,4 @@
-use crate::asked::{Asked, no_counts, node};
+use crate::asked::{Asked, no_counts, node, number};
 use cordyceps_stack::stack::Stack;
 use std::test::*;
 
@@ -18,7 +18,7 @@ fn takes_all_while_more_comes(rt: HostRuntime) -> Result<(), Fail> {
     assert_eq!(rt; counts.dropped.get(), 3);
     let mut taken = stack.take_all();
     for want in [Some(11u64), Some(12), Some(13), None, None] {
-        assert_eq!(rt; taken.next().map(|node| node.id()), want);
+        assert_eq!(rt; number(taken.next()), want);
     }
     assert!(rt; stack.pop().is_none());
     assert_eq!(rt; counts.dropped.get(), 6);
@@ -46,7 +46,7 @@ fn unsync(rt: HostRuntime) -> Result<(), Fail> {
     }
     let mut taken = stack.take_all();
     for id in [3u64, 2, 1] {
-        assert_eq!(rt; taken.next().map(|node| node.id()), Some(id));
+        assert_eq!(rt; number(taken.next()), Some(id));
         stack.push(node(rt.alloc(), id.wrapping_add(10), &counts)?);
     }
     assert!(rt; taken.next().is_none());

@@ -1,5 +1,5 @@
+use crate::made::{queue_of, show_of};
 use cordyceps::replay::{Item, Reply, StackCommand, Stacks, replay_stacks};
-use std::collections::VecDeque;
 use std::test::Fail;
 
 fn item(value: u64, id: u64) -> Item {
@@ -9,24 +9,30 @@ fn item(value: u64, id: u64) -> Item {
 #[test]
 fn moves_and_drains(rt: HostRuntime) -> Result<(), Fail> {
     let alloc = rt.alloc();
-    let mut commands = VecDeque::new(alloc);
-    commands.push_back(StackCommand::Push(0, item(1, 1)))?;
-    commands.push_back(StackCommand::Push(0, item(2, 2)))?;
-    commands.push_back(StackCommand::TakeAll(0, 1))?;
-    commands.push_back(StackCommand::IsEmpty(0))?;
-    commands.push_back(StackCommand::Drain(1))?;
-    commands.push_back(StackCommand::IsEmpty(1))?;
-    commands.push_back(StackCommand::Drain(15))?;
+    let commands = queue_of(
+        alloc,
+        [
+            StackCommand::Push(0, item(1, 1)),
+            StackCommand::Push(0, item(2, 2)),
+            StackCommand::TakeAll(0, 1),
+            StackCommand::IsEmpty(0),
+            StackCommand::Drain(1),
+            StackCommand::IsEmpty(1),
+            StackCommand::Drain(15),
+        ],
+    )?;
     let mut stacks = Stacks::new();
     let played = replay_stacks(alloc, &mut stacks, commands);
+    let drained = show_of(alloc, &[(2, 2), (1, 1)])?;
+    let none = show_of(alloc, &[])?;
     let expected = [
         Reply::Truth(true),
         Reply::Truth(false),
         Reply::Done,
         Reply::Truth(true),
-        Reply::Show([Some(item(2, 2)), Some(item(1, 1))].to_vec(alloc)?),
+        drained,
         Reply::Truth(true),
-        Reply::Show(Vec::new(alloc)),
+        none,
     ];
     assert_eq!(rt; played.replies.as_slice(), expected.as_slice());
     assert_eq!(rt; played.rest.len(), 0);
@@ -36,16 +42,20 @@ fn moves_and_drains(rt: HostRuntime) -> Result<(), Fail> {
 #[test]
 fn moves_nothing_where_it_may_not(rt: HostRuntime) -> Result<(), Fail> {
     let alloc = rt.alloc();
-    let mut commands = VecDeque::new(alloc);
-    commands.push_back(StackCommand::Push(3, item(1, 10)))?;
-    commands.push_back(StackCommand::Push(4, item(2, 20)))?;
-    commands.push_back(StackCommand::TakeAll(3, 4))?;
-    commands.push_back(StackCommand::TakeAll(3, 3))?;
-    commands.push_back(StackCommand::TakeAll(5, 5))?;
-    commands.push_back(StackCommand::Pop(3))?;
-    commands.push_back(StackCommand::Pop(3))?;
-    commands.push_back(StackCommand::TakeAll(4, 3))?;
-    commands.push_back(StackCommand::Pop(3))?;
+    let commands = queue_of(
+        alloc,
+        [
+            StackCommand::Push(3, item(1, 10)),
+            StackCommand::Push(4, item(2, 20)),
+            StackCommand::TakeAll(3, 4),
+            StackCommand::TakeAll(3, 3),
+            StackCommand::TakeAll(5, 5),
+            StackCommand::Pop(3),
+            StackCommand::Pop(3),
+            StackCommand::TakeAll(4, 3),
+            StackCommand::Pop(3),
+        ],
+    )?;
     let mut stacks = Stacks::default();
     let played = replay_stacks(alloc, &mut stacks, commands);
     let expected = [

@@ -2,10 +2,12 @@ ghost use Rattle.std.specs.Prelude.{◌≡◌, ◌/◌, ◌<◌, All, IfOk};
 ghost use Rattle.std.specs.Ordering.{nat_cmp};
 ghost use Rattle.cordyceps.specs.Sorteds.{Fits};
 
+use crate::made::{queue_of, show_of};
 use cordyceps::replay::{Item, Reply, SortedCommand, Sorteds, replay_sorted};
 use std::alloc::{AllocError, Global};
 use std::cmp::Ordering;
 use std::collections::VecDeque;
+use std::process::Abort;
 use std::test::Fail;
 
 fn item(value: u64, id: u64) -> Item {
@@ -19,44 +21,45 @@ fn by_tens(first: &Item, second: &Item) -> Ordering
     (first.value / 10).cmp(&(second.value / 10))
 }
 
+/// Runs the commands on empty lists, and asserts what they reply.
+fn replies(rt: &impl Abort, alloc: Global, commands: VecDeque<SortedCommand>, expected: &[Reply])
+    requires { All Fits commands.items }
+{
+    let mut sorteds = Sorteds::new(by_tens);
+    let played = replay_sorted(alloc, &mut sorteds, commands);
+    assert_eq!(rt; played.replies.as_slice(), expected);
+    assert_eq!(rt; played.rest.len(), 0);
+}
+
 #[test]
 fn keeps_equals_by_arrival(rt: HostRuntime) -> Result<(), Fail> {
     let alloc = rt.alloc();
     let items = [item(21, 1), item(11, 2), item(12, 3), item(20, 4)].to_vec(alloc)?;
     let again = [item(5, 5)].to_vec(alloc)?;
-    let mut commands = VecDeque::new(alloc);
-    commands.push_back(SortedCommand::FromStack(11, items))?;
-    commands.push_back(SortedCommand::Show(11))?;
-    commands.push_back(SortedCommand::FromStack(11, again))?;
-    commands.push_back(SortedCommand::Insert(11, item(13, 6)))?;
-    commands.push_back(SortedCommand::PopFront(11))?;
-    commands.push_back(SortedCommand::Show(11))?;
-    commands.push_back(SortedCommand::PopFront(15))?;
-    let mut sorteds = Sorteds::new(by_tens);
-    let played = replay_sorted(alloc, &mut sorteds, commands);
-    let first = [
-        Some(item(12, 3)),
-        Some(item(11, 2)),
-        Some(item(20, 4)),
-        Some(item(21, 1)),
-    ];
-    let then = [
-        Some(item(11, 2)),
-        Some(item(13, 6)),
-        Some(item(20, 4)),
-        Some(item(21, 1)),
-    ];
+    let commands = queue_of(
+        alloc,
+        [
+            SortedCommand::FromStack(11, items),
+            SortedCommand::Show(11),
+            SortedCommand::FromStack(11, again),
+            SortedCommand::Insert(11, item(13, 6)),
+            SortedCommand::PopFront(11),
+            SortedCommand::Show(11),
+            SortedCommand::PopFront(15),
+        ],
+    )?;
+    let first = show_of(alloc, &[(3, 12), (2, 11), (4, 20), (1, 21)])?;
+    let then = show_of(alloc, &[(2, 11), (6, 13), (4, 20), (1, 21)])?;
     let expected = [
         Reply::Done,
-        Reply::Show(first.to_vec(alloc)?),
+        first,
         Reply::NotThere,
         Reply::Done,
         Reply::Found(item(12, 3)),
-        Reply::Show(then.to_vec(alloc)?),
+        then,
         Reply::Nothing,
     ];
-    assert_eq!(rt; played.replies.as_slice(), expected.as_slice());
-    assert_eq!(rt; played.rest.len(), 0);
+    replies(&rt, alloc, commands, expected.as_slice());
     Ok(())
 }
 
@@ -101,13 +104,12 @@ fn popped(alloc: Global, order: &[u64]) -> Result<Vec<Reply>, AllocError> {
 fn pops_in_order(rt: HostRuntime) -> Result<(), Fail> {
     let alloc = rt.alloc();
     let values = [20, 10, 30, 25, 35, 1, 2, 3];
-    let mut sorteds = Sorteds::new(by_tens);
-    let least = replay_sorted(alloc, &mut sorteds, inserts_and_pops(alloc, 0, &values)?);
-    let rising = popped(alloc, &[1, 2, 3, 10, 20, 25, 30, 35])?;
-    assert_eq!(rt; least.replies.as_slice(), rising.as_slice());
-    let greatest = replay_sorted(alloc, &mut sorteds, inserts_and_pops(alloc, 6, &values)?);
-    let falling = popped(alloc, &[35, 30, 25, 20, 10, 3, 2, 1])?;
-    assert_eq!(rt; greatest.replies.as_slice(), falling.as_slice());
-    assert_eq!(rt; least.rest.len() == 0 && greatest.rest.len() == 0, true);
+    let mut commands = inserts_and_pops(alloc, 0, &values)?;
+    let mut of_greatest = inserts_and_pops(alloc, 6, &values)?;
+    commands.append(&mut of_greatest)?;
+    let mut expected = popped(alloc, &[1, 2, 3, 10, 20, 25, 30, 35])?;
+    let mut falling = popped(alloc, &[35, 30, 25, 20, 10, 3, 2, 1])?;
+    expected.append(&mut falling)?;
+    replies(&rt, alloc, commands, expected.as_slice());
     Ok(())
 }

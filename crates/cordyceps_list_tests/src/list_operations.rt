@@ -1,7 +1,7 @@
 //! Runs of many operations on a list, beside a queue that should hold the same, and filters that are dropped early.
 ghost use Rattle.std.specs.Prelude.{◌<◌};
 
-use crate::items::{after, before, list_of, plain};
+use crate::items::{after, back, before, comes_out, forth, list_of, number, plain, shows};
 use cordyceps::list::{CursorMut, Iter};
 use cordyceps::{Item, List};
 use std::alloc::{AllocError, Global};
@@ -40,21 +40,27 @@ impl Draws {
     }
 }
 
-fn value(item: Option<&Item>) -> Option<u64> {
-    item.map(|item| item.value)
-}
-
 /// Asserts that the list holds what the queue does, from both ends.
 fn same(rt: &impl Abort, list: &List<Item>, queue: &VecDeque<u64>) {
     assert_eq!(rt; list.len(), queue.len());
     assert_eq!(rt; list.is_empty(), queue.is_empty());
-    assert_eq!(rt; value(list.front()), queue.front().copied());
-    assert_eq!(rt; value(list.back()), queue.back().copied());
+    shows(rt, list.front(), queue.front().copied());
+    shows(rt, list.back(), queue.back().copied());
+    same_forth(rt, list, queue);
+    same_back(rt, list, queue);
+}
+
+/// Asserts that the list holds what the queue does, from the front.
+fn same_forth(rt: &impl Abort, list: &List<Item>, queue: &VecDeque<u64>) {
     let mut wanted = queue.iter();
     for item in list.iter() {
         assert_eq!(rt; Some(item.value), wanted.next().copied());
     }
     assert!(rt; wanted.next().is_none());
+}
+
+/// Asserts that the list holds what the queue does, from the back.
+fn same_back(rt: &impl Abort, list: &List<Item>, queue: &VecDeque<u64>) {
     let mut wanted = queue.iter();
     for item in list.iter().rev() {
         assert_eq!(rt; Some(item.value), wanted.next_back().copied());
@@ -92,12 +98,12 @@ impl Both {
     }
 
     fn pop_front(&mut self, rt: &impl Abort) {
-        let first = self.list.pop_front().map(|node| node.id());
+        let first = number(self.list.pop_front());
         assert_eq!(rt; first, self.queue.pop_front());
     }
 
     fn pop_back(&mut self, rt: &impl Abort) {
-        let last = self.list.pop_back().map(|node| node.id());
+        let last = number(self.list.pop_back());
         assert_eq!(rt; last, self.queue.pop_back());
     }
 
@@ -152,7 +158,7 @@ impl Both {
             Some(at) => self.queue.remove(at),
             None => None,
         };
-        assert_eq!(rt; self.list.remove(v).map(|node| node.id()), wanted);
+        comes_out(rt, self.list.remove(v), wanted);
     }
 
     /// Moves a cursor to a drawn place, and inserts there or removes.
@@ -189,23 +195,17 @@ fn moved<'a>(
     match draws.below(3) {
         0 => {
             let mut cursor = list.cursor_front_mut();
-            for _ in 0..at {
-                cursor.move_next();
-            }
+            forth(&mut cursor, at);
             cursor
         }
         1 => {
             let mut cursor = list.cursor_front_mut();
-            for _ in 0..len + 1 - at {
-                cursor.move_prev();
-            }
+            back(&mut cursor, len + 1 - at);
             cursor
         }
         _ => {
             let mut cursor = list.cursor_back_mut();
-            for _ in 0..at + 2 {
-                cursor.move_next();
-            }
+            forth(&mut cursor, at + 2);
             cursor
         }
     }
@@ -217,15 +217,15 @@ fn sees(rt: &impl Abort, cursor: &CursorMut<'_, Item>, queue: &VecDeque<u64>, at
     assert!(rt; at <= queue.len() && at < 1_000_000);
     let inside = at < queue.len();
     assert_eq!(rt; cursor.index(), if inside { Some(at) } else { None });
-    assert_eq!(rt; value(cursor.current()), queue.get(at).copied());
+    shows(rt, cursor.current(), queue.get(at).copied());
     let next = if inside { at + 1 } else { 0 };
-    assert_eq!(rt; value(cursor.peek_next()), queue.get(next).copied());
+    shows(rt, cursor.peek_next(), queue.get(next).copied());
     let prev = if at > 0 {
         queue.get(at - 1).copied()
     } else {
         None
     };
-    assert_eq!(rt; value(cursor.peek_prev()), prev);
+    shows(rt, cursor.peek_prev(), prev);
 }
 
 /// Inserts before the cursor at a place, and answers the place where it stands then.
@@ -271,7 +271,7 @@ fn remove_current(
     at: usize,
 ) -> usize {
     let wanted = queue.remove(at);
-    assert_eq!(rt; cursor.remove_current().map(|node| node.id()), wanted);
+    comes_out(rt, cursor.remove_current(), wanted);
     at
 }
 
@@ -362,7 +362,7 @@ fn was_removed(removed: &[Option<u64>], v: u64) -> bool {
 /// Asserts that the item `v` is the next one, unless it was removed.
 fn keeps_next(rt: &impl Abort, left: &mut Iter<'_, Item>, removed: &[Option<u64>], v: u64) {
     if !was_removed(removed, v) {
-        assert_eq!(rt; value(left.next()), Some(v));
+        shows(rt, left.next(), Some(v));
     }
 }
 
@@ -388,7 +388,7 @@ fn drops_after(
     let mut list = list_of(rt, alloc, &[1, 2, 3, 4, 5, 6])?;
     let mut filter = list.drain_filter(move |item: &Item| shared.answer(item, &says));
     for call in 0..calls {
-        let removed = filter.next().map(|node| node.id());
+        let removed = number(filter.next());
         assert_eq!(rt; Some(&removed), filtering.removed.get(call), "at {call}");
     }
     drop(filter);

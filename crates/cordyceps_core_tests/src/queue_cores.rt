@@ -1,16 +1,20 @@
 use crate::counted::Counted;
+use crate::scripts::script_of;
 use cordyceps_queue::mpsc_queue::{
     QueueAnswer, QueueCore, QueueStep, Replay, StepError, TryDequeueError, replay,
 };
-use std::alloc::Global;
+use std::alloc::{AllocError, Global};
 use std::cell::Cell;
-use std::collections::VecDeque;
 use std::process::Abort;
 use std::rc::Rc;
 use std::test::*;
 
 /// A core with so many parties, and with a room for each of the parties that are named.
-fn core_with(alloc: Global, parties: usize, rooms: &[usize]) -> Result<QueueCore<u64>, StepError> {
+fn core_with<E: Drop>(
+    alloc: Global,
+    parties: usize,
+    rooms: &[usize],
+) -> Result<QueueCore<E>, StepError> {
     let mut core = QueueCore::new(alloc);
     for _ in 0..parties {
         core.add_party()?;
@@ -23,12 +27,36 @@ fn core_with(alloc: Global, parties: usize, rooms: &[usize]) -> Result<QueueCore
 
 /// A step that is taken, with more to do.
 fn done(rt: &impl Abort, core: &mut QueueCore<u64>, party: usize, step: QueueStep<u64>) {
-    assert_eq!(rt; core.step(party, step), Ok(QueueAnswer::Done));
+    answers(rt, core, party, step, QueueAnswer::Done);
 }
 
 /// A step that is not there, and brings no element.
 fn not_there(rt: &impl Abort, core: &mut QueueCore<u64>, party: usize, step: QueueStep<u64>) {
     assert_eq!(rt; core.step(party, step), Err((StepError::NotThere, None)));
+}
+
+/// A step that is taken, with what it answers.
+fn answers(
+    rt: &impl Abort,
+    core: &mut QueueCore<u64>,
+    party: usize,
+    step: QueueStep<u64>,
+    answer: QueueAnswer<u64>,
+) {
+    assert_eq!(rt; core.step(party, step), Ok(answer));
+}
+
+/// An element that comes in.
+fn takes(rt: &impl Abort, core: &mut QueueCore<u64>, party: usize, element: u64) {
+    assert_eq!(rt; core.enqueue(party, element), Ok(()));
+}
+
+/// An element that comes back, where its party is not there or has no free room.
+fn gives_back(rt: &impl Abort, core: &mut QueueCore<u64>, party: usize, element: u64) {
+    assert_eq!(rt;
+        core.enqueue(party, element),
+        Err((StepError::NotThere, element))
+    );
 }
 
 /// An element that comes out.
@@ -46,7 +74,7 @@ fn a_swap_without_its_link_is_inconsistent(rt: HostRuntime) -> Result<(), Fail> 
     let mut core = core_with(rt.alloc(), 3, &[0, 1])?;
     done(&rt, &mut core, 0, QueueStep::Clear(Some(1)));
     done(&rt, &mut core, 0, QueueStep::Swap);
-    assert_eq!(rt; core.enqueue(1, 2), Ok(()));
+    takes(&rt, &mut core, 1, 2);
     gives_none(&rt, &mut core, 2, TryDequeueError::Inconsistent);
     done(&rt, &mut core, 0, QueueStep::Link);
     gives(&rt, &mut core, 2, 1);
@@ -58,8 +86,8 @@ fn a_swap_without_its_link_is_inconsistent(rt: HostRuntime) -> Result<(), Fail> 
 #[test]
 fn a_producer_overtakes_the_stub(rt: HostRuntime) -> Result<(), Fail> {
     let mut core = core_with(rt.alloc(), 3, &[0, 1])?;
-    assert_eq!(rt; core.enqueue(0, 1), Ok(()));
-    assert_eq!(rt; core.step(2, QueueStep::Take), Ok(QueueAnswer::Taken));
+    takes(&rt, &mut core, 0, 1);
+    answers(&rt, &mut core, 2, QueueStep::Take, QueueAnswer::Taken);
     done(&rt, &mut core, 2, QueueStep::ReadNext);
     done(&rt, &mut core, 2, QueueStep::ReadNext);
     done(&rt, &mut core, 2, QueueStep::ReadHead);
@@ -68,9 +96,12 @@ fn a_producer_overtakes_the_stub(rt: HostRuntime) -> Result<(), Fail> {
     done(&rt, &mut core, 1, QueueStep::Swap);
     done(&rt, &mut core, 2, QueueStep::Swap);
     done(&rt, &mut core, 2, QueueStep::Link);
-    assert_eq!(rt;
-        core.step(2, QueueStep::ReadNext),
-        Ok(QueueAnswer::Inconsistent)
+    answers(
+        &rt,
+        &mut core,
+        2,
+        QueueStep::ReadNext,
+        QueueAnswer::Inconsistent,
     );
     done(&rt, &mut core, 1, QueueStep::Link);
     gives(&rt, &mut core, 2, 1);
@@ -88,8 +119,8 @@ fn a_party_alone_without_rooms(rt: HostRuntime) -> Result<(), Fail> {
     assert_eq!(rt; refused, Err((StepError::NotThere, Some(1))));
     gives_none(&rt, &mut core, 0, TryDequeueError::Empty);
     assert_eq!(rt; core.try_dequeue(5), Err(StepError::NotThere));
-    assert_eq!(rt; core.enqueue(0, 7), Err((StepError::NotThere, 7)));
-    assert_eq!(rt; core.enqueue(5, 7), Err((StepError::NotThere, 7)));
+    gives_back(&rt, &mut core, 0, 7);
+    gives_back(&rt, &mut core, 5, 7);
     assert_eq!(rt; core.add_room(5), Err(StepError::NotThere));
     assert_eq!(rt; core.add_party(), Ok(1));
     Ok(())
@@ -98,10 +129,10 @@ fn a_party_alone_without_rooms(rt: HostRuntime) -> Result<(), Fail> {
 #[test]
 fn the_right_is_with_one_party(rt: HostRuntime) -> Result<(), Fail> {
     let mut core = core_with(rt.alloc(), 2, &[0])?;
-    assert_eq!(rt; core.enqueue(0, 1), Ok(()));
-    assert_eq!(rt; core.step(0, QueueStep::Take), Ok(QueueAnswer::Taken));
+    takes(&rt, &mut core, 0, 1);
+    answers(&rt, &mut core, 0, QueueStep::Take, QueueAnswer::Taken);
     gives_none(&rt, &mut core, 1, TryDequeueError::Busy);
-    assert_eq!(rt; core.step(1, QueueStep::Take), Ok(QueueAnswer::Busy));
+    answers(&rt, &mut core, 1, QueueStep::Take, QueueAnswer::Busy);
     gives(&rt, &mut core, 0, 1);
     gives_none(&rt, &mut core, 0, TryDequeueError::Empty);
     done(&rt, &mut core, 0, QueueStep::Give);
@@ -113,12 +144,12 @@ fn the_right_is_with_one_party(rt: HostRuntime) -> Result<(), Fail> {
 #[test]
 fn one_room_is_used_again_at_once(rt: HostRuntime) -> Result<(), Fail> {
     let mut core = core_with(rt.alloc(), 2, &[0])?;
-    assert_eq!(rt; core.enqueue(0, 1), Ok(()));
+    takes(&rt, &mut core, 0, 1);
     gives(&rt, &mut core, 1, 1);
-    assert_eq!(rt; core.enqueue(0, 2), Err((StepError::NotThere, 2)));
-    assert_eq!(rt; core.enqueue(1, 3), Ok(()));
+    gives_back(&rt, &mut core, 0, 2);
+    takes(&rt, &mut core, 1, 3);
     gives(&rt, &mut core, 0, 3);
-    assert_eq!(rt; core.enqueue(0, 4), Ok(()));
+    takes(&rt, &mut core, 0, 4);
     gives(&rt, &mut core, 1, 4);
     Ok(())
 }
@@ -126,7 +157,7 @@ fn one_room_is_used_again_at_once(rt: HostRuntime) -> Result<(), Fail> {
 #[test]
 fn the_tail_passes_between_holders(rt: HostRuntime) -> Result<(), Fail> {
     let mut core = core_with(rt.alloc(), 3, &[0, 1])?;
-    assert_eq!(rt; core.enqueue(0, 1), Ok(()));
+    takes(&rt, &mut core, 0, 1);
     done(&rt, &mut core, 1, QueueStep::Clear(Some(2)));
     done(&rt, &mut core, 1, QueueStep::Swap);
     gives_none(&rt, &mut core, 2, TryDequeueError::Inconsistent);
@@ -141,8 +172,8 @@ fn the_tail_passes_between_holders(rt: HostRuntime) -> Result<(), Fail> {
 #[test]
 fn calls_while_the_stub_is_put_in(rt: HostRuntime) -> Result<(), Fail> {
     let mut core = core_with(rt.alloc(), 1, &[0])?;
-    assert_eq!(rt; core.enqueue(0, 1), Ok(()));
-    assert_eq!(rt; core.step(0, QueueStep::Take), Ok(QueueAnswer::Taken));
+    takes(&rt, &mut core, 0, 1);
+    answers(&rt, &mut core, 0, QueueStep::Take, QueueAnswer::Taken);
     done(&rt, &mut core, 0, QueueStep::ReadNext);
     done(&rt, &mut core, 0, QueueStep::ReadNext);
     done(&rt, &mut core, 0, QueueStep::ReadHead);
@@ -151,7 +182,7 @@ fn calls_while_the_stub_is_put_in(rt: HostRuntime) -> Result<(), Fail> {
     done(&rt, &mut core, 0, QueueStep::Clear(None));
     done(&rt, &mut core, 0, QueueStep::Swap);
     done(&rt, &mut core, 0, QueueStep::Link);
-    assert_eq!(rt; core.step(0, QueueStep::ReadNext), Ok(QueueAnswer::Out(1)));
+    answers(&rt, &mut core, 0, QueueStep::ReadNext, QueueAnswer::Out(1));
     done(&rt, &mut core, 0, QueueStep::Give);
     Ok(())
 }
@@ -159,22 +190,23 @@ fn calls_while_the_stub_is_put_in(rt: HostRuntime) -> Result<(), Fail> {
 #[test]
 fn replays_a_late_link(rt: HostRuntime) -> Result<(), Fail> {
     let core = core_with(rt.alloc(), 2, &[0])?;
-    let mut steps = VecDeque::new(rt.alloc());
-    steps.push_back((0, QueueStep::Clear(Some(1))))?;
-    steps.push_back((0, QueueStep::Swap))?;
-    steps.push_back((1, QueueStep::Take))?;
-    steps.push_back((1, QueueStep::Clear(Some(2))))?;
-    steps.push_back((1, QueueStep::ReadNext))?;
-    steps.push_back((0, QueueStep::Link))?;
-    steps.push_back((1, QueueStep::ReadHead))?;
-    steps.push_back((7, QueueStep::Give))?;
+    let steps = [
+        (0, QueueStep::Clear(Some(1))),
+        (0, QueueStep::Swap),
+        (1, QueueStep::Take),
+        (1, QueueStep::Clear(Some(2))),
+        (1, QueueStep::ReadNext),
+        (0, QueueStep::Link),
+        (1, QueueStep::ReadHead),
+        (7, QueueStep::Give),
+    ];
     let Replay {
         mut core,
         replies,
         rest,
         back,
         stopped,
-    } = replay(rt.alloc(), core, steps);
+    } = replay(rt.alloc(), core, script_of(rt.alloc(), steps)?);
     let expected = [
         Ok(QueueAnswer::Done),
         Ok(QueueAnswer::Done),
@@ -192,23 +224,38 @@ fn replays_a_late_link(rt: HostRuntime) -> Result<(), Fail> {
     Ok(())
 }
 
+/// Whether a new element comes in.
+fn comes_in(
+    core: &mut QueueCore<Counted>,
+    drops: &Rc<Cell<u64>, Global>,
+) -> Result<bool, AllocError> {
+    Ok(core.enqueue(0, Counted::new(drops)?).is_ok())
+}
+
+/// Whether a new element is laid into a room.
+fn is_laid(
+    core: &mut QueueCore<Counted>,
+    drops: &Rc<Cell<u64>, Global>,
+) -> Result<bool, AllocError> {
+    let element = Counted::new(drops)?;
+    Ok(core.step(0, QueueStep::Clear(Some(element))).is_ok())
+}
+
+/// Whether an element comes out.
+fn comes_out(core: &mut QueueCore<Counted>) -> bool {
+    matches!(core.try_dequeue(0), Ok(Ok(_)))
+}
+
 #[test]
 fn each_element_is_dropped_once(rt: HostRuntime) -> Result<(), Fail> {
     let drops = Rc::new(rt.alloc(), Cell::new(0u64))?;
-    let mut core = QueueCore::new(rt.alloc());
-    core.add_party()?;
-    core.add_room(0)?;
-    core.add_room(0)?;
-    core.add_room(0)?;
-    assert!(rt; core.enqueue(0, Counted::new(&drops)?).is_ok());
-    assert!(rt; core.enqueue(0, Counted::new(&drops)?).is_ok());
-    assert!(rt; matches!(core.try_dequeue(0), Ok(Ok(_))));
+    let mut core = core_with(rt.alloc(), 1, &[0, 0, 0])?;
+    assert!(rt; comes_in(&mut core, &drops)?);
+    assert!(rt; comes_in(&mut core, &drops)?);
+    assert!(rt; comes_out(&mut core));
     assert_eq!(rt; drops.get(), 1);
-    assert!(rt;
-        core.step(0, QueueStep::Clear(Some(Counted::new(&drops)?)))
-            .is_ok()
-    );
-    assert!(rt; core.enqueue(0, Counted::new(&drops)?).is_err());
+    assert!(rt; is_laid(&mut core, &drops)?);
+    assert!(rt; !comes_in(&mut core, &drops)?);
     assert_eq!(rt; drops.get(), 2);
     drop(core);
     assert_eq!(rt; drops.get(), 4);

@@ -1,22 +1,20 @@
-use crate::items::{holds, list_of, plain};
+use crate::items::{comes_out, holds, list_of, plain, shows};
 use cordyceps::{Item, List, Node, Steps, list};
+use std::alloc::{AllocError, Global};
+use std::process::Abort;
 use std::test::Fail;
-
-fn value(item: Option<&Item>) -> Option<u64> {
-    item.map(|item| item.value)
-}
 
 #[test]
 fn iterates_from_both_ends(rt: HostRuntime) -> Result<(), Fail> {
     let list = list_of(&rt, rt.alloc(), &[1, 2, 3, 4])?;
     let mut left = list.iter();
     assert_eq!(rt; left.len(), 4);
-    assert_eq!(rt; value(left.next()), Some(1));
-    assert_eq!(rt; value(left.next()), Some(2));
-    assert_eq!(rt; value(left.next_back()), Some(4));
-    assert_eq!(rt; value(left.next_back()), Some(3));
-    assert_eq!(rt; value(left.next()), None);
-    assert_eq!(rt; value(left.next_back()), None);
+    shows(&rt, left.next(), Some(1));
+    shows(&rt, left.next(), Some(2));
+    shows(&rt, left.next_back(), Some(4));
+    shows(&rt, left.next_back(), Some(3));
+    shows(&rt, left.next(), None);
+    shows(&rt, left.next_back(), None);
     let mut sum = 0u64;
     for item in &list {
         sum = sum.wrapping_add(item.value);
@@ -25,9 +23,8 @@ fn iterates_from_both_ends(rt: HostRuntime) -> Result<(), Fail> {
     Ok(())
 }
 
-#[test]
-fn changes_values_from_both_ends(rt: HostRuntime) -> Result<(), Fail> {
-    let mut list = list_of(&rt, rt.alloc(), &[1, 2, 3])?;
+/// Adds one to each value, from the front.
+fn raises_forth(rt: &impl Abort, list: &mut List<Item>) {
     let mut left = list.iter_mut();
     assert_eq!(rt; left.len(), 3);
     for _ in 0..3u8 {
@@ -36,8 +33,10 @@ fn changes_values_from_both_ends(rt: HostRuntime) -> Result<(), Fail> {
         }
     }
     assert!(rt; left.next().is_none());
-    drop(left);
-    holds(&rt, &list, &[2, 3, 4]);
+}
+
+/// Adds one to each value of 2, 3 and 4, from the back.
+fn raises_back(rt: &impl Abort, list: &mut List<Item>) {
     let mut left = list.iter_mut();
     for want in [4u64, 3, 2] {
         if let Some(item) = left.next_back() {
@@ -46,7 +45,14 @@ fn changes_values_from_both_ends(rt: HostRuntime) -> Result<(), Fail> {
         }
     }
     assert!(rt; left.next_back().is_none());
-    drop(left);
+}
+
+#[test]
+fn changes_values_from_both_ends(rt: HostRuntime) -> Result<(), Fail> {
+    let mut list = list_of(&rt, rt.alloc(), &[1, 2, 3])?;
+    raises_forth(&rt, &mut list);
+    holds(&rt, &list, &[2, 3, 4]);
+    raises_back(&rt, &mut list);
     holds(&rt, &list, &[3, 4, 5]);
     Ok(())
 }
@@ -55,31 +61,43 @@ fn changes_values_from_both_ends(rt: HostRuntime) -> Result<(), Fail> {
 fn hands_out_its_nodes(rt: HostRuntime) -> Result<(), Fail> {
     let list = list_of(&rt, rt.alloc(), &[1, 2, 3, 4])?;
     let mut nodes = list.into_iter();
-    assert_eq!(rt; nodes.next().map(|node| node.id()), Some(1));
-    assert_eq!(rt; nodes.next_back().map(|node| node.id()), Some(4));
+    comes_out(&rt, nodes.next(), Some(1));
+    comes_out(&rt, nodes.next_back(), Some(4));
     assert_eq!(rt; nodes.len(), 2);
+    Ok(())
+}
+
+/// Splits a list of the items 1 to 5 at a place, in so many moves, and appends what was split off.
+fn splits_and_appends(
+    rt: &impl Abort,
+    alloc: Global,
+    at: usize,
+    moves: u64,
+) -> Result<(), AllocError> {
+    let all = [1u64, 2, 3, 4, 5];
+    assert!(rt; at <= all.len());
+    let mut list = list_of(rt, alloc, &all)?;
+    let mut steps = Steps::new();
+    assert_eq!(rt; list.len(), 5);
+    if let Some(mut rest) = list.try_split_off_in(at, &mut steps) {
+        assert_eq!(rt; steps.count(), moves);
+        holds(rt, &list, &all[..at]);
+        holds(rt, &rest, &all[at..]);
+        assert!(rt; list.len() <= 5 && rest.len() <= 5);
+        list.append(&mut rest);
+        assert!(rt; rest.is_empty());
+        holds(rt, &list, &all);
+    } else {
+        assert!(rt; false, "at {at}");
+    }
     Ok(())
 }
 
 #[test]
 fn splits_everywhere(rt: HostRuntime) -> Result<(), Fail> {
     let all = [1u64, 2, 3, 4, 5];
-    let moves = [0u64, 0, 1, 2, 1, 0];
-    for at in 0..6usize {
-        let mut list = list_of(&rt, rt.alloc(), &all)?;
-        let mut steps = Steps::new();
-        assert_eq!(rt; list.len(), 5);
-        if let Some(mut rest) = list.try_split_off_in(at, &mut steps) {
-            assert_eq!(rt; Some(&steps.count()), moves.get(at));
-            holds(&rt, &list, &all[..at]);
-            holds(&rt, &rest, &all[at..]);
-            assert!(rt; list.len() <= 5 && rest.len() <= 5);
-            list.append(&mut rest);
-            assert!(rt; rest.is_empty());
-            holds(&rt, &list, &all);
-        } else {
-            assert!(rt; false, "at {at}");
-        }
+    for (at, moves) in [(0usize, 0u64), (1, 0), (2, 1), (3, 2), (4, 1), (5, 0)] {
+        splits_and_appends(&rt, rt.alloc(), at, moves)?;
     }
     let mut list = list_of(&rt, rt.alloc(), &all)?;
     let mut steps = Steps::new();
@@ -91,6 +109,14 @@ fn splits_everywhere(rt: HostRuntime) -> Result<(), Fail> {
     holds(&rt, &rest, &[5]);
     holds(&rt, &list, &[1, 2, 3, 4]);
     Ok(())
+}
+
+/// The value that a node holds.
+fn held(node: Option<Node<Item, list::Links<Item>>>) -> Option<u64> {
+    match node {
+        Some(node) => Some(node.get().value),
+        None => None,
+    }
 }
 
 #[test]
@@ -105,8 +131,8 @@ fn removes_by_number(rt: HostRuntime) -> Result<(), Fail> {
         );
         list.push_back(node.map_err(|_| "no memory")?);
     }
-    assert_eq!(rt; list.remove(7).map(|node| node.get().value), Some(70));
-    assert_eq!(rt; list.remove(7).map(|node| node.get().value), Some(71));
+    assert_eq!(rt; held(list.remove(7)), Some(70));
+    assert_eq!(rt; held(list.remove(7)), Some(71));
     assert!(rt; list.remove(7).is_none());
     holds(&rt, &list, &[50]);
     Ok(())
@@ -138,12 +164,12 @@ fn a_filter_dropped_early_keeps_the_rest(rt: HostRuntime) -> Result<(), Fail> {
     let mut list = list_of(&rt, rt.alloc(), &[1, 2, 3, 4])?;
     let mut even = list.drain_filter(|item: &Item| item.value % 2 == 0);
     assert_eq!(rt; even.size_hint(), (0, Some(4)));
-    assert_eq!(rt; even.next().map(|node| node.id()), Some(2));
+    comes_out(&rt, even.next(), Some(2));
     drop(even);
     holds(&rt, &list, &[1, 3, 4]);
     let mut all = list.drain_filter(|_item: &Item| true);
     for want in [Some(1u64), Some(3), Some(4), None, None] {
-        assert_eq!(rt; all.next().map(|node| node.id()), want);
+        comes_out(&rt, all.next(), want);
     }
     drop(all);
     assert!(rt; list.is_empty());

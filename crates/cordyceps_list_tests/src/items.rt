@@ -1,13 +1,55 @@
 //! Lists of items whose number and value are the same.
 use cordyceps::list::{CursorMut, Links};
-use cordyceps::{Item, List, Node};
+use cordyceps::{Item, List, Node, Refused};
 use std::alloc::{AllocError, Global};
 use std::process::Abort;
 use std::test::Fail;
 
 /// A node of the item `v`.
 pub fn plain(alloc: Global, v: u64) -> Result<Node<Item, Links<Item>>, AllocError> {
-    Node::new(alloc, v, Item { value: v, id: v }).map_err(|_| AllocError)
+    match Node::new(alloc, v, Item { value: v, id: v }) {
+        Ok(node) => Ok(node),
+        Err(Refused { value: _ }) => Err(AllocError),
+    }
+}
+
+/// The value of an item.
+pub fn value(item: Option<&Item>) -> Option<u64> {
+    match item {
+        Some(item) => Some(item.value),
+        None => None,
+    }
+}
+
+/// The value of an item that is lent to be written.
+fn value_mut(item: Option<&mut Item>) -> Option<u64> {
+    match item {
+        Some(item) => Some(item.value),
+        None => None,
+    }
+}
+
+/// The number of a node, which is dropped.
+pub fn number(node: Option<Node<Item, Links<Item>>>) -> Option<u64> {
+    match node {
+        Some(node) => Some(node.id()),
+        None => None,
+    }
+}
+
+/// Asserts the value of an item, or that there is none.
+pub fn shows(rt: &impl Abort, item: Option<&Item>, wanted: Option<u64>) {
+    assert_eq!(rt; value(item), wanted);
+}
+
+/// Asserts the value of an item that is lent to be written, or that there is none.
+pub fn shows_mut(rt: &impl Abort, item: Option<&mut Item>, wanted: Option<u64>) {
+    assert_eq!(rt; value_mut(item), wanted);
+}
+
+/// Asserts the number of a node that came out, or that there is none.
+pub fn comes_out(rt: &impl Abort, node: Option<Node<Item, Links<Item>>>, wanted: Option<u64>) {
+    assert_eq!(rt; number(node), wanted);
 }
 
 /// Puts the items behind those of the list.
@@ -63,4 +105,18 @@ pub fn after(
     assert!(rt; cursor.len() < usize::MAX);
     cursor.insert_after(plain(alloc, v)?);
     Ok(())
+}
+
+/// Moves a cursor forth so often.
+pub fn forth(cursor: &mut CursorMut<'_, Item>, moves: usize) {
+    for _ in 0..moves {
+        cursor.move_next();
+    }
+}
+
+/// Moves a cursor back so often.
+pub fn back(cursor: &mut CursorMut<'_, Item>, moves: usize) {
+    for _ in 0..moves {
+        cursor.move_prev();
+    }
 }

@@ -1,10 +1,12 @@
 //! What a queue's core answers after memory was refused. These tests say more where an allocation is made to fail, as
 //! `rt try --test --fail-alloc N` does.
+use crate::scripts::script_of;
 use cordyceps_queue::mpsc_queue::{
-    QueueAnswer, QueueCore, QueueStep, StepError, TryDequeueError, replay,
+    QueueAnswer, QueueCore, QueueStep, Replay, StepError, TryDequeueError, replay,
 };
 use std::alloc::{AllocError, Global};
 use std::collections::VecDeque;
+use std::process::Abort;
 use std::test::*;
 
 /// Adds a party, by a second call where the first was refused memory.
@@ -23,6 +25,27 @@ fn add_room(core: &mut QueueCore<u64>, party: usize) -> Result<(), StepError> {
     }
 }
 
+/// An element comes in, or comes back with an error.
+fn enqueues(
+    rt: &impl Abort,
+    core: &mut QueueCore<u64>,
+    party: usize,
+    element: u64,
+    answer: Result<(), (StepError, u64)>,
+) {
+    assert_eq!(rt; core.enqueue(party, element), answer);
+}
+
+/// An element comes out, or none.
+fn dequeues(
+    rt: &impl Abort,
+    core: &mut QueueCore<u64>,
+    party: usize,
+    answer: Result<u64, TryDequeueError>,
+) {
+    assert_eq!(rt; core.try_dequeue(party), Ok(answer));
+}
+
 #[test]
 fn parties_and_rooms_come_at_the_second_call(rt: HostRuntime) {
     let mut core = QueueCore::new(rt.alloc());
@@ -34,13 +57,13 @@ fn parties_and_rooms_come_at_the_second_call(rt: HostRuntime) {
     }
     assert_eq!(rt; core.add_room(9), Err(StepError::NotThere));
     for party in 0..9usize {
-        assert_eq!(rt; core.enqueue(party, party as u64), Ok(()));
-        assert_eq!(rt; core.enqueue(party, 9), Err((StepError::NotThere, 9)));
+        enqueues(&rt, &mut core, party, party as u64, Ok(()));
+        enqueues(&rt, &mut core, party, 9, Err((StepError::NotThere, 9)));
     }
     for element in 0..9u64 {
-        assert_eq!(rt; core.try_dequeue(8), Ok(Ok(element)));
+        dequeues(&rt, &mut core, 8, Ok(element));
     }
-    assert_eq!(rt; core.try_dequeue(8), Ok(Err(TryDequeueError::Empty)));
+    dequeues(&rt, &mut core, 8, Err(TryDequeueError::Empty));
 }
 
 /// Two parties, the first with a room.
@@ -54,24 +77,25 @@ fn two(alloc: Global) -> Result<QueueCore<u64>, StepError> {
 
 /// An element that comes in and goes out, with steps that are not there.
 fn script(alloc: Global) -> Result<VecDeque<(usize, QueueStep<u64>)>, AllocError> {
-    let mut steps = VecDeque::new(alloc);
-    steps.push_back((0, QueueStep::Clear(Some(1))))?;
-    steps.push_back((0, QueueStep::Swap))?;
-    steps.push_back((1, QueueStep::Take))?;
-    steps.push_back((1, QueueStep::Clear(Some(2))))?;
-    steps.push_back((1, QueueStep::ReadNext))?;
-    steps.push_back((0, QueueStep::Link))?;
-    steps.push_back((1, QueueStep::ReadHead))?;
-    steps.push_back((7, QueueStep::Give))?;
-    steps.push_back((1, QueueStep::ReadNext))?;
-    steps.push_back((1, QueueStep::ReadNext))?;
-    steps.push_back((1, QueueStep::ReadHead))?;
-    steps.push_back((1, QueueStep::Clear(None)))?;
-    steps.push_back((1, QueueStep::Swap))?;
-    steps.push_back((1, QueueStep::Link))?;
-    steps.push_back((1, QueueStep::ReadNext))?;
-    steps.push_back((1, QueueStep::Give))?;
-    Ok(steps)
+    let steps = [
+        (0, QueueStep::Clear(Some(1))),
+        (0, QueueStep::Swap),
+        (1, QueueStep::Take),
+        (1, QueueStep::Clear(Some(2))),
+        (1, QueueStep::ReadNext),
+        (0, QueueStep::Link),
+        (1, QueueStep::ReadHead),
+        (7, QueueStep::Give),
+        (1, QueueStep::ReadNext),
+        (1, QueueStep::ReadNext),
+        (1, QueueStep::ReadHead),
+        (1, QueueStep::Clear(None)),
+        (1, QueueStep::Swap),
+        (1, QueueStep::Link),
+        (1, QueueStep::ReadNext),
+        (1, QueueStep::Give),
+    ];
+    script_of(alloc, steps)
 }
 
 /// What the script's steps answer.
@@ -94,6 +118,25 @@ const ANSWERS: [Result<QueueAnswer<u64>, (StepError, Option<u64>)>; 16] = [
     Ok(QueueAnswer::Done),
 ];
 
+/// Asserts what a replay of the script from its first step says, to its end or to where memory was refused.
+fn begins(rt: &impl Abort, first: &Replay<u64>) {
+    let taken = first.replies.len();
+    assert!(rt; taken <= ANSWERS.len());
+    assert_eq!(rt; first.replies.as_slice(), &ANSWERS[..taken]);
+    assert_eq!(rt; first.rest.len(), ANSWERS.len() - taken);
+    assert_eq!(rt; first.stopped, taken < ANSWERS.len());
+    assert_eq!(rt; first.back, None);
+}
+
+/// Asserts what a replay of the rest says, unless memory was refused.
+fn goes_on(rt: &impl Abort, second: &Replay<u64>, taken: usize) {
+    assert!(rt; taken <= ANSWERS.len());
+    if !second.stopped {
+        assert_eq!(rt; second.replies.as_slice(), &ANSWERS[taken..]);
+        assert_eq!(rt; second.rest.len(), 0);
+    }
+}
+
 #[test]
 fn a_replay_goes_on_from_its_rest(rt: HostRuntime) {
     let Ok(steps) = script(rt.alloc()) else {
@@ -103,15 +146,7 @@ fn a_replay_goes_on_from_its_rest(rt: HostRuntime) {
         return;
     };
     let first = replay(rt.alloc(), core, steps);
+    begins(&rt, &first);
     let taken = first.replies.len();
-    assert!(rt; taken <= ANSWERS.len());
-    assert_eq!(rt; first.replies.as_slice(), &ANSWERS[..taken]);
-    assert_eq!(rt; first.rest.len(), ANSWERS.len() - taken);
-    assert_eq!(rt; first.stopped, taken < ANSWERS.len());
-    assert_eq!(rt; first.back, None);
-    let second = replay(rt.alloc(), first.core, first.rest);
-    if !second.stopped {
-        assert_eq!(rt; second.replies.as_slice(), &ANSWERS[taken..]);
-        assert_eq!(rt; second.rest.len(), 0);
-    }
+    goes_on(&rt, &replay(rt.alloc(), first.core, first.rest), taken);
 }

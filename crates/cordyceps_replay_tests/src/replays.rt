@@ -1,7 +1,7 @@
+use crate::made::queue_of;
 use cordyceps::replay::{Item, ListCommand, Lists, Reply, replay_lists};
-use cordyceps::{Kind, Linked, Node, list, mpsc_queue, stack};
+use cordyceps::{Kind, Linked, Node, Refused, list, mpsc_queue, stack};
 use std::alloc::{AllocError, Global};
-use std::collections::VecDeque;
 use std::test::Fail;
 
 fn item(value: u64, id: u64) -> Item {
@@ -11,14 +11,18 @@ fn item(value: u64, id: u64) -> Item {
 #[test]
 fn pushes_and_pops(rt: HostRuntime) -> Result<(), Fail> {
     let alloc = rt.alloc();
-    let mut commands = VecDeque::new(alloc);
-    commands.push_back(ListCommand::PushBack(0, item(1, 1)))?;
-    commands.push_back(ListCommand::PushBack(0, item(2, 2)))?;
-    commands.push_back(ListCommand::PushFront(0, item(3, 3)))?;
-    commands.push_back(ListCommand::PopFront(0))?;
-    commands.push_back(ListCommand::PopBack(0))?;
-    commands.push_back(ListCommand::Len(0))?;
-    commands.push_back(ListCommand::PopFront(1))?;
+    let commands = queue_of(
+        alloc,
+        [
+            ListCommand::PushBack(0, item(1, 1)),
+            ListCommand::PushBack(0, item(2, 2)),
+            ListCommand::PushFront(0, item(3, 3)),
+            ListCommand::PopFront(0),
+            ListCommand::PopBack(0),
+            ListCommand::Len(0),
+            ListCommand::PopFront(1),
+        ],
+    )?;
     let mut lists = Lists::new();
     let played = replay_lists(alloc, &mut lists, commands);
     let expected = [
@@ -38,15 +42,19 @@ fn pushes_and_pops(rt: HostRuntime) -> Result<(), Fail> {
 #[test]
 fn looks_and_sets(rt: HostRuntime) -> Result<(), Fail> {
     let alloc = rt.alloc();
-    let mut commands = VecDeque::new(alloc);
-    commands.push_back(ListCommand::SetFront(15, 7))?;
-    commands.push_back(ListCommand::PushBack(15, item(1, 10)))?;
-    commands.push_back(ListCommand::PushBack(15, item(2, 20)))?;
-    commands.push_back(ListCommand::SetFront(15, 7))?;
-    commands.push_back(ListCommand::SetBack(15, 8))?;
-    commands.push_back(ListCommand::Front(15))?;
-    commands.push_back(ListCommand::Back(15))?;
-    commands.push_back(ListCommand::Back(0))?;
+    let commands = queue_of(
+        alloc,
+        [
+            ListCommand::SetFront(15, 7),
+            ListCommand::PushBack(15, item(1, 10)),
+            ListCommand::PushBack(15, item(2, 20)),
+            ListCommand::SetFront(15, 7),
+            ListCommand::SetBack(15, 8),
+            ListCommand::Front(15),
+            ListCommand::Back(15),
+            ListCommand::Back(0),
+        ],
+    )?;
     let mut lists = Lists::default();
     let played = replay_lists(alloc, &mut lists, commands);
     let expected = [
@@ -66,7 +74,10 @@ fn looks_and_sets(rt: HostRuntime) -> Result<(), Fail> {
 
 /// A node that holds an item and has its number.
 fn node_of<L: Kind>(alloc: Global, item: Item) -> Result<Node<Item, L>, AllocError> {
-    Node::new(alloc, item.id, item).map_err(|_| AllocError)
+    match Node::new(alloc, item.id, item) {
+        Ok(node) => Ok(node),
+        Err(Refused { value: _ }) => Err(AllocError),
+    }
 }
 
 #[test]

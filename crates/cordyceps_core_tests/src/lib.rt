@@ -1,0 +1,13 @@
+//! Tests of the cores of the transfer stack and of the queue.
+#![tactic(auto)]
+
+#[cfg(test)]
+mod counted;
+#[cfg(test)]
+mod queue_cores;
+#[cfg(test)]
+mod queue_refusals;
+#[cfg(test)]
+mod scripts;
+#[cfg(test)]
+mod transfer_cores;

@@ -1,0 +1,405 @@
+use crate::counted::Counted;
+use crate::scripts::script_of;
+use cordyceps_stack::stack::{
+    Replay, StepError, TransferAnswer, TransferCore, TransferStep, replay,
+};
+use std::alloc::{AllocError, Global};
+use std::cell::Cell;
+use std::collections::VecDeque;
+use std::process::Abort;
+use std::rc::Rc;
+use std::test::Fail;
+
+/// A core with so many parties, and with a room for each of the parties that are named.
+fn core_with<E: Drop>(
+    alloc: Global,
+    parties: usize,
+    rooms: &[usize],
+) -> Result<TransferCore<E>, StepError> {
+    let mut core = TransferCore::new(alloc);
+    for _ in 0..parties {
+        core.add_party()?;
+    }
+    for party in rooms {
+        core.add_room(*party)?;
+    }
+    Ok(core)
+}
+
+/// Three parties, the first two with a room.
+fn three(alloc: Global) -> Result<TransferCore<u64>, StepError> {
+    core_with(alloc, 3, &[0, 1])
+}
+
+/// A party that comes in under its number.
+fn comes(rt: &impl Abort, core: &mut TransferCore<u64>, party: usize) {
+    assert_eq!(rt; core.add_party(), Ok(party));
+}
+
+/// A room that a party gets, or the error that it gets.
+fn rooms(
+    rt: &impl Abort,
+    core: &mut TransferCore<u64>,
+    party: usize,
+    answer: Result<(), StepError>,
+) {
+    assert_eq!(rt; core.add_room(party), answer);
+}
+
+/// A step that is taken, with what it answers.
+fn answers(
+    rt: &impl Abort,
+    core: &mut TransferCore<u64>,
+    party: usize,
+    step: TransferStep<u64>,
+    answer: TransferAnswer<u64>,
+) {
+    assert_eq!(rt; core.step(party, step), Ok(answer));
+}
+
+/// A step that is taken, with more to do.
+fn done(rt: &impl Abort, core: &mut TransferCore<u64>, party: usize, step: TransferStep<u64>) {
+    answers(rt, core, party, step, TransferAnswer::Done);
+}
+
+/// A push that is taken, and whether the stack was empty.
+fn pushes(
+    rt: &impl Abort,
+    core: &mut TransferCore<u64>,
+    party: usize,
+    element: u64,
+    was_empty: bool,
+) {
+    assert_eq!(rt; core.push_was_empty(party, element), Ok(was_empty));
+}
+
+/// A push that is not there, and gives its element back.
+fn gives_back(rt: &impl Abort, core: &mut TransferCore<u64>, party: usize, element: u64) {
+    assert_eq!(rt;
+        core.push_was_empty(party, element),
+        Err((StepError::NotThere, element))
+    );
+}
+
+/// A batch that is taken.
+fn takes(
+    rt: &impl Abort,
+    core: &mut TransferCore<u64>,
+    party: usize,
+    batch: &[u64],
+) -> Result<(), StepError> {
+    assert_eq!(rt; core.take_all(party)?.as_slice(), batch);
+    Ok(())
+}
+
+#[test]
+fn parties_and_rooms_are_there(rt: HostRuntime) -> Result<(), Fail> {
+    let mut core: TransferCore<u64> = TransferCore::new(rt.alloc());
+    rooms(&rt, &mut core, 0, Err(StepError::NotThere));
+    comes(&rt, &mut core, 0);
+    comes(&rt, &mut core, 1);
+    rooms(&rt, &mut core, 1, Ok(()));
+    rooms(&rt, &mut core, 2, Err(StepError::NotThere));
+    gives_back(&rt, &mut core, 0, 7);
+    gives_back(&rt, &mut core, 2, 7);
+    pushes(&rt, &mut core, 1, 7, true);
+    assert!(rt; matches!(core.take_all(2), Err(StepError::NotThere)));
+    assert_eq!(rt;
+        core.step(2, TransferStep::Take),
+        Err((StepError::NotThere, None))
+    );
+    Ok(())
+}
+
+#[test]
+fn a_push_that_reads_null_again_has_not_failed(rt: HostRuntime) -> Result<(), Fail> {
+    let mut core = three(rt.alloc())?;
+    done(&rt, &mut core, 0, TransferStep::Load(1));
+    pushes(&rt, &mut core, 1, 2, true);
+    takes(&rt, &mut core, 2, &[2])?;
+    done(&rt, &mut core, 0, TransferStep::SetNext);
+    answers(
+        &rt,
+        &mut core,
+        0,
+        TransferStep::Exchange,
+        TransferAnswer::Pushed(true),
+    );
+    takes(&rt, &mut core, 2, &[1])?;
+    Ok(())
+}
+
+#[test]
+fn a_push_that_was_overtaken_fails(rt: HostRuntime) -> Result<(), Fail> {
+    let mut core = three(rt.alloc())?;
+    done(&rt, &mut core, 0, TransferStep::Load(1));
+    pushes(&rt, &mut core, 1, 2, true);
+    done(&rt, &mut core, 0, TransferStep::SetNext);
+    answers(
+        &rt,
+        &mut core,
+        0,
+        TransferStep::Exchange,
+        TransferAnswer::Failed(1),
+    );
+    pushes(&rt, &mut core, 0, 1, false);
+    takes(&rt, &mut core, 2, &[1, 2])?;
+    Ok(())
+}
+
+#[test]
+fn rooms_come_back_by_a_walk(rt: HostRuntime) -> Result<(), Fail> {
+    let mut core = TransferCore::new(rt.alloc());
+    comes(&rt, &mut core, 0);
+    rooms(&rt, &mut core, 0, Ok(()));
+    pushes(&rt, &mut core, 0, 1, true);
+    gives_back(&rt, &mut core, 0, 2);
+    answers(&rt, &mut core, 0, TransferStep::Take, TransferAnswer::Taken);
+    gives_back(&rt, &mut core, 0, 3);
+    answers(
+        &rt,
+        &mut core,
+        0,
+        TransferStep::Walk,
+        TransferAnswer::Last(1),
+    );
+    pushes(&rt, &mut core, 0, 3, true);
+    takes(&rt, &mut core, 0, &[3])?;
+    takes(&rt, &mut core, 0, &[])?;
+    answers(
+        &rt,
+        &mut core,
+        0,
+        TransferStep::Take,
+        TransferAnswer::Nothing,
+    );
+    Ok(())
+}
+
+#[test]
+fn the_same_room_is_at_the_head_again(rt: HostRuntime) -> Result<(), Fail> {
+    let mut core = TransferCore::new(rt.alloc());
+    comes(&rt, &mut core, 0);
+    comes(&rt, &mut core, 1);
+    rooms(&rt, &mut core, 0, Ok(()));
+    rooms(&rt, &mut core, 1, Ok(()));
+    pushes(&rt, &mut core, 1, 2, true);
+    done(&rt, &mut core, 0, TransferStep::Load(1));
+    takes(&rt, &mut core, 1, &[2])?;
+    pushes(&rt, &mut core, 1, 3, true);
+    done(&rt, &mut core, 0, TransferStep::SetNext);
+    answers(
+        &rt,
+        &mut core,
+        0,
+        TransferStep::Exchange,
+        TransferAnswer::Pushed(false),
+    );
+    takes(&rt, &mut core, 1, &[1, 3])?;
+    Ok(())
+}
+
+/// Steps of three parties, some of which are refused.
+fn script(alloc: Global) -> Result<VecDeque<(usize, TransferStep<u64>)>, AllocError> {
+    let steps = [
+        (0, TransferStep::Load(1)),
+        (1, TransferStep::Load(2)),
+        (1, TransferStep::Exchange),
+        (1, TransferStep::SetNext),
+        (0, TransferStep::SetNext),
+        (1, TransferStep::Exchange),
+        (0, TransferStep::Exchange),
+        (0, TransferStep::Load(1)),
+        (0, TransferStep::SetNext),
+        (0, TransferStep::Exchange),
+        (2, TransferStep::Load(4)),
+        (2, TransferStep::Take),
+        (1, TransferStep::Take),
+        (2, TransferStep::Walk),
+        (2, TransferStep::Walk),
+        (2, TransferStep::Walk),
+    ];
+    script_of(alloc, steps)
+}
+
+/// What the script's steps answer.
+const ANSWERS: [Result<TransferAnswer<u64>, (StepError, Option<u64>)>; 16] = [
+    Ok(TransferAnswer::Done),
+    Ok(TransferAnswer::Done),
+    Err((StepError::NotThere, None)),
+    Ok(TransferAnswer::Done),
+    Ok(TransferAnswer::Done),
+    Ok(TransferAnswer::Pushed(true)),
+    Ok(TransferAnswer::Failed(1)),
+    Ok(TransferAnswer::Done),
+    Ok(TransferAnswer::Done),
+    Ok(TransferAnswer::Pushed(false)),
+    Err((StepError::NotThere, Some(4))),
+    Ok(TransferAnswer::Taken),
+    Ok(TransferAnswer::Nothing),
+    Ok(TransferAnswer::Gives(1)),
+    Ok(TransferAnswer::Last(2)),
+    Err((StepError::NotThere, None)),
+];
+
+#[test]
+fn replays_a_script(rt: HostRuntime) -> Result<(), Fail> {
+    let core = three(rt.alloc())?;
+    let Replay {
+        mut core,
+        replies,
+        rest,
+        back,
+        stopped,
+    } = replay(rt.alloc(), core, script(rt.alloc())?);
+    assert_eq!(rt; replies.as_slice(), ANSWERS.as_slice());
+    assert!(rt; !stopped);
+    assert_eq!(rt; rest.len(), 0);
+    assert_eq!(rt; back, None);
+    takes(&rt, &mut core, 0, &[])?;
+    pushes(&rt, &mut core, 2, 5, true);
+    Ok(())
+}
+
+/// Asserts what a replay of the script from its first step says, to its end or to where memory was refused.
+fn begins(rt: &impl Abort, first: &Replay<u64>) {
+    let taken = first.replies.len();
+    assert!(rt; taken <= ANSWERS.len());
+    assert_eq!(rt; first.replies.as_slice(), &ANSWERS[..taken]);
+    assert_eq!(rt; first.rest.len(), ANSWERS.len() - taken);
+    assert_eq!(rt; first.stopped, taken < ANSWERS.len());
+    assert_eq!(rt; first.back, None);
+}
+
+/// Asserts what a replay of the rest says, unless memory was refused.
+fn goes_on(rt: &impl Abort, second: &Replay<u64>, taken: usize) {
+    assert!(rt; taken <= ANSWERS.len());
+    if !second.stopped {
+        assert_eq!(rt; second.replies.as_slice(), &ANSWERS[taken..]);
+        assert_eq!(rt; second.rest.len(), 0);
+    }
+}
+
+// It says more where an allocation is made to fail, as `rt try --test --fail-alloc N` does.
+#[test]
+fn finishes_from_the_rest(rt: HostRuntime) -> Result<(), Fail> {
+    let Ok(steps) = script(rt.alloc()) else {
+        return Ok(());
+    };
+    let Ok(core) = three(rt.alloc()) else {
+        return Ok(());
+    };
+    let first = replay(rt.alloc(), core, steps);
+    begins(&rt, &first);
+    let taken = first.replies.len();
+    goes_on(&rt, &replay(rt.alloc(), first.core, first.rest), taken);
+    Ok(())
+}
+
+/// Adds a party, by a second call where the first was refused memory.
+fn add_party(core: &mut TransferCore<u64>) -> Result<usize, StepError> {
+    match core.add_party() {
+        Err(StepError::Memory) => core.add_party(),
+        answer => answer,
+    }
+}
+
+/// Adds a room, by a second call where the first was refused memory.
+fn add_room(core: &mut TransferCore<u64>, party: usize) -> Result<(), StepError> {
+    match core.add_room(party) {
+        Err(StepError::Memory) => core.add_room(party),
+        answer => answer,
+    }
+}
+
+/// Takes a batch, by a second call where the first was refused memory.
+fn take_all(core: &mut TransferCore<u64>, party: usize) -> Result<Vec<u64>, StepError> {
+    match core.take_all(party) {
+        Err(StepError::Memory) => core.take_all(party),
+        answer => answer,
+    }
+}
+
+// It, too, says more where an allocation is made to fail.
+#[test]
+fn goes_on_after_refused_memory(rt: HostRuntime) -> Result<(), Fail> {
+    let mut core = TransferCore::new(rt.alloc());
+    assert_eq!(rt; add_party(&mut core), Ok(0));
+    assert_eq!(rt; add_room(&mut core, 0), Ok(()));
+    pushes(&rt, &mut core, 0, 1, true);
+    assert_eq!(rt; take_all(&mut core, 0)?.as_slice(), [1].as_slice());
+    pushes(&rt, &mut core, 0, 2, true);
+    Ok(())
+}
+
+/// A value that is counted when it is made and when it is dropped.
+fn counted(drops: &Rc<Cell<u64>, Global>, made: &Cell<u64>) -> Result<Counted, AllocError> {
+    let value = Counted::new(drops)?;
+    made.set(made.get().wrapping_add(1));
+    Ok(value)
+}
+
+/// Takes a step, and lets go what it answers.
+fn step(core: &mut TransferCore<Counted>, party: usize, step: TransferStep<Counted>) {
+    let _ = core.step(party, step);
+}
+
+/// Pushes a value, and lets go what the push gives back.
+fn push(core: &mut TransferCore<Counted>, party: usize, value: Counted) {
+    let _ = core.push_was_empty(party, value);
+}
+
+/// Steps with elements that are loaded, refused and exchanged.
+fn last_steps(
+    alloc: Global,
+    drops: &Rc<Cell<u64>, Global>,
+    made: &Cell<u64>,
+) -> Result<VecDeque<(usize, TransferStep<Counted>)>, AllocError> {
+    let loaded = counted(drops, made)?;
+    let refused = counted(drops, made)?;
+    let last = counted(drops, made)?;
+    let steps = [
+        (0, TransferStep::Load(loaded)),
+        (0, TransferStep::Load(refused)),
+        (0, TransferStep::SetNext),
+        (0, TransferStep::Exchange),
+        (1, TransferStep::Load(last)),
+    ];
+    script_of(alloc, steps)
+}
+
+/// Elements that are held, in hand, on a walk, refused, given back, handed out, taken, and in the rest of a replay.
+fn elements_everywhere(
+    alloc: Global,
+    drops: &Rc<Cell<u64>, Global>,
+    made: &Cell<u64>,
+) -> Result<(), AllocError> {
+    let Ok(mut core) = core_with(alloc, 3, &[0, 1, 0, 0]) else {
+        return Err(AllocError);
+    };
+    step(&mut core, 1, TransferStep::Load(counted(drops, made)?));
+    push(&mut core, 0, counted(drops, made)?);
+    push(&mut core, 0, counted(drops, made)?);
+    step(&mut core, 1, TransferStep::SetNext);
+    step(&mut core, 1, TransferStep::Exchange);
+    step(&mut core, 2, TransferStep::Load(counted(drops, made)?));
+    step(&mut core, 2, TransferStep::Take);
+    step(&mut core, 2, TransferStep::Walk);
+    push(&mut core, 1, counted(drops, made)?);
+    drop(core.take_all(1));
+    step(&mut core, 1, TransferStep::Load(counted(drops, made)?));
+    drop(replay(alloc, core, last_steps(alloc, drops, made)?));
+    Ok(())
+}
+
+#[test]
+fn drops_each_element_once(rt: HostRuntime) -> Result<(), Fail> {
+    let Ok(drops) = Rc::new(rt.alloc(), Cell::new(0u64)) else {
+        return Ok(());
+    };
+    let made = Cell::new(0u64);
+    let end = elements_everywhere(rt.alloc(), &drops, &made);
+    assert_eq!(rt; drops.get(), made.get());
+    assert!(rt; end.is_err() || made.get() == 9);
+    Ok(())
+}
