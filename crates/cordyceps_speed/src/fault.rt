@@ -1,0 +1,25 @@
+use std::fmt;
+
+/// Why the program measured no more. Its text is the line for standard error, without a line feed.
+#[derive(Clone, Copy, Debug, PartialEq, Eq)]
+pub enum Fault {
+    /// The arguments are not at most one number of rounds.
+    Usage,
+    /// The clock gave no time.
+    Clock,
+    /// Memory was refused.
+    Memory,
+    /// A line could not be written.
+    Write,
+}
+
+impl fmt::Display for Fault {
+    fn fmt<W: fmt::Write>(&self, f: &mut fmt::Formatter<W>) -> fmt::Result {
+        match self {
+            Fault::Usage => write!(f, "usage: cordyceps_speed [ROUNDS]"),
+            Fault::Clock => write!(f, "no time from the clock"),
+            Fault::Memory => write!(f, "out of memory"),
+            Fault::Write => write!(f, "write failed"),
+        }
+    }
+}
