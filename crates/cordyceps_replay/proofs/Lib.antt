@@ -17,3 +17,6 @@ pub mod QueueSpelling
 pub mod ListLines
 pub mod Pairs
 pub mod SortedLines
+pub mod InOrder
+pub mod Sharing
+pub mod Workers

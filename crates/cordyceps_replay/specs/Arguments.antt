@@ -10,6 +10,7 @@ word_of choices.Stack = codes "stack"
 word_of choices.Sorted = codes "sorted"
 word_of choices.Transfer = codes "transfer"
 word_of choices.Queue = codes "queue"
+word_of choices.Share = codes "share"
 
 -- exactly one argument, which names the mode
 abbrev pub Chooses : List (List ℕ) → Option Choice → Type 0

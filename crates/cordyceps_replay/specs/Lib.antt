@@ -21,6 +21,7 @@ pub mod TransferSpelling
 pub mod QueueScript
 pub mod QueueSpelling
 pub mod Tens
+pub mod Sharing
 pub mod Modes
 pub mod Spelling
 pub mod CursorSpelling

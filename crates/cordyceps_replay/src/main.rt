@@ -20,6 +20,7 @@ mod queue_session;
 mod reply;
 mod script;
 mod session;
+mod share;
 mod sink;
 mod sorted_command;
 mod sorted_session;
@@ -39,6 +40,7 @@ use list_session::ListSession;
 use queue_session::QueueSession;
 pub use script::run_script;
 pub use session::Session;
+pub use share::{Gate, OpenGate, run_share, share};
 pub use sink::{Sink, ToWrite};
 use sorted_session::SortedSession;
 pub use source::{FromRead, Source};
@@ -82,6 +84,8 @@ pub enum Choice {
     Transfer,
     /// To run a script in mode `queue`.
     Queue,
+    /// To let two threads share a stack.
+    Share,
 }
 
 /// Reads the words after the program's name: exactly one, which names a mode. `None` means that they are not that.
@@ -94,6 +98,7 @@ pub fn choose(words: &[String]) -> Option<Choice>
         [word] if word.as_str() == "sorted" => Some(Choice::Sorted),
         [word] if word.as_str() == "transfer" => Some(Choice::Transfer),
         [word] if word.as_str() == "queue" => Some(Choice::Queue),
+        [word] if word.as_str() == "share" => Some(Choice::Share),
         _ => None,
     }
 }
@@ -170,6 +175,14 @@ fn report(rt: &HostRuntime, fault: Fault) -> ExitCode {
     ExitCode::from(fault.status())
 }
 
+/// How a run ends the program.
+fn ended(rt: &HostRuntime, end: Result<(), Fault>) -> ExitCode {
+    match end {
+        Ok(()) => ExitCode::SUCCESS,
+        Err(fault) => report(rt, fault),
+    }
+}
+
 fn main(rt: HostRuntime) -> ExitCode {
     let choice = match arguments(&rt) {
         Ok(words) => choose(&words),
@@ -177,21 +190,19 @@ fn main(rt: HostRuntime) -> ExitCode {
         Err(error) if error.kind() == ErrorKind::InvalidData => None,
         Err(_) => return report(&rt, Fault::Memory),
     };
+    let mut output = ToWrite::new(io::writer(&rt));
     let mode = match choice {
         Some(Choice::List) => Mode::List,
         Some(Choice::Stack) => Mode::Stack,
         Some(Choice::Sorted) => Mode::Sorted(compare_tens),
         Some(Choice::Transfer) => Mode::Transfer,
         Some(Choice::Queue) => Mode::Queue,
+        Some(Choice::Share) => return ended(&rt, run_share(&rt, rt.alloc(), &mut output)),
         None => {
             let _ = rt.eprintln(USAGE);
             return ExitCode::from(1);
         }
     };
     let mut input = FromRead::new(rt.reader());
-    let mut output = ToWrite::new(io::writer(&rt));
-    match run(rt.alloc(), mode, &mut input, &mut output) {
-        Ok(()) => ExitCode::SUCCESS,
-        Err(fault) => report(&rt, fault),
-    }
+    ended(&rt, run(rt.alloc(), mode, &mut input, &mut output))
 }

@@ -64,6 +64,8 @@ fn outcome_in(alloc: Global, choice: Choice, script: Script) -> (Result<(), Faul
         Choice::Sorted => Mode::Sorted(compare_tens),
         Choice::Transfer => Mode::Transfer,
         Choice::Queue => Mode::Queue,
+        // it has no scripts
+        Choice::Share => return (Ok(()), Vec::new(alloc)),
     };
     let end = run(alloc, mode, &mut input, &mut output);
     (end, output.into_inner())
@@ -434,7 +436,7 @@ fn choices(rt: HostRuntime) -> Result<(), Fail> {
         (&["sorted"], Some(Choice::Sorted)),
         (&["transfer"], Some(Choice::Transfer)),
         (&["queue"], Some(Choice::Queue)),
-        (&["share"], None),
+        (&["share"], Some(Choice::Share)),
         (&["transfer", "queue"], None),
         (&["List"], None),
         (&[""], None),
@@ -474,3 +476,4 @@ fn faults(rt: HostRuntime) -> Result<(), Fail> {
 
 mod core_scripts;
 mod list_scripts;
+mod shares;

@@ -32,3 +32,8 @@ pub returns-in-len1-5 : goal.returns-in-len1-5
 returns-in-len1-5 c =
     let same = (bytes_eq-Decides c.as_str-then-words-lt2-4.result.now _).0 (sym c.eq-then-words-lt2-4.ensures ∙ c.if-eq-5.true) in
     single string_bytes c.args.words.now c.word-item-then-words-lt2-4.result _ (omega (arith, c.in-len1.len_at_least)) (omega (arith, c.in-len1.len_below)) c.word-item-then-words-lt2-4.is (sym c.as_str-then-words-lt2-4.ensures.value ∙ same)
+
+pub returns-in-len1-6 : goal.returns-in-len1-6
+returns-in-len1-6 c =
+    let same = (bytes_eq-Decides c.as_str-then-words-lt2-5.result.now _).0 (sym c.eq-then-words-lt2-5.ensures ∙ c.if-eq-6.true) in
+    single string_bytes c.args.words.now c.word-item-then-words-lt2-5.result _ (omega (arith, c.in-len1.len_at_least)) (omega (arith, c.in-len1.len_below)) c.word-item-then-words-lt2-5.is (sym c.as_str-then-words-lt2-5.ensures.value ∙ same)
