@@ -1,9 +1,9 @@
 -- What parties see in several steps, by splitting and by joining.
-use Rattle.std.proofs.Common.{◌≡◌, ◌≢◌, ℕ, zero, suc, List, [], ◌∷◌, ◌++◌, length, replicate, Bool, true, false, cond, refl, sym, ap, ◌∙◌, subst, append_assoc}
+use Rattle.std.proofs.Common.{◌≡◌, ℕ, zero, suc, List, [], ◌∷◌, ◌++◌, replicate, Bool, cond, refl, sym, ap, ◌∙◌, subst}
 use Rattle.cordyceps_base.specs.Histories.{plain, own, AllOwn}
 use Rattle.cordyceps_base.specs.Knowing.{unmarked, merged, Begins}
 use Rattle.cordyceps_base.specs.Shares.{Name, whole, gives_half}
-use Rattle.cordyceps_base.specs.Standings.{Standing, known_of, name_of, Adds}
+use Rattle.cordyceps_base.specs.Standings.{Standing, known_of, Adds}
 use Rattle.cordyceps_base.proofs.Telling.{grown_then}
 
 -- one more of the same at the end

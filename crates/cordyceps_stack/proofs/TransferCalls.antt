@@ -1,17 +1,17 @@
 -- What the parts of a call come to together.
-use Rattle.std.proofs.Common.{◌≡◌, ◌≢◌, ◌↔◌, ℕ, zero, suc, ◌+◌, ◌-◌, ◌<◌, ◌≤◌, List, [], ◌∷◌, ◌++◌, length, replicate, Bool, true, cond, eqb, refl, sym, ap, ◌∙◌, subst, arith, eq-eqb, append-nil, add-one, Option, Some, None}
+use Rattle.std.proofs.Common.{◌≡◌, ◌≢◌, ◌↔◌, ℕ, suc, ◌-◌, ◌<◌, List, [], ◌∷◌, ◌++◌, Bool, true, cond, eqb, refl, sym, ap, ◌∙◌, subst, arith, eq-eqb, Some}
 use Rattle.std.proofs.lemmas.Bool.{eqb-true}
 use Rattle.std.specs.Prelude.{IsTrue}
 use Rattle.cordyceps_base.specs.Histories.{plain, own, AllOwn}
-use Rattle.cordyceps_base.specs.Knowing.{Known, Grown, IsKnown}
+use Rattle.cordyceps_base.specs.Knowing.{Known, Grown}
 use Rattle.cordyceps_base.specs.Shares.{Name, first_name}
+use Rattle.cordyceps_base.proofs.Adding.{tail_own}
 use Rattle.cordyceps_base.proofs.Telling.{grown_then}
-use Rattle.cordyceps_stack.specs.declared.transfer_table.Filled.{Filled}
 use Rattle.cordyceps_stack.specs.TransferHistory.{Event, Load, Push, Legal, SomeChange}
-use Rattle.cordyceps_stack.specs.TransferPlays.{Sat, Hand, Sees, carry, Near, IsWalking, batch_of}
+use Rattle.cordyceps_stack.specs.TransferPlays.{Sat, Sees, carry, Near, IsWalking, batch_of}
 use Rattle.cordyceps_stack.specs.TransferRule.{filled}
 use Rattle.cordyceps_stack.specs.TransferStanding.{EndsPushed, EndsLooked, IsOvertaken}
-use Rattle.cordyceps_stack.specs.TransferView.{Doing, Walking, View, name, walking}
+use Rattle.cordyceps_stack.specs.TransferView.{Walking, View, name, walking}
 use Rattle.cordyceps_stack.specs.TransferWords.{start}
 
 pub is_zero : (n : ℕ) → (n ≡ 0) ↔ IsTrue (eqb n 0)
@@ -42,10 +42,6 @@ module _ {E : Type 0} where
   looked_as A B n seen both p = record { before = p.before; is = p.is; none = (λ b. p.none.0 (both.1 b), λ h. both.0 (p.none.1 h)) }
 
   -- a party whose events are all that it has seen was not overtaken
-  tail_own : (xs ys : List (Bool × Event Name E)) → AllOwn (xs ++ ys) → AllOwn ys
-  tail_own [] ys a = a
-  tail_own (x ∷ xs) ys a = tail_own xs ys a.1
-
   no_change : (ys : List (Bool × Event Name E)) → AllOwn ys → own ys ≡ [] → SomeChange (plain ys) → ⊥
   no_change [] a e c = c
   no_change (y ∷ ys) a e c = let some_own : y.1 ∷ own ys ≡ [] = sym (ap (λ b. cond b (y.1 ∷ own ys) (own ys)) a.0) ∙ e in absurd (cc)

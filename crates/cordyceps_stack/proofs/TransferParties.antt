@@ -1,12 +1,10 @@
 -- The rule of a transfer stack's table at the start, and where a party is split in two or takes another in.
-use Rattle.std.proofs.Common.{◌≡◌, ◌≢◌, ℕ, zero, suc, ◌+◌, ◌≤◌, ◌<◌, List, [], ◌∷◌, ◌++◌, map, reverse, length, replicate, get_or, set, take, drop, eqb, refl, sym, ap, ◌∙◌, subst, inl, inr, ⊎_elim, arith, append_assoc, Option, Some, None}
+use Rattle.std.proofs.Common.{◌≡◌, ◌≢◌, ℕ, zero, suc, ◌≤◌, ◌<◌, List, [], ◌∷◌, ◌++◌, map, reverse, length, replicate, get_or, set, take, drop, eqb, refl, sym, ap, ◌∙◌, subst, inl, inr, ⊎_elim, arith, append_assoc, None}
 use mathlib.Core.Option.{some, none, some-injective, some-ne-none}
 use lib.ListN.{get_elem?, length-map, length-replicate}
 use Rattle.atomic_table.specs.Table.{opening, Splits, Joins, Allows, step, keeps}
 use Rattle.atomic_table.proofs.Lists.{at_set}
-use Rattle.cordyceps_base.specs.Counts.{one_if, times, tally, below}
-use Rattle.cordyceps_base.specs.Histories.{events, plain}
-use Rattle.cordyceps_base.specs.Knowing.{Known, IsKnown}
+use Rattle.cordyceps_base.specs.Counts.{one_if, below}
 use Rattle.cordyceps_base.specs.Shares.{Name}
 use Rattle.cordyceps_base.proofs.Counting.{tally_set, tally_append, tally_cut, below_once}
 use Rattle.cordyceps_base.proofs.Cutting.{at_end, owned_cut, fits_cut}
@@ -14,11 +12,10 @@ use Rattle.cordyceps_base.proofs.Joining.{owned_join, fits_join}
 use Rattle.cordyceps_base.proofs.Renaming.{renamed_else, relabel, events_relabel, relabel_append, without_relabel}
 use Rattle.cordyceps_base.proofs.Standing as seats
 use Rattle.cordyceps_base.proofs.Telling.{owned_same, fits_forgot}
-use Rattle.cordyceps_stack.specs.declared.transfer_table.Filled.{Filled}
 use Rattle.cordyceps_stack.specs.TransferHistory.{Event, Load, Taken, held, Legal, SomeChange}
-use Rattle.cordyceps_stack.specs.TransferView.{Doing, Idle, View, knows, newcomer, at_work, with_party}
+use Rattle.cordyceps_stack.specs.TransferView.{Idle, View, knows, newcomer, at_work, with_party}
 use Rattle.cordyceps_stack.specs.TransferWords.{History, Since, Does}
-use Rattle.cordyceps_stack.specs.TransferRule.{Table, Homes, Empty, Kept}
+use Rattle.cordyceps_stack.specs.TransferRule.{Homes, Empty, Kept}
 use Rattle.cordyceps_stack.specs.TransferPlays.{Sat, kept, given, both, spent, forgot, learned}
 use Rattle.cordyceps_stack.proofs.TransferHistories.{legal_none}
 use Rattle.cordyceps_stack.proofs.TransferWords.{does_frame, rests, forks}

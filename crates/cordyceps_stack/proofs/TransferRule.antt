@@ -1,5 +1,5 @@
 -- Each step of a party keeps the rule of a transfer stack's table.
-use Rattle.std.proofs.Common.{◌≡◌, ◌≢◌, ◌↔◌, ℕ, zero, suc, ◌+◌, ◌≤◌, ◌<◌, List, [], ◌∷◌, ◌++◌, reverse, length, set, get_or, eqb, refl, sym, ap, ◌∙◌, subst, ⊎_elim, inl, inr, arith, append-nil, eq-eqb, ne_eqb, length-set, Option, Some, None}
+use Rattle.std.proofs.Common.{◌≡◌, ◌≢◌, ◌↔◌, ℕ, suc, ◌+◌, ◌≤◌, ◌<◌, List, [], ◌∷◌, ◌++◌, reverse, length, set, get_or, eqb, refl, sym, ap, ◌∙◌, subst, ⊎_elim, arith, append-nil, eq-eqb, ne_eqb, length-set, Option, Some, None}
 use Rattle.std.proofs.lemmas.List.{reverse-reverse}
 use mathlib.Core.Option.{some, none}
 use mathlib.Core.Option as maybe
@@ -11,7 +11,7 @@ use prog.Atomic.{either}
 use Rattle.atomic_table.specs.Table.{State, step, Act, keeps, takes, gives, stepped, homes_after, carried_after, Valid, rest, Allows}
 use Rattle.atomic_table.specs.Table as table
 use Rattle.atomic_table.proofs.Lists.{at_set, set_here, set_else}
-use Rattle.cordyceps_base.specs.Counts.{tally, one_if, times}
+use Rattle.cordyceps_base.specs.Counts.{one_if, times}
 use Rattle.cordyceps_base.specs.Histories.{events, marked, plain, of_seat}
 use Rattle.cordyceps_base.specs.Knowing.{Known, Owned, AllFit, all_seen}
 use Rattle.cordyceps_base.specs.Shares.{Name}

@@ -1,5 +1,5 @@
 -- What the calls of a shared transfer stack promise, from what their parts leave.
-use Rattle.std.proofs.Common.{◌≡◌, ◌≢◌, ◌+◌, ℕ, suc, List, [], ◌∷◌, ◌++◌, map, reverse, length, replicate, take, Bool, true, refl, sym, ap, ◌∙◌, subst, inl, inr, arith, length-append}
+use Rattle.std.proofs.Common.{◌≡◌, ◌+◌, ℕ, suc, List, [], ◌∷◌, ◌++◌, reverse, length, replicate, take, Bool, refl, sym, ap, ◌∙◌, subst, inl, inr, length-append}
 use Rattle.std.specs.Prelude.{◌⊎◌, IsTrue}
 use Rattle.atomic_table.specs.Seated.{TableId}
 use Rattle.cordyceps_base.specs.Counts.{below}
@@ -16,7 +16,7 @@ use Rattle.cordyceps_stack.specs.TransferMeets.{elements}
 use Rattle.cordyceps_stack.specs.TransferPlays.{Sat, given, both, forgot, batch_of}
 use Rattle.cordyceps_stack.specs.TransferRule.{IsTable}
 use Rattle.cordyceps_stack.specs.TransferStanding.{PartyOf, PushesAt, Misses, Takes, Adds, EndsPushed}
-use Rattle.cordyceps_stack.specs.TransferView.{View, newcomer}
+use Rattle.cordyceps_stack.specs.TransferView.{newcomer}
 use Rattle.cordyceps_stack.proofs.TransferCalls.{not_overtaken}
 use Rattle.cordyceps_stack.proofs.TransferHistories.{legal_none}
 

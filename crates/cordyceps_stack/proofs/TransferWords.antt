@@ -4,8 +4,8 @@ use Rattle.std.proofs.lemmas.List.{reverse-append}
 use mathlib.Core.Option.{some}
 use lib.ListN.{get_elem?}
 use Rattle.atomic_table.proofs.Lists.{at_set, at_snoc}
-use Rattle.cordyceps_base.specs.Counts.{one_if, times, tally}
-use Rattle.cordyceps_base.specs.Histories.{events, Without}
+use Rattle.cordyceps_base.specs.Counts.{one_if, times}
+use Rattle.cordyceps_base.specs.Histories.{events}
 use Rattle.cordyceps_base.specs.Shares.{Name}
 use Rattle.cordyceps_base.proofs.Counting.{tally_set, tally_one, tally_two, tally_snoc, one_here}
 use Rattle.cordyceps_base.proofs.Seeing.{events_more, without_more}

@@ -1,5 +1,5 @@
 -- What a party of a shared transfer stack knows and does, as the rule of the stack's table sees it.
-use Rattle.std.specs.Prelude.{ℕ, suc, List, [], ◌∷◌, nat_eq, ◌+◌}
+use Rattle.std.specs.Prelude.{ℕ, List, [], ◌∷◌, nat_eq, ◌+◌}
 use Rattle.cordyceps_base.specs.Counts.{tally, one_if, times, below}
 use Rattle.cordyceps_base.specs.Knowing.{Known}
 use Rattle.cordyceps_base.specs.Knowing as knowing

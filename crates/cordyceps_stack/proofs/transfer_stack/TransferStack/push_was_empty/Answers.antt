@@ -1,4 +1,4 @@
-use Rattle.std.proofs.Common.{◌≡◌, ◌∙◌, ap, refl, inl, subst, rules}
+use Rattle.std.proofs.Common.{◌∙◌, refl, inl, subst, rules}
 use Rattle.cordyceps_stack.specs.TransferStanding.{PushesAt}
 use Rattle.cordyceps_stack.proofs.TransferStanding.{tried_again, tried_pushed}
 use Rattle.cordyceps_stack.proofs.transfer_stack.TransferStack.push_was_empty.Goals as goal

@@ -1,4 +1,4 @@
-use Rattle.std.proofs.Common.{◌≡◌, ◌∙◌, ap, length, sym, arith}
+use Rattle.std.proofs.Common.{◌∙◌, ap, length, arith}
 use Rattle.cordyceps_stack.proofs.TransferStanding.{whole_hits}
 use Rattle.cordyceps_stack.proofs.transfer_stack.TransferStack.try_push.Goals as goal
 
