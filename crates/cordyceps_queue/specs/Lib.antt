@@ -6,4 +6,12 @@ pub mod QueueLaws
 pub mod QueueMachine
 pub mod QueueMeets
 pub mod QueuePast
+pub mod QueueStanding
+pub mod QueueView
+pub mod QueueRule
+pub mod QueuePlays
+pub mod QueueParting
+pub mod QueueCalls
+pub mod QueueOwned
 pub mod QueueWords
+pub mod Vault

@@ -1,0 +1,17 @@
+use Rattle.std.proofs.Common.{◌≡◌, subst, rules}
+use Rattle.cordyceps_queue.specs.QueueCalls.{standing}
+use Rattle.cordyceps_queue.specs.QueueStanding.{GivesRight}
+use Rattle.cordyceps_queue.proofs.QueueRight.{right_given, gives_right}
+use Rattle.cordyceps_queue.proofs.consumer.give_right.Goals as goal
+
+pub invariant_of-result : goal.invariant_of-result
+invariant_of-result g c =
+    let e = c.give.ensures in
+    let there : c.right.inside.seat.table_id ≡ c.args.words.now.table_id = search rules in
+    right_given c.right.inside.seat.table_id c.give.new.seat.table_id c.args.words.now.table_id _ c.right.inside.seat.me c.give.new.seat.me _ c.right.invariant e.table there e.rest e.answer
+
+pub returns : goal.returns
+returns g c =
+    let e = c.give.ensures in
+    let t = gives_right c.right.inside.seat.table_id c.give.new.seat.table_id c.right.inside.seat.me c.give.new.seat.me e.table e.answer in
+    subst (λ u. GivesRight u (standing c.give.new.seat.table_id c.give.new.seat.me.0)) c.right.view_is t

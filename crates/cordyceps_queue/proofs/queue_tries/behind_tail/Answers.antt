@@ -1,0 +1,18 @@
+use Rattle.std.proofs.Common.{◌-◌, []}
+use Rattle.cordyceps_queue.proofs.QueueHolding.{pred_suc, hands_taken, tries_blocked}
+use Rattle.cordyceps_queue.proofs.queue_tries.behind_tail.Goals as goal
+
+pub returns-then-next-eq0-clause-answer : goal.returns-then-next-eq0-clause-answer
+returns-then-next-eq0-clause-answer g c =
+    let q = c.requires.place in
+    tries_blocked _ c.args.tail c.args.seat.now.me c.reread-next.new.seat.me q.0.2 q.0.3 q.1 (c.reread-next.ensures.null c.if-next-eq0.true)
+
+pub take_out-requires-clause-full : goal.take_out-requires-clause-full
+take_out-requires-clause-full g c =
+    let h = c.reread-next.ensures.room (c.reread-next.result - 1) (pred_suc c.reread-next.result c.if-next-eq0.false) in (h.0, h.4)
+
+pub returns-clause-answer : goal.returns-clause-answer
+returns-clause-answer g c =
+    let q = c.requires.place in
+    let h = c.reread-next.ensures.room (c.reread-next.result - 1) (pred_suc c.reread-next.result c.if-next-eq0.false) in
+    hands_taken _ c.args.tail _ [] c.args.seat.now.me c.reread-next.new.seat.me c.take_out.new.seat.me c.take_out.result q.0.2 q.0.3 h c.take_out.ensures.element c.take_out.ensures.seat

@@ -1,0 +1,101 @@
+//! What came out of a queue.
+ghost use Rattle.std.specs.Prelude.{◌≡◌, ◌+◌, ◌<◌, ◌^◌, ◌==◌, [], ◌∷◌, ◌++◌, length, Some, IfSome};
+ghost use Rattle.std.specs.Iterator.{YieldsFirstBy, item_count, at_most, UpTo};
+ghost use Rattle.std.specs.Iterator.SizeHint.{IsWithinCount};
+
+use cordyceps_base::linked::Linked;
+use cordyceps_base::mpsc_queue::{InQueue, Links};
+use cordyceps_base::single_chain::SingleChain;
+use std::iter::{ExactSizeIterator, FusedIterator};
+use std::marker::Model;
+
+/// Owned handles that came out of a queue. An iterator hands them out, the oldest first. A contract sees their elements,
+/// the oldest first.
+///
+/// It is this project's own: the Rust crate `cordyceps` has no such type. No call takes memory, and each takes the same
+/// time whatever is left. A drop frees each node that is left.
+#[derive(Drop)]
+pub struct Batch<T> {
+    chain: SingleChain<T, InQueue>,
+    len: usize,
+}
+
+impl<T> Model for Batch<T> {
+    ghost use Rattle.std.specs.Prelude.{◌≡◌, length};
+    ghost use Rattle.cordyceps_base.specs.Element.{Elements};
+    ghost use Rattle.cordyceps_base.specs.Nodes.{elements};
+
+    ghost Value = { Elements T };
+
+    ghost view = { λ b. elements b.chain };
+
+    ghost invariant = { λ b. b.len ≡ length b.chain };
+}
+
+impl<T: Linked<Links<T>>> Batch<T> {
+    /// No elements.
+    pub(crate) fn new() -> Batch<T>
+        ensures { result ≡ [] }
+    {
+        Batch {
+            chain: SingleChain::empty(),
+            len: 0,
+        }
+    }
+
+    /// How many elements are left. It takes no walk.
+    pub fn len(&self) -> usize
+        ensures { result ≡ length self.now }
+    {
+        self.len
+    }
+
+    /// Whether no element is left.
+    pub fn is_empty(&self) -> bool
+        ensures { result ≡ (length self.now == 0) }
+    {
+        self.len == 0
+    }
+
+    /// Puts an element behind the others. It takes no walk.
+    pub(crate) fn put_last(&mut self, handle: T::Handle)
+        requires { length self.old + 1 < 2 ^ 64 }
+        ensures { self.new ≡ self.old ++ T.element handle ∷ [] }
+    {
+        self.chain.link_back(T::into_ptr(handle));
+        self.len += 1;
+    }
+}
+
+/// Takes the oldest element out. Once it has given `None` it does so for good.
+impl<T: Linked<Links<T>>> Iterator for Batch<T> {
+    type Item = T::Handle;
+
+    ghost next_gives = { YieldsFirstBy T.element (λ b. b) };
+
+    ghost remaining = { item_count (λ b. b) };
+
+    fn next(&mut self) -> Option<T::Handle> {
+        if self.is_empty() {
+            return None;
+        }
+        self.len -= 1;
+        Some(T::from_ptr(self.chain.unlink_front()))
+    }
+
+    fn size_hint(&self) -> (usize, Option<usize>)
+        ensures lower { IsWithinCount result.0 (at_most (length self.now)) }
+        ensures upper { IfSome result.1 (UpTo (at_most (length self.now))) }
+        ensures exact { result ≡ (length self.now, Some (length self.now)) }
+    {
+        (self.len, Some(self.len))
+    }
+}
+
+impl<T: Linked<Links<T>>> ExactSizeIterator for Batch<T> {
+    fn len(&self) -> usize {
+        Batch::len(self)
+    }
+}
+
+impl<T: Linked<Links<T>>> FusedIterator for Batch<T> {}
