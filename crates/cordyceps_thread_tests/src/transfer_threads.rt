@@ -21,7 +21,7 @@ const TURNS: u64 = 1000;
 const RACES: u64 = 50;
 
 /// Looks at a flag until it is set, and fails where that never comes.
-fn await_flag(rt: &impl Abort, flag: &AtomicBool) {
+pub fn await_flag(rt: &impl Abort, flag: &AtomicBool) {
     for _ in 0..LOOKS {
         if flag.load(Ordering::SeqCst) {
             return;
