@@ -1,5 +1,5 @@
-//! Lists, stacks and sorted lists of owned nodes, a stack that threads share, the cores of two structures that threads
-//! share, and commands that are replayed on tables of structures.
+//! Lists, stacks and sorted lists of owned nodes, a stack and a queue that threads share, the cores of the two, and
+//! commands that are replayed on tables of structures.
 //!
 //! A [`Node`] owns one element: a number and a value. A type says by [`Linked`] what handle
 //! stands for such a node, and for structures of which [`Kind`]. A [`List`], a [`Stack`] and a
@@ -7,7 +7,8 @@
 //! takes no memory.
 //!
 //! A [`TransferStack`] is shared by threads, without a lock: each pushes to it by a party of its own, and takes all that it
-//! holds at once.
+//! holds at once. An [`MpscQueue`] is shared in the same way: many put elements in, and one at a time takes them out, in
+//! their order.
 //!
 //! A [`stack::TransferCore`] and an [`mpsc_queue::QueueCore`] are the algorithms of the structures that threads share, as
 //! plain values whose steps are taken in any order.
@@ -26,6 +27,7 @@ pub use cordyceps_base::linked::Linked;
 pub use cordyceps_base::node::{Kind, Node, Refused};
 pub use cordyceps_base::steps::Steps;
 pub use cordyceps_list::list::List;
+pub use cordyceps_queue::mpsc_queue::MpscQueue;
 pub use cordyceps_stack::sorted_list::{SortedList, SortedListIter};
 pub use cordyceps_stack::stack::{Stack, TransferStack};
 pub use replay::Item;

@@ -1,6 +1,7 @@
-//! The kind of the nodes that stand in queues with many producers, and the core of such a queue.
+//! A queue that threads share, with many producers and one consumer at a time, and its core.
 
 pub use cordyceps_base::mpsc_queue::Links;
 pub use cordyceps_queue::mpsc_queue::{
-    QueueAnswer, QueueCore, QueueStep, Replay, StepError, TryDequeueError, replay,
+    Batch, Closed, Consumer, MAX_ROOMS, MpscQueue, OwnedConsumer, Party, QueueAnswer, QueueCore,
+    QueueStep, Replay, StepError, TryDequeueError, replay,
 };
