@@ -1,13 +1,13 @@
-//! Tests of replays of commands on tables of lists, stacks and sorted lists.
+//! Tests of the program: whole scripts and their replies, streams that fail, lines, and two threads that share.
 #![tactic(auto)]
 
 #[cfg(test)]
-mod block_replays;
+mod core_scripts;
 #[cfg(test)]
-mod made;
+mod list_lines;
 #[cfg(test)]
-mod replays;
+mod list_scripts;
 #[cfg(test)]
-mod sorted_replays;
+mod scripts;
 #[cfg(test)]
-mod stack_replays;
+mod shares;

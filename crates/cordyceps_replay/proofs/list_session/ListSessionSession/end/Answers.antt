@@ -1,5 +1,0 @@
-use Rattle.cordyceps_replay.proofs.ListLines.{may_run}
-use Rattle.cordyceps_replay.proofs.list_session.ListSessionSession.end.Goals as goal
-
-pub close-requires : goal.close-requires
-close-requires c = may_run c.args.self.now.block c.requires

@@ -1,8 +1,0 @@
-use Rattle.std.proofs.Common.{◌≡◌, ◌++◌, drop}
-use Rattle.std.specs.Option.{option_map}
-use Rattle.cordyceps_replay.specs.ListWords.{letters_of}
-use Rattle.cordyceps_replay.proofs.list_words.turns.Given as goal
-
--- what stands before the letter was read
-abbrev pub invariant-loop-letter : goal.invariant-loop-letter
-invariant-loop-letter l = letters_of l.word ≡ option_map (λ rest. l.turns.items ++ rest) (letters_of (drop l.letter-index l.word))

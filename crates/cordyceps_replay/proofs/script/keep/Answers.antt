@@ -1,5 +1,0 @@
-use Rattle.cordyceps_replay.proofs.Pieces.{left}
-use Rattle.cordyceps_replay.proofs.script.keep.Goals as goal
-
-pub returns-clause-kept : goal.returns-clause-kept
-returns-clause-kept c = rw c.copy_within.ensures.after (left c.args.block.now c.args.used c.args.end c.requires.order c.requires.within)

@@ -1,5 +1,0 @@
-use Rattle.cordyceps_replay.proofs.Workers.{works}
-use Rattle.cordyceps_replay.proofs.share.work.Goals as goal
-
-pub returns : goal.returns
-returns g c = works _ _ _ _ _ c.requires.1 c.push.ensures c.push-2.ensures

@@ -1,0 +1,164 @@
+//! Two threads that share a stack, and what mode `share` writes.
+
+use crate::scripts::Paper;
+use cordyceps::TransferStack;
+use replay_driver::fault::Fault;
+use replay_driver::sink::ToWrite;
+use replay_sharing::share::{Gate, OpenGate, run_share, share};
+use std::alloc::Global;
+use std::process::Abort;
+use std::sync::Wait;
+use std::sync::atomic::{AtomicBool, AtomicU64, Ordering};
+use std::test::Fail;
+use std::thread;
+use std::thread::Threads;
+
+/// How often a worker looks for the other one.
+const TURNS: u64 = 10_000_000;
+
+/// What one worker did at the gate.
+#[derive(Drop)]
+struct Visit {
+    /// It has come to its first push.
+    came: AtomicBool,
+    /// How often it passed before each push, and with any other number.
+    passed: (AtomicU64, AtomicU64, AtomicU64),
+}
+
+impl Visit {
+    fn none() -> Visit {
+        Visit {
+            came: AtomicBool::new(false),
+            passed: (AtomicU64::new(0), AtomicU64::new(0), AtomicU64::new(0)),
+        }
+    }
+
+    fn count(&self, push: u64) {
+        let (first, second, other) = (&self.passed.0, &self.passed.1, &self.passed.2);
+        let passed = match push {
+            0 => first,
+            1 => second,
+            _ => other,
+        };
+        passed.fetch_add(1, Ordering::SeqCst);
+    }
+
+    /// Whether it passed once before each of the two pushes, and no more.
+    fn is_complete(&self) -> bool {
+        self.passed.0.load(Ordering::SeqCst) == 1
+            && self.passed.1.load(Ordering::SeqCst) == 1
+            && self.passed.2.load(Ordering::SeqCst) == 0
+    }
+}
+
+/// A gate that holds each worker's first push until the other worker has come.
+#[derive(Drop)]
+struct Meeting {
+    workers: (Visit, Visit),
+    /// A worker that is none of the two passed.
+    strange: AtomicBool,
+    /// A worker's turns ran out.
+    alone: AtomicBool,
+}
+
+impl Meeting {
+    fn new() -> Meeting {
+        Meeting {
+            workers: (Visit::none(), Visit::none()),
+            strange: AtomicBool::new(false),
+            alone: AtomicBool::new(false),
+        }
+    }
+
+    /// Looks until the other worker has come, or the turns have run out.
+    fn await_other(&self, other: &Visit) {
+        for _ in 0..TURNS {
+            if other.came.load(Ordering::SeqCst) {
+                return;
+            }
+            thread::yield_now();
+        }
+        self.alone.store(true, Ordering::SeqCst);
+    }
+
+    fn visit(&self, own: &Visit, other: &Visit, push: u64) {
+        own.count(push);
+        if push == 0 {
+            own.came.store(true, Ordering::SeqCst);
+            self.await_other(other);
+        }
+    }
+}
+
+impl Gate for Meeting {
+    fn pass(&self, worker: u64, push: u64) {
+        let (first, second) = (&self.workers.0, &self.workers.1);
+        match worker {
+            0 => self.visit(first, second, push),
+            1 => self.visit(second, first, push),
+            _ => self.strange.store(true, Ordering::SeqCst),
+        }
+    }
+}
+
+/// Shares a new stack through the gate, and asserts the answer, and that the party has its rooms again.
+fn shares<R: Threads + Wait + Abort + Sync, G: Gate>(rt: &R, alloc: Global, gate: &G) {
+    let Ok((stack, mut party)) = TransferStack::new(alloc, 4) else {
+        panic!(rt; "no memory for a stack");
+    };
+    match share(rt, alloc, gate, &stack, &mut party) {
+        Ok(values) => assert_eq!(rt; values.as_slice(), [10, 11, 20, 21].as_slice()),
+        Err(_) => panic!(rt; "no memory"),
+    }
+    assert_eq!(rt; party.rooms(), 4);
+    assert!(rt; stack.is_empty(&mut party));
+}
+
+#[test]
+fn share_workers_meet(rt: HostRuntime) -> Result<(), Fail> {
+    let meeting = Meeting::new();
+    shares(&rt, rt.alloc(), &meeting);
+    assert!(rt;
+        !meeting.alone.load(Ordering::SeqCst),
+        "a worker waited for the other in vain"
+    );
+    assert!(rt; !meeting.strange.load(Ordering::SeqCst));
+    assert!(rt; meeting.workers.0.is_complete());
+    assert!(rt; meeting.workers.1.is_complete());
+    Ok(())
+}
+
+#[test]
+fn shares_often(rt: HostRuntime) -> Result<(), Fail> {
+    for _ in 0..50u8 {
+        shares(&rt, rt.alloc(), &OpenGate);
+    }
+    Ok(())
+}
+
+#[test]
+fn a_shared_run_writes_its_line(rt: HostRuntime) -> Result<(), Fail> {
+    let line = b"10 11 20 21\n";
+    for room in 0..line.len() + 1 {
+        for fails in [true, false] {
+            let mut output = ToWrite::new(Paper {
+                written: Vec::new(rt.alloc()),
+                room,
+                fails,
+            });
+            let end = run_share(&rt, rt.alloc(), &mut output);
+            let expected = if room < line.len() {
+                Err(Fault::Write)
+            } else {
+                Ok(())
+            };
+            assert_eq!(rt; end, expected, "at {room}");
+            assert_eq!(rt;
+                output.into_inner().written.as_slice(),
+                &line[..room],
+                "at {room}"
+            );
+        }
+    }
+    Ok(())
+}

@@ -1,0 +1,13 @@
+//! Tests of replays of commands on tables of lists, stacks and sorted lists.
+#![tactic(auto)]
+
+#[cfg(test)]
+mod block_replays;
+#[cfg(test)]
+mod made;
+#[cfg(test)]
+mod replays;
+#[cfg(test)]
+mod sorted_replays;
+#[cfg(test)]
+mod stack_replays;

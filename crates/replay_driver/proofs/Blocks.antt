@@ -1,0 +1,86 @@
+-- The lines of a block, one after the other.
+use Rattle.std.proofs.Common.{◌≡◌, ℕ, ◌+◌, ◌-◌, ◌<◌, List, [], ◌∷◌, ◌++◌, length, take, drop, Some, None, Ok, Err, Bool, true, false, refl, sym, ◌∙◌, ap, arith, length-append, length-take, length-drop, add-one}
+use Rattle.std.proofs.lemmas.List.{append-nil, take_all, drop-drop, get_or-take, get_or_default, take-append-drop}
+use Rattle.std.proofs.Math.Seq.{take-append-add, drop-cons}
+use Rattle.std.specs.List.{concat}
+use Rattle.std.proofs.lemmas.Bool.{eqb-true}
+use Rattle.memchr.specs.Find.{IsFirstByte, is_byte}
+use Rattle.replay_driver.specs.Script.{Machine}
+use Rattle.replay_driver.specs.Steps.{HasNoFeed, Writes, SoFar, TakesOne, TakesLines}
+use Rattle.replay_driver.specs.declared.session.Stop.{Stop}
+use Rattle.replay_driver.specs.declared.session.Stop.TheVariants as stops
+use Rattle.replay_driver.proofs.Leads.{concat-append, leads_more, writes_more}
+
+is_false : (b : Bool) → ¬ (b ≡ true) → b ≡ false
+is_false b differs = elim b as (λ (v : Bool). ¬ (v ≡ true) → v ≡ false) [ true ↦ λ n. absurd (n refl) | false ↦ λ n. refl ] differs
+
+-- what the search for a line feed says
+pub record Found (hay : List ℕ) (k : ℕ) : Type 0 where
+  pub within : k < length hay
+  pub clean : HasNoFeed (take k hay)
+  pub cut : hay ≡ take k hay ++ 10 ∷ drop (k + 1) hay
+
+pub found_line : (hay : List ℕ) (k : ℕ) → IsFirstByte (is_byte 10) hay (Some k) → Found hay k
+found_line hay k h = record {
+  within = h.0.high;
+  clean = λ j d lt.
+      let le : j < k = omega (arith, length-take k hay) in
+      let within : j < length hay = omega (arith, length-take k hay) in
+      rw (get_or-take k hay j d le, get_or_default hay j d 0 within) (is_false _ (h.0.before j (omega arith) le));
+  cut = sym (take-append-drop k hay) ∙ ap (λ (xs : List ℕ). take k hay ++ xs) (rw (drop-cons hay k 0 h.0.high, add-one, eqb-true _ _ h.1) refl);
+}
+
+pub none_found : (hay : List ℕ) → IsFirstByte (is_byte 10) hay None → HasNoFeed hay
+none_found hay h = λ j d lt. rw (get_or_default hay j d 0 lt) (is_false _ (h j (omega arith) lt))
+
+-- the part of a block from start on, as a slice of the code
+pub slice_from : (block : List ℕ) (start : ℕ) → take (length block - start) (drop start block) ≡ drop start block
+slice_from block start = take_all (length block - start) (drop start block) (omega (arith, length-drop start block))
+
+pub go_on : {S O : Type 0} (machine : Machine S) (takes : O → O → List ℕ → Type 0) (more : (s t u : O) (xs ys : List ℕ) → takes s t xs → takes t u ys → takes s u (xs ++ ys))
+    (old mid new : S) (o p q : O) (text text1 text2 block line passed rest : List ℕ) (n : ℕ) (failed : Type 0) →
+    SoFar machine takes old o text block (line ++ 10 ∷ rest) mid p text1 n → HasNoFeed line → passed ≡ line → TakesOne machine mid passed new takes p text1 q text2 failed (Ok tt) →
+    SoFar machine takes old o text block rest new q text2 (n + 1)
+go_on machine takes more old mid new o p q text text1 text2 block line passed rest n failed so_far clean same (added, step_passed, writes) =
+    let step = rw same at step_passed in record {
+      lines = so_far.lines ++ line ∷ [];
+      texts = so_far.texts ++ added;
+      leads = leads_more machine old mid new block line rest so_far.lines so_far.texts added so_far.leads clean step;
+      counted = rw (length-append, so_far.counted) refl;
+      writes = rw concat-append (writes_more takes more o p q text text1 text2 _ _ so_far.writes writes);
+    }
+
+pub stopped : {S O : Type 0} (machine : Machine S) (takes : O → O → List ℕ → Type 0) (more : (s t u : O) (xs ys : List ℕ) → takes s t xs → takes t u ys → takes s u (xs ++ ys))
+    (old mid new : S) (o p q : O) (text text1 text2 block line passed rest : List ℕ) (count count1 n : ℕ) (failed : Type 0) (e : Stop) →
+    SoFar machine takes old o text block (line ++ 10 ∷ rest) mid p text1 n → count1 ≡ count + n → HasNoFeed line → passed ≡ line → TakesOne machine mid passed new takes p text1 q text2 failed (Err e) →
+    TakesLines machine old block new takes o text q text2 failed count count1 (Err e)
+stopped machine takes more old mid new o p q text text1 text2 block line passed rest count count1 n failed stops.Bad so_far counted clean is (step_passed, same, writes) =
+    let step = rw is at step_passed in
+    let wrote : Writes takes o text q text2 (concat so_far.texts) = rw append-nil at (writes_more takes more o p q text text1 text2 (concat so_far.texts) [] so_far.writes writes) in
+    (so_far.lines, so_far.texts, line, rest, rw same so_far.leads, clean, rw same step, counted ∙ ap (λ k. count + k) so_far.counted, wrote)
+stopped machine takes more old mid new o p q text text1 text2 block line passed rest count count1 n failed stops.Memory so_far counted clean is (last, added, k, step_passed, writes) =
+    let step = rw is at step_passed in (
+      so_far.lines ++ line ∷ [],
+      so_far.texts ++ added,
+      rest,
+      last,
+      length so_far.texts + k,
+      leads_more machine old mid last block line rest so_far.lines so_far.texts added so_far.leads clean step,
+      rw (take-append-add, concat-append) (writes_more takes more o p q text text1 text2 _ _ so_far.writes writes),
+    )
+stopped machine takes more old mid new o p q text text1 text2 block line passed rest count count1 n failed stops.Write so_far counted clean is (added, waiting, step_passed, writes, did_fail) =
+    let step = rw is at step_passed in (
+      so_far.lines ++ line ∷ [],
+      so_far.texts ++ added,
+      rest,
+      waiting,
+      leads_more machine old mid new block line rest so_far.lines so_far.texts added so_far.leads clean step,
+      rw concat-append (writes_more takes more o p q text text1 waiting _ _ so_far.writes writes),
+      did_fail,
+    )
+
+pub rest_of : (block : List ℕ) (start k : ℕ) → drop ((start + k) + 1) block ≡ drop (k + 1) (drop start block)
+rest_of block start k = let same : (start + k) + 1 ≡ start + (k + 1) = omega arith in rw (drop-drop, same) refl
+
+pub line_of : (block : List ℕ) (start k : ℕ) → take ((start + k) - start) (drop start block) ≡ take k (drop start block)
+line_of block start k = let same : (start + k) - start ≡ k = omega arith in rw same refl

@@ -1,0 +1,42 @@
+-- How the reading of a script halts, before the end of the lines is answered and the last text is written.
+use Rattle.std.specs.Prelude.{◌≡◌, ℕ, ◌≤◌, List, [], ◌∷◌, ◌++◌, length, take, None, Some, Result, Ok, Err, ◌⊎◌}
+use Rattle.std.specs.List.{concat}
+use Rattle.replay_driver.specs.Script.{Machine, replies, first_bad, parts, last_line, AreLines}
+use Rattle.replay_driver.specs.Steps.{Writes}
+use Rattle.replay_driver.specs.declared.fault.Fault.{Fault}
+use Rattle.replay_driver.specs.declared.fault.Fault.TheVariants as faults
+
+-- the lines, the texts of the replies so far, and those that are still to come
+abbrev pub Halted : {S O : Type 0} → Machine S → S → S → (ended read_failed : Type 0) → (O → O → List ℕ → Type 0) → O → List ℕ → O → List ℕ → Type 0
+    → List (List ℕ) → List ℕ → List (List ℕ) → List (List ℕ) → List (List ℕ) → Result (Unit {0}) Fault → Type 0
+Halted machine old new ended read_failed takes output text output' text' write_failed complete unfinished lines texts more (Ok _) =
+    ended × (lines ≡ complete ++ last_line unfinished) × (first_bad machine old lines ≡ None) × (more ≡ machine.ending new) × Writes takes output text output' text' (concat texts)
+Halted machine old new ended read_failed takes output text output' text' write_failed complete unfinished lines texts more (Err (faults.BadLine n)) =
+    (first_bad machine old lines ≡ Some n) × (more ≡ machine.ending new) × Writes takes output text output' text' (concat texts)
+Halted machine old new ended read_failed takes output text output' text' write_failed complete unfinished lines texts more (Err faults.Read) =
+    read_failed × (lines ≡ complete) × (length unfinished ≤ 120) × (first_bad machine old lines ≡ None) × (more ≡ machine.ending new) × Writes takes output text output' text' (concat texts)
+Halted machine old new ended read_failed takes output text output' text' write_failed complete unfinished lines texts more (Err faults.Write) =
+    write_failed × (waiting : List ℕ) × Writes takes output text output' waiting (concat texts)
+Halted machine old new ended read_failed takes output text output' text' write_failed complete unfinished lines texts more (Err faults.Memory) =
+    (n : ℕ) × Writes takes output text output' text' (concat (take n texts))
+
+pub record Halts {S O : Type 0} (machine : Machine S) (old new : S) (gave : List ℕ → Type 0) (ended read_failed : Type 0) (takes : O → O → List ℕ → Type 0) (output : O) (text : List ℕ) (output' : O) (text' : List ℕ) (write_failed : Type 0) (result : Result (Unit {0}) Fault) : Type 0 where
+  pub complete : List (List ℕ)
+  pub unfinished : List ℕ
+  pub bytes : List ℕ
+  pub read : gave bytes
+  pub cut : parts bytes ≡ complete ++ unfinished ∷ []
+  pub lines : List (List ℕ)
+  pub are_lines : AreLines ended complete unfinished lines
+  pub texts : List (List ℕ)
+  pub more : List (List ℕ)
+  pub all : replies machine old lines ≡ texts ++ more
+  pub halted : Halted machine old new ended read_failed takes output text output' text' write_failed complete unfinished lines texts more result
+
+-- The end of the lines was answered where the lines halted by themselves.
+abbrev pub EndsLines : {S : Type 0} → Machine S → S → List ℕ → List ℕ → Result (Unit {0}) Fault → Result (Unit {0}) Fault → Type 0
+EndsLines machine state text text' (Err faults.Memory) result = (result ≡ Err faults.Memory) × (text' ≡ text)
+EndsLines machine state text text' (Err faults.Write) result = (result ≡ Err faults.Write) × (text' ≡ text)
+EndsLines machine state text text' halt result =
+    ((result ≡ halt) × (text' ≡ text ++ concat (machine.ending state)))
+    ⊎ ((result ≡ Err faults.Memory) × ((n : ℕ) × (text' ≡ text ++ concat (take n (machine.ending state)))))

@@ -1,0 +1,74 @@
+-- What a script's lines are, and what a mode answers to them.
+use Rattle.std.specs.Prelude.{◌≡◌, ℕ, suc, ◌<◌, ◌≤◌, List, [], ◌∷◌, ◌++◌, length, take, Option, None, Some, Result, Ok, Err, if◌then◌else◌, nat_lt, nat_eq, ◌⊎◌}
+use Rattle.std.specs.Option.{option_map, unwrap_or}
+use Rattle.std.specs.List.{slice_split, concat}
+use Rattle.replay_driver.specs.declared.fault.Fault.{Fault}
+use Rattle.replay_driver.specs.declared.fault.Fault.TheVariants as faults
+
+-- What a mode does, as a machine over lines. A line leads to a state, and to the texts of the replies to the commands
+-- that it completes, a text for each; a bad line leads nowhere. The end of the lines completes the commands that are
+-- still open.
+pub record Machine (S : Type 0) : Type 0 where
+  pub step : S → List ℕ → Option (S × List (List ℕ))
+  pub ending : S → List (List ℕ)
+
+-- the same, where a line of more than 120 bytes is bad
+abbrev pub step_of : {S : Type 0} → Machine S → S → List ℕ → Option (S × List (List ℕ))
+step_of machine state line = if nat_lt 120 (length line) then None else machine.step state line
+
+-- the texts of the replies, a text for each command, up to the first bad line
+abbrev pub replies : {S : Type 0} → Machine S → S → List (List ℕ) → List (List ℕ)
+replies machine state [] = machine.ending state
+replies machine state (line ∷ lines) =
+    unwrap_or (option_map (λ next. next.1 ++ replies machine next.0 lines) (step_of machine state line)) (machine.ending state)
+
+-- the number of the first bad line, counted from 1
+abbrev pub first_bad : {S : Type 0} → Machine S → S → List (List ℕ) → Option ℕ
+first_bad machine state [] = None
+first_bad machine state (line ∷ lines) =
+    unwrap_or (option_map (λ next. option_map suc (first_bad machine next.0 lines)) (step_of machine state line)) (Some 1)
+
+-- the text of a script: its reply lines, one after the other
+abbrev pub text : {S : Type 0} → Machine S → S → List (List ℕ) → List ℕ
+text machine state lines = concat (replies machine state lines)
+
+-- what stands between line feeds: each part but the last is a line, and the last is one that is not complete
+abbrev pub parts : List ℕ → List (List ℕ)
+parts bytes = slice_split (λ b. nat_eq b 10) bytes
+
+-- what stands behind the last line feed is a line where it has a byte
+abbrev pub last_line : List ℕ → List (List ℕ)
+last_line [] = []
+last_line (b ∷ bytes) = (b ∷ bytes) ∷ []
+
+-- Of bytes that were read, these are the lines, complete ones and then one that is not complete. It counts as a line
+-- where the input ended with it, or where it is too long already.
+abbrev pub AreLines : (ended : Type 0) → List (List ℕ) → List ℕ → List (List ℕ) → Type 0
+AreLines ended complete unfinished lines =
+    (lines ≡ complete) ⊎ ((ended ⊎ (120 < length unfinished)) × (lines ≡ complete ++ last_line unfinished))
+
+-- What a run of a script may answer, where these lines were read and these bytes were written.
+abbrev pub Answers : {S : Type 0} → Machine S → S → (ended read_failed write_failed : Type 0) → (complete : List (List ℕ)) (unfinished : List ℕ) (lines : List (List ℕ)) (written : List ℕ) → Result (Unit {0}) Fault → Type 0
+Answers machine state ended read_failed write_failed complete unfinished lines written (Ok _) =
+    ended × (lines ≡ complete ++ last_line unfinished) × (first_bad machine state lines ≡ None) × (written ≡ text machine state lines)
+Answers machine state ended read_failed write_failed complete unfinished lines written (Err (faults.BadLine n)) =
+    (first_bad machine state lines ≡ Some n) × (written ≡ text machine state lines)
+Answers machine state ended read_failed write_failed complete unfinished lines written (Err faults.Read) =
+    read_failed × (lines ≡ complete) × (length unfinished ≤ 120) × (first_bad machine state lines ≡ None) × (written ≡ text machine state lines)
+Answers machine state ended read_failed write_failed complete unfinished lines written (Err faults.Write) =
+    write_failed × (rest : List ℕ) × (text machine state lines ≡ written ++ rest)
+Answers machine state ended read_failed write_failed complete unfinished lines written (Err faults.Memory) =
+    (n : ℕ) × (written ≡ concat (take n (replies machine state lines)))
+
+-- What a run of a script reads, writes and answers.
+pub record Runs {S : Type 0} (machine : Machine S) (state : S) (gave : List ℕ → Type 0) (ended read_failed : Type 0) (took : List ℕ → Type 0) (write_failed : Type 0) (result : Result (Unit {0}) Fault) : Type 0 where
+  pub complete : List (List ℕ)
+  pub unfinished : List ℕ
+  pub bytes : List ℕ
+  pub read : gave bytes
+  pub cut : parts bytes ≡ complete ++ unfinished ∷ []
+  pub lines : List (List ℕ)
+  pub are_lines : AreLines ended complete unfinished lines
+  pub written : List ℕ
+  pub wrote : took written
+  pub answers : Answers machine state ended read_failed write_failed complete unfinished lines written result

@@ -1,0 +1,93 @@
+-- How far a run of a script has come.
+use Rattle.std.specs.Prelude.{◌≡◌, ℕ, ◌+◌, ◌<◌, ◌≤◌, Bool, true, false, List, [], ◌∷◌, ◌++◌, length, take, drop, None, Some, Result, Ok, Err, nat_eq}
+use Rattle.std.specs.List.{concat, flat_map, All, AllByRecursion}
+use Rattle.replay_driver.specs.Script.{Machine, step_of, last_line}
+use Rattle.replay_driver.specs.declared.fault.Fault.{Fault}
+use Rattle.replay_driver.specs.declared.fault.Fault.TheVariants as faults
+use Rattle.replay_driver.specs.declared.session.Stop.{Stop}
+use Rattle.replay_driver.specs.declared.session.Stop.TheVariants as stops
+
+-- none of these lines is bad: they lead on, and these are the texts of the replies so far
+abbrev pub Steps : {S : Type 0} → Machine S → S → List (List ℕ) → S → List (List ℕ) → Type 0
+Steps machine old [] new texts = (new ≡ old) × (texts ≡ [])
+Steps {S} machine old (line ∷ lines) new texts =
+    (mid : S) × (first : List (List ℕ)) × (others : List (List ℕ)) × (step_of machine old line ≡ Some (mid, first)) × Steps machine mid lines new others × (texts ≡ first ++ others)
+
+-- a line with its line feed
+abbrev pub ended : List ℕ → List ℕ
+ended line = line ++ 10 ∷ []
+
+abbrev pub HasNoFeed : List ℕ → Type 0
+HasNoFeed bytes = All (λ b. nat_eq b 10 ≡ false) bytes
+
+-- The sink took the front of the text that was waiting and of what was added to it. The rest waits.
+abbrev pub Writes : {O : Type 0} → (O → O → List ℕ → Type 0) → O → List ℕ → O → List ℕ → List ℕ → Type 0
+Writes takes old text new rest added = (written : List ℕ) × takes old new written × (text ++ added ≡ written ++ rest)
+
+-- a session took a line, and its replies were added to the text
+abbrev pub TakesLine : {S E : Type 0} → Machine S → S → List ℕ → S → List ℕ → List ℕ → Result Bool E → Type 0
+TakesLine machine old line new text after (Ok true) = (texts : List (List ℕ)) × (machine.step old line ≡ Some (new, texts)) × (after ≡ text ++ concat texts)
+TakesLine machine old line new text after (Ok false) = (machine.step old line ≡ None) × (new ≡ old) × (after ≡ text)
+TakesLine {S} machine old line new text after (Err e) = (last : S) × (texts : List (List ℕ)) × (n : ℕ) × (machine.step old line ≡ Some (last, texts)) × (after ≡ text ++ concat (take n texts))
+
+-- a session's last replies were added to the text
+abbrev pub Ends : {S E : Type 0} → Machine S → S → List ℕ → List ℕ → Result (Unit {0}) E → Type 0
+Ends machine old text after (Ok _) = after ≡ text ++ concat (machine.ending old)
+Ends machine old text after (Err e) = (n : ℕ) × (after ≡ text ++ concat (take n (machine.ending old)))
+
+-- one line was taken, or stopped the script
+abbrev pub TakesOne : {S O : Type 0} → Machine S → S → List ℕ → S → (O → O → List ℕ → Type 0) → O → List ℕ → O → List ℕ → Type 0 → Result (Unit {0}) Stop → Type 0
+TakesOne machine old line new takes output text output' text' failed (Ok _) =
+    (texts : List (List ℕ)) × (step_of machine old line ≡ Some (new, texts)) × Writes takes output text output' text' (concat texts)
+TakesOne machine old line new takes output text output' text' failed (Err stops.Bad) =
+    (step_of machine old line ≡ None) × (new ≡ old) × Writes takes output text output' text' []
+TakesOne {S} machine old line new takes output text output' text' failed (Err stops.Memory) =
+    (last : S) × (texts : List (List ℕ)) × (n : ℕ) × (step_of machine old line ≡ Some (last, texts)) × Writes takes output text output' text' (concat (take n texts))
+TakesOne machine old line new takes output text output' text' failed (Err stops.Write) =
+    (texts : List (List ℕ)) × (rest : List ℕ) × (step_of machine old line ≡ Some (new, texts)) × Writes takes output text output' rest (concat texts) × failed
+
+-- these lines stand in the bytes, each with its line feed, and then a rest; they lead on, and have these replies
+pub record Leads {S : Type 0} (machine : Machine S) (old : S) (bytes : List ℕ) (lines : List (List ℕ)) (rest : List ℕ) (new : S) (texts : List (List ℕ)) : Type 0 where
+  pub cut : bytes ≡ flat_map ended lines ++ rest
+  pub no_feed : AllByRecursion HasNoFeed lines
+  pub steps : Steps machine old lines new texts
+
+-- the lines of a block were taken, or one of them stopped the script
+abbrev pub TakesLines : {S O : Type 0} → Machine S → S → List ℕ → S → (O → O → List ℕ → Type 0) → O → List ℕ → O → List ℕ → Type 0 → ℕ → ℕ → Result ℕ Stop → Type 0
+TakesLines machine old block new takes output text output' text' failed count count' (Ok used) =
+    (lines : List (List ℕ)) × (texts : List (List ℕ)) × Leads machine old block lines (drop used block) new texts
+    × (used ≤ length block) × HasNoFeed (drop used block) × (count' ≡ count + length lines) × Writes takes output text output' text' (concat texts)
+TakesLines machine old block new takes output text output' text' failed count count' (Err stops.Bad) =
+    (lines : List (List ℕ)) × (texts : List (List ℕ)) × (line : List ℕ) × (rest : List ℕ) × Leads machine old block lines (line ++ 10 ∷ rest) new texts
+    × HasNoFeed line × (step_of machine new line ≡ None) × (count' ≡ count + length lines) × Writes takes output text output' text' (concat texts)
+TakesLines {S} machine old block new takes output text output' text' failed count count' (Err stops.Memory) =
+    (lines : List (List ℕ)) × (texts : List (List ℕ)) × (rest : List ℕ) × (last : S) × (n : ℕ) × Leads machine old block lines rest last texts
+    × Writes takes output text output' text' (concat (take n texts))
+TakesLines machine old block new takes output text output' text' failed count count' (Err stops.Write) =
+    (lines : List (List ℕ)) × (texts : List (List ℕ)) × (rest : List ℕ) × (waiting : List ℕ) × Leads machine old block lines rest new texts
+    × Writes takes output text output' waiting (concat texts) × failed
+
+-- How far a block was taken: these are the good lines so far, the texts of their replies, and what was written of them.
+pub record SoFar {S O : Type 0} (machine : Machine S) (takes : O → O → List ℕ → Type 0) (old : S) (output : O) (text : List ℕ) (bytes rest : List ℕ) (new : S) (output' : O) (text' : List ℕ) (count : ℕ) : Type 0 where
+  pub lines : List (List ℕ)
+  pub texts : List (List ℕ)
+  pub leads : Leads machine old bytes lines rest new texts
+  pub counted : count ≡ length lines
+  pub writes : Writes takes output text output' text' (concat texts)
+
+-- what a stop at this line is to the caller
+abbrev pub fault_of : Stop → ℕ → Fault
+fault_of stops.Bad line = faults.BadLine line
+fault_of stops.Memory line = faults.Memory
+fault_of stops.Write line = faults.Write
+
+-- what stands behind the last line feed was taken, where it is a line, or stopped the script
+abbrev pub TakesLast : {S O : Type 0} → Machine S → S → List ℕ → S → (O → O → List ℕ → Type 0) → O → List ℕ → O → List ℕ → Type 0 → Result (Unit {0}) Stop → Type 0
+TakesLast machine old line new takes output text output' text' failed (Ok _) =
+    (texts : List (List ℕ)) × Steps machine old (last_line line) new texts × Writes takes output text output' text' (concat texts)
+TakesLast machine old line new takes output text output' text' failed (Err stop) =
+    (0 < length line) × TakesOne machine old line new takes output text output' text' failed (Err stop)
+
+-- what was read between the states stands behind what was held
+abbrev pub Reads : {I : Type 0} → (I → I → List ℕ → Type 0) → I → I → List ℕ → List ℕ → Type 0
+Reads gives old new held now = (bytes : List ℕ) × gives old new bytes × (now ≡ held ++ bytes)

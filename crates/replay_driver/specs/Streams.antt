@@ -1,0 +1,11 @@
+-- What a source and a sink stand on.
+use Rattle.replay_driver.specs.declared.source.FromRead.{FromRead}
+use Rattle.replay_driver.specs.declared.sink.ToWrite.{ToWrite}
+
+-- the reader of a source
+abbrev pub reader_of : {R : Type 0} → FromRead R → R
+reader_of source = source.reader
+
+-- the writer of a sink
+abbrev pub writer_of : {W : Type 0} → ToWrite W → W
+writer_of sink = sink.writer

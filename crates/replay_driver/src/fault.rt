@@ -1,0 +1,51 @@
+use std::fmt;
+
+/// A read or a write failed.
+#[derive(Clone, Copy, Debug, PartialEq, Eq)]
+pub struct Failed;
+
+/// Why a run stopped before the end of its input. Its text is the line for standard error, without a line feed.
+#[derive(Clone, Copy, Debug, PartialEq, Eq)]
+pub enum Fault {
+    /// This line, counted from 1, is not a command of the mode.
+    BadLine(u64),
+    /// The source failed.
+    Read,
+    /// The sink failed.
+    Write,
+    /// Memory was refused.
+    Memory,
+}
+
+impl Fault {
+    ghost use Rattle.std.specs.Prelude.{◌≡◌};
+    ghost use Rattle.replay_driver.specs.Faults.{status_of};
+
+    /// The exit status of a program that ends with the fault: 2 for a bad line, 3 for a failed read or write, 4 for
+    /// refused memory.
+    pub fn status(&self) -> u8
+        ensures { result ≡ status_of self.now }
+    {
+        match self {
+            Fault::BadLine(_) => 2,
+            Fault::Read | Fault::Write => 3,
+            Fault::Memory => 4,
+        }
+    }
+}
+
+impl fmt::Display for Fault {
+    ghost use Rattle.std.specs.Prelude.{Some};
+    ghost use Rattle.replay_driver.specs.Faults.{message_of};
+
+    ghost output = { λ fault. Some (message_of fault) };
+
+    fn fmt<W: fmt::Write>(&self, f: &mut fmt::Formatter<W>) -> fmt::Result {
+        match self {
+            Fault::BadLine(line) => write!(f, "bad line {line}"),
+            Fault::Read => write!(f, "read failed"),
+            Fault::Write => write!(f, "write failed"),
+            Fault::Memory => write!(f, "out of memory"),
+        }
+    }
+}

@@ -1,0 +1,9 @@
+//! Runs a script of any mode: reads lines from a source, hands them to a session, and writes the replies to a sink.
+#![tactic(auto)]
+
+pub mod fault;
+pub mod script;
+pub mod session;
+pub mod sink;
+pub mod source;
+pub mod text;

@@ -1,0 +1,227 @@
+ghost use Rattle.std.specs.Prelude.{◌≡◌, ◌+◌, ◌-◌, ◌<◌, ◌≤◌, ◌^◌, [], length, take, drop, IfOk, OnErr, IsTrue, ◌↔◌, Err};
+ghost use Rattle.replay_driver.specs.Steps.{TakesOne, TakesLines, TakesLast, Reads, fault_of};
+ghost use Rattle.replay_driver.specs.Halts.{Halts, EndsLines};
+ghost use Rattle.replay_driver.specs.Script.{Runs};
+ghost use Rattle.replay_driver.specs.declared.fault.Fault.{Fault};
+
+use crate::fault::{Failed, Fault};
+use crate::session::{Session, Stop};
+use crate::sink::Sink;
+use crate::source::Source;
+use crate::text::flush;
+use memchr::memchr;
+use std::alloc::Global;
+
+/// How long a line may be, without its line feed.
+const LONGEST_LINE: usize = 120;
+
+/// How much text waits before it is written.
+const FULL: usize = 1 << 16;
+
+/// Takes one line. Where enough text waits, it is written.
+fn take_line<S: Session, O: Sink>(
+    session: &mut S,
+    line: &[u8],
+    text: &mut Vec<u8>,
+    output: &mut O,
+) -> Result<(), Stop>
+    requires { S.is_ready session.old }
+    ensures ready { S.is_ready session.new }
+    ensures taken { TakesOne S.machine (S.state session.old) line.now (S.state session.new)
+        O.takes output.old text.old.items output.new text.new.items (O.has_failed output.new) result }
+{
+    if line.len() > LONGEST_LINE {
+        return Err(Stop::Bad);
+    }
+    match session.take(line, text) {
+        Ok(true) => {}
+        Ok(false) => return Err(Stop::Bad),
+        Err(_) => return Err(Stop::Memory),
+    }
+    if text.len() >= FULL && flush(output, text).is_err() {
+        return Err(Stop::Write);
+    }
+    Ok(())
+}
+
+/// Takes the complete lines of a block, and answers how many bytes they are. The count goes up by the good lines.
+fn take_lines<S: Session, O: Sink>(
+    session: &mut S,
+    block: &[u8],
+    count: &mut u64,
+    text: &mut Vec<u8>,
+    output: &mut O,
+) -> Result<usize, Stop>
+    requires ready { S.is_ready session.old }
+    requires room { count.old + length block.now < 2 ^ 64 }
+    ensures ready { S.is_ready session.new }
+    ensures taken { TakesLines S.machine (S.state session.old) block.now (S.state session.new)
+        O.takes output.old text.old.items output.new text.new.items (O.has_failed output.new)
+        count.old count.new result }
+    ensures bound { count.new ≤ count.old + length block.now }
+{
+    let mut start = 0;
+    while let Some(length) = memchr(b'\n', &block[start..]) {
+        let end = start + length;
+        take_line(session, &block[start..end], text, output)?;
+        *count += 1;
+        start = end + 1;
+    }
+    Ok(start)
+}
+
+/// What a stop at this line is to the caller.
+fn fault_at(stop: Stop, line: u64) -> Fault
+    ensures { result ≡ fault_of stop line }
+{
+    match stop {
+        Stop::Bad => Fault::BadLine(line),
+        Stop::Memory => Fault::Memory,
+        Stop::Write => Fault::Write,
+    }
+}
+
+/// Takes what stands behind the last line feed, where it is a line.
+fn take_last<S: Session, O: Sink>(
+    session: &mut S,
+    line: &[u8],
+    text: &mut Vec<u8>,
+    output: &mut O,
+) -> Result<(), Stop>
+    requires { S.is_ready session.old }
+    ensures ready { S.is_ready session.new }
+    ensures taken { TakesLast S.machine (S.state session.old) line.now (S.state session.new)
+        O.takes output.old text.old.items output.new text.new.items (O.has_failed output.new) result }
+{
+    if line.is_empty() {
+        return Ok(());
+    }
+    take_line(session, line, text, output)
+}
+
+/// Reads behind the bytes that are held at the front of the block, and answers where they end now.
+fn read_more<I: Source>(input: &mut I, block: &mut [u8], held: usize) -> Result<usize, Failed>
+    requires { held < length block.old }
+    ensures len { length block.new ≡ length block.old }
+    ensures within { IfOk result (λ end. (held ≤ end) × (end ≤ length block.new)) }
+    ensures read { IfOk result (λ end. Reads I.gives input.old input.new (take held block.old) (take end block.new)) }
+    ensures room { IfOk result (λ end. end + I.room input.new ≤ held + I.room input.old) }
+    ensures end { IfOk result (λ end. end ≡ held → I.at_end input.new) }
+    ensures err { OnErr result (I.gives input.old input.new []) }
+    ensures fails { OnErr result (I.has_failed input.new) }
+{
+    let count = input.read(&mut block[held..])?;
+    Ok(held + count)
+}
+
+/// Moves what is left of the block to its front.
+fn keep(block: &mut [u8], used: usize, end: usize)
+    requires order { used ≤ end }
+    requires within { end ≤ length block.old }
+    ensures len { length block.new ≡ length block.old }
+    ensures kept { take (end - used) block.new ≡ drop used (take end block.old) }
+{
+    block.copy_within(used..end, 0);
+}
+
+/// Reads and takes lines, up to the end of the input or to a fault. The block holds what was read and not yet taken.
+fn read_lines<S: Session, I: Source, O: Sink>(
+    session: &mut S,
+    input: &mut I,
+    output: &mut O,
+    block: &mut [u8],
+    text: &mut Vec<u8>,
+) -> Result<(), Fault>
+    requires ready { S.is_ready session.old }
+    requires block { 120 < length block.old }
+    ensures ready { S.is_ready session.new }
+    ensures halts { Halts S.machine (S.state session.old) (S.state session.new)
+        (I.gives input.old input.new) (I.at_end input.new) (I.has_failed input.new)
+        O.takes output.old text.old.items output.new text.new.items (O.has_failed output.new) result }
+{
+    let mut count = 0u64;
+    let mut held = 0usize;
+    loop {
+        let Ok(end) = read_more(input, block, held) else {
+            return Err(Fault::Read);
+        };
+        if end == held {
+            return match take_last(session, &block[..held], text, output) {
+                Ok(()) => Ok(()),
+                Err(stop) => Err(fault_at(stop, count + 1)),
+            };
+        }
+        let used = match take_lines(session, &block[..end], &mut count, text, output) {
+            Ok(used) => used,
+            Err(stop) => return Err(fault_at(stop, count + 1)),
+        };
+        held = end - used;
+        if held > LONGEST_LINE {
+            return Err(Fault::BadLine(count + 1));
+        }
+        keep(block, used, end);
+        let Ok(()) = flush(output, text) else {
+            return Err(Fault::Write);
+        };
+    }
+}
+
+/// How many bytes are read at once.
+const BLOCK: usize = 1 << 16;
+
+/// Answers the end of the lines, unless writing or memory failed before.
+fn end_lines<S: Session>(
+    session: &mut S,
+    text: &mut Vec<u8>,
+    halt: Result<(), Fault>,
+) -> Result<(), Fault>
+    requires { S.is_ready session.old }
+    ensures { EndsLines S.machine (S.state session.old) text.old.items text.new.items halt result }
+{
+    match halt {
+        Err(Fault::Memory) => Err(Fault::Memory),
+        Err(Fault::Write) => Err(Fault::Write),
+        other => match session.end(text) {
+            Ok(()) => other,
+            Err(_) => Err(Fault::Memory),
+        },
+    }
+}
+
+/// Whether a write failed.
+fn has_stopped_writing(halt: Result<(), Fault>) -> bool
+    ensures { IsTrue result ↔ (halt ≡ Err Fault.Write) }
+{
+    matches!(halt, Err(Fault::Write))
+}
+
+/// Runs a script: reads its lines, and writes the replies to them.
+///
+/// The lines go to the session, up to the first bad one or to the end of the input, which is then told of the end. What
+/// stands written after a fault is as `run` says. At the call the source and the sink may be in any state, and the session
+/// in any in which it may take lines.
+pub fn run_script<S: Session, I: Source, O: Sink>(
+    alloc: Global,
+    session: &mut S,
+    input: &mut I,
+    output: &mut O,
+) -> Result<(), Fault>
+    requires { S.is_ready session.old }
+    ensures { Runs S.machine (S.state session.old)
+        (I.gives input.old input.new) (I.at_end input.new) (I.has_failed input.new)
+        (O.takes output.old output.new) (O.has_failed output.new) result }
+{
+    let Ok(mut block) = vec![in alloc; 0u8; BLOCK] else {
+        return Err(Fault::Memory);
+    };
+    let mut text = Vec::new(alloc);
+    let halt = read_lines(session, input, output, &mut block, &mut text);
+    let end = end_lines(session, &mut text, halt);
+    if has_stopped_writing(end) {
+        return Err(Fault::Write);
+    }
+    match flush(output, &mut text) {
+        Ok(()) => end,
+        Err(_) => Err(Fault::Write),
+    }
+}

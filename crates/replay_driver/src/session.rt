@@ -1,0 +1,51 @@
+ghost use Rattle.std.specs.Prelude.{⊤};
+ghost use Rattle.replay_driver.specs.Script.{Machine};
+ghost use Rattle.replay_driver.specs.Steps.{TakesLine, Ends};
+
+use std::alloc::AllocError;
+
+/// What the lines of a script mean, and what they do.
+///
+/// A session takes the lines one after the other. A line completes no command, one, or several, and the end of the
+/// lines may complete one more. Each command has a text: its reply lines, each with its line feed.
+pub trait Session {
+    // What the commands change.
+    ghost State: { Type 0 };
+
+    // What each line does, and what it answers.
+    ghost machine: { Machine State };
+
+    ghost state: { Self → State };
+
+    // Holds of a session that may take lines, as long as it lasts.
+    ghost is_ready: { Self → Type 0 } = { λ _. ⊤ };
+
+    /// Takes a line, without its line feed, and adds the texts of the commands that it completes.
+    ///
+    /// `Ok(false)` means that the line is bad, and nothing changes. After an `Err` memory was refused: the texts of some
+    /// of the commands were added, each as a whole, and the session takes no further line. The cost is that of the
+    /// commands and their texts.
+    fn take(&mut self, line: &[u8], text: &mut Vec<u8>) -> Result<bool, AllocError>
+        requires { is_ready self.old }
+        ensures taken { TakesLine machine (state self.old) line.now (state self.new)
+            text.old.items text.new.items result }
+        ensures ready { is_ready self.new };
+
+    /// Adds the texts of what the end of the lines completes.
+    ///
+    /// After an `Err` memory was refused, and some of them were added, each as a whole.
+    fn end(&mut self, text: &mut Vec<u8>) -> Result<(), AllocError>
+        requires { is_ready self.old }
+        ensures { Ends machine (state self.old) text.old.items text.new.items result };
+}
+
+/// Why no further line is taken.
+#[derive(Clone, Copy, Debug, PartialEq, Eq)]
+pub enum Stop {
+    /// The line is bad.
+    Bad,
+    /// Memory was refused.
+    Memory,
+    /// The sink failed.
+    Write,
+}

@@ -1,0 +1,94 @@
+ghost use Rattle.std.specs.Prelude.{◌≡◌, ◌++◌, ℕ, ◌<◌, ◌≤◌, List, [], length, take, IsTrue, IsErr, IfOk, OnOk, OnErr};
+ghost use Rattle.std.specs.Io.KnownBytes.{Appends};
+ghost use Rattle.replay_driver.specs.Known.{Appends-nothing, Appends-more};
+
+use crate::fault::Failed;
+use std::io::Write;
+
+/// Where bytes go.
+pub trait Sink {
+    // These bytes were written between the first state and the second.
+    ghost takes: { Self → Self → List ℕ → Type 0 };
+
+    // A write failed: each further one fails.
+    ghost has_failed: { Self → Type 0 };
+
+    /// Writes a front of the bytes, and answers how many: at least one where there are some.
+    ///
+    /// An `Err` writes no byte, and each further write fails too.
+    fn write(&mut self, bytes: &[u8]) -> Result<usize, Failed>
+        ensures count { IfOk result (λ n. n ≤ length bytes.now) }
+        ensures some { IfOk result (λ n. 0 < length bytes.now → 0 < n) }
+        ensures bytes { IfOk result (λ n. takes self.old self.new (take n bytes.now)) }
+        ensures ok { OnOk result (has_failed self.new → ⊥) }
+
+        ensures err { OnErr result (takes self.old self.new []) }
+        ensures fails { OnErr result (has_failed self.new) }
+        ensures after_failure { has_failed self.old → IsErr result };
+
+    ghost takes_nothing: { (s : Self) → takes s s [] };
+
+    ghost takes_more: { (s t u : Self) (xs ys : List ℕ) → takes s t xs → takes t u ys → takes s u (xs ++ ys) };
+}
+
+/// A writer as a sink.
+///
+/// A write fails where the writer's does, an interrupted one too, and where the writer takes none of some bytes. The
+/// writer is not flushed: give one that keeps nothing back, or flush what `into_inner` answers.
+#[derive(Drop)]
+pub struct ToWrite<W> {
+    writer: W,
+    failed: bool,
+}
+
+impl<W: Write> ToWrite<W> {
+    ghost use Rattle.std.specs.Prelude.{◌≡◌};
+    ghost use Rattle.replay_driver.specs.Streams.{writer_of};
+
+    /// The sink whose bytes go to the writer. It has not failed.
+    pub fn new(writer: W) -> Self
+        ensures writer { writer_of result ≡ writer }
+        ensures sound { ⟦<ToWrite<W> as Sink>⟧.has_failed result → ⊥ }
+    {
+        ToWrite {
+            writer,
+            failed: false,
+        }
+    }
+}
+
+impl<W> ToWrite<W> {
+    ghost use Rattle.std.specs.Prelude.{◌≡◌};
+    ghost use Rattle.replay_driver.specs.Streams.{writer_of};
+
+    /// The writer.
+    pub fn into_inner(self) -> W
+        ensures { result ≡ writer_of self }
+    {
+        let ToWrite { writer, failed: _ } = self;
+        writer
+    }
+}
+
+impl<W: Write> Sink for ToWrite<W> {
+    ghost takes = { λ s t bytes. Appends (W.contents s.writer) (W.contents t.writer) bytes };
+
+    ghost has_failed = { λ s. IsTrue s.failed };
+
+    ghost takes_nothing = { λ s. Appends-nothing (W.contents s.writer) };
+
+    ghost takes_more = { λ s t u. Appends-more (W.contents s.writer) (W.contents t.writer) (W.contents u.writer) };
+
+    fn write(&mut self, bytes: &[u8]) -> Result<usize, Failed> {
+        if self.failed {
+            return Err(Failed);
+        }
+        match self.writer.write(bytes) {
+            Ok(count) if count > 0 || bytes.is_empty() => Ok(count),
+            _ => {
+                self.failed = true;
+                Err(Failed)
+            }
+        }
+    }
+}

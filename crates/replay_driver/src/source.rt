@@ -1,0 +1,117 @@
+ghost use Rattle.std.specs.Prelude.{◌≡◌, ◌++◌, ℕ, ◌+◌, ◌<◌, ◌≤◌, ◌^◌, List, [], length, take, IsTrue, IsErr, IfOk, OnOk, OnErr};
+ghost use Rattle.std.specs.Io.KnownBytes.{Consumes};
+ghost use Rattle.replay_driver.specs.Known.{Consumes-nothing, Consumes-more};
+
+use crate::fault::Failed;
+use std::io::Read;
+
+/// How many bytes a source gives at most.
+const MOST_BYTES: u64 = 1 << 63;
+
+/// Where bytes come from: at most 2 to the 63 of them.
+pub trait Source {
+    // These bytes were read between the first state and the second.
+    ghost gives: { Self → Self → List ℕ → Type 0 };
+
+    // At most so many bytes are still to come.
+    ghost room: { Self → ℕ };
+
+    // The end was met: no byte comes any more.
+    ghost at_end: { Self → Type 0 };
+
+    // A read failed: each further one fails.
+    ghost has_failed: { Self → Type 0 };
+
+    /// Reads into the front of the buffer, and answers how many bytes.
+    ///
+    /// At 0 bytes into a buffer that is not empty, the end is met: no byte comes any more. An `Err` reads no byte, and
+    /// each further read fails too.
+    fn read(&mut self, buffer: &mut [u8]) -> Result<usize, Failed>
+        ensures count { IfOk result (λ n. n ≤ length buffer.new) }
+        ensures bytes { IfOk result (λ n. gives self.old self.new (take n buffer.new)) }
+        ensures room { IfOk result (λ n. n + room self.new ≤ room self.old) }
+        ensures ok { OnOk result (has_failed self.new → ⊥) }
+
+        ensures end { IfOk result (λ n. n ≡ 0 → 0 < length buffer.new → at_end self.new) }
+        ensures after_end { IfOk result (λ n. at_end self.old → n ≡ 0) }
+        ensures stays_at_end { at_end self.old → at_end self.new }
+
+        ensures err { OnErr result (gives self.old self.new []) }
+        ensures fails { OnErr result (has_failed self.new) }
+        ensures after_failure { has_failed self.old → IsErr result };
+
+    ghost gives_nothing: { (s : Self) → gives s s [] };
+
+    ghost gives_more: { (s t u : Self) (xs ys : List ℕ) → gives s t xs → gives t u ys → gives s u (xs ++ ys) };
+
+    ghost few: { (s : Self) → room s ≤ 2 ^ 63 };
+}
+
+/// A reader as a source.
+///
+/// A read fails where the reader's does, an interrupted one too, and past 2 to the 63 bytes.
+#[derive(Drop)]
+pub struct FromRead<R> {
+    reader: R,
+    left: u64,
+    failed: bool,
+    ended: bool,
+    ghost few: { left ≤ 2 ^ 63 },
+}
+
+impl<R: Read> FromRead<R> {
+    ghost use Rattle.std.specs.Prelude.{◌≡◌, ◌^◌};
+    ghost use Rattle.replay_driver.specs.Streams.{reader_of};
+
+    /// The source of what the reader gives from here on. It has not failed.
+    pub fn new(reader: R) -> Self
+        ensures reader { reader_of result ≡ reader }
+        ensures sound { ⟦<FromRead<R> as Source>⟧.has_failed result → ⊥ }
+        ensures before_end { ⟦<FromRead<R> as Source>⟧.at_end result → ⊥ }
+        ensures room { ⟦<FromRead<R> as Source>⟧.room result ≡ 2 ^ 63 }
+    {
+        FromRead {
+            reader,
+            left: MOST_BYTES,
+            failed: false,
+            ended: false,
+        }
+    }
+}
+
+impl<R: Read> Source for FromRead<R> {
+    ghost gives = { λ s t bytes. Consumes (R.remaining s.reader) (R.remaining t.reader) bytes };
+
+    ghost room = { λ s. s.left };
+
+    ghost at_end = { λ s. IsTrue s.ended };
+
+    ghost has_failed = { λ s. IsTrue s.failed };
+
+    ghost gives_nothing = { λ s. Consumes-nothing (R.remaining s.reader) };
+
+    ghost gives_more = { λ s t u. Consumes-more (R.remaining s.reader) (R.remaining t.reader) (R.remaining u.reader) };
+
+    ghost few = { λ s. s.few };
+
+    fn read(&mut self, buffer: &mut [u8]) -> Result<usize, Failed> {
+        if self.failed {
+            return Err(Failed);
+        }
+        if self.ended {
+            return Ok(0);
+        }
+        let room = buffer.len().min(self.left as usize);
+        if room == 0 && !buffer.is_empty() {
+            self.failed = true;
+            return Err(Failed);
+        }
+        let Ok(count) = self.reader.read(&mut buffer[..room]) else {
+            self.failed = true;
+            return Err(Failed);
+        };
+        self.left -= count as u64;
+        self.ended = count == 0 && room > 0;
+        Ok(count)
+    }
+}

@@ -1,0 +1,10 @@
+pub mod Splitting
+pub mod Numbers
+pub mod Texts
+pub mod Forms
+pub mod ListForms
+pub mod Spelling
+pub mod CursorSpelling
+pub mod TransferSpelling
+pub mod QueueSpelling
+pub mod Pairs

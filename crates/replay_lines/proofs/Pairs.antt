@@ -1,0 +1,112 @@
+-- Words that are pairs of numbers, parted by a colon.
+use Rattle.std.proofs.Common.{◌≡◌, ℕ, ◌+◌, ◌-◌, ◌<◌, List, [], ◌∷◌, ◌++◌, length, take, drop, Some, None, Option, Bool, true, false, refl, sym, ◌∙◌, ap, arith, length-take, length-drop, add-one, nat_eq, append_assoc}
+use Rattle.std.proofs.lemmas.List.{append-nil, take_all, get_or-take, get_or_default, take-append-drop}
+use Rattle.std.proofs.lemmas.List.Elements.{All-from_recursion}
+use Rattle.std.proofs.lemmas.List.Splits.{slice_split_at, slice_split_none, join_with_byte-slice_split}
+use Rattle.std.proofs.lemmas.Bool.{eqb-true, ne_eqb}
+use Rattle.std.proofs.Math.Seq.{drop-cons}
+use Rattle.std.specs.Char.{is_ascii_digit}
+use Rattle.std.specs.Fmt.{decimal}
+use Rattle.std.specs.Str.{all_ascii_digits}
+use Rattle.std.specs.List.{All, AllByRecursion, slice_split, join_with_byte}
+use Rattle.std.specs.Option.{option_map, option_and_then}
+use Rattle.std.specs.Prelude.{is_some}
+use Rattle.memchr.specs.Find.{IsFirstByte, is_byte}
+use Rattle.cordyceps.specs.declared.replay.item.Item.{Item}
+use Rattle.replay_lines.specs.Words.{number_of}
+use Rattle.replay_lines.specs.LineWords.{item_of}
+use Rattle.replay_lines.specs.SortedScript.{pair_of, pairs_of}
+use Rattle.replay_lines.proofs.Numbers.{is_numeral, numeral_digits, both}
+
+abbrev colon : ℕ → Bool
+colon b = nat_eq b 58
+
+is_false : (b : Bool) → ¬ (b ≡ true) → b ≡ false
+is_false b differs = elim b as (λ (v : Bool). ¬ (v ≡ true) → v ≡ false) [ true ↦ λ n. absurd (n refl) | false ↦ λ n. refl ] differs
+
+no_colon : (digit : ℕ) → is_ascii_digit digit ≡ true → colon digit ≡ false
+no_colon digit is = ne_eqb digit 58 (λ same. let it : is_ascii_digit 58 ≡ true = rw same at is in cc)
+
+clean : (bytes : List ℕ) → all_ascii_digits bytes ≡ true → AllByRecursion (λ b. colon b ≡ false) bytes
+clean [] is = tt
+clean (b ∷ bytes) is = let k = both (is_ascii_digit b) (all_ascii_digits bytes) is in (no_colon b k.0, clean bytes k.1)
+
+-- a number has no colon
+whole : (word : List ℕ) (n : ℕ) → number_of word ≡ Some n → slice_split colon word ≡ word ∷ []
+whole word n is =
+    let (small, same) = is_numeral word n is in
+    slice_split_none colon word (All-from_recursion (λ b. colon b ≡ false) word (rw same (clean (decimal n) (numeral_digits n small))))
+
+abbrev made : Option ℕ → Option ℕ → Option Item
+made id value = option_map (λ (x : ℕ × ℕ). record { value = x.1; id = x.0 }) (option_and_then (λ i. option_map (λ v. (i, v)) value) id)
+
+no_value : (id : Option ℕ) → made id None ≡ None
+no_value None = refl
+no_value (Some i) = refl
+
+cut_parts : (first rest : List ℕ) (parts : List (List ℕ)) (value : Option ℕ) → number_of rest ≡ value → ((n : ℕ) → value ≡ Some n → parts ≡ rest ∷ []) → ((v : List ℕ) → parts ≡ v ∷ [] → v ≡ rest) →
+    item_of (first ∷ parts) ≡ item_of (first ∷ rest ∷ [])
+cut_parts first rest parts (Some n) is single only = rw (single n refl) refl
+cut_parts first rest [] None is single only = sym (ap (made (number_of first)) is)
+cut_parts first rest (v ∷ []) None is single only = rw (only v refl) refl
+cut_parts first rest (v ∷ w ∷ parts) None is single only = sym (ap (made (number_of first)) is)
+
+cut : (first rest : List ℕ) → item_of (first ∷ slice_split colon rest) ≡ item_of (first ∷ rest ∷ [])
+cut first rest =
+    cut_parts first rest (slice_split colon rest) (number_of rest) refl (λ n is. whole rest n is)
+    (λ v is. ap (join_with_byte 58) (sym is) ∙ join_with_byte-slice_split 58 rest)
+
+-- a word is read as what stands before and behind its first colon
+pub read_pair : (word : List ℕ) (k : ℕ) → IsFirstByte (is_byte 58) word (Some k) → item_of (take k word ∷ take (length word - (k + 1)) (drop (k + 1) word) ∷ []) ≡ pair_of word
+read_pair word k h =
+    let before : All (λ b. nat_eq b 58 ≡ false) (take k word) = λ j d lt.
+    let le : j < k = omega (arith, length-take k word) in
+    let within : j < length word = omega (arith, length-take k word) in
+    rw (get_or-take k word j d le, get_or_default word j d 0 within) (is_false _ (h.0.before j (omega arith) le)) in
+    let at : word ≡ take k word ++ 58 ∷ drop (k + 1) word = sym (take-append-drop k word) ∙ ap (λ (xs : List ℕ). take k word ++ xs) (rw (drop-cons word k 0 h.0.high, add-one, eqb-true _ _ h.1) refl) in
+    let all : take (length word - (k + 1)) (drop (k + 1) word) ≡ drop (k + 1) word = take_all (length word - (k + 1)) (drop (k + 1) word) (omega (arith, length-drop (k + 1) word)) in
+    let parts : slice_split colon word ≡ take k word ∷ slice_split colon (drop (k + 1) word) = ap (slice_split colon) at ∙ slice_split_at colon (take k word) 58 (drop (k + 1) word) before refl in
+    rw (all, parts) (sym (cut (take k word) (drop (k + 1) word)))
+
+mapped_some : {A B : Type 0} (f : A → B) (o : Option A) → is_some (option_map f o) ≡ is_some o
+mapped_some f None = refl
+mapped_some f (Some a) = refl
+
+-- without a colon it is no pair
+pub no_pair : (word : List ℕ) → IsFirstByte (is_byte 58) word None → None ≡ pair_of word
+no_pair word h = rw (slice_split_none colon word (λ j d lt. rw (get_or_default word j d 0 lt) (is_false _ (h j (omega arith) lt)))) (sym (no_value (number_of word)))
+
+-- the pairs so far, and those of the words that are left, are all
+abbrev pub MorePairs : List Item → List (List ℕ) → List (List ℕ) → Type 0
+MorePairs items words all = option_map (λ more. items ++ more) (pairs_of words) ≡ pairs_of all
+
+more_of : (items : List Item) (item : Item) (more : Option (List Item)) → option_map (λ others. items ++ others) (option_map (λ others. item ∷ others) more) ≡ option_map (λ others. (items ++ item ∷ []) ++ others) more
+more_of items item None = refl
+more_of items item (Some more) = rw append_assoc refl
+
+no_items : (pairs : Option (List Item)) → option_map (λ more. [] ++ more) pairs ≡ pairs
+no_items None = refl
+no_items (Some items) = refl
+
+pub all_pairs : (words : List (List ℕ)) → MorePairs [] words words
+all_pairs words = no_items (pairs_of words)
+
+pub pairs_more : (items : List Item) (item : Item) (word : List ℕ) (words all : List (List ℕ)) → Some item ≡ pair_of word → MorePairs items (word ∷ words) all → MorePairs (items ++ item ∷ []) words all
+pairs_more items item word words all is so_far =
+    let now : option_map (λ more. items ++ more) (option_map (λ more. item ∷ more) (pairs_of words)) ≡ pairs_of all =
+    ap (λ (o : Option Item). option_map (λ more. items ++ more) (option_and_then (λ i. option_map (λ more. i ∷ more) (pairs_of words)) o)) is ∙ so_far in
+    sym (more_of items item (pairs_of words)) ∙ now
+
+pub pairs_bad : (items : List Item) (word : List ℕ) (words all : List (List ℕ)) → None ≡ pair_of word → MorePairs items (word ∷ words) all → None ≡ pairs_of all
+pairs_bad items word words all is so_far =
+    ap (λ (o : Option Item). option_map (λ more. items ++ more) (option_and_then (λ i. option_map (λ more. i ∷ more) (pairs_of words)) o)) is ∙ so_far
+
+pub pairs_done : (items : List Item) (all : List (List ℕ)) → MorePairs items [] all → Some items ≡ pairs_of all
+pairs_done items all so_far = ap Some (sym (append-nil items)) ∙ so_far
+
+-- where the first word is a pair, all words are if the others are
+pub pair_first : (item : Item) (word : List ℕ) (words : List (List ℕ)) → Some item ≡ pair_of word → is_some (pairs_of (word ∷ words)) ≡ is_some (pairs_of words)
+pair_first item word words is = rw (← is) (mapped_some (λ more. item ∷ more) (pairs_of words))
+
+pub bad_first : (word : List ℕ) (words : List (List ℕ)) → None ≡ pair_of word → is_some (pairs_of (word ∷ words)) ≡ false
+bad_first word words is = rw (← is) refl

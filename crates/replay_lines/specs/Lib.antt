@@ -1,0 +1,16 @@
+pub mod Words
+pub mod ReplyText
+pub mod CoreReplies
+pub mod LineWords
+pub mod ListWords
+pub mod ListVerbs
+pub mod ListScript
+pub mod CursorScript
+pub mod SortedScript
+pub mod StackScript
+pub mod TransferScript
+pub mod TransferSpelling
+pub mod QueueScript
+pub mod QueueSpelling
+pub mod Spelling
+pub mod CursorSpelling

@@ -1,0 +1,92 @@
+//! The replies of the modes `transfer` and `queue`.
+ghost use Rattle.std.specs.Prelude.{◌≡◌, ◌++◌, OnErr, OnOk};
+ghost use Rattle.replay_lines.specs.CoreReplies.{core_text, item_text, said, show};
+
+use crate::reply::push_show;
+use cordyceps::replay::Item;
+use std::alloc::{AllocError, Global};
+
+/// The reply to a line of the modes `transfer` and `queue`.
+#[derive(Drop)]
+pub enum CoreReply {
+    /// This party was added.
+    Party(usize),
+    /// Done, with nothing to tell.
+    Done,
+    /// Whether nothing was held.
+    Truth(bool),
+    /// An item came out.
+    Found(Item),
+    /// An item came out, the last one of what was taken.
+    Last(Item),
+    /// A push failed, and here is its item.
+    Failed(Item),
+    /// What was held was taken, and is yet to come out.
+    Taken,
+    /// Nothing was held when all was to be taken.
+    Nothing,
+    /// Another party has the right to dequeue.
+    Busy,
+    /// The queue holds nothing.
+    Empty,
+    /// The oldest item of the queue or the one behind it is not linked yet.
+    Inconsistent,
+    /// All that was held, newest first.
+    Show(Vec<Item>),
+    /// There is no such party, or it may not take that step or make that call.
+    NotThere,
+}
+
+/// Adds a line of a word and an item. An `Err` adds nothing.
+fn push_item(alloc: Global, text: &mut Vec<u8>, word: &str, item: Item) -> Result<(), AllocError>
+    ensures ok { OnOk result (text.new.items ≡ text.old.items ++ item_text word.now item) }
+    ensures err { OnErr result (text.new.items ≡ text.old.items) }
+{
+    let id = item.id;
+    let value = item.value;
+    let line = format!(in alloc; "{word} {id} {value}\n")?;
+    text.extend_from_slice(line.as_bytes())
+}
+
+/// Adds a line that shows these items. An `Err` adds nothing.
+fn push_items(alloc: Global, text: &mut Vec<u8>, items: &[Item]) -> Result<(), AllocError>
+    ensures ok { OnOk result (text.new.items ≡ text.old.items ++ core_text (show items.now)) }
+    ensures err { OnErr result (text.new.items ≡ text.old.items) }
+{
+    let mut shown = Vec::new(alloc);
+    for item in items {
+        shown.push(Some(*item))?;
+    }
+    push_show(alloc, text, &shown)
+}
+
+/// Adds a reply's line to the text. After an `Err` memory was refused, and nothing was added.
+pub fn push_core_reply(
+    alloc: Global,
+    text: &mut Vec<u8>,
+    reply: &CoreReply,
+) -> Result<(), AllocError>
+    ensures ok { OnOk result (text.new.items ≡ text.old.items ++ core_text (said reply.now)) }
+    ensures err { OnErr result (text.new.items ≡ text.old.items) }
+{
+    match reply {
+        CoreReply::Party(party) => {
+            let party = *party;
+            let line = format!(in alloc; "party {party}\n")?;
+            text.extend_from_slice(line.as_bytes())
+        }
+        CoreReply::Done => text.extend_from_slice(b"ok\n"),
+        CoreReply::Truth(true) => text.extend_from_slice(b"true\n"),
+        CoreReply::Truth(false) => text.extend_from_slice(b"false\n"),
+        CoreReply::Found(item) => push_item(alloc, text, "some", *item),
+        CoreReply::Last(item) => push_item(alloc, text, "last", *item),
+        CoreReply::Failed(item) => push_item(alloc, text, "failed", *item),
+        CoreReply::Taken => text.extend_from_slice(b"taken\n"),
+        CoreReply::Nothing => text.extend_from_slice(b"none\n"),
+        CoreReply::Busy => text.extend_from_slice(b"busy\n"),
+        CoreReply::Empty => text.extend_from_slice(b"empty\n"),
+        CoreReply::Inconsistent => text.extend_from_slice(b"inconsistent\n"),
+        CoreReply::Show(items) => push_items(alloc, text, items),
+        CoreReply::NotThere => text.extend_from_slice(b"not there\n"),
+    }
+}

@@ -1,0 +1,122 @@
+ghost use Rattle.std.specs.Prelude.{◌≡◌, Some, IfSome};
+ghost use Rattle.cordyceps.specs.Blocks.{OtherFits};
+ghost use Rattle.replay_lines.specs.Words.{words_left};
+ghost use Rattle.replay_lines.specs.CursorScript.{bare_of, verb_of, command_with, cursor_command_of};
+ghost use Rattle.replay_lines.specs.CursorSpelling.{spelling_of, HasNumbers};
+ghost use Rattle.cordyceps.specs.declared.replay.list_command.CursorCommand.{CursorCommand};
+
+use crate::line_words::{item, nothing, only_word, structure, value};
+use crate::list_words::filter;
+use crate::words::Words;
+use cordyceps::replay::CursorCommand;
+
+/// The command words of a block.
+#[derive(Clone, Copy)]
+pub enum CursorVerb {
+    /// A word that is a command, with no words behind it.
+    Bare(CursorCommand),
+    Set,
+    SetNext,
+    SetPrev,
+    RemoveFirst,
+    InsertAfter,
+    InsertBefore,
+    SplitAfter,
+    SplitBefore,
+    SpliceAfter,
+    SpliceBefore,
+}
+
+fn read_bare(word: &[u8]) -> Option<CursorCommand>
+    ensures { result ≡ bare_of word.now }
+{
+    if word == b"next".as_slice() {
+        Some(CursorCommand::MoveNext)
+    } else if word == b"prev".as_slice() {
+        Some(CursorCommand::MovePrev)
+    } else if word == b"cur".as_slice() {
+        Some(CursorCommand::Current)
+    } else if word == b"pnext".as_slice() {
+        Some(CursorCommand::PeekNext)
+    } else if word == b"pprev".as_slice() {
+        Some(CursorCommand::PeekPrev)
+    } else if word == b"index".as_slice() {
+        Some(CursorCommand::Index)
+    } else if word == b"len".as_slice() {
+        Some(CursorCommand::Len)
+    } else if word == b"step".as_slice() {
+        Some(CursorCommand::Next)
+    } else if word == b"remove".as_slice() {
+        Some(CursorCommand::RemoveCurrent)
+    } else if word == b"end".as_slice() {
+        Some(CursorCommand::End)
+    } else {
+        None
+    }
+}
+
+fn read_verb(word: &[u8]) -> Option<CursorVerb>
+    ensures { result ≡ verb_of word.now }
+{
+    if word == b"set".as_slice() {
+        Some(CursorVerb::Set)
+    } else if word == b"setn".as_slice() {
+        Some(CursorVerb::SetNext)
+    } else if word == b"setp".as_slice() {
+        Some(CursorVerb::SetPrev)
+    } else if word == b"first".as_slice() {
+        Some(CursorVerb::RemoveFirst)
+    } else if word == b"insa".as_slice() {
+        Some(CursorVerb::InsertAfter)
+    } else if word == b"insb".as_slice() {
+        Some(CursorVerb::InsertBefore)
+    } else if word == b"splita".as_slice() {
+        Some(CursorVerb::SplitAfter)
+    } else if word == b"splitb".as_slice() {
+        Some(CursorVerb::SplitBefore)
+    } else if word == b"splicea".as_slice() {
+        Some(CursorVerb::SpliceAfter)
+    } else if word == b"spliceb".as_slice() {
+        Some(CursorVerb::SpliceBefore)
+    } else {
+        read_bare(word).map(CursorVerb::Bare)
+    }
+}
+
+/// Reads the words that a command word needs.
+fn read_with(verb: CursorVerb, words: Words) -> Option<CursorCommand>
+    ensures { result ≡ command_with verb (words_left words.entry.rest) }
+{
+    match verb {
+        CursorVerb::Bare(command) => nothing(words).map(|()| command),
+        CursorVerb::Set => value(words).map(CursorCommand::Set),
+        CursorVerb::SetNext => value(words).map(CursorCommand::SetNext),
+        CursorVerb::SetPrev => value(words).map(CursorCommand::SetPrev),
+        CursorVerb::RemoveFirst => filter(only_word(words)?).map(CursorCommand::RemoveFirst),
+        CursorVerb::InsertAfter => item(words).map(CursorCommand::InsertAfter),
+        CursorVerb::InsertBefore => item(words).map(CursorCommand::InsertBefore),
+        CursorVerb::SplitAfter => structure(words).map(CursorCommand::SplitAfter),
+        CursorVerb::SplitBefore => structure(words).map(CursorCommand::SplitBefore),
+        CursorVerb::SpliceAfter => structure(words).map(CursorCommand::SpliceAfter),
+        CursorVerb::SpliceBefore => structure(words).map(CursorCommand::SpliceBefore),
+    }
+}
+
+/// Reads the command word, and the words that it needs.
+fn read_words(line: &[u8]) -> Option<CursorCommand>
+    ensures { result ≡ cursor_command_of line.now }
+{
+    let mut words = Words::new(line);
+    let verb = read_verb(words.next_word()?)?;
+    read_with(verb, words)
+}
+
+/// What a line of a block of mode `list` means. `None` means that it is bad.
+pub fn read_cursor_command(line: &[u8]) -> Option<CursorCommand>
+    ensures value { result ≡ cursor_command_of line.now }
+    ensures fits { IfSome result OtherFits }
+    ensures spelled { IfSome result (λ command. line.now ≡ spelling_of command) }
+    ensures every { (command : CursorCommand) → OtherFits command → HasNumbers command → spelling_of command ≡ line.now → result ≡ Some command }
+{
+    read_words(line)
+}

@@ -1,0 +1,118 @@
+//! Reads the words behind a command word, to the end of the line.
+ghost use Rattle.std.specs.Prelude.{◌≡◌, ◌∷◌, [], None, MatchOption};
+ghost use Rattle.replay_lines.specs.Words.{words_left};
+ghost use Rattle.replay_lines.specs.LineWords.{only_word_of, nothing_of, structure_of, value_of, item_of, two_structures_of, structure_and_value_of, structure_and_item_of, party_and_item_of, perhaps_item_of, party_and_perhaps_item_of};
+
+use crate::words::{Words, number, structure_number};
+use cordyceps::replay::Item;
+
+/// Reads one word.
+pub fn only_word<'a>(mut words: Words<'a>) -> Option<&'a [u8]>
+    ensures { MatchOption result (only_word_of (words_left words.entry.rest) ≡ None) (λ word. words_left words.entry.rest ≡ word.now ∷ []) }
+{
+    let word = words.next_word()?;
+    match words.next_word() {
+        Some(_) => None,
+        None => Some(word),
+    }
+}
+
+/// Reads that there is no word.
+pub fn nothing(mut words: Words) -> Option<()>
+    ensures { result ≡ nothing_of (words_left words.entry.rest) }
+{
+    match words.next_word() {
+        Some(_) => None,
+        None => Some(()),
+    }
+}
+
+/// Reads `S`.
+pub fn structure(words: Words) -> Option<u8>
+    ensures { result ≡ structure_of (words_left words.entry.rest) }
+{
+    structure_number(only_word(words)?)
+}
+
+/// Reads `V`.
+pub fn value(words: Words) -> Option<u64>
+    ensures { result ≡ value_of (words_left words.entry.rest) }
+{
+    number(only_word(words)?)
+}
+
+/// Reads `ID V`.
+pub fn item(mut words: Words) -> Option<Item>
+    ensures { result ≡ item_of (words_left words.entry.rest) }
+{
+    let id = number(words.next_word()?)?;
+    let value = value(words)?;
+    Some(Item { value, id })
+}
+
+/// The item with this number and this value.
+pub fn item_with(id: &[u8], value: &[u8]) -> Option<Item>
+    ensures { result ≡ item_of (id.now ∷ value.now ∷ []) }
+{
+    let id = number(id)?;
+    let value = number(value)?;
+    Some(Item { value, id })
+}
+
+/// Reads `S M`.
+pub fn two_structures(mut words: Words) -> Option<(u8, u8)>
+    ensures { result ≡ two_structures_of (words_left words.entry.rest) }
+{
+    let first = structure_number(words.next_word()?)?;
+    Some((first, structure(words)?))
+}
+
+/// Reads `S V`.
+pub fn structure_and_value(mut words: Words) -> Option<(u8, u64)>
+    ensures { result ≡ structure_and_value_of (words_left words.entry.rest) }
+{
+    let structure = structure_number(words.next_word()?)?;
+    Some((structure, value(words)?))
+}
+
+/// Reads `S ID V`.
+pub fn structure_and_item(mut words: Words) -> Option<(u8, Item)>
+    ensures { result ≡ structure_and_item_of (words_left words.entry.rest) }
+{
+    let structure = structure_number(words.next_word()?)?;
+    Some((structure, item(words)?))
+}
+
+/// Reads `P`.
+pub fn party(words: Words) -> Option<usize>
+    ensures { result ≡ value_of (words_left words.entry.rest) }
+{
+    Some(value(words)? as usize)
+}
+
+/// Reads `P ID V`.
+pub fn party_and_item(mut words: Words) -> Option<(usize, Item)>
+    ensures { result ≡ party_and_item_of (words_left words.entry.rest) }
+{
+    let party = number(words.next_word()?)?;
+    Some((party as usize, item(words)?))
+}
+
+/// Reads no word, or `ID V`.
+fn perhaps_item(words: Words) -> Option<Option<Item>>
+    ensures { result ≡ perhaps_item_of (words_left words.entry.rest) }
+{
+    let mut rest = words;
+    match rest.next_word() {
+        Some(_) => Some(Some(item(words)?)),
+        None => Some(None),
+    }
+}
+
+/// Reads `P`, or `P ID V`.
+pub fn party_and_perhaps_item(mut words: Words) -> Option<(usize, Option<Item>)>
+    ensures { result ≡ party_and_perhaps_item_of (words_left words.entry.rest) }
+{
+    let party = number(words.next_word()?)?;
+    Some((party as usize, perhaps_item(words)?))
+}

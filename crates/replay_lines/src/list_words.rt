@@ -1,0 +1,125 @@
+//! Reads words of mode `list`.
+ghost use Rattle.std.specs.Prelude.{◌≡◌, true, Some, is_some, IfOk, OnErr};
+ghost use Rattle.std.specs.Option.{option_map};
+ghost use Rattle.replay_lines.specs.Words.{words_left};
+ghost use Rattle.replay_lines.specs.ListWords.{end_of, filter_of, turn_of, turns_of, structure_and_turns_of, split_words_of, drain_words_of, structure_and_end_of};
+
+use crate::line_words::{only_word, structure, value};
+use crate::words::{Words, number, structure_number};
+use cordyceps::replay::{Filter, ListEnd, Turn};
+use std::alloc::{AllocError, Global};
+
+/// An end of a list.
+fn list_end(word: &[u8]) -> Option<ListEnd>
+    ensures { result ≡ end_of word.now }
+{
+    if word == b"front".as_slice() {
+        Some(ListEnd::Front)
+    } else if word == b"back".as_slice() {
+        Some(ListEnd::Back)
+    } else {
+        None
+    }
+}
+
+/// `F`.
+pub fn filter(word: &[u8]) -> Option<Filter>
+    ensures { result ≡ filter_of word.now }
+{
+    if word == b"even".as_slice() {
+        Some(Filter::Even)
+    } else if word == b"alt".as_slice() {
+        Some(Filter::Alternate)
+    } else if word == b"all".as_slice() {
+        Some(Filter::All)
+    } else {
+        None
+    }
+}
+
+fn turn(letter: u8) -> Option<Turn>
+    ensures { result ≡ turn_of letter }
+{
+    match letter {
+        b'n' => Some(Turn::Next),
+        b'b' => Some(Turn::NextBack),
+        _ => None,
+    }
+}
+
+/// Whether it is `W`, of 1 to 64 letters.
+fn are_turns(word: &[u8]) -> bool
+    ensures { result ≡ is_some (turns_of word.now) }
+{
+    if word.is_empty() || word.len() > 64 {
+        return false;
+    }
+    for letter in word {
+        if turn(*letter).is_none() {
+            return false;
+        }
+    }
+    true
+}
+
+/// Reads `W`, unless memory for it is refused.
+fn turns(alloc: Global, word: &[u8]) -> Result<Vec<Turn>, AllocError>
+    requires { is_some (turns_of word.now) ≡ true }
+    ensures { IfOk result (λ turns. Some turns.items ≡ turns_of word.now) }
+{
+    let mut turns = Vec::new(alloc);
+    for letter in word {
+        match turn(*letter) {
+            Some(turn) => turns.push(turn)?,
+            None => unreachable!(),
+        }
+    }
+    Ok(turns)
+}
+
+/// Reads `L W`, unless memory for it is refused.
+pub fn structure_and_turns(
+    alloc: Global,
+    mut words: Words,
+) -> Result<Option<(u8, Vec<Turn>)>, AllocError>
+    ensures value { IfOk result (λ read. option_map (λ x. (x.0, x.1.items)) read ≡ structure_and_turns_of (words_left words.entry.rest)) }
+    ensures err { OnErr result (is_some (structure_and_turns_of (words_left words.entry.rest)) ≡ true) }
+{
+    let Some(structure) = words.next_word().and_then(structure_number) else {
+        return Ok(None);
+    };
+    let Some(word) = only_word(words) else {
+        return Ok(None);
+    };
+    if !are_turns(word) {
+        return Ok(None);
+    }
+    let turns = turns(alloc, word)?;
+    Ok(Some((structure, turns)))
+}
+
+/// Reads `L AT M`.
+pub fn split_words(mut words: Words) -> Option<(u8, (u64, u8))>
+    ensures { result ≡ split_words_of (words_left words.entry.rest) }
+{
+    let list = structure_number(words.next_word()?)?;
+    let at = number(words.next_word()?)?;
+    Some((list, (at, structure(words)?)))
+}
+
+/// Reads `L F K`.
+pub fn drain_words(mut words: Words) -> Option<(u8, (Filter, u64))>
+    ensures { result ≡ drain_words_of (words_left words.entry.rest) }
+{
+    let list = structure_number(words.next_word()?)?;
+    let filter = filter(words.next_word()?)?;
+    Some((list, (filter, value(words)?)))
+}
+
+/// Reads `L front` or `L back`.
+pub fn structure_and_end(mut words: Words) -> Option<(u8, ListEnd)>
+    ensures { result ≡ structure_and_end_of (words_left words.entry.rest) }
+{
+    let list = structure_number(words.next_word()?)?;
+    Some((list, list_end(only_word(words)?)?))
+}

@@ -1,0 +1,129 @@
+ghost use Rattle.std.specs.Prelude.{◌≡◌, Some, IfSome};
+ghost use Rattle.replay_lines.specs.Words.{words_left};
+ghost use Rattle.replay_lines.specs.QueueScript.{call_of, verb_of, command_with, command_of};
+ghost use Rattle.replay_lines.specs.QueueSpelling.{spelling_of, HasNumbers};
+
+use crate::line_words::{nothing, party, party_and_item, party_and_perhaps_item};
+use crate::words::Words;
+use cordyceps::replay::Item;
+
+/// A command of mode `queue`, with the number of its party.
+#[derive(Clone, Copy, Debug, PartialEq, Eq)]
+pub enum QueueCommand {
+    /// Adds a party.
+    Party,
+    /// Adds a room of the party.
+    Room(usize),
+    /// Puts an item into a free room, or readies the stub for its way into the queue.
+    Clear(usize, Option<Item>),
+    /// Makes that room, or the stub, the head.
+    Swap(usize),
+    /// Makes the old head lead to it.
+    Link(usize),
+    /// Takes the right to dequeue.
+    Take(usize),
+    /// Reads what the tail leads to.
+    ReadNext(usize),
+    /// Reads the head.
+    ReadHead(usize),
+    /// Gives the right to dequeue back.
+    Give(usize),
+    /// Enqueues with no step of another party between.
+    Enqueue(usize, Item),
+    /// Tries to dequeue with no step of another party between.
+    Dequeue(usize),
+}
+
+/// The command words of the mode.
+#[derive(Clone, Copy)]
+pub enum Verb {
+    Party,
+    Room,
+    Clear,
+    Swap,
+    Link,
+    Take,
+    ReadNext,
+    ReadHead,
+    Give,
+    Enqueue,
+    Dequeue,
+}
+
+/// The words of whole calls.
+fn read_call(word: &[u8]) -> Option<Verb>
+    ensures { result ≡ call_of word.now }
+{
+    if word == b"party".as_slice() {
+        Some(Verb::Party)
+    } else if word == b"room".as_slice() {
+        Some(Verb::Room)
+    } else if word == b"enq".as_slice() {
+        Some(Verb::Enqueue)
+    } else if word == b"deq".as_slice() {
+        Some(Verb::Dequeue)
+    } else {
+        None
+    }
+}
+
+fn read_verb(word: &[u8]) -> Option<Verb>
+    ensures { result ≡ verb_of word.now }
+{
+    if word == b"clear".as_slice() {
+        Some(Verb::Clear)
+    } else if word == b"swap".as_slice() {
+        Some(Verb::Swap)
+    } else if word == b"link".as_slice() {
+        Some(Verb::Link)
+    } else if word == b"take".as_slice() {
+        Some(Verb::Take)
+    } else if word == b"next".as_slice() {
+        Some(Verb::ReadNext)
+    } else if word == b"head".as_slice() {
+        Some(Verb::ReadHead)
+    } else if word == b"give".as_slice() {
+        Some(Verb::Give)
+    } else {
+        read_call(word)
+    }
+}
+
+/// Reads the words that a command word needs.
+fn read_with(verb: Verb, words: Words) -> Option<QueueCommand>
+    ensures { result ≡ command_with verb (words_left words.entry.rest) }
+{
+    match verb {
+        Verb::Party => nothing(words).map(|()| QueueCommand::Party),
+        Verb::Room => party(words).map(QueueCommand::Room),
+        Verb::Clear => party_and_perhaps_item(words).map(|(p, i)| QueueCommand::Clear(p, i)),
+        Verb::Swap => party(words).map(QueueCommand::Swap),
+        Verb::Link => party(words).map(QueueCommand::Link),
+        Verb::Take => party(words).map(QueueCommand::Take),
+        Verb::ReadNext => party(words).map(QueueCommand::ReadNext),
+        Verb::ReadHead => party(words).map(QueueCommand::ReadHead),
+        Verb::Give => party(words).map(QueueCommand::Give),
+        Verb::Enqueue => party_and_item(words).map(|(p, i)| QueueCommand::Enqueue(p, i)),
+        Verb::Dequeue => party(words).map(QueueCommand::Dequeue),
+    }
+}
+
+/// Reads the command word, and the words that it needs.
+fn read_words(line: &[u8]) -> Option<QueueCommand>
+    ensures { result ≡ command_of line.now }
+{
+    let mut words = Words::new(line);
+    let verb = read_verb(words.next_word()?)?;
+    read_with(verb, words)
+}
+
+/// What a line of mode `queue` means. `None` means that it is bad.
+pub fn read_command(line: &[u8]) -> Option<QueueCommand>
+    ensures value { result ≡ command_of line.now }
+    ensures spelled { IfSome result (λ command. line.now ≡ spelling_of command) }
+    ensures every { (command : QueueCommand) → HasNumbers command
+        → spelling_of command ≡ line.now
+        → result ≡ Some command }
+{
+    read_words(line)
+}

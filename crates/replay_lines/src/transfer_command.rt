@@ -1,0 +1,108 @@
+ghost use Rattle.std.specs.Prelude.{◌≡◌, Some, IfSome};
+ghost use Rattle.replay_lines.specs.Words.{words_left};
+ghost use Rattle.replay_lines.specs.TransferScript.{verb_of, command_with, command_of};
+ghost use Rattle.replay_lines.specs.TransferSpelling.{spelling_of, HasNumbers};
+
+use crate::line_words::{nothing, party, party_and_item};
+use crate::words::Words;
+use cordyceps::replay::Item;
+
+/// A command of mode `transfer`, with the number of its party.
+#[derive(Clone, Copy, Debug, PartialEq, Eq)]
+pub enum TransferCommand {
+    /// Adds a party.
+    Party,
+    /// Adds a room of the party.
+    Room(usize),
+    /// Begins a push.
+    Load(usize, Item),
+    /// Makes the room of a push lead to what was read.
+    SetNext(usize),
+    /// Ends a push, if nothing has come in between.
+    Exchange(usize),
+    /// Takes all that is held.
+    Take(usize),
+    /// Hands out the next item of what was taken.
+    Walk(usize),
+    /// Pushes with no step of another party between.
+    Push(usize, Item),
+    /// Takes all that is held, and hands it out, with no step of another party between.
+    TakeAll(usize),
+}
+
+/// The command words of the mode.
+#[derive(Clone, Copy)]
+pub enum Verb {
+    Party,
+    Room,
+    Load,
+    SetNext,
+    Exchange,
+    Take,
+    Walk,
+    Push,
+    TakeAll,
+}
+
+fn read_verb(word: &[u8]) -> Option<Verb>
+    ensures { result ≡ verb_of word.now }
+{
+    if word == b"party".as_slice() {
+        Some(Verb::Party)
+    } else if word == b"room".as_slice() {
+        Some(Verb::Room)
+    } else if word == b"load".as_slice() {
+        Some(Verb::Load)
+    } else if word == b"setnext".as_slice() {
+        Some(Verb::SetNext)
+    } else if word == b"exch".as_slice() {
+        Some(Verb::Exchange)
+    } else if word == b"take".as_slice() {
+        Some(Verb::Take)
+    } else if word == b"walk".as_slice() {
+        Some(Verb::Walk)
+    } else if word == b"push".as_slice() {
+        Some(Verb::Push)
+    } else if word == b"takeall".as_slice() {
+        Some(Verb::TakeAll)
+    } else {
+        None
+    }
+}
+
+/// Reads the words that a command word needs.
+fn read_with(verb: Verb, words: Words) -> Option<TransferCommand>
+    ensures { result ≡ command_with verb (words_left words.entry.rest) }
+{
+    match verb {
+        Verb::Party => nothing(words).map(|()| TransferCommand::Party),
+        Verb::Room => party(words).map(TransferCommand::Room),
+        Verb::Load => party_and_item(words).map(|(p, i)| TransferCommand::Load(p, i)),
+        Verb::SetNext => party(words).map(TransferCommand::SetNext),
+        Verb::Exchange => party(words).map(TransferCommand::Exchange),
+        Verb::Take => party(words).map(TransferCommand::Take),
+        Verb::Walk => party(words).map(TransferCommand::Walk),
+        Verb::Push => party_and_item(words).map(|(p, i)| TransferCommand::Push(p, i)),
+        Verb::TakeAll => party(words).map(TransferCommand::TakeAll),
+    }
+}
+
+/// Reads the command word, and the words that it needs.
+fn read_words(line: &[u8]) -> Option<TransferCommand>
+    ensures { result ≡ command_of line.now }
+{
+    let mut words = Words::new(line);
+    let verb = read_verb(words.next_word()?)?;
+    read_with(verb, words)
+}
+
+/// What a line of mode `transfer` means. `None` means that it is bad.
+pub fn read_command(line: &[u8]) -> Option<TransferCommand>
+    ensures value { result ≡ command_of line.now }
+    ensures spelled { IfSome result (λ command. line.now ≡ spelling_of command) }
+    ensures every { (command : TransferCommand) → HasNumbers command
+        → spelling_of command ≡ line.now
+        → result ≡ Some command }
+{
+    read_words(line)
+}

@@ -1,0 +1,4 @@
+pub mod OneCommand
+pub mod Lines
+pub mod ListLines
+pub mod SortedLines

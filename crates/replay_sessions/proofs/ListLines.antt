@@ -1,0 +1,99 @@
+-- What the lines of mode list do to a session's state.
+use Rattle.std.proofs.Common.{◌≡◌, ℕ, List, [], ◌∷◌, ◌++◌, Option, Some, None, true, refl, sym, ◌∙◌, ap}
+use Rattle.std.specs.Prelude.{is_some}
+use Rattle.std.specs.Option.{option_map}
+use Rattle.std.specs.List.{concat}
+use Rattle.std.proofs.lemmas.List.{append-nil}
+use Rattle.cordyceps.specs.declared.replay.list_command.CursorCommand.{CursorCommand}
+use Rattle.cordyceps.specs.declared.replay.list_command.CursorCommand.TheVariants as lines
+use Rattle.cordyceps.specs.declared.replay.list_command.ListCommand.{ListCommand}
+use Rattle.cordyceps.specs.declared.replay.list_command.ListCommand.TheVariants as commands
+use Rattle.cordyceps.specs.Replies.{Line}
+use Rattle.cordyceps.specs.Tables.{Table}
+use Rattle.cordyceps.specs.Blocks.{OtherFits, EndsBlock, BlockFits}
+use Rattle.cordyceps.specs.Lists.{step}
+use Rattle.replay_sessions.specs.declared.block.Block.{Block}
+use Rattle.replay_lines.specs.declared.list_command.Entry.{Entry}
+use Rattle.replay_lines.specs.declared.list_command.Entry.TheVariants as entries
+use Rattle.replay_lines.specs.ReplyText.{text_of}
+use Rattle.replay_lines.specs.ListScript.{Meaning, command_meant, meant, meaning_of}
+use Rattle.replay_lines.specs.CursorScript.{cursor_command_of}
+use Rattle.replay_sessions.specs.ListMachine.{Open, State, run_block, longer, answered, take_outside, take_inside, take_line}
+use Rattle.replay_sessions.specs.OpenBlocks.{IsNoEnd, AreOpen, IsOpen, CanRun, Closes}
+
+pub some_meaning : (meaning : Option Meaning) → is_some meaning ≡ true → (m : Meaning) × (Some m ≡ meaning)
+some_meaning (Some m) is = (m, refl)
+some_meaning None is = cc
+
+-- a command does what its line asks for
+stepped : (table : Table) (command : ListCommand) → take_outside table (command_meant command) ≡ answered (step table command)
+stepped table (commands.Walk list turns) = refl
+stepped table (commands.Into list turns) = refl
+stepped table command = refl
+
+-- what was read is the command's meaning
+pub command_read : (line : List ℕ) (read : Option Entry) (entry : Entry) (command : ListCommand) → read ≡ Some entry → entry ≡ entries.Command command → option_map meant read ≡ meaning_of line → Some (command_meant command) ≡ meaning_of line
+command_read line read entry command is same means = ap (option_map meant) (sym (is ∙ ap Some same)) ∙ means
+
+pub outside : (table : Table) (line : List ℕ) (meaning : Meaning) → Some meaning ≡ meaning_of line → take_line (table, None) line ≡ Some (take_outside table meaning)
+outside table line meaning is = rw (← is) refl
+
+pub entered : (table : Table) (line : List ℕ) (command : ListCommand) → Some (command_meant command) ≡ meaning_of line → take_line (table, None) line ≡ Some (answered (step table command))
+entered table line command is = outside table line (command_meant command) is ∙ ap Some (stepped table command)
+
+pub entered_as : (table new : Table) (line : List ℕ) (command : ListCommand) (replies : List Line) → Some (command_meant command) ≡ meaning_of line → (new, replies) ≡ step table command →
+    take_line (table, None) line ≡ Some ((new, None), text_of replies ∷ [])
+entered_as table new line command replies is done = entered table line command is ∙ ap (λ (r : Table × List Line). Some (answered r)) (sym done)
+
+pub inside : (table : Table) (held : Open) (line : List ℕ) (command : CursorCommand) → Some command ≡ cursor_command_of line → take_line (table, Some held) line ≡ Some (take_inside table held command)
+inside table held line command is = rw (← is) refl
+
+pub no_end : (command : CursorCommand) → (command ≡ lines.End → ⊥) → IsNoEnd command
+no_end lines.End differs = differs refl
+no_end command differs = tt
+
+waits : (table : Table) (held : Open) (command : CursorCommand) → IsNoEnd command → take_inside table held command ≡ ((table, Some (longer held command)), [])
+waits table held lines.End goes_on = absurd goes_on
+waits table held command goes_on = refl
+
+-- a line that is no end is kept
+pub kept : (table : Table) (held : Open) (line : List ℕ) (command : CursorCommand) (more : List CursorCommand) → Some command ≡ cursor_command_of line → IsNoEnd command → more ≡ held.2 ++ command ∷ [] →
+    take_line (table, Some held) line ≡ Some ((table, Some (held.0, held.1, more)), [])
+kept table held line command more is goes_on same = rw same (inside table held line command is ∙ ap Some (waits table held command goes_on))
+
+-- an end runs the block
+pub closed : (table : Table) (held : Open) (line : List ℕ) (command : CursorCommand) (all : List CursorCommand) (new : State) (before after : List ℕ) → Some command ≡ cursor_command_of line → command ≡ lines.End →
+    all ≡ held.2 ++ command ∷ [] → Closes (table, Some (held.0, held.1, all)) new before after →
+    (texts : List (List ℕ)) × (take_line (table, Some held) line ≡ Some (new, texts)) × (after ≡ before ++ concat texts)
+closed table held line command all new before after is end more (now, added) = (
+  text_of (run_block table (held.0, held.1, all)).1 ∷ [],
+  rw (← is, now, more, end) refl,
+  added ∙ ap (λ (t : List ℕ). before ++ t) (sym (append-nil (text_of (run_block table (held.0, held.1, all)).1))),
+)
+
+no_end_behind : (line : CursorCommand) (rest : List CursorCommand) → IsNoEnd line → EndsBlock line rest
+no_end_behind lines.End rest goes_on = absurd goes_on
+no_end_behind line rest goes_on = tt
+
+-- a block whose end has not come may be run
+pub can_run : (lines : List CursorCommand) → AreOpen lines → BlockFits lines
+can_run [] held = tt
+can_run (line ∷ rest) (fits, goes_on, held) = (fits, no_end_behind line rest goes_on, can_run rest held)
+
+pub may_run : (block : Option Block) → IsOpen block → CanRun block
+may_run None ready = tt
+may_run (Some block) ready = (ready.0, can_run block.lines.items ready.1)
+
+ends_last : (line : CursorCommand) → EndsBlock line []
+ends_last lines.End = refl
+ends_last line = tt
+
+-- with one more line, which may be its end
+pub can_run_to : (lines : List CursorCommand) (line : CursorCommand) → AreOpen lines → OtherFits line → BlockFits (lines ++ line ∷ [])
+can_run_to [] line held fits = (fits, ends_last line, tt)
+can_run_to (first ∷ rest) line (first_fits, goes_on, held) fits = (first_fits, no_end_behind first (rest ++ line ∷ []) goes_on, can_run_to rest line held fits)
+
+-- and it stays open where that is not its end
+pub stays_open : (lines : List CursorCommand) (line : CursorCommand) → AreOpen lines → OtherFits line → IsNoEnd line → AreOpen (lines ++ line ∷ [])
+stays_open [] line held fits goes_on = (fits, goes_on, tt)
+stays_open (first ∷ rest) line (first_fits, first_goes_on, held) fits goes_on = (first_fits, first_goes_on, stays_open rest line held fits goes_on)

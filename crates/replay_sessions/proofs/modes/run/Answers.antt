@@ -1,0 +1,10 @@
+use Rattle.cordyceps.specs.Sorteds.{order_of}
+use Rattle.cordyceps.proofs.Ordered.{own}
+use Rattle.replay_sessions.specs.Tens.{by_tens}
+use Rattle.replay_sessions.proofs.modes.run.Goals as goal
+
+pub run_script-requires-in-Sorted : goal.run_script-requires-in-Sorted
+run_script-requires-in-Sorted g c =
+    let callable = rw c.in-Sorted.is at c.requires.callable in
+    let tens = rw c.in-Sorted.is at c.requires.tens in
+    rw c.new-session-in-Sorted.ensures.function (callable, tens, c.new-session-in-Sorted.ensures.in_order (order_of own by_tens))

@@ -1,0 +1,32 @@
+use Rattle.std.proofs.Common.{◌++◌, ◌∷◌, [], sym, ◌∙◌, ap}
+use Rattle.std.proofs.lemmas.List.{append-nil}
+use Rattle.std.proofs.lemmas.Result.{err_from_is_err_and}
+use Rattle.replay_lines.specs.CoreReplies.{said, core_text}
+use Rattle.replay_lines.specs.TransferScript.{command_of}
+use Rattle.replay_sessions.specs.TransferMachine.{step}
+use Rattle.replay_sessions.proofs.Lines.{core_taken, core_taken_as}
+use Rattle.replay_sessions.proofs.transfer_session.TransferSessionSession.take.Goals as goal
+
+pub returns-in_err-reply-clause-taken : goal.returns-in_err-reply-clause-taken
+returns-in_err-reply-clause-taken c =
+    let p = err_from_is_err_and c.from_residual.result c.from_residual.ensures.1 in
+    rw p.1 (_, _, 0, core_taken command_of step c.args.self.now.core c.args.line.now c.in-Some.command c.in-Some.ensures.value, sym (append-nil c.args.text.now.items))
+
+pub returns-in_err-push_core_reply-clause-taken : goal.returns-in_err-push_core_reply-clause-taken
+returns-in_err-push_core_reply-clause-taken c =
+    let p = err_from_is_err_and c.from_residual-in_err-push_core_reply.result c.from_residual-in_err-push_core_reply.ensures.1 in
+    rw p.1 (
+      _,
+      _,
+      0,
+      core_taken command_of step c.args.self.now.core c.args.line.now c.in-Some.command c.in-Some.ensures.value,
+      c.in_err-push_core_reply.ensures.err ∙ sym (append-nil c.args.text.now.items),
+    )
+
+pub returns-clause-taken : goal.returns-clause-taken
+returns-clause-taken c =
+    let reply = c.in_ok-reply.reply in (
+      core_text (said reply) ∷ [],
+      core_taken_as command_of step c.args.self.now.core c.play.new.self.core c.args.line.now c.in-Some.command (said reply) c.in-Some.ensures.value c.in_ok-reply.ensures,
+      c.in_ok-push_core_reply.ensures.ok ∙ ap (λ xs. c.args.text.now.items ++ xs) (sym (append-nil (core_text (said reply)))),
+    )

@@ -1,0 +1,10 @@
+pub mod Commands
+pub mod ListMachine
+pub mod OpenBlocks
+pub mod StackMachine
+pub mod SortedMachine
+pub mod TransferMachine
+pub mod QueueMachine
+pub mod Tens
+pub mod Modes
+pub mod Arguments

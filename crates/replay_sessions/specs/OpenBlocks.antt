@@ -1,0 +1,36 @@
+-- The block that a session of mode list holds.
+use Rattle.std.specs.Prelude.{◌≡◌, ℕ, ◌<◌, List, [], ◌∷◌, ◌++◌, Option, None, Some}
+use Rattle.cordyceps.specs.declared.replay.list_command.CursorCommand.{CursorCommand}
+use Rattle.cordyceps.specs.declared.replay.list_command.CursorCommand.TheVariants as lines
+use Rattle.cordyceps.specs.Blocks.{OtherFits, BlockFits}
+use Rattle.replay_sessions.specs.declared.block.Block.{Block}
+use Rattle.replay_sessions.specs.ListMachine.{Open, State, run_block}
+use Rattle.replay_lines.specs.ReplyText.{text_of}
+
+abbrev pub opened : Option Block → Option Open
+opened None = None
+opened (Some block) = Some (block.list, block.end, block.lines.items)
+
+abbrev pub IsNoEnd : CursorCommand → Type 0
+IsNoEnd lines.End = ⊥
+IsNoEnd line = Unit {0}
+
+-- lines that name lists among sixteen, and of which none is an end
+abbrev pub AreOpen : List CursorCommand → Type 0
+AreOpen [] = Unit {0}
+AreOpen (line ∷ rest) = OtherFits line × IsNoEnd line × AreOpen rest
+
+-- a further line may come
+abbrev pub IsOpen : Option Block → Type 0
+IsOpen None = Unit {0}
+IsOpen (Some block) = (block.list < 16) × AreOpen block.lines.items
+
+-- it may be run
+abbrev pub CanRun : Option Block → Type 0
+CanRun None = Unit {0}
+CanRun (Some block) = (block.list < 16) × BlockFits block.lines.items
+
+-- the open block, where there is one, was run, and its replies were added to the text
+abbrev pub Closes : State → State → List ℕ → List ℕ → Type 0
+Closes (table, None) new before after = (new ≡ (table, None)) × (after ≡ before)
+Closes (table, Some held) new before after = (new ≡ ((run_block table held).0, None)) × (after ≡ before ++ text_of (run_block table held).1)

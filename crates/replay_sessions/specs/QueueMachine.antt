@@ -1,0 +1,62 @@
+-- What the lines of mode queue do.
+use Rattle.std.specs.Prelude.{ℕ, length, Result, Ok, Err, slice_get, if◌then◌else◌, nat_lt}
+use Rattle.cordyceps.specs.declared.replay.item.Item.{Item}
+use Rattle.cordyceps.specs.QueueCores.{after, QueueStep, Clear, Swap, Link, Take, ReadNext, ReadHead, Give, Done, Taken, Busy, Out, Empty, Inconsistent, TryDequeueError, Answered, stepped, core_step, new_machine, with_party, with_room, enqueue_steps, is_ready, may_dequeue, dequeued, found_of}
+use Rattle.cordyceps.specs.QueueCores as cores
+use Rattle.replay_driver.specs.Script.{Machine}
+use Rattle.replay_sessions.specs.Commands.{core_commands_machine}
+use Rattle.replay_lines.specs.CoreReplies.{CoreLine, party, done, found, busy, empty, inconsistent, not_there}
+use Rattle.replay_lines.specs.QueueScript.{command_of}
+use Rattle.replay_lines.specs.declared.queue_command.QueueCommand.{QueueCommand}
+use Rattle.replay_lines.specs.declared.queue_command.QueueCommand.TheVariants as commands
+
+-- a queue's core of items
+abbrev pub Core : Type 0
+Core = cores.Machine Item
+
+-- the reply that tells a step's answer
+abbrev pub told : Answered Item → CoreLine
+told (Ok Done) = done
+told (Ok Taken) = done
+told (Ok Busy) = busy
+told (Ok (Out item)) = found item
+told (Ok Empty) = empty
+told (Ok Inconsistent) = inconsistent
+told (Err refused) = not_there
+
+-- the reply that tells what a try to dequeue found
+abbrev pub told_found : Result Item TryDequeueError → CoreLine
+told_found (Ok item) = found item
+told_found (Err cores.FindsEmpty) = empty
+told_found (Err cores.FindsInconsistent) = inconsistent
+told_found (Err cores.FindsBusy) = busy
+
+-- a party's step, and its answer
+abbrev pub takes_step : Core → ℕ → QueueStep Item → Core × CoreLine
+takes_step m p s = let out = stepped m p s in (out.0, told out.1)
+
+-- a party's try to dequeue, and what it found
+abbrev pub tries_once : Core → ℕ → Core × CoreLine
+tries_once m p = let out = dequeued m p in (out.0, told_found (found_of out.1))
+
+-- the core after a command, and the reply
+abbrev pub step : Core → QueueCommand → Core × CoreLine
+step m commands.Party = (with_party m, party (length m.parties))
+step m (commands.Room p) = if nat_lt p (length m.parties) then (with_room m p, done) else (m, not_there)
+step m (commands.Clear p item) = takes_step m p (Clear item)
+step m (commands.Swap p) = takes_step m p Swap
+step m (commands.Link p) = takes_step m p Link
+step m (commands.Take p) = takes_step m p Take
+step m (commands.ReadNext p) = takes_step m p ReadNext
+step m (commands.ReadHead p) = takes_step m p ReadHead
+step m (commands.Give p) = takes_step m p Give
+step m (commands.Enqueue p item) = if is_ready m p then (after core_step m (enqueue_steps p item), done) else (m, not_there)
+step m (commands.Dequeue p) = if may_dequeue (slice_get m.parties p) then tries_once m p else (m, not_there)
+
+-- each line is a command on the core
+abbrev pub queue_machine : Machine Core
+queue_machine = core_commands_machine command_of step
+
+-- the core with which a script begins
+abbrev pub new_core : Core
+new_core = new_machine

@@ -1,0 +1,51 @@
+-- What the lines of mode transfer do.
+use Rattle.std.specs.Prelude.{ℕ, length, Ok, Err, is_none, if◌then◌else◌, nat_lt}
+use Rattle.cordyceps.specs.declared.replay.item.Item.{Item}
+use Rattle.cordyceps.specs.TransferCores.{after, TransferStep, Load, SetNext, Exchange, Take, Walk, Done, Pushed, Failed, Taken, Nothing, Gives, Last, core_step, push_steps, take_steps, Answered, new_machine, with_party, with_room, held_in, stepped, is_at_rest, is_ready}
+use Rattle.cordyceps.specs.TransferCores as cores
+use Rattle.replay_driver.specs.Script.{Machine}
+use Rattle.replay_sessions.specs.Commands.{core_commands_machine}
+use Rattle.replay_lines.specs.CoreReplies.{CoreLine, party, done, truth, found, last, failed, taken, nothing, show, not_there}
+use Rattle.replay_lines.specs.TransferScript.{command_of}
+use Rattle.replay_lines.specs.declared.transfer_command.TransferCommand.{TransferCommand}
+use Rattle.replay_lines.specs.declared.transfer_command.TransferCommand.TheVariants as commands
+
+-- a transfer core of items
+abbrev pub Core : Type 0
+Core = cores.Machine Item
+
+-- the reply that tells a step's answer
+abbrev pub told : Answered Item → CoreLine
+told (Ok Done) = done
+told (Ok (Pushed was_empty)) = truth was_empty
+told (Ok (Failed item)) = failed item
+told (Ok Taken) = taken
+told (Ok Nothing) = nothing
+told (Ok (Gives item)) = found item
+told (Ok (Last item)) = last item
+told (Err refused) = not_there
+
+-- a party's step, and its answer
+abbrev pub takes_step : Core → ℕ → TransferStep Item → Core × CoreLine
+takes_step m p s = let out = stepped m p s in (out.0, told out.1)
+
+-- the core after a command, and the reply
+abbrev pub step : Core → TransferCommand → Core × CoreLine
+step m commands.Party = (with_party m, party (length m.parties))
+step m (commands.Room p) = if nat_lt p (length m.parties) then (with_room m p, done) else (m, not_there)
+step m (commands.Load p item) = takes_step m p (Load item)
+step m (commands.SetNext p) = takes_step m p SetNext
+step m (commands.Exchange p) = takes_step m p Exchange
+step m (commands.Take p) = takes_step m p Take
+step m (commands.Walk p) = takes_step m p Walk
+step m (commands.Push p item) = if is_ready m p then (after core_step m (push_steps p item), truth (is_none m.head)) else (m, not_there)
+step m (commands.TakeAll p) =
+    if is_at_rest m p then (after core_step m (take_steps p (length (held_in m))), show (held_in m)) else (m, not_there)
+
+-- each line is a command on the core
+abbrev pub transfer_machine : Machine Core
+transfer_machine = core_commands_machine command_of step
+
+-- the core with which a script begins
+abbrev pub new_core : Core
+new_core = new_machine

@@ -1,0 +1,145 @@
+ghost use Rattle.std.specs.Prelude.{◌≡◌, IfOk};
+ghost use Rattle.replay_lines.specs.CoreReplies.{said};
+ghost use Rattle.replay_sessions.specs.QueueMachine.{told, told_found, takes_step, step, new_core};
+
+use cordyceps::mpsc_queue::{QueueAnswer, QueueCore, QueueStep, StepError, TryDequeueError};
+use cordyceps::replay::Item;
+use replay_driver::session::Session;
+use replay_lines::core_reply::{CoreReply, push_core_reply};
+use replay_lines::queue_command::{QueueCommand, read_command};
+use std::alloc::{AllocError, Global};
+
+/// What a step answers, as a reply.
+fn reply_of(answer: Result<QueueAnswer<Item>, (StepError, Option<Item>)>) -> CoreReply
+    ensures { said result ≡ told answer }
+{
+    match answer {
+        Ok(QueueAnswer::Done | QueueAnswer::Taken) => CoreReply::Done,
+        Ok(QueueAnswer::Busy) => CoreReply::Busy,
+        Ok(QueueAnswer::Out(item)) => CoreReply::Found(item),
+        Ok(QueueAnswer::Empty) => CoreReply::Empty,
+        Ok(QueueAnswer::Inconsistent) => CoreReply::Inconsistent,
+        Err(_) => CoreReply::NotThere,
+    }
+}
+
+/// What a try to dequeue found, as a reply.
+fn reply_of_found(found: Result<Item, TryDequeueError>) -> CoreReply
+    ensures { said result ≡ told_found found }
+{
+    match found {
+        Ok(item) => CoreReply::Found(item),
+        Err(TryDequeueError::Empty) => CoreReply::Empty,
+        Err(TryDequeueError::Inconsistent) => CoreReply::Inconsistent,
+        Err(TryDequeueError::Busy) => CoreReply::Busy,
+    }
+}
+
+/// A script in mode `queue`: its core.
+#[derive(Drop)]
+pub struct QueueSession {
+    alloc: Global,
+    core: QueueCore<Item>,
+}
+
+impl QueueSession {
+    /// A core with no party, which holds nothing. This takes no memory.
+    pub fn new(alloc: Global) -> Self
+        ensures { result.core ≡ new_core }
+    {
+        QueueSession {
+            alloc,
+            core: QueueCore::new(alloc),
+        }
+    }
+
+    fn add_party(&mut self) -> Result<CoreReply, AllocError>
+        ensures { IfOk result (λ reply.
+            (self.new.core, said reply) ≡ step self.old.core QueueCommand.Party) }
+    {
+        match self.core.add_party() {
+            Ok(party) => Ok(CoreReply::Party(party)),
+            Err(_) => Err(AllocError),
+        }
+    }
+
+    fn add_room(&mut self, party: usize) -> Result<CoreReply, AllocError>
+        ensures { IfOk result (λ reply.
+            (self.new.core, said reply) ≡ step self.old.core (QueueCommand.Room party)) }
+    {
+        match self.core.add_room(party) {
+            Ok(()) => Ok(CoreReply::Done),
+            Err(StepError::NotThere) => Ok(CoreReply::NotThere),
+            Err(StepError::Memory) => Err(AllocError),
+        }
+    }
+
+    fn step(&mut self, party: usize, step: QueueStep<Item>) -> CoreReply
+        ensures { (self.new.core, said result) ≡ takes_step self.old.core party step }
+    {
+        reply_of(self.core.step(party, step))
+    }
+
+    fn enqueue(&mut self, party: usize, item: Item) -> CoreReply
+        ensures { (self.new.core, said result)
+            ≡ step self.old.core (QueueCommand.Enqueue party item) }
+    {
+        match self.core.enqueue(party, item) {
+            Ok(()) => CoreReply::Done,
+            Err(_) => CoreReply::NotThere,
+        }
+    }
+
+    fn dequeue(&mut self, party: usize) -> CoreReply
+        ensures { (self.new.core, said result)
+            ≡ step self.old.core (QueueCommand.Dequeue party) }
+    {
+        match self.core.try_dequeue(party) {
+            Ok(found) => reply_of_found(found),
+            Err(_) => CoreReply::NotThere,
+        }
+    }
+
+    /// Does what a command says, unless memory for it is refused.
+    fn play(&mut self, command: QueueCommand) -> Result<CoreReply, AllocError>
+        ensures { IfOk result (λ reply.
+            (self.new.core, said reply) ≡ step self.old.core command) }
+    {
+        match command {
+            QueueCommand::Party => self.add_party(),
+            QueueCommand::Room(party) => self.add_room(party),
+            QueueCommand::Clear(party, item) => Ok(self.step(party, QueueStep::Clear(item))),
+            QueueCommand::Swap(party) => Ok(self.step(party, QueueStep::Swap)),
+            QueueCommand::Link(party) => Ok(self.step(party, QueueStep::Link)),
+            QueueCommand::Take(party) => Ok(self.step(party, QueueStep::Take)),
+            QueueCommand::ReadNext(party) => Ok(self.step(party, QueueStep::ReadNext)),
+            QueueCommand::ReadHead(party) => Ok(self.step(party, QueueStep::ReadHead)),
+            QueueCommand::Give(party) => Ok(self.step(party, QueueStep::Give)),
+            QueueCommand::Enqueue(party, item) => Ok(self.enqueue(party, item)),
+            QueueCommand::Dequeue(party) => Ok(self.dequeue(party)),
+        }
+    }
+}
+
+impl Session for QueueSession {
+    ghost use Rattle.replay_sessions.specs.QueueMachine.{Core, queue_machine};
+
+    ghost State = { Core };
+
+    ghost machine = { queue_machine };
+
+    ghost state = { λ session. session.core };
+
+    fn take(&mut self, line: &[u8], text: &mut Vec<u8>) -> Result<bool, AllocError> {
+        let Some(command) = read_command(line) else {
+            return Ok(false);
+        };
+        let reply = self.play(command)?;
+        push_core_reply(self.alloc, text, &reply)?;
+        Ok(true)
+    }
+
+    fn end(&mut self, _text: &mut Vec<u8>) -> Result<(), AllocError> {
+        Ok(())
+    }
+}

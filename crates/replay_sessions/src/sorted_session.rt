@@ -1,0 +1,87 @@
+ghost use Rattle.std.specs.Prelude.{◌≡◌, ℕ, IfOk};
+ghost use Rattle.std.specs.declared.cmp.Ordering.{Ordering};
+ghost use Rattle.cordyceps.specs.Replies.{lines_of};
+ghost use Rattle.cordyceps.specs.Sorteds.{step, order_of, Fits, AreInOrder};
+ghost use Rattle.cordyceps.specs.Tables.{empty_table};
+ghost use Rattle.replay_sessions.specs.Tens.{by_tens, ComparesTens};
+
+use crate::playing::{alone, last_reply};
+use cordyceps::replay::{Item, Reply, SortedCommand, Sorteds, replay_sorted};
+use replay_driver::session::Session;
+use replay_lines::reply::push_reply;
+use replay_lines::sorted_command::read_command;
+use std::alloc::{AllocError, Global};
+use std::cmp::Ordering;
+use std::collections::VecDeque;
+
+/// A script in mode `sorted`: its sixteen sorted lists.
+#[derive(Drop)]
+pub struct SortedSession<F> {
+    alloc: Global,
+    sorteds: Sorteds<F>,
+    // kept from line to line for its memory alone
+    commands: VecDeque<SortedCommand>,
+}
+
+impl<F: Fn(&Item, &Item) -> Ordering + Copy> SortedSession<F> {
+    /// Sixteen empty lists, the last five by a function that compares quotients by ten. This takes no memory.
+    pub fn new(alloc: Global, by: F) -> Self
+        requires callable { F.IsAlwaysCallable by }
+        requires tens { ComparesTens F.Fn by }
+        ensures table { result.sorteds.0 ≡ empty_table 16 }
+        ensures in_order { (order : ℕ → Item → Item → Ordering) → AreInOrder order result.sorteds.0 }
+        ensures function { result.sorteds.1 ≡ by }
+    {
+        SortedSession {
+            alloc,
+            sorteds: Sorteds::new(by),
+            commands: VecDeque::new(alloc),
+        }
+    }
+
+    /// Runs one command, unless memory for it is refused.
+    fn play(&mut self, command: SortedCommand) -> Result<Reply, AllocError>
+        requires fits { Fits command }
+        requires callable { F.IsAlwaysCallable self.old.sorteds.1 }
+        requires tens { ComparesTens F.Fn self.old.sorteds.1 }
+        requires in_order { AreInOrder (order_of ⟦<Item as Ord>⟧.cmp by_tens) self.old.sorteds.0 }
+        ensures reply { IfOk result (λ reply. (self.new.sorteds.0, lines_of reply) ≡ step (order_of ⟦<Item as Ord>⟧.cmp by_tens) self.old.sorteds.0 command) }
+        ensures in_order { AreInOrder (order_of ⟦<Item as Ord>⟧.cmp by_tens) self.new.sorteds.0 }
+        ensures function { self.new.sorteds.1 ≡ self.old.sorteds.1 }
+    {
+        let commands = alone(self.alloc, &mut self.commands, command)?;
+        let played = replay_sorted(self.alloc, &mut self.sorteds, commands);
+        self.commands = played.rest;
+        last_reply(played.replies)
+    }
+}
+
+impl<F: Fn(&Item, &Item) -> Ordering + Copy> Session for SortedSession<F> {
+    ghost use Rattle.cordyceps.specs.Sorteds.{order_of, AreInOrder};
+    ghost use Rattle.cordyceps.specs.Tables.{Table};
+    ghost use Rattle.replay_sessions.specs.SortedMachine.{sorted_machine};
+    ghost use Rattle.replay_sessions.specs.Tens.{by_tens, ComparesTens};
+
+    ghost State = { Table };
+
+    ghost machine = { sorted_machine (order_of ⟦<Item as Ord>⟧.cmp by_tens) };
+
+    ghost state = { λ session. session.sorteds.0 };
+
+    ghost is_ready = { λ session. F.IsAlwaysCallable session.sorteds.1
+        × ComparesTens F.Fn session.sorteds.1
+        × AreInOrder (order_of ⟦<Item as Ord>⟧.cmp by_tens) session.sorteds.0 };
+
+    fn take(&mut self, line: &[u8], text: &mut Vec<u8>) -> Result<bool, AllocError> {
+        let Some(command) = read_command(self.alloc, line)? else {
+            return Ok(false);
+        };
+        let reply = self.play(command)?;
+        push_reply(self.alloc, text, &reply)?;
+        Ok(true)
+    }
+
+    fn end(&mut self, _text: &mut Vec<u8>) -> Result<(), AllocError> {
+        Ok(())
+    }
+}

@@ -1,0 +1,69 @@
+ghost use Rattle.std.specs.Prelude.{◌≡◌, IfOk};
+ghost use Rattle.cordyceps.specs.Replies.{lines_of};
+ghost use Rattle.cordyceps.specs.Stacks.{step, Fits};
+ghost use Rattle.cordyceps.specs.Tables.{empty_table};
+
+use crate::playing::{alone, last_reply};
+use cordyceps::replay::{Reply, StackCommand, Stacks, replay_stacks};
+use replay_driver::session::Session;
+use replay_lines::reply::push_reply;
+use replay_lines::stack_command::read_command;
+use std::alloc::{AllocError, Global};
+use std::collections::VecDeque;
+
+/// A script in mode `stack`: its sixteen stacks.
+#[derive(Drop)]
+pub struct StackSession {
+    alloc: Global,
+    stacks: Stacks,
+    // kept from line to line for its memory alone
+    commands: VecDeque<StackCommand>,
+}
+
+impl StackSession {
+    /// Sixteen empty stacks. This takes no memory.
+    pub fn new(alloc: Global) -> Self
+        ensures { result.stacks ≡ empty_table 16 }
+    {
+        StackSession {
+            alloc,
+            stacks: Stacks::new(),
+            commands: VecDeque::new(alloc),
+        }
+    }
+
+    /// Runs one command, unless memory for it is refused.
+    fn play(&mut self, command: StackCommand) -> Result<Reply, AllocError>
+        requires { Fits command }
+        ensures { IfOk result (λ reply. (self.new.stacks, lines_of reply) ≡ step self.old.stacks command) }
+    {
+        let commands = alone(self.alloc, &mut self.commands, command)?;
+        let played = replay_stacks(self.alloc, &mut self.stacks, commands);
+        self.commands = played.rest;
+        last_reply(played.replies)
+    }
+}
+
+impl Session for StackSession {
+    ghost use Rattle.cordyceps.specs.Tables.{Table};
+    ghost use Rattle.replay_sessions.specs.StackMachine.{stack_machine};
+
+    ghost State = { Table };
+
+    ghost machine = { stack_machine };
+
+    ghost state = { λ session. session.stacks };
+
+    fn take(&mut self, line: &[u8], text: &mut Vec<u8>) -> Result<bool, AllocError> {
+        let Some(command) = read_command(line) else {
+            return Ok(false);
+        };
+        let reply = self.play(command)?;
+        push_reply(self.alloc, text, &reply)?;
+        Ok(true)
+    }
+
+    fn end(&mut self, _text: &mut Vec<u8>) -> Result<(), AllocError> {
+        Ok(())
+    }
+}

@@ -1,0 +1,137 @@
+-- Two parties that were split off a whole one, and taken in again.
+use Rattle.std.proofs.Common.{◌≡◌, ℕ, zero, suc, List, [], ◌∷◌, ◌++◌, replicate, Bool, true, false, cond, ◌||◌, refl, sym, ap, ◌∙◌, subst, inl, inr, append_assoc, append-nil}
+use Rattle.std.proofs.lemmas.List.Sorted.{IsPermutation-refl, IsPermutation-cons, IsPermutation-middle, IsPermutation-trans}
+use Rattle.std.specs.List.Sorted.{IsPermutation}
+use Rattle.cordyceps_base.specs.Histories.{plain, own, AllOwn}
+use Rattle.cordyceps_base.proofs.Adding.{plain_own}
+use Rattle.cordyceps_base.specs.Knowing.{unmarked, merged}
+use Rattle.cordyceps.specs.SharedStacks.{Event, Load, Push, Taken, pushes, held_after, held_from}
+use Rattle.replay_sharing.specs.Sharing.{Interleaves, NoBatch}
+
+or_false : (b : Bool) → (b || false) ≡ b
+or_false true = refl
+or_false false = refl
+
+module _ {A : Type 0} where
+  pub all_left : (xs : List A) → Interleaves xs [] xs
+  all_left [] = (refl, refl)
+  all_left (x ∷ xs) = inl (xs, refl, all_left xs)
+
+  pub all_right : (ys : List A) → Interleaves [] ys ys
+  all_right [] = (refl, refl)
+  all_right (y ∷ ys) = inr (ys, refl, all_right ys)
+
+module _ {X : Type 0} where
+  -- what both had seen before they were split off comes back as it was
+  pub merged_front : (us xs ys : List (Bool × X)) → merged (us ++ xs) (unmarked us ++ ys) ≡ us ++ merged xs ys
+  merged_front [] xs ys = refl
+  merged_front (u ∷ us) xs ys = λ i. (or_false u.0 i, u.1) ∷ merged_front us xs ys i
+
+-- each item is one of these
+abbrev pub Every : {A : Type 0} → (A → Type 0) → List A → Type 0
+Every These [] = Unit {0}
+Every These (x ∷ xs) = These x × Every These xs
+
+-- none of these
+abbrev pub Other : {A : Type 0} → (A → Type 0) → A → Type 0
+Other These x = These x → ⊥
+
+module _ {P E : Type 0} (Mine : E → Type 0) where
+  -- the events of a history that are marked, where this one is, or is not
+  abbrev marked : Bool → Event P E → List (Event P E) → List (Event P E)
+  marked b v h = cond b (v ∷ h) h
+
+  one_more : (v : Event P E) (mine theirs : Bool) (xs ys zs : List (Event P E)) → (mine || theirs) ≡ true
+      → Every Mine (pushes (marked mine v xs)) → Every (Other Mine) (pushes (marked theirs v ys)) → (Every Mine (pushes xs) → Every (Other Mine) (pushes ys) → Interleaves (pushes xs) (pushes ys) (pushes zs))
+      → Interleaves (pushes (marked mine v xs)) (pushes (marked theirs v ys)) (pushes (v ∷ zs))
+  one_more v false false xs ys zs a m n more = absurd (cc)
+  one_more (Load p) true true xs ys zs a m n more = more m n
+  one_more (Load p) true false xs ys zs a m n more = more m n
+  one_more (Load p) false true xs ys zs a m n more = more m n
+  one_more (Taken p b) true true xs ys zs a m n more = more m n
+  one_more (Taken p b) true false xs ys zs a m n more = more m n
+  one_more (Taken p b) false true xs ys zs a m n more = more m n
+  one_more (Push p e) true true xs ys zs a m n more = absurd (n.0 m.0)
+  one_more (Push p e) true false xs ys zs a m n more = inl (pushes xs, refl, more m.1 n)
+  one_more (Push p e) false true xs ys zs a m n more = inr (pushes ys, refl, more m n.1)
+
+  -- two parties saw beginnings of one history, each event of which is one's or the other's, and what the one pushed the
+  -- other did not: what was pushed is what each pushed, in its order
+  pub pushed_by_both : (xs ys : List (Bool × Event P E)) (rest : List (Event P E)) → AllOwn (merged xs ys) → plain (merged xs ys) ≡ plain ys ++ rest
+      → Every Mine (pushes (own xs)) → Every (Other Mine) (pushes (own ys)) → Interleaves (pushes (own xs)) (pushes (own ys)) (pushes (plain (merged xs ys)))
+  pushed_by_both [] ys rest a e m n = subst (λ z. Interleaves [] (pushes z) (pushes (plain ys))) (plain_own ys a) (all_right (pushes (plain ys)))
+  pushed_by_both (x ∷ xs) [] rest a e m n = subst (λ z. Interleaves (pushes z) [] (pushes (plain (x ∷ xs)))) (plain_own (x ∷ xs) a) (all_left (pushes (plain (x ∷ xs))))
+  pushed_by_both (x ∷ xs) (y ∷ ys) rest a e m n =
+      let same : y.1 ≡ x.1 = cc in
+      let more : plain (merged xs ys) ≡ plain ys ++ rest = cc in
+      let n' = subst (λ v. Every (Other Mine) (pushes (marked y.0 v (own ys)))) same n in
+      subst (λ v. Interleaves (pushes (marked x.0 x.1 (own xs))) (pushes (marked y.0 v (own ys))) (pushes (x.1 ∷ plain (merged xs ys)))) (sym same)
+      (one_more x.1 x.0 y.0 (own xs) (own ys) (plain (merged xs ys)) a.0 m n' (pushed_by_both xs ys rest a.1 more))
+
+module _ {P E : Type 0} where
+  no_more : (v : Event P E) (mine theirs : Bool) (xs ys zs : List (Event P E)) → (mine || theirs) ≡ true → NoBatch (cond mine (v ∷ xs) xs) → NoBatch (cond theirs (v ∷ ys) ys)
+      → (NoBatch xs → NoBatch ys → NoBatch zs) → NoBatch (v ∷ zs)
+  no_more v false false xs ys zs a m n more = absurd (cc)
+  no_more (Load p) true true xs ys zs a m n more = more m n
+  no_more (Load p) true false xs ys zs a m n more = more m n
+  no_more (Load p) false true xs ys zs a m n more = more m n
+  no_more (Push p e) true true xs ys zs a m n more = more m n
+  no_more (Push p e) true false xs ys zs a m n more = more m n
+  no_more (Push p e) false true xs ys zs a m n more = more m n
+  no_more (Taken p b) true theirs xs ys zs a m n more = absurd m
+  no_more (Taken p b) false true xs ys zs a m n more = absurd n
+
+  -- neither took, so nothing was taken
+  pub none_taken : (xs ys : List (Bool × Event P E)) (rest : List (Event P E)) → AllOwn (merged xs ys) → plain (merged xs ys) ≡ plain ys ++ rest → NoBatch (own xs) → NoBatch (own ys) → NoBatch (plain (merged xs ys))
+  none_taken [] ys rest a e m n = subst (λ z. NoBatch z) (sym (plain_own ys a)) n
+  none_taken (x ∷ xs) [] rest a e m n = subst (λ z. NoBatch z) (sym (plain_own (x ∷ xs) a)) m
+  none_taken (x ∷ xs) (y ∷ ys) rest a e m n =
+      let same : y.1 ≡ x.1 = cc in
+      let more : plain (merged xs ys) ≡ plain ys ++ rest = cc in
+      no_more x.1 x.0 y.0 (own xs) (own ys) (plain (merged xs ys)) a.0 m (subst (λ v. NoBatch (cond y.0 (v ∷ own ys) (own ys))) same n) (none_taken xs ys rest a.1 more)
+
+  -- what is held after events none of which is a taking
+  pub held_pushed : (es : List E) (h : List (Event P E)) → NoBatch h → held_from es h ≡ es ++ pushes h
+  held_pushed es [] n = sym (append-nil es)
+  held_pushed es (Load p ∷ h) n = held_pushed es h n
+  held_pushed es (Push p e ∷ h) n = held_pushed (es ++ e ∷ []) h n ∙ append_assoc es (e ∷ []) (pushes h)
+  held_pushed es (Taken p b ∷ h) n = absurd n
+
+  held_append : (es : List E) (h k : List (Event P E)) → held_from es (h ++ k) ≡ held_from (held_from es h) k
+  held_append es [] k = refl
+  held_append es (v ∷ h) k = held_append (held_after es v) h k
+
+  -- what is held after a history that held nothing, and events none of which is a taking
+  pub held_since : (h k : List (Event P E)) → held_from [] h ≡ [] → NoBatch k → held_from [] (h ++ k) ≡ pushes k
+  held_since h k none n = held_append [] h k ∙ (ap (λ z. held_from z k) none ∙ held_pushed [] k n)
+
+  -- ---- what a worker did
+  pub none_append : (h k : List (Event P E)) → NoBatch h → NoBatch k → NoBatch (h ++ k)
+  none_append [] k m n = n
+  none_append (Load p ∷ h) k m n = none_append h k m n
+  none_append (Push p e ∷ h) k m n = none_append h k m n
+  none_append (Taken p b ∷ h) k m n = absurd m
+
+  pub pushes_append : (h k : List (Event P E)) → pushes (h ++ k) ≡ pushes h ++ pushes k
+  pushes_append [] k = refl
+  pushes_append (Load p ∷ h) k = pushes_append h k
+  pushes_append (Push p e ∷ h) k = ap (λ z. e ∷ z) (pushes_append h k)
+  pushes_append (Taken p b ∷ h) k = pushes_append h k
+
+  pub tries_take_nothing : (n : ℕ) (p : P) (e : E) → NoBatch (replicate n (Load p) ++ Push p e ∷ [])
+  tries_take_nothing zero p e = _
+  tries_take_nothing (suc n) p e = tries_take_nothing n p e
+
+  pub tries_push_once : (n : ℕ) (p : P) (e : E) → pushes (replicate n (Load p) ++ Push p e ∷ []) ≡ e ∷ []
+  tries_push_once zero p e = refl
+  tries_push_once (suc n) p e = tries_push_once n p e
+
+-- ---- the items of two lists in another order
+module _ {A : Type 0} where
+  pub interleaved_permutes : (xs ys zs : List A) → Interleaves xs ys zs → IsPermutation (xs ++ ys) zs
+  interleaved_permutes xs ys [] e = subst (λ (p : List A × List A). IsPermutation (p.0 ++ p.1) []) (λ i. (sym e.0 i, sym e.1 i)) (IsPermutation-refl [])
+  interleaved_permutes xs ys (z ∷ zs) (inl e) =
+      subst (λ us. IsPermutation (us ++ ys) (z ∷ zs)) (sym e.1) (IsPermutation-cons z (e.0 ++ ys) zs (interleaved_permutes e.0 ys zs e.2))
+  interleaved_permutes xs ys (z ∷ zs) (inr e) =
+      subst (λ us. IsPermutation (xs ++ us) (z ∷ zs)) (sym e.1)
+      (IsPermutation-trans (xs ++ z ∷ e.0) (z ∷ (xs ++ e.0)) (z ∷ zs) (IsPermutation-middle xs z e.0) (IsPermutation-cons z (xs ++ e.0) zs (interleaved_permutes xs e.0 zs e.2)))

@@ -1,0 +1,58 @@
+-- What two workers that share a stack come to.
+use Rattle.std.specs.Prelude.{◌≡◌, ℕ, List, [], ◌∷◌, ◌++◌, reverse, Result, Ok, Err, ◌⊎◌, decimal}
+use Rattle.cordyceps_base.specs.Element.{Element}
+use Rattle.cordyceps_base.specs.Shares.{Name}
+use Rattle.cordyceps_base.specs.Standings.{name_of}
+use Rattle.cordyceps.specs.declared.replay.item.Item.{Item}
+use Rattle.cordyceps.specs.SharedStacks.{Event, Load, Push, Taken, pushes, PartyOf, Adds}
+use Rattle.replay_driver.specs.declared.fault.Fault.{Fault}
+use Rattle.replay_driver.specs.declared.fault.Fault.TheVariants as faults
+
+-- the element of the item whose value and number are these
+abbrev pub item : ℕ → Element Item
+item v = record { id = v; value = record { value = v; id = v } }
+
+-- the third list has the items of the other two, and those of each in its order
+abbrev pub Interleaves : {A : Type 0} → List A → List A → List A → Type 0
+Interleaves xs ys [] = (xs ≡ []) × (ys ≡ [])
+Interleaves xs ys (z ∷ zs) =
+    ((rest : List _) × (xs ≡ z ∷ rest) × Interleaves rest ys zs) ⊎ ((rest : List _) × (ys ≡ z ∷ rest) × Interleaves xs rest zs)
+
+-- no event is a taking
+abbrev pub NoBatch : {P E : Type 0} → List (Event P E) → Type 0
+NoBatch [] = Unit {0}
+NoBatch (Load p ∷ h) = NoBatch h
+NoBatch (Push p e ∷ h) = NoBatch h
+NoBatch (Taken p batch ∷ h) = ⊥
+
+-- a worker pushed a and then b, and nothing else, and took nothing; its two rooms are in use
+pub record Works (a b : Element Item) (u w : PartyOf (Element Item)) : Type 0 where
+  pub events : List (Event Name (Element Item))
+  pub adds : Adds u events w
+  pub none : NoBatch events
+  pub pushed : pushes events ≡ a ∷ b ∷ []
+  pub rooms : w.rooms ≡ 0
+
+-- A whole party has gained the pushes of 10, 11, 20 and 21, loads, and last the taking of the four, and no other event; 10
+-- came before 11, and 20 before 21. The answer is what was taken, in order.
+pub record Shared (u w : PartyOf (Element Item)) (values : List ℕ) : Type 0 where
+  pub events : List (Event Name (Element Item))
+  pub adds : Adds u (events ++ Taken (name_of u) (reverse (pushes events)) ∷ []) w
+  pub none : NoBatch events
+  pub pushed : Interleaves (item 10 ∷ item 11 ∷ []) (item 20 ∷ item 21 ∷ []) (pushes events)
+  pub rooms : w.rooms ≡ u.rooms
+  pub answer : values ≡ 10 ∷ 11 ∷ 20 ∷ 21 ∷ []
+
+-- a line of numbers
+abbrev pub shown : List ℕ → List ℕ
+shown [] = 10 ∷ []
+shown (v ∷ []) = decimal v ++ 10 ∷ []
+shown (v ∷ w ∷ vs) = decimal v ++ 32 ∷ shown (w ∷ vs)
+
+-- What a run of mode share writes and answers.
+abbrev pub Prints : (took : List ℕ → Type 0) (write_failed : Type 0) → Result (Unit {0}) Fault → Type 0
+Prints took write_failed (Ok _) = took (shown (10 ∷ 11 ∷ 20 ∷ 21 ∷ []))
+Prints took write_failed (Err faults.Memory) = took []
+Prints took write_failed (Err faults.Write) = write_failed × (written : List ℕ) × (rest : List ℕ) × (shown (10 ∷ 11 ∷ 20 ∷ 21 ∷ []) ≡ written ++ rest) × took written
+Prints took write_failed (Err faults.Read) = ⊥
+Prints took write_failed (Err (faults.BadLine n)) = ⊥

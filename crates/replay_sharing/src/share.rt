@@ -1,0 +1,232 @@
+//! Two threads that push to one stack, of which all is taken in the end.
+ghost use Rattle.std.specs.Prelude.{◌≡◌, [], length, map, IfOk, IfErr};
+ghost use Rattle.std.specs.Ordering.{nat_cmp};
+ghost use Rattle.std.specs.List.Sorted.{IsPermutation, IsSorted};
+ghost use Rattle.std.specs.Thread.{IsSync};
+ghost use Rattle.cordyceps_base.specs.Histories.{plain};
+ghost use Rattle.cordyceps_base.specs.Shares.{whole};
+ghost use Rattle.cordyceps.specs.SharedStacks.{held};
+ghost use Rattle.replay_sharing.specs.Sharing.{item, Works, Shared, shown, Prints};
+ghost use Rattle.replay_driver.specs.declared.fault.Fault.TheVariants.{Memory};
+
+use cordyceps::Node;
+use cordyceps::replay::Item;
+use cordyceps::stack::{Links, Party, Stack, TransferStack};
+use replay_driver::fault::{Failed, Fault};
+use replay_driver::sink::Sink;
+use replay_driver::text::flush;
+use std::alloc::{AllocError, Global};
+use std::snapshot::Snapshot;
+use std::sync::Wait;
+use std::thread;
+use std::thread::{Promise, Threads};
+
+/// What goes into the stack, and comes out.
+type Handle = Node<Item, Links<Item>>;
+
+/// What a worker of [`share`] passes before it pushes.
+pub trait Gate: Sync {
+    /// Called once before the first try of each push. The workers are 0 and 1, and so are the pushes of each.
+    fn pass(&self, worker: u64, push: u64);
+}
+
+/// The gate that lets each worker pass at once.
+#[derive(Clone, Copy, Debug)]
+pub struct OpenGate;
+
+impl Gate for OpenGate {
+    fn pass(&self, _worker: u64, _push: u64) {}
+}
+
+/// The node of the item whose value and number are this.
+fn node(alloc: Global, number: u64) -> Result<Handle, AllocError>
+    ensures { IfOk result (λ node. node ≡ item number) }
+{
+    let value = Item {
+        value: number,
+        id: number,
+    };
+    match Node::new(alloc, number, value) {
+        Ok(node) => Ok(node),
+        Err(_) => Err(AllocError),
+    }
+}
+
+/// What a worker is to do: to push these, by the rooms of this party.
+#[derive(Drop)]
+struct Task {
+    party: Snapshot<Party<Item>>,
+    handles: Snapshot<(Handle, Handle)>,
+}
+
+impl Task {
+    fn of(party: &Party<Item>, handles: &(Handle, Handle)) -> Task
+        ensures { (result.party.value ≡ party.now) × (result.handles.value ≡ handles.now) }
+    {
+        Task {
+            party: Snapshot::of(party),
+            handles: Snapshot::of(handles),
+        }
+    }
+}
+
+impl Promise<Party<Item>> for Task {
+    ghost kept_by = { λ task back. Works task.handles.value.0 task.handles.value.1 task.party.value back };
+}
+
+/// Passes the gate and pushes, twice, and hands the party back.
+fn work<R: Wait, G: Gate>(
+    rt: &R,
+    gate: &G,
+    worker: u64,
+    stack: &TransferStack<Item>,
+    mut party: Party<Item>,
+    handles: (Handle, Handle),
+) -> Party<Item>
+    requires { (party.table ≡ stack.now) × (party.rooms ≡ 2) }
+    ensures { Works handles.0 handles.1 party result }
+{
+    let (first, second) = handles;
+    gate.pass(worker, 0);
+    stack.push(rt, &mut party, first);
+    gate.pass(worker, 1);
+    stack.push(rt, &mut party, second);
+    party
+}
+
+/// Runs both workers, each in a thread of its own. Memory is refused where a thread cannot be started; the other one has
+/// then ended too.
+fn work_both<R: Threads + Wait + Sync, G: Gate>(
+    rt: &R,
+    gate: &G,
+    stack: &TransferStack<Item>,
+    parties: (Party<Item>, Party<Item>),
+    tens: (Handle, Handle),
+    twenties: (Handle, Handle),
+) -> Result<(Party<Item>, Party<Item>), AllocError>
+    requires first { (parties.0.table ≡ stack.now) × (parties.0.rooms ≡ 2) }
+    requires second { (parties.1.table ≡ stack.now) × (parties.1.rooms ≡ 2) }
+    ensures { IfOk result (λ back. Works tens.0 tens.1 parties.0 back.0 × Works twenties.0 twenties.1 parties.1 back.1) }
+{
+    let (first, second) = parties;
+    thread::scope(
+        thread::scope_env(),
+        rt,
+        move |scope| -> Result<(Party<Item>, Party<Item>), AllocError>
+            requires { IsSync R.row × IsSync G.row × (first.table ≡ stack.now) × (first.rooms ≡ 2) × (second.table ≡ stack.now) × (second.rooms ≡ 2) }
+            ensures { IfOk result (λ back. Works tens.0 tens.1 first back.0 × Works twenties.0 twenties.1 second back.1) }
+        {
+            let task = Task::of(&first, &tens);
+            let work_on = move || -> Party<Item>
+                requires { IsSync R.row × IsSync G.row × (first.table ≡ stack.now) × (first.rooms ≡ 2) }
+                ensures { Works tens.0 tens.1 first result }
+            { work(rt, gate, 0, stack, first, tens) };
+            let one = scope.spawn_with(task, work_on)?;
+            let task = Task::of(&second, &twenties);
+            let work_on = move || -> Party<Item>
+                requires { IsSync R.row × IsSync G.row × (second.table ≡ stack.now) × (second.rooms ≡ 2) }
+                ensures { Works twenties.0 twenties.1 second result }
+            { work(rt, gate, 1, stack, second, twenties) };
+            let two = scope.spawn_with(task, work_on)?;
+            Ok((one.join(rt), two.join(rt)))
+        },
+    )
+}
+
+/// The values of the items, in order.
+fn values_in_order(alloc: Global, items: Stack<Item>) -> Result<Vec<u64>, AllocError>
+    ensures { IfOk result (λ values. IsPermutation (map (λ e. e.value.value) items) values.items × IsSorted nat_cmp values.items) }
+{
+    let mut values = Vec::new(alloc);
+    for node in items {
+        values.push(node.get().value)?;
+    }
+    values.sort()?;
+    Ok(values)
+}
+
+/// Does what `share` does.
+fn run_workers<R: Threads + Wait + Sync, G: Gate>(
+    rt: &R,
+    alloc: Global,
+    gate: &G,
+    stack: &TransferStack<Item>,
+    party: &mut Party<Item>,
+) -> Result<Vec<u64>, AllocError>
+    requires table { party.old.table ≡ stack.now }
+    requires whole { (party.old.share ≡ whole) × (party.old.rooms ≡ 4) }
+    requires empty { held (plain party.old.seen) ≡ [] }
+    ensures { IfOk result (λ values. Shared party.old party.new values.items) }
+{
+    let tens = (node(alloc, 10)?, node(alloc, 11)?);
+    let twenties = (node(alloc, 20)?, node(alloc, 21)?);
+    let parties = (stack.split(party, 2), stack.split(party, 2));
+    let (first, second) = work_both(rt, gate, stack, parties, tens, twenties)?;
+    stack.absorb(party, first);
+    stack.absorb(party, second);
+    values_in_order(alloc, stack.take_all(party))
+}
+
+/// Two threads push to the stack, the one 10 and then 11, the other 20 and then 21, each item with its value as its
+/// number. Once both have ended all is taken, and the values come in order: 10, 11, 20, 21.
+///
+/// Before each push the gate is passed. The party has to be whole, with 4 rooms, and to hold nothing; it gives two rooms to
+/// each worker, and takes them back. `Memory` where memory for the items or the values was refused, or a thread could not be
+/// started. The other thread has then ended too, and the party may not be whole.
+pub fn share<R: Threads + Wait + Sync, G: Gate>(
+    rt: &R,
+    alloc: Global,
+    gate: &G,
+    stack: &TransferStack<Item>,
+    party: &mut Party<Item>,
+) -> Result<Vec<u64>, Fault>
+    requires table { party.old.table ≡ stack.now }
+    requires whole { (party.old.share ≡ whole) × (party.old.rooms ≡ 4) }
+    requires empty { held (plain party.old.seen) ≡ [] }
+    ensures ok { IfOk result (λ values. Shared party.old party.new values.items) }
+    ensures err { IfErr result (λ fault. fault ≡ Memory) }
+{
+    match run_workers(rt, alloc, gate, stack, party) {
+        Ok(values) => Ok(values),
+        Err(AllocError) => Err(Fault::Memory),
+    }
+}
+
+/// The line that shows four values.
+fn line_of(alloc: Global, values: &[u64]) -> Result<Vec<u8>, AllocError>
+    requires { length values.now ≡ 4 }
+    ensures { IfOk result (λ line. line.items ≡ shown values.now) }
+{
+    match values {
+        [first, second, third, fourth] => {
+            let line = format!(in alloc; "{first} {second} {third} {fourth}\n")?;
+            Ok(line.into_bytes())
+        }
+        _ => unreachable!(),
+    }
+}
+
+/// Makes a stack of four rooms, and writes what [`share`] answers on it, as a line: `10 11 20 21`.
+///
+/// `Memory` as in `share`, and where memory for the stack or the line was refused; nothing is written then. After `Write`,
+/// a beginning of the line stands written.
+pub fn run_share<R: Threads + Wait + Sync, O: Sink>(
+    rt: &R,
+    alloc: Global,
+    output: &mut O,
+) -> Result<(), Fault>
+    requires { O.has_failed output.old → ⊥ }
+    ensures { Prints (O.takes output.old output.new) (O.has_failed output.new) result }
+{
+    let Ok((stack, mut party)) = TransferStack::new(alloc, 4) else {
+        return Err(Fault::Memory);
+    };
+    let values = share(rt, alloc, &OpenGate, &stack, &mut party)?;
+    let Ok(mut line) = line_of(alloc, &values) else {
+        return Err(Fault::Memory);
+    };
+    match flush(output, &mut line) {
+        Ok(()) => Ok(()),
+        Err(Failed) => Err(Fault::Write),
+    }
+}
