@@ -1,3 +1,5 @@
+//! Why a run stops before the end of its input.
+
 use std::fmt;
 
 /// A read or a write failed.

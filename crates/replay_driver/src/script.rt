@@ -1,3 +1,4 @@
+//! The driver: lines from a source to a session, and texts from the session to a sink.
 ghost use Rattle.std.specs.Prelude.{◌≡◌, ◌+◌, ◌-◌, ◌<◌, ◌≤◌, ◌^◌, [], length, take, drop, IfOk, OnErr, IsTrue, ◌↔◌, Err};
 ghost use Rattle.replay_driver.specs.Steps.{TakesOne, TakesLines, TakesLast, Reads, fault_of};
 ghost use Rattle.replay_driver.specs.Halts.{Halts, EndsLines};

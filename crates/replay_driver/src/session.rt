@@ -1,3 +1,4 @@
+//! What the lines of a script mean and do, for the driver.
 ghost use Rattle.std.specs.Prelude.{⊤};
 ghost use Rattle.replay_driver.specs.Script.{Machine};
 ghost use Rattle.replay_driver.specs.Steps.{TakesLine, Ends};

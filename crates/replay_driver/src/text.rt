@@ -1,3 +1,4 @@
+//! Writes a whole text.
 ghost use Rattle.std.specs.Prelude.{◌≡◌, ℕ, List, [], OnErr, OnOk};
 ghost use Rattle.replay_driver.specs.Steps.{Writes};
 

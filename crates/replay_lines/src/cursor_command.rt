@@ -1,3 +1,4 @@
+//! Reads the lines of a cursor block.
 ghost use Rattle.std.specs.Prelude.{◌≡◌, Some, IfSome};
 ghost use Rattle.cordyceps.specs.Blocks.{OtherFits};
 ghost use Rattle.replay_lines.specs.Words.{words_left};

@@ -1,3 +1,4 @@
+//! Reads the lines of mode `list` outside of blocks.
 ghost use Rattle.std.specs.Prelude.{◌≡◌, true, Some, is_some, IfOk, OnErr, IfSome};
 ghost use Rattle.std.specs.Option.{option_map};
 ghost use Rattle.replay_lines.specs.Words.{words_left};
@@ -42,7 +43,7 @@ pub enum Verb {
 }
 
 /// What a line is, outside of blocks.
-#[derive(Debug, PartialEq, Eq, Drop)]
+#[derive(Drop)]
 pub enum Entry {
     /// A command, which is no block.
     Command(ListCommand),

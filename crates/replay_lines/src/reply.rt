@@ -1,3 +1,4 @@
+//! The text of replies to commands on tables.
 ghost use Rattle.std.specs.Prelude.{◌≡◌, ◌++◌, length, take, OnErr, OnOk};
 ghost use Rattle.cordyceps.specs.Replies.{lines_of, show};
 ghost use Rattle.replay_lines.specs.ReplyText.{line_text, shown_text, text_of};

@@ -1,3 +1,4 @@
+//! Reads the lines of mode `sorted`.
 ghost use Rattle.std.specs.Prelude.{◌≡◌, ◌++◌, Some, None, true, is_some, IfOk, IfSome, OnErr};
 ghost use Rattle.std.specs.Option.{option_map};
 ghost use Rattle.cordyceps.specs.Sorteds.{Fits};

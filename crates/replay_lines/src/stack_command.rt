@@ -1,3 +1,4 @@
+//! Reads the lines of mode `stack`.
 ghost use Rattle.std.specs.Prelude.{◌≡◌, Some, IfSome};
 ghost use Rattle.cordyceps.specs.Stacks.{Fits};
 ghost use Rattle.replay_lines.specs.StackScript.{verb_of, command_of};

@@ -1,3 +1,4 @@
+//! Reads the lines of mode `transfer`.
 ghost use Rattle.std.specs.Prelude.{◌≡◌, Some, IfSome};
 ghost use Rattle.replay_lines.specs.Words.{words_left};
 ghost use Rattle.replay_lines.specs.TransferScript.{verb_of, command_with, command_of};
@@ -8,7 +9,7 @@ use crate::words::Words;
 use cordyceps::replay::Item;
 
 /// A command of mode `transfer`, with the number of its party.
-#[derive(Clone, Copy, Debug, PartialEq, Eq)]
+#[derive(Clone, Copy)]
 pub enum TransferCommand {
     /// Adds a party.
     Party,

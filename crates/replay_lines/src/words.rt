@@ -1,3 +1,4 @@
+//! The words of a line, and the numbers that words spell.
 ghost use Rattle.std.specs.Prelude.{◌≡◌, ◌<◌, ◌^◌, ℕ, Some, decimal, IfSome};
 ghost use Rattle.replay_lines.specs.Words.{number_of, structure_number_of, words_left};
 

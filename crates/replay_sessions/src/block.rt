@@ -1,3 +1,5 @@
+//! A cursor block whose end has not come.
+
 use cordyceps::replay::{CursorCommand, ListEnd};
 
 /// A cursor block that is open: its list, where its cursor begins, and its lines so far.

@@ -1,3 +1,4 @@
+//! Scripts in mode `list`.
 ghost use Rattle.std.specs.Prelude.{◌≡◌, Some, None, IfOk, OnOk, OnErr};
 ghost use Rattle.cordyceps.specs.Lists.{step, Fits};
 ghost use Rattle.cordyceps.specs.Replies.{lines_of};

@@ -1,3 +1,4 @@
+//! A session's one command, and its one reply.
 ghost use Rattle.std.specs.Prelude.{◌≡◌, ◌∷◌, [], ◌++◌, List, IfOk};
 ghost use Rattle.cordyceps.specs.declared.replay.reply.Reply.{Reply};
 

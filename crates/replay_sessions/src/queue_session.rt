@@ -1,3 +1,4 @@
+//! Scripts in mode `queue`.
 ghost use Rattle.std.specs.Prelude.{◌≡◌, IfOk};
 ghost use Rattle.replay_lines.specs.CoreReplies.{said};
 ghost use Rattle.replay_sessions.specs.QueueMachine.{told, told_found, takes_step, step, new_core};

@@ -1,3 +1,4 @@
+//! Scripts in mode `sorted`.
 ghost use Rattle.std.specs.Prelude.{◌≡◌, ℕ, IfOk};
 ghost use Rattle.std.specs.declared.cmp.Ordering.{Ordering};
 ghost use Rattle.cordyceps.specs.Replies.{lines_of};

@@ -1,3 +1,4 @@
+//! Scripts in mode `stack`.
 ghost use Rattle.std.specs.Prelude.{◌≡◌, IfOk};
 ghost use Rattle.cordyceps.specs.Replies.{lines_of};
 ghost use Rattle.cordyceps.specs.Stacks.{step, Fits};

@@ -1,3 +1,4 @@
+//! Scripts in mode `transfer`.
 ghost use Rattle.std.specs.Prelude.{◌≡◌, IfOk};
 ghost use Rattle.replay_lines.specs.CoreReplies.{said};
 ghost use Rattle.replay_sessions.specs.TransferMachine.{told, takes_step, step, new_core};
