@@ -1,9 +1,9 @@
 -- Sums over lists, and how often a number stands in one.
-use Rattle.std.proofs.Common.{◌≡◌, ◌≢◌, ℕ, zero, suc, ◌+◌, ◌≤◌, List, [], ◌∷◌, ◌++◌, set, eqb, refl, sym, ap, eq-eqb, ne_eqb, arith, take, drop, take-append-drop, length, Bool, true, false, ◌||◌, lt_of_not-le, ◌<◌, ◌∙◌}
+use Rattle.std.proofs.Common.{◌≡◌, ◌≢◌, ℕ, zero, suc, ◌+◌, ◌≤◌, List, [], ◌∷◌, ◌++◌, set, eqb, refl, sym, ap, eq-eqb, ne_eqb, arith, take, drop, take-append-drop, length, Bool, true, false, ◌||◌, ◌<◌, ◌∙◌}
 use mathlib.Core.Option.{some, some-injective, some-ne-none}
 use lib.ListN.{get_elem?}
 use mathlib.Core.Logic.{dite}
-use native.Mathlib.Decide.{ℕ_discrete, dec_le}
+use native.Mathlib.Decide.{ℕ_discrete}
 use Rattle.std.specs.List.{IsDistinct, list_any, AllByRecursion}
 use Rattle.std.proofs.lemmas.Map.Steps.{length-le_from_distinct_below}
 use Rattle.cordyceps_base.specs.Counts.{tally, one_if, times, below}
@@ -78,9 +78,6 @@ below_once zero r = omega arith
 below_once (suc n) r = dite (ℕ_discrete n r)
     (λ e. omega (arith, at_most_one (eqb n r), below_none n r (omega arith)))
     (λ c. omega (arith, one_else n r c, below_once n r))
-
-pub below_less : (n r : ℕ) → 1 ≤ times r (below n) → r < n
-below_less n r some_of = dite (dec_le n r) (λ l. absurd (omega (arith, below_none n r l))) lt_of_not-le
 
 pub below_length : (n : ℕ) → length (below n) ≡ n
 below_length zero = refl

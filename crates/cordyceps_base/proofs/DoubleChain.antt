@@ -51,7 +51,14 @@ module _ {X : Type 0} where
   last_here t [] f p = absurd (omega arith)
   last_here t (m ∷ ms) f p = let less : length ms ≡ suc (length ms) - 1 = omega arith in subst (λ j. slice_get (places (m ∷ ms)) j ≡ Some t) less (last_on m ms t f)
 
+  first_here : (h : Ptr) (ms : List (Owned X)) → LeadsOn next_of h ms → 0 < length ms → slice_get (places ms) 0 ≡ Some h
+  first_here h [] f p = absurd (omega arith)
+  first_here h (m ∷ ms) f p = ap Some (sym f.0)
+
   module _ (h t : Ptr) (len : ℕ) (ns : List (Owned X)) (v : Nodes X) (seen : shown ns ≡ v) (linked : IsLinked h t len ns) where
+    pub head_place : 0 < length v → slice_get (spots v) 0 ≡ Some h
+    head_place p = let same : length v ≡ length ns = length_is ns v seen in seen_at ns v seen 0 h (first_here h ns linked.1 (omega (arith, same)))
+
     pub tail_place : 0 < length v → slice_get (spots v) (length v - 1) ≡ Some t
     tail_place p =
         let same : length v ≡ length ns = length_is ns v seen in

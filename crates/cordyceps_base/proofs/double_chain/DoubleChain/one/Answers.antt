@@ -1,6 +1,10 @@
-use Rattle.std.proofs.Common.{[], ◌∷◌, ap, ◌∙◌}
+use Rattle.std.proofs.Common.{[], ◌∷◌, ap, ◌∙◌, refl, sym, subst}
 use Rattle.cordyceps_base.specs.Nodes.{element_of, shown}
+use Rattle.cordyceps_base.specs.DoubleChain.{IsLinked}
 use Rattle.cordyceps_base.proofs.double_chain.DoubleChain.one.Goals as goal
+
+pub invariant_of-result : goal.invariant_of-result
+invariant_of-result g c = let place = c.one-boxes.result.0.ptr in subst (IsLinked place place 1) (sym c.one-boxes.ensures) (refl, (refl, tt), refl)
 
 pub returns : goal.returns
 returns g c =

@@ -1,6 +1,11 @@
-use Rattle.std.proofs.Common.{length, ap, ◌∙◌}
+use Rattle.std.proofs.Common.{[], ◌∷◌, length, ap, ◌∙◌, sym}
+use Rattle.cordyceps_base.specs.Nodes.{element_of, shown}
 use Rattle.cordyceps_base.proofs.SingleChain.{single}
 use Rattle.cordyceps_base.proofs.single_chain.SingleChain.only.Goals as goal
 
 pub only-requires : goal.only-requires
 only-requires g c = let i = c.self.inside in single i.tail.ptr i.boxes.blocks c.get.result.now.alloc c.self.invariant.1 (ap length c.self.view_is ∙ c.requires)
+
+pub returns : goal.returns
+returns g c =
+    let place = c.self.inside.tail.ptr in (place, sym c.self.view_is ∙ ap shown c.only.ensures ∙ (λ i. (place, element_of (sym c.into_box.ensures i)) ∷ []))

@@ -1,0 +1,12 @@
+use Rattle.std.proofs.Common.{None, refl, sym, ap, subst}
+use Rattle.cordyceps_base.specs.Nodes.{shown}
+use Rattle.cordyceps_base.specs.SingleChain.{IsParted}
+use Rattle.cordyceps_base.proofs.single_chain.SingleChain.into_cursor.Goals as goal
+
+pub invariant_of-result : goal.invariant_of-result
+invariant_of-result g c =
+    let i = c.self.inside in
+    subst (λ l. IsParted None c.nowhere.result.ptr i.head i.tail.ptr l i.boxes.blocks) (sym c.empty.ensures) (refl, tt, c.self.invariant.0, c.self.invariant.1)
+
+pub returns : goal.returns
+returns g c = (ap shown c.empty.ensures, c.self.view_is)

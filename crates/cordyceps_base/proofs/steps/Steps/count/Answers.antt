@@ -1,0 +1,4 @@
+use Rattle.cordyceps_base.proofs.steps.Steps.count.Goals as goal
+
+pub returns : goal.returns
+returns c = c.self.view_is
