@@ -3,14 +3,14 @@ use Rattle.std.proofs.Common.{◌≡◌, ℕ, zero, suc, ◌+◌, eqb, true, fal
 use Rattle.cordyceps_base.specs.Element.{Element, Elements, ids, found, without}
 
 -- what stands at a place
-pub record StandsAt {X : Type 0} (s : Elements X) (at n : ℕ) : Type 0 where
+record StandsAt {X : Type 0} (s : Elements X) (at n : ℕ) : Type 0 where
   pub here : Element X
   pub number : here.id ≡ n
   pub follows : drop at s ≡ here ∷ drop (at + 1) s
   pub before : take (at + 1) s ≡ take at s ++ here ∷ []
   pub there : slice_get s at ≡ Some here
 
-pub stands : {X : Type 0} (s : Elements X) (at n : ℕ) → slice_get (ids s) at ≡ Some n → StandsAt s at n
+stands : {X : Type 0} (s : Elements X) (at n : ℕ) → slice_get (ids s) at ≡ Some n → StandsAt s at n
 stands [] zero n h = absurd cc
 stands [] (suc at) n h = absurd cc
 stands (e ∷ s) zero n h = record { here = e; number = cc; follows = refl; before = refl; there = refl }

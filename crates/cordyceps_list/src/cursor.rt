@@ -1,8 +1,7 @@
 //! Cursors by which a list is read.
-ghost use Rattle.std.specs.Prelude.{◌≡◌, ◌+◌, ◌-◌, ◌%◌, ◌<◌, ◌≤◌, ◌==◌, length, slice_get, option_copied};
+ghost use Rattle.std.specs.Prelude.{◌≡◌, ◌+◌, ◌-◌, ◌<◌, ◌≤◌, ◌==◌, length, slice_get, option_copied};
 ghost use Rattle.std.specs.Iterator.{at_most};
 ghost use Rattle.cordyceps_base.specs.Element.{values};
-ghost use Rattle.cordyceps_base.specs.Nodes.{IsAt};
 ghost use Rattle.cordyceps_list.specs.Places.{next_place, prev_place};
 ghost use Rattle.cordyceps_list.specs.Position.{GivesAndMoves};
 

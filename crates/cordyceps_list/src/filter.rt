@@ -1,10 +1,5 @@
 //! Lists that are drained of the elements that pass.
-ghost use Rattle.std.specs.Prelude.{◌≡◌, ℕ, ◌-◌, ◌≤◌, length};
-ghost use Rattle.cordyceps_list.specs.Filter.{RemovesFirst};
-ghost use Rattle.std.specs.Fn.{CalledAt};
-ghost use Rattle.std.specs.Iterator.{at_most, UpTo};
-ghost use Rattle.std.specs.Iterator.SizeHint.{IsWithinCount};
-ghost use denote.Param.Always.{always_mut};
+ghost use Rattle.std.specs.Prelude.{◌≡◌, ◌≤◌, length};
 
 use crate::cursor_mut::CursorMut;
 use crate::list::{Links, List};

@@ -1,5 +1,5 @@
 //! Fingers: places in a chain that a list remembers, so that a place near one of them is found in few moves.
-ghost use Rattle.std.specs.Prelude.{◌≡◌, ◌+◌, ◌-◌, ◌^◌, ◌<◌, ◌≤◌, ◌⊎◌, length};
+ghost use Rattle.std.specs.Prelude.{◌≡◌, ◌+◌, ◌-◌, ◌^◌, ◌<◌, ◌⊎◌, length};
 ghost use Rattle.cordyceps_base.specs.Nodes.{IsAt};
 
 use cordyceps_base::boxes::Place;

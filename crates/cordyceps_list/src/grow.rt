@@ -1,5 +1,5 @@
 //! Lists that grow by the items of an iterator.
-ghost use Rattle.std.specs.Prelude.{◌≡◌, ◌-◌, [], length};
+ghost use Rattle.std.specs.Prelude.{◌-◌, [], length};
 ghost use Rattle.cordyceps_list.specs.Grow.{Adds, EndsWithin};
 
 use crate::list::{Links, List};

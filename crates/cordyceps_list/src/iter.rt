@@ -1,7 +1,6 @@
 //! Iterators over a list.
-ghost use Rattle.std.specs.Prelude.{◌≡◌, ◌+◌, ◌-◌, ◌<◌, ◌≤◌, [], ◌∷◌, ◌++◌, length};
-ghost use Rattle.std.specs.Iterator.{at_most, YieldsFirstRef, YieldsLastRef, YieldsFirstBy, YieldsLastBy, item_count, IsFinite, UpTo};
-ghost use Rattle.std.specs.Iterator.SizeHint.{IsWithinCount};
+ghost use Rattle.std.specs.Prelude.{◌≡◌, ◌+◌, ◌-◌, ◌<◌};
+ghost use Rattle.std.specs.Iterator.{YieldsFirstRef, YieldsLastRef, YieldsFirstBy, YieldsLastBy, item_count};
 ghost use Rattle.cordyceps_base.specs.Element.{values};
 
 use crate::list::{Links, List};
@@ -22,7 +21,7 @@ pub struct Iter<'a, T> {
 }
 
 impl<'a, T> Model for Iter<'a, T> {
-    ghost use Rattle.std.specs.Prelude.{List, ◌-◌, ◌≤◌, take, drop, length};
+    ghost use Rattle.std.specs.Prelude.{List, ◌-◌, take, drop};
     ghost use Rattle.cordyceps_base.specs.Element.{values};
     ghost use Rattle.cordyceps_base.specs.Nodes.{elements};
     ghost use Rattle.cordyceps_list.specs.Left.{IsLeft};
@@ -83,7 +82,6 @@ impl<'a, T: Linked<Links<T>>> Iterator for Iter<'a, T> {
 impl<'a, T: Linked<Links<T>>> DoubleEndedIterator for Iter<'a, T> {
     ghost next_back_gives = { YieldsLastRef (λ s. s) };
 
-    #[tactic(auto, using(crate::proofs::Left::last_left))]
     fn next_back(&mut self) -> Option<&'a T> {
         if self.front == self.back {
             return None;

@@ -1,5 +1,5 @@
 //! The list.
-ghost use Rattle.std.specs.Prelude.{◌≡◌, ◌+◌, ◌-◌, ◌<◌, ◌≤◌, ◌==◌, [], ◌∷◌, ◌++◌, length, slice_get, MatchOption, option_copied, Some};
+ghost use Rattle.std.specs.Prelude.{◌≡◌, ◌+◌, ◌-◌, ◌<◌, ◌==◌, [], ◌∷◌, ◌++◌, length, slice_get, MatchOption, option_copied, Some};
 ghost use Rattle.std.specs.Option.{option_copied_mut};
 ghost use Rattle.std.specs.Borrow.{sem};
 ghost use Rattle.cordyceps_base.specs.Element.{values};

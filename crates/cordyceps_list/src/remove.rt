@@ -1,5 +1,5 @@
 //! Elements that are put in and taken out at places.
-ghost use Rattle.std.specs.Prelude.{◌≡◌, ◌+◌, ◌<◌, ◌≤◌, [], ◌∷◌, ◌++◌, length, take, drop, slice_get, option_copied, option_map, MatchOption, None, Some};
+ghost use Rattle.std.specs.Prelude.{◌≡◌, ◌+◌, ◌<◌, ◌≤◌, ◌∷◌, ◌++◌, length, take, drop, slice_get, option_copied, option_map, MatchOption, None, Some};
 ghost use Rattle.cordyceps_base.specs.Element.{found, values, without};
 ghost use Rattle.cordyceps_base.specs.Nodes.{elements};
 ghost use Rattle.cordyceps_list.specs.Fingers.{IsOn};

@@ -1,4 +1,4 @@
-use Rattle.std.proofs.Common.{◌≡◌, ℕ, ◌+◌, ◌%◌, length, ap, ◌∙◌, add_assoc}
+use Rattle.std.proofs.Common.{◌≡◌, ℕ, ◌+◌, ◌%◌, length, ap, ◌∙◌, add_assoc, rules}
 use Rattle.std.proofs.Math.Nat.{mod-add-mod}
 use Rattle.cordyceps_list.specs.Cursor.{elements, place}
 use Rattle.cordyceps_list.specs.Places.{next_place}
@@ -16,3 +16,6 @@ loop-preserved g c =
       elements_are = on.elements_are ∙ at.elements_are;
       place_is = there ∙ mod-add-mod (p + c.loop.counter) (n + 1) 1 ∙ ap (λ (k : ℕ). k % (n + 1)) (add_assoc p c.loop.counter 1);
     }
+
+pub loop-init : goal.loop-init
+loop-init g c = search rules

@@ -1,4 +1,5 @@
-use Rattle.std.proofs.Common.{[], ◌∷◌, refl}
+use Rattle.std.proofs.Common.{arith, [], ◌∷◌, refl}
+use Rattle.std.proofs.lemmas.Grind.{common_steps}
 use Rattle.cordyceps_list.proofs.Places.{fit_more}
 use Rattle.cordyceps_list.proofs.list.List.push_back.Goals as goal
 
@@ -6,3 +7,6 @@ pub invariant_of-self : goal.invariant_of-self
 invariant_of-self g c =
     let (place, is) = c.link_back.ensures in
     fit_more c.self.inside.chain c.link_back.new.self (_ ∷ []) c.self.inside.fingers c.after_splice-self-inside.result c.len.result 1 c.self.invariant c.len.ensures is refl c.after_splice-self-inside.ensures.front c.after_splice-self-inside.ensures.back
+
+pub returns : goal.returns
+returns g c = grind (arith, common_steps)

@@ -1,4 +1,5 @@
-use Rattle.std.proofs.Common.{take, drop, ap, ◌∙◌, sym, arith}
+use Rattle.std.proofs.Common.{◌≡◌, length, take, drop, ap, ◌∙◌, sym, arith, rules}
+use Rattle.std.proofs.lemmas.List.{length-map}
 use Rattle.std.specs.List.{take-map, drop-map}
 use Rattle.cordyceps_base.specs.Nodes.{elements}
 use Rattle.cordyceps_list.proofs.Places.{fit_front}
@@ -18,3 +19,13 @@ returns-clause-some g c =
       ap elements front ∙ sym (take-map (λ n. n.1) at nodes) ∙ ap (take at) c.self.view_is,
       c.of_chain.ensures ∙ ap elements rest ∙ sym (drop-map (λ n. n.1) at nodes) ∙ ap (drop at) c.self.view_is,
     )
+
+pub returns-then-at-len-clause-variant : goal.returns-then-at-len-clause-variant
+returns-then-at-len-clause-variant g c =
+    let n : length c.self.inside.chain ≡ length c.args.self.now = omega (arith, ap length c.self.view_is, length-map c.self.inside.chain (λ n. n.1)) in
+    search rules
+
+pub returns-clause-counted : goal.returns-clause-counted
+returns-clause-counted g c =
+    let n : length c.self.inside.chain ≡ length c.args.self.now = omega (arith, ap length c.self.view_is, length-map c.self.inside.chain (λ n. n.1)) in
+    cc

@@ -1,0 +1,12 @@
+use Rattle.std.proofs.Common.{arith, ap, length, length-drop, take-append-drop}
+use Rattle.std.proofs.lemmas.List.{length-take}
+use Rattle.cordyceps_list.proofs.laws.append_split_off.Goals as goal
+
+pub append-requires : goal.append-requires
+append-requires g c =
+    let s = c.args.list.now in
+    let at = c.args.at in
+    omega (arith, ap length c.split_off-rest.ensures.kept, ap length c.split_off-rest.ensures.split, length-take at s, length-drop at s)
+
+pub returns : goal.returns
+returns g c = cc (take-append-drop c.args.at c.args.list.now)

@@ -1,0 +1,8 @@
+use Rattle.std.proofs.Common.{rules}
+use Rattle.cordyceps_list.proofs.laws.pop_pushed_front.Goals as goal
+
+pub returns-clause-answer : goal.returns-clause-answer
+returns-clause-answer g c = search rules
+
+pub returns-clause-restored : goal.returns-clause-restored
+returns-clause-restored g c = search rules
