@@ -22,7 +22,7 @@ all_to own p s = or_to p (own s)
 pub relabel_here : (own : ℕ → Option ℕ) (r : ℕ) (o : Option ℕ) → relabel own r o r ≡ o
 relabel_here own r o = ap (λ b. cond b o (own r)) (eq-eqb r r refl)
 
-pub relabel_other : (own : ℕ → Option ℕ) (r : ℕ) (o : Option ℕ) (s : ℕ) → s ≢ r → relabel own r o s ≡ own s
+relabel_other : (own : ℕ → Option ℕ) (r : ℕ) (o : Option ℕ) (s : ℕ) → s ≢ r → relabel own r o s ≡ own s
 relabel_other own r o s n = ap (λ b. cond b o (own s)) (ne_eqb s r n)
 
 module _ {E : Type 0} where

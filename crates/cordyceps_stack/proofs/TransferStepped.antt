@@ -18,13 +18,13 @@ use Rattle.cordyceps_stack.specs.TransferMeets.{used, LeadsThrough, Meets, Answe
 use Rattle.cordyceps_stack.proofs.TransferChains.{LeadsThrough-none, LeadsThrough-some}
 use Rattle.cordyceps_stack.proofs.TransferSteps.{Apart, keeps_load, keeps_set_next, keeps_push, keeps_fail, keeps_take, keeps_nothing, keeps_walk}
 
-pub option_same : (x y : Option ℕ) → option_eq nat_eq x y ≡ true → x ≡ y
+option_same : (x y : Option ℕ) → option_eq nat_eq x y ≡ true → x ≡ y
 option_same None None e = refl
 option_same None (Some y) e = let no : ⊥ = cc in absurd no
 option_same (Some x) None e = let no : ⊥ = cc in absurd no
 option_same (Some x) (Some y) e = ap (λ (n : ℕ). Some n) (eqb-true x y e)
 
-pub option_differ : (x y : Option ℕ) → option_eq nat_eq x y ≡ false → x ≢ y
+option_differ : (x y : Option ℕ) → option_eq nat_eq x y ≡ false → x ≢ y
 option_differ None None e s = let no : ⊥ = cc in no
 option_differ None (Some y) e s = let no : ⊥ = cc in no
 option_differ (Some x) None e s = let no : ⊥ = cc in no

@@ -3,7 +3,7 @@ ghost use Rattle.std.specs.Prelude.{◌≡◌};
 ghost use Rattle.cordyceps_stack.specs.TransferMachine.{element_of};
 
 /// A step of one party: an atomic step of a transfer stack.
-#[derive(Drop, Debug, PartialEq, Eq)]
+#[derive(Drop)]
 pub enum TransferStep<E> {
     /// Begins a push: puts the element into the party's least free room and reads `head`. It needs a party at rest.
     Load(E),
@@ -30,7 +30,7 @@ impl<E: Drop> TransferStep<E> {
 }
 
 /// What a step answers.
-#[derive(Drop, Debug, PartialEq, Eq)]
+#[derive(Drop, Debug, PartialEq)]
 pub enum TransferAnswer<E> {
     /// The push goes on with its next step.
     Done,
