@@ -39,12 +39,6 @@ put_same f k v = ap (λ b. cond b v (f k)) (eq-eqb k k refl)
 pub put_other : {A : Type 0} (f : ℕ → A) (k : ℕ) (v : A) (j : ℕ) → j ≢ k → put f k v j ≡ f j
 put_other f k v j ne = ap (λ b. cond b v (f j)) (ne_eqb j k ne)
 
-pub put_cases : {A : Type 0} (f : ℕ → A) (k : ℕ) (v : A) (j : ℕ) (w : A) → put f k v j ≡ w → ((j ≡ k) × (v ≡ w)) ⊎ ((j ≢ k) × (f j ≡ w))
-put_cases f k v j w e = elim (ℕ_discrete j k) [
-  | yes same ↦ inl (same, sym (put_same f k v) ∙ ap (put f k v) (sym same) ∙ e)
-  | no ne ↦ inr (ne, sym (put_other f k v j ne) ∙ e)
-]
-
 -- what holds of each value stays so when one is changed
 pub put_all : {A : Type 0} (F : ℕ → A → Type 0) (f : ℕ → Option A) (k : ℕ) (v : A) → ((j : ℕ) (a : A) → j ≢ k → f j ≡ Some a → F j a) → F k v → (j : ℕ) (a : A) → put f k (Some v) j ≡ Some a → F j a
 put_all {A} F f k v others mine j a e = elim (ℕ_discrete j k) [
@@ -114,13 +108,13 @@ pub length_map : {A B : Type 0} (f : A → B) (xs : List A) → length (map f xs
 length_map f [] = refl
 length_map f (x ∷ xs) = ap suc (length_map f xs)
 
-pub drop_less : {E : Type 0} (xs : List E) → length xs ≤ suc (length (drop 1 xs))
+drop_less : {E : Type 0} (xs : List E) → length xs ≤ suc (length (drop 1 xs))
 drop_less [] = omega arith
 drop_less (x ∷ xs) = omega arith
 
 module _ {P E : Type 0} where
   -- a pending party's element is held
-  pub pending_within : (h : List (Event P E)) (q : P) (n : ℕ) → IsPendingAt q n h → n < length (held h)
+  pending_within : (h : List (Event P E)) (q : P) (n : ℕ) → IsPendingAt q n h → n < length (held h)
   pending_within [] q n w = absurd w
   pending_within (Swap p e ∷ h) q n (inl w) = omega (arith, length-append (held h) (e ∷ []), w.1)
   pending_within (Swap p e ∷ h) q n (inr w) = let l = pending_within h q n w.1 in omega (arith, length-append (held h) (e ∷ []))

@@ -101,7 +101,7 @@ module _ {P E : Type 0} (same : Discrete P) (q : P) where
   links_by-append (Empty p ∷ h) t = links_by-append h t
   links_by-append (Free p ∷ h) t = links_by-append h t
 
-  pub looks_by-append : (h t : List (Event P E)) → looks_by same q (h ++ t) ≡ looks_by same q h + looks_by same q t
+  looks_by-append : (h t : List (Event P E)) → looks_by same q (h ++ t) ≡ looks_by same q h + looks_by same q t
   looks_by-append [] t = omega arith
   looks_by-append (Look p ∷ h) t = let r = looks_by-append h t in omega arith
   looks_by-append (Swap p e ∷ h) t = looks_by-append h t

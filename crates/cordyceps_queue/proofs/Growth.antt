@@ -8,7 +8,7 @@ use Rattle.cordyceps_queue.specs.QueueCore.{CoreMeets, with_party, with_room}
 use Rattle.cordyceps_queue.proofs.Sound.{meets_party, meets_room}
 
 -- there is such a place
-pub some_place : (o : Option Place) → is_none o ≡ false → (place : Place) × (o ≡ Some place)
+some_place : (o : Option Place) → is_none o ≡ false → (place : Place) × (o ≡ Some place)
 some_place None e = let no : ⊥ = cc in absurd no
 some_place (Some place) e = (place, refl)
 

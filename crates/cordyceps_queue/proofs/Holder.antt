@@ -23,7 +23,7 @@ was_now q (Event.Out p e ∷ h) l b = inl (l, b)
 was_now q (Event.Empty p ∷ h) l b = inl (l, b)
 was_now q (Event.Free p ∷ h) l b = inl (l, b)
 
-pub rank_within : (xs : List ℕ) (i : ℕ) → rank xs i ≤ i
+rank_within : (xs : List ℕ) (i : ℕ) → rank xs i ≤ i
 rank_within xs zero = omega arith
 rank_within [] (suc i) = omega arith
 rank_within (zero ∷ xs) (suc i) = let l = rank_within xs i in omega arith
@@ -35,7 +35,7 @@ at_some (x ∷ xs) zero lt = (x, refl)
 at_some (x ∷ xs) (suc i) lt = at_some xs i (omega arith)
 
 -- the stub in front is no element
-pub stub_less : (xs : List ℕ) → IsAt xs 0 0 → suc (length (real xs)) ≤ length xs
+stub_less : (xs : List ℕ) → IsAt xs 0 0 → suc (length (real xs)) ≤ length xs
 stub_less [] a = absurd a
 stub_less (zero ∷ xs) a = let l = real_within xs in omega arith
   where
@@ -45,7 +45,7 @@ stub_less (zero ∷ xs) a = let l = real_within xs in omega arith
     real_within (suc x ∷ xs) = let l = real_within xs in omega arith
 stub_less (suc x ∷ xs) a = absurd (suc_zero (sym a))
 
-pub no_items : {A : Type 0} (xs : List A) → length xs ≡ 0 → xs ≡ []
+no_items : {A : Type 0} (xs : List A) → length xs ≡ 0 → xs ≡ []
 no_items [] e = refl
 no_items (x ∷ xs) e = absurd (suc_zero e)
 
@@ -58,7 +58,7 @@ producer_moves head head' next next' cell owner keeper keeper' rooms h h' j q no
 producer_moves head head' next next' cell owner keeper keeper' rooms h h' j q none settled pending (Swapped x old) t f = (f.0, f.1, f.2, f.3, none old f.4, pending (rank rooms (suc f.0)) f.5)
 producer_moves head head' next next' cell owner keeper keeper' rooms h h' j q none settled pending place t f = absurd (some_none t)
 
-pub right_zero : {P E : Type 0} (right : ℕ) (party : ℕ → Option (Party P)) (rooms : List ℕ) (h : List (Event P E)) (keeper : Option ℕ) (k : ℕ) → keeper ≡ Some k → RightIs right party rooms h keeper → right ≡ 0
+right_zero : {P E : Type 0} (right : ℕ) (party : ℕ → Option (Party P)) (rooms : List ℕ) (h : List (Event P E)) (keeper : Option ℕ) (k : ℕ) → keeper ≡ Some k → RightIs right party rooms h keeper → right ≡ 0
 right_zero right party rooms h None k e R = absurd (none_some e)
 right_zero right party rooms h (Some j) k e R = R.0
 
@@ -70,7 +70,7 @@ module _ {P E : Type 0} (m : Words P E) (c : Chain) (h : List (Event P E)) (M : 
   pub other_none : (j : ℕ) (q : Party P) → j ≢ k → m.party j ≡ Some q → tail_of q.place ≡ None
   other_none j q ne eq = has_none m.head m.next m.cell c.owner c.keeper c.rooms h j q.name q.place (tail_of q.place) refl (λ e. ne (some_inj (sym e ∙ keeping.kept))) (M.fits j q eq)
 
-  pub zero_right : m.right ≡ 0
+  zero_right : m.right ≡ 0
   zero_right = right_zero m.right m.party c.rooms h c.keeper k keeping.kept M.right
 
   -- the right stays with the party
@@ -151,7 +151,7 @@ module _ {P E : Type 0} (m : Words P E) (c : Chain) (h : List (Event P E)) (M : 
       ]
 
   -- where head is the tail, it is the only room
-  pub only : m.head ≡ t → M.last.0 ≡ 0
+  only : m.head ≡ t → M.last.0 ≡ 0
   only same = M.once M.last.0 0 t (subst (IsAt c.rooms M.last.0) same M.last.2) keeping.tail
 
   pub none_held : t ≡ 0 → m.head ≡ t → held h ≡ []

@@ -128,7 +128,7 @@ module _ {P E : Type 0} (same : Discrete P) where
       front_of : (before later : List (Event P E)) → h ≡ before ++ later → past.IsLegal (reverse before)
       front_of before later e = front_legal (reverse later) (reverse before) (subst past.IsLegal (turned_split h before later e) legal)
 
-  pub legal_front : (h t : List (Event P E)) → told.IsLegal same (h ++ t) → told.IsLegal same h
+  legal_front : (h t : List (Event P E)) → told.IsLegal same (h ++ t) → told.IsLegal same h
   legal_front h t L = record {
     in_order = λ before later e. L.in_order before (later ++ t) (ap (λ l. l ++ t) e ∙ append_assoc before later t);
     links = λ before later e. L.links before (later ++ t) (ap (λ l. l ++ t) e ∙ append_assoc before later t);

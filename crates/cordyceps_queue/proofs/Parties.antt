@@ -9,7 +9,7 @@ use Rattle.cordyceps_queue.specs.QueueMeets.{Owes, tail_of, Owner, Owed, Joined,
 use Rattle.cordyceps_queue.proofs.Basics.{some_inj, some_none, none_some, put_same, put_other, put_all}
 
 module _ {P : Type 0} (party : ℕ → Option (Party P)) (k : ℕ) (p q : Party P) (at : party k ≡ Some p) where
-  pub owed_put : (a b : ℕ) → (Owes p.place a b → Owes q.place a b) → Owed party a b → Owed (put party k (Some q)) a b
+  owed_put : (a b : ℕ) → (Owes p.place a b → Owes q.place a b) → Owed party a b → Owed (put party k (Some q)) a b
   owed_put a b on o = elim (ℕ_discrete o.0 k) [
     | yes same ↦ let e : o.1 ≡ p = some_inj (sym o.2 ∙ ap party same ∙ at) in (k, q, put_same party k (Some q), on (subst (λ r. Owes r.place a b) e o.3))
     | no ne ↦ (o.0, o.1, put_other party k (Some q) o.0 ne ∙ o.2, o.3)

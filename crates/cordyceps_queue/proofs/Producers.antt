@@ -30,7 +30,7 @@ ready_unmade a b = cc (a, b)
 pub shared_unmade : {o : Owner} → o ≡ Shared → o ≡ Unmade → ⊥
 shared_unmade a b = cc (a, b)
 
-pub ready_one : {o : Owner} {j k : ℕ} → o ≡ Ready j → o ≡ Ready k → j ≡ k
+ready_one : {o : Owner} {j k : ℕ} → o ≡ Ready j → o ≡ Ready k → j ≡ k
 ready_one a b = cc (a, b)
 
 module _ {P E : Type 0} (m : Words P E) (c : Chain) (h : List (Event P E)) (M : Meets m c h) (k : ℕ) (p : Party P) (at : m.party k ≡ Some p) where

@@ -48,13 +48,13 @@ module _ {E : Type 0} where
   pub busy_settles : (n : Name) → Settles (Busy n ∷ [])
   busy_settles n h s = s
 
-  pub out_settles : (n : Name) (e : E) → Settles (Take n ∷ Look n ∷ Out n e ∷ Free n ∷ [])
+  out_settles : (n : Name) (e : E) → Settles (Take n ∷ Look n ∷ Out n e ∷ Free n ∷ [])
   out_settles n e h s = (refl, s.1)
 
-  pub empty_settles : (n : Name) → Settles (Take n ∷ Look n ∷ Empty n ∷ Free n ∷ [])
+  empty_settles : (n : Name) → Settles (Take n ∷ Look n ∷ Empty n ∷ Free n ∷ [])
   empty_settles n h s = (refl, s.1)
 
-  pub look_settles : (n : Name) → Settles (Take n ∷ Look n ∷ Free n ∷ [])
+  look_settles : (n : Name) → Settles (Take n ∷ Look n ∷ Free n ∷ [])
   look_settles n h s = (refl, s.1)
 
   still_more : (z : TableId) (v w : View E) (es : List (Event Name E)) → Sees v es w → (v.known.share ≡ whole → IsStill (plain v.known.seen)) → Settles es → w.known.share ≡ whole → IsStill (plain w.known.seen)

@@ -33,7 +33,7 @@ module _ {E : Type 0} where
       let after = held_of (plain w.seen) (subst (λ r. past.IsLegal r) (sym back) l) ∙ ap (λ r. past.held r) back in
       before ∙ (out.2 ∙ ap (λ xs. e ∷ xs) (sym (after ∙ ap (drop 1) out.2)))
 
-  pub finds_none : (u w : PartyOf E) → u.share ≡ whole → Dequeues (Err error.Empty) u w → held (plain u.seen) ≡ []
+  finds_none : (u w : PartyOf E) → u.share ≡ whole → Dequeues (Err error.Empty) u w → held (plain u.seen) ≡ []
   finds_none u w is d =
       let n = name_of u in
       let l = back_legal u w (Take n ∷ Look n ∷ Empty n ∷ Free n ∷ []) is d.0 in held_of (plain u.seen) l.1.1.1.1 ∙ l.1.0.1

@@ -43,7 +43,7 @@ module _ {E : Type 0} (s : Table E) (k : Kept s) (id : ℕ) (v : View E) (at : g
       party = (ap (λ (p : Party Name). put core.party id (Some p)) (λ i. record { name = name v; place = sym rest i; spare = v.back ++ v.free }) ∙ put_again core.party id (party v) is_there) j;
     }
 
-    pub takes_bare : (slots : ℕ) → length s.homes ≡ slots → (x : ℕ) → get_or s.words 1 0 ≡ x → Comes s k id v at named bare 1 0 (play.took (step slots 1 0 0 none) (v, []))
+    takes_bare : (slots : ℕ) → length s.homes ≡ slots → (x : ℕ) → get_or s.words 1 0 ≡ x → Comes s k id v at named bare 1 0 (play.took (step slots 1 0 0 none) (v, []))
     takes_bare slots deep zero e =
         let x : Event Name E = Event.Busy (name v) in
         let met = subst (λ q. Meets q k.chain (x ∷ gone_by)) (sym (unmoved e)) (busy_keeps core k.chain gone_by k.meets id (party v) is_there rest e) in
@@ -74,7 +74,7 @@ module _ {E : Type 0} (s : Table E) (k : Kept s) (id : ℕ) (v : View E) (at : g
     pub looked_on : Meets core k.chain (Event.Look (name v) ∷ gone_by)
     looked_on = tell_keeps core k.chain gone_by k.meets id (party v) is_there t has (Event.Look (name v)) holding (keeping core k.chain gone_by k.meets id (party v) is_there t has).held_by refl refl (λ q s. s) (λ q n w. w)
 
-    pub gives_bare : (n' : ℕ) → n' ≡ t + 1 → Comes s k id v at named bare 1 n' (λ _. stands_at (Event.Free (name v) ∷ []) Rest (v, []))
+    gives_bare : (n' : ℕ) → n' ≡ t + 1 → Comes s k id v at named bare 1 n' (λ _. stands_at (Event.Free (name v) ∷ []) Rest (v, []))
     gives_bare n' is =
         let x : Event Name E = Event.Free (name v) in
         let r = rights s k id v at named bare (x ∷ []) Rest (chain_after_give core k.chain gone_by k.meets id (party v) is_there t holding) (suc t)
@@ -83,14 +83,14 @@ module _ {E : Type 0} (s : Table E) (k : Kept s) (id : ℕ) (v : View E) (at : g
         let w = sees s k id v at named bare (x ∷ []) v.free v.back Rest in
         (w, keeps, tt, subst (λ q. Kept record { words = set s.words 1 q; homes = s.homes; views = set s.views id w }) same r.0, stood s k id v at named bare (x ∷ []) Rest r.1)
 
-    pub looks_bare : t ≢ 0 → (i : ℕ) → i ≡ t + 2 → (slots : ℕ) → length s.homes ≡ slots → Comes s k id v at named bare i (get_or s.words i 0) (Reading s k id v at named bare (Event.Look (name v) ∷ []) slots t)
+    looks_bare : t ≢ 0 → (i : ℕ) → i ≡ t + 2 → (slots : ℕ) → length s.homes ≡ slots → Comes s k id v at named bare i (get_or s.words i 0) (Reading s k id v at named bare (Event.Look (name v) ∷ []) slots t)
     looks_bare is_real i is slots deep = reading s k id v at named bare (Event.Look (name v) ∷ []) looked_on t i has nothing is_real (inl refl) is slots deep (get_or s.words i 0) refl
 
   module _ (t : ℕ) (behind : v.place ≡ Second t) where
     knows_tail : Real k.chain.keeper k.chain.rooms gone_by id (name v) t
     knows_tail = subst (Fits core.head core.next core.cell k.chain.owner k.chain.keeper k.chain.rooms gone_by id (name v)) behind (k.meets.fits id (party v) is_there)
 
-    pub reads_bare : (i : ℕ) → i ≡ t + 2 → (slots : ℕ) → length s.homes ≡ slots → Comes s k id v at named bare i (get_or s.words i 0) (Reading s k id v at named bare [] slots t)
+    reads_bare : (i : ℕ) → i ≡ t + 2 → (slots : ℕ) → length s.homes ≡ slots → Comes s k id v at named bare i (get_or s.words i 0) (Reading s k id v at named bare [] slots t)
     reads_bare i is slots deep = reading s k id v at named bare [] k.meets t i (ap tail_of behind) (λ a b o. subst (λ l. Owes l a b) behind o) knows_tail.is_real knows_tail.looked is slots deep (get_or s.words i 0) refl
 
 -- the tail of two places that are one

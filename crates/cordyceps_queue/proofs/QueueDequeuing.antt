@@ -53,7 +53,7 @@ respare n c h M k p at t has spare given =
       strangers = λ x away. M.strangers x (strange n.party k p q at refl x away);
     }
 
-pub put_twice : {A : Type 0} (f : ℕ → A) (k : ℕ) (v w : A) → put (put f k v) k w ≡ put f k w
+put_twice : {A : Type 0} (f : ℕ → A) (k : ℕ) (v w : A) → put (put f k v) k w ≡ put f k w
 put_twice f k v w = fun_ext (λ j. elim (ℕ_discrete j k) [
   | yes same ↦ subst (λ i. put (put f k v) k w i ≡ put f k w i) (sym same) (put_same (put f k v) k w ∙ sym (put_same f k w))
   | no ne ↦ put_other (put f k v) k w j ne ∙ (put_other f k v j ne ∙ sym (put_other f k w j ne))
@@ -129,7 +129,7 @@ module _ {E : Type 0} (s : Table E) (k : Kept s) (id : ℕ) (v : View E) (at : g
     abbrev homes_out : Homes E
     homes_out = set s.homes t none
 
-    pub tail_at : IsAt k.chain.rooms 0 t
+    tail_at : IsAt k.chain.rooms 0 t
     tail_at = (keeping n k.chain (reverse before ++ gone) M id (party v) there t has).tail
 
     tail_shared : k.chain.owner t ≡ Shared
@@ -185,7 +185,7 @@ module _ {E : Type 0} (s : Table E) (k : Kept s) (id : ℕ) (v : View E) (at : g
     out_empty : Empty homes_out v.free
     out_empty i x ix = set_else s.homes t x none (λ same. spare_shared (free_rooms.own i x ix) (ap k.chain.owner same ∙ tail_shared)) ∙ k.empty id v at named i x ix
 
-    pub out_kept : (i : ℕ) → Kept record { words = set s.words i (get_or s.words i 0); homes = homes_out; views = set s.views id out_view } × Sees v all out_view
+    out_kept : (i : ℕ) → Kept record { words = set s.words i (get_or s.words i 0); homes = homes_out; views = set s.views id out_view } × Sees v all out_view
     out_kept i =
         let h = ap (λ l. l ++ gone) (reverse-append before (Event.Out (name v) e ∷ [])) in
         let kept = keeps_rule s k id all v out_view s.words homes_out (put k.cell t None) next_chain freed at named refl spelled_out (subst (Meets freed next_chain) (sym h) met) refl (length-set s.homes t none) out_full
@@ -228,7 +228,7 @@ module _ {E : Type 0} (s : Table E) (k : Kept s) (id : ℕ) (v : View E) (at : g
       )
 
   -- with the tail's link null
-  pub nulls : (before : List (Event Name E)) (M : Meets n k.chain (reverse before ++ gone)) (t i : ℕ) (has : tail_of v.place ≡ Some t) (nothing : (a b : ℕ) → Owes v.place a b → ⊥) (is_real : t ≢ 0) → HasLooked (name v) (reverse before ++ gone) → n.next t ≡ None
+  nulls : (before : List (Event Name E)) (M : Meets n k.chain (reverse before ++ gone)) (t i : ℕ) (has : tail_of v.place ≡ Some t) (nothing : (a b : ℕ) → Owes v.place a b → ⊥) (is_real : t ≢ 0) → HasLooked (name v) (reverse before ++ gone) → n.next t ≡ None
       → Comes i (get_or s.words i 0) (λ _. stands_at before (Null t) (v, []))
   nulls before M t i has nothing is_real looked open_link =
       let h = reverse before ++ gone in

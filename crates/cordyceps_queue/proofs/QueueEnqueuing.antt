@@ -98,7 +98,7 @@ module _ {E : Type 0} (s : Table E) (k : Kept s) (id : ℕ) (v : View E) (at : g
     clear_empty : Empty homes_clear rs
     clear_empty i x ix = set_else s.homes r x none (λ same. absurd (let z = rooms.once (suc i) 0 r (subst (IsAt rs i) same ix) refl in omega arith)) ∙ empty (suc i) x ix
 
-    pub clear_kept : Kept record { words = words_clear; homes = homes_clear; views = set s.views id clear_view } × Sees v [] clear_view
+    clear_kept : Kept record { words = words_clear; homes = homes_clear; views = set s.views id clear_view } × Sees v [] clear_view
     clear_kept = keeps_rule s k id [] v clear_view words_clear homes_clear (put k.cell r (Some e)) (chain_after_clear m k.chain past k.meets id (party v) here idle r rs spare e) (clear_room m id (party v) r rs e)
         at named refl clear_machine (clear_keeps m k.chain past k.meets id (party v) here idle r rs spare e)
         (length-set s.words (2 + r) 0) (length-set s.homes r none) clear_full
@@ -144,7 +144,7 @@ module _ {E : Type 0} (s : Table E) (k : Kept s) (id : ℕ) (v : View E) (at : g
     swap_empty : Empty homes_swap v.free
     swap_empty i x ix = set_else s.homes r x (some (Some (filled r e))) (λ same. ready_spare known.1 (ap k.chain.owner (sym same) ∙ free_spare s k id v i x at named ix)) ∙ k.empty id v at named i x ix
 
-    pub swap_kept : Kept record { words = words_swap; homes = homes_swap; views = set s.views id swap_view } × Sees v (Event.Swap (name v) e ∷ []) swap_view
+    swap_kept : Kept record { words = words_swap; homes = homes_swap; views = set s.views id swap_view } × Sees v (Event.Swap (name v) e ∷ []) swap_view
     swap_kept = keeps_rule s k id (Event.Swap (name v) e ∷ []) v swap_view words_swap homes_swap k.cell (chain_after_swap m k.chain past k.meets id (party v) here r e ready has) (swap_head m id (party v) r (Swapped r found))
         at named refl swap_machine (swap_keeps m k.chain past k.meets id (party v) here r e ready has)
         (length-set s.words 0 r) (length-set s.homes r (some (Some (filled r e)))) swap_full
@@ -169,7 +169,7 @@ module _ {E : Type 0} (s : Table E) (k : Kept s) (id : ℕ) (v : View E) (at : g
       party = views_put link_view named i;
     }
 
-    pub link_kept : Kept record { words = words_link; homes = s.homes; views = set s.views id link_view } × Sees v (Event.Link (name v) ∷ []) link_view
+    link_kept : Kept record { words = words_link; homes = s.homes; views = set s.views id link_view } × Sees v (Event.Link (name v) ∷ []) link_view
     link_kept = keeps_rule s k id (Event.Link (name v) ∷ []) v link_view words_link s.homes k.cell k.chain (link_next m id (party v) old r Rest)
         at named refl link_machine (link_keeps m k.chain past k.meets id (party v) here r old waits)
         (length-set s.words (2 + old) (suc r)) refl k.full (empties_same s k id link_view (k.empty id v at named)) (readies_same s k id link_view (λ q is. cc))

@@ -20,7 +20,7 @@ use Rattle.cordyceps_queue.specs.QueueView.{View, name}
 near_all : (slots : ℕ) (back free now : List ℕ) → back ≡ [] → now ≡ back ++ free → Near slots free → Near slots now
 near_all slots back free now bare same near i r ir = near i r (subst (λ l. IsAt l i r) (same ∙ ap (λ l. l ++ free) bare) ir)
 
-pub near_cons : (slots t : ℕ) (xs ys : List ℕ) → t < slots → Near slots ys → xs ≡ t ∷ ys → Near slots xs
+near_cons : (slots t : ℕ) (xs ys : List ℕ) → t < slots → Near slots ys → xs ≡ t ∷ ys → Near slots xs
 near_cons slots t xs ys first near same i r ir = by i (subst (λ l. IsAt l i r) same ir)
   where
     by : (j : ℕ) → IsAt (t ∷ ys) j r → r < slots
@@ -58,14 +58,14 @@ module _ {E : Type 0} where
     pub near : Near slots k.0.back
     pub named : k.0.known.share ≢ []
 
-  pub frees : (slots : ℕ) (es : List (Event Name E)) (p : Place) (m k : Sat E) → m.0.known.share ≢ [] → stands_at es p m k → Free slots k
+  frees : (slots : ℕ) (es : List (Event Name E)) (p : Place) (m k : Sat E) → m.0.known.share ≢ [] → stands_at es p m k → Free slots k
   frees slots es p m k named a = record {
     hand = a.3 ∙ ap (λ (l : List ℕ). carry l) (sym a.1);
     near = λ i r x. absurd (subst (λ l. IsAt l i r) a.1 x);
     named = λ e. named (sym a.4.share ∙ e);
   }
 
-  pub holds_still : (slots t : ℕ) (es : List (Event Name E)) (m k : Sat E) → m.0.known.share ≢ [] → Near slots (m.0.back ++ m.0.free) → t < slots → stands_at es (Holding t) m k → IsHolding slots t k
+  holds_still : (slots t : ℕ) (es : List (Event Name E)) (m k : Sat E) → m.0.known.share ≢ [] → Near slots (m.0.back ++ m.0.free) → t < slots → stands_at es (Holding t) m k → IsHolding slots t k
   holds_still slots t es m k named near inside a =
       let f = frees slots es (Holding t) m k named a in
       (a.0, f.hand, f.named, (λ i r x. near i r (subst (λ l. IsAt l i r) (ap (λ l. l ++ k.0.free) a.1 ∙ a.2) x)), inside)

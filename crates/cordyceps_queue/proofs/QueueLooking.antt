@@ -17,7 +17,7 @@ use Rattle.cordyceps_queue.proofs.Legality.{front_legal}
 use Rattle.cordyceps_queue.proofs.QueueBlocking.{since_look}
 
 module _ {X : Type 0} where
-  pub own_append : (xs ys : List (Bool × X)) → own (xs ++ ys) ≡ own xs ++ own ys
+  own_append : (xs ys : List (Bool × X)) → own (xs ++ ys) ≡ own xs ++ own ys
   own_append [] ys = refl
   own_append ((true, x) ∷ xs) ys = ap (λ z. x ∷ z) (own_append xs ys)
   own_append ((false, x) ∷ xs) ys = own_append xs ys

@@ -24,7 +24,7 @@ use Rattle.cordyceps_queue.proofs.Basics.{some_inj, none_some, zero_suc, suc_inj
 use Rattle.cordyceps_queue.proofs.QueueTables.{at_behind, core, party_at, rooms_of}
 use Rattle.cordyceps_base.proofs.Telling.{at_length}
 
-pub named_was : (names : List Name) (p q : Party Name) → party_if names p ≡ Some q → (names ≢ []) × (p ≡ q)
+named_was : (names : List Name) (p q : Party Name) → party_if names p ≡ Some q → (names ≢ []) × (p ≡ q)
 named_was [] p q e = absurd (none_some e)
 named_was (n ∷ ns) p q e = ((λ c. absurd (cc)), some_inj e)
 
@@ -35,7 +35,7 @@ module _ {E : Type 0} where
   party_was (some u) p e = let t = named_was u.known.share (party u) p e in (u, refl, t.0, t.1)
 
 -- ---- names
-pub named_first : (ns : List Name) (y : Name) → ns ≢ [] → 1 ≤ covers (first_name ns ++ y) ns
+named_first : (ns : List Name) (y : Name) → ns ≢ [] → 1 ≤ covers (first_name ns ++ y) ns
 named_first [] y not = absurd (not refl)
 named_first (n ∷ ns) y not = some_cover n y ns
 
@@ -44,7 +44,7 @@ name_known q n = List-discrete Bool-discrete q n
 
 module _ {E : Type 0} (views : List (View E)) (h : History E) (o : Owned knows views h) where
   -- two parties differ in the first names of their shares
-  pub same_seat : (i j : ℕ) (u v : View E) → get_elem? views i ≡ some u → get_elem? views j ≡ some v → u.known.share ≢ [] → v.known.share ≢ [] → name u ≡ name v → i ≡ j
+  same_seat : (i j : ℕ) (u v : View E) → get_elem? views i ≡ some u → get_elem? views j ≡ some v → u.known.share ≢ [] → v.known.share ≢ [] → name u ≡ name v → i ≡ j
   same_seat i j u v at there named named_too same = elim (ℕ_discrete i j) [
     | yes e ↦ e
     | no ne ↦

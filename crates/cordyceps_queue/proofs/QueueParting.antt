@@ -342,7 +342,7 @@ legal_behind : {P E : Type 0} (us vs : List (Event P E)) → IsLegal (us ++ vs) 
 legal_behind [] vs l = l
 legal_behind (x ∷ us) vs l = legal_behind us vs l.1
 
-pub legal_front : {E : Type 0} (xs ys : List (Event Name E)) → Legal (xs ++ ys) → Legal xs
+legal_front : {E : Type 0} (xs ys : List (Event Name E)) → Legal (xs ++ ys) → Legal xs
 legal_front xs ys l = legal_behind (reverse ys) (reverse xs) (subst (λ z. IsLegal z) (reverse-append xs ys) l)
 
 module _ {E : Type 0} (s : Table E) (k : Kept s) (id : ℕ) (v : View E) (at : get_elem? s.views id ≡ some v) (named : v.known.share ≢ []) where

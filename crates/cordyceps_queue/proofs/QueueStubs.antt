@@ -60,9 +60,6 @@ module _ {E : Type 0} (s : Table E) (k : Kept s) (id : ℕ) (v : View E) (at : g
     tail_at : IsAt k.chain.rooms 0 0
     tail_at = (keeping core k.chain past k.meets id (party v) is_there 0 (ap tail_of holding)).tail
 
-    Tells : ℕ → ℕ → Sat E → Type 0
-    Tells slots found z = (found ≡ 0 → stands_at (look ∷ []) StubNull (v, []) z) × ((r : ℕ) → found ≡ suc r → stands_at (look ∷ []) (Second r) (v, []) z × (r < slots) × (r ≢ 0))
-
     looks_stub_bare : (slots : ℕ) → length s.homes ≡ slots → (x : ℕ) → get_or s.words 2 0 ≡ x → Comes s k id v at named bare 2 (get_or s.words 2 0) (play.looked_stub (step slots 2 0 0 none) (v, []))
     looks_stub_bare slots deep zero e =
         let nothing : (a b : ℕ) → Owes v.place a b → ⊥ = λ a b o. subst (λ l. Owes l a b) holding o in

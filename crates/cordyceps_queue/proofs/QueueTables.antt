@@ -43,7 +43,7 @@ links_put words r n lt = fun_ext (λ j. elim (ℕ_discrete j r) [
 pub links_same : (words : List ℕ) (i n : ℕ) → i < 2 → links (set words i n) ≡ links words
 links_same words i n lt = fun_ext (λ j. ap link_of (get_or-set_other words i (2 + j) n 0 (λ e. absurd (omega arith))))
 
-pub named_party : (names : List Name) (p : Party Name) → names ≢ [] → party_if names p ≡ Some p
+named_party : (names : List Name) (p : Party Name) → names ≢ [] → party_if names p ≡ Some p
 named_party [] p some_name = absurd (some_name refl)
 named_party (n ∷ ns) p some_name = refl
 
@@ -128,7 +128,7 @@ module _ {E : Type 0} where
     head_near = chain_near k.meets.last.0 (get_or s.words 0 0) k.meets.last.2
 
     -- the cleared room of another party, or of this one before the step, is that party's alone
-    pub ready_owner : (j : ℕ) (u : View E) (r : ℕ) → get_elem? s.views j ≡ some u → u.known.share ≢ [] → u.place ≡ Cleared r → k.chain.owner r ≡ Ready j
+    ready_owner : (j : ℕ) (u : View E) (r : ℕ) → get_elem? s.views j ≡ some u → u.known.share ≢ [] → u.place ≡ Cleared r → k.chain.owner r ≡ Ready j
     ready_owner j u r at some_name is =
         (subst (Fits core.head core.next core.cell k.chain.owner k.chain.keeper k.chain.rooms (reverse (events k.history)) j (party u).name) is (k.meets.fits j (party u) (party_at j u at some_name))).1
 

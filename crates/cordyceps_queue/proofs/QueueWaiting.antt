@@ -14,9 +14,6 @@ module _ {E : Type 0} (Fails : PartyOf E → PartyOf E → Type 0) where
   retries_more u [] v w e f = (subst (λ q. Fails q w) (sym e) f, refl)
   retries_more u (x ∷ vs) v w r f = (r.0, retries_more x vs v w r.1 f)
 
-  pub trying_none : (u : PartyOf E) → Trying u u
-  trying_none u = ([], refl)
-
   pub trying_more : (u v w : PartyOf E) → Trying u v → Fails v w → Trying u w
   trying_more u v w t f = (t.0 ++ w ∷ [], retries_more u t.0 v w t.1 f)
 

@@ -26,7 +26,7 @@ module _ {X : Type 0} where
   get_change_same f (x ∷ xs) zero y h = let e : x ≡ y = cc in ap (λ z. Some (f z)) e
   get_change_same f (x ∷ xs) (suc i) y h = get_change_same f xs i y h
 
-  pub get_change_other : (f : X → X) (xs : List X) (i j : ℕ) → j ≢ i → slice_get (change f i xs) j ≡ slice_get xs j
+  get_change_other : (f : X → X) (xs : List X) (i j : ℕ) → j ≢ i → slice_get (change f i xs) j ≡ slice_get xs j
   get_change_other f [] i j ne = refl
   get_change_other f (x ∷ xs) zero zero ne = absurd (ne refl)
   get_change_other f (x ∷ xs) zero (suc j) ne = refl
@@ -38,7 +38,7 @@ module _ {X : Type 0} where
   length-change f zero (x ∷ xs) = refl
   length-change f (suc i) (x ∷ xs) = ap suc (length-change f i xs)
 
-  pub set_change : (f : X → X) (xs : List X) (i : ℕ) (y : X) → slice_get xs i ≡ Some y → slice_set xs i (f y) ≡ change f i xs
+  set_change : (f : X → X) (xs : List X) (i : ℕ) (y : X) → slice_get xs i ≡ Some y → slice_set xs i (f y) ≡ change f i xs
   set_change f [] i y h = absurd (none_some h)
   set_change f (x ∷ xs) zero y h = let e : x ≡ y = cc in ap (λ z. f z ∷ xs) (sym e)
   set_change f (x ∷ xs) (suc i) y h = ap (λ zs. x ∷ zs) (set_change f xs i y h)

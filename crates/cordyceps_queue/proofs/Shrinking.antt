@@ -17,7 +17,7 @@ pub at_up : {A : Type 0} (xs : List A) (i : ℕ) (a : A) → IsAt xs (suc i) a �
 at_up [] i a p = absurd p
 at_up (x ∷ xs) i a p = p
 
-pub length_drop : {A : Type 0} (xs : List A) (i : ℕ) → length xs ≡ suc (suc i) → length (drop 1 xs) ≡ suc i
+length_drop : {A : Type 0} (xs : List A) (i : ℕ) → length xs ≡ suc (suc i) → length (drop 1 xs) ≡ suc i
 length_drop [] i e = absurd (zero_suc e)
 length_drop (x ∷ xs) i e = suc_inj e
 
@@ -99,7 +99,7 @@ room_once r (y ∷ ys) away once =
 
 module _ {P E : Type 0} (m : Words P E) (c : Chain) (h : List (Event P E)) (M : Meets m c h) (t r : ℕ) (first : IsAt c.rooms 0 t) (linked : m.next t ≡ Some r) where
   -- head is another room than the tail
-  pub goes_on : (i : ℕ) × (M.last.0 ≡ suc i)
+  goes_on : (i : ℕ) × (M.last.0 ≡ suc i)
   goes_on = from M.last.0 refl
     where
       from : (n : ℕ) → M.last.0 ≡ n → (i : ℕ) × (M.last.0 ≡ suc i)

@@ -24,7 +24,7 @@ use Rattle.cordyceps_queue.proofs.Holder.{keeping}
 use Rattle.cordyceps_queue.proofs.Free.{free_same, free_first, free_has, free_more}
 use Rattle.cordyceps_queue.proofs.Reading.{get_set_same, get_set_other, get_within, none_before, length-change, read, read_changed, read_same}
 
-pub option_same : (x y : Option ℕ) → option_eq nat_eq x y ≡ true → x ≡ y
+option_same : (x y : Option ℕ) → option_eq nat_eq x y ≡ true → x ≡ y
 option_same None None e = refl
 option_same None (Some y) e = let no : ⊥ = cc in absurd no
 option_same (Some x) None e = let no : ⊥ = cc in absurd no
@@ -42,7 +42,7 @@ pub own_room : (p : ℕ) → option_eq nat_eq (Some p) (Some p) ≡ true
 own_room p = eq-eqb p p refl
 
 module _ {E : Type 0} where
-  pub party_same : (rooms rooms' : List (Room E)) (k : ℕ) (o : Option Place) → free_rooms k rooms' ≡ free_rooms k rooms → party_at rooms' k o ≡ party_at rooms k o
+  party_same : (rooms rooms' : List (Room E)) (k : ℕ) (o : Option Place) → free_rooms k rooms' ≡ free_rooms k rooms → party_at rooms' k o ≡ party_at rooms k o
   party_same rooms rooms' k None e = refl
   party_same rooms rooms' k (Some place) e = ap (λ free. Some (record { name = k; place = place; spare = free })) e
 
@@ -192,7 +192,7 @@ module _ {E : Type 0} where
     swap_follows r at (Some e) full = let w = stays m p (Cleared r) at owned r m.right (Swapped r m.head) in (w.0, refl, ap (core.comes_in p) full, w.1)
 
     -- the tail of a party with the right is a room of the chain
-    pub tail_shared : (place : Place) (at : slice_get m.parties p ≡ Some place) (t : ℕ) → tail_of place ≡ Some t → c.owner t ≡ Shared
+    tail_shared : (place : Place) (at : slice_get m.parties p ≡ Some place) (t : ℕ) → tail_of place ≡ Some t → c.owner t ≡ Shared
     tail_shared place at t has = M.shared 0 t (keeping (words_of m) c h M p (me_of m p place) (ap (party_at m.rooms p) at) t has).tail
 
     look_follows : (t : ℕ) (at : slice_get m.parties p ≡ Some (Holding t)) (n : Option ℕ) → next_in (slice_get m.rooms t) ≡ n → Follows m p (Holding t) step.ReadNext (words.looks (words_of m) p (me_of m p (Holding t)) t) (core.look m p t (next_in (slice_get m.rooms t)))

@@ -39,7 +39,7 @@ set_as_it_was (x ∷ xs) (suc i) y h = ap (λ zs. x ∷ zs) (set_as_it_was xs i 
 
 module _ {E : Type 0} where
   -- a machine whose functions meet a history
-  pub core_from : (h : List (Event ℕ E)) (m : Machine E) (c : Chain) → Meets (words_of m) c (reverse h) → IsOwned m → CoreMeets h m
+  core_from : (h : List (Event ℕ E)) (m : Machine E) (c : Chain) → Meets (words_of m) c (reverse h) → IsOwned m → CoreMeets h m
   core_from h m c M owned = record { legal = told_legal ℕ_discrete h M.legal; chain = c; meets = M; owned = owned }
 
   says_of : (h : List (Event ℕ E)) (m : Machine E) (was : CoreMeets h m) (p : ℕ) (a : QueueAnswer E) → kept.Answered p a (reverse h) → Says h p a
@@ -154,7 +154,7 @@ module _ {E : Type 0} where
       core_from h (cores.with_room m p) a.0 (subst (λ w. Meets w a.0 (reverse h)) (sym (with_room_words m was.owned p place at)) a.1) (owned_room m was.owned p place at)
 
   -- what a core met, and a run of it keeps
-  pub went_held : (h : List (Event ℕ E)) (m : Machine E) → CoreMeets h m → went h ++ held h ≡ came h
+  went_held : (h : List (Event ℕ E)) (m : Machine E) → CoreMeets h m → went h ++ held h ≡ came h
   went_held h m was =
       let w = was.legal.in_order h [] (sym (append-nil h)) in
       ap (λ l. went h ++ l) (held_rest (went h) w.0 (came h) w.1) ∙ w.1

@@ -22,9 +22,6 @@ module _ {E : Type 0} where
       from (inl lt) = lt
       from (inr le) = absurd (not (s.1.meets.unmade r le))
 
-  pub stub_within : (m : Machine E) → IsSound m → 0 < length m.rooms
-  stub_within m s = made_within m s 0 (λ e. shared_unmade s.1.meets.stub e)
-
   shared_within : (m : Machine E) (s : IsSound m) (r : ℕ) → s.1.chain.owner r ≡ Shared → r < length m.rooms
   shared_within m s r e = made_within m s r (λ u. shared_unmade e u)
 

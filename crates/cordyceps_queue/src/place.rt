@@ -2,7 +2,7 @@
 
 /// Where a party is between two steps. `room` is the room that it enqueues, `old` the head before its swap, and `tail`
 /// the room at which the party with the right dequeues. The stub is room 0.
-#[derive(Clone, Copy, Debug)]
+#[derive(Clone, Copy)]
 pub enum Place {
     Rest,
     /// The room has its element.

@@ -38,7 +38,6 @@ pub struct MpscQueue<T: Linked<Links<T>>> {
 
 impl<T: Linked<Links<T>>> Model for MpscQueue<T> {
     ghost use Rattle.cordyceps_queue.specs.QueueRule.{IsTable};
-    ghost use Rattle.cordyceps_queue.specs.QueueHistory.{held};
     ghost use Rattle.cordyceps_queue.specs.QueueStanding.{QueueOf};
 
     ghost Value = { QueueOf T.Handle };
@@ -61,7 +60,6 @@ pub struct Party<T: Linked<Links<T>>> {
 
 impl<T: Linked<Links<T>>> Model for Party<T> {
     ghost use Rattle.cordyceps_queue.specs.QueueCalls.{IsSeated, standing};
-    ghost use Rattle.cordyceps_queue.specs.QueueHistory.{held};
     ghost use Rattle.cordyceps_queue.specs.QueueStanding.{PartyOf};
 
     ghost Value = { PartyOf T.Handle };

@@ -14,7 +14,7 @@ pub enum TryDequeueError {
 }
 
 /// A step of one party: a read or a write of one word.
-#[derive(Drop, Debug)]
+#[derive(Drop)]
 pub enum QueueStep<E> {
     /// The next word of a free room becomes null, and the room gets the element. Without an element: that of the stub.
     Clear(Option<E>),

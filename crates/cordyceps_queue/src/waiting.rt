@@ -126,7 +126,7 @@ impl<T: Linked<Links<T>>> OwnedConsumer<T> {
         let backoff = Backoff::new();
         for _ in rt.forever() {
             match self.try_dequeue() {
-                Ok(handle) => return Some(handle),
+                Ok(oldest) => return Some(oldest),
                 Err(why) => {
                     if found_nothing(why) {
                         return None;

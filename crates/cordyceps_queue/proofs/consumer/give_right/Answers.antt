@@ -1,8 +1,14 @@
 use Rattle.std.proofs.Common.{◌≡◌, subst, rules}
 use Rattle.cordyceps_queue.specs.QueueCalls.{standing}
+use Rattle.cordyceps_queue.specs.QueuePlays.{IsHolding}
 use Rattle.cordyceps_queue.specs.QueueStanding.{GivesRight}
 use Rattle.cordyceps_queue.proofs.QueueRight.{right_given, gives_right}
 use Rattle.cordyceps_queue.proofs.consumer.give_right.Goals as goal
+
+pub give-requires-clause-holding : goal.give-requires-clause-holding
+give-requires-clause-holding g c =
+    let there : c.right.inside.seat.table_id ≡ c.args.words.now.table_id = search rules in
+    subst (λ z. IsHolding z.slots c.right.inside.tail c.right.inside.seat.me) there c.right.invariant.holds
 
 pub invariant_of-result : goal.invariant_of-result
 invariant_of-result g c =

@@ -1,4 +1,5 @@
-use Rattle.std.proofs.Common.{subst, sym}
+use Rattle.std.proofs.Common.{ap, subst, sym, ◌∙◌}
+use Rattle.cordyceps_queue.specs.QueueMachine.{Machine, stepped}
 use Rattle.cordyceps_queue.specs.QueueCore.{CoreMeets}
 use Rattle.cordyceps_queue.proofs.Exact.{exact}
 use Rattle.cordyceps_queue.proofs.Sound.{core_steps, sound_step}
@@ -6,6 +7,15 @@ use Rattle.cordyceps_queue.proofs.queue_core.QueueCore.step.Goals as goal
 
 pub invariant_of-self : goal.invariant_of-self
 invariant_of-self g c = rw c.act.ensures.machine (sound_step c.self.inside.machine c.args.party c.args.step c.self.invariant)
+
+pub returns-clause-machine : goal.returns-clause-machine
+returns-clause-machine g c = c.act.ensures.machine ∙ ap (λ (m : Machine g.row.E.Denot). (stepped m c.args.party c.args.step).0) c.self.view_is
+
+pub returns-clause-answer : goal.returns-clause-answer
+returns-clause-answer g c = c.act.ensures.answer ∙ ap (λ (m : Machine g.row.E.Denot). (stepped m c.args.party c.args.step).1) c.self.view_is
+
+pub returns-clause-refused : goal.returns-clause-refused
+returns-clause-refused g c = rw (c.act.ensures.machine, c.act.ensures.answer, ← c.self.view_is) (exact c.self.inside.machine c.args.party c.args.step c.self.invariant).1
 
 pub returns-clause-accepted : goal.returns-clause-accepted
 returns-clause-accepted g c = rw (c.act.ensures.answer, ← c.self.view_is) (exact c.self.inside.machine c.args.party c.args.step c.self.invariant).0
