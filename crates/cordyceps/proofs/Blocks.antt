@@ -1,31 +1,25 @@
 -- Lines of a cursor block.
-use Rattle.std.proofs.Common.{◌≡◌, ℕ, zero, suc, ◌+◌, ◌<◌, ◌≤◌, Bool, true, false, not, List, [], ◌∷◌, ◌++◌, length, take, drop, Option, Some, None, slice_get, refl, sym, ap, ◌∙◌, arith, append_assoc, inl, inr, eq-eqb, set, ◌≢◌, subst}
+use Rattle.std.proofs.Common.{◌≡◌, ℕ, zero, suc, ◌+◌, ◌<◌, ◌≤◌, Bool, true, false, not, List, [], ◌∷◌, ◌++◌, length, take, drop, Option, Some, slice_get, refl, sym, ap, ◌∙◌, arith, inl, inr, eq-eqb, set, ◌≢◌, subst}
 use Rattle.std.specs.Prelude.{nat_lt, nat_eq, nat_le, if◌then◌else◌, ◌&&◌}
-use Rattle.std.specs.List.{flat_map}
-use Rattle.std.proofs.lemmas.List.{set-set, set-get_or, get_or-set_same, get_or-set_other, append-nil}
-use Rattle.std.proofs.lemmas.List.Concat.{flat_map-append}
+use Rattle.std.proofs.lemmas.List.{set-set, set-get_or, get_or-set_same, get_or-set_other}
 use Rattle.std.proofs.lemmas.Bool.Decides.{nat_tests}
 use Rattle.cordyceps_base.specs.Runs.{after, replies_to}
 use Rattle.cordyceps_base.specs.Element.{Elements, values, with_value}
 use Rattle.cordyceps_list.specs.declared.cursor_mut.CursorMut.{CursorMut}
 use Rattle.cordyceps_list.specs.Cursor.{Stands, elements, place}
-use Rattle.cordyceps.proofs.Places.{below_or_not, same_or_not, inside, past_end, same_value}
+use Rattle.cordyceps.proofs.Places.{below_or_not, same_or_not, inside, same_value}
 use Rattle.cordyceps.specs.declared.replay.item.Item.{Item}
 use Rattle.cordyceps.specs.declared.replay.reply.Reply.{Reply}
 use Rattle.cordyceps.specs.declared.replay.list_command.ListEnd.{ListEnd}
 use Rattle.cordyceps.specs.declared.replay.list_command.CursorCommand.{CursorCommand}
 use Rattle.cordyceps.specs.declared.replay.list_command.CursorCommand.TheVariants.{SplitAfter, SplitBefore, SpliceAfter, SpliceBefore}
-use Rattle.cordyceps.specs.Replies.{Line, lines_of, done, nothing, found_or_nothing}
+use Rattle.cordyceps.specs.Replies.{Line, lines_of, done, found_or_nothing}
 use Rattle.cordyceps.specs.Tables.{Table, held_at}
 use Rattle.cordyceps.specs.Blocks.{Spot, State, blocked, first_place, rewritten, Goes, Obeys, line_on, line_step, state_of, Steps, cut_behind, cut_before, put_behind, put_before, split_to, splice_from}
 
 pub goes_written : (old new : CursorMut Item) (s : Elements Item) (k at : ℕ) (o : Option Item) (item : Item) (value : ℕ) (reply : Reply) →
     Stands old new (with_value s at (record item { value = value })) k → Some item ≡ o → lines_of reply ≡ done ∷ [] → Goes old new (rewritten s k at o value) reply
 goes_written old new s k at o item value reply stands is told = rw (← is) (record { stands = stands; told = told })
-
-pub goes_unwritten : (old new : CursorMut Item) (s : Elements Item) (k at : ℕ) (o : Option Item) (value : ℕ) (reply : Reply) →
-    Stands old new s k → None ≡ o → lines_of reply ≡ nothing ∷ [] → Goes old new (rewritten s k at o value) reply
-goes_unwritten old new s k at o value reply stands is told = rw (← is) (record { stands = stands; told = told })
 
 pub goes_on : (old new : CursorMut Item) (s : Elements Item) (k : ℕ) (x : Item) (reply : Reply) →
     Stands old new (with_value s k x) (k + 1) → Some x ≡ slice_get (values s) k → lines_of reply ≡ found_or_nothing (Some x) ∷ [] →
@@ -35,14 +29,6 @@ goes_on old new s k x reply stands is told =
     let moved : (if nat_lt k (length s) then k + 1 else k) ≡ k + 1 = grind (arith, nat_tests) in
     let same = same_value s k x is in
     rw (moved, ← is) (record { stands = rw same at stands; told = told })
-
-pub goes_nowhere : (old new : CursorMut Item) (s : Elements Item) (k : ℕ) (reply : Reply) →
-    Stands old new s k → None ≡ slice_get (values s) k → lines_of reply ≡ nothing ∷ [] →
-    Goes old new ((s, if nat_lt k (length s) then k + 1 else k), found_or_nothing (slice_get (values s) k)) reply
-goes_nowhere old new s k reply stands is told =
-    let over = past_end s k is in
-    let stays : (if nat_lt k (length s) then k + 1 else k) ≡ k = grind (arith, nat_tests) in
-    rw (stays, ← is) (record { stands = stands; told = told })
 
 -- what a list holds, where the list with a number was put back
 put_back : (table : Table) (n : ℕ) (s : Elements Item) → n < length table → held_at (set table n s) n ≡ s
@@ -169,16 +155,6 @@ alone_steps n table old new line reply within a b c d obeys =
       state_is = rw step (same_state table table n (elements new) (line_on (elements old) (place old) line).0.0 (place new) (line_on (elements old) (place old) line).0.1 refl obeys.stands.elements_are obeys.stands.place_is);
       told = rw step obeys.told;
     }
-
--- one line more
-pub state_more : (n : ℕ) (now next : State) (last : State) (line : CursorCommand) (rest : List CursorCommand) →
-    next ≡ (line_step n now line).0 → after (line_step n) now (line ∷ rest) ≡ last → after (line_step n) next rest ≡ last
-state_more n now next last line rest step so_far = rw step so_far
-
-pub told_more : (n : ℕ) (now next : State) (replies : List Reply) (reply : Reply) (all : List Line) (line : CursorCommand) (rest : List CursorCommand) →
-    next ≡ (line_step n now line).0 → lines_of reply ≡ (line_step n now line).1 ∷ [] → flat_map lines_of replies ++ replies_to (line_step n) now (line ∷ rest) ≡ all →
-    flat_map lines_of (replies ++ reply ∷ []) ++ replies_to (line_step n) next rest ≡ all
-told_more n now next replies reply all line rest step told so_far = rw (step, flat_map-append, append_assoc, append-nil, told) so_far
 
 -- the lines of a block were run on the list that was taken out, and it was put back
 pub block_done : (n : ℕ) (table left : Table) (first last : CursorMut Item) (end : ListEnd) (lines : List CursorCommand) (before told : List Line) → n < length table →

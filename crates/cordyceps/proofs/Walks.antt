@@ -1,21 +1,16 @@
 -- One turn more, and one value more that grew.
-use Rattle.std.proofs.Common.{◌≡◌, ℕ, zero, suc, ◌+◌, ◌-◌, ◌≤◌, List, [], ◌∷◌, ◌++◌, length, take, drop, Option, Some, None, slice_get, refl, sym, ap, ◌∙◌, arith, append_assoc, ◌<◌, ◌%◌, ◌^◌, inl, inr, add-one}
+use Rattle.std.proofs.Common.{◌≡◌, ℕ, zero, suc, ◌+◌, ◌-◌, ◌≤◌, [], ◌∷◌, ◌++◌, length, take, drop, Option, Some, None, slice_get, refl, sym, ap, ◌∙◌, arith, ◌<◌, ◌%◌, ◌^◌, inl, inr, add-one}
 use Rattle.std.specs.Prelude.{nat_lt, if◌then◌else◌}
 use Rattle.std.proofs.lemmas.Bool.Decides.{nat_tests}
 use Rattle.std.proofs.lemmas.List.{length-map}
 use Rattle.cordyceps_base.specs.Element.{Element, Elements, values, with_value}
 use Rattle.cordyceps.specs.declared.replay.item.Item.{Item}
-use Rattle.cordyceps.specs.declared.replay.list_command.Turn.{Turn}
-use Rattle.cordyceps.specs.Walks.{given, left, walked, grown, bumped}
+use Rattle.cordyceps.specs.Walks.{grown, bumped}
 use Rattle.cordyceps.proofs.Ends.{last_value}
 use Rattle.cordyceps.proofs.Places.{below_or_not, past_end}
 
 pub last_given : (s rest : Elements Item) (e : Element Item) → s ≡ rest ++ e ∷ [] → slice_get (values s) (length (values s) - 1) ≡ Some e.value
 last_given s rest e is = rw (length-map) (last_value s rest e is)
-
-pub walked_more : (told : List (Option Item)) (turn : Turn) (more : List Turn) (items now : List Item) (all : List (Option Item)) (item : Option Item) →
-    item ≡ given turn items → now ≡ left turn items → told ++ walked (turn ∷ more) items ≡ all → (told ++ item ∷ []) ++ walked more now ≡ all
-walked_more told turn more items now all item is behind so_far = rw (is, behind, append_assoc) so_far
 
 -- the element at a place grew
 pub grown_at : (by : ℕ) (s : Elements Item) (k : ℕ) (x : Item) → slice_get (values s) k ≡ Some x →

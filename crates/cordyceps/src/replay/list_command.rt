@@ -34,7 +34,7 @@ pub enum Filter {
 }
 
 /// One line of a cursor block: one call of a `CursorMut`.
-#[derive(Clone, Copy, Debug, PartialEq, Eq)]
+#[derive(Clone, Copy)]
 pub enum CursorCommand {
     /// Moves to the next place: `Done`.
     MoveNext,
@@ -81,7 +81,7 @@ pub enum CursorCommand {
 }
 
 /// One command on lists. Its first field is the number of the list, from 0 to 15.
-#[derive(Debug, PartialEq, Eq, Drop)]
+#[derive(Drop)]
 pub enum ListCommand {
     /// Puts the item at the front, if the list's length is below `usize::MAX`: `Done` or `NotThere`.
     PushFront(u8, Item),

@@ -23,7 +23,7 @@ use std::collections::VecDeque;
 use std::marker::Model;
 
 /// One command on sorted lists. Its first field is the number of the list, from 0 to 15.
-#[derive(Debug, PartialEq, Eq, Drop)]
+#[derive(Drop)]
 pub enum SortedCommand {
     /// Puts the item before the first that is greater: `Done`.
     Insert(u8, Item),

@@ -17,7 +17,7 @@ use std::collections::VecDeque;
 use std::marker::Model;
 
 /// One command on stacks. Its first field is the number of the stack, from 0 to 15.
-#[derive(Debug, PartialEq, Eq, Drop)]
+#[derive(Drop)]
 pub enum StackCommand {
     /// Puts the item on top: `Truth`, whether the stack was empty.
     Push(u8, Item),
