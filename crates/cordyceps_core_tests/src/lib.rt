@@ -2,7 +2,7 @@
 #![tactic(auto)]
 
 #[cfg(test)]
-mod counted;
+mod compared;
 #[cfg(test)]
 mod queue_cores;
 #[cfg(test)]

@@ -1,13 +1,30 @@
-use crate::counted::Counted;
+//! Steps and calls of a queue's core.
+use crate::compared::same;
 use crate::scripts::script_of;
 use cordyceps_queue::mpsc_queue::{
     QueueAnswer, QueueCore, QueueStep, Replay, StepError, TryDequeueError, replay,
 };
+use cordyceps_testing::counted::{Counted, Drops};
 use std::alloc::{AllocError, Global};
-use std::cell::Cell;
+use std::collections::VecDeque;
 use std::process::Abort;
-use std::rc::Rc;
 use std::test::*;
+
+/// Adds so many parties.
+fn add_parties<E: Drop>(core: &mut QueueCore<E>, parties: usize) -> Result<(), StepError> {
+    for _ in 0..parties {
+        core.add_party()?;
+    }
+    Ok(())
+}
+
+/// Adds a room for each of the parties that are named.
+fn add_rooms<E: Drop>(core: &mut QueueCore<E>, rooms: &[usize]) -> Result<(), StepError> {
+    for party in rooms {
+        core.add_room(*party)?;
+    }
+    Ok(())
+}
 
 /// A core with so many parties, and with a room for each of the parties that are named.
 fn core_with<E: Drop>(
@@ -16,12 +33,8 @@ fn core_with<E: Drop>(
     rooms: &[usize],
 ) -> Result<QueueCore<E>, StepError> {
     let mut core = QueueCore::new(alloc);
-    for _ in 0..parties {
-        core.add_party()?;
-    }
-    for party in rooms {
-        core.add_room(*party)?;
-    }
+    add_parties(&mut core, parties)?;
+    add_rooms(&mut core, rooms)?;
     Ok(core)
 }
 
@@ -32,7 +45,7 @@ fn done(rt: &impl Abort, core: &mut QueueCore<u64>, party: usize, step: QueueSte
 
 /// A step that is not there, and brings no element.
 fn not_there(rt: &impl Abort, core: &mut QueueCore<u64>, party: usize, step: QueueStep<u64>) {
-    assert_eq!(rt; core.step(party, step), Err((StepError::NotThere, None)));
+    same(rt, core.step(party, step), Err((StepError::NotThere, None)));
 }
 
 /// A step that is taken, with what it answers.
@@ -43,30 +56,31 @@ fn answers(
     step: QueueStep<u64>,
     answer: QueueAnswer<u64>,
 ) {
-    assert_eq!(rt; core.step(party, step), Ok(answer));
+    same(rt, core.step(party, step), Ok(answer));
 }
 
 /// An element that comes in.
 fn takes(rt: &impl Abort, core: &mut QueueCore<u64>, party: usize, element: u64) {
-    assert_eq!(rt; core.enqueue(party, element), Ok(()));
+    same(rt, core.enqueue(party, element), Ok(()));
 }
 
 /// An element that comes back, where its party is not there or has no free room.
 fn gives_back(rt: &impl Abort, core: &mut QueueCore<u64>, party: usize, element: u64) {
-    assert_eq!(rt;
+    same(
+        rt,
         core.enqueue(party, element),
-        Err((StepError::NotThere, element))
+        Err((StepError::NotThere, element)),
     );
 }
 
 /// An element that comes out.
 fn gives(rt: &impl Abort, core: &mut QueueCore<u64>, party: usize, element: u64) {
-    assert_eq!(rt; core.try_dequeue(party), Ok(Ok(element)));
+    same(rt, core.try_dequeue(party), Ok(Ok(element)));
 }
 
 /// A try that gets no element.
 fn gives_none(rt: &impl Abort, core: &mut QueueCore<u64>, party: usize, error: TryDequeueError) {
-    assert_eq!(rt; core.try_dequeue(party), Ok(Err(error)));
+    same(rt, core.try_dequeue(party), Ok(Err(error)));
 }
 
 #[test]
@@ -116,13 +130,13 @@ fn a_party_alone_without_rooms(rt: HostRuntime) -> Result<(), Fail> {
     let mut core = core_with(rt.alloc(), 1, &[])?;
     not_there(&rt, &mut core, 0, QueueStep::Swap);
     let refused = core.step(0, QueueStep::Clear(Some(1)));
-    assert_eq!(rt; refused, Err((StepError::NotThere, Some(1))));
+    same(&rt, refused, Err((StepError::NotThere, Some(1))));
     gives_none(&rt, &mut core, 0, TryDequeueError::Empty);
-    assert_eq!(rt; core.try_dequeue(5), Err(StepError::NotThere));
+    same(&rt, core.try_dequeue(5), Err(StepError::NotThere));
     gives_back(&rt, &mut core, 0, 7);
     gives_back(&rt, &mut core, 5, 7);
-    assert_eq!(rt; core.add_room(5), Err(StepError::NotThere));
-    assert_eq!(rt; core.add_party(), Ok(1));
+    same(&rt, core.add_room(5), Err(StepError::NotThere));
+    same(&rt, core.add_party(), Ok(1));
     Ok(())
 }
 
@@ -177,7 +191,7 @@ fn calls_while_the_stub_is_put_in(rt: HostRuntime) -> Result<(), Fail> {
     done(&rt, &mut core, 0, QueueStep::ReadNext);
     done(&rt, &mut core, 0, QueueStep::ReadNext);
     done(&rt, &mut core, 0, QueueStep::ReadHead);
-    assert_eq!(rt; core.try_dequeue(0), Err(StepError::NotThere));
+    same(&rt, core.try_dequeue(0), Err(StepError::NotThere));
     not_there(&rt, &mut core, 0, QueueStep::Give);
     done(&rt, &mut core, 0, QueueStep::Clear(None));
     done(&rt, &mut core, 0, QueueStep::Swap);
@@ -187,9 +201,8 @@ fn calls_while_the_stub_is_put_in(rt: HostRuntime) -> Result<(), Fail> {
     Ok(())
 }
 
-#[test]
-fn replays_a_late_link(rt: HostRuntime) -> Result<(), Fail> {
-    let core = core_with(rt.alloc(), 2, &[0])?;
+/// Steps of two parties, of which one links late.
+fn late_link(alloc: Global) -> Result<VecDeque<(usize, QueueStep<u64>)>, AllocError> {
     let steps = [
         (0, QueueStep::Clear(Some(1))),
         (0, QueueStep::Swap),
@@ -200,44 +213,48 @@ fn replays_a_late_link(rt: HostRuntime) -> Result<(), Fail> {
         (1, QueueStep::ReadHead),
         (7, QueueStep::Give),
     ];
-    let Replay {
-        mut core,
-        replies,
-        rest,
-        back,
-        stopped,
-    } = replay(rt.alloc(), core, script_of(rt.alloc(), steps)?);
-    let expected = [
-        Ok(QueueAnswer::Done),
-        Ok(QueueAnswer::Done),
-        Ok(QueueAnswer::Taken),
-        Err((StepError::NotThere, Some(2))),
-        Ok(QueueAnswer::Done),
-        Ok(QueueAnswer::Done),
-        Ok(QueueAnswer::Inconsistent),
-        Err((StepError::NotThere, None)),
-    ];
-    assert_eq!(rt; replies.as_slice(), expected.as_slice());
-    assert_eq!(rt; (rest.len(), back, stopped), (0, None, false));
+    script_of(alloc, steps)
+}
+
+/// What these steps answer.
+const ANSWERS: [Result<QueueAnswer<u64>, (StepError, Option<u64>)>; 8] = [
+    Ok(QueueAnswer::Done),
+    Ok(QueueAnswer::Done),
+    Ok(QueueAnswer::Taken),
+    Err((StepError::NotThere, Some(2))),
+    Ok(QueueAnswer::Done),
+    Ok(QueueAnswer::Done),
+    Ok(QueueAnswer::Inconsistent),
+    Err((StepError::NotThere, None)),
+];
+
+/// Asserts what a replay of these steps says, which was not stopped.
+fn says_all(rt: &impl Abort, replayed: &Replay<u64>) {
+    same(rt, replayed.replies.as_slice(), ANSWERS.as_slice());
+    same(rt, replayed.rest.len(), 0);
+    same(rt, replayed.back, None);
+    assert!(rt; !replayed.stopped);
+}
+
+#[test]
+fn replays_a_late_link(rt: HostRuntime) -> Result<(), Fail> {
+    let steps = late_link(rt.alloc())?;
+    let replayed = replay(rt.alloc(), core_with(rt.alloc(), 2, &[0])?, steps);
+    says_all(&rt, &replayed);
+    let mut core = replayed.core;
     gives(&rt, &mut core, 1, 1);
     gives_none(&rt, &mut core, 1, TryDequeueError::Empty);
     Ok(())
 }
 
 /// Whether a new element comes in.
-fn comes_in(
-    core: &mut QueueCore<Counted>,
-    drops: &Rc<Cell<u64>, Global>,
-) -> Result<bool, AllocError> {
-    Ok(core.enqueue(0, Counted::new(drops)?).is_ok())
+fn comes_in(core: &mut QueueCore<Counted>, drops: &Drops) -> Result<bool, AllocError> {
+    Ok(core.enqueue(0, Counted::new(1, drops)?).is_ok())
 }
 
 /// Whether a new element is laid into a room.
-fn is_laid(
-    core: &mut QueueCore<Counted>,
-    drops: &Rc<Cell<u64>, Global>,
-) -> Result<bool, AllocError> {
-    let element = Counted::new(drops)?;
+fn is_laid(core: &mut QueueCore<Counted>, drops: &Drops) -> Result<bool, AllocError> {
+    let element = Counted::new(1, drops)?;
     Ok(core.step(0, QueueStep::Clear(Some(element))).is_ok())
 }
 
@@ -246,18 +263,28 @@ fn comes_out(core: &mut QueueCore<Counted>) -> bool {
     matches!(core.try_dequeue(0), Ok(Ok(_)))
 }
 
+/// Three elements come in or are laid into a room, of which one comes out, and one more comes back.
+fn moves_elements(
+    rt: &impl Abort,
+    core: &mut QueueCore<Counted>,
+    drops: &Drops,
+) -> Result<(), AllocError> {
+    assert!(rt; comes_in(core, drops)?);
+    assert!(rt; comes_in(core, drops)?);
+    assert!(rt; comes_out(core));
+    same(rt, drops.count(), 1);
+    assert!(rt; is_laid(core, drops)?);
+    assert!(rt; !comes_in(core, drops)?);
+    same(rt, drops.count(), 2);
+    Ok(())
+}
+
 #[test]
 fn each_element_is_dropped_once(rt: HostRuntime) -> Result<(), Fail> {
-    let drops = Rc::new(rt.alloc(), Cell::new(0u64))?;
+    let drops = Drops::new(rt.alloc())?;
     let mut core = core_with(rt.alloc(), 1, &[0, 0, 0])?;
-    assert!(rt; comes_in(&mut core, &drops)?);
-    assert!(rt; comes_in(&mut core, &drops)?);
-    assert!(rt; comes_out(&mut core));
-    assert_eq!(rt; drops.get(), 1);
-    assert!(rt; is_laid(&mut core, &drops)?);
-    assert!(rt; !comes_in(&mut core, &drops)?);
-    assert_eq!(rt; drops.get(), 2);
+    moves_elements(&rt, &mut core, &drops)?;
     drop(core);
-    assert_eq!(rt; drops.get(), 4);
+    same(&rt, drops.count(), 4);
     Ok(())
 }

@@ -1,5 +1,6 @@
 //! What a queue's core answers after memory was refused. These tests say more where an allocation is made to fail, as
 //! `rt try --test --fail-alloc N` does.
+use crate::compared::same;
 use crate::scripts::script_of;
 use cordyceps_queue::mpsc_queue::{
     QueueAnswer, QueueCore, QueueStep, Replay, StepError, TryDequeueError, replay,
@@ -33,7 +34,7 @@ fn enqueues(
     element: u64,
     answer: Result<(), (StepError, u64)>,
 ) {
-    assert_eq!(rt; core.enqueue(party, element), answer);
+    same(rt, core.enqueue(party, element), answer);
 }
 
 /// An element comes out, or none.
@@ -43,19 +44,19 @@ fn dequeues(
     party: usize,
     answer: Result<u64, TryDequeueError>,
 ) {
-    assert_eq!(rt; core.try_dequeue(party), Ok(answer));
+    same(rt, core.try_dequeue(party), Ok(answer));
 }
 
 #[test]
 fn parties_and_rooms_come_at_the_second_call(rt: HostRuntime) {
     let mut core = QueueCore::new(rt.alloc());
     for party in 0..9usize {
-        assert_eq!(rt; add_party(&mut core), Ok(party));
+        same(&rt, add_party(&mut core), Ok(party));
     }
     for party in 0..9usize {
-        assert_eq!(rt; add_room(&mut core, party), Ok(()));
+        same(&rt, add_room(&mut core, party), Ok(()));
     }
-    assert_eq!(rt; core.add_room(9), Err(StepError::NotThere));
+    same(&rt, core.add_room(9), Err(StepError::NotThere));
     for party in 0..9usize {
         enqueues(&rt, &mut core, party, party as u64, Ok(()));
         enqueues(&rt, &mut core, party, 9, Err((StepError::NotThere, 9)));
@@ -122,18 +123,18 @@ const ANSWERS: [Result<QueueAnswer<u64>, (StepError, Option<u64>)>; 16] = [
 fn begins(rt: &impl Abort, first: &Replay<u64>) {
     let taken = first.replies.len();
     assert!(rt; taken <= ANSWERS.len());
-    assert_eq!(rt; first.replies.as_slice(), &ANSWERS[..taken]);
-    assert_eq!(rt; first.rest.len(), ANSWERS.len() - taken);
-    assert_eq!(rt; first.stopped, taken < ANSWERS.len());
-    assert_eq!(rt; first.back, None);
+    same(rt, first.replies.as_slice(), &ANSWERS[..taken]);
+    same(rt, first.rest.len(), ANSWERS.len() - taken);
+    same(rt, first.stopped, taken < ANSWERS.len());
+    same(rt, first.back, None);
 }
 
 /// Asserts what a replay of the rest says, unless memory was refused.
 fn goes_on(rt: &impl Abort, second: &Replay<u64>, taken: usize) {
     assert!(rt; taken <= ANSWERS.len());
     if !second.stopped {
-        assert_eq!(rt; second.replies.as_slice(), &ANSWERS[taken..]);
-        assert_eq!(rt; second.rest.len(), 0);
+        same(rt, second.replies.as_slice(), &ANSWERS[taken..]);
+        same(rt, second.rest.len(), 0);
     }
 }
 

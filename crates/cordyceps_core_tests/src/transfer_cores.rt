@@ -1,14 +1,31 @@
-use crate::counted::Counted;
+//! Steps, calls and replays of a transfer stack's core.
+use crate::compared::same;
 use crate::scripts::script_of;
 use cordyceps_stack::stack::{
     Replay, StepError, TransferAnswer, TransferCore, TransferStep, replay,
 };
+use cordyceps_testing::counted::{Counted, Drops};
 use std::alloc::{AllocError, Global};
 use std::cell::Cell;
 use std::collections::VecDeque;
 use std::process::Abort;
-use std::rc::Rc;
 use std::test::Fail;
+
+/// Adds so many parties.
+fn add_parties<E: Drop>(core: &mut TransferCore<E>, parties: usize) -> Result<(), StepError> {
+    for _ in 0..parties {
+        core.add_party()?;
+    }
+    Ok(())
+}
+
+/// Adds a room for each of the parties that are named.
+fn add_rooms<E: Drop>(core: &mut TransferCore<E>, rooms: &[usize]) -> Result<(), StepError> {
+    for party in rooms {
+        core.add_room(*party)?;
+    }
+    Ok(())
+}
 
 /// A core with so many parties, and with a room for each of the parties that are named.
 fn core_with<E: Drop>(
@@ -17,12 +34,8 @@ fn core_with<E: Drop>(
     rooms: &[usize],
 ) -> Result<TransferCore<E>, StepError> {
     let mut core = TransferCore::new(alloc);
-    for _ in 0..parties {
-        core.add_party()?;
-    }
-    for party in rooms {
-        core.add_room(*party)?;
-    }
+    add_parties(&mut core, parties)?;
+    add_rooms(&mut core, rooms)?;
     Ok(core)
 }
 
@@ -33,7 +46,7 @@ fn three(alloc: Global) -> Result<TransferCore<u64>, StepError> {
 
 /// A party that comes in under its number.
 fn comes(rt: &impl Abort, core: &mut TransferCore<u64>, party: usize) {
-    assert_eq!(rt; core.add_party(), Ok(party));
+    same(rt, core.add_party(), Ok(party));
 }
 
 /// A room that a party gets, or the error that it gets.
@@ -43,7 +56,7 @@ fn rooms(
     party: usize,
     answer: Result<(), StepError>,
 ) {
-    assert_eq!(rt; core.add_room(party), answer);
+    same(rt, core.add_room(party), answer);
 }
 
 /// A step that is taken, with what it answers.
@@ -54,7 +67,7 @@ fn answers(
     step: TransferStep<u64>,
     answer: TransferAnswer<u64>,
 ) {
-    assert_eq!(rt; core.step(party, step), Ok(answer));
+    same(rt, core.step(party, step), Ok(answer));
 }
 
 /// A step that is taken, with more to do.
@@ -70,14 +83,15 @@ fn pushes(
     element: u64,
     was_empty: bool,
 ) {
-    assert_eq!(rt; core.push_was_empty(party, element), Ok(was_empty));
+    same(rt, core.push_was_empty(party, element), Ok(was_empty));
 }
 
 /// A push that is not there, and gives its element back.
 fn gives_back(rt: &impl Abort, core: &mut TransferCore<u64>, party: usize, element: u64) {
-    assert_eq!(rt;
+    same(
+        rt,
         core.push_was_empty(party, element),
-        Err((StepError::NotThere, element))
+        Err((StepError::NotThere, element)),
     );
 }
 
@@ -88,7 +102,7 @@ fn takes(
     party: usize,
     batch: &[u64],
 ) -> Result<(), StepError> {
-    assert_eq!(rt; core.take_all(party)?.as_slice(), batch);
+    same(rt, core.take_all(party)?.as_slice(), batch);
     Ok(())
 }
 
@@ -104,9 +118,10 @@ fn parties_and_rooms_are_there(rt: HostRuntime) -> Result<(), Fail> {
     gives_back(&rt, &mut core, 2, 7);
     pushes(&rt, &mut core, 1, 7, true);
     assert!(rt; matches!(core.take_all(2), Err(StepError::NotThere)));
-    assert_eq!(rt;
+    same(
+        &rt,
         core.step(2, TransferStep::Take),
-        Err((StepError::NotThere, None))
+        Err((StepError::NotThere, None)),
     );
     Ok(())
 }
@@ -242,20 +257,20 @@ const ANSWERS: [Result<TransferAnswer<u64>, (StepError, Option<u64>)>; 16] = [
     Err((StepError::NotThere, None)),
 ];
 
+/// Asserts what a replay of the script says, which was not stopped.
+fn says_all(rt: &impl Abort, replayed: &Replay<u64>) {
+    same(rt, replayed.replies.as_slice(), ANSWERS.as_slice());
+    same(rt, replayed.rest.len(), 0);
+    same(rt, replayed.back, None);
+    assert!(rt; !replayed.stopped);
+}
+
 #[test]
 fn replays_a_script(rt: HostRuntime) -> Result<(), Fail> {
-    let core = three(rt.alloc())?;
-    let Replay {
-        mut core,
-        replies,
-        rest,
-        back,
-        stopped,
-    } = replay(rt.alloc(), core, script(rt.alloc())?);
-    assert_eq!(rt; replies.as_slice(), ANSWERS.as_slice());
-    assert!(rt; !stopped);
-    assert_eq!(rt; rest.len(), 0);
-    assert_eq!(rt; back, None);
+    let steps = script(rt.alloc())?;
+    let replayed = replay(rt.alloc(), three(rt.alloc())?, steps);
+    says_all(&rt, &replayed);
+    let mut core = replayed.core;
     takes(&rt, &mut core, 0, &[])?;
     pushes(&rt, &mut core, 2, 5, true);
     Ok(())
@@ -265,18 +280,18 @@ fn replays_a_script(rt: HostRuntime) -> Result<(), Fail> {
 fn begins(rt: &impl Abort, first: &Replay<u64>) {
     let taken = first.replies.len();
     assert!(rt; taken <= ANSWERS.len());
-    assert_eq!(rt; first.replies.as_slice(), &ANSWERS[..taken]);
-    assert_eq!(rt; first.rest.len(), ANSWERS.len() - taken);
-    assert_eq!(rt; first.stopped, taken < ANSWERS.len());
-    assert_eq!(rt; first.back, None);
+    same(rt, first.replies.as_slice(), &ANSWERS[..taken]);
+    same(rt, first.rest.len(), ANSWERS.len() - taken);
+    same(rt, first.stopped, taken < ANSWERS.len());
+    same(rt, first.back, None);
 }
 
 /// Asserts what a replay of the rest says, unless memory was refused.
 fn goes_on(rt: &impl Abort, second: &Replay<u64>, taken: usize) {
     assert!(rt; taken <= ANSWERS.len());
     if !second.stopped {
-        assert_eq!(rt; second.replies.as_slice(), &ANSWERS[taken..]);
-        assert_eq!(rt; second.rest.len(), 0);
+        same(rt, second.replies.as_slice(), &ANSWERS[taken..]);
+        same(rt, second.rest.len(), 0);
     }
 }
 
@@ -324,17 +339,17 @@ fn take_all(core: &mut TransferCore<u64>, party: usize) -> Result<Vec<u64>, Step
 #[test]
 fn goes_on_after_refused_memory(rt: HostRuntime) -> Result<(), Fail> {
     let mut core = TransferCore::new(rt.alloc());
-    assert_eq!(rt; add_party(&mut core), Ok(0));
-    assert_eq!(rt; add_room(&mut core, 0), Ok(()));
+    same(&rt, add_party(&mut core), Ok(0));
+    same(&rt, add_room(&mut core, 0), Ok(()));
     pushes(&rt, &mut core, 0, 1, true);
-    assert_eq!(rt; take_all(&mut core, 0)?.as_slice(), [1].as_slice());
+    same(&rt, take_all(&mut core, 0)?.as_slice(), [1].as_slice());
     pushes(&rt, &mut core, 0, 2, true);
     Ok(())
 }
 
 /// A value that is counted when it is made and when it is dropped.
-fn counted(drops: &Rc<Cell<u64>, Global>, made: &Cell<u64>) -> Result<Counted, AllocError> {
-    let value = Counted::new(drops)?;
+fn counted(drops: &Drops, made: &Cell<u64>) -> Result<Counted, AllocError> {
+    let value = Counted::new(made.get(), drops)?;
     made.set(made.get().wrapping_add(1));
     Ok(value)
 }
@@ -352,7 +367,7 @@ fn push(core: &mut TransferCore<Counted>, party: usize, value: Counted) {
 /// Steps with elements that are loaded, refused and exchanged.
 fn last_steps(
     alloc: Global,
-    drops: &Rc<Cell<u64>, Global>,
+    drops: &Drops,
     made: &Cell<u64>,
 ) -> Result<VecDeque<(usize, TransferStep<Counted>)>, AllocError> {
     let loaded = counted(drops, made)?;
@@ -368,38 +383,54 @@ fn last_steps(
     script_of(alloc, steps)
 }
 
-/// Elements that are held, in hand, on a walk, refused, given back, handed out, taken, and in the rest of a replay.
-fn elements_everywhere(
-    alloc: Global,
-    drops: &Rc<Cell<u64>, Global>,
+/// One party pushes two elements, and another's push of a third is overtaken.
+fn overtakes(
+    core: &mut TransferCore<Counted>,
+    drops: &Drops,
     made: &Cell<u64>,
 ) -> Result<(), AllocError> {
+    step(core, 1, TransferStep::Load(counted(drops, made)?));
+    push(core, 0, counted(drops, made)?);
+    push(core, 0, counted(drops, made)?);
+    step(core, 1, TransferStep::SetNext);
+    step(core, 1, TransferStep::Exchange);
+    Ok(())
+}
+
+/// A party that can push nothing begins to take, and two more elements come while it does.
+fn walks_on(
+    core: &mut TransferCore<Counted>,
+    drops: &Drops,
+    made: &Cell<u64>,
+) -> Result<(), AllocError> {
+    step(core, 2, TransferStep::Load(counted(drops, made)?));
+    step(core, 2, TransferStep::Take);
+    step(core, 2, TransferStep::Walk);
+    push(core, 1, counted(drops, made)?);
+    drop(core.take_all(1));
+    step(core, 1, TransferStep::Load(counted(drops, made)?));
+    Ok(())
+}
+
+/// Elements that are held, in hand, on a walk, refused, given back, handed out, taken, and in the rest of a replay.
+fn elements_everywhere(alloc: Global, drops: &Drops, made: &Cell<u64>) -> Result<(), AllocError> {
     let Ok(mut core) = core_with(alloc, 3, &[0, 1, 0, 0]) else {
         return Err(AllocError);
     };
-    step(&mut core, 1, TransferStep::Load(counted(drops, made)?));
-    push(&mut core, 0, counted(drops, made)?);
-    push(&mut core, 0, counted(drops, made)?);
-    step(&mut core, 1, TransferStep::SetNext);
-    step(&mut core, 1, TransferStep::Exchange);
-    step(&mut core, 2, TransferStep::Load(counted(drops, made)?));
-    step(&mut core, 2, TransferStep::Take);
-    step(&mut core, 2, TransferStep::Walk);
-    push(&mut core, 1, counted(drops, made)?);
-    drop(core.take_all(1));
-    step(&mut core, 1, TransferStep::Load(counted(drops, made)?));
+    overtakes(&mut core, drops, made)?;
+    walks_on(&mut core, drops, made)?;
     drop(replay(alloc, core, last_steps(alloc, drops, made)?));
     Ok(())
 }
 
 #[test]
 fn drops_each_element_once(rt: HostRuntime) -> Result<(), Fail> {
-    let Ok(drops) = Rc::new(rt.alloc(), Cell::new(0u64)) else {
+    let Ok(drops) = Drops::new(rt.alloc()) else {
         return Ok(());
     };
     let made = Cell::new(0u64);
     let end = elements_everywhere(rt.alloc(), &drops, &made);
-    assert_eq!(rt; drops.get(), made.get());
+    same(&rt, drops.count(), made.get());
     assert!(rt; end.is_err() || made.get() == 9);
     Ok(())
 }

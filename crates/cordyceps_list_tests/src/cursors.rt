@@ -1,8 +1,11 @@
+//! Cursors: moves, what they see, and what they change.
+use crate::compared::same;
 use crate::items::{
-    after, back, before, comes_out, forth, holds, list_of, plain, shows, shows_mut, value,
+    Item, after, back, before, comes_out, forth, holds, list_of, plain, shows, shows_mut, value,
 };
-use cordyceps::list::{Cursor, CursorMut};
-use cordyceps::{Item, List};
+use cordyceps_list::cursor::Cursor;
+use cordyceps_list::cursor_mut::CursorMut;
+use cordyceps_list::list::List;
 use std::alloc::{AllocError, Global};
 use std::process::Abort;
 use std::test::Fail;
@@ -21,12 +24,12 @@ fn sight(cursor: &CursorMut<'_, Item>) -> Sight {
 
 /// Asserts what both kinds of cursor see at one place.
 fn sees(rt: &impl Abort, cursor: &CursorMut<'_, Item>, want: Sight) {
-    assert_eq!(rt; sight(cursor), want);
+    same(rt, sight(cursor), want);
     let reader = cursor.as_cursor();
     shows(rt, reader.current(), want.0);
     shows(rt, reader.peek_next(), want.1);
     shows(rt, reader.peek_prev(), want.2);
-    assert_eq!(rt; reader.index(), want.3);
+    same(rt, reader.index(), want.3);
 }
 
 #[test]
@@ -60,10 +63,10 @@ fn moves_back_over_the_front(rt: HostRuntime) -> Result<(), Fail> {
     let mut list = list_of(&rt, rt.alloc(), &[1, 2, 3, 4, 5, 6])?;
     let mut cursor = list.cursor_front_mut();
     back(&mut cursor, 2);
-    assert_eq!(rt; sight(&cursor), (Some(6), None, Some(5), Some(5)));
+    same(&rt, sight(&cursor), (Some(6), None, Some(5), Some(5)));
     let front = cursor.split_before();
     holds(&rt, &front, &[1, 2, 3, 4, 5]);
-    assert_eq!(rt; cursor.index(), Some(0));
+    same(&rt, cursor.index(), Some(0));
     drop(cursor);
     holds(&rt, &list, &[6]);
     Ok(())
@@ -90,7 +93,7 @@ fn inserts_over_the_ends(
     cursor.move_prev();
     before(rt, alloc, &mut cursor, 9)?;
     after(rt, alloc, &mut cursor, 10)?;
-    assert_eq!(rt; cursor.index(), None);
+    same(rt, cursor.index(), None);
     Ok(())
 }
 
@@ -126,7 +129,7 @@ fn splices_around(rt: &impl Abort, list: &mut List<Item>, behind: List<Item>, ah
     cursor.splice_after(behind);
     assert!(rt; cursor.len() <= 10 && ahead.len() <= 4);
     cursor.splice_before(ahead);
-    assert_eq!(rt; cursor.index(), Some(4));
+    same(rt, cursor.index(), Some(4));
 }
 
 #[test]
@@ -204,10 +207,10 @@ fn writes(item: Option<&mut Item>, value: u64) {
 
 /// Removes the first item with the value 3, from a list of three.
 fn removes_three(rt: &impl Abort, cursor: &mut CursorMut<'_, Item>) {
-    assert_eq!(rt; (cursor.len(), cursor.is_empty()), (3, false));
+    same(rt, (cursor.len(), cursor.is_empty()), (3, false));
     let removed = cursor.remove_first(|item: &Item| item.value == 3);
     comes_out(rt, removed, Some(3));
-    assert_eq!(rt; cursor.index(), None);
+    same(rt, cursor.index(), None);
 }
 
 #[test]
@@ -227,7 +230,7 @@ fn changes_values_where_it_is(rt: HostRuntime) -> Result<(), Fail> {
 
 /// Asserts where a reader is.
 fn reads_at(rt: &impl Abort, cursor: &Cursor<'_, Item>, index: Option<usize>) {
-    assert_eq!(rt; cursor.index(), index);
+    same(rt, cursor.index(), index);
 }
 
 #[test]
@@ -236,7 +239,7 @@ fn reads_on_from_its_place(rt: HostRuntime) -> Result<(), Fail> {
     let mut cursor = list.cursor_back();
     reads_at(&rt, &cursor, Some(2));
     cursor.move_prev();
-    assert_eq!(rt; (cursor.len(), cursor.is_empty()), (3, false));
+    same(&rt, (cursor.len(), cursor.is_empty()), (3, false));
     shows(&rt, cursor.next(), Some(2));
     shows(&rt, cursor.next(), Some(3));
     shows(&rt, cursor.next(), None);
@@ -255,7 +258,7 @@ const MANY: u64 = 400_000;
 fn goes_forth(rt: &impl Abort, cursor: &mut CursorMut<'_, Item>) {
     for v in 0..MANY {
         shows(rt, cursor.current(), Some(v));
-        assert_eq!(rt; cursor.peek_prev().is_some(), v > 0);
+        same(rt, cursor.peek_prev().is_some(), v > 0);
         cursor.move_next();
     }
 }
@@ -265,7 +268,7 @@ fn goes_back(rt: &impl Abort, cursor: &mut CursorMut<'_, Item>) {
     for v in (0..MANY).rev() {
         cursor.move_prev();
         shows_mut(rt, cursor.current_mut(), Some(v));
-        assert_eq!(rt; cursor.peek_next().is_some(), v + 1 < MANY);
+        same(rt, cursor.peek_next().is_some(), v + 1 < MANY);
     }
 }
 
@@ -284,23 +287,34 @@ fn turns_over(rt: &impl Abort, cursor: &mut CursorMut<'_, Item>) {
     }
 }
 
-#[test]
-fn steps_take_few_moves(rt: HostRuntime) -> Result<(), Fail> {
-    let mut list: List<Item> = List::new();
+/// Puts the items below `MANY` into the list.
+fn put_many(rt: &impl Abort, alloc: Global, list: &mut List<Item>) -> Result<(), AllocError> {
     for v in 0..MANY {
         assert!(rt; list.len() < usize::MAX);
-        list.push_back(plain(rt.alloc(), v)?);
+        list.push_back(plain(alloc, v)?);
     }
-    let mut cursor = list.cursor_front_mut();
-    goes_forth(&rt, &mut cursor);
-    goes_back(&rt, &mut cursor);
-    turns_over(&rt, &mut cursor);
-    drop(cursor);
+    Ok(())
+}
+
+/// Takes as many items from either end of a list of `MANY`.
+fn takes_from_both_ends(rt: &impl Abort, list: &mut List<Item>) {
     let mut left = list.iter_mut();
     for _ in 0..MANY / 2 {
         assert!(rt; left.next().is_some());
         assert!(rt; left.next_back().is_some());
     }
     assert!(rt; left.next().is_none());
+}
+
+#[test]
+fn steps_take_few_moves(rt: HostRuntime) -> Result<(), Fail> {
+    let mut list: List<Item> = List::new();
+    put_many(&rt, rt.alloc(), &mut list)?;
+    let mut cursor = list.cursor_front_mut();
+    goes_forth(&rt, &mut cursor);
+    goes_back(&rt, &mut cursor);
+    turns_over(&rt, &mut cursor);
+    drop(cursor);
+    takes_from_both_ends(&rt, &mut list);
     Ok(())
 }

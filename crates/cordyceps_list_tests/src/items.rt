@@ -1,16 +1,44 @@
 //! Lists of items whose number and value are the same.
-use cordyceps::list::{CursorMut, Links};
-use cordyceps::{Item, List, Node, Refused};
+ghost use Rattle.std.specs.Prelude.{◌≡◌};
+
+use crate::compared::same;
+use cordyceps_base::linked::Linked;
+use cordyceps_base::list::Links;
+use cordyceps_base::node::Node;
+use cordyceps_list::cursor_mut::CursorMut;
+use cordyceps_list::list::List;
+use cordyceps_testing::nodes::{node_of, number};
 use std::alloc::{AllocError, Global};
 use std::process::Abort;
-use std::test::Fail;
+
+/// What a list of the tests holds.
+#[derive(Drop)]
+pub struct Item {
+    pub value: u64,
+}
+
+/// What goes into a list, and comes out.
+pub type Handle = Node<Item, Links<Item>>;
+
+impl Linked<Links<Item>> for Item {
+    type Handle = Handle;
+
+    ghost element = { λ h. h };
+
+    fn into_ptr(handle: Handle) -> Handle {
+        handle
+    }
+
+    fn from_ptr(node: Handle) -> Handle
+        ensures { result ≡ node }
+    {
+        node
+    }
+}
 
 /// A node of the item `v`.
-pub fn plain(alloc: Global, v: u64) -> Result<Node<Item, Links<Item>>, AllocError> {
-    match Node::new(alloc, v, Item { value: v, id: v }) {
-        Ok(node) => Ok(node),
-        Err(Refused { value: _ }) => Err(AllocError),
-    }
+pub fn plain(alloc: Global, v: u64) -> Result<Handle, AllocError> {
+    node_of(alloc, v, Item { value: v })
 }
 
 /// The value of an item.
@@ -29,27 +57,19 @@ fn value_mut(item: Option<&mut Item>) -> Option<u64> {
     }
 }
 
-/// The number of a node, which is dropped.
-pub fn number(node: Option<Node<Item, Links<Item>>>) -> Option<u64> {
-    match node {
-        Some(node) => Some(node.id()),
-        None => None,
-    }
-}
-
 /// Asserts the value of an item, or that there is none.
 pub fn shows(rt: &impl Abort, item: Option<&Item>, wanted: Option<u64>) {
-    assert_eq!(rt; value(item), wanted);
+    same(rt, value(item), wanted);
 }
 
 /// Asserts the value of an item that is lent to be written, or that there is none.
 pub fn shows_mut(rt: &impl Abort, item: Option<&mut Item>, wanted: Option<u64>) {
-    assert_eq!(rt; value_mut(item), wanted);
+    same(rt, value_mut(item), wanted);
 }
 
 /// Asserts the number of a node that came out, or that there is none.
-pub fn comes_out(rt: &impl Abort, node: Option<Node<Item, Links<Item>>>, wanted: Option<u64>) {
-    assert_eq!(rt; number(node), wanted);
+pub fn comes_out(rt: &impl Abort, node: Option<Handle>, wanted: Option<u64>) {
+    same(rt, number(node), wanted);
 }
 
 /// Puts the items behind those of the list.
@@ -75,10 +95,10 @@ pub fn list_of(rt: &impl Abort, alloc: Global, items: &[u64]) -> Result<List<Ite
 
 /// Asserts what a list holds.
 pub fn holds(rt: &impl Abort, list: &List<Item>, items: &[u64]) {
-    assert_eq!(rt; list.len(), items.len());
+    same(rt, list.len(), items.len());
     let mut left = items.iter();
     for item in list.iter() {
-        assert_eq!(rt; Some(item.value), left.next().copied());
+        same(rt, Some(item.value), left.next().copied());
     }
     assert!(rt; left.next().is_none());
 }

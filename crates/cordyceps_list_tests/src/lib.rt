@@ -1,10 +1,16 @@
-//! Tests of lists of items: walks, cursors, splits, filters and runs of many operations.
+//! Tests of lists: their ends, walks, cursors, splits and filters, drops, and runs of many operations.
 #![tactic(auto)]
 
 #[cfg(test)]
+mod compared;
+#[cfg(test)]
 mod cursors;
 #[cfg(test)]
+mod filters;
+#[cfg(test)]
 mod items;
+#[cfg(test)]
+mod list_ends;
 #[cfg(test)]
 mod list_laws;
 #[cfg(test)]

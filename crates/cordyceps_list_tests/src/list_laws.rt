@@ -1,3 +1,5 @@
+//! Elements taken from both ends in turn.
+use crate::compared::same;
 use crate::items::{holds, list_of};
 use cordyceps_list::laws::take_from_both_ends;
 use std::test::Fail;
@@ -14,7 +16,7 @@ fn takes_each_element_once(rt: HostRuntime) -> Result<(), Fail> {
         let list = list_of(&rt, rt.alloc(), &[1, 2, 3, 4])?;
         let (before, rest, behind) = take_from_both_ends(list, &turns[..count]);
         holds(&rt, &before, firsts);
-        assert_eq!(rt; rest.len(), left);
+        same(&rt, rest.len(), left);
         holds(&rt, &behind, lasts);
     }
     Ok(())

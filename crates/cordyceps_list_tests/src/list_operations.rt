@@ -1,14 +1,14 @@
-//! Runs of many operations on a list, beside a queue that should hold the same, and filters that are dropped early.
+//! Runs of many operations on a list, beside a queue that should hold the same.
 ghost use Rattle.std.specs.Prelude.{◌<◌};
 
-use crate::items::{after, back, before, comes_out, forth, list_of, number, plain, shows};
-use cordyceps::list::{CursorMut, Iter};
-use cordyceps::{Item, List};
+use crate::compared::same;
+use crate::items::{Item, after, back, before, comes_out, forth, plain, shows};
+use cordyceps_list::cursor_mut::CursorMut;
+use cordyceps_list::list::List;
+use cordyceps_testing::nodes::number;
 use std::alloc::{AllocError, Global};
-use std::cell::Cell;
 use std::collections::VecDeque;
 use std::process::Abort;
-use std::rc::Rc;
 use std::test::Fail;
 
 /// The items' numbers are below this, so that a list mostly has some of them twice and lacks others.
@@ -41,29 +41,29 @@ impl Draws {
 }
 
 /// Asserts that the list holds what the queue does, from both ends.
-fn same(rt: &impl Abort, list: &List<Item>, queue: &VecDeque<u64>) {
-    assert_eq!(rt; list.len(), queue.len());
-    assert_eq!(rt; list.is_empty(), queue.is_empty());
+fn agree(rt: &impl Abort, list: &List<Item>, queue: &VecDeque<u64>) {
+    same(rt, list.len(), queue.len());
+    same(rt, list.is_empty(), queue.is_empty());
     shows(rt, list.front(), queue.front().copied());
     shows(rt, list.back(), queue.back().copied());
-    same_forth(rt, list, queue);
-    same_back(rt, list, queue);
+    agree_forth(rt, list, queue);
+    agree_back(rt, list, queue);
 }
 
 /// Asserts that the list holds what the queue does, from the front.
-fn same_forth(rt: &impl Abort, list: &List<Item>, queue: &VecDeque<u64>) {
+fn agree_forth(rt: &impl Abort, list: &List<Item>, queue: &VecDeque<u64>) {
     let mut wanted = queue.iter();
     for item in list.iter() {
-        assert_eq!(rt; Some(item.value), wanted.next().copied());
+        same(rt, Some(item.value), wanted.next().copied());
     }
     assert!(rt; wanted.next().is_none());
 }
 
 /// Asserts that the list holds what the queue does, from the back.
-fn same_back(rt: &impl Abort, list: &List<Item>, queue: &VecDeque<u64>) {
+fn agree_back(rt: &impl Abort, list: &List<Item>, queue: &VecDeque<u64>) {
     let mut wanted = queue.iter();
     for item in list.iter().rev() {
-        assert_eq!(rt; Some(item.value), wanted.next_back().copied());
+        same(rt, Some(item.value), wanted.next_back().copied());
     }
     assert!(rt; wanted.next().is_none());
 }
@@ -99,12 +99,25 @@ impl Both {
 
     fn pop_front(&mut self, rt: &impl Abort) {
         let first = number(self.list.pop_front());
-        assert_eq!(rt; first, self.queue.pop_front());
+        same(rt, first, self.queue.pop_front());
     }
 
     fn pop_back(&mut self, rt: &impl Abort) {
         let last = number(self.list.pop_back());
-        assert_eq!(rt; last, self.queue.pop_back());
+        same(rt, last, self.queue.pop_back());
+    }
+
+    /// Puts what the other two hold behind what these hold.
+    fn join(&mut self, rt: &impl Abort, more: &mut Both) -> Result<(), AllocError> {
+        assert!(rt; self.list.len() < 1_000_000 && more.list.len() < 1_000_000);
+        self.list.append(&mut more.list);
+        self.queue.append(&mut more.queue)?;
+        Ok(())
+    }
+
+    /// Asserts that the list holds what the queue does.
+    fn agree(&self, rt: &impl Abort) {
+        agree(rt, &self.list, &self.queue);
     }
 
     /// Appends a second list of 0 to 4 items.
@@ -118,37 +131,34 @@ impl Both {
         for _ in 0..draws.below(5) {
             more.push_back(rt, alloc, draws.below(NUMBERS))?;
         }
-        assert!(rt; self.list.len() < 1_000_000 && more.list.len() < 1_000_000);
-        self.list.append(&mut more.list);
-        self.queue.append(&mut more.queue)?;
-        same(rt, &more.list, &more.queue);
+        self.join(rt, &mut more)?;
+        more.agree(rt);
         Ok(())
+    }
+
+    /// What stands from a place on, split off.
+    fn split_off(&mut self, rt: &impl Abort, at: usize) -> Result<Both, AllocError> {
+        assert!(rt; at <= self.list.len() && at <= self.queue.len());
+        let queue = self.queue.split_off(at)?;
+        let list = self.list.split_off(at);
+        Ok(Both { list, queue })
     }
 
     /// Splits at a drawn place, and keeps one of the parts, or both the other way round.
     fn split(&mut self, rt: &impl Abort, draws: &mut Draws) -> Result<(), AllocError> {
         let at = draws.place(rt, self.list.len());
-        assert!(rt; at <= self.list.len() && at <= self.queue.len());
-        let mut rest = Both {
-            list: self.list.split_off(at),
-            queue: self.queue.split_off(at)?,
-        };
-        same(rt, &self.list, &self.queue);
-        same(rt, &rest.list, &rest.queue);
+        let mut rest = self.split_off(rt, at)?;
+        self.agree(rt);
+        rest.agree(rt);
         match draws.below(4) {
-            0 => Ok(()),
-            1 => {
-                *self = rest;
-                Ok(())
-            }
+            0 => {}
+            1 => *self = rest,
             _ => {
-                assert!(rt; self.list.len() < 1_000_000 && rest.list.len() < 1_000_000);
-                rest.list.append(&mut self.list);
-                rest.queue.append(&mut self.queue)?;
+                rest.join(rt, self)?;
                 *self = rest;
-                Ok(())
             }
         }
+        Ok(())
     }
 
     /// Removes the first item of the number.
@@ -213,19 +223,18 @@ fn moved<'a>(
 
 /// Asserts what a cursor at a place sees.
 fn sees(rt: &impl Abort, cursor: &CursorMut<'_, Item>, queue: &VecDeque<u64>, at: usize) {
-    assert_eq!(rt; cursor.len(), queue.len());
+    same(rt, cursor.len(), queue.len());
     assert!(rt; at <= queue.len() && at < 1_000_000);
-    let inside = at < queue.len();
-    assert_eq!(rt; cursor.index(), if inside { Some(at) } else { None });
-    shows(rt, cursor.current(), queue.get(at).copied());
-    let next = if inside { at + 1 } else { 0 };
-    shows(rt, cursor.peek_next(), queue.get(next).copied());
-    let prev = if at > 0 {
-        queue.get(at - 1).copied()
+    let (index, next) = if at < queue.len() {
+        (Some(at), at + 1)
     } else {
-        None
+        (None, 0)
     };
-    shows(rt, cursor.peek_prev(), prev);
+    same(rt, cursor.index(), index);
+    shows(rt, cursor.current(), queue.get(at).copied());
+    shows(rt, cursor.peek_next(), queue.get(next).copied());
+    let prev = at.wrapping_sub(1);
+    shows(rt, cursor.peek_prev(), queue.get(prev).copied());
 }
 
 /// Inserts before the cursor at a place, and answers the place where it stands then.
@@ -296,146 +305,26 @@ fn operate(
     Ok(())
 }
 
+/// Does 500 drawn operations on both, which agree after each.
+fn operate_on(
+    rt: &impl Abort,
+    alloc: Global,
+    both: &mut Both,
+    draws: &mut Draws,
+) -> Result<(), AllocError> {
+    for _ in 0..500u64 {
+        operate(rt, alloc, both, draws)?;
+        both.agree(rt);
+    }
+    Ok(())
+}
+
 #[test]
 fn many_operations_do_what_they_do_to_a_queue(rt: HostRuntime) -> Result<(), Fail> {
     for start in 0..5u64 {
         let mut draws = Draws { state: start };
         let mut both = Both::empty(rt.alloc());
-        for _ in 0..500u64 {
-            operate(&rt, rt.alloc(), &mut both, &mut draws)?;
-            same(&rt, &both.list, &both.queue);
-        }
-    }
-    Ok(())
-}
-
-/// What a filter was asked, shared with the test.
-#[derive(Drop)]
-struct Asks {
-    /// How often it was asked.
-    count: Cell<u64>,
-    /// Whether the first call was of the item 1, the next of 2, and so on.
-    in_turn: Cell<bool>,
-}
-
-impl Asks {
-    fn none(alloc: Global) -> Result<Rc<Asks, Global>, AllocError> {
-        let asks = Asks {
-            count: Cell::new(0),
-            in_turn: Cell::new(true),
-        };
-        Ok(Rc::new(alloc, asks)?)
-    }
-
-    /// Counts a call of an item, and answers what is to be said at that call.
-    fn answer(&self, item: &Item, says: &[bool; 6]) -> bool {
-        let count = self.count.get().wrapping_add(1);
-        self.count.set(count);
-        self.in_turn.set(self.in_turn.get() && item.value == count);
-        says.get(count.wrapping_sub(1) as usize)
-            .copied()
-            .unwrap_or(false)
-    }
-}
-
-/// What a filter of the items 1 to 6 does.
-#[derive(Clone, Copy)]
-struct Filtering {
-    /// What it says, by the number of the call.
-    says: [bool; 6],
-    /// How often it was asked after 0 to 7 calls of `next`.
-    asked: [u64; 8],
-    /// What these calls answer.
-    removed: [Option<u64>; 7],
-}
-
-/// Whether the item `v` was removed.
-fn was_removed(removed: &[Option<u64>], v: u64) -> bool {
-    for item in removed {
-        if *item == Some(v) {
-            return true;
-        }
-    }
-    false
-}
-
-/// Asserts that the item `v` is the next one, unless it was removed.
-fn keeps_next(rt: &impl Abort, left: &mut Iter<'_, Item>, removed: &[Option<u64>], v: u64) {
-    if !was_removed(removed, v) {
-        shows(rt, left.next(), Some(v));
-    }
-}
-
-/// Asserts that the list holds the items 1 to 6 without those that were removed.
-fn keeps(rt: &impl Abort, list: &List<Item>, removed: &[Option<u64>]) {
-    let mut left = list.iter();
-    for v in [1u64, 2, 3, 4, 5, 6].as_slice() {
-        keeps_next(rt, &mut left, removed, *v);
-    }
-    assert!(rt; left.next().is_none());
-}
-
-/// Calls `next` so often, drops the filter, and asserts what was asked, what was removed and what was kept.
-fn drops_after(
-    rt: &impl Abort,
-    alloc: Global,
-    filtering: &Filtering,
-    calls: usize,
-) -> Result<(), AllocError> {
-    let asks = Asks::none(alloc)?;
-    let shared = asks.clone()?;
-    let says = filtering.says;
-    let mut list = list_of(rt, alloc, &[1, 2, 3, 4, 5, 6])?;
-    let mut filter = list.drain_filter(move |item: &Item| shared.answer(item, &says));
-    for call in 0..calls {
-        let removed = number(filter.next());
-        assert_eq!(rt; Some(&removed), filtering.removed.get(call), "at {call}");
-    }
-    drop(filter);
-    assert_eq!(rt;
-        Some(&asks.count.get()),
-        filtering.asked.get(calls),
-        "after {calls}"
-    );
-    assert!(rt; asks.in_turn.get());
-    assert_eq!(rt; Rc::strong_count(&asks), 1);
-    assert!(rt; calls <= 7);
-    keeps(rt, &list, &filtering.removed[..calls]);
-    Ok(())
-}
-
-#[test]
-fn a_filter_asks_each_item_once_up_to_its_drop(rt: HostRuntime) -> Result<(), Fail> {
-    for filtering in [
-        Filtering {
-            says: [false, false, true, false, false, true],
-            asked: [0, 3, 6, 6, 6, 6, 6, 6],
-            removed: [Some(3), Some(6), None, None, None, None, None],
-        },
-        Filtering {
-            says: [false, true, false, true, false, true],
-            asked: [0, 2, 4, 6, 6, 6, 6, 6],
-            removed: [Some(2), Some(4), Some(6), None, None, None, None],
-        },
-        Filtering {
-            says: [true, false, false, false, true, false],
-            asked: [0, 1, 5, 6, 6, 6, 6, 6],
-            removed: [Some(1), Some(5), None, None, None, None, None],
-        },
-        Filtering {
-            says: [true; 6],
-            asked: [0, 1, 2, 3, 4, 5, 6, 6],
-            removed: [Some(1), Some(2), Some(3), Some(4), Some(5), Some(6), None],
-        },
-        Filtering {
-            says: [false; 6],
-            asked: [0, 6, 6, 6, 6, 6, 6, 6],
-            removed: [None; 7],
-        },
-    ] {
-        for calls in 0..8usize {
-            drops_after(&rt, rt.alloc(), &filtering, calls)?;
-        }
+        operate_on(&rt, rt.alloc(), &mut both, &mut draws)?;
     }
     Ok(())
 }

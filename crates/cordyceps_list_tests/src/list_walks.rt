@@ -1,9 +1,11 @@
 //! Walks over lists by iterators and cursors, and lists that are split and spliced.
+use crate::compared::same;
 use crate::items::{
-    after, back, before, comes_out, forth, holds, list_of, plain, shows, shows_mut, value,
+    Item, after, back, before, comes_out, forth, holds, list_of, plain, shows, shows_mut, value,
 };
-use cordyceps::list::{Cursor, CursorMut};
-use cordyceps::{Item, List};
+use cordyceps_list::cursor::Cursor;
+use cordyceps_list::cursor_mut::CursorMut;
+use cordyceps_list::list::List;
 use std::alloc::{AllocError, Global};
 use std::process::Abort;
 use std::test::Fail;
@@ -17,7 +19,7 @@ fn raised(item: Option<&mut Item>) -> Option<u64> {
 
 /// Adds one to the value, and asserts what it is then.
 fn raises(rt: &impl Abort, item: Option<&mut Item>, wanted: Option<u64>) {
-    assert_eq!(rt; raised(item), wanted);
+    same(rt, raised(item), wanted);
 }
 
 /// Asserts the first and the last value of a list.
@@ -40,13 +42,13 @@ fn sight(cursor: &Cursor<'_, Item>) -> Sight {
 
 /// Asserts what a reader sees.
 fn sees(rt: &impl Abort, reader: &Cursor<'_, Item>, wanted: Sight) {
-    assert_eq!(rt; sight(reader), wanted);
+    same(rt, sight(reader), wanted);
 }
 
 /// Asserts where a cursor is.
 fn is_at(rt: &impl Abort, cursor: &CursorMut<'_, Item>, value: u64, index: usize) {
     shows(rt, cursor.current(), Some(value));
-    assert_eq!(rt; cursor.index(), Some(index));
+    same(rt, cursor.index(), Some(index));
 }
 
 /// Pushes an item to the front of an empty list, and asserts that it is at both ends.
@@ -81,21 +83,33 @@ fn is_over(rt: &impl Abort, list: &List<Item>) {
     ends(rt, list, None, None);
 }
 
+/// Serves with one item at a time, from the front to the back.
+fn serves_back(rt: &impl Abort, alloc: Global, list: &mut List<Item>) -> Result<(), AllocError> {
+    for v in [5u64, 7].as_slice() {
+        pushes_front(rt, alloc, list, *v)?;
+        comes_out(rt, list.pop_back(), Some(*v));
+        is_over(rt, list);
+    }
+    comes_out(rt, list.pop_back(), None);
+    Ok(())
+}
+
+/// Serves with one item at a time, from the back to the front.
+fn serves_front(rt: &impl Abort, alloc: Global, list: &mut List<Item>) -> Result<(), AllocError> {
+    for v in [9u64, 11].as_slice() {
+        pushes_back(rt, alloc, list, *v)?;
+        comes_out(rt, list.pop_front(), Some(*v));
+        is_over(rt, list);
+    }
+    comes_out(rt, list.pop_front(), None);
+    Ok(())
+}
+
 #[test]
 fn serves_again_once_it_is_empty(rt: HostRuntime) -> Result<(), Fail> {
     let mut list: List<Item> = List::new();
-    for v in [5u64, 7] {
-        pushes_front(&rt, rt.alloc(), &mut list, v)?;
-        comes_out(&rt, list.pop_back(), Some(v));
-        is_over(&rt, &list);
-    }
-    comes_out(&rt, list.pop_back(), None);
-    for v in [9u64, 11] {
-        pushes_back(&rt, rt.alloc(), &mut list, v)?;
-        comes_out(&rt, list.pop_front(), Some(v));
-        is_over(&rt, &list);
-    }
-    comes_out(&rt, list.pop_front(), None);
+    serves_back(&rt, rt.alloc(), &mut list)?;
+    serves_front(&rt, rt.alloc(), &mut list)?;
     Ok(())
 }
 
@@ -156,24 +170,36 @@ fn two_walks_meet_at_each_place(rt: HostRuntime) -> Result<(), Fail> {
     Ok(())
 }
 
+/// Adds one to each value of 1, 2 and 3, from the front.
+fn raises_forth(rt: &impl Abort, list: &mut List<Item>) {
+    let mut forth = list.iter_mut();
+    for want in [Some(2u64), Some(3), Some(4), None].as_slice() {
+        raises(rt, forth.next(), *want);
+    }
+}
+
+/// Adds one to each value of 2, 3 and 4, from the back.
+fn raises_back(rt: &impl Abort, list: &mut List<Item>) {
+    let mut back = list.iter_mut();
+    for want in [Some(5u64), Some(4), Some(3), None].as_slice() {
+        raises(rt, back.next_back(), *want);
+    }
+}
+
+/// Adds one to each value of 3, 4 and 5, by a cursor.
+fn raises_by_cursor(rt: &impl Abort, list: &mut List<Item>) {
+    let mut cursor = list.cursor_front_mut();
+    for want in [Some(4u64), Some(5), Some(6), None].as_slice() {
+        raises(rt, cursor.next(), *want);
+    }
+}
+
 #[test]
 fn each_walk_sees_what_the_last_one_wrote(rt: HostRuntime) -> Result<(), Fail> {
     let mut list = list_of(&rt, rt.alloc(), &[1, 2, 3])?;
-    let mut forth = list.iter_mut();
-    for want in [Some(2u64), Some(3), Some(4), None] {
-        raises(&rt, forth.next(), want);
-    }
-    drop(forth);
-    let mut back = list.iter_mut();
-    for want in [Some(5u64), Some(4), Some(3), None] {
-        raises(&rt, back.next_back(), want);
-    }
-    drop(back);
-    let mut cursor = list.cursor_front_mut();
-    for want in [Some(4u64), Some(5), Some(6), None] {
-        raises(&rt, cursor.next(), want);
-    }
-    drop(cursor);
+    raises_forth(&rt, &mut list);
+    raises_back(&rt, &mut list);
+    raises_by_cursor(&rt, &mut list);
     holds(&rt, &list, &[4, 5, 6]);
     Ok(())
 }
@@ -184,14 +210,14 @@ fn walks_by_cursor(rt: &impl Abort, list: &mut List<Item>) {
     for want in [Some(1u64), Some(2), Some(3), None, None] {
         shows_mut(rt, cursor.next(), want);
     }
-    assert_eq!(rt; cursor.index(), None);
+    same(rt, cursor.index(), None);
 }
 
 /// Walks over a list of the items 1 to 3 by a reader.
 fn walks_by_reader(rt: &impl Abort, list: &List<Item>) {
     let mut wanted = [1u64, 2, 3].iter();
     for item in list.cursor_front() {
-        assert_eq!(rt; Some(item.value), wanted.next().copied());
+        same(rt, Some(item.value), wanted.next().copied());
     }
     assert!(rt; wanted.next().is_none());
 }
@@ -258,7 +284,7 @@ fn a_reader_goes_back_while_its_cursor_stays(rt: HostRuntime) -> Result<(), Fail
 
 /// Asserts what a list gives from the front, to its end.
 fn gives(rt: &impl Abort, list: &mut List<Item>, items: &[u64]) {
-    assert_eq!(rt; list.len(), items.len());
+    same(rt, list.len(), items.len());
     ends(rt, list, items.first().copied(), items.last().copied());
     for v in items {
         comes_out(rt, list.pop_front(), Some(*v));
@@ -268,7 +294,7 @@ fn gives(rt: &impl Abort, list: &mut List<Item>, items: &[u64]) {
 
 /// Asserts what a list gives from the back, to its front.
 fn gives_back(rt: &impl Abort, list: &mut List<Item>, items: &[u64]) {
-    assert_eq!(rt; list.len(), items.len());
+    same(rt, list.len(), items.len());
     ends(rt, list, items.first().copied(), items.last().copied());
     for v in items.iter().rev() {
         comes_out(rt, list.pop_back(), Some(*v));
@@ -311,7 +337,7 @@ fn a_drained_part_comes_back(rt: HostRuntime) -> Result<(), Fail> {
     let all = [1u64, 2, 3, 4, 5];
     let mut list = list_of(&rt, rt.alloc(), &all)?;
     for at in 0..6usize {
-        assert_eq!(rt; list.len(), 5);
+        assert!(rt; list.len() == 5);
         let mut rest = list.split_off(at);
         for node in rest.drain_filter(|_item: &Item| true) {
             assert!(rt; list.len() < usize::MAX);
@@ -325,7 +351,7 @@ fn a_drained_part_comes_back(rt: HostRuntime) -> Result<(), Fail> {
 
 /// Asserts that a cursor of an empty list gives nothing by a split.
 fn has_nothing(rt: &impl Abort, cursor: &mut CursorMut<'_, Item>) {
-    assert_eq!(rt; (cursor.len(), cursor.index()), (0, None));
+    same(rt, (cursor.len(), cursor.index()), (0, None));
     assert!(rt; cursor.split_before().is_empty() && cursor.split_after().is_empty());
 }
 
@@ -340,7 +366,7 @@ fn takes_before(
     let all = cursor.split_before();
     has_nothing(rt, &mut cursor);
     before(rt, alloc, &mut cursor, 9)?;
-    assert_eq!(rt; cursor.index(), None);
+    same(rt, cursor.index(), None);
     Ok(all)
 }
 
@@ -353,10 +379,10 @@ fn takes_behind(
     let mut cursor = list.cursor_back_mut();
     cursor.move_next();
     let rest = cursor.split_after();
-    assert_eq!(rt; (cursor.len(), cursor.index()), (0, None));
+    same(rt, (cursor.len(), cursor.index()), (0, None));
     after(rt, alloc, &mut cursor, 8)?;
     cursor.move_next();
-    assert_eq!(rt; cursor.index(), Some(0));
+    same(rt, cursor.index(), Some(0));
     Ok(rest)
 }
 
@@ -376,14 +402,14 @@ fn splits_at_the_null_place(rt: HostRuntime) -> Result<(), Fail> {
 fn splices_before(rt: &impl Abort, cursor: &mut CursorMut<'_, Item>, more: List<Item>) {
     assert!(rt; cursor.len() <= 6 && more.len() <= 2);
     cursor.splice_before(more);
-    assert_eq!(rt; cursor.index(), None);
+    same(rt, cursor.index(), None);
 }
 
 /// Splices a list of at most two items in behind a cursor, which stays where it is.
 fn splices_after(rt: &impl Abort, cursor: &mut CursorMut<'_, Item>, more: List<Item>) {
     assert!(rt; cursor.len() <= 6 && more.len() <= 2);
     cursor.splice_after(more);
-    assert_eq!(rt; cursor.index(), None);
+    same(rt, cursor.index(), None);
 }
 
 #[test]
@@ -398,7 +424,7 @@ fn splices_at_the_null_place(rt: HostRuntime) -> Result<(), Fail> {
     splices_after(&rt, &mut cursor, first);
     splices_before(&rt, &mut cursor, List::new());
     splices_after(&rt, &mut cursor, List::new());
-    assert_eq!(rt; cursor.len(), 6);
+    same(&rt, cursor.len(), 6);
     cursor.move_next();
     shows(&rt, cursor.current(), Some(5));
     drop(cursor);
@@ -415,7 +441,7 @@ fn takes_all_out_from_where_it_is(rt: HostRuntime) -> Result<(), Fail> {
     for want in [Some(3u64), Some(4), Some(5), None] {
         comes_out(&rt, cursor.remove_current(), want);
     }
-    assert_eq!(rt; cursor.index(), None);
+    same(&rt, cursor.index(), None);
     for want in [Some(2u64), Some(1), None] {
         cursor.move_prev();
         comes_out(&rt, cursor.remove_current(), want);

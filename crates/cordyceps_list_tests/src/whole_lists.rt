@@ -1,5 +1,9 @@
-use crate::items::{comes_out, holds, list_of, plain, shows};
-use cordyceps::{Item, List, Node, Steps, list};
+//! Whole lists: iterators, splits, appends, removals and filters.
+use crate::compared::same;
+use crate::items::{Handle, Item, comes_out, holds, list_of, plain, shows};
+use cordyceps_base::steps::Steps;
+use cordyceps_list::list::List;
+use cordyceps_testing::nodes::node_of;
 use std::alloc::{AllocError, Global};
 use std::process::Abort;
 use std::test::Fail;
@@ -8,7 +12,7 @@ use std::test::Fail;
 fn iterates_from_both_ends(rt: HostRuntime) -> Result<(), Fail> {
     let list = list_of(&rt, rt.alloc(), &[1, 2, 3, 4])?;
     let mut left = list.iter();
-    assert_eq!(rt; left.len(), 4);
+    same(&rt, left.len(), 4);
     shows(&rt, left.next(), Some(1));
     shows(&rt, left.next(), Some(2));
     shows(&rt, left.next_back(), Some(4));
@@ -19,14 +23,14 @@ fn iterates_from_both_ends(rt: HostRuntime) -> Result<(), Fail> {
     for item in &list {
         sum = sum.wrapping_add(item.value);
     }
-    assert_eq!(rt; sum, 10);
+    same(&rt, sum, 10);
     Ok(())
 }
 
 /// Adds one to each value, from the front.
 fn raises_forth(rt: &impl Abort, list: &mut List<Item>) {
     let mut left = list.iter_mut();
-    assert_eq!(rt; left.len(), 3);
+    same(rt, left.len(), 3);
     for _ in 0..3u8 {
         if let Some(item) = left.next() {
             item.value = item.value.wrapping_add(1);
@@ -40,7 +44,7 @@ fn raises_back(rt: &impl Abort, list: &mut List<Item>) {
     let mut left = list.iter_mut();
     for want in [4u64, 3, 2] {
         if let Some(item) = left.next_back() {
-            assert_eq!(rt; item.value, want);
+            same(rt, item.value, want);
             item.value = item.value.wrapping_add(1);
         }
     }
@@ -63,7 +67,7 @@ fn hands_out_its_nodes(rt: HostRuntime) -> Result<(), Fail> {
     let mut nodes = list.into_iter();
     comes_out(&rt, nodes.next(), Some(1));
     comes_out(&rt, nodes.next_back(), Some(4));
-    assert_eq!(rt; nodes.len(), 2);
+    same(&rt, nodes.len(), 2);
     Ok(())
 }
 
@@ -78,9 +82,9 @@ fn splits_and_appends(
     assert!(rt; at <= all.len());
     let mut list = list_of(rt, alloc, &all)?;
     let mut steps = Steps::new();
-    assert_eq!(rt; list.len(), 5);
+    assert!(rt; list.len() == 5);
     if let Some(mut rest) = list.try_split_off_in(at, &mut steps) {
-        assert_eq!(rt; steps.count(), moves);
+        same(rt, steps.count(), moves);
         holds(rt, &list, &all[..at]);
         holds(rt, &rest, &all[at..]);
         assert!(rt; list.len() <= 5 && rest.len() <= 5);
@@ -93,48 +97,76 @@ fn splits_and_appends(
     Ok(())
 }
 
+/// A list of the items 1 to 5 is not split past its end, and is split before its last item.
+fn splits_at_its_end(rt: &impl Abort, list: &mut List<Item>) {
+    let mut steps = Steps::new();
+    assert!(rt; list.len() == 5);
+    assert!(rt; list.try_split_off_in(6, &mut steps).is_none());
+    same(rt, steps.count(), 0);
+    holds(rt, list, &[1, 2, 3, 4, 5]);
+    let rest = list.split_off(4);
+    holds(rt, &rest, &[5]);
+    holds(rt, list, &[1, 2, 3, 4]);
+}
+
 #[test]
 fn splits_everywhere(rt: HostRuntime) -> Result<(), Fail> {
-    let all = [1u64, 2, 3, 4, 5];
     for (at, moves) in [(0usize, 0u64), (1, 0), (2, 1), (3, 2), (4, 1), (5, 0)] {
         splits_and_appends(&rt, rt.alloc(), at, moves)?;
     }
-    let mut list = list_of(&rt, rt.alloc(), &all)?;
-    let mut steps = Steps::new();
-    assert_eq!(rt; list.len(), 5);
-    assert!(rt; list.try_split_off_in(6, &mut steps).is_none());
-    assert_eq!(rt; steps.count(), 0);
-    holds(&rt, &list, &all);
-    let rest = list.split_off(4);
-    holds(&rt, &rest, &[5]);
-    holds(&rt, &list, &[1, 2, 3, 4]);
+    let mut list = list_of(&rt, rt.alloc(), &[1, 2, 3, 4, 5])?;
+    splits_at_its_end(&rt, &mut list);
     Ok(())
 }
 
 /// The value that a node holds.
-fn held(node: Option<Node<Item, list::Links<Item>>>) -> Option<u64> {
+fn held(node: Option<Handle>) -> Option<u64> {
     match node {
         Some(node) => Some(node.get().value),
         None => None,
     }
 }
 
+/// Puts an item with a number of its own behind those of the list.
+fn push(
+    rt: &impl Abort,
+    alloc: Global,
+    list: &mut List<Item>,
+    id: u64,
+    value: u64,
+) -> Result<(), AllocError> {
+    assert!(rt; list.len() < usize::MAX);
+    list.push_back(node_of(alloc, id, Item { value })?);
+    Ok(())
+}
+
 #[test]
 fn removes_by_number(rt: HostRuntime) -> Result<(), Fail> {
     let mut list: List<Item> = List::new();
-    for (id, value) in [(5u64, 50u64), (7, 70), (7, 71)] {
-        assert!(rt; list.len() < usize::MAX);
-        let node: Result<Node<Item, list::Links<Item>>, _> = Node::new(
-            rt.alloc(),
-            id,
-            Item { value, id },
-        );
-        list.push_back(node.map_err(|_| "no memory")?);
-    }
-    assert_eq!(rt; held(list.remove(7)), Some(70));
-    assert_eq!(rt; held(list.remove(7)), Some(71));
+    push(&rt, rt.alloc(), &mut list, 5, 50)?;
+    push(&rt, rt.alloc(), &mut list, 7, 70)?;
+    push(&rt, rt.alloc(), &mut list, 7, 71)?;
+    same(&rt, held(list.remove(7)), Some(70));
+    same(&rt, held(list.remove(7)), Some(71));
     assert!(rt; list.remove(7).is_none());
     holds(&rt, &list, &[50]);
+    Ok(())
+}
+
+/// Appends a list to another, and puts 9 into what is left of it.
+fn appends(
+    rt: &impl Abort,
+    alloc: Global,
+    list: &mut List<Item>,
+    other: &mut List<Item>,
+    both: &[u64],
+) -> Result<(), AllocError> {
+    assert!(rt; list.len() <= 2 && other.len() <= 2);
+    list.append(other);
+    holds(rt, list, both);
+    assert!(rt; other.is_empty() && other.len() < usize::MAX);
+    other.push_front(plain(alloc, 9)?);
+    holds(rt, other, &[9]);
     Ok(())
 }
 
@@ -148,13 +180,7 @@ fn appends_to_and_from_nothing(rt: HostRuntime) -> Result<(), Fail> {
     ] {
         let mut list = list_of(&rt, rt.alloc(), first)?;
         let mut other = list_of(&rt, rt.alloc(), second)?;
-        assert!(rt; list.len() <= 2 && other.len() <= 2);
-        list.append(&mut other);
-        holds(&rt, &list, both);
-        assert!(rt; other.is_empty());
-        assert!(rt; other.len() < usize::MAX);
-        other.push_front(plain(rt.alloc(), 9)?);
-        holds(&rt, &other, &[9]);
+        appends(&rt, rt.alloc(), &mut list, &mut other, both)?;
     }
     Ok(())
 }
@@ -163,7 +189,7 @@ fn appends_to_and_from_nothing(rt: HostRuntime) -> Result<(), Fail> {
 fn a_filter_dropped_early_keeps_the_rest(rt: HostRuntime) -> Result<(), Fail> {
     let mut list = list_of(&rt, rt.alloc(), &[1, 2, 3, 4])?;
     let mut even = list.drain_filter(|item: &Item| item.value % 2 == 0);
-    assert_eq!(rt; even.size_hint(), (0, Some(4)));
+    same(&rt, even.size_hint(), (0, Some(4)));
     comes_out(&rt, even.next(), Some(2));
     drop(even);
     holds(&rt, &list, &[1, 3, 4]);
@@ -187,7 +213,7 @@ fn restores_what_was_split_off(rt: HostRuntime) -> Result<(), Fail> {
             list.extend(rest.into_iter());
         }
         holds(&rt, &list, &all);
-        assert_eq!(rt; list.len(), 5);
+        assert!(rt; list.len() == 5);
         let copy = List::from_iter(list.into_iter());
         holds(&rt, &copy, &all);
     }

@@ -1,37 +1,11 @@
 //! Scripts in the modes `transfer` and `queue`.
 
-use crate::scripts::{outcome_in, whole};
-use replay_driver::fault::Fault;
+use crate::streams::{Row, compare, refuse};
 use replay_sessions::modes::Choice;
-use std::alloc::Global;
-use std::process::Abort;
 use std::test::Fail;
 
-/// A script, and its replies.
-type Row<'a> = (&'a [u8], &'a [u8]);
-
-/// Runs each script to its end, and compares what it writes.
-fn compare(rt: &impl Abort, alloc: Global, choice: Choice, rows: &[Row]) {
-    for (lines, expected) in rows {
-        let (end, text) = outcome_in(alloc, choice, whole(lines));
-        assert_eq!(rt; end, Ok(()), "at {lines:?}");
-        assert_eq!(rt; text.as_slice(), *expected, "at {lines:?}");
-    }
-}
-
-/// Puts each line between two good ones, and looks that it is bad.
-fn refuse(rt: &impl Abort, alloc: Global, choice: Choice, bad: &[&[u8]]) -> Result<(), Fail> {
-    for line in bad {
-        let mut lines = Vec::new(alloc);
-        lines.extend_from_slice(b"party\n")?;
-        lines.extend_from_slice(line)?;
-        lines.extend_from_slice(b"\nparty\n")?;
-        let (end, text) = outcome_in(alloc, choice, whole(&lines));
-        assert_eq!(rt; end, Err(Fault::BadLine(2)), "at {line:?}");
-        assert_eq!(rt; text.as_slice(), b"party 0\n".as_slice(), "at {line:?}");
-    }
-    Ok(())
-}
+/// The good line beside the bad ones, and its reply.
+const GOOD: (&[u8], &[u8]) = (b"party\n", b"party 0\n");
 
 #[test]
 fn transfer_scripts(rt: HostRuntime) {
@@ -39,22 +13,27 @@ fn transfer_scripts(rt: HostRuntime) {
         (
             b"party\nparty\nparty\nroom 0\nroom 1\nload 0 1 1\npush 1 2 2\ntakeall 2\nsetnext 0\nexch 0\ntakeall 2\n",
             b"party 0\nparty 1\nparty 2\nok\nok\nok\ntrue\nshow 2:2\nok\ntrue\nshow 1:1\n",
+            Ok(()),
         ),
         (
             b"party\nparty\nparty\nroom 0\nroom 1\nload 0 1 1\npush 1 2 2\nsetnext 0\nexch 0\npush 0 1 1\ntakeall 2\n",
             b"party 0\nparty 1\nparty 2\nok\nok\nok\ntrue\nok\nfailed 1 1\nfalse\nshow 1:1 2:2\n",
+            Ok(()),
         ),
         (
             b"party\nroom 0\npush 0 1 1\npush 0 2 2\ntake 0\npush 0 3 3\nwalk 0\npush 0 3 3\ntakeall 0\ntakeall 0\ntake 0\n",
             b"party 0\nok\ntrue\nnot there\ntaken\nnot there\nlast 1 1\ntrue\nshow 3:3\nshow\nnone\n",
+            Ok(()),
         ),
         (
             b"party\nparty\nroom 0\nroom 1\npush 1 2 2\nload 0 1 1\ntakeall 1\npush 1 3 3\nsetnext 0\nexch 0\ntakeall 1\n",
             b"party 0\nparty 1\nok\nok\ntrue\nok\nshow 2:2\ntrue\nok\nfalse\nshow 1:1 3:3\n",
+            Ok(()),
         ),
         (
             b"room 0\nload 0 1 1\ntakeall 0\nparty\nroom 18446744073709551615\nroom 0\nroom 0\npush 0 7 70\npush 0 18446744073709551615 18446744073709551615\nwalk 0\ntake 0\ntakeall 0\nwalk 0\nwalk 0\nwalk 0",
             b"not there\nnot there\nnot there\nparty 0\nnot there\nok\nok\ntrue\nfalse\nnot there\ntaken\nnot there\nsome 18446744073709551615 18446744073709551615\nlast 7 70\nnot there\n",
+            Ok(()),
         ),
     ];
     compare(&rt, rt.alloc(), Choice::Transfer, &rows);
@@ -66,22 +45,27 @@ fn queue_scripts(rt: HostRuntime) {
         (
             b"party\nparty\nparty\nroom 0\nroom 1\nclear 0 1 1\nswap 0\nenq 1 2 2\ndeq 2\nlink 0\ndeq 2\ndeq 2\ndeq 2\n",
             b"party 0\nparty 1\nparty 2\nok\nok\nok\nok\nok\ninconsistent\nok\nsome 1 1\nsome 2 2\nempty\n",
+            Ok(()),
         ),
         (
             b"party\nparty\nparty\nroom 0\nroom 1\nenq 0 1 1\ntake 2\nnext 2\nnext 2\nhead 2\nclear 2\nclear 1 2 2\nswap 1\nswap 2\nlink 2\nnext 2\nlink 1\ndeq 2\ndeq 2\ndeq 2\ngive 2\n",
             b"party 0\nparty 1\nparty 2\nok\nok\nok\nok\nok\nok\nok\nok\nok\nok\nok\nok\ninconsistent\nok\nsome 1 1\nsome 2 2\nempty\nok\n",
+            Ok(()),
         ),
         (
             b"party\nswap 0\nclear 0 1 1\ndeq 0\ndeq 5\n",
             b"party 0\nnot there\nnot there\nempty\nnot there\n",
+            Ok(()),
         ),
         (
             b"party\nparty\nroom 0\nenq 0 1 1\ntake 0\ndeq 1\ntake 1\ndeq 0\ndeq 0\ngive 0\ngive 0\ndeq 1\n",
             b"party 0\nparty 1\nok\nok\nok\nbusy\nbusy\nsome 1 1\nempty\nok\nnot there\nempty\n",
+            Ok(()),
         ),
         (
             b"room 0\nparty\nclear 0\nhead 0\ntake 0\nnext 0\nhead 0\nroom 18446744073709551615\nenq 0 1 1",
             b"not there\nparty 0\nnot there\nnot there\nok\nok\nempty\nnot there\nnot there\n",
+            Ok(()),
         ),
     ];
     compare(&rt, rt.alloc(), Choice::Queue, &rows);
@@ -93,14 +77,17 @@ fn hostile_queue_scripts(rt: HostRuntime) {
         (
             b"party\nparty\nroom 0\nenq 0 1 1\ndeq 1\nenq 0 2 2\nenq 1 3 3\ndeq 0\nenq 0 4 4\ndeq 1\n",
             b"party 0\nparty 1\nok\nok\nsome 1 1\nnot there\nok\nsome 3 3\nok\nsome 4 4\n",
+            Ok(()),
         ),
         (
             b"party\nparty\nparty\nroom 0\nroom 1\nenq 0 1 1\nclear 1 2 2\nswap 1\ndeq 2\ndeq 0\nlink 1\ndeq 0\ndeq 2\ndeq 2\n",
             b"party 0\nparty 1\nparty 2\nok\nok\nok\nok\nok\ninconsistent\ninconsistent\nok\nsome 1 1\nsome 2 2\nempty\n",
+            Ok(()),
         ),
         (
             b"party\nroom 0\nenq 0 1 1\ntake 0\nnext 0\nnext 0\nhead 0\ndeq 0\ngive 0\nclear 0\nswap 0\nlink 0\nnext 0\ngive 0\n",
             b"party 0\nok\nok\nok\nok\nok\nok\nnot there\nnot there\nok\nok\nok\nsome 1 1\nok\n",
+            Ok(()),
         ),
     ];
     compare(&rt, rt.alloc(), Choice::Queue, &rows);
@@ -135,7 +122,8 @@ fn bad_transfer_lines(rt: HostRuntime) -> Result<(), Fail> {
         b"takeall 0 0",
         b"clear 0",
     ];
-    refuse(&rt, rt.alloc(), Choice::Transfer, &bad)
+    refuse(&rt, rt.alloc(), Choice::Transfer, GOOD, &bad)?;
+    Ok(())
 }
 
 #[test]
@@ -168,5 +156,6 @@ fn bad_queue_lines(rt: HostRuntime) -> Result<(), Fail> {
         b"push 0 1 1",
         b"takeall 0",
     ];
-    refuse(&rt, rt.alloc(), Choice::Queue, &bad)
+    refuse(&rt, rt.alloc(), Choice::Queue, GOOD, &bad)?;
+    Ok(())
 }

@@ -1,8 +1,12 @@
-//! Tests of the program: whole scripts and their replies, streams that fail, lines, and two threads that share.
+//! Tests of the program: whole scripts and their replies, streams that fail, lines, words, and two threads that share.
 #![tactic(auto)]
 
 #[cfg(test)]
+mod compared;
+#[cfg(test)]
 mod core_scripts;
+#[cfg(test)]
+mod failures;
 #[cfg(test)]
 mod list_lines;
 #[cfg(test)]
@@ -11,3 +15,9 @@ mod list_scripts;
 mod scripts;
 #[cfg(test)]
 mod shares;
+#[cfg(test)]
+mod stored;
+#[cfg(test)]
+mod streams;
+#[cfg(test)]
+mod words;

@@ -1,9 +1,17 @@
 //! What no clause says: that a line is read where there is memory, and that the lines of the specification are these.
 
+use crate::compared::same;
 use cordyceps::replay::{ListCommand, Turn};
 use replay_lines::cursor_command::read_cursor_command;
 use replay_lines::list_command::{Entry, read_entry};
+use std::alloc::{AllocError, Global};
 use std::test::Fail;
+
+/// Whether a line is read outside of blocks, and within them.
+fn reads(alloc: Global, line: &str) -> Result<(bool, bool), AllocError> {
+    let outside = read_entry(alloc, line.as_bytes())?.is_some();
+    Ok((outside, read_cursor_command(line.as_bytes()).is_some()))
+}
 
 #[test]
 fn reads_each_line(rt: HostRuntime) -> Result<(), Fail> {
@@ -30,9 +38,7 @@ fn reads_each_line(rt: HostRuntime) -> Result<(), Fail> {
         "cursor 8 front",
         "cursor 9 back",
     ] {
-        let read = read_entry(rt.alloc(), line.as_bytes())?;
-        assert!(rt; read.is_some(), "{line}");
-        assert!(rt; read_cursor_command(line.as_bytes()).is_none(), "{line}");
+        same(&rt, (line, reads(rt.alloc(), line)?), (line, (true, false)));
     }
     Ok(())
 }
@@ -63,9 +69,7 @@ fn reads_each_line_of_a_block(rt: HostRuntime) -> Result<(), Fail> {
         "spliceb 2",
         "end",
     ] {
-        assert!(rt; read_cursor_command(line.as_bytes()).is_some(), "{line}");
-        let read = read_entry(rt.alloc(), line.as_bytes())?;
-        assert!(rt; read.is_none(), "{line}");
+        same(&rt, (line, reads(rt.alloc(), line)?), (line, (false, true)));
     }
     Ok(())
 }
@@ -99,9 +103,11 @@ fn refuses_bad_lines(rt: HostRuntime) -> Result<(), Fail> {
         "splita 16",
         "set",
     ] {
-        let read = read_entry(rt.alloc(), line.as_bytes())?;
-        assert!(rt; read.is_none(), "{line}");
-        assert!(rt; read_cursor_command(line.as_bytes()).is_none(), "{line}");
+        same(
+            &rt,
+            (line, reads(rt.alloc(), line)?),
+            (line, (false, false)),
+        );
     }
     Ok(())
 }
@@ -112,10 +118,7 @@ fn reads_turns(rt: HostRuntime) -> Result<(), Fail> {
     let Some(Entry::Command(ListCommand::Walk(list, turns))) = read else {
         return Err(Fail::from("no walk"));
     };
-    assert_eq!(rt; list, 15);
-    assert_eq!(rt;
-        turns.as_slice(),
-        [Turn::Next, Turn::NextBack, Turn::Next].as_slice()
-    );
+    let wanted = [Turn::Next, Turn::NextBack, Turn::Next];
+    same(&rt, (list, turns.as_slice()), (15, wanted.as_slice()));
     Ok(())
 }

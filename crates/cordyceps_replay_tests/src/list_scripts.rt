@@ -1,14 +1,13 @@
 //! Scripts in mode `list`: whole lists, and cursor blocks.
 
-use crate::scripts::{Script, outcome, whole};
+use crate::compared::same;
+use crate::streams::{Row, Script, compare, gives, outcome, whole};
 use replay_driver::fault::Fault;
+use replay_sessions::modes::Choice;
 use std::test::Fail;
 
-/// A script, its replies, and how it ends.
-type Row<'a> = (&'a [u8], &'a [u8], Result<(), Fault>);
-
 #[test]
-fn whole_lists(rt: HostRuntime) -> Result<(), Fail> {
+fn whole_lists(rt: HostRuntime) {
     let table: [Row; 4] = [
         (
             b"pushb 0 1 1\npushb 0 2 2\npushb 0 3 3\npushb 0 4 4\nwalk 0 nnbbnb\nsetb 0 9\nback 0\nsetf 1 9\nlen 0\n",
@@ -31,16 +30,11 @@ fn whole_lists(rt: HostRuntime) -> Result<(), Fail> {
             Ok(()),
         ),
     ];
-    for (lines, expected, ending) in table {
-        let (end, text) = outcome(rt.alloc(), whole(lines));
-        assert_eq!(rt; end, ending, "at {lines:?}");
-        assert_eq!(rt; text.as_slice(), expected, "at {lines:?}");
-    }
-    Ok(())
+    compare(&rt, rt.alloc(), Choice::List, &table);
 }
 
 #[test]
-fn blocks(rt: HostRuntime) -> Result<(), Fail> {
+fn blocks(rt: HostRuntime) {
     let table: [Row; 6] = [
         (
             b"pushb 0 1 1\npushb 0 2 2\npushb 0 3 3\ncursor 0 front\nprev\nindex\nprev\ncur\nindex\nsplitb 1\nindex\nend\nshow 0\nshow 1\n",
@@ -65,12 +59,7 @@ fn blocks(rt: HostRuntime) -> Result<(), Fail> {
         (b"cursor 15 back\nlen", b"ok\nlen 0\n", Ok(())),
         (b"cursor 3 front", b"ok\n", Ok(())),
     ];
-    for (lines, expected, ending) in table {
-        let (end, text) = outcome(rt.alloc(), whole(lines));
-        assert_eq!(rt; end, ending, "at {lines:?}");
-        assert_eq!(rt; text.as_slice(), expected, "at {lines:?}");
-    }
-    Ok(())
+    compare(&rt, rt.alloc(), Choice::List, &table);
 }
 
 #[test]
@@ -80,9 +69,8 @@ fn a_block_before_a_failed_read(rt: HostRuntime) -> Result<(), Fail> {
         at_once: 5,
         fails: true,
     };
-    let (end, text) = outcome(rt.alloc(), input);
-    assert_eq!(rt; end, Err(Fault::Read));
-    assert_eq!(rt; text.as_slice(), b"ok\nok\nsome 1 1\n".as_slice());
+    let came = outcome(rt.alloc(), input);
+    gives(&rt, b"ne", came, Err(Fault::Read), b"ok\nok\nsome 1 1\n");
     Ok(())
 }
 
@@ -94,13 +82,12 @@ fn turns(rt: HostRuntime) -> Result<(), Fail> {
         lines.extend_from_slice(b"walk 0 ")?;
         lines.extend_from_slice(&letters[..count])?;
         let (end, text) = outcome(rt.alloc(), whole(&lines));
-        if count == 0 || count == 65 {
-            assert_eq!(rt; end, Err(Fault::BadLine(1)), "at {count}");
-            assert!(rt; text.is_empty(), "at {count}");
+        let (ends, length) = if count == 0 || count == 65 {
+            (Err(Fault::BadLine(1)), 0)
         } else {
-            assert_eq!(rt; end, Ok(()), "at {count}");
-            assert_eq!(rt; text.len(), 5 + 2 * count, "at {count}");
-        }
+            (Ok(()), 5 + 2 * count)
+        };
+        same(&rt, (count, end, text.len()), (count, ends, length));
     }
     Ok(())
 }
@@ -109,9 +96,8 @@ fn turns(rt: HostRuntime) -> Result<(), Fail> {
 fn lines_in_the_wrong_place(rt: HostRuntime) -> Result<(), Fail> {
     let outside: [&[u8]; 6] = [b"next", b"end", b"cur", b"len", b"cursor 0", b"walk 0 nx"];
     for line in outside {
-        let (end, text) = outcome(rt.alloc(), whole(line));
-        assert_eq!(rt; end, Err(Fault::BadLine(1)), "at {line:?}");
-        assert!(rt; text.is_empty(), "at {line:?}");
+        let came = outcome(rt.alloc(), whole(line));
+        gives(&rt, line, came, Err(Fault::BadLine(1)), b"");
     }
     let inside: [&[u8]; 6] = [
         b"len 0",
@@ -126,9 +112,8 @@ fn lines_in_the_wrong_place(rt: HostRuntime) -> Result<(), Fail> {
         lines.extend_from_slice(b"cursor 0 front\nlen\n")?;
         lines.extend_from_slice(line)?;
         lines.extend_from_slice(b"\n")?;
-        let (end, text) = outcome(rt.alloc(), whole(&lines));
-        assert_eq!(rt; end, Err(Fault::BadLine(3)), "at {line:?}");
-        assert_eq!(rt; text.as_slice(), b"ok\nlen 0\n".as_slice(), "at {line:?}");
+        let came = outcome(rt.alloc(), whole(&lines));
+        gives(&rt, &lines, came, Err(Fault::BadLine(3)), b"ok\nlen 0\n");
     }
     Ok(())
 }

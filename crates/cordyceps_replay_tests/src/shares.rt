@@ -1,6 +1,7 @@
 //! Two threads that share a stack, and what mode `share` writes.
 
-use crate::scripts::Paper;
+use crate::compared::same;
+use crate::streams::{Paper, gives};
 use cordyceps::TransferStack;
 use replay_driver::fault::Fault;
 use replay_driver::sink::ToWrite;
@@ -107,24 +108,28 @@ fn shares<R: Threads + Wait + Abort + Sync, G: Gate>(rt: &R, alloc: Global, gate
         panic!(rt; "no memory for a stack");
     };
     match share(rt, alloc, gate, &stack, &mut party) {
-        Ok(values) => assert_eq!(rt; values.as_slice(), [10, 11, 20, 21].as_slice()),
+        Ok(values) => same(rt, values.as_slice(), [10, 11, 20, 21].as_slice()),
         Err(_) => panic!(rt; "no memory"),
     }
-    assert_eq!(rt; party.rooms(), 4);
-    assert!(rt; stack.is_empty(&mut party));
+    same(rt, (party.rooms(), stack.is_empty(&mut party)), (4, true));
 }
 
 #[test]
 fn share_workers_meet(rt: HostRuntime) -> Result<(), Fail> {
     let meeting = Meeting::new();
     shares(&rt, rt.alloc(), &meeting);
-    assert!(rt;
-        !meeting.alone.load(Ordering::SeqCst),
-        "a worker waited for the other in vain"
+    // none waited for the other in vain, none but the two came, and each passed once before each of its pushes
+    let alone = meeting.alone.load(Ordering::SeqCst);
+    let strange = meeting.strange.load(Ordering::SeqCst);
+    let complete = (
+        meeting.workers.0.is_complete(),
+        meeting.workers.1.is_complete(),
     );
-    assert!(rt; !meeting.strange.load(Ordering::SeqCst));
-    assert!(rt; meeting.workers.0.is_complete());
-    assert!(rt; meeting.workers.1.is_complete());
+    same(
+        &rt,
+        (alone, strange, complete),
+        (false, false, (true, true)),
+    );
     Ok(())
 }
 
@@ -152,12 +157,8 @@ fn a_shared_run_writes_its_line(rt: HostRuntime) -> Result<(), Fail> {
             } else {
                 Ok(())
             };
-            assert_eq!(rt; end, expected, "at {room}");
-            assert_eq!(rt;
-                output.into_inner().written.as_slice(),
-                &line[..room],
-                "at {room}"
-            );
+            let written = output.into_inner().written;
+            gives(&rt, b"", (end, written), expected, &line[..room]);
         }
     }
     Ok(())

@@ -1,63 +1,66 @@
+//! Commands on lists, with blocks of commands at a cursor.
 ghost use Rattle.std.specs.Prelude.{All, IfOk};
 ghost use Rattle.cordyceps.specs.Lists.{Fits};
 ghost use Rattle.cordyceps.specs.Blocks.{BlockFits};
 
-use crate::made::{block_of, queue_of, show_of};
-use cordyceps::replay::{
-    CursorCommand, Filter, Item, ListCommand, ListEnd, Lists, Reply, Turn, replay_lists,
-};
+use crate::made::{FIVE, FOUR, ONE, THREE, TWO, Want, queue_of};
+use crate::replays::replies;
+use cordyceps::replay::{CursorCommand, Filter, Item, ListCommand, ListEnd, Lists, Turn};
 use std::alloc::{AllocError, Global};
 use std::collections::VecDeque;
 use std::process::Abort;
 use std::test::Fail;
 
-fn item(id: u64, value: u64) -> Item {
-    Item { value, id }
-}
-
-/// Runs the commands on empty lists, and asserts what they reply.
-fn replies(rt: &impl Abort, alloc: Global, commands: VecDeque<ListCommand>, expected: &[Reply])
-    requires { All Fits commands.items }
-{
-    let mut lists = Lists::new();
-    let played = replay_lists(alloc, &mut lists, commands);
-    assert_eq!(rt; played.replies.as_slice(), expected);
-    assert_eq!(rt; played.rest.len(), 0);
-}
-
-/// Runs a block at the front of a list of the items 1, 2 and 3, and asserts what it replies and what two lists hold then.
-fn block_replies(
+/// Runs a block at the front of a list of the items 1, 2 and 3, and asserts what it replies and what two lists hold
+/// then.
+fn block_replies<'w>(
     rt: &impl Abort,
     alloc: Global,
     lines: Vec<CursorCommand>,
-    block: Reply,
-    first: &[(u64, u64)],
-    second: &[(u64, u64)],
+    block: &'w [Want<'w>],
+    first: &'w [Item],
+    second: &'w [Item],
 ) -> Result<(), AllocError>
     requires { BlockFits lines.items }
 {
     let commands = queue_of(
         alloc,
         [
-            ListCommand::PushBack(0, item(1, 1)),
-            ListCommand::PushBack(0, item(2, 2)),
-            ListCommand::PushBack(0, item(3, 3)),
+            ListCommand::PushBack(0, ONE),
+            ListCommand::PushBack(0, TWO),
+            ListCommand::PushBack(0, THREE),
             ListCommand::Cursor(0, ListEnd::Front, lines),
             ListCommand::Show(0),
             ListCommand::Show(1),
         ],
     )?;
-    let first = show_of(alloc, first)?;
-    let second = show_of(alloc, second)?;
-    let expected = [Reply::Done, Reply::Done, Reply::Done, block, first, second];
-    replies(rt, alloc, commands, expected.as_slice());
-    Ok(())
+    let wants = [
+        Want::Done,
+        Want::Done,
+        Want::Done,
+        Want::Block(block),
+        Want::Items(first),
+        Want::Items(second),
+    ];
+    replies(rt, alloc, Lists::new(), commands, &wants)
 }
+
+/// The replies to the lines of the next test's block.
+const SPLIT: [Want<'static>; 9] = [
+    Want::Done,
+    Want::Done,
+    Want::Nothing,
+    Want::Done,
+    Want::Found(THREE),
+    Want::Index(2),
+    Want::Done,
+    Want::Index(0),
+    Want::Done,
+];
 
 #[test]
 fn splits_at_a_cursor(rt: HostRuntime) -> Result<(), Fail> {
-    let alloc = rt.alloc();
-    let lines = vec![in alloc;
+    let lines = vec![in rt.alloc();
         CursorCommand::MovePrev,
         CursorCommand::Index,
         CursorCommand::MovePrev,
@@ -67,36 +70,21 @@ fn splits_at_a_cursor(rt: HostRuntime) -> Result<(), Fail> {
         CursorCommand::Index,
         CursorCommand::End,
     ]?;
-    let block = block_of(
-        alloc,
-        [
-            Reply::Done,
-            Reply::Done,
-            Reply::Nothing,
-            Reply::Done,
-            Reply::Found(item(3, 3)),
-            Reply::Index(2),
-            Reply::Done,
-            Reply::Index(0),
-            Reply::Done,
-        ],
-    )?;
-    block_replies(&rt, alloc, lines, block, &[(3, 3)], &[(1, 1), (2, 2)])?;
+    block_replies(&rt, rt.alloc(), lines, &SPLIT, &[THREE], &[ONE, TWO])?;
     Ok(())
 }
 
 #[test]
 fn walks_from_both_ends(rt: HostRuntime) -> Result<(), Fail> {
-    let alloc = rt.alloc();
     let (forth, back) = (Turn::Next, Turn::NextBack);
-    let turns = vec![in alloc; forth, forth, back, back, forth, back]?;
+    let turns = vec![in rt.alloc(); forth, forth, back, back, forth, back]?;
     let commands = queue_of(
-        alloc,
+        rt.alloc(),
         [
-            ListCommand::PushBack(0, item(1, 1)),
-            ListCommand::PushBack(0, item(2, 2)),
-            ListCommand::PushBack(0, item(3, 3)),
-            ListCommand::PushBack(0, item(4, 4)),
+            ListCommand::PushBack(0, ONE),
+            ListCommand::PushBack(0, TWO),
+            ListCommand::PushBack(0, THREE),
+            ListCommand::PushBack(0, FOUR),
             ListCommand::Walk(0, turns),
             ListCommand::SetBack(0, 9),
             ListCommand::Back(0),
@@ -104,20 +92,18 @@ fn walks_from_both_ends(rt: HostRuntime) -> Result<(), Fail> {
             ListCommand::Len(0),
         ],
     )?;
-    let (one, two, three, four) = (item(1, 1), item(2, 2), item(3, 3), item(4, 4));
-    let seen = vec![in alloc; Some(one), Some(two), Some(four), Some(three), None, None]?;
-    let expected = [
-        Reply::Done,
-        Reply::Done,
-        Reply::Done,
-        Reply::Done,
-        Reply::Show(seen),
-        Reply::Done,
-        Reply::Found(item(4, 9)),
-        Reply::Nothing,
-        Reply::Len(4),
+    let wants = [
+        Want::Done,
+        Want::Done,
+        Want::Done,
+        Want::Done,
+        Want::Seen(&[Some(ONE), Some(TWO), Some(FOUR), Some(THREE), None, None]),
+        Want::Done,
+        Want::Found(Item { value: 9, id: 4 }),
+        Want::Nothing,
+        Want::Len(4),
     ];
-    replies(&rt, alloc, commands, expected.as_slice());
+    replies(&rt, rt.alloc(), Lists::new(), commands, &wants)?;
     Ok(())
 }
 
@@ -129,9 +115,9 @@ fn moves(alloc: Global) -> Result<VecDeque<ListCommand>, AllocError>
     queue_of(
         alloc,
         [
-            ListCommand::PushBack(0, item(5, 50)),
-            ListCommand::PushBack(0, item(7, 70)),
-            ListCommand::PushBack(0, item(7, 71)),
+            ListCommand::PushBack(0, Item { value: 50, id: 5 }),
+            ListCommand::PushBack(0, Item { value: 70, id: 7 }),
+            ListCommand::PushBack(0, Item { value: 71, id: 7 }),
             ListCommand::Split(0, 9, 1),
             ListCommand::Split(0, 2, 0),
             ListCommand::Append(0, 0),
@@ -148,114 +134,105 @@ fn moves(alloc: Global) -> Result<VecDeque<ListCommand>, AllocError>
 
 #[test]
 fn moves_items_between_lists(rt: HostRuntime) -> Result<(), Fail> {
-    let alloc = rt.alloc();
-    let none = show_of(alloc, &[])?;
-    let handed = vec![in alloc; Some(item(5, 50)), None]?;
-    let left = show_of(alloc, &[])?;
-    let expected = [
-        Reply::Done,
-        Reply::Done,
-        Reply::Done,
-        Reply::Nothing,
-        Reply::NotThere,
-        Reply::NotThere,
-        Reply::Found(item(7, 70)),
-        Reply::Found(item(7, 71)),
-        Reply::Nothing,
-        Reply::Done,
-        none,
-        Reply::Show(handed),
-        left,
+    let wants = [
+        Want::Done,
+        Want::Done,
+        Want::Done,
+        Want::Nothing,
+        Want::NotThere,
+        Want::NotThere,
+        Want::Found(Item { value: 70, id: 7 }),
+        Want::Found(Item { value: 71, id: 7 }),
+        Want::Nothing,
+        Want::Done,
+        Want::Items(&[]),
+        Want::Seen(&[Some(Item { value: 50, id: 5 }), None]),
+        Want::Items(&[]),
     ];
-    replies(&rt, alloc, moves(alloc)?, expected.as_slice());
+    replies(&rt, rt.alloc(), Lists::new(), moves(rt.alloc())?, &wants)?;
     Ok(())
 }
 
 #[test]
 fn drains_what_passes(rt: HostRuntime) -> Result<(), Fail> {
-    let alloc = rt.alloc();
     let commands = queue_of(
-        alloc,
+        rt.alloc(),
         [
-            ListCommand::PushBack(0, item(1, 1)),
-            ListCommand::PushBack(0, item(2, 2)),
-            ListCommand::PushBack(0, item(3, 3)),
-            ListCommand::PushBack(0, item(4, 4)),
+            ListCommand::PushBack(0, ONE),
+            ListCommand::PushBack(0, TWO),
+            ListCommand::PushBack(0, THREE),
+            ListCommand::PushBack(0, FOUR),
             ListCommand::Drain(0, Filter::Even, 1),
             ListCommand::Show(0),
             ListCommand::Drain(0, Filter::Alternate, 5),
             ListCommand::Show(0),
         ],
     )?;
-    let even = show_of(alloc, &[(2, 2)])?;
-    let left = show_of(alloc, &[(1, 1), (3, 3), (4, 4)])?;
-    let alternate = show_of(alloc, &[(1, 1), (4, 4)])?;
-    let last = show_of(alloc, &[(3, 3)])?;
-    let expected = [
-        Reply::Done,
-        Reply::Done,
-        Reply::Done,
-        Reply::Done,
-        even,
-        left,
-        alternate,
-        last,
+    let wants = [
+        Want::Done,
+        Want::Done,
+        Want::Done,
+        Want::Done,
+        Want::Items(&[TWO]),
+        Want::Items(&[ONE, THREE, FOUR]),
+        Want::Items(&[ONE, FOUR]),
+        Want::Items(&[THREE]),
     ];
-    replies(&rt, alloc, commands, expected.as_slice());
+    replies(&rt, rt.alloc(), Lists::new(), commands, &wants)?;
     Ok(())
 }
 
 #[test]
 fn bumps_past_the_largest(rt: HostRuntime) -> Result<(), Fail> {
-    let alloc = rt.alloc();
+    let largest = Item {
+        value: u64::MAX,
+        id: 1,
+    };
     let commands = queue_of(
-        alloc,
+        rt.alloc(),
         [
-            ListCommand::PushBack(3, item(1, u64::MAX)),
-            ListCommand::PushBack(3, item(2, 5)),
+            ListCommand::PushBack(3, largest),
+            ListCommand::PushBack(3, Item { value: 5, id: 2 }),
             ListCommand::Bump(3, 2),
             ListCommand::Show(3),
         ],
     )?;
-    let left = show_of(alloc, &[(1, 1), (2, 7)])?;
-    let expected = [Reply::Done, Reply::Done, Reply::Done, left];
-    replies(&rt, alloc, commands, expected.as_slice());
+    let left = [ONE, Item { value: 7, id: 2 }];
+    let wants = [Want::Done, Want::Done, Want::Done, Want::Items(&left)];
+    replies(&rt, rt.alloc(), Lists::new(), commands, &wants)?;
     Ok(())
 }
 
 /// The replies to the lines of the next test's block.
-fn at_the_null_place(alloc: Global) -> Result<Reply, AllocError> {
-    block_of(
-        alloc,
-        [
-            Reply::Done,
-            Reply::Done,
-            Reply::Done,
-            Reply::Done,
-            Reply::Nothing,
-            Reply::Done,
-            Reply::Index(4),
-            Reply::Done,
-            Reply::Done,
-            Reply::Done,
-            Reply::Done,
-            Reply::Nothing,
-            Reply::Done,
-            Reply::Nothing,
-            Reply::Done,
-            Reply::Found(item(4, 4)),
-            Reply::Done,
-        ],
-    )
-}
+const AT_THE_NULL_PLACE: [Want<'static>; 17] = [
+    Want::Done,
+    Want::Done,
+    Want::Done,
+    Want::Done,
+    Want::Nothing,
+    Want::Done,
+    Want::Index(4),
+    Want::Done,
+    Want::Done,
+    Want::Done,
+    Want::Done,
+    Want::Nothing,
+    Want::Done,
+    Want::Nothing,
+    Want::Done,
+    Want::Found(FOUR),
+    Want::Done,
+];
+
+/// What the list holds after it.
+const PUT_IN: [Item; 5] = [FOUR, ONE, TWO, THREE, FIVE];
 
 #[test]
 fn inserts_and_splices_at_the_null_place(rt: HostRuntime) -> Result<(), Fail> {
-    let alloc = rt.alloc();
-    let lines = vec![in alloc;
+    let lines = vec![in rt.alloc();
         CursorCommand::MovePrev,
-        CursorCommand::InsertAfter(item(4, 4)),
-        CursorCommand::InsertBefore(item(5, 5)),
+        CursorCommand::InsertAfter(FOUR),
+        CursorCommand::InsertBefore(FIVE),
         CursorCommand::Index,
         CursorCommand::MovePrev,
         CursorCommand::Index,
@@ -270,16 +247,13 @@ fn inserts_and_splices_at_the_null_place(rt: HostRuntime) -> Result<(), Fail> {
         CursorCommand::Current,
         CursorCommand::End,
     ]?;
-    let block = at_the_null_place(alloc)?;
-    let left = [(4, 4), (1, 1), (2, 2), (3, 3), (5, 5)];
-    block_replies(&rt, alloc, lines, block, &left, &[])?;
+    block_replies(&rt, rt.alloc(), lines, &AT_THE_NULL_PLACE, &PUT_IN, &[])?;
     Ok(())
 }
 
 #[test]
 fn removes_the_first_that_passes(rt: HostRuntime) -> Result<(), Fail> {
-    let alloc = rt.alloc();
-    let lines = vec![in alloc;
+    let lines = vec![in rt.alloc();
         CursorCommand::RemoveFirst(Filter::All),
         CursorCommand::Index,
         CursorCommand::RemoveFirst(Filter::All),
@@ -287,53 +261,47 @@ fn removes_the_first_that_passes(rt: HostRuntime) -> Result<(), Fail> {
         CursorCommand::Current,
     ]?;
     let commands = queue_of(
-        alloc,
+        rt.alloc(),
         [
-            ListCommand::PushBack(0, item(1, 1)),
-            ListCommand::PushBack(0, item(2, 2)),
+            ListCommand::PushBack(0, ONE),
+            ListCommand::PushBack(0, TWO),
             ListCommand::Cursor(0, ListEnd::Back, lines),
         ],
     )?;
-    let block = block_of(
-        alloc,
-        [
-            Reply::Done,
-            Reply::Found(item(2, 2)),
-            Reply::Nothing,
-            Reply::Nothing,
-            Reply::Done,
-            Reply::Found(item(1, 1)),
-        ],
-    )?;
-    let expected = [Reply::Done, Reply::Done, block];
-    replies(&rt, alloc, commands, expected.as_slice());
+    let block = [
+        Want::Done,
+        Want::Found(TWO),
+        Want::Nothing,
+        Want::Nothing,
+        Want::Done,
+        Want::Found(ONE),
+    ];
+    let wants = [Want::Done, Want::Done, Want::Block(&block)];
+    replies(&rt, rt.alloc(), Lists::new(), commands, &wants)?;
     Ok(())
 }
 
 /// The replies to the lines of the next test's block.
-fn sets_and_splices(alloc: Global) -> Result<Reply, AllocError> {
-    block_of(
-        alloc,
-        [
-            Reply::Done,
-            Reply::Done,
-            Reply::Done,
-            Reply::Nothing,
-            Reply::Found(item(1, 10)),
-            Reply::Found(item(1, 10)),
-            Reply::Nothing,
-            Reply::Done,
-            Reply::NotThere,
-            Reply::Found(item(2, 20)),
-            Reply::Len(2),
-        ],
-    )
-}
+const SET_AND_SPLICED: [Want<'static>; 11] = [
+    Want::Done,
+    Want::Done,
+    Want::Done,
+    Want::Nothing,
+    Want::Found(Item { value: 10, id: 1 }),
+    Want::Found(Item { value: 10, id: 1 }),
+    Want::Nothing,
+    Want::Done,
+    Want::NotThere,
+    Want::Found(Item { value: 20, id: 2 }),
+    Want::Len(2),
+];
+
+/// What the list holds after it.
+const LEFT: [Item; 2] = [Item { value: 10, id: 1 }, THREE];
 
 #[test]
 fn sets_steps_and_splices_behind(rt: HostRuntime) -> Result<(), Fail> {
-    let alloc = rt.alloc();
-    let lines = vec![in alloc;
+    let lines = vec![in rt.alloc();
         CursorCommand::Set(10),
         CursorCommand::SetNext(20),
         CursorCommand::SetPrev(30),
@@ -346,18 +314,22 @@ fn sets_steps_and_splices_behind(rt: HostRuntime) -> Result<(), Fail> {
         CursorCommand::Len,
     ]?;
     let commands = queue_of(
-        alloc,
+        rt.alloc(),
         [
-            ListCommand::PushBack(0, item(1, 1)),
-            ListCommand::PushBack(0, item(2, 2)),
-            ListCommand::PushBack(1, item(3, 3)),
+            ListCommand::PushBack(0, ONE),
+            ListCommand::PushBack(0, TWO),
+            ListCommand::PushBack(1, THREE),
             ListCommand::Cursor(0, ListEnd::Front, lines),
             ListCommand::Show(0),
         ],
     )?;
-    let block = sets_and_splices(alloc)?;
-    let left = show_of(alloc, &[(1, 10), (3, 3)])?;
-    let expected = [Reply::Done, Reply::Done, Reply::Done, block, left];
-    replies(&rt, alloc, commands, expected.as_slice());
+    let wants = [
+        Want::Done,
+        Want::Done,
+        Want::Done,
+        Want::Block(&SET_AND_SPLICED),
+        Want::Items(&LEFT),
+    ];
+    replies(&rt, rt.alloc(), Lists::new(), commands, &wants)?;
     Ok(())
 }

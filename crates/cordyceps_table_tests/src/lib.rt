@@ -4,6 +4,8 @@
 #[cfg(test)]
 mod block_replays;
 #[cfg(test)]
+mod compared;
+#[cfg(test)]
 mod made;
 #[cfg(test)]
 mod replays;

@@ -1,9 +1,26 @@
-//! Queues of commands, and replies that hold more than one.
+//! Items, queues of commands, and the replies that are wanted.
 ghost use Rattle.std.specs.Prelude.{◌≡◌, IfOk};
 
+use crate::compared::same;
 use cordyceps::replay::{Item, Reply};
 use std::alloc::{AllocError, Global};
 use std::collections::VecDeque;
+use std::process::Abort;
+
+/// The item whose number and value are 1.
+pub const ONE: Item = Item { value: 1, id: 1 };
+
+/// The item whose number and value are 2.
+pub const TWO: Item = Item { value: 2, id: 2 };
+
+/// The item whose number and value are 3.
+pub const THREE: Item = Item { value: 3, id: 3 };
+
+/// The item whose number and value are 4.
+pub const FOUR: Item = Item { value: 4, id: 4 };
+
+/// The item whose number and value are 5.
+pub const FIVE: Item = Item { value: 5, id: 5 };
 
 /// A queue of the commands.
 pub fn queue_of<C: Drop, const N: usize>(
@@ -15,19 +32,96 @@ pub fn queue_of<C: Drop, const N: usize>(
     Ok(VecDeque::from_array(alloc, commands)?)
 }
 
-/// A reply that shows items, each given by its number and its value.
-pub fn show_of(alloc: Global, items: &[(u64, u64)]) -> Result<Reply, AllocError> {
-    let mut shown = Vec::new(alloc);
-    for (id, value) in items {
-        shown.push(Some(Item {
-            value: *value,
-            id: *id,
-        }))?;
-    }
-    Ok(Reply::Show(shown))
+/// A reply that is wanted. It takes no memory, so that it can stand in a table.
+#[derive(Clone, Copy)]
+pub enum Want<'a> {
+    /// The command was run.
+    Done,
+    /// There is no such item or place.
+    Nothing,
+    /// The command's condition was not met.
+    NotThere,
+    /// This item was found.
+    Found(Item),
+    /// There are so many items.
+    Len(u64),
+    /// A cursor is at this index.
+    Index(u64),
+    /// Whether it is so.
+    Truth(bool),
+    /// These items are shown.
+    Items(&'a [Item]),
+    /// These items are shown, and where there was none.
+    Seen(&'a [Option<Item>]),
+    /// The lines of a block have these replies, of which none holds more.
+    Block(&'a [Want<'a>]),
 }
 
-/// The reply to a block, whose lines have these.
-pub fn block_of<const N: usize>(alloc: Global, replies: [Reply; N]) -> Result<Reply, AllocError> {
-    Ok(Reply::Block(Vec::from_array(alloc, replies)?))
+/// The reply of a line of a block.
+fn line_of(rt: &impl Abort, want: Want<'_>) -> Reply {
+    match want {
+        Want::Done => Reply::Done,
+        Want::Nothing => Reply::Nothing,
+        Want::NotThere => Reply::NotThere,
+        Want::Found(item) => Reply::Found(item),
+        Want::Len(len) => Reply::Len(len),
+        Want::Index(index) => Reply::Index(index),
+        Want::Truth(truth) => Reply::Truth(truth),
+        Want::Items(_) | Want::Seen(_) | Want::Block(_) => panic!(rt; "a line holds no more"),
+    }
+}
+
+/// The replies of the lines of a block.
+fn lines_of(rt: &impl Abort, alloc: Global, wants: &[Want<'_>]) -> Result<Vec<Reply>, AllocError> {
+    let mut replies = Vec::new(alloc);
+    for want in wants {
+        replies.push(line_of(rt, *want))?;
+    }
+    Ok(replies)
+}
+
+/// Items that are shown.
+fn shown(alloc: Global, items: &[Item]) -> Result<Vec<Option<Item>>, AllocError> {
+    let mut shown = Vec::new(alloc);
+    for item in items {
+        shown.push(Some(*item))?;
+    }
+    Ok(shown)
+}
+
+/// The reply that is wanted.
+fn reply_of(rt: &impl Abort, alloc: Global, want: Want<'_>) -> Result<Reply, AllocError> {
+    match want {
+        Want::Items(items) => Ok(Reply::Show(shown(alloc, items)?)),
+        Want::Seen(items) => Ok(Reply::Show(items.to_vec(alloc)?)),
+        Want::Block(lines) => Ok(Reply::Block(lines_of(rt, alloc, lines)?)),
+        plain => Ok(line_of(rt, plain)),
+    }
+}
+
+/// The replies that are wanted.
+fn replies_of(
+    rt: &impl Abort,
+    alloc: Global,
+    wants: &[Want<'_>],
+) -> Result<Vec<Reply>, AllocError> {
+    let mut replies = Vec::new(alloc);
+    for want in wants {
+        replies.push(reply_of(rt, alloc, *want)?)?;
+    }
+    Ok(replies)
+}
+
+/// Asserts that all commands were replayed, and what was replied.
+pub fn replied(
+    rt: &impl Abort,
+    alloc: Global,
+    replies: &[Reply],
+    left: usize,
+    wants: &[Want<'_>],
+) -> Result<(), AllocError> {
+    let wanted = replies_of(rt, alloc, wants)?;
+    same(rt, replies, wanted.as_slice());
+    same(rt, left, 0);
+    Ok(())
 }

@@ -1,53 +1,73 @@
-use crate::made::queue_of;
-use cordyceps::replay::{Item, ListCommand, Lists, Reply, replay_lists};
-use cordyceps::{Kind, Linked, Node, Refused, list, mpsc_queue, stack};
+//! Commands on lists, and an item as a handle of each kind.
+ghost use Rattle.std.specs.Prelude.{All};
+ghost use Rattle.cordyceps.specs.Lists.{Fits};
+
+use crate::compared::same;
+use crate::made::{ONE, THREE, TWO, Want, queue_of, replied};
+use cordyceps::replay::{Item, ListCommand, Lists, replay_lists};
+use cordyceps::{Linked, Node, list, mpsc_queue, stack};
+use cordyceps_testing::nodes::node_of;
 use std::alloc::{AllocError, Global};
+use std::collections::VecDeque;
+use std::process::Abort;
 use std::test::Fail;
 
-fn item(value: u64, id: u64) -> Item {
-    Item { value, id }
+/// Runs the commands on the lists, and asserts what they reply.
+pub fn replies(
+    rt: &impl Abort,
+    alloc: Global,
+    lists: Lists,
+    commands: VecDeque<ListCommand>,
+    wants: &[Want<'_>],
+) -> Result<(), AllocError>
+    requires { All Fits commands.items }
+{
+    let mut lists = lists;
+    let played = replay_lists(alloc, &mut lists, commands);
+    replied(
+        rt,
+        alloc,
+        played.replies.as_slice(),
+        played.rest.len(),
+        wants,
+    )
 }
 
 #[test]
 fn pushes_and_pops(rt: HostRuntime) -> Result<(), Fail> {
-    let alloc = rt.alloc();
     let commands = queue_of(
-        alloc,
+        rt.alloc(),
         [
-            ListCommand::PushBack(0, item(1, 1)),
-            ListCommand::PushBack(0, item(2, 2)),
-            ListCommand::PushFront(0, item(3, 3)),
+            ListCommand::PushBack(0, ONE),
+            ListCommand::PushBack(0, TWO),
+            ListCommand::PushFront(0, THREE),
             ListCommand::PopFront(0),
             ListCommand::PopBack(0),
             ListCommand::Len(0),
             ListCommand::PopFront(1),
         ],
     )?;
-    let mut lists = Lists::new();
-    let played = replay_lists(alloc, &mut lists, commands);
-    let expected = [
-        Reply::Done,
-        Reply::Done,
-        Reply::Done,
-        Reply::Found(item(3, 3)),
-        Reply::Found(item(2, 2)),
-        Reply::Len(1),
-        Reply::Nothing,
+    let wants = [
+        Want::Done,
+        Want::Done,
+        Want::Done,
+        Want::Found(THREE),
+        Want::Found(TWO),
+        Want::Len(1),
+        Want::Nothing,
     ];
-    assert_eq!(rt; played.replies.as_slice(), expected.as_slice());
-    assert_eq!(rt; played.rest.len(), 0);
+    replies(&rt, rt.alloc(), Lists::new(), commands, &wants)?;
     Ok(())
 }
 
 #[test]
 fn looks_and_sets(rt: HostRuntime) -> Result<(), Fail> {
-    let alloc = rt.alloc();
     let commands = queue_of(
-        alloc,
+        rt.alloc(),
         [
             ListCommand::SetFront(15, 7),
-            ListCommand::PushBack(15, item(1, 10)),
-            ListCommand::PushBack(15, item(2, 20)),
+            ListCommand::PushBack(15, Item { value: 1, id: 10 }),
+            ListCommand::PushBack(15, Item { value: 2, id: 20 }),
             ListCommand::SetFront(15, 7),
             ListCommand::SetBack(15, 8),
             ListCommand::Front(15),
@@ -55,50 +75,57 @@ fn looks_and_sets(rt: HostRuntime) -> Result<(), Fail> {
             ListCommand::Back(0),
         ],
     )?;
-    let mut lists = Lists::default();
-    let played = replay_lists(alloc, &mut lists, commands);
-    let expected = [
-        Reply::Nothing,
-        Reply::Done,
-        Reply::Done,
-        Reply::Done,
-        Reply::Done,
-        Reply::Found(item(7, 10)),
-        Reply::Found(item(8, 20)),
-        Reply::Nothing,
+    let wants = [
+        Want::Nothing,
+        Want::Done,
+        Want::Done,
+        Want::Done,
+        Want::Done,
+        Want::Found(Item { value: 7, id: 10 }),
+        Want::Found(Item { value: 8, id: 20 }),
+        Want::Nothing,
     ];
-    assert_eq!(rt; played.replies.as_slice(), expected.as_slice());
-    assert_eq!(rt; played.rest.len(), 0);
+    replies(&rt, rt.alloc(), Lists::default(), commands, &wants)?;
     Ok(())
 }
 
-/// A node that holds an item and has its number.
-fn node_of<L: Kind>(alloc: Global, item: Item) -> Result<Node<Item, L>, AllocError> {
-    match Node::new(alloc, item.id, item) {
-        Ok(node) => Ok(node),
-        Err(Refused { value: _ }) => Err(AllocError),
-    }
+/// Asserts the number of a node, and the item that it holds.
+fn holds<L>(rt: &impl Abort, node: &Node<Item, L>, id: u64, item: Item) {
+    same(rt, node.id(), id);
+    same(rt, *node.get(), item);
+}
+
+/// An item goes into a handle of a list's node, and comes out.
+fn in_list(rt: &impl Abort, alloc: Global, item: Item) -> Result<(), AllocError> {
+    let node: Node<Item, list::Links<Item>> = node_of(alloc, item.id, item)?;
+    let node: Node<Item, list::Links<Item>> = Item::into_ptr(Item::from_ptr(node));
+    holds(rt, &node, item.id, item);
+    Ok(())
+}
+
+/// An item goes into a handle of a stack's node, and comes out.
+fn in_stack(rt: &impl Abort, alloc: Global, item: Item) -> Result<(), AllocError> {
+    let node: Node<Item, stack::Links<Item>> = node_of(alloc, item.id, item)?;
+    let node: Node<Item, stack::Links<Item>> = Item::into_ptr(Item::from_ptr(node));
+    holds(rt, &node, item.id, item);
+    Ok(())
+}
+
+/// An item goes into a handle of a queue's node, and comes out.
+fn in_queue(rt: &impl Abort, alloc: Global, item: Item) -> Result<(), AllocError> {
+    let node: Node<Item, mpsc_queue::Links<Item>> = node_of(alloc, item.id, item)?;
+    let node: Node<Item, mpsc_queue::Links<Item>> = Item::into_ptr(Item::from_ptr(node));
+    holds(rt, &node, item.id, item);
+    Ok(())
 }
 
 #[test]
 fn an_item_is_its_own_handle(rt: HostRuntime) -> Result<(), Fail> {
-    let given = item(7, 8);
-    let alloc = rt.alloc();
-    let in_list: Node<Item, list::Links<Item>> = node_of(alloc, given)?;
-    let in_stack: Node<Item, stack::Links<Item>> = node_of(alloc, given)?;
-    let in_queue: Node<Item, mpsc_queue::Links<Item>> = node_of(alloc, given)?;
-    let (in_list, in_stack, in_queue) = (
-        Item::from_ptr(in_list),
-        Item::from_ptr(in_stack),
-        Item::from_ptr(in_queue),
-    );
-    let node: Node<Item, list::Links<Item>> = Item::into_ptr(in_list);
-    assert_eq!(rt; (node.id(), *node.get()), (8, given));
-    let node: Node<Item, stack::Links<Item>> = Item::into_ptr(in_stack);
-    assert_eq!(rt; (node.id(), *node.get()), (8, given));
-    let node: Node<Item, mpsc_queue::Links<Item>> = Item::into_ptr(in_queue);
-    assert_eq!(rt; (node.id(), *node.get()), (8, given));
-    assert!(rt; item(1, 9) < item(2, 0));
-    assert!(rt; item(1, 1) < item(1, 2));
+    let given = Item { value: 7, id: 8 };
+    in_list(&rt, rt.alloc(), given)?;
+    in_stack(&rt, rt.alloc(), given)?;
+    in_queue(&rt, rt.alloc(), given)?;
+    assert!(rt; Item { value: 1, id: 9 } < Item { value: 2, id: 0 });
+    assert!(rt; ONE < Item { value: 1, id: 2 });
     Ok(())
 }

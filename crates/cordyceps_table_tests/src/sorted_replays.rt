@@ -1,18 +1,15 @@
+//! Commands on sorted lists.
 ghost use Rattle.std.specs.Prelude.{◌≡◌, ◌/◌, ◌<◌, All, IfOk};
 ghost use Rattle.std.specs.Ordering.{nat_cmp};
 ghost use Rattle.cordyceps.specs.Sorteds.{Fits};
 
-use crate::made::{queue_of, show_of};
-use cordyceps::replay::{Item, Reply, SortedCommand, Sorteds, replay_sorted};
+use crate::made::{FIVE, Want, queue_of, replied};
+use cordyceps::replay::{Item, SortedCommand, Sorteds, replay_sorted};
 use std::alloc::{AllocError, Global};
 use std::cmp::Ordering;
 use std::collections::VecDeque;
 use std::process::Abort;
 use std::test::Fail;
-
-fn item(value: u64, id: u64) -> Item {
-    Item { value, id }
-}
 
 /// The order of the tens in the values.
 fn by_tens(first: &Item, second: &Item) -> Ordering
@@ -22,44 +19,75 @@ fn by_tens(first: &Item, second: &Item) -> Ordering
 }
 
 /// Runs the commands on empty lists, and asserts what they reply.
-fn replies(rt: &impl Abort, alloc: Global, commands: VecDeque<SortedCommand>, expected: &[Reply])
+fn replies(
+    rt: &impl Abort,
+    alloc: Global,
+    commands: VecDeque<SortedCommand>,
+    wants: &[Want<'_>],
+) -> Result<(), AllocError>
     requires { All Fits commands.items }
 {
     let mut sorteds = Sorteds::new(by_tens);
     let played = replay_sorted(alloc, &mut sorteds, commands);
-    assert_eq!(rt; played.replies.as_slice(), expected);
-    assert_eq!(rt; played.rest.len(), 0);
+    replied(
+        rt,
+        alloc,
+        played.replies.as_slice(),
+        played.rest.len(),
+        wants,
+    )
 }
+
+/// Four items, of which two pairs are equal in their tens.
+const FOUR_ITEMS: [Item; 4] = [
+    Item { value: 21, id: 1 },
+    Item { value: 11, id: 2 },
+    Item { value: 12, id: 3 },
+    Item { value: 20, id: 4 },
+];
+
+/// The items in their order.
+const IN_ORDER: [Item; 4] = [
+    Item { value: 12, id: 3 },
+    Item { value: 11, id: 2 },
+    Item { value: 20, id: 4 },
+    Item { value: 21, id: 1 },
+];
+
+/// The items in their order, where one came for the first.
+const THEN: [Item; 4] = [
+    Item { value: 11, id: 2 },
+    Item { value: 13, id: 6 },
+    Item { value: 20, id: 4 },
+    Item { value: 21, id: 1 },
+];
 
 #[test]
 fn keeps_equals_by_arrival(rt: HostRuntime) -> Result<(), Fail> {
-    let alloc = rt.alloc();
-    let items = [item(21, 1), item(11, 2), item(12, 3), item(20, 4)].to_vec(alloc)?;
-    let again = [item(5, 5)].to_vec(alloc)?;
+    let items = FOUR_ITEMS.to_vec(rt.alloc())?;
+    let again = [FIVE].to_vec(rt.alloc())?;
     let commands = queue_of(
-        alloc,
+        rt.alloc(),
         [
             SortedCommand::FromStack(11, items),
             SortedCommand::Show(11),
             SortedCommand::FromStack(11, again),
-            SortedCommand::Insert(11, item(13, 6)),
+            SortedCommand::Insert(11, Item { value: 13, id: 6 }),
             SortedCommand::PopFront(11),
             SortedCommand::Show(11),
             SortedCommand::PopFront(15),
         ],
     )?;
-    let first = show_of(alloc, &[(3, 12), (2, 11), (4, 20), (1, 21)])?;
-    let then = show_of(alloc, &[(2, 11), (6, 13), (4, 20), (1, 21)])?;
-    let expected = [
-        Reply::Done,
-        first,
-        Reply::NotThere,
-        Reply::Done,
-        Reply::Found(item(12, 3)),
-        then,
-        Reply::Nothing,
+    let wants = [
+        Want::Done,
+        Want::Items(&IN_ORDER),
+        Want::NotThere,
+        Want::Done,
+        Want::Found(Item { value: 12, id: 3 }),
+        Want::Items(&THEN),
+        Want::Nothing,
     ];
-    replies(&rt, alloc, commands, expected.as_slice());
+    replies(&rt, rt.alloc(), commands, &wants)?;
     Ok(())
 }
 
@@ -75,7 +103,13 @@ fn inserts_and_pops(
     let mut commands = VecDeque::new(alloc);
     for _time in 0..2u8 {
         for value in values {
-            commands.push_back(SortedCommand::Insert(list, item(*value, *value)))?;
+            commands.push_back(SortedCommand::Insert(
+                list,
+                Item {
+                    value: *value,
+                    id: *value,
+                },
+            ))?;
         }
         for _pop in values {
             commands.push_back(SortedCommand::PopFront(list))?;
@@ -85,31 +119,32 @@ fn inserts_and_pops(
     Ok(commands)
 }
 
-/// The replies to these commands, where the values come out in this order.
-fn popped(alloc: Global, order: &[u64]) -> Result<Vec<Reply>, AllocError> {
-    let mut replies = Vec::new(alloc);
+/// Puts the replies to these commands behind what is wanted, where the values come out in this order.
+fn want_popped(wants: &mut Vec<Want<'_>>, order: &[u64]) -> Result<(), AllocError> {
     for _time in 0..2u8 {
         for _insert in order {
-            replies.push(Reply::Done)?;
+            wants.push(Want::Done)?;
         }
         for value in order {
-            replies.push(Reply::Found(item(*value, *value)))?;
+            wants.push(Want::Found(Item {
+                value: *value,
+                id: *value,
+            }))?;
         }
-        replies.push(Reply::Nothing)?;
+        wants.push(Want::Nothing)?;
     }
-    Ok(replies)
+    Ok(())
 }
 
 #[test]
 fn pops_in_order(rt: HostRuntime) -> Result<(), Fail> {
-    let alloc = rt.alloc();
     let values = [20, 10, 30, 25, 35, 1, 2, 3];
-    let mut commands = inserts_and_pops(alloc, 0, &values)?;
-    let mut of_greatest = inserts_and_pops(alloc, 6, &values)?;
+    let mut commands = inserts_and_pops(rt.alloc(), 0, &values)?;
+    let mut of_greatest = inserts_and_pops(rt.alloc(), 6, &values)?;
     commands.append(&mut of_greatest)?;
-    let mut expected = popped(alloc, &[1, 2, 3, 10, 20, 25, 30, 35])?;
-    let mut falling = popped(alloc, &[35, 30, 25, 20, 10, 3, 2, 1])?;
-    expected.append(&mut falling)?;
-    replies(&rt, alloc, commands, expected.as_slice());
+    let mut wants = Vec::new(rt.alloc());
+    want_popped(&mut wants, &[1, 2, 3, 10, 20, 25, 30, 35])?;
+    want_popped(&mut wants, &[35, 30, 25, 20, 10, 3, 2, 1])?;
+    replies(&rt, rt.alloc(), commands, wants.as_slice())?;
     Ok(())
 }

@@ -1,19 +1,42 @@
-use crate::made::{queue_of, show_of};
-use cordyceps::replay::{Item, Reply, StackCommand, Stacks, replay_stacks};
+//! Commands on stacks.
+ghost use Rattle.std.specs.Prelude.{All};
+ghost use Rattle.cordyceps.specs.Stacks.{Fits};
+
+use crate::made::{ONE, TWO, Want, queue_of, replied};
+use cordyceps::replay::{Item, StackCommand, Stacks, replay_stacks};
+use std::alloc::{AllocError, Global};
+use std::collections::VecDeque;
+use std::process::Abort;
 use std::test::Fail;
 
-fn item(value: u64, id: u64) -> Item {
-    Item { value, id }
+/// Runs the commands on the stacks, and asserts what they reply.
+fn replies(
+    rt: &impl Abort,
+    alloc: Global,
+    stacks: Stacks,
+    commands: VecDeque<StackCommand>,
+    wants: &[Want<'_>],
+) -> Result<(), AllocError>
+    requires { All Fits commands.items }
+{
+    let mut stacks = stacks;
+    let played = replay_stacks(alloc, &mut stacks, commands);
+    replied(
+        rt,
+        alloc,
+        played.replies.as_slice(),
+        played.rest.len(),
+        wants,
+    )
 }
 
 #[test]
 fn moves_and_drains(rt: HostRuntime) -> Result<(), Fail> {
-    let alloc = rt.alloc();
     let commands = queue_of(
-        alloc,
+        rt.alloc(),
         [
-            StackCommand::Push(0, item(1, 1)),
-            StackCommand::Push(0, item(2, 2)),
+            StackCommand::Push(0, ONE),
+            StackCommand::Push(0, TWO),
             StackCommand::TakeAll(0, 1),
             StackCommand::IsEmpty(0),
             StackCommand::Drain(1),
@@ -21,32 +44,26 @@ fn moves_and_drains(rt: HostRuntime) -> Result<(), Fail> {
             StackCommand::Drain(15),
         ],
     )?;
-    let mut stacks = Stacks::new();
-    let played = replay_stacks(alloc, &mut stacks, commands);
-    let drained = show_of(alloc, &[(2, 2), (1, 1)])?;
-    let none = show_of(alloc, &[])?;
-    let expected = [
-        Reply::Truth(true),
-        Reply::Truth(false),
-        Reply::Done,
-        Reply::Truth(true),
-        drained,
-        Reply::Truth(true),
-        none,
+    let wants = [
+        Want::Truth(true),
+        Want::Truth(false),
+        Want::Done,
+        Want::Truth(true),
+        Want::Items(&[TWO, ONE]),
+        Want::Truth(true),
+        Want::Items(&[]),
     ];
-    assert_eq!(rt; played.replies.as_slice(), expected.as_slice());
-    assert_eq!(rt; played.rest.len(), 0);
+    replies(&rt, rt.alloc(), Stacks::new(), commands, &wants)?;
     Ok(())
 }
 
 #[test]
 fn moves_nothing_where_it_may_not(rt: HostRuntime) -> Result<(), Fail> {
-    let alloc = rt.alloc();
     let commands = queue_of(
-        alloc,
+        rt.alloc(),
         [
-            StackCommand::Push(3, item(1, 10)),
-            StackCommand::Push(4, item(2, 20)),
+            StackCommand::Push(3, Item { value: 1, id: 10 }),
+            StackCommand::Push(4, Item { value: 2, id: 20 }),
             StackCommand::TakeAll(3, 4),
             StackCommand::TakeAll(3, 3),
             StackCommand::TakeAll(5, 5),
@@ -56,20 +73,17 @@ fn moves_nothing_where_it_may_not(rt: HostRuntime) -> Result<(), Fail> {
             StackCommand::Pop(3),
         ],
     )?;
-    let mut stacks = Stacks::default();
-    let played = replay_stacks(alloc, &mut stacks, commands);
-    let expected = [
-        Reply::Truth(true),
-        Reply::Truth(true),
-        Reply::NotThere,
-        Reply::NotThere,
-        Reply::NotThere,
-        Reply::Found(item(1, 10)),
-        Reply::Nothing,
-        Reply::Done,
-        Reply::Found(item(2, 20)),
+    let wants = [
+        Want::Truth(true),
+        Want::Truth(true),
+        Want::NotThere,
+        Want::NotThere,
+        Want::NotThere,
+        Want::Found(Item { value: 1, id: 10 }),
+        Want::Nothing,
+        Want::Done,
+        Want::Found(Item { value: 2, id: 20 }),
     ];
-    assert_eq!(rt; played.replies.as_slice(), expected.as_slice());
-    assert_eq!(rt; played.rest.len(), 0);
+    replies(&rt, rt.alloc(), Stacks::default(), commands, &wants)?;
     Ok(())
 }

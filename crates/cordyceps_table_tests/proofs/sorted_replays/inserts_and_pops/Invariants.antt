@@ -1,6 +1,6 @@
 use Rattle.std.proofs.Common.{All}
 use Rattle.cordyceps.specs.Sorteds.{Fits}
-use Rattle.cordyceps_replay_tests.proofs.sorted_replays.inserts_and_pops.Given as goal
+use Rattle.cordyceps_table_tests.proofs.sorted_replays.inserts_and_pops.Given as goal
 
 abbrev pub invariant-loop-time : goal.invariant-loop-time
 invariant-loop-time l = All Fits l.commands.items

@@ -4,7 +4,7 @@ use Rattle.std.specs.Cmp.{on_total}
 use Rattle.std.proofs.lemmas.Cmp.{nat_cmp_total}
 use Rattle.cordyceps_stack.specs.Preorder.{preorder_from_total}
 use Rattle.cordyceps.specs.declared.replay.item.Item.{Item}
-use Rattle.cordyceps_replay_tests.proofs.sorted_replays.replies.Goals as goal
+use Rattle.cordyceps_table_tests.proofs.sorted_replays.replies.Goals as goal
 
 pub new-sorteds-requires-clause-total : goal.new-sorteds-requires-clause-total
 new-sorteds-requires-clause-total g c = (

@@ -1,0 +1,150 @@
+//! Filters that are dropped early: what they asked, what they removed and what they kept.
+use crate::compared::same;
+use crate::items::{Item, list_of, shows};
+use cordyceps_list::iter::Iter;
+use cordyceps_list::list::List;
+use cordyceps_testing::nodes::number;
+use std::alloc::{AllocError, Global};
+use std::cell::Cell;
+use std::process::Abort;
+use std::rc::Rc;
+use std::test::Fail;
+
+/// What a filter was asked, shared with the test.
+#[derive(Drop)]
+struct Asks {
+    /// How often it was asked.
+    count: Cell<u64>,
+    /// Whether the first call was of the item 1, the next of 2, and so on.
+    in_turn: Cell<bool>,
+}
+
+impl Asks {
+    fn none(alloc: Global) -> Result<Rc<Asks, Global>, AllocError> {
+        let asks = Asks {
+            count: Cell::new(0),
+            in_turn: Cell::new(true),
+        };
+        Ok(Rc::new(alloc, asks)?)
+    }
+
+    /// Counts a call of an item, and answers what is to be said at that call.
+    fn answer(&self, item: &Item, says: &[bool; 6]) -> bool {
+        let count = self.count.get().wrapping_add(1);
+        self.count.set(count);
+        self.in_turn.set(self.in_turn.get() && item.value == count);
+        says.get(count.wrapping_sub(1) as usize)
+            .copied()
+            .unwrap_or(false)
+    }
+}
+
+/// What a filter of the items 1 to 6 does.
+#[derive(Clone, Copy)]
+struct Filtering {
+    /// What it says, by the number of the call.
+    says: [bool; 6],
+    /// How often it was asked after 0 to 7 calls of `next`.
+    asked: [u64; 8],
+    /// What these calls answer.
+    removed: [Option<u64>; 7],
+}
+
+/// What some filters do.
+const FILTERINGS: [Filtering; 5] = [
+    Filtering {
+        says: [false, false, true, false, false, true],
+        asked: [0, 3, 6, 6, 6, 6, 6, 6],
+        removed: [Some(3), Some(6), None, None, None, None, None],
+    },
+    Filtering {
+        says: [false, true, false, true, false, true],
+        asked: [0, 2, 4, 6, 6, 6, 6, 6],
+        removed: [Some(2), Some(4), Some(6), None, None, None, None],
+    },
+    Filtering {
+        says: [true, false, false, false, true, false],
+        asked: [0, 1, 5, 6, 6, 6, 6, 6],
+        removed: [Some(1), Some(5), None, None, None, None, None],
+    },
+    Filtering {
+        says: [true; 6],
+        asked: [0, 1, 2, 3, 4, 5, 6, 6],
+        removed: [Some(1), Some(2), Some(3), Some(4), Some(5), Some(6), None],
+    },
+    Filtering {
+        says: [false; 6],
+        asked: [0, 6, 6, 6, 6, 6, 6, 6],
+        removed: [None; 7],
+    },
+];
+
+/// Whether the item `v` was removed.
+fn was_removed(removed: &[Option<u64>], v: u64) -> bool {
+    for item in removed {
+        if *item == Some(v) {
+            return true;
+        }
+    }
+    false
+}
+
+/// Asserts that the item `v` is the next one, unless it was removed.
+fn keeps_next(rt: &impl Abort, left: &mut Iter<'_, Item>, removed: &[Option<u64>], v: u64) {
+    if !was_removed(removed, v) {
+        shows(rt, left.next(), Some(v));
+    }
+}
+
+/// Asserts that the list holds the items 1 to 6 without those that were removed.
+fn keeps(rt: &impl Abort, list: &List<Item>, removed: &[Option<u64>]) {
+    let mut left = list.iter();
+    for v in [1u64, 2, 3, 4, 5, 6].as_slice() {
+        keeps_next(rt, &mut left, removed, *v);
+    }
+    assert!(rt; left.next().is_none());
+}
+
+/// Calls `next` so often, drops the filter, and asserts what was asked, what was removed and what was kept.
+fn drops_after(
+    rt: &impl Abort,
+    alloc: Global,
+    filtering: &Filtering,
+    calls: usize,
+) -> Result<(), AllocError> {
+    let asks = Asks::none(alloc)?;
+    let shared = asks.clone()?;
+    let says = filtering.says;
+    let mut list = list_of(rt, alloc, &[1, 2, 3, 4, 5, 6])?;
+    let mut filter = list.drain_filter(move |item: &Item| shared.answer(item, &says));
+    for call in 0..calls {
+        let removed = number(filter.next());
+        same(
+            rt,
+            (call, Some(&removed)),
+            (call, filtering.removed.get(call)),
+        );
+    }
+    drop(filter);
+    let asked = asks.count.get();
+    same(
+        rt,
+        (calls, Some(&asked)),
+        (calls, filtering.asked.get(calls)),
+    );
+    assert!(rt; asks.in_turn.get());
+    same(rt, Rc::strong_count(&asks), 1);
+    assert!(rt; calls <= 7);
+    keeps(rt, &list, &filtering.removed[..calls]);
+    Ok(())
+}
+
+#[test]
+fn a_filter_asks_each_item_once_up_to_its_drop(rt: HostRuntime) -> Result<(), Fail> {
+    for filtering in FILTERINGS {
+        for calls in 0..8usize {
+            drops_after(&rt, rt.alloc(), &filtering, calls)?;
+        }
+    }
+    Ok(())
+}

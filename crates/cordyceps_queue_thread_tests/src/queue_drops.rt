@@ -1,0 +1,175 @@
+ghost use Rattle.std.specs.Prelude.{◌≡◌};
+
+use crate::compared::same;
+use crate::items::{dropped, element, has_number, number};
+use crate::seats::{consumer_of, three_queued};
+use cordyceps_base::linked::Linked;
+use cordyceps_base::node::{Node, Refused};
+use cordyceps_queue::mpsc_queue::{Batch, Closed, Links, MpscQueue};
+use cordyceps_testing::counted::{Counted, Drops};
+use cordyceps_testing::nodes::node_of;
+use std::alloc::AllocError;
+use std::cell::Cell;
+use std::marker::{Send, Sync};
+use std::process::Abort;
+
+/// Compares how many elements a batch says that it has left with what is wanted.
+fn has_left(rt: &impl Abort, elements: &Batch<Counted>, wanted: usize) {
+    same(rt, elements.len(), wanted);
+    same(rt, elements.size_hint(), (wanted, Some(wanted)));
+    same(rt, elements.is_empty(), wanted == 0);
+}
+
+#[test]
+fn a_batch_gives_the_oldest_first(rt: HostRuntime) -> Result<(), AllocError> {
+    let drops = Drops::new(rt.alloc())?;
+    let (queue, party) = three_queued(&rt, rt.alloc(), &drops)?;
+    let Closed {
+        mut elements,
+        stub: _,
+    } = queue.close(party);
+    for (wanted, left) in [(1u64, 3usize), (2, 2), (3, 1)] {
+        has_left(&rt, &elements, left);
+        has_number(&rt, elements.next(), Some(wanted));
+    }
+    has_left(&rt, &elements, 0);
+    has_number(&rt, elements.next(), None);
+    has_number(&rt, elements.next(), None);
+    Ok(())
+}
+
+#[test]
+fn a_dropped_queue_drops_what_it_holds(rt: HostRuntime) -> Result<(), AllocError> {
+    let drops = Drops::new(rt.alloc())?;
+    let (queue, party) = three_queued(&rt, rt.alloc(), &drops)?;
+    dropped(&rt, &drops, 0);
+    drop(queue);
+    dropped(&rt, &drops, 4);
+    drop(party);
+    dropped(&rt, &drops, 4);
+    Ok(())
+}
+
+#[test]
+fn a_dropped_batch_drops_what_is_left(rt: HostRuntime) -> Result<(), AllocError> {
+    let drops = Drops::new(rt.alloc())?;
+    let (queue, party) = three_queued(&rt, rt.alloc(), &drops)?;
+    let Closed { mut elements, stub } = queue.close(party);
+    dropped(&rt, &drops, 0);
+    let first = elements.next();
+    dropped(&rt, &drops, 0);
+    drop(first);
+    dropped(&rt, &drops, 1);
+    drop(elements);
+    dropped(&rt, &drops, 3);
+    drop(stub);
+    dropped(&rt, &drops, 4);
+    Ok(())
+}
+
+#[test]
+fn a_dropped_consumer_drops_no_element(rt: HostRuntime) -> Result<(), AllocError> {
+    let drops = Drops::new(rt.alloc())?;
+    let (queue, mut party) = three_queued(&rt, rt.alloc(), &drops)?;
+    let other = queue.split(&mut party, 0);
+    let mut consumer = consumer_of(&rt, &queue, other);
+    let first = consumer.try_dequeue();
+    same(&rt, first.is_ok(), true);
+    same(&rt, consumer.rooms(), 1);
+    drop(consumer);
+    dropped(&rt, &drops, 0);
+    drop(first);
+    dropped(&rt, &drops, 1);
+    drop(queue);
+    dropped(&rt, &drops, 4);
+    Ok(())
+}
+
+// It says more where an allocation is made to fail, as `rt try --test --fail-alloc N` does: `new` then answers `Err`,
+// and the next call, which meets none, makes a queue.
+#[test]
+fn makes_a_queue_after_refused_memory(rt: HostRuntime) -> Result<(), AllocError> {
+    let (queue, party) = match MpscQueue::<Counted>::new(rt.alloc(), 2) {
+        Ok(made) => made,
+        Err(AllocError) => MpscQueue::new(rt.alloc(), 2)?,
+    };
+    same(&rt, party.rooms(), 2);
+    same(&rt, queue.close(party).elements.is_empty(), true);
+    Ok(())
+}
+
+// The same, where `new_with_stub` hands the stub back.
+#[test]
+fn makes_a_queue_of_the_stub_handed_back(rt: HostRuntime) -> Result<(), AllocError> {
+    let drops = Drops::new(rt.alloc())?;
+    let stub = element(rt.alloc(), 7, &drops)?;
+    let (queue, party) = match MpscQueue::<Counted>::new_with_stub(rt.alloc(), stub, 2) {
+        Ok(made) => made,
+        Err(Refused { value }) => {
+            dropped(&rt, &drops, 0);
+            same(&rt, number(&rt, &value), 7);
+            match MpscQueue::new_with_stub(rt.alloc(), value, 2) {
+                Ok(made) => made,
+                Err(Refused { value: _ }) => panic!(rt; "one allocation is made to fail"),
+            }
+        }
+    };
+    same(&rt, party.rooms(), 2);
+    let Closed { elements: _, stub } = queue.close(party);
+    has_number(&rt, stub, Some(7));
+    dropped(&rt, &drops, 1);
+    Ok(())
+}
+
+/// An element that threads can send, and not share.
+#[derive(Drop)]
+struct Lone {
+    value: Cell<u64>,
+}
+
+impl Linked<Links<Lone>> for Lone {
+    type Handle = Node<Lone, Links<Lone>>;
+
+    ghost element = { λ h. h };
+
+    fn into_ptr(handle: Node<Lone, Links<Lone>>) -> Node<Lone, Links<Lone>> {
+        handle
+    }
+
+    fn from_ptr(node: Node<Lone, Links<Lone>>) -> Node<Lone, Links<Lone>>
+        ensures { result ≡ node }
+    {
+        node
+    }
+}
+
+/// What threads can share.
+fn shared<T: Sync>(thing: &T) -> &T {
+    thing
+}
+
+/// A queue can be shared where its handles can only be sent.
+fn shared_queue<T: Linked<Links<T>>>(queue: &MpscQueue<T>) -> &MpscQueue<T>
+where
+    T::Handle: Send,
+{
+    shared(queue)
+}
+
+#[test]
+fn a_queue_is_shared_where_handles_are_sent(rt: HostRuntime) -> Result<(), AllocError> {
+    let value = Lone {
+        value: Cell::new(7),
+    };
+    let stub = node_of::<Lone, Links<Lone>>(rt.alloc(), 1, value)?;
+    let Ok((queue, party)) = MpscQueue::<Lone>::new_with_stub(rt.alloc(), stub, 1) else {
+        return Err(AllocError);
+    };
+    let _ = shared_queue(&queue);
+    let Closed { elements: _, stub } = queue.close(party);
+    match stub {
+        Some(node) => same(&rt, node.get().value.get(), 7),
+        None => panic!(rt; "the stub was handed in"),
+    }
+    Ok(())
+}

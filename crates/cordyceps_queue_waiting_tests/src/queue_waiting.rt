@@ -1,0 +1,186 @@
+use crate::compared::same;
+use crate::flags::await_flag;
+use crate::items::{Handle, dropped, element, pair};
+use crate::seats::{Seated, consumes};
+use cordyceps_queue::mpsc_queue::{Consumer, MpscQueue};
+use cordyceps_testing::counted::{Counted, Drops};
+use std::alloc::{AllocError, Global};
+use std::process::Abort;
+use std::sync::Wait;
+use std::sync::atomic::{AtomicBool, Ordering};
+use std::thread;
+use std::thread::Threads;
+
+/// The numbers that a thread got, where there was memory for them.
+type Numbers = Result<Vec<u64>, AllocError>;
+
+/// How often a thread that has the right looks whether another got it.
+const PAUSES: u64 = 1000;
+
+/// Takes the element 1 and then none, and sets the flag.
+fn dequeue_twice<R: Wait + Abort>(rt: &R, mut seat: Seated<'_>, done: &AtomicBool) {
+    same(rt, seat.dequeue(rt), Some(1));
+    same(rt, seat.dequeue(rt), None);
+    done.store(true, Ordering::SeqCst);
+}
+
+/// Does so in a thread of its own, and joins it once its flag is set.
+fn watch_twice<R: Threads + Wait + Abort + Sync>(rt: &R, seat: Seated<'_>) {
+    let flag = AtomicBool::new(false);
+    let done = &flag;
+    let dequeue = move || dequeue_twice(rt, seat, done);
+    thread::join(rt, dequeue, || await_flag(rt, done));
+}
+
+#[test]
+fn enqueue_dequeue(rt: HostRuntime) -> Result<(), AllocError> {
+    let drops = Drops::new(rt.alloc())?;
+    let handle = element(rt.alloc(), 1, &drops)?;
+    let (queue, party) = MpscQueue::new(rt.alloc(), 1)?;
+    let mut seat = Seated::at(&queue, party);
+    seat.put(&rt, handle);
+    watch_twice(&rt, seat);
+    dropped(&rt, &drops, 1);
+    Ok(())
+}
+
+/// The numbers of what comes out until nothing is held.
+fn drain<R: Wait + Abort>(rt: &R, alloc: Global, mut seat: Seated<'_>) -> Numbers {
+    let mut numbers = Vec::new(alloc);
+    for _ in 0..PAUSES {
+        match seat.dequeue(rt) {
+            Some(number) => numbers.push(number)?,
+            None => return Ok(numbers),
+        }
+    }
+    panic!(rt; "more came out than was put in");
+}
+
+/// Gives them, and then sets the flag.
+fn drain_and_tell<R: Wait + Abort>(
+    rt: &R,
+    alloc: Global,
+    seat: Seated<'_>,
+    done: &AtomicBool,
+) -> Numbers {
+    let numbers = drain(rt, alloc, seat);
+    done.store(true, Ordering::SeqCst);
+    numbers
+}
+
+/// What two threads get, joined once both flags are set.
+fn drain_both<R: Threads + Wait + Abort + Sync>(
+    rt: &R,
+    alloc: Global,
+    seats: (Seated<'_>, Seated<'_>),
+) -> (Numbers, Numbers) {
+    let (flag, other) = (AtomicBool::new(false), AtomicBool::new(false));
+    let (done, also) = (&flag, &other);
+    let (first, second) = seats;
+    let one = move || drain_and_tell(rt, alloc, first, done);
+    let two = move || drain_and_tell(rt, alloc, second, also);
+    let work = move || thread::join(rt, one, two);
+    let watch = || {
+        await_flag(rt, done);
+        await_flag(rt, also);
+    };
+    thread::join(rt, work, watch).0
+}
+
+/// Puts two elements in.
+fn put_two(rt: &impl Abort, mut seat: Seated<'_>, pair: (Handle, Handle)) {
+    let (first, second) = pair;
+    seat.put(rt, first);
+    seat.put(rt, second);
+}
+
+/// Two threads put two elements in each.
+fn put_both<R: Threads + Abort + Sync>(
+    rt: &R,
+    seats: (Seated<'_>, Seated<'_>),
+    pairs: ((Handle, Handle), (Handle, Handle)),
+) {
+    let (first, second) = seats;
+    let (tens, twenties) = pairs;
+    thread::join(
+        rt,
+        move || put_two(rt, first, tens),
+        move || put_two(rt, second, twenties),
+    );
+}
+
+/// Compares the numbers of both, the least first, with those that are wanted.
+fn together(
+    rt: &impl Abort,
+    numbers: (Numbers, Numbers),
+    wanted: &[u64],
+) -> Result<(), AllocError> {
+    let (first, second) = numbers;
+    let mut all = first?;
+    for number in second? {
+        all.push(number)?;
+    }
+    all.sort()?;
+    same(rt, all.as_slice(), wanted);
+    Ok(())
+}
+
+#[test]
+fn mpmc(rt: HostRuntime) -> Result<(), AllocError> {
+    let drops = Drops::new(rt.alloc())?;
+    let tens = pair(rt.alloc(), 10, &drops)?;
+    let twenties = pair(rt.alloc(), 20, &drops)?;
+    let (queue, party) = MpscQueue::new(rt.alloc(), 4)?;
+    let mut seat = Seated::at(&queue, party);
+    let producers = (seat.split(&rt, 2), seat.split(&rt, 2));
+    let other = seat.split(&rt, 0);
+    put_both(&rt, producers, (tens, twenties));
+    let numbers = drain_both(&rt, rt.alloc(), (seat, other));
+    together(&rt, numbers, &[10, 11, 20, 21])?;
+    dropped(&rt, &drops, 4);
+    Ok(())
+}
+
+/// Waits for the right, sets the flag, and takes the element 1 by one try.
+fn consume_and_tell<R: Wait + Abort>(rt: &R, seat: Seated<'_>, done: &AtomicBool) {
+    let mut consumer = seat.consume(rt);
+    done.store(true, Ordering::SeqCst);
+    consumes(rt, &mut consumer, Ok(1));
+}
+
+/// Holds the right for a while, in which nobody else gets it, and then gives it back.
+fn hold_right(rt: &impl Abort, consumer: Consumer<'_, Counted>, done: &AtomicBool) {
+    for _ in 0..PAUSES {
+        same(rt, done.load(Ordering::SeqCst), false);
+        thread::yield_now();
+    }
+    drop(consumer.release());
+    await_flag(rt, done);
+}
+
+/// One thread waits for the right, while another holds it for a while.
+fn wait_and_hold<R: Threads + Wait + Abort + Sync>(
+    rt: &R,
+    waiting: Seated<'_>,
+    holding: Consumer<'_, Counted>,
+) {
+    let flag = AtomicBool::new(false);
+    let done = &flag;
+    let wait = move || consume_and_tell(rt, waiting, done);
+    thread::join(rt, wait, move || hold_right(rt, holding, done));
+}
+
+#[test]
+fn consume_waits_for_a_release(rt: HostRuntime) -> Result<(), AllocError> {
+    let drops = Drops::new(rt.alloc())?;
+    let handle = element(rt.alloc(), 1, &drops)?;
+    let (queue, party) = MpscQueue::new(rt.alloc(), 1)?;
+    let mut seat = Seated::at(&queue, party);
+    let first = seat.split(&rt, 0);
+    let other = seat.split(&rt, 0);
+    seat.put(&rt, handle);
+    let consumer = first.consumer(&rt);
+    wait_and_hold(&rt, other, consumer);
+    dropped(&rt, &drops, 1);
+    Ok(())
+}

@@ -1,0 +1,8 @@
+//! The one comparison of the tests.
+use std::fmt::Debug;
+use std::process::Abort;
+
+/// Compares what came with what was wanted, and says both where they differ.
+pub fn same<T: PartialEq + Debug + Drop>(rt: &impl Abort, came: T, wanted: T) {
+    assert_eq!(rt; came, wanted);
+}

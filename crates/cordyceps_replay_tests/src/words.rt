@@ -1,0 +1,53 @@
+//! The words of the command line, and those on standard error.
+
+use crate::compared::same;
+use replay_driver::fault::Fault;
+use replay_sessions::modes::{Choice, USAGE, choose};
+use std::test::Fail;
+
+#[test]
+fn choices(rt: HostRuntime) -> Result<(), Fail> {
+    let table: [(&[&str], Option<Choice>); 12] = [
+        (&[], None),
+        (&["list"], Some(Choice::List)),
+        (&["stack"], Some(Choice::Stack)),
+        (&["sorted"], Some(Choice::Sorted)),
+        (&["transfer"], Some(Choice::Transfer)),
+        (&["queue"], Some(Choice::Queue)),
+        (&["share"], Some(Choice::Share)),
+        (&["transfer", "queue"], None),
+        (&["List"], None),
+        (&[""], None),
+        (&["list", "list"], None),
+        (&["list", ""], None),
+    ];
+    for (texts, expected) in table {
+        let mut words = Vec::new(rt.alloc());
+        for text in texts {
+            words.push(String::from_str(rt.alloc(), text)?)?;
+        }
+        same(&rt, choose(&words), expected);
+    }
+    same(
+        &rt,
+        USAGE,
+        "usage: cordyceps_replay list|stack|sorted|transfer|queue|share",
+    );
+    Ok(())
+}
+
+#[test]
+fn faults(rt: HostRuntime) -> Result<(), Fail> {
+    let table = [
+        (Fault::BadLine(1), 2, "bad line 1"),
+        (Fault::BadLine(u64::MAX), 2, "bad line 18446744073709551615"),
+        (Fault::Read, 3, "read failed"),
+        (Fault::Write, 3, "write failed"),
+        (Fault::Memory, 4, "out of memory"),
+    ];
+    for (fault, status, text) in table {
+        let shown = format!(in rt.alloc(); "{fault}")?;
+        same(&rt, (fault.status(), shown.as_str()), (status, text));
+    }
+    Ok(())
+}

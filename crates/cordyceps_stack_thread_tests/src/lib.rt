@@ -1,0 +1,17 @@
+//! Tests of the stack that threads share, through its public names: alone and on threads.
+#![tactic(auto)]
+
+#[cfg(test)]
+mod compared;
+#[cfg(test)]
+mod flags;
+#[cfg(test)]
+mod items;
+#[cfg(test)]
+mod races;
+#[cfg(test)]
+mod seats;
+#[cfg(test)]
+mod transfer_stacks;
+#[cfg(test)]
+mod transfer_threads;

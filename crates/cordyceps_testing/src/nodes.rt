@@ -1,0 +1,26 @@
+//! Nodes of any value and kind.
+ghost use Rattle.std.specs.Prelude.{◌≡◌, IfOk, IfSome, IsNone};
+
+use cordyceps_base::node::{Kind, Node, Refused};
+use std::alloc::{AllocError, Global};
+
+/// A node with this number and value.
+pub fn node_of<T: Drop, L: Kind>(alloc: Global, id: u64, value: T) -> Result<Node<T, L>, AllocError>
+    ensures { IfOk result (λ node. node ≡ record { id = id; value = value }) }
+{
+    match Node::new(alloc, id, value) {
+        Ok(node) => Ok(node),
+        Err(Refused { value: _ }) => Err(AllocError),
+    }
+}
+
+/// The number of a node, which is dropped.
+pub fn number<T: Drop, L: Kind>(node: Option<Node<T, L>>) -> Option<u64>
+    ensures some { IfSome node (λ some. result ≡ Some some.id) }
+    ensures none { IsNone node → IsNone result }
+{
+    match node {
+        Some(node) => Some(node.id()),
+        None => None,
+    }
+}
