@@ -1,8 +1,9 @@
 //! Filters that are dropped early: what they asked, what they removed and what they kept.
 use crate::compared::same;
-use crate::items::{Item, list_of, shows};
+use crate::items::{list_of, shows};
 use cordyceps_list::iter::Iter;
 use cordyceps_list::list::List;
+use cordyceps_testing::items::Item;
 use cordyceps_testing::nodes::number;
 use std::alloc::{AllocError, Global};
 use std::cell::Cell;

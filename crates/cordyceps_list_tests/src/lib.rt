@@ -1,10 +1,8 @@
-//! Tests of lists: their ends, walks, cursors, splits and filters, drops, and runs of many operations.
+//! Tests of lists: their ends, iterators, splits and filters, drops, and laws.
 #![tactic(auto)]
 
 #[cfg(test)]
 mod compared;
-#[cfg(test)]
-mod cursors;
 #[cfg(test)]
 mod filters;
 #[cfg(test)]
@@ -13,9 +11,5 @@ mod items;
 mod list_ends;
 #[cfg(test)]
 mod list_laws;
-#[cfg(test)]
-mod list_operations;
-#[cfg(test)]
-mod list_walks;
 #[cfg(test)]
 mod whole_lists;

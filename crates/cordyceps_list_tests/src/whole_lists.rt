@@ -1,8 +1,9 @@
 //! Whole lists: iterators, splits, appends, removals and filters.
 use crate::compared::same;
-use crate::items::{Handle, Item, comes_out, holds, list_of, plain, shows};
+use crate::items::{comes_out, holds, list_of, shows};
 use cordyceps_base::steps::Steps;
 use cordyceps_list::list::List;
+use cordyceps_testing::items::{Handle, Item, plain};
 use cordyceps_testing::nodes::node_of;
 use std::alloc::{AllocError, Global};
 use std::process::Abort;

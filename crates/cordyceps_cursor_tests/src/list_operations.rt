@@ -2,9 +2,10 @@
 ghost use Rattle.std.specs.Prelude.{◌<◌};
 
 use crate::compared::same;
-use crate::items::{Item, after, back, before, comes_out, forth, plain, shows};
+use crate::items::{after, back, before, comes_out, forth, shows};
 use cordyceps_list::cursor_mut::CursorMut;
 use cordyceps_list::list::List;
+use cordyceps_testing::items::{Item, plain};
 use cordyceps_testing::nodes::number;
 use std::alloc::{AllocError, Global};
 use std::collections::VecDeque;

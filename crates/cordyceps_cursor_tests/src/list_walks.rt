@@ -1,11 +1,10 @@
 //! Walks over lists by iterators and cursors, and lists that are split and spliced.
 use crate::compared::same;
-use crate::items::{
-    Item, after, back, before, comes_out, forth, holds, list_of, plain, shows, shows_mut, value,
-};
+use crate::items::{after, back, before, comes_out, forth, holds, list_of, shows, shows_mut};
 use cordyceps_list::cursor::Cursor;
 use cordyceps_list::cursor_mut::CursorMut;
 use cordyceps_list::list::List;
+use cordyceps_testing::items::{Item, plain, value};
 use std::alloc::{AllocError, Global};
 use std::process::Abort;
 use std::test::Fail;

@@ -1,0 +1,101 @@
+//! Lists of items whose number and value are the same, and moves of cursors.
+
+use crate::compared::same;
+use cordyceps_list::cursor_mut::CursorMut;
+use cordyceps_list::list::List;
+use cordyceps_testing::items::{Handle, Item, plain, value};
+use cordyceps_testing::nodes::number;
+use std::alloc::{AllocError, Global};
+use std::process::Abort;
+
+/// Asserts the value of an item, or that there is none.
+pub fn shows(rt: &impl Abort, item: Option<&Item>, wanted: Option<u64>) {
+    same(rt, value(item), wanted);
+}
+
+/// The value of an item that is lent to be written.
+fn value_mut(item: Option<&mut Item>) -> Option<u64> {
+    match item {
+        Some(item) => Some(item.value),
+        None => None,
+    }
+}
+
+/// Asserts the value of an item that is lent to be written, or that there is none.
+pub fn shows_mut(rt: &impl Abort, item: Option<&mut Item>, wanted: Option<u64>) {
+    same(rt, value_mut(item), wanted);
+}
+
+/// Asserts the number of a node that came out, or that there is none.
+pub fn comes_out(rt: &impl Abort, node: Option<Handle>, wanted: Option<u64>) {
+    same(rt, number(node), wanted);
+}
+
+/// Puts the items behind those of the list.
+pub fn fill(
+    rt: &impl Abort,
+    alloc: Global,
+    list: &mut List<Item>,
+    items: &[u64],
+) -> Result<(), AllocError> {
+    for v in items {
+        assert!(rt; list.len() < usize::MAX);
+        list.push_back(plain(alloc, *v)?);
+    }
+    Ok(())
+}
+
+/// A list of the items.
+pub fn list_of(rt: &impl Abort, alloc: Global, items: &[u64]) -> Result<List<Item>, AllocError> {
+    let mut list = List::new();
+    fill(rt, alloc, &mut list, items)?;
+    Ok(list)
+}
+
+/// Asserts what a list holds.
+pub fn holds(rt: &impl Abort, list: &List<Item>, items: &[u64]) {
+    same(rt, list.len(), items.len());
+    let mut left = items.iter();
+    for item in list.iter() {
+        same(rt, Some(item.value), left.next().copied());
+    }
+    assert!(rt; left.next().is_none());
+}
+
+/// Puts the item `v` in before the cursor.
+pub fn before(
+    rt: &impl Abort,
+    alloc: Global,
+    cursor: &mut CursorMut<'_, Item>,
+    v: u64,
+) -> Result<(), AllocError> {
+    assert!(rt; cursor.len() < usize::MAX);
+    cursor.insert_before(plain(alloc, v)?);
+    Ok(())
+}
+
+/// Puts the item `v` in behind the cursor.
+pub fn after(
+    rt: &impl Abort,
+    alloc: Global,
+    cursor: &mut CursorMut<'_, Item>,
+    v: u64,
+) -> Result<(), AllocError> {
+    assert!(rt; cursor.len() < usize::MAX);
+    cursor.insert_after(plain(alloc, v)?);
+    Ok(())
+}
+
+/// Moves a cursor forth so often.
+pub fn forth(cursor: &mut CursorMut<'_, Item>, moves: usize) {
+    for _ in 0..moves {
+        cursor.move_next();
+    }
+}
+
+/// Moves a cursor back so often.
+pub fn back(cursor: &mut CursorMut<'_, Item>, moves: usize) {
+    for _ in 0..moves {
+        cursor.move_prev();
+    }
+}
