@@ -1,3 +1,4 @@
+//! How many elements a queue, a batch and a consumer drop.
 ghost use Rattle.std.specs.Prelude.{◌≡◌};
 
 use crate::compared::same;

@@ -1,3 +1,4 @@
+//! Threads that put elements into a queue, and one that takes them out.
 ghost use Rattle.std.specs.Arc.{arc_value};
 ghost use Rattle.std.specs.Prelude.{◌≡◌};
 

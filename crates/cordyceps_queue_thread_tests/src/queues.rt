@@ -1,3 +1,5 @@
+//! Calls of a queue, one after the other.
+
 use crate::compared::same;
 use crate::items::{Handle, dropped, element, elements, gives, has_number, pair};
 use crate::seats::{Seated, consumes, put, takes, with_stub};

@@ -1,3 +1,5 @@
+//! Calls that wait for an element, or for the right to dequeue.
+
 use crate::compared::same;
 use crate::flags::await_flag;
 use crate::items::{Handle, dropped, element, pair};

@@ -1,3 +1,5 @@
+//! Calls of a transfer stack, one after the other.
+
 use crate::compared::same;
 use crate::items::{Handle, dropped, element, gives, pair};
 use crate::seats::{Seated, pushes, three_held};

@@ -1,3 +1,4 @@
+//! Threads that push to a transfer stack, and take all that it holds.
 ghost use Rattle.std.specs.Prelude.{◌≡◌};
 ghost use Rattle.std.specs.Thread.{IsSync};
 
