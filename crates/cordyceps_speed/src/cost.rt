@@ -1,3 +1,4 @@
+//! What calls cost, as the program prints it.
 ghost use Rattle.std.specs.Prelude.{◌≡◌, ◌+◌, ◌*◌, ◌/◌, ◌<◌, min};
 ghost use Rattle.std.specs.Duration.{as_nanos, max_nanos};
 

@@ -1,3 +1,5 @@
+//! Why the program measured no more.
+
 use std::fmt;
 
 /// Why the program measured no more. Its text is the line for standard error, without a line feed.

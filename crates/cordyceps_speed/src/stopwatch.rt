@@ -1,3 +1,5 @@
+//! A clock for measured calls.
+
 use crate::fault::Fault;
 use std::time::{Clock, Duration, Instant};
 
