@@ -1,5 +1,5 @@
 -- Tries one after the other.
-use Rattle.std.proofs.Common.{◌≡◌, ◌≢◌, List, [], ◌∷◌, ◌++◌, refl, sym, ◌∙◌, subst, inl, inr}
+use Rattle.std.proofs.Common.{◌≢◌, List, [], ◌∷◌, ◌++◌, refl, sym, ◌∙◌, subst, inl, inr}
 use Rattle.std.specs.Prelude.{Err}
 use Rattle.cordyceps_queue.specs.declared.steps.TryDequeueError.{TryDequeueError}
 use Rattle.cordyceps_queue.specs.declared.steps.TryDequeueError.TheVariants as error

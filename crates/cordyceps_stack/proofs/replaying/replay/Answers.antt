@@ -1,4 +1,5 @@
-use Rattle.std.proofs.Common.{◌≡◌, sym, ◌∙◌, subst, length, arith}
+use Rattle.std.proofs.Common.{◌≡◌, sym, ◌∙◌, ap, refl, subst, length, deque_len, true, false, arith}
+use Rattle.std.specs.Prelude.{◌==◌}
 use Rattle.std.proofs.lemmas.Bool.{eqb-true}
 use Rattle.cordyceps_base.specs.Runs.{Ran}
 use Rattle.cordyceps_stack.specs.TransferCore.{core_step}
@@ -11,6 +12,17 @@ loop-replies-init g c = rw c.new-replies.ensures.items (ran_none core_step c.arg
 
 pub returns-in_default-clause-run : goal.returns-in_default-clause-run
 returns-in_default-clause-run g c = rw c.reserve.ensures.items (replayed c.args.steps.items c.args.core c.loop-replies.core c.loop-replies.replies.items c.loop-replies.steps.items c.loop-replies.invariant)
+
+pub returns-in_default-clause-stopped : goal.returns-in_default-clause-stopped
+returns-in_default-clause-stopped g c =
+    let some = sym c.is_empty.ensures ∙ c.loop-replies-test.true in (
+      λ t e.
+          let none : length c.loop-replies.steps.items ≡ 0 = ap length e in
+          let empty : deque_len c.loop-replies.steps ≡ 0 = omega (arith, none) in
+          let no : true ≡ false = sym (ap (λ n. n == 0) empty) ∙ some in
+          let not : ⊥ = cc in absurd not,
+      λ ne. refl,
+    )
 
 pub loop-replies-preserved-in-Some : goal.loop-replies-preserved-in-Some
 loop-replies-preserved-in-Some g c =

@@ -1,8 +1,8 @@
-use Rattle.std.proofs.Common.{◌≡◌, ◌∷◌, drop}
+use Rattle.std.proofs.Common.{◌≡◌, ◌∷◌, drop, rules}
 use Rattle.std.proofs.lemmas.List.Elements.{All-drop}
 use Rattle.cordyceps.specs.Lists.{step, Fits}
 use Rattle.cordyceps.specs.Plays.{Plays}
-use Rattle.cordyceps.proofs.Plays.{plays_more, first_waiting}
+use Rattle.cordyceps.proofs.Plays.{plays_nothing, plays_more, first_waiting}
 use Rattle.cordyceps.proofs.replay.lists.replay_lists.Goals as goal
 
 pub loop-command-preserved : goal.loop-command-preserved
@@ -16,3 +16,12 @@ loop-command-preserved c =
       played = rw (c.pass.ensures, c.in-Ok-push.ensures.items, c.reserve.ensures.items) after;
       fit = rw c.pass.ensures (All-drop Fits 1 waiting c.loop-command.invariant.fit);
     }
+
+pub loop-command-init : goal.loop-command-init
+loop-command-init c = record { played = rw c.new-replies.ensures.items (plays_nothing step c.args.lists.now c.args.commands.items); fit = c.requires }
+
+pub returns : goal.returns
+returns c =
+    let same : c.match-front.lists ≡ c.loop-command.lists = search rules in
+    let told : c.match-front.replies.items ≡ c.loop-command.replies.items = search rules in
+    rw (same, told) c.loop-command.invariant.played

@@ -52,3 +52,8 @@ loop-command-preserved g c =
           let before : AnswersSome c.args.commands.items c.loop-command.replies.items (command ∷ drop 1 waiting) = rw split at kept.answers in
           rw (c.pop_front.ensures.rest, c.in-Ok-push.ensures.items, c.reserve.ensures.items) (answers_more c.args.commands.items (drop 1 waiting) c.loop-command.replies.items command c.in-Ok.reply before);
     }
+
+pub returns-clause-answers : goal.returns-clause-answers
+returns-clause-answers g c =
+    let told : c.match-front.replies.items ≡ c.loop-command.replies.items = first_of (search rules, grind (arith, common_steps)) in
+    rw told c.loop-command.invariant.answers

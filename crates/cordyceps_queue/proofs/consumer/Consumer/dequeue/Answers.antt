@@ -1,4 +1,4 @@
-use Rattle.std.proofs.Common.{rules}
+use Rattle.std.proofs.Common.{[], refl, ◌∙◌, subst}
 use Rattle.std.specs.Prelude.{Err}
 use Rattle.cordyceps_queue.specs.declared.steps.TryDequeueError.TheVariants as error
 use Rattle.cordyceps_queue.specs.QueueStanding.{Consumes}
@@ -10,4 +10,25 @@ loop-preserved g c =
     let missed = misses_blocked c.loop.self c.try_dequeue.new.self c.in-Err.why (c.found_nothing.ensures.no c.if-found_nothing.false) c.in-Err.ensures.answer in
     let i = c.loop.invariant in
     let same = same_then c.args.self.now c.loop.self c.try_dequeue.new.self i.1 (stays_blocked c.loop.self c.try_dequeue.new.self c.in-Err.why c.in-Err.ensures.answer) in
-    (search rules, same, trying_more (Consumes (Err error.Inconsistent)) c.args.self.now c.loop.self c.try_dequeue.new.self i.2 missed)
+    ((tt, tt), same, trying_more (Consumes (Err error.Inconsistent)) c.args.self.now c.loop.self c.try_dequeue.new.self i.2 missed)
+
+pub loop-init : goal.loop-init
+loop-init g c = ((tt, tt), (refl, refl), ([], refl))
+
+pub returns-in-Ok-clause-same : goal.returns-in-Ok-clause-same
+returns-in-Ok-clause-same g c =
+    let i = c.loop.invariant in
+    let d = c.in-Ok.ensures.answer in (d.0.1 ∙ i.1.0, d.0.0.share ∙ i.1.1)
+
+pub returns-in-Ok-clause-answer : goal.returns-in-Ok-clause-answer
+returns-in-Ok-clause-answer g c =
+    let i = c.loop.invariant in (i.2.0, c.loop.self, i.2.1, c.in-Ok.ensures.answer)
+
+pub returns-then-found_nothing-clause-same : goal.returns-then-found_nothing-clause-same
+returns-then-found_nothing-clause-same g c =
+    same_then c.args.self.now c.loop.self c.try_dequeue.new.self c.loop.invariant.1 (stays_blocked c.loop.self c.try_dequeue.new.self c.in-Err.why c.in-Err.ensures.answer)
+
+pub returns-then-found_nothing-clause-answer : goal.returns-then-found_nothing-clause-answer
+returns-then-found_nothing-clause-answer g c =
+    let i = c.loop.invariant in
+    (i.2.0, c.loop.self, i.2.1, subst (λ w. Consumes (Err w) c.loop.self c.try_dequeue.new.self) (c.found_nothing.ensures.yes c.if-found_nothing.true) c.in-Err.ensures.answer)

@@ -1,4 +1,4 @@
-use Rattle.std.proofs.Common.{◌∙◌, rules}
+use Rattle.std.proofs.Common.{[], refl, ◌∙◌, subst}
 use Rattle.std.specs.Prelude.{Err}
 use Rattle.cordyceps_queue.specs.declared.steps.TryDequeueError.TheVariants as error
 use Rattle.cordyceps_queue.specs.QueueStanding.{Consumes}
@@ -10,8 +10,31 @@ loop-preserved g c =
     let i = c.loop.invariant in
     let missed = misses_blocked c.loop.self.party c.try_dequeue.new.self.party c.in-Err.why (c.found_nothing.ensures.no c.if-found_nothing.false) c.in-Err.ensures.answer in
     let same = same_then c.args.self.now.party c.loop.self.party c.try_dequeue.new.self.party i.2 (stays_blocked c.loop.self.party c.try_dequeue.new.self.party c.in-Err.why c.in-Err.ensures.answer) in
-    (search rules, c.in-Err.ensures.queue ∙ i.1, same, trying_more (Consumes (Err error.Inconsistent)) c.args.self.now.party c.loop.self.party c.try_dequeue.new.self.party i.3 missed)
+    ((tt, tt), c.in-Err.ensures.queue ∙ i.1, same, trying_more (Consumes (Err error.Inconsistent)) c.args.self.now.party c.loop.self.party c.try_dequeue.new.self.party i.3 missed)
 
 pub returns-in-Ok-clause-answer : goal.returns-in-Ok-clause-answer
 returns-in-Ok-clause-answer g c =
     let i = c.loop.invariant in (i.3.0, c.loop.self.party, i.3.1, c.in-Ok.ensures.answer)
+
+pub loop-init : goal.loop-init
+loop-init g c = ((tt, tt), refl, (refl, refl), ([], refl))
+
+pub returns-in-Ok-clause-queue : goal.returns-in-Ok-clause-queue
+returns-in-Ok-clause-queue g c = c.in-Ok.ensures.queue ∙ c.loop.invariant.1
+
+pub returns-in-Ok-clause-same : goal.returns-in-Ok-clause-same
+returns-in-Ok-clause-same g c =
+    let i = c.loop.invariant in
+    let d = c.in-Ok.ensures.answer in (d.0.1 ∙ i.2.0, d.0.0.share ∙ i.2.1)
+
+pub returns-then-found_nothing-clause-queue : goal.returns-then-found_nothing-clause-queue
+returns-then-found_nothing-clause-queue g c = c.in-Err.ensures.queue ∙ c.loop.invariant.1
+
+pub returns-then-found_nothing-clause-same : goal.returns-then-found_nothing-clause-same
+returns-then-found_nothing-clause-same g c =
+    same_then c.args.self.now.party c.loop.self.party c.try_dequeue.new.self.party c.loop.invariant.2 (stays_blocked c.loop.self.party c.try_dequeue.new.self.party c.in-Err.why c.in-Err.ensures.answer)
+
+pub returns-then-found_nothing-clause-answer : goal.returns-then-found_nothing-clause-answer
+returns-then-found_nothing-clause-answer g c =
+    let i = c.loop.invariant in
+    (i.3.0, c.loop.self.party, i.3.1, subst (λ w. Consumes (Err w) c.loop.self.party c.try_dequeue.new.self.party) (c.found_nothing.ensures.yes c.if-found_nothing.true) c.in-Err.ensures.answer)

@@ -1,13 +1,25 @@
-use Rattle.std.proofs.Common.{[], refl, rules}
+use Rattle.std.proofs.Common.{[], refl, ◌∙◌}
 use Rattle.cordyceps_queue.specs.QueueStanding.{FindsBusy}
-use Rattle.cordyceps_queue.proofs.QueueWaiting.{same_then, trying_more}
+use Rattle.cordyceps_queue.proofs.QueueWaiting.{trying_more}
 use Rattle.cordyceps_queue.proofs.shared_queue.MpscQueue.consume.Goals as goal
 
 pub loop-preserved : goal.loop-preserved
 loop-preserved g c =
     let i = c.loop.invariant in
     let busy = c.in-Err.ensures.answer in
-    (search rules, same_then c.args.party c.loop.party c.in-Err.back i.1 (busy.0.1, busy.0.0.share), trying_more FindsBusy c.args.party c.loop.party c.in-Err.back i.2 busy)
+    ((tt, tt), (busy.0.1 ∙ i.1.0, busy.0.0.share ∙ i.1.1), trying_more FindsBusy _ c.loop.party c.in-Err.back i.2 busy)
 
 pub loop-init : goal.loop-init
 loop-init g c = ((tt, tt), (refl, refl), ([], refl))
+
+pub try_consume-requires : goal.try_consume-requires
+try_consume-requires g c = c.loop.invariant.1.0 ∙ c.requires
+
+pub returns-in-Ok-clause-same : goal.returns-in-Ok-clause-same
+returns-in-Ok-clause-same g c =
+    let i = c.loop.invariant in
+    let taken = c.in-Ok.ensures.answer in (taken.0.1 ∙ i.1.0, taken.0.0.share ∙ i.1.1)
+
+pub returns-in-Ok-clause-answer : goal.returns-in-Ok-clause-answer
+returns-in-Ok-clause-answer g c =
+    let i = c.loop.invariant in (i.2.0, c.loop.party, i.2.1, c.in-Ok.ensures.answer)

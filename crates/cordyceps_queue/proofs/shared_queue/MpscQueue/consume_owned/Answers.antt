@@ -1,13 +1,30 @@
-use Rattle.std.proofs.Common.{[], refl, ◌∙◌, rules}
+use Rattle.std.proofs.Common.{[], refl, ap, ◌∙◌}
+use Rattle.std.specs.Arc.{arc_value}
 use Rattle.cordyceps_queue.specs.QueueStanding.{FindsBusy}
-use Rattle.cordyceps_queue.proofs.QueueWaiting.{same_then, trying_more}
+use Rattle.cordyceps_queue.proofs.QueueWaiting.{trying_more}
 use Rattle.cordyceps_queue.proofs.shared_queue.MpscQueue.consume_owned.Goals as goal
 
 pub loop-preserved : goal.loop-preserved
 loop-preserved g c =
     let i = c.loop.invariant in
     let back = c.in-Err.ensures.answer in
-    (search rules, back.0 ∙ i.1, same_then c.args.party c.loop.both.1 c.in-Err.back.1 i.2 (back.1.0.1, back.1.0.0.share), trying_more FindsBusy c.args.party c.loop.both.1 c.in-Err.back.1 i.3 back.1)
+    ((tt, tt), back.0 ∙ i.1, (back.1.0.1 ∙ i.2.0, back.1.0.0.share ∙ i.2.1), trying_more FindsBusy _ c.loop.both.1 c.in-Err.back.1 i.3 back.1)
 
 pub loop-init : goal.loop-init
 loop-init g c = ((tt, tt), refl, (refl, refl), ([], refl))
+
+pub try_consume_owned-requires : goal.try_consume_owned-requires
+try_consume_owned-requires g c =
+    let i = c.loop.invariant in rw i.1 (i.2.0 ∙ c.requires)
+
+pub returns-in-Ok-clause-queue : goal.returns-in-Ok-clause-queue
+returns-in-Ok-clause-queue g c = c.in-Ok.ensures.answer.0 ∙ ap (λ q. arc_value q) c.loop.invariant.1
+
+pub returns-in-Ok-clause-same : goal.returns-in-Ok-clause-same
+returns-in-Ok-clause-same g c =
+    let i = c.loop.invariant in
+    let taken = c.in-Ok.ensures.answer.1 in (taken.0.1 ∙ i.2.0, taken.0.0.share ∙ i.2.1)
+
+pub returns-in-Ok-clause-answer : goal.returns-in-Ok-clause-answer
+returns-in-Ok-clause-answer g c =
+    let i = c.loop.invariant in (i.3.0, c.loop.both.1, i.3.1, c.in-Ok.ensures.answer.1)

@@ -1,5 +1,6 @@
-use Rattle.std.proofs.Common.{[], refl, rules}
-use Rattle.cordyceps_queue.specs.QueueStanding.{MissesDequeue}
+use Rattle.std.proofs.Common.{[], refl, ◌∙◌, subst}
+use Rattle.std.specs.Prelude.{Err}
+use Rattle.cordyceps_queue.specs.QueueStanding.{MissesDequeue, Dequeues}
 use Rattle.cordyceps_queue.proofs.QueueWaiting.{misses, stays, same_then, trying_more}
 use Rattle.cordyceps_queue.proofs.shared_queue.MpscQueue.dequeue.Goals as goal
 
@@ -8,7 +9,7 @@ loop-preserved g c =
     let i = c.loop.invariant in
     let d = c.in-Err.ensures.answer in
     let missed = misses c.loop.party c.try_dequeue.new.party c.in-Err.why (c.found_nothing.ensures.no c.if-found_nothing.false) d in
-    (search rules, same_then c.args.party.now c.loop.party c.try_dequeue.new.party i.1 (stays c.loop.party c.try_dequeue.new.party c.in-Err.why d), trying_more MissesDequeue c.args.party.now c.loop.party c.try_dequeue.new.party i.2 missed)
+    ((tt, tt), same_then c.args.party.now c.loop.party c.try_dequeue.new.party i.1 (stays c.loop.party c.try_dequeue.new.party c.in-Err.why d), trying_more MissesDequeue c.args.party.now c.loop.party c.try_dequeue.new.party i.2 missed)
 
 pub loop-init : goal.loop-init
 loop-init g c = ((tt, tt), (refl, refl), ([], refl))
@@ -16,3 +17,20 @@ loop-init g c = ((tt, tt), (refl, refl), ([], refl))
 pub returns-in-Ok-clause-answer : goal.returns-in-Ok-clause-answer
 returns-in-Ok-clause-answer g c =
     let i = c.loop.invariant in (i.2.0, c.loop.party, i.2.1, c.in-Ok.ensures.answer)
+
+pub try_dequeue-requires : goal.try_dequeue-requires
+try_dequeue-requires g c = c.loop.invariant.1.0 ∙ c.requires
+
+pub returns-in-Ok-clause-same : goal.returns-in-Ok-clause-same
+returns-in-Ok-clause-same g c =
+    let i = c.loop.invariant in
+    let d = c.in-Ok.ensures.answer in (d.0.1 ∙ i.1.0, d.0.0.share ∙ i.1.1)
+
+pub returns-then-found_nothing-clause-same : goal.returns-then-found_nothing-clause-same
+returns-then-found_nothing-clause-same g c =
+    same_then c.args.party.now c.loop.party c.try_dequeue.new.party c.loop.invariant.1 (stays c.loop.party c.try_dequeue.new.party c.in-Err.why c.in-Err.ensures.answer)
+
+pub returns-then-found_nothing-clause-answer : goal.returns-then-found_nothing-clause-answer
+returns-then-found_nothing-clause-answer g c =
+    let i = c.loop.invariant in
+    (i.2.0, c.loop.party, i.2.1, subst (λ w. Dequeues (Err w) c.loop.party c.try_dequeue.new.party) (c.found_nothing.ensures.yes c.if-found_nothing.true) c.in-Err.ensures.answer)

@@ -1,4 +1,3 @@
-use Rattle.std.proofs.Common.{◌≡◌}
 use Rattle.cordyceps_queue.specs.QueueStanding.{IsSame, MissesDequeue}
 use Rattle.cordyceps_queue.proofs.QueueWaiting.{Trying}
 use Rattle.cordyceps_queue.proofs.shared_queue.MpscQueue.dequeue.Given as goal

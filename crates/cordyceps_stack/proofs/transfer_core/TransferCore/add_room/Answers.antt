@@ -1,4 +1,4 @@
-use Rattle.std.proofs.Common.{subst, sym}
+use Rattle.std.proofs.Common.{subst, sym, rules}
 use Rattle.cordyceps_stack.specs.TransferMachine.{Machine}
 use Rattle.cordyceps_stack.specs.TransferCore.{CoreMeets}
 use Rattle.cordyceps_stack.proofs.TransferGrowing.{room_tried}
@@ -19,3 +19,12 @@ pub returns-clause-walks : goal.returns-clause-walks
 returns-clause-walks g c = λ h.
     let m : Machine g.row.E.Denot = record { head = c.self.inside.head; rooms = c.self.inside.rooms; parties = c.self.inside.parties.items } in
     rw (← c.self.view_is) (hands_room_tried h m _ c.add.new.self c.add.result c.add.ensures.ok c.add.ensures.err)
+
+pub returns-clause-not_there : goal.returns-clause-not_there
+returns-clause-not_there g c = search rules
+
+pub returns-clause-ok : goal.returns-clause-ok
+returns-clause-ok g c = search rules
+
+pub returns-clause-err : goal.returns-clause-err
+returns-clause-err g c = search rules

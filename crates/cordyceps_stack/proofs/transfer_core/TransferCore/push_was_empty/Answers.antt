@@ -1,8 +1,18 @@
-use Rattle.std.proofs.Common.{◌≡◌, sym, ◌∙◌, rules}
+use Rattle.std.proofs.Common.{◌≡◌, sym, ap, ◌∙◌, rules}
 use Rattle.std.specs.Prelude.{is_none}
+use Rattle.cordyceps_stack.specs.declared.transfer_step.TransferStep.TheVariants as step
+use Rattle.cordyceps_stack.specs.TransferMachine.{Machine, stepped}
 use Rattle.cordyceps_stack.proofs.TransferHands.{push_hands_alone}
 use Rattle.cordyceps_stack.proofs.TransferAlone.{push_alone}
 use Rattle.cordyceps_stack.proofs.transfer_core.TransferCore.push_was_empty.Goals as goal
+
+pub returns-clause-ok : goal.returns-clause-ok
+returns-clause-ok g c =
+    let M = Machine g.row.E.Denot in
+    let loaded = c.step.ensures.machine in
+    let linked = c.step-2.ensures.machine ∙ ap (λ (m : M). (stepped m c.args.party step.SetNext).0) loaded in
+    let was : c.is_none-was_empty.result ≡ is_none c.args.self.now.head = search rules in
+    (was, c.step-3.ensures.machine ∙ ap (λ (m : M). (stepped m c.args.party step.Exchange).0) linked)
 
 pub returns-clause-history : goal.returns-clause-history
 returns-clause-history g c = λ h was.

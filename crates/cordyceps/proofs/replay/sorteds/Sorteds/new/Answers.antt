@@ -1,4 +1,5 @@
-use Rattle.std.proofs.Common.{[], refl, rules}
+use Rattle.std.proofs.Common.{[], refl, arith, rules}
+use Rattle.std.proofs.lemmas.Grind.{common_steps}
 use Rattle.cordyceps.proofs.Ordered.{contents_empty, empty_in_order}
 use Rattle.cordyceps.proofs.replay.sorteds.Sorteds.new.Goals as goal
 
@@ -10,3 +11,11 @@ returns-clause-table g c =
 
 pub returns-clause-in_order : goal.returns-clause-in_order
 returns-clause-in_order g c = λ order. rw (returns-clause-table g c) (empty_in_order order 16)
+
+pub invariant_of-result : goal.invariant_of-result
+invariant_of-result g c = record {
+  least = c.from_fn.ensures.items.long;
+  greatest = c.from_fn-2.ensures.items.long;
+  own = rw c.new.ensures refl;
+  ordered = rw c.new.ensures (first_of (search rules, grind (arith, common_steps)));
+}
