@@ -1,5 +1,6 @@
 //! Measures what calls of the library cost on one thread, by the program's own clock: pushes to a stack that threads
-//! share and takings from it, and, to compare, pushes and pops of stacks, lists and vectors and walks through a list.
+//! share and takings from it, puts into a free list and gets from it, and, to compare, pushes and pops of stacks, lists
+//! and vectors and walks through a list.
 //!
 //! Its one argument is a number of rounds, in each of which each element goes in and comes out once. It prints a line for
 //! each kind of call, with the nanoseconds of one call, and a sum of what it saw. Without an argument it makes few rounds,
@@ -13,6 +14,7 @@
 mod cost;
 mod ends;
 mod fault;
+mod free_lists;
 mod nodes;
 mod stopwatch;
 mod transfers;
@@ -22,13 +24,14 @@ use cordyceps::List;
 use cost::Cost;
 use ends::{measure_list, measure_moves, measure_stack, push_all_back};
 use fault::Fault;
+use free_lists::{measure_local, measure_shared};
 use nodes::make_nodes;
 use std::alloc::Global;
 use std::env;
 use std::io::ErrorKind;
 use std::process::ExitCode;
 use std::time::Clock;
-use transfers::measure_transfers;
+use transfers::{StackNode, measure_transfers};
 use walks::measure_walks;
 
 /// How many rounds are made where no argument says otherwise.
@@ -36,6 +39,9 @@ const ROUNDS: u32 = 10;
 
 /// How many elements go into each collection.
 const ELEMENTS: usize = 1024;
+
+/// How many blocks a free list has that are shared.
+const SHARED: usize = 64;
 
 /// How many elements a list has that is walked through.
 const LONG: usize = 10_000;
@@ -102,6 +108,28 @@ impl Task {
     }
 }
 
+/// Measures free lists, and shows them: a local part with these blocks, and what is shared with others. Answers the
+/// sum of what came out of that.
+fn show_free_lists<R: Clock + Print>(
+    rt: &R,
+    alloc: Global,
+    task: Task,
+    nodes: &mut Vec<StackNode>,
+) -> Result<u64, Fault> {
+    let own = measure_local(rt, alloc, nodes, task.rounds)?;
+    task.show(rt, "FreeList: put", own.put)?;
+    task.show(rt, "FreeList: get", own.get)?;
+    let mut blocks = make_nodes(alloc, SHARED)?;
+    let (shared, sum) = measure_shared(rt, alloc, &mut blocks, task.rounds)?;
+    task.show(rt, "FreeList: put_remote", shared.put_remote)?;
+    task.show(
+        rt,
+        "FreeList: get of 64 shared, a block's share",
+        shared.fetch,
+    )?;
+    Ok(sum)
+}
+
 /// Measures the collections of stack nodes, and shows them. Answers the sum of what came out.
 fn show_stacks<R: Clock + Print>(rt: &R, alloc: Global, task: Task) -> Result<u64, Fault> {
     let mut nodes = make_nodes(alloc, ELEMENTS)?;
@@ -118,9 +146,10 @@ fn show_stacks<R: Clock + Print>(rt: &R, alloc: Global, task: Task) -> Result<u6
     let ends = measure_stack(rt, &mut nodes, task.rounds)?;
     task.show(rt, "Stack: push", ends.push)?;
     task.show(rt, "Stack: pop", ends.pop)?;
+    let seen = show_free_lists(rt, alloc, task, &mut nodes)?;
     let moves = measure_moves(rt, alloc, &mut nodes, task.rounds)?;
     task.show(rt, "Vec: pop and push", moves)?;
-    Ok(sum)
+    Ok(sum.wrapping_add(seen))
 }
 
 /// Measures lists, and shows them. Answers the sum of what was seen.

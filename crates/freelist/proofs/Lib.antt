@@ -1,0 +1,2 @@
+pub mod Whereabouts
+mod Calls

@@ -1,0 +1,90 @@
+-- Each block of a free list is in one place: of one user, and of all users of a legal history.
+use Rattle.std.proofs.Common.{◌≡◌, ℕ, ◌+◌, List, [], ◌∷◌, ◌++◌, reverse, Option, Some, None, refl, ap, arith}
+use Rattle.std.proofs.lemmas.List.{reverse-append}
+use Rattle.cordyceps_base.specs.Counts.{tally}
+use Rattle.cordyceps_base.proofs.Counting.{tally_append}
+use Rattle.cordyceps_stack.specs.TransferHistory.{Event, held, taken}
+use Rattle.cordyceps_stack.proofs.TransferHistories.{nothing_lost}
+use Rattle.freelist.specs.Whereabouts.{Whereabouts, Call, Gets, Puts, PutsRemote, HandsBack, Idles, Finishes, Gains, Loses, behind, Without, Does, Run, gained, lost, Story, IsOf, everywhere, at_start}
+
+module _ {B : Type 0} (f : B → ℕ) where
+  tally_behind : (o : Option B) (bs : List B) → tally f (behind o bs) ≡ tally f (behind o []) + tally f bs
+  tally_behind None bs = omega arith
+  tally_behind (Some b) bs = omega arith
+
+  tally_reverse : (bs : List B) → tally f (reverse bs) ≡ tally f bs
+  tally_reverse [] = refl
+  tally_reverse (b ∷ bs) = omega (arith, tally_reverse bs, tally_append f (reverse bs) (b ∷ []), ap (tally f) (reverse-append (b ∷ []) bs))
+
+  tally_without : (b : B) (old new : List B) → Without b old new → tally f old ≡ f b + tally f new
+  tally_without b old new w = omega (arith, ap (tally f) w.old_is, ap (tally f) w.new_is, tally_append f w.before (b ∷ w.after), tally_append f w.before w.after)
+
+  -- the blocks with a user, in its local part, and put back
+  abbrev pub at : Whereabouts B → ℕ
+  at s = tally f s.with_user + (tally f s.local + tally f s.put_back)
+
+  call_keeps : (c : Call B) (s t : Whereabouts B) → Does c s t →
+      at t + (tally f (lost (c ∷ [])) + tally f s.fetched) ≡ at s + (tally f (gained (c ∷ [])) + tally f t.fetched)
+  call_keeps (Gets batch first) s t d =
+      let user : tally f t.with_user ≡ tally f (behind first s.with_user) = ap (λ z. tally f z.with_user) d.3 in
+      let back : tally f t.put_back ≡ tally f s.put_back = ap (λ z. tally f z.put_back) d.3 in
+      let more : tally f t.fetched ≡ tally f (s.fetched ++ reverse batch) = ap (λ z. tally f z.fetched) d.3 in
+      omega (arith, user, back, more, ap (tally f) d.1, tally_append f s.local batch, tally_behind first t.local, tally_behind first s.with_user, tally_append f s.fetched (reverse batch), tally_reverse batch)
+  call_keeps (Puts b) s t d =
+      omega (arith, tally_without b s.with_user t.with_user d.0, ap (λ z. tally f z.local) d.1, ap (λ z. tally f z.put_back) d.1, ap (λ z. tally f z.fetched) d.1)
+  call_keeps (PutsRemote b) s t d =
+      omega (arith, tally_without b s.with_user t.with_user d.0, ap (λ z. tally f z.local) d.1, ap (λ z. tally f z.put_back) d.1, ap (λ z. tally f z.fetched) d.1, tally_append f s.put_back (b ∷ []))
+  call_keeps HandsBack s t d = omega (arith, ap at d.1, ap (λ z. tally f z.fetched) d.1)
+  call_keeps (Idles k) s t d = omega (arith, ap at d.1, ap (λ z. tally f z.fetched) d.1)
+  call_keeps Finishes s t d =
+      omega (arith, ap (λ z. tally f z.with_user) d, ap (λ z. tally f z.local) d, ap (λ z. tally f z.put_back) d, ap (λ z. tally f z.fetched) d, tally_append f s.with_user s.local)
+  call_keeps (Gains b) s t d =
+      omega (arith, ap (λ z. tally f z.with_user) d, ap (λ z. tally f z.local) d, ap (λ z. tally f z.put_back) d, ap (λ z. tally f z.fetched) d)
+  call_keeps (Loses b) s t d =
+      omega (arith, tally_without b s.with_user t.with_user d.0, ap (λ z. tally f z.local) d.1, ap (λ z. tally f z.put_back) d.1, ap (λ z. tally f z.fetched) d.1)
+
+  lost_first : (c : Call B) (cs : List (Call B)) → tally f (lost (c ∷ cs)) ≡ tally f (lost (c ∷ [])) + tally f (lost cs)
+  lost_first (Gets batch first) cs = omega arith
+  lost_first (Puts b) cs = omega arith
+  lost_first (PutsRemote b) cs = omega arith
+  lost_first HandsBack cs = omega arith
+  lost_first (Idles k) cs = omega arith
+  lost_first Finishes cs = omega arith
+  lost_first (Gains b) cs = omega arith
+  lost_first (Loses b) cs = omega arith
+
+  gained_first : (c : Call B) (cs : List (Call B)) → tally f (gained (c ∷ cs)) ≡ tally f (gained (c ∷ [])) + tally f (gained cs)
+  gained_first (Gets batch first) cs = omega arith
+  gained_first (Puts b) cs = omega arith
+  gained_first (PutsRemote b) cs = omega arith
+  gained_first HandsBack cs = omega arith
+  gained_first (Idles k) cs = omega arith
+  gained_first Finishes cs = omega arith
+  gained_first (Gains b) cs = omega arith
+  gained_first (Loses b) cs = omega arith
+
+  -- of one user, what it has, what is local, what it put back and what it let go of is what it had, what it came by and what
+  -- it took of what is shared
+  pub kept : (cs : List (Call B)) (s t : Whereabouts B) → Run cs s t →
+      at t + (tally f (lost cs) + tally f s.fetched) ≡ at s + (tally f (gained cs) + tally f t.fetched)
+  kept [] s t r = omega (arith, ap at r, ap (λ z. tally f z.fetched) r)
+  kept (c ∷ cs) s t r =
+      omega (arith, call_keeps c s r.0 r.1, kept cs r.0 t r.2, lost_first c cs, gained_first c cs)
+
+module _ {B : Type 0} (f : B → ℕ) where
+  all_kept : (users : List (Story B)) →
+      tally (λ u. tally f u.end.with_user + tally f u.end.local) users + (tally (λ u. tally f u.end.put_back) users + tally (λ u. tally f (lost u.calls)) users)
+      ≡ at_start f users + (tally (λ u. tally f (gained u.calls)) users + tally (λ u. tally f u.end.fetched) users)
+  all_kept [] = omega arith
+  all_kept (u ∷ users) =
+      omega (arith, all_kept users, kept f u.calls u.start u.end u.runs, ap (tally f) u.new.0, ap (tally f) u.new.1)
+
+module _ {P H B : Type 0} (block : H → B) (f : B → ℕ) where
+  -- of all users together, what is with them, local and held, and what they let go of, is what was there at the start, and what
+  -- they came by
+  pub each_once : (users : List (Story B)) (h : List (Event P H)) → IsOf block users h →
+      everywhere block f users h + tally (λ u. tally f (lost u.calls)) users
+      ≡ at_start f users + tally (λ u. tally f (gained u.calls)) users
+  each_once users h is =
+      let g : H → ℕ = λ e. f (block e) in
+      omega (arith, all_kept f users, is.pushed f, is.took f, ap (tally g) (nothing_lost h is.legal), tally_append g (taken h) (held h))

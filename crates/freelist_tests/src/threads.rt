@@ -1,0 +1,41 @@
+//! Threads that put blocks back, while their owner gets them.
+use crate::blocks::{blocks, dropped, each_once};
+use crate::users::{Remote, get_all};
+use cordyceps_testing::counted::{Counted, Drops};
+use freelist::{FreeList, Local, Stack};
+use std::alloc::AllocError;
+use std::process::Abort;
+use std::thread;
+use std::thread::Threads;
+
+/// Two threads put the blocks back, each some, while a third gets so many.
+fn put_and_get<R: Threads + Abort + Sync>(
+    rt: &R,
+    local: Local<'_, Counted>,
+    remotes: (Remote<'_>, Remote<'_>),
+    halves: (Stack<Counted>, Stack<Counted>),
+    wanted: usize,
+) -> Stack<Counted> {
+    let (first, second) = remotes;
+    let (low, high) = halves;
+    let put_low = move || first.put_all(rt, low);
+    let put_high = move || second.put_all(rt, high);
+    let put = move || thread::join(rt, put_low, put_high);
+    let get = move || get_all(rt, local, wanted);
+    thread::join(rt, put, get).1
+}
+
+#[test]
+fn what_threads_put_back_comes_once(rt: HostRuntime) -> Result<(), AllocError> {
+    let drops = Drops::new(rt.alloc())?;
+    let low = blocks(rt.alloc(), 0, 32, &drops)?;
+    let high = blocks(rt.alloc(), 32, 64, &drops)?;
+    let (list, mut party) = FreeList::new(rt.alloc(), 64)?;
+    let first = Remote::at(&list, list.split(&mut party, 32));
+    let second = Remote::at(&list, list.split(&mut party, 32));
+    let all = put_and_get(&rt, list.local(party), (first, second), (low, high), 64);
+    dropped(&rt, &drops, 0);
+    each_once(&rt, rt.alloc(), all, 64)?;
+    dropped(&rt, &drops, 64);
+    Ok(())
+}
