@@ -8,7 +8,7 @@ use Rattle.cordyceps_base.proofs.Adding.{adds_then}
 use Rattle.cordyceps_stack.specs.TransferHistory.{Event, Load, Push, Taken, Legal, pushes, taken}
 use Rattle.cordyceps_stack.specs.TransferStanding.{PartyOf, PushesAt, Misses}
 use Rattle.freelist.specs.Blocks.{LocalOf, GivesFirst, GetsFrom}
-use Rattle.freelist.specs.Whereabouts.{Whereabouts, Call, Gets, Puts, PutsRemote, HandsBack, Idles, Finishes, Gains, Loses, behind, Does, Run, commands, attempts, looks, Acts, after, CarriesOut}
+use Rattle.freelist.specs.Whereabouts.{Whereabouts, Call, Gets, Puts, PutsRemote, HandsBack, Idles, Finishes, Gains, Loses, behind, Does, Run, command_of, attempts, looks, Acts, after, CarriesOut}
 use Rattle.freelist.specs.declared.laws.Command.{Command}
 use Rattle.freelist.specs.declared.laws.Command.TheVariants as kinds
 
@@ -36,17 +36,6 @@ module _ {B : Type 0} where
   run_then : (cs ds : List (Call B)) (s m t : Whereabouts B) → Run cs s m → Run ds m t → Run (cs ++ ds) s t
   run_then [] ds s m t r q = subst (λ z. Run ds z t) r q
   run_then (c ∷ cs) ds s m t r q = (r.0, r.1, run_then cs ds r.0 m t r.2 q)
-
-  commands_append : (cs ds : List (Call B)) → commands (cs ++ ds) ≡ commands cs ++ commands ds
-  commands_append [] ds = refl
-  commands_append (Gets batch first ∷ cs) ds = ap (λ z. kinds.Get ∷ z) (commands_append cs ds)
-  commands_append (Puts b ∷ cs) ds = ap (λ z. kinds.Put ∷ z) (commands_append cs ds)
-  commands_append (PutsRemote b ∷ cs) ds = ap (λ z. kinds.PutRemote ∷ z) (commands_append cs ds)
-  commands_append (HandsBack ∷ cs) ds = ap (λ z. kinds.PutRemote ∷ z) (commands_append cs ds)
-  commands_append (Idles k ∷ cs) ds = ap (λ z. k ∷ z) (commands_append cs ds)
-  commands_append (Finishes ∷ cs) ds = commands_append cs ds
-  commands_append (Gains b ∷ cs) ds = commands_append cs ds
-  commands_append (Loses b ∷ cs) ds = commands_append cs ds
 
   attempts_append : (cs ds : List (Call B)) → attempts (cs ++ ds) ≡ attempts cs + attempts ds
   attempts_append [] ds = omega arith
@@ -113,7 +102,7 @@ module _ {T H : Type 0} (element : H → Element T) where
         puts = a.puts ++ b.puts;
         gets = a.gets ++ b.gets;
         tried = omega (arith, a.tried, b.tried, looks_append a.puts b.puts, attempts_append a.calls b.calls);
-        carries = commands_append a.calls b.calls ∙ (ap (λ z. z ++ commands b.calls) a.carries ∙ ap (λ z. ks ++ z) b.carries);
+        carries = map-append command_of a.calls b.calls ∙ (ap (λ z. z ++ map command_of b.calls) a.carries ∙ (ap (λ z. map Some ks ++ z) b.carries ∙ sym (map-append Some ks js)));
         runs = run_then a.calls b.calls (after element hand l [] []) (after element hand2 l2 a.puts a.gets) (after element hand3 l3 (a.puts ++ b.puts) (a.gets ++ b.gets)) a.runs end2;
         party = (acts_then p p2 p3 a.puts b.puts a.party.0 b.party.0, omega (arith, a.party.1, b.party.1, ap length (pushes_append a.puts b.puts), length-append (pushes a.puts) (pushes b.puts)));
         owner = (acts_then l.party l2.party l3.party a.gets b.gets a.owner.0 b.owner.0, omega (arith, a.owner.1, b.owner.1, ap length (taken_append a.gets b.gets), length-append (taken a.gets) (taken b.gets)));
@@ -245,8 +234,8 @@ module _ {T H : Type 0} (element : H → Element T) where
     owner = (inl (refl, refl), omega arith);
   }
 
-  -- each command puts at most one block back
-  few_back : {B : Type 0} (cs : List (Call B)) (s t : Whereabouts B) → Run cs s t → length t.put_back ≤ length s.put_back + length (commands cs)
+  -- each call puts at most one block back
+  few_back : {B : Type 0} (cs : List (Call B)) (s t : Whereabouts B) → Run cs s t → length t.put_back ≤ length s.put_back + length cs
   few_back [] s t r = omega (arith, ap (λ z. length z.put_back) r)
   few_back (Gets batch first ∷ cs) s t r = omega (arith, few_back cs r.0 t r.2, ap (λ z. length z.put_back) r.1.3)
   few_back (Puts b ∷ cs) s t r = omega (arith, few_back cs r.0 t r.2, ap (λ z. length z.put_back) r.1.1)
@@ -259,7 +248,8 @@ module _ {T H : Type 0} (element : H → Element T) where
 
   pub few_rooms : (ks : List Command) (hand hand2 : List (Element T)) (l l2 : LocalOf T H) (p p2 : PartyOf H) → CarriesOut element ks hand l p hand2 l2 p2 → p.rooms ≤ p2.rooms + length ks
   few_rooms ks hand hand2 l l2 p p2 a =
-      omega (arith, few_back a.calls (after element hand l [] []) (after element hand2 l2 a.puts a.gets) a.runs, ap length a.carries, a.party.1, length-map (pushes a.puts) element)
+      let as_many = ap length a.carries in
+      omega (arith, few_back a.calls (after element hand l [] []) (after element hand2 l2 a.puts a.gets) a.runs, as_many, length-map a.calls command_of, length-map ks Some, a.party.1, length-map (pushes a.puts) element)
 
   pub same_table : (ks : List Command) (hand hand2 : List (Element T)) (l l2 : LocalOf T H) (p p2 : PartyOf H) → CarriesOut element ks hand l p hand2 l2 p2 → p2.table ≡ p.table
   same_table ks hand hand2 l l2 p p2 a = acted a.party.0

@@ -81,15 +81,14 @@ module _ {B : Type 0} where
   lost (Loses b ∷ cs) = b ∷ lost cs
   lost (c ∷ cs) = lost cs
 
-  -- the command that a call carries out
-  abbrev pub commands : List (Call B) → List Command
-  commands [] = []
-  commands (Gets batch first ∷ cs) = kinds.Get ∷ commands cs
-  commands (Puts b ∷ cs) = kinds.Put ∷ commands cs
-  commands (PutsRemote b ∷ cs) = kinds.PutRemote ∷ commands cs
-  commands (HandsBack ∷ cs) = kinds.PutRemote ∷ commands cs
-  commands (Idles k ∷ cs) = k ∷ commands cs
-  commands (c ∷ cs) = commands cs
+  -- the command that a call carries out, if it does
+  abbrev pub command_of : Call B → Option Command
+  command_of (Gets batch first) = Some kinds.Get
+  command_of (Puts b) = Some kinds.Put
+  command_of (PutsRemote b) = Some kinds.PutRemote
+  command_of HandsBack = Some kinds.PutRemote
+  command_of (Idles k) = Some k
+  command_of c = None
 
   -- how often a block was to be put back, with or without success
   abbrev pub attempts : List (Call B) → ℕ
@@ -139,12 +138,12 @@ module _ {T H : Type 0} (element : H → Element T) where
   after hand l puts gets =
       record { with_user = hand; local = l.blocks; put_back = map element (pushes puts); fetched = map element (taken gets) }
 
-  -- a user with a stack of blocks, a local part and a party carried out these commands
+  -- a user with a stack of blocks, a local part and a party carried out these commands, by one call each, and did nothing else
   pub record CarriesOut (ks : List Command) (hand : List (Element T)) (l : LocalOf T H) (p : PartyOf H) (hand2 : List (Element T)) (l2 : LocalOf T H) (p2 : PartyOf H) : Type 0 where
     pub calls : List (Call (Element T))
     pub puts : List (Event Name H)
     pub gets : List (Event Name H)
-    pub carries : commands calls ≡ ks
+    pub carries : map command_of calls ≡ map Some ks
     pub runs : Run calls (after hand l [] []) (after hand2 l2 puts gets)
     pub tried : looks puts ≡ attempts calls
     pub party : Acts p puts p2 × (p.rooms ≡ p2.rooms + length (pushes puts))
