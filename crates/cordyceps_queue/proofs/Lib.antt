@@ -21,6 +21,7 @@ pub mod Reading
 pub mod Runs
 pub mod Shrinking
 pub mod QueueTables
+pub mod QueueTaking
 pub mod QueueEnqueuing
 pub mod QueueReturning
 pub mod QueueDequeuing

@@ -1,5 +1,5 @@
 -- What a whole party takes out of a queue is what its history holds.
-use Rattle.std.proofs.Common.{◌≡◌, List, [], ◌∷◌, ◌++◌, reverse, drop, sym, ap, ◌∙◌, subst}
+use Rattle.std.proofs.Common.{◌≡◌, List, [], ◌∷◌, ◌++◌, reverse, drop, refl, sym, ap, ◌∙◌, subst}
 use Rattle.std.specs.Prelude.{Ok, Err}
 use Rattle.std.proofs.lemmas.List.{reverse-append}
 use Rattle.cordyceps_base.specs.Histories.{plain}
@@ -10,7 +10,7 @@ use Rattle.cordyceps_queue.specs.declared.steps.TryDequeueError.{TryDequeueError
 use Rattle.cordyceps_queue.specs.declared.steps.TryDequeueError.TheVariants as error
 use Rattle.cordyceps_queue.specs.QueueHistory.{Event, Take, Look, Out, Empty, Free, held}
 use Rattle.cordyceps_queue.specs.QueuePast as past
-use Rattle.cordyceps_queue.specs.QueueStanding.{same_name, PartyOf, Legal, Adds, Dequeues, IsCertain}
+use Rattle.cordyceps_queue.specs.QueueStanding.{same_name, PartyOf, Legal, Adds, Dequeues, Consumes, IsCertain}
 use Rattle.cordyceps_queue.proofs.Both.{legal_both_ways}
 use Rattle.cordyceps_queue.proofs.Legality.{held_of}
 
@@ -43,3 +43,22 @@ module _ {E : Type 0} where
   nothing_left u w error.Empty is d c = finds_none u w is d
   nothing_left u w error.Inconsistent is d c = absurd c
   nothing_left u w error.Busy is d c = absurd c
+
+  -- the same of a try with the right
+  pub gives_first : (u w : PartyOf E) (e : E) → u.share ≡ whole → Consumes (Ok e) u w → held (plain u.seen) ≡ e ∷ held (plain w.seen)
+  gives_first u w e is d =
+      let n = name_of u in
+      let es : List (Event Name E) = Look n ∷ Out n e ∷ [] in
+      let l = back_legal u w es is d.0 in
+      let out = l.0 in
+      let all = whole_adds (λ h. Legal h) u w es is d.0 in
+      let back : reverse (plain w.seen) ≡ reverse es ++ reverse (plain u.seen) = ap reverse all ∙ reverse-append (plain u.seen) es in
+      let after = held_of (plain w.seen) (subst (λ r. past.IsLegal r) (sym back) l) ∙ ap (λ r. past.held r) back in
+      held_of (plain u.seen) l.1.1 ∙ (out.2 ∙ ap (λ xs. e ∷ xs) (sym (after ∙ ap (drop 1) out.2)))
+
+  pub gives_none : (u w : PartyOf E) (why : TryDequeueError) → u.share ≡ whole → Consumes (Err why) u w → IsCertain {E = E} (Err why) → (why ≡ error.Empty) × (held (plain u.seen) ≡ [])
+  gives_none u w error.Empty is d c =
+      let n = name_of u in
+      let l = back_legal u w (Look n ∷ Empty n ∷ []) is d.0 in (refl, held_of (plain u.seen) l.1.1 ∙ l.0.1)
+  gives_none u w error.Inconsistent is d c = absurd c
+  gives_none u w error.Busy is d c = absurd c

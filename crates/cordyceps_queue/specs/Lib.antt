@@ -1,4 +1,5 @@
 pub mod QueueAlone
+pub mod QueueBatches
 pub mod QueueCore
 pub mod QueueHistory
 pub mod QueueKept

@@ -1,8 +1,13 @@
 //! Consumers of a shared queue, which have the right to dequeue.
-ghost use Rattle.std.specs.Prelude.{◌≡◌, true, is_ok, MatchResult};
+ghost use Rattle.std.specs.Prelude.{◌≡◌, ◌≤◌, List, map, take, true, is_ok, Err, MatchResult};
+ghost use Rattle.cordyceps_base.specs.Histories.{plain};
 ghost use Rattle.cordyceps_base.specs.Shares.{whole};
+ghost use Rattle.cordyceps_queue.specs.QueueBatches.{TakesLinked};
+ghost use Rattle.cordyceps_queue.specs.QueueHistory.{held};
+ghost use Rattle.cordyceps_queue.specs.declared.steps.TryDequeueError.TheVariants as error;
 ghost use Rattle.cordyceps_queue.specs.QueueStanding.{Consumes, TakesRight, FindsBusy, GivesRight, IsCertain};
 
+use crate::batch::Batch;
 use crate::queue_table::{Chair, Filled, Tried, Words};
 use crate::shared_queue::{MpscQueue, Party};
 use crate::steps::TryDequeueError;
@@ -49,6 +54,35 @@ pub(crate) fn take_right<T: Linked<Links<T>>>(
         tickets,
         tail: tail - 1,
     })
+}
+
+/// Takes elements out, the oldest first, until there are `max` or a try gives none. `Err` is the first try's.
+pub(crate) fn take_batch<T: Linked<Links<T>>>(
+    words: &Words<T::Handle>,
+    right: &mut Right<T::Handle>,
+    max: usize,
+) -> Result<Batch<T>, TryDequeueError>
+    requires table { right.old.table ≡ words.now.table_id }
+    requires some { 1 ≤ max }
+    ensures answer { MatchResult result
+        (λ batch. (es : List T.Handle) × (batch ≡ map T.element es) × TakesLinked max es right.old right.new)
+        (λ why. Consumes (Err why) right.old right.new) }
+    ensures whole { right.old.share ≡ whole → MatchResult result
+        (λ batch. batch ≡ map T.element (take max (held (plain right.old.seen))))
+        (λ why. why ≡ error.Empty) }
+{
+    let mut batch = Batch::new();
+    while batch.len() < max {
+        match right.try_once(words) {
+            Ok(handle) => batch.put_last(handle),
+            Err(why) => return if batch.is_empty() {
+                Err(why)
+            } else {
+                Ok(batch)
+            },
+        }
+    }
+    Ok(batch)
 }
 
 /// Gives the right back.
@@ -149,6 +183,23 @@ impl<'a, T: Linked<Links<T>>> Consumer<'a, T> {
     {
         let queue = self.queue;
         self.right.try_once(&queue.rooms.shared)
+    }
+
+    /// Takes elements out until it has `max` or a try is not `Ok`, and answers them, the oldest first. Each try is as that of
+    /// `try_dequeue`. It takes no memory, and waits for nobody.
+    ///
+    /// `Err` is the first try's, where that gave no element. A whole party gets all that is held, up to `max`.
+    pub fn take_linked(&mut self, max: usize) -> Result<Batch<T>, TryDequeueError>
+        requires { 1 ≤ max }
+        ensures answer { MatchResult result
+            (λ batch. (es : List T.Handle) × (batch ≡ map T.element es) × TakesLinked max es self.old self.new)
+            (λ why. Consumes (Err why) self.old self.new) }
+        ensures whole { self.old.share ≡ whole → MatchResult result
+            (λ batch. batch ≡ map T.element (take max (held (plain self.old.seen))))
+            (λ why. why ≡ error.Empty) }
+    {
+        let queue = self.queue;
+        take_batch(&queue.rooms.shared, &mut self.right, max)
     }
 
     /// How many rooms the party has.

@@ -1,10 +1,15 @@
 //! Consumers that share the ownership of their queue.
 ghost use Rattle.std.specs.Arc.{arc_value};
-ghost use Rattle.std.specs.Prelude.{◌≡◌, true, is_ok, MatchResult};
+ghost use Rattle.std.specs.Prelude.{◌≡◌, ◌≤◌, List, map, take, true, is_ok, Err, MatchResult};
+ghost use Rattle.cordyceps_base.specs.Histories.{plain};
 ghost use Rattle.cordyceps_base.specs.Shares.{whole};
+ghost use Rattle.cordyceps_queue.specs.QueueBatches.{TakesLinked};
+ghost use Rattle.cordyceps_queue.specs.QueueHistory.{held};
+ghost use Rattle.cordyceps_queue.specs.declared.steps.TryDequeueError.TheVariants as error;
 ghost use Rattle.cordyceps_queue.specs.QueueStanding.{Consumes, TakesRight, FindsBusy, GivesRight, IsCertain};
 
-use crate::consumer::{Right, give_right, take_right};
+use crate::batch::Batch;
+use crate::consumer::{Right, give_right, take_batch, take_right};
 use crate::shared_queue::{MpscQueue, Party};
 use crate::steps::TryDequeueError;
 use cordyceps_base::linked::Linked;
@@ -76,6 +81,24 @@ impl<T: Linked<Links<T>>> OwnedConsumer<T> {
     {
         let queue: &MpscQueue<T> = &self.queue;
         self.right.try_once(&queue.rooms.shared)
+    }
+
+    /// Takes elements out until it has `max` or a try is not `Ok`, and answers them, the oldest first. Each try is as that of
+    /// `try_dequeue`. It takes no memory, and waits for nobody.
+    ///
+    /// `Err` is the first try's, where that gave no element. A whole party gets all that is held, up to `max`.
+    pub fn take_linked(&mut self, max: usize) -> Result<Batch<T>, TryDequeueError>
+        requires { 1 ≤ max }
+        ensures queue { self.new.queue ≡ self.old.queue }
+        ensures answer { MatchResult result
+            (λ batch. (es : List T.Handle) × (batch ≡ map T.element es) × TakesLinked max es self.old.party self.new.party)
+            (λ why. Consumes (Err why) self.old.party self.new.party) }
+        ensures whole { self.old.party.share ≡ whole → MatchResult result
+            (λ batch. batch ≡ map T.element (take max (held (plain self.old.party.seen))))
+            (λ why. why ≡ error.Empty) }
+    {
+        let queue: &MpscQueue<T> = &self.queue;
+        take_batch(&queue.rooms.shared, &mut self.right, max)
     }
 
     /// How many rooms the party has.
