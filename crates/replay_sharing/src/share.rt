@@ -127,8 +127,10 @@ fn work_both<R: Threads + Wait + Sync, G: Gate>(
                 requires { IsSync R.row × IsSync G.row × (second.table ≡ stack.now) × (second.rooms ≡ 2) }
                 ensures { Works twenties.0 twenties.1 second result }
             { work(rt, gate, 1, stack, second, twenties) };
-            let two = scope.spawn_with(task, work_on)?;
-            Ok((one.join(rt), two.join(rt)))
+            let two = scope.spawn_with(task, work_on);
+            // (joined in any case, so that nothing of it is left)
+            let back = one.join(rt);
+            Ok((back, two?.join(rt)))
         },
     )
 }
