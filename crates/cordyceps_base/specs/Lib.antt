@@ -1,15 +1,10 @@
 pub mod Boxes
 pub mod BoxesLends
-pub mod Counts
 pub mod DoubleChain
 pub mod DoubleChainLends
 pub mod Element
 pub mod Forward
-pub mod Histories
-pub mod Knowing
 pub mod NodeLends
 pub mod Nodes
 pub mod Runs
-pub mod Shares
 pub mod SingleChain
-pub mod Standings

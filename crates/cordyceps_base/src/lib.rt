@@ -1,5 +1,4 @@
-//! Owned nodes, the handles that stand for them, the two chains that link them, and the tickets to a shared
-//! collection's rooms.
+//! Owned nodes, the handles that stand for them, and the two chains that link them.
 //!
 //! A node is a block of memory of its own, with room for the links of one kind of collection, so that linking takes
 //! no memory. What a contract sees of a node, a handle or a collection is its elements: each a number, which the maker
@@ -17,4 +16,3 @@ pub mod single_chain;
 pub mod single_link;
 pub mod stack;
 pub mod steps;
-pub mod tickets;

@@ -3,10 +3,10 @@ use Rattle.std.proofs.Common.{◌≡◌, ℕ, List, [], ◌∷◌, ◌++◌, ◌
 use Rattle.std.specs.Prelude.{Ok, Err}
 use Rattle.std.proofs.lemmas.List.{reverse-append}
 use Rattle.atomic_table.specs.Seated.{TableId}
-use Rattle.cordyceps_base.specs.Histories.{plain, AllOwn}
-use Rattle.cordyceps_base.specs.Shares.{Name, whole, first_name}
-use Rattle.cordyceps_base.proofs.Adding.{whole_adds, plain_own}
-use Rattle.cordyceps_base.proofs.Telling.{grown_then}
+use Rattle.cordyceps_shared.specs.Histories.{plain, AllOwn}
+use Rattle.cordyceps_shared.specs.Shares.{Name, whole, first_name}
+use Rattle.cordyceps_shared.proofs.Adding.{whole_adds, plain_own}
+use Rattle.cordyceps_shared.proofs.Telling.{grown_then}
 use Rattle.cordyceps_queue.specs.declared.queue_table.Filled.{Filled}
 use Rattle.cordyceps_queue.specs.declared.queue_table.Tried.TheVariants as tried
 use Rattle.cordyceps_queue.specs.declared.steps.TryDequeueError.TheVariants as error

@@ -2,10 +2,10 @@
 use Rattle.std.proofs.Common.{◌≡◌, List, [], ◌∷◌, ◌++◌, reverse, drop, refl, sym, ap, ◌∙◌, subst}
 use Rattle.std.specs.Prelude.{Ok, Err}
 use Rattle.std.proofs.lemmas.List.{reverse-append}
-use Rattle.cordyceps_base.specs.Histories.{plain}
-use Rattle.cordyceps_base.specs.Shares.{Name, whole}
-use Rattle.cordyceps_base.specs.Standings.{name_of}
-use Rattle.cordyceps_base.proofs.Adding.{whole_adds}
+use Rattle.cordyceps_shared.specs.Histories.{plain}
+use Rattle.cordyceps_shared.specs.Shares.{Name, whole}
+use Rattle.cordyceps_shared.specs.Standings.{name_of}
+use Rattle.cordyceps_shared.proofs.Adding.{whole_adds}
 use Rattle.cordyceps_queue.specs.declared.steps.TryDequeueError.{TryDequeueError}
 use Rattle.cordyceps_queue.specs.declared.steps.TryDequeueError.TheVariants as error
 use Rattle.cordyceps_queue.specs.QueueHistory.{Event, Take, Look, Out, Empty, Free, held}

@@ -3,7 +3,7 @@ use Rattle.std.proofs.Common.{◌≡◌, ◌≢◌, ℕ, zero, suc, ◌+◌, ◌
 use mathlib.Core.Option.{some, none}
 use lib.ListN.{get_elem?}
 use Rattle.atomic_table.specs.Table.{keeps, carried_after, step, Allows}
-use Rattle.cordyceps_base.specs.Shares.{Name}
+use Rattle.cordyceps_shared.specs.Shares.{Name}
 use Rattle.cordyceps_queue.specs.declared.place.Place.{Place}
 use Rattle.cordyceps_queue.specs.declared.place.Place.TheVariants.{Rest, Holding, Second}
 use Rattle.cordyceps_queue.specs.QueueHistory.{Event}

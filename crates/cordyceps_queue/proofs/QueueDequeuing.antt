@@ -9,9 +9,9 @@ use lib.ListN.{get_elem?}
 use lib.Seq.{set-get_or}
 use Rattle.atomic_table.specs.Table.{Act, keeps, takes, stepped, carried_after, Valid}
 use Rattle.atomic_table.proofs.Lists.{set_else}
-use Rattle.cordyceps_base.specs.Histories.{events, of_seat}
-use Rattle.cordyceps_base.specs.Shares.{Name}
-use Rattle.cordyceps_base.proofs.Seeing.{events_more, plain_marked}
+use Rattle.cordyceps_shared.specs.Histories.{events, of_seat}
+use Rattle.cordyceps_shared.specs.Shares.{Name}
+use Rattle.cordyceps_shared.proofs.Seeing.{events_more, plain_marked}
 use Rattle.cordyceps_queue.specs.declared.place.Place.{Place}
 use Rattle.cordyceps_queue.specs.declared.place.Place.TheVariants.{Cleared, Holding, Null}
 use Rattle.cordyceps_queue.specs.declared.queue_table.Filled.{Filled}

@@ -4,10 +4,10 @@ use mathlib.Core.Option.{some, none}
 use lib.ListN.{get_elem?}
 use Rattle.atomic_table.specs.Table.{keeps, takes, gives, homes_after, rest, step, Allows}
 use Rattle.atomic_table.proofs.Lists.{set_here, set_else}
-use Rattle.cordyceps_base.specs.Histories.{events, of_seat}
-use Rattle.cordyceps_base.specs.Knowing.{all_seen}
-use Rattle.cordyceps_base.specs.Shares.{Name, first_name}
-use Rattle.cordyceps_base.proofs.Telling.{at_length, grown_then}
+use Rattle.cordyceps_shared.specs.Histories.{events, of_seat}
+use Rattle.cordyceps_shared.specs.Knowing.{all_seen}
+use Rattle.cordyceps_shared.specs.Shares.{Name, first_name}
+use Rattle.cordyceps_shared.proofs.Telling.{at_length, grown_then}
 use Rattle.cordyceps_queue.specs.declared.place.Place.{Place}
 use Rattle.cordyceps_queue.specs.declared.place.Place.TheVariants.{Rest, Cleared, Swapped}
 use Rattle.cordyceps_queue.specs.declared.queue_table.Filled.{Filled}

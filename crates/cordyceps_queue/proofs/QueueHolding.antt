@@ -1,9 +1,9 @@
 -- What a party that took the right holds, and what a try comes to.
 use Rattle.std.proofs.Common.{◌≡◌, ◌≢◌, ℕ, zero, suc, ◌-◌, ◌<◌, ◌≤◌, length, List, [], ◌∷◌, ◌++◌, Option, Some, None, sym, refl, ap, ◌∙◌, subst, arith, append_assoc}
 use Rattle.atomic_table.specs.Table.{rest}
-use Rattle.cordyceps_base.specs.Knowing.{Grown}
-use Rattle.cordyceps_base.specs.Shares.{Name, first_name}
-use Rattle.cordyceps_base.proofs.Telling.{grown_then}
+use Rattle.cordyceps_shared.specs.Knowing.{Grown}
+use Rattle.cordyceps_shared.specs.Shares.{Name, first_name}
+use Rattle.cordyceps_shared.proofs.Telling.{grown_then}
 use Rattle.cordyceps_queue.specs.declared.place.Place.{Place}
 use Rattle.cordyceps_queue.specs.declared.place.Place.TheVariants.{Rest, Holding}
 use Rattle.cordyceps_queue.specs.declared.queue_table.Filled.{Filled}

@@ -2,9 +2,9 @@
 use Rattle.std.proofs.Common.{◌≡◌, List, [], ◌∷◌, ◌++◌, reverse, Bool, true, false, refl, sym, ap, ◌∙◌, subst, append_assoc}
 use Rattle.std.proofs.lemmas.List.{reverse-append, reverse-reverse}
 use Rattle.atomic_table.specs.Seated.{TableId}
-use Rattle.cordyceps_base.specs.Histories.{plain, own}
-use Rattle.cordyceps_base.specs.Shares.{Name}
-use Rattle.cordyceps_base.proofs.Adding.{plain_append}
+use Rattle.cordyceps_shared.specs.Histories.{plain, own}
+use Rattle.cordyceps_shared.specs.Shares.{Name}
+use Rattle.cordyceps_shared.proofs.Adding.{plain_append}
 use Rattle.cordyceps_queue.specs.QueueCalls.{standing}
 use Rattle.cordyceps_queue.specs.QueueHistory.{Event, Look}
 use Rattle.cordyceps_queue.specs.QueuePast as past

@@ -6,13 +6,13 @@ use mathlib.Core.Option.{some, none}
 use mathlib.Core.Option as maybe
 use native.Mathlib.Decide.{ℕ_discrete}
 use lib.ListN.{get_elem?, length-replicate}
-use Rattle.cordyceps_base.specs.Counts.{times, one_if}
-use Rattle.cordyceps_base.specs.Histories.{events, plain}
-use Rattle.cordyceps_base.specs.Knowing.{Owned}
-use Rattle.cordyceps_base.specs.Shares.{Name, whole, covers, first_name}
-use Rattle.cordyceps_base.proofs.Counting.{tally_two, distinct_few, one_here, one_else}
-use Rattle.cordyceps_base.proofs.Naming.{some_cover}
-use Rattle.cordyceps_base.proofs.Standing as seats
+use Rattle.cordyceps_shared.specs.Counts.{times, one_if}
+use Rattle.cordyceps_shared.specs.Histories.{events, plain}
+use Rattle.cordyceps_shared.specs.Knowing.{Owned}
+use Rattle.cordyceps_shared.specs.Shares.{Name, whole, covers, first_name}
+use Rattle.cordyceps_shared.proofs.Counting.{tally_two, distinct_few, one_here, one_else}
+use Rattle.cordyceps_shared.proofs.Naming.{some_cover}
+use Rattle.cordyceps_shared.proofs.Standing as seats
 use Rattle.cordyceps_queue.specs.declared.place.Place.TheVariants.{Rest}
 use Rattle.cordyceps_queue.specs.QueueMeets.{IsAt, Fits, RightIs, tail_of}
 use Rattle.cordyceps_queue.specs.QueueParting.{IsStill}
@@ -22,7 +22,7 @@ use Rattle.cordyceps_queue.specs.QueueView.{View, knows, name}
 use Rattle.cordyceps_queue.specs.QueueWords.{Party}
 use Rattle.cordyceps_queue.proofs.Basics.{some_inj, none_some, zero_suc, suc_inj}
 use Rattle.cordyceps_queue.proofs.QueueTables.{at_behind, core, party_at, rooms_of}
-use Rattle.cordyceps_base.proofs.Telling.{at_length}
+use Rattle.cordyceps_shared.proofs.Telling.{at_length}
 
 named_was : (names : List Name) (p q : Party Name) → party_if names p ≡ Some q → (names ≢ []) × (p ≡ q)
 named_was [] p q e = absurd (none_some e)

@@ -1,13 +1,13 @@
 -- What a party of a shared queue is when it is new, split off, or has taken another in.
 use Rattle.std.proofs.Common.{◌≡◌, ℕ, zero, suc, ◌+◌, List, [], ◌∷◌, ◌++◌, length, take, drop, refl, sym, ap, ◌∙◌, subst, arith, length-append, inl, inr}
 use Rattle.atomic_table.specs.Seated.{TableId}
-use Rattle.cordyceps_base.specs.Counts.{below}
-use Rattle.cordyceps_base.specs.Histories.{plain}
-use Rattle.cordyceps_base.specs.Knowing.{IsKnown}
-use Rattle.cordyceps_base.specs.Shares.{Name, whole, keeps_half}
-use Rattle.cordyceps_base.specs.Standings.{new_party, Absorbs}
-use Rattle.cordyceps_base.proofs.Adding.{not_whole, plain_unmarked, merged_front}
-use Rattle.cordyceps_base.proofs.Naming.{joined_some, keeps_some, gives_some}
+use Rattle.cordyceps_shared.specs.Counts.{below}
+use Rattle.cordyceps_shared.specs.Histories.{plain}
+use Rattle.cordyceps_shared.specs.Knowing.{IsKnown}
+use Rattle.cordyceps_shared.specs.Shares.{Name, whole, keeps_half}
+use Rattle.cordyceps_shared.specs.Standings.{new_party, Absorbs}
+use Rattle.cordyceps_shared.proofs.Adding.{not_whole, plain_unmarked, merged_front}
+use Rattle.cordyceps_shared.proofs.Naming.{joined_some, keeps_some, gives_some}
 use Rattle.cordyceps_queue.specs.QueueCalls.{standing, IsSeated}
 use Rattle.cordyceps_queue.specs.QueueParting.{IsStill, kept, given, both, forgot}
 use Rattle.cordyceps_queue.specs.QueuePlays.{Sat, Near, IsResting}

@@ -7,15 +7,15 @@ use lib.ListN.{get_elem?, length-map, length-replicate}
 use lib.Seq.{set-get_or}
 use Rattle.atomic_table.specs.Table.{opening, Splits, Joins, Allows, step, keeps}
 use Rattle.atomic_table.proofs.Lists.{at_set, at_longer, set_else}
-use Rattle.cordyceps_base.specs.Histories.{events}
-use Rattle.cordyceps_base.specs.Knowing.{Owned}
-use Rattle.cordyceps_base.specs.Shares.{Name}
-use Rattle.cordyceps_base.proofs.Cutting.{at_end, owned_cut, fits_cut}
-use Rattle.cordyceps_base.proofs.Joining.{owned_join, fits_join}
-use Rattle.cordyceps_base.proofs.Naming.{joined_some}
-use Rattle.cordyceps_base.proofs.Renaming.{relabel, events_relabel}
-use Rattle.cordyceps_base.proofs.Standing as seats
-use Rattle.cordyceps_base.proofs.Telling.{at_length, owned_same, fits_forgot}
+use Rattle.cordyceps_shared.specs.Histories.{events}
+use Rattle.cordyceps_shared.specs.Knowing.{Owned}
+use Rattle.cordyceps_shared.specs.Shares.{Name}
+use Rattle.cordyceps_shared.proofs.Cutting.{at_end, owned_cut, fits_cut}
+use Rattle.cordyceps_shared.proofs.Joining.{owned_join, fits_join}
+use Rattle.cordyceps_shared.proofs.Naming.{joined_some}
+use Rattle.cordyceps_shared.proofs.Renaming.{relabel, events_relabel}
+use Rattle.cordyceps_shared.proofs.Standing as seats
+use Rattle.cordyceps_shared.proofs.Telling.{at_length, owned_same, fits_forgot}
 use Rattle.cordyceps_queue.specs.declared.place.Place.TheVariants.{Rest, Cleared}
 use Rattle.cordyceps_queue.specs.QueueHistory.{Event}
 use Rattle.cordyceps_queue.specs.QueueMeets.{IsAt, Owner, Shared, Spare, Unmade, Rooms, Fits, Meets}

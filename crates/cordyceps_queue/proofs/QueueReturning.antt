@@ -7,8 +7,8 @@ use lib.ListN.{get_elem?}
 use Rattle.atomic_table.specs.Table.{Act, keeps, gives, stepped, homes_after, carried_after, Valid, Allows}
 use Rattle.atomic_table.specs.Table as table
 use Rattle.atomic_table.proofs.Lists.{at_set, set_here, set_else}
-use Rattle.cordyceps_base.specs.Histories.{events}
-use Rattle.cordyceps_base.proofs.Telling.{at_length, owned_same, fits_same}
+use Rattle.cordyceps_shared.specs.Histories.{events}
+use Rattle.cordyceps_shared.proofs.Telling.{at_length, owned_same, fits_same}
 use Rattle.cordyceps_queue.specs.declared.queue_table.Filled.{Filled}
 use Rattle.cordyceps_queue.specs.QueueMeets.{IsAt, Spare, Meets}
 use Rattle.cordyceps_queue.specs.QueuePlays.{Sat, Near, carry}

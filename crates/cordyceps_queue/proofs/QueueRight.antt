@@ -3,9 +3,9 @@ use Rattle.std.proofs.Common.{◌≡◌, ℕ, suc, List, [], ◌∷◌, ◌++◌
 use Rattle.std.specs.Prelude.{Ok, Err}
 use Rattle.std.proofs.lemmas.List.{reverse-append, append-nil}
 use Rattle.atomic_table.specs.Seated.{TableId}
-use Rattle.cordyceps_base.specs.Histories.{plain, AllOwn}
-use Rattle.cordyceps_base.specs.Shares.{Name, whole, first_name}
-use Rattle.cordyceps_base.proofs.Adding.{whole_adds, plain_own}
+use Rattle.cordyceps_shared.specs.Histories.{plain, AllOwn}
+use Rattle.cordyceps_shared.specs.Shares.{Name, whole, first_name}
+use Rattle.cordyceps_shared.proofs.Adding.{whole_adds, plain_own}
 use Rattle.cordyceps_queue.specs.declared.place.Place.TheVariants.{Rest}
 use Rattle.cordyceps_queue.specs.declared.queue_table.Filled.{Filled}
 use Rattle.cordyceps_queue.specs.declared.queue_table.Tried.TheVariants as tried

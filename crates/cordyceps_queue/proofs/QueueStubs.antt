@@ -4,7 +4,7 @@ use mathlib.Core.Option.{some, none}
 use native.Mathlib.Decide.{ℕ_discrete}
 use lib.ListN.{get_elem?}
 use Rattle.atomic_table.specs.Table.{keeps, carried_after, stepped, step, Allows}
-use Rattle.cordyceps_base.specs.Shares.{Name}
+use Rattle.cordyceps_shared.specs.Shares.{Name}
 use Rattle.cordyceps_queue.specs.declared.place.Place.{Place}
 use Rattle.cordyceps_queue.specs.declared.place.Place.TheVariants.{Cleared, Holding, StubNull, Second, Null, PutClear, PutSwap, PutLink, PutRead}
 use Rattle.cordyceps_queue.specs.QueueHistory.{Event}

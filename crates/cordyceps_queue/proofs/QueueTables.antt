@@ -7,11 +7,11 @@ use mathlib.Core.Path.{fun_ext}
 use native.Mathlib.Decide.{ℕ_discrete}
 use lib.ListN.{get_elem?}
 use Rattle.atomic_table.proofs.Lists.{at_set, set_here, set_else}
-use Rattle.cordyceps_base.specs.Histories.{events, of_seat}
-use Rattle.cordyceps_base.specs.Knowing.{all_seen}
-use Rattle.cordyceps_base.specs.Shares.{Name}
-use Rattle.cordyceps_base.proofs.Seeing.{events_more}
-use Rattle.cordyceps_base.proofs.Telling.{at_length, tells}
+use Rattle.cordyceps_shared.specs.Histories.{events, of_seat}
+use Rattle.cordyceps_shared.specs.Knowing.{all_seen}
+use Rattle.cordyceps_shared.specs.Shares.{Name}
+use Rattle.cordyceps_shared.proofs.Seeing.{events_more}
+use Rattle.cordyceps_shared.proofs.Telling.{at_length, tells}
 use Rattle.cordyceps_queue.specs.declared.place.Place.TheVariants.{Cleared}
 use Rattle.cordyceps_queue.specs.declared.queue_table.Filled.{Filled}
 use Rattle.cordyceps_queue.specs.QueueHistory.{Event}

@@ -1,7 +1,7 @@
 -- What a consumer promises that takes several elements out in one call: of the party u before, and of the party w after.
 use Rattle.std.specs.Prelude.{◌≡◌, ◌≢◌, ◌⊎◌, ℕ, ◌+◌, ◌<◌, List, [], ◌∷◌, ◌++◌, length}
-use Rattle.cordyceps_base.specs.Shares.{Name}
-use Rattle.cordyceps_base.specs.Standings.{name_of}
+use Rattle.cordyceps_shared.specs.Shares.{Name}
+use Rattle.cordyceps_shared.specs.Standings.{name_of}
 use Rattle.cordyceps_queue.specs.QueueHistory.{Event, Look, Out, Empty}
 use Rattle.cordyceps_queue.specs.QueueStanding.{PartyOf, Adds, BlockedAfter}
 

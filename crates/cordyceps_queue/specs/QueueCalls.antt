@@ -1,8 +1,8 @@
 -- What the parts of a call on a shared queue leave: of the party's seat m before, and of its seat k after.
 use Rattle.std.specs.Prelude.{◌≡◌, ℕ, zero, suc, ◌<◌, ◌≤◌, List, [], ◌∷◌, ◌++◌, reverse, length, Option, Some, None}
 use Rattle.atomic_table.specs.Seated.{TableId}
-use Rattle.cordyceps_base.specs.Histories.{plain, AllOwn}
-use Rattle.cordyceps_base.specs.Shares.{Name, whole}
+use Rattle.cordyceps_shared.specs.Histories.{plain, AllOwn}
+use Rattle.cordyceps_shared.specs.Shares.{Name, whole}
 use Rattle.cordyceps_queue.specs.declared.place.Place.TheVariants.{Rest, Cleared, Swapped, Holding}
 use Rattle.cordyceps_queue.specs.declared.queue_table.Tried.{Tried}
 use Rattle.cordyceps_queue.specs.declared.queue_table.Tried.TheVariants.{Out, Empty, Inconsistent}

@@ -1,9 +1,9 @@
 -- How a party of a queue is split in two, takes another in, and learns what it then knows.
 use Rattle.std.specs.Prelude.{◌≡◌, ℕ, ◌≤◌, List, [], ◌++◌, reverse, length, take, drop, None}
-use Rattle.cordyceps_base.specs.Histories.{plain}
-use Rattle.cordyceps_base.specs.Knowing.{IsKnown}
-use Rattle.cordyceps_base.specs.Knowing as knowing
-use Rattle.cordyceps_base.specs.Shares.{Name, whole}
+use Rattle.cordyceps_shared.specs.Histories.{plain}
+use Rattle.cordyceps_shared.specs.Knowing.{IsKnown}
+use Rattle.cordyceps_shared.specs.Knowing as knowing
+use Rattle.cordyceps_shared.specs.Shares.{Name, whole}
 use Rattle.cordyceps_queue.specs.QueueHistory.{Event}
 use Rattle.cordyceps_queue.specs.QueuePast.{holder, IsSettled}
 use Rattle.cordyceps_queue.specs.declared.place.Place.TheVariants.{Rest}

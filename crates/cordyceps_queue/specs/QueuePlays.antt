@@ -2,9 +2,9 @@
 -- A seat has a view, and the slots in hand, the last taken first.
 use Rattle.std.specs.Prelude.{◌≡◌, ◌≢◌, ℕ, suc, ◌<◌, ◌≤◌, List, [], ◌∷◌, ◌++◌, reverse, length, Option, Some, None}
 use Rattle.atomic_table.specs.Table.{Me, Step}
-use Rattle.cordyceps_base.specs.Histories.{plain}
-use Rattle.cordyceps_base.specs.Knowing.{Grown}
-use Rattle.cordyceps_base.specs.Shares.{Name}
+use Rattle.cordyceps_shared.specs.Histories.{plain}
+use Rattle.cordyceps_shared.specs.Knowing.{Grown}
+use Rattle.cordyceps_shared.specs.Shares.{Name}
 use Rattle.cordyceps_queue.specs.declared.place.Place.{Place}
 use Rattle.cordyceps_queue.specs.declared.place.Place.TheVariants.{Rest, Cleared, Swapped, Holding, StubNull, Second, Null, PutClear, PutSwap, PutLink, PutRead}
 use Rattle.cordyceps_queue.specs.declared.queue_table.Filled.{Filled}

@@ -5,9 +5,9 @@ use mathlib.Core.Option as maybe
 use lib.ListN.{get_elem?}
 use Rattle.atomic_table.specs.Table.{State}
 use Rattle.atomic_table.specs.Seated.{TableId}
-use Rattle.cordyceps_base.specs.Histories.{events}
-use Rattle.cordyceps_base.specs.Knowing.{Owned, AllFit}
-use Rattle.cordyceps_base.specs.Shares.{Name}
+use Rattle.cordyceps_shared.specs.Histories.{events}
+use Rattle.cordyceps_shared.specs.Knowing.{Owned, AllFit}
+use Rattle.cordyceps_shared.specs.Shares.{Name}
 use Rattle.cordyceps_queue.specs.declared.place.Place.TheVariants.{Cleared}
 use Rattle.cordyceps_queue.specs.declared.queue_table.Filled.{Filled}
 use Rattle.cordyceps_queue.specs.QueueHistory.{Event}

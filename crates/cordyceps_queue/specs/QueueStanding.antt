@@ -3,10 +3,10 @@ use Rattle.std.specs.Prelude.{◌≡◌, ◌⊎◌, suc, List, [], ◌∷◌, �
 use mathlib.Core.Bool.{Bool-discrete}
 use mathlib.Core.List.{List-discrete}
 use Rattle.atomic_table.specs.Seated.{TableId}
-use Rattle.cordyceps_base.specs.Histories.{plain, own}
-use Rattle.cordyceps_base.specs.Shares.{Name}
-use Rattle.cordyceps_base.specs.Standings.{Standing, name_of}
-use Rattle.cordyceps_base.specs.Standings as parties
+use Rattle.cordyceps_shared.specs.Histories.{plain, own}
+use Rattle.cordyceps_shared.specs.Shares.{Name}
+use Rattle.cordyceps_shared.specs.Standings.{Standing, name_of}
+use Rattle.cordyceps_shared.specs.Standings as parties
 use Rattle.cordyceps_queue.specs.declared.steps.TryDequeueError.{TryDequeueError}
 use Rattle.cordyceps_queue.specs.declared.steps.TryDequeueError.TheVariants as error
 use Rattle.cordyceps_queue.specs.QueueHistory.{Event, Swap, Link, Take, Busy, Look, Out, Empty, Free, IsLegal, IsBlocked}

@@ -1,8 +1,8 @@
 -- What a party of a shared queue knows and does, as the rule of the queue's table sees it.
 use Rattle.std.specs.Prelude.{ℕ, zero, suc, List, [], ◌∷◌, Option, None}
-use Rattle.cordyceps_base.specs.Knowing.{Known}
-use Rattle.cordyceps_base.specs.Knowing as knowing
-use Rattle.cordyceps_base.specs.Shares.{Name, first_name}
+use Rattle.cordyceps_shared.specs.Knowing.{Known}
+use Rattle.cordyceps_shared.specs.Knowing as knowing
+use Rattle.cordyceps_shared.specs.Shares.{Name, first_name}
 use Rattle.cordyceps_queue.specs.declared.place.Place.{Place}
 use Rattle.cordyceps_queue.specs.declared.place.Place.TheVariants.{Rest}
 use Rattle.cordyceps_queue.specs.QueueHistory.{Event}

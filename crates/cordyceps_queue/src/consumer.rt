@@ -1,7 +1,7 @@
 //! Consumers of a shared queue, which have the right to dequeue.
 ghost use Rattle.std.specs.Prelude.{◌≡◌, ◌≤◌, List, map, take, true, is_ok, Err, MatchResult};
-ghost use Rattle.cordyceps_base.specs.Histories.{plain};
-ghost use Rattle.cordyceps_base.specs.Shares.{whole};
+ghost use Rattle.cordyceps_shared.specs.Histories.{plain};
+ghost use Rattle.cordyceps_shared.specs.Shares.{whole};
 ghost use Rattle.cordyceps_queue.specs.QueueBatches.{TakesLinked};
 ghost use Rattle.cordyceps_queue.specs.QueueHistory.{held};
 ghost use Rattle.cordyceps_queue.specs.declared.steps.TryDequeueError.TheVariants as error;
@@ -14,7 +14,7 @@ use crate::steps::TryDequeueError;
 use crate::{queue_steps, queue_tries};
 use cordyceps_base::linked::Linked;
 use cordyceps_base::mpsc_queue::Links;
-use cordyceps_base::tickets::Tickets;
+use cordyceps_shared::tickets::Tickets;
 use std::marker::Model;
 
 /// A party that has the right to dequeue, and the tail's room. It cannot be dropped, so that each consumer gives the right back.

@@ -1,8 +1,8 @@
 //! Consumers that share the ownership of their queue.
 ghost use Rattle.std.specs.Arc.{arc_value};
 ghost use Rattle.std.specs.Prelude.{◌≡◌, ◌≤◌, List, map, take, true, is_ok, Err, MatchResult};
-ghost use Rattle.cordyceps_base.specs.Histories.{plain};
-ghost use Rattle.cordyceps_base.specs.Shares.{whole};
+ghost use Rattle.cordyceps_shared.specs.Histories.{plain};
+ghost use Rattle.cordyceps_shared.specs.Shares.{whole};
 ghost use Rattle.cordyceps_queue.specs.QueueBatches.{TakesLinked};
 ghost use Rattle.cordyceps_queue.specs.QueueHistory.{held};
 ghost use Rattle.cordyceps_queue.specs.declared.steps.TryDequeueError.TheVariants as error;

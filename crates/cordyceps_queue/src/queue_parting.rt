@@ -1,8 +1,8 @@
 //! A new shared queue, and how a party of it is split in two or takes another in.
 ghost use Rattle.std.specs.Prelude.{◌≡◌, ◌+◌, ◌≤◌, [], length, IfOk};
-ghost use Rattle.cordyceps_base.specs.Histories.{plain};
-ghost use Rattle.cordyceps_base.specs.Knowing.{IsKnown};
-ghost use Rattle.cordyceps_base.specs.Shares.{whole};
+ghost use Rattle.cordyceps_shared.specs.Histories.{plain};
+ghost use Rattle.cordyceps_shared.specs.Knowing.{IsKnown};
+ghost use Rattle.cordyceps_shared.specs.Shares.{whole};
 ghost use Rattle.cordyceps_queue.specs.QueueParting.{kept, given, both, forgot, IsStill};
 ghost use Rattle.cordyceps_queue.specs.QueuePlays.{IsResting, Legal};
 ghost use Rattle.cordyceps_queue.specs.QueueRule.{IsTable};

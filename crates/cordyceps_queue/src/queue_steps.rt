@@ -9,7 +9,7 @@ ghost use Rattle.cordyceps_queue.specs.declared.place.Place.TheVariants.{Cleared
 
 use crate::queue_plays::{Clear, Give, Link, Look, Reread, Swap, Take};
 use crate::queue_table::{Chair, Chosen, Filled, Words};
-use cordyceps_base::tickets::Ticket;
+use cordyceps_shared::tickets::Ticket;
 use std::marker::Brand;
 
 /// Makes a free room's link null, and takes the room's slot in hand, before this element is put in.

@@ -2,7 +2,7 @@
 ghost use Rattle.cordyceps_queue.specs.QueueView.{View, newcomer};
 
 use atomic_table::{Seat, Shared, Table, TableRule};
-use cordyceps_base::tickets::Ticket;
+use cordyceps_shared::tickets::Ticket;
 use std::alloc::Global;
 use std::marker::{Brand, Model, PhantomData};
 

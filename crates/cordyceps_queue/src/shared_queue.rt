@@ -1,8 +1,8 @@
 //! The queue that threads share.
 ghost use Rattle.std.specs.Prelude.{◌≡◌, ◌<◌, ◌≤◌, map, Option, Some, None, MatchResult, IfOk};
-ghost use Rattle.cordyceps_base.specs.Histories.{plain};
-ghost use Rattle.cordyceps_base.specs.Shares.{whole};
-ghost use Rattle.cordyceps_base.specs.Standings.{new_party, keeping, giving, Absorbs};
+ghost use Rattle.cordyceps_shared.specs.Histories.{plain};
+ghost use Rattle.cordyceps_shared.specs.Shares.{whole};
+ghost use Rattle.cordyceps_shared.specs.Standings.{new_party, keeping, giving, Absorbs};
 ghost use Rattle.cordyceps_queue.specs.QueueHistory.{held};
 ghost use Rattle.cordyceps_queue.specs.QueueStanding.{Legal, Enqueues, Dequeues, IsCertain};
 ghost use Rattle.cordyceps_queue.specs.QueueView.{down_from};
@@ -15,7 +15,7 @@ use crate::{queue_parting, queue_steps, queue_tries};
 use cordyceps_base::linked::Linked;
 use cordyceps_base::mpsc_queue::Links;
 use cordyceps_base::node::Refused;
-use cordyceps_base::tickets::Tickets;
+use cordyceps_shared::tickets::Tickets;
 use std::alloc::{AllocError, AllocFailed, Global};
 use std::marker::Model;
 

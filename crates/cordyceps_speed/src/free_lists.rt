@@ -1,6 +1,6 @@
 //! Blocks that go into a free list and come out, by one party that is alone: of its local part, and of what is shared.
 ghost use Rattle.std.specs.Prelude.{◌≡◌, ◌+◌, ◌<◌, ◌≤◌, suc, [], length, IfOk};
-ghost use Rattle.cordyceps_base.specs.Shares.{whole};
+ghost use Rattle.cordyceps_shared.specs.Shares.{whole};
 
 use crate::cost::Cost;
 use crate::fault::Fault;

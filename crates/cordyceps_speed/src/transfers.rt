@@ -1,6 +1,6 @@
 //! Pushes to a stack that threads share, and takings, by one party that is alone.
 ghost use Rattle.std.specs.Prelude.{◌≡◌, ◌+◌, ◌<◌, ◌≤◌, suc, [], length, IfOk, OnOk};
-ghost use Rattle.cordyceps_base.specs.Shares.{whole};
+ghost use Rattle.cordyceps_shared.specs.Shares.{whole};
 
 use crate::cost::Cost;
 use crate::fault::Fault;

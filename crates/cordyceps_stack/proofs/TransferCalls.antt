@@ -2,11 +2,11 @@
 use Rattle.std.proofs.Common.{◌≡◌, ◌≢◌, ◌↔◌, ℕ, suc, ◌-◌, ◌<◌, List, [], ◌∷◌, ◌++◌, Bool, true, cond, eqb, refl, sym, ap, ◌∙◌, subst, arith, eq-eqb, Some}
 use Rattle.std.proofs.lemmas.Bool.{eqb-true}
 use Rattle.std.specs.Prelude.{IsTrue}
-use Rattle.cordyceps_base.specs.Histories.{plain, own, AllOwn}
-use Rattle.cordyceps_base.specs.Knowing.{Known, Grown}
-use Rattle.cordyceps_base.specs.Shares.{Name, first_name}
-use Rattle.cordyceps_base.proofs.Adding.{tail_own}
-use Rattle.cordyceps_base.proofs.Telling.{grown_then}
+use Rattle.cordyceps_shared.specs.Histories.{plain, own, AllOwn}
+use Rattle.cordyceps_shared.specs.Knowing.{Known, Grown}
+use Rattle.cordyceps_shared.specs.Shares.{Name, first_name}
+use Rattle.cordyceps_shared.proofs.Adding.{tail_own}
+use Rattle.cordyceps_shared.proofs.Telling.{grown_then}
 use Rattle.cordyceps_stack.specs.TransferHistory.{Event, Load, Push, Legal, SomeChange}
 use Rattle.cordyceps_stack.specs.TransferPlays.{Sat, Sees, carry, Near, IsWalking, batch_of}
 use Rattle.cordyceps_stack.specs.TransferRule.{filled}

@@ -4,14 +4,14 @@ use mathlib.Core.Option.{some, none, some-injective, some-ne-none}
 use lib.ListN.{get_elem?, length-map, length-replicate}
 use Rattle.atomic_table.specs.Table.{opening, Splits, Joins, Allows, step, keeps}
 use Rattle.atomic_table.proofs.Lists.{at_set}
-use Rattle.cordyceps_base.specs.Counts.{one_if, below}
-use Rattle.cordyceps_base.specs.Shares.{Name}
-use Rattle.cordyceps_base.proofs.Counting.{tally_set, tally_append, tally_cut, below_once}
-use Rattle.cordyceps_base.proofs.Cutting.{at_end, owned_cut, fits_cut}
-use Rattle.cordyceps_base.proofs.Joining.{owned_join, fits_join}
-use Rattle.cordyceps_base.proofs.Renaming.{renamed_else, relabel, events_relabel, relabel_append, without_relabel}
-use Rattle.cordyceps_base.proofs.Standing as seats
-use Rattle.cordyceps_base.proofs.Telling.{owned_same, fits_forgot}
+use Rattle.cordyceps_shared.specs.Counts.{one_if, below}
+use Rattle.cordyceps_shared.specs.Shares.{Name}
+use Rattle.cordyceps_shared.proofs.Counting.{tally_set, tally_append, tally_cut, below_once}
+use Rattle.cordyceps_shared.proofs.Cutting.{at_end, owned_cut, fits_cut}
+use Rattle.cordyceps_shared.proofs.Joining.{owned_join, fits_join}
+use Rattle.cordyceps_shared.proofs.Renaming.{renamed_else, relabel, events_relabel, relabel_append, without_relabel}
+use Rattle.cordyceps_shared.proofs.Standing as seats
+use Rattle.cordyceps_shared.proofs.Telling.{owned_same, fits_forgot}
 use Rattle.cordyceps_stack.specs.TransferHistory.{Event, Load, Taken, held, Legal, SomeChange}
 use Rattle.cordyceps_stack.specs.TransferView.{Idle, View, knows, newcomer, at_work, with_party}
 use Rattle.cordyceps_stack.specs.TransferWords.{History, Since, Does}

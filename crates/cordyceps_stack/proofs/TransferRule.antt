@@ -11,13 +11,13 @@ use prog.Atomic.{either}
 use Rattle.atomic_table.specs.Table.{State, step, Act, keeps, takes, gives, stepped, homes_after, carried_after, Valid, rest, Allows}
 use Rattle.atomic_table.specs.Table as table
 use Rattle.atomic_table.proofs.Lists.{at_set, set_here, set_else}
-use Rattle.cordyceps_base.specs.Counts.{one_if, times}
-use Rattle.cordyceps_base.specs.Histories.{events, marked, plain, of_seat}
-use Rattle.cordyceps_base.specs.Knowing.{Known, Owned, AllFit, all_seen}
-use Rattle.cordyceps_base.specs.Shares.{Name}
-use Rattle.cordyceps_base.proofs.Counting.{tally_one, tally_two, one_here, one_else, distinct_few}
-use Rattle.cordyceps_base.proofs.Seeing.{marked_append, plain_marked, own_without}
-use Rattle.cordyceps_base.proofs.Telling.{at_length, owned_same, fits_same, tells}
+use Rattle.cordyceps_shared.specs.Counts.{one_if, times}
+use Rattle.cordyceps_shared.specs.Histories.{events, marked, plain, of_seat}
+use Rattle.cordyceps_shared.specs.Knowing.{Known, Owned, AllFit, all_seen}
+use Rattle.cordyceps_shared.specs.Shares.{Name}
+use Rattle.cordyceps_shared.proofs.Counting.{tally_one, tally_two, one_here, one_else, distinct_few}
+use Rattle.cordyceps_shared.proofs.Seeing.{marked_append, plain_marked, own_without}
+use Rattle.cordyceps_shared.proofs.Telling.{at_length, owned_same, fits_same, tells}
 use Rattle.cordyceps_stack.specs.declared.transfer_table.Filled.{Filled}
 use Rattle.cordyceps_stack.specs.TransferHistory.{Event, Load, Push, Taken, held, Legal, SomeChange}
 use Rattle.cordyceps_stack.specs.TransferMeets.{elements}

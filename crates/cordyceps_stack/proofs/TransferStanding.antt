@@ -2,14 +2,14 @@
 use Rattle.std.proofs.Common.{◌≡◌, ◌+◌, ℕ, suc, List, [], ◌∷◌, ◌++◌, reverse, length, replicate, take, Bool, refl, sym, ap, ◌∙◌, subst, inl, inr, length-append}
 use Rattle.std.specs.Prelude.{◌⊎◌, IsTrue}
 use Rattle.atomic_table.specs.Seated.{TableId}
-use Rattle.cordyceps_base.specs.Counts.{below}
-use Rattle.cordyceps_base.specs.Histories.{plain, AllOwn}
-use Rattle.cordyceps_base.specs.Knowing.{Known, Begins, IsKnown}
-use Rattle.cordyceps_base.specs.Shares.{Name, whole, first_name}
-use Rattle.cordyceps_base.specs.Standings.{name_of, new_party, Absorbs}
-use Rattle.cordyceps_base.proofs.Adding.{replicate_more, not_whole, plain_unmarked, merged_front, adds_then, whole_adds}
-use Rattle.cordyceps_base.proofs.Counting.{below_length}
-use Rattle.cordyceps_base.proofs.Naming.{joined_some, gives_some}
+use Rattle.cordyceps_shared.specs.Counts.{below}
+use Rattle.cordyceps_shared.specs.Histories.{plain, AllOwn}
+use Rattle.cordyceps_shared.specs.Knowing.{Known, Begins, IsKnown}
+use Rattle.cordyceps_shared.specs.Shares.{Name, whole, first_name}
+use Rattle.cordyceps_shared.specs.Standings.{name_of, new_party, Absorbs}
+use Rattle.cordyceps_shared.proofs.Adding.{replicate_more, not_whole, plain_unmarked, merged_front, adds_then, whole_adds}
+use Rattle.cordyceps_shared.proofs.Counting.{below_length}
+use Rattle.cordyceps_shared.proofs.Naming.{joined_some, gives_some}
 use Rattle.cordyceps_stack.specs.TransferCalls.{HasMissed, TookAll, HandsOut, standing, IsSeated}
 use Rattle.cordyceps_stack.specs.TransferHistory.{Event, Load, Push, Taken, held, Legal}
 use Rattle.cordyceps_stack.specs.TransferMeets.{elements}

@@ -4,11 +4,11 @@ use Rattle.std.proofs.lemmas.List.{reverse-append}
 use mathlib.Core.Option.{some}
 use lib.ListN.{get_elem?}
 use Rattle.atomic_table.proofs.Lists.{at_set, at_snoc}
-use Rattle.cordyceps_base.specs.Counts.{one_if, times}
-use Rattle.cordyceps_base.specs.Histories.{events}
-use Rattle.cordyceps_base.specs.Shares.{Name}
-use Rattle.cordyceps_base.proofs.Counting.{tally_set, tally_one, tally_two, tally_snoc, one_here}
-use Rattle.cordyceps_base.proofs.Seeing.{events_more, without_more}
+use Rattle.cordyceps_shared.specs.Counts.{one_if, times}
+use Rattle.cordyceps_shared.specs.Histories.{events}
+use Rattle.cordyceps_shared.specs.Shares.{Name}
+use Rattle.cordyceps_shared.proofs.Counting.{tally_set, tally_one, tally_two, tally_snoc, one_here}
+use Rattle.cordyceps_shared.proofs.Seeing.{events_more, without_more}
 use Rattle.cordyceps_stack.specs.TransferHistory.{Event, Load, Push, Taken, held, held_after, Legal, IsChange, SomeChange}
 use Rattle.cordyceps_stack.specs.TransferMeets.{elements}
 use Rattle.cordyceps_stack.specs.TransferView.{Doing, Idle, Loaded, Set, Missed, Walking, View, walking, in_chain, at_work, with_party}

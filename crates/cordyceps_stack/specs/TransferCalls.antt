@@ -1,8 +1,8 @@
 -- What the parts of a call on a shared transfer stack leave: of the party's seat m before, and of its seat k after.
 use Rattle.std.specs.Prelude.{◌≡◌, ℕ, ◌+◌, ◌<◌, ◌≤◌, List, [], ◌∷◌, length, Some, None, Bool, true, false, IsTrue}
 use Rattle.atomic_table.specs.Seated.{TableId}
-use Rattle.cordyceps_base.specs.Histories.{plain, AllOwn}
-use Rattle.cordyceps_base.specs.Shares.{whole}
+use Rattle.cordyceps_shared.specs.Histories.{plain, AllOwn}
+use Rattle.cordyceps_shared.specs.Shares.{whole}
 use Rattle.cordyceps_stack.specs.declared.transfer_table.Filled.{Filled}
 use Rattle.cordyceps_stack.specs.TransferHistory.{Load, Push, Taken, Legal}
 use Rattle.cordyceps_stack.specs.TransferMeets.{elements}

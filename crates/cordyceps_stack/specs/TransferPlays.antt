@@ -2,9 +2,9 @@
 -- k after. A seat has a view, and the slots in hand, the last taken first.
 use Rattle.std.specs.Prelude.{◌≡◌, ◌≢◌, ℕ, ◌<◌, ◌≤◌, List, [], ◌∷◌, ◌++◌, length, take, drop, Option, Some, None}
 use Rattle.atomic_table.specs.Table.{Me, Step}
-use Rattle.cordyceps_base.specs.Knowing.{Known, Grown, IsKnown}
-use Rattle.cordyceps_base.specs.Knowing as knowing
-use Rattle.cordyceps_base.specs.Shares.{Name}
+use Rattle.cordyceps_shared.specs.Knowing.{Known, Grown, IsKnown}
+use Rattle.cordyceps_shared.specs.Knowing as knowing
+use Rattle.cordyceps_shared.specs.Shares.{Name}
 use Rattle.cordyceps_stack.specs.declared.transfer_table.Filled.{Filled}
 use Rattle.cordyceps_stack.specs.TransferHistory.{Event, Load, Push, Taken, Legal}
 use Rattle.cordyceps_stack.specs.TransferMeets.{elements}

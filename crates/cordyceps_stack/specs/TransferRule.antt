@@ -5,7 +5,7 @@ use mathlib.Core.Option as maybe
 use lib.ListN.{get_elem?}
 use Rattle.atomic_table.specs.Table.{State}
 use Rattle.atomic_table.specs.Seated.{TableId}
-use Rattle.cordyceps_base.specs.Knowing.{Owned, AllFit}
+use Rattle.cordyceps_shared.specs.Knowing.{Owned, AllFit}
 use Rattle.cordyceps_stack.specs.declared.transfer_table.Filled.{Filled}
 use Rattle.cordyceps_stack.specs.TransferView.{View, knows}
 use Rattle.cordyceps_stack.specs.TransferWords.{History, Meets}

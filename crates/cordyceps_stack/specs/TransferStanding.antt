@@ -1,9 +1,9 @@
 -- What the calls of a shared transfer stack promise: of the party u before, and of the party w after.
 use Rattle.std.specs.Prelude.{◌≡◌, ◌↔◌, ℕ, suc, ◌+◌, List, [], ◌∷◌, ◌++◌, length, replicate, Bool, true, IsTrue}
-use Rattle.cordyceps_base.specs.Histories.{plain, own}
-use Rattle.cordyceps_base.specs.Shares.{Name}
-use Rattle.cordyceps_base.specs.Standings.{Standing, name_of}
-use Rattle.cordyceps_base.specs.Standings as parties
+use Rattle.cordyceps_shared.specs.Histories.{plain, own}
+use Rattle.cordyceps_shared.specs.Shares.{Name}
+use Rattle.cordyceps_shared.specs.Standings.{Standing, name_of}
+use Rattle.cordyceps_shared.specs.Standings as parties
 use Rattle.cordyceps_stack.specs.TransferHistory.{Event, Load, Push, Taken, held, Legal, SomeChange}
 
 -- what a contract sees of a party

@@ -1,9 +1,9 @@
 -- What a party of a shared transfer stack knows and does, as the rule of the stack's table sees it.
 use Rattle.std.specs.Prelude.{ℕ, List, [], ◌∷◌, nat_eq, ◌+◌}
-use Rattle.cordyceps_base.specs.Counts.{tally, one_if, times, below}
-use Rattle.cordyceps_base.specs.Knowing.{Known}
-use Rattle.cordyceps_base.specs.Knowing as knowing
-use Rattle.cordyceps_base.specs.Shares.{Name, first_name}
+use Rattle.cordyceps_shared.specs.Counts.{tally, one_if, times, below}
+use Rattle.cordyceps_shared.specs.Knowing.{Known}
+use Rattle.cordyceps_shared.specs.Knowing as knowing
+use Rattle.cordyceps_shared.specs.Shares.{Name, first_name}
 use Rattle.cordyceps_stack.specs.TransferHistory.{Event}
 
 -- where a party is within a call

@@ -3,9 +3,9 @@
 use Rattle.std.specs.Prelude.{◌≡◌, ◌⊎◌, ℕ, suc, ◌+◌, ◌≤◌, List, [], ◌∷◌, ◌++◌, reverse, slice_index}
 use mathlib.Core.Option.{some}
 use lib.ListN.{get_elem?}
-use Rattle.cordyceps_base.specs.Counts.{tally}
-use Rattle.cordyceps_base.specs.Histories.{events, Without}
-use Rattle.cordyceps_base.specs.Shares.{Name}
+use Rattle.cordyceps_shared.specs.Counts.{tally}
+use Rattle.cordyceps_shared.specs.Histories.{events, Without}
+use Rattle.cordyceps_shared.specs.Shares.{Name}
 use Rattle.cordyceps_stack.specs.TransferHistory.{Event, Load, held, Legal, SomeChange}
 use Rattle.cordyceps_stack.specs.TransferMeets.{elements}
 use Rattle.cordyceps_stack.specs.TransferView.{Doing, Idle, Loaded, Set, Missed, Walking, View, in_chain, with_party}

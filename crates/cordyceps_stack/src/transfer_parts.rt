@@ -10,7 +10,7 @@ use crate::transfer_steps::walk;
 use crate::transfer_table::{Filled, Place, Words};
 use cordyceps_base::linked::Linked;
 use cordyceps_base::stack::Links;
-use cordyceps_base::tickets::Tickets;
+use cordyceps_shared::tickets::Tickets;
 
 /// The elements that the party has in hand, to which `at` leads. Their tickets go to its others.
 pub(crate) fn hand_out<T: Linked<Links<T>>>(

@@ -1,8 +1,8 @@
 //! The stack that threads share.
 ghost use Rattle.std.specs.Prelude.{◌≡◌, ◌<◌, ◌≤◌, ℕ, suc, Bool, List, map, reverse, true, is_ok, MatchResult, IfOk};
-ghost use Rattle.cordyceps_base.specs.Histories.{plain};
-ghost use Rattle.cordyceps_base.specs.Shares.{whole};
-ghost use Rattle.cordyceps_base.specs.Standings.{new_party, keeping, giving, Absorbs};
+ghost use Rattle.cordyceps_shared.specs.Histories.{plain};
+ghost use Rattle.cordyceps_shared.specs.Shares.{whole};
+ghost use Rattle.cordyceps_shared.specs.Standings.{new_party, keeping, giving, Absorbs};
 ghost use Rattle.cordyceps_stack.specs.TransferHistory.{held, Legal};
 ghost use Rattle.cordyceps_stack.specs.TransferStanding.{PushesAt, Misses, Takes, Looks};
 
@@ -12,7 +12,7 @@ use crate::transfer_steps;
 use crate::transfer_table::{Filled, Place, Rooms};
 use cordyceps_base::linked::Linked;
 use cordyceps_base::stack::Links;
-use cordyceps_base::tickets::Tickets;
+use cordyceps_shared::tickets::Tickets;
 use crossbeam_utils::Backoff;
 use std::alloc::{AllocError, Global};
 use std::marker::Model;

@@ -1,8 +1,8 @@
 //! The atomic steps of a shared transfer stack. Each function is a part of a call, with at most one step on `head`.
 ghost use Rattle.std.specs.Prelude.{◌≡◌, ◌≢◌, ◌<◌, ◌≤◌, ℕ, List, [], ◌∷◌, Some, None, length, MatchResult, IfOk, IsTrue};
 ghost use Rattle.std.specs.Mem.Slots.{slots_items};
-ghost use Rattle.cordyceps_base.specs.Knowing.{IsKnown};
-ghost use Rattle.cordyceps_base.specs.Shares.{whole};
+ghost use Rattle.cordyceps_shared.specs.Knowing.{IsKnown};
+ghost use Rattle.cordyceps_shared.specs.Shares.{whole};
 ghost use Rattle.cordyceps_stack.specs.TransferCalls.{IsAt, Begun, IsSet, Settled, HasPushed, HasMissed, TookAll, Walked};
 ghost use Rattle.cordyceps_stack.specs.TransferHistory.{Load, Legal};
 ghost use Rattle.cordyceps_stack.specs.TransferPlays.{Sees, IsResting, IsWalking, batch_of, kept, given, both, forgot};
@@ -14,7 +14,7 @@ ghost use Rattle.cordyceps_stack.specs.TransferWords.{start};
 use crate::transfer_plays::{Begin, Cut, Exchange, Learn, Look, Merge, Return, Take, Walk, Write};
 use crate::transfer_table::{Count, Filled, Place, Rooms, Words};
 use atomic_table::Table;
-use cordyceps_base::tickets::Ticket;
+use cordyceps_shared::tickets::Ticket;
 use std::alloc::{AllocError, Global};
 use std::marker::Brand;
 

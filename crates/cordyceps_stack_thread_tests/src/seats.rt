@@ -1,6 +1,6 @@
 //! Parties at their stack, and what their calls give.
 ghost use Rattle.std.specs.Prelude.{◌≡◌, IfOk};
-ghost use Rattle.cordyceps_base.specs.Shares.{whole};
+ghost use Rattle.cordyceps_shared.specs.Shares.{whole};
 
 use crate::compared::same;
 use crate::items::{Handle, element, gives, pair};

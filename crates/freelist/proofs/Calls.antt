@@ -2,9 +2,9 @@
 use Rattle.std.proofs.Common.{◌≡◌, ◌+◌, ◌≤◌, List, [], ◌∷◌, ◌++◌, map, reverse, length, Option, Some, None, Bool, inl, inr, refl, sym, ap, subst, ◌∙◌, arith, append_assoc, length-append}
 use Rattle.std.proofs.lemmas.List.{map-append, append-nil, reverse-append, length-reverse, length-map}
 use Rattle.cordyceps_base.specs.Element.{Element}
-use Rattle.cordyceps_base.specs.Shares.{Name}
-use Rattle.cordyceps_base.specs.Standings.{name_of}
-use Rattle.cordyceps_base.proofs.Adding.{adds_then}
+use Rattle.cordyceps_shared.specs.Shares.{Name}
+use Rattle.cordyceps_shared.specs.Standings.{name_of}
+use Rattle.cordyceps_shared.proofs.Adding.{adds_then}
 use Rattle.cordyceps_stack.specs.TransferHistory.{Event, Load, Push, Taken, Legal, pushes, taken}
 use Rattle.cordyceps_stack.specs.TransferStanding.{PartyOf, PushesAt, Misses}
 use Rattle.freelist.specs.Blocks.{LocalOf, GivesFirst, GetsFrom}

@@ -1,8 +1,8 @@
 -- Each block of a free list is in one place: of one user, and of all users of a legal history.
 use Rattle.std.proofs.Common.{◌≡◌, ℕ, ◌+◌, List, [], ◌∷◌, ◌++◌, reverse, Option, Some, None, refl, ap, arith}
 use Rattle.std.proofs.lemmas.List.{reverse-append}
-use Rattle.cordyceps_base.specs.Counts.{tally}
-use Rattle.cordyceps_base.proofs.Counting.{tally_append}
+use Rattle.cordyceps_shared.specs.Counts.{tally}
+use Rattle.cordyceps_shared.proofs.Counting.{tally_append}
 use Rattle.cordyceps_stack.specs.TransferHistory.{Event, held, taken}
 use Rattle.cordyceps_stack.proofs.TransferHistories.{nothing_lost}
 use Rattle.freelist.specs.Whereabouts.{Whereabouts, Call, Gets, Puts, PutsRemote, HandsBack, Idles, Finishes, Gains, Loses, behind, Without, Does, Run, gained, lost, Story, IsOf, everywhere, at_start}

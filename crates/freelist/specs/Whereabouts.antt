@@ -1,8 +1,8 @@
 -- Where the blocks of a free list are, and what calls do to that: of one user, over a list of calls, and of all users.
 use Rattle.std.specs.Prelude.{◌≡◌, ◌≢◌, ℕ, suc, ◌+◌, List, [], ◌∷◌, ◌++◌, length, map, reverse, Option, Some, None, ◌⊎◌}
-use Rattle.cordyceps_base.specs.Counts.{tally}
+use Rattle.cordyceps_shared.specs.Counts.{tally}
 use Rattle.cordyceps_base.specs.Element.{Element}
-use Rattle.cordyceps_base.specs.Shares.{Name}
+use Rattle.cordyceps_shared.specs.Shares.{Name}
 use Rattle.cordyceps_stack.specs.TransferHistory.{Event, Load, Push, Taken, Legal, held, pushes, taken}
 use Rattle.cordyceps_stack.specs.TransferStanding.{PartyOf, Adds}
 use Rattle.freelist.specs.Blocks.{LocalOf}

@@ -1,8 +1,8 @@
 //! The part of a free list that threads share.
 ghost use Rattle.std.specs.Prelude.{◌≡◌, ◌<◌, ◌≤◌, [], map, reverse, true, is_ok, MatchResult, IfOk};
-ghost use Rattle.cordyceps_base.specs.Histories.{plain};
-ghost use Rattle.cordyceps_base.specs.Shares.{whole};
-ghost use Rattle.cordyceps_base.specs.Standings.{new_party, keeping, giving, Absorbs};
+ghost use Rattle.cordyceps_shared.specs.Histories.{plain};
+ghost use Rattle.cordyceps_shared.specs.Shares.{whole};
+ghost use Rattle.cordyceps_shared.specs.Standings.{new_party, keeping, giving, Absorbs};
 ghost use Rattle.cordyceps_stack.specs.TransferHistory.{held, Legal};
 ghost use Rattle.cordyceps_stack.specs.TransferStanding.{PushesAt, Misses};
 

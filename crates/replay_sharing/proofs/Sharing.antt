@@ -2,9 +2,9 @@
 use Rattle.std.proofs.Common.{◌≡◌, ℕ, zero, suc, List, [], ◌∷◌, ◌++◌, replicate, Bool, true, false, cond, ◌||◌, refl, sym, ap, ◌∙◌, subst, inl, inr, append_assoc, append-nil}
 use Rattle.std.proofs.lemmas.List.Sorted.{IsPermutation-refl, IsPermutation-cons, IsPermutation-middle, IsPermutation-trans}
 use Rattle.std.specs.List.Sorted.{IsPermutation}
-use Rattle.cordyceps_base.specs.Histories.{plain, own, AllOwn}
-use Rattle.cordyceps_base.proofs.Adding.{plain_own}
-use Rattle.cordyceps_base.specs.Knowing.{unmarked, merged}
+use Rattle.cordyceps_shared.specs.Histories.{plain, own, AllOwn}
+use Rattle.cordyceps_shared.proofs.Adding.{plain_own}
+use Rattle.cordyceps_shared.specs.Knowing.{unmarked, merged}
 use Rattle.cordyceps.specs.SharedStacks.{Event, Load, Push, Taken, pushes, held_after, held_from}
 use Rattle.replay_sharing.specs.Sharing.{Interleaves, NoBatch}
 

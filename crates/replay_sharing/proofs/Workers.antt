@@ -5,11 +5,11 @@ use Rattle.std.proofs.lemmas.List.Sorted.{IsPermutation-map, IsPermutation-rever
 use Rattle.std.specs.List.Sorted.{IsPermutation, IsSorted}
 use Rattle.std.specs.Ordering.{nat_cmp}
 use Rattle.cordyceps_base.specs.Element.{Element}
-use Rattle.cordyceps_base.specs.Histories.{plain, own, AllOwn}
-use Rattle.cordyceps_base.specs.Knowing.{unmarked, merged, Begins}
-use Rattle.cordyceps_base.specs.Shares.{Name, first_name, whole, keeps_half, gives_half, joined}
-use Rattle.cordyceps_base.specs.Standings.{name_of, keeping, giving, Absorbs}
-use Rattle.cordyceps_base.proofs.Adding.{adds_then, plain_append, plain_unmarked, plain_own, tail_own, whole_adds}
+use Rattle.cordyceps_shared.specs.Histories.{plain, own, AllOwn}
+use Rattle.cordyceps_shared.specs.Knowing.{unmarked, merged, Begins}
+use Rattle.cordyceps_shared.specs.Shares.{Name, first_name, whole, keeps_half, gives_half, joined}
+use Rattle.cordyceps_shared.specs.Standings.{name_of, keeping, giving, Absorbs}
+use Rattle.cordyceps_shared.proofs.Adding.{adds_then, plain_append, plain_unmarked, plain_own, tail_own, whole_adds}
 use Rattle.cordyceps.specs.declared.replay.item.Item.{Item}
 use Rattle.cordyceps.specs.SharedStacks.{Event, Load, Push, Taken, pushes, held, Legal, PartyOf, Adds, PushesAt, Takes}
 use Rattle.replay_sharing.specs.Sharing.{item, Works, Shared, NoBatch, Interleaves}

@@ -1,8 +1,8 @@
 -- What two workers that share a stack come to.
 use Rattle.std.specs.Prelude.{◌≡◌, ℕ, List, [], ◌∷◌, ◌++◌, reverse, Result, Ok, Err, ◌⊎◌, decimal}
 use Rattle.cordyceps_base.specs.Element.{Element}
-use Rattle.cordyceps_base.specs.Shares.{Name}
-use Rattle.cordyceps_base.specs.Standings.{name_of}
+use Rattle.cordyceps_shared.specs.Shares.{Name}
+use Rattle.cordyceps_shared.specs.Standings.{name_of}
 use Rattle.cordyceps.specs.declared.replay.item.Item.{Item}
 use Rattle.cordyceps.specs.SharedStacks.{Event, Load, Push, Taken, pushes, PartyOf, Adds}
 use Rattle.replay_driver.specs.declared.fault.Fault.{Fault}

@@ -1,7 +1,7 @@
 use Rattle.std.proofs.Common.{◌≡◌, ◌≤◌, ◌++◌, [], ◌∷◌, List, map, length, ap, sym, ◌∙◌, inl, inr, refl, append_assoc, length-append, arith}
 use Rattle.std.proofs.lemmas.List.{length-map, map-append}
 use Rattle.std.proofs.lemmas.Bool.{eqb-true, eq-eqb}
-use Rattle.cordyceps_base.specs.Histories.{plain}
+use Rattle.cordyceps_shared.specs.Histories.{plain}
 use Rattle.cordyceps_queue.specs.QueueHistory.{held}
 use Rattle.cordyceps_queue.proofs.QueueClosing.{gives_first, gives_none}
 use Rattle.cordyceps_queue.proofs.QueueTaking.{took_more, first_try, same_share, stops_full, stops_short, all_taken, none_of}

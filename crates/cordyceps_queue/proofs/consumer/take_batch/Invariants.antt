@@ -1,6 +1,6 @@
 use Rattle.std.proofs.Common.{◌≡◌, ◌≤◌, ◌-◌, ◌++◌, List, map, length}
-use Rattle.cordyceps_base.specs.Histories.{plain}
-use Rattle.cordyceps_base.specs.Shares.{whole}
+use Rattle.cordyceps_shared.specs.Histories.{plain}
+use Rattle.cordyceps_shared.specs.Shares.{whole}
 use Rattle.cordyceps_queue.specs.QueueHistory.{held}
 use Rattle.cordyceps_queue.proofs.QueueTaking.{Took}
 use Rattle.cordyceps_queue.proofs.consumer.take_batch.Given as goal

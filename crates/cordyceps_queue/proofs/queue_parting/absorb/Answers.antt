@@ -1,6 +1,6 @@
 use Rattle.std.proofs.Common.{◌≡◌, rules, ap, subst}
-use Rattle.cordyceps_base.specs.Histories.{plain}
-use Rattle.cordyceps_base.specs.Shares.{whole}
+use Rattle.cordyceps_shared.specs.Histories.{plain}
+use Rattle.cordyceps_shared.specs.Shares.{whole}
 use Rattle.cordyceps_queue.specs.QueueParting.{IsStill}
 use Rattle.cordyceps_queue.specs.QueueView.{View}
 use Rattle.cordyceps_queue.proofs.QueueParting.{joins, learns}

@@ -1,5 +1,5 @@
 use Rattle.std.proofs.Common.{length, ◌+◌, ap, ◌∙◌, take, arith}
-use Rattle.cordyceps_base.proofs.Counting.{below_length}
+use Rattle.cordyceps_shared.proofs.Counting.{below_length}
 use Rattle.cordyceps_queue.proofs.QueueParties.{taken_below}
 use Rattle.cordyceps_queue.proofs.shared_queue.tickets_of.Goals as goal
 

@@ -1,7 +1,7 @@
 use Rattle.std.proofs.Common.{◌≡◌, ℕ, List, [], ◌∷◌, Option, Some, None, eqb, sym, ap, ◌∙◌, subst}
 use Rattle.std.specs.Prelude.{IsTrue}
-use Rattle.cordyceps_base.specs.Knowing.{Known, Grown}
-use Rattle.cordyceps_base.specs.Shares.{Name}
+use Rattle.cordyceps_shared.specs.Knowing.{Known, Grown}
+use Rattle.cordyceps_shared.specs.Shares.{Name}
 use Rattle.cordyceps_stack.specs.declared.transfer_table.Filled.{Filled}
 use Rattle.cordyceps_stack.specs.TransferCalls.{Settled}
 use Rattle.cordyceps_stack.specs.TransferHistory.{Event, Load, Legal}

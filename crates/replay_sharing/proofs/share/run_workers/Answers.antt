@@ -3,7 +3,7 @@ use Rattle.std.proofs.lemmas.List.{map-id}
 use Rattle.std.proofs.lemmas.Result.{IfOk-weaker}
 use Rattle.std.specs.List.Sorted.{IsPermutation}
 use Rattle.cordyceps_base.specs.Element.{Element}
-use Rattle.cordyceps_base.specs.Standings.{keeping, giving, Absorbs}
+use Rattle.cordyceps_shared.specs.Standings.{keeping, giving, Absorbs}
 use Rattle.cordyceps.specs.declared.replay.item.Item.{Item}
 use Rattle.cordyceps.specs.SharedStacks.{PartyOf, Legal}
 use Rattle.replay_sharing.specs.Sharing.{Works, Shared}

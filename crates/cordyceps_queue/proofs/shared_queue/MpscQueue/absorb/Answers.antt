@@ -1,5 +1,5 @@
 use Rattle.std.proofs.Common.{◌≡◌, subst, rules}
-use Rattle.cordyceps_base.specs.Standings.{Absorbs}
+use Rattle.cordyceps_shared.specs.Standings.{Absorbs}
 use Rattle.cordyceps_queue.specs.QueueCalls.{standing}
 use Rattle.cordyceps_queue.specs.QueueStanding.{Legal}
 use Rattle.cordyceps_queue.proofs.QueueParties.{absorbed_seated, absorbs}

@@ -1,6 +1,6 @@
 use Rattle.std.proofs.Common.{[], ◌∷◌, ◌++◌, map, length, sym, ap, ◌∙◌, append_assoc, length-append, arith}
 use Rattle.std.proofs.lemmas.List.{append-nil}
-use Rattle.cordyceps_base.specs.Histories.{plain}
+use Rattle.cordyceps_shared.specs.Histories.{plain}
 use Rattle.cordyceps_queue.specs.QueueHistory.{held}
 use Rattle.cordyceps_queue.proofs.QueueClosing.{takes_first, nothing_left}
 use Rattle.cordyceps_queue.proofs.shared_queue.MpscQueue.drain.Goals as goal

@@ -1,6 +1,6 @@
 use Rattle.std.proofs.Common.{◌≡◌, ◌+◌, ◌++◌, map, length}
-use Rattle.cordyceps_base.specs.Histories.{plain}
-use Rattle.cordyceps_base.specs.Shares.{whole}
+use Rattle.cordyceps_shared.specs.Histories.{plain}
+use Rattle.cordyceps_shared.specs.Shares.{whole}
 use Rattle.cordyceps_queue.specs.QueueHistory.{held}
 use Rattle.cordyceps_queue.proofs.shared_queue.MpscQueue.drain.Given as goal
 

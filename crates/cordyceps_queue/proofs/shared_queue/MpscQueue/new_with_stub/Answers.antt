@@ -1,5 +1,5 @@
 use Rattle.std.proofs.Common.{Some, ap, sym, ◌∙◌}
-use Rattle.cordyceps_base.specs.Standings.{new_party}
+use Rattle.cordyceps_shared.specs.Standings.{new_party}
 use Rattle.cordyceps_queue.proofs.shared_queue.MpscQueue.new_with_stub.Goals as goal
 
 pub returns : goal.returns

@@ -1,5 +1,5 @@
 use Rattle.std.proofs.Common.{subst}
-use Rattle.cordyceps_base.specs.Standings.{Absorbs}
+use Rattle.cordyceps_shared.specs.Standings.{Absorbs}
 use Rattle.cordyceps_stack.specs.TransferCalls.{standing}
 use Rattle.cordyceps_stack.specs.TransferHistory.{Legal}
 use Rattle.cordyceps_stack.proofs.TransferStanding.{absorbed_seated, absorbs}

@@ -1,0 +1,55 @@
+-- What parties see in several steps, by splitting and by joining.
+use Rattle.std.proofs.Common.{◌≡◌, ℕ, zero, suc, List, [], ◌∷◌, ◌++◌, replicate, Bool, cond, refl, sym, ap, ◌∙◌, subst}
+use Rattle.cordyceps_shared.specs.Histories.{plain, own, AllOwn}
+use Rattle.cordyceps_shared.specs.Knowing.{unmarked, merged, Begins}
+use Rattle.cordyceps_shared.specs.Shares.{Name, whole, gives_half}
+use Rattle.cordyceps_shared.specs.Standings.{Standing, known_of, Adds}
+use Rattle.cordyceps_shared.proofs.Telling.{grown_then}
+
+-- one more of the same at the end
+pub replicate_more : {A : Type 0} (n : ℕ) (a : A) (xs : List A) → replicate n a ++ a ∷ xs ≡ replicate (suc n) a ++ xs
+replicate_more zero a xs = refl
+replicate_more (suc n) a xs = ap (λ z. a ∷ z) (replicate_more n a xs)
+
+pub not_whole : (ns : List Name) → gives_half ns ≡ whole → ⊥
+not_whole [] e = cc
+not_whole ([] ∷ ns) e = cc
+not_whole ((b ∷ bs) ∷ ns) e = cc
+
+module _ {X : Type 0} where
+  pub plain_append : (xs ys : List (Bool × X)) → plain (xs ++ ys) ≡ plain xs ++ plain ys
+  plain_append [] ys = refl
+  plain_append (x ∷ xs) ys = ap (λ z. x.1 ∷ z) (plain_append xs ys)
+
+  pub plain_unmarked : (xs : List (Bool × X)) → plain (unmarked xs) ≡ plain xs
+  plain_unmarked [] = refl
+  plain_unmarked (x ∷ xs) = ap (λ z. x.1 ∷ z) (plain_unmarked xs)
+
+  -- what a party saw begins what it sees with another
+  pub merged_front : (xs ys : List (Bool × X)) → Begins (plain xs) (plain (merged xs ys))
+  merged_front [] ys = (plain ys, refl)
+  merged_front (x ∷ xs) [] = ([], sym (ap (λ z. x.1 ∷ z) (append_none (plain xs))))
+    where
+      append_none : (zs : List X) → zs ++ [] ≡ zs
+      append_none [] = refl
+      append_none (z ∷ zs) = ap (λ y. z ∷ y) (append_none zs)
+  merged_front (x ∷ xs) (y ∷ ys) = let t = merged_front xs ys in (t.0, ap (λ z. x.1 ∷ z) t.1)
+
+  pub tail_own : (xs ys : List (Bool × X)) → AllOwn (xs ++ ys) → AllOwn ys
+  tail_own [] ys a = a
+  tail_own (x ∷ xs) ys a = tail_own xs ys a.1
+
+  pub plain_own : (xs : List (Bool × X)) → AllOwn xs → plain xs ≡ own xs
+  plain_own [] a = refl
+  plain_own (x ∷ xs) a = ap (λ z. x.1 ∷ z) (plain_own xs a.1) ∙ ap (λ b. cond b (x.1 ∷ own xs) (own xs)) (sym a.0)
+
+module _ {X : Type 0} (Legal : List X → Type 0) where
+  pub adds_then : (u v w : Standing X) (xs ys : List X) → Adds Legal u xs v → Adds Legal v ys w → Adds Legal u (xs ++ ys) w
+  adds_then u v w xs ys a b = (grown_then Legal (known_of u) (known_of v) (known_of w) xs ys a.0 b.0, b.1 ∙ a.1)
+
+  -- a whole party has seen just what it had seen, and its own events
+  pub whole_adds : (u w : Standing X) (es : List X) → u.share ≡ whole → Adds Legal u es w → plain w.seen ≡ plain u.seen ++ es
+  whole_adds u w es is a =
+      let g = a.0 in
+      let all = tail_own u.seen g.rest (subst (λ z. AllOwn z) g.is (g.alone (g.share ∙ is))) in
+      ap (λ z. plain z) g.is ∙ (plain_append u.seen g.rest ∙ ap (λ z. plain u.seen ++ z) (plain_own g.rest all ∙ g.adds))

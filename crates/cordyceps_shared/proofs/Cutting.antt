@@ -1,0 +1,74 @@
+-- A seat may be split in two.
+use Rattle.std.proofs.Common.{◌≡◌, ◌≢◌, ◌⊎◌, ℕ, zero, suc, ◌≤◌, List, [], ◌∷◌, ◌++◌, length, set, refl, sym, ap, ◌∙◌, subst, inl, inr, ⊎_elim, arith, ne_eqb, length-set, length-append}
+use mathlib.Core.Option.{some, some-injective, some-ne-none}
+use lib.ListN.{get_elem?}
+use Rattle.atomic_table.proofs.Lists.{at_set}
+use Rattle.cordyceps_shared.specs.Shares.{covers}
+use Rattle.cordyceps_shared.specs.Histories.{events, marked}
+use Rattle.cordyceps_shared.specs.Knowing.{Known, Fits, Below, Owned, AllFit, unmarked, kept, given}
+use Rattle.cordyceps_shared.proofs.Counting.{tally_set, tally_snoc}
+use Rattle.cordyceps_shared.proofs.Naming.{split_covers, keeps_some, gives_some}
+use Rattle.cordyceps_shared.proofs.Telling.{below_without, fits_set}
+
+-- of a list with one more item
+pub at_end : {A : Type 0} (l : List A) (a b : A) (j : ℕ) → get_elem? (l ++ a ∷ []) j ≡ some b → (get_elem? l j ≡ some b) ⊎ ((j ≡ length l) × (a ≡ b))
+at_end [] a b zero e = inr (refl, some-injective a b e)
+at_end [] a b (suc j) e = absurd (some-ne-none b (sym e))
+at_end (x ∷ xs) a b zero e = inl e
+at_end (x ∷ xs) a b (suc j) e = ⊎_elim (λ t. inl t) (λ t. inr (ap suc t.0, t.1)) (at_end xs a b j e)
+
+module _ {X : Type 0} where
+  -- a party that has no event marks none
+  marked_new : (n j : ℕ) (h : List (ℕ × X)) → Below n h → marked n h ≡ unmarked (marked j h)
+  marked_new n j [] b = refl
+  marked_new n j (x ∷ xs) b = let low = b.0 in λ i. (ne_eqb x.0 n (λ e. omega arith) i, x.1) ∷ marked_new n j xs b.1 i
+
+  below_front : (n : ℕ) (xs ys : List (ℕ × X)) → Below n (xs ++ ys) → Below n xs × Below n ys
+  below_front n [] ys b = (tt, b)
+  below_front n (x ∷ xs) ys b = let t = below_front n xs ys b.1 in ((b.0, t.0), t.1)
+
+  below_less : (n m : ℕ) (h : List (ℕ × X)) → n ≤ m → Below n h → Below m h
+  below_less n m [] l b = tt
+  below_less n m (x ∷ xs) l b = let low = b.0 in (omega arith, below_less n m xs l b.1)
+
+module _ {X V : Type 0} (knows : V → Known X) where
+  pub owned_cut : (views : List V) (h : List (ℕ × X)) (j : ℕ) (v left right : V) → get_elem? views j ≡ some v → knows left ≡ kept (knows v) → knows right ≡ given (knows v) → (knows v).share ≢ [] → Owned knows views h
+      → Owned knows (set views j left ++ right ∷ []) h
+  owned_cut views h j v left right at is_left is_right named o =
+      let l = ap (λ (k : Known X). k.share) is_left in
+      let r = ap (λ (k : Known X). k.share) is_right in record {
+        below = below_less (length views) (length (set views j left ++ right ∷ [])) h (omega (arith, length-append (set views j left) (right ∷ []), length-set views j left)) o.below;
+        quiet = λ i u e none_of. ⊎_elim
+            (λ (there : get_elem? (set views j left) i ≡ some u). ⊎_elim
+            (λ (t : (i ≡ j) × (left ≡ u)). absurd (keeps_some (knows v).share named (sym l ∙ (ap (λ (z : V). (knows z).share) t.1 ∙ none_of))))
+            (λ (t : (i ≢ j) × (get_elem? views i ≡ some u)). o.quiet i u t.1 none_of)
+            (at_set views j i left u there))
+            (λ (t : (i ≡ length (set views j left)) × (right ≡ u)). absurd (gives_some (knows v).share named (sym r ∙ (ap (λ (z : V). (knows z).share) t.1 ∙ none_of))))
+            (at_end (set views j left) right u i e);
+        long = o.long;
+        apart = λ x long.
+            let f : V → ℕ = λ u. covers x (knows u).share in
+            let a = ap (covers x) l in let b = ap (covers x) r in
+            omega (arith, o.apart x long, tally_snoc f (set views j left) right, tally_set f views j v left at, split_covers x (knows v).share);
+      }
+
+  pub fits_cut : (views : List V) (h : List (ℕ × X)) (j : ℕ) (v left right : V) → get_elem? views j ≡ some v → knows left ≡ kept (knows v) → knows right ≡ given (knows v) → Owned knows views h → AllFit knows views h
+      → AllFit knows (set views j left ++ right ∷ []) h
+  fits_cut views h j v left right at is_left is_right o fits i u e =
+      let n = length views in
+      let f = fits j v at in
+      let low = below_front n f.before f.later (subst (λ z. Below n z) f.is o.below) in
+      let left_fits : Fits h j (kept (knows v)) = record { before = f.before; later = f.later; is = f.is; seen = f.seen; none = f.none; told = f.told; short = f.short } in
+      let right_fits : Fits h n (given (knows v)) = record {
+        before = f.before;
+        later = f.later;
+        is = f.is;
+        seen = ap unmarked f.seen ∙ sym (marked_new n j f.before low.0);
+        none = below_without n f.later n (omega arith) low.1;
+        told = (events h, refl);
+        short = omega arith;
+      } in
+      ⊎_elim
+      (λ (there : get_elem? (set views j left) i ≡ some u). fits_set knows views h j left (subst (Fits h j) (sym is_left) left_fits) (λ k z _. fits k z) i u there)
+      (λ (t : (i ≡ length (set views j left)) × (right ≡ u)). subst (λ (z : ℕ × Known X). Fits h z.0 z.1) (λ c. (sym (t.0 ∙ length-set views j left) c, (sym is_right ∙ ap knows t.1) c)) right_fits)
+      (at_end (set views j left) right u i e)

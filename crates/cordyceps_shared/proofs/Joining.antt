@@ -1,0 +1,74 @@
+-- Two seats may be made one, and it then learns that one had seen a beginning of what the other had.
+use Rattle.std.proofs.Common.{◌≡◌, ◌≢◌, ℕ, ◌+◌, List, [], ◌++◌, length, set, Bool, refl, sym, ap, ◌∙◌, subst, ⊎_elim, arith, length-set}
+use mathlib.Core.Option.{some}
+use lib.ListN.{get_elem?}
+use Rattle.atomic_table.proofs.Lists.{at_set}
+use Rattle.cordyceps_shared.specs.Shares.{covers}
+use Rattle.cordyceps_shared.specs.Histories.{events, plain, Without}
+use Rattle.cordyceps_shared.specs.Knowing.{Known, Fits, Below, Owned, AllFit, merged, both, spent}
+use Rattle.cordyceps_shared.proofs.Counting.{tally_set}
+use Rattle.cordyceps_shared.proofs.Naming.{join_covers, joined_some, letters}
+use Rattle.cordyceps_shared.proofs.Renaming.{relabel, events_relabel, relabel_append, marked_relabel, without_relabel, without_gone, below_relabel, merge, length_relabel, length_marked, events_append}
+use Rattle.cordyceps_shared.proofs.Seeing.{plain_marked}
+use Rattle.cordyceps_shared.proofs.Telling.{at_length, fits_set}
+
+module _ {X : Type 0} where
+  fits_gone : (h : List (ℕ × X)) (a b : ℕ) → b ≢ a → Fits (relabel a b h) b spent
+  fits_gone h a b apart = record { before = []; later = relabel a b h; is = refl; seen = refl; none = without_gone a b h apart; told = (events (relabel a b h), refl); short = omega arith }
+
+  fits_both : (h : List (ℕ × X)) (a b : ℕ) (k l : Known X) → Fits h a k → Fits h b l → Fits (relabel a b h) a (both k l)
+  fits_both h a b k l fk fl =
+      let t = merge a b fk.before fk.later fl.before fl.later (sym fk.is ∙ fl.is) fk.none fl.none in
+      let seen = (λ c. merged (fk.seen c) (fl.seen c)) ∙ t.seen in record {
+        before = relabel a b t.before;
+        later = relabel a b t.later;
+        is = ap (relabel a b) (fk.is ∙ t.is) ∙ relabel_append a b t.before t.later;
+        seen = seen;
+        none = t.none;
+        told = (events fl.later, events_relabel a b h ∙ (ap events fl.is ∙ (events_append fl.before fl.later ∙ ap (λ z. z ++ events fl.later) (sym (ap plain fl.seen ∙ plain_marked b fl.before)))));
+        short = omega (arith, t.long, ap (λ (z : List (Bool × X)). length z) fl.seen, ap (λ (z : List (Bool × X)). length z) seen, length_marked b fl.before, length_marked a (relabel a b t.before), length_relabel a b t.before);
+      }
+
+  fits_others : (h : List (ℕ × X)) (a b i : ℕ) (k : Known X) → i ≢ a → i ≢ b → Fits h i k → Fits (relabel a b h) i k
+  fits_others h a b i k na nb f = record {
+    before = relabel a b f.before;
+    later = relabel a b f.later;
+    is = ap (relabel a b) f.is ∙ relabel_append a b f.before f.later;
+    seen = f.seen ∙ sym (marked_relabel a b i f.before na nb);
+    none = without_relabel a b i f.later na f.none;
+    told = (f.told.0, events_relabel a b h ∙ f.told.1);
+    short = f.short;
+  }
+
+module _ {X V : Type 0} (knows : V → Known X) where
+  pub owned_join : (views : List V) (h : List (ℕ × X)) (a b : ℕ) (v w x y : V) → get_elem? views a ≡ some v → b ≢ a → get_elem? (set views a x) b ≡ some w → knows x ≡ both (knows v) (knows w) → knows y ≡ spent → (knows v).share ≢ []
+      → Owned knows views h → Owned knows (set (set views a x) b y) (relabel a b h)
+  owned_join views h a b v w x y at apart there is_both is_spent named o =
+      let one = set views a x in
+      let long = length-set one b y ∙ length-set views a x in
+      let all = ap (λ (k : Known X). k.share) is_both in
+      let nothing = ap (λ (k : Known X). k.share) is_spent in record {
+        below = subst (λ n. Below n (relabel a b h)) (sym long) (below_relabel a b (length views) h (at_length views a v at) o.below);
+        quiet = λ i u e none_of. ⊎_elim
+            (λ (t : (i ≡ b) × (y ≡ u)). subst (λ (z : ℕ). Without z (relabel a b h)) (sym t.0) (without_gone a b h apart))
+            (λ (t : (i ≢ b) × (get_elem? one i ≡ some u)). ⊎_elim
+            (λ (q : (i ≡ a) × (x ≡ u)). absurd (joined_some (knows v).share (knows w).share named (sym all ∙ (ap (λ (z : V). (knows z).share) q.1 ∙ none_of))))
+            (λ (q : (i ≢ a) × (get_elem? views i ≡ some u)). without_relabel a b i h q.0 (o.quiet i u q.1 none_of))
+            (at_set views a i x u t.1))
+            (at_set one b i y u e);
+        long = o.long + (letters (knows v).share + letters (knows w).share);
+        apart = λ n l.
+            let f : V → ℕ = λ u. covers n (knows u).share in
+            let p = ap (covers n) all in let q = ap (covers n) nothing in
+            omega (arith, o.apart n (omega arith), tally_set f views a v x at, tally_set f one b w y there, join_covers n (knows v).share (knows w).share (omega arith));
+      }
+
+  pub fits_join : (views : List V) (h : List (ℕ × X)) (a b : ℕ) (v w x y : V) → get_elem? views a ≡ some v → b ≢ a → get_elem? (set views a x) b ≡ some w → knows x ≡ both (knows v) (knows w) → knows y ≡ spent
+      → AllFit knows views h → AllFit knows (set (set views a x) b y) (relabel a b h)
+  fits_join views h a b v w x y at apart there is_both is_spent fits =
+      let one = set views a x in
+      let there_first : get_elem? views b ≡ some w = ⊎_elim (λ (t : (b ≡ a) × (x ≡ w)). absurd (apart t.0)) (λ (t : (b ≢ a) × (get_elem? views b ≡ some w)). t.1) (at_set views a b x w there) in
+      fits_set knows one (relabel a b h) b y (subst (Fits (relabel a b h) b) (sym is_spent) (fits_gone h a b apart)) (λ i u other e. ⊎_elim
+      (λ (q : (i ≡ a) × (x ≡ u)). subst (λ (z : ℕ × Known X). Fits (relabel a b h) z.0 z.1) (λ c. (sym q.0 c, (sym is_both ∙ ap knows q.1) c)) (fits_both h a b (knows v) (knows w) (fits a v at) (fits b w there_first)))
+      (λ (q : (i ≢ a) × (get_elem? views i ≡ some u)). fits_others h a b i (knows u) q.0 other (fits i u q.1))
+      (at_set views a i x u e))

@@ -1,0 +1,9 @@
+pub mod Adding
+pub mod Counting
+pub mod Cutting
+pub mod Joining
+pub mod Naming
+pub mod Renaming
+pub mod Seeing
+pub mod Standing
+pub mod Telling

@@ -1,0 +1,130 @@
+-- Names that are split and joined cover no long name twice.
+use Rattle.std.proofs.Common.{◌≡◌, ◌≢◌, ℕ, ◌+◌, ◌≤◌, List, [], ◌∷◌, ◌++◌, length, Bool, true, false, cond, refl, sym, ap, arith, true≢false}
+use Rattle.cordyceps_shared.specs.Counts.{tally, one_if}
+use Rattle.cordyceps_shared.specs.Shares.{Name, same_bit, begins, covers, earlier, put, put_all, is_pair, parent, place, combine, joined, keeps_half, gives_half}
+
+-- the two halves of a name
+pub halves : (n x : Name) → one_if (begins (n ++ false ∷ []) x) + one_if (begins (n ++ true ∷ []) x) ≤ one_if (begins n x)
+halves [] [] = omega arith
+halves [] (true ∷ bs) = omega arith
+halves [] (false ∷ bs) = omega arith
+halves (a ∷ us) [] = omega arith
+halves (a ∷ us) (b ∷ bs) = at_first (same_bit a b) (halves us bs)
+  where
+    at_first : (c : Bool) → one_if (begins (us ++ false ∷ []) bs) + one_if (begins (us ++ true ∷ []) bs) ≤ one_if (begins us bs)
+        → one_if (cond c (begins (us ++ false ∷ []) bs) false) + one_if (cond c (begins (us ++ true ∷ []) bs) false) ≤ one_if (cond c (begins us bs) false)
+    at_first true h = h
+    at_first false h = omega arith
+
+pub split_covers : (x : Name) (ns : List Name) → covers x (keeps_half ns) + covers x (gives_half ns) ≤ covers x ns
+split_covers x [] = omega arith
+split_covers x (n ∷ ns) = omega (arith, halves n x)
+
+-- a name stands for its two halves, where the other name is long
+pub pair_covers : (n m x : Name) → is_pair n m ≡ true → length n ≤ length x → one_if (begins (parent n) x) ≤ one_if (begins n x) + one_if (begins m x)
+pair_covers [] m x e l = absurd (true≢false (sym e))
+pair_covers (a ∷ us) [] x e l = absurd (true≢false (sym e))
+pair_covers (a ∷ us) (b ∷ bs) [] e l = absurd (omega arith)
+pair_covers (true ∷ []) (b ∷ []) (y ∷ ys) e l = absurd (true≢false (sym e))
+pair_covers (false ∷ []) (false ∷ []) (y ∷ ys) e l = absurd (true≢false (sym e))
+pair_covers (false ∷ []) (true ∷ []) (true ∷ ys) e l = omega arith
+pair_covers (false ∷ []) (true ∷ []) (false ∷ ys) e l = omega arith
+pair_covers (a ∷ []) (b ∷ d ∷ bs) (y ∷ ys) e l = absurd (true≢false (sym e))
+pair_covers (a ∷ c ∷ us) (b ∷ []) (y ∷ ys) e l = absurd (true≢false (sym e))
+pair_covers (true ∷ c ∷ us) (true ∷ d ∷ bs) (true ∷ ys) e l = pair_covers (c ∷ us) (d ∷ bs) ys e (omega arith)
+pair_covers (true ∷ c ∷ us) (true ∷ d ∷ bs) (false ∷ ys) e l = omega arith
+pair_covers (false ∷ c ∷ us) (false ∷ d ∷ bs) (true ∷ ys) e l = omega arith
+pair_covers (false ∷ c ∷ us) (false ∷ d ∷ bs) (false ∷ ys) e l = pair_covers (c ∷ us) (d ∷ bs) ys e (omega arith)
+pair_covers (true ∷ c ∷ us) (false ∷ d ∷ bs) (y ∷ ys) e l = absurd (true≢false (sym e))
+pair_covers (false ∷ c ∷ us) (true ∷ d ∷ bs) (y ∷ ys) e l = absurd (true≢false (sym e))
+
+parent_short : (n : Name) → length (parent n) ≤ length n
+parent_short [] = omega arith
+parent_short (a ∷ []) = omega arith
+parent_short (a ∷ b ∷ us) = omega (arith, parent_short (b ∷ us))
+
+abbrev pub letters : List Name → ℕ
+letters ns = tally (λ n. length n) ns
+
+place_covers : (x n : Name) (ms : List Name) → length n + letters ms ≤ length x → covers x (place n ms) ≤ one_if (begins n x) + covers x ms
+place_covers x n [] l = omega arith
+place_covers x n (m ∷ ms) l = at_pair (is_pair n m) (λ e. pair_covers n m x e (omega arith)) (place_covers x (parent n) ms (omega (arith, parent_short n)))
+  where
+    at_pair : (b : Bool) → (b ≡ true → one_if (begins (parent n) x) ≤ one_if (begins n x) + one_if (begins m x)) → covers x (place (parent n) ms) ≤ one_if (begins (parent n) x) + covers x ms
+        → covers x (cond b (place (parent n) ms) (n ∷ m ∷ ms)) ≤ one_if (begins n x) + covers x (m ∷ ms)
+    at_pair true pair more = let p = pair refl in omega arith
+    at_pair false pair more = omega arith
+
+place_letters : (n : Name) (ms : List Name) → letters (place n ms) ≤ length n + letters ms
+place_letters n [] = omega arith
+place_letters n (m ∷ ms) = at_pair (is_pair n m) (place_letters (parent n) ms)
+  where
+    at_pair : (b : Bool) → letters (place (parent n) ms) ≤ length (parent n) + letters ms → letters (cond b (place (parent n) ms) (n ∷ m ∷ ms)) ≤ length n + letters (m ∷ ms)
+    at_pair true more = omega (arith, parent_short n)
+    at_pair false more = omega arith
+
+combine_letters : (ns : List Name) → letters (combine ns) ≤ letters ns
+combine_letters [] = omega arith
+combine_letters (n ∷ ns) = omega (arith, place_letters n (combine ns), combine_letters ns)
+
+combine_covers : (x : Name) (ns : List Name) → letters ns ≤ length x → covers x (combine ns) ≤ covers x ns
+combine_covers x [] l = omega arith
+combine_covers x (n ∷ ns) l = let c = combine_letters ns in omega (arith, place_covers x n (combine ns) (omega arith), combine_covers x ns (omega arith))
+
+tally_put : (f : Name → ℕ) (n : Name) (ms : List Name) → tally f (put n ms) ≡ f n + tally f ms
+tally_put f n [] = refl
+tally_put f n (m ∷ ms) = at_first (earlier n m) (tally_put f n ms)
+  where
+    at_first : (b : Bool) → tally f (put n ms) ≡ f n + tally f ms → tally f (cond b (n ∷ m ∷ ms) (m ∷ put n ms)) ≡ f n + (f m + tally f ms)
+    at_first true e = refl
+    at_first false e = omega arith
+
+tally_put_all : (f : Name → ℕ) (ns ms : List Name) → tally f (put_all ns ms) ≡ tally f ns + tally f ms
+tally_put_all f [] ms = omega arith
+tally_put_all f (n ∷ ns) ms = omega (arith, tally_put f n (put_all ns ms), tally_put_all f ns ms)
+
+pub join_covers : (x : Name) (ns ms : List Name) → letters ns + letters ms ≤ length x → covers x (joined ns ms) ≤ covers x ns + covers x ms
+join_covers x ns ms l =
+    let a = tally_put_all (λ n. length n) ns ms in let b = tally_put_all (λ n. one_if (begins n x)) ns ms in omega (arith, combine_covers x (put_all ns ms) (omega arith))
+
+-- a name begins what it is lengthened to
+pub begins_longer : (n x : Name) → begins n (n ++ x) ≡ true
+begins_longer [] x = refl
+begins_longer (true ∷ us) x = begins_longer us x
+begins_longer (false ∷ us) x = begins_longer us x
+
+pub some_cover : (n x : Name) (ns : List Name) → 1 ≤ covers (n ++ x) (n ∷ ns)
+some_cover n x ns = let here = ap one_if (begins_longer n x) in omega arith
+
+place_some : (n : Name) (ms : List Name) → 1 ≤ length (place n ms)
+place_some n [] = omega arith
+place_some n (m ∷ ms) = at_pair (is_pair n m) (place_some (parent n) ms)
+  where
+    at_pair : (b : Bool) → 1 ≤ length (place (parent n) ms) → 1 ≤ length (cond b (place (parent n) ms) (n ∷ m ∷ ms))
+    at_pair true more = more
+    at_pair false more = omega arith
+
+combine_some : (ns : List Name) → 1 ≤ length ns → 1 ≤ length (combine ns)
+combine_some [] l = l
+combine_some (n ∷ ns) l = place_some n (combine ns)
+
+count_names : (ns : List Name) → tally (λ _. 1) ns ≡ length ns
+count_names [] = refl
+count_names (n ∷ ns) = omega (arith, count_names ns)
+
+pub joined_some : (ns ms : List Name) → ns ≢ [] → joined ns ms ≢ []
+joined_some [] ms not e = not refl
+joined_some (n ∷ ns) ms not e =
+    let k = tally_put_all (λ _. 1) (n ∷ ns) ms in
+    let c = count_names (put_all (n ∷ ns) ms) in
+    let few = combine_some (put_all (n ∷ ns) ms) (omega arith) in
+    let none = ap (λ z. length z) e in
+    omega arith
+
+pub keeps_some : (ns : List Name) → ns ≢ [] → keeps_half ns ≢ []
+keeps_some [] not e = not refl
+keeps_some (n ∷ ns) not e = absurd (cc)
+
+pub gives_some : (ns : List Name) → ns ≢ [] → gives_half ns ≢ []
+gives_some [] not e = not refl
+gives_some (n ∷ ns) not e = absurd (cc)

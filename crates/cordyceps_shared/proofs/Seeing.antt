@@ -1,0 +1,43 @@
+-- A history with more events at its end, and what its marks say.
+use Rattle.std.proofs.Common.{◌≡◌, ◌≢◌, ℕ, List, [], ◌∷◌, ◌++◌, Bool, true, false, cond, refl, ap, ◌∙◌, eq-eqb, ne_eqb}
+use Rattle.std.proofs.lemmas.List.{map-append}
+use Rattle.cordyceps_shared.specs.Histories.{events, mark, marked, plain, own, Without, of_seat}
+
+module _ {X : Type 0} where
+  pub events_of : (j : ℕ) (es : List X) → events (of_seat j es) ≡ es
+  events_of j [] = refl
+  events_of j (x ∷ xs) = ap (λ (ys : List X). x ∷ ys) (events_of j xs)
+
+  pub events_more : (h : List (ℕ × X)) (j : ℕ) (es : List X) → events (h ++ of_seat j es) ≡ events h ++ es
+  events_more h j es = map-append (λ x. x.1) h (of_seat j es) ∙ ap (λ (ys : List X). events h ++ ys) (events_of j es)
+
+  without_of : (j i : ℕ) (es : List X) → i ≢ j → Without j (of_seat i es)
+  without_of j i [] n = tt
+  without_of j i (x ∷ xs) n = (n, without_of j i xs n)
+
+  pub without_more : (j : ℕ) (h : List (ℕ × X)) (i : ℕ) (es : List X) → i ≢ j → Without j h → Without j (h ++ of_seat i es)
+  without_more j [] i es n w = without_of j i es n
+  without_more j (y ∷ ys) i es n w = (w.0, without_more j ys i es n w.1)
+
+  pub marked_append : (j : ℕ) (xs ys : List (ℕ × X)) → marked j (xs ++ ys) ≡ marked j xs ++ marked j ys
+  marked_append j xs ys = map-append (mark j) xs ys
+
+  pub plain_marked : (j : ℕ) (xs : List (ℕ × X)) → plain (marked j xs) ≡ events xs
+  plain_marked j [] = refl
+  plain_marked j (x ∷ xs) = ap (λ (ys : List X). x.1 ∷ ys) (plain_marked j xs)
+
+  pub own_append : (xs ys : List (Bool × X)) → own (xs ++ ys) ≡ own xs ++ own ys
+  own_append [] ys = refl
+  own_append (x ∷ xs) ys = at_first x.0 (own_append xs ys)
+    where
+      at_first : (b : Bool) → own (xs ++ ys) ≡ own xs ++ own ys → cond b (x.1 ∷ own (xs ++ ys)) (own (xs ++ ys)) ≡ cond b (x.1 ∷ own xs) (own xs) ++ own ys
+      at_first true e = ap (λ (zs : List X). x.1 ∷ zs) e
+      at_first false e = e
+
+  pub own_without : (j : ℕ) (xs : List (ℕ × X)) → Without j xs → own (marked j xs) ≡ []
+  own_without j [] w = refl
+  own_without j (x ∷ xs) w = ap (λ b. cond b (x.1 ∷ own (marked j xs)) (own (marked j xs))) (ne_eqb x.0 j w.0) ∙ own_without j xs w.1
+
+  pub own_of : (j : ℕ) (es : List X) → own (marked j (of_seat j es)) ≡ es
+  own_of j [] = refl
+  own_of j (x ∷ xs) = ap (λ b. cond b (x ∷ own (marked j (of_seat j xs))) (own (marked j (of_seat j xs)))) (eq-eqb j j refl) ∙ ap (λ (ys : List X). x ∷ ys) (own_of j xs)

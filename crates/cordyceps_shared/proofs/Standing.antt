@@ -1,0 +1,73 @@
+-- What a party knows at the start, what it knows of the history so far, and what a party knows that has the whole share.
+use Rattle.std.proofs.Common.{◌≡◌, ◌≢◌, ℕ, zero, suc, ◌≤◌, List, [], ◌∷◌, ◌++◌, length, Bool, refl, sym, ap, ◌∙◌, subst, arith, append-nil}
+use mathlib.Core.Option.{some, some-injective, some-ne-none}
+use lib.ListN.{get_elem?}
+use Rattle.cordyceps_shared.specs.Shares.{covers, whole}
+use Rattle.cordyceps_shared.specs.Histories.{events, marked, plain, Without, AllOwn}
+use Rattle.cordyceps_shared.specs.Knowing.{Known, Fits, Owned, AllFit, Begins, IsKnown, newcomer}
+use Rattle.cordyceps_shared.proofs.Renaming.{same_first, events_append}
+use Rattle.cordyceps_shared.proofs.Seeing.{marked_append, plain_marked}
+use Rattle.cordyceps_shared.proofs.Telling.{all_own, whole_without}
+
+-- the only element of a list
+only : {A : Type 0} (a b : A) (j : ℕ) → get_elem? (a ∷ []) j ≡ some b → (j ≡ 0) × (a ≡ b)
+only a b zero e = (refl, some-injective a b e)
+only a b (suc j) e = absurd (some-ne-none b (sym e))
+
+module _ {X : Type 0} where
+  own_front : (xs ys : List (Bool × X)) → AllOwn (xs ++ ys) → AllOwn xs
+  own_front [] ys a = tt
+  own_front (x ∷ xs) ys a = (a.0, own_front xs ys a.1)
+
+  -- of two beginnings of one list the shorter begins the longer
+  begins_longer : (xs ys us vs : List X) → xs ++ us ≡ ys ++ vs → length xs ≤ length ys → Begins xs ys
+  begins_longer [] ys us vs e l = (ys, refl)
+  begins_longer (x ∷ xs) [] us vs e l = absurd (omega arith)
+  begins_longer (x ∷ xs) (y ∷ ys) us vs e l =
+      let t = begins_longer xs ys us vs (cc) (omega arith) in
+      (t.0, (λ k. same_first y x (ys ++ vs) (xs ++ us) (sym e) k ∷ t.1 k))
+
+  length_plain : (xs : List (Bool × X)) → length (plain xs) ≡ length xs
+  length_plain [] = refl
+  length_plain (x ∷ xs) = ap suc (length_plain xs)
+
+  nothing_later : (j : ℕ) (xs : List (ℕ × X)) → Without j xs → ((i : ℕ) → i ≢ j → Without i xs) → xs ≡ []
+  nothing_later j [] mine others = refl
+  nothing_later j (x ∷ xs) mine others = absurd ((others x.0 mine.0).0 refl)
+
+  later_without : (i : ℕ) (xs ys : List (ℕ × X)) → Without i (xs ++ ys) → Without i ys
+  later_without i [] ys w = w
+  later_without i (x ∷ xs) ys w = later_without i xs ys w.1
+
+  -- the history is what the party has seen, and more
+  seen_front : (h : List (ℕ × X)) (j : ℕ) (k : Known X) (f : Fits h j k) → events h ≡ plain k.seen ++ events f.later
+  seen_front h j k f = ap events f.is ∙ (events_append f.before f.later ∙ ap (λ z. z ++ events f.later) (sym (ap plain f.seen ∙ plain_marked j f.before)))
+
+  fits_new : Fits [] 0 (newcomer {X = X})
+  fits_new = record { before = []; later = []; is = refl; seen = refl; none = tt; told = ([], refl); short = omega arith }
+
+module _ {X V : Type 0} (knows : V → Known X) where
+  pub is_known : (Legal : List X → Type 0) (front : (xs ys : List X) → Legal (xs ++ ys) → Legal xs) (views : List V) (h : List (ℕ × X)) (j : ℕ) (v : V) → Owned knows views h → AllFit knows views h → get_elem? views j ≡ some v → Legal (events h)
+      → IsKnown Legal (knows v)
+  is_known Legal front views h j v o fits at legal =
+      let k = knows v in
+      let f = fits j v at in
+      let all = seen_front h j k f in record {
+        legal = front (plain k.seen) (events f.later) (subst Legal all legal);
+        told = begins_longer (plain k.told) (plain k.seen) f.told.0 (events f.later) (sym f.told.1 ∙ all) (omega (arith, length_plain k.told, length_plain k.seen, f.short));
+        alone = λ is. subst AllOwn (sym f.seen) (own_front (marked j f.before) (marked j f.later)
+            (subst AllOwn (ap (marked j) f.is ∙ marked_append j f.before f.later) (all_own j h (λ i n. whole_without knows views h j i v o at is n))));
+      }
+
+  -- a party that has the whole share has seen all
+  pub all_known : (views : List V) (h : List (ℕ × X)) (j : ℕ) (v : V) → Owned knows views h → AllFit knows views h → get_elem? views j ≡ some v → (knows v).share ≡ whole → plain (knows v).seen ≡ events h
+  all_known views h j v o fits at is =
+      let f = fits j v at in
+      let none = nothing_later j f.later f.none (λ i n. later_without i f.before f.later (subst (Without i) f.is (whole_without knows views h j i v o at is n))) in
+      sym (seen_front h j (knows v) f ∙ (ap (λ z. plain (knows v).seen ++ events z) none ∙ append-nil (plain (knows v).seen)))
+
+  pub opens : (v : V) → knows v ≡ newcomer → Owned knows (v ∷ []) [] × AllFit knows (v ∷ []) []
+  opens v is = (
+    record { below = tt; quiet = λ _ _ _ _. tt; long = 0; apart = λ x l. let c = ap (λ (k : Known X). covers x k.share) is in omega arith },
+    λ j u e. let t = only v u j e in subst (λ (z : ℕ × Known X). Fits [] z.0 z.1) (λ c. (sym t.0 c, (sym is ∙ ap knows t.1) c)) fits_new,
+  )

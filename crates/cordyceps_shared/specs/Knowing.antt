@@ -1,0 +1,95 @@
+-- What a party of a shared collection knows of its history, and what that has to do with the history. X is the type of
+-- events, and V that of what the seats of the collection's table know.
+use Rattle.std.specs.Prelude.{◌≡◌, ℕ, ◌<◌, ◌≤◌, List, [], ◌∷◌, ◌++◌, length, Bool, ◌||◌, false}
+use mathlib.Core.Option.{some}
+use lib.ListN.{get_elem?}
+use Rattle.cordyceps_shared.specs.Counts.{tally}
+use Rattle.cordyceps_shared.specs.Histories.{events, marked, plain, own, Without, AllOwn}
+use Rattle.cordyceps_shared.specs.Shares.{Name, covers, whole, keeps_half, gives_half, joined}
+
+-- the history so far, with a mark at its own events; what the party knew that it absorbed last; and its share
+pub record Known (X : Type 0) : Type 0 where
+  pub seen : List (Bool × X)
+  pub told : List (Bool × X)
+  pub share : List Name
+
+module _ {X : Type 0} where
+  -- the party of a new collection
+  abbrev pub newcomer : Known X
+  newcomer = record { seen = []; told = []; share = whole }
+
+  -- what the party of seat j knows that has seen all
+  abbrev pub all_seen : ℕ → List (ℕ × X) → List Name → Known X
+  all_seen j h share = record { seen = marked j h; told = []; share = share }
+
+  -- what it has seen is a beginning of the history, with all events of its own, and so is what it was told
+  pub record Fits (history : List (ℕ × X)) (j : ℕ) (k : Known X) : Type 0 where
+    pub before : List (ℕ × X)
+    pub later : List (ℕ × X)
+    pub is : history ≡ before ++ later
+    pub seen : k.seen ≡ marked j before
+    pub none : Without j later
+    pub told : (rest : List X) × (events history ≡ plain k.told ++ rest)
+    pub short : length k.told ≤ length k.seen
+
+  -- the seats of the events are below n
+  abbrev pub Below : ℕ → List (ℕ × X) → Type 0
+  Below n [] = Unit {0}
+  Below n (x ∷ xs) = (x.0 < n) × Below n xs
+
+  -- the events are of seats with a share, and no long name is covered twice
+  pub record Owned {V : Type 0} (knows : V → Known X) (views : List V) (history : List (ℕ × X)) : Type 0 where
+    pub below : Below (length views) history
+    pub quiet : (j : ℕ) (v : V) → get_elem? views j ≡ some v → (knows v).share ≡ [] → Without j history
+    pub long : ℕ
+    pub apart : (x : Name) → long ≤ length x → tally (λ v. covers x (knows v).share) views ≤ 1
+
+  -- each seat's party knows what fits the history
+  abbrev pub AllFit : {V : Type 0} → (V → Known X) → List V → List (ℕ × X) → Type 0
+  AllFit knows views history = (j : ℕ) (v : _) → get_elem? views j ≡ some v → Fits history j (knows v)
+
+  -- the party has seen more, in which its own events are these; it is legal; the share is the same; and a whole party saw no
+  -- event of another
+  pub record Grown (Legal : List X → Type 0) (v : Known X) (es : List X) (w : Known X) : Type 0 where
+    pub rest : List (Bool × X)
+    pub is : w.seen ≡ v.seen ++ rest
+    pub adds : own rest ≡ es
+    pub legal : Legal (plain w.seen)
+    pub share : w.share ≡ v.share
+    pub alone : w.share ≡ whole → AllOwn w.seen
+
+  -- ---- splitting and joining
+  -- the same events, none of which is the party's own
+  abbrev pub unmarked : List (Bool × X) → List (Bool × X)
+  unmarked [] = []
+  unmarked (x ∷ xs) = (false, x.1) ∷ unmarked xs
+
+  -- the longer of two histories, one of which begins the other, with the marks of both
+  abbrev pub merged : List (Bool × X) → List (Bool × X) → List (Bool × X)
+  merged [] ys = ys
+  merged (x ∷ xs) [] = x ∷ xs
+  merged (x ∷ xs) (y ∷ ys) = (x.0 || y.0, x.1) ∷ merged xs ys
+
+  -- what a party knows that gave up half of its first name, and what the new one knows
+  abbrev pub kept : Known X → Known X
+  kept k = record k { share = keeps_half k.share }
+
+  abbrev pub given : Known X → Known X
+  given k = record { seen = unmarked k.seen; told = []; share = gives_half k.share }
+
+  -- what a party knows that took another in, and what is left of the other
+  abbrev pub both : Known X → Known X → Known X
+  both k l = record { seen = merged k.seen l.seen; told = l.seen; share = joined k.share l.share }
+
+  abbrev pub spent : Known X
+  spent = record { seen = []; told = []; share = [] }
+
+  -- one history begins another
+  abbrev pub Begins : List X → List X → Type 0
+  Begins xs ys = (rest : List X) × (ys ≡ xs ++ rest)
+
+  -- what a party knows: a legal history that begins with what it was told, and of a whole party no event of another
+  pub record IsKnown (Legal : List X → Type 0) (k : Known X) : Type 0 where
+    pub legal : Legal (plain k.seen)
+    pub told : Begins (plain k.told) (plain k.seen)
+    pub alone : k.share ≡ whole → AllOwn k.seen

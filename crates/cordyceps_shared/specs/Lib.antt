@@ -1,0 +1,5 @@
+pub mod Counts
+pub mod Histories
+pub mod Knowing
+pub mod Shares
+pub mod Standings

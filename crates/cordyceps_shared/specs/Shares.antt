@@ -1,0 +1,82 @@
+-- Names and shares. A name is a finite word of 0 (false) and 1 (true), and stands for all names that it begins. A party
+-- acts under the first name of its share.
+use Rattle.std.specs.Prelude.{ℕ, List, [], ◌∷◌, ◌++◌, Bool, true, false, cond}
+use Rattle.cordyceps_shared.specs.Counts.{tally, one_if}
+
+abbrev pub Name : Type 0
+Name = List Bool
+
+-- the share of a party that took back all that were split off: the empty word
+abbrev pub whole : List Name
+whole = [] ∷ []
+
+abbrev pub first_name : List Name → Name
+first_name [] = []
+first_name (n ∷ ns) = n
+
+-- a share gives up half of its first name, w: it keeps w0, and gives w1
+abbrev pub keeps_half : List Name → List Name
+keeps_half [] = []
+keeps_half (n ∷ ns) = (n ++ false ∷ []) ∷ ns
+
+abbrev pub gives_half : List Name → List Name
+gives_half [] = []
+gives_half (n ∷ ns) = (n ++ true ∷ []) ∷ []
+
+abbrev pub same_bit : Bool → Bool → Bool
+same_bit true b = b
+same_bit false true = false
+same_bit false false = true
+
+-- the first name begins the second
+abbrev pub begins : Name → Name → Bool
+begins [] x = true
+begins (a ∷ us) [] = false
+begins (a ∷ us) (b ∷ bs) = cond (same_bit a b) (begins us bs) false
+
+-- how many names of the share begin x
+abbrev pub covers : Name → List Name → ℕ
+covers x names = tally (λ n. one_if (begins n x)) names
+
+-- of two names, neither of which begins the other, the first stands in front
+abbrev pub earlier : Name → Name → Bool
+earlier [] m = true
+earlier (a ∷ us) [] = false
+earlier (a ∷ us) (b ∷ bs) = cond (same_bit a b) (earlier us bs) b
+
+-- a name in its place among names in order
+abbrev pub put : Name → List Name → List Name
+put n [] = n ∷ []
+put n (m ∷ ms) = cond (earlier n m) (n ∷ m ∷ ms) (m ∷ put n ms)
+
+abbrev pub put_all : List Name → List Name → List Name
+put_all [] ms = ms
+put_all (n ∷ ns) ms = put n (put_all ns ms)
+
+-- the names are w0 and w1, of some w
+abbrev pub is_pair : Name → Name → Bool
+is_pair [] m = false
+is_pair (a ∷ us) [] = false
+is_pair (a ∷ []) (b ∷ []) = cond a false b
+is_pair (a ∷ []) (b ∷ c ∷ bs) = false
+is_pair (a ∷ c ∷ us) (b ∷ []) = false
+is_pair (a ∷ c ∷ us) (b ∷ d ∷ bs) = cond (same_bit a b) (is_pair (c ∷ us) (d ∷ bs)) false
+
+-- a name without its last letter
+abbrev pub parent : Name → Name
+parent [] = []
+parent (a ∷ []) = []
+parent (a ∷ b ∷ us) = a ∷ parent (b ∷ us)
+
+-- a name in front of others, with w in place of w0 and w1 while there are such
+abbrev pub place : Name → List Name → List Name
+place n [] = n ∷ []
+place n (m ∷ ms) = cond (is_pair n m) (place (parent n) ms) (n ∷ m ∷ ms)
+
+abbrev pub combine : List Name → List Name
+combine [] = []
+combine (n ∷ ns) = place n (combine ns)
+
+-- two shares as one, with w in place of w0 and w1 while there are such
+abbrev pub joined : List Name → List Name → List Name
+joined ns ms = combine (put_all ns ms)

@@ -1,0 +1,50 @@
+-- What a contract tells of a party of a shared collection. X is the type of the collection's events.
+use Rattle.std.specs.Prelude.{◌≡◌, ℕ, ◌+◌, ◌-◌, List, [], Bool}
+use Rattle.atomic_table.specs.Seated.{TableId}
+use Rattle.cordyceps_shared.specs.Histories.{plain, AllOwn}
+use Rattle.cordyceps_shared.specs.Knowing.{Known, Grown, unmarked, merged, Begins}
+use Rattle.cordyceps_shared.specs.Shares.{Name, whole, first_name, keeps_half, gives_half, joined}
+
+-- which collection the party is of; the history that it has seen, with a mark at its own events; its share; and how many
+-- rooms it has
+pub record Standing (X : Type 0) : Type 0 where
+  pub table : TableId
+  pub seen : List (Bool × X)
+  pub share : List Name
+  pub rooms : ℕ
+
+module _ {X : Type 0} where
+  abbrev pub known_of : Standing X → Known X
+  known_of u = record { seen = u.seen; told = []; share = u.share }
+
+  -- the name that the party's new events carry
+  abbrev pub name_of : Standing X → Name
+  name_of u = first_name u.share
+
+  -- the party of a new collection
+  abbrev pub new_party : TableId → ℕ → Standing X
+  new_party table rooms = record { table = table; seen = []; share = whole; rooms = rooms }
+
+  -- the party has seen more, with exactly these events of its own, and a whole party with no others. What it has seen is
+  -- legal. Collection and share are the same
+  abbrev pub Adds : (Legal : List X → Type 0) → Standing X → List X → Standing X → Type 0
+  Adds Legal u es w = Grown Legal (known_of u) es (known_of w) × (w.table ≡ u.table)
+
+  -- the party after it gave up n rooms, and the party that has them
+  abbrev pub keeping : ℕ → Standing X → Standing X
+  keeping n u = record u { share = keeps_half u.share; rooms = u.rooms - n }
+
+  abbrev pub giving : ℕ → Standing X → Standing X
+  giving n u = record { table = u.table; seen = unmarked u.seen; share = gives_half u.share; rooms = n }
+
+  -- the party u became w when it took in the party o. It has seen the longer of what the two had seen, which the shorter
+  -- begins, and the own events are those of both
+  pub record Absorbs (Legal : List X → Type 0) (u o w : Standing X) : Type 0 where
+    pub table : w.table ≡ u.table
+    pub seen : w.seen ≡ merged u.seen o.seen
+    pub mine : Begins (plain u.seen) (plain w.seen)
+    pub theirs : Begins (plain o.seen) (plain w.seen)
+    pub legal : Legal (plain w.seen)
+    pub alone : w.share ≡ whole → AllOwn w.seen
+    pub share : w.share ≡ joined u.share o.share
+    pub rooms : w.rooms ≡ u.rooms + o.rooms
