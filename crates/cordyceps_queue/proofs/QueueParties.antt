@@ -98,6 +98,7 @@ module _ {E : Type 0} where
   absorbs z y z' m o k bare bare_too at is known = subst (λ (q : TableId × Sat E). Absorbs (λ h. Legal h) (standing z m.0) (standing y o.0) (standing q.0 q.1.0)) (λ i. (sym at i, sym is i)) record {
     table = refl;
     seen = refl;
+    apart = known.apart;
     mine = merged_front m.0.known.seen o.0.known.seen;
     theirs = known.told;
     legal = told_legal same_name (plain (both m.0 o.0).known.seen) known.legal;

@@ -114,7 +114,7 @@ module _ {E : Type 0} where
             (λ (t : (j ≡ id) × (w ≡ u)). k.ready id v r at named (ap (λ (z : View E). z.place) t.1 ∙ is) ∙ ap (λ (z : View E). z.item) t.1)
             (λ (t : (j ≢ id) × (get_elem? s.views j ≡ some u)). k.ready j u r t.1 some_name is)
             (at_set s.views id j w u e);
-        fits = fits_same knows s.views k.history id v w at refl refl k.fits;
+        fits = fits_same knows s.views k.history id v w at refl refl refl k.fits;
         owned = owned_same knows s.views k.history id v w at refl k.owned;
       }
     where

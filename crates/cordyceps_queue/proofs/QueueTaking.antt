@@ -2,13 +2,13 @@
 use Rattle.std.proofs.Common.{◌≡◌, ◌≢◌, ℕ, ◌+◌, ◌<◌, ◌≤◌, Bool, true, false, List, [], ◌∷◌, ◌++◌, map, take, length, refl, sym, ap, ◌∙◌, subst, inl, inr, arith, append_assoc, length-append}
 use Rattle.std.specs.Prelude.{◌⊎◌, Ok, Err}
 use Rattle.std.proofs.lemmas.List.{append-nil, length-map, take_all}
-use Rattle.cordyceps_shared.specs.Histories.{plain, own}
+use Rattle.cordyceps_shared.specs.Histories.{own}
 use Rattle.cordyceps_shared.specs.Shares.{Name, first_name}
 use Rattle.cordyceps_shared.specs.Standings.{name_of}
 use Rattle.cordyceps_shared.proofs.Adding.{adds_then}
 use Rattle.cordyceps_queue.specs.declared.steps.TryDequeueError.{TryDequeueError}
 use Rattle.cordyceps_queue.specs.declared.steps.TryDequeueError.TheVariants as error
-use Rattle.cordyceps_queue.specs.QueueBatches.{outs, StopsAt, TakesLinked}
+use Rattle.cordyceps_queue.specs.QueueBatches.{outs, TakesLinked}
 use Rattle.cordyceps_queue.specs.QueueHistory.{Event, Look, Out, Empty}
 use Rattle.cordyceps_queue.specs.QueueStanding.{PartyOf, Legal, Adds, BlockedAfter, Consumes}
 

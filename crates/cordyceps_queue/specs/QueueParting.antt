@@ -17,7 +17,7 @@ module _ {E : Type 0} where
 
   -- a load of head by a party that took another in
   abbrev pub forgot : View E → View E
-  forgot v = record v { known = record v.known { told = [] } }
+  forgot v = record v { known = record v.known { had = []; told = [] } }
 
   abbrev pub learned : At E → Sat E → ℕ → Sat E → Type 0
   learned st m read k =

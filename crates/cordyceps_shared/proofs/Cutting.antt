@@ -58,7 +58,7 @@ module _ {X V : Type 0} (knows : V → Known X) where
       let n = length views in
       let f = fits j v at in
       let low = below_front n f.before f.later (subst (λ z. Below n z) f.is o.below) in
-      let left_fits : Fits h j (kept (knows v)) = record { before = f.before; later = f.later; is = f.is; seen = f.seen; none = f.none; told = f.told; short = f.short } in
+      let left_fits : Fits h j (kept (knows v)) = record { before = f.before; later = f.later; is = f.is; seen = f.seen; none = f.none; told = f.told; short = f.short; apart = f.apart } in
       let right_fits : Fits h n (given (knows v)) = record {
         before = f.before;
         later = f.later;
@@ -67,6 +67,7 @@ module _ {X V : Type 0} (knows : V → Known X) where
         none = below_without n f.later n (omega arith) low.1;
         told = (events h, refl);
         short = omega arith;
+        apart = tt;
       } in
       ⊎_elim
       (λ (there : get_elem? (set views j left) i ≡ some u). fits_set knows views h j left (subst (Fits h j) (sym is_left) left_fits) (λ k z _. fits k z) i u there)

@@ -1,23 +1,43 @@
 -- Two seats may be made one, and it then learns that one had seen a beginning of what the other had.
-use Rattle.std.proofs.Common.{◌≡◌, ◌≢◌, ℕ, ◌+◌, List, [], ◌++◌, length, set, Bool, refl, sym, ap, ◌∙◌, subst, ⊎_elim, arith, length-set}
+use Rattle.std.proofs.Common.{◌≡◌, ◌≢◌, ℕ, ◌+◌, List, [], ◌++◌, ◌∷◌, length, set, Bool, true, false, ◌&&◌, eqb, ne_eqb, refl, sym, ap, ◌∙◌, subst, ⊎_elim, arith, length-set}
+use mathlib.Core.Logic.{dite}
 use mathlib.Core.Option.{some}
+use native.Mathlib.Decide.{ℕ_discrete}
 use lib.ListN.{get_elem?}
 use Rattle.atomic_table.proofs.Lists.{at_set}
 use Rattle.cordyceps_shared.specs.Shares.{covers}
-use Rattle.cordyceps_shared.specs.Histories.{events, plain, Without}
+use Rattle.cordyceps_shared.specs.Histories.{events, marked, plain, Without, Apart}
 use Rattle.cordyceps_shared.specs.Knowing.{Known, Fits, Below, Owned, AllFit, merged, both, spent}
 use Rattle.cordyceps_shared.proofs.Counting.{tally_set}
 use Rattle.cordyceps_shared.proofs.Naming.{join_covers, joined_some, letters}
-use Rattle.cordyceps_shared.proofs.Renaming.{relabel, events_relabel, relabel_append, marked_relabel, without_relabel, without_gone, below_relabel, merge, length_relabel, length_marked, events_append}
+use Rattle.cordyceps_shared.proofs.Renaming.{same_first, relabel, events_relabel, relabel_append, marked_relabel, without_relabel, without_gone, below_relabel, merge, length_relabel, length_marked, events_append}
 use Rattle.cordyceps_shared.proofs.Seeing.{plain_marked}
 use Rattle.cordyceps_shared.proofs.Telling.{at_length, fits_set}
 
+and_false : (c : Bool) → (c && false) ≡ false
+and_false true = refl
+and_false false = refl
+
 module _ {X : Type 0} where
   fits_gone : (h : List (ℕ × X)) (a b : ℕ) → b ≢ a → Fits (relabel a b h) b spent
-  fits_gone h a b apart = record { before = []; later = relabel a b h; is = refl; seen = refl; none = without_gone a b h apart; told = (events (relabel a b h), refl); short = omega arith }
+  fits_gone h a b apart = record { before = []; later = relabel a b h; is = refl; seen = refl; none = without_gone a b h apart; told = (events (relabel a b h), refl); short = omega arith; apart = tt }
 
-  fits_both : (h : List (ℕ × X)) (a b : ℕ) (k l : Known X) → Fits h a k → Fits h b l → Fits (relabel a b h) a (both k l)
-  fits_both h a b k l fk fl =
+  -- no event of one history is marked by two seats
+  marked_apart : (a b : ℕ) (xs us ys vs : List (ℕ × X)) → b ≢ a → xs ++ us ≡ ys ++ vs → Apart (marked a xs) (marked b ys)
+  marked_apart a b [] us ys vs n e = tt
+  marked_apart a b (x ∷ xs) us [] vs n e = tt
+  marked_apart a b (x ∷ xs) us (y ∷ ys) vs n e = (not_both, marked_apart a b xs us ys vs n (cc))
+    where
+      same : x.0 ≡ y.0
+      same = ap (λ (z : ℕ × X). z.0) (same_first x y (xs ++ us) (ys ++ vs) e)
+
+      not_both : (eqb x.0 a && eqb y.0 b) ≡ false
+      not_both = dite (ℕ_discrete x.0 a)
+          (λ is. ap (λ z. eqb x.0 a && z) (ne_eqb y.0 b (λ c. n (sym c ∙ (sym same ∙ is)))) ∙ and_false (eqb x.0 a))
+          (λ other. ap (λ z. z && eqb y.0 b) (ne_eqb x.0 a other))
+
+  fits_both : (h : List (ℕ × X)) (a b : ℕ) (k l : Known X) → b ≢ a → Fits h a k → Fits h b l → Fits (relabel a b h) a (both k l)
+  fits_both h a b k l other fk fl =
       let t = merge a b fk.before fk.later fl.before fl.later (sym fk.is ∙ fl.is) fk.none fl.none in
       let seen = (λ c. merged (fk.seen c) (fl.seen c)) ∙ t.seen in record {
         before = relabel a b t.before;
@@ -27,6 +47,7 @@ module _ {X : Type 0} where
         none = t.none;
         told = (events fl.later, events_relabel a b h ∙ (ap events fl.is ∙ (events_append fl.before fl.later ∙ ap (λ z. z ++ events fl.later) (sym (ap plain fl.seen ∙ plain_marked b fl.before)))));
         short = omega (arith, t.long, ap (λ (z : List (Bool × X)). length z) fl.seen, ap (λ (z : List (Bool × X)). length z) seen, length_marked b fl.before, length_marked a (relabel a b t.before), length_relabel a b t.before);
+        apart = subst (λ (z : List (Bool × X) × List (Bool × X)). Apart z.0 z.1) (λ c. (sym fk.seen c, sym fl.seen c)) (marked_apart a b fk.before fk.later fl.before fl.later other (sym fk.is ∙ fl.is));
       }
 
   fits_others : (h : List (ℕ × X)) (a b i : ℕ) (k : Known X) → i ≢ a → i ≢ b → Fits h i k → Fits (relabel a b h) i k
@@ -38,6 +59,7 @@ module _ {X : Type 0} where
     none = without_relabel a b i f.later na f.none;
     told = (f.told.0, events_relabel a b h ∙ f.told.1);
     short = f.short;
+    apart = f.apart;
   }
 
 module _ {X V : Type 0} (knows : V → Known X) where
@@ -69,6 +91,6 @@ module _ {X V : Type 0} (knows : V → Known X) where
       let one = set views a x in
       let there_first : get_elem? views b ≡ some w = ⊎_elim (λ (t : (b ≡ a) × (x ≡ w)). absurd (apart t.0)) (λ (t : (b ≢ a) × (get_elem? views b ≡ some w)). t.1) (at_set views a b x w there) in
       fits_set knows one (relabel a b h) b y (subst (Fits (relabel a b h) b) (sym is_spent) (fits_gone h a b apart)) (λ i u other e. ⊎_elim
-      (λ (q : (i ≡ a) × (x ≡ u)). subst (λ (z : ℕ × Known X). Fits (relabel a b h) z.0 z.1) (λ c. (sym q.0 c, (sym is_both ∙ ap knows q.1) c)) (fits_both h a b (knows v) (knows w) (fits a v at) (fits b w there_first)))
+      (λ (q : (i ≡ a) × (x ≡ u)). subst (λ (z : ℕ × Known X). Fits (relabel a b h) z.0 z.1) (λ c. (sym q.0 c, (sym is_both ∙ ap knows q.1) c)) (fits_both h a b (knows v) (knows w) apart (fits a v at) (fits b w there_first)))
       (λ (q : (i ≢ a) × (get_elem? views i ≡ some u)). fits_others h a b i (knows u) q.0 other (fits i u q.1))
       (at_set views a i x u e))

@@ -1,8 +1,10 @@
 pub mod Adding
 pub mod Counting
 pub mod Cutting
+pub mod Interleaving
 pub mod Joining
 pub mod Naming
+pub mod Owning
 pub mod Renaming
 pub mod Seeing
 pub mod Standing

@@ -44,7 +44,7 @@ module _ {X : Type 0} where
   seen_front h j k f = ap events f.is ∙ (events_append f.before f.later ∙ ap (λ z. z ++ events f.later) (sym (ap plain f.seen ∙ plain_marked j f.before)))
 
   fits_new : Fits [] 0 (newcomer {X = X})
-  fits_new = record { before = []; later = []; is = refl; seen = refl; none = tt; told = ([], refl); short = omega arith }
+  fits_new = record { before = []; later = []; is = refl; seen = refl; none = tt; told = ([], refl); short = omega arith; apart = tt }
 
 module _ {X V : Type 0} (knows : V → Known X) where
   pub is_known : (Legal : List X → Type 0) (front : (xs ys : List X) → Legal (xs ++ ys) → Legal xs) (views : List V) (h : List (ℕ × X)) (j : ℕ) (v : V) → Owned knows views h → AllFit knows views h → get_elem? views j ≡ some v → Legal (events h)
@@ -55,6 +55,7 @@ module _ {X V : Type 0} (knows : V → Known X) where
       let all = seen_front h j k f in record {
         legal = front (plain k.seen) (events f.later) (subst Legal all legal);
         told = begins_longer (plain k.told) (plain k.seen) f.told.0 (events f.later) (sym f.told.1 ∙ all) (omega (arith, length_plain k.told, length_plain k.seen, f.short));
+        apart = f.apart;
         alone = λ is. subst AllOwn (sym f.seen) (own_front (marked j f.before) (marked j f.later)
             (subst AllOwn (ap (marked j) f.is ∙ marked_append j f.before f.later) (all_own j h (λ i n. whole_without knows views h j i v o at is n))));
       }

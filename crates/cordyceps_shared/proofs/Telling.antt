@@ -6,7 +6,7 @@ use native.Mathlib.Decide.{ℕ_discrete, dec_le}
 use lib.ListN.{get_elem?, length-replicate}
 use Rattle.atomic_table.proofs.Lists.{at_set, set_here}
 use Rattle.cordyceps_shared.specs.Shares.{Name, covers, whole}
-use Rattle.cordyceps_shared.specs.Histories.{events, marked, plain, Without, AllOwn, of_seat}
+use Rattle.cordyceps_shared.specs.Histories.{events, marked, plain, Without, AllOwn, Apart, of_seat}
 use Rattle.cordyceps_shared.specs.Knowing.{Known, Fits, Below, Owned, AllFit, Grown, all_seen}
 use Rattle.cordyceps_shared.proofs.Counting.{tally_set, tally_two}
 use Rattle.cordyceps_shared.proofs.Naming.{some_cover}
@@ -39,6 +39,10 @@ module _ {X : Type 0} where
   all_own j [] others = tt
   all_own j (x ∷ xs) others = (dite (ℕ_discrete x.0 j) (λ e. eq-eqb x.0 j e) (λ n. absurd ((others x.0 n).0 refl)), all_own j xs (λ i n. (others i n).1))
 
+  apart_none : (xs : List (Bool × X)) → Apart xs []
+  apart_none [] = tt
+  apart_none (x ∷ xs) = tt
+
   -- what another party saw stays a beginning
   pub fits_other : (h : List (ℕ × X)) (i j : ℕ) (es : List X) (k : Known X) → i ≢ j → Fits h i k → Fits (h ++ of_seat j es) i k
   fits_other h i j es k other f = record {
@@ -49,10 +53,11 @@ module _ {X : Type 0} where
     none = without_more i f.later j es (λ e. other (sym e)) f.none;
     told = (f.told.0 ++ es, events_more h j es ∙ (ap (λ z. z ++ es) f.told.1 ∙ append_assoc (plain k.told) f.told.0 es));
     short = f.short;
+    apart = f.apart;
   }
 
   pub fits_all : (h : List (ℕ × X)) (j : ℕ) (share : List Name) → Fits h j (all_seen j h share)
-  fits_all h j share = record { before = h; later = []; is = sym (append-nil h); seen = refl; none = tt; told = (events h, refl); short = omega arith }
+  fits_all h j share = record { before = h; later = []; is = sym (append-nil h); seen = refl; none = tt; told = (events h, refl); short = omega arith; apart = tt }
 
   pub grown_all : (Legal : List X → Type 0) (h : List (ℕ × X)) (j : ℕ) (es : List X) (k : Known X) → Fits h j k → Legal (events (h ++ of_seat j es)) → (k.share ≡ whole → AllOwn (marked j (h ++ of_seat j es)))
       → Grown Legal k es (all_seen j (h ++ of_seat j es) k.share)
@@ -85,20 +90,20 @@ module _ {X V : Type 0} (knows : V → Known X) where
       (λ (t : (i ≢ j) × (get_elem? views i ≡ some u)). others i u t.0 t.1)
       (at_set views j i w u e)
 
-  pub fits_same : (views : List V) (h : List (ℕ × X)) (j : ℕ) (v w : V) → get_elem? views j ≡ some v → (knows w).seen ≡ (knows v).seen → (knows w).told ≡ (knows v).told → AllFit knows views h → AllFit knows (set views j w) h
-  fits_same views h j v w at seen told fits =
+  pub fits_same : (views : List V) (h : List (ℕ × X)) (j : ℕ) (v w : V) → get_elem? views j ≡ some v → (knows w).seen ≡ (knows v).seen → (knows w).had ≡ (knows v).had → (knows w).told ≡ (knows v).told → AllFit knows views h → AllFit knows (set views j w) h
+  fits_same views h j v w at seen had told fits =
       let f = fits j v at in
       let shorter = f.short in
       let a = ap (λ (z : List (Bool × X)). length z) seen in
       let b = ap (λ (z : List (Bool × X)). length z) told in
-      fits_set views h j w record { before = f.before; later = f.later; is = f.is; seen = seen ∙ f.seen; none = f.none; told = (f.told.0, f.told.1 ∙ ap (λ z. plain z ++ f.told.0) (sym told)); short = omega arith } (λ i u _. fits i u)
+      fits_set views h j w record { before = f.before; later = f.later; is = f.is; seen = seen ∙ f.seen; none = f.none; told = (f.told.0, f.told.1 ∙ ap (λ z. plain z ++ f.told.0) (sym told)); short = omega arith; apart = subst (λ (z : List (Bool × X) × List (Bool × X)). Apart z.0 z.1) (λ c. (sym had c, sym told c)) f.apart } (λ i u _. fits i u)
 
   -- what it was told is forgotten
   pub fits_forgot : (views : List V) (h : List (ℕ × X)) (j : ℕ) (v w : V) → get_elem? views j ≡ some v → (knows w).seen ≡ (knows v).seen → (knows w).told ≡ [] → AllFit knows views h → AllFit knows (set views j w) h
   fits_forgot views h j v w at seen told fits =
       let f = fits j v at in
       let b = ap (λ (z : List (Bool × X)). length z) told in
-      fits_set views h j w record { before = f.before; later = f.later; is = f.is; seen = seen ∙ f.seen; none = f.none; told = (events h, ap (λ z. plain z ++ events h) (sym told)); short = omega arith } (λ i u _. fits i u)
+      fits_set views h j w record { before = f.before; later = f.later; is = f.is; seen = seen ∙ f.seen; none = f.none; told = (events h, ap (λ z. plain z ++ events h) (sym told)); short = omega arith; apart = subst (λ z. Apart (knows w).had z) (sym told) (apart_none (knows w).had) } (λ i u _. fits i u)
 
   pub owned_more : (views : List V) (h : List (ℕ × X)) (j : ℕ) (es : List X) (v w : V) → get_elem? views j ≡ some v → (knows w).share ≡ (knows v).share → (knows v).share ≢ [] → Owned knows views h → Owned knows (set views j w) (h ++ of_seat j es)
   owned_more views h j es v w at same some_share o = record {

@@ -1,6 +1,6 @@
 -- The history of a shared collection, the oldest event first. In the collection's rule each event stands beside the number
 -- of the seat whose party it is of; in what a party has seen, beside a mark that says whether it is the party's own.
-use Rattle.std.specs.Prelude.{◌≡◌, ◌≢◌, ℕ, List, [], ◌∷◌, map, Bool, true, cond, nat_eq}
+use Rattle.std.specs.Prelude.{◌≡◌, ◌≢◌, ℕ, List, [], ◌∷◌, map, Bool, true, false, ◌&&◌, cond, nat_eq}
 
 module _ {X : Type 0} where
   abbrev pub events : List (ℕ × X) → List X
@@ -27,6 +27,12 @@ module _ {X : Type 0} where
   abbrev pub AllOwn : List (Bool × X) → Type 0
   AllOwn [] = Unit {0}
   AllOwn (x ∷ xs) = (x.0 ≡ true) × AllOwn xs
+
+  -- at no place do both have a mark
+  abbrev pub Apart : List (Bool × X) → List (Bool × X) → Type 0
+  Apart [] ys = Unit {0}
+  Apart (x ∷ xs) [] = Unit {0}
+  Apart (x ∷ xs) (y ∷ ys) = ((x.0 && y.0) ≡ false) × Apart xs ys
 
   -- no event is of seat j
   abbrev pub Without : ℕ → List (ℕ × X) → Type 0

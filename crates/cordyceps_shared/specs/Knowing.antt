@@ -4,25 +4,28 @@ use Rattle.std.specs.Prelude.{◌≡◌, ℕ, ◌<◌, ◌≤◌, List, [], ◌�
 use mathlib.Core.Option.{some}
 use lib.ListN.{get_elem?}
 use Rattle.cordyceps_shared.specs.Counts.{tally}
-use Rattle.cordyceps_shared.specs.Histories.{events, marked, plain, own, Without, AllOwn}
+use Rattle.cordyceps_shared.specs.Histories.{events, marked, plain, own, Without, AllOwn, Apart}
 use Rattle.cordyceps_shared.specs.Shares.{Name, covers, whole, keeps_half, gives_half, joined}
 
--- the history so far, with a mark at its own events; what the party knew that it absorbed last; and its share
+-- the history so far, with a mark at its own events; what it had seen itself when it last absorbed a party, and what
+-- that party told it; and its share
 pub record Known (X : Type 0) : Type 0 where
   pub seen : List (Bool × X)
+  pub had : List (Bool × X)
   pub told : List (Bool × X)
   pub share : List Name
 
 module _ {X : Type 0} where
   -- the party of a new collection
   abbrev pub newcomer : Known X
-  newcomer = record { seen = []; told = []; share = whole }
+  newcomer = record { seen = []; had = []; told = []; share = whole }
 
   -- what the party of seat j knows that has seen all
   abbrev pub all_seen : ℕ → List (ℕ × X) → List Name → Known X
-  all_seen j h share = record { seen = marked j h; told = []; share = share }
+  all_seen j h share = record { seen = marked j h; had = []; told = []; share = share }
 
-  -- what it has seen is a beginning of the history, with all events of its own, and so is what it was told
+  -- what it has seen is a beginning of the history, with all events of its own; and so is what it was told, where no
+  -- event has a mark that it had marked itself
   pub record Fits (history : List (ℕ × X)) (j : ℕ) (k : Known X) : Type 0 where
     pub before : List (ℕ × X)
     pub later : List (ℕ × X)
@@ -31,6 +34,7 @@ module _ {X : Type 0} where
     pub none : Without j later
     pub told : (rest : List X) × (events history ≡ plain k.told ++ rest)
     pub short : length k.told ≤ length k.seen
+    pub apart : Apart k.had k.told
 
   -- the seats of the events are below n
   abbrev pub Below : ℕ → List (ℕ × X) → Type 0
@@ -75,21 +79,23 @@ module _ {X : Type 0} where
   kept k = record k { share = keeps_half k.share }
 
   abbrev pub given : Known X → Known X
-  given k = record { seen = unmarked k.seen; told = []; share = gives_half k.share }
+  given k = record { seen = unmarked k.seen; had = []; told = []; share = gives_half k.share }
 
   -- what a party knows that took another in, and what is left of the other
   abbrev pub both : Known X → Known X → Known X
-  both k l = record { seen = merged k.seen l.seen; told = l.seen; share = joined k.share l.share }
+  both k l = record { seen = merged k.seen l.seen; had = k.seen; told = l.seen; share = joined k.share l.share }
 
   abbrev pub spent : Known X
-  spent = record { seen = []; told = []; share = [] }
+  spent = record { seen = []; had = []; told = []; share = [] }
 
   -- one history begins another
   abbrev pub Begins : List X → List X → Type 0
   Begins xs ys = (rest : List X) × (ys ≡ xs ++ rest)
 
-  -- what a party knows: a legal history that begins with what it was told, and of a whole party no event of another
+  -- what a party knows: a legal history that begins with what it was told, no event that it and the party it absorbed both
+  -- had marked, and of a whole party no event of another
   pub record IsKnown (Legal : List X → Type 0) (k : Known X) : Type 0 where
     pub legal : Legal (plain k.seen)
     pub told : Begins (plain k.told) (plain k.seen)
+    pub apart : Apart k.had k.told
     pub alone : k.share ≡ whole → AllOwn k.seen

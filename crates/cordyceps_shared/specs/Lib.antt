@@ -1,5 +1,6 @@
 pub mod Counts
 pub mod Histories
+pub mod Interleaving
 pub mod Knowing
 pub mod Shares
 pub mod Standings

@@ -1,7 +1,7 @@
 -- What a contract tells of a party of a shared collection. X is the type of the collection's events.
 use Rattle.std.specs.Prelude.{◌≡◌, ℕ, ◌+◌, ◌-◌, List, [], Bool}
 use Rattle.atomic_table.specs.Seated.{TableId}
-use Rattle.cordyceps_shared.specs.Histories.{plain, AllOwn}
+use Rattle.cordyceps_shared.specs.Histories.{plain, AllOwn, Apart}
 use Rattle.cordyceps_shared.specs.Knowing.{Known, Grown, unmarked, merged, Begins}
 use Rattle.cordyceps_shared.specs.Shares.{Name, whole, first_name, keeps_half, gives_half, joined}
 
@@ -15,7 +15,7 @@ pub record Standing (X : Type 0) : Type 0 where
 
 module _ {X : Type 0} where
   abbrev pub known_of : Standing X → Known X
-  known_of u = record { seen = u.seen; told = []; share = u.share }
+  known_of u = record { seen = u.seen; had = []; told = []; share = u.share }
 
   -- the name that the party's new events carry
   abbrev pub name_of : Standing X → Name
@@ -38,10 +38,11 @@ module _ {X : Type 0} where
   giving n u = record { table = u.table; seen = unmarked u.seen; share = gives_half u.share; rooms = n }
 
   -- the party u became w when it took in the party o. It has seen the longer of what the two had seen, which the shorter
-  -- begins, and the own events are those of both
+  -- begins; no event is marked by both, and the own events are those of both
   pub record Absorbs (Legal : List X → Type 0) (u o w : Standing X) : Type 0 where
     pub table : w.table ≡ u.table
     pub seen : w.seen ≡ merged u.seen o.seen
+    pub apart : Apart u.seen o.seen
     pub mine : Begins (plain u.seen) (plain w.seen)
     pub theirs : Begins (plain o.seen) (plain w.seen)
     pub legal : Legal (plain w.seen)

@@ -113,7 +113,7 @@ module _ {E : Type 0} where
   untold : (s : Table E) (k : Kept s) (j : ℕ) (v w : View E) → get_elem? s.views j ≡ some v → w.known ≡ v.known → Owned knows (set s.views j w) k.history × AllFit knows (set s.views j w) k.history
   untold s k j v w at same = (
     owned_same knows s.views k.history j v w at (ap (λ (z : Known (Event Name E)). z.share) same) k.owned,
-    fits_same knows s.views k.history j v w at (ap (λ (z : Known (Event Name E)). z.seen) same) (ap (λ (z : Known (Event Name E)). z.told) same) k.fits,
+    fits_same knows s.views k.history j v w at (ap (λ (z : Known (Event Name E)). z.seen) same) (ap (λ (z : Known (Event Name E)). z.had) same) (ap (λ (z : Known (Event Name E)). z.told) same) k.fits,
   )
 
   pub step_keeps : (s : Table E) (k : Kept s) (j : ℕ) (v w : View E) (words : List ℕ) (homes : Homes E) (chain : List (ℕ × E)) (h : History E) → get_elem? s.views j ≡ some v

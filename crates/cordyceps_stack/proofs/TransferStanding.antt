@@ -55,6 +55,7 @@ module _ {E : Type 0} where
   absorbs z y z' m o k at is known = record {
     table = at;
     seen = ap (λ (q : Sat E). q.0.known.seen) is;
+    apart = known.apart;
     mine = subst (λ (q : Sat E). Begins (plain m.0.known.seen) (plain q.0.known.seen)) (sym is) (merged_front m.0.known.seen o.0.known.seen);
     theirs = subst (λ (q : Sat E). Begins (plain o.0.known.seen) (plain q.0.known.seen)) (sym is) known.told;
     legal = subst (λ (q : Sat E). Legal (plain q.0.known.seen)) (sym is) known.legal;

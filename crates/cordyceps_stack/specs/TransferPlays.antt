@@ -86,7 +86,7 @@ module _ {E : Type 0} where
 
   -- a load of head by a party that took another in
   abbrev pub forgot : View E → View E
-  forgot v = record v { known = record v.known { told = [] } }
+  forgot v = record v { known = record v.known { had = []; told = [] } }
 
   abbrev pub learned : At E → Sat E → ℕ → Sat E → Type 0
   learned st m read k = (k.0 ≡ forgot m.0) × (k.1 ≡ m.1) × IsKnown (λ h. Legal h) m.0.known × (length m.0.free ≤ st.slots)

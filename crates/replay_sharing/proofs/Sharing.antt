@@ -1,25 +1,16 @@
 -- Two parties that were split off a whole one, and taken in again.
 use Rattle.std.proofs.Common.{◌≡◌, ℕ, zero, suc, List, [], ◌∷◌, ◌++◌, replicate, Bool, true, false, cond, ◌||◌, refl, sym, ap, ◌∙◌, subst, inl, inr, append_assoc, append-nil}
-use Rattle.std.proofs.lemmas.List.Sorted.{IsPermutation-refl, IsPermutation-cons, IsPermutation-middle, IsPermutation-trans}
-use Rattle.std.specs.List.Sorted.{IsPermutation}
 use Rattle.cordyceps_shared.specs.Histories.{plain, own, AllOwn}
 use Rattle.cordyceps_shared.proofs.Adding.{plain_own}
+use Rattle.cordyceps_shared.proofs.Interleaving.{all_left, all_right}
+use Rattle.cordyceps_shared.specs.Interleaving.{Interleaves}
 use Rattle.cordyceps_shared.specs.Knowing.{unmarked, merged}
 use Rattle.cordyceps.specs.SharedStacks.{Event, Load, Push, Taken, pushes, held_after, held_from}
-use Rattle.replay_sharing.specs.Sharing.{Interleaves, NoBatch}
+use Rattle.replay_sharing.specs.Sharing.{NoBatch}
 
 or_false : (b : Bool) → (b || false) ≡ b
 or_false true = refl
 or_false false = refl
-
-module _ {A : Type 0} where
-  pub all_left : (xs : List A) → Interleaves xs [] xs
-  all_left [] = (refl, refl)
-  all_left (x ∷ xs) = inl (xs, refl, all_left xs)
-
-  pub all_right : (ys : List A) → Interleaves [] ys ys
-  all_right [] = (refl, refl)
-  all_right (y ∷ ys) = inr (ys, refl, all_right ys)
 
 module _ {X : Type 0} where
   -- what both had seen before they were split off comes back as it was
@@ -125,13 +116,3 @@ module _ {P E : Type 0} where
   pub tries_push_once : (n : ℕ) (p : P) (e : E) → pushes (replicate n (Load p) ++ Push p e ∷ []) ≡ e ∷ []
   tries_push_once zero p e = refl
   tries_push_once (suc n) p e = tries_push_once n p e
-
--- ---- the items of two lists in another order
-module _ {A : Type 0} where
-  pub interleaved_permutes : (xs ys zs : List A) → Interleaves xs ys zs → IsPermutation (xs ++ ys) zs
-  interleaved_permutes xs ys [] e = subst (λ (p : List A × List A). IsPermutation (p.0 ++ p.1) []) (λ i. (sym e.0 i, sym e.1 i)) (IsPermutation-refl [])
-  interleaved_permutes xs ys (z ∷ zs) (inl e) =
-      subst (λ us. IsPermutation (us ++ ys) (z ∷ zs)) (sym e.1) (IsPermutation-cons z (e.0 ++ ys) zs (interleaved_permutes e.0 ys zs e.2))
-  interleaved_permutes xs ys (z ∷ zs) (inr e) =
-      subst (λ us. IsPermutation (xs ++ us) (z ∷ zs)) (sym e.1)
-      (IsPermutation-trans (xs ++ z ∷ e.0) (z ∷ (xs ++ e.0)) (z ∷ zs) (IsPermutation-middle xs z e.0) (IsPermutation-cons z (xs ++ e.0) zs (interleaved_permutes xs e.0 zs e.2)))

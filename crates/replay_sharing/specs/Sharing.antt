@@ -1,6 +1,7 @@
 -- What two workers that share a stack come to.
-use Rattle.std.specs.Prelude.{◌≡◌, ℕ, List, [], ◌∷◌, ◌++◌, reverse, Result, Ok, Err, ◌⊎◌, decimal}
+use Rattle.std.specs.Prelude.{◌≡◌, ℕ, List, [], ◌∷◌, ◌++◌, reverse, Result, Ok, Err, decimal}
 use Rattle.cordyceps_base.specs.Element.{Element}
+use Rattle.cordyceps_shared.specs.Interleaving.{Interleaves}
 use Rattle.cordyceps_shared.specs.Shares.{Name}
 use Rattle.cordyceps_shared.specs.Standings.{name_of}
 use Rattle.cordyceps.specs.declared.replay.item.Item.{Item}
@@ -11,12 +12,6 @@ use Rattle.replay_driver.specs.declared.fault.Fault.TheVariants as faults
 -- the element of the item whose value and number are these
 abbrev pub item : ℕ → Element Item
 item v = record { id = v; value = record { value = v; id = v } }
-
--- the third list has the items of the other two, and those of each in its order
-abbrev pub Interleaves : {A : Type 0} → List A → List A → List A → Type 0
-Interleaves xs ys [] = (xs ≡ []) × (ys ≡ [])
-Interleaves xs ys (z ∷ zs) =
-    ((rest : List _) × (xs ≡ z ∷ rest) × Interleaves rest ys zs) ⊎ ((rest : List _) × (ys ≡ z ∷ rest) × Interleaves xs rest zs)
 
 -- no event is a taking
 abbrev pub NoBatch : {P E : Type 0} → List (Event P E) → Type 0
