@@ -4,6 +4,8 @@
 #[cfg(test)]
 mod compared;
 #[cfg(test)]
+mod queue_batches;
+#[cfg(test)]
 mod queue_cores;
 #[cfg(test)]
 mod queue_refusals;

@@ -67,6 +67,41 @@ fn parties_and_rooms_come_at_the_second_call(rt: HostRuntime) {
     dequeues(&rt, &mut core, 8, Err(TryDequeueError::Empty));
 }
 
+/// A batch that comes out, by a second call where the first was refused memory.
+fn takes_linked(
+    core: &mut QueueCore<u64>,
+    party: usize,
+    max: usize,
+) -> Result<Result<Vec<u64>, TryDequeueError>, StepError> {
+    match core.take_linked(party, max) {
+        Err(StepError::Memory) => core.take_linked(party, max),
+        answer => answer,
+    }
+}
+
+/// A batch of these elements comes out.
+fn batches(rt: &impl Abort, core: &mut QueueCore<u64>, max: usize, elements: &[u64]) {
+    match takes_linked(core, 0, max) {
+        Ok(Ok(batch)) => same(rt, batch.as_slice(), elements),
+        Ok(Err(why)) => same(rt, Err(why), Ok(elements.len())),
+        Err(error) => same(rt, Err(error), Ok(elements.len())),
+    }
+}
+
+#[test]
+fn a_batch_comes_at_the_second_call(rt: HostRuntime) {
+    let mut core = QueueCore::new(rt.alloc());
+    same(&rt, add_party(&mut core), Ok(0));
+    for element in 0..3u64 {
+        same(&rt, add_room(&mut core, 0), Ok(()));
+        enqueues(&rt, &mut core, 0, element, Ok(()));
+    }
+    batches(&rt, &mut core, 2, &[0, 1]);
+    enqueues(&rt, &mut core, 0, 3, Ok(()));
+    batches(&rt, &mut core, 9, &[2, 3]);
+    dequeues(&rt, &mut core, 0, Err(TryDequeueError::Empty));
+}
+
 /// Two parties, the first with a room.
 fn two(alloc: Global) -> Result<QueueCore<u64>, StepError> {
     let mut core = QueueCore::new(alloc);

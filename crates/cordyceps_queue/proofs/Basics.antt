@@ -1,6 +1,8 @@
 -- Lists by place, functions changed at one number, and what histories say of places.
-use Rattle.std.proofs.Common.{◌≡◌, ℕ, zero, suc, ◌<◌, ◌≤◌, ◌≢◌, ◌⊎◌, cond, List, [], ◌∷◌, ◌++◌, map, drop, length, Option, Some, None, refl, sym, ap, ◌∙◌, subst, inl, inr, arith, length-append, ne_eqb, eq-eqb}
+use Rattle.std.proofs.Common.{◌≡◌, ℕ, zero, suc, ◌<◌, ◌≤◌, ◌≢◌, ◌⊎◌, cond, List, [], ◌∷◌, ◌++◌, map, drop, length, Option, Some, None, refl, sym, ap, ◌∙◌, subst, inl, inr, arith, length-append, ne_eqb, eq-eqb, eqb}
 use native.Mathlib.Decide.{ℕ_discrete}
+use Rattle.cordyceps_shared.specs.Counts.{times, one_if}
+use Rattle.cordyceps_shared.proofs.Counting.{one_here, one_else}
 use Rattle.cordyceps_queue.specs.QueueHistory.{Event, Swap, Link, Take, Busy, Look, Out, Empty, Free}
 use Rattle.cordyceps_queue.specs.QueuePast.{held, IsOpen, IsPendingAt}
 use Rattle.cordyceps_queue.specs.QueueWords.{put}
@@ -153,3 +155,22 @@ module _ {P E : Type 0} where
   open_from (Out p e ∷ h) q n w = open_from h q (suc n) w
   open_from (Empty p ∷ h) q n w = open_from h q n w
   open_from (Free p ∷ h) q n w = open_from h q n w
+
+-- how often a number stands in a list, by place
+pub times_none : (r : ℕ) (xs : List ℕ) → ((i : ℕ) → IsAt xs i r → ⊥) → times r xs ≡ 0
+times_none r [] away = refl
+times_none r (x ∷ xs) away = omega (arith, one_else x r (λ e. away 0 (sym e)), times_none r xs (λ i. away (suc i)))
+
+pub times_once : (r : ℕ) (xs : List ℕ) → ((i j : ℕ) → IsAt xs i r → IsAt xs j r → i ≡ j) → times r xs ≤ 1
+times_once r [] once = omega arith
+times_once r (x ∷ xs) once = elim (ℕ_discrete x r) [
+  | yes e ↦ omega (arith, ap (λ z. one_if (eqb z r)) e, one_here r, times_none r xs (λ i a. zero_suc (once 0 (suc i) (sym e) a)))
+  | no ne ↦ omega (arith, one_else x r ne, times_once r xs (λ i j a b. suc_inj (once (suc i) (suc j) a b)))
+]
+
+pub times_at : (r : ℕ) (xs : List ℕ) → 1 ≤ times r xs → (i : ℕ) × IsAt xs i r
+times_at r [] l = absurd (omega arith)
+times_at r (x ∷ xs) l = elim (ℕ_discrete x r) [
+  | yes e ↦ (0, sym e)
+  | no ne ↦ let t = times_at r xs (omega (arith, one_else x r ne)) in (suc t.0, t.1)
+]

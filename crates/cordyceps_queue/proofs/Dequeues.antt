@@ -26,7 +26,7 @@ use Rattle.cordyceps_queue.proofs.Sound.{core_steps}
 use Rattle.cordyceps_queue.proofs.Tries.{IsFinal, step_met, tries_law}
 
 module _ {E : Type 0} where
-  held_take : (h : List (Event ℕ E)) (p : ℕ) → held (h ++ Take p ∷ []) ≡ held h
+  pub held_take : (h : List (Event ℕ E)) (p : ℕ) → held (h ++ Take p ∷ []) ≡ held h
   held_take h p = ap (λ w. drop (length w) (came (h ++ Take p ∷ []))) (went-append h (Take p ∷ []) ∙ append-nil (went h)) ∙ ap (drop (length (went h))) (came-append h (Take p ∷ []) ∙ append-nil (came h))
 
   -- what is blocked just after the right was taken was blocked before it
@@ -94,26 +94,33 @@ module _ {E : Type 0} where
   pub dequeued_law : (h : List (Event ℕ E)) (m : Machine E) (p : ℕ) → CoreMeets h m → may_dequeue (slice_get m.parties p) ≡ true → CoreMeets (h ++ dequeue_events p (slice_get m.parties p) (found_of (dequeued m p).1)) (dequeued m p).0 × Finds h p (found_of (dequeued m p).1)
   dequeued_law h m p was may = law_at h m p was (slice_get m.parties p) refl may
 
+  -- the right is not there where a party has it, and a party that has it is that one
+  pub no_right : (h : List (Event ℕ E)) (m : Machine E) (q t : ℕ) → CoreMeets h m → holder h ≡ Some q → m.right ≡ Some t → ⊥
+  no_right h m q t was held right =
+      let f = free_right (right_word m.right) (parties_of m.rooms m.parties) was.chain.rooms (reverse h) was.chain.keeper t (ap right_word right) was.meets.right in
+      some_none (sym held ∙ holder_of h ∙ f.1)
+
+  pub holds_right : (h : List (Event ℕ E)) (m : Machine E) (p q t : ℕ) → CoreMeets h m → holder h ≡ Some q → slice_get m.parties p ≡ Some (Holding t) → p ≡ q
+  holds_right h m p q t was held at =
+      let k = keeping (words_of m) was.chain (reverse h) was.meets p (me_of m p (Holding t)) (ap (party_at m.rooms p) at) t refl in
+      some_inj (sym k.held_by ∙ sym (holder_of h) ∙ held)
+
   -- where another party holds the right
   busy_rest : (h : List (Event ℕ E)) (m : Machine E) (p q : ℕ) (was : CoreMeets h m) → holder h ≡ Some q → (o : Option ℕ) → m.right ≡ o → found_of (takes_first p (take m p o).0 (take m p o).1).1 ≡ Err error.Busy
   busy_rest h m p q was held None right = refl
-  busy_rest h m p q was held (Some t) right =
-      let f = free_right (right_word m.right) (parties_of m.rooms m.parties) was.chain.rooms (reverse h) was.chain.keeper t (ap right_word right) was.meets.right in
-      absurd (some_none (sym held ∙ holder_of h ∙ f.1))
+  busy_rest h m p q was held (Some t) right = absurd (no_right h m q t was held right)
 
   busy_at : (h : List (Event ℕ E)) (m : Machine E) (p q : ℕ) → CoreMeets h m → holder h ≡ Some q → p ≢ q → (place : Option Place) → slice_get m.parties p ≡ place → may_dequeue place ≡ true → found_of (dequeued_at p m place).1 ≡ Err error.Busy
   busy_at h m p q was held ne (Some Rest) at may =
       subst (λ (out : Outcome E). found_of (takes_first p out.0 out.1).1 ≡ Err error.Busy) (sym (ap (λ o. stepped_at m p o step.Take) at)) (busy_rest h m p q was held m.right refl)
-  busy_at h m p q was held ne (Some (Holding t)) at may =
-      let k = keeping (words_of m) was.chain (reverse h) was.meets p (me_of m p (Holding t)) (ap (party_at m.rooms p) at) t refl in
-      absurd (ne (some_inj (sym k.held_by ∙ sym (holder_of h) ∙ held)))
+  busy_at h m p q was held ne (Some (Holding t)) at may = absurd (ne (holds_right h m p q t was held at))
   busy_at h m p q was held ne place at may = let no : ⊥ = cc in absurd no
 
   pub busy_law : (h : List (Event ℕ E)) (m : Machine E) (p q : ℕ) → CoreMeets h m → holder h ≡ Some q → p ≢ q → may_dequeue (slice_get m.parties p) ≡ true → found_of (dequeued m p).1 ≡ Err error.Busy
   busy_law h m p q was held ne may = busy_at h m p q was held ne (slice_get m.parties p) refl may
 
   -- what was blocked before a look, or before a taking and a look, is so after them
-  still_blocked : (h : List (Event ℕ E)) (p : ℕ) (m : Machine E) (place : Option Place) → may_dequeue place ≡ true → CoreMeets (h ++ dequeue_events p place (Err error.Inconsistent)) m → IsBlocked ℕ_discrete h → LooksBlocked h p place
+  pub still_blocked : (h : List (Event ℕ E)) (p : ℕ) (m : Machine E) (place : Option Place) → may_dequeue place ≡ true → CoreMeets (h ++ dequeue_events p place (Err error.Inconsistent)) m → IsBlocked ℕ_discrete h → LooksBlocked h p place
   still_blocked h p m (Some Rest) may was b =
       let all : reverse (h ++ Take p ∷ Look p ∷ Free p ∷ []) ≡ Free p ∷ Look p ∷ Take p ∷ reverse h = reverse-append h (Take p ∷ Look p ∷ Free p ∷ []) in
       let turned : reverse (h ++ Take p ∷ Look p ∷ []) ≡ Look p ∷ Take p ∷ reverse h = reverse-append h (Take p ∷ Look p ∷ []) in

@@ -5,12 +5,14 @@ pub mod Both
 pub mod Counts
 pub mod Dequeue
 pub mod Dequeues
+pub mod Drained
 pub mod Enqueues
 pub mod Exact
 pub mod Free
 pub mod Going
 pub mod Growing
 pub mod Growth
+pub mod Held
 pub mod Holder
 pub mod Keeping
 pub mod Legality
@@ -36,6 +38,7 @@ pub mod QueueParting
 pub mod QueueClosing
 pub mod QueueParties
 pub mod QueueRight
+pub mod QueueRuns
 pub mod QueueWaiting
 pub mod Simulation
 pub mod Sound

@@ -13,6 +13,7 @@ use Rattle.cordyceps_queue.specs.QueuePast as past
 use Rattle.cordyceps_queue.specs.QueueStanding.{same_name, PartyOf, Legal, Adds, Dequeues, Consumes, IsCertain}
 use Rattle.cordyceps_queue.proofs.Both.{legal_both_ways}
 use Rattle.cordyceps_queue.proofs.Legality.{held_of}
+use Rattle.cordyceps_queue.proofs.QueueRuns.{Run, run_holds}
 
 module _ {E : Type 0} where
   -- the legal history of a whole party that added these events, the newest first
@@ -32,6 +33,14 @@ module _ {E : Type 0} where
       let back : reverse (plain w.seen) ≡ reverse es ++ reverse (plain u.seen) = ap reverse all ∙ reverse-append (plain u.seen) es in
       let after = held_of (plain w.seen) (subst (λ r. past.IsLegal r) (sym back) l) ∙ ap (λ r. past.held r) back in
       before ∙ (out.2 ∙ ap (λ xs. e ∷ xs) (sym (after ∙ ap (drop 1) out.2)))
+
+  -- a try that took this element
+  abbrev pub TakesOut : E → PartyOf E → PartyOf E → Type 0
+  TakesOut e u w = Dequeues (Ok e) u w
+
+  -- what a whole party's tries took is the front of what was held
+  pub takes_front : (u w : PartyOf E) (es : List E) → u.share ≡ whole → Run TakesOut u es w → held (plain u.seen) ≡ es ++ held (plain w.seen)
+  takes_front u w es is r = run_holds TakesOut (λ e x y d. d.0.0.share) (λ e x y whole_is d. takes_first x y e whole_is d) u es w is r
 
   finds_none : (u w : PartyOf E) → u.share ≡ whole → Dequeues (Err error.Empty) u w → held (plain u.seen) ≡ []
   finds_none u w is d =

@@ -1,26 +1,25 @@
 -- Whose names and rooms the parties of a queue's table have.
-use Rattle.std.proofs.Common.{◌≡◌, ◌≢◌, ℕ, suc, ◌+◌, ◌≤◌, List, [], ◌∷◌, ◌++◌, reverse, length, replicate, eqb, false, Option, Some, None, refl, sym, ap, ◌∙◌, subst, arith, length-append}
+use Rattle.std.proofs.Common.{◌≡◌, ◌≢◌, ℕ, ◌+◌, ◌≤◌, List, [], ◌∷◌, ◌++◌, reverse, length, replicate, false, Option, Some, None, refl, sym, ap, ◌∙◌, subst, arith, length-append}
 use mathlib.Core.Bool.{Bool-discrete}
 use mathlib.Core.List.{List-discrete}
 use mathlib.Core.Option.{some, none}
 use mathlib.Core.Option as maybe
 use native.Mathlib.Decide.{ℕ_discrete}
 use lib.ListN.{get_elem?, length-replicate}
-use Rattle.cordyceps_shared.specs.Counts.{times, one_if}
 use Rattle.cordyceps_shared.specs.Histories.{events, plain}
 use Rattle.cordyceps_shared.specs.Knowing.{Owned}
 use Rattle.cordyceps_shared.specs.Shares.{Name, whole, covers, first_name}
-use Rattle.cordyceps_shared.proofs.Counting.{tally_two, distinct_few, one_here, one_else}
+use Rattle.cordyceps_shared.proofs.Counting.{tally_two, distinct_few}
 use Rattle.cordyceps_shared.proofs.Naming.{some_cover}
 use Rattle.cordyceps_shared.proofs.Standing as seats
 use Rattle.cordyceps_queue.specs.declared.place.Place.TheVariants.{Rest}
-use Rattle.cordyceps_queue.specs.QueueMeets.{IsAt, Fits, RightIs, tail_of}
+use Rattle.cordyceps_queue.specs.QueueMeets.{Fits, RightIs, tail_of}
 use Rattle.cordyceps_queue.specs.QueueParting.{IsStill}
 use Rattle.cordyceps_queue.specs.QueuePast.{holder, IsSettled}
 use Rattle.cordyceps_queue.specs.QueueRule.{Table, History, party, party_if, party_of, Kept}
 use Rattle.cordyceps_queue.specs.QueueView.{View, knows, name}
 use Rattle.cordyceps_queue.specs.QueueWords.{Party}
-use Rattle.cordyceps_queue.proofs.Basics.{some_inj, none_some, zero_suc, suc_inj}
+use Rattle.cordyceps_queue.proofs.Basics.{some_inj, none_some, times_once, times_at}
 use Rattle.cordyceps_queue.proofs.QueueTables.{at_behind, core, party_at, rooms_of}
 use Rattle.cordyceps_shared.proofs.Telling.{at_length}
 
@@ -66,24 +65,6 @@ module _ {E : Type 0} (views : List (View E)) (h : History E) (o : Owned knows v
       same_seat j k a.0 b.0 a.1 b.1 a.2 b.2 (ap by a.3 ∙ (same ∙ sym (ap by b.3)))
 
 -- ---- rooms
-times_none : (r : ℕ) (xs : List ℕ) → ((i : ℕ) → IsAt xs i r → ⊥) → times r xs ≡ 0
-times_none r [] away = refl
-times_none r (x ∷ xs) away = omega (arith, one_else x r (λ e. away 0 (sym e)), times_none r xs (λ i. away (suc i)))
-
-times_once : (r : ℕ) (xs : List ℕ) → ((i j : ℕ) → IsAt xs i r → IsAt xs j r → i ≡ j) → times r xs ≤ 1
-times_once r [] once = omega arith
-times_once r (x ∷ xs) once = elim (ℕ_discrete x r) [
-  | yes e ↦ omega (arith, ap (λ z. one_if (eqb z r)) e, one_here r, times_none r xs (λ i a. zero_suc (once 0 (suc i) (sym e) a)))
-  | no ne ↦ omega (arith, one_else x r ne, times_once r xs (λ i j a b. suc_inj (once (suc i) (suc j) a b)))
-]
-
-times_at : (r : ℕ) (xs : List ℕ) → 1 ≤ times r xs → (i : ℕ) × IsAt xs i r
-times_at r [] l = absurd (omega arith)
-times_at r (x ∷ xs) l = elim (ℕ_discrete x r) [
-  | yes e ↦ (0, sym e)
-  | no ne ↦ let t = times_at r xs (omega (arith, one_else x r ne)) in (suc t.0, t.1)
-]
-
 module _ {E : Type 0} (s : Table E) (k : Kept s) (id : ℕ) (v : View E) (at : get_elem? s.views id ≡ some v) (named : v.known.share ≢ []) where
   -- a party has no more free rooms than there are slots
   pub few_rooms : length v.free ≤ length s.homes

@@ -1,16 +1,19 @@
 -- Tries of a consumer, one after the other, each of which gave an element.
-use Rattle.std.proofs.Common.{◌≡◌, ◌≢◌, ℕ, ◌+◌, ◌<◌, ◌≤◌, Bool, true, false, List, [], ◌∷◌, ◌++◌, map, take, length, refl, sym, ap, ◌∙◌, subst, inl, inr, arith, append_assoc, length-append}
+use Rattle.std.proofs.Common.{◌≡◌, ◌≢◌, ℕ, ◌+◌, ◌<◌, ◌≤◌, List, [], ◌∷◌, ◌++◌, map, take, length, refl, sym, ap, ◌∙◌, subst, inl, inr, arith, append_assoc, length-append}
 use Rattle.std.specs.Prelude.{◌⊎◌, Ok, Err}
-use Rattle.std.proofs.lemmas.List.{append-nil, length-map, take_all}
-use Rattle.cordyceps_shared.specs.Histories.{own}
-use Rattle.cordyceps_shared.specs.Shares.{Name, first_name}
+use Rattle.std.proofs.lemmas.List.{append-nil, length-map, map-append, take_all}
+use Rattle.cordyceps_shared.specs.Histories.{plain, own}
+use Rattle.cordyceps_shared.specs.Shares.{Name, whole, first_name}
 use Rattle.cordyceps_shared.specs.Standings.{name_of}
 use Rattle.cordyceps_shared.proofs.Adding.{adds_then}
+use Rattle.cordyceps_shared.proofs.Owning.{own_adds}
 use Rattle.cordyceps_queue.specs.declared.steps.TryDequeueError.{TryDequeueError}
 use Rattle.cordyceps_queue.specs.declared.steps.TryDequeueError.TheVariants as error
 use Rattle.cordyceps_queue.specs.QueueBatches.{outs, TakesLinked}
-use Rattle.cordyceps_queue.specs.QueueHistory.{Event, Look, Out, Empty}
+use Rattle.cordyceps_queue.specs.QueueHistory.{Event, Look, Out, Empty, held}
 use Rattle.cordyceps_queue.specs.QueueStanding.{PartyOf, Legal, Adds, BlockedAfter, Consumes}
+use Rattle.cordyceps_queue.proofs.QueueClosing.{gives_first}
+use Rattle.cordyceps_queue.proofs.QueueRuns.{Run, run_holds}
 
 module _ {E : Type 0} where
   -- so far these elements came out, oldest first, and their rooms
@@ -69,18 +72,29 @@ module _ {E : Type 0} where
         rooms = omega (arith, t.rooms, d.1, length-append es (e ∷ []));
       }
 
+  -- a try that gave this element
+  abbrev pub Gives : E → PartyOf E → PartyOf E → Type 0
+  Gives e u v = Consumes (Ok e) u v
+
+  took_then : (u v w : PartyOf E) (es fs : List E) → Took es u v → Run Gives v fs w → Took (es ++ fs) u w
+  took_then u v w es [] t e = subst (λ z. Took z u w) (sym (append-nil es)) (subst (Took es u) e t)
+  took_then u v w es (f ∷ fs) t r =
+      subst (λ z. Took z u w) (append_assoc es (f ∷ []) fs) (took_then u r.0 w (es ++ f ∷ []) fs (took_more u v r.0 es f t r.1) r.2)
+
+  pub took : (u w : PartyOf E) (es : List E) → Run Gives u es w → Took es u w
+  took u w es r = took_then u u w [] es (took_none u) r
+
+  -- what a whole party's tries gave is the front of what was held
+  pub gives_front : (u w : PartyOf E) (es : List E) → u.share ≡ whole → Run Gives u es w → held (plain u.seen) ≡ es ++ held (plain w.seen)
+  gives_front u w es is r = run_holds Gives (λ e x y d. d.0.0.share) (λ e x y whole_is d. gives_first x y e whole_is d) u es w is r
+
   -- the party's own events, with those of what was taken
   own_took : (u v : PartyOf E) (es : List E) → Took es u v → own v.seen ≡ own u.seen ++ outs (name_of u) es
   own_took u v es t = owned t.adds
     where
-      own_append : (xs ys : List (Bool × Event Name E)) → own (xs ++ ys) ≡ own xs ++ own ys
-      own_append [] ys = refl
-      own_append ((true, x) ∷ xs) ys = ap (λ z. x ∷ z) (own_append xs ys)
-      own_append ((false, x) ∷ xs) ys = own_append xs ys
-
       owned : ((es ≡ []) × (v ≡ u)) ⊎ ((es ≢ []) × Adds u (outs (name_of u) es) v) → own v.seen ≡ own u.seen ++ outs (name_of u) es
       owned (inl a) = ap (λ z. own z.seen) a.1 ∙ (sym (append-nil (own u.seen)) ∙ ap (λ z. own u.seen ++ outs (name_of u) z) (sym a.0))
-      owned (inr a) = ap own a.1.0.is ∙ (own_append u.seen a.1.0.rest ∙ ap (λ z. own u.seen ++ z) a.1.0.adds)
+      owned (inr a) = own_adds (λ h. Legal h) u v (outs (name_of u) es) a.1
 
   pub stops_full : (max : ℕ) (u v : PartyOf E) (es : List E) → es ≢ [] → length es ≡ max → Took es u v → TakesLinked max es u v
   stops_full max u v es some full t = record { some = some; stops = inl (full, added t.adds); rooms = t.rooms }
@@ -110,6 +124,9 @@ module _ {E : Type 0} where
 
 -- ---- what a whole party takes
 module _ {H B : Type 0} (f : H → B) where
+  pub taken_front : (xs : List B) (es left hs : List H) → xs ≡ map f es → hs ≡ es ++ left → xs ++ map f left ≡ map f hs
+  taken_front xs es left hs e whole = ap (λ z. z ++ map f left) e ∙ (sym (map-append f es left) ∙ ap (map f) (sym whole))
+
   taken_full : (xs : List B) (left hs : List H) → xs ++ map f left ≡ map f hs → xs ≡ map f (take (length xs) hs)
   taken_full [] left hs e = refl
   taken_full (x ∷ xs) left [] e = cc

@@ -1,21 +1,32 @@
 -- Tries one after the other.
-use Rattle.std.proofs.Common.{◌≢◌, List, [], ◌∷◌, ◌++◌, refl, sym, ◌∙◌, subst, inl, inr}
+use Rattle.std.proofs.Common.{◌≡◌, ◌≢◌, List, [], ◌∷◌, ◌++◌, refl, sym, ◌∙◌, subst, inl, inr}
 use Rattle.std.specs.Prelude.{Err}
+use Rattle.cordyceps_shared.specs.Shares.{whole}
 use Rattle.cordyceps_queue.specs.declared.steps.TryDequeueError.{TryDequeueError}
 use Rattle.cordyceps_queue.specs.declared.steps.TryDequeueError.TheVariants as error
-use Rattle.cordyceps_queue.specs.QueueStanding.{PartyOf, Retries, Dequeues, Consumes, IsSame, MissesDequeue}
+use Rattle.cordyceps_queue.specs.QueueStanding.{PartyOf, Retries, Dequeues, Consumes, IsCertain, IsSame, MissesDequeue}
+use Rattle.cordyceps_queue.proofs.QueueRuns.{Run, run_more}
 
 module _ {E : Type 0} (Fails : PartyOf E → PartyOf E → Type 0) where
-  -- so many tries that failed as it took to get here
+  -- a try that failed, and what the party was after it
+  abbrev pub FailsTo : PartyOf E → PartyOf E → PartyOf E → Type 0
+  FailsTo w u v = Fails u v × (w ≡ v)
+
+  -- so many tries that failed as it took to get here, of a whole party none
   abbrev pub Trying : PartyOf E → PartyOf E → Type 0
-  Trying u v = (tries : List (PartyOf E)) × Retries Fails u tries v
+  Trying u v = (tries : List (PartyOf E)) × Run FailsTo u tries v × (u.share ≡ whole → tries ≡ [])
 
-  retries_more : (u : PartyOf E) (vs : List (PartyOf E)) (v w : PartyOf E) → Retries Fails u vs v → Fails v w → Retries Fails u (vs ++ w ∷ []) w
-  retries_more u [] v w e f = (subst (λ q. Fails q w) (sym e) f, refl)
-  retries_more u (x ∷ vs) v w r f = (r.0, retries_more x vs v w r.1 f)
+  pub trying_more : (u v w : PartyOf E) → Trying u v → Fails v w → (u.share ≡ whole → ⊥) → Trying u w
+  trying_more u v w t f part = (t.0 ++ w ∷ [], run_more FailsTo u t.0 v w w t.1 (f, refl), λ is. absurd (part is))
 
-  pub trying_more : (u v w : PartyOf E) → Trying u v → Fails v w → Trying u w
-  trying_more u v w t f = (t.0 ++ w ∷ [], retries_more u t.0 v w t.1 f)
+  -- a whole party's first try is its last
+  pub at_first : (u v : PartyOf E) → Trying u v → u.share ≡ whole → u ≡ v
+  at_first u v t is = subst (λ ws. Run FailsTo u ws v) (t.2 is) t.1
+
+  pub retries : (u : PartyOf E) (tries : List (PartyOf E)) (v : PartyOf E) → Run FailsTo u tries v → Retries Fails u tries v
+  retries u [] v e = e
+  retries u (w ∷ ws) v t =
+      (subst (Fails u) (sym t.1.1) t.1.0, subst (λ z. Retries Fails z ws v) (sym t.1.1) (retries t.0 ws v t.2))
 
 module _ {E : Type 0} where
   pub misses : (u w : PartyOf E) (why : TryDequeueError) → why ≢ error.Empty → Dequeues (Err why) u w → MissesDequeue u w
@@ -40,3 +51,8 @@ module _ {E : Type 0} where
   misses_blocked u w error.Empty not d = absurd (not refl)
   misses_blocked u w error.Inconsistent not d = d
   misses_blocked u w error.Busy not d = absurd d
+
+pub uncertain : (E : Type 0) (why : TryDequeueError) → why ≢ error.Empty → IsCertain {E = E} (Err why) → ⊥
+uncertain E error.Empty not c = not refl
+uncertain E error.Inconsistent not c = c
+uncertain E error.Busy not c = c

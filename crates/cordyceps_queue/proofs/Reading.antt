@@ -26,7 +26,7 @@ module _ {X : Type 0} where
   get_change_same f (x ∷ xs) zero y h = let e : x ≡ y = cc in ap (λ z. Some (f z)) e
   get_change_same f (x ∷ xs) (suc i) y h = get_change_same f xs i y h
 
-  get_change_other : (f : X → X) (xs : List X) (i j : ℕ) → j ≢ i → slice_get (change f i xs) j ≡ slice_get xs j
+  pub get_change_other : (f : X → X) (xs : List X) (i j : ℕ) → j ≢ i → slice_get (change f i xs) j ≡ slice_get xs j
   get_change_other f [] i j ne = refl
   get_change_other f (x ∷ xs) zero zero ne = absurd (ne refl)
   get_change_other f (x ∷ xs) zero (suc j) ne = refl

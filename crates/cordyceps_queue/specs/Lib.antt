@@ -1,6 +1,7 @@
 pub mod QueueAlone
 pub mod QueueBatches
 pub mod QueueCore
+pub mod QueueDrained
 pub mod QueueHistory
 pub mod QueueKept
 pub mod QueueLaws

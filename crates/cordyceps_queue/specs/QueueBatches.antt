@@ -1,16 +1,15 @@
 -- What a consumer promises that takes several elements out in one call: of the party u before, and of the party w after.
 use Rattle.std.specs.Prelude.{◌≡◌, ◌≢◌, ◌⊎◌, ℕ, ◌+◌, ◌<◌, List, [], ◌∷◌, ◌++◌, length}
-use Rattle.cordyceps_shared.specs.Shares.{Name}
 use Rattle.cordyceps_shared.specs.Standings.{name_of}
 use Rattle.cordyceps_queue.specs.QueueHistory.{Event, Look, Out, Empty}
 use Rattle.cordyceps_queue.specs.QueueStanding.{PartyOf, Adds, BlockedAfter}
 
-module _ {E : Type 0} where
-  -- tries of a party, each of which gave an element
-  abbrev pub outs : Name → List E → List (Event Name E)
-  outs n [] = []
-  outs n (e ∷ es) = Look n ∷ Out n e ∷ outs n es
+-- tries of a party, each of which gave an element
+abbrev pub outs : {P E : Type 0} → P → List E → List (Event P E)
+outs p [] = []
+outs p (e ∷ es) = Look p ∷ Out p e ∷ outs p es
 
+module _ {E : Type 0} where
   -- the tries gave these elements: as many as were asked for, or fewer, and then a try found that nothing was held, or one was
   -- blocked
   abbrev pub StopsAt : ℕ → List E → PartyOf E → PartyOf E → Type 0

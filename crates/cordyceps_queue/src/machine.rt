@@ -2,6 +2,7 @@
 ghost use Rattle.std.specs.Prelude.{◌≡◌, ◌≢◌, ◌<◌, ◌++◌, ◌∷◌, [], length, Some, None, IsSome, IfOk, OnOk, OnErr, slice_get, nat_eq, is_some};
 ghost use Rattle.cordyceps_queue.specs.QueueMachine.{stepped, acts, least_free, element_in, next_in, stands, clear, swap, link, take, give, hand_out, look, read, read_again, read_stub, head_stub, head_tail};
 ghost use Rattle.cordyceps_queue.specs.QueueCore.{IsSound, new_machine, with_party, with_room};
+ghost use Rattle.cordyceps_queue.specs.QueueDrained.{count_held};
 
 use crate::place::Place;
 use crate::rooms::Rooms;
@@ -71,6 +72,18 @@ impl<E: Drop> Machine<E> {
         ensures { result ≡ is_some (least_free party self.now.rooms) }
     {
         self.rooms.least_free(party).is_some()
+    }
+
+    /// How many elements are held, by a walk through all rooms and parties.
+    pub(crate) fn count_held(&self) -> usize
+        ensures { result ≡ count_held self.now }
+    {
+        let cleared = self
+            .parties
+            .iter()
+            .filter(|place| place.is_cleared())
+            .count();
+        self.rooms.occupied().saturating_sub(cleared)
     }
 
     /// The party goes to another place.

@@ -1,4 +1,6 @@
 //! Where a party is.
+ghost use Rattle.std.specs.Prelude.{◌≡◌};
+ghost use Rattle.cordyceps_queue.specs.QueueDrained.{is_cleared};
 
 /// Where a party is between two steps. `room` is the room that it enqueues, `old` the head before its swap, and `tail`
 /// the room at which the party with the right dequeues. The stub is room 0.
@@ -23,4 +25,13 @@ pub enum Place {
     PutLink(usize, usize),
     /// The stub is in, and the tail's next word is to be read again.
     PutRead(usize),
+}
+
+impl Place {
+    /// Whether the party has an element in a room that it has yet to swap in.
+    pub(crate) fn is_cleared(&self) -> bool
+        ensures { result ≡ is_cleared self.now }
+    {
+        matches!(self, Place::Cleared(_))
+    }
 }

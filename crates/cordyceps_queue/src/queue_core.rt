@@ -1,14 +1,15 @@
 //! The core.
-ghost use Rattle.std.specs.Prelude.{◌≡◌, ◌≢◌, ◌++◌, ◌↔◌, ◌≤◌, ℕ, [], List, Some, Err, slice_get, length, IfOk, IfErr, OnOk, OnErr, is_ok};
+ghost use Rattle.std.specs.Prelude.{◌≡◌, ◌≢◌, ◌++◌, ◌↔◌, ◌≤◌, ℕ, [], List, Some, Err, slice_get, length, IfOk, IfErr, OnOk, OnErr, IsFalse, is_ok};
 ghost use Rattle.cordyceps_base.specs.Runs.{after};
 ghost use Rattle.cordyceps_queue.specs.QueueAlone.{is_ready, may_dequeue, enqueue_steps, dequeued, found_of, dequeue_events, Enqueued, Finds, LooksBlocked};
-ghost use Rattle.cordyceps_queue.specs.QueueHistory.{Event, holder};
+ghost use Rattle.cordyceps_queue.specs.QueueDrained.{may_take, drained_at, given, batch_of, batch_events, oldest, NobodyPending, NobodyElse, Drains};
+ghost use Rattle.cordyceps_queue.specs.QueueHistory.{Event, holder, held};
 ghost use Rattle.cordyceps_queue.specs.QueueMachine.{stepped, is_there, element_of, step_events};
 ghost use Rattle.cordyceps_queue.specs.QueueCore.{CoreMeets, AnswerSays, core_step, new_machine, with_party, with_room};
 
 use crate::machine::Machine;
 use crate::steps::{QueueAnswer, QueueStep, TryDequeueError};
-use crate::trying::found;
+use crate::trying::{batch_or, found};
 use cordyceps_base::shared::StepError;
 use std::alloc::Global;
 use std::marker::Model;
@@ -126,5 +127,44 @@ impl<E: Drop> QueueCore<E> {
             return Err(StepError::NotThere);
         }
         Ok(found(self.machine.dequeue(party)))
+    }
+    /// Takes elements out, oldest first, by tries of one party that runs alone, until `max` came out or a try gives none:
+    /// these, or why the first try gave none. From rest it takes the right first and gives it back last; a party that holds
+    /// the right does neither.
+    ///
+    /// `NotThere` comes exactly where the party is at another place or `max` is 0, and `Memory` where there is none for the
+    /// elements: room for as many as are held, or for `max` if that is less, is made before the first step. Both change
+    /// nothing. It goes through the rooms and the parties once, to count what is held.
+    pub fn take_linked(
+        &mut self,
+        party: usize,
+        max: usize,
+    ) -> Result<Result<Vec<E>, TryDequeueError>, StepError>
+        ensures not_there { (result ≡ Err StepError.NotThere) ↔ IsFalse (may_take max (slice_get self.old.parties party)) }
+        ensures err { OnErr result (self.new ≡ self.old) }
+        ensures ok { IfOk result (λ batch. let d = drained_at party max self.old (slice_get self.old.parties party) in
+            (self.new ≡ d.0) × (given batch ≡ batch_of d.1 d.2)) }
+        ensures history { OnOk result (let d = drained_at party max self.old (slice_get self.old.parties party) in (h : List (Event ℕ E))
+            → CoreMeets h self.old
+            → CoreMeets (h ++ batch_events party (slice_get self.old.parties party) d.1 d.2) self.new
+            × Drains h party max (slice_get self.old.parties party) d.1 d.2) }
+        ensures all { IfOk result (λ batch. (h : List (Event ℕ E)) → CoreMeets h self.old
+            → NobodyPending h
+            → NobodyElse h party
+            → given batch ≡ oldest max (held h)) }
+        ensures busy { IfOk result (λ batch. (h : List (Event ℕ E)) (q : ℕ) → CoreMeets h self.old
+            → holder h ≡ Some q
+            → party ≢ q
+            → given batch ≡ Err TryDequeueError.Busy) }
+    {
+        if max == 0 || !self.machine.may_dequeue(party) {
+            return Err(StepError::NotThere);
+        }
+        let room = max.min(self.machine.count_held());
+        let Ok(mut batch) = Vec::with_capacity(self.alloc, room) else {
+            return Err(StepError::Memory);
+        };
+        let stop = self.machine.take_batch(party, &mut batch, max);
+        Ok(batch_or(batch, stop))
     }
 }

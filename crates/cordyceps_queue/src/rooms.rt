@@ -1,6 +1,7 @@
 //! The rooms of a core.
-ghost use Rattle.std.specs.Prelude.{◌≡◌, ◌<◌, ◌++◌, [], ◌∷◌, length, slice_get, IsSome, IfSome, Some, None, OnOk, OnErr};
+ghost use Rattle.std.specs.Prelude.{◌≡◌, ◌<◌, ◌++◌, [], ◌∷◌, length, slice_get, is_some, IsSome, IfSome, Some, None, OnOk, OnErr};
 ghost use Rattle.std.specs.List.{position};
+ghost use Rattle.cordyceps_queue.specs.QueueDrained.{occupied};
 ghost use Rattle.cordyceps_queue.specs.QueueMachine.{change, holding, linking, freeing, stub_room, is_free_for, least_free, element_in, next_in};
 
 use crate::room::Room;
@@ -74,6 +75,16 @@ impl<E: Drop> Rooms<E> {
         } else {
             self.list[at - 1].next
         }
+    }
+
+    /// How many rooms have an element, by a walk through all rooms.
+    pub(crate) fn occupied(&self) -> usize
+        ensures { result ≡ occupied self.now }
+    {
+        self.list
+            .iter()
+            .filter(|room| room.element.is_some())
+            .count()
     }
 
     /// Puts the element into a room, which is nobody's free one from then on and leads nowhere.

@@ -1,7 +1,9 @@
 //! Whole calls of one party, by its steps.
-ghost use Rattle.std.specs.Prelude.{◌≡◌, slice_get};
+ghost use Rattle.std.specs.Prelude.{◌≡◌, ◌≤◌, ◌⊎◌, ℕ, [], List, Some, length, slice_get, true, vec_capacity};
 ghost use Rattle.cordyceps_queue.specs.QueueAlone.{next_step, is_done, found_of, tries, dequeued, may_dequeue, is_ready};
-ghost use Rattle.cordyceps_queue.specs.QueueCore.{IsSound};
+ghost use Rattle.cordyceps_queue.specs.QueueCore.{CoreMeets, IsSound};
+ghost use Rattle.cordyceps_queue.specs.QueueDrained.{given, batch_of, drained, drained_at};
+ghost use Rattle.cordyceps_queue.specs.QueueHistory.{Event, held};
 
 use crate::machine::Machine;
 use crate::place::Place;
@@ -39,6 +41,19 @@ pub(crate) fn found<E: Drop>(answer: Answered<E>) -> Result<E, TryDequeueError>
         Ok(QueueAnswer::Empty) => Err(TryDequeueError::Empty),
         Ok(QueueAnswer::Busy) => Err(TryDequeueError::Busy),
         _ => Err(TryDequeueError::Inconsistent),
+    }
+}
+
+/// What a call answers that took this batch and then stopped so.
+pub(crate) fn batch_or<E: Drop>(
+    batch: Vec<E>,
+    stop: Option<TryDequeueError>,
+) -> Result<Vec<E>, TryDequeueError>
+    ensures { given result ≡ batch_of batch.items stop }
+{
+    match stop {
+        Some(why) if batch.is_empty() => Err(why),
+        _ => Ok(batch),
     }
 }
 
@@ -88,6 +103,48 @@ impl<E: Drop> Machine<E> {
                 answer
             }
             answer => answer,
+        }
+    }
+
+    /// Tries of a holder, one after the other, until the batch, which begins empty, has `max` elements or a try gives none.
+    /// Answers why it gave none.
+    fn drain(&mut self, party: usize, batch: &mut Vec<E>, max: usize) -> Option<TryDequeueError>
+        requires holding { (t : ℕ) × (slice_get self.old.parties party ≡ Some (Place.Holding t)) }
+        requires empty { batch.old.items ≡ [] }
+        requires room { (h : List (Event ℕ E)) × CoreMeets h self.old × ((max ≤ vec_capacity batch.old) ⊎ (length (held h) ≤ vec_capacity batch.old)) }
+        ensures { (self.new, batch.new.items, result) ≡ drained party max self.old }
+    {
+        while batch.len() < max {
+            match found(self.try_holding(party)) {
+                Ok(element) => batch.push_reserved(element),
+                Err(why) => return Some(why),
+            }
+        }
+        None
+    }
+
+    /// The same, from any place from which a party may dequeue. A party at rest takes the right first and gives it back last.
+    pub(crate) fn take_batch(
+        &mut self,
+        party: usize,
+        batch: &mut Vec<E>,
+        max: usize,
+    ) -> Option<TryDequeueError>
+        requires place { may_dequeue (slice_get self.old.parties party) ≡ true }
+        requires empty { batch.old.items ≡ [] }
+        requires room { (h : List (Event ℕ E)) × CoreMeets h self.old × ((max ≤ vec_capacity batch.old) ⊎ (length (held h) ≤ vec_capacity batch.old)) }
+        ensures { (self.new, batch.new.items, result) ≡ drained_at party max self.old (slice_get self.old.parties party) }
+    {
+        let Some(Place::Rest) = self.place(party) else {
+            return self.drain(party, batch, max);
+        };
+        match self.act(party, QueueStep::Take) {
+            Ok(QueueAnswer::Taken) => {
+                let stop = self.drain(party, batch, max);
+                let _ = self.act(party, QueueStep::Give);
+                stop
+            }
+            _ => Some(TryDequeueError::Busy),
         }
     }
 }

@@ -1,6 +1,7 @@
 //! The calls of a shared queue that wait for others.
 ghost use Rattle.std.specs.Arc.{arc_value};
 ghost use Rattle.std.specs.Prelude.{◌≡◌, ◌≢◌, true, false, Err};
+ghost use Rattle.cordyceps_shared.specs.Shares.{whole};
 ghost use Rattle.cordyceps_queue.specs.QueueStanding.{AtLast, IsSame, MissesDequeue, Dequeues, Consumes, FindsBusy, TakesRight, found};
 ghost use Rattle.cordyceps_queue.specs.declared.steps.TryDequeueError.TheVariants as error;
 
@@ -26,11 +27,12 @@ impl<T: Linked<Links<T>>> MpscQueue<T> {
     /// Takes the oldest element out, by as many tries as it takes, and pauses between them. `None` where nothing was held.
     ///
     /// It waits while another party has the right, and while the oldest element or the one behind it is not linked yet. If
-    /// that never ends, it never returns.
+    /// that never ends, it never returns. A whole party's first try is its last.
     pub fn dequeue<R: Wait>(&self, rt: &R, party: &mut Party<T>) -> Option<T::Handle>
         requires { party.old.table ≡ self.now.table }
         ensures same { IsSame party.old party.new }
         ensures answer { AtLast MissesDequeue (Dequeues (found result)) party.old party.new }
+        ensures whole { party.old.share ≡ whole → Dequeues (found result) party.old party.new }
     {
         let backoff = Backoff::new();
         for _ in rt.forever() {
@@ -48,11 +50,12 @@ impl<T: Linked<Links<T>>> MpscQueue<T> {
     }
 
     /// Takes the right to dequeue, by as many tries as it takes, and pauses between them. While another party has the right
-    /// it waits, and if that never ends, it never returns.
+    /// it waits, and if that never ends, it never returns. A whole party's first try is its last.
     pub fn consume<R: Wait>(&self, rt: &R, party: Party<T>) -> Consumer<'_, T>
         requires { party.table ≡ self.now.table }
         ensures same { IsSame party result }
         ensures answer { AtLast FindsBusy TakesRight party result }
+        ensures whole { party.share ≡ whole → TakesRight party result }
     {
         let backoff = Backoff::new();
         let mut party = party;
@@ -76,6 +79,7 @@ impl<T: Linked<Links<T>>> MpscQueue<T> {
         ensures queue { result.queue ≡ arc_value queue }
         ensures same { IsSame party result.party }
         ensures answer { AtLast FindsBusy TakesRight party result.party }
+        ensures whole { party.share ≡ whole → TakesRight party result.party }
     {
         let backoff = Backoff::new();
         let mut both = (queue, party);
@@ -93,10 +97,12 @@ impl<T: Linked<Links<T>>> MpscQueue<T> {
 impl<'a, T: Linked<Links<T>>> Consumer<'a, T> {
     /// Takes the oldest element out, by as many tries as it takes, and pauses between them. `None` where nothing was held.
     ///
-    /// It waits while the oldest element or the one behind it is not linked yet. If that never ends, it never returns.
+    /// It waits while the oldest element or the one behind it is not linked yet. If that never ends, it never returns. A
+    /// whole party's first try is its last.
     pub fn dequeue<R: Wait>(&mut self, rt: &R) -> Option<T::Handle>
         ensures same { IsSame self.old self.new }
         ensures answer { AtLast (Consumes (Err error.Inconsistent)) (Consumes (found result)) self.old self.new }
+        ensures whole { self.old.share ≡ whole → Consumes (found result) self.old self.new }
     {
         let backoff = Backoff::new();
         for _ in rt.forever() {
@@ -117,11 +123,13 @@ impl<'a, T: Linked<Links<T>>> Consumer<'a, T> {
 impl<T: Linked<Links<T>>> OwnedConsumer<T> {
     /// Takes the oldest element out, by as many tries as it takes, and pauses between them. `None` where nothing was held.
     ///
-    /// It waits while the oldest element or the one behind it is not linked yet. If that never ends, it never returns.
+    /// It waits while the oldest element or the one behind it is not linked yet. If that never ends, it never returns. A
+    /// whole party's first try is its last.
     pub fn dequeue<R: Wait>(&mut self, rt: &R) -> Option<T::Handle>
         ensures queue { self.new.queue ≡ self.old.queue }
         ensures same { IsSame self.old.party self.new.party }
         ensures answer { AtLast (Consumes (Err error.Inconsistent)) (Consumes (found result)) self.old.party self.new.party }
+        ensures whole { self.old.party.share ≡ whole → Consumes (found result) self.old.party self.new.party }
     {
         let backoff = Backoff::new();
         for _ in rt.forever() {
