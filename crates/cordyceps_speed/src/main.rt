@@ -1,6 +1,6 @@
 //! Measures what calls of the library cost on one thread, by the program's own clock: pushes to a stack that threads
-//! share and takings from it, puts into a free list and gets from it, and, to compare, pushes and pops of stacks, lists
-//! and vectors and walks through a list.
+//! share and takings from it, puts into a free list and gets from it, enqueues into a queue that threads share and
+//! dequeues from it, and, to compare, pushes and pops of stacks, lists and vectors and walks through a list.
 //!
 //! Its one argument is a number of rounds, in each of which each element goes in and comes out once. It prints a line for
 //! each kind of call, with the nanoseconds of one call, and a sum of what it saw. Without an argument it makes few rounds,
@@ -8,7 +8,8 @@
 //!
 //! The nodes are made before the clock starts and used again: no call that is measured takes memory. The clock is read
 //! outside of the loops over the elements. The elements wait in a vector: the time of a push has that of a pop from it, and
-//! the time of a pop that of a push to it. The line of vectors says what the two cost.
+//! the time of a pop that of a push to it. The line of vectors says what the two cost. What gives many elements at once is
+//! measured without going through what it gave.
 #![tactic(auto)]
 
 mod cost;
@@ -16,6 +17,7 @@ mod ends;
 mod fault;
 mod free_lists;
 mod nodes;
+mod queues;
 mod stopwatch;
 mod transfers;
 mod walks;
@@ -26,6 +28,7 @@ use ends::{measure_list, measure_moves, measure_stack, push_all_back};
 use fault::Fault;
 use free_lists::{measure_local, measure_shared};
 use nodes::make_nodes;
+use queues::measure_queues;
 use std::alloc::Global;
 use std::env;
 use std::io::ErrorKind;
@@ -40,7 +43,7 @@ const ROUNDS: u32 = 10;
 /// How many elements go into each collection.
 const ELEMENTS: usize = 1024;
 
-/// How many blocks a free list has that are shared.
+/// How many blocks a free list has that are shared, and how many elements go into a queue.
 const SHARED: usize = 64;
 
 /// How many elements a list has that is walked through.
@@ -101,8 +104,8 @@ impl Task {
     fn show(self, rt: &impl Print, name: &str, cost: Cost) -> Result<(), Fault> {
         let count = cost.operations;
         let written = match self.shown {
-            Shown::Counts => println!(rt; "{name:<44} {count:>7} calls"),
-            Shown::Times => println!(rt; "{name:<44} {cost} ns"),
+            Shown::Counts => println!(rt; "{name:<48} {count:>7} calls"),
+            Shown::Times => println!(rt; "{name:<48} {cost} ns"),
         };
         written.map_err(|_| Fault::Write)
     }
@@ -152,6 +155,21 @@ fn show_stacks<R: Clock + Print>(rt: &R, alloc: Global, task: Task) -> Result<u6
     Ok(sum.wrapping_add(seen))
 }
 
+/// Measures a queue, and shows it. Answers the sum of what came out.
+fn show_queues<R: Clock + Print>(rt: &R, alloc: Global, task: Task) -> Result<u64, Fault> {
+    let mut nodes = make_nodes(alloc, SHARED)?;
+    let (queues, sum) = measure_queues(rt, alloc, &mut nodes, task.rounds)?;
+    task.show(rt, "MpscQueue: enqueue", queues.enqueue)?;
+    task.show(rt, "MpscQueue: try_dequeue", queues.dequeue)?;
+    task.show(rt, "Consumer: try_dequeue", queues.consume)?;
+    task.show(
+        rt,
+        "Consumer: take_linked of 64, an element's share",
+        queues.take,
+    )?;
+    Ok(sum)
+}
+
 /// Measures lists, and shows them. Answers the sum of what was seen.
 fn show_lists<R: Clock + Print>(rt: &R, alloc: Global, task: Task) -> Result<u64, Fault> {
     let mut nodes = make_nodes(alloc, ELEMENTS)?;
@@ -171,8 +189,9 @@ fn show_lists<R: Clock + Print>(rt: &R, alloc: Global, task: Task) -> Result<u64
 fn run(rt: &HostRuntime) -> Result<(), Fault> {
     let task = Task::ask(rt)?;
     let stacks = show_stacks(rt, rt.alloc(), task)?;
+    let queues = show_queues(rt, rt.alloc(), task)?;
     let lists = show_lists(rt, rt.alloc(), task)?;
-    let sum = stacks.wrapping_add(lists);
+    let sum = stacks.wrapping_add(queues).wrapping_add(lists);
     println!(rt; "sum of what was seen: {sum}").map_err(|_| Fault::Write)
 }
 
