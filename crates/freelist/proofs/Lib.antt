@@ -1,2 +1,5 @@
+pub mod Calls
+pub mod Meetings
+pub mod Parties
+mod Steps
 pub mod Whereabouts
-mod Calls

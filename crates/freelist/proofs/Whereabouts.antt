@@ -5,14 +5,14 @@ use Rattle.cordyceps_shared.specs.Counts.{tally}
 use Rattle.cordyceps_shared.proofs.Counting.{tally_append}
 use Rattle.cordyceps_stack.specs.TransferHistory.{Event, held, taken}
 use Rattle.cordyceps_stack.proofs.TransferHistories.{nothing_lost}
-use Rattle.freelist.specs.Whereabouts.{Whereabouts, Call, Gets, Puts, PutsRemote, HandsBack, Idles, Finishes, Gains, Loses, behind, Without, Does, Run, gained, lost, Story, IsOf, everywhere, at_start}
+use Rattle.freelist.specs.Whereabouts.{Whereabouts, Call, Gets, Fetches, Puts, PutsRemote, HandsBack, Opens, Finishes, Splits, Joins, Idles, Gains, Loses, behind, Without, Does, Run, gained, lost, Story, IsOf, everywhere, at_start, at_end, all_gained, all_lost}
 
 module _ {B : Type 0} (f : B → ℕ) where
-  tally_behind : (o : Option B) (bs : List B) → tally f (behind o bs) ≡ tally f (behind o []) + tally f bs
+  pub tally_behind : (o : Option B) (bs : List B) → tally f (behind o bs) ≡ tally f (behind o []) + tally f bs
   tally_behind None bs = omega arith
   tally_behind (Some b) bs = omega arith
 
-  tally_reverse : (bs : List B) → tally f (reverse bs) ≡ tally f bs
+  pub tally_reverse : (bs : List B) → tally f (reverse bs) ≡ tally f bs
   tally_reverse [] = refl
   tally_reverse (b ∷ bs) = omega (arith, tally_reverse bs, tally_append f (reverse bs) (b ∷ []), ap (tally f) (reverse-append (b ∷ []) bs))
 
@@ -25,43 +25,36 @@ module _ {B : Type 0} (f : B → ℕ) where
 
   call_keeps : (c : Call B) (s t : Whereabouts B) → Does c s t →
       at t + (tally f (lost (c ∷ [])) + tally f s.fetched) ≡ at s + (tally f (gained (c ∷ [])) + tally f t.fetched)
-  call_keeps (Gets batch first) s t d =
-      let user : tally f t.with_user ≡ tally f (behind first s.with_user) = ap (λ z. tally f z.with_user) d.3 in
-      let back : tally f t.put_back ≡ tally f s.put_back = ap (λ z. tally f z.put_back) d.3 in
-      let more : tally f t.fetched ≡ tally f (s.fetched ++ reverse batch) = ap (λ z. tally f z.fetched) d.3 in
-      omega (arith, user, back, more, ap (tally f) d.1, tally_append f s.local batch, tally_behind first t.local, tally_behind first s.with_user, tally_append f s.fetched (reverse batch), tally_reverse batch)
+  call_keeps (Gets b) s t d =
+      omega (arith, ap (tally f) d.0, ap (λ z. tally f z.with_user) d.1, ap (λ z. tally f z.put_back) d.1, ap (λ z. tally f z.fetched) d.1)
+  call_keeps (Fetches batch first) s t d =
+      let user : tally f t.with_user ≡ tally f (behind first s.with_user) = ap (λ z. tally f z.with_user) d.5 in
+      let back : tally f t.put_back ≡ tally f s.put_back = ap (λ z. tally f z.put_back) d.5 in
+      let more : tally f t.fetched ≡ tally f (s.fetched ++ reverse batch) = ap (λ z. tally f z.fetched) d.5 in
+      omega (arith, user, back, more, ap (tally f) d.2, ap (tally f) d.3, tally_behind first t.local, tally_behind first s.with_user, tally_append f s.fetched (reverse batch), tally_reverse batch)
   call_keeps (Puts b) s t d =
-      omega (arith, tally_without b s.with_user t.with_user d.0, ap (λ z. tally f z.local) d.1, ap (λ z. tally f z.put_back) d.1, ap (λ z. tally f z.fetched) d.1)
+      omega (arith, tally_without b s.with_user t.with_user d.1, ap (λ z. tally f z.local) d.2, ap (λ z. tally f z.put_back) d.2, ap (λ z. tally f z.fetched) d.2)
   call_keeps (PutsRemote b) s t d =
-      omega (arith, tally_without b s.with_user t.with_user d.0, ap (λ z. tally f z.local) d.1, ap (λ z. tally f z.put_back) d.1, ap (λ z. tally f z.fetched) d.1, tally_append f s.put_back (b ∷ []))
-  call_keeps HandsBack s t d = omega (arith, ap at d.1, ap (λ z. tally f z.fetched) d.1)
-  call_keeps (Idles k) s t d = omega (arith, ap at d.1, ap (λ z. tally f z.fetched) d.1)
+      omega (arith, tally_without b s.with_user t.with_user d.1, ap (λ z. tally f z.local) d.2, ap (λ z. tally f z.put_back) d.2, ap (λ z. tally f z.fetched) d.2, tally_append f s.put_back (b ∷ []))
+  call_keeps HandsBack s t d = omega (arith, ap at d.2, ap (λ z. tally f z.fetched) d.2)
+  call_keeps Opens s t d = omega (arith, ap at d.3, ap (λ z. tally f z.fetched) d.3)
   call_keeps Finishes s t d =
-      omega (arith, ap (λ z. tally f z.with_user) d, ap (λ z. tally f z.local) d, ap (λ z. tally f z.put_back) d, ap (λ z. tally f z.fetched) d, tally_append f s.with_user s.local)
+      omega (arith, ap (λ z. tally f z.with_user) d.3, ap (λ z. tally f z.local) d.3, ap (λ z. tally f z.put_back) d.3, ap (λ z. tally f z.fetched) d.3, tally_append f (reverse s.local) s.with_user, tally_reverse s.local)
+  call_keeps (Splits n) s t d = omega (arith, ap at d.2, ap (λ z. tally f z.fetched) d.2)
+  call_keeps Joins s t d = omega (arith, ap at d.2, ap (λ z. tally f z.fetched) d.2)
+  call_keeps (Idles k) s t d = omega (arith, ap at d.1, ap (λ z. tally f z.fetched) d.1)
   call_keeps (Gains b) s t d =
       omega (arith, ap (λ z. tally f z.with_user) d, ap (λ z. tally f z.local) d, ap (λ z. tally f z.put_back) d, ap (λ z. tally f z.fetched) d)
   call_keeps (Loses b) s t d =
       omega (arith, tally_without b s.with_user t.with_user d.0, ap (λ z. tally f z.local) d.1, ap (λ z. tally f z.put_back) d.1, ap (λ z. tally f z.fetched) d.1)
 
   lost_first : (c : Call B) (cs : List (Call B)) → tally f (lost (c ∷ cs)) ≡ tally f (lost (c ∷ [])) + tally f (lost cs)
-  lost_first (Gets batch first) cs = omega arith
-  lost_first (Puts b) cs = omega arith
-  lost_first (PutsRemote b) cs = omega arith
-  lost_first HandsBack cs = omega arith
-  lost_first (Idles k) cs = omega arith
-  lost_first Finishes cs = omega arith
-  lost_first (Gains b) cs = omega arith
   lost_first (Loses b) cs = omega arith
+  lost_first c cs = omega arith
 
   gained_first : (c : Call B) (cs : List (Call B)) → tally f (gained (c ∷ cs)) ≡ tally f (gained (c ∷ [])) + tally f (gained cs)
-  gained_first (Gets batch first) cs = omega arith
-  gained_first (Puts b) cs = omega arith
-  gained_first (PutsRemote b) cs = omega arith
-  gained_first HandsBack cs = omega arith
-  gained_first (Idles k) cs = omega arith
-  gained_first Finishes cs = omega arith
   gained_first (Gains b) cs = omega arith
-  gained_first (Loses b) cs = omega arith
+  gained_first c cs = omega arith
 
   -- of one user, what it has, what is local, what it put back and what it let go of is what it had, what it came by and what
   -- it took of what is shared
@@ -73,8 +66,8 @@ module _ {B : Type 0} (f : B → ℕ) where
 
 module _ {B : Type 0} (f : B → ℕ) where
   all_kept : (users : List (Story B)) →
-      tally (λ u. tally f u.end.with_user + tally f u.end.local) users + (tally (λ u. tally f u.end.put_back) users + tally (λ u. tally f (lost u.calls)) users)
-      ≡ at_start f users + (tally (λ u. tally f (gained u.calls)) users + tally (λ u. tally f u.end.fetched) users)
+      at_end f users + (tally (λ u. tally f u.end.put_back) users + all_lost f users)
+      ≡ at_start f users + (all_gained f users + tally (λ u. tally f u.end.fetched) users)
   all_kept [] = omega arith
   all_kept (u ∷ users) =
       omega (arith, all_kept users, kept f u.calls u.start u.end u.runs, ap (tally f) u.new.0, ap (tally f) u.new.1)
@@ -83,8 +76,7 @@ module _ {P H B : Type 0} (block : H → B) (f : B → ℕ) where
   -- of all users together, what is with them, local and held, and what they let go of, is what was there at the start, and what
   -- they came by
   pub each_once : (users : List (Story B)) (h : List (Event P H)) → IsOf block users h →
-      everywhere block f users h + tally (λ u. tally f (lost u.calls)) users
-      ≡ at_start f users + tally (λ u. tally f (gained u.calls)) users
+      everywhere block f users h + all_lost f users ≡ at_start f users + all_gained f users
   each_once users h is =
       let g : H → ℕ = λ e. f (block e) in
       omega (arith, all_kept f users, is.pushed f, is.took f, ap (tally g) (nothing_lost h is.legal), tally_append g (taken h) (held h))

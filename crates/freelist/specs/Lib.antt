@@ -1,2 +1,3 @@
 pub mod Blocks
+pub mod Users
 pub mod Whereabouts

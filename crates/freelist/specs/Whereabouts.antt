@@ -1,36 +1,44 @@
 -- Where the blocks of a free list are, and what calls do to that: of one user, over a list of calls, and of all users.
-use Rattle.std.specs.Prelude.{◌≡◌, ◌≢◌, ℕ, suc, ◌+◌, List, [], ◌∷◌, ◌++◌, length, map, reverse, Option, Some, None, ◌⊎◌}
+use Rattle.std.specs.Prelude.{◌≡◌, ◌≢◌, ℕ, suc, ◌+◌, ◌-◌, ◌<◌, ◌≤◌, List, [], ◌∷◌, ◌++◌, length, reverse, Option, Some, None, IsSome, ◌⊎◌}
 use Rattle.cordyceps_shared.specs.Counts.{tally}
-use Rattle.cordyceps_base.specs.Element.{Element}
-use Rattle.cordyceps_shared.specs.Shares.{Name}
-use Rattle.cordyceps_stack.specs.TransferHistory.{Event, Load, Push, Taken, Legal, held, pushes, taken}
-use Rattle.cordyceps_stack.specs.TransferStanding.{PartyOf, Adds}
-use Rattle.freelist.specs.Blocks.{LocalOf}
+use Rattle.cordyceps_stack.specs.TransferHistory.{Event, Legal, held, pushes, taken}
 use Rattle.freelist.specs.declared.laws.Command.{Command}
 use Rattle.freelist.specs.declared.laws.Command.TheVariants as kinds
 
 -- where the blocks are that came by a user: they are with it, or in its local part, the last put back first; or it put them
--- back remotely. And which ones it took of what is shared, the oldest first
+-- back remotely. Which ones it took of what is shared, the oldest first. And how many rooms its parties have: the one that
+-- puts back remotely, that of its local part, if it has one, and a spare one, if there is one
 pub record Whereabouts (B : Type 0) : Type 0 where
   pub with_user : List B
   pub local : List B
   pub put_back : List B
   pub fetched : List B
+  pub rooms : ℕ
+  pub local_rooms : Option ℕ
+  pub spare_rooms : Option ℕ
 
 -- what was done, and what it answered
 pub data Call (B : Type 0) : Type 0 where
-  -- `get` took this batch, the newest first, where no block was local, and answered the first block
-  Gets : List B → Option B → Call B
+  -- `get`, which answered the first local block
+  Gets : B → Call B
+  -- `get`, which found no local block, took this batch of what is shared, the newest first, and answered its first block
+  Fetches : List B → Option B → Call B
   -- `put`
   Puts : B → Call B
   -- `put_remote`, which answered `Ok`
   PutsRemote : B → Call B
   -- `put_remote`, which handed the block back
   HandsBack : Call B
-  -- nothing, for this command, since its user had no block
-  Idles : Command → Call B
-  -- `finish`
+  -- `local`, with the spare party
+  Opens : Call B
+  -- `finish`, which makes the party the spare one
   Finishes : Call B
+  -- `split`, which makes a spare party with so many rooms
+  Splits : ℕ → Call B
+  -- `absorb`, of the spare party
+  Joins : Call B
+  -- nothing, for this command, since it could not be carried out
+  Idles : Command → Call B
   -- the user came by a block from elsewhere
   Gains : B → Call B
   -- the user let go of a block
@@ -49,19 +57,51 @@ module _ {B : Type 0} where
     pub old_is : old ≡ before ++ b ∷ after
     pub new_is : new ≡ before ++ after
 
+  -- a command cannot be carried out: there is no block, no room, or no party for it, or there is such a part already
+  abbrev pub Lacks : Command → Whereabouts B → Type 0
+  Lacks kinds.Get s = s.local_rooms ≡ None
+  Lacks kinds.Put s = (s.with_user ≡ []) ⊎ (s.local_rooms ≡ None)
+  Lacks kinds.PutRemote s = (s.with_user ≡ []) ⊎ (s.rooms ≡ 0)
+  Lacks kinds.Open s = IsSome s.local_rooms ⊎ (s.spare_rooms ≡ None)
+  Lacks kinds.Finish s = (s.local_rooms ≡ None) ⊎ IsSome s.spare_rooms
+  Lacks (kinds.Split n) s = (s.rooms < n) ⊎ IsSome s.spare_rooms
+  Lacks kinds.Absorb s = s.spare_rooms ≡ None
+
   -- a call leads from one state to another
   abbrev pub Does : Call B → Whereabouts B → Whereabouts B → Type 0
-  Does (Gets batch first) s t =
-      (s.local ≢ [] → batch ≡ [])
-      × (s.local ++ batch ≡ behind first t.local)
+  Does (Gets b) s t =
+      (s.local ≡ b ∷ t.local) × (t ≡ record s { with_user = b ∷ s.with_user; local = t.local })
+  Does (Fetches batch first) s t =
+      (n : ℕ)
+      × (s.local_rooms ≡ Some n)
+      × (s.local ≡ [])
+      × (batch ≡ behind first t.local)
       × (first ≡ None → t.local ≡ [])
-      × (t ≡ record s { with_user = behind first s.with_user; local = t.local; fetched = s.fetched ++ reverse batch })
-  Does (Puts b) s t = Without b s.with_user t.with_user × (t ≡ record s { with_user = t.with_user; local = b ∷ s.local })
+      × (t ≡ record s { with_user = behind first s.with_user; local = t.local; local_rooms = Some (n + length batch); fetched = s.fetched ++ reverse batch })
+  Does (Puts b) s t =
+      IsSome s.local_rooms
+      × Without b s.with_user t.with_user
+      × (t ≡ record s { with_user = t.with_user; local = b ∷ s.local })
   Does (PutsRemote b) s t =
-      Without b s.with_user t.with_user × (t ≡ record s { with_user = t.with_user; put_back = s.put_back ++ b ∷ [] })
-  Does HandsBack s t = (s.with_user ≢ []) × (t ≡ s)
-  Does (Idles k) s t = (s.with_user ≡ []) × (t ≡ s)
-  Does Finishes s t = t ≡ record s { with_user = s.with_user ++ s.local; local = [] }
+      (s.rooms ≡ suc t.rooms)
+      × Without b s.with_user t.with_user
+      × (t ≡ record s { with_user = t.with_user; put_back = s.put_back ++ b ∷ []; rooms = t.rooms })
+  Does HandsBack s t = (0 < s.rooms) × (s.with_user ≢ []) × (t ≡ s)
+  Does Opens s t =
+      (n : ℕ)
+      × (s.spare_rooms ≡ Some n)
+      × (s.local_rooms ≡ None)
+      × (t ≡ record s { local_rooms = Some n; spare_rooms = None })
+  Does Finishes s t =
+      (n : ℕ)
+      × (s.local_rooms ≡ Some n)
+      × (s.spare_rooms ≡ None)
+      × (t ≡ record s { with_user = reverse s.local ++ s.with_user; local = []; local_rooms = None; spare_rooms = Some n })
+  Does (Splits n) s t =
+      (n ≤ s.rooms) × (s.spare_rooms ≡ None) × (t ≡ record s { rooms = s.rooms - n; spare_rooms = Some n })
+  Does Joins s t =
+      (n : ℕ) × (s.spare_rooms ≡ Some n) × (t ≡ record s { rooms = s.rooms + n; spare_rooms = None })
+  Does (Idles k) s t = Lacks k s × (t ≡ s)
   Does (Gains b) s t = t ≡ record s { with_user = b ∷ s.with_user }
   Does (Loses b) s t = Without b s.with_user t.with_user × (t ≡ record s { with_user = t.with_user })
 
@@ -83,26 +123,34 @@ module _ {B : Type 0} where
 
   -- the command that a call carries out, if it does
   abbrev pub command_of : Call B → Option Command
-  command_of (Gets batch first) = Some kinds.Get
+  command_of (Gets b) = Some kinds.Get
+  command_of (Fetches batch first) = Some kinds.Get
   command_of (Puts b) = Some kinds.Put
   command_of (PutsRemote b) = Some kinds.PutRemote
   command_of HandsBack = Some kinds.PutRemote
+  command_of Opens = Some kinds.Open
+  command_of Finishes = Some kinds.Finish
+  command_of (Splits n) = Some (kinds.Split n)
+  command_of Joins = Some kinds.Absorb
   command_of (Idles k) = Some k
   command_of c = None
 
-  -- how often a block was to be put back, with or without success
+  -- how often a block was to be put back remotely, with or without success
   abbrev pub attempts : List (Call B) → ℕ
   attempts [] = 0
   attempts (PutsRemote b ∷ cs) = suc (attempts cs)
   attempts (HandsBack ∷ cs) = suc (attempts cs)
   attempts (c ∷ cs) = attempts cs
 
--- how often a party looked at what is shared
-abbrev pub looks : {P H : Type 0} → List (Event P H) → ℕ
-looks [] = 0
-looks (Load p ∷ h) = suc (looks h)
-looks (Push p e ∷ h) = looks h
-looks (Taken p batch ∷ h) = looks h
+  -- how often a block was to be got where none was local
+  abbrev pub fetches : List (Call B) → ℕ
+  fetches [] = 0
+  fetches (Fetches batch first ∷ cs) = suc (fetches cs)
+  fetches (c ∷ cs) = fetches cs
+
+-- the same blocks, each as often: whatever f gives for each, its sums are the same
+abbrev pub SameBlocks : {B : Type 0} → List B → List B → Type 0
+SameBlocks {B} xs ys = (f : B → ℕ) → tally f xs ≡ tally f ys
 
 -- what a user did, from the beginning on
 pub record Story (B : Type 0) : Type 0 where
@@ -112,9 +160,20 @@ pub record Story (B : Type 0) : Type 0 where
   pub runs : Run calls start end
   pub new : (start.put_back ≡ []) × (start.fetched ≡ [])
 
--- the sum of what f gives for each block with a user or local, at the start
-abbrev pub at_start : {B : Type 0} → (B → ℕ) → List (Story B) → ℕ
-at_start f users = tally (λ u. tally f u.start.with_user + tally f u.start.local) users
+module _ {B : Type 0} (f : B → ℕ) where
+  -- the sum of what f gives for each block with a user or local, at the start and at the end
+  abbrev pub at_start : List (Story B) → ℕ
+  at_start users = tally (λ u. tally f u.start.with_user + tally f u.start.local) users
+
+  abbrev pub at_end : List (Story B) → ℕ
+  at_end users = tally (λ u. tally f u.end.with_user + tally f u.end.local) users
+
+  -- the same for each block that users came by, and for each that they let go of
+  abbrev pub all_gained : List (Story B) → ℕ
+  all_gained users = tally (λ u. tally f (gained u.calls)) users
+
+  abbrev pub all_lost : List (Story B) → ℕ
+  all_lost users = tally (λ u. tally f (lost u.calls)) users
 
 module _ {P H B : Type 0} (block : H → B) where
   -- a legal history, whose pushes and takings are those of these users
@@ -123,28 +182,6 @@ module _ {P H B : Type 0} (block : H → B) where
     pub pushed : (f : B → ℕ) → tally (λ e. f (block e)) (pushes h) ≡ tally (λ u. tally f u.end.put_back) users
     pub took : (f : B → ℕ) → tally (λ e. f (block e)) (taken h) ≡ tally (λ u. tally f u.end.fetched) users
 
-  -- that sum at the end, and of what is held
+  -- the sum at the end, and of what is held
   abbrev pub everywhere : (B → ℕ) → List (Story B) → List (Event P H) → ℕ
-  everywhere f users h =
-      tally (λ u. tally f u.end.with_user + tally f u.end.local) users + tally (λ e. f (block e)) (held h)
-
-module _ {T H : Type 0} (element : H → Element T) where
-  -- a party made these events, or none and is as it was
-  abbrev pub Acts : PartyOf H → List (Event Name H) → PartyOf H → Type 0
-  Acts u es w = ((es ≡ []) × (w ≡ u)) ⊎ Adds u es w
-
-  -- the whereabouts of a user's blocks after its parties made these events
-  abbrev pub after : List (Element T) → LocalOf T H → List (Event Name H) → List (Event Name H) → Whereabouts (Element T)
-  after hand l puts gets =
-      record { with_user = hand; local = l.blocks; put_back = map element (pushes puts); fetched = map element (taken gets) }
-
-  -- a user with a stack of blocks, a local part and a party carried out these commands, by one call each, and did nothing else
-  pub record CarriesOut (ks : List Command) (hand : List (Element T)) (l : LocalOf T H) (p : PartyOf H) (hand2 : List (Element T)) (l2 : LocalOf T H) (p2 : PartyOf H) : Type 0 where
-    pub calls : List (Call (Element T))
-    pub puts : List (Event Name H)
-    pub gets : List (Event Name H)
-    pub carries : map command_of calls ≡ map Some ks
-    pub runs : Run calls (after hand l [] []) (after hand2 l2 puts gets)
-    pub tried : looks puts ≡ attempts calls
-    pub party : Acts p puts p2 × (p.rooms ≡ p2.rooms + length (pushes puts))
-    pub owner : Acts l.party gets l2.party × (l2.party.rooms ≡ l.party.rooms + length (taken gets))
+  everywhere f users h = at_end f users + tally (λ e. f (block e)) (held h)

@@ -1,7 +1,10 @@
 //! The law of free lists: over every list of calls each block is in one place.
-ghost use Rattle.std.specs.Prelude.{◌≡◌, ◌<◌, ◌≤◌, [], ◌∷◌, length};
-ghost use Rattle.freelist.specs.Blocks.{LocalOf};
-ghost use Rattle.freelist.specs.Whereabouts.{CarriesOut};
+ghost use Rattle.std.specs.Prelude.{◌≡◌, ◌≤◌, [], ◌∷◌, ◌++◌, map, reverse, List, None, IfOk};
+ghost use Rattle.cordyceps_shared.specs.Histories.{plain};
+ghost use Rattle.cordyceps_shared.specs.Shares.{whole};
+ghost use Rattle.cordyceps_stack.specs.TransferHistory.{held};
+ghost use Rattle.freelist.specs.Users.{alone, closing, CarriesOut, BothCarryOut, BothRun};
+ghost use Rattle.freelist.specs.Users.{Life, all_parties, Knows, Met, EachOnce};
 ghost use Rattle.freelist.specs.declared.laws.Command.TheVariants as kinds;
 
 use crate::free_list::FreeList;
@@ -9,75 +12,258 @@ use crate::local::Local;
 use cordyceps_base::linked::Linked;
 use cordyceps_base::stack::Links;
 use cordyceps_stack::stack::{Party, Stack};
+use std::alloc::{AllocError, Global};
+use std::marker::Model;
 
-/// What a user of a free list does next.
+/// What a user of a free list does next. Where it lacks what a command needs, it does nothing.
 #[derive(Clone, Copy, PartialEq, Eq, Debug)]
 pub enum Command {
-    /// Takes a block out of its local part.
+    /// Takes a block out of its local part, which it needs.
     Get,
-    /// Puts the block that it had last into its local part, if it has one.
+    /// Puts the block that it had last into its local part. It needs both.
     Put,
-    /// Tries once to put that block back for all, if it has one.
+    /// Tries once to put that block back for all. It needs a block, and a room of its party's.
     PutRemote,
+    /// Makes a local part of the spare party, which it needs. It may have no local part yet.
+    Open,
+    /// Ends its local part, which it needs: takes the blocks, and makes the party the spare one. There may be no spare
+    /// party yet.
+    Finish,
+    /// Splits a spare party with so many rooms off its own, which needs as many. There may be no spare party yet.
+    Split(usize),
+    /// Has its party absorb the spare one, which it needs.
+    Absorb,
 }
 
-/// Tries once to put the block back that the user had last, if it has one.
-fn put_back<T: Linked<Links<T>>>(list: &FreeList<T>, party: &mut Party<T>, hand: &mut Stack<T>)
-    requires table { party.old.table ≡ list.now }
-    requires room { 0 < party.old.rooms }
-    ensures { (l : LocalOf T T.Handle) → CarriesOut T.element (kinds.PutRemote ∷ []) hand.old l party.old hand.new l party.new }
+/// A user of a free list: blocks that are with it, perhaps a local part, a party that puts back remotely, and perhaps a
+/// spare party. A contract sees these, and its free list's table. A drop frees the blocks, and ends the parties.
+#[derive(Drop)]
+pub struct User<'a, T: Linked<Links<T>>> {
+    list: &'a FreeList<T>,
+    hand: Stack<T>,
+    local: Option<Local<'a, T>>,
+    party: Party<T>,
+    spare: Option<Party<T>>,
+}
+
+impl<'a, T: Linked<Links<T>>> Model for User<'a, T> {
+    ghost use Rattle.freelist.specs.Users.{UserOf, AreAt};
+
+    ghost Value = { UserOf T T.Handle };
+
+    ghost view = { λ u.
+        record { table = u.list.now; hand = u.hand; local = u.local; party = u.party; spare = u.spare } };
+
+    ghost invariant = { λ u. AreAt u.list.now u.party u.local u.spare };
+}
+
+/// Puts blocks on others, one after the other.
+fn pile<T: Linked<Links<T>>>(hand: &mut Stack<T>, blocks: Stack<T>)
+    ensures { hand.new ≡ reverse blocks ++ hand.old }
 {
-    if let Some(handle) = hand.pop() {
-        if let Err(back) = list.put_remote(party, handle) {
-            hand.push(back);
-        }
+    let mut blocks = blocks;
+    while let Some(handle) = blocks.pop() {
+        hand.push(handle);
     }
 }
 
-/// Carries out a command, as `carry_out` does.
-fn step<T: Linked<Links<T>>>(
-    list: &FreeList<T>,
-    local: &mut Local<'_, T>,
-    party: &mut Party<T>,
-    hand: &mut Stack<T>,
-    command: Command,
-)
-    requires table { party.old.table ≡ list.now }
-    requires room { 0 < party.old.rooms }
-    ensures { CarriesOut T.element (command ∷ []) hand.old local.old party.old hand.new local.new party.new }
-{
-    match command {
-        Command::Get => {
+impl<'a, T: Linked<Links<T>>> User<'a, T> {
+    /// A user with these blocks and this party.
+    pub fn new(list: &'a FreeList<T>, hand: Stack<T>, party: Party<T>) -> User<'a, T>
+        requires { party.table ≡ list.now }
+        ensures { result ≡ alone list.now hand party }
+    {
+        User {
+            list,
+            hand,
+            local: None,
+            party,
+            spare: None,
+        }
+    }
+
+    fn get(&mut self)
+        ensures { CarriesOut T.element (kinds.Get ∷ []) self.old self.new }
+    {
+        if let Some(local) = &mut self.local {
             if let Some(handle) = local.get() {
-                hand.push(handle);
+                self.hand.push(handle);
             }
         }
-        Command::Put => {
-            if let Some(handle) = hand.pop() {
+    }
+
+    fn put(&mut self)
+        ensures { CarriesOut T.element (kinds.Put ∷ []) self.old self.new }
+    {
+        if let Some(local) = &mut self.local {
+            if let Some(handle) = self.hand.pop() {
                 local.put(handle);
             }
         }
-        Command::PutRemote => put_back(list, party, hand),
+    }
+
+    fn put_remote(&mut self)
+        ensures { CarriesOut T.element (kinds.PutRemote ∷ []) self.old self.new }
+    {
+        if self.party.rooms() > 0 {
+            if let Some(handle) = self.hand.pop() {
+                if let Err(back) = self.list.put_remote(&mut self.party, handle) {
+                    self.hand.push(back);
+                }
+            }
+        }
+    }
+
+    fn open(&mut self)
+        ensures { CarriesOut T.element (kinds.Open ∷ []) self.old self.new }
+    {
+        if self.local.is_none() {
+            if let Some(party) = self.spare.take() {
+                self.local = Some(self.list.local(party));
+            }
+        }
+    }
+
+    fn finish(&mut self)
+        ensures carries { CarriesOut T.element (kinds.Finish ∷ []) self.old self.new }
+        ensures finished { self.old.spare ≡ None → self.new.local ≡ None }
+    {
+        if self.spare.is_none() {
+            if let Some(local) = self.local.take() {
+                let (blocks, party) = local.finish();
+                pile(&mut self.hand, blocks);
+                self.spare = Some(party);
+            }
+        }
+    }
+
+    fn split(&mut self, rooms: usize)
+        ensures { CarriesOut T.element (kinds.Split rooms ∷ []) self.old self.new }
+    {
+        if self.spare.is_none() && rooms <= self.party.rooms() {
+            self.spare = Some(self.list.split(&mut self.party, rooms));
+        }
+    }
+
+    fn absorb(&mut self)
+        ensures carries { CarriesOut T.element (kinds.Absorb ∷ []) self.old self.new }
+        ensures absorbed { (self.new.spare ≡ None) × (self.new.local ≡ self.old.local) }
+    {
+        if let Some(spare) = self.spare.take() {
+            self.list.absorb(&mut self.party, spare);
+        }
+    }
+
+    fn step(&mut self, command: Command)
+        ensures { CarriesOut T.element (command ∷ []) self.old self.new }
+    {
+        match command {
+            Command::Get => self.get(),
+            Command::Put => self.put(),
+            Command::PutRemote => self.put_remote(),
+            Command::Open => self.open(),
+            Command::Finish => self.finish(),
+            Command::Split(rooms) => self.split(rooms),
+            Command::Absorb => self.absorb(),
+        }
     }
 }
 
-/// Carries out commands, one after the other, for a user with a stack of blocks, a local part and a party, whatever other
-/// users do meanwhile. Each block is with the user, in the local part, or was put back; none is lost, and none is there
-/// twice.
-///
-/// With `each_once` of the public proofs the same holds of all users together.
-pub fn carry_out<T: Linked<Links<T>>>(
-    list: &FreeList<T>,
-    local: &mut Local<'_, T>,
-    party: &mut Party<T>,
-    hand: &mut Stack<T>,
-    commands: &[Command],
-)
-    requires table { party.old.table ≡ list.now }
-    requires rooms { length commands.now ≤ party.old.rooms }
-    ensures { CarriesOut T.element commands.now hand.old local.old party.old hand.new local.new party.new }
+/// Carries out commands, one after the other, whatever other users do meanwhile. Each block is with the user, in its
+/// local part, or was put back; none is lost, and none is there twice.
+pub fn carry_out<T: Linked<Links<T>>>(user: &mut User<'_, T>, commands: &[Command])
+    ensures { CarriesOut T.element commands.now user.old user.new }
 {
     for command in commands {
-        step(list, local, party, hand, *command);
+        user.step(*command);
     }
+}
+
+/// Ends a user: gives all blocks that are with it and in its local part, and one party, which absorbed its others.
+pub fn retire<T: Linked<Links<T>>>(user: User<'_, T>) -> (Stack<T>, Party<T>)
+    ensures carries { CarriesOut T.element closing user.entry (alone user.entry.table result.0 result.1) }
+    ensures table { result.1.table ≡ user.entry.table }
+{
+    let mut user = user;
+    user.absorb();
+    user.finish();
+    user.absorb();
+    let User {
+        list: _,
+        hand,
+        local: _,
+        party,
+        spare: _,
+    } = user;
+    (hand, party)
+}
+
+/// Ends a free list as `close` does. If its party absorbed those of all users, then each block is with a user, in a
+/// local part or among the blocks that this gives, in one of them only.
+pub fn close_all<T: Linked<Links<T>>>(list: FreeList<T>, party: Party<T>) -> Stack<T>
+    requires table { party.table ≡ list }
+    requires whole { party.share ≡ whole }
+    ensures shared { result ≡ map T.element (reverse (held (plain party.seen))) }
+    ensures once { (lives : List (Life T.element))
+        → Met (all_parties T.element lives) party
+        → Knows party
+        → EachOnce T.element lives result }
+{
+    list.close(party)
+}
+
+/// Which of two users does what next.
+#[derive(Clone, Copy, PartialEq, Eq, Debug)]
+pub enum Turn {
+    /// The first carries out a command.
+    First(Command),
+    /// The second does.
+    Second(Command),
+}
+
+fn take_turn<T: Linked<Links<T>>>(first: &mut User<'_, T>, second: &mut User<'_, T>, turn: Turn)
+    ensures { BothCarryOut T.element (turn ∷ []) first.old first.new second.old second.new }
+{
+    match turn {
+        Turn::First(command) => first.step(command),
+        Turn::Second(command) => second.step(command),
+    }
+}
+
+/// Carries out the commands of two users in turn.
+pub fn take_turns<T: Linked<Links<T>>>(
+    first: &mut User<'_, T>,
+    second: &mut User<'_, T>,
+    turns: &[Turn],
+)
+    ensures { BothCarryOut T.element turns.now first.old first.new second.old second.new }
+{
+    for turn in turns {
+        take_turn(first, second, *turn);
+    }
+}
+
+/// Makes a free list with two users, each with its blocks and so many rooms, carries out their commands in turn, and
+/// ends the users and the list. Gives the blocks that are with the first then, with the second, and shared: together
+/// they are the blocks that both had.
+///
+/// `AllocError` where `new` answers that; the blocks are dropped then.
+pub fn run_both<T: Linked<Links<T>>>(
+    alloc: Global,
+    rooms: usize,
+    hands: (Stack<T>, Stack<T>),
+    turns: &[Turn],
+) -> Result<(Stack<T>, Stack<T>, Stack<T>), AllocError>
+    requires { rooms ≤ 524288 }
+    ensures { IfOk result (λ given. BothRun T.element turns.now rooms hands.0 hands.1 given.0 given.1 given.2) }
+{
+    let (list, mut party) = FreeList::new(alloc, 2 * rooms)?;
+    let other = list.split(&mut party, rooms);
+    let mut first = User::new(&list, hands.0, party);
+    let mut second = User::new(&list, hands.1, other);
+    take_turns(&mut first, &mut second, turns);
+    let (left, mut last) = retire(first);
+    let (right, absorbed) = retire(second);
+    list.absorb(&mut last, absorbed);
+    Ok((left, right, close_all(list, last)))
 }

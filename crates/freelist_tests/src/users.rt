@@ -5,7 +5,6 @@ use crate::blocks::Handle;
 use crate::compared::same;
 use cordyceps_testing::counted::Counted;
 use cordyceps_testing::nodes::number;
-use freelist::laws::{Command, carry_out};
 use freelist::{FreeList, Local, Party, Stack};
 use std::process::Abort;
 use std::thread;
@@ -112,18 +111,5 @@ impl<'f> Remote<'f> {
     pub fn local(self) -> Local<'f, Counted> {
         let Remote { list, party } = self;
         list.local(party)
-    }
-
-    /// Carries out commands for a user of this party.
-    pub fn carry_out(
-        self,
-        rt: &impl Abort,
-        local: &mut Local<'_, Counted>,
-        hand: &mut Stack<Counted>,
-        commands: &[Command],
-    ) {
-        let Remote { list, mut party } = self;
-        assert!(rt; party.rooms() >= commands.len());
-        carry_out(list, local, &mut party, hand, commands);
     }
 }
