@@ -8,3 +8,4 @@ pub use Rattle.cordyceps_queue.specs.declared.steps.TryDequeueError.TheVariants.
 pub use Rattle.cordyceps_queue.specs.QueueMachine.{Machine, Answered, stepped}
 pub use Rattle.cordyceps_queue.specs.QueueCore.{core_step, new_machine, with_party, with_room}
 pub use Rattle.cordyceps_queue.specs.QueueAlone.{enqueue_steps, is_ready, may_dequeue, dequeued, found_of}
+pub use Rattle.cordyceps_queue.specs.QueueDrained.{may_drain, drained_at, batch_of, given}

@@ -18,9 +18,9 @@ abbrev pub Drained : Type 0 → Type 0
 Drained E = Machine E × List E × Option TryDequeueError
 
 -- a party at this place may take a batch of at most n elements
-abbrev pub may_take : ℕ → Option Place → Bool
-may_take zero place = false
-may_take (suc n) place = may_dequeue place
+abbrev pub may_drain : ℕ → Option Place → Bool
+may_drain zero place = false
+may_drain (suc n) place = may_dequeue place
 
 abbrev pub is_cleared : Place → Bool
 is_cleared (Cleared r) = true

@@ -2,7 +2,7 @@
 ghost use Rattle.std.specs.Prelude.{◌≡◌, ◌≢◌, ◌++◌, ◌↔◌, ◌≤◌, ℕ, [], List, Some, Err, slice_get, length, IfOk, IfErr, OnOk, OnErr, IsFalse, is_ok};
 ghost use Rattle.cordyceps_base.specs.Runs.{after};
 ghost use Rattle.cordyceps_queue.specs.QueueAlone.{is_ready, may_dequeue, enqueue_steps, dequeued, found_of, dequeue_events, Enqueued, Finds, LooksBlocked};
-ghost use Rattle.cordyceps_queue.specs.QueueDrained.{may_take, drained_at, given, batch_of, batch_events, oldest, NobodyPending, NobodyElse, Drains};
+ghost use Rattle.cordyceps_queue.specs.QueueDrained.{may_drain, drained_at, given, batch_of, batch_events, oldest, NobodyPending, NobodyElse, Drains};
 ghost use Rattle.cordyceps_queue.specs.QueueHistory.{Event, holder, held};
 ghost use Rattle.cordyceps_queue.specs.QueueMachine.{stepped, is_there, element_of, step_events};
 ghost use Rattle.cordyceps_queue.specs.QueueCore.{CoreMeets, AnswerSays, core_step, new_machine, with_party, with_room};
@@ -128,6 +128,7 @@ impl<E: Drop> QueueCore<E> {
         }
         Ok(found(self.machine.dequeue(party)))
     }
+
     /// Takes elements out, oldest first, by tries of one party that runs alone, until `max` came out or a try gives none:
     /// these, or why the first try gave none. From rest it takes the right first and gives it back last; a party that holds
     /// the right does neither.
@@ -140,7 +141,7 @@ impl<E: Drop> QueueCore<E> {
         party: usize,
         max: usize,
     ) -> Result<Result<Vec<E>, TryDequeueError>, StepError>
-        ensures not_there { (result ≡ Err StepError.NotThere) ↔ IsFalse (may_take max (slice_get self.old.parties party)) }
+        ensures not_there { (result ≡ Err StepError.NotThere) ↔ IsFalse (may_drain max (slice_get self.old.parties party)) }
         ensures err { OnErr result (self.new ≡ self.old) }
         ensures ok { IfOk result (λ batch. let d = drained_at party max self.old (slice_get self.old.parties party) in
             (self.new ≡ d.0) × (given batch ≡ batch_of d.1 d.2)) }

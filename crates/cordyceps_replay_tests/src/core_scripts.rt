@@ -94,6 +94,33 @@ fn hostile_queue_scripts(rt: HostRuntime) {
 }
 
 #[test]
+fn queue_batches(rt: HostRuntime) {
+    let rows: [Row; 4] = [
+        (
+            b"party\nparty\nparty\nroom 0\nroom 0\nroom 1\nenq 0 1 1\nenq 0 2 2\nclear 1 3 3\nswap 1\nbatch 2 9\nbatch 2 9\nlink 1\nbatch 2 9\nbatch 2 9\nbatch 2 0\n",
+            b"party 0\nparty 1\nparty 2\nok\nok\nok\nok\nok\nok\nok\nshow 1:1\ninconsistent\nok\nshow 2:2 3:3\nempty\nnot there\n",
+            Ok(()),
+        ),
+        (
+            b"party\nparty\nparty\nroom 0\nroom 0\nroom 0\nenq 0 1 1\nenq 0 2 2\nenq 0 3 3\nbatch 2 2\nbatch 2 2\nbatch 3 2\n",
+            b"party 0\nparty 1\nparty 2\nok\nok\nok\nok\nok\nok\nshow 1:1 2:2\nshow 3:3\nnot there\n",
+            Ok(()),
+        ),
+        (
+            b"party\nparty\nroom 0\nenq 0 1 1\ntake 0\nbatch 1 1\nbatch 0 1\nbatch 1 0\nbatch 0 1\ngive 0\nbatch 1 1\n",
+            b"party 0\nparty 1\nok\nok\nok\nbusy\nshow 1:1\nnot there\nempty\nok\nempty\n",
+            Ok(()),
+        ),
+        (
+            b"party\nroom 0\nroom 0\nenq 0 1 1\nenq 0 2 20\nbatch 0 18446744073709551615\nenq 0 3 3\ntake 0\nnext 0\nnext 0\nbatch 0 1\nhead 0\n",
+            b"party 0\nok\nok\nok\nok\nshow 1:1 2:20\nok\nok\nok\nok\nnot there\nok\n",
+            Ok(()),
+        ),
+    ];
+    compare(&rt, rt.alloc(), Choice::Queue, &rows);
+}
+
+#[test]
 fn bad_transfer_lines(rt: HostRuntime) -> Result<(), Fail> {
     let bad: [&[u8]; 25] = [
         b"",
@@ -128,7 +155,7 @@ fn bad_transfer_lines(rt: HostRuntime) -> Result<(), Fail> {
 
 #[test]
 fn bad_queue_lines(rt: HostRuntime) -> Result<(), Fail> {
-    let bad: [&[u8]; 26] = [
+    let bad: [&[u8]; 32] = [
         b"",
         b"party 0",
         b"room",
@@ -153,6 +180,12 @@ fn bad_queue_lines(rt: HostRuntime) -> Result<(), Fail> {
         b"enq 0 1 1 1",
         b"deq",
         b"deq 0 0",
+        b"batch",
+        b"batch 0",
+        b"batch 0 ",
+        b"batch 0 01",
+        b"batch 0 1 1",
+        b"batch 0 18446744073709551616",
         b"push 0 1 1",
         b"takeall 0",
     ];

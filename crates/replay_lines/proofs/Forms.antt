@@ -11,7 +11,7 @@ use Rattle.std.proofs.lemmas.List.Splits.{slice_split_at, slice_split_none, join
 use Rattle.std.proofs.lemmas.Slice.Eq.{bytes_eq-Decides}
 use Rattle.cordyceps.specs.declared.replay.item.Item.{Item}
 use Rattle.replay_lines.specs.Words.{words, number_of, structure_number_of}
-use Rattle.replay_lines.specs.LineWords.{only_word_of, only, before, nothing_of, structure_of, value_of, item_of, two_structures_of, structure_and_value_of, structure_and_item_of, party_and_item_of, perhaps_item_of, party_and_perhaps_item_of, item_words, perhaps_item_words, HasItemNumbers, HasPerhapsItemNumbers}
+use Rattle.replay_lines.specs.LineWords.{only_word_of, only, before, nothing_of, structure_of, value_of, item_of, two_structures_of, structure_and_value_of, structure_and_item_of, party_and_number_of, party_and_item_of, perhaps_item_of, party_and_perhaps_item_of, item_words, perhaps_item_words, HasItemNumbers, HasPerhapsItemNumbers}
 use Rattle.replay_lines.proofs.Numbers.{is_numeral, numeral_read, numeral_digits, both, from_if}
 
 pub mapped : {A B : Type 0} (f : A → B) (o : Option A) (b : B) → option_map f o ≡ Some b → (a : A) × (o ≡ Some a) × (f a ≡ b)
@@ -140,21 +140,24 @@ two_structures_form = before_form structure_kind structure_form
 pub structure_and_value_form : IsForm structure_and_value_of (λ x. decimal x.0 ∷ decimal x.1 ∷ []) (λ x. (x.0 < 16) × (x.1 < 2 ^ 64))
 structure_and_value_form = before_form structure_kind value_form
 
+two_numbers_form : IsForm (before number_of value_of) (λ x. decimal x.0 ∷ decimal x.1 ∷ []) (λ x. (x.0 < 2 ^ 64) × (x.1 < 2 ^ 64))
+two_numbers_form = before_form number_kind value_form
+
+pub party_and_number_form : IsForm party_and_number_of (λ x. decimal x.0 ∷ decimal x.1 ∷ []) (λ x. (x.0 < 2 ^ 64) × (x.1 < 2 ^ 64))
+party_and_number_form = two_numbers_form
+
 pub item_form : IsForm item_of item_words HasItemNumbers
 item_form = record {
   sound = words_item;
-  complete = λ item can. ap (λ (o : Option (ℕ × ℕ)). option_map (λ x. record { value = x.1; id = x.0 }) o) (pair.complete (item.id, item.value) can);
-  ones = λ item can. pair.ones (item.id, item.value) can;
+  complete = λ item can. ap (λ (o : Option (ℕ × ℕ)). option_map (λ x. record { value = x.1; id = x.0 }) o) (two_numbers_form.complete (item.id, item.value) can);
+  ones = λ item can. two_numbers_form.ones (item.id, item.value) can;
 } where
-  pair : IsForm (before number_of value_of) (λ x. decimal x.0 ∷ decimal x.1 ∷ []) (λ x. (x.0 < 2 ^ 64) × (x.1 < 2 ^ 64))
-  pair = before_form number_kind value_form
-
   words_item : (ws : List (List ℕ)) (item : Item) → item_of ws ≡ Some item → (ws ≡ item_words item) × HasItemNumbers item
   words_item ws item is =
       let make : ℕ × ℕ → Item = λ x. record { value = x.1; id = x.0 } in
       let (x, found, made) = mapped make (before number_of value_of ws) item is in
       let P : Item → Type 0 = λ i. (ws ≡ item_words i) × HasItemNumbers i in
-      subst P made (pair.sound ws x found)
+      subst P made (two_numbers_form.sound ws x found)
 
 pub structure_and_item_form : IsForm structure_and_item_of (λ x. decimal x.0 ∷ item_words x.1) (λ x. (x.0 < 16) × HasItemNumbers x.1)
 structure_and_item_form = before_form structure_kind item_form

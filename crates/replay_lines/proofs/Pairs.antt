@@ -1,6 +1,6 @@
 -- Words that are pairs of numbers, parted by a colon.
-use Rattle.std.proofs.Common.{◌≡◌, ℕ, ◌+◌, ◌-◌, ◌<◌, List, [], ◌∷◌, ◌++◌, length, take, drop, Some, None, Option, Bool, true, false, refl, sym, ◌∙◌, ap, arith, length-take, length-drop, add-one, nat_eq, append_assoc}
-use Rattle.std.proofs.lemmas.List.{append-nil, take_all, get_or-take, get_or_default, take-append-drop}
+use Rattle.std.proofs.Common.{◌≡◌, ℕ, ◌+◌, ◌-◌, ◌<◌, List, [], ◌∷◌, ◌++◌, length, take, drop, Some, None, Option, Bool, true, false, refl, sym, ◌∙◌, ap, arith, length-take, length-drop, add-one, nat_eq}
+use Rattle.std.proofs.lemmas.List.{take_all, get_or-take, get_or_default, take-append-drop}
 use Rattle.std.proofs.lemmas.List.Elements.{All-from_recursion}
 use Rattle.std.proofs.lemmas.List.Splits.{slice_split_at, slice_split_none, join_with_byte-slice_split}
 use Rattle.std.proofs.lemmas.Bool.{eqb-true, ne_eqb}
@@ -10,7 +10,6 @@ use Rattle.std.specs.Fmt.{decimal}
 use Rattle.std.specs.Str.{all_ascii_digits}
 use Rattle.std.specs.List.{All, AllByRecursion, slice_split, join_with_byte}
 use Rattle.std.specs.Option.{option_map, option_and_then}
-use Rattle.std.specs.Prelude.{is_some}
 use Rattle.memchr.specs.Find.{IsFirstByte, is_byte}
 use Rattle.cordyceps.specs.declared.replay.item.Item.{Item}
 use Rattle.replay_lines.specs.Words.{number_of}
@@ -68,10 +67,6 @@ read_pair word k h =
     let parts : slice_split colon word ≡ take k word ∷ slice_split colon (drop (k + 1) word) = ap (slice_split colon) at ∙ slice_split_at colon (take k word) 58 (drop (k + 1) word) before refl in
     rw (all, parts) (sym (cut (take k word) (drop (k + 1) word)))
 
-mapped_some : {A B : Type 0} (f : A → B) (o : Option A) → is_some (option_map f o) ≡ is_some o
-mapped_some f None = refl
-mapped_some f (Some a) = refl
-
 -- without a colon it is no pair
 pub no_pair : (word : List ℕ) → IsFirstByte (is_byte 58) word None → None ≡ pair_of word
 no_pair word h = rw (slice_split_none colon word (λ j d lt. rw (get_or_default word j d 0 lt) (is_false _ (h j (omega arith) lt)))) (sym (no_value (number_of word)))
@@ -79,34 +74,3 @@ no_pair word h = rw (slice_split_none colon word (λ j d lt. rw (get_or_default 
 -- the pairs so far, and those of the words that are left, are all
 abbrev pub MorePairs : List Item → List (List ℕ) → List (List ℕ) → Type 0
 MorePairs items words all = option_map (λ more. items ++ more) (pairs_of words) ≡ pairs_of all
-
-more_of : (items : List Item) (item : Item) (more : Option (List Item)) → option_map (λ others. items ++ others) (option_map (λ others. item ∷ others) more) ≡ option_map (λ others. (items ++ item ∷ []) ++ others) more
-more_of items item None = refl
-more_of items item (Some more) = rw append_assoc refl
-
-no_items : (pairs : Option (List Item)) → option_map (λ more. [] ++ more) pairs ≡ pairs
-no_items None = refl
-no_items (Some items) = refl
-
-pub all_pairs : (words : List (List ℕ)) → MorePairs [] words words
-all_pairs words = no_items (pairs_of words)
-
-pub pairs_more : (items : List Item) (item : Item) (word : List ℕ) (words all : List (List ℕ)) → Some item ≡ pair_of word → MorePairs items (word ∷ words) all → MorePairs (items ++ item ∷ []) words all
-pairs_more items item word words all is so_far =
-    let now : option_map (λ more. items ++ more) (option_map (λ more. item ∷ more) (pairs_of words)) ≡ pairs_of all =
-    ap (λ (o : Option Item). option_map (λ more. items ++ more) (option_and_then (λ i. option_map (λ more. i ∷ more) (pairs_of words)) o)) is ∙ so_far in
-    sym (more_of items item (pairs_of words)) ∙ now
-
-pub pairs_bad : (items : List Item) (word : List ℕ) (words all : List (List ℕ)) → None ≡ pair_of word → MorePairs items (word ∷ words) all → None ≡ pairs_of all
-pairs_bad items word words all is so_far =
-    ap (λ (o : Option Item). option_map (λ more. items ++ more) (option_and_then (λ i. option_map (λ more. i ∷ more) (pairs_of words)) o)) is ∙ so_far
-
-pub pairs_done : (items : List Item) (all : List (List ℕ)) → MorePairs items [] all → Some items ≡ pairs_of all
-pairs_done items all so_far = ap Some (sym (append-nil items)) ∙ so_far
-
--- where the first word is a pair, all words are if the others are
-pub pair_first : (item : Item) (word : List ℕ) (words : List (List ℕ)) → Some item ≡ pair_of word → is_some (pairs_of (word ∷ words)) ≡ is_some (pairs_of words)
-pair_first item word words is = rw (← is) (mapped_some (λ more. item ∷ more) (pairs_of words))
-
-pub bad_first : (word : List ℕ) (words : List (List ℕ)) → None ≡ pair_of word → is_some (pairs_of (word ∷ words)) ≡ false
-bad_first word words is = rw (← is) refl

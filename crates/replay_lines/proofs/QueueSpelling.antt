@@ -7,7 +7,7 @@ use Rattle.replay_lines.specs.declared.queue_command.Verb.TheVariants as verbs
 use Rattle.replay_lines.specs.Words.{words}
 use Rattle.replay_lines.specs.QueueScript.{call_of, verb_of, command_with, command_of_words, command_of}
 use Rattle.replay_lines.specs.QueueSpelling.{words_of, spelling_of, HasNumbers}
-use Rattle.replay_lines.proofs.Forms.{chained, look, in_none, nothing_form, value_form, party_and_item_form, party_and_perhaps_item_form, made, read_back, spelled_line}
+use Rattle.replay_lines.proofs.Forms.{chained, look, in_none, nothing_form, value_form, party_and_number_form, party_and_item_form, party_and_perhaps_item_form, made, read_back, spelled_line}
 
 abbrev word_of : Verb → List ℕ
 word_of verbs.Party = codes "party"
@@ -21,12 +21,13 @@ word_of verbs.ReadHead = codes "head"
 word_of verbs.Give = codes "give"
 word_of verbs.Enqueue = codes "enq"
 word_of verbs.Dequeue = codes "deq"
+word_of verbs.Batch = codes "batch"
 
 call_word : (word : List ℕ) (v : Verb) → call_of word ≡ Some v → word ≡ word_of v
 call_word word v is =
     let P : Verb → Type 0 = λ w. word ≡ word_of w in
     look P word (codes "party") verbs.Party _ v (λ e. e) (look P word (codes "room") verbs.Room _ v (λ e. e) (look P word (codes "enq") verbs.Enqueue _ v (λ e. e)
-    (look P word (codes "deq") verbs.Dequeue _ v (λ e. e) (in_none P v)))) is
+    (look P word (codes "deq") verbs.Dequeue _ v (λ e. e) (look P word (codes "batch") verbs.Batch _ v (λ e. e) (in_none P v))))) is
 
 verb_word : (word : List ℕ) (v : Verb) → verb_of word ≡ Some v → word ≡ word_of v
 verb_word word v is =
@@ -47,6 +48,7 @@ command_words verbs.ReadHead = made words_of HasNumbers value_form (codes "head"
 command_words verbs.Give = made words_of HasNumbers value_form (codes "give") (λ p. commands.Give p) (λ p. refl) (λ p can. can)
 command_words verbs.Enqueue = made words_of HasNumbers party_and_item_form (codes "enq") (λ x. commands.Enqueue x.0 x.1) (λ x. refl) (λ x can. can)
 command_words verbs.Dequeue = made words_of HasNumbers value_form (codes "deq") (λ p. commands.Dequeue p) (λ p. refl) (λ p can. can)
+command_words verbs.Batch = made words_of HasNumbers party_and_number_form (codes "batch") (λ x. commands.Batch x.0 x.1) (λ x. refl) (λ x can. can)
 
 all_words : (ws : List (List ℕ)) (c : QueueCommand) → command_of_words ws ≡ Some c → (ws ≡ words_of c) × HasNumbers c
 all_words [] c is = cc
@@ -68,6 +70,7 @@ spelled (commands.ReadHead p) numbers = read_back command_of_words value_form (c
 spelled (commands.Give p) numbers = read_back command_of_words value_form (codes "give") (λ p. commands.Give p) p refl refl numbers
 spelled (commands.Enqueue p item) numbers = read_back command_of_words party_and_item_form (codes "enq") (λ x. commands.Enqueue x.0 x.1) (p, item) refl refl numbers
 spelled (commands.Dequeue p) numbers = read_back command_of_words value_form (codes "deq") (λ p. commands.Dequeue p) p refl refl numbers
+spelled (commands.Batch p n) numbers = read_back command_of_words party_and_number_form (codes "batch") (λ x. commands.Batch x.0 x.1) (p, n) refl refl numbers
 
 pub read_spelled : (line : List ℕ) (command : QueueCommand) → HasNumbers command → spelling_of command ≡ line → command_of line ≡ Some command
 read_spelled line command numbers is = sym (ap command_of is) ∙ spelled command numbers

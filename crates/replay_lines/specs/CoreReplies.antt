@@ -21,7 +21,7 @@ pub data CoreLine : Type 0 where
   busy : CoreLine
   empty : CoreLine
   inconsistent : CoreLine
-  -- all that was held, newest first
+  -- what came out at once: newest first of a transfer stack, oldest first of a queue
   show : List Item → CoreLine
   not_there : CoreLine
 

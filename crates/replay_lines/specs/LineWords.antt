@@ -48,6 +48,10 @@ structure_and_value_of words = before structure_number_of value_of words
 abbrev pub structure_and_item_of : List (List ℕ) → Option (ℕ × Item)
 structure_and_item_of words = before structure_number_of item_of words
 
+-- the words P N
+abbrev pub party_and_number_of : List (List ℕ) → Option (ℕ × ℕ)
+party_and_number_of words = before number_of value_of words
+
 -- the words P ID V
 abbrev pub party_and_item_of : List (List ℕ) → Option (ℕ × Item)
 party_and_item_of words = before number_of item_of words

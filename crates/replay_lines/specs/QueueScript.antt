@@ -3,7 +3,7 @@ use Rattle.std.specs.Prelude.{ℕ, List, [], ◌∷◌, Option, None, Some, if�
 use Rattle.std.specs.Option.{option_map, option_and_then}
 use Rattle.std.specs.Str.{bytes_eq}
 use Rattle.replay_lines.specs.Words.{words}
-use Rattle.replay_lines.specs.LineWords.{nothing_of, value_of, party_and_item_of, party_and_perhaps_item_of}
+use Rattle.replay_lines.specs.LineWords.{nothing_of, value_of, party_and_number_of, party_and_item_of, party_and_perhaps_item_of}
 use Rattle.replay_lines.specs.declared.queue_command.QueueCommand.{QueueCommand}
 use Rattle.replay_lines.specs.declared.queue_command.QueueCommand.TheVariants as commands
 use Rattle.replay_lines.specs.declared.queue_command.Verb.{Verb}
@@ -16,6 +16,7 @@ call_of word =
     else if bytes_eq word (codes "room") then Some verbs.Room
     else if bytes_eq word (codes "enq") then Some verbs.Enqueue
     else if bytes_eq word (codes "deq") then Some verbs.Dequeue
+    else if bytes_eq word (codes "batch") then Some verbs.Batch
     else None
 
 abbrev pub verb_of : List ℕ → Option Verb
@@ -42,6 +43,7 @@ command_with verbs.ReadHead words = option_map (λ p. commands.ReadHead p) (valu
 command_with verbs.Give words = option_map (λ p. commands.Give p) (value_of words)
 command_with verbs.Enqueue words = option_map (λ x. commands.Enqueue x.0 x.1) (party_and_item_of words)
 command_with verbs.Dequeue words = option_map (λ p. commands.Dequeue p) (value_of words)
+command_with verbs.Batch words = option_map (λ x. commands.Batch x.0 x.1) (party_and_number_of words)
 
 abbrev pub command_of_words : List (List ℕ) → Option QueueCommand
 command_of_words [] = None

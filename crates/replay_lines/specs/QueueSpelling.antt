@@ -17,6 +17,7 @@ words_of (commands.ReadHead p) = codes "head" ∷ decimal p ∷ []
 words_of (commands.Give p) = codes "give" ∷ decimal p ∷ []
 words_of (commands.Enqueue p item) = codes "enq" ∷ decimal p ∷ item_words item
 words_of (commands.Dequeue p) = codes "deq" ∷ decimal p ∷ []
+words_of (commands.Batch p n) = codes "batch" ∷ decimal p ∷ decimal n ∷ []
 
 -- its words, parted by one space
 abbrev pub spelling_of : QueueCommand → List ℕ
@@ -35,3 +36,4 @@ HasNumbers (commands.ReadHead p) = p < 2 ^ 64
 HasNumbers (commands.Give p) = p < 2 ^ 64
 HasNumbers (commands.Enqueue p item) = (p < 2 ^ 64) × HasItemNumbers item
 HasNumbers (commands.Dequeue p) = p < 2 ^ 64
+HasNumbers (commands.Batch p n) = (p < 2 ^ 64) × (n < 2 ^ 64)

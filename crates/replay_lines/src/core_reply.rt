@@ -31,7 +31,7 @@ pub enum CoreReply {
     Empty,
     /// The oldest item of the queue or the one behind it is not linked yet.
     Inconsistent,
-    /// All that was held, newest first.
+    /// What came out at once: newest first of a transfer stack, oldest first of a queue.
     Show(Vec<Item>),
     /// There is no such party, or it may not take that step or make that call.
     NotThere,

@@ -1,7 +1,7 @@
 //! Reads the words behind a command word, to the end of the line.
 ghost use Rattle.std.specs.Prelude.{◌≡◌, ◌∷◌, [], None, MatchOption};
 ghost use Rattle.replay_lines.specs.Words.{words_left};
-ghost use Rattle.replay_lines.specs.LineWords.{only_word_of, nothing_of, structure_of, value_of, item_of, two_structures_of, structure_and_value_of, structure_and_item_of, party_and_item_of, perhaps_item_of, party_and_perhaps_item_of};
+ghost use Rattle.replay_lines.specs.LineWords.{only_word_of, nothing_of, structure_of, value_of, item_of, two_structures_of, structure_and_value_of, structure_and_item_of, party_and_number_of, party_and_item_of, perhaps_item_of, party_and_perhaps_item_of};
 
 use crate::words::{Words, number, structure_number};
 use cordyceps::replay::Item;
@@ -88,6 +88,14 @@ pub fn party(words: Words) -> Option<usize>
     ensures { result ≡ value_of (words_left words.entry.rest) }
 {
     Some(value(words)? as usize)
+}
+
+/// Reads `P N`.
+pub fn party_and_number(mut words: Words) -> Option<(usize, usize)>
+    ensures { result ≡ party_and_number_of (words_left words.entry.rest) }
+{
+    let party = number(words.next_word()?)?;
+    Some((party as usize, value(words)? as usize))
 }
 
 /// Reads `P ID V`.

@@ -4,7 +4,7 @@ ghost use Rattle.replay_lines.specs.Words.{words_left};
 ghost use Rattle.replay_lines.specs.QueueScript.{call_of, verb_of, command_with, command_of};
 ghost use Rattle.replay_lines.specs.QueueSpelling.{spelling_of, HasNumbers};
 
-use crate::line_words::{nothing, party, party_and_item, party_and_perhaps_item};
+use crate::line_words::{nothing, party, party_and_item, party_and_number, party_and_perhaps_item};
 use crate::words::Words;
 use cordyceps::replay::Item;
 
@@ -33,6 +33,8 @@ pub enum QueueCommand {
     Enqueue(usize, Item),
     /// Tries to dequeue with no step of another party between.
     Dequeue(usize),
+    /// Takes up to so many items out by tries, with no step of another party between.
+    Batch(usize, usize),
 }
 
 /// The command words of the mode.
@@ -49,6 +51,7 @@ pub enum Verb {
     Give,
     Enqueue,
     Dequeue,
+    Batch,
 }
 
 /// The words of whole calls.
@@ -63,6 +66,8 @@ fn read_call(word: &[u8]) -> Option<Verb>
         Some(Verb::Enqueue)
     } else if word == b"deq".as_slice() {
         Some(Verb::Dequeue)
+    } else if word == b"batch".as_slice() {
+        Some(Verb::Batch)
     } else {
         None
     }
@@ -106,6 +111,7 @@ fn read_with(verb: Verb, words: Words) -> Option<QueueCommand>
         Verb::Give => party(words).map(QueueCommand::Give),
         Verb::Enqueue => party_and_item(words).map(|(p, i)| QueueCommand::Enqueue(p, i)),
         Verb::Dequeue => party(words).map(QueueCommand::Dequeue),
+        Verb::Batch => party_and_number(words).map(|(p, n)| QueueCommand::Batch(p, n)),
     }
 }
 

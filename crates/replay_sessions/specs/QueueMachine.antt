@@ -1,11 +1,11 @@
 -- What the lines of mode queue do.
-use Rattle.std.specs.Prelude.{ℕ, length, Result, Ok, Err, slice_get, if◌then◌else◌, nat_lt}
+use Rattle.std.specs.Prelude.{ℕ, List, length, Result, Ok, Err, slice_get, if◌then◌else◌, nat_lt}
 use Rattle.cordyceps.specs.declared.replay.item.Item.{Item}
-use Rattle.cordyceps.specs.QueueCores.{after, QueueStep, Clear, Swap, Link, Take, ReadNext, ReadHead, Give, Done, Taken, Busy, Out, Empty, Inconsistent, TryDequeueError, Answered, stepped, core_step, new_machine, with_party, with_room, enqueue_steps, is_ready, may_dequeue, dequeued, found_of}
+use Rattle.cordyceps.specs.QueueCores.{after, QueueStep, Clear, Swap, Link, Take, ReadNext, ReadHead, Give, Done, Taken, Busy, Out, Empty, Inconsistent, TryDequeueError, Answered, stepped, core_step, new_machine, with_party, with_room, enqueue_steps, is_ready, may_dequeue, dequeued, found_of, may_drain, drained_at, batch_of}
 use Rattle.cordyceps.specs.QueueCores as cores
 use Rattle.replay_driver.specs.Script.{Machine}
 use Rattle.replay_sessions.specs.Commands.{core_commands_machine}
-use Rattle.replay_lines.specs.CoreReplies.{CoreLine, party, done, found, busy, empty, inconsistent, not_there}
+use Rattle.replay_lines.specs.CoreReplies.{CoreLine, party, done, found, busy, empty, inconsistent, show, not_there}
 use Rattle.replay_lines.specs.QueueScript.{command_of}
 use Rattle.replay_lines.specs.declared.queue_command.QueueCommand.{QueueCommand}
 use Rattle.replay_lines.specs.declared.queue_command.QueueCommand.TheVariants as commands
@@ -24,12 +24,21 @@ told (Ok Empty) = empty
 told (Ok Inconsistent) = inconsistent
 told (Err refused) = not_there
 
+-- the reply that tells why a try to dequeue gave nothing
+abbrev pub told_error : TryDequeueError → CoreLine
+told_error cores.FindsEmpty = empty
+told_error cores.FindsInconsistent = inconsistent
+told_error cores.FindsBusy = busy
+
 -- the reply that tells what a try to dequeue found
 abbrev pub told_found : Result Item TryDequeueError → CoreLine
 told_found (Ok item) = found item
-told_found (Err cores.FindsEmpty) = empty
-told_found (Err cores.FindsInconsistent) = inconsistent
-told_found (Err cores.FindsBusy) = busy
+told_found (Err error) = told_error error
+
+-- the reply that tells what several tries took out, or why they took out nothing
+abbrev pub told_batch : Result (List Item) TryDequeueError → CoreLine
+told_batch (Ok items) = show items
+told_batch (Err error) = told_error error
 
 -- a party's step, and its answer
 abbrev pub takes_step : Core → ℕ → QueueStep Item → Core × CoreLine
@@ -38,6 +47,10 @@ takes_step m p s = let out = stepped m p s in (out.0, told out.1)
 -- a party's try to dequeue, and what it found
 abbrev pub tries_once : Core → ℕ → Core × CoreLine
 tries_once m p = let out = dequeued m p in (out.0, told_found (found_of out.1))
+
+-- a party's tries for up to n items, and what they took out
+abbrev pub takes_batch : Core → ℕ → ℕ → Core × CoreLine
+takes_batch m p n = let d = drained_at p n m (slice_get m.parties p) in (d.0, told_batch (batch_of d.1 d.2))
 
 -- the core after a command, and the reply
 abbrev pub step : Core → QueueCommand → Core × CoreLine
@@ -52,6 +65,7 @@ step m (commands.ReadHead p) = takes_step m p ReadHead
 step m (commands.Give p) = takes_step m p Give
 step m (commands.Enqueue p item) = if is_ready m p then (after core_step m (enqueue_steps p item), done) else (m, not_there)
 step m (commands.Dequeue p) = if may_dequeue (slice_get m.parties p) then tries_once m p else (m, not_there)
+step m (commands.Batch p n) = if may_drain n (slice_get m.parties p) then takes_batch m p n else (m, not_there)
 
 -- each line is a command on the core
 abbrev pub queue_machine : Machine Core

@@ -1,7 +1,7 @@
 //! Scripts in mode `queue`.
 ghost use Rattle.std.specs.Prelude.{◌≡◌, IfOk};
 ghost use Rattle.replay_lines.specs.CoreReplies.{said};
-ghost use Rattle.replay_sessions.specs.QueueMachine.{told, told_found, takes_step, step, new_core};
+ghost use Rattle.replay_sessions.specs.QueueMachine.{told, told_error, told_found, takes_step, step, new_core};
 
 use cordyceps::mpsc_queue::{QueueAnswer, QueueCore, QueueStep, StepError, TryDequeueError};
 use cordyceps::replay::Item;
@@ -24,15 +24,24 @@ fn reply_of(answer: Result<QueueAnswer<Item>, (StepError, Option<Item>)>) -> Cor
     }
 }
 
+/// Why a try to dequeue gave nothing, as a reply.
+fn reply_of_error(error: TryDequeueError) -> CoreReply
+    ensures { said result ≡ told_error error }
+{
+    match error {
+        TryDequeueError::Empty => CoreReply::Empty,
+        TryDequeueError::Inconsistent => CoreReply::Inconsistent,
+        TryDequeueError::Busy => CoreReply::Busy,
+    }
+}
+
 /// What a try to dequeue found, as a reply.
 fn reply_of_found(found: Result<Item, TryDequeueError>) -> CoreReply
     ensures { said result ≡ told_found found }
 {
     match found {
         Ok(item) => CoreReply::Found(item),
-        Err(TryDequeueError::Empty) => CoreReply::Empty,
-        Err(TryDequeueError::Inconsistent) => CoreReply::Inconsistent,
-        Err(TryDequeueError::Busy) => CoreReply::Busy,
+        Err(error) => reply_of_error(error),
     }
 }
 
@@ -101,6 +110,18 @@ impl QueueSession {
         }
     }
 
+    fn batch(&mut self, party: usize, max: usize) -> Result<CoreReply, AllocError>
+        ensures { IfOk result (λ reply.
+            (self.new.core, said reply) ≡ step self.old.core (QueueCommand.Batch party max)) }
+    {
+        match self.core.take_linked(party, max) {
+            Ok(Ok(batch)) => Ok(CoreReply::Show(batch)),
+            Ok(Err(error)) => Ok(reply_of_error(error)),
+            Err(StepError::NotThere) => Ok(CoreReply::NotThere),
+            Err(StepError::Memory) => Err(AllocError),
+        }
+    }
+
     /// Does what a command says, unless memory for it is refused.
     fn play(&mut self, command: QueueCommand) -> Result<CoreReply, AllocError>
         ensures { IfOk result (λ reply.
@@ -118,6 +139,7 @@ impl QueueSession {
             QueueCommand::Give(party) => Ok(self.step(party, QueueStep::Give)),
             QueueCommand::Enqueue(party, item) => Ok(self.enqueue(party, item)),
             QueueCommand::Dequeue(party) => Ok(self.dequeue(party)),
+            QueueCommand::Batch(party, max) => self.batch(party, max),
         }
     }
 }
