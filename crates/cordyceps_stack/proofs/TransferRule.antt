@@ -344,9 +344,9 @@ module _ {E : Type 0} where
         says (step slots 0 read new none) me (d.0, carried_after me.1 d.1) r read n x cs poised ((λ e. absurd (miss e)), λ _. (d.4, d.5, d.6, d.7, d.8)),
       ))
 
-  pub returns : (slots id i : ℕ) (me : Sat E) (r : ℕ) (cs : Hand E) → me.0.doing ≡ Missed r → me.1 ≡ (r, None) ∷ cs → r < slots
+  pub returns : (slots id i : ℕ) (me : Sat E) (r : ℕ) (cs : Hand E) → i ≡ suc r → me.0.doing ≡ Missed r → me.1 ≡ (r, None) ∷ cs → r < slots
       → Allows Kept slots id me i (λ n. n) (play.returned (step slots i 0 0 none) me)
-  returns slots id i me r cs doing hand inside s k deep at fits =
+  returns slots id i me r cs is doing hand inside s k deep at fits =
       let v = me.0 in
       let w : View E = record v { doing = Idle; free = r ∷ v.free } in
       let y : maybe.Option (Option (Filled E)) = some None in
@@ -363,7 +363,9 @@ module _ {E : Type 0} where
         gives,
         tt,
         subst (λ c. Kept record { words = set s.words i (get_or s.words i 0); homes = homes_after s.homes c gives; views = set s.views id w }) (sym hand) (unwritten s i (set s.homes r y) (set s.views id w) kept),
-        λ r' cs' doing' hand'. (ap (λ p. let z : View E = record v { doing = Idle; free = room_of p ∷ v.free } in z) (sym doing ∙ doing'), ap rest hand'),
+        λ r' cs' doing' hand'.
+            let same = sym doing ∙ doing' in
+            (is ∙ ap (λ p. suc (room_of p)) same, ap (λ p. let z : View E = record v { doing = Idle; free = room_of p ∷ v.free } in z) same, ap rest hand'),
       )
 
   -- ---- taking

@@ -1,6 +1,6 @@
 -- What each atomic step tells a party of a transfer stack: of its seat m before, of the word that it found, and of its seat
 -- k after. A seat has a view, and the slots in hand, the last taken first.
-use Rattle.std.specs.Prelude.{◌≡◌, ◌≢◌, ℕ, ◌<◌, ◌≤◌, List, [], ◌∷◌, ◌++◌, length, take, drop, Option, Some, None}
+use Rattle.std.specs.Prelude.{◌≡◌, ◌≢◌, ℕ, suc, ◌<◌, ◌≤◌, List, [], ◌∷◌, ◌++◌, length, take, drop, Option, Some, None}
 use Rattle.atomic_table.specs.Table.{Me, Step}
 use Rattle.cordyceps_shared.specs.Knowing.{Known, Grown, IsKnown}
 use Rattle.cordyceps_shared.specs.Knowing as knowing
@@ -71,7 +71,7 @@ module _ {E : Type 0} where
   -- a read of the link of a room whose exchange failed: its slot goes back
   abbrev pub returned : At E → Sat E → ℕ → Sat E → Type 0
   returned st m found k = (r : ℕ) (cs : Hand E) → m.0.doing ≡ Missed r → m.1 ≡ (r, None) ∷ cs
-      → (k.0 ≡ record m.0 { doing = Idle; free = r ∷ m.0.free }) × (k.1 ≡ cs)
+      → (st.word ≡ suc r) × (k.0 ≡ record m.0 { doing = Idle; free = r ∷ m.0.free }) × (k.1 ≡ cs)
 
   -- a swap of head: the slots of all that was held are in hand
   abbrev pub took : At E → Sat E → ℕ → Sat E → Type 0

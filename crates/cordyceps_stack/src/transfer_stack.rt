@@ -164,20 +164,22 @@ impl<T: Linked<Links<T>>> TransferStack<T> {
 
 impl<T: Linked<Links<T>>> TransferStack<T> {
     /// Pushes an element, by as many tries as it takes, and pauses between them. If others push or take without end it may
-    /// never return.
+    /// never return. A whole party's first try is its last.
     pub fn push<R: Wait>(&self, rt: &R, party: &mut Party<T>, handle: T::Handle)
         requires table { party.old.table ≡ self.now }
         requires room { 0 < party.old.rooms }
-        ensures { (tries : ℕ) × (first : Bool) × PushesAt (suc tries) handle first party.old party.new }
+        ensures pushed { (tries : ℕ) × (first : Bool) × PushesAt (suc tries) handle first party.old party.new }
+        ensures whole { party.old.share ≡ whole → (first : Bool) × PushesAt 1 handle first party.old party.new }
     {
         self.push_was_empty(rt, party, handle);
     }
 
-    /// The same, and tells whether nothing was held just before.
+    /// The same, and tells whether nothing was held just before. A whole party's first try is its last.
     pub fn push_was_empty<R: Wait>(&self, rt: &R, party: &mut Party<T>, handle: T::Handle) -> bool
         requires table { party.old.table ≡ self.now }
         requires room { 0 < party.old.rooms }
-        ensures { (tries : ℕ) × PushesAt (suc tries) handle result party.old party.new }
+        ensures pushed { (tries : ℕ) × PushesAt (suc tries) handle result party.old party.new }
+        ensures whole { party.old.share ≡ whole → PushesAt 1 handle result party.old party.new }
     {
         let backoff = Backoff::new();
         let mut handle = handle;

@@ -1,4 +1,4 @@
-use Rattle.std.proofs.Common.{[], ◌∷◌, Option, Some, None, sym, ap, ◌∙◌, rules}
+use Rattle.std.proofs.Common.{[], ◌∷◌, Option, Some, None, sym, ap, ◌∙◌, rules, add-one}
 use Rattle.atomic_table.specs.Table.{rest}
 use Rattle.cordyceps_stack.specs.declared.transfer_table.Filled.{Filled}
 use Rattle.cordyceps_stack.specs.TransferRule.{filled}
@@ -19,4 +19,4 @@ load-requires g c =
     let empty = ap (λ m. m.1) y ∙ ap (λ z. (c.args.room, none) ∷ rest z) h in
     let t = c.requires.table in
     let near = c.requires.place.1 in
-    (search rules, search rules, returns _ _ _ _ c.args.room [] missed empty near)
+    (search rules, search rules, returns _ _ _ _ c.args.room [] (add-one c.args.room) missed empty near)
