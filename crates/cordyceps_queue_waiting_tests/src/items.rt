@@ -1,25 +1,8 @@
-//! Elements of a shared queue, which count how many of them were dropped.
+//! The numbers of elements, and how many were dropped.
 use crate::compared::same;
-use cordyceps_base::node::Node;
-use cordyceps_queue::mpsc_queue::Links;
-use cordyceps_testing::counted::{Counted, Drops, counted_node};
-use std::alloc::{AllocError, Global};
+use cordyceps_queue_testing::items::Handle;
+use cordyceps_testing::counted::Drops;
 use std::process::Abort;
-
-/// What goes into a queue, and comes out.
-pub type Handle = Node<Counted, Links<Counted>>;
-
-/// An element of this number, with ten times as much as its value.
-pub fn element(alloc: Global, number: u64, drops: &Drops) -> Result<Handle, AllocError> {
-    counted_node(alloc, number, number.wrapping_mul(10), drops)
-}
-
-/// Two elements, of this number and the next.
-pub fn pair(alloc: Global, first: u64, drops: &Drops) -> Result<(Handle, Handle), AllocError> {
-    let one = element(alloc, first, drops)?;
-    let two = element(alloc, first.wrapping_add(1), drops)?;
-    Ok((one, two))
-}
 
 /// The number of an element that was made so. Its value has to be ten times as much.
 pub fn number(rt: &impl Abort, node: &Handle) -> u64 {

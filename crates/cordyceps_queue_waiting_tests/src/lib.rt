@@ -1,13 +1,16 @@
-//! Tests of the queue that threads share, through its public names: of its calls that may wait.
+//! Tests of the queue that threads share, through its public names: of its calls that may wait, and of consumers that
+//! own it with others.
 #![tactic(auto)]
 
 #[cfg(test)]
+mod calls;
+#[cfg(test)]
 mod compared;
+#[cfg(test)]
+mod consumers;
 #[cfg(test)]
 mod flags;
 #[cfg(test)]
 mod items;
 #[cfg(test)]
 mod queue_waiting;
-#[cfg(test)]
-mod seats;

@@ -1,10 +1,12 @@
 //! Calls that wait for an element, or for the right to dequeue.
 
+use crate::calls::{consume, consumer_of, consumes, dequeue, puts};
 use crate::compared::same;
 use crate::flags::await_flag;
-use crate::items::{Handle, dropped, element, pair};
-use crate::seats::{Seated, consumes};
+use crate::items::dropped;
 use cordyceps_queue::mpsc_queue::{Consumer, MpscQueue};
+use cordyceps_queue_testing::items::{Handle, element, pair};
+use cordyceps_queue_testing::seats::Seated;
 use cordyceps_testing::counted::{Counted, Drops};
 use std::alloc::{AllocError, Global};
 use std::process::Abort;
@@ -19,10 +21,13 @@ type Numbers = Result<Vec<u64>, AllocError>;
 /// How often a thread that has the right looks whether another got it.
 const PAUSES: u64 = 1000;
 
+/// How often each test's threads run.
+const ROUNDS: u64 = 10;
+
 /// Takes the element 1 and then none, and sets the flag.
 fn dequeue_twice<R: Wait + Abort>(rt: &R, mut seat: Seated<'_>, done: &AtomicBool) {
-    same(rt, seat.dequeue(rt), Some(1));
-    same(rt, seat.dequeue(rt), None);
+    same(rt, dequeue(rt, &mut seat), Some(1));
+    same(rt, dequeue(rt, &mut seat), None);
     done.store(true, Ordering::SeqCst);
 }
 
@@ -30,19 +35,21 @@ fn dequeue_twice<R: Wait + Abort>(rt: &R, mut seat: Seated<'_>, done: &AtomicBoo
 fn watch_twice<R: Threads + Wait + Abort + Sync>(rt: &R, seat: Seated<'_>) {
     let flag = AtomicBool::new(false);
     let done = &flag;
-    let dequeue = move || dequeue_twice(rt, seat, done);
-    thread::join(rt, dequeue, || await_flag(rt, done));
+    let work = move || dequeue_twice(rt, seat, done);
+    thread::join(rt, work, || await_flag(rt, done));
 }
 
 #[test]
 fn enqueue_dequeue(rt: HostRuntime) -> Result<(), AllocError> {
-    let drops = Drops::new(rt.alloc())?;
-    let handle = element(rt.alloc(), 1, &drops)?;
-    let (queue, party) = MpscQueue::new(rt.alloc(), 1)?;
-    let mut seat = Seated::at(&queue, party);
-    seat.put(&rt, handle);
-    watch_twice(&rt, seat);
-    dropped(&rt, &drops, 1);
+    for _ in 0..ROUNDS {
+        let drops = Drops::new(rt.alloc())?;
+        let handle = element(rt.alloc(), 1, &drops)?;
+        let (queue, party) = MpscQueue::new(rt.alloc(), 1)?;
+        let mut seat = Seated::at(&queue, party);
+        puts(&rt, &mut seat, handle);
+        watch_twice(&rt, seat);
+        dropped(&rt, &drops, 1);
+    }
     Ok(())
 }
 
@@ -50,7 +57,7 @@ fn enqueue_dequeue(rt: HostRuntime) -> Result<(), AllocError> {
 fn drain<R: Wait + Abort>(rt: &R, alloc: Global, mut seat: Seated<'_>) -> Numbers {
     let mut numbers = Vec::new(alloc);
     for _ in 0..PAUSES {
-        match seat.dequeue(rt) {
+        match dequeue(rt, &mut seat) {
             Some(number) => numbers.push(number)?,
             None => return Ok(numbers),
         }
@@ -92,8 +99,8 @@ fn drain_both<R: Threads + Wait + Abort + Sync>(
 /// Puts two elements in.
 fn put_two(rt: &impl Abort, mut seat: Seated<'_>, pair: (Handle, Handle)) {
     let (first, second) = pair;
-    seat.put(rt, first);
-    seat.put(rt, second);
+    puts(rt, &mut seat, first);
+    puts(rt, &mut seat, second);
 }
 
 /// Two threads put two elements in each.
@@ -129,23 +136,25 @@ fn together(
 
 #[test]
 fn mpmc(rt: HostRuntime) -> Result<(), AllocError> {
-    let drops = Drops::new(rt.alloc())?;
-    let tens = pair(rt.alloc(), 10, &drops)?;
-    let twenties = pair(rt.alloc(), 20, &drops)?;
-    let (queue, party) = MpscQueue::new(rt.alloc(), 4)?;
-    let mut seat = Seated::at(&queue, party);
-    let producers = (seat.split(&rt, 2), seat.split(&rt, 2));
-    let other = seat.split(&rt, 0);
-    put_both(&rt, producers, (tens, twenties));
-    let numbers = drain_both(&rt, rt.alloc(), (seat, other));
-    together(&rt, numbers, &[10, 11, 20, 21])?;
-    dropped(&rt, &drops, 4);
+    for _ in 0..ROUNDS {
+        let drops = Drops::new(rt.alloc())?;
+        let tens = pair(rt.alloc(), 10, &drops)?;
+        let twenties = pair(rt.alloc(), 20, &drops)?;
+        let (queue, party) = MpscQueue::new(rt.alloc(), 4)?;
+        let mut seat = Seated::at(&queue, party);
+        let producers = (seat.split(2), seat.split(2));
+        let other = seat.split(0);
+        put_both(&rt, producers, (tens, twenties));
+        let numbers = drain_both(&rt, rt.alloc(), (seat, other));
+        together(&rt, numbers, &[10, 11, 20, 21])?;
+        dropped(&rt, &drops, 4);
+    }
     Ok(())
 }
 
 /// Waits for the right, sets the flag, and takes the element 1 by one try.
 fn consume_and_tell<R: Wait + Abort>(rt: &R, seat: Seated<'_>, done: &AtomicBool) {
-    let mut consumer = seat.consume(rt);
+    let mut consumer = consume(rt, seat);
     done.store(true, Ordering::SeqCst);
     consumes(rt, &mut consumer, Ok(1));
 }
@@ -174,15 +183,17 @@ fn wait_and_hold<R: Threads + Wait + Abort + Sync>(
 
 #[test]
 fn consume_waits_for_a_release(rt: HostRuntime) -> Result<(), AllocError> {
-    let drops = Drops::new(rt.alloc())?;
-    let handle = element(rt.alloc(), 1, &drops)?;
-    let (queue, party) = MpscQueue::new(rt.alloc(), 1)?;
-    let mut seat = Seated::at(&queue, party);
-    let first = seat.split(&rt, 0);
-    let other = seat.split(&rt, 0);
-    seat.put(&rt, handle);
-    let consumer = first.consumer(&rt);
-    wait_and_hold(&rt, other, consumer);
-    dropped(&rt, &drops, 1);
+    for _ in 0..ROUNDS {
+        let drops = Drops::new(rt.alloc())?;
+        let handle = element(rt.alloc(), 1, &drops)?;
+        let (queue, party) = MpscQueue::new(rt.alloc(), 1)?;
+        let mut seat = Seated::at(&queue, party);
+        let first = seat.split(0);
+        let other = seat.split(0);
+        puts(&rt, &mut seat, handle);
+        let consumer = consumer_of(&rt, first);
+        wait_and_hold(&rt, other, consumer);
+        dropped(&rt, &drops, 1);
+    }
     Ok(())
 }

@@ -8,6 +8,8 @@ mod flags;
 #[cfg(test)]
 mod items;
 #[cfg(test)]
+mod misses;
+#[cfg(test)]
 mod races;
 #[cfg(test)]
 mod seats;

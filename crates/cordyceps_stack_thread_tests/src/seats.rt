@@ -97,6 +97,13 @@ impl<'s> Seated<'s> {
     pub fn take_all(&mut self) -> Stack<Counted> {
         self.stack.take_all(&mut self.party)
     }
+
+    /// Pushes into a room that has to be there, by one try, and tells whether nothing was held before.
+    pub fn try_push(&mut self, rt: &impl Abort, handle: Handle) -> Result<bool, Handle> {
+        assert!(rt; self.party.rooms() > 0);
+        self.stack.try_push(&mut self.party, handle)
+    }
+
     /// Pushes into a room that has to be there, and tells whether nothing was held before.
     pub fn push_was_empty<R: Wait + Abort>(&mut self, rt: &R, handle: Handle) -> bool {
         assert!(rt; self.party.rooms() > 0);

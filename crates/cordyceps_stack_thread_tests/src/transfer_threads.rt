@@ -19,6 +19,9 @@ use std::thread::Threads;
 /// How often the threads race.
 const RACES: u64 = 50;
 
+/// How often the threads of each other test run.
+const ROUNDS: u64 = 10;
+
 /// The numbers of the elements that two threads push.
 const FOUR: [u64; 4] = [10, 11, 20, 21];
 
@@ -52,16 +55,18 @@ fn watch_each_way<R: Threads + Wait + Abort + Sync>(
 
 #[test]
 fn pushes_return(rt: HostRuntime) -> Result<(), AllocError> {
-    let drops = Drops::new(rt.alloc())?;
-    let first = element(rt.alloc(), 1, &drops)?;
-    let pair = pair(rt.alloc(), 2, &drops)?;
-    let (stack, party) = TransferStack::new(rt.alloc(), 3)?;
-    let mut seat = Seated::at(&stack, party);
-    let other = seat.split(&rt, 3);
-    seat.has_rooms(&rt, 0);
-    watch_each_way(&rt, other, first, pair);
-    seat.takes(&rt, &[3, 2, 1]);
-    seat.has_rooms(&rt, 3);
+    for _ in 0..ROUNDS {
+        let drops = Drops::new(rt.alloc())?;
+        let first = element(rt.alloc(), 1, &drops)?;
+        let pair = pair(rt.alloc(), 2, &drops)?;
+        let (stack, party) = TransferStack::new(rt.alloc(), 3)?;
+        let mut seat = Seated::at(&stack, party);
+        let other = seat.split(&rt, 3);
+        seat.has_rooms(&rt, 0);
+        watch_each_way(&rt, other, first, pair);
+        seat.takes(&rt, &[3, 2, 1]);
+        seat.has_rooms(&rt, 3);
+    }
     Ok(())
 }
 
@@ -150,13 +155,15 @@ fn push_and_take_back<R: Threads + Wait + Abort + Sync>(
 
 #[test]
 fn multithreaded_push(rt: HostRuntime) -> Result<(), AllocError> {
-    let drops = Drops::new(rt.alloc())?;
-    let tens = pair(rt.alloc(), 10, &drops)?;
-    let twenties = pair(rt.alloc(), 20, &drops)?;
-    let (stack, party) = TransferStack::new(rt.alloc(), 4)?;
-    let all = push_and_take_back(&rt, &stack, party, tens, twenties);
-    taken(&rt, rt.alloc(), all, 0, &FOUR)?;
-    dropped(&rt, &drops, 4);
+    for _ in 0..ROUNDS {
+        let drops = Drops::new(rt.alloc())?;
+        let tens = pair(rt.alloc(), 10, &drops)?;
+        let twenties = pair(rt.alloc(), 20, &drops)?;
+        let (stack, party) = TransferStack::new(rt.alloc(), 4)?;
+        let all = push_and_take_back(&rt, &stack, party, tens, twenties);
+        taken(&rt, rt.alloc(), all, 0, &FOUR)?;
+        dropped(&rt, &drops, 4);
+    }
     Ok(())
 }
 

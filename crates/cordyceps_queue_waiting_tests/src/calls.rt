@@ -1,0 +1,46 @@
+//! Calls of parties and consumers, some of which may wait.
+use crate::compared::same;
+use crate::items::{number, number_of};
+use cordyceps_queue::mpsc_queue::{Consumer, TryDequeueError};
+use cordyceps_queue_testing::items::Handle;
+use cordyceps_queue_testing::seats::Seated;
+use cordyceps_testing::counted::Counted;
+use std::process::Abort;
+use std::sync::Wait;
+
+/// Puts an element into a room that has to be there.
+pub fn puts(rt: &impl Abort, seat: &mut Seated<'_>, handle: Handle) {
+    same(rt, seat.put(handle).is_ok(), true);
+}
+
+/// The number of what comes out at last, or none where nothing was held.
+pub fn dequeue<R: Wait + Abort>(rt: &R, seat: &mut Seated<'_>) -> Option<u64> {
+    number_of(rt, seat.queue.dequeue(rt, &mut seat.party))
+}
+
+/// The consumer of a queue that nobody else dequeues from.
+pub fn consumer_of<'q>(rt: &impl Abort, seat: Seated<'q>) -> Consumer<'q, Counted> {
+    match seat.try_consume() {
+        Ok(consumer) => consumer,
+        Err(_) => panic!(rt; "nobody else has the right"),
+    }
+}
+
+/// The consumer, once nobody else dequeues.
+pub fn consume<'q, R: Wait>(rt: &R, seat: Seated<'q>) -> Consumer<'q, Counted> {
+    let Seated { queue, party } = seat;
+    queue.consume(rt, party)
+}
+
+/// Compares the number of what one try of a consumer gave, or why it gave nothing, with what is wanted.
+pub fn consumes(
+    rt: &impl Abort,
+    consumer: &mut Consumer<'_, Counted>,
+    wanted: Result<u64, TryDequeueError>,
+) {
+    let came = match consumer.try_dequeue() {
+        Ok(node) => Ok(number(rt, &node)),
+        Err(error) => Err(error),
+    };
+    same(rt, came, wanted);
+}

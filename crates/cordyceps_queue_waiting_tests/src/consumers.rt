@@ -1,0 +1,164 @@
+//! Consumers that wait for an element, or for the right; and those that own their queue with others.
+ghost use Rattle.std.specs.Arc.{arc_value};
+ghost use Rattle.std.specs.Prelude.{◌≡◌};
+
+use crate::calls::{consume, puts};
+use crate::compared::same;
+use crate::flags::await_flag;
+use crate::items::{dropped, number_of};
+use cordyceps_queue::mpsc_queue::{MpscQueue, OwnedConsumer, Party, TryDequeueError};
+use cordyceps_queue_testing::items::{Handle, element, elements, found, pair};
+use cordyceps_queue_testing::seats::Seated;
+use cordyceps_testing::counted::{Counted, Drops};
+use std::alloc::{AllocError, Global};
+use std::process::Abort;
+use std::sync::atomic::{AtomicBool, Ordering};
+use std::sync::{Arc, Wait};
+use std::thread;
+use std::thread::Threads;
+
+/// How often each test's threads run.
+const ROUNDS: u64 = 10;
+
+/// Waits for the right, takes the element 1 and then none, and sets the flag.
+fn consume_twice<R: Wait + Abort>(rt: &R, seat: Seated<'_>, done: &AtomicBool) {
+    let mut consumer = consume(rt, seat);
+    same(rt, number_of(rt, consumer.dequeue(rt)), Some(1));
+    same(rt, number_of(rt, consumer.dequeue(rt)), None);
+    done.store(true, Ordering::SeqCst);
+}
+
+/// Does so in a thread of its own, and joins it once its flag is set.
+fn watch_twice<R: Threads + Wait + Abort + Sync>(rt: &R, seat: Seated<'_>) {
+    let flag = AtomicBool::new(false);
+    let done = &flag;
+    let work = move || consume_twice(rt, seat, done);
+    thread::join(rt, work, || await_flag(rt, done));
+}
+
+#[test]
+fn a_consumer_dequeues(rt: HostRuntime) -> Result<(), AllocError> {
+    for _ in 0..ROUNDS {
+        let drops = Drops::new(rt.alloc())?;
+        let handle = element(rt.alloc(), 1, &drops)?;
+        let (queue, party) = MpscQueue::new(rt.alloc(), 1)?;
+        let mut seat = Seated::at(&queue, party);
+        puts(&rt, &mut seat, handle);
+        watch_twice(&rt, seat);
+        dropped(&rt, &drops, 1);
+    }
+    Ok(())
+}
+
+/// A party that owns its queue with others.
+#[derive(Drop)]
+struct Owner {
+    queue: Arc<MpscQueue<Counted>, Global>,
+    party: Party<Counted>,
+    ghost owned: { party.table ≡ (arc_value queue).table },
+}
+
+impl Owner {
+    /// The only owner of a new queue with three rooms.
+    fn new(alloc: Global) -> Result<Owner, AllocError> {
+        let (queue, party) = MpscQueue::new(alloc, 3)?;
+        let queue = Arc::new(alloc, queue)?;
+        Ok(Owner { queue, party })
+    }
+
+    /// Another owner, with no room.
+    fn share(&mut self) -> Result<Owner, AllocError> {
+        let queue = Arc::try_clone(&self.queue)?;
+        let party = self.queue.split(&mut self.party, 0);
+        Ok(Owner { queue, party })
+    }
+
+    /// Puts an element into a room that has to be there.
+    fn put(&mut self, rt: &impl Abort, handle: Handle) {
+        assert!(rt; self.party.rooms() > 0);
+        self.queue.enqueue(&mut self.party, handle);
+    }
+
+    /// Compares the number of what one try gave, or why it gave nothing, with what is wanted.
+    fn takes(&mut self, rt: &impl Abort, wanted: Result<u64, TryDequeueError>) {
+        same(rt, found(self.queue.try_dequeue(&mut self.party)), wanted);
+    }
+
+    /// The consumer, where nobody else dequeues.
+    fn consumer(self, rt: &impl Abort) -> OwnedConsumer<Counted> {
+        match MpscQueue::try_consume_owned(self.queue, self.party) {
+            Ok(owned) => owned,
+            Err(_) => panic!(rt; "nobody else has the right"),
+        }
+    }
+
+    /// Waits for the right, and sets the flag.
+    fn consume<R: Wait>(self, rt: &R, done: &AtomicBool) -> OwnedConsumer<Counted> {
+        let owned = MpscQueue::consume_owned(rt, self.queue, self.party);
+        done.store(true, Ordering::SeqCst);
+        owned
+    }
+}
+
+/// The consumer that a thread of its own made, joined once its flag is set.
+fn watch_consume<R: Threads + Wait + Abort + Sync>(rt: &R, owner: Owner) -> OwnedConsumer<Counted> {
+    let flag = AtomicBool::new(false);
+    let done = &flag;
+    let work = move || owner.consume(rt, done);
+    thread::join(rt, work, || await_flag(rt, done)).0
+}
+
+/// Takes the elements 1 and 2, and then none, drops the consumer, and sets the flag.
+fn dequeue_both<R: Wait + Abort>(rt: &R, mut owned: OwnedConsumer<Counted>, done: &AtomicBool) {
+    for wanted in [Some(1), Some(2), None] {
+        same(rt, number_of(rt, owned.dequeue(rt)), wanted);
+    }
+    drop(owned);
+    done.store(true, Ordering::SeqCst);
+}
+
+/// Sends a consumer to a thread that does so, and joins it once its flag is set.
+fn watch_both<R: Threads + Wait + Abort + Sync>(rt: &R, owned: OwnedConsumer<Counted>) {
+    let flag = AtomicBool::new(false);
+    let done = &flag;
+    let work = move || dequeue_both(rt, owned, done);
+    thread::join(rt, work, || await_flag(rt, done));
+}
+
+#[test]
+fn an_owned_consumer_is_sent_to_a_thread(rt: HostRuntime) -> Result<(), AllocError> {
+    for _ in 0..ROUNDS {
+        let drops = Drops::new(rt.alloc())?;
+        let (one, two) = pair(rt.alloc(), 1, &drops)?;
+        let mut owner = Owner::new(rt.alloc())?;
+        owner.put(&rt, one);
+        owner.put(&rt, two);
+        let mut other = owner.share()?;
+        let owned = watch_consume(&rt, owner);
+        other.takes(&rt, Err(TryDequeueError::Busy));
+        watch_both(&rt, owned);
+        other.takes(&rt, Err(TryDequeueError::Empty));
+        dropped(&rt, &drops, 2);
+    }
+    Ok(())
+}
+
+#[test]
+fn the_last_owner_frees_the_queue(rt: HostRuntime) -> Result<(), AllocError> {
+    let drops = Drops::new(rt.alloc())?;
+    let mut owner = Owner::new(rt.alloc())?;
+    for node in elements(rt.alloc(), 1, 3, &drops)? {
+        owner.put(&rt, node);
+    }
+    let mut other = owner.share()?;
+    let mut owned = owner.consumer(&rt);
+    same(&rt, found(owned.try_dequeue()), Ok(1));
+    other.takes(&rt, Err(TryDequeueError::Busy));
+    drop(owned);
+    dropped(&rt, &drops, 1);
+    other.takes(&rt, Ok(2));
+    dropped(&rt, &drops, 2);
+    drop(other.consumer(&rt));
+    dropped(&rt, &drops, 3);
+    Ok(())
+}

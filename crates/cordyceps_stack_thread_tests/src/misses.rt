@@ -1,0 +1,224 @@
+//! Pushes that follow a try which missed, since another thread pushed or took meanwhile.
+use crate::compared::same;
+use crate::flags::await_flag;
+use crate::items::{Handle, dropped, pair, taken};
+use crate::seats::Seated;
+use cordyceps_stack::stack::{Stack, TransferStack};
+use cordyceps_testing::counted::{Counted, Drops};
+use std::alloc::{AllocError, Global};
+use std::process::Abort;
+use std::sync::Wait;
+use std::sync::atomic::{AtomicBool, AtomicU64, Ordering};
+use std::thread;
+use std::thread::Threads;
+
+/// How many turns a thread has at most, until a try of each has missed. No schedule has to make one miss.
+const TURNS: u64 = 10_000_000;
+
+/// How often the threads meet.
+const ROUNDS: u64 = 10;
+
+/// By which call an element is pushed whose try missed.
+#[derive(Clone, Copy)]
+enum Way {
+    Push,
+    PushWasEmpty,
+}
+
+/// How many of two threads are here, and how many of them had a try that missed.
+#[derive(Drop)]
+struct Met {
+    here: AtomicU64,
+    missed: AtomicU64,
+}
+
+/// A thread that pushes elements and takes all that is held, in turn.
+#[derive(Drop)]
+struct Pusher<'s> {
+    seat: Seated<'s>,
+    /// What it has to push.
+    left: Stack<Counted>,
+    /// How many of its pushes told that nothing was held before.
+    first: u64,
+    /// How many of its pushes told nothing.
+    untold: u64,
+    /// How often it took what was held.
+    takes: u64,
+}
+
+impl<'s> Pusher<'s> {
+    /// A thread that has nothing to push.
+    fn new(seat: Seated<'s>) -> Pusher<'s> {
+        Pusher {
+            seat,
+            left: Stack::new(),
+            first: 0,
+            untold: 0,
+            takes: 0,
+        }
+    }
+
+    /// A thread that has two elements to push.
+    fn with_pair(seat: Seated<'s>, pair: (Handle, Handle)) -> Pusher<'s> {
+        let mut pusher = Pusher::new(seat);
+        let (first, second) = pair;
+        pusher.left.push(first);
+        pusher.left.push(second);
+        pusher
+    }
+
+    /// Counts what a push told.
+    fn told(&mut self, first: bool) {
+        if first {
+            self.first = self.first.wrapping_add(1);
+        }
+    }
+
+    /// Pushes an element whose try missed.
+    fn push_again<R: Wait + Abort>(&mut self, rt: &R, way: Way, handle: Handle) {
+        match way {
+            Way::Push => {
+                self.seat.push(rt, handle);
+                self.untold = self.untold.wrapping_add(1);
+            }
+            Way::PushWasEmpty => {
+                let first = self.seat.push_was_empty(rt, handle);
+                self.told(first);
+            }
+        }
+    }
+
+    /// Takes all that is held, to push it again.
+    fn take(&mut self) {
+        let held = self.seat.take_all();
+        if !held.is_empty() {
+            self.takes = self.takes.wrapping_add(1);
+        }
+        for node in held {
+            self.left.push(node);
+        }
+    }
+
+    /// Pushes an element by one try, and tells whether that missed. Takes, where there is none left.
+    fn turn<R: Wait + Abort>(&mut self, rt: &R, way: Way) -> bool {
+        let Some(node) = self.left.pop() else {
+            self.take();
+            return false;
+        };
+        match self.seat.try_push(rt, node) {
+            Ok(first) => {
+                self.told(first);
+                false
+            }
+            Err(back) => {
+                self.push_again(rt, way, back);
+                true
+            }
+        }
+    }
+
+    /// Turn after turn, once both threads are here and until a try of each has missed, and then sets the flag.
+    fn run<R: Wait + Abort>(
+        mut self,
+        rt: &R,
+        way: Way,
+        met: &Met,
+        done: &AtomicBool,
+    ) -> Pusher<'s> {
+        met.here.fetch_add(1, Ordering::SeqCst);
+        let mut all_hit = true;
+        for _ in 0..TURNS {
+            if met.here.load(Ordering::SeqCst) < 2 {
+                thread::yield_now();
+            } else if self.turn(rt, way) && all_hit {
+                all_hit = false;
+                met.missed.fetch_add(1, Ordering::SeqCst);
+            }
+            if met.missed.load(Ordering::SeqCst) == 2 {
+                break;
+            }
+        }
+        done.store(true, Ordering::SeqCst);
+        self
+    }
+
+    /// Takes in what another thread has left, and what it counted.
+    fn add(&mut self, other: Pusher<'s>) {
+        self.first = self.first.wrapping_add(other.first);
+        self.untold = self.untold.wrapping_add(other.untold);
+        self.takes = self.takes.wrapping_add(other.takes);
+        for node in other.left {
+            self.left.push(node);
+        }
+    }
+
+    /// Each take of something follows one push that found nothing held.
+    fn is_counted(&self, rt: &impl Abort) {
+        same(rt, self.first <= self.takes, true);
+        same(rt, self.takes <= self.first.wrapping_add(self.untold), true);
+    }
+}
+
+/// Runs two threads, joined once their flags are set.
+fn run_both<'s, R: Threads + Wait + Abort + Sync>(
+    rt: &R,
+    way: Way,
+    pushers: (Pusher<'s>, Pusher<'s>),
+) -> (Pusher<'s>, Pusher<'s>) {
+    let counts = Met {
+        here: AtomicU64::new(0),
+        missed: AtomicU64::new(0),
+    };
+    let flags = (AtomicBool::new(false), AtomicBool::new(false));
+    let (met, done, also) = (&counts, &flags.0, &flags.1);
+    let (first, second) = pushers;
+    let one = move || first.run(rt, way, met, done);
+    let two = move || second.run(rt, way, met, also);
+    let work = move || thread::join(rt, one, two);
+    let watch = || {
+        await_flag(rt, done);
+        await_flag(rt, also);
+    };
+    thread::join(rt, work, watch).0
+}
+
+/// Compares what two threads have at last, with what is held, with what they had at first.
+fn round<R: Threads + Wait + Abort + Sync>(
+    rt: &R,
+    alloc: Global,
+    way: Way,
+) -> Result<(), AllocError> {
+    let drops = Drops::new(alloc)?;
+    let tens = pair(alloc, 10, &drops)?;
+    let twenties = pair(alloc, 20, &drops)?;
+    let (stack, party) = TransferStack::new(alloc, 4)?;
+    let mut seat = Seated::at(&stack, party);
+    let one = Pusher::with_pair(seat.split(rt, 2), tens);
+    let two = Pusher::with_pair(seat.split(rt, 2), twenties);
+    let mut all = Pusher::new(seat);
+    let (one, two) = run_both(rt, way, (one, two));
+    all.add(one);
+    all.add(two);
+    all.take();
+    all.is_counted(rt);
+    dropped(rt, &drops, 0);
+    taken(rt, alloc, all.left, 0, &[10, 11, 20, 21])?;
+    dropped(rt, &drops, 4);
+    Ok(())
+}
+
+#[test]
+fn pushes_after_a_miss(rt: HostRuntime) -> Result<(), AllocError> {
+    for _ in 0..ROUNDS {
+        round(&rt, rt.alloc(), Way::Push)?;
+    }
+    Ok(())
+}
+
+#[test]
+fn pushes_after_a_miss_and_tells(rt: HostRuntime) -> Result<(), AllocError> {
+    for _ in 0..ROUNDS {
+        round(&rt, rt.alloc(), Way::PushWasEmpty)?;
+    }
+    Ok(())
+}
