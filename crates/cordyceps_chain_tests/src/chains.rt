@@ -3,8 +3,9 @@ use crate::compared::same;
 use cordyceps_base::double_chain::DoubleChain;
 use cordyceps_base::single_chain::SingleChain;
 use cordyceps_base::stack::InStack;
-use cordyceps_testing::counted::{Drops, counted_node};
+use cordyceps_testing::counted::{Counted, Drops, counted_node};
 use cordyceps_testing::nodes::node_of;
+use std::alloc::{AllocError, Global};
 use std::process::Abort;
 use std::test::Fail;
 
@@ -84,5 +85,33 @@ fn a_cursor_puts_nodes_in(rt: HostRuntime) -> Result<(), Fail> {
     assert!(rt; cursor.current().is_none());
     cursor.insert(node_of(alloc, 4, 40)?);
     holds(&rt, &cursor.close(), &[10, 20, 30, 40]);
+    Ok(())
+}
+
+/// A chain of three nodes with counted values.
+fn counted_chain(
+    alloc: Global,
+    drops: &Drops,
+) -> Result<SingleChain<Counted, InStack>, AllocError> {
+    let mut chain = SingleChain::empty();
+    for id in 0..3u64 {
+        chain.link_back(counted_node(alloc, id, 0, drops)?);
+    }
+    Ok(chain)
+}
+
+#[test]
+fn a_dropped_cursor_frees_each_node_once(rt: HostRuntime) -> Result<(), Fail> {
+    for moves in 0..4usize {
+        let drops = Drops::new(rt.alloc())?;
+        let mut cursor = counted_chain(rt.alloc(), &drops)?.into_cursor();
+        for _ in 0..moves {
+            assert!(rt; cursor.current().is_some());
+            cursor.advance();
+        }
+        same(&rt, drops.count(), 0);
+        drop(cursor);
+        same(&rt, drops.count(), 3);
+    }
     Ok(())
 }

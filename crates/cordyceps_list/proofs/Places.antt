@@ -11,7 +11,7 @@ use Rattle.cordyceps_list.specs.declared.finger.Finger.{Finger}
 use Rattle.cordyceps_list.specs.declared.finger.Fingers.{Fingers}
 use Rattle.cordyceps_list.specs.Fingers.{Fits, AllFit, PutsIn, TakesOut, ChangesBehind}
 
-below_or_not : (a b : ℕ) → (a < b) ⊎ (b ≤ a)
+pub below_or_not : (a b : ℕ) → (a < b) ⊎ (b ≤ a)
 below_or_not zero b = elim b as (λ n. (zero < n) ⊎ (n ≤ zero)) [ zero ↦ inr (omega arith) | suc n ↦ inl (omega arith) ]
 below_or_not (suc a) zero = inr (omega arith)
 below_or_not (suc a) (suc b) = elim (below_or_not a b) [ inl h ↦ inl (omega arith) | inr h ↦ inr (omega arith) ]

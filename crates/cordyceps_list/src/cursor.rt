@@ -1,6 +1,7 @@
 //! Cursors by which a list is read.
-ghost use Rattle.std.specs.Prelude.{◌≡◌, ◌+◌, ◌-◌, ◌<◌, ◌≤◌, ◌==◌, length, slice_get, option_copied};
-ghost use Rattle.std.specs.Iterator.{at_most};
+ghost use Rattle.std.specs.Prelude.{◌≡◌, ◌+◌, ◌-◌, ◌<◌, ◌≤◌, ◌==◌, length, slice_get, option_copied, IfSome, None};
+ghost use Rattle.std.specs.Iterator.{at_most, UpTo};
+ghost use Rattle.std.specs.Iterator.SizeHint.{IsWithinCount};
 ghost use Rattle.cordyceps_base.specs.Element.{values};
 ghost use Rattle.cordyceps_list.specs.Places.{next_place, prev_place};
 ghost use Rattle.cordyceps_list.specs.Position.{GivesAndMoves};
@@ -80,6 +81,14 @@ impl<'a, T: Linked<Links<T>>> Cursor<'a, T> {
         let chain = &list.chain;
         let place = fingers.seek_within(chain, at);
         Cursor { chain, place, at }
+    }
+
+    /// The cursor's place.
+    pub(crate) fn at(&self) -> usize
+        ensures value { result ≡ self.now.place }
+        ensures inside { result ≤ length self.now.elements }
+    {
+        self.at
     }
 
     /// The number of elements of the list.
@@ -203,5 +212,14 @@ impl<'a, T: Linked<Links<T>>> Iterator for Cursor<'a, T> {
         self.place = chain.next(self.place, self.at);
         self.at += 1;
         Some(item)
+    }
+
+    /// Bounds nothing, since the cursor may move between the calls of `next`.
+    fn size_hint(&self) -> (usize, Option<usize>)
+        ensures lower { IsWithinCount result.0 (at_most (length self.now.elements - self.now.place)) }
+        ensures upper { IfSome result.1 (UpTo (at_most (length self.now.elements - self.now.place))) }
+        ensures exact { result ≡ (0, None) }
+    {
+        (0, None)
     }
 }

@@ -58,6 +58,7 @@ impl<'a, T: Linked<Links<T>>> CursorMut<'a, T> {
     ghost use Rattle.cordyceps_list.specs.Cursor.{elements, place, lender, Stands, LendsAt};
     ghost use Rattle.cordyceps_list.specs.Places.{next_place, prev_place, index_at};
     ghost use Rattle.cordyceps_list.specs.Filter.{RemovesFirst};
+    ghost use Rattle.cordyceps_list.specs.Walk.{MayAsk};
 
     /// A cursor at a place.
     pub(crate) fn at_place(list: &'a mut List<T>, at: usize) -> CursorMut<'a, T>
@@ -154,12 +155,12 @@ impl<'a, T: Linked<Links<T>>> CursorMut<'a, T> {
         ensures* writes_back { sem 𝓛 (LendsAt (record { mir = named 1; lft = [] }) T.row self.entry (place self.old) (place self.old) result) }
         ensures value { option_copied_mut result ≡ slice_get (values (elements self.old)) (place self.old) }
     {
-        let at = self.at;
-        if at == self.list.len() {
+        let here = self.at;
+        if here == self.list.len() {
             return None;
         }
         let list = &mut *self.list;
-        Some(list.value_mut_at(at))
+        Some(list.value_mut_at(here))
     }
 
     /// The value at the next place, to be changed. `None` as `peek_next`.
@@ -296,12 +297,12 @@ impl<'a, T: Linked<Links<T>>> CursorMut<'a, T> {
 
     /// Asks the predicate of the values from the cursor's place on, in order, up to the first `true`, and takes that
     /// element out: the cursor is at the one behind it. Without a `true` the answer is `None`, and the cursor is at the
-    /// null place.
+    /// null place. The predicate must be callable on these values.
     pub fn remove_first<F: FnMut(&T) -> bool + Drop>(
         &mut self,
         mut predicate: F,
     ) -> Option<T::Handle>
-        requires { F.IsAlwaysCallable predicate }
+        requires { MayAsk F.FnMut (drop (place self.old) (values (elements self.old))) predicate }
         ensures removes { (last : F) × RemovesFirst T.element (CalledAt F.FnMut) (elements self.old) (place self.old) predicate result (elements self.new) (place self.new) last }
         ensures same_reference { lender self.new ≡ lender self.old }
     {
@@ -313,10 +314,9 @@ impl<'a, T: Linked<Links<T>>> CursorMut<'a, T> {
         &mut self,
         predicate: &mut F,
     ) -> Option<T::Handle>
-        requires { F.IsAlwaysCallable predicate.old }
+        requires { MayAsk F.FnMut (drop (place self.old) (values (elements self.old))) predicate.old }
         ensures removes { RemovesFirst T.element (CalledAt F.FnMut) (elements self.old) (place self.old) predicate.old result (elements self.new) (place self.new) predicate.new }
         ensures same_reference { lender self.new ≡ lender self.old }
-        ensures callable_again { F.IsAlwaysCallable predicate.new }
     {
         self.at = self.list.first_passing(self.at, predicate);
         self.remove_current()

@@ -31,8 +31,8 @@ impl<'a, T, F: Drop> Drop for DrainFilter<'a, T, F> {
 impl<T: Linked<Links<T>>> List<T> {
     ghost use Rattle.cordyceps_list.specs.DrainFilter.{elements, place, lender, predicate_of};
 
-    /// Hands out the elements of which the predicate says `true`, and keeps the others. The predicate must be callable on
-    /// every value.
+    /// Hands out the elements of which the predicate says `true`, and keeps the others. Each call of `next` asks that the
+    /// predicate is callable on the values that it has not seen.
     pub fn drain_filter<F: FnMut(&T) -> bool + Drop>(
         &mut self,
         predicate: F,
@@ -51,16 +51,17 @@ impl<T: Linked<Links<T>>> List<T> {
 }
 
 impl<'a, T: Linked<Links<T>>, F: FnMut(&T) -> bool + Drop> Iterator for DrainFilter<'a, T, F> {
-    ghost use Rattle.std.specs.Prelude.{◌≡◌, ◌-◌, length, IfSome, Some};
+    ghost use Rattle.std.specs.Prelude.{◌≡◌, ◌-◌, length, drop, IfSome, Some};
     ghost use Rattle.std.specs.Iterator.SizeHint.{IsWithinCount};
     ghost use Rattle.std.specs.Fn.{CalledAt};
     ghost use Rattle.std.specs.Iterator.{at_most, UpTo};
-    ghost use denote.Param.Always.{always_mut};
+    ghost use Rattle.cordyceps_base.specs.Element.{values};
     ghost use Rattle.cordyceps_list.specs.DrainFilter.{elements, place, predicate_of, drain_steps};
+    ghost use Rattle.cordyceps_list.specs.Walk.{MayAskAll};
 
     type Item = T::Handle;
 
-    ghost can_next = { λ s. always_mut F.FnMut (predicate_of s) };
+    ghost can_next = { λ s. MayAskAll F.FnMut (drop (place s) (values (elements s))) (predicate_of s) };
 
     ghost next_gives = { drain_steps T.element (CalledAt F.FnMut) };
 

@@ -1,6 +1,9 @@
 //! Laws of lists. Each is a small function whose contract is the law, and whose body is the calls that it speaks of.
 ghost use Rattle.std.specs.Prelude.{◌≡◌, ◌+◌, ◌<◌, ◌≤◌, ◌++◌, length, option_map, Some};
 
+pub mod lending;
+pub mod reading;
+
 use crate::cursor_mut::CursorMut;
 use crate::iter::IntoIter;
 use crate::list::{Links, List};
@@ -95,5 +98,16 @@ impl<'a, T: Linked<Links<T>>> CursorMut<'a, T> {
             self.move_next();
         }
         self.move_next();
+    }
+
+    /// One move back more than there are elements leads back to the same place.
+    pub fn go_round_back(&mut self)
+        ensures { Stands self.old self.new (elements self.old) (place self.old) }
+    {
+        let len = self.len();
+        for _ in 0..len {
+            self.move_prev();
+        }
+        self.move_prev();
     }
 }

@@ -3,7 +3,7 @@ ghost use Rattle.std.specs.Prelude.{◌≡◌, ◌+◌, ◌-◌, ◌<◌, ◌≤
 ghost use Rattle.std.specs.Fn.{CalledAt};
 ghost use Rattle.cordyceps_base.specs.Element.{values};
 ghost use Rattle.cordyceps_base.specs.Nodes.{elements};
-ghost use Rattle.cordyceps_list.specs.Walk.{Walks};
+ghost use Rattle.cordyceps_list.specs.Walk.{MayAsk, Walks};
 ghost use Rattle.cordyceps_list.specs.Fingers.{Fits};
 
 use crate::finger::Finger;
@@ -19,11 +19,10 @@ fn first_passing<T, F: FnMut(&T) -> bool>(
     predicate: &mut F,
 ) -> Finger
     requires fits { Fits chain.now from }
-    requires callable { F.IsAlwaysCallable predicate.old }
+    requires callable { MayAsk F.FnMut (drop from.index (values (elements chain.now))) predicate.old }
     ensures fits { Fits chain.now result }
     ensures walks { Walks (CalledAt F.FnMut) predicate.old (drop from.index (values (elements chain.now))) (result.index - from.index) predicate.new }
     ensures from { from.index ≤ result.index }
-    ensures callable_again { F.IsAlwaysCallable predicate.new }
 {
     let mut finger = from;
     while finger.index < chain.len() {
@@ -44,12 +43,11 @@ impl<T: Linked<Links<T>>> List<T> {
         predicate: &mut F,
     ) -> usize
         requires inside { at ≤ length self.old }
-        requires callable { F.IsAlwaysCallable predicate.old }
+        requires callable { MayAsk F.FnMut (drop at (values self.old)) predicate.old }
         ensures elements { self.new ≡ self.old }
         ensures walks { Walks (CalledAt F.FnMut) predicate.old (drop at (values self.old)) (result - at) predicate.new }
         ensures from { at ≤ result }
         ensures to { result ≤ length self.old }
-        ensures callable_again { F.IsAlwaysCallable predicate.new }
     {
         let from = Finger {
             at: self.fingers.seek_within(&self.chain, at),

@@ -1,9 +1,10 @@
-use Rattle.std.proofs.Common.{◌≡◌, ℕ, ◌+◌, Bool, true, false, length, drop, refl, subst, arith, rules, of_calls}
+use Rattle.std.proofs.Common.{◌≡◌, ℕ, ◌+◌, Bool, true, false, length, drop, refl, subst, arith}
 use Rattle.std.proofs.lemmas.List.{length-map}
 use Rattle.std.specs.Fn.{CalledAt}
 use Rattle.cordyceps_base.specs.Element.{values}
 use Rattle.cordyceps_base.specs.Nodes.{elements}
 use Rattle.cordyceps_list.specs.Walk.{Walks}
+use Rattle.cordyceps_list.proofs.Asking.{may_ask_here, may_ask_on}
 use Rattle.cordyceps_list.proofs.Walking.{walk_end, walk_stop, walk_step}
 use Rattle.cordyceps_list.proofs.walk.first_passing.Goals as goal
 
@@ -25,7 +26,7 @@ loop-finger-preserved g c =
     let next = c.predicate.new.self in
     let call : R c.loop-finger.predicate c.get.result.now false next = subst (λ (b : Bool). R c.loop-finger.predicate c.get.result.now b next) c.if-predicate.false (record { shown = c.get.result; shows = refl; called = c.predicate.ensures }) in
     record {
-      callable = search (of_calls, rules);
+      callable = may_ask_on g.F.FnMut xs p c.get.result.now c.loop-finger.predicate next c.get.ensures call c.loop-finger.invariant.callable;
       fits = record { within = omega arith; on = c.next-finger.ensures };
       from = omega arith;
       walks = λ n last w. subst (λ (m : ℕ). Walks R c.args.predicate.now (drop c.args.from.index xs) m last) (omega arith) (c.loop-finger.invariant.walks (n + 1) last (walk_step R xs p n c.get.result.now c.loop-finger.predicate next last c.get.ensures call w));
@@ -41,3 +42,6 @@ returns-clause-walks g c =
     let at_end : length xs ≡ c.loop-finger.finger.index = omega (arith, length-map s (λ e. e.value), length-map nodes (λ n. n.1), c.loop-finger.invariant.fits.within) in
     let w = c.loop-finger.invariant.walks 0 last (subst (λ (k : ℕ). Walks R last (drop k xs) 0 last) at_end (walk_end R xs last)) in
     subst (λ (n : ℕ). Walks R c.args.predicate.now (drop c.args.from.index xs) n last) (omega arith) w
+
+pub predicate-requires : goal.predicate-requires
+predicate-requires g c = may_ask_here g.F.FnMut (values (elements c.args.chain.now)) c.loop-finger.finger.index c.get.result.now c.loop-finger.predicate c.get.ensures c.loop-finger.invariant.callable c.get.result refl

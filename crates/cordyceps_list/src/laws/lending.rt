@@ -1,0 +1,92 @@
+//! Laws of iterators that lend values to be changed.
+ghost use Rattle.std.specs.Prelude.{◌≡◌, ◌-◌, ◌++◌, length, reverse, IfOk, OnOk};
+ghost use Rattle.std.specs.Iterator.{YieldsFirst, YieldsLast};
+ghost use Rattle.cordyceps_base.specs.Element.{values};
+ghost use Rattle.cordyceps_list.specs.IterMut.{elements, to_lend, lender};
+
+use crate::iter_mut::IterMut;
+use crate::list::{Links, List};
+use cordyceps_base::linked::Linked;
+use std::alloc::{AllocError, Global};
+
+/// Copies the value that `next` lends.
+fn copied_next<T: Linked<Links<T>> + Copy>(left: &mut IterMut<'_, T>) -> Option<T>
+    ensures same_reference { lender left.new ≡ lender left.old }
+    ensures elements { elements left.new ≡ elements left.old }
+    ensures first { YieldsFirst to_lend left.old result left.new }
+{
+    let Some(value) = left.next() else {
+        return None;
+    };
+    Some(*value)
+}
+
+/// Copies the value that `next_back` lends.
+fn copied_next_back<T: Linked<Links<T>> + Copy>(left: &mut IterMut<'_, T>) -> Option<T>
+    ensures same_reference { lender left.new ≡ lender left.old }
+    ensures elements { elements left.new ≡ elements left.old }
+    ensures last { YieldsLast to_lend left.old result left.new }
+{
+    let Some(value) = left.next_back() else {
+        return None;
+    };
+    Some(*value)
+}
+
+/// Asks `next`, and puts a copy of what it lends behind those from the front.
+fn copy_first<T: Linked<Links<T>> + Copy>(
+    left: &mut IterMut<'_, T>,
+    firsts: &mut Vec<T>,
+) -> Result<(), AllocError>
+    ensures same_reference { lender left.new ≡ lender left.old }
+    ensures elements { elements left.new ≡ elements left.old }
+    ensures once { OnOk result (firsts.new.items ++ to_lend left.new ≡ firsts.old.items ++ to_lend left.old) }
+    ensures fewer { length (to_lend left.new) ≡ length (to_lend left.old) - 1 }
+{
+    if let Some(value) = copied_next(left) {
+        firsts.push(value)?;
+    }
+    Ok(())
+}
+
+/// Asks `next_back`, and puts a copy of what it lends behind those from the back.
+fn copy_last<T: Linked<Links<T>> + Copy>(
+    left: &mut IterMut<'_, T>,
+    lasts: &mut Vec<T>,
+) -> Result<(), AllocError>
+    ensures same_reference { lender left.new ≡ lender left.old }
+    ensures elements { elements left.new ≡ elements left.old }
+    ensures once { OnOk result (to_lend left.new ++ reverse lasts.new.items ≡ to_lend left.old ++ reverse lasts.old.items) }
+{
+    if let Some(value) = copied_next_back(left) {
+        lasts.push(value)?;
+    }
+    Ok(())
+}
+
+/// Borrows the values from both ends in turn: `true` asks `next`, and `false` asks `next_back`. What is left then comes
+/// from the front. Copies of those from the front, and of those from the back, the last lent first, are all values, each
+/// once and in order.
+pub fn copy_from_both_ends<T: Linked<Links<T>> + Copy>(
+    alloc: Global,
+    list: &mut List<T>,
+    turns: &[bool],
+) -> Result<(Vec<T>, Vec<T>), AllocError>
+    ensures once { IfOk result (λ copies. copies.0.items ++ reverse copies.1.items ≡ values list.old) }
+    ensures kept { list.new ≡ list.old }
+{
+    let mut left = list.iter_mut();
+    let mut firsts = Vec::new(alloc);
+    let mut lasts = Vec::new(alloc);
+    for turn in turns {
+        if *turn {
+            copy_first(&mut left, &mut firsts)?;
+        } else {
+            copy_last(&mut left, &mut lasts)?;
+        }
+    }
+    for _ in 0..left.len() {
+        copy_first(&mut left, &mut firsts)?;
+    }
+    Ok((firsts, lasts))
+}
