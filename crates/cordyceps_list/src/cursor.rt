@@ -102,7 +102,7 @@ impl<'a, T: Linked<Links<T>>> Cursor<'a, T> {
     pub fn is_empty(&self) -> bool
         ensures { result ≡ (length self.now.elements == 0) }
     {
-        self.chain.len() == 0
+        self.len() == 0
     }
 
     /// The index of the element that the cursor is at. `None` at the null place.

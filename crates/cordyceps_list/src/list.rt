@@ -12,7 +12,7 @@ use std::marker::Model;
 
 /// A doubly linked list of owned nodes. A contract sees its elements, in order.
 ///
-/// Handles go in and come out as the same elements; linking takes no memory and cannot be refused. The length is kept.
+/// Handles go in and come out as the same elements; linking takes no memory and cannot be refused. The list knows its length.
 /// A drop frees each node once.
 #[derive(Drop)]
 pub struct List<T> {
