@@ -16,6 +16,7 @@ pub mod Held
 pub mod Holder
 pub mod Keeping
 pub mod Legality
+pub mod Ordering
 pub mod Parties
 pub mod PartyNames
 pub mod Producers

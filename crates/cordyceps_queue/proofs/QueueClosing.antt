@@ -8,9 +8,9 @@ use Rattle.cordyceps_shared.specs.Standings.{name_of}
 use Rattle.cordyceps_shared.proofs.Adding.{whole_adds}
 use Rattle.cordyceps_queue.specs.declared.steps.TryDequeueError.{TryDequeueError}
 use Rattle.cordyceps_queue.specs.declared.steps.TryDequeueError.TheVariants as error
-use Rattle.cordyceps_queue.specs.QueueHistory.{Event, Take, Look, Out, Empty, Free, held}
+use Rattle.cordyceps_queue.specs.QueueHistory.{Event, Swap, Link, Take, Look, Out, Empty, Free, held}
 use Rattle.cordyceps_queue.specs.QueuePast as past
-use Rattle.cordyceps_queue.specs.QueueStanding.{same_name, PartyOf, Legal, Adds, Dequeues, Consumes, IsCertain}
+use Rattle.cordyceps_queue.specs.QueueStanding.{same_name, PartyOf, Legal, Adds, Enqueues, Dequeues, Consumes, IsCertain}
 use Rattle.cordyceps_queue.proofs.Both.{legal_both_ways}
 use Rattle.cordyceps_queue.proofs.Legality.{held_of}
 use Rattle.cordyceps_queue.proofs.QueueRuns.{Run, run_holds}
@@ -33,6 +33,16 @@ module _ {E : Type 0} where
       let back : reverse (plain w.seen) ≡ reverse es ++ reverse (plain u.seen) = ap reverse all ∙ reverse-append (plain u.seen) es in
       let after = held_of (plain w.seen) (subst (λ r. past.IsLegal r) (sym back) l) ∙ ap (λ r. past.held r) back in
       before ∙ (out.2 ∙ ap (λ xs. e ∷ xs) (sym (after ∙ ap (drop 1) out.2)))
+
+  -- what a whole party puts in is held behind what was
+  pub holds_last : (u w : PartyOf E) (e : E) → u.share ≡ whole → Enqueues e u w → held (plain w.seen) ≡ held (plain u.seen) ++ e ∷ []
+  holds_last u w e is d =
+      let n = name_of u in
+      let es : List (Event Name E) = Swap n e ∷ Link n ∷ [] in
+      let l = back_legal u w es is d.0 in
+      let all = whole_adds (λ h. Legal h) u w es is d.0 in
+      let back : reverse (plain w.seen) ≡ reverse es ++ reverse (plain u.seen) = ap reverse all ∙ reverse-append (plain u.seen) es in
+      held_of (plain w.seen) (subst (λ r. past.IsLegal r) (sym back) l) ∙ ap (λ r. past.held r) back ∙ ap (λ xs. xs ++ e ∷ []) (sym (held_of (plain u.seen) l.1.1))
 
   -- a try that took this element
   abbrev pub TakesOut : E → PartyOf E → PartyOf E → Type 0

@@ -2,7 +2,7 @@
 use Rattle.std.specs.Prelude.{◌≡◌, ℕ, suc, ◌+◌, ◌<◌, ◌≤◌, ◌≢◌, ◌⊎◌, List, [], ◌∷◌, ◌++◌, drop, length, Option, Some, None}
 
 pub data Event (P E : Type 0) : Type 0 where
-  -- the party put its element behind all others, and later linked it to the one before it
+  -- the party put its element behind all others, and later made the one before lead to it
   Swap : P → E → Event P E
   Link : P → Event P E
   -- it took the right to dequeue, or another had it

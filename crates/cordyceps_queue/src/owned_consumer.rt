@@ -73,7 +73,7 @@ impl<T: Linked<Links<T>>> OwnedConsumer<T> {
     /// Tries once to take the oldest element out. The room of what comes out becomes the party's. It waits for nobody.
     ///
     /// `Empty` where nothing was held, `Inconsistent` where the oldest element or the one behind it is not linked yet. Each
-    /// leaves the elements as they were. A whole party meets the first alone, and no consumer meets `Busy`.
+    /// leaves the elements as they were. A whole party meets `Empty` alone, and no consumer meets `Busy`.
     pub fn try_dequeue(&mut self) -> Result<T::Handle, TryDequeueError>
         ensures queue { self.new.queue ≡ self.old.queue }
         ensures answer { Consumes result self.old.party self.new.party }

@@ -7,7 +7,7 @@ ghost use Rattle.cordyceps_queue.specs.QueueDrained.{is_cleared};
 #[derive(Clone, Copy)]
 pub enum Place {
     Rest,
-    /// The room has its element.
+    /// The room's link is null, and its element is chosen.
     Cleared(usize),
     /// The room is the head, and is to be linked behind the old one.
     Swapped(usize, usize),

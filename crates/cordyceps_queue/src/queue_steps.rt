@@ -51,7 +51,7 @@ fn link<E: Drop>(words: &Words<E>, seat: &mut Chair<E>, room: usize, old: usize)
     words.store::<Link>(seat, old + 2, room as u64 + 1);
 }
 
-/// Puts an element into a free room, which the ticket is of, and the room at the head.
+/// Puts an element into a free room, which the ticket is of, makes the room the head, and links it.
 pub(crate) fn enqueue<E: Drop>(words: &Words<E>, seat: &mut Chair<E>, ticket: Ticket, item: E)
     requires table { (seat.old.table_id ≡ words.now.table_id) × IsTable words.now.table_id }
     requires rest { IsResting words.now.table_id.slots seat.old.me }

@@ -21,7 +21,7 @@ use std::marker::Model;
 
 /// A queue that threads share without a lock: many put elements in, and one at a time takes them out.
 ///
-/// It has as many rooms as its maker chose, each of which holds one element. Each call is made by a party, which has some
+/// It has as many rooms as its maker chose, each for one element. Each call is made by a party, which has some
 /// of the rooms and what it has seen of the queue's history (for contracts alone). Elements go in by handles, and the same
 /// elements come out, in the order in which they were put in. No call on a made queue takes memory.
 ///
@@ -91,7 +91,7 @@ impl<T: Linked<Links<T>>> MpscQueue<T> {
     /// An empty queue with this many rooms, at most `MAX_ROOMS`, and the party that has them all, which is whole. Its stub
     /// is a room without a node, beside the others.
     ///
-    /// It makes an allocation for each room, and five for the words and slots of all. `AllocError` where one is refused.
+    /// It makes an allocation for each room and one for the stub's, and four for the words and slots of all. `AllocError` where one is refused.
     pub fn new(alloc: Global, rooms: usize) -> Result<(MpscQueue<T>, Party<T>), AllocError>
         requires { rooms ≤ 1048576 }
         ensures { IfOk result (λ made. (made.0.stub ≡ None) × (made.1 ≡ new_party made.0.table rooms)) }
@@ -144,7 +144,7 @@ impl<T: Linked<Links<T>>> MpscQueue<T> {
     /// what comes out becomes the party's. It waits for nobody.
     ///
     /// `Empty` where nothing was held, `Inconsistent` where the oldest element or the one behind it is not linked yet,
-    /// `Busy` where another party has the right. Each leaves the elements as they were. A whole party meets the first alone.
+    /// `Busy` where another party has the right. Each leaves the elements as they were. A whole party meets `Empty` alone.
     pub fn try_dequeue(&self, party: &mut Party<T>) -> Result<T::Handle, TryDequeueError>
         requires { party.old.table ≡ self.now.table }
         ensures answer { Dequeues result party.old party.new }

@@ -24,8 +24,8 @@ module _ {X : Type 0} where
   abbrev pub all_seen : ℕ → List (ℕ × X) → List Name → Known X
   all_seen j h share = record { seen = marked j h; had = []; told = []; share = share }
 
-  -- what it has seen is a beginning of the history, with all events of its own; and so is what it was told, where no
-  -- event has a mark that it had marked itself
+  -- what it has seen is a beginning of the history, with all events of its own; and so is what it was told, and no event
+  -- is marked both there and in what it had seen itself
   pub record Fits (history : List (ℕ × X)) (j : ℕ) (k : Known X) : Type 0 where
     pub before : List (ℕ × X)
     pub later : List (ℕ × X)

@@ -20,7 +20,7 @@ use std::sync::Wait;
 
 /// A stack that threads share without a lock. They push to it one element at a time, and take all that it holds at once.
 ///
-/// It has as many rooms as its maker chose, each of which holds one element. Each call is made by a party, which has some
+/// It has as many rooms as its maker chose, each for one element. Each call is made by a party, which has some
 /// of the rooms and what it has seen of the stack's history (for contracts alone). Elements go in by handles, and the same
 /// elements come out, the last pushed first. No call on a made stack takes memory.
 ///

@@ -1,4 +1,4 @@
-//! The atomic steps of a shared transfer stack. Each function is a part of a call, with at most one step on `head`.
+//! The atomic steps of a shared transfer stack. Each function is a part of a call.
 ghost use Rattle.std.specs.Prelude.{◌≡◌, ◌≢◌, ◌<◌, ◌≤◌, ℕ, List, [], ◌∷◌, Some, None, length, MatchResult, IfOk, IsTrue};
 ghost use Rattle.std.specs.Mem.Slots.{slots_items};
 ghost use Rattle.cordyceps_shared.specs.Knowing.{IsKnown};

@@ -1,0 +1,5 @@
+use Rattle.cordyceps_queue.proofs.Ordering.{one_holder}
+use Rattle.cordyceps_queue.proofs.laws.one_holder.Goals as goal
+
+pub returns : goal.returns
+returns g c = one_holder g.row.P.Denot g.row.E.Denot
