@@ -8,11 +8,11 @@ use Rattle.cordyceps.specs.declared.replay.item.Item.{Item}
 use Rattle.cordyceps.specs.declared.replay.reply.Reply.{Reply, fold-roll-Reply}
 use Rattle.cordyceps.specs.declared.replay.reply.Reply.TheOpen.{Reply-F}
 use Rattle.cordyceps.specs.declared.replay.reply.Reply.TheVariants.{Block, Found, Len, Index, Truth, Show, rolls-Block, rolls-Found, rolls-Len, rolls-Index, rolls-Truth, rolls-Show}
-use Rattle.cordyceps.specs.Replies.{Line, found, len, index, truth, show, lines_of, lines_step}
+use Rattle.cordyceps.specs.Replies.{Line, block_begins, found, len, index, truth, show, lines_of, lines_step}
 
-pub block_lines : (replies : Vec Reply Global) → lines_of (Block replies) ≡ flat_map lines_of replies.items
+pub block_lines : (replies : Vec Reply Global) → lines_of (Block replies) ≡ block_begins ∷ flat_map lines_of replies.items
 block_lines replies =
-    ap lines_of (sym (rolls-Block replies)) ∙ fold-roll-Reply (List Line) lines_step (Reply-F.Block replies) ∙ flat_map-map (λ lines. lines) lines_of replies.items
+    ap lines_of (sym (rolls-Block replies)) ∙ fold-roll-Reply (List Line) lines_step (Reply-F.Block replies) ∙ ap (λ (ls : List Line). block_begins ∷ ls) (flat_map-map (λ lines. lines) lines_of replies.items)
 
 pub found_line : (item : Item) → lines_of (Found item) ≡ found item ∷ []
 found_line item = ap lines_of (sym (rolls-Found item)) ∙ fold-roll-Reply (List Line) lines_step (Reply-F.Found item)

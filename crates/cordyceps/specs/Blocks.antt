@@ -11,7 +11,7 @@ use Rattle.cordyceps.specs.declared.replay.list_command.ListEnd.TheVariants as e
 use Rattle.cordyceps.specs.declared.replay.list_command.CursorCommand.{CursorCommand}
 use Rattle.cordyceps.specs.declared.replay.list_command.CursorCommand.TheVariants as lines
 use Rattle.cordyceps.specs.declared.replay.reply.Reply.{Reply}
-use Rattle.cordyceps.specs.Replies.{Line, lines_of, done, nothing, len, not_there, found_or_nothing, index_or_nothing}
+use Rattle.cordyceps.specs.Replies.{Line, lines_of, block_begins, done, nothing, len, not_there, found_or_nothing, index_or_nothing}
 use Rattle.cordyceps.specs.Tables.{Table, element_of, held_at}
 use Rattle.cordyceps.specs.Filters.{passing, all_but}
 
@@ -120,9 +120,9 @@ blocked table list end lines told =
     let start : State = (table, first_place end (length (held_at table list))) in
     ((after (line_step list) start lines).0, told ++ replies_to (line_step list) start lines)
 
--- the table after a block, and the replies to its lines, that to the line which opens it first
+-- the table after a block, and behind the mark the replies to its lines, that to the line which opens it first
 abbrev pub block : Table → ℕ → ListEnd → List CursorCommand → Table × List Line
-block table list end lines = blocked table list end lines (done ∷ [])
+block table list end lines = blocked table list end lines (block_begins ∷ done ∷ [])
 
 -- the other list of a line is one of sixteen
 abbrev pub OtherFits : CursorCommand → Type 0

@@ -5,8 +5,9 @@ use Rattle.cordyceps.specs.declared.replay.item.Item.{Item}
 use Rattle.cordyceps.specs.declared.replay.reply.Reply.{Reply, fold-Reply}
 use Rattle.cordyceps.specs.declared.replay.reply.Reply.TheOpen.{Reply-F}
 
--- the reply to one line of a script
+-- The reply to one line of a script, or the mark before those to the lines of a block. The mark is no line of text.
 pub data Line : Type 0 where
+  block_begins : Line
   done : Line
   found : Item → Line
   nothing : Line
@@ -26,9 +27,9 @@ lines_step (Reply-F.Index n) = index n ∷ []
 lines_step (Reply-F.Truth b) = truth b ∷ []
 lines_step (Reply-F.Show items) = show items.items ∷ []
 lines_step Reply-F.NotThere = not_there ∷ []
-lines_step (Reply-F.Block replies) = flat_map (λ lines. lines) replies.items
+lines_step (Reply-F.Block replies) = block_begins ∷ flat_map (λ lines. lines) replies.items
 
--- the replies to the lines of a command; those of a block are its lines' replies, one after the other
+-- the replies to the lines of a command; of a block, and of nothing else, a mark comes first, then its lines' replies
 abbrev pub lines_of : Reply → List Line
 lines_of = fold-Reply (List Line) lines_step
 

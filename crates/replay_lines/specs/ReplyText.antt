@@ -1,16 +1,17 @@
 -- The text of replies.
-use Rattle.std.specs.Prelude.{ℕ, true, false, List, ◌++◌, Option, None, Some, codes, decimal}
+use Rattle.std.specs.Prelude.{ℕ, true, false, List, [], ◌++◌, Option, None, Some, codes, decimal}
 use Rattle.std.specs.List.{flat_map}
 use Rattle.cordyceps.specs.declared.replay.item.Item.{Item}
-use Rattle.cordyceps.specs.Replies.{Line, done, found, nothing, len, index, truth, show, not_there}
+use Rattle.cordyceps.specs.Replies.{Line, block_begins, done, found, nothing, len, index, truth, show, not_there}
 
 -- an item as a line of items shows it
 abbrev pub shown_text : Option Item → List ℕ
 shown_text None = codes " -"
 shown_text (Some item) = codes " " ++ decimal item.id ++ codes ":" ++ decimal item.value
 
--- the reply line
+-- the reply line; the mark of a block has no text
 abbrev pub line_text : Line → List ℕ
+line_text block_begins = []
 line_text done = codes "ok\n"
 line_text (found item) = codes "some " ++ decimal item.id ++ codes " " ++ decimal item.value ++ codes "\n"
 line_text nothing = codes "none\n"

@@ -1,7 +1,7 @@
 //! Replies to commands.
 ghost use Rattle.std.specs.Prelude.{◌≡◌, ◌∷◌, []};
 ghost use Rattle.std.specs.List.{flat_map};
-ghost use Rattle.cordyceps.specs.Replies.{done, found, nothing, len, index, truth, show, not_there, lines_of, found_or_nothing, index_or_nothing};
+ghost use Rattle.cordyceps.specs.Replies.{block_begins, done, found, nothing, len, index, truth, show, not_there, lines_of, found_or_nothing, index_or_nothing};
 
 use crate::replay::item::Item;
 
@@ -76,7 +76,7 @@ pub(crate) fn show_of(items: Vec<Option<Item>>) -> Reply
 /// The replies to the lines of a block.
 #[tactic(auto, using(crate::proofs::Replies::block_lines))]
 pub(crate) fn block_of(replies: Vec<Reply>) -> Reply
-    ensures { lines_of result ≡ flat_map lines_of replies.items }
+    ensures { lines_of result ≡ block_begins ∷ flat_map lines_of replies.items }
 {
     Reply::Block(replies)
 }
