@@ -1,10 +1,10 @@
-//! Streams that fail, or give and take little at once, long lines, and refused memory.
+//! Streams that fail or give little at once, long lines, and refused memory.
 
 ghost use Rattle.std.specs.Prelude.{◌≤◌};
 
 use crate::compared::same;
 use crate::stored::{REPLIES, STORED};
-use crate::streams::{Paper, Script, gives, outcome};
+use crate::streams::{Script, gives, outcome};
 use cordyceps::replay::Item;
 use replay_driver::fault::Fault;
 use replay_driver::sink::ToWrite;
@@ -51,42 +51,6 @@ fn short_reads(rt: HostRuntime) -> Result<(), Fail> {
     Ok(())
 }
 
-/// The replies to the stored run's complete lines among so many bytes.
-fn replies_within(given: usize) -> &'static [u8] {
-    match given {
-        0..12 => b"",
-        12..24 => b"ok\n",
-        24..36 => b"ok\nok\n",
-        36..43 => b"ok\nok\nok\n",
-        43..50 => b"ok\nok\nok\nsome 3 3\n",
-        50..56 => b"ok\nok\nok\nsome 3 3\nsome 2 2\n",
-        56..63 => b"ok\nok\nok\nsome 3 3\nsome 2 2\nlen 1\n",
-        _ => REPLIES,
-    }
-}
-
-#[test]
-fn failed_reads(rt: HostRuntime) -> Result<(), Fail> {
-    for given in 0..STORED.len() + 1 {
-        for at_once in [1, 64] {
-            let input = Script {
-                rest: &STORED[..given],
-                at_once,
-                fails: true,
-            };
-            let came = outcome(rt.alloc(), input);
-            gives(
-                &rt,
-                &STORED[..given],
-                came,
-                Err(Fault::Read),
-                replies_within(given),
-            );
-        }
-    }
-    Ok(())
-}
-
 #[test]
 fn a_bad_line_before_a_failed_read(rt: HostRuntime) -> Result<(), Fail> {
     let input = Script {
@@ -96,29 +60,6 @@ fn a_bad_line_before_a_failed_read(rt: HostRuntime) -> Result<(), Fail> {
     };
     let came = outcome(rt.alloc(), input);
     gives(&rt, b"len 16", came, Err(Fault::BadLine(2)), b"len 0\n");
-    Ok(())
-}
-
-#[test]
-fn failed_writes(rt: HostRuntime) -> Result<(), Fail> {
-    for room in 0..REPLIES.len() + 1 {
-        for fails in [true, false] {
-            let mut input = FromRead::new(STORED);
-            let mut output = ToWrite::new(Paper {
-                written: Vec::new(rt.alloc()),
-                room,
-                fails,
-            });
-            let end = run(rt.alloc(), LIST, &mut input, &mut output);
-            let expected = if room < REPLIES.len() {
-                Err(Fault::Write)
-            } else {
-                Ok(())
-            };
-            let written = output.into_inner().written;
-            gives(&rt, STORED, (end, written), expected, &REPLIES[..room]);
-        }
-    }
     Ok(())
 }
 

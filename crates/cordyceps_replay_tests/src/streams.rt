@@ -57,10 +57,15 @@ impl Write for Paper {
 /// How a run ends, and what it writes.
 pub type Outcome = (Result<(), Fault>, Vec<u8>);
 
-/// How a script ends, and what it writes.
-pub fn outcome_in(alloc: Global, choice: Choice, script: Script) -> Outcome {
+/// How a script ends over a writer, and the writer.
+pub fn outcome_on<W: Write>(
+    alloc: Global,
+    choice: Choice,
+    script: Script,
+    writer: W,
+) -> (Result<(), Fault>, W) {
     let mut input = FromRead::new(script);
-    let mut output = ToWrite::new(Vec::new(alloc));
+    let mut output = ToWrite::new(writer);
     let mode = match choice {
         Choice::List => Mode::List,
         Choice::Stack => Mode::Stack,
@@ -68,10 +73,15 @@ pub fn outcome_in(alloc: Global, choice: Choice, script: Script) -> Outcome {
         Choice::Transfer => Mode::Transfer,
         Choice::Queue => Mode::Queue,
         // it has no scripts
-        Choice::Share => return (Ok(()), Vec::new(alloc)),
+        Choice::Share => return (Ok(()), output.into_inner()),
     };
     let end = run(alloc, mode, &mut input, &mut output);
     (end, output.into_inner())
+}
+
+/// How a script ends, and what it writes.
+pub fn outcome_in(alloc: Global, choice: Choice, script: Script) -> Outcome {
+    outcome_on(alloc, choice, script, Vec::new(alloc))
 }
 
 /// How a script in mode `list` ends, and what it writes.

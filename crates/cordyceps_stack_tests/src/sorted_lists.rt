@@ -1,5 +1,5 @@
 //! Sorted lists in an order that the caller gives.
-ghost use Rattle.std.specs.Prelude.{◌≡◌, ◌+◌, ◌<◌, ◌≤◌, length};
+ghost use Rattle.std.specs.Prelude.{◌≡◌, ◌≤◌, length};
 
 use crate::asked::{Asked, Counts, by_number, by_tens, no_counts, node};
 use crate::compared::same;
@@ -86,52 +86,26 @@ fn sorts<O: Order<Asked>>(
     Ok(())
 }
 
-/// Inserts an element, and answers how many comparisons it counted, and how many there were.
-fn insert_counting<O: Order<Asked>>(
+/// Inserts elements with these numbers into an empty list, by one count. Answers that count behind each, and how many
+/// comparisons there were so far.
+fn counts_of<O: Order<Asked>>(
     list: &mut SortedList<Asked, O>,
     alloc: Global,
-    number: u64,
+    numbers: &[u64],
     counts: &Rc<Counts, Global>,
-) -> Result<(u64, u64), AllocError>
-    requires order { O.can_compare list.old.1 }
-    requires room { length list.old.0 < 100 }
-    ensures order { list.new.1 ≡ list.old.1 }
-    ensures len { length list.new.0 ≤ length list.old.0 + 1 }
-{
-    let element = node(alloc, number, counts)?;
-    let before = counts.compared.get();
-    let mut steps = Steps::new();
-    list.insert_in(element, &mut steps);
-    Ok((steps.count(), counts.compared.get().wrapping_sub(before)))
-}
-
-/// Asserts what an empty list counts of 10, 20, 20, 15, 30 and 5, and that there were as many comparisons.
-fn counts_right<O: Order<Asked>>(
-    rt: &impl Abort,
-    list: &mut SortedList<Asked, O>,
-    alloc: Global,
-    counts: &Rc<Counts, Global>,
-) -> Result<(), AllocError>
+) -> Result<Vec<(u64, u64)>, AllocError>
     requires order { O.can_compare list.old.1 }
     requires empty { length list.old.0 ≡ 0 }
+    requires few { length numbers.now ≤ 100 }
+    ensures order { list.new.1 ≡ list.old.1 }
 {
-    let ten = insert_counting(list, alloc, 10, counts)?;
-    let twenty = insert_counting(list, alloc, 20, counts)?;
-    let again = insert_counting(list, alloc, 20, counts)?;
-    let fifteen = insert_counting(list, alloc, 15, counts)?;
-    let thirty = insert_counting(list, alloc, 30, counts)?;
-    let five = insert_counting(list, alloc, 5, counts)?;
-    same(
-        rt,
-        [ten, twenty, again, thirty],
-        [(0, 0), (1, 1), (1, 1), (1, 1)],
-    );
-    same(rt, fifteen.0, fifteen.1);
-    assert!(rt; fifteen.0 <= 4);
-    same(rt, five.0, five.1);
-    assert!(rt; five.0 <= 6);
-    pops(rt, list, &[5, 10, 15, 20, 20, 30]);
-    Ok(())
+    let mut steps = Steps::new();
+    let mut seen = Vec::new(alloc);
+    for number in numbers {
+        list.insert_in(node(alloc, *number, counts)?, &mut steps);
+        seen.push((steps.count(), counts.compared.get()))?;
+    }
+    Ok(seen)
 }
 
 #[test]
@@ -153,11 +127,20 @@ fn keeps_equals_by_arrival(rt: HostRuntime) -> Result<(), Fail> {
     Ok(())
 }
 
+// 10 asks nothing. 20, 20 again and 30 ask the last alone. 15 asks 20, which is last, and then 10 and 20; 5 asks 30 and 10;
+// 25 asks 30, and then all six from 5 on.
 #[test]
 fn counts_what_it_asks(rt: HostRuntime) -> Result<(), Fail> {
     let counts = no_counts(rt.alloc())?;
     let mut list = SortedList::new_with_cmp(by_number);
-    counts_right(&rt, &mut list, rt.alloc(), &counts)?;
+    let numbers = [10, 20, 20, 15, 30, 5, 25];
+    let seen = counts_of(&mut list, rt.alloc(), &numbers, &counts)?;
+    same(
+        &rt,
+        seen.as_slice(),
+        &[(0, 0), (1, 1), (2, 2), (5, 5), (6, 6), (8, 8), (15, 15)],
+    );
+    pops(&rt, &mut list, &[5, 10, 15, 20, 20, 25, 30]);
     Ok(())
 }
 

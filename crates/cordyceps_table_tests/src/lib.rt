@@ -6,6 +6,8 @@ mod block_replays;
 #[cfg(test)]
 mod compared;
 #[cfg(test)]
+mod long_replays;
+#[cfg(test)]
 mod made;
 #[cfg(test)]
 mod replays;

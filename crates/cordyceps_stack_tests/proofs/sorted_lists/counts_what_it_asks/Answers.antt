@@ -15,8 +15,8 @@ new_with_cmp-list-requires-clause-total g c = (
   },
 )
 
-pub counts_right-requires-clause-order : goal.counts_right-requires-clause-order
-counts_right-requires-clause-order g c = (
+pub counts_of-requires-clause-order : goal.counts_of-requires-clause-order
+counts_of-requires-clause-order g c = (
   search rules,
   (
     (λ x y. nat_cmp x.value y.value),
