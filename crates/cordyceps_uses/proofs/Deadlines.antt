@@ -1,0 +1,136 @@
+-- What a sorted list of timers is after an insertion.
+use Rattle.std.proofs.Common.{◌≡◌, ℕ, ◌≤◌, ◌<◌, Bool, true, false, cond, nat_lt, List, [], ◌∷◌, ◌++◌, refl, ap, sym, ◌∙◌, subst, append_assoc, arith}
+use Rattle.std.proofs.lemmas.Bool.{lt-ltb, ltb-true}
+use Rattle.std.proofs.lemmas.Bool.Decides.{nat_tests}
+use Rattle.std.specs.declared.cmp.Ordering.{Ordering}
+use Rattle.std.specs.declared.cmp.Ordering.TheVariants.{Less, Equal, Greater}
+use Rattle.std.specs.Ordering.{is_gt, is_lt, ordering_reverse, nat_cmp}
+use Rattle.std.specs.Cmp.{on_total, nat_cmp_total, ranked}
+use Rattle.std.proofs.lemmas.Cmp.{by_ranked}
+use Rattle.std.specs.List.{AllByRecursion}
+use Rattle.std.specs.List.Sorted.{IsSortedBy}
+use Rattle.cordyceps_base.specs.Element.{Element, Elements, values}
+use Rattle.cordyceps_stack.specs.Arrangement.{less, StandsFor}
+use Rattle.cordyceps_stack.specs.Place.{NoneGreater}
+use Rattle.cordyceps_stack.specs.Preorder.{IsPreorder, preorder_from_total}
+use Rattle.cordyceps_stack.proofs.Arrangement.{Ascends, After, ascends_from_sorted, sorted_from_ascends}
+use Rattle.cordyceps_stack.proofs.Places.{stands_put}
+use Rattle.cordyceps_stack.proofs.Preorder.{by_test, ranks}
+use Rattle.cordyceps_stack.proofs.Taken.{same_arrangement}
+use Rattle.cordyceps_uses.specs.declared.timers.Timer.{Timer}
+use Rattle.cordyceps_uses.specs.Timers.{timers_of, InOrder, started, due}
+
+turned : (r : Ordering) → is_gt (ordering_reverse r) ≡ is_lt r
+turned Less = refl
+turned Equal = refl
+turned Greater = refl
+
+module _ {X : Type 0} {cmp : X → X → Ordering} (o : IsPreorder cmp) where
+  greater_is : (x y : X) → is_gt (cmp x y) ≡ is_lt (cmp y x)
+  greater_is x y = ap is_gt (o.turns x y) ∙ turned (cmp y x)
+
+  -- the element before the first that is greater
+  abbrev put : Elements X → Element X → Elements X
+  put [] e = e ∷ []
+  put (x ∷ s) e = cond (is_gt (cmp x.value e.value)) (e ∷ x ∷ s) (x ∷ put s e)
+
+  none_greater_behind : (v : X) (front : Elements X) (x : Element X) → NoneGreater cmp v front → is_gt (cmp x.value v) ≡ false → NoneGreater cmp v (front ++ x ∷ [])
+  none_greater_behind v [] x none is = (is, tt)
+  none_greater_behind v (y ∷ front) x none is = (none.0, none_greater_behind v front x none.1 is)
+
+  stands_behind : (front s a : Elements X) (e : Element X) → NoneGreater cmp e.value front → StandsFor cmp (front ++ s) a → StandsFor cmp (front ++ put s e) (a ++ e ∷ [])
+  stands_behind front [] a e none h = stands_put o front [] a e none tt h
+  stands_behind front (x ∷ s) a e none h =
+      by_test (is_gt (cmp x.value e.value))
+      (λ t. subst (λ b. StandsFor cmp (front ++ cond b (e ∷ x ∷ s) (x ∷ put s e)) (a ++ e ∷ [])) (sym t) (stands_put o front (x ∷ s) a e none t h))
+      (λ f.
+      let before = subst (λ l. StandsFor cmp l a) (sym (append_assoc front (x ∷ []) s)) h in
+      let after = stands_behind (front ++ x ∷ []) s a e (none_greater_behind e.value front x none f) before in
+      subst (λ b. StandsFor cmp (front ++ cond b (e ∷ x ∷ s) (x ∷ put s e)) (a ++ e ∷ [])) (sym f) (subst (λ l. StandsFor cmp l (a ++ e ∷ [])) (append_assoc front (x ∷ []) (put s e)) after))
+
+  pub itself : (s : Elements X) → IsSortedBy (less cmp) s → StandsFor cmp s s
+  itself s h = record { in_order = h; stable = λ x. refl }
+
+  is_put : (s t : Elements X) (e : Element X) → IsSortedBy (less cmp) s → StandsFor cmp t (s ++ e ∷ []) → t ≡ put s e
+  is_put s t e h stands = same_arrangement o (s ++ e ∷ []) t (put s e) stands (stands_behind [] s s e tt (itself s h))
+
+le_from : (a b : ℕ) → nat_lt b a ≡ false → a ≤ b
+le_from a b f = grind (arith, nat_tests)
+
+not_lt : (a b : ℕ) → b ≤ a → nat_lt a b ≡ false
+not_lt a b h = by_test (nat_lt a b) (λ t. let k = ltb-true a b t in absurd (omega arith)) (λ f. f)
+
+gt_is_lt : (a b : ℕ) → is_gt (nat_cmp a b) ≡ nat_lt b a
+gt_is_lt a b =
+    by_ranked (a < b) (a ≡ b) (b < a) (nat_cmp a b) (ranked a b (nat_cmp a b) refl)
+    (λ e h. ap is_gt e ∙ sym (not_lt b a (omega arith))) (λ e h. ap is_gt e ∙ sym (not_lt b a (omega arith))) (λ e h. ap is_gt e ∙ sym (lt-ltb b a h))
+
+module _ {P : Type 0} {cmp : Timer P → Timer P → Ordering} (o : IsPreorder cmp) (by : (x y : Timer P) → is_gt (cmp x y) ≡ nat_lt y.deadline x.deadline) where
+  put_by : (b c : Bool) (e : Element (Timer P)) (s t : Elements (Timer P)) (r : List (ℕ × P)) → b ≡ c → timers_of t ≡ r → (x : Element (Timer P)) → timers_of (cond b (e ∷ x ∷ s) (x ∷ t)) ≡ cond c (timers_of (e ∷ x ∷ s)) ((x.value.deadline, x.value.payload) ∷ r)
+  put_by true true e s t r h q x = refl
+  put_by false false e s t r h q x = ap (λ z. (x.value.deadline, x.value.payload) ∷ z) q
+  put_by true false e s t r h q x = absurd cc
+  put_by false true e s t r h q x = absurd cc
+
+  put_timers : (s : Elements (Timer P)) (e : Element (Timer P)) → timers_of (put o s e) ≡ started e.value.deadline e.value.payload (timers_of s)
+  put_timers [] e = refl
+  put_timers (x ∷ s) e = put_by (is_gt (cmp x.value e.value)) (nat_lt e.value.deadline x.value.deadline) e s (put o s e) (started e.value.deadline e.value.payload (timers_of s)) (by x.value e.value) (put_timers s e) x
+
+  -- in order of deadlines, and by the order
+  not_less : (x y : Timer P) → x.deadline ≤ y.deadline → is_gt (cmp x y) ≡ false
+  not_less x y h = by x y ∙ by_test (nat_lt y.deadline x.deadline) (λ t. let k = ltb-true y.deadline x.deadline t in absurd (omega arith)) (λ f. f)
+
+  not_later : (x y : Timer P) → is_gt (cmp x y) ≡ false → x.deadline ≤ y.deadline
+  not_later x y h = by_test (nat_lt y.deadline x.deadline) (λ t. let k = by x y in absurd cc) (λ f. le_from x.deadline y.deadline f)
+
+  after : (x : Element (Timer P)) (s : Elements (Timer P)) → AllByRecursion (λ y. x.value.deadline ≤ y.0) (timers_of s) → After (less cmp) x s
+  after x [] h = tt
+  after x (y ∷ s) h = (sym (greater_is o x.value y.value) ∙ not_less x.value y.value h.0, after x s h.1)
+
+  before : (x : Element (Timer P)) (s : Elements (Timer P)) → After (less cmp) x s → AllByRecursion (λ y. x.value.deadline ≤ y.0) (timers_of s)
+  before x [] h = tt
+  before x (y ∷ s) h = (not_later x.value y.value (greater_is o x.value y.value ∙ h.0), before x s h.1)
+
+  ascends : (s : Elements (Timer P)) → InOrder (timers_of s) → Ascends (less cmp) s
+  ascends [] h = tt
+  ascends (x ∷ s) h = (after x s h.0, ascends s h.1)
+
+  in_order : (s : Elements (Timer P)) → Ascends (less cmp) s → InOrder (timers_of s)
+  in_order [] h = tt
+  in_order (x ∷ s) h = (before x s h.0, in_order s h.1)
+
+  pub sorted : (s : Elements (Timer P)) → InOrder (timers_of s) → IsSortedBy (less cmp) s
+  sorted s h = sorted_from_ascends (less cmp) s (ascends s h)
+
+  -- after an insertion
+  module _ (s t : Elements (Timer P)) (e : Element (Timer P)) (h : InOrder (timers_of s)) (inserted : StandsFor cmp s s → StandsFor cmp t (s ++ e ∷ [])) where
+    pub is_started : timers_of t ≡ started e.value.deadline e.value.payload (timers_of s)
+    is_started = ap (λ z. timers_of z) (is_put o s t e (sorted s h) (inserted (itself o s (sorted s h)))) ∙ put_timers s e
+
+    pub keeps_order : InOrder (timers_of t)
+    keeps_order = in_order t (ascends_from_sorted (less cmp) (ranks o (λ x. x.value)) t (inserted (itself o s (sorted s h))).in_order)
+
+-- the order of timers
+module _ {P : Type 0} where
+  pub by_deadline : IsPreorder (λ (x y : Timer P). nat_cmp x.deadline y.deadline)
+  by_deadline = preorder_from_total (on_total (λ (t : Timer P). t.deadline) nat_cmp_total)
+
+  pub gt_by_deadline : (x y : Timer P) → is_gt (nat_cmp x.deadline y.deadline) ≡ nat_lt y.deadline x.deadline
+  gt_by_deadline x y = gt_is_lt x.deadline y.deadline
+
+  pub none_due : (n : ℕ) (s : Elements (Timer P)) → values s ≡ [] → due n (timers_of s) ≡ []
+  none_due n [] e = refl
+  none_due n (x ∷ s) e = absurd cc
+
+  all_later : (n d : ℕ) (p : List (ℕ × P)) → n < d → AllByRecursion (λ y. d ≤ y.0) p → due n p ≡ []
+  all_later n d [] h all = refl
+  all_later n d (y ∷ p) h all =
+      let below : n < y.0 = omega (arith, h, all.0) in
+      ap (λ b. cond b (due n p) (y ∷ due n p)) (lt-ltb n y.0 below) ∙ all_later n d p h all.1
+
+  pub first_later : (n : ℕ) (s : Elements (Timer P)) (x : Timer P) (rest : List (Timer P)) → values s ≡ x ∷ rest → n < x.deadline → InOrder (timers_of s) → due n (timers_of s) ≡ []
+  first_later n [] x rest e h o = absurd cc
+  first_later n (y ∷ s) x rest e h o =
+      let same : y.value ≡ x = cc in
+      let below : n < y.value.deadline = subst (λ (t : Timer P). n < t.deadline) (sym same) h in
+      ap (λ b. cond b (due n (timers_of s)) ((y.value.deadline, y.value.payload) ∷ due n (timers_of s))) (lt-ltb n y.value.deadline below) ∙ all_later n y.value.deadline (timers_of s) below o.0

@@ -1,0 +1,4 @@
+mod Dealings
+mod Deadlines
+mod Holding
+mod Working

@@ -1,0 +1,27 @@
+use Rattle.std.proofs.Common.{◌*◌, ◌++◌, ap, ◌∙◌, subst}
+use Rattle.cordyceps_base.specs.Element.{Element}
+use Rattle.cordyceps_shared.specs.Standings.{new_party, keeping, giving}
+use Rattle.cordyceps_stack.specs.TransferStanding.{PartyOf}
+use Rattle.freelist.specs.Users.{closing}
+use Rattle.freelist.proofs.Meetings.{both, both_whole}
+use Rattle.cordyceps_uses.specs.Pool.{Uses}
+use Rattle.cordyceps_uses.specs.declared.pool.Block.{Block}
+use Rattle.cordyceps_uses.proofs.pool.share.Goals as goal
+
+pub close_all-requires-clause-whole : goal.close_all-requires-clause-whole
+close_all-requires-clause-whole g c =
+    let a = c.args in
+    let t = c.in_ok-pool.pool in
+    let r = c.use_both-left.result in
+    let mine = subst (λ (u : PartyOf (Element Block)). Uses t a.first.now a.blocks.0 u r.0.0 r.0.1) (c.split-other.ensures.0 ∙ ap (λ (u : PartyOf (Element Block)). keeping a.rooms u) c.in_ok-pool.ensures) c.use_both-left.ensures.uses.0 in
+    let yours = subst (λ (u : PartyOf (Element Block)). Uses t a.second.now a.blocks.1 u r.1.0 r.1.1) (c.split-other.ensures.1 ∙ ap (λ (u : PartyOf (Element Block)). giving a.rooms u) c.in_ok-pool.ensures) c.use_both-left.ensures.uses.1 in
+    both_whole (λ (h : Element Block). h) (a.first.now ++ closing) (a.second.now ++ closing) t a.rooms (2 * a.rooms) a.blocks.0 a.blocks.1 r.0.0 r.1.0 r.0.1 r.1.1 c.absorb.new.party mine yours c.absorb.ensures
+
+pub returns : goal.returns
+returns g c =
+    let a = c.args in
+    let t = c.in_ok-pool.pool in
+    let r = c.use_both-left.result in
+    let mine = subst (λ (u : PartyOf (Element Block)). Uses t a.first.now a.blocks.0 u r.0.0 r.0.1) (c.split-other.ensures.0 ∙ ap (λ (u : PartyOf (Element Block)). keeping a.rooms u) c.in_ok-pool.ensures) c.use_both-left.ensures.uses.0 in
+    let yours = subst (λ (u : PartyOf (Element Block)). Uses t a.second.now a.blocks.1 u r.1.0 r.1.1) (c.split-other.ensures.1 ∙ ap (λ (u : PartyOf (Element Block)). giving a.rooms u) c.in_ok-pool.ensures) c.use_both-left.ensures.uses.1 in
+    both (λ (h : Element Block). h) (a.first.now ++ closing) (a.second.now ++ closing) t a.rooms (2 * a.rooms) a.blocks.0 a.blocks.1 r.0.0 r.1.0 c.close_all.result r.0.1 r.1.1 c.absorb.new.party mine yours c.absorb.ensures c.close_all.ensures.once

@@ -1,0 +1,5 @@
+pub mod Dealings
+pub mod Pool
+pub mod RunQueue
+pub mod Tasks
+pub mod Timers

@@ -1,0 +1,9 @@
+//! Programs to copy: each is small, proved, and says in words of its own subject what it promises.
+#![tactic(auto)]
+
+pub mod job;
+pub mod pool;
+pub mod run_queue;
+pub mod tasks;
+pub mod timers;
+pub mod tour;

@@ -1,0 +1,105 @@
+//! A few lines with each collection.
+ghost use Rattle.std.specs.Prelude.{◌≡◌, ◌+◌, ◌<◌, ◌++◌, take, drop, length, option_map, Some, IfOk};
+
+use crate::job::Job;
+use cordyceps::mpsc_queue::Batch;
+use cordyceps::sorted_list::Least;
+use cordyceps::{
+    List, MpscQueue, Node, Refused, SortedList, Stack, TransferStack, list, mpsc_queue, stack,
+};
+use freelist::FreeList;
+use std::alloc::{AllocError, Global};
+
+/// A job that can be put into a list.
+pub type ListJob = Node<Job, list::Links<Job>>;
+
+/// A job that can be put on a stack, into a sorted list, or on a stack that threads share.
+pub type StackJob = Node<Job, stack::Links<Job>>;
+
+/// A job that can be put into a queue that threads share.
+pub type QueueJob = Node<Job, mpsc_queue::Links<Job>>;
+
+/// Takes the second of three jobs out of a list.
+pub fn take_the_second(alloc: Global) -> Result<Option<ListJob>, Refused<Job>>
+    ensures { IfOk result (λ job. option_map (λ n. n.id) job ≡ Some 2) }
+{
+    let mut jobs: List<Job> = List::new();
+    // a node has a number, which its maker chooses, and a value
+    jobs.push_back(Node::new(alloc, 1, Job { rank: 7 })?);
+    jobs.push_back(Node::new(alloc, 2, Job { rank: 3 })?);
+    jobs.push_back(Node::new(alloc, 3, Job { rank: 5 })?);
+    let mut cursor = jobs.cursor_front_mut();
+    cursor.move_next();
+    Ok(cursor.remove_current())
+}
+
+/// Puts the first job behind all others.
+pub fn rotate(jobs: &mut List<Job>)
+    requires { length jobs.old < usize.MAX }
+    ensures { jobs.new ≡ drop 1 jobs.old ++ take 1 jobs.old }
+{
+    if let Some(first) = jobs.pop_front() {
+        jobs.push_back(first);
+    }
+}
+
+/// The least rank of two jobs.
+pub fn least_rank(first: StackJob, second: StackJob) -> Option<u32> {
+    let mut arrived: Stack<Job> = Stack::new();
+    arrived.push(first);
+    arrived.push(second);
+    // the same nodes, in order; of equals, the one pushed last comes first
+    let jobs: SortedList<Job, Least> = SortedList::from_stack_min(arrived);
+    Some(jobs.iter().next()?.rank)
+}
+
+/// Hands two jobs over, and takes them at once, the one pushed last first.
+pub fn hand_over(
+    alloc: Global,
+    first: StackJob,
+    second: StackJob,
+) -> Result<Stack<Job>, AllocError> {
+    // rooms for eight jobs, and a party that has them all
+    let (shared, mut taker) = TransferStack::<Job>::new(alloc, 8)?;
+    // a party for another thread, which can push four
+    let mut pusher = shared.split(&mut taker, 4);
+    // one load and one compare-exchange; `Err` hands the job back: try again
+    let _ = shared.try_push(&mut pusher, first);
+    let _ = shared.try_push(&mut pusher, second);
+    Ok(shared.take_all(&mut taker))
+}
+
+/// Sends two jobs, and takes what has arrived, the oldest first.
+pub fn send(
+    alloc: Global,
+    first: QueueJob,
+    second: QueueJob,
+) -> Result<Option<Batch<Job>>, AllocError> {
+    let (queue, mut party) = MpscQueue::<Job>::new(alloc, 8)?;
+    let mut sender = queue.split(&mut party, 4);
+    queue.enqueue(&mut sender, first);
+    queue.enqueue(&mut sender, second);
+    // the right to take jobs out, of one party at a time
+    let Ok(mut consumer) = queue.try_consume(party) else {
+        return Ok(None);
+    };
+    Ok(consumer.take_linked(16).ok())
+}
+
+/// Gives a block back as its owner does, and one as another thread does, and gets one again.
+pub fn give_back(
+    alloc: Global,
+    near: StackJob,
+    far: StackJob,
+) -> Result<Option<StackJob>, AllocError> {
+    let (blocks, mut party) = FreeList::<Job>::new(alloc, 8)?;
+    // another thread's party, and the owner's part
+    let mut remote = blocks.split(&mut party, 8);
+    let mut local = blocks.local(party);
+    // without an atomic step
+    local.put(near);
+    // `Err` hands the block back: try again
+    let _ = blocks.put_remote(&mut remote, far);
+    // the last that was put, else what others put back
+    Ok(local.get())
+}

@@ -1,0 +1,15 @@
+//! Tests of the programs to copy: that they end, in which order things come, and what is dropped.
+#![tactic(auto)]
+
+#[cfg(test)]
+mod compared;
+#[cfg(test)]
+mod pools;
+#[cfg(test)]
+mod run_queues;
+#[cfg(test)]
+mod task_ways;
+#[cfg(test)]
+mod timer_orders;
+#[cfg(test)]
+mod tours;

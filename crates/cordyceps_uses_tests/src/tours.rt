@@ -1,0 +1,71 @@
+//! A few lines with each collection, and what they answer.
+use crate::compared::same;
+use cordyceps::list::Links as ListLinks;
+use cordyceps::mpsc_queue::Links as QueueLinks;
+use cordyceps::stack::Links as StackLinks;
+use cordyceps::{List, Node};
+use cordyceps_testing::nodes::node_of;
+use cordyceps_uses::job::Job;
+use cordyceps_uses::tour::{
+    QueueJob, StackJob, give_back, hand_over, least_rank, rotate, send, take_the_second,
+};
+use std::alloc::{AllocError, Global};
+
+/// A job for stacks, whose rank is ten times its number.
+fn stack_job(alloc: Global, number: u32) -> Result<StackJob, AllocError> {
+    let rank = number.wrapping_mul(10);
+    let node: Node<Job, StackLinks<Job>> = node_of(alloc, number as u64, Job { rank })?;
+    Ok(node)
+}
+
+/// A job for queues.
+fn queue_job(alloc: Global, number: u32) -> Result<QueueJob, AllocError> {
+    let node: Node<Job, QueueLinks<Job>> = node_of(alloc, number as u64, Job { rank: number })?;
+    Ok(node)
+}
+
+#[test]
+fn lists(rt: HostRuntime) -> Result<(), AllocError> {
+    let alloc = rt.alloc();
+    let Ok(second) = take_the_second(alloc) else {
+        return Err(AllocError);
+    };
+    let second = match second {
+        Some(job) => Some((job.id(), job.get().rank)),
+        None => None,
+    };
+    let mut jobs: List<Job> = List::new();
+    for number in [1, 2] {
+        let node: Node<Job, ListLinks<Job>> = node_of(alloc, number, Job { rank: 0 })?;
+        assert!(rt; jobs.len() < 2);
+        jobs.push_back(node);
+    }
+    assert!(rt; jobs.len() < 3);
+    rotate(&mut jobs);
+    let first = match jobs.pop_front() {
+        Some(job) => Some(job.id()),
+        None => None,
+    };
+    same(&rt, (second, first, jobs.len()), (Some((2, 3)), Some(2), 1));
+    Ok(())
+}
+
+#[test]
+fn stacks_and_queues(rt: HostRuntime) -> Result<(), AllocError> {
+    let alloc = rt.alloc();
+    let least = least_rank(stack_job(alloc, 2)?, stack_job(alloc, 1)?);
+    let mut came = Vec::new(alloc);
+    for job in hand_over(alloc, stack_job(alloc, 3)?, stack_job(alloc, 4)?)? {
+        came.push(job.id())?;
+    }
+    if let Some(batch) = send(alloc, queue_job(alloc, 5)?, queue_job(alloc, 6)?)? {
+        for job in batch {
+            came.push(job.id())?;
+        }
+    }
+    if let Some(job) = give_back(alloc, stack_job(alloc, 7)?, stack_job(alloc, 8)?)? {
+        came.push(job.id())?;
+    }
+    same(&rt, (least, came.as_slice()), (Some(10), &[4, 3, 5, 6, 7]));
+    Ok(())
+}
