@@ -3,7 +3,6 @@ ghost use Rattle.std.specs.Prelude.{◌≡◌, ◌≤◌, List, map, take, true,
 ghost use Rattle.cordyceps_shared.specs.Histories.{plain};
 ghost use Rattle.cordyceps_shared.specs.Shares.{whole};
 ghost use Rattle.cordyceps_queue.specs.QueueBatches.{TakesLinked};
-ghost use Rattle.cordyceps_queue.specs.QueueCalls.{IsConsuming, standing};
 ghost use Rattle.cordyceps_queue.specs.QueueHistory.{held};
 ghost use Rattle.cordyceps_queue.specs.declared.steps.TryDequeueError.TheVariants as error;
 ghost use Rattle.cordyceps_queue.specs.QueueStanding.{Consumes, TakesRight, FindsBusy, GivesRight, IsCertain};
@@ -17,7 +16,6 @@ use cordyceps_base::linked::Linked;
 use cordyceps_base::mpsc_queue::Links;
 use cordyceps_shared::tickets::Tickets;
 use std::marker::Model;
-use std::mem;
 
 /// A party that has the right to dequeue, and the tail's room. It cannot be dropped, so that each consumer gives the right back.
 pub(crate) struct Right<E: Drop> {
@@ -58,67 +56,6 @@ pub(crate) fn take_right<T: Linked<Links<T>>>(
     })
 }
 
-/// Tries once to take the oldest element out, as the party at this seat, which has the right.
-fn try_at<E: Drop>(
-    words: &Words<E>,
-    seat: &mut Chair<E>,
-    tickets: &mut Tickets,
-    tail: &mut u64,
-) -> Result<E, TryDequeueError>
-    requires table { seat.old.table_id ≡ words.now.table_id }
-    requires holds { IsConsuming seat.old.table_id tail.old seat.old.me tickets.old }
-    ensures holds { IsConsuming seat.new.table_id tail.new seat.new.me tickets.new }
-    ensures answer { Consumes result (standing seat.old.table_id seat.old.me.0) (standing seat.new.table_id seat.new.me.0) }
-    ensures whole { seat.old.me.0.known.share ≡ whole → IsCertain result }
-{
-    let (next, tried) = queue_tries::advance(words, seat, *tail as usize);
-    *tail = next;
-    match tried {
-        Tried::Out(Filled { ticket, item }) => {
-            tickets.put(ticket);
-            Ok(item)
-        }
-        Tried::Empty => Err(TryDequeueError::Empty),
-        Tried::Inconsistent => Err(TryDequeueError::Inconsistent),
-    }
-}
-
-/// Takes elements out, as that party, until there are `max` or a try gives none: its tickets and its tail after that, and
-/// the elements, or why the first try gave none.
-fn take_at<T: Linked<Links<T>>>(
-    words: &Words<T::Handle>,
-    seat: &mut Chair<T::Handle>,
-    mut tickets: Tickets,
-    mut tail: u64,
-    max: usize,
-) -> (Tickets, u64, Result<Batch<T>, TryDequeueError>)
-    requires table { seat.old.table_id ≡ words.now.table_id }
-    requires holds { IsConsuming seat.old.table_id tail seat.old.me tickets }
-    requires some { 1 ≤ max }
-    ensures holds { IsConsuming seat.new.table_id result.1 seat.new.me result.0 }
-    ensures answer { let before = standing seat.old.table_id seat.old.me.0 in
-        let after = standing seat.new.table_id seat.new.me.0 in MatchResult result.2
-        (λ batch. (es : List T.Handle) × (batch ≡ map T.element es) × TakesLinked max es before after)
-        (λ why. Consumes (Err why) before after) }
-    ensures whole { let seen = plain seat.old.me.0.known.seen in
-        seat.old.me.0.known.share ≡ whole → MatchResult result.2
-        (λ batch. batch ≡ map T.element (take max (held seen)))
-        (λ why. why ≡ error.Empty) }
-{
-    let mut batch = Batch::new();
-    while batch.len() < max {
-        match try_at(words, seat, &mut tickets, &mut tail) {
-            Ok(handle) => batch.put_last(handle),
-            Err(why) => return if batch.is_empty() {
-                (tickets, tail, Err(why))
-            } else {
-                (tickets, tail, Ok(batch))
-            },
-        }
-    }
-    (tickets, tail, Ok(batch))
-}
-
 /// Takes elements out, the oldest first, until there are `max` or a try gives none. `Err` is the first try's.
 pub(crate) fn take_batch<T: Linked<Links<T>>>(
     words: &Words<T::Handle>,
@@ -134,12 +71,18 @@ pub(crate) fn take_batch<T: Linked<Links<T>>>(
         (λ batch. batch ≡ map T.element (take max (held (plain right.old.seen))))
         (λ why. why ≡ error.Empty) }
 {
-    // as locals, tickets and tail need no memory from one element to the next
-    let tickets = mem::replace(&mut right.tickets, Tickets::none());
-    let (tickets, tail, taken) = take_at(words, &mut right.seat, tickets, right.tail, max);
-    right.tickets = tickets;
-    right.tail = tail;
-    taken
+    let mut batch = Batch::new();
+    while batch.len() < max {
+        match right.try_once(words) {
+            Ok(handle) => batch.put_last(handle),
+            Err(why) => return if batch.is_empty() {
+                Err(why)
+            } else {
+                Ok(batch)
+            },
+        }
+    }
+    Ok(batch)
 }
 
 /// Gives the right back.
@@ -173,7 +116,16 @@ impl<E: Drop> Right<E> {
         ensures answer { Consumes result self.old self.new }
         ensures whole { self.old.share ≡ whole → IsCertain result }
     {
-        try_at(words, &mut self.seat, &mut self.tickets, &mut self.tail)
+        let (tail, tried) = queue_tries::advance(words, &mut self.seat, self.tail as usize);
+        self.tail = tail;
+        match tried {
+            Tried::Out(Filled { ticket, item }) => {
+                self.tickets.put(ticket);
+                Ok(item)
+            }
+            Tried::Empty => Err(TryDequeueError::Empty),
+            Tried::Inconsistent => Err(TryDequeueError::Inconsistent),
+        }
     }
 }
 
