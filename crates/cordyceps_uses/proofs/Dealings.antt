@@ -10,7 +10,7 @@ use Rattle.cordyceps_shared.proofs.Counting.{tally_append}
 use Rattle.cordyceps_shared.proofs.Interleaving.{tally_interleaved}
 use Rattle.cordyceps_shared.proofs.Owning.{own_adds, own_absorbed}
 use Rattle.cordyceps_stack.specs.TransferHistory.{Event, Load, Push, Taken, pushes, taken, held, Legal}
-use Rattle.cordyceps_stack.specs.TransferStanding.{PartyOf, Adds, PushesAt, Misses, Takes}
+use Rattle.cordyceps_stack.specs.TransferStanding.{PartyOf, Adds, PushesAt, Takes}
 use Rattle.cordyceps_stack.proofs.TransferHistories.{nothing_lost}
 use Rattle.cordyceps_uses.specs.Dealings.{Deals}
 
@@ -105,15 +105,6 @@ module _ {E : Type 0} where
         share = a.0.0.share;
         rooms = omega (arith, a.2);
       }
-
-  pub deals_miss : (u w : PartyOf E) → Misses u w → Deals [] [] u w
-  deals_miss u w a = record {
-    put_in = λ f. put_more f u w (Load (name_of u) ∷ []) a.0;
-    took_out = λ f. got_more f u w (Load (name_of u) ∷ []) a.0;
-    table = a.0.1;
-    share = a.0.0.share;
-    rooms = omega (arith, a.2);
-  }
 
   pub deals_take : (batch : List E) (u w : PartyOf E) → Takes batch u w → Deals [] batch u w
   deals_take batch u w a = record {
