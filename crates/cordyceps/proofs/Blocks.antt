@@ -15,7 +15,7 @@ use Rattle.cordyceps.specs.declared.replay.list_command.CursorCommand.{CursorCom
 use Rattle.cordyceps.specs.declared.replay.list_command.CursorCommand.TheVariants.{SplitAfter, SplitBefore, SpliceAfter, SpliceBefore}
 use Rattle.cordyceps.specs.Replies.{Line, lines_of, done, found_or_nothing}
 use Rattle.cordyceps.specs.Tables.{Table, held_at}
-use Rattle.cordyceps.specs.Blocks.{Spot, State, blocked, first_place, rewritten, Goes, Obeys, line_on, line_step, state_of, Steps, cut_behind, cut_before, put_behind, put_before, split_to, splice_from}
+use Rattle.cordyceps.specs.Blocks.{Spot, State, blocked, first_place, rewritten, Goes, Obeys, line_on, line_step, state_of, LineRuns, cut_behind, cut_before, put_behind, put_before, split_to, splice_from}
 
 pub goes_written : (old new : CursorMut Item) (s : Elements Item) (k at : ℕ) (o : Option Item) (item : Item) (value : ℕ) (reply : Reply) →
     Stands old new (with_value s at (record item { value = value })) k → Some item ≡ o → lines_of reply ≡ done ∷ [] → Goes old new (rewritten s k at o value) reply
@@ -37,8 +37,8 @@ put_back table n s lt = get_or-set_same table n s [] lt
 not_the_other : (n m : ℕ) (b : Bool) → (not (nat_eq n m) && b) ≡ true → m ≢ n
 not_the_other n m b is e = let both = eq-eqb n m (sym e) in let never : false ≡ true = rw both at is in absurd cc
 
-guarded : (table : Table) (n m : ℕ) (s : Elements Item) (p : Elements Item → Bool) → (not (nat_eq n m) && p (held_at (set table n s) m)) ≡ (not (nat_eq n m) && p (held_at table m))
-guarded table n m s p = elim (same_or_not n m) [
+held_at_other : (table : Table) (n m : ℕ) (s : Elements Item) (p : Elements Item → Bool) → (not (nat_eq n m) && p (held_at (set table n s) m)) ≡ (not (nat_eq n m) && p (held_at table m))
+held_at_other table n m s p = elim (same_or_not n m) [
   | inl e ↦ rw (eq-eqb n m e) refl
   | inr ne ↦ rw (get_or-set_other table n m s [] ne) refl
 ]
@@ -93,18 +93,18 @@ module _ (n m : ℕ) (table : Table) (old new : CursorMut Item) (reply : Reply) 
       (state_of (set table m gone) n new ≡ (split_to (state_of table n old) n m cut).0) × (lines_of reply ≡ (split_to (state_of table n old) n m cut).1 ∷ [])
   split_run gone cut free cuts told =
       let done_so : split_to (state_of table n old) n m cut ≡ ((set (set table m cut.1) n cut.0.0, cut.0.1), done) =
-      rw (guarded table n m (elements old) (λ t. nat_eq (length t) 0), ← free, set_over table n m (elements old) cut.1 cut.0.0) refl in
+      rw (held_at_other table n m (elements old) (λ t. nat_eq (length t) 0), ← free, set_over table n m (elements old) cut.1 cut.0.0) refl in
       (rw done_so (same_state (set table m gone) (set table m cut.1) n (elements new) cut.0.0 (place new) cut.0.1 (ap (λ t. set table m t) cuts.cut_off) cuts.stands.elements_are cuts.stands.place_is), rw done_so told)
 
   pub split_after_steps : (gone : Elements Item) → true ≡ (not (nat_eq n m) && nat_eq (length (held_at table m)) 0) → Cuts old new gone (cut_behind (elements old) (place old)) → lines_of reply ≡ done ∷ [] →
-      Steps n table (set table m gone) old new (SplitAfter m) reply
+      LineRuns n table (set table m gone) old new (SplitAfter m) reply
   split_after_steps gone free cuts told =
       let run = split_run gone (cut_behind (elements old) (place old)) free cuts told in
       let held = put_back table n (elements old) within in
       record { same_reference = cuts.stands.same_reference; state_is = rw held run.0; told = rw held run.1 }
 
   pub split_before_steps : (gone : Elements Item) → true ≡ (not (nat_eq n m) && nat_eq (length (held_at table m)) 0) → Cuts old new gone (cut_before (elements old) (place old)) → lines_of reply ≡ done ∷ [] →
-      Steps n table (set table m gone) old new (SplitBefore m) reply
+      LineRuns n table (set table m gone) old new (SplitBefore m) reply
   split_before_steps gone free cuts told =
       let run = split_run gone (cut_before (elements old) (place old)) free cuts told in
       let held = put_back table n (elements old) within in
@@ -114,12 +114,12 @@ module _ (n m : ℕ) (table : Table) (old new : CursorMut Item) (reply : Reply) 
       (state_of (set table m []) n new ≡ (splice_from (state_of table n old) n m joined).0) × (lines_of reply ≡ (splice_from (state_of table n old) n m joined).1 ∷ [])
   splice_run joined fits stands told =
       let done_so : splice_from (state_of table n old) n m joined ≡ ((set (set table m []) n joined.0, joined.1), done) =
-      rw (put_back table n (elements old) within, guarded table n m (elements old) (λ t. nat_le (length (elements old) + length t) 18446744073709551615), ← fits, set_over table n m (elements old) [] joined.0) refl in
+      rw (put_back table n (elements old) within, held_at_other table n m (elements old) (λ t. nat_le (length (elements old) + length t) 18446744073709551615), ← fits, set_over table n m (elements old) [] joined.0) refl in
       (rw done_so (same_state (set table m []) (set table m []) n (elements new) joined.0 (place new) joined.1 refl stands.elements_are stands.place_is), rw done_so told)
 
   pub splice_after_steps : true ≡ (not (nat_eq n m) && nat_le (length (elements old) + length (held_at table m)) 18446744073709551615) →
       Stands old new (put_behind (elements old) (place old) (held_at table m)).0 (put_behind (elements old) (place old) (held_at table m)).1 → lines_of reply ≡ done ∷ [] →
-      Steps n table (set table m []) old new (SpliceAfter m) reply
+      LineRuns n table (set table m []) old new (SpliceAfter m) reply
   splice_after_steps fits stands told =
       let run = splice_run (put_behind (elements old) (place old) (held_at table m)) fits stands told in
       let held = put_back table n (elements old) within in
@@ -128,7 +128,7 @@ module _ (n m : ℕ) (table : Table) (old new : CursorMut Item) (reply : Reply) 
 
   pub splice_before_steps : true ≡ (not (nat_eq n m) && nat_le (length (elements old) + length (held_at table m)) 18446744073709551615) →
       Stands old new (put_before (elements old) (place old) (held_at table m)).0 (put_before (elements old) (place old) (held_at table m)).1 → lines_of reply ≡ done ∷ [] →
-      Steps n table (set table m []) old new (SpliceBefore m) reply
+      LineRuns n table (set table m []) old new (SpliceBefore m) reply
   splice_before_steps fits stands told =
       let run = splice_run (put_before (elements old) (place old) (held_at table m)) fits stands told in
       let held = put_back table n (elements old) within in
@@ -147,7 +147,7 @@ alone_step n table s k line within a b c d = rw (put_back table n s within, set-
 
 pub alone_steps : (n : ℕ) (table : Table) (old new : CursorMut Item) (line : CursorCommand) (reply : Reply) → n < length table →
     ((m : ℕ) → line ≡ SplitAfter m → ⊥) → ((m : ℕ) → line ≡ SplitBefore m → ⊥) → ((m : ℕ) → line ≡ SpliceAfter m → ⊥) → ((m : ℕ) → line ≡ SpliceBefore m → ⊥) →
-    Obeys old new line reply → Steps n table table old new line reply
+    Obeys old new line reply → LineRuns n table table old new line reply
 alone_steps n table old new line reply within a b c d obeys =
     let step = alone_step n table (elements old) (place old) line within a b c d in
     record {

@@ -26,8 +26,8 @@ all_grown by (e ∷ s) zero past = absurd (omega arith)
 all_grown by (e ∷ s) (suc k) past = ap (λ t. e ∷ t) (all_grown by s k (omega arith))
 
 -- a value that an iterator lent
-lent : {X : Type 0} (o : Option X) (k n : ℕ) (x : X) → Some x ≡ (if nat_lt k n then o else None) → (k < n) × (Some x ≡ o)
-lent o k n x is = elim (below_or_not k n) [
+lent_some : {X : Type 0} (o : Option X) (k n : ℕ) (x : X) → Some x ≡ (if nat_lt k n then o else None) → (k < n) × (Some x ≡ o)
+lent_some o k n x is = elim (below_or_not k n) [
   | inl below ↦ (below, grind (arith, nat_tests))
   | inr past ↦ absurd (grind (arith, nat_tests))
 ]
@@ -36,11 +36,11 @@ lent o k n x is = elim (below_or_not k n) [
 pub bump_more : (by : ℕ) (s all : Elements Item) (k n : ℕ) (x : Item) → Some x ≡ (if nat_lt k n then slice_get (values s) k else None) → take k s ++ bumped by (drop k s) ≡ all →
     take (k + 1) (with_value s k (record x { value = (x.value + by) % 2 ^ 64 })) ++ bumped by (drop (k + 1) (with_value s k (record x { value = (x.value + by) % 2 ^ 64 }))) ≡ all
 bump_more by s all k n x is so_far =
-    let at = (lent (slice_get (values s) k) k n x is).1 in
+    let at = (lent_some (slice_get (values s) k) k n x is).1 in
     rw add-one (grown_at by s k x (sym at) ∙ so_far)
 
 pub bump_inside : (s : Elements Item) (k n : ℕ) (x : Item) → Some x ≡ (if nat_lt k n then slice_get (values s) k else None) → k < n
-bump_inside s k n x is = (lent (slice_get (values s) k) k n x is).0
+bump_inside s k n x is = (lent_some (slice_get (values s) k) k n x is).0
 
 -- none is left
 pub bump_end : (by : ℕ) (s all : Elements Item) (k n : ℕ) → n ≡ length s → None ≡ (if nat_lt k n then slice_get (values s) k else None) → take k s ++ bumped by (drop k s) ≡ all → s ≡ all

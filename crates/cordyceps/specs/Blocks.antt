@@ -147,7 +147,7 @@ abbrev pub state_of : Table → ℕ → CursorMut Item → State
 state_of table list cursor = (slice_set table list (elements cursor), place cursor)
 
 -- a table and a cursor on the list with a number went on by a line, and this is the reply
-pub record Steps (list : ℕ) (table new_table : Table) (old new : CursorMut Item) (line : CursorCommand) (reply : Reply) : Type 0 where
+pub record LineRuns (list : ℕ) (table new_table : Table) (old new : CursorMut Item) (line : CursorCommand) (reply : Reply) : Type 0 where
   pub same_reference : lender new ≡ lender old
   pub state_is : state_of new_table list new ≡ (line_step list (state_of table list old) line).0
   pub told : lines_of reply ≡ (line_step list (state_of table list old) line).1 ∷ []

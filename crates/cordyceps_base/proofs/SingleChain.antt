@@ -3,161 +3,161 @@ use Rattle.std.proofs.Common.{◌≡◌, true, false, ℕ, zero, suc, ◌-◌, �
 use Rattle.core.specs.Option.{IsSome, is_some, option_or}
 use denote.RawPtr.{Ptr}
 use Rattle.std.specs.declared.alloc.Global.{Global}
-use Rattle.cordyceps_base.specs.declared.boxes.Place.{Place}
+use Rattle.cordyceps_base.specs.declared.boxes.Address.{Address}
 use Rattle.cordyceps_base.specs.declared.node.Block.{Block}
 use Rattle.cordyceps_base.specs.declared.single_link.NextLink.{NextLink}
-use Rattle.cordyceps_base.specs.Boxes.{places, values, set_value}
+use Rattle.cordyceps_base.specs.Boxes.{box_addresses, box_values, set_value}
 use Rattle.cordyceps_base.specs.Element.{Element, values as values_of}
-use Rattle.cordyceps_base.specs.Nodes.{elements, shown, element_of}
-use Rattle.cordyceps_base.specs.SingleChain.{Owned, with_next, relinked, Leads, EndsAfter, EndsAt, IsLed, IsLine, IsFront, IsParted}
+use Rattle.cordyceps_base.specs.Nodes.{elements, nodes_of, block_element}
+use Rattle.cordyceps_base.specs.SingleChain.{OwnedNode, with_next, relinked, Leads, EndsAfter, EndsAt, IsLed, IsLine, IsFront, IsParted}
 
 abbrev Node : Type 0 → Type 0 → Type 0
 Node X K = Block X (NextLink X K)
 
-pub is_none : (h : Option Place) → is_some h ≡ false → h ≡ None
+pub is_none : (h : Option Address) → is_some h ≡ false → h ≡ None
 is_none None e = refl
 is_none (Some p) e = cc
 
-pub is_not_none : (h : Option Place) → is_some h ≡ true → ¬ (h ≡ None)
+pub is_not_none : (h : Option Address) → is_some h ≡ true → ¬ (h ≡ None)
 is_not_none None e = λ _. cc
 is_not_none (Some p) e = λ n. cc
 
 module _ {X K : Type 0} where
   -- ---- the first node
-  pub first_at : (h : Option Place) (ns : List (Owned X K)) (a : Place) → IsLed h ns → h ≡ Some a → slice_get (places ns) 0 ≡ Some a.ptr
+  pub first_at : (h : Option Address) (ns : List (OwnedNode X K)) (a : Address) → IsLed h ns → h ≡ Some a → slice_get (box_addresses ns) 0 ≡ Some a.ptr
   first_at h [] a f e = cc
-  first_at h (n ∷ ns) a f e = let same : record { ptr = n.0 } ≡ a = cc in ap (λ (p : Place). Some p.ptr) same
+  first_at h (n ∷ ns) a f e = let same : record { ptr = n.0 } ≡ a = cc in ap (λ (p : Address). Some p.ptr) same
 
-  pub no_first : (h : Option Place) (ns : List (Owned X K)) → IsLed h ns → h ≡ None → ns ≡ []
+  pub no_first : (h : Option Address) (ns : List (OwnedNode X K)) → IsLed h ns → h ≡ None → ns ≡ []
   no_first h [] f e = refl
   no_first h (n ∷ ns) f e = cc
 
-  pub some_first : (h : Option Place) (ns : List (Owned X K)) → IsLed h ns → 0 < length ns → IsSome h
+  pub some_first : (h : Option Address) (ns : List (OwnedNode X K)) → IsLed h ns → 0 < length ns → IsSome h
   some_first h [] f p = absurd (omega arith)
   some_first h (n ∷ ns) f p = subst IsSome (sym f.0) refl
 
   -- nodes that are shown
-  pub some_nodes : (ns : List (Owned X K)) → (¬ (shown ns ≡ [])) → 0 < length ns
+  pub some_nodes : (ns : List (OwnedNode X K)) → (¬ (nodes_of ns ≡ [])) → 0 < length ns
   some_nodes [] not = absurd (not refl)
   some_nodes (n ∷ ns) not = omega arith
 
-  pub first_shown : (ns : List (Owned X K)) (w : Node X K) → slice_get (values (take 1 ns)) 0 ≡ Some w → (x : Ptr × Element X) × (shown ns ≡ x ∷ shown (drop 1 ns)) × (shown (take 1 ns) ≡ x ∷ [])
+  pub first_shown : (ns : List (OwnedNode X K)) (w : Node X K) → slice_get (box_values (take 1 ns)) 0 ≡ Some w → (x : Ptr × Element X) × (nodes_of ns ≡ x ∷ nodes_of (drop 1 ns)) × (nodes_of (take 1 ns) ≡ x ∷ [])
   first_shown [] w e = cc
-  first_shown (n ∷ ns) w e = ((n.0, element_of n.2), refl, refl)
+  first_shown (n ∷ ns) w e = ((n.0, block_element n.2), refl, refl)
 
-  pub first_row : (h : Option Place) (ns : List (Owned X K)) (a : Place) (g : Global) → IsLed h ns → h ≡ Some a → (x : Node X K) × (take 1 ns ≡ (a.ptr, g, x) ∷ [])
+  pub first_row : (h : Option Address) (ns : List (OwnedNode X K)) (a : Address) (g : Global) → IsLed h ns → h ≡ Some a → (x : Node X K) × (take 1 ns ≡ (a.ptr, g, x) ∷ [])
   first_row h [] a g f e = cc
-  first_row h (n ∷ ns) a g f e = let same : record { ptr = n.0 } ≡ a = cc in (n.2, ap (λ (p : Place). (p.ptr, g, n.2) ∷ []) same)
+  first_row h (n ∷ ns) a g f e = let same : record { ptr = n.0 } ≡ a = cc in (n.2, ap (λ (p : Address). (p.ptr, g, n.2) ∷ []) same)
 
   -- ---- the last node
-  last_on : (m : Owned X K) (ns : List (Owned X K)) (t : Ptr) → EndsAfter m.0 ns t → slice_get (places (drop (length ns) (m ∷ ns))) 0 ≡ Some t
+  last_on : (m : OwnedNode X K) (ns : List (OwnedNode X K)) (t : Ptr) → EndsAfter m.0 ns t → slice_get (box_addresses (drop (length ns) (m ∷ ns))) 0 ≡ Some t
   last_on m [] t f = ap Some (sym f)
   last_on m (n ∷ ns) t f = last_on n ns t f
 
-  pub last_place : (ns : List (Owned X K)) (t : Ptr) → EndsAt ns t → 0 < length ns → slice_get (places (drop (length ns - 1) ns)) 0 ≡ Some t
+  pub last_place : (ns : List (OwnedNode X K)) (t : Ptr) → EndsAt ns t → 0 < length ns → slice_get (box_addresses (drop (length ns - 1) ns)) 0 ≡ Some t
   last_place [] t f p = absurd (omega arith)
-  last_place (m ∷ ns) t f p = let less : length ns ≡ length (m ∷ ns) - 1 = omega arith in subst (λ j. slice_get (places (drop j (m ∷ ns))) 0 ≡ Some t) less (last_on m ns t f)
+  last_place (m ∷ ns) t f p = let less : length ns ≡ length (m ∷ ns) - 1 = omega arith in subst (λ j. slice_get (box_addresses (drop j (m ∷ ns))) 0 ≡ Some t) less (last_on m ns t f)
 
-  pub behind_item : (k : ℕ) (ns : List (Owned X K)) → slice_get (values_of (elements (shown (drop k ns)))) 0 ≡ slice_get (values_of (elements (shown ns))) k
+  pub behind_item : (k : ℕ) (ns : List (OwnedNode X K)) → slice_get (values_of (elements (nodes_of (drop k ns)))) 0 ≡ slice_get (values_of (elements (nodes_of ns))) k
   behind_item zero ns = refl
   behind_item (suc k) [] = refl
   behind_item (suc k) (n ∷ ns) = behind_item k ns
 
   -- the only node
-  pub single : (t : Ptr) (ns : List (Owned X K)) (g : Global) → EndsAt ns t → length (shown ns) ≡ 1 → (x : Node X K) × (ns ≡ (t, g, x) ∷ [])
+  pub single : (t : Ptr) (ns : List (OwnedNode X K)) (g : Global) → EndsAt ns t → length (nodes_of ns) ≡ 1 → (x : Node X K) × (ns ≡ (t, g, x) ∷ [])
   single t [] g f e = absurd (omega arith)
   single t (n ∷ []) g f e = (n.2, λ i. (sym f i, g, n.2) ∷ [])
   single t (n ∷ m ∷ ns) g f e = absurd (omega arith)
 
   -- ---- another link in the last node
-  relink_on : (n : Owned X K) (ns : List (Owned X K)) (b : Node X K) (p : Option Place) → slice_get (values (drop (length ns) (n ∷ ns))) 0 ≡ Some b
+  relink_on : (n : OwnedNode X K) (ns : List (OwnedNode X K)) (b : Node X K) (p : Option Address) → slice_get (box_values (drop (length ns) (n ∷ ns))) 0 ≡ Some b
       → take (length ns) (n ∷ ns) ++ set_value (drop (length ns) (n ∷ ns)) 0 (with_next b p) ≡ relinked (n ∷ ns) p
   relink_on n [] b p e = let same : b ≡ n.2 = cc in ap (λ (x : Node X K). (n.0, n.1, with_next x p) ∷ []) same
   relink_on n (m ∷ ns) b p e = ap (λ l. n ∷ l) (relink_on m ns b p e)
 
-  pub relink : (ns : List (Owned X K)) (b : Node X K) (p : Option Place) → 0 < length ns → slice_get (values (drop (length ns - 1) ns)) 0 ≡ Some b
+  pub relink : (ns : List (OwnedNode X K)) (b : Node X K) (p : Option Address) → 0 < length ns → slice_get (box_values (drop (length ns - 1) ns)) 0 ≡ Some b
       → take (length ns - 1) ns ++ set_value (drop (length ns - 1) ns) 0 (with_next b p) ≡ relinked ns p
   relink [] b p some e = absurd (omega arith)
   relink (n ∷ ns) b p some e =
       let less : length (n ∷ ns) - 1 ≡ length ns = omega arith in
-      let here = subst (λ j. slice_get (values (drop j (n ∷ ns))) 0 ≡ Some b) less e in
+      let here = subst (λ j. slice_get (box_values (drop j (n ∷ ns))) 0 ≡ Some b) less e in
       subst (λ j. take j (n ∷ ns) ++ set_value (drop j (n ∷ ns)) 0 (with_next b p) ≡ relinked (n ∷ ns) p) (sym less) (relink_on n ns b p here)
 
-  pub shown-relinked : (ns : List (Owned X K)) (p : Option Place) → shown (relinked ns p) ≡ shown ns
-  shown-relinked [] p = refl
-  shown-relinked (n ∷ []) p = refl
-  shown-relinked (n ∷ m ∷ ns) p = ap (λ l. (n.0, element_of n.2) ∷ l) (shown-relinked (m ∷ ns) p)
+  pub nodes_of-relinked : (ns : List (OwnedNode X K)) (p : Option Address) → nodes_of (relinked ns p) ≡ nodes_of ns
+  nodes_of-relinked [] p = refl
+  nodes_of-relinked (n ∷ []) p = refl
+  nodes_of-relinked (n ∷ m ∷ ns) p = ap (λ l. (n.0, block_element n.2) ∷ l) (nodes_of-relinked (m ∷ ns) p)
 
-  leads_relinked : (h z p : Option Place) (n : Owned X K) (ns : List (Owned X K)) → Leads h (n ∷ ns) z → Leads h (relinked (n ∷ ns) p) p
+  leads_relinked : (h z p : Option Address) (n : OwnedNode X K) (ns : List (OwnedNode X K)) → Leads h (n ∷ ns) z → Leads h (relinked (n ∷ ns) p) p
   leads_relinked h z p n [] f = (f.0, refl)
   leads_relinked h z p n (m ∷ ns) f = (f.0, leads_relinked n.2.links.next z p m ns f.1)
 
   -- ---- one row behind another
-  leads_append : (h z w : Option Place) (xs ys : List (Owned X K)) → Leads h xs z → Leads z ys w → Leads h (xs ++ ys) w
+  leads_append : (h z w : Option Address) (xs ys : List (OwnedNode X K)) → Leads h xs z → Leads z ys w → Leads h (xs ++ ys) w
   leads_append h z w [] ys f g = subst (λ o. Leads o ys w) (sym f) g
   leads_append h z w (x ∷ xs) ys f g = (f.0, leads_append x.2.links.next z w xs ys f.1 g)
 
-  ends_append_after : (a : Ptr) (xs : List (Owned X K)) (y : Owned X K) (ys : List (Owned X K)) (t : Ptr) → EndsAfter y.0 ys t → EndsAfter a (xs ++ y ∷ ys) t
+  ends_append_after : (a : Ptr) (xs : List (OwnedNode X K)) (y : OwnedNode X K) (ys : List (OwnedNode X K)) (t : Ptr) → EndsAfter y.0 ys t → EndsAfter a (xs ++ y ∷ ys) t
   ends_append_after a [] y ys t f = f
   ends_append_after a (x ∷ xs) y ys t f = ends_append_after x.0 xs y ys t f
 
-  ends_append : (xs : List (Owned X K)) (y : Owned X K) (ys : List (Owned X K)) (t : Ptr) → EndsAfter y.0 ys t → EndsAt (xs ++ y ∷ ys) t
+  ends_append : (xs : List (OwnedNode X K)) (y : OwnedNode X K) (ys : List (OwnedNode X K)) (t : Ptr) → EndsAfter y.0 ys t → EndsAt (xs ++ y ∷ ys) t
   ends_append [] y ys t f = f
   ends_append (x ∷ xs) y ys t f = ends_append_after x.0 xs y ys t f
 
-  ends_back_after : (a : Ptr) (xs : List (Owned X K)) (y : Owned X K) (ys : List (Owned X K)) (t : Ptr) → EndsAfter a (xs ++ y ∷ ys) t → EndsAfter y.0 ys t
+  ends_back_after : (a : Ptr) (xs : List (OwnedNode X K)) (y : OwnedNode X K) (ys : List (OwnedNode X K)) (t : Ptr) → EndsAfter a (xs ++ y ∷ ys) t → EndsAfter y.0 ys t
   ends_back_after a [] y ys t f = f
   ends_back_after a (x ∷ xs) y ys t f = ends_back_after x.0 xs y ys t f
 
-  ends_back : (xs : List (Owned X K)) (y : Owned X K) (ys : List (Owned X K)) (t : Ptr) → EndsAt (xs ++ y ∷ ys) t → EndsAfter y.0 ys t
+  ends_back : (xs : List (OwnedNode X K)) (y : OwnedNode X K) (ys : List (OwnedNode X K)) (t : Ptr) → EndsAt (xs ++ y ∷ ys) t → EndsAfter y.0 ys t
   ends_back [] y ys t f = f
   ends_back (x ∷ xs) y ys t f = ends_back_after x.0 xs y ys t f
 
-  pub line_join : (h p : Option Place) (t u : Ptr) (xs ys : List (Owned X K)) → IsLine h t xs → IsLine p u ys → 0 < length xs → 0 < length ys → IsLine h u (relinked xs p ++ ys)
+  pub line_join : (h p : Option Address) (t u : Ptr) (xs ys : List (OwnedNode X K)) → IsLine h t xs → IsLine p u ys → 0 < length xs → 0 < length ys → IsLine h u (relinked xs p ++ ys)
   line_join h p t u [] ys f g some more = absurd (omega arith)
   line_join h p t u (x ∷ xs) [] f g some more = absurd (omega arith)
   line_join h p t u (x ∷ xs) (y ∷ ys) f g some more = (leads_append h p None (relinked (x ∷ xs) p) (y ∷ ys) (leads_relinked h None p x xs f.0) g.0, ends_append (relinked (x ∷ xs) p) y ys u g.1)
 
   -- ---- a cursor
-  front_is_line : (h at : Option Place) (front : List (Owned X K)) (rest : List (Owned X K)) → IsFront h front at → IsLed at rest → IsLed (option_or h at) (front ++ rest)
+  front_is_line : (h at : Option Address) (front : List (OwnedNode X K)) (rest : List (OwnedNode X K)) → IsFront h front at → IsLed at rest → IsLed (option_or h at) (front ++ rest)
   front_is_line h at [] rest f g = subst (λ o. IsLed (option_or o at) rest) (sym f) g
   front_is_line h at (n ∷ ns) rest f g = subst (λ o. IsLed (option_or o at) (n ∷ ns ++ rest)) (sym f.0) (refl, leads_append n.2.links.next at None ns rest f.1 g)
 
-  pub closed : (h at : Option Place) (b t : Ptr) (front rest : List (Owned X K)) → IsParted h b at t front rest → IsLine (option_or h at) t (front ++ rest)
+  pub closed : (h at : Option Address) (b t : Ptr) (front rest : List (OwnedNode X K)) → IsParted h b at t front rest → IsLine (option_or h at) t (front ++ rest)
   closed h at b t front rest f = (front_is_line h at front rest f.0 f.2, f.3)
 
-  front_moved : (h at z : Option Place) (front : List (Owned X K)) (n : Owned X K) → IsFront h front at → at ≡ Some (record { ptr = n.0 }) → n.2.links.next ≡ z → IsFront (option_or h at) (front ++ n ∷ []) z
+  front_moved : (h at z : Option Address) (front : List (OwnedNode X K)) (n : OwnedNode X K) → IsFront h front at → at ≡ Some (record { ptr = n.0 }) → n.2.links.next ≡ z → IsFront (option_or h at) (front ++ n ∷ []) z
   front_moved h at z [] n f e g = (ap (λ o. option_or o at) f ∙ e, g)
   front_moved h at z (m ∷ ms) n f e g = subst (λ o. Leads (option_or o at) (m ∷ ms ++ n ∷ []) z) (sym f.0) (refl, leads_append m.2.links.next at z ms (n ∷ []) f.1 (e, g))
 
-  pub moved_on : (h at : Option Place) (b t : Ptr) (front rest : List (Owned X K)) (here : Place) (w : Node X K) → IsParted h b at t front rest → at ≡ Some here → slice_get (values (take 1 rest)) 0 ≡ Some w
+  pub moved_on : (h at : Option Address) (b t : Ptr) (front rest : List (OwnedNode X K)) (here : Address) (w : Node X K) → IsParted h b at t front rest → at ≡ Some here → slice_get (box_values (take 1 rest)) 0 ≡ Some w
       → IsParted (option_or h at) here.ptr w.links.next t (front ++ take 1 rest) (drop 1 rest)
   moved_on h at b t front [] here w f e g = cc
   moved_on h at b t front (n ∷ ns) here w f e g =
       let same : n.2 ≡ w = cc in let lies : record { ptr = n.0 } ≡ here = cc in let next = ap (λ (x : Node X K). x.links.next) same in (
         front_moved h at w.links.next front n f.0 f.2.0 next,
-        ends_append front n [] here.ptr (ap (λ (p : Place). p.ptr) (sym lies)),
+        ends_append front n [] here.ptr (ap (λ (p : Address). p.ptr) (sym lies)),
         subst (λ o. IsLed o ns) next f.2.1,
         subst (λ l. EndsAt l t) (sym (append_assoc front (n ∷ []) ns)) f.3,
       )
 
   -- the last node, with one more in front of the rest
-  pub ends_with : (at : Option Place) (t : Ptr) (front some rest : List (Owned X K)) (n : Owned X K) → IsLed at rest → EndsAt (front ++ rest) t → (¬ (at ≡ None)) → EndsAt (some ++ n ∷ [] ++ rest) t
+  pub ends_with : (at : Option Address) (t : Ptr) (front some rest : List (OwnedNode X K)) (n : OwnedNode X K) → IsLed at rest → EndsAt (front ++ rest) t → (¬ (at ≡ None)) → EndsAt (some ++ n ∷ [] ++ rest) t
   ends_with at t front some [] n f g not = absurd (not f)
   ends_with at t front some (m ∷ ms) n f g not = ends_append (some ++ n ∷ []) m ms t (ends_back front m ms t g)
 
-  pub ends_here : (at : Option Place) (some rest : List (Owned X K)) (n : Owned X K) → IsLed at rest → at ≡ None → EndsAt (some ++ n ∷ [] ++ rest) n.0
+  pub ends_here : (at : Option Address) (some rest : List (OwnedNode X K)) (n : OwnedNode X K) → IsLed at rest → at ≡ None → EndsAt (some ++ n ∷ [] ++ rest) n.0
   ends_here at some [] n f e = subst (λ l. EndsAt l n.0) (sym (append_assoc some (n ∷ []) [])) (ends_append some n [] n.0 refl)
   ends_here at some (m ∷ ms) n f e = cc
 
-  pub joined_behind : (h at : Option Place) (b t u : Ptr) (front rest : List (Owned X K)) (n : Owned X K) → IsParted h b at t front rest → (¬ (h ≡ None)) → n.2.links.next ≡ at
+  pub joined_behind : (h at : Option Address) (b t u : Ptr) (front rest : List (OwnedNode X K)) (n : OwnedNode X K) → IsParted h b at t front rest → (¬ (h ≡ None)) → n.2.links.next ≡ at
       → EndsAt (relinked front (Some (record { ptr = n.0 })) ++ n ∷ [] ++ rest) u → IsParted h n.0 at u (relinked front (Some (record { ptr = n.0 })) ++ n ∷ []) rest
   joined_behind h at b t u [] rest n f not next ends = absurd (not f.0)
   joined_behind h at b t u (m ∷ ms) rest n f not next ends =
-      let p : Option Place = Some (record { ptr = n.0 }) in let all = leads_append h p at (relinked (m ∷ ms) p) (n ∷ []) (leads_relinked h at p m ms f.0) (refl, next) in
+      let p : Option Address = Some (record { ptr = n.0 }) in let all = leads_append h p at (relinked (m ∷ ms) p) (n ∷ []) (leads_relinked h at p m ms f.0) (refl, next) in
       (front_of h at (m ∷ ms) p n all, ends_append (relinked (m ∷ ms) p) n [] n.0 refl, f.2, ends)
     where
-      front_of : (h at : Option Place) (ms : List (Owned X K)) (p : Option Place) (n : Owned X K) → Leads h (relinked ms p ++ n ∷ []) at → IsFront h (relinked ms p ++ n ∷ []) at
+      front_of : (h at : Option Address) (ms : List (OwnedNode X K)) (p : Option Address) (n : OwnedNode X K) → Leads h (relinked ms p ++ n ∷ []) at → IsFront h (relinked ms p ++ n ∷ []) at
       front_of h at [] p n f = f
       front_of h at (m ∷ []) p n f = f
       front_of h at (m ∷ k ∷ ms) p n f = f

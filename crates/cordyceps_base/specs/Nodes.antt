@@ -2,7 +2,7 @@
 use Rattle.std.specs.Prelude.{◌≡◌, ℕ, zero, suc, List, [], ◌∷◌, map, slice_get, Some}
 use denote.RawPtr.{Ptr}
 use Rattle.std.specs.declared.alloc.Global.{Global}
-use Rattle.cordyceps_base.specs.declared.boxes.Place.{Place}
+use Rattle.cordyceps_base.specs.declared.boxes.Address.{Address}
 use Rattle.cordyceps_base.specs.declared.node.Block.{Block}
 use Rattle.cordyceps_base.specs.Element.{Element, Elements}
 
@@ -16,8 +16,8 @@ module _ {X : Type 0} where
   spots = map (λ n. n.0)
 
   -- node k lies at p
-  abbrev pub IsAt : Nodes X → ℕ → Place → Type 0
-  IsAt c k p = slice_get (spots c) k ≡ Some p.ptr
+  abbrev pub LiesAt : Nodes X → ℕ → Address → Type 0
+  LiesAt c k p = slice_get (spots c) k ≡ Some p.ptr
 
   -- their elements
   abbrev pub elements : Nodes X → Elements X
@@ -30,13 +30,13 @@ module _ {X : Type 0} where
   with_item (n ∷ ns) (suc k) w = n ∷ with_item ns k w
 
 -- a node, as a chain owns it: its place, the handle that frees it and its block
-abbrev pub Owned : Type 0 → Type 0 → Type 0
-Owned X L = Ptr × Global × Block X L
+abbrev pub OwnedNode : Type 0 → Type 0 → Type 0
+OwnedNode X L = Ptr × Global × Block X L
 
 module _ {X L : Type 0} where
   -- the element in a block
-  abbrev pub element_of : Block X L → Element X
-  element_of b = record { id = b.id; value = b.value }
+  abbrev pub block_element : Block X L → Element X
+  block_element b = record { id = b.id; value = b.value }
 
-  abbrev pub shown : List (Owned X L) → Nodes X
-  shown = map (λ n. (n.0, element_of n.2))
+  abbrev pub nodes_of : List (OwnedNode X L) → Nodes X
+  nodes_of = map (λ n. (n.0, block_element n.2))

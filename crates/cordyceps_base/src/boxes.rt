@@ -3,7 +3,7 @@ ghost use Rattle.std.specs.Prelude.{◌≡◌, ◌≤◌, ◌-◌, ℕ, List, []
 ghost use Rattle.std.specs.Borrow.{sem};
 ghost use Rattle.std.specs.Box.Ownership.{box_owns};
 ghost use denote.RawPtr.{Ptr};
-ghost use Rattle.cordyceps_base.specs.Boxes.{boxes_own, boxes_lent, places, values};
+ghost use Rattle.cordyceps_base.specs.Boxes.{boxes_own, boxes_lent, box_addresses, box_values};
 
 use std::alloc::Allocator;
 use std::marker::{Model, PhantomData, Send, Sync};
@@ -11,22 +11,22 @@ use std::ptr;
 
 /// Where a box's value lies. It owns nothing.
 #[derive(Clone, Copy)]
-pub struct Place {
+pub struct Address {
     ptr: *mut u8,
 }
 
-impl Place {
+impl Address {
     /// The place of nothing.
-    pub fn nowhere() -> Place {
-        Place {
+    pub fn nowhere() -> Address {
+        Address {
             ptr: ptr::null_mut(),
         }
     }
 }
 
-unsafe impl Send for Place {}
+unsafe impl Send for Address {}
 
-unsafe impl Sync for Place {}
+unsafe impl Sync for Address {}
 
 /// A box as its pointer and its allocator.
 pub struct Loose<B, A: Allocator> {
@@ -85,15 +85,15 @@ impl<B, A: Allocator> Boxes<B, A> {
         let Boxes { mark: _ } = self;
     }
 
-    pub(crate) fn one(block: Loose<B, A>) -> (Place, A, Boxes<B, A>)
+    pub(crate) fn one(block: Loose<B, A>) -> (Address, A, Boxes<B, A>)
         ensures { result.2.blocks ≡ (result.0.ptr, result.1, block.value) ∷ [] }
     {
         let Loose { at, alloc } = block;
         let ptr = at as *mut u8;
-        (Place { ptr }, alloc, Boxes { mark: PhantomData })
+        (Address { ptr }, alloc, Boxes { mark: PhantomData })
     }
 
-    pub(crate) fn only(self, at: Place, alloc: A) -> Loose<B, A>
+    pub(crate) fn only(self, at: Address, alloc: A) -> Loose<B, A>
         requires { (x : B) × (self.blocks ≡ (at.ptr, alloc, x) ∷ []) }
         ensures { self.blocks ≡ (at.ptr, alloc, result.value) ∷ [] }
     {
@@ -142,18 +142,18 @@ impl<B, A: Allocator> Boxes<B, A> {
     }
 
     /// `k` is the index of the box at `at`, which only the proof needs.
-    pub(crate) fn get(&self, at: Place, k: usize) -> &B
-        requires { slice_get (places self.now.blocks) k ≡ Some at.ptr }
-        ensures { slice_get (values self.now.blocks) k ≡ Some result.now }
+    pub(crate) fn get(&self, at: Address, k: usize) -> &B
+        requires { slice_get (box_addresses self.now.blocks) k ≡ Some at.ptr }
+        ensures { slice_get (box_values self.now.blocks) k ≡ Some result.now }
     {
         let at = at.ptr as *mut B;
         unsafe { &*at }
     }
 
-    pub(crate) fn get_mut(&mut self, at: Place, k: usize) -> &mut B
-        requires { slice_get (places self.old.blocks) k ≡ Some at.ptr }
+    pub(crate) fn get_mut(&mut self, at: Address, k: usize) -> &mut B
+        requires { slice_get (box_addresses self.old.blocks) k ≡ Some at.ptr }
         ensures* writes_back { sem 𝓛 (lends_value B.row A.row A.Allocator self.entry k result) }
-        ensures value { slice_get (values self.old.blocks) k ≡ Some result.now }
+        ensures value { slice_get (box_values self.old.blocks) k ≡ Some result.now }
     {
         let at = at.ptr as *mut B;
         unsafe { &mut *at }

@@ -3,9 +3,9 @@ ghost use Rattle.std.specs.Prelude.{◌≡◌, ℕ, ◌+◌, ◌-◌, ◌^◌, �
 ghost use Rattle.std.specs.Borrow.{sem};
 ghost use denote.RawPtr.{Ptr};
 ghost use Rattle.cordyceps_base.specs.Element.{ids, values};
-ghost use Rattle.cordyceps_base.specs.Nodes.{elements, IsAt};
+ghost use Rattle.cordyceps_base.specs.Nodes.{elements, LiesAt};
 
-use crate::boxes::{Boxes, Loose, Place};
+use crate::boxes::{Address, Boxes, Loose};
 use crate::list::Links;
 use crate::node::{Block, Node};
 use std::alloc::Global;
@@ -17,19 +17,19 @@ use std::mem;
 /// The links are the chain's own, and no call but `drop` walks along them. `next` of the last node and `prev` of the
 /// first mean nothing, nor do `head` and `tail` where there is no node.
 pub struct DoubleChain<T> {
-    head: Place,
-    tail: Place,
+    head: Address,
+    tail: Address,
     len: usize,
     boxes: Boxes<Block<T, Links<T>>, Global>,
 }
 
 impl<T> Model for DoubleChain<T> {
-    ghost use Rattle.cordyceps_base.specs.Nodes.{Nodes, shown};
+    ghost use Rattle.cordyceps_base.specs.Nodes.{Nodes, nodes_of};
     ghost use Rattle.cordyceps_base.specs.DoubleChain.{IsLinked};
 
     ghost Value = { Nodes T };
 
-    ghost view = { λ c. shown c.boxes.blocks };
+    ghost view = { λ c. nodes_of c.boxes.blocks };
 
     ghost invariant = { λ c. IsLinked c.head.ptr c.tail.ptr c.len c.boxes.blocks };
 }
@@ -51,8 +51,8 @@ impl<T> DoubleChain<T> {
         ensures { result ≡ [] }
     {
         DoubleChain {
-            head: Place::nowhere(),
-            tail: Place::nowhere(),
+            head: Address::nowhere(),
+            tail: Address::nowhere(),
             len: 0,
             boxes: Boxes::empty(),
         }
@@ -129,53 +129,53 @@ impl<T> DoubleChain<T> {
     }
 
     /// The place of the first node.
-    pub fn head(&self) -> Place
+    pub fn head(&self) -> Address
         requires { 0 < length self.now }
-        ensures { IsAt self.now 0 result }
+        ensures { LiesAt self.now 0 result }
     {
         self.head
     }
 
     /// The place of the last node.
-    pub fn tail(&self) -> Place
+    pub fn tail(&self) -> Address
         requires { 0 < length self.now }
-        ensures { IsAt self.now (length self.now - 1) result }
+        ensures { LiesAt self.now (length self.now - 1) result }
     {
         self.tail
     }
 
     /// The place after that of node `k`, which is `at`.
-    pub fn next(&self, at: Place, k: usize) -> Place
-        requires { IsAt self.now k at }
-        ensures { k + 1 < length self.now → IsAt self.now (k + 1) result }
+    pub fn next(&self, at: Address, k: usize) -> Address
+        requires { LiesAt self.now k at }
+        ensures { k + 1 < length self.now → LiesAt self.now (k + 1) result }
     {
         self.boxes.get(at, k).links.next
     }
 
     /// The place before that of node `k`, which is `at`.
-    pub fn prev(&self, at: Place, k: usize) -> Place
-        requires { IsAt self.now k at }
-        ensures { 0 < k → IsAt self.now (k - 1) result }
+    pub fn prev(&self, at: Address, k: usize) -> Address
+        requires { LiesAt self.now k at }
+        ensures { 0 < k → LiesAt self.now (k - 1) result }
     {
         self.boxes.get(at, k).links.prev
     }
 
-    pub fn id(&self, at: Place, k: usize) -> u64
-        requires { IsAt self.now k at }
+    pub fn id(&self, at: Address, k: usize) -> u64
+        requires { LiesAt self.now k at }
         ensures { slice_get (ids (elements self.now)) k ≡ Some result }
     {
         self.boxes.get(at, k).id
     }
 
-    pub fn get(&self, at: Place, k: usize) -> &T
-        requires { IsAt self.now k at }
+    pub fn get(&self, at: Address, k: usize) -> &T
+        requires { LiesAt self.now k at }
         ensures { slice_get (values (elements self.now)) k ≡ Some result.now }
     {
         &self.boxes.get(at, k).value
     }
 
-    pub fn get_mut(&mut self, at: Place, k: usize) -> &mut T
-        requires { IsAt self.old k at }
+    pub fn get_mut(&mut self, at: Address, k: usize) -> &mut T
+        requires { LiesAt self.old k at }
         ensures* writes_back { sem 𝓛 (lends_item T.row self.entry k result) }
         ensures value { slice_get (values (elements self.old)) k ≡ Some result.now }
     {
@@ -221,8 +221,8 @@ impl<T> DoubleChain<T> {
     }
 
     /// The first `k` nodes, of which `at` is the last, and the others.
-    pub fn cut_behind(self, at: Place, k: usize) -> (DoubleChain<T>, DoubleChain<T>)
-        requires { (0 < k) × (IsAt self (k - 1) at) }
+    pub fn cut_behind(self, at: Address, k: usize) -> (DoubleChain<T>, DoubleChain<T>)
+        requires { (0 < k) × (LiesAt self (k - 1) at) }
         ensures { (result.0 ≡ take k self) × (result.1 ≡ drop k self) }
     {
         let DoubleChain {
@@ -249,8 +249,8 @@ impl<T> DoubleChain<T> {
     }
 
     /// The first `k` nodes, and the others, of which `at` is the first.
-    pub fn cut(self, at: Place, k: usize) -> (DoubleChain<T>, DoubleChain<T>)
-        requires { (0 < k) × (IsAt self k at) }
+    pub fn cut(self, at: Address, k: usize) -> (DoubleChain<T>, DoubleChain<T>)
+        requires { (0 < k) × (LiesAt self k at) }
         ensures { (result.0 ≡ take k self) × (result.1 ≡ drop k self) }
     {
         let DoubleChain {
@@ -330,9 +330,9 @@ impl<T: Drop> DoubleChain<T> {
 
 impl<T> DoubleChain<T> {
     /// The nodes before place `k`, and those from there on. `at` is where node `k` lies, if there is one.
-    pub fn split(self, at: Place, k: usize) -> (DoubleChain<T>, DoubleChain<T>)
+    pub fn split(self, at: Address, k: usize) -> (DoubleChain<T>, DoubleChain<T>)
         requires within { k ≤ length self }
-        requires on { k < length self → IsAt self k at }
+        requires on { k < length self → LiesAt self k at }
         ensures front { result.0 ≡ take k self }
         ensures back { result.1 ≡ drop k self }
     {
@@ -346,9 +346,9 @@ impl<T> DoubleChain<T> {
     }
 
     /// Puts nodes in at place `k`. `at` is where node `k` lies, if there is one.
-    pub fn splice(&mut self, at: Place, k: usize, nodes: DoubleChain<T>)
+    pub fn splice(&mut self, at: Address, k: usize, nodes: DoubleChain<T>)
         requires within { k ≤ length self.old }
-        requires on { k < length self.old → IsAt self.old k at }
+        requires on { k < length self.old → LiesAt self.old k at }
         requires fits { length self.old + length nodes < 2 ^ 64 }
         ensures { self.new ≡ take k self.old ++ (nodes ++ drop k self.old) }
     {
@@ -359,9 +359,9 @@ impl<T> DoubleChain<T> {
 
 impl<T: Drop> DoubleChain<T> {
     /// Puts a node in at place `k`. `at` is where node `k` lies, if there is one.
-    pub fn link(&mut self, at: Place, k: usize, node: Node<T, Links<T>>)
+    pub fn link(&mut self, at: Address, k: usize, node: Node<T, Links<T>>)
         requires within { k ≤ length self.old }
-        requires on { k < length self.old → IsAt self.old k at }
+        requires on { k < length self.old → LiesAt self.old k at }
         requires fits { length self.old + 1 < 2 ^ 64 }
         ensures { (place : Ptr) × (self.new ≡ take k self.old ++ (place, node) ∷ drop k self.old) }
     {
@@ -369,8 +369,8 @@ impl<T: Drop> DoubleChain<T> {
     }
 
     /// Takes node `k` out, which lies at `at`.
-    pub fn unlink(&mut self, at: Place, k: usize) -> Node<T, Links<T>>
-        requires { IsAt self.old k at }
+    pub fn unlink(&mut self, at: Address, k: usize) -> Node<T, Links<T>>
+        requires { LiesAt self.old k at }
         ensures node { (place : Ptr) × (slice_get self.old k ≡ Some (place, result)) }
         ensures others { self.new ≡ take k self.old ++ drop (k + 1) self.old }
     {

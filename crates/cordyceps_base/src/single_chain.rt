@@ -6,7 +6,7 @@ ghost use Rattle.cordyceps_base.specs.Element.{Element, ids, values};
 ghost use Rattle.cordyceps_base.specs.Nodes.{elements};
 ghost use Rattle.cordyceps_base.specs.SingleChain.{EndsAt, relinked};
 
-use crate::boxes::{Boxes, Loose, Place};
+use crate::boxes::{Address, Boxes, Loose};
 use crate::node::{Block, Node};
 use crate::single_link::NextLink;
 use std::alloc::Global;
@@ -17,7 +17,7 @@ use std::mem;
 type Row<T, K> = Boxes<Block<T, NextLink<T, K>>, Global>;
 
 /// The row with another link in its last node, which lies at `last`.
-fn with_last_link<T, K>(row: Row<T, K>, last: Place, next: Option<Place>) -> Row<T, K>
+fn with_last_link<T, K>(row: Row<T, K>, last: Address, next: Option<Address>) -> Row<T, K>
     requires some { 0 < length row.blocks }
     requires at { EndsAt row.blocks last.ptr }
     ensures { result.blocks ≡ relinked row.blocks next }
@@ -32,18 +32,18 @@ fn with_last_link<T, K>(row: Row<T, K>, last: Place, next: Option<Place>) -> Row
 /// There is no bound on how many nodes it can have. The links are the chain's own. `tail` means nothing where there is
 /// no node.
 pub struct SingleChain<T, K> {
-    head: Option<Place>,
-    tail: Place,
+    head: Option<Address>,
+    tail: Address,
     boxes: Row<T, K>,
 }
 
 impl<T, K> Model for SingleChain<T, K> {
-    ghost use Rattle.cordyceps_base.specs.Nodes.{Nodes, shown};
+    ghost use Rattle.cordyceps_base.specs.Nodes.{Nodes, nodes_of};
     ghost use Rattle.cordyceps_base.specs.SingleChain.{IsLine};
 
     ghost Value = { Nodes T };
 
-    ghost view = { λ c. shown c.boxes.blocks };
+    ghost view = { λ c. nodes_of c.boxes.blocks };
 
     ghost invariant = { λ c. IsLine c.head c.tail.ptr c.boxes.blocks };
 }
@@ -65,7 +65,7 @@ impl<T, K> SingleChain<T, K> {
     {
         SingleChain {
             head: None,
-            tail: Place::nowhere(),
+            tail: Address::nowhere(),
             boxes: Boxes::empty(),
         }
     }
@@ -216,7 +216,7 @@ impl<T, K> SingleChain<T, K> {
         let SingleChain { head, tail, boxes } = self;
         Cursor {
             head: None,
-            before: Place::nowhere(),
+            before: Address::nowhere(),
             at: head,
             tail,
             front: Boxes::empty(),
@@ -277,17 +277,17 @@ impl<T: Drop, K> SingleChain<T, K> {
 /// The values of a chain's nodes, in order. A contract sees those that are left.
 #[derive(Drop)]
 pub struct Values<'a, T, K> {
-    next: Option<Place>,
+    next: Option<Address>,
     rest: &'a Row<T, K>,
 }
 
 impl<'a, T, K> Model for Values<'a, T, K> {
     ghost use Rattle.std.specs.Prelude.{List};
-    ghost use Rattle.cordyceps_base.specs.SingleChain.{IsLed, contents};
+    ghost use Rattle.cordyceps_base.specs.SingleChain.{IsLed, values_in};
 
     ghost Value = { List T };
 
-    ghost view = { λ v. contents v.rest.now.blocks };
+    ghost view = { λ v. values_in v.rest.now.blocks };
 
     ghost invariant = { λ v. IsLed v.next v.rest.now.blocks };
 }
@@ -319,21 +319,21 @@ impl<'a, T, K> Iterator for Values<'a, T, K> {
 /// A move writes no memory. `head` is that of the nodes before. `before` is the place of the last of these, and means
 /// nothing where there is none, nor does `tail` where there is no node.
 pub struct Cursor<T, K> {
-    head: Option<Place>,
-    before: Place,
-    at: Option<Place>,
-    tail: Place,
+    head: Option<Address>,
+    before: Address,
+    at: Option<Address>,
+    tail: Address,
     front: Row<T, K>,
     rest: Row<T, K>,
 }
 
 impl<T, K> Model for Cursor<T, K> {
-    ghost use Rattle.cordyceps_base.specs.Nodes.{shown};
+    ghost use Rattle.cordyceps_base.specs.Nodes.{nodes_of};
     ghost use Rattle.cordyceps_base.specs.SingleChain.{Parted, IsParted};
 
     ghost Value = { Parted T };
 
-    ghost view = { λ c. record { before = shown c.front.blocks; rest = shown c.rest.blocks } };
+    ghost view = { λ c. record { before = nodes_of c.front.blocks; rest = nodes_of c.rest.blocks } };
 
     ghost invariant = { λ c. IsParted c.head c.before.ptr c.at c.tail.ptr c.front.blocks c.rest.blocks };
 }

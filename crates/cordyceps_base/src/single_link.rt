@@ -1,12 +1,12 @@
 //! The link of the nodes that a single chain links.
-use crate::boxes::Place;
+use crate::boxes::Address;
 use crate::node::Sealed;
 use std::marker::PhantomData;
 
 /// The link to the node after, if there is one. `K` tells apart the collections that link such nodes.
 #[derive(Drop)]
 pub struct NextLink<T, K> {
-    pub(crate) next: Option<Place>,
+    pub(crate) next: Option<Address>,
     value: PhantomData<T>,
     kind: PhantomData<K>,
 }

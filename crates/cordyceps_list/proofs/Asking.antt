@@ -23,12 +23,12 @@ follows [] (suc k) x h = absurd cc
 follows (y ∷ xs) zero x h = let e : y ≡ x = cc in ap (λ z. z ∷ xs) e
 follows (y ∷ xs) (suc k) x h = follows xs k x h
 
-pulled : {X : Type 0} (s : Elements X) (j : ℕ) → drop j (values (take j s ++ drop (suc j) s)) ≡ drop (suc j) (values s)
-pulled [] zero = refl
-pulled [] (suc j) = refl
-pulled (e ∷ []) zero = refl
-pulled (e ∷ d ∷ s) zero = refl
-pulled (e ∷ s) (suc j) = pulled s j
+drop_without : {X : Type 0} (s : Elements X) (j : ℕ) → drop j (values (take j s ++ drop (suc j) s)) ≡ drop (suc j) (values s)
+drop_without [] zero = refl
+drop_without [] (suc j) = refl
+drop_without (e ∷ []) zero = refl
+drop_without (e ∷ d ∷ s) zero = refl
+drop_without (e ∷ s) (suc j) = drop_without s j
 
 module _ {F X : Type 0} (g : Mut F (Bor X × Unit {0}) Bool) where
   abbrev Any : F → X → F → Type 0
@@ -90,6 +90,6 @@ module _ {F X : Type 0} (g : Mut F (Bor X × Unit {0}) Bool) where
       let rest = walked (drop k (values s)) (j - k) f h removes.walks may in
       let n : k + suc (j - k) ≡ suc j = omega (arith, removes.from) in
       let e : drop (suc (j - k)) (drop k (values s)) ≡ drop j (values t) =
-      drop-drop (suc (j - k)) k (values s) ∙ ap (λ i. drop i (values s)) n ∙ sym (pulled s j)
+      drop-drop (suc (j - k)) k (values s) ∙ ap (λ i. drop i (values s)) n ∙ sym (drop_without s j)
       ∙ ap (λ i. drop j (values (take j s ++ drop i s))) (sym (add-one j)) ∙ ap (λ u. drop j (values u)) (sym removes.kept) in
       subst (λ l. MayAskAll g l h) e rest

@@ -40,8 +40,8 @@ unmet_more id s at n h d u =
       kept = u.kept ∙ ap (λ t. take at s ++ t) gone ∙ sym (append_assoc (take at s) (k.here ∷ []) (without id (drop (at + 1) s))) ∙ ap (λ t. t ++ without id (drop (at + 1) s)) (sym k.before);
     }
 
-pub met : {X : Type 0} (id : ℕ) (s : Elements X) (at n : ℕ) → slice_get (ids s) at ≡ Some n → eqb n id ≡ true → Unmet id s at → (found id s ≡ slice_get s at) × (without id s ≡ take at s ++ drop (at + 1) s)
-met id s at n h d u =
+pub found_at : {X : Type 0} (id : ℕ) (s : Elements X) (at n : ℕ) → slice_get (ids s) at ≡ Some n → eqb n id ≡ true → Unmet id s at → (found id s ≡ slice_get s at) × (without id s ≡ take at s ++ drop (at + 1) s)
+found_at id s at n h d u =
     let k = stands s at n h in
     let e : eqb k.here.id id ≡ true = rw k.number d in
     let here : found id (drop at s) ≡ Some k.here = rw k.follows (ap (λ b. cond b (Some k.here) (found id (drop (at + 1) s))) e) in

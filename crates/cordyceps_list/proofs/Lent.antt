@@ -9,8 +9,8 @@ use Rattle.cordyceps_list.specs.IterMut.{elements, from, to, to_lend, lender, Sp
 use Rattle.cordyceps_list.proofs.Left.{first_left, last_left}
 use Rattle.cordyceps_list.proofs.Places.{below_or_not}
 
-lent : {X : Type 0} (o : Option X) (k n : ℕ) (x : X) → Some x ≡ (if nat_lt k n then o else None) → (k < n) × (o ≡ Some x)
-lent o k n x is = elim (below_or_not k n) [
+lent_some : {X : Type 0} (o : Option X) (k n : ℕ) (x : X) → Some x ≡ (if nat_lt k n then o else None) → (k < n) × (o ≡ Some x)
+lent_some o k n x is = elim (below_or_not k n) [
   | inl below ↦ (below, grind (arith, nat_tests))
   | inr past ↦ absurd (grind (arith, nat_tests))
 ]
@@ -28,13 +28,13 @@ module _ {X : Type 0} (old new : IterMut X) where
   pub first_lent : (x : X) → Some x ≡ (if nat_lt (from old) (to old) then slice_get (values (elements old)) (from old) else None)
       → Spans old new (with_value (elements old) (from old) x) (from old + 1) (to old) → Keeps × YieldsFirst to_lend old (Some x) new
   first_lent x value spans =
-      let at = lent (slice_get (values (elements old)) (from old)) (from old) (to old) x value in
+      let at = lent_some (slice_get (values (elements old)) (from old)) (from old) (to old) x value in
       let same = spans.elements_are ∙ same_value (elements old) (from old) x at.1 in
       ((spans.same_reference, same), first_left (elements old) (from old) (to old) x at.0 at.1 ∙ (λ i. x ∷ values (take (sym spans.to_is i - sym spans.from_is i) (drop (sym spans.from_is i) (sym same i)))))
 
   pub last_lent : (x : X) → Some x ≡ (if nat_lt (from old) (to old) then slice_get (values (elements old)) (to old - 1) else None)
       → Spans old new (with_value (elements old) (to old - 1) x) (from old) (to old - 1) → Keeps × YieldsLast to_lend old (Some x) new
   last_lent x value spans =
-      let at = lent (slice_get (values (elements old)) (to old - 1)) (from old) (to old) x value in
+      let at = lent_some (slice_get (values (elements old)) (to old - 1)) (from old) (to old) x value in
       let same = spans.elements_are ∙ same_value (elements old) (to old - 1) x at.1 in
       ((spans.same_reference, same), last_left (elements old) (from old) (to old) x at.0 at.1 ∙ (λ i. values (take (sym spans.to_is i - sym spans.from_is i) (drop (sym spans.from_is i) (sym same i))) ++ x ∷ []))

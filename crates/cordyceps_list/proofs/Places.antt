@@ -5,11 +5,11 @@ use Rattle.std.proofs.lemmas.List.{length-take, append-nil, take_all, drop_all}
 use Rattle.std.proofs.Math.Seq.{take-append_seam}
 use denote.RawPtr.{Ptr}
 use Rattle.cordyceps_base.specs.Element.{Element}
-use Rattle.cordyceps_base.specs.Nodes.{Nodes, spots, IsAt, with_item}
+use Rattle.cordyceps_base.specs.Nodes.{Nodes, spots, LiesAt, with_item}
 use Rattle.cordyceps_base.proofs.Places.{spot_before, spot_pushed, spot_pulled, spots-with_item, length-with_item}
 use Rattle.cordyceps_list.specs.declared.finger.Finger.{Finger}
 use Rattle.cordyceps_list.specs.declared.finger.Fingers.{Fingers}
-use Rattle.cordyceps_list.specs.Fingers.{Fits, AllFit, PutsIn, TakesOut, ChangesBehind}
+use Rattle.cordyceps_list.specs.Fingers.{FingerFits, FingersFit, PutsIn, TakesOut, ChangesBehind}
 
 pub below_or_not : (a b : ℕ) → (a < b) ⊎ (b ≤ a)
 below_or_not zero b = elim b as (λ n. (zero < n) ⊎ (n ≤ zero)) [ zero ↦ inr (omega arith) | suc n ↦ inl (omega arith) ]
@@ -18,18 +18,18 @@ below_or_not (suc a) (suc b) = elim (below_or_not a b) [ inl h ↦ inl (omega ar
 
 module _ {X : Type 0} where
   -- the first nodes stay
-  fits_kept : (c d : Nodes X) (f : Finger) (k : ℕ) (more : Nodes X) → Fits c f → f.index < k → k ≤ length c → d ≡ take k c ++ more → Fits d f
+  fits_kept : (c d : Nodes X) (f : Finger) (k : ℕ) (more : Nodes X) → FingerFits c f → f.index < k → k ≤ length c → d ≡ take k c ++ more → FingerFits d f
   fits_kept c d f k more fits before front is =
       let long = ap length is ∙ length-append (take k c) more in
       let short = length-take k c in
       record {
         within = omega arith;
-        on = λ on_node. subst (λ (e : Nodes X). IsAt e f.index f.at) (sym is) (spot_before c more k f.index f.at.ptr before (fits.on (omega arith)));
+        on = λ on_node. subst (λ (e : Nodes X). LiesAt e f.index f.at) (sym is) (spot_before c more k f.index f.at.ptr before (fits.on (omega arith)));
       }
 
-  fits_splice : (c d more : Nodes X) (old new : Finger) (k count : ℕ) → Fits c old → k ≤ length c → d ≡ take k c ++ (more ++ drop k c) → count ≡ length more → PutsIn k count old new → Fits d new
-  fits_splice c d more old new k count fits front is many change = elim (below_or_not old.index k) as (λ _. Fits d new) [
-    | inl before ↦ subst (Fits d) (sym (change.0 before)) (fits_kept c d old k (more ++ drop k c) fits before front is)
+  fits_splice : (c d more : Nodes X) (old new : Finger) (k count : ℕ) → FingerFits c old → k ≤ length c → d ≡ take k c ++ (more ++ drop k c) → count ≡ length more → PutsIn k count old new → FingerFits d new
+  fits_splice c d more old new k count fits front is many change = elim (below_or_not old.index k) as (λ _. FingerFits d new) [
+    | inl before ↦ subst (FingerFits d) (sym (change.0 before)) (fits_kept c d old k (more ++ drop k c) fits before front is)
     | inr behind ↦
         let long = ap length is ∙ length-append (take k c) (more ++ drop k c) in
         let rest = length-append more (drop k c) in
@@ -37,7 +37,7 @@ module _ {X : Type 0} where
         let left = length-drop k c in
         let within = fits.within in
         let at = old.at.ptr in
-        subst (Fits d) (sym (change.1 behind)) (record {
+        subst (FingerFits d) (sym (change.1 behind)) (record {
           within = omega arith;
           on = λ on_node.
               let there = spot_pushed c more k old.index at behind (fits.on (omega arith)) in
@@ -45,17 +45,17 @@ module _ {X : Type 0} where
         })
   ]
 
-  fits_unlink : (c d : Nodes X) (old new : Finger) (k len : ℕ) → Fits c old → k < length c → d ≡ take k c ++ drop (k + 1) c → len ≡ length d → TakesOut k len old new → Fits d new
-  fits_unlink c d old new k len fits inside is many change = elim (below_or_not old.index k) as (λ _. Fits d new) [
-    | inl before ↦ subst (Fits d) (sym (change.0 before)) (fits_kept c d old k (drop (k + 1) c) fits before (omega arith) is)
-    | inr behind ↦ elim (below_or_not k old.index) as (λ _. Fits d new) [
+  fits_unlink : (c d : Nodes X) (old new : Finger) (k len : ℕ) → FingerFits c old → k < length c → d ≡ take k c ++ drop (k + 1) c → len ≡ length d → TakesOut k len old new → FingerFits d new
+  fits_unlink c d old new k len fits inside is many change = elim (below_or_not old.index k) as (λ _. FingerFits d new) [
+    | inl before ↦ subst (FingerFits d) (sym (change.0 before)) (fits_kept c d old k (drop (k + 1) c) fits before (omega arith) is)
+    | inr behind ↦ elim (below_or_not k old.index) as (λ _. FingerFits d new) [
       | inl after ↦
           let long = ap length is ∙ length-append (take k c) (drop (k + 1) c) in
           let short = length-take k c in
           let left = length-drop (k + 1) c in
           let within = fits.within in
           let at = old.at.ptr in
-          subst (Fits d) (sym (change.2 after)) (record {
+          subst (FingerFits d) (sym (change.2 after)) (record {
             within = omega arith;
             on = λ on_node. subst (λ (e : Nodes X). slice_get (spots e) (old.index - 1) ≡ Some at) (sym is) (spot_pulled c k old.index at after (fits.on (omega arith)));
           })
@@ -65,35 +65,35 @@ module _ {X : Type 0} where
     ]
   ]
 
-  fits_front : (c d : Nodes X) (old new : Finger) (k : ℕ) → Fits c old → k ≤ length c → d ≡ take k c → ChangesBehind k k old new → Fits d new
-  fits_front c d old new k fits front is change = elim (below_or_not old.index k) as (λ _. Fits d new) [
-    | inl before ↦ subst (Fits d) (sym (change.0 before)) (fits_kept c d old k [] fits before front (is ∙ sym (append-nil (take k c))))
+  fits_front : (c d : Nodes X) (old new : Finger) (k : ℕ) → FingerFits c old → k ≤ length c → d ≡ take k c → ChangesBehind k k old new → FingerFits d new
+  fits_front c d old new k fits front is change = elim (below_or_not old.index k) as (λ _. FingerFits d new) [
+    | inl before ↦ subst (FingerFits d) (sym (change.0 before)) (fits_kept c d old k [] fits before front (is ∙ sym (append-nil (take k c))))
     | inr behind ↦
         let gone : new.index ≡ k = change.1 behind in
         let long = ap length is ∙ length-take k c in
         record { within = omega arith; on = λ on_node. absurd (omega arith) }
   ]
 
-  pub fit_splice : (c d more : Nodes X) (old new : Fingers) (k count : ℕ) → AllFit c old → k ≤ length c → d ≡ take k c ++ (more ++ drop k c) → count ≡ length more → PutsIn k count old.front new.front → PutsIn k count old.back new.back → AllFit d new
+  pub fit_splice : (c d more : Nodes X) (old new : Fingers) (k count : ℕ) → FingersFit c old → k ≤ length c → d ≡ take k c ++ (more ++ drop k c) → count ≡ length more → PutsIn k count old.front new.front → PutsIn k count old.back new.back → FingersFit d new
   fit_splice c d more old new k count fit front is many f b =
       record { front = fits_splice c d more old.front new.front k count fit.front front is many f; back = fits_splice c d more old.back new.back k count fit.back front is many b }
 
-  pub fit_unlink : (c d : Nodes X) (old new : Fingers) (k len : ℕ) → AllFit c old → k < length c → d ≡ take k c ++ drop (k + 1) c → len ≡ length d → TakesOut k len old.front new.front → TakesOut k len old.back new.back → AllFit d new
+  pub fit_unlink : (c d : Nodes X) (old new : Fingers) (k len : ℕ) → FingersFit c old → k < length c → d ≡ take k c ++ drop (k + 1) c → len ≡ length d → TakesOut k len old.front new.front → TakesOut k len old.back new.back → FingersFit d new
   fit_unlink c d old new k len fit inside is many f b =
       record { front = fits_unlink c d old.front new.front k len fit.front inside is many f; back = fits_unlink c d old.back new.back k len fit.back inside is many b }
 
-  pub fit_front : (c d : Nodes X) (old new : Fingers) (k : ℕ) → AllFit c old → k ≤ length c → d ≡ take k c → ChangesBehind k k old.front new.front → ChangesBehind k k old.back new.back → AllFit d new
+  pub fit_front : (c d : Nodes X) (old new : Fingers) (k : ℕ) → FingersFit c old → k ≤ length c → d ≡ take k c → ChangesBehind k k old.front new.front → ChangesBehind k k old.back new.back → FingersFit d new
   fit_front c d old new k fit front is f b =
       record { front = fits_front c d old.front new.front k fit.front front is f; back = fits_front c d old.back new.back k fit.back front is b }
 
   -- others come behind the last node
-  pub fit_more : (c d more : Nodes X) (old new : Fingers) (k count : ℕ) → AllFit c old → k ≡ length c → d ≡ c ++ more → count ≡ length more → PutsIn k count old.front new.front → PutsIn k count old.back new.back → AllFit d new
+  pub fit_more : (c d more : Nodes X) (old new : Fingers) (k count : ℕ) → FingersFit c old → k ≡ length c → d ≡ c ++ more → count ≡ length more → PutsIn k count old.front new.front → PutsIn k count old.back new.back → FingersFit d new
   fit_more c d more old new k count fit end is many f b =
       let whole : take k c ++ (more ++ drop k c) ≡ c ++ more = rw (take_all k c (omega arith), drop_all k c (omega arith)) (ap (λ t. c ++ t) (append-nil more)) in
       fit_splice c d more old new k count fit (omega arith) (is ∙ sym whole) many f b
 
   -- the last node is gone
-  pub fit_less : (c d : Nodes X) (n : Ptr × Element X) (old new : Fingers) (k len : ℕ) → AllFit c old → k ≡ length d → c ≡ d ++ n ∷ [] → len ≡ length d → TakesOut k len old.front new.front → TakesOut k len old.back new.back → AllFit d new
+  pub fit_less : (c d : Nodes X) (n : Ptr × Element X) (old new : Fingers) (k len : ℕ) → FingersFit c old → k ≡ length d → c ≡ d ++ n ∷ [] → len ≡ length d → TakesOut k len old.front new.front → TakesOut k len old.back new.back → FingersFit d new
   fit_less c d n old new k len fit end is many f b =
       let long = ap length is ∙ length-append d (n ∷ []) in
       let front : take k c ≡ d = rw (end, is) (take-append_seam d (n ∷ [])) in
@@ -101,10 +101,10 @@ module _ {X : Type 0} where
       fit_unlink c d old new k len fit (omega arith) (sym (rw (front, nothing) (append-nil d))) many f b
 
   -- a written value moves no node
-  fits_written : (c : Nodes X) (k : ℕ) (w : X) (f : Finger) → Fits c f → Fits (with_item c k w) f
+  fits_written : (c : Nodes X) (k : ℕ) (w : X) (f : Finger) → FingerFits c f → FingerFits (with_item c k w) f
   fits_written c k w f fits =
       let long = length-with_item c k w in
       record { within = (let inside = fits.within in omega arith); on = λ on_node. subst (λ (ps : List Ptr). slice_get ps f.index ≡ Some f.at.ptr) (sym (spots-with_item c k w)) (fits.on (omega arith)) }
 
-  pub fit_written : (c : Nodes X) (k : ℕ) (w : X) (fs : Fingers) → AllFit c fs → AllFit (with_item c k w) fs
+  pub fit_written : (c : Nodes X) (k : ℕ) (w : X) (fs : Fingers) → FingersFit c fs → FingersFit (with_item c k w) fs
   fit_written c k w fs fit = record { front = fits_written c k w fs.front fit.front; back = fits_written c k w fs.back fit.back }

@@ -1,23 +1,23 @@
 -- Fingers on the nodes of a chain.
 use Rattle.std.specs.Prelude.{◌≡◌, ℕ, ◌+◌, ◌-◌, ◌<◌, ◌≤◌, length}
-use Rattle.cordyceps_base.specs.Nodes.{Nodes, IsAt}
+use Rattle.cordyceps_base.specs.Nodes.{Nodes, LiesAt}
 use Rattle.cordyceps_list.specs.declared.finger.Finger.{Finger}
 use Rattle.cordyceps_list.specs.declared.finger.Fingers.{Fingers}
 
 module _ {X : Type 0} where
   -- the finger is on a node, and knows its index
   abbrev pub IsOn : Nodes X → Finger → Type 0
-  IsOn c f = (f.index < length c) × IsAt c f.index f.at
+  IsOn c f = (f.index < length c) × LiesAt c f.index f.at
 
   -- the same, or the finger is behind the last node, at no place
-  pub record Fits (c : Nodes X) (f : Finger) : Type 0 where
+  pub record FingerFits (c : Nodes X) (f : Finger) : Type 0 where
     pub within : f.index ≤ length c
-    pub on : f.index < length c → IsAt c f.index f.at
+    pub on : f.index < length c → LiesAt c f.index f.at
 
   -- both fingers fit the chain
-  pub record AllFit (c : Nodes X) (fs : Fingers) : Type 0 where
-    pub front : Fits c fs.front
-    pub back : Fits c fs.back
+  pub record FingersFit (c : Nodes X) (fs : Fingers) : Type 0 where
+    pub front : FingerFits c fs.front
+    pub back : FingerFits c fs.back
 
 -- a finger where so many nodes were put in at a place
 abbrev pub PutsIn : ℕ → ℕ → Finger → Finger → Type 0

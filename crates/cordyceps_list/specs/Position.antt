@@ -1,9 +1,9 @@
 -- A place in a sequence.
 use Rattle.std.specs.Prelude.{◌≡◌, ℕ, ◌+◌, ◌<◌, ◌≤◌, length, slice_get, Option, Some, MatchOption}
 use Rattle.std.specs.Borrow.{Bor}
-use Rattle.cordyceps_base.specs.declared.boxes.Place.{Place}
+use Rattle.cordyceps_base.specs.declared.boxes.Address.{Address}
 use Rattle.cordyceps_base.specs.Element.{Elements, values}
-use Rattle.cordyceps_base.specs.Nodes.{Nodes, IsAt}
+use Rattle.cordyceps_base.specs.Nodes.{Nodes, LiesAt}
 
 -- a sequence, and a place in it, its length being the null place
 pub record Position (X : Type 0) : Type 0 where
@@ -15,6 +15,6 @@ abbrev pub GivesAndMoves : {X : Type 0} → Position X → Option (Bor X) → Po
 GivesAndMoves s r t = MatchOption r ((s.place ≡ length s.elements) × (t ≡ s)) (λ x. (slice_get (values s.elements) s.place ≡ Some x.now) × (t ≡ record s { place = s.place + 1 }))
 
 -- a cursor is at place at of the nodes, the length being the null place, and where there is a node it lies at p
-pub record StandsAt {X : Type 0} (c : Nodes X) (p : Place) (at : ℕ) : Type 0 where
+pub record StandsAt {X : Type 0} (c : Nodes X) (p : Address) (at : ℕ) : Type 0 where
   pub within : at ≤ length c
-  pub on : at < length c → IsAt c at p
+  pub on : at < length c → LiesAt c at p

@@ -7,7 +7,7 @@ ghost use Rattle.cordyceps_list.specs.Places.{next_place, prev_place};
 ghost use Rattle.cordyceps_list.specs.Position.{GivesAndMoves};
 
 use crate::list::{Links, List};
-use cordyceps_base::boxes::Place;
+use cordyceps_base::boxes::Address;
 use cordyceps_base::double_chain::DoubleChain;
 use cordyceps_base::linked::Linked;
 use std::marker::Model;
@@ -19,7 +19,7 @@ use std::marker::Model;
 #[derive(Drop)]
 pub struct Cursor<'a, T> {
     chain: &'a DoubleChain<T>,
-    place: Place,
+    place: Address,
     at: usize,
 }
 

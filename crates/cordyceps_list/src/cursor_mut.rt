@@ -55,7 +55,7 @@ impl<T: Linked<Links<T>>> List<T> {
 }
 
 impl<'a, T: Linked<Links<T>>> CursorMut<'a, T> {
-    ghost use Rattle.cordyceps_list.specs.Cursor.{elements, place, lender, Stands, LendsAt};
+    ghost use Rattle.cordyceps_list.specs.Cursor.{elements, place, lender, Stands, LendsAndStands};
     ghost use Rattle.cordyceps_list.specs.Places.{next_place, prev_place, index_at};
     ghost use Rattle.cordyceps_list.specs.Filter.{RemovesFirst};
     ghost use Rattle.cordyceps_list.specs.Walk.{MayAsk};
@@ -152,7 +152,7 @@ impl<'a, T: Linked<Links<T>>> CursorMut<'a, T> {
     /// The value that the cursor is at, to be changed. `None` at the null place.
     #[tactic(auto, using(cordyceps_base::proofs::Places::length_with_value))]
     pub fn current_mut(&mut self) -> Option<&mut T>
-        ensures* writes_back { sem 𝓛 (LendsAt (record { mir = named 1; lft = [] }) T.row self.entry (place self.old) (place self.old) result) }
+        ensures* writes_back { sem 𝓛 (LendsAndStands (record { mir = named 1; lft = [] }) T.row self.entry (place self.old) (place self.old) result) }
         ensures value { option_copied_mut result ≡ slice_get (values (elements self.old)) (place self.old) }
     {
         let here = self.at;
@@ -166,7 +166,7 @@ impl<'a, T: Linked<Links<T>>> CursorMut<'a, T> {
     /// The value at the next place, to be changed. `None` as `peek_next`.
     #[tactic(auto, using(cordyceps_base::proofs::Places::length_with_value))]
     pub fn peek_next_mut(&mut self) -> Option<&mut T>
-        ensures* writes_back { sem 𝓛 (LendsAt (record { mir = named 1; lft = [] }) T.row self.entry (next_place (length (elements self.old)) (place self.old)) (place self.old) result) }
+        ensures* writes_back { sem 𝓛 (LendsAndStands (record { mir = named 1; lft = [] }) T.row self.entry (next_place (length (elements self.old)) (place self.old)) (place self.old) result) }
         ensures value { option_copied_mut result ≡ slice_get (values (elements self.old)) (next_place (length (elements self.old)) (place self.old)) }
     {
         let at = place_after(self.at, self.list.len());
@@ -180,7 +180,7 @@ impl<'a, T: Linked<Links<T>>> CursorMut<'a, T> {
     /// The value at the place before, to be changed. `None` as `peek_prev`.
     #[tactic(auto, using(cordyceps_base::proofs::Places::length_with_value))]
     pub fn peek_prev_mut(&mut self) -> Option<&mut T>
-        ensures* writes_back { sem 𝓛 (LendsAt (record { mir = named 1; lft = [] }) T.row self.entry (prev_place (length (elements self.old)) (place self.old)) (place self.old) result) }
+        ensures* writes_back { sem 𝓛 (LendsAndStands (record { mir = named 1; lft = [] }) T.row self.entry (prev_place (length (elements self.old)) (place self.old)) (place self.old) result) }
         ensures value { option_copied_mut result ≡ slice_get (values (elements self.old)) (prev_place (length (elements self.old)) (place self.old)) }
     {
         let at = place_before(self.at, self.list.len());
@@ -195,7 +195,7 @@ impl<'a, T: Linked<Links<T>>> CursorMut<'a, T> {
     /// stays.
     #[tactic(auto, using(cordyceps_base::proofs::Places::length_with_value))]
     pub fn next(&mut self) -> Option<&mut T>
-        ensures* writes_back { sem 𝓛 (LendsAt (record { mir = named 1; lft = [] }) T.row self.entry (place self.old) (place self.old + 1) result) }
+        ensures* writes_back { sem 𝓛 (LendsAndStands (record { mir = named 1; lft = [] }) T.row self.entry (place self.old) (place self.old + 1) result) }
         ensures value { option_copied_mut result ≡ slice_get (values (elements self.old)) (place self.old) }
     {
         let at = self.at;

@@ -1,27 +1,27 @@
 //! Fingers: places in a chain that a list remembers, so that a place near one of them is found in few moves.
 ghost use Rattle.std.specs.Prelude.{◌≡◌, ◌+◌, ◌-◌, ◌^◌, ◌<◌, ◌⊎◌, length};
-ghost use Rattle.cordyceps_base.specs.Nodes.{IsAt};
+ghost use Rattle.cordyceps_base.specs.Nodes.{LiesAt};
 
-use cordyceps_base::boxes::Place;
+use cordyceps_base::boxes::Address;
 use cordyceps_base::double_chain::DoubleChain;
 use cordyceps_base::steps::{Steps, count_one};
 
 /// The place of a node and its index. At the chain's length it is the place of nothing.
 #[derive(Clone, Copy)]
 pub(crate) struct Finger {
-    pub(crate) at: Place,
+    pub(crate) at: Address,
     pub(crate) index: usize,
 }
 
 impl Finger {
-    ghost use Rattle.cordyceps_list.specs.Fingers.{IsOn, Fits, moves_between, PutsIn, TakesOut, ChangesBehind};
+    ghost use Rattle.cordyceps_list.specs.Fingers.{IsOn, FingerFits, moves_between, PutsIn, TakesOut, ChangesBehind};
 
     /// A finger behind the last of so many nodes.
     pub(crate) fn behind(len: usize) -> Finger
         ensures { result.index ≡ len }
     {
         Finger {
-            at: Place::nowhere(),
+            at: Address::nowhere(),
             index: len,
         }
     }
@@ -44,7 +44,7 @@ impl Finger {
 
     /// This finger or the end of the chain that is given, where that is nearer or this finger is on no node.
     fn or_end<T>(self, chain: &DoubleChain<T>, end: Finger, to: usize) -> Finger
-        requires fits { Fits chain.now self }
+        requires fits { FingerFits chain.now self }
         requires on { IsOn chain.now end }
         ensures { IsOn chain.now result }
     {
@@ -165,11 +165,11 @@ pub(crate) struct Fingers {
 }
 
 impl Fingers {
-    ghost use Rattle.cordyceps_list.specs.Fingers.{AllFit, PutsIn, TakesOut, ChangesBehind};
+    ghost use Rattle.cordyceps_list.specs.Fingers.{FingersFit, PutsIn, TakesOut, ChangesBehind};
 
     /// Two fingers behind the last node.
     pub(crate) fn behind<T>(chain: &DoubleChain<T>) -> Fingers
-        ensures { AllFit chain.now result }
+        ensures { FingersFit chain.now result }
     {
         let behind = Finger::behind(chain.len());
         Fingers {
@@ -179,11 +179,11 @@ impl Fingers {
     }
 
     /// The place of a node, found from the nearest of the two ends and the two fingers, one of which moves there.
-    pub(crate) fn seek<T>(&mut self, chain: &DoubleChain<T>, to: usize) -> Place
-        requires fit { AllFit chain.now self.old }
+    pub(crate) fn seek<T>(&mut self, chain: &DoubleChain<T>, to: usize) -> Address
+        requires fit { FingersFit chain.now self.old }
         requires inside { to < length chain.now }
-        ensures fit { AllFit chain.now self.new }
-        ensures at { IsAt chain.now to result }
+        ensures fit { FingersFit chain.now self.new }
+        ensures at { LiesAt chain.now to result }
     {
         let head = Finger {
             at: chain.head(),
@@ -205,24 +205,24 @@ impl Fingers {
     }
 
     /// The same where `to` may be the place behind the last node, which is no node's.
-    pub(crate) fn seek_within<T>(&mut self, chain: &DoubleChain<T>, to: usize) -> Place
-        requires { AllFit chain.now self.old }
-        ensures fit { AllFit chain.now self.new }
-        ensures on { to < length chain.now → IsAt chain.now to result }
+    pub(crate) fn seek_within<T>(&mut self, chain: &DoubleChain<T>, to: usize) -> Address
+        requires { FingersFit chain.now self.old }
+        ensures fit { FingersFit chain.now self.new }
+        ensures on { to < length chain.now → LiesAt chain.now to result }
     {
         if to < chain.len() {
             self.seek(chain, to)
         } else {
-            Place::nowhere()
+            Address::nowhere()
         }
     }
 
     /// The place of a node that is about to go. A finger is left on the node before it, if there is one.
-    pub(crate) fn seek_behind<T>(&mut self, chain: &DoubleChain<T>, to: usize) -> Place
-        requires fit { AllFit chain.now self.old }
+    pub(crate) fn seek_behind<T>(&mut self, chain: &DoubleChain<T>, to: usize) -> Address
+        requires fit { FingersFit chain.now self.old }
         requires inside { to < length chain.now }
-        ensures fit { AllFit chain.now self.new }
-        ensures at { IsAt chain.now to result }
+        ensures fit { FingersFit chain.now self.new }
+        ensures at { LiesAt chain.now to result }
     {
         if to == 0 {
             return chain.head();

@@ -1,6 +1,6 @@
 //! Lists that grow by the items of an iterator.
 ghost use Rattle.std.specs.Prelude.{◌-◌, [], length};
-ghost use Rattle.cordyceps_list.specs.Grow.{Adds, EndsWithin};
+ghost use Rattle.cordyceps_list.specs.Grow.{GrowsBy, EndsWithin};
 
 use crate::list::{Links, List};
 use cordyceps_base::linked::Linked;
@@ -9,7 +9,7 @@ impl<T: Linked<Links<T>>> List<T> {
     /// Puts the items last, in their order. The iterator must end, and the total length must fit.
     pub fn extend<I: IntoIterator<Item = T::Handle>>(&mut self, items: I)
         requires { EndsWithin I.into_iter_gives I.IntoIter.next_gives I.IntoIter.can_next I.IntoIter.remaining (usize.MAX - length self.old) items }
-        ensures { Adds I.into_iter_gives I.IntoIter.next_gives T.element self.old items self.new }
+        ensures { GrowsBy I.into_iter_gives I.IntoIter.next_gives T.element self.old items self.new }
     {
         for handle in items {
             self.push_back(handle);
@@ -19,7 +19,7 @@ impl<T: Linked<Links<T>>> List<T> {
     /// A list of the items, in their order. The iterator must end, and their number must fit.
     pub fn from_iter<I: IntoIterator<Item = T::Handle>>(items: I) -> List<T>
         requires { EndsWithin I.into_iter_gives I.IntoIter.next_gives I.IntoIter.can_next I.IntoIter.remaining usize.MAX items }
-        ensures { Adds I.into_iter_gives I.IntoIter.next_gives T.element [] items result }
+        ensures { GrowsBy I.into_iter_gives I.IntoIter.next_gives T.element [] items result }
     {
         let mut list = List::new();
         list.extend(items);

@@ -5,7 +5,7 @@ ghost use Rattle.std.specs.Iterator.SizeHint.{IsWithinCount};
 ghost use Rattle.cordyceps_base.specs.Element.{values};
 
 use crate::list::{Links, List};
-use cordyceps_base::boxes::Place;
+use cordyceps_base::boxes::Address;
 use cordyceps_base::double_chain::DoubleChain;
 use cordyceps_base::linked::Linked;
 use std::iter::{DoubleEndedIterator, ExactSizeIterator, FusedIterator};
@@ -15,8 +15,8 @@ use std::marker::Model;
 #[derive(Drop)]
 pub struct Iter<'a, T> {
     chain: &'a DoubleChain<T>,
-    first: Place,
-    last: Place,
+    first: Address,
+    last: Address,
     front: usize,
     back: usize,
 }
@@ -25,13 +25,13 @@ impl<'a, T> Model for Iter<'a, T> {
     ghost use Rattle.std.specs.Prelude.{List, ◌-◌, take, drop};
     ghost use Rattle.cordyceps_base.specs.Element.{values};
     ghost use Rattle.cordyceps_base.specs.Nodes.{elements};
-    ghost use Rattle.cordyceps_list.specs.Left.{IsLeft};
+    ghost use Rattle.cordyceps_list.specs.Left.{KnowsEnds};
 
     ghost Value = { List T };
 
     ghost view = { λ i. values (take (i.back - i.front) (drop i.front (elements i.chain.now))) };
 
-    ghost invariant = { λ i. IsLeft i.chain.now i.first i.last i.front i.back };
+    ghost invariant = { λ i. KnowsEnds i.chain.now i.first i.last i.front i.back };
 }
 
 impl<T: Linked<Links<T>>> List<T> {
@@ -42,7 +42,7 @@ impl<T: Linked<Links<T>>> List<T> {
         let chain = &self.chain;
         let back = chain.len();
         let (first, last) = if back == 0 {
-            (Place::nowhere(), Place::nowhere())
+            (Address::nowhere(), Address::nowhere())
         } else {
             (chain.head(), chain.tail())
         };

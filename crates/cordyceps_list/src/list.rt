@@ -23,13 +23,13 @@ pub struct List<T> {
 impl<T> Model for List<T> {
     ghost use Rattle.cordyceps_base.specs.Element.{Elements};
     ghost use Rattle.cordyceps_base.specs.Nodes.{elements};
-    ghost use Rattle.cordyceps_list.specs.Fingers.{AllFit};
+    ghost use Rattle.cordyceps_list.specs.Fingers.{FingersFit};
 
     ghost Value = { Elements T };
 
     ghost view = { λ l. elements l.chain };
 
-    ghost invariant = { λ l. AllFit l.chain l.fingers };
+    ghost invariant = { λ l. FingersFit l.chain l.fingers };
 }
 
 impl<T: Linked<Links<T>>> Default for List<T> {

@@ -1,20 +1,20 @@
 //! Lists that are joined and split.
 ghost use Rattle.std.specs.Prelude.{◌≡◌, ◌+◌, ◌-◌, ◌^◌, ◌<◌, ◌≤◌, ◌↔◌, [], ◌++◌, length, take, drop, min, IsSome, IfSome, IfNone};
-ghost use Rattle.cordyceps_base.specs.Nodes.{elements, IsAt};
+ghost use Rattle.cordyceps_base.specs.Nodes.{elements, LiesAt};
 
 use crate::finger::{Finger, Fingers};
 use crate::list::{Links, List};
-use cordyceps_base::boxes::Place;
+use cordyceps_base::boxes::Address;
 use cordyceps_base::double_chain::DoubleChain;
 use cordyceps_base::linked::Linked;
 use cordyceps_base::steps::Steps;
 use std::mem;
 
 /// The place of the node before place `at`, found from the nearer end, from the head where both are equally far.
-fn node_before<T>(chain: &DoubleChain<T>, at: usize, steps: &mut Steps) -> Place
+fn node_before<T>(chain: &DoubleChain<T>, at: usize, steps: &mut Steps) -> Address
     requires inside { (0 < at) × (at < length chain.now) }
     requires room { steps.old + min (at - 1) (length chain.now - at) < 2 ^ 64 }
-    ensures place { IsAt chain.now (at - 1) result }
+    ensures place { LiesAt chain.now (at - 1) result }
     ensures counted { steps.new ≡ steps.old + min (at - 1) (length chain.now - at) }
 {
     let before = at - 1;

@@ -4,7 +4,7 @@ ghost use Rattle.std.specs.Fn.{CalledAt};
 ghost use Rattle.cordyceps_base.specs.Element.{values};
 ghost use Rattle.cordyceps_base.specs.Nodes.{elements};
 ghost use Rattle.cordyceps_list.specs.Walk.{MayAsk, Walks};
-ghost use Rattle.cordyceps_list.specs.Fingers.{Fits};
+ghost use Rattle.cordyceps_list.specs.Fingers.{FingerFits};
 
 use crate::finger::Finger;
 use crate::list::{Links, List};
@@ -18,9 +18,9 @@ fn first_passing<T, F: FnMut(&T) -> bool>(
     from: Finger,
     predicate: &mut F,
 ) -> Finger
-    requires fits { Fits chain.now from }
+    requires fits { FingerFits chain.now from }
     requires callable { MayAsk F.FnMut (drop from.index (values (elements chain.now))) predicate.old }
-    ensures fits { Fits chain.now result }
+    ensures fits { FingerFits chain.now result }
     ensures walks { Walks (CalledAt F.FnMut) predicate.old (drop from.index (values (elements chain.now))) (result.index - from.index) predicate.new }
     ensures from { from.index ≤ result.index }
 {

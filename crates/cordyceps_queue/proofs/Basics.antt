@@ -5,8 +5,8 @@ use Rattle.cordyceps_shared.specs.Counts.{times, one_if}
 use Rattle.cordyceps_shared.proofs.Counting.{one_here, one_else}
 use Rattle.cordyceps_queue.specs.QueueHistory.{Event, Swap, Link, Take, Busy, Look, Out, Empty, Free}
 use Rattle.cordyceps_queue.specs.QueuePast.{held, IsOpen, IsPendingAt}
-use Rattle.cordyceps_queue.specs.QueueWords.{put}
-use Rattle.cordyceps_queue.specs.QueueMeets.{IsAt, real, rank}
+use Rattle.cordyceps_queue.specs.QueueWords.{update}
+use Rattle.cordyceps_queue.specs.QueueMeets.{ItemAt, real, rank}
 
 pub some_inj : {A : Type 0} {a b : A} → Some a ≡ Some b → a ≡ b
 some_inj {A} {a} {b} e = ap (λ (o : Option A). elim o as (λ _. A) [ Some x ↦ x | None ↦ a ]) e
@@ -35,48 +35,48 @@ pub suc_inj : {m n : ℕ} → suc m ≡ suc n → m ≡ n
 suc_inj e = omega arith
 
 -- functions changed at one number
-pub put_same : {A : Type 0} (f : ℕ → A) (k : ℕ) (v : A) → put f k v k ≡ v
+pub put_same : {A : Type 0} (f : ℕ → A) (k : ℕ) (v : A) → update f k v k ≡ v
 put_same f k v = ap (λ b. cond b v (f k)) (eq-eqb k k refl)
 
-pub put_other : {A : Type 0} (f : ℕ → A) (k : ℕ) (v : A) (j : ℕ) → j ≢ k → put f k v j ≡ f j
+pub put_other : {A : Type 0} (f : ℕ → A) (k : ℕ) (v : A) (j : ℕ) → j ≢ k → update f k v j ≡ f j
 put_other f k v j ne = ap (λ b. cond b v (f j)) (ne_eqb j k ne)
 
 -- what holds of each value stays so when one is changed
-pub put_all : {A : Type 0} (F : ℕ → A → Type 0) (f : ℕ → Option A) (k : ℕ) (v : A) → ((j : ℕ) (a : A) → j ≢ k → f j ≡ Some a → F j a) → F k v → (j : ℕ) (a : A) → put f k (Some v) j ≡ Some a → F j a
+pub put_all : {A : Type 0} (F : ℕ → A → Type 0) (f : ℕ → Option A) (k : ℕ) (v : A) → ((j : ℕ) (a : A) → j ≢ k → f j ≡ Some a → F j a) → F k v → (j : ℕ) (a : A) → update f k (Some v) j ≡ Some a → F j a
 put_all {A} F f k v others mine j a e = elim (ℕ_discrete j k) [
-  | yes same ↦ let at : Some v ≡ Some a = sym (put_same f k (Some v)) ∙ subst (λ i. put f k (Some v) i ≡ Some a) same e in
+  | yes same ↦ let at : Some v ≡ Some a = sym (put_same f k (Some v)) ∙ subst (λ i. update f k (Some v) i ≡ Some a) same e in
       subst (λ i. F i a) (sym same) (subst (F k) (some_inj at) mine)
   | no ne ↦ others j a ne (sym (put_other f k (Some v) j ne) ∙ e)
 ]
 
 -- a value that is None stays so
-pub put_none : {A : Type 0} (f : ℕ → Option A) (k j : ℕ) → f j ≡ None → put f k None j ≡ None
+pub put_none : {A : Type 0} (f : ℕ → Option A) (k j : ℕ) → f j ≡ None → update f k None j ≡ None
 put_none f k j e = elim (ℕ_discrete j k) [
-  | yes same ↦ subst (λ i. put f k None i ≡ None) (sym same) (put_same f k None)
+  | yes same ↦ subst (λ i. update f k None i ≡ None) (sym same) (put_same f k None)
   | no ne ↦ put_other f k None j ne ∙ e
 ]
 
 -- lists by place
-pub at_one : {A : Type 0} (xs : List A) (i : ℕ) (a b : A) → IsAt xs i a → IsAt xs i b → a ≡ b
+pub at_one : {A : Type 0} (xs : List A) (i : ℕ) (a b : A) → ItemAt xs i a → ItemAt xs i b → a ≡ b
 at_one [] i a b p q = absurd p
 at_one (x ∷ xs) zero a b p q = p ∙ sym q
 at_one (x ∷ xs) (suc i) a b p q = at_one xs i a b p q
 
-pub at_within : {A : Type 0} (xs : List A) (i : ℕ) (a : A) → IsAt xs i a → i < length xs
+pub at_within : {A : Type 0} (xs : List A) (i : ℕ) (a : A) → ItemAt xs i a → i < length xs
 at_within [] i a p = absurd p
 at_within (x ∷ xs) zero a p = omega arith
 at_within (x ∷ xs) (suc i) a p = let h = at_within xs i a p in omega arith
 
-pub at_more : {A : Type 0} (xs ys : List A) (i : ℕ) (a : A) → IsAt xs i a → IsAt (xs ++ ys) i a
+pub at_more : {A : Type 0} (xs ys : List A) (i : ℕ) (a : A) → ItemAt xs i a → ItemAt (xs ++ ys) i a
 at_more [] ys i a p = absurd p
 at_more (x ∷ xs) ys zero a p = p
 at_more (x ∷ xs) ys (suc i) a p = at_more xs ys i a p
 
-pub at_end : {A : Type 0} (xs : List A) (a : A) → IsAt (xs ++ a ∷ []) (length xs) a
+pub at_end : {A : Type 0} (xs : List A) (a : A) → ItemAt (xs ++ a ∷ []) (length xs) a
 at_end [] a = refl
 at_end (x ∷ xs) a = at_end xs a
 
-pub at_split : {A : Type 0} (xs : List A) (x : A) (i : ℕ) (a : A) → IsAt (xs ++ x ∷ []) i a → IsAt xs i a ⊎ ((i ≡ length xs) × (a ≡ x))
+pub at_split : {A : Type 0} (xs : List A) (x : A) (i : ℕ) (a : A) → ItemAt (xs ++ x ∷ []) i a → ItemAt xs i a ⊎ ((i ≡ length xs) × (a ≡ x))
 at_split [] x zero a p = inr (refl, p)
 at_split [] x (suc i) a p = absurd p
 at_split (y ∷ ys) x zero a p = inl p
@@ -99,12 +99,12 @@ real_more (zero ∷ xs) ys = real_more xs ys
 real_more (suc x ∷ xs) ys = ap (λ l. suc x ∷ l) (real_more xs ys)
 
 -- a change at a room that is not among these
-pub map_put : {A : Type 0} (f : ℕ → A) (r : ℕ) (v : A) (xs : List ℕ) → ((i : ℕ) → IsAt xs i r → ⊥) → map (put f r v) (real xs) ≡ map f (real xs)
+pub map_put : {A : Type 0} (f : ℕ → A) (r : ℕ) (v : A) (xs : List ℕ) → ((i : ℕ) → ItemAt xs i r → ⊥) → map (update f r v) (real xs) ≡ map f (real xs)
 map_put f r v [] away = refl
 map_put f r v (zero ∷ xs) away = map_put f r v xs (λ i. away (suc i))
 map_put {A} f r v (suc x ∷ xs) away =
-    let here : put f r v (suc x) ≡ f (suc x) = put_other f r v (suc x) (λ e. away 0 (sym e)) in
-    ap (λ (a : A). a ∷ map (put f r v) (real xs)) here ∙ ap (λ (l : List A). f (suc x) ∷ l) (map_put f r v xs (λ i. away (suc i)))
+    let here : update f r v (suc x) ≡ f (suc x) = put_other f r v (suc x) (λ e. away 0 (sym e)) in
+    ap (λ (a : A). a ∷ map (update f r v) (real xs)) here ∙ ap (λ (l : List A). f (suc x) ∷ l) (map_put f r v xs (λ i. away (suc i)))
 
 pub length_map : {A B : Type 0} (f : A → B) (xs : List A) → length (map f xs) ≡ length xs
 length_map f [] = refl
@@ -157,18 +157,18 @@ module _ {P E : Type 0} where
   open_from (Free p ∷ h) q n w = open_from h q n w
 
 -- how often a number stands in a list, by place
-pub times_none : (r : ℕ) (xs : List ℕ) → ((i : ℕ) → IsAt xs i r → ⊥) → times r xs ≡ 0
+pub times_none : (r : ℕ) (xs : List ℕ) → ((i : ℕ) → ItemAt xs i r → ⊥) → times r xs ≡ 0
 times_none r [] away = refl
 times_none r (x ∷ xs) away = omega (arith, one_else x r (λ e. away 0 (sym e)), times_none r xs (λ i. away (suc i)))
 
-pub times_once : (r : ℕ) (xs : List ℕ) → ((i j : ℕ) → IsAt xs i r → IsAt xs j r → i ≡ j) → times r xs ≤ 1
+pub times_once : (r : ℕ) (xs : List ℕ) → ((i j : ℕ) → ItemAt xs i r → ItemAt xs j r → i ≡ j) → times r xs ≤ 1
 times_once r [] once = omega arith
 times_once r (x ∷ xs) once = elim (ℕ_discrete x r) [
   | yes e ↦ omega (arith, ap (λ z. one_if (eqb z r)) e, one_here r, times_none r xs (λ i a. zero_suc (once 0 (suc i) (sym e) a)))
   | no ne ↦ omega (arith, one_else x r ne, times_once r xs (λ i j a b. suc_inj (once (suc i) (suc j) a b)))
 ]
 
-pub times_at : (r : ℕ) (xs : List ℕ) → 1 ≤ times r xs → (i : ℕ) × IsAt xs i r
+pub times_at : (r : ℕ) (xs : List ℕ) → 1 ≤ times r xs → (i : ℕ) × ItemAt xs i r
 times_at r [] l = absurd (omega arith)
 times_at r (x ∷ xs) l = elim (ℕ_discrete x r) [
   | yes e ↦ (0, sym e)

@@ -2,7 +2,7 @@
 use Rattle.std.proofs.Common.{◌≡◌, ℕ, suc, ◌+◌, ◌-◌, ◌<◌, List, [], ◌∷◌, ◌++◌, length, reverse, refl, ap, sym, ◌∙◌, subst, inl, inr, arith}
 use Rattle.std.proofs.lemmas.List.{reverse-reverse}
 use Rattle.cordyceps_queue.specs.QueueHistory as told
-use Rattle.cordyceps_queue.specs.QueueHistory.{Event, Swap, Link, Take, Busy, Look, Out, Empty, Free, one_if, swaps_by, links_by, looks_by}
+use Rattle.cordyceps_queue.specs.QueueHistory.{Event, Swap, Link, Take, Busy, Look, Out, Empty, Free, one_if_dec, swaps_by, links_by, looks_by}
 use Rattle.cordyceps_queue.specs.QueuePast as past
 use Rattle.cordyceps_queue.specs.QueuePast.{IsOpen, HasLooked}
 use Rattle.cordyceps_queue.proofs.Basics.{open_from}

@@ -2,7 +2,7 @@
 use Rattle.std.proofs.Common.{◌≡◌, ◌+◌, List, [], ◌∷◌, ◌++◌, reverse, Option, None, refl, ap, ◌∙◌, append-nil, arith}
 use Rattle.std.proofs.lemmas.List.{reverse-append}
 use Rattle.cordyceps_queue.specs.QueueHistory as told
-use Rattle.cordyceps_queue.specs.QueueHistory.{Event, Swap, Link, Take, Busy, Look, Out, Empty, Free, one_if, holder_after, holder_from, swaps_by, links_by, looks_by}
+use Rattle.cordyceps_queue.specs.QueueHistory.{Event, Swap, Link, Take, Busy, Look, Out, Empty, Free, one_if_dec, holder_after, holder_from, swaps_by, links_by, looks_by}
 use Rattle.cordyceps_queue.specs.QueuePast as past
 
 pub reverse-cons : {A : Type 0} (x : A) (xs : List A) → reverse (x ∷ xs) ≡ reverse xs ++ x ∷ []

@@ -3,8 +3,8 @@ use Rattle.std.proofs.Common.{◌≡◌, ◌≢◌, ℕ, true, List, [], ◌∷�
 use Rattle.std.specs.Prelude.{Option, Some, None, Ok, Err, slice_get}
 use Rattle.std.proofs.lemmas.List.{reverse-append}
 use native.Mathlib.Decide.{ℕ_discrete}
-use Rattle.cordyceps_queue.specs.declared.place.Place.{Place}
-use Rattle.cordyceps_queue.specs.declared.place.Place.TheVariants.{Rest, Holding}
+use Rattle.cordyceps_queue.specs.declared.place.Stage.{Stage}
+use Rattle.cordyceps_queue.specs.declared.place.Stage.TheVariants.{Rest, Holding}
 use Rattle.cordyceps_queue.specs.declared.steps.QueueStep.TheVariants as step
 use Rattle.cordyceps_queue.specs.declared.steps.QueueAnswer.{QueueAnswer}
 use Rattle.cordyceps_queue.specs.declared.steps.QueueAnswer.TheVariants as answer
@@ -12,7 +12,7 @@ use Rattle.cordyceps_queue.specs.declared.steps.TryDequeueError.TheVariants as e
 use Rattle.cordyceps_queue.specs.QueueHistory.{Event, Take, Busy, Look, Free, came, went, held, holder, IsBlocked}
 use Rattle.cordyceps_queue.specs.QueuePast as past
 use Rattle.cordyceps_queue.specs.QueueMachine.{Machine, Outcome, events_of, stepped_at, stepped, take}
-use Rattle.cordyceps_queue.specs.QueueCore.{right_word, party_at, words_of, CoreMeets}
+use Rattle.cordyceps_queue.specs.QueueCore.{right_word, party_at, abstract_of, CoreMeets}
 use Rattle.cordyceps_queue.specs.QueueAlone.{found_of, may_dequeue, tries, gives_back, takes_first, dequeued_at, dequeued, try_events, dequeue_events, Finds, LooksBlocked}
 use Rattle.cordyceps_queue.proofs.Basics.{some_inj, some_none}
 use Rattle.cordyceps_queue.proofs.Blocked.{told_blocked, past_blocked}
@@ -53,7 +53,7 @@ module _ {E : Type 0} where
   from_rest p answer.Inconsistent f = refl
 
   -- the law of a call, from this place
-  abbrev Law : List (Event ℕ E) → ℕ → Option Place → Outcome E → Type 0
+  abbrev Law : List (Event ℕ E) → ℕ → Option Stage → Outcome E → Type 0
   Law h p place out = CoreMeets (h ++ dequeue_events p place (found_of out.1)) out.0 × Finds h p (found_of out.1)
 
   law_holding : (h : List (Event ℕ E)) (m : Machine E) (p t : ℕ) → CoreMeets h m → slice_get m.parties p ≡ Some (Holding t) → Law h p (Some (Holding t)) (tries p 6 m)
@@ -85,7 +85,7 @@ module _ {E : Type 0} where
       let met : CoreMeets (h ++ Take p ∷ []) (take m p (Some t)).0 = subst (λ (n : Machine E). CoreMeets (h ++ Take p ∷ []) n) (ap (λ o. (take m p o).0) right) K.0 in
       law_taken h (take m p (Some t)).0 p t met (get_set_same m.parties p (Holding t) Rest at)
 
-  law_at : (h : List (Event ℕ E)) (m : Machine E) (p : ℕ) → CoreMeets h m → (place : Option Place) → slice_get m.parties p ≡ place → may_dequeue place ≡ true → Law h p place (dequeued_at p m place)
+  law_at : (h : List (Event ℕ E)) (m : Machine E) (p : ℕ) → CoreMeets h m → (place : Option Stage) → slice_get m.parties p ≡ place → may_dequeue place ≡ true → Law h p place (dequeued_at p m place)
   law_at h m p was (Some Rest) at may =
       subst (λ (out : Outcome E). Law h p (Some Rest) (takes_first p out.0 out.1)) (sym (ap (λ o. stepped_at m p o step.Take) at)) (law_rest h m p was at m.right refl)
   law_at h m p was (Some (Holding t)) at may = law_holding h m p t was at
@@ -102,7 +102,7 @@ module _ {E : Type 0} where
 
   pub holds_right : (h : List (Event ℕ E)) (m : Machine E) (p q t : ℕ) → CoreMeets h m → holder h ≡ Some q → slice_get m.parties p ≡ Some (Holding t) → p ≡ q
   holds_right h m p q t was held at =
-      let k = keeping (words_of m) was.chain (reverse h) was.meets p (me_of m p (Holding t)) (ap (party_at m.rooms p) at) t refl in
+      let k = keeping (abstract_of m) was.chain (reverse h) was.meets p (me_of m p (Holding t)) (ap (party_at m.rooms p) at) t refl in
       some_inj (sym k.held_by ∙ sym (holder_of h) ∙ held)
 
   -- where another party holds the right
@@ -110,7 +110,7 @@ module _ {E : Type 0} where
   busy_rest h m p q was held None right = refl
   busy_rest h m p q was held (Some t) right = absurd (no_right h m q t was held right)
 
-  busy_at : (h : List (Event ℕ E)) (m : Machine E) (p q : ℕ) → CoreMeets h m → holder h ≡ Some q → p ≢ q → (place : Option Place) → slice_get m.parties p ≡ place → may_dequeue place ≡ true → found_of (dequeued_at p m place).1 ≡ Err error.Busy
+  busy_at : (h : List (Event ℕ E)) (m : Machine E) (p q : ℕ) → CoreMeets h m → holder h ≡ Some q → p ≢ q → (place : Option Stage) → slice_get m.parties p ≡ place → may_dequeue place ≡ true → found_of (dequeued_at p m place).1 ≡ Err error.Busy
   busy_at h m p q was held ne (Some Rest) at may =
       subst (λ (out : Outcome E). found_of (takes_first p out.0 out.1).1 ≡ Err error.Busy) (sym (ap (λ o. stepped_at m p o step.Take) at)) (busy_rest h m p q was held m.right refl)
   busy_at h m p q was held ne (Some (Holding t)) at may = absurd (ne (holds_right h m p q t was held at))
@@ -120,7 +120,7 @@ module _ {E : Type 0} where
   busy_law h m p q was held ne may = busy_at h m p q was held ne (slice_get m.parties p) refl may
 
   -- what was blocked before a look, or before a taking and a look, is so after them
-  pub still_blocked : (h : List (Event ℕ E)) (p : ℕ) (m : Machine E) (place : Option Place) → may_dequeue place ≡ true → CoreMeets (h ++ dequeue_events p place (Err error.Inconsistent)) m → IsBlocked ℕ_discrete h → LooksBlocked h p place
+  pub still_blocked : (h : List (Event ℕ E)) (p : ℕ) (m : Machine E) (place : Option Stage) → may_dequeue place ≡ true → CoreMeets (h ++ dequeue_events p place (Err error.Inconsistent)) m → IsBlocked ℕ_discrete h → LooksBlocked h p place
   still_blocked h p m (Some Rest) may was b =
       let all : reverse (h ++ Take p ∷ Look p ∷ Free p ∷ []) ≡ Free p ∷ Look p ∷ Take p ∷ reverse h = reverse-append h (Take p ∷ Look p ∷ Free p ∷ []) in
       let turned : reverse (h ++ Take p ∷ Look p ∷ []) ≡ Look p ∷ Take p ∷ reverse h = reverse-append h (Take p ∷ Look p ∷ []) in

@@ -4,8 +4,8 @@ use Rattle.std.specs.Prelude.{Option, Some, None, Ok, Err, slice_get}
 use Rattle.std.proofs.Common.{take as front}
 use Rattle.std.proofs.lemmas.List.{reverse-append, take_all}
 use native.Mathlib.Decide.{ℕ_discrete}
-use Rattle.cordyceps_queue.specs.declared.place.Place.{Place}
-use Rattle.cordyceps_queue.specs.declared.place.Place.TheVariants.{Rest, Holding}
+use Rattle.cordyceps_queue.specs.declared.place.Stage.{Stage}
+use Rattle.cordyceps_queue.specs.declared.place.Stage.TheVariants.{Rest, Holding}
 use Rattle.cordyceps_queue.specs.declared.steps.QueueStep.TheVariants as step
 use Rattle.cordyceps_queue.specs.declared.steps.QueueAnswer.{QueueAnswer}
 use Rattle.cordyceps_queue.specs.declared.steps.QueueAnswer.TheVariants as answer
@@ -17,7 +17,7 @@ use Rattle.cordyceps_queue.specs.QueueBatches.{outs}
 use Rattle.cordyceps_queue.specs.QueueMachine.{Machine, Outcome, events_of, stepped_at, stepped, take}
 use Rattle.cordyceps_queue.specs.QueueCore.{CoreMeets}
 use Rattle.cordyceps_queue.specs.QueueAlone.{found_of, may_dequeue, tries, try_events, Finds}
-use Rattle.cordyceps_queue.specs.QueueDrained.{Drained, went_on, drained, hands_back, takes_first, drained_at, batch_of, oldest, NobodyPending, NobodyElse, drain_events, batch_events, last_look, Stops, Drains}
+use Rattle.cordyceps_queue.specs.QueueDrained.{Drained, went_on, drained, hands_back, drains_first, drained_at, batch_of, oldest, NobodyPending, NobodyElse, drain_events, batch_events, last_look, Stops, Drains}
 use Rattle.cordyceps_queue.proofs.Counts.{swaps_by-append, links_by-append}
 use Rattle.cordyceps_queue.proofs.Dequeues.{held_take, still_blocked, no_right, holds_right}
 use Rattle.cordyceps_queue.proofs.Legality.{held_of}
@@ -98,7 +98,7 @@ module _ {E : Type 0} where
       subst (λ r. Law h p (suc n) t (went_on (drained p n) (tries p 6 m).0 (found_of r))) (sym T.is) (next n (law n) h m p t was (tries p 6 m).0 T.answer T.final T.meets T.finds T.holds)
 
   -- what a call comes to
-  pub record Whole (h : List (Event ℕ E)) (p n : ℕ) (place : Option Place) (d : Drained E) : Type 0 where
+  pub record Whole (h : List (Event ℕ E)) (p n : ℕ) (place : Option Stage) (d : Drained E) : Type 0 where
     pub meets : CoreMeets (h ++ batch_events p place d.1 d.2) d.0
     pub took : Drains h p n place d.1 d.2
 
@@ -136,7 +136,7 @@ module _ {E : Type 0} where
         };
       }
 
-  whole_rest : (n : ℕ) (h : List (Event ℕ E)) (m : Machine E) (p : ℕ) → CoreMeets h m → slice_get m.parties p ≡ Some Rest → (o : Option ℕ) → m.right ≡ o → Whole h p n (Some Rest) (takes_first p n (take m p o).0 (take m p o).1)
+  whole_rest : (n : ℕ) (h : List (Event ℕ E)) (m : Machine E) (p : ℕ) → CoreMeets h m → slice_get m.parties p ≡ Some Rest → (o : Option ℕ) → m.right ≡ o → Whole h p n (Some Rest) (drains_first p n (take m p o).0 (take m p o).1)
   whole_rest n h m p was at None right =
       let K = step_met h m p Rest at step.Take answer.Busy (ap (λ o. (take m p o).1) right) was in
       record {
@@ -148,9 +148,9 @@ module _ {E : Type 0} where
       let met : CoreMeets (h ++ Take p ∷ []) (take m p (Some t)).0 = subst (λ (k : Machine E). CoreMeets (h ++ Take p ∷ []) k) (ap (λ o. (take m p o).0) right) K.0 in
       whole_taken n h (take m p (Some t)).0 p t met (get_set_same m.parties p (Holding t) Rest at)
 
-  whole_at : (n : ℕ) (h : List (Event ℕ E)) (m : Machine E) (p : ℕ) → CoreMeets h m → (place : Option Place) → slice_get m.parties p ≡ place → may_dequeue place ≡ true → Whole h p n place (drained_at p n m place)
+  whole_at : (n : ℕ) (h : List (Event ℕ E)) (m : Machine E) (p : ℕ) → CoreMeets h m → (place : Option Stage) → slice_get m.parties p ≡ place → may_dequeue place ≡ true → Whole h p n place (drained_at p n m place)
   whole_at n h m p was (Some Rest) at may =
-      subst (λ out. Whole h p n (Some Rest) (takes_first p n out.0 out.1)) (sym (ap (λ o. stepped_at m p o step.Take) at)) (whole_rest n h m p was at m.right refl)
+      subst (λ out. Whole h p n (Some Rest) (drains_first p n out.0 out.1)) (sym (ap (λ o. stepped_at m p o step.Take) at)) (whole_rest n h m p was at m.right refl)
   whole_at n h m p was (Some (Holding t)) at may = let L = law n h m p t was at in record { meets = L.meets; took = L.took }
   whole_at n h m p was place at may = let no : ⊥ = cc in absurd no
 
@@ -221,15 +221,15 @@ module _ {E : Type 0} where
   looks_link q p [] = refl
   looks_link q p (e ∷ es) = looks_link q p es
 
-  last_swap : (q p : ℕ) (place : Option Place) (es : List E) → swaps_by ℕ_discrete q (last_look p place es) ≡ 0
+  last_swap : (q p : ℕ) (place : Option Stage) (es : List E) → swaps_by ℕ_discrete q (last_look p place es) ≡ 0
   last_swap q p (Some Rest) es = looks_swap q p es
   last_swap q p place es = looks_swap q p es
 
-  last_link : (q p : ℕ) (place : Option Place) (es : List E) → links_by ℕ_discrete q (last_look p place es) ≡ 0
+  last_link : (q p : ℕ) (place : Option Stage) (es : List E) → links_by ℕ_discrete q (last_look p place es) ≡ 0
   last_link q p (Some Rest) es = looks_link q p es
   last_link q p place es = looks_link q p es
 
-  stops_oldest : (h : List (Event ℕ E)) (p n : ℕ) (place : Option Place) (es rest : List E) (stop : Option TryDequeueError) → 1 ≤ n → held h ≡ es ++ rest → length es ≤ n → Stops h p n place es stop →
+  stops_oldest : (h : List (Event ℕ E)) (p n : ℕ) (place : Option Stage) (es rest : List E) (stop : Option TryDequeueError) → 1 ≤ n → held h ≡ es ++ rest → length es ≤ n → Stops h p n place es stop →
       NobodyPending h → NobodyElse h p → batch_of es stop ≡ oldest n (held h)
   stops_oldest h p n place [] rest None some first few s still mine = absurd (omega (arith, s, some))
   stops_oldest h p n place (e ∷ es) rest None some first few s still mine =
@@ -252,14 +252,14 @@ module _ {E : Type 0} where
 
   -- where another party has the right
   held_rest : (h : List (Event ℕ E)) (m : Machine E) (p q n : ℕ) → CoreMeets h m → holder h ≡ Some q → (o : Option ℕ) → m.right ≡ o →
-      let d = takes_first p n (take m p o).0 (take m p o).1 in batch_of d.1 d.2 ≡ Err error.Busy
+      let d = drains_first p n (take m p o).0 (take m p o).1 in batch_of d.1 d.2 ≡ Err error.Busy
   held_rest h m p q n was held None right = refl
   held_rest h m p q n was held (Some t) right = absurd (no_right h m q t was held right)
 
-  held_at : (h : List (Event ℕ E)) (m : Machine E) (p q n : ℕ) → CoreMeets h m → holder h ≡ Some q → p ≢ q → (place : Option Place) → slice_get m.parties p ≡ place → may_dequeue place ≡ true →
+  held_at : (h : List (Event ℕ E)) (m : Machine E) (p q n : ℕ) → CoreMeets h m → holder h ≡ Some q → p ≢ q → (place : Option Stage) → slice_get m.parties p ≡ place → may_dequeue place ≡ true →
       let d = drained_at p n m place in batch_of d.1 d.2 ≡ Err error.Busy
   held_at h m p q n was held ne (Some Rest) at may =
-      subst (λ (out : Outcome E). let d = takes_first p n out.0 out.1 in batch_of d.1 d.2 ≡ Err error.Busy) (sym (ap (λ o. stepped_at m p o step.Take) at)) (held_rest h m p q n was held m.right refl)
+      subst (λ (out : Outcome E). let d = drains_first p n out.0 out.1 in batch_of d.1 d.2 ≡ Err error.Busy) (sym (ap (λ o. stepped_at m p o step.Take) at)) (held_rest h m p q n was held m.right refl)
   held_at h m p q n was held ne (Some (Holding t)) at may = absurd (ne (holds_right h m p q t was held at))
   held_at h m p q n was held ne place at may = let no : ⊥ = cc in absurd no
 

@@ -3,8 +3,8 @@ use Rattle.std.proofs.Common.{◌≡◌, ℕ, ◌≤◌, Bool, true, false, List
 use Rattle.std.specs.Prelude.{Option, Some, None, slice_get, is_some, ◌&&◌}
 use Rattle.std.proofs.lemmas.List.{drop-append-le}
 use Rattle.cordyceps_base.specs.Runs.{after}
-use Rattle.cordyceps_queue.specs.declared.place.Place.{Place}
-use Rattle.cordyceps_queue.specs.declared.place.Place.TheVariants.{Rest, Cleared, Swapped}
+use Rattle.cordyceps_queue.specs.declared.place.Stage.{Stage}
+use Rattle.cordyceps_queue.specs.declared.place.Stage.TheVariants.{Rest, Cleared, Swapped}
 use Rattle.cordyceps_queue.specs.declared.steps.QueueStep.TheVariants as step
 use Rattle.cordyceps_queue.specs.declared.steps.QueueAnswer.TheVariants as answer
 use Rattle.cordyceps_queue.specs.QueueHistory.{Event, Swap, Link, came, went, held}
@@ -16,7 +16,7 @@ use Rattle.cordyceps_queue.proofs.Reading.{get_set_same, get_change_same, get_wi
 use Rattle.cordyceps_queue.proofs.Standing.{free_within}
 use Rattle.cordyceps_queue.proofs.Tries.{step_met}
 
-rest_from : (o : Option Place) → is_rest o ≡ true → o ≡ Some Rest
+rest_from : (o : Option Stage) → is_rest o ≡ true → o ≡ Some Rest
 rest_from (Some Rest) e = refl
 rest_from o e = let no : ⊥ = cc in absurd no
 
@@ -38,46 +38,46 @@ module _ {E : Type 0} where
       ∙ ap (drop (length (went h))) (came-append h (Swap p e ∷ Link p ∷ [])) ∙ drop-append-le (length (went h)) (came h) (e ∷ []) le
 
   module _ (h : List (Event ℕ E)) (m : Machine E) (p : ℕ) (e : E) (was : CoreMeets h m) (r : ℕ) (at : slice_get m.parties p ≡ Some Rest) (free : least_free p m.rooms ≡ Some r) where
-    abbrev cleared : Machine E
-    cleared = (clear m p e (Some r)).0
+    abbrev cleared_machine : Machine E
+    cleared_machine = (clear m p e (Some r)).0
 
-    abbrev swapped : Machine E
-    swapped = (swap cleared p r (Swapped r m.head)).0
+    abbrev swapped_machine : Machine E
+    swapped_machine = (swap cleared_machine p r (Swapped r m.head)).0
 
-    abbrev linked : Machine E
-    linked = (link swapped p m.head (Some r) Rest).0
+    abbrev linked_machine : Machine E
+    linked_machine = (link swapped_machine p m.head (Some r) Rest).0
 
-    at_cleared : slice_get cleared.parties p ≡ Some (Cleared r)
+    at_cleared : slice_get cleared_machine.parties p ≡ Some (Cleared r)
     at_cleared = get_set_same m.parties p (Cleared r) Rest at
 
-    at_swapped : slice_get swapped.parties p ≡ Some (Swapped r m.head)
-    at_swapped = get_set_same cleared.parties p (Swapped r m.head) (Cleared r) at_cleared
+    at_swapped : slice_get swapped_machine.parties p ≡ Some (Swapped r m.head)
+    at_swapped = get_set_same cleared_machine.parties p (Swapped r m.head) (Cleared r) at_cleared
 
-    steps_are : after core_step m (enqueue_steps p e) ≡ linked
+    steps_are : after core_step m (enqueue_steps p e) ≡ linked_machine
     steps_are =
         ap (λ (n : Machine E). (stepped (stepped n p step.Swap).0 p step.Link).0) (ap (λ o. (stepped_at m p o (step.Clear (Some e))).0) at ∙ ap (λ o. (clear m p e o).0) free)
-        ∙ ap (λ (n : Machine E). (stepped n p step.Link).0) (ap (λ o. (stepped_at cleared p o step.Swap).0) at_cleared)
-        ∙ ap (λ o. (stepped_at swapped p o step.Link).0) at_swapped
+        ∙ ap (λ (n : Machine E). (stepped n p step.Link).0) (ap (λ o. (stepped_at cleared_machine p o step.Swap).0) at_cleared)
+        ∙ ap (λ o. (stepped_at swapped_machine p o step.Link).0) at_swapped
 
-    element_there : element_in (slice_get cleared.rooms r) ≡ Some e
+    element_there : element_in (slice_get cleared_machine.rooms r) ≡ Some e
     element_there =
         let w = get_within m.rooms r (free_within m (h, was) p r at free).1 in
         ap element_in (get_change_same (holding e) m.rooms r w.0 w.1)
 
-    met_cleared : CoreMeets h cleared
+    met_cleared : CoreMeets h cleared_machine
     met_cleared =
         let K = step_met h m p Rest at (step.Clear (Some e)) answer.Done (ap (λ o. (clear m p e o).1) free) was in
-        subst (λ l. CoreMeets l cleared) (append-nil h) (subst (CoreMeets (h ++ [])) (ap (λ o. (clear m p e o).0) free) K.0)
+        subst (λ l. CoreMeets l cleared_machine) (append-nil h) (subst (CoreMeets (h ++ [])) (ap (λ o. (clear m p e o).0) free) K.0)
 
-    met_swapped : CoreMeets (h ++ Swap p e ∷ []) swapped
+    met_swapped : CoreMeets (h ++ Swap p e ∷ []) swapped_machine
     met_swapped =
-        let K = step_met h cleared p (Cleared r) at_cleared step.Swap answer.Done refl met_cleared in
-        subst (λ o. CoreMeets (h ++ comes_in p o) swapped) element_there K.0
+        let K = step_met h cleared_machine p (Cleared r) at_cleared step.Swap answer.Done refl met_cleared in
+        subst (λ o. CoreMeets (h ++ comes_in p o) swapped_machine) element_there K.0
 
-    met_linked : CoreMeets (h ++ Swap p e ∷ Link p ∷ []) linked
+    met_linked : CoreMeets (h ++ Swap p e ∷ Link p ∷ []) linked_machine
     met_linked =
-        let K = step_met (h ++ Swap p e ∷ []) swapped p (Swapped r m.head) at_swapped step.Link answer.Done refl met_swapped in
-        subst (λ l. CoreMeets l linked) (append_assoc h (Swap p e ∷ []) (Link p ∷ [])) K.0
+        let K = step_met (h ++ Swap p e ∷ []) swapped_machine p (Swapped r m.head) at_swapped step.Link answer.Done refl met_swapped in
+        subst (λ l. CoreMeets l linked_machine) (append_assoc h (Swap p e ∷ []) (Link p ∷ [])) K.0
 
     enqueues_at : CoreMeets (h ++ Swap p e ∷ Link p ∷ []) (after core_step m (enqueue_steps p e)) × (held (h ++ Swap p e ∷ Link p ∷ []) ≡ held h ++ e ∷ [])
     enqueues_at = (subst (CoreMeets (h ++ Swap p e ∷ Link p ∷ [])) (sym steps_are) met_linked, held_last h m p e was)

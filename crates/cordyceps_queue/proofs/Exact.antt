@@ -2,11 +2,11 @@
 use Rattle.std.proofs.Common.{◌≡◌, ◌≢◌, ℕ, zero, suc, refl, Bool, true, false}
 use Rattle.std.specs.Prelude.{Option, Some, None, slice_get, is_ok, is_some, nat_eq, IfErr}
 use Rattle.cordyceps_base.specs.declared.shared.StepError.TheVariants.{NotThere}
-use Rattle.cordyceps_queue.specs.declared.place.Place.{Place}
-use Rattle.cordyceps_queue.specs.declared.place.Place.TheVariants.{Rest, Cleared, Swapped, Holding, StubNull, Second, Null, PutClear, PutSwap, PutLink, PutRead}
+use Rattle.cordyceps_queue.specs.declared.place.Stage.{Stage}
+use Rattle.cordyceps_queue.specs.declared.place.Stage.TheVariants.{Rest, Cleared, Swapped, Holding, StubNull, Second, Null, PutClear, PutSwap, PutLink, PutRead}
 use Rattle.cordyceps_queue.specs.declared.steps.QueueStep.{QueueStep}
 use Rattle.cordyceps_queue.specs.declared.steps.QueueStep.TheVariants as step
-use Rattle.cordyceps_queue.specs.QueueMachine.{Machine, Outcome, element_of, element_in, next_in, least_free, clear, take, hand_out, read_stub, read, read_again, look, head_stub, head_tail, may_take_at, is_there, stepped_at, stepped}
+use Rattle.cordyceps_queue.specs.QueueMachine.{Machine, Outcome, step_element, element_in, next_in, least_free, clear, take, hand_out, read_stub, read, read_again, look, head_stub, head_tail, may_take_at, is_there, stepped_at, stepped}
 use Rattle.cordyceps_queue.specs.QueueCore.{IsSound}
 use Rattle.cordyceps_queue.proofs.Basics.{none_some, suc_zero}
 use Rattle.cordyceps_queue.proofs.Standing.{holding_full, second_full, put_read_full}
@@ -14,7 +14,7 @@ use Rattle.cordyceps_queue.proofs.Standing.{holding_full, second_full, put_read_
 module _ {E : Type 0} where
   -- accepted exactly where the step is there; a refusal changes nothing and hands the element back
   abbrev pub Exact : Machine E → QueueStep E → Bool → Outcome E → Type 0
-  Exact m s there out = (is_ok out.1 ≡ there) × IfErr out.1 (λ e. (e ≡ (NotThere, element_of s)) × (out.0 ≡ m))
+  Exact m s there out = (is_ok out.1 ≡ there) × IfErr out.1 (λ e. (e ≡ (NotThere, step_element s)) × (out.0 ≡ m))
 
   abbrev Full : Option E → Type 0
   Full o = (e : E) × (o ≡ Some e)
@@ -55,7 +55,7 @@ module _ {E : Type 0} where
   exact_head_tail m p t true = (refl, tt)
   exact_head_tail m p t false = (refl, tt)
 
-  exact_at : (m : Machine E) (p : ℕ) (s : QueueStep E) (o : Option Place) → IsSound m → slice_get m.parties p ≡ o → Exact m s (may_take_at (least_free p m.rooms) o s) (stepped_at m p o s)
+  exact_at : (m : Machine E) (p : ℕ) (s : QueueStep E) (o : Option Stage) → IsSound m → slice_get m.parties p ≡ o → Exact m s (may_take_at (least_free p m.rooms) o s) (stepped_at m p o s)
   exact_at m p s None sound at = (refl, (refl, refl))
   exact_at m p (step.Clear (Some e)) (Some Rest) sound at = exact_clear m p e (least_free p m.rooms)
   exact_at m p step.Take (Some Rest) sound at = exact_take m p m.right

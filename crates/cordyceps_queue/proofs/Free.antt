@@ -6,8 +6,8 @@ use Rattle.std.proofs.lemmas.Iterator.Adapters.{position_from-zero}
 use Rattle.std.specs.List.{position, position_from}
 use Rattle.cordyceps_queue.specs.declared.room.Room.{Room}
 use Rattle.cordyceps_queue.specs.QueueMachine.{change, stub_room, first_of, least_free, is_free_for, free_from}
-use Rattle.cordyceps_queue.specs.QueueMeets.{IsAt}
-use Rattle.cordyceps_queue.specs.QueueWords.{with_room}
+use Rattle.cordyceps_queue.specs.QueueMeets.{ItemAt}
+use Rattle.cordyceps_queue.specs.QueueWords.{insert_room}
 use Rattle.cordyceps_queue.proofs.Basics.{none_some}
 
 ltb_true : (i j : ℕ) → i < j → ltb i j ≡ true
@@ -17,8 +17,8 @@ ltb_false : (i j : ℕ) → j ≤ i → ltb i j ≡ false
 ltb_false i j le = grind arith
 
 -- a room behind another goes in behind it
-with_later : (n i : ℕ) (free : List ℕ) → i < n → with_room n (i ∷ free) ≡ i ∷ with_room n free
-with_later n i free lt = ap (λ b. cond b (n ∷ i ∷ free) (i ∷ with_room n free)) (ltb_false n i (omega arith))
+with_later : (n i : ℕ) (free : List ℕ) → i < n → insert_room n (i ∷ free) ≡ i ∷ insert_room n free
+with_later n i free lt = ap (λ b. cond b (n ∷ i ∷ free) (i ∷ insert_room n free)) (ltb_false n i (omega arith))
 
 module _ {E : Type 0} where
   -- a room that is as free for p as before
@@ -44,19 +44,19 @@ module _ {E : Type 0} where
           (suc w.0, w.1, omega (arith, w.2), w.3, w.4, ap (λ b. cond b (i ∷ free_from p (suc i) (change f w.0 xs)) (free_from p (suc i) (change f w.0 xs))) t ∙ w.5)
 
   -- each free room has a place among them
-  pub free_has : (p : ℕ) (rooms : List (Room E)) (i j : ℕ) (y : Room E) → slice_get rooms j ≡ Some y → is_free_for p y ≡ true → (n : ℕ) × IsAt (free_from p i rooms) n (j + i)
+  pub free_has : (p : ℕ) (rooms : List (Room E)) (i j : ℕ) (y : Room E) → slice_get rooms j ≡ Some y → is_free_for p y ≡ true → (n : ℕ) × ItemAt (free_from p i rooms) n (j + i)
   free_has p [] i j y h t = absurd (none_some h)
   free_has p (x ∷ xs) i zero y h t =
       let same : y ≡ x = cc in
       let now : is_free_for p x ≡ true = subst (λ z. is_free_for p z ≡ true) same t in
-      (0, subst (λ b. IsAt (cond b (i ∷ free_from p (suc i) xs) (free_from p (suc i) xs)) 0 (0 + i)) (sym now) (omega arith))
+      (0, subst (λ b. ItemAt (cond b (i ∷ free_from p (suc i) xs) (free_from p (suc i) xs)) 0 (0 + i)) (sym now) (omega arith))
   free_has p (x ∷ xs) i (suc j) y h t =
       let w = free_has p xs (suc i) j y h t in
       let e : j + suc i ≡ suc j + i = omega arith in
-      let at : IsAt (free_from p (suc i) xs) w.0 (suc j + i) = subst (IsAt (free_from p (suc i) xs) w.0) e w.1 in
+      let at : ItemAt (free_from p (suc i) xs) w.0 (suc j + i) = subst (ItemAt (free_from p (suc i) xs) w.0) e w.1 in
       from (is_free_for p x) w.0 at
     where
-      from : (b : Bool) (n : ℕ) → IsAt (free_from p (suc i) xs) n (suc j + i) → (n : ℕ) × IsAt (cond b (i ∷ free_from p (suc i) xs) (free_from p (suc i) xs)) n (suc j + i)
+      from : (b : Bool) (n : ℕ) → ItemAt (free_from p (suc i) xs) n (suc j + i) → (n : ℕ) × ItemAt (cond b (i ∷ free_from p (suc i) xs) (free_from p (suc i) xs)) n (suc j + i)
       from true n at = (suc n, at)
       from false n at = (n, at)
 
@@ -69,12 +69,12 @@ module _ {E : Type 0} where
       from rec true e = let first : i ≡ r = cc in omega arith
       from rec false e = let l = rec e in omega arith
 
-  with_least : (p : ℕ) (rooms : List (Room E)) (i : ℕ) (free : List ℕ) → free_from p (suc i) rooms ≡ free → with_room i free ≡ i ∷ free
+  with_least : (p : ℕ) (rooms : List (Room E)) (i : ℕ) (free : List ℕ) → free_from p (suc i) rooms ≡ free → insert_room i free ≡ i ∷ free
   with_least p rooms i [] e = refl
-  with_least p rooms i (r ∷ rest) e = let l = free_above p rooms (suc i) r rest e in ap (λ b. cond b (i ∷ r ∷ rest) (r ∷ with_room i rest)) (ltb_true i r (omega arith))
+  with_least p rooms i (r ∷ rest) e = let l = free_above p rooms (suc i) r rest e in ap (λ b. cond b (i ∷ r ∷ rest) (r ∷ insert_room i rest)) (ltb_true i r (omega arith))
 
   -- a room that becomes free for p
-  pub free_more : (p : ℕ) (f : Room E → Room E) (rooms : List (Room E)) (i j : ℕ) (y : Room E) → slice_get rooms j ≡ Some y → is_free_for p y ≡ false → is_free_for p (f y) ≡ true → free_from p i (change f j rooms) ≡ with_room (j + i) (free_from p i rooms)
+  pub free_more : (p : ℕ) (f : Room E → Room E) (rooms : List (Room E)) (i j : ℕ) (y : Room E) → slice_get rooms j ≡ Some y → is_free_for p y ≡ false → is_free_for p (f y) ≡ true → free_from p i (change f j rooms) ≡ insert_room (j + i) (free_from p i rooms)
   free_more p f [] i j y h was now = absurd (none_some h)
   free_more p f (x ∷ xs) i zero y h was now =
       let same : y ≡ x = cc in
@@ -83,26 +83,26 @@ module _ {E : Type 0} where
       let here : 0 + i ≡ i = omega arith in
       ap (λ b. cond b (i ∷ free_from p (suc i) xs) (free_from p (suc i) xs)) after
       ∙ sym (with_least p xs i (free_from p (suc i) xs) refl)
-      ∙ ap (λ n. with_room n (free_from p (suc i) xs)) (sym here)
-      ∙ ap (λ b. with_room (0 + i) (cond b (i ∷ free_from p (suc i) xs) (free_from p (suc i) xs))) (sym before)
+      ∙ ap (λ n. insert_room n (free_from p (suc i) xs)) (sym here)
+      ∙ ap (λ b. insert_room (0 + i) (cond b (i ∷ free_from p (suc i) xs) (free_from p (suc i) xs))) (sym before)
   free_more p f (x ∷ xs) i (suc j) y h was now =
       let e : j + suc i ≡ suc j + i = omega arith in
-      let rec : free_from p (suc i) (change f j xs) ≡ with_room (suc j + i) (free_from p (suc i) xs) = free_more p f xs (suc i) j y h was now ∙ ap (λ n. with_room n (free_from p (suc i) xs)) e in
+      let rec : free_from p (suc i) (change f j xs) ≡ insert_room (suc j + i) (free_from p (suc i) xs) = free_more p f xs (suc i) j y h was now ∙ ap (λ n. insert_room n (free_from p (suc i) xs)) e in
       ap (λ ys. cond (is_free_for p x) (i ∷ ys) ys) rec ∙ from (is_free_for p x)
     where
-      from : (b : Bool) → cond b (i ∷ with_room (suc j + i) (free_from p (suc i) xs)) (with_room (suc j + i) (free_from p (suc i) xs)) ≡ with_room (suc j + i) (cond b (i ∷ free_from p (suc i) xs) (free_from p (suc i) xs))
+      from : (b : Bool) → cond b (i ∷ insert_room (suc j + i) (free_from p (suc i) xs)) (insert_room (suc j + i) (free_from p (suc i) xs)) ≡ insert_room (suc j + i) (cond b (i ∷ free_from p (suc i) xs) (free_from p (suc i) xs))
       from true = sym (with_later (suc j + i) i (free_from p (suc i) xs) (omega arith))
       from false = refl
 
   -- a new room that is free for p
-  pub free_pushed : (p : ℕ) (rooms : List (Room E)) (y : Room E) (i : ℕ) → is_free_for p y ≡ true → free_from p i (rooms ++ y ∷ []) ≡ with_room (length rooms + i) (free_from p i rooms)
+  pub free_pushed : (p : ℕ) (rooms : List (Room E)) (y : Room E) (i : ℕ) → is_free_for p y ≡ true → free_from p i (rooms ++ y ∷ []) ≡ insert_room (length rooms + i) (free_from p i rooms)
   free_pushed p [] y i now = let here : i ≡ 0 + i = omega arith in ap (λ b. cond b (i ∷ []) []) now ∙ ap (λ n. n ∷ []) here
   free_pushed p (x ∷ xs) y i now =
       let e : length xs + suc i ≡ suc (length xs) + i = omega arith in
-      let rec : free_from p (suc i) (xs ++ y ∷ []) ≡ with_room (suc (length xs) + i) (free_from p (suc i) xs) = free_pushed p xs y (suc i) now ∙ ap (λ n. with_room n (free_from p (suc i) xs)) e in
+      let rec : free_from p (suc i) (xs ++ y ∷ []) ≡ insert_room (suc (length xs) + i) (free_from p (suc i) xs) = free_pushed p xs y (suc i) now ∙ ap (λ n. insert_room n (free_from p (suc i) xs)) e in
       ap (λ ys. cond (is_free_for p x) (i ∷ ys) ys) rec ∙ from (is_free_for p x)
     where
-      from : (b : Bool) → cond b (i ∷ with_room (suc (length xs) + i) (free_from p (suc i) xs)) (with_room (suc (length xs) + i) (free_from p (suc i) xs)) ≡ with_room (suc (length xs) + i) (cond b (i ∷ free_from p (suc i) xs) (free_from p (suc i) xs))
+      from : (b : Bool) → cond b (i ∷ insert_room (suc (length xs) + i) (free_from p (suc i) xs)) (insert_room (suc (length xs) + i) (free_from p (suc i) xs)) ≡ insert_room (suc (length xs) + i) (cond b (i ∷ free_from p (suc i) xs) (free_from p (suc i) xs))
       from true = sym (with_later (suc (length xs) + i) i (free_from p (suc i) xs) (omega arith))
       from false = refl
 

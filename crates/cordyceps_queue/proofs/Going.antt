@@ -1,7 +1,7 @@
 -- A try goes on while its answer is Done.
 use Rattle.std.proofs.Common.{◌≡◌, ℕ, zero, suc, true, false, ◌+◌, ◌-◌, ◌<◌, refl, ap, sym, ◌∙◌, arith}
 use Rattle.std.specs.Prelude.{Some, Ok, slice_get}
-use Rattle.cordyceps_queue.specs.declared.place.Place.TheVariants.{Rest}
+use Rattle.cordyceps_queue.specs.declared.place.Stage.TheVariants.{Rest}
 use Rattle.cordyceps_queue.specs.declared.steps.QueueStep.TheVariants as step
 use Rattle.cordyceps_queue.specs.declared.steps.QueueAnswer.TheVariants as answer
 use Rattle.cordyceps_queue.specs.QueueMachine.{Machine, Answered, Outcome, stepped}

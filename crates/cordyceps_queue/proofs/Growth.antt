@@ -1,14 +1,14 @@
 -- A core that gets a party or a room meets what it met.
 use Rattle.std.proofs.Common.{◌≡◌, ℕ, List, refl, sym, subst, false}
 use Rattle.std.specs.Prelude.{Option, Some, None, Result, Ok, Err, IfOk, OnOk, OnErr, slice_get, is_none}
-use Rattle.cordyceps_queue.specs.declared.place.Place.{Place}
+use Rattle.cordyceps_queue.specs.declared.place.Stage.{Stage}
 use Rattle.cordyceps_queue.specs.QueueHistory.{Event}
 use Rattle.cordyceps_queue.specs.QueueMachine.{Machine}
 use Rattle.cordyceps_queue.specs.QueueCore.{CoreMeets, with_party, with_room}
 use Rattle.cordyceps_queue.proofs.Sound.{meets_party, meets_room}
 
 -- there is such a place
-some_place : (o : Option Place) → is_none o ≡ false → (place : Place) × (o ≡ Some place)
+some_place : (o : Option Stage) → is_none o ≡ false → (place : Stage) × (o ≡ Some place)
 some_place None e = let no : ⊥ = cc in absurd no
 some_place (Some place) e = (place, refl)
 

@@ -6,15 +6,15 @@ use Rattle.std.proofs.lemmas.List.Sums.{sum_by-cons}
 use native.Mathlib.Decide.{ℕ_discrete, dec_le}
 use Rattle.cordyceps_shared.specs.Counts.{times, one_if}
 use Rattle.cordyceps_shared.proofs.Counting.{tally_append, one_here, one_else}
-use Rattle.cordyceps_queue.specs.declared.place.Place.{Place}
-use Rattle.cordyceps_queue.specs.declared.place.Place.TheVariants.{Cleared}
+use Rattle.cordyceps_queue.specs.declared.place.Stage.{Stage}
+use Rattle.cordyceps_queue.specs.declared.place.Stage.TheVariants.{Cleared}
 use Rattle.cordyceps_queue.specs.declared.room.Room.{Room}
 use Rattle.cordyceps_queue.specs.QueueHistory.{Event, held}
 use Rattle.cordyceps_queue.specs.QueuePast as past
-use Rattle.cordyceps_queue.specs.QueueCore.{CoreMeets, words_of, party_at}
+use Rattle.cordyceps_queue.specs.QueueCore.{CoreMeets, abstract_of, party_at}
 use Rattle.cordyceps_queue.specs.QueueDrained.{is_cleared, occupied, count_held}
 use Rattle.cordyceps_queue.specs.QueueMachine.{Machine, change, freeing, element_in}
-use Rattle.cordyceps_queue.specs.QueueMeets.{IsAt, real, Owner, Shared, Ready}
+use Rattle.cordyceps_queue.specs.QueueMeets.{ItemAt, real, Owner, Shared, Ready}
 use Rattle.cordyceps_queue.proofs.Basics.{times_once, times_at}
 use Rattle.cordyceps_queue.proofs.Legality.{held_of}
 use Rattle.cordyceps_queue.proofs.Reading.{get_change_other}
@@ -45,12 +45,12 @@ module _ {E : Type 0} where
       omega (arith, less, rest)
 
 -- ---- the rooms that parties have cleared
-abbrev cleared : List Place → List ℕ
-cleared [] = []
-cleared (Cleared r ∷ ps) = r ∷ cleared ps
-cleared (_ ∷ ps) = cleared ps
+abbrev cleared_rooms : List Stage → List ℕ
+cleared_rooms [] = []
+cleared_rooms (Cleared r ∷ ps) = r ∷ cleared_rooms ps
+cleared_rooms (_ ∷ ps) = cleared_rooms ps
 
-cleared_at : (r : ℕ) (ps : List Place) → 1 ≤ times r (cleared ps) → (k : ℕ) × (slice_get ps k ≡ Some (Cleared r))
+cleared_at : (r : ℕ) (ps : List Stage) → 1 ≤ times r (cleared_rooms ps) → (k : ℕ) × (slice_get ps k ≡ Some (Cleared r))
 cleared_at r [] l = absurd (omega arith)
 cleared_at r (Cleared x ∷ ps) l = elim (ℕ_discrete x r) [
   | yes e ↦ (0, ap (λ z. Some (Cleared z)) e)
@@ -58,7 +58,7 @@ cleared_at r (Cleared x ∷ ps) l = elim (ℕ_discrete x r) [
 ]
 cleared_at r (place ∷ ps) l = let t = cleared_at r ps l in (suc t.0, t.1)
 
-count_cleared : (ps : List Place) → count_by is_cleared ps ≡ length (cleared ps)
+count_cleared : (ps : List Stage) → count_by is_cleared ps ≡ length (cleared_rooms ps)
 count_cleared [] = refl
 count_cleared (Cleared r ∷ ps) = omega (arith, sum_by-cons (λ p. cond (is_cleared p) 1 0) (Cleared r) ps, count_cleared ps)
 count_cleared (place ∷ ps) = omega (arith, sum_by-cons (λ p. cond (is_cleared p) 1 0) place ps, count_cleared ps)
@@ -81,14 +81,14 @@ one_of (suc a) zero la lb not = omega arith
 one_of (suc a) (suc b) la lb not = absurd (not (omega arith) (omega arith))
 
 -- no two parties have cleared the same room
-cleared_once : (owner : ℕ → Owner) (ps : List Place) (o : ℕ) → ((k r : ℕ) → slice_get ps k ≡ Some (Cleared r) → owner r ≡ Ready (k + o)) → (r : ℕ) → times r (cleared ps) ≤ 1
+cleared_once : (owner : ℕ → Owner) (ps : List Stage) (o : ℕ) → ((k r : ℕ) → slice_get ps k ≡ Some (Cleared r) → owner r ≡ Ready (k + o)) → (r : ℕ) → times r (cleared_rooms ps) ≤ 1
 cleared_once owner [] o mine r = omega arith
 cleared_once owner (Cleared x ∷ ps) o mine r =
     let others : (k q : ℕ) → slice_get ps k ≡ Some (Cleared q) → owner q ≡ Ready (k + suc o) = λ k q e. mine (suc k) q e ∙ ap Ready (omega arith) in
     let later = cleared_once owner ps (suc o) others r in
     elim (ℕ_discrete x r) [
       | yes e ↦
-          let none : times r (cleared ps) ≡ 0 = none_if (times r (cleared ps)) (λ l.
+          let none : times r (cleared_rooms ps) ≡ 0 = none_if (times r (cleared_rooms ps)) (λ l.
           let t = cleared_at r ps l in
           let two : Ready (t.0 + suc o) ≡ Ready o = sym (others t.0 r t.1) ∙ (ap owner (sym e) ∙ (mine 0 x refl ∙ ap Ready (omega arith))) in
           let same : t.0 + suc o ≡ o = ap maker two in absurd (omega arith)) in
@@ -121,10 +121,10 @@ module _ {E : Type 0} (h : List (Event ℕ E)) (m : Machine E) (was : CoreMeets 
   pub room_for : length (held h) ≤ count_held m
   room_for =
       let rooms = real was.chain.rooms in
-      let taken = cleared m.parties in
+      let taken = cleared_rooms m.parties in
       let as_many : length (held h) ≡ length rooms =
-      ap length (held_of h was.meets.legal) ∙ (sym (length-map (past.held (reverse h)) Some) ∙ (sym (ap length was.meets.holds) ∙ length-map rooms (words_of m).cell)) in
-      let placed : (r : ℕ) → 1 ≤ times r rooms → (i : ℕ) × IsAt was.chain.rooms i r = λ r l. times_at r was.chain.rooms (omega (arith, real_times r was.chain.rooms)) in
+      ap length (held_of h was.meets.legal) ∙ (sym (length-map (past.held (reverse h)) Some) ∙ (sym (ap length was.meets.holds) ∙ length-map rooms (abstract_of m).cell)) in
+      let placed : (r : ℕ) → 1 ≤ times r rooms → (i : ℕ) × ItemAt was.chain.rooms i r = λ r l. times_at r was.chain.rooms (omega (arith, real_times r was.chain.rooms)) in
       let few = full_few (rooms ++ taken) m.rooms
       (λ r. subst (λ n. n ≤ 1) (sym (tally_append (λ x. one_if (eqb x r)) rooms taken)) (one_of (times r rooms) (times r taken)
       (omega (arith, real_times r was.chain.rooms, times_once r was.chain.rooms (λ i j a b. was.meets.once i j r a b)))
@@ -132,7 +132,7 @@ module _ {E : Type 0} (h : List (Event ℕ E)) (m : Machine E) (was : CoreMeets 
       (λ a b. let p = placed r a in let q = cleared_at r m.parties b in
       let no : IsReady Shared = subst IsReady (sym (made q.0 r q.1).0 ∙ was.meets.shared p.0 r p.1) tt in no)))
       (λ r l. elim (dec_le 1 (times r rooms)) [
-        | yes a ↦ cell_full (words_of m).cell r rooms (past.held (reverse h)) was.meets.holds a
+        | yes a ↦ cell_full (abstract_of m).cell r rooms (past.held (reverse h)) was.meets.holds a
         | no a ↦ let q = cleared_at r m.parties (omega (arith, a, l, tally_append (λ x. one_if (eqb x r)) rooms taken)) in (made q.0 r q.1).1
       ]) in
       omega (arith, few, length-append rooms taken, as_many, count_cleared m.parties)

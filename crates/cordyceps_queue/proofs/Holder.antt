@@ -3,10 +3,10 @@ use Rattle.std.proofs.Common.{◌≡◌, ℕ, zero, suc, ◌<◌, ◌≤◌, ◌
 use native.Mathlib.Decide.{ℕ_discrete}
 use Rattle.cordyceps_queue.specs.QueueHistory.{Event}
 use Rattle.cordyceps_queue.specs.QueuePast.{held, holder, MayCome, IsSettled, IsPendingAt, IsBlocked, HasLooked, WasBlocked}
-use Rattle.cordyceps_queue.specs.declared.place.Place.{Place}
-use Rattle.cordyceps_queue.specs.declared.place.Place.TheVariants.{Rest, Cleared, Swapped, Holding}
-use Rattle.cordyceps_queue.specs.QueueWords.{put, Party, Words, stands}
-use Rattle.cordyceps_queue.specs.QueueMeets.{IsAt, real, rank, Owner, Owes, tail_of, Chain, IsOut, Rooms, Joined, Keeps, Fits, RightIs, Meets}
+use Rattle.cordyceps_queue.specs.declared.place.Stage.{Stage}
+use Rattle.cordyceps_queue.specs.declared.place.Stage.TheVariants.{Rest, Cleared, Swapped, Holding}
+use Rattle.cordyceps_queue.specs.QueueWords.{update, AbstractParty, AbstractMachine, stands}
+use Rattle.cordyceps_queue.specs.QueueMeets.{ItemAt, real, rank, Owner, Owes, tail_of, Chain, IsOut, OwnsRooms, Joined, Keeps, AtStage, RightIs, Meets}
 use Rattle.cordyceps_queue.proofs.Basics.{some_inj, some_none, none_some, suc_zero, put_same, put_all, at_one, at_within}
 use Rattle.cordyceps_queue.proofs.Growing.{held_length}
 use Rattle.cordyceps_queue.proofs.Parties.{joined_put, names_put, strange, keeps_of, has_none}
@@ -29,13 +29,13 @@ rank_within [] (suc i) = omega arith
 rank_within (zero ∷ xs) (suc i) = let l = rank_within xs i in omega arith
 rank_within (suc x ∷ xs) (suc i) = let l = rank_within xs i in omega arith
 
-pub at_some : (xs : List ℕ) (i : ℕ) → i < length xs → (x : ℕ) × IsAt xs i x
+pub at_some : (xs : List ℕ) (i : ℕ) → i < length xs → (x : ℕ) × ItemAt xs i x
 at_some [] i lt = absurd (omega arith)
 at_some (x ∷ xs) zero lt = (x, refl)
 at_some (x ∷ xs) (suc i) lt = at_some xs i (omega arith)
 
 -- the stub in front is no element
-stub_less : (xs : List ℕ) → IsAt xs 0 0 → suc (length (real xs)) ≤ length xs
+stub_less : (xs : List ℕ) → ItemAt xs 0 0 → suc (length (real xs)) ≤ length xs
 stub_less [] a = absurd a
 stub_less (zero ∷ xs) a = let l = real_within xs in omega arith
   where
@@ -52,33 +52,33 @@ no_items (x ∷ xs) e = absurd (suc_zero e)
 -- a party without the right, beside a change of the words and the history
 pub producer_moves : {P E : Type 0} (head head' : ℕ) (next next' : ℕ → Option ℕ) (cell : ℕ → Option E) (owner : ℕ → Owner) (keeper keeper' : Option ℕ) (rooms : List ℕ) (h h' : List (Event P E)) (j : ℕ) (q : P) →
     ((a : ℕ) → next a ≡ None → next' a ≡ None) → (IsSettled q h → IsSettled q h') → ((n : ℕ) → IsPendingAt q n h → IsPendingAt q n h') →
-    (place : Place) → tail_of place ≡ None → Fits head next cell owner keeper rooms h j q place → Fits head' next' cell owner keeper' rooms h' j q place
+    (place : Stage) → tail_of place ≡ None → AtStage head next cell owner keeper rooms h j q place → AtStage head' next' cell owner keeper' rooms h' j q place
 producer_moves head head' next next' cell owner keeper keeper' rooms h h' j q none settled pending Rest t f = settled f
 producer_moves head head' next next' cell owner keeper keeper' rooms h h' j q none settled pending (Cleared x) t f = (settled f.0, f.1, f.2, none x f.3, f.4, f.5)
 producer_moves head head' next next' cell owner keeper keeper' rooms h h' j q none settled pending (Swapped x old) t f = (f.0, f.1, f.2, f.3, none old f.4, pending (rank rooms (suc f.0)) f.5)
 producer_moves head head' next next' cell owner keeper keeper' rooms h h' j q none settled pending place t f = absurd (some_none t)
 
-right_zero : {P E : Type 0} (right : ℕ) (party : ℕ → Option (Party P)) (rooms : List ℕ) (h : List (Event P E)) (keeper : Option ℕ) (k : ℕ) → keeper ≡ Some k → RightIs right party rooms h keeper → right ≡ 0
+right_zero : {P E : Type 0} (right : ℕ) (party : ℕ → Option (AbstractParty P)) (rooms : List ℕ) (h : List (Event P E)) (keeper : Option ℕ) (k : ℕ) → keeper ≡ Some k → RightIs right party rooms h keeper → right ≡ 0
 right_zero right party rooms h None k e R = absurd (none_some e)
 right_zero right party rooms h (Some j) k e R = R.0
 
-module _ {P E : Type 0} (m : Words P E) (c : Chain) (h : List (Event P E)) (M : Meets m c h) (k : ℕ) (p : Party P) (at : m.party k ≡ Some p) (t : ℕ) (has : tail_of p.place ≡ Some t) where
+module _ {P E : Type 0} (m : AbstractMachine P E) (c : Chain) (h : List (Event P E)) (M : Meets m c h) (k : ℕ) (p : AbstractParty P) (at : m.party k ≡ Some p) (t : ℕ) (has : tail_of p.place ≡ Some t) where
   pub keeping : Keeps c.keeper c.rooms h k p.name t
   keeping = keeps_of m.head m.next m.cell c.owner c.keeper c.rooms h k p.name p.place t has (M.fits k p at)
 
   -- every other party is without the right
-  pub other_none : (j : ℕ) (q : Party P) → j ≢ k → m.party j ≡ Some q → tail_of q.place ≡ None
+  pub other_none : (j : ℕ) (q : AbstractParty P) → j ≢ k → m.party j ≡ Some q → tail_of q.place ≡ None
   other_none j q ne eq = has_none m.head m.next m.cell c.owner c.keeper c.rooms h j q.name q.place (tail_of q.place) refl (λ e. ne (some_inj (sym e ∙ keeping.kept))) (M.fits j q eq)
 
   zero_right : m.right ≡ 0
   zero_right = right_zero m.right m.party c.rooms h c.keeper k keeping.kept M.right
 
   -- the right stays with the party
-  pub right_with : (party : ℕ → Option (Party P)) (rooms : List ℕ) (h' : List (Event P E)) (q : Party P) (u : ℕ) → party k ≡ Some q → tail_of q.place ≡ Some u → holder h' ≡ Some q.name → RightIs m.right party rooms h' c.keeper
+  pub right_with : (party : ℕ → Option (AbstractParty P)) (rooms : List ℕ) (h' : List (Event P E)) (q : AbstractParty P) (u : ℕ) → party k ≡ Some q → tail_of q.place ≡ Some u → holder h' ≡ Some q.name → RightIs m.right party rooms h' c.keeper
   right_with party rooms h' q u e tail by = subst (RightIs m.right party rooms h') (sym keeping.kept) (zero_right, q, u, e, tail, by)
 
   -- only the place changes
-  pub place_keeps : (place : Place) → tail_of place ≡ Some t → ((a b : ℕ) → Owes p.place a b → Owes place a b) → Fits m.head m.next m.cell c.owner c.keeper c.rooms h k p.name place → Meets (stands m k p place) c h
+  pub place_keeps : (place : Stage) → tail_of place ≡ Some t → ((a b : ℕ) → Owes p.place a b → Owes place a b) → AtStage m.head m.next m.cell c.owner c.keeper c.rooms h k p.name place → Meets (stands m k p place) c h
   place_keeps place has' on mine = record {
     legal = M.legal;
     last = M.last;
@@ -89,14 +89,14 @@ module _ {P E : Type 0} (m : Words P E) (c : Chain) (h : List (Event P E)) (M : 
     stub = M.stub;
     unmade = M.unmade;
     holds = M.holds;
-    right = right_with (put m.party k (Some moved)) c.rooms h moved t (put_same m.party k (Some moved)) has' keeping.held_by;
-    fits = put_all (λ j q. Fits m.head m.next m.cell c.owner c.keeper c.rooms h j q.name q.place) m.party k moved (λ j q ne eq. M.fits j q eq) mine;
-    rooms = put_all (λ j q. Rooms c.owner j q.spare) m.party k moved (λ j q ne eq. M.rooms j q eq) (M.rooms k p at);
+    right = right_with (update m.party k (Some moved)) c.rooms h moved t (put_same m.party k (Some moved)) has' keeping.held_by;
+    fits = put_all (λ j q. AtStage m.head m.next m.cell c.owner c.keeper c.rooms h j q.name q.place) m.party k moved (λ j q ne eq. M.fits j q eq) mine;
+    rooms = put_all (λ j q. OwnsRooms c.owner j q.spare) m.party k moved (λ j q ne eq. M.rooms j q eq) (M.rooms k p at);
     names = names_put m.party k p moved at refl M.names;
     strangers = λ n away. M.strangers n (strange m.party k p moved at refl n away);
   }
     where
-      moved : Party P
+      moved : AbstractParty P
       moved = record p { place = place }
 
   -- only the history grows, by a look or an answer
@@ -115,7 +115,7 @@ module _ {P E : Type 0} (m : Words P E) (c : Chain) (h : List (Event P E)) (M : 
     fits = λ j q eq. elim (ℕ_discrete j k) [
       | yes same ↦
           let e : p ≡ q = some_inj (sym at ∙ ap m.party (sym same) ∙ eq) in
-          subst (λ (r : Party P). Fits m.head m.next m.cell c.owner c.keeper c.rooms (x ∷ h) j r.name r.place) e (subst (λ i. Fits m.head m.next m.cell c.owner c.keeper c.rooms (x ∷ h) i p.name p.place) (sym same) mine)
+          subst (λ (r : AbstractParty P). AtStage m.head m.next m.cell c.owner c.keeper c.rooms (x ∷ h) j r.name r.place) e (subst (λ i. AtStage m.head m.next m.cell c.owner c.keeper c.rooms (x ∷ h) i p.name p.place) (sym same) mine)
       | no ne ↦ producer_moves m.head m.head m.next m.next m.cell c.owner c.keeper c.keeper c.rooms h (x ∷ h) j q.name (λ a n. n) (settled q.name) (pending q.name) q.place (other_none j q ne eq) (M.fits j q eq)
     ];
     rooms = M.rooms;
@@ -123,13 +123,13 @@ module _ {P E : Type 0} (m : Words P E) (c : Chain) (h : List (Event P E)) (M : 
     strangers = λ n away. settled n (M.strangers n away);
   }
     where
-      mine : Fits m.head m.next m.cell c.owner c.keeper c.rooms (x ∷ h) k p.name p.place
-      mine = subst (Fits m.head m.next m.cell c.owner c.keeper c.rooms (x ∷ h) k p.name) (sym holding) (record { kept = keeping.kept; held_by = same_holder ∙ keeping.held_by; tail = keeping.tail; settled = settled p.name keeping.settled })
+      mine : AtStage m.head m.next m.cell c.owner c.keeper c.rooms (x ∷ h) k p.name p.place
+      mine = subst (AtStage m.head m.next m.cell c.owner c.keeper c.rooms (x ∷ h) k p.name) (sym holding) (record { kept = keeping.kept; held_by = same_holder ∙ keeping.held_by; tail = keeping.tail; settled = settled p.name keeping.settled })
 
   -- another party owes the link behind the tail
-  blocker : (j : ℕ) (q : P) (b : ℕ) (place : Place) → Owes place t b → tail_of place ≡ None → Fits m.head m.next m.cell c.owner c.keeper c.rooms h j q place → IsBlocked h
+  blocker : (j : ℕ) (q : P) (b : ℕ) (place : Stage) → Owes place t b → tail_of place ≡ None → AtStage m.head m.next m.cell c.owner c.keeper c.rooms h j q place → IsBlocked h
   blocker j q b (Swapped x old) o none f =
-      let first : f.0 ≡ 0 = M.once f.0 0 old f.1 (subst (IsAt c.rooms 0) o.0 keeping.tail) in
+      let first : f.0 ≡ 0 = M.once f.0 0 old f.1 (subst (ItemAt c.rooms 0) o.0 keeping.tail) in
       let l = rank_within c.rooms (suc f.0) in
       (q, rank c.rooms (suc f.0), omega arith, f.5)
   blocker j q b Rest o none f = absurd o
@@ -139,24 +139,24 @@ module _ {P E : Type 0} (m : Words P E) (c : Chain) (h : List (Event P E)) (M : 
   -- an open link behind the tail blocks
   pub open_blocks : ((a b : ℕ) → Owes p.place a b → ⊥) → m.next t ≡ None → m.head ≢ t → IsBlocked h
   open_blocks nothing null far =
-      let long : M.last.0 ≢ 0 = λ e. far (at_one c.rooms 0 m.head t (subst (λ i. IsAt c.rooms i m.head) e M.last.2) keeping.tail) in
+      let long : M.last.0 ≢ 0 = λ e. far (at_one c.rooms 0 m.head t (subst (λ i. ItemAt c.rooms i m.head) e M.last.2) keeping.tail) in
       let second = at_some c.rooms 1 (omega (arith, M.last.1)) in
       from second.0 (M.joined 0 t second.0 keeping.tail second.1)
     where
       from : (b : ℕ) → Joined m.next m.party t b → IsBlocked h
       from b (inl l) = absurd (some_none (sym l ∙ null))
       from b (inr o) = elim (ℕ_discrete o.1.0 k) [
-        | yes same ↦ let e : o.1.1 ≡ p = some_inj (sym o.1.2 ∙ ap m.party same ∙ at) in absurd (nothing t b (subst (λ (r : Party P). Owes r.place t b) e o.1.3))
+        | yes same ↦ let e : o.1.1 ≡ p = some_inj (sym o.1.2 ∙ ap m.party same ∙ at) in absurd (nothing t b (subst (λ (r : AbstractParty P). Owes r.place t b) e o.1.3))
         | no ne ↦ blocker o.1.0 o.1.1.name b o.1.1.place o.1.3 (other_none o.1.0 o.1.1 ne o.1.2) (M.fits o.1.0 o.1.1 o.1.2)
       ]
 
   -- where head is the tail, it is the only room
   only : m.head ≡ t → M.last.0 ≡ 0
-  only same = M.once M.last.0 0 t (subst (IsAt c.rooms M.last.0) same M.last.2) keeping.tail
+  only same = M.once M.last.0 0 t (subst (ItemAt c.rooms M.last.0) same M.last.2) keeping.tail
 
   pub none_held : t ≡ 0 → m.head ≡ t → held h ≡ []
   none_held stub same =
-      let l = stub_less c.rooms (subst (IsAt c.rooms 0) stub keeping.tail) in
+      let l = stub_less c.rooms (subst (ItemAt c.rooms 0) stub keeping.tail) in
       let e = only same in
       no_items (held h) (omega (arith, held_length m c h M, M.last.1))
 
@@ -164,4 +164,4 @@ module _ {P E : Type 0} (m : Words P E) (c : Chain) (h : List (Event P E)) (M : 
   stub_out real same i a =
       let l = at_within c.rooms i 0 a in let e = only same in
       let z : i ≡ 0 = omega (arith, M.last.1) in
-      real (at_one c.rooms 0 t 0 keeping.tail (subst (λ n. IsAt c.rooms n 0) z a))
+      real (at_one c.rooms 0 t 0 keeping.tail (subst (λ n. ItemAt c.rooms n 0) z a))

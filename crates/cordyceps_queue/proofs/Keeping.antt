@@ -2,14 +2,14 @@
 use Rattle.std.proofs.Common.{◌≡◌, ℕ, zero, suc, ◌≢◌, Bool, true, false, eqb, List, [], ◌∷◌, ◌++◌, Option, Some, None, refl, sym, ap, ◌∙◌, subst, inl, eqb-true, eq-eqb, true≢false}
 use Rattle.cordyceps_queue.specs.QueueHistory.{Event}
 use Rattle.cordyceps_queue.specs.QueuePast.{held, HasLooked, WasBlocked}
-use Rattle.cordyceps_queue.specs.declared.place.Place.{Place}
-use Rattle.cordyceps_queue.specs.declared.place.Place.TheVariants.{Rest, Cleared, Swapped, Holding, StubNull, Second, Null, PutClear, PutSwap, PutLink, PutRead}
+use Rattle.cordyceps_queue.specs.declared.place.Stage.{Stage}
+use Rattle.cordyceps_queue.specs.declared.place.Stage.TheVariants.{Rest, Cleared, Swapped, Holding, StubNull, Second, Null, PutClear, PutSwap, PutLink, PutRead}
 use Rattle.cordyceps_queue.specs.declared.steps.QueueStep.{QueueStep}
 use Rattle.cordyceps_queue.specs.declared.steps.QueueStep.TheVariants as step
 use Rattle.cordyceps_queue.specs.declared.steps.QueueAnswer.TheVariants as answer
-use Rattle.cordyceps_queue.specs.QueueWords.{Party, Words, Move, clears, swaps, takes, gives_out, reads, reads_stub, looks, reads_put, heads_stub, heads, act, act_of, stands}
-use Rattle.cordyceps_queue.specs.QueueMeets.{Owes, tail_of, Chain, Meets, Fits, Real}
-use Rattle.cordyceps_queue.specs.QueueKept.{Answered, StepKeeps}
+use Rattle.cordyceps_queue.specs.QueueWords.{AbstractParty, AbstractMachine, Move, clears, swaps, takes, gives_out, reads, reads_stub, looks, reads_put, heads_stub, heads, act, act_of, stands}
+use Rattle.cordyceps_queue.specs.QueueMeets.{Owes, tail_of, Chain, Meets, AtStage, Real}
+use Rattle.cordyceps_queue.specs.QueueKept.{SaysReversed, StepKeeps}
 use Rattle.cordyceps_queue.proofs.Basics.{some_inj, none_some, suc_zero, put_same}
 use Rattle.cordyceps_queue.proofs.Producers.{clear_keeps, chain_after_clear, swap_keeps, chain_after_swap, link_keeps, busy_keeps}
 use Rattle.cordyceps_queue.proofs.Holder.{was_now, keeping, place_keeps, tell_keeps, open_blocks, none_held, stub_out}
@@ -17,12 +17,12 @@ use Rattle.cordyceps_queue.proofs.Dequeue.{take_keeps, chain_after_take, give_ke
 use Rattle.cordyceps_queue.proofs.Stub.{clear_stub_keeps, swap_stub_keeps, chain_after_stub, link_stub_keeps}
 
 abbrev Kept : {P E : Type 0} → P → List (Event P E) → Move P E → Type 0
-Kept q h v = (c : Chain) × Meets v.after c (v.events ++ h) × Answered q v.answer h
+Kept q h v = (c : Chain) × Meets v.after c (v.events ++ h) × SaysReversed q v.answer h
 
 ne_of : (a b : ℕ) → eqb a b ≡ false → a ≢ b
 ne_of a b e s = true≢false (sym (eq-eqb a b s) ∙ e)
 
-module _ {P E : Type 0} (m : Words P E) (c : Chain) (k : ℕ) (p : Party P) (at : m.party k ≡ Some p) (v : Move P E) where
+module _ {P E : Type 0} (m : AbstractMachine P E) (c : Chain) (k : ℕ) (p : AbstractParty P) (at : m.party k ≡ Some p) (v : Move P E) where
   -- from a tail that is no stub
   gives_out_keep : (before h : List (Event P E)) (M : Meets m c (before ++ h)) → held (before ++ h) ≡ held h → (t r : ℕ) → tail_of p.place ≡ Some t → ((a b : ℕ) → Owes p.place a b → ⊥) → t ≢ 0 → m.next t ≡ Some r → (e : Option E) → m.cell t ≡ e → gives_out m k p t r e before ≡ Some v → Kept p.name h v
   gives_out_keep before h M same t r has nothing ne linked None full e = absurd (none_some e)
@@ -43,8 +43,8 @@ module _ {P E : Type 0} (m : Words P E) (c : Chain) (k : ℕ) (p : Party P) (at 
   reads_keep before h M same t has nothing ne looked (Some r) next e = gives_out_keep before h M same t r has nothing ne next (m.cell t) refl e
 
   module _ (h : List (Event P E)) (M : Meets m c h) where
-    fits_at : (place : Place) → p.place ≡ place → Fits m.head m.next m.cell c.owner c.keeper c.rooms h k p.name place
-    fits_at place e = subst (Fits m.head m.next m.cell c.owner c.keeper c.rooms h k p.name) e (M.fits k p at)
+    fits_at : (place : Stage) → p.place ≡ place → AtStage m.head m.next m.cell c.owner c.keeper c.rooms h k p.name place
+    fits_at place e = subst (AtStage m.head m.next m.cell c.owner c.keeper c.rooms h k p.name) e (M.fits k p at)
 
     clears_keep : p.place ≡ Rest → (x : E) (s : List ℕ) → p.spare ≡ s → clears m k p s x ≡ Some v → Kept p.name h v
     clears_keep rest x [] spare e = absurd (none_some e)
@@ -103,7 +103,7 @@ module _ {P E : Type 0} (m : Words P E) (c : Chain) (k : ℕ) (p : Party P) (at 
 
     heads_keep : (t : ℕ) → p.place ≡ Null t → (b : Bool) → eqb m.head t ≡ b → heads m k p t b ≡ Some v → Kept p.name h v
     heads_keep t place true same e =
-        let f : Fits m.head m.next m.cell c.owner c.keeper c.rooms h k p.name (Null t) = fits_at (Null t) place in
+        let f : AtStage m.head m.next m.cell c.owner c.keeper c.rooms h k p.name (Null t) = fits_at (Null t) place in
         subst (Kept p.name h) (some_inj e) (
           c,
           place_keeps m c h M k p at t (ap tail_of place) (PutClear t) refl (λ a b o. absurd (subst (λ l. Owes l a b) place o))
@@ -115,14 +115,14 @@ module _ {P E : Type 0} (m : Words P E) (c : Chain) (k : ℕ) (p : Party P) (at 
 
     reads_put_keep : (t : ℕ) → p.place ≡ PutRead t → (n : Option ℕ) → m.next t ≡ n → reads_put m k p t n ≡ Some v → Kept p.name h v
     reads_put_keep t place None next e =
-        let f : Fits m.head m.next m.cell c.owner c.keeper c.rooms h k p.name (PutRead t) = fits_at (PutRead t) place in
+        let f : AtStage m.head m.next m.cell c.owner c.keeper c.rooms h k p.name (PutRead t) = fits_at (PutRead t) place in
         let nothing : (a b : ℕ) → Owes p.place a b → ⊥ = λ a b o. subst (λ l. Owes l a b) place o in
         subst (Kept p.name h) (some_inj e) (fails_keep t (ap tail_of place) nothing (was_now p.name h f.0.looked (open_blocks m c h M k p at t (ap tail_of place) nothing next f.1)))
     reads_put_keep t place (Some r) next e =
-        let f : Fits m.head m.next m.cell c.owner c.keeper c.rooms h k p.name (PutRead t) = fits_at (PutRead t) place in
+        let f : AtStage m.head m.next m.cell c.owner c.keeper c.rooms h k p.name (PutRead t) = fits_at (PutRead t) place in
         gives_out_keep [] h M refl t r (ap tail_of place) (λ a b o. subst (λ l. Owes l a b) place o) f.0.is_real next (m.cell t) refl e
 
-    act_keeps : (place : Place) → p.place ≡ place → (s : QueueStep E) → act m k p place s ≡ Some v → Kept p.name h v
+    act_keeps : (place : Stage) → p.place ≡ place → (s : QueueStep E) → act m k p place s ≡ Some v → Kept p.name h v
     act_keeps Rest l (step.Clear (Some x)) e = clears_keep l x p.spare refl e
     act_keeps Rest l step.Take e = takes_keep l m.right refl e
     act_keeps (Cleared r) l step.Swap e = swaps_keep r l (m.cell r) refl e

@@ -3,22 +3,22 @@ use Rattle.std.proofs.Common.{◌≡◌, ◌≢◌, ℕ, suc, ◌+◌, ◌⊎◌
 use Rattle.std.proofs.lemmas.List.{reverse-append, reverse-reverse, append_cancel_left}
 use Rattle.std.proofs.Math.Seq.{drop-append_seam}
 use Rattle.cordyceps_queue.specs.QueueHistory as told
-use Rattle.cordyceps_queue.specs.QueueHistory.{Event, Swap, Link, Take, Busy, Look, Out, Empty, Free, one_if, swaps_by, links_by, looks_by, IsPending, MayFollow}
+use Rattle.cordyceps_queue.specs.QueueHistory.{Event, Swap, Link, Take, Busy, Look, Out, Empty, Free, one_if_dec, swaps_by, links_by, looks_by, IsPending, MayFollow}
 use Rattle.cordyceps_queue.specs.QueuePast as past
 use Rattle.cordyceps_queue.specs.QueuePast.{IsSettled, IsOpen, IsPendingAt, HasLooked, MayCome}
 use Rattle.cordyceps_queue.proofs.Counts.{reverse-cons, came-append, went-append, came-reverse, went-reverse, holder-reverse, swaps_by-append, links_by-append, swaps_by-reverse, links_by-reverse}
 use Rattle.cordyceps_queue.proofs.Runs.{in_order}
 
-pub one_same : {A : Type 0} (d : Dec A) → A → one_if d ≡ 1
+pub one_same : {A : Type 0} (d : Dec A) → A → one_if_dec d ≡ 1
 one_same (yes a) x = refl
 one_same (no n) x = absurd (n x)
 
-pub one_other : {A : Type 0} (d : Dec A) → (A → ⊥) → one_if d ≡ 0
+pub one_other : {A : Type 0} (d : Dec A) → (A → ⊥) → one_if_dec d ≡ 0
 one_other (yes a) n = absurd (n a)
 one_other (no m) n = refl
 
 -- no event more by the party
-pub not_by : {P : Type 0} (same : Discrete P) (q p : P) (n : ℕ) → one_if (same q p) + n ≡ 0 → q ≢ p
+pub not_by : {P : Type 0} (same : Discrete P) (q p : P) (n : ℕ) → one_if_dec (same q p) + n ≡ 0 → q ≢ p
 not_by same q p n e s = let z = one_same (same q p) s in omega arith
 
 module _ {P E : Type 0} where
@@ -60,7 +60,7 @@ module _ {P E : Type 0} where
       turned_split h before (x ∷ later) e ∙ ap (λ l. l ++ reverse before) (reverse-cons x later) ∙ append_assoc (reverse later) (x ∷ []) (reverse before)
 
 module _ {P E : Type 0} (same : Discrete P) where
-  counts_link : (h : List (Event P E)) (p q : P) → (IsOpen p h) → (IsOpen q h → suc (links_by same q h) ≡ swaps_by same q h) → q ≡ p → one_if (same q p) + links_by same q h ≡ swaps_by same q h
+  counts_link : (h : List (Event P E)) (p q : P) → (IsOpen p h) → (IsOpen q h → suc (links_by same q h) ≡ swaps_by same q h) → q ≡ p → one_if_dec (same q p) + links_by same q h ≡ swaps_by same q h
   counts_link h p q unlinked c e = let z = one_same (same q p) e in let r = c (subst (λ x. IsOpen x h) (sym e) unlinked) in omega arith
 
   -- the counts of a settled party, and of one with an unlinked swap

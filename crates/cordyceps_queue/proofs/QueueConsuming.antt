@@ -4,29 +4,29 @@ use mathlib.Core.Option.{some, none}
 use lib.ListN.{get_elem?}
 use Rattle.atomic_table.specs.Table.{keeps, carried_after, step, Allows}
 use Rattle.cordyceps_shared.specs.Shares.{Name}
-use Rattle.cordyceps_queue.specs.declared.place.Place.{Place}
-use Rattle.cordyceps_queue.specs.declared.place.Place.TheVariants.{Rest, Holding, Second}
+use Rattle.cordyceps_queue.specs.declared.place.Stage.{Stage}
+use Rattle.cordyceps_queue.specs.declared.place.Stage.TheVariants.{Rest, Holding, Second}
 use Rattle.cordyceps_queue.specs.QueueHistory.{Event}
-use Rattle.cordyceps_queue.specs.QueueMeets.{Owes, tail_of, Fits, Real, Meets}
-use Rattle.cordyceps_queue.specs.QueuePlays.{Sat, Near, carry, stands_at, hands_out}
+use Rattle.cordyceps_queue.specs.QueueMeets.{Owes, tail_of, AtStage, Real, Meets}
+use Rattle.cordyceps_queue.specs.QueuePlays.{SeatState, Near, carry, stands_at, hands_out}
 use Rattle.cordyceps_queue.specs.QueuePlays as play
-use Rattle.cordyceps_queue.specs.QueueRule.{Table, link_of, party, Kept}
+use Rattle.cordyceps_queue.specs.QueueRule.{TableState, link_of, party, RuleHolds}
 use Rattle.cordyceps_queue.specs.QueueView.{View, name}
-use Rattle.cordyceps_queue.specs.QueueWords.{Party, Words, put, set_right}
+use Rattle.cordyceps_queue.specs.QueueWords.{AbstractParty, AbstractMachine, update, set_right}
 use Rattle.cordyceps_queue.proofs.Basics.{some_inj, zero_suc, suc_zero, suc_inj}
 use Rattle.cordyceps_queue.proofs.Dequeue.{free_right, take_keeps, chain_after_take, give_keeps, chain_after_give}
 use Rattle.cordyceps_queue.proofs.Holder.{keeping, tell_keeps}
 use Rattle.cordyceps_queue.proofs.Producers.{busy_keeps}
 use Rattle.cordyceps_queue.proofs.QueueTables.{chain_near}
-use Rattle.cordyceps_queue.proofs.QueueReturning.{put_again, returned, returning}
-use Rattle.cordyceps_queue.proofs.QueueDequeuing.{n, gone, there, sees, rights, stood, same_rooms, Comes, Reading, reading}
+use Rattle.cordyceps_queue.proofs.QueueReturning.{put_again, view_returned, returning}
+use Rattle.cordyceps_queue.proofs.QueueDequeuing.{n, out_events, there, sees, rights, stood, same_rooms, Comes, ReadsTail, reading}
 
-module _ {E : Type 0} (s : Table E) (k : Kept s) (id : ℕ) (v : View E) (at : get_elem? s.views id ≡ some v) (named : v.known.share ≢ []) (bare : v.back ≡ []) where
-  abbrev core : Words Name E
+module _ {E : Type 0} (s : TableState E) (k : RuleHolds s) (id : ℕ) (v : View E) (at : get_elem? s.views id ≡ some v) (named : v.known.share ≢ []) (bare : v.back ≡ []) where
+  abbrev core : AbstractMachine Name E
   core = n s k id v at named bare
 
   abbrev gone_by : List (Event Name E)
-  gone_by = gone s k id v at named bare
+  gone_by = out_events s k id v at named bare
 
   is_there : core.party id ≡ Some (party v)
   is_there = there s k id v at named bare
@@ -40,7 +40,7 @@ module _ {E : Type 0} (s : Table E) (k : Kept s) (id : ℕ) (v : View E) (at : g
       count = length s.words - 2;
       next = λ r. link_of (get_or s.words (2 + r) 0);
       cell = k.cell;
-      party = (ap (λ (p : Party Name). put core.party id (Some p)) (λ i. record { name = name v; place = sym rest i; spare = v.back ++ v.free }) ∙ put_again core.party id (party v) is_there) j;
+      party = (ap (λ (p : AbstractParty Name). update core.party id (Some p)) (λ i. record { name = name v; place = sym rest i; spare = v.back ++ v.free }) ∙ put_again core.party id (party v) is_there) j;
     }
 
     takes_bare : (slots : ℕ) → length s.homes ≡ slots → (x : ℕ) → get_or s.words 1 0 ≡ x → Comes s k id v at named bare 1 0 (play.took (step slots 1 0 0 none) (v, []))
@@ -81,42 +81,42 @@ module _ {E : Type 0} (s : Table E) (k : Kept s) (id : ℕ) (v : View E) (at : g
         (give_keeps core k.chain gone_by k.meets id (party v) is_there t holding) (same_rooms s k id v at named bare) (λ q is. cc) in
         let same : suc t ≡ n' = omega arith in
         let w = sees s k id v at named bare (x ∷ []) v.free v.back Rest in
-        (w, keeps, tt, subst (λ q. Kept record { words = set s.words 1 q; homes = s.homes; views = set s.views id w }) same r.0, stood s k id v at named bare (x ∷ []) Rest r.1)
+        (w, keeps, tt, subst (λ q. RuleHolds record { words = set s.words 1 q; homes = s.homes; views = set s.views id w }) same r.0, stood s k id v at named bare (x ∷ []) Rest r.1)
 
-    looks_bare : t ≢ 0 → (i : ℕ) → i ≡ t + 2 → (slots : ℕ) → length s.homes ≡ slots → Comes s k id v at named bare i (get_or s.words i 0) (Reading s k id v at named bare (Event.Look (name v) ∷ []) slots t)
+    looks_bare : t ≢ 0 → (i : ℕ) → i ≡ t + 2 → (slots : ℕ) → length s.homes ≡ slots → Comes s k id v at named bare i (get_or s.words i 0) (ReadsTail s k id v at named bare (Event.Look (name v) ∷ []) slots t)
     looks_bare is_real i is slots deep = reading s k id v at named bare (Event.Look (name v) ∷ []) looked_on t i has nothing is_real (inl refl) is slots deep (get_or s.words i 0) refl
 
   module _ (t : ℕ) (behind : v.place ≡ Second t) where
     knows_tail : Real k.chain.keeper k.chain.rooms gone_by id (name v) t
-    knows_tail = subst (Fits core.head core.next core.cell k.chain.owner k.chain.keeper k.chain.rooms gone_by id (name v)) behind (k.meets.fits id (party v) is_there)
+    knows_tail = subst (AtStage core.head core.next core.cell k.chain.owner k.chain.keeper k.chain.rooms gone_by id (name v)) behind (k.meets.fits id (party v) is_there)
 
-    reads_bare : (i : ℕ) → i ≡ t + 2 → (slots : ℕ) → length s.homes ≡ slots → Comes s k id v at named bare i (get_or s.words i 0) (Reading s k id v at named bare [] slots t)
+    reads_bare : (i : ℕ) → i ≡ t + 2 → (slots : ℕ) → length s.homes ≡ slots → Comes s k id v at named bare i (get_or s.words i 0) (ReadsTail s k id v at named bare [] slots t)
     reads_bare i is slots deep = reading s k id v at named bare [] k.meets t i (ap tail_of behind) (λ a b o. subst (λ l. Owes l a b) behind o) knows_tail.is_real knows_tail.looked is slots deep (get_or s.words i 0) refl
 
 -- the tail of two places that are one
-same_tail : {p : Place} {t u : ℕ} → p ≡ Holding t → p ≡ Holding u → t ≡ u
+same_tail : {p : Stage} {t u : ℕ} → p ≡ Holding t → p ≡ Holding u → t ≡ u
 same_tail a b = some_inj (ap tail_of (sym a ∙ b))
 
-same_second : {p : Place} {t u : ℕ} → p ≡ Second t → p ≡ Second u → t ≡ u
+same_second : {p : Stage} {t u : ℕ} → p ≡ Second t → p ≡ Second u → t ≡ u
 same_second a b = some_inj (ap tail_of (sym a ∙ b))
 
-module _ {E : Type 0} (slots id : ℕ) (me : Sat E) (hand : me.1 ≡ carry me.0.back) (near : Near slots me.0.back) (named : me.0.known.share ≢ []) where
-  pub takes_right : me.0.place ≡ Rest → Allows Kept slots id me 1 (λ _. 0) (play.took (step slots 1 0 0 none) me)
+module _ {E : Type 0} (slots id : ℕ) (me : SeatState E) (hand : me.1 ≡ carry me.0.back) (near : Near slots me.0.back) (named : me.0.known.share ≢ []) where
+  pub takes_right : me.0.place ≡ Rest → Allows RuleHolds slots id me 1 (λ _. 0) (play.took (step slots 1 0 0 none) me)
   takes_right rest = returning slots id 1 me (λ _. 0) (play.took (step slots 1 0 0 none) me) hand near named
-      (λ s k deep at fits. takes_bare s k id (returned me.0) at named refl rest slots deep (get_or s.words 1 0) refl)
+      (λ s k deep at fits. takes_bare s k id (view_returned me.0) at named refl rest slots deep (get_or s.words 1 0) refl)
 
-  pub gives_right : (t n' : ℕ) → n' ≡ t + 1 → me.0.place ≡ Holding t → Allows Kept slots id me 1 (λ _. n') (λ _. play.gave (step slots 1 n' 0 none) me n')
+  pub gives_right : (t n' : ℕ) → n' ≡ t + 1 → me.0.place ≡ Holding t → Allows RuleHolds slots id me 1 (λ _. n') (λ _. play.gave (step slots 1 n' 0 none) me n')
   gives_right t n' is holding = returning slots id 1 me (λ _. n') (λ _. play.gave (step slots 1 n' 0 none) me n') hand near named
-      (λ s k deep at fits. let c = gives_bare s k id (returned me.0) at named refl t holding n' is in (c.0, c.1, c.2, c.3, λ _ _. c.4))
+      (λ s k deep at fits. let c = gives_bare s k id (view_returned me.0) at named refl t holding n' is in (c.0, c.1, c.2, c.3, λ _ _. c.4))
 
-  pub looks : (t i : ℕ) → i ≡ t + 2 → me.0.place ≡ Holding t → t ≢ 0 → Allows Kept slots id me i (λ x. x) (play.looked (step slots i 0 0 none) me)
+  pub looks : (t i : ℕ) → i ≡ t + 2 → me.0.place ≡ Holding t → t ≢ 0 → Allows RuleHolds slots id me i (λ x. x) (play.looked (step slots i 0 0 none) me)
   looks t i is holding is_real = returning slots id i me (λ x. x) (play.looked (step slots i 0 0 none) me) hand near named
       (λ s k deep at fits.
-      let c = looks_bare s k id (returned me.0) at named refl t holding is_real i is slots deep in
-      (c.0, c.1, c.2, c.3, λ u place ne. subst (λ q. Reading s k id (returned me.0) at named refl (Event.Look (name me.0) ∷ []) slots q (get_or s.words i 0) (c.0, carried_after [] c.1)) (same_tail holding place) c.4))
+      let c = looks_bare s k id (view_returned me.0) at named refl t holding is_real i is slots deep in
+      (c.0, c.1, c.2, c.3, λ u place ne. subst (λ q. ReadsTail s k id (view_returned me.0) at named refl (Event.Look (name me.0) ∷ []) slots q (get_or s.words i 0) (c.0, carried_after [] c.1)) (same_tail holding place) c.4))
 
-  pub reads_behind : (t i : ℕ) → i ≡ t + 2 → me.0.place ≡ Second t → Allows Kept slots id me i (λ x. x) (play.read (step slots i 0 0 none) me)
+  pub reads_behind : (t i : ℕ) → i ≡ t + 2 → me.0.place ≡ Second t → Allows RuleHolds slots id me i (λ x. x) (play.read (step slots i 0 0 none) me)
   reads_behind t i is behind = returning slots id i me (λ x. x) (play.read (step slots i 0 0 none) me) hand near named
       (λ s k deep at fits.
-      let c = reads_bare s k id (returned me.0) at named refl t behind i is slots deep in
-      (c.0, c.1, c.2, c.3, λ u place. subst (λ q. Reading s k id (returned me.0) at named refl [] slots q (get_or s.words i 0) (c.0, carried_after [] c.1)) (same_second behind place) c.4))
+      let c = reads_bare s k id (view_returned me.0) at named refl t behind i is slots deep in
+      (c.0, c.1, c.2, c.3, λ u place. subst (λ q. ReadsTail s k id (view_returned me.0) at named refl [] slots q (get_or s.words i 0) (c.0, carried_after [] c.1)) (same_second behind place) c.4))

@@ -5,16 +5,16 @@ use native.Mathlib.Decide.{ℕ_discrete}
 use lib.ListN.{get_elem?}
 use Rattle.atomic_table.specs.Table.{keeps, carried_after, stepped, step, Allows}
 use Rattle.cordyceps_shared.specs.Shares.{Name}
-use Rattle.cordyceps_queue.specs.declared.place.Place.{Place}
-use Rattle.cordyceps_queue.specs.declared.place.Place.TheVariants.{Cleared, Holding, StubNull, Second, Null, PutClear, PutSwap, PutLink, PutRead}
+use Rattle.cordyceps_queue.specs.declared.place.Stage.{Stage}
+use Rattle.cordyceps_queue.specs.declared.place.Stage.TheVariants.{Cleared, Holding, StubNull, Second, Null, PutClear, PutSwap, PutLink, PutRead}
 use Rattle.cordyceps_queue.specs.QueueHistory.{Event}
-use Rattle.cordyceps_queue.specs.QueueMeets.{IsAt, Owes, tail_of, Chain, Fits, Meets}
+use Rattle.cordyceps_queue.specs.QueueMeets.{ItemAt, Owes, tail_of, Chain, AtStage, Meets}
 use Rattle.cordyceps_queue.specs.QueuePast.{WasBlocked}
-use Rattle.cordyceps_queue.specs.QueuePlays.{Sat, Near, Sees, carry, stands_at, hands_out, Blocked}
+use Rattle.cordyceps_queue.specs.QueuePlays.{SeatState, Near, Sees, carry, stands_at, hands_out, Blocked}
 use Rattle.cordyceps_queue.specs.QueuePlays as play
-use Rattle.cordyceps_queue.specs.QueueRule.{Table, link_of, machine_of, Full, party, Kept}
+use Rattle.cordyceps_queue.specs.QueueRule.{TableState, link_of, machine_of, FullAtHome, party, RuleHolds}
 use Rattle.cordyceps_queue.specs.QueueView.{View, name}
-use Rattle.cordyceps_queue.specs.QueueWords.{Words, stands, clear_stub, swap_head, link_next}
+use Rattle.cordyceps_queue.specs.QueueWords.{AbstractMachine, stands, clear_stub, swap_head, link_next}
 use Rattle.cordyceps_queue.proofs.Basics.{some_inj, zero_suc, suc_zero, suc_inj, put_same, at_split}
 use Rattle.cordyceps_queue.proofs.Dequeue.{pass_keeps, chain_after_pass}
 use Rattle.cordyceps_queue.proofs.Holder.{was_now, keeping, place_keeps, tell_keeps, open_blocks, none_held, stub_out}
@@ -22,25 +22,25 @@ use Rattle.cordyceps_queue.proofs.Shrinking.{second}
 use Rattle.cordyceps_queue.proofs.Stub.{clear_stub_keeps, swap_stub_keeps, chain_after_stub, link_stub_keeps}
 use Rattle.cordyceps_queue.proofs.QueueTables.{links_put, links_same, keeps_rule, empties_same, readies_same, chain_near, head_near}
 use Rattle.cordyceps_queue.proofs.QueueEnqueuing.{views_put, wide_words}
-use Rattle.cordyceps_queue.proofs.QueueReturning.{returned, returning}
-use Rattle.cordyceps_queue.proofs.QueueDequeuing.{n, gone, there, sees, reads, stood, blocked, same_rooms, less_rooms, hands, Comes}
+use Rattle.cordyceps_queue.proofs.QueueReturning.{view_returned, returning}
+use Rattle.cordyceps_queue.proofs.QueueDequeuing.{n, out_events, there, sees, reads, stood, blocked, same_rooms, less_rooms, hands, Comes}
 use Rattle.cordyceps_queue.proofs.QueueConsuming.{looked_on}
 
-module _ {E : Type 0} (s : Table E) (k : Kept s) (id : ℕ) (v : View E) (at : get_elem? s.views id ≡ some v) (named : v.known.share ≢ []) (bare : v.back ≡ []) where
-  abbrev core : Words Name E
+module _ {E : Type 0} (s : TableState E) (k : RuleHolds s) (id : ℕ) (v : View E) (at : get_elem? s.views id ≡ some v) (named : v.known.share ≢ []) (bare : v.back ≡ []) where
+  abbrev core : AbstractMachine Name E
   core = n s k id v at named bare
 
   abbrev past : List (Event Name E)
-  past = gone s k id v at named bare
+  past = out_events s k id v at named bare
 
   is_there : core.party id ≡ Some (party v)
   is_there = there s k id v at named bare
 
-  abbrev view : List (Event Name E) → Place → View E
+  abbrev view : List (Event Name E) → Stage → View E
   view es place = sees s k id v at named bare es v.free v.back place
 
-  fits_at : (place : Place) → v.place ≡ place → Fits core.head core.next core.cell k.chain.owner k.chain.keeper k.chain.rooms past id (name v) place
-  fits_at place e = subst (Fits core.head core.next core.cell k.chain.owner k.chain.keeper k.chain.rooms past id (name v)) e (k.meets.fits id (party v) is_there)
+  fits_at : (place : Stage) → v.place ≡ place → AtStage core.head core.next core.cell k.chain.owner k.chain.keeper k.chain.rooms past id (name v) place
+  fits_at place e = subst (AtStage core.head core.next core.cell k.chain.owner k.chain.keeper k.chain.rooms past id (name v)) e (k.meets.fits id (party v) is_there)
 
   -- back to Holding, with nothing handed out
   fails : (t i : ℕ) → tail_of v.place ≡ Some t → ((a b : ℕ) → Owes v.place a b → ⊥) → WasBlocked (name v) past → Comes s k id v at named bare i (get_or s.words i 0) (λ _ z. stands_at [] (Holding t) (v, []) z × Blocked z.0)
@@ -57,7 +57,7 @@ module _ {E : Type 0} (s : Table E) (k : Kept s) (id : ℕ) (v : View E) (at : g
     looked : Meets core k.chain (look ∷ past)
     looked = looked_on s k id v at named bare 0 holding
 
-    tail_at : IsAt k.chain.rooms 0 0
+    tail_at : ItemAt k.chain.rooms 0 0
     tail_at = (keeping core k.chain past k.meets id (party v) is_there 0 (ap tail_of holding)).tail
 
     looks_stub_bare : (slots : ℕ) → length s.homes ≡ slots → (x : ℕ) → get_or s.words 2 0 ≡ x → Comes s k id v at named bare 2 (get_or s.words 2 0) (play.looked_stub (step slots 2 0 0 none) (v, []))
@@ -77,7 +77,7 @@ module _ {E : Type 0} (s : Table E) (k : Kept s) (id : ℕ) (v : View E) (at : g
         let o = reads s k id v at named bare (look ∷ []) (Second r) (chain_after_pass core k.chain (look ∷ past) looked id (party v) is_there r holding linked (inl refl)) met (less_rooms s k id v at named bare) (λ q is. cc) 2 in
         let at_second = second core k.chain past k.meets 0 r tail_at linked in
         let near = chain_near s k 1 r at_second in
-        let ne : r ≢ 0 = λ z. zero_suc (k.meets.once 0 1 0 tail_at (subst (IsAt k.chain.rooms 1) z at_second)) in
+        let ne : r ≢ 0 = λ z. zero_suc (k.meets.once 0 1 0 tail_at (subst (ItemAt k.chain.rooms 1) z at_second)) in
         let w = view (look ∷ []) (Second r) in (
           w,
           keeps,
@@ -104,7 +104,7 @@ module _ {E : Type 0} (s : Table E) (k : Kept s) (id : ℕ) (v : View E) (at : g
 
   module _ (t : ℕ) (at_null : v.place ≡ Null t) where
     -- what the read of head tells
-    HeadTells : ℕ → Sat E → Type 0
+    HeadTells : ℕ → SeatState E → Type 0
     HeadTells found z = (found ≡ t → stands_at [] (PutClear t) (v, []) z) × (found ≢ t → stands_at [] (Holding t) (v, []) z × Blocked z.0)
 
     heads_bare : Dec (get_or s.words 0 0 ≡ t) → Comes s k id v at named bare 0 (get_or s.words 0 0) HeadTells
@@ -121,8 +121,8 @@ module _ {E : Type 0} (s : Table E) (k : Kept s) (id : ℕ) (v : View E) (at : g
 
   -- ---- the stub is put in
   -- a step that changes one word and no slot
-  stores : (place : Place) (chain : Chain) (next : Words Name E) (i x : ℕ) → next ≡ machine_of k.cell (set s.words i x) (set s.views id (view [] place)) → Meets next chain past → Full s.homes k.cell chain.rooms → ((q : ℕ) → place ≡ Cleared q → ⊥)
-      → Kept record { words = set s.words i x; homes = s.homes; views = set s.views id (view [] place) } × Sees v [] (view [] place)
+  stores : (place : Stage) (chain : Chain) (next : AbstractMachine Name E) (i x : ℕ) → next ≡ machine_of k.cell (set s.words i x) (set s.views id (view [] place)) → Meets next chain past → FullAtHome s.homes k.cell chain.rooms → ((q : ℕ) → place ≡ Cleared q → ⊥)
+      → RuleHolds record { words = set s.words i x; homes = s.homes; views = set s.views id (view [] place) } × Sees v [] (view [] place)
   stores place chain next i x same met full away =
       keeps_rule s k id [] v (view [] place) (set s.words i x) s.homes k.cell chain next at named refl same met (length-set s.words i x) refl full (empties_same s k id (view [] place) (k.empty id v at named)) (readies_same s k id (view [] place) away)
 
@@ -158,7 +158,7 @@ module _ {E : Type 0} (s : Table E) (k : Kept s) (id : ℕ) (v : View E) (at : g
         party = views_put s k id v at named (view [] (PutLink t (get_or s.words 0 0))) named j;
       }
 
-      full : Full s.homes k.cell (k.chain.rooms ++ 0 ∷ [])
+      full : FullAtHome s.homes k.cell (k.chain.rooms ++ 0 ∷ [])
       full i x ix ne = elim (at_split k.chain.rooms 0 i x ix) [ inl a ↦ k.full i x a ne | inr a ↦ absurd (ne a.1) ]
 
   links_stub_bare : (t old : ℕ) → v.place ≡ PutLink t old → old < length s.homes → Comes s k id v at named bare (2 + old) 1 (λ _. stands_at [] (PutRead t) (v, []))
@@ -178,7 +178,7 @@ module _ {E : Type 0} (s : Table E) (k : Kept s) (id : ℕ) (v : View E) (at : g
 
   -- the read after it
   module _ (t : ℕ) (at_put : v.place ≡ PutRead t) where
-    RereadTells : ℕ → ℕ → Sat E → Type 0
+    RereadTells : ℕ → ℕ → SeatState E → Type 0
     RereadTells slots found z = (found ≡ 0 → stands_at [] (Holding t) (v, []) z × Blocked z.0) × ((r : ℕ) → found ≡ suc r → hands_out [] slots t r (v, []) z)
 
     rereads_bare : (slots : ℕ) → length s.homes ≡ slots → (i : ℕ) → i ≡ t + 2 → (x : ℕ) → get_or s.words i 0 ≡ x → Comes s k id v at named bare i (get_or s.words i 0) (RereadTells slots)
@@ -197,66 +197,66 @@ module _ {E : Type 0} (s : Table E) (k : Kept s) (id : ℕ) (v : View E) (at : g
         let c = hands s k id v at named bare [] k.meets t r i (ap tail_of at_put) (λ a b o. subst (λ l. Owes l a b) at_put o) f.0.is_real linked slots deep in
         (c.0, c.1, c.2, c.3, ((λ g. absurd (suc_zero (sym e ∙ g))), λ r' g. subst (λ q. hands_out [] slots t q (v, []) (c.0, carried_after [] c.1)) (suc_inj (sym e ∙ g)) c.4))
 
-same_null : {p : Place} {t u : ℕ} → p ≡ Null t → p ≡ Null u → t ≡ u
+same_null : {p : Stage} {t u : ℕ} → p ≡ Null t → p ≡ Null u → t ≡ u
 same_null a b = some_inj (ap tail_of (sym a ∙ b))
 
-same_put : {p : Place} {t u : ℕ} → p ≡ PutRead t → p ≡ PutRead u → t ≡ u
+same_put : {p : Stage} {t u : ℕ} → p ≡ PutRead t → p ≡ PutRead u → t ≡ u
 same_put a b = some_inj (ap tail_of (sym a ∙ b))
 
-same_clear : {p : Place} {t u : ℕ} → p ≡ PutClear t → p ≡ PutClear u → t ≡ u
+same_clear : {p : Stage} {t u : ℕ} → p ≡ PutClear t → p ≡ PutClear u → t ≡ u
 same_clear a b = some_inj (ap tail_of (sym a ∙ b))
 
-same_swap : {p : Place} {t u : ℕ} → p ≡ PutSwap t → p ≡ PutSwap u → t ≡ u
+same_swap : {p : Stage} {t u : ℕ} → p ≡ PutSwap t → p ≡ PutSwap u → t ≡ u
 same_swap a b = some_inj (ap tail_of (sym a ∙ b))
 
-same_link : {p : Place} {t u a b : ℕ} → p ≡ PutLink t a → p ≡ PutLink u b → t ≡ u
+same_link : {p : Stage} {t u a b : ℕ} → p ≡ PutLink t a → p ≡ PutLink u b → t ≡ u
 same_link a b = some_inj (ap tail_of (sym a ∙ b))
 
-module _ {E : Type 0} (slots id : ℕ) (me : Sat E) (hand : me.1 ≡ carry me.0.back) (near : Near slots me.0.back) (named : me.0.known.share ≢ []) where
-  pub looks_stub : me.0.place ≡ Holding 0 → Allows Kept slots id me 2 (λ x. x) (play.looked_stub (step slots 2 0 0 none) me)
+module _ {E : Type 0} (slots id : ℕ) (me : SeatState E) (hand : me.1 ≡ carry me.0.back) (near : Near slots me.0.back) (named : me.0.known.share ≢ []) where
+  pub looks_stub : me.0.place ≡ Holding 0 → Allows RuleHolds slots id me 2 (λ x. x) (play.looked_stub (step slots 2 0 0 none) me)
   looks_stub holding = returning slots id 2 me (λ x. x) (play.looked_stub (step slots 2 0 0 none) me) hand near named
-      (λ s k deep at fits. looks_stub_bare s k id (returned me.0) at named refl holding slots deep (get_or s.words 2 0) refl)
+      (λ s k deep at fits. looks_stub_bare s k id (view_returned me.0) at named refl holding slots deep (get_or s.words 2 0) refl)
 
-  pub heads_stub : me.0.place ≡ StubNull → Allows Kept slots id me 0 (λ x. x) (play.headed_stub (step slots 0 0 0 none) me)
+  pub heads_stub : me.0.place ≡ StubNull → Allows RuleHolds slots id me 0 (λ x. x) (play.headed_stub (step slots 0 0 0 none) me)
   heads_stub at_null = returning slots id 0 me (λ x. x) (play.headed_stub (step slots 0 0 0 none) me) hand near named
-      (λ s k deep at fits. heads_stub_bare s k id (returned me.0) at named refl at_null slots (ℕ_discrete (get_or s.words 0 0) 0))
+      (λ s k deep at fits. heads_stub_bare s k id (view_returned me.0) at named refl at_null slots (ℕ_discrete (get_or s.words 0 0) 0))
 
-  HeadFacts : ℕ → ℕ → Sat E → Type 0
+  HeadFacts : ℕ → ℕ → SeatState E → Type 0
   HeadFacts t found z = (found ≡ t → stands_at [] (PutClear t) me z) × (found ≢ t → stands_at [] (Holding t) me z × Blocked z.0)
 
-  RereadFacts : ℕ → ℕ → Sat E → Type 0
+  RereadFacts : ℕ → ℕ → SeatState E → Type 0
   RereadFacts t found z = (found ≡ 0 → stands_at [] (Holding t) me z × Blocked z.0) × ((r : ℕ) → found ≡ suc r → hands_out [] slots t r me z)
 
-  pub heads : (t : ℕ) → me.0.place ≡ Null t → Allows Kept slots id me 0 (λ x. x) (play.headed (step slots 0 0 0 none) me)
+  pub heads : (t : ℕ) → me.0.place ≡ Null t → Allows RuleHolds slots id me 0 (λ x. x) (play.headed (step slots 0 0 0 none) me)
   unfolding HeadTells HeadFacts
   heads t at_null = returning slots id 0 me (λ x. x) (play.headed (step slots 0 0 0 none) me) hand near named
       (λ s k deep at fits.
-      let c = heads_bare s k id (returned me.0) at named refl t at_null (ℕ_discrete (get_or s.words 0 0) t) in
+      let c = heads_bare s k id (view_returned me.0) at named refl t at_null (ℕ_discrete (get_or s.words 0 0) t) in
       (c.0, c.1, c.2, c.3, λ u place. subst (λ q. HeadFacts q (get_or s.words 0 0) (c.0, carried_after [] c.1)) (same_null at_null place) c.4))
 
-  pub rereads : (t i : ℕ) → i ≡ t + 2 → me.0.place ≡ PutRead t → Allows Kept slots id me i (λ x. x) (play.reread (step slots i 0 0 none) me)
+  pub rereads : (t i : ℕ) → i ≡ t + 2 → me.0.place ≡ PutRead t → Allows RuleHolds slots id me i (λ x. x) (play.reread (step slots i 0 0 none) me)
   unfolding RereadTells RereadFacts
   rereads t i is at_put = returning slots id i me (λ x. x) (play.reread (step slots i 0 0 none) me) hand near named
       (λ s k deep at fits.
-      let c = rereads_bare s k id (returned me.0) at named refl t at_put slots deep i is (get_or s.words i 0) refl in
+      let c = rereads_bare s k id (view_returned me.0) at named refl t at_put slots deep i is (get_or s.words i 0) refl in
       (c.0, c.1, c.2, c.3, λ u place. subst (λ q. RereadFacts q (get_or s.words i 0) (c.0, carried_after [] c.1)) (same_put at_put place) c.4))
 
-  pub clears_stub : (t : ℕ) → me.0.place ≡ PutClear t → Allows Kept slots id me 2 (λ _. 0) (λ _. play.cleared_stub (step slots 2 0 0 none) me 0)
+  pub clears_stub : (t : ℕ) → me.0.place ≡ PutClear t → Allows RuleHolds slots id me 2 (λ _. 0) (λ _. play.cleared_stub (step slots 2 0 0 none) me 0)
   clears_stub t l = returning slots id 2 me (λ _. 0) (λ _. play.cleared_stub (step slots 2 0 0 none) me 0) hand near named
       (λ s k deep at fits.
-      let c = clears_stub_bare s k id (returned me.0) at named refl t l in
+      let c = clears_stub_bare s k id (view_returned me.0) at named refl t l in
       (c.0, c.1, c.2, c.3, λ u place. subst (λ q. stands_at [] (PutSwap q) me (c.0, carried_after [] c.1)) (same_clear l place) c.4))
 
-  pub swaps_stub : (t : ℕ) → me.0.place ≡ PutSwap t → Allows Kept slots id me 0 (λ _. 0) (play.swapped_stub (step slots 0 0 0 none) me)
+  pub swaps_stub : (t : ℕ) → me.0.place ≡ PutSwap t → Allows RuleHolds slots id me 0 (λ _. 0) (play.swapped_stub (step slots 0 0 0 none) me)
   swaps_stub t l = returning slots id 0 me (λ _. 0) (play.swapped_stub (step slots 0 0 0 none) me) hand near named
       (λ s k deep at fits.
-      let c = swaps_stub_bare s k id (returned me.0) at named refl t l in
+      let c = swaps_stub_bare s k id (view_returned me.0) at named refl t l in
       let h = head_near s k in
       (c.0, c.1, c.2, c.3, λ u place. (subst (λ q. stands_at [] (PutLink q (get_or s.words 0 0)) me (c.0, carried_after [] c.1)) (same_swap l place) c.4, omega arith)))
 
-  pub links_stub : (t old i : ℕ) → i ≡ old + 2 → old < slots → me.0.place ≡ PutLink t old → Allows Kept slots id me i (λ _. 1) (λ _. play.linked_stub (step slots i 1 0 none) me 1)
+  pub links_stub : (t old i : ℕ) → i ≡ old + 2 → old < slots → me.0.place ≡ PutLink t old → Allows RuleHolds slots id me i (λ _. 1) (λ _. play.linked_stub (step slots i 1 0 none) me 1)
   links_stub t old i is inside l = returning slots id i me (λ _. 1) (λ _. play.linked_stub (step slots i 1 0 none) me 1) hand near named
       (λ s k deep at fits.
-      let c = links_stub_bare s k id (returned me.0) at named refl t old l (omega arith) in
+      let c = links_stub_bare s k id (view_returned me.0) at named refl t old l (omega arith) in
       let sum : 2 + old ≡ i = omega arith in
-      (c.0, c.1, c.2, subst (λ (q : ℕ). Kept (stepped s q 1 id [] c.0 c.1)) sum c.3, λ u o place. subst (λ q. stands_at [] (PutRead q) me (c.0, carried_after [] c.1)) (same_link l place) c.4))
+      (c.0, c.1, c.2, subst (λ (q : ℕ). RuleHolds (stepped s q 1 id [] c.0 c.1)) sum c.3, λ u o place. subst (λ q. stands_at [] (PutRead q) me (c.0, carried_after [] c.1)) (same_link l place) c.4))

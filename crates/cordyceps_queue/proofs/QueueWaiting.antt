@@ -13,14 +13,14 @@ module _ {E : Type 0} (Fails : PartyOf E → PartyOf E → Type 0) where
   FailsTo w u v = Fails u v × (w ≡ v)
 
   -- so many tries that failed as it took to get here, of a whole party none
-  abbrev pub Trying : PartyOf E → PartyOf E → Type 0
-  Trying u v = (tries : List (PartyOf E)) × Run FailsTo u tries v × (u.share ≡ whole → tries ≡ [])
+  abbrev pub FailedTries : PartyOf E → PartyOf E → Type 0
+  FailedTries u v = (tries : List (PartyOf E)) × Run FailsTo u tries v × (u.share ≡ whole → tries ≡ [])
 
-  pub trying_more : (u v w : PartyOf E) → Trying u v → Fails v w → (u.share ≡ whole → ⊥) → Trying u w
+  pub trying_more : (u v w : PartyOf E) → FailedTries u v → Fails v w → (u.share ≡ whole → ⊥) → FailedTries u w
   trying_more u v w t f part = (t.0 ++ w ∷ [], run_more FailsTo u t.0 v w w t.1 (f, refl), λ is. absurd (part is))
 
   -- a whole party's first try is its last
-  pub at_first : (u v : PartyOf E) → Trying u v → u.share ≡ whole → u ≡ v
+  pub at_first : (u v : PartyOf E) → FailedTries u v → u.share ≡ whole → u ≡ v
   at_first u v t is = subst (λ ws. Run FailsTo u ws v) (t.2 is) t.1
 
   pub retries : (u : PartyOf E) (tries : List (PartyOf E)) (v : PartyOf E) → Run FailsTo u tries v → Retries Fails u tries v

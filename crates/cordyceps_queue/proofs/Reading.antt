@@ -5,7 +5,7 @@ use mathlib.Core.Path.{fun_ext}
 use native.Mathlib.Decide.{ℕ_discrete}
 use Rattle.cordyceps_queue.specs.declared.room.Room.{Room}
 use Rattle.cordyceps_queue.specs.QueueMachine.{change, stub_room, element_in}
-use Rattle.cordyceps_queue.specs.QueueWords.{put}
+use Rattle.cordyceps_queue.specs.QueueWords.{update}
 use Rattle.cordyceps_queue.proofs.Basics.{none_some, put_same, put_other}
 
 module _ {X : Type 0} where
@@ -82,9 +82,9 @@ read get xs j = get (slice_get xs j)
 
 module _ {X A : Type 0} (get : Option X → A) where
   -- what is read of a list that changed at one place
-  pub read_changed : (f : X → X) (xs : List X) (r : ℕ) (y : X) → slice_get xs r ≡ Some y → read get (change f r xs) ≡ put (read get xs) r (get (Some (f y)))
+  pub read_changed : (f : X → X) (xs : List X) (r : ℕ) (y : X) → slice_get xs r ≡ Some y → read get (change f r xs) ≡ update (read get xs) r (get (Some (f y)))
   read_changed f xs r y h = fun_ext (λ j. elim (ℕ_discrete j r) [
-    | yes same ↦ subst (λ i. read get (change f r xs) i ≡ put (read get xs) r (get (Some (f y))) i) (sym same)
+    | yes same ↦ subst (λ i. read get (change f r xs) i ≡ update (read get xs) r (get (Some (f y))) i) (sym same)
         (ap get (get_change_same f xs r y h) ∙ sym (put_same (read get xs) r (get (Some (f y)))))
     | no ne ↦ ap get (get_change_other f xs r j ne) ∙ sym (put_other (read get xs) r (get (Some (f y))) j ne)
   ])

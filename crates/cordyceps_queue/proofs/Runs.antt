@@ -2,7 +2,7 @@
 use Rattle.std.proofs.Common.{◌≡◌, ℕ, zero, suc, ◌≤◌, [], ◌∷◌, ◌++◌, drop, None, refl, sym, ap, ◌∙◌, append_assoc, arith}
 use Rattle.cordyceps_queue.specs.QueueHistory.{Event}
 use Rattle.cordyceps_queue.specs.QueuePast.{held, went}
-use Rattle.cordyceps_queue.specs.QueueMeets.{IsAt, Owner, Shared, Unmade}
+use Rattle.cordyceps_queue.specs.QueueMeets.{ItemAt, Owner, Shared, Unmade}
 use Rattle.cordyceps_queue.specs.QueueKept.{InOrder, NewMeets}
 use Rattle.cordyceps_queue.proofs.Basics.{none_some}
 
@@ -23,7 +23,7 @@ abbrev new_owner : ℕ → Owner
 new_owner zero = Shared
 new_owner (suc r) = Unmade
 
-stub_alone : (i r : ℕ) → IsAt (0 ∷ []) i r → (i ≡ 0) × (r ≡ 0)
+stub_alone : (i r : ℕ) → ItemAt (0 ∷ []) i r → (i ≡ 0) × (r ≡ 0)
 stub_alone zero r a = (refl, a)
 stub_alone (suc i) r a = absurd a
 
@@ -48,7 +48,7 @@ new_meets P E = (
   },
 )
   where
-    none_follows : (i b : ℕ) → IsAt (0 ∷ []) (suc i) b → ⊥
+    none_follows : (i b : ℕ) → ItemAt (0 ∷ []) (suc i) b → ⊥
     none_follows i b a = a
 
     is_unmade : (r : ℕ) → 1 ≤ r → new_owner r ≡ Unmade

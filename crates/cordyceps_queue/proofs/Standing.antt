@@ -2,11 +2,11 @@
 use Rattle.std.proofs.Common.{◌≡◌, ◌≢◌, ℕ, zero, suc, ◌<◌, ◌≤◌, ◌⊎◌, List, [], ◌∷◌, length, reverse, refl, ap, sym, inl, inr, arith}
 use Rattle.std.specs.Prelude.{Some, slice_get}
 use Rattle.std.proofs.lemmas.Bool.{cases_lt}
-use Rattle.cordyceps_queue.specs.declared.place.Place.{Place}
-use Rattle.cordyceps_queue.specs.declared.place.Place.TheVariants.{Rest, Swapped, Holding, Second, PutLink, PutRead}
+use Rattle.cordyceps_queue.specs.declared.place.Stage.{Stage}
+use Rattle.cordyceps_queue.specs.declared.place.Stage.TheVariants.{Rest, Swapped, Holding, Second, PutLink, PutRead}
 use Rattle.cordyceps_queue.specs.QueueMachine.{Machine, first_of, least_free, free_rooms, element_in}
-use Rattle.cordyceps_queue.specs.QueueMeets.{IsAt, tail_of, Shared, Spare, Unmade}
-use Rattle.cordyceps_queue.specs.QueueCore.{party_at, words_of, IsSound}
+use Rattle.cordyceps_queue.specs.QueueMeets.{ItemAt, tail_of, Shared, Spare, Unmade}
+use Rattle.cordyceps_queue.specs.QueueCore.{party_at, abstract_of, IsSound}
 use Rattle.cordyceps_queue.proofs.Basics.{none_some}
 use Rattle.cordyceps_queue.proofs.Holder.{keeping}
 use Rattle.cordyceps_queue.proofs.Producers.{shared_unmade, spare_shared, spare_unmade}
@@ -26,15 +26,15 @@ module _ {E : Type 0} where
   shared_within m s r e = made_within m s r (λ u. shared_unmade e u)
 
   module _ (m : Machine E) (s : IsSound m) (p : ℕ) where
-    tail_at : (place : Place) → slice_get m.parties p ≡ Some place → (t : ℕ) → tail_of place ≡ Some t → IsAt s.1.chain.rooms 0 t
-    tail_at place at t has = (keeping (words_of m) s.1.chain (reverse s.0) s.1.meets p (me_of m p place) (ap (party_at m.rooms p) at) t has).tail
+    tail_at : (place : Stage) → slice_get m.parties p ≡ Some place → (t : ℕ) → tail_of place ≡ Some t → ItemAt s.1.chain.rooms 0 t
+    tail_at place at t has = (keeping (abstract_of m) s.1.chain (reverse s.0) s.1.meets p (me_of m p place) (ap (party_at m.rooms p) at) t has).tail
 
-    pub tail_within : (place : Place) → slice_get m.parties p ≡ Some place → (t : ℕ) → tail_of place ≡ Some t → t < length m.rooms
+    pub tail_within : (place : Stage) → slice_get m.parties p ≡ Some place → (t : ℕ) → tail_of place ≡ Some t → t < length m.rooms
     tail_within place at t has = shared_within m s t (s.1.meets.shared 0 t (tail_at place at t has))
 
     -- a tail that is not the stub has its element
-    full : (place : Place) → slice_get m.parties p ≡ Some place → (t : ℕ) → tail_of place ≡ Some t → t ≢ 0 → (e : E) × (element_in (slice_get m.rooms t) ≡ Some e)
-    full place at t has ne = let w = tail_full (words_of m) s.1.chain (reverse s.0) s.1.meets t ne (tail_at place at t has) in (w.0, w.3)
+    full : (place : Stage) → slice_get m.parties p ≡ Some place → (t : ℕ) → tail_of place ≡ Some t → t ≢ 0 → (e : E) × (element_in (slice_get m.rooms t) ≡ Some e)
+    full place at t has ne = let w = tail_full (abstract_of m) s.1.chain (reverse s.0) s.1.meets t ne (tail_at place at t has) in (w.0, w.3)
 
     pub holding_full : (t : ℕ) → slice_get m.parties p ≡ Some (Holding t) → t ≢ 0 → (e : E) × (element_in (slice_get m.rooms t) ≡ Some e)
     holding_full t at ne = full (Holding t) at t refl ne
@@ -58,7 +58,7 @@ module _ {E : Type 0} where
         let own = (s.1.meets.rooms p (me_of m p Rest) (ap (party_at m.rooms p) at)).own 0 r (first_at (free_rooms p m.rooms) is) in
         (not_stub r own, made_within m s r (λ u. spare_unmade own u))
       where
-        first_at : (xs : List ℕ) → first_of xs ≡ Some r → IsAt xs 0 r
+        first_at : (xs : List ℕ) → first_of xs ≡ Some r → ItemAt xs 0 r
         first_at [] e = absurd (none_some e)
         first_at (x ∷ xs) e = let same : x ≡ r = cc in sym same
 

@@ -3,8 +3,8 @@ use Rattle.std.proofs.Common.{◌≡◌, ◌≢◌, ℕ, zero, suc, ◌<◌, ◌
 use Rattle.std.specs.Prelude.{Option, Some, None, Ok, slice_get, slice_set, nat_eq}
 use Rattle.std.proofs.lemmas.List.{reverse-append}
 use native.Mathlib.Decide.{ℕ_discrete}
-use Rattle.cordyceps_queue.specs.declared.place.Place.{Place}
-use Rattle.cordyceps_queue.specs.declared.place.Place.TheVariants.{Rest, Cleared, Swapped, Holding, StubNull, Second, Null, PutClear, PutSwap, PutLink, PutRead}
+use Rattle.cordyceps_queue.specs.declared.place.Stage.{Stage}
+use Rattle.cordyceps_queue.specs.declared.place.Stage.TheVariants.{Rest, Cleared, Swapped, Holding, StubNull, Second, Null, PutClear, PutSwap, PutLink, PutRead}
 use Rattle.cordyceps_queue.specs.declared.steps.QueueStep.{QueueStep}
 use Rattle.cordyceps_queue.specs.declared.steps.QueueStep.TheVariants as step
 use Rattle.cordyceps_queue.specs.declared.steps.QueueAnswer.{QueueAnswer}
@@ -22,71 +22,71 @@ use Rattle.cordyceps_queue.proofs.Sound.{core_steps}
 use Rattle.cordyceps_queue.proofs.Standing.{holding_full, second_full, put_read_full}
 
 -- the places between the first read of a try and its end
-abbrev IsTrying : Place → Type 0
-IsTrying Rest = ⊥
-IsTrying (Cleared r) = ⊥
-IsTrying (Swapped r old) = ⊥
-IsTrying (Holding t) = ⊥
-IsTrying place = Unit {0}
+abbrev IsMidTry : Stage → Type 0
+IsMidTry Rest = ⊥
+IsMidTry (Cleared r) = ⊥
+IsMidTry (Swapped r old) = ⊥
+IsMidTry (Holding t) = ⊥
+IsMidTry place = Unit {0}
 
-abbrev pub IsTry : Place → Type 0
+abbrev pub IsTry : Stage → Type 0
 IsTry (Holding t) = Unit {0}
-IsTry place = IsTrying place
+IsTry place = IsMidTry place
 
 -- how many steps may follow the next one
-abbrev pub left : Place → ℕ
-left (Holding t) = 6
-left (Second t) = 5
-left (Null t) = 4
-left (PutClear t) = 3
-left (PutSwap t) = 2
-left (PutLink t old) = 1
-left place = 0
+abbrev pub steps_left : Stage → ℕ
+steps_left (Holding t) = 6
+steps_left (Second t) = 5
+steps_left (Null t) = 4
+steps_left (PutClear t) = 3
+steps_left (PutSwap t) = 2
+steps_left (PutLink t old) = 1
+steps_left place = 0
 
-try_of : (l : Place) → IsTrying l → IsTry l
+try_of : (l : Stage) → IsMidTry l → IsTry l
 try_of (Holding t) is = absurd is
 try_of l is = is
 
 module _ {E : Type 0} where
   -- the events of a try before this place, and up to this answer
-  abbrev pub so_far : ℕ → Place → List (Event ℕ E)
+  abbrev pub so_far : ℕ → Stage → List (Event ℕ E)
   so_far p (Holding t) = []
   so_far p place = Look p ∷ []
 
-  abbrev ended : ℕ → QueueAnswer E → List (Event ℕ E)
-  ended p (answer.Out e) = Look p ∷ Out p e ∷ []
-  ended p answer.Empty = Look p ∷ Empty p ∷ []
-  ended p a = Look p ∷ []
+  abbrev end_events : ℕ → QueueAnswer E → List (Event ℕ E)
+  end_events p (answer.Out e) = Look p ∷ Out p e ∷ []
+  end_events p answer.Empty = Look p ∷ Empty p ∷ []
+  end_events p a = Look p ∷ []
 
   abbrev Holds : ℕ → Machine E → Type 0
   Holds p m = (t : ℕ) × (slice_get m.parties p ≡ Some (Holding t))
 
   -- where the party stands after the answer
-  abbrev Stands : ℕ → Place → QueueAnswer E → Machine E → Type 0
-  Stands p place answer.Done m = (l : Place) × (slice_get m.parties p ≡ Some l) × (left l < left place) × IsTrying l
+  abbrev Stands : ℕ → Stage → QueueAnswer E → Machine E → Type 0
+  Stands p place answer.Done m = (l : Stage) × (slice_get m.parties p ≡ Some l) × (steps_left l < steps_left place) × IsMidTry l
   Stands p place answer.Taken m = ⊥
   Stands p place answer.Busy m = ⊥
   Stands p place (answer.Out e) m = Holds p m
   Stands p place answer.Empty m = Holds p m
-  Stands p place answer.Inconsistent m = IsTrying place × Holds p m
+  Stands p place answer.Inconsistent m = IsMidTry place × Holds p m
 
-  record Tried (m : Machine E) (p : ℕ) (place : Place) (s : QueueStep E) (out : Outcome E) : Type 0 where
+  record Tried (m : Machine E) (p : ℕ) (place : Stage) (s : QueueStep E) (out : Outcome E) : Type 0 where
     answer : QueueAnswer E
     is : out.1 ≡ Ok answer
-    events : so_far p place ++ events_of p m.rooms (Some place) s (Ok answer) ≡ ended p answer
+    events : so_far p place ++ events_of p m.rooms (Some place) s (Ok answer) ≡ end_events p answer
     stands : Stands p place answer out.0
 
-  module _ (m : Machine E) (p : ℕ) (place : Place) (at : slice_get m.parties p ≡ Some place) where
-    now : (new : Place) → slice_get (slice_set m.parties p new) p ≡ Some new
+  module _ (m : Machine E) (p : ℕ) (place : Stage) (at : slice_get m.parties p ≡ Some place) where
+    now : (new : Stage) → slice_get (slice_set m.parties p new) p ≡ Some new
     now new = get_set_same m.parties p new place at
 
-  tried_out : (m : Machine E) (p : ℕ) (place : Place) → slice_get m.parties p ≡ Some place → so_far p place ++ events_of p m.rooms (Some place) step.ReadNext (Ok answer.Done) ≡ Look p ∷ [] →
+  tried_out : (m : Machine E) (p : ℕ) (place : Stage) → slice_get m.parties p ≡ Some place → so_far p place ++ events_of p m.rooms (Some place) step.ReadNext (Ok answer.Done) ≡ Look p ∷ [] →
       ((e : E) → so_far p place ++ events_of p m.rooms (Some place) step.ReadNext (Ok (answer.Out e)) ≡ Look p ∷ Out p e ∷ []) → (t r : ℕ) (o : Option E) → (e : E) × (o ≡ Some e) → Tried m p place step.ReadNext (hand_out m p t r o)
   tried_out m p place at done out t r None f = absurd (none_some f.1)
   tried_out m p place at done out t r (Some e) f = record { answer = answer.Out e; is = refl; events = out e; stands = (r, now m p place at (Holding r)) }
 
-  tried_read : (m : Machine E) (p : ℕ) (place : Place) → slice_get m.parties p ≡ Some place → so_far p place ++ events_of p m.rooms (Some place) step.ReadNext (Ok answer.Done) ≡ Look p ∷ [] →
-      ((e : E) → so_far p place ++ events_of p m.rooms (Some place) step.ReadNext (Ok (answer.Out e)) ≡ Look p ∷ Out p e ∷ []) → 4 < left place → (t : ℕ) → (e : E) × (element_in (slice_get m.rooms t) ≡ Some e) → (n : Option ℕ) → Tried m p place step.ReadNext (read m p t n)
+  tried_read : (m : Machine E) (p : ℕ) (place : Stage) → slice_get m.parties p ≡ Some place → so_far p place ++ events_of p m.rooms (Some place) step.ReadNext (Ok answer.Done) ≡ Look p ∷ [] →
+      ((e : E) → so_far p place ++ events_of p m.rooms (Some place) step.ReadNext (Ok (answer.Out e)) ≡ Look p ∷ Out p e ∷ []) → 4 < steps_left place → (t : ℕ) → (e : E) × (element_in (slice_get m.rooms t) ≡ Some e) → (n : Option ℕ) → Tried m p place step.ReadNext (read m p t n)
   tried_read m p place at done out lt t f None = record { answer = answer.Done; is = refl; events = done; stands = (Null t, now m p place at (Null t), lt, tt) }
   tried_read m p place at done out lt t f (Some r) = tried_out m p place at done out t r (element_in (slice_get m.rooms t)) f
 
@@ -107,7 +107,7 @@ module _ {E : Type 0} where
   tried_tail m p t at true = record { answer = answer.Done; is = refl; events = refl; stands = (PutClear t, now m p (Null t) at (PutClear t), omega arith, tt) }
   tried_tail m p t at false = record { answer = answer.Inconsistent; is = refl; events = refl; stands = (tt, (t, now m p (Null t) at (Holding t))) }
 
-  tried : (m : Machine E) → IsSound m → (p : ℕ) (place : Place) → slice_get m.parties p ≡ Some place → IsTry place → Tried m p place (next_step (Some place)) (acts m p place (next_step (Some place)))
+  tried : (m : Machine E) → IsSound m → (p : ℕ) (place : Stage) → slice_get m.parties p ≡ Some place → IsTry place → Tried m p place (next_step (Some place)) (acts m p place (next_step (Some place)))
   tried m s p (Holding t) at is = tried_look m p t at (λ ne. holding_full m s p t at ne) (next_in (slice_get m.rooms t))
   tried m s p StubNull at is = tried_stub m p at (nat_eq m.head 0)
   tried m s p (Second t) at is = tried_read m p (Second t) at refl (λ e. refl) (omega arith) t (second_full m s p t at) (next_in (slice_get m.rooms t))
@@ -137,11 +137,11 @@ module _ {E : Type 0} where
   held_look : (h : List (Event ℕ E)) (p : ℕ) → held (h ++ Look p ∷ []) ≡ held h
   held_look h p = ap (λ w. drop (length w) (came (h ++ Look p ∷ []))) (went-append h (Look p ∷ []) ∙ append-nil (went h)) ∙ ap (drop (length (went h))) (came-append h (Look p ∷ []) ∙ append-nil (came h))
 
-  held_so_far : (h : List (Event ℕ E)) (p : ℕ) (place : Place) → held (h ++ so_far p place) ≡ held h
+  held_so_far : (h : List (Event ℕ E)) (p : ℕ) (place : Stage) → held (h ++ so_far p place) ≡ held h
   held_so_far h p (Holding t) = ap held (append-nil h)
   held_so_far h p place = held_look h p
 
-  trying_so_far : (p : ℕ) (l : Place) → IsTrying l → so_far p l ≡ Look p ∷ []
+  trying_so_far : (p : ℕ) (l : Stage) → IsMidTry l → so_far p l ≡ Look p ∷ []
   trying_so_far p (Holding t) is = absurd is
   trying_so_far p l is = refl
 
@@ -156,7 +156,7 @@ module _ {E : Type 0} where
       from legal (inl b) = told_blocked ℕ_discrete h legal.1 b.1
       from legal (inr b) = absurd (b.0 refl)
 
-  module _ (h : List (Event ℕ E)) (p : ℕ) (m : Machine E) (place : Place) (was : CoreMeets (h ++ so_far p place) m) (out : Outcome E) where
+  module _ (h : List (Event ℕ E)) (p : ℕ) (m : Machine E) (place : Stage) (was : CoreMeets (h ++ so_far p place) m) (out : Outcome E) where
     finds_of : (a : QueueAnswer E) → IsFinal a → Stands p place a out.0 → Says (h ++ so_far p place) p a → Finds h p (found_of (Ok a))
     finds_of answer.Done f s says = absurd f
     finds_of answer.Taken f s says = absurd f
@@ -175,7 +175,7 @@ module _ {E : Type 0} where
     holds_of answer.Empty f s = s
     holds_of answer.Inconsistent f s = s.1
 
-    ended_of : (a : QueueAnswer E) → IsFinal a → ended p a ≡ try_events p (found_of (Ok a))
+    ended_of : (a : QueueAnswer E) → IsFinal a → end_events p a ≡ try_events p (found_of (Ok a))
     ended_of answer.Done f = absurd f
     ended_of answer.Taken f = absurd f
     ended_of answer.Busy f = absurd f
@@ -183,7 +183,7 @@ module _ {E : Type 0} where
     ended_of answer.Empty f = refl
     ended_of answer.Inconsistent f = refl
 
-    ends : (a : QueueAnswer E) → IsFinal a → out.1 ≡ Ok a → Stands p place a out.0 → CoreMeets (h ++ ended p a) out.0 → Says (h ++ so_far p place) p a → Ended h p out
+    ends : (a : QueueAnswer E) → IsFinal a → out.1 ≡ Ok a → Stands p place a out.0 → CoreMeets (h ++ end_events p a) out.0 → Says (h ++ so_far p place) p a → Ended h p out
     ends a f is s met says = record {
       answer = a;
       is = is;
@@ -193,7 +193,7 @@ module _ {E : Type 0} where
       holds = holds_of a f s;
     }
 
-    ends_now : (a : QueueAnswer E) → out.1 ≡ Ok a → Stands p place a out.0 → CoreMeets (h ++ ended p a) out.0 → Says (h ++ so_far p place) p a → left place ≤ 0 → Ended h p out
+    ends_now : (a : QueueAnswer E) → out.1 ≡ Ok a → Stands p place a out.0 → CoreMeets (h ++ end_events p a) out.0 → Says (h ++ so_far p place) p a → steps_left place ≤ 0 → Ended h p out
     ends_now answer.Done is s met says le = absurd (omega (arith, s.2))
     ends_now answer.Taken is s met says le = absurd s
     ends_now answer.Busy is s met says le = absurd s
@@ -205,8 +205,8 @@ module _ {E : Type 0} where
     same : (a : QueueAnswer E) → out.1 ≡ Ok a → Ended h p out → Ended h p (out.0, Ok a)
     same a is e = subst (λ r. Ended h p (out.0, r)) is e
 
-    ends_later : (n : ℕ) → ((l : Place) → slice_get out.0.parties p ≡ Some l → IsTry l → left l ≤ n → CoreMeets (h ++ so_far p l) out.0 → Ended h p (tries p n out.0)) →
-        (a : QueueAnswer E) → out.1 ≡ Ok a → Stands p place a out.0 → CoreMeets (h ++ ended p a) out.0 → Says (h ++ so_far p place) p a → left place ≤ suc n → Ended h p (goes_on (tries p n) out.0 out.1)
+    ends_later : (n : ℕ) → ((l : Stage) → slice_get out.0.parties p ≡ Some l → IsTry l → steps_left l ≤ n → CoreMeets (h ++ so_far p l) out.0 → Ended h p (tries p n out.0)) →
+        (a : QueueAnswer E) → out.1 ≡ Ok a → Stands p place a out.0 → CoreMeets (h ++ end_events p a) out.0 → Says (h ++ so_far p place) p a → steps_left place ≤ suc n → Ended h p (goes_on (tries p n) out.0 out.1)
     ends_later n rest answer.Done is s met says le =
         subst (λ r. Ended h p (goes_on (tries p n) out.0 r)) (sym is) (rest s.0 s.1 (try_of s.0 s.3) (omega (arith, s.2)) (subst (λ l. CoreMeets (h ++ l) out.0) (sym (trying_so_far p s.0 s.3)) met))
     ends_later n rest answer.Taken is s met says le = absurd s
@@ -216,13 +216,13 @@ module _ {E : Type 0} where
     ends_later n rest answer.Inconsistent is s met says le = subst (λ r. Ended h p (goes_on (tries p n) out.0 r)) (sym is) (same answer.Inconsistent is (ends answer.Inconsistent tt is s met says))
 
   -- what a step does at its place, by its answer
-  pub step_met : (H : List (Event ℕ E)) (m : Machine E) (p : ℕ) (place : Place) → slice_get m.parties p ≡ Some place → (s : QueueStep E) (a : QueueAnswer E) → (acts m p place s).1 ≡ Ok a → CoreMeets H m →
+  pub step_met : (H : List (Event ℕ E)) (m : Machine E) (p : ℕ) (place : Stage) → slice_get m.parties p ≡ Some place → (s : QueueStep E) (a : QueueAnswer E) → (acts m p place s).1 ≡ Ok a → CoreMeets H m →
       CoreMeets (H ++ events_of p m.rooms (Some place) s (Ok a)) (acts m p place s).0 × Says H p a
   step_met H m p place at s a is was =
       let law = subst (λ o. CoreMeets (H ++ events_of p m.rooms o s (stepped_at m p o s).1) (stepped_at m p o s).0 × AnswerSays H p (stepped_at m p o s).1) at (core_steps H m p s was) in
       subst (λ r. CoreMeets (H ++ events_of p m.rooms (Some place) s r) (acts m p place s).0 × AnswerSays H p r) is law
 
-  pub tries_law : (p n : ℕ) (h : List (Event ℕ E)) (m : Machine E) (place : Place) → slice_get m.parties p ≡ Some place → IsTry place → left place ≤ n → CoreMeets (h ++ so_far p place) m → Ended h p (tries p n m)
+  pub tries_law : (p n : ℕ) (h : List (Event ℕ E)) (m : Machine E) (place : Stage) → slice_get m.parties p ≡ Some place → IsTry place → steps_left place ≤ n → CoreMeets (h ++ so_far p place) m → Ended h p (tries p n m)
   tries_law p zero h m place at is le was =
       let T = tried m (h ++ so_far p place, was) p place at is in
       let K = step_met (h ++ so_far p place) m p place at (next_step (Some place)) T.answer T.is was in

@@ -1,8 +1,8 @@
 -- Whole calls that one party runs alone, each by the steps that it takes.
 use Rattle.std.specs.Prelude.{◌≡◌, ◌≢◌, ℕ, zero, suc, List, [], ◌∷◌, ◌++◌, Bool, true, false, ◌&&◌, is_some, Option, Some, None, Result, Ok, Err, slice_get}
 use native.Mathlib.Decide.{ℕ_discrete}
-use Rattle.cordyceps_queue.specs.declared.place.Place.{Place}
-use Rattle.cordyceps_queue.specs.declared.place.Place.TheVariants.{Rest, Holding, StubNull, Null, PutClear, PutSwap, PutLink}
+use Rattle.cordyceps_queue.specs.declared.place.Stage.{Stage}
+use Rattle.cordyceps_queue.specs.declared.place.Stage.TheVariants.{Rest, Holding, StubNull, Null, PutClear, PutSwap, PutLink}
 use Rattle.cordyceps_queue.specs.declared.steps.QueueStep.{QueueStep}
 use Rattle.cordyceps_queue.specs.declared.steps.QueueStep.TheVariants as step
 use Rattle.cordyceps_queue.specs.declared.steps.QueueAnswer.TheVariants as answer
@@ -12,18 +12,18 @@ use Rattle.cordyceps_queue.specs.QueueHistory.{Event, Swap, Link, Take, Busy, Lo
 use Rattle.cordyceps_queue.specs.QueueCore.{CoreMeets}
 use Rattle.cordyceps_queue.specs.QueueMachine.{Machine, Answered, Outcome, stepped, least_free}
 
-abbrev pub is_rest : Option Place → Bool
+abbrev pub is_rest : Option Stage → Bool
 is_rest (Some Rest) = true
 is_rest place = false
 
 -- the places from which a party may dequeue
-abbrev pub may_dequeue : Option Place → Bool
+abbrev pub may_dequeue : Option Stage → Bool
 may_dequeue (Some Rest) = true
 may_dequeue (Some (Holding t)) = true
 may_dequeue place = false
 
 -- the step of a try to dequeue at this place
-abbrev pub next_step : {E : Type 0} → Option Place → QueueStep E
+abbrev pub next_step : {E : Type 0} → Option Stage → QueueStep E
 next_step (Some StubNull) = step.ReadHead
 next_step (Some (Null t)) = step.ReadHead
 next_step (Some (PutClear t)) = step.Clear None
@@ -69,7 +69,7 @@ module _ {E : Type 0} where
   takes_first p m a = (m, a)
 
   -- a try to dequeue: from rest it takes the right first and gives it back last
-  abbrev pub dequeued_at : ℕ → Machine E → Option Place → Outcome E
+  abbrev pub dequeued_at : ℕ → Machine E → Option Stage → Outcome E
   dequeued_at p m (Some Rest) = let out = stepped m p step.Take in takes_first p out.0 out.1
   dequeued_at p m place = tries p 6 m
 
@@ -83,18 +83,18 @@ module _ {E : Type 0} where
   try_events p (Err e) = Look p ∷ []
 
   -- the events of a call, by the place at which it began
-  abbrev pub dequeue_events : ℕ → Option Place → Result E TryDequeueError → List (Event ℕ E)
+  abbrev pub dequeue_events : ℕ → Option Stage → Result E TryDequeueError → List (Event ℕ E)
   dequeue_events p (Some Rest) (Err error.Busy) = Busy p ∷ []
   dequeue_events p (Some Rest) found = Take p ∷ try_events p found ++ Free p ∷ []
   dequeue_events p place found = try_events p found
 
   -- the events of a call up to the look that began its try
-  abbrev pub look_events : ℕ → Option Place → List (Event ℕ E)
+  abbrev pub look_events : ℕ → Option Stage → List (Event ℕ E)
   look_events p (Some Rest) = Take p ∷ Look p ∷ []
   look_events p place = Look p ∷ []
 
   -- just after that look the history was blocked
-  abbrev pub LooksBlocked : List (Event ℕ E) → ℕ → Option Place → Type 0
+  abbrev pub LooksBlocked : List (Event ℕ E) → ℕ → Option Stage → Type 0
   LooksBlocked h p place = IsBlocked ℕ_discrete (h ++ look_events p place)
 
   -- what a call found, by the history before it

@@ -3,11 +3,11 @@ use Rattle.std.specs.Prelude.{◌≡◌, ℕ, zero, suc, ◌<◌, ◌≤◌, Lis
 use Rattle.atomic_table.specs.Seated.{TableId}
 use Rattle.cordyceps_shared.specs.Histories.{plain, AllOwn}
 use Rattle.cordyceps_shared.specs.Shares.{Name, whole}
-use Rattle.cordyceps_queue.specs.declared.place.Place.TheVariants.{Rest, Cleared, Swapped, Holding}
+use Rattle.cordyceps_queue.specs.declared.place.Stage.TheVariants.{Rest, Cleared, Swapped, Holding}
 use Rattle.cordyceps_queue.specs.declared.queue_table.Tried.{Tried}
 use Rattle.cordyceps_queue.specs.declared.queue_table.Tried.TheVariants.{Out, Empty, Inconsistent}
 use Rattle.cordyceps_queue.specs.QueueHistory.{Event}
-use Rattle.cordyceps_queue.specs.QueuePlays.{Sat, Sees, IsResting, IsHolding, HandsOut, stands_at, Blocked}
+use Rattle.cordyceps_queue.specs.QueuePlays.{SeatState, Sees, IsResting, IsHolding, HandsOneOut, stands_at, Blocked}
 use Rattle.cordyceps_queue.specs.QueueParting.{IsStill}
 use Rattle.cordyceps_queue.specs.QueuePast.{IsSettled}
 use Rattle.cordyceps_queue.specs.QueueRule.{IsTable}
@@ -16,7 +16,7 @@ use Rattle.cordyceps_queue.specs.QueueView.{View, name}
 
 module _ {E : Type 0} where
   -- a party that rested has cleared its first free room for this element, and has the room's slot in hand
-  pub record IsCleared (slots room : ℕ) (e : E) (m k : Sat E) : Type 0 where
+  pub record IsCleared (slots room : ℕ) (e : E) (m k : SeatState E) : Type 0 where
     pub place : k.0.place ≡ Cleared room
     pub item : k.0.item ≡ Some e
     pub free : m.0.free ≡ room ∷ k.0.free
@@ -26,7 +26,7 @@ module _ {E : Type 0} where
     pub sees : Sees m.0 [] k.0
 
   -- it has made that room the head
-  pub record IsSwapped (slots room old : ℕ) (e : E) (m k : Sat E) : Type 0 where
+  pub record IsSwapped (slots room old : ℕ) (e : E) (m k : SeatState E) : Type 0 where
     pub place : k.0.place ≡ Swapped room old
     pub free : k.0.free ≡ m.0.free
     pub back : k.0.back ≡ []
@@ -35,18 +35,18 @@ module _ {E : Type 0} where
     pub sees : Sees m.0 (Event.Swap (name m.0) e ∷ []) k.0
 
   -- what a try came to, after these events, and the tail after it
-  abbrev pub Tries : List (Event Name E) → ℕ → Sat E → Sat E → ℕ → Tried E → Type 0
-  Tries before slots m k t (Out full) = HandsOut before slots full.ticket t full.item m k
+  abbrev pub Tries : List (Event Name E) → ℕ → SeatState E → SeatState E → ℕ → Tried E → Type 0
+  Tries before slots m k t (Out full) = HandsOneOut before slots full.ticket t full.item m k
   Tries before slots m k t Empty = IsHolding slots t k × stands_at (before ++ Event.Empty (name m.0) ∷ []) (Holding t) m k
   Tries before slots m k t Inconsistent = IsHolding slots t k × stands_at before (Holding t) m k × Blocked k.0
 
   -- the party took the right, or another party has it
-  abbrev pub Takes : ℕ → ℕ → Sat E → Sat E → Type 0
-  Takes slots zero m k = IsResting slots k × stands_at (Event.Busy (name m.0) ∷ []) Rest m k
-  Takes slots (suc t) m k = IsHolding slots t k × stands_at (Event.Take (name m.0) ∷ []) (Holding t) m k
+  abbrev pub AsksRight : ℕ → ℕ → SeatState E → SeatState E → Type 0
+  AsksRight slots zero m k = IsResting slots k × stands_at (Event.Busy (name m.0) ∷ []) Rest m k
+  AsksRight slots (suc t) m k = IsHolding slots t k × stands_at (Event.Take (name m.0) ∷ []) (Holding t) m k
 
   -- a whole try of a party that rested: `None` beside another holder
-  abbrev pub Dequeued : ℕ → Sat E → Sat E → Option (Tried E) → Type 0
+  abbrev pub Dequeued : ℕ → SeatState E → SeatState E → Option (Tried E) → Type 0
   Dequeued slots m k None = (k.0.free ≡ m.0.free) × Sees m.0 (Event.Busy (name m.0) ∷ []) k.0
   Dequeued slots m k (Some (Out full)) =
       (k.0.free ≡ full.ticket ∷ m.0.free)
@@ -66,7 +66,7 @@ module _ {E : Type 0} where
 
   -- the party is between two calls, has the tickets of its free rooms, and has seen a legal history, a whole party with no
   -- event of another, and with nobody pending and the right free
-  pub record IsSeated (z : TableId) (m : Sat E) (tickets : List ℕ) : Type 0 where
+  pub record IsSeated (z : TableId) (m : SeatState E) (tickets : List ℕ) : Type 0 where
     pub table : IsTable z
     pub rests : IsResting z.slots m
     pub free : m.0.free ≡ tickets
@@ -76,7 +76,7 @@ module _ {E : Type 0} where
 
   -- the party has the right, its tail is t, and it has the tickets of its rooms; it has seen a legal history, and a whole party
   -- one with no event of another, in which nobody is pending
-  pub record IsConsuming (z : TableId) (t : ℕ) (m : Sat E) (tickets : List ℕ) : Type 0 where
+  pub record IsConsuming (z : TableId) (t : ℕ) (m : SeatState E) (tickets : List ℕ) : Type 0 where
     pub table : IsTable z
     pub holds : IsHolding z.slots t m
     pub rooms : m.0.back ++ m.0.free ≡ tickets

@@ -3,8 +3,8 @@
 use Rattle.std.specs.Prelude.{◌≡◌, ◌≢◌, ℕ, suc, List, [], ◌∷◌, ◌++◌, length, reverse, Option, Some, None, Ok, Err, slice_get}
 use native.Mathlib.Decide.{ℕ_discrete}
 use Rattle.cordyceps_base.specs.Runs.{Ran, history_after, AllSay}
-use Rattle.cordyceps_queue.specs.declared.place.Place.{Place}
-use Rattle.cordyceps_queue.specs.declared.place.Place.TheVariants.{Rest}
+use Rattle.cordyceps_queue.specs.declared.place.Stage.{Stage}
+use Rattle.cordyceps_queue.specs.declared.place.Stage.TheVariants.{Rest}
 use Rattle.cordyceps_queue.specs.declared.room.Room.{Room}
 use Rattle.cordyceps_queue.specs.declared.steps.QueueStep.{QueueStep}
 use Rattle.cordyceps_queue.specs.declared.steps.QueueAnswer.{QueueAnswer}
@@ -12,20 +12,20 @@ use Rattle.cordyceps_queue.specs.declared.steps.QueueAnswer.TheVariants as answe
 use Rattle.cordyceps_queue.specs.QueueHistory.{Event, came, went, held, holder, IsLegal, WasBlocked}
 use Rattle.cordyceps_queue.specs.QueueMachine.{Machine, Answered, free_rooms, next_in, element_in, stub_room, stepped, step_events}
 use Rattle.cordyceps_queue.specs.QueueMeets.{Chain, Meets}
-use Rattle.cordyceps_queue.specs.QueueWords.{Party, Words}
+use Rattle.cordyceps_queue.specs.QueueWords.{AbstractParty, AbstractMachine}
 
 abbrev pub right_word : Option ℕ → ℕ
 right_word None = 0
 right_word (Some t) = suc t
 
 module _ {E : Type 0} where
-  abbrev pub party_at : List (Room E) → ℕ → Option Place → Option (Party ℕ)
+  abbrev pub party_at : List (Room E) → ℕ → Option Stage → Option (AbstractParty ℕ)
   party_at rooms k None = None
   party_at rooms k (Some place) = Some (record { name = k; place = place; spare = free_rooms k rooms })
 
   -- a core's machine, by the functions of which `Meets` speaks
-  abbrev pub words_of : Machine E → Words ℕ E
-  words_of m = record {
+  abbrev pub abstract_of : Machine E → AbstractMachine ℕ E
+  abstract_of m = record {
     head = m.head;
     right = right_word m.right;
     count = length m.rooms;
@@ -42,7 +42,7 @@ module _ {E : Type 0} where
   pub record CoreMeets (h : List (Event ℕ E)) (m : Machine E) : Type 0 where
     pub legal : IsLegal ℕ_discrete h
     pub chain : Chain
-    pub meets : Meets (words_of m) chain (reverse h)
+    pub meets : Meets (abstract_of m) chain (reverse h)
     pub owned : IsOwned m
 
   -- it meets some history

@@ -1,8 +1,8 @@
 -- Several tries that one party runs alone, one after the other, and what their call answers.
 use Rattle.std.specs.Prelude.{◌≡◌, ◌≢◌, ℕ, zero, suc, ◌-◌, ◌≤◌, Bool, true, false, List, [], ◌∷◌, ◌++◌, length, take, count_by, is_some, vec_items, Option, Some, None, Result, Ok, Err, Vec}
 use native.Mathlib.Decide.{ℕ_discrete}
-use Rattle.cordyceps_queue.specs.declared.place.Place.{Place}
-use Rattle.cordyceps_queue.specs.declared.place.Place.TheVariants.{Rest, Cleared}
+use Rattle.cordyceps_queue.specs.declared.place.Stage.{Stage}
+use Rattle.cordyceps_queue.specs.declared.place.Stage.TheVariants.{Rest, Cleared}
 use Rattle.cordyceps_queue.specs.declared.room.Room.{Room}
 use Rattle.cordyceps_queue.specs.declared.steps.QueueStep.TheVariants as step
 use Rattle.cordyceps_queue.specs.declared.steps.QueueAnswer.TheVariants as answer
@@ -18,11 +18,11 @@ abbrev pub Drained : Type 0 → Type 0
 Drained E = Machine E × List E × Option TryDequeueError
 
 -- a party at this place may take a batch of at most n elements
-abbrev pub may_drain : ℕ → Option Place → Bool
+abbrev pub may_drain : ℕ → Option Stage → Bool
 may_drain zero place = false
 may_drain (suc n) place = may_dequeue place
 
-abbrev pub is_cleared : Place → Bool
+abbrev pub is_cleared : Stage → Bool
 is_cleared (Cleared r) = true
 is_cleared place = false
 
@@ -48,13 +48,13 @@ module _ {E : Type 0} where
   abbrev pub hands_back : ℕ → Drained E → Drained E
   hands_back p d = ((stepped d.0 p step.Give).0, d.1, d.2)
 
-  abbrev pub takes_first : ℕ → ℕ → Machine E → Answered E → Drained E
-  takes_first p n m (Ok answer.Taken) = hands_back p (drained p n m)
-  takes_first p n m a = (m, [], Some error.Busy)
+  abbrev pub drains_first : ℕ → ℕ → Machine E → Answered E → Drained E
+  drains_first p n m (Ok answer.Taken) = hands_back p (drained p n m)
+  drains_first p n m a = (m, [], Some error.Busy)
 
   -- from rest the right is taken first and given back last
-  abbrev pub drained_at : ℕ → ℕ → Machine E → Option Place → Drained E
-  drained_at p n m (Some Rest) = let out = stepped m p step.Take in takes_first p n out.0 out.1
+  abbrev pub drained_at : ℕ → ℕ → Machine E → Option Stage → Drained E
+  drained_at p n m (Some Rest) = let out = stepped m p step.Take in drains_first p n out.0 out.1
   drained_at p n m place = drained p n m
 
   -- the answer: the elements, or why there is none
@@ -86,26 +86,26 @@ module _ {E : Type 0} where
   drain_events p es (Some why) = outs p es ++ try_events p (Err why)
 
   -- the events of a call, by the place at which it began
-  abbrev pub batch_events : ℕ → Option Place → List E → Option TryDequeueError → List (Event ℕ E)
+  abbrev pub batch_events : ℕ → Option Stage → List E → Option TryDequeueError → List (Event ℕ E)
   batch_events p (Some Rest) es (Some error.Busy) = Busy p ∷ []
   batch_events p (Some Rest) es stop = Take p ∷ drain_events p es stop ++ Free p ∷ []
   batch_events p place es stop = drain_events p es stop
 
   -- the events up to the look at which the call stopped
-  abbrev pub last_look : ℕ → Option Place → List E → List (Event ℕ E)
+  abbrev pub last_look : ℕ → Option Stage → List E → List (Event ℕ E)
   last_look p (Some Rest) es = Take p ∷ outs p es ++ Look p ∷ []
   last_look p place es = outs p es ++ Look p ∷ []
 
   -- why no more came: as many came as were asked for; no more was held; the history was blocked just after the last look; or
   -- another party had the right
-  abbrev pub Stops : List (Event ℕ E) → ℕ → ℕ → Option Place → List E → Option TryDequeueError → Type 0
+  abbrev pub Stops : List (Event ℕ E) → ℕ → ℕ → Option Stage → List E → Option TryDequeueError → Type 0
   Stops h p n place es None = length es ≡ n
   Stops h p n place es (Some error.Empty) = held h ≡ es
   Stops h p n place es (Some error.Inconsistent) = IsBlocked ℕ_discrete (h ++ last_look p place es)
   Stops h p n place es (Some error.Busy) = (es ≡ []) × (q : ℕ) × (holder h ≡ Some q) × (p ≢ q)
 
   -- what a call took, by the history before it: the oldest elements, and why no more
-  pub record Drains (h : List (Event ℕ E)) (p n : ℕ) (place : Option Place) (es : List E) (stop : Option TryDequeueError) : Type 0 where
+  pub record Drains (h : List (Event ℕ E)) (p n : ℕ) (place : Option Stage) (es : List E) (stop : Option TryDequeueError) : Type 0 where
     pub rest : List E
     pub front : held h ≡ es ++ rest
     pub few : length es ≤ n

@@ -55,24 +55,24 @@ module _ {P E : Type 0} where
   MayFollow h (Empty p) = (holder h ≡ Some p) × (went h ≡ came h)
   MayFollow h (Free p) = holder h ≡ Some p
 
-abbrev pub one_if : {A : Type 0} → Dec A → ℕ
-one_if (yes a) = 1
-one_if (no n) = 0
+abbrev pub one_if_dec : {A : Type 0} → Dec A → ℕ
+one_if_dec (yes a) = 1
+one_if_dec (no n) = 0
 
 module _ {P E : Type 0} (same : Discrete P) where
   abbrev pub swaps_by : P → List (Event P E) → ℕ
   swaps_by q [] = 0
-  swaps_by q (Swap p e ∷ h) = one_if (same q p) + swaps_by q h
+  swaps_by q (Swap p e ∷ h) = one_if_dec (same q p) + swaps_by q h
   swaps_by q (_ ∷ h) = swaps_by q h
 
   abbrev pub links_by : P → List (Event P E) → ℕ
   links_by q [] = 0
-  links_by q (Link p ∷ h) = one_if (same q p) + links_by q h
+  links_by q (Link p ∷ h) = one_if_dec (same q p) + links_by q h
   links_by q (_ ∷ h) = links_by q h
 
   abbrev pub looks_by : P → List (Event P E) → ℕ
   looks_by q [] = 0
-  looks_by q (Look p ∷ h) = one_if (same q p) + looks_by q h
+  looks_by q (Look p ∷ h) = one_if_dec (same q p) + looks_by q h
   looks_by q (_ ∷ h) = looks_by q h
 
   -- the party has one link fewer than swaps

@@ -1,7 +1,7 @@
 -- What every legal history says, and that histories say the same read from either end.
 use Rattle.std.specs.Prelude.{◌≡◌, ℕ, suc, ◌+◌, ◌⊎◌, List, [], ◌∷◌, ◌++◌, map, reverse, Some, ◌↔◌}
 use Rattle.cordyceps_queue.specs.QueueHistory as told
-use Rattle.cordyceps_queue.specs.QueueHistory.{Event, Swap, Take, Free, went, held, holder, one_if}
+use Rattle.cordyceps_queue.specs.QueueHistory.{Event, Swap, Take, Free, went, held, holder, one_if_dec}
 use Rattle.cordyceps_queue.specs.QueuePast as past
 
 -- legal by the conditions on every beginning, or event by event
@@ -52,12 +52,12 @@ module _ {P E : Type 0} (same : Discrete P) where
   -- how often the party took the right, and how often it gave it back
   abbrev pub takes_by : P → List (Event P E) → ℕ
   takes_by q [] = 0
-  takes_by q (Take p ∷ h) = one_if (same q p) + takes_by q h
+  takes_by q (Take p ∷ h) = one_if_dec (same q p) + takes_by q h
   takes_by q (_ ∷ h) = takes_by q h
 
   abbrev pub frees_by : P → List (Event P E) → ℕ
   frees_by q [] = 0
-  frees_by q (Free p ∷ h) = one_if (same q p) + frees_by q h
+  frees_by q (Free p ∷ h) = one_if_dec (same q p) + frees_by q h
   frees_by q (_ ∷ h) = frees_by q h
 
   -- it took the right once more than it gave it back

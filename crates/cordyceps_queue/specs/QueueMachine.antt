@@ -3,8 +3,8 @@ use Rattle.std.specs.Prelude.{ℕ, zero, suc, List, [], ◌∷◌, Bool, true, f
 use Rattle.std.specs.Option.{option_eq}
 use Rattle.cordyceps_base.specs.declared.shared.StepError.{StepError}
 use Rattle.cordyceps_base.specs.declared.shared.StepError.TheVariants.{NotThere}
-use Rattle.cordyceps_queue.specs.declared.place.Place.{Place}
-use Rattle.cordyceps_queue.specs.declared.place.Place.TheVariants.{Rest, Cleared, Swapped, Holding, StubNull, Second, Null, PutClear, PutSwap, PutLink, PutRead}
+use Rattle.cordyceps_queue.specs.declared.place.Stage.{Stage}
+use Rattle.cordyceps_queue.specs.declared.place.Stage.TheVariants.{Rest, Cleared, Swapped, Holding, StubNull, Second, Null, PutClear, PutSwap, PutLink, PutRead}
 use Rattle.cordyceps_queue.specs.declared.steps.QueueStep.{QueueStep}
 use Rattle.cordyceps_queue.specs.declared.steps.QueueStep.TheVariants as step
 use Rattle.cordyceps_queue.specs.declared.steps.QueueAnswer.{QueueAnswer}
@@ -18,7 +18,7 @@ pub record Machine (E : Type 0) : Type 0 where
   pub head : ℕ
   pub right : Option ℕ
   pub rooms : List (Room E)
-  pub parties : List Place
+  pub parties : List Stage
 
 -- the list with f of its i-th element in that element's place
 abbrev pub change : {X : Type 0} → (X → X) → ℕ → List X → List X
@@ -74,15 +74,15 @@ module _ {E : Type 0} where
   abbrev pub least_free : ℕ → List (Room E) → Option ℕ
   least_free p rooms = first_of (free_rooms p rooms)
 
-  abbrev pub element_of : QueueStep E → Option E
-  element_of (step.Clear o) = o
-  element_of _ = None
+  abbrev pub step_element : QueueStep E → Option E
+  step_element (step.Clear o) = o
+  step_element _ = None
 
   abbrev pub refused : Machine E → QueueStep E → Outcome E
-  refused m s = (m, Err (NotThere, element_of s))
+  refused m s = (m, Err (NotThere, step_element s))
 
   -- p goes to another place
-  abbrev pub stands : Machine E → ℕ → Place → QueueAnswer E → Outcome E
+  abbrev pub stands : Machine E → ℕ → Stage → QueueAnswer E → Outcome E
   stands m p place a = (record { head = m.head; right = m.right; rooms = m.rooms; parties = slice_set m.parties p place }, Ok a)
 
   -- an element goes into the least free room
@@ -92,11 +92,11 @@ module _ {E : Type 0} where
       (record { head = m.head; right = m.right; rooms = change (holding e) r m.rooms; parties = slice_set m.parties p (Cleared r) }, Ok answer.Done)
 
   -- head becomes this room
-  abbrev pub swap : Machine E → ℕ → ℕ → Place → Outcome E
+  abbrev pub swap : Machine E → ℕ → ℕ → Stage → Outcome E
   swap m p r place = (record { head = r; right = m.right; rooms = m.rooms; parties = slice_set m.parties p place }, Ok answer.Done)
 
   -- the next word of a room is written
-  abbrev pub link : Machine E → ℕ → ℕ → Option ℕ → Place → Outcome E
+  abbrev pub link : Machine E → ℕ → ℕ → Option ℕ → Stage → Outcome E
   link m p at next place =
       (record { head = m.head; right = m.right; rooms = change (linking next) at m.rooms; parties = slice_set m.parties p place }, Ok answer.Done)
 
@@ -140,7 +140,7 @@ module _ {E : Type 0} where
   head_tail m p t false = stands m p (Holding t) answer.Inconsistent
 
   -- what p's step does at its place
-  abbrev pub acts : Machine E → ℕ → Place → QueueStep E → Outcome E
+  abbrev pub acts : Machine E → ℕ → Stage → QueueStep E → Outcome E
   acts m p Rest (step.Clear (Some e)) = clear m p e (least_free p m.rooms)
   acts m p Rest step.Take = take m p m.right
   acts m p (Cleared r) step.Swap = swap m p r (Swapped r m.head)
@@ -156,7 +156,7 @@ module _ {E : Type 0} where
   acts m p (PutRead t) step.ReadNext = read_again m p t (next_in (slice_get m.rooms t))
   acts m p _ s = refused m s
 
-  abbrev pub stepped_at : Machine E → ℕ → Option Place → QueueStep E → Outcome E
+  abbrev pub stepped_at : Machine E → ℕ → Option Stage → QueueStep E → Outcome E
   stepped_at m p None s = refused m s
   stepped_at m p (Some place) s = acts m p place s
 
@@ -165,7 +165,7 @@ module _ {E : Type 0} where
   stepped m p s = stepped_at m p (slice_get m.parties p) s
 
   -- whether a party with this least free room may take the step at this place
-  abbrev pub may_take : Option ℕ → Place → QueueStep E → Bool
+  abbrev pub may_take : Option ℕ → Stage → QueueStep E → Bool
   may_take free Rest (step.Clear (Some e)) = is_some free
   may_take free Rest step.Take = true
   may_take free (Cleared r) step.Swap = true
@@ -181,7 +181,7 @@ module _ {E : Type 0} where
   may_take free (PutRead t) step.ReadNext = true
   may_take free _ s = false
 
-  abbrev pub may_take_at : Option ℕ → Option Place → QueueStep E → Bool
+  abbrev pub may_take_at : Option ℕ → Option Stage → QueueStep E → Bool
   may_take_at free None s = false
   may_take_at free (Some place) s = may_take free place s
 
@@ -199,7 +199,7 @@ module _ {E : Type 0} where
   comes_out p _ = []
 
   -- the events of an accepted step, by its place and its answer
-  abbrev pub events_at : {P : Type 0} → P → List (Room E) → Place → QueueStep E → QueueAnswer E → List (Event P E)
+  abbrev pub events_at : {P : Type 0} → P → List (Room E) → Stage → QueueStep E → QueueAnswer E → List (Event P E)
   events_at p rooms (Cleared r) step.Swap a = comes_in p (element_in (slice_get rooms r))
   events_at p rooms (Swapped r old) step.Link a = Event.Link p ∷ []
   events_at p rooms place step.Take answer.Busy = Event.Busy p ∷ []
@@ -210,7 +210,7 @@ module _ {E : Type 0} where
   events_at p rooms place step.Give a = Event.Free p ∷ []
   events_at p rooms place s a = []
 
-  abbrev pub events_of : {P : Type 0} → P → List (Room E) → Option Place → QueueStep E → Answered E → List (Event P E)
+  abbrev pub events_of : {P : Type 0} → P → List (Room E) → Option Stage → QueueStep E → Answered E → List (Event P E)
   events_of p rooms (Some place) s (Ok a) = events_at p rooms place s a
   events_of p rooms place s a = []
 

@@ -6,8 +6,8 @@ use Rattle.cordyceps_shared.specs.Knowing as knowing
 use Rattle.cordyceps_shared.specs.Shares.{Name, whole}
 use Rattle.cordyceps_queue.specs.QueueHistory.{Event}
 use Rattle.cordyceps_queue.specs.QueuePast.{holder, IsSettled}
-use Rattle.cordyceps_queue.specs.declared.place.Place.TheVariants.{Rest}
-use Rattle.cordyceps_queue.specs.QueuePlays.{Sat, At, Legal}
+use Rattle.cordyceps_queue.specs.declared.place.Stage.TheVariants.{Rest}
+use Rattle.cordyceps_queue.specs.QueuePlays.{SeatState, TableStep, LegalReversed}
 use Rattle.cordyceps_queue.specs.QueueView.{View}
 
 module _ {E : Type 0} where
@@ -16,24 +16,24 @@ module _ {E : Type 0} where
   IsStill es = (holder (reverse es) ≡ None) × ((q : Name) → IsSettled q (reverse es))
 
   -- a load of head by a party that took another in
-  abbrev pub forgot : View E → View E
-  forgot v = record v { known = record v.known { had = []; told = [] } }
+  abbrev pub view_without_told : View E → View E
+  view_without_told v = record v { known = record v.known { had = []; told = [] } }
 
-  abbrev pub learned : At E → Sat E → ℕ → Sat E → Type 0
+  abbrev pub learned : TableStep E → SeatState E → ℕ → SeatState E → Type 0
   learned st m read k =
-      (k.0 ≡ forgot m.0) × (k.1 ≡ m.1) × IsKnown (λ h. Legal h) m.0.known × (length m.0.free ≤ st.slots)
+      (k.0 ≡ view_without_told m.0) × (k.1 ≡ m.1) × IsKnown (λ h. LegalReversed h) m.0.known × (length m.0.free ≤ st.slots)
       × (m.0.known.share ≡ whole → IsStill (plain m.0.known.seen))
 
   -- what a party has that gave up the first n of its free rooms, and what the new one has
-  abbrev pub kept : ℕ → View E → View E
-  kept n v = record v { known = knowing.kept v.known; free = drop n v.free }
+  abbrev pub view_keeping : ℕ → View E → View E
+  view_keeping n v = record v { known = knowing.known_keeping v.known; free = drop n v.free }
 
-  abbrev pub given : ℕ → View E → View E
-  given n v = record { known = knowing.given v.known; free = take n v.free; back = []; place = Rest; item = None }
+  abbrev pub view_giving : ℕ → View E → View E
+  view_giving n v = record { known = knowing.known_giving v.known; free = take n v.free; back = []; place = Rest; item = None }
 
   -- what a party has that took another in, and what is left of the other
-  abbrev pub both : View E → View E → View E
-  both v w = record { known = knowing.both v.known w.known; free = v.free ++ w.free; back = []; place = Rest; item = None }
+  abbrev pub view_absorbing : View E → View E → View E
+  view_absorbing v w = record { known = knowing.known_absorbing v.known w.known; free = v.free ++ w.free; back = []; place = Rest; item = None }
 
-  abbrev pub spent : View E
-  spent = record { known = knowing.spent; free = []; back = []; place = Rest; item = None }
+  abbrev pub view_absorbed : View E
+  view_absorbed = record { known = knowing.known_absorbed; free = []; back = []; place = Rest; item = None }

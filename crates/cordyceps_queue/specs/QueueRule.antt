@@ -6,17 +6,17 @@ use lib.ListN.{get_elem?}
 use Rattle.atomic_table.specs.Table.{State}
 use Rattle.atomic_table.specs.Seated.{TableId}
 use Rattle.cordyceps_shared.specs.Histories.{events}
-use Rattle.cordyceps_shared.specs.Knowing.{Owned, AllFit}
+use Rattle.cordyceps_shared.specs.Knowing.{SharesApart, AllAgree}
 use Rattle.cordyceps_shared.specs.Shares.{Name}
-use Rattle.cordyceps_queue.specs.declared.place.Place.TheVariants.{Cleared}
+use Rattle.cordyceps_queue.specs.declared.place.Stage.TheVariants.{Cleared}
 use Rattle.cordyceps_queue.specs.declared.queue_table.Filled.{Filled}
 use Rattle.cordyceps_queue.specs.QueueHistory.{Event}
-use Rattle.cordyceps_queue.specs.QueueMeets.{IsAt, Chain, Meets}
+use Rattle.cordyceps_queue.specs.QueueMeets.{ItemAt, Chain, Meets}
 use Rattle.cordyceps_queue.specs.QueueView.{View, knows, name}
-use Rattle.cordyceps_queue.specs.QueueWords.{Party, Words}
+use Rattle.cordyceps_queue.specs.QueueWords.{AbstractParty, AbstractMachine}
 
-abbrev pub Table : Type 0 → Type 0
-Table E = State (Option (Filled E)) (View E)
+abbrev pub TableState : Type 0 → Type 0
+TableState E = State (Option (Filled E)) (View E)
 
 abbrev pub Homes : Type 0 → Type 0
 Homes E = List (maybe.Option (Option (Filled E)))
@@ -31,30 +31,30 @@ link_of zero = None
 link_of (suc r) = Some r
 
 -- a seat without a share is no party
-abbrev pub party_if : List Name → Party Name → Option (Party Name)
+abbrev pub party_if : List Name → AbstractParty Name → Option (AbstractParty Name)
 party_if [] p = None
 party_if (n ∷ ns) p = Some p
 
 module _ {E : Type 0} where
   -- what lies in the slot of a room in use: its ticket and its element
-  abbrev pub filled : ℕ → E → Filled E
-  filled r e = record { ticket = r; item = e }
+  abbrev pub full_slot : ℕ → E → Filled E
+  full_slot r e = record { ticket = r; item = e }
 
   abbrev pub slot_of : ℕ → Option E → Option (Filled E)
   slot_of r None = None
-  slot_of r (Some e) = Some (filled r e)
+  slot_of r (Some e) = Some (full_slot r e)
 
   -- the party as the core's machine has it: a room whose slot has yet to be given back is free already
-  abbrev pub party : View E → Party Name
+  abbrev pub party : View E → AbstractParty Name
   party v = record { name = name v; place = v.place; spare = v.back ++ v.free }
 
-  abbrev pub party_of : maybe.Option (View E) → Option (Party Name)
+  abbrev pub party_of : maybe.Option (View E) → Option (AbstractParty Name)
   party_of none = None
   party_of (some v) = party_if v.known.share (party v)
 
   -- The machine that the words and the views spell: word 0 is head, word 1 the right, and word 2 + r the link of room r. What
   -- the rooms have is said apart, since a slot may be out with a seat.
-  abbrev pub machine_of : (ℕ → Option E) → List ℕ → List (View E) → Words Name E
+  abbrev pub machine_of : (ℕ → Option E) → List ℕ → List (View E) → AbstractMachine Name E
   machine_of cell words views = record {
     head = slice_index words 0;
     right = slice_index words 1;
@@ -65,34 +65,34 @@ module _ {E : Type 0} where
   }
 
   -- the slots of the chain's rooms are at home, each with its element
-  abbrev pub Full : Homes E → (ℕ → Option E) → List ℕ → Type 0
-  Full homes cell rooms = (i r : ℕ) → IsAt rooms i r → r ≢ 0 → get_elem? homes r ≡ some (some (slot_of r (cell r)))
+  abbrev pub FullAtHome : Homes E → (ℕ → Option E) → List ℕ → Type 0
+  FullAtHome homes cell rooms = (i r : ℕ) → ItemAt rooms i r → r ≢ 0 → get_elem? homes r ≡ some (some (slot_of r (cell r)))
 
   -- the slots of free rooms are at home, with nothing in them
-  abbrev pub Empty : Homes E → List ℕ → Type 0
-  Empty homes free = (i r : ℕ) → IsAt free i r → get_elem? homes r ≡ some (some None)
+  abbrev pub EmptyAtHome : Homes E → List ℕ → Type 0
+  EmptyAtHome homes free = (i r : ℕ) → ItemAt free i r → get_elem? homes r ≡ some (some None)
 
   -- so it is with each party
-  abbrev pub AllEmpty : Homes E → List (View E) → Type 0
-  AllEmpty homes views = (j : ℕ) (v : View E) → get_elem? views j ≡ some v → v.known.share ≢ [] → Empty homes v.free
+  abbrev pub AllEmptyAtHome : Homes E → List (View E) → Type 0
+  AllEmptyAtHome homes views = (j : ℕ) (v : View E) → get_elem? views j ≡ some v → v.known.share ≢ [] → EmptyAtHome homes v.free
 
   -- a cleared room has the element that it was cleared for
   abbrev pub AllReady : (ℕ → Option E) → List (View E) → Type 0
   AllReady cell views = (j : ℕ) (v : View E) (r : ℕ) → get_elem? views j ≡ some v → v.known.share ≢ [] → v.place ≡ Cleared r → cell r ≡ v.item
 
   -- there is one history, which the machine meets, and of which each party has seen a beginning
-  pub record Kept (s : Table E) : Type 0 where
+  pub record RuleHolds (s : TableState E) : Type 0 where
     pub history : History E
     pub cell : ℕ → Option E
     pub chain : Chain
     pub meets : Meets (machine_of cell s.words s.views) chain (reverse (events history))
     pub wide : length s.words ≡ 2 + length s.homes
     pub stub : 1 ≤ length s.homes
-    pub full : Full s.homes cell chain.rooms
-    pub empty : AllEmpty s.homes s.views
+    pub full : FullAtHome s.homes cell chain.rooms
+    pub empty : AllEmptyAtHome s.homes s.views
     pub ready : AllReady cell s.views
-    pub fits : AllFit knows s.views history
-    pub owned : Owned knows s.views history
+    pub fits : AllAgree knows s.views history
+    pub owned : SharesApart knows s.views history
 
 -- a link for each slot, head and the right, and the stub's slot
 abbrev pub IsTable : TableId → Type 0

@@ -98,6 +98,6 @@ module _ {E : Type 0} where
   MissesDequeue u w = Dequeues (Err error.Busy) u w ⊎ Dequeues (Err error.Inconsistent) u w
 
   -- the last try of a waiting call, which gives none where nothing was held
-  abbrev pub found : Option E → Result E TryDequeueError
-  found (Some e) = Ok e
-  found None = Err error.Empty
+  abbrev pub try_result : Option E → Result E TryDequeueError
+  try_result (Some e) = Ok e
+  try_result None = Err error.Empty

@@ -3,8 +3,8 @@ use Rattle.std.specs.Prelude.{ℕ, zero, suc, List, [], ◌∷◌, Option, None}
 use Rattle.cordyceps_shared.specs.Knowing.{Known}
 use Rattle.cordyceps_shared.specs.Knowing as knowing
 use Rattle.cordyceps_shared.specs.Shares.{Name, first_name}
-use Rattle.cordyceps_queue.specs.declared.place.Place.{Place}
-use Rattle.cordyceps_queue.specs.declared.place.Place.TheVariants.{Rest}
+use Rattle.cordyceps_queue.specs.declared.place.Stage.{Stage}
+use Rattle.cordyceps_queue.specs.declared.place.Stage.TheVariants.{Rest}
 use Rattle.cordyceps_queue.specs.QueueHistory.{Event}
 
 -- what the party knows of the history; its free rooms; its rooms whose slot it has yet to give back; where it is within a
@@ -13,7 +13,7 @@ pub record View (E : Type 0) : Type 0 where
   pub known : Known (Event Name E)
   pub free : List ℕ
   pub back : List ℕ
-  pub place : Place
+  pub place : Stage
   pub item : Option E
 
 -- the numbers from n down to 1

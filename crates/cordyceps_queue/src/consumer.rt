@@ -8,7 +8,7 @@ ghost use Rattle.cordyceps_queue.specs.declared.steps.TryDequeueError.TheVariant
 ghost use Rattle.cordyceps_queue.specs.QueueStanding.{Consumes, TakesRight, FindsBusy, GivesRight, IsCertain};
 
 use crate::batch::Batch;
-use crate::queue_table::{Chair, Filled, Tried, Words};
+use crate::queue_table::{Filled, PartySeat, Tried, Words};
 use crate::shared_queue::{MpscQueue, Party};
 use crate::steps::TryDequeueError;
 use crate::{queue_steps, queue_tries};
@@ -19,7 +19,7 @@ use std::marker::Model;
 
 /// A party that has the right to dequeue, and the tail's room. It cannot be dropped, so that each consumer gives the right back.
 pub(crate) struct Right<E: Drop> {
-    seat: Chair<E>,
+    seat: PartySeat<E>,
     tickets: Tickets,
     tail: u64,
 }

@@ -4,7 +4,7 @@ ghost use Rattle.cordyceps_queue.specs.QueueMachine.{stepped, acts, least_free, 
 ghost use Rattle.cordyceps_queue.specs.QueueCore.{IsSound, new_machine, with_party, with_room};
 ghost use Rattle.cordyceps_queue.specs.QueueDrained.{count_held};
 
-use crate::place::Place;
+use crate::place::Stage;
 use crate::rooms::Rooms;
 use crate::steps::{QueueAnswer, QueueStep};
 use cordyceps_base::shared::StepError;
@@ -17,7 +17,7 @@ pub(crate) struct Machine<E> {
     head: usize,
     right: Option<usize>,
     rooms: Rooms<E>,
-    parties: Vec<Place>,
+    parties: Vec<Stage>,
 }
 
 impl<E> Model for Machine<E> {
@@ -48,7 +48,7 @@ impl<E: Drop> Machine<E> {
         ensures err { OnErr result (self.new ≡ self.old) }
     {
         let party = self.parties.len();
-        self.parties.push(Place::Rest)?;
+        self.parties.push(Stage::Rest)?;
         Ok(party)
     }
 
@@ -61,7 +61,7 @@ impl<E: Drop> Machine<E> {
     }
 
     /// Where the party is.
-    pub(crate) fn place(&self, party: usize) -> Option<Place>
+    pub(crate) fn place(&self, party: usize) -> Option<Stage>
         ensures { result ≡ slice_get self.now.parties party }
     {
         self.parties.get(party).copied()
@@ -87,7 +87,7 @@ impl<E: Drop> Machine<E> {
     }
 
     /// The party goes to another place.
-    fn stand(&mut self, party: usize, place: Place, answer: QueueAnswer<E>) -> Answered<E>
+    fn stand(&mut self, party: usize, place: Stage, answer: QueueAnswer<E>) -> Answered<E>
         requires { party < length self.old.parties }
         ensures machine { self.new ≡ (stands self.old party place answer).0 }
         ensures answer { result ≡ (stands self.old party place answer).1 }
@@ -98,7 +98,7 @@ impl<E: Drop> Machine<E> {
 
     fn clear(&mut self, party: usize, element: E) -> Answered<E>
         requires sound { IsSound self.old }
-        requires at { slice_get self.old.parties party ≡ Some Place.Rest }
+        requires at { slice_get self.old.parties party ≡ Some Stage.Rest }
         ensures machine { self.new ≡ (clear self.old party element (least_free party self.old.rooms)).0 }
         ensures answer { result ≡ (clear self.old party element (least_free party self.old.rooms)).1 }
     {
@@ -106,11 +106,11 @@ impl<E: Drop> Machine<E> {
             return Err((StepError::NotThere, Some(element)));
         };
         self.rooms.hold(room, element);
-        self.parties[party] = Place::Cleared(room);
+        self.parties[party] = Stage::Cleared(room);
         Ok(QueueAnswer::Done)
     }
 
-    fn swap(&mut self, party: usize, room: usize, place: Place) -> Answered<E>
+    fn swap(&mut self, party: usize, room: usize, place: Stage) -> Answered<E>
         requires { party < length self.old.parties }
         ensures machine { self.new ≡ (swap self.old party room place).0 }
         ensures answer { result ≡ (swap self.old party room place).1 }
@@ -120,7 +120,7 @@ impl<E: Drop> Machine<E> {
         Ok(QueueAnswer::Done)
     }
 
-    fn link(&mut self, party: usize, at: usize, next: Option<usize>, place: Place) -> Answered<E>
+    fn link(&mut self, party: usize, at: usize, next: Option<usize>, place: Stage) -> Answered<E>
         requires party { party < length self.old.parties }
         requires room { at < length self.old.rooms }
         ensures machine { self.new ≡ (link self.old party at next place).0 }
@@ -140,7 +140,7 @@ impl<E: Drop> Machine<E> {
             return Ok(QueueAnswer::Busy);
         };
         self.right = None;
-        self.parties[party] = Place::Holding(tail);
+        self.parties[party] = Stage::Holding(tail);
         Ok(QueueAnswer::Taken)
     }
 
@@ -150,7 +150,7 @@ impl<E: Drop> Machine<E> {
         ensures answer { result ≡ (give self.old party tail).1 }
     {
         self.right = Some(tail);
-        self.parties[party] = Place::Rest;
+        self.parties[party] = Stage::Rest;
         Ok(QueueAnswer::Done)
     }
 
@@ -162,7 +162,7 @@ impl<E: Drop> Machine<E> {
         ensures answer { result ≡ (hand_out self.old party tail next (element_in (slice_get self.old.rooms tail))).1 }
     {
         let element = self.rooms.free(tail, party);
-        self.parties[party] = Place::Holding(next);
+        self.parties[party] = Stage::Holding(next);
         Ok(QueueAnswer::Out(element))
     }
 
@@ -173,8 +173,8 @@ impl<E: Drop> Machine<E> {
         ensures answer { result ≡ (read_stub self.old party (next_in (slice_get self.old.rooms 0))).1 }
     {
         match self.rooms.next(0) {
-            None => self.stand(party, Place::StubNull, QueueAnswer::Done),
-            Some(next) => self.stand(party, Place::Second(next), QueueAnswer::Done),
+            None => self.stand(party, Stage::StubNull, QueueAnswer::Done),
+            Some(next) => self.stand(party, Stage::Second(next), QueueAnswer::Done),
         }
     }
 
@@ -186,7 +186,7 @@ impl<E: Drop> Machine<E> {
         ensures answer { result ≡ (read self.old party tail (next_in (slice_get self.old.rooms tail))).1 }
     {
         match self.rooms.next(tail) {
-            None => self.stand(party, Place::Null(tail), QueueAnswer::Done),
+            None => self.stand(party, Stage::Null(tail), QueueAnswer::Done),
             Some(next) => self.hand_out(party, tail, next),
         }
     }
@@ -199,7 +199,7 @@ impl<E: Drop> Machine<E> {
         ensures answer { result ≡ (read_again self.old party tail (next_in (slice_get self.old.rooms tail))).1 }
     {
         match self.rooms.next(tail) {
-            None => self.stand(party, Place::Holding(tail), QueueAnswer::Inconsistent),
+            None => self.stand(party, Stage::Holding(tail), QueueAnswer::Inconsistent),
             Some(next) => self.hand_out(party, tail, next),
         }
     }
@@ -224,9 +224,9 @@ impl<E: Drop> Machine<E> {
         ensures answer { result ≡ (head_stub self.old party (nat_eq self.old.head 0)).1 }
     {
         if self.head == 0 {
-            self.stand(party, Place::Holding(0), QueueAnswer::Empty)
+            self.stand(party, Stage::Holding(0), QueueAnswer::Empty)
         } else {
-            self.stand(party, Place::Holding(0), QueueAnswer::Inconsistent)
+            self.stand(party, Stage::Holding(0), QueueAnswer::Inconsistent)
         }
     }
 
@@ -236,9 +236,9 @@ impl<E: Drop> Machine<E> {
         ensures answer { result ≡ (head_tail self.old party tail (nat_eq self.old.head tail)).1 }
     {
         if self.head == tail {
-            self.stand(party, Place::PutClear(tail), QueueAnswer::Done)
+            self.stand(party, Stage::PutClear(tail), QueueAnswer::Done)
         } else {
-            self.stand(party, Place::Holding(tail), QueueAnswer::Inconsistent)
+            self.stand(party, Stage::Holding(tail), QueueAnswer::Inconsistent)
         }
     }
 
@@ -253,40 +253,40 @@ impl<E: Drop> Machine<E> {
         };
         match step {
             QueueStep::Clear(Some(element)) => match place {
-                Place::Rest => self.clear(party, element),
+                Stage::Rest => self.clear(party, element),
                 _ => Err((StepError::NotThere, Some(element))),
             },
             QueueStep::Clear(None) => match place {
-                Place::PutClear(tail) => self.link(party, 0, None, Place::PutSwap(tail)),
+                Stage::PutClear(tail) => self.link(party, 0, None, Stage::PutSwap(tail)),
                 _ => Err((StepError::NotThere, None)),
             },
             QueueStep::Swap => match place {
-                Place::Cleared(room) => self.swap(party, room, Place::Swapped(room, self.head)),
-                Place::PutSwap(tail) => self.swap(party, 0, Place::PutLink(tail, self.head)),
+                Stage::Cleared(room) => self.swap(party, room, Stage::Swapped(room, self.head)),
+                Stage::PutSwap(tail) => self.swap(party, 0, Stage::PutLink(tail, self.head)),
                 _ => Err((StepError::NotThere, None)),
             },
             QueueStep::Link => match place {
-                Place::Swapped(room, old) => self.link(party, old, Some(room), Place::Rest),
-                Place::PutLink(tail, old) => self.link(party, old, Some(0), Place::PutRead(tail)),
+                Stage::Swapped(room, old) => self.link(party, old, Some(room), Stage::Rest),
+                Stage::PutLink(tail, old) => self.link(party, old, Some(0), Stage::PutRead(tail)),
                 _ => Err((StepError::NotThere, None)),
             },
             QueueStep::Take => match place {
-                Place::Rest => self.take(party),
+                Stage::Rest => self.take(party),
                 _ => Err((StepError::NotThere, None)),
             },
             QueueStep::ReadNext => match place {
-                Place::Holding(tail) => self.look(party, tail),
-                Place::Second(tail) => self.read(party, tail),
-                Place::PutRead(tail) => self.read_again(party, tail),
+                Stage::Holding(tail) => self.look(party, tail),
+                Stage::Second(tail) => self.read(party, tail),
+                Stage::PutRead(tail) => self.read_again(party, tail),
                 _ => Err((StepError::NotThere, None)),
             },
             QueueStep::ReadHead => match place {
-                Place::StubNull => self.head_stub(party),
-                Place::Null(tail) => self.head_tail(party, tail),
+                Stage::StubNull => self.head_stub(party),
+                Stage::Null(tail) => self.head_tail(party, tail),
                 _ => Err((StepError::NotThere, None)),
             },
             QueueStep::Give => match place {
-                Place::Holding(tail) => self.give(party, tail),
+                Stage::Holding(tail) => self.give(party, tail),
                 _ => Err((StepError::NotThere, None)),
             },
         }

@@ -5,7 +5,7 @@ ghost use Rattle.cordyceps_queue.specs.QueueDrained.{is_cleared};
 /// Where a party is between two steps. `room` is the room that it enqueues, `old` the head before its swap, and `tail`
 /// the room at which the party with the right dequeues. The stub is room 0.
 #[derive(Clone, Copy)]
-pub enum Place {
+pub enum Stage {
     Rest,
     /// The room's link is null, and its element is chosen.
     Cleared(usize),
@@ -27,11 +27,11 @@ pub enum Place {
     PutRead(usize),
 }
 
-impl Place {
+impl Stage {
     /// Whether the party has an element in a room that it has yet to swap in.
     pub(crate) fn is_cleared(&self) -> bool
         ensures { result ≡ is_cleared self.now }
     {
-        matches!(self, Place::Cleared(_))
+        matches!(self, Stage::Cleared(_))
     }
 }

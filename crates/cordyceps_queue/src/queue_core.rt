@@ -4,7 +4,7 @@ ghost use Rattle.cordyceps_base.specs.Runs.{after};
 ghost use Rattle.cordyceps_queue.specs.QueueAlone.{is_ready, may_dequeue, enqueue_steps, dequeued, found_of, dequeue_events, Enqueued, Finds, LooksBlocked};
 ghost use Rattle.cordyceps_queue.specs.QueueDrained.{may_drain, drained_at, given, batch_of, batch_events, oldest, NobodyPending, NobodyElse, Drains};
 ghost use Rattle.cordyceps_queue.specs.QueueHistory.{Event, holder, held};
-ghost use Rattle.cordyceps_queue.specs.QueueMachine.{stepped, is_there, element_of, step_events};
+ghost use Rattle.cordyceps_queue.specs.QueueMachine.{stepped, is_there, step_element, step_events};
 ghost use Rattle.cordyceps_queue.specs.QueueCore.{CoreMeets, AnswerSays, core_step, new_machine, with_party, with_room};
 
 use crate::machine::Machine;
@@ -82,7 +82,7 @@ impl<E: Drop> QueueCore<E> {
         ensures machine { self.new ≡ (stepped self.old party step).0 }
         ensures answer { result ≡ (stepped self.old party step).1 }
         ensures accepted { is_ok result ≡ is_there self.old party step }
-        ensures refused { IfErr result (λ e. (e ≡ (StepError.NotThere, element_of step)) × (self.new ≡ self.old)) }
+        ensures refused { IfErr result (λ e. (e ≡ (StepError.NotThere, step_element step)) × (self.new ≡ self.old)) }
         ensures history { (h : List (Event ℕ E)) → CoreMeets h self.old → CoreMeets (h ++ step_events self.old party step result) self.new × AnswerSays h party result }
     {
         self.machine.act(party, step)

@@ -1,19 +1,19 @@
 //! The atomic steps of a shared queue. Each function is a part of a call.
 ghost use Rattle.std.specs.Prelude.{◌≡◌, ◌≢◌, ◌≤◌, ◌<◌, ℕ, suc, List, [], ◌∷◌, Some, None, MatchOption};
-ghost use Rattle.cordyceps_queue.specs.QueueCalls.{IsCleared, IsSwapped, Takes};
+ghost use Rattle.cordyceps_queue.specs.QueueCalls.{IsCleared, IsSwapped, AsksRight};
 ghost use Rattle.cordyceps_queue.specs.QueueHistory.{Event};
-ghost use Rattle.cordyceps_queue.specs.QueuePlays.{Sees, IsResting, IsHolding, IsAtPlace, Blocked, HandsOut, stands_at, hands_out};
+ghost use Rattle.cordyceps_queue.specs.QueuePlays.{Sees, IsResting, IsHolding, IsAtStage, Blocked, HandsOneOut, stands_at, hands_out};
 ghost use Rattle.cordyceps_queue.specs.QueueRule.{IsTable};
 ghost use Rattle.cordyceps_queue.specs.QueueView.{name};
-ghost use Rattle.cordyceps_queue.specs.declared.place.Place.TheVariants.{Cleared, Swapped, Rest, Holding, Null, PutRead};
+ghost use Rattle.cordyceps_queue.specs.declared.place.Stage.TheVariants.{Cleared, Swapped, Rest, Holding, Null, PutRead};
 
 use crate::queue_plays::{Clear, Give, Link, Look, Reread, Swap, Take};
-use crate::queue_table::{Chair, Chosen, Filled, Words};
+use crate::queue_table::{Chosen, Filled, PartySeat, Words};
 use cordyceps_shared::tickets::Ticket;
 use std::marker::Brand;
 
 /// Makes a free room's link null, and takes the room's slot in hand, before this element is put in.
-fn clear<E: Drop, B: Chosen<E>>(words: &Words<E>, seat: &mut Chair<E>, room: usize, _item: &E)
+fn clear<E: Drop, B: Chosen<E>>(words: &Words<E>, seat: &mut PartySeat<E>, room: usize, _item: &E)
     requires table { (seat.old.table_id ≡ words.now.table_id) × IsTable words.now.table_id }
     requires rest { IsResting words.now.table_id.slots seat.old.me }
     requires room { (rs : List ℕ) × (seat.old.me.0.free ≡ room ∷ rs) }
@@ -25,7 +25,7 @@ fn clear<E: Drop, B: Chosen<E>>(words: &Words<E>, seat: &mut Chair<E>, room: usi
 }
 
 /// Puts the element into the slot in hand, makes its room the head, and answers the old head.
-fn swap_in<E: Drop>(words: &Words<E>, seat: &mut Chair<E>, full: Filled<E>) -> u64
+fn swap_in<E: Drop>(words: &Words<E>, seat: &mut PartySeat<E>, full: Filled<E>) -> u64
     requires table { (seat.old.table_id ≡ words.now.table_id) × IsTable words.now.table_id }
     requires place { (seat.old.me.0.place ≡ Cleared full.ticket) × (seat.old.me.0.item ≡ Some full.item) × (seat.old.me.0.back ≡ []) }
     requires hand { seat.old.me.1 ≡ (full.ticket, None) ∷ [] }
@@ -39,7 +39,7 @@ fn swap_in<E: Drop>(words: &Words<E>, seat: &mut Chair<E>, full: Filled<E>) -> u
 }
 
 /// Makes the old head lead to the room.
-fn link<E: Drop>(words: &Words<E>, seat: &mut Chair<E>, room: usize, old: usize)
+fn link<E: Drop>(words: &Words<E>, seat: &mut PartySeat<E>, room: usize, old: usize)
     requires table { (seat.old.table_id ≡ words.now.table_id) × IsTable words.now.table_id }
     requires place { (seat.old.me.0.place ≡ Swapped room old) × (seat.old.me.0.back ≡ []) × (seat.old.me.1 ≡ []) }
     requires near { (old < words.now.table_id.slots) × (room < words.now.table_id.slots) × (seat.old.me.0.known.share ≢ []) }
@@ -52,7 +52,7 @@ fn link<E: Drop>(words: &Words<E>, seat: &mut Chair<E>, room: usize, old: usize)
 }
 
 /// Puts an element into a free room, which the ticket is of, makes the room the head, and links it.
-pub(crate) fn enqueue<E: Drop>(words: &Words<E>, seat: &mut Chair<E>, ticket: Ticket, item: E)
+pub(crate) fn enqueue<E: Drop>(words: &Words<E>, seat: &mut PartySeat<E>, ticket: Ticket, item: E)
     requires table { (seat.old.table_id ≡ words.now.table_id) × IsTable words.now.table_id }
     requires rest { IsResting words.now.table_id.slots seat.old.me }
     requires room { (rs : List ℕ) × (seat.old.me.0.free ≡ ticket ∷ rs) }
@@ -68,7 +68,7 @@ pub(crate) fn enqueue<E: Drop>(words: &Words<E>, seat: &mut Chair<E>, ticket: Ti
 }
 
 /// Gives the right back, and the slot in hand.
-pub(crate) fn give<E: Drop>(words: &Words<E>, seat: &mut Chair<E>, tail: usize)
+pub(crate) fn give<E: Drop>(words: &Words<E>, seat: &mut PartySeat<E>, tail: usize)
     requires table { (seat.old.table_id ≡ words.now.table_id) × IsTable words.now.table_id }
     requires holding { IsHolding words.now.table_id.slots tail seat.old.me }
     ensures table { seat.new.table_id ≡ seat.old.table_id }
@@ -79,9 +79,9 @@ pub(crate) fn give<E: Drop>(words: &Words<E>, seat: &mut Chair<E>, tail: usize)
 }
 
 /// Reads the link of the tail again, behind which the stub was put in.
-pub(crate) fn reread<E: Drop>(words: &Words<E>, seat: &mut Chair<E>, tail: usize) -> u64
+pub(crate) fn reread<E: Drop>(words: &Words<E>, seat: &mut PartySeat<E>, tail: usize) -> u64
     requires table { (seat.old.table_id ≡ words.now.table_id) × IsTable words.now.table_id }
-    requires place { IsAtPlace words.now.table_id.slots (PutRead tail) seat.old.me × (tail < words.now.table_id.slots) }
+    requires place { IsAtStage words.now.table_id.slots (PutRead tail) seat.old.me × (tail < words.now.table_id.slots) }
     ensures table { seat.new.table_id ≡ seat.old.table_id }
     ensures null { result ≡ 0 → stands_at [] (Holding tail) seat.old.me seat.new.me × Blocked seat.new.me.0 }
     ensures room { (r : ℕ) → result ≡ suc r → hands_out [] words.now.table_id.slots tail r seat.old.me seat.new.me }
@@ -90,11 +90,11 @@ pub(crate) fn reread<E: Drop>(words: &Words<E>, seat: &mut Chair<E>, tail: usize
 }
 
 /// Takes the right, and answers 1 more than the tail's room, or 0 beside another holder.
-pub(crate) fn take<E: Drop>(words: &Words<E>, seat: &mut Chair<E>) -> u64
+pub(crate) fn take<E: Drop>(words: &Words<E>, seat: &mut PartySeat<E>) -> u64
     requires table { (seat.old.table_id ≡ words.now.table_id) × IsTable words.now.table_id }
     requires rest { IsResting words.now.table_id.slots seat.old.me }
     ensures table { seat.new.table_id ≡ seat.old.table_id }
-    ensures took { Takes words.now.table_id.slots result seat.old.me seat.new.me }
+    ensures took { AsksRight words.now.table_id.slots result seat.old.me seat.new.me }
 {
     words.swap::<Take>(seat, 1, 0)
 }
@@ -103,7 +103,7 @@ pub(crate) fn take<E: Drop>(words: &Words<E>, seat: &mut Chair<E>) -> u64
 /// the slot. `None` where the link is null.
 pub(crate) fn look<E: Drop>(
     words: &Words<E>,
-    seat: &mut Chair<E>,
+    seat: &mut PartySeat<E>,
     tail: usize,
 ) -> Option<(u64, Filled<E>)>
     requires table { (seat.old.table_id ≡ words.now.table_id) × IsTable words.now.table_id }
@@ -112,7 +112,7 @@ pub(crate) fn look<E: Drop>(
     ensures table { seat.new.table_id ≡ seat.old.table_id }
     ensures answer { MatchOption result
         (stands_at (Event.Look (name seat.old.me.0) ∷ []) (Null tail) seat.old.me seat.new.me)
-        (λ r. (r.1.ticket ≡ tail) × HandsOut (Event.Look (name seat.old.me.0) ∷ []) words.now.table_id.slots tail r.0 r.1.item seat.old.me seat.new.me) }
+        (λ r. (r.1.ticket ≡ tail) × HandsOneOut (Event.Look (name seat.old.me.0) ∷ []) words.now.table_id.slots tail r.0 r.1.item seat.old.me seat.new.me) }
 {
     let next = words.load::<Look>(seat, tail + 2);
     if next == 0 {

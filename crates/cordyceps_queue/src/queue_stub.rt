@@ -1,16 +1,16 @@
 //! The atomic steps of a try to dequeue at the stub, and of putting the stub in. Each function is a part of a call.
 ghost use Rattle.std.specs.Prelude.{◌≡◌, ◌≢◌, ◌<◌, ℕ, suc, [], ◌∷◌, true, false, Some, None};
 ghost use Rattle.cordyceps_queue.specs.QueueHistory.{Event};
-ghost use Rattle.cordyceps_queue.specs.QueuePlays.{IsHolding, IsAtPlace, Blocked, hands_out, stands_at};
-ghost use Rattle.cordyceps_queue.specs.QueueRule.{IsTable, filled};
+ghost use Rattle.cordyceps_queue.specs.QueuePlays.{IsHolding, IsAtStage, Blocked, hands_out, stands_at};
+ghost use Rattle.cordyceps_queue.specs.QueueRule.{IsTable, full_slot};
 ghost use Rattle.cordyceps_queue.specs.QueueView.{name};
-ghost use Rattle.cordyceps_queue.specs.declared.place.Place.TheVariants.{Holding, StubNull, Second, Null, PutClear, PutSwap, PutLink, PutRead};
+ghost use Rattle.cordyceps_queue.specs.declared.place.Stage.TheVariants.{Holding, StubNull, Second, Null, PutClear, PutSwap, PutLink, PutRead};
 
 use crate::queue_plays::{ClearStub, Head, HeadStub, LinkStub, LookStub, Read, SwapStub};
-use crate::queue_table::{Chair, Filled, Words};
+use crate::queue_table::{Filled, PartySeat, Words};
 
 /// Reads the stub's link, where the stub is the tail.
-pub(crate) fn look_first<E: Drop>(words: &Words<E>, seat: &mut Chair<E>) -> u64
+pub(crate) fn look_first<E: Drop>(words: &Words<E>, seat: &mut PartySeat<E>) -> u64
     requires table { (seat.old.table_id ≡ words.now.table_id) × IsTable words.now.table_id }
     requires holding { IsHolding words.now.table_id.slots 0 seat.old.me }
     ensures table { seat.new.table_id ≡ seat.old.table_id }
@@ -21,9 +21,9 @@ pub(crate) fn look_first<E: Drop>(words: &Words<E>, seat: &mut Chair<E>) -> u64
 }
 
 /// Reads the head behind a null link of the stub.
-pub(crate) fn head_of_stub<E: Drop>(words: &Words<E>, seat: &mut Chair<E>) -> u64
+pub(crate) fn head_of_stub<E: Drop>(words: &Words<E>, seat: &mut PartySeat<E>) -> u64
     requires table { (seat.old.table_id ≡ words.now.table_id) × IsTable words.now.table_id }
-    requires place { IsAtPlace words.now.table_id.slots StubNull seat.old.me }
+    requires place { IsAtStage words.now.table_id.slots StubNull seat.old.me }
     ensures table { seat.new.table_id ≡ seat.old.table_id }
     ensures stub { result ≡ 0 → stands_at (Event.Empty (name seat.old.me.0) ∷ []) (Holding 0) seat.old.me seat.new.me }
     ensures room { result ≢ 0 → stands_at [] (Holding 0) seat.old.me seat.new.me × Blocked seat.new.me.0 }
@@ -32,9 +32,9 @@ pub(crate) fn head_of_stub<E: Drop>(words: &Words<E>, seat: &mut Chair<E>) -> u6
 }
 
 /// Reads the link of the tail that stood behind the stub.
-pub(crate) fn read_second<E: Drop>(words: &Words<E>, seat: &mut Chair<E>, tail: usize) -> u64
+pub(crate) fn read_second<E: Drop>(words: &Words<E>, seat: &mut PartySeat<E>, tail: usize) -> u64
     requires table { (seat.old.table_id ≡ words.now.table_id) × IsTable words.now.table_id }
-    requires place { IsAtPlace words.now.table_id.slots (Second tail) seat.old.me × (tail < words.now.table_id.slots) }
+    requires place { IsAtStage words.now.table_id.slots (Second tail) seat.old.me × (tail < words.now.table_id.slots) }
     ensures table { seat.new.table_id ≡ seat.old.table_id }
     ensures null { result ≡ 0 → stands_at [] (Null tail) seat.old.me seat.new.me }
     ensures room { (r : ℕ) → result ≡ suc r → hands_out [] words.now.table_id.slots tail r seat.old.me seat.new.me }
@@ -43,9 +43,9 @@ pub(crate) fn read_second<E: Drop>(words: &Words<E>, seat: &mut Chair<E>, tail: 
 }
 
 /// Whether the tail, whose link was null, is the head too.
-pub(crate) fn is_head<E: Drop>(words: &Words<E>, seat: &mut Chair<E>, tail: usize) -> bool
+pub(crate) fn is_head<E: Drop>(words: &Words<E>, seat: &mut PartySeat<E>, tail: usize) -> bool
     requires table { (seat.old.table_id ≡ words.now.table_id) × IsTable words.now.table_id }
-    requires place { IsAtPlace words.now.table_id.slots (Null tail) seat.old.me × (tail < words.now.table_id.slots) }
+    requires place { IsAtStage words.now.table_id.slots (Null tail) seat.old.me × (tail < words.now.table_id.slots) }
     ensures table { seat.new.table_id ≡ seat.old.table_id }
     ensures alone { result ≡ true → stands_at [] (PutClear tail) seat.old.me seat.new.me }
     ensures passed { result ≡ false → stands_at [] (Holding tail) seat.old.me seat.new.me × Blocked seat.new.me.0 }
@@ -53,18 +53,18 @@ pub(crate) fn is_head<E: Drop>(words: &Words<E>, seat: &mut Chair<E>, tail: usiz
     words.load::<Head>(seat, 0) == tail as u64
 }
 
-fn clear_stub<E: Drop>(words: &Words<E>, seat: &mut Chair<E>, _tail: usize)
+fn clear_stub<E: Drop>(words: &Words<E>, seat: &mut PartySeat<E>, _tail: usize)
     requires table { (seat.old.table_id ≡ words.now.table_id) × IsTable words.now.table_id }
-    requires place { IsAtPlace words.now.table_id.slots (PutClear _tail) seat.old.me }
+    requires place { IsAtStage words.now.table_id.slots (PutClear _tail) seat.old.me }
     ensures table { seat.new.table_id ≡ seat.old.table_id }
     ensures answer { stands_at [] (PutSwap _tail) seat.old.me seat.new.me }
 {
     words.store::<ClearStub>(seat, 2, 0);
 }
 
-fn swap_stub<E: Drop>(words: &Words<E>, seat: &mut Chair<E>, _tail: usize) -> u64
+fn swap_stub<E: Drop>(words: &Words<E>, seat: &mut PartySeat<E>, _tail: usize) -> u64
     requires table { (seat.old.table_id ≡ words.now.table_id) × IsTable words.now.table_id }
-    requires place { IsAtPlace words.now.table_id.slots (PutSwap _tail) seat.old.me }
+    requires place { IsAtStage words.now.table_id.slots (PutSwap _tail) seat.old.me }
     ensures table { seat.new.table_id ≡ seat.old.table_id }
     ensures answer { stands_at [] (PutLink _tail result) seat.old.me seat.new.me }
     ensures near { result < words.now.table_id.slots }
@@ -72,9 +72,9 @@ fn swap_stub<E: Drop>(words: &Words<E>, seat: &mut Chair<E>, _tail: usize) -> u6
     words.swap::<SwapStub>(seat, 0, 0)
 }
 
-fn link_stub<E: Drop>(words: &Words<E>, seat: &mut Chair<E>, _tail: usize, old: usize)
+fn link_stub<E: Drop>(words: &Words<E>, seat: &mut PartySeat<E>, _tail: usize, old: usize)
     requires table { (seat.old.table_id ≡ words.now.table_id) × IsTable words.now.table_id }
-    requires place { IsAtPlace words.now.table_id.slots (PutLink _tail old) seat.old.me × (old < words.now.table_id.slots) }
+    requires place { IsAtStage words.now.table_id.slots (PutLink _tail old) seat.old.me × (old < words.now.table_id.slots) }
     ensures table { seat.new.table_id ≡ seat.old.table_id }
     ensures answer { stands_at [] (PutRead _tail) seat.old.me seat.new.me }
 {
@@ -82,9 +82,9 @@ fn link_stub<E: Drop>(words: &Words<E>, seat: &mut Chair<E>, _tail: usize, old: 
 }
 
 /// Puts the stub in at the head, behind the tail.
-pub(crate) fn put_stub<E: Drop>(words: &Words<E>, seat: &mut Chair<E>, tail: usize)
+pub(crate) fn put_stub<E: Drop>(words: &Words<E>, seat: &mut PartySeat<E>, tail: usize)
     requires table { (seat.old.table_id ≡ words.now.table_id) × IsTable words.now.table_id }
-    requires place { IsAtPlace words.now.table_id.slots (PutClear tail) seat.old.me }
+    requires place { IsAtStage words.now.table_id.slots (PutClear tail) seat.old.me }
     ensures table { seat.new.table_id ≡ seat.old.table_id }
     ensures answer { stands_at [] (PutRead tail) seat.old.me seat.new.me }
 {
@@ -94,9 +94,9 @@ pub(crate) fn put_stub<E: Drop>(words: &Words<E>, seat: &mut Chair<E>, tail: usi
 }
 
 /// Takes the tail's element out of its slot, which is in hand.
-pub(crate) fn take_out<E: Drop>(words: &Words<E>, seat: &mut Chair<E>, tail: usize) -> Filled<E>
+pub(crate) fn take_out<E: Drop>(words: &Words<E>, seat: &mut PartySeat<E>, tail: usize) -> Filled<E>
     requires table { (seat.old.table_id ≡ words.now.table_id) × (tail < words.now.table_id.slots) }
-    requires full { (e : E) × (seat.old.me.1 ≡ (tail, Some (filled tail e)) ∷ []) }
+    requires full { (e : E) × (seat.old.me.1 ≡ (tail, Some (full_slot tail e)) ∷ []) }
     ensures table { seat.new.table_id ≡ seat.old.table_id }
     ensures element { seat.old.me.1 ≡ (tail, Some result) ∷ [] }
     ensures seat { seat.new.me ≡ (seat.old.me.0, (tail, None) ∷ []) }

@@ -14,11 +14,11 @@ pub(crate) struct Filled<E> {
 }
 
 /// What a seat knows. No value of it is made: a contract sees a `View`.
-pub(crate) struct Sight<E> {
+pub(crate) struct SeatView<E> {
     element: PhantomData<E>,
 }
 
-impl<E> Model for Sight<E> {
+impl<E> Model for SeatView<E> {
     ghost Value = { View E };
 
     ghost view = { λ _. newcomer 0 };
@@ -27,10 +27,10 @@ impl<E> Model for Sight<E> {
 /// The rule that each step keeps. Its key is the number of rooms.
 pub(crate) struct Rule;
 
-impl<E> TableRule<Option<Filled<E>>, Sight<E>, usize> for Rule {
-    ghost use Rattle.cordyceps_queue.specs.QueueRule.{Kept};
+impl<E> TableRule<Option<Filled<E>>, SeatView<E>, usize> for Rule {
+    ghost use Rattle.cordyceps_queue.specs.QueueRule.{RuleHolds};
 
-    ghost holds = { λ _. Kept };
+    ghost holds = { λ _. RuleHolds };
 
     ghost first = { newcomer };
 }
@@ -38,13 +38,13 @@ impl<E> TableRule<Option<Filled<E>>, Sight<E>, usize> for Rule {
 /// Word 0 is the head's room, word 1 the right: 0 while it is out, else 1 more than the tail's room. Word `r + 2` is the link
 /// of room `r`: 0 for null, else 1 more than the room behind it. Slot `r` has the ticket and the element of room `r`, and
 /// room 0 is the stub's.
-pub(crate) type Words<E> = Shared<Option<Filled<E>>, Sight<E>, usize, Rule>;
+pub(crate) type Words<E> = Shared<Option<Filled<E>>, SeatView<E>, usize, Rule>;
 
 /// The same, with its memory.
-pub(crate) type Rooms<E> = Table<Option<Filled<E>>, Sight<E>, usize, Rule, Global>;
+pub(crate) type OwnedTable<E> = Table<Option<Filled<E>>, SeatView<E>, usize, Rule, Global>;
 
 /// A party's seat.
-pub(crate) type Chair<E> = Seat<Option<Filled<E>>, Sight<E>>;
+pub(crate) type PartySeat<E> = Seat<Option<Filled<E>>, SeatView<E>>;
 
 /// The element that a room is cleared for. Each call that clears one picks it.
 pub(crate) trait Chosen<E> {

@@ -2,19 +2,19 @@
 ghost use Rattle.std.specs.Prelude.{◌≡◌, ◌<◌, [], ◌∷◌};
 ghost use Rattle.cordyceps_queue.specs.QueueCalls.{Tries, Dequeued};
 ghost use Rattle.cordyceps_queue.specs.QueueHistory.{Event};
-ghost use Rattle.cordyceps_queue.specs.QueuePlays.{IsResting, IsHolding, IsAtPlace};
+ghost use Rattle.cordyceps_queue.specs.QueuePlays.{IsResting, IsHolding, IsAtStage};
 ghost use Rattle.cordyceps_queue.specs.QueueRule.{IsTable};
 ghost use Rattle.cordyceps_queue.specs.QueueView.{name};
-ghost use Rattle.cordyceps_queue.specs.declared.place.Place.TheVariants.{Second, Null, PutRead};
+ghost use Rattle.cordyceps_queue.specs.declared.place.Stage.TheVariants.{Second, Null, PutRead};
 
 use crate::queue_steps::{give, look, reread, take};
 use crate::queue_stub::{head_of_stub, is_head, look_first, put_stub, read_second, take_out};
-use crate::queue_table::{Chair, Tried, Words};
+use crate::queue_table::{PartySeat, Tried, Words};
 
 /// Goes on where the stub was put in behind the tail.
-fn behind_tail<E: Drop>(words: &Words<E>, seat: &mut Chair<E>, tail: usize) -> (u64, Tried<E>)
+fn behind_tail<E: Drop>(words: &Words<E>, seat: &mut PartySeat<E>, tail: usize) -> (u64, Tried<E>)
     requires table { (seat.old.table_id ≡ words.now.table_id) × IsTable words.now.table_id }
-    requires place { IsAtPlace words.now.table_id.slots (PutRead tail) seat.old.me × (tail < words.now.table_id.slots) }
+    requires place { IsAtStage words.now.table_id.slots (PutRead tail) seat.old.me × (tail < words.now.table_id.slots) }
     ensures table { seat.new.table_id ≡ seat.old.table_id }
     ensures answer { Tries [] words.now.table_id.slots seat.old.me seat.new.me result.0 result.1 }
 {
@@ -26,9 +26,9 @@ fn behind_tail<E: Drop>(words: &Words<E>, seat: &mut Chair<E>, tail: usize) -> (
 }
 
 /// Goes on behind a null link of a tail that is no stub.
-fn at_end<E: Drop>(words: &Words<E>, seat: &mut Chair<E>, tail: usize) -> (u64, Tried<E>)
+fn at_end<E: Drop>(words: &Words<E>, seat: &mut PartySeat<E>, tail: usize) -> (u64, Tried<E>)
     requires table { (seat.old.table_id ≡ words.now.table_id) × IsTable words.now.table_id }
-    requires place { IsAtPlace words.now.table_id.slots (Null tail) seat.old.me × (tail < words.now.table_id.slots) }
+    requires place { IsAtStage words.now.table_id.slots (Null tail) seat.old.me × (tail < words.now.table_id.slots) }
     ensures table { seat.new.table_id ≡ seat.old.table_id }
     ensures answer { Tries [] words.now.table_id.slots seat.old.me seat.new.me result.0 result.1 }
 {
@@ -40,9 +40,9 @@ fn at_end<E: Drop>(words: &Words<E>, seat: &mut Chair<E>, tail: usize) -> (u64, 
 }
 
 /// Goes on where the stub was passed.
-fn behind_stub<E: Drop>(words: &Words<E>, seat: &mut Chair<E>, tail: usize) -> (u64, Tried<E>)
+fn behind_stub<E: Drop>(words: &Words<E>, seat: &mut PartySeat<E>, tail: usize) -> (u64, Tried<E>)
     requires table { (seat.old.table_id ≡ words.now.table_id) × IsTable words.now.table_id }
-    requires place { IsAtPlace words.now.table_id.slots (Second tail) seat.old.me × (tail < words.now.table_id.slots) }
+    requires place { IsAtStage words.now.table_id.slots (Second tail) seat.old.me × (tail < words.now.table_id.slots) }
     ensures table { seat.new.table_id ≡ seat.old.table_id }
     ensures answer { Tries [] words.now.table_id.slots seat.old.me seat.new.me result.0 result.1 }
 {
@@ -54,7 +54,7 @@ fn behind_stub<E: Drop>(words: &Words<E>, seat: &mut Chair<E>, tail: usize) -> (
 }
 
 /// Tries where the tail is the stub.
-fn look_stub<E: Drop>(words: &Words<E>, seat: &mut Chair<E>) -> (u64, Tried<E>)
+fn look_stub<E: Drop>(words: &Words<E>, seat: &mut PartySeat<E>) -> (u64, Tried<E>)
     requires table { (seat.old.table_id ≡ words.now.table_id) × IsTable words.now.table_id }
     requires holding { IsHolding words.now.table_id.slots 0 seat.old.me }
     ensures table { seat.new.table_id ≡ seat.old.table_id }
@@ -73,7 +73,7 @@ fn look_stub<E: Drop>(words: &Words<E>, seat: &mut Chair<E>) -> (u64, Tried<E>)
 /// Tries once, as the party that has the right: the tail after the try, and what it came to.
 pub(crate) fn advance<E: Drop>(
     words: &Words<E>,
-    seat: &mut Chair<E>,
+    seat: &mut PartySeat<E>,
     tail: usize,
 ) -> (u64, Tried<E>)
     requires table { (seat.old.table_id ≡ words.now.table_id) × IsTable words.now.table_id }
@@ -91,7 +91,7 @@ pub(crate) fn advance<E: Drop>(
 }
 
 /// Takes the right, tries once, and gives the right back. `None` beside another holder.
-pub(crate) fn try_dequeue<E: Drop>(words: &Words<E>, seat: &mut Chair<E>) -> Option<Tried<E>>
+pub(crate) fn try_dequeue<E: Drop>(words: &Words<E>, seat: &mut PartySeat<E>) -> Option<Tried<E>>
     requires table { (seat.old.table_id ≡ words.now.table_id) × IsTable words.now.table_id }
     requires rest { IsResting words.now.table_id.slots seat.old.me }
     ensures table { seat.new.table_id ≡ seat.old.table_id }

@@ -8,7 +8,7 @@ ghost use Rattle.cordyceps_queue.specs.QueueStanding.{Legal, Enqueues, Dequeues,
 ghost use Rattle.cordyceps_queue.specs.QueueView.{down_from};
 
 use crate::batch::Batch;
-use crate::queue_table::{Chair, Filled, Rooms, Tried};
+use crate::queue_table::{Filled, OwnedTable, PartySeat, Tried};
 use crate::steps::TryDequeueError;
 use crate::vault::Vault;
 use crate::{queue_parting, queue_steps, queue_tries};
@@ -32,7 +32,7 @@ use std::marker::Model;
 /// rooms in place of bare pointers. It never answers `Empty` where an element was put in and not linked yet.
 #[derive(Drop)]
 pub struct MpscQueue<T: Linked<Links<T>>> {
-    pub(crate) rooms: Rooms<T::Handle>,
+    pub(crate) rooms: OwnedTable<T::Handle>,
     stub: Option<Vault<T::Handle>>,
 }
 
@@ -54,7 +54,7 @@ impl<T: Linked<Links<T>>> Model for MpscQueue<T> {
 /// rooms of a party that is dropped are lost for good, and no party is whole afterwards.
 #[derive(Drop)]
 pub struct Party<T: Linked<Links<T>>> {
-    pub(crate) seat: Chair<T::Handle>,
+    pub(crate) seat: PartySeat<T::Handle>,
     pub(crate) tickets: Tickets,
 }
 

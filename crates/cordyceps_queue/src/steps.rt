@@ -1,6 +1,6 @@
 //! The steps of a core and their answers.
 ghost use Rattle.std.specs.Prelude.{◌≡◌};
-ghost use Rattle.cordyceps_queue.specs.QueueMachine.{element_of};
+ghost use Rattle.cordyceps_queue.specs.QueueMachine.{step_element};
 
 /// Why nothing was dequeued.
 #[derive(Clone, Copy, Debug, PartialEq, Eq)]
@@ -35,7 +35,7 @@ pub enum QueueStep<E> {
 impl<E: Drop> QueueStep<E> {
     /// The element that the step brings.
     pub(crate) fn into_element(self) -> Option<E>
-        ensures { result ≡ element_of self }
+        ensures { result ≡ step_element self }
     {
         match self {
             QueueStep::Clear(element) => element,

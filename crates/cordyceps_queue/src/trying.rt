@@ -6,21 +6,21 @@ ghost use Rattle.cordyceps_queue.specs.QueueDrained.{given, batch_of, drained, d
 ghost use Rattle.cordyceps_queue.specs.QueueHistory.{Event, held};
 
 use crate::machine::Machine;
-use crate::place::Place;
+use crate::place::Stage;
 use crate::steps::{QueueAnswer, QueueStep, TryDequeueError};
 use cordyceps_base::shared::StepError;
 
 type Answered<E> = Result<QueueAnswer<E>, (StepError, Option<E>)>;
 
 /// The step of a try to dequeue at this place.
-fn next_step<E>(place: Option<Place>) -> QueueStep<E>
+fn next_step<E>(place: Option<Stage>) -> QueueStep<E>
     ensures { result ≡ next_step place }
 {
     match place {
-        Some(Place::StubNull | Place::Null(_)) => QueueStep::ReadHead,
-        Some(Place::PutClear(_)) => QueueStep::Clear(None),
-        Some(Place::PutSwap(_)) => QueueStep::Swap,
-        Some(Place::PutLink(_, _)) => QueueStep::Link,
+        Some(Stage::StubNull | Stage::Null(_)) => QueueStep::ReadHead,
+        Some(Stage::PutClear(_)) => QueueStep::Clear(None),
+        Some(Stage::PutSwap(_)) => QueueStep::Swap,
+        Some(Stage::PutLink(_, _)) => QueueStep::Link,
         _ => QueueStep::ReadNext,
     }
 }
@@ -62,14 +62,14 @@ impl<E: Drop> Machine<E> {
     pub(crate) fn is_ready(&self, party: usize) -> bool
         ensures { result ≡ is_ready self.now party }
     {
-        matches!(self.place(party), Some(Place::Rest)) && self.has_room(party)
+        matches!(self.place(party), Some(Stage::Rest)) && self.has_room(party)
     }
 
     /// Whether the party is at a place from which it may dequeue.
     pub(crate) fn may_dequeue(&self, party: usize) -> bool
         ensures { result ≡ may_dequeue (slice_get self.now.parties party) }
     {
-        matches!(self.place(party), Some(Place::Rest | Place::Holding(_)))
+        matches!(self.place(party), Some(Stage::Rest | Stage::Holding(_)))
     }
 
     /// The steps of a holder's try to dequeue. From any place there are at most seven.
@@ -93,7 +93,7 @@ impl<E: Drop> Machine<E> {
         ensures machine { self.new ≡ (dequeued self.old party).0 }
         ensures answer { result ≡ (dequeued self.old party).1 }
     {
-        let Some(Place::Rest) = self.place(party) else {
+        let Some(Stage::Rest) = self.place(party) else {
             return self.try_holding(party);
         };
         match self.act(party, QueueStep::Take) {
@@ -109,7 +109,7 @@ impl<E: Drop> Machine<E> {
     /// Tries of a holder, one after the other, until the batch, which begins empty, has `max` elements or a try gives none.
     /// Answers why it gave none.
     fn drain(&mut self, party: usize, batch: &mut Vec<E>, max: usize) -> Option<TryDequeueError>
-        requires holding { (t : ℕ) × (slice_get self.old.parties party ≡ Some (Place.Holding t)) }
+        requires holding { (t : ℕ) × (slice_get self.old.parties party ≡ Some (Stage.Holding t)) }
         requires empty { batch.old.items ≡ [] }
         requires room { (h : List (Event ℕ E)) × CoreMeets h self.old × ((max ≤ vec_capacity batch.old) ⊎ (length (held h) ≤ vec_capacity batch.old)) }
         ensures { (self.new, batch.new.items, result) ≡ drained party max self.old }
@@ -135,7 +135,7 @@ impl<E: Drop> Machine<E> {
         requires room { (h : List (Event ℕ E)) × CoreMeets h self.old × ((max ≤ vec_capacity batch.old) ⊎ (length (held h) ≤ vec_capacity batch.old)) }
         ensures { (self.new, batch.new.items, result) ≡ drained_at party max self.old (slice_get self.old.parties party) }
     {
-        let Some(Place::Rest) = self.place(party) else {
+        let Some(Stage::Rest) = self.place(party) else {
             return self.drain(party, batch, max);
         };
         match self.act(party, QueueStep::Take) {

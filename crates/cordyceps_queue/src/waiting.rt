@@ -2,7 +2,7 @@
 ghost use Rattle.std.specs.Arc.{arc_value};
 ghost use Rattle.std.specs.Prelude.{◌≡◌, ◌≢◌, true, false, Err};
 ghost use Rattle.cordyceps_shared.specs.Shares.{whole};
-ghost use Rattle.cordyceps_queue.specs.QueueStanding.{AtLast, IsSame, MissesDequeue, Dequeues, Consumes, FindsBusy, TakesRight, found};
+ghost use Rattle.cordyceps_queue.specs.QueueStanding.{AtLast, IsSame, MissesDequeue, Dequeues, Consumes, FindsBusy, TakesRight, try_result};
 ghost use Rattle.cordyceps_queue.specs.declared.steps.TryDequeueError.TheVariants as error;
 
 use crate::consumer::Consumer;
@@ -31,8 +31,8 @@ impl<T: Linked<Links<T>>> MpscQueue<T> {
     pub fn dequeue<R: Wait>(&self, rt: &R, party: &mut Party<T>) -> Option<T::Handle>
         requires { party.old.table ≡ self.now.table }
         ensures same { IsSame party.old party.new }
-        ensures answer { AtLast MissesDequeue (Dequeues (found result)) party.old party.new }
-        ensures whole { party.old.share ≡ whole → Dequeues (found result) party.old party.new }
+        ensures answer { AtLast MissesDequeue (Dequeues (try_result result)) party.old party.new }
+        ensures whole { party.old.share ≡ whole → Dequeues (try_result result) party.old party.new }
     {
         let backoff = Backoff::new();
         for _ in rt.forever() {
@@ -101,8 +101,8 @@ impl<'a, T: Linked<Links<T>>> Consumer<'a, T> {
     /// whole party's first try is its last.
     pub fn dequeue<R: Wait>(&mut self, rt: &R) -> Option<T::Handle>
         ensures same { IsSame self.old self.new }
-        ensures answer { AtLast (Consumes (Err error.Inconsistent)) (Consumes (found result)) self.old self.new }
-        ensures whole { self.old.share ≡ whole → Consumes (found result) self.old self.new }
+        ensures answer { AtLast (Consumes (Err error.Inconsistent)) (Consumes (try_result result)) self.old self.new }
+        ensures whole { self.old.share ≡ whole → Consumes (try_result result) self.old self.new }
     {
         let backoff = Backoff::new();
         for _ in rt.forever() {
@@ -128,8 +128,8 @@ impl<T: Linked<Links<T>>> OwnedConsumer<T> {
     pub fn dequeue<R: Wait>(&mut self, rt: &R) -> Option<T::Handle>
         ensures queue { self.new.queue ≡ self.old.queue }
         ensures same { IsSame self.old.party self.new.party }
-        ensures answer { AtLast (Consumes (Err error.Inconsistent)) (Consumes (found result)) self.old.party self.new.party }
-        ensures whole { self.old.party.share ≡ whole → Consumes (found result) self.old.party self.new.party }
+        ensures answer { AtLast (Consumes (Err error.Inconsistent)) (Consumes (try_result result)) self.old.party self.new.party }
+        ensures whole { self.old.party.share ≡ whole → Consumes (try_result result) self.old.party self.new.party }
     {
         let backoff = Backoff::new();
         for _ in rt.forever() {

@@ -5,7 +5,7 @@ use lib.ListN.{get_elem?}
 use Rattle.atomic_table.proofs.Lists.{at_set}
 use Rattle.cordyceps_shared.specs.Shares.{covers}
 use Rattle.cordyceps_shared.specs.Histories.{events, marked}
-use Rattle.cordyceps_shared.specs.Knowing.{Known, Fits, Below, Owned, AllFit, unmarked, kept, given}
+use Rattle.cordyceps_shared.specs.Knowing.{Known, Agrees, Below, SharesApart, AllAgree, unmarked, known_keeping, known_giving}
 use Rattle.cordyceps_shared.proofs.Counting.{tally_set, tally_snoc}
 use Rattle.cordyceps_shared.proofs.Naming.{split_covers, keeps_some, gives_some}
 use Rattle.cordyceps_shared.proofs.Telling.{below_without, fits_set}
@@ -32,8 +32,8 @@ module _ {X : Type 0} where
   below_less n m (x ∷ xs) l b = let low = b.0 in (omega arith, below_less n m xs l b.1)
 
 module _ {X V : Type 0} (knows : V → Known X) where
-  pub owned_cut : (views : List V) (h : List (ℕ × X)) (j : ℕ) (v left right : V) → get_elem? views j ≡ some v → knows left ≡ kept (knows v) → knows right ≡ given (knows v) → (knows v).share ≢ [] → Owned knows views h
-      → Owned knows (set views j left ++ right ∷ []) h
+  pub owned_cut : (views : List V) (h : List (ℕ × X)) (j : ℕ) (v left right : V) → get_elem? views j ≡ some v → knows left ≡ known_keeping (knows v) → knows right ≡ known_giving (knows v) → (knows v).share ≢ [] → SharesApart knows views h
+      → SharesApart knows (set views j left ++ right ∷ []) h
   owned_cut views h j v left right at is_left is_right named o =
       let l = ap (λ (k : Known X). k.share) is_left in
       let r = ap (λ (k : Known X). k.share) is_right in record {
@@ -52,14 +52,14 @@ module _ {X V : Type 0} (knows : V → Known X) where
             omega (arith, o.apart x long, tally_snoc f (set views j left) right, tally_set f views j v left at, split_covers x (knows v).share);
       }
 
-  pub fits_cut : (views : List V) (h : List (ℕ × X)) (j : ℕ) (v left right : V) → get_elem? views j ≡ some v → knows left ≡ kept (knows v) → knows right ≡ given (knows v) → Owned knows views h → AllFit knows views h
-      → AllFit knows (set views j left ++ right ∷ []) h
+  pub fits_cut : (views : List V) (h : List (ℕ × X)) (j : ℕ) (v left right : V) → get_elem? views j ≡ some v → knows left ≡ known_keeping (knows v) → knows right ≡ known_giving (knows v) → SharesApart knows views h → AllAgree knows views h
+      → AllAgree knows (set views j left ++ right ∷ []) h
   fits_cut views h j v left right at is_left is_right o fits i u e =
       let n = length views in
       let f = fits j v at in
       let low = below_front n f.before f.later (subst (λ z. Below n z) f.is o.below) in
-      let left_fits : Fits h j (kept (knows v)) = record { before = f.before; later = f.later; is = f.is; seen = f.seen; none = f.none; told = f.told; short = f.short; apart = f.apart } in
-      let right_fits : Fits h n (given (knows v)) = record {
+      let left_fits : Agrees h j (known_keeping (knows v)) = record { before = f.before; later = f.later; is = f.is; seen = f.seen; none = f.none; told = f.told; short = f.short; apart = f.apart } in
+      let right_fits : Agrees h n (known_giving (knows v)) = record {
         before = f.before;
         later = f.later;
         is = f.is;
@@ -70,6 +70,6 @@ module _ {X V : Type 0} (knows : V → Known X) where
         apart = tt;
       } in
       ⊎_elim
-      (λ (there : get_elem? (set views j left) i ≡ some u). fits_set knows views h j left (subst (Fits h j) (sym is_left) left_fits) (λ k z _. fits k z) i u there)
-      (λ (t : (i ≡ length (set views j left)) × (right ≡ u)). subst (λ (z : ℕ × Known X). Fits h z.0 z.1) (λ c. (sym (t.0 ∙ length-set views j left) c, (sym is_right ∙ ap knows t.1) c)) right_fits)
+      (λ (there : get_elem? (set views j left) i ≡ some u). fits_set knows views h j left (subst (Agrees h j) (sym is_left) left_fits) (λ k z _. fits k z) i u there)
+      (λ (t : (i ≡ length (set views j left)) × (right ≡ u)). subst (λ (z : ℕ × Known X). Agrees h z.0 z.1) (λ c. (sym (t.0 ∙ length-set views j left) c, (sym is_right ∙ ap knows t.1) c)) right_fits)
       (at_end (set views j left) right u i e)

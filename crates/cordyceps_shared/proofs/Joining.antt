@@ -6,8 +6,8 @@ use native.Mathlib.Decide.{ℕ_discrete}
 use lib.ListN.{get_elem?}
 use Rattle.atomic_table.proofs.Lists.{at_set}
 use Rattle.cordyceps_shared.specs.Shares.{covers}
-use Rattle.cordyceps_shared.specs.Histories.{events, marked, plain, Without, Apart}
-use Rattle.cordyceps_shared.specs.Knowing.{Known, Fits, Below, Owned, AllFit, merged, both, spent}
+use Rattle.cordyceps_shared.specs.Histories.{events, marked, plain, NoneOf, Apart}
+use Rattle.cordyceps_shared.specs.Knowing.{Known, Agrees, Below, SharesApart, AllAgree, merged, known_absorbing, known_absorbed}
 use Rattle.cordyceps_shared.proofs.Counting.{tally_set}
 use Rattle.cordyceps_shared.proofs.Naming.{join_covers, joined_some, letters}
 use Rattle.cordyceps_shared.proofs.Renaming.{same_first, relabel, events_relabel, relabel_append, marked_relabel, without_relabel, without_gone, below_relabel, merge, length_relabel, length_marked, events_append}
@@ -19,7 +19,7 @@ and_false true = refl
 and_false false = refl
 
 module _ {X : Type 0} where
-  fits_gone : (h : List (ℕ × X)) (a b : ℕ) → b ≢ a → Fits (relabel a b h) b spent
+  fits_gone : (h : List (ℕ × X)) (a b : ℕ) → b ≢ a → Agrees (relabel a b h) b known_absorbed
   fits_gone h a b apart = record { before = []; later = relabel a b h; is = refl; seen = refl; none = without_gone a b h apart; told = (events (relabel a b h), refl); short = omega arith; apart = tt }
 
   -- no event of one history is marked by two seats
@@ -36,7 +36,7 @@ module _ {X : Type 0} where
           (λ is. ap (λ z. eqb x.0 a && z) (ne_eqb y.0 b (λ c. n (sym c ∙ (sym same ∙ is)))) ∙ and_false (eqb x.0 a))
           (λ other. ap (λ z. z && eqb y.0 b) (ne_eqb x.0 a other))
 
-  fits_both : (h : List (ℕ × X)) (a b : ℕ) (k l : Known X) → b ≢ a → Fits h a k → Fits h b l → Fits (relabel a b h) a (both k l)
+  fits_both : (h : List (ℕ × X)) (a b : ℕ) (k l : Known X) → b ≢ a → Agrees h a k → Agrees h b l → Agrees (relabel a b h) a (known_absorbing k l)
   fits_both h a b k l other fk fl =
       let t = merge a b fk.before fk.later fl.before fl.later (sym fk.is ∙ fl.is) fk.none fl.none in
       let seen = (λ c. merged (fk.seen c) (fl.seen c)) ∙ t.seen in record {
@@ -50,7 +50,7 @@ module _ {X : Type 0} where
         apart = subst (λ (z : List (Bool × X) × List (Bool × X)). Apart z.0 z.1) (λ c. (sym fk.seen c, sym fl.seen c)) (marked_apart a b fk.before fk.later fl.before fl.later other (sym fk.is ∙ fl.is));
       }
 
-  fits_others : (h : List (ℕ × X)) (a b i : ℕ) (k : Known X) → i ≢ a → i ≢ b → Fits h i k → Fits (relabel a b h) i k
+  fits_others : (h : List (ℕ × X)) (a b i : ℕ) (k : Known X) → i ≢ a → i ≢ b → Agrees h i k → Agrees (relabel a b h) i k
   fits_others h a b i k na nb f = record {
     before = relabel a b f.before;
     later = relabel a b f.later;
@@ -63,8 +63,8 @@ module _ {X : Type 0} where
   }
 
 module _ {X V : Type 0} (knows : V → Known X) where
-  pub owned_join : (views : List V) (h : List (ℕ × X)) (a b : ℕ) (v w x y : V) → get_elem? views a ≡ some v → b ≢ a → get_elem? (set views a x) b ≡ some w → knows x ≡ both (knows v) (knows w) → knows y ≡ spent → (knows v).share ≢ []
-      → Owned knows views h → Owned knows (set (set views a x) b y) (relabel a b h)
+  pub owned_join : (views : List V) (h : List (ℕ × X)) (a b : ℕ) (v w x y : V) → get_elem? views a ≡ some v → b ≢ a → get_elem? (set views a x) b ≡ some w → knows x ≡ known_absorbing (knows v) (knows w) → knows y ≡ known_absorbed → (knows v).share ≢ []
+      → SharesApart knows views h → SharesApart knows (set (set views a x) b y) (relabel a b h)
   owned_join views h a b v w x y at apart there is_both is_spent named o =
       let one = set views a x in
       let long = length-set one b y ∙ length-set views a x in
@@ -72,7 +72,7 @@ module _ {X V : Type 0} (knows : V → Known X) where
       let nothing = ap (λ (k : Known X). k.share) is_spent in record {
         below = subst (λ n. Below n (relabel a b h)) (sym long) (below_relabel a b (length views) h (at_length views a v at) o.below);
         quiet = λ i u e none_of. ⊎_elim
-            (λ (t : (i ≡ b) × (y ≡ u)). subst (λ (z : ℕ). Without z (relabel a b h)) (sym t.0) (without_gone a b h apart))
+            (λ (t : (i ≡ b) × (y ≡ u)). subst (λ (z : ℕ). NoneOf z (relabel a b h)) (sym t.0) (without_gone a b h apart))
             (λ (t : (i ≢ b) × (get_elem? one i ≡ some u)). ⊎_elim
             (λ (q : (i ≡ a) × (x ≡ u)). absurd (joined_some (knows v).share (knows w).share named (sym all ∙ (ap (λ (z : V). (knows z).share) q.1 ∙ none_of))))
             (λ (q : (i ≢ a) × (get_elem? views i ≡ some u)). without_relabel a b i h q.0 (o.quiet i u q.1 none_of))
@@ -85,12 +85,12 @@ module _ {X V : Type 0} (knows : V → Known X) where
             omega (arith, o.apart n (omega arith), tally_set f views a v x at, tally_set f one b w y there, join_covers n (knows v).share (knows w).share (omega arith));
       }
 
-  pub fits_join : (views : List V) (h : List (ℕ × X)) (a b : ℕ) (v w x y : V) → get_elem? views a ≡ some v → b ≢ a → get_elem? (set views a x) b ≡ some w → knows x ≡ both (knows v) (knows w) → knows y ≡ spent
-      → AllFit knows views h → AllFit knows (set (set views a x) b y) (relabel a b h)
+  pub fits_join : (views : List V) (h : List (ℕ × X)) (a b : ℕ) (v w x y : V) → get_elem? views a ≡ some v → b ≢ a → get_elem? (set views a x) b ≡ some w → knows x ≡ known_absorbing (knows v) (knows w) → knows y ≡ known_absorbed
+      → AllAgree knows views h → AllAgree knows (set (set views a x) b y) (relabel a b h)
   fits_join views h a b v w x y at apart there is_both is_spent fits =
       let one = set views a x in
       let there_first : get_elem? views b ≡ some w = ⊎_elim (λ (t : (b ≡ a) × (x ≡ w)). absurd (apart t.0)) (λ (t : (b ≢ a) × (get_elem? views b ≡ some w)). t.1) (at_set views a b x w there) in
-      fits_set knows one (relabel a b h) b y (subst (Fits (relabel a b h) b) (sym is_spent) (fits_gone h a b apart)) (λ i u other e. ⊎_elim
-      (λ (q : (i ≡ a) × (x ≡ u)). subst (λ (z : ℕ × Known X). Fits (relabel a b h) z.0 z.1) (λ c. (sym q.0 c, (sym is_both ∙ ap knows q.1) c)) (fits_both h a b (knows v) (knows w) apart (fits a v at) (fits b w there_first)))
+      fits_set knows one (relabel a b h) b y (subst (Agrees (relabel a b h) b) (sym is_spent) (fits_gone h a b apart)) (λ i u other e. ⊎_elim
+      (λ (q : (i ≡ a) × (x ≡ u)). subst (λ (z : ℕ × Known X). Agrees (relabel a b h) z.0 z.1) (λ c. (sym q.0 c, (sym is_both ∙ ap knows q.1) c)) (fits_both h a b (knows v) (knows w) apart (fits a v at) (fits b w there_first)))
       (λ (q : (i ≢ a) × (get_elem? views i ≡ some u)). fits_others h a b i (knows u) q.0 other (fits i u q.1))
       (at_set views a i x u e))

@@ -1,7 +1,7 @@
 -- Names that are split and joined cover no long name twice.
 use Rattle.std.proofs.Common.{◌≡◌, ◌≢◌, ℕ, ◌+◌, ◌≤◌, List, [], ◌∷◌, ◌++◌, length, Bool, true, false, cond, refl, sym, ap, arith, true≢false}
 use Rattle.cordyceps_shared.specs.Counts.{tally, one_if}
-use Rattle.cordyceps_shared.specs.Shares.{Name, same_bit, begins, covers, earlier, put, put_all, is_pair, parent, place, combine, joined, keeps_half, gives_half}
+use Rattle.cordyceps_shared.specs.Shares.{Name, same_bit, begins, covers, earlier, insert_name, insert_names, is_pair, parent, cons_joined, combine, joined, keeps_half, gives_half}
 
 -- the two halves of a name
 pub halves : (n x : Name) → one_if (begins (n ++ false ∷ []) x) + one_if (begins (n ++ true ∷ []) x) ≤ one_if (begins n x)
@@ -46,20 +46,20 @@ parent_short (a ∷ b ∷ us) = omega (arith, parent_short (b ∷ us))
 abbrev pub letters : List Name → ℕ
 letters ns = tally (λ n. length n) ns
 
-place_covers : (x n : Name) (ms : List Name) → length n + letters ms ≤ length x → covers x (place n ms) ≤ one_if (begins n x) + covers x ms
+place_covers : (x n : Name) (ms : List Name) → length n + letters ms ≤ length x → covers x (cons_joined n ms) ≤ one_if (begins n x) + covers x ms
 place_covers x n [] l = omega arith
 place_covers x n (m ∷ ms) l = at_pair (is_pair n m) (λ e. pair_covers n m x e (omega arith)) (place_covers x (parent n) ms (omega (arith, parent_short n)))
   where
-    at_pair : (b : Bool) → (b ≡ true → one_if (begins (parent n) x) ≤ one_if (begins n x) + one_if (begins m x)) → covers x (place (parent n) ms) ≤ one_if (begins (parent n) x) + covers x ms
-        → covers x (cond b (place (parent n) ms) (n ∷ m ∷ ms)) ≤ one_if (begins n x) + covers x (m ∷ ms)
+    at_pair : (b : Bool) → (b ≡ true → one_if (begins (parent n) x) ≤ one_if (begins n x) + one_if (begins m x)) → covers x (cons_joined (parent n) ms) ≤ one_if (begins (parent n) x) + covers x ms
+        → covers x (cond b (cons_joined (parent n) ms) (n ∷ m ∷ ms)) ≤ one_if (begins n x) + covers x (m ∷ ms)
     at_pair true pair more = let p = pair refl in omega arith
     at_pair false pair more = omega arith
 
-place_letters : (n : Name) (ms : List Name) → letters (place n ms) ≤ length n + letters ms
+place_letters : (n : Name) (ms : List Name) → letters (cons_joined n ms) ≤ length n + letters ms
 place_letters n [] = omega arith
 place_letters n (m ∷ ms) = at_pair (is_pair n m) (place_letters (parent n) ms)
   where
-    at_pair : (b : Bool) → letters (place (parent n) ms) ≤ length (parent n) + letters ms → letters (cond b (place (parent n) ms) (n ∷ m ∷ ms)) ≤ length n + letters (m ∷ ms)
+    at_pair : (b : Bool) → letters (cons_joined (parent n) ms) ≤ length (parent n) + letters ms → letters (cond b (cons_joined (parent n) ms) (n ∷ m ∷ ms)) ≤ length n + letters (m ∷ ms)
     at_pair true more = omega (arith, parent_short n)
     at_pair false more = omega arith
 
@@ -71,21 +71,21 @@ combine_covers : (x : Name) (ns : List Name) → letters ns ≤ length x → cov
 combine_covers x [] l = omega arith
 combine_covers x (n ∷ ns) l = let c = combine_letters ns in omega (arith, place_covers x n (combine ns) (omega arith), combine_covers x ns (omega arith))
 
-tally_put : (f : Name → ℕ) (n : Name) (ms : List Name) → tally f (put n ms) ≡ f n + tally f ms
+tally_put : (f : Name → ℕ) (n : Name) (ms : List Name) → tally f (insert_name n ms) ≡ f n + tally f ms
 tally_put f n [] = refl
 tally_put f n (m ∷ ms) = at_first (earlier n m) (tally_put f n ms)
   where
-    at_first : (b : Bool) → tally f (put n ms) ≡ f n + tally f ms → tally f (cond b (n ∷ m ∷ ms) (m ∷ put n ms)) ≡ f n + (f m + tally f ms)
+    at_first : (b : Bool) → tally f (insert_name n ms) ≡ f n + tally f ms → tally f (cond b (n ∷ m ∷ ms) (m ∷ insert_name n ms)) ≡ f n + (f m + tally f ms)
     at_first true e = refl
     at_first false e = omega arith
 
-tally_put_all : (f : Name → ℕ) (ns ms : List Name) → tally f (put_all ns ms) ≡ tally f ns + tally f ms
+tally_put_all : (f : Name → ℕ) (ns ms : List Name) → tally f (insert_names ns ms) ≡ tally f ns + tally f ms
 tally_put_all f [] ms = omega arith
-tally_put_all f (n ∷ ns) ms = omega (arith, tally_put f n (put_all ns ms), tally_put_all f ns ms)
+tally_put_all f (n ∷ ns) ms = omega (arith, tally_put f n (insert_names ns ms), tally_put_all f ns ms)
 
 pub join_covers : (x : Name) (ns ms : List Name) → letters ns + letters ms ≤ length x → covers x (joined ns ms) ≤ covers x ns + covers x ms
 join_covers x ns ms l =
-    let a = tally_put_all (λ n. length n) ns ms in let b = tally_put_all (λ n. one_if (begins n x)) ns ms in omega (arith, combine_covers x (put_all ns ms) (omega arith))
+    let a = tally_put_all (λ n. length n) ns ms in let b = tally_put_all (λ n. one_if (begins n x)) ns ms in omega (arith, combine_covers x (insert_names ns ms) (omega arith))
 
 -- a name begins what it is lengthened to
 pub begins_longer : (n x : Name) → begins n (n ++ x) ≡ true
@@ -96,11 +96,11 @@ begins_longer (false ∷ us) x = begins_longer us x
 pub some_cover : (n x : Name) (ns : List Name) → 1 ≤ covers (n ++ x) (n ∷ ns)
 some_cover n x ns = let here = ap one_if (begins_longer n x) in omega arith
 
-place_some : (n : Name) (ms : List Name) → 1 ≤ length (place n ms)
+place_some : (n : Name) (ms : List Name) → 1 ≤ length (cons_joined n ms)
 place_some n [] = omega arith
 place_some n (m ∷ ms) = at_pair (is_pair n m) (place_some (parent n) ms)
   where
-    at_pair : (b : Bool) → 1 ≤ length (place (parent n) ms) → 1 ≤ length (cond b (place (parent n) ms) (n ∷ m ∷ ms))
+    at_pair : (b : Bool) → 1 ≤ length (cons_joined (parent n) ms) → 1 ≤ length (cond b (cons_joined (parent n) ms) (n ∷ m ∷ ms))
     at_pair true more = more
     at_pair false more = omega arith
 
@@ -116,8 +116,8 @@ pub joined_some : (ns ms : List Name) → ns ≢ [] → joined ns ms ≢ []
 joined_some [] ms not e = not refl
 joined_some (n ∷ ns) ms not e =
     let k = tally_put_all (λ _. 1) (n ∷ ns) ms in
-    let c = count_names (put_all (n ∷ ns) ms) in
-    let few = combine_some (put_all (n ∷ ns) ms) (omega arith) in
+    let c = count_names (insert_names (n ∷ ns) ms) in
+    let few = combine_some (insert_names (n ∷ ns) ms) (omega arith) in
     let none = ap (λ z. length z) e in
     omega arith
 

@@ -1,7 +1,7 @@
 -- A history with more events at its end, and what its marks say.
 use Rattle.std.proofs.Common.{◌≡◌, ◌≢◌, ℕ, List, [], ◌∷◌, ◌++◌, Bool, true, false, cond, refl, ap, ◌∙◌, eq-eqb, ne_eqb}
 use Rattle.std.proofs.lemmas.List.{map-append}
-use Rattle.cordyceps_shared.specs.Histories.{events, mark, marked, plain, own, Without, of_seat}
+use Rattle.cordyceps_shared.specs.Histories.{events, mark, marked, plain, own, NoneOf, of_seat}
 
 module _ {X : Type 0} where
   pub events_of : (j : ℕ) (es : List X) → events (of_seat j es) ≡ es
@@ -11,11 +11,11 @@ module _ {X : Type 0} where
   pub events_more : (h : List (ℕ × X)) (j : ℕ) (es : List X) → events (h ++ of_seat j es) ≡ events h ++ es
   events_more h j es = map-append (λ x. x.1) h (of_seat j es) ∙ ap (λ (ys : List X). events h ++ ys) (events_of j es)
 
-  without_of : (j i : ℕ) (es : List X) → i ≢ j → Without j (of_seat i es)
+  without_of : (j i : ℕ) (es : List X) → i ≢ j → NoneOf j (of_seat i es)
   without_of j i [] n = tt
   without_of j i (x ∷ xs) n = (n, without_of j i xs n)
 
-  pub without_more : (j : ℕ) (h : List (ℕ × X)) (i : ℕ) (es : List X) → i ≢ j → Without j h → Without j (h ++ of_seat i es)
+  pub without_more : (j : ℕ) (h : List (ℕ × X)) (i : ℕ) (es : List X) → i ≢ j → NoneOf j h → NoneOf j (h ++ of_seat i es)
   without_more j [] i es n w = without_of j i es n
   without_more j (y ∷ ys) i es n w = (w.0, without_more j ys i es n w.1)
 
@@ -34,7 +34,7 @@ module _ {X : Type 0} where
       at_first true e = ap (λ (zs : List X). x.1 ∷ zs) e
       at_first false e = e
 
-  pub own_without : (j : ℕ) (xs : List (ℕ × X)) → Without j xs → own (marked j xs) ≡ []
+  pub own_without : (j : ℕ) (xs : List (ℕ × X)) → NoneOf j xs → own (marked j xs) ≡ []
   own_without j [] w = refl
   own_without j (x ∷ xs) w = ap (λ b. cond b (x.1 ∷ own (marked j xs)) (own (marked j xs))) (ne_eqb x.0 j w.0) ∙ own_without j xs w.1
 

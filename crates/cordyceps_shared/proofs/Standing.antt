@@ -3,8 +3,8 @@ use Rattle.std.proofs.Common.{◌≡◌, ◌≢◌, ℕ, zero, suc, ◌≤◌, L
 use mathlib.Core.Option.{some, some-injective, some-ne-none}
 use lib.ListN.{get_elem?}
 use Rattle.cordyceps_shared.specs.Shares.{covers, whole}
-use Rattle.cordyceps_shared.specs.Histories.{events, marked, plain, Without, AllOwn}
-use Rattle.cordyceps_shared.specs.Knowing.{Known, Fits, Owned, AllFit, Begins, IsKnown, newcomer}
+use Rattle.cordyceps_shared.specs.Histories.{events, marked, plain, NoneOf, AllOwn}
+use Rattle.cordyceps_shared.specs.Knowing.{Known, Agrees, SharesApart, AllAgree, Begins, IsKnown, newcomer}
 use Rattle.cordyceps_shared.proofs.Renaming.{same_first, events_append}
 use Rattle.cordyceps_shared.proofs.Seeing.{marked_append, plain_marked}
 use Rattle.cordyceps_shared.proofs.Telling.{all_own, whole_without}
@@ -31,23 +31,23 @@ module _ {X : Type 0} where
   length_plain [] = refl
   length_plain (x ∷ xs) = ap suc (length_plain xs)
 
-  nothing_later : (j : ℕ) (xs : List (ℕ × X)) → Without j xs → ((i : ℕ) → i ≢ j → Without i xs) → xs ≡ []
+  nothing_later : (j : ℕ) (xs : List (ℕ × X)) → NoneOf j xs → ((i : ℕ) → i ≢ j → NoneOf i xs) → xs ≡ []
   nothing_later j [] mine others = refl
   nothing_later j (x ∷ xs) mine others = absurd ((others x.0 mine.0).0 refl)
 
-  later_without : (i : ℕ) (xs ys : List (ℕ × X)) → Without i (xs ++ ys) → Without i ys
+  later_without : (i : ℕ) (xs ys : List (ℕ × X)) → NoneOf i (xs ++ ys) → NoneOf i ys
   later_without i [] ys w = w
   later_without i (x ∷ xs) ys w = later_without i xs ys w.1
 
   -- the history is what the party has seen, and more
-  seen_front : (h : List (ℕ × X)) (j : ℕ) (k : Known X) (f : Fits h j k) → events h ≡ plain k.seen ++ events f.later
+  seen_front : (h : List (ℕ × X)) (j : ℕ) (k : Known X) (f : Agrees h j k) → events h ≡ plain k.seen ++ events f.later
   seen_front h j k f = ap events f.is ∙ (events_append f.before f.later ∙ ap (λ z. z ++ events f.later) (sym (ap plain f.seen ∙ plain_marked j f.before)))
 
-  fits_new : Fits [] 0 (newcomer {X = X})
+  fits_new : Agrees [] 0 (newcomer {X = X})
   fits_new = record { before = []; later = []; is = refl; seen = refl; none = tt; told = ([], refl); short = omega arith; apart = tt }
 
 module _ {X V : Type 0} (knows : V → Known X) where
-  pub is_known : (Legal : List X → Type 0) (front : (xs ys : List X) → Legal (xs ++ ys) → Legal xs) (views : List V) (h : List (ℕ × X)) (j : ℕ) (v : V) → Owned knows views h → AllFit knows views h → get_elem? views j ≡ some v → Legal (events h)
+  pub is_known : (Legal : List X → Type 0) (front : (xs ys : List X) → Legal (xs ++ ys) → Legal xs) (views : List V) (h : List (ℕ × X)) (j : ℕ) (v : V) → SharesApart knows views h → AllAgree knows views h → get_elem? views j ≡ some v → Legal (events h)
       → IsKnown Legal (knows v)
   is_known Legal front views h j v o fits at legal =
       let k = knows v in
@@ -61,14 +61,14 @@ module _ {X V : Type 0} (knows : V → Known X) where
       }
 
   -- a party that has the whole share has seen all
-  pub all_known : (views : List V) (h : List (ℕ × X)) (j : ℕ) (v : V) → Owned knows views h → AllFit knows views h → get_elem? views j ≡ some v → (knows v).share ≡ whole → plain (knows v).seen ≡ events h
+  pub all_known : (views : List V) (h : List (ℕ × X)) (j : ℕ) (v : V) → SharesApart knows views h → AllAgree knows views h → get_elem? views j ≡ some v → (knows v).share ≡ whole → plain (knows v).seen ≡ events h
   all_known views h j v o fits at is =
       let f = fits j v at in
-      let none = nothing_later j f.later f.none (λ i n. later_without i f.before f.later (subst (Without i) f.is (whole_without knows views h j i v o at is n))) in
+      let none = nothing_later j f.later f.none (λ i n. later_without i f.before f.later (subst (NoneOf i) f.is (whole_without knows views h j i v o at is n))) in
       sym (seen_front h j (knows v) f ∙ (ap (λ z. plain (knows v).seen ++ events z) none ∙ append-nil (plain (knows v).seen)))
 
-  pub opens : (v : V) → knows v ≡ newcomer → Owned knows (v ∷ []) [] × AllFit knows (v ∷ []) []
+  pub opens : (v : V) → knows v ≡ newcomer → SharesApart knows (v ∷ []) [] × AllAgree knows (v ∷ []) []
   opens v is = (
     record { below = tt; quiet = λ _ _ _ _. tt; long = 0; apart = λ x l. let c = ap (λ (k : Known X). covers x k.share) is in omega arith },
-    λ j u e. let t = only v u j e in subst (λ (z : ℕ × Known X). Fits [] z.0 z.1) (λ c. (sym t.0 c, (sym is ∙ ap knows t.1) c)) fits_new,
+    λ j u e. let t = only v u j e in subst (λ (z : ℕ × Known X). Agrees [] z.0 z.1) (λ c. (sym t.0 c, (sym is ∙ ap knows t.1) c)) fits_new,
   )

@@ -6,8 +6,8 @@ use native.Mathlib.Decide.{ℕ_discrete, dec_le}
 use lib.ListN.{get_elem?, length-replicate}
 use Rattle.atomic_table.proofs.Lists.{at_set, set_here}
 use Rattle.cordyceps_shared.specs.Shares.{Name, covers, whole}
-use Rattle.cordyceps_shared.specs.Histories.{events, marked, plain, Without, AllOwn, Apart, of_seat}
-use Rattle.cordyceps_shared.specs.Knowing.{Known, Fits, Below, Owned, AllFit, Grown, all_seen}
+use Rattle.cordyceps_shared.specs.Histories.{events, marked, plain, NoneOf, AllOwn, Apart, of_seat}
+use Rattle.cordyceps_shared.specs.Knowing.{Known, Agrees, Below, SharesApart, AllAgree, Grown, all_seen}
 use Rattle.cordyceps_shared.proofs.Counting.{tally_set, tally_two}
 use Rattle.cordyceps_shared.proofs.Naming.{some_cover}
 use Rattle.cordyceps_shared.proofs.Seeing.{events_more, without_more, marked_append, plain_marked, own_append, own_without, own_of}
@@ -31,11 +31,11 @@ module _ {X : Type 0} where
   below_more n [] j es l b = below_of n j es l
   below_more n (y ∷ ys) j es l b = (b.0, below_more n ys j es l b.1)
 
-  pub below_without : (n : ℕ) (h : List (ℕ × X)) (i : ℕ) → n ≤ i → Below n h → Without i h
+  pub below_without : (n : ℕ) (h : List (ℕ × X)) (i : ℕ) → n ≤ i → Below n h → NoneOf i h
   below_without n [] i l b = tt
   below_without n (y ∷ ys) i l b = let low = b.0 in ((λ e. omega arith), below_without n ys i l b.1)
 
-  pub all_own : (j : ℕ) (h : List (ℕ × X)) → ((i : ℕ) → i ≢ j → Without i h) → AllOwn (marked j h)
+  pub all_own : (j : ℕ) (h : List (ℕ × X)) → ((i : ℕ) → i ≢ j → NoneOf i h) → AllOwn (marked j h)
   all_own j [] others = tt
   all_own j (x ∷ xs) others = (dite (ℕ_discrete x.0 j) (λ e. eq-eqb x.0 j e) (λ n. absurd ((others x.0 n).0 refl)), all_own j xs (λ i n. (others i n).1))
 
@@ -44,7 +44,7 @@ module _ {X : Type 0} where
   apart_none (x ∷ xs) = tt
 
   -- what another party saw stays a beginning
-  pub fits_other : (h : List (ℕ × X)) (i j : ℕ) (es : List X) (k : Known X) → i ≢ j → Fits h i k → Fits (h ++ of_seat j es) i k
+  pub fits_other : (h : List (ℕ × X)) (i j : ℕ) (es : List X) (k : Known X) → i ≢ j → Agrees h i k → Agrees (h ++ of_seat j es) i k
   fits_other h i j es k other f = record {
     before = f.before;
     later = f.later ++ of_seat j es;
@@ -56,10 +56,10 @@ module _ {X : Type 0} where
     apart = f.apart;
   }
 
-  pub fits_all : (h : List (ℕ × X)) (j : ℕ) (share : List Name) → Fits h j (all_seen j h share)
+  pub fits_all : (h : List (ℕ × X)) (j : ℕ) (share : List Name) → Agrees h j (all_seen j h share)
   fits_all h j share = record { before = h; later = []; is = sym (append-nil h); seen = refl; none = tt; told = (events h, refl); short = omega arith; apart = tt }
 
-  pub grown_all : (Legal : List X → Type 0) (h : List (ℕ × X)) (j : ℕ) (es : List X) (k : Known X) → Fits h j k → Legal (events (h ++ of_seat j es)) → (k.share ≡ whole → AllOwn (marked j (h ++ of_seat j es)))
+  pub grown_all : (Legal : List X → Type 0) (h : List (ℕ × X)) (j : ℕ) (es : List X) (k : Known X) → Agrees h j k → Legal (events (h ++ of_seat j es)) → (k.share ≡ whole → AllOwn (marked j (h ++ of_seat j es)))
       → Grown Legal k es (all_seen j (h ++ of_seat j es) k.share)
   grown_all Legal h j es k f l alone = record {
     rest = marked j f.later ++ marked j (of_seat j es);
@@ -72,11 +72,11 @@ module _ {X : Type 0} where
   }
 
 module _ {X V : Type 0} (knows : V → Known X) where
-  pub owned_same : (views : List V) (h : List (ℕ × X)) (j : ℕ) (v w : V) → get_elem? views j ≡ some v → (knows w).share ≡ (knows v).share → Owned knows views h → Owned knows (set views j w) h
+  pub owned_same : (views : List V) (h : List (ℕ × X)) (j : ℕ) (v w : V) → get_elem? views j ≡ some v → (knows w).share ≡ (knows v).share → SharesApart knows views h → SharesApart knows (set views j w) h
   owned_same views h j v w at same o = record {
     below = subst (λ n. Below n h) (sym (length-set views j w)) o.below;
     quiet = λ i u e none_of. ⊎_elim
-        (λ (t : (i ≡ j) × (w ≡ u)). subst (λ (z : ℕ). Without z h) (sym t.0) (o.quiet j v at (sym same ∙ (ap (λ (z : V). (knows z).share) t.1 ∙ none_of))))
+        (λ (t : (i ≡ j) × (w ≡ u)). subst (λ (z : ℕ). NoneOf z h) (sym t.0) (o.quiet j v at (sym same ∙ (ap (λ (z : V). (knows z).share) t.1 ∙ none_of))))
         (λ (t : (i ≢ j) × (get_elem? views i ≡ some u)). o.quiet i u t.1 none_of)
         (at_set views j i w u e);
     long = o.long;
@@ -84,13 +84,13 @@ module _ {X V : Type 0} (knows : V → Known X) where
   }
 
   -- another view at j, which fits
-  pub fits_set : (views : List V) (h : List (ℕ × X)) (j : ℕ) (w : V) → Fits h j (knows w) → ((i : ℕ) (u : V) → i ≢ j → get_elem? views i ≡ some u → Fits h i (knows u)) → AllFit knows (set views j w) h
+  pub fits_set : (views : List V) (h : List (ℕ × X)) (j : ℕ) (w : V) → Agrees h j (knows w) → ((i : ℕ) (u : V) → i ≢ j → get_elem? views i ≡ some u → Agrees h i (knows u)) → AllAgree knows (set views j w) h
   fits_set views h j w f others i u e = ⊎_elim
-      (λ (t : (i ≡ j) × (w ≡ u)). subst (λ (z : ℕ × V). Fits h z.0 (knows z.1)) (λ c. (sym t.0 c, t.1 c)) f)
+      (λ (t : (i ≡ j) × (w ≡ u)). subst (λ (z : ℕ × V). Agrees h z.0 (knows z.1)) (λ c. (sym t.0 c, t.1 c)) f)
       (λ (t : (i ≢ j) × (get_elem? views i ≡ some u)). others i u t.0 t.1)
       (at_set views j i w u e)
 
-  pub fits_same : (views : List V) (h : List (ℕ × X)) (j : ℕ) (v w : V) → get_elem? views j ≡ some v → (knows w).seen ≡ (knows v).seen → (knows w).had ≡ (knows v).had → (knows w).told ≡ (knows v).told → AllFit knows views h → AllFit knows (set views j w) h
+  pub fits_same : (views : List V) (h : List (ℕ × X)) (j : ℕ) (v w : V) → get_elem? views j ≡ some v → (knows w).seen ≡ (knows v).seen → (knows w).had ≡ (knows v).had → (knows w).told ≡ (knows v).told → AllAgree knows views h → AllAgree knows (set views j w) h
   fits_same views h j v w at seen had told fits =
       let f = fits j v at in
       let shorter = f.short in
@@ -99,13 +99,13 @@ module _ {X V : Type 0} (knows : V → Known X) where
       fits_set views h j w record { before = f.before; later = f.later; is = f.is; seen = seen ∙ f.seen; none = f.none; told = (f.told.0, f.told.1 ∙ ap (λ z. plain z ++ f.told.0) (sym told)); short = omega arith; apart = subst (λ (z : List (Bool × X) × List (Bool × X)). Apart z.0 z.1) (λ c. (sym had c, sym told c)) f.apart } (λ i u _. fits i u)
 
   -- what it was told is forgotten
-  pub fits_forgot : (views : List V) (h : List (ℕ × X)) (j : ℕ) (v w : V) → get_elem? views j ≡ some v → (knows w).seen ≡ (knows v).seen → (knows w).told ≡ [] → AllFit knows views h → AllFit knows (set views j w) h
+  pub fits_forgot : (views : List V) (h : List (ℕ × X)) (j : ℕ) (v w : V) → get_elem? views j ≡ some v → (knows w).seen ≡ (knows v).seen → (knows w).told ≡ [] → AllAgree knows views h → AllAgree knows (set views j w) h
   fits_forgot views h j v w at seen told fits =
       let f = fits j v at in
       let b = ap (λ (z : List (Bool × X)). length z) told in
       fits_set views h j w record { before = f.before; later = f.later; is = f.is; seen = seen ∙ f.seen; none = f.none; told = (events h, ap (λ z. plain z ++ events h) (sym told)); short = omega arith; apart = subst (λ z. Apart (knows w).had z) (sym told) (apart_none (knows w).had) } (λ i u _. fits i u)
 
-  pub owned_more : (views : List V) (h : List (ℕ × X)) (j : ℕ) (es : List X) (v w : V) → get_elem? views j ≡ some v → (knows w).share ≡ (knows v).share → (knows v).share ≢ [] → Owned knows views h → Owned knows (set views j w) (h ++ of_seat j es)
+  pub owned_more : (views : List V) (h : List (ℕ × X)) (j : ℕ) (es : List X) (v w : V) → get_elem? views j ≡ some v → (knows w).share ≡ (knows v).share → (knows v).share ≢ [] → SharesApart knows views h → SharesApart knows (set views j w) (h ++ of_seat j es)
   owned_more views h j es v w at same some_share o = record {
     below = below_more (length (set views j w)) h j es (let l = length-set views j w in let a = at_length views j v at in omega arith) (subst (λ n. Below n h) (sym (length-set views j w)) o.below);
     quiet = λ i u e none_of. ⊎_elim
@@ -117,7 +117,7 @@ module _ {X V : Type 0} (knows : V → Known X) where
   }
 
   -- beside a whole share there is no other
-  only_share : (views : List V) (h : List (ℕ × X)) (j i : ℕ) (v u : V) → Owned knows views h → get_elem? views j ≡ some v → (knows v).share ≡ whole → i ≢ j → get_elem? views i ≡ some u → (names : List Name) → (knows u).share ≡ names → names ≡ []
+  only_share : (views : List V) (h : List (ℕ × X)) (j i : ℕ) (v u : V) → SharesApart knows views h → get_elem? views j ≡ some v → (knows v).share ≡ whole → i ≢ j → get_elem? views i ≡ some u → (names : List Name) → (knows u).share ≡ names → names ≡ []
   only_share views h j i v u o at is other there [] e = refl
   only_share views h j i v u o at is other there (n ∷ ns) e =
       let x = n ++ replicate o.long false in
@@ -129,24 +129,24 @@ module _ {X V : Type 0} (knows : V → Known X) where
       let some_of = some_cover n (replicate o.long false) ns in
       absurd (omega arith)
 
-  pub whole_without : (views : List V) (h : List (ℕ × X)) (j i : ℕ) (v : V) → Owned knows views h → get_elem? views j ≡ some v → (knows v).share ≡ whole → i ≢ j → Without i h
+  pub whole_without : (views : List V) (h : List (ℕ × X)) (j i : ℕ) (v : V) → SharesApart knows views h → get_elem? views j ≡ some v → (knows v).share ≡ whole → i ≢ j → NoneOf i h
   whole_without views h j i v o at is other = dite (dec_le (length views) i)
       (λ l. below_without (length views) h i l o.below)
       (λ not. let t = there views i (lt_of_not-le not) in o.quiet i t.0 t.1 (only_share views h j i v t.0 o at is other t.1 (knows t.0).share refl))
 
   -- what a step keeps, and what it tells, where the party j has seen all and adds these events
   pub record Told (Legal : List X → Type 0) (views : List V) (h : List (ℕ × X)) (j : ℕ) (es : List X) (v w : V) : Type 0 where
-    pub owned : Owned knows (set views j w) (h ++ of_seat j es)
-    pub fits : AllFit knows (set views j w) (h ++ of_seat j es)
+    pub owned : SharesApart knows (set views j w) (h ++ of_seat j es)
+    pub fits : AllAgree knows (set views j w) (h ++ of_seat j es)
     pub grown : Grown Legal (knows v) es (knows w)
 
-  pub tells : (Legal : List X → Type 0) (views : List V) (h : List (ℕ × X)) (j : ℕ) (es : List X) (v w : V) → Owned knows views h → AllFit knows views h → get_elem? views j ≡ some v
+  pub tells : (Legal : List X → Type 0) (views : List V) (h : List (ℕ × X)) (j : ℕ) (es : List X) (v w : V) → SharesApart knows views h → AllAgree knows views h → get_elem? views j ≡ some v
       → (knows v).share ≢ [] → knows w ≡ all_seen j (h ++ of_seat j es) (knows v).share → Legal (events (h ++ of_seat j es)) → Told Legal views h j es v w
   tells Legal views h j es v w o fits at named knows_w legal =
       let owned = owned_more views h j es v w at (ap (λ (k : Known X). k.share) knows_w) named o in
       let here = set_here views j w (at_length views j v at) in record {
         owned = owned;
-        fits = fits_set views (h ++ of_seat j es) j w (subst (Fits (h ++ of_seat j es) j) (sym knows_w) (fits_all (h ++ of_seat j es) j (knows v).share)) (λ i u other e. fits_other h i j es (knows u) other (fits i u e));
+        fits = fits_set views (h ++ of_seat j es) j w (subst (Agrees (h ++ of_seat j es) j) (sym knows_w) (fits_all (h ++ of_seat j es) j (knows v).share)) (λ i u other e. fits_other h i j es (knows u) other (fits i u e));
         grown = subst (Grown Legal (knows v) es) (sym knows_w)
             (grown_all Legal h j es (knows v) (fits j v at) legal (λ is. all_own j (h ++ of_seat j es) (λ i n. whole_without (set views j w) (h ++ of_seat j es) j i w owned here (ap (λ (k : Known X). k.share) knows_w ∙ is) n)));
       }

@@ -35,9 +35,9 @@ module _ {X : Type 0} where
   Apart (x ∷ xs) (y ∷ ys) = ((x.0 && y.0) ≡ false) × Apart xs ys
 
   -- no event is of seat j
-  abbrev pub Without : ℕ → List (ℕ × X) → Type 0
-  Without j [] = Unit {0}
-  Without j (x ∷ xs) = (x.0 ≢ j) × Without j xs
+  abbrev pub NoneOf : ℕ → List (ℕ × X) → Type 0
+  NoneOf j [] = Unit {0}
+  NoneOf j (x ∷ xs) = (x.0 ≢ j) × NoneOf j xs
 
   -- these events, of seat j
   abbrev pub of_seat : ℕ → List X → List (ℕ × X)

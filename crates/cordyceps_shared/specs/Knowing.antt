@@ -4,7 +4,7 @@ use Rattle.std.specs.Prelude.{◌≡◌, ℕ, ◌<◌, ◌≤◌, List, [], ◌�
 use mathlib.Core.Option.{some}
 use lib.ListN.{get_elem?}
 use Rattle.cordyceps_shared.specs.Counts.{tally}
-use Rattle.cordyceps_shared.specs.Histories.{events, marked, plain, own, Without, AllOwn, Apart}
+use Rattle.cordyceps_shared.specs.Histories.{events, marked, plain, own, NoneOf, AllOwn, Apart}
 use Rattle.cordyceps_shared.specs.Shares.{Name, covers, whole, keeps_half, gives_half, joined}
 
 -- the history so far, with a mark at its own events; what it had seen itself when it last absorbed a party, and what
@@ -26,12 +26,12 @@ module _ {X : Type 0} where
 
   -- what it has seen is a beginning of the history, with all events of its own; and so is what it was told, and no event
   -- is marked both there and in what it had seen itself
-  pub record Fits (history : List (ℕ × X)) (j : ℕ) (k : Known X) : Type 0 where
+  pub record Agrees (history : List (ℕ × X)) (j : ℕ) (k : Known X) : Type 0 where
     pub before : List (ℕ × X)
     pub later : List (ℕ × X)
     pub is : history ≡ before ++ later
     pub seen : k.seen ≡ marked j before
-    pub none : Without j later
+    pub none : NoneOf j later
     pub told : (rest : List X) × (events history ≡ plain k.told ++ rest)
     pub short : length k.told ≤ length k.seen
     pub apart : Apart k.had k.told
@@ -42,15 +42,15 @@ module _ {X : Type 0} where
   Below n (x ∷ xs) = (x.0 < n) × Below n xs
 
   -- the events are of seats with a share, and no long name is covered twice
-  pub record Owned {V : Type 0} (knows : V → Known X) (views : List V) (history : List (ℕ × X)) : Type 0 where
+  pub record SharesApart {V : Type 0} (knows : V → Known X) (views : List V) (history : List (ℕ × X)) : Type 0 where
     pub below : Below (length views) history
-    pub quiet : (j : ℕ) (v : V) → get_elem? views j ≡ some v → (knows v).share ≡ [] → Without j history
+    pub quiet : (j : ℕ) (v : V) → get_elem? views j ≡ some v → (knows v).share ≡ [] → NoneOf j history
     pub long : ℕ
     pub apart : (x : Name) → long ≤ length x → tally (λ v. covers x (knows v).share) views ≤ 1
 
   -- each seat's party knows what fits the history
-  abbrev pub AllFit : {V : Type 0} → (V → Known X) → List V → List (ℕ × X) → Type 0
-  AllFit knows views history = (j : ℕ) (v : _) → get_elem? views j ≡ some v → Fits history j (knows v)
+  abbrev pub AllAgree : {V : Type 0} → (V → Known X) → List V → List (ℕ × X) → Type 0
+  AllAgree knows views history = (j : ℕ) (v : _) → get_elem? views j ≡ some v → Agrees history j (knows v)
 
   -- the party has seen more, in which its own events are these; it is legal; the share is the same; and a whole party saw no
   -- event of another
@@ -75,18 +75,18 @@ module _ {X : Type 0} where
   merged (x ∷ xs) (y ∷ ys) = (x.0 || y.0, x.1) ∷ merged xs ys
 
   -- what a party knows that gave up half of its first name, and what the new one knows
-  abbrev pub kept : Known X → Known X
-  kept k = record k { share = keeps_half k.share }
+  abbrev pub known_keeping : Known X → Known X
+  known_keeping k = record k { share = keeps_half k.share }
 
-  abbrev pub given : Known X → Known X
-  given k = record { seen = unmarked k.seen; had = []; told = []; share = gives_half k.share }
+  abbrev pub known_giving : Known X → Known X
+  known_giving k = record { seen = unmarked k.seen; had = []; told = []; share = gives_half k.share }
 
   -- what a party knows that took another in, and what is left of the other
-  abbrev pub both : Known X → Known X → Known X
-  both k l = record { seen = merged k.seen l.seen; had = k.seen; told = l.seen; share = joined k.share l.share }
+  abbrev pub known_absorbing : Known X → Known X → Known X
+  known_absorbing k l = record { seen = merged k.seen l.seen; had = k.seen; told = l.seen; share = joined k.share l.share }
 
-  abbrev pub spent : Known X
-  spent = record { seen = []; had = []; told = []; share = [] }
+  abbrev pub known_absorbed : Known X
+  known_absorbed = record { seen = []; had = []; told = []; share = [] }
 
   -- one history begins another
   abbrev pub Begins : List X → List X → Type 0

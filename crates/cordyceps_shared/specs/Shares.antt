@@ -45,13 +45,13 @@ earlier (a ∷ us) [] = false
 earlier (a ∷ us) (b ∷ bs) = cond (same_bit a b) (earlier us bs) b
 
 -- a name in its place among names in order
-abbrev pub put : Name → List Name → List Name
-put n [] = n ∷ []
-put n (m ∷ ms) = cond (earlier n m) (n ∷ m ∷ ms) (m ∷ put n ms)
+abbrev pub insert_name : Name → List Name → List Name
+insert_name n [] = n ∷ []
+insert_name n (m ∷ ms) = cond (earlier n m) (n ∷ m ∷ ms) (m ∷ insert_name n ms)
 
-abbrev pub put_all : List Name → List Name → List Name
-put_all [] ms = ms
-put_all (n ∷ ns) ms = put n (put_all ns ms)
+abbrev pub insert_names : List Name → List Name → List Name
+insert_names [] ms = ms
+insert_names (n ∷ ns) ms = insert_name n (insert_names ns ms)
 
 -- the names are w0 and w1, of some w
 abbrev pub is_pair : Name → Name → Bool
@@ -69,14 +69,14 @@ parent (a ∷ []) = []
 parent (a ∷ b ∷ us) = a ∷ parent (b ∷ us)
 
 -- a name in front of others, with w in place of w0 and w1 while there are such
-abbrev pub place : Name → List Name → List Name
-place n [] = n ∷ []
-place n (m ∷ ms) = cond (is_pair n m) (place (parent n) ms) (n ∷ m ∷ ms)
+abbrev pub cons_joined : Name → List Name → List Name
+cons_joined n [] = n ∷ []
+cons_joined n (m ∷ ms) = cond (is_pair n m) (cons_joined (parent n) ms) (n ∷ m ∷ ms)
 
 abbrev pub combine : List Name → List Name
 combine [] = []
-combine (n ∷ ns) = place n (combine ns)
+combine (n ∷ ns) = cons_joined n (combine ns)
 
 -- two shares as one, with w in place of w0 and w1 while there are such
 abbrev pub joined : List Name → List Name → List Name
-joined ns ms = combine (put_all ns ms)
+joined ns ms = combine (insert_names ns ms)

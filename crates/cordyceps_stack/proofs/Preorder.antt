@@ -11,16 +11,16 @@ pub by_test : {G : Type 0} (b : Bool) → (b ≡ true → G) → (b ≡ false �
 by_test true p q = p refl
 by_test false p q = q refl
 
-decided : (r s : Ordering) → is_gt r ≡ is_gt s → is_gt (ordering_reverse r) ≡ is_gt (ordering_reverse s) → r ≡ s
-decided Less Less p q = refl
-decided Less Equal p q = absurd cc
-decided Less Greater p q = absurd cc
-decided Equal Less p q = absurd cc
-decided Equal Equal p q = refl
-decided Equal Greater p q = absurd cc
-decided Greater Less p q = absurd cc
-decided Greater Equal p q = absurd cc
-decided Greater Greater p q = refl
+same_by_gt : (r s : Ordering) → is_gt r ≡ is_gt s → is_gt (ordering_reverse r) ≡ is_gt (ordering_reverse s) → r ≡ s
+same_by_gt Less Less p q = refl
+same_by_gt Less Equal p q = absurd cc
+same_by_gt Less Greater p q = absurd cc
+same_by_gt Equal Less p q = absurd cc
+same_by_gt Equal Equal p q = refl
+same_by_gt Equal Greater p q = absurd cc
+same_by_gt Greater Less p q = absurd cc
+same_by_gt Greater Equal p q = absurd cc
+same_by_gt Greater Greater p q = refl
 
 less_by : (r : Ordering) → is_gt r ≡ false → is_gt (ordering_reverse r) ≡ true → r ≡ Less
 less_by Less p q = refl
@@ -55,7 +55,7 @@ module _ {X : Type 0} {cmp : X → X → Ordering} (o : IsPreorder cmp) where
     congr = λ x y z e.
         let p : is_gt (cmp x y) ≡ false = ap is_gt e in
         let q : is_gt (cmp y x) ≡ false = ap is_gt (o.turns y x ∙ ap ordering_reverse e) in
-        decided (cmp x z) (cmp y z) (same_above x y z p q) (ap is_gt (sym (o.turns z x)) ∙ same_below x y z p q ∙ ap is_gt (o.turns z y));
+        same_by_gt (cmp x z) (cmp y z) (same_above x y z p q) (ap is_gt (sym (o.turns z x)) ∙ same_below x y z p q ∙ ap is_gt (o.turns z y));
   }
 
 -- whatever has values ranks by them

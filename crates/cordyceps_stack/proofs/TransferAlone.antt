@@ -8,11 +8,11 @@ use Rattle.cordyceps_stack.specs.declared.transfer_step.TransferStep.{TransferSt
 use Rattle.cordyceps_stack.specs.declared.transfer_step.TransferStep.TheVariants as step
 use Rattle.cordyceps_stack.specs.declared.transfer_step.TransferAnswer.TheVariants as answer
 use Rattle.cordyceps_stack.specs.declared.transfer_place.Attempt.{Attempt}
-use Rattle.cordyceps_stack.specs.declared.transfer_place.Place.{Place}
-use Rattle.cordyceps_stack.specs.declared.transfer_place.Place.TheVariants.{Rest, Loaded, Set, Walking}
+use Rattle.cordyceps_stack.specs.declared.transfer_place.Stage.{Stage}
+use Rattle.cordyceps_stack.specs.declared.transfer_place.Stage.TheVariants.{Rest, Loaded, Set, Walking}
 use Rattle.cordyceps_stack.specs.declared.rooms.Room.{Room}
 use Rattle.cordyceps_stack.specs.TransferHistory.{Event, Load, Push, held}
-use Rattle.cordyceps_stack.specs.TransferMachine.{Machine, Outcome, change, holding, linking, least_free, stepped, is_rest, is_at_rest, is_ready, in_hand_at, events}
+use Rattle.cordyceps_stack.specs.TransferMachine.{Machine, Outcome, change, holding, linking, least_free, stepped, is_rest, is_at_rest, is_ready, in_hand_at, answered_events}
 use Rattle.cordyceps_stack.specs.TransferMeets.{AnswerSays}
 use Rattle.cordyceps_stack.specs.TransferCore.{CoreMeets}
 use Rattle.cordyceps_stack.proofs.Written.{slice_get-set_same, slice_get-change_same}
@@ -24,7 +24,7 @@ option_eq_refl : (x : Option ℕ) → option_eq nat_eq x x ≡ true
 option_eq_refl None = refl
 option_eq_refl (Some x) = eq-eqb x x refl
 
-rest_from : (o : Option Place) → is_rest o ≡ true → o ≡ Some Rest
+rest_from : (o : Option Stage) → is_rest o ≡ true → o ≡ Some Rest
 rest_from None e = let no : ⊥ = cc in absurd no
 rest_from (Some Rest) e = refl
 rest_from (Some (Loaded a)) e = let no : ⊥ = cc in absurd no
@@ -57,8 +57,8 @@ module _ {E : Type 0} where
       → least_free p m.rooms ≡ Some r → slice_get m.rooms r ≡ Some room → Pushing m p e
   pushing_at m p r e room at free got =
       let a : Attempt = record { room = r; read = m.head } in
-      let ps : List Place = set m.parties p (Loaded a) in
-      let qs : List Place = set ps p (Set a) in
+      let ps : List Stage = set m.parties p (Loaded a) in
+      let qs : List Stage = set ps p (Set a) in
       let rooms : List (Room E) = change (holding e) r m.rooms in
       let m1 : Machine E = record { head = m.head; rooms = rooms; parties = ps } in
       let m2 : Machine E = record { head = m.head; rooms = change (linking m.head) r rooms; parties = qs } in
@@ -86,8 +86,8 @@ module _ {E : Type 0} where
   -- what one step keeps, at its outcome
   pub step_to : (h : List (Event ℕ E)) (m : Machine E) (p : ℕ) (s : TransferStep E) (out : Outcome E) → stepped m p s ≡ out
       → CoreMeets h m
-      → CoreMeets (h ++ events h p (in_hand_at m.rooms (slice_get m.parties p)) s out.1) out.0 × AnswerSays h p out.1
-  step_to h m p s out e was = subst (λ (o : Outcome E). CoreMeets (h ++ events h p (in_hand_at m.rooms (slice_get m.parties p)) s o.1) o.0 × AnswerSays h p o.1) e (core_steps h m p s was)
+      → CoreMeets (h ++ answered_events h p (in_hand_at m.rooms (slice_get m.parties p)) s out.1) out.0 × AnswerSays h p out.1
+  step_to h m p s out e was = subst (λ (o : Outcome E). CoreMeets (h ++ answered_events h p (in_hand_at m.rooms (slice_get m.parties p)) s o.1) o.0 × AnswerSays h p o.1) e (core_steps h m p s was)
 
   pub push_meets : (h : List (Event ℕ E)) (m : Machine E) (p : ℕ) (e : E) → (run : Pushing m p e) → CoreMeets h m
       → CoreMeets ((h ++ Load p ∷ []) ++ Push p e ∷ []) run.pushed × ((is_none m.head ≡ true) ↔ (held h ≡ []))

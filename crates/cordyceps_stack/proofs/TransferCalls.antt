@@ -8,8 +8,8 @@ use Rattle.cordyceps_shared.specs.Shares.{Name, first_name}
 use Rattle.cordyceps_shared.proofs.Adding.{tail_own}
 use Rattle.cordyceps_shared.proofs.Telling.{grown_then}
 use Rattle.cordyceps_stack.specs.TransferHistory.{Event, Load, Push, Legal, SomeChange}
-use Rattle.cordyceps_stack.specs.TransferPlays.{Sat, Sees, carry, Near, IsWalking, batch_of}
-use Rattle.cordyceps_stack.specs.TransferRule.{filled}
+use Rattle.cordyceps_stack.specs.TransferPlays.{SeatState, Sees, carry, Near, IsWalking, to_hand_out}
+use Rattle.cordyceps_stack.specs.TransferRule.{full_slot}
 use Rattle.cordyceps_stack.specs.TransferStanding.{EndsPushed, EndsLooked, IsOvertaken}
 use Rattle.cordyceps_stack.specs.TransferView.{Walking, View, name, walking}
 use Rattle.cordyceps_stack.specs.TransferWords.{start}
@@ -50,24 +50,24 @@ module _ {E : Type 0} where
   not_overtaken seen a m = no_change m.later (tail_own m.before ((true, Load m.load) ∷ m.later) (subst (λ z. AllOwn z) m.is a)).1 m.others m.changed
 
   -- ---- handing out
-  pub batch_walking : (xs : List (ℕ × E)) → batch_of (walking xs) ≡ xs
+  pub batch_walking : (xs : List (ℕ × E)) → to_hand_out (walking xs) ≡ xs
   batch_walking [] = refl
   batch_walking (x ∷ xs) = refl
 
   -- the next room to be handed out
-  pub record Next (slots at : ℕ) (m : Sat E) : Type 0 where
+  pub record Next (slots at : ℕ) (m : SeatState E) : Type 0 where
     pub here : ℕ × E
     pub others : List (ℕ × E)
     pub doing : m.0.doing ≡ Walking (here ∷ others)
-    pub hand : m.1 ≡ (here.0, Some (filled here)) ∷ carry others []
+    pub hand : m.1 ≡ (here.0, Some (full_slot here)) ∷ carry others []
     pub inside : here.0 < slots
     pub near : Near slots others
     pub word : at ≡ suc here.0
     pub index : at - 1 ≡ here.0
 
-  next_from : (slots at : ℕ) (m : Sat E) (xs : List (ℕ × E)) → IsWalking slots xs m → at ≡ start xs → at ≢ 0 → Next slots at m
+  next_from : (slots at : ℕ) (m : SeatState E) (xs : List (ℕ × E)) → IsWalking slots xs m → at ≡ start xs → at ≢ 0 → Next slots at m
   next_from slots at m [] w e not = absurd (not e)
   next_from slots at m (x ∷ xs) w e not = record { here = x; others = xs; doing = w.0; hand = w.1; inside = w.2.0; near = w.2.1; word = e; index = omega arith }
 
-  pub next_of : (slots at : ℕ) (m : Sat E) → IsWalking slots (batch_of m.0.doing) m → at ≡ start (batch_of m.0.doing) → at ≢ 0 → Next slots at m
-  next_of slots at m w e not = next_from slots at m (batch_of m.0.doing) w e not
+  pub next_of : (slots at : ℕ) (m : SeatState E) → IsWalking slots (to_hand_out m.0.doing) m → at ≡ start (to_hand_out m.0.doing) → at ≢ 0 → Next slots at m
+  next_of slots at m w e not = next_from slots at m (to_hand_out m.0.doing) w e not

@@ -3,7 +3,7 @@ use Rattle.std.proofs.Common.{◌≡◌, ◌≢◌, ℕ, List, [], ◌∷◌, re
 use Rattle.std.specs.Prelude.{Option, Some, None, slice_get, nat_eq}
 use Rattle.cordyceps_stack.specs.declared.rooms.Room.{Room}
 use Rattle.cordyceps_stack.specs.TransferMachine.{change}
-use Rattle.cordyceps_stack.specs.TransferMeets.{used, Without, LeadsThrough, elements}
+use Rattle.cordyceps_stack.specs.TransferMeets.{room_in_use, NotAmong, LeadsThrough, room_elements}
 use Rattle.cordyceps_stack.proofs.Written.{slice_get-change_other}
 use Rattle.std.proofs.lemmas.Bool.{eq-eqb, ne_eqb}
 
@@ -28,7 +28,7 @@ relabel_other own r o s n = ap (λ b. cond b o (own s)) (ne_eqb s r n)
 module _ {E : Type 0} where
   -- what w uses stays as it is, and is then w's or what v is
   abbrev pub Passes : List (Room E) → (ℕ → Option ℕ) → List (Room E) → (ℕ → Option ℕ) → Option ℕ → Option ℕ → Type 0
-  Passes rooms own rooms' own' w v = (r : ℕ) (e : E) (next : Option ℕ) → slice_get rooms r ≡ Some (used e next) → own r ≡ w → (slice_get rooms' r ≡ Some (used e next)) × (own' r ≡ v)
+  Passes rooms own rooms' own' w v = (r : ℕ) (e : E) (next : Option ℕ) → slice_get rooms r ≡ Some (room_in_use e next) → own r ≡ w → (slice_get rooms' r ≡ Some (room_in_use e next)) × (own' r ≡ v)
 
   abbrev pub Keeps : List (Room E) → (ℕ → Option ℕ) → List (Room E) → (ℕ → Option ℕ) → Option ℕ → Type 0
   Keeps rooms own rooms' own' w = Passes rooms own rooms' own' w w
@@ -40,13 +40,13 @@ module _ {E : Type 0} where
       (l.0, l.1, here.0, here.1, l.4, LeadsThrough-passed rooms own rooms' own' w v l.0 xs k l.5)
 
   -- a room of another is not among these
-  pub Without-label : (rooms : List (Room E)) (own : ℕ → Option ℕ) (w start : Option ℕ) (xs : List (ℕ × E)) (r : ℕ)
-      → own r ≢ w → LeadsThrough rooms own w start xs → Without r xs
-  Without-label rooms own w start [] r n l = tt
-  Without-label rooms own w start (x ∷ xs) r n l = (λ e. n (ap own e ∙ l.3), Without-label rooms own w l.0 xs r n l.5)
+  pub NoneOf-label : (rooms : List (Room E)) (own : ℕ → Option ℕ) (w start : Option ℕ) (xs : List (ℕ × E)) (r : ℕ)
+      → own r ≢ w → LeadsThrough rooms own w start xs → NotAmong r xs
+  NoneOf-label rooms own w start [] r n l = tt
+  NoneOf-label rooms own w start (x ∷ xs) r n l = (λ e. n (ap own e ∙ l.3), NoneOf-label rooms own w l.0 xs r n l.5)
 
   -- a change to a room that is not among these
-  pub LeadsThrough-change : (f : Room E → Room E) (rooms : List (Room E)) (own : ℕ → Option ℕ) (w start : Option ℕ) (xs : List (ℕ × E)) (r : ℕ) → Without r xs → LeadsThrough rooms own w start xs → LeadsThrough (change f r rooms) own w start xs
+  pub LeadsThrough-change : (f : Room E → Room E) (rooms : List (Room E)) (own : ℕ → Option ℕ) (w start : Option ℕ) (xs : List (ℕ × E)) (r : ℕ) → NotAmong r xs → LeadsThrough rooms own w start xs → LeadsThrough (change f r rooms) own w start xs
   LeadsThrough-change f rooms own w start [] r n l = l
   LeadsThrough-change f rooms own w start (x ∷ xs) r n l =
       (l.0, l.1, slice_get-change_other f rooms r x.0 (λ e. n.0 (sym e)) ∙ l.2, l.3, l.4, LeadsThrough-change f rooms own w l.0 xs r n.1 l.5)
@@ -61,28 +61,28 @@ module _ {E : Type 0} where
       → Keeps rooms own rooms (relabel own r o) w
   Keeps-relabel rooms own r o w n s e next got mine = (got, relabel_other own r o s (λ same. n (ap own (sym same) ∙ mine)) ∙ mine)
 
-  pub owner_of : (room : Room E) (e : E) (next : Option ℕ) → Some room ≡ Some (used e next) → room.owner ≡ None
-  owner_of room e next h = let same : room ≡ used e next = cc in ap (λ (x : Room E). x.owner) same
+  pub owner_of : (room : Room E) (e : E) (next : Option ℕ) → Some room ≡ Some (room_in_use e next) → room.owner ≡ None
+  owner_of room e next h = let same : room ≡ room_in_use e next = cc in ap (λ (x : Room E). x.owner) same
 
   -- a free room that comes into use
   pub Keeps-fresh : (f : Room E → Room E) (rooms : List (Room E)) (own : ℕ → Option ℕ) (r : ℕ) (room : Room E) (o w : Option ℕ) (p : ℕ) → slice_get rooms r ≡ Some room → room.owner ≡ Some p → Keeps rooms own (change f r rooms) (relabel own r o) w
   Keeps-fresh f rooms own r room o w p at free s e next got mine =
-      let apart : s ≢ r = λ same. let owners : Some room ≡ Some (used e next) = sym at ∙ (ap (slice_get rooms) (sym same) ∙ got) in let both : room.owner ≡ None = owner_of room e next owners in cc in
+      let apart : s ≢ r = λ same. let owners : Some room ≡ Some (room_in_use e next) = sym at ∙ (ap (slice_get rooms) (sym same) ∙ got) in let both : room.owner ≡ None = owner_of room e next owners in cc in
       (slice_get-change_other f rooms r s apart ∙ got, relabel_other own r o s apart ∙ mine)
 
   -- a change to a free room
   pub Keeps-free : (f : Room E → Room E) (rooms : List (Room E)) (own : ℕ → Option ℕ) (r : ℕ) (room : Room E) (w : Option ℕ) (p : ℕ) → slice_get rooms r ≡ Some room → room.owner ≡ Some p → Keeps rooms own (change f r rooms) own w
   Keeps-free f rooms own r room w p at free s e next got mine =
-      let apart : s ≢ r = λ same. let owners : Some room ≡ Some (used e next) = sym at ∙ (ap (slice_get rooms) (sym same) ∙ got) in let both : room.owner ≡ None = owner_of room e next owners in cc in
+      let apart : s ≢ r = λ same. let owners : Some room ≡ Some (room_in_use e next) = sym at ∙ (ap (slice_get rooms) (sym same) ∙ got) in let both : room.owner ≡ None = owner_of room e next owners in cc in
       (slice_get-change_other f rooms r s apart ∙ got, mine)
 
   -- links that begin nowhere, and somewhere
   pub LeadsThrough-none : (rooms : List (Room E)) (own : ℕ → Option ℕ) (w : Option ℕ) (xs : List (ℕ × E))
-      → LeadsThrough rooms own w None xs → elements xs ≡ []
+      → LeadsThrough rooms own w None xs → room_elements xs ≡ []
   LeadsThrough-none rooms own w [] l = refl
   LeadsThrough-none rooms own w (x ∷ xs) l = let no : ⊥ = let e = l.1 in cc in absurd no
 
   pub LeadsThrough-some : (rooms : List (Room E)) (own : ℕ → Option ℕ) (w : Option ℕ) (r : ℕ) (xs : List (ℕ × E))
-      → LeadsThrough rooms own w (Some r) xs → elements xs ≢ []
+      → LeadsThrough rooms own w (Some r) xs → room_elements xs ≢ []
   LeadsThrough-some rooms own w r [] l e = let no : ⊥ = cc in no
   LeadsThrough-some rooms own w r (x ∷ xs) l e = let no : ⊥ = cc in no

@@ -6,16 +6,16 @@ use Rattle.cordyceps_base.specs.declared.shared.StepError.TheVariants.{NotThere}
 use Rattle.cordyceps_stack.specs.declared.transfer_step.TransferStep.{TransferStep}
 use Rattle.cordyceps_stack.specs.declared.transfer_step.TransferStep.TheVariants as step
 use Rattle.cordyceps_stack.specs.declared.transfer_place.Attempt.{Attempt}
-use Rattle.cordyceps_stack.specs.declared.transfer_place.Place.{Place}
-use Rattle.cordyceps_stack.specs.declared.transfer_place.Place.TheVariants.{Rest, Loaded, Set, Walking}
-use Rattle.cordyceps_stack.specs.TransferMachine.{Machine, Outcome, acts, element_of, least_free, load, exchange, take, may_take, is_there, stepped, stepped_at}
+use Rattle.cordyceps_stack.specs.declared.transfer_place.Stage.{Stage}
+use Rattle.cordyceps_stack.specs.declared.transfer_place.Stage.TheVariants.{Rest, Loaded, Set, Walking}
+use Rattle.cordyceps_stack.specs.TransferMachine.{Machine, Outcome, acts, step_element, least_free, load, exchange, take, may_take, is_there, stepped, stepped_at}
 use Rattle.cordyceps_stack.specs.TransferCore.{IsSound}
 use Rattle.cordyceps_stack.proofs.TransferSound.{set_room, walking_room}
 
 module _ {E : Type 0} where
   -- accepted exactly where the step is there; a refusal changes nothing and hands the element back
   abbrev pub Exact : Machine E → TransferStep E → Bool → Outcome E → Type 0
-  Exact m s there out = (is_ok out.1 ≡ there) × IfErr out.1 (λ e. (e ≡ (NotThere, element_of s)) × (out.0 ≡ m))
+  Exact m s there out = (is_ok out.1 ≡ there) × IfErr out.1 (λ e. (e ≡ (NotThere, step_element s)) × (out.0 ≡ m))
 
   exact_load : (m : Machine E) (p : ℕ) (e : E) (o : Option ℕ) → Exact m (step.Load e) (is_some o) (load m p e o)
   exact_load m p e None = (refl, (refl, refl))
@@ -30,7 +30,7 @@ module _ {E : Type 0} where
   exact_take m p None = (refl, tt)
   exact_take m p (Some r) = (refl, tt)
 
-  exact_at : (m : Machine E) (p : ℕ) (s : TransferStep E) (o : Option Place) → IsSound m → slice_get m.parties p ≡ o
+  exact_at : (m : Machine E) (p : ℕ) (s : TransferStep E) (o : Option Stage) → IsSound m → slice_get m.parties p ≡ o
       → Exact m s (may_take m p s o) (stepped_at m p s o)
   exact_at m p (step.Load e) (Some Rest) sound at = exact_load m p e (least_free p m.rooms)
   exact_at m p step.SetNext (Some (Loaded a)) sound at = (refl, tt)
@@ -43,6 +43,6 @@ module _ {E : Type 0} where
   exact m p s sound = exact_at m p s (slice_get m.parties p) sound refl
 
   -- the same, where it is known at which place the party is
-  pub exact_act : (m : Machine E) (p : ℕ) (s : TransferStep E) (place : Place) → IsSound m
+  pub exact_act : (m : Machine E) (p : ℕ) (s : TransferStep E) (place : Stage) → IsSound m
       → slice_get m.parties p ≡ Some place → Exact m s (is_there m p s) (acts m p s place)
-  exact_act m p s place sound at = subst (λ (o : Option Place). Exact m s (is_there m p s) (stepped_at m p s o)) at (exact m p s sound)
+  exact_act m p s place sound at = subst (λ (o : Option Stage). Exact m s (is_there m p s) (stepped_at m p s o)) at (exact m p s sound)

@@ -5,15 +5,15 @@ use Rattle.std.proofs.lemmas.List.{append-nil}
 use Rattle.std.proofs.lemmas.Bool.{eq-eqb, ne_eqb, cases_eq}
 use Rattle.cordyceps_base.specs.Runs.{after}
 use Rattle.cordyceps_stack.specs.declared.rooms.Room.{Room}
-use Rattle.cordyceps_stack.specs.declared.transfer_place.Place.{Place}
-use Rattle.cordyceps_stack.specs.declared.transfer_place.Place.TheVariants.{Rest, Loaded, Set, Walking}
+use Rattle.cordyceps_stack.specs.declared.transfer_place.Stage.{Stage}
+use Rattle.cordyceps_stack.specs.declared.transfer_place.Stage.TheVariants.{Rest, Loaded, Set, Walking}
 use Rattle.cordyceps_stack.specs.declared.transfer_step.TransferAnswer.TheVariants as answer
 use Rattle.cordyceps_stack.specs.declared.transfer_step.TransferStep.{TransferStep}
 use Rattle.cordyceps_stack.specs.declared.transfer_step.TransferStep.TheVariants as step
 use Rattle.cordyceps_stack.specs.TransferHistory.{Event, Load, Push, Taken}
-use Rattle.cordyceps_stack.specs.TransferMachine.{Machine, Outcome, with_party, acts, stepped_at, stepped, is_ready, in_hand_at, events}
+use Rattle.cordyceps_stack.specs.TransferMachine.{Machine, Outcome, with_party, acts, stepped_at, stepped, is_ready, in_hand_at, answered_events}
 use Rattle.cordyceps_stack.specs.TransferCore.{CoreMeets, step_events, core_step, take_steps}
-use Rattle.cordyceps_stack.specs.TransferWalks.{batches, Leads, IsLeftAt, IsLeft, given_by, only, HandsOut, HandsOn}
+use Rattle.cordyceps_stack.specs.TransferWalks.{batches, LeadsToElements, IsLeftAt, IsLeft, given_by, only, HandsOut, HandsOn}
 use Rattle.cordyceps_stack.proofs.TransferAlone.{Pushing, pushing, push_ends, step_to}
 use Rattle.cordyceps_stack.proofs.TransferGrowing.{slice_get-push, slice_get-pushed}
 use Rattle.cordyceps_stack.proofs.TransferSound.{core_steps}
@@ -28,32 +28,32 @@ module _ {E : Type 0} where
   hands_same : (h : List (Event ℕ E)) (m : Machine E) → HandsOn h m h m (λ p. [])
   hands_same h m = hands_still h m m (λ p left is. is)
 
-  left_party : (rooms : List (Room E)) (parties : List Place) (p : ℕ) (o o' : Option Place) (left : List E)
+  left_party : (rooms : List (Room E)) (parties : List Stage) (p : ℕ) (o o' : Option Stage) (left : List E)
       → slice_get parties p ≡ o → slice_get (parties ++ Rest ∷ []) p ≡ o' → IsLeftAt rooms o left → IsLeftAt rooms o' left
   left_party rooms parties p (Some y) o' left was at is =
-      subst (λ (x : Option Place). IsLeftAt rooms x left) (sym (slice_get-pushed parties Rest y p was) ∙ at) is
+      subst (λ (x : Option Stage). IsLeftAt rooms x left) (sym (slice_get-pushed parties Rest y p was) ∙ at) is
   left_party rooms parties p None None left was at is = is
   left_party rooms parties p None (Some place) left was at is = elim (slice_get-push parties Rest place p at) [
     | inl e ↦ let no : ⊥ = cc in absurd no
-    | inr e ↦ subst (λ (x : Place). IsLeftAt rooms (Some x) left) (sym e) is
+    | inr e ↦ subst (λ (x : Stage). IsLeftAt rooms (Some x) left) (sym e) is
   ]
 
   hands_party : (h : List (Event ℕ E)) (m : Machine E) → HandsOn h m h (with_party m) (λ p. [])
   hands_party h m = hands_still h m (with_party m) (λ p left is. left_party m.rooms m.parties p (slice_get m.parties p) (slice_get (m.parties ++ Rest ∷ []) p) left refl refl is)
 
   -- whether or not there was memory for a party
-  pub hands_party_tried : (h : List (Event ℕ E)) (m : Machine E) (parties : List Place) (b : Bool)
+  pub hands_party_tried : (h : List (Event ℕ E)) (m : Machine E) (parties : List Stage) (b : Bool)
       → parties ≡ (if b then m.parties ++ Rest ∷ [] else m.parties)
       → HandsOn h m h record { head = m.head; rooms = m.rooms; parties = parties } (λ p. [])
   hands_party_tried h m parties true e = rw e (hands_party h m)
   hands_party_tried h m parties false e = rw e (hands_same h m)
 
-  leads_pushed : (rooms : List (Room E)) (room : Room E) (start : Option ℕ) (es : List E) → Leads rooms start es
-      → Leads (rooms ++ room ∷ []) start es
+  leads_pushed : (rooms : List (Room E)) (room : Room E) (start : Option ℕ) (es : List E) → LeadsToElements rooms start es
+      → LeadsToElements (rooms ++ room ∷ []) start es
   leads_pushed rooms room start [] l = l
   leads_pushed rooms room start (e ∷ es) l = (l.0, l.1, l.2, slice_get-pushed rooms room _ l.0 l.3, leads_pushed rooms room l.1 es l.4)
 
-  left_room : (rooms : List (Room E)) (room : Room E) (o : Option Place) (left : List E) → IsLeftAt rooms o left
+  left_room : (rooms : List (Room E)) (room : Room E) (o : Option Stage) (left : List E) → IsLeftAt rooms o left
       → IsLeftAt (rooms ++ room ∷ []) o left
   left_room rooms room (Some (Walking r)) left is = leads_pushed rooms room (Some r) left is
   left_room rooms room None left is = is
@@ -76,10 +76,10 @@ module _ {E : Type 0} where
   -- what a step that hands out nothing does, at its outcome
   hands_to : (h : List (Event ℕ E)) (m : Machine E) (q : ℕ) (s : TransferStep E) (out : Outcome E) → stepped m q s ≡ out
       → CoreMeets h m → given_by out.1 ≡ []
-      → HandsOn h m (h ++ events h q (in_hand_at m.rooms (slice_get m.parties q)) s out.1) out.0 (λ p. [])
+      → HandsOn h m (h ++ answered_events h q (in_hand_at m.rooms (slice_get m.parties q)) s out.1) out.0 (λ p. [])
   hands_to h m q s out e was none p given before =
-      let h' = h ++ events h q (in_hand_at m.rooms (slice_get m.parties q)) s out.1 in
-      let on = subst (λ (o : Outcome E). HandsOn h m (h ++ events h q (in_hand_at m.rooms (slice_get m.parties q)) s o.1) o.0 (only q (given_by o.1))) e (hands_on h m q s was) in
+      let h' = h ++ answered_events h q (in_hand_at m.rooms (slice_get m.parties q)) s out.1 in
+      let on = subst (λ (o : Outcome E). HandsOn h m (h ++ answered_events h q (in_hand_at m.rooms (slice_get m.parties q)) s o.1) o.0 (only q (given_by o.1))) e (hands_on h m q s was) in
       subst (λ (es : List E). HandsOut h' out.0 p (given ++ es)) (ap (λ (es : List E). only q es p) none ∙ only_none q p) (on p given before)
 
   hands_then : (h h' h'' : List (Event ℕ E)) (m m' m'' : Machine E) → HandsOn h m h' m' (λ p. [])
@@ -108,11 +108,11 @@ module _ {E : Type 0} where
       subst (λ (n : Machine E). HandsOn h m ((h ++ Load p ∷ []) ++ Push p e ∷ []) n (λ q. [])) (sym (push_ends m m1 m2 m3 p e run a c d)) (push_hands h m p e run was)
 
   -- a step, where it is known at which place the party is
-  pub hands_acts : (h : List (Event ℕ E)) (m : Machine E) (q : ℕ) (s : TransferStep E) (place : Place)
+  pub hands_acts : (h : List (Event ℕ E)) (m : Machine E) (q : ℕ) (s : TransferStep E) (place : Stage)
       → slice_get m.parties q ≡ Some place → CoreMeets h m
       → HandsOn h m (h ++ step_events h m q s (acts m q s place).1) (acts m q s place).0 (only q (given_by (acts m q s place).1))
   hands_acts h m q s place at was =
-      subst (λ (o : Option Place). HandsOn h m (h ++ step_events h m q s (stepped_at m q s o).1) (stepped_at m q s o).0 (only q (given_by (stepped_at m q s o).1))) at (hands_on h m q s was)
+      subst (λ (o : Option Stage). HandsOn h m (h ++ step_events h m q s (stepped_at m q s o).1) (stepped_at m q s o).0 (only q (given_by (stepped_at m q s o).1))) at (hands_on h m q s was)
 
   kept_walks : (n : ℕ) (h : List (Event ℕ E)) (m : Machine E) (p q : ℕ) (left : List E) → CoreMeets h m → q ≢ p
       → IsLeft m q left → IsLeft (after core_step m (replicate n (p, step.Walk))) q left
@@ -130,11 +130,11 @@ module _ {E : Type 0} where
       → IsLeft old q left → (p ≡ q) ⊎ (p ≢ q)
       → MovesOn q left (Taken p batch ∷ []) new (only p batch q)
   take_moves h old new p n q batch left was from to ran is (inl same) =
-      let none : left ≡ [] = subst (λ (o : Option Place). IsLeftAt old.rooms o left) from (subst (λ s. IsLeft old s left) (sym same) is) in
+      let none : left ≡ [] = subst (λ (o : Option Stage). IsLeftAt old.rooms o left) from (subst (λ s. IsLeft old s left) (sym same) is) in
       subst (λ s. MovesOn s left (Taken p batch ∷ []) new (only p batch s)) same
       (subst (λ (t : Bool). MovesOn p left (Taken p batch ∷ []) new (if t then batch else [])) (sym (eq-eqb p p refl)) (
         [],
-        subst (λ (o : Option Place). IsLeftAt new.rooms o []) (sym to) refl,
+        subst (λ (o : Option Stage). IsLeftAt new.rooms o []) (sym to) refl,
         ap (λ es. es ++ batches p (Taken p batch ∷ [])) none ∙ (batches_mine p batch ∙ sym (append-nil batch)),
       ))
   take_moves h old new p n q batch left was from to ran is (inr ne) =

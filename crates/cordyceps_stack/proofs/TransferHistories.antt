@@ -32,18 +32,18 @@ module _ {P E : Type 0} where
   legal_none (b ∷ bs) after p batch e = let none : ⊥ = cc in absurd none
 
   -- what an event owes for the history to stay legal
-  abbrev pub Allowed : List (Event P E) → Event P E → Type 0
-  Allowed h (Load p) = Unit {0}
-  Allowed h (Push p e) = Unit {0}
-  Allowed h (Taken p batch) = batch ≡ reverse (held h)
+  abbrev pub MayFollow : List (Event P E) → Event P E → Type 0
+  MayFollow h (Load p) = Unit {0}
+  MayFollow h (Push p e) = Unit {0}
+  MayFollow h (Taken p batch) = batch ≡ reverse (held h)
 
-  allowed_batch : (h : List (Event P E)) (v : Event P E) (p : P) (batch : List E) → Allowed h v → v ≡ Taken p batch
+  allowed_batch : (h : List (Event P E)) (v : Event P E) (p : P) (batch : List E) → MayFollow h v → v ≡ Taken p batch
       → batch ≡ reverse (held h)
   allowed_batch h (Load q) p batch a e = let none : ⊥ = cc in absurd none
   allowed_batch h (Push q x) p batch a e = let none : ⊥ = cc in absurd none
   allowed_batch h (Taken q b) p batch a e = let same : b ≡ batch = cc in sym same ∙ a
 
-  pub legal_more : (h : List (Event P E)) (v : Event P E) → Legal h → Allowed h v → Legal (h ++ v ∷ [])
+  pub legal_more : (h : List (Event P E)) (v : Event P E) → Legal h → MayFollow h v → Legal (h ++ v ∷ [])
   legal_more h v l a before after p batch e = elim (split_push h before after v (Taken p batch) e) [
     | inl s ↦ allowed_batch h v p batch a s.1 ∙ ap (λ k. reverse (held k)) s.0
     | inr s ↦ l before s.0 p batch s.1

@@ -13,10 +13,10 @@ use Rattle.cordyceps_shared.proofs.Renaming.{renamed_else, relabel, events_relab
 use Rattle.cordyceps_shared.proofs.Standing as seats
 use Rattle.cordyceps_shared.proofs.Telling.{owned_same, fits_forgot}
 use Rattle.cordyceps_stack.specs.TransferHistory.{Event, Load, Taken, held, Legal, SomeChange}
-use Rattle.cordyceps_stack.specs.TransferView.{Idle, View, knows, newcomer, at_work, with_party}
-use Rattle.cordyceps_stack.specs.TransferWords.{History, Since, Does}
-use Rattle.cordyceps_stack.specs.TransferRule.{Homes, Empty, Kept}
-use Rattle.cordyceps_stack.specs.TransferPlays.{Sat, kept, given, both, spent, forgot, learned}
+use Rattle.cordyceps_stack.specs.TransferView.{Idle, View, knows, newcomer, at_work, count_with_party}
+use Rattle.cordyceps_stack.specs.TransferWords.{History, Since, AtDoing}
+use Rattle.cordyceps_stack.specs.TransferRule.{Homes, EmptyAtHome, RuleHolds}
+use Rattle.cordyceps_stack.specs.TransferPlays.{SeatState, view_keeping, view_giving, view_absorbing, view_absorbed, view_without_told, learned}
 use Rattle.cordyceps_stack.proofs.TransferHistories.{legal_none}
 use Rattle.cordyceps_stack.proofs.TransferWords.{does_frame, rests, forks}
 use Rattle.cordyceps_stack.proofs.TransferRule.{step_keeps, unwritten, few_rooms}
@@ -35,11 +35,11 @@ legal_front : {P E : Type 0} (xs ys : List (Event P E)) → Legal (xs ++ ys) →
 legal_front xs ys l before after p batch e = l before (after ++ ys) p batch (ap (λ z. z ++ ys) e ∙ append_assoc before (Taken p batch ∷ after) ys)
 
 module _ (E : Type 0) where
-  vacant_empty : (n m : ℕ) → m ≤ n → Empty {E = E} (map some (replicate n None)) (below m)
+  vacant_empty : (n m : ℕ) → m ≤ n → EmptyAtHome {E = E} (map some (replicate n None)) (below m)
   vacant_empty n zero l = tt
   vacant_empty n (suc m) l = (vacant_at n m None (omega arith), vacant_empty n m (omega arith))
 
-  pub opens : (rooms : ℕ) (words : List ℕ) → length words ≡ suc rooms → get_or words 0 0 ≡ 0 → Kept {E = E} (opening words (replicate rooms None) (newcomer rooms))
+  pub opens : (rooms : ℕ) (words : List ℕ) → length words ≡ suc rooms → get_or words 0 0 ≡ 0 → RuleHolds {E = E} (opening words (replicate rooms None) (newcomer rooms))
   opens rooms words wide zeros =
       let first : View E = newcomer rooms in
       let known = seats.opens knows first refl in record {
@@ -50,31 +50,31 @@ module _ (E : Type 0) where
           spelled = zeros;
           holds = refl;
           apart = λ r. omega (arith, below_once rooms r);
-          each = λ j v e. subst (λ (z : View E). Does words [] j z.doing) (only first v j e) tt;
+          each = λ j v e. subst (λ (z : View E). AtDoing words [] j z.doing) (only first v j e) tt;
         };
         wide = wide ∙ ap suc (sym (length-map (replicate rooms None) some ∙ length-replicate rooms None));
         full = tt;
-        empty = λ j v e. subst (λ (z : View E). let homes : Homes E = map some (replicate rooms None) in Empty homes z.free) (only first v j e) (vacant_empty rooms rooms (omega arith));
+        empty = λ j v e. subst (λ (z : View E). let homes : Homes E = map some (replicate rooms None) in EmptyAtHome homes z.free) (only first v j e) (vacant_empty rooms rooms (omega arith));
         fits = known.1;
         owned = known.0;
       }
 
 module _ {E : Type 0} where
   -- ---- splitting
-  empty_drop : (homes : Homes E) (n : ℕ) (free : List ℕ) → Empty homes free → Empty homes (drop n free)
+  empty_drop : (homes : Homes E) (n : ℕ) (free : List ℕ) → EmptyAtHome homes free → EmptyAtHome homes (drop n free)
   empty_drop homes zero free e = e
   empty_drop homes (suc n) [] e = e
   empty_drop homes (suc n) (r ∷ rs) e = empty_drop homes n rs e.1
 
-  empty_take : (homes : Homes E) (n : ℕ) (free : List ℕ) → Empty homes free → Empty homes (take n free)
+  empty_take : (homes : Homes E) (n : ℕ) (free : List ℕ) → EmptyAtHome homes free → EmptyAtHome homes (take n free)
   empty_take homes zero free e = tt
   empty_take homes (suc n) [] e = tt
   empty_take homes (suc n) (r ∷ rs) e = (e.0, empty_take homes n rs e.1)
 
-  pub splits : (id n : ℕ) (v : View E) → v.known.share ≢ [] → Splits Kept id v (kept n v) (given n v)
+  pub splits : (id n : ℕ) (v : View E) → v.known.share ≢ [] → Splits RuleHolds id v (view_keeping n v) (view_giving n v)
   splits id n v named s k at =
-      let left = kept n v in
-      let right = given n v in record {
+      let left = view_keeping n v in
+      let right = view_giving n v in record {
         history = k.history;
         chain = k.chain;
         meets = forks s.words k.chain s.views k.history id v left right k.meets at (λ r. let cut = tally_cut (λ q. one_if (eqb q r)) n v.free in omega arith) (k.meets.each id v at) (λ _. tt);
@@ -82,10 +82,10 @@ module _ {E : Type 0} where
         full = k.full;
         empty = λ i u e. ⊎_elim
             (λ (there : get_elem? (set s.views id left) i ≡ some u). ⊎_elim
-            (λ (t : (i ≡ id) × (left ≡ u)). subst (λ (z : View E). Empty s.homes z.free) t.1 (empty_drop s.homes n v.free (k.empty id v at)))
+            (λ (t : (i ≡ id) × (left ≡ u)). subst (λ (z : View E). EmptyAtHome s.homes z.free) t.1 (empty_drop s.homes n v.free (k.empty id v at)))
             (λ (t : (i ≢ id) × (get_elem? s.views i ≡ some u)). k.empty i u t.1)
             (at_set s.views id i left u there))
-            (λ (t : (i ≡ length (set s.views id left)) × (right ≡ u)). subst (λ (z : View E). Empty s.homes z.free) t.1 (empty_take s.homes n v.free (k.empty id v at)))
+            (λ (t : (i ≡ length (set s.views id left)) × (right ≡ u)). subst (λ (z : View E). EmptyAtHome s.homes z.free) t.1 (empty_take s.homes n v.free (k.empty id v at)))
             (at_end (set s.views id left) right u i e);
         fits = fits_cut knows s.views k.history id v left right at refl refl k.owned k.fits;
         owned = owned_cut knows s.views k.history id v left right at refl refl named k.owned;
@@ -103,27 +103,27 @@ module _ {E : Type 0} where
         same = ⊎_elim (λ t. inl t) (λ c. inr (subst (λ z. SomeChange z) (sym (events_relabel a b s.later)) c)) s.same;
       }
 
-  empty_append : (homes : Homes E) (xs ys : List ℕ) → Empty homes xs → Empty homes ys → Empty homes (xs ++ ys)
+  empty_append : (homes : Homes E) (xs ys : List ℕ) → EmptyAtHome homes xs → EmptyAtHome homes ys → EmptyAtHome homes (xs ++ ys)
   empty_append homes [] ys x y = y
   empty_append homes (r ∷ rs) ys x y = (x.0, empty_append homes rs ys x.1 y)
 
   -- of what holds of the two, of what is left of the second and of each other party, it holds afterwards
-  joined : (views : List (View E)) (id other : ℕ) (v w : View E) (Holds : ℕ → View E → Type 0) → Holds id (both v w) → Holds other spent → ((i : ℕ) (u : View E) → i ≢ id → i ≢ other → get_elem? views i ≡ some u → Holds i u)
-      → (i : ℕ) (u : View E) → get_elem? (set (set views id (both v w)) other spent) i ≡ some u → Holds i u
+  joined : (views : List (View E)) (id other : ℕ) (v w : View E) (Holds : ℕ → View E → Type 0) → Holds id (view_absorbing v w) → Holds other view_absorbed → ((i : ℕ) (u : View E) → i ≢ id → i ≢ other → get_elem? views i ≡ some u → Holds i u)
+      → (i : ℕ) (u : View E) → get_elem? (set (set views id (view_absorbing v w)) other view_absorbed) i ≡ some u → Holds i u
   joined views id other v w Holds first second others i u e = ⊎_elim
-      (λ (p : (i ≡ other) × (spent ≡ u)). subst (λ (z : ℕ × View E). Holds z.0 z.1) (λ c. (sym p.0 c, p.1 c)) second)
-      (λ (p : (i ≢ other) × (get_elem? (set views id (both v w)) i ≡ some u)). ⊎_elim
-      (λ (q : (i ≡ id) × (both v w ≡ u)). subst (λ (z : ℕ × View E). Holds z.0 z.1) (λ c. (sym q.0 c, q.1 c)) first)
+      (λ (p : (i ≡ other) × (view_absorbed ≡ u)). subst (λ (z : ℕ × View E). Holds z.0 z.1) (λ c. (sym p.0 c, p.1 c)) second)
+      (λ (p : (i ≢ other) × (get_elem? (set views id (view_absorbing v w)) i ≡ some u)). ⊎_elim
+      (λ (q : (i ≡ id) × (view_absorbing v w ≡ u)). subst (λ (z : ℕ × View E). Holds z.0 z.1) (λ c. (sym q.0 c, q.1 c)) first)
       (λ (q : (i ≢ id) × (get_elem? views i ≡ some u)). others i u q.0 p.0 q.1)
-      (at_set views id i (both v w) u p.1))
-      (at_set (set views id (both v w)) other i spent u e)
+      (at_set views id i (view_absorbing v w) u p.1))
+      (at_set (set views id (view_absorbing v w)) other i view_absorbed u e)
 
-  pub joins : (id other : ℕ) (v w : View E) → v.doing ≡ Idle → w.doing ≡ Idle → v.known.share ≢ [] → Joins Kept id v other w (both v w) spent
+  pub joins : (id other : ℕ) (v w : View E) → v.doing ≡ Idle → w.doing ≡ Idle → v.known.share ≢ [] → Joins RuleHolds id v other w (view_absorbing v w) view_absorbed
   joins id other v w idle idle_too named s k at apart there =
       let h = relabel id other k.history in
-      let one = set s.views id (both v w) in
+      let one = set s.views id (view_absorbing v w) in
       let m = k.meets in
-      let there_first : get_elem? s.views other ≡ some w = ⊎_elim (λ t. absurd (apart t.0)) (λ t. t.1) (at_set s.views id other (both v w) w there) in
+      let there_first : get_elem? s.views other ≡ some w = ⊎_elim (λ t. absurd (apart t.0)) (λ t. t.1) (at_set s.views id other (view_absorbing v w) w there) in
       let same = events_relabel id other k.history in record {
         history = h;
         chain = k.chain;
@@ -134,20 +134,20 @@ module _ {E : Type 0} where
           apart = λ r.
               let pv = ap (at_work r) idle in
               let pw = ap (at_work r) idle_too in
-              omega (arith, m.apart r, tally_set (with_party r) s.views id v (both v w) at, tally_set (with_party r) one other w spent there, tally_append (λ q. one_if (eqb q r)) v.free w.free);
-          each = joined s.views id other v w (λ i u. Does s.words h i u.doing) tt tt (λ i u n o e. does_frame s.words s.words k.history h i u.doing (λ r _. refl) (λ read. since_relabel id other s.words k.history i read n o) (m.each i u e));
+              omega (arith, m.apart r, tally_set (count_with_party r) s.views id v (view_absorbing v w) at, tally_set (count_with_party r) one other w view_absorbed there, tally_append (λ q. one_if (eqb q r)) v.free w.free);
+          each = joined s.views id other v w (λ i u. AtDoing s.words h i u.doing) tt tt (λ i u n o e. does_frame s.words s.words k.history h i u.doing (λ r _. refl) (λ read. since_relabel id other s.words k.history i read n o) (m.each i u e));
         };
         wide = k.wide;
         full = k.full;
-        empty = joined s.views id other v w (λ _ u. Empty s.homes u.free) (empty_append s.homes v.free w.free (k.empty id v at) (k.empty other w there_first)) tt (λ i u _ _ e. k.empty i u e);
-        fits = fits_join knows s.views k.history id other v w (both v w) spent at apart there refl refl k.fits;
-        owned = owned_join knows s.views k.history id other v w (both v w) spent at apart there refl refl named k.owned;
+        empty = joined s.views id other v w (λ _ u. EmptyAtHome s.homes u.free) (empty_append s.homes v.free w.free (k.empty id v at) (k.empty other w there_first)) tt (λ i u _ _ e. k.empty i u e);
+        fits = fits_join knows s.views k.history id other v w (view_absorbing v w) view_absorbed at apart there refl refl k.fits;
+        owned = owned_join knows s.views k.history id other v w (view_absorbing v w) view_absorbed at apart there refl refl named k.owned;
       }
 
-  pub learns : (slots id : ℕ) (me : Sat E) → me.0.doing ≡ Idle → Allows Kept slots id me 0 (λ n. n) (learned (step slots 0 0 0 none) me)
+  pub learns : (slots id : ℕ) (me : SeatState E) → me.0.doing ≡ Idle → Allows RuleHolds slots id me 0 (λ n. n) (learned (step slots 0 0 0 none) me)
   learns slots id me idle s k deep at fits =
       let v = me.0 in
-      let w = forgot v in
+      let w = view_without_told v in
       let few = few_rooms s k id v at in
       let meets = rests s.words k.chain s.views k.history id v w k.meets at (λ r. omega arith) (k.meets.each id v at) in (
         w,

@@ -6,12 +6,12 @@ use Rattle.std.proofs.lemmas.Option.{slice_get_within}
 use Rattle.cordyceps_stack.specs.declared.transfer_step.TransferStep.{TransferStep}
 use Rattle.cordyceps_stack.specs.declared.transfer_step.TransferStep.TheVariants as step
 use Rattle.cordyceps_stack.specs.declared.transfer_place.Attempt.{Attempt}
-use Rattle.cordyceps_stack.specs.declared.transfer_place.Place.{Place}
-use Rattle.cordyceps_stack.specs.declared.transfer_place.Place.TheVariants.{Rest, Loaded, Set, Walking}
+use Rattle.cordyceps_stack.specs.declared.transfer_place.Stage.{Stage}
+use Rattle.cordyceps_stack.specs.declared.transfer_place.Stage.TheVariants.{Rest, Loaded, Set, Walking}
 use Rattle.cordyceps_stack.specs.declared.rooms.Room.{Room}
 use Rattle.cordyceps_stack.specs.TransferHistory.{Event}
-use Rattle.cordyceps_stack.specs.TransferMachine.{Machine, change, holding, linking, freeing, walked, least_free, element_in, next_in, acts, stepped_at, stepped}
-use Rattle.cordyceps_stack.specs.TransferMeets.{AnswerSays, used}
+use Rattle.cordyceps_stack.specs.TransferMachine.{Machine, change, holding, linking, freeing, stage_after_walk, least_free, element_in, next_in, acts, stepped_at, stepped}
+use Rattle.cordyceps_stack.specs.TransferMeets.{AnswerSays, room_in_use}
 use Rattle.cordyceps_stack.specs.TransferCore.{CoreMeets, IsSound, step_events}
 use Rattle.cordyceps_stack.proofs.TransferHistories.{legal_none}
 use Rattle.cordyceps_stack.proofs.TransferSteps.{Apart}
@@ -36,10 +36,10 @@ module _ {E : Type 0} where
   core_steps h m p s was = goes_on (λ q. q) h m p s was (numbers_apart p)
 
   -- the same, where it is known at which place the party is
-  pub core_acts : (h : List (Event ℕ E)) (m : Machine E) (p : ℕ) (s : TransferStep E) (place : Place)
+  pub core_acts : (h : List (Event ℕ E)) (m : Machine E) (p : ℕ) (s : TransferStep E) (place : Stage)
       → slice_get m.parties p ≡ Some place → CoreMeets h m
       → CoreMeets (h ++ step_events h m p s (acts m p s place).1) (acts m p s place).0 × AnswerSays h p (acts m p s place).1
-  core_acts h m p s place at was = subst (λ (o : Option Place). CoreMeets (h ++ step_events h m p s (stepped_at m p s o).1) (stepped_at m p s o).0 × AnswerSays h p (stepped_at m p s o).1) at (core_steps h m p s was)
+  core_acts h m p s place at was = subst (λ (o : Option Stage). CoreMeets (h ++ step_events h m p s (stepped_at m p s o).1) (stepped_at m p s o).0 × AnswerSays h p (stepped_at m p s o).1) at (core_steps h m p s was)
 
   -- a core's machine after a step is sound
   pub sound_step : (m m' : Machine E) (p : ℕ) (s : TransferStep E) → IsSound m → (stepped m p s).0 ≡ m' → IsSound m'
@@ -47,15 +47,15 @@ module _ {E : Type 0} where
 
   -- where a push is under way there is a room with an element
   pub loaded_room : (m : Machine E) (p : ℕ) (a : Attempt) → IsSound m → slice_get m.parties p ≡ Some (Loaded a)
-      → (e : E) × (next : Option ℕ) × (slice_get m.rooms a.room ≡ Some (used e next))
+      → (e : E) × (next : Option ℕ) × (slice_get m.rooms a.room ≡ Some (room_in_use e next))
   loaded_room m p a s at = let hand = (s.1.parties p (Loaded a) at).0 in (hand.element, hand.next, hand.room)
 
   pub set_room : (m : Machine E) (p : ℕ) (a : Attempt) → IsSound m → slice_get m.parties p ≡ Some (Set a)
-      → (e : E) × (next : Option ℕ) × (slice_get m.rooms a.room ≡ Some (used e next))
+      → (e : E) × (next : Option ℕ) × (slice_get m.rooms a.room ≡ Some (room_in_use e next))
   set_room m p a s at = let hand = (s.1.parties p (Set a) at).0 in (hand.element, hand.next, hand.room)
 
   pub walking_room : (m : Machine E) (p r : ℕ) → IsSound m → slice_get m.parties p ≡ Some (Walking r)
-      → (e : E) × (next : Option ℕ) × (slice_get m.rooms r ≡ Some (used e next))
+      → (e : E) × (next : Option ℕ) × (slice_get m.rooms r ≡ Some (room_in_use e next))
   walking_room m p r s at = walking_at (λ q. q) s.0 m p r s.1 at
 
   pub sound_load : (m : Machine E) (p r : ℕ) (e : E) (rooms : List (Room E)) → IsSound m → slice_get m.parties p ≡ Some Rest
@@ -84,9 +84,9 @@ module _ {E : Type 0} where
 
   pub sound_walk : (m : Machine E) (p r : ℕ) (next : Option ℕ) (rooms : List (Room E)) → IsSound m
       → slice_get m.parties p ≡ Some (Walking r) → next ≡ next_in (slice_get m.rooms r) → rooms ≡ change (freeing p) r m.rooms
-      → IsSound record { head = m.head; rooms = rooms; parties = set m.parties p (walked next) }
+      → IsSound record { head = m.head; rooms = rooms; parties = set m.parties p (stage_after_walk next) }
   sound_walk m p r next rooms s at link same = let there = walking_room m p r s at in sound_step m _ p step.Walk s (rw (at, there.2, link, there.2, same) refl)
 
-  pub element_at : (m : Machine E) (r : ℕ) → (e : E) × (next : Option ℕ) × (slice_get m.rooms r ≡ Some (used e next))
+  pub element_at : (m : Machine E) (r : ℕ) → (e : E) × (next : Option ℕ) × (slice_get m.rooms r ≡ Some (room_in_use e next))
       → (r < length m.rooms) × IsSome (element_in (slice_get m.rooms r))
   element_at m r there = (slice_get_within m.rooms r _ there.2, rw there.2 refl)

@@ -9,12 +9,12 @@ use Rattle.std.proofs.lemmas.Option.{slice_get-get_or}
 use Rattle.cordyceps_stack.specs.declared.transfer_step.TransferStep.{TransferStep}
 use Rattle.cordyceps_stack.specs.declared.transfer_step.TransferStep.TheVariants as step
 use Rattle.cordyceps_stack.specs.declared.transfer_place.Attempt.{Attempt}
-use Rattle.cordyceps_stack.specs.declared.transfer_place.Place.{Place}
-use Rattle.cordyceps_stack.specs.declared.transfer_place.Place.TheVariants.{Rest, Loaded, Set, Walking}
+use Rattle.cordyceps_stack.specs.declared.transfer_place.Stage.{Stage}
+use Rattle.cordyceps_stack.specs.declared.transfer_place.Stage.TheVariants.{Rest, Loaded, Set, Walking}
 use Rattle.cordyceps_stack.specs.declared.rooms.Room.{Room}
 use Rattle.cordyceps_stack.specs.TransferHistory.{Event, held}
-use Rattle.cordyceps_stack.specs.TransferMachine.{Machine, Outcome, element_in, next_in, is_free_for, least_free, load, exchange, take, walk, stepped_at, stepped, in_hand_at, events}
-use Rattle.cordyceps_stack.specs.TransferMeets.{used, LeadsThrough, Meets, AnswerSays}
+use Rattle.cordyceps_stack.specs.TransferMachine.{Machine, Outcome, element_in, next_in, is_free_for, least_free, load, exchange, take, walk, stepped_at, stepped, in_hand_at, answered_events}
+use Rattle.cordyceps_stack.specs.TransferMeets.{room_in_use, LeadsThrough, Meets, AnswerSays}
 use Rattle.cordyceps_stack.proofs.TransferChains.{LeadsThrough-none, LeadsThrough-some}
 use Rattle.cordyceps_stack.proofs.TransferSteps.{Apart, keeps_load, keeps_set_next, keeps_push, keeps_fail, keeps_take, keeps_nothing, keeps_walk}
 
@@ -43,7 +43,7 @@ module _ {E : Type 0} where
       (get_or (x ∷ xs) r x, slice_get-get_or (x ∷ xs) r x found.0, option_same (get_or (x ∷ xs) r x).owner (Some p) found.1)
 
   pub first_of_rest : (rooms : List (Room E)) (own : ℕ → Option ℕ) (w : Option ℕ) (r : ℕ) (rest : List (ℕ × E))
-      → LeadsThrough rooms own w (Some r) rest → (e : E) × (next : Option ℕ) × (slice_get rooms r ≡ Some (used e next))
+      → LeadsThrough rooms own w (Some r) rest → (e : E) × (next : Option ℕ) × (slice_get rooms r ≡ Some (room_in_use e next))
   first_of_rest rooms own w r [] l = let no : ⊥ = cc in absurd no
   first_of_rest rooms own w r (x ∷ xs) l = let start : r ≡ x.0 = let e = l.1 in cc in (x.1, l.0, ap (slice_get rooms) start ∙ l.2)
 
@@ -63,7 +63,7 @@ module _ {P E : Type 0} where
 
   -- the step's outcome is the machine's, and the machine meets the history with the step's events
   abbrev pub Goes_on : (ℕ → P) → List (Event P E) → ℕ → Option E → TransferStep E → Outcome E → Type 0
-  Goes_on name h p hand s out = Meets name (h ++ events h (name p) hand s out.1) out.0 × AnswerSays h (name p) out.1
+  Goes_on name h p hand s out = Meets name (h ++ answered_events h (name p) hand s out.1) out.0 × AnswerSays h (name p) out.1
 
   unchanged : (name : ℕ → P) (h : List (Event P E)) (m : Machine E) → Meets name h m → Meets name (h ++ []) m
   unchanged name h m was = subst (λ k. Meets name k m) (sym (append-nil h)) was
@@ -95,11 +95,11 @@ module _ {P E : Type 0} where
 
   -- where a party walks there is a room with an element
   pub walking_at : (name : ℕ → P) (h : List (Event P E)) (m : Machine E) (p r : ℕ) → Meets name h m
-      → slice_get m.parties p ≡ Some (Walking r) → (e : E) × (next : Option ℕ) × (slice_get m.rooms r ≡ Some (used e next))
+      → slice_get m.parties p ≡ Some (Walking r) → (e : E) × (next : Option ℕ) × (slice_get m.rooms r ≡ Some (room_in_use e next))
   walking_at name h m p r was at = let w = was.parties p (Walking r) at in first_of_rest m.rooms was.own (Some p) r w.rest w.links
 
   walked_on : (name : ℕ → P) (h : List (Event P E)) (m : Machine E) (p r : ℕ) (e : E) (next : Option ℕ) → Meets name h m
-      → slice_get m.parties p ≡ Some (Walking r) → slice_get m.rooms r ≡ Some (used e next)
+      → slice_get m.parties p ≡ Some (Walking r) → slice_get m.rooms r ≡ Some (room_in_use e next)
       → Goes_on name h p None step.Walk (walk m p r next (Some e))
   walked_on name h m p r e None was at got = (unchanged name h _ (keeps_walk name h m p r e None was at got), tt)
   walked_on name h m p r e (Some s) was at got = (unchanged name h _ (keeps_walk name h m p r e (Some s) was at got), tt)
@@ -111,7 +111,7 @@ module _ {P E : Type 0} where
       let there = walking_at name h m p r was at in
       rw there.2 (walked_on name h m p r there.0 there.1 was at there.2)
 
-  goes_at : (name : ℕ → P) (h : List (Event P E)) (m : Machine E) (p : ℕ) (s : TransferStep E) (o : Option Place)
+  goes_at : (name : ℕ → P) (h : List (Event P E)) (m : Machine E) (p : ℕ) (s : TransferStep E) (o : Option Stage)
       → Meets name h m → Apart name p → slice_get m.parties p ≡ o → Goes_on name h p (in_hand_at m.rooms o) s (stepped_at m p s o)
   goes_at name h m p (step.Load e) (Some Rest) was apart at = on_load name h m p e (least_free p m.rooms) was apart at refl
   goes_at name h m p step.SetNext (Some (Loaded a)) was apart at = (unchanged name h _ (keeps_set_next name h m p a was at), tt)

@@ -4,15 +4,15 @@ use Rattle.std.specs.Prelude.{Option, Some, None, slice_get}
 use Rattle.std.proofs.lemmas.List.{reverse-append}
 use Rattle.std.proofs.lemmas.Bool.{cases_eq}
 use Rattle.cordyceps_stack.specs.declared.transfer_place.Attempt.{Attempt}
-use Rattle.cordyceps_stack.specs.declared.transfer_place.Place.{Place}
-use Rattle.cordyceps_stack.specs.declared.transfer_place.Place.TheVariants.{Rest, Loaded, Set, Walking}
+use Rattle.cordyceps_stack.specs.declared.transfer_place.Stage.{Stage}
+use Rattle.cordyceps_stack.specs.declared.transfer_place.Stage.TheVariants.{Rest, Loaded, Set, Walking}
 use Rattle.cordyceps_stack.specs.declared.rooms.Room.{Room}
 use Rattle.cordyceps_stack.specs.TransferHistory.{Event, Load, Push, Taken, held, Legal, NoLoad, NoTaken, IsByAnother, SomeByAnother, LastLoad, LastBatch}
-use Rattle.cordyceps_stack.specs.TransferMachine.{Machine, change, holding, linking, freeing, walked}
-use Rattle.cordyceps_stack.specs.TransferMeets.{used, Without, LeadsThrough, elements, InHand, Knows, Walks, AtPlace, Meets}
+use Rattle.cordyceps_stack.specs.TransferMachine.{Machine, change, holding, linking, freeing, stage_after_walk}
+use Rattle.cordyceps_stack.specs.TransferMeets.{room_in_use, NotAmong, LeadsThrough, room_elements, InHand, HasRead, HasBatchLeft, AtStage, Meets}
 use Rattle.cordyceps_stack.proofs.Written.{slice_get-set_same, slice_get-set_other, slice_get-change_same, set_as_it_was}
 use Rattle.cordyceps_stack.proofs.TransferHistories.{held_more, legal_more, loaded_now, loaded_more, batch_now, batch_more, another_more, another_last}
-use Rattle.cordyceps_stack.proofs.TransferChains.{relabel, relabel_here, all_to, or_to, Keeps, LeadsThrough-passed, Without-label, LeadsThrough-change, Keeps-change, Keeps-relabel, Keeps-fresh, LeadsThrough-none, LeadsThrough-some}
+use Rattle.cordyceps_stack.proofs.TransferChains.{relabel, relabel_here, all_to, or_to, Keeps, LeadsThrough-passed, NoneOf-label, LeadsThrough-change, Keeps-change, Keeps-relabel, Keeps-fresh, LeadsThrough-none, LeadsThrough-some}
 
 -- no other party has p's name
 abbrev pub Apart : {P : Type 0} → (ℕ → P) → ℕ → Type 0
@@ -49,14 +49,14 @@ module _ {P E : Type 0} where
         batches = λ batch l. batch_more q h batch v l no_taken;
       }
 
-  knows_on : (q : P) (h h' : List (Event P E)) (head head' read : Option ℕ) → Goes q h h' head head' → Knows h q head read
-      → Knows h' q head' read
+  knows_on : (q : P) (h h' : List (Event P E)) (head head' read : Option ℕ) → Goes q h h' head head' → HasRead h q head read
+      → HasRead h' q head' read
   knows_on q h h' head head' read goes k =
       let g = goes.loads k.since k.loaded in
       record { since = g.0; loaded = g.1; moved = λ ne. elim g.3 [ inl same ↦ g.2 (k.moved (λ e. ne (same ∙ e))) | inr s ↦ s ] }
 
   -- a party that takes no step stands where it stood
-  pub bystander : (n : P) (h h' : List (Event P E)) (head head' : Option ℕ) (rooms : List (Room E)) (own : ℕ → Option ℕ) (rooms' : List (Room E)) (own' : ℕ → Option ℕ) (q : ℕ) (place : Place) → Goes n h h' head head' → Keeps rooms own rooms' own' (Some q) → AtPlace h n head rooms own q place → AtPlace h' n head' rooms' own' q place
+  pub bystander : (n : P) (h h' : List (Event P E)) (head head' : Option ℕ) (rooms : List (Room E)) (own : ℕ → Option ℕ) (rooms' : List (Room E)) (own' : ℕ → Option ℕ) (q : ℕ) (place : Stage) → Goes n h h' head head' → Keeps rooms own rooms' own' (Some q) → AtStage h n head rooms own q place → AtStage h' n head' rooms' own' q place
   bystander n h h' head head' rooms own rooms' own' q Rest goes k a = tt
   bystander n h h' head head' rooms own rooms' own' q (Loaded t) goes k a = (hand_on rooms own rooms' own' q t.room k a.0, knows_on n h h' head head' t.read goes a.1)
   bystander n h h' head head' rooms own rooms' own' q (Set t) goes k a = (hand_on rooms own rooms' own' q t.room k a.0, a.1, knows_on n h h' head head' t.read goes a.2)
@@ -71,17 +71,17 @@ module _ {P E : Type 0} where
       }
 
   -- what a step of p leaves
-  pub record Leaves (name : ℕ → P) (h h' : List (Event P E)) (m : Machine E) (own : ℕ → Option ℕ) (p : ℕ) (head' : Option ℕ) (rooms' : List (Room E)) (place' : Place) : Type 0 where
+  pub record Leaves (name : ℕ → P) (h h' : List (Event P E)) (m : Machine E) (own : ℕ → Option ℕ) (p : ℕ) (head' : Option ℕ) (rooms' : List (Room E)) (place' : Stage) : Type 0 where
     pub legal : Legal h'
     pub own' : ℕ → Option ℕ
     pub chain : List (ℕ × E)
     pub linked : LeadsThrough rooms' own' None head' chain
-    pub holds : elements chain ≡ reverse (held h')
+    pub holds : room_elements chain ≡ reverse (held h')
     pub goes : (q : ℕ) → q ≢ p → Goes (name q) h h' m.head head'
     pub keeps : (q : ℕ) → q ≢ p → Keeps m.rooms own rooms' own' (Some q)
-    pub mine : AtPlace h' (name p) head' rooms' own' p place'
+    pub mine : AtStage h' (name p) head' rooms' own' p place'
 
-  pub meets_on : (name : ℕ → P) (h h' : List (Event P E)) (m : Machine E) (p : ℕ) (head' : Option ℕ) (rooms' : List (Room E)) (place place' : Place) → (was : Meets name h m) → slice_get m.parties p ≡ Some place → Leaves name h h' m was.own p head' rooms' place' → Meets name h' record { head = head'; rooms = rooms'; parties = set m.parties p place' }
+  pub meets_on : (name : ℕ → P) (h h' : List (Event P E)) (m : Machine E) (p : ℕ) (head' : Option ℕ) (rooms' : List (Room E)) (place place' : Stage) → (was : Meets name h m) → slice_get m.parties p ≡ Some place → Leaves name h h' m was.own p head' rooms' place' → Meets name h' record { head = head'; rooms = rooms'; parties = set m.parties p place' }
   meets_on name h h' m p head' rooms' place place' was at l =
       record {
         legal = l.legal;
@@ -93,7 +93,7 @@ module _ {P E : Type 0} where
           | inl e ↦
               let same : Some place' ≡ Some there = sym (slice_get-set_same m.parties p place' place at) ∙ (ap (slice_get (set m.parties p place')) (sym e) ∙ got) in
               let same_place : place' ≡ there = cc in
-              subst (λ s. AtPlace h' (name s) head' rooms' l.own' s there) (sym e) (subst (AtPlace h' (name p) head' rooms' l.own' p) same_place l.mine)
+              subst (λ s. AtStage h' (name s) head' rooms' l.own' s there) (sym e) (subst (AtStage h' (name p) head' rooms' l.own' p) same_place l.mine)
           | inr ne ↦
               bystander (name q) h h' m.head head' m.rooms was.own rooms' l.own' q there (l.goes q ne) (l.keeps q ne) (was.parties q there (sym (slice_get-set_other m.parties p q place' ne) ∙ got))
         ];
@@ -120,9 +120,9 @@ module _ {P E : Type 0} where
       }
 
   -- a change to p's own room that adds no event
-  own_room : (name : ℕ → P) (h : List (Event P E)) (m : Machine E) (p r : ℕ) (f : Room E → Room E) (place place' : Place)
+  own_room : (name : ℕ → P) (h : List (Event P E)) (m : Machine E) (p r : ℕ) (f : Room E → Room E) (place place' : Stage)
       → (was : Meets name h m) → slice_get m.parties p ≡ Some place → was.own r ≡ Some p
-      → AtPlace h (name p) m.head (change f r m.rooms) was.own p place'
+      → AtStage h (name p) m.head (change f r m.rooms) was.own p place'
       → Meets name h record { head = m.head; rooms = change f r m.rooms; parties = set m.parties p place' }
   own_room name h m p r f place place' was at mine there =
       meets_on name h h m p m.head (change f r m.rooms) place place' was at
@@ -143,7 +143,7 @@ module _ {P E : Type 0} where
   keeps_set_next name h m p a was at =
       let here = was.parties p (Loaded a) at in
       own_room name h m p a.room (linking a.read) (Loaded a) (Set a) was at here.0.mine
-      (record { element = here.0.element; next = a.read; room = slice_get-change_same (linking a.read) m.rooms a.room (used here.0.element here.0.next) here.0.room; mine = here.0.mine }, refl, here.1)
+      (record { element = here.0.element; next = a.read; room = slice_get-change_same (linking a.read) m.rooms a.room (room_in_use here.0.element here.0.next) here.0.room; mine = here.0.mine }, refl, here.1)
 
   pub keeps_fail : (name : ℕ → P) (h : List (Event P E)) (m : Machine E) (p : ℕ) (a : Attempt) → Meets name h m
       → slice_get m.parties p ≡ Some (Set a)
@@ -152,12 +152,12 @@ module _ {P E : Type 0} where
 
   pub keeps_push : (name : ℕ → P) (h : List (Event P E)) (m : Machine E) (p : ℕ) (a : Attempt) (e : E) (next : Option ℕ)
       → Meets name h m → Apart name p → slice_get m.parties p ≡ Some (Set a) → m.head ≡ a.read
-      → slice_get m.rooms a.room ≡ Some (used e next)
+      → slice_get m.rooms a.room ≡ Some (room_in_use e next)
       → Meets name (h ++ Push (name p) e ∷ []) record { head = Some a.room; rooms = m.rooms; parties = set m.parties p Rest }
   keeps_push name h m p a e next was apart at same got =
       let here = was.parties p (Set a) at in
       let hand = here.0 in
-      let one : used hand.element hand.next ≡ used e next = let both : Some (used hand.element hand.next) ≡ Some (used e next) = sym hand.room ∙ got in cc in
+      let one : room_in_use hand.element hand.next ≡ room_in_use e next = let both : Some (room_in_use hand.element hand.next) ≡ Some (room_in_use e next) = sym hand.room ∙ got in cc in
       let link : m.head ≡ next = same ∙ (sym here.1 ∙ ap (λ (x : Room E). x.next) one) in
       let after : ℕ → Option ℕ = relabel was.own a.room None in
       meets_on name h (h ++ Push (name p) e ∷ []) m p (Some a.room) m.rooms (Set a) Rest was at
@@ -170,7 +170,7 @@ module _ {P E : Type 0} where
           refl,
           got,
           relabel_here was.own a.room None,
-          Without-label m.rooms was.own None m.head was.chain a.room (not_none was.own a.room p hand.mine) was.linked,
+          NoneOf-label m.rooms was.own None m.head was.chain a.room (not_none was.own a.room p hand.mine) was.linked,
           subst (λ start. LeadsThrough m.rooms (relabel was.own a.room None) None start was.chain) link (LeadsThrough-passed m.rooms was.own m.rooms (relabel was.own a.room None) None None m.head was.chain (Keeps-relabel m.rooms was.own a.room None None (not_none was.own a.room p hand.mine)) was.linked),
         );
         holds = ap (λ es. e ∷ es) was.holds ∙ (sym (reverse-append (held h) (e ∷ [])) ∙ ap reverse (sym (held_more h (Push (name p) e))));
@@ -209,7 +209,7 @@ module _ {P E : Type 0} where
       → Meets name (h ++ Taken (name p) [] ∷ []) m
   keeps_nothing name h m p was apart at top =
       let links = subst (λ start. LeadsThrough m.rooms was.own None start was.chain) top was.linked in
-      let empty : elements was.chain ≡ [] = LeadsThrough-none m.rooms was.own None was.chain links in
+      let empty : room_elements was.chain ≡ [] = LeadsThrough-none m.rooms was.own None was.chain links in
       subst (λ ps. Meets name (h ++ Taken (name p) [] ∷ []) record { head = m.head; rooms = m.rooms; parties = ps }) (set_as_it_was m.parties p Rest at)
       (meets_on name h (h ++ Taken (name p) [] ∷ []) m p m.head m.rooms Rest Rest was at
       record {
@@ -224,8 +224,8 @@ module _ {P E : Type 0} where
       })
 
   -- where the walk goes on
-  walks_to : (name : ℕ → P) (h : List (Event P E)) (m : Machine E) (p r : ℕ) (next : Option ℕ) (own : ℕ → Option ℕ) (xs : List (ℕ × E)) (e : E) → Without r xs → LeadsThrough m.rooms own (Some p) next xs → (batch : List E) → LastBatch (name p) h batch → (given : List E) → given ++ e ∷ elements xs ≡ batch
-      → AtPlace h (name p) m.head (change (freeing p) r m.rooms) own p (walked next)
+  walks_to : (name : ℕ → P) (h : List (Event P E)) (m : Machine E) (p r : ℕ) (next : Option ℕ) (own : ℕ → Option ℕ) (xs : List (ℕ × E)) (e : E) → NotAmong r xs → LeadsThrough m.rooms own (Some p) next xs → (batch : List E) → LastBatch (name p) h batch → (given : List E) → given ++ e ∷ room_elements xs ≡ batch
+      → AtStage h (name p) m.head (change (freeing p) r m.rooms) own p (stage_after_walk next)
   walks_to name h m p r None own xs e apart l batch taken given end = tt
   walks_to name h m p r (Some s) own xs e apart l batch taken given end =
       record {
@@ -234,29 +234,29 @@ module _ {P E : Type 0} where
         batch = batch;
         taken = taken;
         given = given ++ e ∷ [];
-        end = append_assoc given (e ∷ []) (elements xs) ∙ end;
+        end = append_assoc given (e ∷ []) (room_elements xs) ∙ end;
       }
 
-  walks_at : (name : ℕ → P) (h : List (Event P E)) (m : Machine E) (p r : ℕ) (e : E) (next : Option ℕ) (own : ℕ → Option ℕ) (rest : List (ℕ × E)) → LeadsThrough m.rooms own (Some p) (Some r) rest → (batch : List E) → LastBatch (name p) h batch → (given : List E) → given ++ elements rest ≡ batch → slice_get m.rooms r ≡ Some (used e next)
-      → (own r ≡ Some p) × AtPlace h (name p) m.head (change (freeing p) r m.rooms) own p (walked next)
+  walks_at : (name : ℕ → P) (h : List (Event P E)) (m : Machine E) (p r : ℕ) (e : E) (next : Option ℕ) (own : ℕ → Option ℕ) (rest : List (ℕ × E)) → LeadsThrough m.rooms own (Some p) (Some r) rest → (batch : List E) → LastBatch (name p) h batch → (given : List E) → given ++ room_elements rest ≡ batch → slice_get m.rooms r ≡ Some (room_in_use e next)
+      → (own r ≡ Some p) × AtStage h (name p) m.head (change (freeing p) r m.rooms) own p (stage_after_walk next)
   walks_at name h m p r e next own [] l batch taken given end got = let no : ⊥ = cc in absurd no
   walks_at name h m p r e next own (x ∷ xs) l batch taken given end got =
       let start : x.0 ≡ r = let first = l.1 in cc in
-      let rooms : Some (used x.1 l.0) ≡ Some (used e next) = sym l.2 ∙ (ap (slice_get m.rooms) start ∙ got) in
-      let room : used x.1 l.0 ≡ used e next = cc in
+      let rooms : Some (room_in_use x.1 l.0) ≡ Some (room_in_use e next) = sym l.2 ∙ (ap (slice_get m.rooms) start ∙ got) in
+      let room : room_in_use x.1 l.0 ≡ room_in_use e next = cc in
       let link : l.0 ≡ next = ap (λ (y : Room E). y.next) room in (
         ap own (sym start) ∙ l.3,
-        walks_to name h m p r next own xs x.1 (subst (λ s. Without s xs) start l.4) (subst (λ start'. LeadsThrough m.rooms own (Some p) start' xs) link l.5) batch taken given end,
+        walks_to name h m p r next own xs x.1 (subst (λ s. NotAmong s xs) start l.4) (subst (λ start'. LeadsThrough m.rooms own (Some p) start' xs) link l.5) batch taken given end,
       )
 
   pub walks_on : (name : ℕ → P) (h : List (Event P E)) (m : Machine E) (p r : ℕ) (e : E) (next : Option ℕ)
-      → (was : Meets name h m) → (w : Walks h (name p) m.rooms was.own p r) → slice_get m.rooms r ≡ Some (used e next)
-      → (was.own r ≡ Some p) × AtPlace h (name p) m.head (change (freeing p) r m.rooms) was.own p (walked next)
+      → (was : Meets name h m) → (w : HasBatchLeft h (name p) m.rooms was.own p r) → slice_get m.rooms r ≡ Some (room_in_use e next)
+      → (was.own r ≡ Some p) × AtStage h (name p) m.head (change (freeing p) r m.rooms) was.own p (stage_after_walk next)
   walks_on name h m p r e next was w got = walks_at name h m p r e next was.own w.rest w.links w.batch w.taken w.given w.end got
 
   pub keeps_walk : (name : ℕ → P) (h : List (Event P E)) (m : Machine E) (p r : ℕ) (e : E) (next : Option ℕ) → Meets name h m
-      → slice_get m.parties p ≡ Some (Walking r) → slice_get m.rooms r ≡ Some (used e next)
-      → Meets name h record { head = m.head; rooms = change (freeing p) r m.rooms; parties = set m.parties p (walked next) }
+      → slice_get m.parties p ≡ Some (Walking r) → slice_get m.rooms r ≡ Some (room_in_use e next)
+      → Meets name h record { head = m.head; rooms = change (freeing p) r m.rooms; parties = set m.parties p (stage_after_walk next) }
   keeps_walk name h m p r e next was at got =
       let on = walks_on name h m p r e next was (was.parties p (Walking r) at) got in
-      own_room name h m p r (freeing p) (Walking r) (walked next) was at on.0 on.1
+      own_room name h m p r (freeing p) (Walking r) (stage_after_walk next) was at on.0 on.1

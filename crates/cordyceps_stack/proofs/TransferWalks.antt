@@ -6,18 +6,18 @@ use Rattle.std.proofs.lemmas.List.{append-nil}
 use Rattle.std.proofs.lemmas.Bool.{eq-eqb, ne_eqb, cases_eq}
 use Rattle.cordyceps_stack.specs.declared.rooms.Room.{Room}
 use Rattle.cordyceps_stack.specs.declared.transfer_place.Attempt.{Attempt}
-use Rattle.cordyceps_stack.specs.declared.transfer_place.Place.{Place}
-use Rattle.cordyceps_stack.specs.declared.transfer_place.Place.TheVariants.{Rest, Loaded, Set, Walking}
+use Rattle.cordyceps_stack.specs.declared.transfer_place.Stage.{Stage}
+use Rattle.cordyceps_stack.specs.declared.transfer_place.Stage.TheVariants.{Rest, Loaded, Set, Walking}
 use Rattle.cordyceps_stack.specs.declared.transfer_step.TransferAnswer.{TransferAnswer}
 use Rattle.cordyceps_stack.specs.declared.transfer_step.TransferAnswer.TheVariants as answer
 use Rattle.cordyceps_stack.specs.declared.transfer_step.TransferStep.{TransferStep}
 use Rattle.cordyceps_stack.specs.declared.transfer_step.TransferStep.TheVariants as step
 use Rattle.cordyceps_stack.specs.TransferHistory.{Event, Load, Push, Taken, held}
-use Rattle.cordyceps_stack.specs.TransferMachine.{Machine, Answered, change, holding, linking, freeing, walked, handed, least_free, element_in, next_in, load, exchange, fails, take, walk, stepped_at, stepped, in_hand_at, push_event, answer_events, events}
-use Rattle.cordyceps_stack.specs.TransferMeets.{used, LeadsThrough, elements}
+use Rattle.cordyceps_stack.specs.TransferMachine.{Machine, Answered, change, holding, linking, freeing, stage_after_walk, handed, least_free, element_in, next_in, load, exchange, fails, take, walk, stepped_at, stepped, in_hand_at, push_event, answer_events, answered_events}
+use Rattle.cordyceps_stack.specs.TransferMeets.{room_in_use, LeadsThrough, room_elements}
 use Rattle.cordyceps_base.specs.Runs.{after, replies_to, history_after}
 use Rattle.cordyceps_stack.specs.TransferCore.{CoreMeets, step_events, core_step, core_events}
-use Rattle.cordyceps_stack.specs.TransferWalks.{batches, Leads, IsLeftAt, IsLeft, given_by, given_in, only, HandsOut, HandsOn}
+use Rattle.cordyceps_stack.specs.TransferWalks.{batches, LeadsToElements, IsLeftAt, IsLeft, given_by, given_in, only, HandsOut, HandsOn}
 use Rattle.cordyceps_stack.proofs.Written.{slice_get-set_same, slice_get-set_other}
 use Rattle.cordyceps_stack.proofs.TransferChains.{Keeps, Keeps-free, Keeps-change, LeadsThrough-passed, LeadsThrough-change}
 use Rattle.cordyceps_stack.proofs.TransferSound.{core_steps}
@@ -47,29 +47,29 @@ module _ {E : Type 0} where
   batches_other p q h hand s a ne = refl
 
   events_other : (p q : ℕ) (h : List (Event ℕ E)) (hand : Option E) (s : TransferStep E) (a : Answered E) → q ≢ p
-      → batches p (events h q hand s a) ≡ []
+      → batches p (answered_events h q hand s a) ≡ []
   events_other p q h hand s (Ok a) ne = batches_other p q h hand s a ne
   events_other p q h hand s (Err e) ne = refl
 
   leads_from_linked : (rooms : List (Room E)) (own : ℕ → Option ℕ) (w start : Option ℕ) (xs : List (ℕ × E))
-      → LeadsThrough rooms own w start xs → Leads rooms start (elements xs)
+      → LeadsThrough rooms own w start xs → LeadsToElements rooms start (room_elements xs)
   leads_from_linked rooms own w start [] l = l
   leads_from_linked rooms own w start (x ∷ xs) l = (x.0, l.0, l.1, l.2, leads_from_linked rooms own w l.0 xs l.5)
 
   -- links lead in one way
-  leads_same : (rooms : List (Room E)) (start : Option ℕ) (es fs : List E) → Leads rooms start es → Leads rooms start fs → es ≡ fs
+  leads_same : (rooms : List (Room E)) (start : Option ℕ) (es fs : List E) → LeadsToElements rooms start es → LeadsToElements rooms start fs → es ≡ fs
   leads_same rooms start [] [] l k = refl
   leads_same rooms start [] (f ∷ fs) l k = let a = k.2 in let no : ⊥ = cc in absurd no
   leads_same rooms start (e ∷ es) [] l k = let a = l.2 in let no : ⊥ = cc in absurd no
   leads_same rooms start (e ∷ es) (f ∷ fs) l k =
       let both : Some l.0 ≡ Some k.0 = sym l.2 ∙ k.2 in
       let room : l.0 ≡ k.0 = cc in
-      let reads : Some (used e l.1) ≡ Some (used f k.1) = sym l.3 ∙ (ap (slice_get rooms) room ∙ k.3) in
-      let same : used e l.1 ≡ used f k.1 = cc in
+      let reads : Some (room_in_use e l.1) ≡ Some (room_in_use f k.1) = sym l.3 ∙ (ap (slice_get rooms) room ∙ k.3) in
+      let same : room_in_use e l.1 ≡ room_in_use f k.1 = cc in
       let next : l.1 ≡ k.1 = ap (λ (y : Room E). y.next) same in
       let some_element : Some e ≡ Some f = ap (λ (y : Room E). y.element) same in
       let element : e ≡ f = cc in
-      let more : es ≡ fs = leads_same rooms k.1 es fs (subst (λ top. Leads rooms top es) next l.4) k.4 in
+      let more : es ≡ fs = leads_same rooms k.1 es fs (subst (λ top. LeadsToElements rooms top es) next l.4) k.4 in
       cc
 
   -- p hands out these elements in a step that adds these events
@@ -122,7 +122,7 @@ module _ {E : Type 0} where
       let mine = (walks_on (λ n. n) h m q r there.0 there.1 was (was.parties q (Walking r) at) there.2).0 in
       rw there.2 (record { place = slice_get-set_other m.parties q p _ ne; rooms = Keeps-change (freeing q) m.rooms was.own r (Some p) (not_mine was.own r q p mine ne) })
 
-  aside_at : (h : List (Event ℕ E)) (m : Machine E) (p q : ℕ) (s : TransferStep E) (o : Option Place) → (was : CoreMeets h m)
+  aside_at : (h : List (Event ℕ E)) (m : Machine E) (p q : ℕ) (s : TransferStep E) (o : Option Stage) → (was : CoreMeets h m)
       → p ≢ q → slice_get m.parties q ≡ o → Aside was.own m (stepped_at m q s o).0 p
   aside_at h m p q (step.Load e) (Some Rest) was ne at = aside_load h m p q e (least_free q m.rooms) was ne refl
   aside_at h m p q step.SetNext (Some (Loaded a)) was ne at =
@@ -134,12 +134,12 @@ module _ {E : Type 0} where
   aside_at h m p q (step.Load e) None was ne at = aside_still was.own m p
   aside_at h m p q s o was ne at = aside_still was.own m p
 
-  left_aside : (h : List (Event ℕ E)) (m m' : Machine E) (p : ℕ) (o : Option Place) (left : List E) → (was : CoreMeets h m)
+  left_aside : (h : List (Event ℕ E)) (m m' : Machine E) (p : ℕ) (o : Option Stage) (left : List E) → (was : CoreMeets h m)
       → Aside was.own m m' p → slice_get m.parties p ≡ o → IsLeftAt m.rooms o left → IsLeftAt m'.rooms o left
   left_aside h m m' p (Some (Walking r)) left was aside at is =
       let w = was.parties p (Walking r) at in
-      let same : left ≡ elements w.rest = leads_same m.rooms (Some r) left (elements w.rest) is (leads_from_linked m.rooms was.own (Some p) (Some r) w.rest w.links) in
-      subst (Leads m'.rooms (Some r)) (sym same) (leads_from_linked m'.rooms was.own (Some p) (Some r) w.rest (LeadsThrough-passed m.rooms was.own m'.rooms was.own (Some p) (Some p) (Some r) w.rest aside.rooms w.links))
+      let same : left ≡ room_elements w.rest = leads_same m.rooms (Some r) left (room_elements w.rest) is (leads_from_linked m.rooms was.own (Some p) (Some r) w.rest w.links) in
+      subst (LeadsToElements m'.rooms (Some r)) (sym same) (leads_from_linked m'.rooms was.own (Some p) (Some r) w.rest (LeadsThrough-passed m.rooms was.own m'.rooms was.own (Some p) (Some p) (Some r) w.rest aside.rooms w.links))
   left_aside h m m' p None left was aside at is = is
   left_aside h m m' p (Some Rest) left was aside at is = is
   left_aside h m m' p (Some (Loaded a)) left was aside at is = is
@@ -151,20 +151,20 @@ module _ {E : Type 0} where
   left_kept h m p q s left was ne is =
       let m' = (stepped m q s).0 in
       let aside = aside_at h m p q s (slice_get m.parties q) was ne refl in
-      subst (λ (o : Option Place). IsLeftAt m'.rooms o left) (sym aside.place) (left_aside h m m' p (slice_get m.parties p) left was aside refl is)
+      subst (λ (o : Option Stage). IsLeftAt m'.rooms o left) (sym aside.place) (left_aside h m m' p (slice_get m.parties p) left was aside refl is)
 
   -- a step of p that hands out nothing and takes nothing, and leads from where nothing is left to where nothing is
-  idles : (ev : List (Event ℕ E)) (m' : Machine E) (p : ℕ) (place : Place) (left : List E) → IsLeftAt m'.rooms (Some place) []
+  idles : (ev : List (Event ℕ E)) (m' : Machine E) (p : ℕ) (place : Stage) (left : List E) → IsLeftAt m'.rooms (Some place) []
       → slice_get m'.parties p ≡ Some place → left ≡ [] → batches p ev ≡ [] → MovesOn p left ev m' []
   idles ev m' p place left none at empty added = (
     [],
-    subst (λ (o : Option Place). IsLeftAt m'.rooms o []) (sym at) none,
+    subst (λ (o : Option Stage). IsLeftAt m'.rooms o []) (sym at) none,
     ap (λ es. es ++ batches p ev) empty ∙ added,
   )
 
   own_load : (h : List (Event ℕ E)) (m : Machine E) (p : ℕ) (e : E) (o : Option ℕ) (left : List E)
       → slice_get m.parties p ≡ Some Rest → left ≡ [] → IsLeft m p left
-      → MovesOn p left (events h p None (step.Load e) (load m p e o).1) (load m p e o).0 (given_by (load m p e o).1)
+      → MovesOn p left (answered_events h p None (step.Load e) (load m p e o).1) (load m p e o).0 (given_by (load m p e o).1)
   own_load h m p e None left at empty is = stays m p left is
   own_load h m p e (Some r) left at empty is =
       let a : Attempt = record { room = r; read = m.head } in
@@ -172,31 +172,31 @@ module _ {E : Type 0} where
 
   own_fails : (h : List (Event ℕ E)) (m : Machine E) (p r : ℕ) (a : Attempt) (hand o : Option E) (left : List E)
       → slice_get m.parties p ≡ Some (Set a) → left ≡ [] → IsLeft m p left
-      → MovesOn p left (events h p hand step.Exchange (fails m p r o).1) (fails m p r o).0 (given_by (fails m p r o).1)
+      → MovesOn p left (answered_events h p hand step.Exchange (fails m p r o).1) (fails m p r o).0 (given_by (fails m p r o).1)
   own_fails h m p r a hand None left at empty is = stays m p left is
   own_fails h m p r a hand (Some e) left at empty is = idles [] (fails m p r (Some e)).0 p Rest left refl (slice_get-set_same m.parties p Rest (Set a) at) empty refl
 
   own_exchange : (h : List (Event ℕ E)) (m : Machine E) (p : ℕ) (a : Attempt) (hand : Option E) (b : Bool) (left : List E)
       → slice_get m.parties p ≡ Some (Set a) → left ≡ [] → IsLeft m p left
-      → MovesOn p left (events h p hand step.Exchange (exchange m p a b).1) (exchange m p a b).0 (given_by (exchange m p a b).1)
+      → MovesOn p left (answered_events h p hand step.Exchange (exchange m p a b).1) (exchange m p a b).0 (given_by (exchange m p a b).1)
   own_exchange h m p a hand true left at empty is = idles (push_event p hand) (exchange m p a true).0 p Rest left refl (slice_get-set_same m.parties p Rest (Set a) at) empty (batches_push p p hand)
   own_exchange h m p a hand false left at empty is = own_fails h m p a.room a hand (element_in (slice_get m.rooms a.room)) left at empty is
 
   own_take : (h : List (Event ℕ E)) (m : Machine E) (p : ℕ) (o : Option ℕ) (left : List E) → CoreMeets h m
       → slice_get m.parties p ≡ Some Rest → m.head ≡ o → left ≡ []
-      → MovesOn p left (events h p None step.Take (take m p o).1) (take m p o).0 (given_by (take m p o).1)
+      → MovesOn p left (answered_events h p None step.Take (take m p o).1) (take m p o).0 (given_by (take m p o).1)
   own_take h m p None left was at top empty = idles (Taken p [] ∷ []) m p Rest left refl at empty (batches_mine p [])
   own_take h m p (Some r) left was at top empty =
       let links = leads_from_linked m.rooms was.own None m.head was.chain was.linked in
-      let there : Leads m.rooms (Some r) (reverse (held h)) = subst (Leads m.rooms (Some r)) was.holds (subst (λ start. Leads m.rooms start (elements was.chain)) top links) in (
+      let there : LeadsToElements m.rooms (Some r) (reverse (held h)) = subst (LeadsToElements m.rooms (Some r)) was.holds (subst (λ start. LeadsToElements m.rooms start (room_elements was.chain)) top links) in (
         reverse (held h),
-        subst (λ (o : Option Place). IsLeftAt m.rooms o (reverse (held h))) (sym (slice_get-set_same m.parties p (Walking r) Rest at)) there,
+        subst (λ (o : Option Stage). IsLeftAt m.rooms o (reverse (held h))) (sym (slice_get-set_same m.parties p (Walking r) Rest at)) there,
         ap (λ es. es ++ batches p (Taken p (reverse (held h)) ∷ [])) empty ∙ batches_mine p (reverse (held h)),
       )
 
   -- the rest of a walk, where it is at a room or at its end
-  left_behind : (rooms : List (Room E)) (next : Option ℕ) (es : List E) → Leads rooms next es
-      → IsLeftAt rooms (Some (walked next)) es
+  left_behind : (rooms : List (Room E)) (next : Option ℕ) (es : List E) → LeadsToElements rooms next es
+      → IsLeftAt rooms (Some (stage_after_walk next)) es
   left_behind rooms None [] l = refl
   left_behind rooms None (e ∷ es) l = let a = l.2 in let no : ⊥ = cc in absurd no
   left_behind rooms (Some r) es l = l
@@ -205,44 +205,44 @@ module _ {E : Type 0} where
   given_handed e None = refl
   given_handed e (Some r) = refl
 
-  walk_events : (h : List (Event ℕ E)) (p : ℕ) (e : E) (next : Option ℕ) → events h p None step.Walk (Ok (handed e next)) ≡ []
+  walk_events : (h : List (Event ℕ E)) (p : ℕ) (e : E) (next : Option ℕ) → answered_events h p None step.Walk (Ok (handed e next)) ≡ []
   walk_events h p e None = refl
   walk_events h p e (Some r) = refl
 
   walked_by : (m : Machine E) (own : ℕ → Option ℕ) (p r : ℕ) (e : E) (next : Option ℕ) (rest : List (ℕ × E)) (left : List E)
-      → slice_get m.parties p ≡ Some (Walking r) → slice_get m.rooms r ≡ Some (used e next)
-      → LeadsThrough m.rooms own (Some p) (Some r) rest → left ≡ elements rest
-      → MovesOn p left [] record { head = m.head; rooms = change (freeing p) r m.rooms; parties = set m.parties p (walked next) } (e ∷ [])
+      → slice_get m.parties p ≡ Some (Walking r) → slice_get m.rooms r ≡ Some (room_in_use e next)
+      → LeadsThrough m.rooms own (Some p) (Some r) rest → left ≡ room_elements rest
+      → MovesOn p left [] record { head = m.head; rooms = change (freeing p) r m.rooms; parties = set m.parties p (stage_after_walk next) } (e ∷ [])
   walked_by m own p r e next [] left at got l same = let no : ⊥ = cc in absurd no
   walked_by m own p r e next (x ∷ xs) left at got l same =
       let start : x.0 ≡ r = let first = l.1 in cc in
-      let reads : Some (used x.1 l.0) ≡ Some (used e next) = sym l.2 ∙ (ap (slice_get m.rooms) start ∙ got) in
-      let room : used x.1 l.0 ≡ used e next = cc in
+      let reads : Some (room_in_use x.1 l.0) ≡ Some (room_in_use e next) = sym l.2 ∙ (ap (slice_get m.rooms) start ∙ got) in
+      let room : room_in_use x.1 l.0 ≡ room_in_use e next = cc in
       let link : l.0 ≡ next = ap (λ (y : Room E). y.next) room in
       let some_element : Some x.1 ≡ Some e = ap (λ (y : Room E). y.element) room in
       let element : x.1 ≡ e = cc in
       let rooms' = change (freeing p) r m.rooms in
-      let on : Leads rooms' next (elements xs) = subst (λ top. Leads rooms' top (elements xs)) link
-      (subst (λ s. Leads (change (freeing p) s m.rooms) l.0 (elements xs)) start
+      let on : LeadsToElements rooms' next (room_elements xs) = subst (λ top. LeadsToElements rooms' top (room_elements xs)) link
+      (subst (λ s. LeadsToElements (change (freeing p) s m.rooms) l.0 (room_elements xs)) start
       (leads_from_linked (change (freeing p) x.0 m.rooms) own (Some p) l.0 xs (LeadsThrough-change (freeing p) m.rooms own (Some p) l.0 xs x.0 l.4 l.5))) in (
-        elements xs,
-        subst (λ (o : Option Place). IsLeftAt rooms' o (elements xs)) (sym (slice_get-set_same m.parties p (walked next) (Walking r) at)) (left_behind rooms' next (elements xs) on),
-        append-nil left ∙ (same ∙ ap (λ (y : E). y ∷ elements xs) element),
+        room_elements xs,
+        subst (λ (o : Option Stage). IsLeftAt rooms' o (room_elements xs)) (sym (slice_get-set_same m.parties p (stage_after_walk next) (Walking r) at)) (left_behind rooms' next (room_elements xs) on),
+        append-nil left ∙ (same ∙ ap (λ (y : E). y ∷ room_elements xs) element),
       )
 
   own_walk : (h : List (Event ℕ E)) (m : Machine E) (p r : ℕ) (left : List E) → CoreMeets h m
-      → slice_get m.parties p ≡ Some (Walking r) → Leads m.rooms (Some r) left
+      → slice_get m.parties p ≡ Some (Walking r) → LeadsToElements m.rooms (Some r) left
       → let out = walk m p r (next_in (slice_get m.rooms r)) (element_in (slice_get m.rooms r)) in
-      MovesOn p left (events h p None step.Walk out.1) out.0 (given_by out.1)
+      MovesOn p left (answered_events h p None step.Walk out.1) out.0 (given_by out.1)
   own_walk h m p r left was at is =
       let there = walking_at (λ n. n) h m p r was at in
       let w = was.parties p (Walking r) at in
-      let same : left ≡ elements w.rest = leads_same m.rooms (Some r) left (elements w.rest) is (leads_from_linked m.rooms was.own (Some p) (Some r) w.rest w.links) in
+      let same : left ≡ room_elements w.rest = leads_same m.rooms (Some r) left (room_elements w.rest) is (leads_from_linked m.rooms was.own (Some p) (Some r) w.rest w.links) in
       rw (there.2, walk_events, given_handed) (walked_by m was.own p r there.0 there.1 w.rest left at there.2 w.links same)
 
-  own_at : (h : List (Event ℕ E)) (m : Machine E) (p : ℕ) (s : TransferStep E) (o : Option Place) (left : List E)
+  own_at : (h : List (Event ℕ E)) (m : Machine E) (p : ℕ) (s : TransferStep E) (o : Option Stage) (left : List E)
       → CoreMeets h m → slice_get m.parties p ≡ o → IsLeftAt m.rooms o left → IsLeft m p left
-      → MovesOn p left (events h p (in_hand_at m.rooms o) s (stepped_at m p s o).1) (stepped_at m p s o).0 (given_by (stepped_at m p s o).1)
+      → MovesOn p left (answered_events h p (in_hand_at m.rooms o) s (stepped_at m p s o).1) (stepped_at m p s o).0 (given_by (stepped_at m p s o).1)
   own_at h m p (step.Load e) (Some Rest) left was at is kept = own_load h m p e (least_free p m.rooms) left at is kept
   own_at h m p step.SetNext (Some (Loaded a)) left was at is kept = idles [] (stepped_at m p step.SetNext (Some (Loaded a))).0 p (Set a) left refl (slice_get-set_same m.parties p (Set a) (Loaded a) at) is refl
   own_at h m p step.Exchange (Some (Set a)) left was at is kept = own_exchange h m p a (in_hand_at m.rooms (Some (Set a))) (option_eq nat_eq m.head a.read) left at is kept

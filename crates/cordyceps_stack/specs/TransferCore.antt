@@ -4,7 +4,7 @@ use Rattle.cordyceps_base.specs.Runs.{Ran, history_after, AllSay}
 use Rattle.cordyceps_stack.specs.declared.transfer_step.TransferStep.{TransferStep}
 use Rattle.cordyceps_stack.specs.declared.transfer_step.TransferStep.TheVariants as step
 use Rattle.cordyceps_stack.specs.TransferHistory.{Event, held, taken, pushes}
-use Rattle.cordyceps_stack.specs.TransferMachine.{Machine, Answered, in_hand_at, events, stepped}
+use Rattle.cordyceps_stack.specs.TransferMachine.{Machine, Answered, in_hand_at, answered_events, stepped}
 use Rattle.cordyceps_stack.specs.TransferMeets.{Meets, AnswerSays}
 use Rattle.cordyceps_stack.specs.TransferWalks.{HandsOn, given_in}
 
@@ -23,7 +23,7 @@ module _ {E : Type 0} where
 
   -- the events that a step adds to the history, by its answer
   abbrev pub step_events : List (Event ℕ E) → Machine E → ℕ → TransferStep E → Answered E → List (Event ℕ E)
-  step_events h m p s a = events h p (in_hand_at m.rooms (slice_get m.parties p)) s a
+  step_events h m p s a = answered_events h p (in_hand_at m.rooms (slice_get m.parties p)) s a
 
   abbrev pub core_events : List (Event ℕ E) → Machine E → ℕ × TransferStep E → Answered E → List (Event ℕ E)
   core_events h m s a = step_events h m s.0 s.1 a

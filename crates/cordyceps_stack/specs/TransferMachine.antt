@@ -6,8 +6,8 @@ use Rattle.cordyceps_base.specs.declared.shared.StepError.{StepError}
 use Rattle.cordyceps_base.specs.declared.shared.StepError.TheVariants.{NotThere}
 use Rattle.cordyceps_stack.specs.declared.rooms.Room.{Room}
 use Rattle.cordyceps_stack.specs.declared.transfer_place.Attempt.{Attempt}
-use Rattle.cordyceps_stack.specs.declared.transfer_place.Place.{Place}
-use Rattle.cordyceps_stack.specs.declared.transfer_place.Place.TheVariants.{Rest, Loaded, Set, Walking}
+use Rattle.cordyceps_stack.specs.declared.transfer_place.Stage.{Stage}
+use Rattle.cordyceps_stack.specs.declared.transfer_place.Stage.TheVariants.{Rest, Loaded, Set, Walking}
 use Rattle.cordyceps_stack.specs.declared.transfer_step.TransferAnswer.{TransferAnswer}
 use Rattle.cordyceps_stack.specs.declared.transfer_step.TransferAnswer.TheVariants as answer
 use Rattle.cordyceps_stack.specs.declared.transfer_step.TransferStep.{TransferStep}
@@ -18,7 +18,7 @@ use Rattle.cordyceps_stack.specs.TransferHistory.{Event, Load, Push, Taken, held
 pub record Machine (E : Type 0) : Type 0 where
   pub head : Option ℕ
   pub rooms : List (Room E)
-  pub parties : List Place
+  pub parties : List Stage
 
 -- what a step answers; a refused one gives its element back
 abbrev pub Answered : Type 0 → Type 0
@@ -34,7 +34,7 @@ change f zero (x ∷ xs) = f x ∷ xs
 change f (suc i) (x ∷ xs) = x ∷ change f i xs
 change f i [] = []
 
-abbrev pub is_rest : Option Place → Bool
+abbrev pub is_rest : Option Stage → Bool
 is_rest None = false
 is_rest (Some Rest) = true
 is_rest (Some (Loaded a)) = false
@@ -42,9 +42,9 @@ is_rest (Some (Set a)) = false
 is_rest (Some (Walking r)) = false
 
 -- where a walk goes on that has read this link
-abbrev pub walked : Option ℕ → Place
-walked None = Rest
-walked (Some r) = Walking r
+abbrev pub stage_after_walk : Option ℕ → Stage
+stage_after_walk None = Rest
+stage_after_walk (Some r) = Walking r
 
 module _ {E : Type 0} where
   -- no party and no room, and nothing is held
@@ -107,15 +107,15 @@ module _ {E : Type 0} where
   held_in m = elements_from (occupied m.rooms) m.rooms m.head
 
   -- the element that a step brings
-  abbrev pub element_of : TransferStep E → Option E
-  element_of (step.Load e) = Some e
-  element_of step.SetNext = None
-  element_of step.Exchange = None
-  element_of step.Take = None
-  element_of step.Walk = None
+  abbrev pub step_element : TransferStep E → Option E
+  step_element (step.Load e) = Some e
+  step_element step.SetNext = None
+  step_element step.Exchange = None
+  step_element step.Take = None
+  step_element step.Walk = None
 
   abbrev pub refused : Machine E → TransferStep E → Outcome E
-  refused m s = (m, Err (NotThere, element_of s))
+  refused m s = (m, Err (NotThere, step_element s))
 
   -- p loads, with this least free room
   abbrev pub load : Machine E → ℕ → E → Option ℕ → Outcome E
@@ -154,10 +154,10 @@ module _ {E : Type 0} where
   abbrev pub walk : Machine E → ℕ → ℕ → Option ℕ → Option E → Outcome E
   walk m p r next None = refused m step.Walk
   walk m p r next (Some e) =
-      (record { head = m.head; rooms = change (freeing p) r m.rooms; parties = slice_set m.parties p (walked next) }, Ok (handed e next))
+      (record { head = m.head; rooms = change (freeing p) r m.rooms; parties = slice_set m.parties p (stage_after_walk next) }, Ok (handed e next))
 
   -- what p's step does at its place
-  abbrev pub acts : Machine E → ℕ → TransferStep E → Place → Outcome E
+  abbrev pub acts : Machine E → ℕ → TransferStep E → Stage → Outcome E
   acts m p (step.Load e) Rest = load m p e (least_free p m.rooms)
   acts m p step.SetNext (Loaded a) = set_next m p a
   acts m p step.Exchange (Set a) = exchange m p a (option_eq nat_eq m.head a.read)
@@ -165,7 +165,7 @@ module _ {E : Type 0} where
   acts m p step.Walk (Walking r) = walk m p r (next_in (slice_get m.rooms r)) (element_in (slice_get m.rooms r))
   acts m p s place = refused m s
 
-  abbrev pub stepped_at : Machine E → ℕ → TransferStep E → Option Place → Outcome E
+  abbrev pub stepped_at : Machine E → ℕ → TransferStep E → Option Stage → Outcome E
   stepped_at m p s None = refused m s
   stepped_at m p s (Some place) = acts m p s place
 
@@ -173,7 +173,7 @@ module _ {E : Type 0} where
   abbrev pub stepped : Machine E → ℕ → TransferStep E → Outcome E
   stepped m p s = stepped_at m p s (slice_get m.parties p)
 
-  abbrev pub may_take : Machine E → ℕ → TransferStep E → Option Place → Bool
+  abbrev pub may_take : Machine E → ℕ → TransferStep E → Option Stage → Bool
   may_take m p (step.Load e) (Some Rest) = is_some (least_free p m.rooms)
   may_take m p step.SetNext (Some (Loaded a)) = true
   may_take m p step.Exchange (Some (Set a)) = true
@@ -193,7 +193,7 @@ module _ {E : Type 0} where
   is_ready m p = is_at_rest m p && is_some (least_free p m.rooms)
 
   -- what a party at this place is about to push
-  abbrev pub in_hand_at : List (Room E) → Option Place → Option E
+  abbrev pub in_hand_at : List (Room E) → Option Stage → Option E
   in_hand_at rooms (Some (Set a)) = element_in (slice_get rooms a.room)
   in_hand_at rooms place = None
 
@@ -209,6 +209,6 @@ module _ {E : Type 0} where
   answer_events h p hand s a = []
 
   -- the events that a step of p adds to the history, by its answer; a refused step adds none
-  abbrev pub events : {P : Type 0} → List (Event P E) → P → Option E → TransferStep E → Answered E → List (Event P E)
-  events h p hand s (Ok a) = answer_events h p hand s a
-  events h p hand s (Err e) = []
+  abbrev pub answered_events : {P : Type 0} → List (Event P E) → P → Option E → TransferStep E → Answered E → List (Event P E)
+  answered_events h p hand s (Ok a) = answer_events h p hand s a
+  answered_events h p hand s (Err e) = []

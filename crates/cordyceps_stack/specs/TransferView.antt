@@ -52,5 +52,5 @@ module _ {E : Type 0} where
   at_work r (Missed s) = one_if (nat_eq s r)
   at_work r (Walking xs) = in_chain r xs
 
-  abbrev pub with_party : ℕ → View E → ℕ
-  with_party r v = times r v.free + at_work r v.doing
+  abbrev pub count_with_party : ℕ → View E → ℕ
+  count_with_party r v = times r v.free + at_work r v.doing

@@ -1,13 +1,13 @@
 -- What the walks of a core's parties hand out.
 use Rattle.std.specs.Prelude.{◌≡◌, ℕ, List, [], ◌∷◌, ◌++◌, Option, Some, None, Ok, slice_get, ◌==◌, if◌then◌else◌}
 use Rattle.cordyceps_stack.specs.declared.rooms.Room.{Room}
-use Rattle.cordyceps_stack.specs.declared.transfer_place.Place.{Place}
-use Rattle.cordyceps_stack.specs.declared.transfer_place.Place.TheVariants.{Walking}
+use Rattle.cordyceps_stack.specs.declared.transfer_place.Stage.{Stage}
+use Rattle.cordyceps_stack.specs.declared.transfer_place.Stage.TheVariants.{Walking}
 use Rattle.cordyceps_stack.specs.declared.transfer_step.TransferAnswer.TheVariants as answer
 use Rattle.cordyceps_stack.specs.declared.transfer_step.TransferStep.{TransferStep}
 use Rattle.cordyceps_stack.specs.TransferHistory.{Event, Load, Push, Taken}
 use Rattle.cordyceps_stack.specs.TransferMachine.{Machine, Answered}
-use Rattle.cordyceps_stack.specs.TransferMeets.{used}
+use Rattle.cordyceps_stack.specs.TransferMeets.{room_in_use}
 
 module _ {E : Type 0} where
   -- q's elements, and nobody else's
@@ -22,13 +22,13 @@ module _ {E : Type 0} where
   batches p (Taken q batch ∷ h) = only q batch p ++ batches p h
 
   -- from `start` the links lead through rooms with these elements to null
-  abbrev pub Leads : List (Room E) → Option ℕ → List E → Type 0
-  Leads rooms start [] = start ≡ None
-  Leads rooms start (e ∷ es) = (r : ℕ) × (next : Option ℕ) × (start ≡ Some r) × (slice_get rooms r ≡ Some (used e next)) × Leads rooms next es
+  abbrev pub LeadsToElements : List (Room E) → Option ℕ → List E → Type 0
+  LeadsToElements rooms start [] = start ≡ None
+  LeadsToElements rooms start (e ∷ es) = (r : ℕ) × (next : Option ℕ) × (start ≡ Some r) × (slice_get rooms r ≡ Some (room_in_use e next)) × LeadsToElements rooms next es
 
   -- what a party at this place has yet to hand out
-  abbrev pub IsLeftAt : List (Room E) → Option Place → List E → Type 0
-  IsLeftAt rooms (Some (Walking r)) es = Leads rooms (Some r) es
+  abbrev pub IsLeftAt : List (Room E) → Option Stage → List E → Type 0
+  IsLeftAt rooms (Some (Walking r)) es = LeadsToElements rooms (Some r) es
   IsLeftAt rooms place es = es ≡ []
 
   -- what p has yet to hand out

@@ -4,11 +4,11 @@ use Rattle.std.specs.Prelude.{◌≡◌, ◌⊎◌, ℕ, suc, ◌+◌, ◌≤◌
 use mathlib.Core.Option.{some}
 use lib.ListN.{get_elem?}
 use Rattle.cordyceps_shared.specs.Counts.{tally}
-use Rattle.cordyceps_shared.specs.Histories.{events, Without}
+use Rattle.cordyceps_shared.specs.Histories.{events, NoneOf}
 use Rattle.cordyceps_shared.specs.Shares.{Name}
 use Rattle.cordyceps_stack.specs.TransferHistory.{Event, Load, held, Legal, SomeChange}
-use Rattle.cordyceps_stack.specs.TransferMeets.{elements}
-use Rattle.cordyceps_stack.specs.TransferView.{Doing, Idle, Loaded, Set, Missed, Walking, View, in_chain, with_party}
+use Rattle.cordyceps_stack.specs.TransferMeets.{room_elements}
+use Rattle.cordyceps_stack.specs.TransferView.{Doing, Idle, Loaded, Set, Missed, Walking, View, in_chain, count_with_party}
 
 -- each event with the seat of its party
 abbrev pub History : Type 0 → Type 0
@@ -37,22 +37,22 @@ module _ {E : Type 0} where
     pub name : Name
     pub later : History E
     pub is : history ≡ before ++ (j, Load name) ∷ later
-    pub none : Without j later
+    pub none : NoneOf j later
     pub same : (head words ≡ read) ⊎ SomeChange (events later)
 
   -- what holds of a party that does this
-  abbrev pub Does : List ℕ → History E → ℕ → Doing E → Type 0
-  Does words history j Idle = Unit {0}
-  Does words history j (Loaded r read) = Since words history j read
-  Does words history j (Set r read) = (next words r ≡ read) × Since words history j read
-  Does words history j (Missed r) = Unit {0}
-  Does words history j (Walking xs) = Spells words (start xs) xs
+  abbrev pub AtDoing : List ℕ → History E → ℕ → Doing E → Type 0
+  AtDoing words history j Idle = Unit {0}
+  AtDoing words history j (Loaded r read) = Since words history j read
+  AtDoing words history j (Set r read) = (next words r ≡ read) × Since words history j read
+  AtDoing words history j (Missed r) = Unit {0}
+  AtDoing words history j (Walking xs) = Spells words (start xs) xs
 
   -- the history is legal, what it holds is in the chain, no room is in two places, and each party does what its events led
   -- it to
-  pub record Meets (words : List ℕ) (chain : List (ℕ × E)) (views : List (View E)) (history : History E) : Type 0 where
+  pub record WordsMeet (words : List ℕ) (chain : List (ℕ × E)) (views : List (View E)) (history : History E) : Type 0 where
     pub legal : Legal (events history)
     pub spelled : Spells words (head words) chain
-    pub holds : elements chain ≡ reverse (held (events history))
-    pub apart : (r : ℕ) → in_chain r chain + tally (with_party r) views ≤ 1
-    pub each : (j : ℕ) (v : View E) → get_elem? views j ≡ some v → Does words history j v.doing
+    pub holds : room_elements chain ≡ reverse (held (events history))
+    pub apart : (r : ℕ) → in_chain r chain + tally (count_with_party r) views ≤ 1
+    pub each : (j : ℕ) (v : View E) → get_elem? views j ≡ some v → AtDoing words history j v.doing

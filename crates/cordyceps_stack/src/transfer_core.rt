@@ -4,12 +4,12 @@ ghost use Rattle.std.specs.Option.{option_eq};
 ghost use Rattle.cordyceps_base.specs.Runs.{after};
 ghost use Rattle.cordyceps_stack.specs.TransferCore.{CoreMeets, IsSound, step_events, core_step, push_steps, take_steps};
 ghost use Rattle.cordyceps_stack.specs.TransferHistory.{Event, Load, Push, Taken, held};
-ghost use Rattle.cordyceps_stack.specs.TransferMachine.{new_machine, with_party, with_room, held_in, stepped, acts, is_there, element_of, is_at_rest, is_ready, load, set_next, exchange, take, walk, least_free, element_in, next_in};
+ghost use Rattle.cordyceps_stack.specs.TransferMachine.{new_machine, with_party, with_room, held_in, stepped, acts, is_there, step_element, is_at_rest, is_ready, load, set_next, exchange, take, walk, least_free, element_in, next_in};
 ghost use Rattle.cordyceps_stack.specs.TransferMeets.{AnswerSays};
 ghost use Rattle.cordyceps_stack.specs.TransferWalks.{HandsOut, HandsOn, given_by, only};
 
 use crate::rooms::Rooms;
-use crate::transfer_place::{Attempt, Place};
+use crate::transfer_place::{Attempt, Stage};
 use crate::transfer_step::{TransferAnswer, TransferStep};
 use cordyceps_base::shared::StepError;
 use std::alloc::Global;
@@ -28,7 +28,7 @@ pub struct TransferCore<E> {
     alloc: Global,
     head: Option<usize>,
     rooms: Rooms<E>,
-    parties: Vec<Place>,
+    parties: Vec<Stage>,
 }
 
 impl<E> Model for TransferCore<E> {
@@ -67,7 +67,7 @@ impl<E: Drop> TransferCore<E> {
         ensures walks { (h : List (Event ℕ E)) → HandsOn h self.old h self.new (λ _. []) }
     {
         let party = self.parties.len();
-        match self.parties.push(Place::Rest) {
+        match self.parties.push(Stage::Rest) {
             Ok(()) => Ok(party),
             Err(_) => Err(StepError::Memory),
         }
@@ -107,7 +107,7 @@ impl<E: Drop> TransferCore<E> {
 
         // What the definition of the machine says of refusals, in plain words.
         ensures accepted { is_ok result ≡ is_there self.old party step }
-        ensures refused { IfErr result (λ e. (e ≡ (StepError.NotThere, element_of step)) × (self.new ≡ self.old)) }
+        ensures refused { IfErr result (λ e. (e ≡ (StepError.NotThere, step_element step)) × (self.new ≡ self.old)) }
 
         ensures history { (h : List (Event ℕ E))
             → CoreMeets h self.old
@@ -186,7 +186,7 @@ impl<E: Drop> TransferCore<E> {
 
 impl<E: Drop> TransferCore<E> {
     /// Where a party stands, if there is such a party.
-    fn place_of(&self, party: usize) -> Option<Place>
+    fn place_of(&self, party: usize) -> Option<Stage>
         ensures place { result ≡ slice_get self.now.parties party }
         ensures sound { IsSound self.now }
     {
@@ -194,37 +194,37 @@ impl<E: Drop> TransferCore<E> {
     }
 
     /// Takes a step of a party that stands at `place`.
-    fn act(&mut self, party: usize, step: TransferStep<E>, place: Place) -> Answered<E>
+    fn act(&mut self, party: usize, step: TransferStep<E>, place: Stage) -> Answered<E>
         requires { slice_get self.old.parties party ≡ Some place }
         ensures machine { self.new ≡ (acts self.old party step place).0 }
         ensures answer { result ≡ (acts self.old party step place).1 }
     {
         match step {
             TransferStep::Load(element) => match place {
-                Place::Rest => self.load(party, element),
+                Stage::Rest => self.load(party, element),
                 _ => Err((StepError::NotThere, Some(element))),
             },
             TransferStep::SetNext => match place {
-                Place::Loaded(attempt) => self.set_next(party, attempt),
+                Stage::Loaded(attempt) => self.set_next(party, attempt),
                 _ => Err((StepError::NotThere, None)),
             },
             TransferStep::Exchange => match place {
-                Place::Set(attempt) => self.exchange(party, attempt),
+                Stage::Set(attempt) => self.exchange(party, attempt),
                 _ => Err((StepError::NotThere, None)),
             },
             TransferStep::Take => match place {
-                Place::Rest => self.take(party),
+                Stage::Rest => self.take(party),
                 _ => Err((StepError::NotThere, None)),
             },
             TransferStep::Walk => match place {
-                Place::Walking(room) => self.walk(party, room),
+                Stage::Walking(room) => self.walk(party, room),
                 _ => Err((StepError::NotThere, None)),
             },
         }
     }
 
     fn load(&mut self, party: usize, element: E) -> Answered<E>
-        requires { slice_get self.old.parties party ≡ Some Place.Rest }
+        requires { slice_get self.old.parties party ≡ Some Stage.Rest }
         ensures machine { self.new ≡ (load self.old party element (least_free party self.old.rooms)).0 }
         ensures answer { result ≡ (load self.old party element (least_free party self.old.rooms)).1 }
     {
@@ -232,7 +232,7 @@ impl<E: Drop> TransferCore<E> {
             return Err((StepError::NotThere, Some(element)));
         };
         self.rooms.hold(room, element);
-        self.parties[party] = Place::Loaded(Attempt {
+        self.parties[party] = Stage::Loaded(Attempt {
             room,
             read: self.head,
         });
@@ -240,23 +240,23 @@ impl<E: Drop> TransferCore<E> {
     }
 
     fn set_next(&mut self, party: usize, attempt: Attempt) -> Answered<E>
-        requires { slice_get self.old.parties party ≡ Some (Place.Loaded attempt) }
+        requires { slice_get self.old.parties party ≡ Some (Stage.Loaded attempt) }
         ensures machine { self.new ≡ (set_next self.old party attempt).0 }
         ensures answer { result ≡ (set_next self.old party attempt).1 }
     {
         self.rooms.link(attempt.room, attempt.read);
-        self.parties[party] = Place::Set(attempt);
+        self.parties[party] = Stage::Set(attempt);
         Ok(TransferAnswer::Done)
     }
 
     fn exchange(&mut self, party: usize, attempt: Attempt) -> Answered<E>
-        requires { slice_get self.old.parties party ≡ Some (Place.Set attempt) }
+        requires { slice_get self.old.parties party ≡ Some (Stage.Set attempt) }
         ensures machine { let found = option_eq nat_eq self.old.head attempt.read in
             self.new ≡ (exchange self.old party attempt found).0 }
         ensures answer { let found = option_eq nat_eq self.old.head attempt.read in
             result ≡ (exchange self.old party attempt found).1 }
     {
-        self.parties[party] = Place::Rest;
+        self.parties[party] = Stage::Rest;
         if self.head == attempt.read {
             self.head = Some(attempt.room);
             Ok(TransferAnswer::Pushed(attempt.read.is_none()))
@@ -266,7 +266,7 @@ impl<E: Drop> TransferCore<E> {
     }
 
     fn take(&mut self, party: usize) -> Answered<E>
-        requires { slice_get self.old.parties party ≡ Some Place.Rest }
+        requires { slice_get self.old.parties party ≡ Some Stage.Rest }
         ensures machine { self.new ≡ (take self.old party self.old.head).0 }
         ensures answer { result ≡ (take self.old party self.old.head).1 }
     {
@@ -274,12 +274,12 @@ impl<E: Drop> TransferCore<E> {
             return Ok(TransferAnswer::Nothing);
         };
         self.head = None;
-        self.parties[party] = Place::Walking(room);
+        self.parties[party] = Stage::Walking(room);
         Ok(TransferAnswer::Taken)
     }
 
     fn walk(&mut self, party: usize, room: usize) -> Answered<E>
-        requires { slice_get self.old.parties party ≡ Some (Place.Walking room) }
+        requires { slice_get self.old.parties party ≡ Some (Stage.Walking room) }
         ensures machine { let here = slice_get self.old.rooms room in
             self.new ≡ (walk self.old party room (next_in here) (element_in here)).0 }
         ensures answer { let here = slice_get self.old.rooms room in
@@ -289,11 +289,11 @@ impl<E: Drop> TransferCore<E> {
         let element = self.rooms.free(room, party);
         match next {
             None => {
-                self.parties[party] = Place::Rest;
+                self.parties[party] = Stage::Rest;
                 Ok(TransferAnswer::Last(element))
             }
             Some(following) => {
-                self.parties[party] = Place::Walking(following);
+                self.parties[party] = Stage::Walking(following);
                 Ok(TransferAnswer::Gives(element))
             }
         }
@@ -303,7 +303,7 @@ impl<E: Drop> TransferCore<E> {
     fn is_at_rest(&self, party: usize) -> bool
         ensures { result ≡ is_at_rest self.now party }
     {
-        matches!(self.place_of(party), Some(Place::Rest))
+        matches!(self.place_of(party), Some(Stage::Rest))
     }
 
     /// Whether there is such a party, at rest and with a free room.

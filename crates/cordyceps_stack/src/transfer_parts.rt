@@ -1,13 +1,13 @@
 //! How what a party took from a shared transfer stack becomes a plain stack.
 ghost use Rattle.std.specs.Prelude.{◌≡◌, map};
-ghost use Rattle.cordyceps_stack.specs.TransferCalls.{IsAt, HandsOut};
-ghost use Rattle.cordyceps_stack.specs.TransferMeets.{elements};
-ghost use Rattle.cordyceps_stack.specs.TransferPlays.{IsWalking, batch_of};
+ghost use Rattle.cordyceps_stack.specs.TransferCalls.{IsSeatOf, EmptiesHand};
+ghost use Rattle.cordyceps_stack.specs.TransferMeets.{room_elements};
+ghost use Rattle.cordyceps_stack.specs.TransferPlays.{IsWalking, to_hand_out};
 ghost use Rattle.cordyceps_stack.specs.TransferWords.{start};
 
 use crate::stack::Stack;
 use crate::transfer_steps::walk;
-use crate::transfer_table::{Filled, Place, Words};
+use crate::transfer_table::{Filled, PartySeat, Words};
 use cordyceps_base::linked::Linked;
 use cordyceps_base::stack::Links;
 use cordyceps_shared::tickets::Tickets;
@@ -15,17 +15,17 @@ use cordyceps_shared::tickets::Tickets;
 /// The elements that the party has in hand, to which `at` leads. Their tickets go to its others.
 pub(crate) fn hand_out<T: Linked<Links<T>>>(
     words: &Words<T::Handle>,
-    seat: &mut Place<T::Handle>,
+    seat: &mut PartySeat<T::Handle>,
     tickets: &mut Tickets,
     at: u64,
 ) -> Stack<T>
-    requires table { IsAt seat.old.table_id words.now.table_id }
-    requires batch { let batch = batch_of seat.old.me.0.doing in
+    requires table { IsSeatOf seat.old.table_id words.now.table_id }
+    requires batch { let batch = to_hand_out seat.old.me.0.doing in
         IsWalking words.now.table_id.slots batch seat.old.me × (at ≡ start batch) }
     requires tickets { tickets.old ≡ seat.old.me.0.free }
     ensures table { seat.new.table_id ≡ seat.old.table_id }
-    ensures stack { result ≡ map T.element (elements (batch_of seat.old.me.0.doing)) }
-    ensures seat { HandsOut seat.old.me seat.new.me }
+    ensures stack { result ≡ map T.element (room_elements (to_hand_out seat.old.me.0.doing)) }
+    ensures seat { EmptiesHand seat.old.me seat.new.me }
     ensures tickets { tickets.new ≡ seat.new.me.0.free }
 {
     let mut at = at;

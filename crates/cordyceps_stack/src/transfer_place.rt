@@ -9,7 +9,7 @@ pub(crate) struct Attempt {
 
 /// Where a party stands between two steps.
 #[derive(Clone, Copy)]
-pub(crate) enum Place {
+pub(crate) enum Stage {
     /// At no push and no walk.
     Rest,
     /// A room has the element of a push, and `head` was read.

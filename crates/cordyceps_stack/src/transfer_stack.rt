@@ -9,7 +9,7 @@ ghost use Rattle.cordyceps_stack.specs.TransferStanding.{PushesAt, Misses, Takes
 use crate::stack::Stack;
 use crate::transfer_parts::hand_out;
 use crate::transfer_steps;
-use crate::transfer_table::{Filled, Place, Rooms};
+use crate::transfer_table::{Filled, OwnedTable, PartySeat};
 use cordyceps_base::linked::Linked;
 use cordyceps_base::stack::Links;
 use cordyceps_shared::tickets::Tickets;
@@ -29,7 +29,7 @@ use std::sync::Wait;
 /// The source is `TransferStack` of the Rust crate `cordyceps`, with a fixed number of rooms in place of bare pointers.
 #[derive(Drop)]
 pub struct TransferStack<T: Linked<Links<T>>> {
-    rooms: Rooms<T::Handle>,
+    rooms: OwnedTable<T::Handle>,
 }
 
 impl<T: Linked<Links<T>>> Model for TransferStack<T> {
@@ -50,7 +50,7 @@ impl<T: Linked<Links<T>>> Model for TransferStack<T> {
 /// party that is dropped are lost for good, and no party is whole afterwards.
 #[derive(Drop)]
 pub struct Party<T: Linked<Links<T>>> {
-    seat: Place<T::Handle>,
+    seat: PartySeat<T::Handle>,
     tickets: Tickets,
 }
 

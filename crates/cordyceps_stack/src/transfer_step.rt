@@ -1,6 +1,6 @@
 //! The steps of a transfer core, and their answers.
 ghost use Rattle.std.specs.Prelude.{◌≡◌};
-ghost use Rattle.cordyceps_stack.specs.TransferMachine.{element_of};
+ghost use Rattle.cordyceps_stack.specs.TransferMachine.{step_element};
 
 /// A step of one party: an atomic step of a transfer stack.
 #[derive(Drop)]
@@ -20,7 +20,7 @@ pub enum TransferStep<E> {
 impl<E: Drop> TransferStep<E> {
     /// The element that the step brings.
     pub(crate) fn into_element(self) -> Option<E>
-        ensures { result ≡ element_of self }
+        ensures { result ≡ step_element self }
     {
         match self {
             TransferStep::Load(element) => Some(element),

@@ -14,11 +14,11 @@ pub(crate) struct Filled<E> {
 }
 
 /// What a seat knows. No value of it is made: a contract sees a `View`.
-pub(crate) struct Sight<E> {
+pub(crate) struct SeatView<E> {
     element: PhantomData<E>,
 }
 
-impl<E> Model for Sight<E> {
+impl<E> Model for SeatView<E> {
     ghost Value = { View E };
 
     ghost view = { λ _. newcomer 0 };
@@ -27,23 +27,23 @@ impl<E> Model for Sight<E> {
 /// The rule that each step keeps. Its key is the number of rooms.
 pub(crate) struct Rule;
 
-impl<E> TableRule<Option<Filled<E>>, Sight<E>, usize> for Rule {
-    ghost use Rattle.cordyceps_stack.specs.TransferRule.{Kept};
+impl<E> TableRule<Option<Filled<E>>, SeatView<E>, usize> for Rule {
+    ghost use Rattle.cordyceps_stack.specs.TransferRule.{RuleHolds};
 
-    ghost holds = { λ _. Kept };
+    ghost holds = { λ _. RuleHolds };
 
     ghost first = { newcomer };
 }
 
 /// Word 0 is `head`: 0, or 1 more than the room that was pushed last. Word `r + 1` is the link of room `r`, which leads to
 /// the room below, and slot `r` has its ticket and element.
-pub(crate) type Words<E> = Shared<Option<Filled<E>>, Sight<E>, usize, Rule>;
+pub(crate) type Words<E> = Shared<Option<Filled<E>>, SeatView<E>, usize, Rule>;
 
 /// The same, with its memory.
-pub(crate) type Rooms<E> = Table<Option<Filled<E>>, Sight<E>, usize, Rule, Global>;
+pub(crate) type OwnedTable<E> = Table<Option<Filled<E>>, SeatView<E>, usize, Rule, Global>;
 
 /// A party's seat.
-pub(crate) type Place<E> = Seat<Option<Filled<E>>, Sight<E>>;
+pub(crate) type PartySeat<E> = Seat<Option<Filled<E>>, SeatView<E>>;
 
 /// How many rooms a party gives up. Each call that splits one picks it.
 pub(crate) trait Count {

@@ -9,7 +9,7 @@ use Rattle.cordyceps_stack.specs.TransferHistory.{Event, Load, Push, Taken, Lega
 use Rattle.cordyceps_stack.specs.TransferStanding.{PartyOf}
 use Rattle.freelist.specs.Blocks.{LocalOf}
 use Rattle.freelist.specs.Whereabouts.{Whereabouts, Call, Gets, Fetches, Puts, PutsRemote, HandsBack, Opens, Finishes, Splits, Joins, Idles, Gains, Loses, behind, Lacks, Does, Run, command_of, attempts, fetches}
-use Rattle.freelist.specs.Users.{firsts, seconds, BothCarryOut, UserOf, looks, takings, puts_of, gets_of, Acts, ActsLocally, ActInTurn, OnlyBlocks, after, CarriesOut, local_blocks, local_party, rooms_of}
+use Rattle.freelist.specs.Users.{firsts, seconds, BothCarryOut, UserOf, looks, takings, puts_of, gets_of, Acts, ActsLocally, ActInTurn, OnlyBlocks, whereabouts_after, CarriesOut, local_blocks, local_party, rooms_of}
 use Rattle.freelist.specs.declared.laws.Command.{Command}
 use Rattle.freelist.specs.declared.laws.Command.TheVariants as kinds
 use Rattle.freelist.specs.declared.laws.Turn.{Turn}
@@ -17,10 +17,10 @@ use Rattle.freelist.specs.declared.laws.Turn.TheVariants as turns
 
 module _ {B : Type 0} where
   -- where earlier calls put some blocks back, and took some
-  abbrev moved : List B → List B → Whereabouts B → Whereabouts B
-  moved xs ys s = record s { put_back = xs ++ s.put_back; fetched = ys ++ s.fetched }
+  abbrev moved_blocks : List B → List B → Whereabouts B → Whereabouts B
+  moved_blocks xs ys s = record s { put_back = xs ++ s.put_back; fetched = ys ++ s.fetched }
 
-  lacks_moved : (xs ys : List B) (k : Command) (s : Whereabouts B) → Lacks k s → Lacks k (moved xs ys s)
+  lacks_moved : (xs ys : List B) (k : Command) (s : Whereabouts B) → Lacks k s → Lacks k (moved_blocks xs ys s)
   lacks_moved xs ys kinds.Get s l = l
   lacks_moved xs ys kinds.Put s l = l
   lacks_moved xs ys kinds.PutRemote s l = l
@@ -29,25 +29,25 @@ module _ {B : Type 0} where
   lacks_moved xs ys (kinds.Split n) s l = l
   lacks_moved xs ys kinds.Absorb s l = l
 
-  does_moved : (xs ys : List B) (c : Call B) (s t : Whereabouts B) → Does c s t → Does c (moved xs ys s) (moved xs ys t)
-  does_moved xs ys (Gets b) s t d = (d.0, ap (moved xs ys) d.1)
+  does_moved : (xs ys : List B) (c : Call B) (s t : Whereabouts B) → Does c s t → Does c (moved_blocks xs ys s) (moved_blocks xs ys t)
+  does_moved xs ys (Gets b) s t d = (d.0, ap (moved_blocks xs ys) d.1)
   does_moved xs ys (Fetches batch first) s t d =
-      (d.0, d.1, d.2, d.3, d.4, ap (moved xs ys) d.5 ∙ ap (λ z. record t { with_user = behind first s.with_user; local_rooms = Some (d.0 + length batch); put_back = xs ++ s.put_back; fetched = z; rooms = s.rooms; spare_rooms = s.spare_rooms }) (sym (append_assoc ys s.fetched (reverse batch))))
-  does_moved xs ys (Puts b) s t d = (d.0, d.1, ap (moved xs ys) d.2)
+      (d.0, d.1, d.2, d.3, d.4, ap (moved_blocks xs ys) d.5 ∙ ap (λ z. record t { with_user = behind first s.with_user; local_rooms = Some (d.0 + length batch); put_back = xs ++ s.put_back; fetched = z; rooms = s.rooms; spare_rooms = s.spare_rooms }) (sym (append_assoc ys s.fetched (reverse batch))))
+  does_moved xs ys (Puts b) s t d = (d.0, d.1, ap (moved_blocks xs ys) d.2)
   does_moved xs ys (PutsRemote b) s t d =
-      (d.0, d.1, ap (moved xs ys) d.2 ∙ ap (λ z. record s { with_user = t.with_user; put_back = z; fetched = ys ++ s.fetched; rooms = t.rooms }) (sym (append_assoc xs s.put_back (b ∷ []))))
-  does_moved xs ys HandsBack s t d = (d.0, d.1, ap (moved xs ys) d.2)
-  does_moved xs ys Opens s t d = (d.0, d.1, d.2, ap (moved xs ys) d.3)
-  does_moved xs ys Finishes s t d = (d.0, d.1, d.2, ap (moved xs ys) d.3)
-  does_moved xs ys (Splits n) s t d = (d.0, d.1, ap (moved xs ys) d.2)
-  does_moved xs ys Joins s t d = (d.0, d.1, ap (moved xs ys) d.2)
-  does_moved xs ys (Idles k) s t d = (lacks_moved xs ys k s d.0, ap (moved xs ys) d.1)
-  does_moved xs ys (Gains b) s t d = ap (moved xs ys) d
-  does_moved xs ys (Loses b) s t d = (d.0, ap (moved xs ys) d.1)
+      (d.0, d.1, ap (moved_blocks xs ys) d.2 ∙ ap (λ z. record s { with_user = t.with_user; put_back = z; fetched = ys ++ s.fetched; rooms = t.rooms }) (sym (append_assoc xs s.put_back (b ∷ []))))
+  does_moved xs ys HandsBack s t d = (d.0, d.1, ap (moved_blocks xs ys) d.2)
+  does_moved xs ys Opens s t d = (d.0, d.1, d.2, ap (moved_blocks xs ys) d.3)
+  does_moved xs ys Finishes s t d = (d.0, d.1, d.2, ap (moved_blocks xs ys) d.3)
+  does_moved xs ys (Splits n) s t d = (d.0, d.1, ap (moved_blocks xs ys) d.2)
+  does_moved xs ys Joins s t d = (d.0, d.1, ap (moved_blocks xs ys) d.2)
+  does_moved xs ys (Idles k) s t d = (lacks_moved xs ys k s d.0, ap (moved_blocks xs ys) d.1)
+  does_moved xs ys (Gains b) s t d = ap (moved_blocks xs ys) d
+  does_moved xs ys (Loses b) s t d = (d.0, ap (moved_blocks xs ys) d.1)
 
-  run_moved : (xs ys : List B) (cs : List (Call B)) (s t : Whereabouts B) → Run cs s t → Run cs (moved xs ys s) (moved xs ys t)
-  run_moved xs ys [] s t r = ap (moved xs ys) r
-  run_moved xs ys (c ∷ cs) s t r = (moved xs ys r.0, does_moved xs ys c s r.0 r.1, run_moved xs ys cs r.0 t r.2)
+  run_moved : (xs ys : List B) (cs : List (Call B)) (s t : Whereabouts B) → Run cs s t → Run cs (moved_blocks xs ys s) (moved_blocks xs ys t)
+  run_moved xs ys [] s t r = ap (moved_blocks xs ys) r
+  run_moved xs ys (c ∷ cs) s t r = (moved_blocks xs ys r.0, does_moved xs ys c s r.0 r.1, run_moved xs ys cs r.0 t r.2)
 
   pub run_then : (cs ds : List (Call B)) (s m t : Whereabouts B) → Run cs s m → Run ds m t → Run (cs ++ ds) s t
   run_then [] ds s m t r q = subst (λ z. Run ds z t) r q
@@ -177,7 +177,7 @@ module _ {T H : Type 0} (element : H → Element T) where
       let ys = map element (taken a.events) in
       let xs2 = map element (pushes b.events) in
       let ys2 = map element (taken b.events) in
-      let moved_on = run_moved xs ys b.calls (after element v []) (after element w b.events) b.runs in
+      let moved_on = run_moved xs ys b.calls (whereabouts_after element v []) (whereabouts_after element w b.events) b.runs in
       let start = subst (λ z. Run b.calls (place v z (ys ++ [])) (place w (xs ++ xs2) (ys ++ ys2))) (append-nil xs) moved_on in
       let start2 = subst (λ z. Run b.calls (place v xs z) (place w (xs ++ xs2) (ys ++ ys2))) (append-nil ys) start in
       let end = subst (λ z. Run b.calls (place v xs ys) (place w z (ys ++ ys2))) (sym put) start2 in
@@ -186,7 +186,7 @@ module _ {T H : Type 0} (element : H → Element T) where
         calls = a.calls ++ b.calls;
         events = a.events ++ b.events;
         carries = map-append command_of a.calls b.calls ∙ (ap (λ z. z ++ map command_of b.calls) a.carries ∙ (ap (λ z. map Some ks ++ z) b.carries ∙ sym (map-append Some ks js)));
-        runs = run_then a.calls b.calls (after element u []) (after element v a.events) (after element w (a.events ++ b.events)) a.runs end2;
+        runs = run_then a.calls b.calls (whereabouts_after element u []) (whereabouts_after element v a.events) (whereabouts_after element w (a.events ++ b.events)) a.runs end2;
         looked = omega (arith, a.looked, b.looked, looks_append a.events b.events, attempts_append a.calls b.calls);
         took = omega (arith, a.took, b.took, takings_append a.events b.events, fetches_append a.calls b.calls);
         own_events = λ g. omega (arith, a.own_events g, b.own_events g, tally_append g a.events b.events);

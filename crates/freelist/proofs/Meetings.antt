@@ -11,7 +11,7 @@ use Rattle.cordyceps_shared.proofs.Counting.{tally_append}
 use Rattle.cordyceps_stack.specs.TransferHistory.{Event, Load, Push, Taken, Legal, held, pushes, taken}
 use Rattle.cordyceps_stack.specs.TransferStanding.{PartyOf}
 use Rattle.freelist.specs.Whereabouts.{Call, Gains, Loses, command_of, gained, lost, SameBlocks, IsOf}
-use Rattle.freelist.specs.Users.{UserOf, alone, closing, own_sum, parties_of, after, CarriesOut, Life, all_parties, stories, EachOnce, Knows, Met, one, absorbed}
+use Rattle.freelist.specs.Users.{UserOf, alone, closing, own_sum, parties_of, whereabouts_after, CarriesOut, Life, all_parties, stories, EachOnce, Knows, Met, one, absorbed}
 use Rattle.freelist.specs.declared.laws.Command.{Command}
 use Rattle.freelist.proofs.Calls.{carries_then}
 use Rattle.freelist.proofs.Parties.{halves_join, absorbs_own, absorbs_knows}
@@ -72,7 +72,7 @@ module _ {T H : Type 0} (element : H → Element T) where
   -- what a user did that began with one party, which had no event of its own
   abbrev pub life : (ks : List Command) (t : TableId) (hand : List (Element T)) (p : PartyOf H) (w : UserOf T H) → CarriesOut element ks (alone t hand p) w → own p.seen ≡ [] → Life element
   life ks t hand p w c none = record {
-    story = record { calls = c.calls; start = after element (alone t hand p) []; end = after element w c.events; runs = c.runs; new = (refl, refl) };
+    story = record { calls = c.calls; start = whereabouts_after element (alone t hand p) []; end = whereabouts_after element w c.events; runs = c.runs; new = (refl, refl) };
     parties = parties_of w;
     events = c.events;
     own_events = λ g. omega (arith, c.own_events g, ap (tally g) none);

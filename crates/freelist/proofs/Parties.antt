@@ -3,7 +3,7 @@ use Rattle.std.proofs.Common.{◌≡◌, ℕ, ◌+◌, List, [], ◌∷◌, ◌+
 use Rattle.atomic_table.specs.Seated.{TableId}
 use Rattle.cordyceps_shared.specs.Counts.{tally}
 use Rattle.cordyceps_shared.specs.Histories.{own}
-use Rattle.cordyceps_shared.specs.Shares.{Name, whole, keeps_half, gives_half, joined, combine, place, earlier, is_pair, parent}
+use Rattle.cordyceps_shared.specs.Shares.{Name, whole, keeps_half, gives_half, joined, combine, cons_joined, earlier, is_pair, parent}
 use Rattle.cordyceps_shared.specs.Standings.{new_party, keeping, giving, Absorbs}
 use Rattle.cordyceps_shared.proofs.Adding.{not_whole, plain_unmarked}
 use Rattle.cordyceps_shared.proofs.Counting.{tally_append}
@@ -41,7 +41,7 @@ pub halves_join : (n : Name) → joined (keeps_half (n ∷ [])) (gives_half (n �
 halves_join n =
     let l = n ++ false ∷ [] in
     let r = n ++ true ∷ [] in
-    ap (λ b. combine (cond b (l ∷ r ∷ []) (r ∷ l ∷ []))) (halves_earlier n) ∙ (ap (λ b. cond b (place (parent l) []) (l ∷ r ∷ [])) (halves_pair n) ∙ ap (λ z. z ∷ []) (half_parent n))
+    ap (λ b. combine (cond b (l ∷ r ∷ []) (r ∷ l ∷ []))) (halves_earlier n) ∙ (ap (λ b. cond b (cons_joined (parent l) []) (l ∷ r ∷ [])) (halves_pair n) ∙ ap (λ z. z ∷ []) (half_parent n))
 
 module _ {H : Type 0} where
   pub adds_own : (u w : PartyOf H) (es : List (Event Name H)) → Adds u es w → (g : Event Name H → ℕ) → tally g (own w.seen) ≡ tally g (own u.seen) + tally g es

@@ -6,14 +6,14 @@ use Rattle.atomic_table.specs.Seated.{TableId}
 use Rattle.cordyceps_base.specs.Element.{Element}
 use Rattle.cordyceps_shared.specs.Counts.{tally}
 use Rattle.cordyceps_shared.specs.Histories.{own}
-use Rattle.cordyceps_shared.specs.Shares.{Name, keeps_half, gives_half, joined, put}
+use Rattle.cordyceps_shared.specs.Shares.{Name, keeps_half, gives_half, joined, insert_name}
 use Rattle.cordyceps_shared.specs.Standings.{name_of, keeping, giving, Absorbs}
 use Rattle.cordyceps_shared.proofs.Owning.{own_split}
 use Rattle.cordyceps_stack.specs.TransferHistory.{Load, Push, Taken, Legal}
 use Rattle.cordyceps_stack.specs.TransferStanding.{PartyOf, PushesAt, Misses}
 use Rattle.freelist.specs.Blocks.{LocalOf, GivesFirst, GetsFrom}
 use Rattle.freelist.specs.Whereabouts.{Gets, Fetches, Puts, PutsRemote, HandsBack, Opens, Finishes, Splits, Joins, Idles, behind, Lacks}
-use Rattle.freelist.specs.Users.{UserOf, after, share_of, rooms_of, Divides, local_party, CarriesOut}
+use Rattle.freelist.specs.Users.{UserOf, whereabouts_after, share_of, rooms_of, Divides, local_party, CarriesOut}
 use Rattle.freelist.proofs.Calls.{stays, stays_local}
 use Rattle.freelist.proofs.Parties.{halves_join, adds_own, absorbs_own, adds_knows, absorbs_knows, keeps_knows, gives_knows, knows_last}
 use Rattle.freelist.proofs.Whereabouts.{tally_behind}
@@ -43,20 +43,20 @@ module _ {T H : Type 0} where
 
 module _ {T H : Type 0} (element : H → Element T) where
   -- the first block, if there is one
-  abbrev pub shown : Option H → Option (Element T)
-  shown None = None
-  shown (Some h) = Some (element h)
+  abbrev pub element_if : Option H → Option (Element T)
+  element_if None = None
+  element_if (Some h) = Some (element h)
 
   -- a user
   abbrev pub with : TableId → List (Element T) → Option (LocalOf T H) → PartyOf H → Option (PartyOf H) → UserOf T H
   with t hand l p o = record { table = t; hand = hand; local = l; party = p; spare = o }
 
-  carries_idle : (k : Command) (u : UserOf T H) → Lacks k (after element u []) → CarriesOut element (k ∷ []) u u
+  carries_idle : (k : Command) (u : UserOf T H) → Lacks k (whereabouts_after element u []) → CarriesOut element (k ∷ []) u u
   carries_idle k u lacks = record {
     calls = Idles k ∷ [];
     events = [];
     carries = refl;
-    runs = (after element u [], (lacks, refl), refl);
+    runs = (whereabouts_after element u [], (lacks, refl), refl);
     looked = refl;
     took = refl;
     own_events = λ g. omega arith;
@@ -73,16 +73,16 @@ module _ {T H : Type 0} (element : H → Element T) where
   pub ends : (ks : List Command) (u v w : UserOf T H) → v ≡ w → CarriesOut element ks u v → CarriesOut element ks u w
   ends ks u v w is c = subst (λ z. CarriesOut element ks u z) is c
 
-  pub idles : (k : Command) (v u w : UserOf T H) → v ≡ u → v ≡ w → Lacks k (after element v []) → CarriesOut element (k ∷ []) u w
+  pub idles : (k : Command) (v u w : UserOf T H) → v ≡ u → v ≡ w → Lacks k (whereabouts_after element v []) → CarriesOut element (k ∷ []) u w
   idles k v u w first last lacks = subst (λ z. CarriesOut element (k ∷ []) z w) first (subst (λ z. CarriesOut element (k ∷ []) v z) last (carries_idle k v lacks))
 
-  first_out : (bs left : List (Element T)) (first : Option H) → GivesFirst element bs first left → (bs ≡ behind (shown first) left) × (shown first ≡ None → left ≡ [])
+  first_out : (bs left : List (Element T)) (first : Option H) → GivesFirst element bs first left → (bs ≡ behind (element_if first) left) × (element_if first ≡ None → left ≡ [])
   first_out bs left None g = (g.0 ∙ sym g.1, λ _. g.1)
   first_out bs left (Some h) g = (g, λ e. cc)
 
   fetches_to : (t : TableId) (hand : List (Element T)) (q : PartyOf H) (first : Option H) (l : LocalOf T H) (p : PartyOf H) (o : Option (PartyOf H)) →
       GetsFrom element [] q first l →
-      CarriesOut element (kinds.Get ∷ []) (with t hand (Some (record { blocks = []; party = q })) p o) (with t (behind (shown first) hand) (Some l) p o)
+      CarriesOut element (kinds.Get ∷ []) (with t hand (Some (record { blocks = []; party = q })) p o) (with t (behind (element_if first) hand) (Some l) p o)
   fetches_to t hand q first l p o g =
       let batch = g.0 in
       let took = g.1 in
@@ -91,18 +91,18 @@ module _ {T H : Type 0} (element : H → Element T) where
       let some : map element (reverse batch ++ []) ≡ reverse (map element batch) = ap (map element) (append-nil (reverse batch)) ∙ map_reverse element batch in
       let rooms : l.party.rooms ≡ q.rooms + length (map element batch) = omega (arith, took.1, length-map batch element) in
       record {
-        calls = Fetches (map element batch) (shown first) ∷ [];
+        calls = Fetches (map element batch) (element_if first) ∷ [];
         events = es;
         carries = refl;
         runs = (
-          after element (with t (behind (shown first) hand) (Some l) p o) es,
+          whereabouts_after element (with t (behind (element_if first) hand) (Some l) p o) es,
           (
             q.rooms,
             refl,
             refl,
             out.0,
             out.1,
-            ap (λ z. record (after element (with t (behind (shown first) hand) (Some l) p o) []) { fetched = z; local_rooms = Some l.party.rooms }) some ∙ ap (λ z. record (after element (with t (behind (shown first) hand) (Some l) p o) []) { fetched = reverse (map element batch); local_rooms = Some z }) rooms,
+            ap (λ z. record (whereabouts_after element (with t (behind (element_if first) hand) (Some l) p o) []) { fetched = z; local_rooms = Some l.party.rooms }) some ∙ ap (λ z. record (whereabouts_after element (with t (behind (element_if first) hand) (Some l) p o) []) { fetched = reverse (map element batch); local_rooms = Some z }) rooms,
           ),
           refl,
         );
@@ -121,7 +121,7 @@ module _ {T H : Type 0} (element : H → Element T) where
     calls = Gets b ∷ [];
     events = [];
     carries = refl;
-    runs = (after element (with t (b ∷ hand) (Some (record { blocks = left; party = q })) p o) [], (refl, refl), refl);
+    runs = (whereabouts_after element (with t (b ∷ hand) (Some (record { blocks = left; party = q })) p o) [], (refl, refl), refl);
     looked = refl;
     took = refl;
     own_events = λ g. omega arith;
@@ -133,7 +133,7 @@ module _ {T H : Type 0} (element : H → Element T) where
 
   get_from : (t : TableId) (hand : List (Element T)) (bs : List (Element T)) (q : PartyOf H) (first : Option H) (l : LocalOf T H) (p : PartyOf H) (o : Option (PartyOf H)) →
       GetsFrom element bs q first l →
-      CarriesOut element (kinds.Get ∷ []) (with t hand (Some (record { blocks = bs; party = q })) p o) (with t (behind (shown first) hand) (Some l) p o)
+      CarriesOut element (kinds.Get ∷ []) (with t hand (Some (record { blocks = bs; party = q })) p o) (with t (behind (element_if first) hand) (Some l) p o)
   get_from t hand [] q first l p o g = fetches_to t hand q first l p o g
   get_from t hand (b ∷ bs) q None l p o g = let none : b ∷ bs ≡ [] = g.1.0 in cc
   get_from t hand (b ∷ bs) q (Some h) l p o g =
@@ -142,10 +142,10 @@ module _ {T H : Type 0} (element : H → Element T) where
       subst (λ z. CarriesOut element (kinds.Get ∷ []) (with t hand (Some (record { blocks = b ∷ bs; party = q })) p o) (with t (element h ∷ hand) (Some (record { blocks = l.blocks; party = z })) p o)) (sym g.0) from
 
   pub carries_get : (t : TableId) (hand hand2 : List (Element T)) (l l2 : LocalOf T H) (p : PartyOf H) (o : Option (PartyOf H)) (first : Option H) →
-      GetsFrom element l.blocks l.party first l2 → hand2 ≡ behind (shown first) hand →
+      GetsFrom element l.blocks l.party first l2 → hand2 ≡ behind (element_if first) hand →
       CarriesOut element (kinds.Get ∷ []) (with t hand (Some l) p o) (with t hand2 (Some l2) p o)
-  carries_get t hand hand2 l l2 p o first g put =
-      subst (λ z. CarriesOut element (kinds.Get ∷ []) (with t hand (Some l) p o) (with t z (Some l2) p o)) (sym put) (get_from t hand l.blocks l.party first l2 p o g)
+  carries_get t hand hand2 l l2 p o first g insert_name =
+      subst (λ z. CarriesOut element (kinds.Get ∷ []) (with t hand (Some l) p o) (with t z (Some l2) p o)) (sym insert_name) (get_from t hand l.blocks l.party first l2 p o g)
 
   put_to : (t : TableId) (hand : List (Element T)) (b : Element T) (bs : List (Element T)) (q p : PartyOf H) (o : Option (PartyOf H)) →
       CarriesOut element (kinds.Put ∷ []) (with t (b ∷ hand) (Some (record { blocks = bs; party = q })) p o) (with t hand (Some (record { blocks = b ∷ bs; party = q })) p o)
@@ -154,7 +154,7 @@ module _ {T H : Type 0} (element : H → Element T) where
     events = [];
     carries = refl;
     runs = (
-      after element (with t hand (Some (record { blocks = b ∷ bs; party = q })) p o) [],
+      whereabouts_after element (with t hand (Some (record { blocks = b ∷ bs; party = q })) p o) [],
       (refl, record { before = []; after = hand; old_is = refl; new_is = refl }, refl),
       refl,
     );
@@ -170,10 +170,10 @@ module _ {T H : Type 0} (element : H → Element T) where
   pub carries_put : (t : TableId) (hand hand2 : List (Element T)) (l l2 : LocalOf T H) (p : PartyOf H) (o : Option (PartyOf H)) (h : H) →
       hand ≡ element h ∷ hand2 → l2.blocks ≡ element h ∷ l.blocks → l2.party ≡ l.party →
       CarriesOut element (kinds.Put ∷ []) (with t hand (Some l) p o) (with t hand2 (Some l2) p o)
-  carries_put t hand hand2 l l2 p o h had put same =
+  carries_put t hand hand2 l l2 p o h had insert_name same =
       let P = λ (z : List (Element T)) (k : LocalOf T H). CarriesOut element (kinds.Put ∷ []) (with t z (Some l) p o) (with t hand2 (Some k) p o) in
       let a = put_to t hand2 (element h) l.blocks l.party p o in
-      let b = subst (λ z. P (element h ∷ hand2) (record { blocks = z; party = l.party })) (sym put) a in
+      let b = subst (λ z. P (element h ∷ hand2) (record { blocks = z; party = l.party })) (sym insert_name) a in
       let c = subst (λ z. P (element h ∷ hand2) (record { blocks = l2.blocks; party = z })) (sym same) b in
       subst (λ z. P z l2) (sym had) c
 
@@ -187,7 +187,7 @@ module _ {T H : Type 0} (element : H → Element T) where
         events = es;
         carries = refl;
         runs = (
-          after element (with t hand l p2 o) es,
+          whereabouts_after element (with t hand l p2 o) es,
           (pushed.2, record { before = []; after = hand; old_is = refl; new_is = refl }, refl),
           refl,
         );
@@ -216,8 +216,8 @@ module _ {T H : Type 0} (element : H → Element T) where
         events = es;
         carries = refl;
         runs = (
-          after element (with t hand l p2 o) es,
-          (room, some, ap (λ z. record (after element (with t hand l p o) []) { rooms = z }) missed.2),
+          whereabouts_after element (with t hand l p2 o) es,
+          (room, some, ap (λ z. record (whereabouts_after element (with t hand l p o) []) { rooms = z }) missed.2),
           refl,
         );
         looked = refl;
@@ -232,8 +232,8 @@ module _ {T H : Type 0} (element : H → Element T) where
   pub carries_missed : (t : TableId) (hand hand2 hand3 : List (Element T)) (l : Option (LocalOf T H)) (p p2 : PartyOf H) (o : Option (PartyOf H)) (h back : H) →
       hand ≡ element h ∷ hand2 → 0 < p.rooms → back ≡ h → hand3 ≡ element back ∷ hand2 → Misses p p2 →
       CarriesOut element (kinds.PutRemote ∷ []) (with t hand l p o) (with t hand3 l p2 o)
-  carries_missed t hand hand2 hand3 l p p2 o h back had room same put missed =
-      let again : hand ≡ hand3 = had ∙ (ap (λ z. element z ∷ hand2) (sym same) ∙ sym put) in
+  carries_missed t hand hand2 hand3 l p p2 o h back had room same insert_name missed =
+      let again : hand ≡ hand3 = had ∙ (ap (λ z. element z ∷ hand2) (sym same) ∙ sym insert_name) in
       let some : hand ≢ [] = λ e. let none : element h ∷ hand2 ≡ [] = sym had ∙ e in cc in
       subst (λ z. CarriesOut element (kinds.PutRemote ∷ []) (with t hand l p o) (with t z l p2 o)) again (missed_to t hand l p p2 o some room missed)
 
@@ -243,7 +243,7 @@ module _ {T H : Type 0} (element : H → Element T) where
     calls = Opens ∷ [];
     events = [];
     carries = refl;
-    runs = (after element (with t hand (Some (record { blocks = []; party = q })) p None) [], (q.rooms, refl, refl, refl), refl);
+    runs = (whereabouts_after element (with t hand (Some (record { blocks = []; party = q })) p None) [], (q.rooms, refl, refl, refl), refl);
     looked = refl;
     took = refl;
     own_events = λ g. omega arith;
@@ -265,7 +265,7 @@ module _ {T H : Type 0} (element : H → Element T) where
     calls = Finishes ∷ [];
     events = [];
     carries = refl;
-    runs = (after element (with t (reverse l.blocks ++ hand) None p (Some l.party)) [], (l.party.rooms, refl, refl, refl), refl);
+    runs = (whereabouts_after element (with t (reverse l.blocks ++ hand) None p (Some l.party)) [], (l.party.rooms, refl, refl, refl), refl);
     looked = refl;
     took = refl;
     own_events = λ g. omega arith;
@@ -277,9 +277,9 @@ module _ {T H : Type 0} (element : H → Element T) where
 
   pub carries_finish : (t : TableId) (hand hand2 blocks : List (Element T)) (l : LocalOf T H) (p q : PartyOf H) → blocks ≡ l.blocks → hand2 ≡ reverse blocks ++ hand → q ≡ l.party →
       CarriesOut element (kinds.Finish ∷ []) (with t hand (Some l) p None) (with t hand2 None p (Some q))
-  carries_finish t hand hand2 blocks l p q all put is =
+  carries_finish t hand hand2 blocks l p q all insert_name is =
       let P = λ (z : List (Element T)) (k : PartyOf H). CarriesOut element (kinds.Finish ∷ []) (with t hand (Some l) p None) (with t z None p (Some k)) in
-      let onto : hand2 ≡ reverse l.blocks ++ hand = put ∙ ap (λ z. reverse z ++ hand) all in
+      let onto : hand2 ≡ reverse l.blocks ++ hand = insert_name ∙ ap (λ z. reverse z ++ hand) all in
       subst (λ z. P z q) (sym onto) (subst (λ z. P (reverse l.blocks ++ hand) z) (sym is) (finish_to t hand l p))
 
   split_names : (n : Name) (p : PartyOf H) (l : Option (PartyOf H)) (rooms : ℕ) → Divides n p.share (share_of l) None → Divides n (keeping rooms p).share (share_of l) (Some (giving rooms p).share)
@@ -292,7 +292,7 @@ module _ {T H : Type 0} (element : H → Element T) where
     calls = Splits rooms ∷ [];
     events = [];
     carries = refl;
-    runs = (after element (with t hand l (keeping rooms p) (Some (giving rooms p))) [], (few, refl, refl), refl);
+    runs = (whereabouts_after element (with t hand l (keeping rooms p) (Some (giving rooms p))) [], (few, refl, refl), refl);
     looked = refl;
     took = refl;
     own_events = λ g. omega (arith, ap (tally g) (own_split rooms p).0);
@@ -320,8 +320,8 @@ module _ {T H : Type 0} (element : H → Element T) where
     events = [];
     carries = refl;
     runs = (
-      after element (with t hand l p2 None) [],
-      (q.rooms, refl, ap (λ z. record (after element (with t hand l p2 None) []) { rooms = z }) a.rooms),
+      whereabouts_after element (with t hand l p2 None) [],
+      (q.rooms, refl, ap (λ z. record (whereabouts_after element (with t hand l p2 None) []) { rooms = z }) a.rooms),
       refl,
     );
     looked = refl;

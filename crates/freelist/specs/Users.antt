@@ -141,8 +141,8 @@ OnlyBlocks (k ∷ ks) = ⊥
 
 module _ {T H : Type 0} (element : H → Element T) where
   -- the whereabouts of a user's blocks after its parties made these events
-  abbrev pub after : UserOf T H → List (Event Name H) → Whereabouts (Element T)
-  after u es =
+  abbrev pub whereabouts_after : UserOf T H → List (Event Name H) → Whereabouts (Element T)
+  whereabouts_after u es =
       record { with_user = u.hand; local = local_blocks u.local; put_back = map element (pushes es); fetched = map element (taken es); rooms = u.party.rooms; local_rooms = rooms_of (local_party u.local); spare_rooms = rooms_of u.spare }
 
   -- a user carried out these commands, by one call each, and did nothing else
@@ -151,7 +151,7 @@ module _ {T H : Type 0} (element : H → Element T) where
     -- what all its parties did, in this order
     pub events : List (Event Name H)
     pub carries : map command_of calls ≡ map Some ks
-    pub runs : Run calls (after u []) (after w events)
+    pub runs : Run calls (whereabouts_after u []) (whereabouts_after w events)
     pub looked : looks events ≡ attempts calls
     pub took : takings events ≡ fetches calls
     -- their own events are these and the earlier ones, each as often

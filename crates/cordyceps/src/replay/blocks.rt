@@ -9,7 +9,7 @@ ghost use Rattle.cordyceps_list.specs.Cursor.{elements, place, lender};
 ghost use Rattle.cordyceps.specs.Replies.{lines_of};
 ghost use Rattle.cordyceps.specs.Tables.{held_at};
 ghost use Rattle.cordyceps.specs.Filters.{passes};
-ghost use Rattle.cordyceps.specs.Blocks.{first_place, inserted_behind, inserted_before, line_step, state_of, made_for, made_for_all, block, blocked, OtherFits, BlockFits, Goes, Obeys, Steps};
+ghost use Rattle.cordyceps.specs.Blocks.{first_place, inserted_behind, inserted_before, line_step, state_of, made_for, made_for_all, block, blocked, OtherFits, BlockFits, Goes, Obeys, LineRuns};
 
 use crate::replay::filters::passes;
 use crate::replay::item::Item;
@@ -183,7 +183,7 @@ fn split_after(
 ) -> Reply
     requires list { list < length lists.old }
     requires other { other < length lists.old }
-    ensures { Steps list lists.old lists.new cursor.old cursor.new (CursorCommand.SplitAfter other) result }
+    ensures { LineRuns list lists.old lists.new cursor.old cursor.new (CursorCommand.SplitAfter other) result }
 {
     if !is_free(lists, list, other) {
         return not_there();
@@ -201,7 +201,7 @@ fn split_before(
 ) -> Reply
     requires list { list < length lists.old }
     requires other { other < length lists.old }
-    ensures { Steps list lists.old lists.new cursor.old cursor.new (CursorCommand.SplitBefore other) result }
+    ensures { LineRuns list lists.old lists.new cursor.old cursor.new (CursorCommand.SplitBefore other) result }
 {
     if !is_free(lists, list, other) {
         return not_there();
@@ -219,7 +219,7 @@ fn splice_after(
 ) -> Reply
     requires list { list < length lists.old }
     requires other { other < length lists.old }
-    ensures { Steps list lists.old lists.new cursor.old cursor.new (CursorCommand.SpliceAfter other) result }
+    ensures { LineRuns list lists.old lists.new cursor.old cursor.new (CursorCommand.SpliceAfter other) result }
 {
     if !fits_in(lists, list, cursor.len(), other) {
         return not_there();
@@ -238,7 +238,7 @@ fn splice_before(
 ) -> Reply
     requires list { list < length lists.old }
     requires other { other < length lists.old }
-    ensures { Steps list lists.old lists.new cursor.old cursor.new (CursorCommand.SpliceBefore other) result }
+    ensures { LineRuns list lists.old lists.new cursor.old cursor.new (CursorCommand.SpliceBefore other) result }
 {
     if !fits_in(lists, list, cursor.len(), other) {
         return not_there();
@@ -260,7 +260,7 @@ fn run_line(
     requires count { length lists.old ≡ 16 }
     requires other { OtherFits line }
     requires nodes { take (length (made_for line)) nodes.old ≡ made_for line }
-    ensures steps { Steps list lists.old lists.new cursor.old cursor.new line result }
+    ensures steps { LineRuns list lists.old lists.new cursor.old cursor.new line result }
     ensures nodes { nodes.new ≡ drop (length (made_for line)) nodes.old }
 {
     match line {

@@ -2,18 +2,18 @@ use Rattle.std.proofs.Common.{◌≡◌, ◌<◌, length, eqb, false, arith}
 use borrow.Author.Tests.{eq-eqb}
 use Rattle.std.proofs.lemmas.Bool.Decides.{nat_tests}
 use Rattle.cordyceps_base.specs.Nodes.{elements}
-use Rattle.cordyceps_list.proofs.Found.{met, unmet_more}
+use Rattle.cordyceps_list.proofs.Found.{found_at, unmet_more}
 use Rattle.cordyceps_list.proofs.remove.find.Goals as goal
 
 pub returns-then-id-clause-on : goal.returns-then-id-clause-on
 returns-then-id-clause-on g c =
     let here = c.loop-index.index in
     let inside : here < length c.args.chain.now = omega arith in
-    let there = met c.args.id (elements c.args.chain.now) here c.id.result c.id.ensures (eq-eqb c.id.result c.args.id c.if-id.true) c.loop-index.invariant.unmet in
+    let there = found_at c.args.id (elements c.args.chain.now) here c.id.result c.id.ensures (eq-eqb c.id.result c.args.id c.if-id.true) c.loop-index.invariant.unmet in
     ((inside, c.loop-index.invariant.on inside), there.0)
 
 pub returns-then-id-clause-others : goal.returns-then-id-clause-others
-returns-then-id-clause-others g c = (met c.args.id (elements c.args.chain.now) c.loop-index.index c.id.result c.id.ensures (eq-eqb c.id.result c.args.id c.if-id.true) c.loop-index.invariant.unmet).1
+returns-then-id-clause-others g c = (found_at c.args.id (elements c.args.chain.now) c.loop-index.index c.id.result c.id.ensures (eq-eqb c.id.result c.args.id c.if-id.true) c.loop-index.invariant.unmet).1
 
 pub loop-index-preserved : goal.loop-index-preserved
 loop-index-preserved g c =

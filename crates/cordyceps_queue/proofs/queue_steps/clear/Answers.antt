@@ -1,13 +1,13 @@
 use Rattle.std.proofs.Common.{◌∷◌, Option, None, refl, sym, ap, ◌∙◌, subst, rules}
 use Rattle.cordyceps_queue.specs.declared.queue_table.Filled.{Filled}
-use Rattle.cordyceps_queue.specs.QueueMeets.{IsAt}
+use Rattle.cordyceps_queue.specs.QueueMeets.{ItemAt}
 use Rattle.cordyceps_queue.proofs.QueueEnqueuing.{clears}
 use Rattle.cordyceps_queue.proofs.queue_steps.clear.Goals as goal
 
 pub overflow_add-room : goal.overflow_add-room
 overflow_add-room g c =
     let r = c.requires.room in
-    let near = c.requires.rest.4 0 c.args.room (subst (λ l. IsAt l 0 c.args.room) (sym r.1) refl) in
+    let near = c.requires.rest.4 0 c.args.room (subst (λ l. ItemAt l 0 c.args.room) (sym r.1) refl) in
     let t = c.requires.table in search rules
 
 pub store-requires : goal.store-requires
@@ -15,7 +15,7 @@ store-requires g c =
     let r = c.requires.room in
     let i = c.requires.item in
     let q = c.requires.rest in
-    let near = q.4 0 c.args.room (subst (λ l. IsAt l 0 c.args.room) (sym r.1) refl) in
+    let near = q.4 0 c.args.room (subst (λ l. ItemAt l 0 c.args.room) (sym r.1) refl) in
     let t = c.requires.table in (search rules, search rules, clears _ _ _ _ c.args.room r.0 _ c.args._item.now refl i q.0 q.1 r.1 q.3)
 
 pub returns-clause-cleared : goal.returns-clause-cleared

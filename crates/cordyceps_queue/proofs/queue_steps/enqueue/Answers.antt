@@ -1,5 +1,5 @@
 use Rattle.std.proofs.Common.{suc, sym, refl, ◌∙◌, subst}
-use Rattle.cordyceps_queue.specs.QueueMeets.{IsAt}
+use Rattle.cordyceps_queue.specs.QueueMeets.{ItemAt}
 use Rattle.cordyceps_queue.proofs.QueueEnqueuing.{enqueued}
 use Rattle.cordyceps_queue.proofs.queue_steps.enqueue.Goals as goal
 
@@ -13,7 +13,7 @@ returns-clause-rest g c =
       c.link.ensures.rest.1,
       c.link.ensures.rest.2,
       λ e. q.3 (sym (c.link.ensures.sees.share ∙ (swapped.sees.share ∙ cleared.sees.share)) ∙ e),
-      λ i r ir. q.4 (suc i) r (subst (λ l. IsAt l (suc i) r) (sym cleared.free) (subst (λ l. IsAt l i r) free ir)),
+      λ i r ir. q.4 (suc i) r (subst (λ l. ItemAt l (suc i) r) (sym cleared.free) (subst (λ l. ItemAt l i r) free ir)),
     )
 
 pub returns-clause-sees : goal.returns-clause-sees

@@ -1,5 +1,5 @@
 use Rattle.std.proofs.Common.{sym, refl, ◌∙◌, subst, rules}
-use Rattle.cordyceps_queue.specs.QueueMeets.{IsAt}
+use Rattle.cordyceps_queue.specs.QueueMeets.{ItemAt}
 use Rattle.cordyceps_queue.proofs.Basics.{at_more}
 use Rattle.cordyceps_queue.proofs.QueueConsuming.{gives_right}
 use Rattle.cordyceps_queue.proofs.queue_steps.give.Goals as goal
@@ -20,7 +20,7 @@ pub returns-clause-rest : goal.returns-clause-rest
 returns-clause-rest g c =
     let q = c.requires.holding in
     let b = c.store.ensures.2 c.args.tail q.0 in
-    (b.0, b.1, b.3, (λ e. q.2 (sym b.4.share ∙ e)), λ i r a. q.3 i r (subst (λ l. IsAt l i r) b.2 a))
+    (b.0, b.1, b.3, (λ e. q.2 (sym b.4.share ∙ e)), λ i r a. q.3 i r (subst (λ l. ItemAt l i r) b.2 a))
 
 pub returns-clause-answer : goal.returns-clause-answer
 returns-clause-answer g c = c.store.ensures.2 c.args.tail c.requires.holding.0

@@ -2,7 +2,7 @@ use Rattle.std.proofs.Common.{◌≡◌, ◌-◌, [], ◌∷◌, Some, sym, refl
 use Rattle.atomic_table.specs.Table.{rest}
 use Rattle.cordyceps_queue.specs.declared.queue_table.Filled.{Filled}
 use Rattle.cordyceps_queue.specs.QueueHistory.{Event}
-use Rattle.cordyceps_queue.specs.QueueRule.{filled}
+use Rattle.cordyceps_queue.specs.QueueRule.{full_slot}
 use Rattle.cordyceps_queue.specs.QueueView.{name}
 use Rattle.cordyceps_queue.proofs.Basics.{at_more}
 use Rattle.cordyceps_queue.proofs.QueueConsuming.{looks}
@@ -21,7 +21,7 @@ exchange-full-requires g c =
     let l = c.load-next.ensures.2 c.args.tail q.0 c.requires.real in
     let h = l.1 (c.load-next.result - 1) (pred_suc c.load-next.result c.if-next-eq0.false) in
     let t = c.requires.table in
-    let full : Filled g.row.E.Denot = filled c.args.tail h.0 in
+    let full : Filled g.row.E.Denot = full_slot c.args.tail h.0 in
     (search rules, (_, h.4 ∙ ap (λ z. (c.args.tail, Some full) ∷ rest z) (sym h.4)))
 
 pub unreachable-requires : goal.unreachable-requires
@@ -29,7 +29,7 @@ unreachable-requires g c =
     let q = c.requires.holding in
     let l = c.load-next.ensures.2 c.args.tail q.0 c.requires.real in
     let h = l.1 (c.load-next.result - 1) (pred_suc c.load-next.result c.if-next-eq0.false) in
-    let full : Filled g.row.E.Denot = filled c.args.tail h.0 in
+    let full : Filled g.row.E.Denot = full_slot c.args.tail h.0 in
     let y = c.exchange-full.ensures in
     let came : c.exchange-full.result ≡ Some full = ap (hand_of full) (sym y.2 ∙ h.4) in
     let none = c.in_default.is in absurd (cc)
@@ -40,7 +40,7 @@ returns-clause-answer g c =
     let q = c.requires.holding in
     let l = c.load-next.ensures.2 c.args.tail q.0 c.requires.real in
     let h = l.1 (c.load-next.result - 1) (pred_suc c.load-next.result c.if-next-eq0.false) in
-    let full : Filled E = filled c.args.tail h.0 in
+    let full : Filled E = full_slot c.args.tail h.0 in
     let y = c.exchange-full.ensures in
     let came : c.exchange-full.result ≡ Some full = ap (hand_of full) (sym y.2 ∙ h.4) in
     let is : full ≡ c.in-Some.full = ap (some_or full) (sym came ∙ c.in-Some.is) in

@@ -1,9 +1,9 @@
 use Rattle.std.proofs.Common.{◌<◌, ◌∷◌, [], Some, sym, ap, ◌∙◌, subst, rules}
 use Rattle.atomic_table.specs.Table.{rest}
-use Rattle.cordyceps_queue.specs.declared.place.Place.TheVariants.{Cleared, Swapped}
+use Rattle.cordyceps_queue.specs.declared.place.Stage.TheVariants.{Cleared, Swapped}
 use Rattle.cordyceps_queue.specs.QueueHistory.{Event}
 use Rattle.cordyceps_queue.specs.QueuePlays.{Sees}
-use Rattle.cordyceps_queue.specs.QueueRule.{filled}
+use Rattle.cordyceps_queue.specs.QueueRule.{full_slot}
 use Rattle.cordyceps_queue.specs.QueueView.{View, name}
 use Rattle.cordyceps_queue.proofs.QueueEnqueuing.{swaps}
 use Rattle.cordyceps_queue.proofs.queue_steps.swap_in.Goals as goal
@@ -17,7 +17,7 @@ swap-requires g c =
     let cs = rest c.args.seat.now.me.1 in
     let ready = ap (λ m. m.0.place) x ∙ (c.requires.place.0 ∙ ap Cleared is) in
     let item = ap (λ m. m.0.item) x ∙ c.requires.place.1 in
-    let hand = ap (λ m. m.1) x ∙ (λ i. (room, Some (filled (is i) c.args.full.item)) ∷ cs) in
+    let hand = ap (λ m. m.1) x ∙ (λ i. (room, Some (full_slot (is i) c.args.full.item)) ∷ cs) in
     let near = subst (λ n. n < c.args.words.now.table_id.slots) is c.requires.near.0 in
     (search rules, search rules, swaps _ _ _ room c.args.full.item cs ready item hand near (λ e. c.requires.near.1 (sym (ap (λ m. m.0.known.share) x) ∙ e)))
 
@@ -29,7 +29,7 @@ returns-clause-swapped g c =
     let cs = rest c.args.seat.now.me.1 in
     let ready = ap (λ m. m.0.place) x ∙ (c.requires.place.0 ∙ ap Cleared is) in
     let item = ap (λ m. m.0.item) x ∙ c.requires.place.1 in
-    let hand = ap (λ m. m.1) x ∙ (λ i. (room, Some (filled (is i) c.args.full.item)) ∷ cs) in
+    let hand = ap (λ m. m.1) x ∙ (λ i. (room, Some (full_slot (is i) c.args.full.item)) ∷ cs) in
     let s = c.swap.ensures.2 room c.args.full.item cs ready item hand in record {
       place = s.0 ∙ ap (λ r. Swapped r c.swap.result) c.room-room.ensures;
       free = s.1 ∙ ap (λ m. m.0.free) x;

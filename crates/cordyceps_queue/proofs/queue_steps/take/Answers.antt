@@ -1,7 +1,7 @@
 use Rattle.std.proofs.Common.{ℕ, List, sym, ap, ◌∙◌, subst, rules}
 use mathlib.Core.Option.{none}
 use Rattle.atomic_table.specs.Table.{step}
-use Rattle.cordyceps_queue.specs.QueueMeets.{IsAt}
+use Rattle.cordyceps_queue.specs.QueueMeets.{ItemAt}
 use Rattle.cordyceps_queue.specs.QueuePlays.{carry}
 use Rattle.cordyceps_queue.proofs.QueueConsuming.{takes_right}
 use Rattle.cordyceps_queue.proofs.QueueHolding.{takes_by}
@@ -13,7 +13,7 @@ swap-requires g c =
     let t = c.requires.table in (
       search rules,
       search rules,
-      takes_right _ _ _ (q.2 ∙ ap (λ (l : List ℕ). carry l) (sym q.1)) (λ i r a. absurd (subst (λ l. IsAt l i r) q.1 a)) q.3 q.0,
+      takes_right _ _ _ (q.2 ∙ ap (λ (l : List ℕ). carry l) (sym q.1)) (λ i r a. absurd (subst (λ l. ItemAt l i r) q.1 a)) q.3 q.0,
     )
 
 pub returns-clause-took : goal.returns-clause-took

@@ -1,5 +1,5 @@
 use Rattle.std.proofs.Common.{[]}
-use Rattle.cordyceps_queue.specs.declared.place.Place.TheVariants.{PutSwap, PutLink, PutRead}
+use Rattle.cordyceps_queue.specs.declared.place.Stage.TheVariants.{PutSwap, PutLink, PutRead}
 use Rattle.cordyceps_queue.proofs.QueueHolding.{at_place, stands_then}
 use Rattle.cordyceps_queue.proofs.queue_stub.put_stub.Goals as goal
 

@@ -1,8 +1,8 @@
 use Rattle.std.proofs.Common.{[], ◌∷◌, sym, subst}
 use Rattle.cordyceps_queue.specs.QueueHistory.{Event}
-use Rattle.cordyceps_queue.specs.QueuePlays.{HandsOut}
+use Rattle.cordyceps_queue.specs.QueuePlays.{HandsOneOut}
 use Rattle.cordyceps_queue.specs.QueueView.{name}
-use Rattle.cordyceps_queue.specs.declared.place.Place.TheVariants.{Null}
+use Rattle.cordyceps_queue.specs.declared.place.Stage.TheVariants.{Null}
 use Rattle.cordyceps_queue.proofs.QueueHolding.{at_place, tries_then}
 use Rattle.cordyceps_queue.proofs.queue_tries.advance.Goals as goal
 
@@ -11,7 +11,7 @@ returns-in-Some-clause-answer g c =
     let E = g.row.E.Denot in
     let look : Event _ E = Event.Look (name c.args.seat.now.me.0) in
     let a = c.in-Some.ensures.answer in
-    subst (λ q. HandsOut (look ∷ []) c.args.words.now.table_id.slots q c.in-Some.next c.in-Some.full.item c.args.seat.now.me c.look.new.seat.me) (sym a.0) a.1
+    subst (λ q. HandsOneOut (look ∷ []) c.args.words.now.table_id.slots q c.in-Some.next c.in-Some.full.item c.args.seat.now.me c.look.new.seat.me) (sym a.0) a.1
 
 pub at_end-requires-clause-place : goal.at_end-requires-clause-place
 at_end-requires-clause-place g c =

@@ -1,5 +1,5 @@
 use Rattle.std.proofs.Common.{[]}
-use Rattle.cordyceps_queue.specs.declared.place.Place.TheVariants.{PutClear, PutRead}
+use Rattle.cordyceps_queue.specs.declared.place.Stage.TheVariants.{PutClear, PutRead}
 use Rattle.cordyceps_queue.proofs.QueueHolding.{at_place, stands_then, tries_then, tries_blocked}
 use Rattle.cordyceps_queue.proofs.queue_tries.at_end.Goals as goal
 

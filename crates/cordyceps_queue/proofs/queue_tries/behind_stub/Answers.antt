@@ -1,5 +1,5 @@
 use Rattle.std.proofs.Common.{◌-◌, []}
-use Rattle.cordyceps_queue.specs.declared.place.Place.TheVariants.{Null}
+use Rattle.cordyceps_queue.specs.declared.place.Stage.TheVariants.{Null}
 use Rattle.cordyceps_queue.proofs.QueueHolding.{pred_suc, hands_taken, at_place, tries_then}
 use Rattle.cordyceps_queue.proofs.queue_tries.behind_stub.Goals as goal
 

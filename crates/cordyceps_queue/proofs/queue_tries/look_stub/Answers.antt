@@ -1,7 +1,7 @@
 use Rattle.std.proofs.Common.{◌-◌, [], ◌∷◌}
 use Rattle.cordyceps_queue.specs.QueueHistory.{Event}
 use Rattle.cordyceps_queue.specs.QueueView.{name}
-use Rattle.cordyceps_queue.specs.declared.place.Place.TheVariants.{StubNull, Second}
+use Rattle.cordyceps_queue.specs.declared.place.Stage.TheVariants.{StubNull, Second}
 use Rattle.cordyceps_queue.specs.declared.queue_table.Tried.TheVariants.{Empty, Inconsistent}
 use Rattle.cordyceps_queue.proofs.QueueHolding.{pred_suc, at_place, tries_then, tries_blocked, tries_empty}
 use Rattle.cordyceps_queue.proofs.queue_tries.look_stub.Goals as goal

@@ -1,5 +1,5 @@
 use Rattle.std.proofs.Common.{[], ◌∷◌, ◌++◌, ap, ◌∙◌, subst}
-use Rattle.cordyceps_queue.specs.QueueCalls.{Takes}
+use Rattle.cordyceps_queue.specs.QueueCalls.{AsksRight}
 use Rattle.cordyceps_queue.specs.QueueHistory.{Event}
 use Rattle.cordyceps_queue.specs.QueueView.{name}
 use Rattle.cordyceps_queue.proofs.QueueHolding.{pred_suc, tries_holding, whole_try}
@@ -16,11 +16,11 @@ returns-then-right-eq0-clause-table g c = c.take-right.ensures.table
 
 pub returns-then-right-eq0-clause-rest : goal.returns-then-right-eq0-clause-rest
 returns-then-right-eq0-clause-rest g c =
-    let took = subst (λ n. Takes c.args.words.now.table_id.slots n c.args.seat.now.me c.take-right.new.seat.me) c.if-right-eq0.true c.take-right.ensures.took in took.0
+    let took = subst (λ n. AsksRight c.args.words.now.table_id.slots n c.args.seat.now.me c.take-right.new.seat.me) c.if-right-eq0.true c.take-right.ensures.took in took.0
 
 pub returns-then-right-eq0-clause-answer : goal.returns-then-right-eq0-clause-answer
 returns-then-right-eq0-clause-answer g c =
-    let took = subst (λ n. Takes c.args.words.now.table_id.slots n c.args.seat.now.me c.take-right.new.seat.me) c.if-right-eq0.true c.take-right.ensures.took in
+    let took = subst (λ n. AsksRight c.args.words.now.table_id.slots n c.args.seat.now.me c.take-right.new.seat.me) c.if-right-eq0.true c.take-right.ensures.took in
     (took.1.2 ∙ ap (λ l. l ++ c.args.seat.now.me.0.free) c.requires.rest.1, took.1.4)
 
 pub advance-tail-requires-clause-table : goal.advance-tail-requires-clause-table
@@ -28,7 +28,7 @@ advance-tail-requires-clause-table g c = (c.take-right.ensures.table ∙ c.requi
 
 pub advance-tail-requires-clause-holding : goal.advance-tail-requires-clause-holding
 advance-tail-requires-clause-holding g c =
-    let took = subst (λ n. Takes c.args.words.now.table_id.slots n c.args.seat.now.me c.take-right.new.seat.me) (pred_suc c.take-right.result c.if-right-eq0.false) c.take-right.ensures.took in took.0
+    let took = subst (λ n. AsksRight c.args.words.now.table_id.slots n c.args.seat.now.me c.take-right.new.seat.me) (pred_suc c.take-right.result c.if-right-eq0.false) c.take-right.ensures.took in took.0
 
 pub give-requires-clause-table : goal.give-requires-clause-table
 give-requires-clause-table g c = (c.advance-tail.ensures.table ∙ (c.take-right.ensures.table ∙ c.requires.table.0), c.requires.table.1)
@@ -46,5 +46,5 @@ returns-clause-rest g c = c.give.ensures.rest
 pub returns-clause-answer : goal.returns-clause-answer
 returns-clause-answer g c =
     let slots = c.args.words.now.table_id.slots in
-    let took = subst (λ n. Takes slots n c.args.seat.now.me c.take-right.new.seat.me) (pred_suc c.take-right.result c.if-right-eq0.false) c.take-right.ensures.took in
+    let took = subst (λ n. AsksRight slots n c.args.seat.now.me c.take-right.new.seat.me) (pred_suc c.take-right.result c.if-right-eq0.false) c.take-right.ensures.took in
     whole_try slots _ c.advance-tail.result.0 c.args.seat.now.me c.take-right.new.seat.me c.advance-tail.new.seat.me c.give.new.seat.me c.advance-tail.result.1 c.requires.rest took.1 c.advance-tail.ensures.answer c.give.ensures.answer

@@ -1,17 +1,17 @@
 use Rattle.std.proofs.Common.{◌≡◌, ◌+◌, ◌++◌, map, length}
-use Rattle.cordyceps_stack.specs.TransferMeets.{elements}
-use Rattle.cordyceps_stack.specs.TransferPlays.{IsWalking, batch_of}
+use Rattle.cordyceps_stack.specs.TransferMeets.{room_elements}
+use Rattle.cordyceps_stack.specs.TransferPlays.{IsWalking, to_hand_out}
 use Rattle.cordyceps_stack.specs.TransferWords.{start}
 use Rattle.cordyceps_stack.proofs.transfer_parts.hand_out.Given as goal
 
 abbrev pub invariant-loop-at : goal.invariant-loop-at
 invariant-loop-at g l =
-    let batch = batch_of l.seat.me.0.doing in
-    let all = batch_of l.initial.seat.me.0.doing in
+    let batch = to_hand_out l.seat.me.0.doing in
+    let all = to_hand_out l.initial.seat.me.0.doing in
     (l.seat.table_id ≡ l.initial.seat.table_id) × IsWalking l.seat.table_id.slots batch l.seat.me × (l.at ≡ start batch) × (l.tickets ≡ l.seat.me.0.free)
     × (l.seat.me.0.known ≡ l.initial.seat.me.0.known)
-    × (l.batch ++ map g.T.Linked.element (elements batch) ≡ map g.T.Linked.element (elements all))
+    × (l.batch ++ map g.T.Linked.element (room_elements batch) ≡ map g.T.Linked.element (room_elements all))
     × (length l.seat.me.0.free + length batch ≡ length l.initial.seat.me.0.free + length all)
 
 abbrev pub decreases-loop-at : goal.decreases-loop-at
-decreases-loop-at g l = length (batch_of l.seat.me.0.doing)
+decreases-loop-at g l = length (to_hand_out l.seat.me.0.doing)

@@ -41,8 +41,8 @@ use Rattle.core.proofs.alloc.Calls.{token}
 use Rattle.std_alloc.proofs.VecSteps.Shapes.{after}
 use Rattle.std_alloc.proofs.BoxSteps.Form.{Bx, args, X, R}
 use Rattle.std_alloc.proofs.RcSteps.{word}
-use Rattle.cordyceps_base.specs.Boxes.{places, values}
-use Rattle.cordyceps_base.specs.BoxesLends.{with_value}
+use Rattle.cordyceps_base.specs.Boxes.{box_addresses, box_values}
+use Rattle.cordyceps_base.specs.BoxesLends.{with_box_value}
 use Rattle.cordyceps_base.proofs.Memory.{Br, Pr, Row, Held, Mark, Found, at_index, row_take, row_put, word_had, place-Good}
 use Rattle.cordyceps_base.specs.contracts.boxes.Boxes.get_mut.Key.{name as #self}
 use Rattle.cordyceps_base.proofs.boxes.Boxes.get_mut.Statement as stated
@@ -53,7 +53,7 @@ module _ (E : Bx) where
   function = inst_fn (args E) code.function
 
   abbrev Asks : (Br E).Denot → Pr.Denot → ℕ → Type 0
-  Asks d at k = slice_get (places d.blocks) k ≡ Some at.ptr
+  Asks d at k = slice_get (box_addresses d.blocks) k ≡ Some at.ptr
 
   abbrev ended : Ended
   ended = record { signature = record { lifetimes = 1; outlives = []; params = RefMutOf (0 ∷ []) tt (plain (λ _. Br E)) (λ _. tt) ∷ plain (λ _. Pr) ∷ plain (λ _. usize) ∷ []; result = RefMutOf (0 ∷ []) tt (plain (λ _. R E)) (λ _. tt) }; kept = (no, (yes, (yes, tt))) }
@@ -62,10 +62,10 @@ module _ (E : Bx) where
   stayed = (stay_dropped (mut_ref_to (0 ∷ []) tt (plain (λ _. Br E))) no, (stay_dropped (plain (λ _. Pr)) yes, (stay_dropped (plain (λ _. usize)) yes, tt)))
 
   abbrev Gives : (Br E).Denot → ℕ → MutBor (X E) → Type 0
-  Gives d k r = slice_get (values d.blocks) k ≡ Some r.now
+  Gives d k r = slice_get (box_values d.blocks) k ≡ Some r.now
 
   abbrev spec : {M : Type 1} {𝓤 : Ura M} (𝓛 : Logic 𝓤) → Clauses 𝓤 ended
-  spec {𝓤 = 𝓤} 𝓛 κs a = record { ghost = Unit {0}; requires = λ _. fact 𝓤 (Asks a.0.now a.1.0 a.1.1.0); ensures = λ _ r w. sep 𝓤 (sem 𝓛 (follows (Br E) (R E) a.0.ghost_name r.ghost_name (with_value a.0.now a.1.1.0))) (fact 𝓤 (Gives a.0.now a.1.1.0 r)) }
+  spec {𝓤 = 𝓤} 𝓛 κs a = record { ghost = Unit {0}; requires = λ _. fact 𝓤 (Asks a.0.now a.1.0 a.1.1.0); ensures = λ _ r w. sep 𝓤 (sem 𝓛 (follows (Br E) (R E) a.0.ghost_name r.ghost_name (with_box_value a.0.now a.1.1.0))) (fact 𝓤 (Gives a.0.now a.1.1.0 r)) }
 
 module _ (E : Bx) {M : Type 1} {𝓤 : Ura M} (𝓛 : Logic 𝓤) (C : Calls 𝓤 𝓛.H) (Λ : Loops 𝓤 𝓛.H) (κ : Lft) (q : Share) (rb ro : ℕ) (γ : GName) (d : (Br E).Denot) (at : Pr.Denot) (k : ℕ) (ps us vs : List Val) where
   open 𝓛 use {H, A}
@@ -80,7 +80,7 @@ module _ (E : Bx) {M : Type 1} {𝓤 : Ura M} (𝓛 : Logic 𝓤) (C : Calls �
   Post = (walk_of 𝓛 (ended E) (stayed E) (spec E 𝓛)).post bound
 
   abbrev new : X E → (Br E).Denot
-  new = with_value d k
+  new = with_box_value d k
 
   module _ (found : Found d.blocks k at.ptr) (ws : List Val) (b o : ℕ) where
     -- all but the value

@@ -1,8 +1,8 @@
 use Rattle.std.proofs.Common.{◌-◌, take, drop, ap, ◌∙◌, sym, subst}
-use Rattle.cordyceps_base.specs.Nodes.{shown}
+use Rattle.cordyceps_base.specs.Nodes.{nodes_of}
 use Rattle.cordyceps_base.specs.DoubleChain.{IsLinked}
 use Rattle.cordyceps_base.proofs.DoubleChain.{behind_within, behind_front, behind_back}
-use Rattle.cordyceps_base.proofs.Nodes.{at_place, shown-take, shown-drop}
+use Rattle.cordyceps_base.proofs.Nodes.{at_place, nodes_of-take, nodes_of-drop}
 use Rattle.cordyceps_base.proofs.double_chain.DoubleChain.cut_behind.Goals as goal
 
 pub get-requires : goal.get-requires
@@ -26,4 +26,4 @@ invariant_of-rest g c =
 pub returns : goal.returns
 returns g c =
     let ns = c.self.inside.boxes.blocks in let k = c.args.k in
-    (ap shown c.cut-front.ensures.0 ∙ shown-take k ns ∙ ap (take k) c.self.view_is, ap shown c.cut-front.ensures.1 ∙ shown-drop k ns ∙ ap (drop k) c.self.view_is)
+    (ap nodes_of c.cut-front.ensures.0 ∙ nodes_of-take k ns ∙ ap (take k) c.self.view_is, ap nodes_of c.cut-front.ensures.1 ∙ nodes_of-drop k ns ∙ ap (drop k) c.self.view_is)

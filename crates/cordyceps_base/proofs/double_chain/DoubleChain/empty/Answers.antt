@@ -1,5 +1,5 @@
 use Rattle.std.proofs.Common.{refl, sym, ap, subst}
-use Rattle.cordyceps_base.specs.Nodes.{shown}
+use Rattle.cordyceps_base.specs.Nodes.{nodes_of}
 use Rattle.cordyceps_base.specs.DoubleChain.{IsLinked}
 use Rattle.cordyceps_base.proofs.double_chain.DoubleChain.empty.Goals as goal
 
@@ -7,4 +7,4 @@ pub invariant_of-result : goal.invariant_of-result
 invariant_of-result g c = subst (IsLinked c.nowhere.result.ptr c.nowhere-2.result.ptr 0) (sym c.empty.ensures) (refl, tt, tt)
 
 pub returns : goal.returns
-returns g c = ap shown c.empty.ensures
+returns g c = ap nodes_of c.empty.ensures

@@ -3,7 +3,7 @@ use Rattle.std.specs.Prelude.{◌≡◌, slice_get, Some}
 use Rattle.cordyceps_base.specs.Element.{values}
 use Rattle.cordyceps_base.specs.Nodes.{elements, with_item}
 use Rattle.cordyceps_base.proofs.DoubleChain.{linked_keep}
-use Rattle.cordyceps_base.proofs.Nodes.{at_place, item_on, shown-item}
+use Rattle.cordyceps_base.proofs.Nodes.{at_place, item_on, nodes_of-item}
 use Rattle.cordyceps_base.proofs.double_chain.DoubleChain.get_mut.Goals as goal
 
 pub get_mut-block-requires : goal.get_mut-block-requires
@@ -16,6 +16,6 @@ invariant_of-self-lent g c =
 pub returns : goal.returns
 returns g c =
     let ns = c.self.inside.boxes.blocks in let k = c.args.k in let b = c.get_mut-block.result.now in (
-      (refl, λ w. shown-item ns k b w c.get_mut-block.ensures.value ∙ ap (λ v. with_item v k w) c.self.view_is),
+      (refl, λ w. nodes_of-item ns k b w c.get_mut-block.ensures.value ∙ ap (λ v. with_item v k w) c.self.view_is),
       record { writes_back = tt; value = subst (λ v. slice_get (values (elements v)) k ≡ Some b.value) c.self.view_is (item_on ns k b c.get_mut-block.ensures.value) },
     )

@@ -1,5 +1,5 @@
 use Rattle.std.proofs.Common.{[], ◌∷◌, ap, ◌∙◌, refl, sym, subst}
-use Rattle.cordyceps_base.specs.Nodes.{element_of, shown}
+use Rattle.cordyceps_base.specs.Nodes.{block_element, nodes_of}
 use Rattle.cordyceps_base.specs.DoubleChain.{IsLinked}
 use Rattle.cordyceps_base.proofs.double_chain.DoubleChain.one.Goals as goal
 
@@ -9,4 +9,4 @@ invariant_of-result g c = let place = c.one-boxes.result.0.ptr in subst (IsLinke
 pub returns : goal.returns
 returns g c =
     let place = c.one-boxes.result.0.ptr in
-    (place, ap shown c.one-boxes.ensures ∙ (λ i. (place, element_of (c.of.ensures i)) ∷ []) ∙ (λ i. (place, c.node.view_is i) ∷ []))
+    (place, ap nodes_of c.one-boxes.ensures ∙ (λ i. (place, block_element (c.of.ensures i)) ∷ []) ∙ (λ i. (place, c.node.view_is i) ∷ []))

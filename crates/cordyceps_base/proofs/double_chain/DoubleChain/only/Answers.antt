@@ -1,5 +1,5 @@
 use Rattle.std.proofs.Common.{[], ◌∷◌, length, ap, ◌∙◌, sym}
-use Rattle.cordyceps_base.specs.Nodes.{element_of, shown}
+use Rattle.cordyceps_base.specs.Nodes.{block_element, nodes_of}
 use Rattle.cordyceps_base.proofs.DoubleChain.{single}
 use Rattle.cordyceps_base.proofs.double_chain.DoubleChain.only.Goals as goal
 
@@ -8,4 +8,4 @@ only-requires g c = let i = c.self.inside in single i.head.ptr i.tail.ptr i.len 
 
 pub returns : goal.returns
 returns g c =
-    let place = c.self.inside.head.ptr in (place, sym c.self.view_is ∙ ap shown c.only.ensures ∙ (λ i. (place, element_of (sym c.into_box.ensures i)) ∷ []))
+    let place = c.self.inside.head.ptr in (place, sym c.self.view_is ∙ ap nodes_of c.only.ensures ∙ (λ i. (place, block_element (sym c.into_box.ensures i)) ∷ []))

@@ -1,20 +1,20 @@
 use Rattle.std.proofs.Common.{◌≡◌, [], ◌∷◌, ◌++◌, length, take, slice_get, Some, ap, ◌∙◌, sym, subst, arith}
 use Rattle.core.specs.Option.{option_or}
-use Rattle.cordyceps_base.specs.Boxes.{values}
-use Rattle.cordyceps_base.specs.Nodes.{shown}
+use Rattle.cordyceps_base.specs.Boxes.{box_values}
+use Rattle.cordyceps_base.specs.Nodes.{nodes_of}
 use Rattle.cordyceps_base.specs.SingleChain.{IsParted}
-use Rattle.cordyceps_base.proofs.Nodes.{length-shown, shown-append}
+use Rattle.cordyceps_base.proofs.Nodes.{length-nodes_of, nodes_of-append}
 use Rattle.cordyceps_base.proofs.SingleChain.{some_first, moved_on, first_shown}
 use Rattle.cordyceps_base.proofs.single_chain.Cursor.moved.Goals as goal
 
 pub unwrap-here-requires : goal.unwrap-here-requires
 unwrap-here-requires g c =
-    let i = c.self.inside in let long = ap (λ v. length v.rest) c.self.view_is in some_first i.at i.rest.blocks c.self.invariant.2 (omega (arith, long, length-shown i.rest.blocks))
+    let i = c.self.inside in let long = ap (λ v. length v.rest) c.self.view_is in some_first i.at i.rest.blocks c.self.invariant.2 (omega (arith, long, length-nodes_of i.rest.blocks))
 
 pub invariant_of-result : goal.invariant_of-result
 invariant_of-result g c =
     let i = c.self.inside in let cut = c.cut-first.ensures in let b = c.get.result.now in
-    let moved = moved_on i.head i.at i.before.ptr i.tail.ptr i.front.blocks i.rest.blocks c.unwrap-here.result b c.self.invariant c.unwrap-here.ensures (subst (λ ns. slice_get (values ns) 0 ≡ Some b) cut.0 c.get.ensures) in
+    let moved = moved_on i.head i.at i.before.ptr i.tail.ptr i.front.blocks i.rest.blocks c.unwrap-here.result b c.self.invariant c.unwrap-here.ensures (subst (λ ns. slice_get (box_values ns) 0 ≡ Some b) cut.0 c.get.ensures) in
     let front = c.join.ensures ∙ ap (λ l. i.front.blocks ++ l) cut.0 in
     subst (λ h. IsParted h c.unwrap-here.result.ptr b.links.next i.tail.ptr c.join.result.blocks c.cut-first.result.1.blocks) (sym c.or.ensures)
     (subst (λ l. IsParted (option_or i.head i.at) c.unwrap-here.result.ptr b.links.next i.tail.ptr l c.cut-first.result.1.blocks) (sym front)
@@ -22,8 +22,8 @@ invariant_of-result g c =
 
 pub returns : goal.returns
 returns g c =
-    let i = c.self.inside in let cut = c.cut-first.ensures in let first = first_shown i.rest.blocks c.get.result.now (subst (λ ns. slice_get (values ns) 0 ≡ Some c.get.result.now) cut.0 c.get.ensures) in (
+    let i = c.self.inside in let cut = c.cut-first.ensures in let first = first_shown i.rest.blocks c.get.result.now (subst (λ ns. slice_get (box_values ns) 0 ≡ Some c.get.result.now) cut.0 c.get.ensures) in (
       first.0,
-      ap (λ v. v.rest) (sym c.self.view_is) ∙ first.1 ∙ ap (λ l. first.0 ∷ shown l) (sym cut.1),
-      ap shown c.join.ensures ∙ shown-append i.front.blocks c.cut-first.result.0.blocks ∙ ap (λ l. shown i.front.blocks ++ shown l) cut.0 ∙ ap (λ l. shown i.front.blocks ++ l) first.2 ∙ ap (λ v. v.before ++ first.0 ∷ []) c.self.view_is,
+      ap (λ v. v.rest) (sym c.self.view_is) ∙ first.1 ∙ ap (λ l. first.0 ∷ nodes_of l) (sym cut.1),
+      ap nodes_of c.join.ensures ∙ nodes_of-append i.front.blocks c.cut-first.result.0.blocks ∙ ap (λ l. nodes_of i.front.blocks ++ nodes_of l) cut.0 ∙ ap (λ l. nodes_of i.front.blocks ++ l) first.2 ∙ ap (λ v. v.before ++ first.0 ∷ []) c.self.view_is,
     )

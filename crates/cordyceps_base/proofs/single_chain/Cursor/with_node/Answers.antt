@@ -1,29 +1,29 @@
 use Rattle.std.proofs.Common.{[], ◌∷◌, ◌++◌, Some, ap, ◌∙◌, sym, subst}
-use Rattle.cordyceps_base.specs.declared.boxes.Place.{Place}
-use Rattle.cordyceps_base.specs.Nodes.{element_of, shown}
-use Rattle.cordyceps_base.specs.SingleChain.{Owned, EndsAt, IsParted, relinked}
-use Rattle.cordyceps_base.proofs.Nodes.{shown-append}
-use Rattle.cordyceps_base.proofs.SingleChain.{joined_behind, ends_with, ends_here, shown-relinked, is_none, is_not_none}
+use Rattle.cordyceps_base.specs.declared.boxes.Address.{Address}
+use Rattle.cordyceps_base.specs.Nodes.{block_element, nodes_of}
+use Rattle.cordyceps_base.specs.SingleChain.{OwnedNode, EndsAt, IsParted, relinked}
+use Rattle.cordyceps_base.proofs.Nodes.{nodes_of-append}
+use Rattle.cordyceps_base.proofs.SingleChain.{joined_behind, ends_with, ends_here, nodes_of-relinked, is_none, is_not_none}
 use Rattle.cordyceps_base.proofs.single_chain.Cursor.with_node.Goals.{then-is_none, else-is_none}
 use Rattle.cordyceps_base.proofs.single_chain.Cursor.with_node.Goals as goal
 
 pub returns-then-is_none-2 : goal.returns-then-is_none-2
 returns-then-is_none-2 g c =
     let i = c.self.inside in let place = c.one-new.result.0.ptr in
-    let node = ap element_of c.of.ensures ∙ ap element_of c.deref_mut.ensures.value ∙ c.node.view_is in
-    let new = ap shown c.one-new.ensures ∙ (λ j. (place, node j) ∷ []) in let front = ap (λ v. v.before) c.self.view_is in (
+    let node = ap block_element c.of.ensures ∙ ap block_element c.deref_mut.ensures.value ∙ c.node.view_is in
+    let new = ap nodes_of c.one-new.ensures ∙ (λ j. (place, node j) ∷ []) in let front = ap (λ v. v.before) c.self.view_is in (
       place,
-      ap shown c.join.ensures ∙ shown-append i.front.blocks c.one-new.result.2.blocks ∙ (λ j. front j ++ new j),
+      ap nodes_of c.join.ensures ∙ nodes_of-append i.front.blocks c.one-new.result.2.blocks ∙ (λ j. front j ++ new j),
       ap (λ v. v.rest) c.self.view_is,
     )
 
 pub invariant_of-result-2 : goal.invariant_of-result-2
 invariant_of-result-2 g c =
-    let i = c.self.inside in let place = c.one-new.result.0 in let n : Owned g.row.T.Denot g.row.K.Denot = (place.ptr, c.one-new.result.1, c.of.result.value) in let front = relinked i.front.blocks (Some place) in let f = c.self.invariant in
+    let i = c.self.inside in let place = c.one-new.result.0 in let n : OwnedNode g.row.T.Denot g.row.K.Denot = (place.ptr, c.one-new.result.1, c.of.result.value) in let front = relinked i.front.blocks (Some place) in let f = c.self.invariant in
     let ends : EndsAt (front ++ n ∷ [] ++ i.rest.blocks) c.if-is_none.tail.ptr =
     elim c.if-is_none.branch [
-      | then-is_none w ↦ subst (λ (p : Place). EndsAt (front ++ n ∷ [] ++ i.rest.blocks) p.ptr) (sym w.tail-is) (ends_here i.at front i.rest.blocks n f.2 (is_none i.at w.if-is_none.ensures))
-      | else-is_none w ↦ subst (λ (p : Place). EndsAt (front ++ n ∷ [] ++ i.rest.blocks) p.ptr) (sym w.tail-is) (ends_with i.at i.tail.ptr i.front.blocks front i.rest.blocks n f.2 f.3 (is_not_none i.at w.if-is_none.ensures))
+      | then-is_none w ↦ subst (λ (p : Address). EndsAt (front ++ n ∷ [] ++ i.rest.blocks) p.ptr) (sym w.tail-is) (ends_here i.at front i.rest.blocks n f.2 (is_none i.at w.if-is_none.ensures))
+      | else-is_none w ↦ subst (λ (p : Address). EndsAt (front ++ n ∷ [] ++ i.rest.blocks) p.ptr) (sym w.tail-is) (ends_with i.at i.tail.ptr i.front.blocks front i.rest.blocks n f.2 f.3 (is_not_none i.at w.if-is_none.ensures))
     ] in
     subst (λ l. IsParted i.head place.ptr i.at c.if-is_none.tail.ptr l i.rest.blocks) (sym (c.join-2.ensures ∙ (λ j. c.with_last_link.ensures j ++ c.one-new.ensures j)))
     (joined_behind i.head i.at i.before.ptr i.tail.ptr c.if-is_none.tail.ptr i.front.blocks i.rest.blocks n f (is_not_none i.head c.if-is_none-2.ensures) (ap (λ x. x.links.next) c.of.ensures) ends)
@@ -31,10 +31,10 @@ invariant_of-result-2 g c =
 pub returns : goal.returns
 returns g c =
     let i = c.self.inside in let place = c.one-new.result.0.ptr in
-    let node = ap element_of c.of.ensures ∙ ap element_of c.deref_mut.ensures.value ∙ c.node.view_is in
-    let new = ap shown c.one-new.ensures ∙ (λ j. (place, node j) ∷ []) in
-    let front = ap shown c.with_last_link.ensures ∙ shown-relinked i.front.blocks (Some c.one-new.result.0) ∙ ap (λ v. v.before) c.self.view_is in (
+    let node = ap block_element c.of.ensures ∙ ap block_element c.deref_mut.ensures.value ∙ c.node.view_is in
+    let new = ap nodes_of c.one-new.ensures ∙ (λ j. (place, node j) ∷ []) in
+    let front = ap nodes_of c.with_last_link.ensures ∙ nodes_of-relinked i.front.blocks (Some c.one-new.result.0) ∙ ap (λ v. v.before) c.self.view_is in (
       place,
-      ap shown c.join-2.ensures ∙ shown-append c.with_last_link.result.blocks c.one-new.result.2.blocks ∙ (λ j. front j ++ new j),
+      ap nodes_of c.join-2.ensures ∙ nodes_of-append c.with_last_link.result.blocks c.one-new.result.2.blocks ∙ (λ j. front j ++ new j),
       ap (λ v. v.rest) c.self.view_is,
     )

@@ -1,5 +1,5 @@
 use Rattle.std.proofs.Common.{None, refl, sym, ap, subst}
-use Rattle.cordyceps_base.specs.Nodes.{shown}
+use Rattle.cordyceps_base.specs.Nodes.{nodes_of}
 use Rattle.cordyceps_base.specs.SingleChain.{IsParted}
 use Rattle.cordyceps_base.proofs.single_chain.SingleChain.into_cursor.Goals as goal
 
@@ -9,4 +9,4 @@ invariant_of-result g c =
     subst (λ l. IsParted None c.nowhere.result.ptr i.head i.tail.ptr l i.boxes.blocks) (sym c.empty.ensures) (refl, tt, c.self.invariant.0, c.self.invariant.1)
 
 pub returns : goal.returns
-returns g c = (ap shown c.empty.ensures, c.self.view_is)
+returns g c = (ap nodes_of c.empty.ensures, c.self.view_is)

@@ -1,8 +1,8 @@
 use Rattle.std.proofs.Common.{◌++◌, ap, ◌∙◌, sym, subst}
-use Rattle.cordyceps_base.specs.Nodes.{shown}
+use Rattle.cordyceps_base.specs.Nodes.{nodes_of}
 use Rattle.cordyceps_base.specs.SingleChain.{IsLine, relinked}
-use Rattle.cordyceps_base.proofs.Nodes.{shown-append}
-use Rattle.cordyceps_base.proofs.SingleChain.{line_join, shown-relinked, some_nodes}
+use Rattle.cordyceps_base.proofs.Nodes.{nodes_of-append}
+use Rattle.cordyceps_base.proofs.SingleChain.{line_join, nodes_of-relinked, some_nodes}
 use Rattle.cordyceps_base.proofs.single_chain.SingleChain.join.Goals as goal
 
 pub invariant_of-result-2 : goal.invariant_of-result-2
@@ -14,4 +14,4 @@ invariant_of-result-2 g c =
 pub returns : goal.returns
 returns g c =
     let xs = c.self.inside.boxes.blocks in let ys = c.other.inside.boxes.blocks in let next = c.other.inside.head in
-    ap shown c.join.ensures ∙ ap (λ l. shown (l ++ ys)) c.with_last_link.ensures ∙ shown-append (relinked xs next) ys ∙ (λ i. shown-relinked xs next i ++ shown ys) ∙ (λ i. c.self.view_is i ++ c.other.view_is i)
+    ap nodes_of c.join.ensures ∙ ap (λ l. nodes_of (l ++ ys)) c.with_last_link.ensures ∙ nodes_of-append (relinked xs next) ys ∙ (λ i. nodes_of-relinked xs next i ++ nodes_of ys) ∙ (λ i. c.self.view_is i ++ c.other.view_is i)

@@ -1,5 +1,5 @@
 use Rattle.std.proofs.Common.{[], ◌∷◌, Some, ap, ◌∙◌, refl, sym, subst}
-use Rattle.cordyceps_base.specs.Nodes.{element_of, shown}
+use Rattle.cordyceps_base.specs.Nodes.{block_element, nodes_of}
 use Rattle.cordyceps_base.specs.SingleChain.{IsLine}
 use Rattle.cordyceps_base.proofs.single_chain.SingleChain.one.Goals as goal
 
@@ -11,5 +11,5 @@ pub returns : goal.returns
 returns g c =
     let place = c.one-boxes.result.0.ptr in (
       place,
-      ap shown c.one-boxes.ensures ∙ (λ i. (place, element_of (c.of.ensures i)) ∷ []) ∙ (λ i. (place, element_of (c.deref_mut.ensures.value i)) ∷ []) ∙ (λ i. (place, c.node.view_is i) ∷ []),
+      ap nodes_of c.one-boxes.ensures ∙ (λ i. (place, block_element (c.of.ensures i)) ∷ []) ∙ (λ i. (place, block_element (c.deref_mut.ensures.value i)) ∷ []) ∙ (λ i. (place, c.node.view_is i) ∷ []),
     )

@@ -1,5 +1,5 @@
 use Rattle.std.proofs.Common.{[], ◌∷◌, length, ap, ◌∙◌, sym}
-use Rattle.cordyceps_base.specs.Nodes.{element_of, shown}
+use Rattle.cordyceps_base.specs.Nodes.{block_element, nodes_of}
 use Rattle.cordyceps_base.proofs.SingleChain.{single}
 use Rattle.cordyceps_base.proofs.single_chain.SingleChain.only.Goals as goal
 
@@ -8,4 +8,4 @@ only-requires g c = let i = c.self.inside in single i.tail.ptr i.boxes.blocks c.
 
 pub returns : goal.returns
 returns g c =
-    let place = c.self.inside.tail.ptr in (place, sym c.self.view_is ∙ ap shown c.only.ensures ∙ (λ i. (place, element_of (sym c.into_box.ensures i)) ∷ []))
+    let place = c.self.inside.tail.ptr in (place, sym c.self.view_is ∙ ap nodes_of c.only.ensures ∙ (λ i. (place, block_element (sym c.into_box.ensures i)) ∷ []))

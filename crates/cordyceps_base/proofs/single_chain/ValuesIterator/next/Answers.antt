@@ -1,5 +1,5 @@
 use Rattle.std.proofs.Common.{ap, ◌∙◌, sym}
-use Rattle.cordyceps_base.specs.SingleChain.{contents}
+use Rattle.cordyceps_base.specs.SingleChain.{values_in}
 use Rattle.cordyceps_base.proofs.SingleChain.{first_at, no_first}
 use Rattle.cordyceps_base.proofs.single_chain.ValuesIterator.next.Goals as goal
 
@@ -8,4 +8,4 @@ get-block-requires g c = first_at c.self.inside.next c.self.inside.rest.now.bloc
 
 pub returns-in-None-clause-steps : goal.returns-in-None-clause-steps
 returns-in-None-clause-steps g c =
-    let none = sym c.self.view_is ∙ ap contents (no_first c.self.inside.next c.self.inside.rest.now.blocks c.self.invariant c.in-None.is) in (none, none)
+    let none = sym c.self.view_is ∙ ap values_in (no_first c.self.inside.next c.self.inside.rest.now.blocks c.self.invariant c.in-None.is) in (none, none)

@@ -1,6 +1,6 @@
 use Rattle.std.proofs.Common.{Some, refl, ap, sym, ◌∙◌}
 use Rattle.std.specs.Prelude.{is_some}
-use Rattle.cordyceps_queue.specs.declared.place.Place.TheVariants.{Holding, Second, PutRead}
+use Rattle.cordyceps_queue.specs.declared.place.Stage.TheVariants.{Holding, Second, PutRead}
 use Rattle.cordyceps_queue.proofs.Reading.{within_of}
 use Rattle.cordyceps_queue.proofs.Standing.{swapped_within, put_link_within, tail_within, holding_full, second_full, put_read_full}
 use Rattle.cordyceps_queue.proofs.machine.Machine.act.Goals as goal

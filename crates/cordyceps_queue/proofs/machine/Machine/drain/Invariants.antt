@@ -1,5 +1,5 @@
 use Rattle.std.proofs.Common.{◌≡◌, ℕ, ◌+◌, ◌-◌, ◌≤◌, ◌⊎◌, List, Some, length, slice_get, vec_capacity}
-use Rattle.cordyceps_queue.specs.declared.place.Place.TheVariants.{Holding}
+use Rattle.cordyceps_queue.specs.declared.place.Stage.TheVariants.{Holding}
 use Rattle.cordyceps_queue.specs.QueueCore.{CoreMeets}
 use Rattle.cordyceps_queue.specs.QueueDrained.{drained}
 use Rattle.cordyceps_queue.specs.QueueHistory.{Event, held}

@@ -1,6 +1,6 @@
 use Rattle.std.proofs.Common.{◌≡◌, Some, Ok, ap, sym, ◌∙◌, subst}
 use Rattle.std.specs.Prelude.{slice_get}
-use Rattle.cordyceps_queue.specs.declared.place.Place.TheVariants.{Rest}
+use Rattle.cordyceps_queue.specs.declared.place.Stage.TheVariants.{Rest}
 use Rattle.cordyceps_queue.specs.declared.steps.QueueStep.TheVariants as step
 use Rattle.cordyceps_queue.specs.declared.steps.QueueAnswer.TheVariants as answer
 use Rattle.cordyceps_queue.specs.QueueMachine.{stepped}

@@ -2,10 +2,10 @@ use Rattle.std.proofs.Common.{◌≡◌}
 use Rattle.std.specs.Prelude.{Err}
 use Rattle.cordyceps_queue.specs.declared.steps.TryDequeueError.TheVariants as error
 use Rattle.cordyceps_queue.specs.QueueStanding.{IsSame, Consumes}
-use Rattle.cordyceps_queue.proofs.QueueWaiting.{Trying}
+use Rattle.cordyceps_queue.proofs.QueueWaiting.{FailedTries}
 use Rattle.cordyceps_queue.proofs.owned_consumer.OwnedConsumer.dequeue.Given as goal
 
 abbrev pub invariant-loop : goal.invariant-loop
 invariant-loop g l =
     ((goal.iterator-loop g).can_next l.iterator' × (goal.iterator-loop g).is_finite l.iterator')
-    × (l.self.queue ≡ l.initial.self.queue) × IsSame l.initial.self.party l.self.party × Trying (Consumes (Err error.Inconsistent)) l.initial.self.party l.self.party
+    × (l.self.queue ≡ l.initial.self.queue) × IsSame l.initial.self.party l.self.party × FailedTries (Consumes (Err error.Inconsistent)) l.initial.self.party l.self.party

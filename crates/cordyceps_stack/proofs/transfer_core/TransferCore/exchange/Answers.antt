@@ -1,6 +1,6 @@
 use Rattle.std.proofs.Common.{◌≡◌, ap, sym, ◌∙◌}
 use Rattle.std.specs.Prelude.{slice_get, Some}
-use Rattle.cordyceps_stack.specs.declared.transfer_place.Place.TheVariants.{Set}
+use Rattle.cordyceps_stack.specs.declared.transfer_place.Stage.TheVariants.{Set}
 use Rattle.cordyceps_stack.specs.TransferMachine.{Machine}
 use Rattle.cordyceps_stack.proofs.TransferSound.{sound_push, sound_fail, set_room, element_at}
 use Rattle.cordyceps_stack.proofs.transfer_core.TransferCore.exchange.Goals as goal

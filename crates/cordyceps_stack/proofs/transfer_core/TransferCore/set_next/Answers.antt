@@ -1,7 +1,7 @@
 use Rattle.std.proofs.Common.{◌≡◌, ◌<◌, length, arith, ap, ◌∙◌}
 use Rattle.std.specs.Prelude.{slice_get, Some}
 use Rattle.std.proofs.lemmas.Option.{slice_get_within}
-use Rattle.cordyceps_stack.specs.declared.transfer_place.Place.TheVariants.{Loaded}
+use Rattle.cordyceps_stack.specs.declared.transfer_place.Stage.TheVariants.{Loaded}
 use Rattle.cordyceps_stack.specs.TransferMachine.{Machine}
 use Rattle.cordyceps_stack.proofs.TransferSound.{sound_set_next, loaded_room, element_at}
 use Rattle.cordyceps_stack.proofs.transfer_core.TransferCore.set_next.Goals as goal

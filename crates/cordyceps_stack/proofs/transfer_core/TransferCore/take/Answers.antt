@@ -1,6 +1,6 @@
 use Rattle.std.proofs.Common.{◌≡◌, ap, ◌∙◌}
 use Rattle.std.specs.Prelude.{slice_get, Some}
-use Rattle.cordyceps_stack.specs.declared.transfer_place.Place.TheVariants.{Rest}
+use Rattle.cordyceps_stack.specs.declared.transfer_place.Stage.TheVariants.{Rest}
 use Rattle.cordyceps_stack.specs.TransferMachine.{Machine}
 use Rattle.cordyceps_stack.proofs.TransferSound.{sound_take}
 use Rattle.cordyceps_stack.proofs.transfer_core.TransferCore.take.Goals as goal

@@ -1,6 +1,6 @@
 use Rattle.std.proofs.Common.{◌≡◌, ◌+◌, ◌<◌, ◌≤◌, length, ap, sym, ◌∙◌, subst, arith, ◌++◌, ◌∷◌, []}
 use Rattle.std.specs.Prelude.{slice_get, None, Some, vec_len, vec_capacity}
-use Rattle.cordyceps_stack.specs.declared.transfer_place.Place.TheVariants.{Rest}
+use Rattle.cordyceps_stack.specs.declared.transfer_place.Stage.TheVariants.{Rest}
 use Rattle.cordyceps_stack.specs.TransferHistory.{Taken}
 use Rattle.cordyceps_stack.specs.TransferMachine.{Machine, occupied}
 use Rattle.cordyceps_stack.proofs.TransferAlone.{at_rest}

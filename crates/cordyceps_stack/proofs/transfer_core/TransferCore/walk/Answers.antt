@@ -1,7 +1,7 @@
 use Rattle.std.proofs.Common.{◌≡◌, ◌<◌, length, arith, ap, sym, ◌∙◌}
 use Rattle.std.specs.Prelude.{slice_get, Some, None}
 use Rattle.std.proofs.lemmas.Option.{slice_get_within}
-use Rattle.cordyceps_stack.specs.declared.transfer_place.Place.TheVariants.{Walking}
+use Rattle.cordyceps_stack.specs.declared.transfer_place.Stage.TheVariants.{Walking}
 use Rattle.cordyceps_stack.specs.TransferMachine.{Machine}
 use Rattle.cordyceps_stack.proofs.TransferSound.{sound_walk, walking_room, element_at}
 use Rattle.cordyceps_stack.proofs.transfer_core.TransferCore.walk.Goals as goal

@@ -1,13 +1,13 @@
 use Rattle.std.proofs.Common.{◌∙◌, subst}
 use Rattle.cordyceps_stack.specs.TransferCalls.{standing}
-use Rattle.cordyceps_stack.specs.TransferMeets.{elements}
-use Rattle.cordyceps_stack.specs.TransferPlays.{batch_of}
+use Rattle.cordyceps_stack.specs.TransferMeets.{room_elements}
+use Rattle.cordyceps_stack.specs.TransferPlays.{to_hand_out}
 use Rattle.cordyceps_stack.specs.TransferStanding.{Takes}
 use Rattle.cordyceps_stack.proofs.TransferStanding.{takes}
 use Rattle.cordyceps_stack.proofs.transfer_stack.TransferStack.take_all.Goals as goal
 
 pub returns : goal.returns
 returns g c =
-    let batch = elements (batch_of c.take-at.new.seat.me.0.doing) in
+    let batch = room_elements (to_hand_out c.take-at.new.seat.me.0.doing) in
     let t = takes c.party.inside.seat.table_id c.hand_out.new.seat.table_id _ _ c.party.inside.seat.me c.take-at.new.seat.me c.hand_out.new.seat.me c.take-at.ensures.took c.hand_out.ensures.seat (c.hand_out.ensures.table ∙ c.take-at.ensures.table) in
     (batch, c.hand_out.ensures.stack, subst (λ u. Takes batch u (standing c.hand_out.new.seat.table_id c.hand_out.new.seat.me.0)) c.party.view_is t)
