@@ -1,14 +1,14 @@
 -- Blocked histories are the same, read from either end.
 use Rattle.std.proofs.Common.{◌≡◌, ℕ, suc, ◌+◌, ◌-◌, ◌<◌, List, [], ◌∷◌, ◌++◌, length, reverse, refl, ap, sym, ◌∙◌, subst, inl, inr, arith}
 use Rattle.std.proofs.lemmas.List.{reverse-reverse}
-use Rattle.cordyceps_queue.specs.QueueHistory as told
-use Rattle.cordyceps_queue.specs.QueueHistory.{Event, Swap, Link, Take, Busy, Look, Out, Empty, Free, one_if_dec, swaps_by, links_by, looks_by}
-use Rattle.cordyceps_queue.specs.QueuePast as past
-use Rattle.cordyceps_queue.specs.QueuePast.{IsOpen, HasLooked}
-use Rattle.cordyceps_queue.proofs.Basics.{open_from}
-use Rattle.cordyceps_queue.proofs.Counts.{swaps_by-reverse, links_by-reverse, looks_by-reverse}
+use Rattle.cordyceps_queue.specs.History as told
+use Rattle.cordyceps_queue.specs.History.{Event, Swap, Link, Take, Busy, Look, Out, Empty, Free, one_if_dec, swaps_by, links_by, looks_by}
+use Rattle.cordyceps_queue.specs.Past as past
+use Rattle.cordyceps_queue.specs.Past.{IsOpen, HasLooked}
+use Rattle.cordyceps_queue.proofs.CoreTheory.Basics.{open_from}
+use Rattle.cordyceps_queue.proofs.HistoryEnds.{swaps_by-reverse, links_by-reverse, looks_by-reverse}
 use Rattle.cordyceps_queue.proofs.Legality.{one_same, one_other, came_of, went_of, front_legal, turned_split, turned_at, counts, settled_or_open, stood, stands, not_by}
-use Rattle.cordyceps_queue.proofs.Holder.{was_now}
+use Rattle.cordyceps_queue.proofs.CoreTheory.HolderSteps.{was_now}
 
 module _ {P E : Type 0} (same : Discrete P) where
   -- `h` has the oldest event first

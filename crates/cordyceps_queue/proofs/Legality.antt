@@ -2,12 +2,12 @@
 use Rattle.std.proofs.Common.{◌≡◌, ◌≢◌, ℕ, suc, ◌+◌, ◌⊎◌, List, [], ◌∷◌, ◌++◌, length, reverse, drop, refl, ap, sym, ◌∙◌, subst, inl, inr, append_assoc, append-nil, length-append, arith}
 use Rattle.std.proofs.lemmas.List.{reverse-append, reverse-reverse, append_cancel_left}
 use Rattle.std.proofs.Math.Seq.{drop-append_seam}
-use Rattle.cordyceps_queue.specs.QueueHistory as told
-use Rattle.cordyceps_queue.specs.QueueHistory.{Event, Swap, Link, Take, Busy, Look, Out, Empty, Free, one_if_dec, swaps_by, links_by, looks_by, IsPending, MayFollow}
-use Rattle.cordyceps_queue.specs.QueuePast as past
-use Rattle.cordyceps_queue.specs.QueuePast.{IsSettled, IsOpen, IsPendingAt, HasLooked, MayCome}
-use Rattle.cordyceps_queue.proofs.Counts.{reverse-cons, came-append, went-append, came-reverse, went-reverse, holder-reverse, swaps_by-append, links_by-append, swaps_by-reverse, links_by-reverse}
-use Rattle.cordyceps_queue.proofs.Runs.{in_order}
+use Rattle.cordyceps_queue.specs.History as told
+use Rattle.cordyceps_queue.specs.History.{Event, Swap, Link, Take, Busy, Look, Out, Empty, Free, one_if_dec, swaps_by, links_by, looks_by, IsPending, MayFollow}
+use Rattle.cordyceps_queue.specs.Past as past
+use Rattle.cordyceps_queue.specs.Past.{IsSettled, IsOpen, IsPendingAt, HasLooked, MayCome}
+use Rattle.cordyceps_queue.proofs.HistoryEnds.{reverse-cons, came-append, went-append, came-reverse, went-reverse, holder-reverse, swaps_by-append, links_by-append, swaps_by-reverse, links_by-reverse}
+use Rattle.cordyceps_queue.proofs.CoreTheory.NewMachines.{in_order}
 
 pub one_same : {A : Type 0} (d : Dec A) → A → one_if_dec d ≡ 1
 one_same (yes a) x = refl

@@ -3,14 +3,14 @@
 ghost use Rattle.std.specs.Prelude.{◌≡◌, ◌≤◌, ◌++◌, map, length, true, Ok};
 ghost use Rattle.cordyceps_shared.specs.Histories.{plain};
 ghost use Rattle.cordyceps_shared.specs.Shares.{whole};
-ghost use Rattle.cordyceps_queue.specs.QueueHistory.{held};
-ghost use Rattle.cordyceps_queue.specs.QueueLaws.{LegalBothWays, BlockedBothWays, WasBlockedBothWays, ProducersInOrder, OneHolder};
-ghost use Rattle.cordyceps_queue.specs.declared.steps.QueueAnswer.TheVariants as kinds;
+ghost use Rattle.cordyceps_queue.specs.History.{held};
+ghost use Rattle.cordyceps_queue.specs.Laws.{LegalBothWays, BlockedBothWays, WasBlockedBothWays, ProducersInOrder, OneHolder};
+ghost use Rattle.cordyceps_queue.specs.declared.cores.steps.QueueAnswer.TheVariants as kinds;
 
-use crate::batch::Batch;
-use crate::queue_core::QueueCore;
-use crate::shared_queue::{Closed, MpscQueue, Party};
-use crate::steps::{QueueAnswer, QueueStep};
+use crate::cores::calls::QueueCore;
+use crate::cores::steps::{QueueAnswer, QueueStep};
+use crate::shared::batch::Batch;
+use crate::shared::calls::{Closed, MpscQueue, Party};
 use cordyceps_base::linked::Linked;
 use cordyceps_base::mpsc_queue::Links;
 use cordyceps_base::shared::StepError;

@@ -1,11 +1,11 @@
 //! Queues with many producers and one consumer at a time.
-pub use crate::batch::Batch;
-pub use crate::consumer::Consumer;
-pub use crate::owned_consumer::OwnedConsumer;
-pub use crate::queue_core::QueueCore;
-pub use crate::replayed::Replay;
-pub use crate::replaying::replay;
-pub use crate::shared_queue::{Closed, MpscQueue, Party};
-pub use crate::steps::{QueueAnswer, QueueStep, TryDequeueError};
+pub use crate::cores::calls::QueueCore;
+pub use crate::cores::replay::replay;
+pub use crate::cores::replay_end::Replay;
+pub use crate::cores::steps::{QueueAnswer, QueueStep, TryDequeueError};
+pub use crate::shared::batch::Batch;
+pub use crate::shared::calls::{Closed, MpscQueue, Party};
+pub use crate::shared::consumer::Consumer;
+pub use crate::shared::owned_consumer::OwnedConsumer;
 pub use cordyceps_base::mpsc_queue::Links;
 pub use cordyceps_base::shared::{MAX_ROOMS, StepError};

@@ -2,11 +2,11 @@
 ghost use Rattle.std.specs.Prelude.{◌≡◌, ◌==◌, [], ◌∷◌, ◌++◌, length, MatchOption};
 ghost use Rattle.std.specs.Iterator.{YieldsFirstBy, item_count};
 
-pub use crate::replayed::Replay;
-pub use crate::replaying::replay;
-pub use crate::transfer_core::TransferCore;
-pub use crate::transfer_stack::{Party, TransferStack};
-pub use crate::transfer_step::{TransferAnswer, TransferStep};
+pub use crate::cores::calls::TransferCore;
+pub use crate::cores::replay::replay;
+pub use crate::cores::replay_end::Replay;
+pub use crate::cores::steps::{TransferAnswer, TransferStep};
+pub use crate::shared::calls::{Party, TransferStack};
 use cordyceps_base::linked::Linked;
 pub use cordyceps_base::shared::{MAX_ROOMS, StepError};
 use cordyceps_base::single_chain::SingleChain;

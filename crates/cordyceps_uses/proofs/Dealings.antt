@@ -9,9 +9,9 @@ use Rattle.cordyceps_shared.proofs.Adding.{plain_own}
 use Rattle.cordyceps_shared.proofs.Counting.{tally_append}
 use Rattle.cordyceps_shared.proofs.Interleaving.{tally_interleaved}
 use Rattle.cordyceps_shared.proofs.Owning.{own_adds, own_absorbed}
-use Rattle.cordyceps_stack.specs.TransferHistory.{Event, Load, Push, Taken, pushes, taken, held, Legal}
-use Rattle.cordyceps_stack.specs.TransferStanding.{PartyOf, Adds, PushesAt, Takes}
-use Rattle.cordyceps_stack.proofs.TransferHistories.{nothing_lost}
+use Rattle.cordyceps_stack.specs.History.{Event, Load, Push, Taken, pushes, taken, held, Legal}
+use Rattle.cordyceps_stack.specs.Shared.Calls.{PartyOf, Adds, PushesAt, Takes}
+use Rattle.cordyceps_stack.proofs.Histories.{nothing_lost}
 use Rattle.cordyceps_uses.specs.Dealings.{Deals}
 
 pub tally_reverse : {A : Type 0} (f : A → ℕ) (xs : List A) → tally f (reverse xs) ≡ tally f xs

@@ -4,9 +4,9 @@ use Rattle.cordyceps_shared.specs.Histories.{plain}
 use Rattle.cordyceps_shared.specs.Shares.{whole}
 use Rattle.cordyceps_shared.specs.Standings.{name_of}
 use Rattle.cordyceps_shared.proofs.Adding.{whole_adds}
-use Rattle.cordyceps_stack.specs.TransferHistory.{Load, Push, held, Legal}
-use Rattle.cordyceps_stack.specs.TransferStanding.{PartyOf, PushesAt}
-use Rattle.cordyceps_stack.proofs.TransferHistories.{held_from-append}
+use Rattle.cordyceps_stack.specs.History.{Load, Push, held, Legal}
+use Rattle.cordyceps_stack.specs.Shared.Calls.{PartyOf, PushesAt}
+use Rattle.cordyceps_stack.proofs.Histories.{held_from-append}
 
 pub held_pushed : {E : Type 0} (e : E) (first : Bool) (u w : PartyOf E) → u.share ≡ whole → PushesAt 1 e first u w → held (plain w.seen) ≡ held (plain u.seen) ++ e ∷ []
 held_pushed e first u w alone a =

@@ -7,8 +7,8 @@ use Rattle.cordyceps_shared.specs.Histories.{plain, own}
 use Rattle.cordyceps_shared.specs.Shares.{whole, joined}
 use Rattle.cordyceps_shared.specs.Standings.{new_party, keeping, giving, Absorbs}
 use Rattle.cordyceps_shared.proofs.Counting.{tally_append}
-use Rattle.cordyceps_stack.specs.TransferHistory.{Legal, held, pushes, taken}
-use Rattle.cordyceps_stack.specs.TransferStanding.{PartyOf, Takes}
+use Rattle.cordyceps_stack.specs.History.{Legal, held, pushes, taken}
+use Rattle.cordyceps_stack.specs.Shared.Calls.{PartyOf, Takes}
 use Rattle.cordyceps_uses.specs.Dealings.{Deals, Same}
 use Rattle.cordyceps_uses.specs.RunQueue.{ran, Worked}
 use Rattle.cordyceps_uses.specs.declared.run_queue.Job.{Job}

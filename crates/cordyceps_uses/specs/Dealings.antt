@@ -2,8 +2,8 @@
 use Rattle.std.specs.Prelude.{◌≡◌, ℕ, ◌+◌, List, length}
 use Rattle.cordyceps_shared.specs.Counts.{tally}
 use Rattle.cordyceps_shared.specs.Histories.{own}
-use Rattle.cordyceps_stack.specs.TransferHistory.{pushes, taken}
-use Rattle.cordyceps_stack.specs.TransferStanding.{PartyOf}
+use Rattle.cordyceps_stack.specs.History.{pushes, taken}
+use Rattle.cordyceps_stack.specs.Shared.Calls.{PartyOf}
 
 -- the same items, each as often: whatever f gives for each, its sums are the same
 abbrev pub Same : {A : Type 0} → List A → List A → Type 0

@@ -2,7 +2,7 @@
 use Rattle.std.specs.Prelude.{List, ◌++◌}
 use Rattle.atomic_table.specs.Seated.{TableId}
 use Rattle.cordyceps_base.specs.Element.{Element}
-use Rattle.cordyceps_stack.specs.TransferStanding.{PartyOf}
+use Rattle.cordyceps_stack.specs.Shared.Calls.{PartyOf}
 use Rattle.freelist.specs.Users.{CarriesOut, alone, closing}
 use Rattle.freelist.specs.declared.laws.Command.{Command}
 use Rattle.cordyceps_uses.specs.declared.pool.Block.{Block}

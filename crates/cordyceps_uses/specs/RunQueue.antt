@@ -1,7 +1,7 @@
 -- Jobs that were run, and what a worker did.
 use Rattle.std.specs.Prelude.{◌≡◌, ◌*◌, List, [], map}
 use Rattle.cordyceps_base.specs.Element.{Element}
-use Rattle.cordyceps_stack.specs.TransferStanding.{PartyOf}
+use Rattle.cordyceps_stack.specs.Shared.Calls.{PartyOf}
 use Rattle.cordyceps_uses.specs.Dealings.{Deals, Same}
 use Rattle.cordyceps_uses.specs.declared.run_queue.Job.{Job}
 

@@ -3,7 +3,7 @@
 ghost use Rattle.std.specs.Prelude.{◌≡◌, ◌<◌, ◌≤◌, [], ◌∷◌, ◌++◌, length, reverse, IfErr, IfOk, OnErr, OnOk};
 ghost use Rattle.cordyceps_shared.specs.Histories.{plain};
 ghost use Rattle.cordyceps_shared.specs.Shares.{whole};
-ghost use Rattle.cordyceps_stack.specs.TransferHistory.{held};
+ghost use Rattle.cordyceps_stack.specs.History.{held};
 ghost use Rattle.cordyceps_uses.specs.Tasks.{IsSchedule};
 
 use cordyceps::sorted_list::Least;

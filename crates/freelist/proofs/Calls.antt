@@ -5,8 +5,8 @@ use Rattle.cordyceps_base.specs.Element.{Element}
 use Rattle.cordyceps_shared.specs.Shares.{Name}
 use Rattle.cordyceps_shared.proofs.Adding.{adds_then}
 use Rattle.cordyceps_shared.proofs.Counting.{tally_append}
-use Rattle.cordyceps_stack.specs.TransferHistory.{Event, Load, Push, Taken, Legal, pushes, taken}
-use Rattle.cordyceps_stack.specs.TransferStanding.{PartyOf}
+use Rattle.cordyceps_stack.specs.History.{Event, Load, Push, Taken, Legal, pushes, taken}
+use Rattle.cordyceps_stack.specs.Shared.Calls.{PartyOf}
 use Rattle.freelist.specs.Blocks.{LocalOf}
 use Rattle.freelist.specs.Whereabouts.{Whereabouts, Call, Gets, Fetches, Puts, PutsRemote, HandsBack, Opens, Finishes, Splits, Joins, Idles, Gains, Loses, behind, Lacks, Does, Run, command_of, attempts, fetches}
 use Rattle.freelist.specs.Users.{firsts, seconds, BothCarryOut, UserOf, looks, takings, puts_of, gets_of, Acts, ActsLocally, ActInTurn, OnlyBlocks, whereabouts_after, CarriesOut, local_blocks, local_party, rooms_of}

@@ -8,8 +8,8 @@ use Rattle.cordyceps_shared.specs.Shares.{Name, whole, keeps_half, joined}
 use Rattle.cordyceps_shared.specs.Standings.{new_party, keeping, giving, Absorbs}
 use Rattle.cordyceps_shared.proofs.Adding.{plain_own}
 use Rattle.cordyceps_shared.proofs.Counting.{tally_append}
-use Rattle.cordyceps_stack.specs.TransferHistory.{Event, Load, Push, Taken, Legal, held, pushes, taken}
-use Rattle.cordyceps_stack.specs.TransferStanding.{PartyOf}
+use Rattle.cordyceps_stack.specs.History.{Event, Load, Push, Taken, Legal, held, pushes, taken}
+use Rattle.cordyceps_stack.specs.Shared.Calls.{PartyOf}
 use Rattle.freelist.specs.Whereabouts.{Call, Gains, Loses, command_of, gained, lost, SameBlocks, IsOf}
 use Rattle.freelist.specs.Users.{UserOf, alone, closing, own_sum, parties_of, whereabouts_after, CarriesOut, Life, all_parties, stories, EachOnce, Knows, Met, one, absorbed}
 use Rattle.freelist.specs.declared.laws.Command.{Command}

@@ -9,8 +9,8 @@ use Rattle.cordyceps_shared.proofs.Adding.{not_whole, plain_unmarked}
 use Rattle.cordyceps_shared.proofs.Counting.{tally_append}
 use Rattle.cordyceps_shared.proofs.Interleaving.{tally_interleaved}
 use Rattle.cordyceps_shared.proofs.Owning.{own_adds, own_absorbed}
-use Rattle.cordyceps_stack.specs.TransferHistory.{Event, Taken, Legal}
-use Rattle.cordyceps_stack.specs.TransferStanding.{PartyOf, Adds}
+use Rattle.cordyceps_stack.specs.History.{Event, Taken, Legal}
+use Rattle.cordyceps_stack.specs.Shared.Calls.{PartyOf, Adds}
 use Rattle.freelist.specs.Whereabouts.{behind}
 use Rattle.freelist.specs.Users.{Knows, AllKnow}
 

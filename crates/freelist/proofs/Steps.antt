@@ -9,8 +9,8 @@ use Rattle.cordyceps_shared.specs.Histories.{own}
 use Rattle.cordyceps_shared.specs.Shares.{Name, keeps_half, gives_half, joined, insert_name}
 use Rattle.cordyceps_shared.specs.Standings.{name_of, keeping, giving, Absorbs}
 use Rattle.cordyceps_shared.proofs.Owning.{own_split}
-use Rattle.cordyceps_stack.specs.TransferHistory.{Load, Push, Taken, Legal}
-use Rattle.cordyceps_stack.specs.TransferStanding.{PartyOf, PushesAt, Misses}
+use Rattle.cordyceps_stack.specs.History.{Load, Push, Taken, Legal}
+use Rattle.cordyceps_stack.specs.Shared.Calls.{PartyOf, PushesAt, Misses}
 use Rattle.freelist.specs.Blocks.{LocalOf, GivesFirst, GetsFrom}
 use Rattle.freelist.specs.Whereabouts.{Gets, Fetches, Puts, PutsRemote, HandsBack, Opens, Finishes, Splits, Joins, Idles, behind, Lacks}
 use Rattle.freelist.specs.Users.{UserOf, whereabouts_after, share_of, rooms_of, Divides, local_party, CarriesOut}

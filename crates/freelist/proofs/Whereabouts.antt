@@ -3,8 +3,8 @@ use Rattle.std.proofs.Common.{◌≡◌, ℕ, ◌+◌, List, [], ◌∷◌, ◌+
 use Rattle.std.proofs.lemmas.List.{reverse-append}
 use Rattle.cordyceps_shared.specs.Counts.{tally}
 use Rattle.cordyceps_shared.proofs.Counting.{tally_append}
-use Rattle.cordyceps_stack.specs.TransferHistory.{Event, held, taken}
-use Rattle.cordyceps_stack.proofs.TransferHistories.{nothing_lost}
+use Rattle.cordyceps_stack.specs.History.{Event, held, taken}
+use Rattle.cordyceps_stack.proofs.Histories.{nothing_lost}
 use Rattle.freelist.specs.Whereabouts.{Whereabouts, Call, Gets, Fetches, Puts, PutsRemote, HandsBack, Opens, Finishes, Splits, Joins, Idles, Gains, Loses, behind, Without, Does, Run, gained, lost, Story, IsOf, everywhere, at_start, at_end, all_gained, all_lost}
 
 module _ {B : Type 0} (f : B → ℕ) where

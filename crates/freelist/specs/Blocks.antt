@@ -1,7 +1,7 @@
 -- The blocks of a free list, and what its calls do to them.
 use Rattle.std.specs.Prelude.{◌≡◌, List, [], ◌∷◌, map, Option, Some, None}
 use Rattle.cordyceps_base.specs.Element.{Element}
-use Rattle.cordyceps_stack.specs.TransferStanding.{PartyOf, Takes}
+use Rattle.cordyceps_stack.specs.Shared.Calls.{PartyOf, Takes}
 
 -- what a contract sees of the local part: its blocks, the last put back first, and its party
 pub record LocalOf (T H : Type 0) : Type 0 where

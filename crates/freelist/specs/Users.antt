@@ -7,8 +7,8 @@ use Rattle.cordyceps_shared.specs.Counts.{tally}
 use Rattle.cordyceps_shared.specs.Histories.{plain, own, AllOwn}
 use Rattle.cordyceps_shared.specs.Shares.{Name, whole, keeps_half, gives_half}
 use Rattle.cordyceps_shared.specs.Standings.{new_party, keeping, giving, Absorbs}
-use Rattle.cordyceps_stack.specs.TransferHistory.{Event, Load, Push, Taken, Legal, held, pushes, taken}
-use Rattle.cordyceps_stack.specs.TransferStanding.{PartyOf, Adds}
+use Rattle.cordyceps_stack.specs.History.{Event, Load, Push, Taken, Legal, held, pushes, taken}
+use Rattle.cordyceps_stack.specs.Shared.Calls.{PartyOf, Adds}
 use Rattle.freelist.specs.Blocks.{LocalOf}
 use Rattle.freelist.specs.Whereabouts.{Whereabouts, Call, Run, behind, command_of, attempts, fetches, SameBlocks, Story, at_start, at_end, all_gained, all_lost}
 use Rattle.freelist.specs.declared.laws.Command.{Command}

@@ -1,7 +1,7 @@
 -- Where the blocks of a free list are, and what calls do to that: of one user, over a list of calls, and of all users.
 use Rattle.std.specs.Prelude.{◌≡◌, ◌≢◌, ℕ, suc, ◌+◌, ◌-◌, ◌<◌, ◌≤◌, List, [], ◌∷◌, ◌++◌, length, reverse, Option, Some, None, IsSome, ◌⊎◌}
 use Rattle.cordyceps_shared.specs.Counts.{tally}
-use Rattle.cordyceps_stack.specs.TransferHistory.{Event, Legal, held, pushes, taken}
+use Rattle.cordyceps_stack.specs.History.{Event, Legal, held, pushes, taken}
 use Rattle.freelist.specs.declared.laws.Command.{Command}
 use Rattle.freelist.specs.declared.laws.Command.TheVariants as kinds
 

@@ -3,8 +3,8 @@ ghost use Rattle.std.specs.Prelude.{◌≡◌, ◌<◌, ◌≤◌, [], map, reve
 ghost use Rattle.cordyceps_shared.specs.Histories.{plain};
 ghost use Rattle.cordyceps_shared.specs.Shares.{whole};
 ghost use Rattle.cordyceps_shared.specs.Standings.{new_party, keeping, giving, Absorbs};
-ghost use Rattle.cordyceps_stack.specs.TransferHistory.{held, Legal};
-ghost use Rattle.cordyceps_stack.specs.TransferStanding.{PushesAt, Misses};
+ghost use Rattle.cordyceps_stack.specs.History.{held, Legal};
+ghost use Rattle.cordyceps_stack.specs.Shared.Calls.{PushesAt, Misses};
 
 use crate::local::Local;
 use cordyceps_base::linked::Linked;

@@ -2,7 +2,7 @@
 ghost use Rattle.std.specs.Prelude.{◌≡◌, ◌≤◌, [], ◌∷◌, ◌++◌, map, reverse, List, None, IfOk};
 ghost use Rattle.cordyceps_shared.specs.Histories.{plain};
 ghost use Rattle.cordyceps_shared.specs.Shares.{whole};
-ghost use Rattle.cordyceps_stack.specs.TransferHistory.{held};
+ghost use Rattle.cordyceps_stack.specs.History.{held};
 ghost use Rattle.freelist.specs.Users.{alone, closing, CarriesOut, BothCarryOut, BothRun};
 ghost use Rattle.freelist.specs.Users.{Life, all_parties, Knows, Met, EachOnce};
 ghost use Rattle.freelist.specs.declared.laws.Command.TheVariants as kinds;

@@ -1,4 +1,4 @@
-use Rattle.cordyceps_queue.proofs.Both.{legal_both_ways, blocked_both_ways, was_blocked_both_ways}
+use Rattle.cordyceps_queue.proofs.BothWays.{legal_both_ways, blocked_both_ways, was_blocked_both_ways}
 use Rattle.cordyceps_queue.proofs.laws.both_ways.Goals as goal
 
 pub returns : goal.returns

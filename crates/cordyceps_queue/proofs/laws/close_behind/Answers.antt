@@ -1,8 +1,8 @@
 use Rattle.std.proofs.Common.{◌++◌, [], ◌∷◌, map, length, ap, sym, ◌∙◌, append_assoc, arith}
 use Rattle.std.proofs.lemmas.List.{append-nil, map-append}
 use Rattle.cordyceps_shared.specs.Histories.{plain}
-use Rattle.cordyceps_queue.specs.QueueHistory.{held}
-use Rattle.cordyceps_queue.proofs.QueueClosing.{holds_last}
+use Rattle.cordyceps_queue.specs.History.{held}
+use Rattle.cordyceps_queue.proofs.SharedTheory.CloseTakesAll.{holds_last}
 use Rattle.cordyceps_queue.proofs.laws.close_behind.Goals as goal
 
 pub loop-handle-preserved : goal.loop-handle-preserved

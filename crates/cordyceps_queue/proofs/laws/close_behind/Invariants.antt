@@ -1,7 +1,7 @@
 use Rattle.std.proofs.Common.{◌≡◌, ◌≤◌, ◌++◌, map, length}
 use Rattle.cordyceps_shared.specs.Histories.{plain}
 use Rattle.cordyceps_shared.specs.Shares.{whole}
-use Rattle.cordyceps_queue.specs.QueueHistory.{held}
+use Rattle.cordyceps_queue.specs.History.{held}
 use Rattle.cordyceps_queue.proofs.laws.close_behind.Given as goal
 
 abbrev pub invariant-loop-handle : goal.invariant-loop-handle

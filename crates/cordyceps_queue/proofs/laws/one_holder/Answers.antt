@@ -1,4 +1,4 @@
-use Rattle.cordyceps_queue.proofs.Ordering.{one_holder}
+use Rattle.cordyceps_queue.proofs.PartyOrder.{one_holder}
 use Rattle.cordyceps_queue.proofs.laws.one_holder.Goals as goal
 
 pub returns : goal.returns

@@ -1,4 +1,4 @@
-use Rattle.cordyceps_queue.proofs.Ordering.{producers_in_order}
+use Rattle.cordyceps_queue.proofs.PartyOrder.{producers_in_order}
 use Rattle.cordyceps_queue.proofs.laws.producers_in_order.Goals as goal
 
 pub returns : goal.returns

@@ -3,8 +3,8 @@ use Rattle.std.proofs.lemmas.List.{map-id}
 use Rattle.cordyceps_base.specs.Element.{Element}
 use Rattle.cordyceps_shared.specs.Histories.{plain}
 use Rattle.cordyceps_shared.specs.Standings.{keeping, giving}
-use Rattle.cordyceps_stack.specs.TransferHistory.{held}
-use Rattle.cordyceps_stack.specs.TransferStanding.{PartyOf}
+use Rattle.cordyceps_stack.specs.History.{held}
+use Rattle.cordyceps_stack.specs.Shared.Calls.{PartyOf}
 use Rattle.cordyceps_uses.specs.Dealings.{Deals, Same}
 use Rattle.cordyceps_uses.specs.RunQueue.{ran, Worked}
 use Rattle.cordyceps_uses.specs.declared.run_queue.Job.{Job}

@@ -1,7 +1,7 @@
 use Rattle.std.proofs.Common.{◌≡◌, ◌++◌, ◌∷◌, [], List, length, ap, sym, ◌∙◌, append_assoc, arith}
 use Rattle.cordyceps_base.specs.Element.{Element}
 use Rattle.cordyceps_shared.specs.Histories.{plain}
-use Rattle.cordyceps_stack.specs.TransferHistory.{held}
+use Rattle.cordyceps_stack.specs.History.{held}
 use Rattle.cordyceps_uses.specs.declared.tasks.Task.{Task}
 use Rattle.cordyceps_uses.proofs.Holding.{held_pushed}
 use Rattle.cordyceps_uses.proofs.tasks.push_all.Goals as goal

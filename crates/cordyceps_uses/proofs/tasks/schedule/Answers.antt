@@ -4,8 +4,8 @@ use Rattle.std.specs.Ordering.{nat_cmp}
 use Rattle.cordyceps_base.specs.Element.{Element}
 use Rattle.cordyceps_shared.specs.Histories.{plain}
 use Rattle.cordyceps_stack.specs.Arrangement.{StandsFor}
-use Rattle.cordyceps_stack.specs.TransferHistory.{held}
-use Rattle.cordyceps_stack.specs.TransferStanding.{PartyOf}
+use Rattle.cordyceps_stack.specs.History.{held}
+use Rattle.cordyceps_stack.specs.Shared.Calls.{PartyOf}
 use Rattle.cordyceps_uses.specs.declared.tasks.Task.{Task}
 use Rattle.cordyceps_uses.proofs.tasks.schedule.Goals as goal
 

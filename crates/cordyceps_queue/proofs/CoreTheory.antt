@@ -1,0 +1,26 @@
+-- Lemmas on the core.
+pub mod AbstractGrows
+pub mod AloneDequeue
+pub mod AloneDrain
+pub mod AloneEnqueue
+pub mod AloneTry
+pub mod AnyStep
+pub mod Basics
+pub mod ChainGrows
+pub mod ChainShrinks
+pub mod CoreGrows
+pub mod CoreKeeps
+pub mod DequeueSteps
+pub mod FreeRooms
+pub mod HeldCount
+pub mod HolderSteps
+pub mod ListWrites
+pub mod NewMachines
+pub mod OtherParties
+pub mod ProducerSteps
+pub mod Refusals
+pub mod RoomsAtStages
+pub mod Simulation
+pub mod SplitParties
+pub mod StubSteps
+pub mod TryGoesOn

@@ -1,0 +1,124 @@
+-- A party and a room more.
+use Rattle.std.proofs.Common.{◌≡◌, ℕ, List, [], Option, Some, None, refl, sym, ap, ◌∙◌, inl, inr, arith}
+use native.Mathlib.Decide.{ℕ_discrete}
+use Rattle.cordyceps_queue.specs.History.{Event}
+use Rattle.cordyceps_queue.specs.declared.cores.stage.Stage.{Stage}
+use Rattle.cordyceps_queue.specs.declared.cores.stage.Stage.TheVariants.{Rest, Cleared, Swapped, Holding, StubNull, Second, Null, PutClear, PutSwap, PutLink, PutRead}
+use Rattle.cordyceps_queue.specs.Cores.Abstract.{AbstractParty, AbstractMachine, update, insert_room, add_party, add_room}
+use Rattle.cordyceps_queue.specs.Cores.Meets.{Owner, Shared, Spare, Ready, Unmade, tail_of, Chain, OwnsRooms, Joined, IsStranger, AtStage, RightIs, Meets}
+use Rattle.cordyceps_queue.specs.Cores.StepKeeps.{AddsKeep}
+use Rattle.cordyceps_queue.proofs.CoreTheory.Basics.{some_inj, none_some, put_same, put_other, put_all}
+use Rattle.cordyceps_queue.proofs.CoreTheory.OtherParties.{joined_put, names_put, strange}
+use Rattle.cordyceps_queue.proofs.CoreTheory.ProducerSteps.{spare_unmade, ready_unmade, shared_unmade}
+use Rattle.cordyceps_queue.proofs.CoreTheory.ChainShrinks.{room_was, room_once}
+
+module _ {P E : Type 0} (m : AbstractMachine P E) (c : Chain) (h : List (Event P E)) (M : Meets m c h) (k : ℕ) where
+  module _ (name : P) (absent : m.party k ≡ None) (fresh : IsStranger m.party name) where
+    abbrev added_party : AbstractParty P
+    added_party = record { name = name; place = Rest; spare = [] }
+
+    abbrev parties : ℕ → Option (AbstractParty P)
+    parties = update m.party k (Some added_party)
+
+    still : (j : ℕ) (p : AbstractParty P) → m.party j ≡ Some p → parties j ≡ Some p
+    still j p e = put_other m.party k (Some added_party) j (λ s. none_some (sym absent ∙ ap m.party (sym s) ∙ e)) ∙ e
+
+    joined_still : (a b : ℕ) → Joined m.next m.party a b → Joined m.next parties a b
+    joined_still a b (inl l) = inl l
+    joined_still a b (inr o) = inr (o.0, (o.1.0, o.1.1, still o.1.0 o.1.1 o.1.2, o.1.3))
+
+    right_still : (keeper : Option ℕ) → RightIs m.right m.party c.rooms h keeper → RightIs m.right parties c.rooms h keeper
+    right_still None R = R
+    right_still (Some j) R = (R.0, R.1, R.2, still j R.1 R.3, R.4, R.5)
+
+    party_keeps : Meets (add_party m k name) c h
+    party_keeps = record {
+      legal = M.legal;
+      last = M.last;
+      ends = M.ends;
+      joined = λ i a b ia ib. joined_still a b (M.joined i a b ia ib);
+      once = M.once;
+      shared = M.shared;
+      stub = M.stub;
+      unmade = M.unmade;
+      holds = M.holds;
+      right = right_still c.keeper M.right;
+      fits = put_all (λ j q. AtStage m.head m.next m.cell c.owner c.keeper c.rooms h j q.name q.place) m.party k added_party (λ j q ne eq. M.fits j q eq) (M.strangers name fresh);
+      rooms = put_all (λ j q. OwnsRooms c.owner j q.spare) m.party k added_party (λ j q ne eq. M.rooms j q eq) (record { own = λ i r a. absurd a; once = λ i j r a b. absurd a });
+      names = λ i j x y ei ej. put_all (λ i x. x.name ≡ y.name → i ≡ j) m.party k added_party
+          (λ i x _ ei. put_all (λ j y. x.name ≡ y.name → i ≡ j) m.party k added_party (λ j y _ ej. M.names i j x y ei ej) (λ e. absurd (fresh i x ei e)) j y ej)
+          (put_all (λ j y. name ≡ y.name → k ≡ j) m.party k added_party (λ j y _ ej e. absurd (fresh j y ej (sym e))) (λ e. refl) j y ej)
+          i x ei;
+      strangers = λ n away. M.strangers n (λ j x e. away j x (still j x e));
+    }
+
+  module _ (p : AbstractParty P) (at : m.party k ≡ Some p) where
+    abbrev new_room : ℕ
+    new_room = m.count
+
+    abbrev owner' : ℕ → Owner
+    owner' = update c.owner new_room (Spare k)
+
+    abbrev roomier : AbstractParty P
+    roomier = record p { spare = insert_room new_room p.spare }
+
+    is_new : c.owner new_room ≡ Unmade
+    is_new = M.unmade new_room (omega arith)
+
+    kept_owner : (x : ℕ) (o : Owner) → c.owner x ≡ o → (o ≡ Unmade → ⊥) → owner' x ≡ o
+    kept_owner x o e ne = put_other c.owner new_room (Spare k) x (λ s. ne (sym e ∙ ap c.owner s ∙ is_new)) ∙ e
+
+    fits_still : (j : ℕ) (q : P) (place : Stage) → AtStage m.head m.next m.cell c.owner c.keeper c.rooms h j q place → AtStage m.head m.next m.cell owner' c.keeper c.rooms h j q place
+    fits_still j q Rest f = f
+    fits_still j q (Cleared x) f = (f.0, kept_owner x (Ready j) f.1 (λ e. ready_unmade refl e), f.2, f.3, f.4, f.5)
+    fits_still j q (Swapped x old) f = f
+    fits_still j q (Holding t) f = f
+    fits_still j q StubNull f = f
+    fits_still j q (Second t) f = f
+    fits_still j q (Null t) f = f
+    fits_still j q (PutClear t) f = f
+    fits_still j q (PutSwap t) f = f
+    fits_still j q (PutLink t old) f = f
+    fits_still j q (PutRead t) f = f
+
+    rooms_still : (j : ℕ) (s : List ℕ) → OwnsRooms c.owner j s → OwnsRooms owner' j s
+    rooms_still j s R = record { own = λ i x ix. kept_owner x (Spare j) (R.own i x ix) (λ e. spare_unmade refl e); once = R.once }
+
+    rooms_grow : OwnsRooms c.owner k p.spare → OwnsRooms owner' k (insert_room new_room p.spare)
+    rooms_grow R = record {
+      own = λ i x ix. elim (room_was new_room p.spare x i ix) [
+        | inl s ↦ ap owner' s ∙ put_same c.owner new_room (Spare k)
+        | inr w ↦ kept_owner x (Spare k) (R.own w.0 x w.1) (λ e. spare_unmade refl e)
+      ];
+      once = room_once new_room p.spare (λ i a. spare_unmade (R.own i new_room a) is_new) R.once;
+    }
+
+    right_kept : (keeper : Option ℕ) → RightIs m.right m.party c.rooms h keeper → RightIs m.right (update m.party k (Some roomier)) c.rooms h keeper
+    right_kept None R = R
+    right_kept (Some j) R = elim (ℕ_discrete j k) [
+      | yes same ↦
+          let e : R.1 ≡ p = some_inj (sym R.3 ∙ ap m.party same ∙ at) in
+          (R.0, roomier, R.2, ap (update m.party k (Some roomier)) same ∙ put_same m.party k (Some roomier), ap (λ (q : AbstractParty P). tail_of q.place) (sym e) ∙ R.4, R.5 ∙ ap (λ (q : AbstractParty P). Some q.name) e)
+      | no ne ↦ (R.0, R.1, R.2, put_other m.party k (Some roomier) j ne ∙ R.3, R.4, R.5)
+    ]
+
+    room_keeps : Meets (add_room m k p) (record c { owner = owner' }) h
+    room_keeps = record {
+      legal = M.legal;
+      last = M.last;
+      ends = M.ends;
+      joined = λ i a b ia ib. joined_put m.party k p roomier at m.next a b (λ o. o) (M.joined i a b ia ib);
+      once = M.once;
+      shared = λ i x ix. kept_owner x Shared (M.shared i x ix) (λ e. shared_unmade refl e);
+      stub = kept_owner 0 Shared M.stub (λ e. shared_unmade refl e);
+      unmade = λ x lt. put_other c.owner new_room (Spare k) x (λ s. absurd (omega arith)) ∙ M.unmade x (omega arith);
+      holds = M.holds;
+      right = right_kept c.keeper M.right;
+      fits = put_all (λ j q. AtStage m.head m.next m.cell owner' c.keeper c.rooms h j q.name q.place) m.party k roomier (λ j q ne eq. fits_still j q.name q.place (M.fits j q eq)) (fits_still k p.name p.place (M.fits k p at));
+      rooms = put_all (λ j q. OwnsRooms owner' j q.spare) m.party k roomier (λ j q ne eq. rooms_still j q.spare (M.rooms j q eq)) (rooms_grow (M.rooms k p at));
+      names = names_put m.party k p roomier at refl M.names;
+      strangers = λ n away. M.strangers n (strange m.party k p roomier at refl n away);
+    }
+
+pub adds_keep : (P E : Type 0) → AddsKeep P E
+adds_keep P E m c h M k = ((λ name absent fresh. (c, party_keeps m c h M k name absent fresh)), (λ p at. (record c { owner = update c.owner m.count (Spare k) }, room_keeps m c h M k p at)))

@@ -1,0 +1,63 @@
+-- A room comes to the end of the chain.
+use Rattle.std.proofs.Common.{◌≡◌, ℕ, zero, suc, ◌<◌, ◌≤◌, ◌≢◌, List, [], ◌∷◌, ◌++◌, length, Option, Some, None, refl, sym, ap, ◌∙◌, subst, inl, inr, arith, length-append}
+use Rattle.cordyceps_queue.specs.History.{Event}
+use Rattle.cordyceps_queue.specs.Past.{held, holder}
+use Rattle.cordyceps_queue.specs.Cores.Abstract.{update, AbstractParty, AbstractMachine}
+use Rattle.cordyceps_queue.specs.Cores.Meets.{ItemAt, real, Owes, Chain, Joined, RightIs, Meets}
+use Rattle.cordyceps_queue.proofs.CoreTheory.Basics.{put_same, at_one, at_within, at_more, at_end, at_split, length_map}
+use Rattle.cordyceps_queue.proofs.CoreTheory.OtherParties.{joined_put}
+
+pub real_one : (r : ℕ) → r ≢ 0 → real (r ∷ []) ≡ r ∷ []
+real_one zero ne = absurd (ne refl)
+real_one (suc r) ne = refl
+
+real_within : (xs : List ℕ) → length (real xs) ≤ length xs
+real_within [] = omega arith
+real_within (zero ∷ xs) = let l = real_within xs in omega arith
+real_within (suc x ∷ xs) = let l = real_within xs in omega arith
+
+-- what the right is does not turn on the end of the chain
+pub right_more : {P E : Type 0} (right : ℕ) (party : ℕ → Option (AbstractParty P)) (rooms : List ℕ) (r : ℕ) (h : List (Event P E)) (x : Event P E) (keeper : Option ℕ) → holder (x ∷ h) ≡ holder h → RightIs right party rooms h keeper → RightIs right party (rooms ++ r ∷ []) (x ∷ h) keeper
+right_more right party rooms r h x None same R = (same ∙ R.0, R.1, R.2, at_more rooms (r ∷ []) 0 R.1 R.3)
+right_more right party rooms r h x (Some k) same R = (R.0, R.1, R.2, R.3, R.4, same ∙ R.5)
+
+-- nor on an event that leaves the holder
+pub right_same : {P E : Type 0} (right : ℕ) (party : ℕ → Option (AbstractParty P)) (rooms : List ℕ) (h : List (Event P E)) (x : Event P E) (keeper : Option ℕ) → holder (x ∷ h) ≡ holder h → RightIs right party rooms h keeper → RightIs right party rooms (x ∷ h) keeper
+right_same right party rooms h x None same R = (same ∙ R.0, R.1, R.2, R.3)
+right_same right party rooms h x (Some k) same R = (R.0, R.1, R.2, R.3, R.4, same ∙ R.5)
+
+module _ {P E : Type 0} (m : AbstractMachine P E) (c : Chain) (h : List (Event P E)) (M : Meets m c h) where
+  pub held_length : length (real c.rooms) ≡ length (held h)
+  held_length = sym (length_map m.cell (real c.rooms)) ∙ ap length M.holds ∙ length_map Some (held h)
+
+  -- where head is the tail, at most one element is held
+  pub alone : (t : ℕ) → ItemAt c.rooms 0 t → m.head ≡ t → length (held h) < 2
+  alone t first same =
+      let e : M.last.0 ≡ 0 = M.once M.last.0 0 t (subst (ItemAt c.rooms M.last.0) same M.last.2) first in
+      omega (arith, held_length, real_within c.rooms, M.last.1, e)
+
+  module _ (r : ℕ) where
+    pub last_more : (i : ℕ) × (length (c.rooms ++ r ∷ []) ≡ suc i) × ItemAt (c.rooms ++ r ∷ []) i r
+    last_more = (length c.rooms, omega (arith, length-append c.rooms (r ∷ [])), at_end c.rooms r)
+
+    pub once_more : ((i : ℕ) → ItemAt c.rooms i r → ⊥) → (i j x : ℕ) → ItemAt (c.rooms ++ r ∷ []) i x → ItemAt (c.rooms ++ r ∷ []) j x → i ≡ j
+    once_more fresh i j x ix jx = elim (at_split c.rooms r i x ix) [
+      | inl a ↦ elim (at_split c.rooms r j x jx) [ inl b ↦ M.once i j x a b | inr b ↦ absurd (fresh i (subst (ItemAt c.rooms i) b.1 a)) ]
+      | inr a ↦ elim (at_split c.rooms r j x jx) [ inl b ↦ absurd (fresh j (subst (ItemAt c.rooms j) a.1 b)) | inr b ↦ a.0 ∙ sym b.0 ]
+    ]
+
+  module _ (k : ℕ) (p q : AbstractParty P) (at : m.party k ≡ Some p) (r : ℕ) where
+    pub joined_more : ((a b : ℕ) → Owes p.place a b → Owes q.place a b) → Owes q.place m.head r → (i a b : ℕ) → ItemAt (c.rooms ++ r ∷ []) i a → ItemAt (c.rooms ++ r ∷ []) (suc i) b → Joined m.next (update m.party k (Some q)) a b
+    joined_more on owes i a b ia ib = elim (at_split c.rooms r (suc i) b ib) [
+      | inl jb ↦ elim (at_split c.rooms r i a ia) [
+        | inl ja ↦ joined_put m.party k p q at m.next a b (on a b) (M.joined i a b ja jb)
+        | inr ja ↦ let l = at_within c.rooms (suc i) b jb in absurd (omega (arith, ja.0))
+      ]
+      | inr jb ↦ elim (at_split c.rooms r i a ia) [
+        | inl ja ↦
+            let n : M.last.0 ≡ i = omega (arith, M.last.1, jb.0) in
+            let e : a ≡ m.head = at_one c.rooms i a m.head ja (subst (λ n. ItemAt c.rooms n m.head) n M.last.2) in
+            inr (ap m.next e ∙ M.ends, (k, q, put_same m.party k (Some q), subst (λ x. Owes q.place x b) (sym e) (subst (Owes q.place m.head) (sym jb.1) owes)))
+        | inr ja ↦ absurd (omega (arith, ja.0, jb.0))
+      ]
+    ]

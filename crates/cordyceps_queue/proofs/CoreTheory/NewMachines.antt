@@ -1,0 +1,56 @@
+-- New machines, and what went out before what is held.
+use Rattle.std.proofs.Common.{◌≡◌, ℕ, zero, suc, ◌≤◌, [], ◌∷◌, ◌++◌, drop, None, refl, sym, ap, ◌∙◌, append_assoc, arith}
+use Rattle.cordyceps_queue.specs.History.{Event}
+use Rattle.cordyceps_queue.specs.Past.{held, went}
+use Rattle.cordyceps_queue.specs.Cores.Meets.{ItemAt, Owner, Shared, Unmade}
+use Rattle.cordyceps_queue.specs.Cores.StepKeeps.{InOrder, NewMeets}
+use Rattle.cordyceps_queue.proofs.CoreTheory.Basics.{none_some}
+
+pub in_order : (P E : Type 0) → InOrder P E
+in_order P E [] legal = refl
+in_order P E (Event.Swap p e ∷ h) legal = sym (append_assoc (went h) (held h) (e ∷ [])) ∙ ap (λ l. l ++ e ∷ []) (in_order P E h legal.1)
+in_order P E (Event.Out p e ∷ h) legal =
+    append_assoc (went h) (e ∷ []) (drop 1 (held h)) ∙ ap (λ l. went h ++ e ∷ drop 1 l) legal.0.2 ∙ ap (λ l. went h ++ l) (sym legal.0.2) ∙ in_order P E h legal.1
+in_order P E (Event.Link p ∷ h) legal = in_order P E h legal.1
+in_order P E (Event.Take p ∷ h) legal = in_order P E h legal.1
+in_order P E (Event.Busy p ∷ h) legal = in_order P E h legal.1
+in_order P E (Event.Look p ∷ h) legal = in_order P E h legal.1
+in_order P E (Event.Empty p ∷ h) legal = in_order P E h legal.1
+in_order P E (Event.Free p ∷ h) legal = in_order P E h legal.1
+
+-- whose the rooms of a new machine are
+abbrev new_owner : ℕ → Owner
+new_owner zero = Shared
+new_owner (suc r) = Unmade
+
+stub_alone : (i r : ℕ) → ItemAt (0 ∷ []) i r → (i ≡ 0) × (r ≡ 0)
+stub_alone zero r a = (refl, a)
+stub_alone (suc i) r a = absurd a
+
+pub new_meets : (P E : Type 0) → NewMeets P E
+new_meets P E = (
+  record { rooms = 0 ∷ []; owner = new_owner; keeper = None },
+  record {
+    legal = tt;
+    last = (0, refl, refl);
+    ends = refl;
+    joined = λ i a b ia ib. absurd (none_follows i b ib);
+    once = λ i j r ir jr. (stub_alone i r ir).0 ∙ sym (stub_alone j r jr).0;
+    shared = λ i r ir. ap new_owner (stub_alone i r ir).1;
+    stub = refl;
+    unmade = λ r lt. is_unmade r lt;
+    holds = refl;
+    right = (refl, 0, refl, refl);
+    fits = λ k p e. absurd (none_some e);
+    rooms = λ k p e. absurd (none_some e);
+    names = λ j k p q e f s. absurd (none_some e);
+    strangers = λ q away. tt;
+  },
+)
+  where
+    none_follows : (i b : ℕ) → ItemAt (0 ∷ []) (suc i) b → ⊥
+    none_follows i b a = a
+
+    is_unmade : (r : ℕ) → 1 ≤ r → new_owner r ≡ Unmade
+    is_unmade zero lt = absurd (omega arith)
+    is_unmade (suc r) lt = refl

@@ -1,0 +1,318 @@
+-- The steps of a party that enqueues keep what a machine meets.
+use Rattle.std.proofs.Common.{◌≡◌, ℕ, suc, ◌≢◌, ◌⊎◌, List, [], ◌∷◌, ◌++◌, map, length, Option, Some, None, refl, sym, ap, ◌∙◌, subst, inl, inr, arith}
+use native.Mathlib.Decide.{ℕ_discrete}
+use Rattle.std.proofs.lemmas.List.{map-append}
+use Rattle.cordyceps_queue.specs.History.{Event}
+use Rattle.cordyceps_queue.specs.Past.{held, holder, IsPendingAt, HasLooked, WasBlocked}
+use Rattle.cordyceps_queue.specs.declared.cores.stage.Stage.{Stage}
+use Rattle.cordyceps_queue.specs.declared.cores.stage.Stage.TheVariants.{Rest, Cleared, Swapped, Holding, StubNull, Second, Null, PutClear, PutSwap, PutLink, PutRead}
+use Rattle.cordyceps_queue.specs.Cores.Abstract.{update, AbstractParty, AbstractMachine, clear_room, swap_head, link_next}
+use Rattle.cordyceps_queue.specs.Cores.Meets.{ItemAt, real, rank, Owner, Shared, Spare, Ready, Unmade, Owes, tail_of, Chain, IsOut, OwnsRooms, Owed, Joined, Keeps, Real, AtStage, RightIs, Meets}
+use Rattle.cordyceps_queue.proofs.CoreTheory.Basics.{some_inj, some_none, suc_zero, put_same, put_other, put_all, put_none, at_one, at_within, at_more, at_end, at_split, rank_more, rank_all, real_more, map_put, pending_one, open_from}
+use Rattle.cordyceps_queue.proofs.CoreTheory.ChainGrows.{real_one, held_length, alone, last_more, once_more, joined_more, right_more, right_same}
+use Rattle.cordyceps_queue.proofs.CoreTheory.OtherParties.{joined_put, names_put, strange, right_put}
+
+pub spare_shared : {o : Owner} {k : ℕ} → o ≡ Spare k → o ≡ Shared → ⊥
+spare_shared a b = cc (a, b)
+
+pub ready_shared : {o : Owner} {k : ℕ} → o ≡ Ready k → o ≡ Shared → ⊥
+ready_shared a b = cc (a, b)
+
+pub ready_spare : {o : Owner} {j k : ℕ} → o ≡ Ready j → o ≡ Spare k → ⊥
+ready_spare a b = cc (a, b)
+
+pub spare_unmade : {o : Owner} {k : ℕ} → o ≡ Spare k → o ≡ Unmade → ⊥
+spare_unmade a b = cc (a, b)
+
+pub ready_unmade : {o : Owner} {k : ℕ} → o ≡ Ready k → o ≡ Unmade → ⊥
+ready_unmade a b = cc (a, b)
+
+pub shared_unmade : {o : Owner} → o ≡ Shared → o ≡ Unmade → ⊥
+shared_unmade a b = cc (a, b)
+
+ready_one : {o : Owner} {j k : ℕ} → o ≡ Ready j → o ≡ Ready k → j ≡ k
+ready_one a b = cc (a, b)
+
+module _ {P E : Type 0} (m : AbstractMachine P E) (c : Chain) (h : List (Event P E)) (M : Meets m c h) (k : ℕ) (p : AbstractParty P) (at : m.party k ≡ Some p) where
+  -- Clear with an element
+  module _ (rest : p.place ≡ Rest) (r : ℕ) (rooms : List ℕ) (spare : p.spare ≡ r ∷ rooms) (e : E) where
+    abbrev cleared_party : AbstractParty P
+    cleared_party = record { name = p.name; place = Cleared r; spare = rooms }
+
+    abbrev pub chain_after_clear : Chain
+    chain_after_clear = record c { owner = update c.owner r (Ready k) }
+
+    own : OwnsRooms c.owner k (r ∷ rooms)
+    own = subst (OwnsRooms c.owner k) spare (M.rooms k p at)
+
+    mine : c.owner r ≡ Spare k
+    mine = own.own 0 r refl
+
+    away : (x : ℕ) → c.owner x ≡ Shared → x ≢ r
+    away x s e = spare_shared mine (ap c.owner (sym e) ∙ s)
+
+    nothing_owed : (a b : ℕ) → Owes p.place a b → Owes (Cleared r) a b
+    nothing_owed a b o = subst (λ l. Owes l a b) rest o
+
+    others : (j : ℕ) (q : P) (place : Stage) → AtStage m.head m.next m.cell c.owner c.keeper c.rooms h j q place → AtStage m.head (update m.next r None) (update m.cell r (Some e)) (update c.owner r (Ready k)) c.keeper c.rooms h j q place
+    others j q Rest f = f
+    others j q (Cleared x) f = (f.0, put_other c.owner r (Ready k) x (λ e. ready_spare f.1 (ap c.owner e ∙ mine)) ∙ f.1, f.2, put_none m.next r x f.3, f.4, put_other m.cell r (Some e) x (λ s. ready_spare f.1 (ap c.owner s ∙ mine)) ∙ f.5)
+    others j q (Swapped x old) f = (f.0, f.1, f.2, f.3, put_none m.next r old f.4, f.5)
+    others j q (Holding t) f = f
+    others j q StubNull f = f
+    others j q (Second t) f = f
+    others j q (Null t) f = f
+    others j q (PutClear t) f = f
+    others j q (PutSwap t) f = (f.0, f.1, put_none m.next r 0 f.2)
+    others j q (PutLink t old) f = (f.0, (f.1.0, f.1.1, f.1.2, put_none m.next r old f.1.3))
+    others j q (PutRead t) f = f
+
+    spares : (j x : ℕ) (s : List ℕ) → ((i : ℕ) → ItemAt s i r → ⊥) → OwnsRooms c.owner j s → OwnsRooms (update c.owner r (Ready k)) j s
+    spares j x s not R = record { own = λ i y a. put_other c.owner r (Ready k) y (λ e. not i (subst (ItemAt s i) e a)) ∙ R.own i y a; once = R.once }
+
+    pub clear_keeps : Meets (clear_room m k p r rooms e) chain_after_clear h
+    clear_keeps = record {
+      legal = M.legal;
+      last = M.last;
+      ends = put_none m.next r m.head M.ends;
+      joined = λ i a b ia ib. joined_put m.party k p cleared_party at (update m.next r None) a b (nothing_owed a b) (
+          subst (λ n. (n ≡ Some b) ⊎ ((n ≡ None) × Owed m.party a b)) (sym (put_other m.next r None a (away a (M.shared i a ia)))) (M.joined i a b ia ib));
+      once = M.once;
+      shared = λ i x ix. put_other c.owner r (Ready k) x (away x (M.shared i x ix)) ∙ M.shared i x ix;
+      stub = put_other c.owner r (Ready k) 0 (away 0 M.stub) ∙ M.stub;
+      unmade = λ x lt. put_other c.owner r (Ready k) x (λ s. spare_unmade (ap c.owner s ∙ mine) (M.unmade x lt)) ∙ M.unmade x lt;
+      holds = map_put m.cell r (Some e) c.rooms (λ i ir. away r (M.shared i r ir) refl) ∙ M.holds;
+      right = right_put m.party k p cleared_party at m.right c.rooms h c.keeper (ap tail_of rest) M.right;
+      fits = put_all (λ j q. AtStage m.head (update m.next r None) (update m.cell r (Some e)) (update c.owner r (Ready k)) c.keeper c.rooms h j q.name q.place) m.party k cleared_party
+          (λ j q ne eq. others j q.name q.place (M.fits j q eq))
+          (subst (AtStage m.head m.next m.cell c.owner c.keeper c.rooms h k p.name) rest (M.fits k p at), put_same c.owner r (Ready k), (λ e. away 0 M.stub (sym e)), put_same m.next r None, e, put_same m.cell r (Some e));
+      rooms = put_all (λ j q. OwnsRooms (update c.owner r (Ready k)) j q.spare) m.party k cleared_party
+          (λ j q ne eq. spares j 0 q.spare (λ i ir. ne (spare_one ((M.rooms j q eq).own i r ir) mine)) (M.rooms j q eq))
+          (spares k 0 rooms (λ i ir. suc_ne (own.once (suc i) 0 r ir refl)) (record { own = λ i x ix. own.own (suc i) x ix; once = λ i j x ix jx. suc_inj (own.once (suc i) (suc j) x ix jx) }));
+      names = names_put m.party k p cleared_party at refl M.names;
+      strangers = λ n away. M.strangers n (strange m.party k p cleared_party at refl n away);
+    }
+      where
+        spare_one : {j : ℕ} → c.owner r ≡ Spare j → c.owner r ≡ Spare k → j ≡ k
+        spare_one a b = cc (a, b)
+
+        suc_ne : {i : ℕ} → suc i ≡ 0 → ⊥
+        suc_ne a = omega arith
+
+        suc_inj : {i j : ℕ} → suc i ≡ suc j → i ≡ j
+        suc_inj a = omega arith
+
+  -- Swap of an element
+  module _ (r : ℕ) (e : E) (ready : p.place ≡ Cleared r) (full : m.cell r ≡ Some e) where
+    abbrev swapped_party : AbstractParty P
+    swapped_party = record p { place = Swapped r m.head }
+
+    abbrev pub chain_after_swap : Chain
+    chain_after_swap = record c { rooms = c.rooms ++ r ∷ []; owner = update c.owner r Shared }
+
+    pub was : AtStage m.head m.next m.cell c.owner c.keeper c.rooms h k p.name (Cleared r)
+    was = subst (AtStage m.head m.next m.cell c.owner c.keeper c.rooms h k p.name) ready (M.fits k p at)
+
+    other_room : (x : ℕ) → c.owner x ≡ Shared → x ≢ r
+    other_room x s e = ready_shared was.1 (ap c.owner (sym e) ∙ s)
+
+    pub fresh : (i : ℕ) → ItemAt c.rooms i r → ⊥
+    fresh i ir = ready_shared was.1 (M.shared i r ir)
+
+    owes_nothing : (a b : ℕ) → Owes p.place a b → Owes (Swapped r m.head) a b
+    owes_nothing a b o = absurd (subst (λ l. Owes l a b) ready o)
+
+    newly : (q : P) (t : ℕ) → ItemAt c.rooms 0 t → HasLooked q h → ((m.head ≢ t) → WasBlocked q h) → WasBlocked q (Event.Swap p.name e ∷ h)
+    newly q t first looked before = elim (ℕ_discrete m.head t) [
+      | yes same ↦ inl (looked, (p.name, length (held h), alone m c h M t first same, inl (refl, refl)))
+      | no ne ↦ inr (before ne)
+    ]
+
+    swap_keeper : (j : ℕ) (q : P) (t : ℕ) → q ≢ p.name → Keeps c.keeper c.rooms h j q t → Keeps c.keeper (c.rooms ++ r ∷ []) (Event.Swap p.name e ∷ h) j q t
+    swap_keeper j q t ne K = record { kept = K.kept; held_by = K.held_by; tail = at_more c.rooms (r ∷ []) 0 t K.tail; settled = (ne, K.settled) }
+
+    swap_real : (j : ℕ) (q : P) (t : ℕ) → q ≢ p.name → Real c.keeper c.rooms h j q t → Real c.keeper (c.rooms ++ r ∷ []) (Event.Swap p.name e ∷ h) j q t
+    swap_real j q t ne K = record { keeps = swap_keeper j q t ne K.keeps; is_real = K.is_real; looked = K.looked }
+
+    still_out : IsOut c.rooms → IsOut (c.rooms ++ r ∷ [])
+    still_out out i at0 = elim (at_split c.rooms r i 0 at0) [ inl a ↦ out i a | inr a ↦ was.2 (sym a.1) ]
+
+    swap_others : (j : ℕ) (q : P) (place : Stage) → j ≢ k → q ≢ p.name → AtStage m.head m.next m.cell c.owner c.keeper c.rooms h j q place → AtStage r m.next m.cell (update c.owner r Shared) c.keeper (c.rooms ++ r ∷ []) (Event.Swap p.name e ∷ h) j q place
+    swap_others j q Rest nj ne f = (ne, f)
+    swap_others j q (Cleared x) nj ne f = ((ne, f.0), put_other c.owner r Shared x (λ s. nj (ready_one f.1 (ap c.owner s ∙ was.1))) ∙ f.1, f.2, f.3, f.4, f.5)
+    swap_others j q (Swapped x old) nj ne f = (
+      f.0,
+      at_more c.rooms (r ∷ []) f.0 old f.1,
+      at_more c.rooms (r ∷ []) (suc f.0) x f.2,
+      f.3,
+      f.4,
+      inr (ne, subst (λ n. IsPendingAt q n h) (sym (rank_more c.rooms (r ∷ []) (suc f.0) (let l = at_within c.rooms (suc f.0) x f.2 in omega arith))) f.5),
+    )
+    swap_others j q (Holding t) nj ne f = swap_keeper j q t ne f
+    swap_others j q StubNull nj ne f = (swap_keeper j q 0 ne f.0, f.1, (λ _. newly q 0 f.0.tail f.1 f.2))
+    swap_others j q (Second t) nj ne f = swap_real j q t ne f
+    swap_others j q (Null t) nj ne f = (swap_real j q t ne f.0, (λ _. newly q t f.0.keeps.tail f.0.looked f.1))
+    swap_others j q (PutClear t) nj ne f = (swap_real j q t ne f.0, still_out f.1)
+    swap_others j q (PutSwap t) nj ne f = (swap_real j q t ne f.0, still_out f.1, f.2)
+    swap_others j q (PutLink t old) nj ne f = (swap_real j q t ne f.0, (f.1.0, at_more c.rooms (r ∷ []) f.1.0 old f.1.1, at_more c.rooms (r ∷ []) (suc f.1.0) 0 f.1.2, f.1.3))
+    swap_others j q (PutRead t) nj ne f = (swap_real j q t ne f.0, (λ s. fresh 0 (subst (ItemAt c.rooms 0) (sym s) f.0.keeps.tail)))
+
+    swap_mine : AtStage r m.next m.cell (update c.owner r Shared) c.keeper (c.rooms ++ r ∷ []) (Event.Swap p.name e ∷ h) k p.name (Swapped r m.head)
+    swap_mine = (
+      M.last.0,
+      at_more c.rooms (r ∷ []) M.last.0 m.head M.last.2,
+      subst (λ i. ItemAt (c.rooms ++ r ∷ []) i r) M.last.1 (at_end c.rooms r),
+      was.2,
+      M.ends,
+      inl (refl, ap (rank (c.rooms ++ r ∷ [])) (sym M.last.1) ∙ rank_more c.rooms (r ∷ []) (length c.rooms) (omega arith) ∙ rank_all c.rooms ∙ held_length m c h M),
+    )
+
+    pub swap_keeps : Meets (swap_head m k p r (Swapped r m.head)) chain_after_swap (Event.Swap p.name e ∷ h)
+    swap_keeps = record {
+      legal = (was.0, M.legal);
+      last = last_more m c h M r;
+      ends = was.3;
+      joined = joined_more m c h M k p swapped_party at r owes_nothing (refl, refl);
+      once = once_more m c h M r fresh;
+      shared = λ i x ix. elim (at_split c.rooms r i x ix) [
+        | inl a ↦ put_other c.owner r Shared x (other_room x (M.shared i x a)) ∙ M.shared i x a
+        | inr a ↦ ap (update c.owner r Shared) a.1 ∙ put_same c.owner r Shared
+      ];
+      stub = put_other c.owner r Shared 0 (other_room 0 M.stub) ∙ M.stub;
+      unmade = λ x lt. put_other c.owner r Shared x (λ s. ready_unmade (ap c.owner s ∙ was.1) (M.unmade x lt)) ∙ M.unmade x lt;
+      holds = ap (map m.cell) (real_more c.rooms (r ∷ []) ∙ ap (λ l. real c.rooms ++ l) (real_one r was.2)) ∙ map-append m.cell (real c.rooms) (r ∷ [])
+          ∙ ap (λ l. l ++ m.cell r ∷ []) M.holds ∙ ap (λ x. map Some (held h) ++ x ∷ []) full ∙ sym (map-append Some (held h) (e ∷ []));
+      right = right_more m.right _ c.rooms r h (Event.Swap p.name e) c.keeper refl (right_put m.party k p swapped_party at m.right c.rooms h c.keeper (ap tail_of ready) M.right);
+      fits = put_all (λ j q. AtStage r m.next m.cell (update c.owner r Shared) c.keeper (c.rooms ++ r ∷ []) (Event.Swap p.name e ∷ h) j q.name q.place) m.party k swapped_party
+          (λ j q ne eq. swap_others j q.name q.place ne (λ s. ne (M.names j k q p eq at s)) (M.fits j q eq))
+          swap_mine;
+      rooms = put_all (λ j q. OwnsRooms (update c.owner r Shared) j q.spare) m.party k swapped_party (λ j q ne eq. swap_spares j q.spare (M.rooms j q eq)) (swap_spares k p.spare (M.rooms k p at));
+      names = names_put m.party k p swapped_party at refl M.names;
+      strangers = λ n away. ((λ s. away k swapped_party (put_same m.party k (Some swapped_party)) (sym s)), M.strangers n (strange m.party k p swapped_party at refl n away));
+    }
+      where
+        swap_spares : (j : ℕ) (s : List ℕ) → OwnsRooms c.owner j s → OwnsRooms (update c.owner r Shared) j s
+        swap_spares j s R = record { own = λ i x ix. put_other c.owner r Shared x (λ s. ready_spare was.1 (ap c.owner (sym s) ∙ R.own i x ix)) ∙ R.own i x ix; once = R.once }
+
+  -- Link of an element
+  module _ (r old : ℕ) (waits : p.place ≡ Swapped r old) where
+    abbrev linked_party : AbstractParty P
+    linked_party = record p { place = Rest }
+
+    link : (i : ℕ) × ItemAt c.rooms i old × ItemAt c.rooms (suc i) r × (r ≢ 0) × (m.next old ≡ None) × IsPendingAt p.name (rank c.rooms (suc i)) h
+    link = subst (AtStage m.head m.next m.cell c.owner c.keeper c.rooms h k p.name) waits (M.fits k p at)
+
+    old_shared : c.owner old ≡ Shared
+    old_shared = M.shared link.0 old link.1
+
+    -- a room at another place is not the old head
+    not_old : (j a : ℕ) → ItemAt c.rooms j a → j ≢ link.0 → a ≢ old
+    not_old j a ja ne same = ne (M.once j link.0 old (subst (ItemAt c.rooms j) same ja) link.1)
+
+    stays_none : (a : ℕ) → a ≢ old → m.next a ≡ None → update m.next old (Some r) a ≡ None
+    stays_none a ne none = put_other m.next old (Some r) a ne ∙ none
+
+    link_keeper : (j : ℕ) (q : P) (t : ℕ) → Keeps c.keeper c.rooms h j q t → Keeps c.keeper c.rooms (Event.Link p.name ∷ h) j q t
+    link_keeper j q t K = record { kept = K.kept; held_by = K.held_by; tail = K.tail; settled = inr K.settled }
+
+    link_real : (j : ℕ) (q : P) (t : ℕ) → Real c.keeper c.rooms h j q t → Real c.keeper c.rooms (Event.Link p.name ∷ h) j q t
+    link_real j q t K = record { keeps = link_keeper j q t K.keeps; is_real = K.is_real; looked = K.looked }
+
+    link_others : (j : ℕ) (q : P) (place : Stage) → q ≢ p.name → AtStage m.head m.next m.cell c.owner c.keeper c.rooms h j q place → AtStage m.head (update m.next old (Some r)) m.cell c.owner c.keeper c.rooms (Event.Link p.name ∷ h) j q place
+    link_others j q Rest ne f = inr f
+    link_others j q (Cleared x) ne f = (inr f.0, f.1, f.2, stays_none x (λ s. ready_shared f.1 (ap c.owner s ∙ old_shared)) f.3, f.4, f.5)
+    link_others j q (Swapped x o) ne f =
+        let apart : f.0 ≢ link.0 = λ s. ne (pending_one h q p.name (rank c.rooms (suc f.0)) f.5 (subst (λ n. IsPendingAt p.name (rank c.rooms (suc n)) h) (sym s) link.5)) in
+        (f.0, f.1, f.2, f.3, stays_none o (not_old f.0 o f.1 apart) f.4, (ne, f.5))
+    link_others j q (Holding t) ne f = link_keeper j q t f
+    link_others j q StubNull ne f = (link_keeper j q 0 f.0, f.1, (λ s. inr (f.2 s)))
+    link_others j q (Second t) ne f = link_real j q t f
+    link_others j q (Null t) ne f = (link_real j q t f.0, (λ s. inr (f.1 s)))
+    link_others j q (PutClear t) ne f = (link_real j q t f.0, f.1)
+    link_others j q (PutSwap t) ne f = (link_real j q t f.0, f.1, stays_none 0 (λ s. f.1 link.0 (subst (ItemAt c.rooms link.0) (sym s) link.1)) f.2)
+    link_others j q (PutLink t o) ne f =
+        let apart : f.1.0 ≢ link.0 = λ s. link.3 (at_one c.rooms (suc link.0) r 0 link.2 (subst (λ n. ItemAt c.rooms (suc n) 0) s f.1.2)) in
+        (link_real j q t f.0, (f.1.0, f.1.1, f.1.2, stays_none o (not_old f.1.0 o f.1.1 apart) f.1.3))
+    link_others j q (PutRead t) ne f = (link_real j q t f.0, f.1)
+
+    link_joined : (i a b : ℕ) → ItemAt c.rooms i a → ItemAt c.rooms (suc i) b → Joined (update m.next old (Some r)) (update m.party k (Some linked_party)) a b
+    link_joined i a b ia ib = elim (ℕ_discrete i link.0) [
+      | yes same ↦
+          let ea : a ≡ old = at_one c.rooms link.0 a old (subst (λ n. ItemAt c.rooms n a) same ia) link.1 in
+          let eb : b ≡ r = at_one c.rooms (suc link.0) b r (subst (λ n. ItemAt c.rooms (suc n) b) same ib) link.2 in
+          inl (ap (update m.next old (Some r)) ea ∙ put_same m.next old (Some r) ∙ ap Some (sym eb))
+      | no ne ↦
+          let apart = not_old i a ia ne in
+          joined_put m.party k p linked_party at (update m.next old (Some r)) a b (λ o. absurd (apart (subst (λ l. Owes l a b) waits o).0))
+          (subst (λ n. (n ≡ Some b) ⊎ ((n ≡ None) × Owed m.party a b)) (sym (put_other m.next old (Some r) a apart)) (M.joined i a b ia ib))
+    ]
+
+    pub link_keeps : Meets (link_next m k p old r Rest) c (Event.Link p.name ∷ h)
+    link_keeps = record {
+      legal = (open_from h p.name (rank c.rooms (suc link.0)) link.5, M.legal);
+      last = M.last;
+      ends = stays_none m.head (not_old M.last.0 m.head M.last.2 (let l = at_within c.rooms (suc link.0) r link.2 in λ s. absurd (omega (arith, M.last.1)))) M.ends;
+      joined = link_joined;
+      once = M.once;
+      shared = M.shared;
+      stub = M.stub;
+      unmade = M.unmade;
+      holds = M.holds;
+      right = right_same m.right _ c.rooms h (Event.Link p.name) c.keeper refl (right_put m.party k p linked_party at m.right c.rooms h c.keeper (ap tail_of waits) M.right);
+      fits = put_all (λ j q. AtStage m.head (update m.next old (Some r)) m.cell c.owner c.keeper c.rooms (Event.Link p.name ∷ h) j q.name q.place) m.party k linked_party
+          (λ j q ne eq. link_others j q.name q.place (λ s. ne (M.names j k q p eq at s)) (M.fits j q eq))
+          (inl refl);
+      rooms = put_all (λ j q. OwnsRooms c.owner j q.spare) m.party k linked_party (λ j q ne eq. M.rooms j q eq) (M.rooms k p at);
+      names = names_put m.party k p linked_party at refl M.names;
+      strangers = λ n away. inr (M.strangers n (strange m.party k p linked_party at refl n away));
+    }
+
+  -- Take beside another holder
+  busy_keeper : (j : ℕ) (q : P) (t : ℕ) → Keeps c.keeper c.rooms h j q t → Keeps c.keeper c.rooms (Event.Busy p.name ∷ h) j q t
+  busy_keeper j q t K = record { kept = K.kept; held_by = K.held_by; tail = K.tail; settled = K.settled }
+
+  busy_real : (j : ℕ) (q : P) (t : ℕ) → Real c.keeper c.rooms h j q t → Real c.keeper c.rooms (Event.Busy p.name ∷ h) j q t
+  busy_real j q t K = record { keeps = busy_keeper j q t K.keeps; is_real = K.is_real; looked = K.looked }
+
+  busy_others : (j : ℕ) (q : P) (place : Stage) → AtStage m.head m.next m.cell c.owner c.keeper c.rooms h j q place → AtStage m.head m.next m.cell c.owner c.keeper c.rooms (Event.Busy p.name ∷ h) j q place
+  busy_others j q Rest f = f
+  busy_others j q (Cleared x) f = f
+  busy_others j q (Swapped x o) f = f
+  busy_others j q (Holding t) f = busy_keeper j q t f
+  busy_others j q StubNull f = (busy_keeper j q 0 f.0, f.1, (λ s. inr (f.2 s)))
+  busy_others j q (Second t) f = busy_real j q t f
+  busy_others j q (Null t) f = (busy_real j q t f.0, (λ s. inr (f.1 s)))
+  busy_others j q (PutClear t) f = (busy_real j q t f.0, f.1)
+  busy_others j q (PutSwap t) f = (busy_real j q t f.0, f.1, f.2)
+  busy_others j q (PutLink t o) f = (busy_real j q t f.0, f.1)
+  busy_others j q (PutRead t) f = (busy_real j q t f.0, f.1)
+
+  -- the right is out with another party
+  out_with : p.place ≡ Rest → m.right ≡ 0 → (keeper : Option ℕ) → RightIs m.right m.party c.rooms h keeper → (q : P) × (holder h ≡ Some q) × (p.name ≢ q)
+  out_with rest taken None R = absurd (suc_zero (sym R.2 ∙ taken))
+  out_with rest taken (Some j) R = (
+    R.1.name,
+    R.5,
+    λ same.
+        let e : j ≡ k = M.names j k R.1 p R.3 at (sym same) in
+        let f : R.1 ≡ p = some_inj (sym R.3 ∙ ap m.party e ∙ at) in
+        some_none (sym R.4 ∙ ap (λ (x : AbstractParty P). tail_of x.place) f ∙ ap tail_of rest),
+  )
+
+  pub busy_keeps : p.place ≡ Rest → m.right ≡ 0 → Meets m c (Event.Busy p.name ∷ h)
+  busy_keeps rest taken = record {
+    legal = (out_with rest taken c.keeper M.right, M.legal);
+    last = M.last;
+    ends = M.ends;
+    joined = M.joined;
+    once = M.once;
+    shared = M.shared;
+    stub = M.stub;
+    unmade = M.unmade;
+    holds = M.holds;
+    right = right_same m.right m.party c.rooms h (Event.Busy p.name) c.keeper refl M.right;
+    fits = λ j q eq. busy_others j q.name q.place (M.fits j q eq);
+    rooms = M.rooms;
+    names = M.names;
+    strangers = M.strangers;
+  }

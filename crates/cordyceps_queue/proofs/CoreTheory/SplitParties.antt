@@ -1,0 +1,163 @@
+-- Parties at rest that are split and joined: what a machine meets stays so.
+use Rattle.std.proofs.Common.{◌≡◌, ◌≢◌, ◌⊎◌, ℕ, zero, suc, ◌+◌, ◌<◌, List, [], ◌∷◌, ◌++◌, length, take, drop, Option, Some, None, refl, sym, ap, ◌∙◌, subst, inl, inr, arith}
+use native.Mathlib.Decide.{ℕ_discrete}
+use Rattle.cordyceps_queue.specs.History.{Event}
+use Rattle.cordyceps_queue.specs.Past.{IsSettled}
+use Rattle.cordyceps_queue.specs.declared.cores.stage.Stage.{Stage}
+use Rattle.cordyceps_queue.specs.declared.cores.stage.Stage.TheVariants.{Rest, Cleared, Swapped, Holding, StubNull, Second, Null, PutClear, PutSwap, PutLink, PutRead}
+use Rattle.cordyceps_queue.specs.Cores.Meets.{ItemAt, Owner, Shared, Spare, Ready, Unmade, Owes, tail_of, Chain, OwnsRooms, Joined, AtStage, RightIs, Meets}
+use Rattle.cordyceps_queue.specs.Cores.Abstract.{AbstractParty, AbstractMachine, update}
+use Rattle.cordyceps_queue.proofs.CoreTheory.Basics.{none_some, put_same, put_other}
+use Rattle.cordyceps_queue.proofs.CoreTheory.ProducerSteps.{spare_shared, ready_spare, spare_unmade}
+use Rattle.cordyceps_queue.proofs.SharedTheory.EnqueueKeeps.{spare_one}
+
+-- ---- lists by place
+pub at_take : {A : Type 0} (n : ℕ) (xs : List A) (i : ℕ) (x : A) → ItemAt (take n xs) i x → ItemAt xs i x × (i < n)
+at_take zero xs i x a = absurd a
+at_take (suc n) [] i x a = absurd a
+at_take (suc n) (y ∷ ys) zero x a = (a, omega arith)
+at_take (suc n) (y ∷ ys) (suc i) x a = let t = at_take n ys i x a in let l = t.1 in (t.0, omega arith)
+
+pub at_drop : {A : Type 0} (n : ℕ) (xs : List A) (i : ℕ) (x : A) → ItemAt (drop n xs) i x → (j : ℕ) × ItemAt xs j x × (j ≡ n + i)
+at_drop zero xs i x a = (i, a, omega arith)
+at_drop (suc n) [] i x a = absurd a
+at_drop (suc n) (y ∷ ys) i x a = let t = at_drop n ys i x a in let l = t.2 in (suc t.0, t.1, omega arith)
+
+pub at_either : {A : Type 0} (xs ys : List A) (i : ℕ) (x : A) → ItemAt (xs ++ ys) i x → ItemAt xs i x ⊎ ((j : ℕ) × ItemAt ys j x × (i ≡ length xs + j))
+at_either [] ys i x a = inr (i, a, omega arith)
+at_either (z ∷ zs) ys zero x a = inl a
+at_either (z ∷ zs) ys (suc i) x a = elim (at_either zs ys i x a) [ inl t ↦ inl t | inr t ↦ let l = t.2 in inr (t.0, t.1, omega arith) ]
+
+-- ---- rooms that go to another party
+abbrev pub deal : ℕ → List ℕ → (ℕ → Owner) → ℕ → Owner
+deal j [] owner = owner
+deal j (r ∷ rs) owner = update (deal j rs owner) r (Spare j)
+
+pub deal_else : (j : ℕ) (rs : List ℕ) (owner : ℕ → Owner) (x : ℕ) → ((i : ℕ) → ItemAt rs i x → ⊥) → deal j rs owner x ≡ owner x
+deal_else j [] owner x away = refl
+deal_else j (r ∷ rs) owner x away = put_other (deal j rs owner) r (Spare j) x (away 0) ∙ deal_else j rs owner x (λ i. away (suc i))
+
+pub deal_here : (j : ℕ) (rs : List ℕ) (owner : ℕ → Owner) (i x : ℕ) → ItemAt rs i x → deal j rs owner x ≡ Spare j
+deal_here j [] owner i x a = absurd a
+deal_here j (r ∷ rs) owner zero x a = ap (update (deal j rs owner) r (Spare j)) a ∙ put_same (deal j rs owner) r (Spare j)
+deal_here j (r ∷ rs) owner (suc i) x a = elim (ℕ_discrete x r) [
+  | yes same ↦ ap (update (deal j rs owner) r (Spare j)) same ∙ put_same (deal j rs owner) r (Spare j)
+  | no ne ↦ put_other (deal j rs owner) r (Spare j) x ne ∙ deal_here j rs owner i x a
+]
+
+module _ (owner : ℕ → Owner) (k j : ℕ) (rs : List ℕ) (mine : (i r : ℕ) → ItemAt rs i r → owner r ≡ Spare k) where
+  -- rooms that were no party's stay so
+  pub deal_fixed : (r : ℕ) (o : Owner) → owner r ≡ o → ((b : ℕ) → o ≡ Spare b → ⊥) → deal j rs owner r ≡ o
+  deal_fixed r o e not = deal_else j rs owner r (λ i a. not k (sym e ∙ mine i r a)) ∙ e
+
+  -- and so do those of other parties
+  pub deal_others : (b : ℕ) (spare : List ℕ) → b ≢ k → OwnsRooms owner b spare → OwnsRooms (deal j rs owner) b spare
+  deal_others b spare ne R = record { own = λ i r a. deal_else j rs owner r (λ n c. ne (spare_one (R.own i r a) (mine n r c))) ∙ R.own i r a; once = R.once }
+
+module _ (owner : ℕ → Owner) (k : ℕ) (free : List ℕ) (R : OwnsRooms owner k free) (n j : ℕ) where
+  pub deal_kept : OwnsRooms (deal j (take n free) owner) k (drop n free)
+  deal_kept = record {
+    own = λ i r a.
+        let t = at_drop n free i r a in
+        let far = t.2 in
+        deal_else j (take n free) owner r (λ x b. let u = at_take n free x r b in let near = u.1 in let same = R.once t.0 x r t.1 u.0 in absurd (omega arith)) ∙ R.own t.0 r t.1;
+    once = λ i b r x y.
+        let t = at_drop n free i r x in
+        let u = at_drop n free b r y in
+        let e = t.2 in
+        let f = u.2 in
+        let same = R.once t.0 u.0 r t.1 u.1 in
+        omega arith;
+  }
+
+  pub deal_given : OwnsRooms (deal j (take n free) owner) j (take n free)
+  deal_given = record {
+    own = λ i r a. deal_here j (take n free) owner i r a;
+    once = λ i b r x y. R.once i b r (at_take n free i r x).0 (at_take n free b r y).0;
+  }
+
+pub deal_both : (owner : ℕ → Owner) (a b : ℕ) (xs ys : List ℕ) → a ≢ b → OwnsRooms owner a xs → OwnsRooms owner b ys → OwnsRooms (deal a ys owner) a (xs ++ ys)
+deal_both owner a b xs ys ne R S = record {
+  own = λ i r at. elim (at_either xs ys i r at) [
+    | inl t ↦ deal_else a ys owner r (λ n c. ne (spare_one (R.own i r t) (S.own n r c))) ∙ R.own i r t
+    | inr t ↦ deal_here a ys owner t.0 r t.1
+  ];
+  once = λ i j r x y. both i j r (at_either xs ys i r x) (at_either xs ys j r y);
+}
+  where
+    both : (i j r : ℕ) → ItemAt xs i r ⊎ ((n : ℕ) × ItemAt ys n r × (i ≡ length xs + n)) → ItemAt xs j r ⊎ ((n : ℕ) × ItemAt ys n r × (j ≡ length xs + n)) → i ≡ j
+    both i j r (inl x) (inl y) = R.once i j r x y
+    both i j r (inl x) (inr y) = absurd (ne (spare_one (R.own i r x) (S.own y.0 r y.1)))
+    both i j r (inr x) (inl y) = absurd (ne (spare_one (R.own j r y) (S.own x.0 r x.1)))
+    both i j r (inr x) (inr y) = let e = x.2 in let f = y.2 in let same = S.once x.0 y.0 r x.1 y.1 in omega arith
+
+-- ---- parties that come and go
+module _ {P E : Type 0} (m : AbstractMachine P E) (c : Chain) (h : List (Event P E)) (parties : ℕ → Option (AbstractParty P)) (owner : ℕ → Owner) (Gone : P → Type 0) where
+  -- parties at rest go, and others at rest come in their places or in new ones
+  pub record Regroups : Type 0 where
+    pub known : (q : P) → Dec (Gone q)
+    pub settled : (q : P) → Gone q → IsSettled q h
+    pub fixed : (r : ℕ) (o : Owner) → c.owner r ≡ o → ((j : ℕ) → o ≡ Spare j → ⊥) → owner r ≡ o
+    pub stays : (k : ℕ) (p : AbstractParty P) → m.party k ≡ Some p → (parties k ≡ Some p) ⊎ (Gone p.name × (p.place ≡ Rest))
+    pub was : (k : ℕ) (p : AbstractParty P) → parties k ≡ Some p → (m.party k ≡ Some p) ⊎ ((p.place ≡ Rest) × ((q : AbstractParty P) → m.party k ≡ Some q → Gone q.name))
+    pub rooms : (k : ℕ) (p : AbstractParty P) → parties k ≡ Some p → OwnsRooms owner k p.spare
+    pub names : (j k : ℕ) (p q : AbstractParty P) → parties j ≡ Some p → parties k ≡ Some q → p.name ≡ q.name → j ≡ k
+
+  module _ (M : Meets m c h) (G : Regroups) where
+    joined_still : (a b : ℕ) → Joined m.next m.party a b → Joined m.next parties a b
+    joined_still a b (inl l) = inl l
+    joined_still a b (inr o) = inr (
+      o.0,
+      (o.1.0, o.1.1, elim (G.stays o.1.0 o.1.1 o.1.2) [ inl e ↦ e | inr g ↦ absurd (subst (λ l. Owes l a b) g.1 o.1.3) ], o.1.3),
+    )
+
+    right_still : (keeper : Option ℕ) → RightIs m.right m.party c.rooms h keeper → RightIs m.right parties c.rooms h keeper
+    right_still None R = R
+    right_still (Some j) R = (R.0, R.1, R.2, elim (G.stays j R.1 R.3) [ inl e ↦ e | inr g ↦ absurd (none_some (sym (ap tail_of g.1) ∙ R.4)) ], R.4, R.5)
+
+    fits_still : (j : ℕ) (q : P) (place : Stage) → AtStage m.head m.next m.cell c.owner c.keeper c.rooms h j q place → AtStage m.head m.next m.cell owner c.keeper c.rooms h j q place
+    fits_still j q Rest f = f
+    fits_still j q (Cleared x) f = (f.0, G.fixed x (Ready j) f.1 (λ b e. ready_spare refl e), f.2, f.3, f.4, f.5)
+    fits_still j q (Swapped x old) f = f
+    fits_still j q (Holding t) f = f
+    fits_still j q StubNull f = f
+    fits_still j q (Second t) f = f
+    fits_still j q (Null t) f = f
+    fits_still j q (PutClear t) f = f
+    fits_still j q (PutSwap t) f = f
+    fits_still j q (PutLink t old) f = f
+    fits_still j q (PutRead t) f = f
+
+    -- a party that comes had a name that was gone, or that no party had
+    come_settled : (k : ℕ) (p : AbstractParty P) → parties k ≡ Some p → ((q : AbstractParty P) → m.party k ≡ Some q → Gone q.name) → IsSettled p.name h
+    come_settled k p at gone = elim (G.known p.name) [
+      | yes g ↦ G.settled p.name g
+      | no not ↦ M.strangers p.name (λ j q e s. elim (G.stays j q e) [
+        | inl there ↦ not (subst Gone s (gone q (ap m.party (sym (G.names j k q p there at s)) ∙ e)))
+        | inr g ↦ not (subst Gone s g.0)
+      ])
+    ]
+
+    pub regroups_keep : Meets (record m { party = parties }) (record c { owner = owner }) h
+    regroups_keep = record {
+      legal = M.legal;
+      last = M.last;
+      ends = M.ends;
+      joined = λ i a b ia ib. joined_still a b (M.joined i a b ia ib);
+      once = M.once;
+      shared = λ i x ix. G.fixed x Shared (M.shared i x ix) (λ b e. spare_shared refl (sym e));
+      stub = G.fixed 0 Shared M.stub (λ b e. spare_shared refl (sym e));
+      unmade = λ x lt. G.fixed x Unmade (M.unmade x lt) (λ b e. spare_unmade refl (sym e));
+      holds = M.holds;
+      right = right_still c.keeper M.right;
+      fits = λ k p at. elim (G.was k p at) [
+        | inl e ↦ fits_still k p.name p.place (M.fits k p e)
+        | inr w ↦ subst (AtStage m.head m.next m.cell owner c.keeper c.rooms h k p.name) (sym w.0) (come_settled k p at w.1)
+      ];
+      rooms = G.rooms;
+      names = G.names;
+      strangers = λ q away. elim (G.known q) [
+        | yes g ↦ G.settled q g
+        | no not ↦ M.strangers q (λ j p e s. elim (G.stays j p e) [ inl there ↦ away j p there s | inr g ↦ not (subst Gone s g.0) ])
+      ];
+    }

@@ -1,0 +1,19 @@
+-- Lemmas on what threads share.
+pub mod BatchTries
+pub mod BlockedLook
+pub mod BlockedPast
+pub mod CallsHold
+pub mod CloseTakesAll
+pub mod DequeueKeeps
+pub mod EnqueueKeeps
+pub mod HolderAllowed
+pub mod PartingKeeps
+pub mod PartsJoin
+pub mod PartySeats
+pub mod ReturnKeeps
+pub mod RightHolds
+pub mod SeatNames
+pub mod StubKeeps
+pub mod TriesInTurn
+pub mod WaitingTries
+pub mod WordsAsMachine

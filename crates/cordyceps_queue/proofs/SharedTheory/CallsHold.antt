@@ -1,0 +1,167 @@
+-- What the calls of a shared queue promise, from what their parts leave.
+use Rattle.std.proofs.Common.{◌≡◌, ℕ, List, [], ◌∷◌, ◌++◌, ◌+◌, reverse, length, Bool, Some, None, refl, sym, ap, ◌∙◌, subst, inl, inr, arith}
+use Rattle.std.specs.Prelude.{Ok, Err}
+use Rattle.std.proofs.lemmas.List.{reverse-append}
+use Rattle.atomic_table.specs.Seated.{TableId}
+use Rattle.cordyceps_shared.specs.Histories.{plain, AllOwn}
+use Rattle.cordyceps_shared.specs.Shares.{Name, whole, first_name}
+use Rattle.cordyceps_shared.proofs.Adding.{whole_adds, plain_own}
+use Rattle.cordyceps_shared.proofs.Telling.{grown_then}
+use Rattle.cordyceps_queue.specs.declared.shared.table.Filled.{Filled}
+use Rattle.cordyceps_queue.specs.declared.shared.table.Tried.TheVariants as tried
+use Rattle.cordyceps_queue.specs.declared.cores.steps.TryDequeueError.TheVariants as error
+use Rattle.cordyceps_queue.specs.Shared.Parts.{standing, IsSeated, Dequeued}
+use Rattle.cordyceps_queue.specs.History as told
+use Rattle.cordyceps_queue.specs.History.{Event, Swap, Link, Take, Busy, Look, Out, Empty, Free}
+use Rattle.cordyceps_queue.specs.Shared.Parting.{IsStill}
+use Rattle.cordyceps_queue.specs.Past as past
+use Rattle.cordyceps_queue.specs.Shared.Plays.{SeatState, Sees, IsResting}
+use Rattle.cordyceps_queue.specs.Shared.Plays as seen
+use Rattle.cordyceps_queue.specs.Shared.Rule.{IsTable}
+use Rattle.cordyceps_queue.specs.Shared.Calls.{same_name, Legal, Adds, BlockedAfter, Enqueues, Dequeues}
+use Rattle.cordyceps_queue.specs.Shared.View.{View, name}
+use Rattle.cordyceps_queue.proofs.CoreTheory.Basics.{none_some}
+use Rattle.cordyceps_queue.proofs.BothWays.{legal_both_ways}
+use Rattle.cordyceps_queue.proofs.HistoryEnds.{links_by-append, swaps_by-append, links_by-reverse, swaps_by-reverse}
+use Rattle.cordyceps_queue.proofs.Legality.{told_legal, holder_of, counts}
+use Rattle.cordyceps_queue.proofs.SharedTheory.BlockedLook.{looked_blocked}
+
+pub front_own : {X : Type 0} (xs ys : List (Bool × X)) → AllOwn (xs ++ ys) → AllOwn xs
+front_own [] ys a = tt
+front_own (x ∷ xs) ys a = (a.0, front_own xs ys a.1)
+
+module _ {E : Type 0} where
+  pub adds : (z z' : TableId) (v w : View E) (es : List (Event Name E)) → Sees v es w → z' ≡ z → Adds (standing z v) es (standing z' w)
+  adds z z' v w es g at = (record { rest = g.rest; is = g.is; adds = g.adds; legal = told_legal same_name (plain w.known.seen) g.legal; share = g.share; alone = g.alone }, at)
+
+  -- ---- a party that is whole stays alone
+  abbrev Still : List (Event Name E) → Type 0
+  Still h = (past.holder h ≡ None) × ((q : Name) → past.IsSettled q h)
+
+  -- events after which nobody is pending and nobody has the right, if it was so before
+  abbrev pub Settles : List (Event Name E) → Type 0
+  Settles es = (h : List (Event Name E)) → Still h → Still (reverse es ++ h)
+
+  pub enqueue_settles : (n : Name) (e : E) → Settles (Swap n e ∷ Link n ∷ [])
+  enqueue_settles n e h s = (s.0, λ q. elim (same_name q n) [ yes is ↦ inl is | no not ↦ inr (not, s.1 q) ])
+
+  pub busy_settles : (n : Name) → Settles (Busy n ∷ [])
+  busy_settles n h s = s
+
+  out_settles : (n : Name) (e : E) → Settles (Take n ∷ Look n ∷ Out n e ∷ Free n ∷ [])
+  out_settles n e h s = (refl, s.1)
+
+  empty_settles : (n : Name) → Settles (Take n ∷ Look n ∷ Empty n ∷ Free n ∷ [])
+  empty_settles n h s = (refl, s.1)
+
+  look_settles : (n : Name) → Settles (Take n ∷ Look n ∷ Free n ∷ [])
+  look_settles n h s = (refl, s.1)
+
+  still_more : (z : TableId) (v w : View E) (es : List (Event Name E)) → Sees v es w → (v.known.share ≡ whole → IsStill (plain v.known.seen)) → Settles es → w.known.share ≡ whole → IsStill (plain w.known.seen)
+  still_more z v w es g still settles is =
+      let all = whole_adds (λ h. Legal h) (standing z v) (standing z w) es (sym g.share ∙ is) (adds z z v w es g refl) in
+      subst Still (sym (ap reverse all ∙ reverse-append (plain v.known.seen) es)) (settles (reverse (plain v.known.seen)) (still (sym g.share ∙ is)))
+
+  -- a party that rests again after these events of its own
+  pub seated_after : (z z' t : TableId) (m k : SeatState E) (tickets left : List ℕ) (es : List (Event Name E)) → IsSeated z m tickets → z' ≡ z → z ≡ t → IsResting t.slots k → k.0.free ≡ left → Sees m.0 es k.0 → Settles es → IsSeated z' k left
+  seated_after z z' t m k tickets left es s at there rests free g settles = record {
+    table = subst (λ q. IsTable q) (sym at) s.table;
+    rests = subst (λ (q : TableId). IsResting q.slots k) (sym (at ∙ there)) rests;
+    free = free;
+    legal = told_legal same_name (plain k.0.known.seen) g.legal;
+    alone = g.alone;
+    still = still_more z m.0 k.0 es g s.still settles;
+  }
+
+  -- ---- putting an element in
+  pub enqueues : (z z' : TableId) (m k : SeatState E) (e : E) (ticket : ℕ) → m.0.back ≡ [] → k.0.back ≡ [] → z' ≡ z → m.0.free ≡ ticket ∷ k.0.free → Sees m.0 (Swap (name m.0) e ∷ Link (name m.0) ∷ []) k.0 → Enqueues e (standing z m.0) (standing z' k.0)
+  enqueues z z' m k e ticket before after at free g =
+      (adds z z' m.0 k.0 (Swap (name m.0) e ∷ Link (name m.0) ∷ []) g at, ap length ((λ i. before i ++ free i) ∙ ap (λ (xs : List ℕ). ticket ∷ (xs ++ k.0.free)) (sym after)))
+
+  -- ---- taking one out
+  same_rooms : (m k : SeatState E) → m.0.back ≡ [] → k.0.back ≡ [] → k.0.free ≡ m.0.free → length (k.0.back ++ k.0.free) ≡ length (m.0.back ++ m.0.free)
+  same_rooms m k before after free = ap length ((λ i. after i ++ free i) ∙ ap (λ (xs : List ℕ). xs ++ m.0.free) (sym before))
+
+  pub finds_busy : (z z' : TableId) (slots : ℕ) (m k : SeatState E) → m.0.back ≡ [] → k.0.back ≡ [] → z' ≡ z → Dequeued slots m k None → Dequeues (Err error.Busy) (standing z m.0) (standing z' k.0)
+  finds_busy z z' slots m k before after at d = (adds z z' m.0 k.0 (Busy (name m.0) ∷ []) d.1 at, same_rooms m k before after d.0)
+
+  pub finds_empty : (z z' : TableId) (slots : ℕ) (m k : SeatState E) → m.0.back ≡ [] → k.0.back ≡ [] → z' ≡ z → Dequeued slots m k (Some tried.Empty) → Dequeues (Err error.Empty) (standing z m.0) (standing z' k.0)
+  finds_empty z z' slots m k before after at d =
+      let n = name m.0 in (adds z z' m.0 k.0 (Take n ∷ Look n ∷ Empty n ∷ Free n ∷ []) d.1 at, same_rooms m k before after d.0)
+
+  pub finds_one : (z z' : TableId) (slots : ℕ) (m k : SeatState E) (full : Filled E) → m.0.back ≡ [] → k.0.back ≡ [] → z' ≡ z → Dequeued slots m k (Some (tried.Out full)) → Dequeues (Ok full.item) (standing z m.0) (standing z' k.0)
+  finds_one z z' slots m k full before after at d =
+      let n = name m.0 in (
+        adds z z' m.0 k.0 (Take n ∷ Look n ∷ Out n full.item ∷ Free n ∷ []) d.1 at,
+        ap length ((λ i. after i ++ d.0 i) ∙ ap (λ (xs : List ℕ). full.ticket ∷ (xs ++ m.0.free)) (sym before)),
+      )
+
+  inconsistent_sees : (slots : ℕ) (m k : SeatState E) → Dequeued slots m k (Some tried.Inconsistent) → Sees m.0 (Take (name m.0) ∷ Look (name m.0) ∷ Free (name m.0) ∷ []) k.0
+  inconsistent_sees slots m k d =
+      let n = name m.0 in grown_then seen.LegalReversed m.0.known d.1.0.known k.0.known (Take n ∷ Look n ∷ []) (Free n ∷ []) d.1.1 d.1.3
+
+  pub finds_blocked : (z z' : TableId) (slots : ℕ) (m k : SeatState E) → m.0.back ≡ [] → k.0.back ≡ [] → z' ≡ z → Dequeued slots m k (Some tried.Inconsistent) → Dequeues (Err error.Inconsistent) (standing z m.0) (standing z' k.0)
+  finds_blocked z z' slots m k before after at d =
+      let n = name m.0 in
+      let v = d.1.0 in
+      let same : name v ≡ n = ap first_name d.1.1.share in
+      let first = subst (λ q. Sees m.0 (Take n ∷ Look q ∷ []) v) (sym same) d.1.1 in
+      let b = looked_blocked z z' (Take n ∷ []) (Free n ∷ []) m.0 v k.0 first d.1.2 d.1.3 in (
+        adds z z' m.0 k.0 (Take n ∷ Look n ∷ Free n ∷ []) (inconsistent_sees slots m k d) at,
+        same_rooms m k before after d.0,
+        subst (λ q. BlockedAfter (standing z m.0) (Take n ∷ Look q ∷ []) (standing z' k.0)) same b,
+      )
+
+  -- what the party is after a try
+  pub busy_seated : (z z' t : TableId) (slots : ℕ) (m k : SeatState E) (tickets : List ℕ) → IsSeated z m tickets → z' ≡ z → z ≡ t → IsResting t.slots k → Dequeued slots m k None → IsSeated z' k tickets
+  busy_seated z z' t slots m k tickets s at there rests d = seated_after z z' t m k tickets tickets (Busy (name m.0) ∷ []) s at there rests (d.0 ∙ s.free) d.1 (busy_settles (name m.0))
+
+  pub empty_seated : (z z' t : TableId) (slots : ℕ) (m k : SeatState E) (tickets : List ℕ) → IsSeated z m tickets → z' ≡ z → z ≡ t → IsResting t.slots k → Dequeued slots m k (Some tried.Empty) → IsSeated z' k tickets
+  empty_seated z z' t slots m k tickets s at there rests d =
+      let n = name m.0 in seated_after z z' t m k tickets tickets (Take n ∷ Look n ∷ Empty n ∷ Free n ∷ []) s at there rests (d.0 ∙ s.free) d.1 (empty_settles n)
+
+  pub blocked_seated : (z z' t : TableId) (slots : ℕ) (m k : SeatState E) (tickets : List ℕ) → IsSeated z m tickets → z' ≡ z → z ≡ t → IsResting t.slots k → Dequeued slots m k (Some tried.Inconsistent) → IsSeated z' k tickets
+  blocked_seated z z' t slots m k tickets s at there rests d =
+      let n = name m.0 in seated_after z z' t m k tickets tickets (Take n ∷ Look n ∷ Free n ∷ []) s at there rests (d.0 ∙ s.free) (inconsistent_sees slots m k d) (look_settles n)
+
+  pub one_seated : (z z' t : TableId) (slots : ℕ) (m k : SeatState E) (tickets left : List ℕ) (full : Filled E) → IsSeated z m tickets → z' ≡ z → z ≡ t → IsResting t.slots k → Dequeued slots m k (Some (tried.Out full)) → left ≡ full.ticket ∷ tickets → IsSeated z' k left
+  one_seated z z' t slots m k tickets left full s at there rests d more =
+      let n = name m.0 in
+      seated_after z z' t m k tickets left (Take n ∷ Look n ∷ Out n full.item ∷ Free n ∷ []) s at there rests (d.0 ∙ (ap (λ xs. full.ticket ∷ xs) s.free ∙ sym more)) d.1 (out_settles n full.item)
+
+  -- ---- a whole party's try is certain
+  whole_unheld : (z : TableId) (m : SeatState E) (tickets : List ℕ) → IsSeated z m tickets → m.0.known.share ≡ whole → told.holder (plain m.0.known.seen) ≡ None
+  whole_unheld z m tickets s is = holder_of (plain m.0.known.seen) ∙ (s.still is).0
+
+  pub whole_right : (z z' : TableId) (slots : ℕ) (m k : SeatState E) (tickets : List ℕ) → IsSeated z m tickets → z' ≡ z → Dequeued slots m k None → m.0.known.share ≡ whole → ⊥
+  whole_right z z' slots m k tickets s at d is =
+      let n = name m.0 in
+      let a = adds z z' m.0 k.0 (Busy n ∷ []) d.1 at in
+      let all = whole_adds (λ h. Legal h) (standing z m.0) (standing z' k.0) (Busy n ∷ []) is a in
+      let held = a.0.legal.turns (plain m.0.known.seen) [] (Busy n) all in
+      none_some (sym (whole_unheld z m tickets s is) ∙ held.1)
+
+  -- as many links as swaps, of each name
+  abbrev pub AllLinked : List (Event Name E) → Type 0
+  AllLinked h = (q : Name) → told.links_by same_name q h ≡ told.swaps_by same_name q h
+
+  whole_even : (z : TableId) (m : SeatState E) (tickets : List ℕ) → IsSeated z m tickets → m.0.known.share ≡ whole → AllLinked (plain m.0.known.seen)
+  whole_even z m tickets s is q =
+      let h = plain m.0.known.seen in
+      let legal = (legal_both_ways Name E same_name h).0 s.legal in
+      sym (links_by-reverse same_name q h) ∙ ((counts same_name (reverse h) legal q).0 ((s.still is).1 q) ∙ swaps_by-reverse same_name q h)
+
+  look_even : (n : Name) (h : List (Event Name E)) → AllLinked h → AllLinked (h ++ Take n ∷ Look n ∷ [])
+  look_even n h e q = links_by-append same_name q h (Take n ∷ Look n ∷ []) ∙ (ap (λ x. x + 0) (e q) ∙ sym (swaps_by-append same_name q h (Take n ∷ Look n ∷ [])))
+
+  pub even_open : (h : List (Event Name E)) (q : Name) → AllLinked h → told.IsPending same_name q h → ⊥
+  even_open h q e p = let same = e q in omega arith
+
+  pub whole_clear : (z z' : TableId) (slots : ℕ) (m k : SeatState E) (tickets : List ℕ) → IsSeated z m tickets → z' ≡ z → m.0.back ≡ [] → k.0.back ≡ [] → Dequeued slots m k (Some tried.Inconsistent) → m.0.known.share ≡ whole → ⊥
+  whole_clear z z' slots m k tickets s at before after d is =
+      let n = name m.0 in
+      let g = inconsistent_sees slots m k d in
+      let b = (finds_blocked z z' slots m k before after at d).2 in
+      let mine = front_own b.past b.later (subst (λ r. AllOwn r) b.is (g.alone (g.share ∙ is))) in
+      let all : plain b.past ≡ plain m.0.known.seen ++ Take n ∷ Look n ∷ [] = plain_own b.past mine ∙ (b.adds ∙ ap (λ r. r ++ Take n ∷ Look n ∷ []) (sym (plain_own m.0.known.seen (s.alone is)))) in
+      even_open (plain b.past) b.blocked.by (subst AllLinked (sym all) (look_even n (plain m.0.known.seen) (whole_even z m tickets s is))) b.blocked.pending

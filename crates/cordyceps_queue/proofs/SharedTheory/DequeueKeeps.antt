@@ -1,0 +1,261 @@
+-- The steps of a party that dequeues keep the rule of a queue's table. Each is proved where no slot is in hand; `returning`
+-- adds that one is given back first.
+use Rattle.std.proofs.Common.{◌≡◌, ◌≢◌, ℕ, zero, suc, ◌+◌, ◌-◌, List, [], ◌∷◌, ◌++◌, drop, length, reverse, set, get_or, Option, Some, None, refl, sym, ap, ◌∙◌, subst, arith, get_or-set_other, get_or-set_same, length-set}
+use Rattle.std.proofs.lemmas.List.{reverse-append}
+use mathlib.Core.Option.{some, none}
+use mathlib.Core.Path.{fun_ext}
+use native.Mathlib.Decide.{ℕ_discrete}
+use lib.ListN.{get_elem?}
+use lib.Seq.{set-get_or}
+use Rattle.atomic_table.specs.Table.{Act, keeps, takes, stepped, carried_after, Valid}
+use Rattle.atomic_table.proofs.Lists.{set_else}
+use Rattle.cordyceps_shared.specs.Histories.{events, of_seat}
+use Rattle.cordyceps_shared.specs.Shares.{Name}
+use Rattle.cordyceps_shared.proofs.Seeing.{events_more, plain_marked}
+use Rattle.cordyceps_queue.specs.declared.cores.stage.Stage.{Stage}
+use Rattle.cordyceps_queue.specs.declared.cores.stage.Stage.TheVariants.{Cleared, Holding, Null}
+use Rattle.cordyceps_queue.specs.declared.shared.table.Filled.{Filled}
+use Rattle.cordyceps_queue.specs.History.{Event}
+use Rattle.cordyceps_queue.specs.Cores.Meets.{ItemAt, Spare, Shared, OwnsRooms, Chain, Owes, tail_of, AtStage, Meets}
+use Rattle.cordyceps_queue.specs.Past.{HasLooked, WasBlocked}
+use Rattle.cordyceps_queue.specs.Shared.Plays.{SeatState, Sees, stands_at, hands_out, Blocked}
+use Rattle.cordyceps_queue.specs.Shared.Rule.{TableState, Homes, link_of, full_slot, slot_of, party, machine_of, FullAtHome, EmptyAtHome, RuleHolds}
+use Rattle.cordyceps_queue.specs.Shared.View.{View, name}
+use Rattle.cordyceps_queue.specs.Cores.Abstract.{AbstractParty, AbstractMachine, update, insert_room, stands, set_right, hand_out}
+use Rattle.cordyceps_queue.proofs.CoreTheory.Basics.{zero_suc, suc_zero, suc_inj, put_same, put_other, put_all}
+use Rattle.cordyceps_queue.proofs.CoreTheory.DequeueSteps.{out_keeps, chain_after_out}
+use Rattle.cordyceps_queue.proofs.CoreTheory.HolderSteps.{was_now, keeping, right_with, place_keeps, open_blocks}
+use Rattle.cordyceps_queue.proofs.CoreTheory.OtherParties.{joined_put, names_put, strange}
+use Rattle.cordyceps_queue.proofs.CoreTheory.ProducerSteps.{spare_shared, ready_shared}
+use Rattle.cordyceps_queue.proofs.CoreTheory.ChainShrinks.{at_down, tail_full, tail_away, second}
+use Rattle.cordyceps_queue.proofs.SharedTheory.SeatNames.{few_rooms}
+use Rattle.cordyceps_queue.proofs.SharedTheory.WordsAsMachine.{links_same, keeps_rule, rooms_of, empties, empties_same, readies, readies_same, chain_near}
+use Rattle.cordyceps_queue.proofs.SharedTheory.EnqueueKeeps.{m, past, here, view_after, views_put, wide_words}
+
+-- the order of the free rooms of a party with the right does not matter
+respare : {P E : Type 0} (n : AbstractMachine P E) (c : Chain) (h : List (Event P E)) (M : Meets n c h) (k : ℕ) (p : AbstractParty P) (at : n.party k ≡ Some p) (t : ℕ) → tail_of p.place ≡ Some t → (spare : List ℕ) → OwnsRooms c.owner k spare
+    → Meets (record n { party = update n.party k (Some (record p { spare = spare })) }) c h
+respare n c h M k p at t has spare given =
+    let q = record p { spare = spare } in record {
+      legal = M.legal;
+      last = M.last;
+      ends = M.ends;
+      joined = λ i a b ia ib. joined_put n.party k p q at n.next a b (λ o. o) (M.joined i a b ia ib);
+      once = M.once;
+      shared = M.shared;
+      stub = M.stub;
+      unmade = M.unmade;
+      holds = M.holds;
+      right = right_with n c h M k p at t has (update n.party k (Some q)) c.rooms h q t (put_same n.party k (Some q)) has (keeping n c h M k p at t has).held_by;
+      fits = put_all (λ j x. AtStage n.head n.next n.cell c.owner c.keeper c.rooms h j x.name x.place) n.party k q (λ j x ne eq. M.fits j x eq) (M.fits k p at);
+      rooms = put_all (λ j x. OwnsRooms c.owner j x.spare) n.party k q (λ j x ne eq. M.rooms j x eq) given;
+      names = names_put n.party k p q at refl M.names;
+      strangers = λ x away. M.strangers x (strange n.party k p q at refl x away);
+    }
+
+put_twice : {A : Type 0} (f : ℕ → A) (k : ℕ) (v w : A) → update (update f k v) k w ≡ update f k w
+put_twice f k v w = fun_ext (λ j. elim (ℕ_discrete j k) [
+  | yes same ↦ subst (λ i. update (update f k v) k w i ≡ update f k w i) (sym same) (put_same (update f k v) k w ∙ sym (put_same f k w))
+  | no ne ↦ put_other (update f k v) k w j ne ∙ (put_other f k v j ne ∙ sym (put_other f k w j ne))
+])
+
+module _ {E : Type 0} (s : TableState E) (k : RuleHolds s) (id : ℕ) (v : View E) (at : get_elem? s.views id ≡ some v) (named : v.known.share ≢ []) (bare : v.back ≡ []) where
+  abbrev pub n : AbstractMachine Name E
+  n = m s k id v at named
+
+  abbrev pub out_events : List (Event Name E)
+  out_events = past s k id v at named
+
+  pub there : n.party id ≡ Some (party v)
+  there = here s k id v at named
+
+  abbrev pub sees : List (Event Name E) → List ℕ → List ℕ → Stage → View E
+  sees es free back place = view_after s k id v at named es free back place None
+
+  -- the rooms of one chain are rooms of another
+  abbrev pub Among : List ℕ → List ℕ → Type 0
+  Among xs ys = (i x : ℕ) → ItemAt xs i x → (j : ℕ) × ItemAt ys j x
+
+  full_among : (rooms : List ℕ) → Among rooms k.chain.rooms → FullAtHome s.homes k.cell rooms
+  full_among rooms among i x ix ne = let a = among i x ix in k.full a.0 x a.1 ne
+
+  -- a step that changes no word and no slot
+  pub reads : (es : List (Event Name E)) (place : Stage) (chain : Chain) → Meets (stands n id (party v) place) chain (reverse es ++ out_events) → Among chain.rooms k.chain.rooms → ((q : ℕ) → place ≡ Cleared q → ⊥) → (i : ℕ)
+      → RuleHolds record { words = set s.words i (get_or s.words i 0); homes = s.homes; views = set s.views id (sees es v.free v.back place) } × Sees v es (sees es v.free v.back place)
+  reads es place chain met among away i =
+      let w = sees es v.free v.back place in
+      let same : stands n id (party v) place ≡ machine_of k.cell s.words (set s.views id w) = spelled w in
+      let r = keeps_rule s k id es v w s.words s.homes k.cell chain (stands n id (party v) place) at named refl same met refl refl (full_among chain.rooms among) (empties_same s k id w (k.empty id v at named)) (readies_same s k id w away) in
+      (subst (λ (ws : List ℕ). RuleHolds record { words = ws; homes = s.homes; views = set s.views id w }) (sym (set-get_or s.words i 0)) r.0, r.1)
+    where
+      spelled : (w : View E) → stands n id (party v) place ≡ machine_of k.cell s.words (set s.views id (sees es v.free v.back place))
+      spelled w j = record {
+        head = get_or s.words 0 0;
+        right = get_or s.words 1 0;
+        count = length s.words - 2;
+        next = λ r. link_of (get_or s.words (2 + r) 0);
+        cell = k.cell;
+        party = views_put s k id v at named (sees es v.free v.back place) named j;
+      }
+
+  -- the right changes
+  pub rights : (es : List (Event Name E)) (place : Stage) (chain : Chain) (right : ℕ) → Meets (set_right n id (party v) right place) chain (reverse es ++ out_events) → Among chain.rooms k.chain.rooms → ((q : ℕ) → place ≡ Cleared q → ⊥)
+      → RuleHolds record { words = set s.words 1 right; homes = s.homes; views = set s.views id (sees es v.free v.back place) } × Sees v es (sees es v.free v.back place)
+  rights es place chain right met among away =
+      let w = sees es v.free v.back place in
+      keeps_rule s k id es v w (set s.words 1 right) s.homes k.cell chain (set_right n id (party v) right place) at named refl spelled met (length-set s.words 1 right) refl (full_among chain.rooms among) (empties_same s k id w (k.empty id v at named)) (readies_same s k id w away)
+    where
+      spelled : set_right n id (party v) right place ≡ machine_of k.cell (set s.words 1 right) (set s.views id (sees es v.free v.back place))
+      spelled j = record {
+        head = sym (get_or-set_other s.words 1 0 right 0 (λ x. absurd (omega arith))) j;
+        right = sym (get_or-set_same s.words 1 right 0 (let w = wide_words s k id v at named in omega arith)) j;
+        count = ap (λ l. l - 2) (sym (length-set s.words 1 right)) j;
+        next = sym (links_same s.words 1 right (omega arith)) j;
+        cell = k.cell;
+        party = views_put s k id v at named (sees es v.free v.back place) named j;
+      }
+
+  -- the tail's element is handed out, after these events
+  module _ (before : List (Event Name E)) (M : Meets n k.chain (reverse before ++ out_events)) (t r : ℕ) (has : tail_of v.place ≡ Some t) (nothing : (a b : ℕ) → Owes v.place a b → ⊥) (is_real : t ≢ 0) (linked : n.next t ≡ Some r) (e : E) (full : k.cell t ≡ Some e) where
+    abbrev pub all : List (Event Name E)
+    all = before ++ Event.Out (name v) e ∷ []
+
+    abbrev pub out_view : View E
+    out_view = sees all v.free (t ∷ []) (Holding r)
+
+    abbrev next_chain : Chain
+    next_chain = chain_after_out n k.chain (reverse before ++ out_events) M id (party v) there t r has nothing is_real linked e full
+
+    abbrev homes_out : Homes E
+    homes_out = set s.homes t none
+
+    tail_at : ItemAt k.chain.rooms 0 t
+    tail_at = (keeping n k.chain (reverse before ++ out_events) M id (party v) there t has).tail
+
+    tail_shared : k.chain.owner t ≡ Shared
+    tail_shared = M.shared 0 t tail_at
+
+    free_rooms : OwnsRooms k.chain.owner id v.free
+    free_rooms = subst (λ l. OwnsRooms k.chain.owner id (l ++ v.free)) bare (rooms_of s k id v at named)
+
+    new_rooms : OwnsRooms next_chain.owner id (t ∷ v.free)
+    new_rooms = record { own = owns; once = distinct }
+      where
+        apart : (i : ℕ) → ItemAt v.free i t → ⊥
+        apart i a = spare_shared (free_rooms.own i t a) tail_shared
+
+        owns : (i x : ℕ) → ItemAt (t ∷ v.free) i x → next_chain.owner x ≡ Spare id
+        owns zero x a = ap next_chain.owner a ∙ put_same k.chain.owner t (Spare id)
+        owns (suc i) x a = put_other k.chain.owner t (Spare id) x (λ same. apart i (subst (ItemAt v.free i) same a)) ∙ free_rooms.own i x a
+
+        distinct : (i j x : ℕ) → ItemAt (t ∷ v.free) i x → ItemAt (t ∷ v.free) j x → i ≡ j
+        distinct zero zero x a b = refl
+        distinct zero (suc j) x a b = absurd (apart j (subst (ItemAt v.free j) a b))
+        distinct (suc i) zero x a b = absurd (apart i (subst (ItemAt v.free i) b a))
+        distinct (suc i) (suc j) x a b = ap suc (free_rooms.once i j x a b)
+
+    abbrev handed_machine : AbstractMachine Name E
+    handed_machine = hand_out n id (party v) t r
+
+    abbrev handed_party : AbstractParty Name
+    handed_party = record { name = name v; place = Holding r; spare = insert_room t (v.back ++ v.free) }
+
+    abbrev freed_machine : AbstractMachine Name E
+    freed_machine = record handed_machine { party = update handed_machine.party id (Some (party out_view)) }
+
+    met : Meets freed_machine next_chain (Event.Out (name v) e ∷ (reverse before ++ out_events))
+    met = respare handed_machine next_chain (Event.Out (name v) e ∷ (reverse before ++ out_events)) (out_keeps n k.chain (reverse before ++ out_events) M id (party v) there t r has nothing is_real linked e full)
+        id handed_party (put_same n.party id (Some handed_party)) r refl (t ∷ v.free) new_rooms
+
+    spelled_out : freed_machine ≡ machine_of (update k.cell t None) s.words (set s.views id out_view)
+    spelled_out j = record {
+      head = get_or s.words 0 0;
+      right = get_or s.words 1 0;
+      count = length s.words - 2;
+      next = λ x. link_of (get_or s.words (2 + x) 0);
+      cell = update k.cell t None;
+      party = (put_twice n.party id (Some handed_party) (Some (party out_view)) ∙ views_put s k id v at named out_view named) j;
+    }
+
+    out_full : FullAtHome homes_out (update k.cell t None) next_chain.rooms
+    out_full i x ix ne =
+        let away : x ≢ t = λ same. tail_away n k.chain (reverse before ++ out_events) M t r tail_at linked i (subst (ItemAt next_chain.rooms i) same ix) in
+        set_else s.homes t x none away ∙ (k.full (suc i) x (at_down k.chain.rooms i x ix) ne ∙ ap (λ o. some (some (slot_of x o))) (sym (put_other k.cell t None x away)))
+
+    out_empty : EmptyAtHome homes_out v.free
+    out_empty i x ix = set_else s.homes t x none (λ same. spare_shared (free_rooms.own i x ix) (ap k.chain.owner same ∙ tail_shared)) ∙ k.empty id v at named i x ix
+
+    out_kept : (i : ℕ) → RuleHolds record { words = set s.words i (get_or s.words i 0); homes = homes_out; views = set s.views id out_view } × Sees v all out_view
+    out_kept i =
+        let h = ap (λ l. l ++ out_events) (reverse-append before (Event.Out (name v) e ∷ [])) in
+        let kept = keeps_rule s k id all v out_view s.words homes_out (update k.cell t None) next_chain freed_machine at named refl spelled_out (subst (Meets freed_machine next_chain) (sym h) met) refl (length-set s.homes t none) out_full
+        (empties s k id t none out_view out_empty (λ j ne mine. spare_shared mine tail_shared))
+        (readies s k id t None out_view (λ q is. cc) (λ j ne mine. ready_shared mine tail_shared)) in
+        (subst (λ (ws : List ℕ). RuleHolds record { words = ws; homes = homes_out; views = set s.views id out_view }) (sym (set-get_or s.words i 0)) kept.0, kept.1)
+
+  -- ---- what the steps tell
+  pub stood : (es : List (Event Name E)) (place : Stage) → Sees v es (sees es v.free v.back place) → stands_at es place (v, []) (sees es v.free v.back place, [])
+  stood es place adds = (refl, bare, ap (λ l. l ++ v.free) (sym bare), refl, adds)
+
+  pub blocked : (es : List (Event Name E)) (place : Stage) → WasBlocked (name v) (reverse es ++ out_events) → Blocked (sees es v.free v.back place)
+  blocked es place was = subst (WasBlocked (name v)) (sym (ap (λ z. reverse z) (plain_marked id (k.history ++ of_seat id es)) ∙ (ap (λ z. reverse z) (events_more k.history id es) ∙ reverse-append (events k.history) es))) was
+
+  pub same_rooms : Among k.chain.rooms k.chain.rooms
+  same_rooms i x ix = (i, ix)
+
+  pub less_rooms : Among (drop 1 k.chain.rooms) k.chain.rooms
+  less_rooms i x ix = (suc i, at_down k.chain.rooms i x ix)
+
+  -- what a step comes to
+  abbrev pub Comes : ℕ → ℕ → (ℕ → SeatState E → Type 0) → Type 0
+  Comes i new then = (w : View E) × (a : Act (Option (Filled E))) × Valid s.homes [] a × RuleHolds (stepped s i new id [] w a) × then (get_or s.words i 0) (w, carried_after [] a)
+
+  -- with the tail's link a room: the element is handed out
+  pub hands : (before : List (Event Name E)) (M : Meets n k.chain (reverse before ++ out_events)) (t r i : ℕ) (has : tail_of v.place ≡ Some t) (nothing : (a b : ℕ) → Owes v.place a b → ⊥) (is_real : t ≢ 0) (linked : n.next t ≡ Some r) (slots : ℕ) → length s.homes ≡ slots
+      → Comes i (get_or s.words i 0) (λ _. hands_out before slots t r (v, []))
+  hands before M t r i has nothing is_real linked slots deep =
+      let first : ItemAt k.chain.rooms 0 t = (keeping n k.chain (reverse before ++ out_events) M id (party v) there t has).tail in
+      let f = tail_full n k.chain (reverse before ++ out_events) M t is_real first in
+      let e = f.0 in
+      let near_t = chain_near s k 0 t first in
+      let near_r = chain_near s k 1 r (second n k.chain (reverse before ++ out_events) M t r first linked) in
+      let o = out_kept before M t r has nothing is_real linked e f.3 i in (
+        out_view before M t r has nothing is_real linked e f.3,
+        takes t (Some (full_slot t e)),
+        k.full 0 t first is_real ∙ ap (λ x. some (some (slot_of t x))) f.3,
+        o.0,
+        (e, refl, refl, ap (λ l. l ++ v.free) (sym bare), refl, omega arith, omega arith, o.1, let few = few_rooms s k id v at named in omega arith),
+      )
+
+  -- with the tail's link null
+  nulls : (before : List (Event Name E)) (M : Meets n k.chain (reverse before ++ out_events)) (t i : ℕ) (has : tail_of v.place ≡ Some t) (nothing : (a b : ℕ) → Owes v.place a b → ⊥) (is_real : t ≢ 0) → HasLooked (name v) (reverse before ++ out_events) → n.next t ≡ None
+      → Comes i (get_or s.words i 0) (λ _. stands_at before (Null t) (v, []))
+  nulls before M t i has nothing is_real looked open_link =
+      let h = reverse before ++ out_events in
+      let met = place_keeps n k.chain h M id (party v) there t has (Null t) refl (λ a b o. absurd (nothing a b o)) (
+        record { keeps = keeping n k.chain h M id (party v) there t has; is_real = is_real; looked = looked },
+        (λ far. was_now (name v) h looked (open_blocks n k.chain h M id (party v) there t has nothing open_link far)),
+      ) in
+      let r = reads before (Null t) k.chain met same_rooms (λ q is. cc) i in
+      (sees before v.free v.back (Null t), keeps, tt, r.0, stood before (Null t) r.1)
+
+  -- the read of a tail's link that is no stub
+  abbrev pub ReadsTail : List (Event Name E) → ℕ → ℕ → ℕ → SeatState E → Type 0
+  ReadsTail before slots t found w = (found ≡ 0 → stands_at before (Null t) (v, []) w) × ((r : ℕ) → found ≡ suc r → hands_out before slots t r (v, []) w)
+
+  pub reading : (before : List (Event Name E)) (M : Meets n k.chain (reverse before ++ out_events)) (t i : ℕ) (has : tail_of v.place ≡ Some t) (nothing : (a b : ℕ) → Owes v.place a b → ⊥) (is_real : t ≢ 0) → HasLooked (name v) (reverse before ++ out_events)
+      → i ≡ t + 2 → (slots : ℕ) → length s.homes ≡ slots → (x : ℕ) → get_or s.words i 0 ≡ x → Comes i (get_or s.words i 0) (ReadsTail before slots t)
+  reading before M t i has nothing is_real looked is slots deep zero e =
+      let here_is : get_or s.words (2 + t) 0 ≡ get_or s.words i 0 = ap (λ q. get_or s.words q 0) (sum is) in
+      let c = nulls before M t i has nothing is_real looked (ap link_of (here_is ∙ e)) in
+      (c.0, c.1, c.2, c.3, ((λ _. c.4), λ r f. absurd (zero_suc (sym e ∙ f))))
+    where
+      sum : i ≡ t + 2 → 2 + t ≡ i
+      sum a = omega arith
+  reading before M t i has nothing is_real looked is slots deep (suc r) e =
+      let here_is : get_or s.words (2 + t) 0 ≡ get_or s.words i 0 = ap (λ q. get_or s.words q 0) (sum is) in
+      let c = hands before M t r i has nothing is_real (ap link_of (here_is ∙ e)) slots deep in
+      (c.0, c.1, c.2, c.3, ((λ f. absurd (suc_zero (sym e ∙ f))), λ r' f. subst (λ q. hands_out before slots t q (v, []) (c.0, carried_after [] c.1)) (suc_inj (sym e ∙ f)) c.4))
+    where
+      sum : i ≡ t + 2 → 2 + t ≡ i
+      sum a = omega arith

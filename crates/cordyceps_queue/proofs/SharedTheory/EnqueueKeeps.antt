@@ -1,0 +1,236 @@
+-- The steps of `enqueue` keep the rule of a queue's table.
+use Rattle.std.proofs.Common.{◌≡◌, ◌≢◌, ℕ, suc, ◌+◌, ◌-◌, ◌<◌, List, [], ◌∷◌, ◌++◌, length, reverse, set, get_or, Option, Some, None, refl, sym, ap, ◌∙◌, subst, inl, inr, arith, get_or-set_other, get_or-set_same, length-set}
+use mathlib.Core.Option.{some, none}
+use lib.ListN.{get_elem?}
+use Rattle.atomic_table.specs.Table.{keeps, takes, gives, homes_after, rest, step, Allows}
+use Rattle.atomic_table.proofs.Lists.{set_here, set_else}
+use Rattle.cordyceps_shared.specs.Histories.{events, of_seat}
+use Rattle.cordyceps_shared.specs.Knowing.{all_seen}
+use Rattle.cordyceps_shared.specs.Shares.{Name, first_name}
+use Rattle.cordyceps_shared.proofs.Telling.{at_length, grown_then}
+use Rattle.cordyceps_queue.specs.declared.cores.stage.Stage.{Stage}
+use Rattle.cordyceps_queue.specs.declared.cores.stage.Stage.TheVariants.{Rest, Cleared, Swapped}
+use Rattle.cordyceps_queue.specs.declared.shared.table.Filled.{Filled}
+use Rattle.cordyceps_queue.specs.History.{Event}
+use Rattle.cordyceps_queue.specs.Cores.Meets.{ItemAt, Owner, Spare, OwnsRooms, AtStage}
+use Rattle.cordyceps_queue.specs.Shared.Plays.{SeatState, LegalReversed, Sees}
+use Rattle.cordyceps_queue.specs.Shared.Plays as play
+use Rattle.cordyceps_queue.specs.Shared.Rule.{TableState, Homes, full_slot, slot_of, party, party_of, machine_of, FullAtHome, EmptyAtHome, RuleHolds}
+use Rattle.cordyceps_queue.specs.Shared.View.{View, name}
+use Rattle.cordyceps_queue.specs.Cores.Abstract.{AbstractMachine, update, clear_room, swap_head, link_next}
+use Rattle.cordyceps_queue.proofs.CoreTheory.Basics.{some_inj, put_same, put_other, at_split}
+use Rattle.cordyceps_queue.proofs.CoreTheory.ProducerSteps.{spare_shared, ready_spare, clear_keeps, chain_after_clear, swap_keeps, chain_after_swap, was, fresh, link_keeps}
+use Rattle.cordyceps_queue.proofs.SharedTheory.WordsAsMachine.{links_put, links_same, parties_put, keeps_rule, core, party_at, rooms_of, free_spare, empties, empties_same, readies, readies_same, head_near}
+
+abbrev pub first_or : {A : Type 0} → A → List A → A
+first_or d [] = d
+first_or d (x ∷ xs) = x
+
+abbrev pub rest_from : {A : Type 0} → List A → List A
+rest_from [] = []
+rest_from (x ∷ xs) = xs
+
+abbrev room_of : Stage → ℕ
+room_of (Cleared r) = r
+room_of p = 0
+
+pub spare_one : {o : Owner} {j k : ℕ} → o ≡ Spare j → o ≡ Spare k → j ≡ k
+spare_one a b = cc (a, b)
+
+module _ {E : Type 0} (s : TableState E) (k : RuleHolds s) (id : ℕ) (v : View E) (at : get_elem? s.views id ≡ some v) (named : v.known.share ≢ []) where
+  abbrev pub m : AbstractMachine Name E
+  m = core s k
+
+  abbrev pub past : List (Event Name E)
+  past = reverse (events k.history)
+
+  pub here : m.party id ≡ Some (party v)
+  here = party_at s k id v at named
+
+  -- the view after a step that adds these events
+  abbrev pub view_after : List (Event Name E) → List ℕ → List ℕ → Stage → Option E → View E
+  view_after es free back place item = record { known = all_seen id (k.history ++ of_seat id es) v.known.share; free = free; back = back; place = place; item = item }
+
+  pub views_put : (w : View E) → w.known.share ≢ [] → update m.party id (Some (party w)) ≡ (λ j. party_of (get_elem? (set s.views id w) j))
+  views_put w some_name = sym (parties_put s.views id w (at_length s.views id v at) some_name)
+
+  pub wide_words : length s.words ≡ 2 + length s.homes
+  wide_words = k.wide
+
+  -- ---- the store of null
+  module _ (r : ℕ) (rs : List ℕ) (e : E) (idle : v.place ≡ Rest) (bare : v.back ≡ []) (free : v.free ≡ r ∷ rs) where
+    spare : v.back ++ v.free ≡ r ∷ rs
+    spare = ap (λ l. l ++ v.free) bare ∙ free
+
+    rooms : OwnsRooms k.chain.owner id (r ∷ rs)
+    rooms = subst (OwnsRooms k.chain.owner id) spare (rooms_of s k id v at named)
+
+    empty : EmptyAtHome s.homes (r ∷ rs)
+    empty = subst (EmptyAtHome s.homes) free (k.empty id v at named)
+
+    abbrev pub clear_view : View E
+    clear_view = view_after [] rs [] (Cleared r) (Some e)
+
+    abbrev words_clear : List ℕ
+    words_clear = set s.words (2 + r) 0
+
+    abbrev homes_clear : Homes E
+    homes_clear = set s.homes r none
+
+    inside : r < length s.homes
+    inside = at_length s.homes r (some None) (empty 0 r refl)
+
+    clear_machine : clear_room m id (party v) r rs e ≡ machine_of (update k.cell r (Some e)) words_clear (set s.views id clear_view)
+    clear_machine i = record {
+      head = sym (get_or-set_other s.words (2 + r) 0 0 0 (λ x. absurd (omega arith))) i;
+      right = sym (get_or-set_other s.words (2 + r) 1 0 0 (λ x. absurd (omega arith))) i;
+      count = ap (λ n. n - 2) (sym (length-set s.words (2 + r) 0)) i;
+      next = sym (links_put s.words r 0 (let w = wide_words in let l = inside in omega arith)) i;
+      cell = update k.cell r (Some e);
+      party = views_put clear_view named i;
+    }
+
+    clear_full : FullAtHome homes_clear (update k.cell r (Some e)) k.chain.rooms
+    clear_full i x ix ne =
+        let away : x ≢ r = λ same. spare_shared (rooms.own 0 r refl) (ap k.chain.owner (sym same) ∙ k.meets.shared i x ix) in
+        set_else s.homes r x none away ∙ k.full i x ix ne ∙ ap (λ o. some (some (slot_of x o))) (sym (put_other k.cell r (Some e) x away))
+
+    clear_empty : EmptyAtHome homes_clear rs
+    clear_empty i x ix = set_else s.homes r x none (λ same. absurd (let z = rooms.once (suc i) 0 r (subst (ItemAt rs i) same ix) refl in omega arith)) ∙ empty (suc i) x ix
+
+    clear_kept : RuleHolds record { words = words_clear; homes = homes_clear; views = set s.views id clear_view } × Sees v [] clear_view
+    clear_kept = keeps_rule s k id [] v clear_view words_clear homes_clear (update k.cell r (Some e)) (chain_after_clear m k.chain past k.meets id (party v) here idle r rs spare e) (clear_room m id (party v) r rs e)
+        at named refl clear_machine (clear_keeps m k.chain past k.meets id (party v) here idle r rs spare e)
+        (length-set s.words (2 + r) 0) (length-set s.homes r none) clear_full
+        (empties s k id r none clear_view clear_empty (λ j ne mine. ne (spare_one mine (rooms.own 0 r refl))))
+        (readies s k id r (Some e) clear_view (λ q is. ap (λ z. update k.cell r (Some e) z) (sym (ap room_of is)) ∙ put_same k.cell r (Some e)) (λ j ne mine. ready_spare mine (rooms.own 0 r refl)))
+
+  -- ---- the swap of head
+  module _ (r : ℕ) (e : E) (ready : v.place ≡ Cleared r) (item : v.item ≡ Some e) (inside : r < length s.homes) where
+    has : k.cell r ≡ Some e
+    has = k.ready id v r at named ready ∙ item
+
+    abbrev found_word : ℕ
+    found_word = get_or s.words 0 0
+
+    abbrev pub swap_view : View E
+    swap_view = view_after (Event.Swap (name v) e ∷ []) v.free v.back (Swapped r found_word) None
+
+    abbrev words_swap : List ℕ
+    words_swap = set s.words 0 r
+
+    abbrev homes_swap : Homes E
+    homes_swap = set s.homes r (some (Some (full_slot r e)))
+
+    known : AtStage m.head m.next m.cell k.chain.owner k.chain.keeper k.chain.rooms past id (name v) (Cleared r)
+    known = was m k.chain past k.meets id (party v) here r e ready has
+
+    swap_machine : swap_head m id (party v) r (Swapped r found_word) ≡ machine_of k.cell words_swap (set s.views id swap_view)
+    swap_machine i = record {
+      head = sym (get_or-set_same s.words 0 r 0 (let w = wide_words in omega arith)) i;
+      right = sym (get_or-set_other s.words 0 1 r 0 (λ x. absurd (omega arith))) i;
+      count = ap (λ n. n - 2) (sym (length-set s.words 0 r)) i;
+      next = sym (links_same s.words 0 r (omega arith)) i;
+      cell = k.cell;
+      party = views_put swap_view named i;
+    }
+
+    swap_full : FullAtHome homes_swap k.cell (k.chain.rooms ++ r ∷ [])
+    swap_full i x ix ne = elim (at_split k.chain.rooms r i x ix) [
+      | inl a ↦ set_else s.homes r x (some (Some (full_slot r e))) (λ same. fresh m k.chain past k.meets id (party v) here r e ready has i (subst (ItemAt k.chain.rooms i) same a)) ∙ k.full i x a ne
+      | inr a ↦ ap (get_elem? homes_swap) a.1 ∙ set_here s.homes r (some (Some (full_slot r e))) inside ∙ ap (λ o. some (some (slot_of r o))) (sym has) ∙ ap (λ n. some (some (slot_of n (k.cell n)))) (sym a.1)
+    ]
+
+    swap_empty : EmptyAtHome homes_swap v.free
+    swap_empty i x ix = set_else s.homes r x (some (Some (full_slot r e))) (λ same. ready_spare known.1 (ap k.chain.owner (sym same) ∙ free_spare s k id v i x at named ix)) ∙ k.empty id v at named i x ix
+
+    swap_kept : RuleHolds record { words = words_swap; homes = homes_swap; views = set s.views id swap_view } × Sees v (Event.Swap (name v) e ∷ []) swap_view
+    swap_kept = keeps_rule s k id (Event.Swap (name v) e ∷ []) v swap_view words_swap homes_swap k.cell (chain_after_swap m k.chain past k.meets id (party v) here r e ready has) (swap_head m id (party v) r (Swapped r found_word))
+        at named refl swap_machine (swap_keeps m k.chain past k.meets id (party v) here r e ready has)
+        (length-set s.words 0 r) (length-set s.homes r (some (Some (full_slot r e)))) swap_full
+        (empties s k id r (some (Some (full_slot r e))) swap_view swap_empty (λ j ne mine. ready_spare known.1 mine))
+        (readies_same s k id swap_view (λ q is. cc))
+
+  -- ---- the store of the link
+  module _ (r old : ℕ) (waits : v.place ≡ Swapped r old) (inside : old < length s.homes) where
+    abbrev pub link_view : View E
+    link_view = view_after (Event.Link (name v) ∷ []) v.free v.back Rest None
+
+    abbrev words_link : List ℕ
+    words_link = set s.words (2 + old) (suc r)
+
+    link_machine : link_next m id (party v) old r Rest ≡ machine_of k.cell words_link (set s.views id link_view)
+    link_machine i = record {
+      head = sym (get_or-set_other s.words (2 + old) 0 (suc r) 0 (λ x. absurd (omega arith))) i;
+      right = sym (get_or-set_other s.words (2 + old) 1 (suc r) 0 (λ x. absurd (omega arith))) i;
+      count = ap (λ n. n - 2) (sym (length-set s.words (2 + old) (suc r))) i;
+      next = sym (links_put s.words old (suc r) (let w = wide_words in let l = inside in omega arith)) i;
+      cell = k.cell;
+      party = views_put link_view named i;
+    }
+
+    link_kept : RuleHolds record { words = words_link; homes = s.homes; views = set s.views id link_view } × Sees v (Event.Link (name v) ∷ []) link_view
+    link_kept = keeps_rule s k id (Event.Link (name v) ∷ []) v link_view words_link s.homes k.cell k.chain (link_next m id (party v) old r Rest)
+        at named refl link_machine (link_keeps m k.chain past k.meets id (party v) here r old waits)
+        (length-set s.words (2 + old) (suc r)) refl k.full (empties_same s k id link_view (k.empty id v at named)) (readies_same s k id link_view (λ q is. cc))
+
+module _ {E : Type 0} where
+  pub clears : (slots id i : ℕ) (me : SeatState E) (r : ℕ) (rs : List ℕ) (item : Option E) (e : E) → i ≡ r + 2 → item ≡ Some e → me.0.place ≡ Rest → me.0.back ≡ [] → me.0.free ≡ r ∷ rs → me.0.known.share ≢ []
+      → Allows RuleHolds slots id me i (λ _. 0) (λ _. play.cleared item (step slots i 0 0 none) me 0)
+  clears slots id i me r rs item e is chosen idle bare free named s k deep at fits =
+      let c = clear_kept s k id me.0 at named r rs e idle bare free in
+      let same : 2 + r ≡ i = omega arith in
+      let there = empty s k id me.0 at named r rs e idle bare free 0 r refl in
+      let near : r < slots = let l = at_length s.homes r (some None) there in omega arith in
+      let w = clear_view s k id me.0 at named r rs e idle bare free in (
+        w,
+        takes r None,
+        there,
+        subst (λ (q : ℕ). RuleHolds record { words = set s.words q 0; homes = set s.homes r none; views = set s.views id w }) same c.0,
+        λ r' rs' e' free' item'.
+            let p : r ∷ rs ≡ r' ∷ rs' = sym free ∙ free' in
+            let q : e ≡ e' = some_inj (sym chosen ∙ item') in
+            (ap (λ (l : List ℕ). Cleared (first_or 0 l)) p, ap Some q, ap rest_from p, sym bare, ap (λ (l : List ℕ). let y : Option (Filled E) = None in (first_or 0 l, y) ∷ me.1) p, subst (λ n. n < slots) (ap (first_or 0) p) near, c.1),
+      )
+
+  pub swaps : (slots id : ℕ) (me : SeatState E) (r : ℕ) (e : E) (cs : List (ℕ × Option (Filled E))) → me.0.place ≡ Cleared r → me.0.item ≡ Some e → me.1 ≡ (r, Some (full_slot r e)) ∷ cs → r < slots → me.0.known.share ≢ []
+      → Allows RuleHolds slots id me 0 (λ _. r) (play.swapped (step slots 0 r 0 none) me)
+  swaps slots id me r e cs ready item hand near named s k deep at fits =
+      let inside : r < length s.homes = omega arith in
+      let c = swap_kept s k id me.0 at named r e ready item inside in
+      let w = swap_view s k id me.0 at named r e ready item inside in (
+        w,
+        gives,
+        tt,
+        subst (λ z. RuleHolds record { words = set s.words 0 r; homes = homes_after s.homes z gives; views = set s.views id w }) (sym hand) c.0,
+        λ r' e' cs' ready' item' hand'.
+            let p : Cleared r ≡ Cleared r' = sym ready ∙ ready' in
+            let q : e ≡ e' = some_inj (sym item ∙ item') in
+            let h = head_near s k in
+            (ap (λ l. Swapped (room_of l) (get_or s.words 0 0)) p, refl, refl, ap rest hand', omega arith, subst (λ x. Sees me.0 (Event.Swap (name me.0) x ∷ []) w) q c.1),
+      )
+
+  pub links_on : (slots id i n : ℕ) (me : SeatState E) (r old : ℕ) → i ≡ old + 2 → n ≡ r + 1 → me.0.place ≡ Swapped r old → old < slots → me.0.known.share ≢ []
+      → Allows RuleHolds slots id me i (λ _. n) (λ _. play.linked (step slots i n 0 none) me n)
+  links_on slots id i n me r old is is_n waits near named s k deep at fits =
+      let inside : old < length s.homes = omega arith in
+      let c = link_kept s k id me.0 at named r old waits inside in
+      let w = link_view s k id me.0 at named r old waits inside in
+      let same : 2 + old ≡ i = omega arith in
+      let same_n : suc r ≡ n = omega arith in (
+        w,
+        keeps,
+        tt,
+        subst (λ (q : ℕ × ℕ). RuleHolds record { words = set s.words q.0 q.1; homes = s.homes; views = set s.views id w }) (λ j. (same j, same_n j)) c.0,
+        λ _ _ _. (refl, refl, refl, refl, c.1),
+      )
+
+  -- the three steps in one
+  pub enqueued : (u v v' w x : View E) (e : E) → Sees u [] v → v' ≡ v → Sees v' (Event.Swap (name v') e ∷ []) w → Sees w (Event.Link (name w) ∷ []) x → Sees u (Event.Swap (name u) e ∷ Event.Link (name u) ∷ []) x
+  enqueued u v v' w x e a same b c =
+      let first : name v' ≡ name u = ap (λ (z : View E). name z) same ∙ ap first_name a.share in
+      let second : name w ≡ name u = ap first_name b.share ∙ first in
+      let swap : Sees v (Event.Swap (name u) e ∷ []) w = subst (λ (z : View E × Name). Sees z.0 (Event.Swap z.1 e ∷ []) w) (λ j. (same j, first j)) b in
+      let link : Sees w (Event.Link (name u) ∷ []) x = subst (λ n. Sees w (Event.Link n ∷ []) x) second c in
+      grown_then LegalReversed u.known v.known x.known [] (Event.Swap (name u) e ∷ Event.Link (name u) ∷ []) a
+      (grown_then LegalReversed v.known w.known x.known (Event.Swap (name u) e ∷ []) (Event.Link (name u) ∷ []) swap link)

@@ -1,0 +1,400 @@
+-- The rule of a queue's table at the start, and where a party is split in two or takes another in.
+use Rattle.std.proofs.Common.{◌≡◌, ◌≢◌, ◌⊎◌, ℕ, zero, suc, ◌+◌, ◌-◌, ◌≤◌, ◌<◌, List, [], ◌∷◌, ◌++◌, map, reverse, length, replicate, get_or, set, take, drop, Option, Some, None, refl, sym, ap, ◌∙◌, subst, inl, inr, ⊎_elim, arith, length-set}
+use Rattle.std.proofs.lemmas.List.{reverse-append}
+use mathlib.Core.Option.{some, none, some-injective, some-ne-none}
+use native.Mathlib.Decide.{ℕ_discrete}
+use lib.ListN.{get_elem?, length-map, length-replicate}
+use lib.Seq.{set-get_or}
+use Rattle.atomic_table.specs.Table.{opening, Splits, Joins, Allows, step, keeps}
+use Rattle.atomic_table.proofs.Lists.{at_set, at_longer, set_else}
+use Rattle.cordyceps_shared.specs.Histories.{events}
+use Rattle.cordyceps_shared.specs.Knowing.{SharesApart}
+use Rattle.cordyceps_shared.specs.Shares.{Name}
+use Rattle.cordyceps_shared.proofs.Cutting.{at_end, owned_cut, fits_cut}
+use Rattle.cordyceps_shared.proofs.Joining.{owned_join, fits_join}
+use Rattle.cordyceps_shared.proofs.Naming.{joined_some}
+use Rattle.cordyceps_shared.proofs.Renaming.{relabel, events_relabel}
+use Rattle.cordyceps_shared.proofs.Standing as seats
+use Rattle.cordyceps_shared.proofs.Telling.{at_length, owned_same, fits_forgot}
+use Rattle.cordyceps_queue.specs.declared.cores.stage.Stage.TheVariants.{Rest, Cleared}
+use Rattle.cordyceps_queue.specs.History.{Event}
+use Rattle.cordyceps_queue.specs.Cores.Meets.{ItemAt, Owner, Shared, Spare, Unmade, OwnsRooms, AtStage, Meets}
+use Rattle.cordyceps_queue.specs.Shared.Parting.{view_keeping, view_giving, view_absorbing, view_absorbed, view_without_told, learned}
+use Rattle.cordyceps_queue.specs.Past.{IsLegal, IsSettled}
+use Rattle.cordyceps_queue.specs.Shared.Plays.{SeatState, LegalReversed}
+use Rattle.cordyceps_queue.specs.Shared.Rule.{TableState, Homes, History, link_of, party, party_of, machine_of, EmptyAtHome, RuleHolds}
+use Rattle.cordyceps_queue.specs.Shared.View.{View, knows, name, newcomer, down_from}
+use Rattle.cordyceps_queue.specs.Cores.Abstract.{AbstractParty}
+use Rattle.cordyceps_queue.proofs.CoreTheory.Basics.{some_inj}
+use Rattle.cordyceps_queue.proofs.SharedTheory.SeatNames.{party_was, name_known, names_differ, few_rooms, whole_still}
+use Rattle.cordyceps_queue.proofs.CoreTheory.SplitParties.{at_take, at_drop, at_either, deal, deal_else, deal_here, deal_fixed, deal_others, deal_kept, deal_given, deal_both, Regroups, regroups_keep}
+use Rattle.cordyceps_queue.proofs.SharedTheory.WordsAsMachine.{core, party_at, rooms_of, parties_put}
+use Rattle.cordyceps_queue.proofs.SharedTheory.ReturnKeeps.{put_again}
+
+vacant_at : {A : Type 0} (n i : ℕ) (a : A) → i < n → get_elem? (map some (replicate n a)) i ≡ some (some a)
+vacant_at zero i a h = absurd (omega arith)
+vacant_at (suc n) zero a h = refl
+vacant_at (suc n) (suc i) a h = vacant_at n i a (omega arith)
+
+-- the only item of a list
+only : {A : Type 0} (a b : A) (j : ℕ) → get_elem? (a ∷ []) j ≡ some b → (j ≡ 0) × (a ≡ b)
+only a b zero e = (refl, some-injective a b e)
+only a b (suc j) e = absurd (some-ne-none b (sym e))
+
+only_at : {A : Type 0} (a b : A) (i : ℕ) → ItemAt (a ∷ []) i b → (i ≡ 0) × (b ≡ a)
+only_at a b zero e = (refl, e)
+only_at a b (suc i) e = absurd e
+
+pub at_down_from : (n i r : ℕ) → ItemAt (down_from n) i r → (i + r ≡ n) × (1 ≤ r)
+at_down_from zero i r a = absurd a
+at_down_from (suc n) zero r a = (omega arith, omega arith)
+at_down_from (suc n) (suc i) r a = let t = at_down_from n i r a in let e = t.0 in (omega arith, t.1)
+
+-- whose the rooms are of a queue that has only the stub's
+abbrev only_stub : ℕ → Owner
+only_stub zero = Shared
+only_stub (suc r) = Unmade
+
+others_unmade : (r : ℕ) → 1 ≤ r → only_stub r ≡ Unmade
+others_unmade zero l = absurd (omega arith)
+others_unmade (suc r) l = refl
+
+module _ (E : Type 0) where
+  vacant_empty : (rooms : ℕ) → let homes : Homes E = map some (replicate (rooms + 1) None) in EmptyAtHome homes (down_from rooms)
+  vacant_empty rooms i r a = let t = at_down_from rooms i r a in let e = t.0 in vacant_at (rooms + 1) r None (omega arith)
+
+  pub opens : (rooms : ℕ) (words : List ℕ) → length words ≡ rooms + 3 → get_or words 0 0 ≡ 0 → get_or words 1 0 ≡ 1 → get_or words 2 0 ≡ 0 → RuleHolds {E = E} (opening words (replicate (rooms + 1) None) (newcomer rooms))
+  opens rooms words wide head right link =
+      let first : View E = newcomer rooms in
+      let known = seats.opens knows first refl in
+      let homes : Homes E = map some (replicate (rooms + 1) None) in
+      let deep : length homes ≡ rooms + 1 = length-map (replicate (rooms + 1) None) some ∙ length-replicate (rooms + 1) None in
+      let owner : ℕ → Owner = deal 0 (down_from rooms) only_stub in record {
+        history = [];
+        cell = λ _. None;
+        chain = record { rooms = 0 ∷ []; owner = owner; keeper = None };
+        meets = record {
+          legal = tt;
+          last = (0, refl, head);
+          ends = ap (λ n. link_of (get_or words (2 + n) 0)) head ∙ ap link_of link;
+          joined = λ i a b ia ib. absurd ib;
+          once = λ i j r ir jr. (only_at 0 r i ir).0 ∙ sym (only_at 0 r j jr).0;
+          shared = λ i r ir. ap owner (only_at 0 r i ir).1 ∙ stub rooms;
+          stub = stub rooms;
+          unmade = λ r l. deal_else 0 (down_from rooms) only_stub r (λ i a. let t = at_down_from rooms i r a in let e = t.0 in absurd (omega arith)) ∙ others_unmade r (omega arith);
+          holds = refl;
+          right = (refl, 0, right, refl);
+          fits = λ k p e. subst (λ (q : AbstractParty Name). AtStage (get_or words 0 0) (λ r. link_of (get_or words (2 + r) 0)) (λ (_ : ℕ). let x : Option E = None in x) owner None (0 ∷ []) [] k q.name q.place) (is_first rooms k p e).1 tt;
+          rooms = λ k p e. let t = is_first rooms k p e in subst (λ (z : ℕ × AbstractParty Name). OwnsRooms owner z.0 z.1.spare) (λ c. (sym t.0 c, t.1 c)) (mine rooms);
+          names = λ j k p q ej ek same. (is_first rooms j p ej).0 ∙ sym (is_first rooms k q ek).0;
+          strangers = λ q away. tt;
+        };
+        wide = omega arith;
+        stub = omega arith;
+        full = λ i r ir ne. absurd (ne (only_at 0 r i ir).1);
+        empty = λ j v e some_name. subst (λ (z : View E). EmptyAtHome homes z.free) (only first v j e).1 (vacant_empty rooms);
+        ready = λ j v r e some_name is. absurd (let c = ap (λ (z : View E). z.place) (only first v j e).1 ∙ is in cc);
+        fits = known.1;
+        owned = known.0;
+      }
+    where
+      is_first : (n k : ℕ) (p : AbstractParty Name) → (let first : View E = newcomer n in party_of (get_elem? (first ∷ []) k) ≡ Some p) → let first : View E = newcomer n in (k ≡ 0) × (party first ≡ p)
+      is_first n k p e =
+          let first : View E = newcomer n in
+          let w = party_was (get_elem? (first ∷ []) k) p e in
+          let o = only first w.0 k w.1 in
+          (o.0, ap party o.1 ∙ w.3)
+
+      stub : (n : ℕ) → deal 0 (down_from n) only_stub 0 ≡ Shared
+      stub n = deal_else 0 (down_from n) only_stub 0 (λ i a. let t = at_down_from n i 0 a in let l = t.1 in absurd (omega arith))
+
+      mine : (n : ℕ) → OwnsRooms (deal 0 (down_from n) only_stub) 0 (down_from n)
+      mine n = record {
+        own = λ i r a. deal_here 0 (down_from n) only_stub i r a;
+        once = λ i j r x y. let t = at_down_from n i r x in let u = at_down_from n j r y in let e = t.0 in let f = u.0 in omega arith;
+      }
+
+-- ---- splitting
+module _ {E : Type 0} (s : TableState E) (k : RuleHolds s) (id n : ℕ) (v : View E) (named : v.known.share ≢ []) (rest : v.place ≡ Rest) (bare : v.back ≡ []) (at : get_elem? s.views id ≡ some v) where
+  abbrev left_view : View E
+  left_view = view_keeping n v
+
+  abbrev right : View E
+  right = view_giving n v
+
+  abbrev far : ℕ
+  far = length (set s.views id left_view)
+
+  abbrev cut_views : List (View E)
+  cut_views = set s.views id left_view ++ right ∷ []
+
+  abbrev owner_cut : ℕ → Owner
+  owner_cut = deal far (take n v.free) k.chain.owner
+
+  -- of what holds of the two and of each other party, it holds afterwards
+  cut_all : (Holds : ℕ → View E → Type 0) → Holds id left_view → Holds far right → ((i : ℕ) (u : View E) → i ≢ id → get_elem? s.views i ≡ some u → Holds i u) → (i : ℕ) (u : View E) → get_elem? cut_views i ≡ some u → Holds i u
+  cut_all Holds first second others i u e = ⊎_elim
+      (λ (there : get_elem? (set s.views id left_view) i ≡ some u). ⊎_elim
+      (λ (t : (i ≡ id) × (left_view ≡ u)). subst (λ (z : ℕ × View E). Holds z.0 z.1) (λ c. (sym t.0 c, t.1 c)) first)
+      (λ (t : (i ≢ id) × (get_elem? s.views i ≡ some u)). others i u t.0 t.1)
+      (at_set s.views id i left_view u there))
+      (λ (t : (i ≡ far) × (right ≡ u)). subst (λ (z : ℕ × View E). Holds z.0 z.1) (λ c. (sym t.0 c, t.1 c)) second)
+      (at_end (set s.views id left_view) right u i e)
+
+  cut_still : (i : ℕ) (u : View E) → i ≢ id → get_elem? s.views i ≡ some u → get_elem? cut_views i ≡ some u
+  cut_still i u ne e = at_longer (set s.views id left_view) (right ∷ []) i u (set_else s.views id i left_view ne ∙ e)
+
+  far_free : (q : AbstractParty Name) → (core s k).party far ≡ Some q → ⊥
+  far_free q e =
+      let w = party_was (get_elem? s.views far) q e in
+      let l = at_length s.views far w.0 w.1 in
+      let same = length-set s.views id left_view in omega arith
+
+  was_here : (q : AbstractParty Name) → (core s k).party id ≡ Some q → party v ≡ q
+  was_here q e = some_inj (sym (party_at s k id v at named) ∙ e)
+
+  free_rooms : OwnsRooms k.chain.owner id v.free
+  free_rooms = subst (λ l. OwnsRooms k.chain.owner id (l ++ v.free)) bare (rooms_of s k id v at named)
+
+  taken : (i r : ℕ) → ItemAt (take n v.free) i r → k.chain.owner r ≡ Spare id
+  taken i r a = free_rooms.own i r (at_take n v.free i r a).0
+
+  cut_owned : SharesApart knows cut_views k.history
+  cut_owned = owned_cut knows s.views k.history id v left_view right at refl refl named k.owned
+
+  abbrev Gone_cut : Name → Type 0
+  Gone_cut q = q ≡ name v
+
+  abbrev Was_cut : ℕ → AbstractParty Name → Type 0
+  Was_cut i p = ((core s k).party i ≡ Some p) ⊎ ((p.place ≡ Rest) × ((q : AbstractParty Name) → (core s k).party i ≡ Some q → Gone_cut q.name))
+
+  cut_groups : Regroups (core s k) k.chain (reverse (events k.history)) (λ j. party_of (get_elem? cut_views j)) owner_cut Gone_cut
+  cut_groups = record {
+    known = λ q. name_known q (name v);
+    settled = λ q e. subst (λ x. IsSettled x (reverse (events k.history))) (sym e)
+        (subst (AtStage (core s k).head (core s k).next k.cell k.chain.owner k.chain.keeper k.chain.rooms (reverse (events k.history)) id (name v)) rest (k.meets.fits id (party v) (party_at s k id v at named)));
+    fixed = deal_fixed k.chain.owner id far (take n v.free) taken;
+    stays = λ i p e. elim (ℕ_discrete i id) [
+      | yes same ↦ let is = was_here p (ap (core s k).party (sym same) ∙ e) in inr (ap (λ (x : AbstractParty Name). x.name) (sym is), ap (λ (x : AbstractParty Name). x.place) (sym is) ∙ rest)
+      | no ne ↦ let w = party_was (get_elem? s.views i) p e in inl (ap party_of (cut_still i w.0 ne w.1 ∙ sym w.1) ∙ e)
+    ];
+    was = λ i p e.
+        let w = party_was (get_elem? cut_views i) p e in
+        subst (Was_cut i) w.3 (cut_all (λ j u. u.known.share ≢ [] → Was_cut j (party u))
+        (λ _. inr (rest, λ q e. ap (λ (x : AbstractParty Name). x.name) (sym (was_here q e))))
+        (λ _. inr (refl, λ q e. absurd (far_free q e)))
+        (λ j u ne there some_name. inl (party_at s k j u there some_name))
+        i w.0 w.1 w.2);
+    rooms = λ i p e.
+        let w = party_was (get_elem? cut_views i) p e in
+        subst (λ (q : AbstractParty Name). OwnsRooms owner_cut i q.spare) w.3 (cut_all (λ j u. u.known.share ≢ [] → OwnsRooms owner_cut j (party u).spare)
+        (λ _. subst (λ l. OwnsRooms owner_cut id (l ++ drop n v.free)) (sym bare) (deal_kept k.chain.owner id v.free free_rooms n far))
+        (λ _. deal_given k.chain.owner id v.free free_rooms n far)
+        (λ j u ne there some_name. deal_others k.chain.owner id far (take n v.free) taken j (u.back ++ u.free) ne (rooms_of s k j u there some_name))
+        i w.0 w.1 w.2);
+    names = names_differ cut_views k.history cut_owned;
+  }
+
+  cut_kept : RuleHolds record { words = s.words; homes = s.homes; views = cut_views }
+  cut_kept = record {
+    history = k.history;
+    cell = k.cell;
+    chain = record k.chain { owner = owner_cut };
+    meets = regroups_keep (core s k) k.chain (reverse (events k.history)) (λ j. party_of (get_elem? cut_views j)) owner_cut Gone_cut k.meets cut_groups;
+    wide = k.wide;
+    stub = k.stub;
+    full = k.full;
+    empty = cut_all (λ _ u. u.known.share ≢ [] → EmptyAtHome s.homes u.free)
+        (λ _ i r a. let t = at_drop n v.free i r a in k.empty id v at named t.0 r t.1)
+        (λ _ i r a. k.empty id v at named i r (at_take n v.free i r a).0)
+        (λ j u ne there some_name. k.empty j u there some_name);
+    ready = λ j u r. cut_all (λ _ z. z.known.share ≢ [] → z.place ≡ Cleared r → k.cell r ≡ z.item)
+        (λ _ is. absurd (cc))
+        (λ _ is. absurd (cc))
+        (λ i z ne there some_name. k.ready i z r there some_name)
+        j u;
+    fits = fits_cut knows s.views k.history id v left_view right at refl refl k.owned k.fits;
+    owned = cut_owned;
+  }
+
+pub splits : {E : Type 0} (id n : ℕ) (v : View E) → v.known.share ≢ [] → v.place ≡ Rest → v.back ≡ [] → Splits RuleHolds id v (view_keeping n v) (view_giving n v)
+splits id n v named rest bare s k at = cut_kept s k id n v named rest bare at
+
+-- ---- taking another in
+module _ {E : Type 0} (s : TableState E) (k : RuleHolds s) (id other : ℕ) (v w : View E) (rest : v.place ≡ Rest) (rest_too : w.place ≡ Rest) (bare : v.back ≡ []) (bare_too : w.back ≡ []) (named : v.known.share ≢ []) (named_too : w.known.share ≢ [])
+    (at : get_elem? s.views id ≡ some v) (apart : other ≢ id) (there : get_elem? (set s.views id (view_absorbing v w)) other ≡ some w) where
+  abbrev joint : List (View E)
+  joint = set (set s.views id (view_absorbing v w)) other view_absorbed
+
+  abbrev owner_join : ℕ → Owner
+  owner_join = deal id w.free k.chain.owner
+
+  abbrev relabelled_history : History E
+  relabelled_history = relabel id other k.history
+
+  abbrev past : List (Event Name E)
+  past = reverse (events k.history)
+
+  same_past : past ≡ reverse (events relabelled_history)
+  same_past = ap (λ z. reverse z) (sym (events_relabel id other k.history))
+
+  there_first : get_elem? s.views other ≡ some w
+  there_first = ⊎_elim (λ (t : (other ≡ id) × (view_absorbing v w ≡ w)). absurd (apart t.0)) (λ (t : (other ≢ id) × (get_elem? s.views other ≡ some w)). t.1) (at_set s.views id other (view_absorbing v w) w there)
+
+  -- of what holds of the two, of what is left of the second and of each other party, it holds afterwards
+  join_all : (Holds : ℕ → View E → Type 0) → Holds id (view_absorbing v w) → Holds other view_absorbed → ((i : ℕ) (u : View E) → i ≢ id → i ≢ other → get_elem? s.views i ≡ some u → Holds i u) → (i : ℕ) (u : View E) → get_elem? joint i ≡ some u → Holds i u
+  join_all Holds first second others i u e = ⊎_elim
+      (λ (p : (i ≡ other) × (view_absorbed ≡ u)). subst (λ (z : ℕ × View E). Holds z.0 z.1) (λ c. (sym p.0 c, p.1 c)) second)
+      (λ (p : (i ≢ other) × (get_elem? (set s.views id (view_absorbing v w)) i ≡ some u)). ⊎_elim
+      (λ (q : (i ≡ id) × (view_absorbing v w ≡ u)). subst (λ (z : ℕ × View E). Holds z.0 z.1) (λ c. (sym q.0 c, q.1 c)) first)
+      (λ (q : (i ≢ id) × (get_elem? s.views i ≡ some u)). others i u q.0 p.0 q.1)
+      (at_set s.views id i (view_absorbing v w) u p.1))
+      (at_set (set s.views id (view_absorbing v w)) other i view_absorbed u e)
+
+  join_still : (i : ℕ) → i ≢ id → i ≢ other → get_elem? joint i ≡ get_elem? s.views i
+  join_still i ne no_other = set_else (set s.views id (view_absorbing v w)) other i view_absorbed no_other ∙ set_else s.views id i (view_absorbing v w) ne
+
+  first_was : (q : AbstractParty Name) → (core s k).party id ≡ Some q → party v ≡ q
+  first_was q e = some_inj (sym (party_at s k id v at named) ∙ e)
+
+  second_was : (q : AbstractParty Name) → (core s k).party other ≡ Some q → party w ≡ q
+  second_was q e = some_inj (sym (party_at s k other w there_first named_too) ∙ e)
+
+  first_rooms : OwnsRooms k.chain.owner id v.free
+  first_rooms = subst (λ l. OwnsRooms k.chain.owner id (l ++ v.free)) bare (rooms_of s k id v at named)
+
+  second_rooms : OwnsRooms k.chain.owner other w.free
+  second_rooms = subst (λ l. OwnsRooms k.chain.owner other (l ++ w.free)) bare_too (rooms_of s k other w there_first named_too)
+
+  joint_owned : SharesApart knows joint relabelled_history
+  joint_owned = owned_join knows s.views k.history id other v w (view_absorbing v w) view_absorbed at apart there refl refl named k.owned
+
+  abbrev Gone_join : Name → Type 0
+  Gone_join q = (q ≡ name v) ⊎ (q ≡ name w)
+
+  abbrev Was_join : ℕ → AbstractParty Name → Type 0
+  Was_join i p = ((core s k).party i ≡ Some p) ⊎ ((p.place ≡ Rest) × ((q : AbstractParty Name) → (core s k).party i ≡ Some q → Gone_join q.name))
+
+  -- a party at rest has settled
+  rest_settled : (i : ℕ) (u : View E) → get_elem? s.views i ≡ some u → u.known.share ≢ [] → u.place ≡ Rest → IsSettled (name u) past
+  rest_settled i u e some_name idle = subst (AtStage (core s k).head (core s k).next k.cell k.chain.owner k.chain.keeper k.chain.rooms past i (name u)) idle (k.meets.fits i (party u) (party_at s k i u e some_name))
+
+  join_groups : Regroups (core s k) k.chain past (λ j. party_of (get_elem? joint j)) owner_join Gone_join
+  join_groups = record {
+    known = λ q. elim (name_known q (name v)) [
+      | yes e ↦ yes (inl e)
+      | no not ↦ elim (name_known q (name w)) [ yes e ↦ yes (inr e) | no not_too ↦ no (λ g. ⊎_elim not not_too g) ]
+    ];
+    settled = λ q g. ⊎_elim
+        (λ (e : q ≡ name v). subst (λ x. IsSettled x past) (sym e) (rest_settled id v at named rest))
+        (λ (e : q ≡ name w). subst (λ x. IsSettled x past) (sym e) (rest_settled other w there_first named_too rest_too))
+        g;
+    fixed = deal_fixed k.chain.owner other id w.free second_rooms.own;
+    stays = λ i p e. elim (ℕ_discrete i id) [
+      | yes same ↦ let is = first_was p (ap (core s k).party (sym same) ∙ e) in inr (inl (ap (λ (x : AbstractParty Name). x.name) (sym is)), ap (λ (x : AbstractParty Name). x.place) (sym is) ∙ rest)
+      | no ne ↦ elim (ℕ_discrete i other) [
+        | yes same ↦ let is = second_was p (ap (core s k).party (sym same) ∙ e) in inr (inr (ap (λ (x : AbstractParty Name). x.name) (sym is)), ap (λ (x : AbstractParty Name). x.place) (sym is) ∙ rest_too)
+        | no no_other ↦ inl (ap party_of (join_still i ne no_other) ∙ e)
+      ]
+    ];
+    was = λ i p e.
+        let t = party_was (get_elem? joint i) p e in
+        subst (Was_join i) t.3 (join_all (λ j u. u.known.share ≢ [] → Was_join j (party u))
+        (λ _. inr (refl, λ q e. inl (ap (λ (x : AbstractParty Name). x.name) (sym (first_was q e)))))
+        (λ some_name. absurd (some_name refl))
+        (λ j u ne no_other at some_name. inl (party_at s k j u at some_name))
+        i t.0 t.1 t.2);
+    rooms = λ i p e.
+        let t = party_was (get_elem? joint i) p e in
+        subst (λ (q : AbstractParty Name). OwnsRooms owner_join i q.spare) t.3 (join_all (λ j u. u.known.share ≢ [] → OwnsRooms owner_join j (party u).spare)
+        (λ _. deal_both k.chain.owner id other v.free w.free (λ e. apart (sym e)) first_rooms second_rooms)
+        (λ some_name. absurd (some_name refl))
+        (λ j u ne no_other at some_name. deal_others k.chain.owner other id w.free second_rooms.own j (u.back ++ u.free) no_other (rooms_of s k j u at some_name))
+        i t.0 t.1 t.2);
+    names = names_differ joint relabelled_history joint_owned;
+  }
+
+  joint_kept : RuleHolds record { words = s.words; homes = s.homes; views = joint }
+  joint_kept = record {
+    history = relabelled_history;
+    cell = k.cell;
+    chain = record k.chain { owner = owner_join };
+    meets = subst (λ l. Meets (machine_of k.cell s.words joint) (record k.chain { owner = owner_join }) l) same_past
+        (regroups_keep (core s k) k.chain past (λ j. party_of (get_elem? joint j)) owner_join Gone_join k.meets join_groups);
+    wide = k.wide;
+    stub = k.stub;
+    full = k.full;
+    empty = join_all (λ _ u. u.known.share ≢ [] → EmptyAtHome s.homes u.free)
+        (λ _ i r a. elim (at_either v.free w.free i r a) [ inl t ↦ k.empty id v at named i r t | inr t ↦ k.empty other w there_first named_too t.0 r t.1 ])
+        (λ some_name. absurd (some_name refl))
+        (λ j u ne no_other e some_name. k.empty j u e some_name);
+    ready = λ j u r. join_all (λ _ z. z.known.share ≢ [] → z.place ≡ Cleared r → k.cell r ≡ z.item)
+        (λ _ is. absurd (cc))
+        (λ _ is. absurd (cc))
+        (λ i z ne no_other e some_name. k.ready i z r e some_name)
+        j u;
+    fits = fits_join knows s.views k.history id other v w (view_absorbing v w) view_absorbed at apart there refl refl k.fits;
+    owned = joint_owned;
+  }
+
+-- ---- what a party learns that took another in
+legal_behind : {P E : Type 0} (us vs : List (Event P E)) → IsLegal (us ++ vs) → IsLegal vs
+legal_behind [] vs l = l
+legal_behind (x ∷ us) vs l = legal_behind us vs l.1
+
+legal_front : {E : Type 0} (xs ys : List (Event Name E)) → LegalReversed (xs ++ ys) → LegalReversed xs
+legal_front xs ys l = legal_behind (reverse ys) (reverse xs) (subst (λ z. IsLegal z) (reverse-append xs ys) l)
+
+module _ {E : Type 0} (s : TableState E) (k : RuleHolds s) (id : ℕ) (v : View E) (at : get_elem? s.views id ≡ some v) (named : v.known.share ≢ []) where
+  forgot_kept : RuleHolds record { words = s.words; homes = s.homes; views = set s.views id (view_without_told v) }
+  forgot_kept = record {
+    history = k.history;
+    cell = k.cell;
+    chain = k.chain;
+    meets = subst (λ m. Meets m k.chain (reverse (events k.history))) unchanged k.meets;
+    wide = k.wide;
+    stub = k.stub;
+    full = k.full;
+    empty = λ j u e some_name. ⊎_elim
+        (λ (t : (j ≡ id) × (view_without_told v ≡ u)). subst (λ (z : View E). EmptyAtHome s.homes z.free) t.1 (k.empty id v at named))
+        (λ (t : (j ≢ id) × (get_elem? s.views j ≡ some u)). k.empty j u t.1 some_name)
+        (at_set s.views id j (view_without_told v) u e);
+    ready = λ j u r e some_name is. ⊎_elim
+        (λ (t : (j ≡ id) × (view_without_told v ≡ u)). k.ready id v r at named (ap (λ (z : View E). z.place) t.1 ∙ is) ∙ ap (λ (z : View E). z.item) t.1)
+        (λ (t : (j ≢ id) × (get_elem? s.views j ≡ some u)). k.ready j u r t.1 some_name is)
+        (at_set s.views id j (view_without_told v) u e);
+    fits = fits_forgot knows s.views k.history id v (view_without_told v) at refl refl k.fits;
+    owned = owned_same knows s.views k.history id v (view_without_told v) at refl k.owned;
+  }
+    where
+      unchanged : machine_of k.cell s.words s.views ≡ machine_of k.cell s.words (set s.views id (view_without_told v))
+      unchanged i = record {
+        head = get_or s.words 0 0;
+        right = get_or s.words 1 0;
+        count = length s.words - 2;
+        next = λ r. link_of (get_or s.words (2 + r) 0);
+        cell = k.cell;
+        party = (sym (put_again (core s k).party id (party v) (party_at s k id v at named)) ∙ sym (parties_put s.views id (view_without_told v) (at_length s.views id v at) named)) i;
+      }
+
+module _ {E : Type 0} where
+  pub joins : (id other : ℕ) (v w : View E) → v.place ≡ Rest → w.place ≡ Rest → v.back ≡ [] → w.back ≡ [] → v.known.share ≢ [] → w.known.share ≢ [] → Joins RuleHolds id v other w (view_absorbing v w) view_absorbed
+  joins id other v w rest rest_too bare bare_too named named_too s k at apart there = joint_kept s k id other v w rest rest_too bare bare_too named named_too at apart there
+
+  pub learns : (slots id : ℕ) (me : SeatState E) (v w : View E) → me.0 ≡ view_absorbing v w → v.known.share ≢ [] → Allows RuleHolds slots id me 0 (λ n. n) (learned (step slots 0 0 0 none) me)
+  learns slots id me v w is named s k deep at fits =
+      let u = me.0 in
+      let some_name : u.known.share ≢ [] = λ e. joined_some v.known.share w.known.share named (sym (ap (λ (z : View E). z.known.share) is) ∙ e) in
+      let few = few_rooms s k id u at some_name in (
+        view_without_told u,
+        keeps,
+        tt,
+        subst (λ (ws : List ℕ). RuleHolds record { words = ws; homes = s.homes; views = set s.views id (view_without_told u) }) (sym (set-get_or s.words 0 0)) (forgot_kept s k id u at some_name),
+        (
+          refl,
+          refl,
+          seats.is_known knows (λ z. LegalReversed z) legal_front s.views k.history id u k.owned k.fits at k.meets.legal,
+          omega arith,
+          λ all. whole_still s k id u at all (ap (λ (z : View E). z.place) is),
+        ),
+      )

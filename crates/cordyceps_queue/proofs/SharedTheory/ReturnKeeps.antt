@@ -1,0 +1,149 @@
+-- A step of a queue's party may first give back the slots in hand.
+use Rattle.std.proofs.Common.{◌≡◌, ◌≢◌, ℕ, zero, suc, ◌+◌, ◌-◌, ◌<◌, List, [], ◌∷◌, ◌++◌, length, reverse, set, get_or, Option, Some, None, refl, sym, ap, ◌∙◌, subst, inl, inr, ⊎_elim, arith, length-set}
+use mathlib.Core.Option.{some}
+use mathlib.Core.Path.{fun_ext}
+use native.Mathlib.Decide.{ℕ_discrete}
+use lib.ListN.{get_elem?}
+use Rattle.atomic_table.specs.Table.{Act, keeps, gives, stepped, homes_after, carried_after, Valid, Allows}
+use Rattle.atomic_table.specs.Table as table
+use Rattle.atomic_table.proofs.Lists.{at_set, set_here, set_else}
+use Rattle.cordyceps_shared.specs.Histories.{events}
+use Rattle.cordyceps_shared.proofs.Telling.{at_length, owned_same, fits_same}
+use Rattle.cordyceps_queue.specs.declared.shared.table.Filled.{Filled}
+use Rattle.cordyceps_queue.specs.Cores.Meets.{ItemAt, Spare, Meets}
+use Rattle.cordyceps_queue.specs.Shared.Plays.{SeatState, Near, carry}
+use Rattle.cordyceps_queue.specs.Shared.Rule.{TableState, Homes, link_of, party, machine_of, EmptyAtHome, RuleHolds}
+use Rattle.cordyceps_queue.specs.Shared.View.{View, knows}
+use Rattle.cordyceps_queue.specs.Cores.Abstract.{update}
+use Rattle.cordyceps_queue.proofs.CoreTheory.Basics.{at_more, put_same, put_other}
+use Rattle.cordyceps_queue.proofs.CoreTheory.ProducerSteps.{spare_shared}
+use Rattle.cordyceps_queue.proofs.SharedTheory.WordsAsMachine.{core, party_at, rooms_of}
+use Rattle.cordyceps_queue.proofs.SharedTheory.EnqueueKeeps.{views_put}
+
+abbrev homes_given : {E : Type 0} → Homes E → List ℕ → Homes E
+homes_given homes [] = homes
+homes_given homes (b ∷ bs) = homes_given (set homes b (some None)) bs
+
+set_twice : {A : Type 0} (l : List A) (i : ℕ) (a b : A) → set (set l i a) i b ≡ set l i b
+set_twice [] i a b = refl
+set_twice (x ∷ xs) zero a b = refl
+set_twice (x ∷ xs) (suc i) a b = ap (λ l. x ∷ l) (set_twice xs i a b)
+
+-- the act that gives back as many slots
+abbrev give_all : {E : Type 0} → List ℕ → Act (Option (Filled E))
+give_all [] = keeps
+give_all (b ∷ bs) = table.chain gives (give_all bs)
+
+pub put_again : {A : Type 0} (f : ℕ → Option A) (k : ℕ) (v : A) → f k ≡ Some v → update f k (Some v) ≡ f
+put_again f k v e = fun_ext (λ j. elim (ℕ_discrete j k) [
+  | yes same ↦ subst (λ i. update f k (Some v) i ≡ f i) (sym same) (put_same f k (Some v) ∙ sym e)
+  | no ne ↦ put_other f k (Some v) j ne
+])
+
+module _ {E : Type 0} where
+  give_homes : (bs : List ℕ) (hs : Homes E) → homes_after hs (carry bs) (give_all bs) ≡ homes_given hs bs
+  give_homes [] hs = refl
+  give_homes (b ∷ bs) hs = give_homes bs (set hs b (some None))
+
+  give_carried : (bs : List ℕ) → carried_after (carry {E = E} bs) (give_all bs) ≡ []
+  give_carried [] = refl
+  give_carried (b ∷ bs) = give_carried bs
+
+  give_valid : (bs : List ℕ) (hs : Homes E) → Valid hs (carry bs) (give_all bs)
+  give_valid [] hs = tt
+  give_valid (b ∷ bs) hs = (tt, give_valid bs (set hs b (some None)))
+
+  given_length : (bs : List ℕ) (hs : Homes E) → length (homes_given hs bs) ≡ length hs
+  given_length [] hs = refl
+  given_length (b ∷ bs) hs = given_length bs (set hs b (some None)) ∙ length-set hs b (some None)
+
+  given_else : (bs : List ℕ) (hs : Homes E) (x : ℕ) → ((i : ℕ) → ItemAt bs i x → ⊥) → get_elem? (homes_given hs bs) x ≡ get_elem? hs x
+  given_else [] hs x away = refl
+  given_else (b ∷ bs) hs x away = given_else bs (set hs b (some None)) x (λ i. away (suc i)) ∙ set_else hs b x (some None) (away 0)
+
+  -- an empty slot at home stays so
+  given_still : (bs : List ℕ) (hs : Homes E) (x : ℕ) → get_elem? hs x ≡ some (some None) → get_elem? (homes_given hs bs) x ≡ some (some None)
+  given_still [] hs x e = e
+  given_still (b ∷ bs) hs x e = given_still bs (set hs b (some None)) x (elim (ℕ_discrete x b) [
+    | yes same ↦ subst (λ n. get_elem? (set hs b (some None)) n ≡ some (some None)) (sym same) (set_here hs b (some None) (let l = at_length hs x (some None) e in omega arith))
+    | no ne ↦ set_else hs b x (some None) ne ∙ e
+  ])
+
+  given_here : (bs : List ℕ) (hs : Homes E) (i x : ℕ) → ItemAt bs i x → x < length hs → get_elem? (homes_given hs bs) x ≡ some (some None)
+  given_here [] hs i x a l = absurd a
+  given_here (b ∷ bs) hs zero x a l = given_still bs (set hs b (some None)) x (subst (λ n. get_elem? (set hs b (some None)) n ≡ some (some None)) (sym a) (set_here hs b (some None) (omega arith)))
+  given_here (b ∷ bs) hs (suc i) x a l = given_here bs (set hs b (some None)) i x a (let e = length-set hs b (some None) in omega arith)
+
+  given_all : (bs free : List ℕ) (hs : Homes E) → Near (length hs) bs → EmptyAtHome hs free → EmptyAtHome (homes_given hs bs) (bs ++ free)
+  given_all bs free hs near empty = both bs (λ i x a. given_here bs hs i x a (near i x a))
+    where
+      both : (cs : List ℕ) → ((i x : ℕ) → ItemAt cs i x → get_elem? (homes_given hs bs) x ≡ some (some None)) → (i x : ℕ) → ItemAt (cs ++ free) i x → get_elem? (homes_given hs bs) x ≡ some (some None)
+      both [] all i x a = given_still bs hs x (empty i x a)
+      both (c ∷ cs) all zero x a = all 0 x a
+      both (c ∷ cs) all (suc i) x a = both cs (λ j. all (suc j)) i x a
+
+  -- the view of a party whose slots are all at home
+  abbrev pub view_returned : View E → View E
+  view_returned v = record v { free = v.back ++ v.free; back = [] }
+
+  abbrev pub table_returned : TableState E → ℕ → View E → TableState E
+  table_returned s id v = record { words = s.words; homes = homes_given s.homes v.back; views = set s.views id (view_returned v) }
+
+  settles : (s : TableState E) (k : RuleHolds s) (id : ℕ) (v : View E) → get_elem? s.views id ≡ some v → v.known.share ≢ [] → Near (length s.homes) v.back → RuleHolds (table_returned s id v)
+  settles s k id v at named near =
+      let w = view_returned v in
+      let rooms = rooms_of s k id v at named in
+      let lt = at_length s.views id v at in
+      let same : machine_of k.cell s.words s.views ≡ machine_of k.cell s.words (set s.views id w) = unchanged in
+      let was_wide = k.wide in
+      let was_stub = k.stub in
+      let deep = given_length v.back s.homes in
+      let mine : (x i : ℕ) → ItemAt v.back i x → k.chain.owner x ≡ Spare id = λ x i a. rooms.own i x (at_more v.back v.free i x a) in record {
+        history = k.history;
+        cell = k.cell;
+        chain = k.chain;
+        meets = subst (λ n. Meets n k.chain (reverse (events k.history))) same k.meets;
+        wide = omega arith;
+        stub = omega arith;
+        full = λ i x ix ne. given_else v.back s.homes x (λ j a. spare_shared (mine x j a) (k.meets.shared i x ix)) ∙ k.full i x ix ne;
+        empty = λ j u e some_name. elim (at_set s.views id j w u e) [
+          | inl t ↦ subst (λ (z : View E). EmptyAtHome (homes_given s.homes v.back) z.free) t.1 (given_all v.back v.free s.homes near (k.empty id v at named))
+          | inr t ↦ λ i x ix. given_still v.back s.homes x (k.empty j u t.1 some_name i x ix)
+        ];
+        ready = λ j u r e some_name is. ⊎_elim
+            (λ (t : (j ≡ id) × (w ≡ u)). k.ready id v r at named (ap (λ (z : View E). z.place) t.1 ∙ is) ∙ ap (λ (z : View E). z.item) t.1)
+            (λ (t : (j ≢ id) × (get_elem? s.views j ≡ some u)). k.ready j u r t.1 some_name is)
+            (at_set s.views id j w u e);
+        fits = fits_same knows s.views k.history id v w at refl refl refl k.fits;
+        owned = owned_same knows s.views k.history id v w at refl k.owned;
+      }
+    where
+      unchanged : machine_of k.cell s.words s.views ≡ machine_of k.cell s.words (set s.views id (view_returned v))
+      unchanged i = record {
+        head = get_or s.words 0 0;
+        right = get_or s.words 1 0;
+        count = length s.words - 2;
+        next = λ r. link_of (get_or s.words (2 + r) 0);
+        cell = k.cell;
+        party = (sym (put_again (core s k).party id (party v) (party_at s k id v at named)) ∙ views_put s k id v at named (view_returned v) named) i;
+      }
+
+  -- a step from there is a step that gives back first
+  pub returning : (slots id i : ℕ) (me : SeatState E) (f : ℕ → ℕ) (then : ℕ → SeatState E → Type 0) → me.1 ≡ carry me.0.back → Near slots me.0.back → me.0.known.share ≢ []
+      → Allows RuleHolds slots id (view_returned me.0, []) i f then → Allows RuleHolds slots id me i f then
+  returning slots id i me f then hand near named inner s k deep at fits =
+      let v = me.0 in
+      let bs = v.back in
+      let homes = s.homes in
+      let r = inner (table_returned s id v) (settles s k id v at named (λ j x a. let l = near j x a in omega arith)) (given_length bs homes ∙ deep) (set_here s.views id (view_returned v) (at_length s.views id v at)) fits in
+      let a = table.chain (give_all bs) r.1 in
+      let n = f (get_or s.words i 0) in
+      let h = sym (give_homes bs homes) in
+      let c = sym (give_carried bs) in (
+        r.0,
+        a,
+        subst (λ z. Valid homes z a) (sym hand) (give_valid bs homes, subst (λ (z : Homes E × List (ℕ × Option (Filled E))). Valid z.0 z.1 r.1) (λ j. (h j, c j)) r.2),
+        subst (λ z. RuleHolds record { words = set s.words i n; homes = homes_after homes z a; views = set s.views id r.0 }) (sym hand)
+            (subst (λ (z : Homes E × List (ℕ × Option (Filled E)) × List (View E)). RuleHolds record { words = set s.words i n; homes = homes_after z.0 z.1 r.1; views = z.2 }) (λ j. (h j, c j, set_twice s.views id (view_returned v) r.0 j)) r.3),
+        subst (λ z. then (get_or s.words i 0) (r.0, carried_after z a)) (sym hand) (subst (λ z. then (get_or s.words i 0) (r.0, carried_after z r.1)) c r.4),
+      )

@@ -1,0 +1,147 @@
+-- A change of a queue's words and views is a change of its machine.
+use Rattle.std.proofs.Common.{◌≡◌, ◌≢◌, ℕ, suc, ◌+◌, ◌<◌, List, [], ◌∷◌, ◌++◌, length, reverse, set, get_or, Option, Some, refl, sym, ap, ◌∙◌, subst, ⊎_elim, arith, get_or-set_other, get_or-set_same}
+use Rattle.std.proofs.lemmas.List.{reverse-append}
+use mathlib.Core.Option.{some, none}
+use mathlib.Core.Option as maybe
+use mathlib.Core.Path.{fun_ext}
+use native.Mathlib.Decide.{ℕ_discrete}
+use lib.ListN.{get_elem?}
+use Rattle.atomic_table.proofs.Lists.{at_set, set_here, set_else}
+use Rattle.cordyceps_shared.specs.Histories.{events, of_seat}
+use Rattle.cordyceps_shared.specs.Knowing.{all_seen}
+use Rattle.cordyceps_shared.specs.Shares.{Name}
+use Rattle.cordyceps_shared.proofs.Seeing.{events_more}
+use Rattle.cordyceps_shared.proofs.Telling.{at_length, tells}
+use Rattle.cordyceps_queue.specs.declared.cores.stage.Stage.TheVariants.{Cleared}
+use Rattle.cordyceps_queue.specs.declared.shared.table.Filled.{Filled}
+use Rattle.cordyceps_queue.specs.History.{Event}
+use Rattle.cordyceps_queue.specs.Cores.Meets.{ItemAt, Spare, Ready, Chain, AtStage, OwnsRooms, Meets}
+use Rattle.cordyceps_queue.specs.Shared.Plays.{LegalReversed, Sees}
+use Rattle.cordyceps_queue.specs.Shared.Rule.{TableState, Homes, link_of, party, party_if, party_of, machine_of, slot_of, FullAtHome, EmptyAtHome, AllEmptyAtHome, AllReady, RuleHolds}
+use Rattle.cordyceps_queue.specs.Shared.View.{View, knows}
+use Rattle.cordyceps_queue.specs.Cores.Abstract.{AbstractParty, AbstractMachine, update}
+use Rattle.cordyceps_queue.proofs.CoreTheory.Basics.{put_same, put_other}
+
+pub at_behind : {A : Type 0} (xs ys : List A) (i : ℕ) (a : A) → ItemAt ys i a → ItemAt (xs ++ ys) (length xs + i) a
+at_behind [] ys i a p = let e : i ≡ 0 + i = omega arith in subst (λ n. ItemAt ys n a) e p
+at_behind (x ∷ xs) ys i a p = let e : suc (length xs + i) ≡ suc (length xs) + i = omega arith in subst (λ n. ItemAt (x ∷ (xs ++ ys)) n a) e (at_behind xs ys i a p)
+
+-- the links that the words are
+abbrev pub links : List ℕ → ℕ → Option ℕ
+links words j = link_of (get_or words (2 + j) 0)
+
+-- a store to a link
+pub links_put : (words : List ℕ) (r n : ℕ) → 2 + r < length words → links (set words (2 + r) n) ≡ update (links words) r (link_of n)
+links_put words r n lt = fun_ext (λ j. elim (ℕ_discrete j r) [
+  | yes same ↦
+      let here : links (set words (2 + r) n) r ≡ link_of n = ap link_of (get_or-set_same words (2 + r) n 0 lt) in
+      subst (λ k. links (set words (2 + r) n) k ≡ update (links words) r (link_of n) k) (sym same) (here ∙ sym (put_same (links words) r (link_of n)))
+  | no ne ↦ ap link_of (get_or-set_other words (2 + r) (2 + j) n 0 (λ e. ne (omega arith))) ∙ sym (put_other (links words) r (link_of n) j ne)
+])
+
+-- a store to head or the right leaves the links
+pub links_same : (words : List ℕ) (i n : ℕ) → i < 2 → links (set words i n) ≡ links words
+links_same words i n lt = fun_ext (λ j. ap link_of (get_or-set_other words i (2 + j) n 0 (λ e. absurd (omega arith))))
+
+named_party : (names : List Name) (p : AbstractParty Name) → names ≢ [] → party_if names p ≡ Some p
+named_party [] p some_name = absurd (some_name refl)
+named_party (n ∷ ns) p some_name = refl
+
+module _ {E : Type 0} where
+  -- one view more or less is one party
+  pub parties_put : (views : List (View E)) (id : ℕ) (w : View E) → id < length views → w.known.share ≢ [] → (λ k. party_of (get_elem? (set views id w) k)) ≡ update (λ k. party_of (get_elem? views k)) id (Some (party w))
+  parties_put views id w lt some_name = fun_ext (λ j. elim (ℕ_discrete j id) [
+    | yes same ↦
+        let here : party_of (get_elem? (set views id w) id) ≡ Some (party w) = ap party_of (set_here views id w lt) ∙ named_party w.known.share (party w) some_name in
+        subst (λ k. party_of (get_elem? (set views id w) k) ≡ update (λ k. party_of (get_elem? views k)) id (Some (party w)) k) (sym same)
+        (here ∙ sym (put_same (λ k. party_of (get_elem? views k)) id (Some (party w))))
+    | no ne ↦ ap party_of (set_else views id j w ne) ∙ sym (put_other (λ k. party_of (get_elem? views k)) id (Some (party w)) j ne)
+  ])
+
+  -- the rule after a step at which the party sees all and adds these events, and what it tells
+  pub keeps_rule : (s : TableState E) (k : RuleHolds s) (id : ℕ) (es : List (Event Name E)) (v w : View E) (words : List ℕ) (homes : Homes E) (cell : ℕ → Option E) (chain : Chain) (m' : AbstractMachine Name E)
+      → get_elem? s.views id ≡ some v → v.known.share ≢ [] → w.known ≡ all_seen id (k.history ++ of_seat id es) v.known.share
+      → m' ≡ machine_of cell words (set s.views id w) → Meets m' chain (reverse es ++ reverse (events k.history))
+      → length words ≡ length s.words → length homes ≡ length s.homes → FullAtHome homes cell chain.rooms → AllEmptyAtHome homes (set s.views id w) → AllReady cell (set s.views id w)
+      → RuleHolds record { words = words; homes = homes; views = set s.views id w } × Sees v es w
+  keeps_rule s k id es v w words homes cell chain m' at some_name sees same met wide deep full empty ready =
+      let h = k.history ++ of_seat id es in
+      let recent : reverse (events h) ≡ reverse es ++ reverse (events k.history) = ap (λ z. reverse z) (events_more k.history id es) ∙ reverse-append (events k.history) es in
+      let meets : Meets (machine_of cell words (set s.views id w)) chain (reverse (events h)) =
+      subst (λ l. Meets (machine_of cell words (set s.views id w)) chain l) (sym recent) (subst (λ n. Meets n chain (reverse es ++ reverse (events k.history))) same met) in
+      let t = tells knows LegalReversed s.views k.history id es v w k.owned k.fits at some_name sees meets.legal in
+      let was_wide = k.wide in
+      let was_stub = k.stub in (
+        record {
+          history = h;
+          cell = cell;
+          chain = chain;
+          meets = meets;
+          wide = omega arith;
+          stub = omega arith;
+          full = full;
+          empty = empty;
+          ready = ready;
+          fits = t.fits;
+          owned = t.owned;
+        },
+        t.grown,
+      )
+
+  module _ (s : TableState E) (k : RuleHolds s) where
+    abbrev pub core : AbstractMachine Name E
+    core = machine_of k.cell s.words s.views
+
+    pub party_at : (j : ℕ) (u : View E) → get_elem? s.views j ≡ some u → u.known.share ≢ [] → core.party j ≡ Some (party u)
+    party_at j u at some_name = ap party_of at ∙ named_party u.known.share (party u) some_name
+
+    pub rooms_of : (j : ℕ) (u : View E) → get_elem? s.views j ≡ some u → u.known.share ≢ [] → OwnsRooms k.chain.owner j (u.back ++ u.free)
+    rooms_of j u at some_name = k.meets.rooms j (party u) (party_at j u at some_name)
+
+    pub free_spare : (j : ℕ) (u : View E) (i r : ℕ) → get_elem? s.views j ≡ some u → u.known.share ≢ [] → ItemAt u.free i r → k.chain.owner r ≡ Spare j
+    free_spare j u i r at some_name ir = (rooms_of j u at some_name).own (length u.back + i) r (at_behind u.back u.free i r ir)
+
+    -- one slot changes, which is of no free room of another party
+    pub empties : (id r : ℕ) (y : maybe.Option (Option (Filled E))) (w : View E) → EmptyAtHome (set s.homes r y) w.free → ((j : ℕ) → j ≢ id → k.chain.owner r ≡ Spare j → ⊥) → AllEmptyAtHome (set s.homes r y) (set s.views id w)
+    empties id r y w mine apart j u e some_name i x ix = ⊎_elim
+        (λ (t : (j ≡ id) × (w ≡ u)). subst (λ (z : View E). EmptyAtHome (set s.homes r y) z.free) t.1 mine i x ix)
+        (λ (t : (j ≢ id) × (get_elem? s.views j ≡ some u)).
+        let spare = free_spare j u i x t.1 some_name ix in
+        set_else s.homes r x y (λ same. apart j t.0 (ap k.chain.owner (sym same) ∙ spare)) ∙ k.empty j u t.1 some_name i x ix)
+        (at_set s.views id j w u e)
+
+    -- no slot changes
+    pub empties_same : (id : ℕ) (w : View E) → EmptyAtHome s.homes w.free → AllEmptyAtHome s.homes (set s.views id w)
+    empties_same id w mine j u e some_name = ⊎_elim
+        (λ (t : (j ≡ id) × (w ≡ u)). subst (λ (z : View E). EmptyAtHome s.homes z.free) t.1 mine)
+        (λ (t : (j ≢ id) × (get_elem? s.views j ≡ some u)). k.empty j u t.1 some_name)
+        (at_set s.views id j w u e)
+
+    -- the rooms of the chain have slots
+    pub chain_near : (i r : ℕ) → ItemAt k.chain.rooms i r → r < length s.homes
+    chain_near i r ir = elim (ℕ_discrete r 0) [
+      | yes e ↦ let l = k.stub in omega arith
+      | no ne ↦ at_length s.homes r (some (slot_of r (k.cell r))) (k.full i r ir ne)
+    ]
+
+    pub head_near : get_or s.words 0 0 < length s.homes
+    head_near = chain_near k.meets.last.0 (get_or s.words 0 0) k.meets.last.2
+
+    -- the cleared room of another party, or of this one before the step, is that party's alone
+    ready_owner : (j : ℕ) (u : View E) (r : ℕ) → get_elem? s.views j ≡ some u → u.known.share ≢ [] → u.place ≡ Cleared r → k.chain.owner r ≡ Ready j
+    ready_owner j u r at some_name is =
+        (subst (AtStage core.head core.next core.cell k.chain.owner k.chain.keeper k.chain.rooms (reverse (events k.history)) j (party u).name) is (k.meets.fits j (party u) (party_at j u at some_name))).1
+
+    -- what rooms have changes in one room, which no other party has cleared, or nowhere
+    pub readies : (id r : ℕ) (y : Option E) (w : View E) → ((q : ℕ) → w.place ≡ Cleared q → update k.cell r y q ≡ w.item) → ((j : ℕ) → j ≢ id → k.chain.owner r ≡ Ready j → ⊥) → AllReady (update k.cell r y) (set s.views id w)
+    readies id r y w mine apart j u q e some_name is = ⊎_elim
+        (λ (t : (j ≡ id) × (w ≡ u)). subst (λ (z : View E). update k.cell r y q ≡ z.item) t.1 (mine q (ap (λ (z : View E). z.place) t.1 ∙ is)))
+        (λ (t : (j ≢ id) × (get_elem? s.views j ≡ some u)).
+        put_other k.cell r y q (λ same. apart j t.0 (ap k.chain.owner (sym same) ∙ ready_owner j u q t.1 some_name is)) ∙ k.ready j u q t.1 some_name is)
+        (at_set s.views id j w u e)
+
+    pub readies_same : (id : ℕ) (w : View E) → ((q : ℕ) → w.place ≡ Cleared q → ⊥) → AllReady k.cell (set s.views id w)
+    readies_same id w mine j u q e some_name is = ⊎_elim
+        (λ (t : (j ≡ id) × (w ≡ u)). absurd (mine q (ap (λ (z : View E). z.place) t.1 ∙ is)))
+        (λ (t : (j ≢ id) × (get_elem? s.views j ≡ some u)). k.ready j u q t.1 some_name is)
+        (at_set s.views id j w u e)

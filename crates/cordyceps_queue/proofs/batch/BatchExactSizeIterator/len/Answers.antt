@@ -1,4 +1,0 @@
-use Rattle.cordyceps_queue.proofs.batch.BatchExactSizeIterator.len.Goals as goal
-
-pub returns : goal.returns
-returns g c = record { finite = tt; value = c.len.ensures }

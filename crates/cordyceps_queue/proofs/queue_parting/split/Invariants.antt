@@ -1,4 +1,0 @@
-use Rattle.cordyceps_queue.proofs.queue_parting.split.Given as goal
-
-abbrev pub ghosts-cut : goal.ghosts-cut
-ghosts-cut g a = record { rooms = a.rooms }

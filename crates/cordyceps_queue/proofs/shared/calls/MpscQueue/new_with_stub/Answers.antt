@@ -1,0 +1,10 @@
+use Rattle.std.proofs.Common.{Some, ap, sym, ◌∙◌}
+use Rattle.cordyceps_shared.specs.Standings.{new_party}
+use Rattle.cordyceps_queue.proofs.shared.calls.MpscQueue.new_with_stub.Goals as goal
+
+pub returns : goal.returns
+returns g c = c.in-Err.ensures.value_returned
+
+pub returns-in-Ok-new : goal.returns-in-Ok-new
+returns-in-Ok-new g c =
+    (ap (λ v. Some v) c.in-Ok-new.ensures.kept, c.in-Ok.ensures.1 ∙ sym (ap (λ q. new_party q.table c.args.rooms) c.queue.view_is))

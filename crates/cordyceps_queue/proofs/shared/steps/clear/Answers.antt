@@ -1,0 +1,33 @@
+use Rattle.std.proofs.Common.{◌∷◌, Option, None, refl, sym, ap, ◌∙◌, subst, rules}
+use Rattle.cordyceps_queue.specs.declared.shared.table.Filled.{Filled}
+use Rattle.cordyceps_queue.specs.Cores.Meets.{ItemAt}
+use Rattle.cordyceps_queue.proofs.SharedTheory.EnqueueKeeps.{clears}
+use Rattle.cordyceps_queue.proofs.shared.steps.clear.Goals as goal
+
+pub overflow_add-room : goal.overflow_add-room
+overflow_add-room g c =
+    let r = c.requires.room in
+    let near = c.requires.rest.4 0 c.args.room (subst (λ l. ItemAt l 0 c.args.room) (sym r.1) refl) in
+    let t = c.requires.table in search rules
+
+pub store-requires : goal.store-requires
+store-requires g c =
+    let r = c.requires.room in
+    let i = c.requires.item in
+    let q = c.requires.rest in
+    let near = q.4 0 c.args.room (subst (λ l. ItemAt l 0 c.args.room) (sym r.1) refl) in
+    let t = c.requires.table in (search rules, search rules, clears _ _ _ _ c.args.room r.0 _ c.args._item.now refl i q.0 q.1 r.1 q.3)
+
+pub returns-clause-cleared : goal.returns-clause-cleared
+returns-clause-cleared g c =
+    let r = c.requires.room in
+    let l = c.store.ensures.2 c.args.room r.0 c.args._item.now r.1 c.requires.item in
+    let none : Option (Filled g.row.E.Denot) = None in record {
+      place = l.0;
+      item = l.1;
+      free = r.1 ∙ ap (λ z. c.args.room ∷ z) (sym l.2);
+      back = l.3 ∙ c.requires.rest.1;
+      hand = l.4 ∙ ap (λ z. (c.args.room, none) ∷ z) c.requires.rest.2;
+      near = l.5;
+      sees = l.6;
+    }

@@ -1,0 +1,26 @@
+use Rattle.std.proofs.Common.{sym, refl, ◌∙◌, subst, rules}
+use Rattle.cordyceps_queue.specs.Cores.Meets.{ItemAt}
+use Rattle.cordyceps_queue.proofs.CoreTheory.Basics.{at_more}
+use Rattle.cordyceps_queue.proofs.SharedTheory.HolderAllowed.{gives_right}
+use Rattle.cordyceps_queue.proofs.shared.steps.give.Goals as goal
+
+pub overflow_add-tail : goal.overflow_add-tail
+overflow_add-tail g c =
+    let q = c.requires.holding in
+    let near = q.4 in
+    let t = c.requires.table in search rules
+
+pub store-requires : goal.store-requires
+store-requires g c =
+    let q = c.requires.holding in
+    let near = q.4 in
+    let t = c.requires.table in (search rules, search rules, gives_right _ _ _ q.1 (λ i r a. q.3 i r (at_more _ _ i r a)) q.2 c.args.tail _ refl q.0)
+
+pub returns-clause-rest : goal.returns-clause-rest
+returns-clause-rest g c =
+    let q = c.requires.holding in
+    let b = c.store.ensures.2 c.args.tail q.0 in
+    (b.0, b.1, b.3, (λ e. q.2 (sym b.4.share ∙ e)), λ i r a. q.3 i r (subst (λ l. ItemAt l i r) b.2 a))
+
+pub returns-clause-answer : goal.returns-clause-answer
+returns-clause-answer g c = c.store.ensures.2 c.args.tail c.requires.holding.0

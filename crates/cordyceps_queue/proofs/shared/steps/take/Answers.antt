@@ -1,0 +1,20 @@
+use Rattle.std.proofs.Common.{ℕ, List, sym, ap, ◌∙◌, subst, rules}
+use mathlib.Core.Option.{none}
+use Rattle.atomic_table.specs.Table.{step}
+use Rattle.cordyceps_queue.specs.Cores.Meets.{ItemAt}
+use Rattle.cordyceps_queue.specs.Shared.Plays.{carry}
+use Rattle.cordyceps_queue.proofs.SharedTheory.HolderAllowed.{takes_right}
+use Rattle.cordyceps_queue.proofs.SharedTheory.PartsJoin.{takes_by}
+use Rattle.cordyceps_queue.proofs.shared.steps.take.Goals as goal
+
+pub swap-requires : goal.swap-requires
+swap-requires g c =
+    let q = c.requires.rest in
+    let t = c.requires.table in (
+      search rules,
+      search rules,
+      takes_right _ _ _ (q.2 ∙ ap (λ (l : List ℕ). carry l) (sym q.1)) (λ i r a. absurd (subst (λ l. ItemAt l i r) q.1 a)) q.3 q.0,
+    )
+
+pub returns-clause-took : goal.returns-clause-took
+returns-clause-took g c = takes_by (step c.args.words.now.table_id.slots 1 0 0 none) _ _ c.requires.rest _ c.swap.ensures.2

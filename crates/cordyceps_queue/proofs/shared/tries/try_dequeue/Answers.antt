@@ -1,0 +1,50 @@
+use Rattle.std.proofs.Common.{[], ◌∷◌, ◌++◌, ap, ◌∙◌, subst}
+use Rattle.cordyceps_queue.specs.Shared.Parts.{AsksRight}
+use Rattle.cordyceps_queue.specs.History.{Event}
+use Rattle.cordyceps_queue.specs.Shared.View.{name}
+use Rattle.cordyceps_queue.proofs.SharedTheory.PartsJoin.{pred_suc, tries_holding, whole_try}
+use Rattle.cordyceps_queue.proofs.shared.tries.try_dequeue.Goals as goal
+
+pub take-right-requires-clause-table : goal.take-right-requires-clause-table
+take-right-requires-clause-table g c = c.requires.table
+
+pub take-right-requires-clause-rest : goal.take-right-requires-clause-rest
+take-right-requires-clause-rest g c = c.requires.rest
+
+pub returns-then-right-eq0-clause-table : goal.returns-then-right-eq0-clause-table
+returns-then-right-eq0-clause-table g c = c.take-right.ensures.table
+
+pub returns-then-right-eq0-clause-rest : goal.returns-then-right-eq0-clause-rest
+returns-then-right-eq0-clause-rest g c =
+    let took = subst (λ n. AsksRight c.args.words.now.table_id.slots n c.args.seat.now.me c.take-right.new.seat.me) c.if-right-eq0.true c.take-right.ensures.took in took.0
+
+pub returns-then-right-eq0-clause-answer : goal.returns-then-right-eq0-clause-answer
+returns-then-right-eq0-clause-answer g c =
+    let took = subst (λ n. AsksRight c.args.words.now.table_id.slots n c.args.seat.now.me c.take-right.new.seat.me) c.if-right-eq0.true c.take-right.ensures.took in
+    (took.1.2 ∙ ap (λ l. l ++ c.args.seat.now.me.0.free) c.requires.rest.1, took.1.4)
+
+pub advance-tail-requires-clause-table : goal.advance-tail-requires-clause-table
+advance-tail-requires-clause-table g c = (c.take-right.ensures.table ∙ c.requires.table.0, c.requires.table.1)
+
+pub advance-tail-requires-clause-holding : goal.advance-tail-requires-clause-holding
+advance-tail-requires-clause-holding g c =
+    let took = subst (λ n. AsksRight c.args.words.now.table_id.slots n c.args.seat.now.me c.take-right.new.seat.me) (pred_suc c.take-right.result c.if-right-eq0.false) c.take-right.ensures.took in took.0
+
+pub give-requires-clause-table : goal.give-requires-clause-table
+give-requires-clause-table g c = (c.advance-tail.ensures.table ∙ (c.take-right.ensures.table ∙ c.requires.table.0), c.requires.table.1)
+
+pub give-requires-clause-holding : goal.give-requires-clause-holding
+give-requires-clause-holding g c =
+    tries_holding _ (Event.Look (name c.take-right.new.seat.me.0) ∷ []) c.take-right.new.seat.me c.advance-tail.new.seat.me _ _ c.advance-tail.ensures.answer
+
+pub returns-clause-table : goal.returns-clause-table
+returns-clause-table g c = c.give.ensures.table ∙ (c.advance-tail.ensures.table ∙ c.take-right.ensures.table)
+
+pub returns-clause-rest : goal.returns-clause-rest
+returns-clause-rest g c = c.give.ensures.rest
+
+pub returns-clause-answer : goal.returns-clause-answer
+returns-clause-answer g c =
+    let slots = c.args.words.now.table_id.slots in
+    let took = subst (λ n. AsksRight slots n c.args.seat.now.me c.take-right.new.seat.me) (pred_suc c.take-right.result c.if-right-eq0.false) c.take-right.ensures.took in
+    whole_try slots _ c.advance-tail.result.0 c.args.seat.now.me c.take-right.new.seat.me c.advance-tail.new.seat.me c.give.new.seat.me c.advance-tail.result.1 c.requires.rest took.1 c.advance-tail.ensures.answer c.give.ensures.answer

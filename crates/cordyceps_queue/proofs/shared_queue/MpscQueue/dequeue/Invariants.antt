@@ -1,8 +1,0 @@
-use Rattle.cordyceps_queue.specs.QueueStanding.{IsSame, MissesDequeue}
-use Rattle.cordyceps_queue.proofs.QueueWaiting.{FailedTries}
-use Rattle.cordyceps_queue.proofs.shared_queue.MpscQueue.dequeue.Given as goal
-
-abbrev pub invariant-loop : goal.invariant-loop
-invariant-loop g l =
-    ((goal.iterator-loop g).can_next l.iterator' × (goal.iterator-loop g).is_finite l.iterator')
-    × IsSame l.initial.party l.party × FailedTries MissesDequeue l.initial.party l.party

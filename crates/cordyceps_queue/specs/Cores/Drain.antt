@@ -1,0 +1,112 @@
+-- Several tries that one party runs alone, one after the other, and what their call answers.
+use Rattle.std.specs.Prelude.{◌≡◌, ◌≢◌, ℕ, zero, suc, ◌-◌, ◌≤◌, Bool, true, false, List, [], ◌∷◌, ◌++◌, length, take, count_by, is_some, vec_items, Option, Some, None, Result, Ok, Err, Vec}
+use native.Mathlib.Decide.{ℕ_discrete}
+use Rattle.cordyceps_queue.specs.declared.cores.stage.Stage.{Stage}
+use Rattle.cordyceps_queue.specs.declared.cores.stage.Stage.TheVariants.{Rest, Cleared}
+use Rattle.cordyceps_queue.specs.declared.cores.room.Room.{Room}
+use Rattle.cordyceps_queue.specs.declared.cores.steps.QueueStep.TheVariants as step
+use Rattle.cordyceps_queue.specs.declared.cores.steps.QueueAnswer.TheVariants as answer
+use Rattle.cordyceps_queue.specs.declared.cores.steps.TryDequeueError.{TryDequeueError}
+use Rattle.cordyceps_queue.specs.declared.cores.steps.TryDequeueError.TheVariants as error
+use Rattle.cordyceps_queue.specs.History.{Event, Take, Busy, Look, Free, held, holder, IsPending, IsBlocked}
+use Rattle.cordyceps_queue.specs.Shared.Batches.{outs}
+use Rattle.cordyceps_queue.specs.Cores.Machine.{Machine, Answered, stepped}
+use Rattle.cordyceps_queue.specs.Cores.Alone.{may_dequeue, found_of, tries, try_events}
+
+-- a machine, the elements that came out, oldest first, and why the last try gave none, if it did
+abbrev pub Drained : Type 0 → Type 0
+Drained E = Machine E × List E × Option TryDequeueError
+
+-- a party at this place may take a batch of at most n elements
+abbrev pub may_drain : ℕ → Option Stage → Bool
+may_drain zero place = false
+may_drain (suc n) place = may_dequeue place
+
+abbrev pub is_cleared : Stage → Bool
+is_cleared (Cleared r) = true
+is_cleared place = false
+
+module _ {E : Type 0} where
+  -- how many rooms have an element
+  abbrev pub occupied : List (Room E) → ℕ
+  occupied rooms = count_by (λ room. is_some room.element) rooms
+
+  -- how many elements are held: those in rooms, but for those that a party has yet to swap in
+  abbrev pub count_held : Machine E → ℕ
+  count_held m = occupied m.rooms - count_by is_cleared m.parties
+
+  abbrev pub went_on : (Machine E → Drained E) → Machine E → Result E TryDequeueError → Drained E
+  went_on next m (Ok e) = let d = next m in (d.0, e ∷ d.1, d.2)
+  went_on next m (Err why) = (m, [], Some why)
+
+  -- tries of a holder, until n elements came out or a try gave none
+  abbrev pub drained : ℕ → ℕ → Machine E → Drained E
+  drained p zero m = (m, [], None)
+  drained p (suc n) m = let out = tries p 6 m in went_on (drained p n) out.0 (found_of out.1)
+
+  -- the right is given back
+  abbrev pub hands_back : ℕ → Drained E → Drained E
+  hands_back p d = ((stepped d.0 p step.Give).0, d.1, d.2)
+
+  abbrev pub drains_first : ℕ → ℕ → Machine E → Answered E → Drained E
+  drains_first p n m (Ok answer.Taken) = hands_back p (drained p n m)
+  drains_first p n m a = (m, [], Some error.Busy)
+
+  -- from rest the right is taken first and given back last
+  abbrev pub drained_at : ℕ → ℕ → Machine E → Option Stage → Drained E
+  drained_at p n m (Some Rest) = let out = stepped m p step.Take in drains_first p n out.0 out.1
+  drained_at p n m place = drained p n m
+
+  -- the answer: the elements, or why there is none
+  abbrev pub batch_of : List E → Option TryDequeueError → Result (List E) TryDequeueError
+  batch_of [] (Some why) = Err why
+  batch_of es stop = Ok es
+
+  -- what a call answered, with the elements of its vector
+  abbrev pub given : {Z : Type 0} → Result (Vec E Z) TryDequeueError → Result (List E) TryDequeueError
+  given (Ok batch) = Ok (vec_items batch)
+  given (Err why) = Err why
+
+  -- the answer where nobody stands in the way: the oldest of these elements, n or all, or that there is none
+  abbrev pub oldest : ℕ → List E → Result (List E) TryDequeueError
+  oldest n [] = Err error.Empty
+  oldest n (e ∷ es) = Ok (take n (e ∷ es))
+
+  -- each party has linked what it swapped in
+  abbrev pub NobodyPending : List (Event ℕ E) → Type 0
+  NobodyPending h = (q : ℕ) → IsPending ℕ_discrete q h → ⊥
+
+  -- no other party has the right
+  abbrev pub NobodyElse : List (Event ℕ E) → ℕ → Type 0
+  NobodyElse h p = (q : ℕ) → holder h ≡ Some q → p ≡ q
+
+  -- the events of tries that gave these elements and then stopped so
+  abbrev pub drain_events : ℕ → List E → Option TryDequeueError → List (Event ℕ E)
+  drain_events p es None = outs p es
+  drain_events p es (Some why) = outs p es ++ try_events p (Err why)
+
+  -- the events of a call, by the place at which it began
+  abbrev pub batch_events : ℕ → Option Stage → List E → Option TryDequeueError → List (Event ℕ E)
+  batch_events p (Some Rest) es (Some error.Busy) = Busy p ∷ []
+  batch_events p (Some Rest) es stop = Take p ∷ drain_events p es stop ++ Free p ∷ []
+  batch_events p place es stop = drain_events p es stop
+
+  -- the events up to the look at which the call stopped
+  abbrev pub last_look : ℕ → Option Stage → List E → List (Event ℕ E)
+  last_look p (Some Rest) es = Take p ∷ outs p es ++ Look p ∷ []
+  last_look p place es = outs p es ++ Look p ∷ []
+
+  -- why no more came: as many came as were asked for; no more was held; the history was blocked just after the last look; or
+  -- another party had the right
+  abbrev pub Stops : List (Event ℕ E) → ℕ → ℕ → Option Stage → List E → Option TryDequeueError → Type 0
+  Stops h p n place es None = length es ≡ n
+  Stops h p n place es (Some error.Empty) = held h ≡ es
+  Stops h p n place es (Some error.Inconsistent) = IsBlocked ℕ_discrete (h ++ last_look p place es)
+  Stops h p n place es (Some error.Busy) = (es ≡ []) × (q : ℕ) × (holder h ≡ Some q) × (p ≢ q)
+
+  -- what a call took, by the history before it: the oldest elements, and why no more
+  pub record Drains (h : List (Event ℕ E)) (p n : ℕ) (place : Option Stage) (es : List E) (stop : Option TryDequeueError) : Type 0 where
+    pub rest : List E
+    pub front : held h ≡ es ++ rest
+    pub few : length es ≤ n
+    pub stops : Stops h p n place es stop

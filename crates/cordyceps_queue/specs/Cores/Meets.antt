@@ -1,0 +1,130 @@
+-- When a machine meets a history.
+use Rattle.std.specs.Prelude.{◌≡◌, ℕ, zero, suc, ◌≤◌, ◌≢◌, ◌⊎◌, List, [], ◌∷◌, map, length, Option, Some, None}
+use Rattle.cordyceps_queue.specs.History.{Event}
+use Rattle.cordyceps_queue.specs.Past.{held, holder, IsSettled, IsPendingAt, HasLooked, WasBlocked, IsLegal}
+use Rattle.cordyceps_queue.specs.declared.cores.stage.Stage.{Stage}
+use Rattle.cordyceps_queue.specs.declared.cores.stage.Stage.TheVariants.{Rest, Cleared, Swapped, Holding, StubNull, Second, Null, PutClear, PutSwap, PutLink, PutRead}
+use Rattle.cordyceps_queue.specs.Cores.Abstract.{AbstractParty, AbstractMachine}
+
+-- the item at place i is x
+abbrev pub ItemAt : {A : Type 0} → List A → ℕ → A → Type 0
+ItemAt [] i x = ⊥
+ItemAt (y ∷ ys) zero x = x ≡ y
+ItemAt (y ∷ ys) (suc i) x = ItemAt ys i x
+
+-- the rooms without the stub's
+abbrev pub real : List ℕ → List ℕ
+real [] = []
+real (zero ∷ rs) = real rs
+real (suc r ∷ rs) = suc r ∷ real rs
+
+-- how many of the first i rooms are not the stub's
+abbrev pub rank : List ℕ → ℕ → ℕ
+rank rs zero = 0
+rank [] (suc i) = 0
+rank (zero ∷ rs) (suc i) = rank rs i
+rank (suc r ∷ rs) (suc i) = suc (rank rs i)
+
+-- Whose a room is: the structure's, free with a party, cleared by a party, or not made yet
+pub data Owner : Type 0 where
+  Shared : Owner
+  Spare : ℕ → Owner
+  Ready : ℕ → Owner
+  Unmade : Owner
+
+-- the party at this place still has to link a to b
+abbrev pub Owes : Stage → ℕ → ℕ → Type 0
+Owes (Swapped r old) a b = (a ≡ old) × (b ≡ r)
+Owes (PutLink t old) a b = (a ≡ old) × (b ≡ 0)
+Owes _ a b = ⊥
+
+-- the tail that a party with the right has
+abbrev pub tail_of : Stage → Option ℕ
+tail_of Rest = None
+tail_of (Cleared r) = None
+tail_of (Swapped r old) = None
+tail_of (Holding t) = Some t
+tail_of StubNull = Some 0
+tail_of (Second t) = Some t
+tail_of (Null t) = Some t
+tail_of (PutClear t) = Some t
+tail_of (PutSwap t) = Some t
+tail_of (PutLink t old) = Some t
+tail_of (PutRead t) = Some t
+
+-- The ghost state: the rooms from the tail to head, whose each room is, and which party has the right
+pub record Chain : Type 0 where
+  pub rooms : List ℕ
+  pub owner : ℕ → Owner
+  pub keeper : Option ℕ
+
+abbrev pub IsOut : List ℕ → Type 0
+IsOut rooms = (i : ℕ) → ItemAt rooms i 0 → ⊥
+
+-- the free rooms are the party's own, each once
+pub record OwnsRooms (owner : ℕ → Owner) (k : ℕ) (spare : List ℕ) : Type 0 where
+  pub own : (i r : ℕ) → ItemAt spare i r → owner r ≡ Spare k
+  pub once : (i j r : ℕ) → ItemAt spare i r → ItemAt spare j r → i ≡ j
+
+module _ {P : Type 0} where
+  abbrev pub Owed : (ℕ → Option (AbstractParty P)) → ℕ → ℕ → Type 0
+  Owed party a b = (k : ℕ) × (p : AbstractParty P) × (party k ≡ Some p) × Owes p.place a b
+
+  -- rooms a and b are neighbours in the chain: a links to b, or a party still has to link them
+  abbrev pub Joined : (ℕ → Option ℕ) → (ℕ → Option (AbstractParty P)) → ℕ → ℕ → Type 0
+  Joined next party a b = (next a ≡ Some b) ⊎ ((next a ≡ None) × Owed party a b)
+
+-- no party has this name
+abbrev pub IsStranger : {P : Type 0} → (ℕ → Option (AbstractParty P)) → P → Type 0
+IsStranger {P} party q = (k : ℕ) (p : AbstractParty P) → party k ≡ Some p → p.name ≢ q
+
+-- the party k with this name has the right, and its tail is t
+pub record Keeps {P E : Type 0} (keeper : Option ℕ) (rooms : List ℕ) (h : List (Event P E)) (k : ℕ) (name : P) (t : ℕ) : Type 0 where
+  pub kept : keeper ≡ Some k
+  pub held_by : holder h ≡ Some name
+  pub tail : ItemAt rooms 0 t
+  pub settled : IsSettled name h
+
+-- the same, the tail is no stub, and the party has looked
+pub record Real {P E : Type 0} (keeper : Option ℕ) (rooms : List ℕ) (h : List (Event P E)) (k : ℕ) (name : P) (t : ℕ) : Type 0 where
+  pub keeps : Keeps keeper rooms h k name t
+  pub is_real : t ≢ 0
+  pub looked : HasLooked name h
+
+module _ {P E : Type 0} (head : ℕ) (next : ℕ → Option ℕ) (cell : ℕ → Option E) (owner : ℕ → Owner) (keeper : Option ℕ) (rooms : List ℕ) (h : List (Event P E)) where
+  -- what holds of party k at this place
+  abbrev pub AtStage : ℕ → P → Stage → Type 0
+  AtStage k name Rest = IsSettled name h
+  AtStage k name (Cleared r) = IsSettled name h × (owner r ≡ Ready k) × (r ≢ 0) × (next r ≡ None) × (e : E) × (cell r ≡ Some e)
+  AtStage k name (Swapped r old) = (i : ℕ) × ItemAt rooms i old × ItemAt rooms (suc i) r × (r ≢ 0) × (next old ≡ None) × IsPendingAt name (rank rooms (suc i)) h
+  AtStage k name (Holding t) = Keeps keeper rooms h k name t
+  AtStage k name StubNull = Keeps keeper rooms h k name 0 × HasLooked name h × (head ≢ 0 → WasBlocked name h)
+  AtStage k name (Second t) = Real keeper rooms h k name t
+  AtStage k name (Null t) = Real keeper rooms h k name t × (head ≢ t → WasBlocked name h)
+  AtStage k name (PutClear t) = Real keeper rooms h k name t × IsOut rooms
+  AtStage k name (PutSwap t) = Real keeper rooms h k name t × IsOut rooms × (next 0 ≡ None)
+  AtStage k name (PutLink t old) = Real keeper rooms h k name t × ((i : ℕ) × ItemAt rooms i old × ItemAt rooms (suc i) 0 × (next old ≡ None))
+  AtStage k name (PutRead t) = Real keeper rooms h k name t × (head ≢ t)
+
+-- the right is out with a party, or it is the tail's room and 1
+abbrev pub RightIs : {P E : Type 0} → ℕ → (ℕ → Option (AbstractParty P)) → List ℕ → List (Event P E) → Option ℕ → Type 0
+RightIs right party rooms h None = (holder h ≡ None) × (t : ℕ) × (right ≡ suc t) × ItemAt rooms 0 t
+RightIs {P} {E} right party rooms h (Some k) = (right ≡ 0) × (p : AbstractParty P) × (t : ℕ) × (party k ≡ Some p) × (tail_of p.place ≡ Some t) × (holder h ≡ Some p.name)
+
+pub record Meets {P E : Type 0} (m : AbstractMachine P E) (c : Chain) (h : List (Event P E)) : Type 0 where
+  pub legal : IsLegal h
+  -- the chain
+  pub last : (i : ℕ) × (length c.rooms ≡ suc i) × ItemAt c.rooms i m.head
+  pub ends : m.next m.head ≡ None
+  pub joined : (i a b : ℕ) → ItemAt c.rooms i a → ItemAt c.rooms (suc i) b → Joined m.next m.party a b
+  pub once : (i j r : ℕ) → ItemAt c.rooms i r → ItemAt c.rooms j r → i ≡ j
+  pub shared : (i r : ℕ) → ItemAt c.rooms i r → c.owner r ≡ Shared
+  pub stub : c.owner 0 ≡ Shared
+  pub unmade : (r : ℕ) → m.count ≤ r → c.owner r ≡ Unmade
+  pub holds : map m.cell (real c.rooms) ≡ map Some (held h)
+  -- the parties
+  pub right : RightIs m.right m.party c.rooms h c.keeper
+  pub fits : (k : ℕ) (p : AbstractParty P) → m.party k ≡ Some p → AtStage m.head m.next m.cell c.owner c.keeper c.rooms h k p.name p.place
+  pub rooms : (k : ℕ) (p : AbstractParty P) → m.party k ≡ Some p → OwnsRooms c.owner k p.spare
+  pub names : (j k : ℕ) (p q : AbstractParty P) → m.party j ≡ Some p → m.party k ≡ Some q → p.name ≡ q.name → j ≡ k
+  pub strangers : (q : P) → IsStranger m.party q → IsSettled q h

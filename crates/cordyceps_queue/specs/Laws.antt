@@ -1,0 +1,81 @@
+-- What every legal history says, and that histories say the same read from either end.
+use Rattle.std.specs.Prelude.{◌≡◌, ℕ, suc, ◌+◌, ◌⊎◌, List, [], ◌∷◌, ◌++◌, map, reverse, Some, ◌↔◌}
+use Rattle.cordyceps_queue.specs.History as told
+use Rattle.cordyceps_queue.specs.History.{Event, Swap, Take, Free, went, held, holder, one_if_dec}
+use Rattle.cordyceps_queue.specs.Past as past
+
+-- legal by the conditions on every beginning, or event by event
+abbrev pub LegalBothWays : (P E : Type 0) → Type 0
+LegalBothWays P E = (same : Discrete P) (h : List (Event P E)) → told.IsLegal same h ↔ past.IsLegal (reverse h)
+
+-- blocked by counts of events, or by the place of an open swap
+abbrev pub BlockedBothWays : (P E : Type 0) → Type 0
+BlockedBothWays P E = (same : Discrete P) (h : List (Event P E)) → told.IsLegal same h → told.IsBlocked same h ↔ past.IsBlocked (reverse h)
+
+abbrev pub WasBlockedBothWays : (P E : Type 0) → Type 0
+WasBlockedBothWays P E = (same : Discrete P) (h : List (Event P E)) (q : P) → told.IsLegal same h → told.WasBlocked same q h ↔ past.WasBlocked q (reverse h)
+
+-- this element before the others, if it is so
+abbrev pub first_if : {A E : Type 0} → Dec A → E → List E → List E
+first_if (yes a) e es = e ∷ es
+first_if (no n) e es = es
+
+module _ {P E : Type 0} where
+  -- the elements that came in, each with the party that put it in
+  abbrev pub sent : List (Event P E) → List (P × E)
+  sent [] = []
+  sent (Swap p e ∷ h) = (p, e) ∷ sent h
+  sent (_ ∷ h) = sent h
+
+module _ {P E : Type 0} (same : Discrete P) where
+  -- those of them that one party put in
+  abbrev pub sent_by : P → List (P × E) → List E
+  sent_by q [] = []
+  sent_by q (x ∷ xs) = first_if (same q x.0) x.1 (sent_by q xs)
+
+  -- the elements that one party put in, in its order
+  abbrev pub put_in_by : P → List (Event P E) → List E
+  put_in_by q [] = []
+  put_in_by q (Swap p e ∷ h) = first_if (same q p) e (put_in_by q h)
+  put_in_by q (_ ∷ h) = put_in_by q h
+
+  -- what came out was put in by these parties, and what is held by those: of each party, what came out, in the order in which
+  -- it did, and then what is held, is what that party put in, in its order
+  pub record LeaveInOrder (h : List (Event P E)) : Type 0 where
+    pub left : List (P × E)
+    pub rest : List (P × E)
+    pub gone : map (λ x. x.1) left ≡ went h
+    pub kept : map (λ x. x.1) rest ≡ held h
+    pub all : left ++ rest ≡ sent h
+    pub each : (q : P) → sent_by q left ++ sent_by q rest ≡ put_in_by q h
+
+  -- how often the party took the right, and how often it gave it back
+  abbrev pub takes_by : P → List (Event P E) → ℕ
+  takes_by q [] = 0
+  takes_by q (Take p ∷ h) = one_if_dec (same q p) + takes_by q h
+  takes_by q (_ ∷ h) = takes_by q h
+
+  abbrev pub frees_by : P → List (Event P E) → ℕ
+  frees_by q [] = 0
+  frees_by q (Free p ∷ h) = one_if_dec (same q p) + frees_by q h
+  frees_by q (_ ∷ h) = frees_by q h
+
+  -- it took the right once more than it gave it back
+  abbrev pub HasRight : P → List (Event P E) → Type 0
+  HasRight q h = suc (frees_by q h) ≡ takes_by q h
+
+  -- who took the right once more than it gave it back is the holder, which is one party or none, and each other party gave it
+  -- back as often as it took it
+  pub record OneHasRight (h : List (Event P E)) : Type 0 where
+    pub counts : (q : P) → HasRight q h ⊎ (frees_by q h ≡ takes_by q h)
+    pub holds : (q : P) → HasRight q h ↔ (holder h ≡ Some q)
+    pub one : (p q : P) → HasRight p h → HasRight q h → p ≡ q
+
+-- in each beginning of a legal history
+abbrev pub ProducersInOrder : (P E : Type 0) → Type 0
+ProducersInOrder P E =
+    (same : Discrete P) (h past later : List (Event P E)) → told.IsLegal same h → h ≡ past ++ later → LeaveInOrder same past
+
+abbrev pub OneHolder : (P E : Type 0) → Type 0
+OneHolder P E =
+    (same : Discrete P) (h past later : List (Event P E)) → told.IsLegal same h → h ≡ past ++ later → OneHasRight same past

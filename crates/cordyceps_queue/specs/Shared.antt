@@ -1,0 +1,10 @@
+-- Definitions of what threads share.
+pub mod Batches
+pub mod Calls
+pub mod OwnedConsumer
+pub mod Parting
+pub mod Parts
+pub mod Plays
+pub mod Rule
+pub mod Vault
+pub mod View

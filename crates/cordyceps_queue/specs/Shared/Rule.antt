@@ -1,0 +1,99 @@
+-- The rule of a queue's table, which each step of each party keeps.
+use Rattle.std.specs.Prelude.{◌≡◌, ◌≢◌, ℕ, zero, suc, ◌+◌, ◌-◌, ◌≤◌, List, [], ◌∷◌, ◌++◌, length, reverse, Option, Some, None, slice_index}
+use mathlib.Core.Option.{some, none}
+use mathlib.Core.Option as maybe
+use lib.ListN.{get_elem?}
+use Rattle.atomic_table.specs.Table.{State}
+use Rattle.atomic_table.specs.Seated.{TableId}
+use Rattle.cordyceps_shared.specs.Histories.{events}
+use Rattle.cordyceps_shared.specs.Knowing.{SharesApart, AllAgree}
+use Rattle.cordyceps_shared.specs.Shares.{Name}
+use Rattle.cordyceps_queue.specs.declared.cores.stage.Stage.TheVariants.{Cleared}
+use Rattle.cordyceps_queue.specs.declared.shared.table.Filled.{Filled}
+use Rattle.cordyceps_queue.specs.History.{Event}
+use Rattle.cordyceps_queue.specs.Cores.Meets.{ItemAt, Chain, Meets}
+use Rattle.cordyceps_queue.specs.Shared.View.{View, knows, name}
+use Rattle.cordyceps_queue.specs.Cores.Abstract.{AbstractParty, AbstractMachine}
+
+abbrev pub TableState : Type 0 → Type 0
+TableState E = State (Option (Filled E)) (View E)
+
+abbrev pub Homes : Type 0 → Type 0
+Homes E = List (maybe.Option (Option (Filled E)))
+
+-- each event with the seat of its party, the oldest first
+abbrev pub History : Type 0 → Type 0
+History E = List (ℕ × Event Name E)
+
+-- a word of a link: 0 is null, else it is 1 more than a room
+abbrev pub link_of : ℕ → Option ℕ
+link_of zero = None
+link_of (suc r) = Some r
+
+-- a seat without a share is no party
+abbrev pub party_if : List Name → AbstractParty Name → Option (AbstractParty Name)
+party_if [] p = None
+party_if (n ∷ ns) p = Some p
+
+module _ {E : Type 0} where
+  -- what lies in the slot of a room in use: its ticket and its element
+  abbrev pub full_slot : ℕ → E → Filled E
+  full_slot r e = record { ticket = r; item = e }
+
+  abbrev pub slot_of : ℕ → Option E → Option (Filled E)
+  slot_of r None = None
+  slot_of r (Some e) = Some (full_slot r e)
+
+  -- the party as the core's machine has it: a room whose slot has yet to be given back is free already
+  abbrev pub party : View E → AbstractParty Name
+  party v = record { name = name v; place = v.place; spare = v.back ++ v.free }
+
+  abbrev pub party_of : maybe.Option (View E) → Option (AbstractParty Name)
+  party_of none = None
+  party_of (some v) = party_if v.known.share (party v)
+
+  -- The machine that the words and the views spell: word 0 is head, word 1 the right, and word 2 + r the link of room r. What
+  -- the rooms have is said apart, since a slot may be out with a seat.
+  abbrev pub machine_of : (ℕ → Option E) → List ℕ → List (View E) → AbstractMachine Name E
+  machine_of cell words views = record {
+    head = slice_index words 0;
+    right = slice_index words 1;
+    count = length words - 2;
+    next = λ r. link_of (slice_index words (2 + r));
+    cell = cell;
+    party = λ k. party_of (get_elem? views k);
+  }
+
+  -- the slots of the chain's rooms are at home, each with its element
+  abbrev pub FullAtHome : Homes E → (ℕ → Option E) → List ℕ → Type 0
+  FullAtHome homes cell rooms = (i r : ℕ) → ItemAt rooms i r → r ≢ 0 → get_elem? homes r ≡ some (some (slot_of r (cell r)))
+
+  -- the slots of free rooms are at home, with nothing in them
+  abbrev pub EmptyAtHome : Homes E → List ℕ → Type 0
+  EmptyAtHome homes free = (i r : ℕ) → ItemAt free i r → get_elem? homes r ≡ some (some None)
+
+  -- so it is with each party
+  abbrev pub AllEmptyAtHome : Homes E → List (View E) → Type 0
+  AllEmptyAtHome homes views = (j : ℕ) (v : View E) → get_elem? views j ≡ some v → v.known.share ≢ [] → EmptyAtHome homes v.free
+
+  -- a cleared room has the element that it was cleared for
+  abbrev pub AllReady : (ℕ → Option E) → List (View E) → Type 0
+  AllReady cell views = (j : ℕ) (v : View E) (r : ℕ) → get_elem? views j ≡ some v → v.known.share ≢ [] → v.place ≡ Cleared r → cell r ≡ v.item
+
+  -- there is one history, which the machine meets, and of which each party has seen a beginning
+  pub record RuleHolds (s : TableState E) : Type 0 where
+    pub history : History E
+    pub cell : ℕ → Option E
+    pub chain : Chain
+    pub meets : Meets (machine_of cell s.words s.views) chain (reverse (events history))
+    pub wide : length s.words ≡ 2 + length s.homes
+    pub stub : 1 ≤ length s.homes
+    pub full : FullAtHome s.homes cell chain.rooms
+    pub empty : AllEmptyAtHome s.homes s.views
+    pub ready : AllReady cell s.views
+    pub fits : AllAgree knows s.views history
+    pub owned : SharesApart knows s.views history
+
+-- a link for each slot, head and the right, and the stub's slot
+abbrev pub IsTable : TableId → Type 0
+IsTable z = (z.words ≡ 2 + z.slots) × (1 ≤ z.slots) × (z.slots ≤ 1048577)

@@ -1,0 +1,11 @@
+//! The core as a plain value, whose steps are taken one at a time.
+
+pub(crate) mod calls;
+pub(crate) mod machine;
+pub(crate) mod replay;
+pub(crate) mod replay_end;
+pub(crate) mod room;
+pub(crate) mod rooms;
+pub(crate) mod stage;
+pub(crate) mod steps;
+pub(crate) mod tries;

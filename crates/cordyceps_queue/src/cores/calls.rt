@@ -1,0 +1,171 @@
+//! The core.
+ghost use Rattle.std.specs.Prelude.{◌≡◌, ◌≢◌, ◌++◌, ◌↔◌, ◌≤◌, ℕ, [], List, Some, Err, slice_get, length, IfOk, IfErr, OnOk, OnErr, IsFalse, is_ok};
+ghost use Rattle.cordyceps_base.specs.Runs.{after};
+ghost use Rattle.cordyceps_queue.specs.Cores.Alone.{is_ready, may_dequeue, enqueue_steps, dequeued, found_of, dequeue_events, Enqueued, Finds, LooksBlocked};
+ghost use Rattle.cordyceps_queue.specs.Cores.Drain.{may_drain, drained_at, given, batch_of, batch_events, oldest, NobodyPending, NobodyElse, Drains};
+ghost use Rattle.cordyceps_queue.specs.History.{Event, holder, held};
+ghost use Rattle.cordyceps_queue.specs.Cores.Machine.{stepped, is_there, step_element, step_events};
+ghost use Rattle.cordyceps_queue.specs.Cores.CoreMeets.{CoreMeets, AnswerSays, core_step, new_machine, with_party, with_room};
+
+use crate::cores::machine::Machine;
+use crate::cores::steps::{QueueAnswer, QueueStep, TryDequeueError};
+use crate::cores::tries::{batch_or, found};
+use cordyceps_base::shared::StepError;
+use std::alloc::Global;
+use std::marker::Model;
+
+/// A queue whose steps are taken one at a time, by parties with numbers, in any order.
+///
+/// A contract sees its machine: the head, the right to dequeue, the rooms and the places of the parties; and says of each
+/// history that the core met which one it meets afterwards. Such a history is legal.
+#[derive(Drop)]
+pub struct QueueCore<E> {
+    alloc: Global,
+    machine: Machine<E>,
+}
+
+impl<E> Model for QueueCore<E> {
+    ghost use Rattle.cordyceps_queue.specs.Cores.Machine.{Machine};
+    ghost use Rattle.cordyceps_queue.specs.Cores.CoreMeets.{IsSound};
+
+    ghost Value = { Machine E };
+
+    ghost view = { λ c. c.machine };
+
+    ghost invariant = { λ c. IsSound c.machine };
+}
+
+/// What a step answers. `Err` hands the step's element back.
+type Answered<E> = Result<QueueAnswer<E>, (StepError, Option<E>)>;
+
+impl<E: Drop> QueueCore<E> {
+    /// A core with no party, which holds nothing. It takes no memory, and keeps `alloc` for what is added later.
+    pub fn new(alloc: Global) -> Self
+        ensures machine { result ≡ new_machine }
+        ensures meets { CoreMeets [] result }
+    {
+        QueueCore {
+            alloc,
+            machine: Machine::new(alloc),
+        }
+    }
+
+    /// Adds a party at rest, without rooms, and answers its number. `Memory` changes nothing.
+    pub fn add_party(&mut self) -> Result<usize, StepError>
+        ensures ok { IfOk result (λ n. (n ≡ length self.old.parties) × (self.new ≡ with_party self.old)) }
+        ensures err { IfErr result (λ e. (e ≡ StepError.Memory) × (self.new ≡ self.old)) }
+        ensures history { (h : List (Event ℕ E)) → CoreMeets h self.old → CoreMeets h self.new }
+    {
+        self.machine.add_party().map_err(|_| StepError::Memory)
+    }
+
+    /// Adds a free room of the party. `NotThere` is for a party that there is not; it and `Memory` change nothing.
+    pub fn add_room(&mut self, party: usize) -> Result<(), StepError>
+        ensures ok { OnOk result (self.new ≡ with_room self.old party) }
+        ensures err { OnErr result (self.new ≡ self.old) }
+        ensures not_there { (result ≡ Err StepError.NotThere) ↔ (length self.old.parties ≤ party) }
+        ensures history { (h : List (Event ℕ E)) → CoreMeets h self.old → CoreMeets h self.new }
+    {
+        if self.machine.place(party).is_none() {
+            return Err(StepError::NotThere);
+        }
+        match self.machine.add_room(party) {
+            Ok(()) => Ok(()),
+            Err(_) => Err(StepError::Memory),
+        }
+    }
+
+    /// Takes a party's step. `NotThere` comes exactly where there is no such party, it is not at that step, or it has no
+    /// free room for it; that changes nothing, and hands the step's element back. A step needs no memory, so that
+    /// `Memory` never comes.
+    pub fn step(&mut self, party: usize, step: QueueStep<E>) -> Answered<E>
+        ensures machine { self.new ≡ (stepped self.old party step).0 }
+        ensures answer { result ≡ (stepped self.old party step).1 }
+        ensures accepted { is_ok result ≡ is_there self.old party step }
+        ensures refused { IfErr result (λ e. (e ≡ (StepError.NotThere, step_element step)) × (self.new ≡ self.old)) }
+        ensures history { (h : List (Event ℕ E)) → CoreMeets h self.old → CoreMeets (h ++ step_events self.old party step result) self.new × AnswerSays h party result }
+    {
+        self.machine.act(party, step)
+    }
+
+    /// Puts an element behind all others, as a party that runs alone: `Clear`, `Swap` and `Link`. `NotThere` comes exactly
+    /// where the party is not at rest or has no free room; that changes nothing, and hands the element back. It needs no
+    /// memory.
+    pub fn enqueue(&mut self, party: usize, element: E) -> Result<(), (StepError, E)>
+        ensures accepted { is_ok result ≡ is_ready self.old party }
+        ensures err { IfErr result (λ e. (e ≡ (StepError.NotThere, element)) × (self.new ≡ self.old)) }
+        ensures ok { OnOk result (self.new ≡ after core_step self.old (enqueue_steps party element)) }
+        ensures history { OnOk result ((h : List (Event ℕ E)) → CoreMeets h self.old → Enqueued h party element self.new) }
+    {
+        if !self.machine.is_ready(party) {
+            return Err((StepError::NotThere, element));
+        }
+        let _ = self.step(party, QueueStep::Clear(Some(element)));
+        let _ = self.step(party, QueueStep::Swap);
+        let _ = self.step(party, QueueStep::Link);
+        Ok(())
+    }
+
+    /// Takes the oldest element out, as a party that runs alone. From rest it takes the right first and gives it back
+    /// last; a party that holds the right does neither. `NotThere` comes exactly at the other places, and changes nothing.
+    /// It needs no memory.
+    pub fn try_dequeue(&mut self, party: usize) -> Result<Result<E, TryDequeueError>, StepError>
+        ensures accepted { is_ok result ≡ may_dequeue (slice_get self.old.parties party) }
+        ensures err { IfErr result (λ e. (e ≡ StepError.NotThere) × (self.new ≡ self.old)) }
+        ensures ok { IfOk result (λ found. (self.new ≡ (dequeued self.old party).0) × (found ≡ found_of (dequeued self.old party).1)) }
+        ensures history { IfOk result (λ found. (h : List (Event ℕ E)) → CoreMeets h self.old
+            → CoreMeets (h ++ dequeue_events party (slice_get self.old.parties party) found) self.new × Finds h party found) }
+        ensures inconsistent { IfOk result (λ found. (h : List (Event ℕ E)) → CoreMeets h self.old
+            → found ≡ Err TryDequeueError.Inconsistent
+            → LooksBlocked h party (slice_get self.old.parties party)) }
+        ensures busy { IfOk result (λ found. (h : List (Event ℕ E)) (q : ℕ) → CoreMeets h self.old
+            → holder h ≡ Some q
+            → party ≢ q
+            → found ≡ Err TryDequeueError.Busy) }
+    {
+        if !self.machine.may_dequeue(party) {
+            return Err(StepError::NotThere);
+        }
+        Ok(found(self.machine.dequeue(party)))
+    }
+
+    /// Takes elements out, oldest first, by tries of one party that runs alone, until `max` came out or a try gives none:
+    /// these, or why the first try gave none. From rest it takes the right first and gives it back last; a party that holds
+    /// the right does neither.
+    ///
+    /// `NotThere` comes exactly where the party is at another place or `max` is 0, and `Memory` where there is none for the
+    /// elements: room for as many as are held, or for `max` if that is less, is made before the first step. Both change
+    /// nothing. It goes through the rooms and the parties once, to count what is held.
+    pub fn take_linked(
+        &mut self,
+        party: usize,
+        max: usize,
+    ) -> Result<Result<Vec<E>, TryDequeueError>, StepError>
+        ensures not_there { (result ≡ Err StepError.NotThere) ↔ IsFalse (may_drain max (slice_get self.old.parties party)) }
+        ensures err { OnErr result (self.new ≡ self.old) }
+        ensures ok { IfOk result (λ batch. let d = drained_at party max self.old (slice_get self.old.parties party) in
+            (self.new ≡ d.0) × (given batch ≡ batch_of d.1 d.2)) }
+        ensures history { OnOk result (let d = drained_at party max self.old (slice_get self.old.parties party) in (h : List (Event ℕ E))
+            → CoreMeets h self.old
+            → CoreMeets (h ++ batch_events party (slice_get self.old.parties party) d.1 d.2) self.new
+            × Drains h party max (slice_get self.old.parties party) d.1 d.2) }
+        ensures all { IfOk result (λ batch. (h : List (Event ℕ E)) → CoreMeets h self.old
+            → NobodyPending h
+            → NobodyElse h party
+            → given batch ≡ oldest max (held h)) }
+        ensures busy { IfOk result (λ batch. (h : List (Event ℕ E)) (q : ℕ) → CoreMeets h self.old
+            → holder h ≡ Some q
+            → party ≢ q
+            → given batch ≡ Err TryDequeueError.Busy) }
+    {
+        if max == 0 || !self.machine.may_dequeue(party) {
+            return Err(StepError::NotThere);
+        }
+        let room = max.min(self.machine.count_held());
+        let Ok(mut batch) = Vec::with_capacity(self.alloc, room) else {
+            return Err(StepError::Memory);
+        };
+        let stop = self.machine.take_batch(party, &mut batch, max);
+        Ok(batch_or(batch, stop))
+    }
+}

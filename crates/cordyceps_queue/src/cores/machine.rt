@@ -1,0 +1,294 @@
+//! The machine of a core: its words, its rooms and the places of its parties.
+ghost use Rattle.std.specs.Prelude.{◌≡◌, ◌≢◌, ◌<◌, ◌++◌, ◌∷◌, [], length, Some, None, IsSome, IfOk, OnOk, OnErr, slice_get, nat_eq, is_some};
+ghost use Rattle.cordyceps_queue.specs.Cores.Machine.{stepped, acts, least_free, element_in, next_in, stands, clear, swap, link, take, give, hand_out, look, read, read_again, read_stub, head_stub, head_tail};
+ghost use Rattle.cordyceps_queue.specs.Cores.CoreMeets.{IsSound, new_machine, with_party, with_room};
+ghost use Rattle.cordyceps_queue.specs.Cores.Drain.{count_held};
+
+use crate::cores::rooms::Rooms;
+use crate::cores::stage::Stage;
+use crate::cores::steps::{QueueAnswer, QueueStep};
+use cordyceps_base::shared::StepError;
+use std::alloc::{AllocError, Global};
+use std::marker::Model;
+
+/// The head, the right to dequeue (the tail, or `None` while a party has it), the rooms, and each party's place.
+#[derive(Drop)]
+pub(crate) struct Machine<E> {
+    head: usize,
+    right: Option<usize>,
+    rooms: Rooms<E>,
+    parties: Vec<Stage>,
+}
+
+impl<E> Model for Machine<E> {
+    ghost use Rattle.cordyceps_queue.specs.Cores.Machine.{Machine};
+
+    ghost Value = { Machine E };
+
+    ghost view = { λ m. record { head = m.head; right = m.right; rooms = m.rooms; parties = m.parties.items } };
+}
+
+type Answered<E> = Result<QueueAnswer<E>, (StepError, Option<E>)>;
+
+impl<E: Drop> Machine<E> {
+    pub(crate) fn new(alloc: Global) -> Self
+        ensures { result ≡ new_machine }
+    {
+        Machine {
+            head: 0,
+            right: Some(0),
+            rooms: Rooms::new(alloc),
+            parties: Vec::new(alloc),
+        }
+    }
+
+    /// Adds a party at rest, and answers its number.
+    pub(crate) fn add_party(&mut self) -> Result<usize, AllocError>
+        ensures ok { IfOk result (λ n. (n ≡ length self.old.parties) × (self.new ≡ with_party self.old)) }
+        ensures err { OnErr result (self.new ≡ self.old) }
+    {
+        let party = self.parties.len();
+        self.parties.push(Stage::Rest)?;
+        Ok(party)
+    }
+
+    /// Adds a free room of the party.
+    pub(crate) fn add_room(&mut self, party: usize) -> Result<(), AllocError>
+        ensures ok { OnOk result (self.new ≡ with_room self.old party) }
+        ensures err { OnErr result (self.new ≡ self.old) }
+    {
+        self.rooms.add(party)
+    }
+
+    /// Where the party is.
+    pub(crate) fn place(&self, party: usize) -> Option<Stage>
+        ensures { result ≡ slice_get self.now.parties party }
+    {
+        self.parties.get(party).copied()
+    }
+
+    /// Whether the party has a free room.
+    pub(crate) fn has_room(&self, party: usize) -> bool
+        ensures { result ≡ is_some (least_free party self.now.rooms) }
+    {
+        self.rooms.least_free(party).is_some()
+    }
+
+    /// How many elements are held, by a walk through all rooms and parties.
+    pub(crate) fn count_held(&self) -> usize
+        ensures { result ≡ count_held self.now }
+    {
+        let cleared = self
+            .parties
+            .iter()
+            .filter(|place| place.is_cleared())
+            .count();
+        self.rooms.occupied().saturating_sub(cleared)
+    }
+
+    /// The party goes to another place.
+    fn stand(&mut self, party: usize, place: Stage, answer: QueueAnswer<E>) -> Answered<E>
+        requires { party < length self.old.parties }
+        ensures machine { self.new ≡ (stands self.old party place answer).0 }
+        ensures answer { result ≡ (stands self.old party place answer).1 }
+    {
+        self.parties[party] = place;
+        Ok(answer)
+    }
+
+    fn clear(&mut self, party: usize, element: E) -> Answered<E>
+        requires sound { IsSound self.old }
+        requires at { slice_get self.old.parties party ≡ Some Stage.Rest }
+        ensures machine { self.new ≡ (clear self.old party element (least_free party self.old.rooms)).0 }
+        ensures answer { result ≡ (clear self.old party element (least_free party self.old.rooms)).1 }
+    {
+        let Some(room) = self.rooms.least_free(party) else {
+            return Err((StepError::NotThere, Some(element)));
+        };
+        self.rooms.hold(room, element);
+        self.parties[party] = Stage::Cleared(room);
+        Ok(QueueAnswer::Done)
+    }
+
+    fn swap(&mut self, party: usize, room: usize, place: Stage) -> Answered<E>
+        requires { party < length self.old.parties }
+        ensures machine { self.new ≡ (swap self.old party room place).0 }
+        ensures answer { result ≡ (swap self.old party room place).1 }
+    {
+        self.head = room;
+        self.parties[party] = place;
+        Ok(QueueAnswer::Done)
+    }
+
+    fn link(&mut self, party: usize, at: usize, next: Option<usize>, place: Stage) -> Answered<E>
+        requires party { party < length self.old.parties }
+        requires room { at < length self.old.rooms }
+        ensures machine { self.new ≡ (link self.old party at next place).0 }
+        ensures answer { result ≡ (link self.old party at next place).1 }
+    {
+        self.rooms.link(at, next);
+        self.parties[party] = place;
+        Ok(QueueAnswer::Done)
+    }
+
+    fn take(&mut self, party: usize) -> Answered<E>
+        requires { party < length self.old.parties }
+        ensures machine { self.new ≡ (take self.old party self.old.right).0 }
+        ensures answer { result ≡ (take self.old party self.old.right).1 }
+    {
+        let Some(tail) = self.right else {
+            return Ok(QueueAnswer::Busy);
+        };
+        self.right = None;
+        self.parties[party] = Stage::Holding(tail);
+        Ok(QueueAnswer::Taken)
+    }
+
+    fn give(&mut self, party: usize, tail: usize) -> Answered<E>
+        requires { party < length self.old.parties }
+        ensures machine { self.new ≡ (give self.old party tail).0 }
+        ensures answer { result ≡ (give self.old party tail).1 }
+    {
+        self.right = Some(tail);
+        self.parties[party] = Stage::Rest;
+        Ok(QueueAnswer::Done)
+    }
+
+    /// Hands the tail's element out, and goes on to the next room.
+    fn hand_out(&mut self, party: usize, tail: usize, next: usize) -> Answered<E>
+        requires party { party < length self.old.parties }
+        requires full { IsSome (element_in (slice_get self.old.rooms tail)) }
+        ensures machine { self.new ≡ (hand_out self.old party tail next (element_in (slice_get self.old.rooms tail))).0 }
+        ensures answer { result ≡ (hand_out self.old party tail next (element_in (slice_get self.old.rooms tail))).1 }
+    {
+        let element = self.rooms.free(tail, party);
+        self.parties[party] = Stage::Holding(next);
+        Ok(QueueAnswer::Out(element))
+    }
+
+    fn read_stub(&mut self, party: usize) -> Answered<E>
+        requires party { party < length self.old.parties }
+        requires room { 0 < length self.old.rooms }
+        ensures machine { self.new ≡ (read_stub self.old party (next_in (slice_get self.old.rooms 0))).0 }
+        ensures answer { result ≡ (read_stub self.old party (next_in (slice_get self.old.rooms 0))).1 }
+    {
+        match self.rooms.next(0) {
+            None => self.stand(party, Stage::StubNull, QueueAnswer::Done),
+            Some(next) => self.stand(party, Stage::Second(next), QueueAnswer::Done),
+        }
+    }
+
+    fn read(&mut self, party: usize, tail: usize) -> Answered<E>
+        requires party { party < length self.old.parties }
+        requires room { tail < length self.old.rooms }
+        requires full { IsSome (element_in (slice_get self.old.rooms tail)) }
+        ensures machine { self.new ≡ (read self.old party tail (next_in (slice_get self.old.rooms tail))).0 }
+        ensures answer { result ≡ (read self.old party tail (next_in (slice_get self.old.rooms tail))).1 }
+    {
+        match self.rooms.next(tail) {
+            None => self.stand(party, Stage::Null(tail), QueueAnswer::Done),
+            Some(next) => self.hand_out(party, tail, next),
+        }
+    }
+
+    fn read_again(&mut self, party: usize, tail: usize) -> Answered<E>
+        requires party { party < length self.old.parties }
+        requires room { tail < length self.old.rooms }
+        requires full { IsSome (element_in (slice_get self.old.rooms tail)) }
+        ensures machine { self.new ≡ (read_again self.old party tail (next_in (slice_get self.old.rooms tail))).0 }
+        ensures answer { result ≡ (read_again self.old party tail (next_in (slice_get self.old.rooms tail))).1 }
+    {
+        match self.rooms.next(tail) {
+            None => self.stand(party, Stage::Holding(tail), QueueAnswer::Inconsistent),
+            Some(next) => self.hand_out(party, tail, next),
+        }
+    }
+
+    fn look(&mut self, party: usize, tail: usize) -> Answered<E>
+        requires party { party < length self.old.parties }
+        requires room { tail < length self.old.rooms }
+        requires full { tail ≢ 0 → IsSome (element_in (slice_get self.old.rooms tail)) }
+        ensures machine { self.new ≡ (look self.old party tail (next_in (slice_get self.old.rooms tail))).0 }
+        ensures answer { result ≡ (look self.old party tail (next_in (slice_get self.old.rooms tail))).1 }
+    {
+        if tail == 0 {
+            self.read_stub(party)
+        } else {
+            self.read(party, tail)
+        }
+    }
+
+    fn head_stub(&mut self, party: usize) -> Answered<E>
+        requires { party < length self.old.parties }
+        ensures machine { self.new ≡ (head_stub self.old party (nat_eq self.old.head 0)).0 }
+        ensures answer { result ≡ (head_stub self.old party (nat_eq self.old.head 0)).1 }
+    {
+        if self.head == 0 {
+            self.stand(party, Stage::Holding(0), QueueAnswer::Empty)
+        } else {
+            self.stand(party, Stage::Holding(0), QueueAnswer::Inconsistent)
+        }
+    }
+
+    fn head_tail(&mut self, party: usize, tail: usize) -> Answered<E>
+        requires { party < length self.old.parties }
+        ensures machine { self.new ≡ (head_tail self.old party tail (nat_eq self.old.head tail)).0 }
+        ensures answer { result ≡ (head_tail self.old party tail (nat_eq self.old.head tail)).1 }
+    {
+        if self.head == tail {
+            self.stand(party, Stage::PutClear(tail), QueueAnswer::Done)
+        } else {
+            self.stand(party, Stage::Holding(tail), QueueAnswer::Inconsistent)
+        }
+    }
+
+    /// Takes a party's step, or refuses it.
+    pub(crate) fn act(&mut self, party: usize, step: QueueStep<E>) -> Answered<E>
+        requires { IsSound self.old }
+        ensures machine { self.new ≡ (stepped self.old party step).0 }
+        ensures answer { result ≡ (stepped self.old party step).1 }
+    {
+        let Some(place) = self.place(party) else {
+            return Err((StepError::NotThere, step.into_element()));
+        };
+        match step {
+            QueueStep::Clear(Some(element)) => match place {
+                Stage::Rest => self.clear(party, element),
+                _ => Err((StepError::NotThere, Some(element))),
+            },
+            QueueStep::Clear(None) => match place {
+                Stage::PutClear(tail) => self.link(party, 0, None, Stage::PutSwap(tail)),
+                _ => Err((StepError::NotThere, None)),
+            },
+            QueueStep::Swap => match place {
+                Stage::Cleared(room) => self.swap(party, room, Stage::Swapped(room, self.head)),
+                Stage::PutSwap(tail) => self.swap(party, 0, Stage::PutLink(tail, self.head)),
+                _ => Err((StepError::NotThere, None)),
+            },
+            QueueStep::Link => match place {
+                Stage::Swapped(room, old) => self.link(party, old, Some(room), Stage::Rest),
+                Stage::PutLink(tail, old) => self.link(party, old, Some(0), Stage::PutRead(tail)),
+                _ => Err((StepError::NotThere, None)),
+            },
+            QueueStep::Take => match place {
+                Stage::Rest => self.take(party),
+                _ => Err((StepError::NotThere, None)),
+            },
+            QueueStep::ReadNext => match place {
+                Stage::Holding(tail) => self.look(party, tail),
+                Stage::Second(tail) => self.read(party, tail),
+                Stage::PutRead(tail) => self.read_again(party, tail),
+                _ => Err((StepError::NotThere, None)),
+            },
+            QueueStep::ReadHead => match place {
+                Stage::StubNull => self.head_stub(party),
+                Stage::Null(tail) => self.head_tail(party, tail),
+                _ => Err((StepError::NotThere, None)),
+            },
+            QueueStep::Give => match place {
+                Stage::Holding(tail) => self.give(party, tail),
+                _ => Err((StepError::NotThere, None)),
+            },
+        }
+    }
+}

@@ -1,0 +1,125 @@
+//! The rooms of a core.
+ghost use Rattle.std.specs.Prelude.{◌≡◌, ◌<◌, ◌++◌, [], ◌∷◌, length, slice_get, is_some, IsSome, IfSome, Some, None, OnOk, OnErr};
+ghost use Rattle.std.specs.List.{position};
+ghost use Rattle.cordyceps_queue.specs.Cores.Drain.{occupied};
+ghost use Rattle.cordyceps_queue.specs.Cores.Machine.{change, holding, linking, freeing, stub_room, is_free_for, least_free, element_in, next_in};
+
+use crate::cores::room::Room;
+use std::alloc::{AllocError, Global};
+use std::marker::Model;
+
+/// Rooms with numbers from 1, each with a place for one element. The stub, which never has one, is room 0.
+#[derive(Drop)]
+pub(crate) struct Rooms<E> {
+    stub_next: Option<usize>,
+    list: Vec<Room<E>>,
+}
+
+impl<E> Model for Rooms<E> {
+    ghost use Rattle.std.specs.Prelude.{List, ◌∷◌};
+    ghost use Rattle.cordyceps_queue.specs.declared.cores.room.Room.{Room};
+    ghost use Rattle.cordyceps_queue.specs.Cores.Machine.{stub_room};
+
+    ghost Value = { List (Room E) };
+
+    ghost view = { λ rooms. stub_room rooms.stub_next ∷ rooms.list.items };
+}
+
+/// Where the first room stands that is a free one of the party.
+fn first_free<E>(rooms: &[Room<E>], party: usize) -> Option<usize>
+    ensures place { result ≡ position (is_free_for party) rooms.now }
+    ensures within { IfSome result (λ place. place < length rooms.now) }
+{
+    rooms.iter().position(|room| room.owner == Some(party))
+}
+
+impl<E: Drop> Rooms<E> {
+    /// The stub's room alone. It takes no memory.
+    pub(crate) fn new(alloc: Global) -> Self
+        ensures { result ≡ stub_room None ∷ [] }
+    {
+        Rooms {
+            stub_next: None,
+            list: Vec::new(alloc),
+        }
+    }
+
+    /// Adds a free room of the party.
+    pub(crate) fn add(&mut self, party: usize) -> Result<(), AllocError>
+        ensures ok { OnOk result (self.new ≡ self.old ++ record { owner = Some party; element = None; next = None } ∷ []) }
+        ensures err { OnErr result (self.new ≡ self.old) }
+    {
+        self.list.push(Room {
+            owner: Some(party),
+            element: None,
+            next: None,
+        })?;
+        Ok(())
+    }
+
+    /// The party's free room with the least number.
+    pub(crate) fn least_free(&self, party: usize) -> Option<usize>
+        ensures { result ≡ least_free party self.now }
+    {
+        let place = first_free(&self.list, party)?;
+        Some(place + 1)
+    }
+
+    /// The room to which the room `at` leads.
+    pub(crate) fn next(&self, at: usize) -> Option<usize>
+        requires { at < length self.now }
+        ensures { result ≡ next_in (slice_get self.now at) }
+    {
+        if at == 0 {
+            self.stub_next
+        } else {
+            self.list[at - 1].next
+        }
+    }
+
+    /// How many rooms have an element, by a walk through all rooms.
+    pub(crate) fn occupied(&self) -> usize
+        ensures { result ≡ occupied self.now }
+    {
+        self.list
+            .iter()
+            .filter(|room| room.element.is_some())
+            .count()
+    }
+
+    /// Puts the element into a room, which is nobody's free one from then on and leads nowhere.
+    pub(crate) fn hold(&mut self, at: usize, element: E)
+        requires within { at < length self.old }
+        requires not_stub { 0 < at }
+        ensures { self.new ≡ change (holding element) at self.old }
+    {
+        self.list[at - 1] = Room {
+            owner: None,
+            element: Some(element),
+            next: None,
+        };
+    }
+
+    /// Makes the room `at` lead to another.
+    pub(crate) fn link(&mut self, at: usize, next: Option<usize>)
+        requires { at < length self.old }
+        ensures { self.new ≡ change (linking next) at self.old }
+    {
+        if at == 0 {
+            self.stub_next = next;
+        } else {
+            self.list[at - 1].next = next;
+        }
+    }
+
+    /// Takes the element out of a room, which is then a free one of the party.
+    pub(crate) fn free(&mut self, at: usize, party: usize) -> E
+        requires { IsSome (element_in (slice_get self.old at)) }
+        ensures rooms { self.new ≡ change (freeing party) at self.old }
+        ensures element { element_in (slice_get self.old at) ≡ Some result }
+    {
+        let room = &mut self.list[at - 1];
+        room.owner = Some(party);
+        room.element.take().unwrap()
+    }
+}

@@ -1,0 +1,150 @@
+//! Whole calls of one party, by its steps.
+ghost use Rattle.std.specs.Prelude.{◌≡◌, ◌≤◌, ◌⊎◌, ℕ, [], List, Some, length, slice_get, true, vec_capacity};
+ghost use Rattle.cordyceps_queue.specs.Cores.Alone.{next_step, is_done, found_of, tries, dequeued, may_dequeue, is_ready};
+ghost use Rattle.cordyceps_queue.specs.Cores.CoreMeets.{CoreMeets, IsSound};
+ghost use Rattle.cordyceps_queue.specs.Cores.Drain.{given, batch_of, drained, drained_at};
+ghost use Rattle.cordyceps_queue.specs.History.{Event, held};
+
+use crate::cores::machine::Machine;
+use crate::cores::stage::Stage;
+use crate::cores::steps::{QueueAnswer, QueueStep, TryDequeueError};
+use cordyceps_base::shared::StepError;
+
+type Answered<E> = Result<QueueAnswer<E>, (StepError, Option<E>)>;
+
+/// The step of a try to dequeue at this place.
+fn next_step<E>(place: Option<Stage>) -> QueueStep<E>
+    ensures { result ≡ next_step place }
+{
+    match place {
+        Some(Stage::StubNull | Stage::Null(_)) => QueueStep::ReadHead,
+        Some(Stage::PutClear(_)) => QueueStep::Clear(None),
+        Some(Stage::PutSwap(_)) => QueueStep::Swap,
+        Some(Stage::PutLink(_, _)) => QueueStep::Link,
+        _ => QueueStep::ReadNext,
+    }
+}
+
+/// Whether a try goes on.
+fn is_done<E>(answer: &Answered<E>) -> bool
+    ensures { result ≡ is_done answer.now }
+{
+    matches!(answer, Ok(QueueAnswer::Done))
+}
+
+/// What an answer means for a try to dequeue.
+pub(crate) fn found<E: Drop>(answer: Answered<E>) -> Result<E, TryDequeueError>
+    ensures { result ≡ found_of answer }
+{
+    match answer {
+        Ok(QueueAnswer::Out(element)) => Ok(element),
+        Ok(QueueAnswer::Empty) => Err(TryDequeueError::Empty),
+        Ok(QueueAnswer::Busy) => Err(TryDequeueError::Busy),
+        _ => Err(TryDequeueError::Inconsistent),
+    }
+}
+
+/// What a call answers that took this batch and then stopped so.
+pub(crate) fn batch_or<E: Drop>(
+    batch: Vec<E>,
+    stop: Option<TryDequeueError>,
+) -> Result<Vec<E>, TryDequeueError>
+    ensures { given result ≡ batch_of batch.items stop }
+{
+    match stop {
+        Some(why) if batch.is_empty() => Err(why),
+        _ => Ok(batch),
+    }
+}
+
+impl<E: Drop> Machine<E> {
+    /// Whether the party is at rest and has a free room.
+    pub(crate) fn is_ready(&self, party: usize) -> bool
+        ensures { result ≡ is_ready self.now party }
+    {
+        matches!(self.place(party), Some(Stage::Rest)) && self.has_room(party)
+    }
+
+    /// Whether the party is at a place from which it may dequeue.
+    pub(crate) fn may_dequeue(&self, party: usize) -> bool
+        ensures { result ≡ may_dequeue (slice_get self.now.parties party) }
+    {
+        matches!(self.place(party), Some(Stage::Rest | Stage::Holding(_)))
+    }
+
+    /// The steps of a holder's try to dequeue. From any place there are at most seven.
+    fn try_holding(&mut self, party: usize) -> Answered<E>
+        requires { IsSound self.old }
+        ensures machine { self.new ≡ (tries party 6 self.old).0 }
+        ensures answer { result ≡ (tries party 6 self.old).1 }
+    {
+        for _ in 0..6usize {
+            let answer = self.act(party, next_step(self.place(party)));
+            if !is_done(&answer) {
+                return answer;
+            }
+        }
+        self.act(party, next_step(self.place(party)))
+    }
+
+    /// A try to dequeue. A party at rest takes the right first and gives it back last.
+    pub(crate) fn dequeue(&mut self, party: usize) -> Answered<E>
+        requires { IsSound self.old }
+        ensures machine { self.new ≡ (dequeued self.old party).0 }
+        ensures answer { result ≡ (dequeued self.old party).1 }
+    {
+        let Some(Stage::Rest) = self.place(party) else {
+            return self.try_holding(party);
+        };
+        match self.act(party, QueueStep::Take) {
+            Ok(QueueAnswer::Taken) => {
+                let answer = self.try_holding(party);
+                let _ = self.act(party, QueueStep::Give);
+                answer
+            }
+            answer => answer,
+        }
+    }
+
+    /// Tries of a holder, one after the other, until the batch, which begins empty, has `max` elements or a try gives none.
+    /// Answers why it gave none.
+    fn drain(&mut self, party: usize, batch: &mut Vec<E>, max: usize) -> Option<TryDequeueError>
+        requires holding { (t : ℕ) × (slice_get self.old.parties party ≡ Some (Stage.Holding t)) }
+        requires empty { batch.old.items ≡ [] }
+        requires room { (h : List (Event ℕ E)) × CoreMeets h self.old × ((max ≤ vec_capacity batch.old) ⊎ (length (held h) ≤ vec_capacity batch.old)) }
+        ensures { (self.new, batch.new.items, result) ≡ drained party max self.old }
+    {
+        while batch.len() < max {
+            match found(self.try_holding(party)) {
+                Ok(element) => batch.push_reserved(element),
+                Err(why) => return Some(why),
+            }
+        }
+        None
+    }
+
+    /// The same, from any place from which a party may dequeue. A party at rest takes the right first and gives it back last.
+    pub(crate) fn take_batch(
+        &mut self,
+        party: usize,
+        batch: &mut Vec<E>,
+        max: usize,
+    ) -> Option<TryDequeueError>
+        requires place { may_dequeue (slice_get self.old.parties party) ≡ true }
+        requires empty { batch.old.items ≡ [] }
+        requires room { (h : List (Event ℕ E)) × CoreMeets h self.old × ((max ≤ vec_capacity batch.old) ⊎ (length (held h) ≤ vec_capacity batch.old)) }
+        ensures { (self.new, batch.new.items, result) ≡ drained_at party max self.old (slice_get self.old.parties party) }
+    {
+        let Some(Stage::Rest) = self.place(party) else {
+            return self.drain(party, batch, max);
+        };
+        match self.act(party, QueueStep::Take) {
+            Ok(QueueAnswer::Taken) => {
+                let stop = self.drain(party, batch, max);
+                let _ = self.act(party, QueueStep::Give);
+                stop
+            }
+            _ => Some(TryDequeueError::Busy),
+        }
+    }
+}

@@ -1,0 +1,14 @@
+//! What threads share: the words and slots of a table, and the calls of parties on them.
+
+pub(crate) mod batch;
+pub(crate) mod calls;
+pub(crate) mod consumer;
+pub(crate) mod owned_consumer;
+pub(crate) mod parting;
+pub(crate) mod plays;
+pub(crate) mod steps;
+pub(crate) mod stub_steps;
+pub(crate) mod table;
+pub(crate) mod tries;
+pub(crate) mod vault;
+pub(crate) mod waiting;

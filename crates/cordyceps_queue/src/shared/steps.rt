@@ -1,0 +1,124 @@
+//! The atomic steps of a shared queue. Each function is a part of a call.
+ghost use Rattle.std.specs.Prelude.{◌≡◌, ◌≢◌, ◌≤◌, ◌<◌, ℕ, suc, List, [], ◌∷◌, Some, None, MatchOption};
+ghost use Rattle.cordyceps_queue.specs.Shared.Parts.{IsCleared, IsSwapped, AsksRight};
+ghost use Rattle.cordyceps_queue.specs.History.{Event};
+ghost use Rattle.cordyceps_queue.specs.Shared.Plays.{Sees, IsResting, IsHolding, IsAtStage, Blocked, HandsOneOut, stands_at, hands_out};
+ghost use Rattle.cordyceps_queue.specs.Shared.Rule.{IsTable};
+ghost use Rattle.cordyceps_queue.specs.Shared.View.{name};
+ghost use Rattle.cordyceps_queue.specs.declared.cores.stage.Stage.TheVariants.{Cleared, Swapped, Rest, Holding, Null, PutRead};
+
+use crate::shared::plays::{Clear, Give, Link, Look, Reread, Swap, Take};
+use crate::shared::table::{Chosen, Filled, PartySeat, Words};
+use cordyceps_shared::tickets::Ticket;
+use std::marker::Brand;
+
+/// Makes a free room's link null, and takes the room's slot in hand, before this element is put in.
+fn clear<E: Drop, B: Chosen<E>>(words: &Words<E>, seat: &mut PartySeat<E>, room: usize, _item: &E)
+    requires table { (seat.old.table_id ≡ words.now.table_id) × IsTable words.now.table_id }
+    requires rest { IsResting words.now.table_id.slots seat.old.me }
+    requires room { (rs : List ℕ) × (seat.old.me.0.free ≡ room ∷ rs) }
+    requires item { B.item ≡ Some _item.now }
+    ensures table { seat.new.table_id ≡ seat.old.table_id }
+    ensures cleared { IsCleared words.now.table_id.slots room _item.now seat.old.me seat.new.me }
+{
+    words.store::<Clear<B>>(seat, room + 2, 0);
+}
+
+/// Puts the element into the slot in hand, makes its room the head, and answers the old head.
+fn swap_in<E: Drop>(words: &Words<E>, seat: &mut PartySeat<E>, full: Filled<E>) -> u64
+    requires table { (seat.old.table_id ≡ words.now.table_id) × IsTable words.now.table_id }
+    requires place { (seat.old.me.0.place ≡ Cleared full.ticket) × (seat.old.me.0.item ≡ Some full.item) × (seat.old.me.0.back ≡ []) }
+    requires hand { seat.old.me.1 ≡ (full.ticket, None) ∷ [] }
+    requires near { (full.ticket < words.now.table_id.slots) × (seat.old.me.0.known.share ≢ []) }
+    ensures table { seat.new.table_id ≡ seat.old.table_id }
+    ensures swapped { IsSwapped words.now.table_id.slots full.ticket result full.item seat.old.me seat.new.me }
+{
+    let room = full.ticket.room();
+    words.exchange(seat, room, Some(full));
+    words.swap::<Swap>(seat, 0, room as u64)
+}
+
+/// Makes the old head lead to the room.
+fn link<E: Drop>(words: &Words<E>, seat: &mut PartySeat<E>, room: usize, old: usize)
+    requires table { (seat.old.table_id ≡ words.now.table_id) × IsTable words.now.table_id }
+    requires place { (seat.old.me.0.place ≡ Swapped room old) × (seat.old.me.0.back ≡ []) × (seat.old.me.1 ≡ []) }
+    requires near { (old < words.now.table_id.slots) × (room < words.now.table_id.slots) × (seat.old.me.0.known.share ≢ []) }
+    ensures table { seat.new.table_id ≡ seat.old.table_id }
+    ensures rest { (seat.new.me.0.place ≡ Rest) × (seat.new.me.0.back ≡ []) × (seat.new.me.1 ≡ []) }
+    ensures free { seat.new.me.0.free ≡ seat.old.me.0.free }
+    ensures sees { Sees seat.old.me.0 (Event.Link (name seat.old.me.0) ∷ []) seat.new.me.0 }
+{
+    words.store::<Link>(seat, old + 2, room as u64 + 1);
+}
+
+/// Puts an element into a free room, which the ticket is of, makes the room the head, and links it.
+pub(crate) fn enqueue<E: Drop>(words: &Words<E>, seat: &mut PartySeat<E>, ticket: Ticket, item: E)
+    requires table { (seat.old.table_id ≡ words.now.table_id) × IsTable words.now.table_id }
+    requires rest { IsResting words.now.table_id.slots seat.old.me }
+    requires room { (rs : List ℕ) × (seat.old.me.0.free ≡ ticket ∷ rs) }
+    ensures table { seat.new.table_id ≡ seat.old.table_id }
+    ensures rest { IsResting words.now.table_id.slots seat.new.me }
+    ensures free { seat.old.me.0.free ≡ ticket ∷ seat.new.me.0.free }
+    ensures sees { Sees seat.old.me.0 (Event.Swap (name seat.old.me.0) item ∷ Event.Link (name seat.old.me.0) ∷ []) seat.new.me.0 }
+{
+    let room = ticket.room();
+    clear::<E, Brand>(words, seat, room, &item);
+    let old = swap_in(words, seat, Filled { ticket, item });
+    link(words, seat, room, old as usize);
+}
+
+/// Gives the right back, and the slot in hand.
+pub(crate) fn give<E: Drop>(words: &Words<E>, seat: &mut PartySeat<E>, tail: usize)
+    requires table { (seat.old.table_id ≡ words.now.table_id) × IsTable words.now.table_id }
+    requires holding { IsHolding words.now.table_id.slots tail seat.old.me }
+    ensures table { seat.new.table_id ≡ seat.old.table_id }
+    ensures rest { IsResting words.now.table_id.slots seat.new.me }
+    ensures answer { stands_at (Event.Free (name seat.old.me.0) ∷ []) Rest seat.old.me seat.new.me }
+{
+    words.store::<Give>(seat, 1, tail as u64 + 1);
+}
+
+/// Reads the link of the tail again, behind which the stub was put in.
+pub(crate) fn reread<E: Drop>(words: &Words<E>, seat: &mut PartySeat<E>, tail: usize) -> u64
+    requires table { (seat.old.table_id ≡ words.now.table_id) × IsTable words.now.table_id }
+    requires place { IsAtStage words.now.table_id.slots (PutRead tail) seat.old.me × (tail < words.now.table_id.slots) }
+    ensures table { seat.new.table_id ≡ seat.old.table_id }
+    ensures null { result ≡ 0 → stands_at [] (Holding tail) seat.old.me seat.new.me × Blocked seat.new.me.0 }
+    ensures room { (r : ℕ) → result ≡ suc r → hands_out [] words.now.table_id.slots tail r seat.old.me seat.new.me }
+{
+    words.load::<Reread>(seat, tail + 2)
+}
+
+/// Takes the right, and answers 1 more than the tail's room, or 0 beside another holder.
+pub(crate) fn take<E: Drop>(words: &Words<E>, seat: &mut PartySeat<E>) -> u64
+    requires table { (seat.old.table_id ≡ words.now.table_id) × IsTable words.now.table_id }
+    requires rest { IsResting words.now.table_id.slots seat.old.me }
+    ensures table { seat.new.table_id ≡ seat.old.table_id }
+    ensures took { AsksRight words.now.table_id.slots result seat.old.me seat.new.me }
+{
+    words.swap::<Take>(seat, 1, 0)
+}
+
+/// Reads the link of a tail that is no stub, and hands its element out where that leads on: the new tail, and what lay in
+/// the slot. `None` where the link is null.
+pub(crate) fn look<E: Drop>(
+    words: &Words<E>,
+    seat: &mut PartySeat<E>,
+    tail: usize,
+) -> Option<(u64, Filled<E>)>
+    requires table { (seat.old.table_id ≡ words.now.table_id) × IsTable words.now.table_id }
+    requires holding { IsHolding words.now.table_id.slots tail seat.old.me }
+    requires real { tail ≢ 0 }
+    ensures table { seat.new.table_id ≡ seat.old.table_id }
+    ensures answer { MatchOption result
+        (stands_at (Event.Look (name seat.old.me.0) ∷ []) (Null tail) seat.old.me seat.new.me)
+        (λ r. (r.1.ticket ≡ tail) × HandsOneOut (Event.Look (name seat.old.me.0) ∷ []) words.now.table_id.slots tail r.0 r.1.item seat.old.me seat.new.me) }
+{
+    let next = words.load::<Look>(seat, tail + 2);
+    if next == 0 {
+        return None;
+    }
+    let full = words.exchange(seat, tail, None);
+    let Some(full) = full else { unreachable!() };
+    Some((next - 1, full))
+}

@@ -1,0 +1,107 @@
+//! The atomic steps of a try to dequeue at the stub, and of putting the stub in. Each function is a part of a call.
+ghost use Rattle.std.specs.Prelude.{◌≡◌, ◌≢◌, ◌<◌, ℕ, suc, [], ◌∷◌, true, false, Some, None};
+ghost use Rattle.cordyceps_queue.specs.History.{Event};
+ghost use Rattle.cordyceps_queue.specs.Shared.Plays.{IsHolding, IsAtStage, Blocked, hands_out, stands_at};
+ghost use Rattle.cordyceps_queue.specs.Shared.Rule.{IsTable, full_slot};
+ghost use Rattle.cordyceps_queue.specs.Shared.View.{name};
+ghost use Rattle.cordyceps_queue.specs.declared.cores.stage.Stage.TheVariants.{Holding, StubNull, Second, Null, PutClear, PutSwap, PutLink, PutRead};
+
+use crate::shared::plays::{ClearStub, Head, HeadStub, LinkStub, LookStub, Read, SwapStub};
+use crate::shared::table::{Filled, PartySeat, Words};
+
+/// Reads the stub's link, where the stub is the tail.
+pub(crate) fn look_first<E: Drop>(words: &Words<E>, seat: &mut PartySeat<E>) -> u64
+    requires table { (seat.old.table_id ≡ words.now.table_id) × IsTable words.now.table_id }
+    requires holding { IsHolding words.now.table_id.slots 0 seat.old.me }
+    ensures table { seat.new.table_id ≡ seat.old.table_id }
+    ensures null { result ≡ 0 → stands_at (Event.Look (name seat.old.me.0) ∷ []) StubNull seat.old.me seat.new.me }
+    ensures room { (r : ℕ) → result ≡ suc r → stands_at (Event.Look (name seat.old.me.0) ∷ []) (Second r) seat.old.me seat.new.me × (r < words.now.table_id.slots) × (r ≢ 0) }
+{
+    words.load::<LookStub>(seat, 2)
+}
+
+/// Reads the head behind a null link of the stub.
+pub(crate) fn head_of_stub<E: Drop>(words: &Words<E>, seat: &mut PartySeat<E>) -> u64
+    requires table { (seat.old.table_id ≡ words.now.table_id) × IsTable words.now.table_id }
+    requires place { IsAtStage words.now.table_id.slots StubNull seat.old.me }
+    ensures table { seat.new.table_id ≡ seat.old.table_id }
+    ensures stub { result ≡ 0 → stands_at (Event.Empty (name seat.old.me.0) ∷ []) (Holding 0) seat.old.me seat.new.me }
+    ensures room { result ≢ 0 → stands_at [] (Holding 0) seat.old.me seat.new.me × Blocked seat.new.me.0 }
+{
+    words.load::<HeadStub>(seat, 0)
+}
+
+/// Reads the link of the tail that stood behind the stub.
+pub(crate) fn read_second<E: Drop>(words: &Words<E>, seat: &mut PartySeat<E>, tail: usize) -> u64
+    requires table { (seat.old.table_id ≡ words.now.table_id) × IsTable words.now.table_id }
+    requires place { IsAtStage words.now.table_id.slots (Second tail) seat.old.me × (tail < words.now.table_id.slots) }
+    ensures table { seat.new.table_id ≡ seat.old.table_id }
+    ensures null { result ≡ 0 → stands_at [] (Null tail) seat.old.me seat.new.me }
+    ensures room { (r : ℕ) → result ≡ suc r → hands_out [] words.now.table_id.slots tail r seat.old.me seat.new.me }
+{
+    words.load::<Read>(seat, tail + 2)
+}
+
+/// Whether the tail, whose link was null, is the head too.
+pub(crate) fn is_head<E: Drop>(words: &Words<E>, seat: &mut PartySeat<E>, tail: usize) -> bool
+    requires table { (seat.old.table_id ≡ words.now.table_id) × IsTable words.now.table_id }
+    requires place { IsAtStage words.now.table_id.slots (Null tail) seat.old.me × (tail < words.now.table_id.slots) }
+    ensures table { seat.new.table_id ≡ seat.old.table_id }
+    ensures alone { result ≡ true → stands_at [] (PutClear tail) seat.old.me seat.new.me }
+    ensures passed { result ≡ false → stands_at [] (Holding tail) seat.old.me seat.new.me × Blocked seat.new.me.0 }
+{
+    words.load::<Head>(seat, 0) == tail as u64
+}
+
+fn clear_stub<E: Drop>(words: &Words<E>, seat: &mut PartySeat<E>, _tail: usize)
+    requires table { (seat.old.table_id ≡ words.now.table_id) × IsTable words.now.table_id }
+    requires place { IsAtStage words.now.table_id.slots (PutClear _tail) seat.old.me }
+    ensures table { seat.new.table_id ≡ seat.old.table_id }
+    ensures answer { stands_at [] (PutSwap _tail) seat.old.me seat.new.me }
+{
+    words.store::<ClearStub>(seat, 2, 0);
+}
+
+fn swap_stub<E: Drop>(words: &Words<E>, seat: &mut PartySeat<E>, _tail: usize) -> u64
+    requires table { (seat.old.table_id ≡ words.now.table_id) × IsTable words.now.table_id }
+    requires place { IsAtStage words.now.table_id.slots (PutSwap _tail) seat.old.me }
+    ensures table { seat.new.table_id ≡ seat.old.table_id }
+    ensures answer { stands_at [] (PutLink _tail result) seat.old.me seat.new.me }
+    ensures near { result < words.now.table_id.slots }
+{
+    words.swap::<SwapStub>(seat, 0, 0)
+}
+
+fn link_stub<E: Drop>(words: &Words<E>, seat: &mut PartySeat<E>, _tail: usize, old: usize)
+    requires table { (seat.old.table_id ≡ words.now.table_id) × IsTable words.now.table_id }
+    requires place { IsAtStage words.now.table_id.slots (PutLink _tail old) seat.old.me × (old < words.now.table_id.slots) }
+    ensures table { seat.new.table_id ≡ seat.old.table_id }
+    ensures answer { stands_at [] (PutRead _tail) seat.old.me seat.new.me }
+{
+    words.store::<LinkStub>(seat, old + 2, 1);
+}
+
+/// Puts the stub in at the head, behind the tail.
+pub(crate) fn put_stub<E: Drop>(words: &Words<E>, seat: &mut PartySeat<E>, tail: usize)
+    requires table { (seat.old.table_id ≡ words.now.table_id) × IsTable words.now.table_id }
+    requires place { IsAtStage words.now.table_id.slots (PutClear tail) seat.old.me }
+    ensures table { seat.new.table_id ≡ seat.old.table_id }
+    ensures answer { stands_at [] (PutRead tail) seat.old.me seat.new.me }
+{
+    clear_stub(words, seat, tail);
+    let old = swap_stub(words, seat, tail);
+    link_stub(words, seat, tail, old as usize);
+}
+
+/// Takes the tail's element out of its slot, which is in hand.
+pub(crate) fn take_out<E: Drop>(words: &Words<E>, seat: &mut PartySeat<E>, tail: usize) -> Filled<E>
+    requires table { (seat.old.table_id ≡ words.now.table_id) × (tail < words.now.table_id.slots) }
+    requires full { (e : E) × (seat.old.me.1 ≡ (tail, Some (full_slot tail e)) ∷ []) }
+    ensures table { seat.new.table_id ≡ seat.old.table_id }
+    ensures element { seat.old.me.1 ≡ (tail, Some result) ∷ [] }
+    ensures seat { seat.new.me ≡ (seat.old.me.0, (tail, None) ∷ []) }
+{
+    let full = words.exchange(seat, tail, None);
+    let Some(full) = full else { unreachable!() };
+    full
+}

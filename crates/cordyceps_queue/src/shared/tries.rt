@@ -1,0 +1,110 @@
+//! A try to dequeue, of a party that has the right or takes it for this try.
+ghost use Rattle.std.specs.Prelude.{◌≡◌, ◌<◌, [], ◌∷◌};
+ghost use Rattle.cordyceps_queue.specs.Shared.Parts.{Tries, Dequeued};
+ghost use Rattle.cordyceps_queue.specs.History.{Event};
+ghost use Rattle.cordyceps_queue.specs.Shared.Plays.{IsResting, IsHolding, IsAtStage};
+ghost use Rattle.cordyceps_queue.specs.Shared.Rule.{IsTable};
+ghost use Rattle.cordyceps_queue.specs.Shared.View.{name};
+ghost use Rattle.cordyceps_queue.specs.declared.cores.stage.Stage.TheVariants.{Second, Null, PutRead};
+
+use crate::shared::steps::{give, look, reread, take};
+use crate::shared::stub_steps::{
+    head_of_stub, is_head, look_first, put_stub, read_second, take_out,
+};
+use crate::shared::table::{PartySeat, Tried, Words};
+
+/// Goes on where the stub was put in behind the tail.
+fn behind_tail<E: Drop>(words: &Words<E>, seat: &mut PartySeat<E>, tail: usize) -> (u64, Tried<E>)
+    requires table { (seat.old.table_id ≡ words.now.table_id) × IsTable words.now.table_id }
+    requires place { IsAtStage words.now.table_id.slots (PutRead tail) seat.old.me × (tail < words.now.table_id.slots) }
+    ensures table { seat.new.table_id ≡ seat.old.table_id }
+    ensures answer { Tries [] words.now.table_id.slots seat.old.me seat.new.me result.0 result.1 }
+{
+    let next = reread(words, seat, tail);
+    if next == 0 {
+        return (tail as u64, Tried::Inconsistent);
+    }
+    (next - 1, Tried::Out(take_out(words, seat, tail)))
+}
+
+/// Goes on behind a null link of a tail that is no stub.
+fn at_end<E: Drop>(words: &Words<E>, seat: &mut PartySeat<E>, tail: usize) -> (u64, Tried<E>)
+    requires table { (seat.old.table_id ≡ words.now.table_id) × IsTable words.now.table_id }
+    requires place { IsAtStage words.now.table_id.slots (Null tail) seat.old.me × (tail < words.now.table_id.slots) }
+    ensures table { seat.new.table_id ≡ seat.old.table_id }
+    ensures answer { Tries [] words.now.table_id.slots seat.old.me seat.new.me result.0 result.1 }
+{
+    if !is_head(words, seat, tail) {
+        return (tail as u64, Tried::Inconsistent);
+    }
+    put_stub(words, seat, tail);
+    behind_tail(words, seat, tail)
+}
+
+/// Goes on where the stub was passed.
+fn behind_stub<E: Drop>(words: &Words<E>, seat: &mut PartySeat<E>, tail: usize) -> (u64, Tried<E>)
+    requires table { (seat.old.table_id ≡ words.now.table_id) × IsTable words.now.table_id }
+    requires place { IsAtStage words.now.table_id.slots (Second tail) seat.old.me × (tail < words.now.table_id.slots) }
+    ensures table { seat.new.table_id ≡ seat.old.table_id }
+    ensures answer { Tries [] words.now.table_id.slots seat.old.me seat.new.me result.0 result.1 }
+{
+    let next = read_second(words, seat, tail);
+    if next == 0 {
+        return at_end(words, seat, tail);
+    }
+    (next - 1, Tried::Out(take_out(words, seat, tail)))
+}
+
+/// Tries where the tail is the stub.
+fn look_stub<E: Drop>(words: &Words<E>, seat: &mut PartySeat<E>) -> (u64, Tried<E>)
+    requires table { (seat.old.table_id ≡ words.now.table_id) × IsTable words.now.table_id }
+    requires holding { IsHolding words.now.table_id.slots 0 seat.old.me }
+    ensures table { seat.new.table_id ≡ seat.old.table_id }
+    ensures answer { Tries (Event.Look (name seat.old.me.0) ∷ []) words.now.table_id.slots seat.old.me seat.new.me result.0 result.1 }
+{
+    let next = look_first(words, seat);
+    if next != 0 {
+        return behind_stub(words, seat, next as usize - 1);
+    }
+    if head_of_stub(words, seat) == 0 {
+        return (0, Tried::Empty);
+    }
+    (0, Tried::Inconsistent)
+}
+
+/// Tries once, as the party that has the right: the tail after the try, and what it came to.
+pub(crate) fn advance<E: Drop>(
+    words: &Words<E>,
+    seat: &mut PartySeat<E>,
+    tail: usize,
+) -> (u64, Tried<E>)
+    requires table { (seat.old.table_id ≡ words.now.table_id) × IsTable words.now.table_id }
+    requires holding { IsHolding words.now.table_id.slots tail seat.old.me }
+    ensures table { seat.new.table_id ≡ seat.old.table_id }
+    ensures answer { Tries (Event.Look (name seat.old.me.0) ∷ []) words.now.table_id.slots seat.old.me seat.new.me result.0 result.1 }
+{
+    if tail == 0 {
+        return look_stub(words, seat);
+    }
+    match look(words, seat, tail) {
+        Some((next, full)) => (next, Tried::Out(full)),
+        None => at_end(words, seat, tail),
+    }
+}
+
+/// Takes the right, tries once, and gives the right back. `None` beside another holder.
+pub(crate) fn try_dequeue<E: Drop>(words: &Words<E>, seat: &mut PartySeat<E>) -> Option<Tried<E>>
+    requires table { (seat.old.table_id ≡ words.now.table_id) × IsTable words.now.table_id }
+    requires rest { IsResting words.now.table_id.slots seat.old.me }
+    ensures table { seat.new.table_id ≡ seat.old.table_id }
+    ensures rest { IsResting words.now.table_id.slots seat.new.me }
+    ensures answer { Dequeued words.now.table_id.slots seat.old.me seat.new.me result }
+{
+    let right = take(words, seat);
+    if right == 0 {
+        return None;
+    }
+    let (tail, tried) = advance(words, seat, right as usize - 1);
+    give(words, seat, tail as usize);
+    Some(tried)
+}

@@ -1,0 +1,6 @@
+-- Lemmas on what threads share.
+pub mod CallsHold
+pub mod PartingKeeps
+pub mod PartsJoin
+pub mod StepsKeep
+pub mod WordsKeep

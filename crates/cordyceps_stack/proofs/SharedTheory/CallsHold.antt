@@ -1,0 +1,127 @@
+-- What the calls of a shared transfer stack promise, from what their parts leave.
+use Rattle.std.proofs.Common.{◌≡◌, ◌+◌, ℕ, suc, List, [], ◌∷◌, ◌++◌, reverse, length, replicate, take, Bool, refl, sym, ap, ◌∙◌, subst, inl, inr, length-append}
+use Rattle.std.specs.Prelude.{◌⊎◌, IsTrue}
+use Rattle.atomic_table.specs.Seated.{TableId}
+use Rattle.cordyceps_shared.specs.Counts.{below}
+use Rattle.cordyceps_shared.specs.Histories.{plain, AllOwn}
+use Rattle.cordyceps_shared.specs.Knowing.{Known, Begins, IsKnown}
+use Rattle.cordyceps_shared.specs.Shares.{Name, whole, first_name}
+use Rattle.cordyceps_shared.specs.Standings.{name_of, new_party, Absorbs}
+use Rattle.cordyceps_shared.proofs.Adding.{replicate_more, not_whole, plain_unmarked, merged_front, adds_then, whole_adds}
+use Rattle.cordyceps_shared.proofs.Counting.{below_length}
+use Rattle.cordyceps_shared.proofs.Naming.{joined_some, gives_some}
+use Rattle.cordyceps_stack.specs.Shared.Parts.{HasMissed, TookAll, EmptiesHand, standing, IsSeated}
+use Rattle.cordyceps_stack.specs.History.{Event, Load, Push, Taken, held, Legal}
+use Rattle.cordyceps_stack.specs.Cores.Meets.{room_elements}
+use Rattle.cordyceps_stack.specs.Shared.Plays.{SeatState, view_giving, view_absorbing, view_without_told, to_hand_out}
+use Rattle.cordyceps_stack.specs.Shared.Rule.{IsTable}
+use Rattle.cordyceps_stack.specs.Shared.Calls.{PartyOf, PushesAt, Misses, Takes, Adds, EndsPushed}
+use Rattle.cordyceps_stack.specs.Shared.View.{newcomer}
+use Rattle.cordyceps_stack.proofs.SharedTheory.PartsJoin.{not_overtaken}
+use Rattle.cordyceps_stack.proofs.Histories.{legal_none}
+
+module _ {E : Type 0} where
+  pub new_seated : (z table : TableId) (rooms : ℕ) (m : SeatState E) (tickets : List ℕ) → (z ≡ table) × IsTable table → m ≡ (newcomer rooms, []) → tickets ≡ below rooms → IsSeated z m tickets
+  new_seated z table rooms m tickets at is have = record {
+    table = subst (λ q. IsTable q) (sym at.0) at.1;
+    rests = (ap (λ (q : SeatState E). q.0.doing) is, ap (λ (q : SeatState E). q.1) is, λ e. let no : whole ≡ [] = sym (ap (λ (q : SeatState E). q.0.known.share) is) ∙ e in absurd (cc));
+    free = ap (λ (q : SeatState E). q.0.free) is ∙ sym have;
+    legal = subst (λ (q : SeatState E). Legal (plain q.0.known.seen)) (sym is) legal_none;
+    alone = λ _. subst (λ (q : SeatState E). AllOwn q.0.known.seen) (sym is) tt;
+  }
+
+  pub new_standing : (z table : TableId) (rooms : ℕ) (m : SeatState E) → z ≡ table → m ≡ (newcomer rooms, []) → standing z m.0 ≡ new_party table rooms
+  new_standing z table rooms m at is = (λ i. standing (at i) (is i).0) ∙ ap (λ n. let p : PartyOf E = new_party table n in p) (below_length rooms)
+
+  pub given_seated : (z z' : TableId) (n : ℕ) (m k : SeatState E) (tickets some_of : List ℕ) → IsSeated z m tickets → z' ≡ z → k ≡ (view_giving n m.0, []) → some_of ≡ take n tickets → IsSeated z' k some_of
+  given_seated z z' n m k tickets some_of s at is have = record {
+    table = subst (λ q. IsTable q) (sym at) s.table;
+    rests = (ap (λ (q : SeatState E). q.0.doing) is, ap (λ (q : SeatState E). q.1) is, λ e. gives_some m.0.known.share s.rests.2 (sym (ap (λ (q : SeatState E). q.0.known.share) is) ∙ e));
+    free = ap (λ (q : SeatState E). q.0.free) is ∙ (ap (take n) s.free ∙ sym have);
+    legal = subst (λ (q : SeatState E). Legal (plain q.0.known.seen)) (sym is) (subst (λ h. Legal h) (sym (plain_unmarked m.0.known.seen)) s.legal);
+    alone = λ e. absurd (not_whole m.0.known.share (sym (ap (λ (q : SeatState E). q.0.known.share) is) ∙ e));
+  }
+
+  pub absorbed_seated : (z z' : TableId) (m o k : SeatState E) (mine theirs all : List ℕ) → IsSeated z m mine → o.0.free ≡ theirs → z' ≡ z → k ≡ (view_without_told (view_absorbing m.0 o.0), []) → IsKnown (λ h. Legal h) (view_absorbing m.0 o.0).known → all ≡ mine ++ theirs → IsSeated z' k all
+  absorbed_seated z z' m o k mine theirs all s their at is known have = record {
+    table = subst (λ q. IsTable q) (sym at) s.table;
+    rests = (ap (λ (q : SeatState E). q.0.doing) is, ap (λ (q : SeatState E). q.1) is, λ e. joined_some m.0.known.share o.0.known.share s.rests.2 (sym (ap (λ (q : SeatState E). q.0.known.share) is) ∙ e));
+    free = ap (λ (q : SeatState E). q.0.free) is ∙ ((λ i. s.free i ++ their i) ∙ sym have);
+    legal = subst (λ (q : SeatState E). Legal (plain q.0.known.seen)) (sym is) known.legal;
+    alone = λ e. subst (λ (q : SeatState E). AllOwn q.0.known.seen) (sym is) (known.alone (sym (ap (λ (q : SeatState E). q.0.known.share) is) ∙ e));
+  }
+
+  pub absorbs : (z y z' : TableId) (m o k : SeatState E) → z' ≡ z → k ≡ (view_without_told (view_absorbing m.0 o.0), []) → IsKnown (λ h. Legal h) (view_absorbing m.0 o.0).known → Absorbs (λ h. Legal h) (standing z m.0) (standing y o.0) (standing z' k.0)
+  absorbs z y z' m o k at is known = record {
+    table = at;
+    seen = ap (λ (q : SeatState E). q.0.known.seen) is;
+    apart = known.apart;
+    mine = subst (λ (q : SeatState E). Begins (plain m.0.known.seen) (plain q.0.known.seen)) (sym is) (merged_front m.0.known.seen o.0.known.seen);
+    theirs = subst (λ (q : SeatState E). Begins (plain o.0.known.seen) (plain q.0.known.seen)) (sym is) known.told;
+    legal = subst (λ (q : SeatState E). Legal (plain q.0.known.seen)) (sym is) known.legal;
+    alone = λ e. subst (λ (q : SeatState E). AllOwn q.0.known.seen) (sym is) (known.alone (sym (ap (λ (q : SeatState E). q.0.known.share) is) ∙ e));
+    share = ap (λ (q : SeatState E). q.0.known.share) is;
+    rooms = ap (λ (q : SeatState E). length q.0.free) is ∙ length-append m.0.free o.0.free;
+  }
+
+  length_elements : (xs : List (ℕ × E)) → length (room_elements xs) ≡ length xs
+  length_elements [] = refl
+  length_elements (x ∷ xs) = ap suc (length_elements xs)
+
+  pub takes : (z z' : TableId) (slots found : ℕ) (m mid k : SeatState E) → TookAll slots found m mid → EmptiesHand mid k → z' ≡ z → Takes (room_elements (to_hand_out mid.0.doing)) (standing z m.0) (standing z' k.0)
+  takes z z' slots found m mid k t h at =
+      let g = t.sees in (
+        (
+          record {
+            rest = g.rest;
+            is = ap (λ (q : Known (Event Name E)). q.seen) h.known ∙ g.is;
+            adds = g.adds;
+            legal = subst (λ (q : Known (Event Name E)). Legal (plain q.seen)) (sym h.known) g.legal;
+            share = ap (λ (q : Known (Event Name E)). q.share) h.known ∙ g.share;
+            alone = λ e. subst (λ (q : Known (Event Name E)). AllOwn q.seen) (sym h.known) (g.alone (sym (ap (λ (q : Known (Event Name E)). q.share) h.known) ∙ e));
+          },
+          at,
+        ),
+        h.free ∙ ((λ i. length (t.free i) + length (to_hand_out mid.0.doing)) ∙ ap (λ n. length m.0.free + n) (sym (length_elements (to_hand_out mid.0.doing)))),
+      )
+
+  -- a whole party's exchange does not fail
+  pub whole_hits : (m k : SeatState E) → HasMissed m k → m.0.known.share ≡ whole → ⊥
+  whole_hits m k h is = not_overtaken k.0.known.seen (h.sees.alone (h.sees.share ∙ is)) h.overtaken
+
+  -- a whole party takes exactly what its history holds
+  pub takes_held : (u w : PartyOf E) (batch : List E) → u.share ≡ whole → Takes batch u w → batch ≡ reverse (held (plain u.seen))
+  takes_held u w batch is t = t.0.0.legal (plain u.seen) [] (name_of u) batch (whole_adds (λ h. Legal h) u w (Taken (name_of u) batch ∷ []) is t.0)
+
+  -- ---- tries
+  -- as yet no try, or so many that failed
+  abbrev pub FailedTries : PartyOf E → PartyOf E → Type 0
+  FailedTries u v = (v ≡ u) ⊎ ((tries : ℕ) × Adds u (replicate (suc tries) (Load (name_of u))) v)
+
+  same_name : (u v : PartyOf E) (es : List (Event Name E)) → Adds u es v → name_of v ≡ name_of u
+  same_name u v es a = ap first_name a.0.share
+
+  loads_then : (u v w : PartyOf E) (tries : ℕ) (es : Name → List (Event Name E)) → Adds u (replicate tries (Load (name_of u))) v → Adds v (Load (name_of v) ∷ es (name_of v)) w → Adds u (replicate (suc tries) (Load (name_of u)) ++ es (name_of u)) w
+  loads_then u v w tries es a b =
+      let n = same_name u v (replicate tries (Load (name_of u))) a in
+      subst (λ xs. Adds u xs w) (replicate_more tries (Load (name_of u)) (es (name_of u)))
+      (adds_then (λ h. Legal h) u v w (replicate tries (Load (name_of u))) (Load (name_of u) ∷ es (name_of u)) a (subst (λ q. Adds v (Load q ∷ es q) w) n b))
+
+  none_more : (xs : List (Event Name E)) → xs ++ [] ≡ xs
+  none_more [] = refl
+  none_more (x ∷ xs) = ap (λ z. x ∷ z) (none_more xs)
+
+  pub tried_again : (u v w : PartyOf E) → FailedTries u v → Misses v w → FailedTries u w
+  tried_again u v w (inl e) m = inr (0, subst (λ (q : PartyOf E). Adds q (Load (name_of q) ∷ []) w) e m.0)
+  tried_again u v w (inr t) m = inr (suc t.0, subst (λ xs. Adds u xs w) (none_more (replicate (suc (suc t.0)) (Load (name_of u)))) (loads_then u v w (suc t.0) (λ _. []) t.1 m.0))
+
+  pub tried_pushed : (u v w : PartyOf E) (x : E) (first : Bool) → FailedTries u v → v.rooms ≡ u.rooms → PushesAt 1 x first v w → (tries : ℕ) × PushesAt (suc tries) x first u w
+  tried_pushed u v w x first (inl e) r p = (0, subst (λ (q : PartyOf E). PushesAt 1 x first q w) e p)
+  tried_pushed u v w x first (inr t) r p = (
+    suc t.0,
+    (
+      loads_then u v w (suc t.0) (λ n. Push n x ∷ []) t.1 p.0,
+      subst (λ n. EndsPushed x (IsTrue first) n w.seen) (same_name u v (replicate (suc t.0) (Load (name_of u))) t.1) p.1,
+      sym r ∙ p.2,
+    ),
+  )

@@ -1,0 +1,201 @@
+-- Each step of a party keeps the words of a transfer stack beside its history.
+use Rattle.std.proofs.Common.{◌≡◌, ◌≢◌, ◌⊎◌, ℕ, suc, ◌+◌, ◌≤◌, ◌<◌, List, [], ◌∷◌, ◌++◌, reverse, length, set, eqb, refl, sym, ap, ◌∙◌, subst, inl, inr, ⊎_elim, arith, append_assoc, get_or-set_other, get_or-set_same}
+use Rattle.std.proofs.lemmas.List.{reverse-append}
+use mathlib.Core.Option.{some}
+use lib.ListN.{get_elem?}
+use Rattle.atomic_table.proofs.Lists.{at_set, at_snoc}
+use Rattle.cordyceps_shared.specs.Counts.{one_if, times}
+use Rattle.cordyceps_shared.specs.Histories.{events}
+use Rattle.cordyceps_shared.specs.Shares.{Name}
+use Rattle.cordyceps_shared.proofs.Counting.{tally_set, tally_one, tally_two, tally_snoc, one_here}
+use Rattle.cordyceps_shared.proofs.Seeing.{events_more, without_more}
+use Rattle.cordyceps_stack.specs.History.{Event, Load, Push, Taken, held, held_after, Legal, IsChange, SomeChange}
+use Rattle.cordyceps_stack.specs.Cores.Meets.{room_elements}
+use Rattle.cordyceps_stack.specs.Shared.View.{Doing, Idle, Loaded, Set, Missed, Walking, View, walking, in_chain, at_work, count_with_party}
+use Rattle.cordyceps_stack.specs.Shared.Words.{History, head, next, start, Spells, Since, AtDoing, WordsMeet}
+use Rattle.cordyceps_stack.proofs.Histories.{MayFollow, held_more, legal_more, change_more, change_last}
+
+module _ {E : Type 0} where
+  pub spells_frame : (ws ws' : List ℕ) (h : ℕ) (xs : List (ℕ × E)) → ((r : ℕ) → 1 ≤ in_chain r xs → next ws' r ≡ next ws r) → Spells ws h xs → Spells ws' h xs
+  spells_frame ws ws' h [] same s = s
+  spells_frame ws ws' h (x ∷ xs) same s =
+      let here = one_here x.0 in
+      (s.0, subst (λ n. Spells ws' n xs) (sym (same x.0 (omega arith))) (spells_frame ws ws' (next ws x.0) xs (λ r m. same r (omega arith)) s.1))
+
+  pub spells_start : (ws : List ℕ) (h : ℕ) (xs : List (ℕ × E)) → Spells ws h xs → h ≡ start xs
+  spells_start ws h [] s = s
+  spells_start ws h (x ∷ xs) s = s.0
+
+  -- what a party has loaded stays loaded while others step
+  since_words : (ws ws' : List ℕ) (h : History E) (j read : ℕ) → head ws' ≡ head ws → Since ws h j read → Since ws' h j read
+  since_words ws ws' h j read e s = record {
+    before = s.before;
+    name = s.name;
+    later = s.later;
+    is = s.is;
+    none = s.none;
+    same = ⊎_elim (λ t. inl (e ∙ t)) (λ t. inr t) s.same;
+  }
+
+  since_event : (ws ws' : List ℕ) (h : History E) (j read i : ℕ) (x : Event Name E) → i ≢ j → (head ws' ≡ head ws) ⊎ IsChange x → Since ws h j read → Since ws' (h ++ (i, x) ∷ []) j read
+  since_event ws ws' h j read i x other moved s = record {
+    before = s.before;
+    name = s.name;
+    later = s.later ++ (i, x) ∷ [];
+    is = ap (λ (z : History E). z ++ (i, x) ∷ []) s.is ∙ append_assoc s.before ((j, Load s.name) ∷ s.later) ((i, x) ∷ []);
+    none = without_more j s.later i (x ∷ []) other s.none;
+    same = let more = sym (events_more s.later i (x ∷ [])) in
+        ⊎_elim (λ e. ⊎_elim (λ t. inl (e ∙ t)) (λ c. inr (subst (λ l. SomeChange l) more (change_more (events s.later) (x ∷ []) c))) s.same)
+        (λ c. inr (subst (λ l. SomeChange l) more (change_last (events s.later) x c))) moved;
+  }
+
+  pub since_now : (ws : List ℕ) (h : History E) (j : ℕ) (n : Name) → Since ws (h ++ (j, Load n) ∷ []) j (head ws)
+  since_now ws h j n = record { before = h; name = n; later = []; is = refl; none = tt; same = inl refl }
+
+  -- what a party does stays right, where the links of its rooms and its load do
+  pub does_frame : (ws ws' : List ℕ) (h h' : History E) (j : ℕ) (doing : Doing E) → ((r : ℕ) → 1 ≤ at_work r doing → next ws' r ≡ next ws r)
+      → ((read : ℕ) → Since ws h j read → Since ws' h' j read) → AtDoing ws h j doing → AtDoing ws' h' j doing
+  does_frame ws ws' h h' j Idle same since k = tt
+  does_frame ws ws' h h' j (Loaded r read) same since k = since read k
+  does_frame ws ws' h h' j (Set r read) same since k = let here = one_here r in (same r (omega arith) ∙ k.0, since read k.1)
+  does_frame ws ws' h h' j (Missed r) same since k = tt
+  does_frame ws ws' h h' j (Walking xs) same since k = spells_frame ws ws' (start xs) xs same k
+
+  pub held_event : (h : History E) (j : ℕ) (x : Event Name E) → held (events (h ++ (j, x) ∷ [])) ≡ held_after (held (events h)) x
+  held_event h j x = ap (λ z. held z) (events_more h j (x ∷ [])) ∙ held_more (events h) x
+
+  legal_event : (h : History E) (j : ℕ) (x : Event Name E) → Legal (events h) → MayFollow (events h) x → Legal (events (h ++ (j, x) ∷ []))
+  legal_event h j x l a = subst (λ z. Legal z) (sym (events_more h j (x ∷ []))) (legal_more (events h) x l a)
+
+head_stays : (ws : List ℕ) (r x : ℕ) → head (set ws (suc r) x) ≡ head ws
+head_stays ws r x = get_or-set_other ws (suc r) 0 x 0 (λ e. omega arith)
+
+next_stays : (ws : List ℕ) (r s x : ℕ) → s ≢ r → next (set ws (suc r) x) s ≡ next ws s
+next_stays ws r s x n = get_or-set_other ws (suc r) (suc s) x 0 (λ e. n (omega arith))
+
+next_above : (ws : List ℕ) (s x : ℕ) → next (set ws 0 x) s ≡ next ws s
+next_above ws s x = get_or-set_other ws 0 (suc s) x 0 (λ e. omega arith)
+
+-- where a list has one room and not another, the rooms are two
+pub rooms_differ : (count : ℕ → ℕ) (r s : ℕ) → count r ≡ 0 → 1 ≤ count s → s ≢ r
+rooms_differ count r s none here e = let same : count s ≡ count r = ap count e in omega arith
+
+module _ {E : Type 0} where
+  at_work_walking : (r : ℕ) (xs : List (ℕ × E)) → at_work r (walking xs) ≡ in_chain r xs
+  at_work_walking r [] = refl
+  at_work_walking r (x ∷ xs) = refl
+
+  walks_on : (ws ws' : List ℕ) (h : History E) (j : ℕ) (chain : List (ℕ × E)) → ((r : ℕ) → next ws' r ≡ next ws r) → Spells ws (head ws) chain → AtDoing ws' h j (walking chain)
+  walks_on ws ws' h j [] same s = tt
+  walks_on ws ws' h j (x ∷ xs) same s = spells_frame ws ws' (suc x.0) (x ∷ xs) (λ r _. same r) (refl, s.1)
+
+  walks_rest : (ws : List ℕ) (h : History E) (j : ℕ) (xs : List (ℕ × E)) → Spells ws (start xs) xs → AtDoing ws h j (walking xs)
+  walks_rest ws h j [] s = tt
+  walks_rest ws h j (x ∷ xs) s = s
+
+  emptied : (ws ws' : List ℕ) (n : Name) (chain : List (ℕ × E)) → head ws' ≡ 0 → Spells ws (head ws) chain → (head ws' ≡ head ws) ⊎ IsChange (Taken n (room_elements chain))
+  emptied ws ws' n [] e s = inl (e ∙ sym s)
+  emptied ws ws' n (x ∷ xs) e s = inr (λ c. let no : ⊥ = cc in no)
+
+  -- one party goes from v to w. No room is in two places, and each other party does what it did
+  pub advance : (ws ws' : List ℕ) (chain chain' : List (ℕ × E)) (views : List (View E)) (h h' : History E) (j : ℕ) (v w : View E) → WordsMeet ws chain views h → get_elem? views j ≡ some v
+      → Legal (events h') → Spells ws' (head ws') chain' → room_elements chain' ≡ reverse (held (events h'))
+      → ((r : ℕ) → in_chain r chain' + count_with_party r w ≤ in_chain r chain + count_with_party r v)
+      → AtDoing ws' h' j w.doing
+      → ((i : ℕ) (u : View E) → i ≢ j → get_elem? views i ≡ some u → AtDoing ws h i u.doing → AtDoing ws' h' i u.doing)
+      → WordsMeet ws' chain' (set views j w) h'
+  advance ws ws' chain chain' views h h' j v w m at legal spelled holds few mine others = record {
+    legal = legal;
+    spelled = spelled;
+    holds = holds;
+    apart = λ r. omega (arith, m.apart r, few r, tally_set (count_with_party r) views j v w at);
+    each = λ i u e. ⊎_elim
+        (λ (t : (i ≡ j) × (w ≡ u)). subst (λ (z : ℕ × View E). AtDoing ws' h' z.0 z.1.doing) (λ k. (sym t.0 k, t.1 k)) mine)
+        (λ (t : (i ≢ j) × (get_elem? views i ≡ some u)). others i u t.0 t.1 (m.each i u t.1))
+        (at_set views j i w u e);
+  }
+
+  -- the party's own step changes neither words nor history
+  pub rests : (ws : List ℕ) (chain : List (ℕ × E)) (views : List (View E)) (h : History E) (j : ℕ) (v w : View E) → WordsMeet ws chain views h → get_elem? views j ≡ some v
+      → ((r : ℕ) → count_with_party r w ≤ count_with_party r v) → AtDoing ws h j w.doing → WordsMeet ws chain (set views j w) h
+  rests ws chain views h j v w m at few mine = advance ws ws chain chain views h h j v w m at m.legal m.spelled m.holds (λ r. omega (arith, few r)) mine (λ i u other e k. k)
+
+  pub loads : (ws : List ℕ) (chain : List (ℕ × E)) (views : List (View E)) (h : History E) (j : ℕ) (v w : View E) (n : Name) → WordsMeet ws chain views h → get_elem? views j ≡ some v
+      → ((r : ℕ) → count_with_party r w ≤ count_with_party r v) → AtDoing ws (h ++ (j, Load n) ∷ []) j w.doing → WordsMeet ws chain (set views j w) (h ++ (j, Load n) ∷ [])
+  loads ws chain views h j v w n m at few mine =
+      let h' = h ++ (j, Load n) ∷ [] in
+      advance ws ws chain chain views h h' j v w m at (legal_event h j (Load n) m.legal tt) m.spelled (m.holds ∙ ap (λ es. reverse es) (sym (held_event h j (Load n)))) (λ r. omega (arith, few r)) mine
+      (λ i u other e. does_frame ws ws h h' i u.doing (λ r _. refl) (λ read. since_event ws ws h i read j (Load n) (λ z. other (sym z)) (inl refl)))
+
+  pub writes : (ws : List ℕ) (chain : List (ℕ × E)) (views : List (View E)) (h : History E) (j : ℕ) (v w : View E) (r read : ℕ) → WordsMeet ws chain views h → get_elem? views j ≡ some v
+      → v.doing ≡ Loaded r read → w.doing ≡ Set r read → w.free ≡ v.free → suc r < length ws
+      → WordsMeet (set ws (suc r) read) chain (set views j w) h
+  writes ws chain views h j v w r read m at was now free inside =
+      let ws' = set ws (suc r) read in
+      let mine : count_with_party r v ≡ times r v.free + 1 = ap (λ d. times r v.free + at_work r d) was ∙ ap (λ n. times r v.free + n) (one_here r) in
+      let alone = tally_one (count_with_party r) views j v at in
+      let apart = m.apart r in
+      let known : AtDoing ws h j (Loaded r read) = subst (λ (d : Doing E). AtDoing ws h j d) was (m.each j v at) in
+      let top = head_stays ws r read in
+      advance ws ws' chain chain views h h j v w m at m.legal
+      (subst (λ n. Spells ws' n chain) (sym top) (spells_frame ws ws' (head ws) chain (λ s k. next_stays ws r s read (rooms_differ (λ z. in_chain z chain) r s (omega arith) k)) m.spelled))
+      m.holds
+      (λ s. let a : count_with_party s w ≡ times s v.free + one_if (eqb r s) = (λ i. times s (free i) + at_work s (now i)) in let b : count_with_party s v ≡ times s v.free + one_if (eqb r s) = ap (λ d. times s v.free + at_work s d) was in omega arith)
+      (subst (λ (d : Doing E). AtDoing ws' h j d) (sym now) (get_or-set_same ws (suc r) read 0 inside, since_words ws ws' h j read top known))
+      (λ i u other e. let both = tally_two (count_with_party r) views i j u v other e at in
+      does_frame ws ws' h h i u.doing (λ s k. next_stays ws r s read (rooms_differ (λ z. at_work z u.doing) r s (omega arith) k)) (λ n. since_words ws ws' h i n top))
+
+  pub pushes : (ws : List ℕ) (chain : List (ℕ × E)) (views : List (View E)) (h : History E) (j : ℕ) (v w : View E) (r read : ℕ) (n : Name) (x : E) → WordsMeet ws chain views h → get_elem? views j ≡ some v
+      → v.doing ≡ Set r read → w.doing ≡ Idle → w.free ≡ v.free → head ws ≡ read → 0 < length ws
+      → WordsMeet (set ws 0 (suc r)) ((r, x) ∷ chain) (set views j w) (h ++ (j, Push n x) ∷ [])
+  pushes ws chain views h j v w r read n x m at was now free top inside =
+      let ws' = set ws 0 (suc r) in
+      let h' = h ++ (j, Push n x) ∷ [] in
+      let known : AtDoing ws h j (Set r read) = subst (λ (d : Doing E). AtDoing ws h j d) was (m.each j v at) in
+      let below : next ws' r ≡ head ws = next_above ws r (suc r) ∙ (known.0 ∙ sym top) in
+      advance ws ws' chain ((r, x) ∷ chain) views h h' j v w m at (legal_event h j (Push n x) m.legal tt)
+      (get_or-set_same ws 0 (suc r) 0 inside, subst (λ k. Spells ws' k chain) (sym below) (spells_frame ws ws' (head ws) chain (λ s k. next_above ws s (suc r)) m.spelled))
+      (ap (λ (l : List E). x ∷ l) m.holds ∙ (sym (reverse-append (held (events h)) (x ∷ [])) ∙ ap (λ es. reverse es) (sym (held_event h j (Push n x)))))
+      (λ s. let a : count_with_party s w ≡ times s v.free + 0 = (λ i. times s (free i) + at_work s (now i)) in let b : count_with_party s v ≡ times s v.free + one_if (eqb r s) = ap (λ d. times s v.free + at_work s d) was in omega arith)
+      (subst (λ (d : Doing E). AtDoing ws' h' j d) (sym now) tt)
+      (λ i u other e. does_frame ws ws' h h' i u.doing (λ s k. next_above ws s (suc r)) (λ k. since_event ws ws' h i k j (Push n x) (λ z. other (sym z)) (inr tt)))
+
+  pub takes_all : (ws : List ℕ) (chain : List (ℕ × E)) (views : List (View E)) (h : History E) (j : ℕ) (v w : View E) (n : Name) → WordsMeet ws chain views h → get_elem? views j ≡ some v
+      → v.doing ≡ Idle → w.doing ≡ walking chain → w.free ≡ v.free → 0 < length ws
+      → WordsMeet (set ws 0 0) [] (set views j w) (h ++ (j, Taken n (room_elements chain)) ∷ [])
+  takes_all ws chain views h j v w n m at was now free inside =
+      let ws' = set ws 0 0 in
+      let x = Taken n (room_elements chain) in
+      let h' = h ++ (j, x) ∷ [] in
+      let empty = get_or-set_same ws 0 0 0 inside in
+      advance ws ws' chain [] views h h' j v w m at (legal_event h j x m.legal m.holds) empty (ap (λ es. reverse es) (sym (held_event h j x)))
+      (λ s. let a : count_with_party s w ≡ times s v.free + in_chain s chain = (λ i. times s (free i) + at_work s (now i)) ∙ ap (λ k. times s v.free + k) (at_work_walking s chain) in
+      let b : count_with_party s v ≡ times s v.free + 0 = ap (λ d. times s v.free + at_work s d) was in omega arith)
+      (subst (λ (d : Doing E). AtDoing ws' h' j d) (sym now) (walks_on ws ws' h' j chain (λ s. next_above ws s 0) m.spelled))
+      (λ i u other e. does_frame ws ws' h h' i u.doing (λ s k. next_above ws s 0) (λ k. since_event ws ws' h i k j x (λ z. other (sym z)) (emptied ws ws' n chain empty m.spelled)))
+
+  pub walks : (ws : List ℕ) (chain : List (ℕ × E)) (views : List (View E)) (h : History E) (j : ℕ) (v w : View E) (x : ℕ × E) (xs : List (ℕ × E)) → WordsMeet ws chain views h → get_elem? views j ≡ some v
+      → v.doing ≡ Walking (x ∷ xs) → w.doing ≡ walking xs → w.free ≡ x.0 ∷ v.free
+      → (next ws x.0 ≡ start xs) × WordsMeet ws chain (set views j w) h
+  walks ws chain views h j v w x xs m at was now free =
+      let known : AtDoing ws h j (Walking (x ∷ xs)) = subst (λ (d : Doing E). AtDoing ws h j d) was (m.each j v at) in
+      let below = spells_start ws (next ws x.0) xs known.1 in (
+        below,
+        rests ws chain views h j v w m at
+            (λ s. let a : count_with_party s w ≡ one_if (eqb x.0 s) + times s v.free + in_chain s xs = (λ i. times s (free i) + at_work s (now i)) ∙ ap (λ k. one_if (eqb x.0 s) + times s v.free + k) (at_work_walking s xs) in
+            let b : count_with_party s v ≡ times s v.free + (one_if (eqb x.0 s) + in_chain s xs) = ap (λ d. times s v.free + at_work s d) was in omega arith)
+            (subst (λ (d : Doing E). AtDoing ws h j d) (sym now) (walks_rest ws h j xs (subst (λ n. Spells ws n xs) below known.1))),
+      )
+
+  -- a party is cut in two
+  pub forks : (ws : List ℕ) (chain : List (ℕ × E)) (views : List (View E)) (h : History E) (j : ℕ) (v left right : View E) → WordsMeet ws chain views h → get_elem? views j ≡ some v
+      → ((r : ℕ) → count_with_party r left + count_with_party r right ≤ count_with_party r v) → AtDoing ws h j left.doing → ((i : ℕ) → AtDoing ws h i right.doing)
+      → WordsMeet ws chain (set views j left ++ right ∷ []) h
+  forks ws chain views h j v left right m at few here there =
+      let one = rests ws chain views h j v left m at (λ r. let f = few r in omega arith) here in record {
+        legal = m.legal;
+        spelled = m.spelled;
+        holds = m.holds;
+        apart = λ r. omega (arith, m.apart r, few r, tally_set (count_with_party r) views j v left at, tally_snoc (count_with_party r) (set views j left) right);
+        each = λ i u e. ⊎_elim (one.each i u) (λ (t : right ≡ u). subst (λ (z : View E). AtDoing ws h i z.doing) t (there i)) (at_snoc (set views j left) right u i e);
+      }

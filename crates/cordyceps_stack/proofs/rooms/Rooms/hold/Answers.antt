@@ -1,6 +1,0 @@
-use Rattle.cordyceps_stack.specs.TransferMachine.{holding}
-use Rattle.cordyceps_stack.proofs.Written.{set_change_at}
-use Rattle.cordyceps_stack.proofs.rooms.Rooms.hold.Goals as goal
-
-pub returns : goal.returns
-returns g c = rw (← c.self.view_is, c.index_mut-room.ensures.value) (set_change_at (holding c.args.element) c.self.inside.list.items c.args.at c.index_mut-room.result.now (rw c.self.view_is c.requires))

@@ -1,6 +1,0 @@
-use Rattle.cordyceps_stack.specs.TransferMachine.{linking}
-use Rattle.cordyceps_stack.proofs.Written.{set_change_at}
-use Rattle.cordyceps_stack.proofs.rooms.Rooms.link.Goals as goal
-
-pub returns : goal.returns
-returns g c = rw (← c.self.view_is, c.index_mut.ensures.value) (set_change_at (linking c.args.next) c.self.inside.list.items c.args.at c.index_mut.result.now (rw c.self.view_is c.requires))

@@ -1,0 +1,18 @@
+use Rattle.std.proofs.Common.{◌∙◌, ap, length, arith, rules}
+use Rattle.cordyceps_stack.proofs.SharedTheory.CallsHold.{whole_hits}
+use Rattle.cordyceps_stack.proofs.shared.calls.TransferStack.try_push.Goals as goal
+
+pub put-requires : goal.put-requires
+put-requires g c = let few = c.take-ticket.ensures.few in let long = ap (λ z. length z) c.take-ticket.ensures.taken in omega arith
+
+pub returns-in-Err-clause-whole : goal.returns-in-Err-clause-whole
+returns-in-Err-clause-whole g c is = absurd (whole_hits c.party.inside.seat.me c.try_push.new.seat.me c.in-Err.ensures.answer.1 (ap (λ u. u.share) c.party.view_is ∙ is))
+
+pub invariant_of-party-in-Err : goal.invariant_of-party-in-Err
+invariant_of-party-in-Err g c = search rules
+
+pub returns-in-Ok-clause-answer : goal.returns-in-Ok-clause-answer
+returns-in-Ok-clause-answer g c = search rules
+
+pub returns-in-Err-clause-answer : goal.returns-in-Err-clause-answer
+returns-in-Err-clause-answer g c = search rules

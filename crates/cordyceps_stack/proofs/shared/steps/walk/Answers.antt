@@ -1,0 +1,53 @@
+use Rattle.std.proofs.Common.{◌≡◌, ℕ, List, [], ◌∷◌, Option, Some, None, sym, ap, ◌∙◌, subst, rules}
+use Rattle.atomic_table.specs.Table.{rest}
+use Rattle.cordyceps_stack.specs.declared.shared.table.Filled.{Filled}
+use Rattle.cordyceps_stack.specs.Shared.Plays.{to_hand_out, carry, IsWalking}
+use Rattle.cordyceps_stack.specs.Shared.Rule.{full_slot}
+use Rattle.cordyceps_stack.specs.Shared.Words.{start}
+use Rattle.cordyceps_stack.proofs.SharedTheory.PartsJoin.{next_of, batch_walking}
+use Rattle.cordyceps_stack.proofs.SharedTheory.StepsKeep.{walks_one, some_or}
+use Rattle.cordyceps_stack.proofs.shared.steps.walk.Goals as goal
+
+abbrev hand_of : {A : Type 0} → List (ℕ × Option A) → Option A
+hand_of [] = None
+hand_of (x ∷ xs) = x.1
+
+pub exchange-full-requires : goal.exchange-full-requires
+exchange-full-requires g c =
+    let b = c.requires.batch in
+    let n = next_of c.args.words.now.table_id.slots c.args.at c.args.seat.now.me b.0 b.1 b.2 in
+    (search rules, (Some (full_slot n.here), n.hand ∙ (λ j. (sym n.index j, Some (full_slot n.here)) ∷ rest (sym n.hand j))))
+
+pub load-below-requires : goal.load-below-requires
+load-below-requires g c =
+    let b = c.requires.batch in
+    let n = next_of c.args.words.now.table_id.slots c.args.at c.args.seat.now.me b.0 b.1 b.2 in
+    let y = c.exchange-full.ensures.3 in
+    let none : Option (Filled g.row.E.Denot) = None in
+    let doing = ap (λ m. m.0.doing) y ∙ n.doing in
+    let empty = ap (λ m. m.1) y ∙ (λ j. (n.index j, none) ∷ rest (n.hand j)) in
+    let inside = n.inside in
+    let word = n.word in
+    let table = c.requires.table in
+    (search rules, search rules, walks_one _ _ _ _ n.here n.others (carry n.others []) word doing empty inside)
+
+pub returns-clause-walked : goal.returns-clause-walked
+returns-clause-walked g c =
+    let b = c.requires.batch in
+    let n = next_of c.args.words.now.table_id.slots c.args.at c.args.seat.now.me b.0 b.1 b.2 in
+    let y = c.exchange-full.ensures in
+    let none : Option (Filled g.row.E.Denot) = None in
+    let doing = ap (λ m. m.0.doing) y.3 ∙ n.doing in
+    let empty = ap (λ m. m.1) y.3 ∙ (λ j. (n.index j, none) ∷ rest (n.hand j)) in
+    let z = c.load-below.ensures.2 n.here n.others (carry n.others []) doing empty in
+    let came = ap hand_of (sym y.2 ∙ n.hand) in
+    let full = ap (some_or (full_slot n.here)) (sym c.in-Some.is ∙ came) in
+    let now = ap (λ v. v.doing) z.1 in
+    let batch : to_hand_out c.load-below.new.seat.me.0.doing ≡ n.others = ap to_hand_out now ∙ batch_walking n.others in record {
+      batch = ap to_hand_out n.doing ∙ (λ j. ((sym full j).ticket, (sym full j).item) ∷ sym batch j);
+      walking = subst (λ xs. IsWalking c.args.words.now.table_id.slots xs c.load-below.new.seat.me) (sym batch) (now, z.2, n.near, λ e. c.requires.batch.0.3 (sym (ap (λ m. m.0.known.share) y.3) ∙ (sym (ap (λ v. v.known.share) z.1) ∙ e)));
+      below_is = z.0 ∙ ap start (sym batch);
+      free = ap (λ v. v.free) z.1 ∙ (λ j. (sym full j).ticket ∷ (y.3 j).0.free);
+      known = ap (λ v. v.known) z.1 ∙ ap (λ m. m.0.known) y.3;
+      few = z.3;
+    }

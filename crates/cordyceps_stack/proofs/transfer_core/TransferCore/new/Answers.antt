@@ -1,9 +1,0 @@
-use Rattle.std.proofs.Common.{[]}
-use Rattle.cordyceps_stack.proofs.TransferSound.{meets_new}
-use Rattle.cordyceps_stack.proofs.transfer_core.TransferCore.new.Goals as goal
-
-pub invariant_of-result : goal.invariant_of-result
-invariant_of-result g c = rw (c.new.ensures, c.new-2.ensures.items) ([], meets_new)
-
-pub returns-clause-history : goal.returns-clause-history
-returns-clause-history g c = rw (c.new.ensures, c.new-2.ensures.items) meets_new

@@ -1,6 +1,0 @@
-use Rattle.cordyceps_stack.proofs.TransferStanding.{given_seated}
-use Rattle.cordyceps_stack.proofs.transfer_stack.TransferStack.split.Goals as goal
-
-pub invariant_of-result : goal.invariant_of-result
-invariant_of-result g c =
-    given_seated _ _ c.args.rooms c.party.inside.seat.me c.split-seat.result.me _ _ c.party.invariant c.split-seat.ensures.table.1 c.split-seat.ensures.views.1 c.split_off-tickets.ensures.0

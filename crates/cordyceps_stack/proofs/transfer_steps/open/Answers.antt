@@ -1,7 +1,0 @@
-use Rattle.std.proofs.Common.{rules, arith}
-use Rattle.std.proofs.lemmas.Grind.{common_steps}
-use Rattle.cordyceps_stack.proofs.TransferParties.{opens}
-use Rattle.cordyceps_stack.proofs.transfer_steps.open.Goals as goal
-
-pub vacant-requires : goal.vacant-requires
-vacant-requires g c = opens _ _ _ (first_of (search rules, grind (arith, common_steps))) (first_of (search rules, grind (arith, common_steps)))

@@ -1,0 +1,5 @@
+-- Definitions of the core.
+pub mod CoreMeets
+pub mod Machine
+pub mod Meets
+pub mod Walks

@@ -1,0 +1,214 @@
+-- A transfer core as plain data, and what each step does to it.
+use Rattle.std.specs.Prelude.{ℕ, zero, suc, List, [], ◌∷◌, ◌++◌, reverse, Bool, true, false, nat_eq, Option, Some, None, Result, Ok, Err, slice_get, slice_set, is_none, is_some, ◌&&◌}
+use Rattle.std.specs.Option.{option_eq}
+use Rattle.std.specs.List.{position, count_by}
+use Rattle.cordyceps_base.specs.declared.shared.StepError.{StepError}
+use Rattle.cordyceps_base.specs.declared.shared.StepError.TheVariants.{NotThere}
+use Rattle.cordyceps_stack.specs.declared.cores.rooms.Room.{Room}
+use Rattle.cordyceps_stack.specs.declared.cores.stage.Attempt.{Attempt}
+use Rattle.cordyceps_stack.specs.declared.cores.stage.Stage.{Stage}
+use Rattle.cordyceps_stack.specs.declared.cores.stage.Stage.TheVariants.{Rest, Loaded, Set, Walking}
+use Rattle.cordyceps_stack.specs.declared.cores.steps.TransferAnswer.{TransferAnswer}
+use Rattle.cordyceps_stack.specs.declared.cores.steps.TransferAnswer.TheVariants as answer
+use Rattle.cordyceps_stack.specs.declared.cores.steps.TransferStep.{TransferStep}
+use Rattle.cordyceps_stack.specs.declared.cores.steps.TransferStep.TheVariants as step
+use Rattle.cordyceps_stack.specs.History.{Event, Load, Push, Taken, held}
+
+-- `head`, the rooms, and where each party stands, by its number
+pub record Machine (E : Type 0) : Type 0 where
+  pub head : Option ℕ
+  pub rooms : List (Room E)
+  pub parties : List Stage
+
+-- what a step answers; a refused one gives its element back
+abbrev pub Answered : Type 0 → Type 0
+Answered E = Result (TransferAnswer E) (StepError × Option E)
+
+-- a machine after a step, and the answer
+abbrev pub Outcome : Type 0 → Type 0
+Outcome E = Machine E × Answered E
+
+-- the list with f of its i-th item in that item's place
+abbrev pub change : {X : Type 0} → (X → X) → ℕ → List X → List X
+change f zero (x ∷ xs) = f x ∷ xs
+change f (suc i) (x ∷ xs) = x ∷ change f i xs
+change f i [] = []
+
+abbrev pub is_rest : Option Stage → Bool
+is_rest None = false
+is_rest (Some Rest) = true
+is_rest (Some (Loaded a)) = false
+is_rest (Some (Set a)) = false
+is_rest (Some (Walking r)) = false
+
+-- where a walk goes on that has read this link
+abbrev pub stage_after_walk : Option ℕ → Stage
+stage_after_walk None = Rest
+stage_after_walk (Some r) = Walking r
+
+module _ {E : Type 0} where
+  -- no party and no room, and nothing is held
+  abbrev pub new_machine : Machine E
+  new_machine = record { head = None; rooms = []; parties = [] }
+
+  -- a room that is p's free one
+  abbrev pub new_room : ℕ → Room E
+  new_room p = record { owner = Some p; element = None; next = None }
+
+  -- one more party, at rest
+  abbrev pub with_party : Machine E → Machine E
+  with_party m = record { head = m.head; rooms = m.rooms; parties = m.parties ++ Rest ∷ [] }
+
+  -- one more room, p's
+  abbrev pub with_room : Machine E → ℕ → Machine E
+  with_room m p = record { head = m.head; rooms = m.rooms ++ new_room p ∷ []; parties = m.parties }
+
+  -- a room that got an element, one that got a link, and one that is p's free room again
+  abbrev pub holding : E → Room E → Room E
+  holding e room = record { owner = None; element = Some e; next = room.next }
+
+  abbrev pub linking : Option ℕ → Room E → Room E
+  linking next room = record { owner = room.owner; element = room.element; next = next }
+
+  abbrev pub freeing : ℕ → Room E → Room E
+  freeing p room = record { owner = Some p; element = None; next = room.next }
+
+  abbrev pub is_free_for : ℕ → Room E → Bool
+  is_free_for p room = option_eq nat_eq room.owner (Some p)
+
+  -- the least of p's free rooms
+  abbrev pub least_free : ℕ → List (Room E) → Option ℕ
+  least_free p rooms = position (is_free_for p) rooms
+
+  -- how many rooms have an element
+  abbrev pub occupied : List (Room E) → ℕ
+  occupied rooms = count_by (λ room. is_some room.element) rooms
+
+  abbrev pub element_in : Option (Room E) → Option E
+  element_in None = None
+  element_in (Some room) = room.element
+
+  abbrev pub next_in : Option (Room E) → Option ℕ
+  next_in None = None
+  next_in (Some room) = room.next
+
+  abbrev pub first_then : Option E → List E → List E
+  first_then None es = []
+  first_then (Some e) es = e ∷ es
+
+  -- the elements in the rooms to which the links lead from `start`, at most n of them
+  abbrev pub elements_from : ℕ → List (Room E) → Option ℕ → List E
+  elements_from zero rooms start = []
+  elements_from (suc n) rooms None = []
+  elements_from (suc n) rooms (Some r) = first_then (element_in (slice_get rooms r)) (elements_from n rooms (next_in (slice_get rooms r)))
+
+  -- what a machine holds, newest first
+  abbrev pub held_in : Machine E → List E
+  held_in m = elements_from (occupied m.rooms) m.rooms m.head
+
+  -- the element that a step brings
+  abbrev pub step_element : TransferStep E → Option E
+  step_element (step.Load e) = Some e
+  step_element step.SetNext = None
+  step_element step.Exchange = None
+  step_element step.Take = None
+  step_element step.Walk = None
+
+  abbrev pub refused : Machine E → TransferStep E → Outcome E
+  refused m s = (m, Err (NotThere, step_element s))
+
+  -- p loads, with this least free room
+  abbrev pub load : Machine E → ℕ → E → Option ℕ → Outcome E
+  load m p e None = refused m (step.Load e)
+  load m p e (Some r) = (
+    record { head = m.head; rooms = change (holding e) r m.rooms; parties = slice_set m.parties p (Loaded record { room = r; read = m.head }) },
+    Ok answer.Done,
+  )
+
+  abbrev pub set_next : Machine E → ℕ → Attempt → Outcome E
+  set_next m p a =
+      (record { head = m.head; rooms = change (linking a.read) a.room m.rooms; parties = slice_set m.parties p (Set a) }, Ok answer.Done)
+
+  -- p's exchange fails, with the room r and its element; in a core the room of a push has one
+  abbrev pub fails : Machine E → ℕ → ℕ → Option E → Outcome E
+  fails m p r None = refused m step.Exchange
+  fails m p r (Some e) =
+      (record { head = m.head; rooms = change (freeing p) r m.rooms; parties = slice_set m.parties p Rest }, Ok (answer.Failed e))
+
+  -- p exchanges, where `head` is what was read, or is not
+  abbrev pub exchange : Machine E → ℕ → Attempt → Bool → Outcome E
+  exchange m p a true =
+      (record { head = Some a.room; rooms = m.rooms; parties = slice_set m.parties p Rest }, Ok (answer.Pushed (is_none a.read)))
+  exchange m p a false = fails m p a.room (element_in (slice_get m.rooms a.room))
+
+  -- p takes, with this `head`
+  abbrev pub take : Machine E → ℕ → Option ℕ → Outcome E
+  take m p None = (m, Ok answer.Nothing)
+  take m p (Some r) = (record { head = None; rooms = m.rooms; parties = slice_set m.parties p (Walking r) }, Ok answer.Taken)
+
+  abbrev pub handed : E → Option ℕ → TransferAnswer E
+  handed e None = answer.Last e
+  handed e (Some r) = answer.Gives e
+
+  -- p walks at the room r, with this link and element; in a core a room that is walked has one
+  abbrev pub walk : Machine E → ℕ → ℕ → Option ℕ → Option E → Outcome E
+  walk m p r next None = refused m step.Walk
+  walk m p r next (Some e) =
+      (record { head = m.head; rooms = change (freeing p) r m.rooms; parties = slice_set m.parties p (stage_after_walk next) }, Ok (handed e next))
+
+  -- what p's step does at its place
+  abbrev pub acts : Machine E → ℕ → TransferStep E → Stage → Outcome E
+  acts m p (step.Load e) Rest = load m p e (least_free p m.rooms)
+  acts m p step.SetNext (Loaded a) = set_next m p a
+  acts m p step.Exchange (Set a) = exchange m p a (option_eq nat_eq m.head a.read)
+  acts m p step.Take Rest = take m p m.head
+  acts m p step.Walk (Walking r) = walk m p r (next_in (slice_get m.rooms r)) (element_in (slice_get m.rooms r))
+  acts m p s place = refused m s
+
+  abbrev pub stepped_at : Machine E → ℕ → TransferStep E → Option Stage → Outcome E
+  stepped_at m p s None = refused m s
+  stepped_at m p s (Some place) = acts m p s place
+
+  -- the machine after p's step, and the answer
+  abbrev pub stepped : Machine E → ℕ → TransferStep E → Outcome E
+  stepped m p s = stepped_at m p s (slice_get m.parties p)
+
+  abbrev pub may_take : Machine E → ℕ → TransferStep E → Option Stage → Bool
+  may_take m p (step.Load e) (Some Rest) = is_some (least_free p m.rooms)
+  may_take m p step.SetNext (Some (Loaded a)) = true
+  may_take m p step.Exchange (Some (Set a)) = true
+  may_take m p step.Take (Some Rest) = true
+  may_take m p step.Walk (Some (Walking r)) = true
+  may_take m p s place = false
+
+  -- there is such a party, it is at that step, and it has a free room if the step needs one
+  abbrev pub is_there : Machine E → ℕ → TransferStep E → Bool
+  is_there m p s = may_take m p s (slice_get m.parties p)
+
+  abbrev pub is_at_rest : Machine E → ℕ → Bool
+  is_at_rest m p = is_rest (slice_get m.parties p)
+
+  -- the party is at rest and has a free room
+  abbrev pub is_ready : Machine E → ℕ → Bool
+  is_ready m p = is_at_rest m p && is_some (least_free p m.rooms)
+
+  -- what a party at this place is about to push
+  abbrev pub in_hand_at : List (Room E) → Option Stage → Option E
+  in_hand_at rooms (Some (Set a)) = element_in (slice_get rooms a.room)
+  in_hand_at rooms place = None
+
+  abbrev pub push_event : {P : Type 0} → P → Option E → List (Event P E)
+  push_event p None = []
+  push_event p (Some e) = Push p e ∷ []
+
+  abbrev pub answer_events : {P : Type 0} → List (Event P E) → P → Option E → TransferStep E → TransferAnswer E → List (Event P E)
+  answer_events h p hand (step.Load e) a = Load p ∷ []
+  answer_events h p hand s (answer.Pushed b) = push_event p hand
+  answer_events h p hand s answer.Taken = Taken p (reverse (held h)) ∷ []
+  answer_events h p hand s answer.Nothing = Taken p [] ∷ []
+  answer_events h p hand s a = []
+
+  -- the events that a step of p adds to the history, by its answer; a refused step adds none
+  abbrev pub answered_events : {P : Type 0} → List (Event P E) → P → Option E → TransferStep E → Answered E → List (Event P E)
+  answered_events h p hand s (Ok a) = answer_events h p hand s a
+  answered_events h p hand s (Err e) = []

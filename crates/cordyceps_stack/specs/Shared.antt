@@ -1,0 +1,7 @@
+-- Definitions of what threads share.
+pub mod Calls
+pub mod Parts
+pub mod Plays
+pub mod Rule
+pub mod View
+pub mod Words

@@ -1,0 +1,54 @@
+-- What the calls of a shared transfer stack promise: of the party u before, and of the party w after.
+use Rattle.std.specs.Prelude.{◌≡◌, ◌↔◌, ℕ, suc, ◌+◌, List, [], ◌∷◌, ◌++◌, length, replicate, Bool, true, IsTrue}
+use Rattle.cordyceps_shared.specs.Histories.{plain, own}
+use Rattle.cordyceps_shared.specs.Shares.{Name}
+use Rattle.cordyceps_shared.specs.Standings.{Standing, name_of}
+use Rattle.cordyceps_shared.specs.Standings as parties
+use Rattle.cordyceps_stack.specs.History.{Event, Load, Push, Taken, held, Legal, SomeChange}
+
+-- what a contract sees of a party
+abbrev pub PartyOf : Type 0 → Type 0
+PartyOf E = Standing (Event Name E)
+
+module _ {E : Type 0} where
+  -- what was seen ends with the push of e, and First holds exactly where nothing was held just before
+  pub record EndsPushed (e : E) (First : Type 0) (n : Name) (seen : List (Bool × Event Name E)) : Type 0 where
+    pub before : List (Bool × Event Name E)
+    pub is : seen ≡ before ++ (true, Push n e) ∷ []
+    pub first : First ↔ (held (plain before) ≡ [])
+
+  -- what was seen ends with the party's load, and None holds exactly where nothing is held at it
+  pub record EndsLooked (None : Type 0) (n : Name) (seen : List (Bool × Event Name E)) : Type 0 where
+    pub before : List (Bool × Event Name E)
+    pub is : seen ≡ before ++ (true, Load n) ∷ []
+    pub none : None ↔ (held (plain before) ≡ [])
+
+  -- the party's last event is a load, after which another pushed, or took what was held
+  pub record IsOvertaken (seen : List (Bool × Event Name E)) : Type 0 where
+    pub before : List (Bool × Event Name E)
+    pub load : Name
+    pub later : List (Bool × Event Name E)
+    pub is : seen ≡ before ++ (true, Load load) ∷ later
+    pub others : own later ≡ []
+    pub changed : SomeChange (plain later)
+
+  -- the party has seen more, with exactly these events of its own
+  abbrev pub Adds : PartyOf E → List (Event Name E) → PartyOf E → Type 0
+  Adds u es w = parties.Adds (λ h. Legal h) u es w
+
+  -- it pushed e at its n-th try, which took a room, and `first` tells whether nothing was held before
+  abbrev pub PushesAt : ℕ → E → Bool → PartyOf E → PartyOf E → Type 0
+  PushesAt n e first u w =
+      Adds u (replicate n (Load (name_of u)) ++ Push (name_of u) e ∷ []) w × EndsPushed e (IsTrue first) (name_of u) w.seen × (u.rooms ≡ suc w.rooms)
+
+  -- it tried to push, and another came between
+  abbrev pub Misses : PartyOf E → PartyOf E → Type 0
+  Misses u w = Adds u (Load (name_of u) ∷ []) w × IsOvertaken w.seen × (w.rooms ≡ u.rooms)
+
+  -- it took all that was held, and its rooms
+  abbrev pub Takes : List E → PartyOf E → PartyOf E → Type 0
+  Takes batch u w = Adds u (Taken (name_of u) batch ∷ []) w × (w.rooms ≡ u.rooms + length batch)
+
+  -- it looked, and `none` tells whether nothing was held
+  abbrev pub Looks : Bool → PartyOf E → PartyOf E → Type 0
+  Looks none u w = Adds u (Load (name_of u) ∷ []) w × EndsLooked (IsTrue none) (name_of u) w.seen × (w.rooms ≡ u.rooms)

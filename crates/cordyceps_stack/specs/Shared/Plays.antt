@@ -1,0 +1,114 @@
+-- What each atomic step tells a party of a transfer stack: of its seat m before, of the word that it found, and of its seat
+-- k after. A seat has a view, and the slots in hand, the last taken first.
+use Rattle.std.specs.Prelude.{◌≡◌, ◌≢◌, ℕ, suc, ◌<◌, ◌≤◌, List, [], ◌∷◌, ◌++◌, length, take, drop, Option, Some, None}
+use Rattle.atomic_table.specs.Table.{Me, Step}
+use Rattle.cordyceps_shared.specs.Knowing.{Known, Grown, IsKnown}
+use Rattle.cordyceps_shared.specs.Knowing as knowing
+use Rattle.cordyceps_shared.specs.Shares.{Name}
+use Rattle.cordyceps_stack.specs.declared.shared.table.Filled.{Filled}
+use Rattle.cordyceps_stack.specs.History.{Event, Load, Push, Taken, Legal}
+use Rattle.cordyceps_stack.specs.Cores.Meets.{room_elements}
+use Rattle.cordyceps_stack.specs.Shared.Calls.{EndsPushed, EndsLooked, IsOvertaken}
+use Rattle.cordyceps_stack.specs.Shared.View.{Doing, Idle, Loaded, Set, Missed, Walking, View, name, walking}
+use Rattle.cordyceps_stack.specs.Shared.Words.{start}
+use Rattle.cordyceps_stack.specs.Shared.Rule.{full_slot}
+
+abbrev pub SeatState : Type 0 → Type 0
+SeatState E = Me (Option (Filled E)) (View E)
+
+abbrev pub TableStep : Type 0 → Type 0
+TableStep E = Step (Option (Filled E))
+
+-- the slots in hand
+abbrev pub Hand : Type 0 → Type 0
+Hand E = List (ℕ × Option (Filled E))
+
+module _ {E : Type 0} where
+  -- the party has seen more, with these events of its own
+  abbrev pub Sees : View E → List (Event Name E) → View E → Type 0
+  Sees v es w = Grown (λ h. Legal h) v.known es w.known
+
+  -- the filled slots of these rooms, in front of others in hand
+  abbrev pub carry : List (ℕ × E) → Hand E → Hand E
+  carry [] cs = cs
+  carry (x ∷ xs) cs = (x.0, Some (full_slot x)) ∷ carry xs cs
+
+  -- the rooms are of a table with that many slots
+  abbrev pub Near : ℕ → List (ℕ × E) → Type 0
+  Near slots [] = Unit {0}
+  Near slots (x ∷ xs) = (x.0 < slots) × Near slots xs
+
+  -- what a party has yet to hand out
+  abbrev pub to_hand_out : Doing E → List (ℕ × E)
+  to_hand_out Idle = []
+  to_hand_out (Loaded r read) = []
+  to_hand_out (Set r read) = []
+  to_hand_out (Missed r) = []
+  to_hand_out (Walking xs) = xs
+
+  -- ---- the steps
+  -- a load of head by a party that looks whether nothing is held
+  abbrev pub looked : TableStep E → SeatState E → ℕ → SeatState E → Type 0
+  looked st m read k =
+      (k.0.doing ≡ m.0.doing) × (k.0.free ≡ m.0.free) × (k.1 ≡ m.1) × Sees m.0 (Load (name m.0) ∷ []) k.0
+      × EndsLooked (read ≡ 0) (name m.0) k.0.known.seen
+
+  -- a load of head by a party that begins to push: the slot of its first free room is in hand
+  abbrev pub loaded : TableStep E → SeatState E → ℕ → SeatState E → Type 0
+  loaded st m read k = (r : ℕ) (rs : List ℕ) → m.0.free ≡ r ∷ rs
+      → (k.0.doing ≡ Loaded r read) × (k.0.free ≡ rs) × (k.1 ≡ (r, None) ∷ m.1) × (r < st.slots) × Sees m.0 (Load (name m.0) ∷ []) k.0
+
+  -- a store of what was read in the room's link
+  abbrev pub wrote : TableStep E → SeatState E → ℕ → SeatState E → Type 0
+  wrote st m n k = (r read : ℕ) → m.0.doing ≡ Loaded r read → (k.0 ≡ record m.0 { doing = Set r read }) × (k.1 ≡ m.1)
+
+  -- a compare-exchange of head
+  abbrev pub exchanged : TableStep E → SeatState E → ℕ → SeatState E → Type 0
+  exchanged st m found k = (r read : ℕ) (x : Filled E) (cs : Hand E) → m.0.doing ≡ Set r read → m.1 ≡ (r, Some x) ∷ cs
+      → (found ≡ read → (k.0.doing ≡ Idle) × (k.0.free ≡ m.0.free) × (k.1 ≡ cs) × Sees m.0 (Push (name m.0) x.item ∷ []) k.0 × EndsPushed x.item (found ≡ 0) (name m.0) k.0.known.seen)
+      × (found ≢ read → (k.0.doing ≡ Missed r) × (k.0.free ≡ m.0.free) × (k.1 ≡ m.1) × Sees m.0 [] k.0 × IsOvertaken k.0.known.seen)
+
+  -- a read of the link of a room whose exchange failed: its slot goes back
+  abbrev pub returned : TableStep E → SeatState E → ℕ → SeatState E → Type 0
+  returned st m found k = (r : ℕ) (cs : Hand E) → m.0.doing ≡ Missed r → m.1 ≡ (r, None) ∷ cs
+      → (st.word ≡ suc r) × (k.0 ≡ record m.0 { doing = Idle; free = r ∷ m.0.free }) × (k.1 ≡ cs)
+
+  -- a swap of head: the slots of all that was held are in hand
+  abbrev pub took : TableStep E → SeatState E → ℕ → SeatState E → Type 0
+  took st m found k = m.0.doing ≡ Idle
+      → (chain : List (ℕ × E)) × (found ≡ start chain) × (k.0.doing ≡ walking chain) × (k.0.free ≡ m.0.free) × (k.1 ≡ carry chain m.1) × Near st.slots chain
+      × Sees m.0 (Taken (name m.0) (room_elements chain) ∷ []) k.0
+
+  -- a read of the link of the next room to be handed out: its slot goes back
+  abbrev pub walked : TableStep E → SeatState E → ℕ → SeatState E → Type 0
+  walked st m found k = (x : ℕ × E) (xs : List (ℕ × E)) (cs : Hand E) → m.0.doing ≡ Walking (x ∷ xs) → m.1 ≡ (x.0, None) ∷ cs
+      → (found ≡ start xs) × (k.0 ≡ record m.0 { doing = walking xs; free = x.0 ∷ m.0.free }) × (k.1 ≡ cs) × (length k.0.free ≤ st.slots)
+
+  -- a load of head by a party that took another in
+  abbrev pub view_without_told : View E → View E
+  view_without_told v = record v { known = record v.known { had = []; told = [] } }
+
+  abbrev pub learned : TableStep E → SeatState E → ℕ → SeatState E → Type 0
+  learned st m read k = (k.0 ≡ view_without_told m.0) × (k.1 ≡ m.1) × IsKnown (λ h. Legal h) m.0.known × (length m.0.free ≤ st.slots)
+
+  -- ---- splitting and joining
+  abbrev pub view_keeping : ℕ → View E → View E
+  view_keeping n v = record { known = knowing.known_keeping v.known; free = drop n v.free; doing = v.doing }
+
+  abbrev pub view_giving : ℕ → View E → View E
+  view_giving n v = record { known = knowing.known_giving v.known; free = take n v.free; doing = Idle }
+
+  abbrev pub view_absorbing : View E → View E → View E
+  view_absorbing v w = record { known = knowing.known_absorbing v.known w.known; free = v.free ++ w.free; doing = Idle }
+
+  abbrev pub view_absorbed : View E
+  view_absorbed = record { known = knowing.known_absorbed; free = []; doing = Idle }
+
+  -- ---- between the steps
+  -- the party is between two calls
+  abbrev pub IsResting : SeatState E → Type 0
+  IsResting m = (m.0.doing ≡ Idle) × (m.1 ≡ []) × (m.0.known.share ≢ [])
+
+  -- the party has these rooms to hand out, and their slots in hand
+  abbrev pub IsWalking : ℕ → List (ℕ × E) → SeatState E → Type 0
+  IsWalking slots xs m = (m.0.doing ≡ walking xs) × (m.1 ≡ carry xs []) × Near slots xs × (m.0.known.share ≢ [])

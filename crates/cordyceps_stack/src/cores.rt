@@ -1,0 +1,8 @@
+//! The core as a plain value, whose steps are taken one at a time.
+
+pub(crate) mod calls;
+pub(crate) mod replay;
+pub(crate) mod replay_end;
+pub(crate) mod rooms;
+pub(crate) mod stage;
+pub(crate) mod steps;

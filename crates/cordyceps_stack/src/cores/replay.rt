@@ -1,0 +1,47 @@
+//! Whole lists of steps.
+ghost use Rattle.std.specs.Prelude.{◌≡◌, ◌≢◌, ◌↔◌, [], None, IsTrue};
+ghost use Rattle.cordyceps_stack.specs.Cores.CoreMeets.{Replayed};
+
+use crate::cores::calls::TransferCore;
+use crate::cores::replay_end::Replay;
+use crate::cores::steps::TransferStep;
+use std::alloc::Global;
+use std::collections::VecDeque;
+
+/// Takes steps, each with the number of its party, in order, and keeps the replies. A step that is refused as `NotThere`
+/// is a reply too, and the next one follows.
+///
+/// Room for a reply is made before its step. Where memory for it is refused the replay stops, and that step is the first
+/// of the rest; what was taken stays taken. Each step takes the time that it takes by itself.
+pub fn replay<E: Drop>(
+    alloc: Global,
+    mut core: TransferCore<E>,
+    mut steps: VecDeque<(usize, TransferStep<E>)>,
+) -> Replay<E>
+    ensures run { Replayed steps.items core result.core result.replies.items result.rest.items }
+    ensures back { result.back ≡ None }
+    ensures stopped { IsTrue result.stopped ↔ (result.rest.items ≢ []) }
+{
+    let mut replies = Vec::new(alloc);
+    while !steps.is_empty() {
+        let Ok(()) = replies.reserve(1) else {
+            return Replay {
+                core,
+                replies,
+                rest: steps,
+                back: None,
+                stopped: true,
+            };
+        };
+        if let Some((party, step)) = steps.pop_front() {
+            replies.push_reserved(core.step(party, step));
+        }
+    }
+    Replay {
+        core,
+        replies,
+        rest: steps,
+        back: None,
+        stopped: false,
+    }
+}

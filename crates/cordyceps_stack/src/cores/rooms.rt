@@ -1,0 +1,108 @@
+//! The rooms of a transfer core.
+ghost use Rattle.std.specs.Prelude.{◌≡◌, ◌<◌, ◌≤◌, ◌++◌, [], ◌∷◌, length, slice_get, IsSome, Some, None, OnOk, OnErr};
+ghost use Rattle.cordyceps_stack.specs.Cores.Machine.{change, holding, linking, freeing, new_room, least_free, element_in, next_in, occupied};
+
+use std::alloc::{AllocError, Global};
+use std::marker::Model;
+
+/// The place of one element. `owner` is the party whose free room it is.
+#[derive(Drop)]
+pub(crate) struct Room<E> {
+    pub(crate) owner: Option<usize>,
+    pub(crate) element: Option<E>,
+    pub(crate) next: Option<usize>,
+}
+
+/// Rooms with numbers from 0, in the order in which they were added.
+#[derive(Drop)]
+pub(crate) struct Rooms<E> {
+    list: Vec<Room<E>>,
+}
+
+impl<E> Model for Rooms<E> {
+    ghost use Rattle.std.specs.Prelude.{List};
+    ghost use Rattle.cordyceps_stack.specs.declared.cores.rooms.Room.{Room};
+
+    ghost Value = { List (Room E) };
+
+    ghost view = { λ rooms. rooms.list.items };
+}
+
+impl<E: Drop> Rooms<E> {
+    /// No rooms. It takes no memory.
+    pub(crate) fn new(alloc: Global) -> Self
+        ensures { result ≡ [] }
+    {
+        Rooms {
+            list: Vec::new(alloc),
+        }
+    }
+
+    /// Adds a free room of the party.
+    pub(crate) fn add(&mut self, party: usize) -> Result<(), AllocError>
+        ensures ok { OnOk result (self.new ≡ self.old ++ new_room party ∷ []) }
+        ensures err { OnErr result (self.new ≡ self.old) }
+    {
+        self.list.push(Room {
+            owner: Some(party),
+            element: None,
+            next: None,
+        })?;
+        Ok(())
+    }
+
+    /// The party's free room with the least number, by a walk through all rooms.
+    pub(crate) fn least_free(&self, party: usize) -> Option<usize>
+        ensures { result ≡ least_free party self.now }
+    {
+        self.list.iter().position(|room| room.owner == Some(party))
+    }
+
+    /// The room to which the room `at` leads.
+    pub(crate) fn next(&self, at: usize) -> Option<usize>
+        requires { at < length self.now }
+        ensures { result ≡ next_in (slice_get self.now at) }
+    {
+        self.list[at].next
+    }
+
+    /// Puts an element into a room, which is nobody's free one from then on.
+    pub(crate) fn hold(&mut self, at: usize, element: E)
+        requires { at < length self.old }
+        ensures { self.new ≡ change (holding element) at self.old }
+    {
+        let room = &mut self.list[at];
+        room.owner = None;
+        room.element = Some(element);
+    }
+
+    /// Makes a room lead to `next`.
+    pub(crate) fn link(&mut self, at: usize, next: Option<usize>)
+        requires { at < length self.old }
+        ensures { self.new ≡ change (linking next) at self.old }
+    {
+        self.list[at].next = next;
+    }
+
+    /// Takes the element out of a room, which is then a free one of the party.
+    pub(crate) fn free(&mut self, at: usize, party: usize) -> E
+        requires within { at < length self.old }
+        requires full { IsSome (element_in (slice_get self.old at)) }
+        ensures rooms { self.new ≡ change (freeing party) at self.old }
+        ensures element { element_in (slice_get self.old at) ≡ Some result }
+    {
+        let room = &mut self.list[at];
+        room.owner = Some(party);
+        room.element.take().unwrap()
+    }
+
+    /// How many rooms have an element, by a walk through all rooms.
+    pub(crate) fn occupied(&self) -> usize
+        ensures { result ≡ occupied self.now }
+    {
+        self.list
+            .iter()
+            .filter(|room| room.element.is_some())
+            .count()
+    }
+}

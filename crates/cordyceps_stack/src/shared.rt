@@ -1,0 +1,7 @@
+//! What threads share: the words and slots of a table, and the calls of parties on them.
+
+pub(crate) mod batch;
+pub(crate) mod calls;
+pub(crate) mod plays;
+pub(crate) mod steps;
+pub(crate) mod table;

@@ -1,0 +1,40 @@
+//! How what a party took from a shared transfer stack becomes a plain stack.
+ghost use Rattle.std.specs.Prelude.{◌≡◌, map};
+ghost use Rattle.cordyceps_stack.specs.Shared.Parts.{IsSeatOf, EmptiesHand};
+ghost use Rattle.cordyceps_stack.specs.Cores.Meets.{room_elements};
+ghost use Rattle.cordyceps_stack.specs.Shared.Plays.{IsWalking, to_hand_out};
+ghost use Rattle.cordyceps_stack.specs.Shared.Words.{start};
+
+use crate::shared::steps::walk;
+use crate::shared::table::{Filled, PartySeat, Words};
+use crate::stack::Stack;
+use cordyceps_base::linked::Linked;
+use cordyceps_base::stack::Links;
+use cordyceps_shared::tickets::Tickets;
+
+/// The elements that the party has in hand, to which `at` leads. Their tickets go to its others.
+pub(crate) fn hand_out<T: Linked<Links<T>>>(
+    words: &Words<T::Handle>,
+    seat: &mut PartySeat<T::Handle>,
+    tickets: &mut Tickets,
+    at: u64,
+) -> Stack<T>
+    requires table { IsSeatOf seat.old.table_id words.now.table_id }
+    requires batch { let batch = to_hand_out seat.old.me.0.doing in
+        IsWalking words.now.table_id.slots batch seat.old.me × (at ≡ start batch) }
+    requires tickets { tickets.old ≡ seat.old.me.0.free }
+    ensures table { seat.new.table_id ≡ seat.old.table_id }
+    ensures stack { result ≡ map T.element (room_elements (to_hand_out seat.old.me.0.doing)) }
+    ensures seat { EmptiesHand seat.old.me seat.new.me }
+    ensures tickets { tickets.new ≡ seat.new.me.0.free }
+{
+    let mut at = at;
+    let mut batch = Stack::new();
+    while at != 0 {
+        let (Filled { ticket, item }, below) = walk(words, seat, at);
+        tickets.put(ticket);
+        batch.put_last(item);
+        at = below;
+    }
+    batch
+}

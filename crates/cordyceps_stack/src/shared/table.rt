@@ -1,0 +1,57 @@
+//! What the table of a shared transfer stack holds, and what its seats know.
+ghost use Rattle.cordyceps_stack.specs.Shared.View.{View, newcomer};
+
+use atomic_table::{Seat, Shared, Table, TableRule};
+use cordyceps_shared::tickets::Ticket;
+use std::alloc::Global;
+use std::marker::{Brand, Model, PhantomData};
+
+/// What lies in the slot of a room in use.
+#[derive(Drop)]
+pub(crate) struct Filled<E> {
+    pub ticket: Ticket,
+    pub item: E,
+}
+
+/// What a seat knows. No value of it is made: a contract sees a `View`.
+pub(crate) struct SeatView<E> {
+    element: PhantomData<E>,
+}
+
+impl<E> Model for SeatView<E> {
+    ghost Value = { View E };
+
+    ghost view = { λ _. newcomer 0 };
+}
+
+/// The rule that each step keeps. Its key is the number of rooms.
+pub(crate) struct Rule;
+
+impl<E> TableRule<Option<Filled<E>>, SeatView<E>, usize> for Rule {
+    ghost use Rattle.cordyceps_stack.specs.Shared.Rule.{RuleHolds};
+
+    ghost holds = { λ _. RuleHolds };
+
+    ghost first = { newcomer };
+}
+
+/// Word 0 is `head`: 0, or 1 more than the room that was pushed last. Word `r + 1` is the link of room `r`, which leads to
+/// the room below, and slot `r` has its ticket and element.
+pub(crate) type Words<E> = Shared<Option<Filled<E>>, SeatView<E>, usize, Rule>;
+
+/// The same, with its memory.
+pub(crate) type OwnedTable<E> = Table<Option<Filled<E>>, SeatView<E>, usize, Rule, Global>;
+
+/// A party's seat.
+pub(crate) type PartySeat<E> = Seat<Option<Filled<E>>, SeatView<E>>;
+
+/// How many rooms a party gives up. Each call that splits one picks it.
+pub(crate) trait Count {
+    ghost use Rattle.std.specs.Prelude.{ℕ};
+
+    ghost rooms: { ℕ };
+}
+
+impl Count for Brand {
+    ghost rooms = { 0 };
+}
