@@ -4,7 +4,6 @@ pub(crate) mod calls;
 pub(crate) mod machine;
 pub(crate) mod replay;
 pub(crate) mod replay_end;
-pub(crate) mod room;
 pub(crate) mod rooms;
 pub(crate) mod stage;
 pub(crate) mod steps;

@@ -3,6 +3,7 @@ pub mod Counting
 pub mod Cutting
 pub mod Interleaving
 pub mod Joining
+pub mod ListWrites
 pub mod Naming
 pub mod Owning
 pub mod Renaming

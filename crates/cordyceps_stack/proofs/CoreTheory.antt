@@ -6,7 +6,6 @@ pub mod Chains
 pub mod CoreGrows
 pub mod CoreKeeps
 pub mod EachStep
-pub mod ListWrites
 pub mod Refusals
 pub mod ReplayHolds
 pub mod WalkCalls

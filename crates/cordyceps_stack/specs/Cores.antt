@@ -1,4 +1,5 @@
 -- Definitions of the core.
+pub mod Alone
 pub mod CoreMeets
 pub mod Machine
 pub mod Meets

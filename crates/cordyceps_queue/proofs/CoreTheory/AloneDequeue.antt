@@ -20,7 +20,7 @@ use Rattle.cordyceps_queue.proofs.HistoryEnds.{came-append, went-append}
 use Rattle.cordyceps_queue.proofs.CoreTheory.DequeueSteps.{free_right}
 use Rattle.cordyceps_queue.proofs.CoreTheory.HolderSteps.{keeping}
 use Rattle.cordyceps_queue.proofs.Legality.{holder_of}
-use Rattle.cordyceps_queue.proofs.CoreTheory.ListWrites.{get_set_same}
+use Rattle.cordyceps_shared.proofs.ListWrites.{slice_get-set_same}
 use Rattle.cordyceps_queue.proofs.CoreTheory.Simulation.{parties_of, me_of}
 use Rattle.cordyceps_queue.proofs.CoreTheory.CoreKeeps.{core_steps}
 use Rattle.cordyceps_queue.proofs.CoreTheory.AloneTry.{IsFinal, step_met, tries_law}
@@ -83,7 +83,7 @@ module _ {E : Type 0} where
   law_rest h m p was at (Some t) right =
       let K = step_met h m p Rest at step.Take answer.Taken (ap (λ o. (take m p o).1) right) was in
       let met : CoreMeets (h ++ Take p ∷ []) (take m p (Some t)).0 = subst (λ (n : Machine E). CoreMeets (h ++ Take p ∷ []) n) (ap (λ o. (take m p o).0) right) K.0 in
-      law_taken h (take m p (Some t)).0 p t met (get_set_same m.parties p (Holding t) Rest at)
+      law_taken h (take m p (Some t)).0 p t met (slice_get-set_same m.parties p (Holding t) Rest at)
 
   law_at : (h : List (Event ℕ E)) (m : Machine E) (p : ℕ) → CoreMeets h m → (place : Option Stage) → slice_get m.parties p ≡ place → may_dequeue place ≡ true → Law h p place (dequeued_at p m place)
   law_at h m p was (Some Rest) at may =

@@ -21,7 +21,7 @@ use Rattle.cordyceps_queue.specs.Cores.Drain.{Drained, went_on, drained, hands_b
 use Rattle.cordyceps_queue.proofs.HistoryEnds.{swaps_by-append, links_by-append}
 use Rattle.cordyceps_queue.proofs.CoreTheory.AloneDequeue.{held_take, still_blocked, no_right, holds_right}
 use Rattle.cordyceps_queue.proofs.Legality.{held_of}
-use Rattle.cordyceps_queue.proofs.CoreTheory.ListWrites.{get_set_same}
+use Rattle.cordyceps_shared.proofs.ListWrites.{slice_get-set_same}
 use Rattle.cordyceps_queue.proofs.CoreTheory.CoreKeeps.{core_steps}
 use Rattle.cordyceps_queue.proofs.CoreTheory.AloneTry.{IsFinal, step_met, tries_law}
 
@@ -146,7 +146,7 @@ module _ {E : Type 0} where
   whole_rest n h m p was at (Some t) right =
       let K = step_met h m p Rest at step.Take answer.Taken (ap (λ o. (take m p o).1) right) was in
       let met : CoreMeets (h ++ Take p ∷ []) (take m p (Some t)).0 = subst (λ (k : Machine E). CoreMeets (h ++ Take p ∷ []) k) (ap (λ o. (take m p o).0) right) K.0 in
-      whole_taken n h (take m p (Some t)).0 p t met (get_set_same m.parties p (Holding t) Rest at)
+      whole_taken n h (take m p (Some t)).0 p t met (slice_get-set_same m.parties p (Holding t) Rest at)
 
   whole_at : (n : ℕ) (h : List (Event ℕ E)) (m : Machine E) (p : ℕ) → CoreMeets h m → (place : Option Stage) → slice_get m.parties p ≡ place → may_dequeue place ≡ true → Whole h p n place (drained_at p n m place)
   whole_at n h m p was (Some Rest) at may =
@@ -196,7 +196,7 @@ module _ {E : Type 0} where
 
   right_was : (m : Machine E) (p : ℕ) (o : Option ℕ) → (take m p o).1 ≡ Ok answer.Taken → slice_get m.parties p ≡ Some Rest → (t : ℕ) × (slice_get (take m p o).0.parties p ≡ Some (Holding t))
   right_was m p None took at = let no : ⊥ = cc in absurd no
-  right_was m p (Some t) took at = (t, get_set_same m.parties p (Holding t) Rest at)
+  right_was m p (Some t) took at = (t, slice_get-set_same m.parties p (Holding t) Rest at)
 
   pub taken_first : (h : List (Event ℕ E)) (m : Machine E) (p : ℕ) → CoreMeets h m → slice_get m.parties p ≡ Some Rest → (stepped m p step.Take).1 ≡ Ok answer.Taken → Took h p (stepped m p step.Take).0
   taken_first h m p was at took =

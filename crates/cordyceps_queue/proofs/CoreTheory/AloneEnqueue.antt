@@ -8,11 +8,13 @@ use Rattle.cordyceps_queue.specs.declared.cores.stage.Stage.TheVariants.{Rest, C
 use Rattle.cordyceps_queue.specs.declared.cores.steps.QueueStep.TheVariants as step
 use Rattle.cordyceps_queue.specs.declared.cores.steps.QueueAnswer.TheVariants as answer
 use Rattle.cordyceps_queue.specs.History.{Event, Swap, Link, came, went, held}
-use Rattle.cordyceps_queue.specs.Cores.Machine.{Machine, least_free, comes_in, element_in, holding, stepped_at, stepped, clear, swap, link}
+use Rattle.cordyceps_shared.specs.Rooms.{element_in}
+use Rattle.cordyceps_queue.specs.Cores.Machine.{Machine, least_free, comes_in, holding, stepped_at, stepped, clear, swap, link}
 use Rattle.cordyceps_queue.specs.Cores.CoreMeets.{CoreMeets, core_step}
 use Rattle.cordyceps_queue.specs.Cores.Alone.{is_rest, is_ready, enqueue_steps}
 use Rattle.cordyceps_queue.proofs.HistoryEnds.{came-append, went-append}
-use Rattle.cordyceps_queue.proofs.CoreTheory.ListWrites.{get_set_same, get_change_same, get_within}
+use Rattle.cordyceps_shared.proofs.ListWrites.{slice_get-set_same, slice_get-change_same}
+use Rattle.cordyceps_queue.proofs.CoreTheory.ListWrites.{get_within}
 use Rattle.cordyceps_queue.proofs.CoreTheory.RoomsAtStages.{free_within}
 use Rattle.cordyceps_queue.proofs.CoreTheory.AloneTry.{step_met}
 
@@ -48,10 +50,10 @@ module _ {E : Type 0} where
     linked_machine = (link swapped_machine p m.head (Some r) Rest).0
 
     at_cleared : slice_get cleared_machine.parties p ≡ Some (Cleared r)
-    at_cleared = get_set_same m.parties p (Cleared r) Rest at
+    at_cleared = slice_get-set_same m.parties p (Cleared r) Rest at
 
     at_swapped : slice_get swapped_machine.parties p ≡ Some (Swapped r m.head)
-    at_swapped = get_set_same cleared_machine.parties p (Swapped r m.head) (Cleared r) at_cleared
+    at_swapped = slice_get-set_same cleared_machine.parties p (Swapped r m.head) (Cleared r) at_cleared
 
     steps_are : after core_step m (enqueue_steps p e) ≡ linked_machine
     steps_are =
@@ -62,7 +64,7 @@ module _ {E : Type 0} where
     element_there : element_in (slice_get cleared_machine.rooms r) ≡ Some e
     element_there =
         let w = get_within m.rooms r (free_within m (h, was) p r at free).1 in
-        ap element_in (get_change_same (holding e) m.rooms r w.0 w.1)
+        ap element_in (slice_get-change_same (holding e) m.rooms r w.0 w.1)
 
     met_cleared : CoreMeets h cleared_machine
     met_cleared =

@@ -10,14 +10,15 @@ use Rattle.cordyceps_queue.specs.declared.cores.steps.QueueStep.TheVariants as s
 use Rattle.cordyceps_queue.specs.declared.cores.steps.QueueAnswer.{QueueAnswer}
 use Rattle.cordyceps_queue.specs.declared.cores.steps.QueueAnswer.TheVariants as answer
 use Rattle.cordyceps_queue.specs.History.{Event, Look, Out, Empty, came, went, held, IsBlocked, WasBlocked}
-use Rattle.cordyceps_queue.specs.Cores.Machine.{Machine, Outcome, element_in, next_in, events_of, acts, stepped_at, look, read, read_again, hand_out, head_stub, head_tail}
+use Rattle.cordyceps_shared.specs.Rooms.{element_in, next_in}
+use Rattle.cordyceps_queue.specs.Cores.Machine.{Machine, Outcome, events_of, acts, stepped_at, look, read, read_again, hand_out, head_stub, head_tail}
 use Rattle.cordyceps_queue.specs.Cores.CoreMeets.{CoreMeets, IsSound, Says, AnswerSays}
 use Rattle.cordyceps_queue.specs.Cores.Alone.{next_step, found_of, goes_on, tries, try_events, Finds}
 use Rattle.cordyceps_queue.proofs.CoreTheory.Basics.{none_some, suc_zero}
 use Rattle.cordyceps_queue.specs.Past as past
 use Rattle.cordyceps_queue.proofs.Blocked.{told_blocked, past_was_blocked}
 use Rattle.cordyceps_queue.proofs.HistoryEnds.{came-append, went-append}
-use Rattle.cordyceps_queue.proofs.CoreTheory.ListWrites.{get_set_same}
+use Rattle.cordyceps_shared.proofs.ListWrites.{slice_get-set_same}
 use Rattle.cordyceps_queue.proofs.CoreTheory.CoreKeeps.{core_steps}
 use Rattle.cordyceps_queue.proofs.CoreTheory.RoomsAtStages.{holding_full, second_full, put_read_full}
 
@@ -78,7 +79,7 @@ module _ {E : Type 0} where
 
   module _ (m : Machine E) (p : ℕ) (place : Stage) (at : slice_get m.parties p ≡ Some place) where
     now : (new : Stage) → slice_get (slice_set m.parties p new) p ≡ Some new
-    now new = get_set_same m.parties p new place at
+    now new = slice_get-set_same m.parties p new place at
 
   tried_out : (m : Machine E) (p : ℕ) (place : Stage) → slice_get m.parties p ≡ Some place → so_far p place ++ events_of p m.rooms (Some place) step.ReadNext (Ok answer.Done) ≡ Look p ∷ [] →
       ((e : E) → so_far p place ++ events_of p m.rooms (Some place) step.ReadNext (Ok (answer.Out e)) ≡ Look p ∷ Out p e ∷ []) → (t r : ℕ) (o : Option E) → (e : E) × (o ≡ Some e) → Tried m p place step.ReadNext (hand_out m p t r o)

@@ -9,14 +9,15 @@ use Rattle.cordyceps_base.specs.Runs.{Ran, history_after, AllSay}
 use Rattle.cordyceps_base.proofs.Runs.{run_meets}
 use Rattle.cordyceps_queue.specs.declared.cores.stage.Stage.{Stage}
 use Rattle.cordyceps_queue.specs.declared.cores.stage.Stage.TheVariants.{Rest}
-use Rattle.cordyceps_queue.specs.declared.cores.room.Room.{Room}
+use Rattle.cordyceps_shared.specs.declared.room.Room.{Room}
 use Rattle.cordyceps_queue.specs.declared.cores.steps.QueueStep.{QueueStep}
 use Rattle.cordyceps_queue.specs.declared.cores.steps.QueueAnswer.{QueueAnswer}
 use Rattle.cordyceps_queue.specs.declared.cores.steps.QueueAnswer.TheVariants as answer
 use Rattle.cordyceps_queue.specs.History.{Event, came, went, held}
 use Rattle.cordyceps_queue.specs.Cores.StepKeeps as kept
 use Rattle.cordyceps_queue.specs.Cores.Machine as core
-use Rattle.cordyceps_queue.specs.Cores.Machine.{Machine, Answered, Outcome, free_rooms, next_in, element_in, refused, events_of, stepped_at, stepped, step_events}
+use Rattle.cordyceps_shared.specs.Rooms.{next_in, element_in}
+use Rattle.cordyceps_queue.specs.Cores.Machine.{Machine, Answered, Outcome, free_rooms, refused, events_of, stepped_at, stepped, step_events}
 use Rattle.cordyceps_queue.specs.Cores.Abstract as words
 use Rattle.cordyceps_queue.specs.Cores.Abstract.{AbstractParty, AbstractMachine, Move, update, insert_room}
 use Rattle.cordyceps_queue.specs.Cores.Meets.{Chain, IsStranger, Meets}

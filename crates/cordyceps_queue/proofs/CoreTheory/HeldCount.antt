@@ -8,16 +8,17 @@ use Rattle.cordyceps_shared.specs.Counts.{times, one_if}
 use Rattle.cordyceps_shared.proofs.Counting.{tally_append, one_here, one_else}
 use Rattle.cordyceps_queue.specs.declared.cores.stage.Stage.{Stage}
 use Rattle.cordyceps_queue.specs.declared.cores.stage.Stage.TheVariants.{Cleared}
-use Rattle.cordyceps_queue.specs.declared.cores.room.Room.{Room}
+use Rattle.cordyceps_shared.specs.declared.room.Room.{Room}
 use Rattle.cordyceps_queue.specs.History.{Event, held}
 use Rattle.cordyceps_queue.specs.Past as past
 use Rattle.cordyceps_queue.specs.Cores.CoreMeets.{CoreMeets, abstract_of, party_at}
 use Rattle.cordyceps_queue.specs.Cores.Drain.{is_cleared, occupied, count_held}
-use Rattle.cordyceps_queue.specs.Cores.Machine.{Machine, change, freeing, element_in}
+use Rattle.cordyceps_shared.specs.Rooms.{change, freeing, element_in}
+use Rattle.cordyceps_queue.specs.Cores.Machine.{Machine}
 use Rattle.cordyceps_queue.specs.Cores.Meets.{ItemAt, real, Owner, Shared, Ready}
 use Rattle.cordyceps_queue.proofs.CoreTheory.Basics.{times_once, times_at}
 use Rattle.cordyceps_queue.proofs.Legality.{held_of}
-use Rattle.cordyceps_queue.proofs.CoreTheory.ListWrites.{get_change_other}
+use Rattle.cordyceps_shared.proofs.ListWrites.{slice_get-change_other}
 
 module _ {E : Type 0} where
   abbrev is_full : Option (Room E) → Bool
@@ -41,7 +42,7 @@ module _ {E : Type 0} where
       let less = occupied_freed x rooms (full x (omega arith)) in
       let rest = full_few xs (change (freeing 0) x rooms) (λ r. omega (arith, once r)) (λ r m.
       let apart : r ≢ x = λ e. let both = ap (λ z. times z xs) e in absurd (omega (arith, once x)) in
-      ap is_full (get_change_other (freeing 0) rooms x r apart) ∙ full r (omega arith)) in
+      ap is_full (slice_get-change_other (freeing 0) rooms x r apart) ∙ full r (omega arith)) in
       omega (arith, less, rest)
 
 -- ---- the rooms that parties have cleared

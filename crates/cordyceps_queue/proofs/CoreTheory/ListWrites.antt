@@ -3,46 +3,14 @@ use Rattle.std.proofs.Common.{◌≡◌, ◌≢◌, ℕ, zero, suc, ◌-◌, ◌
 use Rattle.std.specs.Prelude.{Option, Some, None, IsSome, slice_get, slice_set, slice_index_or}
 use mathlib.Core.Path.{fun_ext}
 use native.Mathlib.Decide.{ℕ_discrete}
-use Rattle.cordyceps_queue.specs.declared.cores.room.Room.{Room}
-use Rattle.cordyceps_queue.specs.Cores.Machine.{change, stub_room, element_in}
+use Rattle.cordyceps_shared.specs.declared.room.Room.{Room}
+use Rattle.cordyceps_shared.proofs.ListWrites.{slice_get-set_same, slice_get-set_other, slice_get-change_same, slice_get-change_other, set_change}
+use Rattle.cordyceps_shared.specs.Rooms.{change, element_in}
+use Rattle.cordyceps_queue.specs.Cores.Machine.{stub_room}
 use Rattle.cordyceps_queue.specs.Cores.Abstract.{update}
 use Rattle.cordyceps_queue.proofs.CoreTheory.Basics.{none_some, put_same, put_other}
 
 module _ {X : Type 0} where
-  pub get_set_same : (xs : List X) (i : ℕ) (w y : X) → slice_get xs i ≡ Some y → slice_get (slice_set xs i w) i ≡ Some w
-  get_set_same [] i w y h = absurd (none_some h)
-  get_set_same (x ∷ xs) zero w y h = refl
-  get_set_same (x ∷ xs) (suc i) w y h = get_set_same xs i w y h
-
-  pub get_set_other : (xs : List X) (i j : ℕ) (w : X) → j ≢ i → slice_get (slice_set xs i w) j ≡ slice_get xs j
-  get_set_other [] i j w ne = refl
-  get_set_other (x ∷ xs) zero zero w ne = absurd (ne refl)
-  get_set_other (x ∷ xs) zero (suc j) w ne = refl
-  get_set_other (x ∷ xs) (suc i) zero w ne = refl
-  get_set_other (x ∷ xs) (suc i) (suc j) w ne = get_set_other xs i j w (λ e. ne (ap suc e))
-
-  pub get_change_same : (f : X → X) (xs : List X) (i : ℕ) (y : X) → slice_get xs i ≡ Some y → slice_get (change f i xs) i ≡ Some (f y)
-  get_change_same f [] i y h = absurd (none_some h)
-  get_change_same f (x ∷ xs) zero y h = let e : x ≡ y = cc in ap (λ z. Some (f z)) e
-  get_change_same f (x ∷ xs) (suc i) y h = get_change_same f xs i y h
-
-  pub get_change_other : (f : X → X) (xs : List X) (i j : ℕ) → j ≢ i → slice_get (change f i xs) j ≡ slice_get xs j
-  get_change_other f [] i j ne = refl
-  get_change_other f (x ∷ xs) zero zero ne = absurd (ne refl)
-  get_change_other f (x ∷ xs) zero (suc j) ne = refl
-  get_change_other f (x ∷ xs) (suc i) zero ne = refl
-  get_change_other f (x ∷ xs) (suc i) (suc j) ne = get_change_other f xs i j (λ e. ne (ap suc e))
-
-  pub length-change : (f : X → X) (i : ℕ) (xs : List X) → length (change f i xs) ≡ length xs
-  length-change f i [] = refl
-  length-change f zero (x ∷ xs) = refl
-  length-change f (suc i) (x ∷ xs) = ap suc (length-change f i xs)
-
-  set_change : (f : X → X) (xs : List X) (i : ℕ) (y : X) → slice_get xs i ≡ Some y → slice_set xs i (f y) ≡ change f i xs
-  set_change f [] i y h = absurd (none_some h)
-  set_change f (x ∷ xs) zero y h = let e : x ≡ y = cc in ap (λ z. f z ∷ xs) (sym e)
-  set_change f (x ∷ xs) (suc i) y h = ap (λ zs. x ∷ zs) (set_change f xs i y h)
-
   pub get_within : (xs : List X) (i : ℕ) → i < length xs → (x : X) × (slice_get xs i ≡ Some x)
   get_within [] i lt = absurd (omega arith)
   get_within (x ∷ xs) zero lt = (x, refl)
@@ -72,8 +40,8 @@ module _ {X : Type 0} where
   -- a place that a write leaves without an item had none
   pub none_before : (xs : List X) (i j : ℕ) (w y : X) → slice_get xs i ≡ Some y → slice_get (slice_set xs i w) j ≡ None → (j ≢ i) × (slice_get xs j ≡ None)
   none_before xs i j w y h n = elim (ℕ_discrete j i) [
-    | yes same ↦ absurd (none_some (sym n ∙ ap (slice_get (slice_set xs i w)) same ∙ get_set_same xs i w y h))
-    | no ne ↦ (ne, sym (get_set_other xs i j w ne) ∙ n)
+    | yes same ↦ absurd (none_some (sym n ∙ ap (slice_get (slice_set xs i w)) same ∙ slice_get-set_same xs i w y h))
+    | no ne ↦ (ne, sym (slice_get-set_other xs i j w ne) ∙ n)
   ]
 
 -- what a list says at each place
@@ -85,8 +53,8 @@ module _ {X A : Type 0} (get : Option X → A) where
   pub read_changed : (f : X → X) (xs : List X) (r : ℕ) (y : X) → slice_get xs r ≡ Some y → read get (change f r xs) ≡ update (read get xs) r (get (Some (f y)))
   read_changed f xs r y h = fun_ext (λ j. elim (ℕ_discrete j r) [
     | yes same ↦ subst (λ i. read get (change f r xs) i ≡ update (read get xs) r (get (Some (f y))) i) (sym same)
-        (ap get (get_change_same f xs r y h) ∙ sym (put_same (read get xs) r (get (Some (f y)))))
-    | no ne ↦ ap get (get_change_other f xs r j ne) ∙ sym (put_other (read get xs) r (get (Some (f y))) j ne)
+        (ap get (slice_get-change_same f xs r y h) ∙ sym (put_same (read get xs) r (get (Some (f y)))))
+    | no ne ↦ ap get (slice_get-change_other f xs r j ne) ∙ sym (put_other (read get xs) r (get (Some (f y))) j ne)
   ])
 
   -- the same where nothing of it changed

@@ -6,7 +6,8 @@ use Rattle.cordyceps_queue.specs.declared.cores.stage.Stage.{Stage}
 use Rattle.cordyceps_queue.specs.declared.cores.stage.Stage.TheVariants.{Rest, Cleared, Swapped, Holding, StubNull, Second, Null, PutClear, PutSwap, PutLink, PutRead}
 use Rattle.cordyceps_queue.specs.declared.cores.steps.QueueStep.{QueueStep}
 use Rattle.cordyceps_queue.specs.declared.cores.steps.QueueStep.TheVariants as step
-use Rattle.cordyceps_queue.specs.Cores.Machine.{Machine, Outcome, step_element, element_in, next_in, least_free, clear, take, hand_out, read_stub, read, read_again, look, head_stub, head_tail, may_take_at, is_there, stepped_at, stepped}
+use Rattle.cordyceps_shared.specs.Rooms.{element_in, next_in}
+use Rattle.cordyceps_queue.specs.Cores.Machine.{Machine, Outcome, step_element, least_free, clear, take, hand_out, read_stub, read, read_again, look, head_stub, head_tail, may_take_at, is_there, stepped_at, stepped}
 use Rattle.cordyceps_queue.specs.Cores.CoreMeets.{IsSound}
 use Rattle.cordyceps_queue.proofs.CoreTheory.Basics.{none_some, suc_zero}
 use Rattle.cordyceps_queue.proofs.CoreTheory.RoomsAtStages.{holding_full, second_full, put_read_full}

@@ -4,7 +4,8 @@ use Rattle.std.specs.Prelude.{Some, slice_get}
 use Rattle.std.proofs.lemmas.Bool.{cases_lt}
 use Rattle.cordyceps_queue.specs.declared.cores.stage.Stage.{Stage}
 use Rattle.cordyceps_queue.specs.declared.cores.stage.Stage.TheVariants.{Rest, Swapped, Holding, Second, PutLink, PutRead}
-use Rattle.cordyceps_queue.specs.Cores.Machine.{Machine, first_of, least_free, free_rooms, element_in}
+use Rattle.cordyceps_shared.specs.Rooms.{element_in}
+use Rattle.cordyceps_queue.specs.Cores.Machine.{Machine, first_of, least_free, free_rooms}
 use Rattle.cordyceps_queue.specs.Cores.Meets.{ItemAt, tail_of, Shared, Spare, Unmade}
 use Rattle.cordyceps_queue.specs.Cores.CoreMeets.{party_at, abstract_of, IsSound}
 use Rattle.cordyceps_queue.proofs.CoreTheory.Basics.{none_some}

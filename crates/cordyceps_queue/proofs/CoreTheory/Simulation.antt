@@ -7,13 +7,14 @@ use mathlib.Core.Path.{fun_ext}
 use native.Mathlib.Decide.{ℕ_discrete}
 use Rattle.cordyceps_queue.specs.declared.cores.stage.Stage.{Stage}
 use Rattle.cordyceps_queue.specs.declared.cores.stage.Stage.TheVariants.{Rest, Cleared, Swapped, Holding, StubNull, Second, Null, PutClear, PutSwap, PutLink, PutRead}
-use Rattle.cordyceps_queue.specs.declared.cores.room.Room.{Room}
+use Rattle.cordyceps_shared.specs.declared.room.Room.{Room}
 use Rattle.cordyceps_queue.specs.declared.cores.steps.QueueStep.{QueueStep}
 use Rattle.cordyceps_queue.specs.declared.cores.steps.QueueStep.TheVariants as step
 use Rattle.cordyceps_queue.specs.declared.cores.steps.QueueAnswer.TheVariants as answer
 use Rattle.cordyceps_queue.specs.History.{Event}
 use Rattle.cordyceps_queue.specs.Cores.Machine as core
-use Rattle.cordyceps_queue.specs.Cores.Machine.{Machine, Outcome, change, holding, linking, freeing, next_in, element_in, is_free_for, free_rooms, refused, events_of}
+use Rattle.cordyceps_shared.specs.Rooms.{change, linking, freeing, next_in, element_in, is_free_for}
+use Rattle.cordyceps_queue.specs.Cores.Machine.{Machine, Outcome, holding, free_rooms, refused, events_of}
 use Rattle.cordyceps_queue.specs.Cores.Abstract as words
 use Rattle.cordyceps_queue.specs.Cores.Abstract.{AbstractParty, AbstractMachine, Move, update, insert_room}
 use Rattle.cordyceps_queue.specs.Cores.Meets.{ItemAt, tail_of, Shared, Unmade, Chain, AtStage, Meets}
@@ -22,7 +23,8 @@ use Rattle.cordyceps_queue.proofs.CoreTheory.Basics.{some_inj, none_some, put_sa
 use Rattle.cordyceps_queue.proofs.CoreTheory.ProducerSteps.{spare_shared, shared_unmade}
 use Rattle.cordyceps_queue.proofs.CoreTheory.HolderSteps.{keeping}
 use Rattle.cordyceps_queue.proofs.CoreTheory.FreeRooms.{free_same, free_first, free_has, free_more}
-use Rattle.cordyceps_queue.proofs.CoreTheory.ListWrites.{get_set_same, get_set_other, get_within, none_before, length-change, read, read_changed, read_same}
+use Rattle.cordyceps_shared.proofs.ListWrites.{slice_get-set_same, slice_get-set_other, length-change}
+use Rattle.cordyceps_queue.proofs.CoreTheory.ListWrites.{get_within, none_before, read, read_changed, read_same}
 
 option_same : (x y : Option ℕ) → option_eq nat_eq x y ≡ true → x ≡ y
 option_same None None e = refl
@@ -54,8 +56,8 @@ module _ {E : Type 0} where
       ((k : ℕ) → k ≢ p → free_rooms k rooms' ≡ free_rooms k rooms) → parties_of rooms' (slice_set parties p new) ≡ update (parties_of rooms parties) p (Some (record { name = p; place = new; spare = free }))
   parties_put rooms rooms' parties p old new free at mine others = fun_ext (λ j. elim (ℕ_discrete j p) [
     | yes same ↦ subst (λ i. parties_of rooms' (slice_set parties p new) i ≡ update (parties_of rooms parties) p now i) (sym same)
-        (ap (party_at rooms' p) (get_set_same parties p new old at) ∙ ap (λ free. Some (record { name = p; place = new; spare = free })) mine ∙ sym (put_same (parties_of rooms parties) p now))
-    | no ne ↦ ap (party_at rooms' j) (get_set_other parties p j new ne) ∙ party_same rooms rooms' j (slice_get parties j) (others j ne) ∙ sym (put_other (parties_of rooms parties) p now j ne)
+        (ap (party_at rooms' p) (slice_get-set_same parties p new old at) ∙ ap (λ free. Some (record { name = p; place = new; spare = free })) mine ∙ sym (put_same (parties_of rooms parties) p now))
+    | no ne ↦ ap (party_at rooms' j) (slice_get-set_other parties p j new ne) ∙ party_same rooms rooms' j (slice_get parties j) (others j ne) ∙ sym (put_other (parties_of rooms parties) p now j ne)
   ])
     where
       now : Option (AbstractParty ℕ)

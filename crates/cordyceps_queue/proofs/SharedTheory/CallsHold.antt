@@ -7,7 +7,7 @@ use Rattle.cordyceps_shared.specs.Histories.{plain, AllOwn}
 use Rattle.cordyceps_shared.specs.Shares.{Name, whole, first_name}
 use Rattle.cordyceps_shared.proofs.Adding.{whole_adds, plain_own}
 use Rattle.cordyceps_shared.proofs.Telling.{grown_then}
-use Rattle.cordyceps_queue.specs.declared.shared.table.Filled.{Filled}
+use Rattle.cordyceps_shared.specs.declared.slots.Filled.{Filled}
 use Rattle.cordyceps_queue.specs.declared.shared.table.Tried.TheVariants as tried
 use Rattle.cordyceps_queue.specs.declared.cores.steps.TryDequeueError.TheVariants as error
 use Rattle.cordyceps_queue.specs.Shared.Parts.{standing, IsSeated, Dequeued}

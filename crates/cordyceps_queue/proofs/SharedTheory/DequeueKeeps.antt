@@ -14,7 +14,7 @@ use Rattle.cordyceps_shared.specs.Shares.{Name}
 use Rattle.cordyceps_shared.proofs.Seeing.{events_more, plain_marked}
 use Rattle.cordyceps_queue.specs.declared.cores.stage.Stage.{Stage}
 use Rattle.cordyceps_queue.specs.declared.cores.stage.Stage.TheVariants.{Cleared, Holding, Null}
-use Rattle.cordyceps_queue.specs.declared.shared.table.Filled.{Filled}
+use Rattle.cordyceps_shared.specs.declared.slots.Filled.{Filled}
 use Rattle.cordyceps_queue.specs.History.{Event}
 use Rattle.cordyceps_queue.specs.Cores.Meets.{ItemAt, Spare, Shared, OwnsRooms, Chain, Owes, tail_of, AtStage, Meets}
 use Rattle.cordyceps_queue.specs.Past.{HasLooked, WasBlocked}

@@ -10,7 +10,7 @@ use Rattle.cordyceps_shared.specs.Shares.{Name, first_name}
 use Rattle.cordyceps_shared.proofs.Telling.{at_length, grown_then}
 use Rattle.cordyceps_queue.specs.declared.cores.stage.Stage.{Stage}
 use Rattle.cordyceps_queue.specs.declared.cores.stage.Stage.TheVariants.{Rest, Cleared, Swapped}
-use Rattle.cordyceps_queue.specs.declared.shared.table.Filled.{Filled}
+use Rattle.cordyceps_shared.specs.declared.slots.Filled.{Filled}
 use Rattle.cordyceps_queue.specs.History.{Event}
 use Rattle.cordyceps_queue.specs.Cores.Meets.{ItemAt, Owner, Spare, OwnsRooms, AtStage}
 use Rattle.cordyceps_queue.specs.Shared.Plays.{SeatState, LegalReversed, Sees}

@@ -9,7 +9,7 @@ use Rattle.atomic_table.specs.Table as table
 use Rattle.atomic_table.proofs.Lists.{at_set, set_here, set_else}
 use Rattle.cordyceps_shared.specs.Histories.{events}
 use Rattle.cordyceps_shared.proofs.Telling.{at_length, owned_same, fits_same}
-use Rattle.cordyceps_queue.specs.declared.shared.table.Filled.{Filled}
+use Rattle.cordyceps_shared.specs.declared.slots.Filled.{Filled}
 use Rattle.cordyceps_queue.specs.Cores.Meets.{ItemAt, Spare, Meets}
 use Rattle.cordyceps_queue.specs.Shared.Plays.{SeatState, Near, carry}
 use Rattle.cordyceps_queue.specs.Shared.Rule.{TableState, Homes, link_of, party, machine_of, EmptyAtHome, RuleHolds}

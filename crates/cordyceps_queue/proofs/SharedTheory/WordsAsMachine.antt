@@ -13,7 +13,7 @@ use Rattle.cordyceps_shared.specs.Shares.{Name}
 use Rattle.cordyceps_shared.proofs.Seeing.{events_more}
 use Rattle.cordyceps_shared.proofs.Telling.{at_length, tells}
 use Rattle.cordyceps_queue.specs.declared.cores.stage.Stage.TheVariants.{Cleared}
-use Rattle.cordyceps_queue.specs.declared.shared.table.Filled.{Filled}
+use Rattle.cordyceps_shared.specs.declared.slots.Filled.{Filled}
 use Rattle.cordyceps_queue.specs.History.{Event}
 use Rattle.cordyceps_queue.specs.Cores.Meets.{ItemAt, Spare, Ready, Chain, AtStage, OwnsRooms, Meets}
 use Rattle.cordyceps_queue.specs.Shared.Plays.{LegalReversed, Sees}

@@ -5,12 +5,13 @@ use native.Mathlib.Decide.{ℕ_discrete}
 use Rattle.cordyceps_base.specs.Runs.{Ran, history_after, AllSay}
 use Rattle.cordyceps_queue.specs.declared.cores.stage.Stage.{Stage}
 use Rattle.cordyceps_queue.specs.declared.cores.stage.Stage.TheVariants.{Rest}
-use Rattle.cordyceps_queue.specs.declared.cores.room.Room.{Room}
+use Rattle.cordyceps_shared.specs.declared.room.Room.{Room}
 use Rattle.cordyceps_queue.specs.declared.cores.steps.QueueStep.{QueueStep}
 use Rattle.cordyceps_queue.specs.declared.cores.steps.QueueAnswer.{QueueAnswer}
 use Rattle.cordyceps_queue.specs.declared.cores.steps.QueueAnswer.TheVariants as answer
 use Rattle.cordyceps_queue.specs.History.{Event, came, went, held, holder, IsLegal, WasBlocked}
-use Rattle.cordyceps_queue.specs.Cores.Machine.{Machine, Answered, free_rooms, next_in, element_in, stub_room, stepped, step_events}
+use Rattle.cordyceps_shared.specs.Rooms.{next_in, element_in}
+use Rattle.cordyceps_queue.specs.Cores.Machine.{Machine, Answered, free_rooms, stub_room, stepped, step_events}
 use Rattle.cordyceps_queue.specs.Cores.Meets.{Chain, Meets}
 use Rattle.cordyceps_queue.specs.Cores.Abstract.{AbstractParty, AbstractMachine}
 

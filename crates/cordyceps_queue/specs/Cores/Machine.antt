@@ -9,7 +9,8 @@ use Rattle.cordyceps_queue.specs.declared.cores.steps.QueueStep.{QueueStep}
 use Rattle.cordyceps_queue.specs.declared.cores.steps.QueueStep.TheVariants as step
 use Rattle.cordyceps_queue.specs.declared.cores.steps.QueueAnswer.{QueueAnswer}
 use Rattle.cordyceps_queue.specs.declared.cores.steps.QueueAnswer.TheVariants as answer
-use Rattle.cordyceps_queue.specs.declared.cores.room.Room.{Room}
+use Rattle.cordyceps_shared.specs.declared.room.Room.{Room}
+use Rattle.cordyceps_shared.specs.Rooms.{change, linking, freeing, is_free_for, element_in, next_in}
 use Rattle.cordyceps_queue.specs.History.{Event}
 
 -- the words, the rooms with the stub's as room 0, and the place of each party by its number; the right is the tail, or
@@ -19,12 +20,6 @@ pub record Machine (E : Type 0) : Type 0 where
   pub right : Option ℕ
   pub rooms : List (Room E)
   pub parties : List Stage
-
--- the list with f of its i-th element in that element's place
-abbrev pub change : {X : Type 0} → (X → X) → ℕ → List X → List X
-change f i [] = []
-change f zero (x ∷ xs) = f x ∷ xs
-change f (suc i) (x ∷ xs) = x ∷ change f i xs
 
 abbrev pub Answered : Type 0 → Type 0
 Answered E = Result (QueueAnswer E) (StepError × Option E)
@@ -42,26 +37,9 @@ module _ {E : Type 0} where
   abbrev pub stub_room : Option ℕ → Room E
   stub_room next = record { owner = None; element = None; next = next }
 
-  -- a room that got an element, one that got a link, and one that is p's free room again
+  -- a room that got an element
   abbrev pub holding : E → Room E → Room E
   holding e room = record { owner = None; element = Some e; next = None }
-
-  abbrev pub linking : Option ℕ → Room E → Room E
-  linking next room = record { owner = room.owner; element = room.element; next = next }
-
-  abbrev pub freeing : ℕ → Room E → Room E
-  freeing p room = record { owner = Some p; element = None; next = room.next }
-
-  abbrev pub element_in : Option (Room E) → Option E
-  element_in None = None
-  element_in (Some room) = room.element
-
-  abbrev pub next_in : Option (Room E) → Option ℕ
-  next_in None = None
-  next_in (Some room) = room.next
-
-  abbrev pub is_free_for : ℕ → Room E → Bool
-  is_free_for p room = option_eq nat_eq room.owner (Some p)
 
   -- the numbers of p's free rooms, where the first room has the number i
   abbrev pub free_from : ℕ → ℕ → List (Room E) → List ℕ

@@ -9,7 +9,7 @@ use Rattle.cordyceps_shared.specs.Histories.{events}
 use Rattle.cordyceps_shared.specs.Knowing.{SharesApart, AllAgree}
 use Rattle.cordyceps_shared.specs.Shares.{Name}
 use Rattle.cordyceps_queue.specs.declared.cores.stage.Stage.TheVariants.{Cleared}
-use Rattle.cordyceps_queue.specs.declared.shared.table.Filled.{Filled}
+use Rattle.cordyceps_shared.specs.declared.slots.Filled.{Filled}
 use Rattle.cordyceps_queue.specs.History.{Event}
 use Rattle.cordyceps_queue.specs.Cores.Meets.{ItemAt, Chain, Meets}
 use Rattle.cordyceps_queue.specs.Shared.View.{View, knows, name}

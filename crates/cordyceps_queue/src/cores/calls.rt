@@ -8,7 +8,7 @@ ghost use Rattle.cordyceps_queue.specs.Cores.Machine.{stepped, is_there, step_el
 ghost use Rattle.cordyceps_queue.specs.Cores.CoreMeets.{CoreMeets, AnswerSays, core_step, new_machine, with_party, with_room};
 
 use crate::cores::machine::Machine;
-use crate::cores::steps::{QueueAnswer, QueueStep, TryDequeueError};
+use crate::cores::steps::{Answered, QueueStep, TryDequeueError};
 use crate::cores::tries::{batch_or, found};
 use cordyceps_base::shared::StepError;
 use std::alloc::Global;
@@ -34,9 +34,6 @@ impl<E> Model for QueueCore<E> {
 
     ghost invariant = { λ c. IsSound c.machine };
 }
-
-/// What a step answers. `Err` hands the step's element back.
-type Answered<E> = Result<QueueAnswer<E>, (StepError, Option<E>)>;
 
 impl<E: Drop> QueueCore<E> {
     /// A core with no party, which holds nothing. It takes no memory, and keeps `alloc` for what is added later.

@@ -1,12 +1,13 @@
 //! The machine of a core: its words, its rooms and the places of its parties.
 ghost use Rattle.std.specs.Prelude.{◌≡◌, ◌≢◌, ◌<◌, ◌++◌, ◌∷◌, [], length, Some, None, IsSome, IfOk, OnOk, OnErr, slice_get, nat_eq, is_some};
-ghost use Rattle.cordyceps_queue.specs.Cores.Machine.{stepped, acts, least_free, element_in, next_in, stands, clear, swap, link, take, give, hand_out, look, read, read_again, read_stub, head_stub, head_tail};
+ghost use Rattle.cordyceps_shared.specs.Rooms.{element_in, next_in};
+ghost use Rattle.cordyceps_queue.specs.Cores.Machine.{stepped, acts, least_free, stands, clear, swap, link, take, give, hand_out, look, read, read_again, read_stub, head_stub, head_tail};
 ghost use Rattle.cordyceps_queue.specs.Cores.CoreMeets.{IsSound, new_machine, with_party, with_room};
 ghost use Rattle.cordyceps_queue.specs.Cores.Drain.{count_held};
 
 use crate::cores::rooms::Rooms;
 use crate::cores::stage::Stage;
-use crate::cores::steps::{QueueAnswer, QueueStep};
+use crate::cores::steps::{Answered, QueueAnswer, QueueStep};
 use cordyceps_base::shared::StepError;
 use std::alloc::{AllocError, Global};
 use std::marker::Model;
@@ -27,8 +28,6 @@ impl<E> Model for Machine<E> {
 
     ghost view = { λ m. record { head = m.head; right = m.right; rooms = m.rooms; parties = m.parties.items } };
 }
-
-type Answered<E> = Result<QueueAnswer<E>, (StepError, Option<E>)>;
 
 impl<E: Drop> Machine<E> {
     pub(crate) fn new(alloc: Global) -> Self

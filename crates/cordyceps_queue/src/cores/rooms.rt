@@ -2,9 +2,10 @@
 ghost use Rattle.std.specs.Prelude.{◌≡◌, ◌<◌, ◌++◌, [], ◌∷◌, length, slice_get, is_some, IsSome, IfSome, Some, None, OnOk, OnErr};
 ghost use Rattle.std.specs.List.{position};
 ghost use Rattle.cordyceps_queue.specs.Cores.Drain.{occupied};
-ghost use Rattle.cordyceps_queue.specs.Cores.Machine.{change, holding, linking, freeing, stub_room, is_free_for, least_free, element_in, next_in};
+ghost use Rattle.cordyceps_shared.specs.Rooms.{change, linking, freeing, is_free_for, element_in, next_in};
+ghost use Rattle.cordyceps_queue.specs.Cores.Machine.{holding, stub_room, least_free};
 
-use crate::cores::room::Room;
+use cordyceps_shared::room::Room;
 use std::alloc::{AllocError, Global};
 use std::marker::Model;
 
@@ -17,7 +18,7 @@ pub(crate) struct Rooms<E> {
 
 impl<E> Model for Rooms<E> {
     ghost use Rattle.std.specs.Prelude.{List, ◌∷◌};
-    ghost use Rattle.cordyceps_queue.specs.declared.cores.room.Room.{Room};
+    ghost use Rattle.cordyceps_shared.specs.declared.room.Room.{Room};
     ghost use Rattle.cordyceps_queue.specs.Cores.Machine.{stub_room};
 
     ghost Value = { List (Room E) };

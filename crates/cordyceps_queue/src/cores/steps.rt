@@ -2,6 +2,8 @@
 ghost use Rattle.std.specs.Prelude.{◌≡◌};
 ghost use Rattle.cordyceps_queue.specs.Cores.Machine.{step_element};
 
+use cordyceps_base::shared::StepError;
+
 /// Why nothing was dequeued.
 #[derive(Clone, Copy, Debug, PartialEq, Eq)]
 pub enum TryDequeueError {
@@ -60,3 +62,6 @@ pub enum QueueAnswer<E> {
     /// The oldest element or the one behind it is not linked yet.
     Inconsistent,
 }
+
+/// What a step answers. `Err` hands the step's element back.
+pub(crate) type Answered<E> = Result<QueueAnswer<E>, (StepError, Option<E>)>;

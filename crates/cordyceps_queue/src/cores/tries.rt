@@ -7,10 +7,7 @@ ghost use Rattle.cordyceps_queue.specs.History.{Event, held};
 
 use crate::cores::machine::Machine;
 use crate::cores::stage::Stage;
-use crate::cores::steps::{QueueAnswer, QueueStep, TryDequeueError};
-use cordyceps_base::shared::StepError;
-
-type Answered<E> = Result<QueueAnswer<E>, (StepError, Option<E>)>;
+use crate::cores::steps::{Answered, QueueAnswer, QueueStep, TryDequeueError};
 
 /// The step of a try to dequeue at this place.
 fn next_step<E>(place: Option<Stage>) -> QueueStep<E>

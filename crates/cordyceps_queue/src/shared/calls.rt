@@ -9,12 +9,13 @@ ghost use Rattle.cordyceps_queue.specs.Shared.View.{down_from};
 
 use crate::cores::steps::TryDequeueError;
 use crate::shared::batch::Batch;
-use crate::shared::table::{Filled, OwnedTable, PartySeat, Tried};
+use crate::shared::table::{OwnedTable, PartySeat, Tried};
 use crate::shared::vault::Vault;
 use crate::shared::{parting, steps, tries};
 use cordyceps_base::linked::Linked;
 use cordyceps_base::mpsc_queue::Links;
 use cordyceps_base::node::Refused;
+use cordyceps_shared::slots::Filled;
 use cordyceps_shared::tickets::Tickets;
 use std::alloc::{AllocError, AllocFailed, Global};
 use std::marker::Model;

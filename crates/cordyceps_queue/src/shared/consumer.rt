@@ -10,10 +10,11 @@ ghost use Rattle.cordyceps_queue.specs.Shared.Calls.{Consumes, TakesRight, Finds
 use crate::cores::steps::TryDequeueError;
 use crate::shared::batch::Batch;
 use crate::shared::calls::{MpscQueue, Party};
-use crate::shared::table::{Filled, PartySeat, Tried, Words};
+use crate::shared::table::{PartySeat, Tried, Words};
 use crate::shared::{steps, tries};
 use cordyceps_base::linked::Linked;
 use cordyceps_base::mpsc_queue::Links;
+use cordyceps_shared::slots::Filled;
 use cordyceps_shared::tickets::Tickets;
 use std::marker::Model;
 

@@ -9,8 +9,9 @@ ghost use Rattle.cordyceps_queue.specs.Shared.Rule.{IsTable};
 ghost use Rattle.cordyceps_queue.specs.Shared.View.{newcomer};
 
 use crate::shared::plays::{Cut, Learn, Merge};
-use crate::shared::table::{Count, OwnedTable, PartySeat, Words};
+use crate::shared::table::{OwnedTable, PartySeat, Words};
 use atomic_table::Table;
+use cordyceps_shared::slots::Count;
 use std::alloc::{AllocError, Global};
 use std::marker::Brand;
 

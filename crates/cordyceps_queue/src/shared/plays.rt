@@ -2,8 +2,9 @@
 ghost use Rattle.cordyceps_queue.specs.Shared.Plays.{cleared, swapped, linked, took, looked, looked_stub, read, headed, headed_stub, cleared_stub, swapped_stub, linked_stub, gave, reread};
 ghost use Rattle.cordyceps_queue.specs.Shared.Parting.{learned, view_keeping, view_giving, view_absorbing, view_absorbed};
 
-use crate::shared::table::{Chosen, Count, Filled, SeatView};
+use crate::shared::table::{Chosen, SeatView};
 use atomic_table::{Join, Play, Split};
+use cordyceps_shared::slots::{Count, Filled};
 use std::marker::PhantomData;
 
 pub(crate) struct Clear<B> {

@@ -8,7 +8,8 @@ ghost use Rattle.cordyceps_queue.specs.Shared.View.{name};
 ghost use Rattle.cordyceps_queue.specs.declared.cores.stage.Stage.TheVariants.{Cleared, Swapped, Rest, Holding, Null, PutRead};
 
 use crate::shared::plays::{Clear, Give, Link, Look, Reread, Swap, Take};
-use crate::shared::table::{Chosen, Filled, PartySeat, Words};
+use crate::shared::table::{Chosen, PartySeat, Words};
+use cordyceps_shared::slots::Filled;
 use cordyceps_shared::tickets::Ticket;
 use std::marker::Brand;
 

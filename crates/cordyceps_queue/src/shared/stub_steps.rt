@@ -7,7 +7,8 @@ ghost use Rattle.cordyceps_queue.specs.Shared.View.{name};
 ghost use Rattle.cordyceps_queue.specs.declared.cores.stage.Stage.TheVariants.{Holding, StubNull, Second, Null, PutClear, PutSwap, PutLink, PutRead};
 
 use crate::shared::plays::{ClearStub, Head, HeadStub, LinkStub, LookStub, Read, SwapStub};
-use crate::shared::table::{Filled, PartySeat, Words};
+use crate::shared::table::{PartySeat, Words};
+use cordyceps_shared::slots::Filled;
 
 /// Reads the stub's link, where the stub is the tail.
 pub(crate) fn look_first<E: Drop>(words: &Words<E>, seat: &mut PartySeat<E>) -> u64

@@ -2,16 +2,9 @@
 ghost use Rattle.cordyceps_queue.specs.Shared.View.{View, newcomer};
 
 use atomic_table::{Seat, Shared, Table, TableRule};
-use cordyceps_shared::tickets::Ticket;
+use cordyceps_shared::slots::Filled;
 use std::alloc::Global;
 use std::marker::{Brand, Model, PhantomData};
-
-/// What lies in the slot of a room in use.
-#[derive(Drop)]
-pub(crate) struct Filled<E> {
-    pub ticket: Ticket,
-    pub item: E,
-}
 
 /// What a seat knows. No value of it is made: a contract sees a `View`.
 pub(crate) struct SeatView<E> {
@@ -57,17 +50,6 @@ impl<E> Chosen<E> for Brand {
     ghost use Rattle.std.specs.Prelude.{None};
 
     ghost item = { None };
-}
-
-/// How many rooms a party gives up. Each call that splits one picks it.
-pub(crate) trait Count {
-    ghost use Rattle.std.specs.Prelude.{ℕ};
-
-    ghost rooms: { ℕ };
-}
-
-impl Count for Brand {
-    ghost rooms = { 0 };
 }
 
 /// What a try to dequeue came to.

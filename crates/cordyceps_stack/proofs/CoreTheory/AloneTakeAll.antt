@@ -8,12 +8,14 @@ use Rattle.cordyceps_base.proofs.Runs.{after-push}
 use Rattle.cordyceps_stack.specs.declared.cores.steps.TransferStep.TheVariants as step
 use Rattle.cordyceps_stack.specs.declared.cores.stage.Stage.{Stage}
 use Rattle.cordyceps_stack.specs.declared.cores.stage.Stage.TheVariants.{Rest, Walking}
-use Rattle.cordyceps_stack.specs.declared.cores.rooms.Room.{Room}
+use Rattle.cordyceps_shared.specs.declared.room.Room.{Room}
 use Rattle.cordyceps_stack.specs.History.{Event, Taken, held}
-use Rattle.cordyceps_stack.specs.Cores.Machine.{stepped, Machine, change, freeing, stage_after_walk, element_in, next_in, occupied, elements_from, held_in}
+use Rattle.cordyceps_shared.specs.Rooms.{change, freeing, element_in, next_in}
+use Rattle.cordyceps_stack.specs.Cores.Machine.{stepped, Machine, stage_after_walk, occupied, elements_from, held_in}
 use Rattle.cordyceps_stack.specs.Cores.Meets.{room_in_use, NotAmong, LeadsThrough, room_elements}
-use Rattle.cordyceps_stack.specs.Cores.CoreMeets.{core_step, take_steps, CoreMeets, IsSound}
-use Rattle.cordyceps_stack.proofs.CoreTheory.ListWrites.{slice_get-set_same, set_as_it_was}
+use Rattle.cordyceps_stack.specs.Cores.CoreMeets.{core_step, CoreMeets, IsSound}
+use Rattle.cordyceps_stack.specs.Cores.Alone.{take_steps}
+use Rattle.cordyceps_shared.proofs.ListWrites.{slice_get-set_same, set_as_it_was}
 use Rattle.cordyceps_stack.proofs.CoreTheory.Chains.{or_to, all_to, LeadsThrough-passed, LeadsThrough-change, LeadsThrough-none}
 use Rattle.cordyceps_stack.proofs.CoreTheory.EachStep.{keeps_take, keeps_nothing, keeps_walk}
 use Rattle.cordyceps_stack.proofs.CoreTheory.AnyStep.{none_held, first_of_rest}

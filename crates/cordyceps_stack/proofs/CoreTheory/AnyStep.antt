@@ -11,9 +11,10 @@ use Rattle.cordyceps_stack.specs.declared.cores.steps.TransferStep.TheVariants a
 use Rattle.cordyceps_stack.specs.declared.cores.stage.Attempt.{Attempt}
 use Rattle.cordyceps_stack.specs.declared.cores.stage.Stage.{Stage}
 use Rattle.cordyceps_stack.specs.declared.cores.stage.Stage.TheVariants.{Rest, Loaded, Set, Walking}
-use Rattle.cordyceps_stack.specs.declared.cores.rooms.Room.{Room}
+use Rattle.cordyceps_shared.specs.declared.room.Room.{Room}
 use Rattle.cordyceps_stack.specs.History.{Event, held}
-use Rattle.cordyceps_stack.specs.Cores.Machine.{Machine, Outcome, element_in, next_in, is_free_for, least_free, load, exchange, take, walk, stepped_at, stepped, in_hand_at, answered_events}
+use Rattle.cordyceps_shared.specs.Rooms.{element_in, next_in, is_free_for}
+use Rattle.cordyceps_stack.specs.Cores.Machine.{Machine, Outcome, least_free, load, exchange, take, walk, stepped_at, stepped, in_hand_at, answered_events}
 use Rattle.cordyceps_stack.specs.Cores.Meets.{room_in_use, LeadsThrough, Meets, AnswerSays}
 use Rattle.cordyceps_stack.proofs.CoreTheory.Chains.{LeadsThrough-none, LeadsThrough-some}
 use Rattle.cordyceps_stack.proofs.CoreTheory.EachStep.{Apart, keeps_load, keeps_set_next, keeps_push, keeps_fail, keeps_take, keeps_nothing, keeps_walk}

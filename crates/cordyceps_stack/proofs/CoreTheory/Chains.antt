@@ -1,10 +1,10 @@
 -- LeadsThrough rooms that a step leaves alone.
 use Rattle.std.proofs.Common.{◌≡◌, ◌≢◌, ℕ, List, [], ◌∷◌, refl, ap, sym, ◌∙◌, cond}
 use Rattle.std.specs.Prelude.{Option, Some, None, slice_get, nat_eq}
-use Rattle.cordyceps_stack.specs.declared.cores.rooms.Room.{Room}
-use Rattle.cordyceps_stack.specs.Cores.Machine.{change}
+use Rattle.cordyceps_shared.specs.declared.room.Room.{Room}
+use Rattle.cordyceps_shared.specs.Rooms.{change}
 use Rattle.cordyceps_stack.specs.Cores.Meets.{room_in_use, NotAmong, LeadsThrough, room_elements}
-use Rattle.cordyceps_stack.proofs.CoreTheory.ListWrites.{slice_get-change_other}
+use Rattle.cordyceps_shared.proofs.ListWrites.{slice_get-change_other}
 use Rattle.std.proofs.lemmas.Bool.{eq-eqb, ne_eqb}
 
 -- the label o at the room r

@@ -1,7 +1,7 @@
 -- A core that gets a party or a room meets what it met.
 use Rattle.std.proofs.Common.{◌≡◌, ℕ, zero, suc, List, [], ◌∷◌, ◌++◌, refl, inl, inr, ◌⊎◌}
 use Rattle.std.specs.Prelude.{Option, Some, None, slice_get, Result, Ok, Err, OnOk, OnErr}
-use Rattle.cordyceps_stack.specs.declared.cores.rooms.Room.{Room}
+use Rattle.cordyceps_shared.specs.declared.room.Room.{Room}
 use Rattle.cordyceps_stack.specs.History.{Event}
 use Rattle.cordyceps_stack.specs.Cores.Machine.{Machine}
 use Rattle.cordyceps_stack.specs.Cores.Meets.{Meets}

@@ -8,9 +8,10 @@ use Rattle.cordyceps_stack.specs.declared.cores.steps.TransferStep.TheVariants a
 use Rattle.cordyceps_stack.specs.declared.cores.stage.Attempt.{Attempt}
 use Rattle.cordyceps_stack.specs.declared.cores.stage.Stage.{Stage}
 use Rattle.cordyceps_stack.specs.declared.cores.stage.Stage.TheVariants.{Rest, Loaded, Set, Walking}
-use Rattle.cordyceps_stack.specs.declared.cores.rooms.Room.{Room}
+use Rattle.cordyceps_shared.specs.declared.room.Room.{Room}
 use Rattle.cordyceps_stack.specs.History.{Event}
-use Rattle.cordyceps_stack.specs.Cores.Machine.{Machine, change, holding, linking, freeing, stage_after_walk, least_free, element_in, next_in, acts, stepped_at, stepped}
+use Rattle.cordyceps_shared.specs.Rooms.{change, linking, freeing, element_in, next_in}
+use Rattle.cordyceps_stack.specs.Cores.Machine.{Machine, holding, stage_after_walk, least_free, acts, stepped_at, stepped}
 use Rattle.cordyceps_stack.specs.Cores.Meets.{AnswerSays, room_in_use}
 use Rattle.cordyceps_stack.specs.Cores.CoreMeets.{CoreMeets, IsSound, step_events}
 use Rattle.cordyceps_stack.proofs.Histories.{legal_none}

@@ -6,11 +6,12 @@ use Rattle.std.proofs.lemmas.Bool.{cases_eq}
 use Rattle.cordyceps_stack.specs.declared.cores.stage.Attempt.{Attempt}
 use Rattle.cordyceps_stack.specs.declared.cores.stage.Stage.{Stage}
 use Rattle.cordyceps_stack.specs.declared.cores.stage.Stage.TheVariants.{Rest, Loaded, Set, Walking}
-use Rattle.cordyceps_stack.specs.declared.cores.rooms.Room.{Room}
+use Rattle.cordyceps_shared.specs.declared.room.Room.{Room}
 use Rattle.cordyceps_stack.specs.History.{Event, Load, Push, Taken, held, Legal, NoLoad, NoTaken, IsByAnother, SomeByAnother, LastLoad, LastBatch}
-use Rattle.cordyceps_stack.specs.Cores.Machine.{Machine, change, holding, linking, freeing, stage_after_walk}
+use Rattle.cordyceps_shared.specs.Rooms.{change, linking, freeing}
+use Rattle.cordyceps_stack.specs.Cores.Machine.{Machine, holding, stage_after_walk}
 use Rattle.cordyceps_stack.specs.Cores.Meets.{room_in_use, NotAmong, LeadsThrough, room_elements, InHand, HasRead, HasBatchLeft, AtStage, Meets}
-use Rattle.cordyceps_stack.proofs.CoreTheory.ListWrites.{slice_get-set_same, slice_get-set_other, slice_get-change_same, set_as_it_was}
+use Rattle.cordyceps_shared.proofs.ListWrites.{slice_get-set_same, slice_get-set_other, slice_get-change_same, set_as_it_was}
 use Rattle.cordyceps_stack.proofs.Histories.{held_more, legal_more, loaded_now, loaded_more, batch_now, batch_more, another_more, another_last}
 use Rattle.cordyceps_stack.proofs.CoreTheory.Chains.{relabel, relabel_here, all_to, or_to, Keeps, LeadsThrough-passed, NoneOf-label, LeadsThrough-change, Keeps-change, Keeps-relabel, Keeps-fresh, LeadsThrough-none, LeadsThrough-some}
 

@@ -4,7 +4,7 @@ use Rattle.std.specs.Prelude.{Option, Some, None, slice_get, Result, Ok, Err, On
 use Rattle.std.proofs.lemmas.List.{append-nil}
 use Rattle.std.proofs.lemmas.Bool.{eq-eqb, ne_eqb, cases_eq}
 use Rattle.cordyceps_base.specs.Runs.{after}
-use Rattle.cordyceps_stack.specs.declared.cores.rooms.Room.{Room}
+use Rattle.cordyceps_shared.specs.declared.room.Room.{Room}
 use Rattle.cordyceps_stack.specs.declared.cores.stage.Stage.{Stage}
 use Rattle.cordyceps_stack.specs.declared.cores.stage.Stage.TheVariants.{Rest, Loaded, Set, Walking}
 use Rattle.cordyceps_stack.specs.declared.cores.steps.TransferAnswer.TheVariants as answer
@@ -12,7 +12,8 @@ use Rattle.cordyceps_stack.specs.declared.cores.steps.TransferStep.{TransferStep
 use Rattle.cordyceps_stack.specs.declared.cores.steps.TransferStep.TheVariants as step
 use Rattle.cordyceps_stack.specs.History.{Event, Load, Push, Taken}
 use Rattle.cordyceps_stack.specs.Cores.Machine.{Machine, Outcome, with_party, acts, stepped_at, stepped, is_ready, in_hand_at, answered_events}
-use Rattle.cordyceps_stack.specs.Cores.CoreMeets.{CoreMeets, step_events, core_step, take_steps}
+use Rattle.cordyceps_stack.specs.Cores.CoreMeets.{CoreMeets, step_events, core_step}
+use Rattle.cordyceps_stack.specs.Cores.Alone.{take_steps}
 use Rattle.cordyceps_stack.specs.Cores.Walks.{batches, LeadsToElements, IsLeftAt, IsLeft, given_by, only, HandsOut, HandsOn}
 use Rattle.cordyceps_stack.proofs.CoreTheory.AlonePush.{Pushing, pushing, push_ends, step_to}
 use Rattle.cordyceps_stack.proofs.CoreTheory.CoreGrows.{slice_get-push, slice_get-pushed}

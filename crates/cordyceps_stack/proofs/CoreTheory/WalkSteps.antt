@@ -4,7 +4,7 @@ use Rattle.std.specs.Prelude.{Option, Some, None, slice_get, nat_eq, Ok, Err, â—
 use Rattle.std.specs.Option.{option_eq}
 use Rattle.std.proofs.lemmas.List.{append-nil}
 use Rattle.std.proofs.lemmas.Bool.{eq-eqb, ne_eqb, cases_eq}
-use Rattle.cordyceps_stack.specs.declared.cores.rooms.Room.{Room}
+use Rattle.cordyceps_shared.specs.declared.room.Room.{Room}
 use Rattle.cordyceps_stack.specs.declared.cores.stage.Attempt.{Attempt}
 use Rattle.cordyceps_stack.specs.declared.cores.stage.Stage.{Stage}
 use Rattle.cordyceps_stack.specs.declared.cores.stage.Stage.TheVariants.{Rest, Loaded, Set, Walking}
@@ -13,12 +13,13 @@ use Rattle.cordyceps_stack.specs.declared.cores.steps.TransferAnswer.TheVariants
 use Rattle.cordyceps_stack.specs.declared.cores.steps.TransferStep.{TransferStep}
 use Rattle.cordyceps_stack.specs.declared.cores.steps.TransferStep.TheVariants as step
 use Rattle.cordyceps_stack.specs.History.{Event, Load, Push, Taken, held}
-use Rattle.cordyceps_stack.specs.Cores.Machine.{Machine, Answered, change, holding, linking, freeing, stage_after_walk, handed, least_free, element_in, next_in, load, exchange, fails, take, walk, stepped_at, stepped, in_hand_at, push_event, answer_events, answered_events}
+use Rattle.cordyceps_shared.specs.Rooms.{change, linking, freeing, element_in, next_in}
+use Rattle.cordyceps_stack.specs.Cores.Machine.{Machine, Answered, holding, stage_after_walk, handed, least_free, load, exchange, fails, take, walk, stepped_at, stepped, in_hand_at, push_event, answer_events, answered_events}
 use Rattle.cordyceps_stack.specs.Cores.Meets.{room_in_use, LeadsThrough, room_elements}
 use Rattle.cordyceps_base.specs.Runs.{after, replies_to, history_after}
 use Rattle.cordyceps_stack.specs.Cores.CoreMeets.{CoreMeets, step_events, core_step, core_events}
 use Rattle.cordyceps_stack.specs.Cores.Walks.{batches, LeadsToElements, IsLeftAt, IsLeft, given_by, given_in, only, HandsOut, HandsOn}
-use Rattle.cordyceps_stack.proofs.CoreTheory.ListWrites.{slice_get-set_same, slice_get-set_other}
+use Rattle.cordyceps_shared.proofs.ListWrites.{slice_get-set_same, slice_get-set_other}
 use Rattle.cordyceps_stack.proofs.CoreTheory.Chains.{Keeps, Keeps-free, Keeps-change, LeadsThrough-passed, LeadsThrough-change}
 use Rattle.cordyceps_stack.proofs.CoreTheory.CoreKeeps.{core_steps}
 use Rattle.cordyceps_stack.proofs.CoreTheory.EachStep.{not_mine, walks_on}

@@ -13,7 +13,8 @@ use Rattle.cordyceps_shared.proofs.Naming.{joined_some, gives_some}
 use Rattle.cordyceps_stack.specs.Shared.Parts.{HasMissed, TookAll, EmptiesHand, standing, IsSeated}
 use Rattle.cordyceps_stack.specs.History.{Event, Load, Push, Taken, held, Legal}
 use Rattle.cordyceps_stack.specs.Cores.Meets.{room_elements}
-use Rattle.cordyceps_stack.specs.Shared.Plays.{SeatState, view_giving, view_absorbing, view_without_told, to_hand_out}
+use Rattle.cordyceps_stack.specs.Shared.Plays.{SeatState, to_hand_out}
+use Rattle.cordyceps_stack.specs.Shared.Parting.{view_giving, view_absorbing, view_without_told}
 use Rattle.cordyceps_stack.specs.Shared.Rule.{IsTable}
 use Rattle.cordyceps_stack.specs.Shared.Calls.{PartyOf, PushesAt, Misses, Takes, Adds, EndsPushed}
 use Rattle.cordyceps_stack.specs.Shared.View.{newcomer}

@@ -16,7 +16,8 @@ use Rattle.cordyceps_stack.specs.History.{Event, Load, Taken, held, Legal, SomeC
 use Rattle.cordyceps_stack.specs.Shared.View.{Idle, View, knows, newcomer, at_work, count_with_party}
 use Rattle.cordyceps_stack.specs.Shared.Words.{History, Since, AtDoing}
 use Rattle.cordyceps_stack.specs.Shared.Rule.{Homes, EmptyAtHome, RuleHolds}
-use Rattle.cordyceps_stack.specs.Shared.Plays.{SeatState, view_keeping, view_giving, view_absorbing, view_absorbed, view_without_told, learned}
+use Rattle.cordyceps_stack.specs.Shared.Plays.{SeatState}
+use Rattle.cordyceps_stack.specs.Shared.Parting.{view_keeping, view_giving, view_absorbing, view_absorbed, view_without_told, learned}
 use Rattle.cordyceps_stack.proofs.Histories.{legal_none}
 use Rattle.cordyceps_stack.proofs.SharedTheory.WordsKeep.{does_frame, rests, forks}
 use Rattle.cordyceps_stack.proofs.SharedTheory.StepsKeep.{step_keeps, unwritten, few_rooms}

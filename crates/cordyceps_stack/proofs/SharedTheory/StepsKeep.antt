@@ -18,7 +18,7 @@ use Rattle.cordyceps_shared.specs.Shares.{Name}
 use Rattle.cordyceps_shared.proofs.Counting.{tally_one, tally_two, one_here, one_else, distinct_few}
 use Rattle.cordyceps_shared.proofs.Seeing.{marked_append, plain_marked, own_without}
 use Rattle.cordyceps_shared.proofs.Telling.{at_length, owned_same, fits_same, tells}
-use Rattle.cordyceps_stack.specs.declared.shared.table.Filled.{Filled}
+use Rattle.cordyceps_shared.specs.declared.slots.Filled.{Filled}
 use Rattle.cordyceps_stack.specs.History.{Event, Load, Push, Taken, held, Legal, SomeChange}
 use Rattle.cordyceps_stack.specs.Cores.Meets.{room_elements}
 use Rattle.cordyceps_stack.specs.Shared.View.{Doing, Idle, Loaded, Set, Missed, Walking, View, knows, name, walking, in_chain, at_work, count_with_party}

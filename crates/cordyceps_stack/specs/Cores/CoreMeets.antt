@@ -1,5 +1,5 @@
 -- A transfer core, whose parties are named by their numbers.
-use Rattle.std.specs.Prelude.{◌≡◌, ℕ, List, [], ◌∷◌, ◌++◌, slice_get, replicate}
+use Rattle.std.specs.Prelude.{◌≡◌, ℕ, List, ◌++◌, slice_get}
 use Rattle.cordyceps_base.specs.Runs.{Ran, history_after, AllSay}
 use Rattle.cordyceps_stack.specs.declared.cores.steps.TransferStep.{TransferStep}
 use Rattle.cordyceps_stack.specs.declared.cores.steps.TransferStep.TheVariants as step
@@ -31,14 +31,6 @@ module _ {E : Type 0} where
   -- what the answer says of the history before the step
   abbrev pub core_says : List (Event ℕ E) → ℕ × TransferStep E → Answered E → Type 0
   core_says h s a = AnswerSays h s.0 a
-
-  -- the steps of a push that one party runs alone
-  abbrev pub push_steps : ℕ → E → List (ℕ × TransferStep E)
-  push_steps p e = (p, step.Load e) ∷ (p, step.SetNext) ∷ (p, step.Exchange) ∷ []
-
-  -- the steps of a taking that one party runs alone, and of its walk through so many elements
-  abbrev pub take_steps : ℕ → ℕ → List (ℕ × TransferStep E)
-  take_steps p walks = (p, step.Take) ∷ replicate walks (p, step.Walk)
 
   -- the core took the first of the steps, with these replies, and the others are the rest
   pub record Replayed (all : List (ℕ × TransferStep E)) (old new : Machine E) (replies : List (Answered E)) (rest : List (ℕ × TransferStep E)) : Type 0 where

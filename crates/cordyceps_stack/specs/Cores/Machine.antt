@@ -4,7 +4,8 @@ use Rattle.std.specs.Option.{option_eq}
 use Rattle.std.specs.List.{position, count_by}
 use Rattle.cordyceps_base.specs.declared.shared.StepError.{StepError}
 use Rattle.cordyceps_base.specs.declared.shared.StepError.TheVariants.{NotThere}
-use Rattle.cordyceps_stack.specs.declared.cores.rooms.Room.{Room}
+use Rattle.cordyceps_shared.specs.declared.room.Room.{Room}
+use Rattle.cordyceps_shared.specs.Rooms.{change, linking, freeing, is_free_for, element_in, next_in}
 use Rattle.cordyceps_stack.specs.declared.cores.stage.Attempt.{Attempt}
 use Rattle.cordyceps_stack.specs.declared.cores.stage.Stage.{Stage}
 use Rattle.cordyceps_stack.specs.declared.cores.stage.Stage.TheVariants.{Rest, Loaded, Set, Walking}
@@ -27,12 +28,6 @@ Answered E = Result (TransferAnswer E) (StepError × Option E)
 -- a machine after a step, and the answer
 abbrev pub Outcome : Type 0 → Type 0
 Outcome E = Machine E × Answered E
-
--- the list with f of its i-th item in that item's place
-abbrev pub change : {X : Type 0} → (X → X) → ℕ → List X → List X
-change f zero (x ∷ xs) = f x ∷ xs
-change f (suc i) (x ∷ xs) = x ∷ change f i xs
-change f i [] = []
 
 abbrev pub is_rest : Option Stage → Bool
 is_rest None = false
@@ -63,18 +58,9 @@ module _ {E : Type 0} where
   abbrev pub with_room : Machine E → ℕ → Machine E
   with_room m p = record { head = m.head; rooms = m.rooms ++ new_room p ∷ []; parties = m.parties }
 
-  -- a room that got an element, one that got a link, and one that is p's free room again
+  -- a room that got an element
   abbrev pub holding : E → Room E → Room E
   holding e room = record { owner = None; element = Some e; next = room.next }
-
-  abbrev pub linking : Option ℕ → Room E → Room E
-  linking next room = record { owner = room.owner; element = room.element; next = next }
-
-  abbrev pub freeing : ℕ → Room E → Room E
-  freeing p room = record { owner = Some p; element = None; next = room.next }
-
-  abbrev pub is_free_for : ℕ → Room E → Bool
-  is_free_for p room = option_eq nat_eq room.owner (Some p)
 
   -- the least of p's free rooms
   abbrev pub least_free : ℕ → List (Room E) → Option ℕ
@@ -83,14 +69,6 @@ module _ {E : Type 0} where
   -- how many rooms have an element
   abbrev pub occupied : List (Room E) → ℕ
   occupied rooms = count_by (λ room. is_some room.element) rooms
-
-  abbrev pub element_in : Option (Room E) → Option E
-  element_in None = None
-  element_in (Some room) = room.element
-
-  abbrev pub next_in : Option (Room E) → Option ℕ
-  next_in None = None
-  next_in (Some room) = room.next
 
   abbrev pub first_then : Option E → List E → List E
   first_then None es = []

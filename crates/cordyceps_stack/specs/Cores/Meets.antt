@@ -2,7 +2,7 @@
 use Rattle.std.specs.Prelude.{◌≡◌, ◌≢◌, ℕ, List, [], ◌∷◌, ◌++◌, reverse, true, Option, Some, None, slice_get, ◌↔◌, Ok, Err}
 use Rattle.cordyceps_stack.specs.declared.cores.stage.Stage.{Stage}
 use Rattle.cordyceps_stack.specs.declared.cores.stage.Stage.TheVariants.{Rest, Loaded, Set, Walking}
-use Rattle.cordyceps_stack.specs.declared.cores.rooms.Room.{Room}
+use Rattle.cordyceps_shared.specs.declared.room.Room.{Room}
 use Rattle.cordyceps_stack.specs.declared.cores.steps.TransferAnswer.{TransferAnswer}
 use Rattle.cordyceps_stack.specs.declared.cores.steps.TransferAnswer.TheVariants as answer
 use Rattle.cordyceps_stack.specs.History.{Event, Legal, held, LastLoad, LastBatch, SomeByAnother, Overtaken}

@@ -1,6 +1,6 @@
 -- What the walks of a core's parties hand out.
 use Rattle.std.specs.Prelude.{◌≡◌, ℕ, List, [], ◌∷◌, ◌++◌, Option, Some, None, Ok, slice_get, ◌==◌, if◌then◌else◌}
-use Rattle.cordyceps_stack.specs.declared.cores.rooms.Room.{Room}
+use Rattle.cordyceps_shared.specs.declared.room.Room.{Room}
 use Rattle.cordyceps_stack.specs.declared.cores.stage.Stage.{Stage}
 use Rattle.cordyceps_stack.specs.declared.cores.stage.Stage.TheVariants.{Walking}
 use Rattle.cordyceps_stack.specs.declared.cores.steps.TransferAnswer.TheVariants as answer

@@ -1,11 +1,11 @@
 -- What each atomic step tells a party of a transfer stack: of its seat m before, of the word that it found, and of its seat
 -- k after. A seat has a view, and the slots in hand, the last taken first.
-use Rattle.std.specs.Prelude.{◌≡◌, ◌≢◌, ℕ, suc, ◌<◌, ◌≤◌, List, [], ◌∷◌, ◌++◌, length, take, drop, Option, Some, None}
+use Rattle.std.specs.Prelude.{◌≡◌, ◌≢◌, ℕ, suc, ◌<◌, ◌≤◌, List, [], ◌∷◌, length, Option, Some, None}
 use Rattle.atomic_table.specs.Table.{Me, Step}
-use Rattle.cordyceps_shared.specs.Knowing.{Known, Grown, IsKnown}
+use Rattle.cordyceps_shared.specs.Knowing.{Grown}
 use Rattle.cordyceps_shared.specs.Knowing as knowing
 use Rattle.cordyceps_shared.specs.Shares.{Name}
-use Rattle.cordyceps_stack.specs.declared.shared.table.Filled.{Filled}
+use Rattle.cordyceps_shared.specs.declared.slots.Filled.{Filled}
 use Rattle.cordyceps_stack.specs.History.{Event, Load, Push, Taken, Legal}
 use Rattle.cordyceps_stack.specs.Cores.Meets.{room_elements}
 use Rattle.cordyceps_stack.specs.Shared.Calls.{EndsPushed, EndsLooked, IsOvertaken}
@@ -83,26 +83,6 @@ module _ {E : Type 0} where
   abbrev pub walked : TableStep E → SeatState E → ℕ → SeatState E → Type 0
   walked st m found k = (x : ℕ × E) (xs : List (ℕ × E)) (cs : Hand E) → m.0.doing ≡ Walking (x ∷ xs) → m.1 ≡ (x.0, None) ∷ cs
       → (found ≡ start xs) × (k.0 ≡ record m.0 { doing = walking xs; free = x.0 ∷ m.0.free }) × (k.1 ≡ cs) × (length k.0.free ≤ st.slots)
-
-  -- a load of head by a party that took another in
-  abbrev pub view_without_told : View E → View E
-  view_without_told v = record v { known = record v.known { had = []; told = [] } }
-
-  abbrev pub learned : TableStep E → SeatState E → ℕ → SeatState E → Type 0
-  learned st m read k = (k.0 ≡ view_without_told m.0) × (k.1 ≡ m.1) × IsKnown (λ h. Legal h) m.0.known × (length m.0.free ≤ st.slots)
-
-  -- ---- splitting and joining
-  abbrev pub view_keeping : ℕ → View E → View E
-  view_keeping n v = record { known = knowing.known_keeping v.known; free = drop n v.free; doing = v.doing }
-
-  abbrev pub view_giving : ℕ → View E → View E
-  view_giving n v = record { known = knowing.known_giving v.known; free = take n v.free; doing = Idle }
-
-  abbrev pub view_absorbing : View E → View E → View E
-  view_absorbing v w = record { known = knowing.known_absorbing v.known w.known; free = v.free ++ w.free; doing = Idle }
-
-  abbrev pub view_absorbed : View E
-  view_absorbed = record { known = knowing.known_absorbed; free = []; doing = Idle }
 
   -- ---- between the steps
   -- the party is between two calls

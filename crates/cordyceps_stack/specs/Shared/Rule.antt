@@ -6,7 +6,7 @@ use lib.ListN.{get_elem?}
 use Rattle.atomic_table.specs.Table.{State}
 use Rattle.atomic_table.specs.Seated.{TableId}
 use Rattle.cordyceps_shared.specs.Knowing.{SharesApart, AllAgree}
-use Rattle.cordyceps_stack.specs.declared.shared.table.Filled.{Filled}
+use Rattle.cordyceps_shared.specs.declared.slots.Filled.{Filled}
 use Rattle.cordyceps_stack.specs.Shared.View.{View, knows}
 use Rattle.cordyceps_stack.specs.Shared.Words.{History, WordsMeet}
 

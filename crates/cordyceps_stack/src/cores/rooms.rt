@@ -1,17 +1,11 @@
 //! The rooms of a transfer core.
 ghost use Rattle.std.specs.Prelude.{◌≡◌, ◌<◌, ◌≤◌, ◌++◌, [], ◌∷◌, length, slice_get, IsSome, Some, None, OnOk, OnErr};
-ghost use Rattle.cordyceps_stack.specs.Cores.Machine.{change, holding, linking, freeing, new_room, least_free, element_in, next_in, occupied};
+ghost use Rattle.cordyceps_shared.specs.Rooms.{change, linking, freeing, element_in, next_in};
+ghost use Rattle.cordyceps_stack.specs.Cores.Machine.{holding, new_room, least_free, occupied};
 
+use cordyceps_shared::room::Room;
 use std::alloc::{AllocError, Global};
 use std::marker::Model;
-
-/// The place of one element. `owner` is the party whose free room it is.
-#[derive(Drop)]
-pub(crate) struct Room<E> {
-    pub(crate) owner: Option<usize>,
-    pub(crate) element: Option<E>,
-    pub(crate) next: Option<usize>,
-}
 
 /// Rooms with numbers from 0, in the order in which they were added.
 #[derive(Drop)]
@@ -21,7 +15,7 @@ pub(crate) struct Rooms<E> {
 
 impl<E> Model for Rooms<E> {
     ghost use Rattle.std.specs.Prelude.{List};
-    ghost use Rattle.cordyceps_stack.specs.declared.cores.rooms.Room.{Room};
+    ghost use Rattle.cordyceps_shared.specs.declared.room.Room.{Room};
 
     ghost Value = { List (Room E) };
 

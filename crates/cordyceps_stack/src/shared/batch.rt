@@ -6,10 +6,11 @@ ghost use Rattle.cordyceps_stack.specs.Shared.Plays.{IsWalking, to_hand_out};
 ghost use Rattle.cordyceps_stack.specs.Shared.Words.{start};
 
 use crate::shared::steps::walk;
-use crate::shared::table::{Filled, PartySeat, Words};
+use crate::shared::table::{PartySeat, Words};
 use crate::stack::Stack;
 use cordyceps_base::linked::Linked;
 use cordyceps_base::stack::Links;
+use cordyceps_shared::slots::Filled;
 use cordyceps_shared::tickets::Tickets;
 
 /// The elements that the party has in hand, to which `at` leads. Their tickets go to its others.

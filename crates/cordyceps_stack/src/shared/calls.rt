@@ -1,5 +1,5 @@
 //! The stack that threads share.
-ghost use Rattle.std.specs.Prelude.{◌≡◌, ◌<◌, ◌≤◌, ℕ, suc, Bool, List, map, reverse, true, is_ok, MatchResult, IfOk};
+ghost use Rattle.std.specs.Prelude.{◌≡◌, ◌<◌, ◌≤◌, List, map, reverse, true, is_ok, MatchResult, IfOk};
 ghost use Rattle.cordyceps_shared.specs.Histories.{plain};
 ghost use Rattle.cordyceps_shared.specs.Shares.{whole};
 ghost use Rattle.cordyceps_shared.specs.Standings.{new_party, keeping, giving, Absorbs};
@@ -7,16 +7,15 @@ ghost use Rattle.cordyceps_stack.specs.History.{held, Legal};
 ghost use Rattle.cordyceps_stack.specs.Shared.Calls.{PushesAt, Misses, Takes, Looks};
 
 use crate::shared::batch::hand_out;
-use crate::shared::steps;
-use crate::shared::table::{Filled, OwnedTable, PartySeat};
+use crate::shared::table::{OwnedTable, PartySeat};
+use crate::shared::{parting, steps};
 use crate::stack::Stack;
 use cordyceps_base::linked::Linked;
 use cordyceps_base::stack::Links;
+use cordyceps_shared::slots::Filled;
 use cordyceps_shared::tickets::Tickets;
-use crossbeam_utils::Backoff;
 use std::alloc::{AllocError, Global};
 use std::marker::Model;
-use std::sync::Wait;
 
 /// A stack that threads share without a lock. They push to it one element at a time, and take all that it holds at once.
 ///
@@ -83,7 +82,7 @@ impl<T: Linked<Links<T>>> TransferStack<T> {
         ensures { IfOk result (λ made. made.1 ≡ new_party made.0 rooms) }
     {
         let tickets = Tickets::new(alloc, rooms)?;
-        let (rooms, seat) = steps::open(alloc, rooms)?;
+        let (rooms, seat) = parting::open(alloc, rooms)?;
         Ok((TransferStack { rooms }, Party { seat, tickets }))
     }
 
@@ -136,7 +135,7 @@ impl<T: Linked<Links<T>>> TransferStack<T> {
         requires rooms { rooms ≤ party.old.rooms }
         ensures { (party.new ≡ keeping rooms party.old) × (result ≡ giving rooms party.old) }
     {
-        let seat = steps::split(&self.rooms.shared, &mut party.seat, rooms);
+        let seat = parting::split(&self.rooms.shared, &mut party.seat, rooms);
         let tickets = party.tickets.split_off(rooms);
         Party { seat, tickets }
     }
@@ -147,7 +146,7 @@ impl<T: Linked<Links<T>>> TransferStack<T> {
         ensures { Absorbs (λ h. Legal h) party.old other party.new }
     {
         let Party { seat, tickets } = other;
-        steps::absorb(&self.rooms.shared, &mut party.seat, seat);
+        parting::absorb(&self.rooms.shared, &mut party.seat, seat);
         party.tickets.append(tickets);
     }
 
@@ -159,37 +158,5 @@ impl<T: Linked<Links<T>>> TransferStack<T> {
         ensures { result ≡ map T.element (reverse (held (plain party.seen))) }
     {
         self.take_all(&mut party)
-    }
-}
-
-impl<T: Linked<Links<T>>> TransferStack<T> {
-    /// Pushes an element, by as many tries as it takes, and pauses between them. If others push or take without end it may
-    /// never return. A whole party's first try is its last.
-    pub fn push<R: Wait>(&self, rt: &R, party: &mut Party<T>, handle: T::Handle)
-        requires table { party.old.table ≡ self.now }
-        requires room { 0 < party.old.rooms }
-        ensures pushed { (tries : ℕ) × (first : Bool) × PushesAt (suc tries) handle first party.old party.new }
-        ensures whole { party.old.share ≡ whole → (first : Bool) × PushesAt 1 handle first party.old party.new }
-    {
-        self.push_was_empty(rt, party, handle);
-    }
-
-    /// The same, and tells whether nothing was held just before. A whole party's first try is its last.
-    pub fn push_was_empty<R: Wait>(&self, rt: &R, party: &mut Party<T>, handle: T::Handle) -> bool
-        requires table { party.old.table ≡ self.now }
-        requires room { 0 < party.old.rooms }
-        ensures pushed { (tries : ℕ) × PushesAt (suc tries) handle result party.old party.new }
-        ensures whole { party.old.share ≡ whole → PushesAt 1 handle result party.old party.new }
-    {
-        let backoff = Backoff::new();
-        let mut handle = handle;
-        for _ in rt.forever() {
-            match self.try_push(party, handle) {
-                Ok(first) => return first,
-                Err(back) => handle = back,
-            }
-            backoff.spin();
-        }
-        unreachable!()
     }
 }

@@ -1,8 +1,10 @@
 //! What each step of a shared transfer stack tells. These types are for the proofs alone.
-ghost use Rattle.cordyceps_stack.specs.Shared.Plays.{looked, loaded, wrote, exchanged, returned, took, walked, learned, view_keeping, view_giving, view_absorbing, view_absorbed};
+ghost use Rattle.cordyceps_stack.specs.Shared.Plays.{looked, loaded, wrote, exchanged, returned, took, walked};
+ghost use Rattle.cordyceps_stack.specs.Shared.Parting.{learned, view_keeping, view_giving, view_absorbing, view_absorbed};
 
-use crate::shared::table::{Count, Filled, SeatView};
+use crate::shared::table::SeatView;
 use atomic_table::{Join, Play, Split};
+use cordyceps_shared::slots::{Count, Filled};
 use std::marker::PhantomData;
 
 pub(crate) struct Look;

@@ -1,34 +1,17 @@
-//! The atomic steps of a shared transfer stack. Each function is a part of a call.
-ghost use Rattle.std.specs.Prelude.{◌≡◌, ◌≢◌, ◌<◌, ◌≤◌, ℕ, List, [], ◌∷◌, Some, None, length, MatchResult, IfOk, IsTrue};
-ghost use Rattle.std.specs.Mem.Slots.{slots_items};
-ghost use Rattle.cordyceps_shared.specs.Knowing.{IsKnown};
-ghost use Rattle.cordyceps_shared.specs.Shares.{whole};
+//! The atomic steps of a shared transfer stack: each function is a part of a call.
+ghost use Rattle.std.specs.Prelude.{◌≡◌, ◌≢◌, ◌<◌, ℕ, List, [], ◌∷◌, Some, None, MatchResult, IsTrue};
 ghost use Rattle.cordyceps_stack.specs.Shared.Parts.{IsSeatOf, Begun, IsSet, Settled, HasPushed, HasMissed, TookAll, Walked};
-ghost use Rattle.cordyceps_stack.specs.History.{Load, Legal};
-ghost use Rattle.cordyceps_stack.specs.Shared.Plays.{Sees, IsResting, IsWalking, to_hand_out, view_keeping, view_giving, view_absorbing, view_without_told};
+ghost use Rattle.cordyceps_stack.specs.History.{Load};
+ghost use Rattle.cordyceps_stack.specs.Shared.Plays.{Sees, IsResting, IsWalking, to_hand_out};
 ghost use Rattle.cordyceps_stack.specs.Shared.Rule.{full_slot};
 ghost use Rattle.cordyceps_stack.specs.Shared.Calls.{EndsLooked};
-ghost use Rattle.cordyceps_stack.specs.Shared.View.{Idle, Loaded, Set, Missed, name, newcomer};
+ghost use Rattle.cordyceps_stack.specs.Shared.View.{Idle, Loaded, Set, Missed, name};
 ghost use Rattle.cordyceps_stack.specs.Shared.Words.{start};
 
-use crate::shared::plays::{Begin, Cut, Exchange, Learn, Look, Merge, Return, Take, Walk, Write};
-use crate::shared::table::{Count, Filled, OwnedTable, PartySeat, Words};
-use atomic_table::Table;
+use crate::shared::plays::{Begin, Exchange, Look, Return, Take, Walk, Write};
+use crate::shared::table::{PartySeat, Words};
+use cordyceps_shared::slots::Filled;
 use cordyceps_shared::tickets::Ticket;
-use std::alloc::{AllocError, Global};
-use std::marker::Brand;
-
-/// The words and slots of an empty stack with this many rooms, and the seat of the party that has them all.
-pub(crate) fn open<E: Drop>(
-    alloc: Global,
-    rooms: usize,
-) -> Result<(OwnedTable<E>, PartySeat<E>), AllocError>
-    requires { rooms ≤ 1048576 }
-    ensures { IfOk result (λ r. IsSeatOf r.1.table_id r.0.shared.table_id × (r.1.me ≡ (newcomer rooms, []))) }
-{
-    let words = vec![in alloc; 0; rooms + 1]?;
-    Table::vacant(alloc, words.as_slice(), rooms, &rooms)
-}
 
 /// Reads `head`, and takes the slot of the first free room in hand.
 fn begin<E: Drop>(words: &Words<E>, seat: &mut PartySeat<E>, room: usize) -> u64
@@ -140,40 +123,4 @@ pub(crate) fn walk<E: Drop>(words: &Words<E>, seat: &mut PartySeat<E>, at: u64) 
     let below = words.load::<Walk>(seat, at as usize);
     let Some(full) = full else { unreachable!() };
     (full, below)
-}
-
-fn cut<E: Drop, B: Count>(words: &Words<E>, seat: &mut PartySeat<E>, rooms: usize) -> PartySeat<E>
-    requires table { IsSeatOf seat.old.table_id words.now.table_id }
-    requires rest { IsResting seat.old.me × (B.rooms ≡ rooms) }
-    ensures table { (seat.new.table_id ≡ seat.old.table_id) × (result.table_id ≡ seat.old.table_id) }
-    ensures views { (seat.new.me ≡ (view_keeping rooms seat.old.me.0, [])) × (result.me ≡ (view_giving rooms seat.old.me.0, [])) }
-{
-    words.split_seat::<Cut<B>>(seat)
-}
-
-/// A seat with half of the first name and the first rooms of another.
-pub(crate) fn split<E: Drop>(
-    words: &Words<E>,
-    seat: &mut PartySeat<E>,
-    rooms: usize,
-) -> PartySeat<E>
-    requires table { IsSeatOf seat.old.table_id words.now.table_id }
-    requires rest { IsResting seat.old.me }
-    ensures table { (seat.new.table_id ≡ seat.old.table_id) × (result.table_id ≡ seat.old.table_id) }
-    ensures views { (seat.new.me ≡ (view_keeping rooms seat.old.me.0, [])) × (result.me ≡ (view_giving rooms seat.old.me.0, [])) }
-{
-    cut::<E, Brand>(words, seat, rooms)
-}
-
-/// Takes another seat in. What one had seen begins what the other had.
-pub(crate) fn absorb<E: Drop>(words: &Words<E>, seat: &mut PartySeat<E>, other: PartySeat<E>)
-    requires table { IsSeatOf seat.old.table_id words.now.table_id × IsSeatOf other.table_id words.now.table_id }
-    requires rest { IsResting seat.old.me × IsResting other.me }
-    ensures table { seat.new.table_id ≡ seat.old.table_id }
-    ensures views { seat.new.me ≡ (view_without_told (view_absorbing seat.old.me.0 other.me.0), []) }
-    ensures known { IsKnown (λ h. Legal h) (view_absorbing seat.old.me.0 other.me.0).known }
-    ensures few { length seat.new.me.0.free ≤ words.now.table_id.slots }
-{
-    words.join_seat::<Merge>(seat, other);
-    words.load::<Learn>(seat, 0);
 }

@@ -2,16 +2,9 @@
 ghost use Rattle.cordyceps_stack.specs.Shared.View.{View, newcomer};
 
 use atomic_table::{Seat, Shared, Table, TableRule};
-use cordyceps_shared::tickets::Ticket;
+use cordyceps_shared::slots::Filled;
 use std::alloc::Global;
-use std::marker::{Brand, Model, PhantomData};
-
-/// What lies in the slot of a room in use.
-#[derive(Drop)]
-pub(crate) struct Filled<E> {
-    pub ticket: Ticket,
-    pub item: E,
-}
+use std::marker::{Model, PhantomData};
 
 /// What a seat knows. No value of it is made: a contract sees a `View`.
 pub(crate) struct SeatView<E> {
@@ -44,14 +37,3 @@ pub(crate) type OwnedTable<E> = Table<Option<Filled<E>>, SeatView<E>, usize, Rul
 
 /// A party's seat.
 pub(crate) type PartySeat<E> = Seat<Option<Filled<E>>, SeatView<E>>;
-
-/// How many rooms a party gives up. Each call that splits one picks it.
-pub(crate) trait Count {
-    ghost use Rattle.std.specs.Prelude.{ℕ};
-
-    ghost rooms: { ℕ };
-}
-
-impl Count for Brand {
-    ghost rooms = { 0 };
-}

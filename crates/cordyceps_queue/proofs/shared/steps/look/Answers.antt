@@ -1,6 +1,6 @@
 use Rattle.std.proofs.Common.{◌≡◌, ◌-◌, [], ◌∷◌, Some, sym, refl, ap, ◌∙◌, rules}
 use Rattle.atomic_table.specs.Table.{rest}
-use Rattle.cordyceps_queue.specs.declared.shared.table.Filled.{Filled}
+use Rattle.cordyceps_shared.specs.declared.slots.Filled.{Filled}
 use Rattle.cordyceps_queue.specs.History.{Event}
 use Rattle.cordyceps_queue.specs.Shared.Rule.{full_slot}
 use Rattle.cordyceps_queue.specs.Shared.View.{name}

@@ -1,6 +1,6 @@
 use Rattle.std.proofs.Common.{[], ◌∷◌, Option, Some, None, sym, ap, ◌∙◌, rules, add-one}
 use Rattle.atomic_table.specs.Table.{rest}
-use Rattle.cordyceps_stack.specs.declared.shared.table.Filled.{Filled}
+use Rattle.cordyceps_shared.specs.declared.slots.Filled.{Filled}
 use Rattle.cordyceps_stack.specs.Shared.Rule.{full_slot}
 use Rattle.cordyceps_stack.proofs.SharedTheory.StepsKeep.{returns}
 use Rattle.cordyceps_stack.proofs.shared.steps.back_out.Goals as goal

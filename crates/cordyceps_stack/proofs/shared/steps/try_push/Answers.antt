@@ -2,7 +2,7 @@ use Rattle.std.proofs.Common.{◌≡◌, ℕ, List, [], ◌∷◌, Option, Some,
 use Rattle.std.specs.Prelude.{IsTrue}
 use Rattle.cordyceps_shared.specs.Knowing.{Known, Grown}
 use Rattle.cordyceps_shared.specs.Shares.{Name}
-use Rattle.cordyceps_stack.specs.declared.shared.table.Filled.{Filled}
+use Rattle.cordyceps_shared.specs.declared.slots.Filled.{Filled}
 use Rattle.cordyceps_stack.specs.Shared.Parts.{Settled}
 use Rattle.cordyceps_stack.specs.History.{Event, Load, Legal}
 use Rattle.cordyceps_stack.specs.Shared.Rule.{full_slot}

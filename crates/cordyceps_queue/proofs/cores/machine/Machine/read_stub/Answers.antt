@@ -1,6 +1,7 @@
 use Rattle.std.proofs.Common.{◌≡◌, None, ap, sym, ◌∙◌}
 use Rattle.std.specs.Prelude.{slice_get}
-use Rattle.cordyceps_queue.specs.Cores.Machine.{Machine, next_in}
+use Rattle.cordyceps_shared.specs.Rooms.{next_in}
+use Rattle.cordyceps_queue.specs.Cores.Machine.{Machine}
 use Rattle.cordyceps_queue.proofs.cores.machine.Machine.read_stub.Goals as goal
 
 pub returns-in-None-clause-machine : goal.returns-in-None-clause-machine

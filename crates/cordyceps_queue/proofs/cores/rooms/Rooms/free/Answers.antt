@@ -1,5 +1,6 @@
 use Rattle.std.proofs.Common.{Some, ap, sym, ◌∙◌}
-use Rattle.cordyceps_queue.specs.Cores.Machine.{stub_room, freeing, element_in}
+use Rattle.cordyceps_shared.specs.Rooms.{freeing, element_in}
+use Rattle.cordyceps_queue.specs.Cores.Machine.{stub_room}
 use Rattle.cordyceps_queue.proofs.CoreTheory.ListWrites.{set_behind, get_behind, full_within}
 use Rattle.cordyceps_queue.proofs.cores.rooms.Rooms.free.Goals as goal
 

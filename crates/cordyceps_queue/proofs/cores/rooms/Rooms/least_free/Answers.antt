@@ -1,7 +1,7 @@
 use Rattle.std.proofs.Common.{◌≡◌, ◌+◌, suc, Some, ap, sym, ◌∙◌, arith}
 use Rattle.std.specs.List.{position}
 use Rattle.std.specs.Option.{option_map}
-use Rattle.cordyceps_queue.specs.Cores.Machine.{is_free_for}
+use Rattle.cordyceps_shared.specs.Rooms.{is_free_for}
 use Rattle.cordyceps_queue.proofs.CoreTheory.FreeRooms.{first_behind}
 use Rattle.cordyceps_queue.proofs.cores.rooms.Rooms.least_free.Goals as goal
 

@@ -1,5 +1,6 @@
 use Rattle.std.proofs.Common.{◌<◌, length, subst, sym, arith}
-use Rattle.cordyceps_queue.specs.Cores.Machine.{stub_room, linking}
+use Rattle.cordyceps_shared.specs.Rooms.{linking}
+use Rattle.cordyceps_queue.specs.Cores.Machine.{stub_room}
 use Rattle.cordyceps_queue.proofs.CoreTheory.ListWrites.{set_behind}
 use Rattle.cordyceps_queue.proofs.cores.rooms.Rooms.link.Goals as goal
 

@@ -1,7 +1,7 @@
 use Rattle.std.proofs.Common.{ap, sym, ◌∙◌, Some}
 use Rattle.std.proofs.lemmas.Option.{slice_get-get_or}
-use Rattle.cordyceps_stack.specs.Cores.Machine.{freeing, element_in}
-use Rattle.cordyceps_stack.proofs.CoreTheory.ListWrites.{set_change_at}
+use Rattle.cordyceps_shared.specs.Rooms.{freeing, element_in}
+use Rattle.cordyceps_shared.proofs.ListWrites.{set_change_at}
 use Rattle.cordyceps_stack.proofs.cores.rooms.Rooms.free.Goals as goal
 
 pub returns-clause-rooms : goal.returns-clause-rooms

@@ -1,5 +1,5 @@
 use Rattle.cordyceps_stack.specs.Cores.Machine.{holding}
-use Rattle.cordyceps_stack.proofs.CoreTheory.ListWrites.{set_change_at}
+use Rattle.cordyceps_shared.proofs.ListWrites.{set_change_at}
 use Rattle.cordyceps_stack.proofs.cores.rooms.Rooms.hold.Goals as goal
 
 pub returns : goal.returns

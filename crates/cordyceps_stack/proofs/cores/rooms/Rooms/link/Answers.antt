@@ -1,5 +1,5 @@
-use Rattle.cordyceps_stack.specs.Cores.Machine.{linking}
-use Rattle.cordyceps_stack.proofs.CoreTheory.ListWrites.{set_change_at}
+use Rattle.cordyceps_shared.specs.Rooms.{linking}
+use Rattle.cordyceps_shared.proofs.ListWrites.{set_change_at}
 use Rattle.cordyceps_stack.proofs.cores.rooms.Rooms.link.Goals as goal
 
 pub returns : goal.returns

@@ -1,6 +1,6 @@
 use Rattle.std.proofs.Common.{rules, ap}
 use Rattle.cordyceps_stack.proofs.SharedTheory.PartingKeeps.{joins, learns}
-use Rattle.cordyceps_stack.proofs.shared.steps.absorb.Goals as goal
+use Rattle.cordyceps_stack.proofs.shared.parting.absorb.Goals as goal
 
 pub join_seat-requires : goal.join_seat-requires
 join_seat-requires g c = let r = c.requires.rest in (search rules, search rules, search rules, search rules, joins _ _ _ _ r.0.0 r.1.0 r.0.2)

@@ -1,0 +1,30 @@
+-- The rooms of a core, in a list by their numbers, and what a step changes of one.
+use Rattle.std.specs.Prelude.{ℕ, zero, suc, List, [], ◌∷◌, Bool, nat_eq, Option, Some, None}
+use Rattle.std.specs.Option.{option_eq}
+use Rattle.cordyceps_shared.specs.declared.room.Room.{Room}
+
+-- the list with f of its i-th item in that item's place
+abbrev pub change : {X : Type 0} → (X → X) → ℕ → List X → List X
+change f i [] = []
+change f zero (x ∷ xs) = f x ∷ xs
+change f (suc i) (x ∷ xs) = x ∷ change f i xs
+
+module _ {E : Type 0} where
+  -- a room that got a link, and one that is p's free room again
+  abbrev pub linking : Option ℕ → Room E → Room E
+  linking next room = record { owner = room.owner; element = room.element; next = next }
+
+  abbrev pub freeing : ℕ → Room E → Room E
+  freeing p room = record { owner = Some p; element = None; next = room.next }
+
+  abbrev pub is_free_for : ℕ → Room E → Bool
+  is_free_for p room = option_eq nat_eq room.owner (Some p)
+
+  -- the element and the link of a room, if it is there
+  abbrev pub element_in : Option (Room E) → Option E
+  element_in None = None
+  element_in (Some room) = room.element
+
+  abbrev pub next_in : Option (Room E) → Option ℕ
+  next_in None = None
+  next_in (Some room) = room.next

@@ -1,0 +1,29 @@
+-- How a party of a transfer stack is split in two, takes another in, and learns what it then knows.
+use Rattle.std.specs.Prelude.{◌≡◌, ℕ, ◌≤◌, [], ◌++◌, length, take, drop}
+use Rattle.cordyceps_shared.specs.Knowing.{IsKnown}
+use Rattle.cordyceps_shared.specs.Knowing as knowing
+use Rattle.cordyceps_stack.specs.History.{Legal}
+use Rattle.cordyceps_stack.specs.Shared.Plays.{SeatState, TableStep}
+use Rattle.cordyceps_stack.specs.Shared.View.{Idle, View}
+
+module _ {E : Type 0} where
+  -- a load of head by a party that took another in
+  abbrev pub view_without_told : View E → View E
+  view_without_told v = record v { known = record v.known { had = []; told = [] } }
+
+  abbrev pub learned : TableStep E → SeatState E → ℕ → SeatState E → Type 0
+  learned st m read k = (k.0 ≡ view_without_told m.0) × (k.1 ≡ m.1) × IsKnown (λ h. Legal h) m.0.known × (length m.0.free ≤ st.slots)
+
+  -- what a party has that gave up the first n of its free rooms, and what the new one has
+  abbrev pub view_keeping : ℕ → View E → View E
+  view_keeping n v = record { known = knowing.known_keeping v.known; free = drop n v.free; doing = v.doing }
+
+  abbrev pub view_giving : ℕ → View E → View E
+  view_giving n v = record { known = knowing.known_giving v.known; free = take n v.free; doing = Idle }
+
+  -- what a party has that took another in, and what is left of the other
+  abbrev pub view_absorbing : View E → View E → View E
+  view_absorbing v w = record { known = knowing.known_absorbing v.known w.known; free = v.free ++ w.free; doing = Idle }
+
+  abbrev pub view_absorbed : View E
+  view_absorbed = record { known = knowing.known_absorbed; free = []; doing = Idle }

@@ -1,0 +1,63 @@
+//! A new shared transfer stack, and how a party of it is split in two or takes another in.
+ghost use Rattle.std.specs.Prelude.{◌≡◌, ◌≤◌, [], length, IfOk};
+ghost use Rattle.cordyceps_shared.specs.Knowing.{IsKnown};
+ghost use Rattle.cordyceps_stack.specs.History.{Legal};
+ghost use Rattle.cordyceps_stack.specs.Shared.Parting.{view_keeping, view_giving, view_absorbing, view_without_told};
+ghost use Rattle.cordyceps_stack.specs.Shared.Parts.{IsSeatOf};
+ghost use Rattle.cordyceps_stack.specs.Shared.Plays.{IsResting};
+ghost use Rattle.cordyceps_stack.specs.Shared.View.{newcomer};
+
+use crate::shared::plays::{Cut, Learn, Merge};
+use crate::shared::table::{OwnedTable, PartySeat, Words};
+use atomic_table::Table;
+use cordyceps_shared::slots::Count;
+use std::alloc::{AllocError, Global};
+use std::marker::Brand;
+
+/// The words and slots of an empty stack with this many rooms, and the seat of the party that has them all.
+pub(crate) fn open<E: Drop>(
+    alloc: Global,
+    rooms: usize,
+) -> Result<(OwnedTable<E>, PartySeat<E>), AllocError>
+    requires { rooms ≤ 1048576 }
+    ensures { IfOk result (λ r. IsSeatOf r.1.table_id r.0.shared.table_id × (r.1.me ≡ (newcomer rooms, []))) }
+{
+    let words = vec![in alloc; 0; rooms + 1]?;
+    Table::vacant(alloc, words.as_slice(), rooms, &rooms)
+}
+
+fn cut<E: Drop, B: Count>(words: &Words<E>, seat: &mut PartySeat<E>, rooms: usize) -> PartySeat<E>
+    requires table { IsSeatOf seat.old.table_id words.now.table_id }
+    requires rest { IsResting seat.old.me × (B.rooms ≡ rooms) }
+    ensures table { (seat.new.table_id ≡ seat.old.table_id) × (result.table_id ≡ seat.old.table_id) }
+    ensures views { (seat.new.me ≡ (view_keeping rooms seat.old.me.0, [])) × (result.me ≡ (view_giving rooms seat.old.me.0, [])) }
+{
+    words.split_seat::<Cut<B>>(seat)
+}
+
+/// A seat with half of the first name and the first rooms of another.
+pub(crate) fn split<E: Drop>(
+    words: &Words<E>,
+    seat: &mut PartySeat<E>,
+    rooms: usize,
+) -> PartySeat<E>
+    requires table { IsSeatOf seat.old.table_id words.now.table_id }
+    requires rest { IsResting seat.old.me }
+    ensures table { (seat.new.table_id ≡ seat.old.table_id) × (result.table_id ≡ seat.old.table_id) }
+    ensures views { (seat.new.me ≡ (view_keeping rooms seat.old.me.0, [])) × (result.me ≡ (view_giving rooms seat.old.me.0, [])) }
+{
+    cut::<E, Brand>(words, seat, rooms)
+}
+
+/// Takes another seat in. What one had seen begins what the other had.
+pub(crate) fn absorb<E: Drop>(words: &Words<E>, seat: &mut PartySeat<E>, other: PartySeat<E>)
+    requires table { IsSeatOf seat.old.table_id words.now.table_id × IsSeatOf other.table_id words.now.table_id }
+    requires rest { IsResting seat.old.me × IsResting other.me }
+    ensures table { seat.new.table_id ≡ seat.old.table_id }
+    ensures views { seat.new.me ≡ (view_without_told (view_absorbing seat.old.me.0 other.me.0), []) }
+    ensures known { IsKnown (λ h. Legal h) (view_absorbing seat.old.me.0 other.me.0).known }
+    ensures few { length seat.new.me.0.free ≤ words.now.table_id.slots }
+{
+    words.join_seat::<Merge>(seat, other);
+    words.load::<Learn>(seat, 0);
+}
