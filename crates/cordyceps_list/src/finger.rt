@@ -178,8 +178,26 @@ impl Fingers {
         }
     }
 
-    /// The place of a node, found from the nearest of the two ends and the two fingers, one of which moves there.
+    /// The address of a node: at once where the front finger is on it or on the one before it.
     pub(crate) fn seek<T>(&mut self, chain: &DoubleChain<T>, to: usize) -> Address
+        requires fit { FingersFit chain.now self.old }
+        requires inside { to < length chain.now }
+        ensures fit { FingersFit chain.now self.new }
+        ensures at { LiesAt chain.now to result }
+    {
+        if self.front.index == to {
+            return self.front.at;
+        }
+        if 0 < to && self.front.index == to - 1 {
+            let at = chain.next(self.front.at, self.front.index);
+            self.front = Finger { at, index: to };
+            return at;
+        }
+        self.seek_far(chain, to)
+    }
+
+    /// The same, found from the nearest of the two ends and the two fingers, one of which moves there.
+    fn seek_far<T>(&mut self, chain: &DoubleChain<T>, to: usize) -> Address
         requires fit { FingersFit chain.now self.old }
         requires inside { to < length chain.now }
         ensures fit { FingersFit chain.now self.new }
@@ -226,6 +244,14 @@ impl Fingers {
     {
         if to == 0 {
             return chain.head();
+        }
+        if self.front.index == to {
+            let at = self.front.at;
+            self.front = Finger {
+                at: chain.prev(at, to),
+                index: to - 1,
+            };
+            return at;
         }
         let before = self.seek(chain, to - 1);
         chain.next(before, to - 1)

@@ -48,10 +48,8 @@ impl<T: Linked<Links<T>>> List<T> {
         ensures joined { self.new ≡ self.old ++ other.old }
         ensures emptied { other.new ≡ [] }
     {
-        let List {
-            chain: more,
-            fingers: _,
-        } = mem::replace(other, List::new());
+        let more = other.chain.take();
+        other.fingers = Fingers::behind(&other.chain);
         self.fingers = self.fingers.after_splice(self.chain.len(), more.len());
         let nodes = self.chain.take();
         self.chain.put(nodes.join(more));
