@@ -15,7 +15,7 @@ use Rattle.cordyceps_queue.proofs.CoreTheory.ChainShrinks.{room_was, room_once}
 module _ {P E : Type 0} (m : AbstractMachine P E) (c : Chain) (h : List (Event P E)) (M : Meets m c h) (k : ℕ) where
   module _ (name : P) (absent : m.party k ≡ None) (fresh : IsStranger m.party name) where
     abbrev added_party : AbstractParty P
-    added_party = record { name = name; place = Rest; spare = [] }
+    added_party = record { name = name; stage = Rest; spare = [] }
 
     abbrev parties : ℕ → Option (AbstractParty P)
     parties = update m.party k (Some added_party)
@@ -43,7 +43,7 @@ module _ {P E : Type 0} (m : AbstractMachine P E) (c : Chain) (h : List (Event P
       unmade = M.unmade;
       holds = M.holds;
       right = right_still c.keeper M.right;
-      fits = put_all (λ j q. AtStage m.head m.next m.cell c.owner c.keeper c.rooms h j q.name q.place) m.party k added_party (λ j q ne eq. M.fits j q eq) (M.strangers name fresh);
+      fits = put_all (λ j q. AtStage m.head m.next m.cell c.owner c.keeper c.rooms h j q.name q.stage) m.party k added_party (λ j q ne eq. M.fits j q eq) (M.strangers name fresh);
       rooms = put_all (λ j q. OwnsRooms c.owner j q.spare) m.party k added_party (λ j q ne eq. M.rooms j q eq) (record { own = λ i r a. absurd a; once = λ i j r a b. absurd a });
       names = λ i j x y ei ej. put_all (λ i x. x.name ≡ y.name → i ≡ j) m.party k added_party
           (λ i x _ ei. put_all (λ j y. x.name ≡ y.name → i ≡ j) m.party k added_party (λ j y _ ej. M.names i j x y ei ej) (λ e. absurd (fresh i x ei e)) j y ej)
@@ -68,7 +68,7 @@ module _ {P E : Type 0} (m : AbstractMachine P E) (c : Chain) (h : List (Event P
     kept_owner : (x : ℕ) (o : Owner) → c.owner x ≡ o → (o ≡ Unmade → ⊥) → owner' x ≡ o
     kept_owner x o e ne = put_other c.owner new_room (Spare k) x (λ s. ne (sym e ∙ ap c.owner s ∙ is_new)) ∙ e
 
-    fits_still : (j : ℕ) (q : P) (place : Stage) → AtStage m.head m.next m.cell c.owner c.keeper c.rooms h j q place → AtStage m.head m.next m.cell owner' c.keeper c.rooms h j q place
+    fits_still : (j : ℕ) (q : P) (stage : Stage) → AtStage m.head m.next m.cell c.owner c.keeper c.rooms h j q stage → AtStage m.head m.next m.cell owner' c.keeper c.rooms h j q stage
     fits_still j q Rest f = f
     fits_still j q (Cleared x) f = (f.0, kept_owner x (Ready j) f.1 (λ e. ready_unmade refl e), f.2, f.3, f.4, f.5)
     fits_still j q (Swapped x old) f = f
@@ -98,7 +98,7 @@ module _ {P E : Type 0} (m : AbstractMachine P E) (c : Chain) (h : List (Event P
     right_kept (Some j) R = elim (ℕ_discrete j k) [
       | yes same ↦
           let e : R.1 ≡ p = some_inj (sym R.3 ∙ ap m.party same ∙ at) in
-          (R.0, roomier, R.2, ap (update m.party k (Some roomier)) same ∙ put_same m.party k (Some roomier), ap (λ (q : AbstractParty P). tail_of q.place) (sym e) ∙ R.4, R.5 ∙ ap (λ (q : AbstractParty P). Some q.name) e)
+          (R.0, roomier, R.2, ap (update m.party k (Some roomier)) same ∙ put_same m.party k (Some roomier), ap (λ (q : AbstractParty P). tail_of q.stage) (sym e) ∙ R.4, R.5 ∙ ap (λ (q : AbstractParty P). Some q.name) e)
       | no ne ↦ (R.0, R.1, R.2, put_other m.party k (Some roomier) j ne ∙ R.3, R.4, R.5)
     ]
 
@@ -114,7 +114,7 @@ module _ {P E : Type 0} (m : AbstractMachine P E) (c : Chain) (h : List (Event P
       unmade = λ x lt. put_other c.owner new_room (Spare k) x (λ s. absurd (omega arith)) ∙ M.unmade x (omega arith);
       holds = M.holds;
       right = right_kept c.keeper M.right;
-      fits = put_all (λ j q. AtStage m.head m.next m.cell owner' c.keeper c.rooms h j q.name q.place) m.party k roomier (λ j q ne eq. fits_still j q.name q.place (M.fits j q eq)) (fits_still k p.name p.place (M.fits k p at));
+      fits = put_all (λ j q. AtStage m.head m.next m.cell owner' c.keeper c.rooms h j q.name q.stage) m.party k roomier (λ j q ne eq. fits_still j q.name q.stage (M.fits j q eq)) (fits_still k p.name p.stage (M.fits k p at));
       rooms = put_all (λ j q. OwnsRooms owner' j q.spare) m.party k roomier (λ j q ne eq. rooms_still j q.spare (M.rooms j q eq)) (rooms_grow (M.rooms k p at));
       names = names_put m.party k p roomier at refl M.names;
       strangers = λ n away. M.strangers n (strange m.party k p roomier at refl n away);

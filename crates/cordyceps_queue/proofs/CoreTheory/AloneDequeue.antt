@@ -52,9 +52,9 @@ module _ {E : Type 0} where
   from_rest p answer.Empty f = refl
   from_rest p answer.Inconsistent f = refl
 
-  -- the law of a call, from this place
+  -- the law of a call, from this stage
   abbrev Law : List (Event ℕ E) → ℕ → Option Stage → Outcome E → Type 0
-  Law h p place out = CoreMeets (h ++ dequeue_events p place (found_of out.1)) out.0 × Finds h p (found_of out.1)
+  Law h p stage out = CoreMeets (h ++ dequeue_events p stage (found_of out.1)) out.0 × Finds h p (found_of out.1)
 
   law_holding : (h : List (Event ℕ E)) (m : Machine E) (p t : ℕ) → CoreMeets h m → slice_get m.parties p ≡ Some (Holding t) → Law h p (Some (Holding t)) (tries p 6 m)
   law_holding h m p t was at =
@@ -85,11 +85,11 @@ module _ {E : Type 0} where
       let met : CoreMeets (h ++ Take p ∷ []) (take m p (Some t)).0 = subst (λ (n : Machine E). CoreMeets (h ++ Take p ∷ []) n) (ap (λ o. (take m p o).0) right) K.0 in
       law_taken h (take m p (Some t)).0 p t met (slice_get-set_same m.parties p (Holding t) Rest at)
 
-  law_at : (h : List (Event ℕ E)) (m : Machine E) (p : ℕ) → CoreMeets h m → (place : Option Stage) → slice_get m.parties p ≡ place → may_dequeue place ≡ true → Law h p place (dequeued_at p m place)
+  law_at : (h : List (Event ℕ E)) (m : Machine E) (p : ℕ) → CoreMeets h m → (stage : Option Stage) → slice_get m.parties p ≡ stage → may_dequeue stage ≡ true → Law h p stage (dequeued_at p m stage)
   law_at h m p was (Some Rest) at may =
       subst (λ (out : Outcome E). Law h p (Some Rest) (takes_first p out.0 out.1)) (sym (ap (λ o. stepped_at m p o step.Take) at)) (law_rest h m p was at m.right refl)
   law_at h m p was (Some (Holding t)) at may = law_holding h m p t was at
-  law_at h m p was place at may = let no : ⊥ = cc in absurd no
+  law_at h m p was stage at may = let no : ⊥ = cc in absurd no
 
   pub dequeued_law : (h : List (Event ℕ E)) (m : Machine E) (p : ℕ) → CoreMeets h m → may_dequeue (slice_get m.parties p) ≡ true → CoreMeets (h ++ dequeue_events p (slice_get m.parties p) (found_of (dequeued m p).1)) (dequeued m p).0 × Finds h p (found_of (dequeued m p).1)
   dequeued_law h m p was may = law_at h m p was (slice_get m.parties p) refl may
@@ -110,17 +110,17 @@ module _ {E : Type 0} where
   busy_rest h m p q was held None right = refl
   busy_rest h m p q was held (Some t) right = absurd (no_right h m q t was held right)
 
-  busy_at : (h : List (Event ℕ E)) (m : Machine E) (p q : ℕ) → CoreMeets h m → holder h ≡ Some q → p ≢ q → (place : Option Stage) → slice_get m.parties p ≡ place → may_dequeue place ≡ true → found_of (dequeued_at p m place).1 ≡ Err error.Busy
+  busy_at : (h : List (Event ℕ E)) (m : Machine E) (p q : ℕ) → CoreMeets h m → holder h ≡ Some q → p ≢ q → (stage : Option Stage) → slice_get m.parties p ≡ stage → may_dequeue stage ≡ true → found_of (dequeued_at p m stage).1 ≡ Err error.Busy
   busy_at h m p q was held ne (Some Rest) at may =
       subst (λ (out : Outcome E). found_of (takes_first p out.0 out.1).1 ≡ Err error.Busy) (sym (ap (λ o. stepped_at m p o step.Take) at)) (busy_rest h m p q was held m.right refl)
   busy_at h m p q was held ne (Some (Holding t)) at may = absurd (ne (holds_right h m p q t was held at))
-  busy_at h m p q was held ne place at may = let no : ⊥ = cc in absurd no
+  busy_at h m p q was held ne stage at may = let no : ⊥ = cc in absurd no
 
   pub busy_law : (h : List (Event ℕ E)) (m : Machine E) (p q : ℕ) → CoreMeets h m → holder h ≡ Some q → p ≢ q → may_dequeue (slice_get m.parties p) ≡ true → found_of (dequeued m p).1 ≡ Err error.Busy
   busy_law h m p q was held ne may = busy_at h m p q was held ne (slice_get m.parties p) refl may
 
   -- what was blocked before a look, or before a taking and a look, is so after them
-  pub still_blocked : (h : List (Event ℕ E)) (p : ℕ) (m : Machine E) (place : Option Stage) → may_dequeue place ≡ true → CoreMeets (h ++ dequeue_events p place (Err error.Inconsistent)) m → IsBlocked ℕ_discrete h → LooksBlocked h p place
+  pub still_blocked : (h : List (Event ℕ E)) (p : ℕ) (m : Machine E) (stage : Option Stage) → may_dequeue stage ≡ true → CoreMeets (h ++ dequeue_events p stage (Err error.Inconsistent)) m → IsBlocked ℕ_discrete h → LooksBlocked h p stage
   still_blocked h p m (Some Rest) may was b =
       let all : reverse (h ++ Take p ∷ Look p ∷ Free p ∷ []) ≡ Free p ∷ Look p ∷ Take p ∷ reverse h = reverse-append h (Take p ∷ Look p ∷ Free p ∷ []) in
       let turned : reverse (h ++ Take p ∷ Look p ∷ []) ≡ Look p ∷ Take p ∷ reverse h = reverse-append h (Take p ∷ Look p ∷ []) in
@@ -130,7 +130,7 @@ module _ {E : Type 0} where
       let turned : reverse (h ++ Look p ∷ []) ≡ Look p ∷ reverse h = reverse-append h (Look p ∷ []) in
       let legal : past.IsLegal (Look p ∷ reverse h) = subst past.IsLegal turned was.meets.legal in
       told_blocked ℕ_discrete (h ++ Look p ∷ []) was.meets.legal (subst past.IsBlocked (sym turned) (past_blocked ℕ_discrete h legal.1 b))
-  still_blocked h p m place may was b = let no : ⊥ = cc in absurd no
+  still_blocked h p m stage may was b = let no : ⊥ = cc in absurd no
 
   pub inconsistent_law : (h : List (Event ℕ E)) (m : Machine E) (p : ℕ) → CoreMeets h m → may_dequeue (slice_get m.parties p) ≡ true → found_of (dequeued m p).1 ≡ Err error.Inconsistent → LooksBlocked h p (slice_get m.parties p)
   inconsistent_law h m p was may is =

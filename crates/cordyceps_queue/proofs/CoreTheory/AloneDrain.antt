@@ -98,9 +98,9 @@ module _ {E : Type 0} where
       subst (λ r. Law h p (suc n) t (went_on (drained p n) (tries p 6 m).0 (found_of r))) (sym T.is) (next n (law n) h m p t was (tries p 6 m).0 T.answer T.final T.meets T.finds T.holds)
 
   -- what a call comes to
-  pub record Whole (h : List (Event ℕ E)) (p n : ℕ) (place : Option Stage) (d : Drained E) : Type 0 where
-    pub meets : CoreMeets (h ++ batch_events p place d.1 d.2) d.0
-    pub took : Drains h p n place d.1 d.2
+  pub record Whole (h : List (Event ℕ E)) (p n : ℕ) (stage : Option Stage) (d : Drained E) : Type 0 where
+    pub meets : CoreMeets (h ++ batch_events p stage d.1 d.2) d.0
+    pub took : Drains h p n stage d.1 d.2
 
   rest_events : (p : ℕ) (es : List E) (stop : Option TryDequeueError) → stop ≢ Some error.Busy → batch_events p (Some Rest) es stop ≡ Take p ∷ drain_events p es stop ++ Free p ∷ []
   rest_events p es None f = refl
@@ -148,11 +148,11 @@ module _ {E : Type 0} where
       let met : CoreMeets (h ++ Take p ∷ []) (take m p (Some t)).0 = subst (λ (k : Machine E). CoreMeets (h ++ Take p ∷ []) k) (ap (λ o. (take m p o).0) right) K.0 in
       whole_taken n h (take m p (Some t)).0 p t met (slice_get-set_same m.parties p (Holding t) Rest at)
 
-  whole_at : (n : ℕ) (h : List (Event ℕ E)) (m : Machine E) (p : ℕ) → CoreMeets h m → (place : Option Stage) → slice_get m.parties p ≡ place → may_dequeue place ≡ true → Whole h p n place (drained_at p n m place)
+  whole_at : (n : ℕ) (h : List (Event ℕ E)) (m : Machine E) (p : ℕ) → CoreMeets h m → (stage : Option Stage) → slice_get m.parties p ≡ stage → may_dequeue stage ≡ true → Whole h p n stage (drained_at p n m stage)
   whole_at n h m p was (Some Rest) at may =
       subst (λ out. Whole h p n (Some Rest) (drains_first p n out.0 out.1)) (sym (ap (λ o. stepped_at m p o step.Take) at)) (whole_rest n h m p was at m.right refl)
   whole_at n h m p was (Some (Holding t)) at may = let L = law n h m p t was at in record { meets = L.meets; took = L.took }
-  whole_at n h m p was place at may = let no : ⊥ = cc in absurd no
+  whole_at n h m p was stage at may = let no : ⊥ = cc in absurd no
 
   pub batch_law : (n : ℕ) (h : List (Event ℕ E)) (m : Machine E) (p : ℕ) → CoreMeets h m → may_dequeue (slice_get m.parties p) ≡ true → Whole h p n (slice_get m.parties p) (drained_at p n m (slice_get m.parties p))
   batch_law n h m p was may = whole_at n h m p was (slice_get m.parties p) refl may
@@ -221,27 +221,27 @@ module _ {E : Type 0} where
   looks_link q p [] = refl
   looks_link q p (e ∷ es) = looks_link q p es
 
-  last_swap : (q p : ℕ) (place : Option Stage) (es : List E) → swaps_by ℕ_discrete q (last_look p place es) ≡ 0
+  last_swap : (q p : ℕ) (stage : Option Stage) (es : List E) → swaps_by ℕ_discrete q (last_look p stage es) ≡ 0
   last_swap q p (Some Rest) es = looks_swap q p es
-  last_swap q p place es = looks_swap q p es
+  last_swap q p stage es = looks_swap q p es
 
-  last_link : (q p : ℕ) (place : Option Stage) (es : List E) → links_by ℕ_discrete q (last_look p place es) ≡ 0
+  last_link : (q p : ℕ) (stage : Option Stage) (es : List E) → links_by ℕ_discrete q (last_look p stage es) ≡ 0
   last_link q p (Some Rest) es = looks_link q p es
-  last_link q p place es = looks_link q p es
+  last_link q p stage es = looks_link q p es
 
-  stops_oldest : (h : List (Event ℕ E)) (p n : ℕ) (place : Option Stage) (es rest : List E) (stop : Option TryDequeueError) → 1 ≤ n → held h ≡ es ++ rest → length es ≤ n → Stops h p n place es stop →
+  stops_oldest : (h : List (Event ℕ E)) (p n : ℕ) (stage : Option Stage) (es rest : List E) (stop : Option TryDequeueError) → 1 ≤ n → held h ≡ es ++ rest → length es ≤ n → Stops h p n stage es stop →
       NobodyPending h → NobodyElse h p → batch_of es stop ≡ oldest n (held h)
-  stops_oldest h p n place [] rest None some first few s still mine = absurd (omega (arith, s, some))
-  stops_oldest h p n place (e ∷ es) rest None some first few s still mine =
+  stops_oldest h p n stage [] rest None some first few s still mine = absurd (omega (arith, s, some))
+  stops_oldest h p n stage (e ∷ es) rest None some first few s still mine =
       let all : front n (e ∷ es ++ rest) ≡ e ∷ es = ap (λ k. front k (e ∷ es ++ rest)) (sym s) ∙ take_front (e ∷ es) rest in
       ap Ok (sym all) ∙ sym (ap (oldest n) first)
-  stops_oldest h p n place [] rest (Some error.Empty) some first few s still mine = sym (ap (oldest n) s)
-  stops_oldest h p n place (e ∷ es) rest (Some error.Empty) some first few s still mine =
+  stops_oldest h p n stage [] rest (Some error.Empty) some first few s still mine = sym (ap (oldest n) s)
+  stops_oldest h p n stage (e ∷ es) rest (Some error.Empty) some first few s still mine =
       ap Ok (sym (take_all n (e ∷ es) few)) ∙ sym (ap (oldest n) s)
-  stops_oldest h p n place es rest (Some error.Inconsistent) some first few s still mine =
-      let l = last_look p place es in
-      absurd (still s.by (omega (arith, s.pending, swaps_by-append ℕ_discrete s.by h l, links_by-append ℕ_discrete s.by h l, last_swap s.by p place es, last_link s.by p place es)))
-  stops_oldest h p n place es rest (Some error.Busy) some first few s still mine = absurd (s.3 (mine s.1 s.2))
+  stops_oldest h p n stage es rest (Some error.Inconsistent) some first few s still mine =
+      let l = last_look p stage es in
+      absurd (still s.by (omega (arith, s.pending, swaps_by-append ℕ_discrete s.by h l, links_by-append ℕ_discrete s.by h l, last_swap s.by p stage es, last_link s.by p stage es)))
+  stops_oldest h p n stage es rest (Some error.Busy) some first few s still mine = absurd (s.3 (mine s.1 s.2))
 
   pub oldest_law : (h : List (Event ℕ E)) (m : Machine E) (p n : ℕ) → CoreMeets h m → may_dequeue (slice_get m.parties p) ≡ true → 1 ≤ n → NobodyPending h → NobodyElse h p →
       let d = drained_at p n m (slice_get m.parties p) in batch_of d.1 d.2 ≡ oldest n (held h)
@@ -256,12 +256,12 @@ module _ {E : Type 0} where
   held_rest h m p q n was held None right = refl
   held_rest h m p q n was held (Some t) right = absurd (no_right h m q t was held right)
 
-  held_at : (h : List (Event ℕ E)) (m : Machine E) (p q n : ℕ) → CoreMeets h m → holder h ≡ Some q → p ≢ q → (place : Option Stage) → slice_get m.parties p ≡ place → may_dequeue place ≡ true →
-      let d = drained_at p n m place in batch_of d.1 d.2 ≡ Err error.Busy
+  held_at : (h : List (Event ℕ E)) (m : Machine E) (p q n : ℕ) → CoreMeets h m → holder h ≡ Some q → p ≢ q → (stage : Option Stage) → slice_get m.parties p ≡ stage → may_dequeue stage ≡ true →
+      let d = drained_at p n m stage in batch_of d.1 d.2 ≡ Err error.Busy
   held_at h m p q n was held ne (Some Rest) at may =
       subst (λ (out : Outcome E). let d = drains_first p n out.0 out.1 in batch_of d.1 d.2 ≡ Err error.Busy) (sym (ap (λ o. stepped_at m p o step.Take) at)) (held_rest h m p q n was held m.right refl)
   held_at h m p q n was held ne (Some (Holding t)) at may = absurd (ne (holds_right h m p q t was held at))
-  held_at h m p q n was held ne place at may = let no : ⊥ = cc in absurd no
+  held_at h m p q n was held ne stage at may = let no : ⊥ = cc in absurd no
 
   pub held_law : (h : List (Event ℕ E)) (m : Machine E) (p q n : ℕ) → CoreMeets h m → holder h ≡ Some q → p ≢ q → may_dequeue (slice_get m.parties p) ≡ true →
       let d = drained_at p n m (slice_get m.parties p) in batch_of d.1 d.2 ≡ Err error.Busy

@@ -12,7 +12,7 @@ use Rattle.cordyceps_queue.specs.Cores.Meets.{Owes, tail_of, Chain, Meets, AtSta
 use Rattle.cordyceps_queue.specs.Cores.StepKeeps.{SaysReversed, StepKeeps}
 use Rattle.cordyceps_queue.proofs.CoreTheory.Basics.{some_inj, none_some, suc_zero, put_same}
 use Rattle.cordyceps_queue.proofs.CoreTheory.ProducerSteps.{clear_keeps, chain_after_clear, swap_keeps, chain_after_swap, link_keeps, busy_keeps}
-use Rattle.cordyceps_queue.proofs.CoreTheory.HolderSteps.{was_now, keeping, place_keeps, tell_keeps, open_blocks, none_held, stub_out}
+use Rattle.cordyceps_queue.proofs.CoreTheory.HolderSteps.{was_now, keeping, stage_keeps, tell_keeps, open_blocks, none_held, stub_out}
 use Rattle.cordyceps_queue.proofs.CoreTheory.DequeueSteps.{take_keeps, chain_after_take, give_keeps, chain_after_give, pass_keeps, chain_after_pass, out_keeps, chain_after_out}
 use Rattle.cordyceps_queue.proofs.CoreTheory.StubSteps.{clear_stub_keeps, swap_stub_keeps, chain_after_stub, link_stub_keeps}
 
@@ -24,17 +24,17 @@ ne_of a b e s = true≢false (sym (eq-eqb a b s) ∙ e)
 
 module _ {P E : Type 0} (m : AbstractMachine P E) (c : Chain) (k : ℕ) (p : AbstractParty P) (at : m.party k ≡ Some p) (v : Move P E) where
   -- from a tail that is no stub
-  gives_out_keep : (before h : List (Event P E)) (M : Meets m c (before ++ h)) → held (before ++ h) ≡ held h → (t r : ℕ) → tail_of p.place ≡ Some t → ((a b : ℕ) → Owes p.place a b → ⊥) → t ≢ 0 → m.next t ≡ Some r → (e : Option E) → m.cell t ≡ e → gives_out m k p t r e before ≡ Some v → Kept p.name h v
+  gives_out_keep : (before h : List (Event P E)) (M : Meets m c (before ++ h)) → held (before ++ h) ≡ held h → (t r : ℕ) → tail_of p.stage ≡ Some t → ((a b : ℕ) → Owes p.stage a b → ⊥) → t ≢ 0 → m.next t ≡ Some r → (e : Option E) → m.cell t ≡ e → gives_out m k p t r e before ≡ Some v → Kept p.name h v
   gives_out_keep before h M same t r has nothing ne linked None full e = absurd (none_some e)
   gives_out_keep before h M same t r has nothing ne linked (Some x) full e =
       let now = out_keeps m c (before ++ h) M k p at t r has nothing ne linked x full in
       subst (Kept p.name h) (some_inj e) (chain_after_out m c (before ++ h) M k p at t r has nothing ne linked x full, now, (now.legal.0.1, sym same ∙ now.legal.0.2))
 
-  reads_keep : (before h : List (Event P E)) (M : Meets m c (before ++ h)) → held (before ++ h) ≡ held h → (t : ℕ) → tail_of p.place ≡ Some t → ((a b : ℕ) → Owes p.place a b → ⊥) → t ≢ 0 → HasLooked p.name (before ++ h) → (n : Option ℕ) → m.next t ≡ n → reads m k p t n before ≡ Some v → Kept p.name h v
+  reads_keep : (before h : List (Event P E)) (M : Meets m c (before ++ h)) → held (before ++ h) ≡ held h → (t : ℕ) → tail_of p.stage ≡ Some t → ((a b : ℕ) → Owes p.stage a b → ⊥) → t ≢ 0 → HasLooked p.name (before ++ h) → (n : Option ℕ) → m.next t ≡ n → reads m k p t n before ≡ Some v → Kept p.name h v
   reads_keep before h M same t has nothing ne looked None next e =
       subst (Kept p.name h) (some_inj e) (
         c,
-        place_keeps m c (before ++ h) M k p at t has (Null t) refl (λ a b o. absurd (nothing a b o)) (
+        stage_keeps m c (before ++ h) M k p at t has (Null t) refl (λ a b o. absurd (nothing a b o)) (
           record { keeps = keeping m c (before ++ h) M k p at t has; is_real = ne; looked = looked },
           (λ far. was_now p.name (before ++ h) looked (open_blocks m c (before ++ h) M k p at t has nothing next far)),
         ),
@@ -43,31 +43,31 @@ module _ {P E : Type 0} (m : AbstractMachine P E) (c : Chain) (k : ℕ) (p : Abs
   reads_keep before h M same t has nothing ne looked (Some r) next e = gives_out_keep before h M same t r has nothing ne next (m.cell t) refl e
 
   module _ (h : List (Event P E)) (M : Meets m c h) where
-    fits_at : (place : Stage) → p.place ≡ place → AtStage m.head m.next m.cell c.owner c.keeper c.rooms h k p.name place
-    fits_at place e = subst (AtStage m.head m.next m.cell c.owner c.keeper c.rooms h k p.name) e (M.fits k p at)
+    fits_at : (stage : Stage) → p.stage ≡ stage → AtStage m.head m.next m.cell c.owner c.keeper c.rooms h k p.name stage
+    fits_at stage e = subst (AtStage m.head m.next m.cell c.owner c.keeper c.rooms h k p.name) e (M.fits k p at)
 
-    clears_keep : p.place ≡ Rest → (x : E) (s : List ℕ) → p.spare ≡ s → clears m k p s x ≡ Some v → Kept p.name h v
+    clears_keep : p.stage ≡ Rest → (x : E) (s : List ℕ) → p.spare ≡ s → clears m k p s x ≡ Some v → Kept p.name h v
     clears_keep rest x [] spare e = absurd (none_some e)
     clears_keep rest x (r ∷ rooms) spare e = subst (Kept p.name h) (some_inj e) (chain_after_clear m c h M k p at rest r rooms spare x, clear_keeps m c h M k p at rest r rooms spare x, tt)
 
-    swaps_keep : (r : ℕ) → p.place ≡ Cleared r → (o : Option E) → m.cell r ≡ o → swaps m k p r o ≡ Some v → Kept p.name h v
+    swaps_keep : (r : ℕ) → p.stage ≡ Cleared r → (o : Option E) → m.cell r ≡ o → swaps m k p r o ≡ Some v → Kept p.name h v
     swaps_keep r ready None full e = absurd (none_some e)
     swaps_keep r ready (Some x) full e = subst (Kept p.name h) (some_inj e) (chain_after_swap m c h M k p at r x ready full, swap_keeps m c h M k p at r x ready full, tt)
 
-    takes_keep : p.place ≡ Rest → (n : ℕ) → m.right ≡ n → takes m k p n ≡ Some v → Kept p.name h v
+    takes_keep : p.stage ≡ Rest → (n : ℕ) → m.right ≡ n → takes m k p n ≡ Some v → Kept p.name h v
     takes_keep rest zero right e = subst (Kept p.name h) (some_inj e) (c, busy_keeps m c h M k p at rest right, (busy_keeps m c h M k p at rest right).legal.0)
     takes_keep rest (suc t) right e = subst (Kept p.name h) (some_inj e) (chain_after_take m c h M k p at t rest right, take_keeps m c h M k p at t rest right, (take_keeps m c h M k p at t rest right).legal.0)
 
-    looked_on : (t : ℕ) → p.place ≡ Holding t → Meets m c (Event.Look p.name ∷ h)
+    looked_on : (t : ℕ) → p.stage ≡ Holding t → Meets m c (Event.Look p.name ∷ h)
     looked_on t holding = tell_keeps m c h M k p at t (ap tail_of holding) (Event.Look p.name) holding (keeping m c h M k p at t (ap tail_of holding)).held_by refl refl (λ q s. s) (λ q n w. w)
 
-    reads_stub_keep : p.place ≡ Holding 0 → (n : Option ℕ) → m.next 0 ≡ n → reads_stub m k p n (Event.Look p.name ∷ []) ≡ Some v → Kept p.name h v
+    reads_stub_keep : p.stage ≡ Holding 0 → (n : Option ℕ) → m.next 0 ≡ n → reads_stub m k p n (Event.Look p.name ∷ []) ≡ Some v → Kept p.name h v
     reads_stub_keep holding None next e =
         let M1 = looked_on 0 holding in
-        let nothing : (a b : ℕ) → Owes p.place a b → ⊥ = λ a b o. subst (λ l. Owes l a b) holding o in
+        let nothing : (a b : ℕ) → Owes p.stage a b → ⊥ = λ a b o. subst (λ l. Owes l a b) holding o in
         subst (Kept p.name h) (some_inj e) (
           c,
-          place_keeps m c (Event.Look p.name ∷ h) M1 k p at 0 (ap tail_of holding) StubNull refl (λ a b o. nothing a b o) (
+          stage_keeps m c (Event.Look p.name ∷ h) M1 k p at 0 (ap tail_of holding) StubNull refl (λ a b o. nothing a b o) (
             keeping m c (Event.Look p.name ∷ h) M1 k p at 0 (ap tail_of holding),
             inl refl,
             (λ far. inl (inl refl, open_blocks m c (Event.Look p.name ∷ h) M1 k p at 0 (ap tail_of holding) nothing next far)),
@@ -79,50 +79,50 @@ module _ {P E : Type 0} (m : AbstractMachine P E) (c : Chain) (k : ℕ) (p : Abs
         subst (Kept p.name h) (some_inj e)
         (chain_after_pass m c (Event.Look p.name ∷ h) M1 k p at r holding next (inl refl), pass_keeps m c (Event.Look p.name ∷ h) M1 k p at r holding next (inl refl), tt)
 
-    looks_keep : (t : ℕ) → p.place ≡ Holding t → looks m k p t ≡ Some v → Kept p.name h v
+    looks_keep : (t : ℕ) → p.stage ≡ Holding t → looks m k p t ≡ Some v → Kept p.name h v
     looks_keep zero holding e = reads_stub_keep holding (m.next 0) refl e
     looks_keep (suc t) holding e =
         reads_keep (Event.Look p.name ∷ []) h (looked_on (suc t) holding) refl (suc t) (ap tail_of holding) (λ a b o. subst (λ l. Owes l a b) holding o) suc_zero (inl refl) (m.next (suc t)) refl e
 
     -- back to Holding without an element
-    fails_keep : (t : ℕ) → tail_of p.place ≡ Some t → ((a b : ℕ) → Owes p.place a b → ⊥) → WasBlocked p.name h → Kept p.name h (record { after = stands m k p (Holding t); answer = answer.Inconsistent; events = [] })
-    fails_keep t has nothing blocked = (c, place_keeps m c h M k p at t has (Holding t) refl (λ a b o. absurd (nothing a b o)) (keeping m c h M k p at t has), blocked)
+    fails_keep : (t : ℕ) → tail_of p.stage ≡ Some t → ((a b : ℕ) → Owes p.stage a b → ⊥) → WasBlocked p.name h → Kept p.name h (record { after = stands m k p (Holding t); answer = answer.Inconsistent; events = [] })
+    fails_keep t has nothing blocked = (c, stage_keeps m c h M k p at t has (Holding t) refl (λ a b o. absurd (nothing a b o)) (keeping m c h M k p at t has), blocked)
 
-    heads_stub_keep : p.place ≡ StubNull → (b : Bool) → eqb m.head 0 ≡ b → heads_stub m k p b ≡ Some v → Kept p.name h v
-    heads_stub_keep place true same e =
-        let has : tail_of p.place ≡ Some 0 = ap tail_of place in
-        let back : Meets (stands m k p (Holding 0)) c h = place_keeps m c h M k p at 0 has (Holding 0) refl (λ a b o. absurd (subst (λ l. Owes l a b) place o)) (keeping m c h M k p at 0 has) in
+    heads_stub_keep : p.stage ≡ StubNull → (b : Bool) → eqb m.head 0 ≡ b → heads_stub m k p b ≡ Some v → Kept p.name h v
+    heads_stub_keep stage true same e =
+        let has : tail_of p.stage ≡ Some 0 = ap tail_of stage in
+        let back : Meets (stands m k p (Holding 0)) c h = stage_keeps m c h M k p at 0 has (Holding 0) refl (λ a b o. absurd (subst (λ l. Owes l a b) stage o)) (keeping m c h M k p at 0 has) in
         subst (Kept p.name h) (some_inj e) (
           c,
-          tell_keeps (stands m k p (Holding 0)) c h back k (record p { place = Holding 0 }) (put_same m.party k (Some (record p { place = Holding 0 }))) 0 refl (Event.Empty p.name) refl
+          tell_keeps (stands m k p (Holding 0)) c h back k (record p { stage = Holding 0 }) (put_same m.party k (Some (record p { stage = Holding 0 }))) 0 refl (Event.Empty p.name) refl
               ((keeping m c h M k p at 0 has).held_by, none_held m c h M k p at 0 has refl (eqb-true m.head 0 same)) refl refl (λ q s. s) (λ q n w. w),
           none_held m c h M k p at 0 has refl (eqb-true m.head 0 same),
         )
-    heads_stub_keep place false apart e =
-        subst (Kept p.name h) (some_inj e) (fails_keep 0 (ap tail_of place) (λ a b o. subst (λ l. Owes l a b) place o) ((fits_at StubNull place).2 (ne_of m.head 0 apart)))
+    heads_stub_keep stage false apart e =
+        subst (Kept p.name h) (some_inj e) (fails_keep 0 (ap tail_of stage) (λ a b o. subst (λ l. Owes l a b) stage o) ((fits_at StubNull stage).2 (ne_of m.head 0 apart)))
 
-    heads_keep : (t : ℕ) → p.place ≡ Null t → (b : Bool) → eqb m.head t ≡ b → heads m k p t b ≡ Some v → Kept p.name h v
-    heads_keep t place true same e =
-        let f : AtStage m.head m.next m.cell c.owner c.keeper c.rooms h k p.name (Null t) = fits_at (Null t) place in
+    heads_keep : (t : ℕ) → p.stage ≡ Null t → (b : Bool) → eqb m.head t ≡ b → heads m k p t b ≡ Some v → Kept p.name h v
+    heads_keep t stage true same e =
+        let f : AtStage m.head m.next m.cell c.owner c.keeper c.rooms h k p.name (Null t) = fits_at (Null t) stage in
         subst (Kept p.name h) (some_inj e) (
           c,
-          place_keeps m c h M k p at t (ap tail_of place) (PutClear t) refl (λ a b o. absurd (subst (λ l. Owes l a b) place o))
-              (f.0, stub_out m c h M k p at t (ap tail_of place) f.0.is_real (eqb-true m.head t same)),
+          stage_keeps m c h M k p at t (ap tail_of stage) (PutClear t) refl (λ a b o. absurd (subst (λ l. Owes l a b) stage o))
+              (f.0, stub_out m c h M k p at t (ap tail_of stage) f.0.is_real (eqb-true m.head t same)),
           tt,
         )
-    heads_keep t place false apart e =
-        subst (Kept p.name h) (some_inj e) (fails_keep t (ap tail_of place) (λ a b o. subst (λ l. Owes l a b) place o) ((fits_at (Null t) place).1 (ne_of m.head t apart)))
+    heads_keep t stage false apart e =
+        subst (Kept p.name h) (some_inj e) (fails_keep t (ap tail_of stage) (λ a b o. subst (λ l. Owes l a b) stage o) ((fits_at (Null t) stage).1 (ne_of m.head t apart)))
 
-    reads_put_keep : (t : ℕ) → p.place ≡ PutRead t → (n : Option ℕ) → m.next t ≡ n → reads_put m k p t n ≡ Some v → Kept p.name h v
-    reads_put_keep t place None next e =
-        let f : AtStage m.head m.next m.cell c.owner c.keeper c.rooms h k p.name (PutRead t) = fits_at (PutRead t) place in
-        let nothing : (a b : ℕ) → Owes p.place a b → ⊥ = λ a b o. subst (λ l. Owes l a b) place o in
-        subst (Kept p.name h) (some_inj e) (fails_keep t (ap tail_of place) nothing (was_now p.name h f.0.looked (open_blocks m c h M k p at t (ap tail_of place) nothing next f.1)))
-    reads_put_keep t place (Some r) next e =
-        let f : AtStage m.head m.next m.cell c.owner c.keeper c.rooms h k p.name (PutRead t) = fits_at (PutRead t) place in
-        gives_out_keep [] h M refl t r (ap tail_of place) (λ a b o. subst (λ l. Owes l a b) place o) f.0.is_real next (m.cell t) refl e
+    reads_put_keep : (t : ℕ) → p.stage ≡ PutRead t → (n : Option ℕ) → m.next t ≡ n → reads_put m k p t n ≡ Some v → Kept p.name h v
+    reads_put_keep t stage None next e =
+        let f : AtStage m.head m.next m.cell c.owner c.keeper c.rooms h k p.name (PutRead t) = fits_at (PutRead t) stage in
+        let nothing : (a b : ℕ) → Owes p.stage a b → ⊥ = λ a b o. subst (λ l. Owes l a b) stage o in
+        subst (Kept p.name h) (some_inj e) (fails_keep t (ap tail_of stage) nothing (was_now p.name h f.0.looked (open_blocks m c h M k p at t (ap tail_of stage) nothing next f.1)))
+    reads_put_keep t stage (Some r) next e =
+        let f : AtStage m.head m.next m.cell c.owner c.keeper c.rooms h k p.name (PutRead t) = fits_at (PutRead t) stage in
+        gives_out_keep [] h M refl t r (ap tail_of stage) (λ a b o. subst (λ l. Owes l a b) stage o) f.0.is_real next (m.cell t) refl e
 
-    act_keeps : (place : Stage) → p.place ≡ place → (s : QueueStep E) → act m k p place s ≡ Some v → Kept p.name h v
+    act_keeps : (stage : Stage) → p.stage ≡ stage → (s : QueueStep E) → act m k p stage s ≡ Some v → Kept p.name h v
     act_keeps Rest l (step.Clear (Some x)) e = clears_keep l x p.spare refl e
     act_keeps Rest l step.Take e = takes_keep l m.right refl e
     act_keeps (Cleared r) l step.Swap e = swaps_keep r l (m.cell r) refl e
@@ -141,4 +141,4 @@ module _ {P E : Type 0} (m : AbstractMachine P E) (c : Chain) (k : ℕ) (p : Abs
     act_keeps _ l _ e = absurd (none_some e)
 
 pub step_keeps : (P E : Type 0) → StepKeeps P E
-step_keeps P E m c h M k p s v at e = act_keeps m c k p at v h M p.place refl s (ap (λ o. act_of m k o s) (sym at) ∙ e)
+step_keeps P E m c h M k p s v at e = act_keeps m c k p at v h M p.stage refl s (ap (λ o. act_of m k o s) (sym at) ∙ e)

@@ -47,7 +47,7 @@ module _ {P E : Type 0} (m : AbstractMachine P E) (c : Chain) (h : List (Event P
     ]
 
   module _ (k : ℕ) (p q : AbstractParty P) (at : m.party k ≡ Some p) (r : ℕ) where
-    pub joined_more : ((a b : ℕ) → Owes p.place a b → Owes q.place a b) → Owes q.place m.head r → (i a b : ℕ) → ItemAt (c.rooms ++ r ∷ []) i a → ItemAt (c.rooms ++ r ∷ []) (suc i) b → Joined m.next (update m.party k (Some q)) a b
+    pub joined_more : ((a b : ℕ) → Owes p.stage a b → Owes q.stage a b) → Owes q.stage m.head r → (i a b : ℕ) → ItemAt (c.rooms ++ r ∷ []) i a → ItemAt (c.rooms ++ r ∷ []) (suc i) b → Joined m.next (update m.party k (Some q)) a b
     joined_more on owes i a b ia ib = elim (at_split c.rooms r (suc i) b ib) [
       | inl jb ↦ elim (at_split c.rooms r i a ia) [
         | inl ja ↦ joined_put m.party k p q at m.next a b (on a b) (M.joined i a b ja jb)
@@ -57,7 +57,7 @@ module _ {P E : Type 0} (m : AbstractMachine P E) (c : Chain) (h : List (Event P
         | inl ja ↦
             let n : M.last.0 ≡ i = omega (arith, M.last.1, jb.0) in
             let e : a ≡ m.head = at_one c.rooms i a m.head ja (subst (λ n. ItemAt c.rooms n m.head) n M.last.2) in
-            inr (ap m.next e ∙ M.ends, (k, q, put_same m.party k (Some q), subst (λ x. Owes q.place x b) (sym e) (subst (Owes q.place m.head) (sym jb.1) owes)))
+            inr (ap m.next e ∙ M.ends, (k, q, put_same m.party k (Some q), subst (λ x. Owes q.stage x b) (sym e) (subst (Owes q.stage m.head) (sym jb.1) owes)))
         | inr ja ↦ absurd (omega (arith, ja.0, jb.0))
       ]
     ]

@@ -135,7 +135,7 @@ module _ {P E : Type 0} (m : AbstractMachine P E) (c : Chain) (h : List (Event P
   -- a party without the right, where the tail goes on
   pub producer_drops : (cell' : ℕ → Option E) (owner' : ℕ → Owner) (keeper keeper' : Option ℕ) (h' : List (Event P E)) (j : ℕ) (q : P) →
       ((x : ℕ) (e : E) → c.owner x ≡ Ready j → m.cell x ≡ Some e → cell' x ≡ Some e) → ((x : ℕ) → c.owner x ≡ Ready j → owner' x ≡ Ready j) → (IsSettled q h → IsSettled q h') → ((i : ℕ) → IsPendingAt q (rank c.rooms (suc i)) h → IsPendingAt q (rank (drop 1 c.rooms) i) h') →
-      (place : Stage) → tail_of place ≡ None → AtStage m.head m.next m.cell c.owner keeper c.rooms h j q place → AtStage m.head m.next cell' owner' keeper' (drop 1 c.rooms) h' j q place
+      (stage : Stage) → tail_of stage ≡ None → AtStage m.head m.next m.cell c.owner keeper c.rooms h j q stage → AtStage m.head m.next cell' owner' keeper' (drop 1 c.rooms) h' j q stage
   producer_drops cell' owner' keeper keeper' h' j q stays ready settled pending Rest e f = settled f
   producer_drops cell' owner' keeper keeper' h' j q stays ready settled pending (Cleared x) e f = (settled f.0, ready x f.1, f.2, f.3, f.4, stays x f.4 f.1 f.5)
   producer_drops cell' owner' keeper keeper' h' j q stays ready settled pending (Swapped x old) e f = from f.0 f.1 f.2 f.5
@@ -143,7 +143,7 @@ module _ {P E : Type 0} (m : AbstractMachine P E) (c : Chain) (h : List (Event P
       from : (i : ℕ) → ItemAt c.rooms i old → ItemAt c.rooms (suc i) x → IsPendingAt q (rank c.rooms (suc i)) h → AtStage m.head m.next cell' owner' keeper' (drop 1 c.rooms) h' j q (Swapped x old)
       from zero a b w = absurd (some_none (sym linked ∙ ap m.next (at_one c.rooms 0 t old first a) ∙ f.4))
       from (suc i) a b w = (i, at_up c.rooms i old a, at_up c.rooms (suc i) x b, f.3, f.4, pending (suc i) w)
-  producer_drops cell' owner' keeper keeper' h' j q stays ready settled pending place e f = absurd (some_none e)
+  producer_drops cell' owner' keeper keeper' h' j q stays ready settled pending stage e f = absurd (some_none e)
 
 -- the tail's element is the oldest that is held
 pub tail_full : {P E : Type 0} (m : AbstractMachine P E) (c : Chain) (h : List (Event P E)) (M : Meets m c h) (t : ℕ) → t ≢ 0 → ItemAt c.rooms 0 t → (e : E) × (rest : List E) × (held h ≡ e ∷ rest) × (m.cell t ≡ Some e) × (map m.cell (real (drop 1 c.rooms)) ≡ map Some rest)

@@ -53,28 +53,28 @@ module _ {E : Type 0} where
 
   -- the law of one step, at its outcome
   abbrev Goes_on : List (Event ℕ E) → Machine E → ℕ → Option Stage → QueueStep E → Outcome E → Type 0
-  Goes_on h m p place s out = CoreMeets (h ++ events_of p m.rooms place s out.1) out.0 × AnswerSays h p out.1
+  Goes_on h m p stage s out = CoreMeets (h ++ events_of p m.rooms stage s out.1) out.0 × AnswerSays h p out.1
 
   unchanged : (h : List (Event ℕ E)) (m : Machine E) → CoreMeets h m → CoreMeets (h ++ []) m
   unchanged h m was = subst (λ k. CoreMeets k m) (sym (append-nil h)) was
 
-  module _ (h : List (Event ℕ E)) (m : Machine E) (p : ℕ) (s : QueueStep E) (was : CoreMeets h m) (place : Stage) (at : slice_get m.parties p ≡ Some place) where
-    goes_by : (o : Option (Move ℕ E)) (out : Outcome E) → words.moved (abstract_of m) p s ≡ o → Follows m p place s o out → Goes_on h m p (Some place) s out
-    goes_by None out e f = subst (Goes_on h m p (Some place) s) (sym f) (unchanged h m was, tt)
+  module _ (h : List (Event ℕ E)) (m : Machine E) (p : ℕ) (s : QueueStep E) (was : CoreMeets h m) (stage : Stage) (at : slice_get m.parties p ≡ Some stage) where
+    goes_by : (o : Option (Move ℕ E)) (out : Outcome E) → words.moved (abstract_of m) p s ≡ o → Follows m p stage s o out → Goes_on h m p (Some stage) s out
+    goes_by None out e f = subst (Goes_on h m p (Some stage) s) (sym f) (unchanged h m was, tt)
     goes_by (Some v) out e f =
-        let K = step_keeps ℕ E (abstract_of m) was.chain (reverse h) was.meets p (me_of m p place) s v (ap (party_at m.rooms p) at) e in
-        let turned : reverse (h ++ events_of p m.rooms (Some place) s out.1) ≡ v.events ++ reverse h =
-        reverse-append h (events_of p m.rooms (Some place) s out.1) ∙ ap (λ l. reverse l ++ reverse h) f.2 ∙ ap (λ l. l ++ reverse h) (reverse-reverse v.events) in
+        let K = step_keeps ℕ E (abstract_of m) was.chain (reverse h) was.meets p (me_of m p stage) s v (ap (party_at m.rooms p) at) e in
+        let turned : reverse (h ++ events_of p m.rooms (Some stage) s out.1) ≡ v.events ++ reverse h =
+        reverse-append h (events_of p m.rooms (Some stage) s out.1) ∙ ap (λ l. reverse l ++ reverse h) f.2 ∙ ap (λ l. l ++ reverse h) (reverse-reverse v.events) in
         let met : Meets (abstract_of out.0) K.0 (v.events ++ reverse h) = subst (λ w. Meets w K.0 (v.events ++ reverse h)) (sym f.0) K.1 in (
-          core_from (h ++ events_of p m.rooms (Some place) s out.1) out.0 K.0 (subst (Meets (abstract_of out.0) K.0) (sym turned) met) f.3,
+          core_from (h ++ events_of p m.rooms (Some stage) s out.1) out.0 K.0 (subst (Meets (abstract_of out.0) K.0) (sym turned) met) f.3,
           subst (AnswerSays h p) (sym f.1) (says_of h m was p v.answer K.2),
         )
 
   steps_at : (h : List (Event ℕ E)) (m : Machine E) (p : ℕ) (s : QueueStep E) → CoreMeets h m → (o : Option Stage) → slice_get m.parties p ≡ o → Goes_on h m p o s (stepped_at m p o s)
   steps_at h m p s was None at = (unchanged h m was, tt)
-  steps_at h m p s was (Some place) at =
-      goes_by h m p s was place at (words.act (abstract_of m) p (me_of m p place) place s) (core.acts m p place s) (ap (λ o. words.act_of (abstract_of m) p (party_at m.rooms p o) s) at)
-      (acts_follow m p was.owned was.chain (reverse h) was.meets place at s)
+  steps_at h m p s was (Some stage) at =
+      goes_by h m p s was stage at (words.act (abstract_of m) p (me_of m p stage) stage s) (core.acts m p stage s) (ap (λ o. words.act_of (abstract_of m) p (party_at m.rooms p o) s) at)
+      (acts_follow m p was.owned was.chain (reverse h) was.meets stage at s)
 
   pub core_steps : (h : List (Event ℕ E)) (m : Machine E) (p : ℕ) (s : QueueStep E) → CoreMeets h m → CoreMeets (h ++ step_events m p s (stepped m p s).1) (stepped m p s).0 × AnswerSays h p (stepped m p s).1
   core_steps h m p s was = steps_at h m p s was (slice_get m.parties p) refl
@@ -104,7 +104,7 @@ module _ {E : Type 0} where
   module _ (m : Machine E) (owned : IsOwned m) where
     named : (k : ℕ) (o : Option Stage) (q : AbstractParty ℕ) → party_at m.rooms k o ≡ Some q → (o ≡ None → ⊥) × (q.name ≡ k)
     named k None q e = absurd (none_some e)
-    named k (Some place) q e = ((λ n. none_some (sym n)), ap (λ (x : AbstractParty ℕ). x.name) (sym (some_inj e)))
+    named k (Some stage) q e = ((λ n. none_some (sym n)), ap (λ (x : AbstractParty ℕ). x.name) (sym (some_inj e)))
 
     stranger : IsStranger (parties_of m.rooms m.parties) (length m.parties)
     stranger j q e same = let n = named j (slice_get m.parties j) q e in n.0 (ap (slice_get m.parties) (sym n.1 ∙ same) ∙ get_beyond m.parties)
@@ -112,12 +112,12 @@ module _ {E : Type 0} where
     with_party_words : abstract_of (with_party m) ≡ words.add_party (abstract_of m) (length m.parties) (length m.parties)
     with_party_words = words_eq m.head _ (length m.rooms) (length m.rooms) (read next_in m.rooms) (read next_in m.rooms) (read element_in m.rooms) (read element_in m.rooms) _ _ refl refl refl (fun_ext (λ j. elim (ℕ_discrete j (length m.parties)) [
       | yes same ↦ subst (λ i. parties_of m.rooms (m.parties ++ Rest ∷ []) i ≡ update (parties_of m.rooms m.parties) (length m.parties) now i) (sym same)
-          (ap (party_at m.rooms (length m.parties)) (get_push_same m.parties Rest) ∙ ap (λ free. Some (record { name = length m.parties; place = Rest; spare = free })) (owned (length m.parties) (get_beyond m.parties)) ∙ sym (put_same (parties_of m.rooms m.parties) (length m.parties) now))
+          (ap (party_at m.rooms (length m.parties)) (get_push_same m.parties Rest) ∙ ap (λ free. Some (record { name = length m.parties; stage = Rest; spare = free })) (owned (length m.parties) (get_beyond m.parties)) ∙ sym (put_same (parties_of m.rooms m.parties) (length m.parties) now))
       | no ne ↦ ap (party_at m.rooms j) (get_push_other m.parties Rest j ne) ∙ sym (put_other (parties_of m.rooms m.parties) (length m.parties) now j ne)
     ]))
       where
         now : Option (AbstractParty ℕ)
-        now = Some (record { name = length m.parties; place = Rest; spare = [] })
+        now = Some (record { name = length m.parties; stage = Rest; spare = [] })
 
     owned_party : IsOwned (with_party m)
     owned_party k none = elim (ℕ_discrete k (length m.parties)) [
@@ -131,28 +131,28 @@ module _ {E : Type 0} where
       core_from h (with_party m) a.0 (subst (λ w. Meets w a.0 (reverse h)) (sym (with_party_words m was.owned)) a.1) (owned_party m was.owned)
 
   -- a room more
-  module _ (m : Machine E) (owned : IsOwned m) (p : ℕ) (place : Stage) (at : slice_get m.parties p ≡ Some place) where
+  module _ (m : Machine E) (owned : IsOwned m) (p : ℕ) (stage : Stage) (at : slice_get m.parties p ≡ Some stage) where
     abbrev room : Room E
     room = record { owner = Some p; element = None; next = None }
 
     others : (k : ℕ) → k ≢ p → free_rooms k (m.rooms ++ room ∷ []) ≡ free_rooms k m.rooms
     others k ne = free_pushed_other k m.rooms room 0 (others_room k p ne)
 
-    with_room_words : abstract_of (cores.with_room m p) ≡ words.add_room (abstract_of m) p (me_of m p place)
+    with_room_words : abstract_of (cores.with_room m p) ≡ words.add_room (abstract_of m) p (me_of m p stage)
     with_room_words =
         let here : length m.rooms + 0 ≡ length m.rooms = omega arith in
         let mine : free_rooms p (m.rooms ++ room ∷ []) ≡ insert_room (length m.rooms) (free_rooms p m.rooms) = free_pushed p m.rooms room 0 (own_room p) ∙ ap (λ n. insert_room n (free_rooms p m.rooms)) here in
         words_eq m.head _ (length (m.rooms ++ room ∷ [])) (suc (length m.rooms)) (read next_in (m.rooms ++ room ∷ [])) (read next_in m.rooms) (read element_in (m.rooms ++ room ∷ [])) (read element_in m.rooms) _ _
         (omega (arith, length-append m.rooms (room ∷ []))) (read_pushed next_in m.rooms room refl) (read_pushed element_in m.rooms room refl)
-        (ap (parties_of (m.rooms ++ room ∷ [])) (sym (set_as_it_was m.parties p place at)) ∙ parties_put m.rooms (m.rooms ++ room ∷ []) m.parties p place place (insert_room (length m.rooms) (free_rooms p m.rooms)) at mine others)
+        (ap (parties_of (m.rooms ++ room ∷ [])) (sym (set_as_it_was m.parties p stage at)) ∙ parties_put m.rooms (m.rooms ++ room ∷ []) m.parties p stage stage (insert_room (length m.rooms) (free_rooms p m.rooms)) at mine others)
 
     owned_room : IsOwned (cores.with_room m p)
     owned_room k none = others k (λ same. none_some (sym none ∙ ap (slice_get m.parties) same ∙ at)) ∙ owned k none
 
-  pub meets_room : (h : List (Event ℕ E)) (m : Machine E) (p : ℕ) (place : Stage) → slice_get m.parties p ≡ Some place → CoreMeets h m → CoreMeets h (cores.with_room m p)
-  meets_room h m p place at was =
-      let a = (adds_keep ℕ E (abstract_of m) was.chain (reverse h) was.meets p).1 (me_of m p place) (ap (party_at m.rooms p) at) in
-      core_from h (cores.with_room m p) a.0 (subst (λ w. Meets w a.0 (reverse h)) (sym (with_room_words m was.owned p place at)) a.1) (owned_room m was.owned p place at)
+  pub meets_room : (h : List (Event ℕ E)) (m : Machine E) (p : ℕ) (stage : Stage) → slice_get m.parties p ≡ Some stage → CoreMeets h m → CoreMeets h (cores.with_room m p)
+  meets_room h m p stage at was =
+      let a = (adds_keep ℕ E (abstract_of m) was.chain (reverse h) was.meets p).1 (me_of m p stage) (ap (party_at m.rooms p) at) in
+      core_from h (cores.with_room m p) a.0 (subst (λ w. Meets w a.0 (reverse h)) (sym (with_room_words m was.owned p stage at)) a.1) (owned_room m was.owned p stage at)
 
   -- what a core met, and a run of it keeps
   went_held : (h : List (Event ℕ E)) (m : Machine E) → CoreMeets h m → went h ++ held h ≡ came h

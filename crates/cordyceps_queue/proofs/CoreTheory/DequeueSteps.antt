@@ -17,12 +17,12 @@ free_right right party rooms h (Some j) t e R = absurd (suc_zero (sym e ∙ R.0)
 
 module _ {P E : Type 0} (m : AbstractMachine P E) (c : Chain) (h : List (Event P E)) (M : Meets m c h) (k : ℕ) (p : AbstractParty P) (at : m.party k ≡ Some p) where
   -- Take of the free right
-  module _ (t : ℕ) (rest : p.place ≡ Rest) (right : m.right ≡ suc t) where
+  module _ (t : ℕ) (rest : p.stage ≡ Rest) (right : m.right ≡ suc t) where
     abbrev pub chain_after_take : Chain
     chain_after_take = record c { keeper = Some k }
 
     abbrev taker : AbstractParty P
-    taker = record p { place = Holding t }
+    taker = record p { stage = Holding t }
 
     free : (c.keeper ≡ None) × (holder h ≡ None) × ItemAt c.rooms 0 t
     free = free_right m.right m.party c.rooms h c.keeper t right M.right
@@ -42,9 +42,9 @@ module _ {P E : Type 0} (m : AbstractMachine P E) (c : Chain) (h : List (Event P
       unmade = M.unmade;
       holds = M.holds;
       right = (refl, taker, t, put_same m.party k (Some taker), refl, refl);
-      fits = put_all (λ j q. AtStage m.head m.next m.cell c.owner (Some k) c.rooms (Event.Take p.name ∷ h) j q.name q.place) m.party k taker
-          (λ j q ne eq. producer_moves m.head m.head m.next m.next m.cell c.owner c.keeper (Some k) c.rooms h (Event.Take p.name ∷ h) j q.name (λ a n. n) (λ s. s) (λ n w. w) q.place
-          (has_none m.head m.next m.cell c.owner c.keeper c.rooms h j q.name q.place (tail_of q.place) refl (λ e. none_some (sym free.0 ∙ e)) (M.fits j q eq)) (M.fits j q eq))
+      fits = put_all (λ j q. AtStage m.head m.next m.cell c.owner (Some k) c.rooms (Event.Take p.name ∷ h) j q.name q.stage) m.party k taker
+          (λ j q ne eq. producer_moves m.head m.head m.next m.next m.cell c.owner c.keeper (Some k) c.rooms h (Event.Take p.name ∷ h) j q.name (λ a n. n) (λ s. s) (λ n w. w) q.stage
+          (has_none m.head m.next m.cell c.owner c.keeper c.rooms h j q.name q.stage (tail_of q.stage) refl (λ e. none_some (sym free.0 ∙ e)) (M.fits j q eq)) (M.fits j q eq))
           (record { kept = refl; held_by = refl; tail = free.2; settled = settled });
       rooms = put_all (λ j q. OwnsRooms c.owner j q.spare) m.party k taker (λ j q ne eq. M.rooms j q eq) (M.rooms k p at);
       names = names_put m.party k p taker at refl M.names;
@@ -52,12 +52,12 @@ module _ {P E : Type 0} (m : AbstractMachine P E) (c : Chain) (h : List (Event P
     }
 
   -- Give
-  module _ (t : ℕ) (holding : p.place ≡ Holding t) where
+  module _ (t : ℕ) (holding : p.stage ≡ Holding t) where
     abbrev pub chain_after_give : Chain
     chain_after_give = record c { keeper = None }
 
     abbrev giver : AbstractParty P
-    giver = record p { place = Rest }
+    giver = record p { stage = Rest }
 
     keeps_right : Keeps c.keeper c.rooms h k p.name t
     keeps_right = keeping m c h M k p at t (ap tail_of holding)
@@ -74,8 +74,8 @@ module _ {P E : Type 0} (m : AbstractMachine P E) (c : Chain) (h : List (Event P
       unmade = M.unmade;
       holds = M.holds;
       right = (refl, t, refl, keeps_right.tail);
-      fits = put_all (λ j q. AtStage m.head m.next m.cell c.owner None c.rooms (Event.Free p.name ∷ h) j q.name q.place) m.party k giver
-          (λ j q ne eq. producer_moves m.head m.head m.next m.next m.cell c.owner c.keeper None c.rooms h (Event.Free p.name ∷ h) j q.name (λ a n. n) (λ s. s) (λ n w. w) q.place
+      fits = put_all (λ j q. AtStage m.head m.next m.cell c.owner None c.rooms (Event.Free p.name ∷ h) j q.name q.stage) m.party k giver
+          (λ j q ne eq. producer_moves m.head m.head m.next m.next m.cell c.owner c.keeper None c.rooms h (Event.Free p.name ∷ h) j q.name (λ a n. n) (λ s. s) (λ n w. w) q.stage
           (other_none m c h M k p at t (ap tail_of holding) j q ne eq) (M.fits j q eq))
           keeps_right.settled;
       rooms = put_all (λ j q. OwnsRooms c.owner j q.spare) m.party k giver (λ j q ne eq. M.rooms j q eq) (M.rooms k p at);
@@ -84,12 +84,12 @@ module _ {P E : Type 0} (m : AbstractMachine P E) (c : Chain) (h : List (Event P
     }
 
   -- the stub is passed
-  module _ (r : ℕ) (holding : p.place ≡ Holding 0) (linked : m.next 0 ≡ Some r) (looked : HasLooked p.name h) where
+  module _ (r : ℕ) (holding : p.stage ≡ Holding 0) (linked : m.next 0 ≡ Some r) (looked : HasLooked p.name h) where
     abbrev pub chain_after_pass : Chain
     chain_after_pass = record c { rooms = drop 1 c.rooms }
 
     abbrev passed_party : AbstractParty P
-    passed_party = record p { place = Second r }
+    passed_party = record p { stage = Second r }
 
     keeps_stub : Keeps c.keeper c.rooms h k p.name 0
     keeps_stub = keeping m c h M k p at 0 (ap tail_of holding)
@@ -109,9 +109,9 @@ module _ {P E : Type 0} (m : AbstractMachine P E) (c : Chain) (h : List (Event P
       unmade = M.unmade;
       holds = ap (map m.cell) (sym (real_stub c.rooms keeps_stub.tail)) ∙ M.holds;
       right = right_with m c h M k p at 0 (ap tail_of holding) (update m.party k (Some passed_party)) (drop 1 c.rooms) h passed_party r (put_same m.party k (Some passed_party)) refl keeps_stub.held_by;
-      fits = put_all (λ j q. AtStage m.head m.next m.cell c.owner c.keeper (drop 1 c.rooms) h j q.name q.place) m.party k passed_party
+      fits = put_all (λ j q. AtStage m.head m.next m.cell c.owner c.keeper (drop 1 c.rooms) h j q.name q.stage) m.party k passed_party
           (λ j q ne eq. producer_drops m c h M 0 r keeps_stub.tail linked m.cell c.owner c.keeper c.keeper h j q.name (λ x e o f. f) (λ x e. e) (λ s. s)
-          (λ i w. subst (λ n. IsPendingAt q.name n h) (rank_stub c.rooms i keeps_stub.tail) w) q.place
+          (λ i w. subst (λ n. IsPendingAt q.name n h) (rank_stub c.rooms i keeps_stub.tail) w) q.stage
           (other_none m c h M k p at 0 (ap tail_of holding) j q ne eq) (M.fits j q eq))
           (record {
             keeps = record { kept = keeps_stub.kept; held_by = keeps_stub.held_by; tail = at_up c.rooms 0 r at_second; settled = keeps_stub.settled };
@@ -124,12 +124,12 @@ module _ {P E : Type 0} (m : AbstractMachine P E) (c : Chain) (h : List (Event P
     }
 
   -- the tail's element is handed out
-  module _ (t r : ℕ) (has : tail_of p.place ≡ Some t) (nothing : (a b : ℕ) → Owes p.place a b → ⊥) (is_real : t ≢ 0) (linked : m.next t ≡ Some r) (e : E) (full : m.cell t ≡ Some e) where
+  module _ (t r : ℕ) (has : tail_of p.stage ≡ Some t) (nothing : (a b : ℕ) → Owes p.stage a b → ⊥) (is_real : t ≢ 0) (linked : m.next t ≡ Some r) (e : E) (full : m.cell t ≡ Some e) where
     abbrev pub chain_after_out : Chain
     chain_after_out = record { rooms = drop 1 c.rooms; owner = update c.owner t (Spare k); keeper = c.keeper }
 
     abbrev out : AbstractParty P
-    out = record { name = p.name; place = Holding r; spare = insert_room t p.spare }
+    out = record { name = p.name; stage = Holding r; spare = insert_room t p.spare }
 
     keeps_tail : Keeps c.keeper c.rooms h k p.name t
     keeps_tail = keeping m c h M k p at t has
@@ -173,11 +173,11 @@ module _ {P E : Type 0} (m : AbstractMachine P E) (c : Chain) (h : List (Event P
       unmade = λ x lt. not_tail x Unmade (M.unmade x lt) (λ e. shared_unmade e refl);
       holds = map_put m.cell t None (drop 1 c.rooms) (tail_away m c h M t r keeps_tail.tail linked) ∙ oldest.4 ∙ ap (map Some) (sym (ap (drop 1) is_oldest));
       right = right_with m c h M k p at t has (update m.party k (Some out)) (drop 1 c.rooms) (Event.Out p.name e ∷ h) out r (put_same m.party k (Some out)) refl keeps_tail.held_by;
-      fits = put_all (λ j q. AtStage m.head m.next (update m.cell t None) (update c.owner t (Spare k)) c.keeper (drop 1 c.rooms) (Event.Out p.name e ∷ h) j q.name q.place) m.party k out
+      fits = put_all (λ j q. AtStage m.head m.next (update m.cell t None) (update c.owner t (Spare k)) c.keeper (drop 1 c.rooms) (Event.Out p.name e ∷ h) j q.name q.stage) m.party k out
           (λ j q ne eq. producer_drops m c h M t r keeps_tail.tail linked (update m.cell t None) (update c.owner t (Spare k)) c.keeper c.keeper (Event.Out p.name e ∷ h) j q.name
           (λ x y o f. put_other m.cell t None x (λ s. ready_shared o (ap c.owner s ∙ tail_shared)) ∙ f)
           (λ x e. not_tail x (Ready j) e (λ s. ready_shared refl s)) (λ s. s)
-          (λ i w. subst (λ n. IsPendingAt q.name n h) (rank_first c.rooms t i is_real keeps_tail.tail) w) q.place
+          (λ i w. subst (λ n. IsPendingAt q.name n h) (rank_first c.rooms t i is_real keeps_tail.tail) w) q.stage
           (other_none m c h M k p at t has j q ne eq) (M.fits j q eq))
           (record { kept = keeps_tail.kept; held_by = keeps_tail.held_by; tail = at_up c.rooms 0 r next_at; settled = keeps_tail.settled });
       rooms = put_all (λ j q. OwnsRooms (update c.owner t (Spare k)) j q.spare) m.party k out (λ j q ne eq. spares_stay j q.spare (M.rooms j q eq)) (spares_grow (M.rooms k p at));

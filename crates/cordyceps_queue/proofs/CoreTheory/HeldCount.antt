@@ -57,12 +57,12 @@ cleared_at r (Cleared x ∷ ps) l = elim (ℕ_discrete x r) [
   | yes e ↦ (0, ap (λ z. Some (Cleared z)) e)
   | no ne ↦ let t = cleared_at r ps (omega (arith, one_else x r ne)) in (suc t.0, t.1)
 ]
-cleared_at r (place ∷ ps) l = let t = cleared_at r ps l in (suc t.0, t.1)
+cleared_at r (stage ∷ ps) l = let t = cleared_at r ps l in (suc t.0, t.1)
 
 count_cleared : (ps : List Stage) → count_by is_cleared ps ≡ length (cleared_rooms ps)
 count_cleared [] = refl
 count_cleared (Cleared r ∷ ps) = omega (arith, sum_by-cons (λ p. cond (is_cleared p) 1 0) (Cleared r) ps, count_cleared ps)
-count_cleared (place ∷ ps) = omega (arith, sum_by-cons (λ p. cond (is_cleared p) 1 0) place ps, count_cleared ps)
+count_cleared (stage ∷ ps) = omega (arith, sum_by-cons (λ p. cond (is_cleared p) 1 0) stage ps, count_cleared ps)
 
 abbrev maker : Owner → ℕ
 maker (Ready k) = k
@@ -96,7 +96,7 @@ cleared_once owner (Cleared x ∷ ps) o mine r =
           omega (arith, none, ap (λ z. one_if (eqb z r)) e, one_here r)
       | no ne ↦ omega (arith, later, one_else x r ne)
     ]
-cleared_once owner (place ∷ ps) o mine r = cleared_once owner ps (suc o) (λ k q e. mine (suc k) q e ∙ ap Ready (omega arith)) r
+cleared_once owner (stage ∷ ps) o mine r = cleared_once owner ps (suc o) (λ k q e. mine (suc k) q e ∙ ap Ready (omega arith)) r
 
 -- ---- the rooms of the chain
 real_times : (r : ℕ) (xs : List ℕ) → times r (real xs) ≤ times r xs

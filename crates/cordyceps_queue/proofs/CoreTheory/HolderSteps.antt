@@ -52,34 +52,34 @@ no_items (x ∷ xs) e = absurd (suc_zero e)
 -- a party without the right, beside a change of the words and the history
 pub producer_moves : {P E : Type 0} (head head' : ℕ) (next next' : ℕ → Option ℕ) (cell : ℕ → Option E) (owner : ℕ → Owner) (keeper keeper' : Option ℕ) (rooms : List ℕ) (h h' : List (Event P E)) (j : ℕ) (q : P) →
     ((a : ℕ) → next a ≡ None → next' a ≡ None) → (IsSettled q h → IsSettled q h') → ((n : ℕ) → IsPendingAt q n h → IsPendingAt q n h') →
-    (place : Stage) → tail_of place ≡ None → AtStage head next cell owner keeper rooms h j q place → AtStage head' next' cell owner keeper' rooms h' j q place
+    (stage : Stage) → tail_of stage ≡ None → AtStage head next cell owner keeper rooms h j q stage → AtStage head' next' cell owner keeper' rooms h' j q stage
 producer_moves head head' next next' cell owner keeper keeper' rooms h h' j q none settled pending Rest t f = settled f
 producer_moves head head' next next' cell owner keeper keeper' rooms h h' j q none settled pending (Cleared x) t f = (settled f.0, f.1, f.2, none x f.3, f.4, f.5)
 producer_moves head head' next next' cell owner keeper keeper' rooms h h' j q none settled pending (Swapped x old) t f = (f.0, f.1, f.2, f.3, none old f.4, pending (rank rooms (suc f.0)) f.5)
-producer_moves head head' next next' cell owner keeper keeper' rooms h h' j q none settled pending place t f = absurd (some_none t)
+producer_moves head head' next next' cell owner keeper keeper' rooms h h' j q none settled pending stage t f = absurd (some_none t)
 
 right_zero : {P E : Type 0} (right : ℕ) (party : ℕ → Option (AbstractParty P)) (rooms : List ℕ) (h : List (Event P E)) (keeper : Option ℕ) (k : ℕ) → keeper ≡ Some k → RightIs right party rooms h keeper → right ≡ 0
 right_zero right party rooms h None k e R = absurd (none_some e)
 right_zero right party rooms h (Some j) k e R = R.0
 
-module _ {P E : Type 0} (m : AbstractMachine P E) (c : Chain) (h : List (Event P E)) (M : Meets m c h) (k : ℕ) (p : AbstractParty P) (at : m.party k ≡ Some p) (t : ℕ) (has : tail_of p.place ≡ Some t) where
+module _ {P E : Type 0} (m : AbstractMachine P E) (c : Chain) (h : List (Event P E)) (M : Meets m c h) (k : ℕ) (p : AbstractParty P) (at : m.party k ≡ Some p) (t : ℕ) (has : tail_of p.stage ≡ Some t) where
   pub keeping : Keeps c.keeper c.rooms h k p.name t
-  keeping = keeps_of m.head m.next m.cell c.owner c.keeper c.rooms h k p.name p.place t has (M.fits k p at)
+  keeping = keeps_of m.head m.next m.cell c.owner c.keeper c.rooms h k p.name p.stage t has (M.fits k p at)
 
   -- every other party is without the right
-  pub other_none : (j : ℕ) (q : AbstractParty P) → j ≢ k → m.party j ≡ Some q → tail_of q.place ≡ None
-  other_none j q ne eq = has_none m.head m.next m.cell c.owner c.keeper c.rooms h j q.name q.place (tail_of q.place) refl (λ e. ne (some_inj (sym e ∙ keeping.kept))) (M.fits j q eq)
+  pub other_none : (j : ℕ) (q : AbstractParty P) → j ≢ k → m.party j ≡ Some q → tail_of q.stage ≡ None
+  other_none j q ne eq = has_none m.head m.next m.cell c.owner c.keeper c.rooms h j q.name q.stage (tail_of q.stage) refl (λ e. ne (some_inj (sym e ∙ keeping.kept))) (M.fits j q eq)
 
   zero_right : m.right ≡ 0
   zero_right = right_zero m.right m.party c.rooms h c.keeper k keeping.kept M.right
 
   -- the right stays with the party
-  pub right_with : (party : ℕ → Option (AbstractParty P)) (rooms : List ℕ) (h' : List (Event P E)) (q : AbstractParty P) (u : ℕ) → party k ≡ Some q → tail_of q.place ≡ Some u → holder h' ≡ Some q.name → RightIs m.right party rooms h' c.keeper
+  pub right_with : (party : ℕ → Option (AbstractParty P)) (rooms : List ℕ) (h' : List (Event P E)) (q : AbstractParty P) (u : ℕ) → party k ≡ Some q → tail_of q.stage ≡ Some u → holder h' ≡ Some q.name → RightIs m.right party rooms h' c.keeper
   right_with party rooms h' q u e tail by = subst (RightIs m.right party rooms h') (sym keeping.kept) (zero_right, q, u, e, tail, by)
 
-  -- only the place changes
-  pub place_keeps : (place : Stage) → tail_of place ≡ Some t → ((a b : ℕ) → Owes p.place a b → Owes place a b) → AtStage m.head m.next m.cell c.owner c.keeper c.rooms h k p.name place → Meets (stands m k p place) c h
-  place_keeps place has' on mine = record {
+  -- only the stage changes
+  pub stage_keeps : (stage : Stage) → tail_of stage ≡ Some t → ((a b : ℕ) → Owes p.stage a b → Owes stage a b) → AtStage m.head m.next m.cell c.owner c.keeper c.rooms h k p.name stage → Meets (stands m k p stage) c h
+  stage_keeps stage has' on mine = record {
     legal = M.legal;
     last = M.last;
     ends = M.ends;
@@ -90,17 +90,17 @@ module _ {P E : Type 0} (m : AbstractMachine P E) (c : Chain) (h : List (Event P
     unmade = M.unmade;
     holds = M.holds;
     right = right_with (update m.party k (Some moved)) c.rooms h moved t (put_same m.party k (Some moved)) has' keeping.held_by;
-    fits = put_all (λ j q. AtStage m.head m.next m.cell c.owner c.keeper c.rooms h j q.name q.place) m.party k moved (λ j q ne eq. M.fits j q eq) mine;
+    fits = put_all (λ j q. AtStage m.head m.next m.cell c.owner c.keeper c.rooms h j q.name q.stage) m.party k moved (λ j q ne eq. M.fits j q eq) mine;
     rooms = put_all (λ j q. OwnsRooms c.owner j q.spare) m.party k moved (λ j q ne eq. M.rooms j q eq) (M.rooms k p at);
     names = names_put m.party k p moved at refl M.names;
     strangers = λ n away. M.strangers n (strange m.party k p moved at refl n away);
   }
     where
       moved : AbstractParty P
-      moved = record p { place = place }
+      moved = record p { stage = stage }
 
   -- only the history grows, by a look or an answer
-  pub tell_keeps : (x : Event P E) → p.place ≡ Holding t → MayCome x h → held (x ∷ h) ≡ held h → holder (x ∷ h) ≡ holder h → ((q : P) → IsSettled q h → IsSettled q (x ∷ h)) → ((q : P) (n : ℕ) → IsPendingAt q n h → IsPendingAt q n (x ∷ h)) → Meets m c (x ∷ h)
+  pub tell_keeps : (x : Event P E) → p.stage ≡ Holding t → MayCome x h → held (x ∷ h) ≡ held h → holder (x ∷ h) ≡ holder h → ((q : P) → IsSettled q h → IsSettled q (x ∷ h)) → ((q : P) (n : ℕ) → IsPendingAt q n h → IsPendingAt q n (x ∷ h)) → Meets m c (x ∷ h)
   tell_keeps x holding may same_held same_holder settled pending = record {
     legal = (may, M.legal);
     last = M.last;
@@ -115,29 +115,29 @@ module _ {P E : Type 0} (m : AbstractMachine P E) (c : Chain) (h : List (Event P
     fits = λ j q eq. elim (ℕ_discrete j k) [
       | yes same ↦
           let e : p ≡ q = some_inj (sym at ∙ ap m.party (sym same) ∙ eq) in
-          subst (λ (r : AbstractParty P). AtStage m.head m.next m.cell c.owner c.keeper c.rooms (x ∷ h) j r.name r.place) e (subst (λ i. AtStage m.head m.next m.cell c.owner c.keeper c.rooms (x ∷ h) i p.name p.place) (sym same) mine)
-      | no ne ↦ producer_moves m.head m.head m.next m.next m.cell c.owner c.keeper c.keeper c.rooms h (x ∷ h) j q.name (λ a n. n) (settled q.name) (pending q.name) q.place (other_none j q ne eq) (M.fits j q eq)
+          subst (λ (r : AbstractParty P). AtStage m.head m.next m.cell c.owner c.keeper c.rooms (x ∷ h) j r.name r.stage) e (subst (λ i. AtStage m.head m.next m.cell c.owner c.keeper c.rooms (x ∷ h) i p.name p.stage) (sym same) mine)
+      | no ne ↦ producer_moves m.head m.head m.next m.next m.cell c.owner c.keeper c.keeper c.rooms h (x ∷ h) j q.name (λ a n. n) (settled q.name) (pending q.name) q.stage (other_none j q ne eq) (M.fits j q eq)
     ];
     rooms = M.rooms;
     names = M.names;
     strangers = λ n away. settled n (M.strangers n away);
   }
     where
-      mine : AtStage m.head m.next m.cell c.owner c.keeper c.rooms (x ∷ h) k p.name p.place
+      mine : AtStage m.head m.next m.cell c.owner c.keeper c.rooms (x ∷ h) k p.name p.stage
       mine = subst (AtStage m.head m.next m.cell c.owner c.keeper c.rooms (x ∷ h) k p.name) (sym holding) (record { kept = keeping.kept; held_by = same_holder ∙ keeping.held_by; tail = keeping.tail; settled = settled p.name keeping.settled })
 
   -- another party owes the link behind the tail
-  blocker : (j : ℕ) (q : P) (b : ℕ) (place : Stage) → Owes place t b → tail_of place ≡ None → AtStage m.head m.next m.cell c.owner c.keeper c.rooms h j q place → IsBlocked h
+  blocker : (j : ℕ) (q : P) (b : ℕ) (stage : Stage) → Owes stage t b → tail_of stage ≡ None → AtStage m.head m.next m.cell c.owner c.keeper c.rooms h j q stage → IsBlocked h
   blocker j q b (Swapped x old) o none f =
       let first : f.0 ≡ 0 = M.once f.0 0 old f.1 (subst (ItemAt c.rooms 0) o.0 keeping.tail) in
       let l = rank_within c.rooms (suc f.0) in
       (q, rank c.rooms (suc f.0), omega arith, f.5)
   blocker j q b Rest o none f = absurd o
   blocker j q b (Cleared x) o none f = absurd o
-  blocker j q b place o none f = absurd (some_none none)
+  blocker j q b stage o none f = absurd (some_none none)
 
   -- an open link behind the tail blocks
-  pub open_blocks : ((a b : ℕ) → Owes p.place a b → ⊥) → m.next t ≡ None → m.head ≢ t → IsBlocked h
+  pub open_blocks : ((a b : ℕ) → Owes p.stage a b → ⊥) → m.next t ≡ None → m.head ≢ t → IsBlocked h
   open_blocks nothing null far =
       let long : M.last.0 ≢ 0 = λ e. far (at_one c.rooms 0 m.head t (subst (λ i. ItemAt c.rooms i m.head) e M.last.2) keeping.tail) in
       let second = at_some c.rooms 1 (omega (arith, M.last.1)) in
@@ -146,8 +146,8 @@ module _ {P E : Type 0} (m : AbstractMachine P E) (c : Chain) (h : List (Event P
       from : (b : ℕ) → Joined m.next m.party t b → IsBlocked h
       from b (inl l) = absurd (some_none (sym l ∙ null))
       from b (inr o) = elim (ℕ_discrete o.1.0 k) [
-        | yes same ↦ let e : o.1.1 ≡ p = some_inj (sym o.1.2 ∙ ap m.party same ∙ at) in absurd (nothing t b (subst (λ (r : AbstractParty P). Owes r.place t b) e o.1.3))
-        | no ne ↦ blocker o.1.0 o.1.1.name b o.1.1.place o.1.3 (other_none o.1.0 o.1.1 ne o.1.2) (M.fits o.1.0 o.1.1 o.1.2)
+        | yes same ↦ let e : o.1.1 ≡ p = some_inj (sym o.1.2 ∙ ap m.party same ∙ at) in absurd (nothing t b (subst (λ (r : AbstractParty P). Owes r.stage t b) e o.1.3))
+        | no ne ↦ blocker o.1.0 o.1.1.name b o.1.1.stage o.1.3 (other_none o.1.0 o.1.1 ne o.1.2) (M.fits o.1.0 o.1.1 o.1.2)
       ]
 
   -- where head is the tail, it is the only room

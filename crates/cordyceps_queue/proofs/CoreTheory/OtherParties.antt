@@ -1,4 +1,4 @@
--- One party goes to another place: what stays so of the others.
+-- One party goes to another stage: what stays so of the others.
 use Rattle.std.proofs.Common.{◌≡◌, ℕ, List, Option, Some, None, refl, sym, ap, ◌∙◌, subst, inl, inr}
 use native.Mathlib.Decide.{ℕ_discrete}
 use Rattle.cordyceps_queue.specs.History.{Event}
@@ -9,13 +9,13 @@ use Rattle.cordyceps_queue.specs.Cores.Meets.{Owes, tail_of, Owner, Owed, Joined
 use Rattle.cordyceps_queue.proofs.CoreTheory.Basics.{some_inj, some_none, none_some, put_same, put_other, put_all}
 
 module _ {P : Type 0} (party : ℕ → Option (AbstractParty P)) (k : ℕ) (p q : AbstractParty P) (at : party k ≡ Some p) where
-  owed_put : (a b : ℕ) → (Owes p.place a b → Owes q.place a b) → Owed party a b → Owed (update party k (Some q)) a b
+  owed_put : (a b : ℕ) → (Owes p.stage a b → Owes q.stage a b) → Owed party a b → Owed (update party k (Some q)) a b
   owed_put a b on o = elim (ℕ_discrete o.0 k) [
-    | yes same ↦ let e : o.1 ≡ p = some_inj (sym o.2 ∙ ap party same ∙ at) in (k, q, put_same party k (Some q), on (subst (λ r. Owes r.place a b) e o.3))
+    | yes same ↦ let e : o.1 ≡ p = some_inj (sym o.2 ∙ ap party same ∙ at) in (k, q, put_same party k (Some q), on (subst (λ r. Owes r.stage a b) e o.3))
     | no ne ↦ (o.0, o.1, put_other party k (Some q) o.0 ne ∙ o.2, o.3)
   ]
 
-  pub joined_put : (next : ℕ → Option ℕ) (a b : ℕ) → (Owes p.place a b → Owes q.place a b) → Joined next party a b → Joined next (update party k (Some q)) a b
+  pub joined_put : (next : ℕ → Option ℕ) (a b : ℕ) → (Owes p.stage a b → Owes q.stage a b) → Joined next party a b → Joined next (update party k (Some q)) a b
   joined_put next a b on (inl l) = inl l
   joined_put next a b on (inr o) = inr (o.0, owed_put a b on o.1)
 
@@ -26,7 +26,7 @@ module _ {P : Type 0} (party : ℕ → Option (AbstractParty P)) (k : ℕ) (p q 
       (put_all (λ j y. q.name ≡ y.name → k ≡ j) party k q (λ j y _ ej e. apart k j p y at ej (sym same ∙ e)) (λ e. refl) j y ej)
       i x ei
 
-  -- whose name no party has after a change of places had none before
+  -- whose name no party has after a change of stages had none before
   pub strange : q.name ≡ p.name → (n : P) → IsStranger (update party k (Some q)) n → IsStranger party n
   strange same n away j x e = elim (ℕ_discrete j k) [
     | yes here ↦ λ s. away k q (put_same party k (Some q)) (same ∙ ap (λ (y : AbstractParty P). y.name) (some_inj (sym at ∙ ap party (sym here) ∙ e)) ∙ s)
@@ -35,16 +35,16 @@ module _ {P : Type 0} (party : ℕ → Option (AbstractParty P)) (k : ℕ) (p q 
 
 module _ {P E : Type 0} (party : ℕ → Option (AbstractParty P)) (k : ℕ) (p q : AbstractParty P) (at : party k ≡ Some p) where
   -- a party without the right
-  pub right_put : (right : ℕ) (rooms : List ℕ) (h : List (Event P E)) (keeper : Option ℕ) → tail_of p.place ≡ None → RightIs right party rooms h keeper → RightIs right (update party k (Some q)) rooms h keeper
+  pub right_put : (right : ℕ) (rooms : List ℕ) (h : List (Event P E)) (keeper : Option ℕ) → tail_of p.stage ≡ None → RightIs right party rooms h keeper → RightIs right (update party k (Some q)) rooms h keeper
   right_put right rooms h None none r = r
   right_put right rooms h (Some j) none r = elim (ℕ_discrete j k) [
-    | yes same ↦ let e : r.1 ≡ p = some_inj (sym r.3 ∙ ap party same ∙ at) in absurd (some_none (sym r.4 ∙ ap (λ (x : AbstractParty P). tail_of x.place) e ∙ none))
+    | yes same ↦ let e : r.1 ≡ p = some_inj (sym r.3 ∙ ap party same ∙ at) in absurd (some_none (sym r.4 ∙ ap (λ (x : AbstractParty P). tail_of x.stage) e ∙ none))
     | no ne ↦ (r.0, r.1, r.2, put_other party k (Some q) j ne ∙ r.3, r.4, r.5)
   ]
 
 module _ {P E : Type 0} (head : ℕ) (next : ℕ → Option ℕ) (cell : ℕ → Option E) (owner : ℕ → Owner) (keeper : Option ℕ) (rooms : List ℕ) (h : List (Event P E)) (k : ℕ) (name : P) where
-  -- what each place with the right says of it
-  pub keeps_of : (place : Stage) (t : ℕ) → tail_of place ≡ Some t → AtStage head next cell owner keeper rooms h k name place → Keeps keeper rooms h k name t
+  -- what each stage with the right says of it
+  pub keeps_of : (stage : Stage) (t : ℕ) → tail_of stage ≡ Some t → AtStage head next cell owner keeper rooms h k name stage → Keeps keeper rooms h k name t
   keeps_of Rest t e f = absurd (none_some e)
   keeps_of (Cleared r) t e f = absurd (none_some e)
   keeps_of (Swapped r old) t e f = absurd (none_some e)
@@ -58,6 +58,6 @@ module _ {P E : Type 0} (head : ℕ) (next : ℕ → Option ℕ) (cell : ℕ →
   keeps_of (PutRead u) t e f = subst (Keeps keeper rooms h k name) (some_inj e) f.0.keeps
 
   -- a party beside the one with the right has none
-  pub has_none : (place : Stage) (o : Option ℕ) → tail_of place ≡ o → (keeper ≡ Some k → ⊥) → AtStage head next cell owner keeper rooms h k name place → tail_of place ≡ None
-  has_none place None e not f = e
-  has_none place (Some t) e not f = absurd (not (keeps_of place t e f).kept)
+  pub has_none : (stage : Stage) (o : Option ℕ) → tail_of stage ≡ o → (keeper ≡ Some k → ⊥) → AtStage head next cell owner keeper rooms h k name stage → tail_of stage ≡ None
+  has_none stage None e not f = e
+  has_none stage (Some t) e not f = absurd (not (keeps_of stage t e f).kept)

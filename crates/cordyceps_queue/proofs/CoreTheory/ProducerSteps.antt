@@ -35,9 +35,9 @@ ready_one a b = cc (a, b)
 
 module _ {P E : Type 0} (m : AbstractMachine P E) (c : Chain) (h : List (Event P E)) (M : Meets m c h) (k : ℕ) (p : AbstractParty P) (at : m.party k ≡ Some p) where
   -- Clear with an element
-  module _ (rest : p.place ≡ Rest) (r : ℕ) (rooms : List ℕ) (spare : p.spare ≡ r ∷ rooms) (e : E) where
+  module _ (rest : p.stage ≡ Rest) (r : ℕ) (rooms : List ℕ) (spare : p.spare ≡ r ∷ rooms) (e : E) where
     abbrev cleared_party : AbstractParty P
-    cleared_party = record { name = p.name; place = Cleared r; spare = rooms }
+    cleared_party = record { name = p.name; stage = Cleared r; spare = rooms }
 
     abbrev pub chain_after_clear : Chain
     chain_after_clear = record c { owner = update c.owner r (Ready k) }
@@ -51,10 +51,10 @@ module _ {P E : Type 0} (m : AbstractMachine P E) (c : Chain) (h : List (Event P
     away : (x : ℕ) → c.owner x ≡ Shared → x ≢ r
     away x s e = spare_shared mine (ap c.owner (sym e) ∙ s)
 
-    nothing_owed : (a b : ℕ) → Owes p.place a b → Owes (Cleared r) a b
+    nothing_owed : (a b : ℕ) → Owes p.stage a b → Owes (Cleared r) a b
     nothing_owed a b o = subst (λ l. Owes l a b) rest o
 
-    others : (j : ℕ) (q : P) (place : Stage) → AtStage m.head m.next m.cell c.owner c.keeper c.rooms h j q place → AtStage m.head (update m.next r None) (update m.cell r (Some e)) (update c.owner r (Ready k)) c.keeper c.rooms h j q place
+    others : (j : ℕ) (q : P) (stage : Stage) → AtStage m.head m.next m.cell c.owner c.keeper c.rooms h j q stage → AtStage m.head (update m.next r None) (update m.cell r (Some e)) (update c.owner r (Ready k)) c.keeper c.rooms h j q stage
     others j q Rest f = f
     others j q (Cleared x) f = (f.0, put_other c.owner r (Ready k) x (λ e. ready_spare f.1 (ap c.owner e ∙ mine)) ∙ f.1, f.2, put_none m.next r x f.3, f.4, put_other m.cell r (Some e) x (λ s. ready_spare f.1 (ap c.owner s ∙ mine)) ∙ f.5)
     others j q (Swapped x old) f = (f.0, f.1, f.2, f.3, put_none m.next r old f.4, f.5)
@@ -83,8 +83,8 @@ module _ {P E : Type 0} (m : AbstractMachine P E) (c : Chain) (h : List (Event P
       unmade = λ x lt. put_other c.owner r (Ready k) x (λ s. spare_unmade (ap c.owner s ∙ mine) (M.unmade x lt)) ∙ M.unmade x lt;
       holds = map_put m.cell r (Some e) c.rooms (λ i ir. away r (M.shared i r ir) refl) ∙ M.holds;
       right = right_put m.party k p cleared_party at m.right c.rooms h c.keeper (ap tail_of rest) M.right;
-      fits = put_all (λ j q. AtStage m.head (update m.next r None) (update m.cell r (Some e)) (update c.owner r (Ready k)) c.keeper c.rooms h j q.name q.place) m.party k cleared_party
-          (λ j q ne eq. others j q.name q.place (M.fits j q eq))
+      fits = put_all (λ j q. AtStage m.head (update m.next r None) (update m.cell r (Some e)) (update c.owner r (Ready k)) c.keeper c.rooms h j q.name q.stage) m.party k cleared_party
+          (λ j q ne eq. others j q.name q.stage (M.fits j q eq))
           (subst (AtStage m.head m.next m.cell c.owner c.keeper c.rooms h k p.name) rest (M.fits k p at), put_same c.owner r (Ready k), (λ e. away 0 M.stub (sym e)), put_same m.next r None, e, put_same m.cell r (Some e));
       rooms = put_all (λ j q. OwnsRooms (update c.owner r (Ready k)) j q.spare) m.party k cleared_party
           (λ j q ne eq. spares j 0 q.spare (λ i ir. ne (spare_one ((M.rooms j q eq).own i r ir) mine)) (M.rooms j q eq))
@@ -103,9 +103,9 @@ module _ {P E : Type 0} (m : AbstractMachine P E) (c : Chain) (h : List (Event P
         suc_inj a = omega arith
 
   -- Swap of an element
-  module _ (r : ℕ) (e : E) (ready : p.place ≡ Cleared r) (full : m.cell r ≡ Some e) where
+  module _ (r : ℕ) (e : E) (ready : p.stage ≡ Cleared r) (full : m.cell r ≡ Some e) where
     abbrev swapped_party : AbstractParty P
-    swapped_party = record p { place = Swapped r m.head }
+    swapped_party = record p { stage = Swapped r m.head }
 
     abbrev pub chain_after_swap : Chain
     chain_after_swap = record c { rooms = c.rooms ++ r ∷ []; owner = update c.owner r Shared }
@@ -119,7 +119,7 @@ module _ {P E : Type 0} (m : AbstractMachine P E) (c : Chain) (h : List (Event P
     pub fresh : (i : ℕ) → ItemAt c.rooms i r → ⊥
     fresh i ir = ready_shared was.1 (M.shared i r ir)
 
-    owes_nothing : (a b : ℕ) → Owes p.place a b → Owes (Swapped r m.head) a b
+    owes_nothing : (a b : ℕ) → Owes p.stage a b → Owes (Swapped r m.head) a b
     owes_nothing a b o = absurd (subst (λ l. Owes l a b) ready o)
 
     newly : (q : P) (t : ℕ) → ItemAt c.rooms 0 t → HasLooked q h → ((m.head ≢ t) → WasBlocked q h) → WasBlocked q (Event.Swap p.name e ∷ h)
@@ -137,7 +137,7 @@ module _ {P E : Type 0} (m : AbstractMachine P E) (c : Chain) (h : List (Event P
     still_out : IsOut c.rooms → IsOut (c.rooms ++ r ∷ [])
     still_out out i at0 = elim (at_split c.rooms r i 0 at0) [ inl a ↦ out i a | inr a ↦ was.2 (sym a.1) ]
 
-    swap_others : (j : ℕ) (q : P) (place : Stage) → j ≢ k → q ≢ p.name → AtStage m.head m.next m.cell c.owner c.keeper c.rooms h j q place → AtStage r m.next m.cell (update c.owner r Shared) c.keeper (c.rooms ++ r ∷ []) (Event.Swap p.name e ∷ h) j q place
+    swap_others : (j : ℕ) (q : P) (stage : Stage) → j ≢ k → q ≢ p.name → AtStage m.head m.next m.cell c.owner c.keeper c.rooms h j q stage → AtStage r m.next m.cell (update c.owner r Shared) c.keeper (c.rooms ++ r ∷ []) (Event.Swap p.name e ∷ h) j q stage
     swap_others j q Rest nj ne f = (ne, f)
     swap_others j q (Cleared x) nj ne f = ((ne, f.0), put_other c.owner r Shared x (λ s. nj (ready_one f.1 (ap c.owner s ∙ was.1))) ∙ f.1, f.2, f.3, f.4, f.5)
     swap_others j q (Swapped x old) nj ne f = (
@@ -183,8 +183,8 @@ module _ {P E : Type 0} (m : AbstractMachine P E) (c : Chain) (h : List (Event P
       holds = ap (map m.cell) (real_more c.rooms (r ∷ []) ∙ ap (λ l. real c.rooms ++ l) (real_one r was.2)) ∙ map-append m.cell (real c.rooms) (r ∷ [])
           ∙ ap (λ l. l ++ m.cell r ∷ []) M.holds ∙ ap (λ x. map Some (held h) ++ x ∷ []) full ∙ sym (map-append Some (held h) (e ∷ []));
       right = right_more m.right _ c.rooms r h (Event.Swap p.name e) c.keeper refl (right_put m.party k p swapped_party at m.right c.rooms h c.keeper (ap tail_of ready) M.right);
-      fits = put_all (λ j q. AtStage r m.next m.cell (update c.owner r Shared) c.keeper (c.rooms ++ r ∷ []) (Event.Swap p.name e ∷ h) j q.name q.place) m.party k swapped_party
-          (λ j q ne eq. swap_others j q.name q.place ne (λ s. ne (M.names j k q p eq at s)) (M.fits j q eq))
+      fits = put_all (λ j q. AtStage r m.next m.cell (update c.owner r Shared) c.keeper (c.rooms ++ r ∷ []) (Event.Swap p.name e ∷ h) j q.name q.stage) m.party k swapped_party
+          (λ j q ne eq. swap_others j q.name q.stage ne (λ s. ne (M.names j k q p eq at s)) (M.fits j q eq))
           swap_mine;
       rooms = put_all (λ j q. OwnsRooms (update c.owner r Shared) j q.spare) m.party k swapped_party (λ j q ne eq. swap_spares j q.spare (M.rooms j q eq)) (swap_spares k p.spare (M.rooms k p at));
       names = names_put m.party k p swapped_party at refl M.names;
@@ -195,9 +195,9 @@ module _ {P E : Type 0} (m : AbstractMachine P E) (c : Chain) (h : List (Event P
         swap_spares j s R = record { own = λ i x ix. put_other c.owner r Shared x (λ s. ready_spare was.1 (ap c.owner (sym s) ∙ R.own i x ix)) ∙ R.own i x ix; once = R.once }
 
   -- Link of an element
-  module _ (r old : ℕ) (waits : p.place ≡ Swapped r old) where
+  module _ (r old : ℕ) (waits : p.stage ≡ Swapped r old) where
     abbrev linked_party : AbstractParty P
-    linked_party = record p { place = Rest }
+    linked_party = record p { stage = Rest }
 
     link : (i : ℕ) × ItemAt c.rooms i old × ItemAt c.rooms (suc i) r × (r ≢ 0) × (m.next old ≡ None) × IsPendingAt p.name (rank c.rooms (suc i)) h
     link = subst (AtStage m.head m.next m.cell c.owner c.keeper c.rooms h k p.name) waits (M.fits k p at)
@@ -218,7 +218,7 @@ module _ {P E : Type 0} (m : AbstractMachine P E) (c : Chain) (h : List (Event P
     link_real : (j : ℕ) (q : P) (t : ℕ) → Real c.keeper c.rooms h j q t → Real c.keeper c.rooms (Event.Link p.name ∷ h) j q t
     link_real j q t K = record { keeps = link_keeper j q t K.keeps; is_real = K.is_real; looked = K.looked }
 
-    link_others : (j : ℕ) (q : P) (place : Stage) → q ≢ p.name → AtStage m.head m.next m.cell c.owner c.keeper c.rooms h j q place → AtStage m.head (update m.next old (Some r)) m.cell c.owner c.keeper c.rooms (Event.Link p.name ∷ h) j q place
+    link_others : (j : ℕ) (q : P) (stage : Stage) → q ≢ p.name → AtStage m.head m.next m.cell c.owner c.keeper c.rooms h j q stage → AtStage m.head (update m.next old (Some r)) m.cell c.owner c.keeper c.rooms (Event.Link p.name ∷ h) j q stage
     link_others j q Rest ne f = inr f
     link_others j q (Cleared x) ne f = (inr f.0, f.1, f.2, stays_none x (λ s. ready_shared f.1 (ap c.owner s ∙ old_shared)) f.3, f.4, f.5)
     link_others j q (Swapped x o) ne f =
@@ -259,8 +259,8 @@ module _ {P E : Type 0} (m : AbstractMachine P E) (c : Chain) (h : List (Event P
       unmade = M.unmade;
       holds = M.holds;
       right = right_same m.right _ c.rooms h (Event.Link p.name) c.keeper refl (right_put m.party k p linked_party at m.right c.rooms h c.keeper (ap tail_of waits) M.right);
-      fits = put_all (λ j q. AtStage m.head (update m.next old (Some r)) m.cell c.owner c.keeper c.rooms (Event.Link p.name ∷ h) j q.name q.place) m.party k linked_party
-          (λ j q ne eq. link_others j q.name q.place (λ s. ne (M.names j k q p eq at s)) (M.fits j q eq))
+      fits = put_all (λ j q. AtStage m.head (update m.next old (Some r)) m.cell c.owner c.keeper c.rooms (Event.Link p.name ∷ h) j q.name q.stage) m.party k linked_party
+          (λ j q ne eq. link_others j q.name q.stage (λ s. ne (M.names j k q p eq at s)) (M.fits j q eq))
           (inl refl);
       rooms = put_all (λ j q. OwnsRooms c.owner j q.spare) m.party k linked_party (λ j q ne eq. M.rooms j q eq) (M.rooms k p at);
       names = names_put m.party k p linked_party at refl M.names;
@@ -274,7 +274,7 @@ module _ {P E : Type 0} (m : AbstractMachine P E) (c : Chain) (h : List (Event P
   busy_real : (j : ℕ) (q : P) (t : ℕ) → Real c.keeper c.rooms h j q t → Real c.keeper c.rooms (Event.Busy p.name ∷ h) j q t
   busy_real j q t K = record { keeps = busy_keeper j q t K.keeps; is_real = K.is_real; looked = K.looked }
 
-  busy_others : (j : ℕ) (q : P) (place : Stage) → AtStage m.head m.next m.cell c.owner c.keeper c.rooms h j q place → AtStage m.head m.next m.cell c.owner c.keeper c.rooms (Event.Busy p.name ∷ h) j q place
+  busy_others : (j : ℕ) (q : P) (stage : Stage) → AtStage m.head m.next m.cell c.owner c.keeper c.rooms h j q stage → AtStage m.head m.next m.cell c.owner c.keeper c.rooms (Event.Busy p.name ∷ h) j q stage
   busy_others j q Rest f = f
   busy_others j q (Cleared x) f = f
   busy_others j q (Swapped x o) f = f
@@ -288,7 +288,7 @@ module _ {P E : Type 0} (m : AbstractMachine P E) (c : Chain) (h : List (Event P
   busy_others j q (PutRead t) f = (busy_real j q t f.0, f.1)
 
   -- the right is out with another party
-  out_with : p.place ≡ Rest → m.right ≡ 0 → (keeper : Option ℕ) → RightIs m.right m.party c.rooms h keeper → (q : P) × (holder h ≡ Some q) × (p.name ≢ q)
+  out_with : p.stage ≡ Rest → m.right ≡ 0 → (keeper : Option ℕ) → RightIs m.right m.party c.rooms h keeper → (q : P) × (holder h ≡ Some q) × (p.name ≢ q)
   out_with rest taken None R = absurd (suc_zero (sym R.2 ∙ taken))
   out_with rest taken (Some j) R = (
     R.1.name,
@@ -296,10 +296,10 @@ module _ {P E : Type 0} (m : AbstractMachine P E) (c : Chain) (h : List (Event P
     λ same.
         let e : j ≡ k = M.names j k R.1 p R.3 at (sym same) in
         let f : R.1 ≡ p = some_inj (sym R.3 ∙ ap m.party e ∙ at) in
-        some_none (sym R.4 ∙ ap (λ (x : AbstractParty P). tail_of x.place) f ∙ ap tail_of rest),
+        some_none (sym R.4 ∙ ap (λ (x : AbstractParty P). tail_of x.stage) f ∙ ap tail_of rest),
   )
 
-  pub busy_keeps : p.place ≡ Rest → m.right ≡ 0 → Meets m c (Event.Busy p.name ∷ h)
+  pub busy_keeps : p.stage ≡ Rest → m.right ≡ 0 → Meets m c (Event.Busy p.name ∷ h)
   busy_keeps rest taken = record {
     legal = (out_with rest taken c.keeper M.right, M.legal);
     last = M.last;
@@ -311,7 +311,7 @@ module _ {P E : Type 0} (m : AbstractMachine P E) (c : Chain) (h : List (Event P
     unmade = M.unmade;
     holds = M.holds;
     right = right_same m.right m.party c.rooms h (Event.Busy p.name) c.keeper refl M.right;
-    fits = λ j q eq. busy_others j q.name q.place (M.fits j q eq);
+    fits = λ j q eq. busy_others j q.name q.stage (M.fits j q eq);
     rooms = M.rooms;
     names = M.names;
     strangers = M.strangers;

@@ -71,7 +71,7 @@ module _ {E : Type 0} where
   exact_at m p step.Swap (Some (PutSwap t)) sound at = (refl, tt)
   exact_at m p step.Link (Some (PutLink t old)) sound at = (refl, tt)
   exact_at m p step.ReadNext (Some (PutRead t)) sound at = exact_read_again m p t (next_in (slice_get m.rooms t)) (put_read_full m sound p t at)
-  exact_at m p s (Some place) sound at = (refl, (refl, refl))
+  exact_at m p s (Some stage) sound at = (refl, (refl, refl))
 
   pub exact : (m : Machine E) (p : ℕ) (s : QueueStep E) → IsSound m → Exact m s (is_there m p s) (stepped m p s)
   exact m p s sound = exact_at m p s (slice_get m.parties p) sound refl

@@ -1,4 +1,4 @@
--- What stands in the rooms at the places of a core's parties.
+-- What stands in the rooms at the stages of a core's parties.
 use Rattle.std.proofs.Common.{◌≡◌, ◌≢◌, ℕ, zero, suc, ◌<◌, ◌≤◌, ◌⊎◌, List, [], ◌∷◌, length, reverse, refl, ap, sym, inl, inr, arith}
 use Rattle.std.specs.Prelude.{Some, slice_get}
 use Rattle.std.proofs.lemmas.Bool.{cases_lt}
@@ -27,15 +27,15 @@ module _ {E : Type 0} where
   shared_within m s r e = made_within m s r (λ u. shared_unmade e u)
 
   module _ (m : Machine E) (s : IsSound m) (p : ℕ) where
-    tail_at : (place : Stage) → slice_get m.parties p ≡ Some place → (t : ℕ) → tail_of place ≡ Some t → ItemAt s.1.chain.rooms 0 t
-    tail_at place at t has = (keeping (abstract_of m) s.1.chain (reverse s.0) s.1.meets p (me_of m p place) (ap (party_at m.rooms p) at) t has).tail
+    tail_at : (stage : Stage) → slice_get m.parties p ≡ Some stage → (t : ℕ) → tail_of stage ≡ Some t → ItemAt s.1.chain.rooms 0 t
+    tail_at stage at t has = (keeping (abstract_of m) s.1.chain (reverse s.0) s.1.meets p (me_of m p stage) (ap (party_at m.rooms p) at) t has).tail
 
-    pub tail_within : (place : Stage) → slice_get m.parties p ≡ Some place → (t : ℕ) → tail_of place ≡ Some t → t < length m.rooms
-    tail_within place at t has = shared_within m s t (s.1.meets.shared 0 t (tail_at place at t has))
+    pub tail_within : (stage : Stage) → slice_get m.parties p ≡ Some stage → (t : ℕ) → tail_of stage ≡ Some t → t < length m.rooms
+    tail_within stage at t has = shared_within m s t (s.1.meets.shared 0 t (tail_at stage at t has))
 
     -- a tail that is not the stub has its element
-    full : (place : Stage) → slice_get m.parties p ≡ Some place → (t : ℕ) → tail_of place ≡ Some t → t ≢ 0 → (e : E) × (element_in (slice_get m.rooms t) ≡ Some e)
-    full place at t has ne = let w = tail_full (abstract_of m) s.1.chain (reverse s.0) s.1.meets t ne (tail_at place at t has) in (w.0, w.3)
+    full : (stage : Stage) → slice_get m.parties p ≡ Some stage → (t : ℕ) → tail_of stage ≡ Some t → t ≢ 0 → (e : E) × (element_in (slice_get m.rooms t) ≡ Some e)
+    full stage at t has ne = let w = tail_full (abstract_of m) s.1.chain (reverse s.0) s.1.meets t ne (tail_at stage at t has) in (w.0, w.3)
 
     pub holding_full : (t : ℕ) → slice_get m.parties p ≡ Some (Holding t) → t ≢ 0 → (e : E) × (element_in (slice_get m.rooms t) ≡ Some e)
     holding_full t at ne = full (Holding t) at t refl ne

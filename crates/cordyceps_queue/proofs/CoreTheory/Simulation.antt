@@ -46,22 +46,22 @@ own_room p = eq-eqb p p refl
 module _ {E : Type 0} where
   party_same : (rooms rooms' : List (Room E)) (k : ℕ) (o : Option Stage) → free_rooms k rooms' ≡ free_rooms k rooms → party_at rooms' k o ≡ party_at rooms k o
   party_same rooms rooms' k None e = refl
-  party_same rooms rooms' k (Some place) e = ap (λ free. Some (record { name = k; place = place; spare = free })) e
+  party_same rooms rooms' k (Some stage) e = ap (λ free. Some (record { name = k; stage = stage; spare = free })) e
 
   abbrev pub parties_of : List (Room E) → List Stage → ℕ → Option (AbstractParty ℕ)
   parties_of rooms parties k = party_at rooms k (slice_get parties k)
 
   -- one party moved, and no other's free rooms changed
   pub parties_put : (rooms rooms' : List (Room E)) (parties : List Stage) (p : ℕ) (old new : Stage) (free : List ℕ) → slice_get parties p ≡ Some old → free_rooms p rooms' ≡ free →
-      ((k : ℕ) → k ≢ p → free_rooms k rooms' ≡ free_rooms k rooms) → parties_of rooms' (slice_set parties p new) ≡ update (parties_of rooms parties) p (Some (record { name = p; place = new; spare = free }))
+      ((k : ℕ) → k ≢ p → free_rooms k rooms' ≡ free_rooms k rooms) → parties_of rooms' (slice_set parties p new) ≡ update (parties_of rooms parties) p (Some (record { name = p; stage = new; spare = free }))
   parties_put rooms rooms' parties p old new free at mine others = fun_ext (λ j. elim (ℕ_discrete j p) [
     | yes same ↦ subst (λ i. parties_of rooms' (slice_set parties p new) i ≡ update (parties_of rooms parties) p now i) (sym same)
-        (ap (party_at rooms' p) (slice_get-set_same parties p new old at) ∙ ap (λ free. Some (record { name = p; place = new; spare = free })) mine ∙ sym (put_same (parties_of rooms parties) p now))
+        (ap (party_at rooms' p) (slice_get-set_same parties p new old at) ∙ ap (λ free. Some (record { name = p; stage = new; spare = free })) mine ∙ sym (put_same (parties_of rooms parties) p now))
     | no ne ↦ ap (party_at rooms' j) (slice_get-set_other parties p j new ne) ∙ party_same rooms rooms' j (slice_get parties j) (others j ne) ∙ sym (put_other (parties_of rooms parties) p now j ne)
   ])
     where
       now : Option (AbstractParty ℕ)
-      now = Some (record { name = p; place = new; spare = free })
+      now = Some (record { name = p; stage = new; spare = free })
 
   pub words_eq : (head right : ℕ) (count count' : ℕ) (next next' : ℕ → Option ℕ) (cell cell' : ℕ → Option E) (party party' : ℕ → Option (AbstractParty ℕ)) → count ≡ count' → next ≡ next' → cell ≡ cell' → party ≡ party' →
       let old : AbstractMachine ℕ E = record { head = head; right = right; count = count; next = next; cell = cell; party = party } in
@@ -71,19 +71,19 @@ module _ {E : Type 0} where
 
   -- the outcome is that of the move, with its events
   abbrev pub Follows : Machine E → ℕ → Stage → QueueStep E → Option (Move ℕ E) → Outcome E → Type 0
-  Follows m p place s None out = out ≡ refused m s
-  Follows m p place s (Some v) out = (abstract_of out.0 ≡ v.after) × (out.1 ≡ Ok v.answer) × (events_of p m.rooms (Some place) s out.1 ≡ reverse v.events) × IsOwned out.0
+  Follows m p stage s None out = out ≡ refused m s
+  Follows m p stage s (Some v) out = (abstract_of out.0 ≡ v.after) × (out.1 ≡ Ok v.answer) × (events_of p m.rooms (Some stage) s out.1 ≡ reverse v.events) × IsOwned out.0
 
   abbrev pub me_of : Machine E → ℕ → Stage → AbstractParty ℕ
-  me_of m p place = record { name = p; place = place; spare = free_rooms p m.rooms }
+  me_of m p stage = record { name = p; stage = stage; spare = free_rooms p m.rooms }
 
-  module _ (m : Machine E) (p : ℕ) (place : Stage) (at : slice_get m.parties p ≡ Some place) (owned : IsOwned m) where
+  module _ (m : Machine E) (p : ℕ) (stage : Stage) (at : slice_get m.parties p ≡ Some stage) (owned : IsOwned m) where
     abbrev me : AbstractParty ℕ
-    me = me_of m p place
+    me = me_of m p stage
 
     -- after the party moved
     owned_by : (head : ℕ) (right : Option ℕ) (rooms : List (Room E)) (new : Stage) → ((k : ℕ) → k ≢ p → free_rooms k rooms ≡ free_rooms k m.rooms) → IsOwned (record { head = head; right = right; rooms = rooms; parties = slice_set m.parties p new })
-    owned_by head right rooms new same k n = let w = none_before m.parties p k new place at n in same k w.0 ∙ owned k w.1
+    owned_by head right rooms new same k n = let w = none_before m.parties p k new stage at n in same k w.0 ∙ owned k w.1
 
     -- the rooms stay
     stays : (head : ℕ) (right : Option ℕ) (new : Stage) →
@@ -91,7 +91,7 @@ module _ {E : Type 0} where
         × IsOwned (record { head = head; right = right; rooms = m.rooms; parties = slice_set m.parties p new })
     stays head right new = (
       words_eq head (right_word right) (length m.rooms) (length m.rooms) (read next_in m.rooms) (read next_in m.rooms) (read element_in m.rooms) (read element_in m.rooms) _ _ refl refl refl
-          (parties_put m.rooms m.rooms m.parties p place new (free_rooms p m.rooms) at refl (λ k ne. refl)),
+          (parties_put m.rooms m.rooms m.parties p stage new (free_rooms p m.rooms) at refl (λ k ne. refl)),
       owned_by head right m.rooms new (λ k ne. refl),
     )
 
@@ -104,7 +104,7 @@ module _ {E : Type 0} where
           words_eq m.head (right_word m.right) (length (change (linking next) at_room m.rooms)) (length m.rooms) (read next_in (change (linking next) at_room m.rooms)) (update (read next_in m.rooms) at_room next)
               (read element_in (change (linking next) at_room m.rooms)) (read element_in m.rooms) _ _
               (length-change (linking next) at_room m.rooms) (read_changed next_in (linking next) m.rooms at_room room there) (read_same element_in (linking next) m.rooms at_room (λ y. refl))
-              (parties_put m.rooms (change (linking next) at_room m.rooms) m.parties p place new (free_rooms p m.rooms) at (same p) (λ k ne. same k)),
+              (parties_put m.rooms (change (linking next) at_room m.rooms) m.parties p stage new (free_rooms p m.rooms) at (same p) (λ k ne. same k)),
           owned_by m.head m.right (change (linking next) at_room m.rooms) new (λ k ne. same k),
         )
 
@@ -120,7 +120,7 @@ module _ {E : Type 0} where
           words_eq m.head (right_word m.right) (length (change (holding e) r m.rooms)) (length m.rooms) (read next_in (change (holding e) r m.rooms)) (update (read next_in m.rooms) r None)
               (read element_in (change (holding e) r m.rooms)) (update (read element_in m.rooms) r (Some e)) _ _
               (length-change (holding e) r m.rooms) (read_changed next_in (holding e) m.rooms r w.1 there) (read_changed element_in (holding e) m.rooms r w.1 there)
-              (parties_put m.rooms (change (holding e) r m.rooms) m.parties p place (Cleared r) rest at (ap (λ n. free_rooms p (change (holding e) n m.rooms)) same ∙ w.5) others),
+              (parties_put m.rooms (change (holding e) r m.rooms) m.parties p stage (Cleared r) rest at (ap (λ n. free_rooms p (change (holding e) n m.rooms)) same ∙ w.5) others),
           owned_by m.head m.right (change (holding e) r m.rooms) (Cleared r) others,
         )
       where
@@ -138,7 +138,7 @@ module _ {E : Type 0} where
           words_eq m.head (right_word m.right) (length (change (freeing p) t m.rooms)) (length m.rooms) (read next_in (change (freeing p) t m.rooms)) (read next_in m.rooms)
               (read element_in (change (freeing p) t m.rooms)) (update (read element_in m.rooms) t None) _ _
               (length-change (freeing p) t m.rooms) (read_same next_in (freeing p) m.rooms t (λ y. refl)) (read_changed element_in (freeing p) m.rooms t room there)
-              (parties_put m.rooms (change (freeing p) t m.rooms) m.parties p place (Holding r) (insert_room t (free_rooms p m.rooms)) at mine others),
+              (parties_put m.rooms (change (freeing p) t m.rooms) m.parties p stage (Holding r) (insert_room t (free_rooms p m.rooms)) at mine others),
           owned_by m.head m.right (change (freeing p) t m.rooms) (Holding r) others,
         )
 
@@ -165,18 +165,18 @@ module _ {E : Type 0} where
           from false e = refl
           from true e = let w = free_has k m.rooms 0 r room there e in absurd (spare w.0 w.1 (slice_get m.parties k) refl)
 
-      pub fits : AtStage m.head (read next_in m.rooms) (read element_in m.rooms) c.owner c.keeper c.rooms h p p place
+      pub fits : AtStage m.head (read next_in m.rooms) (read element_in m.rooms) c.owner c.keeper c.rooms h p p stage
       fits = M.fits p me (ap (party_at m.rooms p) at)
 
       -- where the tail's next word was read, and a room was
-      out_follows : (t r : ℕ) (before : List (Event ℕ E)) → c.owner t ≡ Shared → ((e : E) → events_of p m.rooms (Some place) step.ReadNext (Ok (answer.Out e)) ≡ reverse (Event.Out p e ∷ before)) →
-          (o : Option (Room E)) → slice_get m.rooms t ≡ o → (e : Option E) → element_in o ≡ e → Follows m p place step.ReadNext (words.gives_out (abstract_of m) p me t r e before) (core.hand_out m p t r e)
+      out_follows : (t r : ℕ) (before : List (Event ℕ E)) → c.owner t ≡ Shared → ((e : E) → events_of p m.rooms (Some stage) step.ReadNext (Ok (answer.Out e)) ≡ reverse (Event.Out p e ∷ before)) →
+          (o : Option (Room E)) → slice_get m.rooms t ≡ o → (e : Option E) → element_in o ≡ e → Follows m p stage step.ReadNext (words.gives_out (abstract_of m) p me t r e before) (core.hand_out m p t r e)
       out_follows t r before shared tells o there None full = refl
       out_follows t r before shared tells None there (Some e) full = absurd (none_some full)
       out_follows t r before shared tells (Some room) there (Some e) full = let w = frees t r room there (in_use t room shared there) in (w.0, refl, tells e, w.1)
 
-      read_follows : (t : ℕ) (before : List (Event ℕ E)) → c.owner t ≡ Shared → ((e : E) → events_of p m.rooms (Some place) step.ReadNext (Ok (answer.Out e)) ≡ reverse (Event.Out p e ∷ before)) → events_of p m.rooms (Some place) step.ReadNext (Ok answer.Done) ≡ reverse before →
-          (n : Option ℕ) → Follows m p place step.ReadNext (words.reads (abstract_of m) p me t n before) (core.read m p t n)
+      read_follows : (t : ℕ) (before : List (Event ℕ E)) → c.owner t ≡ Shared → ((e : E) → events_of p m.rooms (Some stage) step.ReadNext (Ok (answer.Out e)) ≡ reverse (Event.Out p e ∷ before)) → events_of p m.rooms (Some stage) step.ReadNext (Ok answer.Done) ≡ reverse before →
+          (n : Option ℕ) → Follows m p stage step.ReadNext (words.reads (abstract_of m) p me t n before) (core.read m p t n)
       read_follows t before shared tells told None = let w = stays m.head m.right (Null t) in (w.0, refl, told, w.1)
       read_follows t before shared tells told (Some r) = out_follows t r before shared tells (slice_get m.rooms t) refl (element_in (slice_get m.rooms t)) refl
 
@@ -194,8 +194,8 @@ module _ {E : Type 0} where
     swap_follows r at (Some e) full = let w = stays m p (Cleared r) at owned r m.right (Swapped r m.head) in (w.0, refl, ap (core.comes_in p) full, w.1)
 
     -- the tail of a party with the right is a room of the chain
-    tail_shared : (place : Stage) (at : slice_get m.parties p ≡ Some place) (t : ℕ) → tail_of place ≡ Some t → c.owner t ≡ Shared
-    tail_shared place at t has = M.shared 0 t (keeping (abstract_of m) c h M p (me_of m p place) (ap (party_at m.rooms p) at) t has).tail
+    tail_shared : (stage : Stage) (at : slice_get m.parties p ≡ Some stage) (t : ℕ) → tail_of stage ≡ Some t → c.owner t ≡ Shared
+    tail_shared stage at t has = M.shared 0 t (keeping (abstract_of m) c h M p (me_of m p stage) (ap (party_at m.rooms p) at) t has).tail
 
     look_follows : (t : ℕ) (at : slice_get m.parties p ≡ Some (Holding t)) (n : Option ℕ) → next_in (slice_get m.rooms t) ≡ n → Follows m p (Holding t) step.ReadNext (words.looks (abstract_of m) p (me_of m p (Holding t)) t) (core.look m p t (next_in (slice_get m.rooms t)))
     look_follows zero at n is = from (next_in (slice_get m.rooms 0))
@@ -217,7 +217,7 @@ module _ {E : Type 0} where
     read_again_follows t at None = let w = stays m p (PutRead t) at owned m.head m.right (Holding t) in (w.0, refl, refl, w.1)
     read_again_follows t at (Some r) = out_follows m p (PutRead t) at owned c h M t r [] (tail_shared (PutRead t) at t refl) (λ e. refl) (slice_get m.rooms t) refl (element_in (slice_get m.rooms t)) refl
 
-    pub acts_follow : (place : Stage) → slice_get m.parties p ≡ Some place → (s : QueueStep E) → Follows m p place s (words.act (abstract_of m) p (me_of m p place) place s) (core.acts m p place s)
+    pub acts_follow : (stage : Stage) → slice_get m.parties p ≡ Some stage → (s : QueueStep E) → Follows m p stage s (words.act (abstract_of m) p (me_of m p stage) stage s) (core.acts m p stage s)
     acts_follow Rest at (step.Clear (Some e)) = clear_follows at e (free_rooms p m.rooms) refl
     acts_follow Rest at step.Take = take_follows at m.right
     acts_follow (Cleared r) at step.Swap = swap_follows r at (element_in (slice_get m.rooms r)) refl

@@ -98,8 +98,8 @@ module _ {P E : Type 0} (m : AbstractMachine P E) (c : Chain) (h : List (Event P
     pub known : (q : P) → Dec (Gone q)
     pub settled : (q : P) → Gone q → IsSettled q h
     pub fixed : (r : ℕ) (o : Owner) → c.owner r ≡ o → ((j : ℕ) → o ≡ Spare j → ⊥) → owner r ≡ o
-    pub stays : (k : ℕ) (p : AbstractParty P) → m.party k ≡ Some p → (parties k ≡ Some p) ⊎ (Gone p.name × (p.place ≡ Rest))
-    pub was : (k : ℕ) (p : AbstractParty P) → parties k ≡ Some p → (m.party k ≡ Some p) ⊎ ((p.place ≡ Rest) × ((q : AbstractParty P) → m.party k ≡ Some q → Gone q.name))
+    pub stays : (k : ℕ) (p : AbstractParty P) → m.party k ≡ Some p → (parties k ≡ Some p) ⊎ (Gone p.name × (p.stage ≡ Rest))
+    pub was : (k : ℕ) (p : AbstractParty P) → parties k ≡ Some p → (m.party k ≡ Some p) ⊎ ((p.stage ≡ Rest) × ((q : AbstractParty P) → m.party k ≡ Some q → Gone q.name))
     pub rooms : (k : ℕ) (p : AbstractParty P) → parties k ≡ Some p → OwnsRooms owner k p.spare
     pub names : (j k : ℕ) (p q : AbstractParty P) → parties j ≡ Some p → parties k ≡ Some q → p.name ≡ q.name → j ≡ k
 
@@ -115,7 +115,7 @@ module _ {P E : Type 0} (m : AbstractMachine P E) (c : Chain) (h : List (Event P
     right_still None R = R
     right_still (Some j) R = (R.0, R.1, R.2, elim (G.stays j R.1 R.3) [ inl e ↦ e | inr g ↦ absurd (none_some (sym (ap tail_of g.1) ∙ R.4)) ], R.4, R.5)
 
-    fits_still : (j : ℕ) (q : P) (place : Stage) → AtStage m.head m.next m.cell c.owner c.keeper c.rooms h j q place → AtStage m.head m.next m.cell owner c.keeper c.rooms h j q place
+    fits_still : (j : ℕ) (q : P) (stage : Stage) → AtStage m.head m.next m.cell c.owner c.keeper c.rooms h j q stage → AtStage m.head m.next m.cell owner c.keeper c.rooms h j q stage
     fits_still j q Rest f = f
     fits_still j q (Cleared x) f = (f.0, G.fixed x (Ready j) f.1 (λ b e. ready_spare refl e), f.2, f.3, f.4, f.5)
     fits_still j q (Swapped x old) f = f
@@ -151,7 +151,7 @@ module _ {P E : Type 0} (m : AbstractMachine P E) (c : Chain) (h : List (Event P
       holds = M.holds;
       right = right_still c.keeper M.right;
       fits = λ k p at. elim (G.was k p at) [
-        | inl e ↦ fits_still k p.name p.place (M.fits k p e)
+        | inl e ↦ fits_still k p.name p.stage (M.fits k p e)
         | inr w ↦ subst (AtStage m.head m.next m.cell owner c.keeper c.rooms h k p.name) (sym w.0) (come_settled k p at w.1)
       ];
       rooms = G.rooms;

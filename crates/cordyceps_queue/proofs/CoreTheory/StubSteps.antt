@@ -14,7 +14,7 @@ use Rattle.cordyceps_queue.proofs.CoreTheory.ProducerSteps.{ready_shared}
 use Rattle.cordyceps_queue.proofs.CoreTheory.HolderSteps.{producer_moves, other_none, right_with}
 
 -- a party without the right, where a room comes to the end of the chain
-producer_grows : {P E : Type 0} (head head' : ℕ) (next : ℕ → Option ℕ) (cell : ℕ → Option E) (owner : ℕ → Owner) (keeper : Option ℕ) (rooms : List ℕ) (r : ℕ) (h : List (Event P E)) (j : ℕ) (q : P) (place : Stage) → tail_of place ≡ None → AtStage head next cell owner keeper rooms h j q place → AtStage head' next cell owner keeper (rooms ++ r ∷ []) h j q place
+producer_grows : {P E : Type 0} (head head' : ℕ) (next : ℕ → Option ℕ) (cell : ℕ → Option E) (owner : ℕ → Owner) (keeper : Option ℕ) (rooms : List ℕ) (r : ℕ) (h : List (Event P E)) (j : ℕ) (q : P) (stage : Stage) → tail_of stage ≡ None → AtStage head next cell owner keeper rooms h j q stage → AtStage head' next cell owner keeper (rooms ++ r ∷ []) h j q stage
 producer_grows head head' next cell owner keeper rooms r h j q Rest e f = f
 producer_grows head head' next cell owner keeper rooms r h j q (Cleared x) e f = f
 producer_grows head head' next cell owner keeper rooms r h j q (Swapped x old) e f = (
@@ -25,33 +25,33 @@ producer_grows head head' next cell owner keeper rooms r h j q (Swapped x old) e
   f.4,
   subst (λ n. IsPendingAt q n h) (sym (rank_more rooms (r ∷ []) (suc f.0) (let l = at_within rooms (suc f.0) x f.2 in omega arith))) f.5,
 )
-producer_grows head head' next cell owner keeper rooms r h j q place e f = absurd (some_none e)
+producer_grows head head' next cell owner keeper rooms r h j q stage e f = absurd (some_none e)
 
 module _ {P E : Type 0} (m : AbstractMachine P E) (c : Chain) (h : List (Event P E)) (M : Meets m c h) (k : ℕ) (p : AbstractParty P) (at : m.party k ≡ Some p) where
   -- Clear of the stub
-  module _ (t : ℕ) (place : p.place ≡ PutClear t) where
+  module _ (t : ℕ) (stage : p.stage ≡ PutClear t) where
     abbrev stub_cleared : AbstractParty P
-    stub_cleared = record p { place = PutSwap t }
+    stub_cleared = record p { stage = PutSwap t }
 
     unlinked : Real c.keeper c.rooms h k p.name t × IsOut c.rooms
-    unlinked = subst (AtStage m.head m.next m.cell c.owner c.keeper c.rooms h k p.name) place (M.fits k p at)
+    unlinked = subst (AtStage m.head m.next m.cell c.owner c.keeper c.rooms h k p.name) stage (M.fits k p at)
 
     pub clear_stub_keeps : Meets (clear_stub m k p t) c h
     clear_stub_keeps = record {
       legal = M.legal;
       last = M.last;
       ends = put_none m.next 0 m.head M.ends;
-      joined = λ i a b ia ib. joined_put m.party k p stub_cleared at (update m.next 0 None) a b (λ o. subst (λ l. Owes l a b) place o) (
+      joined = λ i a b ia ib. joined_put m.party k p stub_cleared at (update m.next 0 None) a b (λ o. subst (λ l. Owes l a b) stage o) (
           subst (λ n. (n ≡ Some b) ⊎ ((n ≡ None) × Owed m.party a b)) (sym (put_other m.next 0 None a (λ s. unlinked.1 i (subst (ItemAt c.rooms i) s ia)))) (M.joined i a b ia ib));
       once = M.once;
       shared = M.shared;
       stub = M.stub;
       unmade = M.unmade;
       holds = M.holds;
-      right = right_with m c h M k p at t (ap tail_of place) (update m.party k (Some stub_cleared)) c.rooms h stub_cleared t (put_same m.party k (Some stub_cleared)) refl unlinked.0.keeps.held_by;
-      fits = put_all (λ j q. AtStage m.head (update m.next 0 None) m.cell c.owner c.keeper c.rooms h j q.name q.place) m.party k stub_cleared
-          (λ j q ne eq. producer_moves m.head m.head m.next (update m.next 0 None) m.cell c.owner c.keeper c.keeper c.rooms h h j q.name (put_none m.next 0) (λ s. s) (λ n w. w) q.place
-          (other_none m c h M k p at t (ap tail_of place) j q ne eq) (M.fits j q eq))
+      right = right_with m c h M k p at t (ap tail_of stage) (update m.party k (Some stub_cleared)) c.rooms h stub_cleared t (put_same m.party k (Some stub_cleared)) refl unlinked.0.keeps.held_by;
+      fits = put_all (λ j q. AtStage m.head (update m.next 0 None) m.cell c.owner c.keeper c.rooms h j q.name q.stage) m.party k stub_cleared
+          (λ j q ne eq. producer_moves m.head m.head m.next (update m.next 0 None) m.cell c.owner c.keeper c.keeper c.rooms h h j q.name (put_none m.next 0) (λ s. s) (λ n w. w) q.stage
+          (other_none m c h M k p at t (ap tail_of stage) j q ne eq) (M.fits j q eq))
           (unlinked.0, unlinked.1, put_same m.next 0 None);
       rooms = put_all (λ j q. OwnsRooms c.owner j q.spare) m.party k stub_cleared (λ j q ne eq. M.rooms j q eq) (M.rooms k p at);
       names = names_put m.party k p stub_cleared at refl M.names;
@@ -59,15 +59,15 @@ module _ {P E : Type 0} (m : AbstractMachine P E) (c : Chain) (h : List (Event P
     }
 
   -- Swap of the stub
-  module _ (t : ℕ) (place : p.place ≡ PutSwap t) where
+  module _ (t : ℕ) (stage : p.stage ≡ PutSwap t) where
     abbrev pub chain_after_stub : Chain
     chain_after_stub = record c { rooms = c.rooms ++ 0 ∷ [] }
 
     abbrev stub_swapped : AbstractParty P
-    stub_swapped = record p { place = PutLink t m.head }
+    stub_swapped = record p { stage = PutLink t m.head }
 
     cleared_stub : Real c.keeper c.rooms h k p.name t × IsOut c.rooms × (m.next 0 ≡ None)
-    cleared_stub = subst (AtStage m.head m.next m.cell c.owner c.keeper c.rooms h k p.name) place (M.fits k p at)
+    cleared_stub = subst (AtStage m.head m.next m.cell c.owner c.keeper c.rooms h k p.name) stage (M.fits k p at)
 
     real_keeps : Real c.keeper (c.rooms ++ 0 ∷ []) h k p.name t
     real_keeps = record {
@@ -81,15 +81,15 @@ module _ {P E : Type 0} (m : AbstractMachine P E) (c : Chain) (h : List (Event P
       legal = M.legal;
       last = last_more m c h M 0;
       ends = cleared_stub.2;
-      joined = joined_more m c h M k p stub_swapped at 0 (λ a b o. absurd (subst (λ l. Owes l a b) place o)) (refl, refl);
+      joined = joined_more m c h M k p stub_swapped at 0 (λ a b o. absurd (subst (λ l. Owes l a b) stage o)) (refl, refl);
       once = once_more m c h M 0 cleared_stub.1;
       shared = λ i x ix. elim (at_split c.rooms 0 i x ix) [ inl a ↦ M.shared i x a | inr a ↦ ap c.owner a.1 ∙ M.stub ];
       stub = M.stub;
       unmade = M.unmade;
       holds = ap (map m.cell) (real_more c.rooms (0 ∷ []) ∙ append-nil (real c.rooms)) ∙ M.holds;
-      right = right_with m c h M k p at t (ap tail_of place) (update m.party k (Some stub_swapped)) (c.rooms ++ 0 ∷ []) h stub_swapped t (put_same m.party k (Some stub_swapped)) refl cleared_stub.0.keeps.held_by;
-      fits = put_all (λ j q. AtStage 0 m.next m.cell c.owner c.keeper (c.rooms ++ 0 ∷ []) h j q.name q.place) m.party k stub_swapped
-          (λ j q ne eq. producer_grows m.head 0 m.next m.cell c.owner c.keeper c.rooms 0 h j q.name q.place (other_none m c h M k p at t (ap tail_of place) j q ne eq) (M.fits j q eq))
+      right = right_with m c h M k p at t (ap tail_of stage) (update m.party k (Some stub_swapped)) (c.rooms ++ 0 ∷ []) h stub_swapped t (put_same m.party k (Some stub_swapped)) refl cleared_stub.0.keeps.held_by;
+      fits = put_all (λ j q. AtStage 0 m.next m.cell c.owner c.keeper (c.rooms ++ 0 ∷ []) h j q.name q.stage) m.party k stub_swapped
+          (λ j q ne eq. producer_grows m.head 0 m.next m.cell c.owner c.keeper c.rooms 0 h j q.name q.stage (other_none m c h M k p at t (ap tail_of stage) j q ne eq) (M.fits j q eq))
           (real_keeps, (M.last.0, at_more c.rooms (0 ∷ []) M.last.0 m.head M.last.2, subst (λ i. ItemAt (c.rooms ++ 0 ∷ []) i 0) M.last.1 (at_end c.rooms 0), M.ends));
       rooms = put_all (λ j q. OwnsRooms c.owner j q.spare) m.party k stub_swapped (λ j q ne eq. M.rooms j q eq) (M.rooms k p at);
       names = names_put m.party k p stub_swapped at refl M.names;
@@ -97,12 +97,12 @@ module _ {P E : Type 0} (m : AbstractMachine P E) (c : Chain) (h : List (Event P
     }
 
   -- Link of the stub
-  module _ (t old : ℕ) (place : p.place ≡ PutLink t old) where
+  module _ (t old : ℕ) (stage : p.stage ≡ PutLink t old) where
     abbrev stub_linked : AbstractParty P
-    stub_linked = record p { place = PutRead t }
+    stub_linked = record p { stage = PutRead t }
 
     open_stub : Real c.keeper c.rooms h k p.name t × ((i : ℕ) × ItemAt c.rooms i old × ItemAt c.rooms (suc i) 0 × (m.next old ≡ None))
-    open_stub = subst (AtStage m.head m.next m.cell c.owner c.keeper c.rooms h k p.name) place (M.fits k p at)
+    open_stub = subst (AtStage m.head m.next m.cell c.owner c.keeper c.rooms h k p.name) stage (M.fits k p at)
 
     not_old_stub : (j a : ℕ) → ItemAt c.rooms j a → j ≢ open_stub.1.0 → a ≢ old
     not_old_stub j a ja ne same = ne (M.once j open_stub.1.0 old (subst (ItemAt c.rooms j) same ja) open_stub.1.1)
@@ -126,7 +126,7 @@ module _ {P E : Type 0} (m : AbstractMachine P E) (c : Chain) (h : List (Event P
           inl (ap (update m.next old (Some 0)) ea ∙ put_same m.next old (Some 0) ∙ ap Some (sym eb))
       | no ne ↦
           let apart = not_old_stub i a ia ne in
-          joined_put m.party k p stub_linked at (update m.next old (Some 0)) a b (λ o. absurd (apart (subst (λ l. Owes l a b) place o).0))
+          joined_put m.party k p stub_linked at (update m.next old (Some 0)) a b (λ o. absurd (apart (subst (λ l. Owes l a b) stage o).0))
           (subst (λ n. (n ≡ Some b) ⊎ ((n ≡ None) × Owed m.party a b)) (sym (put_other m.next old (Some 0) a apart)) (M.joined i a b ia ib))
     ]
 
@@ -145,9 +145,9 @@ module _ {P E : Type 0} (m : AbstractMachine P E) (c : Chain) (h : List (Event P
       stub = M.stub;
       unmade = M.unmade;
       holds = M.holds;
-      right = right_with m c h M k p at t (ap tail_of place) (update m.party k (Some stub_linked)) c.rooms h stub_linked t (put_same m.party k (Some stub_linked)) refl open_stub.0.keeps.held_by;
-      fits = put_all (λ j q. AtStage m.head (update m.next old (Some 0)) m.cell c.owner c.keeper c.rooms h j q.name q.place) m.party k stub_linked
-          (λ j q ne eq. link_producer j q.name q.place (other_none m c h M k p at t (ap tail_of place) j q ne eq) (M.fits j q eq))
+      right = right_with m c h M k p at t (ap tail_of stage) (update m.party k (Some stub_linked)) c.rooms h stub_linked t (put_same m.party k (Some stub_linked)) refl open_stub.0.keeps.held_by;
+      fits = put_all (λ j q. AtStage m.head (update m.next old (Some 0)) m.cell c.owner c.keeper c.rooms h j q.name q.stage) m.party k stub_linked
+          (λ j q ne eq. link_producer j q.name q.stage (other_none m c h M k p at t (ap tail_of stage) j q ne eq) (M.fits j q eq))
           (open_stub.0, head_not_tail);
       rooms = put_all (λ j q. OwnsRooms c.owner j q.spare) m.party k stub_linked (λ j q ne eq. M.rooms j q eq) (M.rooms k p at);
       names = names_put m.party k p stub_linked at refl M.names;

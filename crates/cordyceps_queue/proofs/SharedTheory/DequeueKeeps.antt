@@ -24,7 +24,7 @@ use Rattle.cordyceps_queue.specs.Shared.View.{View, name}
 use Rattle.cordyceps_queue.specs.Cores.Abstract.{AbstractParty, AbstractMachine, update, insert_room, stands, set_right, hand_out}
 use Rattle.cordyceps_queue.proofs.CoreTheory.Basics.{zero_suc, suc_zero, suc_inj, put_same, put_other, put_all}
 use Rattle.cordyceps_queue.proofs.CoreTheory.DequeueSteps.{out_keeps, chain_after_out}
-use Rattle.cordyceps_queue.proofs.CoreTheory.HolderSteps.{was_now, keeping, right_with, place_keeps, open_blocks}
+use Rattle.cordyceps_queue.proofs.CoreTheory.HolderSteps.{was_now, keeping, right_with, stage_keeps, open_blocks}
 use Rattle.cordyceps_queue.proofs.CoreTheory.OtherParties.{joined_put, names_put, strange}
 use Rattle.cordyceps_queue.proofs.CoreTheory.ProducerSteps.{spare_shared, ready_shared}
 use Rattle.cordyceps_queue.proofs.CoreTheory.ChainShrinks.{at_down, tail_full, tail_away, second}
@@ -33,7 +33,7 @@ use Rattle.cordyceps_queue.proofs.SharedTheory.WordsAsMachine.{links_same, keeps
 use Rattle.cordyceps_queue.proofs.SharedTheory.EnqueueKeeps.{m, past, here, view_after, views_put, wide_words}
 
 -- the order of the free rooms of a party with the right does not matter
-respare : {P E : Type 0} (n : AbstractMachine P E) (c : Chain) (h : List (Event P E)) (M : Meets n c h) (k : ℕ) (p : AbstractParty P) (at : n.party k ≡ Some p) (t : ℕ) → tail_of p.place ≡ Some t → (spare : List ℕ) → OwnsRooms c.owner k spare
+respare : {P E : Type 0} (n : AbstractMachine P E) (c : Chain) (h : List (Event P E)) (M : Meets n c h) (k : ℕ) (p : AbstractParty P) (at : n.party k ≡ Some p) (t : ℕ) → tail_of p.stage ≡ Some t → (spare : List ℕ) → OwnsRooms c.owner k spare
     → Meets (record n { party = update n.party k (Some (record p { spare = spare })) }) c h
 respare n c h M k p at t has spare given =
     let q = record p { spare = spare } in record {
@@ -47,7 +47,7 @@ respare n c h M k p at t has spare given =
       unmade = M.unmade;
       holds = M.holds;
       right = right_with n c h M k p at t has (update n.party k (Some q)) c.rooms h q t (put_same n.party k (Some q)) has (keeping n c h M k p at t has).held_by;
-      fits = put_all (λ j x. AtStage n.head n.next n.cell c.owner c.keeper c.rooms h j x.name x.place) n.party k q (λ j x ne eq. M.fits j x eq) (M.fits k p at);
+      fits = put_all (λ j x. AtStage n.head n.next n.cell c.owner c.keeper c.rooms h j x.name x.stage) n.party k q (λ j x ne eq. M.fits j x eq) (M.fits k p at);
       rooms = put_all (λ j x. OwnsRooms c.owner j x.spare) n.party k q (λ j x ne eq. M.rooms j x eq) given;
       names = names_put n.party k p q at refl M.names;
       strangers = λ x away. M.strangers x (strange n.party k p q at refl x away);
@@ -70,7 +70,7 @@ module _ {E : Type 0} (s : TableState E) (k : RuleHolds s) (id : ℕ) (v : View 
   there = here s k id v at named
 
   abbrev pub sees : List (Event Name E) → List ℕ → List ℕ → Stage → View E
-  sees es free back place = view_after s k id v at named es free back place None
+  sees es free back stage = view_after s k id v at named es free back stage None
 
   -- the rooms of one chain are rooms of another
   abbrev pub Among : List ℕ → List ℕ → Type 0
@@ -80,43 +80,43 @@ module _ {E : Type 0} (s : TableState E) (k : RuleHolds s) (id : ℕ) (v : View 
   full_among rooms among i x ix ne = let a = among i x ix in k.full a.0 x a.1 ne
 
   -- a step that changes no word and no slot
-  pub reads : (es : List (Event Name E)) (place : Stage) (chain : Chain) → Meets (stands n id (party v) place) chain (reverse es ++ out_events) → Among chain.rooms k.chain.rooms → ((q : ℕ) → place ≡ Cleared q → ⊥) → (i : ℕ)
-      → RuleHolds record { words = set s.words i (get_or s.words i 0); homes = s.homes; views = set s.views id (sees es v.free v.back place) } × Sees v es (sees es v.free v.back place)
-  reads es place chain met among away i =
-      let w = sees es v.free v.back place in
-      let same : stands n id (party v) place ≡ machine_of k.cell s.words (set s.views id w) = spelled w in
-      let r = keeps_rule s k id es v w s.words s.homes k.cell chain (stands n id (party v) place) at named refl same met refl refl (full_among chain.rooms among) (empties_same s k id w (k.empty id v at named)) (readies_same s k id w away) in
+  pub reads : (es : List (Event Name E)) (stage : Stage) (chain : Chain) → Meets (stands n id (party v) stage) chain (reverse es ++ out_events) → Among chain.rooms k.chain.rooms → ((q : ℕ) → stage ≡ Cleared q → ⊥) → (i : ℕ)
+      → RuleHolds record { words = set s.words i (get_or s.words i 0); homes = s.homes; views = set s.views id (sees es v.free v.back stage) } × Sees v es (sees es v.free v.back stage)
+  reads es stage chain met among away i =
+      let w = sees es v.free v.back stage in
+      let same : stands n id (party v) stage ≡ machine_of k.cell s.words (set s.views id w) = spelled w in
+      let r = keeps_rule s k id es v w s.words s.homes k.cell chain (stands n id (party v) stage) at named refl same met refl refl (full_among chain.rooms among) (empties_same s k id w (k.empty id v at named)) (readies_same s k id w away) in
       (subst (λ (ws : List ℕ). RuleHolds record { words = ws; homes = s.homes; views = set s.views id w }) (sym (set-get_or s.words i 0)) r.0, r.1)
     where
-      spelled : (w : View E) → stands n id (party v) place ≡ machine_of k.cell s.words (set s.views id (sees es v.free v.back place))
+      spelled : (w : View E) → stands n id (party v) stage ≡ machine_of k.cell s.words (set s.views id (sees es v.free v.back stage))
       spelled w j = record {
         head = get_or s.words 0 0;
         right = get_or s.words 1 0;
         count = length s.words - 2;
         next = λ r. link_of (get_or s.words (2 + r) 0);
         cell = k.cell;
-        party = views_put s k id v at named (sees es v.free v.back place) named j;
+        party = views_put s k id v at named (sees es v.free v.back stage) named j;
       }
 
   -- the right changes
-  pub rights : (es : List (Event Name E)) (place : Stage) (chain : Chain) (right : ℕ) → Meets (set_right n id (party v) right place) chain (reverse es ++ out_events) → Among chain.rooms k.chain.rooms → ((q : ℕ) → place ≡ Cleared q → ⊥)
-      → RuleHolds record { words = set s.words 1 right; homes = s.homes; views = set s.views id (sees es v.free v.back place) } × Sees v es (sees es v.free v.back place)
-  rights es place chain right met among away =
-      let w = sees es v.free v.back place in
-      keeps_rule s k id es v w (set s.words 1 right) s.homes k.cell chain (set_right n id (party v) right place) at named refl spelled met (length-set s.words 1 right) refl (full_among chain.rooms among) (empties_same s k id w (k.empty id v at named)) (readies_same s k id w away)
+  pub rights : (es : List (Event Name E)) (stage : Stage) (chain : Chain) (right : ℕ) → Meets (set_right n id (party v) right stage) chain (reverse es ++ out_events) → Among chain.rooms k.chain.rooms → ((q : ℕ) → stage ≡ Cleared q → ⊥)
+      → RuleHolds record { words = set s.words 1 right; homes = s.homes; views = set s.views id (sees es v.free v.back stage) } × Sees v es (sees es v.free v.back stage)
+  rights es stage chain right met among away =
+      let w = sees es v.free v.back stage in
+      keeps_rule s k id es v w (set s.words 1 right) s.homes k.cell chain (set_right n id (party v) right stage) at named refl spelled met (length-set s.words 1 right) refl (full_among chain.rooms among) (empties_same s k id w (k.empty id v at named)) (readies_same s k id w away)
     where
-      spelled : set_right n id (party v) right place ≡ machine_of k.cell (set s.words 1 right) (set s.views id (sees es v.free v.back place))
+      spelled : set_right n id (party v) right stage ≡ machine_of k.cell (set s.words 1 right) (set s.views id (sees es v.free v.back stage))
       spelled j = record {
         head = sym (get_or-set_other s.words 1 0 right 0 (λ x. absurd (omega arith))) j;
         right = sym (get_or-set_same s.words 1 right 0 (let w = wide_words s k id v at named in omega arith)) j;
         count = ap (λ l. l - 2) (sym (length-set s.words 1 right)) j;
         next = sym (links_same s.words 1 right (omega arith)) j;
         cell = k.cell;
-        party = views_put s k id v at named (sees es v.free v.back place) named j;
+        party = views_put s k id v at named (sees es v.free v.back stage) named j;
       }
 
   -- the tail's element is handed out, after these events
-  module _ (before : List (Event Name E)) (M : Meets n k.chain (reverse before ++ out_events)) (t r : ℕ) (has : tail_of v.place ≡ Some t) (nothing : (a b : ℕ) → Owes v.place a b → ⊥) (is_real : t ≢ 0) (linked : n.next t ≡ Some r) (e : E) (full : k.cell t ≡ Some e) where
+  module _ (before : List (Event Name E)) (M : Meets n k.chain (reverse before ++ out_events)) (t r : ℕ) (has : tail_of v.stage ≡ Some t) (nothing : (a b : ℕ) → Owes v.stage a b → ⊥) (is_real : t ≢ 0) (linked : n.next t ≡ Some r) (e : E) (full : k.cell t ≡ Some e) where
     abbrev pub all : List (Event Name E)
     all = before ++ Event.Out (name v) e ∷ []
 
@@ -158,7 +158,7 @@ module _ {E : Type 0} (s : TableState E) (k : RuleHolds s) (id : ℕ) (v : View 
     handed_machine = hand_out n id (party v) t r
 
     abbrev handed_party : AbstractParty Name
-    handed_party = record { name = name v; place = Holding r; spare = insert_room t (v.back ++ v.free) }
+    handed_party = record { name = name v; stage = Holding r; spare = insert_room t (v.back ++ v.free) }
 
     abbrev freed_machine : AbstractMachine Name E
     freed_machine = record handed_machine { party = update handed_machine.party id (Some (party out_view)) }
@@ -194,11 +194,11 @@ module _ {E : Type 0} (s : TableState E) (k : RuleHolds s) (id : ℕ) (v : View 
         (subst (λ (ws : List ℕ). RuleHolds record { words = ws; homes = homes_out; views = set s.views id out_view }) (sym (set-get_or s.words i 0)) kept.0, kept.1)
 
   -- ---- what the steps tell
-  pub stood : (es : List (Event Name E)) (place : Stage) → Sees v es (sees es v.free v.back place) → stands_at es place (v, []) (sees es v.free v.back place, [])
-  stood es place adds = (refl, bare, ap (λ l. l ++ v.free) (sym bare), refl, adds)
+  pub stood : (es : List (Event Name E)) (stage : Stage) → Sees v es (sees es v.free v.back stage) → stands_at es stage (v, []) (sees es v.free v.back stage, [])
+  stood es stage adds = (refl, bare, ap (λ l. l ++ v.free) (sym bare), refl, adds)
 
-  pub blocked : (es : List (Event Name E)) (place : Stage) → WasBlocked (name v) (reverse es ++ out_events) → Blocked (sees es v.free v.back place)
-  blocked es place was = subst (WasBlocked (name v)) (sym (ap (λ z. reverse z) (plain_marked id (k.history ++ of_seat id es)) ∙ (ap (λ z. reverse z) (events_more k.history id es) ∙ reverse-append (events k.history) es))) was
+  pub blocked : (es : List (Event Name E)) (stage : Stage) → WasBlocked (name v) (reverse es ++ out_events) → Blocked (sees es v.free v.back stage)
+  blocked es stage was = subst (WasBlocked (name v)) (sym (ap (λ z. reverse z) (plain_marked id (k.history ++ of_seat id es)) ∙ (ap (λ z. reverse z) (events_more k.history id es) ∙ reverse-append (events k.history) es))) was
 
   pub same_rooms : Among k.chain.rooms k.chain.rooms
   same_rooms i x ix = (i, ix)
@@ -211,7 +211,7 @@ module _ {E : Type 0} (s : TableState E) (k : RuleHolds s) (id : ℕ) (v : View 
   Comes i new then = (w : View E) × (a : Act (Option (Filled E))) × Valid s.homes [] a × RuleHolds (stepped s i new id [] w a) × then (get_or s.words i 0) (w, carried_after [] a)
 
   -- with the tail's link a room: the element is handed out
-  pub hands : (before : List (Event Name E)) (M : Meets n k.chain (reverse before ++ out_events)) (t r i : ℕ) (has : tail_of v.place ≡ Some t) (nothing : (a b : ℕ) → Owes v.place a b → ⊥) (is_real : t ≢ 0) (linked : n.next t ≡ Some r) (slots : ℕ) → length s.homes ≡ slots
+  pub hands : (before : List (Event Name E)) (M : Meets n k.chain (reverse before ++ out_events)) (t r i : ℕ) (has : tail_of v.stage ≡ Some t) (nothing : (a b : ℕ) → Owes v.stage a b → ⊥) (is_real : t ≢ 0) (linked : n.next t ≡ Some r) (slots : ℕ) → length s.homes ≡ slots
       → Comes i (get_or s.words i 0) (λ _. hands_out before slots t r (v, []))
   hands before M t r i has nothing is_real linked slots deep =
       let first : ItemAt k.chain.rooms 0 t = (keeping n k.chain (reverse before ++ out_events) M id (party v) there t has).tail in
@@ -228,11 +228,11 @@ module _ {E : Type 0} (s : TableState E) (k : RuleHolds s) (id : ℕ) (v : View 
       )
 
   -- with the tail's link null
-  nulls : (before : List (Event Name E)) (M : Meets n k.chain (reverse before ++ out_events)) (t i : ℕ) (has : tail_of v.place ≡ Some t) (nothing : (a b : ℕ) → Owes v.place a b → ⊥) (is_real : t ≢ 0) → HasLooked (name v) (reverse before ++ out_events) → n.next t ≡ None
+  nulls : (before : List (Event Name E)) (M : Meets n k.chain (reverse before ++ out_events)) (t i : ℕ) (has : tail_of v.stage ≡ Some t) (nothing : (a b : ℕ) → Owes v.stage a b → ⊥) (is_real : t ≢ 0) → HasLooked (name v) (reverse before ++ out_events) → n.next t ≡ None
       → Comes i (get_or s.words i 0) (λ _. stands_at before (Null t) (v, []))
   nulls before M t i has nothing is_real looked open_link =
       let h = reverse before ++ out_events in
-      let met = place_keeps n k.chain h M id (party v) there t has (Null t) refl (λ a b o. absurd (nothing a b o)) (
+      let met = stage_keeps n k.chain h M id (party v) there t has (Null t) refl (λ a b o. absurd (nothing a b o)) (
         record { keeps = keeping n k.chain h M id (party v) there t has; is_real = is_real; looked = looked },
         (λ far. was_now (name v) h looked (open_blocks n k.chain h M id (party v) there t has nothing open_link far)),
       ) in
@@ -243,7 +243,7 @@ module _ {E : Type 0} (s : TableState E) (k : RuleHolds s) (id : ℕ) (v : View 
   abbrev pub ReadsTail : List (Event Name E) → ℕ → ℕ → ℕ → SeatState E → Type 0
   ReadsTail before slots t found w = (found ≡ 0 → stands_at before (Null t) (v, []) w) × ((r : ℕ) → found ≡ suc r → hands_out before slots t r (v, []) w)
 
-  pub reading : (before : List (Event Name E)) (M : Meets n k.chain (reverse before ++ out_events)) (t i : ℕ) (has : tail_of v.place ≡ Some t) (nothing : (a b : ℕ) → Owes v.place a b → ⊥) (is_real : t ≢ 0) → HasLooked (name v) (reverse before ++ out_events)
+  pub reading : (before : List (Event Name E)) (M : Meets n k.chain (reverse before ++ out_events)) (t i : ℕ) (has : tail_of v.stage ≡ Some t) (nothing : (a b : ℕ) → Owes v.stage a b → ⊥) (is_real : t ≢ 0) → HasLooked (name v) (reverse before ++ out_events)
       → i ≡ t + 2 → (slots : ℕ) → length s.homes ≡ slots → (x : ℕ) → get_or s.words i 0 ≡ x → Comes i (get_or s.words i 0) (ReadsTail before slots t)
   reading before M t i has nothing is_real looked is slots deep zero e =
       let here_is : get_or s.words (2 + t) 0 ≡ get_or s.words i 0 = ap (λ q. get_or s.words q 0) (sum is) in

@@ -49,7 +49,7 @@ module _ {E : Type 0} (s : TableState E) (k : RuleHolds s) (id : ℕ) (v : View 
 
   -- the view after a step that adds these events
   abbrev pub view_after : List (Event Name E) → List ℕ → List ℕ → Stage → Option E → View E
-  view_after es free back place item = record { known = all_seen id (k.history ++ of_seat id es) v.known.share; free = free; back = back; place = place; item = item }
+  view_after es free back stage item = record { known = all_seen id (k.history ++ of_seat id es) v.known.share; free = free; back = back; stage = stage; item = item }
 
   pub views_put : (w : View E) → w.known.share ≢ [] → update m.party id (Some (party w)) ≡ (λ j. party_of (get_elem? (set s.views id w) j))
   views_put w some_name = sym (parties_put s.views id w (at_length s.views id v at) some_name)
@@ -58,7 +58,7 @@ module _ {E : Type 0} (s : TableState E) (k : RuleHolds s) (id : ℕ) (v : View 
   wide_words = k.wide
 
   -- ---- the store of null
-  module _ (r : ℕ) (rs : List ℕ) (e : E) (idle : v.place ≡ Rest) (bare : v.back ≡ []) (free : v.free ≡ r ∷ rs) where
+  module _ (r : ℕ) (rs : List ℕ) (e : E) (idle : v.stage ≡ Rest) (bare : v.back ≡ []) (free : v.free ≡ r ∷ rs) where
     spare : v.back ++ v.free ≡ r ∷ rs
     spare = ap (λ l. l ++ v.free) bare ∙ free
 
@@ -106,7 +106,7 @@ module _ {E : Type 0} (s : TableState E) (k : RuleHolds s) (id : ℕ) (v : View 
         (readies s k id r (Some e) clear_view (λ q is. ap (λ z. update k.cell r (Some e) z) (sym (ap room_of is)) ∙ put_same k.cell r (Some e)) (λ j ne mine. ready_spare mine (rooms.own 0 r refl)))
 
   -- ---- the swap of head
-  module _ (r : ℕ) (e : E) (ready : v.place ≡ Cleared r) (item : v.item ≡ Some e) (inside : r < length s.homes) where
+  module _ (r : ℕ) (e : E) (ready : v.stage ≡ Cleared r) (item : v.item ≡ Some e) (inside : r < length s.homes) where
     has : k.cell r ≡ Some e
     has = k.ready id v r at named ready ∙ item
 
@@ -152,7 +152,7 @@ module _ {E : Type 0} (s : TableState E) (k : RuleHolds s) (id : ℕ) (v : View 
         (readies_same s k id swap_view (λ q is. cc))
 
   -- ---- the store of the link
-  module _ (r old : ℕ) (waits : v.place ≡ Swapped r old) (inside : old < length s.homes) where
+  module _ (r old : ℕ) (waits : v.stage ≡ Swapped r old) (inside : old < length s.homes) where
     abbrev pub link_view : View E
     link_view = view_after (Event.Link (name v) ∷ []) v.free v.back Rest None
 
@@ -175,7 +175,7 @@ module _ {E : Type 0} (s : TableState E) (k : RuleHolds s) (id : ℕ) (v : View 
         (length-set s.words (2 + old) (suc r)) refl k.full (empties_same s k id link_view (k.empty id v at named)) (readies_same s k id link_view (λ q is. cc))
 
 module _ {E : Type 0} where
-  pub clears : (slots id i : ℕ) (me : SeatState E) (r : ℕ) (rs : List ℕ) (item : Option E) (e : E) → i ≡ r + 2 → item ≡ Some e → me.0.place ≡ Rest → me.0.back ≡ [] → me.0.free ≡ r ∷ rs → me.0.known.share ≢ []
+  pub clears : (slots id i : ℕ) (me : SeatState E) (r : ℕ) (rs : List ℕ) (item : Option E) (e : E) → i ≡ r + 2 → item ≡ Some e → me.0.stage ≡ Rest → me.0.back ≡ [] → me.0.free ≡ r ∷ rs → me.0.known.share ≢ []
       → Allows RuleHolds slots id me i (λ _. 0) (λ _. play.cleared item (step slots i 0 0 none) me 0)
   clears slots id i me r rs item e is chosen idle bare free named s k deep at fits =
       let c = clear_kept s k id me.0 at named r rs e idle bare free in
@@ -193,7 +193,7 @@ module _ {E : Type 0} where
             (ap (λ (l : List ℕ). Cleared (first_or 0 l)) p, ap Some q, ap rest_from p, sym bare, ap (λ (l : List ℕ). let y : Option (Filled E) = None in (first_or 0 l, y) ∷ me.1) p, subst (λ n. n < slots) (ap (first_or 0) p) near, c.1),
       )
 
-  pub swaps : (slots id : ℕ) (me : SeatState E) (r : ℕ) (e : E) (cs : List (ℕ × Option (Filled E))) → me.0.place ≡ Cleared r → me.0.item ≡ Some e → me.1 ≡ (r, Some (full_slot r e)) ∷ cs → r < slots → me.0.known.share ≢ []
+  pub swaps : (slots id : ℕ) (me : SeatState E) (r : ℕ) (e : E) (cs : List (ℕ × Option (Filled E))) → me.0.stage ≡ Cleared r → me.0.item ≡ Some e → me.1 ≡ (r, Some (full_slot r e)) ∷ cs → r < slots → me.0.known.share ≢ []
       → Allows RuleHolds slots id me 0 (λ _. r) (play.swapped (step slots 0 r 0 none) me)
   swaps slots id me r e cs ready item hand near named s k deep at fits =
       let inside : r < length s.homes = omega arith in
@@ -210,7 +210,7 @@ module _ {E : Type 0} where
             (ap (λ l. Swapped (room_of l) (get_or s.words 0 0)) p, refl, refl, ap rest hand', omega arith, subst (λ x. Sees me.0 (Event.Swap (name me.0) x ∷ []) w) q c.1),
       )
 
-  pub links_on : (slots id i n : ℕ) (me : SeatState E) (r old : ℕ) → i ≡ old + 2 → n ≡ r + 1 → me.0.place ≡ Swapped r old → old < slots → me.0.known.share ≢ []
+  pub links_on : (slots id i n : ℕ) (me : SeatState E) (r old : ℕ) → i ≡ old + 2 → n ≡ r + 1 → me.0.stage ≡ Swapped r old → old < slots → me.0.known.share ≢ []
       → Allows RuleHolds slots id me i (λ _. n) (λ _. play.linked (step slots i n 0 none) me n)
   links_on slots id i n me r old is is_n waits near named s k deep at fits =
       let inside : old < length s.homes = omega arith in

@@ -32,7 +32,7 @@ module _ {E : Type 0} (s : TableState E) (k : RuleHolds s) (id : ℕ) (v : View 
   is_there = there s k id v at named bare
 
   -- ---- the swap of the right
-  module _ (rest : v.place ≡ Rest) where
+  module _ (rest : v.stage ≡ Rest) where
     unmoved : get_or s.words 1 0 ≡ 0 → set_right core id (party v) 0 Rest ≡ core
     unmoved e j = record {
       head = get_or s.words 0 0;
@@ -40,7 +40,7 @@ module _ {E : Type 0} (s : TableState E) (k : RuleHolds s) (id : ℕ) (v : View 
       count = length s.words - 2;
       next = λ r. link_of (get_or s.words (2 + r) 0);
       cell = k.cell;
-      party = (ap (λ (p : AbstractParty Name). update core.party id (Some p)) (λ i. record { name = name v; place = sym rest i; spare = v.back ++ v.free }) ∙ put_again core.party id (party v) is_there) j;
+      party = (ap (λ (p : AbstractParty Name). update core.party id (Some p)) (λ i. record { name = name v; stage = sym rest i; spare = v.back ++ v.free }) ∙ put_again core.party id (party v) is_there) j;
     }
 
     takes_bare : (slots : ℕ) → length s.homes ≡ slots → (x : ℕ) → get_or s.words 1 0 ≡ x → Comes s k id v at named bare 1 0 (play.took (step slots 1 0 0 none) (v, []))
@@ -64,11 +64,11 @@ module _ {E : Type 0} (s : TableState E) (k : RuleHolds s) (id : ℕ) (v : View 
         )
 
   -- ---- the reads of a link, and the store of the right
-  module _ (t : ℕ) (holding : v.place ≡ Holding t) where
-    has : tail_of v.place ≡ Some t
+  module _ (t : ℕ) (holding : v.stage ≡ Holding t) where
+    has : tail_of v.stage ≡ Some t
     has = ap tail_of holding
 
-    nothing : (a b : ℕ) → Owes v.place a b → ⊥
+    nothing : (a b : ℕ) → Owes v.stage a b → ⊥
     nothing a b o = subst (λ l. Owes l a b) holding o
 
     pub looked_on : Meets core k.chain (Event.Look (name v) ∷ gone_by)
@@ -86,14 +86,14 @@ module _ {E : Type 0} (s : TableState E) (k : RuleHolds s) (id : ℕ) (v : View 
     looks_bare : t ≢ 0 → (i : ℕ) → i ≡ t + 2 → (slots : ℕ) → length s.homes ≡ slots → Comes s k id v at named bare i (get_or s.words i 0) (ReadsTail s k id v at named bare (Event.Look (name v) ∷ []) slots t)
     looks_bare is_real i is slots deep = reading s k id v at named bare (Event.Look (name v) ∷ []) looked_on t i has nothing is_real (inl refl) is slots deep (get_or s.words i 0) refl
 
-  module _ (t : ℕ) (behind : v.place ≡ Second t) where
+  module _ (t : ℕ) (behind : v.stage ≡ Second t) where
     knows_tail : Real k.chain.keeper k.chain.rooms gone_by id (name v) t
     knows_tail = subst (AtStage core.head core.next core.cell k.chain.owner k.chain.keeper k.chain.rooms gone_by id (name v)) behind (k.meets.fits id (party v) is_there)
 
     reads_bare : (i : ℕ) → i ≡ t + 2 → (slots : ℕ) → length s.homes ≡ slots → Comes s k id v at named bare i (get_or s.words i 0) (ReadsTail s k id v at named bare [] slots t)
     reads_bare i is slots deep = reading s k id v at named bare [] k.meets t i (ap tail_of behind) (λ a b o. subst (λ l. Owes l a b) behind o) knows_tail.is_real knows_tail.looked is slots deep (get_or s.words i 0) refl
 
--- the tail of two places that are one
+-- the tail of two stages that are one
 same_tail : {p : Stage} {t u : ℕ} → p ≡ Holding t → p ≡ Holding u → t ≡ u
 same_tail a b = some_inj (ap tail_of (sym a ∙ b))
 
@@ -101,22 +101,22 @@ same_second : {p : Stage} {t u : ℕ} → p ≡ Second t → p ≡ Second u → 
 same_second a b = some_inj (ap tail_of (sym a ∙ b))
 
 module _ {E : Type 0} (slots id : ℕ) (me : SeatState E) (hand : me.1 ≡ carry me.0.back) (near : Near slots me.0.back) (named : me.0.known.share ≢ []) where
-  pub takes_right : me.0.place ≡ Rest → Allows RuleHolds slots id me 1 (λ _. 0) (play.took (step slots 1 0 0 none) me)
+  pub takes_right : me.0.stage ≡ Rest → Allows RuleHolds slots id me 1 (λ _. 0) (play.took (step slots 1 0 0 none) me)
   takes_right rest = returning slots id 1 me (λ _. 0) (play.took (step slots 1 0 0 none) me) hand near named
       (λ s k deep at fits. takes_bare s k id (view_returned me.0) at named refl rest slots deep (get_or s.words 1 0) refl)
 
-  pub gives_right : (t n' : ℕ) → n' ≡ t + 1 → me.0.place ≡ Holding t → Allows RuleHolds slots id me 1 (λ _. n') (λ _. play.gave (step slots 1 n' 0 none) me n')
+  pub gives_right : (t n' : ℕ) → n' ≡ t + 1 → me.0.stage ≡ Holding t → Allows RuleHolds slots id me 1 (λ _. n') (λ _. play.gave (step slots 1 n' 0 none) me n')
   gives_right t n' is holding = returning slots id 1 me (λ _. n') (λ _. play.gave (step slots 1 n' 0 none) me n') hand near named
       (λ s k deep at fits. let c = gives_bare s k id (view_returned me.0) at named refl t holding n' is in (c.0, c.1, c.2, c.3, λ _ _. c.4))
 
-  pub looks : (t i : ℕ) → i ≡ t + 2 → me.0.place ≡ Holding t → t ≢ 0 → Allows RuleHolds slots id me i (λ x. x) (play.looked (step slots i 0 0 none) me)
+  pub looks : (t i : ℕ) → i ≡ t + 2 → me.0.stage ≡ Holding t → t ≢ 0 → Allows RuleHolds slots id me i (λ x. x) (play.looked (step slots i 0 0 none) me)
   looks t i is holding is_real = returning slots id i me (λ x. x) (play.looked (step slots i 0 0 none) me) hand near named
       (λ s k deep at fits.
       let c = looks_bare s k id (view_returned me.0) at named refl t holding is_real i is slots deep in
-      (c.0, c.1, c.2, c.3, λ u place ne. subst (λ q. ReadsTail s k id (view_returned me.0) at named refl (Event.Look (name me.0) ∷ []) slots q (get_or s.words i 0) (c.0, carried_after [] c.1)) (same_tail holding place) c.4))
+      (c.0, c.1, c.2, c.3, λ u stage ne. subst (λ q. ReadsTail s k id (view_returned me.0) at named refl (Event.Look (name me.0) ∷ []) slots q (get_or s.words i 0) (c.0, carried_after [] c.1)) (same_tail holding stage) c.4))
 
-  pub reads_behind : (t i : ℕ) → i ≡ t + 2 → me.0.place ≡ Second t → Allows RuleHolds slots id me i (λ x. x) (play.read (step slots i 0 0 none) me)
+  pub reads_behind : (t i : ℕ) → i ≡ t + 2 → me.0.stage ≡ Second t → Allows RuleHolds slots id me i (λ x. x) (play.read (step slots i 0 0 none) me)
   reads_behind t i is behind = returning slots id i me (λ x. x) (play.read (step slots i 0 0 none) me) hand near named
       (λ s k deep at fits.
       let c = reads_bare s k id (view_returned me.0) at named refl t behind i is slots deep in
-      (c.0, c.1, c.2, c.3, λ u place. subst (λ q. ReadsTail s k id (view_returned me.0) at named refl [] slots q (get_or s.words i 0) (c.0, carried_after [] c.1)) (same_second behind place) c.4))
+      (c.0, c.1, c.2, c.3, λ u stage. subst (λ q. ReadsTail s k id (view_returned me.0) at named refl [] slots q (get_or s.words i 0) (c.0, carried_after [] c.1)) (same_second behind stage) c.4))

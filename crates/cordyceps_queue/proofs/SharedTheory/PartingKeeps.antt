@@ -84,7 +84,7 @@ module _ (E : Type 0) where
           unmade = λ r l. deal_else 0 (down_from rooms) only_stub r (λ i a. let t = at_down_from rooms i r a in let e = t.0 in absurd (omega arith)) ∙ others_unmade r (omega arith);
           holds = refl;
           right = (refl, 0, right, refl);
-          fits = λ k p e. subst (λ (q : AbstractParty Name). AtStage (get_or words 0 0) (λ r. link_of (get_or words (2 + r) 0)) (λ (_ : ℕ). let x : Option E = None in x) owner None (0 ∷ []) [] k q.name q.place) (is_first rooms k p e).1 tt;
+          fits = λ k p e. subst (λ (q : AbstractParty Name). AtStage (get_or words 0 0) (λ r. link_of (get_or words (2 + r) 0)) (λ (_ : ℕ). let x : Option E = None in x) owner None (0 ∷ []) [] k q.name q.stage) (is_first rooms k p e).1 tt;
           rooms = λ k p e. let t = is_first rooms k p e in subst (λ (z : ℕ × AbstractParty Name). OwnsRooms owner z.0 z.1.spare) (λ c. (sym t.0 c, t.1 c)) (mine rooms);
           names = λ j k p q ej ek same. (is_first rooms j p ej).0 ∙ sym (is_first rooms k q ek).0;
           strangers = λ q away. tt;
@@ -93,7 +93,7 @@ module _ (E : Type 0) where
         stub = omega arith;
         full = λ i r ir ne. absurd (ne (only_at 0 r i ir).1);
         empty = λ j v e some_name. subst (λ (z : View E). EmptyAtHome homes z.free) (only first v j e).1 (vacant_empty rooms);
-        ready = λ j v r e some_name is. absurd (let c = ap (λ (z : View E). z.place) (only first v j e).1 ∙ is in cc);
+        ready = λ j v r e some_name is. absurd (let c = ap (λ (z : View E). z.stage) (only first v j e).1 ∙ is in cc);
         fits = known.1;
         owned = known.0;
       }
@@ -115,7 +115,7 @@ module _ (E : Type 0) where
       }
 
 -- ---- splitting
-module _ {E : Type 0} (s : TableState E) (k : RuleHolds s) (id n : ℕ) (v : View E) (named : v.known.share ≢ []) (rest : v.place ≡ Rest) (bare : v.back ≡ []) (at : get_elem? s.views id ≡ some v) where
+module _ {E : Type 0} (s : TableState E) (k : RuleHolds s) (id n : ℕ) (v : View E) (named : v.known.share ≢ []) (rest : v.stage ≡ Rest) (bare : v.back ≡ []) (at : get_elem? s.views id ≡ some v) where
   abbrev left_view : View E
   left_view = view_keeping n v
 
@@ -166,7 +166,7 @@ module _ {E : Type 0} (s : TableState E) (k : RuleHolds s) (id n : ℕ) (v : Vie
   Gone_cut q = q ≡ name v
 
   abbrev Was_cut : ℕ → AbstractParty Name → Type 0
-  Was_cut i p = ((core s k).party i ≡ Some p) ⊎ ((p.place ≡ Rest) × ((q : AbstractParty Name) → (core s k).party i ≡ Some q → Gone_cut q.name))
+  Was_cut i p = ((core s k).party i ≡ Some p) ⊎ ((p.stage ≡ Rest) × ((q : AbstractParty Name) → (core s k).party i ≡ Some q → Gone_cut q.name))
 
   cut_groups : Regroups (core s k) k.chain (reverse (events k.history)) (λ j. party_of (get_elem? cut_views j)) owner_cut Gone_cut
   cut_groups = record {
@@ -175,7 +175,7 @@ module _ {E : Type 0} (s : TableState E) (k : RuleHolds s) (id n : ℕ) (v : Vie
         (subst (AtStage (core s k).head (core s k).next k.cell k.chain.owner k.chain.keeper k.chain.rooms (reverse (events k.history)) id (name v)) rest (k.meets.fits id (party v) (party_at s k id v at named)));
     fixed = deal_fixed k.chain.owner id far (take n v.free) taken;
     stays = λ i p e. elim (ℕ_discrete i id) [
-      | yes same ↦ let is = was_here p (ap (core s k).party (sym same) ∙ e) in inr (ap (λ (x : AbstractParty Name). x.name) (sym is), ap (λ (x : AbstractParty Name). x.place) (sym is) ∙ rest)
+      | yes same ↦ let is = was_here p (ap (core s k).party (sym same) ∙ e) in inr (ap (λ (x : AbstractParty Name). x.name) (sym is), ap (λ (x : AbstractParty Name). x.stage) (sym is) ∙ rest)
       | no ne ↦ let w = party_was (get_elem? s.views i) p e in inl (ap party_of (cut_still i w.0 ne w.1 ∙ sym w.1) ∙ e)
     ];
     was = λ i p e.
@@ -208,7 +208,7 @@ module _ {E : Type 0} (s : TableState E) (k : RuleHolds s) (id n : ℕ) (v : Vie
         (λ _ i r a. let t = at_drop n v.free i r a in k.empty id v at named t.0 r t.1)
         (λ _ i r a. k.empty id v at named i r (at_take n v.free i r a).0)
         (λ j u ne there some_name. k.empty j u there some_name);
-    ready = λ j u r. cut_all (λ _ z. z.known.share ≢ [] → z.place ≡ Cleared r → k.cell r ≡ z.item)
+    ready = λ j u r. cut_all (λ _ z. z.known.share ≢ [] → z.stage ≡ Cleared r → k.cell r ≡ z.item)
         (λ _ is. absurd (cc))
         (λ _ is. absurd (cc))
         (λ i z ne there some_name. k.ready i z r there some_name)
@@ -217,11 +217,11 @@ module _ {E : Type 0} (s : TableState E) (k : RuleHolds s) (id n : ℕ) (v : Vie
     owned = cut_owned;
   }
 
-pub splits : {E : Type 0} (id n : ℕ) (v : View E) → v.known.share ≢ [] → v.place ≡ Rest → v.back ≡ [] → Splits RuleHolds id v (view_keeping n v) (view_giving n v)
+pub splits : {E : Type 0} (id n : ℕ) (v : View E) → v.known.share ≢ [] → v.stage ≡ Rest → v.back ≡ [] → Splits RuleHolds id v (view_keeping n v) (view_giving n v)
 splits id n v named rest bare s k at = cut_kept s k id n v named rest bare at
 
 -- ---- taking another in
-module _ {E : Type 0} (s : TableState E) (k : RuleHolds s) (id other : ℕ) (v w : View E) (rest : v.place ≡ Rest) (rest_too : w.place ≡ Rest) (bare : v.back ≡ []) (bare_too : w.back ≡ []) (named : v.known.share ≢ []) (named_too : w.known.share ≢ [])
+module _ {E : Type 0} (s : TableState E) (k : RuleHolds s) (id other : ℕ) (v w : View E) (rest : v.stage ≡ Rest) (rest_too : w.stage ≡ Rest) (bare : v.back ≡ []) (bare_too : w.back ≡ []) (named : v.known.share ≢ []) (named_too : w.known.share ≢ [])
     (at : get_elem? s.views id ≡ some v) (apart : other ≢ id) (there : get_elem? (set s.views id (view_absorbing v w)) other ≡ some w) where
   abbrev joint : List (View E)
   joint = set (set s.views id (view_absorbing v w)) other view_absorbed
@@ -273,10 +273,10 @@ module _ {E : Type 0} (s : TableState E) (k : RuleHolds s) (id other : ℕ) (v w
   Gone_join q = (q ≡ name v) ⊎ (q ≡ name w)
 
   abbrev Was_join : ℕ → AbstractParty Name → Type 0
-  Was_join i p = ((core s k).party i ≡ Some p) ⊎ ((p.place ≡ Rest) × ((q : AbstractParty Name) → (core s k).party i ≡ Some q → Gone_join q.name))
+  Was_join i p = ((core s k).party i ≡ Some p) ⊎ ((p.stage ≡ Rest) × ((q : AbstractParty Name) → (core s k).party i ≡ Some q → Gone_join q.name))
 
   -- a party at rest has settled
-  rest_settled : (i : ℕ) (u : View E) → get_elem? s.views i ≡ some u → u.known.share ≢ [] → u.place ≡ Rest → IsSettled (name u) past
+  rest_settled : (i : ℕ) (u : View E) → get_elem? s.views i ≡ some u → u.known.share ≢ [] → u.stage ≡ Rest → IsSettled (name u) past
   rest_settled i u e some_name idle = subst (AtStage (core s k).head (core s k).next k.cell k.chain.owner k.chain.keeper k.chain.rooms past i (name u)) idle (k.meets.fits i (party u) (party_at s k i u e some_name))
 
   join_groups : Regroups (core s k) k.chain past (λ j. party_of (get_elem? joint j)) owner_join Gone_join
@@ -291,9 +291,9 @@ module _ {E : Type 0} (s : TableState E) (k : RuleHolds s) (id other : ℕ) (v w
         g;
     fixed = deal_fixed k.chain.owner other id w.free second_rooms.own;
     stays = λ i p e. elim (ℕ_discrete i id) [
-      | yes same ↦ let is = first_was p (ap (core s k).party (sym same) ∙ e) in inr (inl (ap (λ (x : AbstractParty Name). x.name) (sym is)), ap (λ (x : AbstractParty Name). x.place) (sym is) ∙ rest)
+      | yes same ↦ let is = first_was p (ap (core s k).party (sym same) ∙ e) in inr (inl (ap (λ (x : AbstractParty Name). x.name) (sym is)), ap (λ (x : AbstractParty Name). x.stage) (sym is) ∙ rest)
       | no ne ↦ elim (ℕ_discrete i other) [
-        | yes same ↦ let is = second_was p (ap (core s k).party (sym same) ∙ e) in inr (inr (ap (λ (x : AbstractParty Name). x.name) (sym is)), ap (λ (x : AbstractParty Name). x.place) (sym is) ∙ rest_too)
+        | yes same ↦ let is = second_was p (ap (core s k).party (sym same) ∙ e) in inr (inr (ap (λ (x : AbstractParty Name). x.name) (sym is)), ap (λ (x : AbstractParty Name). x.stage) (sym is) ∙ rest_too)
         | no no_other ↦ inl (ap party_of (join_still i ne no_other) ∙ e)
       ]
     ];
@@ -328,7 +328,7 @@ module _ {E : Type 0} (s : TableState E) (k : RuleHolds s) (id other : ℕ) (v w
         (λ _ i r a. elim (at_either v.free w.free i r a) [ inl t ↦ k.empty id v at named i r t | inr t ↦ k.empty other w there_first named_too t.0 r t.1 ])
         (λ some_name. absurd (some_name refl))
         (λ j u ne no_other e some_name. k.empty j u e some_name);
-    ready = λ j u r. join_all (λ _ z. z.known.share ≢ [] → z.place ≡ Cleared r → k.cell r ≡ z.item)
+    ready = λ j u r. join_all (λ _ z. z.known.share ≢ [] → z.stage ≡ Cleared r → k.cell r ≡ z.item)
         (λ _ is. absurd (cc))
         (λ _ is. absurd (cc))
         (λ i z ne no_other e some_name. k.ready i z r e some_name)
@@ -360,7 +360,7 @@ module _ {E : Type 0} (s : TableState E) (k : RuleHolds s) (id : ℕ) (v : View 
         (λ (t : (j ≢ id) × (get_elem? s.views j ≡ some u)). k.empty j u t.1 some_name)
         (at_set s.views id j (view_without_told v) u e);
     ready = λ j u r e some_name is. ⊎_elim
-        (λ (t : (j ≡ id) × (view_without_told v ≡ u)). k.ready id v r at named (ap (λ (z : View E). z.place) t.1 ∙ is) ∙ ap (λ (z : View E). z.item) t.1)
+        (λ (t : (j ≡ id) × (view_without_told v ≡ u)). k.ready id v r at named (ap (λ (z : View E). z.stage) t.1 ∙ is) ∙ ap (λ (z : View E). z.item) t.1)
         (λ (t : (j ≢ id) × (get_elem? s.views j ≡ some u)). k.ready j u r t.1 some_name is)
         (at_set s.views id j (view_without_told v) u e);
     fits = fits_forgot knows s.views k.history id v (view_without_told v) at refl refl k.fits;
@@ -378,7 +378,7 @@ module _ {E : Type 0} (s : TableState E) (k : RuleHolds s) (id : ℕ) (v : View 
       }
 
 module _ {E : Type 0} where
-  pub joins : (id other : ℕ) (v w : View E) → v.place ≡ Rest → w.place ≡ Rest → v.back ≡ [] → w.back ≡ [] → v.known.share ≢ [] → w.known.share ≢ [] → Joins RuleHolds id v other w (view_absorbing v w) view_absorbed
+  pub joins : (id other : ℕ) (v w : View E) → v.stage ≡ Rest → w.stage ≡ Rest → v.back ≡ [] → w.back ≡ [] → v.known.share ≢ [] → w.known.share ≢ [] → Joins RuleHolds id v other w (view_absorbing v w) view_absorbed
   joins id other v w rest rest_too bare bare_too named named_too s k at apart there = joint_kept s k id other v w rest rest_too bare bare_too named named_too at apart there
 
   pub learns : (slots id : ℕ) (me : SeatState E) (v w : View E) → me.0 ≡ view_absorbing v w → v.known.share ≢ [] → Allows RuleHolds slots id me 0 (λ n. n) (learned (step slots 0 0 0 none) me)
@@ -395,6 +395,6 @@ module _ {E : Type 0} where
           refl,
           seats.is_known knows (λ z. LegalReversed z) legal_front s.views k.history id u k.owned k.fits at k.meets.legal,
           omega arith,
-          λ all. whole_still s k id u at all (ap (λ (z : View E). z.place) is),
+          λ all. whole_still s k id u at all (ap (λ (z : View E). z.stage) is),
         ),
       )

@@ -83,8 +83,8 @@ module _ {E : Type 0} where
   tries_then slots es fs p m k l t Inconsistent a T = (T.0, stands_then es fs p (Holding t) m k l a T.1, T.2)
 
   -- where a party stands after a step
-  pub at_place : (slots : ℕ) (es : List (Event Name E)) (p : Stage) (m k : SeatState E) → m.0.known.share ≢ [] → Near slots (m.0.back ++ m.0.free) → stands_at es p m k → IsAtStage slots p k
-  at_place slots es p m k named near a =
+  pub at_stage : (slots : ℕ) (es : List (Event Name E)) (p : Stage) (m k : SeatState E) → m.0.known.share ≢ [] → Near slots (m.0.back ++ m.0.free) → stands_at es p m k → IsAtStage slots p k
+  at_stage slots es p m k named near a =
       let f = frees slots es p m k named a in
       (a.0, f.hand, f.named, λ i r x. near i r (subst (λ l. ItemAt l i r) (ap (λ l. l ++ k.0.free) a.1 ∙ a.2) x))
 
@@ -95,7 +95,7 @@ module _ {E : Type 0} where
       let backs = ap (λ (v : View E). v.back) view ∙ h.2 in
       let frees = ap (λ (v : View E). v.free) view ∙ h.3 in
       let hand : o.1 ≡ carry o.0.back = ap (λ (z : SeatState E). z.1) y ∙ (ap (λ z. (t, None) ∷ rest z) h.4 ∙ ap (λ (xs : List ℕ). carry xs) (sym backs)) in (
-        (ap (λ (v : View E). v.place) view ∙ h.1, hand, (λ x. named (sym h.7.share ∙ (sym (ap (λ (v : View E). v.known.share) view) ∙ x))), near_cons slots t (o.0.back ++ o.0.free) (m.0.back ++ m.0.free) h.5 near (λ j. backs j ++ frees j), h.6),
+        (ap (λ (v : View E). v.stage) view ∙ h.1, hand, (λ x. named (sym h.7.share ∙ (sym (ap (λ (v : View E). v.known.share) view) ∙ x))), near_cons slots t (o.0.back ++ o.0.free) (m.0.back ++ m.0.free) h.5 near (λ j. backs j ++ frees j), h.6),
         backs,
         frees,
         subst (λ (z : View E × E). Grown LegalReversed m.0.known (fs ++ Event.Out (name m.0) z.1 ∷ []) z.0.known) (λ j. (sym view j, same j)) h.7,

@@ -111,7 +111,7 @@ module _ {E : Type 0} where
           | inr t ↦ λ i x ix. given_still v.back s.homes x (k.empty j u t.1 some_name i x ix)
         ];
         ready = λ j u r e some_name is. ⊎_elim
-            (λ (t : (j ≡ id) × (w ≡ u)). k.ready id v r at named (ap (λ (z : View E). z.place) t.1 ∙ is) ∙ ap (λ (z : View E). z.item) t.1)
+            (λ (t : (j ≡ id) × (w ≡ u)). k.ready id v r at named (ap (λ (z : View E). z.stage) t.1 ∙ is) ∙ ap (λ (z : View E). z.item) t.1)
             (λ (t : (j ≢ id) × (get_elem? s.views j ≡ some u)). k.ready j u r t.1 some_name is)
             (at_set s.views id j w u e);
         fits = fits_same knows s.views k.history id v w at refl refl refl k.fits;

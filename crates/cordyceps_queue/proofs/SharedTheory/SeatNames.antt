@@ -78,7 +78,7 @@ module _ {E : Type 0} (s : TableState E) (k : RuleHolds s) (id : ℕ) (v : View 
 covers_all : (x : Name) → covers x whole ≡ 1
 covers_all x = refl
 
-module _ {E : Type 0} (s : TableState E) (k : RuleHolds s) (id : ℕ) (v : View E) (at : get_elem? s.views id ≡ some v) (is : v.known.share ≡ whole) (rest : v.place ≡ Rest) where
+module _ {E : Type 0} (s : TableState E) (k : RuleHolds s) (id : ℕ) (v : View E) (at : get_elem? s.views id ≡ some v) (is : v.known.share ≡ whole) (rest : v.stage ≡ Rest) where
   named : v.known.share ≢ []
   named e = let no : whole ≡ [] = sym is ∙ e in absurd (cc)
 
@@ -105,7 +105,7 @@ module _ {E : Type 0} (s : TableState E) (k : RuleHolds s) (id : ℕ) (v : View 
   unheld : (keeper : Option ℕ) (right : ℕ) (rooms : List ℕ) → RightIs right (core s k).party rooms (reverse (events k.history)) keeper → holder (reverse (events k.history)) ≡ None
   unheld None right rooms R = R.0
   unheld (Some j) right rooms R =
-      let at_rest : R.1.place ≡ Rest = sym (ap (λ (q : AbstractParty Name). q.place) (only_party j R.1 R.3)) ∙ rest in
+      let at_rest : R.1.stage ≡ Rest = sym (ap (λ (q : AbstractParty Name). q.stage) (only_party j R.1 R.3)) ∙ rest in
       absurd (none_some (sym (ap tail_of at_rest) ∙ R.4))
 
   settled : (q : Name) → IsSettled q (reverse (events k.history))

@@ -17,7 +17,7 @@ use Rattle.cordyceps_queue.specs.Shared.View.{View, name}
 use Rattle.cordyceps_queue.specs.Cores.Abstract.{AbstractMachine, stands, clear_stub, swap_head, link_next}
 use Rattle.cordyceps_queue.proofs.CoreTheory.Basics.{some_inj, zero_suc, suc_zero, suc_inj, put_same, at_split}
 use Rattle.cordyceps_queue.proofs.CoreTheory.DequeueSteps.{pass_keeps, chain_after_pass}
-use Rattle.cordyceps_queue.proofs.CoreTheory.HolderSteps.{was_now, keeping, place_keeps, tell_keeps, open_blocks, none_held, stub_out}
+use Rattle.cordyceps_queue.proofs.CoreTheory.HolderSteps.{was_now, keeping, stage_keeps, tell_keeps, open_blocks, none_held, stub_out}
 use Rattle.cordyceps_queue.proofs.CoreTheory.ChainShrinks.{second}
 use Rattle.cordyceps_queue.proofs.CoreTheory.StubSteps.{clear_stub_keeps, swap_stub_keeps, chain_after_stub, link_stub_keeps}
 use Rattle.cordyceps_queue.proofs.SharedTheory.WordsAsMachine.{links_put, links_same, keeps_rule, empties_same, readies_same, chain_near, head_near}
@@ -37,20 +37,20 @@ module _ {E : Type 0} (s : TableState E) (k : RuleHolds s) (id : ℕ) (v : View 
   is_there = there s k id v at named bare
 
   abbrev view : List (Event Name E) → Stage → View E
-  view es place = sees s k id v at named bare es v.free v.back place
+  view es stage = sees s k id v at named bare es v.free v.back stage
 
-  fits_at : (place : Stage) → v.place ≡ place → AtStage core.head core.next core.cell k.chain.owner k.chain.keeper k.chain.rooms past id (name v) place
-  fits_at place e = subst (AtStage core.head core.next core.cell k.chain.owner k.chain.keeper k.chain.rooms past id (name v)) e (k.meets.fits id (party v) is_there)
+  fits_at : (stage : Stage) → v.stage ≡ stage → AtStage core.head core.next core.cell k.chain.owner k.chain.keeper k.chain.rooms past id (name v) stage
+  fits_at stage e = subst (AtStage core.head core.next core.cell k.chain.owner k.chain.keeper k.chain.rooms past id (name v)) e (k.meets.fits id (party v) is_there)
 
   -- back to Holding, with nothing handed out
-  fails : (t i : ℕ) → tail_of v.place ≡ Some t → ((a b : ℕ) → Owes v.place a b → ⊥) → WasBlocked (name v) past → Comes s k id v at named bare i (get_or s.words i 0) (λ _ z. stands_at [] (Holding t) (v, []) z × Blocked z.0)
+  fails : (t i : ℕ) → tail_of v.stage ≡ Some t → ((a b : ℕ) → Owes v.stage a b → ⊥) → WasBlocked (name v) past → Comes s k id v at named bare i (get_or s.words i 0) (λ _ z. stands_at [] (Holding t) (v, []) z × Blocked z.0)
   fails t i has nothing was =
-      let met = place_keeps core k.chain past k.meets id (party v) is_there t has (Holding t) refl (λ a b o. absurd (nothing a b o)) (keeping core k.chain past k.meets id (party v) is_there t has) in
+      let met = stage_keeps core k.chain past k.meets id (party v) is_there t has (Holding t) refl (λ a b o. absurd (nothing a b o)) (keeping core k.chain past k.meets id (party v) is_there t has) in
       let r = reads s k id v at named bare [] (Holding t) k.chain met (same_rooms s k id v at named bare) (λ q is. cc) i in
       (view [] (Holding t), keeps, tt, r.0, (stood s k id v at named bare [] (Holding t) r.1, blocked s k id v at named bare [] (Holding t) was))
 
   -- ---- the first read, of the stub's link
-  module _ (holding : v.place ≡ Holding 0) where
+  module _ (holding : v.stage ≡ Holding 0) where
     abbrev look : Event Name E
     look = Event.Look (name v)
 
@@ -62,9 +62,9 @@ module _ {E : Type 0} (s : TableState E) (k : RuleHolds s) (id : ℕ) (v : View 
 
     looks_stub_bare : (slots : ℕ) → length s.homes ≡ slots → (x : ℕ) → get_or s.words 2 0 ≡ x → Comes s k id v at named bare 2 (get_or s.words 2 0) (play.looked_stub (step slots 2 0 0 none) (v, []))
     looks_stub_bare slots deep zero e =
-        let nothing : (a b : ℕ) → Owes v.place a b → ⊥ = λ a b o. subst (λ l. Owes l a b) holding o in
+        let nothing : (a b : ℕ) → Owes v.stage a b → ⊥ = λ a b o. subst (λ l. Owes l a b) holding o in
         let open_link : core.next 0 ≡ None = ap link_of e in
-        let met = place_keeps core k.chain (look ∷ past) looked id (party v) is_there 0 (ap tail_of holding) StubNull refl (λ a b o. nothing a b o) (
+        let met = stage_keeps core k.chain (look ∷ past) looked id (party v) is_there 0 (ap tail_of holding) StubNull refl (λ a b o. nothing a b o) (
           keeping core k.chain (look ∷ past) looked id (party v) is_there 0 (ap tail_of holding),
           inl refl,
           (λ far. inl (inl refl, open_blocks core k.chain (look ∷ past) looked id (party v) is_there 0 (ap tail_of holding) nothing open_link far)),
@@ -87,14 +87,14 @@ module _ {E : Type 0} (s : TableState E) (k : RuleHolds s) (id : ℕ) (v : View 
         )
 
   -- ---- the read of head behind a null link
-  module _ (at_null : v.place ≡ StubNull) where
+  module _ (at_null : v.stage ≡ StubNull) where
     heads_stub_bare : (slots : ℕ) → Dec (get_or s.words 0 0 ≡ 0) → Comes s k id v at named bare 0 (get_or s.words 0 0) (play.headed_stub (step slots 0 0 0 none) (v, []))
     heads_stub_bare slots (yes e) =
         let x : Event Name E = Event.Empty (name v) in
-        let has : tail_of v.place ≡ Some 0 = ap tail_of at_null in
+        let has : tail_of v.stage ≡ Some 0 = ap tail_of at_null in
         let mine = keeping core k.chain past k.meets id (party v) is_there 0 has in
-        let held = record (party v) { place = Holding 0 } in
-        let back : Meets (stands core id (party v) (Holding 0)) k.chain past = place_keeps core k.chain past k.meets id (party v) is_there 0 has (Holding 0) refl (λ a b o. absurd (subst (λ l. Owes l a b) at_null o)) mine in
+        let held = record (party v) { stage = Holding 0 } in
+        let back : Meets (stands core id (party v) (Holding 0)) k.chain past = stage_keeps core k.chain past k.meets id (party v) is_there 0 has (Holding 0) refl (λ a b o. absurd (subst (λ l. Owes l a b) at_null o)) mine in
         let met = tell_keeps (stands core id (party v) (Holding 0)) k.chain past back id held (put_same core.party id (Some held)) 0 refl x refl (mine.held_by, none_held core k.chain past k.meets id (party v) is_there 0 has refl e) refl refl (λ q s. s) (λ q n w. w) in
         let r = reads s k id v at named bare (x ∷ []) (Holding 0) k.chain met (same_rooms s k id v at named bare) (λ q is. cc) 0 in
         (view (x ∷ []) (Holding 0), keeps, tt, r.0, λ _. ((λ _. stood s k id v at named bare (x ∷ []) (Holding 0) r.1), λ ne. absurd (ne e)))
@@ -102,7 +102,7 @@ module _ {E : Type 0} (s : TableState E) (k : RuleHolds s) (id : ℕ) (v : View 
         let c = fails 0 0 (ap tail_of at_null) (λ a b o. subst (λ l. Owes l a b) at_null o) ((fits_at StubNull at_null).2 ne) in
         (c.0, c.1, c.2, c.3, λ _. ((λ e. absurd (ne e)), λ _. c.4))
 
-  module _ (t : ℕ) (at_null : v.place ≡ Null t) where
+  module _ (t : ℕ) (at_null : v.stage ≡ Null t) where
     -- what the read of head tells
     HeadTells : ℕ → SeatState E → Type 0
     HeadTells found z = (found ≡ t → stands_at [] (PutClear t) (v, []) z) × (found ≢ t → stands_at [] (Holding t) (v, []) z × Blocked z.0)
@@ -111,7 +111,7 @@ module _ {E : Type 0} (s : TableState E) (k : RuleHolds s) (id : ℕ) (v : View 
     unfolding HeadTells
     heads_bare (yes e) =
         let f = fits_at (Null t) at_null in
-        let met = place_keeps core k.chain past k.meets id (party v) is_there t (ap tail_of at_null) (PutClear t) refl (λ a b o. absurd (subst (λ l. Owes l a b) at_null o))
+        let met = stage_keeps core k.chain past k.meets id (party v) is_there t (ap tail_of at_null) (PutClear t) refl (λ a b o. absurd (subst (λ l. Owes l a b) at_null o))
         (f.0, stub_out core k.chain past k.meets id (party v) is_there t (ap tail_of at_null) f.0.is_real e) in
         let r = reads s k id v at named bare [] (PutClear t) k.chain met (same_rooms s k id v at named bare) (λ q is. cc) 0 in
         (view [] (PutClear t), keeps, tt, r.0, ((λ _. stood s k id v at named bare [] (PutClear t) r.1), λ ne. absurd (ne e)))
@@ -121,12 +121,12 @@ module _ {E : Type 0} (s : TableState E) (k : RuleHolds s) (id : ℕ) (v : View 
 
   -- ---- the stub is put in
   -- a step that changes one word and no slot
-  stores : (place : Stage) (chain : Chain) (next : AbstractMachine Name E) (i x : ℕ) → next ≡ machine_of k.cell (set s.words i x) (set s.views id (view [] place)) → Meets next chain past → FullAtHome s.homes k.cell chain.rooms → ((q : ℕ) → place ≡ Cleared q → ⊥)
-      → RuleHolds record { words = set s.words i x; homes = s.homes; views = set s.views id (view [] place) } × Sees v [] (view [] place)
-  stores place chain next i x same met full away =
-      keeps_rule s k id [] v (view [] place) (set s.words i x) s.homes k.cell chain next at named refl same met (length-set s.words i x) refl full (empties_same s k id (view [] place) (k.empty id v at named)) (readies_same s k id (view [] place) away)
+  stores : (stage : Stage) (chain : Chain) (next : AbstractMachine Name E) (i x : ℕ) → next ≡ machine_of k.cell (set s.words i x) (set s.views id (view [] stage)) → Meets next chain past → FullAtHome s.homes k.cell chain.rooms → ((q : ℕ) → stage ≡ Cleared q → ⊥)
+      → RuleHolds record { words = set s.words i x; homes = s.homes; views = set s.views id (view [] stage) } × Sees v [] (view [] stage)
+  stores stage chain next i x same met full away =
+      keeps_rule s k id [] v (view [] stage) (set s.words i x) s.homes k.cell chain next at named refl same met (length-set s.words i x) refl full (empties_same s k id (view [] stage) (k.empty id v at named)) (readies_same s k id (view [] stage) away)
 
-  clears_stub_bare : (t : ℕ) → v.place ≡ PutClear t → Comes s k id v at named bare 2 0 (λ _. stands_at [] (PutSwap t) (v, []))
+  clears_stub_bare : (t : ℕ) → v.stage ≡ PutClear t → Comes s k id v at named bare 2 0 (λ _. stands_at [] (PutSwap t) (v, []))
   clears_stub_bare t l =
       let r = stores (PutSwap t) k.chain (clear_stub core id (party v) t) 2 0 spelled (clear_stub_keeps core k.chain past k.meets id (party v) is_there t l) k.full (λ q is. cc) in
       (view [] (PutSwap t), keeps, tt, r.0, stood s k id v at named bare [] (PutSwap t) r.1)
@@ -141,7 +141,7 @@ module _ {E : Type 0} (s : TableState E) (k : RuleHolds s) (id : ℕ) (v : View 
         party = views_put s k id v at named (view [] (PutSwap t)) named j;
       }
 
-  swaps_stub_bare : (t : ℕ) → v.place ≡ PutSwap t → Comes s k id v at named bare 0 0 (λ found. stands_at [] (PutLink t found) (v, []))
+  swaps_stub_bare : (t : ℕ) → v.stage ≡ PutSwap t → Comes s k id v at named bare 0 0 (λ found. stands_at [] (PutLink t found) (v, []))
   swaps_stub_bare t l =
       let old = get_or s.words 0 0 in
       let r = stores (PutLink t old) (chain_after_stub core k.chain past k.meets id (party v) is_there t l) (swap_head core id (party v) 0 (PutLink t old)) 0 0 spelled
@@ -161,7 +161,7 @@ module _ {E : Type 0} (s : TableState E) (k : RuleHolds s) (id : ℕ) (v : View 
       full : FullAtHome s.homes k.cell (k.chain.rooms ++ 0 ∷ [])
       full i x ix ne = elim (at_split k.chain.rooms 0 i x ix) [ inl a ↦ k.full i x a ne | inr a ↦ absurd (ne a.1) ]
 
-  links_stub_bare : (t old : ℕ) → v.place ≡ PutLink t old → old < length s.homes → Comes s k id v at named bare (2 + old) 1 (λ _. stands_at [] (PutRead t) (v, []))
+  links_stub_bare : (t old : ℕ) → v.stage ≡ PutLink t old → old < length s.homes → Comes s k id v at named bare (2 + old) 1 (λ _. stands_at [] (PutRead t) (v, []))
   links_stub_bare t old l inside =
       let r = stores (PutRead t) k.chain (link_next core id (party v) old 0 (PutRead t)) (2 + old) 1 spelled (link_stub_keeps core k.chain past k.meets id (party v) is_there t old l) k.full (λ q is. cc) in
       (view [] (PutRead t), keeps, tt, r.0, stood s k id v at named bare [] (PutRead t) r.1)
@@ -177,7 +177,7 @@ module _ {E : Type 0} (s : TableState E) (k : RuleHolds s) (id : ℕ) (v : View 
       }
 
   -- the read after it
-  module _ (t : ℕ) (at_put : v.place ≡ PutRead t) where
+  module _ (t : ℕ) (at_put : v.stage ≡ PutRead t) where
     RereadTells : ℕ → ℕ → SeatState E → Type 0
     RereadTells slots found z = (found ≡ 0 → stands_at [] (Holding t) (v, []) z × Blocked z.0) × ((r : ℕ) → found ≡ suc r → hands_out [] slots t r (v, []) z)
 
@@ -185,7 +185,7 @@ module _ {E : Type 0} (s : TableState E) (k : RuleHolds s) (id : ℕ) (v : View 
     unfolding RereadTells
     rereads_bare slots deep i is zero e =
         let f = fits_at (PutRead t) at_put in
-        let nothing : (a b : ℕ) → Owes v.place a b → ⊥ = λ a b o. subst (λ l. Owes l a b) at_put o in
+        let nothing : (a b : ℕ) → Owes v.stage a b → ⊥ = λ a b o. subst (λ l. Owes l a b) at_put o in
         let sum : 2 + t ≡ i = omega arith in
         let open_link : core.next t ≡ None = ap link_of (ap (λ q. get_or s.words q 0) sum ∙ e) in
         let c = fails t i (ap tail_of at_put) nothing (was_now (name v) past f.0.looked (open_blocks core k.chain past k.meets id (party v) is_there t (ap tail_of at_put) nothing open_link f.1)) in
@@ -213,11 +213,11 @@ same_link : {p : Stage} {t u a b : ℕ} → p ≡ PutLink t a → p ≡ PutLink 
 same_link a b = some_inj (ap tail_of (sym a ∙ b))
 
 module _ {E : Type 0} (slots id : ℕ) (me : SeatState E) (hand : me.1 ≡ carry me.0.back) (near : Near slots me.0.back) (named : me.0.known.share ≢ []) where
-  pub looks_stub : me.0.place ≡ Holding 0 → Allows RuleHolds slots id me 2 (λ x. x) (play.looked_stub (step slots 2 0 0 none) me)
+  pub looks_stub : me.0.stage ≡ Holding 0 → Allows RuleHolds slots id me 2 (λ x. x) (play.looked_stub (step slots 2 0 0 none) me)
   looks_stub holding = returning slots id 2 me (λ x. x) (play.looked_stub (step slots 2 0 0 none) me) hand near named
       (λ s k deep at fits. looks_stub_bare s k id (view_returned me.0) at named refl holding slots deep (get_or s.words 2 0) refl)
 
-  pub heads_stub : me.0.place ≡ StubNull → Allows RuleHolds slots id me 0 (λ x. x) (play.headed_stub (step slots 0 0 0 none) me)
+  pub heads_stub : me.0.stage ≡ StubNull → Allows RuleHolds slots id me 0 (λ x. x) (play.headed_stub (step slots 0 0 0 none) me)
   heads_stub at_null = returning slots id 0 me (λ x. x) (play.headed_stub (step slots 0 0 0 none) me) hand near named
       (λ s k deep at fits. heads_stub_bare s k id (view_returned me.0) at named refl at_null slots (ℕ_discrete (get_or s.words 0 0) 0))
 
@@ -227,36 +227,36 @@ module _ {E : Type 0} (slots id : ℕ) (me : SeatState E) (hand : me.1 ≡ carry
   RereadFacts : ℕ → ℕ → SeatState E → Type 0
   RereadFacts t found z = (found ≡ 0 → stands_at [] (Holding t) me z × Blocked z.0) × ((r : ℕ) → found ≡ suc r → hands_out [] slots t r me z)
 
-  pub heads : (t : ℕ) → me.0.place ≡ Null t → Allows RuleHolds slots id me 0 (λ x. x) (play.headed (step slots 0 0 0 none) me)
+  pub heads : (t : ℕ) → me.0.stage ≡ Null t → Allows RuleHolds slots id me 0 (λ x. x) (play.headed (step slots 0 0 0 none) me)
   unfolding HeadTells HeadFacts
   heads t at_null = returning slots id 0 me (λ x. x) (play.headed (step slots 0 0 0 none) me) hand near named
       (λ s k deep at fits.
       let c = heads_bare s k id (view_returned me.0) at named refl t at_null (ℕ_discrete (get_or s.words 0 0) t) in
-      (c.0, c.1, c.2, c.3, λ u place. subst (λ q. HeadFacts q (get_or s.words 0 0) (c.0, carried_after [] c.1)) (same_null at_null place) c.4))
+      (c.0, c.1, c.2, c.3, λ u stage. subst (λ q. HeadFacts q (get_or s.words 0 0) (c.0, carried_after [] c.1)) (same_null at_null stage) c.4))
 
-  pub rereads : (t i : ℕ) → i ≡ t + 2 → me.0.place ≡ PutRead t → Allows RuleHolds slots id me i (λ x. x) (play.reread (step slots i 0 0 none) me)
+  pub rereads : (t i : ℕ) → i ≡ t + 2 → me.0.stage ≡ PutRead t → Allows RuleHolds slots id me i (λ x. x) (play.reread (step slots i 0 0 none) me)
   unfolding RereadTells RereadFacts
   rereads t i is at_put = returning slots id i me (λ x. x) (play.reread (step slots i 0 0 none) me) hand near named
       (λ s k deep at fits.
       let c = rereads_bare s k id (view_returned me.0) at named refl t at_put slots deep i is (get_or s.words i 0) refl in
-      (c.0, c.1, c.2, c.3, λ u place. subst (λ q. RereadFacts q (get_or s.words i 0) (c.0, carried_after [] c.1)) (same_put at_put place) c.4))
+      (c.0, c.1, c.2, c.3, λ u stage. subst (λ q. RereadFacts q (get_or s.words i 0) (c.0, carried_after [] c.1)) (same_put at_put stage) c.4))
 
-  pub clears_stub : (t : ℕ) → me.0.place ≡ PutClear t → Allows RuleHolds slots id me 2 (λ _. 0) (λ _. play.cleared_stub (step slots 2 0 0 none) me 0)
+  pub clears_stub : (t : ℕ) → me.0.stage ≡ PutClear t → Allows RuleHolds slots id me 2 (λ _. 0) (λ _. play.cleared_stub (step slots 2 0 0 none) me 0)
   clears_stub t l = returning slots id 2 me (λ _. 0) (λ _. play.cleared_stub (step slots 2 0 0 none) me 0) hand near named
       (λ s k deep at fits.
       let c = clears_stub_bare s k id (view_returned me.0) at named refl t l in
-      (c.0, c.1, c.2, c.3, λ u place. subst (λ q. stands_at [] (PutSwap q) me (c.0, carried_after [] c.1)) (same_clear l place) c.4))
+      (c.0, c.1, c.2, c.3, λ u stage. subst (λ q. stands_at [] (PutSwap q) me (c.0, carried_after [] c.1)) (same_clear l stage) c.4))
 
-  pub swaps_stub : (t : ℕ) → me.0.place ≡ PutSwap t → Allows RuleHolds slots id me 0 (λ _. 0) (play.swapped_stub (step slots 0 0 0 none) me)
+  pub swaps_stub : (t : ℕ) → me.0.stage ≡ PutSwap t → Allows RuleHolds slots id me 0 (λ _. 0) (play.swapped_stub (step slots 0 0 0 none) me)
   swaps_stub t l = returning slots id 0 me (λ _. 0) (play.swapped_stub (step slots 0 0 0 none) me) hand near named
       (λ s k deep at fits.
       let c = swaps_stub_bare s k id (view_returned me.0) at named refl t l in
       let h = head_near s k in
-      (c.0, c.1, c.2, c.3, λ u place. (subst (λ q. stands_at [] (PutLink q (get_or s.words 0 0)) me (c.0, carried_after [] c.1)) (same_swap l place) c.4, omega arith)))
+      (c.0, c.1, c.2, c.3, λ u stage. (subst (λ q. stands_at [] (PutLink q (get_or s.words 0 0)) me (c.0, carried_after [] c.1)) (same_swap l stage) c.4, omega arith)))
 
-  pub links_stub : (t old i : ℕ) → i ≡ old + 2 → old < slots → me.0.place ≡ PutLink t old → Allows RuleHolds slots id me i (λ _. 1) (λ _. play.linked_stub (step slots i 1 0 none) me 1)
+  pub links_stub : (t old i : ℕ) → i ≡ old + 2 → old < slots → me.0.stage ≡ PutLink t old → Allows RuleHolds slots id me i (λ _. 1) (λ _. play.linked_stub (step slots i 1 0 none) me 1)
   links_stub t old i is inside l = returning slots id i me (λ _. 1) (λ _. play.linked_stub (step slots i 1 0 none) me 1) hand near named
       (λ s k deep at fits.
       let c = links_stub_bare s k id (view_returned me.0) at named refl t old l (omega arith) in
       let sum : 2 + old ≡ i = omega arith in
-      (c.0, c.1, c.2, subst (λ (q : ℕ). RuleHolds (stepped s q 1 id [] c.0 c.1)) sum c.3, λ u o place. subst (λ q. stands_at [] (PutRead q) me (c.0, carried_after [] c.1)) (same_link l place) c.4))
+      (c.0, c.1, c.2, subst (λ (q : ℕ). RuleHolds (stepped s q 1 id [] c.0 c.1)) sum c.3, λ u o stage. subst (λ q. stands_at [] (PutRead q) me (c.0, carried_after [] c.1)) (same_link l stage) c.4))

@@ -128,20 +128,20 @@ module _ {E : Type 0} where
     head_near = chain_near k.meets.last.0 (get_or s.words 0 0) k.meets.last.2
 
     -- the cleared room of another party, or of this one before the step, is that party's alone
-    ready_owner : (j : ℕ) (u : View E) (r : ℕ) → get_elem? s.views j ≡ some u → u.known.share ≢ [] → u.place ≡ Cleared r → k.chain.owner r ≡ Ready j
+    ready_owner : (j : ℕ) (u : View E) (r : ℕ) → get_elem? s.views j ≡ some u → u.known.share ≢ [] → u.stage ≡ Cleared r → k.chain.owner r ≡ Ready j
     ready_owner j u r at some_name is =
         (subst (AtStage core.head core.next core.cell k.chain.owner k.chain.keeper k.chain.rooms (reverse (events k.history)) j (party u).name) is (k.meets.fits j (party u) (party_at j u at some_name))).1
 
     -- what rooms have changes in one room, which no other party has cleared, or nowhere
-    pub readies : (id r : ℕ) (y : Option E) (w : View E) → ((q : ℕ) → w.place ≡ Cleared q → update k.cell r y q ≡ w.item) → ((j : ℕ) → j ≢ id → k.chain.owner r ≡ Ready j → ⊥) → AllReady (update k.cell r y) (set s.views id w)
+    pub readies : (id r : ℕ) (y : Option E) (w : View E) → ((q : ℕ) → w.stage ≡ Cleared q → update k.cell r y q ≡ w.item) → ((j : ℕ) → j ≢ id → k.chain.owner r ≡ Ready j → ⊥) → AllReady (update k.cell r y) (set s.views id w)
     readies id r y w mine apart j u q e some_name is = ⊎_elim
-        (λ (t : (j ≡ id) × (w ≡ u)). subst (λ (z : View E). update k.cell r y q ≡ z.item) t.1 (mine q (ap (λ (z : View E). z.place) t.1 ∙ is)))
+        (λ (t : (j ≡ id) × (w ≡ u)). subst (λ (z : View E). update k.cell r y q ≡ z.item) t.1 (mine q (ap (λ (z : View E). z.stage) t.1 ∙ is)))
         (λ (t : (j ≢ id) × (get_elem? s.views j ≡ some u)).
         put_other k.cell r y q (λ same. apart j t.0 (ap k.chain.owner (sym same) ∙ ready_owner j u q t.1 some_name is)) ∙ k.ready j u q t.1 some_name is)
         (at_set s.views id j w u e)
 
-    pub readies_same : (id : ℕ) (w : View E) → ((q : ℕ) → w.place ≡ Cleared q → ⊥) → AllReady k.cell (set s.views id w)
+    pub readies_same : (id : ℕ) (w : View E) → ((q : ℕ) → w.stage ≡ Cleared q → ⊥) → AllReady k.cell (set s.views id w)
     readies_same id w mine j u q e some_name is = ⊎_elim
-        (λ (t : (j ≡ id) × (w ≡ u)). absurd (mine q (ap (λ (z : View E). z.place) t.1 ∙ is)))
+        (λ (t : (j ≡ id) × (w ≡ u)). absurd (mine q (ap (λ (z : View E). z.stage) t.1 ∙ is)))
         (λ (t : (j ≢ id) × (get_elem? s.views j ≡ some u)). k.ready j u q t.1 some_name is)
         (at_set s.views id j w u e)

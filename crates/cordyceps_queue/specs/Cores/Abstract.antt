@@ -11,7 +11,7 @@ use Rattle.cordyceps_queue.specs.History.{Event}
 -- a party with its free rooms, the least first
 pub record AbstractParty (P : Type 0) : Type 0 where
   pub name : P
-  pub place : Stage
+  pub stage : Stage
   pub spare : List ℕ
 
 -- room 0 is the stub's, and rooms from 1 below count are the elements'; right is 0 while taken, else the tail and 1
@@ -38,10 +38,10 @@ insert_room r (x ∷ xs) = cond (ltb r x) (r ∷ x ∷ xs) (x ∷ insert_room r 
 
 module _ {P E : Type 0} where
   abbrev pub stands : AbstractMachine P E → ℕ → AbstractParty P → Stage → AbstractMachine P E
-  stands m k p place = record m { party = update m.party k (Some (record p { place = place })) }
+  stands m k p stage = record m { party = update m.party k (Some (record p { stage = stage })) }
 
   abbrev pub add_party : AbstractMachine P E → ℕ → P → AbstractMachine P E
-  add_party m k name = record m { party = update m.party k (Some (record { name = name; place = Rest; spare = [] })) }
+  add_party m k name = record m { party = update m.party k (Some (record { name = name; stage = Rest; spare = [] })) }
 
   abbrev pub add_room : AbstractMachine P E → ℕ → AbstractParty P → AbstractMachine P E
   add_room m k p = record m { count = suc m.count; party = update m.party k (Some (record p { spare = insert_room m.count p.spare })) }
@@ -54,26 +54,26 @@ module _ {P E : Type 0} where
     count = m.count;
     next = update m.next r None;
     cell = update m.cell r (Some e);
-    party = update m.party k (Some (record { name = p.name; place = Cleared r; spare = rooms }));
+    party = update m.party k (Some (record { name = p.name; stage = Cleared r; spare = rooms }));
   }
 
   abbrev pub clear_stub : AbstractMachine P E → ℕ → AbstractParty P → ℕ → AbstractMachine P E
   clear_stub m k p t = record (stands m k p (PutSwap t)) { next = update m.next 0 None }
 
   abbrev pub swap_head : AbstractMachine P E → ℕ → AbstractParty P → ℕ → Stage → AbstractMachine P E
-  swap_head m k p r place = record (stands m k p place) { head = r }
+  swap_head m k p r stage = record (stands m k p stage) { head = r }
 
   abbrev pub link_next : AbstractMachine P E → ℕ → AbstractParty P → ℕ → ℕ → Stage → AbstractMachine P E
-  link_next m k p old r place = record (stands m k p place) { next = update m.next old (Some r) }
+  link_next m k p old r stage = record (stands m k p stage) { next = update m.next old (Some r) }
 
   abbrev pub set_right : AbstractMachine P E → ℕ → AbstractParty P → ℕ → Stage → AbstractMachine P E
-  set_right m k p n place = record (stands m k p place) { right = n }
+  set_right m k p n stage = record (stands m k p stage) { right = n }
 
   -- the tail's element is handed out, and its room is free again
   abbrev pub hand_out : AbstractMachine P E → ℕ → AbstractParty P → ℕ → ℕ → AbstractMachine P E
   hand_out m k p t r = record m {
     cell = update m.cell t None;
-    party = update m.party k (Some (record { name = p.name; place = Holding r; spare = insert_room t p.spare }));
+    party = update m.party k (Some (record { name = p.name; stage = Holding r; spare = insert_room t p.spare }));
   }
 
   abbrev pub done : AbstractMachine P E → List (Event P E) → Option (Move P E)
@@ -141,7 +141,7 @@ module _ {P E : Type 0} where
 
   abbrev pub act_of : AbstractMachine P E → ℕ → Option (AbstractParty P) → QueueStep E → Option (Move P E)
   act_of m k None s = None
-  act_of m k (Some p) s = act m k p p.place s
+  act_of m k (Some p) s = act m k p p.stage s
 
   -- a step of party k. None: it is not there
   abbrev pub moved : AbstractMachine P E → ℕ → QueueStep E → Option (Move P E)

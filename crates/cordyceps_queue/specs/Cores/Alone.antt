@@ -14,22 +14,22 @@ use Rattle.cordyceps_queue.specs.Cores.Machine.{Machine, Answered, Outcome, step
 
 abbrev pub is_rest : Option Stage → Bool
 is_rest (Some Rest) = true
-is_rest place = false
+is_rest stage = false
 
--- the places from which a party may dequeue
+-- the stages from which a party may dequeue
 abbrev pub may_dequeue : Option Stage → Bool
 may_dequeue (Some Rest) = true
 may_dequeue (Some (Holding t)) = true
-may_dequeue place = false
+may_dequeue stage = false
 
--- the step of a try to dequeue at this place
+-- the step of a try to dequeue at this stage
 abbrev pub next_step : {E : Type 0} → Option Stage → QueueStep E
 next_step (Some StubNull) = step.ReadHead
 next_step (Some (Null t)) = step.ReadHead
 next_step (Some (PutClear t)) = step.Clear None
 next_step (Some (PutSwap t)) = step.Swap
 next_step (Some (PutLink t old)) = step.Link
-next_step place = step.ReadNext
+next_step stage = step.ReadNext
 
 abbrev pub is_done : {E : Type 0} → Answered E → Bool
 is_done (Ok answer.Done) = true
@@ -55,7 +55,7 @@ module _ {E : Type 0} where
   goes_on next m (Ok answer.Done) = next m
   goes_on next m a = (m, a)
 
-  -- the steps that the places of a holder allow, until an answer other than Done: one, and at most n more
+  -- the steps that the stages of a holder allow, until an answer other than Done: one, and at most n more
   abbrev pub tries : ℕ → ℕ → Machine E → Outcome E
   tries p zero m = stepped m p (next_step (slice_get m.parties p))
   tries p (suc n) m = let out = stepped m p (next_step (slice_get m.parties p)) in goes_on (tries p n) out.0 out.1
@@ -71,7 +71,7 @@ module _ {E : Type 0} where
   -- a try to dequeue: from rest it takes the right first and gives it back last
   abbrev pub dequeued_at : ℕ → Machine E → Option Stage → Outcome E
   dequeued_at p m (Some Rest) = let out = stepped m p step.Take in takes_first p out.0 out.1
-  dequeued_at p m place = tries p 6 m
+  dequeued_at p m stage = tries p 6 m
 
   abbrev pub dequeued : Machine E → ℕ → Outcome E
   dequeued m p = dequeued_at p m (slice_get m.parties p)
@@ -82,20 +82,20 @@ module _ {E : Type 0} where
   try_events p (Err error.Empty) = Look p ∷ Empty p ∷ []
   try_events p (Err e) = Look p ∷ []
 
-  -- the events of a call, by the place at which it began
+  -- the events of a call, by the stage at which it began
   abbrev pub dequeue_events : ℕ → Option Stage → Result E TryDequeueError → List (Event ℕ E)
   dequeue_events p (Some Rest) (Err error.Busy) = Busy p ∷ []
   dequeue_events p (Some Rest) found = Take p ∷ try_events p found ++ Free p ∷ []
-  dequeue_events p place found = try_events p found
+  dequeue_events p stage found = try_events p found
 
   -- the events of a call up to the look that began its try
   abbrev pub look_events : ℕ → Option Stage → List (Event ℕ E)
   look_events p (Some Rest) = Take p ∷ Look p ∷ []
-  look_events p place = Look p ∷ []
+  look_events p stage = Look p ∷ []
 
   -- just after that look the history was blocked
   abbrev pub LooksBlocked : List (Event ℕ E) → ℕ → Option Stage → Type 0
-  LooksBlocked h p place = IsBlocked ℕ_discrete (h ++ look_events p place)
+  LooksBlocked h p stage = IsBlocked ℕ_discrete (h ++ look_events p stage)
 
   -- what a call found, by the history before it
   abbrev pub Finds : List (Event ℕ E) → ℕ → Result E TryDequeueError → Type 0

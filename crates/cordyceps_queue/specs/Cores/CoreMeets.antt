@@ -22,7 +22,7 @@ right_word (Some t) = suc t
 module _ {E : Type 0} where
   abbrev pub party_at : List (Room E) → ℕ → Option Stage → Option (AbstractParty ℕ)
   party_at rooms k None = None
-  party_at rooms k (Some place) = Some (record { name = k; place = place; spare = free_rooms k rooms })
+  party_at rooms k (Some stage) = Some (record { name = k; stage = stage; spare = free_rooms k rooms })
 
   -- a core's machine, by the functions of which `Meets` speaks
   abbrev pub abstract_of : Machine E → AbstractMachine ℕ E

@@ -17,14 +17,14 @@ use Rattle.cordyceps_queue.specs.Cores.Alone.{may_dequeue, found_of, tries, try_
 abbrev pub Drained : Type 0 → Type 0
 Drained E = Machine E × List E × Option TryDequeueError
 
--- a party at this place may take a batch of at most n elements
+-- a party at this stage may take a batch of at most n elements
 abbrev pub may_drain : ℕ → Option Stage → Bool
-may_drain zero place = false
-may_drain (suc n) place = may_dequeue place
+may_drain zero stage = false
+may_drain (suc n) stage = may_dequeue stage
 
 abbrev pub is_cleared : Stage → Bool
 is_cleared (Cleared r) = true
-is_cleared place = false
+is_cleared stage = false
 
 module _ {E : Type 0} where
   -- how many rooms have an element
@@ -55,7 +55,7 @@ module _ {E : Type 0} where
   -- from rest the right is taken first and given back last
   abbrev pub drained_at : ℕ → ℕ → Machine E → Option Stage → Drained E
   drained_at p n m (Some Rest) = let out = stepped m p step.Take in drains_first p n out.0 out.1
-  drained_at p n m place = drained p n m
+  drained_at p n m stage = drained p n m
 
   -- the answer: the elements, or why there is none
   abbrev pub batch_of : List E → Option TryDequeueError → Result (List E) TryDequeueError
@@ -85,28 +85,28 @@ module _ {E : Type 0} where
   drain_events p es None = outs p es
   drain_events p es (Some why) = outs p es ++ try_events p (Err why)
 
-  -- the events of a call, by the place at which it began
+  -- the events of a call, by the stage at which it began
   abbrev pub batch_events : ℕ → Option Stage → List E → Option TryDequeueError → List (Event ℕ E)
   batch_events p (Some Rest) es (Some error.Busy) = Busy p ∷ []
   batch_events p (Some Rest) es stop = Take p ∷ drain_events p es stop ++ Free p ∷ []
-  batch_events p place es stop = drain_events p es stop
+  batch_events p stage es stop = drain_events p es stop
 
   -- the events up to the look at which the call stopped
   abbrev pub last_look : ℕ → Option Stage → List E → List (Event ℕ E)
   last_look p (Some Rest) es = Take p ∷ outs p es ++ Look p ∷ []
-  last_look p place es = outs p es ++ Look p ∷ []
+  last_look p stage es = outs p es ++ Look p ∷ []
 
   -- why no more came: as many came as were asked for; no more was held; the history was blocked just after the last look; or
   -- another party had the right
   abbrev pub Stops : List (Event ℕ E) → ℕ → ℕ → Option Stage → List E → Option TryDequeueError → Type 0
-  Stops h p n place es None = length es ≡ n
-  Stops h p n place es (Some error.Empty) = held h ≡ es
-  Stops h p n place es (Some error.Inconsistent) = IsBlocked ℕ_discrete (h ++ last_look p place es)
-  Stops h p n place es (Some error.Busy) = (es ≡ []) × (q : ℕ) × (holder h ≡ Some q) × (p ≢ q)
+  Stops h p n stage es None = length es ≡ n
+  Stops h p n stage es (Some error.Empty) = held h ≡ es
+  Stops h p n stage es (Some error.Inconsistent) = IsBlocked ℕ_discrete (h ++ last_look p stage es)
+  Stops h p n stage es (Some error.Busy) = (es ≡ []) × (q : ℕ) × (holder h ≡ Some q) × (p ≢ q)
 
   -- what a call took, by the history before it: the oldest elements, and why no more
-  pub record Drains (h : List (Event ℕ E)) (p n : ℕ) (place : Option Stage) (es : List E) (stop : Option TryDequeueError) : Type 0 where
+  pub record Drains (h : List (Event ℕ E)) (p n : ℕ) (stage : Option Stage) (es : List E) (stop : Option TryDequeueError) : Type 0 where
     pub rest : List E
     pub front : held h ≡ es ++ rest
     pub few : length es ≤ n
-    pub stops : Stops h p n place es stop
+    pub stops : Stops h p n stage es stop

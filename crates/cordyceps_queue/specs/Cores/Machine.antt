@@ -13,7 +13,7 @@ use Rattle.cordyceps_shared.specs.declared.room.Room.{Room}
 use Rattle.cordyceps_shared.specs.Rooms.{change, linking, freeing, is_free_for, element_in, next_in}
 use Rattle.cordyceps_queue.specs.History.{Event}
 
--- the words, the rooms with the stub's as room 0, and the place of each party by its number; the right is the tail, or
+-- the words, the rooms with the stub's as room 0, and the stage of each party by its number; the right is the tail, or
 -- None while a party has it
 pub record Machine (E : Type 0) : Type 0 where
   pub head : ℕ
@@ -59,9 +59,9 @@ module _ {E : Type 0} where
   abbrev pub refused : Machine E → QueueStep E → Outcome E
   refused m s = (m, Err (NotThere, step_element s))
 
-  -- p goes to another place
+  -- p goes to another stage
   abbrev pub stands : Machine E → ℕ → Stage → QueueAnswer E → Outcome E
-  stands m p place a = (record { head = m.head; right = m.right; rooms = m.rooms; parties = slice_set m.parties p place }, Ok a)
+  stands m p stage a = (record { head = m.head; right = m.right; rooms = m.rooms; parties = slice_set m.parties p stage }, Ok a)
 
   -- an element goes into the least free room
   abbrev pub clear : Machine E → ℕ → E → Option ℕ → Outcome E
@@ -71,12 +71,12 @@ module _ {E : Type 0} where
 
   -- head becomes this room
   abbrev pub swap : Machine E → ℕ → ℕ → Stage → Outcome E
-  swap m p r place = (record { head = r; right = m.right; rooms = m.rooms; parties = slice_set m.parties p place }, Ok answer.Done)
+  swap m p r stage = (record { head = r; right = m.right; rooms = m.rooms; parties = slice_set m.parties p stage }, Ok answer.Done)
 
   -- the next word of a room is written
   abbrev pub link : Machine E → ℕ → ℕ → Option ℕ → Stage → Outcome E
-  link m p at next place =
-      (record { head = m.head; right = m.right; rooms = change (linking next) at m.rooms; parties = slice_set m.parties p place }, Ok answer.Done)
+  link m p at next stage =
+      (record { head = m.head; right = m.right; rooms = change (linking next) at m.rooms; parties = slice_set m.parties p stage }, Ok answer.Done)
 
   abbrev pub take : Machine E → ℕ → Option ℕ → Outcome E
   take m p None = (m, Ok answer.Busy)
@@ -117,7 +117,7 @@ module _ {E : Type 0} where
   head_tail m p t true = stands m p (PutClear t) answer.Done
   head_tail m p t false = stands m p (Holding t) answer.Inconsistent
 
-  -- what p's step does at its place
+  -- what p's step does at its stage
   abbrev pub acts : Machine E → ℕ → Stage → QueueStep E → Outcome E
   acts m p Rest (step.Clear (Some e)) = clear m p e (least_free p m.rooms)
   acts m p Rest step.Take = take m p m.right
@@ -136,13 +136,13 @@ module _ {E : Type 0} where
 
   abbrev pub stepped_at : Machine E → ℕ → Option Stage → QueueStep E → Outcome E
   stepped_at m p None s = refused m s
-  stepped_at m p (Some place) s = acts m p place s
+  stepped_at m p (Some stage) s = acts m p stage s
 
   -- the machine after p's step, and the answer
   abbrev pub stepped : Machine E → ℕ → QueueStep E → Outcome E
   stepped m p s = stepped_at m p (slice_get m.parties p) s
 
-  -- whether a party with this least free room may take the step at this place
+  -- whether a party with this least free room may take the step at this stage
   abbrev pub may_take : Option ℕ → Stage → QueueStep E → Bool
   may_take free Rest (step.Clear (Some e)) = is_some free
   may_take free Rest step.Take = true
@@ -161,7 +161,7 @@ module _ {E : Type 0} where
 
   abbrev pub may_take_at : Option ℕ → Option Stage → QueueStep E → Bool
   may_take_at free None s = false
-  may_take_at free (Some place) s = may_take free place s
+  may_take_at free (Some stage) s = may_take free stage s
 
   -- there is such a party, it is at that step, and has a free room where the step needs one
   abbrev pub is_there : Machine E → ℕ → QueueStep E → Bool
@@ -176,21 +176,21 @@ module _ {E : Type 0} where
   comes_out p (answer.Out e) = Event.Out p e ∷ []
   comes_out p _ = []
 
-  -- the events of an accepted step, by its place and its answer
+  -- the events of an accepted step, by its stage and its answer
   abbrev pub events_at : {P : Type 0} → P → List (Room E) → Stage → QueueStep E → QueueAnswer E → List (Event P E)
   events_at p rooms (Cleared r) step.Swap a = comes_in p (element_in (slice_get rooms r))
   events_at p rooms (Swapped r old) step.Link a = Event.Link p ∷ []
-  events_at p rooms place step.Take answer.Busy = Event.Busy p ∷ []
-  events_at p rooms place step.Take a = Event.Take p ∷ []
+  events_at p rooms stage step.Take answer.Busy = Event.Busy p ∷ []
+  events_at p rooms stage step.Take a = Event.Take p ∷ []
   events_at p rooms (Holding t) step.ReadNext a = Event.Look p ∷ comes_out p a
-  events_at p rooms place step.ReadNext a = comes_out p a
-  events_at p rooms place step.ReadHead answer.Empty = Event.Empty p ∷ []
-  events_at p rooms place step.Give a = Event.Free p ∷ []
-  events_at p rooms place s a = []
+  events_at p rooms stage step.ReadNext a = comes_out p a
+  events_at p rooms stage step.ReadHead answer.Empty = Event.Empty p ∷ []
+  events_at p rooms stage step.Give a = Event.Free p ∷ []
+  events_at p rooms stage s a = []
 
   abbrev pub events_of : {P : Type 0} → P → List (Room E) → Option Stage → QueueStep E → Answered E → List (Event P E)
-  events_of p rooms (Some place) s (Ok a) = events_at p rooms place s a
-  events_of p rooms place s a = []
+  events_of p rooms (Some stage) s (Ok a) = events_at p rooms stage s a
+  events_of p rooms stage s a = []
 
   -- the events of p's step, by its answer; a refused step has none
   abbrev pub step_events : Machine E → ℕ → QueueStep E → Answered E → List (Event ℕ E)

@@ -32,7 +32,7 @@ pub data Owner : Type 0 where
   Ready : ℕ → Owner
   Unmade : Owner
 
--- the party at this place still has to link a to b
+-- the party at this stage still has to link a to b
 abbrev pub Owes : Stage → ℕ → ℕ → Type 0
 Owes (Swapped r old) a b = (a ≡ old) × (b ≡ r)
 Owes (PutLink t old) a b = (a ≡ old) × (b ≡ 0)
@@ -68,7 +68,7 @@ pub record OwnsRooms (owner : ℕ → Owner) (k : ℕ) (spare : List ℕ) : Type
 
 module _ {P : Type 0} where
   abbrev pub Owed : (ℕ → Option (AbstractParty P)) → ℕ → ℕ → Type 0
-  Owed party a b = (k : ℕ) × (p : AbstractParty P) × (party k ≡ Some p) × Owes p.place a b
+  Owed party a b = (k : ℕ) × (p : AbstractParty P) × (party k ≡ Some p) × Owes p.stage a b
 
   -- rooms a and b are neighbours in the chain: a links to b, or a party still has to link them
   abbrev pub Joined : (ℕ → Option ℕ) → (ℕ → Option (AbstractParty P)) → ℕ → ℕ → Type 0
@@ -92,7 +92,7 @@ pub record Real {P E : Type 0} (keeper : Option ℕ) (rooms : List ℕ) (h : Lis
   pub looked : HasLooked name h
 
 module _ {P E : Type 0} (head : ℕ) (next : ℕ → Option ℕ) (cell : ℕ → Option E) (owner : ℕ → Owner) (keeper : Option ℕ) (rooms : List ℕ) (h : List (Event P E)) where
-  -- what holds of party k at this place
+  -- what holds of party k at this stage
   abbrev pub AtStage : ℕ → P → Stage → Type 0
   AtStage k name Rest = IsSettled name h
   AtStage k name (Cleared r) = IsSettled name h × (owner r ≡ Ready k) × (r ≢ 0) × (next r ≡ None) × (e : E) × (cell r ≡ Some e)
@@ -109,7 +109,7 @@ module _ {P E : Type 0} (head : ℕ) (next : ℕ → Option ℕ) (cell : ℕ →
 -- the right is out with a party, or it is the tail's room and 1
 abbrev pub RightIs : {P E : Type 0} → ℕ → (ℕ → Option (AbstractParty P)) → List ℕ → List (Event P E) → Option ℕ → Type 0
 RightIs right party rooms h None = (holder h ≡ None) × (t : ℕ) × (right ≡ suc t) × ItemAt rooms 0 t
-RightIs {P} {E} right party rooms h (Some k) = (right ≡ 0) × (p : AbstractParty P) × (t : ℕ) × (party k ≡ Some p) × (tail_of p.place ≡ Some t) × (holder h ≡ Some p.name)
+RightIs {P} {E} right party rooms h (Some k) = (right ≡ 0) × (p : AbstractParty P) × (t : ℕ) × (party k ≡ Some p) × (tail_of p.stage ≡ Some t) × (holder h ≡ Some p.name)
 
 pub record Meets {P E : Type 0} (m : AbstractMachine P E) (c : Chain) (h : List (Event P E)) : Type 0 where
   pub legal : IsLegal h
@@ -124,7 +124,7 @@ pub record Meets {P E : Type 0} (m : AbstractMachine P E) (c : Chain) (h : List 
   pub holds : map m.cell (real c.rooms) ≡ map Some (held h)
   -- the parties
   pub right : RightIs m.right m.party c.rooms h c.keeper
-  pub fits : (k : ℕ) (p : AbstractParty P) → m.party k ≡ Some p → AtStage m.head m.next m.cell c.owner c.keeper c.rooms h k p.name p.place
+  pub fits : (k : ℕ) (p : AbstractParty P) → m.party k ≡ Some p → AtStage m.head m.next m.cell c.owner c.keeper c.rooms h k p.name p.stage
   pub rooms : (k : ℕ) (p : AbstractParty P) → m.party k ≡ Some p → OwnsRooms c.owner k p.spare
   pub names : (j k : ℕ) (p q : AbstractParty P) → m.party j ≡ Some p → m.party k ≡ Some q → p.name ≡ q.name → j ≡ k
   pub strangers : (q : P) → IsStranger m.party q → IsSettled q h

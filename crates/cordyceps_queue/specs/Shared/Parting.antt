@@ -29,11 +29,11 @@ module _ {E : Type 0} where
   view_keeping n v = record v { known = knowing.known_keeping v.known; free = drop n v.free }
 
   abbrev pub view_giving : ℕ → View E → View E
-  view_giving n v = record { known = knowing.known_giving v.known; free = take n v.free; back = []; place = Rest; item = None }
+  view_giving n v = record { known = knowing.known_giving v.known; free = take n v.free; back = []; stage = Rest; item = None }
 
   -- what a party has that took another in, and what is left of the other
   abbrev pub view_absorbing : View E → View E → View E
-  view_absorbing v w = record { known = knowing.known_absorbing v.known w.known; free = v.free ++ w.free; back = []; place = Rest; item = None }
+  view_absorbing v w = record { known = knowing.known_absorbing v.known w.known; free = v.free ++ w.free; back = []; stage = Rest; item = None }
 
   abbrev pub view_absorbed : View E
-  view_absorbed = record { known = knowing.known_absorbed; free = []; back = []; place = Rest; item = None }
+  view_absorbed = record { known = knowing.known_absorbed; free = []; back = []; stage = Rest; item = None }

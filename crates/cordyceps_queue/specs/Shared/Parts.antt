@@ -17,7 +17,7 @@ use Rattle.cordyceps_queue.specs.Shared.View.{View, name}
 module _ {E : Type 0} where
   -- a party that rested has cleared its first free room for this element, and has the room's slot in hand
   pub record IsCleared (slots room : ℕ) (e : E) (m k : SeatState E) : Type 0 where
-    pub place : k.0.place ≡ Cleared room
+    pub stage : k.0.stage ≡ Cleared room
     pub item : k.0.item ≡ Some e
     pub free : m.0.free ≡ room ∷ k.0.free
     pub back : k.0.back ≡ []
@@ -27,7 +27,7 @@ module _ {E : Type 0} where
 
   -- it has made that room the head
   pub record IsSwapped (slots room old : ℕ) (e : E) (m k : SeatState E) : Type 0 where
-    pub place : k.0.place ≡ Swapped room old
+    pub stage : k.0.stage ≡ Swapped room old
     pub free : k.0.free ≡ m.0.free
     pub back : k.0.back ≡ []
     pub hand : k.1 ≡ []

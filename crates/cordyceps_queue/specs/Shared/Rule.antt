@@ -46,7 +46,7 @@ module _ {E : Type 0} where
 
   -- the party as the core's machine has it: a room whose slot has yet to be given back is free already
   abbrev pub party : View E → AbstractParty Name
-  party v = record { name = name v; place = v.place; spare = v.back ++ v.free }
+  party v = record { name = name v; stage = v.stage; spare = v.back ++ v.free }
 
   abbrev pub party_of : maybe.Option (View E) → Option (AbstractParty Name)
   party_of none = None
@@ -78,7 +78,7 @@ module _ {E : Type 0} where
 
   -- a cleared room has the element that it was cleared for
   abbrev pub AllReady : (ℕ → Option E) → List (View E) → Type 0
-  AllReady cell views = (j : ℕ) (v : View E) (r : ℕ) → get_elem? views j ≡ some v → v.known.share ≢ [] → v.place ≡ Cleared r → cell r ≡ v.item
+  AllReady cell views = (j : ℕ) (v : View E) (r : ℕ) → get_elem? views j ≡ some v → v.known.share ≢ [] → v.stage ≡ Cleared r → cell r ≡ v.item
 
   -- there is one history, which the machine meets, and of which each party has seen a beginning
   pub record RuleHolds (s : TableState E) : Type 0 where

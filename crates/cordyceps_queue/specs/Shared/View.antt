@@ -13,7 +13,7 @@ pub record View (E : Type 0) : Type 0 where
   pub known : Known (Event Name E)
   pub free : List ℕ
   pub back : List ℕ
-  pub place : Stage
+  pub stage : Stage
   pub item : Option E
 
 -- the numbers from n down to 1
@@ -27,7 +27,7 @@ module _ {E : Type 0} where
 
   -- the party of a new queue; room 0 is the stub's
   abbrev pub newcomer : ℕ → View E
-  newcomer rooms = record { known = knowing.newcomer; free = down_from rooms; back = []; place = Rest; item = None }
+  newcomer rooms = record { known = knowing.newcomer; free = down_from rooms; back = []; stage = Rest; item = None }
 
   -- the name under which the party acts
   abbrev pub name : View E → Name

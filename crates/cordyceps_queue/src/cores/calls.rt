@@ -16,7 +16,7 @@ use std::marker::Model;
 
 /// A queue whose steps are taken one at a time, by parties with numbers, in any order.
 ///
-/// A contract sees its machine: the head, the right to dequeue, the rooms and the places of the parties; and says of each
+/// A contract sees its machine: the head, the right to dequeue, the rooms and the stages of the parties; and says of each
 /// history that the core met which one it meets afterwards. Such a history is legal.
 #[derive(Drop)]
 pub struct QueueCore<E> {
@@ -63,7 +63,7 @@ impl<E: Drop> QueueCore<E> {
         ensures not_there { (result ≡ Err StepError.NotThere) ↔ (length self.old.parties ≤ party) }
         ensures history { (h : List (Event ℕ E)) → CoreMeets h self.old → CoreMeets h self.new }
     {
-        if self.machine.place(party).is_none() {
+        if self.machine.stage(party).is_none() {
             return Err(StepError::NotThere);
         }
         match self.machine.add_room(party) {
@@ -104,7 +104,7 @@ impl<E: Drop> QueueCore<E> {
     }
 
     /// Takes the oldest element out, as a party that runs alone. From rest it takes the right first and gives it back
-    /// last; a party that holds the right does neither. `NotThere` comes exactly at the other places, and changes nothing.
+    /// last; a party that holds the right does neither. `NotThere` comes exactly at the other stages, and changes nothing.
     /// It needs no memory.
     pub fn try_dequeue(&mut self, party: usize) -> Result<Result<E, TryDequeueError>, StepError>
         ensures accepted { is_ok result ≡ may_dequeue (slice_get self.old.parties party) }
@@ -130,7 +130,7 @@ impl<E: Drop> QueueCore<E> {
     /// these, or why the first try gave none. From rest it takes the right first and gives it back last; a party that holds
     /// the right does neither.
     ///
-    /// `NotThere` comes exactly where the party is at another place or `max` is 0, and `Memory` where there is none for the
+    /// `NotThere` comes exactly where the party is at another stage or `max` is 0, and `Memory` where there is none for the
     /// elements: room for as many as are held, or for `max` if that is less, is made before the first step. Both change
     /// nothing. It goes through the rooms and the parties once, to count what is held.
     pub fn take_linked(

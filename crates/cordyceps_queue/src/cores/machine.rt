@@ -1,4 +1,4 @@
-//! The machine of a core: its words, its rooms and the places of its parties.
+//! The machine of a core: its words, its rooms and the stages of its parties.
 ghost use Rattle.std.specs.Prelude.{◌≡◌, ◌≢◌, ◌<◌, ◌++◌, ◌∷◌, [], length, Some, None, IsSome, IfOk, OnOk, OnErr, slice_get, nat_eq, is_some};
 ghost use Rattle.cordyceps_shared.specs.Rooms.{element_in, next_in};
 ghost use Rattle.cordyceps_queue.specs.Cores.Machine.{stepped, acts, least_free, stands, clear, swap, link, take, give, hand_out, look, read, read_again, read_stub, head_stub, head_tail};
@@ -12,7 +12,7 @@ use cordyceps_base::shared::StepError;
 use std::alloc::{AllocError, Global};
 use std::marker::Model;
 
-/// The head, the right to dequeue (the tail, or `None` while a party has it), the rooms, and each party's place.
+/// The head, the right to dequeue (the tail, or `None` while a party has it), the rooms, and each party's stage.
 #[derive(Drop)]
 pub(crate) struct Machine<E> {
     head: usize,
@@ -60,7 +60,7 @@ impl<E: Drop> Machine<E> {
     }
 
     /// Where the party is.
-    pub(crate) fn place(&self, party: usize) -> Option<Stage>
+    pub(crate) fn stage(&self, party: usize) -> Option<Stage>
         ensures { result ≡ slice_get self.now.parties party }
     {
         self.parties.get(party).copied()
@@ -80,18 +80,18 @@ impl<E: Drop> Machine<E> {
         let cleared = self
             .parties
             .iter()
-            .filter(|place| place.is_cleared())
+            .filter(|stage| stage.is_cleared())
             .count();
         self.rooms.occupied().saturating_sub(cleared)
     }
 
-    /// The party goes to another place.
-    fn stand(&mut self, party: usize, place: Stage, answer: QueueAnswer<E>) -> Answered<E>
+    /// The party goes to another stage.
+    fn stand(&mut self, party: usize, stage: Stage, answer: QueueAnswer<E>) -> Answered<E>
         requires { party < length self.old.parties }
-        ensures machine { self.new ≡ (stands self.old party place answer).0 }
-        ensures answer { result ≡ (stands self.old party place answer).1 }
+        ensures machine { self.new ≡ (stands self.old party stage answer).0 }
+        ensures answer { result ≡ (stands self.old party stage answer).1 }
     {
-        self.parties[party] = place;
+        self.parties[party] = stage;
         Ok(answer)
     }
 
@@ -109,24 +109,24 @@ impl<E: Drop> Machine<E> {
         Ok(QueueAnswer::Done)
     }
 
-    fn swap(&mut self, party: usize, room: usize, place: Stage) -> Answered<E>
+    fn swap(&mut self, party: usize, room: usize, stage: Stage) -> Answered<E>
         requires { party < length self.old.parties }
-        ensures machine { self.new ≡ (swap self.old party room place).0 }
-        ensures answer { result ≡ (swap self.old party room place).1 }
+        ensures machine { self.new ≡ (swap self.old party room stage).0 }
+        ensures answer { result ≡ (swap self.old party room stage).1 }
     {
         self.head = room;
-        self.parties[party] = place;
+        self.parties[party] = stage;
         Ok(QueueAnswer::Done)
     }
 
-    fn link(&mut self, party: usize, at: usize, next: Option<usize>, place: Stage) -> Answered<E>
+    fn link(&mut self, party: usize, at: usize, next: Option<usize>, stage: Stage) -> Answered<E>
         requires party { party < length self.old.parties }
         requires room { at < length self.old.rooms }
-        ensures machine { self.new ≡ (link self.old party at next place).0 }
-        ensures answer { result ≡ (link self.old party at next place).1 }
+        ensures machine { self.new ≡ (link self.old party at next stage).0 }
+        ensures answer { result ≡ (link self.old party at next stage).1 }
     {
         self.rooms.link(at, next);
-        self.parties[party] = place;
+        self.parties[party] = stage;
         Ok(QueueAnswer::Done)
     }
 
@@ -247,44 +247,44 @@ impl<E: Drop> Machine<E> {
         ensures machine { self.new ≡ (stepped self.old party step).0 }
         ensures answer { result ≡ (stepped self.old party step).1 }
     {
-        let Some(place) = self.place(party) else {
+        let Some(stage) = self.stage(party) else {
             return Err((StepError::NotThere, step.into_element()));
         };
         match step {
-            QueueStep::Clear(Some(element)) => match place {
+            QueueStep::Clear(Some(element)) => match stage {
                 Stage::Rest => self.clear(party, element),
                 _ => Err((StepError::NotThere, Some(element))),
             },
-            QueueStep::Clear(None) => match place {
+            QueueStep::Clear(None) => match stage {
                 Stage::PutClear(tail) => self.link(party, 0, None, Stage::PutSwap(tail)),
                 _ => Err((StepError::NotThere, None)),
             },
-            QueueStep::Swap => match place {
+            QueueStep::Swap => match stage {
                 Stage::Cleared(room) => self.swap(party, room, Stage::Swapped(room, self.head)),
                 Stage::PutSwap(tail) => self.swap(party, 0, Stage::PutLink(tail, self.head)),
                 _ => Err((StepError::NotThere, None)),
             },
-            QueueStep::Link => match place {
+            QueueStep::Link => match stage {
                 Stage::Swapped(room, old) => self.link(party, old, Some(room), Stage::Rest),
                 Stage::PutLink(tail, old) => self.link(party, old, Some(0), Stage::PutRead(tail)),
                 _ => Err((StepError::NotThere, None)),
             },
-            QueueStep::Take => match place {
+            QueueStep::Take => match stage {
                 Stage::Rest => self.take(party),
                 _ => Err((StepError::NotThere, None)),
             },
-            QueueStep::ReadNext => match place {
+            QueueStep::ReadNext => match stage {
                 Stage::Holding(tail) => self.look(party, tail),
                 Stage::Second(tail) => self.read(party, tail),
                 Stage::PutRead(tail) => self.read_again(party, tail),
                 _ => Err((StepError::NotThere, None)),
             },
-            QueueStep::ReadHead => match place {
+            QueueStep::ReadHead => match stage {
                 Stage::StubNull => self.head_stub(party),
                 Stage::Null(tail) => self.head_tail(party, tail),
                 _ => Err((StepError::NotThere, None)),
             },
-            QueueStep::Give => match place {
+            QueueStep::Give => match stage {
                 Stage::Holding(tail) => self.give(party, tail),
                 _ => Err((StepError::NotThere, None)),
             },

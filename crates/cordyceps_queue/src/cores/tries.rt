@@ -9,11 +9,11 @@ use crate::cores::machine::Machine;
 use crate::cores::stage::Stage;
 use crate::cores::steps::{Answered, QueueAnswer, QueueStep, TryDequeueError};
 
-/// The step of a try to dequeue at this place.
-fn next_step<E>(place: Option<Stage>) -> QueueStep<E>
-    ensures { result ≡ next_step place }
+/// The step of a try to dequeue at this stage.
+fn next_step<E>(stage: Option<Stage>) -> QueueStep<E>
+    ensures { result ≡ next_step stage }
 {
-    match place {
+    match stage {
         Some(Stage::StubNull | Stage::Null(_)) => QueueStep::ReadHead,
         Some(Stage::PutClear(_)) => QueueStep::Clear(None),
         Some(Stage::PutSwap(_)) => QueueStep::Swap,
@@ -59,29 +59,29 @@ impl<E: Drop> Machine<E> {
     pub(crate) fn is_ready(&self, party: usize) -> bool
         ensures { result ≡ is_ready self.now party }
     {
-        matches!(self.place(party), Some(Stage::Rest)) && self.has_room(party)
+        matches!(self.stage(party), Some(Stage::Rest)) && self.has_room(party)
     }
 
-    /// Whether the party is at a place from which it may dequeue.
+    /// Whether the party is at a stage from which it may dequeue.
     pub(crate) fn may_dequeue(&self, party: usize) -> bool
         ensures { result ≡ may_dequeue (slice_get self.now.parties party) }
     {
-        matches!(self.place(party), Some(Stage::Rest | Stage::Holding(_)))
+        matches!(self.stage(party), Some(Stage::Rest | Stage::Holding(_)))
     }
 
-    /// The steps of a holder's try to dequeue. From any place there are at most seven.
+    /// The steps of a holder's try to dequeue. From any stage there are at most seven.
     fn try_holding(&mut self, party: usize) -> Answered<E>
         requires { IsSound self.old }
         ensures machine { self.new ≡ (tries party 6 self.old).0 }
         ensures answer { result ≡ (tries party 6 self.old).1 }
     {
         for _ in 0..6usize {
-            let answer = self.act(party, next_step(self.place(party)));
+            let answer = self.act(party, next_step(self.stage(party)));
             if !is_done(&answer) {
                 return answer;
             }
         }
-        self.act(party, next_step(self.place(party)))
+        self.act(party, next_step(self.stage(party)))
     }
 
     /// A try to dequeue. A party at rest takes the right first and gives it back last.
@@ -90,7 +90,7 @@ impl<E: Drop> Machine<E> {
         ensures machine { self.new ≡ (dequeued self.old party).0 }
         ensures answer { result ≡ (dequeued self.old party).1 }
     {
-        let Some(Stage::Rest) = self.place(party) else {
+        let Some(Stage::Rest) = self.stage(party) else {
             return self.try_holding(party);
         };
         match self.act(party, QueueStep::Take) {
@@ -120,19 +120,19 @@ impl<E: Drop> Machine<E> {
         None
     }
 
-    /// The same, from any place from which a party may dequeue. A party at rest takes the right first and gives it back last.
+    /// The same, from any stage from which a party may dequeue. A party at rest takes the right first and gives it back last.
     pub(crate) fn take_batch(
         &mut self,
         party: usize,
         batch: &mut Vec<E>,
         max: usize,
     ) -> Option<TryDequeueError>
-        requires place { may_dequeue (slice_get self.old.parties party) ≡ true }
+        requires stage { may_dequeue (slice_get self.old.parties party) ≡ true }
         requires empty { batch.old.items ≡ [] }
         requires room { (h : List (Event ℕ E)) × CoreMeets h self.old × ((max ≤ vec_capacity batch.old) ⊎ (length (held h) ≤ vec_capacity batch.old)) }
         ensures { (self.new, batch.new.items, result) ≡ drained_at party max self.old (slice_get self.old.parties party) }
     {
-        let Some(Stage::Rest) = self.place(party) else {
+        let Some(Stage::Rest) = self.stage(party) else {
             return self.drain(party, batch, max);
         };
         match self.act(party, QueueStep::Take) {

@@ -28,7 +28,7 @@ fn clear<E: Drop, B: Chosen<E>>(words: &Words<E>, seat: &mut PartySeat<E>, room:
 /// Puts the element into the slot in hand, makes its room the head, and answers the old head.
 fn swap_in<E: Drop>(words: &Words<E>, seat: &mut PartySeat<E>, full: Filled<E>) -> u64
     requires table { (seat.old.table_id ≡ words.now.table_id) × IsTable words.now.table_id }
-    requires place { (seat.old.me.0.place ≡ Cleared full.ticket) × (seat.old.me.0.item ≡ Some full.item) × (seat.old.me.0.back ≡ []) }
+    requires stage { (seat.old.me.0.stage ≡ Cleared full.ticket) × (seat.old.me.0.item ≡ Some full.item) × (seat.old.me.0.back ≡ []) }
     requires hand { seat.old.me.1 ≡ (full.ticket, None) ∷ [] }
     requires near { (full.ticket < words.now.table_id.slots) × (seat.old.me.0.known.share ≢ []) }
     ensures table { seat.new.table_id ≡ seat.old.table_id }
@@ -42,10 +42,10 @@ fn swap_in<E: Drop>(words: &Words<E>, seat: &mut PartySeat<E>, full: Filled<E>) 
 /// Makes the old head lead to the room.
 fn link<E: Drop>(words: &Words<E>, seat: &mut PartySeat<E>, room: usize, old: usize)
     requires table { (seat.old.table_id ≡ words.now.table_id) × IsTable words.now.table_id }
-    requires place { (seat.old.me.0.place ≡ Swapped room old) × (seat.old.me.0.back ≡ []) × (seat.old.me.1 ≡ []) }
+    requires stage { (seat.old.me.0.stage ≡ Swapped room old) × (seat.old.me.0.back ≡ []) × (seat.old.me.1 ≡ []) }
     requires near { (old < words.now.table_id.slots) × (room < words.now.table_id.slots) × (seat.old.me.0.known.share ≢ []) }
     ensures table { seat.new.table_id ≡ seat.old.table_id }
-    ensures rest { (seat.new.me.0.place ≡ Rest) × (seat.new.me.0.back ≡ []) × (seat.new.me.1 ≡ []) }
+    ensures rest { (seat.new.me.0.stage ≡ Rest) × (seat.new.me.0.back ≡ []) × (seat.new.me.1 ≡ []) }
     ensures free { seat.new.me.0.free ≡ seat.old.me.0.free }
     ensures sees { Sees seat.old.me.0 (Event.Link (name seat.old.me.0) ∷ []) seat.new.me.0 }
 {
@@ -82,7 +82,7 @@ pub(crate) fn give<E: Drop>(words: &Words<E>, seat: &mut PartySeat<E>, tail: usi
 /// Reads the link of the tail again, behind which the stub was put in.
 pub(crate) fn reread<E: Drop>(words: &Words<E>, seat: &mut PartySeat<E>, tail: usize) -> u64
     requires table { (seat.old.table_id ≡ words.now.table_id) × IsTable words.now.table_id }
-    requires place { IsAtStage words.now.table_id.slots (PutRead tail) seat.old.me × (tail < words.now.table_id.slots) }
+    requires stage { IsAtStage words.now.table_id.slots (PutRead tail) seat.old.me × (tail < words.now.table_id.slots) }
     ensures table { seat.new.table_id ≡ seat.old.table_id }
     ensures null { result ≡ 0 → stands_at [] (Holding tail) seat.old.me seat.new.me × Blocked seat.new.me.0 }
     ensures room { (r : ℕ) → result ≡ suc r → hands_out [] words.now.table_id.slots tail r seat.old.me seat.new.me }

@@ -24,7 +24,7 @@ pub(crate) fn look_first<E: Drop>(words: &Words<E>, seat: &mut PartySeat<E>) -> 
 /// Reads the head behind a null link of the stub.
 pub(crate) fn head_of_stub<E: Drop>(words: &Words<E>, seat: &mut PartySeat<E>) -> u64
     requires table { (seat.old.table_id ≡ words.now.table_id) × IsTable words.now.table_id }
-    requires place { IsAtStage words.now.table_id.slots StubNull seat.old.me }
+    requires stage { IsAtStage words.now.table_id.slots StubNull seat.old.me }
     ensures table { seat.new.table_id ≡ seat.old.table_id }
     ensures stub { result ≡ 0 → stands_at (Event.Empty (name seat.old.me.0) ∷ []) (Holding 0) seat.old.me seat.new.me }
     ensures room { result ≢ 0 → stands_at [] (Holding 0) seat.old.me seat.new.me × Blocked seat.new.me.0 }
@@ -35,7 +35,7 @@ pub(crate) fn head_of_stub<E: Drop>(words: &Words<E>, seat: &mut PartySeat<E>) -
 /// Reads the link of the tail that stood behind the stub.
 pub(crate) fn read_second<E: Drop>(words: &Words<E>, seat: &mut PartySeat<E>, tail: usize) -> u64
     requires table { (seat.old.table_id ≡ words.now.table_id) × IsTable words.now.table_id }
-    requires place { IsAtStage words.now.table_id.slots (Second tail) seat.old.me × (tail < words.now.table_id.slots) }
+    requires stage { IsAtStage words.now.table_id.slots (Second tail) seat.old.me × (tail < words.now.table_id.slots) }
     ensures table { seat.new.table_id ≡ seat.old.table_id }
     ensures null { result ≡ 0 → stands_at [] (Null tail) seat.old.me seat.new.me }
     ensures room { (r : ℕ) → result ≡ suc r → hands_out [] words.now.table_id.slots tail r seat.old.me seat.new.me }
@@ -46,7 +46,7 @@ pub(crate) fn read_second<E: Drop>(words: &Words<E>, seat: &mut PartySeat<E>, ta
 /// Whether the tail, whose link was null, is the head too.
 pub(crate) fn is_head<E: Drop>(words: &Words<E>, seat: &mut PartySeat<E>, tail: usize) -> bool
     requires table { (seat.old.table_id ≡ words.now.table_id) × IsTable words.now.table_id }
-    requires place { IsAtStage words.now.table_id.slots (Null tail) seat.old.me × (tail < words.now.table_id.slots) }
+    requires stage { IsAtStage words.now.table_id.slots (Null tail) seat.old.me × (tail < words.now.table_id.slots) }
     ensures table { seat.new.table_id ≡ seat.old.table_id }
     ensures alone { result ≡ true → stands_at [] (PutClear tail) seat.old.me seat.new.me }
     ensures passed { result ≡ false → stands_at [] (Holding tail) seat.old.me seat.new.me × Blocked seat.new.me.0 }
@@ -56,7 +56,7 @@ pub(crate) fn is_head<E: Drop>(words: &Words<E>, seat: &mut PartySeat<E>, tail: 
 
 fn clear_stub<E: Drop>(words: &Words<E>, seat: &mut PartySeat<E>, _tail: usize)
     requires table { (seat.old.table_id ≡ words.now.table_id) × IsTable words.now.table_id }
-    requires place { IsAtStage words.now.table_id.slots (PutClear _tail) seat.old.me }
+    requires stage { IsAtStage words.now.table_id.slots (PutClear _tail) seat.old.me }
     ensures table { seat.new.table_id ≡ seat.old.table_id }
     ensures answer { stands_at [] (PutSwap _tail) seat.old.me seat.new.me }
 {
@@ -65,7 +65,7 @@ fn clear_stub<E: Drop>(words: &Words<E>, seat: &mut PartySeat<E>, _tail: usize)
 
 fn swap_stub<E: Drop>(words: &Words<E>, seat: &mut PartySeat<E>, _tail: usize) -> u64
     requires table { (seat.old.table_id ≡ words.now.table_id) × IsTable words.now.table_id }
-    requires place { IsAtStage words.now.table_id.slots (PutSwap _tail) seat.old.me }
+    requires stage { IsAtStage words.now.table_id.slots (PutSwap _tail) seat.old.me }
     ensures table { seat.new.table_id ≡ seat.old.table_id }
     ensures answer { stands_at [] (PutLink _tail result) seat.old.me seat.new.me }
     ensures near { result < words.now.table_id.slots }
@@ -75,7 +75,7 @@ fn swap_stub<E: Drop>(words: &Words<E>, seat: &mut PartySeat<E>, _tail: usize) -
 
 fn link_stub<E: Drop>(words: &Words<E>, seat: &mut PartySeat<E>, _tail: usize, old: usize)
     requires table { (seat.old.table_id ≡ words.now.table_id) × IsTable words.now.table_id }
-    requires place { IsAtStage words.now.table_id.slots (PutLink _tail old) seat.old.me × (old < words.now.table_id.slots) }
+    requires stage { IsAtStage words.now.table_id.slots (PutLink _tail old) seat.old.me × (old < words.now.table_id.slots) }
     ensures table { seat.new.table_id ≡ seat.old.table_id }
     ensures answer { stands_at [] (PutRead _tail) seat.old.me seat.new.me }
 {
@@ -85,7 +85,7 @@ fn link_stub<E: Drop>(words: &Words<E>, seat: &mut PartySeat<E>, _tail: usize, o
 /// Puts the stub in at the head, behind the tail.
 pub(crate) fn put_stub<E: Drop>(words: &Words<E>, seat: &mut PartySeat<E>, tail: usize)
     requires table { (seat.old.table_id ≡ words.now.table_id) × IsTable words.now.table_id }
-    requires place { IsAtStage words.now.table_id.slots (PutClear tail) seat.old.me }
+    requires stage { IsAtStage words.now.table_id.slots (PutClear tail) seat.old.me }
     ensures table { seat.new.table_id ≡ seat.old.table_id }
     ensures answer { stands_at [] (PutRead tail) seat.old.me seat.new.me }
 {

@@ -16,7 +16,7 @@ use crate::shared::table::{PartySeat, Tried, Words};
 /// Goes on where the stub was put in behind the tail.
 fn behind_tail<E: Drop>(words: &Words<E>, seat: &mut PartySeat<E>, tail: usize) -> (u64, Tried<E>)
     requires table { (seat.old.table_id ≡ words.now.table_id) × IsTable words.now.table_id }
-    requires place { IsAtStage words.now.table_id.slots (PutRead tail) seat.old.me × (tail < words.now.table_id.slots) }
+    requires stage { IsAtStage words.now.table_id.slots (PutRead tail) seat.old.me × (tail < words.now.table_id.slots) }
     ensures table { seat.new.table_id ≡ seat.old.table_id }
     ensures answer { Tries [] words.now.table_id.slots seat.old.me seat.new.me result.0 result.1 }
 {
@@ -30,7 +30,7 @@ fn behind_tail<E: Drop>(words: &Words<E>, seat: &mut PartySeat<E>, tail: usize) 
 /// Goes on behind a null link of a tail that is no stub.
 fn at_end<E: Drop>(words: &Words<E>, seat: &mut PartySeat<E>, tail: usize) -> (u64, Tried<E>)
     requires table { (seat.old.table_id ≡ words.now.table_id) × IsTable words.now.table_id }
-    requires place { IsAtStage words.now.table_id.slots (Null tail) seat.old.me × (tail < words.now.table_id.slots) }
+    requires stage { IsAtStage words.now.table_id.slots (Null tail) seat.old.me × (tail < words.now.table_id.slots) }
     ensures table { seat.new.table_id ≡ seat.old.table_id }
     ensures answer { Tries [] words.now.table_id.slots seat.old.me seat.new.me result.0 result.1 }
 {
@@ -44,7 +44,7 @@ fn at_end<E: Drop>(words: &Words<E>, seat: &mut PartySeat<E>, tail: usize) -> (u
 /// Goes on where the stub was passed.
 fn behind_stub<E: Drop>(words: &Words<E>, seat: &mut PartySeat<E>, tail: usize) -> (u64, Tried<E>)
     requires table { (seat.old.table_id ≡ words.now.table_id) × IsTable words.now.table_id }
-    requires place { IsAtStage words.now.table_id.slots (Second tail) seat.old.me × (tail < words.now.table_id.slots) }
+    requires stage { IsAtStage words.now.table_id.slots (Second tail) seat.old.me × (tail < words.now.table_id.slots) }
     ensures table { seat.new.table_id ≡ seat.old.table_id }
     ensures answer { Tries [] words.now.table_id.slots seat.old.me seat.new.me result.0 result.1 }
 {

@@ -31,7 +31,7 @@ module _ {P E : Type 0} where
         chain = was.chain;
         linked = LeadsThrough-passed m.rooms was.own (m.rooms ++ room ∷ []) was.own None None m.head was.chain (keeps None) was.linked;
         holds = was.holds;
-        parties = λ p place got. bystander (name p) h h m.head m.head m.rooms was.own (m.rooms ++ room ∷ []) was.own p place (goes_idle (name p) h m.head m.head refl) (keeps (Some p)) (was.parties p place got);
+        parties = λ p stage got. bystander (name p) h h m.head m.head m.rooms was.own (m.rooms ++ room ∷ []) was.own p stage (goes_idle (name p) h m.head m.head refl) (keeps (Some p)) (was.parties p stage got);
       }
 
 module _ {E T F : Type 0} where

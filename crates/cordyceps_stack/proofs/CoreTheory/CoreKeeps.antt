@@ -29,18 +29,18 @@ module _ {E : Type 0} where
     chain = [];
     linked = refl;
     holds = refl;
-    parties = λ p place got. let no : ⊥ = cc in absurd no;
+    parties = λ p stage got. let no : ⊥ = cc in absurd no;
   }
 
   pub core_steps : (h : List (Event ℕ E)) (m : Machine E) (p : ℕ) (s : TransferStep E) → CoreMeets h m
       → CoreMeets (h ++ step_events h m p s (stepped m p s).1) (stepped m p s).0 × AnswerSays h p (stepped m p s).1
   core_steps h m p s was = goes_on (λ q. q) h m p s was (numbers_apart p)
 
-  -- the same, where it is known at which place the party is
-  pub core_acts : (h : List (Event ℕ E)) (m : Machine E) (p : ℕ) (s : TransferStep E) (place : Stage)
-      → slice_get m.parties p ≡ Some place → CoreMeets h m
-      → CoreMeets (h ++ step_events h m p s (acts m p s place).1) (acts m p s place).0 × AnswerSays h p (acts m p s place).1
-  core_acts h m p s place at was = subst (λ (o : Option Stage). CoreMeets (h ++ step_events h m p s (stepped_at m p s o).1) (stepped_at m p s o).0 × AnswerSays h p (stepped_at m p s o).1) at (core_steps h m p s was)
+  -- the same, where it is known at which stage the party is
+  pub core_acts : (h : List (Event ℕ E)) (m : Machine E) (p : ℕ) (s : TransferStep E) (stage : Stage)
+      → slice_get m.parties p ≡ Some stage → CoreMeets h m
+      → CoreMeets (h ++ step_events h m p s (acts m p s stage).1) (acts m p s stage).0 × AnswerSays h p (acts m p s stage).1
+  core_acts h m p s stage at was = subst (λ (o : Option Stage). CoreMeets (h ++ step_events h m p s (stepped_at m p s o).1) (stepped_at m p s o).0 × AnswerSays h p (stepped_at m p s o).1) at (core_steps h m p s was)
 
   -- a core's machine after a step is sound
   pub sound_step : (m m' : Machine E) (p : ℕ) (s : TransferStep E) → IsSound m → (stepped m p s).0 ≡ m' → IsSound m'

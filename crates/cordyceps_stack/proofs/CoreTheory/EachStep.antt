@@ -57,7 +57,7 @@ module _ {P E : Type 0} where
       record { since = g.0; loaded = g.1; moved = λ ne. elim g.3 [ inl same ↦ g.2 (k.moved (λ e. ne (same ∙ e))) | inr s ↦ s ] }
 
   -- a party that takes no step stands where it stood
-  pub bystander : (n : P) (h h' : List (Event P E)) (head head' : Option ℕ) (rooms : List (Room E)) (own : ℕ → Option ℕ) (rooms' : List (Room E)) (own' : ℕ → Option ℕ) (q : ℕ) (place : Stage) → Goes n h h' head head' → Keeps rooms own rooms' own' (Some q) → AtStage h n head rooms own q place → AtStage h' n head' rooms' own' q place
+  pub bystander : (n : P) (h h' : List (Event P E)) (head head' : Option ℕ) (rooms : List (Room E)) (own : ℕ → Option ℕ) (rooms' : List (Room E)) (own' : ℕ → Option ℕ) (q : ℕ) (stage : Stage) → Goes n h h' head head' → Keeps rooms own rooms' own' (Some q) → AtStage h n head rooms own q stage → AtStage h' n head' rooms' own' q stage
   bystander n h h' head head' rooms own rooms' own' q Rest goes k a = tt
   bystander n h h' head head' rooms own rooms' own' q (Loaded t) goes k a = (hand_on rooms own rooms' own' q t.room k a.0, knows_on n h h' head head' t.read goes a.1)
   bystander n h h' head head' rooms own rooms' own' q (Set t) goes k a = (hand_on rooms own rooms' own' q t.room k a.0, a.1, knows_on n h h' head head' t.read goes a.2)
@@ -72,7 +72,7 @@ module _ {P E : Type 0} where
       }
 
   -- what a step of p leaves
-  pub record Leaves (name : ℕ → P) (h h' : List (Event P E)) (m : Machine E) (own : ℕ → Option ℕ) (p : ℕ) (head' : Option ℕ) (rooms' : List (Room E)) (place' : Stage) : Type 0 where
+  pub record Leaves (name : ℕ → P) (h h' : List (Event P E)) (m : Machine E) (own : ℕ → Option ℕ) (p : ℕ) (head' : Option ℕ) (rooms' : List (Room E)) (stage' : Stage) : Type 0 where
     pub legal : Legal h'
     pub own' : ℕ → Option ℕ
     pub chain : List (ℕ × E)
@@ -80,10 +80,10 @@ module _ {P E : Type 0} where
     pub holds : room_elements chain ≡ reverse (held h')
     pub goes : (q : ℕ) → q ≢ p → Goes (name q) h h' m.head head'
     pub keeps : (q : ℕ) → q ≢ p → Keeps m.rooms own rooms' own' (Some q)
-    pub mine : AtStage h' (name p) head' rooms' own' p place'
+    pub mine : AtStage h' (name p) head' rooms' own' p stage'
 
-  pub meets_on : (name : ℕ → P) (h h' : List (Event P E)) (m : Machine E) (p : ℕ) (head' : Option ℕ) (rooms' : List (Room E)) (place place' : Stage) → (was : Meets name h m) → slice_get m.parties p ≡ Some place → Leaves name h h' m was.own p head' rooms' place' → Meets name h' record { head = head'; rooms = rooms'; parties = set m.parties p place' }
-  meets_on name h h' m p head' rooms' place place' was at l =
+  pub meets_on : (name : ℕ → P) (h h' : List (Event P E)) (m : Machine E) (p : ℕ) (head' : Option ℕ) (rooms' : List (Room E)) (stage stage' : Stage) → (was : Meets name h m) → slice_get m.parties p ≡ Some stage → Leaves name h h' m was.own p head' rooms' stage' → Meets name h' record { head = head'; rooms = rooms'; parties = set m.parties p stage' }
+  meets_on name h h' m p head' rooms' stage stage' was at l =
       record {
         legal = l.legal;
         own = l.own';
@@ -92,11 +92,11 @@ module _ {P E : Type 0} where
         holds = l.holds;
         parties = λ q there got. elim (cases_eq q p) [
           | inl e ↦
-              let same : Some place' ≡ Some there = sym (slice_get-set_same m.parties p place' place at) ∙ (ap (slice_get (set m.parties p place')) (sym e) ∙ got) in
-              let same_place : place' ≡ there = cc in
-              subst (λ s. AtStage h' (name s) head' rooms' l.own' s there) (sym e) (subst (AtStage h' (name p) head' rooms' l.own' p) same_place l.mine)
+              let same : Some stage' ≡ Some there = sym (slice_get-set_same m.parties p stage' stage at) ∙ (ap (slice_get (set m.parties p stage')) (sym e) ∙ got) in
+              let same_stage : stage' ≡ there = cc in
+              subst (λ s. AtStage h' (name s) head' rooms' l.own' s there) (sym e) (subst (AtStage h' (name p) head' rooms' l.own' p) same_stage l.mine)
           | inr ne ↦
-              bystander (name q) h h' m.head head' m.rooms was.own rooms' l.own' q there (l.goes q ne) (l.keeps q ne) (was.parties q there (sym (slice_get-set_other m.parties p q place' ne) ∙ got))
+              bystander (name q) h h' m.head head' m.rooms was.own rooms' l.own' q there (l.goes q ne) (l.keeps q ne) (was.parties q there (sym (slice_get-set_other m.parties p q stage' ne) ∙ got))
         ];
       }
 
@@ -121,12 +121,12 @@ module _ {P E : Type 0} where
       }
 
   -- a change to p's own room that adds no event
-  own_room : (name : ℕ → P) (h : List (Event P E)) (m : Machine E) (p r : ℕ) (f : Room E → Room E) (place place' : Stage)
-      → (was : Meets name h m) → slice_get m.parties p ≡ Some place → was.own r ≡ Some p
-      → AtStage h (name p) m.head (change f r m.rooms) was.own p place'
-      → Meets name h record { head = m.head; rooms = change f r m.rooms; parties = set m.parties p place' }
-  own_room name h m p r f place place' was at mine there =
-      meets_on name h h m p m.head (change f r m.rooms) place place' was at
+  own_room : (name : ℕ → P) (h : List (Event P E)) (m : Machine E) (p r : ℕ) (f : Room E → Room E) (stage stage' : Stage)
+      → (was : Meets name h m) → slice_get m.parties p ≡ Some stage → was.own r ≡ Some p
+      → AtStage h (name p) m.head (change f r m.rooms) was.own p stage'
+      → Meets name h record { head = m.head; rooms = change f r m.rooms; parties = set m.parties p stage' }
+  own_room name h m p r f stage stage' was at mine there =
+      meets_on name h h m p m.head (change f r m.rooms) stage stage' was at
       record {
         legal = was.legal;
         own' = was.own;

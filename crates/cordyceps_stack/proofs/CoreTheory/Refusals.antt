@@ -42,7 +42,7 @@ module _ {E : Type 0} where
   pub exact : (m : Machine E) (p : ℕ) (s : TransferStep E) → IsSound m → Exact m s (is_there m p s) (stepped m p s)
   exact m p s sound = exact_at m p s (slice_get m.parties p) sound refl
 
-  -- the same, where it is known at which place the party is
-  pub exact_act : (m : Machine E) (p : ℕ) (s : TransferStep E) (place : Stage) → IsSound m
-      → slice_get m.parties p ≡ Some place → Exact m s (is_there m p s) (acts m p s place)
-  exact_act m p s place sound at = subst (λ (o : Option Stage). Exact m s (is_there m p s) (stepped_at m p s o)) at (exact m p s sound)
+  -- the same, where it is known at which stage the party is
+  pub exact_act : (m : Machine E) (p : ℕ) (s : TransferStep E) (stage : Stage) → IsSound m
+      → slice_get m.parties p ≡ Some stage → Exact m s (is_there m p s) (acts m p s stage)
+  exact_act m p s stage sound at = subst (λ (o : Option Stage). Exact m s (is_there m p s) (stepped_at m p s o)) at (exact m p s sound)

@@ -34,7 +34,7 @@ module _ {E : Type 0} where
   left_party rooms parties p (Some y) o' left was at is =
       subst (λ (x : Option Stage). IsLeftAt rooms x left) (sym (slice_get-pushed parties Rest y p was) ∙ at) is
   left_party rooms parties p None None left was at is = is
-  left_party rooms parties p None (Some place) left was at is = elim (slice_get-push parties Rest place p at) [
+  left_party rooms parties p None (Some stage) left was at is = elim (slice_get-push parties Rest stage p at) [
     | inl e ↦ let no : ⊥ = cc in absurd no
     | inr e ↦ subst (λ (x : Stage). IsLeftAt rooms (Some x) left) (sym e) is
   ]
@@ -108,11 +108,11 @@ module _ {E : Type 0} where
       let run = pushing m p e ready in
       subst (λ (n : Machine E). HandsOn h m ((h ++ Load p ∷ []) ++ Push p e ∷ []) n (λ q. [])) (sym (push_ends m m1 m2 m3 p e run a c d)) (push_hands h m p e run was)
 
-  -- a step, where it is known at which place the party is
-  pub hands_acts : (h : List (Event ℕ E)) (m : Machine E) (q : ℕ) (s : TransferStep E) (place : Stage)
-      → slice_get m.parties q ≡ Some place → CoreMeets h m
-      → HandsOn h m (h ++ step_events h m q s (acts m q s place).1) (acts m q s place).0 (only q (given_by (acts m q s place).1))
-  hands_acts h m q s place at was =
+  -- a step, where it is known at which stage the party is
+  pub hands_acts : (h : List (Event ℕ E)) (m : Machine E) (q : ℕ) (s : TransferStep E) (stage : Stage)
+      → slice_get m.parties q ≡ Some stage → CoreMeets h m
+      → HandsOn h m (h ++ step_events h m q s (acts m q s stage).1) (acts m q s stage).0 (only q (given_by (acts m q s stage).1))
+  hands_acts h m q s stage at was =
       subst (λ (o : Option Stage). HandsOn h m (h ++ step_events h m q s (stepped_at m q s o).1) (stepped_at m q s o).0 (only q (given_by (stepped_at m q s o).1))) at (hands_on h m q s was)
 
   kept_walks : (n : ℕ) (h : List (Event ℕ E)) (m : Machine E) (p q : ℕ) (left : List E) → CoreMeets h m → q ≢ p

@@ -90,30 +90,30 @@ module _ {E : Type 0} where
 
   -- the step of another leaves p where it is, and its rooms
   record Aside (own : ℕ → Option ℕ) (m m' : Machine E) (p : ℕ) : Type 0 where
-    place : slice_get m'.parties p ≡ slice_get m.parties p
+    stage : slice_get m'.parties p ≡ slice_get m.parties p
     rooms : Keeps m.rooms own m'.rooms own (Some p)
 
   aside_still : (own : ℕ → Option ℕ) (m : Machine E) (p : ℕ) → Aside own m m p
-  aside_still own m p = record { place = refl; rooms = λ r e next got mine. (got, mine) }
+  aside_still own m p = record { stage = refl; rooms = λ r e next got mine. (got, mine) }
 
   aside_load : (h : List (Event ℕ E)) (m : Machine E) (p q : ℕ) (e : E) (o : Option ℕ) → (was : CoreMeets h m) → p ≢ q
       → least_free q m.rooms ≡ o → Aside was.own m (load m q e o).0 p
   aside_load h m p q e None was ne free = aside_still was.own m p
   aside_load h m p q e (Some r) was ne free =
       let room = least_is_free q m.rooms r free in
-      record { place = slice_get-set_other m.parties q p _ ne; rooms = Keeps-free (holding e) m.rooms was.own r room.0 (Some p) q room.1 room.2 }
+      record { stage = slice_get-set_other m.parties q p _ ne; rooms = Keeps-free (holding e) m.rooms was.own r room.0 (Some p) q room.1 room.2 }
 
   aside_exchange : (h : List (Event ℕ E)) (m : Machine E) (p q : ℕ) (a : Attempt) (b : Bool) → (was : CoreMeets h m) → p ≢ q
       → slice_get m.parties q ≡ Some (Set a) → Aside was.own m (exchange m q a b).0 p
-  aside_exchange h m p q a true was ne at = record { place = slice_get-set_other m.parties q p _ ne; rooms = λ r e next got mine. (got, mine) }
+  aside_exchange h m p q a true was ne at = record { stage = slice_get-set_other m.parties q p _ ne; rooms = λ r e next got mine. (got, mine) }
   aside_exchange h m p q a false was ne at =
       let hand = (was.parties q (Set a) at).0 in
-      rw hand.room (record { place = slice_get-set_other m.parties q p _ ne; rooms = Keeps-change (freeing q) m.rooms was.own a.room (Some p) (not_mine was.own a.room q p hand.mine ne) })
+      rw hand.room (record { stage = slice_get-set_other m.parties q p _ ne; rooms = Keeps-change (freeing q) m.rooms was.own a.room (Some p) (not_mine was.own a.room q p hand.mine ne) })
 
   aside_take : (h : List (Event ℕ E)) (m : Machine E) (p q : ℕ) (o : Option ℕ) → (was : CoreMeets h m) → p ≢ q
       → Aside was.own m (take m q o).0 p
   aside_take h m p q None was ne = aside_still was.own m p
-  aside_take h m p q (Some r) was ne = record { place = slice_get-set_other m.parties q p _ ne; rooms = λ s e next got mine. (got, mine) }
+  aside_take h m p q (Some r) was ne = record { stage = slice_get-set_other m.parties q p _ ne; rooms = λ s e next got mine. (got, mine) }
 
   aside_walk : (h : List (Event ℕ E)) (m : Machine E) (p q r : ℕ) → (was : CoreMeets h m) → p ≢ q
       → slice_get m.parties q ≡ Some (Walking r)
@@ -121,14 +121,14 @@ module _ {E : Type 0} where
   aside_walk h m p q r was ne at =
       let there = walking_at (λ n. n) h m q r was at in
       let mine = (walks_on (λ n. n) h m q r there.0 there.1 was (was.parties q (Walking r) at) there.2).0 in
-      rw there.2 (record { place = slice_get-set_other m.parties q p _ ne; rooms = Keeps-change (freeing q) m.rooms was.own r (Some p) (not_mine was.own r q p mine ne) })
+      rw there.2 (record { stage = slice_get-set_other m.parties q p _ ne; rooms = Keeps-change (freeing q) m.rooms was.own r (Some p) (not_mine was.own r q p mine ne) })
 
   aside_at : (h : List (Event ℕ E)) (m : Machine E) (p q : ℕ) (s : TransferStep E) (o : Option Stage) → (was : CoreMeets h m)
       → p ≢ q → slice_get m.parties q ≡ o → Aside was.own m (stepped_at m q s o).0 p
   aside_at h m p q (step.Load e) (Some Rest) was ne at = aside_load h m p q e (least_free q m.rooms) was ne refl
   aside_at h m p q step.SetNext (Some (Loaded a)) was ne at =
       let hand = (was.parties q (Loaded a) at).0 in
-      record { place = slice_get-set_other m.parties q p _ ne; rooms = Keeps-change (linking a.read) m.rooms was.own a.room (Some p) (not_mine was.own a.room q p hand.mine ne) }
+      record { stage = slice_get-set_other m.parties q p _ ne; rooms = Keeps-change (linking a.read) m.rooms was.own a.room (Some p) (not_mine was.own a.room q p hand.mine ne) }
   aside_at h m p q step.Exchange (Some (Set a)) was ne at = aside_exchange h m p q a (option_eq nat_eq m.head a.read) was ne at
   aside_at h m p q step.Take (Some Rest) was ne at = aside_take h m p q m.head was ne
   aside_at h m p q step.Walk (Some (Walking r)) was ne at = aside_walk h m p q r was ne at
@@ -152,12 +152,12 @@ module _ {E : Type 0} where
   left_kept h m p q s left was ne is =
       let m' = (stepped m q s).0 in
       let aside = aside_at h m p q s (slice_get m.parties q) was ne refl in
-      subst (λ (o : Option Stage). IsLeftAt m'.rooms o left) (sym aside.place) (left_aside h m m' p (slice_get m.parties p) left was aside refl is)
+      subst (λ (o : Option Stage). IsLeftAt m'.rooms o left) (sym aside.stage) (left_aside h m m' p (slice_get m.parties p) left was aside refl is)
 
   -- a step of p that hands out nothing and takes nothing, and leads from where nothing is left to where nothing is
-  idles : (ev : List (Event ℕ E)) (m' : Machine E) (p : ℕ) (place : Stage) (left : List E) → IsLeftAt m'.rooms (Some place) []
-      → slice_get m'.parties p ≡ Some place → left ≡ [] → batches p ev ≡ [] → MovesOn p left ev m' []
-  idles ev m' p place left none at empty added = (
+  idles : (ev : List (Event ℕ E)) (m' : Machine E) (p : ℕ) (stage : Stage) (left : List E) → IsLeftAt m'.rooms (Some stage) []
+      → slice_get m'.parties p ≡ Some stage → left ≡ [] → batches p ev ≡ [] → MovesOn p left ev m' []
+  idles ev m' p stage left none at empty added = (
     [],
     subst (λ (o : Option Stage). IsLeftAt m'.rooms o []) (sym at) none,
     ap (λ es. es ++ batches p ev) empty ∙ added,

@@ -134,18 +134,18 @@ module _ {E : Type 0} where
   walk m p r next (Some e) =
       (record { head = m.head; rooms = change (freeing p) r m.rooms; parties = slice_set m.parties p (stage_after_walk next) }, Ok (handed e next))
 
-  -- what p's step does at its place
+  -- what p's step does at its stage
   abbrev pub acts : Machine E → ℕ → TransferStep E → Stage → Outcome E
   acts m p (step.Load e) Rest = load m p e (least_free p m.rooms)
   acts m p step.SetNext (Loaded a) = set_next m p a
   acts m p step.Exchange (Set a) = exchange m p a (option_eq nat_eq m.head a.read)
   acts m p step.Take Rest = take m p m.head
   acts m p step.Walk (Walking r) = walk m p r (next_in (slice_get m.rooms r)) (element_in (slice_get m.rooms r))
-  acts m p s place = refused m s
+  acts m p s stage = refused m s
 
   abbrev pub stepped_at : Machine E → ℕ → TransferStep E → Option Stage → Outcome E
   stepped_at m p s None = refused m s
-  stepped_at m p s (Some place) = acts m p s place
+  stepped_at m p s (Some stage) = acts m p s stage
 
   -- the machine after p's step, and the answer
   abbrev pub stepped : Machine E → ℕ → TransferStep E → Outcome E
@@ -157,7 +157,7 @@ module _ {E : Type 0} where
   may_take m p step.Exchange (Some (Set a)) = true
   may_take m p step.Take (Some Rest) = true
   may_take m p step.Walk (Some (Walking r)) = true
-  may_take m p s place = false
+  may_take m p s stage = false
 
   -- there is such a party, it is at that step, and it has a free room if the step needs one
   abbrev pub is_there : Machine E → ℕ → TransferStep E → Bool
@@ -170,10 +170,10 @@ module _ {E : Type 0} where
   abbrev pub is_ready : Machine E → ℕ → Bool
   is_ready m p = is_at_rest m p && is_some (least_free p m.rooms)
 
-  -- what a party at this place is about to push
+  -- what a party at this stage is about to push
   abbrev pub in_hand_at : List (Room E) → Option Stage → Option E
   in_hand_at rooms (Some (Set a)) = element_in (slice_get rooms a.room)
-  in_hand_at rooms place = None
+  in_hand_at rooms stage = None
 
   abbrev pub push_event : {P : Type 0} → P → Option E → List (Event P E)
   push_event p None = []

@@ -53,7 +53,7 @@ module _ {E : Type 0} where
       pub given : List E
       pub end : given ++ room_elements rest ≡ batch
 
-    -- what holds of a party that stands at this place
+    -- what holds of a party that stands at this stage
     abbrev pub AtStage : List (Event P E) → P → Option ℕ → List (Room E) → (ℕ → Option ℕ) → ℕ → Stage → Type 0
     AtStage h name head rooms own p Rest = Unit {0}
     AtStage h name head rooms own p (Loaded a) = InHand rooms own p a.room × HasRead h name head a.read
@@ -70,7 +70,7 @@ module _ {E : Type 0} where
       pub chain : List (ℕ × E)
       pub linked : LeadsThrough m.rooms own None m.head chain
       pub holds : room_elements chain ≡ reverse (held h)
-      pub parties : (p : ℕ) (place : Stage) → slice_get m.parties p ≡ Some place → AtStage h (name p) m.head m.rooms own p place
+      pub parties : (p : ℕ) (stage : Stage) → slice_get m.parties p ≡ Some stage → AtStage h (name p) m.head m.rooms own p stage
 
     -- what an answer says of the history before the step
     abbrev pub Says : List (Event P E) → P → TransferAnswer E → Type 0

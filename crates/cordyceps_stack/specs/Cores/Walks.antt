@@ -26,10 +26,10 @@ module _ {E : Type 0} where
   LeadsToElements rooms start [] = start ≡ None
   LeadsToElements rooms start (e ∷ es) = (r : ℕ) × (next : Option ℕ) × (start ≡ Some r) × (slice_get rooms r ≡ Some (room_in_use e next)) × LeadsToElements rooms next es
 
-  -- what a party at this place has yet to hand out
+  -- what a party at this stage has yet to hand out
   abbrev pub IsLeftAt : List (Room E) → Option Stage → List E → Type 0
   IsLeftAt rooms (Some (Walking r)) es = LeadsToElements rooms (Some r) es
-  IsLeftAt rooms place es = es ≡ []
+  IsLeftAt rooms stage es = es ≡ []
 
   -- what p has yet to hand out
   abbrev pub IsLeft : Machine E → ℕ → List E → Type 0

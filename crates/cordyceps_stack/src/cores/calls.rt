@@ -120,8 +120,8 @@ impl<E: Drop> TransferCore<E> {
             → CoreMeets h self.old
             → HandsOn h self.old (h ++ step_events h self.old party step result) self.new (only party (given_by result)) }
     {
-        match self.place_of(party) {
-            Some(place) => self.act(party, step, place),
+        match self.stage_of(party) {
+            Some(stage) => self.act(party, step, stage),
             None => Err((StepError::NotThere, step.into_element())),
         }
     }
@@ -188,37 +188,37 @@ impl<E: Drop> TransferCore<E> {
 
 impl<E: Drop> TransferCore<E> {
     /// Where a party stands, if there is such a party.
-    fn place_of(&self, party: usize) -> Option<Stage>
-        ensures place { result ≡ slice_get self.now.parties party }
+    fn stage_of(&self, party: usize) -> Option<Stage>
+        ensures stage { result ≡ slice_get self.now.parties party }
         ensures sound { IsSound self.now }
     {
         self.parties.get(party).copied()
     }
 
-    /// Takes a step of a party that stands at `place`.
-    fn act(&mut self, party: usize, step: TransferStep<E>, place: Stage) -> Answered<E>
-        requires { slice_get self.old.parties party ≡ Some place }
-        ensures machine { self.new ≡ (acts self.old party step place).0 }
-        ensures answer { result ≡ (acts self.old party step place).1 }
+    /// Takes a step of a party that stands at `stage`.
+    fn act(&mut self, party: usize, step: TransferStep<E>, stage: Stage) -> Answered<E>
+        requires { slice_get self.old.parties party ≡ Some stage }
+        ensures machine { self.new ≡ (acts self.old party step stage).0 }
+        ensures answer { result ≡ (acts self.old party step stage).1 }
     {
         match step {
-            TransferStep::Load(element) => match place {
+            TransferStep::Load(element) => match stage {
                 Stage::Rest => self.load(party, element),
                 _ => Err((StepError::NotThere, Some(element))),
             },
-            TransferStep::SetNext => match place {
+            TransferStep::SetNext => match stage {
                 Stage::Loaded(attempt) => self.set_next(party, attempt),
                 _ => Err((StepError::NotThere, None)),
             },
-            TransferStep::Exchange => match place {
+            TransferStep::Exchange => match stage {
                 Stage::Set(attempt) => self.exchange(party, attempt),
                 _ => Err((StepError::NotThere, None)),
             },
-            TransferStep::Take => match place {
+            TransferStep::Take => match stage {
                 Stage::Rest => self.take(party),
                 _ => Err((StepError::NotThere, None)),
             },
-            TransferStep::Walk => match place {
+            TransferStep::Walk => match stage {
                 Stage::Walking(room) => self.walk(party, room),
                 _ => Err((StepError::NotThere, None)),
             },
@@ -305,7 +305,7 @@ impl<E: Drop> TransferCore<E> {
     fn is_at_rest(&self, party: usize) -> bool
         ensures { result ≡ is_at_rest self.now party }
     {
-        matches!(self.place_of(party), Some(Stage::Rest))
+        matches!(self.stage_of(party), Some(Stage::Rest))
     }
 
     /// Whether there is such a party, at rest and with a free room.

@@ -42,7 +42,7 @@ fn link<E: Drop>(words: &Words<E>, seat: &mut PartySeat<E>, read: u64, full: Fil
 fn settle<E: Drop>(words: &Words<E>, seat: &mut PartySeat<E>, room: usize, read: u64) -> bool
     requires table { IsSeatOf seat.old.table_id words.now.table_id }
     requires set { (x : E) × (seat.old.me.1 ≡ (room, Some (full_slot (room, x))) ∷ []) }
-    requires place { (seat.old.me.0.doing ≡ Set room read) × (seat.old.me.0.known.share ≢ []) × (room < words.now.table_id.slots) }
+    requires stage { (seat.old.me.0.doing ≡ Set room read) × (seat.old.me.0.known.share ≢ []) × (room < words.now.table_id.slots) }
     ensures table { seat.new.table_id ≡ seat.old.table_id }
     ensures settled { (x : E) → seat.old.me.1 ≡ (room, Some (full_slot (room, x))) ∷ [] → Settled room read x result seat.old.me seat.new.me }
 {
@@ -53,7 +53,7 @@ fn settle<E: Drop>(words: &Words<E>, seat: &mut PartySeat<E>, room: usize, read:
 fn back_out<E: Drop>(words: &Words<E>, seat: &mut PartySeat<E>, room: usize) -> Filled<E>
     requires table { IsSeatOf seat.old.table_id words.now.table_id }
     requires missed { (x : E) × (seat.old.me.1 ≡ (room, Some (full_slot (room, x))) ∷ []) }
-    requires place { (seat.old.me.0.doing ≡ Missed room) × (room < words.now.table_id.slots) }
+    requires stage { (seat.old.me.0.doing ≡ Missed room) × (room < words.now.table_id.slots) }
     ensures table { seat.new.table_id ≡ seat.old.table_id }
     ensures element { seat.old.me.1 ≡ (room, Some result) ∷ [] }
     ensures seat { seat.new.me ≡ (record seat.old.me.0 { doing = Idle; free = room ∷ seat.old.me.0.free }, []) }

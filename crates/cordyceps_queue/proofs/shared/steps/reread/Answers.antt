@@ -5,6 +5,6 @@ use Rattle.cordyceps_queue.proofs.shared.steps.reread.Goals as goal
 
 pub load-requires : goal.load-requires
 load-requires g c =
-    let q = c.requires.place in
+    let q = c.requires.stage in
     let near = q.1 in
     let t = c.requires.table in (search rules, search rules, rereads _ _ _ q.0.1 (λ i r a. q.0.3 i r (at_more _ _ i r a)) q.0.2 c.args.tail _ refl q.0.0)

@@ -5,11 +5,11 @@ use Rattle.cordyceps_queue.proofs.shared.stub_steps.head_of_stub.Goals as goal
 
 pub load-requires : goal.load-requires
 load-requires g c =
-    let q = c.requires.place in
+    let q = c.requires.stage in
     let t = c.requires.table in (search rules, search rules, heads_stub _ _ _ q.1 (λ i r a. q.3 i r (at_more _ _ i r a)) q.2 q.0)
 
 pub returns-clause-stub : goal.returns-clause-stub
-returns-clause-stub g c = (c.load.ensures.2 c.requires.place.0).0
+returns-clause-stub g c = (c.load.ensures.2 c.requires.stage.0).0
 
 pub returns-clause-room : goal.returns-clause-room
-returns-clause-room g c = (c.load.ensures.2 c.requires.place.0).1
+returns-clause-room g c = (c.load.ensures.2 c.requires.stage.0).1

@@ -5,5 +5,5 @@ use Rattle.cordyceps_queue.proofs.shared.stub_steps.is_head.Goals as goal
 
 pub load-requires : goal.load-requires
 load-requires g c =
-    let q = c.requires.place in
+    let q = c.requires.stage in
     let t = c.requires.table in (search rules, search rules, heads _ _ _ q.0.1 (λ i r a. q.0.3 i r (at_more _ _ i r a)) q.0.2 c.args.tail q.0.0)

@@ -1,19 +1,19 @@
 use Rattle.std.proofs.Common.{[]}
 use Rattle.cordyceps_queue.specs.declared.cores.stage.Stage.TheVariants.{PutSwap, PutLink, PutRead}
-use Rattle.cordyceps_queue.proofs.SharedTheory.PartsJoin.{at_place, stands_then}
+use Rattle.cordyceps_queue.proofs.SharedTheory.PartsJoin.{at_stage, stands_then}
 use Rattle.cordyceps_queue.proofs.shared.stub_steps.put_stub.Goals as goal
 
-pub swap_stub-old-requires-clause-place : goal.swap_stub-old-requires-clause-place
-swap_stub-old-requires-clause-place g c =
-    let q = c.requires.place in
-    at_place c.args.words.now.table_id.slots [] (PutSwap c.args.tail) c.args.seat.now.me c.clear_stub.new.seat.me q.2 q.3 c.clear_stub.ensures.answer
+pub swap_stub-old-requires-clause-stage : goal.swap_stub-old-requires-clause-stage
+swap_stub-old-requires-clause-stage g c =
+    let q = c.requires.stage in
+    at_stage c.args.words.now.table_id.slots [] (PutSwap c.args.tail) c.args.seat.now.me c.clear_stub.new.seat.me q.2 q.3 c.clear_stub.ensures.answer
 
-pub link_stub-requires-clause-place : goal.link_stub-requires-clause-place
-link_stub-requires-clause-place g c =
-    let q = c.requires.place in
+pub link_stub-requires-clause-stage : goal.link_stub-requires-clause-stage
+link_stub-requires-clause-stage g c =
+    let q = c.requires.stage in
     let cleared = c.clear_stub.ensures.answer in
     let swapped = stands_then [] [] (PutSwap c.args.tail) (PutLink c.args.tail c.swap_stub-old.result) c.args.seat.now.me c.clear_stub.new.seat.me c.swap_stub-old.new.seat.me cleared c.swap_stub-old.ensures.answer in
-    (at_place c.args.words.now.table_id.slots [] (PutLink c.args.tail c.swap_stub-old.result) c.args.seat.now.me c.swap_stub-old.new.seat.me q.2 q.3 swapped, c.swap_stub-old.ensures.near)
+    (at_stage c.args.words.now.table_id.slots [] (PutLink c.args.tail c.swap_stub-old.result) c.args.seat.now.me c.swap_stub-old.new.seat.me q.2 q.3 swapped, c.swap_stub-old.ensures.near)
 
 pub returns-clause-answer : goal.returns-clause-answer
 returns-clause-answer g c =

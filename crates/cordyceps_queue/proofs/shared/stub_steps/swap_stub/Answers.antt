@@ -5,5 +5,5 @@ use Rattle.cordyceps_queue.proofs.shared.stub_steps.swap_stub.Goals as goal
 
 pub swap-requires : goal.swap-requires
 swap-requires g c =
-    let q = c.requires.place in
+    let q = c.requires.stage in
     let t = c.requires.table in (search rules, search rules, swaps_stub _ _ _ q.1 (λ i r a. q.3 i r (at_more _ _ i r a)) q.2 c.args._tail q.0)

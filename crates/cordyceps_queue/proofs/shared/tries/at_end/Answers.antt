@@ -1,23 +1,23 @@
 use Rattle.std.proofs.Common.{[]}
 use Rattle.cordyceps_queue.specs.declared.cores.stage.Stage.TheVariants.{PutClear, PutRead}
-use Rattle.cordyceps_queue.proofs.SharedTheory.PartsJoin.{at_place, stands_then, tries_then, tries_blocked}
+use Rattle.cordyceps_queue.proofs.SharedTheory.PartsJoin.{at_stage, stands_then, tries_then, tries_blocked}
 use Rattle.cordyceps_queue.proofs.shared.tries.at_end.Goals as goal
 
 pub returns-then-not-is_head-clause-answer : goal.returns-then-not-is_head-clause-answer
 returns-then-not-is_head-clause-answer g c =
-    let q = c.requires.place in
+    let q = c.requires.stage in
     tries_blocked _ c.args.tail c.args.seat.now.me c.is_head.new.seat.me q.0.2 q.0.3 q.1 (c.is_head.ensures.passed c.if-not-is_head.true)
 
-pub put_stub-requires-clause-place : goal.put_stub-requires-clause-place
-put_stub-requires-clause-place g c =
-    let q = c.requires.place in
-    at_place c.args.words.now.table_id.slots [] (PutClear c.args.tail) c.args.seat.now.me c.is_head.new.seat.me q.0.2 q.0.3 (c.is_head.ensures.alone c.if-not-is_head.false)
+pub put_stub-requires-clause-stage : goal.put_stub-requires-clause-stage
+put_stub-requires-clause-stage g c =
+    let q = c.requires.stage in
+    at_stage c.args.words.now.table_id.slots [] (PutClear c.args.tail) c.args.seat.now.me c.is_head.new.seat.me q.0.2 q.0.3 (c.is_head.ensures.alone c.if-not-is_head.false)
 
-pub behind_tail-requires-clause-place : goal.behind_tail-requires-clause-place
-behind_tail-requires-clause-place g c =
-    let q = c.requires.place in
+pub behind_tail-requires-clause-stage : goal.behind_tail-requires-clause-stage
+behind_tail-requires-clause-stage g c =
+    let q = c.requires.stage in
     let put = stands_then [] [] (PutClear c.args.tail) (PutRead c.args.tail) c.args.seat.now.me c.is_head.new.seat.me c.put_stub.new.seat.me (c.is_head.ensures.alone c.if-not-is_head.false) c.put_stub.ensures.answer in
-    (at_place c.args.words.now.table_id.slots [] (PutRead c.args.tail) c.args.seat.now.me c.put_stub.new.seat.me q.0.2 q.0.3 put, q.1)
+    (at_stage c.args.words.now.table_id.slots [] (PutRead c.args.tail) c.args.seat.now.me c.put_stub.new.seat.me q.0.2 q.0.3 put, q.1)
 
 pub returns-clause-answer : goal.returns-clause-answer
 returns-clause-answer g c =

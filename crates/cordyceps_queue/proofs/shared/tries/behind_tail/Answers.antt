@@ -5,19 +5,19 @@ use Rattle.cordyceps_queue.proofs.shared.tries.behind_tail.Goals as goal
 pub reread-next-requires-clause-table : goal.reread-next-requires-clause-table
 reread-next-requires-clause-table g c = c.requires.table
 
-pub reread-next-requires-clause-place : goal.reread-next-requires-clause-place
-reread-next-requires-clause-place g c = c.requires.place
+pub reread-next-requires-clause-stage : goal.reread-next-requires-clause-stage
+reread-next-requires-clause-stage g c = c.requires.stage
 
 pub returns-then-next-eq0-clause-table : goal.returns-then-next-eq0-clause-table
 returns-then-next-eq0-clause-table g c = c.reread-next.ensures.table
 
 pub returns-then-next-eq0-clause-answer : goal.returns-then-next-eq0-clause-answer
 returns-then-next-eq0-clause-answer g c =
-    let q = c.requires.place in
+    let q = c.requires.stage in
     tries_blocked c.args.words.now.table_id.slots c.args.tail c.args.seat.now.me c.reread-next.new.seat.me q.0.2 q.0.3 q.1 (c.reread-next.ensures.null c.if-next-eq0.true)
 
 pub take_out-requires-clause-table : goal.take_out-requires-clause-table
-take_out-requires-clause-table g c = (c.reread-next.ensures.table ∙ c.requires.table.0, c.requires.place.1)
+take_out-requires-clause-table g c = (c.reread-next.ensures.table ∙ c.requires.table.0, c.requires.stage.1)
 
 pub take_out-requires-clause-full : goal.take_out-requires-clause-full
 take_out-requires-clause-full g c =
@@ -28,6 +28,6 @@ returns-clause-table g c = c.take_out.ensures.table ∙ c.reread-next.ensures.ta
 
 pub returns-clause-answer : goal.returns-clause-answer
 returns-clause-answer g c =
-    let q = c.requires.place in
+    let q = c.requires.stage in
     let h = c.reread-next.ensures.room (c.reread-next.result - 1) (pred_suc c.reread-next.result c.if-next-eq0.false) in
     hands_taken _ c.args.tail _ [] c.args.seat.now.me c.reread-next.new.seat.me c.take_out.new.seat.me c.take_out.result q.0.2 q.0.3 h c.take_out.ensures.element c.take_out.ensures.seat

@@ -3,16 +3,16 @@ use Rattle.cordyceps_queue.specs.History.{Event}
 use Rattle.cordyceps_queue.specs.Shared.View.{name}
 use Rattle.cordyceps_queue.specs.declared.cores.stage.Stage.TheVariants.{StubNull, Second}
 use Rattle.cordyceps_queue.specs.declared.shared.table.Tried.TheVariants.{Empty, Inconsistent}
-use Rattle.cordyceps_queue.proofs.SharedTheory.PartsJoin.{pred_suc, at_place, tries_then, tries_blocked, tries_empty}
+use Rattle.cordyceps_queue.proofs.SharedTheory.PartsJoin.{pred_suc, at_stage, tries_then, tries_blocked, tries_empty}
 use Rattle.cordyceps_queue.proofs.shared.tries.look_stub.Goals as goal
 
-pub behind_stub-requires-clause-place : goal.behind_stub-requires-clause-place
-behind_stub-requires-clause-place g c =
+pub behind_stub-requires-clause-stage : goal.behind_stub-requires-clause-stage
+behind_stub-requires-clause-stage g c =
     let E = g.row.E.Denot in
     let q = c.requires.holding in
     let look : Event _ E = Event.Look (name c.args.seat.now.me.0) in
     let h = c.look_first-next.ensures.room (c.look_first-next.result - 1) (pred_suc c.look_first-next.result c.if-next-ne0.true) in
-    (at_place c.args.words.now.table_id.slots (look ∷ []) (Second (c.look_first-next.result - 1)) c.args.seat.now.me c.look_first-next.new.seat.me q.2 q.3 h.0, h.1)
+    (at_stage c.args.words.now.table_id.slots (look ∷ []) (Second (c.look_first-next.result - 1)) c.args.seat.now.me c.look_first-next.new.seat.me q.2 q.3 h.0, h.1)
 
 pub returns-then-next-ne0-clause-answer : goal.returns-then-next-ne0-clause-answer
 returns-then-next-ne0-clause-answer g c =
@@ -21,12 +21,12 @@ returns-then-next-ne0-clause-answer g c =
     let h = c.look_first-next.ensures.room (c.look_first-next.result - 1) (pred_suc c.look_first-next.result c.if-next-ne0.true) in
     tries_then c.args.words.now.table_id.slots (look ∷ []) [] (Second (c.look_first-next.result - 1)) c.args.seat.now.me c.look_first-next.new.seat.me c.behind_stub.new.seat.me _ _ h.0 c.behind_stub.ensures.answer
 
-pub head_of_stub-requires-clause-place : goal.head_of_stub-requires-clause-place
-head_of_stub-requires-clause-place g c =
+pub head_of_stub-requires-clause-stage : goal.head_of_stub-requires-clause-stage
+head_of_stub-requires-clause-stage g c =
     let E = g.row.E.Denot in
     let q = c.requires.holding in
     let look : Event _ E = Event.Look (name c.args.seat.now.me.0) in
-    at_place c.args.words.now.table_id.slots (look ∷ []) StubNull c.args.seat.now.me c.look_first-next.new.seat.me q.2 q.3 (c.look_first-next.ensures.null c.if-next-ne0.false)
+    at_stage c.args.words.now.table_id.slots (look ∷ []) StubNull c.args.seat.now.me c.look_first-next.new.seat.me q.2 q.3 (c.look_first-next.ensures.null c.if-next-ne0.false)
 
 pub returns-then-head_of_stub-eq0-clause-answer : goal.returns-then-head_of_stub-eq0-clause-answer
 returns-then-head_of_stub-eq0-clause-answer g c =
@@ -35,7 +35,7 @@ returns-then-head_of_stub-eq0-clause-answer g c =
     let slots = c.args.words.now.table_id.slots in
     let look : Event _ E = Event.Look (name c.args.seat.now.me.0) in
     let n = c.look_first-next.ensures.null c.if-next-ne0.false in
-    let at = at_place slots (look ∷ []) StubNull c.args.seat.now.me c.look_first-next.new.seat.me q.2 q.3 n in
+    let at = at_stage slots (look ∷ []) StubNull c.args.seat.now.me c.look_first-next.new.seat.me q.2 q.3 n in
     tries_then slots (look ∷ []) [] StubNull c.args.seat.now.me c.look_first-next.new.seat.me c.head_of_stub.new.seat.me 0 Empty n
     (tries_empty slots 0 c.look_first-next.new.seat.me c.head_of_stub.new.seat.me at.2 at.3 q.4 (c.head_of_stub.ensures.stub c.if-head_of_stub-eq0.true))
 
@@ -46,6 +46,6 @@ returns-clause-answer g c =
     let slots = c.args.words.now.table_id.slots in
     let look : Event _ E = Event.Look (name c.args.seat.now.me.0) in
     let n = c.look_first-next.ensures.null c.if-next-ne0.false in
-    let at = at_place slots (look ∷ []) StubNull c.args.seat.now.me c.look_first-next.new.seat.me q.2 q.3 n in
+    let at = at_stage slots (look ∷ []) StubNull c.args.seat.now.me c.look_first-next.new.seat.me q.2 q.3 n in
     tries_then slots (look ∷ []) [] StubNull c.args.seat.now.me c.look_first-next.new.seat.me c.head_of_stub.new.seat.me 0 Inconsistent n
     (tries_blocked slots 0 c.look_first-next.new.seat.me c.head_of_stub.new.seat.me at.2 at.3 q.4 (c.head_of_stub.ensures.room c.if-head_of_stub-eq0.false))

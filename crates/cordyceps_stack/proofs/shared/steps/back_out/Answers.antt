@@ -15,8 +15,8 @@ load-requires g c =
     let h = c.requires.missed.1 in
     let y = c.exchange-full.ensures.3 in
     let none : Option (Filled g.row.E.Denot) = None in
-    let missed = ap (λ m. m.0.doing) y ∙ c.requires.place.0 in
+    let missed = ap (λ m. m.0.doing) y ∙ c.requires.stage.0 in
     let empty = ap (λ m. m.1) y ∙ ap (λ z. (c.args.room, none) ∷ rest z) h in
     let t = c.requires.table in
-    let near = c.requires.place.1 in
+    let near = c.requires.stage.1 in
     (search rules, search rules, returns _ _ _ _ c.args.room [] (add-one c.args.room) missed empty near)

@@ -11,7 +11,7 @@ use Rattle.cordyceps_stack.proofs.shared.steps.settle.Goals as goal
 pub compare_exchange-requires : goal.compare_exchange-requires
 compare_exchange-requires g c =
     let x = c.requires.set in
-    let p = c.requires.place in
+    let p = c.requires.stage in
     let t = c.requires.table in
     (search rules, search rules, exchanges _ _ _ _ c.args.room c.args.read x.0 [] (add-one c.args.room) record { doing = p.0; hand = x.1; named = p.1 } p.2)
 
@@ -21,7 +21,7 @@ returns-clause-settled g c x hand =
     let k = c.compare_exchange.new.seat.me in
     let found = c.compare_exchange.result in
     let read = c.args.read in
-    let t = c.compare_exchange.ensures.2 c.args.room read (full_slot (c.args.room, x)) [] c.requires.place.0 hand in
+    let t = c.compare_exchange.ensures.2 c.args.room read (full_slot (c.args.room, x)) [] c.requires.stage.0 hand in
     dite (ℕ_discrete found read)
     (λ e. let hit = t.0 e in
     subst (λ b. Settled c.args.room read x b m k) (sym (eq-eqb found read e)) (hit.0, hit.1, hit.2, hit.3, subst (λ n. EndsPushed x (n ≡ 0) (name m.0) k.0.known.seen) e hit.4))

@@ -15,10 +15,10 @@ act-requires-in-Ok-Taken g c =
 
 pub returns-in-Ok-Taken-clause-machine : goal.returns-in-Ok-Taken-clause-machine
 returns-in-Ok-Taken-clause-machine g c =
-    (taken_gives c.args.self.now c.act.new.self c.try_holding-answer.new.self c.act-in-Ok-Taken.new.self c.args.party c.act.result c.try_holding-answer.result (sym c.place.ensures ∙ c.in-Some-Rest.is ∙ ap (λ l. Some l) c.in-Some-Rest.field-0-is)
+    (taken_gives c.args.self.now c.act.new.self c.try_holding-answer.new.self c.act-in-Ok-Taken.new.self c.args.party c.act.result c.try_holding-answer.result (sym c.stage.ensures ∙ c.in-Some-Rest.is ∙ ap (λ l. Some l) c.in-Some-Rest.field-0-is)
     c.act.ensures.machine c.act.ensures.answer (c.in-Ok-Taken.is ∙ ap (λ a. Ok a) c.in-Ok-Taken.field-0-is) c.try_holding-answer.ensures.machine c.try_holding-answer.ensures.answer c.act-in-Ok-Taken.ensures.machine).0
 
 pub returns-in-Ok-Taken-clause-answer : goal.returns-in-Ok-Taken-clause-answer
 returns-in-Ok-Taken-clause-answer g c =
-    (taken_gives c.args.self.now c.act.new.self c.try_holding-answer.new.self c.act-in-Ok-Taken.new.self c.args.party c.act.result c.try_holding-answer.result (sym c.place.ensures ∙ c.in-Some-Rest.is ∙ ap (λ l. Some l) c.in-Some-Rest.field-0-is)
+    (taken_gives c.args.self.now c.act.new.self c.try_holding-answer.new.self c.act-in-Ok-Taken.new.self c.args.party c.act.result c.try_holding-answer.result (sym c.stage.ensures ∙ c.in-Some-Rest.is ∙ ap (λ l. Some l) c.in-Some-Rest.field-0-is)
     c.act.ensures.machine c.act.ensures.answer (c.in-Ok-Taken.is ∙ ap (λ a. Ok a) c.in-Ok-Taken.field-0-is) c.try_holding-answer.ensures.machine c.try_holding-answer.ensures.answer c.act-in-Ok-Taken.ensures.machine).1

@@ -11,7 +11,7 @@ pub loop-preserved : goal.loop-preserved
 loop-preserved g c =
     let m = c.loop.self in
     let p = c.args.party in
-    let s : c.next_step.result ≡ next_step (slice_get c.loop.self.parties c.args.party) = c.next_step.ensures ∙ ap next_step c.place.ensures in
+    let s : c.next_step.result ≡ next_step (slice_get c.loop.self.parties c.args.party) = c.next_step.ensures ∙ ap next_step c.stage.ensures in
     let machine : c.act-answer.new.self ≡ (stepped c.loop.self c.args.party (next_step (slice_get c.loop.self.parties c.args.party))).0 = c.act-answer.ensures.machine ∙ ap (λ (s : QueueStep g.row.E.Denot). (stepped c.loop.self c.args.party s).0) s in
     let told : c.act-answer.result ≡ (stepped c.loop.self c.args.party (next_step (slice_get c.loop.self.parties c.args.party))).1 = c.act-answer.ensures.answer ∙ ap (λ (s : QueueStep g.row.E.Denot). (stepped c.loop.self c.args.party s).1) s in
     let lt : c.loop.counter < 6 = omega (arith, c.loop-test.true) in
@@ -22,7 +22,7 @@ pub returns-then-not-is_done-clause-machine : goal.returns-then-not-is_done-clau
 returns-then-not-is_done-clause-machine g c =
     let m = c.loop.self in
     let p = c.args.party in
-    let s : c.next_step.result ≡ next_step (slice_get c.loop.self.parties c.args.party) = c.next_step.ensures ∙ ap next_step c.place.ensures in
+    let s : c.next_step.result ≡ next_step (slice_get c.loop.self.parties c.args.party) = c.next_step.ensures ∙ ap next_step c.stage.ensures in
     let machine : c.act-answer.new.self ≡ (stepped c.loop.self c.args.party (next_step (slice_get c.loop.self.parties c.args.party))).0 = c.act-answer.ensures.machine ∙ ap (λ (s : QueueStep g.row.E.Denot). (stepped c.loop.self c.args.party s).0) s in
     let told : c.act-answer.result ≡ (stepped c.loop.self c.args.party (next_step (slice_get c.loop.self.parties c.args.party))).1 = c.act-answer.ensures.answer ∙ ap (λ (s : QueueStep g.row.E.Denot). (stepped c.loop.self c.args.party s).1) s in
     let lt : c.loop.counter < 6 = omega (arith, c.loop-test.true) in
@@ -32,7 +32,7 @@ pub returns-then-not-is_done-clause-answer : goal.returns-then-not-is_done-claus
 returns-then-not-is_done-clause-answer g c =
     let m = c.loop.self in
     let p = c.args.party in
-    let s : c.next_step.result ≡ next_step (slice_get c.loop.self.parties c.args.party) = c.next_step.ensures ∙ ap next_step c.place.ensures in
+    let s : c.next_step.result ≡ next_step (slice_get c.loop.self.parties c.args.party) = c.next_step.ensures ∙ ap next_step c.stage.ensures in
     let machine : c.act-answer.new.self ≡ (stepped c.loop.self c.args.party (next_step (slice_get c.loop.self.parties c.args.party))).0 = c.act-answer.ensures.machine ∙ ap (λ (s : QueueStep g.row.E.Denot). (stepped c.loop.self c.args.party s).0) s in
     let told : c.act-answer.result ≡ (stepped c.loop.self c.args.party (next_step (slice_get c.loop.self.parties c.args.party))).1 = c.act-answer.ensures.answer ∙ ap (λ (s : QueueStep g.row.E.Denot). (stepped c.loop.self c.args.party s).1) s in
     let lt : c.loop.counter < 6 = omega (arith, c.loop-test.true) in
@@ -42,7 +42,7 @@ pub returns-clause-answer : goal.returns-clause-answer
 returns-clause-answer g c =
     let m = c.loop.self in
     let p = c.args.party in
-    let s : c.next_step-2.result ≡ next_step (slice_get c.loop.self.parties c.args.party) = c.next_step-2.ensures ∙ ap next_step c.place-2.ensures in
+    let s : c.next_step-2.result ≡ next_step (slice_get c.loop.self.parties c.args.party) = c.next_step-2.ensures ∙ ap next_step c.stage-2.ensures in
     let zero : 6 - c.loop.counter ≡ 0 = omega (arith, c.loop-test.false) in
     c.act.ensures.answer ∙ ap (λ (s : QueueStep g.row.E.Denot). (stepped c.loop.self c.args.party s).1) s ∙ ap (λ k. (tries c.args.party k c.loop.self).1) (sym zero)
     ∙ ap (λ (o : Outcome g.row.E.Denot). o.1) c.loop.invariant.same
