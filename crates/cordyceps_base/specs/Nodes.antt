@@ -6,7 +6,7 @@ use Rattle.cordyceps_base.specs.declared.boxes.Address.{Address}
 use Rattle.cordyceps_base.specs.declared.node.Block.{Block}
 use Rattle.cordyceps_base.specs.Element.{Element, Elements}
 
--- nodes in order, each as the place where it lies and its element
+-- nodes in order, each as the address where it lies and its element
 abbrev pub Nodes : Type 0 → Type 0
 Nodes X = List (Ptr × Element X)
 
@@ -29,7 +29,7 @@ module _ {X : Type 0} where
   with_item (n ∷ ns) zero w = (n.0, record { id = n.1.id; value = w }) ∷ ns
   with_item (n ∷ ns) (suc k) w = n ∷ with_item ns k w
 
--- a node, as a chain owns it: its place, the handle that frees it and its block
+-- a node, as a chain owns it: its address, the handle that frees it and its block
 abbrev pub OwnedNode : Type 0 → Type 0 → Type 0
 OwnedNode X L = Ptr × Global × Block X L
 

@@ -34,7 +34,7 @@ module _ {X K : Type 0} where
   Leads h [] z = h ≡ z
   Leads h (n ∷ ns) z = (h ≡ Some (record { ptr = n.0 })) × Leads (next_of n.2) ns z
 
-  -- of the place a and those of the nodes after it, t is the last
+  -- of the address a and those of the nodes after it, t is the last
   abbrev pub EndsAfter : Ptr → List (OwnedNode X K) → Ptr → Type 0
   EndsAfter a [] t = t ≡ a
   EndsAfter a (n ∷ ns) t = EndsAfter n.0 ns t

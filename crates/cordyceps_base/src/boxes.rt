@@ -16,7 +16,7 @@ pub struct Address {
 }
 
 impl Address {
-    /// The place of nothing.
+    /// The address of nothing.
     pub fn nowhere() -> Address {
         Address {
             ptr: ptr::null_mut(),
@@ -55,7 +55,7 @@ impl<B: Drop, A: Allocator> Loose<B, A> {
     }
 }
 
-/// The owner of a row of boxes, each given by its place, its allocator and its value. It takes no space.
+/// The owner of a row of boxes, each given by its address, its allocator and its value. It takes no space.
 pub struct Boxes<B, A: Allocator> {
     mark: PhantomData<*mut (B, A)>,
     ghost blocks: { List (Ptr × A × B) },

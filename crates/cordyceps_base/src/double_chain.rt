@@ -12,7 +12,7 @@ use std::alloc::Global;
 use std::marker::Model;
 use std::mem;
 
-/// Nodes that are linked both ways. A contract sees them as a list, each as the place where it lies and its element.
+/// Nodes that are linked both ways. A contract sees them as a list, each as the address where it lies and its element.
 ///
 /// The links are the chain's own, and no call but `drop` walks along them. `next` of the last node and `prev` of the
 /// first mean nothing, nor do `head` and `tail` where there is no node.
@@ -128,7 +128,7 @@ impl<T> DoubleChain<T> {
         self.len
     }
 
-    /// The place of the first node.
+    /// The address of the first node.
     pub fn head(&self) -> Address
         requires { 0 < length self.now }
         ensures { LiesAt self.now 0 result }
@@ -136,7 +136,7 @@ impl<T> DoubleChain<T> {
         self.head
     }
 
-    /// The place of the last node.
+    /// The address of the last node.
     pub fn tail(&self) -> Address
         requires { 0 < length self.now }
         ensures { LiesAt self.now (length self.now - 1) result }
@@ -144,7 +144,7 @@ impl<T> DoubleChain<T> {
         self.tail
     }
 
-    /// The place after that of node `k`, which is `at`.
+    /// The address after that of node `k`, which is `at`.
     pub fn next(&self, at: Address, k: usize) -> Address
         requires { LiesAt self.now k at }
         ensures { k + 1 < length self.now → LiesAt self.now (k + 1) result }
@@ -152,7 +152,7 @@ impl<T> DoubleChain<T> {
         self.boxes.get(at, k).links.next
     }
 
-    /// The place before that of node `k`, which is `at`.
+    /// The address before that of node `k`, which is `at`.
     pub fn prev(&self, at: Address, k: usize) -> Address
         requires { LiesAt self.now k at }
         ensures { 0 < k → LiesAt self.now (k - 1) result }

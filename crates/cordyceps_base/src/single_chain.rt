@@ -27,7 +27,7 @@ fn with_last_link<T, K>(row: Row<T, K>, last: Address, next: Option<Address>) ->
     front.join(end)
 }
 
-/// Nodes that are linked one way. A contract sees them as a list, each as the place where it lies and its element.
+/// Nodes that are linked one way. A contract sees them as a list, each as the address where it lies and its element.
 ///
 /// There is no bound on how many nodes it can have. The links are the chain's own. `tail` means nothing where there is
 /// no node.
@@ -316,8 +316,8 @@ impl<'a, T, K> Iterator for Values<'a, T, K> {
 /// A chain that is walked along, and the node that the walk is on. A contract sees the nodes before that one, and the
 /// rest from it on.
 ///
-/// A move writes no memory. `head` is that of the nodes before. `before` is the place of the last of these, and means
-/// nothing where there is none, nor does `tail` where there is no node.
+/// A move writes no memory. `head` is that of the nodes before. `before` is the address of the last of these, and
+/// means nothing where there is none, nor does `tail` where there is no node.
 pub struct Cursor<T, K> {
     head: Option<Address>,
     before: Address,

@@ -1,4 +1,4 @@
-//! Fingers: places in a chain that a list remembers, so that a place near one of them is found in few moves.
+//! Fingers: nodes of a chain that a list remembers, so that a place near one of them is found in few moves.
 ghost use Rattle.std.specs.Prelude.{◌≡◌, ◌+◌, ◌-◌, ◌^◌, ◌<◌, ◌⊎◌, length};
 ghost use Rattle.cordyceps_base.specs.Nodes.{LiesAt};
 
@@ -6,7 +6,7 @@ use cordyceps_base::boxes::Address;
 use cordyceps_base::double_chain::DoubleChain;
 use cordyceps_base::steps::{Steps, count_one};
 
-/// The place of a node and its index. At the chain's length it is the place of nothing.
+/// The address of a node and its index. At the chain's length it is the address of nothing.
 #[derive(Clone, Copy)]
 pub(crate) struct Finger {
     pub(crate) at: Address,
@@ -235,7 +235,7 @@ impl Fingers {
         }
     }
 
-    /// The place of a node that is about to go. A finger is left on the node before it, if there is one.
+    /// The address of a node that is about to go. A finger is left on the node before it, if there is one.
     pub(crate) fn seek_behind<T>(&mut self, chain: &DoubleChain<T>, to: usize) -> Address
         requires fit { FingersFit chain.now self.old }
         requires inside { to < length chain.now }

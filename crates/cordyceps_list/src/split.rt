@@ -10,7 +10,7 @@ use cordyceps_base::linked::Linked;
 use cordyceps_base::steps::Steps;
 use std::mem;
 
-/// The place of the node before place `at`, found from the nearer end, from the head where both are equally far.
+/// The address of the node before place `at`, found from the nearer end, from the head where both are equally far.
 fn node_before<T>(chain: &DoubleChain<T>, at: usize, steps: &mut Steps) -> Address
     requires inside { (0 < at) × (at < length chain.now) }
     requires room { steps.old + min (at - 1) (length chain.now - at) < 2 ^ 64 }

@@ -1,5 +1,5 @@
 -- Histories read from their newest event backwards: what stood before an event is the list behind it. These forms go by
--- recursion on that list, and say the same as those of QueueHistory on the list turned round.
+-- recursion on that list, and say the same as those of History on the list turned round.
 use Rattle.std.specs.Prelude.{◌≡◌, ℕ, suc, ◌<◌, ◌≢◌, ◌⊎◌, List, [], ◌∷◌, ◌++◌, drop, length, Option, Some, None}
 use Rattle.cordyceps_queue.specs.History.{Event, Swap, Link, Take, Busy, Look, Out, Empty, Free}
 

@@ -1,4 +1,4 @@
--- LeadsThrough rooms that a step leaves alone.
+-- Links through rooms that a step leaves alone.
 use Rattle.std.proofs.Common.{◌≡◌, ◌≢◌, ℕ, List, [], ◌∷◌, refl, ap, sym, ◌∙◌, cond}
 use Rattle.std.specs.Prelude.{Option, Some, None, slice_get, nat_eq}
 use Rattle.cordyceps_shared.specs.declared.room.Room.{Room}
