@@ -5,12 +5,11 @@ use Rattle.std.specs.Ordering.{is_gt}
 use Rattle.std.specs.List.Sorted.{IsSortedBy}
 use Rattle.std.proofs.lemmas.List.{append-nil}
 use Rattle.cordyceps_base.specs.Element.{Element, Elements}
-use Rattle.cordyceps_stack.specs.Arrangement.{less, StandsFor}
+use Rattle.cordyceps_stack.specs.Arrangement.{less, StandsFor, put, put_all}
 use Rattle.cordyceps_stack.specs.Place.{NoneGreater}
 use Rattle.cordyceps_stack.specs.Preorder.{IsPreorder}
 use Rattle.cordyceps_stack.proofs.Preorder.{by_test, ranks}
-use Rattle.cordyceps_stack.proofs.Places.{stands_put}
-use Rattle.cordyceps_stack.proofs.Taken.{same_arrangement}
+use Rattle.cordyceps_stack.proofs.Puts.{put_all_stands, is_put_all, put_in_order}
 use Rattle.cordyceps_stack.proofs.Arrangement.{arrangement_nil, ascends_from_sorted, sorted_from_ascends}
 use denote.Param.{read}
 use Rattle.std.specs.declared.cmp.Ord.Ghosts.{cmp}
@@ -23,53 +22,16 @@ use Rattle.cordyceps.specs.declared.replay.sorteds.SortedCommand.{SortedCommand}
 use Rattle.cordyceps.specs.declared.replay.sorteds.SortedCommand.TheVariants as commands
 use Rattle.cordyceps.specs.Replies.{Line, done, not_there}
 use Rattle.cordyceps.specs.Tables.{Table, empty_table, element_of, held_at}
-use Rattle.cordyceps.specs.Sorteds.{contents, order_of, put, put_all, made_of, filled, step_on, step, list_of, AreInOrder}
+use Rattle.cordyceps.specs.Sorteds.{contents, order_of, made_of, filled, step_on, step, list_of, AreInOrder}
 
 -- the order of items
 abbrev pub own : Item → Item → Ordering
 own = read (cmp {X-1 = Item}) ghosts
 
-none_greater_behind : (cmp : Item → Item → Ordering) (v : Item) (front : Elements Item) (x : Element Item) → NoneGreater cmp v front → is_gt (cmp x.value v) ≡ false → NoneGreater cmp v (front ++ x ∷ [])
-none_greater_behind cmp v [] x none is = (is, tt)
-none_greater_behind cmp v (y ∷ front) x none is = (none.0, none_greater_behind cmp v front x none.1 is)
-
 module _ {cmp : Item → Item → Ordering} (o : IsPreorder cmp) where
-  -- an element that is put in behind some front with nothing greater
-  stands_behind : (front s a : Elements Item) (e : Element Item) → NoneGreater cmp e.value front → StandsFor cmp (front ++ s) a → StandsFor cmp (front ++ put cmp s e) (a ++ e ∷ [])
-  stands_behind front [] a e none h = stands_put o front [] a e none tt h
-  stands_behind front (x ∷ s) a e none h =
-      by_test (is_gt (cmp x.value e.value))
-      (λ t. subst (λ b. StandsFor cmp (front ++ cond b (e ∷ x ∷ s) (x ∷ put cmp s e)) (a ++ e ∷ [])) (sym t) (stands_put o front (x ∷ s) a e none t h))
-      (λ f.
-      let before = subst (λ l. StandsFor cmp l a) (sym (append_assoc front (x ∷ []) s)) h in
-      let after = stands_behind (front ++ x ∷ []) s a e (none_greater_behind cmp e.value front x none f) before in
-      subst (λ b. StandsFor cmp (front ++ cond b (e ∷ x ∷ s) (x ∷ put cmp s e)) (a ++ e ∷ [])) (sym f) (subst (λ l. StandsFor cmp l (a ++ e ∷ [])) (append_assoc front (x ∷ []) (put cmp s e)) after))
-
-  put_stands : (s a : Elements Item) (e : Element Item) → StandsFor cmp s a → StandsFor cmp (put cmp s e) (a ++ e ∷ [])
-  put_stands s a e h = stands_behind [] s a e tt h
-
-  put_all_stands : (s a more : Elements Item) → StandsFor cmp s a → StandsFor cmp (put_all cmp s more) (a ++ more)
-  put_all_stands s a [] h = subst (λ l. StandsFor cmp s l) (sym (append-nil a)) h
-  put_all_stands s a (e ∷ more) h = subst (λ l. StandsFor cmp (put_all cmp (put cmp s e) more) l) (append_assoc a (e ∷ []) more) (put_all_stands (put cmp s e) (a ++ e ∷ []) more (put_stands s a e h))
-
-  -- a list in order stands for itself
-  pub stands_for_itself : (s : Elements Item) → IsSortedBy (less cmp) s → StandsFor cmp s s
-  stands_for_itself s h = record { in_order = h; stable = λ x. refl }
-
-  -- what stands for a list in order and one more element is that list with the element put in
-  pub is_put : (s t : Elements Item) (e : Element Item) → IsSortedBy (less cmp) s → StandsFor cmp t (s ++ e ∷ []) → t ≡ put cmp s e
-  is_put s t e h stands = same_arrangement o (s ++ e ∷ []) t (put cmp s e) stands (put_stands s s e (stands_for_itself s h))
-
-  -- what stands for a stack is the empty list with the stack's elements put in
-  pub is_put_all : (t stack : Elements Item) → StandsFor cmp t stack → t ≡ put_all cmp [] stack
-  is_put_all t stack stands = same_arrangement o stack t (put_all cmp [] stack) stands (put_all_stands [] [] stack (arrangement_nil (less cmp)))
-
   -- what a command leads to, where the list is made of a stack
   pub made_is : (s t stack : Elements Item) (made : Option (Elements Item)) (lines : List Line) (outcome : Elements Item × List Line) → (made_of cmp s made, lines) ≡ outcome → made ≡ Some stack → StandsFor cmp t stack → (t, lines) ≡ outcome
-  made_is s t stack made lines outcome means is stands = ap (λ l. (l, lines)) (is_put_all t stack stands ∙ ap (made_of cmp s) (sym is)) ∙ means
-
-  put_in_order : (s : Elements Item) (e : Element Item) → IsSortedBy (less cmp) s → IsSortedBy (less cmp) (put cmp s e)
-  put_in_order s e h = (put_stands s s e (stands_for_itself s h)).in_order
+  made_is s t stack made lines outcome means is stands = ap (λ l. (l, lines)) (is_put_all o t stack stands ∙ ap (made_of cmp s) (sym is)) ∙ means
 
   rest_in_order : (s : Elements Item) → IsSortedBy (less cmp) s → IsSortedBy (less cmp) (drop 1 s)
   rest_in_order [] h = h
@@ -80,11 +42,11 @@ module _ {cmp : Item → Item → Ordering} (o : IsPreorder cmp) where
       let all = put_all cmp [] (map element_of (reverse items)) in
       let outcome : Bool → Elements Item × List Line = λ b. cond b (all, done ∷ []) (s, not_there ∷ []) in
       let InOrder : Bool → Type 0 = λ b. IsSortedBy (less cmp) (outcome b).0 in
-      by_test (nat_eq (length s) 0) (λ t. subst InOrder (sym t) (put_all_stands [] [] (map element_of (reverse items)) (arrangement_nil (less cmp))).in_order) (λ f. subst InOrder (sym f) h)
+      by_test (nat_eq (length s) 0) (λ t. subst InOrder (sym t) (put_all_stands o [] [] (map element_of (reverse items)) (arrangement_nil (less cmp))).in_order) (λ f. subst InOrder (sym f) h)
 
   -- a command leaves its list in order
   pub step_on_in_order : (s : Elements Item) (command : SortedCommand) → IsSortedBy (less cmp) s → IsSortedBy (less cmp) (step_on cmp s command).0
-  step_on_in_order s (commands.Insert list item) h = put_in_order s (element_of item) h
+  step_on_in_order s (commands.Insert list item) h = put_in_order o s (element_of item) h
   step_on_in_order s (commands.PopFront list) h = rest_in_order s h
   step_on_in_order s (commands.Show list) h = h
   step_on_in_order s (commands.FromStack list items) h = filled_in_order items.items s h

@@ -1,25 +1,14 @@
 -- What commands do to a table of sorted lists.
 use Rattle.std.specs.Prelude.{ℕ, ◌<◌, List, [], ◌∷◌, length, drop, map, Option, Some, None, slice_get, reverse, if◌then◌else◌, nat_eq, nat_lt}
 use Rattle.std.specs.declared.cmp.Ordering.{Ordering}
-use Rattle.std.specs.Ordering.{is_gt}
 use Rattle.std.specs.List.Sorted.{IsSortedBy}
 use Rattle.cordyceps_base.specs.Element.{Element, Elements, values}
-use Rattle.cordyceps_stack.specs.Arrangement.{less}
+use Rattle.cordyceps_stack.specs.Arrangement.{less, put, put_all}
 use Rattle.cordyceps.specs.declared.replay.item.Item.{Item}
 use Rattle.cordyceps.specs.declared.replay.sorteds.SortedCommand.{SortedCommand}
 use Rattle.cordyceps.specs.declared.replay.sorteds.SortedCommand.TheVariants as commands
 use Rattle.cordyceps.specs.Replies.{Line, done, show, not_there, found_or_nothing}
 use Rattle.cordyceps.specs.Tables.{Table, element_of, held_at, on}
-
--- an element more, before the first that is greater
-abbrev pub put : (Item → Item → Ordering) → Elements Item → Element Item → Elements Item
-put cmp [] e = e ∷ []
-put cmp (x ∷ s) e = if is_gt (cmp x.value e.value) then e ∷ x ∷ s else x ∷ put cmp s e
-
--- elements more, one after the other
-abbrev pub put_all : (Item → Item → Ordering) → Elements Item → Elements Item → Elements Item
-put_all cmp s [] = s
-put_all cmp s (e ∷ more) = put_all cmp (put cmp s e) more
 
 -- the items of a stack on which they were pushed in this order, the last pushed first, put into an empty list
 abbrev pub filled : (Item → Item → Ordering) → List Item → Elements Item → Elements Item × List Line

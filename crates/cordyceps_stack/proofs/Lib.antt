@@ -5,5 +5,6 @@ pub mod Grown
 pub mod Histories
 pub mod Places
 pub mod Preorder
+pub mod Puts
 pub mod SharedTheory
 pub mod Taken

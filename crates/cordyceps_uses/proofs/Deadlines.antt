@@ -1,58 +1,22 @@
 -- What a sorted list of timers is after an insertion.
-use Rattle.std.proofs.Common.{◌≡◌, ℕ, ◌≤◌, ◌<◌, Bool, true, false, cond, nat_lt, List, [], ◌∷◌, ◌++◌, refl, ap, sym, ◌∙◌, subst, append_assoc, arith}
+use Rattle.std.proofs.Common.{◌≡◌, ℕ, ◌≤◌, ◌<◌, Bool, true, false, cond, nat_lt, List, [], ◌∷◌, ◌++◌, refl, ap, sym, ◌∙◌, subst, arith}
 use Rattle.std.proofs.lemmas.Bool.{lt-ltb, ltb-true}
 use Rattle.std.proofs.lemmas.Bool.Decides.{nat_tests}
 use Rattle.std.specs.declared.cmp.Ordering.{Ordering}
-use Rattle.std.specs.declared.cmp.Ordering.TheVariants.{Less, Equal, Greater}
-use Rattle.std.specs.Ordering.{is_gt, is_lt, ordering_reverse, nat_cmp}
+use Rattle.std.specs.Ordering.{is_gt, nat_cmp}
 use Rattle.std.specs.Cmp.{on_total, nat_cmp_total, ranked}
 use Rattle.std.proofs.lemmas.Cmp.{by_ranked}
 use Rattle.std.specs.List.{AllByRecursion}
 use Rattle.std.specs.List.Sorted.{IsSortedBy}
 use Rattle.cordyceps_base.specs.Element.{Element, Elements, values}
-use Rattle.cordyceps_stack.specs.Arrangement.{less, StandsFor}
-use Rattle.cordyceps_stack.specs.Place.{NoneGreater}
+use Rattle.cordyceps_stack.specs.Arrangement.{less, put}
 use Rattle.cordyceps_stack.specs.Preorder.{IsPreorder, preorder_from_total}
 use Rattle.cordyceps_stack.proofs.Arrangement.{Ascends, After, ascends_from_sorted, sorted_from_ascends}
-use Rattle.cordyceps_stack.proofs.Places.{stands_put}
+use Rattle.cordyceps_stack.proofs.Places.{greater_is}
 use Rattle.cordyceps_stack.proofs.Preorder.{by_test, ranks}
-use Rattle.cordyceps_stack.proofs.Taken.{same_arrangement}
+use Rattle.cordyceps_stack.proofs.Puts.{put_in_order}
 use Rattle.cordyceps_uses.specs.declared.timers.Timer.{Timer}
 use Rattle.cordyceps_uses.specs.Timers.{timers_of, InOrder, started, due}
-
-turned : (r : Ordering) → is_gt (ordering_reverse r) ≡ is_lt r
-turned Less = refl
-turned Equal = refl
-turned Greater = refl
-
-module _ {X : Type 0} {cmp : X → X → Ordering} (o : IsPreorder cmp) where
-  greater_is : (x y : X) → is_gt (cmp x y) ≡ is_lt (cmp y x)
-  greater_is x y = ap is_gt (o.turns x y) ∙ turned (cmp y x)
-
-  -- the element before the first that is greater
-  abbrev put : Elements X → Element X → Elements X
-  put [] e = e ∷ []
-  put (x ∷ s) e = cond (is_gt (cmp x.value e.value)) (e ∷ x ∷ s) (x ∷ put s e)
-
-  none_greater_behind : (v : X) (front : Elements X) (x : Element X) → NoneGreater cmp v front → is_gt (cmp x.value v) ≡ false → NoneGreater cmp v (front ++ x ∷ [])
-  none_greater_behind v [] x none is = (is, tt)
-  none_greater_behind v (y ∷ front) x none is = (none.0, none_greater_behind v front x none.1 is)
-
-  stands_behind : (front s a : Elements X) (e : Element X) → NoneGreater cmp e.value front → StandsFor cmp (front ++ s) a → StandsFor cmp (front ++ put s e) (a ++ e ∷ [])
-  stands_behind front [] a e none h = stands_put o front [] a e none tt h
-  stands_behind front (x ∷ s) a e none h =
-      by_test (is_gt (cmp x.value e.value))
-      (λ t. subst (λ b. StandsFor cmp (front ++ cond b (e ∷ x ∷ s) (x ∷ put s e)) (a ++ e ∷ [])) (sym t) (stands_put o front (x ∷ s) a e none t h))
-      (λ f.
-      let before = subst (λ l. StandsFor cmp l a) (sym (append_assoc front (x ∷ []) s)) h in
-      let after = stands_behind (front ++ x ∷ []) s a e (none_greater_behind e.value front x none f) before in
-      subst (λ b. StandsFor cmp (front ++ cond b (e ∷ x ∷ s) (x ∷ put s e)) (a ++ e ∷ [])) (sym f) (subst (λ l. StandsFor cmp l (a ++ e ∷ [])) (append_assoc front (x ∷ []) (put s e)) after))
-
-  pub itself : (s : Elements X) → IsSortedBy (less cmp) s → StandsFor cmp s s
-  itself s h = record { in_order = h; stable = λ x. refl }
-
-  is_put : (s t : Elements X) (e : Element X) → IsSortedBy (less cmp) s → StandsFor cmp t (s ++ e ∷ []) → t ≡ put s e
-  is_put s t e h stands = same_arrangement o (s ++ e ∷ []) t (put s e) stands (stands_behind [] s s e tt (itself s h))
 
 le_from : (a b : ℕ) → nat_lt b a ≡ false → a ≤ b
 le_from a b f = grind (arith, nat_tests)
@@ -72,9 +36,9 @@ module _ {P : Type 0} {cmp : Timer P → Timer P → Ordering} (o : IsPreorder c
   put_by true false e s t r h q x = absurd cc
   put_by false true e s t r h q x = absurd cc
 
-  put_timers : (s : Elements (Timer P)) (e : Element (Timer P)) → timers_of (put o s e) ≡ started e.value.deadline e.value.payload (timers_of s)
+  put_timers : (s : Elements (Timer P)) (e : Element (Timer P)) → timers_of (put cmp s e) ≡ started e.value.deadline e.value.payload (timers_of s)
   put_timers [] e = refl
-  put_timers (x ∷ s) e = put_by (is_gt (cmp x.value e.value)) (nat_lt e.value.deadline x.value.deadline) e s (put o s e) (started e.value.deadline e.value.payload (timers_of s)) (by x.value e.value) (put_timers s e) x
+  put_timers (x ∷ s) e = put_by (is_gt (cmp x.value e.value)) (nat_lt e.value.deadline x.value.deadline) e s (put cmp s e) (started e.value.deadline e.value.payload (timers_of s)) (by x.value e.value) (put_timers s e) x
 
   -- in order of deadlines, and by the order
   not_less : (x y : Timer P) → x.deadline ≤ y.deadline → is_gt (cmp x y) ≡ false
@@ -103,12 +67,13 @@ module _ {P : Type 0} {cmp : Timer P → Timer P → Ordering} (o : IsPreorder c
   sorted s h = sorted_from_ascends (less cmp) s (ascends s h)
 
   -- after an insertion
-  module _ (s t : Elements (Timer P)) (e : Element (Timer P)) (h : InOrder (timers_of s)) (inserted : StandsFor cmp s s → StandsFor cmp t (s ++ e ∷ [])) where
+  module _ (s t : Elements (Timer P)) (e : Element (Timer P)) (h : InOrder (timers_of s)) (placed : IsSortedBy (less cmp) s → t ≡ put cmp s e) where
     pub is_started : timers_of t ≡ started e.value.deadline e.value.payload (timers_of s)
-    is_started = ap (λ z. timers_of z) (is_put o s t e (sorted s h) (inserted (itself o s (sorted s h)))) ∙ put_timers s e
+    is_started = ap (λ z. timers_of z) (placed (sorted s h)) ∙ put_timers s e
 
     pub keeps_order : InOrder (timers_of t)
-    keeps_order = in_order t (ascends_from_sorted (less cmp) (ranks o (λ x. x.value)) t (inserted (itself o s (sorted s h))).in_order)
+    keeps_order =
+        subst (λ l. InOrder (timers_of l)) (sym (placed (sorted s h))) (in_order (put cmp s e) (ascends_from_sorted (less cmp) (ranks o (λ x. x.value)) (put cmp s e) (put_in_order o s e (sorted s h))))
 
 -- the order of timers
 module _ {P : Type 0} where

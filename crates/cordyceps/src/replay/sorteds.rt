@@ -3,11 +3,11 @@ ghost use Rattle.std.specs.Prelude.{◌≡◌, ℕ, ◌∷◌, [], ◌++◌, ◌
 ghost use Rattle.std.specs.declared.cmp.Ordering.{Ordering};
 ghost use Rattle.std.specs.List.Sorted.{IsSortedBy};
 ghost use Rattle.cordyceps_base.specs.Element.{Elements, values};
-ghost use Rattle.cordyceps_stack.specs.Arrangement.{less};
+ghost use Rattle.cordyceps_stack.specs.Arrangement.{less, put};
 ghost use Rattle.cordyceps_stack.specs.ByFn.{Computes};
 ghost use Rattle.cordyceps.specs.Replies.{done, show, lines_of, found_or_nothing};
 ghost use Rattle.cordyceps.specs.Tables.{empty_table, element_of};
-ghost use Rattle.cordyceps.specs.Sorteds.{put, filled, order_of, step, step_on, made_of, Fits, list_of, AreInOrder};
+ghost use Rattle.cordyceps.specs.Sorteds.{filled, order_of, step, step_on, made_of, Fits, list_of, AreInOrder};
 ghost use Rattle.cordyceps.specs.Plays.{Plays, AnswersSome};
 
 use crate::replay::item::Item;

@@ -4,9 +4,9 @@ use Rattle.cordyceps_uses.proofs.Deadlines.{by_deadline, gt_by_deadline, is_star
 use Rattle.cordyceps_uses.proofs.timers.Timers.start.Goals as goal
 
 pub invariant_of-self : goal.invariant_of-self
-invariant_of-self g c = keeps_order by_deadline gt_by_deadline c.self.inside.list.0 c.insert.new.self.0 c.in-Ok.node c.self.invariant (c.insert.ensures.arrangement _ c.self.inside.list.0 refl)
+invariant_of-self g c = keeps_order by_deadline gt_by_deadline c.self.inside.list.0 c.insert.new.self.0 c.in-Ok.node c.self.invariant (c.insert.ensures.placed _ refl)
 
 pub returns-in-Ok-clause-started : goal.returns-in-Ok-clause-started
 returns-in-Ok-clause-started g c =
-    let is = is_started by_deadline gt_by_deadline c.self.inside.list.0 c.insert.new.self.0 c.in-Ok.node c.self.invariant (c.insert.ensures.arrangement _ c.self.inside.list.0 refl) in
+    let is = is_started by_deadline gt_by_deadline c.self.inside.list.0 c.insert.new.self.0 c.in-Ok.node c.self.invariant (c.insert.ensures.placed _ refl) in
     is ∙ (λ i. started (c.in-Ok.ensures.made i).value.deadline (c.in-Ok.ensures.made i).value.payload (c.self.view_is i))
