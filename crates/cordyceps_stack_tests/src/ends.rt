@@ -108,3 +108,20 @@ fn builtin_sort_max(rt: HostRuntime) -> Result<(), Fail> {
     shows(&rt, &list, &[]);
     Ok(())
 }
+
+#[test]
+fn looks_at_the_first(rt: HostRuntime) -> Result<(), Fail> {
+    let mut list: SortedList<Number, Greatest> = SortedList::new_with_order(Greatest);
+    same(&rt, list.is_empty(), true);
+    same(&rt, shown(list.front()), None);
+    for value in [10, 30, 20] {
+        list.insert(make(rt.alloc(), value)?);
+    }
+    same(&rt, list.is_empty(), false);
+    same(&rt, shown(list.front()), Some(30));
+    drop(list.pop_front());
+    same(&rt, shown(list.front()), Some(20));
+    pops(&rt, &mut list, &[20, 10]);
+    same(&rt, list.is_empty(), true);
+    Ok(())
+}
