@@ -14,7 +14,8 @@ use std::mem;
 /// A cursor by which a list is read and changed. Its place is from 0 to the length, which is the null place, at no
 /// element; moving on from there leads to the first, and back from the first leads there.
 ///
-/// Each call but `remove_first` takes a few moves along links, wherever the cursor is.
+/// Each call takes a few moves along links, wherever the cursor is, but for `remove_first`, and for the call behind a
+/// `splice_after`, which may go back over what was put in.
 pub struct CursorMut<'a, T> {
     list: &'a mut List<T>,
     at: usize,

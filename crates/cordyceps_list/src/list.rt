@@ -150,8 +150,8 @@ impl<T: Linked<Links<T>>> List<T> {
         Some(self.value_mut_at(len - 1))
     }
 
-    /// Lends the value at a place with an element, in as many moves as it is away from the nearest of the two ends and
-    /// the two fingers.
+    /// Lends the value at a place with an element, by at most one move more than it is away from the nearest of the two ends
+    /// and the two fingers.
     pub(crate) fn value_mut_at(&mut self, at: usize) -> &mut T
         requires { at < length self.old }
         ensures* writes_back { sem 𝓛 (LendsAt T.row self.entry at result) }
