@@ -1,10 +1,11 @@
 pub mod Crosses
 pub mod DoubleChain
-pub mod Forward
 pub mod Memory
 pub mod Nodes
 pub mod Places
 pub mod Runs
+pub mod Segments
 pub mod Sharing
 pub mod SingleChain
+pub mod SpotsMemory
 pub mod Values

@@ -1,10 +1,11 @@
 -- How the nodes of a double chain point to one another.
 use Rattle.std.specs.Prelude.{◌≡◌, ℕ, List, [], ◌∷◌, length}
-use denote.RawPtr.{Ptr}
+use denote.RawPtr.{Ptr, null_ptr}
 use Rattle.cordyceps_base.specs.declared.node.Block.{Block}
 use Rattle.cordyceps_base.specs.declared.list.Links.{Links}
-use Rattle.cordyceps_base.specs.Forward.{LeadsOn}
+use Rattle.cordyceps_base.specs.Boxes.{box_addresses}
 use Rattle.cordyceps_base.specs.Nodes as all
+use Rattle.cordyceps_base.specs.Spots.{AreTestable}
 
 abbrev pub OwnedNode : Type 0 → Type 0
 OwnedNode X = all.OwnedNode X (Links X)
@@ -16,16 +17,11 @@ module _ {X : Type 0} where
   abbrev pub prev_of : Block X (Links X) → Ptr
   prev_of b = b.links.prev.ptr
 
-  -- the nodes come after one at a: each `prev` leads to the node before, and t to the last
-  abbrev pub LeadsBackTo : Ptr → List (OwnedNode X) → Ptr → Type 0
-  LeadsBackTo a [] t = t ≡ a
-  LeadsBackTo a (n ∷ ns) t = (prev_of n.2 ≡ a) × LeadsBackTo n.0 ns t
+  -- the nodes are linked both ways: h leads to the first and t to the last, the first `prev` is p and the last `next` q
+  abbrev pub Segment : Ptr → Ptr → List (OwnedNode X) → Ptr → Ptr → Type 0
+  Segment p h [] t q = (h ≡ q) × (t ≡ p)
+  Segment p h (n ∷ ns) t q = (h ≡ n.0) × (prev_of n.2 ≡ p) × Segment n.0 (next_of n.2) ns t q
 
-  -- the same, with nothing said of the first `prev`
-  abbrev pub LeadsBack : List (OwnedNode X) → Ptr → Type 0
-  LeadsBack [] t = Unit {0}
-  LeadsBack (n ∷ ns) t = LeadsBackTo n.0 ns t
-
-  -- the nodes are linked both ways, from head and from tail
+  -- the nodes are linked both ways from head to tail, both ends lead to nothing, and each address may be compared with null
   abbrev pub IsLinked : Ptr → Ptr → ℕ → List (OwnedNode X) → Type 0
-  IsLinked head tail len ns = (len ≡ length ns) × LeadsOn next_of head ns × LeadsBack ns tail
+  IsLinked head tail len ns = (len ≡ length ns) × AreTestable (box_addresses ns) × Segment null_ptr head ns tail null_ptr

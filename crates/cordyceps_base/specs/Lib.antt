@@ -1,10 +1,11 @@
 pub mod Boxes
 pub mod BoxesLends
+pub mod BySpot
 pub mod DoubleChain
 pub mod DoubleChainLends
 pub mod Element
-pub mod Forward
 pub mod NodeLends
 pub mod Nodes
 pub mod Runs
 pub mod SingleChain
+pub mod Spots

@@ -1,13 +1,17 @@
 //! A row of boxes that are reached through their raw pointers. This is all of the crate's unsafe code.
-ghost use Rattle.std.specs.Prelude.{◌≡◌, ◌≤◌, ◌-◌, ℕ, List, [], ◌∷◌, ◌++◌, length, take, drop, slice_get, Some};
+ghost use Rattle.std.specs.Prelude.{◌≡◌, ◌≤◌, ◌<◌, ◌-◌, ℕ, List, [], ◌∷◌, ◌++◌, length, take, drop, slice_get, Some};
 ghost use Rattle.std.specs.Borrow.{sem};
 ghost use Rattle.std.specs.Box.Ownership.{box_owns};
-ghost use denote.RawPtr.{Ptr};
+ghost use denote.RawPtr.{Ptr, null_ptr, InBlock, Testable};
+ghost use Rattle.std.specs.Bool.{MatchBool};
 ghost use Rattle.cordyceps_base.specs.Boxes.{boxes_own, boxes_lent, box_addresses, box_values};
+ghost use Rattle.cordyceps_base.specs.Spots.{index_of, AreApart, AreTestable};
+ghost use Rattle.std.specs.Mem.{type_size};
 
-use std::alloc::Allocator;
+use std::alloc::{Allocator, Global};
 use std::marker::{Model, PhantomData, Send, Sync};
 use std::ptr;
+use std::ptr::NonNull;
 
 /// Where a box's value lies. It owns nothing.
 #[derive(Clone, Copy)]
@@ -17,10 +21,20 @@ pub struct Address {
 
 impl Address {
     /// The address of nothing.
-    pub fn nowhere() -> Address {
+    pub fn nowhere() -> Address
+        ensures { result.ptr ≡ null_ptr }
+    {
         Address {
             ptr: ptr::null_mut(),
         }
+    }
+
+    /// Whether it is the address of something.
+    pub(crate) fn is_somewhere(self) -> bool
+        requires { Testable self.ptr }
+        ensures { MatchBool result (InBlock self.ptr) (self.ptr ≡ null_ptr) }
+    {
+        NonNull::new(self.ptr).is_some()
     }
 }
 
@@ -118,9 +132,33 @@ impl<B, A: Allocator> Boxes<B, A> {
         (Boxes { mark: PhantomData }, Boxes { mark: PhantomData })
     }
 
+    /// The boxes before the first that lies at `at`, and the others. It takes no time.
+    pub(crate) fn cut_at(self, at: Address) -> (Boxes<B, A>, Boxes<B, A>)
+        ensures { let k = index_of at.ptr (box_addresses self.blocks) in
+            (result.0.blocks ≡ take k self.blocks) × (result.1.blocks ≡ drop k self.blocks) }
+    {
+        let Boxes { mark: _ } = self;
+        (Boxes { mark: PhantomData }, Boxes { mark: PhantomData })
+    }
+
+    /// The same boxes. No two lie at one address, if their values take space. It takes no time.
+    pub(crate) fn apart(self) -> Boxes<B, A>
+        ensures { (result.blocks ≡ self.blocks) × (0 < type_size B.row → AreApart (box_addresses self.blocks)) }
+    {
+        let Boxes { mark: _ } = self;
+        Boxes { mark: PhantomData }
+    }
+
     /// The boxes behind the first. It takes no time.
     pub(crate) fn behind_first(&self) -> &Boxes<B, A>
         ensures { result.now.blocks ≡ drop 1 self.now.blocks }
+    {
+        self
+    }
+
+    /// The boxes from the first that lies at `at` on. It takes no time.
+    pub(crate) fn from_address(&self, at: Address) -> &Boxes<B, A>
+        ensures { result.now.blocks ≡ drop (index_of at.ptr (box_addresses self.now.blocks)) self.now.blocks }
     {
         self
     }
@@ -150,6 +188,17 @@ impl<B, A: Allocator> Boxes<B, A> {
         unsafe { &*at }
     }
 
+    /// The value of the first box that lies at `at`.
+    pub(crate) fn at_mut(&mut self, at: Address) -> &mut B
+        requires { (k : ℕ) × (slice_get (box_addresses self.old.blocks) k ≡ Some at.ptr) }
+        ensures* writes_back { sem 𝓛 (lends_value B.row A.row A.Allocator self.entry (index_of at.ptr (box_addresses self.old.blocks)) result) }
+        ensures value { slice_get (box_values self.old.blocks) (index_of at.ptr (box_addresses self.old.blocks)) ≡ Some result.now }
+    {
+        let at = at.ptr as *mut B;
+        unsafe { &mut *at }
+    }
+
+    /// The value of box `k`, which lies at `at`. Only the proof needs `k`.
     pub(crate) fn get_mut(&mut self, at: Address, k: usize) -> &mut B
         requires { slice_get (box_addresses self.old.blocks) k ≡ Some at.ptr }
         ensures* writes_back { sem 𝓛 (lends_value B.row A.row A.Allocator self.entry k result) }
@@ -157,5 +206,15 @@ impl<B, A: Allocator> Boxes<B, A> {
     {
         let at = at.ptr as *mut B;
         unsafe { &mut *at }
+    }
+}
+
+impl<B> Boxes<B, Global> {
+    /// The same boxes. Each address may be compared with null. It takes no time.
+    pub(crate) fn tested(self) -> Boxes<B, Global>
+        ensures { (result.blocks ≡ self.blocks) × AreTestable (box_addresses self.blocks) }
+    {
+        let Boxes { mark: _ } = self;
+        Boxes { mark: PhantomData }
     }
 }

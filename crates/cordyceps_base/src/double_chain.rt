@@ -1,9 +1,13 @@
 //! A doubly linked chain of nodes.
-ghost use Rattle.std.specs.Prelude.{◌≡◌, ℕ, ◌+◌, ◌-◌, ◌^◌, ◌<◌, ◌≤◌, [], ◌∷◌, ◌++◌, length, take, drop, slice_get, Some};
+ghost use Rattle.std.specs.Prelude.{◌≡◌, ℕ, ◌+◌, ◌-◌, ◌^◌, ◌<◌, ◌≤◌, [], ◌∷◌, ◌++◌, length, take, drop, slice_get, Some, MatchOption};
 ghost use Rattle.std.specs.Borrow.{sem};
-ghost use denote.RawPtr.{Ptr};
-ghost use Rattle.cordyceps_base.specs.Element.{ids, values};
-ghost use Rattle.cordyceps_base.specs.Nodes.{elements, LiesAt};
+ghost use denote.RawPtr.{Ptr, null_ptr};
+ghost use Rattle.cordyceps_base.specs.Boxes.{box_addresses};
+ghost use Rattle.cordyceps_base.specs.BySpot.{HasSpot, HoldsAt, IsTaken, IsPutBefore, IsPutAfter, IsMovedFront, IsMovedBack, IsFirst, IsLast, AreNext};
+ghost use Rattle.cordyceps_base.specs.DoubleChain.{Segment};
+ghost use Rattle.cordyceps_base.specs.Element.{Element, ids, values};
+ghost use Rattle.cordyceps_base.specs.Nodes.{elements, nodes_of, spots, LiesAt};
+ghost use Rattle.cordyceps_base.specs.Spots.{index_of, AreApart, AreTestable};
 
 use crate::boxes::{Address, Boxes, Loose};
 use crate::list::Links;
@@ -12,15 +16,18 @@ use std::alloc::Global;
 use std::marker::Model;
 use std::mem;
 
+/// The nodes of a chain, or of a part of one.
+type Row<T> = Boxes<Block<T, Links<T>>, Global>;
+
 /// Nodes that are linked both ways. A contract sees them as a list, each as the address where it lies and its element.
 ///
-/// The links are the chain's own, and no call but `drop` walks along them. `next` of the last node and `prev` of the
-/// first mean nothing, nor do `head` and `tail` where there is no node.
+/// The links are the chain's own, and no call but `drop` walks along them. The first `prev` and the last `next` are the
+/// address of nothing, as are `head` and `tail` where there is no node.
 pub struct DoubleChain<T> {
     head: Address,
     tail: Address,
     len: usize,
-    boxes: Boxes<Block<T, Links<T>>, Global>,
+    boxes: Row<T>,
 }
 
 impl<T> Model for DoubleChain<T> {
@@ -95,11 +102,22 @@ impl<T> DoubleChain<T> {
     {
         let Node { block } = node;
         let (at, _, boxes) = Boxes::one(Loose::of(block));
+        DoubleChain::of_one(at, boxes)
+    }
+
+    /// The chain of the one node of a row.
+    fn of_one(at: Address, row: Row<T>) -> DoubleChain<T>
+        requires { (a : Global) × (x : Block T (Links T)) × (row.blocks ≡ (at.ptr, a, x) ∷ []) }
+        ensures { result ≡ nodes_of row.blocks }
+    {
+        let mut boxes = row;
+        boxes.get_mut(at, 0).links.next = Address::nowhere();
+        boxes.get_mut(at, 0).links.prev = Address::nowhere();
         DoubleChain {
             head: at,
             tail: at,
             len: 1,
-            boxes,
+            boxes: boxes.tested(),
         }
     }
 
@@ -200,23 +218,21 @@ impl<T> DoubleChain<T> {
             head,
             tail,
             len,
-            boxes,
+            boxes: mut front,
         } = self;
-        let after = other.head;
         let DoubleChain {
-            head: _,
+            head: after,
             tail: last,
             len: more,
-            boxes: others,
+            boxes: mut back,
         } = other;
-        let mut boxes = boxes.join(others);
-        boxes.get_mut(tail, len - 1).links.next = after;
-        boxes.get_mut(after, len).links.prev = tail;
+        front.get_mut(tail, len - 1).links.next = after;
+        back.get_mut(after, 0).links.prev = tail;
         DoubleChain {
             head,
             tail: last,
             len: len + more,
-            boxes,
+            boxes: front.join(back).tested(),
         }
     }
 
@@ -225,6 +241,9 @@ impl<T> DoubleChain<T> {
         requires { (0 < k) × (LiesAt self (k - 1) at) }
         ensures { (result.0 ≡ take k self) × (result.1 ≡ drop k self) }
     {
+        if k == self.len {
+            return (self, DoubleChain::empty());
+        }
         let DoubleChain {
             head,
             tail,
@@ -232,18 +251,20 @@ impl<T> DoubleChain<T> {
             boxes,
         } = self;
         let after = boxes.get(at, k - 1).links.next;
-        let (front, back) = boxes.cut(k);
+        let (mut front, mut back) = boxes.cut(k);
+        front.get_mut(at, k - 1).links.next = Address::nowhere();
+        back.get_mut(after, 0).links.prev = Address::nowhere();
         let first = DoubleChain {
             head,
             tail: at,
             len: k,
-            boxes: front,
+            boxes: front.tested(),
         };
         let rest = DoubleChain {
             head: after,
             tail,
             len: len - k,
-            boxes: back,
+            boxes: back.tested(),
         };
         (first, rest)
     }
@@ -260,18 +281,20 @@ impl<T> DoubleChain<T> {
             boxes,
         } = self;
         let before = boxes.get(at, k).links.prev;
-        let (front, back) = boxes.cut(k);
+        let (mut front, mut back) = boxes.cut(k);
+        front.get_mut(before, k - 1).links.next = Address::nowhere();
+        back.get_mut(at, 0).links.prev = Address::nowhere();
         let first = DoubleChain {
             head,
             tail: before,
             len: k,
-            boxes: front,
+            boxes: front.tested(),
         };
         let rest = DoubleChain {
             head: at,
             tail,
             len: len - k,
-            boxes: back,
+            boxes: back.tested(),
         };
         (first, rest)
     }
@@ -378,5 +401,311 @@ impl<T: Drop> DoubleChain<T> {
         let node = back.unlink_front();
         self.put(front.join(back));
         node
+    }
+}
+
+/// A row whose last node leads to `next` in place of what it led to, and the address of its first.
+fn followed_by<T>(row: Row<T>, head: Address, last: Address, next: Address) -> (Address, Row<T>)
+    requires linked { (q : Ptr) × Segment null_ptr head.ptr row.blocks last.ptr q }
+    requires tested { AreTestable (box_addresses row.blocks) }
+    ensures linked { Segment null_ptr result.0.ptr result.1.blocks last.ptr next.ptr }
+    ensures same { nodes_of result.1.blocks ≡ nodes_of row.blocks }
+{
+    if last.is_somewhere() {
+        let (front, mut end) = row.cut_last();
+        end.get_mut(last, 0).links.next = next;
+        (head, front.join(end))
+    } else {
+        (next, row)
+    }
+}
+
+/// A row whose first node leads back to `prev` in place of what it led back to, and the address of its last.
+fn behind<T>(row: Row<T>, first: Address, tail: Address, prev: Address) -> (Address, Row<T>)
+    requires linked { (p : Ptr) × Segment p first.ptr row.blocks tail.ptr null_ptr }
+    requires tested { AreTestable (box_addresses row.blocks) }
+    ensures linked { Segment prev.ptr first.ptr result.1.blocks result.0.ptr null_ptr }
+    ensures same { nodes_of result.1.blocks ≡ nodes_of row.blocks }
+{
+    if first.is_somewhere() {
+        let mut row = row;
+        row.get_mut(first, 0).links.prev = prev;
+        (tail, row)
+    } else {
+        (prev, row)
+    }
+}
+
+/// A node between two rows: its address, those of the first node and the last, and the whole row.
+fn between<T: Drop>(
+    front: Row<T>,
+    head: Address,
+    prev: Address,
+    node: Node<T, Links<T>>,
+    next: Address,
+    back: Row<T>,
+    tail: Address,
+) -> (Address, Address, Address, Row<T>)
+    requires front { (q : Ptr) × Segment null_ptr head.ptr front.blocks prev.ptr q }
+    requires back { (p : Ptr) × Segment p next.ptr back.blocks tail.ptr null_ptr }
+    requires front_tested { AreTestable (box_addresses front.blocks) }
+    requires back_tested { AreTestable (box_addresses back.blocks) }
+    ensures linked { Segment null_ptr result.1.ptr result.3.blocks result.2.ptr null_ptr }
+    ensures holds { nodes_of result.3.blocks ≡ nodes_of front.blocks ++ (result.0.ptr, node) ∷ nodes_of back.blocks }
+{
+    let Node { block } = node;
+    let (at, _, one) = Boxes::one(Loose::of(block));
+    let mut one = one;
+    one.get_mut(at, 0).links.next = next;
+    one.get_mut(at, 0).links.prev = prev;
+    let (head, front) = followed_by(front, head, prev, at);
+    let (tail, back) = behind(back, next, tail, at);
+    (at, head, tail, front.join(one.join(back)))
+}
+
+/// Nodes that are reached by their addresses alone.
+impl<T> DoubleChain<T> {
+    ghost use Rattle.cordyceps_base.specs.DoubleChainLends.{lends_item};
+
+    /// The same nodes. No two lie at one address. It takes no time.
+    pub fn apart(self) -> DoubleChain<T>
+        ensures { (result ≡ self) × AreApart (spots self) }
+    {
+        let DoubleChain {
+            head,
+            tail,
+            len,
+            boxes,
+        } = self;
+        DoubleChain {
+            head,
+            tail,
+            len,
+            boxes: boxes.apart(),
+        }
+    }
+
+    /// Changes nothing. No two nodes lie at one address.
+    pub fn keep_apart(&mut self)
+        ensures { (self.new ≡ self.old) × AreApart (spots self.new) }
+    {
+        let differing = self.take().apart();
+        self.put(differing);
+    }
+
+    /// The address of the first node. `None` where there is none.
+    pub fn first(&self) -> Option<Address>
+        ensures { MatchOption result (self.now ≡ []) (λ p. IsFirst self.now p.ptr) }
+    {
+        if self.len == 0 { None } else { Some(self.head) }
+    }
+
+    /// The address of the last node. `None` where there is none.
+    pub fn last(&self) -> Option<Address>
+        ensures { MatchOption result (self.now ≡ []) (λ p. IsLast self.now p.ptr) }
+    {
+        if self.len == 0 { None } else { Some(self.tail) }
+    }
+
+    /// The address after that at `at`. `None` where the last node lies there.
+    pub fn next_at(&self, at: Address) -> Option<Address>
+        requires { HasSpot self.now at.ptr }
+        ensures { MatchOption result (IsLast self.now at.ptr) (λ p. AreNext self.now at.ptr p.ptr) }
+    {
+        let next = self.boxes.from_address(at).get(at, 0).links.next;
+        if next.is_somewhere() {
+            Some(next)
+        } else {
+            None
+        }
+    }
+
+    /// The address before that at `at`. `None` where the first node lies there.
+    pub fn prev_at(&self, at: Address) -> Option<Address>
+        requires { HasSpot self.now at.ptr }
+        ensures { MatchOption result (IsFirst self.now at.ptr) (λ p. AreNext self.now p.ptr at.ptr) }
+    {
+        let prev = self.boxes.from_address(at).get(at, 0).links.prev;
+        if prev.is_somewhere() {
+            Some(prev)
+        } else {
+            None
+        }
+    }
+
+    /// The value at an address.
+    pub fn get_at(&self, at: Address) -> &T
+        requires { HasSpot self.now at.ptr }
+        ensures { HoldsAt self.now at.ptr result.now }
+    {
+        &self.boxes.from_address(at).get(at, 0).value
+    }
+
+    /// The value at an address, to be changed. The element keeps its number.
+    pub fn get_at_mut(&mut self, at: Address) -> &mut T
+        requires { HasSpot self.old at.ptr }
+        ensures* writes_back { sem 𝓛 (lends_item T.row self.entry (index_of at.ptr (spots self.old)) result) }
+        ensures value { slice_get (values (elements self.old)) (index_of at.ptr (spots self.old)) ≡ Some result.now }
+    {
+        let block = self.boxes.at_mut(at);
+        &mut block.value
+    }
+
+    /// The nodes without that at `at`, and that alone, where it lay.
+    fn parted(self, at: Address) -> (DoubleChain<T>, DoubleChain<T>)
+        requires { HasSpot self at.ptr }
+        ensures parts { (e : Element T) × IsTaken self at.ptr e result.0 × (result.1 ≡ (at.ptr, e) ∷ []) }
+        ensures fits { length result.0 + length result.1 < 2 ^ 64 }
+    {
+        let len = self.len();
+        let DoubleChain {
+            head,
+            tail,
+            len: _,
+            boxes,
+        } = self;
+        let (front, back) = boxes.cut_at(at);
+        let next = back.get(at, 0).links.next;
+        let prev = back.get(at, 0).links.prev;
+        let (one, rest) = back.cut(1);
+        let (head, front) = followed_by(front, head, prev, next);
+        let (tail, rest) = behind(rest, next, tail, prev);
+        let left = DoubleChain {
+            head,
+            tail,
+            len: len - 1,
+            boxes: front.join(rest).tested(),
+        };
+        (left, DoubleChain::of_one(at, one))
+    }
+
+    /// Puts the node at `at` first. It stays where it lies.
+    pub fn move_front(&mut self, at: Address)
+        requires { HasSpot self.old at.ptr }
+        ensures { IsMovedFront self.old at.ptr self.new }
+    {
+        let (rest, one) = self.take().parted(at);
+        self.put(one.join(rest));
+    }
+
+    /// Puts the node at `at` last. It stays where it lies.
+    pub fn move_back(&mut self, at: Address)
+        requires { HasSpot self.old at.ptr }
+        ensures { IsMovedBack self.old at.ptr self.new }
+    {
+        let (rest, one) = self.take().parted(at);
+        self.put(rest.join(one));
+    }
+}
+
+impl<T: Drop> DoubleChain<T> {
+    /// Puts a node first, and answers its address.
+    pub fn link_first(&mut self, node: Node<T, Links<T>>) -> Address
+        requires { length self.old + 1 < 2 ^ 64 }
+        ensures holds { self.new ≡ (result.ptr, node) ∷ self.old }
+        ensures apart { AreApart (spots self.new) }
+    {
+        let rest = self.take();
+        let one = DoubleChain::one(node);
+        let at = one.head();
+        self.put(one.join(rest).apart());
+        at
+    }
+
+    /// Puts a node last, and answers its address.
+    pub fn link_last(&mut self, node: Node<T, Links<T>>) -> Address
+        requires { length self.old + 1 < 2 ^ 64 }
+        ensures holds { self.new ≡ self.old ++ (result.ptr, node) ∷ [] }
+        ensures apart { AreApart (spots self.new) }
+    {
+        let rest = self.take();
+        let one = DoubleChain::one(node);
+        let at = one.head();
+        self.put(rest.join(one).apart());
+        at
+    }
+
+    /// The nodes with one more before that at `at`, and its address.
+    fn with_before(self, at: Address, node: Node<T, Links<T>>) -> (DoubleChain<T>, Address)
+        requires there { HasSpot self at.ptr }
+        requires fits { length self + 1 < 2 ^ 64 }
+        ensures { IsPutBefore self at.ptr result.1.ptr node result.0 }
+    {
+        let DoubleChain {
+            head,
+            tail,
+            len,
+            boxes,
+        } = self;
+        let (front, back) = boxes.cut_at(at);
+        let prev = back.get(at, 0).links.prev;
+        let (new, head, tail, boxes) = between(front, head, prev, node, at, back, tail);
+        let whole = DoubleChain {
+            head,
+            tail,
+            len: len + 1,
+            boxes: boxes.tested(),
+        };
+        (whole, new)
+    }
+
+    /// The nodes with one more behind that at `at`, and its address.
+    fn with_after(self, at: Address, node: Node<T, Links<T>>) -> (DoubleChain<T>, Address)
+        requires there { HasSpot self at.ptr }
+        requires fits { length self + 1 < 2 ^ 64 }
+        ensures { IsPutAfter self at.ptr result.1.ptr node result.0 }
+    {
+        let DoubleChain {
+            head,
+            tail,
+            len,
+            boxes,
+        } = self;
+        let (front, back) = boxes.cut_at(at);
+        let next = back.get(at, 0).links.next;
+        let (one, rest) = back.cut(1);
+        let front = front.join(one);
+        let (new, head, tail, boxes) = between(front, head, at, node, next, rest, tail);
+        let whole = DoubleChain {
+            head,
+            tail,
+            len: len + 1,
+            boxes: boxes.tested(),
+        };
+        (whole, new)
+    }
+
+    /// Puts a node in before that at `at`, and answers its address.
+    pub fn link_before(&mut self, at: Address, node: Node<T, Links<T>>) -> Address
+        requires there { HasSpot self.old at.ptr }
+        requires fits { length self.old + 1 < 2 ^ 64 }
+        ensures holds { IsPutBefore self.old at.ptr result.ptr node self.new }
+        ensures apart { AreApart (spots self.new) }
+    {
+        let (nodes, new) = self.take().with_before(at, node);
+        self.put(nodes.apart());
+        new
+    }
+
+    /// Puts a node in behind that at `at`, and answers its address.
+    pub fn link_after(&mut self, at: Address, node: Node<T, Links<T>>) -> Address
+        requires there { HasSpot self.old at.ptr }
+        requires fits { length self.old + 1 < 2 ^ 64 }
+        ensures holds { IsPutAfter self.old at.ptr result.ptr node self.new }
+        ensures apart { AreApart (spots self.new) }
+    {
+        let (nodes, new) = self.take().with_after(at, node);
+        self.put(nodes.apart());
+        new
+    }
+
+    /// Takes the node at `at` out.
+    pub fn unlink_at(&mut self, at: Address) -> Node<T, Links<T>>
+        requires { HasSpot self.old at.ptr }
+        ensures { IsTaken self.old at.ptr result self.new }
+    {
+        let (rest, one) = self.take().parted(at);
+        self.put(rest);
+        one.only()
     }
 }

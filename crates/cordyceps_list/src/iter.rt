@@ -3,6 +3,7 @@ ghost use Rattle.std.specs.Prelude.{◌≡◌, ◌+◌, ◌-◌, ◌<◌, length
 ghost use Rattle.std.specs.Iterator.{YieldsFirstRef, YieldsLastRef, YieldsFirstBy, YieldsLastBy, item_count, at_most, UpTo};
 ghost use Rattle.std.specs.Iterator.SizeHint.{IsWithinCount};
 ghost use Rattle.cordyceps_base.specs.Element.{values};
+ghost use Rattle.cordyceps_base.specs.Nodes.{elements};
 
 use crate::list::{Links, List};
 use cordyceps_base::boxes::Address;
@@ -34,25 +35,31 @@ impl<'a, T> Model for Iter<'a, T> {
     ghost invariant = { λ i. KnowsEnds i.chain.now i.first i.last i.front i.back };
 }
 
+/// The values of a chain, in order, for a collection that keeps its nodes in one.
+pub fn over<T>(chain: &DoubleChain<T>) -> Iter<'_, T>
+    ensures { result ≡ values (elements chain.now) }
+{
+    let back = chain.len();
+    let (first, last) = if back == 0 {
+        (Address::nowhere(), Address::nowhere())
+    } else {
+        (chain.head(), chain.tail())
+    };
+    Iter {
+        chain,
+        first,
+        last,
+        front: 0,
+        back,
+    }
+}
+
 impl<T: Linked<Links<T>>> List<T> {
     /// The values, in order.
     pub fn iter(&self) -> Iter<'_, T>
         ensures { result ≡ values self.now }
     {
-        let chain = &self.chain;
-        let back = chain.len();
-        let (first, last) = if back == 0 {
-            (Address::nowhere(), Address::nowhere())
-        } else {
-            (chain.head(), chain.tail())
-        };
-        Iter {
-            chain,
-            first,
-            last,
-            front: 0,
-            back,
-        }
+        over(&self.chain)
     }
 }
 

@@ -3,6 +3,7 @@ ghost use Rattle.std.specs.Prelude.{◌≡◌, ◌+◌, ◌-◌, ◌<◌, ◌==�
 ghost use Rattle.std.specs.Option.{option_copied_mut};
 ghost use Rattle.std.specs.Borrow.{sem};
 ghost use Rattle.cordyceps_base.specs.Element.{values};
+ghost use Rattle.cordyceps_base.specs.Nodes.{elements};
 
 use crate::finger::Fingers;
 use cordyceps_base::double_chain::DoubleChain;
@@ -50,6 +51,24 @@ impl<T: Linked<Links<T>>> List<T> {
         let chain = DoubleChain::empty();
         let fingers = Fingers::behind(&chain);
         List { chain, fingers }
+    }
+
+    /// A list of the nodes of a chain, at once, for a collection that keeps its nodes in one.
+    pub fn from_chain(chain: DoubleChain<T>) -> List<T>
+        ensures { result ≡ elements chain }
+    {
+        List {
+            fingers: Fingers::behind(&chain),
+            chain,
+        }
+    }
+
+    /// The nodes as a chain, at once, for a collection that keeps its nodes in one.
+    pub fn into_chain(self) -> DoubleChain<T>
+        ensures { elements result ≡ self }
+    {
+        let List { chain, fingers: _ } = self;
+        chain
     }
 
     /// The number of elements, at once.

@@ -115,6 +115,6 @@ impl<T: Linked<Links<T>>> List<T> {
         self.fingers = self.fingers.after_change(at, at);
         let (front, rest) = self.chain.take().split(place, at);
         self.chain.put(front);
-        List::of_chain(rest)
+        List::from_chain(rest)
     }
 }

@@ -1,6 +1,6 @@
 //! Lists that are joined and split.
 ghost use Rattle.std.specs.Prelude.{◌≡◌, ◌+◌, ◌-◌, ◌^◌, ◌<◌, ◌≤◌, ◌↔◌, [], ◌++◌, length, take, drop, min, IsSome, IfSome, IfNone};
-ghost use Rattle.cordyceps_base.specs.Nodes.{elements, LiesAt};
+ghost use Rattle.cordyceps_base.specs.Nodes.{LiesAt};
 
 use crate::finger::{Finger, Fingers};
 use crate::list::{Links, List};
@@ -34,14 +34,6 @@ fn node_before<T>(chain: &DoubleChain<T>, at: usize, steps: &mut Steps) -> Addre
 }
 
 impl<T: Linked<Links<T>>> List<T> {
-    /// A list of the nodes of a chain.
-    pub(crate) fn of_chain(chain: DoubleChain<T>) -> List<T>
-        ensures { result ≡ elements chain }
-    {
-        let fingers = Fingers::behind(&chain);
-        List { chain, fingers }
-    }
-
     /// Moves all elements of `other` behind those of this list, at once. The sum of the lengths must fit.
     pub fn append(&mut self, other: &mut List<T>)
         requires { length self.old + length other.old ≤ usize.MAX }
@@ -100,6 +92,6 @@ impl<T: Linked<Links<T>>> List<T> {
         self.fingers = self.fingers.after_change(at, at);
         let (front, rest) = self.chain.take().cut_behind(before, at);
         self.chain.put(front);
-        Some(List::of_chain(rest))
+        Some(List::from_chain(rest))
     }
 }

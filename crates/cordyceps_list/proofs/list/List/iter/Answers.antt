@@ -1,13 +1,6 @@
-use Rattle.std.proofs.Common.{rules, arith, ap, ◌∙◌, ◌-◌}
-use Rattle.std.proofs.lemmas.List.{length-map, take_all}
+use Rattle.std.proofs.Common.{ap, ◌∙◌}
 use Rattle.cordyceps_base.specs.Element.{values}
-use Rattle.cordyceps_base.specs.Nodes.{elements}
 use Rattle.cordyceps_list.proofs.list.List.iter.Goals as goal
 
-pub invariant_of-result : goal.invariant_of-result
-invariant_of-result g c = search rules
-
 pub returns : goal.returns
-returns g c =
-    let chain = c.self.inside.chain in
-    ap values (take_all (c.len-back.result - 0) (elements chain) (omega (arith, length-map chain (λ n. n.1))) ∙ c.self.view_is)
+returns g c = c.over.ensures ∙ ap values c.self.view_is

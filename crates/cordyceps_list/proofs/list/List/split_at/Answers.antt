@@ -20,4 +20,4 @@ returns-clause-kept g c =
 pub returns-clause-split : goal.returns-clause-split
 returns-clause-split g c =
     let at = c.args.at in
-    c.of_chain.ensures ∙ ap elements (c.split-front.ensures.back ∙ ap (drop at) c.take.ensures.0) ∙ sym (drop-map (λ n. n.1) at c.self.inside.chain) ∙ ap (drop at) c.self.view_is
+    c.from_chain.ensures ∙ ap elements (c.split-front.ensures.back ∙ ap (drop at) c.take.ensures.0) ∙ sym (drop-map (λ n. n.1) at c.self.inside.chain) ∙ ap (drop at) c.self.view_is

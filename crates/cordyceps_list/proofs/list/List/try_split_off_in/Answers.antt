@@ -17,7 +17,7 @@ returns-clause-some g c =
     let front = c.put.ensures ∙ c.cut_behind-front.ensures.0 ∙ ap (take at) c.take.ensures.0 in
     let rest = c.cut_behind-front.ensures.1 ∙ ap (drop at) c.take.ensures.0 in (
       ap elements front ∙ sym (take-map (λ n. n.1) at nodes) ∙ ap (take at) c.self.view_is,
-      c.of_chain.ensures ∙ ap elements rest ∙ sym (drop-map (λ n. n.1) at nodes) ∙ ap (drop at) c.self.view_is,
+      c.from_chain.ensures ∙ ap elements rest ∙ sym (drop-map (λ n. n.1) at nodes) ∙ ap (drop at) c.self.view_is,
     )
 
 pub returns-then-at-len-clause-variant : goal.returns-then-at-len-clause-variant

@@ -1,0 +1,52 @@
+-- `from_address` shows the boxes behind the first. Assumes `Logic`.
+use Rattle.std.proofs.Common.{◌≡◌, List, [], ◌∷◌, ◌++◌, refl, sym, subst, drop}
+use mir.Val.{Val, vptr}
+use mir.MapTy.{inst_fn}
+use base.Logic.{SProp, ent, emp, id⊢}
+use base.Fml.{ftrue, flft}
+use prog.Wp.{WpFn}
+use types.Kit.{‵, raw, ◌⊛◌, ◌$◌, ◌∵◌, !, qed, by, move, keep, split, fsplit, fjoin, feq_i, feq_l, suffices, use0, use1}
+use types.Run.{of_opd, returns, enter}
+use types.ByLocal.{alloc_all, pass_all, free_all, look_at, get, sets}
+use contract.Monad.{fact, fact_i}
+use contract.Running.{tables}
+use denote.Exit.{yes}
+use denote.RattleType.{RattleType, owns}
+use denote.Memory.{hidden_shr}
+use denote.Ref.{Bor}
+use denote.Builtin.{RefOf}
+use denote.Signature.{types_at, plain}
+use denote.Opens.{unhide}
+use denote.Steps.{nothing}
+use denote.Triple.Walked.{Stays, stay_dropped, Goes-dropped, walk_of}
+use Rattle.std_alloc.proofs.BoxSteps.Form.{Bx, args, R}
+use Rattle.std.proofs.raw_atomic.Walks.{proved_at, leaves}
+use Rattle.cordyceps_base.specs.Boxes.{boxes_lent, box_addresses}
+use Rattle.cordyceps_base.proofs.Memory.{Br, Pr, word_had, place-Good, lent_behind}
+use Rattle.std_alloc.proofs.RcSteps.{word}
+use Rattle.cordyceps_base.specs.Spots.{index_of}
+use Rattle.cordyceps_base.specs.contracts.boxes.Boxes.from_address.{ended, clauses}
+use Rattle.cordyceps_base.specs.contracts.boxes.Boxes.from_address.Key.{name as #self}
+use Rattle.cordyceps_base.proofs.boxes.Boxes.from_address.Statement.{statement}
+use Rattle.cordyceps_base.proofs.boxes.Boxes.from_address.Code as code
+
+pub from_address_spec : {M : Type 1} → statement M
+from_address_spec 𝓤 𝓛 𝓜 𝓡 wired T A L LA g d dd allocator glued =
+    let H = 𝓛.H in let 𝓣 = tables 𝓤 H 𝓜 𝓡 𝓡.env in let E : Bx = record { row = T; laws = L; al = record { row = A; laws = LA; g = g; d = d; drops = dd } } in let B : RattleType = Br E in
+    let En = ended T A g d dd in let c = clauses T A g d dd 𝓛 𝓜.mem 𝓡.returns in let fn = inst_fn (args E) code.function in
+    let hs : Stays En.signature.params En.kept = (stay_dropped (RefOf (0 ∷ []) tt (plain (λ _. B)) (λ _. tt)) yes, (stay_dropped (plain (λ _. Pr)) yes, tt)) in
+    proved_at 𝓛 En hs c 𝓜 𝓡 (Goes-dropped 𝓛 3 (RefOf (0 ∷ []) tt (plain (λ _. B)) (λ _. tt)) yes (λ κs x f. refl), (Goes-dropped 𝓛 3 (plain (λ _. Pr)) yes (λ κs x f. refl), tt)) (#self (args E)) fn (code.unfolded 𝓤 H 𝓜 𝓡 wired (T, (A, tt)) d dd) (λ z are.
+    let κs = z.0.0 in let qs = z.0.1 in let x = z.0.3.0 in let at = z.0.3.1.0 in let k = index_of at.ptr (box_addresses x.now.blocks) in let κ = κs.0 in let rb = x.ref_ptr.0 in let ro = x.ref_ptr.1 in let v : Val = vptr rb ro in
+    let Post : Val → SProp 𝓤 = (walk_of 𝓛 En hs c).post z in let Run : List Val → SProp 𝓤 = λ ws. WpFn 𝓤 H 𝓣.C 𝓣.Λ fn ws Post in
+    let toks = ‵ (flft κs.0 qs.0) ⊛ ‵ (flft κs.1.0 qs.1.0) ⊛ ‵ (flft κs.1.1.0 qs.1.1.0) ⊛ ‵ ftrue in let asked = raw ((c κs z.0.3).requires z.1) in
+    let new : B.Denot = record { mark = x.now.mark; blocks = drop k x.now.blocks } in let out : Bor B.Denot = record { ref_ptr = x.ref_ptr; now = new } in
+    qed 𝓛 ((toks ⊛ ‵ (owns (types_at En.signature.params κs) z.0.3 z.0.4)) ∷ asked ∷ []) ∵ split ! $ move ! (1 ∷ []) $ fsplit ! $ fsplit ! $ feq_l ! (λ e0. move ! (1 ∷ []) $ fsplit ! $ word_had ! at.ptr z.0.4.1.0 (λ e1. move ! (1 ∷ 0 ∷ []) $
+    -- [what the `&` holds; nothing; the tokens; what is asked]
+    suffices ! (Run (v ∷ word at.ptr ∷ [])) (subst (λ (us : List Val). ent 𝓤 (Run (v ∷ word at.ptr ∷ [])) (Run us)) (sym (λ i. e0 i ++ (e1 i ++ []))) (id⊢ 𝓤 (Run (v ∷ word at.ptr ∷ [])))) $
+    enter ! 𝓣.C 𝓣.Λ fn (v ∷ word at.ptr ∷ []) Post $ alloc_all ! (λ l. pass_all ! refl ((tt, tt), (place-Good at.ptr, tt)) $
+    sets ! (of_opd ! (get ! refl)) refl (tt, tt) $
+    unhide ! $ fsplit ! $ move ! (1 ∷ []) $ use1 𝓛 (‵ (boxes_lent (R E) new.blocks κ)) (lent_behind 𝓛 (R E) κ k x.now.blocks) $ move ! (1 ∷ 0 ∷ []) $ fjoin ! $
+    use1 𝓛 (‵ (hidden_shr B κ new rb ro)) (id⊢ 𝓤 _) $ feq_i ! (List Val) (v ∷ []) (v ∷ []) refl $ fjoin ! $
+    use0 𝓛 (raw (fact 𝓤 (new.blocks ≡ drop k x.now.blocks))) (fact_i 𝓤 (new.blocks ≡ drop k x.now.blocks) (emp 𝓤) refl) $ nothing ! $ nothing ! $ fjoin ! $ nothing ! $ fjoin ! $
+    -- [what is left of the parameter; what is ensured; the result; nothing; the tokens]
+    returns ! (look_at ! 0 refl) $ free_all ! refl $ keep ! (4 ∷ 0 ∷ 2 ∷ 1 ∷ []) $ by ! (leaves 𝓛 En hs c z v out (tt, (tt, tt)) (tt, (tt, tt)))))))
