@@ -1,0 +1,29 @@
+-- What a call of the chain says, said of the list and of its spots.
+use Rattle.std.proofs.Common.{◌≡◌, Option, Some, None, MatchOption, sym, subst}
+use denote.RawPtr.{Ptr}
+use Rattle.cordyceps_base.specs.declared.boxes.Address.{Address}
+use Rattle.cordyceps_base.specs.Element.{Element}
+use Rattle.cordyceps_base.specs.Nodes.{Nodes}
+
+-- what holds of an address, if there is one, holds of its spot
+spot_matches : (o : Option Address) (r : Option Ptr) → MatchOption o (r ≡ None) (λ p. r ≡ Some p.ptr) → (A : Type 0) (B : Ptr → Type 0) → MatchOption o A (λ p. B p.ptr) → MatchOption r A B
+spot_matches None r e A B h = subst (λ s. MatchOption s A B) (sym e) h
+spot_matches (Some p) r e A B h = subst (λ s. MatchOption s A B) (sym e) h
+
+module _ {X : Type 0} where
+  -- which spot is at an end
+  pub end_said : (A : Nodes X → Type 0) (B : Nodes X → Ptr → Type 0) (o : Option Address) (r : Option Ptr) → MatchOption o (r ≡ None) (λ s. r ≡ Some s.ptr) → (c d : Nodes X) → MatchOption o (A c) (λ s. B c s.ptr) → c ≡ d → MatchOption r (A d) (B d)
+  end_said A B o r same c d h view = spot_matches o r same (A d) (B d) (subst (λ l. MatchOption o (A l) (λ s. B l s.ptr)) view h)
+
+  -- which spot is beside another
+  pub step_said : (A : Nodes X → Ptr → Type 0) (B : Nodes X → Ptr → Ptr → Type 0) (o : Option Address) (r : Option Ptr) → MatchOption o (r ≡ None) (λ s. r ≡ Some s.ptr) → (c d : Nodes X) (p q : Ptr) → MatchOption o (A c p) (λ s. B c p s.ptr) → c ≡ d → p ≡ q → MatchOption r (A d q) (B d q)
+  step_said A B o r same c d p q h view at =
+      spot_matches o r same (A d q) (B d q) (subst (λ (l : Nodes X × Ptr). MatchOption o (A l.0 l.1) (λ s. B l.0 l.1 s.ptr)) (λ i. (view i, at i)) h)
+
+  -- where an element was put in
+  pub put_said : (P : Nodes X → Ptr → Ptr → Element X → Nodes X → Type 0) (c d : Nodes X) (p q r : Ptr) (e o : Element X) (n : Nodes X) → P c p r e n → c ≡ d → p ≡ q → e ≡ o → P d q r o n
+  put_said P c d p q r e o n h view at is = subst (λ (l : Nodes X × Ptr × Element X). P l.0 l.1 r l.2 n) (λ i. (view i, at i, is i)) h
+
+  -- where an element was moved
+  pub move_said : (P : Nodes X → Ptr → Nodes X → Type 0) (c d : Nodes X) (p q : Ptr) (m n : Nodes X) → P c p m → c ≡ d → p ≡ q → n ≡ m → P d q n
+  move_said P c d p q m n h view at same = subst (λ (l : Nodes X × Ptr × Nodes X). P l.0 l.1 l.2) (λ i. (view i, at i, sym same i)) h

@@ -1,0 +1,51 @@
+-- Which spots a list has, by what its calls say.
+use Rattle.std.proofs.Common.{append_assoc, ◌≡◌, [], ◌∷◌, ◌++◌, Option, Some, None, MatchOption, sym, ap, ◌∙◌, subst}
+use Rattle.std.specs.Prelude.{IfSome}
+use denote.RawPtr.{Ptr}
+use Rattle.cordyceps_base.specs.BySpot.{HasSpot, IsPutBefore, IsPutAfter, IsMovedBack, IsFirst, IsLast, AreNext}
+use Rattle.cordyceps_base.specs.Nodes.{Nodes}
+use Rattle.cordyceps_base.specs.Element.{Element}
+use Rattle.cordyceps_stable.proofs.Holding.{lies_spot, before_taken, after_taken}
+
+module _ {X : Type 0} where
+  pub first_has : (c : Nodes X) (p : Ptr) → IsFirst c p → HasSpot c p
+  first_has c p (e, after, is) = lies_spot c p e ([], after, is)
+
+  pub last_has : (c : Nodes X) (p : Ptr) → IsLast c p → HasSpot c p
+  last_has c p (before, e, is) = lies_spot c p e (before, [], is)
+
+  pub next_has : (c : Nodes X) (p q : Ptr) → AreNext c p q → HasSpot c q
+  next_has c p q (b, e, o, a, is) = lies_spot c q o (b ++ (p, e) ∷ [], a, is ∙ sym (append_assoc b ((p, e) ∷ []) ((q, o) ∷ a)))
+
+  pub prev_has : (c : Nodes X) (p q : Ptr) → AreNext c p q → HasSpot c p
+  prev_has c p q (b, e, o, a, is) = lies_spot c p e (b, (q, o) ∷ a, is)
+
+  -- the first spot of a list whose elements were put behind those of another
+  pub joined_first : (c d n : Nodes X) (p : Ptr) → n ≡ c ++ d → IsFirst d p → HasSpot n p
+  joined_first c d n p joined (e, after, is) = lies_spot n p e (c, after, joined ∙ ap (λ s. c ++ s) is)
+
+  pub joined_spot : (c d n : Nodes X) (o : Option Ptr) → n ≡ c ++ d → MatchOption o (d ≡ []) (λ p. IsFirst d p) → IfSome o (λ p. HasSpot n p)
+  joined_spot c d n None joined h = tt
+  joined_spot c d n (Some p) joined h = joined_first c d n p joined h
+
+  -- what `next` and `prev` answer
+  pub next_spot : (c : Nodes X) (p : Ptr) (o : Option Ptr) → MatchOption o (IsLast c p) (λ q. AreNext c p q) → IfSome o (λ q. HasSpot c q)
+  next_spot c p None h = tt
+  next_spot c p (Some q) h = next_has c p q h
+
+  pub next_reached : (c : Nodes X) (p q : Ptr) (o : Option Ptr) → MatchOption o (IsLast c p) (λ r. AreNext c p r) → o ≡ Some q → HasSpot c q
+  next_reached c p q o h is = next_has c p q (subst (λ s. MatchOption s (IsLast c p) (λ r. AreNext c p r)) is h)
+
+  pub prev_spot : (c : Nodes X) (p : Ptr) (o : Option Ptr) → MatchOption o (IsFirst c p) (λ q. AreNext c q p) → IfSome o (λ q. HasSpot c q)
+  prev_spot c p None h = tt
+  prev_spot c p (Some q) h = prev_has c q p h
+
+  -- where an element was put in, or moved to
+  pub put_before_has : (c d : Nodes X) (p q : Ptr) (e : Element X) → IsPutBefore c p q e d → HasSpot d q
+  put_before_has c d p q e put = let t = before_taken d c p q e put in lies_spot d q e (t.0, t.1, t.2)
+
+  pub put_after_has : (c d : Nodes X) (p q : Ptr) (e : Element X) → IsPutAfter c p q e d → HasSpot d q
+  put_after_has c d p q e put = let t = after_taken d c p q e put in lies_spot d q e (t.0, t.1, t.2)
+
+  pub moved_back_has : (c d : Nodes X) (p : Ptr) → IsMovedBack c p d → HasSpot d p
+  moved_back_has c d p (e, rest, taken, is) = lies_spot d p e (rest, [], is)
