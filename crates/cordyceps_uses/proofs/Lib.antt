@@ -1,4 +1,5 @@
 mod Dealings
 mod Deadlines
+mod Entries
 mod Holding
 mod Working

@@ -1,5 +1,6 @@
 pub mod Dealings
 pub mod Pool
+pub mod Recency
 pub mod RunQueue
 pub mod Tasks
 pub mod Timers

@@ -3,6 +3,7 @@
 
 pub mod job;
 pub mod pool;
+pub mod recency;
 pub mod run_queue;
 pub mod tasks;
 pub mod timers;
