@@ -30,14 +30,26 @@ fn forgets_what_was_used_least_recently(rt: HostRuntime) -> Result<(), AllocErro
     for key in [1, 2, 3] {
         insert(&rt, &mut cache, alloc, key, key * 10, None)?;
     }
-    same(&rt, (cache.get(1), cache.touch(2), cache.touch(9)), (Some(10), true, false));
+    same(
+        &rt,
+        (cache.get(1), cache.touch(2), cache.touch(9)),
+        (Some(10), true, false),
+    );
     insert(&rt, &mut cache, alloc, 4, 40, Some((3, 30)))?;
     insert(&rt, &mut cache, alloc, 1, 11, Some((1, 10)))?;
     insert(&rt, &mut cache, alloc, 5, 50, Some((2, 20)))?;
-    same(&rt, (cache.remove(4), cache.remove(4), cache.len()), (Some(40), None, 2));
+    same(
+        &rt,
+        (cache.remove(4), cache.remove(4), cache.len()),
+        (Some(40), None, 2),
+    );
     insert(&rt, &mut cache, alloc, 6, 60, None)?;
     insert(&rt, &mut cache, alloc, 7, 70, Some((1, 11)))?;
-    same(&rt, (cache.get(5), cache.get(1), cache.len()), (Some(50), None, 3));
+    same(
+        &rt,
+        (cache.get(5), cache.get(1), cache.len()),
+        (Some(50), None, 3),
+    );
     Ok(())
 }
 
@@ -63,6 +75,7 @@ fn frees_each_value_once(rt: HostRuntime) -> Result<(), AllocError> {
 
 /// How many keys the long test has, and a number without a factor in common with that.
 const KEYS: u64 = 400_000;
+
 const STRIDE: u64 = 123_457;
 
 /// A walk to each entry would take hours.
