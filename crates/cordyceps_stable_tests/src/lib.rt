@@ -1,4 +1,4 @@
-//! Tests of stable lists: each call, walks by spots, and drops.
+//! Tests of stable lists: each call, walks by spots, drops, and many operations beside a queue.
 #![tactic(auto)]
 
 #[cfg(test)]
@@ -7,6 +7,8 @@ mod compared;
 mod drops;
 #[cfg(test)]
 mod items;
+#[cfg(test)]
+mod many_operations;
 #[cfg(test)]
 mod single_calls;
 #[cfg(test)]
