@@ -2,4 +2,5 @@ mod Dealings
 mod Deadlines
 mod Entries
 mod Holding
+pub mod Turning
 mod Working

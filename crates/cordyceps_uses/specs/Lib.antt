@@ -3,4 +3,5 @@ pub mod Pool
 pub mod Recency
 pub mod RunQueue
 pub mod Tasks
+pub mod TimerWheel
 pub mod Timers

@@ -6,5 +6,6 @@ pub mod pool;
 pub mod recency;
 pub mod run_queue;
 pub mod tasks;
+pub mod timer_wheel;
 pub mod timers;
 pub mod tour;

@@ -15,3 +15,5 @@ mod task_ways;
 mod timer_orders;
 #[cfg(test)]
 mod tours;
+#[cfg(test)]
+mod wheels;
