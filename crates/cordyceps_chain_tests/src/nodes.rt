@@ -1,11 +1,14 @@
 //! Nodes and counts of steps.
 use crate::compared::same;
-use cordyceps_base::node::Node;
+use cordyceps_base::node::{Kind, Node, Refused};
 use cordyceps_base::shared::{MAX_ROOMS, StepError};
 use cordyceps_base::steps::{Steps, count_one};
 use cordyceps_base::{list, mpsc_queue, stack};
+use cordyceps_testing::counted::{Counted, Drops};
 use cordyceps_testing::nodes::node_of;
+use std::alloc::{AllocError, Global};
 use std::marker::Send;
+use std::process::Abort;
 use std::test::Fail;
 
 fn sent<T: Send>(value: T) -> T {
@@ -29,6 +32,44 @@ fn travels_where_its_value_does(rt: HostRuntime) -> Result<(), Fail> {
     let of_queue: Node<u64, mpsc_queue::Links<u64>> = sent(node_of(rt.alloc(), 3, 4)?);
     same(&rt, of_stack.into_value(), 2);
     same(&rt, of_queue.into_value(), 4);
+    Ok(())
+}
+
+/// A node of the number 7 and of a value that counts its drop. Where memory is refused the value comes back, and goes
+/// into the next call.
+fn seventh<L: Kind>(
+    rt: &impl Abort,
+    alloc: Global,
+    value: Counted,
+    drops: &Drops,
+) -> Result<Node<Counted, L>, AllocError> {
+    match Node::new(alloc, 7, value) {
+        Ok(node) => Ok(node),
+        Err(Refused { value }) => {
+            same(rt, (value.value, drops.count()), (70, 0));
+            node_of(alloc, 7, value)
+        }
+    }
+}
+
+/// Makes such a node, and drops it.
+fn comes_and_goes<L: Kind>(rt: &impl Abort, alloc: Global) -> Result<(), AllocError> {
+    let drops = Drops::new(alloc)?;
+    let value = Counted::new(70, &drops)?;
+    let node: Node<Counted, L> = seventh(rt, alloc, value, &drops)?;
+    same(rt, (node.id(), node.get().value), (7, 70));
+    same(rt, drops.count(), 0);
+    drop(node);
+    same(rt, drops.count(), 1);
+    Ok(())
+}
+
+// It says more where an allocation is made to fail, as `./refusals` does: the value then comes back from `Node::new`.
+#[test]
+fn makes_a_node_of_the_value_handed_back(rt: HostRuntime) -> Result<(), Fail> {
+    comes_and_goes::<list::Links<Counted>>(&rt, rt.alloc())?;
+    comes_and_goes::<stack::Links<Counted>>(&rt, rt.alloc())?;
+    comes_and_goes::<mpsc_queue::Links<Counted>>(&rt, rt.alloc())?;
     Ok(())
 }
 

@@ -1,17 +1,18 @@
 //! What a queue's core answers after memory was refused. These tests say more where an allocation is made to fail, as
-//! `rt try --test --fail-alloc N` does.
+//! `./refusals` does.
 use crate::compared::same;
 use crate::scripts::script_of;
 use cordyceps_queue::mpsc_queue::{
     QueueAnswer, QueueCore, QueueStep, Replay, StepError, TryDequeueError, replay,
 };
+use cordyceps_testing::counted::{Counted, Drops};
 use std::alloc::{AllocError, Global};
 use std::collections::VecDeque;
 use std::process::Abort;
 use std::test::*;
 
 /// Adds a party, by a second call where the first was refused memory.
-fn add_party(core: &mut QueueCore<u64>) -> Result<usize, StepError> {
+fn add_party<E: Drop>(core: &mut QueueCore<E>) -> Result<usize, StepError> {
     match core.add_party() {
         Err(StepError::Memory) => core.add_party(),
         answer => answer,
@@ -19,7 +20,7 @@ fn add_party(core: &mut QueueCore<u64>) -> Result<usize, StepError> {
 }
 
 /// Adds a room, by a second call where the first was refused memory.
-fn add_room(core: &mut QueueCore<u64>, party: usize) -> Result<(), StepError> {
+fn add_room<E: Drop>(core: &mut QueueCore<E>, party: usize) -> Result<(), StepError> {
     match core.add_room(party) {
         Err(StepError::Memory) => core.add_room(party),
         answer => answer,
@@ -68,45 +69,52 @@ fn parties_and_rooms_come_at_the_second_call(rt: HostRuntime) {
 }
 
 /// A batch that comes out, by a second call where the first was refused memory.
-fn takes_linked(
-    core: &mut QueueCore<u64>,
+fn take_linked(
+    core: &mut QueueCore<Counted>,
     party: usize,
     max: usize,
-) -> Result<Result<Vec<u64>, TryDequeueError>, StepError> {
+) -> Result<Result<Vec<Counted>, TryDequeueError>, StepError> {
     match core.take_linked(party, max) {
         Err(StepError::Memory) => core.take_linked(party, max),
         answer => answer,
     }
 }
 
-/// A batch of these elements comes out.
-fn batches(rt: &impl Abort, core: &mut QueueCore<u64>, max: usize, elements: &[u64]) {
-    match takes_linked(core, 0, max) {
-        Ok(Ok(batch)) => same(rt, batch.as_slice(), elements),
-        Ok(Err(why)) => same(rt, Err(why), Ok(elements.len())),
-        Err(error) => same(rt, Err(error), Ok(elements.len())),
+/// A batch of these values comes out, and is dropped.
+fn batches(rt: &impl Abort, core: &mut QueueCore<Counted>, max: usize, values: &[u64]) {
+    let Ok(Ok(batch)) = take_linked(core, 0, max) else {
+        panic!(rt; "no batch came out");
+    };
+    same(rt, batch.len(), values.len());
+    for (element, value) in batch.iter().zip(values) {
+        same(rt, element.value, *value);
     }
 }
 
 #[test]
-fn a_batch_comes_at_the_second_call(rt: HostRuntime) {
+fn a_batch_comes_at_the_second_call(rt: HostRuntime) -> Result<(), Fail> {
+    let drops = Drops::new(rt.alloc())?;
     let mut core = QueueCore::new(rt.alloc());
     same(&rt, add_party(&mut core), Ok(0));
-    for element in 0..3u64 {
+    for value in 0..3u64 {
         same(&rt, add_room(&mut core, 0), Ok(()));
-        enqueues(&rt, &mut core, 0, element, Ok(()));
+        assert!(rt; core.enqueue(0, Counted::new(value, &drops)?).is_ok());
     }
     batches(&rt, &mut core, 2, &[0, 1]);
-    enqueues(&rt, &mut core, 0, 3, Ok(()));
+    same(&rt, drops.count(), 2);
+    assert!(rt; core.enqueue(0, Counted::new(3, &drops)?).is_ok());
     batches(&rt, &mut core, 9, &[2, 3]);
-    dequeues(&rt, &mut core, 0, Err(TryDequeueError::Empty));
+    same(&rt, drops.count(), 4);
+    assert!(rt; matches!(core.try_dequeue(0), Ok(Err(TryDequeueError::Empty))));
+    Ok(())
 }
 
-/// Two parties, the first with a room.
-fn two(alloc: Global) -> Result<QueueCore<u64>, StepError> {
+/// Two parties, the first with two rooms.
+fn two<E: Drop>(alloc: Global) -> Result<QueueCore<E>, StepError> {
     let mut core = QueueCore::new(alloc);
     core.add_party()?;
     core.add_party()?;
+    core.add_room(0)?;
     core.add_room(0)?;
     Ok(core)
 }
@@ -164,25 +172,57 @@ fn begins(rt: &impl Abort, first: &Replay<u64>) {
     same(rt, first.back, None);
 }
 
-/// Asserts what a replay of the rest says, unless memory was refused.
+/// Asserts what a replay of the rest says, which comes to its end.
 fn goes_on(rt: &impl Abort, second: &Replay<u64>, taken: usize) {
     assert!(rt; taken <= ANSWERS.len());
-    if !second.stopped {
-        same(rt, second.replies.as_slice(), &ANSWERS[taken..]);
-        same(rt, second.rest.len(), 0);
-    }
+    same(rt, second.replies.as_slice(), &ANSWERS[taken..]);
+    same(rt, second.rest.len(), 0);
+    same(rt, second.back, None);
+    same(rt, second.stopped, false);
 }
 
 #[test]
-fn a_replay_goes_on_from_its_rest(rt: HostRuntime) {
-    let Ok(steps) = script(rt.alloc()) else {
-        return;
-    };
-    let Ok(core) = two(rt.alloc()) else {
-        return;
-    };
-    let first = replay(rt.alloc(), core, steps);
+fn a_replay_goes_on_from_its_rest(rt: HostRuntime) -> Result<(), Fail> {
+    let steps = script(rt.alloc())?;
+    let first = replay(rt.alloc(), two(rt.alloc())?, steps);
     begins(&rt, &first);
     let taken = first.replies.len();
     goes_on(&rt, &replay(rt.alloc(), first.core, first.rest), taken);
+    Ok(())
+}
+
+/// An element that comes in and goes out, one that is let go where it stands, and one that comes back.
+fn counted_script(
+    alloc: Global,
+    drops: &Drops,
+) -> Result<VecDeque<(usize, QueueStep<Counted>)>, AllocError> {
+    let steps = [
+        (0, QueueStep::Clear(Some(Counted::new(1, drops)?))),
+        (0, QueueStep::Swap),
+        (0, QueueStep::Link),
+        (0, QueueStep::Clear(Some(Counted::new(2, drops)?))),
+        (0, QueueStep::Swap),
+        (0, QueueStep::Clear(Some(Counted::new(3, drops)?))),
+        (0, QueueStep::Link),
+        (1, QueueStep::Take),
+        (1, QueueStep::ReadNext),
+        (1, QueueStep::ReadNext),
+    ];
+    script_of(alloc, steps)
+}
+
+#[test]
+fn a_replay_drops_each_element_once(rt: HostRuntime) -> Result<(), Fail> {
+    let drops = Drops::new(rt.alloc())?;
+    let steps = counted_script(rt.alloc(), &drops)?;
+    let first = replay(rt.alloc(), two(rt.alloc())?, steps);
+    let second = replay(rt.alloc(), first.core, first.rest);
+    same(&rt, second.rest.len(), 0);
+    same(&rt, drops.count(), 0);
+    drop(first.replies);
+    drop(second.replies);
+    same(&rt, drops.count(), 2);
+    drop(second.core);
+    same(&rt, drops.count(), 3);
+    Ok(())
 }

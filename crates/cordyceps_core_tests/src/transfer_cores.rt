@@ -286,25 +286,20 @@ fn begins(rt: &impl Abort, first: &Replay<u64>) {
     same(rt, first.back, None);
 }
 
-/// Asserts what a replay of the rest says, unless memory was refused.
+/// Asserts what a replay of the rest says, which comes to its end.
 fn goes_on(rt: &impl Abort, second: &Replay<u64>, taken: usize) {
     assert!(rt; taken <= ANSWERS.len());
-    if !second.stopped {
-        same(rt, second.replies.as_slice(), &ANSWERS[taken..]);
-        same(rt, second.rest.len(), 0);
-    }
+    same(rt, second.replies.as_slice(), &ANSWERS[taken..]);
+    same(rt, second.rest.len(), 0);
+    same(rt, second.back, None);
+    same(rt, second.stopped, false);
 }
 
-// It says more where an allocation is made to fail, as `rt try --test --fail-alloc N` does.
+// It says more where an allocation is made to fail, as `./refusals` does.
 #[test]
 fn finishes_from_the_rest(rt: HostRuntime) -> Result<(), Fail> {
-    let Ok(steps) = script(rt.alloc()) else {
-        return Ok(());
-    };
-    let Ok(core) = three(rt.alloc()) else {
-        return Ok(());
-    };
-    let first = replay(rt.alloc(), core, steps);
+    let steps = script(rt.alloc())?;
+    let first = replay(rt.alloc(), three(rt.alloc())?, steps);
     begins(&rt, &first);
     let taken = first.replies.len();
     goes_on(&rt, &replay(rt.alloc(), first.core, first.rest), taken);
@@ -312,7 +307,7 @@ fn finishes_from_the_rest(rt: HostRuntime) -> Result<(), Fail> {
 }
 
 /// Adds a party, by a second call where the first was refused memory.
-fn add_party(core: &mut TransferCore<u64>) -> Result<usize, StepError> {
+fn add_party<E: Drop>(core: &mut TransferCore<E>) -> Result<usize, StepError> {
     match core.add_party() {
         Err(StepError::Memory) => core.add_party(),
         answer => answer,
@@ -320,7 +315,7 @@ fn add_party(core: &mut TransferCore<u64>) -> Result<usize, StepError> {
 }
 
 /// Adds a room, by a second call where the first was refused memory.
-fn add_room(core: &mut TransferCore<u64>, party: usize) -> Result<(), StepError> {
+fn add_room<E: Drop>(core: &mut TransferCore<E>, party: usize) -> Result<(), StepError> {
     match core.add_room(party) {
         Err(StepError::Memory) => core.add_room(party),
         answer => answer,
@@ -328,22 +323,44 @@ fn add_room(core: &mut TransferCore<u64>, party: usize) -> Result<(), StepError>
 }
 
 /// Takes a batch, by a second call where the first was refused memory.
-fn take_all(core: &mut TransferCore<u64>, party: usize) -> Result<Vec<u64>, StepError> {
+fn take_all<E: Drop>(core: &mut TransferCore<E>, party: usize) -> Result<Vec<E>, StepError> {
     match core.take_all(party) {
         Err(StepError::Memory) => core.take_all(party),
         answer => answer,
     }
 }
 
+/// A value comes in and goes out alone.
+fn passes(
+    rt: &impl Abort,
+    core: &mut TransferCore<Counted>,
+    value: Counted,
+) -> Result<(), StepError> {
+    let wanted = value.value;
+    assert!(rt; matches!(core.push_was_empty(0, value), Ok(true)));
+    let batch = take_all(core, 0)?;
+    same(rt, batch.len(), 1);
+    for element in batch.iter() {
+        same(rt, element.value, wanted);
+    }
+    Ok(())
+}
+
 // It, too, says more where an allocation is made to fail.
 #[test]
 fn goes_on_after_refused_memory(rt: HostRuntime) -> Result<(), Fail> {
+    let drops = Drops::new(rt.alloc())?;
     let mut core = TransferCore::new(rt.alloc());
     same(&rt, add_party(&mut core), Ok(0));
     same(&rt, add_room(&mut core, 0), Ok(()));
-    pushes(&rt, &mut core, 0, 1, true);
-    same(&rt, take_all(&mut core, 0)?.as_slice(), [1].as_slice());
-    pushes(&rt, &mut core, 0, 2, true);
+    for value in 1..3u64 {
+        passes(&rt, &mut core, Counted::new(value, &drops)?)?;
+        same(&rt, drops.count(), value);
+    }
+    push(&mut core, 0, Counted::new(3, &drops)?);
+    same(&rt, drops.count(), 2);
+    drop(core);
+    same(&rt, drops.count(), 3);
     Ok(())
 }
 

@@ -86,7 +86,7 @@ fn a_dropped_consumer_drops_no_element(rt: HostRuntime) -> Result<(), AllocError
     Ok(())
 }
 
-// It says more where an allocation is made to fail, as `rt try --test --fail-alloc N` does: `new` then answers `Err`,
+// It says more where an allocation is made to fail, as `./refusals` does: `new` then answers `Err`,
 // and the next call, which meets none, makes a queue.
 #[test]
 fn makes_a_queue_after_refused_memory(rt: HostRuntime) -> Result<(), AllocError> {

@@ -17,3 +17,5 @@ mod seats;
 mod transfer_stacks;
 #[cfg(test)]
 mod transfer_threads;
+#[cfg(test)]
+mod without_nodes;

@@ -1,4 +1,5 @@
-//! Tests of replays of commands on tables of lists, stacks and sorted lists.
+//! Tests of replays of commands on tables of lists, stacks and sorted lists. They say more where an allocation is made
+//! to fail, as `./refusals` does: the rest is then run on.
 #![tactic(auto)]
 
 #[cfg(test)]

@@ -112,16 +112,19 @@ fn replies_of(
     Ok(replies)
 }
 
-/// Asserts that all commands were replayed, and what was replied.
+/// Asserts that all commands were replayed, and what was replied to the first of them and then to the rest.
 pub fn replied(
     rt: &impl Abort,
     alloc: Global,
-    replies: &[Reply],
+    replies: (&[Reply], &[Reply]),
     left: usize,
     wants: &[Want<'_>],
 ) -> Result<(), AllocError> {
     let wanted = replies_of(rt, alloc, wants)?;
-    same(rt, replies, wanted.as_slice());
+    let (first, second) = replies;
+    assert!(rt; first.len() <= wanted.len());
+    same(rt, first, &wanted[..first.len()]);
+    same(rt, second, &wanted[first.len()..]);
     same(rt, left, 0);
     Ok(())
 }

@@ -12,7 +12,7 @@ use std::collections::VecDeque;
 use std::process::Abort;
 use std::test::Fail;
 
-/// Runs the commands on the lists, and asserts what they reply.
+/// Runs the commands on the lists, and the rest where memory was refused, and asserts what they reply.
 pub fn replies(
     rt: &impl Abort,
     alloc: Global,
@@ -23,12 +23,13 @@ pub fn replies(
     requires { All Fits commands.items }
 {
     let mut lists = lists;
-    let played = replay_lists(alloc, &mut lists, commands);
+    let first = replay_lists(alloc, &mut lists, commands);
+    let second = replay_lists(alloc, &mut lists, first.rest);
     replied(
         rt,
         alloc,
-        played.replies.as_slice(),
-        played.rest.len(),
+        (first.replies.as_slice(), second.replies.as_slice()),
+        second.rest.len(),
         wants,
     )
 }

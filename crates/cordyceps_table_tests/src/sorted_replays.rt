@@ -18,7 +18,7 @@ fn by_tens(first: &Item, second: &Item) -> Ordering
     (first.value / 10).cmp(&(second.value / 10))
 }
 
-/// Runs the commands on empty lists, and asserts what they reply.
+/// Runs the commands on empty lists, and the rest where memory was refused, and asserts what they reply.
 fn replies(
     rt: &impl Abort,
     alloc: Global,
@@ -28,12 +28,13 @@ fn replies(
     requires { All Fits commands.items }
 {
     let mut sorteds = Sorteds::new(by_tens);
-    let played = replay_sorted(alloc, &mut sorteds, commands);
+    let first = replay_sorted(alloc, &mut sorteds, commands);
+    let second = replay_sorted(alloc, &mut sorteds, first.rest);
     replied(
         rt,
         alloc,
-        played.replies.as_slice(),
-        played.rest.len(),
+        (first.replies.as_slice(), second.replies.as_slice()),
+        second.rest.len(),
         wants,
     )
 }

@@ -9,7 +9,7 @@ use std::collections::VecDeque;
 use std::process::Abort;
 use std::test::Fail;
 
-/// Runs the commands on the stacks, and asserts what they reply.
+/// Runs the commands on the stacks, and the rest where memory was refused, and asserts what they reply.
 fn replies(
     rt: &impl Abort,
     alloc: Global,
@@ -20,12 +20,13 @@ fn replies(
     requires { All Fits commands.items }
 {
     let mut stacks = stacks;
-    let played = replay_stacks(alloc, &mut stacks, commands);
+    let first = replay_stacks(alloc, &mut stacks, commands);
+    let second = replay_stacks(alloc, &mut stacks, first.rest);
     replied(
         rt,
         alloc,
-        played.replies.as_slice(),
-        played.rest.len(),
+        (first.replies.as_slice(), second.replies.as_slice()),
+        second.rest.len(),
         wants,
     )
 }
