@@ -1,7 +1,8 @@
 -- What stays linked where single chains are joined, cut and walked along.
 use Rattle.std.proofs.Common.{◌≡◌, true, false, ℕ, zero, suc, ◌-◌, ◌<◌, List, [], ◌∷◌, ◌++◌, length, take, drop, slice_get, Option, Some, None, refl, sym, ap, ◌∙◌, subst, arith, append_assoc}
+use Rattle.std.specs.Prelude.{IfSome}
 use Rattle.core.specs.Option.{IsSome, is_some, option_or}
-use denote.RawPtr.{Ptr}
+use denote.RawPtr.{Ptr, InBlock, Testable}
 use Rattle.std.specs.declared.alloc.Global.{Global}
 use Rattle.cordyceps_base.specs.declared.boxes.Address.{Address}
 use Rattle.cordyceps_base.specs.declared.node.Block.{Block}
@@ -9,6 +10,7 @@ use Rattle.cordyceps_base.specs.declared.single_link.NextLink.{NextLink}
 use Rattle.cordyceps_base.specs.Boxes.{box_addresses, box_values, set_value}
 use Rattle.cordyceps_base.specs.Element.{Element, values as values_of}
 use Rattle.cordyceps_base.specs.Nodes.{elements, nodes_of, block_element}
+use Rattle.cordyceps_base.specs.Spots.{AreTestable}
 use Rattle.cordyceps_base.specs.SingleChain.{OwnedNode, with_next, relinked, Leads, EndsAfter, EndsAt, IsLed, IsLine, IsFront, IsParted}
 
 abbrev Node : Type 0 → Type 0 → Type 0
@@ -35,6 +37,11 @@ module _ {X K : Type 0} where
   pub some_first : (h : Option Address) (ns : List (OwnedNode X K)) → IsLed h ns → 0 < length ns → IsSome h
   some_first h [] f p = absurd (omega arith)
   some_first h (n ∷ ns) f p = subst IsSome (sym f.0) refl
+
+  -- an address that leads to nodes may be compared with null, as theirs may
+  pub led_somewhere : (h : Option Address) (ns : List (OwnedNode X K)) → IsLed h ns → AreTestable (box_addresses ns) → IfSome h (λ a. InBlock a.ptr × Testable a.ptr)
+  led_somewhere h [] f tested = subst (λ o. IfSome o (λ (a : Address). InBlock a.ptr × Testable a.ptr)) (sym f) tt
+  led_somewhere h (n ∷ ns) f tested = subst (λ o. IfSome o (λ (a : Address). InBlock a.ptr × Testable a.ptr)) (sym f.0) (tested.0, tested.1)
 
   -- nodes that are shown
   pub some_nodes : (ns : List (OwnedNode X K)) → (¬ (nodes_of ns ≡ [])) → 0 < length ns

@@ -8,4 +8,5 @@ pub mod NodeLends
 pub mod Nodes
 pub mod Runs
 pub mod SingleChain
+pub mod SingleLink
 pub mod Spots

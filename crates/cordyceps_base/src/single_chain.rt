@@ -1,14 +1,14 @@
 //! A singly linked chain of nodes, and the two ways to walk along it.
 ghost use Rattle.std.specs.Prelude.{◌≡◌, ◌-◌, ◌<◌, ◌↔◌, [], ◌∷◌, ◌++◌, length, slice_get, Some, IsTrue, IfSome, IfNone};
 ghost use Rattle.std.specs.Iterator.{YieldsFirstRef, item_count};
-ghost use denote.RawPtr.{Ptr};
+ghost use denote.RawPtr.{Ptr, InBlock, Testable};
 ghost use Rattle.cordyceps_base.specs.Element.{Element, ids, values};
 ghost use Rattle.cordyceps_base.specs.Nodes.{elements};
 ghost use Rattle.cordyceps_base.specs.SingleChain.{EndsAt, relinked};
 
 use crate::boxes::{Address, Boxes, Loose};
 use crate::node::{Block, Node};
-use crate::single_link::NextLink;
+use crate::single_link::{Next, NextLink};
 use std::alloc::Global;
 use std::marker::Model;
 use std::mem;
@@ -20,10 +20,12 @@ type Row<T, K> = Boxes<Block<T, NextLink<T, K>>, Global>;
 fn with_last_link<T, K>(row: Row<T, K>, last: Address, next: Option<Address>) -> Row<T, K>
     requires some { 0 < length row.blocks }
     requires at { EndsAt row.blocks last.ptr }
+    requires somewhere { IfSome next (λ a. InBlock a.ptr × Testable a.ptr) }
     ensures { result.blocks ≡ relinked row.blocks next }
 {
     let (front, mut end) = row.cut_last();
-    end.get_mut(last, 0).links.next = next;
+    let link = Next::of(next);
+    end.get_mut(last, 0).links.next = link;
     front.join(end)
 }
 
@@ -112,7 +114,8 @@ impl<T, K> SingleChain<T, K> {
         ensures { (place : Ptr) × (result ≡ (place, node) ∷ []) }
     {
         let Node { mut block } = node;
-        block.links.next = None;
+        let link = Next::of(None);
+        block.links.next = link;
         let (at, _, boxes) = Boxes::one(Loose::of(block));
         SingleChain {
             head: Some(at),
@@ -202,6 +205,7 @@ impl<T, K> SingleChain<T, K> {
             tail: last,
             boxes: others,
         } = other;
+        let others = others.tested();
         SingleChain {
             head,
             tail: last,
@@ -263,7 +267,7 @@ impl<T: Drop, K> SingleChain<T, K> {
         let block = front.get(first, 0);
         let alloc = block.alloc;
         let others = SingleChain {
-            head: block.links.next,
+            head: block.links.next.get(),
             tail,
             boxes: rest,
         };
@@ -304,7 +308,7 @@ impl<'a, T, K> Iterator for Values<'a, T, K> {
             Some(at) => {
                 let rest = self.rest;
                 let block = rest.get(at, 0);
-                self.next = block.links.next;
+                self.next = block.links.next.get();
                 self.rest = rest.behind_first();
                 Some(&block.value)
             }
@@ -384,7 +388,7 @@ impl<T, K> Cursor<T, K> {
         } = self;
         let here = at.unwrap();
         let (first, rest) = rest.cut(1);
-        let next = first.get(here, 0).links.next;
+        let next = first.get(here, 0).links.next.get();
         Cursor {
             head: head.or(at),
             before: here,
@@ -454,8 +458,11 @@ impl<T: Drop, K> Cursor<T, K> {
             rest,
         } = self;
         let Node { mut block } = node;
-        block.links.next = at;
+        let rest = rest.tested();
+        let link = Next::of(at);
+        block.links.next = link;
         let (place, _, new) = Boxes::one(Loose::of(block));
+        let new = new.tested();
         let tail = if at.is_none() { place } else { tail };
         if head.is_none() {
             return Cursor {

@@ -16,9 +16,10 @@ invariant_of-result g c =
     let i = c.self.inside in let cut = c.cut-first.ensures in let b = c.get.result.now in
     let moved = moved_on i.head i.at i.before.ptr i.tail.ptr i.front.blocks i.rest.blocks c.unwrap-here.result b c.self.invariant c.unwrap-here.ensures (subst (λ ns. slice_get (box_values ns) 0 ≡ Some b) cut.0 c.get.ensures) in
     let front = c.join.ensures ∙ ap (λ l. i.front.blocks ++ l) cut.0 in
-    subst (λ h. IsParted h c.unwrap-here.result.ptr b.links.next i.tail.ptr c.join.result.blocks c.cut-first.result.1.blocks) (sym c.or.ensures)
+    subst (λ n. IsParted c.or.result c.unwrap-here.result.ptr n i.tail.ptr c.join.result.blocks c.cut-first.result.1.blocks) (sym c.get-next.ensures)
+    (subst (λ h. IsParted h c.unwrap-here.result.ptr b.links.next i.tail.ptr c.join.result.blocks c.cut-first.result.1.blocks) (sym c.or.ensures)
     (subst (λ l. IsParted (option_or i.head i.at) c.unwrap-here.result.ptr b.links.next i.tail.ptr l c.cut-first.result.1.blocks) (sym front)
-    (subst (λ l. IsParted (option_or i.head i.at) c.unwrap-here.result.ptr b.links.next i.tail.ptr (i.front.blocks ++ take 1 i.rest.blocks) l) (sym cut.1) moved))
+    (subst (λ l. IsParted (option_or i.head i.at) c.unwrap-here.result.ptr b.links.next i.tail.ptr (i.front.blocks ++ take 1 i.rest.blocks) l) (sym cut.1) moved)))
 
 pub returns : goal.returns
 returns g c =

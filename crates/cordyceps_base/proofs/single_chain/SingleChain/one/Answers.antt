@@ -5,7 +5,7 @@ use Rattle.cordyceps_base.proofs.single_chain.SingleChain.one.Goals as goal
 
 pub invariant_of-result : goal.invariant_of-result
 invariant_of-result g c =
-    let at = c.one-boxes.result.0 in subst (IsLine (Some at) at.ptr) (sym c.one-boxes.ensures) ((refl, ap (λ x. x.links.next) c.of.ensures), refl)
+    let at = c.one-boxes.result.0 in subst (IsLine (Some at) at.ptr) (sym c.one-boxes.ensures) ((refl, ap (λ x. x.links.next) c.of.ensures ∙ c.of-link.ensures), refl)
 
 pub returns : goal.returns
 returns g c =
