@@ -3,6 +3,7 @@
 
 mod by_fn;
 mod cores;
+mod counter;
 mod grow;
 mod iter;
 mod order;
