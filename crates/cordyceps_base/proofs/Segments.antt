@@ -101,7 +101,18 @@ module _ {X : Type 0} where
       nodes_of-append (take k ns) (set_value (drop k ns) 0 (with_next b nx)) ∙ ap (λ s. nodes_of (take k ns) ++ s) (nodes_of-set (drop k ns) 0 b (with_next b nx) e refl refl)
       ∙ sym (nodes_of-append (take k ns) (drop k ns)) ∙ ap nodes_of (sym (take-drop k ns))
 
+  pub last_one : (p h : Ptr) (ns : Row X) (t q : Ptr) (j : ℕ) → suc j ≡ length ns → Segment p h ns t q → (a : Global) × (x : Block X (Links X)) × (drop j ns ≡ (t, a, x) ∷ [])
+  last_one p h [] t q j e f = absurd (omega (arith, e))
+  last_one p h (n ∷ []) t q zero e f = (n.1, n.2, λ i. (sym f.2.1 i, n.1, n.2) ∷ [])
+  last_one p h (n ∷ []) t q (suc j) e f = absurd (omega (arith, e))
+  last_one p h (n ∷ m ∷ ns) t q zero e f = absurd (omega (arith, e))
+  last_one p h (n ∷ m ∷ ns) t q (suc j) e f = last_one n.0 (next_of n.2) (m ∷ ns) t q j (omega (arith, e)) f.2
+
   -- ---- the first node
+  pub first_one : (p h : Ptr) (ns : Row X) (t q : Ptr) → 0 < length ns → Segment p h ns t q → (a : Global) × (x : Block X (Links X)) × (take 1 ns ≡ (h, a, x) ∷ [])
+  first_one p h [] t q some f = absurd (omega (arith, some))
+  first_one p h (n ∷ ns) t q some f = (n.1, n.2, λ i. (sym f.0 i, n.1, n.2) ∷ [])
+
   pub first_testable : (p f : Ptr) (ns : Row X) (t : Ptr) → Segment p f ns t null_ptr → AreTestable (box_addresses ns) → Testable f
   first_testable p f [] t s a = subst Testable (sym s.0) null_Testable
   first_testable p f (n ∷ ns) t s a = subst Testable (sym s.0) a.1

@@ -1,23 +1,19 @@
 //! A doubly linked chain of nodes.
 ghost use Rattle.std.specs.Prelude.{◌≡◌, ℕ, ◌+◌, ◌-◌, ◌^◌, ◌<◌, ◌≤◌, [], ◌∷◌, ◌++◌, length, take, drop, slice_get, Some, MatchOption};
 ghost use Rattle.std.specs.Borrow.{sem};
-ghost use denote.RawPtr.{Ptr, null_ptr};
-ghost use Rattle.cordyceps_base.specs.Boxes.{box_addresses};
+ghost use denote.RawPtr.{Ptr};
 ghost use Rattle.cordyceps_base.specs.BySpot.{HasSpot, HoldsAt, IsTaken, IsPutBefore, IsPutAfter, IsMovedFront, IsMovedBack, IsFirst, IsLast, AreNext};
-ghost use Rattle.cordyceps_base.specs.DoubleChain.{Segment};
 ghost use Rattle.cordyceps_base.specs.Element.{Element, ids, values};
 ghost use Rattle.cordyceps_base.specs.Nodes.{elements, nodes_of, spots, LiesAt};
-ghost use Rattle.cordyceps_base.specs.Spots.{index_of, AreApart, AreTestable};
+ghost use Rattle.cordyceps_base.specs.Spots.{index_of, AreApart};
 
 use crate::boxes::{Address, Boxes, Loose};
+use crate::double_row::{Row, behind, between, followed_by, node_of};
 use crate::list::Links;
 use crate::node::{Block, Node};
 use std::alloc::Global;
 use std::marker::Model;
 use std::mem;
-
-/// The nodes of a chain, or of a part of one.
-type Row<T> = Boxes<Block<T, Links<T>>, Global>;
 
 /// Nodes that are linked both ways. A contract sees them as a list, each as the address where it lies and its element.
 ///
@@ -306,8 +302,12 @@ impl<T: Drop> DoubleChain<T> {
         requires { length self.old + 1 < 2 ^ 64 }
         ensures { (place : Ptr) × (self.new ≡ (place, node) ∷ self.old) }
     {
-        let rest = self.take();
-        self.put(DoubleChain::one(node).join(rest));
+        if self.len == 0 {
+            self.put(DoubleChain::one(node));
+            return;
+        }
+        let (nodes, _) = self.take().with_first(node);
+        self.put(nodes);
     }
 
     /// Puts a node last.
@@ -315,8 +315,12 @@ impl<T: Drop> DoubleChain<T> {
         requires { length self.old + 1 < 2 ^ 64 }
         ensures { (place : Ptr) × (self.new ≡ self.old ++ (place, node) ∷ []) }
     {
-        let rest = self.take();
-        self.put(rest.join(DoubleChain::one(node)));
+        if self.len == 0 {
+            self.put(DoubleChain::one(node));
+            return;
+        }
+        let (nodes, _) = self.take().with_last(node);
+        self.put(nodes);
     }
 
     /// Takes the first node out.
@@ -328,10 +332,9 @@ impl<T: Drop> DoubleChain<T> {
         if nodes.len() == 1 {
             return nodes.only();
         }
-        let second = nodes.next(nodes.head(), 0);
-        let (first, rest) = nodes.cut(second, 1);
+        let (node, rest) = nodes.without_first();
         self.put(rest);
-        first.only()
+        node
     }
 
     /// Takes the last node out.
@@ -343,11 +346,109 @@ impl<T: Drop> DoubleChain<T> {
         if nodes.len() == 1 {
             return nodes.only();
         }
-        let last = nodes.tail();
-        let before = nodes.len() - 1;
-        let (rest, last) = nodes.cut(last, before);
+        let (node, rest) = nodes.without_last();
         self.put(rest);
-        last.only()
+        node
+    }
+
+    /// The nodes behind one more, and its address.
+    fn with_first(self, node: Node<T, Links<T>>) -> (DoubleChain<T>, Address)
+        requires some { 0 < length self }
+        requires fits { length self + 1 < 2 ^ 64 }
+        ensures { result.0 ≡ (result.1.ptr, node) ∷ self }
+    {
+        let DoubleChain {
+            head,
+            tail,
+            len,
+            boxes: mut back,
+        } = self;
+        let Node { mut block } = node;
+        block.links.prev = Address::nowhere();
+        block.links.next = head;
+        let (at, _, new) = Boxes::one(Loose::of(block));
+        back.get_mut(head, 0).links.prev = at;
+        let whole = DoubleChain {
+            head: at,
+            tail,
+            len: len + 1,
+            boxes: new.join(back).tested(),
+        };
+        (whole, at)
+    }
+
+    /// The nodes before one more, and its address.
+    fn with_last(self, node: Node<T, Links<T>>) -> (DoubleChain<T>, Address)
+        requires some { 0 < length self }
+        requires fits { length self + 1 < 2 ^ 64 }
+        ensures { result.0 ≡ self ++ (result.1.ptr, node) ∷ [] }
+    {
+        let DoubleChain {
+            head,
+            tail,
+            len,
+            boxes: mut front,
+        } = self;
+        let Node { mut block } = node;
+        block.links.prev = tail;
+        block.links.next = Address::nowhere();
+        let (at, _, new) = Boxes::one(Loose::of(block));
+        front.get_mut(tail, len - 1).links.next = at;
+        let whole = DoubleChain {
+            head,
+            tail: at,
+            len: len + 1,
+            boxes: front.join(new).tested(),
+        };
+        (whole, at)
+    }
+
+    /// The first node, and those behind it.
+    fn without_first(self) -> (Node<T, Links<T>>, DoubleChain<T>)
+        requires { 1 < length self }
+        ensures { (place : Ptr) × (self ≡ (place, result.0) ∷ result.1) }
+    {
+        let DoubleChain {
+            head,
+            tail,
+            len,
+            boxes,
+        } = self;
+        let others = len - 1;
+        let next = boxes.get(head, 0).links.next;
+        let (one, mut rest) = boxes.cut(1);
+        rest.get_mut(next, 0).links.prev = Address::nowhere();
+        let left = DoubleChain {
+            head: next,
+            tail,
+            len: others,
+            boxes: rest.tested(),
+        };
+        (node_of(head, one), left)
+    }
+
+    /// The last node, and those before it.
+    fn without_last(self) -> (Node<T, Links<T>>, DoubleChain<T>)
+        requires { 1 < length self }
+        ensures { (place : Ptr) × (self ≡ result.1 ++ (place, result.0) ∷ []) }
+    {
+        let DoubleChain {
+            head,
+            tail,
+            len,
+            boxes,
+        } = self;
+        let before = len - 1;
+        let prev = boxes.get(tail, before).links.prev;
+        let (mut front, one) = boxes.cut(before);
+        front.get_mut(prev, before - 1).links.next = Address::nowhere();
+        let left = DoubleChain {
+            head,
+            tail: prev,
+            len: before,
+            boxes: front.tested(),
+        };
+        (node_of(tail, one), left)
     }
 }
 
@@ -402,65 +503,6 @@ impl<T: Drop> DoubleChain<T> {
         self.put(front.join(back));
         node
     }
-}
-
-/// A row whose last node leads to `next` in place of what it led to, and the address of its first.
-fn followed_by<T>(row: Row<T>, head: Address, last: Address, next: Address) -> (Address, Row<T>)
-    requires linked { (q : Ptr) × Segment null_ptr head.ptr row.blocks last.ptr q }
-    requires tested { AreTestable (box_addresses row.blocks) }
-    ensures linked { Segment null_ptr result.0.ptr result.1.blocks last.ptr next.ptr }
-    ensures same { nodes_of result.1.blocks ≡ nodes_of row.blocks }
-{
-    if last.is_somewhere() {
-        let (front, mut end) = row.cut_last();
-        end.get_mut(last, 0).links.next = next;
-        (head, front.join(end))
-    } else {
-        (next, row)
-    }
-}
-
-/// A row whose first node leads back to `prev` in place of what it led back to, and the address of its last.
-fn behind<T>(row: Row<T>, first: Address, tail: Address, prev: Address) -> (Address, Row<T>)
-    requires linked { (p : Ptr) × Segment p first.ptr row.blocks tail.ptr null_ptr }
-    requires tested { AreTestable (box_addresses row.blocks) }
-    ensures linked { Segment prev.ptr first.ptr result.1.blocks result.0.ptr null_ptr }
-    ensures same { nodes_of result.1.blocks ≡ nodes_of row.blocks }
-{
-    if first.is_somewhere() {
-        let mut row = row;
-        row.get_mut(first, 0).links.prev = prev;
-        (tail, row)
-    } else {
-        (prev, row)
-    }
-}
-
-/// A node between two rows: its address, those of the first node and the last, and the whole row.
-fn between<T: Drop>(
-    front: Row<T>,
-    head: Address,
-    prev: Address,
-    node: Node<T, Links<T>>,
-    next: Address,
-    back: Row<T>,
-    tail: Address,
-) -> (Address, Address, Address, Row<T>)
-    requires front { (q : Ptr) × Segment null_ptr head.ptr front.blocks prev.ptr q }
-    requires back { (p : Ptr) × Segment p next.ptr back.blocks tail.ptr null_ptr }
-    requires front_tested { AreTestable (box_addresses front.blocks) }
-    requires back_tested { AreTestable (box_addresses back.blocks) }
-    ensures linked { Segment null_ptr result.1.ptr result.3.blocks result.2.ptr null_ptr }
-    ensures holds { nodes_of result.3.blocks ≡ nodes_of front.blocks ++ (result.0.ptr, node) ∷ nodes_of back.blocks }
-{
-    let Node { block } = node;
-    let (at, _, one) = Boxes::one(Loose::of(block));
-    let mut one = one;
-    one.get_mut(at, 0).links.next = next;
-    one.get_mut(at, 0).links.prev = prev;
-    let (head, front) = followed_by(front, head, prev, at);
-    let (tail, back) = behind(back, next, tail, at);
-    (at, head, tail, front.join(one.join(back)))
 }
 
 /// Nodes that are reached by their addresses alone.

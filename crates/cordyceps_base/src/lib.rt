@@ -7,6 +7,7 @@
 
 pub mod boxes;
 pub mod double_chain;
+mod double_row;
 pub mod linked;
 pub mod list;
 pub mod mpsc_queue;

@@ -1,8 +1,7 @@
-use Rattle.std.proofs.Common.{◌-◌, ◌++◌, take-append-drop, sym, ◌∙◌}
+use Rattle.std.proofs.Common.{[], ◌∷◌, ◌++◌, sym, ◌∙◌}
 use Rattle.cordyceps_base.proofs.double_chain.DoubleChain.unlink_back.Goals as goal
 
 pub returns : goal.returns
 returns g c =
-    let cut = c.cut-rest.ensures in
-    let (place, is) = c.only-2.ensures in
-    (place, sym c.take-nodes.ensures.0 ∙ sym (take-append-drop (c.len-before.result - 1) c.take-nodes.result) ∙ (λ i. sym cut.0 i ++ sym cut.1 i) ∙ (λ i. sym c.put.ensures i ++ is i))
+    let (place, is) = c.without_last-node.ensures in
+    (place, sym c.take-nodes.ensures.0 ∙ is ∙ (λ i. sym c.put.ensures i ++ (place, c.without_last-node.result.0) ∷ []))

@@ -2,7 +2,7 @@ use Rattle.std.proofs.Common.{◌∷◌, [], ◌++◌, ap, ◌∙◌, sym, subst
 use denote.RawPtr.{null_ptr}
 use Rattle.cordyceps_base.specs.DoubleChain.{Segment}
 use Rattle.cordyceps_base.proofs.DoubleChain.{with_next, with_prev, linked_one, segment_join}
-use Rattle.cordyceps_base.proofs.double_chain.between.Goals as goal
+use Rattle.cordyceps_base.proofs.double_row.between.Goals as goal
 
 pub returns-clause-linked : goal.returns-clause-linked
 returns-clause-linked g c =

@@ -3,7 +3,7 @@ use denote.RawPtr.{null_ptr}
 use Rattle.cordyceps_base.proofs.DoubleChain.{with_prev, relinked_first}
 use Rattle.cordyceps_base.proofs.Nodes.{nodes_of-set}
 use Rattle.cordyceps_base.proofs.Segments.{first_testable, first_there, no_first}
-use Rattle.cordyceps_base.proofs.double_chain.behind.Goals as goal
+use Rattle.cordyceps_base.proofs.double_row.behind.Goals as goal
 
 pub is_somewhere-requires : goal.is_somewhere-requires
 is_somewhere-requires g c = let (p, f) = c.requires.linked in first_testable p c.args.first.ptr c.args.row.blocks c.args.tail.ptr f c.requires.tested

@@ -4,7 +4,7 @@ use Rattle.cordyceps_base.specs.Nodes.{nodes_of}
 use Rattle.cordyceps_base.specs.DoubleChain.{Segment}
 use Rattle.cordyceps_base.proofs.DoubleChain.{with_next}
 use Rattle.cordyceps_base.proofs.Segments.{null_Testable, last_testable, some_last, last_there, last_relinked, shown_relinked, no_last}
-use Rattle.cordyceps_base.proofs.double_chain.followed_by.Goals as goal
+use Rattle.cordyceps_base.proofs.double_row.followed_by.Goals as goal
 
 pub is_somewhere-requires : goal.is_somewhere-requires
 is_somewhere-requires g c = let (q, f) = c.requires.linked in last_testable _ c.args.head.ptr c.args.row.blocks c.args.last.ptr q f c.requires.tested null_Testable

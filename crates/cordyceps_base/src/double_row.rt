@@ -1,0 +1,95 @@
+//! Rows of nodes that lead on and back, where a chain is parted or joined there.
+ghost use Rattle.std.specs.Prelude.{◌≡◌, [], ◌∷◌, ◌++◌};
+ghost use denote.RawPtr.{Ptr, null_ptr};
+ghost use Rattle.cordyceps_base.specs.Boxes.{box_addresses};
+ghost use Rattle.cordyceps_base.specs.DoubleChain.{Segment};
+ghost use Rattle.cordyceps_base.specs.Nodes.{nodes_of};
+ghost use Rattle.cordyceps_base.specs.Spots.{AreTestable};
+
+use crate::boxes::{Address, Boxes, Loose};
+use crate::list::Links;
+use crate::node::{Block, Node};
+use std::alloc::Global;
+
+/// The nodes of a chain, or of a part of one.
+pub(crate) type Row<T> = Boxes<Block<T, Links<T>>, Global>;
+
+/// The one node of a row.
+pub(crate) fn node_of<T: Drop>(at: Address, row: Row<T>) -> Node<T, Links<T>>
+    requires { (a : Global) × (x : Block T (Links T)) × (row.blocks ≡ (at.ptr, a, x) ∷ []) }
+    ensures { nodes_of row.blocks ≡ (at.ptr, result) ∷ [] }
+{
+    let alloc = row.get(at, 0).alloc;
+    Node {
+        block: row.only(at, alloc).into_box(),
+    }
+}
+
+/// A row whose last node leads to `next` in place of what it led to, and the address of its first.
+pub(crate) fn followed_by<T>(
+    row: Row<T>,
+    head: Address,
+    last: Address,
+    next: Address,
+) -> (Address, Row<T>)
+    requires linked { (q : Ptr) × Segment null_ptr head.ptr row.blocks last.ptr q }
+    requires tested { AreTestable (box_addresses row.blocks) }
+    ensures linked { Segment null_ptr result.0.ptr result.1.blocks last.ptr next.ptr }
+    ensures same { nodes_of result.1.blocks ≡ nodes_of row.blocks }
+{
+    if last.is_somewhere() {
+        let (front, mut end) = row.cut_last();
+        end.get_mut(last, 0).links.next = next;
+        (head, front.join(end))
+    } else {
+        (next, row)
+    }
+}
+
+/// A row whose first node leads back to `prev` in place of what it led back to, and the address of its last.
+pub(crate) fn behind<T>(
+    row: Row<T>,
+    first: Address,
+    tail: Address,
+    prev: Address,
+) -> (Address, Row<T>)
+    requires linked { (p : Ptr) × Segment p first.ptr row.blocks tail.ptr null_ptr }
+    requires tested { AreTestable (box_addresses row.blocks) }
+    ensures linked { Segment prev.ptr first.ptr result.1.blocks result.0.ptr null_ptr }
+    ensures same { nodes_of result.1.blocks ≡ nodes_of row.blocks }
+{
+    if first.is_somewhere() {
+        let mut row = row;
+        row.get_mut(first, 0).links.prev = prev;
+        (tail, row)
+    } else {
+        (prev, row)
+    }
+}
+
+/// A node between two rows: its address, those of the first node and the last, and the whole row.
+pub(crate) fn between<T: Drop>(
+    front: Row<T>,
+    head: Address,
+    prev: Address,
+    node: Node<T, Links<T>>,
+    next: Address,
+    back: Row<T>,
+    tail: Address,
+) -> (Address, Address, Address, Row<T>)
+    requires front { (q : Ptr) × Segment null_ptr head.ptr front.blocks prev.ptr q }
+    requires back { (p : Ptr) × Segment p next.ptr back.blocks tail.ptr null_ptr }
+    requires front_tested { AreTestable (box_addresses front.blocks) }
+    requires back_tested { AreTestable (box_addresses back.blocks) }
+    ensures linked { Segment null_ptr result.1.ptr result.3.blocks result.2.ptr null_ptr }
+    ensures holds { nodes_of result.3.blocks ≡ nodes_of front.blocks ++ (result.0.ptr, node) ∷ nodes_of back.blocks }
+{
+    let Node { block } = node;
+    let (at, _, one) = Boxes::one(Loose::of(block));
+    let mut one = one;
+    one.get_mut(at, 0).links.next = next;
+    one.get_mut(at, 0).links.prev = prev;
+    let (head, front) = followed_by(front, head, prev, at);
+    let (tail, back) = behind(back, next, tail, at);
+    (at, head, tail, front.join(one.join(back)))
+}
