@@ -107,7 +107,7 @@ impl<'a, T: Linked<Links<T>>> Consumer<'a, T> {
         let backoff = Backoff::new();
         for _ in rt.forever() {
             match self.try_dequeue() {
-                Ok(handle) => return Some(handle),
+                Ok(first) => return Some(first),
                 Err(why) => {
                     if found_nothing(why) {
                         return None;

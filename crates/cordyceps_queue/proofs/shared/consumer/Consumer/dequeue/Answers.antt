@@ -35,7 +35,7 @@ returns-then-found_nothing-clause-answer g c =
 
 pub returns-in-Ok-clause-whole : goal.returns-in-Ok-clause-whole
 returns-in-Ok-clause-whole g c is =
-    subst (λ u. Consumes (Ok c.in-Ok.handle) u c.try_dequeue.new.self) (sym (at_first (Consumes (Err error.Inconsistent)) c.args.self.now c.loop.self c.loop.invariant.2 is)) c.in-Ok.ensures.answer
+    subst (λ u. Consumes (Ok c.in-Ok.first) u c.try_dequeue.new.self) (sym (at_first (Consumes (Err error.Inconsistent)) c.args.self.now c.loop.self c.loop.invariant.2 is)) c.in-Ok.ensures.answer
 
 pub returns-then-found_nothing-clause-whole : goal.returns-then-found_nothing-clause-whole
 returns-then-found_nothing-clause-whole g c is =
