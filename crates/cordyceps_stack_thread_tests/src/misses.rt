@@ -15,6 +15,9 @@ use std::thread::Threads;
 /// How many turns a thread has at most, until a try of each has missed. No schedule has to make one miss.
 const TURNS: u64 = 10_000_000;
 
+/// How often a thread pushes, while another disturbs it.
+const PUSHES: u64 = 10_000;
+
 /// How often the threads meet.
 const ROUNDS: u64 = 10;
 
@@ -142,6 +145,48 @@ impl<'s> Pusher<'s> {
         self
     }
 
+    /// Pushes often by the call that waits, and takes where it has none left, and then sets the flag.
+    fn push_often<R: Wait + Abort>(mut self, rt: &R, way: Way, done: &AtomicBool) -> Pusher<'s> {
+        let mut pushed = 0u64;
+        for _ in 0..TURNS {
+            match self.left.pop() {
+                Some(node) => {
+                    self.push_again(rt, way, node);
+                    pushed = pushed.wrapping_add(1);
+                }
+                None => self.take(),
+            }
+            if pushed == PUSHES {
+                break;
+            }
+        }
+        same(rt, pushed, PUSHES);
+        done.store(true, Ordering::SeqCst);
+        self
+    }
+
+    /// Pushes by one try, or takes where it has none left, until the flag is set.
+    fn disturb(mut self, rt: &impl Abort, done: &AtomicBool) -> Pusher<'s> {
+        for _ in 0..TURNS {
+            if done.load(Ordering::SeqCst) {
+                break;
+            }
+            match self.left.pop() {
+                Some(node) => self.try_again(rt, node),
+                None => self.take(),
+            }
+        }
+        self
+    }
+
+    /// Pushes an element by one try, or keeps it.
+    fn try_again(&mut self, rt: &impl Abort, node: Handle) {
+        match self.seat.try_push(rt, node) {
+            Ok(first) => self.told(first),
+            Err(back) => self.left.push(back),
+        }
+    }
+
     /// Takes in what another thread has left, and what it counted.
     fn add(&mut self, other: Pusher<'s>) {
         self.first = self.first.wrapping_add(other.first);
@@ -179,7 +224,24 @@ fn run_both<'s, R: Threads + Wait + Abort + Sync>(
         await_flag(rt, done);
         await_flag(rt, also);
     };
-    thread::join(rt, work, watch).0
+    let both = thread::join(rt, work, watch).0;
+    same(rt, met.missed.load(Ordering::SeqCst), 2);
+    both
+}
+
+/// Runs a thread that pushes often and one that disturbs it, joined once the first one's flag is set.
+fn run_disturbed<'s, R: Threads + Wait + Abort + Sync>(
+    rt: &R,
+    way: Way,
+    pushers: (Pusher<'s>, Pusher<'s>),
+) -> (Pusher<'s>, Pusher<'s>) {
+    let flag = AtomicBool::new(false);
+    let done = &flag;
+    let (first, second) = pushers;
+    let one = move || first.push_often(rt, way, done);
+    let two = move || second.disturb(rt, done);
+    let work = move || thread::join(rt, one, two);
+    thread::join(rt, work, || await_flag(rt, done)).0
 }
 
 /// Compares what two threads have at last, with what is held, with what they had at first.
@@ -187,6 +249,7 @@ fn round<R: Threads + Wait + Abort + Sync>(
     rt: &R,
     alloc: Global,
     way: Way,
+    disturbed: bool,
 ) -> Result<(), AllocError> {
     let drops = Drops::new(alloc)?;
     let tens = pair(alloc, 10, &drops)?;
@@ -196,7 +259,11 @@ fn round<R: Threads + Wait + Abort + Sync>(
     let one = Pusher::with_pair(seat.split(rt, 2), tens);
     let two = Pusher::with_pair(seat.split(rt, 2), twenties);
     let mut all = Pusher::new(seat);
-    let (one, two) = run_both(rt, way, (one, two));
+    let (one, two) = if disturbed {
+        run_disturbed(rt, way, (one, two))
+    } else {
+        run_both(rt, way, (one, two))
+    };
     all.add(one);
     all.add(two);
     all.take();
@@ -210,7 +277,7 @@ fn round<R: Threads + Wait + Abort + Sync>(
 #[test]
 fn pushes_after_a_miss(rt: HostRuntime) -> Result<(), AllocError> {
     for _ in 0..ROUNDS {
-        round(&rt, rt.alloc(), Way::Push)?;
+        round(&rt, rt.alloc(), Way::Push, false)?;
     }
     Ok(())
 }
@@ -218,7 +285,17 @@ fn pushes_after_a_miss(rt: HostRuntime) -> Result<(), AllocError> {
 #[test]
 fn pushes_after_a_miss_and_tells(rt: HostRuntime) -> Result<(), AllocError> {
     for _ in 0..ROUNDS {
-        round(&rt, rt.alloc(), Way::PushWasEmpty)?;
+        round(&rt, rt.alloc(), Way::PushWasEmpty, false)?;
     }
     Ok(())
+}
+
+#[test]
+fn pushes_beside_a_thread_that_disturbs(rt: HostRuntime) -> Result<(), AllocError> {
+    round(&rt, rt.alloc(), Way::Push, true)
+}
+
+#[test]
+fn pushes_and_tells_beside_a_thread_that_disturbs(rt: HostRuntime) -> Result<(), AllocError> {
+    round(&rt, rt.alloc(), Way::PushWasEmpty, true)
 }
