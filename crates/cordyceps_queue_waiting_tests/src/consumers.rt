@@ -20,6 +20,9 @@ use std::thread::Threads;
 /// How often each test's threads run.
 const ROUNDS: u64 = 10;
 
+/// How often a thread that has the right looks whether another got it.
+const PAUSES: u64 = 1000;
+
 /// Waits for the right, takes the element 1 and then none, and sets the flag.
 fn consume_twice<R: Wait + Abort>(rt: &R, seat: Seated<'_>, done: &AtomicBool) {
     let mut consumer = consume(rt, seat);
@@ -160,5 +163,48 @@ fn the_last_owner_frees_the_queue(rt: HostRuntime) -> Result<(), AllocError> {
     dropped(&rt, &drops, 2);
     drop(other.consumer(&rt));
     dropped(&rt, &drops, 3);
+    Ok(())
+}
+
+/// Waits for the right, sets the flag, and takes the element 1 by one try.
+fn consume_and_tell<R: Wait + Abort>(rt: &R, owner: Owner, done: &AtomicBool) {
+    let mut owned = owner.consume(rt, done);
+    same(rt, found(owned.try_dequeue()), Ok(1));
+}
+
+/// Holds the right for a while, in which nobody else gets it, and then gives it back.
+fn hold_right(rt: &impl Abort, owned: OwnedConsumer<Counted>, done: &AtomicBool) {
+    for _ in 0..PAUSES {
+        same(rt, done.load(Ordering::SeqCst), false);
+        thread::yield_now();
+    }
+    drop(owned);
+    await_flag(rt, done);
+}
+
+/// One thread waits for the right, while another holds it for a while.
+fn wait_and_hold<R: Threads + Wait + Abort + Sync>(
+    rt: &R,
+    waiting: Owner,
+    holding: OwnedConsumer<Counted>,
+) {
+    let flag = AtomicBool::new(false);
+    let done = &flag;
+    let wait = move || consume_and_tell(rt, waiting, done);
+    thread::join(rt, wait, move || hold_right(rt, holding, done));
+}
+
+#[test]
+fn consume_owned_waits_for_a_release(rt: HostRuntime) -> Result<(), AllocError> {
+    for _ in 0..ROUNDS {
+        let drops = Drops::new(rt.alloc())?;
+        let handle = element(rt.alloc(), 1, &drops)?;
+        let mut owner = Owner::new(rt.alloc())?;
+        owner.put(&rt, handle);
+        let other = owner.share()?;
+        let holding = owner.consumer(&rt);
+        wait_and_hold(&rt, other, holding);
+        dropped(&rt, &drops, 1);
+    }
     Ok(())
 }

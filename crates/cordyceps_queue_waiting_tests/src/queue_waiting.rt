@@ -197,3 +197,39 @@ fn consume_waits_for_a_release(rt: HostRuntime) -> Result<(), AllocError> {
     }
     Ok(())
 }
+
+/// Waits for the element 1, and sets the flag once it came.
+fn dequeue_and_tell<R: Wait + Abort>(rt: &R, mut seat: Seated<'_>, done: &AtomicBool) {
+    let came = dequeue(rt, &mut seat);
+    done.store(true, Ordering::SeqCst);
+    same(rt, came, Some(1));
+}
+
+/// One thread waits for an element, while another holds the right for a while.
+fn dequeue_and_hold<R: Threads + Wait + Abort + Sync>(
+    rt: &R,
+    waiting: Seated<'_>,
+    holding: Consumer<'_, Counted>,
+) {
+    let flag = AtomicBool::new(false);
+    let done = &flag;
+    let wait = move || dequeue_and_tell(rt, waiting, done);
+    thread::join(rt, wait, move || hold_right(rt, holding, done));
+}
+
+#[test]
+fn dequeue_waits_for_a_release(rt: HostRuntime) -> Result<(), AllocError> {
+    for _ in 0..ROUNDS {
+        let drops = Drops::new(rt.alloc())?;
+        let handle = element(rt.alloc(), 1, &drops)?;
+        let (queue, party) = MpscQueue::new(rt.alloc(), 1)?;
+        let mut seat = Seated::at(&queue, party);
+        let first = seat.split(0);
+        let other = seat.split(0);
+        puts(&rt, &mut seat, handle);
+        let consumer = consumer_of(&rt, first);
+        dequeue_and_hold(&rt, other, consumer);
+        dropped(&rt, &drops, 1);
+    }
+    Ok(())
+}
