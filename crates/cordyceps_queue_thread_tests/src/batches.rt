@@ -1,7 +1,7 @@
 //! Batches that consumers take at once: alone, and while threads put elements in.
 
 use crate::compared::same;
-use crate::items::{Handle, dropped, elements, gives, number};
+use crate::items::{Handle, dropped, element, elements, gives, number};
 use crate::seats::{Seated, consumer_of, three_queued};
 use cordyceps_queue::mpsc_queue::{Batch, Consumer, MpscQueue, OwnedConsumer, TryDequeueError};
 use cordyceps_testing::counted::{Counted, Drops};
@@ -16,6 +16,9 @@ const TRIES: u64 = 10_000_000;
 
 /// How many elements a producer puts in.
 const EACH: u64 = 1000;
+
+/// How often each test's threads run.
+const ROUNDS: u64 = 10;
 
 /// Compares the numbers that one call gave with those that are wanted. It has to give some.
 fn takes(rt: &impl Abort, came: Result<Batch<Counted>, TryDequeueError>, wanted: &[u64]) {
@@ -48,6 +51,35 @@ fn a_batch_has_all_that_is_held(rt: HostRuntime) -> Result<(), AllocError> {
     let drops = Drops::new(rt.alloc())?;
     let (queue, party) = three_queued(&rt, rt.alloc(), &drops)?;
     let mut consumer = consumer_of(&rt, &queue, party);
+    takes_all(&rt, &mut consumer);
+    same(&rt, consumer.rooms(), 3);
+    dropped(&rt, &drops, 3);
+    Ok(())
+}
+
+/// Three elements of two parties: the first puts two in, and the second one.
+fn two_put_three(
+    rt: &impl Abort,
+    alloc: Global,
+    seats: (Seated<'_>, Seated<'_>),
+    drops: &Drops,
+) -> Result<(), AllocError> {
+    let (mut first, mut second) = seats;
+    first.put(rt, element(alloc, 1, drops)?);
+    first.put(rt, element(alloc, 2, drops)?);
+    second.put(rt, element(alloc, 3, drops)?);
+    Ok(())
+}
+
+#[test]
+fn a_batch_has_what_two_parties_put_in(rt: HostRuntime) -> Result<(), AllocError> {
+    let drops = Drops::new(rt.alloc())?;
+    let (queue, party) = MpscQueue::new(rt.alloc(), 3)?;
+    let mut seat = Seated::at(&queue, party);
+    let seats = (seat.split(&rt, 2), seat.split(&rt, 1));
+    two_put_three(&rt, rt.alloc(), seats, &drops)?;
+    let mut consumer = seat.consumer(&rt);
+    same(&rt, consumer.rooms(), 0);
     takes_all(&rt, &mut consumer);
     same(&rt, consumer.rooms(), 3);
     dropped(&rt, &drops, 3);
@@ -209,16 +241,18 @@ fn in_order(rt: &impl Abort, numbers: &[u64], first: u64) {
 
 #[test]
 fn batches_keep_the_order_of_each_producer(rt: HostRuntime) -> Result<(), AllocError> {
-    let drops = Drops::new(rt.alloc())?;
-    let (queue, party) = MpscQueue::new(rt.alloc(), 4000)?;
-    let mut seat = Seated::at(&queue, party);
-    let rows = Rows::new(&rt, rt.alloc(), &mut seat, 0, &drops)?;
-    let more = Rows::new(&rt, rt.alloc(), &mut seat, 2000, &drops)?;
-    let consumer = seat.consumer(&rt);
-    let numbers = produce_and_drain(&rt, rt.alloc(), rows, more, consumer)?;
-    for first in [0u64, 1000, 2000, 3000] {
-        in_order(&rt, &numbers, first);
+    for _ in 0..ROUNDS {
+        let drops = Drops::new(rt.alloc())?;
+        let (queue, party) = MpscQueue::new(rt.alloc(), 4000)?;
+        let mut seat = Seated::at(&queue, party);
+        let rows = Rows::new(&rt, rt.alloc(), &mut seat, 0, &drops)?;
+        let more = Rows::new(&rt, rt.alloc(), &mut seat, 2000, &drops)?;
+        let consumer = seat.consumer(&rt);
+        let numbers = produce_and_drain(&rt, rt.alloc(), rows, more, consumer)?;
+        for first in [0u64, 1000, 2000, 3000] {
+            in_order(&rt, &numbers, first);
+        }
+        dropped(&rt, &drops, 4000);
     }
-    dropped(&rt, &drops, 4000);
     Ok(())
 }

@@ -25,6 +25,9 @@ type Pair<T> = (T, T);
 /// How many elements a producer puts in.
 const EACH: u64 = 250;
 
+/// How often each test's threads run.
+const ROUNDS: u64 = 10;
+
 /// What two producers put in: elements from this number on, and from a thousand more.
 fn two_rows(alloc: Global, first: u64, drops: &Drops) -> Result<Pair<Vec<Handle>>, AllocError> {
     let one = elements(alloc, first, EACH, drops)?;
@@ -111,18 +114,20 @@ fn produce_four<R: Threads + Abort + Sync>(
 
 #[test]
 fn four_producers_keep_their_order(rt: HostRuntime) -> Result<(), AllocError> {
-    let drops = Drops::new(rt.alloc())?;
-    let nodes = two_rows(rt.alloc(), 0, &drops)?;
-    let more = two_rows(rt.alloc(), 2000, &drops)?;
-    let (queue, party) = MpscQueue::new(rt.alloc(), 1000)?;
-    let mut seat = Seated::at(&queue, party);
-    let seats = two_seats(&rt, &mut seat);
-    let others = two_seats(&rt, &mut seat);
-    let numbers = produce_four(&rt, rt.alloc(), (seats, others), (nodes, more), seat)?;
-    for first in [0u64, 1000, 2000, 3000] {
-        in_order(&rt, &numbers, first);
+    for _ in 0..ROUNDS {
+        let drops = Drops::new(rt.alloc())?;
+        let nodes = two_rows(rt.alloc(), 0, &drops)?;
+        let more = two_rows(rt.alloc(), 2000, &drops)?;
+        let (queue, party) = MpscQueue::new(rt.alloc(), 1000)?;
+        let mut seat = Seated::at(&queue, party);
+        let seats = two_seats(&rt, &mut seat);
+        let others = two_seats(&rt, &mut seat);
+        let numbers = produce_four(&rt, rt.alloc(), (seats, others), (nodes, more), seat)?;
+        for first in [0u64, 1000, 2000, 3000] {
+            in_order(&rt, &numbers, first);
+        }
+        dropped(&rt, &drops, 1000);
     }
-    dropped(&rt, &drops, 1000);
     Ok(())
 }
 
@@ -163,16 +168,18 @@ fn produce_and_cross<R: Threads + Abort + Sync>(
 
 #[test]
 fn crosses_queues(rt: HostRuntime) -> Result<(), AllocError> {
-    let drops = Drops::new(rt.alloc())?;
-    let nodes = elements(rt.alloc(), 0, EACH, &drops)?;
-    let (queue, party) = MpscQueue::new(rt.alloc(), 250)?;
-    let mut seat = Seated::at(&queue, party);
-    let producer = seat.split(&rt, 250);
-    let consumer = seat.consumer(&rt);
-    let (second, party) = MpscQueue::new(rt.alloc(), 1)?;
-    let other = Seated::at(&second, party);
-    produce_and_cross(&rt, producer, nodes, consumer, other);
-    dropped(&rt, &drops, EACH);
+    for _ in 0..ROUNDS {
+        let drops = Drops::new(rt.alloc())?;
+        let nodes = elements(rt.alloc(), 0, EACH, &drops)?;
+        let (queue, party) = MpscQueue::new(rt.alloc(), 250)?;
+        let mut seat = Seated::at(&queue, party);
+        let producer = seat.split(&rt, 250);
+        let consumer = seat.consumer(&rt);
+        let (second, party) = MpscQueue::new(rt.alloc(), 1)?;
+        let other = Seated::at(&second, party);
+        produce_and_cross(&rt, producer, nodes, consumer, other);
+        dropped(&rt, &drops, EACH);
+    }
     Ok(())
 }
 
