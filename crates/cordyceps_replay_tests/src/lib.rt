@@ -10,6 +10,8 @@ mod core_scripts;
 #[cfg(test)]
 mod failures;
 #[cfg(test)]
+mod flags;
+#[cfg(test)]
 mod list_lines;
 #[cfg(test)]
 mod list_scripts;

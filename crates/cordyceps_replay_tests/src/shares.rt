@@ -1,6 +1,7 @@
 //! Two threads that share a stack, and what mode `share` writes.
 
 use crate::compared::same;
+use crate::flags::await_flag;
 use crate::streams::{Paper, gives};
 use cordyceps::TransferStack;
 use replay_driver::fault::Fault;
@@ -16,6 +17,9 @@ use std::thread::Threads;
 
 /// How often a worker looks for the other one.
 const TURNS: u64 = 10_000_000;
+
+/// How often each test's threads run.
+const ROUNDS: u64 = 10;
 
 /// What one worker did at the gate.
 #[derive(Drop)]
@@ -114,31 +118,76 @@ fn shares<R: Threads + Wait + Abort + Sync, G: Gate>(rt: &R, alloc: Global, gate
     same(rt, (party.rooms(), stack.is_empty(&mut party)), (4, true));
 }
 
+/// Shares in a thread of its own, and joins it once its flag is set.
+fn watch_shares<R: Threads + Wait + Abort + Sync, G: Gate>(rt: &R, alloc: Global, gate: &G) {
+    let flag = AtomicBool::new(false);
+    let done = &flag;
+    let work = move || share_and_tell(rt, alloc, gate, done);
+    thread::join(rt, work, || await_flag(rt, done));
+}
+
+/// Shares, and sets the flag.
+fn share_and_tell<R: Threads + Wait + Abort + Sync, G: Gate>(
+    rt: &R,
+    alloc: Global,
+    gate: &G,
+    done: &AtomicBool,
+) {
+    shares(rt, alloc, gate);
+    done.store(true, Ordering::SeqCst);
+}
+
 #[test]
 fn share_workers_meet(rt: HostRuntime) -> Result<(), Fail> {
-    let meeting = Meeting::new();
-    shares(&rt, rt.alloc(), &meeting);
-    // none waited for the other in vain, none but the two came, and each passed once before each of its pushes
-    let alone = meeting.alone.load(Ordering::SeqCst);
-    let strange = meeting.strange.load(Ordering::SeqCst);
-    let complete = (
-        meeting.workers.0.is_complete(),
-        meeting.workers.1.is_complete(),
-    );
-    same(
-        &rt,
-        (alone, strange, complete),
-        (false, false, (true, true)),
-    );
+    for _ in 0..ROUNDS {
+        let meeting = Meeting::new();
+        watch_shares(&rt, rt.alloc(), &meeting);
+        // none waited for the other in vain, none but the two came, and each passed once before each of its pushes
+        let alone = meeting.alone.load(Ordering::SeqCst);
+        let strange = meeting.strange.load(Ordering::SeqCst);
+        let complete = (
+            meeting.workers.0.is_complete(),
+            meeting.workers.1.is_complete(),
+        );
+        same(
+            &rt,
+            (alone, strange, complete),
+            (false, false, (true, true)),
+        );
+    }
     Ok(())
 }
 
 #[test]
 fn shares_often(rt: HostRuntime) -> Result<(), Fail> {
     for _ in 0..50u8 {
-        shares(&rt, rt.alloc(), &OpenGate);
+        watch_shares(&rt, rt.alloc(), &OpenGate);
     }
     Ok(())
+}
+
+/// What a shared run ends with, and what it wrote.
+type Line = (Result<(), Fault>, Vec<u8>);
+
+/// Runs mode `share` on a paper, and sets the flag.
+fn line_and_tell<R: Threads + Wait + Abort + Sync>(
+    rt: &R,
+    alloc: Global,
+    paper: Paper,
+    done: &AtomicBool,
+) -> Line {
+    let mut output = ToWrite::new(paper);
+    let end = run_share(rt, alloc, &mut output);
+    done.store(true, Ordering::SeqCst);
+    (end, output.into_inner().written)
+}
+
+/// Does so in a thread of its own, and joins it once its flag is set.
+fn watch_line<R: Threads + Wait + Abort + Sync>(rt: &R, alloc: Global, paper: Paper) -> Line {
+    let flag = AtomicBool::new(false);
+    let done = &flag;
+    let work = move || line_and_tell(rt, alloc, paper, done);
+    thread::join(rt, work, || await_flag(rt, done)).0
 }
 
 #[test]
@@ -146,19 +195,18 @@ fn a_shared_run_writes_its_line(rt: HostRuntime) -> Result<(), Fail> {
     let line = b"10 11 20 21\n";
     for room in 0..line.len() + 1 {
         for fails in [true, false] {
-            let mut output = ToWrite::new(Paper {
+            let paper = Paper {
                 written: Vec::new(rt.alloc()),
                 room,
                 fails,
-            });
-            let end = run_share(&rt, rt.alloc(), &mut output);
+            };
+            let came = watch_line(&rt, rt.alloc(), paper);
             let expected = if room < line.len() {
                 Err(Fault::Write)
             } else {
                 Ok(())
             };
-            let written = output.into_inner().written;
-            gives(&rt, b"", (end, written), expected, &line[..room]);
+            gives(&rt, b"", came, expected, &line[..room]);
         }
     }
     Ok(())
