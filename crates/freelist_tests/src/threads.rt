@@ -8,6 +8,9 @@ use std::process::Abort;
 use std::thread;
 use std::thread::Threads;
 
+/// How often each test's threads run.
+const ROUNDS: u64 = 10;
+
 /// Two threads put the blocks back, each some, while a third gets so many.
 fn put_and_get<R: Threads + Abort + Sync>(
     rt: &R,
@@ -27,15 +30,17 @@ fn put_and_get<R: Threads + Abort + Sync>(
 
 #[test]
 fn what_threads_put_back_comes_once(rt: HostRuntime) -> Result<(), AllocError> {
-    let drops = Drops::new(rt.alloc())?;
-    let low = blocks(rt.alloc(), 0, 32, &drops)?;
-    let high = blocks(rt.alloc(), 32, 64, &drops)?;
-    let (list, mut party) = FreeList::new(rt.alloc(), 64)?;
-    let first = Remote::at(&list, list.split(&mut party, 32));
-    let second = Remote::at(&list, list.split(&mut party, 32));
-    let all = put_and_get(&rt, list.local(party), (first, second), (low, high), 64);
-    dropped(&rt, &drops, 0);
-    each_once(&rt, rt.alloc(), all, 64)?;
-    dropped(&rt, &drops, 64);
+    for _ in 0..ROUNDS {
+        let drops = Drops::new(rt.alloc())?;
+        let low = blocks(rt.alloc(), 0, 32, &drops)?;
+        let high = blocks(rt.alloc(), 32, 64, &drops)?;
+        let (list, mut party) = FreeList::new(rt.alloc(), 64)?;
+        let first = Remote::at(&list, list.split(&mut party, 32));
+        let second = Remote::at(&list, list.split(&mut party, 32));
+        let all = put_and_get(&rt, list.local(party), (first, second), (low, high), 64);
+        dropped(&rt, &drops, 0);
+        each_once(&rt, rt.alloc(), all, 64)?;
+        dropped(&rt, &drops, 64);
+    }
     Ok(())
 }
