@@ -1,8 +1,8 @@
 -- What every legal history says of producers and of the holder; and that of two takings at most one gets the right.
-use Rattle.std.proofs.Common.{◌≡◌, ◌+◌, ◌⊎◌, List, [], ◌∷◌, ◌++◌, map, take, drop, reverse, length, Option, Some, None, refl, ap, sym, ◌∙◌, subst, inl, inr, arith}
+use Rattle.std.proofs.Common.{◌≡◌, ◌+◌, ◌⊎◌, List, [], ◌∷◌, ◌++◌, map, take, drop, reverse, length, Option, Some, None, refl, ap, sym, ◌∙◌, subst, inl, inr, append-nil, arith}
 use Rattle.std.proofs.lemmas.List.{take-append-drop, take-map, drop-map}
-use Rattle.std.proofs.Math.Seq.{take-append_seam}
-use Rattle.cordyceps_queue.specs.History.{Event, Swap, Link, Take, Busy, Look, Out, Empty, Free, came, went, holder}
+use Rattle.std.proofs.Math.Seq.{take-append_seam, drop-append_seam}
+use Rattle.cordyceps_queue.specs.History.{Event, Swap, Link, Take, Busy, Look, Out, Empty, Free, IsLegal, came, went, held, holder}
 use Rattle.cordyceps_queue.specs.Laws.{first_if, sent, sent_by, put_in_by, takes_by, frees_by, HasRight, ProducersInOrder, OneHolder}
 use Rattle.cordyceps_queue.specs.Past as past
 use Rattle.cordyceps_queue.proofs.CoreTheory.Basics.{some_inj, none_some}
@@ -103,6 +103,12 @@ module _ {P : Type 0} (same : Discrete P) where
   is_of : (o : Option P) (q : P) → (o ≡ Some q) ⊎ (o ≡ Some q → ⊥)
   is_of None q = inr (λ e. none_some e)
   is_of (Some p) q = elim (same q p) [ yes e ↦ inl (ap Some (sym e)) | no n ↦ inr (λ e. n (sym (some_inj e))) ]
+
+-- what came out and then what is held is what was put in
+pub nothing_lost : {P E : Type 0} (same : Discrete P) (h : List (Event P E)) → IsLegal same h → went h ++ held h ≡ came h
+nothing_lost same h legal =
+    let i = legal.in_order h [] (sym (append-nil h)) in
+    ap (λ l. went h ++ l) (ap (drop (length (went h))) (sym i.1) ∙ drop-append_seam (went h) i.0) ∙ i.1
 
 pub producers_in_order : (P E : Type 0) → ProducersInOrder P E
 producers_in_order P E same h before later legal e =

@@ -9,6 +9,7 @@ pub mod EnqueueKeeps
 pub mod HolderAllowed
 pub mod PartingKeeps
 pub mod PartsJoin
+pub mod PartyMoves
 pub mod PartySeats
 pub mod ReturnKeeps
 pub mod RightHolds

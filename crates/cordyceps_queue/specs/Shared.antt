@@ -2,6 +2,7 @@
 pub mod Batches
 pub mod Calls
 pub mod OwnedConsumer
+pub mod Moves
 pub mod Parting
 pub mod Parts
 pub mod Plays

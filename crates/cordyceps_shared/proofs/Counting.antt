@@ -1,10 +1,11 @@
 -- Sums over lists, and how often a number stands in one.
-use Rattle.std.proofs.Common.{◌≡◌, ◌≢◌, ℕ, zero, suc, ◌+◌, ◌≤◌, List, [], ◌∷◌, ◌++◌, set, eqb, refl, sym, ap, eq-eqb, ne_eqb, arith, take, drop, take-append-drop, length, Bool, true, false, ◌||◌, ◌<◌, ◌∙◌}
+use Rattle.std.proofs.Common.{◌≡◌, ◌≢◌, ℕ, zero, suc, ◌+◌, ◌≤◌, List, [], ◌∷◌, ◌++◌, set, eqb, refl, sym, ap, eq-eqb, ne_eqb, arith, take, drop, take-append-drop, length, map, reverse, Bool, true, false, ◌||◌, ◌<◌, ◌∙◌}
 use mathlib.Core.Option.{some, some-injective, some-ne-none}
 use lib.ListN.{get_elem?}
 use mathlib.Core.Logic.{dite}
 use native.Mathlib.Decide.{ℕ_discrete}
 use Rattle.std.specs.List.{IsDistinct, list_any, AllByRecursion}
+use Rattle.std.proofs.lemmas.List.{reverse-append}
 use Rattle.std.proofs.lemmas.Map.Steps.{length-le_from_distinct_below}
 use Rattle.cordyceps_shared.specs.Counts.{tally, one_if, times, below}
 
@@ -37,6 +38,14 @@ module _ {X : Type 0} (f : X → ℕ) where
 
   pub tally_cut : (n : ℕ) (xs : List X) → tally f (drop n xs) + tally f (take n xs) ≡ tally f xs
   tally_cut n xs = let whole = ap (tally f) (take-append-drop n xs) in omega (arith, tally_append (take n xs) (drop n xs))
+
+pub tally_reverse : {X : Type 0} (f : X → ℕ) (xs : List X) → tally f (reverse xs) ≡ tally f xs
+tally_reverse f [] = refl
+tally_reverse f (x ∷ xs) = omega (arith, tally_reverse f xs, tally_append f (reverse xs) (x ∷ []), ap (tally f) (reverse-append (x ∷ []) xs))
+
+pub tally_map : {X Y : Type 0} (h : X → Y) (f : Y → ℕ) (xs : List X) → tally f (map h xs) ≡ tally (λ x. f (h x)) xs
+tally_map h f [] = refl
+tally_map h f (x ∷ xs) = ap (λ n. f (h x) + n) (tally_map h f xs)
 
 pub one_here : (r : ℕ) → one_if (eqb r r) ≡ 1
 one_here r = ap one_if (eq-eqb r r refl)

@@ -1,9 +1,12 @@
+pub mod Acting
 pub mod Adding
 pub mod Counting
 pub mod Cutting
+pub mod Halving
 pub mod Interleaving
 pub mod Joining
 pub mod ListWrites
+pub mod Moving
 pub mod Naming
 pub mod Owning
 pub mod Renaming

@@ -1,3 +1,4 @@
+pub mod Acting
 pub mod Counts
 pub mod Histories
 pub mod Interleaving

@@ -1,8 +1,7 @@
 -- What a core keeps from step to step.
-use Rattle.std.proofs.Common.{◌≡◌, ◌≢◌, ℕ, zero, suc, ◌+◌, List, [], ◌∷◌, ◌++◌, length, reverse, drop, refl, ap, sym, ◌∙◌, subst, append-nil, length-append, arith}
+use Rattle.std.proofs.Common.{◌≡◌, ◌≢◌, ℕ, zero, suc, ◌+◌, List, [], ◌∷◌, ◌++◌, length, reverse, refl, ap, sym, ◌∙◌, subst, append-nil, length-append, arith}
 use Rattle.std.specs.Prelude.{Option, Some, None, slice_get, slice_set}
 use Rattle.std.proofs.lemmas.List.{reverse-append, reverse-reverse}
-use Rattle.std.proofs.Math.Seq.{drop-append_seam}
 use native.Mathlib.Decide.{ℕ_discrete}
 use mathlib.Core.Path.{fun_ext}
 use Rattle.cordyceps_base.specs.Runs.{Ran, history_after, AllSay}
@@ -31,6 +30,7 @@ use Rattle.cordyceps_queue.proofs.CoreTheory.AnyStep.{step_keeps}
 use Rattle.cordyceps_queue.proofs.Legality.{held_of, holder_of, told_legal}
 use Rattle.cordyceps_queue.proofs.CoreTheory.ListWrites.{get_push_same, get_push_other, get_beyond, read, read_pushed}
 use Rattle.cordyceps_queue.proofs.CoreTheory.NewMachines.{new_meets}
+use Rattle.cordyceps_queue.proofs.PartyOrder.{nothing_lost}
 use Rattle.cordyceps_queue.proofs.CoreTheory.Simulation.{others_room, own_room, parties_of, parties_put, words_eq, me_of, Follows, acts_follow}
 
 set_as_it_was : {X : Type 0} (xs : List X) (i : ℕ) (y : X) → slice_get xs i ≡ Some y → slice_set xs i y ≡ xs
@@ -156,12 +156,7 @@ module _ {E : Type 0} where
 
   -- what a core met, and a run of it keeps
   went_held : (h : List (Event ℕ E)) (m : Machine E) → CoreMeets h m → went h ++ held h ≡ came h
-  went_held h m was =
-      let w = was.legal.in_order h [] (sym (append-nil h)) in
-      ap (λ l. went h ++ l) (held_rest (went h) w.0 (came h) w.1) ∙ w.1
-    where
-      held_rest : (xs ys zs : List E) → xs ++ ys ≡ zs → drop (length xs) zs ≡ ys
-      held_rest xs ys zs e = ap (drop (length xs)) (sym e) ∙ drop-append_seam xs ys
+  went_held h m was = nothing_lost _ h was.legal
 
   run_law : (all : List (ℕ × QueueStep E)) (old new : Machine E) (replies : List (Answered E)) (rest : List (ℕ × QueueStep E)) → (r : Ran core_step all old new replies rest) → (h : List (Event ℕ E)) → CoreMeets h old
       → CoreMeets (history_after core_step core_events h old r.ran) new × AllSay core_step core_events core_says h old r.ran

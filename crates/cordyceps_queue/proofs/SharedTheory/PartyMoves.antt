@@ -1,0 +1,114 @@
+-- What each call put in and took out, and that nothing is lost.
+use Rattle.std.proofs.Common.{◌≡◌, ℕ, ◌+◌, List, [], ◌∷◌, ◌++◌, map, flat_map, length, Option, refl, sym, ap, ◌∙◌, subst, inl, inr, arith}
+use Rattle.std.specs.Prelude.{◌⊎◌, Result, Ok, Err}
+use Rattle.std.proofs.lemmas.List.{map-append, length-map, append-nil}
+use Rattle.std.proofs.lemmas.List.Concat.{flat_map-append}
+use Rattle.cordyceps_shared.specs.Shares.{Name}
+use Rattle.cordyceps_shared.specs.Standings.{name_of}
+use Rattle.cordyceps_shared.proofs.Moving.{moves_none, moves_then, moves_by}
+use Rattle.cordyceps_queue.specs.declared.cores.steps.TryDequeueError.{TryDequeueError}
+use Rattle.cordyceps_queue.specs.declared.cores.steps.TryDequeueError.TheVariants as error
+use Rattle.cordyceps_queue.specs.History.{Event, Swap, Link, Take, Busy, Look, Out, Empty, Free, came, went, held, IsLegal}
+use Rattle.cordyceps_queue.specs.Shared.Batches.{outs, StopsAt, TakesLinked}
+use Rattle.cordyceps_queue.specs.Shared.Calls.{PartyOf, Legal, Adds, Enqueues, Dequeues, Consumes, TakesRight, FindsBusy, GivesRight, Retries, AtLast, MissesDequeue, try_result}
+use Rattle.cordyceps_queue.specs.Shared.Moves.{put_by, got_by, Moves, given}
+use Rattle.cordyceps_queue.proofs.PartyOrder.{nothing_lost}
+
+module _ {P E A : Type 0} (f : E → A) where
+  -- ---- whole histories
+  pub all_put : (h : List (Event P E)) → flat_map (put_by f) h ≡ map f (came h)
+  all_put [] = refl
+  all_put (Swap p e ∷ h) = ap (λ l. f e ∷ l) (all_put h)
+  all_put (Link p ∷ h) = all_put h
+  all_put (Take p ∷ h) = all_put h
+  all_put (Busy p ∷ h) = all_put h
+  all_put (Look p ∷ h) = all_put h
+  all_put (Out p e ∷ h) = all_put h
+  all_put (Empty p ∷ h) = all_put h
+  all_put (Free p ∷ h) = all_put h
+
+  pub all_got : (h : List (Event P E)) → flat_map (got_by f) h ≡ map f (went h)
+  all_got [] = refl
+  all_got (Out p e ∷ h) = ap (λ l. f e ∷ l) (all_got h)
+  all_got (Link p ∷ h) = all_got h
+  all_got (Take p ∷ h) = all_got h
+  all_got (Busy p ∷ h) = all_got h
+  all_got (Look p ∷ h) = all_got h
+  all_got (Swap p e ∷ h) = all_got h
+  all_got (Empty p ∷ h) = all_got h
+  all_got (Free p ∷ h) = all_got h
+
+  -- what a legal history holds, behind what came out of it, is what was put in
+  pub all_kept : (same : Discrete P) (h : List (Event P E)) → IsLegal same h → flat_map (got_by f) h ++ map f (held h) ≡ flat_map (put_by f) h
+  all_kept same h legal =
+      ap (λ l. l ++ map f (held h)) (all_got h) ∙ (sym (map-append f (went h) (held h)) ∙ (ap (map f) (nothing_lost same h legal) ∙ sym (all_put h)))
+
+  -- ---- tries that gave elements
+  outs_put : (p : P) (es : List E) → flat_map (put_by f) (outs p es) ≡ []
+  outs_put p [] = refl
+  outs_put p (e ∷ es) = outs_put p es
+
+  outs_got : (p : P) (es : List E) → flat_map (got_by f) (outs p es) ≡ map f es
+  outs_got p [] = refl
+  outs_got p (e ∷ es) = ap (λ l. f e ∷ l) (outs_got p es)
+
+module _ {E A : Type 0} (f : E → A) where
+  moved : (u w : PartyOf E) (es : List (Event Name E)) → Adds u es w → w.rooms + length (flat_map (put_by f) es) ≡ u.rooms + length (flat_map (got_by f) es)
+      → Moves f (flat_map (put_by f) es) (flat_map (got_by f) es) u w
+  moved u w es a rooms = moves_by (put_by f) (got_by f) (λ h. Legal h) u w es a rooms
+
+  -- ---- one call
+  pub moves_enqueue : (e : E) (u w : PartyOf E) → Enqueues e u w → Moves f (f e ∷ []) [] u w
+  moves_enqueue e u w c = moved u w (Swap (name_of u) e ∷ Link (name_of u) ∷ []) c.0 (omega (arith, c.1))
+
+  pub moves_dequeue : (r : Result E TryDequeueError) (u w : PartyOf E) → Dequeues r u w → Moves f [] (given f r) u w
+  moves_dequeue (Ok e) u w c = let n = name_of u in moved u w (Take n ∷ Look n ∷ Out n e ∷ Free n ∷ []) c.0 (omega (arith, c.1))
+  moves_dequeue (Err error.Empty) u w c = let n = name_of u in moved u w (Take n ∷ Look n ∷ Empty n ∷ Free n ∷ []) c.0 (omega (arith, c.1))
+  moves_dequeue (Err error.Inconsistent) u w c = let n = name_of u in moved u w (Take n ∷ Look n ∷ Free n ∷ []) c.0 (omega (arith, c.1))
+  moves_dequeue (Err error.Busy) u w c = moved u w (Busy (name_of u) ∷ []) c.0 (omega (arith, c.1))
+
+  pub moves_consume : (r : Result E TryDequeueError) (u w : PartyOf E) → Consumes r u w → Moves f [] (given f r) u w
+  moves_consume (Ok e) u w c = let n = name_of u in moved u w (Look n ∷ Out n e ∷ []) c.0 (omega (arith, c.1))
+  moves_consume (Err error.Empty) u w c = let n = name_of u in moved u w (Look n ∷ Empty n ∷ []) c.0 (omega (arith, c.1))
+  moves_consume (Err error.Inconsistent) u w c = moved u w (Look (name_of u) ∷ []) c.0 (omega (arith, c.1))
+  moves_consume (Err error.Busy) u w c = absurd c
+
+  pub moves_right : (u w : PartyOf E) → TakesRight u w ⊎ (FindsBusy u w ⊎ GivesRight u w) → Moves f [] [] u w
+  moves_right u w (inl c) = moved u w (Take (name_of u) ∷ []) c.0 (omega (arith, c.1))
+  moves_right u w (inr (inl c)) = moved u w (Busy (name_of u) ∷ []) c.0 (omega (arith, c.1))
+  moves_right u w (inr (inr c)) = moved u w (Free (name_of u) ∷ []) c.0 (omega (arith, c.1))
+
+  -- a batch, and what the last try added
+  batch_moved : (u w : PartyOf E) (es : List E) (more : List (Event Name E)) → flat_map (put_by f) more ≡ [] → flat_map (got_by f) more ≡ [] → Adds u (outs (name_of u) es ++ more) w
+      → w.rooms ≡ u.rooms + length es → Moves f [] (map f es) u w
+  batch_moved u w es more none_in none_out a rooms =
+      let n = name_of u in
+      let put = flat_map-append (put_by f) (outs n es) more ∙ (λ i. outs_put f n es i ++ none_in i) in
+      let got = flat_map-append (got_by f) (outs n es) more ∙ ((λ i. outs_got f n es i ++ none_out i) ∙ append-nil (map f es)) in
+      subst (λ (z : List A × List A). Moves f z.0 z.1 u w) (λ i. (put i, got i))
+      (moved u w (outs n es ++ more) a (omega (arith, rooms, length-map es f, ap (λ (z : List A). length z) put, ap (λ (z : List A). length z) got)))
+
+  batch_stops : (max : ℕ) (es : List E) (u w : PartyOf E) → StopsAt max es u w → w.rooms ≡ u.rooms + length es → Moves f [] (map f es) u w
+  batch_stops max es u w (inl s) rooms = batch_moved u w es [] refl refl (subst (λ z. Adds u z w) (sym (append-nil (outs (name_of u) es))) s.1) rooms
+  batch_stops max es u w (inr (inl s)) rooms = batch_moved u w es (Look (name_of u) ∷ Empty (name_of u) ∷ []) refl refl s.1 rooms
+  batch_stops max es u w (inr (inr s)) rooms = batch_moved u w es (Look (name_of u) ∷ []) refl refl s.1 rooms
+
+  pub moves_linked : (max : ℕ) (es : List E) (u w : PartyOf E) → TakesLinked max es u w → Moves f [] (map f es) u w
+  moves_linked max es u w t = batch_stops max es u w t.stops t.rooms
+
+  -- ---- a call that waits: tries that moved nothing, and the last
+  pub moves_at_last : (Fails Ends : PartyOf E → PartyOf E → Type 0) (s g : List A) → ((u w : PartyOf E) → Fails u w → Moves f [] [] u w)
+      → ((u w : PartyOf E) → Ends u w → Moves f s g u w) → (u w : PartyOf E) → AtLast Fails Ends u w → Moves f s g u w
+  moves_at_last Fails Ends s g fails ends u w a = moves_then (put_by f) (got_by f) [] [] s g u a.1 w (retried u a.0 a.1 a.2) (ends a.1 w a.3)
+    where
+      retried : (u : PartyOf E) (vs : List (PartyOf E)) (w : PartyOf E) → Retries Fails u vs w → Moves f [] [] u w
+      retried u [] w r = subst (λ z. Moves f [] [] u z) r (moves_none (put_by f) (got_by f) u)
+      retried u (v ∷ vs) w r = moves_then (put_by f) (got_by f) [] [] [] [] u v w (fails u v r.0) (retried v vs w r.1)
+
+  moves_miss : (u w : PartyOf E) → MissesDequeue u w → Moves f [] [] u w
+  moves_miss u w (inl c) = moves_dequeue (Err error.Busy) u w c
+  moves_miss u w (inr c) = moves_dequeue (Err error.Inconsistent) u w c
+
+  pub moves_waiting : (o : Option E) (u w : PartyOf E) → AtLast MissesDequeue (Dequeues (try_result o)) u w → Moves f [] (given f (try_result o)) u w
+  moves_waiting o u w a =
+      moves_at_last MissesDequeue (Dequeues (try_result o)) [] (given f (try_result o)) moves_miss (λ v x d. moves_dequeue (try_result o) v x d) u w a
