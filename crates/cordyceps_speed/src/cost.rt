@@ -5,64 +5,80 @@ ghost use Rattle.std.specs.Duration.{as_nanos, max_nanos};
 use std::fmt;
 use std::time::Duration;
 
-/// How long so many operations took.
+/// How long so many operations took, in rounds.
 #[derive(Clone, Copy, Debug, PartialEq, Eq)]
 pub struct Cost {
     /// The time of all of them.
     pub time: Duration,
     /// How many there were.
     pub operations: u64,
+    /// The time of one operation in the quickest round, in tenths of a nanosecond. Before the first it is the greatest
+    /// number.
+    pub least: u128,
+}
+
+/// A time in tenths of a nanosecond, which prints as nanoseconds with one decimal.
+#[derive(Clone, Copy, Debug, PartialEq, Eq)]
+pub struct Tenths(pub u128);
+
+impl fmt::Display for Tenths {
+    fn fmt<W: fmt::Write>(&self, f: &mut fmt::Formatter<W>) -> fmt::Result {
+        let whole = self.0 / 10;
+        let tenth = self.0 % 10;
+        write!(f, "{whole:>7}.{tenth}")
+    }
+}
+
+/// The time of one of so many operations, in tenths of a nanosecond, rounded down. 0 where there was none.
+fn tenths_of(time: Duration, operations: u64) -> u128
+    ensures none { operations ≡ 0 → result ≡ 0 }
+    ensures some { 0 < operations → result ≡ min (as_nanos time * 10) max_nanos / operations }
+{
+    if operations == 0 {
+        return 0;
+    }
+    time.saturating_mul(10).as_nanos() / operations as u128
 }
 
 impl Cost {
     /// No operations, in no time.
     pub fn none() -> Cost
-        ensures { (as_nanos result.time ≡ 0) × (result.operations ≡ 0) }
+        ensures { (as_nanos result.time ≡ 0) × (result.operations ≡ 0) × (result.least ≡ u128.MAX) }
     {
         Cost {
             time: Duration::ZERO,
             operations: 0,
+            least: u128::MAX,
         }
     }
 
-    /// Counts more operations, which took this time. Beyond the greatest time and count both stay there.
+    /// Counts a round of operations, which took this time. Beyond the greatest time and count both stay there.
     pub fn add(&mut self, operations: usize, time: Duration)
         ensures time { as_nanos self.new.time ≡ min (as_nanos self.old.time + as_nanos time) max_nanos }
         ensures operations { self.new.operations ≡ min (self.old.operations + operations) u64.MAX }
+        ensures least { 0 < operations → self.new.least ≡ min self.old.least (min (as_nanos time * 10) max_nanos / operations) }
     {
         self.time = self.time.saturating_add(time);
         self.operations = self.operations.saturating_add(operations as u64);
+        self.least = self.least.min(tenths_of(time, operations as u64));
     }
 
-    /// What one operation costs that has these two parts, of which each was measured as often.
-    pub fn with(self, other: Cost) -> Cost
-        ensures time { as_nanos result.time ≡ min (as_nanos self.time + as_nanos other.time) max_nanos }
-        ensures operations { result.operations ≡ self.operations }
+    /// The time of one operation, on the mean. 0 where there was none.
+    pub fn mean(&self) -> Tenths
+        ensures none { self.now.operations ≡ 0 → result.0 ≡ 0 }
+        ensures some { 0 < self.now.operations → result.0 ≡ min (as_nanos self.now.time * 10) max_nanos / self.now.operations }
     {
-        Cost {
-            time: self.time.saturating_add(other.time),
-            operations: self.operations,
-        }
+        Tenths(tenths_of(self.time, self.operations))
     }
 
-    /// The time of one operation in tenths of a nanosecond, rounded down. 0 where there was none.
-    pub fn tenths(&self) -> u128
-        ensures none { self.now.operations ≡ 0 → result ≡ 0 }
-        ensures some { 0 < self.now.operations → result ≡ min (as_nanos self.now.time * 10) max_nanos / self.now.operations }
+    /// The time of one operation in the quickest round. 0 where there was none.
+    pub fn quickest(&self) -> Tenths
+        ensures none { self.now.operations ≡ 0 → result.0 ≡ 0 }
+        ensures some { 0 < self.now.operations → result.0 ≡ self.now.least }
     {
         if self.operations == 0 {
-            return 0;
+            return Tenths(0);
         }
-        self.time.saturating_mul(10).as_nanos() / self.operations as u128
-    }
-}
-
-/// Nanoseconds for one operation, with one decimal.
-impl fmt::Display for Cost {
-    fn fmt<W: fmt::Write>(&self, f: &mut fmt::Formatter<W>) -> fmt::Result {
-        let tenths = self.tenths();
-        let whole = tenths / 10;
-        let tenth = tenths % 10;
-        write!(f, "{whole:>5}.{tenth}")
+        Tenths(self.least)
     }
 }

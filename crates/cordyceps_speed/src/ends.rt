@@ -1,74 +1,15 @@
-//! Pushes and pops at the ends of stacks and lists, and, to compare, of vectors.
-ghost use Rattle.std.specs.Prelude.{◌≡◌, ◌+◌, ◌<◌, ◌≤◌, [], length, OnOk};
+//! Pushes and pops at the ends of lists.
+ghost use Rattle.std.specs.Prelude.{◌≡◌, ◌+◌, ◌<◌, ◌≤◌, [], length, IfSome, OnOk};
 
 use crate::cost::Cost;
 use crate::fault::Fault;
-use crate::nodes::move_all;
+use crate::nodes::{ListNode, make_nodes, sum_numbers};
 use crate::stopwatch::Stopwatch;
-use crate::transfers::{StackNode, pop_all};
-use cordyceps::list::Links;
-use cordyceps::{Item, List, Node, Stack};
+use crate::table::Table;
+use crate::vectors::push;
+use cordyceps::{Item, List};
 use std::alloc::Global;
 use std::time::Clock;
-
-/// What goes into a list, and comes out.
-pub type ListNode = Node<Item, Links<Item>>;
-
-/// What was measured of one kind of collection.
-#[derive(Clone, Copy, Debug)]
-pub struct Ends {
-    /// A push.
-    pub push: Cost,
-    /// A pop.
-    pub pop: Cost,
-}
-
-impl Ends {
-    fn none() -> Ends {
-        Ends {
-            push: Cost::none(),
-            pop: Cost::none(),
-        }
-    }
-
-    /// Pushes all of the elements on a stack, and pops them.
-    fn stack_round(&mut self, rt: &impl Clock, nodes: &mut Vec<StackNode>) -> Result<(), Fault>
-        ensures { OnOk result (length nodes.new.items ≡ length nodes.old.items) }
-    {
-        let count = nodes.len();
-        let mut stack = Stack::new();
-        let mut stopwatch = Stopwatch::start(rt)?;
-        push_all(&mut stack, nodes);
-        self.push.add(count, stopwatch.look(rt)?);
-        pop_all(&mut stack, nodes)?;
-        self.pop.add(count, stopwatch.look(rt)?);
-        Ok(())
-    }
-
-    /// Pushes all of the elements at the back of a list, and pops them at the front.
-    fn list_round(&mut self, rt: &impl Clock, nodes: &mut Vec<ListNode>) -> Result<(), Fault>
-        ensures { OnOk result (length nodes.new.items ≡ length nodes.old.items) }
-    {
-        let count = nodes.len();
-        let mut list = List::new();
-        let mut stopwatch = Stopwatch::start(rt)?;
-        push_all_back(&mut list, nodes);
-        self.push.add(count, stopwatch.look(rt)?);
-        pop_all_front(&mut list, nodes)?;
-        self.pop.add(count, stopwatch.look(rt)?);
-        Ok(())
-    }
-}
-
-/// Pushes all of the elements, the last first.
-fn push_all(stack: &mut Stack<Item>, nodes: &mut Vec<StackNode>)
-    ensures empty { nodes.new.items ≡ [] }
-    ensures length { length stack.new ≡ length stack.old + length nodes.old.items }
-{
-    while let Some(node) = nodes.pop() {
-        stack.push(node);
-    }
-}
 
 /// Puts all of the elements last, the last first.
 pub fn push_all_back(list: &mut List<Item>, nodes: &mut Vec<ListNode>)
@@ -82,57 +23,125 @@ pub fn push_all_back(list: &mut List<Item>, nodes: &mut Vec<ListNode>)
 }
 
 /// Takes all elements out of a list, one after another.
-fn pop_all_front(list: &mut List<Item>, nodes: &mut Vec<ListNode>) -> Result<(), Fault>
+pub fn pop_all_front(list: &mut List<Item>, nodes: &mut Vec<ListNode>) -> Result<(), Fault>
     ensures { OnOk result (length nodes.new.items ≡ length nodes.old.items + length list.old) }
 {
     while let Some(node) = list.pop_front() {
-        nodes.push(node).map_err(|_| Fault::Memory)?;
+        push(nodes, node)?;
     }
     Ok(())
 }
 
-/// Measures so many rounds of a stack.
-pub fn measure_stack(
-    rt: &impl Clock,
-    nodes: &mut Vec<StackNode>,
-    rounds: u32,
-) -> Result<Ends, Fault> {
-    let mut ends = Ends::none();
-    for _ in 0..rounds {
-        ends.stack_round(rt, nodes)?;
-    }
-    Ok(ends)
+/// A list of the nodes, the first first.
+pub fn list_of(mut nodes: Vec<ListNode>) -> List<Item>
+    ensures { length result ≡ length nodes.items }
+{
+    nodes.reverse();
+    let mut list = List::new();
+    push_all_back(&mut list, &mut nodes);
+    list
 }
 
-/// Measures so many rounds of a list.
-pub fn measure_list(
-    rt: &impl Clock,
-    nodes: &mut Vec<ListNode>,
-    rounds: u32,
-) -> Result<Ends, Fault> {
-    let mut ends = Ends::none();
+/// Measures pushes of all elements at the back and their pops at the front.
+fn measure_through(rt: &impl Clock, nodes: &mut Vec<ListNode>, rounds: u32) -> Result<Cost, Fault> {
+    let mut cost = Cost::none();
     for _ in 0..rounds {
-        ends.list_round(rt, nodes)?;
-    }
-    Ok(ends)
-}
-
-/// Measures so many moves of all elements from one vector into another, and back: a pop and a push each.
-pub fn measure_moves(
-    rt: &impl Clock,
-    alloc: Global,
-    nodes: &mut Vec<StackNode>,
-    rounds: u32,
-) -> Result<Cost, Fault> {
-    let mut moves = Cost::none();
-    let count = nodes.len();
-    let mut others = Vec::with_capacity(alloc, count).map_err(|_| Fault::Memory)?;
-    for _ in 0..rounds {
+        let mut list = List::new();
+        let calls = nodes.len().saturating_mul(2);
         let mut stopwatch = Stopwatch::start(rt)?;
-        move_all(nodes, &mut others)?;
-        moves.add(count, stopwatch.look(rt)?);
-        move_all(&mut others, nodes)?;
-        moves.add(count, stopwatch.look(rt)?);
+        push_all_back(&mut list, nodes);
+        pop_all_front(&mut list, nodes)?;
+        cost.add(calls, stopwatch.look(rt)?);
     }
-    Ok(moves)
+    Ok(cost)
+}
+
+/// Puts all of the elements in, one in four of them last and the others first.
+fn push_all_mixed(list: &mut List<Item>, nodes: &mut Vec<ListNode>)
+    requires { length list.old + length nodes.old.items ≤ usize.MAX }
+{
+    while let Some(node) = nodes.pop() {
+        if nodes.len() % 4 == 0 {
+            list.push_back(node);
+        } else {
+            list.push_front(node);
+        }
+    }
+}
+
+/// Takes an element out at one of the ends.
+fn pop_either(list: &mut List<Item>, is_front: bool) -> Option<ListNode>
+    ensures { IfSome result (λ node. length list.old ≡ length list.new + 1) }
+{
+    if is_front {
+        list.pop_front()
+    } else {
+        list.pop_back()
+    }
+}
+
+/// Takes all out, one in four of them from the front and the others from the back.
+fn pop_all_mixed(list: &mut List<Item>, nodes: &mut Vec<ListNode>) -> Result<(), Fault> {
+    while let Some(node) = pop_either(list, nodes.len() % 4 == 0) {
+        push(nodes, node)?;
+    }
+    Ok(())
+}
+
+/// Measures pushes of all elements and their pops, at both ends.
+fn measure_mixed(rt: &impl Clock, nodes: &mut Vec<ListNode>, rounds: u32) -> Result<Cost, Fault> {
+    let mut cost = Cost::none();
+    for _ in 0..rounds {
+        let mut list = List::new();
+        let calls = nodes.len().saturating_mul(2);
+        let mut stopwatch = Stopwatch::start(rt)?;
+        push_all_mixed(&mut list, nodes);
+        pop_all_mixed(&mut list, nodes)?;
+        cost.add(calls, stopwatch.look(rt)?);
+    }
+    Ok(cost)
+}
+
+/// Puts the first element last, so often.
+fn rotate_by(list: &mut List<Item>, count: usize) {
+    for _ in 0..count {
+        let _few = list.len();
+        if let Some(node) = list.pop_front() {
+            list.push_back(node);
+        }
+    }
+}
+
+/// Measures turns of a whole list: a pop and a push for each element.
+fn measure_rotations(rt: &impl Clock, list: &mut List<Item>, rounds: u32) -> Result<Cost, Fault> {
+    let mut cost = Cost::none();
+    for _ in 0..rounds {
+        let count = list.len();
+        let mut stopwatch = Stopwatch::start(rt)?;
+        rotate_by(list, count);
+        cost.add(count.saturating_mul(2), stopwatch.look(rt)?);
+    }
+    Ok(cost)
+}
+
+/// Measures the ends of lists, and shows them. Answers the sum of the numbers of what came out last.
+pub fn show_ends<R: Clock + Print>(
+    rt: &R,
+    alloc: Global,
+    table: Table,
+    elements: usize,
+) -> Result<u64, Fault> {
+    let mut nodes = make_nodes(alloc, elements)?;
+    let through = measure_through(rt, &mut nodes, table.rounds)?;
+    let what = "either; all in, then all out";
+    table.row(rt, "List: push_back, pop_front", elements, through, what)?;
+    let mixed = measure_mixed(rt, &mut nodes, table.rounds)?;
+    let what = "either; one in four at the other end";
+    table.row(rt, "List: push and pop at both ends", elements, mixed, what)?;
+    let sum = sum_numbers(nodes.as_slice());
+    let mut list = list_of(nodes);
+    let turned = measure_rotations(rt, &mut list, table.rounds)?;
+    let what = "either; a pop and a push by turns";
+    table.row(rt, "List: rotate", elements, turned, what)?;
+    Ok(sum)
 }

@@ -4,9 +4,11 @@ ghost use Rattle.cordyceps_shared.specs.Shares.{whole};
 
 use crate::cost::Cost;
 use crate::fault::Fault;
-use crate::nodes::sum_numbers;
+use crate::nodes::{make_nodes, sum_numbers};
+use crate::stacks::{StackNode, pop_all};
 use crate::stopwatch::Stopwatch;
-use crate::transfers::{StackNode, pop_all};
+use crate::table::Table;
+use crate::vectors::push;
 use cordyceps::stack::Party;
 use cordyceps::{Item, Stack};
 use freelist::{FreeList, Local};
@@ -71,11 +73,11 @@ impl Alone {
 
 /// What was measured of what is shared.
 #[derive(Clone, Copy, Debug)]
-pub struct Shared {
+struct Shared {
     /// A `put_remote`.
-    pub put_remote: Cost,
+    put_remote: Cost,
     /// A block's share of a `get` that takes all that is shared, with the making and the end of the local part.
-    pub fetch: Cost,
+    fetch: Cost,
 }
 
 impl Shared {
@@ -100,13 +102,13 @@ impl Shared {
     }
 }
 
-/// Measures so many rounds of what is shared, and sums the numbers of the blocks that came out last.
-pub fn measure_shared(
+/// Measures so many rounds of what is shared.
+fn measure_shared(
     rt: &impl Clock,
     alloc: Global,
     nodes: &mut Vec<StackNode>,
     rounds: u32,
-) -> Result<(Shared, u64), Fault>
+) -> Result<Shared, Fault>
     requires { length nodes.old.items ≤ 1048576 }
 {
     let mut alone = Alone::new(alloc, nodes.len())?;
@@ -117,16 +119,16 @@ pub fn measure_shared(
     for _ in 0..rounds {
         alone = shared.round(rt, alone, nodes)?;
     }
-    Ok((shared, sum_numbers(nodes.as_slice())))
+    Ok(shared)
 }
 
 /// What was measured of a local part.
 #[derive(Clone, Copy, Debug)]
-pub struct Own {
+struct Own {
     /// A `put`.
-    pub put: Cost,
+    put: Cost,
     /// A `get`.
-    pub get: Cost,
+    get: Cost,
 }
 
 impl Own {
@@ -164,14 +166,14 @@ fn get_all(
 ) -> Result<(), Fault> {
     for _ in 0..count {
         if let Some(node) = local.get() {
-            nodes.push(node).map_err(|_| Fault::Memory)?;
+            push(nodes, node)?;
         }
     }
     Ok(())
 }
 
 /// Measures so many rounds of a local part.
-pub fn measure_local(
+fn measure_local(
     rt: &impl Clock,
     alloc: Global,
     nodes: &mut Vec<StackNode>,
@@ -187,4 +189,36 @@ pub fn measure_local(
         own.round(rt, &mut local, nodes)?;
     }
     Ok(own)
+}
+
+/// Measures free lists, and shows them: a local part with so many blocks, and what is shared, with so many others.
+/// Answers the sum of the numbers of what came out last.
+pub fn show_free_lists<R: Clock + Print>(
+    rt: &R,
+    alloc: Global,
+    table: Table,
+    local: usize,
+    shared: usize,
+) -> Result<u64, Fault>
+    requires { shared ≤ 1048576 }
+{
+    let mut nodes = make_nodes(alloc, local)?;
+    let own = measure_local(rt, alloc, &mut nodes, table.rounds)?;
+    let what = "by the owner, of its own blocks";
+    table.row(rt, "FreeList: put", local, own.put, what)?;
+    table.row(rt, "FreeList: get", local, own.get, what)?;
+    let mut blocks = make_nodes(alloc, shared)?;
+    let others = measure_shared(rt, alloc, &mut blocks, table.rounds)?;
+    let what = "by another's party";
+    table.row(rt, "FreeList: put_remote", shared, others.put_remote, what)?;
+    let what = "a block's share of one that fetches all";
+    table.row(
+        rt,
+        "FreeList: get, of shared blocks",
+        shared,
+        others.fetch,
+        what,
+    )?;
+    let sum = sum_numbers(nodes.as_slice());
+    Ok(sum.wrapping_add(sum_numbers(blocks.as_slice())))
 }

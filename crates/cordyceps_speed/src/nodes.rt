@@ -1,19 +1,37 @@
-//! The nodes that are measured, which are made beforehand.
+//! The nodes that are measured, which are made beforehand, and the order in which they are met.
 ghost use Rattle.std.specs.Prelude.{◌≡◌, ◌+◌, [], length, IfOk, OnOk};
 
 use crate::fault::Fault;
+use crate::vectors::{push, with_room};
+use cordyceps::list::Links;
 use cordyceps::{Item, Kind, Node};
 use std::alloc::Global;
+
+/// What goes into a list, and comes out.
+pub type ListNode = Node<Item, Links<Item>>;
+
+/// The value of the node with this number: as good as drawn, and always the same.
+pub fn mix(id: u64) -> u64 {
+    let mut value = id.wrapping_add(0x9e37_79b9_7f4a_7c15);
+    value = (value ^ (value >> 30)).wrapping_mul(0xbf58_476d_1ce4_e5b9);
+    value = (value ^ (value >> 27)).wrapping_mul(0x94d0_49bb_1331_11eb);
+    value ^ (value >> 31)
+}
+
+/// A node.
+pub fn make_node<L: Kind>(alloc: Global, id: u64, value: u64) -> Result<Node<Item, L>, Fault> {
+    Node::new(alloc, id, Item { value, id }).map_err(|_| Fault::Memory)
+}
 
 /// So many nodes that hold items, with numbers from 0 on.
 pub fn make_nodes<L: Kind>(alloc: Global, count: usize) -> Result<Vec<Node<Item, L>>, Fault>
     ensures { IfOk result (λ nodes. length nodes.items ≡ count) }
 {
-    let mut nodes = Vec::with_capacity(alloc, count).map_err(|_| Fault::Memory)?;
+    let mut nodes = with_room(alloc, count)?;
     for number in 0..count {
         let id = number as u64;
-        let node = Node::new(alloc, id, Item { value: id, id }).map_err(|_| Fault::Memory)?;
-        nodes.push(node).map_err(|_| Fault::Memory)?;
+        let node = make_node(alloc, id, mix(id))?;
+        push(&mut nodes, node)?;
     }
     Ok(nodes)
 }
@@ -35,7 +53,22 @@ pub fn move_all<L: Kind>(
     ensures { OnOk result ((from.new.items ≡ []) × (length to.new.items ≡ length to.old.items + length from.old.items)) }
 {
     while let Some(node) = from.pop() {
-        to.push(node).map_err(|_| Fault::Memory)?;
+        push(to, node)?;
     }
     Ok(())
+}
+
+/// Puts the items into another order, the same each time.
+pub fn shuffle<T>(items: &mut Vec<T>)
+    ensures { length items.new.items ≡ length items.old.items }
+{
+    let mut state: u64 = 0x9e37_79b9_7f4a_7c15;
+    for last in (1..items.len()).rev() {
+        state ^= state << 13;
+        state ^= state >> 7;
+        state ^= state << 17;
+        let drawn = state % (last as u64).wrapping_add(1).max(1);
+        let other = (drawn as usize).min(last);
+        items.swap(last, other);
+    }
 }

@@ -4,18 +4,17 @@ ghost use Rattle.cordyceps_shared.specs.Shares.{whole};
 
 use crate::cost::Cost;
 use crate::fault::Fault;
-use crate::nodes::sum_numbers;
+use crate::nodes::{make_nodes, sum_numbers};
 use crate::stopwatch::Stopwatch;
+use crate::table::Table;
+use crate::vectors::{push, with_room};
 use cordyceps::mpsc_queue::{Batch, Consumer, Links, Party};
 use cordyceps::{Item, MpscQueue, Node};
 use std::alloc::Global;
 use std::time::Clock;
 
-/// How many elements a batch has.
-const BATCH: usize = 64;
-
 /// What goes into the queue, and comes out.
-pub type QueueNode = Node<Item, Links<Item>>;
+type QueueNode = Node<Item, Links<Item>>;
 
 /// A queue that threads share, and the party that has all of its rooms.
 #[derive(Drop)]
@@ -55,7 +54,7 @@ impl Alone {
     {
         for _ in 0..tries {
             if let Ok(node) = self.queue.try_dequeue(&mut self.party) {
-                nodes.push(node).map_err(|_| Fault::Memory)?;
+                push(nodes, node)?;
             }
         }
         Ok(())
@@ -86,25 +85,27 @@ fn consume_all(
 {
     for _ in 0..tries {
         if let Ok(node) = consumer.try_dequeue() {
-            nodes.push(node).map_err(|_| Fault::Memory)?;
+            push(nodes, node)?;
         }
     }
     Ok(())
 }
 
-/// Takes so many batches out.
+/// Takes so many batches out, of at most so many elements each.
 fn take_batches(
     consumer: &mut Consumer<'_, Item>,
     batches: &mut Vec<Batch<Item>>,
     count: usize,
+    most: usize,
 ) -> Result<(), Fault>
-    requires { sum_by length batches.old.items ≤ consumer.old.rooms }
+    requires rooms { sum_by length batches.old.items ≤ consumer.old.rooms }
+    requires some { 1 ≤ most }
     ensures seat { (consumer.new.table ≡ consumer.old.table) × (consumer.new.share ≡ consumer.old.share) }
     ensures rooms { OnOk result (sum_by length batches.new.items ≤ consumer.new.rooms) }
 {
     for _ in 0..count {
-        if let Ok(batch) = consumer.take_linked(BATCH) {
-            batches.push(batch).map_err(|_| Fault::Memory)?;
+        if let Ok(batch) = consumer.take_linked(most) {
+            push(batches, batch)?;
         }
     }
     Ok(())
@@ -116,7 +117,7 @@ fn unpack(batch: Batch<Item>, nodes: &mut Vec<QueueNode>) -> Result<(), Fault>
 {
     let mut batch = batch;
     while let Some(node) = batch.next() {
-        nodes.push(node).map_err(|_| Fault::Memory)?;
+        push(nodes, node)?;
     }
     Ok(())
 }
@@ -134,15 +135,13 @@ fn unpack_all(batches: &mut Vec<Batch<Item>>, nodes: &mut Vec<QueueNode>) -> Res
 
 /// What was measured of a queue that threads share.
 #[derive(Clone, Copy, Debug)]
-pub struct Queues {
+struct Queues {
     /// An `enqueue`.
-    pub enqueue: Cost,
+    enqueue: Cost,
     /// A `try_dequeue` of the queue, which takes the right to dequeue and gives it back.
-    pub dequeue: Cost,
+    dequeue: Cost,
     /// A `try_dequeue` of a consumer.
-    pub consume: Cost,
-    /// An element's share of a consumer's `take_linked`.
-    pub take: Cost,
+    consume: Cost,
 }
 
 impl Queues {
@@ -185,55 +184,108 @@ impl Queues {
         let party = consumer.release();
         Ok(Alone { queue, party })
     }
-
-    /// Puts all of the elements in, and takes them out in batches. Only the takings are measured.
-    fn batch_round(
-        &mut self,
-        rt: &impl Clock,
-        mut alone: Alone,
-        nodes: &mut Vec<QueueNode>,
-        batches: &mut Vec<Batch<Item>>,
-    ) -> Result<Alone, Fault>
-        requires rooms { length nodes.old.items ≤ alone.party.rooms }
-        requires empty { batches.old.items ≡ [] }
-        ensures rooms { IfOk result (λ a. length nodes.new.items ≤ a.party.rooms) }
-        ensures empty { OnOk result (batches.new.items ≡ []) }
-    {
-        let count = nodes.len();
-        alone.enqueue_all(nodes);
-        let Alone { queue, party } = alone;
-        let mut consumer = consumer_of(&queue, party);
-        let mut stopwatch = Stopwatch::start(rt)?;
-        take_batches(&mut consumer, batches, count.div_ceil(BATCH))?;
-        self.take.add(count, stopwatch.look(rt)?);
-        let party = consumer.release();
-        unpack_all(batches, nodes)?;
-        Ok(Alone { queue, party })
-    }
 }
 
-/// Measures so many rounds with these elements, and sums the numbers of those that came out last.
-pub fn measure_queues(
+/// Measures so many rounds of elements that come out one by one.
+fn measure_singles(
     rt: &impl Clock,
     alloc: Global,
     nodes: &mut Vec<QueueNode>,
     rounds: u32,
-) -> Result<(Queues, u64), Fault>
+) -> Result<Queues, Fault>
     requires { length nodes.old.items ≤ 1048576 }
 {
     let mut alone = Alone::new(alloc, nodes.len())?;
-    let most = nodes.len().div_ceil(BATCH);
-    let mut batches = Vec::with_capacity(alloc, most).map_err(|_| Fault::Memory)?;
     let mut queues = Queues {
         enqueue: Cost::none(),
         dequeue: Cost::none(),
         consume: Cost::none(),
-        take: Cost::none(),
     };
     for _ in 0..rounds {
         queues.queue_round(rt, &mut alone, nodes)?;
         alone = queues.consumer_round(rt, alone, nodes)?;
-        alone = queues.batch_round(rt, alone, nodes, &mut batches)?;
     }
-    Ok((queues, sum_numbers(nodes.as_slice())))
+    Ok(queues)
+}
+
+/// Puts all of the elements in, and takes them out in batches of at most so many. Only the takings are measured.
+fn batch_round(
+    rt: &impl Clock,
+    mut alone: Alone,
+    nodes: &mut Vec<QueueNode>,
+    batches: &mut Vec<Batch<Item>>,
+    most: usize,
+    cost: &mut Cost,
+) -> Result<Alone, Fault>
+    requires rooms { length nodes.old.items ≤ alone.party.rooms }
+    requires empty { batches.old.items ≡ [] }
+    requires some { 1 ≤ most }
+    ensures rooms { IfOk result (λ a. length nodes.new.items ≤ a.party.rooms) }
+    ensures empty { OnOk result (batches.new.items ≡ []) }
+{
+    let count = nodes.len();
+    alone.enqueue_all(nodes);
+    let Alone { queue, party } = alone;
+    let mut consumer = consumer_of(&queue, party);
+    let mut stopwatch = Stopwatch::start(rt)?;
+    take_batches(&mut consumer, batches, count.div_ceil(most), most)?;
+    cost.add(count, stopwatch.look(rt)?);
+    let party = consumer.release();
+    unpack_all(batches, nodes)?;
+    Ok(Alone { queue, party })
+}
+
+/// Measures so many rounds of elements that come out in batches of at most so many.
+fn measure_batches(
+    rt: &impl Clock,
+    alloc: Global,
+    nodes: &mut Vec<QueueNode>,
+    most: usize,
+    rounds: u32,
+) -> Result<Cost, Fault>
+    requires rooms { length nodes.old.items ≤ 1048576 }
+    requires some { 1 ≤ most }
+{
+    let mut alone = Alone::new(alloc, nodes.len())?;
+    let count = nodes.len().div_ceil(most);
+    let mut batches = with_room(alloc, count)?;
+    let mut cost = Cost::none();
+    for _ in 0..rounds {
+        alone = batch_round(rt, alone, nodes, &mut batches, most, &mut cost)?;
+    }
+    Ok(cost)
+}
+
+/// Measures queues that threads share, and shows them. Answers the sum of the numbers of what came out last.
+pub fn show_queues<R: Clock + Print>(
+    rt: &R,
+    alloc: Global,
+    table: Table,
+    elements: usize,
+) -> Result<u64, Fault>
+    requires { elements ≤ 1048576 }
+{
+    let mut nodes = make_nodes(alloc, elements)?;
+    let singles = measure_singles(rt, alloc, &mut nodes, table.rounds)?;
+    let what = "by a party";
+    table.row(rt, "MpscQueue: enqueue", elements, singles.enqueue, what)?;
+    let what = "by a party; the right taken and given back";
+    table.row(
+        rt,
+        "MpscQueue: try_dequeue",
+        elements,
+        singles.dequeue,
+        what,
+    )?;
+    let what = "with the right in hand";
+    table.row(rt, "Consumer: try_dequeue", elements, singles.consume, what)?;
+    let sum = sum_numbers(nodes.as_slice());
+    let mut nodes = make_nodes(alloc, elements)?;
+    let few = measure_batches(rt, alloc, &mut nodes, 64, table.rounds)?;
+    let what = "an element's share, the batch not gone through";
+    table.row(rt, "Consumer: take_linked(64)", elements, few, what)?;
+    let mut nodes = make_nodes(alloc, elements)?;
+    let many = measure_batches(rt, alloc, &mut nodes, 1024, table.rounds)?;
+    table.row(rt, "Consumer: take_linked(1024)", elements, many, what)?;
+    Ok(sum.wrapping_add(sum_numbers(nodes.as_slice())))
 }

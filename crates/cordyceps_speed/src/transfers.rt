@@ -4,15 +4,14 @@ ghost use Rattle.cordyceps_shared.specs.Shares.{whole};
 
 use crate::cost::Cost;
 use crate::fault::Fault;
-use crate::nodes::sum_numbers;
+use crate::nodes::{make_nodes, sum_numbers};
+use crate::stacks::{StackNode, pop_all};
 use crate::stopwatch::Stopwatch;
-use cordyceps::stack::{Links, Party};
-use cordyceps::{Item, Node, Stack, TransferStack};
+use crate::table::Table;
+use cordyceps::stack::Party;
+use cordyceps::{Item, Stack, TransferStack};
 use std::alloc::Global;
 use std::time::Clock;
-
-/// What goes into the stack, and comes out.
-pub type StackNode = Node<Item, Links<Item>>;
 
 /// A stack that threads share, and the party that has all of its rooms.
 #[derive(Drop)]
@@ -63,25 +62,13 @@ impl Alone {
     }
 }
 
-/// Takes all elements out of a stack, one after another.
-pub fn pop_all(stack: &mut Stack<Item>, nodes: &mut Vec<StackNode>) -> Result<(), Fault>
-    ensures { OnOk result (length nodes.new.items ≡ length nodes.old.items + length stack.old) }
-{
-    while let Some(node) = stack.pop() {
-        nodes.push(node).map_err(|_| Fault::Memory)?;
-    }
-    Ok(())
-}
-
 /// What was measured of a stack that threads share.
 #[derive(Clone, Copy, Debug)]
-pub struct Transfers {
+struct Transfers {
     /// A push.
-    pub push: Cost,
-    /// An element's share of a taking of all.
-    pub take: Cost,
-    /// A pop of an element out of what was taken.
-    pub pop: Cost,
+    push: Cost,
+    /// An element's share of a taking of all, with its pop out of what was taken.
+    take: Cost,
 }
 
 impl Transfers {
@@ -100,30 +87,58 @@ impl Transfers {
         alone.push_all(nodes);
         self.push.add(count, stopwatch.look(rt)?);
         let mut taken = alone.take_all();
-        self.take.add(count, stopwatch.look(rt)?);
         pop_all(&mut taken, nodes)?;
-        self.pop.add(count, stopwatch.look(rt)?);
+        self.take.add(count, stopwatch.look(rt)?);
         Ok(())
     }
 }
 
-/// Measures so many rounds with these elements, and sums the numbers of those that came out last.
-pub fn measure_transfers(
+/// Measures so many rounds with these elements.
+fn measure_transfers(
     rt: &impl Clock,
     alloc: Global,
     nodes: &mut Vec<StackNode>,
     rounds: u32,
-) -> Result<(Transfers, u64), Fault>
+) -> Result<Transfers, Fault>
     requires { length nodes.old.items ≤ 1048576 }
 {
     let mut alone = Alone::new(alloc, nodes.len())?;
     let mut transfers = Transfers {
         push: Cost::none(),
         take: Cost::none(),
-        pop: Cost::none(),
     };
     for _ in 0..rounds {
         transfers.round(rt, &mut alone, nodes)?;
     }
-    Ok((transfers, sum_numbers(nodes.as_slice())))
+    Ok(transfers)
+}
+
+/// Measures stacks that threads share, and shows them. Answers the sum of the numbers of what came out last.
+pub fn show_transfers<R: Clock + Print>(
+    rt: &R,
+    alloc: Global,
+    table: Table,
+    elements: usize,
+) -> Result<u64, Fault>
+    requires { elements ≤ 1048576 }
+{
+    let mut nodes = make_nodes(alloc, elements)?;
+    let transfers = measure_transfers(rt, alloc, &mut nodes, table.rounds)?;
+    let what = "a push by a party";
+    table.row(
+        rt,
+        "TransferStack: try_push",
+        elements,
+        transfers.push,
+        what,
+    )?;
+    let what = "an element's share, and its pop";
+    table.row(
+        rt,
+        "TransferStack: take_all",
+        elements,
+        transfers.take,
+        what,
+    )?;
+    Ok(sum_numbers(nodes.as_slice()))
 }

@@ -1,20 +1,15 @@
-//! Walks through a list.
-use crate::cost::Cost;
-use crate::fault::Fault;
-use crate::stopwatch::Stopwatch;
-use cordyceps::{Item, List};
-use std::time::Clock;
+//! Walks through a list, by iterators and by a cursor.
+ghost use Rattle.std.specs.Prelude.{◌≡◌, ◌+◌, ◌≤◌, [], length};
 
-/// What was measured of walks through a list.
-#[derive(Clone, Copy, Debug)]
-pub struct Walks {
-    /// A step of an iterator.
-    pub iterator: Cost,
-    /// A step of a cursor, which looks at the element that it is at and moves on.
-    pub cursor: Cost,
-    /// The sum of all values that were seen, modulo 2 to the 64.
-    pub sum: u64,
-}
+use crate::cost::Cost;
+use crate::ends::list_of;
+use crate::fault::Fault;
+use crate::nodes::{make_nodes, shuffle};
+use crate::stopwatch::Stopwatch;
+use crate::table::Table;
+use cordyceps::{Item, List};
+use std::alloc::Global;
+use std::time::Clock;
 
 /// The sum of the list's values by an iterator, modulo 2 to the 64.
 fn sum_by_iterator(list: &List<Item>) -> u64 {
@@ -29,37 +24,86 @@ fn sum_by_iterator(list: &List<Item>) -> u64 {
 fn sum_by_cursor(list: &List<Item>) -> u64 {
     let mut sum: u64 = 0;
     let mut cursor = list.cursor_front();
-    for _ in 0..list.len() {
-        if let Some(item) = cursor.current() {
-            sum = sum.wrapping_add(item.value);
-        }
+    while let Some(item) = cursor.current() {
+        sum = sum.wrapping_add(item.value);
         cursor.move_next();
     }
     sum
 }
 
-impl Walks {
-    /// Walks twice through the list.
-    fn round(&mut self, rt: &impl Clock, list: &List<Item>) -> Result<(), Fault> {
-        let mut stopwatch = Stopwatch::start(rt)?;
-        let by_iterator = sum_by_iterator(list);
-        self.iterator.add(list.len(), stopwatch.look(rt)?);
-        let by_cursor = sum_by_cursor(list);
-        self.cursor.add(list.len(), stopwatch.look(rt)?);
-        self.sum = self.sum.wrapping_add(by_iterator).wrapping_add(by_cursor);
-        Ok(())
+/// Adds one to each value, modulo 2 to the 64.
+fn bump(list: &mut List<Item>) {
+    let mut items = list.iter_mut();
+    while let Some(item) = items.next() {
+        item.value = item.value.wrapping_add(1);
     }
 }
 
-/// Measures so many rounds of walks.
-pub fn measure_walks(rt: &impl Clock, list: &List<Item>, rounds: u32) -> Result<Walks, Fault> {
-    let mut walks = Walks {
-        iterator: Cost::none(),
-        cursor: Cost::none(),
-        sum: 0,
-    };
+/// What was measured of walks, and the sum of what they saw.
+#[derive(Clone, Copy, Debug)]
+struct Walks {
+    cost: Cost,
+    sum: u64,
+}
+
+/// Measures walks by an iterator.
+fn measure_iterator(rt: &impl Clock, list: &List<Item>, rounds: u32) -> Result<Walks, Fault> {
+    let (mut cost, mut sum) = (Cost::none(), 0u64);
     for _ in 0..rounds {
-        walks.round(rt, list)?;
+        let mut stopwatch = Stopwatch::start(rt)?;
+        let seen = sum_by_iterator(list);
+        cost.add(list.len(), stopwatch.look(rt)?);
+        sum = sum.wrapping_add(seen);
     }
-    Ok(walks)
+    Ok(Walks { cost, sum })
+}
+
+/// Measures walks by a cursor.
+fn measure_cursor(rt: &impl Clock, list: &List<Item>, rounds: u32) -> Result<Walks, Fault> {
+    let (mut cost, mut sum) = (Cost::none(), 0u64);
+    for _ in 0..rounds {
+        let mut stopwatch = Stopwatch::start(rt)?;
+        let seen = sum_by_cursor(list);
+        cost.add(list.len(), stopwatch.look(rt)?);
+        sum = sum.wrapping_add(seen);
+    }
+    Ok(Walks { cost, sum })
+}
+
+/// Measures walks that change each value.
+fn measure_changes(rt: &impl Clock, list: &mut List<Item>, rounds: u32) -> Result<Cost, Fault> {
+    let mut cost = Cost::none();
+    for _ in 0..rounds {
+        let count = list.len();
+        let mut stopwatch = Stopwatch::start(rt)?;
+        bump(list);
+        cost.add(count, stopwatch.look(rt)?);
+    }
+    Ok(cost)
+}
+
+/// Measures walks, and shows them. Answers the sum of the values that were seen.
+pub fn show_walks<R: Clock + Print>(
+    rt: &R,
+    alloc: Global,
+    table: Table,
+    elements: usize,
+) -> Result<u64, Fault> {
+    let mut list = list_of(make_nodes(alloc, elements)?);
+    let what = "a step, the nodes as memory lies";
+    let steps = measure_iterator(rt, &list, table.rounds)?;
+    table.row(rt, "List: iter", elements, steps.cost, what)?;
+    let changes = measure_changes(rt, &mut list, table.rounds)?;
+    let what = "a step that changes a value";
+    table.row(rt, "List: iter_mut", elements, changes, what)?;
+    let looks = measure_cursor(rt, &list, table.rounds)?;
+    let what = "current and move_next";
+    table.row(rt, "List: cursor walk", elements, looks.cost, what)?;
+    let mut nodes = make_nodes(alloc, elements)?;
+    shuffle(&mut nodes);
+    let scattered = list_of(nodes);
+    let what = "a step, the nodes scattered in memory";
+    let far = measure_iterator(rt, &scattered, table.rounds)?;
+    table.row(rt, "List: iter, scattered", elements, far.cost, what)?;
+    Ok(steps.sum.wrapping_add(looks.sum).wrapping_add(far.sum))
 }

@@ -1,5 +1,5 @@
 use Rattle.std.proofs.Common.{◌≡◌, ◌+◌, length, vec_len}
-use Rattle.cordyceps_speed.proofs.ends.push_all.Given as goal
+use Rattle.cordyceps_speed.proofs.stacks.push_all.Given as goal
 
 abbrev pub invariant-loop-node : goal.invariant-loop-node
 invariant-loop-node l = length l.stack + length l.nodes.items ≡ length l.fn.stack + length l.fn.nodes.items

@@ -1,5 +1,5 @@
 use Rattle.std.proofs.Common.{◌≡◌, ◌+◌, length}
-use Rattle.cordyceps_speed.proofs.transfers.pop_all.Given as goal
+use Rattle.cordyceps_speed.proofs.stacks.pop_all.Given as goal
 
 abbrev pub invariant-loop-node : goal.invariant-loop-node
 invariant-loop-node l = length l.nodes.items + length l.stack ≡ length l.fn.nodes.items + length l.fn.stack

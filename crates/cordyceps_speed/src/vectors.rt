@@ -1,0 +1,19 @@
+//! Vectors, whose memory may be refused.
+ghost use Rattle.std.specs.Prelude.{◌≡◌, [], ◌∷◌, ◌++◌, IfOk, OnOk};
+
+use crate::fault::Fault;
+use std::alloc::Global;
+
+/// An empty vector with room for so many items.
+pub fn with_room<T>(alloc: Global, count: usize) -> Result<Vec<T>, Fault>
+    ensures { IfOk result (λ room. room.items ≡ []) }
+{
+    Vec::with_capacity(alloc, count).map_err(|_| Fault::Memory)
+}
+
+/// Puts an item behind the others.
+pub fn push<T: Drop>(items: &mut Vec<T>, item: T) -> Result<(), Fault>
+    ensures { OnOk result (items.new.items ≡ items.old.items ++ item ∷ []) }
+{
+    items.push(item).map_err(|_| Fault::Memory)
+}
