@@ -4,7 +4,7 @@ ghost use Rattle.std.specs.Prelude.{◌≡◌};
 
 use crate::calls::{consume, puts};
 use crate::compared::same;
-use crate::flags::await_flag;
+use crate::flags::{Flags, await_flag};
 use crate::items::{dropped, number_of};
 use cordyceps_queue::mpsc_queue::{MpscQueue, OwnedConsumer, Party, TryDequeueError};
 use cordyceps_queue_testing::items::{Handle, element, elements, found, pair};
@@ -166,14 +166,16 @@ fn the_last_owner_frees_the_queue(rt: HostRuntime) -> Result<(), AllocError> {
     Ok(())
 }
 
-/// Waits for the right, sets the flag, and takes the element 1 by one try.
-fn consume_and_tell<R: Wait + Abort>(rt: &R, owner: Owner, done: &AtomicBool) {
+/// Waits for the right, and takes the element 1 by one try.
+fn consume_and_tell<R: Wait + Abort>(rt: &R, owner: Owner, (here, done): Flags<'_>) {
+    here.store(true, Ordering::SeqCst);
     let mut owned = owner.consume(rt, done);
     same(rt, found(owned.try_dequeue()), Ok(1));
 }
 
-/// Holds the right for a while, in which nobody else gets it, and then gives it back.
-fn hold_right(rt: &impl Abort, owned: OwnedConsumer<Counted>, done: &AtomicBool) {
+/// Holds the right for a while once another is about to wait, which does not get it then, and gives it back.
+fn hold_right(rt: &impl Abort, owned: OwnedConsumer<Counted>, (here, done): Flags<'_>) {
+    await_flag(rt, here);
     for _ in 0..PAUSES {
         same(rt, done.load(Ordering::SeqCst), false);
         thread::yield_now();
@@ -188,10 +190,10 @@ fn wait_and_hold<R: Threads + Wait + Abort + Sync>(
     waiting: Owner,
     holding: OwnedConsumer<Counted>,
 ) {
-    let flag = AtomicBool::new(false);
-    let done = &flag;
-    let wait = move || consume_and_tell(rt, waiting, done);
-    thread::join(rt, wait, move || hold_right(rt, holding, done));
+    let flags = (AtomicBool::new(false), AtomicBool::new(false));
+    let told = (&flags.0, &flags.1);
+    let wait = move || consume_and_tell(rt, waiting, told);
+    thread::join(rt, wait, move || hold_right(rt, holding, told));
 }
 
 #[test]

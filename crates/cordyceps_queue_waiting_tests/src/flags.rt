@@ -6,6 +6,9 @@ use std::thread;
 /// How often a test looks at a flag before it fails.
 const LOOKS: u64 = 10_000_000;
 
+/// What a thread tells another: that it is about to wait, and that its wait has ended.
+pub type Flags<'f> = (&'f AtomicBool, &'f AtomicBool);
+
 /// Looks at a flag until it is set, and fails where that never comes.
 pub fn await_flag(rt: &impl Abort, flag: &AtomicBool) {
     for _ in 0..LOOKS {

@@ -2,7 +2,7 @@
 
 use crate::calls::{consume, consumer_of, consumes, dequeue, puts};
 use crate::compared::same;
-use crate::flags::await_flag;
+use crate::flags::{Flags, await_flag};
 use crate::items::dropped;
 use cordyceps_queue::mpsc_queue::{Consumer, MpscQueue};
 use cordyceps_queue_testing::items::{Handle, element, pair};
@@ -152,15 +152,17 @@ fn mpmc(rt: HostRuntime) -> Result<(), AllocError> {
     Ok(())
 }
 
-/// Waits for the right, sets the flag, and takes the element 1 by one try.
-fn consume_and_tell<R: Wait + Abort>(rt: &R, seat: Seated<'_>, done: &AtomicBool) {
+/// Waits for the right, and takes the element 1 by one try.
+fn consume_and_tell<R: Wait + Abort>(rt: &R, seat: Seated<'_>, (here, done): Flags<'_>) {
+    here.store(true, Ordering::SeqCst);
     let mut consumer = consume(rt, seat);
     done.store(true, Ordering::SeqCst);
     consumes(rt, &mut consumer, Ok(1));
 }
 
-/// Holds the right for a while, in which nobody else gets it, and then gives it back.
-fn hold_right(rt: &impl Abort, consumer: Consumer<'_, Counted>, done: &AtomicBool) {
+/// Holds the right for a while once another is about to wait, which does not get it then, and gives it back.
+fn hold_right(rt: &impl Abort, consumer: Consumer<'_, Counted>, (here, done): Flags<'_>) {
+    await_flag(rt, here);
     for _ in 0..PAUSES {
         same(rt, done.load(Ordering::SeqCst), false);
         thread::yield_now();
@@ -175,10 +177,10 @@ fn wait_and_hold<R: Threads + Wait + Abort + Sync>(
     waiting: Seated<'_>,
     holding: Consumer<'_, Counted>,
 ) {
-    let flag = AtomicBool::new(false);
-    let done = &flag;
-    let wait = move || consume_and_tell(rt, waiting, done);
-    thread::join(rt, wait, move || hold_right(rt, holding, done));
+    let flags = (AtomicBool::new(false), AtomicBool::new(false));
+    let told = (&flags.0, &flags.1);
+    let wait = move || consume_and_tell(rt, waiting, told);
+    thread::join(rt, wait, move || hold_right(rt, holding, told));
 }
 
 #[test]
@@ -198,8 +200,9 @@ fn consume_waits_for_a_release(rt: HostRuntime) -> Result<(), AllocError> {
     Ok(())
 }
 
-/// Waits for the element 1, and sets the flag once it came.
-fn dequeue_and_tell<R: Wait + Abort>(rt: &R, mut seat: Seated<'_>, done: &AtomicBool) {
+/// Waits for the element 1.
+fn dequeue_and_tell<R: Wait + Abort>(rt: &R, mut seat: Seated<'_>, (here, done): Flags<'_>) {
+    here.store(true, Ordering::SeqCst);
     let came = dequeue(rt, &mut seat);
     done.store(true, Ordering::SeqCst);
     same(rt, came, Some(1));
@@ -211,10 +214,10 @@ fn dequeue_and_hold<R: Threads + Wait + Abort + Sync>(
     waiting: Seated<'_>,
     holding: Consumer<'_, Counted>,
 ) {
-    let flag = AtomicBool::new(false);
-    let done = &flag;
-    let wait = move || dequeue_and_tell(rt, waiting, done);
-    thread::join(rt, wait, move || hold_right(rt, holding, done));
+    let flags = (AtomicBool::new(false), AtomicBool::new(false));
+    let told = (&flags.0, &flags.1);
+    let wait = move || dequeue_and_tell(rt, waiting, told);
+    thread::join(rt, wait, move || hold_right(rt, holding, told));
 }
 
 #[test]
