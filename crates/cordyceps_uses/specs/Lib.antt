@@ -1,4 +1,5 @@
 pub mod Dealings
+pub mod Mailbox
 pub mod Pool
 pub mod Recency
 pub mod RunQueue

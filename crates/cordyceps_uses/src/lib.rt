@@ -2,6 +2,7 @@
 #![tactic(auto)]
 
 pub mod job;
+pub mod mailbox;
 pub mod pool;
 pub mod recency;
 pub mod run_queue;
