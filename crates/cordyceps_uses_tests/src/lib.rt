@@ -6,6 +6,8 @@ mod caches;
 #[cfg(test)]
 mod compared;
 #[cfg(test)]
+mod mailboxes;
+#[cfg(test)]
 mod pools;
 #[cfg(test)]
 mod run_queues;
