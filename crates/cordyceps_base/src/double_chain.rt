@@ -4,7 +4,7 @@ ghost use Rattle.std.specs.Borrow.{sem};
 ghost use denote.RawPtr.{Ptr};
 ghost use Rattle.cordyceps_base.specs.BySpot.{HasSpot, HoldsAt, IsTaken, IsPutBefore, IsPutAfter, IsMovedFront, IsMovedBack, IsFirst, IsLast, AreNext};
 ghost use Rattle.cordyceps_base.specs.Element.{Element, ids, values};
-ghost use Rattle.cordyceps_base.specs.Nodes.{elements, nodes_of, spots, LiesAt};
+ghost use Rattle.cordyceps_base.specs.Nodes.{block_element, elements, nodes_of, spots, LiesAt};
 ghost use Rattle.cordyceps_base.specs.Spots.{index_of, AreApart};
 
 use crate::boxes::{Address, Boxes, Loose};
@@ -593,11 +593,11 @@ impl<T> DoubleChain<T> {
         &mut block.value
     }
 
-    /// The nodes without that at `at`, and that alone, where it lay.
-    fn parted(self, at: Address) -> (DoubleChain<T>, DoubleChain<T>)
+    /// The nodes without that at `at`, and the row of that alone, where it lay.
+    fn parted(self, at: Address) -> (DoubleChain<T>, Row<T>)
         requires { HasSpot self at.ptr }
-        ensures parts { (e : Element T) × IsTaken self at.ptr e result.0 × (result.1 ≡ (at.ptr, e) ∷ []) }
-        ensures fits { length result.0 + length result.1 < 2 ^ 64 }
+        ensures parts { (a : Global) × (x : Block T (Links T)) × IsTaken self at.ptr (block_element x) result.0 × (result.1.blocks ≡ (at.ptr, a, x) ∷ []) }
+        ensures fits { length result.0 + 1 < 2 ^ 64 }
     {
         let len = self.len();
         let DoubleChain {
@@ -618,7 +618,7 @@ impl<T> DoubleChain<T> {
             len: len - 1,
             boxes: front.join(rest).tested(),
         };
-        (left, DoubleChain::of_one(at, one))
+        (left, one)
     }
 
     /// Puts the node at `at` first. It stays where it lies.
@@ -627,7 +627,7 @@ impl<T> DoubleChain<T> {
         ensures { IsMovedFront self.old at.ptr self.new }
     {
         let (rest, one) = self.take().parted(at);
-        self.put(one.join(rest));
+        self.put(DoubleChain::of_one(at, one).join(rest));
     }
 
     /// Puts the node at `at` last. It stays where it lies.
@@ -636,7 +636,7 @@ impl<T> DoubleChain<T> {
         ensures { IsMovedBack self.old at.ptr self.new }
     {
         let (rest, one) = self.take().parted(at);
-        self.put(rest.join(one));
+        self.put(rest.join(DoubleChain::of_one(at, one)));
     }
 }
 
@@ -748,6 +748,6 @@ impl<T: Drop> DoubleChain<T> {
     {
         let (rest, one) = self.take().parted(at);
         self.put(rest);
-        one.only()
+        node_of(at, one)
     }
 }

@@ -1,4 +1,4 @@
-use Rattle.std.proofs.Common.{◌∙◌, ap, sym, subst}
+use Rattle.std.proofs.Common.{◌∙◌, sym, subst}
 use Rattle.cordyceps_base.specs.Nodes.{spots}
 use Rattle.cordyceps_base.specs.Spots.{AreApart}
 use Rattle.cordyceps_base.proofs.double_chain.DoubleChain.keep_apart.Goals as goal

@@ -1,8 +1,8 @@
-use Rattle.std.proofs.Common.{◌≡◌, ◌-◌, length, ap, ◌∙◌, sym, subst, refl, arith}
+use Rattle.std.proofs.Common.{◌-◌, ap, ◌∙◌, sym, subst, refl, arith}
 use denote.RawPtr.{null_ptr}
 use Rattle.cordyceps_base.specs.Boxes.{box_addresses}
 use Rattle.cordyceps_base.specs.DoubleChain.{Segment}
-use Rattle.cordyceps_base.specs.Nodes.{block_element, nodes_of}
+use Rattle.cordyceps_base.specs.Nodes.{nodes_of}
 use Rattle.cordyceps_base.specs.Spots.{AreTestable}
 use Rattle.cordyceps_base.proofs.DoubleChain.{segment_join}
 use Rattle.cordyceps_base.proofs.Nodes.{length-nodes_of, length_is}
@@ -62,25 +62,20 @@ invariant_of-left g c =
           (segment_join null_ptr c.followed_by-front.result.0.ptr f c.get-2.result.now.links.prev.ptr c.get.result.now.links.next.ptr r c.behind-rest.result.0.ptr null_ptr c.followed_by-front.ensures.linked c.behind-rest.ensures.linked),
     )
 
-pub of_one-requires : goal.of_one-requires
-of_one-requires g c =
-    let i = c.self.inside in let h = i.head.ptr in let t = i.tail.ptr in let ns = i.boxes.blocks in let p = c.args.at.ptr in let front = c.cut_at-front.result.0.blocks in let back = c.cut_at-front.result.1.blocks in
-    let u : Cut h t ns front back p = cut h t ns front back c.args.self p c.self.view_is c.requires c.self.invariant.2 c.cut_at-front.ensures.0 c.cut_at-front.ensures.1 in
-    (u.node.1, u.node.2, one_is h t ns front back p u c.cut-one.result.0.blocks u.node.1 c.cut-one.ensures.0)
-
 pub returns-clause-parts : goal.returns-clause-parts
 returns-clause-parts g c =
     let i = c.self.inside in let h = i.head.ptr in let t = i.tail.ptr in let ns = i.boxes.blocks in let p = c.args.at.ptr in let front = c.cut_at-front.result.0.blocks in let back = c.cut_at-front.result.1.blocks in
     let u : Cut h t ns front back p = cut h t ns front back c.args.self p c.self.view_is c.requires c.self.invariant.2 c.cut_at-front.ensures.0 c.cut_at-front.ensures.1 in
     let f = c.followed_by-front.result.1.blocks in let r = c.behind-rest.result.1.blocks in (
-      block_element u.node.2,
+      u.node.1,
+      u.node.2,
       (
         nodes_of front,
         nodes_of u.after,
         taken_is h t ns front back p u c.args.self u.node.2 c.self.view_is refl,
         left_is h t ns front back p u c.cut-one.result.1.blocks f r c.tested.result.blocks c.cut-one.ensures.1 c.followed_by-front.ensures.same c.behind-rest.ensures.same (c.tested.ensures.0 ∙ c.join.ensures),
       ),
-      c.of_one.ensures ∙ ap nodes_of (one_is h t ns front back p u c.cut-one.result.0.blocks u.node.1 c.cut-one.ensures.0),
+      one_is h t ns front back p u c.cut-one.result.0.blocks u.node.1 c.cut-one.ensures.0,
     )
 
 pub returns-clause-fits : goal.returns-clause-fits
@@ -89,6 +84,4 @@ returns-clause-fits g c =
     let u : Cut h t ns front back p = cut h t ns front back c.args.self p c.self.view_is c.requires c.self.invariant.2 c.cut_at-front.ensures.0 c.cut_at-front.ensures.1 in
     let f = c.followed_by-front.result.1.blocks in let r = c.behind-rest.result.1.blocks in let l = c.len-len.ensures ∙ length_is ns c.args.self c.self.view_is in let m = some h t ns front back p u in
     let left = left_length h t ns front back p u c.cut-one.result.1.blocks f r c.tested.result.blocks c.cut-one.ensures.1 c.followed_by-front.ensures.same c.behind-rest.ensures.same (c.tested.ensures.0 ∙ c.join.ensures) in
-    let seen = length-nodes_of c.tested.result.blocks in
-    let one : length c.of_one.result ≡ 1 = ap length (c.of_one.ensures ∙ ap nodes_of (one_is h t ns front back p u c.cut-one.result.0.blocks u.node.1 c.cut-one.ensures.0)) in
-    omega (arith, l, m, left, seen, one)
+    let seen = length-nodes_of c.tested.result.blocks in omega (arith, l, m, left, seen)

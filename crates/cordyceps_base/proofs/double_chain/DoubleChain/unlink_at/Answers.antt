@@ -1,12 +1,13 @@
-use Rattle.std.proofs.Common.{◌++◌, ◌∷◌, ap, sym, length, ◌∙◌}
+use Rattle.std.proofs.Common.{◌++◌, ◌∷◌, ap, sym, ◌∙◌}
+use Rattle.cordyceps_base.specs.Nodes.{nodes_of}
 use Rattle.cordyceps_base.proofs.Segments.{sole_element}
 use Rattle.cordyceps_base.proofs.double_chain.DoubleChain.unlink_at.Goals as goal
 
-pub only-requires : goal.only-requires
-only-requires g c = let (e, taken, one) = c.parted-rest.ensures.parts in ap length one
+pub node_of-requires : goal.node_of-requires
+node_of-requires g c = let (a, x, taken, one) = c.parted-rest.ensures.parts in (a, x, one)
 
 pub returns : goal.returns
 returns g c =
-    let (e, (b, a, is, left), one) = c.parted-rest.ensures.parts in let p = c.args.at.ptr in
-    let same = sole_element c.parted-rest.result.1 p c.only.ensures.0 e c.only.result one c.only.ensures.1 in
-    (b, a, sym c.take.ensures.0 ∙ is ∙ ap (λ n. b ++ (p, n) ∷ a) same, c.put.ensures ∙ left)
+    let (a, x, (before, after, is, left), one) = c.parted-rest.ensures.parts in let p = c.args.at.ptr in
+    let same = sole_element (nodes_of c.parted-rest.result.1.blocks) p p _ c.node_of.result (ap nodes_of one) c.node_of.ensures in
+    (before, after, sym c.take.ensures.0 ∙ is ∙ ap (λ n. before ++ (p, n) ∷ after) same, c.put.ensures ∙ left)
