@@ -5,6 +5,7 @@ use mathlib.Core.Option as maybe
 use lib.ListN.{get_elem?}
 use Rattle.atomic_table.specs.Table.{State}
 use Rattle.atomic_table.specs.Seated.{TableId}
+use Rattle.cordyceps_base.specs.declared.shared.TheConstants.{MAX_ROOMS}
 use Rattle.cordyceps_shared.specs.Knowing.{SharesApart, AllAgree}
 use Rattle.cordyceps_shared.specs.declared.slots.Filled.{Filled}
 use Rattle.cordyceps_stack.specs.Shared.View.{View, knows}
@@ -44,4 +45,4 @@ module _ {E : Type 0} where
 
 -- a link for each slot, and head, for at most as many rooms as a stack may have
 abbrev pub IsTable : TableId → Type 0
-IsTable z = (z.words ≡ suc z.slots) × (z.slots ≤ 1048576)
+IsTable z = (z.words ≡ suc z.slots) × (z.slots ≤ MAX_ROOMS)

@@ -11,6 +11,7 @@ use crate::shared::table::{OwnedTable, PartySeat};
 use crate::shared::{parting, steps};
 use crate::stack::Stack;
 use cordyceps_base::linked::Linked;
+use cordyceps_base::shared::MAX_ROOMS;
 use cordyceps_base::stack::Links;
 use cordyceps_shared::slots::Filled;
 use cordyceps_shared::tickets::Tickets;
@@ -78,7 +79,7 @@ impl<T: Linked<Links<T>>> TransferStack<T> {
     ///
     /// It makes an allocation for each room, and four for the words and slots of all. `AllocError` where one is refused.
     pub fn new(alloc: Global, rooms: usize) -> Result<(TransferStack<T>, Party<T>), AllocError>
-        requires { rooms ≤ 1048576 }
+        requires { rooms ≤ MAX_ROOMS }
         ensures { IfOk result (λ made. made.1 ≡ new_party made.0 rooms) }
     {
         let tickets = Tickets::new(alloc, rooms)?;
