@@ -2,5 +2,5 @@
 pub mod Alone
 pub mod CoreMeets
 pub mod Machine
-pub mod Meets
+pub mod Stages
 pub mod Walks

@@ -14,12 +14,10 @@ use Rattle.cordyceps_shared.specs.declared.room.Room.{Room}
 use Rattle.cordyceps_stack.specs.History.{Event, Load, Push, held}
 use Rattle.cordyceps_shared.specs.Rooms.{change, linking}
 use Rattle.cordyceps_stack.specs.Cores.Machine.{Machine, Outcome, holding, least_free, stepped, is_rest, is_at_rest, is_ready, in_hand_at, answered_events}
-use Rattle.cordyceps_stack.specs.Cores.Meets.{AnswerSays}
-use Rattle.cordyceps_stack.specs.Cores.CoreMeets.{CoreMeets}
+use Rattle.cordyceps_stack.specs.Cores.CoreMeets.{CoreMeets, AnswerSays}
 use Rattle.cordyceps_shared.proofs.ListWrites.{slice_get-set_same, slice_get-change_same}
 use Rattle.cordyceps_stack.proofs.Histories.{held_more}
-use Rattle.cordyceps_stack.proofs.CoreTheory.AnyStep.{least_is_free}
-use Rattle.cordyceps_stack.proofs.CoreTheory.CoreKeeps.{core_steps}
+use Rattle.cordyceps_stack.proofs.CoreTheory.AnyStep.{least_is_free, core_steps}
 
 option_eq_refl : (x : Option ℕ) → option_eq nat_eq x x ≡ true
 option_eq_refl None = refl

@@ -12,14 +12,14 @@ use Rattle.cordyceps_shared.specs.declared.room.Room.{Room}
 use Rattle.cordyceps_stack.specs.History.{Event, Taken, held}
 use Rattle.cordyceps_shared.specs.Rooms.{change, freeing, element_in, next_in}
 use Rattle.cordyceps_stack.specs.Cores.Machine.{stepped, Machine, stage_after_walk, occupied, elements_from, held_in}
-use Rattle.cordyceps_stack.specs.Cores.Meets.{room_in_use, NotAmong, LeadsThrough, room_elements}
+use Rattle.cordyceps_stack.specs.Cores.Stages.{room_in_use, NotAmong, LeadsThrough, room_elements}
 use Rattle.cordyceps_stack.specs.Cores.CoreMeets.{core_step, CoreMeets, IsSound}
 use Rattle.cordyceps_stack.specs.Cores.Alone.{take_steps}
 use Rattle.cordyceps_shared.proofs.ListWrites.{slice_get-set_same, set_as_it_was}
 use Rattle.cordyceps_stack.proofs.CoreTheory.Chains.{or_to, all_to, LeadsThrough-passed, LeadsThrough-change, LeadsThrough-none}
 use Rattle.cordyceps_stack.proofs.CoreTheory.EachStep.{keeps_take, keeps_nothing, keeps_walk}
 use Rattle.cordyceps_stack.proofs.CoreTheory.AnyStep.{none_held, first_of_rest}
-use Rattle.cordyceps_stack.proofs.CoreTheory.CoreKeeps.{numbers_apart, element_at}
+use Rattle.cordyceps_stack.proofs.CoreTheory.CoreKeeps.{element_at}
 
 pair_of : {A B : Type 0} {a a' : A} {b b' : B} → a ≡ a' → b ≡ b' → ◌≡◌ {A = A × B} (a, b) (a', b')
 pair_of p q = cc
@@ -50,12 +50,12 @@ module _ {E : Type 0} where
 
   start_meets : (h : List (Event ℕ E)) (m : Machine E) (p : ℕ) (top : Option ℕ) → CoreMeets h m → slice_get m.parties p ≡ Some Rest → m.head ≡ top → CoreMeets (h ++ Taken p (reverse (held h)) ∷ []) record { head = None; rooms = m.rooms; parties = set m.parties p (stage_after_walk top) }
   start_meets h m p None was at top =
-      let none : [] ≡ reverse (held h) = sym (ap reverse (none_held (λ q. q) h m was top)) in
+      let none : [] ≡ reverse (held h) = sym (ap reverse (none_held h m was top)) in
       subst (λ (b : List E). CoreMeets (h ++ Taken p b ∷ []) record { head = None; rooms = m.rooms; parties = set m.parties p Rest }) none
       (subst (λ (n : Machine E). CoreMeets (h ++ Taken p [] ∷ []) n)
       (ap (λ (x : Option ℕ × List Stage). let n : Machine E = record { head = x.0; rooms = m.rooms; parties = x.1 } in n) (pair_of top (sym (set_as_it_was m.parties p Rest at))))
-      (keeps_nothing (λ q. q) h m p was (numbers_apart p) at top))
-  start_meets h m p (Some r) was at top = keeps_take (λ q. q) h m p r was (numbers_apart p) at top
+      (keeps_nothing h m p was at top))
+  start_meets h m p (Some r) was at top = keeps_take h m p r was at top
 
   start_steps : (m : Machine E) (p : ℕ) (top : Option ℕ) → slice_get m.parties p ≡ Some Rest → m.head ≡ top → record { head = None; rooms = m.rooms; parties = set m.parties p (stage_after_walk top) } ≡ (stepped m p step.Take).0
   start_steps m p None at top = rw (at, top, set_as_it_was m.parties p Rest at) refl
@@ -119,7 +119,7 @@ module _ {E : Type 0} where
             let now = c.law h was in
             let m : Machine E = record { head = None; rooms = rooms; parties = set parties p (Walking r) } in
             let at : slice_get m.parties p ≡ Some (Walking r) = slice_get-set_same parties p (Walking r) Rest c.at_rest in
-            let met = keeps_walk (λ q. q) (h ++ Taken p (reverse (held h)) ∷ []) m p r e next now.0 at got in
+            let met = keeps_walk (h ++ Taken p (reverse (held h)) ∷ []) m p r e next now.0 at got in
             (rw set-set at met, hands_on (reverse (held h)) given rooms p r e next now.1.own now.1.rest now.1.links now.1.whole got);
       }
 

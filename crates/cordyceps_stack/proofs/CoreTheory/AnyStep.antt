@@ -15,9 +15,10 @@ use Rattle.cordyceps_shared.specs.declared.room.Room.{Room}
 use Rattle.cordyceps_stack.specs.History.{Event, held}
 use Rattle.cordyceps_shared.specs.Rooms.{element_in, next_in, is_free_for}
 use Rattle.cordyceps_stack.specs.Cores.Machine.{Machine, Outcome, least_free, load, exchange, take, walk, stepped_at, stepped, in_hand_at, answered_events}
-use Rattle.cordyceps_stack.specs.Cores.Meets.{room_in_use, LeadsThrough, Meets, AnswerSays}
+use Rattle.cordyceps_stack.specs.Cores.Stages.{room_in_use, LeadsThrough}
+use Rattle.cordyceps_stack.specs.Cores.CoreMeets.{CoreMeets, AnswerSays, step_events}
 use Rattle.cordyceps_stack.proofs.CoreTheory.Chains.{LeadsThrough-none, LeadsThrough-some}
-use Rattle.cordyceps_stack.proofs.CoreTheory.EachStep.{Apart, keeps_load, keeps_set_next, keeps_push, keeps_fail, keeps_take, keeps_nothing, keeps_walk}
+use Rattle.cordyceps_stack.proofs.CoreTheory.EachStep.{keeps_load, keeps_set_next, keeps_push, keeps_fail, keeps_take, keeps_nothing, keeps_walk}
 
 option_same : (x y : Option ℕ) → option_eq nat_eq x y ≡ true → x ≡ y
 option_same None None e = refl
@@ -48,80 +49,79 @@ module _ {E : Type 0} where
   first_of_rest rooms own w r [] l = let no : ⊥ = cc in absurd no
   first_of_rest rooms own w r (x ∷ xs) l = let start : r ≡ x.0 = let e = l.1 in cc in (x.1, l.0, ap (slice_get rooms) start ∙ l.2)
 
-module _ {P E : Type 0} where
-  pub none_held : (name : ℕ → P) (h : List (Event P E)) (m : Machine E) → Meets name h m → m.head ≡ None → held h ≡ []
-  none_held name h m was top =
+  pub none_held : (h : List (Event ℕ E)) (m : Machine E) → CoreMeets h m → m.head ≡ None → held h ≡ []
+  none_held h m was top =
       none_from_reversed (held h) (sym was.holds ∙ LeadsThrough-none m.rooms was.own None was.chain (subst (λ start. LeadsThrough m.rooms was.own None start was.chain) top was.linked))
 
-  some_held : (name : ℕ → P) (h : List (Event P E)) (m : Machine E) (r : ℕ) → Meets name h m → m.head ≡ Some r → held h ≢ []
-  some_held name h m r was top e =
+  some_held : (h : List (Event ℕ E)) (m : Machine E) (r : ℕ) → CoreMeets h m → m.head ≡ Some r → held h ≢ []
+  some_held h m r was top e =
       LeadsThrough-some m.rooms was.own None r was.chain (subst (λ start. LeadsThrough m.rooms was.own None start was.chain) top was.linked) (was.holds ∙ ap reverse e)
 
-  head_tells : (name : ℕ → P) (h : List (Event P E)) (m : Machine E) (top : Option ℕ) → Meets name h m → m.head ≡ top
+  head_tells : (h : List (Event ℕ E)) (m : Machine E) (top : Option ℕ) → CoreMeets h m → m.head ≡ top
       → (is_none top ≡ true) ↔ (held h ≡ [])
-  head_tells name h m None was e = (λ _. none_held name h m was e, λ _. refl)
-  head_tells name h m (Some r) was e = (λ n. let no : ⊥ = cc in absurd no, λ n. absurd (some_held name h m r was e n))
+  head_tells h m None was e = (λ _. none_held h m was e, λ _. refl)
+  head_tells h m (Some r) was e = (λ n. let no : ⊥ = cc in absurd no, λ n. absurd (some_held h m r was e n))
 
   -- the step's outcome is the machine's, and the machine meets the history with the step's events
-  abbrev pub Goes_on : (ℕ → P) → List (Event P E) → ℕ → Option E → TransferStep E → Outcome E → Type 0
-  Goes_on name h p hand s out = Meets name (h ++ answered_events h (name p) hand s out.1) out.0 × AnswerSays h (name p) out.1
+  abbrev pub Goes_on : List (Event ℕ E) → ℕ → Option E → TransferStep E → Outcome E → Type 0
+  Goes_on h p hand s out = CoreMeets (h ++ answered_events h p hand s out.1) out.0 × AnswerSays h p out.1
 
-  unchanged : (name : ℕ → P) (h : List (Event P E)) (m : Machine E) → Meets name h m → Meets name (h ++ []) m
-  unchanged name h m was = subst (λ k. Meets name k m) (sym (append-nil h)) was
+  unchanged : (h : List (Event ℕ E)) (m : Machine E) → CoreMeets h m → CoreMeets (h ++ []) m
+  unchanged h m was = subst (λ k. CoreMeets k m) (sym (append-nil h)) was
 
-  on_load : (name : ℕ → P) (h : List (Event P E)) (m : Machine E) (p : ℕ) (e : E) (o : Option ℕ) → Meets name h m
-      → Apart name p → slice_get m.parties p ≡ Some Rest → least_free p m.rooms ≡ o
-      → Goes_on name h p None (step.Load e) (load m p e o)
-  on_load name h m p e None was apart at free = (unchanged name h m was, tt)
-  on_load name h m p e (Some r) was apart at free =
+  on_load : (h : List (Event ℕ E)) (m : Machine E) (p : ℕ) (e : E) (o : Option ℕ) → CoreMeets h m
+      → slice_get m.parties p ≡ Some Rest → least_free p m.rooms ≡ o
+      → Goes_on h p None (step.Load e) (load m p e o)
+  on_load h m p e None was at free = (unchanged h m was, tt)
+  on_load h m p e (Some r) was at free =
       let room = least_is_free p m.rooms r free in
-      (keeps_load name h m p r p e room.0 was apart at room.1 room.2, tt)
+      (keeps_load h m p r p e room.0 was at room.1 room.2, tt)
 
-  on_exchange : (name : ℕ → P) (h : List (Event P E)) (m : Machine E) (p : ℕ) (a : Attempt) (b : Bool) → Meets name h m
-      → Apart name p → slice_get m.parties p ≡ Some (Set a) → option_eq nat_eq m.head a.read ≡ b
-      → Goes_on name h p (element_in (slice_get m.rooms a.room)) step.Exchange (exchange m p a b)
-  on_exchange name h m p a true was apart at test =
+  on_exchange : (h : List (Event ℕ E)) (m : Machine E) (p : ℕ) (a : Attempt) (b : Bool) → CoreMeets h m
+      → slice_get m.parties p ≡ Some (Set a) → option_eq nat_eq m.head a.read ≡ b
+      → Goes_on h p (element_in (slice_get m.rooms a.room)) step.Exchange (exchange m p a b)
+  on_exchange h m p a true was at test =
       let hand = (was.parties p (Set a) at).0 in
       let same = option_same m.head a.read test in
-      (rw hand.room (keeps_push name h m p a hand.element hand.next was apart at same hand.room), head_tells name h m a.read was same)
-  on_exchange name h m p a false was apart at test =
+      (rw hand.room (keeps_push h m p a hand.element hand.next was at same hand.room), head_tells h m a.read was same)
+  on_exchange h m p a false was at test =
       let there = was.parties p (Set a) at in
       let hand = there.0 in
-      rw hand.room (unchanged name h _ (keeps_fail name h m p a was at), record { since = there.2.since; loaded = there.2.loaded; moved = there.2.moved (option_differ m.head a.read test) })
+      rw hand.room (unchanged h _ (keeps_fail h m p a was at), record { since = there.2.since; loaded = there.2.loaded; moved = there.2.moved (option_differ m.head a.read test) })
 
-  on_take : (name : ℕ → P) (h : List (Event P E)) (m : Machine E) (p : ℕ) (top : Option ℕ) → Meets name h m → Apart name p
-      → slice_get m.parties p ≡ Some Rest → m.head ≡ top → Goes_on name h p None step.Take (take m p top)
-  on_take name h m p None was apart at top = (keeps_nothing name h m p was apart at top, none_held name h m was top)
-  on_take name h m p (Some r) was apart at top = (keeps_take name h m p r was apart at top, some_held name h m r was top)
+  on_take : (h : List (Event ℕ E)) (m : Machine E) (p : ℕ) (top : Option ℕ) → CoreMeets h m
+      → slice_get m.parties p ≡ Some Rest → m.head ≡ top → Goes_on h p None step.Take (take m p top)
+  on_take h m p None was at top = (keeps_nothing h m p was at top, none_held h m was top)
+  on_take h m p (Some r) was at top = (keeps_take h m p r was at top, some_held h m r was top)
 
   -- where a party walks there is a room with an element
-  pub walking_at : (name : ℕ → P) (h : List (Event P E)) (m : Machine E) (p r : ℕ) → Meets name h m
+  pub walking_at : (h : List (Event ℕ E)) (m : Machine E) (p r : ℕ) → CoreMeets h m
       → slice_get m.parties p ≡ Some (Walking r) → (e : E) × (next : Option ℕ) × (slice_get m.rooms r ≡ Some (room_in_use e next))
-  walking_at name h m p r was at = let w = was.parties p (Walking r) at in first_of_rest m.rooms was.own (Some p) r w.rest w.links
+  walking_at h m p r was at = let w = was.parties p (Walking r) at in first_of_rest m.rooms was.own (Some p) r w.rest w.links
 
-  walked_on : (name : ℕ → P) (h : List (Event P E)) (m : Machine E) (p r : ℕ) (e : E) (next : Option ℕ) → Meets name h m
+  walked_on : (h : List (Event ℕ E)) (m : Machine E) (p r : ℕ) (e : E) (next : Option ℕ) → CoreMeets h m
       → slice_get m.parties p ≡ Some (Walking r) → slice_get m.rooms r ≡ Some (room_in_use e next)
-      → Goes_on name h p None step.Walk (walk m p r next (Some e))
-  walked_on name h m p r e None was at got = (unchanged name h _ (keeps_walk name h m p r e None was at got), tt)
-  walked_on name h m p r e (Some s) was at got = (unchanged name h _ (keeps_walk name h m p r e (Some s) was at got), tt)
+      → Goes_on h p None step.Walk (walk m p r next (Some e))
+  walked_on h m p r e None was at got = (unchanged h _ (keeps_walk h m p r e None was at got), tt)
+  walked_on h m p r e (Some s) was at got = (unchanged h _ (keeps_walk h m p r e (Some s) was at got), tt)
 
-  on_walk : (name : ℕ → P) (h : List (Event P E)) (m : Machine E) (p r : ℕ) → Meets name h m
+  on_walk : (h : List (Event ℕ E)) (m : Machine E) (p r : ℕ) → CoreMeets h m
       → slice_get m.parties p ≡ Some (Walking r)
-      → Goes_on name h p None step.Walk (walk m p r (next_in (slice_get m.rooms r)) (element_in (slice_get m.rooms r)))
-  on_walk name h m p r was at =
-      let there = walking_at name h m p r was at in
-      rw there.2 (walked_on name h m p r there.0 there.1 was at there.2)
+      → Goes_on h p None step.Walk (walk m p r (next_in (slice_get m.rooms r)) (element_in (slice_get m.rooms r)))
+  on_walk h m p r was at =
+      let there = walking_at h m p r was at in
+      rw there.2 (walked_on h m p r there.0 there.1 was at there.2)
 
-  goes_at : (name : ℕ → P) (h : List (Event P E)) (m : Machine E) (p : ℕ) (s : TransferStep E) (o : Option Stage)
-      → Meets name h m → Apart name p → slice_get m.parties p ≡ o → Goes_on name h p (in_hand_at m.rooms o) s (stepped_at m p s o)
-  goes_at name h m p (step.Load e) (Some Rest) was apart at = on_load name h m p e (least_free p m.rooms) was apart at refl
-  goes_at name h m p step.SetNext (Some (Loaded a)) was apart at = (unchanged name h _ (keeps_set_next name h m p a was at), tt)
-  goes_at name h m p step.Exchange (Some (Set a)) was apart at = on_exchange name h m p a (option_eq nat_eq m.head a.read) was apart at refl
-  goes_at name h m p step.Take (Some Rest) was apart at = on_take name h m p m.head was apart at refl
-  goes_at name h m p step.Walk (Some (Walking r)) was apart at = on_walk name h m p r was at
-  goes_at name h m p (step.Load e) None was apart at = (unchanged name h m was, tt)
-  goes_at name h m p s o was apart at = (unchanged name h m was, tt)
+  goes_at : (h : List (Event ℕ E)) (m : Machine E) (p : ℕ) (s : TransferStep E) (o : Option Stage)
+      → CoreMeets h m → slice_get m.parties p ≡ o → Goes_on h p (in_hand_at m.rooms o) s (stepped_at m p s o)
+  goes_at h m p (step.Load e) (Some Rest) was at = on_load h m p e (least_free p m.rooms) was at refl
+  goes_at h m p step.SetNext (Some (Loaded a)) was at = (unchanged h _ (keeps_set_next h m p a was at), tt)
+  goes_at h m p step.Exchange (Some (Set a)) was at = on_exchange h m p a (option_eq nat_eq m.head a.read) was at refl
+  goes_at h m p step.Take (Some Rest) was at = on_take h m p m.head was at refl
+  goes_at h m p step.Walk (Some (Walking r)) was at = on_walk h m p r was at
+  goes_at h m p (step.Load e) None was at = (unchanged h m was, tt)
+  goes_at h m p s o was at = (unchanged h m was, tt)
 
-  pub goes_on : (name : ℕ → P) (h : List (Event P E)) (m : Machine E) (p : ℕ) (s : TransferStep E) → Meets name h m
-      → Apart name p → Goes_on name h p (in_hand_at m.rooms (slice_get m.parties p)) s (stepped m p s)
-  goes_on name h m p s was apart = goes_at name h m p s (slice_get m.parties p) was apart refl
+  pub core_steps : (h : List (Event ℕ E)) (m : Machine E) (p : ℕ) (s : TransferStep E) → CoreMeets h m
+      → CoreMeets (h ++ step_events h m p s (stepped m p s).1) (stepped m p s).0 × AnswerSays h p (stepped m p s).1
+  core_steps h m p s was = goes_at h m p s (slice_get m.parties p) was refl

@@ -3,7 +3,7 @@ use Rattle.std.proofs.Common.{◌≡◌, ◌≢◌, ℕ, List, [], ◌∷◌, re
 use Rattle.std.specs.Prelude.{Option, Some, None, slice_get, nat_eq}
 use Rattle.cordyceps_shared.specs.declared.room.Room.{Room}
 use Rattle.cordyceps_shared.specs.Rooms.{change}
-use Rattle.cordyceps_stack.specs.Cores.Meets.{room_in_use, NotAmong, LeadsThrough, room_elements}
+use Rattle.cordyceps_stack.specs.Cores.Stages.{room_in_use, NotAmong, LeadsThrough, room_elements}
 use Rattle.cordyceps_shared.proofs.ListWrites.{slice_get-change_other}
 use Rattle.std.proofs.lemmas.Bool.{eq-eqb, ne_eqb}
 

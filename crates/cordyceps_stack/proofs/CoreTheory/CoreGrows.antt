@@ -4,7 +4,7 @@ use Rattle.std.specs.Prelude.{Option, Some, None, slice_get, Result, Ok, Err, On
 use Rattle.cordyceps_shared.specs.declared.room.Room.{Room}
 use Rattle.cordyceps_stack.specs.History.{Event}
 use Rattle.cordyceps_stack.specs.Cores.Machine.{Machine}
-use Rattle.cordyceps_stack.specs.Cores.Meets.{Meets}
+use Rattle.cordyceps_stack.specs.Cores.CoreMeets.{CoreMeets}
 use Rattle.cordyceps_stack.proofs.CoreTheory.Chains.{Keeps, LeadsThrough-passed}
 use Rattle.cordyceps_stack.proofs.CoreTheory.EachStep.{bystander, goes_idle}
 
@@ -21,9 +21,9 @@ module _ {X : Type 0} where
   slice_get-pushed (z ∷ xs) x y zero e = e
   slice_get-pushed (z ∷ xs) x y (suc i) e = slice_get-pushed xs x y i e
 
-module _ {P E : Type 0} where
-  pub meets_room : (name : ℕ → P) (h : List (Event P E)) (m : Machine E) (room : Room E) → Meets name h m → Meets name h record { head = m.head; rooms = m.rooms ++ room ∷ []; parties = m.parties }
-  meets_room name h m room was =
+module _ {E : Type 0} where
+  pub meets_room : (h : List (Event ℕ E)) (m : Machine E) (room : Room E) → CoreMeets h m → CoreMeets h record { head = m.head; rooms = m.rooms ++ room ∷ []; parties = m.parties }
+  meets_room h m room was =
       let keeps : (w : Option ℕ) → Keeps m.rooms was.own (m.rooms ++ room ∷ []) was.own w = λ w r e next got mine. (slice_get-pushed m.rooms room _ r got, mine) in
       record {
         legal = was.legal;
@@ -31,11 +31,11 @@ module _ {P E : Type 0} where
         chain = was.chain;
         linked = LeadsThrough-passed m.rooms was.own (m.rooms ++ room ∷ []) was.own None None m.head was.chain (keeps None) was.linked;
         holds = was.holds;
-        parties = λ p stage got. bystander (name p) h h m.head m.head m.rooms was.own (m.rooms ++ room ∷ []) was.own p stage (goes_idle (name p) h m.head m.head refl) (keeps (Some p)) (was.parties p stage got);
+        parties = λ p stage got. bystander h h m.head m.head m.rooms was.own (m.rooms ++ room ∷ []) was.own p stage (goes_idle p h m.head m.head refl) (keeps (Some p)) (was.parties p stage got);
       }
 
 module _ {E T F : Type 0} where
   -- whether or not there was memory for a room
-  pub room_tried : (h : List (Event ℕ E)) (m : Machine E) (room : Room E) (rooms : List (Room E)) (r : Result T F) → OnOk r (rooms ≡ m.rooms ++ room ∷ []) → OnErr r (rooms ≡ m.rooms) → Meets (λ p. p) h m → Meets (λ p. p) h record { head = m.head; rooms = rooms; parties = m.parties }
-  room_tried h m room rooms (Ok x) ok err was = rw ok (meets_room (λ p. p) h m room was)
+  pub room_tried : (h : List (Event ℕ E)) (m : Machine E) (room : Room E) (rooms : List (Room E)) (r : Result T F) → OnOk r (rooms ≡ m.rooms ++ room ∷ []) → OnErr r (rooms ≡ m.rooms) → CoreMeets h m → CoreMeets h record { head = m.head; rooms = rooms; parties = m.parties }
+  room_tried h m room rooms (Ok x) ok err was = rw ok (meets_room h m room was)
   room_tried h m room rooms (Err x) ok err was = rw err was

@@ -12,14 +12,10 @@ use Rattle.cordyceps_shared.specs.declared.room.Room.{Room}
 use Rattle.cordyceps_stack.specs.History.{Event}
 use Rattle.cordyceps_shared.specs.Rooms.{change, linking, freeing, element_in, next_in}
 use Rattle.cordyceps_stack.specs.Cores.Machine.{Machine, holding, stage_after_walk, least_free, acts, stepped_at, stepped}
-use Rattle.cordyceps_stack.specs.Cores.Meets.{AnswerSays, room_in_use}
-use Rattle.cordyceps_stack.specs.Cores.CoreMeets.{CoreMeets, IsSound, step_events}
+use Rattle.cordyceps_stack.specs.Cores.Stages.{room_in_use}
+use Rattle.cordyceps_stack.specs.Cores.CoreMeets.{CoreMeets, IsSound, step_events, AnswerSays}
 use Rattle.cordyceps_stack.proofs.Histories.{legal_none}
-use Rattle.cordyceps_stack.proofs.CoreTheory.EachStep.{Apart}
-use Rattle.cordyceps_stack.proofs.CoreTheory.AnyStep.{goes_on, walking_at}
-
-pub numbers_apart : (p : ℕ) → Apart (λ q. q) p
-numbers_apart p q ne e = ne (sym e)
+use Rattle.cordyceps_stack.proofs.CoreTheory.AnyStep.{core_steps, walking_at}
 
 module _ {E : Type 0} where
   pub meets_new : CoreMeets {E = E} [] record { head = None; rooms = []; parties = [] }
@@ -32,11 +28,7 @@ module _ {E : Type 0} where
     parties = λ p stage got. let no : ⊥ = cc in absurd no;
   }
 
-  pub core_steps : (h : List (Event ℕ E)) (m : Machine E) (p : ℕ) (s : TransferStep E) → CoreMeets h m
-      → CoreMeets (h ++ step_events h m p s (stepped m p s).1) (stepped m p s).0 × AnswerSays h p (stepped m p s).1
-  core_steps h m p s was = goes_on (λ q. q) h m p s was (numbers_apart p)
-
-  -- the same, where it is known at which stage the party is
+  -- a step of a party whose stage is known
   pub core_acts : (h : List (Event ℕ E)) (m : Machine E) (p : ℕ) (s : TransferStep E) (stage : Stage)
       → slice_get m.parties p ≡ Some stage → CoreMeets h m
       → CoreMeets (h ++ step_events h m p s (acts m p s stage).1) (acts m p s stage).0 × AnswerSays h p (acts m p s stage).1
@@ -57,7 +49,7 @@ module _ {E : Type 0} where
 
   pub walking_room : (m : Machine E) (p r : ℕ) → IsSound m → slice_get m.parties p ≡ Some (Walking r)
       → (e : E) × (next : Option ℕ) × (slice_get m.rooms r ≡ Some (room_in_use e next))
-  walking_room m p r s at = walking_at (λ q. q) s.0 m p r s.1 at
+  walking_room m p r s at = walking_at s.0 m p r s.1 at
 
   pub sound_load : (m : Machine E) (p r : ℕ) (e : E) (rooms : List (Room E)) → IsSound m → slice_get m.parties p ≡ Some Rest
       → least_free p m.rooms ≡ Some r → rooms ≡ change (holding e) r m.rooms

@@ -10,14 +10,11 @@ use Rattle.cordyceps_shared.specs.declared.room.Room.{Room}
 use Rattle.cordyceps_stack.specs.History.{Event, Load, Push, Taken, held, Legal, NoLoad, NoTaken, IsByAnother, SomeByAnother, LastLoad, LastBatch}
 use Rattle.cordyceps_shared.specs.Rooms.{change, linking, freeing}
 use Rattle.cordyceps_stack.specs.Cores.Machine.{Machine, holding, stage_after_walk}
-use Rattle.cordyceps_stack.specs.Cores.Meets.{room_in_use, NotAmong, LeadsThrough, room_elements, InHand, HasRead, HasBatchLeft, AtStage, Meets}
+use Rattle.cordyceps_stack.specs.Cores.Stages.{room_in_use, NotAmong, LeadsThrough, room_elements, InHand, HasRead, HasBatchLeft, AtStage}
+use Rattle.cordyceps_stack.specs.Cores.CoreMeets.{CoreMeets}
 use Rattle.cordyceps_shared.proofs.ListWrites.{slice_get-set_same, slice_get-set_other, slice_get-change_same, set_as_it_was}
 use Rattle.cordyceps_stack.proofs.Histories.{held_more, legal_more, loaded_now, loaded_more, batch_now, batch_more, another_more, another_last}
 use Rattle.cordyceps_stack.proofs.CoreTheory.Chains.{relabel, relabel_here, all_to, or_to, Keeps, LeadsThrough-passed, NoneOf-label, LeadsThrough-change, Keeps-change, Keeps-relabel, Keeps-fresh, LeadsThrough-none, LeadsThrough-some}
-
--- no other party has p's name
-abbrev pub Apart : {P : Type 0} → (ℕ → P) → ℕ → Type 0
-Apart name p = (q : ℕ) → q ≢ p → name p ≢ name q
 
 pub not_mine : (own : ℕ → Option ℕ) (r p q : ℕ) → own r ≡ Some p → q ≢ p → own r ≢ Some q
 not_mine own r p q mine ne e = let same : q ≡ p = cc in ne same
@@ -32,17 +29,16 @@ module _ {E : Type 0} where
       let here = k r hand.element hand.next hand.room hand.mine in
       record { element = hand.element; next = hand.next; room = here.0; mine = here.1 }
 
-module _ {P E : Type 0} where
   -- what a party that takes no step needs of the history as it goes on, and of `head`
-  pub record Goes (q : P) (h h' : List (Event P E)) (head head' : Option ℕ) : Type 0 where
-    pub loads : (since : List (Event P E)) → LastLoad q h since
-        → (since' : List (Event P E)) × LastLoad q h' since' × (SomeByAnother q since → SomeByAnother q since') × ((head' ≡ head) ⊎ SomeByAnother q since')
+  pub record Goes (q : ℕ) (h h' : List (Event ℕ E)) (head head' : Option ℕ) : Type 0 where
+    pub loads : (since : List (Event ℕ E)) → LastLoad q h since
+        → (since' : List (Event ℕ E)) × LastLoad q h' since' × (SomeByAnother q since → SomeByAnother q since') × ((head' ≡ head) ⊎ SomeByAnother q since')
     pub batches : (batch : List E) → LastBatch q h batch → LastBatch q h' batch
 
-  pub goes_idle : (q : P) (h : List (Event P E)) (head head' : Option ℕ) → head' ≡ head → Goes q h h head head'
+  pub goes_idle : (q : ℕ) (h : List (Event ℕ E)) (head head' : Option ℕ) → head' ≡ head → Goes q h h head head'
   goes_idle q h head head' e = record { loads = λ since l. (since, l, λ s. s, inl e); batches = λ batch l. l }
 
-  pub goes_event : (q : P) (h : List (Event P E)) (v : Event P E) (head head' : Option ℕ) → NoLoad q (v ∷ [])
+  pub goes_event : (q : ℕ) (h : List (Event ℕ E)) (v : Event ℕ E) (head head' : Option ℕ) → NoLoad q (v ∷ [])
       → NoTaken q (v ∷ []) → (head' ≡ head) ⊎ IsByAnother q v → Goes q h (h ++ v ∷ []) head head'
   goes_event q h v head head' no_load no_taken moved =
       record {
@@ -50,18 +46,18 @@ module _ {P E : Type 0} where
         batches = λ batch l. batch_more q h batch v l no_taken;
       }
 
-  knows_on : (q : P) (h h' : List (Event P E)) (head head' read : Option ℕ) → Goes q h h' head head' → HasRead h q head read
+  knows_on : (q : ℕ) (h h' : List (Event ℕ E)) (head head' read : Option ℕ) → Goes q h h' head head' → HasRead h q head read
       → HasRead h' q head' read
   knows_on q h h' head head' read goes k =
       let g = goes.loads k.since k.loaded in
       record { since = g.0; loaded = g.1; moved = λ ne. elim g.3 [ inl same ↦ g.2 (k.moved (λ e. ne (same ∙ e))) | inr s ↦ s ] }
 
   -- a party that takes no step stands where it stood
-  pub bystander : (n : P) (h h' : List (Event P E)) (head head' : Option ℕ) (rooms : List (Room E)) (own : ℕ → Option ℕ) (rooms' : List (Room E)) (own' : ℕ → Option ℕ) (q : ℕ) (stage : Stage) → Goes n h h' head head' → Keeps rooms own rooms' own' (Some q) → AtStage h n head rooms own q stage → AtStage h' n head' rooms' own' q stage
-  bystander n h h' head head' rooms own rooms' own' q Rest goes k a = tt
-  bystander n h h' head head' rooms own rooms' own' q (Loaded t) goes k a = (hand_on rooms own rooms' own' q t.room k a.0, knows_on n h h' head head' t.read goes a.1)
-  bystander n h h' head head' rooms own rooms' own' q (Set t) goes k a = (hand_on rooms own rooms' own' q t.room k a.0, a.1, knows_on n h h' head head' t.read goes a.2)
-  bystander n h h' head head' rooms own rooms' own' q (Walking r) goes k a =
+  pub bystander : (h h' : List (Event ℕ E)) (head head' : Option ℕ) (rooms : List (Room E)) (own : ℕ → Option ℕ) (rooms' : List (Room E)) (own' : ℕ → Option ℕ) (q : ℕ) (stage : Stage) → Goes q h h' head head' → Keeps rooms own rooms' own' (Some q) → AtStage h head rooms own q stage → AtStage h' head' rooms' own' q stage
+  bystander h h' head head' rooms own rooms' own' q Rest goes k a = tt
+  bystander h h' head head' rooms own rooms' own' q (Loaded t) goes k a = (hand_on rooms own rooms' own' q t.room k a.0, knows_on q h h' head head' t.read goes a.1)
+  bystander h h' head head' rooms own rooms' own' q (Set t) goes k a = (hand_on rooms own rooms' own' q t.room k a.0, a.1, knows_on q h h' head head' t.read goes a.2)
+  bystander h h' head head' rooms own rooms' own' q (Walking r) goes k a =
       record {
         rest = a.rest;
         links = LeadsThrough-passed rooms own rooms' own' (Some q) (Some q) (Some r) a.rest k a.links;
@@ -72,18 +68,18 @@ module _ {P E : Type 0} where
       }
 
   -- what a step of p leaves
-  pub record Leaves (name : ℕ → P) (h h' : List (Event P E)) (m : Machine E) (own : ℕ → Option ℕ) (p : ℕ) (head' : Option ℕ) (rooms' : List (Room E)) (stage' : Stage) : Type 0 where
+  pub record Leaves (h h' : List (Event ℕ E)) (m : Machine E) (own : ℕ → Option ℕ) (p : ℕ) (head' : Option ℕ) (rooms' : List (Room E)) (stage' : Stage) : Type 0 where
     pub legal : Legal h'
     pub own' : ℕ → Option ℕ
     pub chain : List (ℕ × E)
     pub linked : LeadsThrough rooms' own' None head' chain
     pub holds : room_elements chain ≡ reverse (held h')
-    pub goes : (q : ℕ) → q ≢ p → Goes (name q) h h' m.head head'
+    pub goes : (q : ℕ) → q ≢ p → Goes q h h' m.head head'
     pub keeps : (q : ℕ) → q ≢ p → Keeps m.rooms own rooms' own' (Some q)
-    pub mine : AtStage h' (name p) head' rooms' own' p stage'
+    pub mine : AtStage h' head' rooms' own' p stage'
 
-  pub meets_on : (name : ℕ → P) (h h' : List (Event P E)) (m : Machine E) (p : ℕ) (head' : Option ℕ) (rooms' : List (Room E)) (stage stage' : Stage) → (was : Meets name h m) → slice_get m.parties p ≡ Some stage → Leaves name h h' m was.own p head' rooms' stage' → Meets name h' record { head = head'; rooms = rooms'; parties = set m.parties p stage' }
-  meets_on name h h' m p head' rooms' stage stage' was at l =
+  pub meets_on : (h h' : List (Event ℕ E)) (m : Machine E) (p : ℕ) (head' : Option ℕ) (rooms' : List (Room E)) (stage stage' : Stage) → (was : CoreMeets h m) → slice_get m.parties p ≡ Some stage → Leaves h h' m was.own p head' rooms' stage' → CoreMeets h' record { head = head'; rooms = rooms'; parties = set m.parties p stage' }
+  meets_on h h' m p head' rooms' stage stage' was at l =
       record {
         legal = l.legal;
         own = l.own';
@@ -94,76 +90,76 @@ module _ {P E : Type 0} where
           | inl e ↦
               let same : Some stage' ≡ Some there = sym (slice_get-set_same m.parties p stage' stage at) ∙ (ap (slice_get (set m.parties p stage')) (sym e) ∙ got) in
               let same_stage : stage' ≡ there = cc in
-              subst (λ s. AtStage h' (name s) head' rooms' l.own' s there) (sym e) (subst (AtStage h' (name p) head' rooms' l.own' p) same_stage l.mine)
+              subst (λ s. AtStage h' head' rooms' l.own' s there) (sym e) (subst (AtStage h' head' rooms' l.own' p) same_stage l.mine)
           | inr ne ↦
-              bystander (name q) h h' m.head head' m.rooms was.own rooms' l.own' q there (l.goes q ne) (l.keeps q ne) (was.parties q there (sym (slice_get-set_other m.parties p q stage' ne) ∙ got))
+              bystander h h' m.head head' m.rooms was.own rooms' l.own' q there (l.goes q ne) (l.keeps q ne) (was.parties q there (sym (slice_get-set_other m.parties p q stage' ne) ∙ got))
         ];
       }
 
-  pub keeps_load : (name : ℕ → P) (h : List (Event P E)) (m : Machine E) (p r o : ℕ) (e : E) (room : Room E) → Meets name h m
-      → Apart name p → slice_get m.parties p ≡ Some Rest → slice_get m.rooms r ≡ Some room → room.owner ≡ Some o
-      → Meets name (h ++ Load (name p) ∷ []) record { head = m.head; rooms = change (holding e) r m.rooms; parties = set m.parties p (Loaded record { room = r; read = m.head }) }
-  keeps_load name h m p r o e room was apart at got free =
+  pub keeps_load : (h : List (Event ℕ E)) (m : Machine E) (p r o : ℕ) (e : E) (room : Room E) → CoreMeets h m
+      → slice_get m.parties p ≡ Some Rest → slice_get m.rooms r ≡ Some room → room.owner ≡ Some o
+      → CoreMeets (h ++ Load p ∷ []) record { head = m.head; rooms = change (holding e) r m.rooms; parties = set m.parties p (Loaded record { room = r; read = m.head }) }
+  keeps_load h m p r o e room was at got free =
       let fresh : (w : Option ℕ) → Keeps m.rooms was.own (change (holding e) r m.rooms) (relabel was.own r (Some p)) w = λ w. Keeps-fresh (holding e) m.rooms was.own r room (Some p) w o got free in
-      meets_on name h (h ++ Load (name p) ∷ []) m p m.head (change (holding e) r m.rooms) Rest (Loaded record { room = r; read = m.head }) was at
+      meets_on h (h ++ Load p ∷ []) m p m.head (change (holding e) r m.rooms) Rest (Loaded record { room = r; read = m.head }) was at
       record {
-        legal = legal_more h (Load (name p)) was.legal tt;
+        legal = legal_more h (Load p) was.legal tt;
         own' = relabel was.own r (Some p);
         chain = was.chain;
         linked = LeadsThrough-passed m.rooms was.own (change (holding e) r m.rooms) (relabel was.own r (Some p)) None None m.head was.chain (fresh None) was.linked;
-        holds = was.holds ∙ ap reverse (sym (held_more h (Load (name p))));
-        goes = λ q ne. goes_event (name q) h (Load (name p)) m.head m.head (apart q ne, tt) tt (inl refl);
+        holds = was.holds ∙ ap reverse (sym (held_more h (Load p)));
+        goes = λ q ne. goes_event q h (Load p) m.head m.head ((λ e. ne (sym e)), tt) tt (inl refl);
         keeps = λ q ne. fresh (Some q);
         mine = (
           record { element = e; next = room.next; room = slice_get-change_same (holding e) m.rooms r room got; mine = relabel_here was.own r (Some p) },
-          record { since = []; loaded = loaded_now (name p) h; moved = λ ne. absurd (ne refl) },
+          record { since = []; loaded = loaded_now p h; moved = λ ne. absurd (ne refl) },
         );
       }
 
   -- a change to p's own room that adds no event
-  own_room : (name : ℕ → P) (h : List (Event P E)) (m : Machine E) (p r : ℕ) (f : Room E → Room E) (stage stage' : Stage)
-      → (was : Meets name h m) → slice_get m.parties p ≡ Some stage → was.own r ≡ Some p
-      → AtStage h (name p) m.head (change f r m.rooms) was.own p stage'
-      → Meets name h record { head = m.head; rooms = change f r m.rooms; parties = set m.parties p stage' }
-  own_room name h m p r f stage stage' was at mine there =
-      meets_on name h h m p m.head (change f r m.rooms) stage stage' was at
+  own_room : (h : List (Event ℕ E)) (m : Machine E) (p r : ℕ) (f : Room E → Room E) (stage stage' : Stage)
+      → (was : CoreMeets h m) → slice_get m.parties p ≡ Some stage → was.own r ≡ Some p
+      → AtStage h m.head (change f r m.rooms) was.own p stage'
+      → CoreMeets h record { head = m.head; rooms = change f r m.rooms; parties = set m.parties p stage' }
+  own_room h m p r f stage stage' was at mine there =
+      meets_on h h m p m.head (change f r m.rooms) stage stage' was at
       record {
         legal = was.legal;
         own' = was.own;
         chain = was.chain;
         linked = LeadsThrough-passed m.rooms was.own (change f r m.rooms) was.own None None m.head was.chain (Keeps-change f m.rooms was.own r None (not_none was.own r p mine)) was.linked;
         holds = was.holds;
-        goes = λ q ne. goes_idle (name q) h m.head m.head refl;
+        goes = λ q ne. goes_idle q h m.head m.head refl;
         keeps = λ q ne. Keeps-change f m.rooms was.own r (Some q) (not_mine was.own r p q mine ne);
         mine = there;
       }
 
-  pub keeps_set_next : (name : ℕ → P) (h : List (Event P E)) (m : Machine E) (p : ℕ) (a : Attempt) → Meets name h m
+  pub keeps_set_next : (h : List (Event ℕ E)) (m : Machine E) (p : ℕ) (a : Attempt) → CoreMeets h m
       → slice_get m.parties p ≡ Some (Loaded a)
-      → Meets name h record { head = m.head; rooms = change (linking a.read) a.room m.rooms; parties = set m.parties p (Set a) }
-  keeps_set_next name h m p a was at =
+      → CoreMeets h record { head = m.head; rooms = change (linking a.read) a.room m.rooms; parties = set m.parties p (Set a) }
+  keeps_set_next h m p a was at =
       let here = was.parties p (Loaded a) at in
-      own_room name h m p a.room (linking a.read) (Loaded a) (Set a) was at here.0.mine
+      own_room h m p a.room (linking a.read) (Loaded a) (Set a) was at here.0.mine
       (record { element = here.0.element; next = a.read; room = slice_get-change_same (linking a.read) m.rooms a.room (room_in_use here.0.element here.0.next) here.0.room; mine = here.0.mine }, refl, here.1)
 
-  pub keeps_fail : (name : ℕ → P) (h : List (Event P E)) (m : Machine E) (p : ℕ) (a : Attempt) → Meets name h m
+  pub keeps_fail : (h : List (Event ℕ E)) (m : Machine E) (p : ℕ) (a : Attempt) → CoreMeets h m
       → slice_get m.parties p ≡ Some (Set a)
-      → Meets name h record { head = m.head; rooms = change (freeing p) a.room m.rooms; parties = set m.parties p Rest }
-  keeps_fail name h m p a was at = own_room name h m p a.room (freeing p) (Set a) Rest was at (was.parties p (Set a) at).0.mine tt
+      → CoreMeets h record { head = m.head; rooms = change (freeing p) a.room m.rooms; parties = set m.parties p Rest }
+  keeps_fail h m p a was at = own_room h m p a.room (freeing p) (Set a) Rest was at (was.parties p (Set a) at).0.mine tt
 
-  pub keeps_push : (name : ℕ → P) (h : List (Event P E)) (m : Machine E) (p : ℕ) (a : Attempt) (e : E) (next : Option ℕ)
-      → Meets name h m → Apart name p → slice_get m.parties p ≡ Some (Set a) → m.head ≡ a.read
+  pub keeps_push : (h : List (Event ℕ E)) (m : Machine E) (p : ℕ) (a : Attempt) (e : E) (next : Option ℕ)
+      → CoreMeets h m → slice_get m.parties p ≡ Some (Set a) → m.head ≡ a.read
       → slice_get m.rooms a.room ≡ Some (room_in_use e next)
-      → Meets name (h ++ Push (name p) e ∷ []) record { head = Some a.room; rooms = m.rooms; parties = set m.parties p Rest }
-  keeps_push name h m p a e next was apart at same got =
+      → CoreMeets (h ++ Push p e ∷ []) record { head = Some a.room; rooms = m.rooms; parties = set m.parties p Rest }
+  keeps_push h m p a e next was at same got =
       let here = was.parties p (Set a) at in
       let hand = here.0 in
       let one : room_in_use hand.element hand.next ≡ room_in_use e next = let both : Some (room_in_use hand.element hand.next) ≡ Some (room_in_use e next) = sym hand.room ∙ got in cc in
       let link : m.head ≡ next = same ∙ (sym here.1 ∙ ap (λ (x : Room E). x.next) one) in
       let after : ℕ → Option ℕ = relabel was.own a.room None in
-      meets_on name h (h ++ Push (name p) e ∷ []) m p (Some a.room) m.rooms (Set a) Rest was at
+      meets_on h (h ++ Push p e ∷ []) m p (Some a.room) m.rooms (Set a) Rest was at
       record {
-        legal = legal_more h (Push (name p) e) was.legal tt;
+        legal = legal_more h (Push p e) was.legal tt;
         own' = relabel was.own a.room None;
         chain = (a.room, e) ∷ was.chain;
         linked = (
@@ -174,61 +170,61 @@ module _ {P E : Type 0} where
           NoneOf-label m.rooms was.own None m.head was.chain a.room (not_none was.own a.room p hand.mine) was.linked,
           subst (λ start. LeadsThrough m.rooms (relabel was.own a.room None) None start was.chain) link (LeadsThrough-passed m.rooms was.own m.rooms (relabel was.own a.room None) None None m.head was.chain (Keeps-relabel m.rooms was.own a.room None None (not_none was.own a.room p hand.mine)) was.linked),
         );
-        holds = ap (λ es. e ∷ es) was.holds ∙ (sym (reverse-append (held h) (e ∷ [])) ∙ ap reverse (sym (held_more h (Push (name p) e))));
-        goes = λ q ne. goes_event (name q) h (Push (name p) e) m.head (Some a.room) tt tt (inr (apart q ne));
+        holds = ap (λ es. e ∷ es) was.holds ∙ (sym (reverse-append (held h) (e ∷ [])) ∙ ap reverse (sym (held_more h (Push p e))));
+        goes = λ q ne. goes_event q h (Push p e) m.head (Some a.room) tt tt (inr (λ e. ne (sym e)));
         keeps = λ q ne. Keeps-relabel m.rooms was.own a.room None (Some q) (not_mine was.own a.room p q hand.mine ne);
         mine = tt;
       }
 
-  pub keeps_take : (name : ℕ → P) (h : List (Event P E)) (m : Machine E) (p r : ℕ) → Meets name h m → Apart name p
+  pub keeps_take : (h : List (Event ℕ E)) (m : Machine E) (p r : ℕ) → CoreMeets h m
       → slice_get m.parties p ≡ Some Rest → m.head ≡ Some r
-      → Meets name (h ++ Taken (name p) (reverse (held h)) ∷ []) record { head = None; rooms = m.rooms; parties = set m.parties p (Walking r) }
-  keeps_take name h m p r was apart at top =
+      → CoreMeets (h ++ Taken p (reverse (held h)) ∷ []) record { head = None; rooms = m.rooms; parties = set m.parties p (Walking r) }
+  keeps_take h m p r was at top =
       let links = subst (λ start. LeadsThrough m.rooms was.own None start was.chain) top was.linked in
-      let v : Event P E = Taken (name p) (reverse (held h)) in
-      meets_on name h (h ++ Taken (name p) (reverse (held h)) ∷ []) m p None m.rooms Rest (Walking r) was at
+      let v : Event ℕ E = Taken p (reverse (held h)) in
+      meets_on h (h ++ Taken p (reverse (held h)) ∷ []) m p None m.rooms Rest (Walking r) was at
       record {
-        legal = legal_more h (Taken (name p) (reverse (held h))) was.legal refl;
+        legal = legal_more h (Taken p (reverse (held h))) was.legal refl;
         own' = all_to was.own p;
         chain = [];
         linked = refl;
-        holds = ap reverse (sym (held_more h (Taken (name p) (reverse (held h)))));
-        goes = λ q ne. goes_event (name q) h (Taken (name p) (reverse (held h))) m.head None tt (apart q ne, tt) (inr (apart q ne, λ e. LeadsThrough-some m.rooms was.own None r was.chain links (was.holds ∙ e)));
+        holds = ap reverse (sym (held_more h (Taken p (reverse (held h)))));
+        goes = λ q ne. goes_event q h (Taken p (reverse (held h))) m.head None tt ((λ e. ne (sym e)), tt) (inr ((λ e. ne (sym e)), λ e. LeadsThrough-some m.rooms was.own None r was.chain links (was.holds ∙ e)));
         keeps = λ q ne s e next got mine. (got, ap (or_to p) mine);
         mine = record {
           rest = was.chain;
           links = LeadsThrough-passed m.rooms was.own m.rooms (all_to was.own p) None (Some p) (Some r) was.chain (λ s e next got mine. (got, ap (or_to p) mine)) links;
           batch = reverse (held h);
-          taken = batch_now (name p) h (reverse (held h));
+          taken = batch_now p h (reverse (held h));
           given = [];
           end = was.holds;
         };
       }
 
-  pub keeps_nothing : (name : ℕ → P) (h : List (Event P E)) (m : Machine E) (p : ℕ) → Meets name h m → Apart name p
+  pub keeps_nothing : (h : List (Event ℕ E)) (m : Machine E) (p : ℕ) → CoreMeets h m
       → slice_get m.parties p ≡ Some Rest → m.head ≡ None
-      → Meets name (h ++ Taken (name p) [] ∷ []) m
-  keeps_nothing name h m p was apart at top =
+      → CoreMeets (h ++ Taken p [] ∷ []) m
+  keeps_nothing h m p was at top =
       let links = subst (λ start. LeadsThrough m.rooms was.own None start was.chain) top was.linked in
       let empty : room_elements was.chain ≡ [] = LeadsThrough-none m.rooms was.own None was.chain links in
-      subst (λ ps. Meets name (h ++ Taken (name p) [] ∷ []) record { head = m.head; rooms = m.rooms; parties = ps }) (set_as_it_was m.parties p Rest at)
-      (meets_on name h (h ++ Taken (name p) [] ∷ []) m p m.head m.rooms Rest Rest was at
+      subst (λ ps. CoreMeets (h ++ Taken p [] ∷ []) record { head = m.head; rooms = m.rooms; parties = ps }) (set_as_it_was m.parties p Rest at)
+      (meets_on h (h ++ Taken p [] ∷ []) m p m.head m.rooms Rest Rest was at
       record {
-        legal = legal_more h (Taken (name p) []) was.legal (sym empty ∙ was.holds);
+        legal = legal_more h (Taken p []) was.legal (sym empty ∙ was.holds);
         own' = was.own;
         chain = was.chain;
         linked = was.linked;
-        holds = empty ∙ ap reverse (sym (held_more h (Taken (name p) [])));
-        goes = λ q ne. goes_event (name q) h (Taken (name p) []) m.head m.head tt (apart q ne, tt) (inl refl);
+        holds = empty ∙ ap reverse (sym (held_more h (Taken p [])));
+        goes = λ q ne. goes_event q h (Taken p []) m.head m.head tt ((λ e. ne (sym e)), tt) (inl refl);
         keeps = λ q ne s e next got mine. (got, mine);
         mine = tt;
       })
 
   -- where the walk goes on
-  walks_to : (name : ℕ → P) (h : List (Event P E)) (m : Machine E) (p r : ℕ) (next : Option ℕ) (own : ℕ → Option ℕ) (xs : List (ℕ × E)) (e : E) → NotAmong r xs → LeadsThrough m.rooms own (Some p) next xs → (batch : List E) → LastBatch (name p) h batch → (given : List E) → given ++ e ∷ room_elements xs ≡ batch
-      → AtStage h (name p) m.head (change (freeing p) r m.rooms) own p (stage_after_walk next)
-  walks_to name h m p r None own xs e apart l batch taken given end = tt
-  walks_to name h m p r (Some s) own xs e apart l batch taken given end =
+  walks_to : (h : List (Event ℕ E)) (m : Machine E) (p r : ℕ) (next : Option ℕ) (own : ℕ → Option ℕ) (xs : List (ℕ × E)) (e : E) → NotAmong r xs → LeadsThrough m.rooms own (Some p) next xs → (batch : List E) → LastBatch p h batch → (given : List E) → given ++ e ∷ room_elements xs ≡ batch
+      → AtStage h m.head (change (freeing p) r m.rooms) own p (stage_after_walk next)
+  walks_to h m p r None own xs e apart l batch taken given end = tt
+  walks_to h m p r (Some s) own xs e apart l batch taken given end =
       record {
         rest = xs;
         links = LeadsThrough-change (freeing p) m.rooms own (Some p) (Some s) xs r apart l;
@@ -238,26 +234,26 @@ module _ {P E : Type 0} where
         end = append_assoc given (e ∷ []) (room_elements xs) ∙ end;
       }
 
-  walks_at : (name : ℕ → P) (h : List (Event P E)) (m : Machine E) (p r : ℕ) (e : E) (next : Option ℕ) (own : ℕ → Option ℕ) (rest : List (ℕ × E)) → LeadsThrough m.rooms own (Some p) (Some r) rest → (batch : List E) → LastBatch (name p) h batch → (given : List E) → given ++ room_elements rest ≡ batch → slice_get m.rooms r ≡ Some (room_in_use e next)
-      → (own r ≡ Some p) × AtStage h (name p) m.head (change (freeing p) r m.rooms) own p (stage_after_walk next)
-  walks_at name h m p r e next own [] l batch taken given end got = let no : ⊥ = cc in absurd no
-  walks_at name h m p r e next own (x ∷ xs) l batch taken given end got =
+  walks_at : (h : List (Event ℕ E)) (m : Machine E) (p r : ℕ) (e : E) (next : Option ℕ) (own : ℕ → Option ℕ) (rest : List (ℕ × E)) → LeadsThrough m.rooms own (Some p) (Some r) rest → (batch : List E) → LastBatch p h batch → (given : List E) → given ++ room_elements rest ≡ batch → slice_get m.rooms r ≡ Some (room_in_use e next)
+      → (own r ≡ Some p) × AtStage h m.head (change (freeing p) r m.rooms) own p (stage_after_walk next)
+  walks_at h m p r e next own [] l batch taken given end got = let no : ⊥ = cc in absurd no
+  walks_at h m p r e next own (x ∷ xs) l batch taken given end got =
       let start : x.0 ≡ r = let first = l.1 in cc in
       let rooms : Some (room_in_use x.1 l.0) ≡ Some (room_in_use e next) = sym l.2 ∙ (ap (slice_get m.rooms) start ∙ got) in
       let room : room_in_use x.1 l.0 ≡ room_in_use e next = cc in
       let link : l.0 ≡ next = ap (λ (y : Room E). y.next) room in (
         ap own (sym start) ∙ l.3,
-        walks_to name h m p r next own xs x.1 (subst (λ s. NotAmong s xs) start l.4) (subst (λ start'. LeadsThrough m.rooms own (Some p) start' xs) link l.5) batch taken given end,
+        walks_to h m p r next own xs x.1 (subst (λ s. NotAmong s xs) start l.4) (subst (λ start'. LeadsThrough m.rooms own (Some p) start' xs) link l.5) batch taken given end,
       )
 
-  pub walks_on : (name : ℕ → P) (h : List (Event P E)) (m : Machine E) (p r : ℕ) (e : E) (next : Option ℕ)
-      → (was : Meets name h m) → (w : HasBatchLeft h (name p) m.rooms was.own p r) → slice_get m.rooms r ≡ Some (room_in_use e next)
-      → (was.own r ≡ Some p) × AtStage h (name p) m.head (change (freeing p) r m.rooms) was.own p (stage_after_walk next)
-  walks_on name h m p r e next was w got = walks_at name h m p r e next was.own w.rest w.links w.batch w.taken w.given w.end got
+  pub walks_on : (h : List (Event ℕ E)) (m : Machine E) (p r : ℕ) (e : E) (next : Option ℕ)
+      → (was : CoreMeets h m) → (w : HasBatchLeft h m.rooms was.own p r) → slice_get m.rooms r ≡ Some (room_in_use e next)
+      → (was.own r ≡ Some p) × AtStage h m.head (change (freeing p) r m.rooms) was.own p (stage_after_walk next)
+  walks_on h m p r e next was w got = walks_at h m p r e next was.own w.rest w.links w.batch w.taken w.given w.end got
 
-  pub keeps_walk : (name : ℕ → P) (h : List (Event P E)) (m : Machine E) (p r : ℕ) (e : E) (next : Option ℕ) → Meets name h m
+  pub keeps_walk : (h : List (Event ℕ E)) (m : Machine E) (p r : ℕ) (e : E) (next : Option ℕ) → CoreMeets h m
       → slice_get m.parties p ≡ Some (Walking r) → slice_get m.rooms r ≡ Some (room_in_use e next)
-      → Meets name h record { head = m.head; rooms = change (freeing p) r m.rooms; parties = set m.parties p (stage_after_walk next) }
-  keeps_walk name h m p r e next was at got =
-      let on = walks_on name h m p r e next was (was.parties p (Walking r) at) got in
-      own_room name h m p r (freeing p) (Walking r) (stage_after_walk next) was at on.0 on.1
+      → CoreMeets h record { head = m.head; rooms = change (freeing p) r m.rooms; parties = set m.parties p (stage_after_walk next) }
+  keeps_walk h m p r e next was at got =
+      let on = walks_on h m p r e next was (was.parties p (Walking r) at) got in
+      own_room h m p r (freeing p) (Walking r) (stage_after_walk next) was at on.0 on.1

@@ -9,7 +9,7 @@ use Rattle.cordyceps_stack.specs.Cores.Machine.{Machine, Answered}
 use Rattle.cordyceps_stack.specs.Cores.CoreMeets.{CoreMeets, core_step, core_events, core_says, Replayed}
 use Rattle.cordyceps_stack.specs.Cores.Walks.{HandsOn, given_in}
 use Rattle.cordyceps_stack.proofs.Histories.{nothing_lost}
-use Rattle.cordyceps_stack.proofs.CoreTheory.CoreKeeps.{core_steps}
+use Rattle.cordyceps_stack.proofs.CoreTheory.AnyStep.{core_steps}
 use Rattle.cordyceps_stack.proofs.CoreTheory.WalkSteps.{run_hands}
 
 -- where no step is left, nothing was stopped

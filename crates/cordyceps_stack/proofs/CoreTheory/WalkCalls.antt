@@ -17,7 +17,7 @@ use Rattle.cordyceps_stack.specs.Cores.Alone.{take_steps}
 use Rattle.cordyceps_stack.specs.Cores.Walks.{batches, LeadsToElements, IsLeftAt, IsLeft, given_by, only, HandsOut, HandsOn}
 use Rattle.cordyceps_stack.proofs.CoreTheory.AlonePush.{Pushing, pushing, push_ends, step_to}
 use Rattle.cordyceps_stack.proofs.CoreTheory.CoreGrows.{slice_get-push, slice_get-pushed}
-use Rattle.cordyceps_stack.proofs.CoreTheory.CoreKeeps.{core_steps}
+use Rattle.cordyceps_stack.proofs.CoreTheory.AnyStep.{core_steps}
 use Rattle.cordyceps_stack.proofs.CoreTheory.WalkSteps.{MovesOn, batches_mine, hands_from, hands_on, left_kept}
 
 module _ {E : Type 0} where

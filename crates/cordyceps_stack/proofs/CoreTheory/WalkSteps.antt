@@ -15,15 +15,14 @@ use Rattle.cordyceps_stack.specs.declared.cores.steps.TransferStep.TheVariants a
 use Rattle.cordyceps_stack.specs.History.{Event, Load, Push, Taken, held}
 use Rattle.cordyceps_shared.specs.Rooms.{change, linking, freeing, element_in, next_in}
 use Rattle.cordyceps_stack.specs.Cores.Machine.{Machine, Answered, holding, stage_after_walk, handed, least_free, load, exchange, fails, take, walk, stepped_at, stepped, in_hand_at, push_event, answer_events, answered_events}
-use Rattle.cordyceps_stack.specs.Cores.Meets.{room_in_use, LeadsThrough, room_elements}
+use Rattle.cordyceps_stack.specs.Cores.Stages.{room_in_use, LeadsThrough, room_elements}
 use Rattle.cordyceps_base.specs.Runs.{after, replies_to, history_after}
 use Rattle.cordyceps_stack.specs.Cores.CoreMeets.{CoreMeets, step_events, core_step, core_events}
 use Rattle.cordyceps_stack.specs.Cores.Walks.{batches, LeadsToElements, IsLeftAt, IsLeft, given_by, given_in, only, HandsOut, HandsOn}
 use Rattle.cordyceps_shared.proofs.ListWrites.{slice_get-set_same, slice_get-set_other}
 use Rattle.cordyceps_stack.proofs.CoreTheory.Chains.{Keeps, Keeps-free, Keeps-change, LeadsThrough-passed, LeadsThrough-change}
-use Rattle.cordyceps_stack.proofs.CoreTheory.CoreKeeps.{core_steps}
 use Rattle.cordyceps_stack.proofs.CoreTheory.EachStep.{not_mine, walks_on}
-use Rattle.cordyceps_stack.proofs.CoreTheory.AnyStep.{least_is_free, walking_at}
+use Rattle.cordyceps_stack.proofs.CoreTheory.AnyStep.{least_is_free, walking_at, core_steps}
 
 module _ {E : Type 0} where
   pub batches-append : (p : ℕ) (h k : List (Event ℕ E)) → batches p (h ++ k) ≡ batches p h ++ batches p k
@@ -119,8 +118,8 @@ module _ {E : Type 0} where
       → slice_get m.parties q ≡ Some (Walking r)
       → Aside was.own m (walk m q r (next_in (slice_get m.rooms r)) (element_in (slice_get m.rooms r))).0 p
   aside_walk h m p q r was ne at =
-      let there = walking_at (λ n. n) h m q r was at in
-      let mine = (walks_on (λ n. n) h m q r there.0 there.1 was (was.parties q (Walking r) at) there.2).0 in
+      let there = walking_at h m q r was at in
+      let mine = (walks_on h m q r there.0 there.1 was (was.parties q (Walking r) at) there.2).0 in
       rw there.2 (record { stage = slice_get-set_other m.parties q p _ ne; rooms = Keeps-change (freeing q) m.rooms was.own r (Some p) (not_mine was.own r q p mine ne) })
 
   aside_at : (h : List (Event ℕ E)) (m : Machine E) (p q : ℕ) (s : TransferStep E) (o : Option Stage) → (was : CoreMeets h m)
@@ -236,7 +235,7 @@ module _ {E : Type 0} where
       → let out = walk m p r (next_in (slice_get m.rooms r)) (element_in (slice_get m.rooms r)) in
       MovesOn p left (answered_events h p None step.Walk out.1) out.0 (given_by out.1)
   own_walk h m p r left was at is =
-      let there = walking_at (λ n. n) h m p r was at in
+      let there = walking_at h m p r was at in
       let w = was.parties p (Walking r) at in
       let same : left ≡ room_elements w.rest = leads_same m.rooms (Some r) left (room_elements w.rest) is (leads_from_linked m.rooms was.own (Some p) (Some r) w.rest w.links) in
       rw (there.2, walk_events, given_handed) (walked_by m was.own p r there.0 there.1 w.rest left at there.2 w.links same)

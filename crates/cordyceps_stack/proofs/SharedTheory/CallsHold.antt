@@ -12,7 +12,7 @@ use Rattle.cordyceps_shared.proofs.Counting.{below_length}
 use Rattle.cordyceps_shared.proofs.Naming.{joined_some, gives_some}
 use Rattle.cordyceps_stack.specs.Shared.Parts.{HasMissed, TookAll, EmptiesHand, standing, IsSeated}
 use Rattle.cordyceps_stack.specs.History.{Event, Load, Push, Taken, held, Legal}
-use Rattle.cordyceps_stack.specs.Cores.Meets.{room_elements}
+use Rattle.cordyceps_stack.specs.Cores.Stages.{room_elements}
 use Rattle.cordyceps_stack.specs.Shared.Plays.{SeatState, to_hand_out}
 use Rattle.cordyceps_stack.specs.Shared.Parting.{view_giving, view_absorbing, view_without_told}
 use Rattle.cordyceps_stack.specs.Shared.Rule.{IsTable}

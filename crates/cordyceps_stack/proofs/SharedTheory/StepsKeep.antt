@@ -20,7 +20,7 @@ use Rattle.cordyceps_shared.proofs.Seeing.{marked_append, plain_marked, own_with
 use Rattle.cordyceps_shared.proofs.Telling.{at_length, owned_same, fits_same, tells}
 use Rattle.cordyceps_shared.specs.declared.slots.Filled.{Filled}
 use Rattle.cordyceps_stack.specs.History.{Event, Load, Push, Taken, held, Legal, SomeChange}
-use Rattle.cordyceps_stack.specs.Cores.Meets.{room_elements}
+use Rattle.cordyceps_stack.specs.Cores.Stages.{room_elements}
 use Rattle.cordyceps_stack.specs.Shared.View.{Doing, Idle, Loaded, Set, Missed, Walking, View, knows, name, walking, in_chain, at_work, count_with_party}
 use Rattle.cordyceps_stack.specs.Shared.Words.{History, head, start, Since, AtDoing, WordsMeet}
 use Rattle.cordyceps_stack.specs.Shared.Rule.{TableState, Homes, full_slot, FullAtHome, EmptyAtHome, RuleHolds}

@@ -10,7 +10,7 @@ use Rattle.cordyceps_shared.specs.Shares.{Name}
 use Rattle.cordyceps_shared.proofs.Counting.{tally_set, tally_one, tally_two, tally_snoc, one_here}
 use Rattle.cordyceps_shared.proofs.Seeing.{events_more, without_more}
 use Rattle.cordyceps_stack.specs.History.{Event, Load, Push, Taken, held, held_after, Legal, IsChange, SomeChange}
-use Rattle.cordyceps_stack.specs.Cores.Meets.{room_elements}
+use Rattle.cordyceps_stack.specs.Cores.Stages.{room_elements}
 use Rattle.cordyceps_stack.specs.Shared.View.{Doing, Idle, Loaded, Set, Missed, Walking, View, walking, in_chain, at_work, count_with_party}
 use Rattle.cordyceps_stack.specs.Shared.Words.{History, head, next, start, Spells, Since, AtDoing, WordsMeet}
 use Rattle.cordyceps_stack.proofs.Histories.{MayFollow, held_more, legal_more, change_more, change_last}

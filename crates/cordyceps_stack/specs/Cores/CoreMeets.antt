@@ -1,21 +1,46 @@
--- A transfer core, whose parties are named by their numbers.
-use Rattle.std.specs.Prelude.{◌≡◌, ℕ, List, ◌++◌, slice_get}
+-- Which cores meet which histories, and what a run of a core's steps is. A core's parties are named by their numbers.
+use Rattle.std.specs.Prelude.{◌≡◌, ◌≢◌, ◌↔◌, ℕ, List, [], ◌++◌, reverse, true, Option, Some, None, Ok, Err, slice_get}
 use Rattle.cordyceps_base.specs.Runs.{Ran, history_after, AllSay}
 use Rattle.cordyceps_stack.specs.declared.cores.steps.TransferStep.{TransferStep}
 use Rattle.cordyceps_stack.specs.declared.cores.steps.TransferStep.TheVariants as step
-use Rattle.cordyceps_stack.specs.History.{Event, held, taken, pushes}
+use Rattle.cordyceps_stack.specs.declared.cores.steps.TransferAnswer.{TransferAnswer}
+use Rattle.cordyceps_stack.specs.declared.cores.steps.TransferAnswer.TheVariants as answer
+use Rattle.cordyceps_stack.specs.declared.cores.stage.Stage.{Stage}
+use Rattle.cordyceps_stack.specs.History.{Event, Legal, held, taken, pushes, Overtaken}
 use Rattle.cordyceps_stack.specs.Cores.Machine.{Machine, Answered, in_hand_at, answered_events, stepped}
-use Rattle.cordyceps_stack.specs.Cores.Meets.{Meets, AnswerSays}
+use Rattle.cordyceps_stack.specs.Cores.Stages.{AtStage, LeadsThrough, room_elements}
 use Rattle.cordyceps_stack.specs.Cores.Walks.{HandsOn, given_in}
 
 module _ {E : Type 0} where
-  -- the core meets the history
-  abbrev pub CoreMeets : List (Event ℕ E) → Machine E → Type 0
-  CoreMeets h m = Meets (λ p. p) h m
+  -- a core meets a history: the history is legal, what it holds is in the stack, and each party stands where its events have
+  -- led it
+  pub record CoreMeets (h : List (Event ℕ E)) (m : Machine E) : Type 0 where
+    pub legal : Legal h
+    -- the party that a room in use is with, or none where it is in the stack
+    pub own : ℕ → Option ℕ
+    -- the stack, newest first
+    pub chain : List (ℕ × E)
+    pub linked : LeadsThrough m.rooms own None m.head chain
+    pub holds : room_elements chain ≡ reverse (held h)
+    pub parties : (p : ℕ) (stage : Stage) → slice_get m.parties p ≡ Some stage → AtStage h m.head m.rooms own p stage
 
   -- it meets some history
   abbrev pub IsSound : Machine E → Type 0
   IsSound m = (h : List (Event ℕ E)) × CoreMeets h m
+
+  -- what an answer says of the history before the step
+  abbrev pub Says : List (Event ℕ E) → ℕ → TransferAnswer E → Type 0
+  Says h p (answer.Pushed b) = (b ≡ true) ↔ (held h ≡ [])
+  Says h p (answer.Failed e) = Overtaken p h
+  Says h p answer.Taken = held h ≢ []
+  Says h p answer.Nothing = held h ≡ []
+  Says h p answer.Done = Unit {0}
+  Says h p (answer.Gives e) = Unit {0}
+  Says h p (answer.Last e) = Unit {0}
+
+  abbrev pub AnswerSays : List (Event ℕ E) → ℕ → Answered E → Type 0
+  AnswerSays h p (Ok a) = Says h p a
+  AnswerSays h p (Err e) = Unit {0}
 
   -- a step with its party
   abbrev pub core_step : Machine E → ℕ × TransferStep E → Machine E × Answered E

@@ -7,7 +7,7 @@ use Rattle.cordyceps_stack.specs.declared.cores.steps.TransferAnswer.TheVariants
 use Rattle.cordyceps_stack.specs.declared.cores.steps.TransferStep.{TransferStep}
 use Rattle.cordyceps_stack.specs.History.{Event, Load, Push, Taken}
 use Rattle.cordyceps_stack.specs.Cores.Machine.{Machine, Answered}
-use Rattle.cordyceps_stack.specs.Cores.Meets.{room_in_use}
+use Rattle.cordyceps_stack.specs.Cores.Stages.{room_in_use}
 
 module _ {E : Type 0} where
   -- q's elements, and nobody else's

@@ -5,7 +5,7 @@ use Rattle.cordyceps_shared.specs.Histories.{plain, AllOwn}
 use Rattle.cordyceps_shared.specs.Shares.{whole}
 use Rattle.cordyceps_shared.specs.declared.slots.Filled.{Filled}
 use Rattle.cordyceps_stack.specs.History.{Load, Push, Taken, Legal}
-use Rattle.cordyceps_stack.specs.Cores.Meets.{room_elements}
+use Rattle.cordyceps_stack.specs.Cores.Stages.{room_elements}
 use Rattle.cordyceps_stack.specs.Shared.Plays.{SeatState, Sees, IsResting, IsWalking, to_hand_out}
 use Rattle.cordyceps_stack.specs.Shared.Rule.{IsTable}
 use Rattle.cordyceps_stack.specs.Shared.Calls.{PartyOf, EndsPushed, IsOvertaken}

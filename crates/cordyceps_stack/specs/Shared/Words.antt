@@ -7,7 +7,7 @@ use Rattle.cordyceps_shared.specs.Counts.{tally}
 use Rattle.cordyceps_shared.specs.Histories.{events, NoneOf}
 use Rattle.cordyceps_shared.specs.Shares.{Name}
 use Rattle.cordyceps_stack.specs.History.{Event, Load, held, Legal, SomeChange}
-use Rattle.cordyceps_stack.specs.Cores.Meets.{room_elements}
+use Rattle.cordyceps_stack.specs.Cores.Stages.{room_elements}
 use Rattle.cordyceps_stack.specs.Shared.View.{Doing, Idle, Loaded, Set, Missed, Walking, View, in_chain, count_with_party}
 
 -- each event with the seat of its party

@@ -2,12 +2,11 @@
 ghost use Rattle.std.specs.Prelude.{◌≡◌, ◌≤◌, ◌++◌, ◌↔◌, ℕ, [], ◌∷◌, List, Some, None, Err, slice_get, nat_eq, length, reverse, true, IsFalse, IfOk, IfErr, OnOk, OnErr, is_ok, is_none};
 ghost use Rattle.std.specs.Option.{option_eq};
 ghost use Rattle.cordyceps_base.specs.Runs.{after};
-ghost use Rattle.cordyceps_stack.specs.Cores.CoreMeets.{CoreMeets, IsSound, step_events, core_step};
+ghost use Rattle.cordyceps_stack.specs.Cores.CoreMeets.{CoreMeets, IsSound, step_events, core_step, AnswerSays};
 ghost use Rattle.cordyceps_stack.specs.Cores.Alone.{push_steps, take_steps};
 ghost use Rattle.cordyceps_stack.specs.History.{Event, Load, Push, Taken, held};
 ghost use Rattle.cordyceps_shared.specs.Rooms.{element_in, next_in};
 ghost use Rattle.cordyceps_stack.specs.Cores.Machine.{new_machine, with_party, with_room, held_in, stepped, acts, is_there, step_element, is_at_rest, is_ready, load, set_next, exchange, take, walk, least_free};
-ghost use Rattle.cordyceps_stack.specs.Cores.Meets.{AnswerSays};
 ghost use Rattle.cordyceps_stack.specs.Cores.Walks.{HandsOut, HandsOn, given_by, only};
 
 use crate::cores::rooms::Rooms;

@@ -1,7 +1,7 @@
 //! How what a party took from a shared transfer stack becomes a plain stack.
 ghost use Rattle.std.specs.Prelude.{◌≡◌, map};
 ghost use Rattle.cordyceps_stack.specs.Shared.Parts.{IsSeatOf, EmptiesHand};
-ghost use Rattle.cordyceps_stack.specs.Cores.Meets.{room_elements};
+ghost use Rattle.cordyceps_stack.specs.Cores.Stages.{room_elements};
 ghost use Rattle.cordyceps_stack.specs.Shared.Plays.{IsWalking, to_hand_out};
 ghost use Rattle.cordyceps_stack.specs.Shared.Words.{start};
 

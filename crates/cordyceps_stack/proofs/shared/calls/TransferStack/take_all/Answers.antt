@@ -1,6 +1,6 @@
 use Rattle.std.proofs.Common.{◌∙◌, subst}
 use Rattle.cordyceps_stack.specs.Shared.Parts.{standing}
-use Rattle.cordyceps_stack.specs.Cores.Meets.{room_elements}
+use Rattle.cordyceps_stack.specs.Cores.Stages.{room_elements}
 use Rattle.cordyceps_stack.specs.Shared.Plays.{to_hand_out}
 use Rattle.cordyceps_stack.specs.Shared.Calls.{Takes}
 use Rattle.cordyceps_stack.proofs.SharedTheory.CallsHold.{takes}
