@@ -5,6 +5,7 @@ use mathlib.Core.Option as maybe
 use lib.ListN.{get_elem?}
 use Rattle.atomic_table.specs.Table.{State}
 use Rattle.atomic_table.specs.Seated.{TableId}
+use Rattle.cordyceps_base.specs.declared.shared.TheConstants.{MAX_ROOMS}
 use Rattle.cordyceps_shared.specs.Histories.{events}
 use Rattle.cordyceps_shared.specs.Knowing.{SharesApart, AllAgree}
 use Rattle.cordyceps_shared.specs.Shares.{Name}
@@ -96,4 +97,4 @@ module _ {E : Type 0} where
 
 -- a link for each slot, head and the right, and the stub's slot
 abbrev pub IsTable : TableId → Type 0
-IsTable z = (z.words ≡ 2 + z.slots) × (1 ≤ z.slots) × (z.slots ≤ 1048577)
+IsTable z = (z.words ≡ 2 + z.slots) × (1 ≤ z.slots) × (z.slots ≤ suc MAX_ROOMS)

@@ -15,6 +15,7 @@ use crate::shared::{parting, steps, tries};
 use cordyceps_base::linked::Linked;
 use cordyceps_base::mpsc_queue::Links;
 use cordyceps_base::node::Refused;
+use cordyceps_base::shared::MAX_ROOMS;
 use cordyceps_shared::slots::Filled;
 use cordyceps_shared::tickets::Tickets;
 use std::alloc::{AllocError, AllocFailed, Global};
@@ -81,7 +82,7 @@ impl<T: Linked<Links<T>>> Party<T> {
 
 /// A ticket for each room but the stub's.
 fn tickets_of(alloc: Global, rooms: usize) -> Result<Tickets, AllocError>
-    requires { rooms ≤ 1048576 }
+    requires { rooms ≤ MAX_ROOMS }
     ensures { IfOk result (λ t. t ≡ down_from rooms) }
 {
     let mut tickets = Tickets::new(alloc, rooms + 1)?;
@@ -94,7 +95,7 @@ impl<T: Linked<Links<T>>> MpscQueue<T> {
     ///
     /// It makes an allocation for each room and one for the stub's, and four for the words and slots of all. `AllocError` where one is refused.
     pub fn new(alloc: Global, rooms: usize) -> Result<(MpscQueue<T>, Party<T>), AllocError>
-        requires { rooms ≤ 1048576 }
+        requires { rooms ≤ MAX_ROOMS }
         ensures { IfOk result (λ made. (made.0.stub ≡ None) × (made.1 ≡ new_party made.0.table rooms)) }
     {
         let tickets = tickets_of(alloc, rooms)?;
@@ -110,7 +111,7 @@ impl<T: Linked<Links<T>>> MpscQueue<T> {
         stub: T::Handle,
         rooms: usize,
     ) -> Result<(MpscQueue<T>, Party<T>), Refused<T::Handle>>
-        requires { rooms ≤ 1048576 }
+        requires { rooms ≤ MAX_ROOMS }
         ensures { MatchResult result
             (λ made. (made.0.stub ≡ Some stub) × (made.1 ≡ new_party made.0.table rooms))
             (λ refused. refused.value ≡ stub) }

@@ -11,6 +11,7 @@ ghost use Rattle.cordyceps_queue.specs.Shared.View.{newcomer};
 use crate::shared::plays::{Cut, Learn, Merge};
 use crate::shared::table::{OwnedTable, PartySeat, Words};
 use atomic_table::Table;
+use cordyceps_base::shared::MAX_ROOMS;
 use cordyceps_shared::slots::Count;
 use std::alloc::{AllocError, Global};
 use std::marker::Brand;
@@ -20,7 +21,7 @@ pub(crate) fn open<E: Drop>(
     alloc: Global,
     rooms: usize,
 ) -> Result<(OwnedTable<E>, PartySeat<E>), AllocError>
-    requires { rooms ≤ 1048576 }
+    requires { rooms ≤ MAX_ROOMS }
     ensures { IfOk result (λ r. (r.1.table_id ≡ r.0.shared.table_id) × IsTable r.0.shared.table_id × (r.0.shared.table_id.slots ≡ rooms + 1) × (r.1.me ≡ (newcomer rooms, []))) }
 {
     let mut words = vec![in alloc; 0; rooms + 3]?;
