@@ -1,21 +1,14 @@
 -- A seat may be split in two.
-use Rattle.std.proofs.Common.{◌≡◌, ◌≢◌, ◌⊎◌, ℕ, zero, suc, ◌≤◌, List, [], ◌∷◌, ◌++◌, length, set, refl, sym, ap, ◌∙◌, subst, inl, inr, ⊎_elim, arith, ne_eqb, length-set, length-append}
-use mathlib.Core.Option.{some, some-injective, some-ne-none}
+use Rattle.std.proofs.Common.{◌≡◌, ◌≢◌, ℕ, ◌≤◌, List, [], ◌∷◌, ◌++◌, length, set, refl, sym, ap, ◌∙◌, subst, arith, ne_eqb, length-set, length-append}
+use mathlib.Core.Option.{some}
 use lib.ListN.{get_elem?}
-use Rattle.atomic_table.proofs.Lists.{at_set}
 use Rattle.cordyceps_shared.specs.Shares.{covers}
-use Rattle.cordyceps_shared.specs.Histories.{events, marked}
+use Rattle.cordyceps_shared.specs.Histories.{events, marked, NoneOf}
 use Rattle.cordyceps_shared.specs.Knowing.{Known, Agrees, Below, SharesApart, AllAgree, unmarked, known_keeping, known_giving}
+use Rattle.cordyceps_shared.proofs.Changing.{set_more}
 use Rattle.cordyceps_shared.proofs.Counting.{tally_set, tally_snoc}
 use Rattle.cordyceps_shared.proofs.Naming.{split_covers, keeps_some, gives_some}
-use Rattle.cordyceps_shared.proofs.Telling.{below_without, fits_set}
-
--- of a list with one more item
-pub at_end : {A : Type 0} (l : List A) (a b : A) (j : ℕ) → get_elem? (l ++ a ∷ []) j ≡ some b → (get_elem? l j ≡ some b) ⊎ ((j ≡ length l) × (a ≡ b))
-at_end [] a b zero e = inr (refl, some-injective a b e)
-at_end [] a b (suc j) e = absurd (some-ne-none b (sym e))
-at_end (x ∷ xs) a b zero e = inl e
-at_end (x ∷ xs) a b (suc j) e = ⊎_elim (λ t. inl t) (λ t. inr (ap suc t.0, t.1)) (at_end xs a b j e)
+use Rattle.cordyceps_shared.proofs.Telling.{below_without}
 
 module _ {X : Type 0} where
   -- a party that has no event marks none
@@ -38,13 +31,10 @@ module _ {X V : Type 0} (knows : V → Known X) where
       let l = ap (λ (k : Known X). k.share) is_left in
       let r = ap (λ (k : Known X). k.share) is_right in record {
         below = below_less (length views) (length (set views j left ++ right ∷ [])) h (omega (arith, length-append (set views j left) (right ∷ []), length-set views j left)) o.below;
-        quiet = λ i u e none_of. ⊎_elim
-            (λ (there : get_elem? (set views j left) i ≡ some u). ⊎_elim
-            (λ (t : (i ≡ j) × (left ≡ u)). absurd (keeps_some (knows v).share named (sym l ∙ (ap (λ (z : V). (knows z).share) t.1 ∙ none_of))))
-            (λ (t : (i ≢ j) × (get_elem? views i ≡ some u)). o.quiet i u t.1 none_of)
-            (at_set views j i left u there))
-            (λ (t : (i ≡ length (set views j left)) × (right ≡ u)). absurd (gives_some (knows v).share named (sym r ∙ (ap (λ (z : V). (knows z).share) t.1 ∙ none_of))))
-            (at_end (set views j left) right u i e);
+        quiet = set_more (λ i u. (knows u).share ≡ [] → NoneOf i h) views j left right
+            (λ none_of. absurd (keeps_some (knows v).share named (sym l ∙ none_of)))
+            (λ none_of. absurd (gives_some (knows v).share named (sym r ∙ none_of)))
+            (λ i u _ there none_of. o.quiet i u there none_of);
         long = o.long;
         apart = λ x long.
             let f : V → ℕ = λ u. covers x (knows u).share in
@@ -54,7 +44,7 @@ module _ {X V : Type 0} (knows : V → Known X) where
 
   pub fits_cut : (views : List V) (h : List (ℕ × X)) (j : ℕ) (v left right : V) → get_elem? views j ≡ some v → knows left ≡ known_keeping (knows v) → knows right ≡ known_giving (knows v) → SharesApart knows views h → AllAgree knows views h
       → AllAgree knows (set views j left ++ right ∷ []) h
-  fits_cut views h j v left right at is_left is_right o fits i u e =
+  fits_cut views h j v left right at is_left is_right o fits =
       let n = length views in
       let f = fits j v at in
       let low = below_front n f.before f.later (subst (λ z. Below n z) f.is o.below) in
@@ -69,7 +59,5 @@ module _ {X V : Type 0} (knows : V → Known X) where
         short = omega arith;
         apart = tt;
       } in
-      ⊎_elim
-      (λ (there : get_elem? (set views j left) i ≡ some u). fits_set knows views h j left (subst (Agrees h j) (sym is_left) left_fits) (λ k z _. fits k z) i u there)
-      (λ (t : (i ≡ length (set views j left)) × (right ≡ u)). subst (λ (z : ℕ × Known X). Agrees h z.0 z.1) (λ c. (sym (t.0 ∙ length-set views j left) c, (sym is_right ∙ ap knows t.1) c)) right_fits)
-      (at_end (set views j left) right u i e)
+      set_more (λ i u. Agrees h i (knows u)) views j left right (subst (Agrees h j) (sym is_left) left_fits)
+      (subst (λ (z : ℕ × Known X). Agrees h z.0 z.1) (λ c. (sym (length-set views j left) c, sym is_right c)) right_fits) (λ i u _ there. fits i u there)

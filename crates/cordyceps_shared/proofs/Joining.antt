@@ -1,18 +1,18 @@
 -- Two seats may be made one, and it then learns that one had seen a beginning of what the other had.
-use Rattle.std.proofs.Common.{◌≡◌, ◌≢◌, ℕ, ◌+◌, List, [], ◌++◌, ◌∷◌, length, set, Bool, true, false, ◌&&◌, eqb, ne_eqb, refl, sym, ap, ◌∙◌, subst, ⊎_elim, arith, length-set}
+use Rattle.std.proofs.Common.{◌≡◌, ◌≢◌, ℕ, ◌+◌, List, [], ◌++◌, ◌∷◌, length, set, Bool, true, false, ◌&&◌, eqb, ne_eqb, refl, sym, ap, ◌∙◌, subst, arith, length-set}
 use mathlib.Core.Logic.{dite}
 use mathlib.Core.Option.{some}
 use native.Mathlib.Decide.{ℕ_discrete}
 use lib.ListN.{get_elem?}
-use Rattle.atomic_table.proofs.Lists.{at_set}
 use Rattle.cordyceps_shared.specs.Shares.{covers}
 use Rattle.cordyceps_shared.specs.Histories.{events, marked, plain, NoneOf, Apart}
 use Rattle.cordyceps_shared.specs.Knowing.{Known, Agrees, Below, SharesApart, AllAgree, merged, known_absorbing, known_absorbed}
+use Rattle.cordyceps_shared.proofs.Changing.{two_set, was_there}
 use Rattle.cordyceps_shared.proofs.Counting.{tally_set}
 use Rattle.cordyceps_shared.proofs.Naming.{join_covers, joined_some, letters}
 use Rattle.cordyceps_shared.proofs.Renaming.{same_first, relabel, events_relabel, relabel_append, marked_relabel, without_relabel, without_gone, below_relabel, merge, length_relabel, length_marked, events_append}
 use Rattle.cordyceps_shared.proofs.Seeing.{plain_marked}
-use Rattle.cordyceps_shared.proofs.Telling.{at_length, fits_set}
+use Rattle.cordyceps_shared.proofs.Telling.{at_length}
 
 and_false : (c : Bool) → (c && false) ≡ false
 and_false true = refl
@@ -71,13 +71,10 @@ module _ {X V : Type 0} (knows : V → Known X) where
       let all = ap (λ (k : Known X). k.share) is_both in
       let nothing = ap (λ (k : Known X). k.share) is_spent in record {
         below = subst (λ n. Below n (relabel a b h)) (sym long) (below_relabel a b (length views) h (at_length views a v at) o.below);
-        quiet = λ i u e none_of. ⊎_elim
-            (λ (t : (i ≡ b) × (y ≡ u)). subst (λ (z : ℕ). NoneOf z (relabel a b h)) (sym t.0) (without_gone a b h apart))
-            (λ (t : (i ≢ b) × (get_elem? one i ≡ some u)). ⊎_elim
-            (λ (q : (i ≡ a) × (x ≡ u)). absurd (joined_some (knows v).share (knows w).share named (sym all ∙ (ap (λ (z : V). (knows z).share) q.1 ∙ none_of))))
-            (λ (q : (i ≢ a) × (get_elem? views i ≡ some u)). without_relabel a b i h q.0 (o.quiet i u q.1 none_of))
-            (at_set views a i x u t.1))
-            (at_set one b i y u e);
+        quiet = two_set (λ i u. (knows u).share ≡ [] → NoneOf i (relabel a b h)) views a b x y
+            (λ none_of. absurd (joined_some (knows v).share (knows w).share named (sym all ∙ none_of)))
+            (λ _. without_gone a b h apart)
+            (λ i u ne _ e none_of. without_relabel a b i h ne (o.quiet i u e none_of));
         long = o.long + (letters (knows v).share + letters (knows w).share);
         apart = λ n l.
             let f : V → ℕ = λ u. covers n (knows u).share in
@@ -88,9 +85,7 @@ module _ {X V : Type 0} (knows : V → Known X) where
   pub fits_join : (views : List V) (h : List (ℕ × X)) (a b : ℕ) (v w x y : V) → get_elem? views a ≡ some v → b ≢ a → get_elem? (set views a x) b ≡ some w → knows x ≡ known_absorbing (knows v) (knows w) → knows y ≡ known_absorbed
       → AllAgree knows views h → AllAgree knows (set (set views a x) b y) (relabel a b h)
   fits_join views h a b v w x y at apart there is_both is_spent fits =
-      let one = set views a x in
-      let there_first : get_elem? views b ≡ some w = ⊎_elim (λ (t : (b ≡ a) × (x ≡ w)). absurd (apart t.0)) (λ (t : (b ≢ a) × (get_elem? views b ≡ some w)). t.1) (at_set views a b x w there) in
-      fits_set knows one (relabel a b h) b y (subst (Agrees (relabel a b h) b) (sym is_spent) (fits_gone h a b apart)) (λ i u other e. ⊎_elim
-      (λ (q : (i ≡ a) × (x ≡ u)). subst (λ (z : ℕ × Known X). Agrees (relabel a b h) z.0 z.1) (λ c. (sym q.0 c, (sym is_both ∙ ap knows q.1) c)) (fits_both h a b (knows v) (knows w) apart (fits a v at) (fits b w there_first)))
-      (λ (q : (i ≢ a) × (get_elem? views i ≡ some u)). fits_others h a b i (knows u) q.0 other (fits i u q.1))
-      (at_set views a i x u e))
+      two_set (λ i u. Agrees (relabel a b h) i (knows u)) views a b x y
+      (subst (Agrees (relabel a b h) a) (sym is_both) (fits_both h a b (knows v) (knows w) apart (fits a v at) (fits b w (was_there views a b x w apart there))))
+      (subst (Agrees (relabel a b h) b) (sym is_spent) (fits_gone h a b apart))
+      (λ i u ne other e. fits_others h a b i (knows u) ne other (fits i u e))

@@ -1,5 +1,7 @@
 pub mod Acting
 pub mod Adding
+pub mod Changing
+pub mod Choices
 pub mod Counting
 pub mod Cutting
 pub mod Halving
@@ -9,6 +11,7 @@ pub mod ListWrites
 pub mod Moving
 pub mod Naming
 pub mod Owning
+pub mod Places
 pub mod Renaming
 pub mod Seeing
 pub mod Standing

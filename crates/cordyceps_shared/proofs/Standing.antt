@@ -9,8 +9,8 @@ use Rattle.cordyceps_shared.proofs.Renaming.{same_first, events_append}
 use Rattle.cordyceps_shared.proofs.Seeing.{marked_append, plain_marked}
 use Rattle.cordyceps_shared.proofs.Telling.{all_own, whole_without}
 
--- the only element of a list
-only : {A : Type 0} (a b : A) (j : ℕ) → get_elem? (a ∷ []) j ≡ some b → (j ≡ 0) × (a ≡ b)
+-- the only item of a list
+pub only : {A : Type 0} (a b : A) (j : ℕ) → get_elem? (a ∷ []) j ≡ some b → (j ≡ 0) × (a ≡ b)
 only a b zero e = (refl, some-injective a b e)
 only a b (suc j) e = absurd (some-ne-none b (sym e))
 

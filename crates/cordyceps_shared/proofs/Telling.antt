@@ -1,13 +1,14 @@
 -- A step at which a party sees all and adds events of its own, and one that changes nothing of what it knows.
-use Rattle.std.proofs.Common.{◌≡◌, ◌≢◌, ℕ, zero, suc, ◌≤◌, ◌<◌, List, [], ◌∷◌, ◌++◌, length, set, Bool, false, refl, sym, ap, ◌∙◌, subst, ⊎_elim, arith, append_assoc, append-nil, eq-eqb, length-set, length-append, replicate, lt_of_not-le}
+use Rattle.std.proofs.Common.{◌≡◌, ◌≢◌, ℕ, zero, suc, ◌≤◌, ◌<◌, List, [], ◌∷◌, ◌++◌, length, set, Bool, false, refl, sym, ap, ◌∙◌, subst, arith, append_assoc, append-nil, eq-eqb, length-set, length-append, replicate, lt_of_not-le}
 use mathlib.Core.Option.{some, some-ne-none}
 use mathlib.Core.Logic.{dite}
 use native.Mathlib.Decide.{ℕ_discrete, dec_le}
 use lib.ListN.{get_elem?, length-replicate}
-use Rattle.atomic_table.proofs.Lists.{at_set, set_here}
+use Rattle.atomic_table.proofs.Lists.{set_here}
 use Rattle.cordyceps_shared.specs.Shares.{Name, covers, whole}
 use Rattle.cordyceps_shared.specs.Histories.{events, marked, plain, NoneOf, AllOwn, Apart, of_seat}
 use Rattle.cordyceps_shared.specs.Knowing.{Known, Agrees, Below, SharesApart, AllAgree, Grown, all_seen}
+use Rattle.cordyceps_shared.proofs.Changing.{one_set}
 use Rattle.cordyceps_shared.proofs.Counting.{tally_set, tally_two}
 use Rattle.cordyceps_shared.proofs.Naming.{some_cover}
 use Rattle.cordyceps_shared.proofs.Seeing.{events_more, without_more, marked_append, plain_marked, own_append, own_without, own_of}
@@ -75,20 +76,14 @@ module _ {X V : Type 0} (knows : V → Known X) where
   pub owned_same : (views : List V) (h : List (ℕ × X)) (j : ℕ) (v w : V) → get_elem? views j ≡ some v → (knows w).share ≡ (knows v).share → SharesApart knows views h → SharesApart knows (set views j w) h
   owned_same views h j v w at same o = record {
     below = subst (λ n. Below n h) (sym (length-set views j w)) o.below;
-    quiet = λ i u e none_of. ⊎_elim
-        (λ (t : (i ≡ j) × (w ≡ u)). subst (λ (z : ℕ). NoneOf z h) (sym t.0) (o.quiet j v at (sym same ∙ (ap (λ (z : V). (knows z).share) t.1 ∙ none_of))))
-        (λ (t : (i ≢ j) × (get_elem? views i ≡ some u)). o.quiet i u t.1 none_of)
-        (at_set views j i w u e);
+    quiet = one_set (λ i u. (knows u).share ≡ [] → NoneOf i h) views j w (λ none_of. o.quiet j v at (sym same ∙ none_of)) (λ i u _ there none_of. o.quiet i u there none_of);
     long = o.long;
     apart = λ x l. let s = tally_set (λ (u : V). covers x (knows u).share) views j v w at in let c = ap (covers x) same in let few = o.apart x l in omega arith;
   }
 
   -- another view at j, which fits
   pub fits_set : (views : List V) (h : List (ℕ × X)) (j : ℕ) (w : V) → Agrees h j (knows w) → ((i : ℕ) (u : V) → i ≢ j → get_elem? views i ≡ some u → Agrees h i (knows u)) → AllAgree knows (set views j w) h
-  fits_set views h j w f others i u e = ⊎_elim
-      (λ (t : (i ≡ j) × (w ≡ u)). subst (λ (z : ℕ × V). Agrees h z.0 (knows z.1)) (λ c. (sym t.0 c, t.1 c)) f)
-      (λ (t : (i ≢ j) × (get_elem? views i ≡ some u)). others i u t.0 t.1)
-      (at_set views j i w u e)
+  fits_set views h j w f others = one_set (λ i u. Agrees h i (knows u)) views j w f others
 
   pub fits_same : (views : List V) (h : List (ℕ × X)) (j : ℕ) (v w : V) → get_elem? views j ≡ some v → (knows w).seen ≡ (knows v).seen → (knows w).had ≡ (knows v).had → (knows w).told ≡ (knows v).told → AllAgree knows views h → AllAgree knows (set views j w) h
   fits_same views h j v w at seen had told fits =
@@ -108,10 +103,8 @@ module _ {X V : Type 0} (knows : V → Known X) where
   pub owned_more : (views : List V) (h : List (ℕ × X)) (j : ℕ) (es : List X) (v w : V) → get_elem? views j ≡ some v → (knows w).share ≡ (knows v).share → (knows v).share ≢ [] → SharesApart knows views h → SharesApart knows (set views j w) (h ++ of_seat j es)
   owned_more views h j es v w at same some_share o = record {
     below = below_more (length (set views j w)) h j es (let l = length-set views j w in let a = at_length views j v at in omega arith) (subst (λ n. Below n h) (sym (length-set views j w)) o.below);
-    quiet = λ i u e none_of. ⊎_elim
-        (λ (t : (i ≡ j) × (w ≡ u)). absurd (some_share (sym same ∙ (ap (λ (z : V). (knows z).share) t.1 ∙ none_of))))
-        (λ (t : (i ≢ j) × (get_elem? views i ≡ some u)). without_more i h j es (λ c. t.0 (sym c)) (o.quiet i u t.1 none_of))
-        (at_set views j i w u e);
+    quiet = one_set (λ i u. (knows u).share ≡ [] → NoneOf i (h ++ of_seat j es)) views j w (λ none_of. absurd (some_share (sym same ∙ none_of)))
+        (λ i u ne there none_of. without_more i h j es (λ c. ne (sym c)) (o.quiet i u there none_of));
     long = o.long;
     apart = λ x l. let s = tally_set (λ (u : V). covers x (knows u).share) views j v w at in let c = ap (covers x) same in let few = o.apart x l in omega arith;
   }

@@ -3,6 +3,8 @@ pub mod Counts
 pub mod Histories
 pub mod Interleaving
 pub mod Knowing
+pub mod Places
 pub mod Rooms
 pub mod Shares
+pub mod Slots
 pub mod Standings

@@ -1,5 +1,5 @@
 -- The rooms of a core, in a list by their numbers, and what a step changes of one.
-use Rattle.std.specs.Prelude.{ℕ, zero, suc, List, [], ◌∷◌, Bool, nat_eq, Option, Some, None}
+use Rattle.std.specs.Prelude.{ℕ, zero, suc, List, [], ◌∷◌, count_by, Bool, nat_eq, is_some, Option, Some, None}
 use Rattle.std.specs.Option.{option_eq}
 use Rattle.cordyceps_shared.specs.declared.room.Room.{Room}
 
@@ -28,3 +28,7 @@ module _ {E : Type 0} where
   abbrev pub next_in : Option (Room E) → Option ℕ
   next_in None = None
   next_in (Some room) = room.next
+
+  -- how many rooms have an element
+  abbrev pub occupied : List (Room E) → ℕ
+  occupied rooms = count_by (λ room. is_some room.element) rooms

@@ -1,6 +1,6 @@
 -- A whole enqueueing that one party runs alone.
-use Rattle.std.proofs.Common.{◌≡◌, ℕ, ◌≤◌, Bool, true, false, List, [], ◌∷◌, ◌++◌, length, drop, refl, ap, sym, ◌∙◌, subst, append_assoc, append-nil, length-append, arith}
-use Rattle.std.specs.Prelude.{Option, Some, None, slice_get, is_some, ◌&&◌}
+use Rattle.std.proofs.Common.{◌≡◌, ℕ, ◌≤◌, true, List, [], ◌∷◌, ◌++◌, length, drop, refl, ap, sym, ◌∙◌, subst, append_assoc, append-nil, length-append, arith}
+use Rattle.std.specs.Prelude.{Option, Some, slice_get, is_some}
 use Rattle.std.proofs.lemmas.List.{drop-append-le}
 use Rattle.cordyceps_base.specs.Runs.{after}
 use Rattle.cordyceps_queue.specs.declared.cores.stage.Stage.{Stage}
@@ -12,6 +12,7 @@ use Rattle.cordyceps_shared.specs.Rooms.{element_in}
 use Rattle.cordyceps_queue.specs.Cores.Machine.{Machine, least_free, comes_in, holding, stepped_at, stepped, clear, swap, link}
 use Rattle.cordyceps_queue.specs.Cores.CoreMeets.{CoreMeets, core_step}
 use Rattle.cordyceps_queue.specs.Cores.Alone.{is_rest, is_ready, enqueue_steps}
+use Rattle.cordyceps_shared.proofs.Choices.{both_from, some_from}
 use Rattle.cordyceps_queue.proofs.HistoryEnds.{came-append, went-append}
 use Rattle.cordyceps_shared.proofs.ListWrites.{slice_get-set_same, slice_get-change_same}
 use Rattle.cordyceps_queue.proofs.CoreTheory.ListWrites.{get_within}
@@ -21,14 +22,6 @@ use Rattle.cordyceps_queue.proofs.CoreTheory.AloneTry.{step_met}
 rest_from : (o : Option Stage) → is_rest o ≡ true → o ≡ Some Rest
 rest_from (Some Rest) e = refl
 rest_from o e = let no : ⊥ = cc in absurd no
-
-some_from : (o : Option ℕ) → is_some o ≡ true → (r : ℕ) × (o ≡ Some r)
-some_from None e = let no : ⊥ = cc in absurd no
-some_from (Some r) e = (r, refl)
-
-both_from : (a b : Bool) → (a && b) ≡ true → (a ≡ true) × (b ≡ true)
-both_from true b e = (refl, e)
-both_from false b e = let no : ⊥ = cc in absurd no
 
 module _ {E : Type 0} where
   -- the element is held last

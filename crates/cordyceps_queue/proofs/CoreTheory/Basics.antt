@@ -6,7 +6,8 @@ use Rattle.cordyceps_shared.proofs.Counting.{one_here, one_else}
 use Rattle.cordyceps_queue.specs.History.{Event, Swap, Link, Take, Busy, Look, Out, Empty, Free}
 use Rattle.cordyceps_queue.specs.Past.{held, IsOpen, IsPendingAt}
 use Rattle.cordyceps_queue.specs.Cores.Abstract.{update}
-use Rattle.cordyceps_queue.specs.Cores.Meets.{ItemAt, real, rank}
+use Rattle.cordyceps_shared.specs.Places.{ItemAt}
+use Rattle.cordyceps_queue.specs.Cores.Meets.{real, rank}
 
 pub some_inj : {A : Type 0} {a b : A} → Some a ≡ Some b → a ≡ b
 some_inj {A} {a} {b} e = ap (λ (o : Option A). elim o as (λ _. A) [ Some x ↦ x | None ↦ a ]) e
@@ -166,11 +167,4 @@ times_once r [] once = omega arith
 times_once r (x ∷ xs) once = elim (ℕ_discrete x r) [
   | yes e ↦ omega (arith, ap (λ z. one_if (eqb z r)) e, one_here r, times_none r xs (λ i a. zero_suc (once 0 (suc i) (sym e) a)))
   | no ne ↦ omega (arith, one_else x r ne, times_once r xs (λ i j a b. suc_inj (once (suc i) (suc j) a b)))
-]
-
-pub times_at : (r : ℕ) (xs : List ℕ) → 1 ≤ times r xs → (i : ℕ) × ItemAt xs i r
-times_at r [] l = absurd (omega arith)
-times_at r (x ∷ xs) l = elim (ℕ_discrete x r) [
-  | yes e ↦ (0, sym e)
-  | no ne ↦ let t = times_at r xs (omega (arith, one_else x r ne)) in (suc t.0, t.1)
 ]

@@ -3,7 +3,8 @@ use Rattle.std.proofs.Common.{◌≡◌, ℕ, zero, suc, ◌<◌, ◌≤◌, ◌
 use Rattle.cordyceps_queue.specs.History.{Event}
 use Rattle.cordyceps_queue.specs.Past.{held, holder}
 use Rattle.cordyceps_queue.specs.Cores.Abstract.{update, AbstractParty, AbstractMachine}
-use Rattle.cordyceps_queue.specs.Cores.Meets.{ItemAt, real, Owes, Chain, Joined, RightIs, Meets}
+use Rattle.cordyceps_shared.specs.Places.{ItemAt}
+use Rattle.cordyceps_queue.specs.Cores.Meets.{real, Owes, Chain, Joined, RightIs, Meets}
 use Rattle.cordyceps_queue.proofs.CoreTheory.Basics.{put_same, at_one, at_within, at_more, at_end, at_split, length_map}
 use Rattle.cordyceps_queue.proofs.CoreTheory.OtherParties.{joined_put}
 

@@ -5,7 +5,8 @@ use Rattle.cordyceps_queue.specs.Past.{held, IsSettled, IsPendingAt}
 use Rattle.cordyceps_queue.specs.declared.cores.stage.Stage.{Stage}
 use Rattle.cordyceps_queue.specs.declared.cores.stage.Stage.TheVariants.{Rest, Cleared, Swapped}
 use Rattle.cordyceps_queue.specs.Cores.Abstract.{insert_room, AbstractMachine}
-use Rattle.cordyceps_queue.specs.Cores.Meets.{ItemAt, real, rank, Owner, Ready, tail_of, Chain, Joined, AtStage, Meets}
+use Rattle.cordyceps_shared.specs.Places.{ItemAt}
+use Rattle.cordyceps_queue.specs.Cores.Meets.{real, rank, Owner, Ready, tail_of, Chain, Joined, AtStage, Meets}
 use Rattle.cordyceps_queue.proofs.CoreTheory.Basics.{some_inj, some_none, zero_suc, suc_inj, at_one}
 use Rattle.cordyceps_queue.proofs.CoreTheory.HolderSteps.{at_some}
 

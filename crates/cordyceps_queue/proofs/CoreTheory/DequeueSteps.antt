@@ -4,7 +4,8 @@ use Rattle.cordyceps_queue.specs.History.{Event}
 use Rattle.cordyceps_queue.specs.Past.{held, holder, IsSettled, IsPendingAt, HasLooked}
 use Rattle.cordyceps_queue.specs.declared.cores.stage.Stage.TheVariants.{Rest, Holding, Second}
 use Rattle.cordyceps_queue.specs.Cores.Abstract.{update, insert_room, AbstractParty, AbstractMachine, stands, set_right, hand_out}
-use Rattle.cordyceps_queue.specs.Cores.Meets.{ItemAt, real, Owner, Shared, Spare, Ready, Unmade, Owes, tail_of, Chain, OwnsRooms, Keeps, AtStage, RightIs, Meets}
+use Rattle.cordyceps_shared.specs.Places.{ItemAt}
+use Rattle.cordyceps_queue.specs.Cores.Meets.{real, Owner, Shared, Spare, Ready, Unmade, Owes, tail_of, Chain, OwnsRooms, Keeps, AtStage, RightIs, Meets}
 use Rattle.cordyceps_queue.proofs.CoreTheory.Basics.{some_inj, none_some, suc_zero, zero_suc, suc_inj, put_same, put_other, put_all, map_put}
 use Rattle.cordyceps_queue.proofs.CoreTheory.OtherParties.{joined_put, names_put, strange, has_none}
 use Rattle.cordyceps_queue.proofs.CoreTheory.ProducerSteps.{spare_shared, ready_shared, shared_unmade}

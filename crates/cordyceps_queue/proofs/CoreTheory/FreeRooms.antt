@@ -7,7 +7,7 @@ use Rattle.std.specs.List.{position, position_from}
 use Rattle.cordyceps_shared.specs.declared.room.Room.{Room}
 use Rattle.cordyceps_shared.specs.Rooms.{change, is_free_for}
 use Rattle.cordyceps_queue.specs.Cores.Machine.{stub_room, first_of, least_free, free_from}
-use Rattle.cordyceps_queue.specs.Cores.Meets.{ItemAt}
+use Rattle.cordyceps_shared.specs.Places.{ItemAt}
 use Rattle.cordyceps_queue.specs.Cores.Abstract.{insert_room}
 use Rattle.cordyceps_queue.proofs.CoreTheory.Basics.{none_some}
 

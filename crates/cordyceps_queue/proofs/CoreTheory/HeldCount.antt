@@ -5,6 +5,7 @@ use Rattle.std.proofs.lemmas.List.{length-map}
 use Rattle.std.proofs.lemmas.List.Sums.{sum_by-cons}
 use native.Mathlib.Decide.{ℕ_discrete, dec_le}
 use Rattle.cordyceps_shared.specs.Counts.{times, one_if}
+use Rattle.cordyceps_shared.proofs.Choices.{occupied_cons}
 use Rattle.cordyceps_shared.proofs.Counting.{tally_append, one_here, one_else}
 use Rattle.cordyceps_queue.specs.declared.cores.stage.Stage.{Stage}
 use Rattle.cordyceps_queue.specs.declared.cores.stage.Stage.TheVariants.{Cleared}
@@ -12,20 +13,20 @@ use Rattle.cordyceps_shared.specs.declared.room.Room.{Room}
 use Rattle.cordyceps_queue.specs.History.{Event, held}
 use Rattle.cordyceps_queue.specs.Past as past
 use Rattle.cordyceps_queue.specs.Cores.CoreMeets.{CoreMeets, abstract_of, party_at}
-use Rattle.cordyceps_queue.specs.Cores.Drain.{is_cleared, occupied, count_held}
+use Rattle.cordyceps_shared.specs.Rooms.{occupied}
+use Rattle.cordyceps_queue.specs.Cores.Drain.{is_cleared, count_held}
 use Rattle.cordyceps_shared.specs.Rooms.{change, freeing, element_in}
 use Rattle.cordyceps_queue.specs.Cores.Machine.{Machine}
-use Rattle.cordyceps_queue.specs.Cores.Meets.{ItemAt, real, Owner, Shared, Ready}
-use Rattle.cordyceps_queue.proofs.CoreTheory.Basics.{times_once, times_at}
+use Rattle.cordyceps_shared.specs.Places.{ItemAt}
+use Rattle.cordyceps_queue.specs.Cores.Meets.{real, Owner, Shared, Ready}
+use Rattle.cordyceps_queue.proofs.CoreTheory.Basics.{times_once}
+use Rattle.cordyceps_shared.proofs.Places.{times_at}
 use Rattle.cordyceps_queue.proofs.Legality.{held_of}
 use Rattle.cordyceps_shared.proofs.ListWrites.{slice_get-change_other}
 
 module _ {E : Type 0} where
   abbrev is_full : Option (Room E) → Bool
   is_full room = is_some (element_in room)
-
-  occupied_cons : (x : Room E) (xs : List (Room E)) → occupied (x ∷ xs) ≡ cond (is_some x.element) 1 0 + occupied xs
-  occupied_cons x xs = sum_by-cons (λ (y : Room E). cond (is_some y.element) 1 0) x xs
 
   occupied_freed : (r : ℕ) (rooms : List (Room E)) → is_full (slice_get rooms r) ≡ true → occupied (change (freeing 0) r rooms) + 1 ≡ occupied rooms
   occupied_freed r [] full = let no : ⊥ = cc in absurd no

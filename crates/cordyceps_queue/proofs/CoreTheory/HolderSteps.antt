@@ -6,7 +6,8 @@ use Rattle.cordyceps_queue.specs.Past.{held, holder, MayCome, IsSettled, IsPendi
 use Rattle.cordyceps_queue.specs.declared.cores.stage.Stage.{Stage}
 use Rattle.cordyceps_queue.specs.declared.cores.stage.Stage.TheVariants.{Rest, Cleared, Swapped, Holding}
 use Rattle.cordyceps_queue.specs.Cores.Abstract.{update, AbstractParty, AbstractMachine, stands}
-use Rattle.cordyceps_queue.specs.Cores.Meets.{ItemAt, real, rank, Owner, Owes, tail_of, Chain, IsOut, OwnsRooms, Joined, Keeps, AtStage, RightIs, Meets}
+use Rattle.cordyceps_shared.specs.Places.{ItemAt}
+use Rattle.cordyceps_queue.specs.Cores.Meets.{real, rank, Owner, Owes, tail_of, Chain, IsOut, OwnsRooms, Joined, Keeps, AtStage, RightIs, Meets}
 use Rattle.cordyceps_queue.proofs.CoreTheory.Basics.{some_inj, some_none, none_some, suc_zero, put_same, put_all, at_one, at_within}
 use Rattle.cordyceps_queue.proofs.CoreTheory.ChainGrows.{held_length}
 use Rattle.cordyceps_queue.proofs.CoreTheory.OtherParties.{joined_put, names_put, strange, keeps_of, has_none}

@@ -2,7 +2,8 @@
 use Rattle.std.proofs.Common.{◌≡◌, ℕ, zero, suc, ◌≤◌, [], ◌∷◌, ◌++◌, drop, None, refl, sym, ap, ◌∙◌, append_assoc, arith}
 use Rattle.cordyceps_queue.specs.History.{Event}
 use Rattle.cordyceps_queue.specs.Past.{held, went}
-use Rattle.cordyceps_queue.specs.Cores.Meets.{ItemAt, Owner, Shared, Unmade}
+use Rattle.cordyceps_shared.specs.Places.{ItemAt}
+use Rattle.cordyceps_queue.specs.Cores.Meets.{Owner, Shared, Unmade}
 use Rattle.cordyceps_queue.specs.Cores.StepKeeps.{InOrder, NewMeets}
 use Rattle.cordyceps_queue.proofs.CoreTheory.Basics.{none_some}
 

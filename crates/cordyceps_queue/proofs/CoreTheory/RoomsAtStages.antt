@@ -6,7 +6,8 @@ use Rattle.cordyceps_queue.specs.declared.cores.stage.Stage.{Stage}
 use Rattle.cordyceps_queue.specs.declared.cores.stage.Stage.TheVariants.{Rest, Swapped, Holding, Second, PutLink, PutRead}
 use Rattle.cordyceps_shared.specs.Rooms.{element_in}
 use Rattle.cordyceps_queue.specs.Cores.Machine.{Machine, first_of, least_free, free_rooms}
-use Rattle.cordyceps_queue.specs.Cores.Meets.{ItemAt, tail_of, Shared, Spare, Unmade}
+use Rattle.cordyceps_shared.specs.Places.{ItemAt}
+use Rattle.cordyceps_queue.specs.Cores.Meets.{tail_of, Shared, Spare, Unmade}
 use Rattle.cordyceps_queue.specs.Cores.CoreMeets.{party_at, abstract_of, IsSound}
 use Rattle.cordyceps_queue.proofs.CoreTheory.Basics.{none_some}
 use Rattle.cordyceps_queue.proofs.CoreTheory.HolderSteps.{keeping}

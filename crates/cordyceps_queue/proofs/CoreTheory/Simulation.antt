@@ -1,5 +1,5 @@
 -- What a core's step does to its plain machine is what a step does to the machine's functions.
-use Rattle.std.proofs.Common.{◌≡◌, ◌≢◌, ℕ, zero, suc, ◌+◌, ◌<◌, ◌≤◌, ◌⊎◌, Bool, true, false, List, [], ◌∷◌, length, reverse, refl, ap, sym, ◌∙◌, subst, arith, inl, inr, eqb-true, eq-eqb}
+use Rattle.std.proofs.Common.{◌≡◌, ◌≢◌, ℕ, zero, suc, ◌+◌, ◌<◌, ◌≤◌, ◌⊎◌, Bool, true, false, List, [], ◌∷◌, length, reverse, refl, ap, sym, ◌∙◌, subst, arith, inl, inr, eq-eqb}
 use Rattle.std.specs.Prelude.{Option, Some, None, slice_get, slice_set, nat_eq, Ok}
 use Rattle.std.specs.Option.{option_eq}
 use Rattle.std.proofs.lemmas.Bool.{cases_lt}
@@ -17,20 +17,16 @@ use Rattle.cordyceps_shared.specs.Rooms.{change, linking, freeing, next_in, elem
 use Rattle.cordyceps_queue.specs.Cores.Machine.{Machine, Outcome, holding, free_rooms, refused, events_of}
 use Rattle.cordyceps_queue.specs.Cores.Abstract as words
 use Rattle.cordyceps_queue.specs.Cores.Abstract.{AbstractParty, AbstractMachine, Move, update, insert_room}
-use Rattle.cordyceps_queue.specs.Cores.Meets.{ItemAt, tail_of, Shared, Unmade, Chain, AtStage, Meets}
+use Rattle.cordyceps_shared.specs.Places.{ItemAt}
+use Rattle.cordyceps_queue.specs.Cores.Meets.{tail_of, Shared, Unmade, Chain, AtStage, Meets}
 use Rattle.cordyceps_queue.specs.Cores.CoreMeets.{right_word, party_at, abstract_of, IsOwned}
 use Rattle.cordyceps_queue.proofs.CoreTheory.Basics.{some_inj, none_some, put_same, put_other}
 use Rattle.cordyceps_queue.proofs.CoreTheory.ProducerSteps.{spare_shared, shared_unmade}
 use Rattle.cordyceps_queue.proofs.CoreTheory.HolderSteps.{keeping}
 use Rattle.cordyceps_queue.proofs.CoreTheory.FreeRooms.{free_same, free_first, free_has, free_more}
+use Rattle.cordyceps_shared.proofs.Choices.{option_same}
 use Rattle.cordyceps_shared.proofs.ListWrites.{slice_get-set_same, slice_get-set_other, length-change}
 use Rattle.cordyceps_queue.proofs.CoreTheory.ListWrites.{get_within, none_before, read, read_changed, read_same}
-
-option_same : (x y : Option ℕ) → option_eq nat_eq x y ≡ true → x ≡ y
-option_same None None e = refl
-option_same None (Some y) e = let no : ⊥ = cc in absurd no
-option_same (Some x) None e = let no : ⊥ = cc in absurd no
-option_same (Some x) (Some y) e = ap (λ (n : ℕ). Some n) (eqb-true x y e)
 
 -- another party's room is not free for k
 pub others_room : (k p : ℕ) → k ≢ p → option_eq nat_eq (Some p) (Some k) ≡ false

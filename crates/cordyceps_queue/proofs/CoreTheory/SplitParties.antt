@@ -1,32 +1,17 @@
 -- Parties at rest that are split and joined: what a machine meets stays so.
-use Rattle.std.proofs.Common.{◌≡◌, ◌≢◌, ◌⊎◌, ℕ, zero, suc, ◌+◌, ◌<◌, List, [], ◌∷◌, ◌++◌, length, take, drop, Option, Some, None, refl, sym, ap, ◌∙◌, subst, inl, inr, arith}
+use Rattle.std.proofs.Common.{◌≡◌, ◌≢◌, ◌⊎◌, ℕ, zero, suc, ◌+◌, List, [], ◌∷◌, ◌++◌, length, take, drop, Option, Some, None, refl, sym, ap, ◌∙◌, subst, inl, inr, arith}
 use native.Mathlib.Decide.{ℕ_discrete}
+use Rattle.cordyceps_shared.proofs.Places.{at_take, at_drop, at_either}
 use Rattle.cordyceps_queue.specs.History.{Event}
 use Rattle.cordyceps_queue.specs.Past.{IsSettled}
 use Rattle.cordyceps_queue.specs.declared.cores.stage.Stage.{Stage}
 use Rattle.cordyceps_queue.specs.declared.cores.stage.Stage.TheVariants.{Rest, Cleared, Swapped, Holding, StubNull, Second, Null, PutClear, PutSwap, PutLink, PutRead}
-use Rattle.cordyceps_queue.specs.Cores.Meets.{ItemAt, Owner, Shared, Spare, Ready, Unmade, Owes, tail_of, Chain, OwnsRooms, Joined, AtStage, RightIs, Meets}
+use Rattle.cordyceps_shared.specs.Places.{ItemAt}
+use Rattle.cordyceps_queue.specs.Cores.Meets.{Owner, Shared, Spare, Ready, Unmade, Owes, tail_of, Chain, OwnsRooms, Joined, AtStage, RightIs, Meets}
 use Rattle.cordyceps_queue.specs.Cores.Abstract.{AbstractParty, AbstractMachine, update}
 use Rattle.cordyceps_queue.proofs.CoreTheory.Basics.{none_some, put_same, put_other}
 use Rattle.cordyceps_queue.proofs.CoreTheory.ProducerSteps.{spare_shared, ready_spare, spare_unmade}
 use Rattle.cordyceps_queue.proofs.SharedTheory.EnqueueKeeps.{spare_one}
-
--- ---- lists by place
-pub at_take : {A : Type 0} (n : ℕ) (xs : List A) (i : ℕ) (x : A) → ItemAt (take n xs) i x → ItemAt xs i x × (i < n)
-at_take zero xs i x a = absurd a
-at_take (suc n) [] i x a = absurd a
-at_take (suc n) (y ∷ ys) zero x a = (a, omega arith)
-at_take (suc n) (y ∷ ys) (suc i) x a = let t = at_take n ys i x a in let l = t.1 in (t.0, omega arith)
-
-pub at_drop : {A : Type 0} (n : ℕ) (xs : List A) (i : ℕ) (x : A) → ItemAt (drop n xs) i x → (j : ℕ) × ItemAt xs j x × (j ≡ n + i)
-at_drop zero xs i x a = (i, a, omega arith)
-at_drop (suc n) [] i x a = absurd a
-at_drop (suc n) (y ∷ ys) i x a = let t = at_drop n ys i x a in let l = t.2 in (suc t.0, t.1, omega arith)
-
-pub at_either : {A : Type 0} (xs ys : List A) (i : ℕ) (x : A) → ItemAt (xs ++ ys) i x → ItemAt xs i x ⊎ ((j : ℕ) × ItemAt ys j x × (i ≡ length xs + j))
-at_either [] ys i x a = inr (i, a, omega arith)
-at_either (z ∷ zs) ys zero x a = inl a
-at_either (z ∷ zs) ys (suc i) x a = elim (at_either zs ys i x a) [ inl t ↦ inl t | inr t ↦ let l = t.2 in inr (t.0, t.1, omega arith) ]
 
 -- ---- rooms that go to another party
 abbrev pub deal : ℕ → List ℕ → (ℕ → Owner) → ℕ → Owner

@@ -4,6 +4,7 @@ use Rattle.std.proofs.lemmas.List.{reverse-append, reverse-reverse}
 use Rattle.atomic_table.specs.Seated.{TableId}
 use Rattle.cordyceps_shared.specs.Histories.{plain, own}
 use Rattle.cordyceps_shared.specs.Shares.{Name}
+use Rattle.cordyceps_shared.proofs.Seeing.{own_append}
 use Rattle.cordyceps_shared.proofs.Adding.{plain_append}
 use Rattle.cordyceps_queue.specs.Shared.Parts.{standing}
 use Rattle.cordyceps_queue.specs.History.{Event, Look}
@@ -17,11 +18,6 @@ use Rattle.cordyceps_queue.proofs.Legality.{front_legal}
 use Rattle.cordyceps_queue.proofs.SharedTheory.BlockedPast.{since_look}
 
 module _ {X : Type 0} where
-  own_append : (xs ys : List (Bool × X)) → own (xs ++ ys) ≡ own xs ++ own ys
-  own_append [] ys = refl
-  own_append ((true, x) ∷ xs) ys = ap (λ z. x ∷ z) (own_append xs ys)
-  own_append ((false, x) ∷ xs) ys = own_append xs ys
-
   -- where the last own event stands
   record LastOwn (seen : List (Bool × X)) (es : List X) (x : X) : Type 0 where
     pub before : List (Bool × X)

@@ -16,10 +16,12 @@ use Rattle.cordyceps_queue.specs.declared.cores.stage.Stage.{Stage}
 use Rattle.cordyceps_queue.specs.declared.cores.stage.Stage.TheVariants.{Cleared, Holding, Null}
 use Rattle.cordyceps_shared.specs.declared.slots.Filled.{Filled}
 use Rattle.cordyceps_queue.specs.History.{Event}
-use Rattle.cordyceps_queue.specs.Cores.Meets.{ItemAt, Spare, Shared, OwnsRooms, Chain, Owes, tail_of, AtStage, Meets}
+use Rattle.cordyceps_shared.specs.Places.{ItemAt}
+use Rattle.cordyceps_queue.specs.Cores.Meets.{Spare, Shared, OwnsRooms, Chain, Owes, tail_of, AtStage, Meets}
 use Rattle.cordyceps_queue.specs.Past.{HasLooked, WasBlocked}
 use Rattle.cordyceps_queue.specs.Shared.Plays.{SeatState, Sees, stands_at, hands_out, Blocked}
-use Rattle.cordyceps_queue.specs.Shared.Rule.{TableState, Homes, link_of, full_slot, slot_of, party, machine_of, FullAtHome, EmptyAtHome, RuleHolds}
+use Rattle.cordyceps_shared.specs.Slots.{Homes, full_slot, EmptyAtHome}
+use Rattle.cordyceps_queue.specs.Shared.Rule.{TableState, link_of, slot_of, party, machine_of, FullAtHome, RuleHolds}
 use Rattle.cordyceps_queue.specs.Shared.View.{View, name}
 use Rattle.cordyceps_queue.specs.Cores.Abstract.{AbstractParty, AbstractMachine, update, insert_room, stands, set_right, hand_out}
 use Rattle.cordyceps_queue.proofs.CoreTheory.Basics.{zero_suc, suc_zero, suc_inj, put_same, put_other, put_all}

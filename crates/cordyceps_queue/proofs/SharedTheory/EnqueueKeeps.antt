@@ -7,28 +7,23 @@ use Rattle.atomic_table.proofs.Lists.{set_here, set_else}
 use Rattle.cordyceps_shared.specs.Histories.{events, of_seat}
 use Rattle.cordyceps_shared.specs.Knowing.{all_seen}
 use Rattle.cordyceps_shared.specs.Shares.{Name, first_name}
+use Rattle.cordyceps_shared.proofs.Choices.{first_or, rest_from}
 use Rattle.cordyceps_shared.proofs.Telling.{at_length, grown_then}
 use Rattle.cordyceps_queue.specs.declared.cores.stage.Stage.{Stage}
 use Rattle.cordyceps_queue.specs.declared.cores.stage.Stage.TheVariants.{Rest, Cleared, Swapped}
 use Rattle.cordyceps_shared.specs.declared.slots.Filled.{Filled}
 use Rattle.cordyceps_queue.specs.History.{Event}
-use Rattle.cordyceps_queue.specs.Cores.Meets.{ItemAt, Owner, Spare, OwnsRooms, AtStage}
+use Rattle.cordyceps_shared.specs.Places.{ItemAt}
+use Rattle.cordyceps_queue.specs.Cores.Meets.{Owner, Spare, OwnsRooms, AtStage}
 use Rattle.cordyceps_queue.specs.Shared.Plays.{SeatState, LegalReversed, Sees}
 use Rattle.cordyceps_queue.specs.Shared.Plays as play
-use Rattle.cordyceps_queue.specs.Shared.Rule.{TableState, Homes, full_slot, slot_of, party, party_of, machine_of, FullAtHome, EmptyAtHome, RuleHolds}
+use Rattle.cordyceps_shared.specs.Slots.{Homes, full_slot, EmptyAtHome, Hand}
+use Rattle.cordyceps_queue.specs.Shared.Rule.{TableState, slot_of, party, party_of, machine_of, FullAtHome, RuleHolds}
 use Rattle.cordyceps_queue.specs.Shared.View.{View, name}
 use Rattle.cordyceps_queue.specs.Cores.Abstract.{AbstractMachine, update, clear_room, swap_head, link_next}
 use Rattle.cordyceps_queue.proofs.CoreTheory.Basics.{some_inj, put_same, put_other, at_split}
 use Rattle.cordyceps_queue.proofs.CoreTheory.ProducerSteps.{spare_shared, ready_spare, clear_keeps, chain_after_clear, swap_keeps, chain_after_swap, was, fresh, link_keeps}
 use Rattle.cordyceps_queue.proofs.SharedTheory.WordsAsMachine.{links_put, links_same, parties_put, keeps_rule, core, party_at, rooms_of, free_spare, empties, empties_same, readies, readies_same, head_near}
-
-abbrev pub first_or : {A : Type 0} → A → List A → A
-first_or d [] = d
-first_or d (x ∷ xs) = x
-
-abbrev pub rest_from : {A : Type 0} → List A → List A
-rest_from [] = []
-rest_from (x ∷ xs) = xs
 
 abbrev room_of : Stage → ℕ
 room_of (Cleared r) = r
@@ -193,7 +188,7 @@ module _ {E : Type 0} where
             (ap (λ (l : List ℕ). Cleared (first_or 0 l)) p, ap Some q, ap rest_from p, sym bare, ap (λ (l : List ℕ). let y : Option (Filled E) = None in (first_or 0 l, y) ∷ me.1) p, subst (λ n. n < slots) (ap (first_or 0) p) near, c.1),
       )
 
-  pub swaps : (slots id : ℕ) (me : SeatState E) (r : ℕ) (e : E) (cs : List (ℕ × Option (Filled E))) → me.0.stage ≡ Cleared r → me.0.item ≡ Some e → me.1 ≡ (r, Some (full_slot r e)) ∷ cs → r < slots → me.0.known.share ≢ []
+  pub swaps : (slots id : ℕ) (me : SeatState E) (r : ℕ) (e : E) (cs : Hand E) → me.0.stage ≡ Cleared r → me.0.item ≡ Some e → me.1 ≡ (r, Some (full_slot r e)) ∷ cs → r < slots → me.0.known.share ≢ []
       → Allows RuleHolds slots id me 0 (λ _. r) (play.swapped (step slots 0 r 0 none) me)
   swaps slots id me r e cs ready item hand near named s k deep at fits =
       let inside : r < length s.homes = omega arith in

@@ -1,45 +1,39 @@
 -- The rule of a queue's table at the start, and where a party is split in two or takes another in.
-use Rattle.std.proofs.Common.{◌≡◌, ◌≢◌, ◌⊎◌, ℕ, zero, suc, ◌+◌, ◌-◌, ◌≤◌, ◌<◌, List, [], ◌∷◌, ◌++◌, map, reverse, length, replicate, get_or, set, take, drop, Option, Some, None, refl, sym, ap, ◌∙◌, subst, inl, inr, ⊎_elim, arith, length-set}
+use Rattle.std.proofs.Common.{◌≡◌, ◌≢◌, ◌⊎◌, ℕ, zero, suc, ◌+◌, ◌-◌, ◌≤◌, List, [], ◌∷◌, ◌++◌, map, reverse, length, replicate, get_or, set, take, drop, Option, Some, None, refl, sym, ap, ◌∙◌, subst, inl, inr, ⊎_elim, arith, length-set}
 use Rattle.std.proofs.lemmas.List.{reverse-append}
-use mathlib.Core.Option.{some, none, some-injective, some-ne-none}
+use mathlib.Core.Option.{some, none}
 use native.Mathlib.Decide.{ℕ_discrete}
 use lib.ListN.{get_elem?, length-map, length-replicate}
 use lib.Seq.{set-get_or}
 use Rattle.atomic_table.specs.Table.{opening, Splits, Joins, Allows, step, keeps}
-use Rattle.atomic_table.proofs.Lists.{at_set, at_longer, set_else}
+use Rattle.atomic_table.proofs.Lists.{at_longer, set_else}
 use Rattle.cordyceps_shared.specs.Histories.{events}
 use Rattle.cordyceps_shared.specs.Knowing.{SharesApart}
 use Rattle.cordyceps_shared.specs.Shares.{Name}
-use Rattle.cordyceps_shared.proofs.Cutting.{at_end, owned_cut, fits_cut}
+use Rattle.cordyceps_shared.proofs.Changing.{one_set, two_set, set_more, was_there}
+use Rattle.cordyceps_shared.proofs.Cutting.{owned_cut, fits_cut}
 use Rattle.cordyceps_shared.proofs.Joining.{owned_join, fits_join}
 use Rattle.cordyceps_shared.proofs.Naming.{joined_some}
+use Rattle.cordyceps_shared.proofs.Places.{at_take, empty_new, empty_drop, empty_take, empty_append}
 use Rattle.cordyceps_shared.proofs.Renaming.{relabel, events_relabel}
 use Rattle.cordyceps_shared.proofs.Standing as seats
 use Rattle.cordyceps_shared.proofs.Telling.{at_length, owned_same, fits_forgot}
 use Rattle.cordyceps_queue.specs.declared.cores.stage.Stage.TheVariants.{Rest, Cleared}
 use Rattle.cordyceps_queue.specs.History.{Event}
-use Rattle.cordyceps_queue.specs.Cores.Meets.{ItemAt, Owner, Shared, Spare, Unmade, OwnsRooms, AtStage, Meets}
+use Rattle.cordyceps_shared.specs.Places.{ItemAt}
+use Rattle.cordyceps_queue.specs.Cores.Meets.{Owner, Shared, Spare, Unmade, OwnsRooms, AtStage, Meets}
 use Rattle.cordyceps_queue.specs.Shared.Parting.{view_keeping, view_giving, view_absorbing, view_absorbed, view_without_told, learned}
 use Rattle.cordyceps_queue.specs.Past.{IsLegal, IsSettled}
 use Rattle.cordyceps_queue.specs.Shared.Plays.{SeatState, LegalReversed}
-use Rattle.cordyceps_queue.specs.Shared.Rule.{TableState, Homes, History, link_of, party, party_of, machine_of, EmptyAtHome, RuleHolds}
+use Rattle.cordyceps_shared.specs.Slots.{Homes, EmptyAtHome}
+use Rattle.cordyceps_queue.specs.Shared.Rule.{TableState, History, link_of, party, party_of, machine_of, RuleHolds}
 use Rattle.cordyceps_queue.specs.Shared.View.{View, knows, name, newcomer, down_from}
 use Rattle.cordyceps_queue.specs.Cores.Abstract.{AbstractParty}
 use Rattle.cordyceps_queue.proofs.CoreTheory.Basics.{some_inj}
 use Rattle.cordyceps_queue.proofs.SharedTheory.SeatNames.{party_was, name_known, names_differ, few_rooms, whole_still}
-use Rattle.cordyceps_queue.proofs.CoreTheory.SplitParties.{at_take, at_drop, at_either, deal, deal_else, deal_here, deal_fixed, deal_others, deal_kept, deal_given, deal_both, Regroups, regroups_keep}
+use Rattle.cordyceps_queue.proofs.CoreTheory.SplitParties.{deal, deal_else, deal_here, deal_fixed, deal_others, deal_kept, deal_given, deal_both, Regroups, regroups_keep}
 use Rattle.cordyceps_queue.proofs.SharedTheory.WordsAsMachine.{core, party_at, rooms_of, parties_put}
 use Rattle.cordyceps_queue.proofs.SharedTheory.ReturnKeeps.{put_again}
-
-vacant_at : {A : Type 0} (n i : ℕ) (a : A) → i < n → get_elem? (map some (replicate n a)) i ≡ some (some a)
-vacant_at zero i a h = absurd (omega arith)
-vacant_at (suc n) zero a h = refl
-vacant_at (suc n) (suc i) a h = vacant_at n i a (omega arith)
-
--- the only item of a list
-only : {A : Type 0} (a b : A) (j : ℕ) → get_elem? (a ∷ []) j ≡ some b → (j ≡ 0) × (a ≡ b)
-only a b zero e = (refl, some-injective a b e)
-only a b (suc j) e = absurd (some-ne-none b (sym e))
 
 only_at : {A : Type 0} (a b : A) (i : ℕ) → ItemAt (a ∷ []) i b → (i ≡ 0) × (b ≡ a)
 only_at a b zero e = (refl, e)
@@ -61,7 +55,7 @@ others_unmade (suc r) l = refl
 
 module _ (E : Type 0) where
   vacant_empty : (rooms : ℕ) → let homes : Homes E = map some (replicate (rooms + 1) None) in EmptyAtHome homes (down_from rooms)
-  vacant_empty rooms i r a = let t = at_down_from rooms i r a in let e = t.0 in vacant_at (rooms + 1) r None (omega arith)
+  vacant_empty rooms = empty_new (rooms + 1) (down_from rooms) (λ i r a. let t = at_down_from rooms i r a in let e = t.0 in omega arith)
 
   pub opens : (rooms : ℕ) (words : List ℕ) → length words ≡ rooms + 3 → get_or words 0 0 ≡ 0 → get_or words 1 0 ≡ 1 → get_or words 2 0 ≡ 0 → RuleHolds {E = E} (opening words (replicate (rooms + 1) None) (newcomer rooms))
   opens rooms words wide head right link =
@@ -92,8 +86,8 @@ module _ (E : Type 0) where
         wide = omega arith;
         stub = omega arith;
         full = λ i r ir ne. absurd (ne (only_at 0 r i ir).1);
-        empty = λ j v e some_name. subst (λ (z : View E). EmptyAtHome homes z.free) (only first v j e).1 (vacant_empty rooms);
-        ready = λ j v r e some_name is. absurd (let c = ap (λ (z : View E). z.stage) (only first v j e).1 ∙ is in cc);
+        empty = λ j v e some_name. subst (λ (z : View E). EmptyAtHome homes z.free) (seats.only first v j e).1 (vacant_empty rooms);
+        ready = λ j v r e some_name is. absurd (let c = ap (λ (z : View E). z.stage) (seats.only first v j e).1 ∙ is in cc);
         fits = known.1;
         owned = known.0;
       }
@@ -102,7 +96,7 @@ module _ (E : Type 0) where
       is_first n k p e =
           let first : View E = newcomer n in
           let w = party_was (get_elem? (first ∷ []) k) p e in
-          let o = only first w.0 k w.1 in
+          let o = seats.only first w.0 k w.1 in
           (o.0, ap party o.1 ∙ w.3)
 
       stub : (n : ℕ) → deal 0 (down_from n) only_stub 0 ≡ Shared
@@ -130,16 +124,6 @@ module _ {E : Type 0} (s : TableState E) (k : RuleHolds s) (id n : ℕ) (v : Vie
 
   abbrev owner_cut : ℕ → Owner
   owner_cut = deal far (take n v.free) k.chain.owner
-
-  -- of what holds of the two and of each other party, it holds afterwards
-  cut_all : (Holds : ℕ → View E → Type 0) → Holds id left_view → Holds far right → ((i : ℕ) (u : View E) → i ≢ id → get_elem? s.views i ≡ some u → Holds i u) → (i : ℕ) (u : View E) → get_elem? cut_views i ≡ some u → Holds i u
-  cut_all Holds first second others i u e = ⊎_elim
-      (λ (there : get_elem? (set s.views id left_view) i ≡ some u). ⊎_elim
-      (λ (t : (i ≡ id) × (left_view ≡ u)). subst (λ (z : ℕ × View E). Holds z.0 z.1) (λ c. (sym t.0 c, t.1 c)) first)
-      (λ (t : (i ≢ id) × (get_elem? s.views i ≡ some u)). others i u t.0 t.1)
-      (at_set s.views id i left_view u there))
-      (λ (t : (i ≡ far) × (right ≡ u)). subst (λ (z : ℕ × View E). Holds z.0 z.1) (λ c. (sym t.0 c, t.1 c)) second)
-      (at_end (set s.views id left_view) right u i e)
 
   cut_still : (i : ℕ) (u : View E) → i ≢ id → get_elem? s.views i ≡ some u → get_elem? cut_views i ≡ some u
   cut_still i u ne e = at_longer (set s.views id left_view) (right ∷ []) i u (set_else s.views id i left_view ne ∙ e)
@@ -180,14 +164,14 @@ module _ {E : Type 0} (s : TableState E) (k : RuleHolds s) (id n : ℕ) (v : Vie
     ];
     was = λ i p e.
         let w = party_was (get_elem? cut_views i) p e in
-        subst (Was_cut i) w.3 (cut_all (λ j u. u.known.share ≢ [] → Was_cut j (party u))
+        subst (Was_cut i) w.3 (set_more (λ j u. u.known.share ≢ [] → Was_cut j (party u)) s.views id left_view right
         (λ _. inr (rest, λ q e. ap (λ (x : AbstractParty Name). x.name) (sym (was_here q e))))
         (λ _. inr (refl, λ q e. absurd (far_free q e)))
         (λ j u ne there some_name. inl (party_at s k j u there some_name))
         i w.0 w.1 w.2);
     rooms = λ i p e.
         let w = party_was (get_elem? cut_views i) p e in
-        subst (λ (q : AbstractParty Name). OwnsRooms owner_cut i q.spare) w.3 (cut_all (λ j u. u.known.share ≢ [] → OwnsRooms owner_cut j (party u).spare)
+        subst (λ (q : AbstractParty Name). OwnsRooms owner_cut i q.spare) w.3 (set_more (λ j u. u.known.share ≢ [] → OwnsRooms owner_cut j (party u).spare) s.views id left_view right
         (λ _. subst (λ l. OwnsRooms owner_cut id (l ++ drop n v.free)) (sym bare) (deal_kept k.chain.owner id v.free free_rooms n far))
         (λ _. deal_given k.chain.owner id v.free free_rooms n far)
         (λ j u ne there some_name. deal_others k.chain.owner id far (take n v.free) taken j (u.back ++ u.free) ne (rooms_of s k j u there some_name))
@@ -204,11 +188,11 @@ module _ {E : Type 0} (s : TableState E) (k : RuleHolds s) (id n : ℕ) (v : Vie
     wide = k.wide;
     stub = k.stub;
     full = k.full;
-    empty = cut_all (λ _ u. u.known.share ≢ [] → EmptyAtHome s.homes u.free)
-        (λ _ i r a. let t = at_drop n v.free i r a in k.empty id v at named t.0 r t.1)
-        (λ _ i r a. k.empty id v at named i r (at_take n v.free i r a).0)
+    empty = set_more (λ _ u. u.known.share ≢ [] → EmptyAtHome s.homes u.free) s.views id left_view right
+        (λ _. empty_drop s.homes n v.free (k.empty id v at named))
+        (λ _. empty_take s.homes n v.free (k.empty id v at named))
         (λ j u ne there some_name. k.empty j u there some_name);
-    ready = λ j u r. cut_all (λ _ z. z.known.share ≢ [] → z.stage ≡ Cleared r → k.cell r ≡ z.item)
+    ready = λ j u r. set_more (λ _ z. z.known.share ≢ [] → z.stage ≡ Cleared r → k.cell r ≡ z.item) s.views id left_view right
         (λ _ is. absurd (cc))
         (λ _ is. absurd (cc))
         (λ i z ne there some_name. k.ready i z r there some_name)
@@ -239,17 +223,7 @@ module _ {E : Type 0} (s : TableState E) (k : RuleHolds s) (id other : ℕ) (v w
   same_past = ap (λ z. reverse z) (sym (events_relabel id other k.history))
 
   there_first : get_elem? s.views other ≡ some w
-  there_first = ⊎_elim (λ (t : (other ≡ id) × (view_absorbing v w ≡ w)). absurd (apart t.0)) (λ (t : (other ≢ id) × (get_elem? s.views other ≡ some w)). t.1) (at_set s.views id other (view_absorbing v w) w there)
-
-  -- of what holds of the two, of what is left of the second and of each other party, it holds afterwards
-  join_all : (Holds : ℕ → View E → Type 0) → Holds id (view_absorbing v w) → Holds other view_absorbed → ((i : ℕ) (u : View E) → i ≢ id → i ≢ other → get_elem? s.views i ≡ some u → Holds i u) → (i : ℕ) (u : View E) → get_elem? joint i ≡ some u → Holds i u
-  join_all Holds first second others i u e = ⊎_elim
-      (λ (p : (i ≡ other) × (view_absorbed ≡ u)). subst (λ (z : ℕ × View E). Holds z.0 z.1) (λ c. (sym p.0 c, p.1 c)) second)
-      (λ (p : (i ≢ other) × (get_elem? (set s.views id (view_absorbing v w)) i ≡ some u)). ⊎_elim
-      (λ (q : (i ≡ id) × (view_absorbing v w ≡ u)). subst (λ (z : ℕ × View E). Holds z.0 z.1) (λ c. (sym q.0 c, q.1 c)) first)
-      (λ (q : (i ≢ id) × (get_elem? s.views i ≡ some u)). others i u q.0 p.0 q.1)
-      (at_set s.views id i (view_absorbing v w) u p.1))
-      (at_set (set s.views id (view_absorbing v w)) other i view_absorbed u e)
+  there_first = was_there s.views id other (view_absorbing v w) w apart there
 
   join_still : (i : ℕ) → i ≢ id → i ≢ other → get_elem? joint i ≡ get_elem? s.views i
   join_still i ne no_other = set_else (set s.views id (view_absorbing v w)) other i view_absorbed no_other ∙ set_else s.views id i (view_absorbing v w) ne
@@ -299,14 +273,14 @@ module _ {E : Type 0} (s : TableState E) (k : RuleHolds s) (id other : ℕ) (v w
     ];
     was = λ i p e.
         let t = party_was (get_elem? joint i) p e in
-        subst (Was_join i) t.3 (join_all (λ j u. u.known.share ≢ [] → Was_join j (party u))
+        subst (Was_join i) t.3 (two_set (λ j u. u.known.share ≢ [] → Was_join j (party u)) s.views id other (view_absorbing v w) view_absorbed
         (λ _. inr (refl, λ q e. inl (ap (λ (x : AbstractParty Name). x.name) (sym (first_was q e)))))
         (λ some_name. absurd (some_name refl))
         (λ j u ne no_other at some_name. inl (party_at s k j u at some_name))
         i t.0 t.1 t.2);
     rooms = λ i p e.
         let t = party_was (get_elem? joint i) p e in
-        subst (λ (q : AbstractParty Name). OwnsRooms owner_join i q.spare) t.3 (join_all (λ j u. u.known.share ≢ [] → OwnsRooms owner_join j (party u).spare)
+        subst (λ (q : AbstractParty Name). OwnsRooms owner_join i q.spare) t.3 (two_set (λ j u. u.known.share ≢ [] → OwnsRooms owner_join j (party u).spare) s.views id other (view_absorbing v w) view_absorbed
         (λ _. deal_both k.chain.owner id other v.free w.free (λ e. apart (sym e)) first_rooms second_rooms)
         (λ some_name. absurd (some_name refl))
         (λ j u ne no_other at some_name. deal_others k.chain.owner other id w.free second_rooms.own j (u.back ++ u.free) no_other (rooms_of s k j u at some_name))
@@ -324,11 +298,11 @@ module _ {E : Type 0} (s : TableState E) (k : RuleHolds s) (id other : ℕ) (v w
     wide = k.wide;
     stub = k.stub;
     full = k.full;
-    empty = join_all (λ _ u. u.known.share ≢ [] → EmptyAtHome s.homes u.free)
-        (λ _ i r a. elim (at_either v.free w.free i r a) [ inl t ↦ k.empty id v at named i r t | inr t ↦ k.empty other w there_first named_too t.0 r t.1 ])
+    empty = two_set (λ _ u. u.known.share ≢ [] → EmptyAtHome s.homes u.free) s.views id other (view_absorbing v w) view_absorbed
+        (λ _. empty_append s.homes v.free w.free (k.empty id v at named) (k.empty other w there_first named_too))
         (λ some_name. absurd (some_name refl))
         (λ j u ne no_other e some_name. k.empty j u e some_name);
-    ready = λ j u r. join_all (λ _ z. z.known.share ≢ [] → z.stage ≡ Cleared r → k.cell r ≡ z.item)
+    ready = λ j u r. two_set (λ _ z. z.known.share ≢ [] → z.stage ≡ Cleared r → k.cell r ≡ z.item) s.views id other (view_absorbing v w) view_absorbed
         (λ _ is. absurd (cc))
         (λ _ is. absurd (cc))
         (λ i z ne no_other e some_name. k.ready i z r e some_name)
@@ -355,14 +329,8 @@ module _ {E : Type 0} (s : TableState E) (k : RuleHolds s) (id : ℕ) (v : View 
     wide = k.wide;
     stub = k.stub;
     full = k.full;
-    empty = λ j u e some_name. ⊎_elim
-        (λ (t : (j ≡ id) × (view_without_told v ≡ u)). subst (λ (z : View E). EmptyAtHome s.homes z.free) t.1 (k.empty id v at named))
-        (λ (t : (j ≢ id) × (get_elem? s.views j ≡ some u)). k.empty j u t.1 some_name)
-        (at_set s.views id j (view_without_told v) u e);
-    ready = λ j u r e some_name is. ⊎_elim
-        (λ (t : (j ≡ id) × (view_without_told v ≡ u)). k.ready id v r at named (ap (λ (z : View E). z.stage) t.1 ∙ is) ∙ ap (λ (z : View E). z.item) t.1)
-        (λ (t : (j ≢ id) × (get_elem? s.views j ≡ some u)). k.ready j u r t.1 some_name is)
-        (at_set s.views id j (view_without_told v) u e);
+    empty = one_set (λ _ u. u.known.share ≢ [] → EmptyAtHome s.homes u.free) s.views id (view_without_told v) (λ _. k.empty id v at named) (λ j u _ e some_name. k.empty j u e some_name);
+    ready = λ j u r. one_set (λ _ z. z.known.share ≢ [] → z.stage ≡ Cleared r → k.cell r ≡ z.item) s.views id (view_without_told v) (λ _ is. k.ready id v r at named is) (λ i z _ e some_name is. k.ready i z r e some_name is) j u;
     fits = fits_forgot knows s.views k.history id v (view_without_told v) at refl refl k.fits;
     owned = owned_same knows s.views k.history id v (view_without_told v) at refl k.owned;
   }

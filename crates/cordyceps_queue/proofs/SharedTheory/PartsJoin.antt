@@ -3,6 +3,7 @@ use Rattle.std.proofs.Common.{◌≡◌, ◌≢◌, ℕ, zero, suc, ◌-◌, ◌
 use Rattle.atomic_table.specs.Table.{rest}
 use Rattle.cordyceps_shared.specs.Knowing.{Grown}
 use Rattle.cordyceps_shared.specs.Shares.{Name, first_name}
+use Rattle.cordyceps_shared.proofs.Choices.{some_or}
 use Rattle.cordyceps_shared.proofs.Telling.{grown_then}
 use Rattle.cordyceps_queue.specs.declared.cores.stage.Stage.{Stage}
 use Rattle.cordyceps_queue.specs.declared.cores.stage.Stage.TheVariants.{Rest, Holding}
@@ -11,9 +12,9 @@ use Rattle.cordyceps_queue.specs.declared.shared.table.Tried.{Tried}
 use Rattle.cordyceps_queue.specs.declared.shared.table.Tried.TheVariants.{Out, Empty, Inconsistent}
 use Rattle.cordyceps_queue.specs.Shared.Parts.{AsksRight, Tries, Dequeued}
 use Rattle.cordyceps_queue.specs.History.{Event}
-use Rattle.cordyceps_queue.specs.Cores.Meets.{ItemAt}
-use Rattle.cordyceps_queue.specs.Shared.Plays.{SeatState, TableStep, LegalReversed, Near, carry, stands_at, hands_out, HandsOneOut, IsResting, IsHolding, IsAtStage, Blocked, took}
-use Rattle.cordyceps_queue.specs.Shared.Rule.{full_slot}
+use Rattle.cordyceps_shared.specs.Places.{ItemAt}
+use Rattle.cordyceps_shared.specs.Slots.{TableStep, full_slot, Hand}
+use Rattle.cordyceps_queue.specs.Shared.Plays.{SeatState, LegalReversed, Near, carry, stands_at, hands_out, HandsOneOut, IsResting, IsHolding, IsAtStage, Blocked, took}
 use Rattle.cordyceps_queue.specs.Shared.View.{View, name}
 
 -- the free rooms are those of before, and the slot in hand
@@ -33,10 +34,6 @@ pred_suc n ne = omega arith
 abbrev pub hand_of : {A : Type 0} → A → List (ℕ × Option A) → Option A
 hand_of d [] = None
 hand_of d (x ∷ xs) = x.1
-
-abbrev pub some_or : {A : Type 0} → A → Option A → A
-some_or d None = d
-some_or d (Some x) = x
 
 module _ {E : Type 0} where
   pub takes_by : (st : TableStep E) (m k : SeatState E) → IsResting st.slots m → (found : ℕ) → took st m found k → AsksRight st.slots found m k
@@ -143,7 +140,7 @@ module _ {E : Type 0} where
       )
 
   -- ---- the element is taken out of the slot in hand
-  same_full : (t : ℕ) (hand : List (ℕ × Option (Filled E))) (e : E) (full : Filled E) → hand ≡ (t, Some (full_slot t e)) ∷ [] → hand ≡ (t, Some full) ∷ [] → full_slot t e ≡ full
+  same_full : (t : ℕ) (hand : Hand E) (e : E) (full : Filled E) → hand ≡ (t, Some (full_slot t e)) ∷ [] → hand ≡ (t, Some full) ∷ [] → full_slot t e ≡ full
   same_full t hand e full a b = ap (some_or full) (ap (hand_of full) (sym a ∙ b))
 
   pub hands_taken : (slots t r : ℕ) (fs : List (Event Name E)) (m l o : SeatState E) (full : Filled E) → m.0.known.share ≢ [] → Near slots (m.0.back ++ m.0.free) → hands_out fs slots t r m l → l.1 ≡ (t, Some full) ∷ [] → o ≡ (l.0, (t, None) ∷ [])

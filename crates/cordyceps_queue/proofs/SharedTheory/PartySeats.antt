@@ -16,7 +16,7 @@ use Rattle.cordyceps_queue.specs.Shared.Rule.{IsTable}
 use Rattle.cordyceps_queue.specs.Shared.Calls.{same_name, Legal}
 use Rattle.cordyceps_queue.specs.Shared.View.{View, newcomer, down_from}
 use Rattle.cordyceps_queue.proofs.Legality.{told_legal}
-use Rattle.cordyceps_queue.proofs.CoreTheory.SplitParties.{at_take, at_drop, at_either}
+use Rattle.cordyceps_shared.proofs.Places.{at_take, at_drop, at_either}
 use Rattle.cordyceps_queue.proofs.SharedTheory.PartingKeeps.{at_down_from}
 
 -- ---- a new party

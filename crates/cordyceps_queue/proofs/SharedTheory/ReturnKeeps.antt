@@ -1,18 +1,22 @@
 -- A step of a queue's party may first give back the slots in hand.
-use Rattle.std.proofs.Common.{◌≡◌, ◌≢◌, ℕ, zero, suc, ◌+◌, ◌-◌, ◌<◌, List, [], ◌∷◌, ◌++◌, length, reverse, set, get_or, Option, Some, None, refl, sym, ap, ◌∙◌, subst, inl, inr, ⊎_elim, arith, length-set}
+use Rattle.std.proofs.Common.{◌≡◌, ◌≢◌, ℕ, zero, suc, ◌+◌, ◌-◌, ◌<◌, List, [], ◌∷◌, ◌++◌, length, reverse, set, get_or, Option, Some, None, refl, sym, ap, ◌∙◌, subst, arith, length-set}
 use mathlib.Core.Option.{some}
 use mathlib.Core.Path.{fun_ext}
 use native.Mathlib.Decide.{ℕ_discrete}
 use lib.ListN.{get_elem?}
 use Rattle.atomic_table.specs.Table.{Act, keeps, gives, stepped, homes_after, carried_after, Valid, Allows}
 use Rattle.atomic_table.specs.Table as table
-use Rattle.atomic_table.proofs.Lists.{at_set, set_here, set_else}
+use Rattle.atomic_table.proofs.Lists.{set_here, set_else}
 use Rattle.cordyceps_shared.specs.Histories.{events}
+use Rattle.cordyceps_shared.proofs.Changing.{one_set}
 use Rattle.cordyceps_shared.proofs.Telling.{at_length, owned_same, fits_same}
 use Rattle.cordyceps_shared.specs.declared.slots.Filled.{Filled}
-use Rattle.cordyceps_queue.specs.Cores.Meets.{ItemAt, Spare, Meets}
+use Rattle.cordyceps_shared.specs.Places.{ItemAt}
+use Rattle.cordyceps_queue.specs.declared.cores.stage.Stage.TheVariants.{Cleared}
+use Rattle.cordyceps_queue.specs.Cores.Meets.{Spare, Meets}
 use Rattle.cordyceps_queue.specs.Shared.Plays.{SeatState, Near, carry}
-use Rattle.cordyceps_queue.specs.Shared.Rule.{TableState, Homes, link_of, party, machine_of, EmptyAtHome, RuleHolds}
+use Rattle.cordyceps_shared.specs.Slots.{Homes, EmptyAtHome, Hand}
+use Rattle.cordyceps_queue.specs.Shared.Rule.{TableState, link_of, party, machine_of, RuleHolds}
 use Rattle.cordyceps_queue.specs.Shared.View.{View, knows}
 use Rattle.cordyceps_queue.specs.Cores.Abstract.{update}
 use Rattle.cordyceps_queue.proofs.CoreTheory.Basics.{at_more, put_same, put_other}
@@ -106,14 +110,10 @@ module _ {E : Type 0} where
         wide = omega arith;
         stub = omega arith;
         full = λ i x ix ne. given_else v.back s.homes x (λ j a. spare_shared (mine x j a) (k.meets.shared i x ix)) ∙ k.full i x ix ne;
-        empty = λ j u e some_name. elim (at_set s.views id j w u e) [
-          | inl t ↦ subst (λ (z : View E). EmptyAtHome (homes_given s.homes v.back) z.free) t.1 (given_all v.back v.free s.homes near (k.empty id v at named))
-          | inr t ↦ λ i x ix. given_still v.back s.homes x (k.empty j u t.1 some_name i x ix)
-        ];
-        ready = λ j u r e some_name is. ⊎_elim
-            (λ (t : (j ≡ id) × (w ≡ u)). k.ready id v r at named (ap (λ (z : View E). z.stage) t.1 ∙ is) ∙ ap (λ (z : View E). z.item) t.1)
-            (λ (t : (j ≢ id) × (get_elem? s.views j ≡ some u)). k.ready j u r t.1 some_name is)
-            (at_set s.views id j w u e);
+        empty = one_set (λ _ u. u.known.share ≢ [] → EmptyAtHome (homes_given s.homes v.back) u.free) s.views id w
+            (λ _. given_all v.back v.free s.homes near (k.empty id v at named))
+            (λ j u _ e some_name i x ix. given_still v.back s.homes x (k.empty j u e some_name i x ix));
+        ready = λ j u r. one_set (λ _ z. z.known.share ≢ [] → z.stage ≡ Cleared r → k.cell r ≡ z.item) s.views id w (λ _ is. k.ready id v r at named is) (λ i z _ e some_name is. k.ready i z r e some_name is) j u;
         fits = fits_same knows s.views k.history id v w at refl refl refl k.fits;
         owned = owned_same knows s.views k.history id v w at refl k.owned;
       }
@@ -142,8 +142,8 @@ module _ {E : Type 0} where
       let c = sym (give_carried bs) in (
         r.0,
         a,
-        subst (λ z. Valid homes z a) (sym hand) (give_valid bs homes, subst (λ (z : Homes E × List (ℕ × Option (Filled E))). Valid z.0 z.1 r.1) (λ j. (h j, c j)) r.2),
+        subst (λ z. Valid homes z a) (sym hand) (give_valid bs homes, subst (λ (z : Homes E × Hand E). Valid z.0 z.1 r.1) (λ j. (h j, c j)) r.2),
         subst (λ z. RuleHolds record { words = set s.words i n; homes = homes_after homes z a; views = set s.views id r.0 }) (sym hand)
-            (subst (λ (z : Homes E × List (ℕ × Option (Filled E)) × List (View E)). RuleHolds record { words = set s.words i n; homes = homes_after z.0 z.1 r.1; views = z.2 }) (λ j. (h j, c j, set_twice s.views id (view_returned v) r.0 j)) r.3),
+            (subst (λ (z : Homes E × Hand E × List (View E)). RuleHolds record { words = set s.words i n; homes = homes_after z.0 z.1 r.1; views = z.2 }) (λ j. (h j, c j, set_twice s.views id (view_returned v) r.0 j)) r.3),
         subst (λ z. then (get_or s.words i 0) (r.0, carried_after z a)) (sym hand) (subst (λ z. then (get_or s.words i 0) (r.0, carried_after z r.1)) c r.4),
       )

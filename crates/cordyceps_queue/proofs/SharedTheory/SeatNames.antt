@@ -11,6 +11,7 @@ use Rattle.cordyceps_shared.specs.Knowing.{SharesApart}
 use Rattle.cordyceps_shared.specs.Shares.{Name, whole, covers, first_name}
 use Rattle.cordyceps_shared.proofs.Counting.{tally_two, distinct_few}
 use Rattle.cordyceps_shared.proofs.Naming.{some_cover}
+use Rattle.cordyceps_shared.proofs.Places.{times_at}
 use Rattle.cordyceps_shared.proofs.Standing as seats
 use Rattle.cordyceps_queue.specs.declared.cores.stage.Stage.TheVariants.{Rest}
 use Rattle.cordyceps_queue.specs.Cores.Meets.{AtStage, RightIs, tail_of}
@@ -19,7 +20,7 @@ use Rattle.cordyceps_queue.specs.Past.{holder, IsSettled}
 use Rattle.cordyceps_queue.specs.Shared.Rule.{TableState, History, party, party_if, party_of, RuleHolds}
 use Rattle.cordyceps_queue.specs.Shared.View.{View, knows, name}
 use Rattle.cordyceps_queue.specs.Cores.Abstract.{AbstractParty}
-use Rattle.cordyceps_queue.proofs.CoreTheory.Basics.{some_inj, none_some, times_once, times_at}
+use Rattle.cordyceps_queue.proofs.CoreTheory.Basics.{some_inj, none_some, times_once}
 use Rattle.cordyceps_queue.proofs.SharedTheory.WordsAsMachine.{at_behind, core, party_at, rooms_of}
 use Rattle.cordyceps_shared.proofs.Telling.{at_length}
 

@@ -8,7 +8,8 @@ use Rattle.cordyceps_shared.specs.Shares.{Name}
 use Rattle.cordyceps_queue.specs.declared.cores.stage.Stage.{Stage}
 use Rattle.cordyceps_queue.specs.declared.cores.stage.Stage.TheVariants.{Cleared, Holding, StubNull, Second, Null, PutClear, PutSwap, PutLink, PutRead}
 use Rattle.cordyceps_queue.specs.History.{Event}
-use Rattle.cordyceps_queue.specs.Cores.Meets.{ItemAt, Owes, tail_of, Chain, AtStage, Meets}
+use Rattle.cordyceps_shared.specs.Places.{ItemAt}
+use Rattle.cordyceps_queue.specs.Cores.Meets.{Owes, tail_of, Chain, AtStage, Meets}
 use Rattle.cordyceps_queue.specs.Past.{WasBlocked}
 use Rattle.cordyceps_queue.specs.Shared.Plays.{SeatState, Near, Sees, carry, stands_at, hands_out, Blocked}
 use Rattle.cordyceps_queue.specs.Shared.Plays as play

@@ -1,23 +1,26 @@
 -- A change of a queue's words and views is a change of its machine.
-use Rattle.std.proofs.Common.{◌≡◌, ◌≢◌, ℕ, suc, ◌+◌, ◌<◌, List, [], ◌∷◌, ◌++◌, length, reverse, set, get_or, Option, Some, refl, sym, ap, ◌∙◌, subst, ⊎_elim, arith, get_or-set_other, get_or-set_same}
+use Rattle.std.proofs.Common.{◌≡◌, ◌≢◌, ℕ, suc, ◌+◌, ◌<◌, List, [], ◌∷◌, ◌++◌, length, reverse, set, get_or, Option, Some, refl, sym, ap, ◌∙◌, subst, arith, get_or-set_other, get_or-set_same}
 use Rattle.std.proofs.lemmas.List.{reverse-append}
 use mathlib.Core.Option.{some, none}
 use mathlib.Core.Option as maybe
 use mathlib.Core.Path.{fun_ext}
 use native.Mathlib.Decide.{ℕ_discrete}
 use lib.ListN.{get_elem?}
-use Rattle.atomic_table.proofs.Lists.{at_set, set_here, set_else}
+use Rattle.atomic_table.proofs.Lists.{set_here, set_else}
 use Rattle.cordyceps_shared.specs.Histories.{events, of_seat}
 use Rattle.cordyceps_shared.specs.Knowing.{all_seen}
 use Rattle.cordyceps_shared.specs.Shares.{Name}
+use Rattle.cordyceps_shared.proofs.Changing.{one_set}
 use Rattle.cordyceps_shared.proofs.Seeing.{events_more}
 use Rattle.cordyceps_shared.proofs.Telling.{at_length, tells}
 use Rattle.cordyceps_queue.specs.declared.cores.stage.Stage.TheVariants.{Cleared}
 use Rattle.cordyceps_shared.specs.declared.slots.Filled.{Filled}
 use Rattle.cordyceps_queue.specs.History.{Event}
-use Rattle.cordyceps_queue.specs.Cores.Meets.{ItemAt, Spare, Ready, Chain, AtStage, OwnsRooms, Meets}
+use Rattle.cordyceps_shared.specs.Places.{ItemAt}
+use Rattle.cordyceps_queue.specs.Cores.Meets.{Spare, Ready, Chain, AtStage, OwnsRooms, Meets}
 use Rattle.cordyceps_queue.specs.Shared.Plays.{LegalReversed, Sees}
-use Rattle.cordyceps_queue.specs.Shared.Rule.{TableState, Homes, link_of, party, party_if, party_of, machine_of, slot_of, FullAtHome, EmptyAtHome, AllEmptyAtHome, AllReady, RuleHolds}
+use Rattle.cordyceps_shared.specs.Slots.{Homes, EmptyAtHome}
+use Rattle.cordyceps_queue.specs.Shared.Rule.{TableState, link_of, party, party_if, party_of, machine_of, slot_of, FullAtHome, AllEmptyAtHome, AllReady, RuleHolds}
 use Rattle.cordyceps_queue.specs.Shared.View.{View, knows}
 use Rattle.cordyceps_queue.specs.Cores.Abstract.{AbstractParty, AbstractMachine, update}
 use Rattle.cordyceps_queue.proofs.CoreTheory.Basics.{put_same, put_other}
@@ -103,19 +106,12 @@ module _ {E : Type 0} where
 
     -- one slot changes, which is of no free room of another party
     pub empties : (id r : ℕ) (y : maybe.Option (Option (Filled E))) (w : View E) → EmptyAtHome (set s.homes r y) w.free → ((j : ℕ) → j ≢ id → k.chain.owner r ≡ Spare j → ⊥) → AllEmptyAtHome (set s.homes r y) (set s.views id w)
-    empties id r y w mine apart j u e some_name i x ix = ⊎_elim
-        (λ (t : (j ≡ id) × (w ≡ u)). subst (λ (z : View E). EmptyAtHome (set s.homes r y) z.free) t.1 mine i x ix)
-        (λ (t : (j ≢ id) × (get_elem? s.views j ≡ some u)).
-        let spare = free_spare j u i x t.1 some_name ix in
-        set_else s.homes r x y (λ same. apart j t.0 (ap k.chain.owner (sym same) ∙ spare)) ∙ k.empty j u t.1 some_name i x ix)
-        (at_set s.views id j w u e)
+    empties id r y w mine apart = one_set (λ _ u. u.known.share ≢ [] → EmptyAtHome (set s.homes r y) u.free) s.views id w (λ _. mine)
+        (λ j u ne e some_name i x ix. set_else s.homes r x y (λ same. apart j ne (ap k.chain.owner (sym same) ∙ free_spare j u i x e some_name ix)) ∙ k.empty j u e some_name i x ix)
 
     -- no slot changes
     pub empties_same : (id : ℕ) (w : View E) → EmptyAtHome s.homes w.free → AllEmptyAtHome s.homes (set s.views id w)
-    empties_same id w mine j u e some_name = ⊎_elim
-        (λ (t : (j ≡ id) × (w ≡ u)). subst (λ (z : View E). EmptyAtHome s.homes z.free) t.1 mine)
-        (λ (t : (j ≢ id) × (get_elem? s.views j ≡ some u)). k.empty j u t.1 some_name)
-        (at_set s.views id j w u e)
+    empties_same id w mine = one_set (λ _ u. u.known.share ≢ [] → EmptyAtHome s.homes u.free) s.views id w (λ _. mine) (λ j u _ e some_name. k.empty j u e some_name)
 
     -- the rooms of the chain have slots
     pub chain_near : (i r : ℕ) → ItemAt k.chain.rooms i r → r < length s.homes
@@ -134,14 +130,9 @@ module _ {E : Type 0} where
 
     -- what rooms have changes in one room, which no other party has cleared, or nowhere
     pub readies : (id r : ℕ) (y : Option E) (w : View E) → ((q : ℕ) → w.stage ≡ Cleared q → update k.cell r y q ≡ w.item) → ((j : ℕ) → j ≢ id → k.chain.owner r ≡ Ready j → ⊥) → AllReady (update k.cell r y) (set s.views id w)
-    readies id r y w mine apart j u q e some_name is = ⊎_elim
-        (λ (t : (j ≡ id) × (w ≡ u)). subst (λ (z : View E). update k.cell r y q ≡ z.item) t.1 (mine q (ap (λ (z : View E). z.stage) t.1 ∙ is)))
-        (λ (t : (j ≢ id) × (get_elem? s.views j ≡ some u)).
-        put_other k.cell r y q (λ same. apart j t.0 (ap k.chain.owner (sym same) ∙ ready_owner j u q t.1 some_name is)) ∙ k.ready j u q t.1 some_name is)
-        (at_set s.views id j w u e)
+    readies id r y w mine apart j u q = one_set (λ _ z. z.known.share ≢ [] → z.stage ≡ Cleared q → update k.cell r y q ≡ z.item) s.views id w (λ _ is. mine q is)
+        (λ i z ne e some_name is. put_other k.cell r y q (λ same. apart i ne (ap k.chain.owner (sym same) ∙ ready_owner i z q e some_name is)) ∙ k.ready i z q e some_name is)
+        j u
 
     pub readies_same : (id : ℕ) (w : View E) → ((q : ℕ) → w.stage ≡ Cleared q → ⊥) → AllReady k.cell (set s.views id w)
-    readies_same id w mine j u q e some_name is = ⊎_elim
-        (λ (t : (j ≡ id) × (w ≡ u)). absurd (mine q (ap (λ (z : View E). z.stage) t.1 ∙ is)))
-        (λ (t : (j ≢ id) × (get_elem? s.views j ≡ some u)). k.ready j u q t.1 some_name is)
-        (at_set s.views id j w u e)
+    readies_same id w mine j u q = one_set (λ _ z. z.known.share ≢ [] → z.stage ≡ Cleared q → k.cell q ≡ z.item) s.views id w (λ _ is. absurd (mine q is)) (λ i z _ e some_name is. k.ready i z q e some_name is) j u

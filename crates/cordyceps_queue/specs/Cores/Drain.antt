@@ -1,9 +1,9 @@
 -- Several tries that one party runs alone, one after the other, and what their call answers.
-use Rattle.std.specs.Prelude.{◌≡◌, ◌≢◌, ℕ, zero, suc, ◌-◌, ◌≤◌, Bool, true, false, List, [], ◌∷◌, ◌++◌, length, take, count_by, is_some, vec_items, Option, Some, None, Result, Ok, Err, Vec}
+use Rattle.std.specs.Prelude.{◌≡◌, ◌≢◌, ℕ, zero, suc, ◌-◌, ◌≤◌, Bool, true, false, List, [], ◌∷◌, ◌++◌, length, take, count_by, vec_items, Option, Some, None, Result, Ok, Err, Vec}
 use native.Mathlib.Decide.{ℕ_discrete}
+use Rattle.cordyceps_shared.specs.Rooms.{occupied}
 use Rattle.cordyceps_queue.specs.declared.cores.stage.Stage.{Stage}
 use Rattle.cordyceps_queue.specs.declared.cores.stage.Stage.TheVariants.{Rest, Cleared}
-use Rattle.cordyceps_shared.specs.declared.room.Room.{Room}
 use Rattle.cordyceps_queue.specs.declared.cores.steps.QueueStep.TheVariants as step
 use Rattle.cordyceps_queue.specs.declared.cores.steps.QueueAnswer.TheVariants as answer
 use Rattle.cordyceps_queue.specs.declared.cores.steps.TryDequeueError.{TryDequeueError}
@@ -27,10 +27,6 @@ is_cleared (Cleared r) = true
 is_cleared stage = false
 
 module _ {E : Type 0} where
-  -- how many rooms have an element
-  abbrev pub occupied : List (Room E) → ℕ
-  occupied rooms = count_by (λ room. is_some room.element) rooms
-
   -- how many elements are held: those in rooms, but for those that a party has yet to swap in
   abbrev pub count_held : Machine E → ℕ
   count_held m = occupied m.rooms - count_by is_cleared m.parties

@@ -1,6 +1,5 @@
 -- The machine of a queue's core as plain data, and what each step does to it.
 use Rattle.std.specs.Prelude.{ℕ, zero, suc, List, [], ◌∷◌, Bool, true, false, nat_eq, Option, Some, None, Result, Ok, Err, slice_get, slice_set, is_some, if◌then◌else◌}
-use Rattle.std.specs.Option.{option_eq}
 use Rattle.cordyceps_base.specs.declared.shared.StepError.{StepError}
 use Rattle.cordyceps_base.specs.declared.shared.StepError.TheVariants.{NotThere}
 use Rattle.cordyceps_queue.specs.declared.cores.stage.Stage.{Stage}

@@ -1,16 +1,11 @@
 -- When a machine meets a history.
 use Rattle.std.specs.Prelude.{◌≡◌, ℕ, zero, suc, ◌≤◌, ◌≢◌, ◌⊎◌, List, [], ◌∷◌, map, length, Option, Some, None}
+use Rattle.cordyceps_shared.specs.Places.{ItemAt}
 use Rattle.cordyceps_queue.specs.History.{Event}
 use Rattle.cordyceps_queue.specs.Past.{held, holder, IsSettled, IsPendingAt, HasLooked, WasBlocked, IsLegal}
 use Rattle.cordyceps_queue.specs.declared.cores.stage.Stage.{Stage}
 use Rattle.cordyceps_queue.specs.declared.cores.stage.Stage.TheVariants.{Rest, Cleared, Swapped, Holding, StubNull, Second, Null, PutClear, PutSwap, PutLink, PutRead}
 use Rattle.cordyceps_queue.specs.Cores.Abstract.{AbstractParty, AbstractMachine}
-
--- the item at place i is x
-abbrev pub ItemAt : {A : Type 0} → List A → ℕ → A → Type 0
-ItemAt [] i x = ⊥
-ItemAt (y ∷ ys) zero x = x ≡ y
-ItemAt (y ∷ ys) (suc i) x = ItemAt ys i x
 
 -- the rooms without the stub's
 abbrev pub real : List ℕ → List ℕ

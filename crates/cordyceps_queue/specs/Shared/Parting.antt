@@ -7,7 +7,8 @@ use Rattle.cordyceps_shared.specs.Shares.{Name, whole}
 use Rattle.cordyceps_queue.specs.History.{Event}
 use Rattle.cordyceps_queue.specs.Past.{holder, IsSettled}
 use Rattle.cordyceps_queue.specs.declared.cores.stage.Stage.TheVariants.{Rest}
-use Rattle.cordyceps_queue.specs.Shared.Plays.{SeatState, TableStep, LegalReversed}
+use Rattle.cordyceps_shared.specs.Slots.{TableStep}
+use Rattle.cordyceps_queue.specs.Shared.Plays.{SeatState, LegalReversed}
 use Rattle.cordyceps_queue.specs.Shared.View.{View}
 
 module _ {E : Type 0} where

@@ -1,7 +1,7 @@
 -- What each atomic step tells a party of a queue: of its seat m before, of the word that it found, and of its seat k after.
 -- A seat has a view, and the slots in hand, the last taken first.
 use Rattle.std.specs.Prelude.{◌≡◌, ◌≢◌, ℕ, suc, ◌<◌, ◌≤◌, List, [], ◌∷◌, ◌++◌, reverse, length, Option, Some, None}
-use Rattle.atomic_table.specs.Table.{Me, Step}
+use Rattle.atomic_table.specs.Table.{Me}
 use Rattle.cordyceps_shared.specs.Histories.{plain}
 use Rattle.cordyceps_shared.specs.Knowing.{Grown}
 use Rattle.cordyceps_shared.specs.Shares.{Name}
@@ -9,16 +9,13 @@ use Rattle.cordyceps_queue.specs.declared.cores.stage.Stage.{Stage}
 use Rattle.cordyceps_queue.specs.declared.cores.stage.Stage.TheVariants.{Rest, Cleared, Swapped, Holding, StubNull, Second, Null, PutClear, PutSwap, PutLink, PutRead}
 use Rattle.cordyceps_shared.specs.declared.slots.Filled.{Filled}
 use Rattle.cordyceps_queue.specs.History.{Event}
-use Rattle.cordyceps_queue.specs.Cores.Meets.{ItemAt}
+use Rattle.cordyceps_shared.specs.Places.{ItemAt}
 use Rattle.cordyceps_queue.specs.Past.{IsLegal, WasBlocked}
-use Rattle.cordyceps_queue.specs.Shared.Rule.{full_slot}
+use Rattle.cordyceps_shared.specs.Slots.{Hand, TableStep, full_slot}
 use Rattle.cordyceps_queue.specs.Shared.View.{View, name}
 
 abbrev pub SeatState : Type 0 → Type 0
 SeatState E = Me (Option (Filled E)) (View E)
-
-abbrev pub TableStep : Type 0 → Type 0
-TableStep E = Step (Option (Filled E))
 
 -- the rooms are of a table with that many slots
 abbrev pub Near : ℕ → List ℕ → Type 0
@@ -44,7 +41,7 @@ module _ {E : Type 0} where
   cleared item st m read k = cleared_for item st.slots m k
 
   abbrev pub swapped : TableStep E → SeatState E → ℕ → SeatState E → Type 0
-  swapped st m found k = (r : ℕ) (e : E) (cs : List (ℕ × Option (Filled E))) → m.0.stage ≡ Cleared r → m.0.item ≡ Some e → m.1 ≡ (r, Some (full_slot r e)) ∷ cs
+  swapped st m found k = (r : ℕ) (e : E) (cs : Hand E) → m.0.stage ≡ Cleared r → m.0.item ≡ Some e → m.1 ≡ (r, Some (full_slot r e)) ∷ cs
       → (k.0.stage ≡ Swapped r found) × (k.0.free ≡ m.0.free) × (k.0.back ≡ m.0.back) × (k.1 ≡ cs) × (found < st.slots) × Sees m.0 (Event.Swap (name m.0) e ∷ []) k.0
 
   abbrev pub linked : TableStep E → SeatState E → ℕ → SeatState E → Type 0
@@ -52,7 +49,7 @@ module _ {E : Type 0} where
       → (k.0.stage ≡ Rest) × (k.0.free ≡ m.0.free) × (k.0.back ≡ m.0.back) × (k.1 ≡ m.1) × Sees m.0 (Event.Link (name m.0) ∷ []) k.0
 
   -- the slots in hand, of rooms that are to be given back
-  abbrev pub carry : List ℕ → List (ℕ × Option (Filled E))
+  abbrev pub carry : List ℕ → Hand E
   carry [] = []
   carry (b ∷ bs) = (b, None) ∷ carry bs
 

@@ -10,17 +10,16 @@ use Rattle.cordyceps_shared.specs.Histories.{events}
 use Rattle.cordyceps_shared.specs.Knowing.{SharesApart, AllAgree}
 use Rattle.cordyceps_shared.specs.Shares.{Name}
 use Rattle.cordyceps_queue.specs.declared.cores.stage.Stage.TheVariants.{Cleared}
+use Rattle.cordyceps_shared.specs.Slots.{Homes, full_slot, EmptyAtHome}
 use Rattle.cordyceps_shared.specs.declared.slots.Filled.{Filled}
 use Rattle.cordyceps_queue.specs.History.{Event}
-use Rattle.cordyceps_queue.specs.Cores.Meets.{ItemAt, Chain, Meets}
+use Rattle.cordyceps_shared.specs.Places.{ItemAt}
+use Rattle.cordyceps_queue.specs.Cores.Meets.{Chain, Meets}
 use Rattle.cordyceps_queue.specs.Shared.View.{View, knows, name}
 use Rattle.cordyceps_queue.specs.Cores.Abstract.{AbstractParty, AbstractMachine}
 
 abbrev pub TableState : Type 0 → Type 0
 TableState E = State (Option (Filled E)) (View E)
-
-abbrev pub Homes : Type 0 → Type 0
-Homes E = List (maybe.Option (Option (Filled E)))
 
 -- each event with the seat of its party, the oldest first
 abbrev pub History : Type 0 → Type 0
@@ -37,10 +36,6 @@ party_if [] p = None
 party_if (n ∷ ns) p = Some p
 
 module _ {E : Type 0} where
-  -- what lies in the slot of a room in use: its ticket and its element
-  abbrev pub full_slot : ℕ → E → Filled E
-  full_slot r e = record { ticket = r; item = e }
-
   abbrev pub slot_of : ℕ → Option E → Option (Filled E)
   slot_of r None = None
   slot_of r (Some e) = Some (full_slot r e)
@@ -69,11 +64,7 @@ module _ {E : Type 0} where
   abbrev pub FullAtHome : Homes E → (ℕ → Option E) → List ℕ → Type 0
   FullAtHome homes cell rooms = (i r : ℕ) → ItemAt rooms i r → r ≢ 0 → get_elem? homes r ≡ some (some (slot_of r (cell r)))
 
-  -- the slots of free rooms are at home, with nothing in them
-  abbrev pub EmptyAtHome : Homes E → List ℕ → Type 0
-  EmptyAtHome homes free = (i r : ℕ) → ItemAt free i r → get_elem? homes r ≡ some (some None)
-
-  -- so it is with each party
+  -- the slots of each party's free rooms are at home, with nothing in them
   abbrev pub AllEmptyAtHome : Homes E → List (View E) → Type 0
   AllEmptyAtHome homes views = (j : ℕ) (v : View E) → get_elem? views j ≡ some v → v.known.share ≢ [] → EmptyAtHome homes v.free
 

@@ -1,7 +1,7 @@
 //! The rooms of a core.
 ghost use Rattle.std.specs.Prelude.{◌≡◌, ◌<◌, ◌++◌, [], ◌∷◌, length, slice_get, is_some, IsSome, IfSome, Some, None, OnOk, OnErr};
 ghost use Rattle.std.specs.List.{position};
-ghost use Rattle.cordyceps_queue.specs.Cores.Drain.{occupied};
+ghost use Rattle.cordyceps_shared.specs.Rooms.{occupied};
 ghost use Rattle.cordyceps_shared.specs.Rooms.{change, linking, freeing, is_free_for, element_in, next_in};
 ghost use Rattle.cordyceps_queue.specs.Cores.Machine.{holding, stub_room, least_free};
 

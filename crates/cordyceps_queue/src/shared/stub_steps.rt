@@ -2,7 +2,8 @@
 ghost use Rattle.std.specs.Prelude.{◌≡◌, ◌≢◌, ◌<◌, ℕ, suc, [], ◌∷◌, true, false, Some, None};
 ghost use Rattle.cordyceps_queue.specs.History.{Event};
 ghost use Rattle.cordyceps_queue.specs.Shared.Plays.{IsHolding, IsAtStage, Blocked, hands_out, stands_at};
-ghost use Rattle.cordyceps_queue.specs.Shared.Rule.{IsTable, full_slot};
+ghost use Rattle.cordyceps_shared.specs.Slots.{full_slot};
+ghost use Rattle.cordyceps_queue.specs.Shared.Rule.{IsTable};
 ghost use Rattle.cordyceps_queue.specs.Shared.View.{name};
 ghost use Rattle.cordyceps_queue.specs.declared.cores.stage.Stage.TheVariants.{Holding, StubNull, Second, Null, PutClear, PutSwap, PutLink, PutRead};
 

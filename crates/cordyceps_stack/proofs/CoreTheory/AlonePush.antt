@@ -1,6 +1,6 @@
 -- Whole calls that one party runs alone.
-use Rattle.std.proofs.Common.{◌≡◌, ℕ, List, [], ◌∷◌, ◌++◌, set, refl, ap, sym, ◌∙◌, subst, true, false, Ok, Bool}
-use Rattle.std.specs.Prelude.{Option, Some, None, slice_get, nat_eq, is_none, is_some, ◌↔◌, ◌&&◌}
+use Rattle.std.proofs.Common.{◌≡◌, ℕ, List, [], ◌∷◌, ◌++◌, set, refl, ap, sym, ◌∙◌, subst, true, Ok}
+use Rattle.std.specs.Prelude.{Option, Some, None, slice_get, nat_eq, is_none, is_some, ◌↔◌}
 use Rattle.std.specs.Option.{option_eq}
 use Rattle.std.proofs.lemmas.List.{append-nil}
 use Rattle.std.proofs.lemmas.Bool.{eq-eqb}
@@ -9,13 +9,14 @@ use Rattle.cordyceps_stack.specs.declared.cores.steps.TransferStep.TheVariants a
 use Rattle.cordyceps_stack.specs.declared.cores.steps.TransferAnswer.TheVariants as answer
 use Rattle.cordyceps_stack.specs.declared.cores.stage.Attempt.{Attempt}
 use Rattle.cordyceps_stack.specs.declared.cores.stage.Stage.{Stage}
-use Rattle.cordyceps_stack.specs.declared.cores.stage.Stage.TheVariants.{Rest, Loaded, Set, Walking}
+use Rattle.cordyceps_stack.specs.declared.cores.stage.Stage.TheVariants.{Rest, Loaded, Set}
 use Rattle.cordyceps_shared.specs.declared.room.Room.{Room}
 use Rattle.cordyceps_stack.specs.History.{Event, Load, Push, held}
 use Rattle.cordyceps_shared.specs.Rooms.{change, linking}
 use Rattle.cordyceps_stack.specs.Cores.Machine.{Machine, Outcome, holding, least_free, stepped, is_rest, is_at_rest, is_ready, in_hand_at, answered_events}
 use Rattle.cordyceps_stack.specs.Cores.CoreMeets.{CoreMeets, AnswerSays}
 use Rattle.cordyceps_shared.proofs.ListWrites.{slice_get-set_same, slice_get-change_same}
+use Rattle.cordyceps_shared.proofs.Choices.{both_from, some_from}
 use Rattle.cordyceps_stack.proofs.Histories.{held_more}
 use Rattle.cordyceps_stack.proofs.CoreTheory.AnyStep.{least_is_free, core_steps}
 
@@ -24,19 +25,8 @@ option_eq_refl None = refl
 option_eq_refl (Some x) = eq-eqb x x refl
 
 rest_from : (o : Option Stage) → is_rest o ≡ true → o ≡ Some Rest
-rest_from None e = let no : ⊥ = cc in absurd no
 rest_from (Some Rest) e = refl
-rest_from (Some (Loaded a)) e = let no : ⊥ = cc in absurd no
-rest_from (Some (Set a)) e = let no : ⊥ = cc in absurd no
-rest_from (Some (Walking r)) e = let no : ⊥ = cc in absurd no
-
-some_from : (o : Option ℕ) → is_some o ≡ true → (r : ℕ) × (o ≡ Some r)
-some_from None e = let no : ⊥ = cc in absurd no
-some_from (Some r) e = (r, refl)
-
-both_from : (a b : Bool) → (a && b) ≡ true → (a ≡ true) × (b ≡ true)
-both_from true b e = (refl, e)
-both_from false b e = let no : ⊥ = cc in absurd no
+rest_from o e = let no : ⊥ = cc in absurd no
 
 module _ {E : Type 0} where
   pub at_rest : (m : Machine E) (p : ℕ) → is_at_rest m p ≡ true → slice_get m.parties p ≡ Some Rest

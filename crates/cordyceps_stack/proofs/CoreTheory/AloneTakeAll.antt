@@ -1,8 +1,7 @@
 -- A `take_all` that one party runs alone.
 use Rattle.std.proofs.Common.{◌≡◌, ℕ, zero, suc, ◌+◌, ◌<◌, ◌≤◌, length, replicate, List, [], ◌∷◌, ◌++◌, set, reverse, refl, ap, sym, ◌∙◌, subst, append_assoc, arith}
-use Rattle.std.specs.Prelude.{Option, Some, None, slice_get, IsSome, is_some, cond}
+use Rattle.std.specs.Prelude.{Option, Some, None, slice_get, IsSome}
 use Rattle.std.proofs.lemmas.List.{append-nil, set-set}
-use Rattle.std.proofs.lemmas.List.Sums.{sum_by-cons}
 use Rattle.cordyceps_base.specs.Runs.{after}
 use Rattle.cordyceps_base.proofs.Runs.{after-push}
 use Rattle.cordyceps_stack.specs.declared.cores.steps.TransferStep.TheVariants as step
@@ -11,10 +10,12 @@ use Rattle.cordyceps_stack.specs.declared.cores.stage.Stage.TheVariants.{Rest, W
 use Rattle.cordyceps_shared.specs.declared.room.Room.{Room}
 use Rattle.cordyceps_stack.specs.History.{Event, Taken, held}
 use Rattle.cordyceps_shared.specs.Rooms.{change, freeing, element_in, next_in}
-use Rattle.cordyceps_stack.specs.Cores.Machine.{stepped, Machine, stage_after_walk, occupied, elements_from, held_in}
+use Rattle.cordyceps_shared.specs.Rooms.{occupied}
+use Rattle.cordyceps_stack.specs.Cores.Machine.{stepped, Machine, stage_after_walk, elements_from, held_in}
 use Rattle.cordyceps_stack.specs.Cores.Stages.{room_in_use, NotAmong, LeadsThrough, room_elements}
 use Rattle.cordyceps_stack.specs.Cores.CoreMeets.{core_step, CoreMeets, IsSound}
 use Rattle.cordyceps_stack.specs.Cores.Alone.{take_steps}
+use Rattle.cordyceps_shared.proofs.Choices.{occupied_cons}
 use Rattle.cordyceps_shared.proofs.ListWrites.{slice_get-set_same, set_as_it_was}
 use Rattle.cordyceps_stack.proofs.CoreTheory.Chains.{or_to, all_to, LeadsThrough-passed, LeadsThrough-change, LeadsThrough-none}
 use Rattle.cordyceps_stack.proofs.CoreTheory.EachStep.{keeps_take, keeps_nothing, keeps_walk}
@@ -130,9 +131,6 @@ module _ {E : Type 0} where
       let all : given ≡ reverse (held h) = sym (append-nil given) ∙ (ap (λ (es : List E). given ++ es) (sym empty) ∙ now.1.whole) in
       let met : CoreMeets (h ++ Taken p (reverse (held h)) ∷ []) record { head = None; rooms = rooms; parties = parties } = rw (set_as_it_was parties p Rest c.at_rest) at now.0 in
       (all, subst (λ (b : List E). CoreMeets (h ++ Taken p b ∷ []) record { head = None; rooms = rooms; parties = parties }) (sym all) met)
-
-  occupied_cons : (x : Room E) (xs : List (Room E)) → occupied (x ∷ xs) ≡ cond (is_some x.element) 1 0 + occupied xs
-  occupied_cons x xs = sum_by-cons (λ (y : Room E). cond (is_some y.element) 1 0) x xs
 
   -- a room fewer has an element
   pub occupied_freed : (p r : ℕ) (rooms : List (Room E)) (e : E) (next : Option ℕ) → slice_get rooms r ≡ Some (room_in_use e next)

@@ -3,7 +3,6 @@ use Rattle.std.proofs.Common.{◌≡◌, ◌≢◌, ℕ, List, [], ◌∷◌, �
 use Rattle.std.specs.Prelude.{Option, Some, None, slice_get, nat_eq, is_none, ◌↔◌}
 use Rattle.std.specs.Option.{option_eq}
 use Rattle.std.proofs.lemmas.List.{append-nil, reverse-reverse}
-use Rattle.std.proofs.lemmas.Bool.{eqb-true, eqb-false}
 use Rattle.std.proofs.lemmas.List.Quantifiers.{position-Some}
 use Rattle.std.proofs.lemmas.Option.{slice_get-get_or}
 use Rattle.cordyceps_stack.specs.declared.cores.steps.TransferStep.{TransferStep}
@@ -17,20 +16,9 @@ use Rattle.cordyceps_shared.specs.Rooms.{element_in, next_in, is_free_for}
 use Rattle.cordyceps_stack.specs.Cores.Machine.{Machine, Outcome, least_free, load, exchange, take, walk, stepped_at, stepped, in_hand_at, answered_events}
 use Rattle.cordyceps_stack.specs.Cores.Stages.{room_in_use, LeadsThrough}
 use Rattle.cordyceps_stack.specs.Cores.CoreMeets.{CoreMeets, AnswerSays, step_events}
+use Rattle.cordyceps_shared.proofs.Choices.{option_same, option_differ}
 use Rattle.cordyceps_stack.proofs.CoreTheory.Chains.{LeadsThrough-none, LeadsThrough-some}
 use Rattle.cordyceps_stack.proofs.CoreTheory.EachStep.{keeps_load, keeps_set_next, keeps_push, keeps_fail, keeps_take, keeps_nothing, keeps_walk}
-
-option_same : (x y : Option ℕ) → option_eq nat_eq x y ≡ true → x ≡ y
-option_same None None e = refl
-option_same None (Some y) e = let no : ⊥ = cc in absurd no
-option_same (Some x) None e = let no : ⊥ = cc in absurd no
-option_same (Some x) (Some y) e = ap (λ (n : ℕ). Some n) (eqb-true x y e)
-
-option_differ : (x y : Option ℕ) → option_eq nat_eq x y ≡ false → x ≢ y
-option_differ None None e s = let no : ⊥ = cc in no
-option_differ None (Some y) e s = let no : ⊥ = cc in no
-option_differ (Some x) None e s = let no : ⊥ = cc in no
-option_differ (Some x) (Some y) e s = let same : x ≡ y = cc in eqb-false x y e same
 
 none_from_reversed : {A : Type 0} (xs : List A) → reverse xs ≡ [] → xs ≡ []
 none_from_reversed xs e = sym (reverse-reverse xs) ∙ ap reverse e

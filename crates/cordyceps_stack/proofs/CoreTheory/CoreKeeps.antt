@@ -1,5 +1,5 @@
 -- What a core keeps from step to step.
-use Rattle.std.proofs.Common.{◌≡◌, ℕ, ◌<◌, List, [], ◌++◌, set, true, false, length, refl, sym, subst}
+use Rattle.std.proofs.Common.{◌≡◌, ℕ, ◌<◌, List, [], ◌++◌, set, true, false, length, refl, subst}
 use Rattle.std.specs.Prelude.{Option, Some, None, slice_get, nat_eq, IsSome}
 use Rattle.std.specs.Option.{option_eq}
 use Rattle.std.proofs.lemmas.Option.{slice_get_within}

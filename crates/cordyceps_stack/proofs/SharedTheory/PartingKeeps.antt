@@ -1,45 +1,33 @@
 -- The rule of a transfer stack's table at the start, and where a party is split in two or takes another in.
-use Rattle.std.proofs.Common.{◌≡◌, ◌≢◌, ℕ, zero, suc, ◌≤◌, ◌<◌, List, [], ◌∷◌, ◌++◌, map, reverse, length, replicate, get_or, set, take, drop, eqb, refl, sym, ap, ◌∙◌, subst, inl, inr, ⊎_elim, arith, append_assoc, None}
-use mathlib.Core.Option.{some, none, some-injective, some-ne-none}
+use Rattle.std.proofs.Common.{◌≡◌, ◌≢◌, ℕ, suc, List, [], ◌∷◌, ◌++◌, map, reverse, length, replicate, get_or, set, eqb, refl, sym, ap, ◌∙◌, subst, inl, inr, ⊎_elim, arith, append_assoc, None}
+use mathlib.Core.Option.{some, none}
 use lib.ListN.{get_elem?, length-map, length-replicate}
 use Rattle.atomic_table.specs.Table.{opening, Splits, Joins, Allows, step, keeps}
-use Rattle.atomic_table.proofs.Lists.{at_set}
 use Rattle.cordyceps_shared.specs.Counts.{one_if, below}
 use Rattle.cordyceps_shared.specs.Shares.{Name}
 use Rattle.cordyceps_shared.proofs.Counting.{tally_set, tally_append, tally_cut, below_once}
-use Rattle.cordyceps_shared.proofs.Cutting.{at_end, owned_cut, fits_cut}
+use Rattle.cordyceps_shared.proofs.Changing.{two_set, set_more, was_there}
+use Rattle.cordyceps_shared.proofs.Cutting.{owned_cut, fits_cut}
 use Rattle.cordyceps_shared.proofs.Joining.{owned_join, fits_join}
+use Rattle.cordyceps_shared.proofs.Places.{at_below, empty_new, empty_drop, empty_take, empty_append}
 use Rattle.cordyceps_shared.proofs.Renaming.{renamed_else, relabel, events_relabel, relabel_append, without_relabel}
 use Rattle.cordyceps_shared.proofs.Standing as seats
 use Rattle.cordyceps_shared.proofs.Telling.{owned_same, fits_forgot}
 use Rattle.cordyceps_stack.specs.History.{Event, Load, Taken, held, Legal, SomeChange}
 use Rattle.cordyceps_stack.specs.Shared.View.{Idle, View, knows, newcomer, at_work, count_with_party}
 use Rattle.cordyceps_stack.specs.Shared.Words.{History, Since, AtDoing}
-use Rattle.cordyceps_stack.specs.Shared.Rule.{Homes, EmptyAtHome, RuleHolds}
+use Rattle.cordyceps_shared.specs.Slots.{Homes, EmptyAtHome}
+use Rattle.cordyceps_stack.specs.Shared.Rule.{RuleHolds}
 use Rattle.cordyceps_stack.specs.Shared.Plays.{SeatState}
 use Rattle.cordyceps_stack.specs.Shared.Parting.{view_keeping, view_giving, view_absorbing, view_absorbed, view_without_told, learned}
 use Rattle.cordyceps_stack.proofs.Histories.{legal_none}
 use Rattle.cordyceps_stack.proofs.SharedTheory.WordsKeep.{does_frame, rests, forks}
 use Rattle.cordyceps_stack.proofs.SharedTheory.StepsKeep.{step_keeps, unwritten, few_rooms}
 
-vacant_at : {A : Type 0} (n i : ℕ) (a : A) → i < n → get_elem? (map some (replicate n a)) i ≡ some (some a)
-vacant_at zero i a h = absurd (omega arith)
-vacant_at (suc n) zero a h = refl
-vacant_at (suc n) (suc i) a h = vacant_at n i a (omega arith)
-
--- the only item of a list
-only : {A : Type 0} (a b : A) (j : ℕ) → get_elem? (a ∷ []) j ≡ some b → a ≡ b
-only a b zero e = some-injective a b e
-only a b (suc j) e = absurd (some-ne-none b (sym e))
-
 legal_front : {P E : Type 0} (xs ys : List (Event P E)) → Legal (xs ++ ys) → Legal xs
 legal_front xs ys l before after p batch e = l before (after ++ ys) p batch (ap (λ z. z ++ ys) e ∙ append_assoc before (Taken p batch ∷ after) ys)
 
 module _ (E : Type 0) where
-  vacant_empty : (n m : ℕ) → m ≤ n → EmptyAtHome {E = E} (map some (replicate n None)) (below m)
-  vacant_empty n zero l = tt
-  vacant_empty n (suc m) l = (vacant_at n m None (omega arith), vacant_empty n m (omega arith))
-
   pub opens : (rooms : ℕ) (words : List ℕ) → length words ≡ suc rooms → get_or words 0 0 ≡ 0 → RuleHolds {E = E} (opening words (replicate rooms None) (newcomer rooms))
   opens rooms words wide zeros =
       let first : View E = newcomer rooms in
@@ -51,27 +39,17 @@ module _ (E : Type 0) where
           spelled = zeros;
           holds = refl;
           apart = λ r. omega (arith, below_once rooms r);
-          each = λ j v e. subst (λ (z : View E). AtDoing words [] j z.doing) (only first v j e) tt;
+          each = λ j v e. subst (λ (z : View E). AtDoing words [] j z.doing) (seats.only first v j e).1 tt;
         };
         wide = wide ∙ ap suc (sym (length-map (replicate rooms None) some ∙ length-replicate rooms None));
         full = tt;
-        empty = λ j v e. subst (λ (z : View E). let homes : Homes E = map some (replicate rooms None) in EmptyAtHome homes z.free) (only first v j e) (vacant_empty rooms rooms (omega arith));
+        empty = λ j v e. subst (λ (z : View E). let homes : Homes E = map some (replicate rooms None) in EmptyAtHome homes z.free) (seats.only first v j e).1 (empty_new rooms (below rooms) (at_below rooms));
         fits = known.1;
         owned = known.0;
       }
 
 module _ {E : Type 0} where
   -- ---- splitting
-  empty_drop : (homes : Homes E) (n : ℕ) (free : List ℕ) → EmptyAtHome homes free → EmptyAtHome homes (drop n free)
-  empty_drop homes zero free e = e
-  empty_drop homes (suc n) [] e = e
-  empty_drop homes (suc n) (r ∷ rs) e = empty_drop homes n rs e.1
-
-  empty_take : (homes : Homes E) (n : ℕ) (free : List ℕ) → EmptyAtHome homes free → EmptyAtHome homes (take n free)
-  empty_take homes zero free e = tt
-  empty_take homes (suc n) [] e = tt
-  empty_take homes (suc n) (r ∷ rs) e = (e.0, empty_take homes n rs e.1)
-
   pub splits : (id n : ℕ) (v : View E) → v.known.share ≢ [] → Splits RuleHolds id v (view_keeping n v) (view_giving n v)
   splits id n v named s k at =
       let left = view_keeping n v in
@@ -81,13 +59,7 @@ module _ {E : Type 0} where
         meets = forks s.words k.chain s.views k.history id v left right k.meets at (λ r. let cut = tally_cut (λ q. one_if (eqb q r)) n v.free in omega arith) (k.meets.each id v at) (λ _. tt);
         wide = k.wide;
         full = k.full;
-        empty = λ i u e. ⊎_elim
-            (λ (there : get_elem? (set s.views id left) i ≡ some u). ⊎_elim
-            (λ (t : (i ≡ id) × (left ≡ u)). subst (λ (z : View E). EmptyAtHome s.homes z.free) t.1 (empty_drop s.homes n v.free (k.empty id v at)))
-            (λ (t : (i ≢ id) × (get_elem? s.views i ≡ some u)). k.empty i u t.1)
-            (at_set s.views id i left u there))
-            (λ (t : (i ≡ length (set s.views id left)) × (right ≡ u)). subst (λ (z : View E). EmptyAtHome s.homes z.free) t.1 (empty_take s.homes n v.free (k.empty id v at)))
-            (at_end (set s.views id left) right u i e);
+        empty = set_more (λ _ u. EmptyAtHome s.homes u.free) s.views id left right (empty_drop s.homes n v.free (k.empty id v at)) (empty_take s.homes n v.free (k.empty id v at)) (λ i u _ e. k.empty i u e);
         fits = fits_cut knows s.views k.history id v left right at refl refl k.owned k.fits;
         owned = owned_cut knows s.views k.history id v left right at refl refl named k.owned;
       }
@@ -104,27 +76,12 @@ module _ {E : Type 0} where
         same = ⊎_elim (λ t. inl t) (λ c. inr (subst (λ z. SomeChange z) (sym (events_relabel a b s.later)) c)) s.same;
       }
 
-  empty_append : (homes : Homes E) (xs ys : List ℕ) → EmptyAtHome homes xs → EmptyAtHome homes ys → EmptyAtHome homes (xs ++ ys)
-  empty_append homes [] ys x y = y
-  empty_append homes (r ∷ rs) ys x y = (x.0, empty_append homes rs ys x.1 y)
-
-  -- of what holds of the two, of what is left of the second and of each other party, it holds afterwards
-  joined : (views : List (View E)) (id other : ℕ) (v w : View E) (Holds : ℕ → View E → Type 0) → Holds id (view_absorbing v w) → Holds other view_absorbed → ((i : ℕ) (u : View E) → i ≢ id → i ≢ other → get_elem? views i ≡ some u → Holds i u)
-      → (i : ℕ) (u : View E) → get_elem? (set (set views id (view_absorbing v w)) other view_absorbed) i ≡ some u → Holds i u
-  joined views id other v w Holds first second others i u e = ⊎_elim
-      (λ (p : (i ≡ other) × (view_absorbed ≡ u)). subst (λ (z : ℕ × View E). Holds z.0 z.1) (λ c. (sym p.0 c, p.1 c)) second)
-      (λ (p : (i ≢ other) × (get_elem? (set views id (view_absorbing v w)) i ≡ some u)). ⊎_elim
-      (λ (q : (i ≡ id) × (view_absorbing v w ≡ u)). subst (λ (z : ℕ × View E). Holds z.0 z.1) (λ c. (sym q.0 c, q.1 c)) first)
-      (λ (q : (i ≢ id) × (get_elem? views i ≡ some u)). others i u q.0 p.0 q.1)
-      (at_set views id i (view_absorbing v w) u p.1))
-      (at_set (set views id (view_absorbing v w)) other i view_absorbed u e)
-
   pub joins : (id other : ℕ) (v w : View E) → v.doing ≡ Idle → w.doing ≡ Idle → v.known.share ≢ [] → Joins RuleHolds id v other w (view_absorbing v w) view_absorbed
   joins id other v w idle idle_too named s k at apart there =
       let h = relabel id other k.history in
       let one = set s.views id (view_absorbing v w) in
       let m = k.meets in
-      let there_first : get_elem? s.views other ≡ some w = ⊎_elim (λ t. absurd (apart t.0)) (λ t. t.1) (at_set s.views id other (view_absorbing v w) w there) in
+      let there_first : get_elem? s.views other ≡ some w = was_there s.views id other (view_absorbing v w) w apart there in
       let same = events_relabel id other k.history in record {
         history = h;
         chain = k.chain;
@@ -136,11 +93,11 @@ module _ {E : Type 0} where
               let pv = ap (at_work r) idle in
               let pw = ap (at_work r) idle_too in
               omega (arith, m.apart r, tally_set (count_with_party r) s.views id v (view_absorbing v w) at, tally_set (count_with_party r) one other w view_absorbed there, tally_append (λ q. one_if (eqb q r)) v.free w.free);
-          each = joined s.views id other v w (λ i u. AtDoing s.words h i u.doing) tt tt (λ i u n o e. does_frame s.words s.words k.history h i u.doing (λ r _. refl) (λ read. since_relabel id other s.words k.history i read n o) (m.each i u e));
+          each = two_set (λ i u. AtDoing s.words h i u.doing) s.views id other (view_absorbing v w) view_absorbed tt tt (λ i u n o e. does_frame s.words s.words k.history h i u.doing (λ r _. refl) (λ read. since_relabel id other s.words k.history i read n o) (m.each i u e));
         };
         wide = k.wide;
         full = k.full;
-        empty = joined s.views id other v w (λ _ u. EmptyAtHome s.homes u.free) (empty_append s.homes v.free w.free (k.empty id v at) (k.empty other w there_first)) tt (λ i u _ _ e. k.empty i u e);
+        empty = two_set (λ _ u. EmptyAtHome s.homes u.free) s.views id other (view_absorbing v w) view_absorbed (empty_append s.homes v.free w.free (k.empty id v at) (k.empty other w there_first)) (λ i r a. absurd a) (λ i u _ _ e. k.empty i u e);
         fits = fits_join knows s.views k.history id other v w (view_absorbing v w) view_absorbed at apart there refl refl k.fits;
         owned = owned_join knows s.views k.history id other v w (view_absorbing v w) view_absorbed at apart there refl refl named k.owned;
       }

@@ -9,7 +9,7 @@ use Rattle.cordyceps_shared.proofs.Adding.{tail_own}
 use Rattle.cordyceps_shared.proofs.Telling.{grown_then}
 use Rattle.cordyceps_stack.specs.History.{Event, Load, Push, Legal, SomeChange}
 use Rattle.cordyceps_stack.specs.Shared.Plays.{SeatState, Sees, carry, Near, IsWalking, to_hand_out}
-use Rattle.cordyceps_stack.specs.Shared.Rule.{full_slot}
+use Rattle.cordyceps_shared.specs.Slots.{full_slot}
 use Rattle.cordyceps_stack.specs.Shared.Calls.{EndsPushed, EndsLooked, IsOvertaken}
 use Rattle.cordyceps_stack.specs.Shared.View.{Walking, View, name, walking}
 use Rattle.cordyceps_stack.specs.Shared.Words.{start}
@@ -59,7 +59,7 @@ module _ {E : Type 0} where
     pub here : ℕ × E
     pub others : List (ℕ × E)
     pub doing : m.0.doing ≡ Walking (here ∷ others)
-    pub hand : m.1 ≡ (here.0, Some (full_slot here)) ∷ carry others []
+    pub hand : m.1 ≡ (here.0, Some (full_slot here.0 here.1)) ∷ carry others []
     pub inside : here.0 < slots
     pub near : Near slots others
     pub word : at ≡ suc here.0

@@ -10,12 +10,15 @@ use lib.Seq.{set-get_or}
 use prog.Atomic.{either}
 use Rattle.atomic_table.specs.Table.{State, step, Act, keeps, takes, gives, stepped, homes_after, carried_after, Valid, rest, Allows}
 use Rattle.atomic_table.specs.Table as table
-use Rattle.atomic_table.proofs.Lists.{at_set, set_here, set_else}
+use Rattle.atomic_table.proofs.Lists.{set_here, set_else}
 use Rattle.cordyceps_shared.specs.Counts.{one_if, times}
 use Rattle.cordyceps_shared.specs.Histories.{events, marked, plain, of_seat}
 use Rattle.cordyceps_shared.specs.Knowing.{Known, SharesApart, AllAgree, all_seen}
 use Rattle.cordyceps_shared.specs.Shares.{Name}
-use Rattle.cordyceps_shared.proofs.Counting.{tally_one, tally_two, one_here, one_else, distinct_few}
+use Rattle.cordyceps_shared.proofs.Choices.{some_or, first_or, rest_from}
+use Rattle.cordyceps_shared.proofs.Changing.{one_set}
+use Rattle.cordyceps_shared.proofs.Counting.{tally_one, tally_two, one_here, distinct_few}
+use Rattle.cordyceps_shared.proofs.Places.{times_some, times_at, empty_cons}
 use Rattle.cordyceps_shared.proofs.Seeing.{marked_append, plain_marked, own_without}
 use Rattle.cordyceps_shared.proofs.Telling.{at_length, owned_same, fits_same, tells}
 use Rattle.cordyceps_shared.specs.declared.slots.Filled.{Filled}
@@ -23,19 +26,12 @@ use Rattle.cordyceps_stack.specs.History.{Event, Load, Push, Taken, held, Legal,
 use Rattle.cordyceps_stack.specs.Cores.Stages.{room_elements}
 use Rattle.cordyceps_stack.specs.Shared.View.{Doing, Idle, Loaded, Set, Missed, Walking, View, knows, name, walking, in_chain, at_work, count_with_party}
 use Rattle.cordyceps_stack.specs.Shared.Words.{History, head, start, Since, AtDoing, WordsMeet}
-use Rattle.cordyceps_stack.specs.Shared.Rule.{TableState, Homes, full_slot, FullAtHome, EmptyAtHome, RuleHolds}
-use Rattle.cordyceps_stack.specs.Shared.Plays.{SeatState, Hand, Sees, carry, Near, to_hand_out}
+use Rattle.cordyceps_shared.specs.Slots.{Homes, Hand, TableStep, full_slot, EmptyAtHome}
+use Rattle.cordyceps_stack.specs.Shared.Rule.{TableState, FullAtHome, RuleHolds}
+use Rattle.cordyceps_stack.specs.Shared.Plays.{SeatState, Sees, carry, Near, to_hand_out}
 use Rattle.cordyceps_stack.specs.Shared.Calls.{EndsPushed, IsOvertaken}
 use Rattle.cordyceps_stack.specs.Shared.Plays as play
 use Rattle.cordyceps_stack.proofs.SharedTheory.WordsKeep.{spells_start, since_now, rests, loads, writes, pushes, takes_all, walks, rooms_differ}
-
-abbrev rest_of : List ℕ → List ℕ
-rest_of [] = []
-rest_of (r ∷ rs) = rs
-
-abbrev first_room : List ℕ → ℕ
-first_room [] = 0
-first_room (r ∷ rs) = r
 
 -- where a party goes that has written its room's link
 abbrev set_of : {E : Type 0} → Doing E → Doing E
@@ -53,21 +49,9 @@ read_of (Loaded r read) = read
 read_of (Set r read) = read
 read_of d = 0
 
-abbrev pub some_or : {A : Type 0} → A → Option A → A
-some_or d None = d
-some_or d (Some x) = x
-
 abbrev slot_or : {A : Type 0} → A → List (ℕ × Option A) → A
 slot_or d [] = d
 slot_or d (x ∷ xs) = some_or d x.1
-
-abbrev first_or : {A : Type 0} → A → List A → A
-first_or d [] = d
-first_or d (x ∷ xs) = x
-
-abbrev rest_from : {A : Type 0} → List A → List A
-rest_from [] = []
-rest_from (x ∷ xs) = xs
 
 reverse_none : {A : Type 0} (xs : List A) → reverse xs ≡ [] → xs ≡ []
 reverse_none xs e = sym (reverse-reverse xs) ∙ ap (λ z. reverse z) e
@@ -92,14 +76,7 @@ module _ {E : Type 0} where
   full_frame homes homes' (x ∷ xs) same f = let here = one_here x.0 in (same x.0 (omega arith) ∙ f.0, full_frame homes homes' xs (λ r m. same r (omega arith)) f.1)
 
   pub empty_frame : (homes homes' : Homes E) (free : List ℕ) → ((r : ℕ) → 1 ≤ times r free → get_elem? homes' r ≡ get_elem? homes r) → EmptyAtHome homes free → EmptyAtHome homes' free
-  empty_frame homes homes' [] same f = tt
-  empty_frame homes homes' (x ∷ xs) same f = let here = one_here x in (same x (omega arith) ∙ f.0, empty_frame homes homes' xs (λ r m. same r (omega arith)) f.1)
-
-  empty_at : (homes : Homes E) (free : List ℕ) (r : ℕ) → 1 ≤ times r free → EmptyAtHome homes free → get_elem? homes r ≡ some (some None)
-  empty_at homes [] r m f = absurd (omega arith)
-  empty_at homes (x ∷ xs) r m f = dite (ℕ_discrete x r)
-      (λ e. subst (λ z. get_elem? homes z ≡ some (some None)) e f.0)
-      (λ n. let none = one_else x r n in empty_at homes xs r (omega arith) f.1)
+  empty_frame homes homes' free same f i r a = same r (times_some r free i a) ∙ f i r a
 
   -- ---- what a step keeps
   -- the party j sees all, and adds these events
@@ -127,10 +104,7 @@ module _ {E : Type 0} where
     meets = meets;
     wide = wide ∙ (k.wide ∙ ap suc (sym deep));
     full = full;
-    empty = λ i u e. ⊎_elim
-        (λ (t : (i ≡ j) × (w ≡ u)). subst (λ (z : View E). EmptyAtHome homes z.free) t.1 empty)
-        (λ (t : (i ≢ j) × (get_elem? s.views i ≡ some u)). empty_frame s.homes homes u.free (λ r m. same i u r t.0 t.1 m) (k.empty i u t.1))
-        (at_set s.views j i w u e);
+    empty = one_set (λ _ u. EmptyAtHome homes u.free) s.views j w empty (λ i u ne e. empty_frame s.homes homes u.free (λ r m. same i u r ne e m) (k.empty i u e));
     fits = fits;
     owned = owned;
   }
@@ -150,7 +124,7 @@ module _ {E : Type 0} where
 
   -- a party has at most as many free rooms as there are slots
   pub few_rooms : (s : TableState E) (k : RuleHolds s) (j : ℕ) (v : View E) → get_elem? s.views j ≡ some v → length v.free ≤ length s.homes
-  few_rooms s k j v at = distinct_few (length s.homes) v.free (λ r. let o = once s k j v r at in omega arith) (λ r m. at_length s.homes r (some None) (empty_at s.homes v.free r m (k.empty j v at)))
+  few_rooms s k j v at = distinct_few (length s.homes) v.free (λ r. let o = once s k j v r at in omega arith) (λ r m. let t = times_at r v.free m in at_length s.homes r (some None) (k.empty j v at t.0 r t.1))
 
   -- the slot of a room that the party j has changes
   slot_moves : (s : TableState E) (k : RuleHolds s) (j : ℕ) (v : View E) (r : ℕ) (y : maybe.Option (Option (Filled E))) → get_elem? s.views j ≡ some v → 1 ≤ count_with_party r v
@@ -212,13 +186,13 @@ module _ {E : Type 0} where
       let t = told s k id (x ∷ []) v w h at named refl refl meets.legal in (
         w,
         takes r None,
-        empty.0,
+        empty 0 r refl,
         unwritten s 0 (set s.homes r none) (set s.views id w)
-            (step_keeps s k id v w s.words (set s.homes r none) k.chain h at meets refl (length-set s.homes r none) moves.0 (empty_else s.homes r none rs alone_in empty.1) moves.1 t.1 t.0),
+            (step_keeps s k id v w s.words (set s.homes r none) k.chain h at meets refl (length-set s.homes r none) moves.0 (empty_else s.homes r none rs alone_in (λ i. empty (suc i))) moves.1 t.1 t.0),
         λ r' rs' free'. let same = sym free ∙ free' in
-            let inside = at_length s.homes r (some None) empty.0 in
-            let first = ap first_room same in
-            (ap (λ q. let p : Doing E = Loaded q read in p) first, ap rest_of same, ap (λ q. (q, let y : Option (Filled E) = None in y) ∷ me.1) first, subst (λ q. q < slots) first (omega arith), t.2),
+            let inside = at_length s.homes r (some None) (empty 0 r refl) in
+            let first = ap (first_or 0) same in
+            (ap (λ q. let p : Doing E = Loaded q read in p) first, ap rest_from same, ap (λ q. (q, let y : Option (Filled E) = None in y) ∷ me.1) first, subst (λ q. q < slots) first (omega arith), t.2),
       )
 
   pub links : (slots id i : ℕ) (me : SeatState E) (r read : ℕ) → i ≡ suc r → me.0.doing ≡ Loaded r read → r < slots → Allows RuleHolds slots id me i (λ _. read) (λ _. play.wrote (step slots i read 0 none) me read)
@@ -251,7 +225,7 @@ module _ {E : Type 0} where
   -- what a party does, and what it has in hand, at an exchange
   pub record Poised (me : SeatState E) (r read : ℕ) (x : E) (cs : Hand E) : Type 0 where
     pub doing : me.0.doing ≡ Set r read
-    pub hand : me.1 ≡ (r, Some (full_slot (r, x))) ∷ cs
+    pub hand : me.1 ≡ (r, Some (full_slot r x)) ∷ cs
     pub named : me.0.known.share ≢ []
 
   hits : (slots id : ℕ) (me : SeatState E) (r read : ℕ) (x : E) (cs : Hand E) → Poised me r read x cs → r < slots → (s : TableState E) (k : RuleHolds s) → length s.homes ≡ slots → get_elem? s.views id ≡ some me.0
@@ -263,7 +237,7 @@ module _ {E : Type 0} where
       let e : Event Name E = Push (name v) x in
       let h = k.history ++ (id, e) ∷ [] in
       let w = view_after v id h v.free Idle in
-      let y : maybe.Option (Option (Filled E)) = some (Some (full_slot (r, x))) in
+      let y : maybe.Option (Option (Filled E)) = some (Some (full_slot r x)) in
       let here = one_here r in
       let was : count_with_party r v ≡ times r v.free + one_if (eqb r r) = ap (λ d. times r v.free + at_work r d) poised.doing in
       let mine : 1 ≤ count_with_party r v = omega arith in
@@ -316,12 +290,12 @@ module _ {E : Type 0} where
       (found ≡ z.1 → (k.0.doing ≡ Idle) × (k.0.free ≡ me.0.free) × (k.1 ≡ z.3) × Sees me.0 (Push (name me.0) z.2.item ∷ []) k.0 × EndsPushed z.2.item (found ≡ 0) (name me.0) k.0.known.seen)
       × (found ≢ z.1 → (k.0.doing ≡ Missed z.0) × (k.0.free ≡ me.0.free) × (k.1 ≡ me.1) × Sees me.0 [] k.0 × IsOvertaken k.0.known.seen)
 
-  says : (st : play.TableStep E) (me k : SeatState E) (r read found : ℕ) (x : E) (cs : Hand E) → Poised me r read x cs → Tells me k found (r, read, full_slot (r, x), cs) → play.exchanged st me found k
+  says : (st : TableStep E) (me k : SeatState E) (r read found : ℕ) (x : E) (cs : Hand E) → Poised me r read x cs → Tells me k found (r, read, full_slot r x, cs) → play.exchanged st me found k
   unfolding Tells
   says st me k r read found x cs poised t r' read' x' cs' doing hand =
       let p = sym poised.doing ∙ doing in
       let q = sym poised.hand ∙ hand in
-      subst (Tells me k found) (λ i. (ap room_of p i, ap read_of p i, ap (slot_or (full_slot (r, x))) q i, ap rest q i)) t
+      subst (Tells me k found) (λ i. (ap room_of p i, ap read_of p i, ap (slot_or (full_slot r x)) q i, ap rest q i)) t
 
   pub exchanges : (slots id new : ℕ) (me : SeatState E) (r read : ℕ) (x : E) (cs : Hand E) → new ≡ suc r → Poised me r read x cs → r < slots
       → Allows RuleHolds slots id me 0 (λ n. either (eqb n read) new n) (play.exchanged (step slots 0 read new none) me)
@@ -358,7 +332,7 @@ module _ {E : Type 0} where
       let moves = slot_moves s k id v r y at mine in
       let t = untold s k id v w at refl in
       let kept = step_keeps s k id v w s.words (set s.homes r y) k.chain k.history at meets refl (length-set s.homes r y) moves.0
-      (set_here s.homes r y (omega arith), empty_else s.homes r y v.free none_free (k.empty id v at)) moves.1 t.1 t.0 in (
+      (empty_cons (set s.homes r y) r v.free (set_here s.homes r y (omega arith)) (empty_else s.homes r y v.free none_free (k.empty id v at))) moves.1 t.1 t.0 in (
         w,
         gives,
         tt,
@@ -371,7 +345,7 @@ module _ {E : Type 0} where
   -- ---- taking
   all_of : List (ℕ × E) → Act (Option (Filled E))
   all_of [] = keeps
-  all_of (x ∷ xs) = table.chain (all_of xs) (takes x.0 (Some (full_slot x)))
+  all_of (x ∷ xs) = table.chain (all_of xs) (takes x.0 (Some (full_slot x.0 x.1)))
 
   homes_else : (xs : List (ℕ × E)) (hs : Homes E) (cs : Hand E) (r : ℕ) → in_chain r xs ≡ 0 → get_elem? (homes_after hs cs (all_of xs)) r ≡ get_elem? hs r
   unfolding all_of
@@ -395,11 +369,11 @@ module _ {E : Type 0} where
   carried_all : (xs : List (ℕ × E)) (cs : Hand E) → carried_after cs (all_of xs) ≡ carry xs cs
   unfolding all_of
   carried_all [] cs = refl
-  carried_all (x ∷ xs) cs = ap (λ z. (x.0, Some (full_slot x)) ∷ z) (carried_all xs cs)
+  carried_all (x ∷ xs) cs = ap (λ z. (x.0, Some (full_slot x.0 x.1)) ∷ z) (carried_all xs cs)
 
   near_all : (homes : Homes E) (xs : List (ℕ × E)) → FullAtHome homes xs → Near (length homes) xs
   near_all homes [] full = tt
-  near_all homes (x ∷ xs) full = (at_length homes x.0 (some (Some (full_slot x))) full.0, near_all homes xs full.1)
+  near_all homes (x ∷ xs) full = (at_length homes x.0 (some (Some (full_slot x.0 x.1))) full.0, near_all homes xs full.1)
 
   pub takes_whole : (slots id : ℕ) (me : SeatState E) → me.0.doing ≡ Idle → me.0.known.share ≢ [] → Allows RuleHolds slots id me 0 (λ _. 0) (play.took (step slots 0 0 0 none) me)
   takes_whole slots id me idle named s k deep at fits =
@@ -439,7 +413,7 @@ module _ {E : Type 0} where
       let homes = set s.homes r y in
       let long = length-set s.homes r y in
       let kept = step_keeps s k id v w s.words homes k.chain k.history at walked.1 refl long moves.0
-      (set_here s.homes r y (omega arith), empty_else s.homes r y v.free none_free (k.empty id v at)) moves.1 t.1 t.0 in
+      (empty_cons (set s.homes r y) r v.free (set_here s.homes r y (omega arith)) (empty_else s.homes r y v.free none_free (k.empty id v at))) moves.1 t.1 t.0 in
       let few = few_rooms record { words = s.words; homes = homes; views = set s.views id w } kept id w (set_here s.views id w (at_length s.views id v at)) in (
         w,
         gives,

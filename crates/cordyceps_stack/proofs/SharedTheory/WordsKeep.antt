@@ -3,10 +3,11 @@ use Rattle.std.proofs.Common.{◌≡◌, ◌≢◌, ◌⊎◌, ℕ, suc, ◌+◌
 use Rattle.std.proofs.lemmas.List.{reverse-append}
 use mathlib.Core.Option.{some}
 use lib.ListN.{get_elem?}
-use Rattle.atomic_table.proofs.Lists.{at_set, at_snoc}
+use Rattle.atomic_table.proofs.Lists.{at_snoc}
 use Rattle.cordyceps_shared.specs.Counts.{one_if, times}
 use Rattle.cordyceps_shared.specs.Histories.{events}
 use Rattle.cordyceps_shared.specs.Shares.{Name}
+use Rattle.cordyceps_shared.proofs.Changing.{one_set}
 use Rattle.cordyceps_shared.proofs.Counting.{tally_set, tally_one, tally_two, tally_snoc, one_here}
 use Rattle.cordyceps_shared.proofs.Seeing.{events_more, without_more}
 use Rattle.cordyceps_stack.specs.History.{Event, Load, Push, Taken, held, held_after, Legal, IsChange, SomeChange}
@@ -109,10 +110,7 @@ module _ {E : Type 0} where
     spelled = spelled;
     holds = holds;
     apart = λ r. omega (arith, m.apart r, few r, tally_set (count_with_party r) views j v w at);
-    each = λ i u e. ⊎_elim
-        (λ (t : (i ≡ j) × (w ≡ u)). subst (λ (z : ℕ × View E). AtDoing ws' h' z.0 z.1.doing) (λ k. (sym t.0 k, t.1 k)) mine)
-        (λ (t : (i ≢ j) × (get_elem? views i ≡ some u)). others i u t.0 t.1 (m.each i u t.1))
-        (at_set views j i w u e);
+    each = one_set (λ i u. AtDoing ws' h' i u.doing) views j w mine (λ i u ne e. others i u ne e (m.each i u e));
   }
 
   -- the party's own step changes neither words nor history

@@ -2,7 +2,6 @@
 use Rattle.std.specs.Prelude.{◌≡◌, ◌≢◌, ◌↔◌, ℕ, List, [], ◌++◌, reverse, true, Option, Some, None, Ok, Err, slice_get}
 use Rattle.cordyceps_base.specs.Runs.{Ran, history_after, AllSay}
 use Rattle.cordyceps_stack.specs.declared.cores.steps.TransferStep.{TransferStep}
-use Rattle.cordyceps_stack.specs.declared.cores.steps.TransferStep.TheVariants as step
 use Rattle.cordyceps_stack.specs.declared.cores.steps.TransferAnswer.{TransferAnswer}
 use Rattle.cordyceps_stack.specs.declared.cores.steps.TransferAnswer.TheVariants as answer
 use Rattle.cordyceps_stack.specs.declared.cores.stage.Stage.{Stage}

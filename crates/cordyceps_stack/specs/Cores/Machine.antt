@@ -1,11 +1,11 @@
 -- A transfer core as plain data, and what each step does to it.
 use Rattle.std.specs.Prelude.{ℕ, zero, suc, List, [], ◌∷◌, ◌++◌, reverse, Bool, true, false, nat_eq, Option, Some, None, Result, Ok, Err, slice_get, slice_set, is_none, is_some, ◌&&◌}
 use Rattle.std.specs.Option.{option_eq}
-use Rattle.std.specs.List.{position, count_by}
+use Rattle.std.specs.List.{position}
 use Rattle.cordyceps_base.specs.declared.shared.StepError.{StepError}
 use Rattle.cordyceps_base.specs.declared.shared.StepError.TheVariants.{NotThere}
 use Rattle.cordyceps_shared.specs.declared.room.Room.{Room}
-use Rattle.cordyceps_shared.specs.Rooms.{change, linking, freeing, is_free_for, element_in, next_in}
+use Rattle.cordyceps_shared.specs.Rooms.{change, linking, freeing, is_free_for, element_in, next_in, occupied}
 use Rattle.cordyceps_stack.specs.declared.cores.stage.Attempt.{Attempt}
 use Rattle.cordyceps_stack.specs.declared.cores.stage.Stage.{Stage}
 use Rattle.cordyceps_stack.specs.declared.cores.stage.Stage.TheVariants.{Rest, Loaded, Set, Walking}
@@ -30,11 +30,8 @@ abbrev pub Outcome : Type 0 → Type 0
 Outcome E = Machine E × Answered E
 
 abbrev pub is_rest : Option Stage → Bool
-is_rest None = false
 is_rest (Some Rest) = true
-is_rest (Some (Loaded a)) = false
-is_rest (Some (Set a)) = false
-is_rest (Some (Walking r)) = false
+is_rest stage = false
 
 -- where a walk goes on that has read this link
 abbrev pub stage_after_walk : Option ℕ → Stage
@@ -65,10 +62,6 @@ module _ {E : Type 0} where
   -- the least of p's free rooms
   abbrev pub least_free : ℕ → List (Room E) → Option ℕ
   least_free p rooms = position (is_free_for p) rooms
-
-  -- how many rooms have an element
-  abbrev pub occupied : List (Room E) → ℕ
-  occupied rooms = count_by (λ room. is_some room.element) rooms
 
   abbrev pub first_then : Option E → List E → List E
   first_then None es = []

@@ -3,7 +3,8 @@ use Rattle.std.specs.Prelude.{◌≡◌, ℕ, ◌≤◌, [], ◌++◌, length, t
 use Rattle.cordyceps_shared.specs.Knowing.{IsKnown}
 use Rattle.cordyceps_shared.specs.Knowing as knowing
 use Rattle.cordyceps_stack.specs.History.{Legal}
-use Rattle.cordyceps_stack.specs.Shared.Plays.{SeatState, TableStep}
+use Rattle.cordyceps_shared.specs.Slots.{TableStep}
+use Rattle.cordyceps_stack.specs.Shared.Plays.{SeatState}
 use Rattle.cordyceps_stack.specs.Shared.View.{Idle, View}
 
 module _ {E : Type 0} where

@@ -1,9 +1,8 @@
 -- What each atomic step tells a party of a transfer stack: of its seat m before, of the word that it found, and of its seat
 -- k after. A seat has a view, and the slots in hand, the last taken first.
 use Rattle.std.specs.Prelude.{◌≡◌, ◌≢◌, ℕ, suc, ◌<◌, ◌≤◌, List, [], ◌∷◌, length, Option, Some, None}
-use Rattle.atomic_table.specs.Table.{Me, Step}
+use Rattle.atomic_table.specs.Table.{Me}
 use Rattle.cordyceps_shared.specs.Knowing.{Grown}
-use Rattle.cordyceps_shared.specs.Knowing as knowing
 use Rattle.cordyceps_shared.specs.Shares.{Name}
 use Rattle.cordyceps_shared.specs.declared.slots.Filled.{Filled}
 use Rattle.cordyceps_stack.specs.History.{Event, Load, Push, Taken, Legal}
@@ -11,17 +10,10 @@ use Rattle.cordyceps_stack.specs.Cores.Stages.{room_elements}
 use Rattle.cordyceps_stack.specs.Shared.Calls.{EndsPushed, EndsLooked, IsOvertaken}
 use Rattle.cordyceps_stack.specs.Shared.View.{Doing, Idle, Loaded, Set, Missed, Walking, View, name, walking}
 use Rattle.cordyceps_stack.specs.Shared.Words.{start}
-use Rattle.cordyceps_stack.specs.Shared.Rule.{full_slot}
+use Rattle.cordyceps_shared.specs.Slots.{Hand, TableStep, full_slot}
 
 abbrev pub SeatState : Type 0 → Type 0
 SeatState E = Me (Option (Filled E)) (View E)
-
-abbrev pub TableStep : Type 0 → Type 0
-TableStep E = Step (Option (Filled E))
-
--- the slots in hand
-abbrev pub Hand : Type 0 → Type 0
-Hand E = List (ℕ × Option (Filled E))
 
 module _ {E : Type 0} where
   -- the party has seen more, with these events of its own
@@ -31,7 +23,7 @@ module _ {E : Type 0} where
   -- the filled slots of these rooms, in front of others in hand
   abbrev pub carry : List (ℕ × E) → Hand E → Hand E
   carry [] cs = cs
-  carry (x ∷ xs) cs = (x.0, Some (full_slot x)) ∷ carry xs cs
+  carry (x ∷ xs) cs = (x.0, Some (full_slot x.0 x.1)) ∷ carry xs cs
 
   -- the rooms are of a table with that many slots
   abbrev pub Near : ℕ → List (ℕ × E) → Type 0

@@ -1,7 +1,8 @@
 //! The rooms of a transfer core.
 ghost use Rattle.std.specs.Prelude.{◌≡◌, ◌<◌, ◌≤◌, ◌++◌, [], ◌∷◌, length, slice_get, IsSome, Some, None, OnOk, OnErr};
 ghost use Rattle.cordyceps_shared.specs.Rooms.{change, linking, freeing, element_in, next_in};
-ghost use Rattle.cordyceps_stack.specs.Cores.Machine.{holding, new_room, least_free, occupied};
+ghost use Rattle.cordyceps_shared.specs.Rooms.{occupied};
+ghost use Rattle.cordyceps_stack.specs.Cores.Machine.{holding, new_room, least_free};
 
 use cordyceps_shared::room::Room;
 use std::alloc::{AllocError, Global};

@@ -3,7 +3,7 @@ ghost use Rattle.std.specs.Prelude.{◌≡◌, ◌≢◌, ◌<◌, ℕ, List, []
 ghost use Rattle.cordyceps_stack.specs.Shared.Parts.{IsSeatOf, Begun, IsSet, Settled, HasPushed, HasMissed, TookAll, Walked};
 ghost use Rattle.cordyceps_stack.specs.History.{Load};
 ghost use Rattle.cordyceps_stack.specs.Shared.Plays.{Sees, IsResting, IsWalking, to_hand_out};
-ghost use Rattle.cordyceps_stack.specs.Shared.Rule.{full_slot};
+ghost use Rattle.cordyceps_shared.specs.Slots.{full_slot};
 ghost use Rattle.cordyceps_stack.specs.Shared.Calls.{EndsLooked};
 ghost use Rattle.cordyceps_stack.specs.Shared.View.{Idle, Loaded, Set, Missed, name};
 ghost use Rattle.cordyceps_stack.specs.Shared.Words.{start};
@@ -41,10 +41,10 @@ fn link<E: Drop>(words: &Words<E>, seat: &mut PartySeat<E>, read: u64, full: Fil
 /// Exchanges `head`, if it is still what was read, with the room, and tells whether it was.
 fn settle<E: Drop>(words: &Words<E>, seat: &mut PartySeat<E>, room: usize, read: u64) -> bool
     requires table { IsSeatOf seat.old.table_id words.now.table_id }
-    requires set { (x : E) × (seat.old.me.1 ≡ (room, Some (full_slot (room, x))) ∷ []) }
+    requires set { (x : E) × (seat.old.me.1 ≡ (room, Some (full_slot room x)) ∷ []) }
     requires stage { (seat.old.me.0.doing ≡ Set room read) × (seat.old.me.0.known.share ≢ []) × (room < words.now.table_id.slots) }
     ensures table { seat.new.table_id ≡ seat.old.table_id }
-    ensures settled { (x : E) → seat.old.me.1 ≡ (room, Some (full_slot (room, x))) ∷ [] → Settled room read x result seat.old.me seat.new.me }
+    ensures settled { (x : E) → seat.old.me.1 ≡ (room, Some (full_slot room x)) ∷ [] → Settled room read x result seat.old.me seat.new.me }
 {
     words.compare_exchange::<Exchange>(seat, 0, read, room as u64 + 1) == read
 }
@@ -52,7 +52,7 @@ fn settle<E: Drop>(words: &Words<E>, seat: &mut PartySeat<E>, room: usize, read:
 /// Takes the element out of the slot in hand, and gives the slot back.
 fn back_out<E: Drop>(words: &Words<E>, seat: &mut PartySeat<E>, room: usize) -> Filled<E>
     requires table { IsSeatOf seat.old.table_id words.now.table_id }
-    requires missed { (x : E) × (seat.old.me.1 ≡ (room, Some (full_slot (room, x))) ∷ []) }
+    requires missed { (x : E) × (seat.old.me.1 ≡ (room, Some (full_slot room x)) ∷ []) }
     requires stage { (seat.old.me.0.doing ≡ Missed room) × (room < words.now.table_id.slots) }
     ensures table { seat.new.table_id ≡ seat.old.table_id }
     ensures element { seat.old.me.1 ≡ (room, Some result) ∷ [] }
@@ -78,7 +78,7 @@ pub(crate) fn try_push<E: Drop>(
     ensures rest { IsResting seat.new.me }
     ensures answer { MatchResult result
         (λ first. HasPushed ticket item first seat.old.me seat.new.me)
-        (λ back. (back ≡ full_slot (ticket, item)) × HasMissed seat.old.me seat.new.me) }
+        (λ back. (back ≡ full_slot ticket item) × HasMissed seat.old.me seat.new.me) }
 {
     let room = ticket.room();
     let read = begin(words, seat, room);

@@ -1,6 +1,6 @@
 use Rattle.std.proofs.Common.{◌∷◌, Option, None, refl, sym, ap, ◌∙◌, subst, rules}
 use Rattle.cordyceps_shared.specs.declared.slots.Filled.{Filled}
-use Rattle.cordyceps_queue.specs.Cores.Meets.{ItemAt}
+use Rattle.cordyceps_shared.specs.Places.{ItemAt}
 use Rattle.cordyceps_queue.proofs.SharedTheory.EnqueueKeeps.{clears}
 use Rattle.cordyceps_queue.proofs.shared.steps.clear.Goals as goal
 

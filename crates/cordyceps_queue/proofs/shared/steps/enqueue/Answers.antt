@@ -1,5 +1,5 @@
 use Rattle.std.proofs.Common.{suc, sym, refl, ◌∙◌, subst}
-use Rattle.cordyceps_queue.specs.Cores.Meets.{ItemAt}
+use Rattle.cordyceps_shared.specs.Places.{ItemAt}
 use Rattle.cordyceps_queue.proofs.SharedTheory.EnqueueKeeps.{enqueued}
 use Rattle.cordyceps_queue.proofs.shared.steps.enqueue.Goals as goal
 

@@ -1,5 +1,5 @@
 use Rattle.std.proofs.Common.{sym, refl, ◌∙◌, subst, rules}
-use Rattle.cordyceps_queue.specs.Cores.Meets.{ItemAt}
+use Rattle.cordyceps_shared.specs.Places.{ItemAt}
 use Rattle.cordyceps_queue.proofs.CoreTheory.Basics.{at_more}
 use Rattle.cordyceps_queue.proofs.SharedTheory.HolderAllowed.{gives_right}
 use Rattle.cordyceps_queue.proofs.shared.steps.give.Goals as goal

@@ -2,11 +2,12 @@ use Rattle.std.proofs.Common.{◌≡◌, ◌-◌, [], ◌∷◌, Some, sym, refl
 use Rattle.atomic_table.specs.Table.{rest}
 use Rattle.cordyceps_shared.specs.declared.slots.Filled.{Filled}
 use Rattle.cordyceps_queue.specs.History.{Event}
-use Rattle.cordyceps_queue.specs.Shared.Rule.{full_slot}
+use Rattle.cordyceps_shared.specs.Slots.{full_slot}
 use Rattle.cordyceps_queue.specs.Shared.View.{name}
 use Rattle.cordyceps_queue.proofs.CoreTheory.Basics.{at_more}
 use Rattle.cordyceps_queue.proofs.SharedTheory.HolderAllowed.{looks}
-use Rattle.cordyceps_queue.proofs.SharedTheory.PartsJoin.{pred_suc, hand_of, some_or, hands_now}
+use Rattle.cordyceps_shared.proofs.Choices.{some_or}
+use Rattle.cordyceps_queue.proofs.SharedTheory.PartsJoin.{pred_suc, hand_of, hands_now}
 use Rattle.cordyceps_queue.proofs.shared.steps.look.Goals as goal
 
 pub load-next-requires : goal.load-next-requires

@@ -3,7 +3,7 @@ use Rattle.atomic_table.specs.Table.{rest}
 use Rattle.cordyceps_queue.specs.declared.cores.stage.Stage.TheVariants.{Cleared, Swapped}
 use Rattle.cordyceps_queue.specs.History.{Event}
 use Rattle.cordyceps_queue.specs.Shared.Plays.{Sees}
-use Rattle.cordyceps_queue.specs.Shared.Rule.{full_slot}
+use Rattle.cordyceps_shared.specs.Slots.{full_slot}
 use Rattle.cordyceps_queue.specs.Shared.View.{View, name}
 use Rattle.cordyceps_queue.proofs.SharedTheory.EnqueueKeeps.{swaps}
 use Rattle.cordyceps_queue.proofs.shared.steps.swap_in.Goals as goal

@@ -1,7 +1,7 @@
 use Rattle.std.proofs.Common.{ℕ, List, sym, ap, ◌∙◌, subst, rules}
 use mathlib.Core.Option.{none}
 use Rattle.atomic_table.specs.Table.{step}
-use Rattle.cordyceps_queue.specs.Cores.Meets.{ItemAt}
+use Rattle.cordyceps_shared.specs.Places.{ItemAt}
 use Rattle.cordyceps_queue.specs.Shared.Plays.{carry}
 use Rattle.cordyceps_queue.proofs.SharedTheory.HolderAllowed.{takes_right}
 use Rattle.cordyceps_queue.proofs.SharedTheory.PartsJoin.{takes_by}

@@ -1,7 +1,7 @@
 use Rattle.std.proofs.Common.{◌∷◌, Some, sym, ap, ◌∙◌, rules}
 use Rattle.atomic_table.specs.Table.{rest}
 use Rattle.cordyceps_shared.specs.declared.slots.Filled.{Filled}
-use Rattle.cordyceps_queue.specs.Shared.Rule.{full_slot}
+use Rattle.cordyceps_shared.specs.Slots.{full_slot}
 use Rattle.cordyceps_queue.proofs.shared.stub_steps.take_out.Goals as goal
 
 pub exchange-full-requires : goal.exchange-full-requires

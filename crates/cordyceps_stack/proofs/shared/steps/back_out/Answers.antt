@@ -1,14 +1,14 @@
 use Rattle.std.proofs.Common.{[], ◌∷◌, Option, Some, None, sym, ap, ◌∙◌, rules, add-one}
 use Rattle.atomic_table.specs.Table.{rest}
 use Rattle.cordyceps_shared.specs.declared.slots.Filled.{Filled}
-use Rattle.cordyceps_stack.specs.Shared.Rule.{full_slot}
+use Rattle.cordyceps_shared.specs.Slots.{full_slot}
 use Rattle.cordyceps_stack.proofs.SharedTheory.StepsKeep.{returns}
 use Rattle.cordyceps_stack.proofs.shared.steps.back_out.Goals as goal
 
 pub exchange-full-requires : goal.exchange-full-requires
 exchange-full-requires g c =
     let h = c.requires.missed.1 in
-    (search rules, (_, h ∙ ap (λ z. (c.args.room, Some (full_slot (c.args.room, c.requires.missed.0))) ∷ rest z) (sym h)))
+    (search rules, (_, h ∙ ap (λ z. (c.args.room, Some (full_slot c.args.room c.requires.missed.0)) ∷ rest z) (sym h)))
 
 pub load-requires : goal.load-requires
 load-requires g c =

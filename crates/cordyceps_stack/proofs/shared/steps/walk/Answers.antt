@@ -2,10 +2,11 @@ use Rattle.std.proofs.Common.{◌≡◌, ℕ, List, [], ◌∷◌, Option, Some,
 use Rattle.atomic_table.specs.Table.{rest}
 use Rattle.cordyceps_shared.specs.declared.slots.Filled.{Filled}
 use Rattle.cordyceps_stack.specs.Shared.Plays.{to_hand_out, carry, IsWalking}
-use Rattle.cordyceps_stack.specs.Shared.Rule.{full_slot}
+use Rattle.cordyceps_shared.specs.Slots.{full_slot}
 use Rattle.cordyceps_stack.specs.Shared.Words.{start}
 use Rattle.cordyceps_stack.proofs.SharedTheory.PartsJoin.{next_of, batch_walking}
-use Rattle.cordyceps_stack.proofs.SharedTheory.StepsKeep.{walks_one, some_or}
+use Rattle.cordyceps_shared.proofs.Choices.{some_or}
+use Rattle.cordyceps_stack.proofs.SharedTheory.StepsKeep.{walks_one}
 use Rattle.cordyceps_stack.proofs.shared.steps.walk.Goals as goal
 
 abbrev hand_of : {A : Type 0} → List (ℕ × Option A) → Option A
@@ -16,7 +17,7 @@ pub exchange-full-requires : goal.exchange-full-requires
 exchange-full-requires g c =
     let b = c.requires.batch in
     let n = next_of c.args.words.now.table_id.slots c.args.at c.args.seat.now.me b.0 b.1 b.2 in
-    (search rules, (Some (full_slot n.here), n.hand ∙ (λ j. (sym n.index j, Some (full_slot n.here)) ∷ rest (sym n.hand j))))
+    (search rules, (Some (full_slot n.here.0 n.here.1), n.hand ∙ (λ j. (sym n.index j, Some (full_slot n.here.0 n.here.1)) ∷ rest (sym n.hand j))))
 
 pub load-below-requires : goal.load-below-requires
 load-below-requires g c =
@@ -41,7 +42,7 @@ returns-clause-walked g c =
     let empty = ap (λ m. m.1) y.3 ∙ (λ j. (n.index j, none) ∷ rest (n.hand j)) in
     let z = c.load-below.ensures.2 n.here n.others (carry n.others []) doing empty in
     let came = ap hand_of (sym y.2 ∙ n.hand) in
-    let full = ap (some_or (full_slot n.here)) (sym c.in-Some.is ∙ came) in
+    let full = ap (some_or (full_slot n.here.0 n.here.1)) (sym c.in-Some.is ∙ came) in
     let now = ap (λ v. v.doing) z.1 in
     let batch : to_hand_out c.load-below.new.seat.me.0.doing ≡ n.others = ap to_hand_out now ∙ batch_walking n.others in record {
       batch = ap to_hand_out n.doing ∙ (λ j. ((sym full j).ticket, (sym full j).item) ∷ sym batch j);

@@ -2,7 +2,8 @@ use Rattle.std.proofs.Common.{◌≡◌, ◌+◌, ◌<◌, ◌≤◌, length, ap
 use Rattle.std.specs.Prelude.{slice_get, None, Some, vec_len, vec_capacity}
 use Rattle.cordyceps_stack.specs.declared.cores.stage.Stage.TheVariants.{Rest}
 use Rattle.cordyceps_stack.specs.History.{Taken}
-use Rattle.cordyceps_stack.specs.Cores.Machine.{Machine, occupied}
+use Rattle.cordyceps_shared.specs.Rooms.{occupied}
+use Rattle.cordyceps_stack.specs.Cores.Machine.{Machine}
 use Rattle.cordyceps_stack.proofs.CoreTheory.AlonePush.{at_rest}
 use Rattle.cordyceps_stack.proofs.CoreTheory.AloneTakeAll.{Clearing, clear_start, clear_next, clear_counts, clear_within, clear_end, clear_machine, clear_batch}
 use Rattle.cordyceps_stack.proofs.CoreTheory.WalkCalls.{take_hands}

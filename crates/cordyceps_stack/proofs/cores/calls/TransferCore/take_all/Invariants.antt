@@ -1,6 +1,6 @@
 use Rattle.std.proofs.Common.{◌≡◌, ◌+◌, ◌≤◌}
 use Rattle.std.specs.Prelude.{vec_len, vec_capacity, None}
-use Rattle.cordyceps_stack.specs.Cores.Machine.{occupied}
+use Rattle.cordyceps_shared.specs.Rooms.{occupied}
 use Rattle.cordyceps_stack.proofs.CoreTheory.AloneTakeAll.{Clearing}
 use Rattle.cordyceps_stack.proofs.cores.calls.TransferCore.take_all.Given as goal
 
