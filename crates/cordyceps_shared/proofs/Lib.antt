@@ -14,5 +14,7 @@ pub mod Owning
 pub mod Places
 pub mod Renaming
 pub mod Seeing
+pub mod Sending
 pub mod Standing
+pub mod Summing
 pub mod Telling

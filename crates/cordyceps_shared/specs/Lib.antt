@@ -5,6 +5,7 @@ pub mod Interleaving
 pub mod Knowing
 pub mod Places
 pub mod Rooms
+pub mod Sending
 pub mod Shares
 pub mod Slots
 pub mod Standings
