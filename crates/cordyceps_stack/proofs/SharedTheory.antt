@@ -2,5 +2,7 @@
 pub mod CallsHold
 pub mod PartingKeeps
 pub mod PartsJoin
+pub mod PartyMoves
+pub mod Sending
 pub mod StepsKeep
 pub mod WordsKeep

@@ -1,5 +1,6 @@
 -- Definitions of what threads share.
 pub mod Calls
+pub mod Moves
 pub mod Parting
 pub mod Parts
 pub mod Plays
