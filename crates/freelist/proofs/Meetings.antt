@@ -1,56 +1,26 @@
 -- Users whose parties met: what they did is one legal history.
-use Rattle.std.proofs.Common.{◌≡◌, ℕ, ◌+◌, List, [], ◌∷◌, ◌++◌, map, reverse, Some, true, false, refl, sym, ap, ◌∙◌, arith}
+use Rattle.std.proofs.Common.{◌≡◌, ℕ, ◌+◌, List, [], ◌∷◌, ◌++◌, map, flat_map, reverse, Some, true, false, refl, sym, ap, ◌∙◌, arith}
 use Rattle.atomic_table.specs.Seated.{TableId}
 use Rattle.cordyceps_base.specs.Element.{Element}
-use Rattle.cordyceps_shared.specs.Counts.{tally}
+use Rattle.cordyceps_shared.specs.Counts.{tally, Same}
 use Rattle.cordyceps_shared.specs.Histories.{plain, own}
 use Rattle.cordyceps_shared.specs.Shares.{Name, whole, keeps_half, joined}
 use Rattle.cordyceps_shared.specs.Standings.{new_party, keeping, giving, Absorbs}
 use Rattle.cordyceps_shared.proofs.Adding.{plain_own}
-use Rattle.cordyceps_shared.proofs.Counting.{tally_append}
-use Rattle.cordyceps_stack.specs.History.{Event, Load, Push, Taken, Legal, held, pushes, taken}
+use Rattle.cordyceps_shared.proofs.Counting.{tally_append, tally_map, tally_reverse}
+use Rattle.cordyceps_shared.proofs.Halving.{halves_join}
+use Rattle.cordyceps_shared.proofs.Summing.{tally_flat_map, tally_same}
+use Rattle.cordyceps_stack.specs.History.{Event, Legal, held, pushes, taken}
 use Rattle.cordyceps_stack.specs.Shared.Calls.{PartyOf}
-use Rattle.freelist.specs.Whereabouts.{Call, Gains, Loses, command_of, gained, lost, SameBlocks, IsOf}
+use Rattle.cordyceps_stack.specs.Shared.Moves.{put_by, got_by}
+use Rattle.cordyceps_stack.proofs.SharedTheory.PartyMoves.{all_put, all_got}
+use Rattle.freelist.specs.Whereabouts.{Call, Gains, Loses, command_of, gained, lost, Story, IsOf}
 use Rattle.freelist.specs.Users.{UserOf, alone, closing, own_sum, parties_of, whereabouts_after, CarriesOut, Life, all_parties, stories, EachOnce, Knows, Met, one, absorbed}
 use Rattle.freelist.specs.declared.laws.Command.{Command}
 use Rattle.freelist.proofs.Calls.{carries_then}
-use Rattle.freelist.proofs.Parties.{halves_join, absorbs_own, absorbs_knows}
+use Rattle.freelist.proofs.Parties.{absorbs_own, absorbs_knows}
 use Rattle.freelist.proofs.Steps.{begins, ends}
-use Rattle.freelist.proofs.Whereabouts.{each_once, tally_reverse}
-
-module _ {A B : Type 0} where
-  tally_map : (h : A → B) (f : B → ℕ) (xs : List A) → tally f (map h xs) ≡ tally (λ x. f (h x)) xs
-  tally_map h f [] = refl
-  tally_map h f (x ∷ xs) = ap (λ n. f (h x) + n) (tally_map h f xs)
-
-module _ {A : Type 0} where
-  tally_same : (f g : A → ℕ) (xs : List A) → ((x : A) → f x ≡ g x) → tally f xs ≡ tally g xs
-  tally_same f g [] same = refl
-  tally_same f g (x ∷ xs) same = omega (arith, same x, tally_same f g xs same)
-
-module _ {E : Type 0} (f : E → ℕ) where
-  -- what an event puts back, and what it takes
-  abbrev put_by : Event Name E → ℕ
-  put_by (Load n) = 0
-  put_by (Push n e) = f e
-  put_by (Taken n batch) = 0
-
-  abbrev got_by : Event Name E → ℕ
-  got_by (Load n) = 0
-  got_by (Push n e) = 0
-  got_by (Taken n batch) = tally f (reverse batch)
-
-  all_put : (es : List (Event Name E)) → tally put_by es ≡ tally f (pushes es)
-  all_put [] = refl
-  all_put (Load n ∷ es) = omega (arith, all_put es)
-  all_put (Push n e ∷ es) = omega (arith, all_put es)
-  all_put (Taken n batch ∷ es) = omega (arith, all_put es)
-
-  all_got : (es : List (Event Name E)) → tally got_by es ≡ tally f (taken es)
-  all_got [] = refl
-  all_got (Load n ∷ es) = omega (arith, all_got es)
-  all_got (Push n e ∷ es) = omega (arith, all_got es)
-  all_got (Taken n batch ∷ es) = omega (arith, all_got es, tally_append f (reverse batch) (taken es))
+use Rattle.freelist.proofs.Whereabouts.{each_once}
 
 module _ {B : Type 0} where
   -- calls that carry out commands bring no block from elsewhere, and take none there
@@ -84,24 +54,28 @@ module _ {T H : Type 0} (element : H → Element T) where
   lives_sum g [] = refl
   lives_sum g (l ∷ lives) = omega (arith, lives_sum g lives, l.own_events g, tally_append (λ (p : PartyOf H). tally g (own p.seen)) l.parties (all_parties element lives))
 
+  -- what an event gives by p, of all of these users
+  gathers : (p : Event Name H → List (Element T)) (of : Story (Element T) → List (Element T)) (f : Element T → ℕ) (h : List (Event Name H)) (lives : List (Life element))
+      → ((g : Event Name H → ℕ) → tally g h ≡ tally (λ l. tally g l.events) lives) → ((l : Life element) → flat_map p l.events ≡ of l.story)
+      → tally f (flat_map p h) ≡ tally (λ u. tally f (of u)) (stories element lives)
+  gathers p of f h lives sum each =
+      let g : Event Name H → ℕ = λ e. tally f (p e) in
+      tally_flat_map p f h ∙ (sum g
+      ∙ (tally_same (λ (l : Life element). tally g l.events) (λ l. tally f (of l.story)) lives (λ l. sym (tally_flat_map p f l.events) ∙ ap (tally f) (each l))
+      ∙ sym (tally_map (λ (l : Life element). l.story) (λ u. tally f (of u)) lives)))
+
   -- of users whose parties met in a whole one, what that has seen is the history
   pub is_of : (lives : List (Life element)) (w : PartyOf H) → Met (all_parties element lives) w → Knows w → w.share ≡ whole →
       IsOf element (stories element lives) (plain w.seen)
   is_of lives w met known is =
-      let all = plain_own w.seen (known.alone is) in
-      let sum = λ (g : Event Name H → ℕ). ap (tally g) all ∙ (sym (met_sum g (all_parties element lives) w met) ∙ lives_sum g lives) in
+      let h = plain w.seen in
+      let sum = λ (g : Event Name H → ℕ). ap (tally g) (plain_own w.seen (known.alone is)) ∙ (sym (met_sum g (all_parties element lives) w met) ∙ lives_sum g lives) in
       record {
         legal = known.legal;
-        pushed = λ f.
-            let g : H → ℕ = λ e. f (element e) in
-            sym (all_put g (plain w.seen)) ∙ (sum (put_by g)
-            ∙ (tally_same (λ (l : Life element). tally (put_by g) l.events) (λ l. tally f l.story.end.put_back) lives (λ l. all_put g l.events ∙ (sym (tally_map element f (pushes l.events)) ∙ ap (tally f) (sym l.put_back)))
-            ∙ sym (tally_map (λ (l : Life element). l.story) (λ u. tally f u.end.put_back) lives)));
-        took = λ f.
-            let g : H → ℕ = λ e. f (element e) in
-            sym (all_got g (plain w.seen)) ∙ (sum (got_by g)
-            ∙ (tally_same (λ (l : Life element). tally (got_by g) l.events) (λ l. tally f l.story.end.fetched) lives (λ l. all_got g l.events ∙ (sym (tally_map element f (taken l.events)) ∙ ap (tally f) (sym l.fetched)))
-            ∙ sym (tally_map (λ (l : Life element). l.story) (λ u. tally f u.end.fetched) lives)));
+        pushed = λ f. sym (tally_map element f (pushes h)) ∙ (ap (tally f) (sym (all_put element h))
+            ∙ gathers (put_by element) (λ u. u.end.put_back) f h lives sum (λ l. all_put element l.events ∙ sym l.put_back));
+        took = λ f. sym (tally_map element f (taken h)) ∙ (ap (tally f) (sym (all_got element h))
+            ∙ gathers (got_by element) (λ u. u.end.fetched) f h lives sum (λ l. all_got element l.events ∙ sym l.fetched));
       }
 
   -- so each block is in one place: with a user, local, or held
@@ -126,7 +100,7 @@ module _ {T H : Type 0} (element : H → Element T) where
       CarriesOut element js (alone t yours (giving rooms (new_party t all))) (alone t yours2 second) →
       Absorbs (λ h. Legal h) first second last →
       ((lives : List (Life element)) → Met (all_parties element lives) last → Knows last → EachOnce element lives shared) →
-      SameBlocks (mine2 ++ (yours2 ++ shared)) (mine ++ yours)
+      Same (mine2 ++ (yours2 ++ shared)) (mine ++ yours)
   both ks js t rooms all mine yours mine2 yours2 shared first second last c d met once f =
       let l = life ks t mine (keeping rooms (new_party t all)) (alone t mine2 first) c refl in
       let r = life js t yours (giving rooms (new_party t all)) (alone t yours2 second) d refl in

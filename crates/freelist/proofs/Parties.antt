@@ -15,33 +15,10 @@ use Rattle.freelist.specs.Whereabouts.{behind}
 use Rattle.freelist.specs.Users.{Knows, AllKnow}
 
 -- ---- names
-halves_earlier : (n : Name) → earlier (n ++ false ∷ []) (n ++ true ∷ []) ≡ true
-halves_earlier [] = refl
-halves_earlier (true ∷ n) = halves_earlier n
-halves_earlier (false ∷ n) = halves_earlier n
-
-halves_pair : (n : Name) → is_pair (n ++ false ∷ []) (n ++ true ∷ []) ≡ true
-halves_pair [] = refl
-halves_pair (true ∷ []) = refl
-halves_pair (false ∷ []) = refl
-halves_pair (true ∷ b ∷ n) = halves_pair (b ∷ n)
-halves_pair (false ∷ b ∷ n) = halves_pair (b ∷ n)
-
-half_parent : (n : Name) → parent (n ++ false ∷ []) ≡ n
-half_parent [] = refl
-half_parent (a ∷ []) = refl
-half_parent (a ∷ b ∷ n) = ap (λ z. a ∷ z) (half_parent (b ∷ n))
-
 keeps_not_whole : (ns : List Name) → keeps_half ns ≡ whole → ⊥
 keeps_not_whole [] e = cc
 keeps_not_whole ([] ∷ ns) e = cc
 keeps_not_whole ((b ∷ n) ∷ ns) e = cc
-
-pub halves_join : (n : Name) → joined (keeps_half (n ∷ [])) (gives_half (n ∷ [])) ≡ n ∷ []
-halves_join n =
-    let l = n ++ false ∷ [] in
-    let r = n ++ true ∷ [] in
-    ap (λ b. combine (cond b (l ∷ r ∷ []) (r ∷ l ∷ []))) (halves_earlier n) ∙ (ap (λ b. cond b (cons_joined (parent l) []) (l ∷ r ∷ [])) (halves_pair n) ∙ ap (λ z. z ∷ []) (half_parent n))
 
 module _ {H : Type 0} where
   pub adds_own : (u w : PartyOf H) (es : List (Event Name H)) → Adds u es w → (g : Event Name H → ℕ) → tally g (own w.seen) ≡ tally g (own u.seen) + tally g es

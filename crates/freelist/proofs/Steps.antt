@@ -8,6 +8,7 @@ use Rattle.cordyceps_shared.specs.Counts.{tally}
 use Rattle.cordyceps_shared.specs.Histories.{own}
 use Rattle.cordyceps_shared.specs.Shares.{Name, keeps_half, gives_half, joined, insert_name}
 use Rattle.cordyceps_shared.specs.Standings.{name_of, keeping, giving, Absorbs}
+use Rattle.cordyceps_shared.proofs.Halving.{halves_join}
 use Rattle.cordyceps_shared.proofs.Owning.{own_split}
 use Rattle.cordyceps_stack.specs.History.{Load, Push, Taken, Legal}
 use Rattle.cordyceps_stack.specs.Shared.Calls.{PartyOf, PushesAt, Misses}
@@ -15,7 +16,7 @@ use Rattle.freelist.specs.Blocks.{LocalOf, GivesFirst, GetsFrom}
 use Rattle.freelist.specs.Whereabouts.{Gets, Fetches, Puts, PutsRemote, HandsBack, Opens, Finishes, Splits, Joins, Idles, behind, Lacks}
 use Rattle.freelist.specs.Users.{UserOf, whereabouts_after, share_of, rooms_of, Divides, local_party, CarriesOut}
 use Rattle.freelist.proofs.Calls.{stays, stays_local}
-use Rattle.freelist.proofs.Parties.{halves_join, adds_own, absorbs_own, adds_knows, absorbs_knows, keeps_knows, gives_knows, knows_last}
+use Rattle.freelist.proofs.Parties.{adds_own, absorbs_own, adds_knows, absorbs_knows, keeps_knows, gives_knows, knows_last}
 use Rattle.freelist.proofs.Whereabouts.{tally_behind}
 use Rattle.freelist.specs.declared.laws.Command.{Command}
 use Rattle.freelist.specs.declared.laws.Command.TheVariants as kinds

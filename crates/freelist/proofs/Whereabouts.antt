@@ -1,8 +1,7 @@
 -- Each block of a free list is in one place: of one user, and of all users of a legal history.
 use Rattle.std.proofs.Common.{◌≡◌, ℕ, ◌+◌, List, [], ◌∷◌, ◌++◌, reverse, Option, Some, None, refl, ap, arith}
-use Rattle.std.proofs.lemmas.List.{reverse-append}
 use Rattle.cordyceps_shared.specs.Counts.{tally}
-use Rattle.cordyceps_shared.proofs.Counting.{tally_append}
+use Rattle.cordyceps_shared.proofs.Counting.{tally_append, tally_reverse}
 use Rattle.cordyceps_stack.specs.History.{Event, held, taken}
 use Rattle.cordyceps_stack.proofs.Histories.{nothing_lost}
 use Rattle.freelist.specs.Whereabouts.{Whereabouts, Call, Gets, Fetches, Puts, PutsRemote, HandsBack, Opens, Finishes, Splits, Joins, Idles, Gains, Loses, behind, Without, Does, Run, gained, lost, Story, IsOf, everywhere, at_start, at_end, all_gained, all_lost}
@@ -11,10 +10,6 @@ module _ {B : Type 0} (f : B → ℕ) where
   pub tally_behind : (o : Option B) (bs : List B) → tally f (behind o bs) ≡ tally f (behind o []) + tally f bs
   tally_behind None bs = omega arith
   tally_behind (Some b) bs = omega arith
-
-  pub tally_reverse : (bs : List B) → tally f (reverse bs) ≡ tally f bs
-  tally_reverse [] = refl
-  tally_reverse (b ∷ bs) = omega (arith, tally_reverse bs, tally_append f (reverse bs) (b ∷ []), ap (tally f) (reverse-append (b ∷ []) bs))
 
   tally_without : (b : B) (old new : List B) → Without b old new → tally f old ≡ f b + tally f new
   tally_without b old new w = omega (arith, ap (tally f) w.old_is, ap (tally f) w.new_is, tally_append f w.before (b ∷ w.after), tally_append f w.before w.after)
@@ -31,7 +26,7 @@ module _ {B : Type 0} (f : B → ℕ) where
       let user : tally f t.with_user ≡ tally f (behind first s.with_user) = ap (λ z. tally f z.with_user) d.5 in
       let back : tally f t.put_back ≡ tally f s.put_back = ap (λ z. tally f z.put_back) d.5 in
       let more : tally f t.fetched ≡ tally f (s.fetched ++ reverse batch) = ap (λ z. tally f z.fetched) d.5 in
-      omega (arith, user, back, more, ap (tally f) d.2, ap (tally f) d.3, tally_behind first t.local, tally_behind first s.with_user, tally_append f s.fetched (reverse batch), tally_reverse batch)
+      omega (arith, user, back, more, ap (tally f) d.2, ap (tally f) d.3, tally_behind first t.local, tally_behind first s.with_user, tally_append f s.fetched (reverse batch), tally_reverse f batch)
   call_keeps (Puts b) s t d =
       omega (arith, tally_without b s.with_user t.with_user d.1, ap (λ z. tally f z.local) d.2, ap (λ z. tally f z.put_back) d.2, ap (λ z. tally f z.fetched) d.2)
   call_keeps (PutsRemote b) s t d =
@@ -39,7 +34,7 @@ module _ {B : Type 0} (f : B → ℕ) where
   call_keeps HandsBack s t d = omega (arith, ap at d.2, ap (λ z. tally f z.fetched) d.2)
   call_keeps Opens s t d = omega (arith, ap at d.3, ap (λ z. tally f z.fetched) d.3)
   call_keeps Finishes s t d =
-      omega (arith, ap (λ z. tally f z.with_user) d.3, ap (λ z. tally f z.local) d.3, ap (λ z. tally f z.put_back) d.3, ap (λ z. tally f z.fetched) d.3, tally_append f (reverse s.local) s.with_user, tally_reverse s.local)
+      omega (arith, ap (λ z. tally f z.with_user) d.3, ap (λ z. tally f z.local) d.3, ap (λ z. tally f z.put_back) d.3, ap (λ z. tally f z.fetched) d.3, tally_append f (reverse s.local) s.with_user, tally_reverse f s.local)
   call_keeps (Splits n) s t d = omega (arith, ap at d.2, ap (λ z. tally f z.fetched) d.2)
   call_keeps Joins s t d = omega (arith, ap at d.2, ap (λ z. tally f z.fetched) d.2)
   call_keeps (Idles k) s t d = omega (arith, ap at d.1, ap (λ z. tally f z.fetched) d.1)

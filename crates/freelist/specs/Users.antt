@@ -3,14 +3,14 @@
 use Rattle.std.specs.Prelude.{◌≡◌, ℕ, suc, ◌+◌, ◌*◌, List, [], ◌∷◌, ◌++◌, map, reverse, Option, Some, None, ◌⊎◌}
 use Rattle.atomic_table.specs.Seated.{TableId}
 use Rattle.cordyceps_base.specs.Element.{Element}
-use Rattle.cordyceps_shared.specs.Counts.{tally}
+use Rattle.cordyceps_shared.specs.Counts.{tally, Same}
 use Rattle.cordyceps_shared.specs.Histories.{plain, own, AllOwn}
 use Rattle.cordyceps_shared.specs.Shares.{Name, whole, keeps_half, gives_half}
 use Rattle.cordyceps_shared.specs.Standings.{new_party, keeping, giving, Absorbs}
 use Rattle.cordyceps_stack.specs.History.{Event, Load, Push, Taken, Legal, held, pushes, taken}
 use Rattle.cordyceps_stack.specs.Shared.Calls.{PartyOf, Adds}
 use Rattle.freelist.specs.Blocks.{LocalOf}
-use Rattle.freelist.specs.Whereabouts.{Whereabouts, Call, Run, behind, command_of, attempts, fetches, SameBlocks, Story, at_start, at_end, all_gained, all_lost}
+use Rattle.freelist.specs.Whereabouts.{Whereabouts, Call, Run, behind, command_of, attempts, fetches, Story, at_start, at_end, all_gained, all_lost}
 use Rattle.freelist.specs.declared.laws.Command.{Command}
 use Rattle.freelist.specs.declared.laws.Command.TheVariants as kinds
 use Rattle.freelist.specs.declared.laws.Turn.{Turn}
@@ -219,4 +219,4 @@ module _ {T H : Type 0} (element : H → Element T) where
     pub met : Absorbs (λ h. Legal h) first second last
     pub ends_whole : last.share ≡ whole
     pub shared_is : shared ≡ map element (reverse (held (plain last.seen)))
-    pub same : SameBlocks (mine2 ++ (yours2 ++ shared)) (mine ++ yours)
+    pub same : Same (mine2 ++ (yours2 ++ shared)) (mine ++ yours)

@@ -148,10 +148,6 @@ module _ {B : Type 0} where
   fetches (Fetches batch first ∷ cs) = suc (fetches cs)
   fetches (c ∷ cs) = fetches cs
 
--- the same blocks, each as often: whatever f gives for each, its sums are the same
-abbrev pub SameBlocks : {B : Type 0} → List B → List B → Type 0
-SameBlocks {B} xs ys = (f : B → ℕ) → tally f xs ≡ tally f ys
-
 -- what a user did, from the beginning on
 pub record Story (B : Type 0) : Type 0 where
   pub calls : List (Call B)
