@@ -14,6 +14,7 @@ pub mod PartySeats
 pub mod ReturnKeeps
 pub mod RightHolds
 pub mod SeatNames
+pub mod Sending
 pub mod StubKeeps
 pub mod TriesInTurn
 pub mod WaitingTries

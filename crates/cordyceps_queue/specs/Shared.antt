@@ -7,5 +7,6 @@ pub mod Parting
 pub mod Parts
 pub mod Plays
 pub mod Rule
+pub mod Sending
 pub mod Vault
 pub mod View

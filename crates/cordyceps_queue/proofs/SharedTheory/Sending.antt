@@ -1,0 +1,35 @@
+-- A call after others of which it is known what they put in and took out, and what is received of what others send.
+use Rattle.std.proofs.Common.{◌≡◌, ℕ, ◌≤◌, List, [], ◌∷◌, ◌++◌, map, subst}
+use Rattle.std.specs.Prelude.{Result}
+use Rattle.std.proofs.lemmas.List.{append-nil}
+use Rattle.atomic_table.specs.Seated.{TableId}
+use Rattle.cordyceps_shared.specs.Histories.{plain}
+use Rattle.cordyceps_shared.specs.Sending.{Delivers, Splits}
+use Rattle.cordyceps_shared.specs.Shares.{whole}
+use Rattle.cordyceps_shared.specs.Standings.{new_party, Absorbs}
+use Rattle.cordyceps_shared.proofs.Moving.{moves_then}
+use Rattle.cordyceps_shared.proofs.Sending as parties
+use Rattle.cordyceps_queue.specs.declared.cores.steps.TryDequeueError.{TryDequeueError}
+use Rattle.cordyceps_queue.specs.History.{held}
+use Rattle.cordyceps_queue.specs.Shared.Calls.{PartyOf, Legal, same_name, Enqueues, Dequeues}
+use Rattle.cordyceps_queue.specs.Shared.Moves.{put_by, got_by, Moves, given}
+use Rattle.cordyceps_queue.specs.Shared.Sending.{Sends}
+use Rattle.cordyceps_queue.proofs.SharedTheory.PartyMoves.{all_kept, moves_enqueue, moves_dequeue}
+
+module _ {E A : Type 0} (f : E → A) where
+  pub then_enqueues : {s g : List A} {u v : PartyOf E} (e : E) (w : PartyOf E) → Moves f s g u v → Enqueues e v w → Moves f (s ++ f e ∷ []) g u w
+  then_enqueues {s} {g} {u} {v} e w before c = subst (λ z. Moves f (s ++ f e ∷ []) z u w) (append-nil g)
+      (moves_then (put_by f) (got_by f) s g (f e ∷ []) [] u v w before (moves_enqueue f e v w c))
+
+  pub then_dequeues : {s g : List A} {u v : PartyOf E} (r : Result E TryDequeueError) (w : PartyOf E) → Moves f s g u v → Dequeues r v w
+      → Moves f s (g ++ given f r) u w
+  then_dequeues {s} {g} {u} {v} r w before c = subst (λ z. Moves f z (g ++ given f r) u w) (append-nil s)
+      (moves_then (put_by f) (got_by f) s g [] (given f r) u v w before (moves_dequeue f r v w c))
+
+  -- the party of a new queue gave rooms to another, which sent lists, and received meanwhile. Taken in again, it is whole, and what
+  -- it received, and then what is held, is what was sent
+  pub delivered : {k n : ℕ} {id : TableId} {u kept other v o w : PartyOf E} {got : List A} {lists : List (List A)} → u ≡ new_party id k → n ≤ k
+      → Splits n u kept other → Moves f [] got kept v → Sends f lists other o → Absorbs (λ h. Legal h) v o w
+      → (w.table ≡ id) × (w.share ≡ whole) × Delivers lists (got ++ map f (held (plain w.seen)))
+  delivered new room split mine theirs m =
+      parties.delivered (λ h. map f (held h)) (λ h legal. all_kept f same_name h legal) new room split mine theirs m
