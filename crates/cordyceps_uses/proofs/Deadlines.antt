@@ -1,7 +1,6 @@
 -- What a sorted list of timers is after an insertion.
 use Rattle.std.proofs.Common.{◌≡◌, ℕ, ◌≤◌, ◌<◌, Bool, true, false, cond, nat_lt, List, [], ◌∷◌, ◌++◌, refl, ap, sym, ◌∙◌, subst, arith}
-use Rattle.std.proofs.lemmas.Bool.{lt-ltb, ltb-true}
-use Rattle.std.proofs.lemmas.Bool.Decides.{nat_tests}
+use Rattle.std.proofs.lemmas.Bool.{le-ltb, lt-ltb, ltb-false, ltb-true}
 use Rattle.std.specs.declared.cmp.Ordering.{Ordering}
 use Rattle.std.specs.Ordering.{is_gt, nat_cmp}
 use Rattle.std.specs.Cmp.{on_total, nat_cmp_total, ranked}
@@ -18,16 +17,10 @@ use Rattle.cordyceps_stack.proofs.Puts.{put_in_order}
 use Rattle.cordyceps_uses.specs.declared.timers.Timer.{Timer}
 use Rattle.cordyceps_uses.specs.Timers.{timers_of, InOrder, started, due}
 
-le_from : (a b : ℕ) → nat_lt b a ≡ false → a ≤ b
-le_from a b f = grind (arith, nat_tests)
-
-not_lt : (a b : ℕ) → b ≤ a → nat_lt a b ≡ false
-not_lt a b h = by_test (nat_lt a b) (λ t. let k = ltb-true a b t in absurd (omega arith)) (λ f. f)
-
 gt_is_lt : (a b : ℕ) → is_gt (nat_cmp a b) ≡ nat_lt b a
 gt_is_lt a b =
     by_ranked (a < b) (a ≡ b) (b < a) (nat_cmp a b) (ranked a b (nat_cmp a b) refl)
-    (λ e h. ap is_gt e ∙ sym (not_lt b a (omega arith))) (λ e h. ap is_gt e ∙ sym (not_lt b a (omega arith))) (λ e h. ap is_gt e ∙ sym (lt-ltb b a h))
+    (λ e h. ap is_gt e ∙ sym (le-ltb b a (omega arith))) (λ e h. ap is_gt e ∙ sym (le-ltb b a (omega arith))) (λ e h. ap is_gt e ∙ sym (lt-ltb b a h))
 
 module _ {P : Type 0} {cmp : Timer P → Timer P → Ordering} (o : IsPreorder cmp) (by : (x y : Timer P) → is_gt (cmp x y) ≡ nat_lt y.deadline x.deadline) where
   put_by : (b c : Bool) (e : Element (Timer P)) (s t : Elements (Timer P)) (r : List (ℕ × P)) → b ≡ c → timers_of t ≡ r → (x : Element (Timer P)) → timers_of (cond b (e ∷ x ∷ s) (x ∷ t)) ≡ cond c (timers_of (e ∷ x ∷ s)) ((x.value.deadline, x.value.payload) ∷ r)
@@ -45,7 +38,7 @@ module _ {P : Type 0} {cmp : Timer P → Timer P → Ordering} (o : IsPreorder c
   not_less x y h = by x y ∙ by_test (nat_lt y.deadline x.deadline) (λ t. let k = ltb-true y.deadline x.deadline t in absurd (omega arith)) (λ f. f)
 
   not_later : (x y : Timer P) → is_gt (cmp x y) ≡ false → x.deadline ≤ y.deadline
-  not_later x y h = by_test (nat_lt y.deadline x.deadline) (λ t. let k = by x y in absurd cc) (λ f. le_from x.deadline y.deadline f)
+  not_later x y h = by_test (nat_lt y.deadline x.deadline) (λ t. let k = by x y in absurd cc) (λ f. ltb-false y.deadline x.deadline f)
 
   after : (x : Element (Timer P)) (s : Elements (Timer P)) → AllByRecursion (λ y. x.value.deadline ≤ y.0) (timers_of s) → After (less cmp) x s
   after x [] h = tt

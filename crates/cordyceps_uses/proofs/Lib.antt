@@ -1,7 +1,4 @@
-mod Dealings
 mod Deadlines
 mod Entries
-mod Holding
-mod Mailing
 pub mod Turning
 mod Working

@@ -1,4 +1,3 @@
-pub mod Dealings
 pub mod Mailbox
 pub mod Pool
 pub mod Recency

@@ -1,14 +1,12 @@
 //! A mailbox: many send, each on a thread of its own, and one receives.
-ghost use Rattle.std.specs.Prelude.{◌≡◌, ◌≤◌, [], ◌++◌, length, map, IfOk};
+ghost use Rattle.std.specs.Prelude.{◌≡◌, ◌≤◌, [], ◌∷◌, ◌++◌, length, IfOk};
 ghost use Rattle.std.specs.Thread.{IsSync};
-ghost use Rattle.cordyceps_shared.specs.Acting.{OneName};
-ghost use Rattle.cordyceps_shared.specs.Histories.{plain};
-ghost use Rattle.cordyceps_shared.specs.Shares.{whole};
-ghost use Rattle.cordyceps_shared.specs.Standings.{new_party};
-ghost use Rattle.cordyceps_queue.specs.History.{held};
-ghost use Rattle.cordyceps_uses.specs.Mailbox.{contents, how_many, Delivers, value_of, Posts, Sends};
+ghost use Rattle.cordyceps_shared.specs.Sending.{how_many, Delivers, MaySend};
+ghost use Rattle.cordyceps_queue.specs.Shared.Moves.{Moves, given};
+ghost use Rattle.cordyceps_queue.specs.Shared.Sending.{Sends};
+ghost use Rattle.cordyceps_uses.specs.Mailbox.{contents, value_of};
 
-use cordyceps::mpsc_queue::{Batch, Links, Party};
+use cordyceps::mpsc_queue::{Links, Party, TryDequeueError};
 use cordyceps::{Linked, MpscQueue, Node, Refused};
 use std::alloc::{AllocError, Global};
 use std::thread;
@@ -56,7 +54,7 @@ fn send_all(
     values: &[u64],
 ) -> Result<Party<Message>, AllocError>
     requires { (party.table ≡ queue.now.table) × (length values.now ≤ party.rooms) }
-    ensures { IfOk result (λ back. Posts values.now [] party back) }
+    ensures { IfOk result (λ back. Moves value_of values.now [] party back) }
 {
     for value in values {
         queue.enqueue(&mut party, letter(alloc, *value)?);
@@ -72,10 +70,8 @@ fn send_each<R: Threads + Sync>(
     mut party: Party<Message>,
     lists: &[Vec<u64>],
 ) -> Result<Party<Message>, AllocError>
-    requires table { party.table ≡ queue.now.table }
-    requires rooms { how_many (contents lists.now) ≤ party.rooms }
-    requires name { OneName party.share }
-    ensures { IfOk result (λ back. Sends (contents lists.now) party back) }
+    requires { MaySend (contents lists.now) queue.now.table party }
+    ensures { IfOk result (λ back. Sends value_of (contents lists.now) party back) }
 {
     let Some((first, rest)) = lists.split_first() else {
         return Ok(party);
@@ -85,16 +81,27 @@ fn send_each<R: Threads + Sync>(
         rt,
         || -> Result<Party<Message>, AllocError>
             requires { (mine.table ≡ queue.now.table) × (length first.now.items ≤ mine.rooms) }
-            ensures { IfOk result (λ back. Posts first.entry.now.items [] mine back) }
+            ensures { IfOk result (λ back. Moves value_of first.entry.now.items [] mine back) }
         { send_all(alloc, queue, mine, first.as_slice()) },
         || -> Result<Party<Message>, AllocError>
-            requires { IsSync R.row × (party.table ≡ queue.now.table) × (how_many (contents rest.now) ≤ party.rooms) × OneName party.share }
-            ensures { IfOk result (λ back. Sends (contents rest.entry.now) party back) }
+            requires { IsSync R.row × MaySend (contents rest.now) queue.now.table party }
+            ensures { IfOk result (λ back. Sends value_of (contents rest.entry.now) party back) }
         { send_each(rt, alloc, queue, party, rest) },
     );
     let mut back = others?;
     queue.absorb(&mut back, sent?);
     Ok(back)
+}
+
+/// Puts what a try found behind what was received.
+fn note(received: &mut Vec<u64>, found: Result<Letter, TryDequeueError>) -> Result<(), AllocError>
+    ensures { IfOk result (λ _. received.new.items ≡ received.old.items ++ given value_of found) }
+{
+    let Ok(letter) = found else {
+        return Ok(());
+    };
+    received.push(letter.get().value)?;
+    Ok(())
 }
 
 /// Receives what comes in so many turns.
@@ -105,58 +112,13 @@ fn receive(
     turns: u64,
 ) -> Result<(Party<Message>, Vec<u64>), AllocError>
     requires { party.table ≡ queue.now.table }
-    ensures { IfOk result (λ back. Posts [] back.1.items party back.0) }
+    ensures { IfOk result (λ back. Moves value_of [] back.1.items party back.0) }
 {
     let mut received = Vec::new(alloc);
     for _turn in 0..turns {
-        if let Ok(node) = queue.try_dequeue(&mut party) {
-            received.push(node.get().value)?;
-        }
+        note(&mut received, queue.try_dequeue(&mut party))?;
     }
     Ok((party, received))
-}
-
-/// All lists are sent, and one thread receives. The party of a new queue is whole again in the end.
-fn exchange<R: Threads + Sync>(
-    rt: &R,
-    alloc: Global,
-    queue: &MpscQueue<Message>,
-    mut receiver: Party<Message>,
-    lists: &[Vec<u64>],
-    turns: u64,
-) -> Result<(Party<Message>, Vec<u64>), AllocError>
-    requires new { receiver ≡ new_party queue.now.table receiver.rooms }
-    requires rooms { how_many (contents lists.now) ≤ receiver.rooms }
-    ensures whole { IfOk result (λ back. (back.0.table ≡ queue.now.table) × (back.0.share ≡ whole)) }
-    ensures delivers { IfOk result (λ back. Delivers (contents lists.now) (back.1.items ++ map value_of (held (plain back.0.seen)))) }
-{
-    let rooms = receiver.rooms();
-    let sender = queue.split(&mut receiver, rooms);
-    let (got, sent) = thread::join(
-        rt,
-        || -> Result<(Party<Message>, Vec<u64>), AllocError>
-            requires { receiver.table ≡ queue.now.table }
-            ensures { IfOk result (λ back. Posts [] back.1.items receiver back.0) }
-        { receive(alloc, queue, receiver, turns) },
-        || -> Result<Party<Message>, AllocError>
-            requires { IsSync R.row × (sender.table ≡ queue.now.table) × (how_many (contents lists.now) ≤ sender.rooms) × OneName sender.share }
-            ensures { IfOk result (λ back. Sends (contents lists.entry.now) sender back) }
-        { send_each(rt, alloc, queue, sender, lists) },
-    );
-    let (mut party, received) = got?;
-    queue.absorb(&mut party, sent?);
-    Ok((party, received))
-}
-
-/// What was received, and then what is left.
-fn collect(received: Vec<u64>, left: Batch<Message>) -> Result<Vec<u64>, AllocError>
-    ensures { IfOk result (λ all. all.items ≡ received.items ++ map value_of left) }
-{
-    let mut all = received;
-    for node in left {
-        all.push(node.get().value)?;
-    }
-    Ok(all)
 }
 
 /// Delivers messages: each list is sent by a thread of its own, and one thread receives, in so many turns; what is left is
@@ -175,7 +137,23 @@ pub fn deliver<R: Threads + Sync>(
     requires few { rooms ≤ 1048576 }
     ensures { IfOk result (λ all. Delivers (contents lists.now) all.items) }
 {
-    let (queue, receiver) = MpscQueue::new(alloc, rooms)?;
-    let (party, received) = exchange(rt, alloc, &queue, receiver, lists, turns)?;
-    collect(received, queue.close(party).elements)
+    let (queue, mut receiver) = MpscQueue::new(alloc, rooms)?;
+    let sender = queue.split(&mut receiver, rooms);
+    let (got, sent) = thread::join(
+        rt,
+        || -> Result<(Party<Message>, Vec<u64>), AllocError>
+            requires { receiver.table ≡ queue.table }
+            ensures { IfOk result (λ back. Moves value_of [] back.1.items receiver back.0) }
+        { receive(alloc, &queue, receiver, turns) },
+        || -> Result<Party<Message>, AllocError>
+            requires { IsSync R.row × MaySend (contents lists.now) queue.table sender }
+            ensures { IfOk result (λ back. Sends value_of (contents lists.entry.now) sender back) }
+        { send_each(rt, alloc, &queue, sender, lists) },
+    );
+    let (mut party, mut received) = got?;
+    queue.absorb(&mut party, sent?);
+    for letter in queue.close(party).elements {
+        received.push(letter.get().value)?;
+    }
+    Ok(received)
 }

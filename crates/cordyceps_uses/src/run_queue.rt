@@ -1,7 +1,8 @@
 //! Jobs that one thread submits, and that workers run.
 ghost use Rattle.std.specs.Prelude.{◌≡◌, ◌≤◌, ◌*◌, [], ◌++◌, length, map, reverse, IfOk, IfErr};
 ghost use Rattle.std.specs.Thread.{IsSync};
-ghost use Rattle.cordyceps_uses.specs.Dealings.{Deals, Same};
+ghost use Rattle.cordyceps_shared.specs.Counts.{Same};
+ghost use Rattle.cordyceps_stack.specs.Shared.Moves.{Moves};
 ghost use Rattle.cordyceps_uses.specs.RunQueue.{ran, Worked};
 
 use cordyceps::stack::{Links, Party};
@@ -53,7 +54,7 @@ fn submit_all<R: Wait>(
     jobs: Stack<Job>,
 ) -> Party<Job>
     requires { (party.table ≡ queue.now) × (length jobs ≤ party.rooms) }
-    ensures { Deals jobs [] party result }
+    ensures { Moves ran (map ran jobs) [] party result }
 {
     for job in jobs {
         queue.push(rt, &mut party, job);
@@ -121,14 +122,14 @@ fn run_threads<R: Threads + Wait + Sync>(
 )
     requires submitter { (submitter.table ≡ queue.now) × (length jobs ≤ submitter.rooms) }
     requires workers { (workers.0.table ≡ queue.now) × (workers.1.table ≡ queue.now) }
-    ensures submitted { Deals jobs [] submitter result.0 }
+    ensures submitted { Moves ran (map ran jobs) [] submitter result.0 }
     ensures worked { Worked result.1.0.1 workers.0 result.1.0.0 × Worked result.1.1.1 workers.1 result.1.1.0 }
 {
     thread::join(
         rt,
         || -> Party<Job>
             requires { IsSync R.row × (submitter.table ≡ queue.now) × (length jobs ≤ submitter.rooms) }
-            ensures { Deals jobs [] submitter result }
+            ensures { Moves ran (map ran jobs) [] submitter result }
         { submit_all(rt, queue, submitter, jobs) },
         || -> ((Party<Job>, Stack<Job>), (Party<Job>, Stack<Job>))
             requires { IsSync R.row × (workers.0.table ≡ queue.now) × (workers.1.table ≡ queue.now) }

@@ -1,7 +1,4 @@
-use Rattle.std.proofs.Common.{◌≡◌, ◌≤◌, [], ◌++◌, length, map, IfOk, ℕ, ◌+◌, ◌-◌, ◌*◌, ◌<◌}
-use Rattle.std.specs.Thread.{IsSync}
-use Rattle.cordyceps_shared.specs.Acting.{OneName}
-use Rattle.cordyceps_uses.specs.Mailbox.{how_many, Delivers, value_of, Posts, Sends}
+use Rattle.std.proofs.Common.{length, ◌+◌, ◌*◌}
 use Rattle.cordyceps_uses.proofs.mailbox.+fn-send_each-join+arg3+send_each.Given as goal
 
 abbrev pub decreases-join+arg3 : goal.decreases-join+arg3

@@ -1,16 +1,44 @@
-use Rattle.std.proofs.Common.{◌++◌, List, map, ap, sym, ◌∙◌, subst}
+use Rattle.std.proofs.Common.{rules, ◌≡◌, ◌≤◌, [], ◌∷◌, ◌++◌, List, map, IfOk, ap, sym, ◌∙◌, subst, append-nil, append_assoc, arith}
 use Rattle.std.proofs.lemmas.List.{map-id}
-use Rattle.std.proofs.lemmas.Result.{IfOk-weaker}
+use Rattle.std.proofs.lemmas.Result.{IfOk-at_ok}
 use Rattle.cordyceps_shared.specs.Histories.{plain}
+use Rattle.cordyceps_shared.specs.Sending.{Delivers}
+use Rattle.cordyceps_shared.proofs.Sending.{may_send_new}
 use Rattle.cordyceps_queue.specs.History.{held}
-use Rattle.cordyceps_uses.specs.Mailbox.{contents, Delivers, value_of}
+use Rattle.cordyceps_queue.specs.Shared.Moves.{Moves}
+use Rattle.cordyceps_queue.specs.Shared.Sending.{Sends}
+use Rattle.cordyceps_queue.proofs.SharedTheory.Sending.{delivered}
+use Rattle.cordyceps_uses.specs.Mailbox.{contents, value_of}
 use Rattle.cordyceps_uses.proofs.mailbox.deliver.Goals as goal
 
+pub join-got-requires-after_bounds : goal.join-got-requires-after_bounds
+join-got-requires-after_bounds g c κs within =
+    let n = c.args.rooms in
+    let made = c.in_ok-queue in
+    let may = may_send_new n n (contents c.args.lists.now) made.queue.table made.receiver c.split-sender.new.party c.split-sender.result made.ensures.1 c.requires.room c.split-sender.ensures in
+    (may.0, ((search rules, may.1), search rules))
+
+pub loop-letter-init : goal.loop-letter-init
+loop-letter-init g c =
+    let lists = contents c.args.lists.now in
+    let all = delivered value_of c.in_ok-queue.ensures.1 (omega arith) c.split-sender.ensures
+    (IfOk-at_ok _ c.in_ok-party.was c.join-got.ensures.first)
+    (IfOk-at_ok _ c.in_ok-sent.was c.join-got.ensures.second)
+    c.absorb.ensures in
+    subst (λ z. Delivers lists (c.in_ok-party.received.items ++ map value_of z))
+    (sym (c.into_iter-letter-iterator.ensures.into_iter_gives ∙ (c.close-letter-items.ensures.elements ∙ map-id (held (plain c.absorb.new.party.seen)))))
+    all.2
+
+pub loop-letter-preserved : goal.loop-letter-preserved
+loop-letter-preserved g c =
+    let v = c.get.result.now.value in
+    let received = c.loop-letter.received.items in
+    let rest = map value_of c.next.new.self in
+    subst (λ z. Delivers (contents c.args.lists.now) z)
+    (ap (λ z. received ++ map value_of z) c.in-Some.ensures.steps
+    ∙ (ap (λ m. received ++ m.value ∷ rest) (sym c.get.ensures) ∙ (sym (append_assoc received (v ∷ []) rest) ∙ ap (λ z. z ++ rest) (sym c.in_ok-push.ensures.items))))
+    c.loop-letter.invariant
+
 pub returns : goal.returns
-returns g c =
-    let back = c.in_ok-party in
-    let xs = contents c.args.lists.now in
-    let left = ap (λ z. back.received.items ++ map value_of z) (c.close.ensures.elements ∙ map-id (held (plain back.party.seen))) in
-    IfOk-weaker c.collect.result _ (λ all. Delivers xs all.items)
-    (λ v is. subst (λ z. Delivers xs z) (sym (is ∙ left)) back.ensures.delivers)
-    c.collect.ensures
+returns g c = 
+    subst (λ z. Delivers (contents c.args.lists.now) z) (ap (λ z. c.loop-letter.received.items ++ map value_of z) c.in-None.ensures.steps.0 ∙ append-nil c.loop-letter.received.items) c.loop-letter.invariant

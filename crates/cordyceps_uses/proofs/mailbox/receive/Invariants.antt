@@ -1,6 +1,7 @@
 use Rattle.std.proofs.Common.{[]}
-use Rattle.cordyceps_uses.specs.Mailbox.{Posts}
+use Rattle.cordyceps_queue.specs.Shared.Moves.{Moves}
+use Rattle.cordyceps_uses.specs.Mailbox.{value_of}
 use Rattle.cordyceps_uses.proofs.mailbox.receive.Given as goal
 
 abbrev pub invariant-loop-turn : goal.invariant-loop-turn
-invariant-loop-turn l = Posts [] l.received.items l.fn.party l.party
+invariant-loop-turn l = Moves value_of [] l.received.items l.fn.party l.party

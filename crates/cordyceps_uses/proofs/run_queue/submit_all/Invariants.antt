@@ -1,7 +1,8 @@
-use Rattle.std.proofs.Common.{◌≡◌, ◌≤◌, ◌++◌, List, [], length}
-use Rattle.cordyceps_uses.specs.Dealings.{Deals}
+use Rattle.std.proofs.Common.{◌≡◌, ◌≤◌, ◌++◌, List, [], map, length}
+use Rattle.cordyceps_stack.specs.Shared.Moves.{Moves}
+use Rattle.cordyceps_uses.specs.RunQueue.{ran}
 use Rattle.cordyceps_uses.proofs.run_queue.submit_all.Given as goal
 
 abbrev pub invariant-loop-job : goal.invariant-loop-job
 invariant-loop-job g l =
-    (sent : List _) × (l.fn.jobs ≡ sent ++ l.job-iterator) × Deals sent [] l.fn.party l.party × (length l.job-iterator ≤ l.party.rooms)
+    (sent : List _) × (map ran l.fn.jobs ≡ sent ++ map ran l.job-iterator) × Moves ran sent [] l.fn.party l.party × (length l.job-iterator ≤ l.party.rooms)

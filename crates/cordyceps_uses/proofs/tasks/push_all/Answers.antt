@@ -3,7 +3,7 @@ use Rattle.cordyceps_base.specs.Element.{Element}
 use Rattle.cordyceps_shared.specs.Histories.{plain}
 use Rattle.cordyceps_stack.specs.History.{held}
 use Rattle.cordyceps_uses.specs.declared.tasks.Task.{Task}
-use Rattle.cordyceps_uses.proofs.Holding.{held_pushed}
+use Rattle.cordyceps_stack.proofs.SharedTheory.Sending.{held_pushed}
 use Rattle.cordyceps_uses.proofs.tasks.push_all.Goals as goal
 
 pub loop-task-preserved : goal.loop-task-preserved
