@@ -1,14 +1,8 @@
-use Rattle.std.proofs.Common.{rules, ◌≡◌, List, [], Vec, ℕ, Global, length, IfOk, ap, arith}
+use Rattle.std.proofs.Common.{rules, ◌≡◌, List, Vec, ℕ, Global, length, ap, arith}
 use Rattle.std.proofs.lemmas.Result.{IfOk-at_ok}
 use Rattle.cordyceps_shared.proofs.Sending.{may_send_rest, sends_none, sends_more}
-use Rattle.cordyceps_queue.specs.Shared.Moves.{Moves}
-use Rattle.cordyceps_queue.specs.Shared.Sending.{Sends}
-use Rattle.cordyceps_uses.specs.Mailbox.{contents, value_of}
+use Rattle.cordyceps_uses.specs.Mailbox.{contents}
 use Rattle.cordyceps_uses.proofs.mailbox.+fn-send_each-join+arg3+send_each.Goals as goal
-
-pub fn::send_each::join+arg3+FnOnce::call_once-join+arg3-requires :
-    goal.fn::send_each::join+arg3+FnOnce::call_once-join+arg3-requires
-fn::send_each::join+arg3+FnOnce::call_once-join+arg3-requires g t c κs within = (omega (arith, c.decreases), (within, (c.requires.1.1, c.requires.1.0)))
 
 pub returns-in_default : goal.returns-in_default
 returns-in_default g t c = sends_none (λ v. v.items) c.args.lists.now c.args.party c.in_default.ensures.cases
@@ -25,6 +19,6 @@ pub returns : goal.returns
 returns g t c =
     let long : c.len.result ≡ length c.in-Some.first.now.items = omega (arith, c.len.ensures) in
     sends_more (ap contents c.in-Some.ensures.cases.0) long c.requires c.split-mine.ensures
-    (IfOk-at_ok (λ back. Sends value_of (contents c.in-Some.rest.now) c.split-mine.new.party back) c.in_ok-back.was c.join-sent.ensures.second)
-    (IfOk-at_ok (λ back. Moves value_of c.in-Some.first.now.items [] c.split-mine.result back) c.in_ok-sent.was c.join-sent.ensures.first)
+    (IfOk-at_ok _ c.in_ok-back.was c.join-sent.ensures.second)
+    (IfOk-at_ok _ c.in_ok-sent.was c.join-sent.ensures.first)
     c.absorb.ensures

@@ -1,12 +1,10 @@
-use Rattle.std.proofs.Common.{rules, ◌≡◌, ◌≤◌, [], ◌∷◌, ◌++◌, List, map, IfOk, ap, sym, ◌∙◌, subst, append-nil, append_assoc, arith}
+use Rattle.std.proofs.Common.{rules, [], ◌∷◌, ◌++◌, map, ap, sym, ◌∙◌, subst, append-nil, append_assoc, arith}
 use Rattle.std.proofs.lemmas.List.{map-id}
 use Rattle.std.proofs.lemmas.Result.{IfOk-at_ok}
 use Rattle.cordyceps_shared.specs.Histories.{plain}
 use Rattle.cordyceps_shared.specs.Sending.{Delivers}
 use Rattle.cordyceps_shared.proofs.Sending.{may_send_new}
 use Rattle.cordyceps_queue.specs.History.{held}
-use Rattle.cordyceps_queue.specs.Shared.Moves.{Moves}
-use Rattle.cordyceps_queue.specs.Shared.Sending.{Sends}
 use Rattle.cordyceps_queue.proofs.SharedTheory.Sending.{delivered}
 use Rattle.cordyceps_uses.specs.Mailbox.{contents, value_of}
 use Rattle.cordyceps_uses.proofs.mailbox.deliver.Goals as goal
@@ -31,14 +29,14 @@ loop-letter-init g c =
 
 pub loop-letter-preserved : goal.loop-letter-preserved
 loop-letter-preserved g c =
-    let v = c.get.result.now.value in
-    let received = c.loop-letter.received.items in
+    let before = c.loop-letter.received.items in
     let rest = map value_of c.next.new.self in
-    subst (λ z. Delivers (contents c.args.lists.now) z)
-    (ap (λ z. received ++ map value_of z) c.in-Some.ensures.steps
-    ∙ (ap (λ m. received ++ m.value ∷ rest) (sym c.get.ensures) ∙ (sym (append_assoc received (v ∷ []) rest) ∙ ap (λ z. z ++ rest) (sym c.in_ok-push.ensures.items))))
+    subst (Delivers (contents c.args.lists.now))
+    (ap (λ z. before ++ map value_of z) c.in-Some.ensures.steps ∙ (ap (λ m. before ++ m.value ∷ rest) (sym c.get.ensures)
+    ∙ (sym (append_assoc before (c.get.result.now.value ∷ []) rest) ∙ ap (λ z. z ++ rest) (sym c.in_ok-push.ensures.items))))
     c.loop-letter.invariant
 
 pub returns : goal.returns
-returns g c = 
-    subst (λ z. Delivers (contents c.args.lists.now) z) (ap (λ z. c.loop-letter.received.items ++ map value_of z) c.in-None.ensures.steps.0 ∙ append-nil c.loop-letter.received.items) c.loop-letter.invariant
+returns g c =
+    let all = c.loop-letter.received.items in
+    subst (Delivers (contents c.args.lists.now)) (ap (λ z. all ++ map value_of z) c.in-None.ensures.steps.0 ∙ append-nil all) c.loop-letter.invariant

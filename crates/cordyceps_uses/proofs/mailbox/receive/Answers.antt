@@ -1,4 +1,4 @@
-use Rattle.std.proofs.Common.{[], sym, ◌∙◌, subst}
+use Rattle.std.proofs.Common.{[], sym, subst}
 use Rattle.cordyceps_shared.proofs.Moving.{moves_none}
 use Rattle.cordyceps_queue.specs.Shared.Moves.{put_by, got_by, Moves}
 use Rattle.cordyceps_queue.proofs.SharedTheory.Sending.{then_dequeues}
@@ -8,9 +8,6 @@ use Rattle.cordyceps_uses.proofs.mailbox.receive.Goals as goal
 pub loop-turn-init : goal.loop-turn-init
 loop-turn-init c =
     subst (λ z. Moves value_of [] z c.args.party c.args.party) (sym c.new-received.ensures.items) (moves_none (put_by value_of) (got_by value_of) c.args.party)
-
-pub try_dequeue-requires : goal.try_dequeue-requires
-try_dequeue-requires c = c.loop-turn.invariant.acts.table ∙ c.requires
 
 pub loop-turn-preserved : goal.loop-turn-preserved
 loop-turn-preserved c =
