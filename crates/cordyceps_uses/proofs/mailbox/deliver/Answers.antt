@@ -11,19 +11,15 @@ use Rattle.cordyceps_uses.proofs.mailbox.deliver.Goals as goal
 
 pub join-got-requires-after_bounds : goal.join-got-requires-after_bounds
 join-got-requires-after_bounds g c κs within =
-    let n = c.args.rooms in
-    let made = c.in_ok-queue in
-    let may = may_send_new n n (contents c.args.lists.now) made.queue.table made.receiver c.split-sender.new.party c.split-sender.result made.ensures.1 c.requires.room c.split-sender.ensures in
+    let may = may_send_new c.args.rooms c.args.rooms (contents c.args.lists.now) c.in_ok-queue.queue.table c.in_ok-queue.receiver
+    c.split-sender.new.party c.split-sender.result c.in_ok-queue.ensures.1 c.requires.room c.split-sender.ensures in
     (may.0, ((search rules, may.1), search rules))
 
 pub loop-letter-init : goal.loop-letter-init
 loop-letter-init g c =
-    let lists = contents c.args.lists.now in
-    let all = delivered value_of c.in_ok-queue.ensures.1 (omega arith) c.split-sender.ensures
-    (IfOk-at_ok _ c.in_ok-party.was c.join-got.ensures.first)
-    (IfOk-at_ok _ c.in_ok-sent.was c.join-got.ensures.second)
-    c.absorb.ensures in
-    subst (λ z. Delivers lists (c.in_ok-party.received.items ++ map value_of z))
+    let all = delivered value_of c.in_ok-queue.ensures.1 (omega arith) c.split-sender.ensures (IfOk-at_ok _ c.in_ok-party.was c.join-got.ensures.first)
+    (IfOk-at_ok _ c.in_ok-sent.was c.join-got.ensures.second) c.absorb.ensures in
+    subst (λ z. Delivers (contents c.args.lists.now) (c.in_ok-party.received.items ++ map value_of z))
     (sym (c.into_iter-letter-iterator.ensures.into_iter_gives ∙ (c.close-letter-items.ensures.elements ∙ map-id (held (plain c.absorb.new.party.seen)))))
     all.2
 

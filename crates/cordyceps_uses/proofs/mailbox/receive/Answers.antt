@@ -11,6 +11,5 @@ loop-turn-init c =
 
 pub loop-turn-preserved : goal.loop-turn-preserved
 loop-turn-preserved c =
-    let w = c.try_dequeue.new.party in
-    subst (λ z. Moves value_of [] z c.args.party w) (sym c.in_ok-note.ensures)
-    (then_dequeues value_of c.try_dequeue.result w c.loop-turn.invariant c.try_dequeue.ensures.answer)
+    subst (λ z. Moves value_of [] z c.args.party c.try_dequeue.new.party) (sym c.in_ok-note.ensures)
+    (then_dequeues value_of c.try_dequeue.result c.try_dequeue.new.party c.loop-turn.invariant c.try_dequeue.ensures.answer)

@@ -1,6 +1,6 @@
 use Rattle.std.proofs.Common.{◌*◌, ◌++◌, ap, ◌∙◌, subst}
 use Rattle.cordyceps_base.specs.Element.{Element}
-use Rattle.cordyceps_shared.specs.Standings.{new_party, keeping, giving}
+use Rattle.cordyceps_shared.specs.Standings.{keeping, giving}
 use Rattle.cordyceps_stack.specs.Shared.Calls.{PartyOf}
 use Rattle.freelist.specs.Users.{closing}
 use Rattle.freelist.proofs.Meetings.{both, both_whole}

@@ -1,4 +1,4 @@
-use Rattle.std.proofs.Common.{◌≡◌, ◌≤◌, ◌++◌, ◌∷◌, [], List, map, suc, length, ap, sym, ◌∙◌, subst, append_assoc, append-nil, arith}
+use Rattle.std.proofs.Common.{◌≤◌, ◌++◌, ◌∷◌, [], List, map, suc, length, ap, sym, ◌∙◌, subst, append_assoc, append-nil, arith}
 use Rattle.cordyceps_base.specs.Element.{Element}
 use Rattle.cordyceps_shared.proofs.Moving.{moves_none}
 use Rattle.cordyceps_stack.specs.Shared.Moves.{put_by, got_by, Moves}

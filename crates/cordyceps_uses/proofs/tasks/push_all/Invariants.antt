@@ -1,6 +1,5 @@
 use Rattle.std.proofs.Common.{◌≡◌, ◌≤◌, ◌++◌, length}
 use Rattle.cordyceps_shared.specs.Histories.{plain}
-use Rattle.cordyceps_shared.specs.Shares.{whole}
 use Rattle.cordyceps_stack.specs.History.{held}
 use Rattle.cordyceps_uses.proofs.tasks.push_all.Given as goal
 
