@@ -1,72 +1,95 @@
 //! Cursors: moves, what they see, and what they change.
-use crate::compared::same;
-use crate::items::{after, back, before, comes_out, forth, holds, list_of, shows, shows_mut};
+use crate::compared::{at_most, same};
+use crate::items::{
+    Sight, after, back, before, comes_out, forth, holds, list_of, push_back, reads, shows,
+    shows_mut, splice_after, splice_before,
+};
 use cordyceps_list::cursor::Cursor;
 use cordyceps_list::cursor_mut::CursorMut;
 use cordyceps_list::list::List;
-use cordyceps_testing::items::{Item, plain, value};
+use cordyceps_testing::items::{Item, value};
 use std::alloc::{AllocError, Global};
 use std::process::Abort;
 use std::test::Fail;
 
-/// What a cursor sees: the current value, the next, the one before, and the index.
-type Sight = (Option<u64>, Option<u64>, Option<u64>, Option<usize>);
+/// How often a cursor moves.
+#[derive(Clone, Copy)]
+enum Moves {
+    Forth(usize),
+    Back(usize),
+}
 
-fn sight(cursor: &CursorMut<'_, Item>) -> Sight {
-    (
-        value(cursor.current()),
-        value(cursor.peek_next()),
-        value(cursor.peek_prev()),
-        cursor.index(),
-    )
+/// Moves a cursor so.
+fn go(cursor: &mut CursorMut<'_, Item>, moves: Moves) {
+    match moves {
+        Moves::Forth(moves) => forth(cursor, moves),
+        Moves::Back(moves) => back(cursor, moves),
+    }
 }
 
 /// Asserts what both kinds of cursor see at one place.
-fn sees(rt: &impl Abort, cursor: &CursorMut<'_, Item>, want: Sight) {
-    same(rt, sight(cursor), want);
-    let reader = cursor.as_cursor();
-    shows(rt, reader.current(), want.0);
-    shows(rt, reader.peek_next(), want.1);
-    shows(rt, reader.peek_prev(), want.2);
-    same(rt, reader.index(), want.3);
+fn sees(rt: &impl Abort, cursor: &CursorMut<'_, Item>, wanted: Sight) {
+    let (current, next, prev, index) = wanted;
+    shows(rt, cursor.current(), current);
+    shows(rt, cursor.peek_next(), next);
+    shows(rt, cursor.peek_prev(), prev);
+    same(rt, cursor.index(), index);
+    reads(rt, &cursor.as_cursor(), wanted);
+}
+
+/// Moves a cursor, and asserts what it sees after each of these.
+fn goes(rt: &impl Abort, cursor: &mut CursorMut<'_, Item>, way: &[(Moves, Sight)]) {
+    for (moves, sight) in way {
+        go(cursor, *moves);
+        sees(rt, cursor, *sight);
+    }
 }
 
 #[test]
 fn moves_from_the_front(rt: HostRuntime) -> Result<(), Fail> {
     let mut list = list_of(&rt, rt.alloc(), &[1, 2, 3, 4, 5, 6])?;
-    let mut cursor = list.cursor_front_mut();
-    sees(&rt, &cursor, (Some(1), Some(2), None, Some(0)));
-    cursor.move_prev();
-    sees(&rt, &cursor, (None, Some(1), Some(6), None));
-    cursor.move_next();
-    cursor.move_next();
-    sees(&rt, &cursor, (Some(2), Some(3), Some(1), Some(1)));
+    goes(
+        &rt,
+        &mut list.cursor_front_mut(),
+        &[
+            (Moves::Forth(0), (Some(1), Some(2), None, Some(0))),
+            (Moves::Back(1), (None, Some(1), Some(6), None)),
+            (Moves::Forth(2), (Some(2), Some(3), Some(1), Some(1))),
+        ],
+    );
     Ok(())
 }
 
 #[test]
 fn moves_from_the_back(rt: HostRuntime) -> Result<(), Fail> {
     let mut list = list_of(&rt, rt.alloc(), &[1, 2, 3, 4, 5, 6])?;
-    let mut cursor = list.cursor_back_mut();
-    sees(&rt, &cursor, (Some(6), None, Some(5), Some(5)));
-    cursor.move_next();
-    sees(&rt, &cursor, (None, Some(1), Some(6), None));
-    cursor.move_prev();
-    cursor.move_prev();
-    sees(&rt, &cursor, (Some(5), Some(6), Some(4), Some(4)));
+    goes(
+        &rt,
+        &mut list.cursor_back_mut(),
+        &[
+            (Moves::Back(0), (Some(6), None, Some(5), Some(5))),
+            (Moves::Forth(1), (None, Some(1), Some(6), None)),
+            (Moves::Back(2), (Some(5), Some(6), Some(4), Some(4))),
+        ],
+    );
     Ok(())
+}
+
+/// Goes over the front to the last item, and splits the list before that.
+fn splits_over_the_front(rt: &impl Abort, list: &mut List<Item>) -> List<Item> {
+    let mut cursor = list.cursor_front_mut();
+    let last = (Some(6), None, Some(5), Some(5));
+    goes(rt, &mut cursor, &[(Moves::Back(2), last)]);
+    let front = cursor.split_before();
+    same(rt, cursor.index(), Some(0));
+    front
 }
 
 #[test]
 fn moves_back_over_the_front(rt: HostRuntime) -> Result<(), Fail> {
     let mut list = list_of(&rt, rt.alloc(), &[1, 2, 3, 4, 5, 6])?;
-    let mut cursor = list.cursor_front_mut();
-    back(&mut cursor, 2);
-    same(&rt, sight(&cursor), (Some(6), None, Some(5), Some(5)));
-    let front = cursor.split_before();
+    let front = splits_over_the_front(&rt, &mut list);
     holds(&rt, &front, &[1, 2, 3, 4, 5]);
-    same(&rt, cursor.index(), Some(0));
-    drop(cursor);
     holds(&rt, &list, &[6]);
     Ok(())
 }
@@ -99,14 +122,17 @@ fn inserts_over_the_ends(
 /// Removes 7, 9 and 10 again.
 fn removes_around_the_ends(rt: &impl Abort, list: &mut List<Item>) {
     let mut cursor = list.cursor_front_mut();
-    cursor.move_prev();
-    comes_out(rt, cursor.remove_current(), None);
-    forth(&mut cursor, 2);
-    comes_out(rt, cursor.remove_current(), Some(7));
-    back(&mut cursor, 3);
-    comes_out(rt, cursor.remove_current(), Some(9));
-    cursor.move_next();
-    comes_out(rt, cursor.remove_current(), Some(10));
+    for (moves, wanted) in [
+        (Moves::Back(1), None),
+        (Moves::Forth(2), Some(7)),
+        (Moves::Back(3), Some(9)),
+        (Moves::Forth(1), Some(10)),
+    ]
+    .as_slice()
+    {
+        go(&mut cursor, *moves);
+        comes_out(rt, cursor.remove_current(), *wanted);
+    }
 }
 
 #[test]
@@ -124,10 +150,8 @@ fn inserts_around_the_ends(rt: HostRuntime) -> Result<(), Fail> {
 /// Splices two lists in around the front.
 fn splices_around(rt: &impl Abort, list: &mut List<Item>, behind: List<Item>, ahead: List<Item>) {
     let mut cursor = list.cursor_front_mut();
-    assert!(rt; cursor.len() <= 6 && behind.len() <= 4);
-    cursor.splice_after(behind);
-    assert!(rt; cursor.len() <= 10 && ahead.len() <= 4);
-    cursor.splice_before(ahead);
+    splice_after(rt, &mut cursor, behind);
+    splice_before(rt, &mut cursor, ahead);
     same(rt, cursor.index(), Some(4));
 }
 
@@ -212,17 +236,21 @@ fn removes_three(rt: &impl Abort, cursor: &mut CursorMut<'_, Item>) {
     same(rt, cursor.index(), None);
 }
 
-#[test]
-fn changes_values_where_it_is(rt: HostRuntime) -> Result<(), Fail> {
-    let mut list = list_of(&rt, rt.alloc(), &[1, 2, 3])?;
+/// Writes 21 and 12 in place of 1 and 2, and removes the item 3.
+fn changes(rt: &impl Abort, list: &mut List<Item>) {
     let mut cursor = list.cursor_front_mut();
     writes(cursor.current_mut(), 11);
     writes(cursor.peek_next_mut(), 12);
-    shows_mut(&rt, cursor.peek_prev_mut(), None);
-    shows_mut(&rt, cursor.next(), Some(11));
+    shows_mut(rt, cursor.peek_prev_mut(), None);
+    shows_mut(rt, cursor.next(), Some(11));
     writes(cursor.peek_prev_mut(), 21);
-    removes_three(&rt, &mut cursor);
-    drop(cursor);
+    removes_three(rt, &mut cursor);
+}
+
+#[test]
+fn changes_values_where_it_is(rt: HostRuntime) -> Result<(), Fail> {
+    let mut list = list_of(&rt, rt.alloc(), &[1, 2, 3])?;
+    changes(&rt, &mut list);
     holds(&rt, &list, &[21, 12]);
     Ok(())
 }
@@ -232,19 +260,24 @@ fn reads_at(rt: &impl Abort, cursor: &Cursor<'_, Item>, index: Option<usize>) {
     same(rt, cursor.index(), index);
 }
 
+/// Reads on from the back of the items 1 to 3, over the ends to the front.
+fn reads_on(rt: &impl Abort, list: &List<Item>) {
+    let mut cursor = list.cursor_back();
+    reads_at(rt, &cursor, Some(2));
+    cursor.move_prev();
+    same(rt, (cursor.len(), cursor.is_empty()), (3, false));
+    for wanted in [Some(2u64), Some(3), None].as_slice() {
+        shows(rt, cursor.next(), *wanted);
+    }
+    reads_at(rt, &cursor, None);
+    cursor.move_next();
+    shows(rt, cursor.current(), Some(1));
+}
+
 #[test]
 fn reads_on_from_its_place(rt: HostRuntime) -> Result<(), Fail> {
     let list = list_of(&rt, rt.alloc(), &[1, 2, 3])?;
-    let mut cursor = list.cursor_back();
-    reads_at(&rt, &cursor, Some(2));
-    cursor.move_prev();
-    same(&rt, (cursor.len(), cursor.is_empty()), (3, false));
-    shows(&rt, cursor.next(), Some(2));
-    shows(&rt, cursor.next(), Some(3));
-    shows(&rt, cursor.next(), None);
-    reads_at(&rt, &cursor, None);
-    cursor.move_next();
-    shows(&rt, cursor.current(), Some(1));
+    reads_on(&rt, &list);
     reads_at(&rt, &list.cursor_front(), Some(0));
     Ok(())
 }
@@ -280,7 +313,7 @@ fn turns_over(rt: &impl Abort, cursor: &mut CursorMut<'_, Item>) {
         let removed = cursor.remove_current();
         cursor.move_prev();
         if let Some(node) = removed {
-            assert!(rt; cursor.len() < usize::MAX);
+            at_most(rt, cursor.len(), 1_000_000);
             cursor.insert_before(node);
         }
     }
@@ -289,8 +322,7 @@ fn turns_over(rt: &impl Abort, cursor: &mut CursorMut<'_, Item>) {
 /// Puts the items below `MANY` into the list.
 fn put_many(rt: &impl Abort, alloc: Global, list: &mut List<Item>) -> Result<(), AllocError> {
     for v in 0..MANY {
-        assert!(rt; list.len() < usize::MAX);
-        list.push_back(plain(alloc, v)?);
+        push_back(rt, alloc, list, v)?;
     }
     Ok(())
 }
@@ -299,10 +331,10 @@ fn put_many(rt: &impl Abort, alloc: Global, list: &mut List<Item>) -> Result<(),
 fn takes_from_both_ends(rt: &impl Abort, list: &mut List<Item>) {
     let mut left = list.iter_mut();
     for _ in 0..MANY / 2 {
-        assert!(rt; left.next().is_some());
-        assert!(rt; left.next_back().is_some());
+        same(rt, left.next().is_some(), true);
+        same(rt, left.next_back().is_some(), true);
     }
-    assert!(rt; left.next().is_none());
+    same(rt, left.next().is_some(), false);
 }
 
 #[test]

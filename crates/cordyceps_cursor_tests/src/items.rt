@@ -1,6 +1,7 @@
 //! Lists of items whose number and value are the same, and moves of cursors.
 
-use crate::compared::same;
+use crate::compared::{at_most, same};
+use cordyceps_list::cursor::Cursor;
 use cordyceps_list::cursor_mut::CursorMut;
 use cordyceps_list::list::List;
 use cordyceps_testing::items::{Handle, Item, plain, value};
@@ -31,24 +32,24 @@ pub fn comes_out(rt: &impl Abort, node: Option<Handle>, wanted: Option<u64>) {
     same(rt, number(node), wanted);
 }
 
-/// Puts the items behind those of the list.
-pub fn fill(
+/// Puts the item `v` behind those of the list.
+pub fn push_back(
     rt: &impl Abort,
     alloc: Global,
     list: &mut List<Item>,
-    items: &[u64],
+    v: u64,
 ) -> Result<(), AllocError> {
-    for v in items {
-        assert!(rt; list.len() < usize::MAX);
-        list.push_back(plain(alloc, *v)?);
-    }
+    at_most(rt, list.len(), 1_000_000);
+    list.push_back(plain(alloc, v)?);
     Ok(())
 }
 
 /// A list of the items.
 pub fn list_of(rt: &impl Abort, alloc: Global, items: &[u64]) -> Result<List<Item>, AllocError> {
     let mut list = List::new();
-    fill(rt, alloc, &mut list, items)?;
+    for v in items {
+        push_back(rt, alloc, &mut list, *v)?;
+    }
     Ok(list)
 }
 
@@ -59,7 +60,19 @@ pub fn holds(rt: &impl Abort, list: &List<Item>, items: &[u64]) {
     for item in list.iter() {
         same(rt, Some(item.value), left.next().copied());
     }
-    assert!(rt; left.next().is_none());
+    same(rt, left.next().is_none(), true);
+}
+
+/// What a cursor sees: the current value, the next, the one before, and the index.
+pub type Sight = (Option<u64>, Option<u64>, Option<u64>, Option<usize>);
+
+/// Asserts what a reader sees.
+pub fn reads(rt: &impl Abort, reader: &Cursor<'_, Item>, wanted: Sight) {
+    let (current, next, prev, index) = wanted;
+    shows(rt, reader.current(), current);
+    shows(rt, reader.peek_next(), next);
+    shows(rt, reader.peek_prev(), prev);
+    same(rt, reader.index(), index);
 }
 
 /// Puts the item `v` in before the cursor.
@@ -69,7 +82,7 @@ pub fn before(
     cursor: &mut CursorMut<'_, Item>,
     v: u64,
 ) -> Result<(), AllocError> {
-    assert!(rt; cursor.len() < usize::MAX);
+    at_most(rt, cursor.len(), 1_000_000);
     cursor.insert_before(plain(alloc, v)?);
     Ok(())
 }
@@ -81,9 +94,23 @@ pub fn after(
     cursor: &mut CursorMut<'_, Item>,
     v: u64,
 ) -> Result<(), AllocError> {
-    assert!(rt; cursor.len() < usize::MAX);
+    at_most(rt, cursor.len(), 1_000_000);
     cursor.insert_after(plain(alloc, v)?);
     Ok(())
+}
+
+/// Splices a list in before the cursor.
+pub fn splice_before(rt: &impl Abort, cursor: &mut CursorMut<'_, Item>, more: List<Item>) {
+    at_most(rt, cursor.len(), 1_000_000);
+    at_most(rt, more.len(), 1_000_000);
+    cursor.splice_before(more);
+}
+
+/// Splices a list in behind the cursor.
+pub fn splice_after(rt: &impl Abort, cursor: &mut CursorMut<'_, Item>, more: List<Item>) {
+    at_most(rt, cursor.len(), 1_000_000);
+    at_most(rt, more.len(), 1_000_000);
+    cursor.splice_after(more);
 }
 
 /// Moves a cursor forth so often.

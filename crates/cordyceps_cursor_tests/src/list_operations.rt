@@ -1,10 +1,9 @@
 //! Runs of many operations on a list, beside a queue that should hold the same.
-ghost use Rattle.std.specs.Prelude.{◌<◌};
-
-use crate::compared::same;
-use crate::items::{after, back, before, comes_out, forth, shows};
+use crate::compared::{at_most, same};
+use crate::items::{after, back, before, comes_out, forth, push_back, shows};
 use cordyceps_list::cursor_mut::CursorMut;
 use cordyceps_list::list::List;
+use cordyceps_testing::draws::Draws;
 use cordyceps_testing::items::{Item, plain};
 use cordyceps_testing::nodes::number;
 use std::alloc::{AllocError, Global};
@@ -14,32 +13,6 @@ use std::test::Fail;
 
 /// The items' numbers are below this, so that a list mostly has some of them twice and lacks others.
 const NUMBERS: u64 = 24;
-
-/// Numbers drawn one after the other, always the same from the same start.
-#[derive(Drop)]
-struct Draws {
-    state: u64,
-}
-
-impl Draws {
-    /// A number below the bound.
-    fn below(&mut self, bound: u64) -> u64
-        requires { 0 < bound }
-        ensures { result < bound }
-    {
-        self.state = self
-            .state
-            .wrapping_mul(6364136223846793005)
-            .wrapping_add(1442695040888963407);
-        (self.state >> 33) % bound
-    }
-
-    /// A place from 0 to the length.
-    fn place(&mut self, rt: &impl Abort, len: usize) -> usize {
-        assert!(rt; len < 1_000_000);
-        self.below(len as u64 + 1) as usize
-    }
-}
 
 /// Asserts that the list holds what the queue does, from both ends.
 fn agree(rt: &impl Abort, list: &List<Item>, queue: &VecDeque<u64>) {
@@ -57,7 +30,7 @@ fn agree_forth(rt: &impl Abort, list: &List<Item>, queue: &VecDeque<u64>) {
     for item in list.iter() {
         same(rt, Some(item.value), wanted.next().copied());
     }
-    assert!(rt; wanted.next().is_none());
+    same(rt, wanted.next().is_none(), true);
 }
 
 /// Asserts that the list holds what the queue does, from the back.
@@ -66,7 +39,7 @@ fn agree_back(rt: &impl Abort, list: &List<Item>, queue: &VecDeque<u64>) {
     for item in list.iter().rev() {
         same(rt, Some(item.value), wanted.next_back().copied());
     }
-    assert!(rt; wanted.next().is_none());
+    same(rt, wanted.next().is_none(), true);
 }
 
 /// A list, and a queue that should hold the same.
@@ -85,15 +58,14 @@ impl Both {
     }
 
     fn push_front(&mut self, rt: &impl Abort, alloc: Global, v: u64) -> Result<(), AllocError> {
-        assert!(rt; self.list.len() < usize::MAX);
+        at_most(rt, self.list.len(), 1_000_000);
         self.list.push_front(plain(alloc, v)?);
         self.queue.push_front(v)?;
         Ok(())
     }
 
     fn push_back(&mut self, rt: &impl Abort, alloc: Global, v: u64) -> Result<(), AllocError> {
-        assert!(rt; self.list.len() < usize::MAX);
-        self.list.push_back(plain(alloc, v)?);
+        push_back(rt, alloc, &mut self.list, v)?;
         self.queue.push_back(v)?;
         Ok(())
     }
@@ -110,7 +82,8 @@ impl Both {
 
     /// Puts what the other two hold behind what these hold.
     fn join(&mut self, rt: &impl Abort, more: &mut Both) -> Result<(), AllocError> {
-        assert!(rt; self.list.len() < 1_000_000 && more.list.len() < 1_000_000);
+        at_most(rt, self.list.len(), 1_000_000);
+        at_most(rt, more.list.len(), 1_000_000);
         self.list.append(&mut more.list);
         self.queue.append(&mut more.queue)?;
         Ok(())
@@ -139,7 +112,8 @@ impl Both {
 
     /// What stands from a place on, split off.
     fn split_off(&mut self, rt: &impl Abort, at: usize) -> Result<Both, AllocError> {
-        assert!(rt; at <= self.list.len() && at <= self.queue.len());
+        at_most(rt, at, self.list.len());
+        at_most(rt, at, self.queue.len());
         let queue = self.queue.split_off(at)?;
         let list = self.list.split_off(at);
         Ok(Both { list, queue })
@@ -147,7 +121,8 @@ impl Both {
 
     /// Splits at a drawn place, and keeps one of the parts, or both the other way round.
     fn split(&mut self, rt: &impl Abort, draws: &mut Draws) -> Result<(), AllocError> {
-        let at = draws.place(rt, self.list.len());
+        at_most(rt, self.list.len(), 1_000_000);
+        let at = draws.place(self.list.len());
         let mut rest = self.split_off(rt, at)?;
         self.agree(rt);
         rest.agree(rt);
@@ -179,7 +154,8 @@ impl Both {
         alloc: Global,
         draws: &mut Draws,
     ) -> Result<(), AllocError> {
-        let at = draws.place(rt, self.queue.len());
+        at_most(rt, self.queue.len(), 1_000_000);
+        let at = draws.place(self.queue.len());
         let v = draws.below(NUMBERS);
         let kind = draws.below(3);
         let mut cursor = moved(rt, &mut self.list, at, draws);
@@ -202,7 +178,8 @@ fn moved<'a>(
     draws: &mut Draws,
 ) -> CursorMut<'a, Item> {
     let len = list.len();
-    assert!(rt; at <= len && len < 1_000_000);
+    at_most(rt, at, len);
+    at_most(rt, len, 1_000_000);
     match draws.below(3) {
         0 => {
             let mut cursor = list.cursor_front_mut();
@@ -225,7 +202,8 @@ fn moved<'a>(
 /// Asserts what a cursor at a place sees.
 fn sees(rt: &impl Abort, cursor: &CursorMut<'_, Item>, queue: &VecDeque<u64>, at: usize) {
     same(rt, cursor.len(), queue.len());
-    assert!(rt; at <= queue.len() && at < 1_000_000);
+    at_most(rt, at, queue.len());
+    at_most(rt, at, 1_000_000);
     let (index, next) = if at < queue.len() {
         (Some(at), at + 1)
     } else {
@@ -247,7 +225,8 @@ fn insert_before(
     at: usize,
     v: u64,
 ) -> Result<usize, AllocError> {
-    assert!(rt; at <= queue.len() && queue.len() < 1_000_000);
+    at_most(rt, at, queue.len());
+    at_most(rt, queue.len(), 1_000_000);
     before(rt, alloc, cursor, v)?;
     queue.insert(at, v)?;
     Ok(at + 1)
@@ -262,7 +241,8 @@ fn insert_after(
     at: usize,
     v: u64,
 ) -> Result<usize, AllocError> {
-    assert!(rt; at <= queue.len() && queue.len() < 1_000_000);
+    at_most(rt, at, queue.len());
+    at_most(rt, queue.len(), 1_000_000);
     after(rt, alloc, cursor, v)?;
     if at < queue.len() {
         queue.insert(at + 1, v)?;
@@ -323,7 +303,7 @@ fn operate_on(
 #[test]
 fn many_operations_do_what_they_do_to_a_queue(rt: HostRuntime) -> Result<(), Fail> {
     for start in 0..5u64 {
-        let mut draws = Draws { state: start };
+        let mut draws = Draws::new(start);
         let mut both = Both::empty(rt.alloc());
         operate_on(&rt, rt.alloc(), &mut both, &mut draws)?;
     }

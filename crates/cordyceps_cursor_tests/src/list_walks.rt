@@ -1,10 +1,12 @@
 //! Walks over lists by iterators and cursors, and lists that are split and spliced.
-use crate::compared::same;
-use crate::items::{after, back, before, comes_out, forth, holds, list_of, shows, shows_mut};
-use cordyceps_list::cursor::Cursor;
+use crate::compared::{at_most, same};
+use crate::items::{
+    after, back, before, comes_out, forth, holds, list_of, push_back, reads, shows, shows_mut,
+    splice_after, splice_before,
+};
 use cordyceps_list::cursor_mut::CursorMut;
 use cordyceps_list::list::List;
-use cordyceps_testing::items::{Item, plain, value};
+use cordyceps_testing::items::{Item, plain};
 use std::alloc::{AllocError, Global};
 use std::process::Abort;
 use std::test::Fail;
@@ -27,23 +29,6 @@ fn ends(rt: &impl Abort, list: &List<Item>, first: Option<u64>, last: Option<u64
     shows(rt, list.back(), last);
 }
 
-/// What a cursor sees: the current value, the next, the one before, and the index.
-type Sight = (Option<u64>, Option<u64>, Option<u64>, Option<usize>);
-
-fn sight(cursor: &Cursor<'_, Item>) -> Sight {
-    (
-        value(cursor.current()),
-        value(cursor.peek_next()),
-        value(cursor.peek_prev()),
-        cursor.index(),
-    )
-}
-
-/// Asserts what a reader sees.
-fn sees(rt: &impl Abort, reader: &Cursor<'_, Item>, wanted: Sight) {
-    same(rt, sight(reader), wanted);
-}
-
 /// Asserts where a cursor is.
 fn is_at(rt: &impl Abort, cursor: &CursorMut<'_, Item>, value: u64, index: usize) {
     shows(rt, cursor.current(), Some(value));
@@ -57,7 +42,7 @@ fn pushes_front(
     list: &mut List<Item>,
     v: u64,
 ) -> Result<(), AllocError> {
-    assert!(rt; list.len() < usize::MAX);
+    at_most(rt, list.len(), 0);
     list.push_front(plain(alloc, v)?);
     ends(rt, list, Some(v), Some(v));
     Ok(())
@@ -70,15 +55,14 @@ fn pushes_back(
     list: &mut List<Item>,
     v: u64,
 ) -> Result<(), AllocError> {
-    assert!(rt; list.len() < usize::MAX);
-    list.push_back(plain(alloc, v)?);
+    push_back(rt, alloc, list, v)?;
     ends(rt, list, Some(v), Some(v));
     Ok(())
 }
 
 /// Asserts that a list is empty.
 fn is_over(rt: &impl Abort, list: &List<Item>) {
-    assert!(rt; list.is_empty());
+    same(rt, list.is_empty(), true);
     ends(rt, list, None, None);
 }
 
@@ -139,8 +123,8 @@ fn meet(rt: &impl Abort, list: &List<Item>, met: u64) {
         shows(rt, left.next_back(), Some(v.wrapping_add(1)));
     }
     for _ in 0..2u8 {
-        assert!(rt; left.next().is_none(), "met at {met}");
-        assert!(rt; left.next_back().is_none(), "met at {met}");
+        same(rt, (met, left.next().is_none()), (met, true));
+        same(rt, (met, left.next_back().is_none()), (met, true));
     }
 }
 
@@ -154,8 +138,8 @@ fn meet_to_write(rt: &impl Abort, list: &mut List<Item>, met: u64) {
         shows_mut(rt, left.next(), Some(v.wrapping_add(1)));
     }
     for _ in 0..2u8 {
-        assert!(rt; left.next_back().is_none(), "met at {met}");
-        assert!(rt; left.next().is_none(), "met at {met}");
+        same(rt, (met, left.next_back().is_none()), (met, true));
+        same(rt, (met, left.next().is_none()), (met, true));
     }
 }
 
@@ -218,7 +202,7 @@ fn walks_by_reader(rt: &impl Abort, list: &List<Item>) {
     for item in list.cursor_front() {
         same(rt, Some(item.value), wanted.next().copied());
     }
-    assert!(rt; wanted.next().is_none());
+    same(rt, wanted.next().is_none(), true);
 }
 
 #[test]
@@ -238,17 +222,17 @@ fn a_reader_goes_on_while_its_cursor_stays(rt: HostRuntime) -> Result<(), Fail> 
     cursor.move_prev();
     forth(&mut cursor, 2);
     let mut reader = cursor.as_cursor();
-    sees(&rt, &reader, (Some(2), Some(3), Some(1), Some(1)));
+    reads(&rt, &reader, (Some(2), Some(3), Some(1), Some(1)));
     reader.move_next();
-    sees(&rt, &reader, (Some(3), Some(4), Some(2), Some(2)));
+    reads(&rt, &reader, (Some(3), Some(4), Some(2), Some(2)));
     is_at(&rt, &cursor, 2, 1);
     for _ in 0..4u8 {
         reader.move_next();
     }
-    sees(&rt, &reader, (None, Some(1), Some(6), None));
+    reads(&rt, &reader, (None, Some(1), Some(6), None));
     reader.move_next();
-    sees(&rt, &reader, (Some(1), Some(2), None, Some(0)));
-    sees(
+    reads(&rt, &reader, (Some(1), Some(2), None, Some(0)));
+    reads(
         &rt,
         &cursor.as_cursor(),
         (Some(2), Some(3), Some(1), Some(1)),
@@ -263,17 +247,17 @@ fn a_reader_goes_back_while_its_cursor_stays(rt: HostRuntime) -> Result<(), Fail
     cursor.move_next();
     back(&mut cursor, 2);
     let mut reader = cursor.as_cursor();
-    sees(&rt, &reader, (Some(5), Some(6), Some(4), Some(4)));
+    reads(&rt, &reader, (Some(5), Some(6), Some(4), Some(4)));
     reader.move_prev();
-    sees(&rt, &reader, (Some(4), Some(5), Some(3), Some(3)));
+    reads(&rt, &reader, (Some(4), Some(5), Some(3), Some(3)));
     is_at(&rt, &cursor, 5, 4);
     for _ in 0..4u8 {
         reader.move_prev();
     }
-    sees(&rt, &reader, (None, Some(1), Some(6), None));
+    reads(&rt, &reader, (None, Some(1), Some(6), None));
     reader.move_prev();
-    sees(&rt, &reader, (Some(6), None, Some(5), Some(5)));
-    sees(
+    reads(&rt, &reader, (Some(6), None, Some(5), Some(5)));
+    reads(
         &rt,
         &cursor.as_cursor(),
         (Some(5), Some(6), Some(4), Some(4)),
@@ -288,7 +272,8 @@ fn gives(rt: &impl Abort, list: &mut List<Item>, items: &[u64]) {
     for v in items {
         comes_out(rt, list.pop_front(), Some(*v));
     }
-    assert!(rt; list.pop_front().is_none() && list.is_empty());
+    comes_out(rt, list.pop_front(), None);
+    same(rt, list.is_empty(), true);
 }
 
 /// Asserts what a list gives from the back, to its front.
@@ -298,14 +283,16 @@ fn gives_back(rt: &impl Abort, list: &mut List<Item>, items: &[u64]) {
     for v in items.iter().rev() {
         comes_out(rt, list.pop_back(), Some(*v));
     }
-    assert!(rt; list.pop_back().is_none() && list.is_empty());
+    comes_out(rt, list.pop_back(), None);
+    same(rt, list.is_empty(), true);
 }
 
 /// Asserts that both parts of a list of the items, split at a place, give theirs from either end.
 fn splits(rt: &impl Abort, alloc: Global, items: &[u64], at: usize) -> Result<(), AllocError> {
     for from_front in [true, false] {
         let mut list = list_of(rt, alloc, items)?;
-        assert!(rt; at <= list.len() && at <= items.len());
+        at_most(rt, at, list.len());
+        at_most(rt, at, items.len());
         let mut rest = list.split_off(at);
         if from_front {
             gives(rt, &mut list, &items[..at]);
@@ -331,18 +318,24 @@ fn both_parts_of_a_split_are_whole(rt: HostRuntime) -> Result<(), Fail> {
     Ok(())
 }
 
+/// Drains what stands from a place on, and puts it back.
+fn drains_from(rt: &impl Abort, list: &mut List<Item>, at: usize) {
+    at_most(rt, at, list.len());
+    let mut rest = list.split_off(at);
+    for node in rest.drain_filter(|_item: &Item| true) {
+        at_most(rt, list.len(), 5);
+        list.push_back(node);
+    }
+    same(rt, (at, rest.is_empty()), (at, true));
+}
+
 #[test]
 fn a_drained_part_comes_back(rt: HostRuntime) -> Result<(), Fail> {
     let all = [1u64, 2, 3, 4, 5];
     let mut list = list_of(&rt, rt.alloc(), &all)?;
     for at in 0..6usize {
-        assert!(rt; list.len() == 5);
-        let mut rest = list.split_off(at);
-        for node in rest.drain_filter(|_item: &Item| true) {
-            assert!(rt; list.len() < usize::MAX);
-            list.push_back(node);
-        }
-        assert!(rt; rest.is_empty(), "at {at}");
+        same(&rt, list.len(), 5);
+        drains_from(&rt, &mut list, at);
         holds(&rt, &list, &all);
     }
     Ok(())
@@ -351,7 +344,8 @@ fn a_drained_part_comes_back(rt: HostRuntime) -> Result<(), Fail> {
 /// Asserts that a cursor of an empty list gives nothing by a split.
 fn has_nothing(rt: &impl Abort, cursor: &mut CursorMut<'_, Item>) {
     same(rt, (cursor.len(), cursor.index()), (0, None));
-    assert!(rt; cursor.split_before().is_empty() && cursor.split_after().is_empty());
+    same(rt, cursor.split_before().is_empty(), true);
+    same(rt, cursor.split_after().is_empty(), true);
 }
 
 /// Takes all items before the place over both ends, and puts 9 into the list.
@@ -397,17 +391,11 @@ fn splits_at_the_null_place(rt: HostRuntime) -> Result<(), Fail> {
     Ok(())
 }
 
-/// Splices a list of at most two items in before a cursor, which stays where it is.
-fn splices_before(rt: &impl Abort, cursor: &mut CursorMut<'_, Item>, more: List<Item>) {
-    assert!(rt; cursor.len() <= 6 && more.len() <= 2);
-    cursor.splice_before(more);
+/// Splices lists in before and behind a cursor at the null place, which stays there.
+fn splices(rt: &impl Abort, cursor: &mut CursorMut<'_, Item>, last: List<Item>, first: List<Item>) {
+    splice_before(rt, cursor, last);
     same(rt, cursor.index(), None);
-}
-
-/// Splices a list of at most two items in behind a cursor, which stays where it is.
-fn splices_after(rt: &impl Abort, cursor: &mut CursorMut<'_, Item>, more: List<Item>) {
-    assert!(rt; cursor.len() <= 6 && more.len() <= 2);
-    cursor.splice_after(more);
+    splice_after(rt, cursor, first);
     same(rt, cursor.index(), None);
 }
 
@@ -419,10 +407,8 @@ fn splices_at_the_null_place(rt: HostRuntime) -> Result<(), Fail> {
     let first = list_of(&rt, alloc, &[5, 6])?;
     let mut cursor = list.cursor_front_mut();
     cursor.move_prev();
-    splices_before(&rt, &mut cursor, last);
-    splices_after(&rt, &mut cursor, first);
-    splices_before(&rt, &mut cursor, List::new());
-    splices_after(&rt, &mut cursor, List::new());
+    splices(&rt, &mut cursor, last, first);
+    splices(&rt, &mut cursor, List::new(), List::new());
     same(&rt, cursor.len(), 6);
     cursor.move_next();
     shows(&rt, cursor.current(), Some(5));
@@ -431,22 +417,25 @@ fn splices_at_the_null_place(rt: HostRuntime) -> Result<(), Fail> {
     Ok(())
 }
 
+/// Takes all of the items 1 to 5 out from the third on, and then those before it.
+fn takes_all_out(rt: &impl Abort, list: &mut List<Item>) {
+    let mut cursor = list.cursor_front_mut();
+    forth(&mut cursor, 2);
+    for wanted in [Some(3u64), Some(4), Some(5), None].as_slice() {
+        comes_out(rt, cursor.remove_current(), *wanted);
+    }
+    same(rt, cursor.index(), None);
+    for wanted in [Some(2u64), Some(1), None].as_slice() {
+        cursor.move_prev();
+        comes_out(rt, cursor.remove_current(), *wanted);
+    }
+    same(rt, cursor.is_empty(), true);
+}
+
 #[test]
 fn takes_all_out_from_where_it_is(rt: HostRuntime) -> Result<(), Fail> {
     let mut list = list_of(&rt, rt.alloc(), &[1, 2, 3, 4, 5])?;
-    let mut cursor = list.cursor_front_mut();
-    cursor.move_next();
-    cursor.move_next();
-    for want in [Some(3u64), Some(4), Some(5), None] {
-        comes_out(&rt, cursor.remove_current(), want);
-    }
-    same(&rt, cursor.index(), None);
-    for want in [Some(2u64), Some(1), None] {
-        cursor.move_prev();
-        comes_out(&rt, cursor.remove_current(), want);
-    }
-    assert!(rt; cursor.is_empty());
-    drop(cursor);
+    takes_all_out(&rt, &mut list);
     ends(&rt, &list, None, None);
     Ok(())
 }
