@@ -2,8 +2,8 @@
 
 use crate::calls::{consumer_of, dequeue, puts};
 use crate::compared::same;
-use crate::flags::await_flag;
-use crate::items::dropped;
+use crate::flags::watched;
+use crate::items::{dropped, number_of};
 use cordyceps_queue::mpsc_queue::{Consumer, MpscQueue};
 use cordyceps_queue_testing::items::{Handle, elements};
 use cordyceps_queue_testing::seats::Seated;
@@ -58,27 +58,26 @@ fn produce_two<R: Threads + Abort + Sync>(
     );
 }
 
-/// Takes by the queue's call that waits, until all came, and sets the flag.
-fn dequeue_all<R: Wait + Abort>(rt: &R, mut seat: Seated<'_>, done: &AtomicBool) {
-    let mut came = 0u64;
-    for _ in 0..TRIES {
-        match dequeue(rt, &mut seat) {
-            Some(_) => came = came.wrapping_add(1),
-            None => thread::yield_now(),
-        }
-        if came == 4000 {
-            break;
-        }
-    }
-    same(rt, came, 4000);
-    done.store(true, Ordering::SeqCst);
+/// Who takes: a party by calls of the queue, or a consumer.
+#[derive(Drop)]
+enum Taker<'q> {
+    Party(Seated<'q>),
+    Consumer(Consumer<'q, Counted>),
 }
 
-/// Takes by a consumer's call that waits, until all came, and sets the flag.
-fn consume_all<R: Wait + Abort>(rt: &R, mut consumer: Consumer<'_, Counted>, done: &AtomicBool) {
+/// The number of what a call gives that waits, or none where nothing was held.
+fn take<R: Wait + Abort>(rt: &R, taker: &mut Taker<'_>) -> Option<u64> {
+    match taker {
+        Taker::Party(seat) => dequeue(rt, seat),
+        Taker::Consumer(consumer) => number_of(rt, consumer.dequeue(rt)),
+    }
+}
+
+/// Takes until all came, and sets the flag.
+fn take_all<R: Wait + Abort>(rt: &R, mut taker: Taker<'_>, done: &AtomicBool) {
     let mut came = 0u64;
     for _ in 0..TRIES {
-        match consumer.dequeue(rt) {
+        match take(rt, &mut taker) {
             Some(_) => came = came.wrapping_add(1),
             None => thread::yield_now(),
         }
@@ -91,40 +90,48 @@ fn consume_all<R: Wait + Abort>(rt: &R, mut consumer: Consumer<'_, Counted>, don
 }
 
 /// Four producers and a thread that takes what they put in, joined once its flag is set.
-fn meet<'q, R: Threads + Wait + Abort + Sync>(
+fn meet<R: Threads + Wait + Abort + Sync>(
     rt: &R,
-    alloc: Global,
-    mut seat: Seated<'q>,
-    as_consumer: bool,
-    drops: &Drops,
-) -> Result<(), AllocError> {
+    taker: Taker<'_>,
+    seats: Pair<Pair<Seated<'_>>>,
+    rows: Pair<Pair<Vec<Handle>>>,
+) {
     let flag = AtomicBool::new(false);
     let done = &flag;
-    let (seats, others) = (two_seats(&mut seat), two_seats(&mut seat));
-    let rows = two_rows(alloc, 0, drops)?;
-    let more = two_rows(alloc, 2000, drops)?;
+    let (seats, others) = seats;
+    let (rows, more) = rows;
     let put = move || produce_two(rt, seats, rows);
     let put_more = move || produce_two(rt, others, more);
     let put_all = move || thread::join(rt, put, put_more);
-    let watch = || await_flag(rt, done);
-    if as_consumer {
-        let consumer = consumer_of(rt, seat);
-        let take = move || consume_all(rt, consumer, done);
-        thread::join(rt, put_all, move || thread::join(rt, take, watch));
+    let take = move || take_all(rt, taker, done);
+    thread::join(rt, put_all, move || watched(rt, done, take));
+}
+
+/// Has four producers and a party, or its consumer, meet at a queue.
+fn round<R: Threads + Wait + Abort + Sync>(
+    rt: &R,
+    alloc: Global,
+    as_consumer: bool,
+) -> Result<(), AllocError> {
+    let drops = Drops::new(alloc)?;
+    let rows = (two_rows(alloc, 0, &drops)?, two_rows(alloc, 2000, &drops)?);
+    let (queue, party) = MpscQueue::new(alloc, 4000)?;
+    let mut seat = Seated::at(&queue, party);
+    let seats = (two_seats(&mut seat), two_seats(&mut seat));
+    let taker = if as_consumer {
+        Taker::Consumer(consumer_of(rt, seat))
     } else {
-        let take = move || dequeue_all(rt, seat, done);
-        thread::join(rt, put_all, move || thread::join(rt, take, watch));
-    }
+        Taker::Party(seat)
+    };
+    meet(rt, taker, seats, rows);
+    dropped(rt, &drops, 4000);
     Ok(())
 }
 
 #[test]
 fn dequeue_goes_on_beside_producers(rt: HostRuntime) -> Result<(), AllocError> {
     for _ in 0..ROUNDS {
-        let drops = Drops::new(rt.alloc())?;
-        let (queue, party) = MpscQueue::new(rt.alloc(), 4000)?;
-        meet(&rt, rt.alloc(), Seated::at(&queue, party), false, &drops)?;
-        dropped(&rt, &drops, 4000);
+        round(&rt, rt.alloc(), false)?;
     }
     Ok(())
 }
@@ -132,10 +139,7 @@ fn dequeue_goes_on_beside_producers(rt: HostRuntime) -> Result<(), AllocError> {
 #[test]
 fn a_consumer_dequeues_beside_producers(rt: HostRuntime) -> Result<(), AllocError> {
     for _ in 0..ROUNDS {
-        let drops = Drops::new(rt.alloc())?;
-        let (queue, party) = MpscQueue::new(rt.alloc(), 4000)?;
-        meet(&rt, rt.alloc(), Seated::at(&queue, party), true, &drops)?;
-        dropped(&rt, &drops, 4000);
+        round(&rt, rt.alloc(), true)?;
     }
     Ok(())
 }

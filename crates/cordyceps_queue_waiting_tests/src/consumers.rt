@@ -2,13 +2,12 @@
 ghost use Rattle.std.specs.Arc.{arc_value};
 ghost use Rattle.std.specs.Prelude.{◌≡◌};
 
-use crate::calls::{consume, puts};
-use crate::compared::same;
-use crate::flags::{Flags, await_flag};
+use crate::compared::{has_room, same};
+use crate::flags::{Flags, await_flag, watched};
 use crate::items::{dropped, number_of};
+use crate::singles::{By, pass_one};
 use cordyceps_queue::mpsc_queue::{MpscQueue, OwnedConsumer, Party, TryDequeueError};
 use cordyceps_queue_testing::items::{Handle, element, elements, found, pair};
-use cordyceps_queue_testing::seats::Seated;
 use cordyceps_testing::counted::{Counted, Drops};
 use std::alloc::{AllocError, Global};
 use std::process::Abort;
@@ -23,32 +22,10 @@ const ROUNDS: u64 = 10;
 /// How often a thread that has the right looks whether another got it.
 const PAUSES: u64 = 1000;
 
-/// Waits for the right, takes the element 1 and then none, and sets the flag.
-fn consume_twice<R: Wait + Abort>(rt: &R, seat: Seated<'_>, done: &AtomicBool) {
-    let mut consumer = consume(rt, seat);
-    same(rt, number_of(rt, consumer.dequeue(rt)), Some(1));
-    same(rt, number_of(rt, consumer.dequeue(rt)), None);
-    done.store(true, Ordering::SeqCst);
-}
-
-/// Does so in a thread of its own, and joins it once its flag is set.
-fn watch_twice<R: Threads + Wait + Abort + Sync>(rt: &R, seat: Seated<'_>) {
-    let flag = AtomicBool::new(false);
-    let done = &flag;
-    let work = move || consume_twice(rt, seat, done);
-    thread::join(rt, work, || await_flag(rt, done));
-}
-
 #[test]
 fn a_consumer_dequeues(rt: HostRuntime) -> Result<(), AllocError> {
     for _ in 0..ROUNDS {
-        let drops = Drops::new(rt.alloc())?;
-        let handle = element(rt.alloc(), 1, &drops)?;
-        let (queue, party) = MpscQueue::new(rt.alloc(), 1)?;
-        let mut seat = Seated::at(&queue, party);
-        puts(&rt, &mut seat, handle);
-        watch_twice(&rt, seat);
-        dropped(&rt, &drops, 1);
+        pass_one(&rt, rt.alloc(), By::Consumer)?;
     }
     Ok(())
 }
@@ -78,7 +55,7 @@ impl Owner {
 
     /// Puts an element into a room that has to be there.
     fn put(&mut self, rt: &impl Abort, handle: Handle) {
-        assert!(rt; self.party.rooms() > 0);
+        has_room(rt, self.party.rooms());
         self.queue.enqueue(&mut self.party, handle);
     }
 
@@ -107,14 +84,13 @@ impl Owner {
 fn watch_consume<R: Threads + Wait + Abort + Sync>(rt: &R, owner: Owner) -> OwnedConsumer<Counted> {
     let flag = AtomicBool::new(false);
     let done = &flag;
-    let work = move || owner.consume(rt, done);
-    thread::join(rt, work, || await_flag(rt, done)).0
+    watched(rt, done, move || owner.consume(rt, done))
 }
 
 /// Takes the elements 1 and 2, and then none, drops the consumer, and sets the flag.
 fn dequeue_both<R: Wait + Abort>(rt: &R, mut owned: OwnedConsumer<Counted>, done: &AtomicBool) {
-    for wanted in [Some(1), Some(2), None] {
-        same(rt, number_of(rt, owned.dequeue(rt)), wanted);
+    for wanted in [Some(1u64), Some(2), None].as_slice() {
+        same(rt, number_of(rt, owned.dequeue(rt)), *wanted);
     }
     drop(owned);
     done.store(true, Ordering::SeqCst);
@@ -124,8 +100,7 @@ fn dequeue_both<R: Wait + Abort>(rt: &R, mut owned: OwnedConsumer<Counted>, done
 fn watch_both<R: Threads + Wait + Abort + Sync>(rt: &R, owned: OwnedConsumer<Counted>) {
     let flag = AtomicBool::new(false);
     let done = &flag;
-    let work = move || dequeue_both(rt, owned, done);
-    thread::join(rt, work, || await_flag(rt, done));
+    watched(rt, done, move || dequeue_both(rt, owned, done));
 }
 
 #[test]

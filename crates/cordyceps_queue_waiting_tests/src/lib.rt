@@ -16,3 +16,5 @@ mod flags;
 mod items;
 #[cfg(test)]
 mod queue_waiting;
+#[cfg(test)]
+mod singles;

@@ -4,6 +4,7 @@ use crate::calls::{consume, consumer_of, consumes, dequeue, puts};
 use crate::compared::same;
 use crate::flags::{Flags, await_flag};
 use crate::items::dropped;
+use crate::singles::{By, pass_one};
 use cordyceps_queue::mpsc_queue::{Consumer, MpscQueue};
 use cordyceps_queue_testing::items::{Handle, element, pair};
 use cordyceps_queue_testing::seats::Seated;
@@ -24,31 +25,10 @@ const PAUSES: u64 = 1000;
 /// How often each test's threads run.
 const ROUNDS: u64 = 10;
 
-/// Takes the element 1 and then none, and sets the flag.
-fn dequeue_twice<R: Wait + Abort>(rt: &R, mut seat: Seated<'_>, done: &AtomicBool) {
-    same(rt, dequeue(rt, &mut seat), Some(1));
-    same(rt, dequeue(rt, &mut seat), None);
-    done.store(true, Ordering::SeqCst);
-}
-
-/// Does so in a thread of its own, and joins it once its flag is set.
-fn watch_twice<R: Threads + Wait + Abort + Sync>(rt: &R, seat: Seated<'_>) {
-    let flag = AtomicBool::new(false);
-    let done = &flag;
-    let work = move || dequeue_twice(rt, seat, done);
-    thread::join(rt, work, || await_flag(rt, done));
-}
-
 #[test]
 fn enqueue_dequeue(rt: HostRuntime) -> Result<(), AllocError> {
     for _ in 0..ROUNDS {
-        let drops = Drops::new(rt.alloc())?;
-        let handle = element(rt.alloc(), 1, &drops)?;
-        let (queue, party) = MpscQueue::new(rt.alloc(), 1)?;
-        let mut seat = Seated::at(&queue, party);
-        puts(&rt, &mut seat, handle);
-        watch_twice(&rt, seat);
-        dropped(&rt, &drops, 1);
+        pass_one(&rt, rt.alloc(), By::Party)?;
     }
     Ok(())
 }
@@ -152,12 +132,27 @@ fn mpmc(rt: HostRuntime) -> Result<(), AllocError> {
     Ok(())
 }
 
-/// Waits for the right, and takes the element 1 by one try.
-fn consume_and_tell<R: Wait + Abort>(rt: &R, seat: Seated<'_>, (here, done): Flags<'_>) {
-    here.store(true, Ordering::SeqCst);
+/// Waits for the right, sets the flag, and takes the element 1 by one try.
+fn consume_one<R: Wait + Abort>(rt: &R, seat: Seated<'_>, done: &AtomicBool) {
     let mut consumer = consume(rt, seat);
     done.store(true, Ordering::SeqCst);
     consumes(rt, &mut consumer, Ok(1));
+}
+
+/// Waits for the element 1, and sets the flag.
+fn dequeue_one<R: Wait + Abort>(rt: &R, mut seat: Seated<'_>, done: &AtomicBool) {
+    let came = dequeue(rt, &mut seat);
+    done.store(true, Ordering::SeqCst);
+    same(rt, came, Some(1));
+}
+
+/// Tells that it is about to wait, and takes the element 1.
+fn take_one<R: Wait + Abort>(rt: &R, seat: Seated<'_>, by: By, (here, done): Flags<'_>) {
+    here.store(true, Ordering::SeqCst);
+    match by {
+        By::Party => dequeue_one(rt, seat, done),
+        By::Consumer => consume_one(rt, seat, done),
+    }
 }
 
 /// Holds the right for a while once another is about to wait, which does not get it then, and gives it back.
@@ -171,68 +166,49 @@ fn hold_right(rt: &impl Abort, consumer: Consumer<'_, Counted>, (here, done): Fl
     await_flag(rt, done);
 }
 
-/// One thread waits for the right, while another holds it for a while.
+/// One thread waits, while another holds the right for a while.
 fn wait_and_hold<R: Threads + Wait + Abort + Sync>(
     rt: &R,
     waiting: Seated<'_>,
+    by: By,
     holding: Consumer<'_, Counted>,
 ) {
     let flags = (AtomicBool::new(false), AtomicBool::new(false));
     let told = (&flags.0, &flags.1);
-    let wait = move || consume_and_tell(rt, waiting, told);
+    let wait = move || take_one(rt, waiting, by, told);
     thread::join(rt, wait, move || hold_right(rt, holding, told));
+}
+
+/// Puts the element 1 in, and has a thread wait for a consumer to give the right back.
+fn wait_for_a_release<R: Threads + Wait + Abort + Sync>(
+    rt: &R,
+    alloc: Global,
+    by: By,
+) -> Result<(), AllocError> {
+    let drops = Drops::new(alloc)?;
+    let handle = element(alloc, 1, &drops)?;
+    let (queue, party) = MpscQueue::new(alloc, 1)?;
+    let mut seat = Seated::at(&queue, party);
+    let first = seat.split(0);
+    let other = seat.split(0);
+    puts(rt, &mut seat, handle);
+    wait_and_hold(rt, other, by, consumer_of(rt, first));
+    dropped(rt, &drops, 1);
+    Ok(())
 }
 
 #[test]
 fn consume_waits_for_a_release(rt: HostRuntime) -> Result<(), AllocError> {
     for _ in 0..ROUNDS {
-        let drops = Drops::new(rt.alloc())?;
-        let handle = element(rt.alloc(), 1, &drops)?;
-        let (queue, party) = MpscQueue::new(rt.alloc(), 1)?;
-        let mut seat = Seated::at(&queue, party);
-        let first = seat.split(0);
-        let other = seat.split(0);
-        puts(&rt, &mut seat, handle);
-        let consumer = consumer_of(&rt, first);
-        wait_and_hold(&rt, other, consumer);
-        dropped(&rt, &drops, 1);
+        wait_for_a_release(&rt, rt.alloc(), By::Consumer)?;
     }
     Ok(())
-}
-
-/// Waits for the element 1.
-fn dequeue_and_tell<R: Wait + Abort>(rt: &R, mut seat: Seated<'_>, (here, done): Flags<'_>) {
-    here.store(true, Ordering::SeqCst);
-    let came = dequeue(rt, &mut seat);
-    done.store(true, Ordering::SeqCst);
-    same(rt, came, Some(1));
-}
-
-/// One thread waits for an element, while another holds the right for a while.
-fn dequeue_and_hold<R: Threads + Wait + Abort + Sync>(
-    rt: &R,
-    waiting: Seated<'_>,
-    holding: Consumer<'_, Counted>,
-) {
-    let flags = (AtomicBool::new(false), AtomicBool::new(false));
-    let told = (&flags.0, &flags.1);
-    let wait = move || dequeue_and_tell(rt, waiting, told);
-    thread::join(rt, wait, move || hold_right(rt, holding, told));
 }
 
 #[test]
 fn dequeue_waits_for_a_release(rt: HostRuntime) -> Result<(), AllocError> {
     for _ in 0..ROUNDS {
-        let drops = Drops::new(rt.alloc())?;
-        let handle = element(rt.alloc(), 1, &drops)?;
-        let (queue, party) = MpscQueue::new(rt.alloc(), 1)?;
-        let mut seat = Seated::at(&queue, party);
-        let first = seat.split(0);
-        let other = seat.split(0);
-        puts(&rt, &mut seat, handle);
-        let consumer = consumer_of(&rt, first);
-        dequeue_and_hold(&rt, other, consumer);
-        dropped(&rt, &drops, 1);
+        wait_for_a_release(&rt, rt.alloc(), By::Party)?;
     }
     Ok(())
 }
