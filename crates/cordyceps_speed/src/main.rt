@@ -11,41 +11,24 @@
 //! pop from it, and the time of a pop that of a push to it. The row of vectors says what the two cost.
 #![tactic(auto)]
 
-mod cost;
-mod edits;
-mod ends;
-mod fault;
-mod free_lists;
-mod nodes;
-mod queues;
-mod sorteds;
-mod splits;
-mod stables;
-mod stacks;
-mod stopwatch;
-mod table;
-mod transfers;
-mod vectors;
-mod walks;
-
-use edits::show_edits;
-use ends::show_ends;
-use fault::Fault;
-use free_lists::show_free_lists;
-use queues::show_queues;
-use sorteds::show_sorteds;
-use splits::show_splits;
-use stables::show_stables;
-use stacks::show_stacks;
+use cordyceps_speed_rows::edits::show_edits;
+use cordyceps_speed_rows::ends::show_ends;
+use cordyceps_speed_rows::fault::Fault;
+use cordyceps_speed_rows::free_lists::show_free_lists;
+use cordyceps_speed_rows::queues::show_queues;
+use cordyceps_speed_rows::sorteds::show_sorteds;
+use cordyceps_speed_rows::splits::show_splits;
+use cordyceps_speed_rows::stables::show_stables;
+use cordyceps_speed_rows::stacks::show_stacks;
+use cordyceps_speed_rows::table::{Shown, Table};
+use cordyceps_speed_rows::transfers::show_transfers;
+use cordyceps_speed_rows::vectors::push;
+use cordyceps_speed_rows::walks::show_walks;
 use std::alloc::Global;
 use std::env;
 use std::io::ErrorKind;
 use std::process::ExitCode;
 use std::time::Clock;
-use table::{Shown, Table};
-use transfers::show_transfers;
-use vectors::push;
-use walks::show_walks;
 
 /// How many rounds are made where no argument says otherwise.
 const ROUNDS: u32 = 10;

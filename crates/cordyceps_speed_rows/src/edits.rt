@@ -1,0 +1,103 @@
+//! Edits of a list, by a cursor and by the filter.
+ghost use Rattle.std.specs.Prelude.{◌≡◌, ◌+◌, ◌<◌, ◌≤◌, [], length, OnOk};
+
+use crate::cost::Cost;
+use crate::ends::{list_of, pop_all_front, push_all_back};
+use crate::fault::Fault;
+use crate::nodes::{ListNode, make_nodes, sum_numbers};
+use crate::stopwatch::Stopwatch;
+use crate::table::Table;
+use crate::vectors::{push, with_room};
+use cordyceps::list::CursorMut;
+use cordyceps::{Item, List};
+use std::alloc::Global;
+use std::time::Clock;
+
+/// Moves a cursor on, so often.
+fn walk_on(cursor: &mut CursorMut<'_, Item>, moves: usize) {
+    for _ in 0..moves {
+        cursor.move_next();
+    }
+}
+
+/// Takes the element at the cursor out and puts it in before it, so often.
+fn edit_on(cursor: &mut CursorMut<'_, Item>, edits: usize) {
+    for _ in 0..edits {
+        let _few = cursor.len();
+        if let Some(node) = cursor.remove_current() {
+            cursor.insert_before(node);
+        }
+    }
+}
+
+/// Measures edits at a cursor: a removal and an insertion for each element of the third quarter.
+fn measure_edits(rt: &impl Clock, list: &mut List<Item>, rounds: u32) -> Result<Cost, Fault> {
+    let mut cost = Cost::none();
+    for _ in 0..rounds {
+        let count = list.len();
+        let mut cursor = list.cursor_front_mut();
+        walk_on(&mut cursor, count / 2);
+        let mut stopwatch = Stopwatch::start(rt)?;
+        edit_on(&mut cursor, count / 4);
+        cost.add(count / 4 * 2, stopwatch.look(rt)?);
+    }
+    Ok(cost)
+}
+
+/// Takes out the elements with an even value.
+fn drain_even(list: &mut List<Item>, even: &mut Vec<ListNode>) -> Result<(), Fault> {
+    for node in list.drain_filter(|item: &Item| item.value % 2 == 0) {
+        push(even, node)?;
+    }
+    Ok(())
+}
+
+/// Measures filters over a whole list, which take about half of it out.
+fn measure_drains(
+    rt: &impl Clock,
+    alloc: Global,
+    nodes: &mut Vec<ListNode>,
+    rounds: u32,
+) -> Result<Cost, Fault> {
+    let mut cost = Cost::none();
+    let mut even = with_room(alloc, nodes.len())?;
+    for _ in 0..rounds {
+        let mut list = List::new();
+        nodes.reverse();
+        push_all_back(&mut list, nodes);
+        let count = list.len();
+        let mut stopwatch = Stopwatch::start(rt)?;
+        drain_even(&mut list, &mut even)?;
+        cost.add(count, stopwatch.look(rt)?);
+        pop_all_front(&mut list, nodes)?;
+        nodes.append(&mut even).map_err(|_| Fault::Memory)?;
+    }
+    Ok(cost)
+}
+
+/// Measures edits, and shows them. Answers the sum of the numbers of what came out last.
+pub fn show_edits<R: Clock + Print>(
+    rt: &R,
+    alloc: Global,
+    table: Table,
+    elements: usize,
+) -> Result<u64, Fault> {
+    let mut list = list_of(make_nodes(alloc, elements)?);
+    let edits = measure_edits(rt, &mut list, table.rounds)?;
+    let mut nodes = make_nodes(alloc, elements)?;
+    let drains = measure_drains(rt, alloc, &mut nodes, table.rounds)?;
+    let rows = [
+        (
+            "List: cursor edit",
+            edits,
+            "remove_current or insert_before",
+        ),
+        (
+            "List: drain_filter",
+            drains,
+            "an element asked, half of them taken",
+        ),
+    ];
+    table.rows(rt, elements, &rows)?;
+    Ok(sum_numbers(nodes.as_slice()))
+}
