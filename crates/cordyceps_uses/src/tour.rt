@@ -1,5 +1,5 @@
 //! A few lines with each collection.
-ghost use Rattle.std.specs.Prelude.{◌≡◌, ◌+◌, ◌<◌, ◌++◌, take, drop, length, option_map, Some, IfOk};
+ghost use Rattle.std.specs.Prelude.{◌≡◌, ◌+◌, ◌<◌, [], ◌∷◌, ◌++◌, take, drop, length, min, option_map, Some, IfOk};
 
 use crate::job::Job;
 use cordyceps::mpsc_queue::Batch;
@@ -9,6 +9,7 @@ use cordyceps::{
 };
 use freelist::FreeList;
 use std::alloc::{AllocError, Global};
+use std::sync::Wait;
 
 /// A job that can be put into a list.
 pub type ListJob = Node<Job, list::Links<Job>>;
@@ -44,7 +45,9 @@ pub fn rotate(jobs: &mut List<Job>)
 }
 
 /// The least rank of two jobs.
-pub fn least_rank(first: StackJob, second: StackJob) -> Option<u32> {
+pub fn least_rank(first: StackJob, second: StackJob) -> Option<u32>
+    ensures { result ≡ Some (min first.value.rank second.value.rank) }
+{
     let mut arrived: Stack<Job> = Stack::new();
     arrived.push(first);
     arrived.push(second);
@@ -54,18 +57,23 @@ pub fn least_rank(first: StackJob, second: StackJob) -> Option<u32> {
 }
 
 /// Hands two jobs over, and takes them at once, the one pushed last first.
-pub fn hand_over(
+pub fn hand_over<R: Wait>(
+    rt: &R,
     alloc: Global,
     first: StackJob,
     second: StackJob,
-) -> Result<Stack<Job>, AllocError> {
+) -> Result<Stack<Job>, AllocError>
+    ensures { IfOk result (λ came. came ≡ second ∷ first ∷ []) }
+{
     // rooms for eight jobs, and a party that has them all
     let (shared, mut taker) = TransferStack::<Job>::new(alloc, 8)?;
     // a party for another thread, which can push four
     let mut pusher = shared.split(&mut taker, 4);
-    // one load and one compare-exchange; `Err` hands the job back: try again
-    let _ = shared.try_push(&mut pusher, first);
-    let _ = shared.try_push(&mut pusher, second);
+    // tries until nobody comes between; `try_push` tries once, and may hand the job back
+    shared.push(rt, &mut pusher, first);
+    shared.push(rt, &mut pusher, second);
+    // the other thread has ended, and what it did is the taker's
+    shared.absorb(&mut taker, pusher);
     Ok(shared.take_all(&mut taker))
 }
 
@@ -74,11 +82,15 @@ pub fn send(
     alloc: Global,
     first: QueueJob,
     second: QueueJob,
-) -> Result<Option<Batch<Job>>, AllocError> {
+) -> Result<Option<Batch<Job>>, AllocError>
+    ensures { IfOk result (λ came. came ≡ Some (first ∷ second ∷ [])) }
+{
     let (queue, mut party) = MpscQueue::<Job>::new(alloc, 8)?;
     let mut sender = queue.split(&mut party, 4);
     queue.enqueue(&mut sender, first);
     queue.enqueue(&mut sender, second);
+    // the sender has ended, and what it did is the party's
+    queue.absorb(&mut party, sender);
     // the right to take jobs out, of one party at a time
     let Ok(mut consumer) = queue.try_consume(party) else {
         return Ok(None);
@@ -91,7 +103,9 @@ pub fn give_back(
     alloc: Global,
     near: StackJob,
     far: StackJob,
-) -> Result<Option<StackJob>, AllocError> {
+) -> Result<Option<StackJob>, AllocError>
+    ensures { IfOk result (λ block. block ≡ Some near) }
+{
     let (blocks, mut party) = FreeList::<Job>::new(alloc, 8)?;
     // another thread's party, and the owner's part
     let mut remote = blocks.split(&mut party, 8);

@@ -55,7 +55,7 @@ fn stacks_and_queues(rt: HostRuntime) -> Result<(), AllocError> {
     let alloc = rt.alloc();
     let least = least_rank(stack_job(alloc, 2)?, stack_job(alloc, 1)?);
     let mut came = Vec::new(alloc);
-    for job in hand_over(alloc, stack_job(alloc, 3)?, stack_job(alloc, 4)?)? {
+    for job in hand_over(&rt, alloc, stack_job(alloc, 3)?, stack_job(alloc, 4)?)? {
         came.push(job.id())?;
     }
     if let Some(batch) = send(alloc, queue_job(alloc, 5)?, queue_job(alloc, 6)?)? {
