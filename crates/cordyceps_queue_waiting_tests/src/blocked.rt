@@ -1,10 +1,12 @@
 //! Calls that wait beside four producers, whose elements are put in before they are linked.
 
-use crate::calls::{consumer_of, dequeue, puts};
+use crate::calls::{consumer_of, dequeue};
 use crate::compared::same;
 use crate::flags::watched;
 use crate::items::{dropped, number_of};
-use cordyceps_queue::mpsc_queue::{Consumer, MpscQueue};
+use crate::made::Made;
+use crate::producers::{Pair, produce_two};
+use cordyceps_queue::mpsc_queue::Consumer;
 use cordyceps_queue_testing::items::{Handle, elements};
 use cordyceps_queue_testing::seats::Seated;
 use cordyceps_testing::counted::{Counted, Drops};
@@ -21,41 +23,21 @@ const TRIES: u64 = 10_000_000;
 /// How often each test's threads run.
 const ROUNDS: u64 = 10;
 
-/// One for each of two producers.
-type Pair<T> = (T, T);
-
-/// What two producers put in: a thousand elements each.
-fn two_rows(alloc: Global, first: u64, drops: &Drops) -> Result<Pair<Vec<Handle>>, AllocError> {
-    let one = elements(alloc, first, 1000, drops)?;
-    let two = elements(alloc, first.wrapping_add(1000), 1000, drops)?;
-    Ok((one, two))
+/// What four producers put in: a thousand elements each, of which the first one's are made.
+fn four_rows(
+    alloc: Global,
+    row: Vec<Handle>,
+    drops: &Drops,
+) -> Result<Pair<Pair<Vec<Handle>>>, AllocError> {
+    let second = elements(alloc, 1000, 1000, drops)?;
+    let third = elements(alloc, 2000, 1000, drops)?;
+    let fourth = elements(alloc, 3000, 1000, drops)?;
+    Ok(((row, second), (third, fourth)))
 }
 
 /// Two parties with a thousand rooms each.
 fn two_seats<'q>(seat: &mut Seated<'q>) -> Pair<Seated<'q>> {
     (seat.split(1000), seat.split(1000))
-}
-
-/// Puts all in.
-fn produce(rt: &impl Abort, mut seat: Seated<'_>, row: Vec<Handle>) {
-    for node in row {
-        puts(rt, &mut seat, node);
-    }
-}
-
-/// Runs two producers.
-fn produce_two<R: Threads + Abort + Sync>(
-    rt: &R,
-    seats: Pair<Seated<'_>>,
-    rows: Pair<Vec<Handle>>,
-) {
-    let (one, two) = seats;
-    let (first, second) = rows;
-    thread::join(
-        rt,
-        move || produce(rt, one, first),
-        move || produce(rt, two, second),
-    );
 }
 
 /// Who takes: a party by calls of the queue, or a consumer.
@@ -113,9 +95,13 @@ fn round<R: Threads + Wait + Abort + Sync>(
     alloc: Global,
     as_consumer: bool,
 ) -> Result<(), AllocError> {
-    let drops = Drops::new(alloc)?;
-    let rows = (two_rows(alloc, 0, &drops)?, two_rows(alloc, 2000, &drops)?);
-    let (queue, party) = MpscQueue::new(alloc, 4000)?;
+    let Made {
+        drops,
+        row,
+        queue,
+        party,
+    } = Made::new(alloc, 4000, 0, 1000)?;
+    let rows = four_rows(alloc, row, &drops)?;
     let mut seat = Seated::at(&queue, party);
     let seats = (two_seats(&mut seat), two_seats(&mut seat));
     let taker = if as_consumer {

@@ -7,7 +7,7 @@ use crate::flags::{Flags, await_flag, watched};
 use crate::items::{dropped, number_of};
 use crate::singles::{By, pass_one};
 use cordyceps_queue::mpsc_queue::{MpscQueue, OwnedConsumer, Party, TryDequeueError};
-use cordyceps_queue_testing::items::{Handle, element, elements, found, pair};
+use cordyceps_queue_testing::items::{Handle, elements, found};
 use cordyceps_testing::counted::{Counted, Drops};
 use std::alloc::{AllocError, Global};
 use std::process::Abort;
@@ -44,6 +44,20 @@ impl Owner {
         let (queue, party) = MpscQueue::new(alloc, 3)?;
         let queue = Arc::new(alloc, queue)?;
         Ok(Owner { queue, party })
+    }
+
+    /// The only owner of a new queue with three rooms, and with so many elements in, of the number 1 and the next ones.
+    fn holding(
+        rt: &impl Abort,
+        alloc: Global,
+        count: u64,
+        drops: &Drops,
+    ) -> Result<Owner, AllocError> {
+        let mut owner = Owner::new(alloc)?;
+        for node in elements(alloc, 1, count, drops)? {
+            owner.put(rt, node);
+        }
+        Ok(owner)
     }
 
     /// Another owner, with no room.
@@ -107,10 +121,7 @@ fn watch_both<R: Threads + Wait + Abort + Sync>(rt: &R, owned: OwnedConsumer<Cou
 fn an_owned_consumer_is_sent_to_a_thread(rt: HostRuntime) -> Result<(), AllocError> {
     for _ in 0..ROUNDS {
         let drops = Drops::new(rt.alloc())?;
-        let (one, two) = pair(rt.alloc(), 1, &drops)?;
-        let mut owner = Owner::new(rt.alloc())?;
-        owner.put(&rt, one);
-        owner.put(&rt, two);
+        let mut owner = Owner::holding(&rt, rt.alloc(), 2, &drops)?;
         let mut other = owner.share()?;
         let owned = watch_consume(&rt, owner);
         other.takes(&rt, Err(TryDequeueError::Busy));
@@ -124,10 +135,7 @@ fn an_owned_consumer_is_sent_to_a_thread(rt: HostRuntime) -> Result<(), AllocErr
 #[test]
 fn the_last_owner_frees_the_queue(rt: HostRuntime) -> Result<(), AllocError> {
     let drops = Drops::new(rt.alloc())?;
-    let mut owner = Owner::new(rt.alloc())?;
-    for node in elements(rt.alloc(), 1, 3, &drops)? {
-        owner.put(&rt, node);
-    }
+    let mut owner = Owner::holding(&rt, rt.alloc(), 3, &drops)?;
     let mut other = owner.share()?;
     let mut owned = owner.consumer(&rt);
     same(&rt, found(owned.try_dequeue()), Ok(1));
@@ -175,9 +183,7 @@ fn wait_and_hold<R: Threads + Wait + Abort + Sync>(
 fn consume_owned_waits_for_a_release(rt: HostRuntime) -> Result<(), AllocError> {
     for _ in 0..ROUNDS {
         let drops = Drops::new(rt.alloc())?;
-        let handle = element(rt.alloc(), 1, &drops)?;
-        let mut owner = Owner::new(rt.alloc())?;
-        owner.put(&rt, handle);
+        let mut owner = Owner::holding(&rt, rt.alloc(), 1, &drops)?;
         let other = owner.share()?;
         let holding = owner.consumer(&rt);
         wait_and_hold(&rt, other, holding);

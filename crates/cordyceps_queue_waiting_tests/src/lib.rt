@@ -15,6 +15,10 @@ mod flags;
 #[cfg(test)]
 mod items;
 #[cfg(test)]
+mod made;
+#[cfg(test)]
+mod producers;
+#[cfg(test)]
 mod queue_waiting;
 #[cfg(test)]
 mod singles;

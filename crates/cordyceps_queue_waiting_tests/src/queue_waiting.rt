@@ -1,14 +1,16 @@
 //! Calls that wait for an element, or for the right to dequeue.
 
-use crate::calls::{consume, consumer_of, consumes, dequeue, puts};
+use crate::calls::{consume, consumer_of, consumes, dequeue};
 use crate::compared::same;
 use crate::flags::{Flags, await_flag};
 use crate::items::dropped;
+use crate::made::Made;
+use crate::producers::{produce_two, puts_all};
 use crate::singles::{By, pass_one};
-use cordyceps_queue::mpsc_queue::{Consumer, MpscQueue};
-use cordyceps_queue_testing::items::{Handle, element, pair};
+use cordyceps_queue::mpsc_queue::Consumer;
+use cordyceps_queue_testing::items::elements;
 use cordyceps_queue_testing::seats::Seated;
-use cordyceps_testing::counted::{Counted, Drops};
+use cordyceps_testing::counted::Counted;
 use std::alloc::{AllocError, Global};
 use std::process::Abort;
 use std::sync::Wait;
@@ -76,28 +78,6 @@ fn drain_both<R: Threads + Wait + Abort + Sync>(
     thread::join(rt, work, watch).0
 }
 
-/// Puts two elements in.
-fn put_two(rt: &impl Abort, mut seat: Seated<'_>, pair: (Handle, Handle)) {
-    let (first, second) = pair;
-    puts(rt, &mut seat, first);
-    puts(rt, &mut seat, second);
-}
-
-/// Two threads put two elements in each.
-fn put_both<R: Threads + Abort + Sync>(
-    rt: &R,
-    seats: (Seated<'_>, Seated<'_>),
-    pairs: ((Handle, Handle), (Handle, Handle)),
-) {
-    let (first, second) = seats;
-    let (tens, twenties) = pairs;
-    thread::join(
-        rt,
-        move || put_two(rt, first, tens),
-        move || put_two(rt, second, twenties),
-    );
-}
-
 /// Compares the numbers of both, the least first, with those that are wanted.
 fn together(
     rt: &impl Abort,
@@ -117,14 +97,17 @@ fn together(
 #[test]
 fn mpmc(rt: HostRuntime) -> Result<(), AllocError> {
     for _ in 0..ROUNDS {
-        let drops = Drops::new(rt.alloc())?;
-        let tens = pair(rt.alloc(), 10, &drops)?;
-        let twenties = pair(rt.alloc(), 20, &drops)?;
-        let (queue, party) = MpscQueue::new(rt.alloc(), 4)?;
+        let Made {
+            drops,
+            row,
+            queue,
+            party,
+        } = Made::new(rt.alloc(), 4, 10, 2)?;
+        let twenties = elements(rt.alloc(), 20, 2, &drops)?;
         let mut seat = Seated::at(&queue, party);
         let producers = (seat.split(2), seat.split(2));
         let other = seat.split(0);
-        put_both(&rt, producers, (tens, twenties));
+        produce_two(&rt, producers, (row, twenties));
         let numbers = drain_both(&rt, rt.alloc(), (seat, other));
         together(&rt, numbers, &[10, 11, 20, 21])?;
         dropped(&rt, &drops, 4);
@@ -185,13 +168,16 @@ fn wait_for_a_release<R: Threads + Wait + Abort + Sync>(
     alloc: Global,
     by: By,
 ) -> Result<(), AllocError> {
-    let drops = Drops::new(alloc)?;
-    let handle = element(alloc, 1, &drops)?;
-    let (queue, party) = MpscQueue::new(alloc, 1)?;
+    let Made {
+        drops,
+        row,
+        queue,
+        party,
+    } = Made::new(alloc, 1, 1, 1)?;
     let mut seat = Seated::at(&queue, party);
     let first = seat.split(0);
     let other = seat.split(0);
-    puts(rt, &mut seat, handle);
+    puts_all(rt, &mut seat, row);
     wait_and_hold(rt, other, by, consumer_of(rt, first));
     dropped(rt, &drops, 1);
     Ok(())

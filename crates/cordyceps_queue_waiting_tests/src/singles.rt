@@ -1,13 +1,12 @@
 //! One element that is held, taken by calls that may wait.
 
-use crate::calls::{consume, dequeue, puts};
+use crate::calls::{consume, dequeue};
 use crate::compared::same;
 use crate::flags::watched;
 use crate::items::{dropped, number_of};
-use cordyceps_queue::mpsc_queue::MpscQueue;
-use cordyceps_queue_testing::items::element;
+use crate::made::Made;
+use crate::producers::puts_all;
 use cordyceps_queue_testing::seats::Seated;
-use cordyceps_testing::counted::Drops;
 use std::alloc::{AllocError, Global};
 use std::process::Abort;
 use std::sync::Wait;
@@ -49,11 +48,14 @@ pub fn pass_one<R: Threads + Wait + Abort + Sync>(
     alloc: Global,
     by: By,
 ) -> Result<(), AllocError> {
-    let drops = Drops::new(alloc)?;
-    let handle = element(alloc, 1, &drops)?;
-    let (queue, party) = MpscQueue::new(alloc, 1)?;
+    let Made {
+        drops,
+        row,
+        queue,
+        party,
+    } = Made::new(alloc, 1, 1, 1)?;
     let mut seat = Seated::at(&queue, party);
-    puts(rt, &mut seat, handle);
+    puts_all(rt, &mut seat, row);
     let flag = AtomicBool::new(false);
     let done = &flag;
     watched(rt, done, move || take_twice(rt, seat, by, done));
