@@ -1,9 +1,9 @@
 -- What the parties of a free list's users do, know and are called.
-use Rattle.std.proofs.Common.{◌≡◌, ℕ, ◌+◌, List, [], ◌∷◌, ◌++◌, Option, Some, None, true, false, cond, refl, sym, ap, subst, ◌∙◌, arith}
+use Rattle.std.proofs.Common.{◌≡◌, ℕ, ◌+◌, List, [], ◌∷◌, ◌++◌, Option, Some, None, sym, ap, subst, arith}
 use Rattle.atomic_table.specs.Seated.{TableId}
 use Rattle.cordyceps_shared.specs.Counts.{tally}
 use Rattle.cordyceps_shared.specs.Histories.{own}
-use Rattle.cordyceps_shared.specs.Shares.{Name, whole, keeps_half, gives_half, joined, combine, cons_joined, earlier, is_pair, parent}
+use Rattle.cordyceps_shared.specs.Shares.{Name, whole, keeps_half}
 use Rattle.cordyceps_shared.specs.Standings.{new_party, keeping, giving, Absorbs}
 use Rattle.cordyceps_shared.proofs.Adding.{not_whole, plain_unmarked}
 use Rattle.cordyceps_shared.proofs.Counting.{tally_append}

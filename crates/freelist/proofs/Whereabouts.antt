@@ -1,5 +1,5 @@
 -- Each block of a free list is in one place: of one user, and of all users of a legal history.
-use Rattle.std.proofs.Common.{◌≡◌, ℕ, ◌+◌, List, [], ◌∷◌, ◌++◌, reverse, Option, Some, None, refl, ap, arith}
+use Rattle.std.proofs.Common.{◌≡◌, ℕ, ◌+◌, List, [], ◌∷◌, ◌++◌, reverse, Option, Some, None, ap, arith}
 use Rattle.cordyceps_shared.specs.Counts.{tally}
 use Rattle.cordyceps_shared.proofs.Counting.{tally_append, tally_reverse}
 use Rattle.cordyceps_stack.specs.History.{Event, held, taken}
