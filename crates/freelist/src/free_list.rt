@@ -9,7 +9,7 @@ ghost use Rattle.cordyceps_stack.specs.Shared.Calls.{PushesAt, Misses};
 use crate::local::Local;
 use cordyceps_base::linked::Linked;
 use cordyceps_base::stack::Links;
-use cordyceps_stack::stack::{Party, Stack, TransferStack};
+use cordyceps_stack::stack::{MAX_ROOMS, Party, Stack, TransferStack};
 use std::alloc::{AllocError, Global};
 use std::marker::Model;
 
@@ -39,7 +39,7 @@ impl<T: Linked<Links<T>>> FreeList<T> {
     ///
     /// It makes an allocation for each room, and four for the words and slots of all. `AllocError` where one is refused.
     pub fn new(alloc: Global, rooms: usize) -> Result<(FreeList<T>, Party<T>), AllocError>
-        requires { rooms ≤ 1048576 }
+        requires { rooms ≤ MAX_ROOMS }
         ensures { IfOk result (λ made. made.1 ≡ new_party made.0 rooms) }
     {
         let (shared, party) = TransferStack::new(alloc, rooms)?;
