@@ -65,6 +65,20 @@ module _ {X : Type 0} where
     ]
   ]
 
+  -- on the node that comes where one was taken out
+  fits_next : (c d : Nodes X) (f : Finger) (k : ℕ) → k < length c → d ≡ take k c ++ drop (k + 1) c → f.index ≡ k → (k + 1 < length c → LiesAt c (k + 1) f.at) → FingerFits d f
+  fits_next c d f k inside is here next =
+      let long = ap length is ∙ length-append (take k c) (drop (k + 1) c) in
+      let short = length-take k c in
+      let left = length-drop (k + 1) c in
+      let at = f.at.ptr in
+      record {
+        within = omega arith;
+        on = λ on_node.
+            let there : slice_get (spots (take k c ++ drop (k + 1) c)) (k + 1 - 1) ≡ Some at = spot_pulled c k (k + 1) at (omega arith) (next (omega arith)) in
+            subst (λ (e : Nodes X). slice_get (spots e) f.index ≡ Some at) (sym is) (subst (λ (n : ℕ). slice_get (spots (take k c ++ drop (k + 1) c)) n ≡ Some at) (omega arith) there);
+      }
+
   fits_front : (c d : Nodes X) (old new : Finger) (k : ℕ) → FingerFits c old → k ≤ length c → d ≡ take k c → ChangesBehind k k old new → FingerFits d new
   fits_front c d old new k fits front is change = elim (below_or_not old.index k) as (λ _. FingerFits d new) [
     | inl before ↦ subst (FingerFits d) (sym (change.0 before)) (fits_kept c d old k [] fits before front (is ∙ sym (append-nil (take k c))))
@@ -81,6 +95,11 @@ module _ {X : Type 0} where
   pub fit_unlink : (c d : Nodes X) (old new : Fingers) (k len : ℕ) → FingersFit c old → k < length c → d ≡ take k c ++ drop (k + 1) c → len ≡ length d → TakesOut k len old.front new.front → TakesOut k len old.back new.back → FingersFit d new
   fit_unlink c d old new k len fit inside is many f b =
       record { front = fits_unlink c d old.front new.front k len fit.front inside is many f; back = fits_unlink c d old.back new.back k len fit.back inside is many b }
+
+  -- the same where the front finger is put on the node that comes there
+  pub fit_removed : (c d : Nodes X) (old : Finger) (new : Fingers) (k len : ℕ) → FingerFits c old → k < length c → d ≡ take k c ++ drop (k + 1) c → len ≡ length d → new.front.index ≡ k → (k + 1 < length c → LiesAt c (k + 1) new.front.at) → TakesOut k len old new.back → FingersFit d new
+  fit_removed c d old new k len fits inside is many here next b =
+      record { front = fits_next c d new.front k inside is here next; back = fits_unlink c d old new.back k len fits inside is many b }
 
   pub fit_front : (c d : Nodes X) (old new : Fingers) (k : ℕ) → FingersFit c old → k ≤ length c → d ≡ take k c → ChangesBehind k k old.front new.front → ChangesBehind k k old.back new.back → FingersFit d new
   fit_front c d old new k fit front is f b =

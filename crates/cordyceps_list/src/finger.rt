@@ -1,5 +1,5 @@
 //! Fingers: nodes of a chain that a list remembers, so that a place near one of them is found in few moves.
-ghost use Rattle.std.specs.Prelude.{◌≡◌, ◌+◌, ◌-◌, ◌^◌, ◌<◌, ◌⊎◌, length};
+ghost use Rattle.std.specs.Prelude.{◌≡◌, ◌+◌, ◌-◌, ◌^◌, ◌<◌, ◌⊎◌, length, IfSome};
 ghost use Rattle.cordyceps_base.specs.Nodes.{LiesAt};
 
 use cordyceps_base::boxes::Address;
@@ -23,6 +23,30 @@ impl Finger {
         Finger {
             at: Address::nowhere(),
             index: len,
+        }
+    }
+
+    /// A finger on the first node.
+    pub(crate) fn at_head<T>(chain: &DoubleChain<T>) -> Finger
+        requires { 0 < length chain.now }
+        ensures on { IsOn chain.now result }
+        ensures first { result.index ≡ 0 }
+    {
+        Finger {
+            at: chain.head(),
+            index: 0,
+        }
+    }
+
+    /// A finger on the last node.
+    pub(crate) fn at_tail<T>(chain: &DoubleChain<T>) -> Finger
+        requires { 0 < length chain.now }
+        ensures on { IsOn chain.now result }
+        ensures last { result.index ≡ length chain.now - 1 }
+    {
+        Finger {
+            at: chain.tail(),
+            index: chain.len() - 1,
         }
     }
 
@@ -129,7 +153,7 @@ impl Finger {
     }
 
     /// After node `k` was taken out, of a chain that has so many nodes now.
-    fn after_unlink(self, k: usize, len: usize) -> Finger
+    pub(crate) fn after_unlink(self, k: usize, len: usize) -> Finger
         ensures { TakesOut k len self result }
     {
         if self.index < k {
@@ -178,6 +202,37 @@ impl Fingers {
         }
     }
 
+    /// A finger on the first node, and one on the last. Behind the last node where there is none.
+    pub(crate) fn at_ends<T>(chain: &DoubleChain<T>) -> Fingers
+        ensures { FingersFit chain.now result }
+    {
+        if chain.len() == 0 {
+            return Fingers::behind(chain);
+        }
+        Fingers {
+            front: Finger::at_head(chain),
+            back: Finger::at_tail(chain),
+        }
+    }
+
+    /// The address of a node where the front finger is on it, or comes to it by the next link.
+    fn seek_near<T>(&mut self, chain: &DoubleChain<T>, to: usize) -> Option<Address>
+        requires fit { FingersFit chain.now self.old }
+        requires inside { to < length chain.now }
+        ensures fit { FingersFit chain.now self.new }
+        ensures at { IfSome result (λ at. LiesAt chain.now to at) }
+    {
+        if self.front.index == to {
+            return Some(self.front.at);
+        }
+        if 0 < to && self.front.index == to - 1 {
+            let at = chain.next(self.front.at, self.front.index);
+            self.front = Finger { at, index: to };
+            return Some(at);
+        }
+        None
+    }
+
     /// The address of a node: at once where the front finger is on it or on the one before it.
     pub(crate) fn seek<T>(&mut self, chain: &DoubleChain<T>, to: usize) -> Address
         requires fit { FingersFit chain.now self.old }
@@ -185,15 +240,10 @@ impl Fingers {
         ensures fit { FingersFit chain.now self.new }
         ensures at { LiesAt chain.now to result }
     {
-        if self.front.index == to {
-            return self.front.at;
+        match self.seek_near(chain, to) {
+            Some(at) => at,
+            None => self.seek_far(chain, to),
         }
-        if 0 < to && self.front.index == to - 1 {
-            let at = chain.next(self.front.at, self.front.index);
-            self.front = Finger { at, index: to };
-            return at;
-        }
-        self.seek_far(chain, to)
     }
 
     /// The same, found from the nearest of the two ends and the two fingers, one of which moves there.
@@ -203,22 +253,38 @@ impl Fingers {
         ensures fit { FingersFit chain.now self.new }
         ensures at { LiesAt chain.now to result }
     {
-        let head = Finger {
-            at: chain.head(),
-            index: 0,
-        };
-        let tail = Finger {
-            at: chain.tail(),
-            index: chain.len() - 1,
-        };
-        let front = self.front.or_end(chain, head, to);
-        let back = self.back.or_end(chain, tail, to);
+        let front = self.front.or_end(chain, Finger::at_head(chain), to);
+        let back = self.back.or_end(chain, Finger::at_tail(chain), to);
         if back.distance(to) < front.distance(to) {
             self.back = back.walked(chain, to);
             self.back.at
         } else {
             self.front = front.walked(chain, to);
             self.front.at
+        }
+    }
+
+    /// The same by a call that is not made a part of its caller, so that edits at the front finger stay short.
+    #[cold]
+    fn seek_anew<T>(&mut self, chain: &DoubleChain<T>, to: usize) -> Address
+        requires fit { FingersFit chain.now self.old }
+        requires inside { to < length chain.now }
+        ensures fit { FingersFit chain.now self.new }
+        ensures at { LiesAt chain.now to result }
+    {
+        self.seek_far(chain, to)
+    }
+
+    /// The address of a node at which the chain is about to change.
+    pub(crate) fn seek_edit<T>(&mut self, chain: &DoubleChain<T>, to: usize) -> Address
+        requires fit { FingersFit chain.now self.old }
+        requires inside { to < length chain.now }
+        ensures fit { FingersFit chain.now self.new }
+        ensures at { LiesAt chain.now to result }
+    {
+        match self.seek_near(chain, to) {
+            Some(at) => at,
+            None => self.seek_anew(chain, to),
         }
     }
 
@@ -229,32 +295,10 @@ impl Fingers {
         ensures on { to < length chain.now → LiesAt chain.now to result }
     {
         if to < chain.len() {
-            self.seek(chain, to)
+            self.seek_edit(chain, to)
         } else {
             Address::nowhere()
         }
-    }
-
-    /// The address of a node that is about to go. A finger is left on the node before it, if there is one.
-    pub(crate) fn seek_behind<T>(&mut self, chain: &DoubleChain<T>, to: usize) -> Address
-        requires fit { FingersFit chain.now self.old }
-        requires inside { to < length chain.now }
-        ensures fit { FingersFit chain.now self.new }
-        ensures at { LiesAt chain.now to result }
-    {
-        if to == 0 {
-            return chain.head();
-        }
-        if self.front.index == to {
-            let at = self.front.at;
-            self.front = Finger {
-                at: chain.prev(at, to),
-                index: to - 1,
-            };
-            return at;
-        }
-        let before = self.seek(chain, to - 1);
-        chain.next(before, to - 1)
     }
 
     /// After so many nodes were put in at place `k`.

@@ -42,7 +42,7 @@ impl<T: Linked<Links<T>>> List<T> {
         ensures from { from result ≡ 0 }
         ensures to { to result ≡ length self.old }
     {
-        self.fingers = Fingers::behind(&self.chain);
+        self.fingers = Fingers::at_ends(&self.chain);
         let back = self.len();
         IterMut {
             list: self,

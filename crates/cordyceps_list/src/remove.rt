@@ -4,7 +4,7 @@ ghost use Rattle.cordyceps_base.specs.Element.{found, values, without};
 ghost use Rattle.cordyceps_base.specs.Nodes.{elements};
 ghost use Rattle.cordyceps_list.specs.Fingers.{IsOn};
 
-use crate::finger::Finger;
+use crate::finger::{Finger, Fingers};
 use crate::list::{Links, List};
 use cordyceps_base::double_chain::DoubleChain;
 use cordyceps_base::linked::Linked;
@@ -39,14 +39,20 @@ impl<T: Linked<Links<T>>> List<T> {
         Some(self.remove_at(found.index))
     }
 
-    /// Takes out the element at a place.
+    /// Takes out the element at a place, and leaves the front finger on the one that is there then.
     pub(crate) fn remove_at(&mut self, at: usize) -> T::Handle
         requires { at < length self.old }
         ensures value { slice_get self.old at ≡ Some (T.element result) }
         ensures kept { self.new ≡ take at self.old ++ drop (at + 1) self.old }
     {
-        let place = self.fingers.seek_behind(&self.chain, at);
-        self.fingers = self.fingers.after_unlink(at, self.chain.len() - 1);
+        let place = self.fingers.seek_edit(&self.chain, at);
+        self.fingers = Fingers {
+            front: Finger {
+                at: self.chain.next(place, at),
+                index: at,
+            },
+            back: self.fingers.back.after_unlink(at, self.chain.len() - 1),
+        };
         T::from_ptr(self.chain.unlink(place, at))
     }
 

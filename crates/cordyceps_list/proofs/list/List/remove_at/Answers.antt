@@ -1,8 +1,8 @@
-use Rattle.std.proofs.Common.{◌≡◌, ◌+◌, ◌-◌, ◌<◌, length, take, drop, ap, ◌∙◌, arith, length-append, length-drop}
+use Rattle.std.proofs.Common.{◌≡◌, ◌+◌, ◌-◌, ◌<◌, length, refl, take, drop, ap, ◌∙◌, arith, length-append, length-drop}
 use Rattle.std.proofs.lemmas.List.{length-take, length-map}
 use Rattle.cordyceps_base.specs.Nodes.{elements}
 use Rattle.cordyceps_base.proofs.Places.{elements-unlinked, element-at}
-use Rattle.cordyceps_list.proofs.Places.{fit_unlink}
+use Rattle.cordyceps_list.proofs.Places.{fit_removed}
 use Rattle.cordyceps_list.proofs.list.List.remove_at.Goals as goal
 
 pub invariant_of-self : goal.invariant_of-self
@@ -11,7 +11,7 @@ invariant_of-self g c =
     let at = c.args.at in
     let inside : at < length nodes = omega (arith, c.requires, ap length c.self.view_is, length-map nodes (λ n. n.1)) in
     let long : c.len.result - 1 ≡ length c.unlink.new.self = omega (arith, c.len.ensures, inside, ap length c.unlink.ensures.others, length-append (take at nodes) (drop (at + 1) nodes), length-take at nodes, length-drop (at + 1) nodes) in
-    fit_unlink nodes c.unlink.new.self c.seek_behind-place.new.self c.after_unlink-self-inside.result at _ c.seek_behind-place.ensures.fit inside c.unlink.ensures.others long c.after_unlink-self-inside.ensures.front c.after_unlink-self-inside.ensures.back
+    fit_removed nodes c.unlink.new.self c.seek_edit-place.new.self.back (record { front = record { at = c.next.result; index = at }; back = c.after_unlink.result }) at _ c.seek_edit-place.ensures.fit.back inside c.unlink.ensures.others long refl c.next.ensures c.after_unlink.ensures
 
 pub returns-clause-value : goal.returns-clause-value
 returns-clause-value g c =
