@@ -1,0 +1,260 @@
+//! Calls that reach the nodes of a chain by their addresses alone.
+ghost use Rattle.std.specs.Prelude.{◌≡◌, ◌+◌, ◌^◌, ◌<◌, [], ◌∷◌, ◌++◌, length, slice_get, Some, MatchOption};
+ghost use Rattle.std.specs.Borrow.{sem};
+ghost use Rattle.cordyceps_base.specs.BySpot.{HasSpot, HoldsAt, IsTaken, IsPutBefore, IsPutAfter, IsMovedFront, IsMovedBack, IsFirst, IsLast, AreNext};
+ghost use Rattle.cordyceps_base.specs.Element.{values};
+ghost use Rattle.cordyceps_base.specs.Nodes.{block_element, elements, spots};
+ghost use Rattle.cordyceps_base.specs.Spots.{index_of, AreApart};
+
+use super::DoubleChain;
+use crate::boxes::Address;
+use crate::double_row::{Row, behind, between, followed_by, node_of};
+use crate::list::Links;
+use crate::node::{Block, Node};
+use std::alloc::Global;
+
+impl<T> DoubleChain<T> {
+    ghost use Rattle.cordyceps_base.specs.DoubleChainLends.{lends_item};
+
+    /// The same nodes. No two lie at one address. It takes no time.
+    pub fn apart(self) -> DoubleChain<T>
+        ensures { (result ≡ self) × AreApart (spots self) }
+    {
+        let DoubleChain {
+            head,
+            tail,
+            len,
+            boxes,
+        } = self;
+        DoubleChain {
+            head,
+            tail,
+            len,
+            boxes: boxes.apart(),
+        }
+    }
+
+    /// Changes nothing. No two nodes lie at one address.
+    pub fn keep_apart(&mut self)
+        ensures { (self.new ≡ self.old) × AreApart (spots self.new) }
+    {
+        let differing = self.take().apart();
+        self.put(differing);
+    }
+
+    /// The address of the first node. `None` where there is none.
+    pub fn first(&self) -> Option<Address>
+        ensures { MatchOption result (self.now ≡ []) (λ p. IsFirst self.now p.ptr) }
+    {
+        if self.len == 0 { None } else { Some(self.head) }
+    }
+
+    /// The address of the last node. `None` where there is none.
+    pub fn last(&self) -> Option<Address>
+        ensures { MatchOption result (self.now ≡ []) (λ p. IsLast self.now p.ptr) }
+    {
+        if self.len == 0 { None } else { Some(self.tail) }
+    }
+
+    /// The address after that at `at`. `None` where the last node lies there.
+    pub fn next_at(&self, at: Address) -> Option<Address>
+        requires { HasSpot self.now at.ptr }
+        ensures { MatchOption result (IsLast self.now at.ptr) (λ p. AreNext self.now at.ptr p.ptr) }
+    {
+        let next = self.boxes.from_address(at).get(at, 0).links.next;
+        if next.is_somewhere() {
+            Some(next)
+        } else {
+            None
+        }
+    }
+
+    /// The address before that at `at`. `None` where the first node lies there.
+    pub fn prev_at(&self, at: Address) -> Option<Address>
+        requires { HasSpot self.now at.ptr }
+        ensures { MatchOption result (IsFirst self.now at.ptr) (λ p. AreNext self.now p.ptr at.ptr) }
+    {
+        let prev = self.boxes.from_address(at).get(at, 0).links.prev;
+        if prev.is_somewhere() {
+            Some(prev)
+        } else {
+            None
+        }
+    }
+
+    /// The value at an address.
+    pub fn get_at(&self, at: Address) -> &T
+        requires { HasSpot self.now at.ptr }
+        ensures { HoldsAt self.now at.ptr result.now }
+    {
+        &self.boxes.from_address(at).get(at, 0).value
+    }
+
+    /// The value at an address, to be changed. The element keeps its number.
+    pub fn get_at_mut(&mut self, at: Address) -> &mut T
+        requires { HasSpot self.old at.ptr }
+        ensures* writes_back { sem 𝓛 (lends_item T.row self.entry (index_of at.ptr (spots self.old)) result) }
+        ensures value { slice_get (values (elements self.old)) (index_of at.ptr (spots self.old)) ≡ Some result.now }
+    {
+        let block = self.boxes.at_mut(at);
+        &mut block.value
+    }
+
+    /// The nodes without that at `at`, and the row of that alone, where it lay.
+    fn parted(self, at: Address) -> (DoubleChain<T>, Row<T>)
+        requires { HasSpot self at.ptr }
+        ensures parts { (a : Global) × (x : Block T (Links T)) × IsTaken self at.ptr (block_element x) result.0 × (result.1.blocks ≡ (at.ptr, a, x) ∷ []) }
+        ensures fits { length result.0 + 1 < 2 ^ 64 }
+    {
+        let len = self.len();
+        let DoubleChain {
+            head,
+            tail,
+            len: _,
+            boxes,
+        } = self;
+        let (front, back) = boxes.cut_at(at);
+        let next = back.get(at, 0).links.next;
+        let prev = back.get(at, 0).links.prev;
+        let (one, rest) = back.cut(1);
+        let (head, front) = followed_by(front, head, prev, next);
+        let (tail, rest) = behind(rest, next, tail, prev);
+        let left = DoubleChain {
+            head,
+            tail,
+            len: len - 1,
+            boxes: front.join(rest).tested(),
+        };
+        (left, one)
+    }
+
+    /// Puts the node at `at` first. It stays where it lies.
+    pub fn move_front(&mut self, at: Address)
+        requires { HasSpot self.old at.ptr }
+        ensures { IsMovedFront self.old at.ptr self.new }
+    {
+        let (rest, one) = self.take().parted(at);
+        self.put(DoubleChain::of_one(at, one).join(rest));
+    }
+
+    /// Puts the node at `at` last. It stays where it lies.
+    pub fn move_back(&mut self, at: Address)
+        requires { HasSpot self.old at.ptr }
+        ensures { IsMovedBack self.old at.ptr self.new }
+    {
+        let (rest, one) = self.take().parted(at);
+        self.put(rest.join(DoubleChain::of_one(at, one)));
+    }
+}
+
+impl<T: Drop> DoubleChain<T> {
+    /// Puts a node first, and answers its address.
+    pub fn link_first(&mut self, node: Node<T, Links<T>>) -> Address
+        requires { length self.old + 1 < 2 ^ 64 }
+        ensures holds { self.new ≡ (result.ptr, node) ∷ self.old }
+        ensures apart { AreApart (spots self.new) }
+    {
+        let rest = self.take();
+        let one = DoubleChain::one(node);
+        let at = one.head();
+        self.put(one.join(rest).apart());
+        at
+    }
+
+    /// Puts a node last, and answers its address.
+    pub fn link_last(&mut self, node: Node<T, Links<T>>) -> Address
+        requires { length self.old + 1 < 2 ^ 64 }
+        ensures holds { self.new ≡ self.old ++ (result.ptr, node) ∷ [] }
+        ensures apart { AreApart (spots self.new) }
+    {
+        let rest = self.take();
+        let one = DoubleChain::one(node);
+        let at = one.head();
+        self.put(rest.join(one).apart());
+        at
+    }
+
+    /// The nodes with one more before that at `at`, and its address.
+    fn with_before(self, at: Address, node: Node<T, Links<T>>) -> (DoubleChain<T>, Address)
+        requires there { HasSpot self at.ptr }
+        requires fits { length self + 1 < 2 ^ 64 }
+        ensures { IsPutBefore self at.ptr result.1.ptr node result.0 }
+    {
+        let DoubleChain {
+            head,
+            tail,
+            len,
+            boxes,
+        } = self;
+        let (front, back) = boxes.cut_at(at);
+        let prev = back.get(at, 0).links.prev;
+        let (new, head, tail, boxes) = between(front, head, prev, node, at, back, tail);
+        let whole = DoubleChain {
+            head,
+            tail,
+            len: len + 1,
+            boxes: boxes.tested(),
+        };
+        (whole, new)
+    }
+
+    /// The nodes with one more behind that at `at`, and its address.
+    fn with_after(self, at: Address, node: Node<T, Links<T>>) -> (DoubleChain<T>, Address)
+        requires there { HasSpot self at.ptr }
+        requires fits { length self + 1 < 2 ^ 64 }
+        ensures { IsPutAfter self at.ptr result.1.ptr node result.0 }
+    {
+        let DoubleChain {
+            head,
+            tail,
+            len,
+            boxes,
+        } = self;
+        let (front, back) = boxes.cut_at(at);
+        let next = back.get(at, 0).links.next;
+        let (one, rest) = back.cut(1);
+        let front = front.join(one);
+        let (new, head, tail, boxes) = between(front, head, at, node, next, rest, tail);
+        let whole = DoubleChain {
+            head,
+            tail,
+            len: len + 1,
+            boxes: boxes.tested(),
+        };
+        (whole, new)
+    }
+
+    /// Puts a node in before that at `at`, and answers its address.
+    pub fn link_before(&mut self, at: Address, node: Node<T, Links<T>>) -> Address
+        requires there { HasSpot self.old at.ptr }
+        requires fits { length self.old + 1 < 2 ^ 64 }
+        ensures holds { IsPutBefore self.old at.ptr result.ptr node self.new }
+        ensures apart { AreApart (spots self.new) }
+    {
+        let (nodes, new) = self.take().with_before(at, node);
+        self.put(nodes.apart());
+        new
+    }
+
+    /// Puts a node in behind that at `at`, and answers its address.
+    pub fn link_after(&mut self, at: Address, node: Node<T, Links<T>>) -> Address
+        requires there { HasSpot self.old at.ptr }
+        requires fits { length self.old + 1 < 2 ^ 64 }
+        ensures holds { IsPutAfter self.old at.ptr result.ptr node self.new }
+        ensures apart { AreApart (spots self.new) }
+    {
+        let (nodes, new) = self.take().with_after(at, node);
+        self.put(nodes.apart());
+        new
+    }
+
+    /// Takes the node at `at` out.
+    pub fn unlink_at(&mut self, at: Address) -> Node<T, Links<T>>
+        requires { HasSpot self.old at.ptr }
+        ensures { IsTaken self.old at.ptr result self.new }
+    {
+        let (rest, one) = self.take().parted(at);
+        self.put(rest);
+        node_of(at, one)
+    }
+}
