@@ -23,11 +23,11 @@ with_prev b p = record b { links = record b.links { prev = p } }
 
 module _ {X : Type 0} where
   -- ---- one node
-  first_on : (p h : Ptr) (ns : List (OwnedNode X)) (t q : Ptr) → Segment p h ns t q → 0 < length ns → slice_get (box_addresses ns) 0 ≡ Some h
+  pub first_on : (p h : Ptr) (ns : List (OwnedNode X)) (t q : Ptr) → Segment p h ns t q → 0 < length ns → slice_get (box_addresses ns) 0 ≡ Some h
   first_on p h [] t q f some = absurd (omega (arith, some))
   first_on p h (n ∷ ns) t q f some = ap Some (sym f.0)
 
-  last_on : (p h : Ptr) (ns : List (OwnedNode X)) (t q : Ptr) (j : ℕ) → suc j ≡ length ns → Segment p h ns t q → slice_get (box_addresses ns) j ≡ Some t
+  pub last_on : (p h : Ptr) (ns : List (OwnedNode X)) (t q : Ptr) (j : ℕ) → suc j ≡ length ns → Segment p h ns t q → slice_get (box_addresses ns) j ≡ Some t
   last_on p h [] t q j e f = absurd (omega (arith, e))
   last_on p h (n ∷ []) t q zero e f = ap Some (sym f.2.1)
   last_on p h (n ∷ []) t q (suc j) e f = absurd (omega (arith, e))

@@ -1,5 +1,6 @@
 pub mod Crosses
 pub mod DoubleChain
+pub mod InnerNodes
 pub mod Memory
 pub mod Nodes
 pub mod Places

@@ -8,7 +8,7 @@ ghost use Rattle.cordyceps_base.specs.Nodes.{elements, nodes_of, LiesAt};
 mod by_address;
 
 use crate::boxes::{Address, Boxes, Loose};
-use crate::double_row::{Row, node_of};
+use crate::double_row::{Row, cut_out, node_of, put_in};
 use crate::list::Links;
 use crate::node::{Block, Node};
 use std::alloc::Global;
@@ -403,6 +403,50 @@ impl<T: Drop> DoubleChain<T> {
         (whole, at)
     }
 
+    /// The nodes with one more before node `k`, which lies at `at`.
+    fn with_inner(self, at: Address, k: usize, node: Node<T, Links<T>>) -> DoubleChain<T>
+        requires inner { 0 < k }
+        requires on { LiesAt self k at }
+        requires fits { length self + 1 < 2 ^ 64 }
+        ensures { (place : Ptr) × (result ≡ take k self ++ (place, node) ∷ drop k self) }
+    {
+        let DoubleChain {
+            head,
+            tail,
+            len,
+            boxes,
+        } = self;
+        DoubleChain {
+            head,
+            tail,
+            len: len + 1,
+            boxes: put_in(boxes, at, k, node).tested(),
+        }
+    }
+
+    /// Node `k`, which lies at `at`, and the others, of which some lie on either side.
+    fn without_inner(self, at: Address, k: usize) -> (Node<T, Links<T>>, DoubleChain<T>)
+        requires inner { (0 < k) × (k + 1 < length self) }
+        requires on { LiesAt self k at }
+        ensures node { slice_get self k ≡ Some (at.ptr, result.0) }
+        ensures others { result.1 ≡ take k self ++ drop (k + 1) self }
+    {
+        let DoubleChain {
+            head,
+            tail,
+            len,
+            boxes,
+        } = self;
+        let (node, others) = cut_out(boxes, at, k);
+        let left = DoubleChain {
+            head,
+            tail,
+            len: len - 1,
+            boxes: others.tested(),
+        };
+        (node, left)
+    }
+
     /// The first node, and those behind it.
     fn without_first(self) -> (Node<T, Links<T>>, DoubleChain<T>)
         requires { 1 < length self }
@@ -489,7 +533,14 @@ impl<T: Drop> DoubleChain<T> {
         requires fits { length self.old + 1 < 2 ^ 64 }
         ensures { (place : Ptr) × (self.new ≡ take k self.old ++ (place, node) ∷ drop k self.old) }
     {
-        self.splice(at, k, DoubleChain::one(node));
+        if k == 0 {
+            return self.link_front(node);
+        }
+        if k == self.len {
+            return self.link_back(node);
+        }
+        let nodes = self.take().with_inner(at, k, node);
+        self.put(nodes);
     }
 
     /// Takes node `k` out, which lies at `at`.
@@ -498,9 +549,14 @@ impl<T: Drop> DoubleChain<T> {
         ensures node { (place : Ptr) × (slice_get self.old k ≡ Some (place, result)) }
         ensures others { self.new ≡ take k self.old ++ drop (k + 1) self.old }
     {
-        let (front, mut back) = self.take().split(at, k);
-        let node = back.unlink_front();
-        self.put(front.join(back));
+        if k == 0 {
+            return self.unlink_front();
+        }
+        if k == self.len - 1 {
+            return self.unlink_back();
+        }
+        let (node, others) = self.take().without_inner(at, k);
+        self.put(others);
         node
     }
 }

@@ -1,5 +1,5 @@
 //! Rows of nodes that lead on and back, where a chain is parted or joined there.
-ghost use Rattle.std.specs.Prelude.{◌≡◌, [], ◌∷◌, ◌++◌};
+ghost use Rattle.std.specs.Prelude.{◌≡◌, ◌+◌, ◌<◌, [], ◌∷◌, ◌++◌, length, take, drop, slice_get, Some};
 ghost use denote.RawPtr.{Ptr, null_ptr};
 ghost use Rattle.cordyceps_base.specs.Boxes.{box_addresses};
 ghost use Rattle.cordyceps_base.specs.DoubleChain.{Segment};
@@ -92,4 +92,42 @@ pub(crate) fn between<T: Drop>(
     let (head, front) = followed_by(front, head, prev, at);
     let (tail, back) = behind(back, next, tail, at);
     (at, head, tail, front.join(one.join(back)))
+}
+
+/// The node at `at`, which is node `k` and has one on either side, and the row without it.
+pub(crate) fn cut_out<T: Drop>(row: Row<T>, at: Address, k: usize) -> (Node<T, Links<T>>, Row<T>)
+    requires inner { (0 < k) × (k + 1 < length row.blocks) }
+    requires on { slice_get (box_addresses row.blocks) k ≡ Some at.ptr }
+    requires linked { (h : Ptr) × (t : Ptr) × Segment null_ptr h row.blocks t null_ptr }
+    ensures node { slice_get (nodes_of row.blocks) k ≡ Some (at.ptr, result.0) }
+    ensures others { nodes_of result.1.blocks ≡ take k (nodes_of row.blocks) ++ drop (k + 1) (nodes_of row.blocks) }
+    ensures linked { (h t : Ptr) → Segment null_ptr h row.blocks t null_ptr → Segment null_ptr h result.1.blocks t null_ptr }
+{
+    let block = row.get(at, k);
+    let next = block.links.next;
+    let prev = block.links.prev;
+    let (mut front, back) = row.cut(k);
+    let (one, mut rest) = back.cut(1);
+    front.get_mut(prev, k - 1).links.next = next;
+    rest.get_mut(next, 0).links.prev = prev;
+    (node_of(at, one), front.join(rest))
+}
+
+/// A row with one more node before that at `at`, which is node `k` and not the first.
+pub(crate) fn put_in<T: Drop>(row: Row<T>, at: Address, k: usize, node: Node<T, Links<T>>) -> Row<T>
+    requires inner { 0 < k }
+    requires on { slice_get (box_addresses row.blocks) k ≡ Some at.ptr }
+    requires linked { (h : Ptr) × (t : Ptr) × Segment null_ptr h row.blocks t null_ptr }
+    ensures holds { (place : Ptr) × (nodes_of result.blocks ≡ take k (nodes_of row.blocks) ++ (place, node) ∷ drop k (nodes_of row.blocks)) }
+    ensures linked { (h t : Ptr) → Segment null_ptr h row.blocks t null_ptr → Segment null_ptr h result.blocks t null_ptr }
+{
+    let prev = row.get(at, k).links.prev;
+    let Node { mut block } = node;
+    block.links.prev = prev;
+    block.links.next = at;
+    let (new, _, one) = Boxes::one(Loose::of(block));
+    let (mut front, mut back) = row.cut(k);
+    front.get_mut(prev, k - 1).links.next = new;
+    back.get_mut(at, 0).links.prev = new;
+    front.join(one.join(back))
 }

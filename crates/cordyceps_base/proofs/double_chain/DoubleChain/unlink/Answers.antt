@@ -1,20 +1,8 @@
-use Rattle.std.proofs.Common.{refl, sym, ◌∙◌}
-use Rattle.cordyceps_base.proofs.Places.{seam}
+use Rattle.std.proofs.Common.{◌≡◌, ◌+◌, ◌++◌, take, drop, slice_get, Some, ap, ◌∙◌, subst}
 use Rattle.cordyceps_base.proofs.double_chain.DoubleChain.unlink.Goals as goal
 
 pub returns-clause-node : goal.returns-clause-node
-returns-clause-node g c =
-    let s = c.args.self.now in
-    let k = c.args.k in
-    let (place, is) = c.unlink_front-node.ensures in
-    let from = rw c.take.ensures.0 at c.split-front.ensures.back in
-    (place, (seam s k (place, c.unlink_front-node.result) c.unlink_front-node.new.self (sym from ∙ is)).here)
+returns-clause-node g c = (c.args.at.ptr, subst (λ s. slice_get s c.args.k ≡ Some (c.args.at.ptr, c.without_inner-node.result.0)) c.take.ensures.0 c.without_inner-node.ensures.node)
 
 pub returns-clause-others : goal.returns-clause-others
-returns-clause-others g c =
-    let s = c.args.self.now in
-    let k = c.args.k in
-    let (place, is) = c.unlink_front-node.ensures in
-    let from = rw c.take.ensures.0 at c.split-front.ensures.back in
-    let rest = (seam s k (place, c.unlink_front-node.result) c.unlink_front-node.new.self (sym from ∙ is)).after in
-    rw (c.put.ensures, c.join.ensures, c.split-front.ensures.front, c.take.ensures.0, rest) refl
+returns-clause-others g c = c.put.ensures ∙ c.without_inner-node.ensures.others ∙ ap (λ s. take c.args.k s ++ drop (c.args.k + 1) s) c.take.ensures.0
