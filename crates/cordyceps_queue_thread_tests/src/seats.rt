@@ -5,7 +5,7 @@ ghost use Rattle.cordyceps_shared.specs.Shares.{whole};
 use crate::compared::same;
 use crate::items::{Handle, element, number, pair};
 use cordyceps_base::node::Refused;
-use cordyceps_queue::mpsc_queue::{Consumer, MpscQueue, Party, TryDequeueError};
+use cordyceps_queue::mpsc_queue::{Consumer, MAX_ROOMS, MpscQueue, Party, TryDequeueError};
 use cordyceps_testing::counted::{Counted, Drops};
 use std::alloc::{AllocError, Global};
 use std::process::Abort;
@@ -75,7 +75,7 @@ pub fn with_stub(
     stub: Handle,
     rooms: usize,
 ) -> Result<(MpscQueue<Counted>, Party<Counted>), AllocError>
-    requires { rooms ≤ 1048576 }
+    requires { rooms ≤ MAX_ROOMS }
     ensures table { IfOk result (λ made. made.1.table ≡ made.0.table) }
     ensures share { IfOk result (λ made. made.1.share ≡ whole) }
 {

@@ -1,7 +1,7 @@
 //! A queue with its party, and elements to put in.
 ghost use Rattle.std.specs.Prelude.{◌≡◌, ◌≤◌};
 
-use cordyceps_queue::mpsc_queue::{MpscQueue, Party};
+use cordyceps_queue::mpsc_queue::{MAX_ROOMS, MpscQueue, Party};
 use cordyceps_queue_testing::items::{Handle, elements};
 use cordyceps_testing::counted::{Counted, Drops};
 use std::alloc::{AllocError, Global};
@@ -19,7 +19,7 @@ pub struct Made {
 impl Made {
     /// A queue of so many rooms, and so many elements, of this number and the next ones.
     pub fn new(alloc: Global, rooms: usize, first: u64, count: u64) -> Result<Made, AllocError>
-        requires { rooms ≤ 1048576 }
+        requires { rooms ≤ MAX_ROOMS }
     {
         let drops = Drops::new(alloc)?;
         let row = elements(alloc, first, count, &drops)?;

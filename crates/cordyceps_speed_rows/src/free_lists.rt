@@ -9,7 +9,7 @@ use crate::stacks::{StackNode, pop_all};
 use crate::stopwatch::Stopwatch;
 use crate::table::Table;
 use crate::vectors::push;
-use cordyceps::stack::Party;
+use cordyceps::stack::{MAX_ROOMS, Party};
 use cordyceps::{Item, Stack};
 use freelist::{FreeList, Local};
 use std::alloc::Global;
@@ -27,7 +27,7 @@ struct Alone {
 impl Alone {
     /// A free list with nothing in it and so many rooms.
     fn new(alloc: Global, rooms: usize) -> Result<Alone, Fault>
-        requires { rooms ≤ 1048576 }
+        requires { rooms ≤ MAX_ROOMS }
         ensures { IfOk result (λ a. a.party.rooms ≡ rooms) }
     {
         match FreeList::new(alloc, rooms) {
@@ -109,7 +109,7 @@ fn measure_shared(
     nodes: &mut Vec<StackNode>,
     rounds: u32,
 ) -> Result<Shared, Fault>
-    requires { length nodes.old.items ≤ 1048576 }
+    requires { length nodes.old.items ≤ MAX_ROOMS }
 {
     let mut alone = Alone::new(alloc, nodes.len())?;
     let mut shared = Shared {
@@ -200,7 +200,7 @@ pub fn show_free_lists<R: Clock + Print>(
     local: usize,
     shared: usize,
 ) -> Result<u64, Fault>
-    requires { shared ≤ 1048576 }
+    requires { shared ≤ MAX_ROOMS }
 {
     let mut nodes = make_nodes(alloc, local)?;
     let own = measure_local(rt, alloc, &mut nodes, table.rounds)?;

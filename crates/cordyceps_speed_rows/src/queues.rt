@@ -8,7 +8,7 @@ use crate::nodes::{make_nodes, sum_numbers};
 use crate::stopwatch::Stopwatch;
 use crate::table::Table;
 use crate::vectors::{push, with_room};
-use cordyceps::mpsc_queue::{Batch, Consumer, Links, Party};
+use cordyceps::mpsc_queue::{Batch, Consumer, Links, MAX_ROOMS, Party};
 use cordyceps::{Item, MpscQueue, Node};
 use std::alloc::Global;
 use std::time::Clock;
@@ -28,7 +28,7 @@ struct Alone {
 impl Alone {
     /// An empty queue with so many rooms.
     fn new(alloc: Global, rooms: usize) -> Result<Alone, Fault>
-        requires { rooms ≤ 1048576 }
+        requires { rooms ≤ MAX_ROOMS }
         ensures { IfOk result (λ a. a.party.rooms ≡ rooms) }
     {
         match MpscQueue::new(alloc, rooms) {
@@ -193,7 +193,7 @@ fn measure_singles(
     nodes: &mut Vec<QueueNode>,
     rounds: u32,
 ) -> Result<Queues, Fault>
-    requires { length nodes.old.items ≤ 1048576 }
+    requires { length nodes.old.items ≤ MAX_ROOMS }
 {
     let mut alone = Alone::new(alloc, nodes.len())?;
     let mut queues = Queues {
@@ -243,7 +243,7 @@ fn measure_batches(
     most: usize,
     rounds: u32,
 ) -> Result<Cost, Fault>
-    requires rooms { length nodes.old.items ≤ 1048576 }
+    requires rooms { length nodes.old.items ≤ MAX_ROOMS }
     requires some { 1 ≤ most }
 {
     let mut alone = Alone::new(alloc, nodes.len())?;
@@ -263,7 +263,7 @@ pub fn show_queues<R: Clock + Print>(
     table: Table,
     elements: usize,
 ) -> Result<u64, Fault>
-    requires { elements ≤ 1048576 }
+    requires { elements ≤ MAX_ROOMS }
 {
     let mut nodes = make_nodes(alloc, elements)?;
     let singles = measure_singles(rt, alloc, &mut nodes, table.rounds)?;

@@ -8,7 +8,7 @@ use crate::nodes::{make_nodes, sum_numbers};
 use crate::stacks::{StackNode, pop_all};
 use crate::stopwatch::Stopwatch;
 use crate::table::Table;
-use cordyceps::stack::Party;
+use cordyceps::stack::{MAX_ROOMS, Party};
 use cordyceps::{Item, Stack, TransferStack};
 use std::alloc::Global;
 use std::time::Clock;
@@ -25,7 +25,7 @@ struct Alone {
 impl Alone {
     /// An empty stack with so many rooms.
     fn new(alloc: Global, rooms: usize) -> Result<Alone, Fault>
-        requires { rooms ≤ 1048576 }
+        requires { rooms ≤ MAX_ROOMS }
         ensures { IfOk result (λ a. a.party.rooms ≡ rooms) }
     {
         match TransferStack::new(alloc, rooms) {
@@ -100,7 +100,7 @@ fn measure_transfers(
     nodes: &mut Vec<StackNode>,
     rounds: u32,
 ) -> Result<Transfers, Fault>
-    requires { length nodes.old.items ≤ 1048576 }
+    requires { length nodes.old.items ≤ MAX_ROOMS }
 {
     let mut alone = Alone::new(alloc, nodes.len())?;
     let mut transfers = Transfers {
@@ -120,7 +120,7 @@ pub fn show_transfers<R: Clock + Print>(
     table: Table,
     elements: usize,
 ) -> Result<u64, Fault>
-    requires { elements ≤ 1048576 }
+    requires { elements ≤ MAX_ROOMS }
 {
     let mut nodes = make_nodes(alloc, elements)?;
     let transfers = measure_transfers(rt, alloc, &mut nodes, table.rounds)?;

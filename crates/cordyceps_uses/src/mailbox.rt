@@ -6,7 +6,7 @@ ghost use Rattle.cordyceps_queue.specs.Shared.Moves.{Moves, given};
 ghost use Rattle.cordyceps_queue.specs.Shared.Sending.{Sends};
 ghost use Rattle.cordyceps_uses.specs.Mailbox.{contents, value_of};
 
-use cordyceps::mpsc_queue::{Links, Party, TryDequeueError};
+use cordyceps::mpsc_queue::{Links, MAX_ROOMS, Party, TryDequeueError};
 use cordyceps::{Linked, MpscQueue, Node, Refused};
 use std::alloc::{AllocError, Global};
 use std::thread;
@@ -134,7 +134,7 @@ pub fn deliver<R: Threads + Sync>(
     turns: u64,
 ) -> Result<Vec<u64>, AllocError>
     requires room { how_many (contents lists.now) ≤ rooms }
-    requires few { rooms ≤ 1048576 }
+    requires few { rooms ≤ MAX_ROOMS }
     ensures { IfOk result (λ all. Delivers (contents lists.now) all.items) }
 {
     let (queue, mut receiver) = MpscQueue::new(alloc, rooms)?;

@@ -5,7 +5,7 @@ ghost use Rattle.cordyceps_shared.specs.Counts.{Same};
 ghost use Rattle.cordyceps_stack.specs.Shared.Moves.{Moves};
 ghost use Rattle.cordyceps_uses.specs.RunQueue.{ran, Worked};
 
-use cordyceps::stack::{Links, Party};
+use cordyceps::stack::{Links, MAX_ROOMS, Party};
 use cordyceps::{Linked, Node, Stack, TransferStack};
 use std::alloc::Global;
 use std::sync::Wait;
@@ -160,7 +160,7 @@ pub fn run_all<R: Threads + Wait + Sync>(
     turns: u64,
 ) -> Result<Stack<Job>, Stack<Job>>
     requires room { length jobs ≤ rooms }
-    requires few { rooms ≤ 1048576 }
+    requires few { rooms ≤ MAX_ROOMS }
     ensures each_once { IfOk result (λ done. Same (map ran jobs) done) }
     ensures back { IfErr result (λ back. back ≡ jobs) }
 {

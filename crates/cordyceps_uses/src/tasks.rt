@@ -7,7 +7,7 @@ ghost use Rattle.cordyceps_stack.specs.History.{held};
 ghost use Rattle.cordyceps_uses.specs.Tasks.{IsSchedule};
 
 use cordyceps::sorted_list::Least;
-use cordyceps::stack::{Links, Party};
+use cordyceps::stack::{Links, MAX_ROOMS, Party};
 use cordyceps::{Kind, Linked, List, Node, Refused, SortedList, Stack, TransferStack};
 use std::alloc::Global;
 use std::sync::Wait;
@@ -71,7 +71,7 @@ pub fn schedule<R: Wait>(
     rooms: usize,
 ) -> Result<SortedList<Task, Least>, Stack<Task>>
     requires room { length tasks ≤ rooms }
-    requires few { rooms ≤ 1048576 }
+    requires few { rooms ≤ MAX_ROOMS }
     ensures schedule { IfOk result (λ list. IsSchedule (reverse tasks) list.0) }
     ensures back { IfErr result (λ back. back ≡ tasks) }
 {
