@@ -38,103 +38,185 @@ fn core_with<E: Drop>(
     Ok(core)
 }
 
-/// A step that is taken, with more to do.
-fn done(rt: &impl Abort, core: &mut QueueCore<u64>, party: usize, step: QueueStep<u64>) {
-    answers(rt, core, party, step, QueueAnswer::Done);
+/// A step with an element that is a number.
+#[derive(Clone, Copy)]
+enum NumberStep {
+    Clear(Option<u64>),
+    Swap,
+    Link,
+    Take,
+    ReadNext,
+    ReadHead,
+    Give,
 }
 
-/// A step that is not there, and brings no element.
-fn not_there(rt: &impl Abort, core: &mut QueueCore<u64>, party: usize, step: QueueStep<u64>) {
-    same(rt, core.step(party, step), Err((StepError::NotThere, None)));
+impl NumberStep {
+    /// The core's own.
+    fn of_core(self) -> QueueStep<u64> {
+        match self {
+            NumberStep::Clear(element) => QueueStep::Clear(element),
+            NumberStep::Swap => QueueStep::Swap,
+            NumberStep::Link => QueueStep::Link,
+            NumberStep::Take => QueueStep::Take,
+            NumberStep::ReadNext => QueueStep::ReadNext,
+            NumberStep::ReadHead => QueueStep::ReadHead,
+            NumberStep::Give => QueueStep::Give,
+        }
+    }
 }
 
-/// A step that is taken, with what it answers.
+/// A call of a core, and what it has to answer.
+#[derive(Clone, Copy)]
+enum Call {
+    /// A step that is taken, with more to do.
+    Done(NumberStep),
+    /// A step that is not there, with the element that it brings back.
+    NotThere(NumberStep, Option<u64>),
+    /// The step that takes the right, and gets it.
+    Taken,
+    /// The step that takes the right, which another party has.
+    Busy,
+    /// The step that has an element come out.
+    Out(u64),
+    /// The step that finds an element put in and not linked.
+    Unlinked,
+    /// An element that comes in.
+    Enqueue(u64),
+    /// An element that comes back, where its party is not there or has no free room.
+    GivesBack(u64),
+    /// An element that comes out.
+    Gives(u64),
+    /// A try that gets no element.
+    GivesNone(TryDequeueError),
+    /// A try that is not there.
+    NoTry,
+}
+
+/// Compares what a step answers with what is wanted.
 fn answers(
     rt: &impl Abort,
     core: &mut QueueCore<u64>,
     party: usize,
-    step: QueueStep<u64>,
-    answer: QueueAnswer<u64>,
+    step: NumberStep,
+    wanted: QueueAnswer<u64>,
 ) {
-    same(rt, core.step(party, step), Ok(answer));
+    same(rt, core.step(party, step.of_core()), Ok(wanted));
 }
 
-/// An element that comes in.
-fn takes(rt: &impl Abort, core: &mut QueueCore<u64>, party: usize, element: u64) {
-    same(rt, core.enqueue(party, element), Ok(()));
+/// Compares what a step answers that is not there with what is wanted.
+fn not_there(
+    rt: &impl Abort,
+    core: &mut QueueCore<u64>,
+    party: usize,
+    step: NumberStep,
+    back: Option<u64>,
+) {
+    let wanted = Err((StepError::NotThere, back));
+    same(rt, core.step(party, step.of_core()), wanted);
 }
 
-/// An element that comes back, where its party is not there or has no free room.
-fn gives_back(rt: &impl Abort, core: &mut QueueCore<u64>, party: usize, element: u64) {
-    same(
-        rt,
-        core.enqueue(party, element),
-        Err((StepError::NotThere, element)),
-    );
+/// Compares what a step, or a call of several, answers with what is wanted.
+fn does(rt: &impl Abort, core: &mut QueueCore<u64>, party: usize, call: Call) {
+    match call {
+        Call::Done(step) => answers(rt, core, party, step, QueueAnswer::Done),
+        Call::NotThere(step, back) => not_there(rt, core, party, step, back),
+        Call::Taken => answers(rt, core, party, NumberStep::Take, QueueAnswer::Taken),
+        Call::Busy => answers(rt, core, party, NumberStep::Take, QueueAnswer::Busy),
+        Call::Out(element) => answers(
+            rt,
+            core,
+            party,
+            NumberStep::ReadNext,
+            QueueAnswer::Out(element),
+        ),
+        Call::Unlinked => answers(
+            rt,
+            core,
+            party,
+            NumberStep::ReadNext,
+            QueueAnswer::Inconsistent,
+        ),
+        Call::Enqueue(element) => same(rt, core.enqueue(party, element), Ok(())),
+        Call::GivesBack(element) => {
+            let wanted = Err((StepError::NotThere, element));
+            same(rt, core.enqueue(party, element), wanted);
+        }
+        Call::Gives(element) => same(rt, core.try_dequeue(party), Ok(Ok(element))),
+        Call::GivesNone(error) => same(rt, core.try_dequeue(party), Ok(Err(error))),
+        Call::NoTry => same(rt, core.try_dequeue(party), Err(StepError::NotThere)),
+    }
 }
 
-/// An element that comes out.
-fn gives(rt: &impl Abort, core: &mut QueueCore<u64>, party: usize, element: u64) {
-    same(rt, core.try_dequeue(party), Ok(Ok(element)));
-}
-
-/// A try that gets no element.
-fn gives_none(rt: &impl Abort, core: &mut QueueCore<u64>, party: usize, error: TryDequeueError) {
-    same(rt, core.try_dequeue(party), Ok(Err(error)));
+/// Has a core answer these calls of its parties, one after the other.
+fn calls(rt: &impl Abort, core: &mut QueueCore<u64>, calls: &[(usize, Call)]) {
+    for (party, wanted) in calls {
+        does(rt, core, *party, *wanted);
+    }
 }
 
 #[test]
 fn a_swap_without_its_link_is_inconsistent(rt: HostRuntime) -> Result<(), Fail> {
     let mut core = core_with(rt.alloc(), 3, &[0, 1])?;
-    done(&rt, &mut core, 0, QueueStep::Clear(Some(1)));
-    done(&rt, &mut core, 0, QueueStep::Swap);
-    takes(&rt, &mut core, 1, 2);
-    gives_none(&rt, &mut core, 2, TryDequeueError::Inconsistent);
-    done(&rt, &mut core, 0, QueueStep::Link);
-    gives(&rt, &mut core, 2, 1);
-    gives(&rt, &mut core, 2, 2);
-    gives_none(&rt, &mut core, 2, TryDequeueError::Empty);
+    calls(
+        &rt,
+        &mut core,
+        &[
+            (0, Call::Done(NumberStep::Clear(Some(1)))),
+            (0, Call::Done(NumberStep::Swap)),
+            (1, Call::Enqueue(2)),
+            (2, Call::GivesNone(TryDequeueError::Inconsistent)),
+            (0, Call::Done(NumberStep::Link)),
+            (2, Call::Gives(1)),
+            (2, Call::Gives(2)),
+            (2, Call::GivesNone(TryDequeueError::Empty)),
+        ],
+    );
     Ok(())
 }
 
 #[test]
 fn a_producer_overtakes_the_stub(rt: HostRuntime) -> Result<(), Fail> {
     let mut core = core_with(rt.alloc(), 3, &[0, 1])?;
-    takes(&rt, &mut core, 0, 1);
-    answers(&rt, &mut core, 2, QueueStep::Take, QueueAnswer::Taken);
-    done(&rt, &mut core, 2, QueueStep::ReadNext);
-    done(&rt, &mut core, 2, QueueStep::ReadNext);
-    done(&rt, &mut core, 2, QueueStep::ReadHead);
-    done(&rt, &mut core, 2, QueueStep::Clear(None));
-    done(&rt, &mut core, 1, QueueStep::Clear(Some(2)));
-    done(&rt, &mut core, 1, QueueStep::Swap);
-    done(&rt, &mut core, 2, QueueStep::Swap);
-    done(&rt, &mut core, 2, QueueStep::Link);
-    answers(
+    calls(
         &rt,
         &mut core,
-        2,
-        QueueStep::ReadNext,
-        QueueAnswer::Inconsistent,
+        &[
+            (0, Call::Enqueue(1)),
+            (2, Call::Taken),
+            (2, Call::Done(NumberStep::ReadNext)),
+            (2, Call::Done(NumberStep::ReadNext)),
+            (2, Call::Done(NumberStep::ReadHead)),
+            (2, Call::Done(NumberStep::Clear(None))),
+            (1, Call::Done(NumberStep::Clear(Some(2)))),
+            (1, Call::Done(NumberStep::Swap)),
+            (2, Call::Done(NumberStep::Swap)),
+            (2, Call::Done(NumberStep::Link)),
+            (2, Call::Unlinked),
+            (1, Call::Done(NumberStep::Link)),
+            (2, Call::Gives(1)),
+            (2, Call::Gives(2)),
+            (2, Call::GivesNone(TryDequeueError::Empty)),
+            (2, Call::Done(NumberStep::Give)),
+        ],
     );
-    done(&rt, &mut core, 1, QueueStep::Link);
-    gives(&rt, &mut core, 2, 1);
-    gives(&rt, &mut core, 2, 2);
-    gives_none(&rt, &mut core, 2, TryDequeueError::Empty);
-    done(&rt, &mut core, 2, QueueStep::Give);
     Ok(())
 }
 
 #[test]
 fn a_party_alone_without_rooms(rt: HostRuntime) -> Result<(), Fail> {
     let mut core = core_with(rt.alloc(), 1, &[])?;
-    not_there(&rt, &mut core, 0, QueueStep::Swap);
-    let refused = core.step(0, QueueStep::Clear(Some(1)));
-    same(&rt, refused, Err((StepError::NotThere, Some(1))));
-    gives_none(&rt, &mut core, 0, TryDequeueError::Empty);
-    same(&rt, core.try_dequeue(5), Err(StepError::NotThere));
-    gives_back(&rt, &mut core, 0, 7);
-    gives_back(&rt, &mut core, 5, 7);
+    calls(
+        &rt,
+        &mut core,
+        &[
+            (0, Call::NotThere(NumberStep::Swap, None)),
+            (0, Call::NotThere(NumberStep::Clear(Some(1)), Some(1))),
+            (0, Call::GivesNone(TryDequeueError::Empty)),
+            (5, Call::NoTry),
+            (0, Call::GivesBack(7)),
+            (5, Call::GivesBack(7)),
+        ],
+    );
     same(&rt, core.add_room(5), Err(StepError::NotThere));
     same(&rt, core.add_party(), Ok(1));
     Ok(())
@@ -143,61 +225,85 @@ fn a_party_alone_without_rooms(rt: HostRuntime) -> Result<(), Fail> {
 #[test]
 fn the_right_is_with_one_party(rt: HostRuntime) -> Result<(), Fail> {
     let mut core = core_with(rt.alloc(), 2, &[0])?;
-    takes(&rt, &mut core, 0, 1);
-    answers(&rt, &mut core, 0, QueueStep::Take, QueueAnswer::Taken);
-    gives_none(&rt, &mut core, 1, TryDequeueError::Busy);
-    answers(&rt, &mut core, 1, QueueStep::Take, QueueAnswer::Busy);
-    gives(&rt, &mut core, 0, 1);
-    gives_none(&rt, &mut core, 0, TryDequeueError::Empty);
-    done(&rt, &mut core, 0, QueueStep::Give);
-    not_there(&rt, &mut core, 0, QueueStep::Give);
-    gives_none(&rt, &mut core, 1, TryDequeueError::Empty);
+    calls(
+        &rt,
+        &mut core,
+        &[
+            (0, Call::Enqueue(1)),
+            (0, Call::Taken),
+            (1, Call::GivesNone(TryDequeueError::Busy)),
+            (1, Call::Busy),
+            (0, Call::Gives(1)),
+            (0, Call::GivesNone(TryDequeueError::Empty)),
+            (0, Call::Done(NumberStep::Give)),
+            (0, Call::NotThere(NumberStep::Give, None)),
+            (1, Call::GivesNone(TryDequeueError::Empty)),
+        ],
+    );
     Ok(())
 }
 
 #[test]
 fn one_room_is_used_again_at_once(rt: HostRuntime) -> Result<(), Fail> {
     let mut core = core_with(rt.alloc(), 2, &[0])?;
-    takes(&rt, &mut core, 0, 1);
-    gives(&rt, &mut core, 1, 1);
-    gives_back(&rt, &mut core, 0, 2);
-    takes(&rt, &mut core, 1, 3);
-    gives(&rt, &mut core, 0, 3);
-    takes(&rt, &mut core, 0, 4);
-    gives(&rt, &mut core, 1, 4);
+    calls(
+        &rt,
+        &mut core,
+        &[
+            (0, Call::Enqueue(1)),
+            (1, Call::Gives(1)),
+            (0, Call::GivesBack(2)),
+            (1, Call::Enqueue(3)),
+            (0, Call::Gives(3)),
+            (0, Call::Enqueue(4)),
+            (1, Call::Gives(4)),
+        ],
+    );
     Ok(())
 }
 
 #[test]
 fn the_tail_passes_between_holders(rt: HostRuntime) -> Result<(), Fail> {
     let mut core = core_with(rt.alloc(), 3, &[0, 1])?;
-    takes(&rt, &mut core, 0, 1);
-    done(&rt, &mut core, 1, QueueStep::Clear(Some(2)));
-    done(&rt, &mut core, 1, QueueStep::Swap);
-    gives_none(&rt, &mut core, 2, TryDequeueError::Inconsistent);
-    gives_none(&rt, &mut core, 0, TryDequeueError::Inconsistent);
-    done(&rt, &mut core, 1, QueueStep::Link);
-    gives(&rt, &mut core, 0, 1);
-    gives(&rt, &mut core, 2, 2);
-    gives_none(&rt, &mut core, 2, TryDequeueError::Empty);
+    calls(
+        &rt,
+        &mut core,
+        &[
+            (0, Call::Enqueue(1)),
+            (1, Call::Done(NumberStep::Clear(Some(2)))),
+            (1, Call::Done(NumberStep::Swap)),
+            (2, Call::GivesNone(TryDequeueError::Inconsistent)),
+            (0, Call::GivesNone(TryDequeueError::Inconsistent)),
+            (1, Call::Done(NumberStep::Link)),
+            (0, Call::Gives(1)),
+            (2, Call::Gives(2)),
+            (2, Call::GivesNone(TryDequeueError::Empty)),
+        ],
+    );
     Ok(())
 }
 
 #[test]
 fn calls_while_the_stub_is_put_in(rt: HostRuntime) -> Result<(), Fail> {
     let mut core = core_with(rt.alloc(), 1, &[0])?;
-    takes(&rt, &mut core, 0, 1);
-    answers(&rt, &mut core, 0, QueueStep::Take, QueueAnswer::Taken);
-    done(&rt, &mut core, 0, QueueStep::ReadNext);
-    done(&rt, &mut core, 0, QueueStep::ReadNext);
-    done(&rt, &mut core, 0, QueueStep::ReadHead);
-    same(&rt, core.try_dequeue(0), Err(StepError::NotThere));
-    not_there(&rt, &mut core, 0, QueueStep::Give);
-    done(&rt, &mut core, 0, QueueStep::Clear(None));
-    done(&rt, &mut core, 0, QueueStep::Swap);
-    done(&rt, &mut core, 0, QueueStep::Link);
-    answers(&rt, &mut core, 0, QueueStep::ReadNext, QueueAnswer::Out(1));
-    done(&rt, &mut core, 0, QueueStep::Give);
+    calls(
+        &rt,
+        &mut core,
+        &[
+            (0, Call::Enqueue(1)),
+            (0, Call::Taken),
+            (0, Call::Done(NumberStep::ReadNext)),
+            (0, Call::Done(NumberStep::ReadNext)),
+            (0, Call::Done(NumberStep::ReadHead)),
+            (0, Call::NoTry),
+            (0, Call::NotThere(NumberStep::Give, None)),
+            (0, Call::Done(NumberStep::Clear(None))),
+            (0, Call::Done(NumberStep::Swap)),
+            (0, Call::Done(NumberStep::Link)),
+            (0, Call::Out(1)),
+            (0, Call::Done(NumberStep::Give)),
+        ],
+    );
     Ok(())
 }
 
@@ -233,7 +339,7 @@ fn says_all(rt: &impl Abort, replayed: &Replay<u64>) {
     same(rt, replayed.replies.as_slice(), ANSWERS.as_slice());
     same(rt, replayed.rest.len(), 0);
     same(rt, replayed.back, None);
-    assert!(rt; !replayed.stopped);
+    same(rt, replayed.stopped, false);
 }
 
 #[test]
@@ -242,8 +348,11 @@ fn replays_a_late_link(rt: HostRuntime) -> Result<(), Fail> {
     let replayed = replay(rt.alloc(), core_with(rt.alloc(), 2, &[0])?, steps);
     says_all(&rt, &replayed);
     let mut core = replayed.core;
-    gives(&rt, &mut core, 1, 1);
-    gives_none(&rt, &mut core, 1, TryDequeueError::Empty);
+    let last = [
+        (1, Call::Gives(1)),
+        (1, Call::GivesNone(TryDequeueError::Empty)),
+    ];
+    calls(&rt, &mut core, &last);
     Ok(())
 }
 
@@ -269,12 +378,12 @@ fn moves_elements(
     core: &mut QueueCore<Counted>,
     drops: &Drops,
 ) -> Result<(), AllocError> {
-    assert!(rt; comes_in(core, drops)?);
-    assert!(rt; comes_in(core, drops)?);
-    assert!(rt; comes_out(core));
+    same(rt, comes_in(core, drops)?, true);
+    same(rt, comes_in(core, drops)?, true);
+    same(rt, comes_out(core), true);
     same(rt, drops.count(), 1);
-    assert!(rt; is_laid(core, drops)?);
-    assert!(rt; !comes_in(core, drops)?);
+    same(rt, is_laid(core, drops)?, true);
+    same(rt, comes_in(core, drops)?, false);
     same(rt, drops.count(), 2);
     Ok(())
 }

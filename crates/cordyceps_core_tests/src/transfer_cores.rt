@@ -44,35 +44,79 @@ fn three(alloc: Global) -> Result<TransferCore<u64>, StepError> {
     core_with(alloc, 3, &[0, 1])
 }
 
-/// A party that comes in under its number.
-fn comes(rt: &impl Abort, core: &mut TransferCore<u64>, party: usize) {
-    same(rt, core.add_party(), Ok(party));
+/// A step with an element that is a number.
+#[derive(Clone, Copy)]
+enum NumberStep {
+    Load(u64),
+    SetNext,
+    Exchange,
+    Take,
+    Walk,
 }
 
-/// A room that a party gets, or the error that it gets.
-fn rooms(
-    rt: &impl Abort,
-    core: &mut TransferCore<u64>,
-    party: usize,
-    answer: Result<(), StepError>,
-) {
-    same(rt, core.add_room(party), answer);
+impl NumberStep {
+    /// The core's own.
+    fn of_core(self) -> TransferStep<u64> {
+        match self {
+            NumberStep::Load(element) => TransferStep::Load(element),
+            NumberStep::SetNext => TransferStep::SetNext,
+            NumberStep::Exchange => TransferStep::Exchange,
+            NumberStep::Take => TransferStep::Take,
+            NumberStep::Walk => TransferStep::Walk,
+        }
+    }
 }
 
-/// A step that is taken, with what it answers.
+/// A call of a core, and what it has to answer.
+#[derive(Clone, Copy)]
+enum Call<'a> {
+    /// The party comes in, under its number.
+    Comes,
+    /// The party gets a room, or the error.
+    Room(Result<(), StepError>),
+    /// A step that is taken, with more to do.
+    Done(NumberStep),
+    /// A step that is not there, and brings no element.
+    NotThere(NumberStep),
+    /// The step that ends a push, and whether the stack was empty.
+    Pushed(bool),
+    /// The step that fails a push, which gives its element back.
+    Failed(u64),
+    /// The step that takes what is held.
+    Taken,
+    /// The step that takes, where nothing is held.
+    Nothing,
+    /// The step that hands the last element out.
+    Last(u64),
+    /// A push, and whether the stack was empty.
+    Push(u64, bool),
+    /// A push that is not there, and gives its element back.
+    GivesBack(u64),
+    /// All that is held.
+    Takes(&'a [u64]),
+}
+
+/// Compares what a step answers with what is wanted.
 fn answers(
     rt: &impl Abort,
     core: &mut TransferCore<u64>,
     party: usize,
-    step: TransferStep<u64>,
-    answer: TransferAnswer<u64>,
+    step: NumberStep,
+    wanted: TransferAnswer<u64>,
 ) {
-    same(rt, core.step(party, step), Ok(answer));
+    same(rt, core.step(party, step.of_core()), Ok(wanted));
 }
 
-/// A step that is taken, with more to do.
-fn done(rt: &impl Abort, core: &mut TransferCore<u64>, party: usize, step: TransferStep<u64>) {
-    answers(rt, core, party, step, TransferAnswer::Done);
+/// Compares what a step that is not there answers with what is wanted.
+fn not_there(rt: &impl Abort, core: &mut TransferCore<u64>, party: usize, step: NumberStep) {
+    let wanted = Err((StepError::NotThere, None));
+    same(rt, core.step(party, step.of_core()), wanted);
+}
+
+/// Compares what a push that is not there answers with what is wanted.
+fn gives_back(rt: &impl Abort, core: &mut TransferCore<u64>, party: usize, element: u64) {
+    let wanted = Err((StepError::NotThere, element));
+    same(rt, core.push_was_empty(party, element), wanted);
 }
 
 /// A push that is taken, and whether the stack was empty.
@@ -86,15 +130,6 @@ fn pushes(
     same(rt, core.push_was_empty(party, element), Ok(was_empty));
 }
 
-/// A push that is not there, and gives its element back.
-fn gives_back(rt: &impl Abort, core: &mut TransferCore<u64>, party: usize, element: u64) {
-    same(
-        rt,
-        core.push_was_empty(party, element),
-        Err((StepError::NotThere, element)),
-    );
-}
-
 /// A batch that is taken.
 fn takes(
     rt: &impl Abort,
@@ -106,111 +141,156 @@ fn takes(
     Ok(())
 }
 
+/// Compares what a step, or a call of several, answers with what is wanted.
+fn does(
+    rt: &impl Abort,
+    core: &mut TransferCore<u64>,
+    party: usize,
+    call: Call<'_>,
+) -> Result<(), StepError> {
+    match call {
+        Call::Comes => same(rt, core.add_party(), Ok(party)),
+        Call::Room(answer) => same(rt, core.add_room(party), answer),
+        Call::Done(step) => answers(rt, core, party, step, TransferAnswer::Done),
+        Call::NotThere(step) => not_there(rt, core, party, step),
+        Call::Pushed(first) => {
+            let wanted = TransferAnswer::Pushed(first);
+            answers(rt, core, party, NumberStep::Exchange, wanted);
+        }
+        Call::Failed(element) => {
+            let wanted = TransferAnswer::Failed(element);
+            answers(rt, core, party, NumberStep::Exchange, wanted);
+        }
+        Call::Taken => answers(rt, core, party, NumberStep::Take, TransferAnswer::Taken),
+        Call::Nothing => answers(rt, core, party, NumberStep::Take, TransferAnswer::Nothing),
+        Call::Last(element) => answers(
+            rt,
+            core,
+            party,
+            NumberStep::Walk,
+            TransferAnswer::Last(element),
+        ),
+        Call::Push(element, first) => pushes(rt, core, party, element, first),
+        Call::GivesBack(element) => gives_back(rt, core, party, element),
+        Call::Takes(batch) => takes(rt, core, party, batch)?,
+    }
+    Ok(())
+}
+
+/// Has a core answer these calls of its parties, one after the other.
+fn calls(
+    rt: &impl Abort,
+    core: &mut TransferCore<u64>,
+    calls: &[(usize, Call<'_>)],
+) -> Result<(), StepError> {
+    for (party, wanted) in calls {
+        does(rt, core, *party, *wanted)?;
+    }
+    Ok(())
+}
+
 #[test]
 fn parties_and_rooms_are_there(rt: HostRuntime) -> Result<(), Fail> {
     let mut core: TransferCore<u64> = TransferCore::new(rt.alloc());
-    rooms(&rt, &mut core, 0, Err(StepError::NotThere));
-    comes(&rt, &mut core, 0);
-    comes(&rt, &mut core, 1);
-    rooms(&rt, &mut core, 1, Ok(()));
-    rooms(&rt, &mut core, 2, Err(StepError::NotThere));
-    gives_back(&rt, &mut core, 0, 7);
-    gives_back(&rt, &mut core, 2, 7);
-    pushes(&rt, &mut core, 1, 7, true);
-    assert!(rt; matches!(core.take_all(2), Err(StepError::NotThere)));
-    same(
+    calls(
         &rt,
-        core.step(2, TransferStep::Take),
-        Err((StepError::NotThere, None)),
-    );
+        &mut core,
+        &[
+            (0, Call::Room(Err(StepError::NotThere))),
+            (0, Call::Comes),
+            (1, Call::Comes),
+            (1, Call::Room(Ok(()))),
+            (2, Call::Room(Err(StepError::NotThere))),
+            (0, Call::GivesBack(7)),
+            (2, Call::GivesBack(7)),
+            (1, Call::Push(7, true)),
+            (2, Call::NotThere(NumberStep::Take)),
+        ],
+    )?;
+    let taken = core.take_all(2);
+    same(&rt, matches!(taken, Err(StepError::NotThere)), true);
     Ok(())
 }
 
 #[test]
 fn a_push_that_reads_null_again_has_not_failed(rt: HostRuntime) -> Result<(), Fail> {
     let mut core = three(rt.alloc())?;
-    done(&rt, &mut core, 0, TransferStep::Load(1));
-    pushes(&rt, &mut core, 1, 2, true);
-    takes(&rt, &mut core, 2, &[2])?;
-    done(&rt, &mut core, 0, TransferStep::SetNext);
-    answers(
+    calls(
         &rt,
         &mut core,
-        0,
-        TransferStep::Exchange,
-        TransferAnswer::Pushed(true),
-    );
-    takes(&rt, &mut core, 2, &[1])?;
+        &[
+            (0, Call::Done(NumberStep::Load(1))),
+            (1, Call::Push(2, true)),
+            (2, Call::Takes(&[2])),
+            (0, Call::Done(NumberStep::SetNext)),
+            (0, Call::Pushed(true)),
+            (2, Call::Takes(&[1])),
+        ],
+    )?;
     Ok(())
 }
 
 #[test]
 fn a_push_that_was_overtaken_fails(rt: HostRuntime) -> Result<(), Fail> {
     let mut core = three(rt.alloc())?;
-    done(&rt, &mut core, 0, TransferStep::Load(1));
-    pushes(&rt, &mut core, 1, 2, true);
-    done(&rt, &mut core, 0, TransferStep::SetNext);
-    answers(
+    calls(
         &rt,
         &mut core,
-        0,
-        TransferStep::Exchange,
-        TransferAnswer::Failed(1),
-    );
-    pushes(&rt, &mut core, 0, 1, false);
-    takes(&rt, &mut core, 2, &[1, 2])?;
+        &[
+            (0, Call::Done(NumberStep::Load(1))),
+            (1, Call::Push(2, true)),
+            (0, Call::Done(NumberStep::SetNext)),
+            (0, Call::Failed(1)),
+            (0, Call::Push(1, false)),
+            (2, Call::Takes(&[1, 2])),
+        ],
+    )?;
     Ok(())
 }
 
 #[test]
 fn rooms_come_back_by_a_walk(rt: HostRuntime) -> Result<(), Fail> {
     let mut core = TransferCore::new(rt.alloc());
-    comes(&rt, &mut core, 0);
-    rooms(&rt, &mut core, 0, Ok(()));
-    pushes(&rt, &mut core, 0, 1, true);
-    gives_back(&rt, &mut core, 0, 2);
-    answers(&rt, &mut core, 0, TransferStep::Take, TransferAnswer::Taken);
-    gives_back(&rt, &mut core, 0, 3);
-    answers(
+    calls(
         &rt,
         &mut core,
-        0,
-        TransferStep::Walk,
-        TransferAnswer::Last(1),
-    );
-    pushes(&rt, &mut core, 0, 3, true);
-    takes(&rt, &mut core, 0, &[3])?;
-    takes(&rt, &mut core, 0, &[])?;
-    answers(
-        &rt,
-        &mut core,
-        0,
-        TransferStep::Take,
-        TransferAnswer::Nothing,
-    );
+        &[
+            (0, Call::Comes),
+            (0, Call::Room(Ok(()))),
+            (0, Call::Push(1, true)),
+            (0, Call::GivesBack(2)),
+            (0, Call::Taken),
+            (0, Call::GivesBack(3)),
+            (0, Call::Last(1)),
+            (0, Call::Push(3, true)),
+            (0, Call::Takes(&[3])),
+            (0, Call::Takes(&[])),
+            (0, Call::Nothing),
+        ],
+    )?;
     Ok(())
 }
 
 #[test]
 fn the_same_room_is_at_the_head_again(rt: HostRuntime) -> Result<(), Fail> {
     let mut core = TransferCore::new(rt.alloc());
-    comes(&rt, &mut core, 0);
-    comes(&rt, &mut core, 1);
-    rooms(&rt, &mut core, 0, Ok(()));
-    rooms(&rt, &mut core, 1, Ok(()));
-    pushes(&rt, &mut core, 1, 2, true);
-    done(&rt, &mut core, 0, TransferStep::Load(1));
-    takes(&rt, &mut core, 1, &[2])?;
-    pushes(&rt, &mut core, 1, 3, true);
-    done(&rt, &mut core, 0, TransferStep::SetNext);
-    answers(
+    calls(
         &rt,
         &mut core,
-        0,
-        TransferStep::Exchange,
-        TransferAnswer::Pushed(false),
-    );
-    takes(&rt, &mut core, 1, &[1, 3])?;
+        &[
+            (0, Call::Comes),
+            (1, Call::Comes),
+            (0, Call::Room(Ok(()))),
+            (1, Call::Room(Ok(()))),
+            (1, Call::Push(2, true)),
+            (0, Call::Done(NumberStep::Load(1))),
+            (1, Call::Takes(&[2])),
+            (1, Call::Push(3, true)),
+            (0, Call::Done(NumberStep::SetNext)),
+            (0, Call::Pushed(false)),
+            (1, Call::Takes(&[1, 3])),
+        ],
+    )?;
     Ok(())
 }
 
@@ -262,7 +342,7 @@ fn says_all(rt: &impl Abort, replayed: &Replay<u64>) {
     same(rt, replayed.replies.as_slice(), ANSWERS.as_slice());
     same(rt, replayed.rest.len(), 0);
     same(rt, replayed.back, None);
-    assert!(rt; !replayed.stopped);
+    same(rt, replayed.stopped, false);
 }
 
 #[test]
@@ -271,8 +351,11 @@ fn replays_a_script(rt: HostRuntime) -> Result<(), Fail> {
     let replayed = replay(rt.alloc(), three(rt.alloc())?, steps);
     says_all(&rt, &replayed);
     let mut core = replayed.core;
-    takes(&rt, &mut core, 0, &[])?;
-    pushes(&rt, &mut core, 2, 5, true);
+    calls(
+        &rt,
+        &mut core,
+        &[(0, Call::Takes(&[])), (2, Call::Push(5, true))],
+    )?;
     Ok(())
 }
 
