@@ -1,8 +1,24 @@
 //! Comparisons that say both values where they differ.
+ghost use Rattle.std.specs.Prelude.{◌<◌, ◌≤◌};
+
 use std::fmt::Debug;
 use std::process::Abort;
 
 /// Fails where what came is not what was wanted, and says both.
 pub fn same<T: PartialEq + Debug + Drop>(rt: &impl Abort, came: T, wanted: T) {
     assert_eq!(rt; came, wanted);
+}
+
+/// Fails where there is no room.
+pub fn has_room(rt: &impl Abort, rooms: usize)
+    ensures { 0 < rooms }
+{
+    assert!(rt; rooms > 0);
+}
+
+/// Fails where a number is greater than the bound.
+pub fn at_most(rt: &impl Abort, number: usize, bound: usize)
+    ensures { number ≤ bound }
+{
+    assert!(rt; number <= bound);
 }

@@ -2,6 +2,7 @@
 use std::process::Abort;
 use std::sync::atomic::{AtomicBool, Ordering};
 use std::thread;
+use std::thread::Threads;
 
 /// How often a test looks at a flag before it fails.
 const LOOKS: u64 = 10_000_000;
@@ -15,4 +16,15 @@ pub fn await_flag(rt: &impl Abort, flag: &AtomicBool) {
         thread::yield_now();
     }
     panic!(rt; "a thread's calls have not returned");
+}
+
+/// What a call gives in a thread of its own, which is joined once it has set the flag.
+pub fn watched<R: Threads + Abort + Sync, W: FnOnce() -> T + Send, T: Send + Drop>(
+    rt: &R,
+    done: &AtomicBool,
+    work: W,
+) -> T
+    requires { W.pre work }
+{
+    thread::join(rt, work, || await_flag(rt, done)).0
 }

@@ -28,6 +28,15 @@ enum Way {
     PushWasEmpty,
 }
 
+/// How two threads push.
+#[derive(Clone, Copy)]
+enum Course {
+    /// Both by one try, until a try of each has missed.
+    BothMiss,
+    /// One of them often by the call that waits, and the other by one try, until the first is done.
+    OneDisturbs,
+}
+
 /// How many of two threads are here, and how many of them had a try that missed.
 #[derive(Drop)]
 struct Met {
@@ -165,10 +174,10 @@ impl<'s> Pusher<'s> {
         self
     }
 
-    /// Pushes by one try, or takes where it has none left, until the flag is set.
-    fn disturb(mut self, rt: &impl Abort, done: &AtomicBool) -> Pusher<'s> {
+    /// Pushes by one try, or takes where it has none left, until the first flag is set, and then sets the other.
+    fn disturb(mut self, rt: &impl Abort, first: &AtomicBool, done: &AtomicBool) -> Pusher<'s> {
         for _ in 0..TURNS {
-            if done.load(Ordering::SeqCst) {
+            if first.load(Ordering::SeqCst) {
                 break;
             }
             match self.left.pop() {
@@ -176,6 +185,7 @@ impl<'s> Pusher<'s> {
                 None => self.take(),
             }
         }
+        done.store(true, Ordering::SeqCst);
         self
     }
 
@@ -184,6 +194,34 @@ impl<'s> Pusher<'s> {
         match self.seat.try_push(rt, node) {
             Ok(first) => self.told(first),
             Err(back) => self.left.push(back),
+        }
+    }
+
+    /// What the first of two threads does, which then sets its flag.
+    fn lead<R: Wait + Abort>(
+        self,
+        rt: &R,
+        (course, way): (Course, Way),
+        met: &Met,
+        done: &AtomicBool,
+    ) -> Pusher<'s> {
+        match course {
+            Course::BothMiss => self.run(rt, way, met, done),
+            Course::OneDisturbs => self.push_often(rt, way, done),
+        }
+    }
+
+    /// What the second does.
+    fn follow<R: Wait + Abort>(
+        self,
+        rt: &R,
+        (course, way): (Course, Way),
+        met: &Met,
+        (first, done): (&AtomicBool, &AtomicBool),
+    ) -> Pusher<'s> {
+        match course {
+            Course::BothMiss => self.run(rt, way, met, done),
+            Course::OneDisturbs => self.disturb(rt, first, done),
         }
     }
 
@@ -204,11 +242,12 @@ impl<'s> Pusher<'s> {
     }
 }
 
-/// Runs two threads, joined once their flags are set.
+/// Runs two threads, joined once their flags are set, and compares how many of them had a try that missed.
 fn run_both<'s, R: Threads + Wait + Abort + Sync>(
     rt: &R,
-    way: Way,
+    plan: (Course, Way),
     pushers: (Pusher<'s>, Pusher<'s>),
+    missed: u64,
 ) -> (Pusher<'s>, Pusher<'s>) {
     let counts = Met {
         here: AtomicU64::new(0),
@@ -217,39 +256,24 @@ fn run_both<'s, R: Threads + Wait + Abort + Sync>(
     let flags = (AtomicBool::new(false), AtomicBool::new(false));
     let (met, done, also) = (&counts, &flags.0, &flags.1);
     let (first, second) = pushers;
-    let one = move || first.run(rt, way, met, done);
-    let two = move || second.run(rt, way, met, also);
+    let one = move || first.lead(rt, plan, met, done);
+    let two = move || second.follow(rt, plan, met, (done, also));
     let work = move || thread::join(rt, one, two);
     let watch = || {
         await_flag(rt, done);
         await_flag(rt, also);
     };
     let both = thread::join(rt, work, watch).0;
-    same(rt, met.missed.load(Ordering::SeqCst), 2);
+    same(rt, met.missed.load(Ordering::SeqCst), missed);
     both
-}
-
-/// Runs a thread that pushes often and one that disturbs it, joined once the first one's flag is set.
-fn run_disturbed<'s, R: Threads + Wait + Abort + Sync>(
-    rt: &R,
-    way: Way,
-    pushers: (Pusher<'s>, Pusher<'s>),
-) -> (Pusher<'s>, Pusher<'s>) {
-    let flag = AtomicBool::new(false);
-    let done = &flag;
-    let (first, second) = pushers;
-    let one = move || first.push_often(rt, way, done);
-    let two = move || second.disturb(rt, done);
-    let work = move || thread::join(rt, one, two);
-    thread::join(rt, work, || await_flag(rt, done)).0
 }
 
 /// Compares what two threads have at last, with what is held, with what they had at first.
 fn round<R: Threads + Wait + Abort + Sync>(
     rt: &R,
     alloc: Global,
-    way: Way,
-    disturbed: bool,
+    plan: (Course, Way),
+    missed: u64,
 ) -> Result<(), AllocError> {
     let drops = Drops::new(alloc)?;
     let tens = pair(alloc, 10, &drops)?;
@@ -259,11 +283,7 @@ fn round<R: Threads + Wait + Abort + Sync>(
     let one = Pusher::with_pair(seat.split(rt, 2), tens);
     let two = Pusher::with_pair(seat.split(rt, 2), twenties);
     let mut all = Pusher::new(seat);
-    let (one, two) = if disturbed {
-        run_disturbed(rt, way, (one, two))
-    } else {
-        run_both(rt, way, (one, two))
-    };
+    let (one, two) = run_both(rt, plan, (one, two), missed);
     all.add(one);
     all.add(two);
     all.take();
@@ -277,7 +297,7 @@ fn round<R: Threads + Wait + Abort + Sync>(
 #[test]
 fn pushes_after_a_miss(rt: HostRuntime) -> Result<(), AllocError> {
     for _ in 0..ROUNDS {
-        round(&rt, rt.alloc(), Way::Push, false)?;
+        round(&rt, rt.alloc(), (Course::BothMiss, Way::Push), 2)?;
     }
     Ok(())
 }
@@ -285,17 +305,17 @@ fn pushes_after_a_miss(rt: HostRuntime) -> Result<(), AllocError> {
 #[test]
 fn pushes_after_a_miss_and_tells(rt: HostRuntime) -> Result<(), AllocError> {
     for _ in 0..ROUNDS {
-        round(&rt, rt.alloc(), Way::PushWasEmpty, false)?;
+        round(&rt, rt.alloc(), (Course::BothMiss, Way::PushWasEmpty), 2)?;
     }
     Ok(())
 }
 
 #[test]
 fn pushes_beside_a_thread_that_disturbs(rt: HostRuntime) -> Result<(), AllocError> {
-    round(&rt, rt.alloc(), Way::Push, true)
+    round(&rt, rt.alloc(), (Course::OneDisturbs, Way::Push), 0)
 }
 
 #[test]
 fn pushes_and_tells_beside_a_thread_that_disturbs(rt: HostRuntime) -> Result<(), AllocError> {
-    round(&rt, rt.alloc(), Way::PushWasEmpty, true)
+    round(&rt, rt.alloc(), (Course::OneDisturbs, Way::PushWasEmpty), 0)
 }

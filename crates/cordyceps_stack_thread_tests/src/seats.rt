@@ -2,7 +2,7 @@
 ghost use Rattle.std.specs.Prelude.{◌≡◌, IfOk};
 ghost use Rattle.cordyceps_shared.specs.Shares.{whole};
 
-use crate::compared::same;
+use crate::compared::{at_most, has_room, same};
 use crate::items::{Handle, element, gives, pair};
 use cordyceps_stack::stack::{Party, Stack, TransferStack};
 use cordyceps_testing::counted::{Counted, Drops};
@@ -23,7 +23,7 @@ pub fn pushes(
     ensures table { party.new.table ≡ stack.now }
     ensures share { party.new.share ≡ party.old.share }
 {
-    assert!(rt; party.rooms() > 0);
+    has_room(rt, party.rooms());
     match stack.try_push(party, handle) {
         Ok(was_empty) => same(rt, was_empty, first),
         Err(_) => panic!(rt; "nobody else pushes or takes"),
@@ -66,7 +66,7 @@ impl<'s> Seated<'s> {
 
     /// Gives some of the rooms, which have to be there, to a new party.
     pub fn split(&mut self, rt: &impl Abort, rooms: usize) -> Seated<'s> {
-        assert!(rt; self.party.rooms() >= rooms);
+        at_most(rt, rooms, self.party.rooms());
         Seated {
             stack: self.stack,
             party: self.stack.split(&mut self.party, rooms),
@@ -100,19 +100,19 @@ impl<'s> Seated<'s> {
 
     /// Pushes into a room that has to be there, by one try, and tells whether nothing was held before.
     pub fn try_push(&mut self, rt: &impl Abort, handle: Handle) -> Result<bool, Handle> {
-        assert!(rt; self.party.rooms() > 0);
+        has_room(rt, self.party.rooms());
         self.stack.try_push(&mut self.party, handle)
     }
 
     /// Pushes into a room that has to be there, and tells whether nothing was held before.
     pub fn push_was_empty<R: Wait + Abort>(&mut self, rt: &R, handle: Handle) -> bool {
-        assert!(rt; self.party.rooms() > 0);
+        has_room(rt, self.party.rooms());
         self.stack.push_was_empty(rt, &mut self.party, handle)
     }
 
     /// Pushes into a room that has to be there.
     pub fn push<R: Wait + Abort>(&mut self, rt: &R, handle: Handle) {
-        assert!(rt; self.party.rooms() > 0);
+        has_room(rt, self.party.rooms());
         self.stack.push(rt, &mut self.party, handle);
     }
 }

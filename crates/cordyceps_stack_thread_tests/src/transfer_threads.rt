@@ -3,7 +3,7 @@ ghost use Rattle.std.specs.Prelude.{◌≡◌};
 ghost use Rattle.std.specs.Thread.{IsSync};
 
 use crate::compared::same;
-use crate::flags::await_flag;
+use crate::flags::{await_flag, watched};
 use crate::items::{Handle, dropped, element, pair, taken};
 use crate::races::Race;
 use crate::seats::Seated;
@@ -49,8 +49,7 @@ fn watch_each_way<R: Threads + Wait + Abort + Sync>(
 ) {
     let flag = AtomicBool::new(false);
     let done = &flag;
-    let push = move || push_each_way(rt, seat, first, pair, done);
-    thread::join(rt, push, || await_flag(rt, done));
+    watched(rt, done, move || push_each_way(rt, seat, first, pair, done));
 }
 
 #[test]
