@@ -2,7 +2,7 @@
 use Rattle.std.proofs.Common.{◌≡◌, ℕ, zero, suc, List, [], ◌∷◌, ◌++◌, replicate, Bool, cond, refl, sym, ap, ◌∙◌, subst}
 use Rattle.cordyceps_shared.specs.Histories.{plain, own, AllOwn}
 use Rattle.cordyceps_shared.specs.Knowing.{unmarked, merged, Begins}
-use Rattle.cordyceps_shared.specs.Shares.{Name, whole, gives_half}
+use Rattle.cordyceps_shared.specs.Shares.{Name, whole, keeps_half, gives_half}
 use Rattle.cordyceps_shared.specs.Standings.{Standing, known_of, Adds}
 use Rattle.cordyceps_shared.proofs.Telling.{grown_then}
 
@@ -10,6 +10,11 @@ use Rattle.cordyceps_shared.proofs.Telling.{grown_then}
 pub replicate_more : {A : Type 0} (n : ℕ) (a : A) (xs : List A) → replicate n a ++ a ∷ xs ≡ replicate (suc n) a ++ xs
 replicate_more zero a xs = refl
 replicate_more (suc n) a xs = ap (λ z. a ∷ z) (replicate_more n a xs)
+
+pub keeps_not_whole : (ns : List Name) → keeps_half ns ≡ whole → ⊥
+keeps_not_whole [] e = cc
+keeps_not_whole ([] ∷ ns) e = cc
+keeps_not_whole ((b ∷ bs) ∷ ns) e = cc
 
 pub not_whole : (ns : List Name) → gives_half ns ≡ whole → ⊥
 not_whole [] e = cc

@@ -7,6 +7,7 @@ pub mod Cutting
 pub mod Halving
 pub mod Interleaving
 pub mod Joining
+pub mod Knowing
 pub mod ListWrites
 pub mod Moving
 pub mod Naming

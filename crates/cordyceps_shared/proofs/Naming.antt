@@ -1,7 +1,8 @@
--- Names that are split and joined cover no long name twice.
-use Rattle.std.proofs.Common.{◌≡◌, ◌≢◌, ℕ, ◌+◌, ◌≤◌, List, [], ◌∷◌, ◌++◌, length, Bool, true, false, cond, refl, sym, ap, arith, true≢false}
+-- Names that are split and joined cover no long name twice, and what covers none twice has no name in common.
+use Rattle.std.proofs.Common.{◌≡◌, ◌≢◌, ℕ, ◌+◌, ◌≤◌, List, [], ◌∷◌, ◌++◌, length, replicate, Bool, true, false, cond, refl, sym, ap, arith, true≢false, length-append}
+use Rattle.std.proofs.lemmas.List.{length-replicate}
 use Rattle.cordyceps_shared.specs.Counts.{tally, one_if}
-use Rattle.cordyceps_shared.specs.Shares.{Name, same_bit, begins, covers, earlier, insert_name, insert_names, is_pair, parent, cons_joined, combine, joined, keeps_half, gives_half}
+use Rattle.cordyceps_shared.specs.Shares.{Name, same_bit, begins, covers, earlier, insert_name, insert_names, is_pair, parent, cons_joined, combine, joined, keeps_half, gives_half, Clear, NamesApart}
 
 -- the two halves of a name
 pub halves : (n x : Name) → one_if (begins (n ++ false ∷ []) x) + one_if (begins (n ++ true ∷ []) x) ≤ one_if (begins n x)
@@ -128,3 +129,68 @@ keeps_some (n ∷ ns) not e = absurd (cc)
 pub gives_some : (ns : List Name) → ns ≢ [] → gives_half ns ≢ []
 gives_some [] not e = not refl
 gives_some (n ∷ ns) not e = absurd (cc)
+
+-- ---- joining loses no name
+pair_halves : (n m x : Name) → is_pair n m ≡ true → one_if (begins n x) + one_if (begins m x) ≤ one_if (begins (parent n) x)
+pair_halves [] m x e = absurd (true≢false (sym e))
+pair_halves (a ∷ us) [] x e = absurd (true≢false (sym e))
+pair_halves (a ∷ us) (b ∷ bs) [] e = omega arith
+pair_halves (true ∷ []) (b ∷ []) (y ∷ ys) e = absurd (true≢false (sym e))
+pair_halves (false ∷ []) (false ∷ []) (y ∷ ys) e = absurd (true≢false (sym e))
+pair_halves (false ∷ []) (true ∷ []) (true ∷ ys) e = omega arith
+pair_halves (false ∷ []) (true ∷ []) (false ∷ ys) e = omega arith
+pair_halves (a ∷ []) (b ∷ d ∷ bs) (y ∷ ys) e = absurd (true≢false (sym e))
+pair_halves (a ∷ c ∷ us) (b ∷ []) (y ∷ ys) e = absurd (true≢false (sym e))
+pair_halves (true ∷ c ∷ us) (true ∷ d ∷ bs) (true ∷ ys) e = pair_halves (c ∷ us) (d ∷ bs) ys e
+pair_halves (true ∷ c ∷ us) (true ∷ d ∷ bs) (false ∷ ys) e = omega arith
+pair_halves (false ∷ c ∷ us) (false ∷ d ∷ bs) (true ∷ ys) e = omega arith
+pair_halves (false ∷ c ∷ us) (false ∷ d ∷ bs) (false ∷ ys) e = pair_halves (c ∷ us) (d ∷ bs) ys e
+pair_halves (true ∷ c ∷ us) (false ∷ d ∷ bs) (y ∷ ys) e = absurd (true≢false (sym e))
+pair_halves (false ∷ c ∷ us) (true ∷ d ∷ bs) (y ∷ ys) e = absurd (true≢false (sym e))
+
+place_keeps : (x n : Name) (ms : List Name) → one_if (begins n x) + covers x ms ≤ covers x (cons_joined n ms)
+place_keeps x n [] = omega arith
+place_keeps x n (m ∷ ms) = at_pair (is_pair n m) (pair_halves n m x) (place_keeps x (parent n) ms)
+  where
+    at_pair : (b : Bool) → (b ≡ true → one_if (begins n x) + one_if (begins m x) ≤ one_if (begins (parent n) x)) → one_if (begins (parent n) x) + covers x ms ≤ covers x (cons_joined (parent n) ms)
+        → one_if (begins n x) + covers x (m ∷ ms) ≤ covers x (cond b (cons_joined (parent n) ms) (n ∷ m ∷ ms))
+    at_pair true pair more = let p = pair refl in omega arith
+    at_pair false pair more = omega arith
+
+combine_keeps : (x : Name) (ns : List Name) → covers x ns ≤ covers x (combine ns)
+combine_keeps x [] = omega arith
+combine_keeps x (n ∷ ns) = omega (arith, place_keeps x n (combine ns), combine_keeps x ns)
+
+pub joined_keeps : (x : Name) (ns ms : List Name) → covers x ns + covers x ms ≤ covers x (joined ns ms)
+joined_keeps x ns ms = let b = tally_put_all (λ n. one_if (begins n x)) ns ms in omega (arith, combine_keeps x (insert_names ns ms))
+
+-- ---- names that cover no long name both
+begins_all : (n m x : Name) → begins n m ≡ true → begins n (m ++ x) ≡ true
+begins_all [] m x e = refl
+begins_all (a ∷ us) [] x e = absurd (true≢false (sym e))
+begins_all (true ∷ us) (true ∷ bs) x e = begins_all us bs x e
+begins_all (false ∷ us) (false ∷ bs) x e = begins_all us bs x e
+begins_all (true ∷ us) (false ∷ bs) x e = absurd (true≢false (sym e))
+begins_all (false ∷ us) (true ∷ bs) x e = absurd (true≢false (sym e))
+
+module _ (long : ℕ) where
+  not_begun : (n m : Name) → ((x : Name) → long ≤ length x → one_if (begins n x) + one_if (begins m x) ≤ 1) → begins n m ≡ false
+  not_begun n m few = either (begins n m) refl
+    where
+      either : (b : Bool) → begins n m ≡ b → begins n m ≡ false
+      either false e = e
+      either true e =
+          let x = m ++ replicate long false in
+          let l : long ≤ length x = omega (arith, length-append m (replicate long false), length-replicate long false) in
+          let first = ap one_if (begins_all n m (replicate long false) e) in
+          let second = ap one_if (begins_longer m (replicate long false)) in
+          let one = few x l in
+          absurd (omega arith)
+
+  clear_of : (n : Name) (ms : List Name) → ((x : Name) → long ≤ length x → one_if (begins n x) + covers x ms ≤ 1) → Clear n ms
+  clear_of n [] few = tt
+  clear_of n (m ∷ ms) few = (not_begun n m (λ x l. omega (arith, few x l)), not_begun m n (λ x l. omega (arith, few x l)), clear_of n ms (λ x l. omega (arith, few x l)))
+
+  pub names_apart : (ns ms : List Name) → ((x : Name) → long ≤ length x → covers x ns + covers x ms ≤ 1) → NamesApart ns ms
+  names_apart [] ms few = tt
+  names_apart (n ∷ ns) ms few = (clear_of n ms (λ x l. omega (arith, few x l)), names_apart ns ms (λ x l. omega (arith, few x l)))

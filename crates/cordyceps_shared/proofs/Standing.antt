@@ -5,6 +5,7 @@ use lib.ListN.{get_elem?}
 use Rattle.cordyceps_shared.specs.Shares.{covers, whole}
 use Rattle.cordyceps_shared.specs.Histories.{events, marked, plain, NoneOf, AllOwn}
 use Rattle.cordyceps_shared.specs.Knowing.{Known, Agrees, SharesApart, AllAgree, Begins, IsKnown, newcomer}
+use Rattle.cordyceps_shared.proofs.Counting.{tally_one}
 use Rattle.cordyceps_shared.proofs.Renaming.{same_first, events_append}
 use Rattle.cordyceps_shared.proofs.Seeing.{marked_append, plain_marked}
 use Rattle.cordyceps_shared.proofs.Telling.{all_own, whole_without}
@@ -58,6 +59,8 @@ module _ {X V : Type 0} (knows : V → Known X) where
         apart = f.apart;
         alone = λ is. subst AllOwn (sym f.seen) (own_front (marked j f.before) (marked j f.later)
             (subst AllOwn (ap (marked j) f.is ∙ marked_append j f.before f.later) (all_own j h (λ i n. whole_without knows views h j i v o at is n))));
+        long = o.long;
+        once = λ x l. omega (arith, o.apart x l, tally_one (λ (u : V). covers x (knows u).share) views j v at);
       }
 
   -- a party that has the whole share has seen all

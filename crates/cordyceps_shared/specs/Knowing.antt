@@ -99,3 +99,5 @@ module _ {X : Type 0} where
     pub told : Begins (plain k.told) (plain k.seen)
     pub apart : Apart k.had k.told
     pub alone : k.share ≡ whole → AllOwn k.seen
+    pub long : ℕ
+    pub once : (x : Name) → long ≤ length x → covers x k.share ≤ 1

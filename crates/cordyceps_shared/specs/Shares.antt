@@ -1,6 +1,6 @@
 -- Names and shares. A name is a finite word of 0 (false) and 1 (true), and stands for all names that it begins. A party
 -- acts under the first name of its share.
-use Rattle.std.specs.Prelude.{ℕ, List, [], ◌∷◌, ◌++◌, Bool, true, false, cond}
+use Rattle.std.specs.Prelude.{◌≡◌, ℕ, List, [], ◌∷◌, ◌++◌, Bool, true, false, cond}
 use Rattle.cordyceps_shared.specs.Counts.{tally, one_if}
 
 abbrev pub Name : Type 0
@@ -80,3 +80,13 @@ combine (n ∷ ns) = cons_joined n (combine ns)
 -- two shares as one, with w in place of w0 and w1 while there are such
 abbrev pub joined : List Name → List Name → List Name
 joined ns ms = combine (insert_names ns ms)
+
+-- neither does the name begin one of these, nor one of these the name
+abbrev pub Clear : Name → List Name → Type 0
+Clear n [] = Unit {0}
+Clear n (m ∷ ms) = (begins n m ≡ false) × (begins m n ≡ false) × Clear n ms
+
+-- the shares have no name in common: no name of one begins a name of the other
+abbrev pub NamesApart : List Name → List Name → Type 0
+NamesApart [] ms = Unit {0}
+NamesApart (n ∷ ns) ms = Clear n ms × NamesApart ns ms

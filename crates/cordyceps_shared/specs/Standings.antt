@@ -3,7 +3,7 @@ use Rattle.std.specs.Prelude.{◌≡◌, ℕ, ◌+◌, ◌-◌, List, [], Bool}
 use Rattle.atomic_table.specs.Seated.{TableId}
 use Rattle.cordyceps_shared.specs.Histories.{plain, AllOwn, Apart}
 use Rattle.cordyceps_shared.specs.Knowing.{Known, Grown, unmarked, merged, Begins}
-use Rattle.cordyceps_shared.specs.Shares.{Name, whole, first_name, keeps_half, gives_half, joined}
+use Rattle.cordyceps_shared.specs.Shares.{Name, whole, first_name, keeps_half, gives_half, joined, NamesApart}
 
 -- which collection the party is of; the history that it has seen, with a mark at its own events; its share; and how many
 -- rooms it has
@@ -37,12 +37,18 @@ module _ {X : Type 0} where
   abbrev pub giving : ℕ → Standing X → Standing X
   giving n u = record { table = u.table; seen = unmarked u.seen; share = gives_half u.share; rooms = n }
 
+  -- what every party knows: what it has seen is legal, and a whole party has seen no event of another
+  pub record Knows (Legal : List X → Type 0) (u : Standing X) : Type 0 where
+    pub legal : Legal (plain u.seen)
+    pub alone : u.share ≡ whole → AllOwn u.seen
+
   -- the party u became w when it took in the party o. It has seen the longer of what the two had seen, which the shorter
-  -- begins; no event is marked by both, and the own events are those of both
+  -- begins; no event is marked by both, and the own events are those of both; their shares had no name in common
   pub record Absorbs (Legal : List X → Type 0) (u o w : Standing X) : Type 0 where
     pub table : w.table ≡ u.table
     pub seen : w.seen ≡ merged u.seen o.seen
     pub apart : Apart u.seen o.seen
+    pub names : NamesApart u.share o.share
     pub mine : Begins (plain u.seen) (plain w.seen)
     pub theirs : Begins (plain o.seen) (plain w.seen)
     pub legal : Legal (plain w.seen)

@@ -5,7 +5,7 @@ use Rattle.cordyceps_base.specs.Element.{Element}
 use Rattle.cordyceps_shared.specs.Counts.{tally, Same}
 use Rattle.cordyceps_shared.specs.Histories.{plain, own}
 use Rattle.cordyceps_shared.specs.Shares.{Name, whole, keeps_half, joined}
-use Rattle.cordyceps_shared.specs.Standings.{new_party, keeping, giving, Absorbs}
+use Rattle.cordyceps_shared.specs.Standings.{new_party, keeping, giving, Knows, Absorbs}
 use Rattle.cordyceps_shared.proofs.Adding.{plain_own}
 use Rattle.cordyceps_shared.proofs.Counting.{tally_append, tally_map, tally_reverse}
 use Rattle.cordyceps_shared.proofs.Halving.{halves_join}
@@ -15,10 +15,10 @@ use Rattle.cordyceps_stack.specs.Shared.Calls.{PartyOf}
 use Rattle.cordyceps_stack.specs.Shared.Moves.{put_by, got_by}
 use Rattle.cordyceps_stack.proofs.SharedTheory.PartyMoves.{all_put, all_got}
 use Rattle.freelist.specs.Whereabouts.{Call, Gains, Loses, command_of, gained, lost, Story, IsOf}
-use Rattle.freelist.specs.Users.{UserOf, alone, closing, own_sum, parties_of, whereabouts_after, CarriesOut, Life, all_parties, stories, EachOnce, Knows, Met, one, absorbed}
+use Rattle.freelist.specs.Users.{UserOf, alone, closing, own_sum, parties_of, whereabouts_after, CarriesOut, Life, all_parties, stories, EachOnce, Met, one, absorbed}
 use Rattle.freelist.specs.declared.laws.Command.{Command}
 use Rattle.freelist.proofs.Calls.{carries_then}
-use Rattle.freelist.proofs.Parties.{absorbs_own, absorbs_knows}
+use Rattle.freelist.proofs.Parties.{absorbs_own}
 use Rattle.freelist.proofs.Steps.{begins, ends}
 use Rattle.freelist.proofs.Whereabouts.{each_once}
 
@@ -65,7 +65,7 @@ module _ {T H : Type 0} (element : H → Element T) where
       ∙ sym (tally_map (λ (l : Life element). l.story) (λ u. tally f (of u)) lives)))
 
   -- of users whose parties met in a whole one, what that has seen is the history
-  pub is_of : (lives : List (Life element)) (w : PartyOf H) → Met (all_parties element lives) w → Knows w → w.share ≡ whole →
+  pub is_of : (lives : List (Life element)) (w : PartyOf H) → Met (all_parties element lives) w → Knows (λ h. Legal h) w → w.share ≡ whole →
       IsOf element (stories element lives) (plain w.seen)
   is_of lives w met known is =
       let h = plain w.seen in
@@ -79,7 +79,7 @@ module _ {T H : Type 0} (element : H → Element T) where
       }
 
   -- so each block is in one place: with a user, local, or held
-  pub met_once : (lives : List (Life element)) (w : PartyOf H) (shared : List (Element T)) → Met (all_parties element lives) w → Knows w → w.share ≡ whole →
+  pub met_once : (lives : List (Life element)) (w : PartyOf H) (shared : List (Element T)) → Met (all_parties element lives) w → Knows (λ h. Legal h) w → w.share ≡ whole →
       shared ≡ map element (reverse (held (plain w.seen))) → EachOnce element lives shared
   met_once lives w shared met known is gives f =
       let g : H → ℕ = λ e. f (element e) in
@@ -99,14 +99,14 @@ module _ {T H : Type 0} (element : H → Element T) where
       CarriesOut element ks (alone t mine (keeping rooms (new_party t all))) (alone t mine2 first) →
       CarriesOut element js (alone t yours (giving rooms (new_party t all))) (alone t yours2 second) →
       Absorbs (λ h. Legal h) first second last →
-      ((lives : List (Life element)) → Met (all_parties element lives) last → Knows last → EachOnce element lives shared) →
+      ((lives : List (Life element)) → Met (all_parties element lives) last → EachOnce element lives shared) →
       Same (mine2 ++ (yours2 ++ shared)) (mine ++ yours)
   both ks js t rooms all mine yours mine2 yours2 shared first second last c d met once f =
       let l = life ks t mine (keeping rooms (new_party t all)) (alone t mine2 first) c refl in
       let r = life js t yours (giving rooms (new_party t all)) (alone t yours2 second) d refl in
       let only = only_commands c.calls ks c.carries in
       let only2 = only_commands d.calls js d.carries in
-      let sums = once (l ∷ r ∷ []) (absorbed (first ∷ []) (second ∷ []) first second last (one first) (one second) met) (absorbs_knows first second last met) f in
+      let sums = once (l ∷ r ∷ []) (absorbed (first ∷ []) (second ∷ []) first second last (one first) (one second) met) f in
       omega (arith, sums, tally_append f mine2 (yours2 ++ shared), tally_append f yours2 shared, tally_append f mine yours, ap (tally f) only.0, ap (tally f) only.1, ap (tally f) only2.0, ap (tally f) only2.1)
 
   -- and their parties were all that there were

@@ -9,6 +9,7 @@ use Rattle.cordyceps_shared.specs.Histories.{own}
 use Rattle.cordyceps_shared.specs.Shares.{Name, keeps_half, gives_half, joined, insert_name}
 use Rattle.cordyceps_shared.specs.Standings.{name_of, keeping, giving, Absorbs}
 use Rattle.cordyceps_shared.proofs.Halving.{halves_join}
+use Rattle.cordyceps_shared.proofs.Knowing.{adds_knows, absorbs_knows, keeps_knows, gives_knows}
 use Rattle.cordyceps_shared.proofs.Owning.{own_split}
 use Rattle.cordyceps_stack.specs.History.{Load, Push, Taken, Legal}
 use Rattle.cordyceps_stack.specs.Shared.Calls.{PartyOf, PushesAt, Misses}
@@ -16,7 +17,7 @@ use Rattle.freelist.specs.Blocks.{LocalOf, GivesFirst, GetsFrom}
 use Rattle.freelist.specs.Whereabouts.{Gets, Fetches, Puts, PutsRemote, HandsBack, Opens, Finishes, Splits, Joins, Idles, behind, Lacks}
 use Rattle.freelist.specs.Users.{UserOf, whereabouts_after, share_of, rooms_of, Divides, local_party, CarriesOut}
 use Rattle.freelist.proofs.Calls.{stays, stays_local}
-use Rattle.freelist.proofs.Parties.{adds_own, absorbs_own, adds_knows, absorbs_knows, keeps_knows, gives_knows, knows_last}
+use Rattle.freelist.proofs.Parties.{adds_own, absorbs_own, knows_last}
 use Rattle.freelist.proofs.Whereabouts.{tally_behind}
 use Rattle.freelist.specs.declared.laws.Command.{Command}
 use Rattle.freelist.specs.declared.laws.Command.TheVariants as kinds
@@ -111,7 +112,7 @@ module _ {T H : Type 0} (element : H → Element T) where
         took = refl;
         own_events = λ g2. omega (arith, adds_own q l.party es took.0 g2, tally_behind (λ (z : PartyOf H). tally g2 (own z.seen)) o (q ∷ []), tally_behind (λ (z : PartyOf H). tally g2 (own z.seen)) o (l.party ∷ []));
         in_turn = λ _. (inl (refl, refl), inr took.0, refl);
-        knows = λ k. (k.0, knows_last q l.party o (adds_knows q l.party es took.0) k.1);
+        knows = λ k. (k.0, knows_last q l.party o (adds_knows (λ h. Legal h) q l.party es took.0) k.1);
         names = λ n h. subst (λ z. Divides n p.share (Some z) (share_of o)) (sym took.0.0.share) h;
         table = refl;
       }
@@ -196,7 +197,7 @@ module _ {T H : Type 0} (element : H → Element T) where
         took = refl;
         own_events = λ g. omega (arith, adds_own p p2 es pushed.0 g);
         in_turn = λ _. (inr pushed.0, stays_local l, refl);
-        knows = λ k. (adds_knows p p2 es pushed.0, k.1);
+        knows = λ k. (adds_knows (λ h. Legal h) p p2 es pushed.0, k.1);
         names = λ n d. subst (λ z. Divides n z (share_of (local_party l)) (share_of o)) (sym pushed.0.0.share) d;
         table = refl;
       }
@@ -225,7 +226,7 @@ module _ {T H : Type 0} (element : H → Element T) where
         took = refl;
         own_events = λ g. omega (arith, adds_own p p2 es missed.0 g);
         in_turn = λ _. (inr missed.0, stays_local l, refl);
-        knows = λ k. (adds_knows p p2 es missed.0, k.1);
+        knows = λ k. (adds_knows (λ h. Legal h) p p2 es missed.0, k.1);
         names = λ n d. subst (λ z. Divides n z (share_of (local_party l)) (share_of o)) (sym missed.0.0.share) d;
         table = refl;
       }
@@ -298,7 +299,7 @@ module _ {T H : Type 0} (element : H → Element T) where
     took = refl;
     own_events = λ g. omega (arith, ap (tally g) (own_split rooms p).0);
     in_turn = λ o. absurd o;
-    knows = λ k. (keeps_knows rooms p k.0, (gives_knows rooms p k.0, k.1));
+    knows = λ k. (keeps_knows (λ h. Legal h) rooms p k.0, (gives_knows (λ h. Legal h) rooms p k.0, k.1));
     names = λ n h. split_names n p (local_party l) rooms h;
     table = refl;
   }
@@ -329,7 +330,7 @@ module _ {T H : Type 0} (element : H → Element T) where
     took = refl;
     own_events = λ g. omega (arith, absorbs_own p q p2 a g);
     in_turn = λ o. absurd o;
-    knows = λ k. (absorbs_knows p q p2 a, k.1.1);
+    knows = λ k. (absorbs_knows (λ h. Legal h) p q p2 a, k.1.1);
     names = λ n h. absorb_names n p p2 q (local_party l) a.share h;
     table = refl;
   }

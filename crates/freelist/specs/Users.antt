@@ -4,9 +4,9 @@ use Rattle.std.specs.Prelude.{◌≡◌, ℕ, suc, ◌+◌, ◌*◌, List, [], �
 use Rattle.atomic_table.specs.Seated.{TableId}
 use Rattle.cordyceps_base.specs.Element.{Element}
 use Rattle.cordyceps_shared.specs.Counts.{tally, Same}
-use Rattle.cordyceps_shared.specs.Histories.{plain, own, AllOwn}
+use Rattle.cordyceps_shared.specs.Histories.{plain, own}
 use Rattle.cordyceps_shared.specs.Shares.{Name, whole, keeps_half, gives_half}
-use Rattle.cordyceps_shared.specs.Standings.{new_party, keeping, giving, Absorbs}
+use Rattle.cordyceps_shared.specs.Standings.{new_party, keeping, giving, Knows, Absorbs}
 use Rattle.cordyceps_stack.specs.History.{Event, Load, Push, Taken, Legal, held, pushes, taken}
 use Rattle.cordyceps_stack.specs.Shared.Calls.{PartyOf, Adds}
 use Rattle.freelist.specs.Blocks.{LocalOf}
@@ -59,14 +59,9 @@ module _ {H : Type 0} where
   share_of None = None
   share_of (Some p) = Some p.share
 
-  -- what a party has seen is legal, and of a whole party no event of another
-  pub record Knows (p : PartyOf H) : Type 0 where
-    pub legal : Legal (plain p.seen)
-    pub alone : p.share ≡ whole → AllOwn p.seen
-
   abbrev pub AllKnow : List (PartyOf H) → Type 0
   AllKnow [] = Unit {0}
-  AllKnow (p ∷ ps) = Knows p × AllKnow ps
+  AllKnow (p ∷ ps) = Knows (λ h. Legal h) p × AllKnow ps
 
   -- the sum of what g gives for each own event of some parties
   abbrev pub own_sum : (Event Name H → ℕ) → List (PartyOf H) → ℕ

@@ -4,7 +4,7 @@ ghost use Rattle.cordyceps_shared.specs.Histories.{plain};
 ghost use Rattle.cordyceps_shared.specs.Shares.{whole};
 ghost use Rattle.cordyceps_stack.specs.History.{held};
 ghost use Rattle.freelist.specs.Users.{alone, closing, CarriesOut, BothCarryOut, BothRun};
-ghost use Rattle.freelist.specs.Users.{Life, all_parties, Knows, Met, EachOnce};
+ghost use Rattle.freelist.specs.Users.{Life, all_parties, Met, EachOnce};
 ghost use Rattle.freelist.specs.declared.laws.Command.TheVariants as kinds;
 
 use crate::free_list::FreeList;
@@ -206,9 +206,10 @@ pub fn close_all<T: Linked<Links<T>>>(list: FreeList<T>, party: Party<T>) -> Sta
     ensures shared { result ≡ map T.element (reverse (held (plain party.seen))) }
     ensures once { (lives : List (Life T.element))
         → Met (all_parties T.element lives) party
-        → Knows party
         → EachOnce T.element lives result }
 {
+    // to the proof it tells what the party knows
+    party.rooms();
     list.close(party)
 }
 

@@ -4,10 +4,10 @@ use Rattle.atomic_table.specs.Seated.{TableId}
 use Rattle.cordyceps_shared.specs.Counts.{below}
 use Rattle.cordyceps_shared.specs.Histories.{plain}
 use Rattle.cordyceps_shared.specs.Knowing.{IsKnown}
-use Rattle.cordyceps_shared.specs.Shares.{Name, whole, keeps_half}
+use Rattle.cordyceps_shared.specs.Shares.{whole}
 use Rattle.cordyceps_shared.specs.Standings.{new_party, Absorbs}
-use Rattle.cordyceps_shared.proofs.Adding.{not_whole, plain_unmarked, merged_front}
-use Rattle.cordyceps_shared.proofs.Naming.{joined_some, keeps_some, gives_some}
+use Rattle.cordyceps_shared.proofs.Adding.{keeps_not_whole, not_whole, plain_unmarked, merged_front}
+use Rattle.cordyceps_shared.proofs.Naming.{joined_some, joined_keeps, names_apart, keeps_some, gives_some}
 use Rattle.cordyceps_queue.specs.Shared.Parts.{standing, IsSeated}
 use Rattle.cordyceps_queue.specs.Shared.Parting.{IsStill, view_keeping, view_giving, view_absorbing, view_without_told}
 use Rattle.cordyceps_queue.specs.Shared.Plays.{SeatState, Near, IsResting}
@@ -35,11 +35,6 @@ length_down_from (suc n) = ap suc (length_down_from n)
 
 near_down_from : (slots rooms : ℕ) → slots ≡ rooms + 1 → Near slots (down_from rooms)
 near_down_from slots rooms is i r a = let t = at_down_from rooms i r a in let e = t.0 in omega arith
-
-keeps_not_whole : (ns : List Name) → keeps_half ns ≡ whole → ⊥
-keeps_not_whole [] e = absurd (cc)
-keeps_not_whole ([] ∷ ns) e = absurd (cc)
-keeps_not_whole ((b ∷ bs) ∷ ns) e = absurd (cc)
 
 both_near : (slots : ℕ) (xs ys : List ℕ) → Near slots xs → Near slots ys → Near slots (xs ++ ys)
 both_near slots xs ys near near_too i r a = elim (at_either xs ys i r a) [ inl t ↦ near i r t | inr t ↦ near_too t.0 r t.1 ]
@@ -99,6 +94,7 @@ module _ {E : Type 0} where
     table = refl;
     seen = refl;
     apart = known.apart;
+    names = names_apart known.long m.0.known.share o.0.known.share (λ x l. omega (arith, known.once x l, joined_keeps x m.0.known.share o.0.known.share));
     mine = merged_front m.0.known.seen o.0.known.seen;
     theirs = known.told;
     legal = told_legal same_name (plain (view_absorbing m.0 o.0).known.seen) known.legal;

@@ -2,7 +2,7 @@
 ghost use Rattle.std.specs.Prelude.{◌≡◌, ◌<◌, ◌≤◌, map, Option, Some, None, MatchResult, IfOk};
 ghost use Rattle.cordyceps_shared.specs.Histories.{plain};
 ghost use Rattle.cordyceps_shared.specs.Shares.{whole};
-ghost use Rattle.cordyceps_shared.specs.Standings.{new_party, keeping, giving, Absorbs};
+ghost use Rattle.cordyceps_shared.specs.Standings.{new_party, keeping, giving, Knows, Absorbs};
 ghost use Rattle.cordyceps_queue.specs.History.{held};
 ghost use Rattle.cordyceps_queue.specs.Shared.Calls.{Legal, Enqueues, Dequeues, IsCertain};
 ghost use Rattle.cordyceps_queue.specs.Shared.View.{down_from};
@@ -73,8 +73,11 @@ impl<T: Linked<Links<T>>> Model for Party<T> {
 
 impl<T: Linked<Links<T>>> Party<T> {
     /// How many rooms the party has: it can put in as many elements before it takes some out.
+    ///
+    /// To a contract it tells what every party knows: what it has seen is legal, and a whole party has seen only its own events.
     pub fn rooms(&self) -> usize
-        ensures { result ≡ self.now.rooms }
+        ensures count { result ≡ self.now.rooms }
+        ensures knows { Knows (λ h. Legal h) self.now }
     {
         self.tickets.len()
     }

@@ -2,10 +2,11 @@
 ghost use Rattle.std.specs.Prelude.{◌≡◌, ◌≤◌, List, map, take, true, is_ok, Err, MatchResult};
 ghost use Rattle.cordyceps_shared.specs.Histories.{plain};
 ghost use Rattle.cordyceps_shared.specs.Shares.{whole};
+ghost use Rattle.cordyceps_shared.specs.Standings.{Knows};
 ghost use Rattle.cordyceps_queue.specs.Shared.Batches.{TakesLinked};
 ghost use Rattle.cordyceps_queue.specs.History.{held};
 ghost use Rattle.cordyceps_queue.specs.declared.cores.steps.TryDequeueError.TheVariants as error;
-ghost use Rattle.cordyceps_queue.specs.Shared.Calls.{Consumes, TakesRight, FindsBusy, GivesRight, IsCertain};
+ghost use Rattle.cordyceps_queue.specs.Shared.Calls.{Legal, Consumes, TakesRight, FindsBusy, GivesRight, IsCertain};
 
 use crate::cores::steps::TryDequeueError;
 use crate::shared::batch::Batch;
@@ -104,9 +105,10 @@ pub(crate) fn give_right<T: Linked<Links<T>>>(
 }
 
 impl<E: Drop> Right<E> {
-    /// How many rooms the party has.
+    /// How many rooms the party has. To a contract it tells what every party knows.
     pub fn rooms(&self) -> usize
-        ensures { result ≡ self.now.rooms }
+        ensures count { result ≡ self.now.rooms }
+        ensures knows { Knows (λ h. Legal h) self.now }
     {
         self.tickets.len()
     }
@@ -203,9 +205,10 @@ impl<'a, T: Linked<Links<T>>> Consumer<'a, T> {
         take_batch(&queue.rooms.shared, &mut self.right, max)
     }
 
-    /// How many rooms the party has.
+    /// How many rooms the party has. To a contract it tells what every party knows.
     pub fn rooms(&self) -> usize
-        ensures { result ≡ self.now.rooms }
+        ensures count { result ≡ self.now.rooms }
+        ensures knows { Knows (λ h. Legal h) self.now }
     {
         self.right.rooms()
     }

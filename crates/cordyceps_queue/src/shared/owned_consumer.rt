@@ -3,10 +3,11 @@ ghost use Rattle.std.specs.Arc.{arc_value};
 ghost use Rattle.std.specs.Prelude.{◌≡◌, ◌≤◌, List, map, take, true, is_ok, Err, MatchResult};
 ghost use Rattle.cordyceps_shared.specs.Histories.{plain};
 ghost use Rattle.cordyceps_shared.specs.Shares.{whole};
+ghost use Rattle.cordyceps_shared.specs.Standings.{Knows};
 ghost use Rattle.cordyceps_queue.specs.Shared.Batches.{TakesLinked};
 ghost use Rattle.cordyceps_queue.specs.History.{held};
 ghost use Rattle.cordyceps_queue.specs.declared.cores.steps.TryDequeueError.TheVariants as error;
-ghost use Rattle.cordyceps_queue.specs.Shared.Calls.{Consumes, TakesRight, FindsBusy, GivesRight, IsCertain};
+ghost use Rattle.cordyceps_queue.specs.Shared.Calls.{Legal, Consumes, TakesRight, FindsBusy, GivesRight, IsCertain};
 
 use crate::cores::steps::TryDequeueError;
 use crate::shared::batch::Batch;
@@ -101,9 +102,10 @@ impl<T: Linked<Links<T>>> OwnedConsumer<T> {
         take_batch(&queue.rooms.shared, &mut self.right, max)
     }
 
-    /// How many rooms the party has.
+    /// How many rooms the party has. To a contract it tells what every party knows.
     pub fn rooms(&self) -> usize
-        ensures { result ≡ self.now.party.rooms }
+        ensures count { result ≡ self.now.party.rooms }
+        ensures knows { Knows (λ h. Legal h) self.now.party }
     {
         self.right.rooms()
     }

@@ -1,5 +1,5 @@
 -- What the calls of a shared transfer stack promise, from what their parts leave.
-use Rattle.std.proofs.Common.{◌≡◌, ◌+◌, ℕ, suc, List, [], ◌∷◌, ◌++◌, reverse, length, replicate, take, Bool, refl, sym, ap, ◌∙◌, subst, inl, inr, length-append}
+use Rattle.std.proofs.Common.{◌≡◌, ◌+◌, ℕ, suc, List, [], ◌∷◌, ◌++◌, reverse, length, replicate, take, Bool, refl, sym, ap, ◌∙◌, subst, inl, inr, arith, length-append}
 use Rattle.std.specs.Prelude.{◌⊎◌, IsTrue}
 use Rattle.atomic_table.specs.Seated.{TableId}
 use Rattle.cordyceps_shared.specs.Counts.{below}
@@ -9,7 +9,7 @@ use Rattle.cordyceps_shared.specs.Shares.{Name, whole, first_name}
 use Rattle.cordyceps_shared.specs.Standings.{name_of, new_party, Absorbs}
 use Rattle.cordyceps_shared.proofs.Adding.{replicate_more, not_whole, plain_unmarked, merged_front, adds_then, whole_adds}
 use Rattle.cordyceps_shared.proofs.Counting.{below_length}
-use Rattle.cordyceps_shared.proofs.Naming.{joined_some, gives_some}
+use Rattle.cordyceps_shared.proofs.Naming.{joined_some, joined_keeps, names_apart, gives_some}
 use Rattle.cordyceps_stack.specs.Shared.Parts.{HasMissed, TookAll, EmptiesHand, standing, IsSeated}
 use Rattle.cordyceps_stack.specs.History.{Event, Load, Push, Taken, held, Legal}
 use Rattle.cordyceps_stack.specs.Cores.Stages.{room_elements}
@@ -57,6 +57,7 @@ module _ {E : Type 0} where
     table = at;
     seen = ap (λ (q : SeatState E). q.0.known.seen) is;
     apart = known.apart;
+    names = names_apart known.long m.0.known.share o.0.known.share (λ x l. omega (arith, known.once x l, joined_keeps x m.0.known.share o.0.known.share));
     mine = subst (λ (q : SeatState E). Begins (plain m.0.known.seen) (plain q.0.known.seen)) (sym is) (merged_front m.0.known.seen o.0.known.seen);
     theirs = subst (λ (q : SeatState E). Begins (plain o.0.known.seen) (plain q.0.known.seen)) (sym is) known.told;
     legal = subst (λ (q : SeatState E). Legal (plain q.0.known.seen)) (sym is) known.legal;

@@ -7,7 +7,7 @@ pub returns-in-Err : goal.returns-in-Err
 returns-in-Err g c =
     let el = g.T.Linked.element in
     let i = c.self.inside in
-    let room : 0 < i.party.rooms = omega (arith, c.rooms.ensures, c.if-rooms-gt0.true) in
+    let room : 0 < i.party.rooms = omega (arith, c.rooms.ensures.count, c.if-rooms-gt0.true) in
     begins el (kinds.PutRemote ∷ []) (with el i.list.now i.hand i.local i.party i.spare) c.args.self.now _ c.self.view_is
     (carries_missed el i.list.now i.hand c.pop.new.self c.push.new.self i.local i.party c.put_remote.new.party i.spare c.in-Some.handle c.in-Err.back c.in-Some.ensures room c.in-Err.ensures.answer.0 c.push.ensures c.in-Err.ensures.answer.1)
 
@@ -31,5 +31,5 @@ pub returns-else-rooms-gt0 : goal.returns-else-rooms-gt0
 returns-else-rooms-gt0 g c =
     let el = g.T.Linked.element in
     let i = c.self.inside in
-    let none : i.party.rooms ≡ 0 = omega (arith, c.rooms.ensures, c.if-rooms-gt0.false) in
+    let none : i.party.rooms ≡ 0 = omega (arith, c.rooms.ensures.count, c.if-rooms-gt0.false) in
     idles el kinds.PutRemote (with el i.list.now i.hand i.local i.party i.spare) c.args.self.now _ c.self.view_is c.self.view_is (inr none)

@@ -1,5 +1,10 @@
-use Rattle.std.proofs.Common.{ap, ◌∙◌}
+use Rattle.std.proofs.Common.{ap, ◌∙◌, subst}
+use Rattle.cordyceps_shared.specs.Standings.{Knows}
+use Rattle.cordyceps_queue.specs.Shared.Calls.{Legal}
 use Rattle.cordyceps_queue.proofs.shared.consumer.Consumer.rooms.Goals as goal
 
-pub returns : goal.returns
-returns g c = c.rooms.ensures ∙ ap (λ p. p.rooms) c.self.view_is
+pub returns-clause-count : goal.returns-clause-count
+returns-clause-count g c = c.rooms.ensures.count ∙ ap (λ p. p.rooms) c.self.view_is
+
+pub returns-clause-knows : goal.returns-clause-knows
+returns-clause-knows g c = subst (Knows (λ h. Legal h)) c.self.view_is c.rooms.ensures.knows
