@@ -15,6 +15,9 @@
 //! A [`stack::TransferCore`] and an [`mpsc_queue::QueueCore`] are the algorithms of the structures that threads share, as
 //! plain values whose steps are taken in any order.
 //!
+//! What a clause or a proof over these collections names is here too, in modules by collection: its words in `specs`, its
+//! lemmas in `proofs`.
+//!
 //! The module [`replay`] runs commands on tables of sixteen lists, stacks or sorted lists of [`Item`]s. Each reply, and
 //! what the structures hold afterwards, is proved to be what the commands mean.
 #![tactic(auto)]

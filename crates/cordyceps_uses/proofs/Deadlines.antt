@@ -7,13 +7,13 @@ use Rattle.std.specs.Cmp.{on_total, nat_cmp_total, ranked}
 use Rattle.std.proofs.lemmas.Cmp.{by_ranked}
 use Rattle.std.specs.List.{AllByRecursion}
 use Rattle.std.specs.List.Sorted.{IsSortedBy}
-use Rattle.cordyceps_base.specs.Element.{Element, Elements, values}
-use Rattle.cordyceps_stack.specs.Arrangement.{less, put}
-use Rattle.cordyceps_stack.specs.Preorder.{IsPreorder, preorder_from_total}
-use Rattle.cordyceps_stack.proofs.Arrangement.{Ascends, After, ascends_from_sorted, sorted_from_ascends}
-use Rattle.cordyceps_stack.proofs.Places.{greater_is}
-use Rattle.cordyceps_stack.proofs.Preorder.{by_test, ranks}
-use Rattle.cordyceps_stack.proofs.Puts.{put_in_order}
+use Rattle.cordyceps.specs.Elements.Element.{Element, Elements, values}
+use Rattle.cordyceps.specs.Orders.Arrangement.{less, put}
+use Rattle.cordyceps.specs.Orders.Preorder.{IsPreorder, preorder_from_total}
+use Rattle.cordyceps.proofs.Orders.Arrangement.{Ascends, After, ascends_from_sorted, sorted_from_ascends}
+use Rattle.cordyceps.proofs.Orders.Places.{greater_is}
+use Rattle.cordyceps.proofs.Orders.Preorder.{by_test, ranks}
+use Rattle.cordyceps.proofs.Orders.Puts.{put_in_order}
 use Rattle.cordyceps_uses.specs.declared.timers.Timer.{Timer}
 use Rattle.cordyceps_uses.specs.Timers.{timers_of, InOrder, started, due}
 

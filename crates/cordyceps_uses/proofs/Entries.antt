@@ -3,14 +3,14 @@ use Rattle.std.proofs.Common.{◌≡◌, ℕ, zero, suc, ◌-◌, ◌<◌, ◌�
 use Rattle.std.proofs.lemmas.List.{map-append, length-map, take_all}
 use Rattle.std.proofs.lemmas.Bool.{eqb-true}
 use denote.RawPtr.{Ptr}
-use Rattle.cordyceps_base.specs.BySpot.{HoldsAt, IsTaken, IsMovedFront}
-use Rattle.cordyceps_base.specs.Element.{Element, values}
-use Rattle.cordyceps_base.specs.Nodes.{Nodes, elements, spots, with_item}
-use Rattle.cordyceps_base.specs.Spots.{index_of}
-use Rattle.cordyceps_base.proofs.SpotsMemory.{same_ptr_refl}
-use Rattle.cordyceps_stable.specs.Agreeing.{Lies, Agrees, IsUpdated}
-use Rattle.cordyceps_stable.proofs.Agreeing.{removes_key, keys_differ}
-use Rattle.cordyceps_stable.proofs.Holding.{lies_spot, front_lies, taken_gone}
+use Rattle.cordyceps.specs.Spots.BySpot.{HoldsAt, IsTaken, IsMovedFront}
+use Rattle.cordyceps.specs.Elements.Element.{Element, values}
+use Rattle.cordyceps.specs.Elements.Nodes.{Nodes, elements, spots, with_item}
+use Rattle.cordyceps.specs.Spots.Spots.{index_of}
+use Rattle.cordyceps.proofs.Spots.{same_ptr_refl}
+use Rattle.cordyceps.specs.Spots.Agreeing.{Lies, Agrees, IsUpdated}
+use Rattle.cordyceps.proofs.Spots.Agreeing.{removes_key, keys_differ}
+use Rattle.cordyceps.proofs.Spots.Holding.{lies_spot, front_lies, taken_gone}
 use Rattle.cordyceps_uses.specs.declared.recency.Entry.{Entry}
 use Rattle.cordyceps_uses.specs.Recency.{pairs, find, others, used, stored, displaced}
 

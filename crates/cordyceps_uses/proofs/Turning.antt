@@ -7,10 +7,10 @@ use Rattle.std.proofs.lemmas.List.Elements.{All-map}
 use Rattle.std.proofs.lemmas.List.{get_or_default, get_or_past, length-set, get_or-set_same, get_or-set_other}
 use Rattle.std.proofs.lemmas.Nat.{mod_below}
 use denote.RawPtr.{Ptr}
-use Rattle.cordyceps_base.specs.Element.{Element}
-use Rattle.cordyceps_base.specs.Nodes.{Nodes, elements, spots}
-use Rattle.cordyceps_stable.specs.Agreeing.{Lies}
-use Rattle.cordyceps_stable.proofs.Holding.{lies_spot}
+use Rattle.cordyceps.specs.Elements.Element.{Element}
+use Rattle.cordyceps.specs.Elements.Nodes.{Nodes, elements, spots}
+use Rattle.cordyceps.specs.Spots.Agreeing.{Lies}
+use Rattle.cordyceps.proofs.Spots.Holding.{lies_spot}
 use Rattle.cordyceps_uses.specs.declared.timer_wheel.Timer.{Timer}
 use Rattle.cordyceps_uses.specs.TimerWheel.{Dial, dial, waiting, with_waiting, Ahead, IsGood, IsInPlace}
 

@@ -1,20 +1,20 @@
 -- What a worker's turns add up to, and that all jobs are done in the end.
 use Rattle.std.proofs.Common.{◌≡◌, ℕ, List, [], ◌∷◌, ◌++◌, map, reverse, false, refl, ap, ◌∙◌, arith}
-use Rattle.atomic_table.specs.Seated.{TableId}
-use Rattle.cordyceps_base.specs.Element.{Element}
-use Rattle.cordyceps_shared.specs.Counts.{tally, Same}
-use Rattle.cordyceps_shared.specs.Histories.{plain}
-use Rattle.cordyceps_shared.specs.Sending.{Splits}
-use Rattle.cordyceps_shared.specs.Shares.{whole, keeps_half}
-use Rattle.cordyceps_shared.specs.Standings.{new_party, Absorbs}
-use Rattle.cordyceps_shared.proofs.Counting.{tally_append, tally_map, tally_reverse}
-use Rattle.cordyceps_shared.proofs.Interleaving.{tally_interleaved}
-use Rattle.cordyceps_shared.proofs.Moving.{moves_none}
-use Rattle.cordyceps_shared.proofs.Sending.{both_took}
-use Rattle.cordyceps_stack.specs.History.{Legal, held}
-use Rattle.cordyceps_stack.specs.Shared.Calls.{PartyOf, Takes}
-use Rattle.cordyceps_stack.specs.Shared.Moves.{put_by, got_by, Moves}
-use Rattle.cordyceps_stack.proofs.SharedTheory.Sending.{then_takes, exchanged}
+use Rattle.cordyceps.specs.Parties.Seated.{TableId}
+use Rattle.cordyceps.specs.Elements.Element.{Element}
+use Rattle.cordyceps.specs.Parties.Counts.{tally, Same}
+use Rattle.cordyceps.specs.Parties.Histories.{plain}
+use Rattle.cordyceps.specs.Parties.Sending.{Splits}
+use Rattle.cordyceps.specs.Parties.Shares.{whole, keeps_half}
+use Rattle.cordyceps.specs.Parties.Standings.{new_party, Absorbs}
+use Rattle.cordyceps.proofs.Parties.Counting.{tally_append, tally_map, tally_reverse}
+use Rattle.cordyceps.proofs.Parties.Interleaving.{tally_interleaved}
+use Rattle.cordyceps.proofs.Parties.Moving.{moves_none}
+use Rattle.cordyceps.proofs.Parties.Sending.{both_took}
+use Rattle.cordyceps.specs.Transfers.History.{Legal, held}
+use Rattle.cordyceps.specs.Transfers.Calls.{PartyOf, Takes}
+use Rattle.cordyceps.specs.Transfers.Moves.{put_by, got_by, Moves}
+use Rattle.cordyceps.proofs.Transfers.Sending.{then_takes, exchanged}
 use Rattle.cordyceps_uses.specs.RunQueue.{ran, Worked}
 use Rattle.cordyceps_uses.specs.declared.run_queue.Job.{Job}
 

@@ -1,7 +1,7 @@
 -- Messages that many send and one receives.
 use Rattle.std.specs.Prelude.{ℕ, List, map, Vec}
 use Rattle.std.specs.Global.{Global}
-use Rattle.cordyceps_base.specs.Element.{Element}
+use Rattle.cordyceps.specs.Elements.Element.{Element}
 use Rattle.cordyceps_uses.specs.declared.mailbox.Message.{Message}
 
 -- what is in vectors

@@ -1,8 +1,8 @@
 -- What a thread that uses a pool of blocks does.
 use Rattle.std.specs.Prelude.{List, ◌++◌}
-use Rattle.atomic_table.specs.Seated.{TableId}
-use Rattle.cordyceps_base.specs.Element.{Element}
-use Rattle.cordyceps_stack.specs.Shared.Calls.{PartyOf}
+use Rattle.cordyceps.specs.Parties.Seated.{TableId}
+use Rattle.cordyceps.specs.Elements.Element.{Element}
+use Rattle.cordyceps.specs.Transfers.Calls.{PartyOf}
 use Rattle.freelist.specs.Users.{CarriesOut, alone, closing}
 use Rattle.freelist.specs.declared.laws.Command.{Command}
 use Rattle.cordyceps_uses.specs.declared.pool.Block.{Block}

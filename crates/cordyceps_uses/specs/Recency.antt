@@ -1,6 +1,6 @@
 -- A cache by recency: keys and values, the most recently used first.
 use Rattle.std.specs.Prelude.{ℕ, List, [], ◌∷◌, Option, Some, None, map, take, slice_get, ◌-◌, ◌==◌, if◌then◌else◌}
-use Rattle.cordyceps_base.specs.Nodes.{Nodes}
+use Rattle.cordyceps.specs.Elements.Nodes.{Nodes}
 use Rattle.cordyceps_uses.specs.declared.recency.Entry.{Entry}
 
 -- what a contract sees of a cache

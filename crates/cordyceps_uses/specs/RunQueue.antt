@@ -1,9 +1,9 @@
 -- Jobs that were run, and what a worker did.
 use Rattle.std.specs.Prelude.{◌*◌, List, []}
-use Rattle.cordyceps_base.specs.Element.{Element}
-use Rattle.cordyceps_shared.specs.Counts.{Same}
-use Rattle.cordyceps_stack.specs.Shared.Calls.{PartyOf}
-use Rattle.cordyceps_stack.specs.Shared.Moves.{Moves}
+use Rattle.cordyceps.specs.Elements.Element.{Element}
+use Rattle.cordyceps.specs.Parties.Counts.{Same}
+use Rattle.cordyceps.specs.Transfers.Calls.{PartyOf}
+use Rattle.cordyceps.specs.Transfers.Moves.{Moves}
 use Rattle.cordyceps_uses.specs.declared.run_queue.Job.{Job}
 
 -- a job after it was run

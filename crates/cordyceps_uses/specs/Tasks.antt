@@ -1,7 +1,7 @@
 -- Tasks in order.
 use Rattle.std.specs.Ordering.{nat_cmp}
 use Rattle.std.specs.List.Sorted.{IsSortedByKey, IsStableByKey}
-use Rattle.cordyceps_base.specs.Element.{Elements}
+use Rattle.cordyceps.specs.Elements.Element.{Elements}
 use Rattle.cordyceps_uses.specs.declared.tasks.Task.{Task}
 
 -- the tasks that arrived, by their ranks, and equals as they arrived

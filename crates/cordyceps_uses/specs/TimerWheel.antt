@@ -1,10 +1,10 @@
 -- A wheel of timers: each waits in the slot of its deadline, and is due within a turn.
 use Rattle.std.specs.Prelude.{◌≡◌, ℕ, ◌+◌, ◌%◌, ◌<◌, ◌≤◌, List, [], length, slice_index_or, slice_set}
 use denote.RawPtr.{Ptr}
-use Rattle.cordyceps_base.specs.BySpot.{HasSpot}
-use Rattle.cordyceps_base.specs.Element.{Element}
-use Rattle.cordyceps_base.specs.Nodes.{Nodes}
-use Rattle.cordyceps_stable.specs.Agreeing.{Lies}
+use Rattle.cordyceps.specs.Spots.BySpot.{HasSpot}
+use Rattle.cordyceps.specs.Elements.Element.{Element}
+use Rattle.cordyceps.specs.Elements.Nodes.{Nodes}
+use Rattle.cordyceps.specs.Spots.Agreeing.{Lies}
 use Rattle.cordyceps_uses.specs.declared.timer_wheel.Timer.{Timer}
 
 -- what a contract sees of a wheel

@@ -1,7 +1,7 @@
 -- Timers: deadlines and payloads, the earliest first, equals by arrival.
 use Rattle.std.specs.Prelude.{ℕ, ◌≤◌, List, [], ◌∷◌, map, nat_lt, if◌then◌else◌}
 use Rattle.std.specs.List.{AllByRecursion}
-use Rattle.cordyceps_base.specs.Element.{Elements}
+use Rattle.cordyceps.specs.Elements.Element.{Elements}
 use Rattle.cordyceps_uses.specs.declared.timers.Timer.{Timer}
 
 module _ {P : Type 0} where

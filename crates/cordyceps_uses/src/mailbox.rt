@@ -1,9 +1,9 @@
 //! A mailbox: many send, each on a thread of its own, and one receives.
 ghost use Rattle.std.specs.Prelude.{◌≡◌, ◌≤◌, [], ◌∷◌, ◌++◌, length, IfOk};
 ghost use Rattle.std.specs.Thread.{IsSync};
-ghost use Rattle.cordyceps_shared.specs.Sending.{how_many, Delivers, MaySend};
-ghost use Rattle.cordyceps_queue.specs.Shared.Moves.{Moves, given};
-ghost use Rattle.cordyceps_queue.specs.Shared.Sending.{Sends};
+ghost use Rattle.cordyceps.specs.Parties.Sending.{how_many, Delivers, MaySend};
+ghost use Rattle.cordyceps.specs.Queues.Moves.{Moves, given};
+ghost use Rattle.cordyceps.specs.Queues.Sending.{Sends};
 ghost use Rattle.cordyceps_uses.specs.Mailbox.{contents, value_of};
 
 use cordyceps::mpsc_queue::{Links, MAX_ROOMS, Party, TryDequeueError};

@@ -1,6 +1,6 @@
 //! A pool of blocks that two threads share.
 ghost use Rattle.std.specs.Prelude.{◌≡◌, ◌≤◌, ◌++◌, IfOk};
-ghost use Rattle.cordyceps_shared.specs.Counts.{Same};
+ghost use Rattle.cordyceps.specs.Parties.Counts.{Same};
 ghost use Rattle.cordyceps_uses.specs.Pool.{Uses};
 
 use cordyceps::Node;

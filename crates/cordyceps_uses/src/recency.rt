@@ -4,7 +4,7 @@
 //! room. A map finds the spot where a key's node lies, so that no call walks along the entries.
 ghost use Rattle.std.specs.Prelude.{ℕ, ◌≡◌, ◌-◌, ◌<◌, ◌≤◌, [], length, take, slice_get, nat_eq, option_map, is_some, None, IsSome, IsOk, IfOk, IfErr, OnOk, OnErr};
 ghost use Rattle.std.specs.HashMap.{get, spare};
-ghost use Rattle.cordyceps_stable.specs.Agreeing.{Agrees};
+ghost use Rattle.cordyceps.specs.Spots.Agreeing.{Agrees};
 ghost use Rattle.cordyceps_uses.specs.Recency.{pairs, used, find, others, stored, displaced};
 
 use cordyceps::list::Links;
@@ -47,7 +47,7 @@ pub struct Cache<V> {
 impl<V> Model for Cache<V> {
     ghost use Rattle.std.specs.Prelude.{◌≤◌, ◌<◌, length, nat_eq};
     ghost use Rattle.std.specs.HashMap.{get};
-    ghost use Rattle.cordyceps_stable.specs.Agreeing.{Agrees};
+    ghost use Rattle.cordyceps.specs.Spots.Agreeing.{Agrees};
     ghost use Rattle.cordyceps_uses.specs.Recency.{Held, held};
 
     ghost Value = { Held V };

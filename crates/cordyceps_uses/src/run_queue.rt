@@ -1,8 +1,8 @@
 //! Jobs that one thread submits, and that workers run.
 ghost use Rattle.std.specs.Prelude.{◌≡◌, ◌≤◌, ◌*◌, [], ◌++◌, length, map, reverse, IfOk, IfErr};
 ghost use Rattle.std.specs.Thread.{IsSync};
-ghost use Rattle.cordyceps_shared.specs.Counts.{Same};
-ghost use Rattle.cordyceps_stack.specs.Shared.Moves.{Moves};
+ghost use Rattle.cordyceps.specs.Parties.Counts.{Same};
+ghost use Rattle.cordyceps.specs.Transfers.Moves.{Moves};
 ghost use Rattle.cordyceps_uses.specs.RunQueue.{ran, Worked};
 
 use cordyceps::stack::{Links, MAX_ROOMS, Party};

@@ -1,9 +1,9 @@
 //! Tasks of one type that go through a stack, a stack that threads share, and a sorted list, in the nodes that they were
 //! made with, and into a list in new ones.
 ghost use Rattle.std.specs.Prelude.{◌≡◌, ◌<◌, ◌≤◌, [], ◌∷◌, ◌++◌, length, reverse, IfErr, IfOk, OnErr, OnOk};
-ghost use Rattle.cordyceps_shared.specs.Histories.{plain};
-ghost use Rattle.cordyceps_shared.specs.Shares.{whole};
-ghost use Rattle.cordyceps_stack.specs.History.{held};
+ghost use Rattle.cordyceps.specs.Parties.Histories.{plain};
+ghost use Rattle.cordyceps.specs.Parties.Shares.{whole};
+ghost use Rattle.cordyceps.specs.Transfers.History.{held};
 ghost use Rattle.cordyceps_uses.specs.Tasks.{IsSchedule};
 
 use cordyceps::sorted_list::Least;

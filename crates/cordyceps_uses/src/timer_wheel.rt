@@ -2,8 +2,8 @@
 //!
 //! Its slots stand for the ticks of one turn. A timer waits in the slot of its deadline, modulo their number.
 ghost use Rattle.std.specs.Prelude.{ℕ, ◌≡◌, ◌+◌, ◌%◌, ◌++◌, ◌<◌, ◌≤◌, [], ◌∷◌, length, replicate, IfOk, IfErr, IsOk, OnErr, All};
-ghost use Rattle.cordyceps_base.specs.Nodes.{Nodes, elements};
-ghost use Rattle.cordyceps_base.specs.BySpot.{IsTaken};
+ghost use Rattle.cordyceps.specs.Elements.Nodes.{Nodes, elements};
+ghost use Rattle.cordyceps.specs.Spots.BySpot.{IsTaken};
 ghost use Rattle.cordyceps_uses.specs.TimerWheel.{waiting, with_waiting, Ahead, IsGood};
 
 use cordyceps::list::Links;

@@ -1,6 +1,6 @@
 //! Messages that threads send and one receives.
 ghost use Rattle.std.specs.Prelude.{◌≡◌, length, IfOk};
-ghost use Rattle.cordyceps_shared.specs.Sending.{how_many};
+ghost use Rattle.cordyceps.specs.Parties.Sending.{how_many};
 ghost use Rattle.cordyceps_uses.specs.Mailbox.{contents};
 
 use crate::compared::same;

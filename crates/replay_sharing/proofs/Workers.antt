@@ -4,16 +4,17 @@ use Rattle.std.proofs.lemmas.List.{append_cancel_left}
 use Rattle.std.proofs.lemmas.List.Sorted.{IsPermutation-map, IsPermutation-reverse, IsPermutation-trans, length_permutation}
 use Rattle.std.specs.List.Sorted.{IsPermutation, IsSorted}
 use Rattle.std.specs.Ordering.{nat_cmp}
-use Rattle.cordyceps_base.specs.Element.{Element}
-use Rattle.cordyceps_shared.specs.Histories.{plain, own, AllOwn}
-use Rattle.cordyceps_shared.specs.Interleaving.{Interleaves}
-use Rattle.cordyceps_shared.specs.Knowing.{unmarked, merged, Begins}
-use Rattle.cordyceps_shared.specs.Shares.{Name, first_name, whole, keeps_half, gives_half, joined}
-use Rattle.cordyceps_shared.specs.Standings.{name_of, keeping, giving, Absorbs}
-use Rattle.cordyceps_shared.proofs.Adding.{adds_then, plain_append, plain_unmarked, plain_own, tail_own, whole_adds}
-use Rattle.cordyceps_shared.proofs.Interleaving.{interleaved_permutes}
+use Rattle.cordyceps.specs.Elements.Element.{Element}
+use Rattle.cordyceps.specs.Parties.Histories.{plain, own, AllOwn}
+use Rattle.cordyceps.specs.Parties.Interleaving.{Interleaves}
+use Rattle.cordyceps.specs.Parties.Knowing.{unmarked, merged, Begins}
+use Rattle.cordyceps.specs.Parties.Shares.{Name, first_name, whole, keeps_half, gives_half, joined}
+use Rattle.cordyceps.specs.Parties.Standings.{name_of, keeping, giving, Absorbs}
+use Rattle.cordyceps.proofs.Parties.Adding.{adds_then, plain_append, plain_unmarked, plain_own, tail_own, whole_adds}
+use Rattle.cordyceps.proofs.Parties.Interleaving.{interleaved_permutes}
 use Rattle.cordyceps.specs.declared.replay.item.Item.{Item}
-use Rattle.cordyceps.specs.SharedStacks.{Event, Load, Push, Taken, pushes, held, Legal, PartyOf, Adds, PushesAt, Takes}
+use Rattle.cordyceps.specs.Transfers.History.{Event, Load, Push, Taken, pushes, held, Legal}
+use Rattle.cordyceps.specs.Transfers.Calls.{PartyOf, Adds, PushesAt, Takes}
 use Rattle.replay_sharing.specs.Sharing.{item, Works, Shared, NoBatch}
 use Rattle.replay_sharing.proofs.InOrder.{sorted_as}
 use Rattle.replay_sharing.proofs.Sharing.{Every, Other, merged_front, pushed_by_both, none_taken, held_since, none_append, pushes_append, tries_take_nothing, tries_push_once}

@@ -3,9 +3,9 @@ ghost use Rattle.std.specs.Prelude.{◌≡◌, [], length, map, IfOk, IfErr};
 ghost use Rattle.std.specs.Ordering.{nat_cmp};
 ghost use Rattle.std.specs.List.Sorted.{IsPermutation, IsSorted};
 ghost use Rattle.std.specs.Thread.{IsSync};
-ghost use Rattle.cordyceps_shared.specs.Histories.{plain};
-ghost use Rattle.cordyceps_shared.specs.Shares.{whole};
-ghost use Rattle.cordyceps.specs.SharedStacks.{held};
+ghost use Rattle.cordyceps.specs.Parties.Histories.{plain};
+ghost use Rattle.cordyceps.specs.Parties.Shares.{whole};
+ghost use Rattle.cordyceps.specs.Transfers.History.{held};
 ghost use Rattle.replay_sharing.specs.Sharing.{item, Works, Shared, shown, Prints};
 ghost use Rattle.replay_driver.specs.declared.fault.Fault.TheVariants.{Memory};
 

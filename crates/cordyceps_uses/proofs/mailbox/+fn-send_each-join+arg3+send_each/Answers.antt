@@ -1,6 +1,6 @@
 use Rattle.std.proofs.Common.{rules, ◌≡◌, List, Vec, ℕ, Global, length, ap, arith}
 use Rattle.std.proofs.lemmas.Result.{IfOk-at_ok}
-use Rattle.cordyceps_shared.proofs.Sending.{may_send_rest, sends_none, sends_more}
+use Rattle.cordyceps.proofs.Parties.Sending.{may_send_rest, sends_none, sends_more}
 use Rattle.cordyceps_uses.specs.Mailbox.{contents}
 use Rattle.cordyceps_uses.proofs.mailbox.+fn-send_each-join+arg3+send_each.Goals as goal
 

@@ -1,11 +1,11 @@
 use Rattle.std.proofs.Common.{rules, [], ◌∷◌, ◌++◌, map, ap, sym, ◌∙◌, subst, append-nil, append_assoc, arith}
 use Rattle.std.proofs.lemmas.List.{map-id}
 use Rattle.std.proofs.lemmas.Result.{IfOk-at_ok}
-use Rattle.cordyceps_shared.specs.Histories.{plain}
-use Rattle.cordyceps_shared.specs.Sending.{Delivers}
-use Rattle.cordyceps_shared.proofs.Sending.{may_send_new}
-use Rattle.cordyceps_queue.specs.History.{held}
-use Rattle.cordyceps_queue.proofs.SharedTheory.Sending.{delivered}
+use Rattle.cordyceps.specs.Parties.Histories.{plain}
+use Rattle.cordyceps.specs.Parties.Sending.{Delivers}
+use Rattle.cordyceps.proofs.Parties.Sending.{may_send_new}
+use Rattle.cordyceps.specs.Queues.History.{held}
+use Rattle.cordyceps.proofs.Queues.Sending.{delivered}
 use Rattle.cordyceps_uses.specs.Mailbox.{contents, value_of}
 use Rattle.cordyceps_uses.proofs.mailbox.deliver.Goals as goal
 

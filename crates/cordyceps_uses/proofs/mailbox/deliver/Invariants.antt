@@ -1,5 +1,5 @@
 use Rattle.std.proofs.Common.{◌++◌, map}
-use Rattle.cordyceps_shared.specs.Sending.{Delivers}
+use Rattle.cordyceps.specs.Parties.Sending.{Delivers}
 use Rattle.cordyceps_uses.specs.Mailbox.{contents, value_of}
 use Rattle.cordyceps_uses.proofs.mailbox.deliver.Given as goal
 

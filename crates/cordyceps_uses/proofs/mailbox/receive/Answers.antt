@@ -1,7 +1,7 @@
 use Rattle.std.proofs.Common.{[], sym, subst}
-use Rattle.cordyceps_shared.proofs.Moving.{moves_none}
-use Rattle.cordyceps_queue.specs.Shared.Moves.{put_by, got_by, Moves}
-use Rattle.cordyceps_queue.proofs.SharedTheory.Sending.{then_dequeues}
+use Rattle.cordyceps.proofs.Parties.Moving.{moves_none}
+use Rattle.cordyceps.specs.Queues.Moves.{put_by, got_by, Moves}
+use Rattle.cordyceps.proofs.Queues.Sending.{then_dequeues}
 use Rattle.cordyceps_uses.specs.Mailbox.{value_of}
 use Rattle.cordyceps_uses.proofs.mailbox.receive.Goals as goal
 

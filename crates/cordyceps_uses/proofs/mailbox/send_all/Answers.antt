@@ -1,4 +1,4 @@
-use Rattle.cordyceps_queue.proofs.SharedTheory.Sending.{enqueues_next}
+use Rattle.cordyceps.proofs.Queues.Sending.{enqueues_next}
 use Rattle.cordyceps_uses.specs.Mailbox.{value_of}
 use Rattle.cordyceps_uses.proofs.mailbox.send_all.Goals as goal
 

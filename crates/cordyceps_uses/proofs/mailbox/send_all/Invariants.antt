@@ -1,5 +1,5 @@
 use Rattle.std.proofs.Common.{[], take}
-use Rattle.cordyceps_queue.specs.Shared.Moves.{Moves}
+use Rattle.cordyceps.specs.Queues.Moves.{Moves}
 use Rattle.cordyceps_uses.specs.Mailbox.{value_of}
 use Rattle.cordyceps_uses.proofs.mailbox.send_all.Given as goal
 

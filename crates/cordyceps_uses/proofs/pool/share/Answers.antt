@@ -1,7 +1,7 @@
 use Rattle.std.proofs.Common.{◌*◌, ◌++◌, ap, ◌∙◌, subst}
-use Rattle.cordyceps_base.specs.Element.{Element}
-use Rattle.cordyceps_shared.specs.Standings.{keeping, giving}
-use Rattle.cordyceps_stack.specs.Shared.Calls.{PartyOf}
+use Rattle.cordyceps.specs.Elements.Element.{Element}
+use Rattle.cordyceps.specs.Parties.Standings.{keeping, giving}
+use Rattle.cordyceps.specs.Transfers.Calls.{PartyOf}
 use Rattle.freelist.specs.Users.{closing}
 use Rattle.freelist.proofs.Meetings.{both, both_whole}
 use Rattle.cordyceps_uses.specs.Pool.{Uses}

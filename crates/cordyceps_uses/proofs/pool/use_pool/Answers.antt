@@ -1,5 +1,5 @@
 use Rattle.std.proofs.Common.{refl}
-use Rattle.cordyceps_base.specs.Element.{Element}
+use Rattle.cordyceps.specs.Elements.Element.{Element}
 use Rattle.freelist.proofs.Meetings.{from_new}
 use Rattle.cordyceps_uses.specs.declared.pool.Block.{Block}
 use Rattle.cordyceps_uses.proofs.pool.use_pool.Goals as goal

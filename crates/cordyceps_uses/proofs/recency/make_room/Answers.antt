@@ -1,8 +1,8 @@
 use Rattle.std.proofs.Common.{Some, None, arith, subst, ◌∙◌, nat_eq}
 use Rattle.std.specs.HashMap.{get}
-use Rattle.cordyceps_stable.specs.Agreeing.{IsUpdated}
-use Rattle.cordyceps_stable.proofs.Agreeing.{taken_agrees}
-use Rattle.cordyceps_stable.proofs.Holding.{last_taken}
+use Rattle.cordyceps.specs.Spots.Agreeing.{IsUpdated}
+use Rattle.cordyceps.proofs.Spots.Agreeing.{taken_agrees}
+use Rattle.cordyceps.proofs.Spots.Holding.{last_taken}
 use Rattle.cordyceps_uses.proofs.Entries.{last_goes}
 use Rattle.cordyceps_uses.proofs.recency.make_room.Goals as goal
 

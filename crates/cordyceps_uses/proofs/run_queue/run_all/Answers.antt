@@ -1,9 +1,9 @@
 use Rattle.std.proofs.Common.{List, ◌++◌, map, reverse, ap, sym, ◌∙◌, subst}
 use Rattle.std.proofs.lemmas.List.{map-id}
-use Rattle.cordyceps_base.specs.Element.{Element}
-use Rattle.cordyceps_shared.specs.Counts.{Same}
-use Rattle.cordyceps_shared.specs.Histories.{plain}
-use Rattle.cordyceps_stack.specs.History.{held}
+use Rattle.cordyceps.specs.Elements.Element.{Element}
+use Rattle.cordyceps.specs.Parties.Counts.{Same}
+use Rattle.cordyceps.specs.Parties.Histories.{plain}
+use Rattle.cordyceps.specs.Transfers.History.{held}
 use Rattle.cordyceps_uses.specs.RunQueue.{ran}
 use Rattle.cordyceps_uses.specs.declared.run_queue.Job.{Job}
 use Rattle.cordyceps_uses.proofs.Working.{all_done}

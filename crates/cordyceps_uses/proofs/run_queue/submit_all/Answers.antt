@@ -1,8 +1,8 @@
 use Rattle.std.proofs.Common.{◌≤◌, ◌++◌, ◌∷◌, [], List, map, suc, length, ap, sym, ◌∙◌, subst, append_assoc, append-nil, arith}
-use Rattle.cordyceps_base.specs.Element.{Element}
-use Rattle.cordyceps_shared.proofs.Moving.{moves_none}
-use Rattle.cordyceps_stack.specs.Shared.Moves.{put_by, got_by, Moves}
-use Rattle.cordyceps_stack.proofs.SharedTheory.Sending.{then_pushes}
+use Rattle.cordyceps.specs.Elements.Element.{Element}
+use Rattle.cordyceps.proofs.Parties.Moving.{moves_none}
+use Rattle.cordyceps.specs.Transfers.Moves.{put_by, got_by, Moves}
+use Rattle.cordyceps.proofs.Transfers.Sending.{then_pushes}
 use Rattle.cordyceps_uses.specs.RunQueue.{ran}
 use Rattle.cordyceps_uses.specs.declared.run_queue.Job.{Job}
 use Rattle.cordyceps_uses.proofs.run_queue.submit_all.Goals as goal

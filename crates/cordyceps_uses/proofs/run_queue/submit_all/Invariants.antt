@@ -1,5 +1,5 @@
 use Rattle.std.proofs.Common.{◌≡◌, ◌≤◌, ◌++◌, List, [], map, length}
-use Rattle.cordyceps_stack.specs.Shared.Moves.{Moves}
+use Rattle.cordyceps.specs.Transfers.Moves.{Moves}
 use Rattle.cordyceps_uses.specs.RunQueue.{ran}
 use Rattle.cordyceps_uses.proofs.run_queue.submit_all.Given as goal
 

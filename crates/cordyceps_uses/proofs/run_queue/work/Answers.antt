@@ -1,6 +1,6 @@
 use Rattle.std.proofs.Common.{List, ◌++◌, map, reverse, ap, sym, ◌∙◌, subst}
 use Rattle.std.proofs.lemmas.List.{map-id}
-use Rattle.cordyceps_base.specs.Element.{Element}
+use Rattle.cordyceps.specs.Elements.Element.{Element}
 use Rattle.cordyceps_uses.specs.RunQueue.{ran, Worked}
 use Rattle.cordyceps_uses.specs.declared.run_queue.Job.{Job}
 use Rattle.cordyceps_uses.proofs.Working.{worked_none, worked_turn}

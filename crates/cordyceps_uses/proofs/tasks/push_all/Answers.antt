@@ -1,9 +1,9 @@
 use Rattle.std.proofs.Common.{◌++◌, ◌∷◌, [], List, length, ap, sym, ◌∙◌, append_assoc, arith}
-use Rattle.cordyceps_base.specs.Element.{Element}
-use Rattle.cordyceps_shared.specs.Histories.{plain}
-use Rattle.cordyceps_stack.specs.History.{held}
+use Rattle.cordyceps.specs.Elements.Element.{Element}
+use Rattle.cordyceps.specs.Parties.Histories.{plain}
+use Rattle.cordyceps.specs.Transfers.History.{held}
 use Rattle.cordyceps_uses.specs.declared.tasks.Task.{Task}
-use Rattle.cordyceps_stack.proofs.SharedTheory.Sending.{held_pushed}
+use Rattle.cordyceps.proofs.Transfers.Sending.{held_pushed}
 use Rattle.cordyceps_uses.proofs.tasks.push_all.Goals as goal
 
 pub loop-task-preserved : goal.loop-task-preserved

@@ -1,6 +1,6 @@
 use Rattle.std.proofs.Common.{◌≡◌, ◌≤◌, ◌++◌, length}
-use Rattle.cordyceps_shared.specs.Histories.{plain}
-use Rattle.cordyceps_stack.specs.History.{held}
+use Rattle.cordyceps.specs.Parties.Histories.{plain}
+use Rattle.cordyceps.specs.Transfers.History.{held}
 use Rattle.cordyceps_uses.proofs.tasks.push_all.Given as goal
 
 abbrev pub invariant-loop-task : goal.invariant-loop-task

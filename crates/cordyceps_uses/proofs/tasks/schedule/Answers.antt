@@ -1,11 +1,11 @@
 use Rattle.std.proofs.Common.{◌++◌, List, reverse, ap, ◌∙◌, subst}
 use Rattle.std.proofs.lemmas.List.{map-id}
 use Rattle.std.specs.Ordering.{nat_cmp}
-use Rattle.cordyceps_base.specs.Element.{Element}
-use Rattle.cordyceps_shared.specs.Histories.{plain}
-use Rattle.cordyceps_stack.specs.Arrangement.{StandsFor}
-use Rattle.cordyceps_stack.specs.History.{held}
-use Rattle.cordyceps_stack.specs.Shared.Calls.{PartyOf}
+use Rattle.cordyceps.specs.Elements.Element.{Element}
+use Rattle.cordyceps.specs.Parties.Histories.{plain}
+use Rattle.cordyceps.specs.Orders.Arrangement.{StandsFor}
+use Rattle.cordyceps.specs.Transfers.History.{held}
+use Rattle.cordyceps.specs.Transfers.Calls.{PartyOf}
 use Rattle.cordyceps_uses.specs.declared.tasks.Task.{Task}
 use Rattle.cordyceps_uses.proofs.tasks.schedule.Goals as goal
 

@@ -1,15 +1,15 @@
 use Rattle.std.proofs.Common.{◌≡◌, ℕ, zero, suc, List, [], ◌∷◌, ◌++◌, map, replicate, reverse, Bool, refl, ap, ◌∙◌, subst}
-use Rattle.atomic_table.specs.Seated.{TableId}
-use Rattle.cordyceps_base.specs.Element.{Element}
-use Rattle.cordyceps_shared.specs.Acting.{Acts}
-use Rattle.cordyceps_shared.specs.Shares.{Name}
-use Rattle.cordyceps_shared.specs.Standings.{new_party, keeping, giving, name_of, Absorbs}
-use Rattle.cordyceps_shared.proofs.Acting.{acts_none, acts_then, acts_of, acts_alone, acts_both}
-use Rattle.cordyceps_shared.proofs.Interleaving.{only_right}
-use Rattle.cordyceps_stack.specs.History.{Event, Load, Push, held, held_from, Legal}
-use Rattle.cordyceps_stack.specs.Shared.Calls.{PartyOf, PushesAt, Takes}
-use Rattle.cordyceps_stack.proofs.Histories.{held_from-append}
-use Rattle.cordyceps_stack.proofs.SharedTheory.CallsHold.{takes_held}
+use Rattle.cordyceps.specs.Parties.Seated.{TableId}
+use Rattle.cordyceps.specs.Elements.Element.{Element}
+use Rattle.cordyceps.specs.Parties.Acting.{Acts}
+use Rattle.cordyceps.specs.Parties.Shares.{Name}
+use Rattle.cordyceps.specs.Parties.Standings.{new_party, keeping, giving, name_of, Absorbs}
+use Rattle.cordyceps.proofs.Parties.Acting.{acts_none, acts_then, acts_of, acts_alone, acts_both}
+use Rattle.cordyceps.proofs.Parties.Interleaving.{only_right}
+use Rattle.cordyceps.specs.Transfers.History.{Event, Load, Push, held, held_from, Legal}
+use Rattle.cordyceps.specs.Transfers.Calls.{PartyOf, PushesAt, Takes}
+use Rattle.cordyceps.proofs.Transfers.Histories.{held_from-append}
+use Rattle.cordyceps.proofs.Transfers.CallsHold.{takes_held}
 use Rattle.cordyceps_uses.specs.declared.job.Job.{Job}
 use Rattle.cordyceps_uses.proofs.tour.hand_over.Goals as goal
 

@@ -2,10 +2,10 @@ use Rattle.std.proofs.Common.{◌≡◌, ℕ, ◌<◌, Bool, true, false, cond, 
 use Rattle.std.proofs.lemmas.Cmp.{by_ranked}
 use Rattle.std.specs.Cmp.{on_total, nat_cmp_total, ranked}
 use Rattle.std.specs.Ordering.{is_gt, nat_cmp}
-use Rattle.cordyceps_base.specs.Element.{Element, Elements, values}
-use Rattle.cordyceps_stack.specs.Arrangement.{StandsFor, put_all}
-use Rattle.cordyceps_stack.specs.Preorder.{IsPreorder, preorder_from_total}
-use Rattle.cordyceps_stack.proofs.Puts.{is_put_all}
+use Rattle.cordyceps.specs.Elements.Element.{Element, Elements, values}
+use Rattle.cordyceps.specs.Orders.Arrangement.{StandsFor, put_all}
+use Rattle.cordyceps.specs.Orders.Preorder.{IsPreorder, preorder_from_total}
+use Rattle.cordyceps.proofs.Orders.Puts.{is_put_all}
 use Rattle.cordyceps_uses.specs.declared.job.Job.{Job}
 use Rattle.cordyceps_uses.proofs.tour.least_rank.Goals as goal
 

@@ -2,21 +2,21 @@ use Rattle.std.proofs.Common.{◌≡◌, List, [], ◌∷◌, ◌++◌, map, tak
 use Rattle.std.specs.Prelude.{Result, Ok, Err, MatchResult}
 use Rattle.std.specs.Result.{result_ok}
 use Rattle.std.proofs.lemmas.List.{map-id}
-use Rattle.atomic_table.specs.Seated.{TableId}
-use Rattle.cordyceps_base.specs.Element.{Element}
-use Rattle.cordyceps_shared.specs.Histories.{plain}
-use Rattle.cordyceps_shared.specs.Shares.{whole}
-use Rattle.cordyceps_shared.specs.Standings.{new_party, keeping, giving, Absorbs}
-use Rattle.cordyceps_shared.proofs.Interleaving.{only_right}
-use Rattle.cordyceps_shared.proofs.Moving.{moves_none, moves_then, moves_both, moves_whole}
-use Rattle.cordyceps_queue.specs.declared.cores.steps.TryDequeueError.{TryDequeueError}
-use Rattle.cordyceps_queue.specs.declared.cores.steps.TryDequeueError.TheVariants as error
-use Rattle.cordyceps_queue.specs.History.{held}
-use Rattle.cordyceps_queue.specs.Shared.Batches.{TakesLinked}
-use Rattle.cordyceps_queue.specs.Shared.Calls.{PartyOf, Legal, Consumes, Enqueues, IsCertain, TakesRight, same_name}
-use Rattle.cordyceps_queue.specs.Shared.Moves.{put_by, got_by, Moves}
-use Rattle.cordyceps_queue.proofs.SharedTheory.CloseTakesAll.{gives_none}
-use Rattle.cordyceps_queue.proofs.SharedTheory.PartyMoves.{all_kept, moves_enqueue, moves_right}
+use Rattle.cordyceps.specs.Parties.Seated.{TableId}
+use Rattle.cordyceps.specs.Elements.Element.{Element}
+use Rattle.cordyceps.specs.Parties.Histories.{plain}
+use Rattle.cordyceps.specs.Parties.Shares.{whole}
+use Rattle.cordyceps.specs.Parties.Standings.{new_party, keeping, giving, Absorbs}
+use Rattle.cordyceps.proofs.Parties.Interleaving.{only_right}
+use Rattle.cordyceps.proofs.Parties.Moving.{moves_none, moves_then, moves_both, moves_whole}
+use Rattle.cordyceps.specs.Queues.TryDequeueError.{TryDequeueError}
+use Rattle.cordyceps.specs.Queues.TryDequeueError.TheVariants as error
+use Rattle.cordyceps.specs.Queues.History.{held}
+use Rattle.cordyceps.specs.Queues.Batches.{TakesLinked}
+use Rattle.cordyceps.specs.Queues.Calls.{PartyOf, Legal, Consumes, Enqueues, IsCertain, TakesRight, same_name}
+use Rattle.cordyceps.specs.Queues.Moves.{put_by, got_by, Moves}
+use Rattle.cordyceps.proofs.Queues.CloseTakesAll.{gives_none}
+use Rattle.cordyceps.proofs.Queues.PartyMoves.{all_kept, moves_enqueue, moves_right}
 use Rattle.cordyceps_uses.specs.declared.job.Job.{Job}
 use Rattle.cordyceps_uses.proofs.tour.send.Goals as goal
 

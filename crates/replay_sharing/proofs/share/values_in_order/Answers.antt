@@ -1,6 +1,6 @@
 use Rattle.std.proofs.Common.{◌++◌, ◌∷◌, [], map, sym, ap, ◌∙◌, subst, append_assoc, append-nil}
 use Rattle.std.specs.List.Sorted.{IsPermutation}
-use Rattle.cordyceps_base.specs.Element.{Element}
+use Rattle.cordyceps.specs.Elements.Element.{Element}
 use Rattle.cordyceps.specs.declared.replay.item.Item.{Item}
 use Rattle.replay_sharing.proofs.share.values_in_order.Goals as goal
 

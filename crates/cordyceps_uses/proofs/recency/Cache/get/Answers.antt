@@ -1,6 +1,6 @@
 use Rattle.std.proofs.Common.{arith, ap, sym, ◌∙◌, nat_eq, option_map}
 use Rattle.std.specs.HashMap.{get}
-use Rattle.cordyceps_stable.proofs.Agreeing.{answer_spot, moved_front_agrees}
+use Rattle.cordyceps.proofs.Spots.Agreeing.{answer_spot, moved_front_agrees}
 use Rattle.cordyceps_uses.specs.Recency.{Held, used, find}
 use Rattle.cordyceps_uses.proofs.Entries.{absent_find, absent_used, held_value, moved_length, moved_used}
 use Rattle.cordyceps_uses.proofs.recency.Cache.get.Goals as goal

@@ -1,10 +1,10 @@
 use Rattle.std.proofs.Common.{◌∷◌, length, OnOk, Some, is_some, arith, ap, sym, subst, ◌∙◌, nat_eq}
 use Rattle.std.specs.HashMap.{get, Updates}
-use Rattle.cordyceps_base.specs.Element.{Element}
-use Rattle.cordyceps_base.specs.Nodes.{spots}
-use Rattle.cordyceps_base.specs.Spots.{index_of}
-use Rattle.cordyceps_stable.proofs.Agreeing.{answer_spot, moved_front_agrees, put_agrees, written_agrees}
-use Rattle.cordyceps_stable.proofs.Holding.{first_taken}
+use Rattle.cordyceps.specs.Elements.Element.{Element}
+use Rattle.cordyceps.specs.Elements.Nodes.{spots}
+use Rattle.cordyceps.specs.Spots.Spots.{index_of}
+use Rattle.cordyceps.proofs.Spots.Agreeing.{answer_spot, moved_front_agrees, put_agrees, written_agrees}
+use Rattle.cordyceps.proofs.Spots.Holding.{first_taken}
 use Rattle.cordyceps_uses.specs.declared.recency.Entry.{Entry}
 use Rattle.cordyceps_uses.specs.Recency.{Held, pairs, find, stored, displaced}
 use Rattle.cordyceps_uses.proofs.Entries.{absent_displaced, absent_find, absent_others, put_stored, same_agrees, written_displaced, written_length, written_stored}

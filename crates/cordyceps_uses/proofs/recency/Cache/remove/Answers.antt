@@ -1,6 +1,6 @@
 use Rattle.std.proofs.Common.{Some, arith, ap, sym, ◌∙◌, nat_eq, option_map}
 use Rattle.std.specs.HashMap.{get}
-use Rattle.cordyceps_stable.proofs.Agreeing.{answer_spot, removed_agrees}
+use Rattle.cordyceps.proofs.Spots.Agreeing.{answer_spot, removed_agrees}
 use Rattle.cordyceps_uses.specs.Recency.{Held, others, find}
 use Rattle.cordyceps_uses.proofs.Entries.{absent_find, absent_others, length_taken, present_find, present_others, same_map}
 use Rattle.cordyceps_uses.proofs.recency.Cache.remove.Goals as goal

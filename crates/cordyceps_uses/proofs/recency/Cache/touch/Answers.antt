@@ -1,6 +1,6 @@
 use Rattle.std.proofs.Common.{arith, ap, sym, ◌∙◌, nat_eq, is_some}
 use Rattle.std.specs.HashMap.{get}
-use Rattle.cordyceps_stable.proofs.Agreeing.{answer_spot, moved_front_agrees}
+use Rattle.cordyceps.proofs.Spots.Agreeing.{answer_spot, moved_front_agrees}
 use Rattle.cordyceps_uses.specs.Recency.{Held, used, find}
 use Rattle.cordyceps_uses.proofs.Entries.{absent_find, absent_used, moved_find, moved_length, moved_used}
 use Rattle.cordyceps_uses.proofs.recency.Cache.touch.Goals as goal

@@ -1,7 +1,7 @@
 use Rattle.std.proofs.Common.{inl, subst, sym, ap, ◌∙◌, ◌%◌, length}
-use Rattle.cordyceps_base.specs.BySpot.{IsTaken}
-use Rattle.cordyceps_stable.specs.Agreeing.{Lies}
-use Rattle.cordyceps_stable.proofs.Holding.{left_lies}
+use Rattle.cordyceps.specs.Spots.BySpot.{IsTaken}
+use Rattle.cordyceps.specs.Spots.Agreeing.{Lies}
+use Rattle.cordyceps.proofs.Spots.Holding.{left_lies}
 use Rattle.cordyceps_uses.specs.TimerWheel.{waiting}
 use Rattle.cordyceps_uses.proofs.Turning.{at_slot, put_in_place, put_seen}
 use Rattle.cordyceps_uses.proofs.timer_wheel.TimerWheel.cancel.Goals as goal

@@ -1,7 +1,7 @@
 use Rattle.std.proofs.Common.{◌≡◌, inl, inr, subst, sym, ap, ◌∙◌, ◌%◌, ◌⊎◌, [], ◌∷◌, ◌++◌, length, set, arith}
-use Rattle.cordyceps_base.specs.Nodes.{Nodes}
-use Rattle.cordyceps_stable.specs.Agreeing.{Lies}
-use Rattle.cordyceps_stable.proofs.Holding.{joined_lies}
+use Rattle.cordyceps.specs.Elements.Nodes.{Nodes}
+use Rattle.cordyceps.specs.Spots.Agreeing.{Lies}
+use Rattle.cordyceps.proofs.Spots.Holding.{joined_lies}
 use Rattle.cordyceps_uses.specs.declared.timer_wheel.Timer.{Timer}
 use Rattle.cordyceps_uses.specs.TimerWheel.{dial, waiting, Ahead, IsGood}
 use Rattle.cordyceps_uses.proofs.Turning.{at_slot, only_lies, put_in_place, started_good}

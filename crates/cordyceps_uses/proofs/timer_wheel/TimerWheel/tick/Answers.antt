@@ -1,6 +1,6 @@
 use Rattle.std.proofs.Common.{subst, sym, ap, ◌∙◌, ◌%◌, ◌<◌, ◌≡◌, ◌+◌, length, set}
 use Rattle.std.specs.List.{All}
-use Rattle.cordyceps_base.specs.Nodes.{elements}
+use Rattle.cordyceps.specs.Elements.Nodes.{elements}
 use Rattle.cordyceps_uses.specs.TimerWheel.{dial, IsInPlace}
 use Rattle.cordyceps_uses.proofs.Turning.{all_due, at_slot, tick_in_place}
 use Rattle.cordyceps_uses.proofs.timer_wheel.TimerWheel.tick.Goals as goal

@@ -1,0 +1,2 @@
+-- Lemmas on elements, as the crates below prove them.
+pub use Rattle.cordyceps_base.proofs.Places

@@ -1,0 +1,8 @@
+-- Lemmas for users of queues, as the crates below prove them.
+pub use Rattle.cordyceps_queue.proofs.BothWays
+pub use Rattle.cordyceps_queue.proofs.PartyOrder
+pub use Rattle.cordyceps_queue.proofs.SharedTheory.CallsHold
+pub use Rattle.cordyceps_queue.proofs.SharedTheory.CloseTakesAll
+pub use Rattle.cordyceps_queue.proofs.SharedTheory.PartyMoves
+pub use Rattle.cordyceps_queue.proofs.SharedTheory.Sending
+pub use Rattle.cordyceps_queue.proofs.SharedTheory.WaitingTries

@@ -1,0 +1,4 @@
+-- Lemmas for users of stable lists, as the crates below prove them.
+pub use Rattle.cordyceps_base.proofs.SpotsMemory.{same_ptr_refl}
+pub use Rattle.cordyceps_stable.proofs.Agreeing
+pub use Rattle.cordyceps_stable.proofs.Holding

@@ -1,0 +1,5 @@
+-- What a contract sees of stable lists and their spots, as the crates below define it.
+pub use Rattle.cordyceps_base.specs.BySpot
+pub use Rattle.cordyceps_base.specs.Spots
+pub use Rattle.cordyceps_stable.specs.Agreeing
+pub use Rattle.cordyceps_stable.specs.StableLending

@@ -1,0 +1,4 @@
+-- Histories and calls of transfer stacks, as the crates below define them.
+pub use Rattle.cordyceps_stack.specs.History
+pub use Rattle.cordyceps_stack.specs.Shared.Calls
+pub use Rattle.cordyceps_stack.specs.Shared.Moves
