@@ -1,12 +1,9 @@
 -- Lists in order: what a command leaves is in order, and is what the command means.
-use Rattle.std.proofs.Common.{◌≡◌, ℕ, zero, suc, Bool, false, List, [], ◌∷◌, ◌++◌, length, map, drop, reverse, refl, ap, sym, ◌∙◌, subst, append_assoc, cond, Option, Some, None, nat_eq, nat_lt, slice_set, slice_index_or, ◌<◌, arith}
+use Rattle.std.proofs.Common.{◌≡◌, ℕ, zero, suc, Bool, List, [], ◌∷◌, length, map, drop, reverse, refl, ap, sym, ◌∙◌, subst, cond, Option, Some, None, nat_eq, nat_lt, slice_set, slice_index_or, ◌<◌, arith}
 use Rattle.std.specs.declared.cmp.Ordering.{Ordering}
-use Rattle.std.specs.Ordering.{is_gt}
 use Rattle.std.specs.List.Sorted.{IsSortedBy}
-use Rattle.std.proofs.lemmas.List.{append-nil}
-use Rattle.cordyceps_base.specs.Element.{Element, Elements}
-use Rattle.cordyceps_stack.specs.Arrangement.{less, StandsFor, put, put_all}
-use Rattle.cordyceps_stack.specs.Place.{NoneGreater}
+use Rattle.cordyceps_base.specs.Element.{Elements}
+use Rattle.cordyceps_stack.specs.Arrangement.{less, StandsFor, put_all}
 use Rattle.cordyceps_stack.specs.Preorder.{IsPreorder}
 use Rattle.cordyceps_stack.proofs.Preorder.{by_test, ranks}
 use Rattle.cordyceps_stack.proofs.Puts.{put_all_stands, is_put_all, put_in_order}

@@ -2,7 +2,7 @@
 use Rattle.std.specs.Prelude.{ℕ, ◌<◌, List, [], ◌∷◌, length, drop, map, Option, Some, None, slice_get, reverse, if◌then◌else◌, nat_eq, nat_lt}
 use Rattle.std.specs.declared.cmp.Ordering.{Ordering}
 use Rattle.std.specs.List.Sorted.{IsSortedBy}
-use Rattle.cordyceps_base.specs.Element.{Element, Elements, values}
+use Rattle.cordyceps_base.specs.Element.{Elements, values}
 use Rattle.cordyceps_stack.specs.Arrangement.{less, put, put_all}
 use Rattle.cordyceps.specs.declared.replay.item.Item.{Item}
 use Rattle.cordyceps.specs.declared.replay.sorteds.SortedCommand.{SortedCommand}
