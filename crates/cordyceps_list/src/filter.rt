@@ -2,6 +2,7 @@
 ghost use Rattle.std.specs.Prelude.{◌≡◌, ◌≤◌, length};
 
 use crate::cursor_mut::CursorMut;
+use crate::finger::Fingers;
 use crate::list::{Links, List};
 use cordyceps_base::linked::Linked;
 
@@ -42,6 +43,7 @@ impl<T: Linked<Links<T>>> List<T> {
         ensures place { place result ≡ 0 }
         ensures predicate { predicate_of result ≡ predicate }
     {
+        self.fingers = Fingers::at_ends(&self.chain);
         DrainFilter {
             list: self,
             at: 0,

@@ -20,15 +20,9 @@ fn node_before<T>(chain: &DoubleChain<T>, at: usize, steps: &mut Steps) -> Addre
     let before = at - 1;
     let len = chain.len();
     let end = if before <= len - at {
-        Finger {
-            at: chain.head(),
-            index: 0,
-        }
+        Finger::at_head(chain)
     } else {
-        Finger {
-            at: chain.tail(),
-            index: len - 1,
-        }
+        Finger::at_tail(chain)
     };
     end.walked_in(chain, before, steps).at
 }

@@ -1,10 +1,14 @@
-//! Filters that are dropped early: what they asked, what they removed and what they kept.
+//! Filters: what they asked, what they removed and what they kept, dropped early or not.
+ghost use Rattle.std.specs.Prelude.{◌<◌, IfOk};
+ghost use Rattle.std.specs.List.{All};
+ghost use Rattle.cordyceps_base.specs.Element.{values};
+
 use crate::compared::same;
-use crate::items::{list_of, shows};
+use crate::items::{comes_out, holds, list_of, shows};
 use cordyceps_list::iter::Iter;
 use cordyceps_list::list::List;
 use cordyceps_testing::items::Item;
-use cordyceps_testing::nodes::number;
+use cordyceps_testing::nodes::{node_of, number};
 use std::alloc::{AllocError, Global};
 use std::cell::Cell;
 use std::process::Abort;
@@ -147,5 +151,36 @@ fn a_filter_asks_each_item_once_up_to_its_drop(rt: HostRuntime) -> Result<(), Fa
             drops_after(&rt, rt.alloc(), &filtering, calls)?;
         }
     }
+    Ok(())
+}
+
+/// A list of the items 5, 4 and 6, none of which is zero.
+fn divisors(alloc: Global) -> Result<List<Item>, AllocError>
+    ensures { IfOk result (λ list. All (λ item. 0 < item.value) (values list)) }
+{
+    let mut list = List::new();
+    list.push_back(node_of(alloc, 5, Item { value: 5 })?);
+    list.push_back(node_of(alloc, 4, Item { value: 4 })?);
+    list.push_back(node_of(alloc, 6, Item { value: 6 })?);
+    Ok(list)
+}
+
+/// Takes the first item that divides 12 out of a list, by a predicate that may not be called on zero.
+fn takes_a_divisor(rt: &impl Abort, list: &mut List<Item>, wanted: Option<u64>)
+    requires { All (λ item. 0 < item.value) (values list.old) }
+{
+    let mut filter = list.drain_filter(
+        |item: &Item| -> bool
+            requires { 0 < item.now.value }
+        { 12 % item.value == 0 },
+    );
+    comes_out(rt, filter.next(), wanted);
+}
+
+#[test]
+fn a_filter_asks_of_what_its_list_holds_alone(rt: HostRuntime) -> Result<(), Fail> {
+    let mut list = divisors(rt.alloc())?;
+    takes_a_divisor(&rt, &mut list, Some(4));
+    holds(&rt, &list, &[5, 6]);
     Ok(())
 }
