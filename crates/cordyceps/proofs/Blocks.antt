@@ -2,12 +2,14 @@
 use Rattle.std.proofs.Common.{◌≡◌, ℕ, zero, suc, ◌+◌, ◌<◌, ◌≤◌, Bool, true, false, not, List, [], ◌∷◌, ◌++◌, length, take, drop, Option, Some, slice_get, refl, sym, ap, ◌∙◌, arith, inl, inr, eq-eqb, set, ◌≢◌, subst}
 use Rattle.std.specs.Prelude.{nat_lt, nat_eq, nat_le, if◌then◌else◌, ◌&&◌}
 use Rattle.std.proofs.lemmas.List.{set-set, set-get_or, get_or-set_same, get_or-set_other}
+use Rattle.std.proofs.lemmas.Bool.{cases_lt}
 use Rattle.std.proofs.lemmas.Bool.Decides.{nat_tests}
 use Rattle.cordyceps_base.specs.Runs.{after, replies_to}
 use Rattle.cordyceps_base.specs.Element.{Elements, values, with_value}
 use Rattle.cordyceps_list.specs.declared.cursor_mut.CursorMut.{CursorMut}
 use Rattle.cordyceps_list.specs.Cursor.{Stands, elements, place}
-use Rattle.cordyceps.proofs.Places.{below_or_not, same_or_not, inside, same_value}
+use Rattle.cordyceps_list.proofs.Lent.{same_value}
+use Rattle.cordyceps.proofs.Places.{same_or_not, inside}
 use Rattle.cordyceps.specs.declared.replay.item.Item.{Item}
 use Rattle.cordyceps.specs.declared.replay.reply.Reply.{Reply}
 use Rattle.cordyceps.specs.declared.replay.list_command.ListEnd.{ListEnd}
@@ -27,7 +29,7 @@ pub goes_on : (old new : CursorMut Item) (s : Elements Item) (k : ℕ) (x : Item
 goes_on old new s k x reply stands is told =
     let below = inside s k x is in
     let moved : (if nat_lt k (length s) then k + 1 else k) ≡ k + 1 = grind (arith, nat_tests) in
-    let same = same_value s k x is in
+    let same = same_value s k x (sym is) in
     rw (moved, ← is) (record { stands = rw same at stands; told = told })
 
 -- what a list holds, where the list with a number was put back
@@ -60,7 +62,7 @@ pub cuts_behind : (old new : CursorMut Item) (gone : Elements Item) → place ol
     (place old < length (elements old) → Stands old new (take (place old + 1) (elements old)) (place old)) →
     (place old ≡ length (elements old) → gone ≡ elements old) → (place old ≡ length (elements old) → Stands old new [] 0) →
     Cuts old new gone (cut_behind (elements old) (place old))
-cuts_behind old new gone within inside inside_stands null null_stands = elim (below_or_not (place old) (length (elements old))) [
+cuts_behind old new gone within inside inside_stands null null_stands = elim (cases_lt (place old) (length (elements old))) [
   | inl lt ↦
       let is : nat_lt (place old) (length (elements old)) ≡ true = grind (arith, nat_tests) in
       rw is (record { stands = inside_stands lt; cut_off = inside lt })
@@ -74,7 +76,7 @@ pub stands_behind : (old new : CursorMut Item) (more : Elements Item) → place 
     (place old < length (elements old) → Stands old new (take (place old + 1) (elements old) ++ more ++ drop (place old + 1) (elements old)) (place old)) →
     (place old ≡ length (elements old) → Stands old new (more ++ elements old) (length (elements old) + length more)) →
     Stands old new (put_behind (elements old) (place old) more).0 (put_behind (elements old) (place old) more).1
-stands_behind old new more within inside null = elim (below_or_not (place old) (length (elements old))) [
+stands_behind old new more within inside null = elim (cases_lt (place old) (length (elements old))) [
   | inl lt ↦
       let is : nat_lt (place old) (length (elements old)) ≡ true = grind (arith, nat_tests) in
       rw is (inside lt)

@@ -1,13 +1,15 @@
 -- One turn more, and one value more that grew.
 use Rattle.std.proofs.Common.{◌≡◌, ℕ, zero, suc, ◌+◌, ◌-◌, ◌≤◌, [], ◌∷◌, ◌++◌, length, take, drop, Option, Some, None, slice_get, refl, sym, ap, ◌∙◌, arith, ◌<◌, ◌%◌, ◌^◌, inl, inr, add-one}
 use Rattle.std.specs.Prelude.{nat_lt, if◌then◌else◌}
+use Rattle.std.proofs.lemmas.Bool.{cases_lt}
 use Rattle.std.proofs.lemmas.Bool.Decides.{nat_tests}
 use Rattle.std.proofs.lemmas.List.{length-map}
 use Rattle.cordyceps_base.specs.Element.{Element, Elements, values, with_value}
+use Rattle.cordyceps_list.proofs.Lent.{lent_some}
 use Rattle.cordyceps.specs.declared.replay.item.Item.{Item}
 use Rattle.cordyceps.specs.Walks.{grown, bumped}
 use Rattle.cordyceps.proofs.Ends.{last_value}
-use Rattle.cordyceps.proofs.Places.{below_or_not, past_end}
+use Rattle.cordyceps.proofs.Places.{past_end}
 
 pub last_given : (s rest : Elements Item) (e : Element Item) → s ≡ rest ++ e ∷ [] → slice_get (values s) (length (values s) - 1) ≡ Some e.value
 last_given s rest e is = rw (length-map) (last_value s rest e is)
@@ -25,19 +27,12 @@ all_grown by [] (suc k) past = refl
 all_grown by (e ∷ s) zero past = absurd (omega arith)
 all_grown by (e ∷ s) (suc k) past = ap (λ t. e ∷ t) (all_grown by s k (omega arith))
 
--- a value that an iterator lent
-lent_some : {X : Type 0} (o : Option X) (k n : ℕ) (x : X) → Some x ≡ (if nat_lt k n then o else None) → (k < n) × (Some x ≡ o)
-lent_some o k n x is = elim (below_or_not k n) [
-  | inl below ↦ (below, grind (arith, nat_tests))
-  | inr past ↦ absurd (grind (arith, nat_tests))
-]
-
 -- one lent value more grew
 pub bump_more : (by : ℕ) (s all : Elements Item) (k n : ℕ) (x : Item) → Some x ≡ (if nat_lt k n then slice_get (values s) k else None) → take k s ++ bumped by (drop k s) ≡ all →
     take (k + 1) (with_value s k (record x { value = (x.value + by) % 2 ^ 64 })) ++ bumped by (drop (k + 1) (with_value s k (record x { value = (x.value + by) % 2 ^ 64 }))) ≡ all
 bump_more by s all k n x is so_far =
     let at = (lent_some (slice_get (values s) k) k n x is).1 in
-    rw add-one (grown_at by s k x (sym at) ∙ so_far)
+    rw add-one (grown_at by s k x at ∙ so_far)
 
 pub bump_inside : (s : Elements Item) (k n : ℕ) (x : Item) → Some x ≡ (if nat_lt k n then slice_get (values s) k else None) → k < n
 bump_inside s k n x is = (lent_some (slice_get (values s) k) k n x is).0
@@ -45,7 +40,7 @@ bump_inside s k n x is = (lent_some (slice_get (values s) k) k n x is).0
 -- none is left
 pub bump_end : (by : ℕ) (s all : Elements Item) (k n : ℕ) → n ≡ length s → None ≡ (if nat_lt k n then slice_get (values s) k else None) → take k s ++ bumped by (drop k s) ≡ all → s ≡ all
 bump_end by s all k n end is so_far =
-    let past : length s ≤ k = elim (below_or_not k n) as (λ _. length s ≤ k) [
+    let past : length s ≤ k = elim (cases_lt k n) as (λ _. length s ≤ k) [
       | inl below ↦ past_end s k (grind (arith, nat_tests))
       | inr over ↦ omega arith
     ] in

@@ -2,20 +2,22 @@
 use Rattle.std.proofs.Common.{◌≡◌, ℕ, zero, suc, ◌+◌, ◌-◌, ◌<◌, [], ◌∷◌, ◌++◌, take, drop, Option, Some, None, slice_get, inl, inr, refl, sym, ap, ◌∙◌, arith}
 use Rattle.std.specs.Prelude.{nat_lt, if◌then◌else◌}
 use Rattle.std.specs.Iterator.{YieldsFirst, YieldsLast}
+use Rattle.std.proofs.lemmas.Bool.{cases_lt}
 use Rattle.std.proofs.lemmas.Bool.Decides.{nat_tests}
 use Rattle.cordyceps_base.specs.Element.{Elements, values, with_value}
 use Rattle.cordyceps_list.specs.declared.iter_mut.IterMut.{IterMut}
 use Rattle.cordyceps_list.specs.IterMut.{elements, from, to, to_lend, lender, Spans}
 use Rattle.cordyceps_list.proofs.Left.{first_left, last_left}
-use Rattle.cordyceps_list.proofs.Places.{below_or_not}
 
-lent_some : {X : Type 0} (o : Option X) (k n : ℕ) (x : X) → Some x ≡ (if nat_lt k n then o else None) → (k < n) × (o ≡ Some x)
-lent_some o k n x is = elim (below_or_not k n) [
+-- what is lent stands within the range
+pub lent_some : {X : Type 0} (o : Option X) (k n : ℕ) (x : X) → Some x ≡ (if nat_lt k n then o else None) → (k < n) × (o ≡ Some x)
+lent_some o k n x is = elim (cases_lt k n) [
   | inl below ↦ (below, grind (arith, nat_tests))
   | inr past ↦ absurd (grind (arith, nat_tests))
 ]
 
-same_value : {X : Type 0} (s : Elements X) (k : ℕ) (x : X) → slice_get (values s) k ≡ Some x → with_value s k x ≡ s
+-- a value that is written once more
+pub same_value : {X : Type 0} (s : Elements X) (k : ℕ) (x : X) → slice_get (values s) k ≡ Some x → with_value s k x ≡ s
 same_value [] k x h = refl
 same_value (e ∷ s) zero x h = let v : x ≡ e.value = cc in ap (λ w. record e { value = w } ∷ s) v
 same_value (e ∷ s) (suc k) x h = ap (λ t. e ∷ t) (same_value s k x h)

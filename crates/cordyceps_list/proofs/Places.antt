@@ -1,6 +1,7 @@
 -- Fingers of a chain that changes.
 use Rattle.std.proofs.Common.{◌≡◌, ℕ, zero, suc, ◌+◌, ◌-◌, ◌<◌, ◌≤◌, List, [], ◌∷◌, ◌++◌, length, take, drop, slice_get, Some, sym, ap, ◌∙◌, subst, inl, inr, arith, length-append, length-drop}
 use Rattle.std.specs.Prelude.{◌⊎◌}
+use Rattle.std.proofs.lemmas.Bool.{cases_lt}
 use Rattle.std.proofs.lemmas.List.{length-take, append-nil, take_all, drop_all}
 use Rattle.std.proofs.Math.Seq.{take-append_seam}
 use denote.RawPtr.{Ptr}
@@ -10,11 +11,6 @@ use Rattle.cordyceps_base.proofs.Places.{spot_before, spot_pushed, spot_pulled, 
 use Rattle.cordyceps_list.specs.declared.finger.Finger.{Finger}
 use Rattle.cordyceps_list.specs.declared.finger.Fingers.{Fingers}
 use Rattle.cordyceps_list.specs.Fingers.{FingerFits, FingersFit, PutsIn, TakesOut, ChangesBehind}
-
-pub below_or_not : (a b : ℕ) → (a < b) ⊎ (b ≤ a)
-below_or_not zero b = elim b as (λ n. (zero < n) ⊎ (n ≤ zero)) [ zero ↦ inr (omega arith) | suc n ↦ inl (omega arith) ]
-below_or_not (suc a) zero = inr (omega arith)
-below_or_not (suc a) (suc b) = elim (below_or_not a b) [ inl h ↦ inl (omega arith) | inr h ↦ inr (omega arith) ]
 
 module _ {X : Type 0} where
   -- the first nodes stay
@@ -28,7 +24,7 @@ module _ {X : Type 0} where
       }
 
   fits_splice : (c d more : Nodes X) (old new : Finger) (k count : ℕ) → FingerFits c old → k ≤ length c → d ≡ take k c ++ (more ++ drop k c) → count ≡ length more → PutsIn k count old new → FingerFits d new
-  fits_splice c d more old new k count fits front is many change = elim (below_or_not old.index k) as (λ _. FingerFits d new) [
+  fits_splice c d more old new k count fits front is many change = elim (cases_lt old.index k) as (λ _. FingerFits d new) [
     | inl before ↦ subst (FingerFits d) (sym (change.0 before)) (fits_kept c d old k (more ++ drop k c) fits before front is)
     | inr behind ↦
         let long = ap length is ∙ length-append (take k c) (more ++ drop k c) in
@@ -46,9 +42,9 @@ module _ {X : Type 0} where
   ]
 
   fits_unlink : (c d : Nodes X) (old new : Finger) (k len : ℕ) → FingerFits c old → k < length c → d ≡ take k c ++ drop (k + 1) c → len ≡ length d → TakesOut k len old new → FingerFits d new
-  fits_unlink c d old new k len fits inside is many change = elim (below_or_not old.index k) as (λ _. FingerFits d new) [
+  fits_unlink c d old new k len fits inside is many change = elim (cases_lt old.index k) as (λ _. FingerFits d new) [
     | inl before ↦ subst (FingerFits d) (sym (change.0 before)) (fits_kept c d old k (drop (k + 1) c) fits before (omega arith) is)
-    | inr behind ↦ elim (below_or_not k old.index) as (λ _. FingerFits d new) [
+    | inr behind ↦ elim (cases_lt k old.index) as (λ _. FingerFits d new) [
       | inl after ↦
           let long = ap length is ∙ length-append (take k c) (drop (k + 1) c) in
           let short = length-take k c in
@@ -80,7 +76,7 @@ module _ {X : Type 0} where
       }
 
   fits_front : (c d : Nodes X) (old new : Finger) (k : ℕ) → FingerFits c old → k ≤ length c → d ≡ take k c → ChangesBehind k k old new → FingerFits d new
-  fits_front c d old new k fits front is change = elim (below_or_not old.index k) as (λ _. FingerFits d new) [
+  fits_front c d old new k fits front is change = elim (cases_lt old.index k) as (λ _. FingerFits d new) [
     | inl before ↦ subst (FingerFits d) (sym (change.0 before)) (fits_kept c d old k [] fits before front (is ∙ sym (append-nil (take k c))))
     | inr behind ↦
         let gone : new.index ≡ k = change.1 behind in

@@ -10,15 +10,12 @@ use Rattle.cordyceps_shared.proofs.Adding.{plain_own}
 use Rattle.cordyceps_shared.proofs.Halving.{share_joins}
 use Rattle.cordyceps_shared.proofs.Interleaving.{interleaves_same}
 use Rattle.cordyceps_shared.proofs.Owning.{own_merged}
+use Rattle.cordyceps_shared.proofs.Renaming.{or_false}
 use Rattle.cordyceps_shared.proofs.Seeing.{own_append}
 
 -- ---- what was seen since
-or_false : (b : Bool) → (b || false) ≡ b
-or_false true = refl
-or_false false = refl
-
 module _ {X : Type 0} where
-  merged_since : (xs ys zs : List (Bool × X)) → merged (xs ++ ys) (unmarked xs ++ zs) ≡ xs ++ merged ys zs
+  pub merged_since : (xs ys zs : List (Bool × X)) → merged (xs ++ ys) (unmarked xs ++ zs) ≡ xs ++ merged ys zs
   merged_since [] ys zs = refl
   merged_since (x ∷ xs) ys zs = λ i. (or_false x.0 i, x.1) ∷ merged_since xs ys zs i
 

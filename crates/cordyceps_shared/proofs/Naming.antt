@@ -22,7 +22,7 @@ split_covers x [] = omega arith
 split_covers x (n ∷ ns) = omega (arith, halves n x)
 
 -- a name stands for its two halves, where the other name is long
-pub pair_covers : (n m x : Name) → is_pair n m ≡ true → length n ≤ length x → one_if (begins (parent n) x) ≤ one_if (begins n x) + one_if (begins m x)
+pub pair_covers : (n m x : Name) → is_pair n m ≡ true → length n ≤ length x → one_if (begins (parent n) x) ≡ one_if (begins n x) + one_if (begins m x)
 pair_covers [] m x e l = absurd (true≢false (sym e))
 pair_covers (a ∷ us) [] x e l = absurd (true≢false (sym e))
 pair_covers (a ∷ us) (b ∷ bs) [] e l = absurd (omega arith)
@@ -47,12 +47,12 @@ parent_short (a ∷ b ∷ us) = omega (arith, parent_short (b ∷ us))
 abbrev pub letters : List Name → ℕ
 letters ns = tally (λ n. length n) ns
 
-place_covers : (x n : Name) (ms : List Name) → length n + letters ms ≤ length x → covers x (cons_joined n ms) ≤ one_if (begins n x) + covers x ms
+place_covers : (x n : Name) (ms : List Name) → length n + letters ms ≤ length x → covers x (cons_joined n ms) ≡ one_if (begins n x) + covers x ms
 place_covers x n [] l = omega arith
 place_covers x n (m ∷ ms) l = at_pair (is_pair n m) (λ e. pair_covers n m x e (omega arith)) (place_covers x (parent n) ms (omega (arith, parent_short n)))
   where
-    at_pair : (b : Bool) → (b ≡ true → one_if (begins (parent n) x) ≤ one_if (begins n x) + one_if (begins m x)) → covers x (cons_joined (parent n) ms) ≤ one_if (begins (parent n) x) + covers x ms
-        → covers x (cond b (cons_joined (parent n) ms) (n ∷ m ∷ ms)) ≤ one_if (begins n x) + covers x (m ∷ ms)
+    at_pair : (b : Bool) → (b ≡ true → one_if (begins (parent n) x) ≡ one_if (begins n x) + one_if (begins m x)) → covers x (cons_joined (parent n) ms) ≡ one_if (begins (parent n) x) + covers x ms
+        → covers x (cond b (cons_joined (parent n) ms) (n ∷ m ∷ ms)) ≡ one_if (begins n x) + covers x (m ∷ ms)
     at_pair true pair more = let p = pair refl in omega arith
     at_pair false pair more = omega arith
 
@@ -68,7 +68,7 @@ combine_letters : (ns : List Name) → letters (combine ns) ≤ letters ns
 combine_letters [] = omega arith
 combine_letters (n ∷ ns) = omega (arith, place_letters n (combine ns), combine_letters ns)
 
-combine_covers : (x : Name) (ns : List Name) → letters ns ≤ length x → covers x (combine ns) ≤ covers x ns
+combine_covers : (x : Name) (ns : List Name) → letters ns ≤ length x → covers x (combine ns) ≡ covers x ns
 combine_covers x [] l = omega arith
 combine_covers x (n ∷ ns) l = let c = combine_letters ns in omega (arith, place_covers x n (combine ns) (omega arith), combine_covers x ns (omega arith))
 
@@ -84,7 +84,7 @@ tally_put_all : (f : Name → ℕ) (ns ms : List Name) → tally f (insert_names
 tally_put_all f [] ms = omega arith
 tally_put_all f (n ∷ ns) ms = omega (arith, tally_put f n (insert_names ns ms), tally_put_all f ns ms)
 
-pub join_covers : (x : Name) (ns ms : List Name) → letters ns + letters ms ≤ length x → covers x (joined ns ms) ≤ covers x ns + covers x ms
+pub join_covers : (x : Name) (ns ms : List Name) → letters ns + letters ms ≤ length x → covers x (joined ns ms) ≡ covers x ns + covers x ms
 join_covers x ns ms l =
     let a = tally_put_all (λ n. length n) ns ms in let b = tally_put_all (λ n. one_if (begins n x)) ns ms in omega (arith, combine_covers x (insert_names ns ms) (omega arith))
 
@@ -130,40 +130,6 @@ pub gives_some : (ns : List Name) → ns ≢ [] → gives_half ns ≢ []
 gives_some [] not e = not refl
 gives_some (n ∷ ns) not e = absurd (cc)
 
--- ---- joining loses no name
-pair_halves : (n m x : Name) → is_pair n m ≡ true → one_if (begins n x) + one_if (begins m x) ≤ one_if (begins (parent n) x)
-pair_halves [] m x e = absurd (true≢false (sym e))
-pair_halves (a ∷ us) [] x e = absurd (true≢false (sym e))
-pair_halves (a ∷ us) (b ∷ bs) [] e = omega arith
-pair_halves (true ∷ []) (b ∷ []) (y ∷ ys) e = absurd (true≢false (sym e))
-pair_halves (false ∷ []) (false ∷ []) (y ∷ ys) e = absurd (true≢false (sym e))
-pair_halves (false ∷ []) (true ∷ []) (true ∷ ys) e = omega arith
-pair_halves (false ∷ []) (true ∷ []) (false ∷ ys) e = omega arith
-pair_halves (a ∷ []) (b ∷ d ∷ bs) (y ∷ ys) e = absurd (true≢false (sym e))
-pair_halves (a ∷ c ∷ us) (b ∷ []) (y ∷ ys) e = absurd (true≢false (sym e))
-pair_halves (true ∷ c ∷ us) (true ∷ d ∷ bs) (true ∷ ys) e = pair_halves (c ∷ us) (d ∷ bs) ys e
-pair_halves (true ∷ c ∷ us) (true ∷ d ∷ bs) (false ∷ ys) e = omega arith
-pair_halves (false ∷ c ∷ us) (false ∷ d ∷ bs) (true ∷ ys) e = omega arith
-pair_halves (false ∷ c ∷ us) (false ∷ d ∷ bs) (false ∷ ys) e = pair_halves (c ∷ us) (d ∷ bs) ys e
-pair_halves (true ∷ c ∷ us) (false ∷ d ∷ bs) (y ∷ ys) e = absurd (true≢false (sym e))
-pair_halves (false ∷ c ∷ us) (true ∷ d ∷ bs) (y ∷ ys) e = absurd (true≢false (sym e))
-
-place_keeps : (x n : Name) (ms : List Name) → one_if (begins n x) + covers x ms ≤ covers x (cons_joined n ms)
-place_keeps x n [] = omega arith
-place_keeps x n (m ∷ ms) = at_pair (is_pair n m) (pair_halves n m x) (place_keeps x (parent n) ms)
-  where
-    at_pair : (b : Bool) → (b ≡ true → one_if (begins n x) + one_if (begins m x) ≤ one_if (begins (parent n) x)) → one_if (begins (parent n) x) + covers x ms ≤ covers x (cons_joined (parent n) ms)
-        → one_if (begins n x) + covers x (m ∷ ms) ≤ covers x (cond b (cons_joined (parent n) ms) (n ∷ m ∷ ms))
-    at_pair true pair more = let p = pair refl in omega arith
-    at_pair false pair more = omega arith
-
-combine_keeps : (x : Name) (ns : List Name) → covers x ns ≤ covers x (combine ns)
-combine_keeps x [] = omega arith
-combine_keeps x (n ∷ ns) = omega (arith, place_keeps x n (combine ns), combine_keeps x ns)
-
-pub joined_keeps : (x : Name) (ns ms : List Name) → covers x ns + covers x ms ≤ covers x (joined ns ms)
-joined_keeps x ns ms = let b = tally_put_all (λ n. one_if (begins n x)) ns ms in omega (arith, combine_keeps x (insert_names ns ms))
-
 -- ---- names that cover no long name both
 begins_all : (n m x : Name) → begins n m ≡ true → begins n (m ++ x) ≡ true
 begins_all [] m x e = refl
@@ -191,6 +157,10 @@ module _ (long : ℕ) where
   clear_of n [] few = tt
   clear_of n (m ∷ ms) few = (not_begun n m (λ x l. omega (arith, few x l)), not_begun m n (λ x l. omega (arith, few x l)), clear_of n ms (λ x l. omega (arith, few x l)))
 
-  pub names_apart : (ns ms : List Name) → ((x : Name) → long ≤ length x → covers x ns + covers x ms ≤ 1) → NamesApart ns ms
+  names_apart : (ns ms : List Name) → ((x : Name) → long ≤ length x → covers x ns + covers x ms ≤ 1) → NamesApart ns ms
   names_apart [] ms few = tt
   names_apart (n ∷ ns) ms few = (clear_of n ms (λ x l. omega (arith, few x l)), names_apart ns ms (λ x l. omega (arith, few x l)))
+
+-- shares had no name in common where what they became covers no long name twice
+pub joined_apart : (long : ℕ) (ns ms : List Name) → ((x : Name) → long ≤ length x → covers x (joined ns ms) ≤ 1) → NamesApart ns ms
+joined_apart long ns ms once = names_apart (long + (letters ns + letters ms)) ns ms (λ x l. omega (arith, once x (omega arith), join_covers x ns ms (omega arith)))

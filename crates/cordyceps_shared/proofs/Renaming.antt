@@ -6,7 +6,7 @@ use native.Mathlib.Decide.{ℕ_discrete}
 use Rattle.cordyceps_shared.specs.Histories.{events, mark, marked, NoneOf}
 use Rattle.cordyceps_shared.specs.Knowing.{Below, merged}
 
-or_false : (b : Bool) → (b || false) ≡ b
+pub or_false : (b : Bool) → (b || false) ≡ b
 or_false true = refl
 or_false false = refl
 

@@ -3,16 +3,13 @@ use Rattle.std.proofs.Common.{◌≡◌, ℕ, ◌+◌, ◌-◌, ◌<◌, List, [
 use Rattle.std.proofs.lemmas.List.{append-nil, take_all, drop-drop, get_or-take, get_or_default, take-append-drop}
 use Rattle.std.proofs.Math.Seq.{take-append-add, drop-cons}
 use Rattle.std.specs.List.{concat}
-use Rattle.std.proofs.lemmas.Bool.{eqb-true}
+use Rattle.std.proofs.lemmas.Bool.{eqb-true, false_from_ne_true}
 use Rattle.memchr.specs.Find.{IsFirstByte, is_byte}
 use Rattle.replay_driver.specs.Script.{Machine}
 use Rattle.replay_driver.specs.Steps.{HasNoFeed, Writes, SoFar, TakesOne, TakesLines}
 use Rattle.replay_driver.specs.declared.session.Stop.{Stop}
 use Rattle.replay_driver.specs.declared.session.Stop.TheVariants as stops
 use Rattle.replay_driver.proofs.Leads.{concat-append, leads_more, writes_more}
-
-is_false : (b : Bool) → ¬ (b ≡ true) → b ≡ false
-is_false b differs = elim b as (λ (v : Bool). ¬ (v ≡ true) → v ≡ false) [ true ↦ λ n. absurd (n refl) | false ↦ λ n. refl ] differs
 
 -- what the search for a line feed says
 pub record Found (hay : List ℕ) (k : ℕ) : Type 0 where
@@ -26,12 +23,12 @@ found_line hay k h = record {
   clean = λ j d lt.
       let le : j < k = omega (arith, length-take k hay) in
       let within : j < length hay = omega (arith, length-take k hay) in
-      rw (get_or-take k hay j d le, get_or_default hay j d 0 within) (is_false _ (h.0.before j (omega arith) le));
+      rw (get_or-take k hay j d le, get_or_default hay j d 0 within) (false_from_ne_true _ (h.0.before j (omega arith) le));
   cut = sym (take-append-drop k hay) ∙ ap (λ (xs : List ℕ). take k hay ++ xs) (rw (drop-cons hay k 0 h.0.high, add-one, eqb-true _ _ h.1) refl);
 }
 
 pub none_found : (hay : List ℕ) → IsFirstByte (is_byte 10) hay None → HasNoFeed hay
-none_found hay h = λ j d lt. rw (get_or_default hay j d 0 lt) (is_false _ (h j (omega arith) lt))
+none_found hay h = λ j d lt. rw (get_or_default hay j d 0 lt) (false_from_ne_true _ (h j (omega arith) lt))
 
 -- the part of a block from start on, as a slice of the code
 pub slice_from : (block : List ℕ) (start : ℕ) → take (length block - start) (drop start block) ≡ drop start block

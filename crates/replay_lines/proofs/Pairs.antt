@@ -3,7 +3,7 @@ use Rattle.std.proofs.Common.{◌≡◌, ℕ, ◌+◌, ◌-◌, ◌<◌, List, [
 use Rattle.std.proofs.lemmas.List.{take_all, get_or-take, get_or_default, take-append-drop}
 use Rattle.std.proofs.lemmas.List.Elements.{All-from_recursion}
 use Rattle.std.proofs.lemmas.List.Splits.{slice_split_at, slice_split_none, join_with_byte-slice_split}
-use Rattle.std.proofs.lemmas.Bool.{eqb-true, ne_eqb}
+use Rattle.std.proofs.lemmas.Bool.{eqb-true, ne_eqb, false_from_ne_true}
 use Rattle.std.proofs.Math.Seq.{drop-cons}
 use Rattle.std.specs.Char.{is_ascii_digit}
 use Rattle.std.specs.Fmt.{decimal}
@@ -16,12 +16,10 @@ use Rattle.replay_lines.specs.Words.{number_of}
 use Rattle.replay_lines.specs.LineWords.{item_of}
 use Rattle.replay_lines.specs.SortedScript.{pair_of, pairs_of}
 use Rattle.replay_lines.proofs.Numbers.{is_numeral, numeral_digits, both}
+use Rattle.replay_lines.proofs.Splitting.{first_part, only_part}
 
 abbrev colon : ℕ → Bool
 colon b = nat_eq b 58
-
-is_false : (b : Bool) → ¬ (b ≡ true) → b ≡ false
-is_false b differs = elim b as (λ (v : Bool). ¬ (v ≡ true) → v ≡ false) [ true ↦ λ n. absurd (n refl) | false ↦ λ n. refl ] differs
 
 no_colon : (digit : ℕ) → is_ascii_digit digit ≡ true → colon digit ≡ false
 no_colon digit is = ne_eqb digit 58 (λ same. let it : is_ascii_digit 58 ≡ true = rw same at is in cc)
@@ -57,19 +55,11 @@ cut first rest =
 
 -- a word is read as what stands before and behind its first colon
 pub read_pair : (word : List ℕ) (k : ℕ) → IsFirstByte (is_byte 58) word (Some k) → item_of (take k word ∷ take (length word - (k + 1)) (drop (k + 1) word) ∷ []) ≡ pair_of word
-read_pair word k h =
-    let before : All (λ b. nat_eq b 58 ≡ false) (take k word) = λ j d lt.
-    let le : j < k = omega (arith, length-take k word) in
-    let within : j < length word = omega (arith, length-take k word) in
-    rw (get_or-take k word j d le, get_or_default word j d 0 within) (is_false _ (h.0.before j (omega arith) le)) in
-    let at : word ≡ take k word ++ 58 ∷ drop (k + 1) word = sym (take-append-drop k word) ∙ ap (λ (xs : List ℕ). take k word ++ xs) (rw (drop-cons word k 0 h.0.high, add-one, eqb-true _ _ h.1) refl) in
-    let all : take (length word - (k + 1)) (drop (k + 1) word) ≡ drop (k + 1) word = take_all (length word - (k + 1)) (drop (k + 1) word) (omega (arith, length-drop (k + 1) word)) in
-    let parts : slice_split colon word ≡ take k word ∷ slice_split colon (drop (k + 1) word) = ap (slice_split colon) at ∙ slice_split_at colon (take k word) 58 (drop (k + 1) word) before refl in
-    rw (all, parts) (sym (cut (take k word) (drop (k + 1) word)))
+read_pair word k h = sym (ap item_of (first_part 58 word k h) ∙ cut (take k word) (take (length word - (k + 1)) (drop (k + 1) word)))
 
 -- without a colon it is no pair
 pub no_pair : (word : List ℕ) → IsFirstByte (is_byte 58) word None → None ≡ pair_of word
-no_pair word h = rw (slice_split_none colon word (λ j d lt. rw (get_or_default word j d 0 lt) (is_false _ (h j (omega arith) lt)))) (sym (no_value (number_of word)))
+no_pair word h = rw (only_part 58 word h) (sym (no_value (number_of word)))
 
 -- the pairs so far, and those of the words that are left, are all
 abbrev pub MorePairs : List Item → List (List ℕ) → List (List ℕ) → Type 0

@@ -4,19 +4,9 @@ use Rattle.cordyceps.specs.Parties.Histories.{plain, own, AllOwn}
 use Rattle.cordyceps.proofs.Parties.Adding.{plain_own}
 use Rattle.cordyceps.proofs.Parties.Interleaving.{all_left, all_right}
 use Rattle.cordyceps.specs.Parties.Interleaving.{Interleaves}
-use Rattle.cordyceps.specs.Parties.Knowing.{unmarked, merged}
+use Rattle.cordyceps.specs.Parties.Knowing.{merged}
 use Rattle.cordyceps.specs.Transfers.History.{Event, Load, Push, Taken, pushes, held_after, held_from}
 use Rattle.replay_sharing.specs.Sharing.{NoBatch}
-
-or_false : (b : Bool) → (b || false) ≡ b
-or_false true = refl
-or_false false = refl
-
-module _ {X : Type 0} where
-  -- what both had seen before they were split off comes back as it was
-  pub merged_front : (us xs ys : List (Bool × X)) → merged (us ++ xs) (unmarked us ++ ys) ≡ us ++ merged xs ys
-  merged_front [] xs ys = refl
-  merged_front (u ∷ us) xs ys = λ i. (or_false u.0 i, u.1) ∷ merged_front us xs ys i
 
 -- each item is one of these
 abbrev pub Every : {A : Type 0} → (A → Type 0) → List A → Type 0

@@ -17,7 +17,8 @@ use Rattle.cordyceps.specs.Transfers.History.{Event, Load, Push, Taken, pushes, 
 use Rattle.cordyceps.specs.Transfers.Calls.{PartyOf, Adds, PushesAt, Takes}
 use Rattle.replay_sharing.specs.Sharing.{item, Works, Shared, NoBatch}
 use Rattle.replay_sharing.proofs.InOrder.{sorted_as}
-use Rattle.replay_sharing.proofs.Sharing.{Every, Other, merged_front, pushed_by_both, none_taken, held_since, none_append, pushes_append, tries_take_nothing, tries_push_once}
+use Rattle.cordyceps.proofs.Parties.Acting.{merged_since}
+use Rattle.replay_sharing.proofs.Sharing.{Every, Other, pushed_by_both, none_taken, held_since, none_append, pushes_append, tries_take_nothing, tries_push_once}
 
 abbrev Party : Type 0
 Party = PartyOf (Element Item)
@@ -70,11 +71,11 @@ module _ (u first second v w : Party) (one : Works (item 10) (item 11) (giving 2
 
   seen_first : v.seen ≡ u.seen ++ r
   unfolding r
-  seen_first = x.seen ∙ (ap (λ z. merged u.seen z) one.adds.0.is ∙ (ap (λ z. merged z (unmarked u.seen ++ r)) (sym (append-nil u.seen)) ∙ merged_front u.seen [] r))
+  seen_first = x.seen ∙ (ap (λ z. merged u.seen z) one.adds.0.is ∙ (ap (λ z. merged z (unmarked u.seen ++ r)) (sym (append-nil u.seen)) ∙ merged_since u.seen [] r))
 
   seen_both : w.seen ≡ u.seen ++ merged r s
   unfolding r s
-  seen_both = y.seen ∙ ((λ i. merged (seen_first i) (two.adds.0.is i)) ∙ merged_front u.seen r s)
+  seen_both = y.seen ∙ ((λ i. merged (seen_first i) (two.adds.0.is i)) ∙ merged_since u.seen r s)
 
   -- the party is whole again
   again : w.share ≡ whole

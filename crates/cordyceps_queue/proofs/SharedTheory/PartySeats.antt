@@ -7,7 +7,7 @@ use Rattle.cordyceps_shared.specs.Knowing.{IsKnown}
 use Rattle.cordyceps_shared.specs.Shares.{whole}
 use Rattle.cordyceps_shared.specs.Standings.{new_party, Absorbs}
 use Rattle.cordyceps_shared.proofs.Adding.{keeps_not_whole, not_whole, plain_unmarked, merged_front}
-use Rattle.cordyceps_shared.proofs.Naming.{joined_some, joined_keeps, names_apart, keeps_some, gives_some}
+use Rattle.cordyceps_shared.proofs.Naming.{joined_some, joined_apart, keeps_some, gives_some}
 use Rattle.cordyceps_queue.specs.Shared.Parts.{standing, IsSeated}
 use Rattle.cordyceps_queue.specs.Shared.Parting.{IsStill, view_keeping, view_giving, view_absorbing, view_without_told}
 use Rattle.cordyceps_queue.specs.Shared.Plays.{SeatState, Near, IsResting}
@@ -94,7 +94,7 @@ module _ {E : Type 0} where
     table = refl;
     seen = refl;
     apart = known.apart;
-    names = names_apart known.long m.0.known.share o.0.known.share (λ x l. omega (arith, known.once x l, joined_keeps x m.0.known.share o.0.known.share));
+    names = joined_apart known.long m.0.known.share o.0.known.share known.once;
     mine = merged_front m.0.known.seen o.0.known.seen;
     theirs = known.told;
     legal = told_legal same_name (plain (view_absorbing m.0 o.0).known.seen) known.legal;

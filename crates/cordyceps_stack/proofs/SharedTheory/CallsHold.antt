@@ -9,7 +9,7 @@ use Rattle.cordyceps_shared.specs.Shares.{Name, whole, first_name}
 use Rattle.cordyceps_shared.specs.Standings.{name_of, new_party, Absorbs}
 use Rattle.cordyceps_shared.proofs.Adding.{replicate_more, not_whole, plain_unmarked, merged_front, adds_then, whole_adds}
 use Rattle.cordyceps_shared.proofs.Counting.{below_length}
-use Rattle.cordyceps_shared.proofs.Naming.{joined_some, joined_keeps, names_apart, gives_some}
+use Rattle.cordyceps_shared.proofs.Naming.{joined_some, joined_apart, gives_some}
 use Rattle.cordyceps_stack.specs.Shared.Parts.{HasMissed, TookAll, EmptiesHand, standing, IsSeated}
 use Rattle.cordyceps_stack.specs.History.{Event, Load, Push, Taken, held, Legal}
 use Rattle.cordyceps_stack.specs.Cores.Stages.{room_elements}
@@ -57,7 +57,7 @@ module _ {E : Type 0} where
     table = at;
     seen = ap (λ (q : SeatState E). q.0.known.seen) is;
     apart = known.apart;
-    names = names_apart known.long m.0.known.share o.0.known.share (λ x l. omega (arith, known.once x l, joined_keeps x m.0.known.share o.0.known.share));
+    names = joined_apart known.long m.0.known.share o.0.known.share known.once;
     mine = subst (λ (q : SeatState E). Begins (plain m.0.known.seen) (plain q.0.known.seen)) (sym is) (merged_front m.0.known.seen o.0.known.seen);
     theirs = subst (λ (q : SeatState E). Begins (plain o.0.known.seen) (plain q.0.known.seen)) (sym is) known.told;
     legal = subst (λ (q : SeatState E). Legal (plain q.0.known.seen)) (sym is) known.legal;
