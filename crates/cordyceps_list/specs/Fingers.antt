@@ -9,7 +9,7 @@ module _ {X : Type 0} where
   abbrev pub IsOn : Nodes X → Finger → Type 0
   IsOn c f = (f.index < length c) × LiesAt c f.index f.at
 
-  -- the same, or the finger is behind the last node, at no address
+  -- the same, or the finger is behind the last node, whatever its address
   pub record FingerFits (c : Nodes X) (f : Finger) : Type 0 where
     pub within : f.index ≤ length c
     pub on : f.index < length c → LiesAt c f.index f.at

@@ -205,7 +205,7 @@ impl<'a, T: Linked<Links<T>>> CursorMut<'a, T> {
         }
         self.at = at + 1;
         let list = &mut *self.list;
-        Some(list.value_mut_at(at))
+        Some(list.value_mut_passing(at))
     }
 
     /// Puts an element in before the cursor, which stays at its element. At the null place it comes last. There must be
@@ -214,8 +214,9 @@ impl<'a, T: Linked<Links<T>>> CursorMut<'a, T> {
         requires { length (elements self.old) < usize.MAX }
         ensures { Stands self.old self.new (take (place self.old) (elements self.old) ++ T.element handle ∷ drop (place self.old) (elements self.old)) (place self.old + 1) }
     {
-        self.list.insert_at(self.at, handle);
-        self.at += 1;
+        let at = self.at;
+        self.at = at + 1;
+        self.list.insert_at(at, handle);
     }
 
     /// Puts an element in behind the one that the cursor is at. At the null place it comes first. There must be room in
@@ -319,8 +320,9 @@ impl<'a, T: Linked<Links<T>>> CursorMut<'a, T> {
         ensures removes { RemovesFirst T.element (CalledAt F.FnMut) (elements self.old) (place self.old) predicate.old result (elements self.new) (place self.new) predicate.new }
         ensures same_reference { lender self.new ≡ lender self.old }
     {
-        self.at = self.list.first_passing(self.at, predicate);
-        self.remove_current()
+        let found = self.list.first_passing(self.at, predicate);
+        self.at = found;
+        self.list.take_at(found)
     }
 
     /// A cursor that only reads, at the same place.

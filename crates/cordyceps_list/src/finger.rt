@@ -6,7 +6,7 @@ use cordyceps_base::boxes::Address;
 use cordyceps_base::double_chain::DoubleChain;
 use cordyceps_base::steps::{Steps, count_one};
 
-/// The address of a node and its index. At the chain's length it is the address of nothing.
+/// The address of a node and its index. At the chain's length it is on no node, and its address says nothing.
 #[derive(Clone, Copy)]
 pub(crate) struct Finger {
     pub(crate) at: Address,
@@ -22,6 +22,16 @@ impl Finger {
     {
         Finger {
             at: Address::nowhere(),
+            index: len,
+        }
+    }
+
+    /// The finger taken off its node, in a chain that has so many. Its address stays, which is less to write.
+    fn off(self, len: usize) -> Finger
+        ensures { result.index ≡ len }
+    {
+        Finger {
+            at: self.at,
             index: len,
         }
     }
@@ -160,7 +170,7 @@ impl Finger {
             return self;
         }
         if self.index == k {
-            return Finger::behind(len);
+            return self.off(len);
         }
         Finger {
             at: self.at,
@@ -175,7 +185,7 @@ impl Finger {
         if self.index < kept {
             self
         } else {
-            Finger::behind(len)
+            self.off(len)
         }
     }
 }

@@ -74,7 +74,7 @@ impl<'a, T: Linked<Links<T>>> IterMut<'a, T> {
         }
         self.front = at + 1;
         let list = &mut *self.list;
-        Some(list.value_mut_at(at))
+        Some(list.value_mut_passing(at))
     }
 
     /// Lends the last value that is left. `None` where none is, from then on.

@@ -5,7 +5,7 @@ ghost use Rattle.std.specs.Borrow.{sem};
 ghost use Rattle.cordyceps_base.specs.Element.{values};
 ghost use Rattle.cordyceps_base.specs.Nodes.{elements};
 
-use crate::finger::Fingers;
+use crate::finger::{Finger, Fingers};
 use cordyceps_base::double_chain::DoubleChain;
 use cordyceps_base::linked::Linked;
 pub use cordyceps_base::list::Links;
@@ -177,6 +177,21 @@ impl<T: Linked<Links<T>>> List<T> {
         ensures value { slice_get (values self.old) at ≡ Some result.now }
     {
         let place = self.fingers.seek(&self.chain, at);
+        self.chain.get_mut(place, at)
+    }
+
+    /// The same, and the front finger goes on to the place behind, so that a walk from the front finds it there.
+    pub(crate) fn value_mut_passing(&mut self, at: usize) -> &mut T
+        requires inside { at < length self.old }
+        requires room { at < usize.MAX }
+        ensures* writes_back { sem 𝓛 (LendsAt T.row self.entry at result) }
+        ensures value { slice_get (values self.old) at ≡ Some result.now }
+    {
+        let place = self.fingers.seek(&self.chain, at);
+        self.fingers.front = Finger {
+            at: self.chain.next(place, at),
+            index: at + 1,
+        };
         self.chain.get_mut(place, at)
     }
 }

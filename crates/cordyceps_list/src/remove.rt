@@ -39,7 +39,9 @@ impl<T: Linked<Links<T>>> List<T> {
         Some(self.remove_at(found.index))
     }
 
-    /// Takes out the element at a place, and leaves the front finger on the one that is there then.
+    /// Takes out the element at a place, and leaves the front finger on the one that is there then. As a part of its
+    /// caller it needs no search where that has just sought this place.
+    #[inline(always)]
     pub(crate) fn remove_at(&mut self, at: usize) -> T::Handle
         requires { at < length self.old }
         ensures value { slice_get self.old at ≡ Some (T.element result) }
@@ -57,6 +59,7 @@ impl<T: Linked<Links<T>>> List<T> {
     }
 
     /// Takes out the element at a place, if there is one.
+    #[inline(always)]
     pub(crate) fn take_at(&mut self, at: usize) -> Option<T::Handle>
         ensures answer { option_map T.element result ≡ slice_get self.old at }
         ensures kept { self.new ≡ take at self.old ++ drop (at + 1) self.old }

@@ -2,7 +2,7 @@
 ghost use Rattle.std.specs.Prelude.{◌≡◌, ◌+◌, ◌-◌, ◌^◌, ◌<◌, ◌≤◌, ◌↔◌, [], ◌++◌, length, take, drop, min, IsSome, IfSome, IfNone};
 ghost use Rattle.cordyceps_base.specs.Nodes.{LiesAt};
 
-use crate::finger::{Finger, Fingers};
+use crate::finger::Finger;
 use crate::list::{Links, List};
 use cordyceps_base::boxes::Address;
 use cordyceps_base::double_chain::DoubleChain;
@@ -35,7 +35,7 @@ impl<T: Linked<Links<T>>> List<T> {
         ensures emptied { other.new ≡ [] }
     {
         let more = other.chain.take();
-        other.fingers = Fingers::behind(&other.chain);
+        other.fingers = other.fingers.after_change(0, 0);
         self.fingers = self.fingers.after_splice(self.chain.len(), more.len());
         let nodes = self.chain.take();
         self.chain.put(nodes.join(more));
