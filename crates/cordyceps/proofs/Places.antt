@@ -1,8 +1,8 @@
 -- Places in a sequence, and whether they are the same.
-use Rattle.std.proofs.Common.{◌≡◌, ◌≢◌, ℕ, zero, suc, ◌<◌, ◌≤◌, [], ◌∷◌, length, Some, None, slice_get, refl, ap, inl, inr, arith}
+use Rattle.std.proofs.Common.{◌≡◌, ◌≢◌, ℕ, zero, suc, ◌<◌, ◌≤◌, [], ◌∷◌, length, Some, None, slice_get, inl, inr, arith}
 use Rattle.std.specs.Prelude.{◌⊎◌}
 use Rattle.std.proofs.lemmas.Bool.{cases_lt}
-use Rattle.cordyceps_base.specs.Element.{Elements, values, with_value}
+use Rattle.cordyceps_base.specs.Element.{Elements, values}
 
 pub same_or_not : (a b : ℕ) → (a ≡ b) ⊎ (b ≢ a)
 same_or_not a b = elim (cases_lt a b) [

@@ -1,5 +1,5 @@
 -- What parties did in several steps, and what a party did that gave rooms to another and took it in again.
-use Rattle.std.proofs.Common.{◌≡◌, ℕ, List, [], ◌∷◌, ◌++◌, Bool, true, false, ◌||◌, refl, sym, ap, ◌∙◌, subst, append-nil, append_assoc}
+use Rattle.std.proofs.Common.{◌≡◌, ℕ, List, [], ◌∷◌, ◌++◌, Bool, refl, sym, ap, ◌∙◌, subst, append-nil, append_assoc}
 use Rattle.cordyceps_shared.specs.Acting.{OneName, Acts}
 use Rattle.cordyceps_shared.specs.Histories.{plain, own, AllOwn, Apart}
 use Rattle.cordyceps_shared.specs.Interleaving.{Interleaves}

@@ -1,5 +1,5 @@
 -- The lines of a block, one after the other.
-use Rattle.std.proofs.Common.{◌≡◌, ℕ, ◌+◌, ◌-◌, ◌<◌, List, [], ◌∷◌, ◌++◌, length, take, drop, Some, None, Ok, Err, Bool, true, false, refl, sym, ◌∙◌, ap, arith, length-append, length-take, length-drop, add-one}
+use Rattle.std.proofs.Common.{◌≡◌, ℕ, ◌+◌, ◌-◌, ◌<◌, List, [], ◌∷◌, ◌++◌, length, take, drop, Some, None, Ok, Err, refl, sym, ◌∙◌, ap, arith, length-append, length-take, length-drop, add-one}
 use Rattle.std.proofs.lemmas.List.{append-nil, take_all, drop-drop, get_or-take, get_or_default, take-append-drop}
 use Rattle.std.proofs.Math.Seq.{take-append-add, drop-cons}
 use Rattle.std.specs.List.{concat}

@@ -1,5 +1,5 @@
 -- The first part of a text that is split at a byte, as the first word of a line.
-use Rattle.std.proofs.Common.{◌≡◌, ℕ, ◌+◌, ◌-◌, ◌<◌, List, [], ◌∷◌, ◌++◌, length, take, drop, Some, None, Bool, true, false, refl, sym, ◌∙◌, ap, arith, length-take, length-drop, add-one, nat_eq, eq-eqb}
+use Rattle.std.proofs.Common.{◌≡◌, ℕ, ◌+◌, ◌-◌, ◌<◌, List, [], ◌∷◌, ◌++◌, length, take, drop, Some, None, Bool, false, refl, sym, ◌∙◌, ap, arith, length-take, length-drop, add-one, nat_eq, eq-eqb}
 use Rattle.std.proofs.lemmas.List.{take_all, get_or-take, get_or_default, take-append-drop}
 use Rattle.std.proofs.lemmas.List.Splits.{slice_split_at, slice_split_none}
 use Rattle.std.proofs.lemmas.Bool.{eqb-true, false_from_ne_true}
