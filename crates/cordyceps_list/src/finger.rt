@@ -243,7 +243,9 @@ impl Fingers {
         None
     }
 
-    /// The address of a node: at once where the front finger is on it or on the one before it.
+    /// The address of a node: at once where the front finger is on it or on the one before it. It is a part of its caller,
+    /// so that a loop at the front finger has no call in it.
+    #[inline(always)]
     pub(crate) fn seek<T>(&mut self, chain: &DoubleChain<T>, to: usize) -> Address
         requires fit { FingersFit chain.now self.old }
         requires inside { to < length chain.now }
@@ -274,30 +276,6 @@ impl Fingers {
         }
     }
 
-    /// The same by a call that is not made a part of its caller, so that edits at the front finger stay short.
-    #[cold]
-    fn seek_anew<T>(&mut self, chain: &DoubleChain<T>, to: usize) -> Address
-        requires fit { FingersFit chain.now self.old }
-        requires inside { to < length chain.now }
-        ensures fit { FingersFit chain.now self.new }
-        ensures at { LiesAt chain.now to result }
-    {
-        self.seek_far(chain, to)
-    }
-
-    /// The address of a node at which the chain is about to change.
-    pub(crate) fn seek_edit<T>(&mut self, chain: &DoubleChain<T>, to: usize) -> Address
-        requires fit { FingersFit chain.now self.old }
-        requires inside { to < length chain.now }
-        ensures fit { FingersFit chain.now self.new }
-        ensures at { LiesAt chain.now to result }
-    {
-        match self.seek_near(chain, to) {
-            Some(at) => at,
-            None => self.seek_anew(chain, to),
-        }
-    }
-
     /// The same where `to` may be the place behind the last node, which is no node's.
     pub(crate) fn seek_within<T>(&mut self, chain: &DoubleChain<T>, to: usize) -> Address
         requires { FingersFit chain.now self.old }
@@ -305,7 +283,7 @@ impl Fingers {
         ensures on { to < length chain.now → LiesAt chain.now to result }
     {
         if to < chain.len() {
-            self.seek_edit(chain, to)
+            self.seek(chain, to)
         } else {
             Address::nowhere()
         }

@@ -47,7 +47,7 @@ impl<T: Linked<Links<T>>> List<T> {
         ensures value { slice_get self.old at ≡ Some (T.element result) }
         ensures kept { self.new ≡ take at self.old ++ drop (at + 1) self.old }
     {
-        let place = self.fingers.seek_edit(&self.chain, at);
+        let place = self.fingers.seek(&self.chain, at);
         self.fingers = Fingers {
             front: Finger {
                 at: self.chain.next(place, at),

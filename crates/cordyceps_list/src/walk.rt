@@ -49,11 +49,8 @@ impl<T: Linked<Links<T>>> List<T> {
         ensures from { at ≤ result }
         ensures to { result ≤ length self.old }
     {
-        if at == self.chain.len() {
-            return at;
-        }
         let from = Finger {
-            at: self.fingers.seek(&self.chain, at),
+            at: self.fingers.seek_within(&self.chain, at),
             index: at,
         };
         let found = first_passing(&self.chain, from, predicate);

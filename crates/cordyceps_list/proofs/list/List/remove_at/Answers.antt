@@ -11,7 +11,7 @@ invariant_of-self g c =
     let at = c.args.at in
     let inside : at < length nodes = omega (arith, c.requires, ap length c.self.view_is, length-map nodes (λ n. n.1)) in
     let long : c.len.result - 1 ≡ length c.unlink.new.self = omega (arith, c.len.ensures, inside, ap length c.unlink.ensures.others, length-append (take at nodes) (drop (at + 1) nodes), length-take at nodes, length-drop (at + 1) nodes) in
-    fit_removed nodes c.unlink.new.self c.seek_edit-place.new.self.back (record { front = record { at = c.next.result; index = at }; back = c.after_unlink.result }) at _ c.seek_edit-place.ensures.fit.back inside c.unlink.ensures.others long refl c.next.ensures c.after_unlink.ensures
+    fit_removed nodes c.unlink.new.self c.seek-place.new.self.back (record { front = record { at = c.next.result; index = at }; back = c.after_unlink.result }) at _ c.seek-place.ensures.fit.back inside c.unlink.ensures.others long refl c.next.ensures c.after_unlink.ensures
 
 pub returns-clause-value : goal.returns-clause-value
 returns-clause-value g c =
