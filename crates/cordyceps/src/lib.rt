@@ -8,15 +8,15 @@
 //!
 //! A [`StableList`] hands out a [`Spot`] for each element, by which it is reached, taken out and moved at once.
 //!
-//! A [`TransferStack`] is shared by threads, without a lock: each pushes to it by a party of its own, and takes all that it
-//! holds at once. An [`MpscQueue`] is shared in the same way: many put elements in, and one at a time takes them out, in
-//! their order.
+//! A [`TransferStack`] is shared by threads, without a lock: each pushes to it by a party of its own, and takes all
+//! that it holds at once. An [`MpscQueue`] is shared in the same way: many put elements in, and one at a time takes
+//! them out, in their order.
 //!
-//! A [`stack::TransferCore`] and an [`mpsc_queue::QueueCore`] are the algorithms of the structures that threads share, as
-//! plain values whose steps are taken in any order.
+//! A [`stack::TransferCore`] and an [`mpsc_queue::QueueCore`] are the algorithms of the structures that threads share,
+//! as plain values whose steps are taken in any order.
 //!
-//! What a clause or a proof over these collections names is here too, in modules by collection: its words in `specs`, its
-//! lemmas in `proofs`.
+//! What a clause or a proof over these collections names is here too, in modules by collection: its words in `specs`,
+//! its lemmas in `proofs`.
 //!
 //! The module [`replay`] runs commands on tables of sixteen lists, stacks or sorted lists of [`Item`]s. Each reply, and
 //! what the structures hold afterwards, is proved to be what the commands mean.

@@ -191,8 +191,10 @@ impl<B, A: Allocator> Boxes<B, A> {
     /// The value of the first box that lies at `at`.
     pub(crate) fn at_mut(&mut self, at: Address) -> &mut B
         requires { (k : ℕ) × (slice_get (box_addresses self.old.blocks) k ≡ Some at.ptr) }
-        ensures* writes_back { sem 𝓛 (lends_value B.row A.row A.Allocator self.entry (index_of at.ptr (box_addresses self.old.blocks)) result) }
-        ensures value { slice_get (box_values self.old.blocks) (index_of at.ptr (box_addresses self.old.blocks)) ≡ Some result.now }
+        ensures* writes_back { sem 𝓛
+            (lends_value B.row A.row A.Allocator self.entry (index_of at.ptr (box_addresses self.old.blocks)) result) }
+        ensures value { slice_get (box_values self.old.blocks) (index_of at.ptr (box_addresses self.old.blocks))
+            ≡ Some result.now }
     {
         let at = at.ptr as *mut B;
         unsafe { &mut *at }

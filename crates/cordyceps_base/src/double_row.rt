@@ -101,7 +101,8 @@ pub(crate) fn cut_out<T: Drop>(row: Row<T>, at: Address, k: usize) -> (Node<T, L
     requires linked { (h : Ptr) × (t : Ptr) × Segment null_ptr h row.blocks t null_ptr }
     ensures node { slice_get (nodes_of row.blocks) k ≡ Some (at.ptr, result.0) }
     ensures others { nodes_of result.1.blocks ≡ take k (nodes_of row.blocks) ++ drop (k + 1) (nodes_of row.blocks) }
-    ensures linked { (h t : Ptr) → Segment null_ptr h row.blocks t null_ptr → Segment null_ptr h result.1.blocks t null_ptr }
+    ensures linked { (h t : Ptr) → Segment null_ptr h row.blocks t null_ptr
+        → Segment null_ptr h result.1.blocks t null_ptr }
 {
     let block = row.get(at, k);
     let next = block.links.next;
@@ -118,8 +119,10 @@ pub(crate) fn put_in<T: Drop>(row: Row<T>, at: Address, k: usize, node: Node<T, 
     requires inner { 0 < k }
     requires on { slice_get (box_addresses row.blocks) k ≡ Some at.ptr }
     requires linked { (h : Ptr) × (t : Ptr) × Segment null_ptr h row.blocks t null_ptr }
-    ensures holds { (place : Ptr) × (nodes_of result.blocks ≡ take k (nodes_of row.blocks) ++ (place, node) ∷ drop k (nodes_of row.blocks)) }
-    ensures linked { (h t : Ptr) → Segment null_ptr h row.blocks t null_ptr → Segment null_ptr h result.blocks t null_ptr }
+    ensures holds { (place : Ptr)
+        × (nodes_of result.blocks ≡ take k (nodes_of row.blocks) ++ (place, node) ∷ drop k (nodes_of row.blocks)) }
+    ensures linked { (h t : Ptr) → Segment null_ptr h row.blocks t null_ptr
+        → Segment null_ptr h result.blocks t null_ptr }
 {
     let prev = row.get(at, k).links.prev;
     let Node { mut block } = node;

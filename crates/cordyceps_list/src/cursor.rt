@@ -166,7 +166,8 @@ impl<'a, T: Linked<Links<T>>> Cursor<'a, T> {
     /// The value at the next place. `None` where that is the null place; from the null place it is the first.
     #[tactic(auto, using(crate::proofs::Written::none_past))]
     pub fn peek_next(&self) -> Option<&'a T>
-        ensures { option_copied result ≡ slice_get (values self.now.elements) (next_place (length self.now.elements) self.now.place) }
+        ensures { option_copied result
+            ≡ slice_get (values self.now.elements) (next_place (length self.now.elements) self.now.place) }
     {
         let chain = self.chain;
         let next = place_after(self.at, chain.len());
@@ -182,7 +183,8 @@ impl<'a, T: Linked<Links<T>>> Cursor<'a, T> {
     /// The value at the place before. `None` where that is the null place; from the null place it is the last.
     #[tactic(auto, using(crate::proofs::Written::none_before_first))]
     pub fn peek_prev(&self) -> Option<&'a T>
-        ensures { option_copied result ≡ slice_get (values self.now.elements) (prev_place (length self.now.elements) self.now.place) }
+        ensures { option_copied result
+            ≡ slice_get (values self.now.elements) (prev_place (length self.now.elements) self.now.place) }
     {
         let chain = self.chain;
         if self.at == 0 {

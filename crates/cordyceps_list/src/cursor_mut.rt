@@ -106,7 +106,8 @@ impl<'a, T: Linked<Links<T>>> CursorMut<'a, T> {
 
     /// Moves to the next place: from the last element to the null place, and from there to the first.
     pub fn move_next(&mut self)
-        ensures { Stands self.old self.new (elements self.old) (next_place (length (elements self.old)) (place self.old)) }
+        ensures { Stands self.old self.new (elements self.old)
+            (next_place (length (elements self.old)) (place self.old)) }
     {
         let len = self.len();
         self.go_to(place_after(self.at, len));
@@ -114,7 +115,8 @@ impl<'a, T: Linked<Links<T>>> CursorMut<'a, T> {
 
     /// Moves to the place before: from the first element to the null place, and from there to the last.
     pub fn move_prev(&mut self)
-        ensures { Stands self.old self.new (elements self.old) (prev_place (length (elements self.old)) (place self.old)) }
+        ensures { Stands self.old self.new (elements self.old)
+            (prev_place (length (elements self.old)) (place self.old)) }
     {
         let len = self.len();
         self.go_to(place_before(self.at, len));
@@ -138,14 +140,16 @@ impl<'a, T: Linked<Links<T>>> CursorMut<'a, T> {
 
     /// The value at the next place. `None` where that is the null place; from the null place it is the first.
     pub fn peek_next(&self) -> Option<&T>
-        ensures { option_copied result ≡ slice_get (values (elements self.now)) (next_place (length (elements self.now)) (place self.now)) }
+        ensures { option_copied result
+            ≡ slice_get (values (elements self.now)) (next_place (length (elements self.now)) (place self.now)) }
     {
         self.list.get_at(place_after(self.at, self.list.len()))
     }
 
     /// The value at the place before. `None` where that is the null place; from the null place it is the last.
     pub fn peek_prev(&self) -> Option<&T>
-        ensures { option_copied result ≡ slice_get (values (elements self.now)) (prev_place (length (elements self.now)) (place self.now)) }
+        ensures { option_copied result
+            ≡ slice_get (values (elements self.now)) (prev_place (length (elements self.now)) (place self.now)) }
     {
         self.list.get_at(place_before(self.at, self.list.len()))
     }
@@ -153,7 +157,9 @@ impl<'a, T: Linked<Links<T>>> CursorMut<'a, T> {
     /// The value that the cursor is at, to be changed. `None` at the null place.
     #[tactic(auto, using(cordyceps_base::proofs::Places::length_with_value))]
     pub fn current_mut(&mut self) -> Option<&mut T>
-        ensures* writes_back { sem 𝓛 (LendsAndStands (record { mir = named 1; lft = [] }) T.row self.entry (place self.old) (place self.old) result) }
+        ensures* writes_back { sem 𝓛
+            (LendsAndStands (record { mir = named 1; lft = [] }) T.row self.entry (place self.old) (place self.old)
+            result) }
         ensures value { option_copied_mut result ≡ slice_get (values (elements self.old)) (place self.old) }
     {
         let here = self.at;
@@ -167,8 +173,11 @@ impl<'a, T: Linked<Links<T>>> CursorMut<'a, T> {
     /// The value at the next place, to be changed. `None` as `peek_next`.
     #[tactic(auto, using(cordyceps_base::proofs::Places::length_with_value))]
     pub fn peek_next_mut(&mut self) -> Option<&mut T>
-        ensures* writes_back { sem 𝓛 (LendsAndStands (record { mir = named 1; lft = [] }) T.row self.entry (next_place (length (elements self.old)) (place self.old)) (place self.old) result) }
-        ensures value { option_copied_mut result ≡ slice_get (values (elements self.old)) (next_place (length (elements self.old)) (place self.old)) }
+        ensures* writes_back { sem 𝓛
+            (LendsAndStands (record { mir = named 1; lft = [] }) T.row self.entry
+            (next_place (length (elements self.old)) (place self.old)) (place self.old) result) }
+        ensures value { option_copied_mut result
+            ≡ slice_get (values (elements self.old)) (next_place (length (elements self.old)) (place self.old)) }
     {
         let at = place_after(self.at, self.list.len());
         if at >= self.list.len() {
@@ -181,8 +190,11 @@ impl<'a, T: Linked<Links<T>>> CursorMut<'a, T> {
     /// The value at the place before, to be changed. `None` as `peek_prev`.
     #[tactic(auto, using(cordyceps_base::proofs::Places::length_with_value))]
     pub fn peek_prev_mut(&mut self) -> Option<&mut T>
-        ensures* writes_back { sem 𝓛 (LendsAndStands (record { mir = named 1; lft = [] }) T.row self.entry (prev_place (length (elements self.old)) (place self.old)) (place self.old) result) }
-        ensures value { option_copied_mut result ≡ slice_get (values (elements self.old)) (prev_place (length (elements self.old)) (place self.old)) }
+        ensures* writes_back { sem 𝓛
+            (LendsAndStands (record { mir = named 1; lft = [] }) T.row self.entry
+            (prev_place (length (elements self.old)) (place self.old)) (place self.old) result) }
+        ensures value { option_copied_mut result
+            ≡ slice_get (values (elements self.old)) (prev_place (length (elements self.old)) (place self.old)) }
     {
         let at = place_before(self.at, self.list.len());
         if at >= self.list.len() {
@@ -196,7 +208,9 @@ impl<'a, T: Linked<Links<T>>> CursorMut<'a, T> {
     /// stays.
     #[tactic(auto, using(cordyceps_base::proofs::Places::length_with_value))]
     pub fn next(&mut self) -> Option<&mut T>
-        ensures* writes_back { sem 𝓛 (LendsAndStands (record { mir = named 1; lft = [] }) T.row self.entry (place self.old) (place self.old + 1) result) }
+        ensures* writes_back { sem 𝓛
+            (LendsAndStands (record { mir = named 1; lft = [] }) T.row self.entry (place self.old) (place self.old + 1)
+            result) }
         ensures value { option_copied_mut result ≡ slice_get (values (elements self.old)) (place self.old) }
     {
         let at = self.at;
@@ -212,7 +226,9 @@ impl<'a, T: Linked<Links<T>>> CursorMut<'a, T> {
     /// room in the length.
     pub fn insert_before(&mut self, handle: T::Handle)
         requires { length (elements self.old) < usize.MAX }
-        ensures { Stands self.old self.new (take (place self.old) (elements self.old) ++ T.element handle ∷ drop (place self.old) (elements self.old)) (place self.old + 1) }
+        ensures { Stands self.old self.new
+            (take (place self.old) (elements self.old) ++ T.element handle ∷ drop (place self.old) (elements self.old))
+            (place self.old + 1) }
     {
         let at = self.at;
         self.at = at + 1;
@@ -223,8 +239,12 @@ impl<'a, T: Linked<Links<T>>> CursorMut<'a, T> {
     /// the length.
     pub fn insert_after(&mut self, handle: T::Handle)
         requires { length (elements self.old) < usize.MAX }
-        ensures inside { place self.old < length (elements self.old) → Stands self.old self.new (take (place self.old + 1) (elements self.old) ++ T.element handle ∷ drop (place self.old + 1) (elements self.old)) (place self.old) }
-        ensures null { place self.old ≡ length (elements self.old) → Stands self.old self.new (T.element handle ∷ elements self.old) (length (elements self.old) + 1) }
+        ensures inside { place self.old < length (elements self.old)
+            → Stands self.old self.new
+            (take (place self.old + 1) (elements self.old) ++ T.element handle
+            ∷ drop (place self.old + 1) (elements self.old)) (place self.old) }
+        ensures null { place self.old ≡ length (elements self.old)
+            → Stands self.old self.new (T.element handle ∷ elements self.old) (length (elements self.old) + 1) }
     {
         if self.at < self.list.len() {
             self.list.insert_at(self.at + 1, handle);
@@ -237,7 +257,9 @@ impl<'a, T: Linked<Links<T>>> CursorMut<'a, T> {
     /// Takes out the element that the cursor is at, which then is at the one behind it. `None` at the null place.
     pub fn remove_current(&mut self) -> Option<T::Handle>
         ensures answer { option_map T.element result ≡ slice_get (elements self.old) (place self.old) }
-        ensures stands { Stands self.old self.new (take (place self.old) (elements self.old) ++ drop (place self.old + 1) (elements self.old)) (place self.old) }
+        ensures stands { Stands self.old self.new
+            (take (place self.old) (elements self.old) ++ drop (place self.old + 1) (elements self.old))
+            (place self.old) }
     {
         self.list.take_at(self.at)
     }
@@ -246,7 +268,9 @@ impl<'a, T: Linked<Links<T>>> CursorMut<'a, T> {
     /// The sum of the lengths must fit.
     pub fn splice_before(&mut self, list: List<T>)
         requires { length (elements self.old) + length list ≤ usize.MAX }
-        ensures { Stands self.old self.new (take (place self.old) (elements self.old) ++ list ++ drop (place self.old) (elements self.old)) (place self.old + length list) }
+        ensures { Stands self.old self.new
+            (take (place self.old) (elements self.old) ++ list ++ drop (place self.old) (elements self.old))
+            (place self.old + length list) }
     {
         let more = list.len();
         self.list.splice_at(self.at, list);
@@ -257,8 +281,12 @@ impl<'a, T: Linked<Links<T>>> CursorMut<'a, T> {
     /// of the lengths must fit.
     pub fn splice_after(&mut self, list: List<T>)
         requires { length (elements self.old) + length list ≤ usize.MAX }
-        ensures inside { place self.old < length (elements self.old) → Stands self.old self.new (take (place self.old + 1) (elements self.old) ++ list ++ drop (place self.old + 1) (elements self.old)) (place self.old) }
-        ensures null { place self.old ≡ length (elements self.old) → Stands self.old self.new (list ++ elements self.old) (length (elements self.old) + length list) }
+        ensures inside { place self.old < length (elements self.old)
+            → Stands self.old self.new
+            (take (place self.old + 1) (elements self.old) ++ list ++ drop (place self.old + 1) (elements self.old))
+            (place self.old) }
+        ensures null { place self.old ≡ length (elements self.old)
+            → Stands self.old self.new (list ++ elements self.old) (length (elements self.old) + length list) }
     {
         if self.at < self.list.len() {
             self.list.splice_at(self.at + 1, list);
@@ -269,11 +297,13 @@ impl<'a, T: Linked<Links<T>>> CursorMut<'a, T> {
         }
     }
 
-    /// Keeps the elements up to the one that the cursor is at, and answers those behind it. At the null place it answers
-    /// all, and the cursor is at the null place of the empty list.
+    /// Keeps the elements up to the one that the cursor is at, and answers those behind it. At the null place it
+    /// answers all, and the cursor is at the null place of the empty list.
     pub fn split_after(&mut self) -> List<T>
-        ensures inside { place self.old < length (elements self.old) → (result ≡ drop (place self.old + 1) (elements self.old)) }
-        ensures inside_stands { place self.old < length (elements self.old) → Stands self.old self.new (take (place self.old + 1) (elements self.old)) (place self.old) }
+        ensures inside { place self.old < length (elements self.old)
+            → (result ≡ drop (place self.old + 1) (elements self.old)) }
+        ensures inside_stands { place self.old < length (elements self.old)
+            → Stands self.old self.new (take (place self.old + 1) (elements self.old)) (place self.old) }
         ensures null { place self.old ≡ length (elements self.old) → (result ≡ elements self.old) }
         ensures null_stands { place self.old ≡ length (elements self.old) → Stands self.old self.new [] 0 }
     {
@@ -305,7 +335,9 @@ impl<'a, T: Linked<Links<T>>> CursorMut<'a, T> {
         mut predicate: F,
     ) -> Option<T::Handle>
         requires { MayAsk F.FnMut (drop (place self.old) (values (elements self.old))) predicate }
-        ensures removes { (last : F) × RemovesFirst T.element (CalledAt F.FnMut) (elements self.old) (place self.old) predicate result (elements self.new) (place self.new) last }
+        ensures removes { (last : F)
+            × RemovesFirst T.element (CalledAt F.FnMut) (elements self.old) (place self.old) predicate result
+            (elements self.new) (place self.new) last }
         ensures same_reference { lender self.new ≡ lender self.old }
     {
         self.remove_first_by(&mut predicate)
@@ -317,7 +349,8 @@ impl<'a, T: Linked<Links<T>>> CursorMut<'a, T> {
         predicate: &mut F,
     ) -> Option<T::Handle>
         requires { MayAsk F.FnMut (drop (place self.old) (values (elements self.old))) predicate.old }
-        ensures removes { RemovesFirst T.element (CalledAt F.FnMut) (elements self.old) (place self.old) predicate.old result (elements self.new) (place self.new) predicate.new }
+        ensures removes { RemovesFirst T.element (CalledAt F.FnMut) (elements self.old) (place self.old) predicate.old
+            result (elements self.new) (place self.new) predicate.new }
         ensures same_reference { lender self.new ≡ lender self.old }
     {
         let found = self.list.first_passing(self.at, predicate);

@@ -32,8 +32,8 @@ impl<'a, T, F: Drop> Drop for DrainFilter<'a, T, F> {
 impl<T: Linked<Links<T>>> List<T> {
     ghost use Rattle.cordyceps_list.specs.DrainFilter.{elements, place, lender, predicate_of};
 
-    /// Hands out the elements of which the predicate says `true`, and keeps the others. Each call of `next` asks that the
-    /// predicate is callable on the values that it has not seen.
+    /// Hands out the elements of which the predicate says `true`, and keeps the others. Each call of `next` asks that
+    /// the predicate is callable on the values that it has not seen.
     pub fn drain_filter<F: FnMut(&T) -> bool + Drop>(
         &mut self,
         predicate: F,

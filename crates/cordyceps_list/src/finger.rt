@@ -243,8 +243,8 @@ impl Fingers {
         None
     }
 
-    /// The address of a node: at once where the front finger is on it or on the one before it. It is a part of its caller,
-    /// so that a loop at the front finger has no call in it.
+    /// The address of a node: at once where the front finger is on it or on the one before it. It is a part of its
+    /// caller, so that a loop at the front finger has no call in it.
     #[inline(always)]
     pub(crate) fn seek<T>(&mut self, chain: &DoubleChain<T>, to: usize) -> Address
         requires fit { FingersFit chain.now self.old }

@@ -8,7 +8,8 @@ use cordyceps_base::linked::Linked;
 impl<T: Linked<Links<T>>> List<T> {
     /// Puts the items last, in their order. The iterator must end, and the total length must fit.
     pub fn extend<I: IntoIterator<Item = T::Handle>>(&mut self, items: I)
-        requires { EndsWithin I.into_iter_gives I.IntoIter.next_gives I.IntoIter.can_next I.IntoIter.remaining (usize.MAX - length self.old) items }
+        requires { EndsWithin I.into_iter_gives I.IntoIter.next_gives I.IntoIter.can_next I.IntoIter.remaining
+            (usize.MAX - length self.old) items }
         ensures { GrowsBy I.into_iter_gives I.IntoIter.next_gives T.element self.old items self.new }
     {
         for handle in items {
@@ -18,7 +19,8 @@ impl<T: Linked<Links<T>>> List<T> {
 
     /// A list of the items, in their order. The iterator must end, and their number must fit.
     pub fn from_iter<I: IntoIterator<Item = T::Handle>>(items: I) -> List<T>
-        requires { EndsWithin I.into_iter_gives I.IntoIter.next_gives I.IntoIter.can_next I.IntoIter.remaining usize.MAX items }
+        requires { EndsWithin I.into_iter_gives I.IntoIter.next_gives I.IntoIter.can_next I.IntoIter.remaining usize.MAX
+            items }
         ensures { GrowsBy I.into_iter_gives I.IntoIter.next_gives T.element [] items result }
     {
         let mut list = List::new();

@@ -65,8 +65,12 @@ impl<'a, T: Linked<Links<T>>> IterMut<'a, T> {
     /// Lends the first value that is left. `None` where none is, from then on.
     #[tactic(auto, using(cordyceps_base::proofs::Places::length_with_value))]
     pub fn next(&mut self) -> Option<&mut T>
-        ensures* writes_back { sem 𝓛 (LendsAndSpans (record { mir = named 1; lft = [] }) T.row self.entry (from self.old) (from self.old + 1) (to self.old) result) }
-        ensures value { option_copied_mut result ≡ (if nat_lt (from self.old) (to self.old) then slice_get (values (elements self.old)) (from self.old) else None) }
+        ensures* writes_back { sem 𝓛
+            (LendsAndSpans (record { mir = named 1; lft = [] }) T.row self.entry (from self.old) (from self.old + 1)
+            (to self.old) result) }
+        ensures value { option_copied_mut result
+            ≡ (if nat_lt (from self.old) (to self.old) then slice_get (values (elements self.old)) (from self.old)
+            else None) }
     {
         let at = self.front;
         if at == self.back {
@@ -80,8 +84,12 @@ impl<'a, T: Linked<Links<T>>> IterMut<'a, T> {
     /// Lends the last value that is left. `None` where none is, from then on.
     #[tactic(auto, using(cordyceps_base::proofs::Places::length_with_value))]
     pub fn next_back(&mut self) -> Option<&mut T>
-        ensures* writes_back { sem 𝓛 (LendsAndSpans (record { mir = named 1; lft = [] }) T.row self.entry (to self.old - 1) (from self.old) (to self.old - 1) result) }
-        ensures value { option_copied_mut result ≡ (if nat_lt (from self.old) (to self.old) then slice_get (values (elements self.old)) (to self.old - 1) else None) }
+        ensures* writes_back { sem 𝓛
+            (LendsAndSpans (record { mir = named 1; lft = [] }) T.row self.entry (to self.old - 1) (from self.old)
+            (to self.old - 1) result) }
+        ensures value { option_copied_mut result
+            ≡ (if nat_lt (from self.old) (to self.old) then slice_get (values (elements self.old)) (to self.old - 1)
+            else None) }
     {
         if self.front == self.back {
             return None;

@@ -13,8 +13,8 @@ use std::marker::Model;
 
 /// A doubly linked list of owned nodes. A contract sees its elements, in order.
 ///
-/// Handles go in and come out as the same elements; linking takes no memory and cannot be refused. The list knows its length.
-/// A drop frees each node once.
+/// Handles go in and come out as the same elements; linking takes no memory and cannot be refused. The list knows its
+/// length. A drop frees each node once.
 #[derive(Drop)]
 pub struct List<T> {
     pub(crate) chain: DoubleChain<T>,
@@ -116,7 +116,8 @@ impl<T: Linked<Links<T>>> List<T> {
 
     /// Takes the last element out, at once. `None` where there is none.
     pub fn pop_back(&mut self) -> Option<T::Handle>
-        ensures { MatchOption result ((self.old ≡ []) × (self.new ≡ [])) (λ h. self.old ≡ self.new ++ T.element h ∷ []) }
+        ensures { MatchOption result ((self.old ≡ []) × (self.new ≡ []))
+            (λ h. self.old ≡ self.new ++ T.element h ∷ []) }
     {
         if self.chain.len() == 0 {
             return None;
@@ -169,8 +170,8 @@ impl<T: Linked<Links<T>>> List<T> {
         Some(self.value_mut_at(len - 1))
     }
 
-    /// Lends the value at a place with an element, by at most one move more than it is away from the nearest of the two ends
-    /// and the two fingers.
+    /// Lends the value at a place with an element, by at most one move more than it is away from the nearest of the two
+    /// ends and the two fingers.
     pub(crate) fn value_mut_at(&mut self, at: usize) -> &mut T
         requires { at < length self.old }
         ensures* writes_back { sem 𝓛 (LendsAt T.row self.entry at result) }

@@ -11,8 +11,11 @@ use cordyceps_base::linked::Linked;
 
 /// The first node with a number, sought from the front.
 fn find<T>(chain: &DoubleChain<T>, id: u64) -> Option<Finger>
-    ensures on { MatchOption result (found id (elements chain.now) ≡ None) (λ f. IsOn chain.now f × (found id (elements chain.now) ≡ slice_get (elements chain.now) f.index)) }
-    ensures others { MatchOption result (without id (elements chain.now) ≡ elements chain.now) (λ f. without id (elements chain.now) ≡ take f.index (elements chain.now) ++ drop (f.index + 1) (elements chain.now)) }
+    ensures on { MatchOption result (found id (elements chain.now) ≡ None)
+        (λ f. IsOn chain.now f × (found id (elements chain.now) ≡ slice_get (elements chain.now) f.index)) }
+    ensures others { MatchOption result (without id (elements chain.now) ≡ elements chain.now)
+        (λ f. without id (elements chain.now)
+        ≡ take f.index (elements chain.now) ++ drop (f.index + 1) (elements chain.now)) }
 {
     if chain.len() == 0 {
         return None;

@@ -21,7 +21,8 @@ fn first_passing<T, F: FnMut(&T) -> bool>(
     requires fits { FingerFits chain.now from }
     requires callable { MayAsk F.FnMut (drop from.index (values (elements chain.now))) predicate.old }
     ensures fits { FingerFits chain.now result }
-    ensures walks { Walks (CalledAt F.FnMut) predicate.old (drop from.index (values (elements chain.now))) (result.index - from.index) predicate.new }
+    ensures walks { Walks (CalledAt F.FnMut) predicate.old (drop from.index (values (elements chain.now)))
+        (result.index - from.index) predicate.new }
     ensures from { from.index ≤ result.index }
 {
     let mut finger = from;

@@ -23,8 +23,8 @@ pub fn both_ways<P, E>()
     ensures was_blocked { WasBlockedBothWays P E }
 {}
 
-/// Elements of one producer leave in its order, in each legal history: what came out and was put in by one party, in the
-/// order in which it came out, and then what is held of that party's, is what that party put in, in its order.
+/// Elements of one producer leave in its order, in each legal history: what came out and was put in by one party, in
+/// the order in which it came out, and then what is held of that party's, is what that party put in, in its order.
 pub fn producers_in_order<P, E>()
     ensures { ProducersInOrder P E }
 {}

@@ -56,7 +56,8 @@ impl Cost {
     pub fn add(&mut self, operations: usize, time: Duration)
         ensures time { as_nanos self.new.time ≡ min (as_nanos self.old.time + as_nanos time) max_nanos }
         ensures operations { self.new.operations ≡ min (self.old.operations + operations) u64.MAX }
-        ensures least { 0 < operations → self.new.least ≡ min self.old.least (min (as_nanos time * 10) max_nanos / operations) }
+        ensures least { 0 < operations
+            → self.new.least ≡ min self.old.least (min (as_nanos time * 10) max_nanos / operations) }
     {
         self.time = self.time.saturating_add(time);
         self.operations = self.operations.saturating_add(operations as u64);
@@ -66,7 +67,8 @@ impl Cost {
     /// The time of one operation, on the mean. 0 where there was none.
     pub fn mean(&self) -> Tenths
         ensures none { self.now.operations ≡ 0 → result.0 ≡ 0 }
-        ensures some { 0 < self.now.operations → result.0 ≡ min (as_nanos self.now.time * 10) max_nanos / self.now.operations }
+        ensures some { 0 < self.now.operations
+            → result.0 ≡ min (as_nanos self.now.time * 10) max_nanos / self.now.operations }
     {
         Tenths(tenths_of(self.time, self.operations))
     }

@@ -50,7 +50,8 @@ pub fn move_all<L: Kind>(
     from: &mut Vec<Node<Item, L>>,
     to: &mut Vec<Node<Item, L>>,
 ) -> Result<(), Fault>
-    ensures { OnOk result ((from.new.items ≡ []) × (length to.new.items ≡ length to.old.items + length from.old.items)) }
+    ensures { OnOk result ((from.new.items ≡ [])
+        × (length to.new.items ≡ length to.old.items + length from.old.items)) }
 {
     while let Some(node) = from.pop() {
         push(to, node)?;

@@ -36,8 +36,8 @@ impl Model for Spot {
 /// A doubly linked list of owned nodes that hands out a spot for each element. A contract sees the elements in order,
 /// each with its spot.
 ///
-/// An element is reached, taken out and moved by its spot, at once. Its spot stays the same while it is in the list, and
-/// also where all elements go to another list. Linking takes no memory and cannot be refused. After each call that
+/// An element is reached, taken out and moved by its spot, at once. Its spot stays the same while it is in the list,
+/// and also where all elements go to another list. Linking takes no memory and cannot be refused. After each call that
 /// changes the list all spots differ. A drop frees each node once.
 #[derive(Drop)]
 pub struct StableList<T> {
@@ -169,7 +169,8 @@ impl<T: Linked<Links<T>>> StableList<T> {
 
     /// Takes the first element out, at once. `None` where there is none.
     pub fn pop_front(&mut self) -> Option<T::Handle>
-        ensures taken { MatchOption result ((self.old ≡ []) × (self.new ≡ [])) (λ h. (spot : Ptr) × (self.old ≡ (spot, T.element h) ∷ self.new)) }
+        ensures taken { MatchOption result ((self.old ≡ []) × (self.new ≡ []))
+            (λ h. (spot : Ptr) × (self.old ≡ (spot, T.element h) ∷ self.new)) }
         ensures apart { AreApart (spots self.new) }
     {
         if self.chain.len() == 0 {
@@ -183,7 +184,8 @@ impl<T: Linked<Links<T>>> StableList<T> {
 
     /// Takes the last element out, at once. `None` where there is none.
     pub fn pop_back(&mut self) -> Option<T::Handle>
-        ensures taken { MatchOption result ((self.old ≡ []) × (self.new ≡ [])) (λ h. (spot : Ptr) × (self.old ≡ self.new ++ (spot, T.element h) ∷ [])) }
+        ensures taken { MatchOption result ((self.old ≡ []) × (self.new ≡ []))
+            (λ h. (spot : Ptr) × (self.old ≡ self.new ++ (spot, T.element h) ∷ [])) }
         ensures apart { AreApart (spots self.new) }
     {
         if self.chain.len() == 0 {

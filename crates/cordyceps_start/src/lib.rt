@@ -36,7 +36,8 @@ impl<L: Kind> Linked<L> for Request {
 /// Takes the first request out, if it is due. `None` where there is none, or its time has not come; all stay then.
 pub fn take_due(requests: &mut List<Request>, now: u64) -> Option<ListRequest>
     ensures { MatchOption result
-        ((requests.new ≡ requests.old) × IfSome (slice_get (map (λ r. r.value) requests.old) 0) (λ first. now < first.due))
+        ((requests.new ≡ requests.old)
+        × IfSome (slice_get (map (λ r. r.value) requests.old) 0) (λ first. now < first.due))
         (λ taken. (requests.old ≡ taken ∷ requests.new) × (taken.value.due ≤ now)) }
 {
     if requests.front()?.due > now {

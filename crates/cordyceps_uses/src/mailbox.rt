@@ -121,11 +121,11 @@ fn receive(
     Ok((party, received))
 }
 
-/// Delivers messages: each list is sent by a thread of its own, and one thread receives, in so many turns; what is left is
-/// received in the end. It waits for nobody but the threads that it starts.
+/// Delivers messages: each list is sent by a thread of its own, and one thread receives, in so many turns; what is left
+/// is received in the end. It waits for nobody but the threads that it starts.
 ///
-/// The mailbox needs a room for each message, at most `MAX_ROOMS`. It is an error where memory is refused, and then all is
-/// dropped.
+/// The mailbox needs a room for each message, at most `MAX_ROOMS`. It is an error where memory is refused, and then all
+/// is dropped.
 pub fn deliver<R: Threads + Sync>(
     rt: &R,
     alloc: Global,

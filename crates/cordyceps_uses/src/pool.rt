@@ -60,7 +60,8 @@ fn use_both<R: Threads>(
     second: &[Command],
 ) -> ((Stack<Block>, Party<Block>), (Stack<Block>, Party<Block>))
     requires { (parties.0.table ≡ pool.now) × (parties.1.table ≡ pool.now) }
-    ensures uses { Uses pool.now first.now blocks.0 parties.0 result.0.0 result.0.1 × Uses pool.now second.now blocks.1 parties.1 result.1.0 result.1.1 }
+    ensures uses { Uses pool.now first.now blocks.0 parties.0 result.0.0 result.0.1
+        × Uses pool.now second.now blocks.1 parties.1 result.1.0 result.1.1 }
     ensures table { (result.0.1.table ≡ pool.now) × (result.1.1.table ≡ pool.now) }
 {
     let (mine, yours) = blocks;
@@ -69,20 +70,22 @@ fn use_both<R: Threads>(
         rt,
         || -> (Stack<Block>, Party<Block>)
             requires { one.table ≡ pool.now }
-            ensures { Uses pool.entry.now first.entry.now mine one result.0 result.1 × (result.1.table ≡ pool.entry.now) }
+            ensures { Uses pool.entry.now first.entry.now mine one result.0 result.1
+                × (result.1.table ≡ pool.entry.now) }
         { use_pool(pool, mine, one, first) },
         || -> (Stack<Block>, Party<Block>)
             requires { two.table ≡ pool.now }
-            ensures { Uses pool.entry.now second.entry.now yours two result.0 result.1 × (result.1.table ≡ pool.entry.now) }
+            ensures { Uses pool.entry.now second.entry.now yours two result.0 result.1
+                × (result.1.table ≡ pool.entry.now) }
         { use_pool(pool, yours, two, second) },
     )
 }
 
-/// Makes a pool that two threads use at the same time, each by its commands. Gives the blocks that are then with the first,
-/// with the second, and in the pool: each block that the two had at the start is there once, and no other.
+/// Makes a pool that two threads use at the same time, each by its commands. Gives the blocks that are then with the
+/// first, with the second, and in the pool: each block that the two had at the start is there once, and no other.
 ///
-/// So many blocks of each thread can be in the pool at once. `AllocError` where memory for that is refused; the blocks are
-/// dropped then.
+/// So many blocks of each thread can be in the pool at once. `AllocError` where memory for that is refused; the blocks
+/// are dropped then.
 pub fn share<R: Threads>(
     rt: &R,
     alloc: Global,

@@ -147,8 +147,8 @@ fn add_all(done: &mut Stack<Job>, mut more: Stack<Job>)
     }
 }
 
-/// Runs all jobs: one thread submits them, two workers take what is there, each so many times, and what they leave is run
-/// in the end. Each job is run once, and none is lost.
+/// Runs all jobs: one thread submits them, two workers take what is there, each so many times, and what they leave is
+/// run in the end. Each job is run once, and none is lost.
 ///
 /// The queue needs a room for each job, at most `MAX_ROOMS`. Where memory for it is refused, `Err` gives the jobs back,
 /// none of which was run.

@@ -1,5 +1,5 @@
-//! Tasks of one type that go through a stack, a stack that threads share, and a sorted list, in the nodes that they were
-//! made with, and into a list in new ones.
+//! Tasks of one type that go through a stack, a stack that threads share, and a sorted list, in the nodes that they
+//! were made with, and into a list in new ones.
 ghost use Rattle.std.specs.Prelude.{◌≡◌, ◌<◌, ◌≤◌, [], ◌∷◌, ◌++◌, length, reverse, IfErr, IfOk, OnErr, OnOk};
 ghost use Rattle.cordyceps.specs.Parties.Histories.{plain};
 ghost use Rattle.cordyceps.specs.Parties.Shares.{whole};
@@ -21,8 +21,8 @@ pub struct Task {
     pub number: u64,
 }
 
-/// Tasks go into collections of any kind. A node is of one kind for life: one of stacks goes into sorted lists too, and into
-/// those that threads share, but into no list.
+/// Tasks go into collections of any kind. A node is of one kind for life: one of stacks goes into sorted lists too, and
+/// into those that threads share, but into no list.
 impl<L: Kind> Linked<L> for Task {
     type Handle = Node<Task, L>;
 
@@ -59,11 +59,11 @@ fn push_all<R: Wait>(
     party
 }
 
-/// Sends tasks through a stack that threads share, and puts them in order: the least rank comes first, and equals come as
-/// they were pushed. The tasks stay in the nodes that they have.
+/// Sends tasks through a stack that threads share, and puts them in order: the least rank comes first, and equals come
+/// as they were pushed. The tasks stay in the nodes that they have.
 ///
-/// The shared stack needs a room for each task, at most `MAX_ROOMS`. Where memory for it is refused, `Err` gives the tasks
-/// back.
+/// The shared stack needs a room for each task, at most `MAX_ROOMS`. Where memory for it is refused, `Err` gives the
+/// tasks back.
 pub fn schedule<R: Wait>(
     rt: &R,
     alloc: Global,
@@ -83,8 +83,8 @@ pub fn schedule<R: Wait>(
     Ok(SortedList::from_stack_min(came))
 }
 
-/// Puts a task from a stack behind those of a list, which has room for one more. Its node is freed, and it gets a new one.
-/// Where memory for that is refused, `Err` gives the task back.
+/// Puts a task from a stack behind those of a list, which has room for one more. Its node is freed, and it gets a new
+/// one. Where memory for that is refused, `Err` gives the task back.
 pub fn move_to_list(
     alloc: Global,
     list: &mut List<Task>,

@@ -82,8 +82,8 @@ impl<P: Drop> TimerWheel<P> {
 
     /// Starts a timer, which is due at the time that its node has for a number, and answers its ticket.
     ///
-    /// It takes no memory. The timer comes back where its deadline is not in the turn that begins now, or where its slot
-    /// holds the greatest number of timers.
+    /// It takes no memory. The timer comes back where its deadline is not in the turn that begins now, or where its
+    /// slot holds the greatest number of timers.
     pub fn start(&mut self, timer: TimerNode<P>) -> Result<Ticket, TimerNode<P>>
         ensures started { IfOk result (λ ticket.
             self.new ≡ with_waiting timer.id (waiting timer.id self.old ++ (ticket.spot, timer) ∷ []) self.old) }

@@ -59,8 +59,8 @@ impl<P: Drop> Timers<P> {
         }
     }
 
-    /// Starts a timer: it comes behind all whose deadline is not later. It takes memory for one timer; where that is refused
-    /// it gives the payload back.
+    /// Starts a timer: it comes behind all whose deadline is not later. It takes memory for one timer; where that is
+    /// refused it gives the payload back.
     ///
     /// One comparison tells where it is the last, and otherwise it walks from the earliest on.
     pub fn start(&mut self, alloc: Global, deadline: u64, payload: P) -> Result<(), Refused<P>>
@@ -79,8 +79,8 @@ impl<P: Drop> Timers<P> {
         }
     }
 
-    /// Takes the earliest timer out, if it is due at the time `now`. `None` where none is due; all stay then. It takes the
-    /// same time whatever runs.
+    /// Takes the earliest timer out, if it is due at the time `now`. `None` where none is due; all stay then. It takes
+    /// the same time whatever runs.
     pub fn pop_due(&mut self, now: u64) -> Option<Timer<P>>
         ensures { MatchOption result
             ((self.new ≡ self.old) × (due now self.old ≡ []))

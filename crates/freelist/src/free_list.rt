@@ -18,8 +18,8 @@ use std::marker::Model;
 ///
 /// A contract sees which table the free list has: `party.table` is that of its own. A drop drops what is shared.
 ///
-/// Its shape is that of the sharded free lists of allocators, as in mimalloc: a local list, and one that is shared, which the
-/// owner takes as a whole when it runs out.
+/// Its shape is that of the sharded free lists of allocators, as in mimalloc: a local list, and one that is shared,
+/// which the owner takes as a whole when it runs out.
 #[derive(Drop)]
 pub struct FreeList<T: Linked<Links<T>>> {
     shared: TransferStack<T>,
@@ -34,10 +34,11 @@ impl<T: Linked<Links<T>>> Model for FreeList<T> {
 }
 
 impl<T: Linked<Links<T>>> FreeList<T> {
-    /// A free list with nothing in it and this many rooms for what is shared, at most `MAX_ROOMS`, and the party that has
-    /// them all, which is whole.
+    /// A free list with nothing in it and this many rooms for what is shared, at most `MAX_ROOMS`, and the party that
+    /// has them all, which is whole.
     ///
-    /// It makes an allocation for each room, and four for the words and slots of all. `AllocError` where one is refused.
+    /// It makes an allocation for each room, and four for the words and slots of all. `AllocError` where one is
+    /// refused.
     pub fn new(alloc: Global, rooms: usize) -> Result<(FreeList<T>, Party<T>), AllocError>
         requires { rooms ≤ MAX_ROOMS }
         ensures { IfOk result (λ made. made.1 ≡ new_party made.0 rooms) }
@@ -48,9 +49,9 @@ impl<T: Linked<Links<T>>> FreeList<T> {
 
     /// Tries once to put a block back, by one load and one compare-exchange. It waits for nobody.
     ///
-    /// `Ok` tells whether nothing was shared just before; a room of the party's is then in use. `Err` hands the block back,
-    /// and leaves the room. It comes only where another party put a block back, or took all, between the two steps, and so
-    /// never to a whole party.
+    /// `Ok` tells whether nothing was shared just before; a room of the party's is then in use. `Err` hands the block
+    /// back, and leaves the room. It comes only where another party put a block back, or took all, between the two
+    /// steps, and so never to a whole party.
     pub fn put_remote(&self, party: &mut Party<T>, handle: T::Handle) -> Result<bool, T::Handle>
         requires table { party.old.table ≡ self.now }
         requires room { 0 < party.old.rooms }
@@ -62,8 +63,8 @@ impl<T: Linked<Links<T>>> FreeList<T> {
         self.shared.try_push(party, handle)
     }
 
-    /// Gives up some of a party's rooms, and half of its first name, to a new party, which has seen the same history and
-    /// has no event of its own. It goes through the rooms that it gives up.
+    /// Gives up some of a party's rooms, and half of its first name, to a new party, which has seen the same history
+    /// and has no event of its own. It goes through the rooms that it gives up.
     pub fn split(&self, party: &mut Party<T>, rooms: usize) -> Party<T>
         requires table { party.old.table ≡ self.now }
         requires rooms { rooms ≤ party.old.rooms }
@@ -88,8 +89,8 @@ impl<T: Linked<Links<T>>> FreeList<T> {
         Local::new(&self.shared, party)
     }
 
-    /// Ends the free list, and gives all that is shared, the last put back first: exactly what the whole party's history
-    /// holds. It walks through what is shared, and frees the rooms.
+    /// Ends the free list, and gives all that is shared, the last put back first: exactly what the whole party's
+    /// history holds. It walks through what is shared, and frees the rooms.
     pub fn close(self, party: Party<T>) -> Stack<T>
         requires table { party.table ≡ self }
         requires whole { party.share ≡ whole }

@@ -1,5 +1,5 @@
-//! Free lists: blocks that an owner hands out and takes back without an atomic step, and that others put back from their
-//! threads.
+//! Free lists: blocks that an owner hands out and takes back without an atomic step, and that others put back from
+//! their threads.
 #![tactic(auto)]
 
 mod free_list;

@@ -7,8 +7,8 @@ use cordyceps_base::stack::Links;
 use cordyceps_stack::stack::{Party, Stack, TransferStack};
 use std::marker::Model;
 
-/// Blocks at hand, of one owner, who takes what is shared when they run out. A contract sees them, the last put back first,
-/// and the party. A drop frees them, and ends the party, whose rooms are then lost for good.
+/// Blocks at hand, of one owner, who takes what is shared when they run out. A contract sees them, the last put back
+/// first, and the party. A drop frees them, and ends the party, whose rooms are then lost for good.
 #[derive(Drop)]
 pub struct Local<'a, T: Linked<Links<T>>> {
     shared: &'a TransferStack<T>,
@@ -39,8 +39,8 @@ impl<'a, T: Linked<Links<T>>> Local<'a, T> {
         }
     }
 
-    /// Takes out the block that was put back last. Where there is none it first takes all that is shared, at one swap, and
-    /// walks through it; `None` where that is nothing either. It waits for nobody.
+    /// Takes out the block that was put back last. Where there is none it first takes all that is shared, at one swap,
+    /// and walks through it; `None` where that is nothing either. It waits for nobody.
     pub fn get(&mut self) -> Option<T::Handle>
         ensures { GetsFrom T.element self.old.blocks self.old.party result self.new }
     {

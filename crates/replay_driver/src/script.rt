@@ -199,8 +199,8 @@ fn has_stopped_writing(halt: Result<(), Fault>) -> bool
 /// Runs a script: reads its lines, and writes the replies to them.
 ///
 /// The lines go to the session, up to the first bad one or to the end of the input, which is then told of the end. What
-/// stands written after a fault is as `run` says. At the call the source and the sink may be in any state, and the session
-/// in any in which it may take lines.
+/// stands written after a fault is as `run` says. At the call the source and the sink may be in any state, and the
+/// session in any in which it may take lines.
 pub fn run_script<S: Session, I: Source, O: Sink>(
     alloc: Global,
     session: &mut S,

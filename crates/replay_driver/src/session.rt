@@ -23,8 +23,8 @@ pub trait Session {
 
     /// Takes a line, without its line feed, and adds the texts of the commands that it completes.
     ///
-    /// `Ok(false)` means that the line is bad, and nothing changes. After an `Err` memory was refused: the texts of some
-    /// of the commands were added, each as a whole, and the session takes no further line. The cost is that of the
+    /// `Ok(false)` means that the line is bad, and nothing changes. After an `Err` memory was refused: the texts of
+    /// some of the commands were added, each as a whole, and the session takes no further line. The cost is that of the
     /// commands and their texts.
     fn take(&mut self, line: &[u8], text: &mut Vec<u8>) -> Result<bool, AllocError>
         requires { is_ready self.old }

@@ -117,7 +117,8 @@ pub fn read_cursor_command(line: &[u8]) -> Option<CursorCommand>
     ensures value { result ≡ cursor_command_of line.now }
     ensures fits { IfSome result OtherFits }
     ensures spelled { IfSome result (λ command. line.now ≡ spelling_of command) }
-    ensures every { (command : CursorCommand) → OtherFits command → HasNumbers command → spelling_of command ≡ line.now → result ≡ Some command }
+    ensures every { (command : CursorCommand) → OtherFits command → HasNumbers command → spelling_of command ≡ line.now
+        → result ≡ Some command }
 {
     read_words(line)
 }

@@ -8,7 +8,8 @@ use cordyceps::replay::Item;
 
 /// Reads one word.
 pub fn only_word<'a>(mut words: Words<'a>) -> Option<&'a [u8]>
-    ensures { MatchOption result (only_word_of (words_left words.entry.rest) ≡ None) (λ word. words_left words.entry.rest ≡ word.now ∷ []) }
+    ensures { MatchOption result (only_word_of (words_left words.entry.rest) ≡ None)
+        (λ word. words_left words.entry.rest ≡ word.now ∷ []) }
 {
     let word = words.next_word()?;
     match words.next_word() {

@@ -167,7 +167,9 @@ pub fn read_entry(alloc: Global, line: &[u8]) -> Result<Option<Entry>, AllocErro
     ensures value { IfOk result (λ read. option_map meant read ≡ meaning_of line.now) }
     ensures fits { IfOk result (λ read. IfSome read EntryFits) }
     ensures spelled { IfOk result (λ read. IfSome read (λ entry. line.now ≡ spelling_of entry)) }
-    ensures every { IfOk result (λ read. (entry : Entry) → EntryFits entry → HasNumbers entry → spelling_of entry ≡ line.now → option_map meant read ≡ Some (meant entry)) }
+    ensures every { IfOk result
+        (λ read. (entry : Entry) → EntryFits entry → HasNumbers entry → spelling_of entry ≡ line.now
+        → option_map meant read ≡ Some (meant entry)) }
     ensures err { OnErr result (is_some (meaning_of line.now) ≡ true) }
 {
     read_words(alloc, line)

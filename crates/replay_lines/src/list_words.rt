@@ -82,7 +82,8 @@ pub fn structure_and_turns(
     alloc: Global,
     mut words: Words,
 ) -> Result<Option<(u8, Vec<Turn>)>, AllocError>
-    ensures value { IfOk result (λ read. option_map (λ x. (x.0, x.1.items)) read ≡ structure_and_turns_of (words_left words.entry.rest)) }
+    ensures value { IfOk result
+        (λ read. option_map (λ x. (x.0, x.1.items)) read ≡ structure_and_turns_of (words_left words.entry.rest)) }
     ensures err { OnErr result (is_some (structure_and_turns_of (words_left words.entry.rest)) ≡ true) }
 {
     let Some(structure) = words.next_word().and_then(structure_number) else {

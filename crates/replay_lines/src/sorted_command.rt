@@ -75,7 +75,9 @@ fn pairs(alloc: Global, mut words: Words) -> Result<Vec<Item>, AllocError>
 
 /// Reads the number of a list and the pairs `ID:V` of a stack, at least one, unless memory for them is refused.
 fn from_stack(alloc: Global, mut words: Words) -> Result<Option<SortedCommand>, AllocError>
-    ensures value { IfOk result (λ command. option_map entry_for command ≡ option_map (λ x. from x.0 x.1) (structure_and_pairs_of (words_left words.entry.rest))) }
+    ensures value { IfOk result
+        (λ command. option_map entry_for command
+        ≡ option_map (λ x. from x.0 x.1) (structure_and_pairs_of (words_left words.entry.rest))) }
     ensures fits { IfOk result (λ command. IfSome command Fits) }
     ensures err { OnErr result (is_some (structure_and_pairs_of (words_left words.entry.rest)) ≡ true) }
 {

@@ -56,7 +56,9 @@ impl ListSession {
     /// Runs the block that is open, and adds its text. Where memory is refused, it adds nothing.
     fn close(&mut self, text: &mut Vec<u8>) -> Result<(), AllocError>
         requires { CanRun self.old.block }
-        ensures ok { OnOk result (Closes (self.old.lists, opened self.old.block) (self.new.lists, opened self.new.block) text.old.items text.new.items) }
+        ensures ok { OnOk result
+            (Closes (self.old.lists, opened self.old.block) (self.new.lists, opened self.new.block) text.old.items
+            text.new.items) }
         ensures err { OnErr result (text.new.items ≡ text.old.items) }
         ensures block { self.new.block ≡ None }
     {
@@ -71,7 +73,8 @@ impl ListSession {
     /// Takes a line outside of blocks.
     fn take_outside(&mut self, line: &[u8], text: &mut Vec<u8>) -> Result<bool, AllocError>
         requires { self.old.block ≡ None }
-        ensures taken { TakesLine list_machine (self.old.lists, opened self.old.block) line.now (self.new.lists, opened self.new.block) text.old.items text.new.items result }
+        ensures taken { TakesLine list_machine (self.old.lists, opened self.old.block) line.now
+            (self.new.lists, opened self.new.block) text.old.items text.new.items result }
         ensures ready { IsOpen self.new.block }
     {
         match read_entry(self.alloc, line)? {
@@ -101,7 +104,8 @@ impl ListSession {
     ) -> Result<bool, AllocError>
         requires open { IsOpen (Some block) }
         requires block { self.old.block ≡ None }
-        ensures taken { TakesLine list_machine (self.old.lists, opened (Some block)) line.now (self.new.lists, opened self.new.block) text.old.items text.new.items result }
+        ensures taken { TakesLine list_machine (self.old.lists, opened (Some block)) line.now
+            (self.new.lists, opened self.new.block) text.old.items text.new.items result }
         ensures ready { IsOpen self.new.block }
     {
         let Some(command) = read_cursor_command(line) else {

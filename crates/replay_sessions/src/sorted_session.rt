@@ -46,7 +46,9 @@ impl<F: Fn(&Item, &Item) -> Ordering + Copy> SortedSession<F> {
         requires callable { F.IsAlwaysCallable self.old.sorteds.1 }
         requires tens { ComparesTens F.Fn self.old.sorteds.1 }
         requires in_order { AreInOrder (order_of ⟦<Item as Ord>⟧.cmp by_tens) self.old.sorteds.0 }
-        ensures reply { IfOk result (λ reply. (self.new.sorteds.0, lines_of reply) ≡ step (order_of ⟦<Item as Ord>⟧.cmp by_tens) self.old.sorteds.0 command) }
+        ensures reply { IfOk result
+            (λ reply. (self.new.sorteds.0, lines_of reply)
+            ≡ step (order_of ⟦<Item as Ord>⟧.cmp by_tens) self.old.sorteds.0 command) }
         ensures in_order { AreInOrder (order_of ⟦<Item as Ord>⟧.cmp by_tens) self.new.sorteds.0 }
         ensures function { self.new.sorteds.1 ≡ self.old.sorteds.1 }
     {

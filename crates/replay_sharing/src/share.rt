@@ -94,8 +94,8 @@ fn work<R: Wait, G: Gate>(
     party
 }
 
-/// Runs both workers, each in a thread of its own. Memory is refused where a thread cannot be started; the other one has
-/// then ended too.
+/// Runs both workers, each in a thread of its own. Memory is refused where a thread cannot be started; the other one
+/// has then ended too.
 fn work_both<R: Threads + Wait + Sync, G: Gate>(
     rt: &R,
     gate: &G,
@@ -106,15 +106,18 @@ fn work_both<R: Threads + Wait + Sync, G: Gate>(
 ) -> Result<(Party<Item>, Party<Item>), AllocError>
     requires first { (parties.0.table ≡ stack.now) × (parties.0.rooms ≡ 2) }
     requires second { (parties.1.table ≡ stack.now) × (parties.1.rooms ≡ 2) }
-    ensures { IfOk result (λ back. Works tens.0 tens.1 parties.0 back.0 × Works twenties.0 twenties.1 parties.1 back.1) }
+    ensures { IfOk result (λ back. Works tens.0 tens.1 parties.0 back.0
+        × Works twenties.0 twenties.1 parties.1 back.1) }
 {
     let (first, second) = parties;
     thread::scope(
         thread::scope_env(),
         rt,
         move |scope| -> Result<(Party<Item>, Party<Item>), AllocError>
-            requires { IsSync R.row × IsSync G.row × (first.table ≡ stack.now) × (first.rooms ≡ 2) × (second.table ≡ stack.now) × (second.rooms ≡ 2) }
-            ensures { IfOk result (λ back. Works tens.0 tens.1 first back.0 × Works twenties.0 twenties.1 second back.1) }
+            requires { IsSync R.row × IsSync G.row × (first.table ≡ stack.now) × (first.rooms ≡ 2)
+                × (second.table ≡ stack.now) × (second.rooms ≡ 2) }
+            ensures { IfOk result (λ back. Works tens.0 tens.1 first back.0
+                × Works twenties.0 twenties.1 second back.1) }
         {
             let task = Task::of(&first, &tens);
             let work_on = move || -> Party<Item>
@@ -137,7 +140,8 @@ fn work_both<R: Threads + Wait + Sync, G: Gate>(
 
 /// The values of the items, in order.
 fn values_in_order(alloc: Global, items: Stack<Item>) -> Result<Vec<u64>, AllocError>
-    ensures { IfOk result (λ values. IsPermutation (map (λ e. e.value.value) items) values.items × IsSorted nat_cmp values.items) }
+    ensures { IfOk result (λ values. IsPermutation (map (λ e. e.value.value) items) values.items
+        × IsSorted nat_cmp values.items) }
 {
     let mut values = Vec::new(alloc);
     for node in items {
@@ -172,9 +176,9 @@ fn run_workers<R: Threads + Wait + Sync, G: Gate>(
 /// Two threads push to the stack, the one 10 and then 11, the other 20 and then 21, each item with its value as its
 /// number. Once both have ended all is taken, and the values come in order: 10, 11, 20, 21.
 ///
-/// Before each push the gate is passed. The party has to be whole, with 4 rooms, and to hold nothing; it gives two rooms to
-/// each worker, and takes them back. `Memory` where memory for the items or the values was refused, or a thread could not be
-/// started. The other thread has then ended too, and the party may not be whole.
+/// Before each push the gate is passed. The party has to be whole, with 4 rooms, and to hold nothing; it gives two
+/// rooms to each worker, and takes them back. `Memory` where memory for the items or the values was refused, or a
+/// thread could not be started. The other thread has then ended too, and the party may not be whole.
 pub fn share<R: Threads + Wait + Sync, G: Gate>(
     rt: &R,
     alloc: Global,
@@ -210,8 +214,8 @@ fn line_of(alloc: Global, values: &[u64]) -> Result<Vec<u8>, AllocError>
 
 /// Makes a stack of four rooms, and writes what [`share`] answers on it, as a line: `10 11 20 21`.
 ///
-/// `Memory` as in `share`, and where memory for the stack or the line was refused; nothing is written then. After `Write`,
-/// a beginning of the line stands written.
+/// `Memory` as in `share`, and where memory for the stack or the line was refused; nothing is written then. After
+/// `Write`, a beginning of the line stands written.
 pub fn run_share<R: Threads + Wait + Sync, O: Sink>(
     rt: &R,
     alloc: Global,

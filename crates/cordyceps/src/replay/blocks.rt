@@ -119,8 +119,8 @@ fn first_of(nodes: &mut List<Item>) -> Node<Item, Links<Item>>
     node
 }
 
-/// Runs a line on the cursor's list alone. The node that it puts in is the first of those that were made. Lines that name
-/// another list are not run here.
+/// Runs a line on the cursor's list alone. The node that it puts in is the first of those that were made. Lines that
+/// name another list are not run here.
 pub(crate) fn run_alone(
     cursor: &mut CursorMut<'_, Item>,
     nodes: &mut List<Item>,
@@ -287,8 +287,11 @@ fn run_lines(
     requires nodes { nodes ≡ made_for_all lines.now }
     requires room { length replies.old.items + length lines.now ≤ vec_capacity replies.old }
     ensures same_reference { lender cursor.new ≡ lender cursor.old }
-    ensures state { state_of lists.new list cursor.new ≡ after (line_step list) (state_of lists.old list cursor.old) lines.now }
-    ensures told { flat_map lines_of replies.new.items ≡ flat_map lines_of replies.old.items ++ replies_to (line_step list) (state_of lists.old list cursor.old) lines.now }
+    ensures state { state_of lists.new list cursor.new
+        ≡ after (line_step list) (state_of lists.old list cursor.old) lines.now }
+    ensures told { flat_map lines_of replies.new.items
+        ≡ flat_map lines_of replies.old.items
+        ++ replies_to (line_step list) (state_of lists.old list cursor.old) lines.now }
 {
     for line in lines {
         let reply = run_line(lists, list, cursor, &mut nodes, *line);
@@ -324,7 +327,8 @@ fn run_at(
     requires fit { BlockFits lines.now }
     requires nodes { nodes ≡ made_for_all lines.now }
     requires room { length replies.old.items + length lines.now ≤ vec_capacity replies.old }
-    ensures { (lists.new, flat_map lines_of replies.new.items) ≡ blocked lists.old list end lines.now (flat_map lines_of replies.old.items) }
+    ensures { (lists.new, flat_map lines_of replies.new.items)
+        ≡ blocked lists.old list end lines.now (flat_map lines_of replies.old.items) }
 {
     let mut held = mem::replace(&mut lists[list], List::new());
     let mut cursor = cursor_at(&mut held, end);

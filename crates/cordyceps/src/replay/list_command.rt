@@ -70,11 +70,11 @@ pub enum CursorCommand {
     SplitAfter(u8),
     /// Moves the items before the cursor's to a list, if that is another one and empty: `Done` or `NotThere`.
     SplitBefore(u8),
-    /// Moves all items of a list behind the cursor's, if that is another list and the sum of the lengths fits: `Done` or
-    /// `NotThere`.
+    /// Moves all items of a list behind the cursor's, if that is another list and the sum of the lengths fits: `Done`
+    /// or `NotThere`.
     SpliceAfter(u8),
-    /// Moves all items of a list before the cursor's, if that is another list and the sum of the lengths fits: `Done` or
-    /// `NotThere`.
+    /// Moves all items of a list before the cursor's, if that is another list and the sum of the lengths fits: `Done`
+    /// or `NotThere`.
     SpliceBefore(u8),
     /// Ends the block, which may also end without it: `Done`.
     End,
@@ -104,8 +104,8 @@ pub enum ListCommand {
     /// Moves all items of the second list behind those of the first, if these are two lists and the sum of the lengths
     /// fits: `Done` or `NotThere`.
     Append(u8, u8),
-    /// Keeps so many items, and moves the others to the second list, if that is another one and empty: `Done`, `Nothing`
-    /// beyond the length, or `NotThere`.
+    /// Keeps so many items, and moves the others to the second list, if that is another one and empty: `Done`,
+    /// `Nothing` beyond the length, or `NotThere`.
     Split(u8, u64, u8),
     /// Takes out the first item with this number: `Found`, or `Nothing` where there is none.
     Remove(u8, u64),

@@ -37,7 +37,8 @@ fn push_front(alloc: Global, list: &mut List<Item>, item: Item) -> Result<Reply,
 
 /// Puts an item at the back, unless memory for its node is refused.
 fn push_back(alloc: Global, list: &mut List<Item>, item: Item) -> Result<Reply, AllocError>
-    ensures ok { IfOk result (λ reply. (list.new, lines_of reply) ≡ pushed list.old (list.old ++ element_of item ∷ [])) }
+    ensures ok { IfOk result
+        (λ reply. (list.new, lines_of reply) ≡ pushed list.old (list.old ++ element_of item ∷ [])) }
     ensures err { OnErr result (list.new ≡ list.old) }
 {
     let node = node_of(alloc, item)?;
@@ -79,7 +80,8 @@ fn set_front(list: &mut List<Item>, value: u64) -> Reply
 
 /// Gives the last item another value.
 fn set_back(list: &mut List<Item>, value: u64) -> Reply
-    ensures { (list.new, lines_of result) ≡ written list.old (length list.old - 1) (slice_get (values list.old) (length list.old - 1)) value }
+    ensures { (list.new, lines_of result)
+        ≡ written list.old (length list.old - 1) (slice_get (values list.old) (length list.old - 1)) value }
 {
     let Some(item) = list.back_mut() else {
         return nothing();

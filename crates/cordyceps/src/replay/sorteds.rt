@@ -194,8 +194,8 @@ fn run_own<F: Fn(&Item, &Item) -> Ordering + Copy>(
 /// A sorted list in the order of a function.
 type OwnList<F> = SortedList<Item, ByFn<Item, F>>;
 
-/// Five sorted lists in the order of a function. They are no array: that of an array, its size is bounded only where its
-/// items' type is known, and each generic caller would owe the bound.
+/// Five sorted lists in the order of a function. They are no array: that of an array, its size is bounded only where
+/// its items' type is known, and each generic caller would owe the bound.
 #[derive(Drop)]
 struct OwnLists<F> {
     first: OwnList<F>,
@@ -359,7 +359,8 @@ pub fn replay_sorted<F: Fn(&Item, &Item) -> Ordering + Copy>(
     ensures played { (cmp : Item → Item → Ordering)
         → Computes F.Fn sorteds.old.1 cmp
         → AreInOrder (order_of ⟦<Item as Ord>⟧.cmp cmp) sorteds.old.0
-        → Plays (step (order_of ⟦<Item as Ord>⟧.cmp cmp)) sorteds.old.0 commands.items result.replies.items result.rest.items sorteds.new.0 }
+        → Plays (step (order_of ⟦<Item as Ord>⟧.cmp cmp)) sorteds.old.0 commands.items result.replies.items
+        result.rest.items sorteds.new.0 }
     ensures in_order { (cmp : Item → Item → Ordering)
         → Computes F.Fn sorteds.old.1 cmp
         → AreInOrder (order_of ⟦<Item as Ord>⟧.cmp cmp) sorteds.old.0

@@ -56,7 +56,8 @@ fn copy_last<T: Linked<Links<T>> + Copy>(
 ) -> Result<(), AllocError>
     ensures same_reference { lender left.new ≡ lender left.old }
     ensures elements { elements left.new ≡ elements left.old }
-    ensures once { OnOk result (to_lend left.new ++ reverse lasts.new.items ≡ to_lend left.old ++ reverse lasts.old.items) }
+    ensures once { OnOk result
+        (to_lend left.new ++ reverse lasts.new.items ≡ to_lend left.old ++ reverse lasts.old.items) }
 {
     if let Some(value) = copied_next_back(left) {
         lasts.push(value)?;
@@ -65,8 +66,8 @@ fn copy_last<T: Linked<Links<T>> + Copy>(
 }
 
 /// Borrows the values from both ends in turn: `true` asks `next`, and `false` asks `next_back`. What is left then comes
-/// from the front. Copies of those from the front, and of those from the back, the last lent first, are all values, each
-/// once and in order.
+/// from the front. Copies of those from the front, and of those from the back, the last lent first, are all values,
+/// each once and in order.
 pub fn copy_from_both_ends<T: Linked<Links<T>> + Copy>(
     alloc: Global,
     list: &mut List<T>,

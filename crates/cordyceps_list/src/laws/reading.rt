@@ -13,7 +13,8 @@ fn read_first<'a, T: Linked<Links<T>>>(
     left: &mut Iter<'a, T>,
     firsts: &mut Vec<&'a T>,
 ) -> Result<(), AllocError>
-    ensures once { OnOk result (map (λ v. v.now) firsts.new.items ++ left.new ≡ map (λ v. v.now) firsts.old.items ++ left.old) }
+    ensures once { OnOk result
+        (map (λ v. v.now) firsts.new.items ++ left.new ≡ map (λ v. v.now) firsts.old.items ++ left.old) }
     ensures fewer { length left.new ≡ length left.old - 1 }
 {
     if let Some(value) = left.next() {
@@ -27,7 +28,8 @@ fn read_last<'a, T: Linked<Links<T>>>(
     left: &mut Iter<'a, T>,
     lasts: &mut Vec<&'a T>,
 ) -> Result<(), AllocError>
-    ensures { OnOk result (left.new ++ reverse (map (λ v. v.now) lasts.new.items) ≡ left.old ++ reverse (map (λ v. v.now) lasts.old.items)) }
+    ensures { OnOk result (left.new ++ reverse (map (λ v. v.now) lasts.new.items)
+        ≡ left.old ++ reverse (map (λ v. v.now) lasts.old.items)) }
 {
     if let Some(value) = left.next_back() {
         lasts.push(value)?;
@@ -43,7 +45,8 @@ pub fn read_from_both_ends<'a, T: Linked<Links<T>>>(
     list: &'a List<T>,
     turns: &[bool],
 ) -> Result<(Vec<&'a T>, Vec<&'a T>), AllocError>
-    ensures { IfOk result (λ read. map (λ v. v.now) read.0.items ++ reverse (map (λ v. v.now) read.1.items) ≡ values list.now) }
+    ensures { IfOk result (λ read. map (λ v. v.now) read.0.items ++ reverse (map (λ v. v.now) read.1.items)
+        ≡ values list.now) }
 {
     let mut left = list.iter();
     let mut firsts = Vec::new(alloc);

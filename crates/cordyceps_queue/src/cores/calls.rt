@@ -16,8 +16,8 @@ use std::marker::Model;
 
 /// A queue whose steps are taken one at a time, by parties with numbers, in any order.
 ///
-/// A contract sees its machine: the head, the right to dequeue, the rooms and the stages of the parties; and says of each
-/// history that the core met which one it meets afterwards. Such a history is legal.
+/// A contract sees its machine: the head, the right to dequeue, the rooms and the stages of the parties; and says of
+/// each history that the core met which one it meets afterwards. Such a history is legal.
 #[derive(Drop)]
 pub struct QueueCore<E> {
     alloc: Global,
@@ -72,27 +72,29 @@ impl<E: Drop> QueueCore<E> {
         }
     }
 
-    /// Takes a party's step. `NotThere` comes exactly where there is no such party, it is not at that step, or it has no
-    /// free room for it; that changes nothing, and hands the step's element back. A step needs no memory, so that
+    /// Takes a party's step. `NotThere` comes exactly where there is no such party, it is not at that step, or it has
+    /// no free room for it; that changes nothing, and hands the step's element back. A step needs no memory, so that
     /// `Memory` never comes.
     pub fn step(&mut self, party: usize, step: QueueStep<E>) -> Answered<E>
         ensures machine { self.new ≡ (stepped self.old party step).0 }
         ensures answer { result ≡ (stepped self.old party step).1 }
         ensures accepted { is_ok result ≡ is_there self.old party step }
         ensures refused { IfErr result (λ e. (e ≡ (StepError.NotThere, step_element step)) × (self.new ≡ self.old)) }
-        ensures history { (h : List (Event ℕ E)) → CoreMeets h self.old → CoreMeets (h ++ step_events self.old party step result) self.new × AnswerSays h party result }
+        ensures history { (h : List (Event ℕ E)) → CoreMeets h self.old
+            → CoreMeets (h ++ step_events self.old party step result) self.new × AnswerSays h party result }
     {
         self.machine.act(party, step)
     }
 
-    /// Puts an element behind all others, as a party that runs alone: `Clear`, `Swap` and `Link`. `NotThere` comes exactly
-    /// where the party is not at rest or has no free room; that changes nothing, and hands the element back. It needs no
-    /// memory.
+    /// Puts an element behind all others, as a party that runs alone: `Clear`, `Swap` and `Link`. `NotThere` comes
+    /// exactly where the party is not at rest or has no free room; that changes nothing, and hands the element back. It
+    /// needs no memory.
     pub fn enqueue(&mut self, party: usize, element: E) -> Result<(), (StepError, E)>
         ensures accepted { is_ok result ≡ is_ready self.old party }
         ensures err { IfErr result (λ e. (e ≡ (StepError.NotThere, element)) × (self.new ≡ self.old)) }
         ensures ok { OnOk result (self.new ≡ after core_step self.old (enqueue_steps party element)) }
-        ensures history { OnOk result ((h : List (Event ℕ E)) → CoreMeets h self.old → Enqueued h party element self.new) }
+        ensures history { OnOk result
+            ((h : List (Event ℕ E)) → CoreMeets h self.old → Enqueued h party element self.new) }
     {
         if !self.machine.is_ready(party) {
             return Err((StepError::NotThere, element));
@@ -104,14 +106,16 @@ impl<E: Drop> QueueCore<E> {
     }
 
     /// Takes the oldest element out, as a party that runs alone. From rest it takes the right first and gives it back
-    /// last; a party that holds the right does neither. `NotThere` comes exactly at the other stages, and changes nothing.
-    /// It needs no memory.
+    /// last; a party that holds the right does neither. `NotThere` comes exactly at the other stages, and changes
+    /// nothing. It needs no memory.
     pub fn try_dequeue(&mut self, party: usize) -> Result<Result<E, TryDequeueError>, StepError>
         ensures accepted { is_ok result ≡ may_dequeue (slice_get self.old.parties party) }
         ensures err { IfErr result (λ e. (e ≡ StepError.NotThere) × (self.new ≡ self.old)) }
-        ensures ok { IfOk result (λ found. (self.new ≡ (dequeued self.old party).0) × (found ≡ found_of (dequeued self.old party).1)) }
+        ensures ok { IfOk result
+            (λ found. (self.new ≡ (dequeued self.old party).0) × (found ≡ found_of (dequeued self.old party).1)) }
         ensures history { IfOk result (λ found. (h : List (Event ℕ E)) → CoreMeets h self.old
-            → CoreMeets (h ++ dequeue_events party (slice_get self.old.parties party) found) self.new × Finds h party found) }
+            → CoreMeets (h ++ dequeue_events party (slice_get self.old.parties party) found) self.new
+            × Finds h party found) }
         ensures inconsistent { IfOk result (λ found. (h : List (Event ℕ E)) → CoreMeets h self.old
             → found ≡ Err TryDequeueError.Inconsistent
             → LooksBlocked h party (slice_get self.old.parties party)) }
@@ -126,23 +130,25 @@ impl<E: Drop> QueueCore<E> {
         Ok(found(self.machine.dequeue(party)))
     }
 
-    /// Takes elements out, oldest first, by tries of one party that runs alone, until `max` came out or a try gives none:
-    /// these, or why the first try gave none. From rest it takes the right first and gives it back last; a party that holds
-    /// the right does neither.
+    /// Takes elements out, oldest first, by tries of one party that runs alone, until `max` came out or a try gives
+    /// none: these, or why the first try gave none. From rest it takes the right first and gives it back last; a party
+    /// that holds the right does neither.
     ///
-    /// `NotThere` comes exactly where the party is at another stage or `max` is 0, and `Memory` where there is none for the
-    /// elements: room for as many as are held, or for `max` if that is less, is made before the first step. Both change
-    /// nothing. It goes through the rooms and the parties once, to count what is held.
+    /// `NotThere` comes exactly where the party is at another stage or `max` is 0, and `Memory` where there is none for
+    /// the elements: room for as many as are held, or for `max` if that is less, is made before the first step. Both
+    /// change nothing. It goes through the rooms and the parties once, to count what is held.
     pub fn take_linked(
         &mut self,
         party: usize,
         max: usize,
     ) -> Result<Result<Vec<E>, TryDequeueError>, StepError>
-        ensures not_there { (result ≡ Err StepError.NotThere) ↔ IsFalse (may_drain max (slice_get self.old.parties party)) }
+        ensures not_there { (result ≡ Err StepError.NotThere)
+            ↔ IsFalse (may_drain max (slice_get self.old.parties party)) }
         ensures err { OnErr result (self.new ≡ self.old) }
         ensures ok { IfOk result (λ batch. let d = drained_at party max self.old (slice_get self.old.parties party) in
             (self.new ≡ d.0) × (given batch ≡ batch_of d.1 d.2)) }
-        ensures history { OnOk result (let d = drained_at party max self.old (slice_get self.old.parties party) in (h : List (Event ℕ E))
+        ensures history { OnOk result
+            (let d = drained_at party max self.old (slice_get self.old.parties party) in (h : List (Event ℕ E))
             → CoreMeets h self.old
             → CoreMeets (h ++ batch_events party (slice_get self.old.parties party) d.1 d.2) self.new
             × Drains h party max (slice_get self.old.parties party) d.1 d.2) }

@@ -157,7 +157,8 @@ impl<E: Drop> Machine<E> {
     fn hand_out(&mut self, party: usize, tail: usize, next: usize) -> Answered<E>
         requires party { party < length self.old.parties }
         requires full { IsSome (element_in (slice_get self.old.rooms tail)) }
-        ensures machine { self.new ≡ (hand_out self.old party tail next (element_in (slice_get self.old.rooms tail))).0 }
+        ensures machine { self.new
+            ≡ (hand_out self.old party tail next (element_in (slice_get self.old.rooms tail))).0 }
         ensures answer { result ≡ (hand_out self.old party tail next (element_in (slice_get self.old.rooms tail))).1 }
     {
         let element = self.rooms.free(tail, party);

@@ -47,7 +47,8 @@ impl<E: Drop> Rooms<E> {
 
     /// Adds a free room of the party.
     pub(crate) fn add(&mut self, party: usize) -> Result<(), AllocError>
-        ensures ok { OnOk result (self.new ≡ self.old ++ record { owner = Some party; element = None; next = None } ∷ []) }
+        ensures ok { OnOk result
+            (self.new ≡ self.old ++ record { owner = Some party; element = None; next = None } ∷ []) }
         ensures err { OnErr result (self.new ≡ self.old) }
     {
         self.list.push(Room {

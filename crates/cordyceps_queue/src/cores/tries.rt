@@ -103,12 +103,13 @@ impl<E: Drop> Machine<E> {
         }
     }
 
-    /// Tries of a holder, one after the other, until the batch, which begins empty, has `max` elements or a try gives none.
-    /// Answers why it gave none.
+    /// Tries of a holder, one after the other, until the batch, which begins empty, has `max` elements or a try gives
+    /// none. Answers why it gave none.
     fn drain(&mut self, party: usize, batch: &mut Vec<E>, max: usize) -> Option<TryDequeueError>
         requires holding { (t : ℕ) × (slice_get self.old.parties party ≡ Some (Stage.Holding t)) }
         requires empty { batch.old.items ≡ [] }
-        requires room { (h : List (Event ℕ E)) × CoreMeets h self.old × ((max ≤ vec_capacity batch.old) ⊎ (length (held h) ≤ vec_capacity batch.old)) }
+        requires room { (h : List (Event ℕ E)) × CoreMeets h self.old
+            × ((max ≤ vec_capacity batch.old) ⊎ (length (held h) ≤ vec_capacity batch.old)) }
         ensures { (self.new, batch.new.items, result) ≡ drained party max self.old }
     {
         while batch.len() < max {
@@ -120,7 +121,8 @@ impl<E: Drop> Machine<E> {
         None
     }
 
-    /// The same, from any stage from which a party may dequeue. A party at rest takes the right first and gives it back last.
+    /// The same, from any stage from which a party may dequeue. A party at rest takes the right first and gives it back
+    /// last.
     pub(crate) fn take_batch(
         &mut self,
         party: usize,
@@ -129,8 +131,10 @@ impl<E: Drop> Machine<E> {
     ) -> Option<TryDequeueError>
         requires stage { may_dequeue (slice_get self.old.parties party) ≡ true }
         requires empty { batch.old.items ≡ [] }
-        requires room { (h : List (Event ℕ E)) × CoreMeets h self.old × ((max ≤ vec_capacity batch.old) ⊎ (length (held h) ≤ vec_capacity batch.old)) }
-        ensures { (self.new, batch.new.items, result) ≡ drained_at party max self.old (slice_get self.old.parties party) }
+        requires room { (h : List (Event ℕ E)) × CoreMeets h self.old
+            × ((max ≤ vec_capacity batch.old) ⊎ (length (held h) ≤ vec_capacity batch.old)) }
+        ensures { (self.new, batch.new.items, result)
+            ≡ drained_at party max self.old (slice_get self.old.parties party) }
     {
         let Some(Stage::Rest) = self.stage(party) else {
             return self.drain(party, batch, max);

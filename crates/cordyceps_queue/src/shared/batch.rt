@@ -9,8 +9,8 @@ use cordyceps_base::single_chain::SingleChain;
 use std::iter::{ExactSizeIterator, FusedIterator};
 use std::marker::Model;
 
-/// Owned handles that came out of a queue. An iterator hands them out, the oldest first. A contract sees their elements,
-/// the oldest first.
+/// Owned handles that came out of a queue. An iterator hands them out, the oldest first. A contract sees their
+/// elements, the oldest first.
 ///
 /// It is this project's own: the Rust crate `cordyceps` has no such type. No call takes memory, and each takes the same
 /// time whatever is left. A drop frees each node that is left.

@@ -23,15 +23,15 @@ use std::marker::Model;
 
 /// A queue that threads share without a lock: many put elements in, and one at a time takes them out.
 ///
-/// It has as many rooms as its maker chose, each for one element. Each call is made by a party, which has some
-/// of the rooms and what it has seen of the queue's history (for contracts alone). Elements go in by handles, and the same
+/// It has as many rooms as its maker chose, each for one element. Each call is made by a party, which has some of the
+/// rooms and what it has seen of the queue's history (for contracts alone). Elements go in by handles, and the same
 /// elements come out, in the order in which they were put in. No call on a made queue takes memory.
 ///
 /// Who dequeues has the right to do so, which one party has at a time. A drop drops what is held, and the stub.
 ///
 /// The source is `MpscQueue` of the Rust crate `cordyceps`, by Vyukov's algorithm
-/// (<https://www.1024cores.net/home/lock-free-algorithms/queues/intrusive-mpsc-node-based-queue>), with a fixed number of
-/// rooms in place of bare pointers. It never answers `Empty` where an element was put in and not linked yet.
+/// (<https://www.1024cores.net/home/lock-free-algorithms/queues/intrusive-mpsc-node-based-queue>), with a fixed number
+/// of rooms in place of bare pointers. It never answers `Empty` where an element was put in and not linked yet.
 #[derive(Drop)]
 pub struct MpscQueue<T: Linked<Links<T>>> {
     pub(crate) rooms: OwnedTable<T::Handle>,
@@ -51,9 +51,9 @@ impl<T: Linked<Links<T>>> Model for MpscQueue<T> {
 
 /// The right to act on one queue, with a number of rooms. It can be sent to a thread where `T::Handle` can.
 ///
-/// A contract sees its queue's table, the history that it has seen with a mark at its own events, its share of names, and
-/// how many rooms it has. A party whose share is the empty word alone is whole: it took back all that were split off. The
-/// rooms of a party that is dropped are lost for good, and no party is whole afterwards.
+/// A contract sees its queue's table, the history that it has seen with a mark at its own events, its share of names,
+/// and how many rooms it has. A party whose share is the empty word alone is whole: it took back all that were split
+/// off. The rooms of a party that is dropped are lost for good, and no party is whole afterwards.
 #[derive(Drop)]
 pub struct Party<T: Linked<Links<T>>> {
     pub(crate) seat: PartySeat<T::Handle>,
@@ -74,7 +74,8 @@ impl<T: Linked<Links<T>>> Model for Party<T> {
 impl<T: Linked<Links<T>>> Party<T> {
     /// How many rooms the party has: it can put in as many elements before it takes some out.
     ///
-    /// To a contract it tells what every party knows: what it has seen is legal, and a whole party has seen only its own events.
+    /// To a contract it tells what every party knows: what it has seen is legal, and a whole party has seen only its
+    /// own events.
     pub fn rooms(&self) -> usize
         ensures count { result ≡ self.now.rooms }
         ensures knows { Knows (λ h. Legal h) self.now }
@@ -93,10 +94,11 @@ fn tickets_of(alloc: Global, rooms: usize) -> Result<Tickets, AllocError>
 }
 
 impl<T: Linked<Links<T>>> MpscQueue<T> {
-    /// An empty queue with this many rooms, at most `MAX_ROOMS`, and the party that has them all, which is whole. Its stub
-    /// is a room without a node, beside the others.
+    /// An empty queue with this many rooms, at most `MAX_ROOMS`, and the party that has them all, which is whole. Its
+    /// stub is a room without a node, beside the others.
     ///
-    /// It makes an allocation for each room and one for the stub's, and four for the words and slots of all. `AllocError` where one is refused.
+    /// It makes an allocation for each room and one for the stub's, and four for the words and slots of all.
+    /// `AllocError` where one is refused.
     pub fn new(alloc: Global, rooms: usize) -> Result<(MpscQueue<T>, Party<T>), AllocError>
         requires { rooms ≤ MAX_ROOMS }
         ensures { IfOk result (λ made. (made.0.stub ≡ None) × (made.1 ≡ new_party made.0.table rooms)) }
@@ -145,11 +147,12 @@ impl<T: Linked<Links<T>>> MpscQueue<T> {
         steps::enqueue(&self.rooms.shared, &mut party.seat, ticket, handle);
     }
 
-    /// Tries once to take the oldest element out: takes the right to dequeue, looks, and gives the right back. The room of
-    /// what comes out becomes the party's. It waits for nobody.
+    /// Tries once to take the oldest element out: takes the right to dequeue, looks, and gives the right back. The room
+    /// of what comes out becomes the party's. It waits for nobody.
     ///
     /// `Empty` where nothing was held, `Inconsistent` where the oldest element or the one behind it is not linked yet,
-    /// `Busy` where another party has the right. Each leaves the elements as they were. A whole party meets `Empty` alone.
+    /// `Busy` where another party has the right. Each leaves the elements as they were. A whole party meets `Empty`
+    /// alone.
     pub fn try_dequeue(&self, party: &mut Party<T>) -> Result<T::Handle, TryDequeueError>
         requires { party.old.table ≡ self.now.table }
         ensures answer { Dequeues result party.old party.new }
@@ -166,8 +169,8 @@ impl<T: Linked<Links<T>>> MpscQueue<T> {
         }
     }
 
-    /// Gives up some of a party's rooms, and half of its first name, to a new party, which has seen the same history and
-    /// has no event of its own. It reads the head once, and goes through the rooms that it gives up.
+    /// Gives up some of a party's rooms, and half of its first name, to a new party, which has seen the same history
+    /// and has no event of its own. It reads the head once, and goes through the rooms that it gives up.
     pub fn split(&self, party: &mut Party<T>, rooms: usize) -> Party<T>
         requires table { party.old.table ≡ self.now.table }
         requires rooms { rooms ≤ party.old.rooms }
@@ -188,8 +191,8 @@ impl<T: Linked<Links<T>>> MpscQueue<T> {
         party.tickets.append(tickets);
     }
 
-    /// Ends the queue, and gives all that is held, the oldest first: exactly what the whole party's history holds, and the
-    /// stub that `new_with_stub` took. It frees the rooms.
+    /// Ends the queue, and gives all that is held, the oldest first: exactly what the whole party's history holds, and
+    /// the stub that `new_with_stub` took. It frees the rooms.
     pub fn close(self, party: Party<T>) -> Closed<T>
         requires table { party.table ≡ self.table }
         requires whole { party.share ≡ whole }

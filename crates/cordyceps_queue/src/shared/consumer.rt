@@ -19,7 +19,8 @@ use cordyceps_shared::slots::Filled;
 use cordyceps_shared::tickets::Tickets;
 use std::marker::Model;
 
-/// A party that has the right to dequeue, and the tail's room. It cannot be dropped, so that each consumer gives the right back.
+/// A party that has the right to dequeue, and the tail's room. It cannot be dropped, so that each consumer gives the
+/// right back.
 pub(crate) struct Right<E: Drop> {
     seat: PartySeat<E>,
     tickets: Tickets,
@@ -132,8 +133,8 @@ impl<E: Drop> Right<E> {
     }
 }
 
-/// A party that has the right to dequeue from a queue that it borrows. No other party dequeues meanwhile. It can be sent to a
-/// thread where `T::Handle` can.
+/// A party that has the right to dequeue from a queue that it borrows. No other party dequeues meanwhile. It can be
+/// sent to a thread where `T::Handle` can.
 ///
 /// A contract sees the party. A drop gives the right back, and ends the party, whose rooms are then lost for good.
 pub struct Consumer<'a, T: Linked<Links<T>>> {
@@ -178,8 +179,8 @@ impl<T: Linked<Links<T>>> MpscQueue<T> {
 impl<'a, T: Linked<Links<T>>> Consumer<'a, T> {
     /// Tries once to take the oldest element out. The room of what comes out becomes the party's. It waits for nobody.
     ///
-    /// `Empty` where nothing was held, `Inconsistent` where the oldest element or the one behind it is not linked yet. Each
-    /// leaves the elements as they were. A whole party meets `Empty` alone, and no consumer meets `Busy`.
+    /// `Empty` where nothing was held, `Inconsistent` where the oldest element or the one behind it is not linked yet.
+    /// Each leaves the elements as they were. A whole party meets `Empty` alone, and no consumer meets `Busy`.
     pub fn try_dequeue(&mut self) -> Result<T::Handle, TryDequeueError>
         ensures answer { Consumes result self.old self.new }
         ensures whole { self.old.share ≡ whole → IsCertain result }
@@ -188,8 +189,8 @@ impl<'a, T: Linked<Links<T>>> Consumer<'a, T> {
         self.right.try_once(&queue.rooms.shared)
     }
 
-    /// Takes elements out until it has `max` or a try is not `Ok`, and answers them, the oldest first. Each try is as that of
-    /// `try_dequeue`. It takes no memory, and waits for nobody.
+    /// Takes elements out until it has `max` or a try is not `Ok`, and answers them, the oldest first. Each try is as
+    /// that of `try_dequeue`. It takes no memory, and waits for nobody.
     ///
     /// `Err` is the first try's, where that gave no element. A whole party gets all that is held, up to `max`.
     pub fn take_linked(&mut self, max: usize) -> Result<Batch<T>, TryDequeueError>

@@ -19,11 +19,11 @@ use std::alloc::Global;
 use std::marker::Model;
 use std::sync::Arc;
 
-/// A party that has the right to dequeue from a queue that it owns with others. No other party dequeues meanwhile. It can be
-/// sent to a thread where `T::Handle` can.
+/// A party that has the right to dequeue from a queue that it owns with others. No other party dequeues meanwhile. It
+/// can be sent to a thread where `T::Handle` can.
 ///
-/// A contract sees the queue and the party. A drop gives the right back, gives its part of the queue up, and ends the party,
-/// whose rooms are then lost for good.
+/// A contract sees the queue and the party. A drop gives the right back, gives its part of the queue up, and ends the
+/// party, whose rooms are then lost for good.
 pub struct OwnedConsumer<T: Linked<Links<T>>> {
     queue: Arc<MpscQueue<T>, Global>,
     right: Right<T::Handle>,
@@ -49,8 +49,8 @@ impl<T: Linked<Links<T>>> Drop for OwnedConsumer<T> {
 }
 
 impl<T: Linked<Links<T>>> MpscQueue<T> {
-    /// Takes the right to dequeue, by one swap, for as long as the consumer lasts, which owns the queue with others. It waits
-    /// for nobody.
+    /// Takes the right to dequeue, by one swap, for as long as the consumer lasts, which owns the queue with others. It
+    /// waits for nobody.
     ///
     /// `Err` hands both back where another party has the right. A whole party always gets it.
     pub fn try_consume_owned(
@@ -73,8 +73,8 @@ impl<T: Linked<Links<T>>> MpscQueue<T> {
 impl<T: Linked<Links<T>>> OwnedConsumer<T> {
     /// Tries once to take the oldest element out. The room of what comes out becomes the party's. It waits for nobody.
     ///
-    /// `Empty` where nothing was held, `Inconsistent` where the oldest element or the one behind it is not linked yet. Each
-    /// leaves the elements as they were. A whole party meets `Empty` alone, and no consumer meets `Busy`.
+    /// `Empty` where nothing was held, `Inconsistent` where the oldest element or the one behind it is not linked yet.
+    /// Each leaves the elements as they were. A whole party meets `Empty` alone, and no consumer meets `Busy`.
     pub fn try_dequeue(&mut self) -> Result<T::Handle, TryDequeueError>
         ensures queue { self.new.queue ≡ self.old.queue }
         ensures answer { Consumes result self.old.party self.new.party }
@@ -84,15 +84,16 @@ impl<T: Linked<Links<T>>> OwnedConsumer<T> {
         self.right.try_once(&queue.rooms.shared)
     }
 
-    /// Takes elements out until it has `max` or a try is not `Ok`, and answers them, the oldest first. Each try is as that of
-    /// `try_dequeue`. It takes no memory, and waits for nobody.
+    /// Takes elements out until it has `max` or a try is not `Ok`, and answers them, the oldest first. Each try is as
+    /// that of `try_dequeue`. It takes no memory, and waits for nobody.
     ///
     /// `Err` is the first try's, where that gave no element. A whole party gets all that is held, up to `max`.
     pub fn take_linked(&mut self, max: usize) -> Result<Batch<T>, TryDequeueError>
         requires { 1 ≤ max }
         ensures queue { self.new.queue ≡ self.old.queue }
         ensures answer { MatchResult result
-            (λ batch. (es : List T.Handle) × (batch ≡ map T.element es) × TakesLinked max es self.old.party self.new.party)
+            (λ batch. (es : List T.Handle) × (batch ≡ map T.element es)
+            × TakesLinked max es self.old.party self.new.party)
             (λ why. Consumes (Err why) self.old.party self.new.party) }
         ensures whole { self.old.party.share ≡ whole → MatchResult result
             (λ batch. batch ≡ map T.element (take max (held (plain self.old.party.seen))))

@@ -16,13 +16,15 @@ use cordyceps_shared::slots::Count;
 use std::alloc::{AllocError, Global};
 use std::marker::Brand;
 
-/// The words and slots of an empty queue with this many rooms beside the stub's, and the seat of the party that has them all.
+/// The words and slots of an empty queue with this many rooms beside the stub's, and the seat of the party that has
+/// them all.
 pub(crate) fn open<E: Drop>(
     alloc: Global,
     rooms: usize,
 ) -> Result<(OwnedTable<E>, PartySeat<E>), AllocError>
     requires { rooms ≤ MAX_ROOMS }
-    ensures { IfOk result (λ r. (r.1.table_id ≡ r.0.shared.table_id) × IsTable r.0.shared.table_id × (r.0.shared.table_id.slots ≡ rooms + 1) × (r.1.me ≡ (newcomer rooms, []))) }
+    ensures { IfOk result (λ r. (r.1.table_id ≡ r.0.shared.table_id) × IsTable r.0.shared.table_id
+        × (r.0.shared.table_id.slots ≡ rooms + 1) × (r.1.me ≡ (newcomer rooms, []))) }
 {
     let mut words = vec![in alloc; 0; rooms + 3]?;
     words[1] = 1;
@@ -33,7 +35,8 @@ fn cut<E: Drop, B: Count>(words: &Words<E>, seat: &mut PartySeat<E>, rooms: usiz
     requires table { (seat.old.table_id ≡ words.now.table_id) × IsTable words.now.table_id }
     requires rest { IsResting words.now.table_id.slots seat.old.me × (B.rooms ≡ rooms) }
     ensures table { (seat.new.table_id ≡ seat.old.table_id) × (result.table_id ≡ seat.old.table_id) }
-    ensures views { (seat.new.me ≡ (view_keeping rooms seat.old.me.0, [])) × (result.me ≡ (view_giving rooms seat.old.me.0, [])) }
+    ensures views { (seat.new.me ≡ (view_keeping rooms seat.old.me.0, []))
+        × (result.me ≡ (view_giving rooms seat.old.me.0, [])) }
 {
     words.split_seat::<Cut<B>>(seat)
 }
@@ -47,20 +50,23 @@ pub(crate) fn split<E: Drop>(
     requires table { (seat.old.table_id ≡ words.now.table_id) × IsTable words.now.table_id }
     requires rest { IsResting words.now.table_id.slots seat.old.me }
     ensures table { (seat.new.table_id ≡ seat.old.table_id) × (result.table_id ≡ seat.old.table_id) }
-    ensures views { (seat.new.me ≡ (view_keeping rooms seat.old.me.0, [])) × (result.me ≡ (view_giving rooms seat.old.me.0, [])) }
+    ensures views { (seat.new.me ≡ (view_keeping rooms seat.old.me.0, []))
+        × (result.me ≡ (view_giving rooms seat.old.me.0, [])) }
 {
     cut::<E, Brand>(words, seat, rooms)
 }
 
 /// Takes another seat in. What one had seen begins what the other had.
 pub(crate) fn absorb<E: Drop>(words: &Words<E>, seat: &mut PartySeat<E>, other: PartySeat<E>)
-    requires table { (seat.old.table_id ≡ words.now.table_id) × (other.table_id ≡ words.now.table_id) × IsTable words.now.table_id }
+    requires table { (seat.old.table_id ≡ words.now.table_id) × (other.table_id ≡ words.now.table_id)
+        × IsTable words.now.table_id }
     requires rest { IsResting words.now.table_id.slots seat.old.me × IsResting words.now.table_id.slots other.me }
     ensures table { seat.new.table_id ≡ seat.old.table_id }
     ensures views { seat.new.me ≡ (view_without_told (view_absorbing seat.old.me.0 other.me.0), []) }
     ensures known { IsKnown (λ h. LegalReversed h) (view_absorbing seat.old.me.0 other.me.0).known }
     ensures few { length seat.new.me.0.free ≤ words.now.table_id.slots }
-    ensures still { (view_absorbing seat.old.me.0 other.me.0).known.share ≡ whole → IsStill (plain (view_absorbing seat.old.me.0 other.me.0).known.seen) }
+    ensures still { (view_absorbing seat.old.me.0 other.me.0).known.share ≡ whole
+        → IsStill (plain (view_absorbing seat.old.me.0 other.me.0).known.seen) }
 {
     words.join_seat::<Merge>(seat, other);
     words.load::<Learn>(seat, 0);

@@ -28,7 +28,8 @@ fn clear<E: Drop, B: Chosen<E>>(words: &Words<E>, seat: &mut PartySeat<E>, room:
 /// Puts the element into the slot in hand, makes its room the head, and answers the old head.
 fn swap_in<E: Drop>(words: &Words<E>, seat: &mut PartySeat<E>, full: Filled<E>) -> u64
     requires table { (seat.old.table_id ≡ words.now.table_id) × IsTable words.now.table_id }
-    requires stage { (seat.old.me.0.stage ≡ Cleared full.ticket) × (seat.old.me.0.item ≡ Some full.item) × (seat.old.me.0.back ≡ []) }
+    requires stage { (seat.old.me.0.stage ≡ Cleared full.ticket) × (seat.old.me.0.item ≡ Some full.item)
+        × (seat.old.me.0.back ≡ []) }
     requires hand { seat.old.me.1 ≡ (full.ticket, None) ∷ [] }
     requires near { (full.ticket < words.now.table_id.slots) × (seat.old.me.0.known.share ≢ []) }
     ensures table { seat.new.table_id ≡ seat.old.table_id }
@@ -43,7 +44,8 @@ fn swap_in<E: Drop>(words: &Words<E>, seat: &mut PartySeat<E>, full: Filled<E>) 
 fn link<E: Drop>(words: &Words<E>, seat: &mut PartySeat<E>, room: usize, old: usize)
     requires table { (seat.old.table_id ≡ words.now.table_id) × IsTable words.now.table_id }
     requires stage { (seat.old.me.0.stage ≡ Swapped room old) × (seat.old.me.0.back ≡ []) × (seat.old.me.1 ≡ []) }
-    requires near { (old < words.now.table_id.slots) × (room < words.now.table_id.slots) × (seat.old.me.0.known.share ≢ []) }
+    requires near { (old < words.now.table_id.slots) × (room < words.now.table_id.slots)
+        × (seat.old.me.0.known.share ≢ []) }
     ensures table { seat.new.table_id ≡ seat.old.table_id }
     ensures rest { (seat.new.me.0.stage ≡ Rest) × (seat.new.me.0.back ≡ []) × (seat.new.me.1 ≡ []) }
     ensures free { seat.new.me.0.free ≡ seat.old.me.0.free }
@@ -60,7 +62,8 @@ pub(crate) fn enqueue<E: Drop>(words: &Words<E>, seat: &mut PartySeat<E>, ticket
     ensures table { seat.new.table_id ≡ seat.old.table_id }
     ensures rest { IsResting words.now.table_id.slots seat.new.me }
     ensures free { seat.old.me.0.free ≡ ticket ∷ seat.new.me.0.free }
-    ensures sees { Sees seat.old.me.0 (Event.Swap (name seat.old.me.0) item ∷ Event.Link (name seat.old.me.0) ∷ []) seat.new.me.0 }
+    ensures sees { Sees seat.old.me.0 (Event.Swap (name seat.old.me.0) item ∷ Event.Link (name seat.old.me.0) ∷ [])
+        seat.new.me.0 }
 {
     let room = ticket.room();
     clear::<E, Brand>(words, seat, room, &item);
@@ -100,8 +103,8 @@ pub(crate) fn take<E: Drop>(words: &Words<E>, seat: &mut PartySeat<E>) -> u64
     words.swap::<Take>(seat, 1, 0)
 }
 
-/// Reads the link of a tail that is no stub, and hands its element out where that leads on: the new tail, and what lay in
-/// the slot. `None` where the link is null.
+/// Reads the link of a tail that is no stub, and hands its element out where that leads on: the new tail, and what lay
+/// in the slot. `None` where the link is null.
 pub(crate) fn look<E: Drop>(
     words: &Words<E>,
     seat: &mut PartySeat<E>,
@@ -113,7 +116,9 @@ pub(crate) fn look<E: Drop>(
     ensures table { seat.new.table_id ≡ seat.old.table_id }
     ensures answer { MatchOption result
         (stands_at (Event.Look (name seat.old.me.0) ∷ []) (Null tail) seat.old.me seat.new.me)
-        (λ r. (r.1.ticket ≡ tail) × HandsOneOut (Event.Look (name seat.old.me.0) ∷ []) words.now.table_id.slots tail r.0 r.1.item seat.old.me seat.new.me) }
+        (λ r. (r.1.ticket ≡ tail)
+        × HandsOneOut (Event.Look (name seat.old.me.0) ∷ []) words.now.table_id.slots tail r.0 r.1.item seat.old.me
+        seat.new.me) }
 {
     let next = words.load::<Look>(seat, tail + 2);
     if next == 0 {

@@ -17,7 +17,9 @@ pub(crate) fn look_first<E: Drop>(words: &Words<E>, seat: &mut PartySeat<E>) -> 
     requires holding { IsHolding words.now.table_id.slots 0 seat.old.me }
     ensures table { seat.new.table_id ≡ seat.old.table_id }
     ensures null { result ≡ 0 → stands_at (Event.Look (name seat.old.me.0) ∷ []) StubNull seat.old.me seat.new.me }
-    ensures room { (r : ℕ) → result ≡ suc r → stands_at (Event.Look (name seat.old.me.0) ∷ []) (Second r) seat.old.me seat.new.me × (r < words.now.table_id.slots) × (r ≢ 0) }
+    ensures room { (r : ℕ) → result ≡ suc r
+        → stands_at (Event.Look (name seat.old.me.0) ∷ []) (Second r) seat.old.me seat.new.me
+        × (r < words.now.table_id.slots) × (r ≢ 0) }
 {
     words.load::<LookStub>(seat, 2)
 }
@@ -76,7 +78,8 @@ fn swap_stub<E: Drop>(words: &Words<E>, seat: &mut PartySeat<E>, _tail: usize) -
 
 fn link_stub<E: Drop>(words: &Words<E>, seat: &mut PartySeat<E>, _tail: usize, old: usize)
     requires table { (seat.old.table_id ≡ words.now.table_id) × IsTable words.now.table_id }
-    requires stage { IsAtStage words.now.table_id.slots (PutLink _tail old) seat.old.me × (old < words.now.table_id.slots) }
+    requires stage { IsAtStage words.now.table_id.slots (PutLink _tail old) seat.old.me
+        × (old < words.now.table_id.slots) }
     ensures table { seat.new.table_id ≡ seat.old.table_id }
     ensures answer { stands_at [] (PutRead _tail) seat.old.me seat.new.me }
 {

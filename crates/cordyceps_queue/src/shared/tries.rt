@@ -60,7 +60,8 @@ fn look_stub<E: Drop>(words: &Words<E>, seat: &mut PartySeat<E>) -> (u64, Tried<
     requires table { (seat.old.table_id ≡ words.now.table_id) × IsTable words.now.table_id }
     requires holding { IsHolding words.now.table_id.slots 0 seat.old.me }
     ensures table { seat.new.table_id ≡ seat.old.table_id }
-    ensures answer { Tries (Event.Look (name seat.old.me.0) ∷ []) words.now.table_id.slots seat.old.me seat.new.me result.0 result.1 }
+    ensures answer { Tries (Event.Look (name seat.old.me.0) ∷ []) words.now.table_id.slots seat.old.me seat.new.me
+        result.0 result.1 }
 {
     let next = look_first(words, seat);
     if next != 0 {
@@ -81,7 +82,8 @@ pub(crate) fn advance<E: Drop>(
     requires table { (seat.old.table_id ≡ words.now.table_id) × IsTable words.now.table_id }
     requires holding { IsHolding words.now.table_id.slots tail seat.old.me }
     ensures table { seat.new.table_id ≡ seat.old.table_id }
-    ensures answer { Tries (Event.Look (name seat.old.me.0) ∷ []) words.now.table_id.slots seat.old.me seat.new.me result.0 result.1 }
+    ensures answer { Tries (Event.Look (name seat.old.me.0) ∷ []) words.now.table_id.slots seat.old.me seat.new.me
+        result.0 result.1 }
 {
     if tail == 0 {
         return look_stub(words, seat);

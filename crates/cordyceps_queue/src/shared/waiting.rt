@@ -24,10 +24,11 @@ fn found_nothing(why: TryDequeueError) -> bool
 }
 
 impl<T: Linked<Links<T>>> MpscQueue<T> {
-    /// Takes the oldest element out, by as many tries as it takes, and pauses between them. `None` where nothing was held.
+    /// Takes the oldest element out, by as many tries as it takes, and pauses between them. `None` where nothing was
+    /// held.
     ///
-    /// It waits while another party has the right, and while the oldest element or the one behind it is not linked yet. If
-    /// that never ends, it never returns. A whole party's first try is its last.
+    /// It waits while another party has the right, and while the oldest element or the one behind it is not linked yet.
+    /// If that never ends, it never returns. A whole party's first try is its last.
     pub fn dequeue<R: Wait>(&self, rt: &R, party: &mut Party<T>) -> Option<T::Handle>
         requires { party.old.table ≡ self.now.table }
         ensures same { IsSame party.old party.new }
@@ -49,8 +50,8 @@ impl<T: Linked<Links<T>>> MpscQueue<T> {
         unreachable!()
     }
 
-    /// Takes the right to dequeue, by as many tries as it takes, and pauses between them. While another party has the right
-    /// it waits, and if that never ends, it never returns. A whole party's first try is its last.
+    /// Takes the right to dequeue, by as many tries as it takes, and pauses between them. While another party has the
+    /// right it waits, and if that never ends, it never returns. A whole party's first try is its last.
     pub fn consume<R: Wait>(&self, rt: &R, party: Party<T>) -> Consumer<'_, T>
         requires { party.table ≡ self.now.table }
         ensures same { IsSame party result }
@@ -95,10 +96,11 @@ impl<T: Linked<Links<T>>> MpscQueue<T> {
 }
 
 impl<'a, T: Linked<Links<T>>> Consumer<'a, T> {
-    /// Takes the oldest element out, by as many tries as it takes, and pauses between them. `None` where nothing was held.
+    /// Takes the oldest element out, by as many tries as it takes, and pauses between them. `None` where nothing was
+    /// held.
     ///
-    /// It waits while the oldest element or the one behind it is not linked yet. If that never ends, it never returns. A
-    /// whole party's first try is its last.
+    /// It waits while the oldest element or the one behind it is not linked yet. If that never ends, it never returns.
+    /// A whole party's first try is its last.
     pub fn dequeue<R: Wait>(&mut self, rt: &R) -> Option<T::Handle>
         ensures same { IsSame self.old self.new }
         ensures answer { AtLast (Consumes (Err error.Inconsistent)) (Consumes (try_result result)) self.old self.new }
@@ -121,14 +123,16 @@ impl<'a, T: Linked<Links<T>>> Consumer<'a, T> {
 }
 
 impl<T: Linked<Links<T>>> OwnedConsumer<T> {
-    /// Takes the oldest element out, by as many tries as it takes, and pauses between them. `None` where nothing was held.
+    /// Takes the oldest element out, by as many tries as it takes, and pauses between them. `None` where nothing was
+    /// held.
     ///
-    /// It waits while the oldest element or the one behind it is not linked yet. If that never ends, it never returns. A
-    /// whole party's first try is its last.
+    /// It waits while the oldest element or the one behind it is not linked yet. If that never ends, it never returns.
+    /// A whole party's first try is its last.
     pub fn dequeue<R: Wait>(&mut self, rt: &R) -> Option<T::Handle>
         ensures queue { self.new.queue ≡ self.old.queue }
         ensures same { IsSame self.old.party self.new.party }
-        ensures answer { AtLast (Consumes (Err error.Inconsistent)) (Consumes (try_result result)) self.old.party self.new.party }
+        ensures answer { AtLast (Consumes (Err error.Inconsistent)) (Consumes (try_result result)) self.old.party
+            self.new.party }
         ensures whole { self.old.party.share ≡ whole → Consumes (try_result result) self.old.party self.new.party }
     {
         let backoff = Backoff::new();

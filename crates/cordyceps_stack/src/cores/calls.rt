@@ -21,9 +21,10 @@ type Answered<E> = Result<TransferAnswer<E>, (StepError, Option<E>)>;
 
 /// The core of a transfer stack: a plain value whose steps named parties take one at a time, in any order.
 ///
-/// A party pushes an element by `Load`, `SetNext` and `Exchange`, which needs a free room of its own, and takes all that
-/// is held by `Take` and as many times `Walk` as it took elements, whose rooms become its free ones. Steps of other
-/// parties may come between. A contract sees the core as a machine: `head`, the rooms, and where each party stands.
+/// A party pushes an element by `Load`, `SetNext` and `Exchange`, which needs a free room of its own, and takes all
+/// that is held by `Take` and as many times `Walk` as it took elements, whose rooms become its free ones. Steps of
+/// other parties may come between. A contract sees the core as a machine: `head`, the rooms, and where each party
+/// stands.
 #[derive(Drop)]
 pub struct TransferCore<E> {
     alloc: Global,
@@ -93,11 +94,11 @@ impl<E: Drop> TransferCore<E> {
         }
     }
 
-    /// Takes a step of a party. No step takes memory; `Load` looks through the rooms for a free one, and each other step
-    /// takes the same time whatever the core holds.
+    /// Takes a step of a party. No step takes memory; `Load` looks through the rooms for a free one, and each other
+    /// step takes the same time whatever the core holds.
     ///
-    /// `NotThere` where there is no such party, it is not at that step, or it has no free room for a `Load`. This changes
-    /// nothing and gives the element back. `Memory` never comes.
+    /// `NotThere` where there is no such party, it is not at that step, or it has no free room for a `Load`. This
+    /// changes nothing and gives the element back. `Memory` never comes.
     pub fn step(
         &mut self,
         party: usize,
@@ -117,7 +118,8 @@ impl<E: Drop> TransferCore<E> {
         // What a party's walks hand out, and then what is left of them, are the batches that it took.
         ensures walks { (h : List (Event ℕ E))
             → CoreMeets h self.old
-            → HandsOn h self.old (h ++ step_events h self.old party step result) self.new (only party (given_by result)) }
+            → HandsOn h self.old (h ++ step_events h self.old party step result) self.new
+            (only party (given_by result)) }
     {
         match self.stage_of(party) {
             Some(stage) => self.act(party, step, stage),
@@ -128,8 +130,8 @@ impl<E: Drop> TransferCore<E> {
     /// Pushes an element by a party's three steps, with no step of another between, and tells whether nothing was held.
     /// It takes no memory; it looks through the rooms for a free one.
     ///
-    /// `NotThere` where there is no such party, it is not at rest, or it has no free room. This changes nothing and gives
-    /// the element back. `Memory` never comes.
+    /// `NotThere` where there is no such party, it is not at rest, or it has no free room. This changes nothing and
+    /// gives the element back. `Memory` never comes.
     pub fn push_was_empty(&mut self, party: usize, element: E) -> Result<bool, (StepError, E)>
         ensures accepted { is_ok result ≡ is_ready self.old party }
         ensures err { IfErr result (λ e. (e ≡ (StepError.NotThere, element)) × (self.new ≡ self.old)) }
@@ -137,7 +139,8 @@ impl<E: Drop> TransferCore<E> {
             × (self.new ≡ after core_step self.old (push_steps party element))) }
         ensures history { IfOk result (λ was_empty. (h : List (Event ℕ E))
             → CoreMeets h self.old
-            → CoreMeets ((h ++ Load party ∷ []) ++ Push party element ∷ []) self.new × ((was_empty ≡ true) ↔ (held h ≡ []))) }
+            → CoreMeets ((h ++ Load party ∷ []) ++ Push party element ∷ []) self.new
+            × ((was_empty ≡ true) ↔ (held h ≡ []))) }
         ensures walks { OnOk result ((h : List (Event ℕ E))
             → CoreMeets h self.old
             → HandsOn h self.old ((h ++ Load party ∷ []) ++ Push party element ∷ []) self.new (λ _. [])) }
@@ -155,14 +158,15 @@ impl<E: Drop> TransferCore<E> {
     /// Takes all that is held, newest first, by a party's steps with no step of another between. The rooms of what was
     /// taken become free ones of the party.
     ///
-    /// `NotThere` where there is no such party or it is not at rest, and `Memory` where there is none for as many elements
-    /// as there are rooms in use, for which room is made before the first step. Both change nothing. It goes through the
-    /// rooms once, to count these, and then through what is held.
+    /// `NotThere` where there is no such party or it is not at rest, and `Memory` where there is none for as many
+    /// elements as there are rooms in use, for which room is made before the first step. Both change nothing. It goes
+    /// through the rooms once, to count these, and then through what is held.
     pub fn take_all(&mut self, party: usize) -> Result<Vec<E>, StepError>
         ensures not_there { (result ≡ Err StepError.NotThere) ↔ IsFalse (is_at_rest self.old party) }
         ensures err { OnErr result (self.new ≡ self.old) }
         ensures batch { IfOk result (λ batch. batch.items ≡ held_in self.old) }
-        ensures ok { IfOk result (λ batch. self.new ≡ after core_step self.old (take_steps party (length batch.items))) }
+        ensures ok { IfOk result
+            (λ batch. self.new ≡ after core_step self.old (take_steps party (length batch.items))) }
         ensures history { IfOk result (λ batch. (h : List (Event ℕ E))
             → CoreMeets h self.old
             → (batch.items ≡ reverse (held h)) × CoreMeets (h ++ Taken party batch.items ∷ []) self.new) }

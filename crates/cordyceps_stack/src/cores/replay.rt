@@ -8,11 +8,11 @@ use crate::cores::steps::TransferStep;
 use std::alloc::Global;
 use std::collections::VecDeque;
 
-/// Takes steps, each with the number of its party, in order, and keeps the replies. A step that is refused as `NotThere`
-/// is a reply too, and the next one follows.
+/// Takes steps, each with the number of its party, in order, and keeps the replies. A step that is refused as
+/// `NotThere` is a reply too, and the next one follows.
 ///
-/// Room for a reply is made before its step. Where memory for it is refused the replay stops, and that step is the first
-/// of the rest; what was taken stays taken. Each step takes the time that it takes by itself.
+/// Room for a reply is made before its step. Where memory for it is refused the replay stops, and that step is the
+/// first of the rest; what was taken stays taken. Each step takes the time that it takes by itself.
 pub fn replay<E: Drop>(
     alloc: Global,
     mut core: TransferCore<E>,

@@ -18,10 +18,11 @@ use cordyceps_shared::tickets::Tickets;
 use std::alloc::{AllocError, Global};
 use std::marker::Model;
 
-/// A stack that threads share without a lock. They push to it one element at a time, and take all that it holds at once.
+/// A stack that threads share without a lock. They push to it one element at a time, and take all that it holds at
+/// once.
 ///
-/// It has as many rooms as its maker chose, each for one element. Each call is made by a party, which has some
-/// of the rooms and what it has seen of the stack's history (for contracts alone). Elements go in by handles, and the same
+/// It has as many rooms as its maker chose, each for one element. Each call is made by a party, which has some of the
+/// rooms and what it has seen of the stack's history (for contracts alone). Elements go in by handles, and the same
 /// elements come out, the last pushed first. No call on a made stack takes memory.
 ///
 /// A contract sees which table the stack has: `party.table` is that of its own stack. A drop drops what is held.
@@ -45,9 +46,9 @@ impl<T: Linked<Links<T>>> Model for TransferStack<T> {
 
 /// The right to act on one stack, with a number of rooms. It can be sent to a thread where `T::Handle` can.
 ///
-/// A contract sees its stack, the history that it has seen with a mark at its own events, its share of names, and how many
-/// rooms it has. A party whose share is the empty word alone is whole: it took back all that were split off. The rooms of a
-/// party that is dropped are lost for good, and no party is whole afterwards.
+/// A contract sees its stack, the history that it has seen with a mark at its own events, its share of names, and how
+/// many rooms it has. A party whose share is the empty word alone is whole: it took back all that were split off. The
+/// rooms of a party that is dropped are lost for good, and no party is whole afterwards.
 #[derive(Drop)]
 pub struct Party<T: Linked<Links<T>>> {
     seat: PartySeat<T::Handle>,
@@ -68,7 +69,8 @@ impl<T: Linked<Links<T>>> Model for Party<T> {
 impl<T: Linked<Links<T>>> Party<T> {
     /// How many rooms the party has: it can push as many elements before it takes some.
     ///
-    /// To a contract it tells what every party knows: what it has seen is legal, and a whole party has seen only its own events.
+    /// To a contract it tells what every party knows: what it has seen is legal, and a whole party has seen only its
+    /// own events.
     pub fn rooms(&self) -> usize
         ensures count { result ≡ self.now.rooms }
         ensures knows { Knows (λ h. Legal h) self.now }
@@ -80,7 +82,8 @@ impl<T: Linked<Links<T>>> Party<T> {
 impl<T: Linked<Links<T>>> TransferStack<T> {
     /// An empty stack with this many rooms, at most `MAX_ROOMS`, and the party that has them all, which is whole.
     ///
-    /// It makes an allocation for each room, and four for the words and slots of all. `AllocError` where one is refused.
+    /// It makes an allocation for each room, and four for the words and slots of all. `AllocError` where one is
+    /// refused.
     pub fn new(alloc: Global, rooms: usize) -> Result<(TransferStack<T>, Party<T>), AllocError>
         requires { rooms ≤ MAX_ROOMS }
         ensures { IfOk result (λ made. made.1 ≡ new_party made.0 rooms) }
@@ -92,9 +95,9 @@ impl<T: Linked<Links<T>>> TransferStack<T> {
 
     /// Tries once to push an element, by one load and one compare-exchange of the stack's head. It waits for nobody.
     ///
-    /// `Ok` tells whether nothing was held just before; the element's room is then in use. `Err` hands the element back,
-    /// and leaves the room. It comes only where another party pushed, or took what was held, between the two steps, and so
-    /// never to a whole party.
+    /// `Ok` tells whether nothing was held just before; the element's room is then in use. `Err` hands the element
+    /// back, and leaves the room. It comes only where another party pushed, or took what was held, between the two
+    /// steps, and so never to a whole party.
     pub fn try_push(&self, party: &mut Party<T>, handle: T::Handle) -> Result<bool, T::Handle>
         requires table { party.old.table ≡ self.now }
         requires room { 0 < party.old.rooms }
@@ -121,8 +124,8 @@ impl<T: Linked<Links<T>>> TransferStack<T> {
         steps::is_empty(&self.rooms.shared, &mut party.seat)
     }
 
-    /// Takes all that is held, the last pushed first, at one swap of the stack's head. The rooms of what was taken become
-    /// the party's. It waits for nobody, and walks through what it took.
+    /// Takes all that is held, the last pushed first, at one swap of the stack's head. The rooms of what was taken
+    /// become the party's. It waits for nobody, and walks through what it took.
     pub fn take_all(&self, party: &mut Party<T>) -> Stack<T>
         requires { party.old.table ≡ self.now }
         ensures { (batch : List T.Handle) × (result ≡ map T.element batch) × Takes batch party.old party.new }
@@ -132,8 +135,8 @@ impl<T: Linked<Links<T>>> TransferStack<T> {
         hand_out(words, &mut party.seat, &mut party.tickets, at)
     }
 
-    /// Gives up some of a party's rooms, and half of its first name, to a new party, which has seen the same history and
-    /// has no event of its own. It reads the head once, and goes through the rooms that it gives up.
+    /// Gives up some of a party's rooms, and half of its first name, to a new party, which has seen the same history
+    /// and has no event of its own. It reads the head once, and goes through the rooms that it gives up.
     pub fn split(&self, party: &mut Party<T>, rooms: usize) -> Party<T>
         requires table { party.old.table ≡ self.now }
         requires rooms { rooms ≤ party.old.rooms }

@@ -31,7 +31,8 @@ fn cut<E: Drop, B: Count>(words: &Words<E>, seat: &mut PartySeat<E>, rooms: usiz
     requires table { IsSeatOf seat.old.table_id words.now.table_id }
     requires rest { IsResting seat.old.me × (B.rooms ≡ rooms) }
     ensures table { (seat.new.table_id ≡ seat.old.table_id) × (result.table_id ≡ seat.old.table_id) }
-    ensures views { (seat.new.me ≡ (view_keeping rooms seat.old.me.0, [])) × (result.me ≡ (view_giving rooms seat.old.me.0, [])) }
+    ensures views { (seat.new.me ≡ (view_keeping rooms seat.old.me.0, []))
+        × (result.me ≡ (view_giving rooms seat.old.me.0, [])) }
 {
     words.split_seat::<Cut<B>>(seat)
 }
@@ -45,7 +46,8 @@ pub(crate) fn split<E: Drop>(
     requires table { IsSeatOf seat.old.table_id words.now.table_id }
     requires rest { IsResting seat.old.me }
     ensures table { (seat.new.table_id ≡ seat.old.table_id) × (result.table_id ≡ seat.old.table_id) }
-    ensures views { (seat.new.me ≡ (view_keeping rooms seat.old.me.0, [])) × (result.me ≡ (view_giving rooms seat.old.me.0, [])) }
+    ensures views { (seat.new.me ≡ (view_keeping rooms seat.old.me.0, []))
+        × (result.me ≡ (view_giving rooms seat.old.me.0, [])) }
 {
     cut::<E, Brand>(words, seat, rooms)
 }

@@ -42,9 +42,11 @@ fn link<E: Drop>(words: &Words<E>, seat: &mut PartySeat<E>, read: u64, full: Fil
 fn settle<E: Drop>(words: &Words<E>, seat: &mut PartySeat<E>, room: usize, read: u64) -> bool
     requires table { IsSeatOf seat.old.table_id words.now.table_id }
     requires set { (x : E) × (seat.old.me.1 ≡ (room, Some (full_slot room x)) ∷ []) }
-    requires stage { (seat.old.me.0.doing ≡ Set room read) × (seat.old.me.0.known.share ≢ []) × (room < words.now.table_id.slots) }
+    requires stage { (seat.old.me.0.doing ≡ Set room read) × (seat.old.me.0.known.share ≢ [])
+        × (room < words.now.table_id.slots) }
     ensures table { seat.new.table_id ≡ seat.old.table_id }
-    ensures settled { (x : E) → seat.old.me.1 ≡ (room, Some (full_slot room x)) ∷ [] → Settled room read x result seat.old.me seat.new.me }
+    ensures settled { (x : E) → seat.old.me.1 ≡ (room, Some (full_slot room x)) ∷ []
+        → Settled room read x result seat.old.me seat.new.me }
 {
     words.compare_exchange::<Exchange>(seat, 0, read, room as u64 + 1) == read
 }

@@ -10,8 +10,8 @@ use crossbeam_utils::Backoff;
 use std::sync::Wait;
 
 impl<T: Linked<Links<T>>> TransferStack<T> {
-    /// Pushes an element, by as many tries as it takes, and pauses between them. If others push or take without end it may
-    /// never return. A whole party's first try is its last.
+    /// Pushes an element, by as many tries as it takes, and pauses between them. If others push or take without end it
+    /// may never return. A whole party's first try is its last.
     pub fn push<R: Wait>(&self, rt: &R, party: &mut Party<T>, handle: T::Handle)
         requires table { party.old.table ≡ self.now }
         requires room { 0 < party.old.rooms }
