@@ -231,7 +231,7 @@ impl<'a, T: Linked<Links<T>>> CursorMut<'a, T> {
             (place self.old + 1) }
     {
         let at = self.at;
-        self.at = at + 1;
+        self.at += 1;
         self.list.insert_at(at, handle);
     }
 
