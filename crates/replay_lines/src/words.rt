@@ -62,7 +62,7 @@ impl<'a> Words<'a> {
 
     /// Reads the next word. `None` means that there is none, and changes nothing.
     pub fn next_word(&mut self) -> Option<&'a [u8]>
-        ensures { MatchOption result (words_left self.old.rest ≡ [])
+        ensures { MatchOption result ((words_left self.old.rest ≡ []) × (words_left self.new.rest ≡ []))
             (λ word. words_left self.old.rest ≡ word.now ∷ words_left self.new.rest) }
     {
         let rest = self.rest?;
