@@ -1,0 +1,5 @@
+use Rattle.std.proofs.Common.{rules}
+use Rattle.replay_lines.proofs.line_words.item_with.Goals as goal
+
+pub returns : goal.returns
+returns c = search rules
