@@ -1,9 +1,11 @@
 //! Calls of a queue, one after the other.
+ghost use Rattle.std.specs.Prelude.{◌≡◌};
+ghost use Rattle.cordyceps_shared.specs.Shares.{whole};
 
 use crate::compared::same;
 use crate::items::{Handle, dropped, element, elements, gives, has_number, pair};
 use crate::seats::{Seated, consumes, put, takes, with_stub};
-use cordyceps_queue::mpsc_queue::{Closed, Consumer, MpscQueue, TryDequeueError};
+use cordyceps_queue::mpsc_queue::{Closed, Consumer, MpscQueue, Party, TryDequeueError};
 use cordyceps_testing::counted::{Counted, Drops};
 use std::alloc::AllocError;
 use std::process::Abort;
@@ -145,5 +147,43 @@ fn rooms_are_split_and_absorbed(rt: HostRuntime) -> Result<(), AllocError> {
     same(&rt, party.rooms(), 4);
     let Closed { elements, stub: _ } = queue.close(party);
     gives(&rt, elements, &[2]);
+    Ok(())
+}
+
+/// Splits no room off a queue that has none and takes it back, finds nothing held, and closes the queue, which has a
+/// stub of this number, if any.
+fn gives_nothing(
+    rt: &impl Abort,
+    queue: MpscQueue<Counted>,
+    party: Party<Counted>,
+    stub: Option<u64>,
+)
+    requires { (party.table ≡ queue.table) × (party.share ≡ whole) }
+{
+    let mut party = party;
+    let mut other = queue.split(&mut party, 0);
+    same(rt, (party.rooms(), other.rooms()), (0, 0));
+    takes(rt, &queue, &mut other, Err(TryDequeueError::Empty));
+    queue.absorb(&mut party, other);
+    takes(rt, &queue, &mut party, Err(TryDequeueError::Empty));
+    same(rt, party.rooms(), 0);
+    let closed = queue.close(party);
+    gives(rt, closed.elements, &[]);
+    has_number(rt, closed.stub, stub);
+}
+
+#[test]
+fn a_queue_without_rooms_gives_nothing(rt: HostRuntime) -> Result<(), AllocError> {
+    let (queue, party) = MpscQueue::new(rt.alloc(), 0)?;
+    gives_nothing(&rt, queue, party, None);
+    Ok(())
+}
+
+#[test]
+fn a_queue_without_rooms_keeps_its_stub(rt: HostRuntime) -> Result<(), AllocError> {
+    let drops = Drops::new(rt.alloc())?;
+    let stub = element(rt.alloc(), 7, &drops)?;
+    let (queue, party) = with_stub(rt.alloc(), stub, 0)?;
+    gives_nothing(&rt, queue, party, Some(7));
     Ok(())
 }

@@ -69,6 +69,20 @@ fn rooms_are_split_and_absorbed(rt: HostRuntime) -> Result<(), AllocError> {
     Ok(())
 }
 
+#[test]
+fn a_stack_without_rooms_gives_nothing(rt: HostRuntime) -> Result<(), AllocError> {
+    let (stack, mut party) = TransferStack::<Counted>::new(rt.alloc(), 0)?;
+    let mut other = stack.split(&mut party, 0);
+    same(&rt, (party.rooms(), other.rooms()), (0, 0));
+    gives(&rt, stack.take_all(&mut other), &[]);
+    stack.absorb(&mut party, other);
+    same(&rt, stack.is_empty(&mut party), true);
+    gives(&rt, stack.take_all(&mut party), &[]);
+    same(&rt, party.rooms(), 0);
+    gives(&rt, stack.close(party), &[]);
+    Ok(())
+}
+
 /// A party pushes an element, and is dropped with a room.
 fn push_and_leave(rt: &impl Abort, mut seat: Seated<'_>, handle: Handle) {
     seat.pushes(rt, handle, true);

@@ -3,6 +3,7 @@ use crate::blocks::{Handle, block, dropped, gives, pair};
 use crate::compared::same;
 use crate::users::{Remote, finishes, gets, puts};
 use cordyceps_testing::counted::{Counted, Drops};
+use cordyceps_testing::nodes::number;
 use freelist::{FreeList, Local};
 use std::alloc::AllocError;
 use std::process::Abort;
@@ -50,6 +51,21 @@ fn a_close_gives_what_is_shared(rt: HostRuntime) -> Result<(), AllocError> {
     list.absorb(&mut party, other);
     same(&rt, party.rooms(), 3);
     gives(&rt, list.close(party), &[2, 1]);
+    Ok(())
+}
+
+#[test]
+fn a_free_list_without_rooms_shares_nothing(rt: HostRuntime) -> Result<(), AllocError> {
+    let (list, mut party) = FreeList::<Counted>::new(rt.alloc(), 0)?;
+    let other = list.split(&mut party, 0);
+    same(&rt, (party.rooms(), other.rooms()), (0, 0));
+    let mut local = list.local(other);
+    same(&rt, number(local.get()), None);
+    let (blocks, other) = local.finish();
+    gives(&rt, blocks, &[]);
+    list.absorb(&mut party, other);
+    same(&rt, party.rooms(), 0);
+    gives(&rt, list.close(party), &[]);
     Ok(())
 }
 
