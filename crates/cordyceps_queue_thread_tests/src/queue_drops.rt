@@ -3,10 +3,10 @@ ghost use Rattle.std.specs.Prelude.{◌≡◌};
 
 use crate::compared::same;
 use crate::items::{dropped, element, has_number, number};
-use crate::seats::{consumer_of, three_queued};
+use crate::seats::{Seated, consumer_of, consumes, three_queued};
 use cordyceps_base::linked::Linked;
 use cordyceps_base::node::{Node, Refused};
-use cordyceps_queue::mpsc_queue::{Batch, Closed, Links, MpscQueue};
+use cordyceps_queue::mpsc_queue::{Batch, Closed, Links, MpscQueue, TryDequeueError};
 use cordyceps_testing::counted::{Counted, Drops};
 use cordyceps_testing::nodes::node_of;
 use std::alloc::AllocError;
@@ -83,6 +83,30 @@ fn a_dropped_consumer_drops_no_element(rt: HostRuntime) -> Result<(), AllocError
     dropped(&rt, &drops, 1);
     drop(queue);
     dropped(&rt, &drops, 4);
+    Ok(())
+}
+
+/// Has a consumer take so many of the elements 1, 2 and 3, and drops it. The others then come out in order.
+fn leaves_the_others(rt: &impl Abort, mut seat: Seated<'_>, taken: u64) {
+    let mut consumer = seat.split(rt, 0).consumer(rt);
+    for before in 0..taken {
+        consumes(rt, &mut consumer, Ok(before.wrapping_add(1)));
+    }
+    drop(consumer);
+    for before in taken..3 {
+        seat.takes(rt, Ok(before.wrapping_add(1)));
+    }
+    seat.takes(rt, Err(TryDequeueError::Empty));
+}
+
+#[test]
+fn a_dropped_consumer_leaves_what_is_held(rt: HostRuntime) -> Result<(), AllocError> {
+    for taken in 0..4 {
+        let drops = Drops::new(rt.alloc())?;
+        let (queue, party) = three_queued(&rt, rt.alloc(), &drops)?;
+        leaves_the_others(&rt, Seated::at(&queue, party), taken);
+        dropped(&rt, &drops, 3);
+    }
     Ok(())
 }
 
