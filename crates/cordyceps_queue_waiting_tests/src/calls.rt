@@ -1,12 +1,16 @@
 //! Calls of parties and consumers, some of which may wait.
+ghost use Rattle.std.specs.Arc.{arc_value};
+ghost use Rattle.std.specs.Prelude.{◌≡◌};
+
 use crate::compared::same;
 use crate::items::{number, number_of};
-use cordyceps_queue::mpsc_queue::{Consumer, TryDequeueError};
+use cordyceps_queue::mpsc_queue::{Consumer, MpscQueue, OwnedConsumer, Party, TryDequeueError};
 use cordyceps_queue_testing::items::Handle;
 use cordyceps_queue_testing::seats::Seated;
 use cordyceps_testing::counted::Counted;
+use std::alloc::Global;
 use std::process::Abort;
-use std::sync::Wait;
+use std::sync::{Arc, Wait};
 
 /// Puts an element into a room that has to be there.
 pub fn puts(rt: &impl Abort, seat: &mut Seated<'_>, handle: Handle) {
@@ -22,6 +26,20 @@ pub fn dequeue<R: Wait + Abort>(rt: &R, seat: &mut Seated<'_>) -> Option<u64> {
 pub fn consumer_of<'q>(rt: &impl Abort, seat: Seated<'q>) -> Consumer<'q, Counted> {
     match seat.try_consume() {
         Ok(consumer) => consumer,
+        Err(_) => panic!(rt; "nobody else has the right"),
+    }
+}
+
+/// The consumer that owns a queue with others, from which nobody else dequeues.
+pub fn owned_of(
+    rt: &impl Abort,
+    queue: Arc<MpscQueue<Counted>, Global>,
+    party: Party<Counted>,
+) -> OwnedConsumer<Counted>
+    requires { party.table ≡ (arc_value queue).table }
+{
+    match MpscQueue::try_consume_owned(queue, party) {
+        Ok(owned) => owned,
         Err(_) => panic!(rt; "nobody else has the right"),
     }
 }

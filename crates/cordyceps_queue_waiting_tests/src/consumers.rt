@@ -2,6 +2,7 @@
 ghost use Rattle.std.specs.Arc.{arc_value};
 ghost use Rattle.std.specs.Prelude.{◌≡◌};
 
+use crate::calls::owned_of;
 use crate::compared::{has_room, same};
 use crate::flags::{Flags, await_flag, watched};
 use crate::items::{dropped, number_of};
@@ -80,10 +81,7 @@ impl Owner {
 
     /// The consumer, where nobody else dequeues.
     fn consumer(self, rt: &impl Abort) -> OwnedConsumer<Counted> {
-        match MpscQueue::try_consume_owned(self.queue, self.party) {
-            Ok(owned) => owned,
-            Err(_) => panic!(rt; "nobody else has the right"),
-        }
+        owned_of(rt, self.queue, self.party)
     }
 
     /// Waits for the right, and sets the flag.
@@ -146,6 +144,32 @@ fn the_last_owner_frees_the_queue(rt: HostRuntime) -> Result<(), AllocError> {
     dropped(&rt, &drops, 2);
     drop(other.consumer(&rt));
     dropped(&rt, &drops, 3);
+    Ok(())
+}
+
+/// Has an owner's consumer take so many of the elements 1, 2 and 3, and drops it. The other owner then gets those that
+/// are left, in order.
+fn leaves_the_others(rt: &impl Abort, owner: Owner, other: Owner, taken: u64) {
+    let (mut owned, mut other) = (owner.consumer(rt), other);
+    for before in 0..taken {
+        same(rt, found(owned.try_dequeue()), Ok(before.wrapping_add(1)));
+    }
+    drop(owned);
+    for before in taken..3 {
+        other.takes(rt, Ok(before.wrapping_add(1)));
+    }
+    other.takes(rt, Err(TryDequeueError::Empty));
+}
+
+#[test]
+fn a_dropped_owned_consumer_leaves_what_is_held(rt: HostRuntime) -> Result<(), AllocError> {
+    for taken in 0..4 {
+        let drops = Drops::new(rt.alloc())?;
+        let mut owner = Owner::holding(&rt, rt.alloc(), 3, &drops)?;
+        let other = owner.share()?;
+        leaves_the_others(&rt, owner, other, taken);
+        dropped(&rt, &drops, 3);
+    }
     Ok(())
 }
 
