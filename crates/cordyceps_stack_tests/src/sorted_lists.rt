@@ -108,6 +108,24 @@ fn counts_of<O: Order<Asked>>(
     Ok(seen)
 }
 
+/// Inserts elements with these numbers, by `insert`. Answers how many comparisons there were so far behind each.
+fn asked_by_insert<O: Order<Asked>>(
+    list: &mut SortedList<Asked, O>,
+    alloc: Global,
+    numbers: &[u64],
+    counts: &Rc<Counts, Global>,
+) -> Result<Vec<u64>, AllocError>
+    requires { O.can_compare list.old.1 }
+    ensures { list.new.1 ≡ list.old.1 }
+{
+    let mut asked = Vec::new(alloc);
+    for number in numbers {
+        list.insert(node(alloc, *number, counts)?);
+        asked.push(counts.compared.get())?;
+    }
+    Ok(asked)
+}
+
 #[test]
 fn keeps_equals_by_arrival(rt: HostRuntime) -> Result<(), Fail> {
     let counts = no_counts(rt.alloc())?;
@@ -128,7 +146,7 @@ fn keeps_equals_by_arrival(rt: HostRuntime) -> Result<(), Fail> {
 }
 
 // 10 asks nothing. 20, 20 again and 30 ask the last alone. 15 asks 20, which is last, and then 10 and 20; 5 asks 30 and 10;
-// 25 asks 30, and then all six from 5 on.
+// 25 asks 30, and then all six from 5 on. `insert` asks as often, in the list that was popped empty.
 #[test]
 fn counts_what_it_asks(rt: HostRuntime) -> Result<(), Fail> {
     let counts = no_counts(rt.alloc())?;
@@ -140,6 +158,9 @@ fn counts_what_it_asks(rt: HostRuntime) -> Result<(), Fail> {
         seen.as_slice(),
         &[(0, 0), (1, 1), (2, 2), (5, 5), (6, 6), (8, 8), (15, 15)],
     );
+    pops(&rt, &mut list, &[5, 10, 15, 20, 20, 25, 30]);
+    let asked = asked_by_insert(&mut list, rt.alloc(), &numbers, &counts)?;
+    same(&rt, asked.as_slice(), &[15, 16, 17, 20, 21, 23, 30]);
     pops(&rt, &mut list, &[5, 10, 15, 20, 20, 25, 30]);
     Ok(())
 }

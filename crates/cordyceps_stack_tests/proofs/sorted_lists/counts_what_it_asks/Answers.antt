@@ -26,3 +26,15 @@ counts_of-requires-clause-order g c = (
     },
   ),
 )
+
+pub asked_by_insert-requires : goal.asked_by_insert-requires
+asked_by_insert-requires g c = (
+  search rules,
+  (
+    (λ x y. nat_cmp x.value y.value),
+    record {
+      lawful = preorder_from_total (on_total (λ (x : Asked). x.value) nat_cmp_total);
+      answers = λ x y r h. rw (← h.shows.0, ← h.shows.1) (search rules);
+    },
+  ),
+)
