@@ -1,6 +1,7 @@
 //! Sorted lists in a type's own order, from the least and from the greatest.
 use crate::compared::same;
 use crate::number::{Number, make};
+use cordyceps_base::steps::Steps;
 use cordyceps_stack::sorted_list::{Greatest, Least, Order, SortedList};
 use cordyceps_stack::stack::Stack;
 use cordyceps_testing::nodes::number;
@@ -69,6 +70,29 @@ fn pops_the_greatest(rt: HostRuntime) -> Result<(), Fail> {
     pops(&rt, &mut list, &FALLING);
     let mut list = SortedList::from_stack_max(two(rt.alloc(), 5, 6)?);
     pops(&rt, &mut list, &[6, 5]);
+    Ok(())
+}
+
+/// Numbers that come in, and how often each asks the order: at least, and at most.
+const ASKING: [(u64, u64, u64); 6] = [
+    (10, 0, 0),
+    (20, 1, 1),
+    (20, 1, 1),
+    (15, 0, 4),
+    (30, 1, 1),
+    (5, 0, 6),
+];
+
+#[test]
+fn counts_what_insertions_ask(rt: HostRuntime) -> Result<(), Fail> {
+    let mut list: SortedList<Number, Least> = SortedList::new_min();
+    for (number, least, most) in &ASKING {
+        let mut steps = Steps::new();
+        list.insert_in(make(rt.alloc(), *number)?, &mut steps);
+        let asked = steps.count();
+        same(&rt, asked, asked.max(*least).min(*most));
+    }
+    pops(&rt, &mut list, &[5, 10, 15, 20, 20, 30]);
     Ok(())
 }
 
