@@ -1,19 +1,21 @@
 //! Calls that wait beside four producers, whose elements are put in before they are linked.
+ghost use Rattle.std.specs.Arc.{arc_value};
+ghost use Rattle.std.specs.Prelude.{◌≡◌};
 
-use crate::calls::{consumer_of, dequeue};
+use crate::calls::{consumer_of, dequeue, owned_of};
 use crate::compared::same;
 use crate::flags::watched;
 use crate::items::{dropped, number_of};
 use crate::made::Made;
 use crate::producers::{Pair, produce_two};
-use cordyceps_queue::mpsc_queue::Consumer;
+use cordyceps_queue::mpsc_queue::{Consumer, MpscQueue, OwnedConsumer, Party};
 use cordyceps_queue_testing::items::{Handle, elements};
 use cordyceps_queue_testing::seats::Seated;
 use cordyceps_testing::counted::{Counted, Drops};
 use std::alloc::{AllocError, Global};
 use std::process::Abort;
-use std::sync::Wait;
 use std::sync::atomic::{AtomicBool, Ordering};
+use std::sync::{Arc, Wait};
 use std::thread;
 use std::thread::Threads;
 
@@ -40,11 +42,39 @@ fn two_seats<'q>(seat: &mut Seated<'q>) -> Pair<Seated<'q>> {
     (seat.split(1000), seat.split(1000))
 }
 
-/// Who takes: a party by calls of the queue, or a consumer.
+/// By whose calls elements come out: a party's, a consumer's, or those of one that owns the queue with others.
+#[derive(Clone, Copy)]
+enum By {
+    Party,
+    Consumer,
+    Owned,
+}
+
+/// Who takes.
 #[derive(Drop)]
 enum Taker<'q> {
     Party(Seated<'q>),
     Consumer(Consumer<'q, Counted>),
+    Owned(OwnedConsumer<Counted>),
+}
+
+/// Who takes by such calls, as this party.
+fn taker_of<'q>(
+    rt: &impl Abort,
+    by: By,
+    queue: &'q Arc<MpscQueue<Counted>, Global>,
+    party: Party<Counted>,
+) -> Result<Taker<'q>, AllocError>
+    requires { party.table ≡ (arc_value queue.now).table }
+{
+    match by {
+        By::Party => Ok(Taker::Party(Seated::at(queue, party))),
+        By::Consumer => Ok(Taker::Consumer(consumer_of(rt, Seated::at(queue, party)))),
+        By::Owned => {
+            let share = Arc::try_clone(queue)?;
+            Ok(Taker::Owned(owned_of(rt, share, party)))
+        }
+    }
 }
 
 /// The number of what a call gives that waits, or none where nothing was held.
@@ -52,6 +82,7 @@ fn take<R: Wait + Abort>(rt: &R, taker: &mut Taker<'_>) -> Option<u64> {
     match taker {
         Taker::Party(seat) => dequeue(rt, seat),
         Taker::Consumer(consumer) => number_of(rt, consumer.dequeue(rt)),
+        Taker::Owned(owned) => number_of(rt, owned.dequeue(rt)),
     }
 }
 
@@ -89,43 +120,52 @@ fn meet<R: Threads + Wait + Abort + Sync>(
     thread::join(rt, put_all, move || watched(rt, done, take));
 }
 
-/// Has four producers and a party, or its consumer, meet at a queue.
+/// Has four producers and one who takes by such calls meet at a queue.
 fn round<R: Threads + Wait + Abort + Sync>(
     rt: &R,
     alloc: Global,
-    as_consumer: bool,
+    by: By,
 ) -> Result<(), AllocError> {
     let Made {
         drops,
         row,
         queue,
-        party,
+        mut party,
     } = Made::new(alloc, 4000, 0, 1000)?;
     let rows = four_rows(alloc, row, &drops)?;
+    let queue = Arc::new(alloc, queue)?;
+    let other = queue.split(&mut party, 0);
+    let taker = taker_of(rt, by, &queue, other)?;
     let mut seat = Seated::at(&queue, party);
     let seats = (two_seats(&mut seat), two_seats(&mut seat));
-    let taker = if as_consumer {
-        Taker::Consumer(consumer_of(rt, seat))
-    } else {
-        Taker::Party(seat)
-    };
     meet(rt, taker, seats, rows);
     dropped(rt, &drops, 4000);
     Ok(())
 }
 
-#[test]
-fn dequeue_goes_on_beside_producers(rt: HostRuntime) -> Result<(), AllocError> {
+/// Has them meet in each round.
+fn rounds<R: Threads + Wait + Abort + Sync>(
+    rt: &R,
+    alloc: Global,
+    by: By,
+) -> Result<(), AllocError> {
     for _ in 0..ROUNDS {
-        round(&rt, rt.alloc(), false)?;
+        round(rt, alloc, by)?;
     }
     Ok(())
 }
 
 #[test]
+fn dequeue_goes_on_beside_producers(rt: HostRuntime) -> Result<(), AllocError> {
+    rounds(&rt, rt.alloc(), By::Party)
+}
+
+#[test]
 fn a_consumer_dequeues_beside_producers(rt: HostRuntime) -> Result<(), AllocError> {
-    for _ in 0..ROUNDS {
-        round(&rt, rt.alloc(), true)?;
-    }
-    Ok(())
+    rounds(&rt, rt.alloc(), By::Consumer)
+}
+
+#[test]
+fn an_owned_consumer_dequeues_beside_producers(rt: HostRuntime) -> Result<(), AllocError> {
+    rounds(&rt, rt.alloc(), By::Owned)
 }
