@@ -1,4 +1,4 @@
-//! Numbers that count how often they are compared, and how often they are dropped.
+//! Numbers that count how often they are compared, and how often they are dropped, and in which order.
 ghost use Rattle.std.specs.Prelude.{◌≡◌, ◌/◌};
 ghost use Rattle.std.specs.Ordering.{nat_cmp};
 
@@ -18,6 +18,8 @@ pub struct Counts {
     pub compared: Cell<u64>,
     /// How many values were dropped.
     pub dropped: Cell<u64>,
+    /// Their numbers, of two digits each, in the order of the drops.
+    pub order: Cell<u64>,
 }
 
 /// A number whose comparisons and whose drop are counted.
@@ -28,8 +30,10 @@ pub struct Asked {
 
 impl Drop for Asked {
     fn drop(self) {
-        let Asked { value: _, counts } = self;
+        let Asked { value, counts } = self;
         counts.dropped.set(counts.dropped.get().wrapping_add(1));
+        let order = counts.order.get().wrapping_mul(100);
+        counts.order.set(order.wrapping_add(value));
     }
 }
 
@@ -82,6 +86,7 @@ pub fn no_counts(alloc: Global) -> Result<Rc<Counts, Global>, AllocError> {
         Counts {
             compared: Cell::new(0),
             dropped: Cell::new(0),
+            order: Cell::new(0),
         },
     )?)
 }

@@ -218,6 +218,7 @@ fn slist_basic(rt: HostRuntime) -> Result<(), Fail> {
     Ok(())
 }
 
+// 10 and 20 come out. The drop frees 25, 30 and 35, in this order.
 #[test]
 fn a_drop_frees_what_is_left(rt: HostRuntime) -> Result<(), Fail> {
     let counts = no_counts(rt.alloc())?;
@@ -227,6 +228,7 @@ fn a_drop_frees_what_is_left(rt: HostRuntime) -> Result<(), Fail> {
     drop(list.pop_front());
     same(&rt, counts.dropped.get(), 2);
     drop(list);
-    same(&rt, counts.dropped.get(), 5);
+    let freed = (counts.dropped.get(), counts.order.get());
+    same(&rt, freed, (5, 1_020_253_035));
     Ok(())
 }
