@@ -319,9 +319,15 @@ fn turns_over(rt: &impl Abort, cursor: &mut CursorMut<'_, Item>) {
     }
 }
 
-/// Puts the items below `MANY` into the list.
-fn put_many(rt: &impl Abort, alloc: Global, list: &mut List<Item>) -> Result<(), AllocError> {
-    for v in 0..MANY {
+/// Puts the items from one up to before another last.
+fn put_many(
+    rt: &impl Abort,
+    alloc: Global,
+    list: &mut List<Item>,
+    from: u64,
+    to: u64,
+) -> Result<(), AllocError> {
+    for v in from..to {
         push_back(rt, alloc, list, v)?;
     }
     Ok(())
@@ -340,12 +346,45 @@ fn takes_from_both_ends(rt: &impl Abort, list: &mut List<Item>) {
 #[test]
 fn steps_take_few_moves(rt: HostRuntime) -> Result<(), Fail> {
     let mut list: List<Item> = List::new();
-    put_many(&rt, rt.alloc(), &mut list)?;
+    put_many(&rt, rt.alloc(), &mut list, 0, MANY)?;
     let mut cursor = list.cursor_front_mut();
     goes_forth(&rt, &mut cursor);
     goes_back(&rt, &mut cursor);
     turns_over(&rt, &mut cursor);
     drop(cursor);
     takes_from_both_ends(&rt, &mut list);
+    Ok(())
+}
+
+/// How often the next test looks around behind a splice, halfway between the ends of a list of twice as many items: if a
+/// look took as many moves as were spliced in, the test would not end in its time.
+const LOOKS: u64 = 100_000;
+
+/// Splices a list in behind the cursor, and looks around there.
+fn looks_behind(
+    rt: &impl Abort,
+    cursor: &mut CursorMut<'_, Item>,
+    more: List<Item>,
+    wanted: Sight,
+) {
+    splice_after(rt, cursor, more);
+    for _ in 0..LOOKS {
+        sees(rt, cursor, wanted);
+    }
+}
+
+#[test]
+fn looks_behind_a_splice_take_few_moves(rt: HostRuntime) -> Result<(), Fail> {
+    let alloc = rt.alloc();
+    let (mut list, mut more) = (List::new(), List::new());
+    put_many(&rt, alloc, &mut list, 0, 100_001)?;
+    put_many(&rt, alloc, &mut more, 100_001, 200_000)?;
+    let halfway = (Some(100_000), Some(100_001), Some(99_999), Some(100_000));
+    looks_behind(&rt, &mut list.cursor_back_mut(), more, halfway);
+    let first = list_of(&rt, alloc, &[7])?;
+    let mut cursor = list.cursor_front_mut();
+    cursor.move_prev();
+    let null = (None, Some(7), Some(199_999), None);
+    looks_behind(&rt, &mut cursor, first, null);
     Ok(())
 }

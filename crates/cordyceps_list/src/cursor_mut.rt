@@ -14,8 +14,7 @@ use std::mem;
 /// A cursor by which a list is read and changed. Its place is from 0 to the length, which is the null place, at no
 /// element; moving on from there leads to the first, and back from the first leads there.
 ///
-/// Each call takes a few moves along links, wherever the cursor is, but for `remove_first`, and for the call behind a
-/// `splice_after`, which may go back over what was put in.
+/// Each call takes a few moves along links, wherever the cursor is, but for `remove_first`.
 pub struct CursorMut<'a, T> {
     list: &'a mut List<T>,
     at: usize,
@@ -289,7 +288,7 @@ impl<'a, T: Linked<Links<T>>> CursorMut<'a, T> {
             → Stands self.old self.new (list ++ elements self.old) (length (elements self.old) + length list) }
     {
         if self.at < self.list.len() {
-            self.list.splice_at(self.at + 1, list);
+            self.list.splice_behind(self.at, list);
         } else {
             let more = list.len();
             self.list.splice_at(0, list);

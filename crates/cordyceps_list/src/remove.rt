@@ -86,6 +86,20 @@ impl<T: Linked<Links<T>>> List<T> {
         self.chain.splice(place, at, chain);
     }
 
+    /// Puts all elements of `other` in behind the one at a place. A finger stays on that one, so that a call there takes
+    /// no walk through what was put in.
+    pub(crate) fn splice_behind(&mut self, at: usize, other: List<T>)
+        requires inside { at < length self.old }
+        requires fits { length self.old + length other ≤ usize.MAX }
+        ensures { self.new ≡ take (at + 1) self.old ++ other ++ drop (at + 1) self.old }
+    {
+        let List { chain, fingers: _ } = other;
+        let place = self.fingers.seek(&self.chain, at);
+        let behind = self.chain.next(place, at);
+        self.fingers = self.fingers.after_splice(at + 1, chain.len());
+        self.chain.splice(behind, at + 1, chain);
+    }
+
     /// Puts an element in at a place.
     pub(crate) fn insert_at(&mut self, at: usize, handle: T::Handle)
         requires within { at ≤ length self.old }

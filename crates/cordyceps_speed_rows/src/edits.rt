@@ -44,6 +44,54 @@ fn measure_edits(rt: &impl Clock, list: &mut List<Item>, rounds: u32) -> Result<
     Ok(cost)
 }
 
+/// How often a list is split and spliced at a cursor in a round.
+const SPLICES: usize = 1000;
+
+/// The value of an item, and 0 where there is none.
+fn value_of(item: Option<&Item>) -> u64 {
+    match item {
+        Some(item) => item.value,
+        None => 0,
+    }
+}
+
+/// Splits the list behind the cursor, splices the rest in again, and looks at the cursor's value and those beside it, so
+/// often. Answers the sum of what it saw, modulo 2 to the 64.
+fn splice_and_look(cursor: &mut CursorMut<'_, Item>, splices: usize) -> u64 {
+    let mut sum: u64 = 0;
+    for _ in 0..splices {
+        let rest = cursor.split_after();
+        if cursor.len() > 0x4000_0000_0000_0000 || rest.len() > 0x4000_0000_0000_0000 {
+            return sum;
+        }
+        cursor.splice_after(rest);
+        sum = sum.wrapping_add(value_of(cursor.current()));
+        sum = sum.wrapping_add(value_of(cursor.peek_next()));
+        sum = sum.wrapping_add(value_of(cursor.peek_prev()));
+    }
+    sum
+}
+
+/// Measures splits and splices behind a cursor in the middle, with looks around there. Answers the sum of what they saw
+/// too, modulo 2 to the 64.
+fn measure_splices(
+    rt: &impl Clock,
+    list: &mut List<Item>,
+    rounds: u32,
+) -> Result<(Cost, u64), Fault> {
+    let (mut cost, mut sum) = (Cost::none(), 0u64);
+    for _ in 0..rounds {
+        let middle = list.len() / 2;
+        let mut cursor = list.cursor_front_mut();
+        walk_on(&mut cursor, middle);
+        let mut stopwatch = Stopwatch::start(rt)?;
+        let seen = splice_and_look(&mut cursor, SPLICES);
+        cost.add(SPLICES, stopwatch.look(rt)?);
+        sum = sum.wrapping_add(seen);
+    }
+    Ok((cost, sum))
+}
+
 /// Takes out the elements with an even value.
 fn drain_even(list: &mut List<Item>, even: &mut Vec<ListNode>) -> Result<(), Fault> {
     for node in list.drain_filter(|item: &Item| item.value % 2 == 0) {
@@ -75,7 +123,7 @@ fn measure_drains(
     Ok(cost)
 }
 
-/// Measures edits, and shows them. Answers the sum of the numbers of what came out last.
+/// Measures edits, and shows them. Answers the sum of the values that were seen and of the numbers of what came out last.
 pub fn show_edits<R: Clock + Print>(
     rt: &R,
     alloc: Global,
@@ -84,6 +132,7 @@ pub fn show_edits<R: Clock + Print>(
 ) -> Result<u64, Fault> {
     let mut list = list_of(make_nodes(alloc, elements)?);
     let edits = measure_edits(rt, &mut list, table.rounds)?;
+    let (splices, seen) = measure_splices(rt, &mut list, table.rounds)?;
     let mut nodes = make_nodes(alloc, elements)?;
     let drains = measure_drains(rt, alloc, &mut nodes, table.rounds)?;
     let rows = [
@@ -93,11 +142,16 @@ pub fn show_edits<R: Clock + Print>(
             "remove_current or insert_before",
         ),
         (
+            "List: split_after, splice_after",
+            splices,
+            "both, and a look at three values",
+        ),
+        (
             "List: drain_filter",
             drains,
             "an element asked, half of them taken",
         ),
     ];
     table.rows(rt, elements, &rows)?;
-    Ok(sum_numbers(nodes.as_slice()))
+    Ok(seen.wrapping_add(sum_numbers(nodes.as_slice())))
 }
