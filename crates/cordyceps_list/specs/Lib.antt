@@ -9,3 +9,4 @@ pub mod Walk
 pub mod Filter
 pub mod Places
 pub mod DrainFilter
+pub mod Turns

@@ -1,5 +1,7 @@
 //! Laws of lists. Each is a small function whose contract is the law, and whose body is the calls that it speaks of.
-ghost use Rattle.std.specs.Prelude.{◌≡◌, ◌+◌, ◌<◌, ◌≤◌, ◌++◌, length, option_map, Some};
+ghost use Rattle.std.specs.Prelude.{◌≡◌, ◌+◌, ◌-◌, ◌%◌, ◌*◌, ◌<◌, ◌≤◌, ◌∷◌, [], ◌++◌, length, take, drop, option_map, Some};
+ghost use Rattle.std.specs.Fn.{FnOnceReturnsAt, FnOnceReturnsAtPair};
+ghost use Rattle.cordyceps_list.specs.Turns.{parts_by};
 
 pub mod lending;
 pub mod reading;
@@ -9,46 +11,66 @@ use crate::iter::IntoIter;
 use crate::list::{Links, List};
 use cordyceps_base::linked::Linked;
 
-/// What is pushed first is popped first, and the list is as it was.
-pub fn pop_pushed_front<T: Linked<Links<T>>>(
+/// What is pushed first is popped first, and the list is as it was. Between the two, `look` is shown the list with the
+/// element first; its answer comes first.
+pub fn pop_pushed_front<T: Linked<Links<T>>, R, F: FnOnce(&List<T>) -> R>(
     list: &mut List<T>,
     handle: T::Handle,
-) -> Option<T::Handle>
-    requires { length list.old < usize.MAX }
-    ensures answer { option_map T.element result ≡ Some (T.element handle) }
+    look: F,
+) -> (R, Option<T::Handle>)
+    requires room { length list.old < usize.MAX }
+    requires callable { F.IsAlwaysCallable look }
+    ensures shown { FnOnceReturnsAt F.FnOnce look (T.element handle ∷ list.old) result.0 }
+    ensures answer { option_map T.element result.1 ≡ Some (T.element handle) }
     ensures restored { list.new ≡ list.old }
 {
     list.push_front(handle);
-    list.pop_front()
+    let shown = look(&*list);
+    (shown, list.pop_front())
 }
 
-/// What is pushed last is popped last, and the list is as it was.
-pub fn pop_pushed_back<T: Linked<Links<T>>>(
+/// What is pushed last is popped last, and the list is as it was. Between the two, `look` is shown the list with the
+/// element last; its answer comes first.
+pub fn pop_pushed_back<T: Linked<Links<T>>, R, F: FnOnce(&List<T>) -> R>(
     list: &mut List<T>,
     handle: T::Handle,
-) -> Option<T::Handle>
-    requires { length list.old < usize.MAX }
-    ensures answer { option_map T.element result ≡ Some (T.element handle) }
+    look: F,
+) -> (R, Option<T::Handle>)
+    requires room { length list.old < usize.MAX }
+    requires callable { F.IsAlwaysCallable look }
+    ensures shown { FnOnceReturnsAt F.FnOnce look (list.old ++ T.element handle ∷ []) result.0 }
+    ensures answer { option_map T.element result.1 ≡ Some (T.element handle) }
     ensures restored { list.new ≡ list.old }
 {
     list.push_back(handle);
-    list.pop_back()
+    let shown = look(&*list);
+    (shown, list.pop_back())
 }
 
-/// What is split off and appended again restores the list.
-pub fn append_split_off<T: Linked<Links<T>>>(list: &mut List<T>, at: usize)
-    requires { at ≤ length list.old }
-    ensures { list.new ≡ list.old }
+/// What is split off and appended again restores the list. Between the two, `look` is shown what was kept and what was
+/// split off. Gives its answer.
+pub fn append_split_off<T: Linked<Links<T>>, R, F: FnOnce(&List<T>, &List<T>) -> R>(
+    list: &mut List<T>,
+    at: usize,
+    look: F,
+) -> R
+    requires within { at ≤ length list.old }
+    requires callable { F.IsAlwaysCallable look }
+    ensures shown { FnOnceReturnsAtPair F.FnOnce look (take at list.old) (drop at list.old) result }
+    ensures restored { list.new ≡ list.old }
 {
     prove!(at <= list.len());
     let mut rest = list.split_off(at);
+    let shown = look(&*list, &rest);
     list.append(&mut rest);
+    shown
 }
 
 /// Asks `next`, and puts what it gives behind those from the front.
 fn move_first<T: Linked<Links<T>>>(left: &mut IntoIter<T>, firsts: &mut List<T>)
     requires { length firsts.old + length left.old ≤ usize.MAX }
-    ensures { firsts.new ++ left.new ≡ firsts.old ++ left.old }
+    ensures firsts { firsts.new ≡ firsts.old ++ take 1 left.old }
+    ensures left { left.new ≡ drop 1 left.old }
 {
     if let Some(handle) = left.next() {
         firsts.push_back(handle);
@@ -58,7 +80,8 @@ fn move_first<T: Linked<Links<T>>>(left: &mut IntoIter<T>, firsts: &mut List<T>)
 /// Asks `next_back`, and puts what it gives before those from the back.
 fn move_last<T: Linked<Links<T>>>(left: &mut IntoIter<T>, lasts: &mut List<T>)
     requires { length left.old + length lasts.old ≤ usize.MAX }
-    ensures { left.new ++ lasts.new ≡ left.old ++ lasts.old }
+    ensures lasts { lasts.new ≡ drop (length left.old - 1) left.old ++ lasts.old }
+    ensures left { left.new ≡ take (length left.old - 1) left.old }
 {
     if let Some(handle) = left.next_back() {
         lasts.push_front(handle);
@@ -71,7 +94,9 @@ pub fn take_from_both_ends<T: Linked<Links<T>>>(
     list: List<T>,
     turns: &[bool],
 ) -> (List<T>, IntoIter<T>, List<T>)
-    ensures { result.0 ++ result.1 ++ result.2 ≡ list }
+    ensures turns { let parts = parts_by turns.now list in
+        (result.0 ≡ parts.firsts) × (result.1 ≡ parts.left) × (result.2 ≡ parts.lasts) }
+    ensures once { result.0 ++ result.1 ++ result.2 ≡ list }
 {
     prove!(list.len() <= usize::MAX);
     let mut left = list.into_iter();
@@ -90,24 +115,31 @@ pub fn take_from_both_ends<T: Linked<Links<T>>>(
 impl<'a, T: Linked<Links<T>>> CursorMut<'a, T> {
     ghost use Rattle.cordyceps_list.specs.Cursor.{elements, place, Stands};
 
-    /// One move more than there are elements leads back to the same place.
-    pub fn go_round(&mut self)
-        ensures { Stands self.old self.new (elements self.old) (place self.old) }
+    /// So many moves lead on round the list, whose null place is one more than its elements. One move more than there
+    /// are elements leads back to the same place.
+    pub fn go_on(&mut self, moves: usize)
+        ensures moved { Stands self.old self.new (elements self.old)
+            ((place self.old + moves) % (length (elements self.old) + 1)) }
+        ensures round { moves ≡ length (elements self.old) + 1
+            → Stands self.old self.new (elements self.old) (place self.old) }
     {
-        for _ in 0..self.len() {
+        prove!(self.at() <= self.len());
+        for _ in 0..moves {
             self.move_next();
         }
-        self.move_next();
     }
 
-    /// One move back more than there are elements leads back to the same place.
-    pub fn go_round_back(&mut self)
-        ensures { Stands self.old self.new (elements self.old) (place self.old) }
+    /// So many moves lead back round the list, as each does that is one less than a round. One move more than there are
+    /// elements leads back to the same place.
+    pub fn go_back(&mut self, moves: usize)
+        ensures moved { Stands self.old self.new (elements self.old)
+            ((place self.old + moves * length (elements self.old)) % (length (elements self.old) + 1)) }
+        ensures round { moves ≡ length (elements self.old) + 1
+            → Stands self.old self.new (elements self.old) (place self.old) }
     {
-        let len = self.len();
-        for _ in 0..len {
+        prove!(self.at() <= self.len());
+        for _ in 0..moves {
             self.move_prev();
         }
-        self.move_prev();
     }
 }

@@ -1,8 +1,9 @@
 //! Laws of iterators that lend values to be changed.
-ghost use Rattle.std.specs.Prelude.{◌≡◌, ◌-◌, ◌++◌, length, reverse, IfOk, OnOk};
+ghost use Rattle.std.specs.Prelude.{◌≡◌, ◌-◌, ◌++◌, length, take, drop, reverse, IfOk, OnOk};
 ghost use Rattle.std.specs.Iterator.{YieldsFirst, YieldsLast};
 ghost use Rattle.cordyceps_base.specs.Element.{values};
 ghost use Rattle.cordyceps_list.specs.IterMut.{elements, to_lend, lender};
+ghost use Rattle.cordyceps_list.specs.Turns.{parts_by};
 
 use crate::iter_mut::IterMut;
 use crate::list::{Links, List};
@@ -40,8 +41,8 @@ fn copy_first<T: Linked<Links<T>> + Copy>(
 ) -> Result<(), AllocError>
     ensures same_reference { lender left.new ≡ lender left.old }
     ensures elements { elements left.new ≡ elements left.old }
-    ensures once { OnOk result (firsts.new.items ++ to_lend left.new ≡ firsts.old.items ++ to_lend left.old) }
-    ensures fewer { length (to_lend left.new) ≡ length (to_lend left.old) - 1 }
+    ensures firsts { OnOk result (firsts.new.items ≡ firsts.old.items ++ take 1 (to_lend left.old)) }
+    ensures left { to_lend left.new ≡ drop 1 (to_lend left.old) }
 {
     if let Some(value) = copied_next(left) {
         firsts.push(value)?;
@@ -56,8 +57,9 @@ fn copy_last<T: Linked<Links<T>> + Copy>(
 ) -> Result<(), AllocError>
     ensures same_reference { lender left.new ≡ lender left.old }
     ensures elements { elements left.new ≡ elements left.old }
-    ensures once { OnOk result
-        (to_lend left.new ++ reverse lasts.new.items ≡ to_lend left.old ++ reverse lasts.old.items) }
+    ensures lasts { OnOk result (reverse lasts.new.items
+        ≡ drop (length (to_lend left.old) - 1) (to_lend left.old) ++ reverse lasts.old.items) }
+    ensures left { to_lend left.new ≡ take (length (to_lend left.old) - 1) (to_lend left.old) }
 {
     if let Some(value) = copied_next_back(left) {
         lasts.push(value)?;
@@ -73,6 +75,9 @@ pub fn copy_from_both_ends<T: Linked<Links<T>> + Copy>(
     list: &mut List<T>,
     turns: &[bool],
 ) -> Result<(Vec<T>, Vec<T>), AllocError>
+    ensures turns { let parts = parts_by turns.now (values list.old) in
+        IfOk result (λ copies. (copies.0.items ≡ parts.firsts ++ parts.left)
+        × (reverse copies.1.items ≡ parts.lasts)) }
     ensures once { IfOk result (λ copies. copies.0.items ++ reverse copies.1.items ≡ values list.old) }
     ensures kept { list.new ≡ list.old }
 {

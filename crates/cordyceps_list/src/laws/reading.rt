@@ -1,6 +1,7 @@
 //! Laws of shared cursors and of iterators that lend values.
-ghost use Rattle.std.specs.Prelude.{◌≡◌, ◌-◌, ◌++◌, length, map, reverse, IfOk, OnOk};
+ghost use Rattle.std.specs.Prelude.{◌≡◌, ◌+◌, ◌-◌, ◌*◌, ◌%◌, ◌++◌, length, take, drop, map, reverse, IfOk, OnOk};
 ghost use Rattle.cordyceps_base.specs.Element.{values};
+ghost use Rattle.cordyceps_list.specs.Turns.{parts_by};
 
 use crate::cursor::Cursor;
 use crate::iter::Iter;
@@ -13,9 +14,9 @@ fn read_first<'a, T: Linked<Links<T>>>(
     left: &mut Iter<'a, T>,
     firsts: &mut Vec<&'a T>,
 ) -> Result<(), AllocError>
-    ensures once { OnOk result
-        (map (λ v. v.now) firsts.new.items ++ left.new ≡ map (λ v. v.now) firsts.old.items ++ left.old) }
-    ensures fewer { length left.new ≡ length left.old - 1 }
+    ensures firsts { OnOk result
+        (map (λ v. v.now) firsts.new.items ≡ map (λ v. v.now) firsts.old.items ++ take 1 left.old) }
+    ensures left { left.new ≡ drop 1 left.old }
 {
     if let Some(value) = left.next() {
         firsts.push(value)?;
@@ -28,8 +29,9 @@ fn read_last<'a, T: Linked<Links<T>>>(
     left: &mut Iter<'a, T>,
     lasts: &mut Vec<&'a T>,
 ) -> Result<(), AllocError>
-    ensures { OnOk result (left.new ++ reverse (map (λ v. v.now) lasts.new.items)
-        ≡ left.old ++ reverse (map (λ v. v.now) lasts.old.items)) }
+    ensures lasts { OnOk result (reverse (map (λ v. v.now) lasts.new.items)
+        ≡ drop (length left.old - 1) left.old ++ reverse (map (λ v. v.now) lasts.old.items)) }
+    ensures left { left.new ≡ take (length left.old - 1) left.old }
 {
     if let Some(value) = left.next_back() {
         lasts.push(value)?;
@@ -45,7 +47,10 @@ pub fn read_from_both_ends<'a, T: Linked<Links<T>>>(
     list: &'a List<T>,
     turns: &[bool],
 ) -> Result<(Vec<&'a T>, Vec<&'a T>), AllocError>
-    ensures { IfOk result (λ read. map (λ v. v.now) read.0.items ++ reverse (map (λ v. v.now) read.1.items)
+    ensures turns { let parts = parts_by turns.now (values list.now) in
+        IfOk result (λ read. (map (λ v. v.now) read.0.items ≡ parts.firsts ++ parts.left)
+        × (reverse (map (λ v. v.now) read.1.items) ≡ parts.lasts)) }
+    ensures once { IfOk result (λ read. map (λ v. v.now) read.0.items ++ reverse (map (λ v. v.now) read.1.items)
         ≡ values list.now) }
 {
     let mut left = list.iter();
@@ -66,26 +71,30 @@ pub fn read_from_both_ends<'a, T: Linked<Links<T>>>(
 }
 
 impl<'a, T: Linked<Links<T>>> Cursor<'a, T> {
-    /// One move more than there are elements leads back to the same place.
-    pub fn go_round(&mut self)
-        ensures { self.new ≡ self.old }
+    /// So many moves lead on round the list, whose null place is one more than its elements. One move more than there
+    /// are elements leads back to the same place.
+    pub fn go_on(&mut self, moves: usize)
+        ensures elements { self.new.elements ≡ self.old.elements }
+        ensures place { self.new.place ≡ (self.old.place + moves) % (length self.old.elements + 1) }
+        ensures round { moves ≡ length self.old.elements + 1 → self.new ≡ self.old }
     {
         prove!(self.at() <= self.len());
-        for _ in 0..self.len() {
+        for _ in 0..moves {
             self.move_next();
         }
-        self.move_next();
     }
 
-    /// One move back more than there are elements leads back to the same place.
-    pub fn go_round_back(&mut self)
-        ensures { self.new ≡ self.old }
+    /// So many moves lead back round the list, as each does that is one less than a round. One move more than there are
+    /// elements leads back to the same place.
+    pub fn go_back(&mut self, moves: usize)
+        ensures elements { self.new.elements ≡ self.old.elements }
+        ensures place { self.new.place
+            ≡ (self.old.place + moves * length self.old.elements) % (length self.old.elements + 1) }
+        ensures round { moves ≡ length self.old.elements + 1 → self.new ≡ self.old }
     {
         prove!(self.at() <= self.len());
-        let len = self.len();
-        for _ in 0..len {
+        for _ in 0..moves {
             self.move_prev();
         }
-        self.move_prev();
     }
 }

@@ -1,4 +1,4 @@
-use Rattle.std.proofs.Common.{arith, ap, length, length-drop, take-append-drop}
+use Rattle.std.proofs.Common.{rules, arith, ap, length, length-drop, take-append-drop}
 use Rattle.std.proofs.lemmas.List.{length-take}
 use Rattle.cordyceps_list.proofs.laws.append_split_off.Goals as goal
 
@@ -8,5 +8,8 @@ append-requires g c =
     let at = c.args.at in
     omega (arith, ap length c.split_off-rest.ensures.kept, ap length c.split_off-rest.ensures.split, length-take at s, length-drop at s)
 
-pub returns : goal.returns
-returns g c = cc (take-append-drop c.args.at c.args.list.now)
+pub returns-clause-shown : goal.returns-clause-shown
+returns-clause-shown g c = search rules
+
+pub returns-clause-restored : goal.returns-clause-restored
+returns-clause-restored g c = cc (take-append-drop c.args.at c.args.list.now)

@@ -1,6 +1,6 @@
 use Rattle.std.proofs.Common.{◌+◌, ◌*◌, ◌%◌, length}
 use Rattle.cordyceps_list.specs.Cursor.{elements, place, Stands}
-use Rattle.cordyceps_list.proofs.cursor_mut.CursorMut.go_round_back.Given as goal
+use Rattle.cordyceps_list.proofs.cursor_mut.CursorMut.go_back.Given as goal
 
 abbrev pub invariant-loop : goal.invariant-loop
 invariant-loop g l =

@@ -1,7 +1,7 @@
 use Rattle.std.proofs.Common.{◌≡◌, ◌+◌, ◌%◌, length, ap, ◌∙◌, arith}
 use Rattle.cordyceps_list.specs.Places.{next_place}
 use Rattle.cordyceps_list.proofs.Rounds.{stay, move_on, round}
-use Rattle.cordyceps_list.proofs.cursor.Cursor.go_round.Goals as goal
+use Rattle.cordyceps_list.proofs.cursor.Cursor.go_on.Goals as goal
 
 pub loop-init : goal.loop-init
 loop-init g c =
@@ -19,14 +19,20 @@ loop-preserved g c =
     let place = on.place ∙ ap (λ p. next_place (length p.elements) p.place) at ∙ move_on was.place (length was.elements) c.loop.counter in
     λ i. record { elements = elements i; place = place i }
 
-pub returns : goal.returns
-returns g c =
-    let at = c.loop.invariant in
-    let on = c.move_next-2.ensures in
+pub returns-clause-elements : goal.returns-clause-elements
+returns-clause-elements g c = ap (λ p. p.elements) c.loop.invariant
+
+pub returns-clause-place : goal.returns-clause-place
+returns-clause-place g c =
     let was = c.args.self.now in
     let n = length was.elements in
-    let moves : c.loop.counter ≡ n = omega arith in
-    let there = ap (λ k. (was.place + (k + 1)) % (n + 1)) moves ∙ round was.place n (omega arith) in
-    let elements = on.elements ∙ ap (λ p. p.elements) at in
-    let place = on.place ∙ ap (λ p. next_place (length p.elements) p.place) at ∙ move_on was.place n c.loop.counter ∙ there in
-    λ i. record { elements = elements i; place = place i }
+    let moves : c.loop.counter ≡ c.args.moves = omega arith in
+    ap (λ p. p.place) c.loop.invariant ∙ ap (λ k. (was.place + k) % (n + 1)) moves
+
+pub returns-clause-round : goal.returns-clause-round
+returns-clause-round g c = λ all.
+    let was = c.args.self.now in
+    let n = length was.elements in
+    let moves : c.loop.counter ≡ n + 1 = omega arith in
+    let place = ap (λ k. (was.place + k) % (n + 1)) moves ∙ round was.place n (omega arith) in
+    c.loop.invariant ∙ (λ i. record { elements = was.elements; place = place i })

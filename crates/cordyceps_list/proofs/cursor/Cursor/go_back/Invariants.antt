@@ -1,5 +1,5 @@
 use Rattle.std.proofs.Common.{◌≡◌, ◌+◌, ◌*◌, ◌%◌, length}
-use Rattle.cordyceps_list.proofs.cursor.Cursor.go_round_back.Given as goal
+use Rattle.cordyceps_list.proofs.cursor.Cursor.go_back.Given as goal
 
 abbrev pub invariant-loop : goal.invariant-loop
 invariant-loop g l =
