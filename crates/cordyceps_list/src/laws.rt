@@ -115,8 +115,7 @@ pub fn take_from_both_ends<T: Linked<Links<T>>>(
 impl<'a, T: Linked<Links<T>>> CursorMut<'a, T> {
     ghost use Rattle.cordyceps_list.specs.Cursor.{elements, place, Stands};
 
-    /// So many moves lead on round the list, whose null place is one more than its elements. One move more than there
-    /// are elements leads back to the same place.
+    /// Moves on so often. One move more than there are elements leads to the same place.
     pub fn go_on(&mut self, moves: usize)
         ensures moved { Stands self.old self.new (elements self.old)
             ((place self.old + moves) % (length (elements self.old) + 1)) }
@@ -129,8 +128,8 @@ impl<'a, T: Linked<Links<T>>> CursorMut<'a, T> {
         }
     }
 
-    /// So many moves lead back round the list, as each does that is one less than a round. One move more than there are
-    /// elements leads back to the same place.
+    /// Moves back so often. A move back leads where as many moves on as there are elements lead, and one move back more
+    /// than there are elements leads to the same place.
     pub fn go_back(&mut self, moves: usize)
         ensures moved { Stands self.old self.new (elements self.old)
             ((place self.old + moves * length (elements self.old)) % (length (elements self.old) + 1)) }

@@ -71,8 +71,7 @@ pub fn read_from_both_ends<'a, T: Linked<Links<T>>>(
 }
 
 impl<'a, T: Linked<Links<T>>> Cursor<'a, T> {
-    /// So many moves lead on round the list, whose null place is one more than its elements. One move more than there
-    /// are elements leads back to the same place.
+    /// Moves on so often. One move more than there are elements leads to the same place.
     pub fn go_on(&mut self, moves: usize)
         ensures elements { self.new.elements ≡ self.old.elements }
         ensures place { self.new.place ≡ (self.old.place + moves) % (length self.old.elements + 1) }
@@ -84,8 +83,8 @@ impl<'a, T: Linked<Links<T>>> Cursor<'a, T> {
         }
     }
 
-    /// So many moves lead back round the list, as each does that is one less than a round. One move more than there are
-    /// elements leads back to the same place.
+    /// Moves back so often. A move back leads where as many moves on as there are elements lead, and one move back more
+    /// than there are elements leads to the same place.
     pub fn go_back(&mut self, moves: usize)
         ensures elements { self.new.elements ≡ self.old.elements }
         ensures place { self.new.place
