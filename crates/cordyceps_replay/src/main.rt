@@ -2,7 +2,7 @@
 #![tactic(auto)]
 
 pub use replay_driver::fault::{Failed, Fault};
-pub use replay_driver::script::run_script;
+pub use replay_driver::script::{run_bytes, run_script};
 pub use replay_driver::session::Session;
 pub use replay_driver::sink::{Sink, ToWrite};
 pub use replay_driver::source::{FromRead, Source};

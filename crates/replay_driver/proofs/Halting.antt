@@ -77,7 +77,7 @@ joined {takes = takes} more failed so_far (lines, texts, leads, within, clean, c
 pub grown : {S O : Type 0} {machine : Machine S} {takes : O → O → List ℕ → Type 0} {old new : S} {o p : O} {text text1 bytes rest : List ℕ} {n : ℕ} →
     SoFar machine takes old o text bytes rest new p text1 n → (more now block seen : List ℕ) (held end room left : ℕ) → now ≡ rest ++ more →
     held ≤ length block → rest ≡ take held block → end ≤ length seen → now ≡ take end seen →
-    end + left ≤ held + room → length bytes + room ≤ 2 ^ 63 →
+    end + left ≡ held + room → length bytes + room ≤ 2 ^ 63 →
     (length (bytes ++ more) + left ≤ 2 ^ 63) × SoFar machine takes old o text (bytes ++ more) now new p text1 n × (n + length now ≤ 2 ^ 63)
 grown {bytes = bytes} {rest = rest} {n = n} so_far more now block seen held end room left join within is_rest within2 is_now fewer bound =
     let wider = extended so_far more in

@@ -41,6 +41,16 @@ abbrev pub last_line : List ℕ → List (List ℕ)
 last_line [] = []
 last_line (b ∷ bytes) = (b ∷ bytes) ∷ []
 
+-- the same, without a last line that has no byte
+abbrev pub without_empty_last : List (List ℕ) → List (List ℕ)
+without_empty_last [] = []
+without_empty_last (line ∷ []) = last_line line
+without_empty_last (line ∷ next ∷ rest) = line ∷ without_empty_last (next ∷ rest)
+
+-- the lines of a whole script
+abbrev pub lines_of : List ℕ → List (List ℕ)
+lines_of script = without_empty_last (parts script)
+
 -- Of bytes that were read, these are the lines, complete ones and then one that is not complete. It counts as a line
 -- where the input ended with it, or where it is too long already.
 abbrev pub AreLines : (ended : Type 0) → List (List ℕ) → List ℕ → List (List ℕ) → Type 0
@@ -59,6 +69,11 @@ Answers machine state ended read_failed write_failed complete unfinished lines w
     write_failed × (rest : List ℕ) × (text machine state lines ≡ written ++ rest)
 Answers machine state ended read_failed write_failed complete unfinished lines written (Err faults.Memory) =
     (n : ℕ) × (written ≡ concat (take n (replies machine state lines)))
+
+-- Each line of a script is good, and the text of all was written.
+abbrev pub AnswersAll : {S : Type 0} → Machine S → S → (script : List ℕ) (took : List ℕ → Type 0) → Type 0
+AnswersAll machine state script took =
+    (first_bad machine state (lines_of script) ≡ None) × took (text machine state (lines_of script))
 
 -- What a run of a script reads, writes and answers.
 pub record Runs {S : Type 0} (machine : Machine S) (state : S) (gave : List ℕ → Type 0) (ended read_failed : Type 0) (took : List ℕ → Type 0) (write_failed : Type 0) (result : Result (Unit {0}) Fault) : Type 0 where

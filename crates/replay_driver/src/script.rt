@@ -1,14 +1,14 @@
 //! The driver: lines from a source to a session, and texts from the session to a sink.
-ghost use Rattle.std.specs.Prelude.{◌≡◌, ◌+◌, ◌-◌, ◌<◌, ◌≤◌, ◌^◌, [], length, take, drop, IfOk, OnErr, IsTrue, ◌↔◌, Err};
+ghost use Rattle.std.specs.Prelude.{◌≡◌, ◌+◌, ◌-◌, ◌<◌, ◌≤◌, ◌^◌, [], length, take, drop, IfOk, OnOk, OnErr, IsTrue, ◌↔◌, Err};
 ghost use Rattle.replay_driver.specs.Steps.{TakesOne, TakesLines, TakesLast, Reads, fault_of};
 ghost use Rattle.replay_driver.specs.Halts.{Halts, EndsLines};
-ghost use Rattle.replay_driver.specs.Script.{Runs};
+ghost use Rattle.replay_driver.specs.Script.{Runs, AnswersAll};
 ghost use Rattle.replay_driver.specs.declared.fault.Fault.{Fault};
 
 use crate::fault::{Failed, Fault};
 use crate::session::{Session, Stop};
 use crate::sink::Sink;
-use crate::source::Source;
+use crate::source::{FromRead, Source};
 use crate::text::flush;
 use memchr::memchr;
 use std::alloc::Global;
@@ -106,7 +106,7 @@ fn read_more<I: Source>(input: &mut I, block: &mut [u8], held: usize) -> Result<
     ensures len { length block.new ≡ length block.old }
     ensures within { IfOk result (λ end. (held ≤ end) × (end ≤ length block.new)) }
     ensures read { IfOk result (λ end. Reads I.gives input.old input.new (take held block.old) (take end block.new)) }
-    ensures room { IfOk result (λ end. end + I.room input.new ≤ held + I.room input.old) }
+    ensures room { IfOk result (λ end. end + I.room input.new ≡ held + I.room input.old) }
     ensures end { IfOk result (λ end. end ≡ held → I.at_end input.new) }
     ensures err { OnErr result (I.gives input.old input.new []) }
     ensures fails { OnErr result (I.has_failed input.new) }
@@ -225,4 +225,21 @@ pub fn run_script<S: Session, I: Source, O: Sink>(
         Ok(()) => end,
         Err(_) => Err(Fault::Write),
     }
+}
+
+/// Runs a script that stands in memory, as `run_script` does.
+///
+/// After `Ok` each line of the script was taken, and the replies to all of them stand written.
+pub fn run_bytes<S: Session, O: Sink>(
+    alloc: Global,
+    session: &mut S,
+    script: &[u8],
+    output: &mut O,
+) -> Result<(), Fault>
+    requires { S.is_ready session.old }
+    ensures { OnOk result
+        (AnswersAll S.machine (S.state session.old) script.now (O.takes output.old output.new)) }
+{
+    let mut input = FromRead::new(script);
+    run_script(alloc, session, &mut input, output)
 }

@@ -1,7 +1,6 @@
 //! Where a script is read from.
-ghost use Rattle.std.specs.Prelude.{◌≡◌, ◌++◌, ℕ, ◌+◌, ◌<◌, ◌≤◌, ◌^◌, List, [], length, take, IsTrue, IsErr, IfOk, OnOk, OnErr};
-ghost use Rattle.std.specs.Io.KnownBytes.{Consumes};
-ghost use Rattle.replay_driver.specs.Known.{Consumes-nothing, Consumes-more};
+ghost use Rattle.std.specs.Prelude.{◌≡◌, ◌++◌, ℕ, ◌+◌, ◌<◌, ◌≤◌, ◌^◌, List, [], length, take, IsTrue, IsErr, IfOk, OnOk, OnErr, ◌⊎◌};
+ghost use Rattle.replay_driver.specs.Known.{IsReadOut, Gives, gives-nothing, gives-more};
 
 use crate::fault::Failed;
 use std::io::Read;
@@ -30,20 +29,25 @@ pub trait Source {
     fn read(&mut self, buffer: &mut [u8]) -> Result<usize, Failed>
         ensures count { IfOk result (λ n. n ≤ length buffer.new) }
         ensures bytes { IfOk result (λ n. gives self.old self.new (take n buffer.new)) }
-        ensures room { IfOk result (λ n. n + room self.new ≤ room self.old) }
+        ensures room { IfOk result (λ n. n + room self.new ≡ room self.old) }
         ensures ok { OnOk result (has_failed self.new → ⊥) }
 
         ensures end { IfOk result (λ n. n ≡ 0 → 0 < length buffer.new → at_end self.new) }
+        ensures no_other_end { IfOk result (λ n. at_end self.new → at_end self.old ⊎ ((n ≡ 0) × (0 < length buffer.new))) }
         ensures after_end { IfOk result (λ n. at_end self.old → n ≡ 0) }
         ensures stays_at_end { at_end self.old → at_end self.new }
 
         ensures err { OnErr result (gives self.old self.new []) }
+        ensures keeps_room { OnErr result (room self.new ≡ room self.old) }
+        ensures ends_nothing { OnErr result (at_end self.new → at_end self.old) }
         ensures fails { OnErr result (has_failed self.new) }
         ensures after_failure { has_failed self.old → IsErr result };
 
     ghost gives_nothing: { (s : Self) → gives s s [] };
 
     ghost gives_more: { (s t u : Self) (xs ys : List ℕ) → gives s t xs → gives t u ys → gives s u (xs ++ ys) };
+
+    ghost nothing_after_end: { (s t : Self) (bytes : List ℕ) → at_end s → gives s t bytes → bytes ≡ [] };
 
     ghost few: { (s : Self) → room s ≤ 2 ^ 63 };
 }
@@ -52,12 +56,13 @@ pub trait Source {
 ///
 /// A read fails where the reader's does, an interrupted one too, and past 2 to the 63 bytes.
 #[derive(Drop)]
-pub struct FromRead<R> {
+pub struct FromRead<R: Read> {
     reader: R,
     left: u64,
     failed: bool,
     ended: bool,
     ghost few: { left ≤ 2 ^ 63 },
+    ghost read_out: { IsTrue ended → IsReadOut (R.remaining reader) },
 }
 
 impl<R: Read> FromRead<R> {
@@ -81,17 +86,19 @@ impl<R: Read> FromRead<R> {
 }
 
 impl<R: Read> Source for FromRead<R> {
-    ghost gives = { λ s t bytes. Consumes (R.remaining s.reader) (R.remaining t.reader) bytes };
+    ghost gives = { λ s t. Gives (R.remaining s.reader) (R.remaining t.reader) (IsTrue s.ended) (IsTrue t.ended) };
 
     ghost room = { λ s. s.left };
 
-    ghost at_end = { λ s. IsTrue s.ended };
+    ghost at_end = { λ s. IsTrue s.ended × IsReadOut (R.remaining s.reader) };
 
     ghost has_failed = { λ s. IsTrue s.failed };
 
-    ghost gives_nothing = { λ s. Consumes-nothing (R.remaining s.reader) };
+    ghost gives_nothing = { λ s. gives-nothing (R.remaining s.reader) (IsTrue s.ended) };
 
-    ghost gives_more = { λ s t u. Consumes-more (R.remaining s.reader) (R.remaining t.reader) (R.remaining u.reader) };
+    ghost gives_more = { λ s t u xs ys. gives-more (R.remaining s.reader) (R.remaining t.reader) (R.remaining u.reader) (IsTrue s.ended) (IsTrue t.ended) (IsTrue u.ended) xs ys };
+
+    ghost nothing_after_end = { λ s t bytes ended gave. (gave.1 ended.0).0 };
 
     ghost few = { λ s. s.few };
 
