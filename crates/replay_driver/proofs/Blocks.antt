@@ -1,7 +1,7 @@
 -- The lines of a block, one after the other.
 use Rattle.std.proofs.Common.{◌≡◌, ℕ, ◌+◌, ◌-◌, ◌<◌, List, [], ◌∷◌, ◌++◌, length, take, drop, Some, None, Ok, Err, refl, sym, ◌∙◌, ap, arith, length-append, length-take, length-drop, add-one}
 use Rattle.std.proofs.lemmas.List.{append-nil, take_all, drop-drop, get_or-take, get_or_default, take-append-drop}
-use Rattle.std.proofs.Math.Seq.{take-append-add, drop-cons}
+use Rattle.std.proofs.Math.Seq.{drop-cons}
 use Rattle.std.specs.List.{concat}
 use Rattle.std.proofs.lemmas.Bool.{eqb-true, false_from_ne_true}
 use Rattle.memchr.specs.Find.{IsFirstByte, is_byte}
@@ -55,16 +55,9 @@ stopped machine takes more old mid new o p q text text1 text2 block line passed 
     let step = rw is at step_passed in
     let wrote : Writes takes o text q text2 (concat so_far.texts) = rw append-nil at (writes_more takes more o p q text text1 text2 (concat so_far.texts) [] so_far.writes writes) in
     (so_far.lines, so_far.texts, line, rest, rw same so_far.leads, clean, rw same step, counted ∙ ap (λ k. count + k) so_far.counted, wrote)
-stopped machine takes more old mid new o p q text text1 text2 block line passed rest count count1 n failed stops.Memory so_far counted clean is (last, added, k, step_passed, writes) =
-    let step = rw is at step_passed in (
-      so_far.lines ++ line ∷ [],
-      so_far.texts ++ added,
-      rest,
-      last,
-      length so_far.texts + k,
-      leads_more machine old mid last block line rest so_far.lines so_far.texts added so_far.leads clean step,
-      rw (take-append-add, concat-append) (writes_more takes more o p q text text1 text2 _ _ so_far.writes writes),
-    )
+stopped machine takes more old mid new o p q text text1 text2 block line passed rest count count1 n failed stops.Memory so_far counted clean is (last, added, front, step_passed, among, writes) =
+    let step = rw is at step_passed in
+    (so_far.lines, so_far.texts, line, rest, mid, last, added, front, so_far.leads, clean, step, among, writes_more takes more o p q text text1 text2 _ _ so_far.writes writes)
 stopped machine takes more old mid new o p q text text1 text2 block line passed rest count count1 n failed stops.Write so_far counted clean is (added, waiting, step_passed, writes, did_fail) =
     let step = rw is at step_passed in (
       so_far.lines ++ line ∷ [],

@@ -3,11 +3,10 @@ use Rattle.std.proofs.Common.{◌≡◌, ℕ, ◌+◌, ◌<◌, ◌≤◌, List,
 use Rattle.std.proofs.lemmas.List.{append-nil}
 use Rattle.std.proofs.lemmas.List.Concat.{flat_map-append}
 use Rattle.std.proofs.lemmas.List.Splits.{slice_split_at, slice_split_none, length-slice_split}
-use Rattle.std.proofs.Math.Seq.{take-append-add}
 use Rattle.std.proofs.lemmas.Bool.Decides.{nat_tests}
 use Rattle.std.specs.List.{concat, flat_map, AllByRecursion}
-use Rattle.replay_driver.specs.Script.{Machine, step_of, replies, parts, last_line}
-use Rattle.replay_driver.specs.Steps.{Steps, ended, HasNoFeed, Writes, Leads, SoFar, TakesLines, TakesLast, fault_of}
+use Rattle.replay_driver.specs.Script.{Machine, step_of, Steps, replies, parts, last_line}
+use Rattle.replay_driver.specs.Steps.{ended, HasNoFeed, Writes, Leads, SoFar, TakesLines, TakesLast, fault_of}
 use Rattle.replay_driver.specs.Halts.{Halts}
 use Rattle.replay_driver.specs.declared.fault.Fault.TheVariants as faults
 use Rattle.replay_driver.specs.declared.session.Stop.{Stop}
@@ -105,7 +104,7 @@ halts_unread {machine = machine} {old = old} {new = new} {bytes = bytes} {rest =
   texts = so_far.texts;
   more = machine.ending new;
   all = ap (replies machine old) (sym (append-nil so_far.lines)) ∙ replies-steps machine old new so_far.lines [] so_far.texts so_far.leads.steps;
-  halted = (did_fail, refl, short, first_bad-steps machine old new so_far.lines so_far.texts so_far.leads.steps, refl, so_far.writes);
+  halted = (did_fail, refl, short, first_bad-steps machine old new so_far.lines so_far.texts so_far.leads.steps, (so_far.lines, [], sym (append-nil so_far.lines), so_far.leads.steps, tt), so_far.writes);
 }
 
 -- The input ended, and the last line is good.
@@ -128,7 +127,7 @@ halts_ended {machine = machine} {takes = takes} more {old = old} {mid = mid} {ne
       texts = texts;
       more = machine.ending new;
       all = ap (replies machine old) (sym (append-nil lines)) ∙ replies-steps machine old new lines [] texts whole;
-      halted = (at_end, refl, first_bad-steps machine old new lines texts whole, refl, rw concat-append (writes_more takes more _ _ _ _ _ _ _ _ so_far.writes writes));
+      halted = (at_end, refl, first_bad-steps machine old new lines texts whole, (lines, [], sym (append-nil lines), whole, tt), rw concat-append (writes_more takes more _ _ _ _ _ _ _ _ so_far.writes writes));
     }
 
 -- The sink failed, behind complete lines.
@@ -175,7 +174,7 @@ halts_long {machine = machine} {old = old} {new = new} {bytes = bytes} {rest = r
       texts = so_far.texts;
       more = machine.ending new;
       all = rw one (replies-steps machine old new so_far.lines (rest ∷ []) so_far.texts so_far.leads.steps ∙ ap (λ (xs : List (List ℕ)). so_far.texts ++ xs) (rw bad refl));
-      halted = (rw one (first_bad-at machine old new so_far.lines [] rest so_far.texts so_far.leads.steps bad ∙ ap (λ k. Some (k + 1)) (sym so_far.counted)), refl, so_far.writes);
+      halted = (rw one (first_bad-at machine old new so_far.lines [] rest so_far.texts so_far.leads.steps bad ∙ ap (λ k. Some (k + 1)) (sym so_far.counted)), (so_far.lines, last_line rest, refl, so_far.leads.steps, rw one bad), so_far.writes);
     }
 
 -- The last line, which has no line feed, stops the script.
@@ -200,27 +199,28 @@ halts_last {machine = machine} {takes = takes} more {old = old} {mid = mid} {new
       all = rw one (replies-steps machine old new so_far.lines (rest ∷ []) so_far.texts led ∙ ap (λ (xs : List (List ℕ)). so_far.texts ++ xs) (rw bad refl));
       halted = (
         rw one (first_bad-at machine old new so_far.lines [] rest so_far.texts led bad ∙ ap (λ k. Some (k + 1)) (sym so_far.counted)),
-        refl,
+        (so_far.lines, last_line rest, refl, led, rw one bad),
         rw append-nil at (writes_more takes more _ _ _ _ _ _ (concat so_far.texts) [] so_far.writes writes),
       );
     }
-halts_last {machine = machine} {takes = takes} more {old = old} {mid = mid} {new = new} {bytes = bytes} {rest = rest} stops.Memory so_far gave_them clean at_end (some, (last, added, k, step, writes)) =
+halts_last {machine = machine} {takes = takes} more {old = old} {mid = mid} {new = new} {bytes = bytes} {rest = rest} stops.Memory so_far gave_them clean at_end (some, (last, added, front, step, among, writes)) =
     let one : last_line rest ≡ rest ∷ [] = some_line rest some in
-    let lines = so_far.lines ++ last_line rest in
-    let texts = so_far.texts ++ added in
-    let whole : Steps machine old lines last texts = rw one (steps-append machine old mid last so_far.lines (rest ∷ []) so_far.texts added so_far.leads.steps (steps-one machine mid last rest added step)) in
     record {
       complete = so_far.lines;
       unfinished = rest;
       bytes = bytes;
       read = gave_them;
       cut = ap parts so_far.leads.cut ∙ parts-after so_far.lines rest so_far.leads.no_feed ∙ ap (λ (xs : List (List ℕ)). so_far.lines ++ xs) (parts-clean rest clean);
-      lines = lines;
+      lines = so_far.lines ++ last_line rest;
       are_lines = inr (inl at_end, refl);
-      texts = texts;
-      more = machine.ending last;
-      all = ap (replies machine old) (sym (append-nil lines)) ∙ replies-steps machine old last lines [] texts whole;
-      halted = (length so_far.texts + k, rw (take-append-add, concat-append) (writes_more takes more _ _ _ _ _ _ _ _ so_far.writes writes));
+      texts = so_far.texts;
+      more = replies machine mid (last_line rest);
+      all = replies-steps machine old mid so_far.lines (last_line rest) so_far.texts so_far.leads.steps;
+      halted = (
+        concat so_far.texts ++ front,
+        (so_far.lines, last_line rest, mid, so_far.texts, front, refl, so_far.leads.steps, inl (rest, [], last, added, one, step, among), refl),
+        writes_more takes more _ _ _ _ _ _ _ _ so_far.writes writes,
+      );
     }
 halts_last {machine = machine} {takes = takes} more {old = old} {mid = mid} {new = new} {bytes = bytes} {rest = rest} stops.Write so_far gave_them clean at_end (some, (added, waiting, step, writes, did_fail)) =
     let one : last_line rest ≡ rest ∷ [] = some_line rest some in
@@ -265,27 +265,31 @@ halts_stopped {machine = machine} {takes = takes} more {old = old} {mid = mid} {
       all = replies-steps machine old new lines (line ∷ front) texts leads.steps ∙ ap (λ (xs : List (List ℕ)). texts ++ xs) (rw bad refl);
       halted = (
         first_bad-at machine old new lines front line texts leads.steps bad ∙ ap (λ k. Some (k + 1)) (sym count),
-        refl,
+        (lines, line ∷ front, refl, leads.steps, bad),
         rw concat-append (writes_more takes more _ _ _ _ _ _ _ _ so_far.writes writes),
       );
     }
-halts_stopped {machine = machine} {takes = takes} more {old = old} {mid = mid} {new = new} {bytes = bytes} n1 stops.Memory so_far gave_them (lines2, texts2, rest2, after, k, leads2, writes) =
+halts_stopped {machine = machine} {takes = takes} more {old = old} {mid = mid} {new = new} {bytes = bytes} n1 stops.Memory so_far gave_them (lines2, texts2, line, rest2, here, after, added, front, leads2, clean, step, among, writes) =
     let lines = so_far.lines ++ lines2 in
     let texts = so_far.texts ++ texts2 in
-    let leads : Leads machine old bytes lines rest2 after texts = leads_joined so_far.leads leads2 in
-    let (front, last, split) = parts-last rest2 in
+    let leads : Leads machine old bytes lines (line ++ 10 ∷ rest2) here texts = leads_joined so_far.leads leads2 in
+    let (others, last, split) = parts-last rest2 in
     record {
-      complete = lines ++ front;
+      complete = lines ++ line ∷ others;
       unfinished = last;
       bytes = bytes;
       read = gave_them;
-      cut = ap parts leads.cut ∙ parts-after lines rest2 leads.no_feed ∙ ap (λ (xs : List (List ℕ)). lines ++ xs) split ∙ sym (append_assoc lines front (last ∷ []));
-      lines = lines ++ front;
+      cut = ap parts leads.cut ∙ parts-after lines (line ++ 10 ∷ rest2) leads.no_feed ∙ ap (λ (xs : List (List ℕ)). lines ++ xs) (slice_split_at (λ b. nat_eq b 10) line 10 rest2 clean refl ∙ ap (λ (xs : List (List ℕ)). line ∷ xs) split) ∙ sym (append_assoc lines (line ∷ others) (last ∷ []));
+      lines = lines ++ line ∷ others;
       are_lines = inl refl;
       texts = texts;
-      more = replies machine after front;
-      all = replies-steps machine old after lines front texts leads.steps;
-      halted = (length so_far.texts + k, rw (take-append-add, concat-append) (writes_more takes more _ _ _ _ _ _ _ _ so_far.writes writes));
+      more = replies machine here (line ∷ others);
+      all = replies-steps machine old here lines (line ∷ others) texts leads.steps;
+      halted = (
+        concat texts ++ front,
+        (lines, line ∷ others, here, texts, front, refl, leads.steps, inl (line, others, after, added, refl, step, among), refl),
+        rw (concat-append, append_assoc) (writes_more takes more _ _ _ _ _ _ _ _ so_far.writes writes),
+      );
     }
 halts_stopped {machine = machine} {takes = takes} more {old = old} {mid = mid} {new = new} {bytes = bytes} n1 stops.Write so_far gave_them (lines2, texts2, rest2, waiting, leads2, writes, did_fail) =
     let lines = so_far.lines ++ lines2 in

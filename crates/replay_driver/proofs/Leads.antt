@@ -3,8 +3,8 @@ use Rattle.std.proofs.Common.{◌≡◌, ℕ, ◌+◌, List, [], ◌∷◌, ◌+
 use Rattle.std.proofs.lemmas.List.{append-nil}
 use Rattle.std.proofs.lemmas.List.Concat.{flat_map-append}
 use Rattle.std.specs.List.{concat, AllByRecursion}
-use Rattle.replay_driver.specs.Script.{Machine, step_of, replies, first_bad}
-use Rattle.replay_driver.specs.Steps.{Steps, ended, HasNoFeed, Writes, Leads}
+use Rattle.replay_driver.specs.Script.{Machine, step_of, Steps, replies, first_bad}
+use Rattle.replay_driver.specs.Steps.{ended, HasNoFeed, Writes, Leads}
 
 pub concat-append : (xs ys : List (List ℕ)) → concat (xs ++ ys) ≡ concat xs ++ concat ys
 concat-append [] ys = refl

@@ -1,14 +1,13 @@
 -- A whole run of a script.
-use Rattle.std.proofs.Common.{◌≡◌, ℕ, zero, suc, ◌+◌, List, [], ◌∷◌, ◌++◌, length, take, drop, Result, Ok, Err, refl, sym, ◌∙◌, ap, append_assoc, inl, inr}
+use Rattle.std.proofs.Common.{◌≡◌, ℕ, ◌<◌, List, [], ◌∷◌, ◌++◌, length, take, drop, Result, Ok, Err, refl, sym, ◌∙◌, ap, append_assoc, inl, inr}
 use Rattle.std.proofs.lemmas.List.{append-nil, take-append-drop}
-use Rattle.std.proofs.Math.Seq.{take-append-add}
 use Rattle.std.specs.List.{concat}
-use Rattle.replay_driver.specs.Script.{Machine, replies, text, Runs}
-use Rattle.replay_driver.specs.Steps.{Writes}
-use Rattle.replay_driver.specs.Halts.{Halts, EndsLines}
+use Rattle.replay_driver.specs.Script.{Machine, replies, text, StopsAmong, IsOver, StopsNext, Stops, Runs}
+use Rattle.replay_driver.specs.Steps.{Writes, EndStops}
+use Rattle.replay_driver.specs.Halts.{Taken, Halts, EndsLines}
 use Rattle.replay_driver.specs.declared.fault.Fault.{Fault}
 use Rattle.replay_driver.specs.declared.fault.Fault.TheVariants as faults
-use Rattle.replay_driver.proofs.Leads.{concat-append}
+use Rattle.replay_driver.proofs.Leads.{concat-append, replies-steps}
 
 -- what was written by the reading and by the last flush
 total : {O : Type 0} (takes : O → O → List ℕ → Type 0) (more : (s t u : O) (xs ys : List ℕ) → takes s t xs → takes t u ys → takes s u (xs ++ ys)) (o p q : O) (text1 text2 rest a b : List ℕ) →
@@ -18,11 +17,6 @@ total takes more o p q text1 text2 rest a b (w, took, split) added (v, took2, sp
   more o p q w v took took2,
   ap (λ (xs : List ℕ). xs ++ b) split ∙ append_assoc w text1 b ∙ ap (λ (xs : List ℕ). w ++ xs) (sym added ∙ sym (append-nil text2) ∙ split2) ∙ sym (append_assoc w v rest),
 )
-
-front_of : (n : ℕ) (xs ys : List (List ℕ)) → (k : ℕ) × (take k (xs ++ ys) ≡ take n xs)
-front_of zero xs ys = (0, refl)
-front_of (suc n) [] ys = (0, refl)
-front_of (suc n) (x ∷ xs) ys = let (k, same) = front_of n xs ys in (suc k, ap (λ (zs : List (List ℕ)). x ∷ zs) same)
 
 split_at : (k : ℕ) (xs : List (List ℕ)) → concat xs ≡ concat (take k xs) ++ concat (drop k xs)
 split_at k xs = ap concat (sym (take-append-drop k xs)) ∙ concat-append (take k xs) (drop k xs)
@@ -39,70 +33,126 @@ runs_without_memory gave took = record {
   are_lines = inl refl;
   written = [];
   wrote = took;
-  answers = (0, refl);
+  answers = inl (refl, refl, refl);
 }
 
 said_all : (all texts more : List (List ℕ)) (written : List ℕ) → all ≡ texts ++ more → concat texts ++ concat more ≡ written ++ [] → written ≡ concat all
 said_all all texts more written whole is = rw (whole, concat-append) (sym (append-nil written) ∙ sym is)
 
-said_front : (n : ℕ) (all texts more : List (List ℕ)) (written : List ℕ) → all ≡ texts ++ more → concat texts ++ concat (take n more) ≡ written ++ [] → written ≡ concat (take (length texts + n) all)
-said_front n all texts more written whole is = rw (whole, take-append-add, concat-append) (sym (append-nil written) ∙ sym is)
-
-said_some : (n : ℕ) (all texts more : List (List ℕ)) (written : List ℕ) → all ≡ texts ++ more → concat (take n texts) ++ [] ≡ written ++ [] → (k : ℕ) × (written ≡ concat (take k all))
-said_some n all texts more written whole is =
-    let (k, front) = front_of n texts more in (k, rw (whole, front) (sym (append-nil written) ∙ sym is ∙ append-nil (concat (take n texts))))
-
 -- What is written is a beginning of the text.
 begins_all : (all texts more : List (List ℕ)) (written rest : List ℕ) → all ≡ texts ++ more → concat texts ++ concat more ≡ written ++ rest → (others : List ℕ) × (concat all ≡ written ++ others)
 begins_all all texts more written rest whole is = (rest, rw (whole, concat-append) is)
 
-begins_front : (all front back : List (List ℕ)) (written rest : List ℕ) → concat all ≡ concat front ++ concat back → concat front ≡ written ++ rest → (others : List ℕ) × (concat all ≡ written ++ others)
-begins_front all front back written rest whole is = (rest ++ concat back, whole ∙ ap (λ (xs : List ℕ). xs ++ concat back) is ∙ append_assoc written rest (concat back))
+begins_front : (all front more written rest : List ℕ) → all ≡ front ++ more → front ≡ written ++ rest → (others : List ℕ) × (all ≡ written ++ others)
+begins_front all front more written rest whole is =
+    (rest ++ more, whole ∙ ap (λ (xs : List ℕ). xs ++ more) is ∙ append_assoc written rest more)
 
-taken_front : (n : ℕ) (all texts more : List (List ℕ)) → all ≡ texts ++ more → concat texts ++ concat (take n more) ≡ concat (take (length texts + n) all)
-taken_front n all texts more whole = rw (whole, take-append-add, concat-append) refl
+over_replies : {S : Type 0} (machine : Machine S) (state : S) (lines : List (List ℕ)) → IsOver machine state lines → replies machine state lines ≡ machine.ending state
+over_replies machine state [] over = refl
+over_replies machine state (line ∷ lines) over = rw over refl
 
-taken_some : (n : ℕ) (all texts more : List (List ℕ)) → all ≡ texts ++ more → (k : ℕ) × (concat (take n texts) ≡ concat (take k all))
-taken_some n all texts more whole = let (k, front) = front_of n texts more in (k, rw (whole, front) refl)
+taken_replies : {S : Type 0} (machine : Machine S) (old new : S) (lines texts : List (List ℕ)) → Taken machine old lines new texts → replies machine old lines ≡ texts ++ machine.ending new
+taken_replies machine old new lines texts (before, others, are, steps, over) =
+    rw are (replies-steps machine old new before others texts steps ∙ ap (λ (xs : List (List ℕ)). texts ++ xs) (over_replies machine new others over))
+
+-- Where memory was refused, what was written is a beginning of the text too.
+among_begins : (texts : List (List ℕ)) (front : List ℕ) → StopsAmong texts front → (more : List ℕ) × (concat texts ≡ front ++ more)
+among_begins texts front (n, low, is) = (concat (drop n texts), split_at n texts ∙ ap (λ (xs : List ℕ). xs ++ concat (drop n texts)) (sym is))
+
+next_begins : {S : Type 0} (machine : Machine S) (state : S) (lines : List (List ℕ)) (front : List ℕ) → StopsNext machine state lines front → (more : List ℕ) × (concat (replies machine state lines) ≡ front ++ more)
+next_begins machine state lines front (inl (line, after, last, texts, are, step, among)) =
+    let (more, split) = among_begins texts front among in
+    let others = concat (replies machine last after) in
+    (more ++ others, rw (are, step, concat-append) (ap (λ (xs : List ℕ). xs ++ others) split ∙ append_assoc front more others))
+next_begins machine state lines front (inr (over, some, among)) =
+    let (more, split) = among_begins (machine.ending state) front among in (more, ap concat (over_replies machine state lines over) ∙ split)
+
+stops_begin : {S : Type 0} (machine : Machine S) (state : S) (lines : List (List ℕ)) (written : List ℕ) → Stops machine state lines written → (more : List ℕ) × (text machine state lines ≡ written ++ more)
+stops_begin machine state lines written (before, others, mid, texts, front, are, steps, next, is) =
+    let (more, split) = next_begins machine mid others front next in (
+      more,
+      rw (are, is) (ap concat (replies-steps machine state mid before others texts steps) ∙ concat-append texts (replies machine mid others) ∙ ap (λ (xs : List ℕ). concat texts ++ xs) split ∙ sym (append_assoc (concat texts) front more)),
+    )
+
+-- Memory was refused at the end of the lines.
+stops_end : {S : Type 0} (machine : Machine S) (old new : S) (lines texts : List (List ℕ)) (front written : List ℕ) → Taken machine old lines new texts → 0 < length (machine.ending new) → StopsAmong (machine.ending new) front →
+    written ≡ concat texts ++ front → Stops machine old lines written
+stops_end machine old new lines texts front written (before, others, are, steps, over) some among is =
+    (before, others, new, texts, front, are, steps, inr (over, some, among), is)
+
+end_flushed : {S O : Type 0} {machine : Machine S} {takes : O → O → List ℕ → Type 0} (more : (s t u : O) (xs ys : List ℕ) → takes s t xs → takes t u ys → takes s u (xs ++ ys))
+    {old new : S} {o p q : O} {text1 : List ℕ} (text2 : List ℕ) {gave : List ℕ → Type 0} {is_end read_failed write_failed write_failed2 : Type 0} (halt : Result (Unit {0}) Fault)
+    (h : Halts machine old new gave is_end read_failed takes o [] p text1 write_failed halt) → Taken machine old h.lines new h.texts → Writes takes o [] p text1 (concat h.texts) → EndStops machine new text1 text2 → Writes takes p text2 q [] [] →
+    Runs machine old gave is_end read_failed (takes o q) write_failed2 (Err faults.Memory)
+end_flushed {machine = machine} {takes = takes} more {old = old} {new = new} {o = o} {p = p} {q = q} {text1 = text1} text2 halt h taken wrote (front, some, among, added) writes =
+    let (written, took, is) = total takes more o p q text1 text2 [] (concat h.texts) front wrote added writes in
+    record {
+      complete = h.complete;
+      unfinished = h.unfinished;
+      bytes = h.bytes;
+      read = h.read;
+      cut = h.cut;
+      lines = h.lines;
+      are_lines = h.are_lines;
+      written = written;
+      wrote = took;
+      answers = inr (stops_end machine old new h.lines h.texts front written taken some among (sym (append-nil written) ∙ sym is));
+    }
+
+end_unflushed : {S O : Type 0} {machine : Machine S} {takes : O → O → List ℕ → Type 0} (more : (s t u : O) (xs ys : List ℕ) → takes s t xs → takes t u ys → takes s u (xs ++ ys))
+    {old new : S} {o p q : O} {text1 : List ℕ} (text2 : List ℕ) {gave : List ℕ → Type 0} {is_end read_failed write_failed write_failed2 : Type 0} (halt : Result (Unit {0}) Fault)
+    (h : Halts machine old new gave is_end read_failed takes o [] p text1 write_failed halt) → Taken machine old h.lines new h.texts → Writes takes o [] p text1 (concat h.texts) → EndStops machine new text1 text2 → write_failed2 → (rest : List ℕ) → Writes takes p text2 q rest [] →
+    Runs machine old gave is_end read_failed (takes o q) write_failed2 (Err faults.Write)
+end_unflushed {machine = machine} {takes = takes} more {old = old} {new = new} {o = o} {p = p} {q = q} {text1 = text1} text2 halt h taken wrote (front, some, among, added) did_fail rest writes =
+    let (written, took, is) = total takes more o p q text1 text2 rest (concat h.texts) front wrote added writes in
+    let whole = concat h.texts ++ front in
+    let (others, begins) = stops_begin machine old h.lines whole (stops_end machine old new h.lines h.texts front whole taken some among refl) in
+    record {
+      complete = h.complete;
+      unfinished = h.unfinished;
+      bytes = h.bytes;
+      read = h.read;
+      cut = h.cut;
+      lines = h.lines;
+      are_lines = h.are_lines;
+      written = written;
+      wrote = took;
+      answers = (let found = begins_front (text machine old h.lines) whole others written rest begins is in (did_fail, found.0, found.1));
+    }
 
 pub runs_flushed : {S O : Type 0} {machine : Machine S} {takes : O → O → List ℕ → Type 0} (more : (s t u : O) (xs ys : List ℕ) → takes s t xs → takes t u ys → takes s u (xs ++ ys))
     {old new : S} {o p q : O} {text1 : List ℕ} (text2 : List ℕ) {gave : List ℕ → Type 0} {is_end read_failed write_failed write_failed2 : Type 0} (halt end : Result (Unit {0}) Fault) →
     Halts machine old new gave is_end read_failed takes o [] p text1 write_failed halt → EndsLines machine new text1 text2 halt end → (end ≡ Err faults.Write → ⊥) → Writes takes p text2 q [] [] →
     Runs machine old gave is_end read_failed (takes o q) write_failed2 end
 runs_flushed {machine = machine} {takes = takes} more {old = old} {new = new} {o = o} {p = p} {q = q} {text1 = text1} text2 (Ok u) end h (inl (same, added)) differs writes =
-    let (at_end, lines_are, none_bad, more_is, wrote) = h.halted in
+    let (at_end, lines_are, none_bad, taken, wrote) = h.halted in
     let (written, took, is) = total takes more o p q text1 text2 [] (concat h.texts) (concat (machine.ending new)) wrote added writes in
-    let said : written ≡ text machine old h.lines = said_all _ h.texts (machine.ending new) written (h.all ∙ ap (λ (xs : List (List ℕ)). h.texts ++ xs) more_is) is in
+    let said : written ≡ text machine old h.lines = said_all _ h.texts (machine.ending new) written (taken_replies machine old new h.lines h.texts taken) is in
     rw same (record { complete = h.complete; unfinished = h.unfinished; bytes = h.bytes; read = h.read; cut = h.cut; lines = h.lines; are_lines = h.are_lines; written = written; wrote = took; answers = (at_end, lines_are, none_bad, said) })
-runs_flushed {machine = machine} {takes = takes} more {old = old} {new = new} {o = o} {p = p} {q = q} {text1 = text1} text2 (Ok u) end h (inr (same, (n, added))) differs writes =
-    let (at_end, lines_are, none_bad, more_is, wrote) = h.halted in
-    let (written, took, is) = total takes more o p q text1 text2 [] (concat h.texts) (concat (take n (machine.ending new))) wrote added writes in
-    let said = said_front n _ h.texts (machine.ending new) written (h.all ∙ ap (λ (xs : List (List ℕ)). h.texts ++ xs) more_is) is in
-    rw same (record { complete = h.complete; unfinished = h.unfinished; bytes = h.bytes; read = h.read; cut = h.cut; lines = h.lines; are_lines = h.are_lines; written = written; wrote = took; answers = (length h.texts + n, said) })
+runs_flushed {machine = machine} {takes = takes} more {old = old} {new = new} {o = o} {p = p} {q = q} {text1 = text1} text2 (Ok u) end h (inr (same, refused)) differs writes =
+    let (at_end, lines_are, none_bad, taken, wrote) = h.halted in
+    rw same (end_flushed more text2 (Ok u) h taken wrote refused writes)
 runs_flushed {machine = machine} {takes = takes} more {old = old} {new = new} {o = o} {p = p} {q = q} {text1 = text1} text2 (Err (faults.BadLine line)) end h (inl (same, added)) differs writes =
-    let (bad, more_is, wrote) = h.halted in
+    let (bad, taken, wrote) = h.halted in
     let (written, took, is) = total takes more o p q text1 text2 [] (concat h.texts) (concat (machine.ending new)) wrote added writes in
-    let said : written ≡ text machine old h.lines = said_all _ h.texts (machine.ending new) written (h.all ∙ ap (λ (xs : List (List ℕ)). h.texts ++ xs) more_is) is in
+    let said : written ≡ text machine old h.lines = said_all _ h.texts (machine.ending new) written (taken_replies machine old new h.lines h.texts taken) is in
     rw same (record { complete = h.complete; unfinished = h.unfinished; bytes = h.bytes; read = h.read; cut = h.cut; lines = h.lines; are_lines = h.are_lines; written = written; wrote = took; answers = (bad, said) })
-runs_flushed {machine = machine} {takes = takes} more {old = old} {new = new} {o = o} {p = p} {q = q} {text1 = text1} text2 (Err (faults.BadLine line)) end h (inr (same, (n, added))) differs writes =
-    let (bad, more_is, wrote) = h.halted in
-    let (written, took, is) = total takes more o p q text1 text2 [] (concat h.texts) (concat (take n (machine.ending new))) wrote added writes in
-    let said = said_front n _ h.texts (machine.ending new) written (h.all ∙ ap (λ (xs : List (List ℕ)). h.texts ++ xs) more_is) is in
-    rw same (record { complete = h.complete; unfinished = h.unfinished; bytes = h.bytes; read = h.read; cut = h.cut; lines = h.lines; are_lines = h.are_lines; written = written; wrote = took; answers = (length h.texts + n, said) })
+runs_flushed {machine = machine} {takes = takes} more {old = old} {new = new} {o = o} {p = p} {q = q} {text1 = text1} text2 (Err (faults.BadLine line)) end h (inr (same, refused)) differs writes =
+    let (bad, taken, wrote) = h.halted in
+    rw same (end_flushed more text2 (Err (faults.BadLine line)) h taken wrote refused writes)
 runs_flushed {machine = machine} {takes = takes} more {old = old} {new = new} {o = o} {p = p} {q = q} {text1 = text1} text2 (Err faults.Read) end h (inl (same, added)) differs writes =
-    let (did_fail, lines_are, short, none_bad, more_is, wrote) = h.halted in
+    let (did_fail, lines_are, short, none_bad, taken, wrote) = h.halted in
     let (written, took, is) = total takes more o p q text1 text2 [] (concat h.texts) (concat (machine.ending new)) wrote added writes in
-    let said : written ≡ text machine old h.lines = said_all _ h.texts (machine.ending new) written (h.all ∙ ap (λ (xs : List (List ℕ)). h.texts ++ xs) more_is) is in
+    let said : written ≡ text machine old h.lines = said_all _ h.texts (machine.ending new) written (taken_replies machine old new h.lines h.texts taken) is in
     rw same (record { complete = h.complete; unfinished = h.unfinished; bytes = h.bytes; read = h.read; cut = h.cut; lines = h.lines; are_lines = h.are_lines; written = written; wrote = took; answers = (did_fail, lines_are, short, none_bad, said) })
-runs_flushed {machine = machine} {takes = takes} more {old = old} {new = new} {o = o} {p = p} {q = q} {text1 = text1} text2 (Err faults.Read) end h (inr (same, (n, added))) differs writes =
-    let (did_fail, lines_are, short, none_bad, more_is, wrote) = h.halted in
-    let (written, took, is) = total takes more o p q text1 text2 [] (concat h.texts) (concat (take n (machine.ending new))) wrote added writes in
-    let said = said_front n _ h.texts (machine.ending new) written (h.all ∙ ap (λ (xs : List (List ℕ)). h.texts ++ xs) more_is) is in
-    rw same (record { complete = h.complete; unfinished = h.unfinished; bytes = h.bytes; read = h.read; cut = h.cut; lines = h.lines; are_lines = h.are_lines; written = written; wrote = took; answers = (length h.texts + n, said) })
+runs_flushed {machine = machine} {takes = takes} more {old = old} {new = new} {o = o} {p = p} {q = q} {text1 = text1} text2 (Err faults.Read) end h (inr (same, refused)) differs writes =
+    let (did_fail, lines_are, short, none_bad, taken, wrote) = h.halted in
+    rw same (end_flushed more text2 (Err faults.Read) h taken wrote refused writes)
 runs_flushed {machine = machine} {takes = takes} more {old = old} {new = new} {o = o} {p = p} {q = q} {text1 = text1} text2 (Err faults.Memory) end h (same, kept) differs writes =
-    let (n, wrote) = h.halted in
-    let (written, took, is) = total takes more o p q text1 text2 [] (concat (take n h.texts)) [] wrote (kept ∙ sym (append-nil text1)) writes in
-    rw same (record { complete = h.complete; unfinished = h.unfinished; bytes = h.bytes; read = h.read; cut = h.cut; lines = h.lines; are_lines = h.are_lines; written = written; wrote = took; answers = said_some n _ h.texts h.more written h.all is })
+    let (front, stops, wrote) = h.halted in
+    let (written, took, is) = total takes more o p q text1 text2 [] front [] wrote (kept ∙ sym (append-nil text1)) writes in
+    let all : front ≡ written = sym (append-nil front) ∙ is ∙ append-nil written in
+    rw same (record { complete = h.complete; unfinished = h.unfinished; bytes = h.bytes; read = h.read; cut = h.cut; lines = h.lines; are_lines = h.are_lines; written = written; wrote = took; answers = inr (rw all at stops) })
 runs_flushed {machine = machine} {takes = takes} more {old = old} {new = new} {o = o} {p = p} {q = q} {text1 = text1} text2 (Err faults.Write) end h (same, kept) differs writes = absurd (differs same)
 
 pub runs_unflushed : {S O : Type 0} {machine : Machine S} {takes : O → O → List ℕ → Type 0} (more : (s t u : O) (xs ys : List ℕ) → takes s t xs → takes t u ys → takes s u (xs ++ ys))
@@ -110,44 +160,31 @@ pub runs_unflushed : {S O : Type 0} {machine : Machine S} {takes : O → O → L
     Halts machine old new gave is_end read_failed takes o [] p text1 write_failed halt → EndsLines machine new text1 text2 halt end → (end ≡ Err faults.Write → ⊥) → write_failed2 → (rest : List ℕ) → Writes takes p text2 q rest [] →
     Runs machine old gave is_end read_failed (takes o q) write_failed2 (Err faults.Write)
 runs_unflushed {machine = machine} {takes = takes} more {old = old} {new = new} {o = o} {p = p} {q = q} {text1 = text1} text2 (Ok u) end h (inl (same, added)) differs did_fail rest writes =
-    let (at_end, lines_are, none_bad, more_is, wrote) = h.halted in
+    let (at_end, lines_are, none_bad, taken, wrote) = h.halted in
     let (written, took, is) = total takes more o p q text1 text2 rest (concat h.texts) (concat (machine.ending new)) wrote added writes in
-    record { complete = h.complete; unfinished = h.unfinished; bytes = h.bytes; read = h.read; cut = h.cut; lines = h.lines; are_lines = h.are_lines; written = written; wrote = took; answers = (let found = begins_all _ h.texts (machine.ending new) written rest (h.all ∙ ap (λ (xs : List (List ℕ)). h.texts ++ xs) more_is) is in (did_fail, found.0, found.1)) }
-runs_unflushed {machine = machine} {takes = takes} more {old = old} {new = new} {o = o} {p = p} {q = q} {text1 = text1} text2 (Ok u) end h (inr (same, (n, added))) differs did_fail rest writes =
-    let (at_end, lines_are, none_bad, more_is, wrote) = h.halted in
-    let (written, took, is) = total takes more o p q text1 text2 rest (concat h.texts) (concat (take n (machine.ending new))) wrote added writes in
-    let all = replies machine old h.lines in
-    let whole : all ≡ h.texts ++ machine.ending new = h.all ∙ ap (λ (xs : List (List ℕ)). h.texts ++ xs) more_is in
-    let k = length h.texts + n in
-    record { complete = h.complete; unfinished = h.unfinished; bytes = h.bytes; read = h.read; cut = h.cut; lines = h.lines; are_lines = h.are_lines; written = written; wrote = took; answers = (let found = begins_front all (take k all) (drop k all) written rest (split_at k all) (sym (taken_front n all h.texts (machine.ending new) whole) ∙ is) in (did_fail, found.0, found.1)) }
+    record { complete = h.complete; unfinished = h.unfinished; bytes = h.bytes; read = h.read; cut = h.cut; lines = h.lines; are_lines = h.are_lines; written = written; wrote = took; answers = (let found = begins_all _ h.texts (machine.ending new) written rest (taken_replies machine old new h.lines h.texts taken) is in (did_fail, found.0, found.1)) }
+runs_unflushed {machine = machine} {takes = takes} more {old = old} {new = new} {o = o} {p = p} {q = q} {text1 = text1} text2 (Ok u) end h (inr (same, refused)) differs did_fail rest writes =
+    let (at_end, lines_are, none_bad, taken, wrote) = h.halted in
+    end_unflushed more text2 (Ok u) h taken wrote refused did_fail rest writes
 runs_unflushed {machine = machine} {takes = takes} more {old = old} {new = new} {o = o} {p = p} {q = q} {text1 = text1} text2 (Err (faults.BadLine line)) end h (inl (same, added)) differs did_fail rest writes =
-    let (bad, more_is, wrote) = h.halted in
+    let (bad, taken, wrote) = h.halted in
     let (written, took, is) = total takes more o p q text1 text2 rest (concat h.texts) (concat (machine.ending new)) wrote added writes in
-    record { complete = h.complete; unfinished = h.unfinished; bytes = h.bytes; read = h.read; cut = h.cut; lines = h.lines; are_lines = h.are_lines; written = written; wrote = took; answers = (let found = begins_all _ h.texts (machine.ending new) written rest (h.all ∙ ap (λ (xs : List (List ℕ)). h.texts ++ xs) more_is) is in (did_fail, found.0, found.1)) }
-runs_unflushed {machine = machine} {takes = takes} more {old = old} {new = new} {o = o} {p = p} {q = q} {text1 = text1} text2 (Err (faults.BadLine line)) end h (inr (same, (n, added))) differs did_fail rest writes =
-    let (bad, more_is, wrote) = h.halted in
-    let (written, took, is) = total takes more o p q text1 text2 rest (concat h.texts) (concat (take n (machine.ending new))) wrote added writes in
-    let all = replies machine old h.lines in
-    let whole : all ≡ h.texts ++ machine.ending new = h.all ∙ ap (λ (xs : List (List ℕ)). h.texts ++ xs) more_is in
-    let k = length h.texts + n in
-    record { complete = h.complete; unfinished = h.unfinished; bytes = h.bytes; read = h.read; cut = h.cut; lines = h.lines; are_lines = h.are_lines; written = written; wrote = took; answers = (let found = begins_front all (take k all) (drop k all) written rest (split_at k all) (sym (taken_front n all h.texts (machine.ending new) whole) ∙ is) in (did_fail, found.0, found.1)) }
+    record { complete = h.complete; unfinished = h.unfinished; bytes = h.bytes; read = h.read; cut = h.cut; lines = h.lines; are_lines = h.are_lines; written = written; wrote = took; answers = (let found = begins_all _ h.texts (machine.ending new) written rest (taken_replies machine old new h.lines h.texts taken) is in (did_fail, found.0, found.1)) }
+runs_unflushed {machine = machine} {takes = takes} more {old = old} {new = new} {o = o} {p = p} {q = q} {text1 = text1} text2 (Err (faults.BadLine line)) end h (inr (same, refused)) differs did_fail rest writes =
+    let (bad, taken, wrote) = h.halted in
+    end_unflushed more text2 (Err (faults.BadLine line)) h taken wrote refused did_fail rest writes
 runs_unflushed {machine = machine} {takes = takes} more {old = old} {new = new} {o = o} {p = p} {q = q} {text1 = text1} text2 (Err faults.Read) end h (inl (same, added)) differs did_fail rest writes =
-    let (read_fail, lines_are, short, none_bad, more_is, wrote) = h.halted in
+    let (read_fail, lines_are, short, none_bad, taken, wrote) = h.halted in
     let (written, took, is) = total takes more o p q text1 text2 rest (concat h.texts) (concat (machine.ending new)) wrote added writes in
-    record { complete = h.complete; unfinished = h.unfinished; bytes = h.bytes; read = h.read; cut = h.cut; lines = h.lines; are_lines = h.are_lines; written = written; wrote = took; answers = (let found = begins_all _ h.texts (machine.ending new) written rest (h.all ∙ ap (λ (xs : List (List ℕ)). h.texts ++ xs) more_is) is in (did_fail, found.0, found.1)) }
-runs_unflushed {machine = machine} {takes = takes} more {old = old} {new = new} {o = o} {p = p} {q = q} {text1 = text1} text2 (Err faults.Read) end h (inr (same, (n, added))) differs did_fail rest writes =
-    let (read_fail, lines_are, short, none_bad, more_is, wrote) = h.halted in
-    let (written, took, is) = total takes more o p q text1 text2 rest (concat h.texts) (concat (take n (machine.ending new))) wrote added writes in
-    let all = replies machine old h.lines in
-    let whole : all ≡ h.texts ++ machine.ending new = h.all ∙ ap (λ (xs : List (List ℕ)). h.texts ++ xs) more_is in
-    let k = length h.texts + n in
-    record { complete = h.complete; unfinished = h.unfinished; bytes = h.bytes; read = h.read; cut = h.cut; lines = h.lines; are_lines = h.are_lines; written = written; wrote = took; answers = (let found = begins_front all (take k all) (drop k all) written rest (split_at k all) (sym (taken_front n all h.texts (machine.ending new) whole) ∙ is) in (did_fail, found.0, found.1)) }
+    record { complete = h.complete; unfinished = h.unfinished; bytes = h.bytes; read = h.read; cut = h.cut; lines = h.lines; are_lines = h.are_lines; written = written; wrote = took; answers = (let found = begins_all _ h.texts (machine.ending new) written rest (taken_replies machine old new h.lines h.texts taken) is in (did_fail, found.0, found.1)) }
+runs_unflushed {machine = machine} {takes = takes} more {old = old} {new = new} {o = o} {p = p} {q = q} {text1 = text1} text2 (Err faults.Read) end h (inr (same, refused)) differs did_fail rest writes =
+    let (read_fail, lines_are, short, none_bad, taken, wrote) = h.halted in
+    end_unflushed more text2 (Err faults.Read) h taken wrote refused did_fail rest writes
 runs_unflushed {machine = machine} {takes = takes} more {old = old} {new = new} {o = o} {p = p} {q = q} {text1 = text1} text2 (Err faults.Memory) end h (same, kept) differs did_fail rest writes =
-    let (n, wrote) = h.halted in
-    let (written, took, is) = total takes more o p q text1 text2 rest (concat (take n h.texts)) [] wrote (kept ∙ sym (append-nil text1)) writes in
-    let all = replies machine old h.lines in
-    let (k, front) = taken_some n all h.texts h.more h.all in
-    record { complete = h.complete; unfinished = h.unfinished; bytes = h.bytes; read = h.read; cut = h.cut; lines = h.lines; are_lines = h.are_lines; written = written; wrote = took; answers = (let found = begins_front all (take k all) (drop k all) written rest (split_at k all) (sym front ∙ sym (append-nil (concat (take n h.texts))) ∙ is) in (did_fail, found.0, found.1)) }
+    let (front, stops, wrote) = h.halted in
+    let (written, took, is) = total takes more o p q text1 text2 rest front [] wrote (kept ∙ sym (append-nil text1)) writes in
+    let (others, begins) = stops_begin machine old h.lines front stops in
+    record { complete = h.complete; unfinished = h.unfinished; bytes = h.bytes; read = h.read; cut = h.cut; lines = h.lines; are_lines = h.are_lines; written = written; wrote = took; answers = (let found = begins_front (text machine old h.lines) front others written rest begins (sym (append-nil front) ∙ is) in (did_fail, found.0, found.1)) }
 runs_unflushed {machine = machine} {takes = takes} more {old = old} {new = new} {o = o} {p = p} {q = q} {text1 = text1} text2 (Err faults.Write) end h (same, kept) differs did_fail rest writes = absurd (differs same)
 
 pub runs_unwritten : {S O : Type 0} {machine : Machine S} {takes : O → O → List ℕ → Type 0} {old new : S} {o p : O} {text1 : List ℕ} (text2 : List ℕ) {gave : List ℕ → Type 0} {is_end read_failed write_failed : Type 0} (halt end : Result (Unit {0}) Fault) →
@@ -162,7 +199,6 @@ runs_unwritten text2 (Err faults.Read) end h (inr (same, added)) stopped = let e
 runs_unwritten text2 (Err faults.Memory) end h (same, kept) stopped = let e = sym same ∙ stopped in cc
 runs_unwritten {machine = machine} {old = old} text2 (Err faults.Write) end h (same, kept) stopped =
     let (did_fail, waiting, (written, took, is)) = h.halted in
-    let all = replies machine old h.lines in
     record {
       complete = h.complete;
       unfinished = h.unfinished;
@@ -173,7 +209,7 @@ runs_unwritten {machine = machine} {old = old} text2 (Err faults.Write) end h (s
       are_lines = h.are_lines;
       written = written;
       wrote = took;
-      answers = (let found = begins_front all h.texts h.more written waiting (ap concat h.all ∙ concat-append h.texts h.more) is in (did_fail, found.0, found.1));
+      answers = (let found = begins_front (text machine old h.lines) (concat h.texts) (concat h.more) written waiting (ap concat h.all ∙ concat-append h.texts h.more) is in (did_fail, found.0, found.1));
     }
 
 pub from_empty : {S O : Type 0} {machine : Machine S} {old new : S} {gave : List ℕ → Type 0} {is_end read_failed : Type 0} {takes : O → O → List ℕ → Type 0} {o p : O} {start text1 : List ℕ} {write_failed : Type 0} {halt : Result (Unit {0}) Fault} →

@@ -1,24 +1,29 @@
 -- How the reading of a script halts, before the end of the lines is answered and the last text is written.
-use Rattle.std.specs.Prelude.{◌≡◌, ℕ, ◌≤◌, List, [], ◌∷◌, ◌++◌, length, take, None, Some, Result, Ok, Err, ◌⊎◌}
+use Rattle.std.specs.Prelude.{◌≡◌, ℕ, ◌≤◌, List, [], ◌∷◌, ◌++◌, length, None, Some, Result, Ok, Err, ◌⊎◌}
 use Rattle.std.specs.List.{concat}
-use Rattle.replay_driver.specs.Script.{Machine, replies, first_bad, parts, last_line, AreLines}
-use Rattle.replay_driver.specs.Steps.{Writes}
+use Rattle.replay_driver.specs.Script.{Machine, Steps, replies, first_bad, IsOver, Stops, parts, last_line, AreLines}
+use Rattle.replay_driver.specs.Steps.{Writes, EndStops}
 use Rattle.replay_driver.specs.declared.fault.Fault.{Fault}
 use Rattle.replay_driver.specs.declared.fault.Fault.TheVariants as faults
+
+-- all of these lines were taken, or those before the first bad one
+abbrev pub Taken : {S : Type 0} → Machine S → S → List (List ℕ) → S → List (List ℕ) → Type 0
+Taken machine old lines new texts =
+    (before : List (List ℕ)) × (others : List (List ℕ)) × (lines ≡ before ++ others) × Steps machine old before new texts × IsOver machine new others
 
 -- the lines, the texts of the replies so far, and those that are still to come
 abbrev pub Halted : {S O : Type 0} → Machine S → S → S → (ended read_failed : Type 0) → (O → O → List ℕ → Type 0) → O → List ℕ → O → List ℕ → Type 0
     → List (List ℕ) → List ℕ → List (List ℕ) → List (List ℕ) → List (List ℕ) → Result (Unit {0}) Fault → Type 0
 Halted machine old new ended read_failed takes output text output' text' write_failed complete unfinished lines texts more (Ok _) =
-    ended × (lines ≡ complete ++ last_line unfinished) × (first_bad machine old lines ≡ None) × (more ≡ machine.ending new) × Writes takes output text output' text' (concat texts)
+    ended × (lines ≡ complete ++ last_line unfinished) × (first_bad machine old lines ≡ None) × Taken machine old lines new texts × Writes takes output text output' text' (concat texts)
 Halted machine old new ended read_failed takes output text output' text' write_failed complete unfinished lines texts more (Err (faults.BadLine n)) =
-    (first_bad machine old lines ≡ Some n) × (more ≡ machine.ending new) × Writes takes output text output' text' (concat texts)
+    (first_bad machine old lines ≡ Some n) × Taken machine old lines new texts × Writes takes output text output' text' (concat texts)
 Halted machine old new ended read_failed takes output text output' text' write_failed complete unfinished lines texts more (Err faults.Read) =
-    read_failed × (lines ≡ complete) × (length unfinished ≤ 120) × (first_bad machine old lines ≡ None) × (more ≡ machine.ending new) × Writes takes output text output' text' (concat texts)
+    read_failed × (lines ≡ complete) × (length unfinished ≤ 120) × (first_bad machine old lines ≡ None) × Taken machine old lines new texts × Writes takes output text output' text' (concat texts)
 Halted machine old new ended read_failed takes output text output' text' write_failed complete unfinished lines texts more (Err faults.Write) =
     write_failed × (waiting : List ℕ) × Writes takes output text output' waiting (concat texts)
 Halted machine old new ended read_failed takes output text output' text' write_failed complete unfinished lines texts more (Err faults.Memory) =
-    (n : ℕ) × Writes takes output text output' text' (concat (take n texts))
+    (front : List ℕ) × Stops machine old lines front × Writes takes output text output' text' front
 
 pub record Halts {S O : Type 0} (machine : Machine S) (old new : S) (gave : List ℕ → Type 0) (ended read_failed : Type 0) (takes : O → O → List ℕ → Type 0) (output : O) (text : List ℕ) (output' : O) (text' : List ℕ) (write_failed : Type 0) (result : Result (Unit {0}) Fault) : Type 0 where
   pub complete : List (List ℕ)
@@ -39,4 +44,4 @@ EndsLines machine state text text' (Err faults.Memory) result = (result ≡ Err 
 EndsLines machine state text text' (Err faults.Write) result = (result ≡ Err faults.Write) × (text' ≡ text)
 EndsLines machine state text text' halt result =
     ((result ≡ halt) × (text' ≡ text ++ concat (machine.ending state)))
-    ⊎ ((result ≡ Err faults.Memory) × ((n : ℕ) × (text' ≡ text ++ concat (take n (machine.ending state)))))
+    ⊎ ((result ≡ Err faults.Memory) × EndStops machine state text text')

@@ -16,6 +16,12 @@ pub record Machine (S : Type 0) : Type 0 where
 abbrev pub step_of : {S : Type 0} → Machine S → S → List ℕ → Option (S × List (List ℕ))
 step_of machine state line = if nat_lt 120 (length line) then None else machine.step state line
 
+-- none of these lines is bad: they lead on, and these are the texts of the replies so far
+abbrev pub Steps : {S : Type 0} → Machine S → S → List (List ℕ) → S → List (List ℕ) → Type 0
+Steps machine old [] new texts = (new ≡ old) × (texts ≡ [])
+Steps {S} machine old (line ∷ lines) new texts =
+    (mid : S) × (first : List (List ℕ)) × (others : List (List ℕ)) × (step_of machine old line ≡ Some (mid, first)) × Steps machine mid lines new others × (texts ≡ first ++ others)
+
 -- the texts of the replies, a text for each command, up to the first bad line
 abbrev pub replies : {S : Type 0} → Machine S → S → List (List ℕ) → List (List ℕ)
 replies machine state [] = machine.ending state
@@ -57,6 +63,28 @@ abbrev pub AreLines : (ended : Type 0) → List (List ℕ) → List ℕ → List
 AreLines ended complete unfinished lines =
     (lines ≡ complete) ⊎ ((ended ⊎ (120 < length unfinished)) × (lines ≡ complete ++ last_line unfinished))
 
+-- Memory was refused at one of these commands, and this is the text of those before it. Where there are none, it is empty.
+abbrev pub StopsAmong : List (List ℕ) → List ℕ → Type 0
+StopsAmong texts front = (n : ℕ) × ((n ≡ 0) ⊎ (n < length texts)) × (front ≡ concat (take n texts))
+
+-- there is no further line, or it is bad
+abbrev pub IsOver : {S : Type 0} → Machine S → S → List (List ℕ) → Type 0
+IsOver machine state [] = Unit {0}
+IsOver machine state (line ∷ lines) = step_of machine state line ≡ None
+
+-- Memory was refused at a command of the next line, or where that is over, at one that the end completes.
+abbrev pub StopsNext : {S : Type 0} → Machine S → S → List (List ℕ) → List ℕ → Type 0
+StopsNext {S} machine state lines front =
+    ((line : List ℕ) × (after : List (List ℕ)) × (last : S) × (texts : List (List ℕ)) × (lines ≡ line ∷ after) × (step_of machine state line ≡ Some (last, texts)) × StopsAmong texts front)
+    ⊎ (IsOver machine state lines × (0 < length (machine.ending state)) × StopsAmong (machine.ending state) front)
+
+-- Memory was refused at a command. The lines before its own are good, and what was written is the text of all of them, and
+-- of the commands before it.
+abbrev pub Stops : {S : Type 0} → Machine S → S → List (List ℕ) → List ℕ → Type 0
+Stops {S} machine state lines written =
+    (before : List (List ℕ)) × (others : List (List ℕ)) × (mid : S) × (texts : List (List ℕ)) × (front : List ℕ)
+    × (lines ≡ before ++ others) × Steps machine state before mid texts × StopsNext machine mid others front × (written ≡ concat texts ++ front)
+
 -- What a run of a script may answer, where these lines were read and these bytes were written.
 abbrev pub Answers : {S : Type 0} → Machine S → S → (ended read_failed write_failed : Type 0) → (complete : List (List ℕ)) (unfinished : List ℕ) (lines : List (List ℕ)) (written : List ℕ) → Result (Unit {0}) Fault → Type 0
 Answers machine state ended read_failed write_failed complete unfinished lines written (Ok _) =
@@ -68,7 +96,7 @@ Answers machine state ended read_failed write_failed complete unfinished lines w
 Answers machine state ended read_failed write_failed complete unfinished lines written (Err faults.Write) =
     write_failed × (rest : List ℕ) × (text machine state lines ≡ written ++ rest)
 Answers machine state ended read_failed write_failed complete unfinished lines written (Err faults.Memory) =
-    (n : ℕ) × (written ≡ concat (take n (replies machine state lines)))
+    ((complete ≡ []) × (unfinished ≡ []) × (written ≡ [])) ⊎ Stops machine state lines written
 
 -- Each line of a script is good, and the text of all was written.
 abbrev pub AnswersAll : {S : Type 0} → Machine S → S → (script : List ℕ) (took : List ℕ → Type 0) → Type 0

@@ -1,17 +1,11 @@
 -- How far a run of a script has come.
-use Rattle.std.specs.Prelude.{◌≡◌, ℕ, ◌+◌, ◌<◌, ◌≤◌, Bool, true, false, List, [], ◌∷◌, ◌++◌, length, take, drop, None, Some, Result, Ok, Err, nat_eq}
+use Rattle.std.specs.Prelude.{◌≡◌, ℕ, ◌+◌, ◌<◌, ◌≤◌, Bool, true, false, List, [], ◌∷◌, ◌++◌, length, drop, None, Some, Result, Ok, Err, nat_eq}
 use Rattle.std.specs.List.{concat, flat_map, All, AllByRecursion}
-use Rattle.replay_driver.specs.Script.{Machine, step_of, last_line}
+use Rattle.replay_driver.specs.Script.{Machine, step_of, Steps, StopsAmong, last_line}
 use Rattle.replay_driver.specs.declared.fault.Fault.{Fault}
 use Rattle.replay_driver.specs.declared.fault.Fault.TheVariants as faults
 use Rattle.replay_driver.specs.declared.session.Stop.{Stop}
 use Rattle.replay_driver.specs.declared.session.Stop.TheVariants as stops
-
--- none of these lines is bad: they lead on, and these are the texts of the replies so far
-abbrev pub Steps : {S : Type 0} → Machine S → S → List (List ℕ) → S → List (List ℕ) → Type 0
-Steps machine old [] new texts = (new ≡ old) × (texts ≡ [])
-Steps {S} machine old (line ∷ lines) new texts =
-    (mid : S) × (first : List (List ℕ)) × (others : List (List ℕ)) × (step_of machine old line ≡ Some (mid, first)) × Steps machine mid lines new others × (texts ≡ first ++ others)
 
 -- a line with its line feed
 abbrev pub ended : List ℕ → List ℕ
@@ -28,12 +22,18 @@ Writes takes old text new rest added = (written : List ℕ) × takes old new wri
 abbrev pub TakesLine : {S E : Type 0} → Machine S → S → List ℕ → S → List ℕ → List ℕ → Result Bool E → Type 0
 TakesLine machine old line new text after (Ok true) = (texts : List (List ℕ)) × (machine.step old line ≡ Some (new, texts)) × (after ≡ text ++ concat texts)
 TakesLine machine old line new text after (Ok false) = (machine.step old line ≡ None) × (new ≡ old) × (after ≡ text)
-TakesLine {S} machine old line new text after (Err e) = (last : S) × (texts : List (List ℕ)) × (n : ℕ) × (machine.step old line ≡ Some (last, texts)) × (after ≡ text ++ concat (take n texts))
+TakesLine {S} machine old line new text after (Err e) =
+    (last : S) × (texts : List (List ℕ)) × (front : List ℕ) × (machine.step old line ≡ Some (last, texts)) × StopsAmong texts front × (after ≡ text ++ front)
+
+-- memory was refused at a command that the end completes, and the texts of those before it were added
+abbrev pub EndStops : {S : Type 0} → Machine S → S → List ℕ → List ℕ → Type 0
+EndStops machine old text after =
+    (front : List ℕ) × (0 < length (machine.ending old)) × StopsAmong (machine.ending old) front × (after ≡ text ++ front)
 
 -- a session's last replies were added to the text
 abbrev pub Ends : {S E : Type 0} → Machine S → S → List ℕ → List ℕ → Result (Unit {0}) E → Type 0
 Ends machine old text after (Ok _) = after ≡ text ++ concat (machine.ending old)
-Ends machine old text after (Err e) = (n : ℕ) × (after ≡ text ++ concat (take n (machine.ending old)))
+Ends machine old text after (Err e) = EndStops machine old text after
 
 -- one line was taken, or stopped the script
 abbrev pub TakesOne : {S O : Type 0} → Machine S → S → List ℕ → S → (O → O → List ℕ → Type 0) → O → List ℕ → O → List ℕ → Type 0 → Result (Unit {0}) Stop → Type 0
@@ -42,7 +42,7 @@ TakesOne machine old line new takes output text output' text' failed (Ok _) =
 TakesOne machine old line new takes output text output' text' failed (Err stops.Bad) =
     (step_of machine old line ≡ None) × (new ≡ old) × Writes takes output text output' text' []
 TakesOne {S} machine old line new takes output text output' text' failed (Err stops.Memory) =
-    (last : S) × (texts : List (List ℕ)) × (n : ℕ) × (step_of machine old line ≡ Some (last, texts)) × Writes takes output text output' text' (concat (take n texts))
+    (last : S) × (texts : List (List ℕ)) × (front : List ℕ) × (step_of machine old line ≡ Some (last, texts)) × StopsAmong texts front × Writes takes output text output' text' front
 TakesOne machine old line new takes output text output' text' failed (Err stops.Write) =
     (texts : List (List ℕ)) × (rest : List ℕ) × (step_of machine old line ≡ Some (new, texts)) × Writes takes output text output' rest (concat texts) × failed
 
@@ -61,8 +61,9 @@ TakesLines machine old block new takes output text output' text' failed count co
     (lines : List (List ℕ)) × (texts : List (List ℕ)) × (line : List ℕ) × (rest : List ℕ) × Leads machine old block lines (line ++ 10 ∷ rest) new texts
     × HasNoFeed line × (step_of machine new line ≡ None) × (count' ≡ count + length lines) × Writes takes output text output' text' (concat texts)
 TakesLines {S} machine old block new takes output text output' text' failed count count' (Err stops.Memory) =
-    (lines : List (List ℕ)) × (texts : List (List ℕ)) × (rest : List ℕ) × (last : S) × (n : ℕ) × Leads machine old block lines rest last texts
-    × Writes takes output text output' text' (concat (take n texts))
+    (lines : List (List ℕ)) × (texts : List (List ℕ)) × (line : List ℕ) × (rest : List ℕ) × (mid : S) × (last : S) × (added : List (List ℕ)) × (front : List ℕ)
+    × Leads machine old block lines (line ++ 10 ∷ rest) mid texts × HasNoFeed line × (step_of machine mid line ≡ Some (last, added)) × StopsAmong added front
+    × Writes takes output text output' text' (concat texts ++ front)
 TakesLines machine old block new takes output text output' text' failed count count' (Err stops.Write) =
     (lines : List (List ℕ)) × (texts : List (List ℕ)) × (rest : List ℕ) × (waiting : List ℕ) × Leads machine old block lines rest new texts
     × Writes takes output text output' waiting (concat texts) × failed

@@ -23,9 +23,9 @@ pub trait Session {
 
     /// Takes a line, without its line feed, and adds the texts of the commands that it completes.
     ///
-    /// `Ok(false)` means that the line is bad, and nothing changes. After an `Err` memory was refused: the texts of
-    /// some of the commands were added, each as a whole, and the session takes no further line. The cost is that of the
-    /// commands and their texts.
+    /// `Ok(false)` means that the line is bad, and nothing changes. After an `Err` memory was refused at one of the
+    /// commands: the texts of those before it were added, and the session takes no further line. The cost is that of
+    /// the commands and their texts.
     fn take(&mut self, line: &[u8], text: &mut Vec<u8>) -> Result<bool, AllocError>
         requires { is_ready self.old }
         ensures taken { TakesLine machine (state self.old) line.now (state self.new)
@@ -34,7 +34,7 @@ pub trait Session {
 
     /// Adds the texts of what the end of the lines completes.
     ///
-    /// After an `Err` memory was refused, and some of them were added, each as a whole.
+    /// After an `Err` memory was refused at one of them, and those before it were added.
     fn end(&mut self, text: &mut Vec<u8>) -> Result<(), AllocError>
         requires { is_ready self.old }
         ensures { Ends machine (state self.old) text.old.items text.new.items result };

@@ -24,8 +24,8 @@ pub trait Source {
 
     /// Reads into the front of the buffer, and answers how many bytes.
     ///
-    /// At 0 bytes into a buffer that is not empty, the end is met: no byte comes any more. An `Err` reads no byte, and
-    /// each further read fails too.
+    /// At 0 bytes into a buffer that is not empty, the end is met: no byte comes any more. Nothing else ends it. An
+    /// `Err` reads no byte, and each further read fails too.
     fn read(&mut self, buffer: &mut [u8]) -> Result<usize, Failed>
         ensures count { IfOk result (λ n. n ≤ length buffer.new) }
         ensures bytes { IfOk result (λ n. gives self.old self.new (take n buffer.new)) }
@@ -33,7 +33,8 @@ pub trait Source {
         ensures ok { OnOk result (has_failed self.new → ⊥) }
 
         ensures end { IfOk result (λ n. n ≡ 0 → 0 < length buffer.new → at_end self.new) }
-        ensures no_other_end { IfOk result (λ n. at_end self.new → at_end self.old ⊎ ((n ≡ 0) × (0 < length buffer.new))) }
+        ensures no_other_end { IfOk result
+            (λ n. at_end self.new → at_end self.old ⊎ ((n ≡ 0) × (0 < length buffer.new))) }
         ensures after_end { IfOk result (λ n. at_end self.old → n ≡ 0) }
         ensures stays_at_end { at_end self.old → at_end self.new }
 
@@ -96,7 +97,8 @@ impl<R: Read> Source for FromRead<R> {
 
     ghost gives_nothing = { λ s. gives-nothing (R.remaining s.reader) (IsTrue s.ended) };
 
-    ghost gives_more = { λ s t u xs ys. gives-more (R.remaining s.reader) (R.remaining t.reader) (R.remaining u.reader) (IsTrue s.ended) (IsTrue t.ended) (IsTrue u.ended) xs ys };
+    ghost gives_more = { λ s t u. gives-more (R.remaining s.reader) (R.remaining t.reader) (R.remaining u.reader)
+        (IsTrue s.ended) (IsTrue t.ended) (IsTrue u.ended) };
 
     ghost nothing_after_end = { λ s t bytes ended gave. (gave.1 ended.0).0 };
 

@@ -1,6 +1,6 @@
 -- What the lines of mode list do to a session's state.
-use Rattle.std.proofs.Common.{◌≡◌, ℕ, List, [], ◌∷◌, ◌++◌, Option, Some, None, true, refl, sym, ◌∙◌, ap}
-use Rattle.std.specs.Prelude.{is_some}
+use Rattle.std.proofs.Common.{◌≡◌, ℕ, List, [], ◌∷◌, ◌++◌, Option, Some, None, true, Result, Ok, Err, OnOk, OnErr, refl, sym, ◌∙◌, ap, arith, inl}
+use Rattle.std.specs.Prelude.{is_some, IsSome}
 use Rattle.std.specs.Option.{option_map}
 use Rattle.std.specs.List.{concat}
 use Rattle.std.proofs.lemmas.List.{append-nil}
@@ -18,8 +18,9 @@ use Rattle.replay_lines.specs.declared.list_command.Entry.TheVariants as entries
 use Rattle.replay_lines.specs.ReplyText.{text_of}
 use Rattle.replay_lines.specs.ListScript.{Meaning, command_meant, meant, meaning_of}
 use Rattle.replay_lines.specs.CursorScript.{cursor_command_of}
-use Rattle.replay_sessions.specs.ListMachine.{Open, State, run_block, longer, answered, take_outside, take_inside, take_line}
-use Rattle.replay_sessions.specs.OpenBlocks.{IsNoEnd, AreOpen, IsOpen, CanRun, Closes}
+use Rattle.replay_driver.specs.Steps.{Ends}
+use Rattle.replay_sessions.specs.ListMachine.{list_machine, Open, State, run_block, longer, answered, take_outside, take_inside, take_line}
+use Rattle.replay_sessions.specs.OpenBlocks.{opened, IsNoEnd, AreOpen, IsOpen, CanRun, Closes}
 
 pub some_meaning : (meaning : Option Meaning) → is_some meaning ≡ true → (m : Meaning) × (Some m ≡ meaning)
 some_meaning (Some m) is = (m, refl)
@@ -97,3 +98,11 @@ can_run_to (first ∷ rest) line (first_fits, goes_on, held) fits = (first_fits,
 pub stays_open : (lines : List CursorCommand) (line : CursorCommand) → AreOpen lines → OtherFits line → IsNoEnd line → AreOpen (lines ++ line ∷ [])
 stays_open [] line held fits goes_on = (fits, goes_on, tt)
 stays_open (first ∷ rest) line (first_fits, first_goes_on, held) fits goes_on = (first_fits, first_goes_on, stays_open rest line held fits goes_on)
+
+-- what the end completes: the open block, unless memory for it was refused
+pub ended : {E : Type 0} (table : Table) (block : Option Block) (new : State) (before after : List ℕ) (result : Result (Unit {0}) E) →
+    OnOk result (Closes (table, opened block) new before after) → OnErr result (after ≡ before) → OnErr result (IsSome block) → Ends list_machine (table, opened block) before after result
+ended table None new before after (Ok done) (is, same) kept some = same ∙ sym (append-nil before)
+ended table (Some block) new before after (Ok done) (is, added) kept some = added ∙ ap (λ (t : List ℕ). before ++ t) (sym (append-nil _))
+ended table None new before after (Err e) closes kept some = cc
+ended table (Some block) new before after (Err e) closes kept some = ([], omega arith, (0, inl refl, refl), kept ∙ sym (append-nil before))

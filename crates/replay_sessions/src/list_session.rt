@@ -1,5 +1,5 @@
 //! Scripts in mode `list`.
-ghost use Rattle.std.specs.Prelude.{◌≡◌, Some, None, IfOk, OnOk, OnErr};
+ghost use Rattle.std.specs.Prelude.{◌≡◌, Some, None, IsSome, IfOk, OnOk, OnErr};
 ghost use Rattle.cordyceps.specs.Lists.{step, Fits};
 ghost use Rattle.cordyceps.specs.Replies.{lines_of};
 ghost use Rattle.cordyceps.specs.Tables.{empty_table};
@@ -60,6 +60,7 @@ impl ListSession {
             (Closes (self.old.lists, opened self.old.block) (self.new.lists, opened self.new.block) text.old.items
             text.new.items) }
         ensures err { OnErr result (text.new.items ≡ text.old.items) }
+        ensures open { OnErr result (IsSome self.old.block) }
         ensures block { self.new.block ≡ None }
     {
         let Some(block) = self.block.take() else {

@@ -72,8 +72,8 @@ pub fn choose(words: &[String]) -> Option<Choice>
 ///
 /// A line ends with a line feed, which the last one may lack, and has at most 120 bytes without it. After a bad line or
 /// a failed read the replies to the lines before it stand written. After a failed write, what the sink took is a
-/// beginning of the replies. After refused memory, the replies to the commands before some command stand written, each
-/// as a whole. More may be read than the lines that were taken.
+/// beginning of the replies. After refused memory, the replies to the commands before the one that was refused stand
+/// written. More may be read than the lines that were taken.
 ///
 /// In mode `list` a cursor block is one command. It is run when its end is met, the end of the input, a bad line or a
 /// failed read.

@@ -1,4 +1,4 @@
-use Rattle.std.proofs.Common.{[], sym, ◌∙◌}
+use Rattle.std.proofs.Common.{[], refl, sym, ◌∙◌, inl}
 use Rattle.std.proofs.lemmas.List.{append-nil}
 use Rattle.std.proofs.lemmas.Result.{err_from_is_err_and}
 use Rattle.replay_sessions.proofs.ListLines.{inside, kept, closed, no_end, can_run_to, stays_open}
@@ -11,8 +11,9 @@ returns-in_err-push-clause-taken c =
     rw p.1 (
       _,
       _,
-      0,
+      [],
       inside c.args.self.now.lists (block.list, block.end, block.lines.items) c.args.line.now c.in-Some.command c.in-Some.ensures.value,
+      (0, inl refl, refl),
       sym (append-nil c.args.text.now.items),
     )
 
@@ -27,8 +28,9 @@ returns-in_err-close-clause-taken c =
     rw p.1 (
       _,
       _,
-      0,
+      [],
       inside c.args.self.now.lists (block.list, block.end, block.lines.items) c.args.line.now c.in-Some.command c.in-Some.ensures.value,
+      (0, inl refl, refl),
       c.in_err-close.ensures.err ∙ sym (append-nil c.args.text.now.items),
     )
 

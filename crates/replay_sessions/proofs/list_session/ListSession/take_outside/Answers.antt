@@ -1,4 +1,4 @@
-use Rattle.std.proofs.Common.{◌++◌, ◌∷◌, [], sym, ◌∙◌, ap}
+use Rattle.std.proofs.Common.{◌++◌, ◌∷◌, [], refl, sym, ◌∙◌, ap, inl}
 use Rattle.std.proofs.lemmas.List.{append-nil}
 use Rattle.std.proofs.lemmas.Result.{err_from_is_err_and}
 use Rattle.cordyceps.specs.Replies.{lines_of}
@@ -11,14 +11,14 @@ pub returns-in_err-read_entry-clause-taken : goal.returns-in_err-read_entry-clau
 returns-in_err-read_entry-clause-taken c =
     let p = err_from_is_err_and c.from_residual.result c.from_residual.ensures.1 in
     let (meaning, is) = some_meaning (meaning_of c.args.line.now) c.in_err-read_entry.ensures.err in
-    rw (p.1, c.requires) (_, _, 0, outside c.args.self.now.lists c.args.line.now meaning is, sym (append-nil c.args.text.now.items))
+    rw (p.1, c.requires) (_, _, [], outside c.args.self.now.lists c.args.line.now meaning is, (0, inl refl, refl), sym (append-nil c.args.text.now.items))
 
 pub returns-in_err-reply-in-Some-Command-clause-taken : goal.returns-in_err-reply-in-Some-Command-clause-taken
 returns-in_err-reply-in-Some-Command-clause-taken c =
     let p = err_from_is_err_and c.from_residual-in_err-reply-in-Some-Command.result c.from_residual-in_err-reply-in-Some-Command.ensures.1 in
     let here = c.in-Some-Command in
     let means = command_read c.args.line.now c.in_ok-read_entry.field-0 here.field-0 here.command here.is here.field-0-is c.in_ok-read_entry.ensures.value in
-    rw (p.1, c.requires) (_, _, 0, entered c.args.self.now.lists c.args.line.now here.command means, sym (append-nil c.args.text.now.items))
+    rw (p.1, c.requires) (_, _, [], entered c.args.self.now.lists c.args.line.now here.command means, (0, inl refl, refl), sym (append-nil c.args.text.now.items))
 
 pub returns-in_err-push_reply-in-Some-Command-clause-taken : goal.returns-in_err-push_reply-in-Some-Command-clause-taken
 returns-in_err-push_reply-in-Some-Command-clause-taken c =
@@ -28,8 +28,9 @@ returns-in_err-push_reply-in-Some-Command-clause-taken c =
     rw (p.1, c.requires) (
       _,
       _,
-      0,
+      [],
       entered c.args.self.now.lists c.args.line.now here.command means,
+      (0, inl refl, refl),
       c.in_err-push_reply-in-Some-Command.ensures.err ∙ sym (append-nil c.args.text.now.items),
     )
 

@@ -1,4 +1,4 @@
-use Rattle.std.proofs.Common.{◌++◌, ◌∷◌, [], sym, ◌∙◌, ap}
+use Rattle.std.proofs.Common.{◌++◌, ◌∷◌, [], refl, sym, ◌∙◌, ap, inl}
 use Rattle.std.specs.Option.{option_map}
 use Rattle.std.proofs.lemmas.List.{append-nil}
 use Rattle.std.proofs.lemmas.Result.{err_from_is_err_and}
@@ -17,13 +17,13 @@ pub returns-in_err-command-clause-taken : goal.returns-in_err-command-clause-tak
 returns-in_err-command-clause-taken g c =
     let p = err_from_is_err_and c.from_residual.result c.from_residual.ensures.1 in
     let (entry, is) = some_entry (entry_of c.args.line.now) c.in_err-command.ensures.err in
-    rw p.1 (_, _, 0, taken entry_of (step_entry (order_of own by_tens)) c.args.self.now.sorteds.0 c.args.line.now entry is, sym (append-nil c.args.text.now.items))
+    rw p.1 (_, _, [], taken entry_of (step_entry (order_of own by_tens)) c.args.self.now.sorteds.0 c.args.line.now entry is, (0, inl refl, refl), sym (append-nil c.args.text.now.items))
 
 pub returns-in_err-reply-clause-taken : goal.returns-in_err-reply-clause-taken
 returns-in_err-reply-clause-taken g c =
     let p = err_from_is_err_and c.from_residual-in_err-reply.result c.from_residual-in_err-reply.ensures.1 in
     let is = ap (option_map entry_for) (sym c.in-Some.is) ∙ c.in_ok-command.ensures.value in
-    rw p.1 (_, _, 0, taken entry_of (step_entry (order_of own by_tens)) c.args.self.now.sorteds.0 c.args.line.now (entry_for c.in-Some.command) is, sym (append-nil c.args.text.now.items))
+    rw p.1 (_, _, [], taken entry_of (step_entry (order_of own by_tens)) c.args.self.now.sorteds.0 c.args.line.now (entry_for c.in-Some.command) is, (0, inl refl, refl), sym (append-nil c.args.text.now.items))
 
 pub returns-in_err-reply-clause-ready : goal.returns-in_err-reply-clause-ready
 returns-in_err-reply-clause-ready g c = rw c.in_err-reply.ensures.function (c.requires.0, c.requires.1, c.in_err-reply.ensures.in_order)
@@ -35,8 +35,9 @@ returns-in_err-push_reply-clause-taken g c =
     rw p.1 (
       _,
       _,
-      0,
+      [],
       taken entry_of (step_entry (order_of own by_tens)) c.args.self.now.sorteds.0 c.args.line.now (entry_for c.in-Some.command) is,
+      (0, inl refl, refl),
       c.in_err-push_reply.ensures.err ∙ sym (append-nil c.args.text.now.items),
     )
 

@@ -1,4 +1,4 @@
-use Rattle.std.proofs.Common.{◌++◌, ◌∷◌, [], sym, ◌∙◌, ap}
+use Rattle.std.proofs.Common.{◌++◌, ◌∷◌, [], refl, sym, ◌∙◌, ap, inl}
 use Rattle.std.proofs.lemmas.List.{append-nil}
 use Rattle.std.proofs.lemmas.Result.{err_from_is_err_and}
 use Rattle.cordyceps.specs.Replies.{lines_of}
@@ -11,12 +11,12 @@ use Rattle.replay_sessions.proofs.stack_session.StackSessionSession.take.Goals a
 pub returns-in_err-reply-clause-taken : goal.returns-in_err-reply-clause-taken
 returns-in_err-reply-clause-taken c =
     let p = err_from_is_err_and c.from_residual.result c.from_residual.ensures.1 in
-    rw p.1 (_, _, 0, taken command_of step c.args.self.now.stacks c.args.line.now c.in-Some.command c.in-Some.ensures.value, sym (append-nil c.args.text.now.items))
+    rw p.1 (_, _, [], taken command_of step c.args.self.now.stacks c.args.line.now c.in-Some.command c.in-Some.ensures.value, (0, inl refl, refl), sym (append-nil c.args.text.now.items))
 
 pub returns-in_err-push_reply-clause-taken : goal.returns-in_err-push_reply-clause-taken
 returns-in_err-push_reply-clause-taken c =
     let p = err_from_is_err_and c.from_residual-in_err-push_reply.result c.from_residual-in_err-push_reply.ensures.1 in
-    rw p.1 (_, _, 0, taken command_of step c.args.self.now.stacks c.args.line.now c.in-Some.command c.in-Some.ensures.value, c.in_err-push_reply.ensures.err ∙ sym (append-nil c.args.text.now.items))
+    rw p.1 (_, _, [], taken command_of step c.args.self.now.stacks c.args.line.now c.in-Some.command c.in-Some.ensures.value, (0, inl refl, refl), c.in_err-push_reply.ensures.err ∙ sym (append-nil c.args.text.now.items))
 
 pub returns-clause-taken : goal.returns-clause-taken
 returns-clause-taken c =

@@ -1,4 +1,4 @@
-use Rattle.std.proofs.Common.{◌++◌, ◌∷◌, [], sym, ◌∙◌, ap}
+use Rattle.std.proofs.Common.{◌++◌, ◌∷◌, [], refl, sym, ◌∙◌, ap, inl}
 use Rattle.std.proofs.lemmas.List.{append-nil}
 use Rattle.std.proofs.lemmas.Result.{err_from_is_err_and}
 use Rattle.replay_lines.specs.CoreReplies.{said, core_text}
@@ -10,7 +10,7 @@ use Rattle.replay_sessions.proofs.transfer_session.TransferSessionSession.take.G
 pub returns-in_err-reply-clause-taken : goal.returns-in_err-reply-clause-taken
 returns-in_err-reply-clause-taken c =
     let p = err_from_is_err_and c.from_residual.result c.from_residual.ensures.1 in
-    rw p.1 (_, _, 0, core_taken command_of step c.args.self.now.core c.args.line.now c.in-Some.command c.in-Some.ensures.value, sym (append-nil c.args.text.now.items))
+    rw p.1 (_, _, [], core_taken command_of step c.args.self.now.core c.args.line.now c.in-Some.command c.in-Some.ensures.value, (0, inl refl, refl), sym (append-nil c.args.text.now.items))
 
 pub returns-in_err-push_core_reply-clause-taken : goal.returns-in_err-push_core_reply-clause-taken
 returns-in_err-push_core_reply-clause-taken c =
@@ -18,8 +18,9 @@ returns-in_err-push_core_reply-clause-taken c =
     rw p.1 (
       _,
       _,
-      0,
+      [],
       core_taken command_of step c.args.self.now.core c.args.line.now c.in-Some.command c.in-Some.ensures.value,
+      (0, inl refl, refl),
       c.in_err-push_core_reply.ensures.err ∙ sym (append-nil c.args.text.now.items),
     )
 
