@@ -6,6 +6,8 @@ pub use Rattle.cordyceps_shared.proofs.Halving
 pub use Rattle.cordyceps_shared.proofs.Interleaving
 pub use Rattle.cordyceps_shared.proofs.Knowing
 pub use Rattle.cordyceps_shared.proofs.Moving
+pub use Rattle.cordyceps_shared.proofs.Ordering
 pub use Rattle.cordyceps_shared.proofs.Owning
 pub use Rattle.cordyceps_shared.proofs.Sending
 pub use Rattle.cordyceps_shared.proofs.Summing
+pub use Rattle.cordyceps_shared.proofs.Tracing

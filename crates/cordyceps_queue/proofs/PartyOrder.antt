@@ -43,7 +43,7 @@ module _ {P E : Type 0} (same : Discrete P) (q : P) where
   put_in (Empty p ∷ h) = put_in h
   put_in (Free p ∷ h) = put_in h
 
-  takes_append : (h t : List (Event P E)) → takes_by same q (h ++ t) ≡ takes_by same q h + takes_by same q t
+  pub takes_append : (h t : List (Event P E)) → takes_by same q (h ++ t) ≡ takes_by same q h + takes_by same q t
   takes_append [] t = omega arith
   takes_append (Take p ∷ h) t = let r = takes_append h t in omega arith
   takes_append (Swap p e ∷ h) t = takes_append h t
@@ -54,7 +54,7 @@ module _ {P E : Type 0} (same : Discrete P) (q : P) where
   takes_append (Empty p ∷ h) t = takes_append h t
   takes_append (Free p ∷ h) t = takes_append h t
 
-  frees_append : (h t : List (Event P E)) → frees_by same q (h ++ t) ≡ frees_by same q h + frees_by same q t
+  pub frees_append : (h t : List (Event P E)) → frees_by same q (h ++ t) ≡ frees_by same q h + frees_by same q t
   frees_append [] t = omega arith
   frees_append (Free p ∷ h) t = let r = frees_append h t in omega arith
   frees_append (Swap p e ∷ h) t = frees_append h t

@@ -7,6 +7,8 @@ pub mod CloseTakesAll
 pub mod DequeueKeeps
 pub mod EnqueueKeeps
 pub mod HolderAllowed
+pub mod OthersDoing
+pub mod OwnNames
 pub mod PartingKeeps
 pub mod PartsJoin
 pub mod PartyMoves

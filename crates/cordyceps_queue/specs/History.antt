@@ -16,6 +16,17 @@ pub data Event (P E : Type 0) : Type 0 where
   Free : P → Event P E
 
 module _ {P E : Type 0} where
+  -- the party of an event
+  abbrev pub actor : Event P E → P
+  actor (Swap p e) = p
+  actor (Link p) = p
+  actor (Take p) = p
+  actor (Busy p) = p
+  actor (Look p) = p
+  actor (Out p e) = p
+  actor (Empty p) = p
+  actor (Free p) = p
+
   -- the elements that were put in, and those that came out
   abbrev pub came : List (Event P E) → List E
   came [] = []

@@ -1,7 +1,12 @@
 -- What every legal history says, and that histories say the same read from either end.
-use Rattle.std.specs.Prelude.{◌≡◌, ℕ, suc, ◌+◌, ◌⊎◌, List, [], ◌∷◌, ◌++◌, map, reverse, Some, ◌↔◌}
+use Rattle.std.specs.Prelude.{◌≡◌, ℕ, suc, ◌+◌, ◌⊎◌, List, [], ◌∷◌, ◌++◌, map, reverse, Bool, true, Some, Err, ◌↔◌}
+use Rattle.cordyceps_shared.specs.Histories.{plain}
+use Rattle.cordyceps_shared.specs.Shares.{Name, IsOf}
+use Rattle.cordyceps_shared.specs.Standings.{name_of}
+use Rattle.cordyceps_queue.specs.declared.cores.steps.TryDequeueError.TheVariants as error
+use Rattle.cordyceps_queue.specs.Shared.Calls.{PartyOf, Legal, NonePending, NoneHolds, Adds, Dequeues, Consumes}
 use Rattle.cordyceps_queue.specs.History as told
-use Rattle.cordyceps_queue.specs.History.{Event, Swap, Take, Free, went, held, holder, one_if_dec}
+use Rattle.cordyceps_queue.specs.History.{Event, Swap, Take, Busy, Free, went, held, holder, one_if_dec}
 use Rattle.cordyceps_queue.specs.Past as past
 
 -- legal by the conditions on every beginning, or event by event
@@ -79,3 +84,26 @@ ProducersInOrder P E =
 abbrev pub OneHolder : (P E : Type 0) → Type 0
 OneHolder P E =
     (same : Discrete P) (h past later : List (Event P E)) → told.IsLegal same h → h ≡ past ++ later → OneHasRight same past
+
+-- just before the event by which the party found the right taken, another had it: its name is none of the party's
+pub record FoundTaken {E : Type 0} (u w : PartyOf E) : Type 0 where
+  pub past : List (Bool × Event Name E)
+  pub later : List (Bool × Event Name E)
+  pub is : w.seen ≡ past ++ (true, Busy (name_of u)) ∷ later
+  pub by : Name
+  pub holds : holder (plain past) ≡ Some by
+  pub another : IsOf u.share by → ⊥
+
+-- a party of which no name has the right, and which finds it taken
+abbrev pub BusyIsAnothers : Type 0 → Type 0
+BusyIsAnothers E = (u w : PartyOf E) → Legal (plain u.seen) → NoneHolds u.share (plain u.seen) → Adds u (Busy (name_of u) ∷ []) w → FoundTaken u w
+
+-- a party of which no name is pending, and of which a try was blocked: it was so by a name that is none of the party's
+abbrev pub BlockedIsAnothers : Type 0 → Type 0
+BlockedIsAnothers E =
+    (u w : PartyOf E) → Legal (plain u.seen) → NonePending u.share (plain u.seen) → (d : Dequeues (Err error.Inconsistent) u w) → IsOf u.share d.2.blocked.by → ⊥
+
+-- and the same of a consumer's try
+abbrev pub BlockedTryIsAnothers : Type 0 → Type 0
+BlockedTryIsAnothers E =
+    (u w : PartyOf E) → Legal (plain u.seen) → NonePending u.share (plain u.seen) → (d : Consumes (Err error.Inconsistent) u w) → IsOf u.share d.2.blocked.by → ⊥

@@ -1,11 +1,14 @@
 //! Laws of histories and of queues. Each is a function whose contract is the law: one of all histories has no body, and
 //! one of calls has these calls.
-ghost use Rattle.std.specs.Prelude.{◌≡◌, ◌≤◌, ◌++◌, map, length, true, Ok};
+ghost use Rattle.std.specs.Prelude.{◌≡◌, ◌≤◌, ◌++◌, map, length, Ok};
 ghost use Rattle.cordyceps_shared.specs.Histories.{plain};
 ghost use Rattle.cordyceps_shared.specs.Shares.{whole};
 ghost use Rattle.cordyceps_queue.specs.History.{held};
 ghost use Rattle.cordyceps_queue.specs.Laws.{LegalBothWays, BlockedBothWays, WasBlockedBothWays, ProducersInOrder, OneHolder};
-ghost use Rattle.cordyceps_queue.specs.declared.cores.steps.QueueAnswer.TheVariants as kinds;
+ghost use Rattle.cordyceps_queue.specs.Laws.{BusyIsAnothers, BlockedIsAnothers, BlockedTryIsAnothers};
+ghost use Rattle.cordyceps_queue.specs.Cores.Machine.{stepped};
+ghost use Rattle.cordyceps_queue.specs.declared.cores.steps.QueueAnswer.TheVariants as answers;
+ghost use Rattle.cordyceps_queue.specs.declared.cores.steps.QueueStep.TheVariants as kinds;
 
 use crate::cores::calls::QueueCore;
 use crate::cores::steps::{QueueAnswer, QueueStep};
@@ -34,7 +37,15 @@ pub fn one_holder<P, E>()
     ensures { OneHolder P E }
 {}
 
-/// What a party puts in leaves in its order, behind what was held.
+/// `Busy` and `Inconsistent` are others' doing: where a party finds the right taken, or a try blocked, it is by a name
+/// that is none of its own.
+pub fn others_doing<E>()
+    ensures busy { BusyIsAnothers E }
+    ensures blocked { BlockedIsAnothers E }
+    ensures blocked_try { BlockedTryIsAnothers E }
+{}
+
+/// What a party puts in leaves in its order, behind what was held, and the stub comes back.
 pub fn close_behind<T: Linked<Links<T>>>(
     queue: MpscQueue<T>,
     mut party: Party<T>,
@@ -43,7 +54,8 @@ pub fn close_behind<T: Linked<Links<T>>>(
     requires table { party.table ≡ queue.table }
     requires whole { party.share ≡ whole }
     requires rooms { length elements ≤ party.rooms }
-    ensures { result.elements ≡ map T.element (held (plain party.seen)) ++ elements }
+    ensures elements { result.elements ≡ map T.element (held (plain party.seen)) ++ elements }
+    ensures stub { result.stub ≡ queue.stub }
 {
     while let Some(handle) = elements.next() {
         queue.enqueue(&mut party, handle);
@@ -51,18 +63,22 @@ pub fn close_behind<T: Linked<Links<T>>>(
     queue.close(party)
 }
 
-/// Whether a step took the right.
-fn has_taken<E>(answered: &Result<QueueAnswer<E>, (StepError, Option<E>)>) -> bool
-    ensures { result ≡ true → answered.now ≡ Ok kinds.Taken }
-{
-    matches!(answered, Ok(QueueAnswer::Taken))
-}
+/// What a core answers to a step.
+type Answered<E> = Result<QueueAnswer<E>, (StepError, Option<E>)>;
 
-/// Of two takings with no giving back between them at most one gets the right, at any core.
-pub fn take_twice<E: Drop>(core: &mut QueueCore<E>, first: usize, second: usize) -> (bool, bool)
-    ensures { result.0 ≡ true → result.1 ≡ true → ⊥ }
+/// Takes the right as one party and then as another. Of two takings with no giving back between them at most one gets
+/// it, at any core.
+pub fn take_twice<E: Drop>(
+    core: &mut QueueCore<E>,
+    first: usize,
+    second: usize,
+) -> (Answered<E>, Answered<E>)
+    ensures one { result.0 ≡ (stepped core.old first kinds.Take).1 }
+    ensures other { result.1 ≡ (stepped (stepped core.old first kinds.Take).0 second kinds.Take).1 }
+    ensures core { core.new ≡ (stepped (stepped core.old first kinds.Take).0 second kinds.Take).0 }
+    ensures law { result.0 ≡ Ok answers.Taken → result.1 ≡ Ok answers.Taken → ⊥ }
 {
     let one = core.step(first, QueueStep::Take);
     let other = core.step(second, QueueStep::Take);
-    (has_taken(&one), has_taken(&other))
+    (one, other)
 }

@@ -1,13 +1,13 @@
 -- What parties did in several steps, and what a party did that gave rooms to another and took it in again.
 use Rattle.std.proofs.Common.{◌≡◌, ℕ, List, [], ◌∷◌, ◌++◌, Bool, refl, sym, ap, ◌∙◌, subst, append-nil, append_assoc}
-use Rattle.cordyceps_shared.specs.Acting.{OneName, Acts}
+use Rattle.cordyceps_shared.specs.Acting.{Acts}
 use Rattle.cordyceps_shared.specs.Histories.{plain, own, AllOwn, Apart}
 use Rattle.cordyceps_shared.specs.Interleaving.{Interleaves}
 use Rattle.cordyceps_shared.specs.Knowing.{unmarked, merged, Begins}
-use Rattle.cordyceps_shared.specs.Shares.{joined}
+use Rattle.cordyceps_shared.specs.Shares.{Name, joined, IsShare}
 use Rattle.cordyceps_shared.specs.Standings.{Standing, keeping, giving, Adds, Absorbs}
 use Rattle.cordyceps_shared.proofs.Adding.{plain_own}
-use Rattle.cordyceps_shared.proofs.Halving.{share_joins}
+use Rattle.cordyceps_shared.proofs.Ordering.{share_joins}
 use Rattle.cordyceps_shared.proofs.Interleaving.{interleaves_same}
 use Rattle.cordyceps_shared.proofs.Owning.{own_merged}
 use Rattle.cordyceps_shared.proofs.Renaming.{or_false}
@@ -48,15 +48,15 @@ module _ {X : Type 0} where
   acts_alone u w es new a all =
       plain_own w.seen all ∙ (ap own a.is ∙ (ap (λ (z : List (Bool × X)). own (z ++ a.rest)) new ∙ a.adds))
 
-module _ {X : Type 0} (Legal : List X → Type 0) where
-  pub acts_of : (u w : Standing X) (es : List X) → Adds Legal u es w → Acts u es w
-  acts_of u w es a = let g = a.0 in record { rest = g.rest; is = g.is; adds = g.adds; table = a.1; share = g.share }
+  pub acts_of : (actor : X → Name) (Legal : List X → Type 0) (u w : Standing X) (es : List X) → Adds actor Legal u es w → Acts u es w
+  acts_of actor Legal u w es a = let g = a.0 in record { rest = g.rest; is = g.is; adds = g.adds; table = a.1; share = g.share }
 
+module _ {X : Type 0} (Legal : List X → Type 0) where
   -- ---- a party that gave up rooms, and the one that got them and was taken in again: what was done is an interleaving of
   -- what both did, and the share is what it was
-  pub acts_both : (n : ℕ) (u v o w : Standing X) (xs ys : List X) → OneName u.share → Acts (keeping n u) xs v → Acts (giving n u) ys o → Absorbs Legal v o w
+  pub acts_both : (n : ℕ) (u v o w : Standing X) (xs ys : List X) → IsShare u.share → Acts (keeping n u) xs v → Acts (giving n u) ys o → Absorbs Legal v o w
       → (es : List X) × Interleaves xs ys es × Acts u es w
-  acts_both n u v o w xs ys one a b m =
+  acts_both n u v o w xs ys share a b m =
       let mine = a.rest in
       let theirs = b.rest in
       let both : merged v.seen o.seen ≡ u.seen ++ merged mine theirs = (λ i. merged (a.is i) (b.is i)) ∙ merged_since u.seen mine theirs in
@@ -71,6 +71,6 @@ module _ {X : Type 0} (Legal : List X → Type 0) where
           is = m.seen ∙ both;
           adds = refl;
           table = m.table ∙ a.table;
-          share = m.share ∙ ((λ i. joined (a.share i) (b.share i)) ∙ share_joins u.share one);
+          share = m.share ∙ ((λ i. joined (a.share i) (b.share i)) ∙ share_joins u.share share);
         },
       )

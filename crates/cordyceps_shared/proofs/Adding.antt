@@ -1,6 +1,6 @@
 -- What parties see in several steps, by splitting and by joining.
 use Rattle.std.proofs.Common.{◌≡◌, ℕ, zero, suc, List, [], ◌∷◌, ◌++◌, replicate, Bool, cond, refl, sym, ap, ◌∙◌, subst}
-use Rattle.cordyceps_shared.specs.Histories.{plain, own, AllOwn}
+use Rattle.cordyceps_shared.specs.Histories.{plain, own, others, AllOwn}
 use Rattle.cordyceps_shared.specs.Knowing.{unmarked, merged, Begins}
 use Rattle.cordyceps_shared.specs.Shares.{Name, whole, keeps_half, gives_half}
 use Rattle.cordyceps_shared.specs.Standings.{Standing, known_of, Adds}
@@ -48,12 +48,16 @@ module _ {X : Type 0} where
   plain_own [] a = refl
   plain_own (x ∷ xs) a = ap (λ z. x.1 ∷ z) (plain_own xs a.1) ∙ ap (λ b. cond b (x.1 ∷ own xs) (own xs)) (sym a.0)
 
-module _ {X : Type 0} (Legal : List X → Type 0) where
-  pub adds_then : (u v w : Standing X) (xs ys : List X) → Adds Legal u xs v → Adds Legal v ys w → Adds Legal u (xs ++ ys) w
-  adds_then u v w xs ys a b = (grown_then Legal (known_of u) (known_of v) (known_of w) xs ys a.0 b.0, b.1 ∙ a.1)
+  pub none_else : (xs : List (Bool × X)) → AllOwn xs → others xs ≡ []
+  none_else [] a = refl
+  none_else (x ∷ xs) a = ap (λ b. cond b (others xs) (x.1 ∷ others xs)) a.0 ∙ none_else xs a.1
+
+module _ {X : Type 0} (actor : X → Name) (Legal : List X → Type 0) where
+  pub adds_then : (u v w : Standing X) (xs ys : List X) → Adds actor Legal u xs v → Adds actor Legal v ys w → Adds actor Legal u (xs ++ ys) w
+  adds_then u v w xs ys a b = (grown_then actor Legal (known_of u) (known_of v) (known_of w) xs ys a.0 b.0, b.1 ∙ a.1)
 
   -- a whole party has seen just what it had seen, and its own events
-  pub whole_adds : (u w : Standing X) (es : List X) → u.share ≡ whole → Adds Legal u es w → plain w.seen ≡ plain u.seen ++ es
+  pub whole_adds : (u w : Standing X) (es : List X) → u.share ≡ whole → Adds actor Legal u es w → plain w.seen ≡ plain u.seen ++ es
   whole_adds u w es is a =
       let g = a.0 in
       let all = tail_own u.seen g.rest (subst (λ z. AllOwn z) g.is (g.alone (g.share ∙ is))) in

@@ -2,13 +2,14 @@
 use Rattle.std.proofs.Common.{◌≡◌, ◌≢◌, ℕ, ◌≤◌, List, [], ◌∷◌, ◌++◌, length, set, refl, sym, ap, ◌∙◌, subst, arith, ne_eqb, length-set, length-append}
 use mathlib.Core.Option.{some}
 use lib.ListN.{get_elem?}
-use Rattle.cordyceps_shared.specs.Shares.{covers}
+use Rattle.cordyceps_shared.specs.Shares.{Name, covers, keeps_half, gives_half}
 use Rattle.cordyceps_shared.specs.Histories.{events, marked, NoneOf}
 use Rattle.cordyceps_shared.specs.Knowing.{Known, Agrees, Below, SharesApart, AllAgree, unmarked, known_keeping, known_giving}
 use Rattle.cordyceps_shared.proofs.Changing.{set_more}
 use Rattle.cordyceps_shared.proofs.Counting.{tally_set, tally_snoc}
 use Rattle.cordyceps_shared.proofs.Naming.{split_covers, keeps_some, gives_some}
-use Rattle.cordyceps_shared.proofs.Telling.{below_without}
+use Rattle.cordyceps_shared.proofs.Ordering.{keeps_clear, gives_clear}
+use Rattle.cordyceps_shared.proofs.Telling.{below_without, foreign_to}
 
 module _ {X : Type 0} where
   -- a party that has no event marks none
@@ -42,22 +43,25 @@ module _ {X V : Type 0} (knows : V → Known X) where
             omega (arith, o.apart x long, tally_snoc f (set views j left) right, tally_set f views j v left at, split_covers x (knows v).share);
       }
 
-  pub fits_cut : (views : List V) (h : List (ℕ × X)) (j : ℕ) (v left right : V) → get_elem? views j ≡ some v → knows left ≡ known_keeping (knows v) → knows right ≡ known_giving (knows v) → SharesApart knows views h → AllAgree knows views h
-      → AllAgree knows (set views j left ++ right ∷ []) h
+module _ {X V : Type 0} (actor : X → Name) (knows : V → Known X) where
+  pub fits_cut : (views : List V) (h : List (ℕ × X)) (j : ℕ) (v left right : V) → get_elem? views j ≡ some v → knows left ≡ known_keeping (knows v) → knows right ≡ known_giving (knows v) → SharesApart knows views h → AllAgree actor knows views h
+      → AllAgree actor knows (set views j left ++ right ∷ []) h
   fits_cut views h j v left right at is_left is_right o fits =
       let n = length views in
       let f = fits j v at in
       let low = below_front n f.before f.later (subst (λ z. Below n z) f.is o.below) in
-      let left_fits : Agrees h j (known_keeping (knows v)) = record { before = f.before; later = f.later; is = f.is; seen = f.seen; none = f.none; told = f.told; short = f.short; apart = f.apart } in
-      let right_fits : Agrees h n (known_giving (knows v)) = record {
+      let share = (knows v).share in
+      let left_fits : Agrees actor h j (known_keeping (knows v)) = record { before = f.before; later = f.later; is = f.is; seen = f.seen; none = f.none; foreign = foreign_to actor share (keeps_half share) (λ x. keeps_clear x share) (events f.later) f.foreign; told = f.told; short = f.short; apart = f.apart } in
+      let right_fits : Agrees actor h n (known_giving (knows v)) = record {
         before = f.before;
         later = f.later;
         is = f.is;
         seen = ap unmarked f.seen ∙ sym (marked_new n j f.before low.0);
         none = below_without n f.later n (omega arith) low.1;
+        foreign = foreign_to actor share (gives_half share) (λ x. gives_clear x share) (events f.later) f.foreign;
         told = (events h, refl);
         short = omega arith;
         apart = tt;
       } in
-      set_more (λ i u. Agrees h i (knows u)) views j left right (subst (Agrees h j) (sym is_left) left_fits)
-      (subst (λ (z : ℕ × Known X). Agrees h z.0 z.1) (λ c. (sym (length-set views j left) c, sym is_right c)) right_fits) (λ i u _ there. fits i u there)
+      set_more (λ i u. Agrees actor h i (knows u)) views j left right (subst (Agrees actor h j) (sym is_left) left_fits)
+      (subst (λ (z : ℕ × Known X). Agrees actor h z.0 z.1) (λ c. (sym (length-set views j left) c, sym is_right c)) right_fits) (λ i u _ there. fits i u there)

@@ -1,21 +1,20 @@
 -- A name that was split is what it was when its halves are joined.
-use Rattle.std.proofs.Common.{◌≡◌, List, [], ◌∷◌, ◌++◌, true, false, cond, refl, sym, ap, ◌∙◌, subst}
-use Rattle.cordyceps_shared.specs.Acting.{OneName}
+use Rattle.std.proofs.Common.{◌≡◌, [], ◌∷◌, ◌++◌, true, false, cond, refl, ap, ◌∙◌}
 use Rattle.cordyceps_shared.specs.Shares.{Name, earlier, is_pair, parent, cons_joined, combine, keeps_half, gives_half, joined}
 
-halves_earlier : (n : Name) → earlier (n ++ false ∷ []) (n ++ true ∷ []) ≡ true
+pub halves_earlier : (n : Name) → earlier (n ++ false ∷ []) (n ++ true ∷ []) ≡ true
 halves_earlier [] = refl
 halves_earlier (true ∷ n) = halves_earlier n
 halves_earlier (false ∷ n) = halves_earlier n
 
-halves_pair : (n : Name) → is_pair (n ++ false ∷ []) (n ++ true ∷ []) ≡ true
+pub halves_pair : (n : Name) → is_pair (n ++ false ∷ []) (n ++ true ∷ []) ≡ true
 halves_pair [] = refl
 halves_pair (true ∷ []) = refl
 halves_pair (false ∷ []) = refl
 halves_pair (true ∷ b ∷ n) = halves_pair (b ∷ n)
 halves_pair (false ∷ b ∷ n) = halves_pair (b ∷ n)
 
-half_parent : (n : Name) → parent (n ++ false ∷ []) ≡ n
+pub half_parent : (n : Name) → parent (n ++ false ∷ []) ≡ n
 half_parent [] = refl
 half_parent (a ∷ []) = refl
 half_parent (a ∷ b ∷ n) = ap (λ z. a ∷ z) (half_parent (b ∷ n))
@@ -25,12 +24,3 @@ halves_join n =
     let l = n ++ false ∷ [] in
     let r = n ++ true ∷ [] in
     ap (λ b. combine (cond b (l ∷ r ∷ []) (r ∷ l ∷ []))) (halves_earlier n) ∙ (ap (λ b. cond b (cons_joined (parent l) []) (l ∷ r ∷ [])) (halves_pair n) ∙ ap (λ z. z ∷ []) (half_parent n))
-
-pub share_joins : (ns : List Name) → OneName ns → joined (keeps_half ns) (gives_half ns) ≡ ns
-share_joins ns o = subst (λ z. joined (keeps_half z) (gives_half z) ≡ z) (sym o.1) (halves_join o.0)
-
-pub share_kept : (ns : List Name) → OneName ns → OneName (keeps_half ns)
-share_kept ns o = (o.0 ++ false ∷ [], ap keeps_half o.1)
-
-pub share_given : (ns : List Name) → OneName ns → OneName (gives_half ns)
-share_given ns o = (o.0 ++ true ∷ [], ap gives_half o.1)

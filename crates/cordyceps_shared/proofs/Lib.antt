@@ -11,6 +11,7 @@ pub mod Knowing
 pub mod ListWrites
 pub mod Moving
 pub mod Naming
+pub mod Ordering
 pub mod Owning
 pub mod Places
 pub mod Renaming
@@ -19,3 +20,4 @@ pub mod Sending
 pub mod Standing
 pub mod Summing
 pub mod Telling
+pub mod Tracing

@@ -2,12 +2,13 @@
 use Rattle.std.proofs.Common.{◌≡◌, ℕ, ◌+◌, ◌≤◌, List, [], ◌++◌, flat_map, length, refl, sym, ap, ◌∙◌, arith, length-append}
 use Rattle.std.proofs.lemmas.List.Concat.{flat_map-append}
 use Rattle.atomic_table.specs.Seated.{TableId}
-use Rattle.cordyceps_shared.specs.Acting.{OneName, Moves}
+use Rattle.cordyceps_shared.specs.Acting.{Moves}
 use Rattle.cordyceps_shared.specs.Histories.{plain, AllOwn}
 use Rattle.cordyceps_shared.specs.Interleaving.{Interleaves}
-use Rattle.cordyceps_shared.specs.Shares.{whole}
+use Rattle.cordyceps_shared.specs.Shares.{Name, whole, IsShare}
 use Rattle.cordyceps_shared.specs.Standings.{Standing, new_party, keeping, giving, Adds, Absorbs}
 use Rattle.cordyceps_shared.proofs.Acting.{acts_of, acts_none, acts_then, acts_alone, acts_both}
+use Rattle.cordyceps_shared.proofs.Ordering.{whole_share}
 use Rattle.cordyceps_shared.proofs.Interleaving.{interleaves_same, interleaves_flat_map, length_interleaved}
 
 module _ {X A : Type 0} (puts takes : X → List A) where
@@ -26,17 +27,17 @@ module _ {X A : Type 0} (puts takes : X → List A) where
 
 module _ {X A : Type 0} (puts takes : X → List A) (Legal : List X → Type 0) where
   -- a call that added these events
-  pub moves_by : (u w : Standing X) (es : List X) → Adds Legal u es w → w.rooms + length (flat_map puts es) ≡ u.rooms + length (flat_map takes es)
+  pub moves_by : (actor : X → Name) (u w : Standing X) (es : List X) → Adds actor Legal u es w → w.rooms + length (flat_map puts es) ≡ u.rooms + length (flat_map takes es)
       → Moves puts takes (flat_map puts es) (flat_map takes es) u w
-  moves_by u w es a rooms = record { events = es; acts = acts_of Legal u w es a; put_in = refl; took_out = refl; rooms = rooms }
+  moves_by actor u w es a rooms = record { events = es; acts = acts_of actor Legal u w es a; put_in = refl; took_out = refl; rooms = rooms }
 
   -- ---- a party gave n rooms to another, each moved what it did, and the party took the other in: what was put in, and what was
   -- taken out, is an interleaving of what both did
-  pub moves_both : (n : ℕ) (u v o w : Standing X) (s g t h : List A) → OneName u.share → n ≤ u.rooms → Moves puts takes s g (keeping n u) v
+  pub moves_both : (n : ℕ) (u v o w : Standing X) (s g t h : List A) → IsShare u.share → n ≤ u.rooms → Moves puts takes s g (keeping n u) v
       → Moves puts takes t h (giving n u) o → Absorbs Legal v o w
       → (sent got : List A) × Interleaves s t sent × Interleaves g h got × Moves puts takes sent got u w
-  moves_both n u v o w s g t h one room a b m =
-      let all = acts_both Legal n u v o w a.events b.events one a.acts b.acts m in
+  moves_both n u v o w s g t h share room a b m =
+      let all = acts_both Legal n u v o w a.events b.events share a.acts b.acts m in
       let sent = flat_map puts all.0 in
       let got = flat_map takes all.0 in
       let put_in : Interleaves s t sent = interleaves_same (flat_map puts a.events) s (flat_map puts b.events) t sent sent a.put_in b.put_in refl
@@ -71,6 +72,6 @@ module _ {X A : Type 0} (puts takes : X → List A) (Legal : List X → Type 0) 
         → Moves puts takes t h (giving n (new_party id k)) o → Absorbs Legal v o w
         → (w.share ≡ whole) × ((sent got : List A) × Interleaves s t sent × Interleaves g h got × (sent ≡ got ++ held (plain w.seen)))
     all_moved k n id v o w s g t h room a b m =
-        let both = moves_both n (new_party id k) v o w s g t h ([], refl) room a b m in
+        let both = moves_both n (new_party id k) v o w s g t h whole_share room a b m in
         let is : w.share ≡ whole = both.4.acts.share in
         (is, (both.0, both.1, both.2, both.3, moves_whole (new_party id k) w both.0 both.1 refl both.4 m.legal (m.alone is)))

@@ -153,7 +153,7 @@ module _ (long : ℕ) where
           let one = few x l in
           absurd (omega arith)
 
-  clear_of : (n : Name) (ms : List Name) → ((x : Name) → long ≤ length x → one_if (begins n x) + covers x ms ≤ 1) → Clear n ms
+  pub clear_of : (n : Name) (ms : List Name) → ((x : Name) → long ≤ length x → one_if (begins n x) + covers x ms ≤ 1) → Clear n ms
   clear_of n [] few = tt
   clear_of n (m ∷ ms) few = (not_begun n m (λ x l. omega (arith, few x l)), not_begun m n (λ x l. omega (arith, few x l)), clear_of n ms (λ x l. omega (arith, few x l)))
 

@@ -3,6 +3,7 @@ use Rattle.std.proofs.Common.{◌≡◌, ℕ, List, [], ◌∷◌, ◌++◌, Boo
 use Rattle.cordyceps_shared.specs.Histories.{plain, own, Apart}
 use Rattle.cordyceps_shared.specs.Interleaving.{Interleaves}
 use Rattle.cordyceps_shared.specs.Knowing.{unmarked, merged, Begins}
+use Rattle.cordyceps_shared.specs.Shares.{Name}
 use Rattle.cordyceps_shared.specs.Standings.{Standing, keeping, giving, Adds, Absorbs}
 use Rattle.cordyceps_shared.proofs.Interleaving.{all_left, all_right}
 use Rattle.cordyceps_shared.proofs.Seeing.{own_append}
@@ -33,8 +34,8 @@ module _ {X : Type 0} where
   own_split n u = (own_unmarked u.seen, refl)
 
 module _ {X : Type 0} (Legal : List X → Type 0) where
-  pub own_adds : (u w : Standing X) (es : List X) → Adds Legal u es w → own w.seen ≡ own u.seen ++ es
-  own_adds u w es a = let g = a.0 in ap own g.is ∙ (own_append u.seen g.rest ∙ ap (λ z. own u.seen ++ z) g.adds)
+  pub own_adds : (actor : X → Name) (u w : Standing X) (es : List X) → Adds actor Legal u es w → own w.seen ≡ own u.seen ++ es
+  own_adds actor u w es a = let g = a.0 in ap own g.is ∙ (own_append u.seen g.rest ∙ ap (λ z. own u.seen ++ z) g.adds)
 
   pub own_absorbed : (u o w : Standing X) → Absorbs Legal u o w → Interleaves (own u.seen) (own o.seen) (own w.seen)
   own_absorbed u o w a = subst (λ z. Interleaves (own u.seen) (own o.seen) (own z)) (sym a.seen)

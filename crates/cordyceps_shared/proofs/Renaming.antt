@@ -84,21 +84,24 @@ module _ (a b : ℕ) where
     without_back i (x ∷ xs) ys w = let t = without_back i xs ys w.1 in ((w.0, t.0), t.1)
 
     -- two beginnings of one history, as one
-    pub record Merge (bv lv bw : List (ℕ × X)) : Type 0 where
+    pub record Merge (bv lv bw lw : List (ℕ × X)) : Type 0 where
       pub before : List (ℕ × X)
       pub later : List (ℕ × X)
       pub is : bv ++ lv ≡ before ++ later
       pub seen : merged (marked a bv) (marked b bw) ≡ marked a (relabel before)
       pub none : NoneOf a (relabel later)
       pub long : length bw ≤ length before
+      -- what neither has seen is an end of what each had yet to see
+      pub first : (front : List (ℕ × X)) × (lv ≡ front ++ later)
+      pub second : (front : List (ℕ × X)) × (lw ≡ front ++ later)
 
-    pub merge : (bv lv bw lw : List (ℕ × X)) → bv ++ lv ≡ bw ++ lw → NoneOf a lv → NoneOf b lw → Merge bv lv bw
+    pub merge : (bv lv bw lw : List (ℕ × X)) → bv ++ lv ≡ bw ++ lw → NoneOf a lv → NoneOf b lw → Merge bv lv bw lw
     merge [] lv bw lw e na nb =
         let t = without_back a bw lw (subst (λ z. NoneOf a z) e na) in
-        record { before = bw; later = lw; is = e; seen = marked_taken bw t.0; none = without_both lw t.1 nb; long = omega arith }
+        record { before = bw; later = lw; is = e; seen = marked_taken bw t.0; none = without_both lw t.1 nb; long = omega arith; first = (bw, e); second = ([], refl) }
     merge (x ∷ xs) lv [] lw e na nb =
         let t = without_back b (x ∷ xs) lv (subst (λ z. NoneOf b z) (sym e) nb) in
-        record { before = x ∷ xs; later = lv; is = refl; seen = marked_kept (x ∷ xs) t.0; none = without_both lv na t.1; long = omega arith }
+        record { before = x ∷ xs; later = lv; is = refl; seen = marked_kept (x ∷ xs) t.0; none = without_both lv na t.1; long = omega arith; first = ([], refl); second = (x ∷ xs, sym e) }
     merge (x ∷ xs) lv (y ∷ ys) lw e na nb =
         let r = merge xs lv ys lw (cc) na nb in
         let mark : (eqb x.0 a || eqb y.0 b) ≡ eqb (renamed_seat x.0) a = ap (λ (z : ℕ × X). eqb x.0 a || eqb z.0 b) (sym (same_first x y (xs ++ lv) (ys ++ lw) e)) ∙ mark_both x.0 in record {
@@ -108,6 +111,8 @@ module _ (a b : ℕ) where
           seen = λ k. (mark k, x.1) ∷ r.seen k;
           none = r.none;
           long = omega (arith, r.long);
+          first = r.first;
+          second = r.second;
         }
 
 module _ {X : Type 0} where

@@ -1,7 +1,7 @@
 -- A history with more events at its end, and what its marks say.
 use Rattle.std.proofs.Common.{◌≡◌, ◌≢◌, ℕ, List, [], ◌∷◌, ◌++◌, Bool, true, false, cond, refl, ap, ◌∙◌, eq-eqb, ne_eqb}
 use Rattle.std.proofs.lemmas.List.{map-append}
-use Rattle.cordyceps_shared.specs.Histories.{events, mark, marked, plain, own, NoneOf, of_seat}
+use Rattle.cordyceps_shared.specs.Histories.{events, mark, marked, plain, own, others, NoneOf, of_seat}
 
 module _ {X : Type 0} where
   pub events_of : (j : ℕ) (es : List X) → events (of_seat j es) ≡ es
@@ -41,3 +41,20 @@ module _ {X : Type 0} where
   pub own_of : (j : ℕ) (es : List X) → own (marked j (of_seat j es)) ≡ es
   own_of j [] = refl
   own_of j (x ∷ xs) = ap (λ b. cond b (x ∷ own (marked j (of_seat j xs))) (own (marked j (of_seat j xs)))) (eq-eqb j j refl) ∙ ap (λ (ys : List X). x ∷ ys) (own_of j xs)
+
+  -- ---- what others did
+  pub others_append : (xs ys : List (Bool × X)) → others (xs ++ ys) ≡ others xs ++ others ys
+  others_append [] ys = refl
+  others_append (x ∷ xs) ys = at_first x.0 (others_append xs ys)
+    where
+      at_first : (b : Bool) → others (xs ++ ys) ≡ others xs ++ others ys → cond b (others (xs ++ ys)) (x.1 ∷ others (xs ++ ys)) ≡ cond b (others xs) (x.1 ∷ others xs) ++ others ys
+      at_first true e = e
+      at_first false e = ap (λ (zs : List X). x.1 ∷ zs) e
+
+  pub others_without : (j : ℕ) (xs : List (ℕ × X)) → NoneOf j xs → others (marked j xs) ≡ events xs
+  others_without j [] w = refl
+  others_without j (x ∷ xs) w = ap (λ b. cond b (others (marked j xs)) (x.1 ∷ others (marked j xs))) (ne_eqb x.0 j w.0) ∙ ap (λ (ys : List X). x.1 ∷ ys) (others_without j xs w.1)
+
+  pub others_of : (j : ℕ) (es : List X) → others (marked j (of_seat j es)) ≡ []
+  others_of j [] = refl
+  others_of j (x ∷ xs) = ap (λ b. cond b (others (marked j (of_seat j xs))) (x ∷ others (marked j (of_seat j xs)))) (eq-eqb j j refl) ∙ others_of j xs

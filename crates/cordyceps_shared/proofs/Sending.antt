@@ -2,13 +2,13 @@
 -- received what the other sent. The two parties at the split stand for themselves, as its contract gives them.
 use Rattle.std.proofs.Common.{◌≡◌, ℕ, ◌+◌, ◌≤◌, List, [], ◌∷◌, ◌++◌, map, flat_map, length, refl, sym, ap, ◌∙◌, subst, inl, inr, arith}
 use Rattle.atomic_table.specs.Seated.{TableId}
-use Rattle.cordyceps_shared.specs.Acting.{OneName, Moves}
+use Rattle.cordyceps_shared.specs.Acting.{Moves}
 use Rattle.cordyceps_shared.specs.Histories.{plain}
 use Rattle.cordyceps_shared.specs.Interleaving.{Interleaves}
 use Rattle.cordyceps_shared.specs.Sending.{how_many, Delivers, Splits, MaySend, Sends}
-use Rattle.cordyceps_shared.specs.Shares.{whole}
+use Rattle.cordyceps_shared.specs.Shares.{whole, IsShare}
 use Rattle.cordyceps_shared.specs.Standings.{Standing, new_party, keeping, giving, Absorbs}
-use Rattle.cordyceps_shared.proofs.Halving.{share_kept, share_given}
+use Rattle.cordyceps_shared.proofs.Ordering.{whole_share, keeps_share, gives_share}
 use Rattle.cordyceps_shared.proofs.Interleaving.{only_left, only_right, interleaves_turned}
 use Rattle.cordyceps_shared.proofs.Moving.{moves_none, moves_both, all_moved}
 
@@ -33,14 +33,14 @@ may_send_rest {X} n xs rest lists t u kept given all is may s =
     let few : length xs + how_many rest ≤ u.rooms = subst (λ z. how_many z ≤ u.rooms) all may.rooms in
     subst (λ (z : Standing X). MaySend rest t z × ((given.table ≡ t) × (length xs ≤ given.rooms))) (sym s.0)
     (subst (λ (z : Standing X). MaySend rest t (keeping n u) × ((z.table ≡ t) × (length xs ≤ z.rooms))) (sym s.1)
-    (record { table = may.table; rooms = omega arith; name = share_kept u.share may.name }, (may.table, omega arith)))
+    (record { table = may.table; rooms = omega arith; share = keeps_share u.share may.share }, (may.table, omega arith)))
 
 -- so may one that was split off the party of a new collection, of which both are
 pub may_send_new : {X A : Type 0} (k n : ℕ) (lists : List (List A)) (id : TableId) (u kept given : Standing X) → u ≡ new_party id k → how_many lists ≤ n
     → Splits n u kept given → (kept.table ≡ id) × MaySend lists id given
 may_send_new {X} k n lists id u kept given new few s = (
   ap (λ (z : Standing X). z.table) (s.0 ∙ ap (keeping n) new),
-  subst (λ (z : Standing X). MaySend lists id z) (sym (s.1 ∙ ap (giving n) new)) (record { table = refl; rooms = few; name = share_given whole ([], refl) }),
+  subst (λ (z : Standing X). MaySend lists id z) (sym (s.1 ∙ ap (giving n) new)) (record { table = refl; rooms = few; share = gives_share whole whole_share }),
 )
 
 module _ {X A : Type 0} {puts takes : X → List A} where
@@ -48,24 +48,24 @@ module _ {X A : Type 0} {puts takes : X → List A} where
   sends_none f lists u none = ([], no_items f lists none, moves_none puts takes u)
 
   module _ {Legal : List X → Type 0} where
-    met : {n : ℕ} {u kept given v o w : Standing X} {s g t h : List A} → OneName u.share → n ≤ u.rooms → Splits n u kept given
+    met : {n : ℕ} {u kept given v o w : Standing X} {s g t h : List A} → IsShare u.share → n ≤ u.rooms → Splits n u kept given
         → Moves puts takes s g kept v → Moves puts takes t h given o → Absorbs Legal v o w
         → (sent got : List A) × Interleaves s t sent × Interleaves g h got × Moves puts takes sent got u w
-    met {n} {u} {kept} {given} {v} {o} {w} {s} {g} {t} {h} one room split a b m =
-        moves_both puts takes Legal n u v o w s g t h one room (subst (λ (z : Standing X). Moves puts takes s g z v) split.0 a)
+    met {n} {u} {kept} {given} {v} {o} {w} {s} {g} {t} {h} share room split a b m =
+        moves_both puts takes Legal n u v o w s g t h share room (subst (λ (z : Standing X). Moves puts takes s g z v) split.0 a)
         (subst (λ (z : Standing X). Moves puts takes t h z o) split.1 b) m
 
     -- ---- both put in, or both took out
-    pub both_put : {n : ℕ} {u kept given v o w : Standing X} {s t : List A} → OneName u.share → n ≤ u.rooms → Splits n u kept given
+    pub both_put : {n : ℕ} {u kept given v o w : Standing X} {s t : List A} → IsShare u.share → n ≤ u.rooms → Splits n u kept given
         → Moves puts takes s [] kept v → Moves puts takes t [] given o → Absorbs Legal v o w → (sent : List A) × Interleaves s t sent × Moves puts takes sent [] u w
-    both_put {n} {u} {kept} {given} {v} {o} {w} one room split a b m =
-        let all = met one room split a b m in
+    both_put {n} {u} {kept} {given} {v} {o} {w} share room split a b m =
+        let all = met share room split a b m in
         (all.0, all.2, subst (λ z. Moves puts takes all.0 z u w) (only_left [] all.1 all.3) all.4)
 
-    pub both_took : {n : ℕ} {u kept given v o w : Standing X} {g h : List A} → OneName u.share → n ≤ u.rooms → Splits n u kept given
+    pub both_took : {n : ℕ} {u kept given v o w : Standing X} {g h : List A} → IsShare u.share → n ≤ u.rooms → Splits n u kept given
         → Moves puts takes [] g kept v → Moves puts takes [] h given o → Absorbs Legal v o w → (got : List A) × Interleaves g h got × Moves puts takes [] got u w
-    both_took {n} {u} {kept} {given} {v} {o} {w} one room split a b m =
-        let all = met one room split a b m in
+    both_took {n} {u} {kept} {given} {v} {o} {w} share room split a b m =
+        let all = met share room split a b m in
         (all.1, all.3, subst (λ z. Moves puts takes z all.1 u w) (only_left [] all.0 all.2) all.4)
 
     -- a party that was split off sent one list, and the other the others
@@ -74,7 +74,7 @@ module _ {X A : Type 0} {puts takes : X → List A} where
         → Absorbs Legal v o w → Sends puts takes lists u w
     sends_more {n} {xs} {rest} {lists} {t} {u} {kept} {given} {v} {o} {w} all is may split others mine m =
         let few : length xs + how_many rest ≤ u.rooms = subst (λ z. how_many z ≤ u.rooms) all may.rooms in
-        let both = both_put may.name (omega arith) split others.2 mine m in
+        let both = both_put may.share (omega arith) split others.2 mine m in
         subst (λ z. Sends puts takes z u w) (sym all)
         (both.0, delivers_more xs rest others.0 both.0 others.1 (interleaves_turned others.0 xs both.0 both.1), both.2)
 

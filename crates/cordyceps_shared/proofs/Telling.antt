@@ -5,13 +5,14 @@ use mathlib.Core.Logic.{dite}
 use native.Mathlib.Decide.{ℕ_discrete, dec_le}
 use lib.ListN.{get_elem?, length-replicate}
 use Rattle.atomic_table.proofs.Lists.{set_here}
-use Rattle.cordyceps_shared.specs.Shares.{Name, covers, whole}
-use Rattle.cordyceps_shared.specs.Histories.{events, marked, plain, NoneOf, AllOwn, Apart, of_seat}
-use Rattle.cordyceps_shared.specs.Knowing.{Known, Agrees, Below, SharesApart, AllAgree, Grown, all_seen}
+use Rattle.cordyceps_shared.specs.Shares.{Name, covers, whole, first_name, begins, Clear}
+use Rattle.cordyceps_shared.specs.Counts.{one_if}
+use Rattle.cordyceps_shared.specs.Histories.{events, marked, plain, others, NoneOf, AllOwn, Apart, of_seat}
+use Rattle.cordyceps_shared.specs.Knowing.{Known, Foreign, Under, Agrees, Below, SharesApart, AllAgree, Grown, all_seen}
 use Rattle.cordyceps_shared.proofs.Changing.{one_set}
 use Rattle.cordyceps_shared.proofs.Counting.{tally_set, tally_two}
-use Rattle.cordyceps_shared.proofs.Naming.{some_cover}
-use Rattle.cordyceps_shared.proofs.Seeing.{events_more, without_more, marked_append, plain_marked, own_append, own_without, own_of}
+use Rattle.cordyceps_shared.proofs.Naming.{some_cover, clear_of}
+use Rattle.cordyceps_shared.proofs.Seeing.{events_more, without_more, marked_append, plain_marked, own_append, own_without, own_of, others_append, others_without, others_of}
 
 pub at_length : {A : Type 0} (l : List A) (i : ℕ) (a : A) → get_elem? l i ≡ some a → i < length l
 at_length [] i a e = absurd (some-ne-none a (sym e))
@@ -44,29 +45,66 @@ module _ {X : Type 0} where
   apart_none [] = tt
   apart_none (x ∷ xs) = tt
 
+module _ {X : Type 0} (actor : X → Name) where
+  -- ---- events that carry no name of a share
+  pub foreign_append : (share : List Name) (xs ys : List X) → Foreign actor share xs → Foreign actor share ys → Foreign actor share (xs ++ ys)
+  foreign_append share [] ys f g = g
+  foreign_append share (x ∷ xs) ys f g = (f.0, foreign_append share xs ys f.1 g)
+
+  pub foreign_end : (share : List Name) (xs ys : List X) → Foreign actor share (xs ++ ys) → Foreign actor share ys
+  foreign_end share [] ys f = f
+  foreign_end share (x ∷ xs) ys f = foreign_end share xs ys f.1
+
+  pub foreign_front : (share : List Name) (xs ys : List X) → Foreign actor share (xs ++ ys) → Foreign actor share xs
+  foreign_front share [] ys f = tt
+  foreign_front share (x ∷ xs) ys f = (f.0, foreign_front share xs ys f.1)
+
+  foreign_under : (share : List Name) (n : Name) (es : List X) → Clear n share → Under actor n es → Foreign actor share es
+  foreign_under share n [] c u = tt
+  foreign_under share n (x ∷ xs) c u = (subst (λ m. Clear m share) (sym u.0) c, foreign_under share n xs c u.1)
+
+  pub under_append : (n : Name) (xs ys : List X) → Under actor n xs → Under actor n ys → Under actor n (xs ++ ys)
+  under_append n [] ys u t = t
+  under_append n (x ∷ xs) ys u t = (u.0, under_append n xs ys u.1 t)
+
+  pub foreign_to : (ns ms : List Name) → ((x : Name) → Clear x ns → Clear x ms) → (es : List X) → Foreign actor ns es → Foreign actor ms es
+  foreign_to ns ms clear [] f = tt
+  foreign_to ns ms clear (x ∷ xs) f = (clear (actor x) f.0, foreign_to ns ms clear xs f.1)
+
+  pub foreign_both : (ns ms all : List Name) → ((x : Name) → Clear x ns → Clear x ms → Clear x all) → (es : List X) → Foreign actor ns es → Foreign actor ms es → Foreign actor all es
+  foreign_both ns ms all clear [] f g = tt
+  foreign_both ns ms all clear (x ∷ xs) f g = (clear (actor x) f.0 g.0, foreign_both ns ms all clear xs f.1 g.1)
+
+  pub foreign_none : (es : List X) → Foreign actor [] es
+  foreign_none [] = tt
+  foreign_none (x ∷ xs) = (tt, foreign_none xs)
+
   -- what another party saw stays a beginning
-  pub fits_other : (h : List (ℕ × X)) (i j : ℕ) (es : List X) (k : Known X) → i ≢ j → Agrees h i k → Agrees (h ++ of_seat j es) i k
-  fits_other h i j es k other f = record {
+  pub fits_other : (h : List (ℕ × X)) (i j : ℕ) (n : Name) (es : List X) (k : Known X) → i ≢ j → Clear n k.share → Under actor n es → Agrees actor h i k → Agrees actor (h ++ of_seat j es) i k
+  fits_other h i j n es k other clear under f = record {
     before = f.before;
     later = f.later ++ of_seat j es;
     is = ap (λ (z : List (ℕ × X)). z ++ of_seat j es) f.is ∙ append_assoc f.before f.later (of_seat j es);
     seen = f.seen;
     none = without_more i f.later j es (λ e. other (sym e)) f.none;
+    foreign = subst (λ z. Foreign actor k.share z) (sym (events_more f.later j es)) (foreign_append k.share (events f.later) es f.foreign (foreign_under k.share n es clear under));
     told = (f.told.0 ++ es, events_more h j es ∙ (ap (λ z. z ++ es) f.told.1 ∙ append_assoc (plain k.told) f.told.0 es));
     short = f.short;
     apart = f.apart;
   }
 
-  pub fits_all : (h : List (ℕ × X)) (j : ℕ) (share : List Name) → Agrees h j (all_seen j h share)
-  fits_all h j share = record { before = h; later = []; is = sym (append-nil h); seen = refl; none = tt; told = (events h, refl); short = omega arith; apart = tt }
+  pub fits_all : (h : List (ℕ × X)) (j : ℕ) (share : List Name) → Agrees actor h j (all_seen j h share)
+  fits_all h j share = record { before = h; later = []; is = sym (append-nil h); seen = refl; none = tt; foreign = tt; told = (events h, refl); short = omega arith; apart = tt }
 
-  pub grown_all : (Legal : List X → Type 0) (h : List (ℕ × X)) (j : ℕ) (es : List X) (k : Known X) → Agrees h j k → Legal (events (h ++ of_seat j es)) → (k.share ≡ whole → AllOwn (marked j (h ++ of_seat j es)))
-      → Grown Legal k es (all_seen j (h ++ of_seat j es) k.share)
+  pub grown_all : (Legal : List X → Type 0) (h : List (ℕ × X)) (j : ℕ) (es : List X) (k : Known X) → Agrees actor h j k → Legal (events (h ++ of_seat j es)) → (k.share ≡ whole → AllOwn (marked j (h ++ of_seat j es)))
+      → Grown actor Legal k es (all_seen j (h ++ of_seat j es) k.share)
   grown_all Legal h j es k f l alone = record {
     rest = marked j f.later ++ marked j (of_seat j es);
     is = marked_append j h (of_seat j es) ∙ (ap (λ z. z ++ marked j (of_seat j es)) (ap (marked j) f.is ∙ (marked_append j f.before f.later ∙ ap (λ z. z ++ marked j f.later) (sym f.seen)))
         ∙ append_assoc k.seen (marked j f.later) (marked j (of_seat j es)));
     adds = own_append (marked j f.later) (marked j (of_seat j es)) ∙ (λ i. own_without j f.later f.none i ++ own_of j es i);
+    foreign = subst (λ z. Foreign actor k.share z) (sym (others_append (marked j f.later) (marked j (of_seat j es)) ∙ (λ i. others_without j f.later f.none i ++ others_of j es i)))
+        (foreign_append k.share (events f.later) [] f.foreign tt);
     legal = subst Legal (sym (plain_marked j (h ++ of_seat j es))) l;
     share = refl;
     alone = alone;
@@ -81,25 +119,37 @@ module _ {X V : Type 0} (knows : V → Known X) where
     apart = λ x l. let s = tally_set (λ (u : V). covers x (knows u).share) views j v w at in let c = ap (covers x) same in let few = o.apart x l in omega arith;
   }
 
-  -- another view at j, which fits
-  pub fits_set : (views : List V) (h : List (ℕ × X)) (j : ℕ) (w : V) → Agrees h j (knows w) → ((i : ℕ) (u : V) → i ≢ j → get_elem? views i ≡ some u → Agrees h i (knows u)) → AllAgree knows (set views j w) h
-  fits_set views h j w f others = one_set (λ i u. Agrees h i (knows u)) views j w f others
+  -- the first name of another's share is clear of a share
+  pub first_clear : (views : List V) (h : List (ℕ × X)) (i j : ℕ) (u v : V) → SharesApart knows views h → i ≢ j → get_elem? views i ≡ some u → get_elem? views j ≡ some v → (knows v).share ≢ [] → Clear (first_name (knows v).share) (knows u).share
+  first_clear views h i j u v o other there at named =
+      clear_of o.long (first_name (knows v).share) (knows u).share
+      (λ x l. omega (arith, tally_two (λ (z : V). covers x (knows z).share) views i j u v other there at, o.apart x l, at_least_first x (knows v).share named))
+    where
+      at_least_first : (x : Name) (ns : List Name) → ns ≢ [] → one_if (begins (first_name ns) x) ≤ covers x ns
+      at_least_first x [] not = absurd (not refl)
+      at_least_first x (n ∷ ns) not = omega arith
 
-  pub fits_same : (views : List V) (h : List (ℕ × X)) (j : ℕ) (v w : V) → get_elem? views j ≡ some v → (knows w).seen ≡ (knows v).seen → (knows w).had ≡ (knows v).had → (knows w).told ≡ (knows v).told → AllAgree knows views h → AllAgree knows (set views j w) h
-  fits_same views h j v w at seen had told fits =
+module _ {X V : Type 0} (actor : X → Name) (knows : V → Known X) where
+  -- another view at j, which fits
+  pub fits_set : (views : List V) (h : List (ℕ × X)) (j : ℕ) (w : V) → Agrees actor h j (knows w) → ((i : ℕ) (u : V) → i ≢ j → get_elem? views i ≡ some u → Agrees actor h i (knows u)) → AllAgree actor knows (set views j w) h
+  fits_set views h j w f others = one_set (λ i u. Agrees actor h i (knows u)) views j w f others
+
+  pub fits_same : (views : List V) (h : List (ℕ × X)) (j : ℕ) (v w : V) → get_elem? views j ≡ some v → (knows w).share ≡ (knows v).share → (knows w).seen ≡ (knows v).seen → (knows w).had ≡ (knows v).had → (knows w).told ≡ (knows v).told → AllAgree actor knows views h → AllAgree actor knows (set views j w) h
+  fits_same views h j v w at share seen had told fits =
       let f = fits j v at in
       let shorter = f.short in
       let a = ap (λ (z : List (Bool × X)). length z) seen in
       let b = ap (λ (z : List (Bool × X)). length z) told in
-      fits_set views h j w record { before = f.before; later = f.later; is = f.is; seen = seen ∙ f.seen; none = f.none; told = (f.told.0, f.told.1 ∙ ap (λ z. plain z ++ f.told.0) (sym told)); short = omega arith; apart = subst (λ (z : List (Bool × X) × List (Bool × X)). Apart z.0 z.1) (λ c. (sym had c, sym told c)) f.apart } (λ i u _. fits i u)
+      fits_set views h j w record { before = f.before; later = f.later; is = f.is; seen = seen ∙ f.seen; none = f.none; foreign = subst (λ z. Foreign actor z (events f.later)) (sym share) f.foreign; told = (f.told.0, f.told.1 ∙ ap (λ z. plain z ++ f.told.0) (sym told)); short = omega arith; apart = subst (λ (z : List (Bool × X) × List (Bool × X)). Apart z.0 z.1) (λ c. (sym had c, sym told c)) f.apart } (λ i u _. fits i u)
 
   -- what it was told is forgotten
-  pub fits_forgot : (views : List V) (h : List (ℕ × X)) (j : ℕ) (v w : V) → get_elem? views j ≡ some v → (knows w).seen ≡ (knows v).seen → (knows w).told ≡ [] → AllAgree knows views h → AllAgree knows (set views j w) h
-  fits_forgot views h j v w at seen told fits =
+  pub fits_forgot : (views : List V) (h : List (ℕ × X)) (j : ℕ) (v w : V) → get_elem? views j ≡ some v → (knows w).share ≡ (knows v).share → (knows w).seen ≡ (knows v).seen → (knows w).told ≡ [] → AllAgree actor knows views h → AllAgree actor knows (set views j w) h
+  fits_forgot views h j v w at share seen told fits =
       let f = fits j v at in
       let b = ap (λ (z : List (Bool × X)). length z) told in
-      fits_set views h j w record { before = f.before; later = f.later; is = f.is; seen = seen ∙ f.seen; none = f.none; told = (events h, ap (λ z. plain z ++ events h) (sym told)); short = omega arith; apart = subst (λ z. Apart (knows w).had z) (sym told) (apart_none (knows w).had) } (λ i u _. fits i u)
+      fits_set views h j w record { before = f.before; later = f.later; is = f.is; seen = seen ∙ f.seen; none = f.none; foreign = subst (λ z. Foreign actor z (events f.later)) (sym share) f.foreign; told = (events h, ap (λ z. plain z ++ events h) (sym told)); short = omega arith; apart = subst (λ z. Apart (knows w).had z) (sym told) (apart_none (knows w).had) } (λ i u _. fits i u)
 
+module _ {X V : Type 0} (knows : V → Known X) where
   pub owned_more : (views : List V) (h : List (ℕ × X)) (j : ℕ) (es : List X) (v w : V) → get_elem? views j ≡ some v → (knows w).share ≡ (knows v).share → (knows v).share ≢ [] → SharesApart knows views h → SharesApart knows (set views j w) (h ++ of_seat j es)
   owned_more views h j es v w at same some_share o = record {
     below = below_more (length (set views j w)) h j es (let l = length-set views j w in let a = at_length views j v at in omega arith) (subst (λ n. Below n h) (sym (length-set views j w)) o.below);
@@ -127,30 +177,33 @@ module _ {X V : Type 0} (knows : V → Known X) where
       (λ l. below_without (length views) h i l o.below)
       (λ not. let t = there views i (lt_of_not-le not) in o.quiet i t.0 t.1 (only_share views h j i v t.0 o at is other t.1 (knows t.0).share refl))
 
+module _ {X V : Type 0} (actor : X → Name) (knows : V → Known X) where
   -- what a step keeps, and what it tells, where the party j has seen all and adds these events
   pub record Told (Legal : List X → Type 0) (views : List V) (h : List (ℕ × X)) (j : ℕ) (es : List X) (v w : V) : Type 0 where
     pub owned : SharesApart knows (set views j w) (h ++ of_seat j es)
-    pub fits : AllAgree knows (set views j w) (h ++ of_seat j es)
-    pub grown : Grown Legal (knows v) es (knows w)
+    pub fits : AllAgree actor knows (set views j w) (h ++ of_seat j es)
+    pub grown : Grown actor Legal (knows v) es (knows w)
 
-  pub tells : (Legal : List X → Type 0) (views : List V) (h : List (ℕ × X)) (j : ℕ) (es : List X) (v w : V) → SharesApart knows views h → AllAgree knows views h → get_elem? views j ≡ some v
-      → (knows v).share ≢ [] → knows w ≡ all_seen j (h ++ of_seat j es) (knows v).share → Legal (events (h ++ of_seat j es)) → Told Legal views h j es v w
-  tells Legal views h j es v w o fits at named knows_w legal =
-      let owned = owned_more views h j es v w at (ap (λ (k : Known X). k.share) knows_w) named o in
+  pub tells : (Legal : List X → Type 0) (views : List V) (h : List (ℕ × X)) (j : ℕ) (es : List X) (v w : V) → SharesApart knows views h → AllAgree actor knows views h → get_elem? views j ≡ some v
+      → (knows v).share ≢ [] → Under actor (first_name (knows v).share) es → knows w ≡ all_seen j (h ++ of_seat j es) (knows v).share → Legal (events (h ++ of_seat j es)) → Told Legal views h j es v w
+  tells Legal views h j es v w o fits at named under knows_w legal =
+      let owned = owned_more knows views h j es v w at (ap (λ (k : Known X). k.share) knows_w) named o in
       let here = set_here views j w (at_length views j v at) in record {
         owned = owned;
-        fits = fits_set views (h ++ of_seat j es) j w (subst (Agrees (h ++ of_seat j es) j) (sym knows_w) (fits_all (h ++ of_seat j es) j (knows v).share)) (λ i u other e. fits_other h i j es (knows u) other (fits i u e));
-        grown = subst (Grown Legal (knows v) es) (sym knows_w)
-            (grown_all Legal h j es (knows v) (fits j v at) legal (λ is. all_own j (h ++ of_seat j es) (λ i n. whole_without (set views j w) (h ++ of_seat j es) j i w owned here (ap (λ (k : Known X). k.share) knows_w ∙ is) n)));
+        fits = fits_set actor knows views (h ++ of_seat j es) j w (subst (Agrees actor (h ++ of_seat j es) j) (sym knows_w) (fits_all actor (h ++ of_seat j es) j (knows v).share))
+            (λ i u other e. fits_other actor h i j (first_name (knows v).share) es (knows u) other (first_clear knows views h i j u v o other e at named) under (fits i u e));
+        grown = subst (Grown actor Legal (knows v) es) (sym knows_w)
+            (grown_all actor Legal h j es (knows v) (fits j v at) legal (λ is. all_own j (h ++ of_seat j es) (λ i n. whole_without knows (set views j w) (h ++ of_seat j es) j i w owned here (ap (λ (k : Known X). k.share) knows_w ∙ is) n)));
       }
 
-module _ {X : Type 0} (Legal : List X → Type 0) where
+module _ {X : Type 0} (actor : X → Name) (Legal : List X → Type 0) where
   -- two steps
-  pub grown_then : (u v w : Known X) (xs ys : List X) → Grown Legal u xs v → Grown Legal v ys w → Grown Legal u (xs ++ ys) w
+  pub grown_then : (u v w : Known X) (xs ys : List X) → Grown actor Legal u xs v → Grown actor Legal v ys w → Grown actor Legal u (xs ++ ys) w
   grown_then u v w xs ys a b = record {
     rest = a.rest ++ b.rest;
     is = b.is ∙ (ap (λ z. z ++ b.rest) a.is ∙ append_assoc u.seen a.rest b.rest);
     adds = own_append a.rest b.rest ∙ (λ i. a.adds i ++ b.adds i);
+    foreign = subst (λ z. Foreign actor u.share z) (sym (others_append a.rest b.rest)) (foreign_append actor u.share (others a.rest) (others b.rest) a.foreign (subst (λ z. Foreign actor z (others b.rest)) a.share b.foreign));
     legal = b.legal;
     share = b.share ∙ a.share;
     alone = b.alone;

@@ -1,12 +1,7 @@
 -- What a party did, whatever else it saw.
-use Rattle.std.specs.Prelude.{◌≡◌, ◌+◌, List, [], ◌∷◌, ◌++◌, flat_map, length, Bool}
+use Rattle.std.specs.Prelude.{◌≡◌, ◌+◌, List, ◌++◌, flat_map, length, Bool}
 use Rattle.cordyceps_shared.specs.Histories.{own}
-use Rattle.cordyceps_shared.specs.Shares.{Name}
 use Rattle.cordyceps_shared.specs.Standings.{Standing}
-
--- the share is of one name
-abbrev pub OneName : List Name → Type 0
-OneName ns = (n : Name) × (ns ≡ n ∷ [])
 
 module _ {X : Type 0} where
   -- the party has seen more, with exactly these events of its own. Collection and share are the same. Other than `Adds` it says

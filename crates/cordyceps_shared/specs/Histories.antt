@@ -23,6 +23,11 @@ module _ {X : Type 0} where
   own [] = []
   own (x ∷ xs) = cond x.0 (x.1 ∷ own xs) (own xs)
 
+  -- the events of others
+  abbrev pub others : List (Bool × X) → List X
+  others [] = []
+  others (x ∷ xs) = cond x.0 (others xs) (x.1 ∷ others xs)
+
   -- every event is the party's own
   abbrev pub AllOwn : List (Bool × X) → Type 0
   AllOwn [] = Unit {0}

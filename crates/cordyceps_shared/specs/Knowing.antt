@@ -4,8 +4,8 @@ use Rattle.std.specs.Prelude.{◌≡◌, ℕ, ◌<◌, ◌≤◌, List, [], ◌�
 use mathlib.Core.Option.{some}
 use lib.ListN.{get_elem?}
 use Rattle.cordyceps_shared.specs.Counts.{tally}
-use Rattle.cordyceps_shared.specs.Histories.{events, marked, plain, own, NoneOf, AllOwn, Apart}
-use Rattle.cordyceps_shared.specs.Shares.{Name, covers, whole, keeps_half, gives_half, joined}
+use Rattle.cordyceps_shared.specs.Histories.{events, marked, plain, own, others, NoneOf, AllOwn, Apart}
+use Rattle.cordyceps_shared.specs.Shares.{Name, covers, whole, keeps_half, gives_half, joined, Clear}
 
 -- the history so far, with a mark at its own events; what it had seen itself when it last absorbed a party, and what
 -- that party told it; and its share
@@ -24,14 +24,25 @@ module _ {X : Type 0} where
   abbrev pub all_seen : ℕ → List (ℕ × X) → List Name → Known X
   all_seen j h share = record { seen = marked j h; had = []; told = []; share = share }
 
-  -- what it has seen is a beginning of the history, with all events of its own; and so is what it was told, and no event
-  -- is marked both there and in what it had seen itself
-  pub record Agrees (history : List (ℕ × X)) (j : ℕ) (k : Known X) : Type 0 where
+  -- no event carries a name of the share, or one that begins such a name or is begun by it
+  abbrev pub Foreign : (X → Name) → List Name → List X → Type 0
+  Foreign actor share [] = Unit {0}
+  Foreign actor share (x ∷ xs) = Clear (actor x) share × Foreign actor share xs
+
+  -- each event carries this name
+  abbrev pub Under : (X → Name) → Name → List X → Type 0
+  Under actor n [] = Unit {0}
+  Under actor n (x ∷ xs) = (actor x ≡ n) × Under actor n xs
+
+  -- what it has seen is a beginning of the history, with all events of its own and all that carry names of its share; and so
+  -- is what it was told, and no event is marked both there and in what it had seen itself
+  pub record Agrees (actor : X → Name) (history : List (ℕ × X)) (j : ℕ) (k : Known X) : Type 0 where
     pub before : List (ℕ × X)
     pub later : List (ℕ × X)
     pub is : history ≡ before ++ later
     pub seen : k.seen ≡ marked j before
     pub none : NoneOf j later
+    pub foreign : Foreign actor k.share (events later)
     pub told : (rest : List X) × (events history ≡ plain k.told ++ rest)
     pub short : length k.told ≤ length k.seen
     pub apart : Apart k.had k.told
@@ -49,15 +60,16 @@ module _ {X : Type 0} where
     pub apart : (x : Name) → long ≤ length x → tally (λ v. covers x (knows v).share) views ≤ 1
 
   -- each seat's party knows what fits the history
-  abbrev pub AllAgree : {V : Type 0} → (V → Known X) → List V → List (ℕ × X) → Type 0
-  AllAgree knows views history = (j : ℕ) (v : _) → get_elem? views j ≡ some v → Agrees history j (knows v)
+  abbrev pub AllAgree : {V : Type 0} → (X → Name) → (V → Known X) → List V → List (ℕ × X) → Type 0
+  AllAgree actor knows views history = (j : ℕ) (v : _) → get_elem? views j ≡ some v → Agrees actor history j (knows v)
 
-  -- the party has seen more, in which its own events are these; it is legal; the share is the same; and a whole party saw no
-  -- event of another
-  pub record Grown (Legal : List X → Type 0) (v : Known X) (es : List X) (w : Known X) : Type 0 where
+  -- the party has seen more, in which its own events are these, and others' carry no name of its share; it is legal; the
+  -- share is the same; and a whole party saw no event of another
+  pub record Grown (actor : X → Name) (Legal : List X → Type 0) (v : Known X) (es : List X) (w : Known X) : Type 0 where
     pub rest : List (Bool × X)
     pub is : w.seen ≡ v.seen ++ rest
     pub adds : own rest ≡ es
+    pub foreign : Foreign actor v.share (others rest)
     pub legal : Legal (plain w.seen)
     pub share : w.share ≡ v.share
     pub alone : w.share ≡ whole → AllOwn w.seen

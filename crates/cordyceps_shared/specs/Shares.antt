@@ -1,6 +1,6 @@
 -- Names and shares. A name is a finite word of 0 (false) and 1 (true), and stands for all names that it begins. A party
 -- acts under the first name of its share.
-use Rattle.std.specs.Prelude.{◌≡◌, ℕ, List, [], ◌∷◌, ◌++◌, Bool, true, false, cond}
+use Rattle.std.specs.Prelude.{◌≡◌, ◌≢◌, ℕ, List, [], ◌∷◌, ◌++◌, Bool, true, false, cond}
 use Rattle.cordyceps_shared.specs.Counts.{tally, one_if}
 
 abbrev pub Name : Type 0
@@ -81,6 +81,11 @@ combine (n ∷ ns) = cons_joined n (combine ns)
 abbrev pub joined : List Name → List Name → List Name
 joined ns ms = combine (insert_names ns ms)
 
+-- the name stands in front of each of these
+abbrev pub InFront : Name → List Name → Type 0
+InFront n [] = Unit {0}
+InFront n (m ∷ ms) = (earlier n m ≡ true) × InFront n ms
+
 -- neither does the name begin one of these, nor one of these the name
 abbrev pub Clear : Name → List Name → Type 0
 Clear n [] = Unit {0}
@@ -90,3 +95,22 @@ Clear n (m ∷ ms) = (begins n m ≡ false) × (begins m n ≡ false) × Clear n
 abbrev pub NamesApart : List Name → List Name → Type 0
 NamesApart [] ms = Unit {0}
 NamesApart (n ∷ ns) ms = Clear n ms × NamesApart ns ms
+
+-- the name is one of these, begins one, or is begun by one
+abbrev pub IsOf : List Name → Name → Type 0
+IsOf names n = Clear n names → ⊥
+
+-- each name stands in front of those behind it, and none begins another
+abbrev pub InOrder : List Name → Type 0
+InOrder [] = Unit {0}
+InOrder (n ∷ ns) = InFront n ns × Clear n ns × InOrder ns
+
+-- no two neighbours are w0 and w1, of some w
+abbrev pub NoPair : List Name → Type 0
+NoPair [] = Unit {0}
+NoPair (n ∷ []) = Unit {0}
+NoPair (n ∷ m ∷ ms) = (is_pair n m ≡ false) × NoPair (m ∷ ms)
+
+-- some names in order, none of which begins another, and no two of which are the halves of one
+abbrev pub IsShare : List Name → Type 0
+IsShare names = (names ≢ []) × InOrder names × NoPair names

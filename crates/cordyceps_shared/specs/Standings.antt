@@ -3,7 +3,7 @@ use Rattle.std.specs.Prelude.{◌≡◌, ℕ, ◌+◌, ◌-◌, List, [], Bool}
 use Rattle.atomic_table.specs.Seated.{TableId}
 use Rattle.cordyceps_shared.specs.Histories.{plain, AllOwn, Apart}
 use Rattle.cordyceps_shared.specs.Knowing.{Known, Grown, unmarked, merged, Begins}
-use Rattle.cordyceps_shared.specs.Shares.{Name, whole, first_name, keeps_half, gives_half, joined, NamesApart}
+use Rattle.cordyceps_shared.specs.Shares.{Name, whole, first_name, keeps_half, gives_half, joined, NamesApart, IsShare}
 
 -- which collection the party is of; the history that it has seen, with a mark at its own events; its share; and how many
 -- rooms it has
@@ -25,10 +25,10 @@ module _ {X : Type 0} where
   abbrev pub new_party : TableId → ℕ → Standing X
   new_party table rooms = record { table = table; seen = []; share = whole; rooms = rooms }
 
-  -- the party has seen more, with exactly these events of its own, and a whole party with no others. What it has seen is
-  -- legal. Collection and share are the same
-  abbrev pub Adds : (Legal : List X → Type 0) → Standing X → List X → Standing X → Type 0
-  Adds Legal u es w = Grown Legal (known_of u) es (known_of w) × (w.table ≡ u.table)
+  -- the party has seen more, with exactly these events of its own; those of others carry no name of its share, and a whole
+  -- party saw none. What it has seen is legal. Collection and share are the same
+  abbrev pub Adds : (actor : X → Name) (Legal : List X → Type 0) → Standing X → List X → Standing X → Type 0
+  Adds actor Legal u es w = Grown actor Legal (known_of u) es (known_of w) × (w.table ≡ u.table)
 
   -- the party after it gave up n rooms, and the party that has them
   abbrev pub keeping : ℕ → Standing X → Standing X
@@ -37,10 +37,11 @@ module _ {X : Type 0} where
   abbrev pub giving : ℕ → Standing X → Standing X
   giving n u = record { table = u.table; seen = unmarked u.seen; share = gives_half u.share; rooms = n }
 
-  -- what every party knows: what it has seen is legal, and a whole party has seen no event of another
+  -- what every party knows: what it has seen is legal, a whole party has seen no event of another, and its names are a share
   pub record Knows (Legal : List X → Type 0) (u : Standing X) : Type 0 where
     pub legal : Legal (plain u.seen)
     pub alone : u.share ≡ whole → AllOwn u.seen
+    pub share : IsShare u.share
 
   -- the party u became w when it took in the party o. It has seen the longer of what the two had seen, which the shorter
   -- begins; no event is marked by both, and the own events are those of both; their shares had no name in common

@@ -10,6 +10,12 @@ pub data Event (P E : Type 0) : Type 0 where
   Taken : P → List E → Event P E
 
 module _ {P E : Type 0} where
+  -- the party of an event
+  abbrev pub actor : Event P E → P
+  actor (Load p) = p
+  actor (Push p e) = p
+  actor (Taken p batch) = p
+
   -- what is held after an event
   abbrev pub held_after : List E → Event P E → List E
   held_after es (Load p) = es

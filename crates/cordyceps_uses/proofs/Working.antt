@@ -1,15 +1,16 @@
 -- What a worker's turns add up to, and that all jobs are done in the end.
-use Rattle.std.proofs.Common.{◌≡◌, ℕ, List, [], ◌∷◌, ◌++◌, map, reverse, false, refl, ap, ◌∙◌, arith}
+use Rattle.std.proofs.Common.{◌≡◌, ℕ, List, [], ◌∷◌, ◌++◌, map, reverse, refl, sym, ap, ◌∙◌, subst, arith}
 use Rattle.cordyceps.specs.Parties.Seated.{TableId}
 use Rattle.cordyceps.specs.Elements.Element.{Element}
 use Rattle.cordyceps.specs.Parties.Counts.{tally, Same}
 use Rattle.cordyceps.specs.Parties.Histories.{plain}
 use Rattle.cordyceps.specs.Parties.Sending.{Splits}
-use Rattle.cordyceps.specs.Parties.Shares.{whole, keeps_half}
+use Rattle.cordyceps.specs.Parties.Shares.{whole, keeps_half, IsShare}
 use Rattle.cordyceps.specs.Parties.Standings.{new_party, Absorbs}
 use Rattle.cordyceps.proofs.Parties.Counting.{tally_append, tally_map, tally_reverse}
 use Rattle.cordyceps.proofs.Parties.Interleaving.{tally_interleaved}
 use Rattle.cordyceps.proofs.Parties.Moving.{moves_none}
+use Rattle.cordyceps.proofs.Parties.Ordering.{whole_share, keeps_share}
 use Rattle.cordyceps.proofs.Parties.Sending.{both_took}
 use Rattle.cordyceps.specs.Transfers.History.{Legal, held}
 use Rattle.cordyceps.specs.Transfers.Calls.{PartyOf, Takes}
@@ -49,7 +50,7 @@ pub all_done : (id : TableId) (n : ℕ) (js done more : List (Element Job)) (u k
     → (last.table ≡ id) × (last.share ≡ whole) × Same (map ran js) (reverse more ++ (reverse (map ran (reverse (held (plain last.seen)))) ++ done))
 all_done id n js done more u kept sender one two first second third mid last new split again sent mine theirs a b =
     let share = ap (λ (z : Seat). z.share) split.0 ∙ ap (λ (z : Seat). keeps_half z.share) new in
-    let both = both_took (false ∷ [], share) (omega arith) again mine.took theirs.took a in
+    let both = both_took (subst (λ names. IsShare names) (sym share) (keeps_share whole whole_share)) (omega arith) again mine.took theirs.took a in
     let all = exchanged ran new (omega arith) split both.2 sent b in
     let left = held (plain last.seen) in (
       all.0,

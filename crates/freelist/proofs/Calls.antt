@@ -5,7 +5,7 @@ use Rattle.cordyceps_base.specs.Element.{Element}
 use Rattle.cordyceps_shared.specs.Shares.{Name}
 use Rattle.cordyceps_shared.proofs.Adding.{adds_then}
 use Rattle.cordyceps_shared.proofs.Counting.{tally_append}
-use Rattle.cordyceps_stack.specs.History.{Event, Load, Push, Taken, Legal, pushes, taken}
+use Rattle.cordyceps_stack.specs.History.{Event, Load, Push, Taken, Legal, pushes, taken, actor}
 use Rattle.cordyceps_stack.specs.Shared.Calls.{PartyOf}
 use Rattle.freelist.specs.Blocks.{LocalOf}
 use Rattle.freelist.specs.Whereabouts.{Whereabouts, Call, Gets, Fetches, Puts, PutsRemote, HandsBack, Opens, Finishes, Splits, Joins, Idles, Gains, Loses, behind, Lacks, Does, Run, command_of, attempts, fetches}
@@ -104,7 +104,7 @@ module _ {H : Type 0} where
   acts_then : (u v w : PartyOf H) (es fs : List (Event Name H)) → Acts u es v → Acts v fs w → Acts u (es ++ fs) w
   acts_then u v w es fs (inl a) b = subst (λ xs. Acts u (xs ++ fs) w) (sym a.0) (subst (λ z. Acts z fs w) a.1 b)
   acts_then u v w es fs (inr a) (inl b) = subst (λ xs. Acts u (es ++ xs) w) (sym b.0) (subst (λ xs. Acts u xs w) (sym (append-nil es)) (subst (λ z. Acts u es z) (sym b.1) (inr a)))
-  acts_then u v w es fs (inr a) (inr b) = inr (adds_then (λ h. Legal h) u v w es fs a b)
+  acts_then u v w es fs (inr a) (inr b) = inr (adds_then actor (λ h. Legal h) u v w es fs a b)
 
 module _ {T H : Type 0} where
   locally_then : (l m k : Option (LocalOf T H)) (es fs : List (Event Name H)) → ActsLocally l es m → ActsLocally m fs k → ActsLocally l (es ++ fs) k

@@ -11,7 +11,7 @@ use Rattle.cordyceps_shared.specs.Standings.{name_of, keeping, giving, Absorbs}
 use Rattle.cordyceps_shared.proofs.Halving.{halves_join}
 use Rattle.cordyceps_shared.proofs.Knowing.{adds_knows, absorbs_knows, keeps_knows, gives_knows}
 use Rattle.cordyceps_shared.proofs.Owning.{own_split}
-use Rattle.cordyceps_stack.specs.History.{Load, Push, Taken, Legal}
+use Rattle.cordyceps_stack.specs.History.{Load, Push, Taken, Legal, actor}
 use Rattle.cordyceps_stack.specs.Shared.Calls.{PartyOf, PushesAt, Misses}
 use Rattle.freelist.specs.Blocks.{LocalOf, GivesFirst, GetsFrom}
 use Rattle.freelist.specs.Whereabouts.{Gets, Fetches, Puts, PutsRemote, HandsBack, Opens, Finishes, Splits, Joins, Idles, behind, Lacks}
@@ -112,7 +112,7 @@ module _ {T H : Type 0} (element : H → Element T) where
         took = refl;
         own_events = λ g2. omega (arith, adds_own q l.party es took.0 g2, tally_behind (λ (z : PartyOf H). tally g2 (own z.seen)) o (q ∷ []), tally_behind (λ (z : PartyOf H). tally g2 (own z.seen)) o (l.party ∷ []));
         in_turn = λ _. (inl (refl, refl), inr took.0, refl);
-        knows = λ k. (k.0, knows_last q l.party o (adds_knows (λ h. Legal h) q l.party es took.0) k.1);
+        knows = λ k. (k.0, knows_last q l.party o (λ j. adds_knows actor (λ h. Legal h) q l.party es j took.0) k.1);
         names = λ n h. subst (λ z. Divides n p.share (Some z) (share_of o)) (sym took.0.0.share) h;
         table = refl;
       }
@@ -197,7 +197,7 @@ module _ {T H : Type 0} (element : H → Element T) where
         took = refl;
         own_events = λ g. omega (arith, adds_own p p2 es pushed.0 g);
         in_turn = λ _. (inr pushed.0, stays_local l, refl);
-        knows = λ k. (adds_knows (λ h. Legal h) p p2 es pushed.0, k.1);
+        knows = λ k. (adds_knows actor (λ h. Legal h) p p2 es k.0 pushed.0, k.1);
         names = λ n d. subst (λ z. Divides n z (share_of (local_party l)) (share_of o)) (sym pushed.0.0.share) d;
         table = refl;
       }
@@ -226,7 +226,7 @@ module _ {T H : Type 0} (element : H → Element T) where
         took = refl;
         own_events = λ g. omega (arith, adds_own p p2 es missed.0 g);
         in_turn = λ _. (inr missed.0, stays_local l, refl);
-        knows = λ k. (adds_knows (λ h. Legal h) p p2 es missed.0, k.1);
+        knows = λ k. (adds_knows actor (λ h. Legal h) p p2 es k.0 missed.0, k.1);
         names = λ n d. subst (λ z. Divides n z (share_of (local_party l)) (share_of o)) (sym missed.0.0.share) d;
         table = refl;
       }
@@ -330,7 +330,7 @@ module _ {T H : Type 0} (element : H → Element T) where
     took = refl;
     own_events = λ g. omega (arith, absorbs_own p q p2 a g);
     in_turn = λ o. absurd o;
-    knows = λ k. (absorbs_knows (λ h. Legal h) p q p2 a, k.1.1);
+    knows = λ k. (absorbs_knows (λ h. Legal h) p q p2 k.0 k.1.0 a, k.1.1);
     names = λ n h. absorb_names n p p2 q (local_party l) a.share h;
     table = refl;
   }

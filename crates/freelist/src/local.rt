@@ -44,9 +44,10 @@ impl<'a, T: Linked<Links<T>>> Local<'a, T> {
     pub fn get(&mut self) -> Option<T::Handle>
         ensures { GetsFrom T.element self.old.blocks self.old.party result self.new }
     {
-        if self.blocks.is_empty() {
-            self.blocks = self.shared.take_all(&mut self.party);
+        if !self.blocks.is_empty() {
+            return self.blocks.pop();
         }
+        self.blocks = self.shared.take_all(&mut self.party);
         self.blocks.pop()
     }
 

@@ -7,13 +7,13 @@ use Rattle.std.specs.Ordering.{nat_cmp}
 use Rattle.cordyceps.specs.Elements.Element.{Element}
 use Rattle.cordyceps.specs.Parties.Histories.{plain, own, AllOwn}
 use Rattle.cordyceps.specs.Parties.Interleaving.{Interleaves}
-use Rattle.cordyceps.specs.Parties.Knowing.{unmarked, merged, Begins}
+use Rattle.cordyceps.specs.Parties.Knowing.{Foreign, unmarked, merged, Begins}
 use Rattle.cordyceps.specs.Parties.Shares.{Name, first_name, whole, keeps_half, gives_half, joined}
 use Rattle.cordyceps.specs.Parties.Standings.{name_of, keeping, giving, Absorbs}
-use Rattle.cordyceps.proofs.Parties.Adding.{adds_then, plain_append, plain_unmarked, plain_own, tail_own, whole_adds}
+use Rattle.cordyceps.proofs.Parties.Adding.{none_else, adds_then, plain_append, plain_unmarked, plain_own, tail_own, whole_adds}
 use Rattle.cordyceps.proofs.Parties.Interleaving.{interleaved_permutes}
 use Rattle.cordyceps.specs.declared.replay.item.Item.{Item}
-use Rattle.cordyceps.specs.Transfers.History.{Event, Load, Push, Taken, pushes, held, Legal}
+use Rattle.cordyceps.specs.Transfers.History.{Event, Load, Push, Taken, pushes, held, Legal, actor}
 use Rattle.cordyceps.specs.Transfers.Calls.{PartyOf, Adds, PushesAt, Takes}
 use Rattle.replay_sharing.specs.Sharing.{item, Works, Shared, NoBatch}
 use Rattle.replay_sharing.proofs.InOrder.{sorted_as}
@@ -32,7 +32,7 @@ works a b u v w two p q =
     let fs = replicate (suc q.0) (Load (name_of v)) ++ Push (name_of v) b ∷ [] in
     record {
       events = es ++ fs;
-      adds = adds_then (λ h. Legal h) u v w es fs p.2.0 q.2.0;
+      adds = adds_then actor (λ h. Legal h) u v w es fs p.2.0 q.2.0;
       none = none_append es fs (tries_take_nothing (suc p.0) (name_of u) a) (tries_take_nothing (suc q.0) (name_of v) b);
       pushed = pushes_append es fs ∙ (λ i. tries_push_once (suc p.0) (name_of u) a i ++ tries_push_once (suc q.0) (name_of v) b i);
       rooms = omega (arith, two, p.2.2, q.2.2);
@@ -113,7 +113,7 @@ module _ (u first second v w : Party) (one : Works (item 10) (item 11) (giving 2
 
   gains : Adds u (plain (merged r s)) w
   gains = (
-    record { rest = merged r s; is = seen_both; adds = sym (plain_own (merged r s) own_all); legal = y.legal; share = again ∙ sym all; alone = y.alone },
+    record { rest = merged r s; is = seen_both; adds = sym (plain_own (merged r s) own_all); foreign = subst (λ z. Foreign actor u.share z) (sym (none_else (merged r s) own_all)) tt; legal = y.legal; share = again ∙ sym all; alone = y.alone },
     y.table ∙ x.table,
   )
 
@@ -127,12 +127,12 @@ module _ (u first second v w : Party) (one : Works (item 10) (item 11) (giving 2
     took_pushed =
         let holds : held (plain w.seen) ≡ pushes (plain (merged r s)) =
         ap (λ k. held (plain k)) seen_both ∙ (ap (λ k. held k) (plain_append u.seen (merged r s)) ∙ held_since (plain u.seen) (plain (merged r s)) empty none_took) in
-        z.0.0.legal (plain w.seen) [] (name_of w) batch (whole_adds (λ h. Legal h) w t (Taken (name_of w) batch ∷ []) again z.0) ∙ ap (λ k. reverse k) holds
+        z.0.0.legal (plain w.seen) [] (name_of w) batch (whole_adds actor (λ h. Legal h) w t (Taken (name_of w) batch ∷ []) again z.0) ∙ ap (λ k. reverse k) holds
 
     gains_all : Adds u (plain (merged r s) ++ Taken (name_of u) (reverse (pushes (plain (merged r s)))) ∷ []) t
     gains_all =
         let same : Taken (name_of w) batch ≡ Taken (name_of u) (reverse (pushes (plain (merged r s)))) = λ i. Taken (first_name ((again ∙ sym all) i)) (took_pushed i) in
-        adds_then (λ h. Legal h) u w t (plain (merged r s)) (Taken (name_of u) (reverse (pushes (plain (merged r s)))) ∷ []) gains (subst (λ k. Adds w (k ∷ []) t) same z.0)
+        adds_then actor (λ h. Legal h) u w t (plain (merged r s)) (Taken (name_of u) (reverse (pushes (plain (merged r s)))) ∷ []) gains (subst (λ k. Adds w (k ∷ []) t) same z.0)
 
     rooms_again : t.rooms ≡ u.rooms
     rooms_again =

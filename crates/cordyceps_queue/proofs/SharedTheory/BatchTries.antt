@@ -10,7 +10,7 @@ use Rattle.cordyceps_shared.proofs.Owning.{own_adds}
 use Rattle.cordyceps_queue.specs.declared.cores.steps.TryDequeueError.{TryDequeueError}
 use Rattle.cordyceps_queue.specs.declared.cores.steps.TryDequeueError.TheVariants as error
 use Rattle.cordyceps_queue.specs.Shared.Batches.{outs, TakesLinked}
-use Rattle.cordyceps_queue.specs.History.{Event, Look, Out, Empty, held}
+use Rattle.cordyceps_queue.specs.History.{Event, Look, Out, Empty, held, actor}
 use Rattle.cordyceps_queue.specs.Shared.Calls.{PartyOf, Legal, Adds, BlockedAfter, Consumes}
 use Rattle.cordyceps_queue.proofs.SharedTheory.CloseTakesAll.{gives_first}
 use Rattle.cordyceps_queue.proofs.SharedTheory.TriesInTurn.{Run, run_holds}
@@ -38,7 +38,7 @@ module _ {E : Type 0} where
     where
       joined : ((es ≡ []) × (v ≡ u)) ⊎ ((es ≢ []) × Adds u (outs (name_of u) es) v) → Adds u (outs (name_of u) es ++ xs) w
       joined (inl a) = subst (λ z. Adds u (outs (name_of u) z ++ xs) w) (sym a.0) (subst (λ z. Adds z xs w) a.1 b)
-      joined (inr a) = adds_then (λ h. Legal h) u v w (outs (name_of u) es) xs a.1 b
+      joined (inr a) = adds_then actor (λ h. Legal h) u v w (outs (name_of u) es) xs a.1 b
 
   pub took_none : (u : PartyOf E) → Took [] u u
   took_none u = record { adds = inl (refl, refl); rooms = omega arith }
@@ -94,7 +94,7 @@ module _ {E : Type 0} where
     where
       owned : ((es ≡ []) × (v ≡ u)) ⊎ ((es ≢ []) × Adds u (outs (name_of u) es) v) → own v.seen ≡ own u.seen ++ outs (name_of u) es
       owned (inl a) = ap (λ z. own z.seen) a.1 ∙ (sym (append-nil (own u.seen)) ∙ ap (λ z. own u.seen ++ outs (name_of u) z) (sym a.0))
-      owned (inr a) = own_adds (λ h. Legal h) u v (outs (name_of u) es) a.1
+      owned (inr a) = own_adds (λ h. Legal h) actor u v (outs (name_of u) es) a.1
 
   pub stops_full : (max : ℕ) (u v : PartyOf E) (es : List E) → es ≢ [] → length es ≡ max → Took es u v → TakesLinked max es u v
   stops_full max u v es some full t = record { some = some; stops = inl (full, added t.adds); rooms = t.rooms }

@@ -1,30 +1,28 @@
 -- What the calls of a shared queue promise, from what their parts leave.
-use Rattle.std.proofs.Common.{◌≡◌, ℕ, List, [], ◌∷◌, ◌++◌, ◌+◌, reverse, length, Bool, Some, None, refl, sym, ap, ◌∙◌, subst, inl, inr, arith}
+use Rattle.std.proofs.Common.{◌≡◌, ◌≢◌, ℕ, List, [], ◌∷◌, ◌++◌, ◌+◌, length, Bool, Option, Some, None, refl, sym, ap, ◌∙◌, subst, arith}
 use Rattle.std.specs.Prelude.{Ok, Err}
-use Rattle.std.proofs.lemmas.List.{reverse-append}
 use Rattle.atomic_table.specs.Seated.{TableId}
 use Rattle.cordyceps_shared.specs.Histories.{plain, AllOwn}
-use Rattle.cordyceps_shared.specs.Shares.{Name, whole, first_name}
+use Rattle.cordyceps_shared.specs.Shares.{Name, whole, first_name, IsOf, IsShare}
 use Rattle.cordyceps_shared.proofs.Adding.{whole_adds, plain_own}
+use Rattle.cordyceps_shared.proofs.Tracing.{of_whole}
 use Rattle.cordyceps_shared.proofs.Telling.{grown_then}
 use Rattle.cordyceps_shared.specs.declared.slots.Filled.{Filled}
 use Rattle.cordyceps_queue.specs.declared.shared.table.Tried.TheVariants as tried
 use Rattle.cordyceps_queue.specs.declared.cores.steps.TryDequeueError.TheVariants as error
 use Rattle.cordyceps_queue.specs.Shared.Parts.{standing, IsSeated, Dequeued}
 use Rattle.cordyceps_queue.specs.History as told
-use Rattle.cordyceps_queue.specs.History.{Event, Swap, Link, Take, Busy, Look, Out, Empty, Free}
-use Rattle.cordyceps_queue.specs.Shared.Parting.{IsStill}
-use Rattle.cordyceps_queue.specs.Past as past
+use Rattle.cordyceps_queue.specs.History.{Event, Swap, Link, Take, Busy, Look, Out, Empty, Free, actor}
 use Rattle.cordyceps_queue.specs.Shared.Plays.{SeatState, Sees, IsResting}
 use Rattle.cordyceps_queue.specs.Shared.Plays as seen
 use Rattle.cordyceps_queue.specs.Shared.Rule.{IsTable}
 use Rattle.cordyceps_queue.specs.Shared.Calls.{same_name, Legal, Adds, BlockedAfter, Enqueues, Dequeues}
 use Rattle.cordyceps_queue.specs.Shared.View.{View, name}
 use Rattle.cordyceps_queue.proofs.CoreTheory.Basics.{none_some}
-use Rattle.cordyceps_queue.proofs.BothWays.{legal_both_ways}
-use Rattle.cordyceps_queue.proofs.HistoryEnds.{links_by-append, swaps_by-append, links_by-reverse, swaps_by-reverse}
-use Rattle.cordyceps_queue.proofs.Legality.{told_legal, holder_of, counts}
+use Rattle.cordyceps_queue.proofs.HistoryEnds.{links_by-append, swaps_by-append}
+use Rattle.cordyceps_queue.proofs.Legality.{told_legal}
 use Rattle.cordyceps_queue.proofs.SharedTheory.BlockedLook.{looked_blocked}
+use Rattle.cordyceps_queue.proofs.SharedTheory.OwnNames.{Balanced, even_links, linked_after, unheld_after}
 
 pub front_own : {X : Type 0} (xs ys : List (Bool × X)) → AllOwn (xs ++ ys) → AllOwn xs
 front_own [] ys a = tt
@@ -32,45 +30,19 @@ front_own (x ∷ xs) ys a = (a.0, front_own xs ys a.1)
 
 module _ {E : Type 0} where
   pub adds : (z z' : TableId) (v w : View E) (es : List (Event Name E)) → Sees v es w → z' ≡ z → Adds (standing z v) es (standing z' w)
-  adds z z' v w es g at = (record { rest = g.rest; is = g.is; adds = g.adds; legal = told_legal same_name (plain w.known.seen) g.legal; share = g.share; alone = g.alone }, at)
-
-  -- ---- a party that is whole stays alone
-  abbrev Still : List (Event Name E) → Type 0
-  Still h = (past.holder h ≡ None) × ((q : Name) → past.IsSettled q h)
-
-  -- events after which nobody is pending and nobody has the right, if it was so before
-  abbrev pub Settles : List (Event Name E) → Type 0
-  Settles es = (h : List (Event Name E)) → Still h → Still (reverse es ++ h)
-
-  pub enqueue_settles : (n : Name) (e : E) → Settles (Swap n e ∷ Link n ∷ [])
-  enqueue_settles n e h s = (s.0, λ q. elim (same_name q n) [ yes is ↦ inl is | no not ↦ inr (not, s.1 q) ])
-
-  pub busy_settles : (n : Name) → Settles (Busy n ∷ [])
-  busy_settles n h s = s
-
-  out_settles : (n : Name) (e : E) → Settles (Take n ∷ Look n ∷ Out n e ∷ Free n ∷ [])
-  out_settles n e h s = (refl, s.1)
-
-  empty_settles : (n : Name) → Settles (Take n ∷ Look n ∷ Empty n ∷ Free n ∷ [])
-  empty_settles n h s = (refl, s.1)
-
-  look_settles : (n : Name) → Settles (Take n ∷ Look n ∷ Free n ∷ [])
-  look_settles n h s = (refl, s.1)
-
-  still_more : (z : TableId) (v w : View E) (es : List (Event Name E)) → Sees v es w → (v.known.share ≡ whole → IsStill (plain v.known.seen)) → Settles es → w.known.share ≡ whole → IsStill (plain w.known.seen)
-  still_more z v w es g still settles is =
-      let all = whole_adds (λ h. Legal h) (standing z v) (standing z w) es (sym g.share ∙ is) (adds z z v w es g refl) in
-      subst Still (sym (ap reverse all ∙ reverse-append (plain v.known.seen) es)) (settles (reverse (plain v.known.seen)) (still (sym g.share ∙ is)))
+  adds z z' v w es g at = (record { rest = g.rest; is = g.is; adds = g.adds; foreign = g.foreign; legal = told_legal same_name (plain w.known.seen) g.legal; share = g.share; alone = g.alone }, at)
 
   -- a party that rests again after these events of its own
-  pub seated_after : (z z' t : TableId) (m k : SeatState E) (tickets left : List ℕ) (es : List (Event Name E)) → IsSeated z m tickets → z' ≡ z → z ≡ t → IsResting t.slots k → k.0.free ≡ left → Sees m.0 es k.0 → Settles es → IsSeated z' k left
-  seated_after z z' t m k tickets left es s at there rests free g settles = record {
+  pub seated_after : (z z' t : TableId) (m k : SeatState E) (tickets left : List ℕ) (es : List (Event Name E)) → IsSeated z m tickets → z' ≡ z → z ≡ t → IsResting t.slots k → k.0.free ≡ left → Sees m.0 es k.0 → Balanced es → IsSeated z' k left
+  seated_after z z' t m k tickets left es s at there rests free g even = record {
     table = subst (λ q. IsTable q) (sym at) s.table;
     rests = subst (λ (q : TableId). IsResting q.slots k) (sym (at ∙ there)) rests;
     free = free;
     legal = told_legal same_name (plain k.0.known.seen) g.legal;
     alone = g.alone;
-    still = still_more z m.0 k.0 es g s.still settles;
+    share = subst (λ z. IsShare z) (sym g.share) s.share;
+    linked = linked_after m.0 k.0 es g s.legal s.linked (λ q. (even q).0);
+    unheld = unheld_after m.0 k.0 es g s.legal s.unheld (λ q. (even q).1);
   }
 
   -- ---- putting an element in
@@ -98,7 +70,7 @@ module _ {E : Type 0} where
 
   inconsistent_sees : (slots : ℕ) (m k : SeatState E) → Dequeued slots m k (Some tried.Inconsistent) → Sees m.0 (Take (name m.0) ∷ Look (name m.0) ∷ Free (name m.0) ∷ []) k.0
   inconsistent_sees slots m k d =
-      let n = name m.0 in grown_then seen.LegalReversed m.0.known d.1.0.known k.0.known (Take n ∷ Look n ∷ []) (Free n ∷ []) d.1.1 d.1.3
+      let n = name m.0 in grown_then actor seen.LegalReversed m.0.known d.1.0.known k.0.known (Take n ∷ Look n ∷ []) (Free n ∷ []) d.1.1 d.1.3
 
   pub finds_blocked : (z z' : TableId) (slots : ℕ) (m k : SeatState E) → m.0.back ≡ [] → k.0.back ≡ [] → z' ≡ z → Dequeued slots m k (Some tried.Inconsistent) → Dequeues (Err error.Inconsistent) (standing z m.0) (standing z' k.0)
   finds_blocked z z' slots m k before after at d =
@@ -114,30 +86,34 @@ module _ {E : Type 0} where
 
   -- what the party is after a try
   pub busy_seated : (z z' t : TableId) (slots : ℕ) (m k : SeatState E) (tickets : List ℕ) → IsSeated z m tickets → z' ≡ z → z ≡ t → IsResting t.slots k → Dequeued slots m k None → IsSeated z' k tickets
-  busy_seated z z' t slots m k tickets s at there rests d = seated_after z z' t m k tickets tickets (Busy (name m.0) ∷ []) s at there rests (d.0 ∙ s.free) d.1 (busy_settles (name m.0))
+  busy_seated z z' t slots m k tickets s at there rests d = seated_after z z' t m k tickets tickets (Busy (name m.0) ∷ []) s at there rests (d.0 ∙ s.free) d.1 (λ q. (refl, refl))
 
   pub empty_seated : (z z' t : TableId) (slots : ℕ) (m k : SeatState E) (tickets : List ℕ) → IsSeated z m tickets → z' ≡ z → z ≡ t → IsResting t.slots k → Dequeued slots m k (Some tried.Empty) → IsSeated z' k tickets
   empty_seated z z' t slots m k tickets s at there rests d =
-      let n = name m.0 in seated_after z z' t m k tickets tickets (Take n ∷ Look n ∷ Empty n ∷ Free n ∷ []) s at there rests (d.0 ∙ s.free) d.1 (empty_settles n)
+      let n = name m.0 in seated_after z z' t m k tickets tickets (Take n ∷ Look n ∷ Empty n ∷ Free n ∷ []) s at there rests (d.0 ∙ s.free) d.1 (λ q. (refl, refl))
 
   pub blocked_seated : (z z' t : TableId) (slots : ℕ) (m k : SeatState E) (tickets : List ℕ) → IsSeated z m tickets → z' ≡ z → z ≡ t → IsResting t.slots k → Dequeued slots m k (Some tried.Inconsistent) → IsSeated z' k tickets
   blocked_seated z z' t slots m k tickets s at there rests d =
-      let n = name m.0 in seated_after z z' t m k tickets tickets (Take n ∷ Look n ∷ Free n ∷ []) s at there rests (d.0 ∙ s.free) (inconsistent_sees slots m k d) (look_settles n)
+      let n = name m.0 in seated_after z z' t m k tickets tickets (Take n ∷ Look n ∷ Free n ∷ []) s at there rests (d.0 ∙ s.free) (inconsistent_sees slots m k d) (λ q. (refl, refl))
 
   pub one_seated : (z z' t : TableId) (slots : ℕ) (m k : SeatState E) (tickets left : List ℕ) (full : Filled E) → IsSeated z m tickets → z' ≡ z → z ≡ t → IsResting t.slots k → Dequeued slots m k (Some (tried.Out full)) → left ≡ full.ticket ∷ tickets → IsSeated z' k left
   one_seated z z' t slots m k tickets left full s at there rests d more =
       let n = name m.0 in
-      seated_after z z' t m k tickets left (Take n ∷ Look n ∷ Out n full.item ∷ Free n ∷ []) s at there rests (d.0 ∙ (ap (λ xs. full.ticket ∷ xs) s.free ∙ sym more)) d.1 (out_settles n full.item)
+      seated_after z z' t m k tickets left (Take n ∷ Look n ∷ Out n full.item ∷ Free n ∷ []) s at there rests (d.0 ∙ (ap (λ xs. full.ticket ∷ xs) s.free ∙ sym more)) d.1 (λ q. (refl, refl))
 
   -- ---- a whole party's try is certain
   whole_unheld : (z : TableId) (m : SeatState E) (tickets : List ℕ) → IsSeated z m tickets → m.0.known.share ≡ whole → told.holder (plain m.0.known.seen) ≡ None
-  whole_unheld z m tickets s is = holder_of (plain m.0.known.seen) ∙ (s.still is).0
+  whole_unheld z m tickets s is = no_holder (told.holder (plain m.0.known.seen)) (λ q. s.unheld q (subst (λ ns. IsOf ns q) (sym is) (of_whole q)))
+    where
+      no_holder : (o : Option Name) → ((q : Name) → o ≢ Some q) → o ≡ None
+      no_holder None never = refl
+      no_holder (Some q) never = absurd (never q refl)
 
   pub whole_right : (z z' : TableId) (slots : ℕ) (m k : SeatState E) (tickets : List ℕ) → IsSeated z m tickets → z' ≡ z → Dequeued slots m k None → m.0.known.share ≡ whole → ⊥
   whole_right z z' slots m k tickets s at d is =
       let n = name m.0 in
       let a = adds z z' m.0 k.0 (Busy n ∷ []) d.1 at in
-      let all = whole_adds (λ h. Legal h) (standing z m.0) (standing z' k.0) (Busy n ∷ []) is a in
+      let all = whole_adds actor (λ h. Legal h) (standing z m.0) (standing z' k.0) (Busy n ∷ []) is a in
       let held = a.0.legal.turns (plain m.0.known.seen) [] (Busy n) all in
       none_some (sym (whole_unheld z m tickets s is) ∙ held.1)
 
@@ -146,10 +122,7 @@ module _ {E : Type 0} where
   AllLinked h = (q : Name) → told.links_by same_name q h ≡ told.swaps_by same_name q h
 
   whole_even : (z : TableId) (m : SeatState E) (tickets : List ℕ) → IsSeated z m tickets → m.0.known.share ≡ whole → AllLinked (plain m.0.known.seen)
-  whole_even z m tickets s is q =
-      let h = plain m.0.known.seen in
-      let legal = (legal_both_ways Name E same_name h).0 s.legal in
-      sym (links_by-reverse same_name q h) ∙ ((counts same_name (reverse h) legal q).0 ((s.still is).1 q) ∙ swaps_by-reverse same_name q h)
+  whole_even z m tickets s is q = even_links q (plain m.0.known.seen) s.legal (s.linked q (subst (λ ns. IsOf ns q) (sym is) (of_whole q)))
 
   look_even : (n : Name) (h : List (Event Name E)) → AllLinked h → AllLinked (h ++ Take n ∷ Look n ∷ [])
   look_even n h e q = links_by-append same_name q h (Take n ∷ Look n ∷ []) ∙ (ap (λ x. x + 0) (e q) ∙ sym (swaps_by-append same_name q h (Take n ∷ Look n ∷ [])))

@@ -8,7 +8,7 @@ use Rattle.cordyceps_shared.specs.Standings.{name_of}
 use Rattle.cordyceps_shared.proofs.Adding.{whole_adds}
 use Rattle.cordyceps_queue.specs.declared.cores.steps.TryDequeueError.{TryDequeueError}
 use Rattle.cordyceps_queue.specs.declared.cores.steps.TryDequeueError.TheVariants as error
-use Rattle.cordyceps_queue.specs.History.{Event, Swap, Link, Take, Look, Out, Empty, Free, held}
+use Rattle.cordyceps_queue.specs.History.{Event, Swap, Link, Take, Look, Out, Empty, Free, held, actor}
 use Rattle.cordyceps_queue.specs.Past as past
 use Rattle.cordyceps_queue.specs.Shared.Calls.{same_name, PartyOf, Legal, Adds, Enqueues, Dequeues, Consumes, IsCertain}
 use Rattle.cordyceps_queue.proofs.BothWays.{legal_both_ways}
@@ -19,7 +19,7 @@ module _ {E : Type 0} where
   -- the legal history of a whole party that added these events, the newest first
   back_legal : (u w : PartyOf E) (es : List (Event Name E)) → u.share ≡ whole → Adds u es w → past.IsLegal (reverse es ++ reverse (plain u.seen))
   back_legal u w es is a =
-      let all = whole_adds (λ h. Legal h) u w es is a in
+      let all = whole_adds actor (λ h. Legal h) u w es is a in
       subst (λ r. past.IsLegal r) (ap reverse all ∙ reverse-append (plain u.seen) es) ((legal_both_ways Name E same_name (plain w.seen)).0 a.0.legal)
 
   pub takes_first : (u w : PartyOf E) (e : E) → u.share ≡ whole → Dequeues (Ok e) u w → held (plain u.seen) ≡ e ∷ held (plain w.seen)
@@ -29,7 +29,7 @@ module _ {E : Type 0} where
       let l = back_legal u w es is d.0 in
       let before = held_of (plain u.seen) l.1.1.1.1 in
       let out = l.1.0 in
-      let all = whole_adds (λ h. Legal h) u w es is d.0 in
+      let all = whole_adds actor (λ h. Legal h) u w es is d.0 in
       let back : reverse (plain w.seen) ≡ reverse es ++ reverse (plain u.seen) = ap reverse all ∙ reverse-append (plain u.seen) es in
       let after = held_of (plain w.seen) (subst (λ r. past.IsLegal r) (sym back) l) ∙ ap (λ r. past.held r) back in
       before ∙ (out.2 ∙ ap (λ xs. e ∷ xs) (sym (after ∙ ap (drop 1) out.2)))
@@ -40,7 +40,7 @@ module _ {E : Type 0} where
       let n = name_of u in
       let es : List (Event Name E) = Swap n e ∷ Link n ∷ [] in
       let l = back_legal u w es is d.0 in
-      let all = whole_adds (λ h. Legal h) u w es is d.0 in
+      let all = whole_adds actor (λ h. Legal h) u w es is d.0 in
       let back : reverse (plain w.seen) ≡ reverse es ++ reverse (plain u.seen) = ap reverse all ∙ reverse-append (plain u.seen) es in
       held_of (plain w.seen) (subst (λ r. past.IsLegal r) (sym back) l) ∙ ap (λ r. past.held r) back ∙ ap (λ xs. xs ++ e ∷ []) (sym (held_of (plain u.seen) l.1.1))
 
@@ -70,7 +70,7 @@ module _ {E : Type 0} where
       let es : List (Event Name E) = Look n ∷ Out n e ∷ [] in
       let l = back_legal u w es is d.0 in
       let out = l.0 in
-      let all = whole_adds (λ h. Legal h) u w es is d.0 in
+      let all = whole_adds actor (λ h. Legal h) u w es is d.0 in
       let back : reverse (plain w.seen) ≡ reverse es ++ reverse (plain u.seen) = ap reverse all ∙ reverse-append (plain u.seen) es in
       let after = held_of (plain w.seen) (subst (λ r. past.IsLegal r) (sym back) l) ∙ ap (λ r. past.held r) back in
       held_of (plain u.seen) l.1.1 ∙ (out.2 ∙ ap (λ xs. e ∷ xs) (sym (after ∙ ap (drop 1) out.2)))

@@ -10,12 +10,14 @@ use lib.Seq.{set-get_or}
 use Rattle.atomic_table.specs.Table.{Act, keeps, takes, stepped, carried_after, Valid}
 use Rattle.atomic_table.proofs.Lists.{set_else}
 use Rattle.cordyceps_shared.specs.Histories.{events, of_seat}
+use Rattle.cordyceps_shared.specs.Knowing.{Under}
 use Rattle.cordyceps_shared.specs.Shares.{Name}
+use Rattle.cordyceps_shared.proofs.Telling.{under_append}
 use Rattle.cordyceps_shared.proofs.Seeing.{events_more, plain_marked}
 use Rattle.cordyceps_queue.specs.declared.cores.stage.Stage.{Stage}
 use Rattle.cordyceps_queue.specs.declared.cores.stage.Stage.TheVariants.{Cleared, Holding, Null}
 use Rattle.cordyceps_shared.specs.declared.slots.Filled.{Filled}
-use Rattle.cordyceps_queue.specs.History.{Event}
+use Rattle.cordyceps_queue.specs.History.{Event, actor}
 use Rattle.cordyceps_shared.specs.Places.{ItemAt}
 use Rattle.cordyceps_queue.specs.Cores.Meets.{Spare, Shared, OwnsRooms, Chain, Owes, tail_of, AtStage, Meets}
 use Rattle.cordyceps_queue.specs.Past.{HasLooked, WasBlocked}
@@ -82,12 +84,12 @@ module _ {E : Type 0} (s : TableState E) (k : RuleHolds s) (id : ℕ) (v : View 
   full_among rooms among i x ix ne = let a = among i x ix in k.full a.0 x a.1 ne
 
   -- a step that changes no word and no slot
-  pub reads : (es : List (Event Name E)) (stage : Stage) (chain : Chain) → Meets (stands n id (party v) stage) chain (reverse es ++ out_events) → Among chain.rooms k.chain.rooms → ((q : ℕ) → stage ≡ Cleared q → ⊥) → (i : ℕ)
+  pub reads : (es : List (Event Name E)) → Under actor (name v) es → (stage : Stage) (chain : Chain) → Meets (stands n id (party v) stage) chain (reverse es ++ out_events) → Among chain.rooms k.chain.rooms → ((q : ℕ) → stage ≡ Cleared q → ⊥) → (i : ℕ)
       → RuleHolds record { words = set s.words i (get_or s.words i 0); homes = s.homes; views = set s.views id (sees es v.free v.back stage) } × Sees v es (sees es v.free v.back stage)
-  reads es stage chain met among away i =
+  reads es under stage chain met among away i =
       let w = sees es v.free v.back stage in
       let same : stands n id (party v) stage ≡ machine_of k.cell s.words (set s.views id w) = spelled w in
-      let r = keeps_rule s k id es v w s.words s.homes k.cell chain (stands n id (party v) stage) at named refl same met refl refl (full_among chain.rooms among) (empties_same s k id w (k.empty id v at named)) (readies_same s k id w away) in
+      let r = keeps_rule s k id es v w s.words s.homes k.cell chain (stands n id (party v) stage) at named under refl same met refl refl (full_among chain.rooms among) (empties_same s k id w (k.empty id v at named)) (readies_same s k id w away) in
       (subst (λ (ws : List ℕ). RuleHolds record { words = ws; homes = s.homes; views = set s.views id w }) (sym (set-get_or s.words i 0)) r.0, r.1)
     where
       spelled : (w : View E) → stands n id (party v) stage ≡ machine_of k.cell s.words (set s.views id (sees es v.free v.back stage))
@@ -101,11 +103,11 @@ module _ {E : Type 0} (s : TableState E) (k : RuleHolds s) (id : ℕ) (v : View 
       }
 
   -- the right changes
-  pub rights : (es : List (Event Name E)) (stage : Stage) (chain : Chain) (right : ℕ) → Meets (set_right n id (party v) right stage) chain (reverse es ++ out_events) → Among chain.rooms k.chain.rooms → ((q : ℕ) → stage ≡ Cleared q → ⊥)
+  pub rights : (es : List (Event Name E)) → Under actor (name v) es → (stage : Stage) (chain : Chain) (right : ℕ) → Meets (set_right n id (party v) right stage) chain (reverse es ++ out_events) → Among chain.rooms k.chain.rooms → ((q : ℕ) → stage ≡ Cleared q → ⊥)
       → RuleHolds record { words = set s.words 1 right; homes = s.homes; views = set s.views id (sees es v.free v.back stage) } × Sees v es (sees es v.free v.back stage)
-  rights es stage chain right met among away =
+  rights es under stage chain right met among away =
       let w = sees es v.free v.back stage in
-      keeps_rule s k id es v w (set s.words 1 right) s.homes k.cell chain (set_right n id (party v) right stage) at named refl spelled met (length-set s.words 1 right) refl (full_among chain.rooms among) (empties_same s k id w (k.empty id v at named)) (readies_same s k id w away)
+      keeps_rule s k id es v w (set s.words 1 right) s.homes k.cell chain (set_right n id (party v) right stage) at named under refl spelled met (length-set s.words 1 right) refl (full_among chain.rooms among) (empties_same s k id w (k.empty id v at named)) (readies_same s k id w away)
     where
       spelled : set_right n id (party v) right stage ≡ machine_of k.cell (set s.words 1 right) (set s.views id (sees es v.free v.back stage))
       spelled j = record {
@@ -118,7 +120,7 @@ module _ {E : Type 0} (s : TableState E) (k : RuleHolds s) (id : ℕ) (v : View 
       }
 
   -- the tail's element is handed out, after these events
-  module _ (before : List (Event Name E)) (M : Meets n k.chain (reverse before ++ out_events)) (t r : ℕ) (has : tail_of v.stage ≡ Some t) (nothing : (a b : ℕ) → Owes v.stage a b → ⊥) (is_real : t ≢ 0) (linked : n.next t ≡ Some r) (e : E) (full : k.cell t ≡ Some e) where
+  module _ (before : List (Event Name E)) (under : Under actor (name v) before) (M : Meets n k.chain (reverse before ++ out_events)) (t r : ℕ) (has : tail_of v.stage ≡ Some t) (nothing : (a b : ℕ) → Owes v.stage a b → ⊥) (is_real : t ≢ 0) (linked : n.next t ≡ Some r) (e : E) (full : k.cell t ≡ Some e) where
     abbrev pub all : List (Event Name E)
     all = before ++ Event.Out (name v) e ∷ []
 
@@ -190,7 +192,7 @@ module _ {E : Type 0} (s : TableState E) (k : RuleHolds s) (id : ℕ) (v : View 
     out_kept : (i : ℕ) → RuleHolds record { words = set s.words i (get_or s.words i 0); homes = homes_out; views = set s.views id out_view } × Sees v all out_view
     out_kept i =
         let h = ap (λ l. l ++ out_events) (reverse-append before (Event.Out (name v) e ∷ [])) in
-        let kept = keeps_rule s k id all v out_view s.words homes_out (update k.cell t None) next_chain freed_machine at named refl spelled_out (subst (Meets freed_machine next_chain) (sym h) met) refl (length-set s.homes t none) out_full
+        let kept = keeps_rule s k id all v out_view s.words homes_out (update k.cell t None) next_chain freed_machine at named (under_append actor (name v) before (Event.Out (name v) e ∷ []) under (refl, tt)) refl spelled_out (subst (Meets freed_machine next_chain) (sym h) met) refl (length-set s.homes t none) out_full
         (empties s k id t none out_view out_empty (λ j ne mine. spare_shared mine tail_shared))
         (readies s k id t None out_view (λ q is. cc) (λ j ne mine. ready_shared mine tail_shared)) in
         (subst (λ (ws : List ℕ). RuleHolds record { words = ws; homes = homes_out; views = set s.views id out_view }) (sym (set-get_or s.words i 0)) kept.0, kept.1)
@@ -213,16 +215,16 @@ module _ {E : Type 0} (s : TableState E) (k : RuleHolds s) (id : ℕ) (v : View 
   Comes i new then = (w : View E) × (a : Act (Option (Filled E))) × Valid s.homes [] a × RuleHolds (stepped s i new id [] w a) × then (get_or s.words i 0) (w, carried_after [] a)
 
   -- with the tail's link a room: the element is handed out
-  pub hands : (before : List (Event Name E)) (M : Meets n k.chain (reverse before ++ out_events)) (t r i : ℕ) (has : tail_of v.stage ≡ Some t) (nothing : (a b : ℕ) → Owes v.stage a b → ⊥) (is_real : t ≢ 0) (linked : n.next t ≡ Some r) (slots : ℕ) → length s.homes ≡ slots
+  pub hands : (before : List (Event Name E)) (under : Under actor (name v) before) (M : Meets n k.chain (reverse before ++ out_events)) (t r i : ℕ) (has : tail_of v.stage ≡ Some t) (nothing : (a b : ℕ) → Owes v.stage a b → ⊥) (is_real : t ≢ 0) (linked : n.next t ≡ Some r) (slots : ℕ) → length s.homes ≡ slots
       → Comes i (get_or s.words i 0) (λ _. hands_out before slots t r (v, []))
-  hands before M t r i has nothing is_real linked slots deep =
+  hands before under M t r i has nothing is_real linked slots deep =
       let first : ItemAt k.chain.rooms 0 t = (keeping n k.chain (reverse before ++ out_events) M id (party v) there t has).tail in
       let f = tail_full n k.chain (reverse before ++ out_events) M t is_real first in
       let e = f.0 in
       let near_t = chain_near s k 0 t first in
       let near_r = chain_near s k 1 r (second n k.chain (reverse before ++ out_events) M t r first linked) in
-      let o = out_kept before M t r has nothing is_real linked e f.3 i in (
-        out_view before M t r has nothing is_real linked e f.3,
+      let o = out_kept before under M t r has nothing is_real linked e f.3 i in (
+        out_view before under M t r has nothing is_real linked e f.3,
         takes t (Some (full_slot t e)),
         k.full 0 t first is_real ∙ ap (λ x. some (some (slot_of t x))) f.3,
         o.0,
@@ -230,33 +232,33 @@ module _ {E : Type 0} (s : TableState E) (k : RuleHolds s) (id : ℕ) (v : View 
       )
 
   -- with the tail's link null
-  nulls : (before : List (Event Name E)) (M : Meets n k.chain (reverse before ++ out_events)) (t i : ℕ) (has : tail_of v.stage ≡ Some t) (nothing : (a b : ℕ) → Owes v.stage a b → ⊥) (is_real : t ≢ 0) → HasLooked (name v) (reverse before ++ out_events) → n.next t ≡ None
+  nulls : (before : List (Event Name E)) (under : Under actor (name v) before) (M : Meets n k.chain (reverse before ++ out_events)) (t i : ℕ) (has : tail_of v.stage ≡ Some t) (nothing : (a b : ℕ) → Owes v.stage a b → ⊥) (is_real : t ≢ 0) → HasLooked (name v) (reverse before ++ out_events) → n.next t ≡ None
       → Comes i (get_or s.words i 0) (λ _. stands_at before (Null t) (v, []))
-  nulls before M t i has nothing is_real looked open_link =
+  nulls before under M t i has nothing is_real looked open_link =
       let h = reverse before ++ out_events in
       let met = stage_keeps n k.chain h M id (party v) there t has (Null t) refl (λ a b o. absurd (nothing a b o)) (
         record { keeps = keeping n k.chain h M id (party v) there t has; is_real = is_real; looked = looked },
         (λ far. was_now (name v) h looked (open_blocks n k.chain h M id (party v) there t has nothing open_link far)),
       ) in
-      let r = reads before (Null t) k.chain met same_rooms (λ q is. cc) i in
+      let r = reads before under (Null t) k.chain met same_rooms (λ q is. cc) i in
       (sees before v.free v.back (Null t), keeps, tt, r.0, stood before (Null t) r.1)
 
   -- the read of a tail's link that is no stub
   abbrev pub ReadsTail : List (Event Name E) → ℕ → ℕ → ℕ → SeatState E → Type 0
   ReadsTail before slots t found w = (found ≡ 0 → stands_at before (Null t) (v, []) w) × ((r : ℕ) → found ≡ suc r → hands_out before slots t r (v, []) w)
 
-  pub reading : (before : List (Event Name E)) (M : Meets n k.chain (reverse before ++ out_events)) (t i : ℕ) (has : tail_of v.stage ≡ Some t) (nothing : (a b : ℕ) → Owes v.stage a b → ⊥) (is_real : t ≢ 0) → HasLooked (name v) (reverse before ++ out_events)
+  pub reading : (before : List (Event Name E)) (under : Under actor (name v) before) (M : Meets n k.chain (reverse before ++ out_events)) (t i : ℕ) (has : tail_of v.stage ≡ Some t) (nothing : (a b : ℕ) → Owes v.stage a b → ⊥) (is_real : t ≢ 0) → HasLooked (name v) (reverse before ++ out_events)
       → i ≡ t + 2 → (slots : ℕ) → length s.homes ≡ slots → (x : ℕ) → get_or s.words i 0 ≡ x → Comes i (get_or s.words i 0) (ReadsTail before slots t)
-  reading before M t i has nothing is_real looked is slots deep zero e =
+  reading before under M t i has nothing is_real looked is slots deep zero e =
       let here_is : get_or s.words (2 + t) 0 ≡ get_or s.words i 0 = ap (λ q. get_or s.words q 0) (sum is) in
-      let c = nulls before M t i has nothing is_real looked (ap link_of (here_is ∙ e)) in
+      let c = nulls before under M t i has nothing is_real looked (ap link_of (here_is ∙ e)) in
       (c.0, c.1, c.2, c.3, ((λ _. c.4), λ r f. absurd (zero_suc (sym e ∙ f))))
     where
       sum : i ≡ t + 2 → 2 + t ≡ i
       sum a = omega arith
-  reading before M t i has nothing is_real looked is slots deep (suc r) e =
+  reading before under M t i has nothing is_real looked is slots deep (suc r) e =
       let here_is : get_or s.words (2 + t) 0 ≡ get_or s.words i 0 = ap (λ q. get_or s.words q 0) (sum is) in
-      let c = hands before M t r i has nothing is_real (ap link_of (here_is ∙ e)) slots deep in
+      let c = hands before under M t r i has nothing is_real (ap link_of (here_is ∙ e)) slots deep in
       (c.0, c.1, c.2, c.3, ((λ f. absurd (suc_zero (sym e ∙ f))), λ r' f. subst (λ q. hands_out before slots t q (v, []) (c.0, carried_after [] c.1)) (suc_inj (sym e ∙ f)) c.4))
     where
       sum : i ≡ t + 2 → 2 + t ≡ i

@@ -12,7 +12,7 @@ use Rattle.cordyceps_shared.proofs.Telling.{at_length, grown_then}
 use Rattle.cordyceps_queue.specs.declared.cores.stage.Stage.{Stage}
 use Rattle.cordyceps_queue.specs.declared.cores.stage.Stage.TheVariants.{Rest, Cleared, Swapped}
 use Rattle.cordyceps_shared.specs.declared.slots.Filled.{Filled}
-use Rattle.cordyceps_queue.specs.History.{Event}
+use Rattle.cordyceps_queue.specs.History.{Event, actor}
 use Rattle.cordyceps_shared.specs.Places.{ItemAt}
 use Rattle.cordyceps_queue.specs.Cores.Meets.{Owner, Spare, OwnsRooms, AtStage}
 use Rattle.cordyceps_queue.specs.Shared.Plays.{SeatState, LegalReversed, Sees}
@@ -95,7 +95,7 @@ module _ {E : Type 0} (s : TableState E) (k : RuleHolds s) (id : ℕ) (v : View 
 
     clear_kept : RuleHolds record { words = words_clear; homes = homes_clear; views = set s.views id clear_view } × Sees v [] clear_view
     clear_kept = keeps_rule s k id [] v clear_view words_clear homes_clear (update k.cell r (Some e)) (chain_after_clear m k.chain past k.meets id (party v) here idle r rs spare e) (clear_room m id (party v) r rs e)
-        at named refl clear_machine (clear_keeps m k.chain past k.meets id (party v) here idle r rs spare e)
+        at named tt refl clear_machine (clear_keeps m k.chain past k.meets id (party v) here idle r rs spare e)
         (length-set s.words (2 + r) 0) (length-set s.homes r none) clear_full
         (empties s k id r none clear_view clear_empty (λ j ne mine. ne (spare_one mine (rooms.own 0 r refl))))
         (readies s k id r (Some e) clear_view (λ q is. ap (λ z. update k.cell r (Some e) z) (sym (ap room_of is)) ∙ put_same k.cell r (Some e)) (λ j ne mine. ready_spare mine (rooms.own 0 r refl)))
@@ -141,7 +141,7 @@ module _ {E : Type 0} (s : TableState E) (k : RuleHolds s) (id : ℕ) (v : View 
 
     swap_kept : RuleHolds record { words = words_swap; homes = homes_swap; views = set s.views id swap_view } × Sees v (Event.Swap (name v) e ∷ []) swap_view
     swap_kept = keeps_rule s k id (Event.Swap (name v) e ∷ []) v swap_view words_swap homes_swap k.cell (chain_after_swap m k.chain past k.meets id (party v) here r e ready has) (swap_head m id (party v) r (Swapped r found_word))
-        at named refl swap_machine (swap_keeps m k.chain past k.meets id (party v) here r e ready has)
+        at named (refl, tt) refl swap_machine (swap_keeps m k.chain past k.meets id (party v) here r e ready has)
         (length-set s.words 0 r) (length-set s.homes r (some (Some (full_slot r e)))) swap_full
         (empties s k id r (some (Some (full_slot r e))) swap_view swap_empty (λ j ne mine. ready_spare known.1 mine))
         (readies_same s k id swap_view (λ q is. cc))
@@ -166,7 +166,7 @@ module _ {E : Type 0} (s : TableState E) (k : RuleHolds s) (id : ℕ) (v : View 
 
     link_kept : RuleHolds record { words = words_link; homes = s.homes; views = set s.views id link_view } × Sees v (Event.Link (name v) ∷ []) link_view
     link_kept = keeps_rule s k id (Event.Link (name v) ∷ []) v link_view words_link s.homes k.cell k.chain (link_next m id (party v) old r Rest)
-        at named refl link_machine (link_keeps m k.chain past k.meets id (party v) here r old waits)
+        at named (refl, tt) refl link_machine (link_keeps m k.chain past k.meets id (party v) here r old waits)
         (length-set s.words (2 + old) (suc r)) refl k.full (empties_same s k id link_view (k.empty id v at named)) (readies_same s k id link_view (λ q is. cc))
 
 module _ {E : Type 0} where
@@ -227,5 +227,5 @@ module _ {E : Type 0} where
       let second : name w ≡ name u = ap first_name b.share ∙ first in
       let swap : Sees v (Event.Swap (name u) e ∷ []) w = subst (λ (z : View E × Name). Sees z.0 (Event.Swap z.1 e ∷ []) w) (λ j. (same j, first j)) b in
       let link : Sees w (Event.Link (name u) ∷ []) x = subst (λ n. Sees w (Event.Link n ∷ []) x) second c in
-      grown_then LegalReversed u.known v.known x.known [] (Event.Swap (name u) e ∷ Event.Link (name u) ∷ []) a
-      (grown_then LegalReversed v.known w.known x.known (Event.Swap (name u) e ∷ []) (Event.Link (name u) ∷ []) swap link)
+      grown_then actor LegalReversed u.known v.known x.known [] (Event.Swap (name u) e ∷ Event.Link (name u) ∷ []) a
+      (grown_then actor LegalReversed v.known w.known x.known (Event.Swap (name u) e ∷ []) (Event.Link (name u) ∷ []) swap link)

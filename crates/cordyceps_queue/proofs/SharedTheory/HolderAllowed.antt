@@ -47,11 +47,11 @@ module _ {E : Type 0} (s : TableState E) (k : RuleHolds s) (id : ℕ) (v : View 
     takes_bare slots deep zero e =
         let x : Event Name E = Event.Busy (name v) in
         let met = subst (λ q. Meets q k.chain (x ∷ gone_by)) (sym (unmoved e)) (busy_keeps core k.chain gone_by k.meets id (party v) is_there rest e) in
-        let r = rights s k id v at named bare (x ∷ []) Rest k.chain 0 met (same_rooms s k id v at named bare) (λ q is. cc) in
+        let r = rights s k id v at named bare (x ∷ []) (refl, tt) Rest k.chain 0 met (same_rooms s k id v at named bare) (λ q is. cc) in
         (sees s k id v at named bare (x ∷ []) v.free v.back Rest, keeps, tt, r.0, λ _. ((λ _. stood s k id v at named bare (x ∷ []) Rest r.1), λ t f. absurd (zero_suc (sym e ∙ f))))
     takes_bare slots deep (suc t) e =
         let x : Event Name E = Event.Take (name v) in
-        let r = rights s k id v at named bare (x ∷ []) (Holding t) (chain_after_take core k.chain gone_by k.meets id (party v) is_there t rest e) 0
+        let r = rights s k id v at named bare (x ∷ []) (refl, tt) (Holding t) (chain_after_take core k.chain gone_by k.meets id (party v) is_there t rest e) 0
         (take_keeps core k.chain gone_by k.meets id (party v) is_there t rest e) (same_rooms s k id v at named bare) (λ q is. cc) in
         let first = free_right core.right core.party k.chain.rooms gone_by k.chain.keeper t e k.meets.right in
         let near = chain_near s k 0 t first.2 in
@@ -77,21 +77,21 @@ module _ {E : Type 0} (s : TableState E) (k : RuleHolds s) (id : ℕ) (v : View 
     gives_bare : (n' : ℕ) → n' ≡ t + 1 → Comes s k id v at named bare 1 n' (λ _. stands_at (Event.Free (name v) ∷ []) Rest (v, []))
     gives_bare n' is =
         let x : Event Name E = Event.Free (name v) in
-        let r = rights s k id v at named bare (x ∷ []) Rest (chain_after_give core k.chain gone_by k.meets id (party v) is_there t holding) (suc t)
+        let r = rights s k id v at named bare (x ∷ []) (refl, tt) Rest (chain_after_give core k.chain gone_by k.meets id (party v) is_there t holding) (suc t)
         (give_keeps core k.chain gone_by k.meets id (party v) is_there t holding) (same_rooms s k id v at named bare) (λ q is. cc) in
         let same : suc t ≡ n' = omega arith in
         let w = sees s k id v at named bare (x ∷ []) v.free v.back Rest in
         (w, keeps, tt, subst (λ q. RuleHolds record { words = set s.words 1 q; homes = s.homes; views = set s.views id w }) same r.0, stood s k id v at named bare (x ∷ []) Rest r.1)
 
     looks_bare : t ≢ 0 → (i : ℕ) → i ≡ t + 2 → (slots : ℕ) → length s.homes ≡ slots → Comes s k id v at named bare i (get_or s.words i 0) (ReadsTail s k id v at named bare (Event.Look (name v) ∷ []) slots t)
-    looks_bare is_real i is slots deep = reading s k id v at named bare (Event.Look (name v) ∷ []) looked_on t i has nothing is_real (inl refl) is slots deep (get_or s.words i 0) refl
+    looks_bare is_real i is slots deep = reading s k id v at named bare (Event.Look (name v) ∷ []) (refl, tt) looked_on t i has nothing is_real (inl refl) is slots deep (get_or s.words i 0) refl
 
   module _ (t : ℕ) (behind : v.stage ≡ Second t) where
     knows_tail : Real k.chain.keeper k.chain.rooms gone_by id (name v) t
     knows_tail = subst (AtStage core.head core.next core.cell k.chain.owner k.chain.keeper k.chain.rooms gone_by id (name v)) behind (k.meets.fits id (party v) is_there)
 
     reads_bare : (i : ℕ) → i ≡ t + 2 → (slots : ℕ) → length s.homes ≡ slots → Comes s k id v at named bare i (get_or s.words i 0) (ReadsTail s k id v at named bare [] slots t)
-    reads_bare i is slots deep = reading s k id v at named bare [] k.meets t i (ap tail_of behind) (λ a b o. subst (λ l. Owes l a b) behind o) knows_tail.is_real knows_tail.looked is slots deep (get_or s.words i 0) refl
+    reads_bare i is slots deep = reading s k id v at named bare [] tt k.meets t i (ap tail_of behind) (λ a b o. subst (λ l. Owes l a b) behind o) knows_tail.is_real knows_tail.looked is slots deep (get_or s.words i 0) refl
 
 -- the tail of two stages that are one
 same_tail : {p : Stage} {t u : ℕ} → p ≡ Holding t → p ≡ Holding u → t ≡ u

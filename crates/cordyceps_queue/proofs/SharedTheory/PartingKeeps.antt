@@ -19,7 +19,7 @@ use Rattle.cordyceps_shared.proofs.Renaming.{relabel, events_relabel}
 use Rattle.cordyceps_shared.proofs.Standing as seats
 use Rattle.cordyceps_shared.proofs.Telling.{at_length, owned_same, fits_forgot}
 use Rattle.cordyceps_queue.specs.declared.cores.stage.Stage.TheVariants.{Rest, Cleared}
-use Rattle.cordyceps_queue.specs.History.{Event}
+use Rattle.cordyceps_queue.specs.History.{Event, actor}
 use Rattle.cordyceps_shared.specs.Places.{ItemAt}
 use Rattle.cordyceps_queue.specs.Cores.Meets.{Owner, Shared, Spare, Unmade, OwnsRooms, AtStage, Meets}
 use Rattle.cordyceps_queue.specs.Shared.Parting.{view_keeping, view_giving, view_absorbing, view_absorbed, view_without_told, learned}
@@ -30,7 +30,7 @@ use Rattle.cordyceps_queue.specs.Shared.Rule.{TableState, History, link_of, part
 use Rattle.cordyceps_queue.specs.Shared.View.{View, knows, name, newcomer, down_from}
 use Rattle.cordyceps_queue.specs.Cores.Abstract.{AbstractParty}
 use Rattle.cordyceps_queue.proofs.CoreTheory.Basics.{some_inj}
-use Rattle.cordyceps_queue.proofs.SharedTheory.SeatNames.{party_was, name_known, names_differ, few_rooms, whole_still}
+use Rattle.cordyceps_queue.proofs.SharedTheory.SeatNames.{party_was, name_known, names_differ, few_rooms, rest_linked, rest_unheld}
 use Rattle.cordyceps_queue.proofs.CoreTheory.SplitParties.{deal, deal_else, deal_here, deal_fixed, deal_others, deal_kept, deal_given, deal_both, Regroups, regroups_keep}
 use Rattle.cordyceps_queue.proofs.SharedTheory.WordsAsMachine.{core, party_at, rooms_of, parties_put}
 use Rattle.cordyceps_queue.proofs.SharedTheory.ReturnKeeps.{put_again}
@@ -60,7 +60,7 @@ module _ (E : Type 0) where
   pub opens : (rooms : ℕ) (words : List ℕ) → length words ≡ rooms + 3 → get_or words 0 0 ≡ 0 → get_or words 1 0 ≡ 1 → get_or words 2 0 ≡ 0 → RuleHolds {E = E} (opening words (replicate (rooms + 1) None) (newcomer rooms))
   opens rooms words wide head right link =
       let first : View E = newcomer rooms in
-      let known = seats.opens knows first refl in
+      let known = seats.opens actor knows first refl in
       let homes : Homes E = map some (replicate (rooms + 1) None) in
       let deep : length homes ≡ rooms + 1 = length-map (replicate (rooms + 1) None) some ∙ length-replicate (rooms + 1) None in
       let owner : ℕ → Owner = deal 0 (down_from rooms) only_stub in record {
@@ -197,7 +197,7 @@ module _ {E : Type 0} (s : TableState E) (k : RuleHolds s) (id n : ℕ) (v : Vie
         (λ _ is. absurd (cc))
         (λ i z ne there some_name. k.ready i z r there some_name)
         j u;
-    fits = fits_cut knows s.views k.history id v left_view right at refl refl k.owned k.fits;
+    fits = fits_cut actor knows s.views k.history id v left_view right at refl refl k.owned k.fits;
     owned = cut_owned;
   }
 
@@ -307,7 +307,7 @@ module _ {E : Type 0} (s : TableState E) (k : RuleHolds s) (id other : ℕ) (v w
         (λ _ is. absurd (cc))
         (λ i z ne no_other e some_name. k.ready i z r e some_name)
         j u;
-    fits = fits_join knows s.views k.history id other v w (view_absorbing v w) view_absorbed at apart there refl refl k.fits;
+    fits = fits_join actor knows s.views k.history id other v w (view_absorbing v w) view_absorbed at apart there refl refl k.fits;
     owned = joint_owned;
   }
 
@@ -331,7 +331,7 @@ module _ {E : Type 0} (s : TableState E) (k : RuleHolds s) (id : ℕ) (v : View 
     full = k.full;
     empty = one_set (λ _ u. u.known.share ≢ [] → EmptyAtHome s.homes u.free) s.views id (view_without_told v) (λ _. k.empty id v at named) (λ j u _ e some_name. k.empty j u e some_name);
     ready = λ j u r. one_set (λ _ z. z.known.share ≢ [] → z.stage ≡ Cleared r → k.cell r ≡ z.item) s.views id (view_without_told v) (λ _ is. k.ready id v r at named is) (λ i z _ e some_name is. k.ready i z r e some_name is) j u;
-    fits = fits_forgot knows s.views k.history id v (view_without_told v) at refl refl k.fits;
+    fits = fits_forgot actor knows s.views k.history id v (view_without_told v) at refl refl refl k.fits;
     owned = owned_same knows s.views k.history id v (view_without_told v) at refl k.owned;
   }
     where
@@ -361,8 +361,9 @@ module _ {E : Type 0} where
         (
           refl,
           refl,
-          seats.is_known knows (λ z. LegalReversed z) legal_front s.views k.history id u k.owned k.fits at k.meets.legal,
+          seats.is_known actor knows (λ z. LegalReversed z) legal_front s.views k.history id u k.owned k.fits at k.meets.legal,
           omega arith,
-          λ all. whole_still s k id u at all (ap (λ (z : View E). z.stage) is),
+          rest_linked s k id u at some_name (ap (λ (z : View E). z.stage) is),
+          rest_unheld s k id u at some_name (ap (λ (z : View E). z.stage) is),
         ),
       )

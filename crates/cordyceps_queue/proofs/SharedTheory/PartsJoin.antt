@@ -11,7 +11,7 @@ use Rattle.cordyceps_shared.specs.declared.slots.Filled.{Filled}
 use Rattle.cordyceps_queue.specs.declared.shared.table.Tried.{Tried}
 use Rattle.cordyceps_queue.specs.declared.shared.table.Tried.TheVariants.{Out, Empty, Inconsistent}
 use Rattle.cordyceps_queue.specs.Shared.Parts.{AsksRight, Tries, Dequeued}
-use Rattle.cordyceps_queue.specs.History.{Event}
+use Rattle.cordyceps_queue.specs.History.{Event, actor}
 use Rattle.cordyceps_shared.specs.Places.{ItemAt}
 use Rattle.cordyceps_shared.specs.Slots.{TableStep, full_slot, Hand}
 use Rattle.cordyceps_queue.specs.Shared.Plays.{SeatState, LegalReversed, Near, carry, stands_at, hands_out, HandsOneOut, IsResting, IsHolding, IsAtStage, Blocked, took}
@@ -47,7 +47,7 @@ module _ {E : Type 0} where
 
   -- one step after another, where no slot is in hand between them
   pub stands_then : (es fs : List (Event Name E)) (p q : Stage) (m k l : SeatState E) → stands_at es p m k → stands_at fs q k l → stands_at (es ++ fs) q m l
-  stands_then es fs p q m k l a b = (b.0, b.1, b.2 ∙ (ap (λ xs. xs ++ k.0.free) a.1 ∙ a.2), b.3, grown_then LegalReversed m.0.known k.0.known l.0.known es fs a.4 b.4)
+  stands_then es fs p q m k l a b = (b.0, b.1, b.2 ∙ (ap (λ xs. xs ++ k.0.free) a.1 ∙ a.2), b.3, grown_then actor LegalReversed m.0.known k.0.known l.0.known es fs a.4 b.4)
 
   -- what the next step asks
   pub record Free (slots : ℕ) (k : SeatState E) : Type 0 where
@@ -71,9 +71,9 @@ module _ {E : Type 0} where
   pub tries_then : (slots : ℕ) (es fs : List (Event Name E)) (p : Stage) (m k l : SeatState E) (t : ℕ) (r : Tried E) → stands_at es p m k → Tries fs slots k l t r → Tries (es ++ fs) slots m l t r
   tries_then slots es fs p m k l t (Out e) a T =
       let h = T in
-      let rename = subst (λ n. Grown LegalReversed k.0.known (fs ++ Event.Out n e.item ∷ []) l.0.known) (ap first_name a.4.share) h.3 in
+      let rename = subst (λ n. Grown actor LegalReversed k.0.known (fs ++ Event.Out n e.item ∷ []) l.0.known) (ap first_name a.4.share) h.3 in
       let out : List (Event Name E) = Event.Out (name m.0) e.item ∷ [] in
-      (h.0, h.1, h.2 ∙ (ap (λ xs. xs ++ k.0.free) a.1 ∙ a.2), subst (λ xs. Grown LegalReversed m.0.known xs l.0.known) (sym (append_assoc es fs out)) (grown_then LegalReversed m.0.known k.0.known l.0.known es (fs ++ out) a.4 rename), h.4)
+      (h.0, h.1, h.2 ∙ (ap (λ xs. xs ++ k.0.free) a.1 ∙ a.2), subst (λ xs. Grown actor LegalReversed m.0.known xs l.0.known) (sym (append_assoc es fs out)) (grown_then actor LegalReversed m.0.known k.0.known l.0.known es (fs ++ out) a.4 rename), h.4)
   tries_then slots es fs p m k l t Empty a T =
       let end : Name → List (Event Name E) = λ n. Event.Empty n ∷ [] in
       (T.0, subst (λ xs. stands_at xs (Holding t) m l) (sym (append_assoc es fs (end (name k.0))) ∙ ap (λ n. (es ++ fs) ++ end n) (ap first_name a.4.share)) (stands_then es (fs ++ end (name k.0)) p (Holding t) m k l a T.1))
@@ -95,7 +95,7 @@ module _ {E : Type 0} where
         (ap (λ (v : View E). v.stage) view ∙ h.1, hand, (λ x. named (sym h.7.share ∙ (sym (ap (λ (v : View E). v.known.share) view) ∙ x))), near_cons slots t (o.0.back ++ o.0.free) (m.0.back ++ m.0.free) h.5 near (λ j. backs j ++ frees j), h.6),
         backs,
         frees,
-        subst (λ (z : View E × E). Grown LegalReversed m.0.known (fs ++ Event.Out (name m.0) z.1 ∷ []) z.0.known) (λ j. (sym view j, same j)) h.7,
+        subst (λ (z : View E × E). Grown actor LegalReversed m.0.known (fs ++ Event.Out (name m.0) z.1 ∷ []) z.0.known) (λ j. (sym view j, same j)) h.7,
         subst (λ (z : View E). length z.free ≤ slots) (sym view) h.8,
       )
 
@@ -110,33 +110,33 @@ module _ {E : Type 0} where
       let h = T in
       let first : name k.0 ≡ name m.0 = ap first_name a.4.share in
       let second : name l.0 ≡ name m.0 = ap first_name h.3.share ∙ first in
-      let x = subst (λ n. Grown LegalReversed k.0.known (Event.Look n ∷ Event.Out n e.item ∷ []) l.0.known) first h.3 in
-      let y = subst (λ n. Grown LegalReversed l.0.known (Event.Free n ∷ []) o.0.known) second b.4 in
+      let x = subst (λ n. Grown actor LegalReversed k.0.known (Event.Look n ∷ Event.Out n e.item ∷ []) l.0.known) first h.3 in
+      let y = subst (λ n. Grown actor LegalReversed l.0.known (Event.Free n ∷ []) o.0.known) second b.4 in
       let n = name m.0 in
       let same = ap (λ z. z ++ k.0.free) a.1 ∙ (a.2 ∙ ap (λ z. z ++ m.0.free) q.1) in (
         b.2 ∙ ((λ j. h.1 j ++ h.2 j) ∙ ap (λ z. e.ticket ∷ z) same),
-        grown_then LegalReversed m.0.known k.0.known o.0.known (Event.Take n ∷ []) (Event.Look n ∷ Event.Out n e.item ∷ Event.Free n ∷ []) a.4 (grown_then LegalReversed k.0.known l.0.known o.0.known (Event.Look n ∷ Event.Out n e.item ∷ []) (Event.Free n ∷ []) x y),
+        grown_then actor LegalReversed m.0.known k.0.known o.0.known (Event.Take n ∷ []) (Event.Look n ∷ Event.Out n e.item ∷ Event.Free n ∷ []) a.4 (grown_then actor LegalReversed k.0.known l.0.known o.0.known (Event.Look n ∷ Event.Out n e.item ∷ []) (Event.Free n ∷ []) x y),
         subst (λ (xs : List ℕ). length xs ≤ slots) (h.2 ∙ same) h.4,
       )
   whole_try slots u t m k l o Empty q a T b =
       let h = T.1 in
       let first : name k.0 ≡ name m.0 = ap first_name a.4.share in
       let second : name l.0 ≡ name m.0 = ap first_name h.4.share ∙ first in
-      let x = subst (λ n. Grown LegalReversed k.0.known (Event.Look n ∷ Event.Empty n ∷ []) l.0.known) first h.4 in
-      let y = subst (λ n. Grown LegalReversed l.0.known (Event.Free n ∷ []) o.0.known) second b.4 in
+      let x = subst (λ n. Grown actor LegalReversed k.0.known (Event.Look n ∷ Event.Empty n ∷ []) l.0.known) first h.4 in
+      let y = subst (λ n. Grown actor LegalReversed l.0.known (Event.Free n ∷ []) o.0.known) second b.4 in
       let n = name m.0 in (
         b.2 ∙ ((λ j. h.1 j ++ h.2 j) ∙ (ap (λ z. z ++ k.0.free) a.1 ∙ (a.2 ∙ ap (λ z. z ++ m.0.free) q.1))),
-        grown_then LegalReversed m.0.known k.0.known o.0.known (Event.Take n ∷ []) (Event.Look n ∷ Event.Empty n ∷ Event.Free n ∷ []) a.4 (grown_then LegalReversed k.0.known l.0.known o.0.known (Event.Look n ∷ Event.Empty n ∷ []) (Event.Free n ∷ []) x y),
+        grown_then actor LegalReversed m.0.known k.0.known o.0.known (Event.Take n ∷ []) (Event.Look n ∷ Event.Empty n ∷ Event.Free n ∷ []) a.4 (grown_then actor LegalReversed k.0.known l.0.known o.0.known (Event.Look n ∷ Event.Empty n ∷ []) (Event.Free n ∷ []) x y),
       )
   whole_try slots u t m k l o Inconsistent q a T b =
       let h = T.1 in
       let first : name k.0 ≡ name m.0 = ap first_name a.4.share in
       let second : name l.0 ≡ name m.0 = ap first_name h.4.share ∙ first in
-      let x = subst (λ n. Grown LegalReversed k.0.known (Event.Look n ∷ []) l.0.known) first h.4 in
-      let y = subst (λ n. Grown LegalReversed l.0.known (Event.Free n ∷ []) o.0.known) second b.4 in
+      let x = subst (λ n. Grown actor LegalReversed k.0.known (Event.Look n ∷ []) l.0.known) first h.4 in
+      let y = subst (λ n. Grown actor LegalReversed l.0.known (Event.Free n ∷ []) o.0.known) second b.4 in
       let n = name m.0 in (
         b.2 ∙ ((λ j. h.1 j ++ h.2 j) ∙ (ap (λ z. z ++ k.0.free) a.1 ∙ (a.2 ∙ ap (λ z. z ++ m.0.free) q.1))),
-        (l.0, grown_then LegalReversed m.0.known k.0.known l.0.known (Event.Take n ∷ []) (Event.Look n ∷ []) a.4 x, T.2, y),
+        (l.0, grown_then actor LegalReversed m.0.known k.0.known l.0.known (Event.Take n ∷ []) (Event.Look n ∷ []) a.4 x, T.2, y),
       )
 
   -- ---- the element is taken out of the slot in hand

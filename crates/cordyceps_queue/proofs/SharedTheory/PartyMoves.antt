@@ -8,7 +8,7 @@ use Rattle.cordyceps_shared.specs.Standings.{name_of}
 use Rattle.cordyceps_shared.proofs.Moving.{moves_none, moves_then, moves_by}
 use Rattle.cordyceps_queue.specs.declared.cores.steps.TryDequeueError.{TryDequeueError}
 use Rattle.cordyceps_queue.specs.declared.cores.steps.TryDequeueError.TheVariants as error
-use Rattle.cordyceps_queue.specs.History.{Event, Swap, Link, Take, Busy, Look, Out, Empty, Free, came, went, held, IsLegal}
+use Rattle.cordyceps_queue.specs.History.{Event, Swap, Link, Take, Busy, Look, Out, Empty, Free, came, went, held, IsLegal, actor}
 use Rattle.cordyceps_queue.specs.Shared.Batches.{outs, StopsAt, TakesLinked}
 use Rattle.cordyceps_queue.specs.Shared.Calls.{PartyOf, Legal, Adds, Enqueues, Dequeues, Consumes, TakesRight, FindsBusy, GivesRight, Retries, AtLast, MissesDequeue, try_result}
 use Rattle.cordyceps_queue.specs.Shared.Moves.{put_by, got_by, Moves, given}
@@ -55,7 +55,7 @@ module _ {P E A : Type 0} (f : E → A) where
 module _ {E A : Type 0} (f : E → A) where
   moved : (u w : PartyOf E) (es : List (Event Name E)) → Adds u es w → w.rooms + length (flat_map (put_by f) es) ≡ u.rooms + length (flat_map (got_by f) es)
       → Moves f (flat_map (put_by f) es) (flat_map (got_by f) es) u w
-  moved u w es a rooms = moves_by (put_by f) (got_by f) (λ h. Legal h) u w es a rooms
+  moved u w es a rooms = moves_by (put_by f) (got_by f) (λ h. Legal h) actor u w es a rooms
 
   -- ---- one call
   pub moves_enqueue : (e : E) (u w : PartyOf E) → Enqueues e u w → Moves f (f e ∷ []) [] u w

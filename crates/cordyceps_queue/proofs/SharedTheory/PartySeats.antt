@@ -1,19 +1,21 @@
 -- What a party of a shared queue is when it is new, split off, or has taken another in.
-use Rattle.std.proofs.Common.{◌≡◌, ℕ, zero, suc, ◌+◌, List, [], ◌∷◌, ◌++◌, length, take, drop, refl, sym, ap, ◌∙◌, subst, arith, length-append, inl, inr}
+use Rattle.std.proofs.Common.{◌≡◌, ◌≢◌, Some, ℕ, zero, suc, ◌+◌, List, [], ◌∷◌, ◌++◌, length, take, drop, refl, sym, ap, ◌∙◌, subst, arith, length-append, inl, inr}
 use Rattle.atomic_table.specs.Seated.{TableId}
 use Rattle.cordyceps_shared.specs.Counts.{below}
 use Rattle.cordyceps_shared.specs.Histories.{plain}
 use Rattle.cordyceps_shared.specs.Knowing.{IsKnown}
-use Rattle.cordyceps_shared.specs.Shares.{whole}
 use Rattle.cordyceps_shared.specs.Standings.{new_party, Absorbs}
 use Rattle.cordyceps_shared.proofs.Adding.{keeps_not_whole, not_whole, plain_unmarked, merged_front}
 use Rattle.cordyceps_shared.proofs.Naming.{joined_some, joined_apart, keeps_some, gives_some}
+use Rattle.cordyceps_shared.proofs.Ordering.{whole_share, keeps_share, gives_share, joined_share}
+use Rattle.cordyceps_shared.proofs.Tracing.{of_kept, of_given}
 use Rattle.cordyceps_queue.specs.Shared.Parts.{standing, IsSeated}
-use Rattle.cordyceps_queue.specs.Shared.Parting.{IsStill, view_keeping, view_giving, view_absorbing, view_without_told}
+use Rattle.cordyceps_queue.specs.Shared.Parting.{view_keeping, view_giving, view_absorbing, view_without_told}
 use Rattle.cordyceps_queue.specs.Shared.Plays.{SeatState, Near, IsResting}
 use Rattle.cordyceps_queue.specs.Shared.Plays as seen
 use Rattle.cordyceps_queue.specs.Shared.Rule.{IsTable}
-use Rattle.cordyceps_queue.specs.Shared.Calls.{same_name, Legal}
+use Rattle.cordyceps_queue.specs.Shared.Calls.{same_name, Legal, NonePending, NoneHolds}
+use Rattle.cordyceps_queue.specs.History.{holder, IsPending}
 use Rattle.cordyceps_queue.specs.Shared.View.{View, newcomer, down_from}
 use Rattle.cordyceps_queue.proofs.Legality.{told_legal}
 use Rattle.cordyceps_shared.proofs.Places.{at_take, at_drop, at_either}
@@ -50,7 +52,9 @@ module _ {E : Type 0} where
     free = sym have;
     legal = told_legal same_name [] tt;
     alone = λ _. tt;
-    still = λ _. (refl, λ q. tt);
+    share = whole_share;
+    linked = λ q of p. cc;
+    unheld = λ q of e. cc;
   }
 
   pub new_standing : (z table : TableId) (rooms : ℕ) (m : SeatState E) → z ≡ table → m ≡ (newcomer rooms, []) → standing z m.0 ≡ new_party table rooms
@@ -64,7 +68,9 @@ module _ {E : Type 0} where
     free = ap (drop n) s.free ∙ sym have;
     legal = s.legal;
     alone = λ e. absurd (keeps_not_whole m.0.known.share e);
-    still = λ e. absurd (keeps_not_whole m.0.known.share e);
+    share = keeps_share m.0.known.share s.share;
+    linked = λ q of. s.linked q (of_kept m.0.known.share q of);
+    unheld = λ q of. s.unheld q (of_kept m.0.known.share q of);
   }
 
   pub given_seated : (z z' : TableId) (n : ℕ) (m k : SeatState E) (tickets some_of : List ℕ) → IsSeated z m tickets → z' ≡ z → k ≡ (view_giving n m.0, []) → some_of ≡ take n tickets → IsSeated z' k some_of
@@ -74,19 +80,23 @@ module _ {E : Type 0} where
     free = ap (take n) s.free ∙ sym have;
     legal = subst (λ h. Legal h) (sym (plain_unmarked m.0.known.seen)) s.legal;
     alone = λ e. absurd (not_whole m.0.known.share e);
-    still = λ e. absurd (not_whole m.0.known.share e);
+    share = gives_share m.0.known.share s.share;
+    linked = λ q of. subst (λ h. IsPending same_name q h → ⊥) (sym (plain_unmarked m.0.known.seen)) (s.linked q (of_given m.0.known.share q of));
+    unheld = λ q of. subst (λ h. holder h ≢ Some q) (sym (plain_unmarked m.0.known.seen)) (s.unheld q (of_given m.0.known.share q of));
   }
 
   -- ---- a party that took another in
   pub absorbed_seated : (z y z' : TableId) (m o k : SeatState E) (mine theirs all : List ℕ) → IsSeated z m mine → IsSeated y o theirs → y ≡ z → z' ≡ z → k ≡ (view_without_told (view_absorbing m.0 o.0), [])
-      → IsKnown (λ h. seen.LegalReversed h) (view_absorbing m.0 o.0).known → ((view_absorbing m.0 o.0).known.share ≡ whole → IsStill (plain (view_absorbing m.0 o.0).known.seen)) → all ≡ mine ++ theirs → IsSeated z' k all
-  absorbed_seated z y z' m o k mine theirs all s other same at is known still have = subst (λ (q : TableId × SeatState E). IsSeated q.0 q.1 all) (λ i. (sym at i, sym is i)) record {
+      → IsKnown (λ h. seen.LegalReversed h) (view_absorbing m.0 o.0).known → NonePending (view_absorbing m.0 o.0).known.share (plain (view_absorbing m.0 o.0).known.seen) → NoneHolds (view_absorbing m.0 o.0).known.share (plain (view_absorbing m.0 o.0).known.seen) → all ≡ mine ++ theirs → IsSeated z' k all
+  absorbed_seated z y z' m o k mine theirs all s other same at is known linked unheld have = subst (λ (q : TableId × SeatState E). IsSeated q.0 q.1 all) (λ i. (sym at i, sym is i)) record {
     table = s.table;
     rests = (refl, refl, refl, joined_some m.0.known.share o.0.known.share s.rests.3, both_near z.slots m.0.free o.0.free s.rests.4 (subst (λ (q : TableId). Near q.slots o.0.free) same other.rests.4));
     free = (λ i. s.free i ++ other.free i) ∙ sym have;
     legal = told_legal same_name (plain (view_absorbing m.0 o.0).known.seen) known.legal;
     alone = known.alone;
-    still = still;
+    share = joined_share m.0.known.share o.0.known.share (joined_apart known.long m.0.known.share o.0.known.share known.once) s.share other.share;
+    linked = linked;
+    unheld = unheld;
   }
 
   pub absorbs : (z y z' : TableId) (m o k : SeatState E) → m.0.back ≡ [] → o.0.back ≡ [] → z' ≡ z → k ≡ (view_without_told (view_absorbing m.0 o.0), []) → IsKnown (λ h. seen.LegalReversed h) (view_absorbing m.0 o.0).known → Absorbs (λ h. Legal h) (standing z m.0) (standing y o.0) (standing z' k.0)

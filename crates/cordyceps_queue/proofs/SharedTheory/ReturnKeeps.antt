@@ -12,6 +12,7 @@ use Rattle.cordyceps_shared.proofs.Changing.{one_set}
 use Rattle.cordyceps_shared.proofs.Telling.{at_length, owned_same, fits_same}
 use Rattle.cordyceps_shared.specs.declared.slots.Filled.{Filled}
 use Rattle.cordyceps_shared.specs.Places.{ItemAt}
+use Rattle.cordyceps_queue.specs.History.{actor}
 use Rattle.cordyceps_queue.specs.declared.cores.stage.Stage.TheVariants.{Cleared}
 use Rattle.cordyceps_queue.specs.Cores.Meets.{Spare, Meets}
 use Rattle.cordyceps_queue.specs.Shared.Plays.{SeatState, Near, carry}
@@ -114,7 +115,7 @@ module _ {E : Type 0} where
             (λ _. given_all v.back v.free s.homes near (k.empty id v at named))
             (λ j u _ e some_name i x ix. given_still v.back s.homes x (k.empty j u e some_name i x ix));
         ready = λ j u r. one_set (λ _ z. z.known.share ≢ [] → z.stage ≡ Cleared r → k.cell r ≡ z.item) s.views id w (λ _ is. k.ready id v r at named is) (λ i z _ e some_name is. k.ready i z r e some_name is) j u;
-        fits = fits_same knows s.views k.history id v w at refl refl refl k.fits;
+        fits = fits_same actor knows s.views k.history id v w at refl refl refl refl k.fits;
         owned = owned_same knows s.views k.history id v w at refl k.owned;
       }
     where

@@ -1,47 +1,33 @@
 -- A party that takes the right to dequeue, tries while it has it, and gives it back.
-use Rattle.std.proofs.Common.{◌≡◌, ℕ, suc, List, [], ◌∷◌, ◌++◌, ◌+◌, reverse, length, None, refl, sym, ap, ◌∙◌, subst}
+use Rattle.std.proofs.Common.{◌≡◌, ℕ, suc, List, [], ◌∷◌, ◌++◌, ◌+◌, length, refl, sym, ap, ◌∙◌, subst}
 use Rattle.std.specs.Prelude.{Ok, Err}
-use Rattle.std.proofs.lemmas.List.{reverse-append, append-nil}
+use Rattle.std.proofs.lemmas.List.{append-nil}
 use Rattle.atomic_table.specs.Seated.{TableId}
 use Rattle.cordyceps_shared.specs.Histories.{plain, AllOwn}
-use Rattle.cordyceps_shared.specs.Shares.{Name, whole, first_name}
-use Rattle.cordyceps_shared.proofs.Adding.{whole_adds, plain_own}
+use Rattle.cordyceps_shared.specs.Shares.{Name, whole, first_name, IsOf, IsShare}
+use Rattle.cordyceps_shared.proofs.Adding.{plain_own}
+use Rattle.cordyceps_shared.proofs.Tracing.{of_whole}
 use Rattle.cordyceps_queue.specs.declared.cores.stage.Stage.TheVariants.{Rest}
 use Rattle.cordyceps_shared.specs.declared.slots.Filled.{Filled}
 use Rattle.cordyceps_queue.specs.declared.shared.table.Tried.TheVariants as tried
 use Rattle.cordyceps_queue.specs.declared.cores.steps.TryDequeueError.TheVariants as error
 use Rattle.cordyceps_queue.specs.Shared.Parts.{standing, IsSeated, IsConsuming, AsksRight, Tries}
 use Rattle.cordyceps_queue.specs.History.{Event, Take, Busy, Look, Out, Empty, Free}
-use Rattle.cordyceps_queue.specs.Past as past
-use Rattle.cordyceps_queue.specs.Past.{IsSettled}
 use Rattle.cordyceps_queue.specs.Shared.Plays.{SeatState, Sees, IsResting, IsHolding, stands_at}
 use Rattle.cordyceps_queue.specs.Shared.Rule.{IsTable}
-use Rattle.cordyceps_queue.specs.Shared.Calls.{same_name, Legal, BlockedAfter, TakesRight, FindsBusy, GivesRight, Consumes}
+use Rattle.cordyceps_queue.specs.Shared.Calls.{same_name, BlockedAfter, TakesRight, FindsBusy, GivesRight, Consumes}
 use Rattle.cordyceps_queue.specs.Shared.View.{View, name}
-use Rattle.cordyceps_queue.proofs.BothWays.{legal_both_ways}
-use Rattle.cordyceps_queue.proofs.HistoryEnds.{links_by-append, swaps_by-append, links_by-reverse, swaps_by-reverse}
-use Rattle.cordyceps_queue.proofs.Legality.{told_legal, counts}
-use Rattle.cordyceps_queue.proofs.SharedTheory.CallsHold.{front_own, adds, busy_settles, seated_after, whole_right, AllLinked, even_open}
+use Rattle.cordyceps_queue.proofs.HistoryEnds.{links_by-append, swaps_by-append}
+use Rattle.cordyceps_queue.proofs.Legality.{told_legal}
+use Rattle.cordyceps_queue.proofs.SharedTheory.CallsHold.{front_own, adds, seated_after, whole_right, AllLinked, even_open}
+use Rattle.cordyceps_queue.proofs.SharedTheory.OwnNames.{Neutral, even_links, linked_after, held_taken, held_after, unheld_given}
 use Rattle.cordyceps_queue.proofs.SharedTheory.BlockedLook.{looked_blocked}
 
 module _ {E : Type 0} where
-  -- nobody is pending
-  abbrev NobodyIsPending : List (Event Name E) → Type 0
-  NobodyIsPending h = (q : Name) → IsSettled q h
-
-  -- events after which nobody is pending, if nobody was before
-  abbrev Keeps : List (Event Name E) → Type 0
-  Keeps es = (h : List (Event Name E)) → NobodyIsPending h → NobodyIsPending (reverse es ++ h)
-
-  settled_more : (z : TableId) (v w : View E) (es : List (Event Name E)) → Sees v es w → (v.known.share ≡ whole → NobodyIsPending (reverse (plain v.known.seen))) → Keeps es → w.known.share ≡ whole → NobodyIsPending (reverse (plain w.known.seen))
-  settled_more z v w es g settled keeps is =
-      let all = whole_adds (λ h. Legal h) (standing z v) (standing z w) es (sym g.share ∙ is) (adds z z v w es g refl) in
-      subst NobodyIsPending (sym (ap reverse all ∙ reverse-append (plain v.known.seen) es)) (keeps (reverse (plain v.known.seen)) (settled (sym g.share ∙ is)))
-
   -- ---- the right is taken
   pub busy_seated : (z z' t : TableId) (m k : SeatState E) (tickets : List ℕ) → IsSeated z m tickets → z' ≡ z → z ≡ t → AsksRight t.slots 0 m k → IsSeated z' k tickets
   busy_seated z z' t m k tickets s at there a =
-      seated_after z z' t m k tickets tickets (Busy (name m.0) ∷ []) s at there a.0 (a.1.2 ∙ (ap (λ l. l ++ m.0.free) s.rests.1 ∙ s.free)) a.1.4 (busy_settles (name m.0))
+      seated_after z z' t m k tickets tickets (Busy (name m.0) ∷ []) s at there a.0 (a.1.2 ∙ (ap (λ l. l ++ m.0.free) s.rests.1 ∙ s.free)) a.1.4 (λ q. (refl, refl))
 
   pub finds_busy : (z z' : TableId) (slots : ℕ) (m k : SeatState E) → z' ≡ z → AsksRight slots 0 m k → FindsBusy (standing z m.0) (standing z' k.0)
   finds_busy z z' slots m k at a = (adds z z' m.0 k.0 (Busy (name m.0) ∷ []) a.1.4 at, ap length (λ i. a.1.1 i ++ a.1.2 i))
@@ -57,7 +43,9 @@ module _ {E : Type 0} where
         rooms = (λ i. a.1.1 i ++ a.1.2 i) ∙ (ap (λ l. l ++ m.0.free) s.rests.1 ∙ s.free);
         legal = told_legal same_name (plain k.0.known.seen) a.1.4.legal;
         alone = a.1.4.alone;
-        settled = settled_more z m.0 k.0 (Take n ∷ []) a.1.4 (λ is. (s.still is).1) (λ h x. x);
+        share = subst (λ z. IsShare z) (sym a.1.4.share) s.share;
+        linked = linked_after m.0 k.0 (Take n ∷ []) a.1.4 s.legal s.linked (λ q. refl);
+        held = held_taken m.0 k.0 a.1.4 s.legal s.unheld s.rests.3;
       }
 
   pub takes_right : (z z' : TableId) (slots tail : ℕ) (m k : SeatState E) → z' ≡ z → AsksRight slots (suc tail) m k → TakesRight (standing z m.0) (standing z' k.0)
@@ -71,42 +59,40 @@ module _ {E : Type 0} where
     free = a.2 ∙ c.rooms;
     legal = told_legal same_name (plain k.0.known.seen) a.4.legal;
     alone = a.4.alone;
-    still = λ is.
-        let n = name m.0 in
-        let all = whole_adds (λ h. Legal h) (standing z m.0) (standing z k.0) (Free n ∷ []) (sym a.4.share ∙ is) (adds z z m.0 k.0 (Free n ∷ []) a.4 refl) in
-        (unheld n (plain m.0.known.seen) (plain k.0.known.seen) all, settled_more z m.0 k.0 (Free n ∷ []) a.4 c.settled (λ h x. x) is);
+    share = subst (λ z. IsShare z) (sym a.4.share) c.share;
+    linked = linked_after m.0 k.0 (Free (name m.0) ∷ []) a.4 c.legal c.linked (λ q. refl);
+    unheld = unheld_given m.0 k.0 a.4 c.legal c.held;
   }
-    where
-      unheld : (n : Name) (h g : List (Event Name E)) → g ≡ h ++ Free n ∷ [] → past.holder (reverse g) ≡ None
-      unheld n h g e = ap (λ x. past.holder x) (ap reverse e ∙ reverse-append h (Free n ∷ []))
 
   pub gives_right : (z z' : TableId) (m k : SeatState E) → z' ≡ z → stands_at (Free (name m.0) ∷ []) Rest m k → GivesRight (standing z m.0) (standing z' k.0)
   gives_right z z' m k at a = (adds z z' m.0 k.0 (Free (name m.0) ∷ []) a.4 at, ap length (λ i. a.1 i ++ a.2 i))
 
   -- ---- a try
-  consuming_after : (z z' t : TableId) (tail now : ℕ) (m k : SeatState E) (tickets left : List ℕ) (es : List (Event Name E)) → IsConsuming z tail m tickets → z' ≡ z → z ≡ t → IsHolding t.slots now k → k.0.back ++ k.0.free ≡ left → Sees m.0 es k.0 → Keeps es → IsConsuming z' now k left
-  consuming_after z z' t tail now m k tickets left es c at there holds rooms g keeps = record {
+  consuming_after : (z z' t : TableId) (tail now : ℕ) (m k : SeatState E) (tickets left : List ℕ) (es : List (Event Name E)) → IsConsuming z tail m tickets → z' ≡ z → z ≡ t → IsHolding t.slots now k → k.0.back ++ k.0.free ≡ left → Sees m.0 es k.0 → Neutral es → IsConsuming z' now k left
+  consuming_after z z' t tail now m k tickets left es c at there holds rooms g neutral = record {
     table = subst (λ q. IsTable q) (sym at) c.table;
     holds = subst (λ (q : TableId). IsHolding q.slots now k) (sym (at ∙ there)) holds;
     rooms = rooms;
     legal = told_legal same_name (plain k.0.known.seen) g.legal;
     alone = g.alone;
-    settled = settled_more z m.0 k.0 es g c.settled keeps;
+    share = subst (λ z. IsShare z) (sym g.share) c.share;
+    linked = linked_after m.0 k.0 es g c.legal c.linked (λ q. (neutral q).0);
+    held = held_after m.0 k.0 es g c.legal c.held c.holds.2 (λ q. (neutral q).1);
   }
 
   pub one_consuming : (z z' t : TableId) (tail now : ℕ) (m k : SeatState E) (tickets left : List ℕ) (full : Filled E) → IsConsuming z tail m tickets → z' ≡ z → z ≡ t → Tries (Look (name m.0) ∷ []) t.slots m k now (tried.Out full) → left ≡ full.ticket ∷ tickets → IsConsuming z' now k left
   one_consuming z z' t tail now m k tickets left full c at there a more =
       let n = name m.0 in
-      consuming_after z z' t tail now m k tickets left (Look n ∷ Out n full.item ∷ []) c at there a.0 ((λ i. a.1 i ++ a.2 i) ∙ (ap (λ l. full.ticket ∷ l) c.rooms ∙ sym more)) a.3 (λ h x. x)
+      consuming_after z z' t tail now m k tickets left (Look n ∷ Out n full.item ∷ []) c at there a.0 ((λ i. a.1 i ++ a.2 i) ∙ (ap (λ l. full.ticket ∷ l) c.rooms ∙ sym more)) a.3 (λ q. (refl, (refl, refl)))
 
   pub empty_consuming : (z z' t : TableId) (tail now : ℕ) (m k : SeatState E) (tickets : List ℕ) → IsConsuming z tail m tickets → z' ≡ z → z ≡ t → Tries (Look (name m.0) ∷ []) t.slots m k now tried.Empty → IsConsuming z' now k tickets
   empty_consuming z z' t tail now m k tickets c at there a =
       let n = name m.0 in
-      consuming_after z z' t tail now m k tickets tickets (Look n ∷ Empty n ∷ []) c at there a.0 ((λ i. a.1.1 i ++ a.1.2 i) ∙ c.rooms) a.1.4 (λ h x. x)
+      consuming_after z z' t tail now m k tickets tickets (Look n ∷ Empty n ∷ []) c at there a.0 ((λ i. a.1.1 i ++ a.1.2 i) ∙ c.rooms) a.1.4 (λ q. (refl, (refl, refl)))
 
   pub blocked_consuming : (z z' t : TableId) (tail now : ℕ) (m k : SeatState E) (tickets : List ℕ) → IsConsuming z tail m tickets → z' ≡ z → z ≡ t → Tries (Look (name m.0) ∷ []) t.slots m k now tried.Inconsistent → IsConsuming z' now k tickets
   blocked_consuming z z' t tail now m k tickets c at there a =
-      consuming_after z z' t tail now m k tickets tickets (Look (name m.0) ∷ []) c at there a.0 ((λ i. a.1.1 i ++ a.1.2 i) ∙ c.rooms) a.1.4 (λ h x. x)
+      consuming_after z z' t tail now m k tickets tickets (Look (name m.0) ∷ []) c at there a.0 ((λ i. a.1.1 i ++ a.1.2 i) ∙ c.rooms) a.1.4 (λ q. (refl, (refl, refl)))
 
   pub consumes_one : (z z' : TableId) (slots now : ℕ) (m k : SeatState E) (full : Filled E) → z' ≡ z → Tries (Look (name m.0) ∷ []) slots m k now (tried.Out full) → Consumes (Ok full.item) (standing z m.0) (standing z' k.0)
   consumes_one z z' slots now m k full at a = (adds z z' m.0 k.0 (Look (name m.0) ∷ Out (name m.0) full.item ∷ []) a.3 at, ap length (λ i. a.1 i ++ a.2 i))
@@ -115,7 +101,7 @@ module _ {E : Type 0} where
   consumes_empty z z' slots now m k at a = (adds z z' m.0 k.0 (Look (name m.0) ∷ Empty (name m.0) ∷ []) a.1.4 at, ap length (λ i. a.1.1 i ++ a.1.2 i))
 
   none_more : (v w : View E) (es : List (Event Name E)) → Sees v es w → Sees w [] w
-  none_more v w es g = record { rest = []; is = sym (append-nil w.known.seen); adds = refl; legal = g.legal; share = refl; alone = g.alone }
+  none_more v w es g = record { rest = []; is = sym (append-nil w.known.seen); adds = refl; foreign = tt; legal = g.legal; share = refl; alone = g.alone }
 
   pub consumes_blocked : (z z' : TableId) (slots now : ℕ) (m k : SeatState E) → z' ≡ z → Tries (Look (name m.0) ∷ []) slots m k now tried.Inconsistent → Consumes (Err error.Inconsistent) (standing z m.0) (standing z' k.0)
   consumes_blocked z z' slots now m k at a =
@@ -129,11 +115,6 @@ module _ {E : Type 0} where
       )
 
   -- ---- a whole party's try is certain
-  settled_even : (h : List (Event Name E)) → Legal h → NobodyIsPending (reverse h) → AllLinked h
-  settled_even h l settled q =
-      let legal = (legal_both_ways Name E same_name h).0 l in
-      sym (links_by-reverse same_name q h) ∙ ((counts same_name (reverse h) legal q).0 (settled q) ∙ swaps_by-reverse same_name q h)
-
   looked_even : (n : Name) (h : List (Event Name E)) → AllLinked h → AllLinked (h ++ Look n ∷ [])
   looked_even n h e q = links_by-append same_name q h (Look n ∷ []) ∙ (ap (λ x. x + 0) (e q) ∙ sym (swaps_by-append same_name q h (Look n ∷ [])))
 
@@ -144,4 +125,4 @@ module _ {E : Type 0} where
       let b = (consumes_blocked z z' slots now m k at a).2 in
       let mine = front_own b.past b.later (subst (λ r. AllOwn r) b.is (g.alone (g.share ∙ is))) in
       let all : plain b.past ≡ plain m.0.known.seen ++ Look n ∷ [] = plain_own b.past mine ∙ (b.adds ∙ ap (λ r. r ++ Look n ∷ []) (sym (plain_own m.0.known.seen (c.alone is)))) in
-      even_open (plain b.past) b.blocked.by (subst AllLinked (sym all) (looked_even n (plain m.0.known.seen) (settled_even (plain m.0.known.seen) c.legal (c.settled is)))) b.blocked.pending
+      even_open (plain b.past) b.blocked.by (subst AllLinked (sym all) (looked_even n (plain m.0.known.seen) (λ q. even_links q (plain m.0.known.seen) c.legal (c.linked q (subst (λ ns. IsOf ns q) (sym is) (of_whole q)))))) b.blocked.pending

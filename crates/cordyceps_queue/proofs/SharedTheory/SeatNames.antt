@@ -1,5 +1,6 @@
 -- Whose names and rooms the parties of a queue's table have.
 use Rattle.std.proofs.Common.{◌≡◌, ◌≢◌, ℕ, ◌+◌, ◌≤◌, List, [], ◌∷◌, ◌++◌, reverse, length, replicate, false, Option, Some, None, refl, sym, ap, ◌∙◌, subst, arith, length-append}
+use Rattle.std.proofs.lemmas.List.{reverse-append}
 use mathlib.Core.Bool.{Bool-discrete}
 use mathlib.Core.List.{List-discrete}
 use mathlib.Core.Option.{some, none}
@@ -7,22 +8,29 @@ use mathlib.Core.Option as maybe
 use native.Mathlib.Decide.{ℕ_discrete}
 use lib.ListN.{get_elem?, length-replicate}
 use Rattle.cordyceps_shared.specs.Histories.{events, plain}
-use Rattle.cordyceps_shared.specs.Knowing.{SharesApart}
-use Rattle.cordyceps_shared.specs.Shares.{Name, whole, covers, first_name}
+use Rattle.cordyceps_shared.specs.Knowing.{Foreign, SharesApart}
+use Rattle.cordyceps_shared.specs.Shares.{Name, covers, first_name, Clear, IsOf}
 use Rattle.cordyceps_shared.proofs.Counting.{tally_two, distinct_few}
 use Rattle.cordyceps_shared.proofs.Naming.{some_cover}
 use Rattle.cordyceps_shared.proofs.Places.{times_at}
 use Rattle.cordyceps_shared.proofs.Standing as seats
 use Rattle.cordyceps_queue.specs.declared.cores.stage.Stage.TheVariants.{Rest}
 use Rattle.cordyceps_queue.specs.Cores.Meets.{AtStage, RightIs, tail_of}
-use Rattle.cordyceps_queue.specs.Shared.Parting.{IsStill}
-use Rattle.cordyceps_queue.specs.Past.{holder, IsSettled}
+use Rattle.cordyceps_queue.specs.History.{Event, actor, links_by, swaps_by}
+use Rattle.cordyceps_queue.specs.Laws.{takes_by, frees_by}
+use Rattle.cordyceps_queue.specs.Shared.Calls.{same_name, Legal, NonePending, NoneHolds}
+use Rattle.cordyceps_queue.specs.Past.{holder, IsSettled, IsLegal}
 use Rattle.cordyceps_queue.specs.Shared.Rule.{TableState, History, party, party_if, party_of, RuleHolds}
 use Rattle.cordyceps_queue.specs.Shared.View.{View, knows, name}
 use Rattle.cordyceps_queue.specs.Cores.Abstract.{AbstractParty}
 use Rattle.cordyceps_queue.proofs.CoreTheory.Basics.{some_inj, none_some, times_once}
+use Rattle.cordyceps_queue.proofs.HistoryEnds.{links_by-append, swaps_by-append, links_by-reverse, swaps_by-reverse}
+use Rattle.cordyceps_queue.proofs.Legality.{told_legal, front_legal, counts, holder_of}
+use Rattle.cordyceps_queue.proofs.PartyOrder.{takes_append, frees_append}
+use Rattle.cordyceps_queue.proofs.SharedTheory.OwnNames.{links_other, swaps_other, takes_other, frees_other, even_frees, not_holder}
 use Rattle.cordyceps_queue.proofs.SharedTheory.WordsAsMachine.{at_behind, core, party_at, rooms_of}
-use Rattle.cordyceps_shared.proofs.Telling.{at_length}
+use Rattle.cordyceps_shared.proofs.Telling.{at_length, first_clear}
+use Rattle.cordyceps_shared.proofs.Tracing.{foreign_counts}
 
 named_was : (names : List Name) (p q : AbstractParty Name) → party_if names p ≡ Some q → (names ≢ []) × (p ≡ q)
 named_was [] p q e = absurd (none_some e)
@@ -75,46 +83,79 @@ module _ {E : Type 0} (s : TableState E) (k : RuleHolds s) (id : ℕ) (v : View 
       (λ r. times_once r v.free (λ i j a b. let e = R.once (length v.back + i) (length v.back + j) r (at_behind v.back v.free i r a) (at_behind v.back v.free j r b) in omega arith))
       (λ r l. let t = times_at r v.free l in at_length s.homes r (some None) (k.empty id v at named t.0 r t.1))
 
--- ---- a party that is whole
-covers_all : (x : Name) → covers x whole ≡ 1
-covers_all x = refl
+-- ---- a party between two calls: none of its names is pending, and none has the right
+module _ {E : Type 0} (s : TableState E) (k : RuleHolds s) (id : ℕ) (v : View E) (at : get_elem? s.views id ≡ some v) (named : v.known.share ≢ []) (rest : v.stage ≡ Rest) where
+  past : List (Event Name E)
+  past = reverse (events k.history)
 
-module _ {E : Type 0} (s : TableState E) (k : RuleHolds s) (id : ℕ) (v : View E) (at : get_elem? s.views id ≡ some v) (is : v.known.share ≡ whole) (rest : v.stage ≡ Rest) where
-  named : v.known.share ≢ []
-  named e = let no : whole ≡ [] = sym is ∙ e in absurd (cc)
-
-  -- there is no other
-  only_party : (j : ℕ) (p : AbstractParty Name) → (core s k).party j ≡ Some p → party v ≡ p
-  only_party j p e =
+  -- of another party no name is one of this one's
+  not_another : (j : ℕ) (p : AbstractParty Name) (q : Name) → j ≢ id → (core s k).party j ≡ Some p → p.name ≡ q → IsOf v.known.share q → ⊥
+  not_another j p q ne e same of =
       let w = party_was (get_elem? s.views j) p e in
-      elim (ℕ_discrete j id) [
-        | yes same ↦ some_inj (sym (party_at s k id v at named) ∙ (ap (core s k).party (sym same) ∙ e))
-        | no ne ↦
-            let tail = replicate k.owned.long false in
-            let x = name w.0 ++ tail in
-            let long : k.owned.long ≤ length x = omega (arith, length-append (name w.0) tail, length-replicate k.owned.long false) in
-            let few = k.owned.apart x long in
-            let two = tally_two (λ (z : View E). covers x z.known.share) s.views j id w.0 v ne w.1 at in
-            let theirs = named_first w.0.known.share tail w.2 in
-            let mine : covers x v.known.share ≡ 1 = ap (covers x) is ∙ covers_all x in
-            absurd (omega arith)
-      ]
+      let clear = first_clear knows s.views k.history id j v w.0 k.owned (λ c. ne (sym c)) at w.1 w.2 in
+      of (subst (λ n. Clear n v.known.share) (ap (λ (z : AbstractParty Name). z.name) w.3 ∙ same) clear)
 
-  past_is : reverse (plain v.known.seen) ≡ reverse (events k.history)
-  past_is = ap (λ z. reverse z) (seats.all_known knows s.views k.history id v k.owned k.fits at is)
+  mine : (p : AbstractParty Name) → (core s k).party id ≡ Some p → party v ≡ p
+  mine p e = some_inj (sym (party_at s k id v at named) ∙ e)
 
-  unheld : (keeper : Option ℕ) (right : ℕ) (rooms : List ℕ) → RightIs right (core s k).party rooms (reverse (events k.history)) keeper → holder (reverse (events k.history)) ≡ None
-  unheld None right rooms R = R.0
-  unheld (Some j) right rooms R =
-      let at_rest : R.1.stage ≡ Rest = sym (ap (λ (q : AbstractParty Name). q.stage) (only_party j R.1 R.3)) ∙ rest in
-      absurd (none_some (sym (ap tail_of at_rest) ∙ R.4))
-
-  settled : (q : Name) → IsSettled q (reverse (events k.history))
-  settled q = elim (name_known q (name v)) [
+  settled : (q : Name) → IsOf v.known.share q → IsSettled q past
+  unfolding past
+  settled q of = elim (name_known q (name v)) [
     | yes e ↦ subst (λ x. IsSettled x (reverse (events k.history))) (sym e)
         (subst (AtStage (core s k).head (core s k).next k.cell k.chain.owner k.chain.keeper k.chain.rooms (reverse (events k.history)) id (name v)) rest (k.meets.fits id (party v) (party_at s k id v at named)))
-    | no not ↦ k.meets.strangers q (λ j p e same. not (sym same ∙ sym (ap (λ (z : AbstractParty Name). z.name) (only_party j p e))))
+    | no not ↦ k.meets.strangers q (λ j p e same. elim (ℕ_discrete j id) [
+      | yes here ↦ not (sym same ∙ sym (ap (λ (z : AbstractParty Name). z.name) (mine p (subst (λ i. (core s k).party i ≡ Some p) here e))))
+      | no ne ↦ not_another j p q ne e same of
+    ])
   ]
 
-  pub whole_still : IsStill (plain v.known.seen)
-  whole_still = (ap holder past_is ∙ unheld k.chain.keeper _ k.chain.rooms k.meets.right, λ q. subst (IsSettled q) (sym past_is) (settled q))
+  not_kept : (q : Name) → IsOf v.known.share q → (keeper : Option ℕ) (right : ℕ) (rooms : List ℕ) → RightIs right (core s k).party rooms past keeper → holder past ≢ Some q
+  not_kept q of None right rooms R e = none_some (sym R.0 ∙ e)
+  not_kept q of (Some j) right rooms R e = elim (ℕ_discrete j id) [
+    | yes here ↦
+        let at_rest : R.1.stage ≡ Rest = sym (ap (λ (z : AbstractParty Name). z.stage) (mine R.1 (subst (λ i. (core s k).party i ≡ Some R.1) here R.3))) ∙ rest in
+        absurd (none_some (sym (ap tail_of at_rest) ∙ R.4))
+    | no ne ↦ not_another j R.1 q ne R.3 (some_inj (sym R.5 ∙ e)) of
+  ]
+
+  -- what it has seen, and what it has not, which carries none of its names
+  legal : Legal (events k.history)
+  legal = told_legal same_name (events k.history) k.meets.legal
+
+  later : List (ℕ × Event Name E)
+  later = (k.fits id v at).later
+
+  all_is : events k.history ≡ plain v.known.seen ++ events later
+  unfolding later
+  all_is = seats.seen_front actor k.history id v.known (k.fits id v at)
+
+  foreign : Foreign actor v.known.share (events later)
+  unfolding later
+  foreign = (k.fits id v at).foreign
+
+  seen_legal : Legal (plain v.known.seen)
+  seen_legal = told_legal same_name (plain v.known.seen) (front_legal (reverse (events later)) (reverse (plain v.known.seen))
+      (subst (λ z. IsLegal z) (ap (λ z. reverse z) all_is ∙ reverse-append (plain v.known.seen) (events later)) k.meets.legal))
+
+  pub rest_linked : NonePending v.known.share (plain v.known.seen)
+  unfolding past
+  rest_linked q of p =
+      let h = events k.history in
+      let even : links_by same_name q h ≡ swaps_by same_name q h =
+      sym (links_by-reverse same_name q h) ∙ ((counts same_name (reverse h) k.meets.legal q).0 (settled q of) ∙ swaps_by-reverse same_name q h) in
+      let links = ap (λ z. links_by same_name q z) all_is ∙ links_by-append same_name q (plain v.known.seen) (events later) in
+      let swaps = ap (λ z. swaps_by same_name q z) all_is ∙ swaps_by-append same_name q (plain v.known.seen) (events later) in
+      let no_links = foreign_counts (λ z. links_by same_name q z) (links_by-append same_name q) actor q (links_other q) v.known.share of (events later) foreign in
+      let no_swaps = foreign_counts (λ z. swaps_by same_name q z) (swaps_by-append same_name q) actor q (swaps_other q) v.known.share of (events later) foreign in
+      absurd (omega arith)
+
+  pub rest_unheld : NoneHolds v.known.share (plain v.known.seen)
+  unfolding past
+  rest_unheld q of =
+      let h = events k.history in
+      let even = even_frees q h legal (λ e. not_kept q of k.chain.keeper _ k.chain.rooms k.meets.right (sym (holder_of h) ∙ e)) in
+      let frees = ap (λ z. frees_by same_name q z) all_is ∙ frees_append same_name q (plain v.known.seen) (events later) in
+      let takes = ap (λ z. takes_by same_name q z) all_is ∙ takes_append same_name q (plain v.known.seen) (events later) in
+      let no_frees = foreign_counts (λ z. frees_by same_name q z) (frees_append same_name q) actor q (frees_other q) v.known.share of (events later) foreign in
+      let no_takes = foreign_counts (λ z. takes_by same_name q z) (takes_append same_name q) actor q (takes_other q) v.known.share of (events later) foreign in
+      not_holder q (plain v.known.seen) seen_legal (omega arith)

@@ -47,7 +47,7 @@ module _ {E : Type 0} (s : TableState E) (k : RuleHolds s) (id : ℕ) (v : View 
   fails : (t i : ℕ) → tail_of v.stage ≡ Some t → ((a b : ℕ) → Owes v.stage a b → ⊥) → WasBlocked (name v) past → Comes s k id v at named bare i (get_or s.words i 0) (λ _ z. stands_at [] (Holding t) (v, []) z × Blocked z.0)
   fails t i has nothing was =
       let met = stage_keeps core k.chain past k.meets id (party v) is_there t has (Holding t) refl (λ a b o. absurd (nothing a b o)) (keeping core k.chain past k.meets id (party v) is_there t has) in
-      let r = reads s k id v at named bare [] (Holding t) k.chain met (same_rooms s k id v at named bare) (λ q is. cc) i in
+      let r = reads s k id v at named bare [] tt (Holding t) k.chain met (same_rooms s k id v at named bare) (λ q is. cc) i in
       (view [] (Holding t), keeps, tt, r.0, (stood s k id v at named bare [] (Holding t) r.1, blocked s k id v at named bare [] (Holding t) was))
 
   -- ---- the first read, of the stub's link
@@ -70,12 +70,12 @@ module _ {E : Type 0} (s : TableState E) (k : RuleHolds s) (id : ℕ) (v : View 
           inl refl,
           (λ far. inl (inl refl, open_blocks core k.chain (look ∷ past) looked id (party v) is_there 0 (ap tail_of holding) nothing open_link far)),
         ) in
-        let r = reads s k id v at named bare (look ∷ []) StubNull k.chain met (same_rooms s k id v at named bare) (λ q is. cc) 2 in
+        let r = reads s k id v at named bare (look ∷ []) (refl, tt) StubNull k.chain met (same_rooms s k id v at named bare) (λ q is. cc) 2 in
         (view (look ∷ []) StubNull, keeps, tt, r.0, λ _. ((λ _. stood s k id v at named bare (look ∷ []) StubNull r.1), λ r' f. absurd (zero_suc (sym e ∙ f))))
     looks_stub_bare slots deep (suc r) e =
         let linked : core.next 0 ≡ Some r = ap link_of e in
         let met = pass_keeps core k.chain (look ∷ past) looked id (party v) is_there r holding linked (inl refl) in
-        let o = reads s k id v at named bare (look ∷ []) (Second r) (chain_after_pass core k.chain (look ∷ past) looked id (party v) is_there r holding linked (inl refl)) met (less_rooms s k id v at named bare) (λ q is. cc) 2 in
+        let o = reads s k id v at named bare (look ∷ []) (refl, tt) (Second r) (chain_after_pass core k.chain (look ∷ past) looked id (party v) is_there r holding linked (inl refl)) met (less_rooms s k id v at named bare) (λ q is. cc) 2 in
         let at_second = second core k.chain past k.meets 0 r tail_at linked in
         let near = chain_near s k 1 r at_second in
         let ne : r ≢ 0 = λ z. zero_suc (k.meets.once 0 1 0 tail_at (subst (ItemAt k.chain.rooms 1) z at_second)) in
@@ -97,7 +97,7 @@ module _ {E : Type 0} (s : TableState E) (k : RuleHolds s) (id : ℕ) (v : View 
         let held = record (party v) { stage = Holding 0 } in
         let back : Meets (stands core id (party v) (Holding 0)) k.chain past = stage_keeps core k.chain past k.meets id (party v) is_there 0 has (Holding 0) refl (λ a b o. absurd (subst (λ l. Owes l a b) at_null o)) mine in
         let met = tell_keeps (stands core id (party v) (Holding 0)) k.chain past back id held (put_same core.party id (Some held)) 0 refl x refl (mine.held_by, none_held core k.chain past k.meets id (party v) is_there 0 has refl e) refl refl (λ q s. s) (λ q n w. w) in
-        let r = reads s k id v at named bare (x ∷ []) (Holding 0) k.chain met (same_rooms s k id v at named bare) (λ q is. cc) 0 in
+        let r = reads s k id v at named bare (x ∷ []) (refl, tt) (Holding 0) k.chain met (same_rooms s k id v at named bare) (λ q is. cc) 0 in
         (view (x ∷ []) (Holding 0), keeps, tt, r.0, λ _. ((λ _. stood s k id v at named bare (x ∷ []) (Holding 0) r.1), λ ne. absurd (ne e)))
     heads_stub_bare slots (no ne) =
         let c = fails 0 0 (ap tail_of at_null) (λ a b o. subst (λ l. Owes l a b) at_null o) ((fits_at StubNull at_null).2 ne) in
@@ -114,7 +114,7 @@ module _ {E : Type 0} (s : TableState E) (k : RuleHolds s) (id : ℕ) (v : View 
         let f = fits_at (Null t) at_null in
         let met = stage_keeps core k.chain past k.meets id (party v) is_there t (ap tail_of at_null) (PutClear t) refl (λ a b o. absurd (subst (λ l. Owes l a b) at_null o))
         (f.0, stub_out core k.chain past k.meets id (party v) is_there t (ap tail_of at_null) f.0.is_real e) in
-        let r = reads s k id v at named bare [] (PutClear t) k.chain met (same_rooms s k id v at named bare) (λ q is. cc) 0 in
+        let r = reads s k id v at named bare [] tt (PutClear t) k.chain met (same_rooms s k id v at named bare) (λ q is. cc) 0 in
         (view [] (PutClear t), keeps, tt, r.0, ((λ _. stood s k id v at named bare [] (PutClear t) r.1), λ ne. absurd (ne e)))
     heads_bare (no ne) =
         let c = fails t 0 (ap tail_of at_null) (λ a b o. subst (λ l. Owes l a b) at_null o) ((fits_at (Null t) at_null).1 ne) in
@@ -125,7 +125,7 @@ module _ {E : Type 0} (s : TableState E) (k : RuleHolds s) (id : ℕ) (v : View 
   stores : (stage : Stage) (chain : Chain) (next : AbstractMachine Name E) (i x : ℕ) → next ≡ machine_of k.cell (set s.words i x) (set s.views id (view [] stage)) → Meets next chain past → FullAtHome s.homes k.cell chain.rooms → ((q : ℕ) → stage ≡ Cleared q → ⊥)
       → RuleHolds record { words = set s.words i x; homes = s.homes; views = set s.views id (view [] stage) } × Sees v [] (view [] stage)
   stores stage chain next i x same met full away =
-      keeps_rule s k id [] v (view [] stage) (set s.words i x) s.homes k.cell chain next at named refl same met (length-set s.words i x) refl full (empties_same s k id (view [] stage) (k.empty id v at named)) (readies_same s k id (view [] stage) away)
+      keeps_rule s k id [] v (view [] stage) (set s.words i x) s.homes k.cell chain next at named tt refl same met (length-set s.words i x) refl full (empties_same s k id (view [] stage) (k.empty id v at named)) (readies_same s k id (view [] stage) away)
 
   clears_stub_bare : (t : ℕ) → v.stage ≡ PutClear t → Comes s k id v at named bare 2 0 (λ _. stands_at [] (PutSwap t) (v, []))
   clears_stub_bare t l =
@@ -195,7 +195,7 @@ module _ {E : Type 0} (s : TableState E) (k : RuleHolds s) (id : ℕ) (v : View 
         let f = fits_at (PutRead t) at_put in
         let sum : 2 + t ≡ i = omega arith in
         let linked : core.next t ≡ Some r = ap link_of (ap (λ q. get_or s.words q 0) sum ∙ e) in
-        let c = hands s k id v at named bare [] k.meets t r i (ap tail_of at_put) (λ a b o. subst (λ l. Owes l a b) at_put o) f.0.is_real linked slots deep in
+        let c = hands s k id v at named bare [] tt k.meets t r i (ap tail_of at_put) (λ a b o. subst (λ l. Owes l a b) at_put o) f.0.is_real linked slots deep in
         (c.0, c.1, c.2, c.3, ((λ g. absurd (suc_zero (sym e ∙ g))), λ r' g. subst (λ q. hands_out [] slots t q (v, []) (c.0, carried_after [] c.1)) (suc_inj (sym e ∙ g)) c.4))
 
 same_null : {p : Stage} {t u : ℕ} → p ≡ Null t → p ≡ Null u → t ≡ u

@@ -8,20 +8,20 @@ use native.Mathlib.Decide.{ℕ_discrete}
 use lib.ListN.{get_elem?}
 use Rattle.atomic_table.proofs.Lists.{set_here, set_else}
 use Rattle.cordyceps_shared.specs.Histories.{events, of_seat}
-use Rattle.cordyceps_shared.specs.Knowing.{all_seen}
+use Rattle.cordyceps_shared.specs.Knowing.{Under, all_seen}
 use Rattle.cordyceps_shared.specs.Shares.{Name}
 use Rattle.cordyceps_shared.proofs.Changing.{one_set}
 use Rattle.cordyceps_shared.proofs.Seeing.{events_more}
 use Rattle.cordyceps_shared.proofs.Telling.{at_length, tells}
 use Rattle.cordyceps_queue.specs.declared.cores.stage.Stage.TheVariants.{Cleared}
 use Rattle.cordyceps_shared.specs.declared.slots.Filled.{Filled}
-use Rattle.cordyceps_queue.specs.History.{Event}
+use Rattle.cordyceps_queue.specs.History.{Event, actor}
 use Rattle.cordyceps_shared.specs.Places.{ItemAt}
 use Rattle.cordyceps_queue.specs.Cores.Meets.{Spare, Ready, Chain, AtStage, OwnsRooms, Meets}
 use Rattle.cordyceps_queue.specs.Shared.Plays.{LegalReversed, Sees}
 use Rattle.cordyceps_shared.specs.Slots.{Homes, EmptyAtHome}
 use Rattle.cordyceps_queue.specs.Shared.Rule.{TableState, link_of, party, party_if, party_of, machine_of, slot_of, FullAtHome, AllEmptyAtHome, AllReady, RuleHolds}
-use Rattle.cordyceps_queue.specs.Shared.View.{View, knows}
+use Rattle.cordyceps_queue.specs.Shared.View.{View, knows, name}
 use Rattle.cordyceps_queue.specs.Cores.Abstract.{AbstractParty, AbstractMachine, update}
 use Rattle.cordyceps_queue.proofs.CoreTheory.Basics.{put_same, put_other}
 
@@ -63,16 +63,16 @@ module _ {E : Type 0} where
 
   -- the rule after a step at which the party sees all and adds these events, and what it tells
   pub keeps_rule : (s : TableState E) (k : RuleHolds s) (id : ℕ) (es : List (Event Name E)) (v w : View E) (words : List ℕ) (homes : Homes E) (cell : ℕ → Option E) (chain : Chain) (m' : AbstractMachine Name E)
-      → get_elem? s.views id ≡ some v → v.known.share ≢ [] → w.known ≡ all_seen id (k.history ++ of_seat id es) v.known.share
+      → get_elem? s.views id ≡ some v → v.known.share ≢ [] → Under actor (name v) es → w.known ≡ all_seen id (k.history ++ of_seat id es) v.known.share
       → m' ≡ machine_of cell words (set s.views id w) → Meets m' chain (reverse es ++ reverse (events k.history))
       → length words ≡ length s.words → length homes ≡ length s.homes → FullAtHome homes cell chain.rooms → AllEmptyAtHome homes (set s.views id w) → AllReady cell (set s.views id w)
       → RuleHolds record { words = words; homes = homes; views = set s.views id w } × Sees v es w
-  keeps_rule s k id es v w words homes cell chain m' at some_name sees same met wide deep full empty ready =
+  keeps_rule s k id es v w words homes cell chain m' at some_name under sees same met wide deep full empty ready =
       let h = k.history ++ of_seat id es in
       let recent : reverse (events h) ≡ reverse es ++ reverse (events k.history) = ap (λ z. reverse z) (events_more k.history id es) ∙ reverse-append (events k.history) es in
       let meets : Meets (machine_of cell words (set s.views id w)) chain (reverse (events h)) =
       subst (λ l. Meets (machine_of cell words (set s.views id w)) chain l) (sym recent) (subst (λ n. Meets n chain (reverse es ++ reverse (events k.history))) same met) in
-      let t = tells knows LegalReversed s.views k.history id es v w k.owned k.fits at some_name sees meets.legal in
+      let t = tells actor knows LegalReversed s.views k.history id es v w k.owned k.fits at some_name under sees meets.legal in
       let was_wide = k.wide in
       let was_stub = k.stub in (
         record {

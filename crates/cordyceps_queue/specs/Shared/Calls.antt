@@ -1,15 +1,15 @@
 -- What the calls of a shared queue promise: of the party u before, and of the party w after.
-use Rattle.std.specs.Prelude.{◌≡◌, ◌⊎◌, suc, List, [], ◌∷◌, ◌++◌, Bool, Option, Some, None, Result, Ok, Err}
+use Rattle.std.specs.Prelude.{◌≡◌, ◌≢◌, ◌⊎◌, suc, List, [], ◌∷◌, ◌++◌, Bool, Option, Some, None, Result, Ok, Err}
 use mathlib.Core.Bool.{Bool-discrete}
 use mathlib.Core.List.{List-discrete}
 use Rattle.atomic_table.specs.Seated.{TableId}
 use Rattle.cordyceps_shared.specs.Histories.{plain, own}
-use Rattle.cordyceps_shared.specs.Shares.{Name}
+use Rattle.cordyceps_shared.specs.Shares.{Name, IsOf}
 use Rattle.cordyceps_shared.specs.Standings.{Standing, name_of}
 use Rattle.cordyceps_shared.specs.Standings as parties
 use Rattle.cordyceps_queue.specs.declared.cores.steps.TryDequeueError.{TryDequeueError}
 use Rattle.cordyceps_queue.specs.declared.cores.steps.TryDequeueError.TheVariants as error
-use Rattle.cordyceps_queue.specs.History.{Event, Swap, Link, Take, Busy, Look, Out, Empty, Free, IsLegal, IsBlocked}
+use Rattle.cordyceps_queue.specs.History.{Event, Swap, Link, Take, Busy, Look, Out, Empty, Free, actor, holder, IsLegal, IsPending, IsBlocked}
 
 -- what a contract sees of a queue: its table, and the stub that its maker handed in
 pub record QueueOf (E : Type 0) : Type 0 where
@@ -28,9 +28,17 @@ module _ {E : Type 0} where
   abbrev pub Legal : List (Event Name E) → Type 0
   Legal h = IsLegal same_name h
 
-  -- the party has seen more, with exactly these events of its own
+  -- the party has seen more, with exactly these events of its own; those of others carry no name of its share
   abbrev pub Adds : PartyOf E → List (Event Name E) → PartyOf E → Type 0
-  Adds u es w = parties.Adds (λ h. Legal h) u es w
+  Adds u es w = parties.Adds actor (λ h. Legal h) u es w
+
+  -- none of these names is pending
+  abbrev pub NonePending : List Name → List (Event Name E) → Type 0
+  NonePending names h = (q : Name) → IsOf names q → IsPending same_name q h → ⊥
+
+  -- none of them has the right
+  abbrev pub NoneHolds : List Name → List (Event Name E) → Type 0
+  NoneHolds names h = (q : Name) → IsOf names q → holder h ≢ Some q
 
   -- a beginning of what it has seen is blocked, in which its own events are those of before and these
   pub record BlockedAfter (u : PartyOf E) (es : List (Event Name E)) (w : PartyOf E) : Type 0 where

@@ -1,21 +1,15 @@
 -- How a party of a queue is split in two, takes another in, and learns what it then knows.
-use Rattle.std.specs.Prelude.{◌≡◌, ℕ, ◌≤◌, List, [], ◌++◌, reverse, length, take, drop, None}
+use Rattle.std.specs.Prelude.{◌≡◌, ℕ, ◌≤◌, [], ◌++◌, length, take, drop, None}
 use Rattle.cordyceps_shared.specs.Histories.{plain}
 use Rattle.cordyceps_shared.specs.Knowing.{IsKnown}
 use Rattle.cordyceps_shared.specs.Knowing as knowing
-use Rattle.cordyceps_shared.specs.Shares.{Name, whole}
-use Rattle.cordyceps_queue.specs.History.{Event}
-use Rattle.cordyceps_queue.specs.Past.{holder, IsSettled}
 use Rattle.cordyceps_queue.specs.declared.cores.stage.Stage.TheVariants.{Rest}
 use Rattle.cordyceps_shared.specs.Slots.{TableStep}
 use Rattle.cordyceps_queue.specs.Shared.Plays.{SeatState, LegalReversed}
+use Rattle.cordyceps_queue.specs.Shared.Calls.{NonePending, NoneHolds}
 use Rattle.cordyceps_queue.specs.Shared.View.{View}
 
 module _ {E : Type 0} where
-  -- nobody has the right, and nobody is pending
-  abbrev pub IsStill : List (Event Name E) → Type 0
-  IsStill es = (holder (reverse es) ≡ None) × ((q : Name) → IsSettled q (reverse es))
-
   -- a load of head by a party that took another in
   abbrev pub view_without_told : View E → View E
   view_without_told v = record v { known = record v.known { had = []; told = [] } }
@@ -23,7 +17,7 @@ module _ {E : Type 0} where
   abbrev pub learned : TableStep E → SeatState E → ℕ → SeatState E → Type 0
   learned st m read k =
       (k.0 ≡ view_without_told m.0) × (k.1 ≡ m.1) × IsKnown (λ h. LegalReversed h) m.0.known × (length m.0.free ≤ st.slots)
-      × (m.0.known.share ≡ whole → IsStill (plain m.0.known.seen))
+      × NonePending m.0.known.share (plain m.0.known.seen) × NoneHolds m.0.known.share (plain m.0.known.seen)
 
   -- what a party has that gave up the first n of its free rooms, and what the new one has
   abbrev pub view_keeping : ℕ → View E → View E

@@ -1,17 +1,15 @@
 -- What the parts of a call on a shared queue leave: of the party's seat m before, and of its seat k after.
-use Rattle.std.specs.Prelude.{◌≡◌, ℕ, zero, suc, ◌<◌, ◌≤◌, List, [], ◌∷◌, ◌++◌, reverse, length, Option, Some, None}
+use Rattle.std.specs.Prelude.{◌≡◌, ℕ, zero, suc, ◌<◌, ◌≤◌, List, [], ◌∷◌, ◌++◌, length, Option, Some, None}
 use Rattle.atomic_table.specs.Seated.{TableId}
 use Rattle.cordyceps_shared.specs.Histories.{plain, AllOwn}
-use Rattle.cordyceps_shared.specs.Shares.{Name, whole}
+use Rattle.cordyceps_shared.specs.Shares.{Name, whole, IsShare}
 use Rattle.cordyceps_queue.specs.declared.cores.stage.Stage.TheVariants.{Rest, Cleared, Swapped, Holding}
 use Rattle.cordyceps_queue.specs.declared.shared.table.Tried.{Tried}
 use Rattle.cordyceps_queue.specs.declared.shared.table.Tried.TheVariants.{Out, Empty, Inconsistent}
-use Rattle.cordyceps_queue.specs.History.{Event}
+use Rattle.cordyceps_queue.specs.History.{Event, holder}
 use Rattle.cordyceps_queue.specs.Shared.Plays.{SeatState, Sees, IsResting, IsHolding, HandsOneOut, stands_at, Blocked}
-use Rattle.cordyceps_queue.specs.Shared.Parting.{IsStill}
-use Rattle.cordyceps_queue.specs.Past.{IsSettled}
 use Rattle.cordyceps_queue.specs.Shared.Rule.{IsTable}
-use Rattle.cordyceps_queue.specs.Shared.Calls.{PartyOf, Legal}
+use Rattle.cordyceps_queue.specs.Shared.Calls.{PartyOf, Legal, NonePending, NoneHolds}
 use Rattle.cordyceps_queue.specs.Shared.View.{View, name}
 
 module _ {E : Type 0} where
@@ -65,21 +63,25 @@ module _ {E : Type 0} where
   standing z v = record { table = z; seen = v.known.seen; share = v.known.share; rooms = length (v.back ++ v.free) }
 
   -- the party is between two calls, has the tickets of its free rooms, and has seen a legal history, a whole party with no
-  -- event of another, and with nobody pending and the right free
+  -- event of another; its names are a share, of which none is pending, and none has the right
   pub record IsSeated (z : TableId) (m : SeatState E) (tickets : List ℕ) : Type 0 where
     pub table : IsTable z
     pub rests : IsResting z.slots m
     pub free : m.0.free ≡ tickets
     pub legal : Legal (plain m.0.known.seen)
     pub alone : m.0.known.share ≡ whole → AllOwn m.0.known.seen
-    pub still : m.0.known.share ≡ whole → IsStill (plain m.0.known.seen)
+    pub share : IsShare m.0.known.share
+    pub linked : NonePending m.0.known.share (plain m.0.known.seen)
+    pub unheld : NoneHolds m.0.known.share (plain m.0.known.seen)
 
-  -- the party has the right, its tail is t, and it has the tickets of its rooms; it has seen a legal history, and a whole party
-  -- one with no event of another, in which nobody is pending
+  -- the party has the right, its tail is t, and it has the tickets of its rooms; it has seen a legal history, a whole party
+  -- with no event of another; its names are a share, of which none is pending, and the first has the right
   pub record IsConsuming (z : TableId) (t : ℕ) (m : SeatState E) (tickets : List ℕ) : Type 0 where
     pub table : IsTable z
     pub holds : IsHolding z.slots t m
     pub rooms : m.0.back ++ m.0.free ≡ tickets
     pub legal : Legal (plain m.0.known.seen)
     pub alone : m.0.known.share ≡ whole → AllOwn m.0.known.seen
-    pub settled : m.0.known.share ≡ whole → (q : Name) → IsSettled q (reverse (plain m.0.known.seen))
+    pub share : IsShare m.0.known.share
+    pub linked : NonePending m.0.known.share (plain m.0.known.seen)
+    pub held : holder (plain m.0.known.seen) ≡ Some (name m.0)

@@ -8,7 +8,7 @@ use Rattle.cordyceps_shared.specs.Shares.{Name}
 use Rattle.cordyceps_queue.specs.declared.cores.stage.Stage.{Stage}
 use Rattle.cordyceps_queue.specs.declared.cores.stage.Stage.TheVariants.{Rest, Cleared, Swapped, Holding, StubNull, Second, Null, PutClear, PutSwap, PutLink, PutRead}
 use Rattle.cordyceps_shared.specs.declared.slots.Filled.{Filled}
-use Rattle.cordyceps_queue.specs.History.{Event}
+use Rattle.cordyceps_queue.specs.History.{Event, actor}
 use Rattle.cordyceps_shared.specs.Places.{ItemAt}
 use Rattle.cordyceps_queue.specs.Past.{IsLegal, WasBlocked}
 use Rattle.cordyceps_shared.specs.Slots.{Hand, TableStep, full_slot}
@@ -27,7 +27,7 @@ module _ {E : Type 0} where
 
   -- the party has seen more, in which its own events are these
   abbrev pub Sees : View E → List (Event Name E) → View E → Type 0
-  Sees v es w = Grown LegalReversed v.known es w.known
+  Sees v es w = Grown actor LegalReversed v.known es w.known
 
   -- the party is between two calls
   abbrev pub IsResting : ℕ → SeatState E → Type 0

@@ -12,7 +12,7 @@ use Rattle.cordyceps_shared.specs.Shares.{Name}
 use Rattle.cordyceps_queue.specs.declared.cores.stage.Stage.TheVariants.{Cleared}
 use Rattle.cordyceps_shared.specs.Slots.{Homes, full_slot, EmptyAtHome}
 use Rattle.cordyceps_shared.specs.declared.slots.Filled.{Filled}
-use Rattle.cordyceps_queue.specs.History.{Event}
+use Rattle.cordyceps_queue.specs.History.{Event, actor}
 use Rattle.cordyceps_shared.specs.Places.{ItemAt}
 use Rattle.cordyceps_queue.specs.Cores.Meets.{Chain, Meets}
 use Rattle.cordyceps_queue.specs.Shared.View.{View, knows, name}
@@ -83,7 +83,7 @@ module _ {E : Type 0} where
     pub full : FullAtHome s.homes cell chain.rooms
     pub empty : AllEmptyAtHome s.homes s.views
     pub ready : AllReady cell s.views
-    pub fits : AllAgree knows s.views history
+    pub fits : AllAgree actor knows s.views history
     pub owned : SharesApart knows s.views history
 
 -- a link for each slot, head and the right, and the stub's slot

@@ -4,7 +4,7 @@ ghost use Rattle.cordyceps_shared.specs.Histories.{plain};
 ghost use Rattle.cordyceps_shared.specs.Shares.{whole};
 ghost use Rattle.cordyceps_shared.specs.Standings.{new_party, keeping, giving, Knows, Absorbs};
 ghost use Rattle.cordyceps_queue.specs.History.{held};
-ghost use Rattle.cordyceps_queue.specs.Shared.Calls.{Legal, Enqueues, Dequeues, IsCertain};
+ghost use Rattle.cordyceps_queue.specs.Shared.Calls.{Legal, NonePending, NoneHolds, Enqueues, Dequeues, IsCertain};
 ghost use Rattle.cordyceps_queue.specs.Shared.View.{down_from};
 
 use crate::cores::steps::TryDequeueError;
@@ -75,10 +75,12 @@ impl<T: Linked<Links<T>>> Party<T> {
     /// How many rooms the party has: it can put in as many elements before it takes some out.
     ///
     /// To a contract it tells what every party knows: what it has seen is legal, and a whole party has seen only its
-    /// own events.
+    /// own events; none of its names begins another, none is pending, and none has the right to dequeue.
     pub fn rooms(&self) -> usize
         ensures count { result ≡ self.now.rooms }
         ensures knows { Knows (λ h. Legal h) self.now }
+        ensures linked { NonePending self.now.share (plain self.now.seen) }
+        ensures unheld { NoneHolds self.now.share (plain self.now.seen) }
     {
         self.tickets.len()
     }

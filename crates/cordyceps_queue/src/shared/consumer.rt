@@ -1,12 +1,12 @@
 //! Consumers of a shared queue, which have the right to dequeue.
-ghost use Rattle.std.specs.Prelude.{◌≡◌, ◌≤◌, List, map, take, true, is_ok, Err, MatchResult};
+ghost use Rattle.std.specs.Prelude.{◌≡◌, ◌≤◌, List, map, take, true, is_ok, Some, Err, MatchResult};
 ghost use Rattle.cordyceps_shared.specs.Histories.{plain};
 ghost use Rattle.cordyceps_shared.specs.Shares.{whole};
-ghost use Rattle.cordyceps_shared.specs.Standings.{Knows};
+ghost use Rattle.cordyceps_shared.specs.Standings.{Knows, name_of};
 ghost use Rattle.cordyceps_queue.specs.Shared.Batches.{TakesLinked};
-ghost use Rattle.cordyceps_queue.specs.History.{held};
+ghost use Rattle.cordyceps_queue.specs.History.{held, holder};
 ghost use Rattle.cordyceps_queue.specs.declared.cores.steps.TryDequeueError.TheVariants as error;
-ghost use Rattle.cordyceps_queue.specs.Shared.Calls.{Legal, Consumes, TakesRight, FindsBusy, GivesRight, IsCertain};
+ghost use Rattle.cordyceps_queue.specs.Shared.Calls.{Legal, NonePending, Consumes, TakesRight, FindsBusy, GivesRight, IsCertain};
 
 use crate::cores::steps::TryDequeueError;
 use crate::shared::batch::Batch;
@@ -106,10 +106,13 @@ pub(crate) fn give_right<T: Linked<Links<T>>>(
 }
 
 impl<E: Drop> Right<E> {
-    /// How many rooms the party has. To a contract it tells what every party knows.
+    /// How many rooms the party has. To a contract it tells what every party knows, and that its first name has the
+    /// right to dequeue.
     pub fn rooms(&self) -> usize
         ensures count { result ≡ self.now.rooms }
         ensures knows { Knows (λ h. Legal h) self.now }
+        ensures linked { NonePending self.now.share (plain self.now.seen) }
+        ensures held { holder (plain self.now.seen) ≡ Some (name_of self.now) }
     {
         self.tickets.len()
     }
@@ -206,10 +209,13 @@ impl<'a, T: Linked<Links<T>>> Consumer<'a, T> {
         take_batch(&queue.rooms.shared, &mut self.right, max)
     }
 
-    /// How many rooms the party has. To a contract it tells what every party knows.
+    /// How many rooms the party has. To a contract it tells what every party knows, and that its first name has the
+    /// right to dequeue.
     pub fn rooms(&self) -> usize
         ensures count { result ≡ self.now.rooms }
         ensures knows { Knows (λ h. Legal h) self.now }
+        ensures linked { NonePending self.now.share (plain self.now.seen) }
+        ensures held { holder (plain self.now.seen) ≡ Some (name_of self.now) }
     {
         self.right.rooms()
     }

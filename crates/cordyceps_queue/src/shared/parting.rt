@@ -2,8 +2,8 @@
 ghost use Rattle.std.specs.Prelude.{◌≡◌, ◌+◌, ◌≤◌, [], length, IfOk};
 ghost use Rattle.cordyceps_shared.specs.Histories.{plain};
 ghost use Rattle.cordyceps_shared.specs.Knowing.{IsKnown};
-ghost use Rattle.cordyceps_shared.specs.Shares.{whole};
-ghost use Rattle.cordyceps_queue.specs.Shared.Parting.{view_keeping, view_giving, view_absorbing, view_without_told, IsStill};
+ghost use Rattle.cordyceps_queue.specs.Shared.Calls.{NonePending, NoneHolds};
+ghost use Rattle.cordyceps_queue.specs.Shared.Parting.{view_keeping, view_giving, view_absorbing, view_without_told};
 ghost use Rattle.cordyceps_queue.specs.Shared.Plays.{IsResting, LegalReversed};
 ghost use Rattle.cordyceps_queue.specs.Shared.Rule.{IsTable};
 ghost use Rattle.cordyceps_queue.specs.Shared.View.{newcomer};
@@ -65,8 +65,10 @@ pub(crate) fn absorb<E: Drop>(words: &Words<E>, seat: &mut PartySeat<E>, other: 
     ensures views { seat.new.me ≡ (view_without_told (view_absorbing seat.old.me.0 other.me.0), []) }
     ensures known { IsKnown (λ h. LegalReversed h) (view_absorbing seat.old.me.0 other.me.0).known }
     ensures few { length seat.new.me.0.free ≤ words.now.table_id.slots }
-    ensures still { (view_absorbing seat.old.me.0 other.me.0).known.share ≡ whole
-        → IsStill (plain (view_absorbing seat.old.me.0 other.me.0).known.seen) }
+    ensures linked { let known = (view_absorbing seat.old.me.0 other.me.0).known in
+        NonePending known.share (plain known.seen) }
+    ensures unheld { let known = (view_absorbing seat.old.me.0 other.me.0).known in
+        NoneHolds known.share (plain known.seen) }
 {
     words.join_seat::<Merge>(seat, other);
     words.load::<Learn>(seat, 0);

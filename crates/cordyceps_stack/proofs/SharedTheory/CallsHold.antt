@@ -1,23 +1,24 @@
 -- What the calls of a shared transfer stack promise, from what their parts leave.
-use Rattle.std.proofs.Common.{◌≡◌, ◌+◌, ℕ, suc, List, [], ◌∷◌, ◌++◌, reverse, length, replicate, take, Bool, refl, sym, ap, ◌∙◌, subst, inl, inr, length-append}
+use Rattle.std.proofs.Common.{◌≡◌, ◌+◌, ℕ, suc, List, [], ◌∷◌, ◌++◌, reverse, length, replicate, take, drop, Bool, refl, sym, ap, ◌∙◌, subst, inl, inr, length-append}
 use Rattle.std.specs.Prelude.{◌⊎◌, IsTrue}
 use Rattle.atomic_table.specs.Seated.{TableId}
 use Rattle.cordyceps_shared.specs.Counts.{below}
 use Rattle.cordyceps_shared.specs.Histories.{plain, AllOwn}
 use Rattle.cordyceps_shared.specs.Knowing.{Known, Begins, IsKnown}
-use Rattle.cordyceps_shared.specs.Shares.{Name, whole, first_name}
+use Rattle.cordyceps_shared.specs.Shares.{Name, whole, first_name, IsShare}
 use Rattle.cordyceps_shared.specs.Standings.{name_of, new_party, Absorbs}
-use Rattle.cordyceps_shared.proofs.Adding.{replicate_more, not_whole, plain_unmarked, merged_front, adds_then, whole_adds}
+use Rattle.cordyceps_shared.proofs.Adding.{replicate_more, keeps_not_whole, not_whole, plain_unmarked, merged_front, adds_then, whole_adds}
 use Rattle.cordyceps_shared.proofs.Counting.{below_length}
-use Rattle.cordyceps_shared.proofs.Naming.{joined_some, joined_apart, gives_some}
-use Rattle.cordyceps_stack.specs.Shared.Parts.{HasMissed, TookAll, EmptiesHand, standing, IsSeated}
-use Rattle.cordyceps_stack.specs.History.{Event, Load, Push, Taken, held, Legal}
+use Rattle.cordyceps_shared.proofs.Naming.{joined_some, joined_apart, keeps_some, gives_some}
+use Rattle.cordyceps_shared.proofs.Ordering.{whole_share, keeps_share, gives_share, joined_share}
+use Rattle.cordyceps_stack.specs.Shared.Parts.{HasPushed, HasMissed, TookAll, EmptiesHand, standing, IsSeated}
+use Rattle.cordyceps_stack.specs.History.{Event, Load, Push, Taken, held, Legal, actor}
 use Rattle.cordyceps_stack.specs.Cores.Stages.{room_elements}
-use Rattle.cordyceps_stack.specs.Shared.Plays.{SeatState, to_hand_out}
-use Rattle.cordyceps_stack.specs.Shared.Parting.{view_giving, view_absorbing, view_without_told}
+use Rattle.cordyceps_stack.specs.Shared.Plays.{SeatState, Sees, to_hand_out}
+use Rattle.cordyceps_stack.specs.Shared.Parting.{view_keeping, view_giving, view_absorbing, view_without_told}
 use Rattle.cordyceps_stack.specs.Shared.Rule.{IsTable}
-use Rattle.cordyceps_stack.specs.Shared.Calls.{PartyOf, PushesAt, Misses, Takes, Adds, EndsPushed}
-use Rattle.cordyceps_stack.specs.Shared.View.{newcomer}
+use Rattle.cordyceps_stack.specs.Shared.Calls.{PartyOf, PushesAt, Misses, Takes, Looks, Adds, EndsPushed, EndsLooked}
+use Rattle.cordyceps_stack.specs.Shared.View.{View, newcomer, name}
 use Rattle.cordyceps_stack.proofs.SharedTheory.PartsJoin.{not_overtaken}
 use Rattle.cordyceps_stack.proofs.Histories.{legal_none}
 
@@ -29,10 +30,21 @@ module _ {E : Type 0} where
     free = ap (λ (q : SeatState E). q.0.free) is ∙ sym have;
     legal = subst (λ (q : SeatState E). Legal (plain q.0.known.seen)) (sym is) legal_none;
     alone = λ _. subst (λ (q : SeatState E). AllOwn q.0.known.seen) (sym is) tt;
+    share = subst (λ (q : SeatState E). IsShare q.0.known.share) (sym is) whole_share;
   }
 
   pub new_standing : (z table : TableId) (rooms : ℕ) (m : SeatState E) → z ≡ table → m ≡ (newcomer rooms, []) → standing z m.0 ≡ new_party table rooms
   new_standing z table rooms m at is = (λ i. standing (at i) (is i).0) ∙ ap (λ n. let p : PartyOf E = new_party table n in p) (below_length rooms)
+
+  pub kept_seated : (z z' : TableId) (n : ℕ) (m k : SeatState E) (tickets left : List ℕ) → IsSeated z m tickets → z' ≡ z → k ≡ (view_keeping n m.0, []) → left ≡ drop n tickets → IsSeated z' k left
+  kept_seated z z' n m k tickets left s at is have = record {
+    table = subst (λ q. IsTable q) (sym at) s.table;
+    rests = (ap (λ (q : SeatState E). q.0.doing) is ∙ s.rests.0, ap (λ (q : SeatState E). q.1) is, λ e. keeps_some m.0.known.share s.rests.2 (sym (ap (λ (q : SeatState E). q.0.known.share) is) ∙ e));
+    free = ap (λ (q : SeatState E). q.0.free) is ∙ (ap (drop n) s.free ∙ sym have);
+    legal = subst (λ (q : SeatState E). Legal (plain q.0.known.seen)) (sym is) s.legal;
+    alone = λ e. absurd (keeps_not_whole m.0.known.share (sym (ap (λ (q : SeatState E). q.0.known.share) is) ∙ e));
+    share = subst (λ (q : SeatState E). IsShare q.0.known.share) (sym is) (keeps_share m.0.known.share s.share);
+  }
 
   pub given_seated : (z z' : TableId) (n : ℕ) (m k : SeatState E) (tickets some_of : List ℕ) → IsSeated z m tickets → z' ≡ z → k ≡ (view_giving n m.0, []) → some_of ≡ take n tickets → IsSeated z' k some_of
   given_seated z z' n m k tickets some_of s at is have = record {
@@ -41,15 +53,18 @@ module _ {E : Type 0} where
     free = ap (λ (q : SeatState E). q.0.free) is ∙ (ap (take n) s.free ∙ sym have);
     legal = subst (λ (q : SeatState E). Legal (plain q.0.known.seen)) (sym is) (subst (λ h. Legal h) (sym (plain_unmarked m.0.known.seen)) s.legal);
     alone = λ e. absurd (not_whole m.0.known.share (sym (ap (λ (q : SeatState E). q.0.known.share) is) ∙ e));
+    share = subst (λ (q : SeatState E). IsShare q.0.known.share) (sym is) (gives_share m.0.known.share s.share);
   }
 
-  pub absorbed_seated : (z z' : TableId) (m o k : SeatState E) (mine theirs all : List ℕ) → IsSeated z m mine → o.0.free ≡ theirs → z' ≡ z → k ≡ (view_without_told (view_absorbing m.0 o.0), []) → IsKnown (λ h. Legal h) (view_absorbing m.0 o.0).known → all ≡ mine ++ theirs → IsSeated z' k all
-  absorbed_seated z z' m o k mine theirs all s their at is known have = record {
+  pub absorbed_seated : (z y z' : TableId) (m o k : SeatState E) (mine theirs all : List ℕ) → IsSeated z m mine → IsSeated y o theirs → z' ≡ z → k ≡ (view_without_told (view_absorbing m.0 o.0), []) → IsKnown (λ h. Legal h) (view_absorbing m.0 o.0).known → all ≡ mine ++ theirs → IsSeated z' k all
+  absorbed_seated z y z' m o k mine theirs all s other at is known have = record {
     table = subst (λ q. IsTable q) (sym at) s.table;
     rests = (ap (λ (q : SeatState E). q.0.doing) is, ap (λ (q : SeatState E). q.1) is, λ e. joined_some m.0.known.share o.0.known.share s.rests.2 (sym (ap (λ (q : SeatState E). q.0.known.share) is) ∙ e));
-    free = ap (λ (q : SeatState E). q.0.free) is ∙ ((λ i. s.free i ++ their i) ∙ sym have);
+    free = ap (λ (q : SeatState E). q.0.free) is ∙ ((λ i. s.free i ++ other.free i) ∙ sym have);
     legal = subst (λ (q : SeatState E). Legal (plain q.0.known.seen)) (sym is) known.legal;
     alone = λ e. subst (λ (q : SeatState E). AllOwn q.0.known.seen) (sym is) (known.alone (sym (ap (λ (q : SeatState E). q.0.known.share) is) ∙ e));
+    share = subst (λ (q : SeatState E). IsShare q.0.known.share) (sym is)
+        (joined_share m.0.known.share o.0.known.share (joined_apart known.long m.0.known.share o.0.known.share known.once) s.share other.share);
   }
 
   pub absorbs : (z y z' : TableId) (m o k : SeatState E) → z' ≡ z → k ≡ (view_without_told (view_absorbing m.0 o.0), []) → IsKnown (λ h. Legal h) (view_absorbing m.0 o.0).known → Absorbs (λ h. Legal h) (standing z m.0) (standing y o.0) (standing z' k.0)
@@ -66,6 +81,19 @@ module _ {E : Type 0} where
     rooms = ap (λ (q : SeatState E). length q.0.free) is ∙ length-append m.0.free o.0.free;
   }
 
+  -- ---- what a call added
+  pub adds : (z z' : TableId) (v w : View E) (es : List (Event Name E)) → Sees v es w → z' ≡ z → Adds (standing z v) es (standing z' w)
+  adds z z' v w es g at = (record { rest = g.rest; is = g.is; adds = g.adds; foreign = g.foreign; legal = g.legal; share = g.share; alone = g.alone }, at)
+
+  pub pushes_once : (z z' : TableId) (ticket : ℕ) (x : E) (first : Bool) (m k : SeatState E) → HasPushed ticket x first m k → z' ≡ z → PushesAt 1 x first (standing z m.0) (standing z' k.0)
+  pushes_once z z' ticket x first m k h at = (adds z z' m.0 k.0 (Load (name m.0) ∷ Push (name m.0) x ∷ []) h.sees at, h.ends, ap (λ (ys : List ℕ). length ys) h.free)
+
+  pub misses_once : (z z' : TableId) (m k : SeatState E) → HasMissed m k → z' ≡ z → Misses (standing z m.0) (standing z' k.0)
+  misses_once z z' m k h at = (adds z z' m.0 k.0 (Load (name m.0) ∷ []) h.sees at, h.overtaken, ap (λ (ys : List ℕ). length ys) h.free)
+
+  pub looks_once : (z z' : TableId) (none : Bool) (m k : SeatState E) → Sees m.0 (Load (name m.0) ∷ []) k.0 → EndsLooked (IsTrue none) (name m.0) k.0.known.seen → k.0.free ≡ m.0.free → z' ≡ z → Looks none (standing z m.0) (standing z' k.0)
+  looks_once z z' none m k g ends free at = (adds z z' m.0 k.0 (Load (name m.0) ∷ []) g at, ends, ap (λ (ys : List ℕ). length ys) free)
+
   length_elements : (xs : List (ℕ × E)) → length (room_elements xs) ≡ length xs
   length_elements [] = refl
   length_elements (x ∷ xs) = ap suc (length_elements xs)
@@ -78,6 +106,7 @@ module _ {E : Type 0} where
             rest = g.rest;
             is = ap (λ (q : Known (Event Name E)). q.seen) h.known ∙ g.is;
             adds = g.adds;
+            foreign = g.foreign;
             legal = subst (λ (q : Known (Event Name E)). Legal (plain q.seen)) (sym h.known) g.legal;
             share = ap (λ (q : Known (Event Name E)). q.share) h.known ∙ g.share;
             alone = λ e. subst (λ (q : Known (Event Name E)). AllOwn q.seen) (sym h.known) (g.alone (sym (ap (λ (q : Known (Event Name E)). q.share) h.known) ∙ e));
@@ -93,7 +122,7 @@ module _ {E : Type 0} where
 
   -- a whole party takes exactly what its history holds
   pub takes_held : (u w : PartyOf E) (batch : List E) → u.share ≡ whole → Takes batch u w → batch ≡ reverse (held (plain u.seen))
-  takes_held u w batch is t = t.0.0.legal (plain u.seen) [] (name_of u) batch (whole_adds (λ h. Legal h) u w (Taken (name_of u) batch ∷ []) is t.0)
+  takes_held u w batch is t = t.0.0.legal (plain u.seen) [] (name_of u) batch (whole_adds actor (λ h. Legal h) u w (Taken (name_of u) batch ∷ []) is t.0)
 
   -- ---- tries
   -- as yet no try, or so many that failed
@@ -107,7 +136,7 @@ module _ {E : Type 0} where
   loads_then u v w tries es a b =
       let n = same_name u v (replicate tries (Load (name_of u))) a in
       subst (λ xs. Adds u xs w) (replicate_more tries (Load (name_of u)) (es (name_of u)))
-      (adds_then (λ h. Legal h) u v w (replicate tries (Load (name_of u))) (Load (name_of u) ∷ es (name_of u)) a (subst (λ q. Adds v (Load q ∷ es q) w) n b))
+      (adds_then actor (λ h. Legal h) u v w (replicate tries (Load (name_of u))) (Load (name_of u) ∷ es (name_of u)) a (subst (λ q. Adds v (Load q ∷ es q) w) n b))
 
   none_more : (xs : List (Event Name E)) → xs ++ [] ≡ xs
   none_more [] = refl

@@ -13,7 +13,7 @@ use Rattle.cordyceps_shared.proofs.Places.{at_below, empty_new, empty_drop, empt
 use Rattle.cordyceps_shared.proofs.Renaming.{renamed_else, relabel, events_relabel, relabel_append, without_relabel}
 use Rattle.cordyceps_shared.proofs.Standing as seats
 use Rattle.cordyceps_shared.proofs.Telling.{owned_same, fits_forgot}
-use Rattle.cordyceps_stack.specs.History.{Event, Load, Taken, held, Legal, SomeChange}
+use Rattle.cordyceps_stack.specs.History.{Event, Load, Taken, held, Legal, actor, SomeChange}
 use Rattle.cordyceps_stack.specs.Shared.View.{Idle, View, knows, newcomer, at_work, count_with_party}
 use Rattle.cordyceps_stack.specs.Shared.Words.{History, Since, AtDoing}
 use Rattle.cordyceps_shared.specs.Slots.{Homes, EmptyAtHome}
@@ -31,7 +31,7 @@ module _ (E : Type 0) where
   pub opens : (rooms : ℕ) (words : List ℕ) → length words ≡ suc rooms → get_or words 0 0 ≡ 0 → RuleHolds {E = E} (opening words (replicate rooms None) (newcomer rooms))
   opens rooms words wide zeros =
       let first : View E = newcomer rooms in
-      let known = seats.opens knows first refl in record {
+      let known = seats.opens actor knows first refl in record {
         history = [];
         chain = [];
         meets = record {
@@ -60,7 +60,7 @@ module _ {E : Type 0} where
         wide = k.wide;
         full = k.full;
         empty = set_more (λ _ u. EmptyAtHome s.homes u.free) s.views id left right (empty_drop s.homes n v.free (k.empty id v at)) (empty_take s.homes n v.free (k.empty id v at)) (λ i u _ e. k.empty i u e);
-        fits = fits_cut knows s.views k.history id v left right at refl refl k.owned k.fits;
+        fits = fits_cut actor knows s.views k.history id v left right at refl refl k.owned k.fits;
         owned = owned_cut knows s.views k.history id v left right at refl refl named k.owned;
       }
 
@@ -98,7 +98,7 @@ module _ {E : Type 0} where
         wide = k.wide;
         full = k.full;
         empty = two_set (λ _ u. EmptyAtHome s.homes u.free) s.views id other (view_absorbing v w) view_absorbed (empty_append s.homes v.free w.free (k.empty id v at) (k.empty other w there_first)) (λ i r a. absurd a) (λ i u _ _ e. k.empty i u e);
-        fits = fits_join knows s.views k.history id other v w (view_absorbing v w) view_absorbed at apart there refl refl k.fits;
+        fits = fits_join actor knows s.views k.history id other v w (view_absorbing v w) view_absorbed at apart there refl refl k.fits;
         owned = owned_join knows s.views k.history id other v w (view_absorbing v w) view_absorbed at apart there refl refl named k.owned;
       }
 
@@ -113,6 +113,6 @@ module _ {E : Type 0} where
         tt,
         unwritten s 0 s.homes (set s.views id w)
             (step_keeps s k id v w s.words s.homes k.chain k.history at meets refl refl k.full (k.empty id v at) (λ _ _ _ _ _ _. refl)
-            (fits_forgot knows s.views k.history id v w at refl refl k.fits) (owned_same knows s.views k.history id v w at refl k.owned)),
-        (refl, refl, seats.is_known knows (λ z. Legal z) legal_front s.views k.history id v k.owned k.fits at k.meets.legal, omega arith),
+            (fits_forgot actor knows s.views k.history id v w at refl refl refl k.fits) (owned_same knows s.views k.history id v w at refl k.owned)),
+        (refl, refl, seats.is_known actor knows (λ z. Legal z) legal_front s.views k.history id v k.owned k.fits at k.meets.legal, omega arith),
       )

@@ -7,7 +7,7 @@ use Rattle.cordyceps_shared.specs.Knowing.{Known, Grown}
 use Rattle.cordyceps_shared.specs.Shares.{Name, first_name}
 use Rattle.cordyceps_shared.proofs.Adding.{tail_own}
 use Rattle.cordyceps_shared.proofs.Telling.{grown_then}
-use Rattle.cordyceps_stack.specs.History.{Event, Load, Push, Legal, SomeChange}
+use Rattle.cordyceps_stack.specs.History.{Event, Load, Push, Legal, SomeChange, actor}
 use Rattle.cordyceps_stack.specs.Shared.Plays.{SeatState, Sees, carry, Near, IsWalking, to_hand_out}
 use Rattle.cordyceps_shared.specs.Slots.{full_slot}
 use Rattle.cordyceps_stack.specs.Shared.Calls.{EndsPushed, EndsLooked, IsOvertaken}
@@ -22,11 +22,11 @@ module _ {E : Type 0} where
   pub then_pushed : (v w u k : View E) (x : E) → Sees v (Load (name v) ∷ []) w → u.known ≡ w.known → Sees u (Push (name u) x ∷ []) k → Sees v (Load (name v) ∷ Push (name v) x ∷ []) k
   then_pushed v w u k x a same b =
       let n : name u ≡ name v = ap (λ (z : Known (Event Name E)). first_name z.share) same ∙ ap first_name a.share in
-      grown_then (λ h. Legal h) v.known w.known k.known (Load (name v) ∷ []) (Push (name v) x ∷ []) a
-      (subst (λ (p : Known (Event Name E) × Name). Grown (λ h. Legal h) p.0 (Push p.1 x ∷ []) k.known) (λ i. (same i, n i)) b)
+      grown_then actor (λ h. Legal h) v.known w.known k.known (Load (name v) ∷ []) (Push (name v) x ∷ []) a
+      (subst (λ (p : Known (Event Name E) × Name). Grown actor (λ h. Legal h) p.0 (Push p.1 x ∷ []) k.known) (λ i. (same i, n i)) b)
 
   pub then_missed : (v w u k : View E) → Sees v (Load (name v) ∷ []) w → u.known ≡ w.known → Sees u [] k → Sees v (Load (name v) ∷ []) k
-  then_missed v w u k a same b = grown_then (λ h. Legal h) v.known w.known k.known (Load (name v) ∷ []) [] a (subst (λ (p : Known (Event Name E)). Grown (λ h. Legal h) p [] k.known) same b)
+  then_missed v w u k a same b = grown_then actor (λ h. Legal h) v.known w.known k.known (Load (name v) ∷ []) [] a (subst (λ (p : Known (Event Name E)). Grown actor (λ h. Legal h) p [] k.known) same b)
 
   pub same_name : (v w u : View E) (es : List (Event Name E)) → Sees v es w → u.known ≡ w.known → name u ≡ name v
   same_name v w u es a same = ap (λ (z : Known (Event Name E)). first_name z.share) same ∙ ap first_name a.share

@@ -4,7 +4,7 @@ use Rattle.std.proofs.lemmas.List.{map-append, length-map, append-nil, length-re
 use Rattle.cordyceps_shared.specs.Shares.{Name}
 use Rattle.cordyceps_shared.specs.Standings.{name_of}
 use Rattle.cordyceps_shared.proofs.Moving.{moves_by}
-use Rattle.cordyceps_stack.specs.History.{Event, Load, Push, Taken, pushes, taken, held, Legal}
+use Rattle.cordyceps_stack.specs.History.{Event, Load, Push, Taken, pushes, taken, held, Legal, actor}
 use Rattle.cordyceps_stack.specs.Shared.Calls.{PartyOf, Adds, PushesAt, Misses, Takes, Looks}
 use Rattle.cordyceps_stack.specs.Shared.Moves.{put_by, got_by, Moves}
 use Rattle.cordyceps_stack.proofs.Histories.{nothing_lost}
@@ -42,7 +42,7 @@ module _ {E A : Type 0} (f : E → A) where
       → w.rooms + length sent ≡ u.rooms + length got → Moves f sent got u w
   moved u w es sent got a put got_is rooms =
       subst (λ (z : List A × List A). Moves f z.0 z.1 u w) (λ i. (put i, got_is i))
-      (moves_by (put_by f) (got_by f) (λ h. Legal h) u w es a (omega (arith, rooms, ap (λ (z : List A). length z) put, ap (λ (z : List A). length z) got_is)))
+      (moves_by (put_by f) (got_by f) (λ h. Legal h) actor u w es a (omega (arith, rooms, ap (λ (z : List A). length z) put, ap (λ (z : List A). length z) got_is)))
 
   -- ---- one call
   pub moves_push : (n : ℕ) (e : E) (first : Bool) (u w : PartyOf E) → PushesAt n e first u w → Moves f (f e ∷ []) [] u w

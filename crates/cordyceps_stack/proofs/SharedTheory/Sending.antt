@@ -10,7 +10,7 @@ use Rattle.cordyceps_shared.specs.Standings.{name_of, new_party, Absorbs}
 use Rattle.cordyceps_shared.proofs.Adding.{whole_adds}
 use Rattle.cordyceps_shared.proofs.Moving.{moves_then}
 use Rattle.cordyceps_shared.proofs.Sending as parties
-use Rattle.cordyceps_stack.specs.History.{Load, Push, held, Legal}
+use Rattle.cordyceps_stack.specs.History.{Load, Push, held, Legal, actor}
 use Rattle.cordyceps_stack.specs.Shared.Calls.{PartyOf, PushesAt, Takes}
 use Rattle.cordyceps_stack.specs.Shared.Moves.{put_by, got_by, Moves}
 use Rattle.cordyceps_stack.proofs.Histories.{held_from-append}
@@ -39,4 +39,4 @@ pub held_pushed : {E : Type 0} (e : E) (first : Bool) (u w : PartyOf E) → u.sh
     → held (plain w.seen) ≡ held (plain u.seen) ++ e ∷ []
 held_pushed e first u w alone a =
     let events = Load (name_of u) ∷ Push (name_of u) e ∷ [] in
-    ap (λ h. held h) (whole_adds (λ h. Legal h) u w events alone a.0) ∙ held_from-append [] (plain u.seen) events
+    ap (λ h. held h) (whole_adds actor (λ h. Legal h) u w events alone a.0) ∙ held_from-append [] (plain u.seen) events

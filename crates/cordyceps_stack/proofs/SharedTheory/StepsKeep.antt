@@ -13,7 +13,7 @@ use Rattle.atomic_table.specs.Table as table
 use Rattle.atomic_table.proofs.Lists.{set_here, set_else}
 use Rattle.cordyceps_shared.specs.Counts.{one_if, times}
 use Rattle.cordyceps_shared.specs.Histories.{events, marked, plain, of_seat}
-use Rattle.cordyceps_shared.specs.Knowing.{Known, SharesApart, AllAgree, all_seen}
+use Rattle.cordyceps_shared.specs.Knowing.{Known, Under, SharesApart, AllAgree, all_seen}
 use Rattle.cordyceps_shared.specs.Shares.{Name}
 use Rattle.cordyceps_shared.proofs.Choices.{some_or, first_or, rest_from}
 use Rattle.cordyceps_shared.proofs.Changing.{one_set}
@@ -22,7 +22,7 @@ use Rattle.cordyceps_shared.proofs.Places.{times_some, times_at, empty_cons}
 use Rattle.cordyceps_shared.proofs.Seeing.{marked_append, plain_marked, own_without}
 use Rattle.cordyceps_shared.proofs.Telling.{at_length, owned_same, fits_same, tells}
 use Rattle.cordyceps_shared.specs.declared.slots.Filled.{Filled}
-use Rattle.cordyceps_stack.specs.History.{Event, Load, Push, Taken, held, Legal, SomeChange}
+use Rattle.cordyceps_stack.specs.History.{Event, Load, Push, Taken, held, Legal, actor, SomeChange}
 use Rattle.cordyceps_stack.specs.Cores.Stages.{room_elements}
 use Rattle.cordyceps_stack.specs.Shared.View.{Doing, Idle, Loaded, Set, Missed, Walking, View, knows, name, walking, in_chain, at_work, count_with_party}
 use Rattle.cordyceps_stack.specs.Shared.Words.{History, head, start, Since, AtDoing, WordsMeet}
@@ -80,23 +80,23 @@ module _ {E : Type 0} where
 
   -- ---- what a step keeps
   -- the party j sees all, and adds these events
-  told : (s : TableState E) (k : RuleHolds s) (j : ℕ) (es : List (Event Name E)) (v w : View E) (h : History E) → get_elem? s.views j ≡ some v → v.known.share ≢ [] → h ≡ k.history ++ of_seat j es
-      → w.known ≡ all_seen j h v.known.share → Legal (events h) → SharesApart knows (set s.views j w) h × AllAgree knows (set s.views j w) h × Sees v es w
-  told s k j es v w h at named is sees legal =
-      let t = tells knows (λ z. Legal z) s.views k.history j es v w k.owned k.fits at named (sees ∙ ap (λ z. all_seen j z v.known.share) is) (subst (λ z. Legal (events z)) is legal) in
-      (subst (SharesApart knows (set s.views j w)) (sym is) t.owned, subst (AllAgree knows (set s.views j w)) (sym is) t.fits, t.grown)
+  told : (s : TableState E) (k : RuleHolds s) (j : ℕ) (es : List (Event Name E)) (v w : View E) (h : History E) → get_elem? s.views j ≡ some v → v.known.share ≢ [] → Under actor (name v) es → h ≡ k.history ++ of_seat j es
+      → w.known ≡ all_seen j h v.known.share → Legal (events h) → SharesApart knows (set s.views j w) h × AllAgree actor knows (set s.views j w) h × Sees v es w
+  told s k j es v w h at named under is sees legal =
+      let t = tells actor knows (λ z. Legal z) s.views k.history j es v w k.owned k.fits at named under (sees ∙ ap (λ z. all_seen j z v.known.share) is) (subst (λ z. Legal (events z)) is legal) in
+      (subst (SharesApart knows (set s.views j w)) (sym is) t.owned, subst (AllAgree actor knows (set s.views j w)) (sym is) t.fits, t.grown)
 
   -- the party j sees nothing
-  untold : (s : TableState E) (k : RuleHolds s) (j : ℕ) (v w : View E) → get_elem? s.views j ≡ some v → w.known ≡ v.known → SharesApart knows (set s.views j w) k.history × AllAgree knows (set s.views j w) k.history
+  untold : (s : TableState E) (k : RuleHolds s) (j : ℕ) (v w : View E) → get_elem? s.views j ≡ some v → w.known ≡ v.known → SharesApart knows (set s.views j w) k.history × AllAgree actor knows (set s.views j w) k.history
   untold s k j v w at same = (
     owned_same knows s.views k.history j v w at (ap (λ (z : Known (Event Name E)). z.share) same) k.owned,
-    fits_same knows s.views k.history j v w at (ap (λ (z : Known (Event Name E)). z.seen) same) (ap (λ (z : Known (Event Name E)). z.had) same) (ap (λ (z : Known (Event Name E)). z.told) same) k.fits,
+    fits_same actor knows s.views k.history j v w at (ap (λ (z : Known (Event Name E)). z.share) same) (ap (λ (z : Known (Event Name E)). z.seen) same) (ap (λ (z : Known (Event Name E)). z.had) same) (ap (λ (z : Known (Event Name E)). z.told) same) k.fits,
   )
 
   pub step_keeps : (s : TableState E) (k : RuleHolds s) (j : ℕ) (v w : View E) (words : List ℕ) (homes : Homes E) (chain : List (ℕ × E)) (h : History E) → get_elem? s.views j ≡ some v
       → WordsMeet words chain (set s.views j w) h → length words ≡ length s.words → length homes ≡ length s.homes → FullAtHome homes chain → EmptyAtHome homes w.free
       → ((i : ℕ) (u : View E) (r : ℕ) → i ≢ j → get_elem? s.views i ≡ some u → 1 ≤ times r u.free → get_elem? homes r ≡ get_elem? s.homes r)
-      → AllAgree knows (set s.views j w) h → SharesApart knows (set s.views j w) h
+      → AllAgree actor knows (set s.views j w) h → SharesApart knows (set s.views j w) h
       → RuleHolds record { words = words; homes = homes; views = set s.views j w }
   step_keeps s k j v w words homes chain h at meets wide deep full empty same fits owned = record {
     history = h;
@@ -150,7 +150,7 @@ module _ {E : Type 0} where
       let h = k.history ++ (id, x) ∷ [] in
       let w = view_after v id h v.free Idle in
       let meets = loads s.words k.chain s.views k.history id v w (name v) k.meets at (λ q. let c = ap (at_work q) idle in omega arith) tt in
-      let t = told s k id (x ∷ []) v w h at named refl refl meets.legal in (
+      let t = told s k id (x ∷ []) v w h at named (refl, tt) refl refl meets.legal in (
         w,
         keeps,
         tt,
@@ -183,7 +183,7 @@ module _ {E : Type 0} where
       let empty : EmptyAtHome s.homes (r ∷ rs) = subst (EmptyAtHome s.homes) free (k.empty id v at) in
       let moves = slot_moves s k id v r none at mine in
       let meets = loads s.words k.chain s.views k.history id v w (name v) k.meets at (λ q. let e = was q in omega arith) (since_now s.words k.history id (name v)) in
-      let t = told s k id (x ∷ []) v w h at named refl refl meets.legal in (
+      let t = told s k id (x ∷ []) v w h at named (refl, tt) refl refl meets.legal in (
         w,
         takes r None,
         empty 0 r refl,
@@ -245,7 +245,7 @@ module _ {E : Type 0} where
       let wide = k.wide in
       let meets = pushes s.words k.chain s.views k.history id v w r read (name v) x k.meets at poised.doing refl refl top (omega arith) in
       let moves = slot_moves s k id v r y at mine in
-      let t = told s k id (e ∷ []) v w h at poised.named refl refl meets.legal in
+      let t = told s k id (e ∷ []) v w h at poised.named (refl, tt) refl refl meets.legal in
       let kept = step_keeps s k id v w (set s.words 0 (suc r)) (set s.homes r y) ((r, x) ∷ k.chain) h at meets (length-set s.words 0 (suc r)) (length-set s.homes r y)
       (set_here s.homes r y (omega arith), moves.0) (empty_else s.homes r y v.free none_free (k.empty id v at)) moves.1 t.1 t.0 in (
         w,
@@ -272,7 +272,7 @@ module _ {E : Type 0} where
       let w = view_after v id h v.free (Missed r) in
       let known : AtDoing s.words h id (Set r read) = subst (λ (d : Doing E). AtDoing s.words h id d) poised.doing (k.meets.each id v at) in
       let meets = rests s.words k.chain s.views h id v w k.meets at (λ q. let c = ap (at_work q) poised.doing in omega arith) tt in
-      let t = told s k id [] v w h at poised.named (sym (append-nil h)) refl meets.legal in (
+      let t = told s k id [] v w h at poised.named tt (sym (append-nil h)) refl meets.legal in (
         w,
         keeps,
         tt,
@@ -384,7 +384,7 @@ module _ {E : Type 0} where
       let w = view_after v id h v.free (walking xs) in
       let wide = k.wide in
       let meets = takes_all s.words xs s.views k.history id v w (name v) k.meets at idle refl refl (omega arith) in
-      let t = told s k id (e ∷ []) v w h at named refl refl meets.legal in
+      let t = told s k id (e ∷ []) v w h at named (refl, tt) refl refl meets.legal in
       let homes = homes_after s.homes me.1 (all_of xs) in
       let stays : (u : View E) (i q : ℕ) → get_elem? s.views i ≡ some u → 1 ≤ times q u.free → get_elem? homes q ≡ get_elem? s.homes q =
       λ u i q there m. homes_else xs s.homes me.1 q (alone s k i u q there (omega arith)) in (

@@ -4,7 +4,7 @@ use Rattle.cordyceps_shared.specs.Histories.{plain, own}
 use Rattle.cordyceps_shared.specs.Shares.{Name}
 use Rattle.cordyceps_shared.specs.Standings.{Standing, name_of}
 use Rattle.cordyceps_shared.specs.Standings as parties
-use Rattle.cordyceps_stack.specs.History.{Event, Load, Push, Taken, held, Legal, SomeChange}
+use Rattle.cordyceps_stack.specs.History.{Event, Load, Push, Taken, held, Legal, actor, SomeChange}
 
 -- what a contract sees of a party
 abbrev pub PartyOf : Type 0 → Type 0
@@ -32,9 +32,9 @@ module _ {E : Type 0} where
     pub others : own later ≡ []
     pub changed : SomeChange (plain later)
 
-  -- the party has seen more, with exactly these events of its own
+  -- the party has seen more, with exactly these events of its own; those of others carry no name of its share
   abbrev pub Adds : PartyOf E → List (Event Name E) → PartyOf E → Type 0
-  Adds u es w = parties.Adds (λ h. Legal h) u es w
+  Adds u es w = parties.Adds actor (λ h. Legal h) u es w
 
   -- it pushed e at its n-th try, which took a room, and `first` tells whether nothing was held before
   abbrev pub PushesAt : ℕ → E → Bool → PartyOf E → PartyOf E → Type 0

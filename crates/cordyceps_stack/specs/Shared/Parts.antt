@@ -2,7 +2,7 @@
 use Rattle.std.specs.Prelude.{◌≡◌, ℕ, ◌+◌, ◌<◌, ◌≤◌, List, [], ◌∷◌, length, Some, None, Bool, true, false, IsTrue}
 use Rattle.atomic_table.specs.Seated.{TableId}
 use Rattle.cordyceps_shared.specs.Histories.{plain, AllOwn}
-use Rattle.cordyceps_shared.specs.Shares.{whole}
+use Rattle.cordyceps_shared.specs.Shares.{whole, IsShare}
 use Rattle.cordyceps_shared.specs.declared.slots.Filled.{Filled}
 use Rattle.cordyceps_stack.specs.History.{Load, Push, Taken, Legal}
 use Rattle.cordyceps_stack.specs.Cores.Stages.{room_elements}
@@ -75,10 +75,11 @@ module _ {E : Type 0} where
   standing z v = record { table = z; seen = v.known.seen; share = v.known.share; rooms = length v.free }
 
   -- the party is between two calls, has the tickets of its free rooms, and has seen a legal history, a whole party with no
-  -- event of another
+  -- event of another; and its names are a share
   pub record IsSeated (z : TableId) (m : SeatState E) (tickets : List ℕ) : Type 0 where
     pub table : IsTable z
     pub rests : IsResting m
     pub free : m.0.free ≡ tickets
     pub legal : Legal (plain m.0.known.seen)
     pub alone : m.0.known.share ≡ whole → AllOwn m.0.known.seen
+    pub share : IsShare m.0.known.share

@@ -5,7 +5,7 @@ use Rattle.atomic_table.specs.Table.{Me}
 use Rattle.cordyceps_shared.specs.Knowing.{Grown}
 use Rattle.cordyceps_shared.specs.Shares.{Name}
 use Rattle.cordyceps_shared.specs.declared.slots.Filled.{Filled}
-use Rattle.cordyceps_stack.specs.History.{Event, Load, Push, Taken, Legal}
+use Rattle.cordyceps_stack.specs.History.{Event, Load, Push, Taken, Legal, actor}
 use Rattle.cordyceps_stack.specs.Cores.Stages.{room_elements}
 use Rattle.cordyceps_stack.specs.Shared.Calls.{EndsPushed, EndsLooked, IsOvertaken}
 use Rattle.cordyceps_stack.specs.Shared.View.{Doing, Idle, Loaded, Set, Missed, Walking, View, name, walking}
@@ -18,7 +18,7 @@ SeatState E = Me (Option (Filled E)) (View E)
 module _ {E : Type 0} where
   -- the party has seen more, with these events of its own
   abbrev pub Sees : View E → List (Event Name E) → View E → Type 0
-  Sees v es w = Grown (λ h. Legal h) v.known es w.known
+  Sees v es w = Grown actor (λ h. Legal h) v.known es w.known
 
   -- the filled slots of these rooms, in front of others in hand
   abbrev pub carry : List (ℕ × E) → Hand E → Hand E

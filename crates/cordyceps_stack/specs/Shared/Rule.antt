@@ -8,6 +8,7 @@ use Rattle.cordyceps_base.specs.declared.shared.TheConstants.{MAX_ROOMS}
 use Rattle.cordyceps_shared.specs.Knowing.{SharesApart, AllAgree}
 use Rattle.cordyceps_shared.specs.Slots.{Homes, full_slot, EmptyAtHome}
 use Rattle.cordyceps_shared.specs.declared.slots.Filled.{Filled}
+use Rattle.cordyceps_stack.specs.History.{actor}
 use Rattle.cordyceps_stack.specs.Shared.View.{View, knows}
 use Rattle.cordyceps_stack.specs.Shared.Words.{History, WordsMeet}
 
@@ -28,7 +29,7 @@ module _ {E : Type 0} where
     pub wide : length s.words ≡ suc (length s.homes)
     pub full : FullAtHome s.homes chain
     pub empty : (j : ℕ) (v : View E) → get_elem? s.views j ≡ some v → EmptyAtHome s.homes v.free
-    pub fits : AllAgree knows s.views history
+    pub fits : AllAgree actor knows s.views history
     pub owned : SharesApart knows s.views history
 
 -- a link for each slot, and head, for at most as many rooms as a stack may have

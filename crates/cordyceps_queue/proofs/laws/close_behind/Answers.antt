@@ -22,8 +22,11 @@ loop-handle-preserved g c =
       rooms = omega (arith, i.rooms, d.1, ap length first);
     }
 
-pub returns : goal.returns
-returns g c =
+pub returns-clause-stub : goal.returns-clause-stub
+returns-clause-stub g c = c.close.ensures.stub
+
+pub returns-clause-elements : goal.returns-clause-elements
+returns-clause-elements g c =
     let i = c.loop-handle.invariant in
     let held_then = map g.T.Linked.element (held (plain c.loop-handle.party.seen)) in
     c.close.ensures.elements ∙ (sym (append-nil held_then) ∙ (ap (λ xs. held_then ++ xs) (sym c.in_default.ensures.steps.0) ∙ i.behind))

@@ -6,7 +6,8 @@ use Rattle.cordyceps.specs.Parties.Shares.{Name}
 use Rattle.cordyceps.specs.Parties.Standings.{new_party, keeping, giving, name_of, Absorbs}
 use Rattle.cordyceps.proofs.Parties.Acting.{acts_none, acts_then, acts_of, acts_alone, acts_both}
 use Rattle.cordyceps.proofs.Parties.Interleaving.{only_right}
-use Rattle.cordyceps.specs.Transfers.History.{Event, Load, Push, held, held_from, Legal}
+use Rattle.cordyceps.proofs.Parties.Ordering.{whole_share}
+use Rattle.cordyceps.specs.Transfers.History.{Event, Load, Push, held, held_from, Legal, actor}
 use Rattle.cordyceps.specs.Transfers.Calls.{PartyOf, PushesAt, Takes}
 use Rattle.cordyceps.proofs.Transfers.Histories.{held_from-append}
 use Rattle.cordyceps.proofs.Transfers.CallsHold.{takes_held}
@@ -36,8 +37,8 @@ came id v o p q w x m n f g a b batch kept given one two met took =
     let first = tries m (name_of o) a in
     let second = tries n (name_of p) b in
     let mine = subst (λ (z : Seat). Acts z [] v) kept (acts_none v) in
-    let theirs = subst (λ (z : Seat). Acts z (first ++ second) q) given (acts_then o p q first second (acts_of (λ h. Legal h) o p first one.0) (acts_of (λ h. Legal h) p q second two.0)) in
-    let both = acts_both (λ h. Legal h) 4 new v q w [] (first ++ second) ([], refl) mine theirs met in
+    let theirs = subst (λ (z : Seat). Acts z (first ++ second) q) given (acts_then o p q first second (acts_of actor (λ h. Legal h) o p first one.0) (acts_of actor (λ h. Legal h) p q second two.0)) in
+    let both = acts_both (λ h. Legal h) 4 new v q w [] (first ++ second) whole_share mine theirs met in
     let seen = acts_alone new w both.0 refl both.2 (met.alone both.2.share) ∙ only_right (first ++ second) both.0 both.1 in
     takes_held w x batch both.2.share took ∙ (ap (λ h. reverse (held h)) seen ∙ ap reverse (held_two m n (name_of o) (name_of p) a b))
 

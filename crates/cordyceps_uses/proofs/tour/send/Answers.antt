@@ -8,6 +8,7 @@ use Rattle.cordyceps.specs.Parties.Histories.{plain}
 use Rattle.cordyceps.specs.Parties.Shares.{whole}
 use Rattle.cordyceps.specs.Parties.Standings.{new_party, keeping, giving, Absorbs}
 use Rattle.cordyceps.proofs.Parties.Interleaving.{only_right}
+use Rattle.cordyceps.proofs.Parties.Ordering.{whole_share}
 use Rattle.cordyceps.proofs.Parties.Moving.{moves_none, moves_then, moves_both, moves_whole}
 use Rattle.cordyceps.specs.Queues.TryDequeueError.{TryDequeueError}
 use Rattle.cordyceps.specs.Queues.TryDequeueError.TheVariants as error
@@ -34,7 +35,7 @@ came id v o p q w x a b kept given one two met =
     let mine = subst (λ (z : Seat). Moves it [] [] z v) kept (moves_none (put_by it) (got_by it) v) in
     let theirs = subst (λ (z : Seat). Moves it (a ∷ b ∷ []) [] z q) given
     (moves_then (put_by it) (got_by it) (a ∷ []) [] (b ∷ []) [] o p q (moves_enqueue it a o p one) (moves_enqueue it b p q two)) in
-    let both = moves_both (put_by it) (got_by it) (λ h. Legal h) 4 new v q w [] [] (a ∷ b ∷ []) [] ([], refl) (omega arith) mine theirs met in (
+    let both = moves_both (put_by it) (got_by it) (λ h. Legal h) 4 new v q w [] [] (a ∷ b ∷ []) [] whole_share (omega arith) mine theirs met in (
       both.4.acts.share,
       λ right.
           let more = moves_then (put_by it) (got_by it) both.0 both.1 [] [] new w x both.4 (moves_right it w x (inl right)) in

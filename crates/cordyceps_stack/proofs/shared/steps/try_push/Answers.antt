@@ -4,7 +4,7 @@ use Rattle.cordyceps_shared.specs.Knowing.{Known, Grown}
 use Rattle.cordyceps_shared.specs.Shares.{Name}
 use Rattle.cordyceps_shared.specs.declared.slots.Filled.{Filled}
 use Rattle.cordyceps_stack.specs.Shared.Parts.{Settled}
-use Rattle.cordyceps_stack.specs.History.{Event, Load, Legal}
+use Rattle.cordyceps_stack.specs.History.{Event, Load, Legal, actor}
 use Rattle.cordyceps_shared.specs.Slots.{full_slot}
 use Rattle.cordyceps_stack.specs.Shared.Calls.{IsOvertaken}
 use Rattle.cordyceps_stack.specs.Shared.View.{name}
@@ -53,7 +53,7 @@ returns-clause-answer g c =
       came ∙ ap (λ r. let full : Filled E = full_slot r c.args.item in full) c.room-room.ensures,
       record {
         free = ap (λ m. m.0.free) seat ∙ (ap (λ z. c.room-room.result ∷ z) (miss.1 ∙ ap (λ m. m.0.free) set) ∙ sym begun.free);
-        sees = subst (λ (z : Known (Event Name E)). Grown (λ h. Legal h) c.args.seat.now.me.0.known (Load (name c.args.seat.now.me.0) ∷ []) z) known
+        sees = subst (λ (z : Known (Event Name E)). Grown actor (λ h. Legal h) c.args.seat.now.me.0.known (Load (name c.args.seat.now.me.0) ∷ []) z) known
             (then_missed c.args.seat.now.me.0 c.begin-read.new.seat.me.0 c.link.new.seat.me.0 c.settle.new.seat.me.0 begun.sees same miss.3);
         overtaken = subst (λ (z : Known (Event Name E)). IsOvertaken z.seen) known miss.4;
       },

@@ -9,7 +9,7 @@ pub invariant_of-party : goal.invariant_of-party
 invariant_of-party g c =
     let e = c.absorb.ensures in
     let same : c.other.inside.seat.table_id ≡ c.party.inside.seat.table_id = search rules in
-    absorbed_seated _ _ _ c.party.inside.seat.me c.other.inside.seat.me c.absorb.new.seat.me _ _ _ c.party.invariant c.other.invariant same e.table e.views e.known e.still c.append.ensures
+    absorbed_seated _ _ _ c.party.inside.seat.me c.other.inside.seat.me c.absorb.new.seat.me _ _ _ c.party.invariant c.other.invariant same e.table e.views e.known e.linked e.unheld c.append.ensures
 
 pub returns : goal.returns
 returns g c =

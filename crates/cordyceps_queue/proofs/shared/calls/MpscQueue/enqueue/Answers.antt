@@ -1,8 +1,7 @@
-use Rattle.std.proofs.Common.{◌≡◌, drop, sym, ap, ◌∙◌, subst, rules}
+use Rattle.std.proofs.Common.{◌≡◌, drop, refl, sym, ap, ◌∙◌, subst, rules}
 use Rattle.cordyceps_queue.specs.Shared.Parts.{standing}
 use Rattle.cordyceps_queue.specs.Shared.Calls.{Enqueues}
-use Rattle.cordyceps_queue.specs.Shared.View.{name}
-use Rattle.cordyceps_queue.proofs.SharedTheory.CallsHold.{seated_after, enqueue_settles, enqueues}
+use Rattle.cordyceps_queue.proofs.SharedTheory.CallsHold.{seated_after, enqueues}
 use Rattle.cordyceps_queue.proofs.shared.calls.MpscQueue.enqueue.Goals as goal
 
 pub invariant_of-party : goal.invariant_of-party
@@ -10,7 +9,7 @@ invariant_of-party g c =
     let e = c.enqueue.ensures in
     let there : c.party.inside.seat.table_id ≡ c.self.inside.rooms.shared.table_id = search rules in
     let left = ap (drop 1) (sym e.free ∙ (c.party.invariant.free ∙ c.take-ticket.ensures.taken)) in
-    seated_after _ _ c.self.inside.rooms.shared.table_id c.party.inside.seat.me c.enqueue.new.seat.me _ _ _ c.party.invariant e.table there e.rest left e.sees (enqueue_settles (name c.party.inside.seat.me.0) c.args.handle)
+    seated_after _ _ c.self.inside.rooms.shared.table_id c.party.inside.seat.me c.enqueue.new.seat.me _ _ _ c.party.invariant e.table there e.rest left e.sees (λ q. (refl, refl))
 
 pub returns : goal.returns
 returns g c =

@@ -1,6 +1,8 @@
-use Rattle.std.proofs.Common.{ap, ◌∙◌, subst}
-use Rattle.cordyceps_shared.specs.Standings.{Knows}
-use Rattle.cordyceps_queue.specs.Shared.Calls.{Legal}
+use Rattle.std.proofs.Common.{◌≡◌, Some, ap, ◌∙◌, subst}
+use Rattle.cordyceps_shared.specs.Histories.{plain}
+use Rattle.cordyceps_shared.specs.Standings.{Knows, name_of}
+use Rattle.cordyceps_queue.specs.History.{holder}
+use Rattle.cordyceps_queue.specs.Shared.Calls.{Legal, NonePending}
 use Rattle.cordyceps_queue.proofs.shared.consumer.Consumer.rooms.Goals as goal
 
 pub returns-clause-count : goal.returns-clause-count
@@ -8,3 +10,9 @@ returns-clause-count g c = c.rooms.ensures.count ∙ ap (λ p. p.rooms) c.self.v
 
 pub returns-clause-knows : goal.returns-clause-knows
 returns-clause-knows g c = subst (Knows (λ h. Legal h)) c.self.view_is c.rooms.ensures.knows
+
+pub returns-clause-linked : goal.returns-clause-linked
+returns-clause-linked g c = subst (λ u. NonePending u.share (plain u.seen)) c.self.view_is c.rooms.ensures.linked
+
+pub returns-clause-held : goal.returns-clause-held
+returns-clause-held g c = subst (λ u. holder (plain u.seen) ≡ Some (name_of u)) c.self.view_is c.rooms.ensures.held

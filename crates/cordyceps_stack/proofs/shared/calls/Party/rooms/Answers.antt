@@ -7,4 +7,4 @@ pub returns-clause-count : goal.returns-clause-count
 returns-clause-count g c = search rules
 
 pub returns-clause-knows : goal.returns-clause-knows
-returns-clause-knows g c = let i = c.self.invariant in subst (Knows (λ h. Legal h)) c.self.view_is record { legal = i.legal; alone = i.alone }
+returns-clause-knows g c = let i = c.self.invariant in subst (Knows (λ h. Legal h)) c.self.view_is record { legal = i.legal; alone = i.alone; share = i.share }

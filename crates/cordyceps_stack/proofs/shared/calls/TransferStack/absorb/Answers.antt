@@ -8,7 +8,7 @@ use Rattle.cordyceps_stack.proofs.shared.calls.TransferStack.absorb.Goals as goa
 pub invariant_of-party : goal.invariant_of-party
 invariant_of-party g c =
     let e = c.absorb.ensures in
-    absorbed_seated _ _ c.party.inside.seat.me c.other.inside.seat.me c.absorb.new.seat.me _ _ _ c.party.invariant c.other.invariant.free e.table e.views e.known c.append.ensures
+    absorbed_seated _ _ _ c.party.inside.seat.me c.other.inside.seat.me c.absorb.new.seat.me _ _ _ c.party.invariant c.other.invariant e.table e.views e.known c.append.ensures
 
 pub returns : goal.returns
 returns g c =

@@ -1,5 +1,9 @@
-use Rattle.cordyceps_stack.proofs.SharedTheory.CallsHold.{given_seated}
+use Rattle.cordyceps_stack.proofs.SharedTheory.CallsHold.{kept_seated, given_seated}
 use Rattle.cordyceps_stack.proofs.shared.calls.TransferStack.split.Goals as goal
+
+pub invariant_of-party : goal.invariant_of-party
+invariant_of-party g c =
+    kept_seated _ _ c.args.rooms c.party.inside.seat.me c.split-seat.new.seat.me _ _ c.party.invariant c.split-seat.ensures.table.0 c.split-seat.ensures.views.0 c.split_off-tickets.ensures.1
 
 pub invariant_of-result : goal.invariant_of-result
 invariant_of-result g c =

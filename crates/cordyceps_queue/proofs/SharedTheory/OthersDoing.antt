@@ -1,0 +1,118 @@
+-- Where a party finds the right taken, or a try blocked, it is by a name that is none of its own.
+use Rattle.std.proofs.Common.{◌≡◌, ◌≢◌, List, [], ◌∷◌, ◌++◌, Bool, true, false, cond, refl, sym, ap, ◌∙◌, subst, arith, append_assoc}
+use Rattle.cordyceps_shared.specs.Histories.{plain, own, others}
+use Rattle.cordyceps_shared.specs.Knowing.{Foreign}
+use Rattle.cordyceps_shared.specs.Shares.{Name, IsOf}
+use Rattle.cordyceps_shared.specs.Standings.{name_of}
+use Rattle.cordyceps_shared.proofs.Adding.{plain_append}
+use Rattle.cordyceps_shared.proofs.Seeing.{others_append}
+use Rattle.cordyceps_shared.proofs.Telling.{foreign_front}
+use Rattle.cordyceps_shared.proofs.Tracing.{seen_counts}
+use Rattle.cordyceps_queue.specs.History.{Event, Take, Busy, Look, Free, actor, links_by, swaps_by}
+use Rattle.cordyceps_queue.specs.Laws.{takes_by, frees_by, BusyIsAnothers, BlockedIsAnothers, BlockedTryIsAnothers}
+use Rattle.cordyceps_queue.specs.Shared.Calls.{PartyOf, same_name, Legal, NonePending, Adds, BlockedAfter}
+use Rattle.cordyceps_queue.proofs.HistoryEnds.{links_by-append, swaps_by-append}
+use Rattle.cordyceps_queue.proofs.PartyOrder.{takes_append, frees_append}
+use Rattle.cordyceps_queue.proofs.SharedTheory.OwnNames.{links_other, swaps_other, takes_other, frees_other, even_links, even_frees, not_holder}
+
+module _ {X : Type 0} where
+  -- what a party has seen by its only event since
+  record Since (rest : List (Bool × X)) (x : X) : Type 0 where
+    front : List (Bool × X)
+    later : List (Bool × X)
+    is : rest ≡ front ++ (true, x) ∷ later
+    none : own front ≡ []
+
+  since : (rest : List (Bool × X)) (x : X) → own rest ≡ x ∷ [] → Since rest x
+  since [] x e = let no : ⊥ = cc in absurd no
+  since ((true, y) ∷ r) x e =
+      let same : y ≡ x = cc in
+      record { front = []; later = r; is = ap (λ z. (true, z) ∷ r) same; none = refl }
+  since ((false, y) ∷ r) x e =
+      let t = since r x e in
+      record { front = (false, y) ∷ t.front; later = t.later; is = ap (λ z. (false, y) ∷ z) t.is; none = t.none }
+
+  -- a beginning with more own events than another is longer
+  record Longer (seen rest past later : List (Bool × X)) (es : List X) : Type 0 where
+    more : List (Bool × X)
+    past_is : past ≡ seen ++ more
+    rest_is : rest ≡ more ++ later
+    mine : own more ≡ es
+
+  nothing : (xs es : List X) → [] ≡ xs ++ es → es ≡ []
+  nothing [] es e = sym e
+  nothing (x ∷ xs) es e = let no : ⊥ = cc in absurd no
+
+  longer : (seen rest past later : List (Bool × X)) (es : List X) → es ≢ [] → seen ++ rest ≡ past ++ later → own past ≡ own seen ++ es → Longer seen rest past later es
+  longer [] rest past later es some e o = record { more = past; past_is = refl; rest_is = e; mine = o }
+  longer (x ∷ s) rest [] later es some e o = absurd (some (nothing (own (x ∷ s)) es o))
+  longer (x ∷ s) rest (y ∷ p) later es some e o =
+      let first : x ≡ y = cc in
+      let tail : s ++ rest ≡ p ++ later = cc in
+      let t = longer s rest p later es some tail (less x.0 (own p) (own s) (subst (λ (z : Bool × X). cond z.0 (z.1 ∷ own p) (own p) ≡ cond x.0 (x.1 ∷ own s) (own s) ++ es) (sym first) o)) in
+      record { more = t.more; past_is = (λ i. sym first i ∷ t.past_is i); rest_is = t.rest_is; mine = t.mine }
+    where
+      less : (b : Bool) (ps ss : List X) → cond b (x.1 ∷ ps) ps ≡ cond b (x.1 ∷ ss) ss ++ es → ps ≡ ss ++ es
+      less true ps ss e = cc
+      less false ps ss e = e
+
+module _ {E : Type 0} where
+  front_legal : (xs ys : List (Event Name E)) → Legal (xs ++ ys) → Legal xs
+  front_legal xs ys l = record {
+    in_order = λ past later e. l.in_order past (later ++ ys) (ap (λ z. z ++ ys) e ∙ append_assoc past later ys);
+    links = λ past later e. l.links past (later ++ ys) (ap (λ z. z ++ ys) e ∙ append_assoc past later ys);
+    turns = λ past later x e. l.turns past (later ++ ys) x (ap (λ z. z ++ ys) e ∙ append_assoc past (x ∷ later) ys);
+  }
+
+  pub busy_is_anothers : BusyIsAnothers E
+  busy_is_anothers u w legal none a =
+      let g = a.0 in
+      let n = name_of u in
+      let t = since g.rest (Busy n) g.adds in
+      let past = u.seen ++ t.front in
+      let is : w.seen ≡ past ++ (true, Busy n) ∷ t.later = g.is ∙ (ap (λ z. u.seen ++ z) t.is ∙ sym (append_assoc u.seen t.front ((true, Busy n) ∷ t.later))) in
+      let all : plain w.seen ≡ plain past ++ Busy n ∷ plain t.later = ap plain is ∙ plain_append past ((true, Busy n) ∷ t.later) in
+      let held = g.legal.turns (plain past) (plain t.later) (Busy n) all in
+      let before = front_legal (plain past) (Busy n ∷ plain t.later) (subst (λ h. Legal h) all g.legal) in
+      let foreign = foreign_front actor u.share (others t.front) (others ((true, Busy n) ∷ t.later)) (subst (λ z. Foreign actor u.share z) (ap others t.is ∙ others_append t.front ((true, Busy n) ∷ t.later)) g.foreign) in
+      let by = held.0 in record {
+        past = past;
+        later = t.later;
+        is = is;
+        by = by;
+        holds = held.1;
+        another = λ of.
+            let even = even_frees by (plain u.seen) legal (none by of) in
+            let frees = seen_counts (λ h. frees_by same_name by h) (frees_append same_name by) actor by (frees_other by) u.share of u.seen t.front foreign in
+            let takes = seen_counts (λ h. takes_by same_name by h) (takes_append same_name by) actor by (takes_other by) u.share of u.seen t.front foreign in
+            let no_frees = ap (λ h. frees_by same_name by h) t.none in
+            let no_takes = ap (λ h. takes_by same_name by h) t.none in
+            not_holder by (plain past) before (omega arith) held.1;
+      }
+
+  -- a try that was blocked
+  blocked_by : (u w : PartyOf E) (es fs : List (Event Name E)) → Legal (plain u.seen) → NonePending u.share (plain u.seen) → Adds u fs w → (b : BlockedAfter u es w) → es ≢ []
+      → ((q : Name) → (links_by same_name q es ≡ 0) × (swaps_by same_name q es ≡ 0)) → IsOf u.share b.blocked.by → ⊥
+  blocked_by u w es fs legal none a b some nothing_of of =
+      let g = a.0 in
+      let q = b.blocked.by in
+      let t = longer u.seen g.rest b.past b.later es some (sym g.is ∙ b.is) b.adds in
+      let foreign = foreign_front actor u.share (others t.more) (others b.later) (subst (λ z. Foreign actor u.share z) (ap others t.rest_is ∙ others_append t.more b.later) g.foreign) in
+      let even = even_links q (plain u.seen) legal (none q of) in
+      let links = ap (λ z. links_by same_name q (plain z)) t.past_is ∙ seen_counts (λ h. links_by same_name q h) (links_by-append same_name q) actor q (links_other q) u.share of u.seen t.more foreign in
+      let swaps = ap (λ z. swaps_by same_name q (plain z)) t.past_is ∙ seen_counts (λ h. swaps_by same_name q h) (swaps_by-append same_name q) actor q (swaps_other q) u.share of u.seen t.more foreign in
+      let no_links = ap (λ h. links_by same_name q h) t.mine in
+      let no_swaps = ap (λ h. swaps_by same_name q h) t.mine in
+      let zero_of = nothing_of q in
+      let pending = b.blocked.pending in
+      absurd (omega arith)
+
+  pub blocked_is_anothers : BlockedIsAnothers E
+  blocked_is_anothers u w legal none d =
+      let n = name_of u in
+      blocked_by u w (Take n ∷ Look n ∷ []) (Take n ∷ Look n ∷ Free n ∷ []) legal none d.0 d.2 (λ e. cc) (λ q. (refl, refl))
+
+  pub blocked_try_is_anothers : BlockedTryIsAnothers E
+  blocked_try_is_anothers u w legal none d =
+      let n = name_of u in
+      blocked_by u w (Look n ∷ []) (Look n ∷ []) legal none d.0 d.2 (λ e. cc) (λ q. (refl, refl))
