@@ -4,6 +4,8 @@
 #[cfg(test)]
 mod compared;
 #[cfg(test)]
+mod drops;
+#[cfg(test)]
 mod filters;
 #[cfg(test)]
 mod items;

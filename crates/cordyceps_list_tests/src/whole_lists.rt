@@ -98,16 +98,21 @@ fn splits_and_appends(
     Ok(())
 }
 
-/// A list of the items 1 to 5 is not split past its end, and is split before its last item.
-fn splits_at_its_end(rt: &impl Abort, list: &mut List<Item>) {
-    let mut steps = Steps::new();
-    assert!(rt; list.len() == 5);
-    assert!(rt; list.try_split_off_in(6, &mut steps).is_none());
-    same(rt, steps.count(), 0);
+/// Splits a list of the items 1 to 5 past its end, at its end, before its last item, and before its first.
+fn splits_at_its_ends(rt: &impl Abort, list: &mut List<Item>) {
+    assert!(rt; list.try_split_off(6).is_none());
     holds(rt, list, &[1, 2, 3, 4, 5]);
-    let rest = list.split_off(4);
-    holds(rt, &rest, &[5]);
-    holds(rt, list, &[1, 2, 3, 4]);
+    for (at, split, kept) in [
+        (5usize, [].as_slice(), [1u64, 2, 3, 4, 5].as_slice()),
+        (4, &[5], &[1, 2, 3, 4]),
+        (0, &[1, 2, 3, 4], &[]),
+    ] {
+        match list.try_split_off(at) {
+            Some(rest) => holds(rt, &rest, split),
+            None => assert!(rt; false, "at {at}"),
+        }
+        holds(rt, list, kept);
+    }
 }
 
 #[test]
@@ -116,7 +121,7 @@ fn splits_everywhere(rt: HostRuntime) -> Result<(), Fail> {
         splits_and_appends(&rt, rt.alloc(), at, moves)?;
     }
     let mut list = list_of(&rt, rt.alloc(), &[1, 2, 3, 4, 5])?;
-    splits_at_its_end(&rt, &mut list);
+    splits_at_its_ends(&rt, &mut list);
     Ok(())
 }
 
