@@ -1,4 +1,5 @@
 mod Deadlines
 mod Entries
+pub mod Sharing
 pub mod Turning
 mod Working

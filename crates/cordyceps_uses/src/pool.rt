@@ -1,7 +1,7 @@
 //! A pool of blocks that two threads share.
 ghost use Rattle.std.specs.Prelude.{◌≡◌, ◌≤◌, ◌++◌, IfOk};
 ghost use Rattle.cordyceps.specs.Parties.Counts.{Same};
-ghost use Rattle.cordyceps_uses.specs.Pool.{Uses};
+ghost use Rattle.cordyceps_uses.specs.Pool.{Uses, BothUse};
 
 use cordyceps::Node;
 use freelist::laws::{Command, User, carry_out, close_all, retire};
@@ -95,7 +95,9 @@ pub fn share<R: Threads>(
     second: &[Command],
 ) -> Result<(Stack<Block>, Stack<Block>, Stack<Block>), AllocError>
     requires { rooms ≤ 524288 }
-    ensures { IfOk result (λ given. Same (given.0 ++ (given.1 ++ given.2)) (blocks.0 ++ blocks.1)) }
+    ensures runs { IfOk result (λ given.
+        BothUse first.now second.now rooms blocks.0 blocks.1 given.0 given.1 given.2) }
+    ensures same { IfOk result (λ given. Same (given.0 ++ (given.1 ++ given.2)) (blocks.0 ++ blocks.1)) }
 {
     let (pool, mut party) = FreeList::new(alloc, 2 * rooms)?;
     let other = pool.split(&mut party, rooms);
