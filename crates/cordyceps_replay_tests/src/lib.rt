@@ -14,6 +14,8 @@ mod failures;
 #[cfg(test)]
 mod flags;
 #[cfg(test)]
+mod gates;
+#[cfg(test)]
 mod list_lines;
 #[cfg(test)]
 mod list_scripts;

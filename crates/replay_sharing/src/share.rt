@@ -74,8 +74,8 @@ impl Promise<Party<Item>> for Task {
     ghost kept_by = { λ task back. Works task.handles.value.0 task.handles.value.1 task.party.value back };
 }
 
-/// Passes the gate and pushes, twice, and hands the party back.
-fn work<R: Wait, G: Gate>(
+/// What each worker of [`share`] does: passes the gate and pushes, twice, and hands the party back.
+pub fn work<R: Wait, G: Gate>(
     rt: &R,
     gate: &G,
     worker: u64,
