@@ -1,9 +1,10 @@
 -- A script of which all was read.
-use Rattle.std.proofs.Common.{◌≡◌, ℕ, List, [], ◌∷◌, ◌++◌, Some, Result, Ok, Err, OnOk, refl, sym, ◌∙◌, ap}
+use Rattle.std.proofs.Common.{◌≡◌, ℕ, List, [], ◌∷◌, ◌++◌, Some, Result, Ok, Err, OnOk, refl, sym, ◌∙◌, ap, inl, inr}
 use Rattle.std.proofs.lemmas.List.{append-nil}
-use Rattle.replay_driver.specs.Script.{Machine, Runs, parts, last_line, lines_of, without_empty_last, AnswersAll}
+use Rattle.replay_driver.specs.Script.{Machine, AreLines, Answers, Runs, parts, last_line, lines_of, without_empty_last, AnswersAll}
 use Rattle.replay_driver.specs.Known.{IsReadOut, Gives}
 use Rattle.replay_driver.specs.declared.fault.Fault.{Fault}
+use Rattle.replay_driver.specs.declared.fault.Fault.TheVariants as faults
 
 whole_lines : (complete : List (List ℕ)) (unfinished : List ℕ) → without_empty_last (complete ++ unfinished ∷ []) ≡ complete ++ last_line unfinished
 whole_lines [] unfinished = refl
@@ -22,3 +23,31 @@ ran_whole {machine = machine} {state = state} {took = took} script (Ok done) h a
     let is : h.lines ≡ lines_of script = are ∙ sym (whole_lines h.complete h.unfinished) ∙ ap without_empty_last (sym h.cut ∙ ap parts (all h.bytes h.read at_end)) in
     (rw is at good, rw (said, is) at h.wrote)
 ran_whole script (Err fault) h all = tt
+
+lines_over : (ended ended' : Type 0) (complete : List (List ℕ)) (unfinished : List ℕ) (lines : List (List ℕ)) → (ended → ended') → AreLines ended complete unfinished lines → AreLines ended' complete unfinished lines
+lines_over ended ended' complete unfinished lines ends (inl are) = inl are
+lines_over ended ended' complete unfinished lines ends (inr (inl at_end, are)) = inr (inl (ends at_end), are)
+lines_over ended ended' complete unfinished lines ends (inr (inr long, are)) = inr (inr long, are)
+
+answers_over : {S : Type 0} (machine : Machine S) (state : S) (ended ended' read_failed write_failed : Type 0) (complete : List (List ℕ)) (unfinished : List ℕ) (lines : List (List ℕ)) (written : List ℕ) (result : Result (Unit {0}) Fault) →
+    (ended → ended') → Answers machine state ended read_failed write_failed complete unfinished lines written result → Answers machine state ended' read_failed write_failed complete unfinished lines written result
+answers_over machine state ended ended' read_failed write_failed complete unfinished lines written (Ok done) ends (at_end, are, good, said) = (ends at_end, are, good, said)
+answers_over machine state ended ended' read_failed write_failed complete unfinished lines written (Err (faults.BadLine n)) ends h = h
+answers_over machine state ended ended' read_failed write_failed complete unfinished lines written (Err faults.Read) ends h = h
+answers_over machine state ended ended' read_failed write_failed complete unfinished lines written (Err faults.Write) ends h = h
+answers_over machine state ended ended' read_failed write_failed complete unfinished lines written (Err faults.Memory) ends h = h
+
+pub ran_over : {S : Type 0} {machine : Machine S} {state : S} {gave gave' : List ℕ → Type 0} {ended ended' read_failed : Type 0} {took : List ℕ → Type 0} {write_failed : Type 0} (result : Result (Unit {0}) Fault) →
+    Runs machine state gave ended read_failed took write_failed result → ((bytes : List ℕ) → gave bytes → gave' bytes) → (ended → ended') → Runs machine state gave' ended' read_failed took write_failed result
+ran_over {machine = machine} {state = state} result h gives ends = record {
+  complete = h.complete;
+  unfinished = h.unfinished;
+  bytes = h.bytes;
+  read = gives h.bytes h.read;
+  cut = h.cut;
+  lines = h.lines;
+  are_lines = lines_over _ _ h.complete h.unfinished h.lines ends h.are_lines;
+  written = h.written;
+  wrote = h.wrote;
+  answers = answers_over machine state _ _ _ _ h.complete h.unfinished h.lines h.written result ends h.answers;
+}

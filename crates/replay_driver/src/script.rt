@@ -2,7 +2,7 @@
 ghost use Rattle.std.specs.Prelude.{◌≡◌, ◌+◌, ◌-◌, ◌<◌, ◌≤◌, ◌^◌, [], length, take, drop, IfOk, OnOk, OnErr, IsTrue, ◌↔◌, Err};
 ghost use Rattle.replay_driver.specs.Steps.{TakesOne, TakesLines, TakesLast, Reads, fault_of};
 ghost use Rattle.replay_driver.specs.Halts.{Halts, EndsLines};
-ghost use Rattle.replay_driver.specs.Script.{Runs, AnswersAll};
+ghost use Rattle.replay_driver.specs.Script.{Runs, AnswersAll, RunsOver};
 ghost use Rattle.replay_driver.specs.declared.fault.Fault.{Fault};
 
 use crate::fault::{Failed, Fault};
@@ -237,8 +237,10 @@ pub fn run_bytes<S: Session, O: Sink>(
     output: &mut O,
 ) -> Result<(), Fault>
     requires { S.is_ready session.old }
-    ensures { OnOk result
+    ensures all { OnOk result
         (AnswersAll S.machine (S.state session.old) script.now (O.takes output.old output.new)) }
+    ensures runs { RunsOver S.machine (S.state session.old) script.now
+        (O.takes output.old output.new) (O.has_failed output.new) result }
 {
     let mut input = FromRead::new(script);
     run_script(alloc, session, &mut input, output)
