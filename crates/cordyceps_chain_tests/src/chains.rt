@@ -3,10 +3,12 @@ use crate::compared::same;
 use cordyceps_base::double_chain::DoubleChain;
 use cordyceps_base::single_chain::SingleChain;
 use cordyceps_base::stack::InStack;
-use cordyceps_testing::counted::{Counted, Drops, counted_node};
+use cordyceps_testing::counted::{Drops, counted_node};
 use cordyceps_testing::nodes::node_of;
 use std::alloc::{AllocError, Global};
+use std::cell::Cell;
 use std::process::Abort;
+use std::rc::Rc;
 use std::test::Fail;
 
 #[test]
@@ -88,30 +90,44 @@ fn a_cursor_puts_nodes_in(rt: HostRuntime) -> Result<(), Fail> {
     Ok(())
 }
 
-/// A chain of three nodes with counted values.
-fn counted_chain(
+/// A value that puts its digit behind those of the values dropped before it.
+struct Noted {
+    digit: u64,
+    order: Rc<Cell<u64>, Global>,
+}
+
+impl Drop for Noted {
+    fn drop(self) {
+        let Noted { digit, order } = self;
+        order.set(order.get().wrapping_mul(10).wrapping_add(digit));
+    }
+}
+
+/// A chain of the digits 1, 2 and 3.
+fn noted_chain(
     alloc: Global,
-    drops: &Drops,
-) -> Result<SingleChain<Counted, InStack>, AllocError> {
+    order: &Rc<Cell<u64>, Global>,
+) -> Result<SingleChain<Noted, InStack>, AllocError> {
     let mut chain = SingleChain::empty();
-    for id in 0..3u64 {
-        chain.link_back(counted_node(alloc, id, 0, drops)?);
+    for digit in 1..4u64 {
+        let order = Rc::clone(order)?;
+        chain.link_back(node_of(alloc, digit, Noted { digit, order })?);
     }
     Ok(chain)
 }
 
 #[test]
-fn a_dropped_cursor_frees_each_node_once(rt: HostRuntime) -> Result<(), Fail> {
+fn a_dropped_cursor_frees_each_node_in_order(rt: HostRuntime) -> Result<(), Fail> {
     for moves in 0..4usize {
-        let drops = Drops::new(rt.alloc())?;
-        let mut cursor = counted_chain(rt.alloc(), &drops)?.into_cursor();
+        let order = Rc::new(rt.alloc(), Cell::new(0u64))?;
+        let mut cursor = noted_chain(rt.alloc(), &order)?.into_cursor();
         for _ in 0..moves {
             assert!(rt; cursor.current().is_some());
             cursor.advance();
         }
-        same(&rt, drops.count(), 0);
+        same(&rt, order.get(), 0);
         drop(cursor);
-        same(&rt, drops.count(), 3);
+        same(&rt, order.get(), 123);
     }
     Ok(())
 }
