@@ -20,7 +20,7 @@ use std::thread;
 use std::thread::Threads;
 
 /// How often a thread calls at most, before it fails.
-const TRIES: u64 = 10_000_000;
+const TRIES: u64 = 100_000_000;
 
 /// How often each test's threads run.
 const ROUNDS: u64 = 10;
@@ -86,13 +86,14 @@ fn take<R: Wait + Abort>(rt: &R, taker: &mut Taker<'_>) -> Option<u64> {
     }
 }
 
-/// Takes until all came, and sets the flag.
+/// Takes until all came, and sets the flag. It yields seldom, so that it finds elements that are not linked yet.
 fn take_all<R: Wait + Abort>(rt: &R, mut taker: Taker<'_>, done: &AtomicBool) {
     let mut came = 0u64;
-    for _ in 0..TRIES {
+    for tries in 0..TRIES {
         match take(rt, &mut taker) {
             Some(_) => came = came.wrapping_add(1),
-            None => thread::yield_now(),
+            None if tries % 16 == 0 => thread::yield_now(),
+            None => {}
         }
         if came == 4000 {
             break;

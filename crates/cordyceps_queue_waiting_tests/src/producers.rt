@@ -17,9 +17,12 @@ pub fn puts_all(rt: &impl Abort, seat: &mut Seated<'_>, row: Vec<Handle>) {
     }
 }
 
-/// Puts all in.
+/// Puts all in, and yields behind each, so that who takes comes to the end again and again.
 fn produce(rt: &impl Abort, mut seat: Seated<'_>, row: Vec<Handle>) {
-    puts_all(rt, &mut seat, row);
+    for node in row {
+        puts(rt, &mut seat, node);
+        thread::yield_now();
+    }
 }
 
 /// Runs two producers.
