@@ -1,9 +1,9 @@
 -- A line of a block is a command's exactly if it is that command's spelling.
 use Rattle.std.proofs.Common.{◌≡◌, ℕ, List, [], ◌∷◌, Option, Some, None, IfSome, refl, sym, ◌∙◌, ap, subst, codes}
 use Rattle.std.specs.Option.{option_map}
-use Rattle.cordyceps.specs.declared.replay.list_command.CursorCommand.{CursorCommand}
-use Rattle.cordyceps.specs.declared.replay.list_command.CursorCommand.TheVariants as lines
-use Rattle.cordyceps.specs.Blocks.{OtherFits}
+use Rattle.cordyceps_commands.specs.declared.list_command.CursorCommand.{CursorCommand}
+use Rattle.cordyceps_commands.specs.declared.list_command.CursorCommand.TheVariants as lines
+use Rattle.cordyceps_commands.specs.ListCommands.{OtherFits}
 use Rattle.replay_lines.specs.declared.cursor_command.CursorVerb.{CursorVerb}
 use Rattle.replay_lines.specs.declared.cursor_command.CursorVerb.TheVariants as verbs
 use Rattle.replay_lines.specs.Words.{words}

@@ -9,7 +9,7 @@ use Rattle.std.proofs.lemmas.Bool.{lt-ltb, ltb-true, ne_eqb}
 use Rattle.std.proofs.lemmas.List.Elements.{All-from_recursion}
 use Rattle.std.proofs.lemmas.List.Splits.{slice_split_at, slice_split_none, join_with_byte-slice_split}
 use Rattle.std.proofs.lemmas.Slice.Eq.{bytes_eq-Decides}
-use Rattle.cordyceps.specs.declared.replay.item.Item.{Item}
+use Rattle.cordyceps_commands.specs.declared.item.Item.{Item}
 use Rattle.replay_lines.specs.Words.{words, number_of, structure_number_of}
 use Rattle.replay_lines.specs.LineWords.{only_word_of, only, before, nothing_of, structure_of, value_of, item_of, two_structures_of, structure_and_value_of, structure_and_item_of, party_and_number_of, party_and_item_of, perhaps_item_of, party_and_perhaps_item_of, item_words, perhaps_item_words, HasItemNumbers, HasPerhapsItemNumbers}
 use Rattle.replay_lines.proofs.Numbers.{is_numeral, numeral_read, numeral_digits, both, from_if}

@@ -3,12 +3,12 @@ use Rattle.std.proofs.Common.{◌≡◌, ℕ, suc, ◌^◌, ◌<◌, ◌≤◌, 
 use Rattle.std.specs.Option.{option_map}
 use Rattle.std.specs.Fmt.{decimal}
 use Rattle.std.proofs.lemmas.Bool.{le-ltb, ltb-false, eqb-true, eqb-false, ne_eqb}
-use Rattle.cordyceps.specs.declared.replay.list_command.ListEnd.{ListEnd}
-use Rattle.cordyceps.specs.declared.replay.list_command.ListEnd.TheVariants as ends
-use Rattle.cordyceps.specs.declared.replay.list_command.Turn.{Turn}
-use Rattle.cordyceps.specs.declared.replay.list_command.Turn.TheVariants as turn_letters
-use Rattle.cordyceps.specs.declared.replay.list_command.Filter.{Filter}
-use Rattle.cordyceps.specs.declared.replay.list_command.Filter.TheVariants as filters
+use Rattle.cordyceps_commands.specs.declared.list_command.ListEnd.{ListEnd}
+use Rattle.cordyceps_commands.specs.declared.list_command.ListEnd.TheVariants as ends
+use Rattle.cordyceps_commands.specs.declared.list_command.Turn.{Turn}
+use Rattle.cordyceps_commands.specs.declared.list_command.Turn.TheVariants as turn_letters
+use Rattle.cordyceps_commands.specs.declared.list_command.Filter.{Filter}
+use Rattle.cordyceps_commands.specs.declared.list_command.Filter.TheVariants as filters
 use Rattle.replay_lines.specs.ListWords.{end_of, end_word, filter_of, filter_word, turn_of, letter_of, letters_of, turns_of, turns_word, structure_and_turns_of, split_words_of, drain_words_of, structure_and_end_of}
 use Rattle.replay_lines.proofs.Forms.{IsKind, IsForm, IsOneWord, one_word, look, in_none, chained, mapped, number_kind, structure_kind, structure_form, value_form, only_form, before_form}
 

@@ -9,7 +9,7 @@ use Rattle.std.specs.Str.{all_ascii_digits}
 use Rattle.std.specs.List.{AllByRecursion, slice_split, join_with_byte}
 use Rattle.std.specs.Option.{option_map, option_and_then}
 use Rattle.memchr.specs.Find.{IsFirstByte, is_byte}
-use Rattle.cordyceps.specs.declared.replay.item.Item.{Item}
+use Rattle.cordyceps_commands.specs.declared.item.Item.{Item}
 use Rattle.replay_lines.specs.Words.{number_of}
 use Rattle.replay_lines.specs.LineWords.{item_of}
 use Rattle.replay_lines.specs.SortedScript.{pair_of, pairs_of}

@@ -3,9 +3,9 @@ use Rattle.std.proofs.Common.{◌≡◌, ℕ, ◌<◌, true, List, [], ◌∷◌
 use Rattle.std.specs.Option.{option_map, option_and_then}
 use Rattle.std.specs.List.{join_with_byte}
 use Rattle.std.specs.declared.alloc.AllocError.{AllocError}
-use Rattle.cordyceps.specs.declared.replay.list_command.ListCommand.{ListCommand}
-use Rattle.cordyceps.specs.declared.replay.list_command.ListCommand.TheVariants as commands
-use Rattle.cordyceps.specs.Lists.{Fits}
+use Rattle.cordyceps_commands.specs.declared.list_command.ListCommand.{ListCommand}
+use Rattle.cordyceps_commands.specs.declared.list_command.ListCommand.TheVariants as commands
+use Rattle.cordyceps_commands.specs.ListCommands.{Fits}
 use Rattle.replay_lines.specs.declared.list_command.Entry.{Entry}
 use Rattle.replay_lines.specs.declared.list_command.Entry.TheVariants as entries
 use Rattle.replay_lines.specs.declared.list_command.PlainVerb.{PlainVerb}

@@ -6,11 +6,11 @@ use Rattle.std.specs.List.{flat_map}
 use Rattle.std.specs.declared.vec.Vec.{Vec}
 use Rattle.std.specs.declared.alloc.Global.{Global}
 use Rattle.std.specs.Prelude.{codes, decimal}
-use Rattle.cordyceps.specs.declared.replay.item.Item.{Item}
-use Rattle.cordyceps.specs.declared.replay.reply.Reply.{Reply}
-use Rattle.cordyceps.specs.declared.replay.reply.Reply.TheVariants.{Block}
-use Rattle.cordyceps.specs.Replies.{Line, found, lines_of}
-use Rattle.cordyceps.proofs.Replies.{block_lines}
+use Rattle.cordyceps_commands.specs.declared.item.Item.{Item}
+use Rattle.cordyceps_commands.specs.declared.reply.Reply.{Reply}
+use Rattle.cordyceps_commands.specs.declared.reply.Reply.TheVariants.{Block}
+use Rattle.cordyceps_commands.specs.Replies.{Line, found, lines_of}
+use Rattle.cordyceps_commands.proofs.Replies.{block_lines}
 use Rattle.replay_lines.specs.ReplyText.{line_text, shown_text, text_of}
 
 text_by_reply : (replies : List Reply) → text_of (flat_map lines_of replies) ≡ flat_map (λ r. text_of (lines_of r)) replies

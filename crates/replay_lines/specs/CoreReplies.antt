@@ -1,7 +1,7 @@
 -- What the lines of the modes transfer and queue reply.
 use Rattle.std.specs.Prelude.{ℕ, Bool, true, false, List, ◌++◌, map, Some, codes, decimal}
-use Rattle.cordyceps.specs.declared.replay.item.Item.{Item}
-use Rattle.cordyceps.specs.Replies.{Line}
+use Rattle.cordyceps_commands.specs.declared.item.Item.{Item}
+use Rattle.cordyceps_commands.specs.Replies.{Line}
 use Rattle.replay_lines.specs.ReplyText.{line_text}
 use Rattle.replay_lines.specs.declared.core_reply.CoreReply.{CoreReply}
 use Rattle.replay_lines.specs.declared.core_reply.CoreReply.TheVariants as replies

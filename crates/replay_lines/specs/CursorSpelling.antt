@@ -1,8 +1,8 @@
 -- The one line that spells a command of a block.
 use Rattle.std.specs.Prelude.{ℕ, ◌<◌, ◌^◌, List, [], ◌∷◌, codes, decimal}
 use Rattle.std.specs.List.{join_with_byte}
-use Rattle.cordyceps.specs.declared.replay.list_command.CursorCommand.{CursorCommand}
-use Rattle.cordyceps.specs.declared.replay.list_command.CursorCommand.TheVariants as lines
+use Rattle.cordyceps_commands.specs.declared.list_command.CursorCommand.{CursorCommand}
+use Rattle.cordyceps_commands.specs.declared.list_command.CursorCommand.TheVariants as lines
 use Rattle.replay_lines.specs.LineWords.{item_words, HasItemNumbers}
 use Rattle.replay_lines.specs.ListWords.{filter_word}
 

@@ -1,7 +1,7 @@
 -- What the words behind a command word are read as, to the end of the line, and how these words are spelled.
 use Rattle.std.specs.Prelude.{ℕ, ◌<◌, ◌^◌, List, [], ◌∷◌, Option, None, Some, decimal}
 use Rattle.std.specs.Option.{option_map, option_and_then}
-use Rattle.cordyceps.specs.declared.replay.item.Item.{Item}
+use Rattle.cordyceps_commands.specs.declared.item.Item.{Item}
 use Rattle.replay_lines.specs.Words.{number_of, structure_number_of}
 
 -- the one word

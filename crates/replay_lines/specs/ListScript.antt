@@ -1,11 +1,11 @@
 -- The lines of mode list, outside of blocks.
 use Rattle.std.specs.Prelude.{ℕ, ◌<◌, List, [], ◌∷◌, Option, None}
 use Rattle.std.specs.Option.{option_map, option_and_then}
-use Rattle.cordyceps.specs.declared.replay.list_command.ListEnd.{ListEnd}
-use Rattle.cordyceps.specs.declared.replay.list_command.Turn.{Turn}
-use Rattle.cordyceps.specs.declared.replay.list_command.ListCommand.{ListCommand}
-use Rattle.cordyceps.specs.declared.replay.list_command.ListCommand.TheVariants as commands
-use Rattle.cordyceps.specs.Lists.{Fits}
+use Rattle.cordyceps_commands.specs.declared.list_command.ListEnd.{ListEnd}
+use Rattle.cordyceps_commands.specs.declared.list_command.Turn.{Turn}
+use Rattle.cordyceps_commands.specs.declared.list_command.ListCommand.{ListCommand}
+use Rattle.cordyceps_commands.specs.declared.list_command.ListCommand.TheVariants as commands
+use Rattle.cordyceps_commands.specs.ListCommands.{Fits}
 use Rattle.replay_lines.specs.declared.list_command.Entry.{Entry}
 use Rattle.replay_lines.specs.declared.list_command.Entry.TheVariants as entries
 use Rattle.replay_lines.specs.declared.list_command.Verb.{Verb}

@@ -2,8 +2,8 @@
 use Rattle.std.specs.Prelude.{ℕ, List, Option, None, Some, if◌then◌else◌, codes}
 use Rattle.std.specs.Option.{option_map}
 use Rattle.std.specs.Str.{bytes_eq}
-use Rattle.cordyceps.specs.declared.replay.list_command.ListCommand.{ListCommand}
-use Rattle.cordyceps.specs.declared.replay.list_command.ListCommand.TheVariants as commands
+use Rattle.cordyceps_commands.specs.declared.list_command.ListCommand.{ListCommand}
+use Rattle.cordyceps_commands.specs.declared.list_command.ListCommand.TheVariants as commands
 use Rattle.replay_lines.specs.declared.list_command.PlainVerb.{PlainVerb}
 use Rattle.replay_lines.specs.declared.list_command.PlainVerb.TheVariants as plain
 use Rattle.replay_lines.specs.declared.list_command.Verb.{Verb}

@@ -2,12 +2,12 @@
 use Rattle.std.specs.Prelude.{ℕ, ◌||◌, List, [], ◌∷◌, map, length, Option, None, Some, if◌then◌else◌, codes, nat_lt, nat_eq}
 use Rattle.std.specs.Option.{option_map, option_and_then}
 use Rattle.std.specs.Str.{bytes_eq}
-use Rattle.cordyceps.specs.declared.replay.list_command.ListEnd.{ListEnd}
-use Rattle.cordyceps.specs.declared.replay.list_command.ListEnd.TheVariants as ends
-use Rattle.cordyceps.specs.declared.replay.list_command.Turn.{Turn}
-use Rattle.cordyceps.specs.declared.replay.list_command.Turn.TheVariants as turn_letters
-use Rattle.cordyceps.specs.declared.replay.list_command.Filter.{Filter}
-use Rattle.cordyceps.specs.declared.replay.list_command.Filter.TheVariants as filters
+use Rattle.cordyceps_commands.specs.declared.list_command.ListEnd.{ListEnd}
+use Rattle.cordyceps_commands.specs.declared.list_command.ListEnd.TheVariants as ends
+use Rattle.cordyceps_commands.specs.declared.list_command.Turn.{Turn}
+use Rattle.cordyceps_commands.specs.declared.list_command.Turn.TheVariants as turn_letters
+use Rattle.cordyceps_commands.specs.declared.list_command.Filter.{Filter}
+use Rattle.cordyceps_commands.specs.declared.list_command.Filter.TheVariants as filters
 use Rattle.replay_lines.specs.Words.{number_of, structure_number_of}
 use Rattle.replay_lines.specs.LineWords.{only, before, structure_of, value_of}
 

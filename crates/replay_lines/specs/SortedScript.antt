@@ -3,9 +3,9 @@ use Rattle.std.specs.Prelude.{ℕ, List, [], ◌∷◌, Option, None, Some, if�
 use Rattle.std.specs.Option.{option_map, option_and_then}
 use Rattle.std.specs.List.{slice_split}
 use Rattle.std.specs.Str.{bytes_eq}
-use Rattle.cordyceps.specs.declared.replay.item.Item.{Item}
-use Rattle.cordyceps.specs.declared.replay.sorteds.SortedCommand.{SortedCommand}
-use Rattle.cordyceps.specs.declared.replay.sorteds.SortedCommand.TheVariants as commands
+use Rattle.cordyceps_commands.specs.declared.item.Item.{Item}
+use Rattle.cordyceps_commands.specs.declared.sorted_command.SortedCommand.{SortedCommand}
+use Rattle.cordyceps_commands.specs.declared.sorted_command.SortedCommand.TheVariants as commands
 use Rattle.replay_lines.specs.Words.{words, structure_number_of}
 use Rattle.replay_lines.specs.LineWords.{structure_of, item_of, structure_and_item_of}
 use Rattle.replay_lines.specs.declared.sorted_command.Verb.{Verb}

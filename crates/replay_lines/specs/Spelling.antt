@@ -1,8 +1,8 @@
 -- The one line that spells what a line of mode list is, outside of blocks.
 use Rattle.std.specs.Prelude.{ℕ, ◌<◌, ◌≤◌, ◌^◌, List, [], ◌∷◌, length, codes, decimal}
 use Rattle.std.specs.List.{join_with_byte}
-use Rattle.cordyceps.specs.declared.replay.list_command.ListCommand.{ListCommand}
-use Rattle.cordyceps.specs.declared.replay.list_command.ListCommand.TheVariants as commands
+use Rattle.cordyceps_commands.specs.declared.list_command.ListCommand.{ListCommand}
+use Rattle.cordyceps_commands.specs.declared.list_command.ListCommand.TheVariants as commands
 use Rattle.replay_lines.specs.declared.list_command.Entry.{Entry}
 use Rattle.replay_lines.specs.declared.list_command.Entry.TheVariants as entries
 use Rattle.replay_lines.specs.LineWords.{item_words, HasItemNumbers}

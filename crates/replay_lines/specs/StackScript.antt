@@ -2,8 +2,8 @@
 use Rattle.std.specs.Prelude.{ℕ, List, [], ◌∷◌, Option, None, Some, if◌then◌else◌, codes}
 use Rattle.std.specs.Option.{option_map, option_and_then}
 use Rattle.std.specs.Str.{bytes_eq}
-use Rattle.cordyceps.specs.declared.replay.stacks.StackCommand.{StackCommand}
-use Rattle.cordyceps.specs.declared.replay.stacks.StackCommand.TheVariants as commands
+use Rattle.cordyceps_commands.specs.declared.stack_command.StackCommand.{StackCommand}
+use Rattle.cordyceps_commands.specs.declared.stack_command.StackCommand.TheVariants as commands
 use Rattle.replay_lines.specs.Words.{words}
 use Rattle.replay_lines.specs.LineWords.{structure_of, two_structures_of, structure_and_item_of}
 use Rattle.replay_lines.specs.declared.stack_command.Verb.{Verb}

@@ -3,7 +3,7 @@ ghost use Rattle.std.specs.Prelude.{◌≡◌, ◌++◌, OnErr, OnOk};
 ghost use Rattle.replay_lines.specs.CoreReplies.{core_text, item_text, said, show};
 
 use crate::reply::push_show;
-use cordyceps::replay::Item;
+use cordyceps_commands::Item;
 use std::alloc::{AllocError, Global};
 
 /// The reply to a line of the modes `transfer` and `queue`.

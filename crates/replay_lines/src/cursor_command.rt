@@ -1,15 +1,15 @@
 //! Reads the lines of a cursor block.
 ghost use Rattle.std.specs.Prelude.{◌≡◌, Some, IfSome};
-ghost use Rattle.cordyceps.specs.Blocks.{OtherFits};
+ghost use Rattle.cordyceps_commands.specs.ListCommands.{OtherFits};
 ghost use Rattle.replay_lines.specs.Words.{words_left};
 ghost use Rattle.replay_lines.specs.CursorScript.{bare_of, verb_of, command_with, cursor_command_of};
 ghost use Rattle.replay_lines.specs.CursorSpelling.{spelling_of, HasNumbers};
-ghost use Rattle.cordyceps.specs.declared.replay.list_command.CursorCommand.{CursorCommand};
+ghost use Rattle.cordyceps_commands.specs.declared.list_command.CursorCommand.{CursorCommand};
 
 use crate::line_words::{item, nothing, only_word, structure, value};
 use crate::list_words::filter;
 use crate::words::Words;
-use cordyceps::replay::CursorCommand;
+use cordyceps_commands::CursorCommand;
 
 /// The command words of a block.
 #[derive(Clone, Copy)]

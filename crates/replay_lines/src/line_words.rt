@@ -4,7 +4,7 @@ ghost use Rattle.replay_lines.specs.Words.{words_left};
 ghost use Rattle.replay_lines.specs.LineWords.{only_word_of, nothing_of, structure_of, value_of, item_of, two_structures_of, structure_and_value_of, structure_and_item_of, party_and_number_of, party_and_item_of, perhaps_item_of, party_and_perhaps_item_of};
 
 use crate::words::{Words, number, structure_number};
-use cordyceps::replay::Item;
+use cordyceps_commands::Item;
 
 /// Reads one word.
 pub fn only_word<'a>(mut words: Words<'a>) -> Option<&'a [u8]>

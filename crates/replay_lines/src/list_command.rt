@@ -10,7 +10,7 @@ ghost use Rattle.replay_lines.specs.declared.list_command.Entry.{Entry};
 use crate::line_words::{structure, structure_and_item, structure_and_value, two_structures};
 use crate::list_words::{drain_words, split_words, structure_and_end, structure_and_turns};
 use crate::words::Words;
-use cordyceps::replay::{ListCommand, ListEnd};
+use cordyceps_commands::{ListCommand, ListEnd};
 use std::alloc::{AllocError, Global};
 
 /// The command words of the mode whose commands are read without memory.

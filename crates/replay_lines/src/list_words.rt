@@ -6,7 +6,7 @@ ghost use Rattle.replay_lines.specs.ListWords.{end_of, filter_of, turn_of, turns
 
 use crate::line_words::{only_word, structure, value};
 use crate::words::{Words, number, structure_number};
-use cordyceps::replay::{Filter, ListEnd, Turn};
+use cordyceps_commands::{Filter, ListEnd, Turn};
 use std::alloc::{AllocError, Global};
 
 /// An end of a list.

@@ -6,7 +6,7 @@ ghost use Rattle.replay_lines.specs.QueueSpelling.{spelling_of, HasNumbers};
 
 use crate::line_words::{nothing, party, party_and_item, party_and_number, party_and_perhaps_item};
 use crate::words::Words;
-use cordyceps::replay::Item;
+use cordyceps_commands::Item;
 
 /// A command of mode `queue`, with the number of its party.
 #[derive(Clone, Copy)]

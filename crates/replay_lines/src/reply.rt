@@ -1,9 +1,9 @@
 //! The text of replies to commands on tables.
 ghost use Rattle.std.specs.Prelude.{◌≡◌, ◌++◌, length, take, OnErr, OnOk};
-ghost use Rattle.cordyceps.specs.Replies.{lines_of, show};
+ghost use Rattle.cordyceps_commands.specs.Replies.{lines_of, show};
 ghost use Rattle.replay_lines.specs.ReplyText.{line_text, shown_text, text_of};
 
-use cordyceps::replay::{Item, Reply};
+use cordyceps_commands::{Item, Reply};
 use std::alloc::{AllocError, Global};
 
 /// Adds an item as a line of items shows it. An `Err` adds nothing.

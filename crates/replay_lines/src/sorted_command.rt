@@ -1,13 +1,13 @@
 //! Reads the lines of mode `sorted`.
 ghost use Rattle.std.specs.Prelude.{◌≡◌, ◌++◌, Some, None, true, is_some, IfOk, IfSome, OnErr};
 ghost use Rattle.std.specs.Option.{option_map};
-ghost use Rattle.cordyceps.specs.Sorteds.{Fits};
+ghost use Rattle.cordyceps_commands.specs.SortedCommands.{Fits};
 ghost use Rattle.replay_lines.specs.Words.{words_left};
 ghost use Rattle.replay_lines.specs.SortedScript.{verb_of, pair_of, pairs_of, structure_and_pairs_of, from, entry_for, entry_of};
 
 use crate::line_words::{item_with, structure, structure_and_item};
 use crate::words::{Words, structure_number};
-use cordyceps::replay::{Item, SortedCommand};
+use cordyceps_commands::{Item, SortedCommand};
 use memchr::memchr;
 use std::alloc::{AllocError, Global};
 

@@ -1,11 +1,11 @@
 //! Reads the lines of mode `stack`.
 ghost use Rattle.std.specs.Prelude.{◌≡◌, Some, IfSome};
-ghost use Rattle.cordyceps.specs.Stacks.{Fits};
+ghost use Rattle.cordyceps_commands.specs.StackCommands.{Fits};
 ghost use Rattle.replay_lines.specs.StackScript.{verb_of, command_of};
 
 use crate::line_words::{structure, structure_and_item, two_structures};
 use crate::words::Words;
-use cordyceps::replay::StackCommand;
+use cordyceps_commands::StackCommand;
 
 /// The command words of the mode.
 #[derive(Clone, Copy)]

@@ -6,7 +6,7 @@ ghost use Rattle.replay_lines.specs.TransferSpelling.{spelling_of, HasNumbers};
 
 use crate::line_words::{nothing, party, party_and_item};
 use crate::words::Words;
-use cordyceps::replay::Item;
+use cordyceps_commands::Item;
 
 /// A command of mode `transfer`, with the number of its party.
 #[derive(Clone, Copy)]

@@ -1,6 +1,6 @@
 -- What a line that is a command does.
 use Rattle.std.proofs.Common.{◌≡◌, ℕ, List, [], ◌∷◌, Option, Some, refl, sym, ◌∙◌, ap}
-use Rattle.cordyceps.specs.Replies.{Line}
+use Rattle.cordyceps_commands.specs.Replies.{Line}
 use Rattle.replay_sessions.specs.Commands.{answered, commands_machine, core_answered, core_commands_machine}
 use Rattle.replay_lines.specs.CoreReplies.{CoreLine, core_text}
 use Rattle.replay_lines.specs.ReplyText.{text_of}

@@ -4,14 +4,14 @@ use Rattle.std.specs.Prelude.{is_some, IsSome}
 use Rattle.std.specs.Option.{option_map}
 use Rattle.std.specs.List.{concat}
 use Rattle.std.proofs.lemmas.List.{append-nil}
-use Rattle.cordyceps.specs.declared.replay.list_command.CursorCommand.{CursorCommand}
-use Rattle.cordyceps.specs.declared.replay.list_command.CursorCommand.TheVariants as lines
-use Rattle.cordyceps.specs.declared.replay.list_command.ListCommand.{ListCommand}
-use Rattle.cordyceps.specs.declared.replay.list_command.ListCommand.TheVariants as commands
-use Rattle.cordyceps.specs.Replies.{Line}
-use Rattle.cordyceps.specs.Tables.{Table}
-use Rattle.cordyceps.specs.Blocks.{OtherFits, EndsBlock, BlockFits}
-use Rattle.cordyceps.specs.Lists.{step}
+use Rattle.cordyceps_commands.specs.declared.list_command.CursorCommand.{CursorCommand}
+use Rattle.cordyceps_commands.specs.declared.list_command.CursorCommand.TheVariants as lines
+use Rattle.cordyceps_commands.specs.declared.list_command.ListCommand.{ListCommand}
+use Rattle.cordyceps_commands.specs.declared.list_command.ListCommand.TheVariants as commands
+use Rattle.cordyceps_commands.specs.Replies.{Line}
+use Rattle.cordyceps_tables.specs.Tables.{Table}
+use Rattle.cordyceps_tables.specs.Blocks.{OtherFits, EndsBlock, BlockFits}
+use Rattle.cordyceps_tables.specs.Lists.{step}
 use Rattle.replay_sessions.specs.declared.block.Block.{Block}
 use Rattle.replay_lines.specs.declared.list_command.Entry.{Entry}
 use Rattle.replay_lines.specs.declared.list_command.Entry.TheVariants as entries

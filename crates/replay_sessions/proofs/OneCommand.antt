@@ -1,8 +1,8 @@
 -- One command and its reply.
 use Rattle.std.proofs.Common.{◌≡◌, List, [], ◌∷◌, ◌++◌, map, Result, Ok, Err, IfOk, sym, ◌∙◌, ap}
-use Rattle.cordyceps.specs.declared.replay.reply.Reply.{Reply}
-use Rattle.cordyceps.specs.Replies.{Line, lines_of}
-use Rattle.cordyceps.specs.Plays.{Plays, replies_to, after}
+use Rattle.cordyceps_commands.specs.declared.reply.Reply.{Reply}
+use Rattle.cordyceps_commands.specs.Replies.{Line, lines_of}
+use Rattle.cordyceps_tables.specs.Plays.{Plays, replies_to, after}
 
 no_lines : (front : List Reply) (reply : Reply) → map lines_of (front ++ reply ∷ []) ≡ [] → ⊥
 no_lines [] reply said = cc

@@ -2,11 +2,11 @@
 use Rattle.std.proofs.Common.{◌≡◌, ℕ, Option, Some, None, true, refl}
 use Rattle.std.specs.Prelude.{is_some}
 use Rattle.std.specs.declared.cmp.Ordering.{Ordering}
-use Rattle.cordyceps.specs.declared.replay.item.Item.{Item}
-use Rattle.cordyceps.specs.declared.replay.sorteds.SortedCommand.{SortedCommand}
-use Rattle.cordyceps.specs.declared.replay.sorteds.SortedCommand.TheVariants as commands
-use Rattle.cordyceps.specs.Tables.{Table}
-use Rattle.cordyceps.specs.Sorteds.{step}
+use Rattle.cordyceps_commands.specs.declared.item.Item.{Item}
+use Rattle.cordyceps_commands.specs.declared.sorted_command.SortedCommand.{SortedCommand}
+use Rattle.cordyceps_commands.specs.declared.sorted_command.SortedCommand.TheVariants as commands
+use Rattle.cordyceps_tables.specs.Tables.{Table}
+use Rattle.cordyceps_tables.specs.Sorteds.{step}
 use Rattle.replay_lines.specs.SortedScript.{Entry, entry_for}
 use Rattle.replay_sessions.specs.SortedMachine.{step_entry}
 

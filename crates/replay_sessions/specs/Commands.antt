@@ -1,7 +1,7 @@
 -- Scripts in which each line is a command.
 use Rattle.std.specs.Prelude.{ℕ, List, [], ◌∷◌, Option}
 use Rattle.std.specs.Option.{option_map}
-use Rattle.cordyceps.specs.Replies.{Line}
+use Rattle.cordyceps_commands.specs.Replies.{Line}
 use Rattle.replay_driver.specs.Script.{Machine}
 use Rattle.replay_lines.specs.ReplyText.{text_of}
 use Rattle.replay_lines.specs.CoreReplies.{CoreLine, core_text}

@@ -2,14 +2,14 @@
 use Rattle.std.specs.Prelude.{ℕ, List, [], ◌∷◌, ◌++◌, Option, None, Some}
 use Rattle.std.specs.Option.{option_map}
 use Rattle.cordyceps_base.specs.Element.{values}
-use Rattle.cordyceps.specs.declared.replay.list_command.ListEnd.{ListEnd}
-use Rattle.cordyceps.specs.declared.replay.list_command.CursorCommand.{CursorCommand}
-use Rattle.cordyceps.specs.declared.replay.list_command.CursorCommand.TheVariants as lines
-use Rattle.cordyceps.specs.Replies.{Line, show}
-use Rattle.cordyceps.specs.Tables.{Table, on}
-use Rattle.cordyceps.specs.Walks.{walked}
-use Rattle.cordyceps.specs.Blocks.{block}
-use Rattle.cordyceps.specs.Lists.{step}
+use Rattle.cordyceps_commands.specs.declared.list_command.ListEnd.{ListEnd}
+use Rattle.cordyceps_commands.specs.declared.list_command.CursorCommand.{CursorCommand}
+use Rattle.cordyceps_commands.specs.declared.list_command.CursorCommand.TheVariants as lines
+use Rattle.cordyceps_commands.specs.Replies.{Line, show}
+use Rattle.cordyceps_tables.specs.Tables.{Table, on}
+use Rattle.cordyceps_tables.specs.Walks.{walked}
+use Rattle.cordyceps_tables.specs.Blocks.{block}
+use Rattle.cordyceps_tables.specs.Lists.{step}
 use Rattle.replay_driver.specs.Script.{Machine}
 use Rattle.replay_lines.specs.ReplyText.{text_of}
 use Rattle.replay_lines.specs.ListScript.{Meaning, plain, walk, into, cursor, meaning_of}

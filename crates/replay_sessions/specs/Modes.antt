@@ -1,9 +1,9 @@
 -- What a run of a script in a mode reads, writes and answers.
 use Rattle.std.specs.Prelude.{ℕ, List, None, Result}
 use Rattle.std.specs.declared.cmp.Ordering.{Ordering}
-use Rattle.cordyceps.specs.declared.replay.item.Item.{Item}
-use Rattle.cordyceps.specs.Sorteds.{order_of}
-use Rattle.cordyceps.specs.Tables.{empty_table}
+use Rattle.cordyceps_commands.specs.declared.item.Item.{Item}
+use Rattle.cordyceps_tables.specs.Sorteds.{order_of}
+use Rattle.cordyceps_tables.specs.Tables.{empty_table}
 use Rattle.replay_sessions.specs.declared.modes.Mode.{Mode}
 use Rattle.replay_sessions.specs.declared.modes.Mode.TheVariants as modes
 use Rattle.replay_driver.specs.declared.fault.Fault.{Fault}

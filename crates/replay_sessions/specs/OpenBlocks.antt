@@ -1,8 +1,8 @@
 -- The block that a session of mode list holds.
 use Rattle.std.specs.Prelude.{◌≡◌, ℕ, ◌<◌, List, [], ◌∷◌, ◌++◌, Option, None, Some}
-use Rattle.cordyceps.specs.declared.replay.list_command.CursorCommand.{CursorCommand}
-use Rattle.cordyceps.specs.declared.replay.list_command.CursorCommand.TheVariants as lines
-use Rattle.cordyceps.specs.Blocks.{OtherFits, BlockFits}
+use Rattle.cordyceps_commands.specs.declared.list_command.CursorCommand.{CursorCommand}
+use Rattle.cordyceps_commands.specs.declared.list_command.CursorCommand.TheVariants as lines
+use Rattle.cordyceps_tables.specs.Blocks.{OtherFits, BlockFits}
 use Rattle.replay_sessions.specs.declared.block.Block.{Block}
 use Rattle.replay_sessions.specs.ListMachine.{Open, State, run_block}
 use Rattle.replay_lines.specs.ReplyText.{text_of}

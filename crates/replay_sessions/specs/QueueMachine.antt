@@ -1,8 +1,17 @@
 -- What the lines of mode queue do.
 use Rattle.std.specs.Prelude.{ℕ, List, length, Result, Ok, Err, slice_get, if◌then◌else◌, nat_lt}
-use Rattle.cordyceps.specs.declared.replay.item.Item.{Item}
-use Rattle.cordyceps.specs.QueueCores.{after, QueueStep, Clear, Swap, Link, Take, ReadNext, ReadHead, Give, Done, Taken, Busy, Out, Empty, Inconsistent, TryDequeueError, Answered, stepped, core_step, new_machine, with_party, with_room, enqueue_steps, is_ready, may_dequeue, dequeued, found_of, may_drain, drained_at, batch_of}
-use Rattle.cordyceps.specs.QueueCores as cores
+use Rattle.cordyceps_commands.specs.declared.item.Item.{Item}
+use Rattle.cordyceps_base.specs.Runs.{after}
+use Rattle.cordyceps_queue.specs.declared.cores.steps.QueueStep.{QueueStep}
+use Rattle.cordyceps_queue.specs.declared.cores.steps.QueueStep.TheVariants.{Clear, Swap, Link, Take, ReadNext, ReadHead, Give}
+use Rattle.cordyceps_queue.specs.declared.cores.steps.QueueAnswer.TheVariants.{Done, Taken, Busy, Out, Empty, Inconsistent}
+use Rattle.cordyceps_queue.specs.declared.cores.steps.TryDequeueError.{TryDequeueError}
+use Rattle.cordyceps_queue.specs.declared.cores.steps.TryDequeueError.TheVariants.{Empty as FindsEmpty, Inconsistent as FindsInconsistent, Busy as FindsBusy}
+use Rattle.cordyceps_queue.specs.Cores.Machine.{Answered, stepped}
+use Rattle.cordyceps_queue.specs.Cores.CoreMeets.{core_step, new_machine, with_party, with_room}
+use Rattle.cordyceps_queue.specs.Cores.Alone.{enqueue_steps, is_ready, may_dequeue, dequeued, found_of}
+use Rattle.cordyceps_queue.specs.Cores.Drain.{may_drain, drained_at, batch_of}
+use Rattle.cordyceps_queue.specs.Cores.Machine as cores
 use Rattle.replay_driver.specs.Script.{Machine}
 use Rattle.replay_sessions.specs.Commands.{core_commands_machine}
 use Rattle.replay_lines.specs.CoreReplies.{CoreLine, party, done, found, busy, empty, inconsistent, show, not_there}
@@ -26,9 +35,9 @@ told (Err refused) = not_there
 
 -- the reply that tells why a try to dequeue gave nothing
 abbrev pub told_error : TryDequeueError → CoreLine
-told_error cores.FindsEmpty = empty
-told_error cores.FindsInconsistent = inconsistent
-told_error cores.FindsBusy = busy
+told_error FindsEmpty = empty
+told_error FindsInconsistent = inconsistent
+told_error FindsBusy = busy
 
 -- the reply that tells what a try to dequeue found
 abbrev pub told_found : Result Item TryDequeueError → CoreLine

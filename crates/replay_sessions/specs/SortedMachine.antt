@@ -1,11 +1,11 @@
 -- What the lines of mode sorted do.
 use Rattle.std.specs.Prelude.{ℕ, List}
 use Rattle.std.specs.declared.cmp.Ordering.{Ordering}
-use Rattle.cordyceps.specs.declared.replay.item.Item.{Item}
-use Rattle.cordyceps.specs.declared.replay.sorteds.SortedCommand.TheVariants as commands
-use Rattle.cordyceps.specs.Replies.{Line}
-use Rattle.cordyceps.specs.Tables.{Table, on}
-use Rattle.cordyceps.specs.Sorteds.{step, filled}
+use Rattle.cordyceps_commands.specs.declared.item.Item.{Item}
+use Rattle.cordyceps_commands.specs.declared.sorted_command.SortedCommand.TheVariants as commands
+use Rattle.cordyceps_commands.specs.Replies.{Line}
+use Rattle.cordyceps_tables.specs.Tables.{Table, on}
+use Rattle.cordyceps_tables.specs.Sorteds.{step, filled}
 use Rattle.replay_driver.specs.Script.{Machine}
 use Rattle.replay_lines.specs.SortedScript.{Entry, insert, pop, show, from, entry_of}
 use Rattle.replay_sessions.specs.Commands.{commands_machine}

@@ -1,6 +1,6 @@
 -- What the lines of mode stack do.
-use Rattle.cordyceps.specs.Tables.{Table}
-use Rattle.cordyceps.specs.Stacks.{step}
+use Rattle.cordyceps_tables.specs.Tables.{Table}
+use Rattle.cordyceps_tables.specs.Stacks.{step}
 use Rattle.replay_driver.specs.Script.{Machine}
 use Rattle.replay_lines.specs.StackScript.{command_of}
 use Rattle.replay_sessions.specs.Commands.{commands_machine}

@@ -5,7 +5,7 @@ use denote.Param.Members.{Shared}
 use Rattle.std.specs.Fn.{FnReturnsAtPair}
 use Rattle.std.specs.Ordering.{nat_cmp}
 use Rattle.std.specs.declared.cmp.Ordering.{Ordering}
-use Rattle.cordyceps.specs.declared.replay.item.Item.{Item}
+use Rattle.cordyceps_commands.specs.declared.item.Item.{Item}
 
 -- the order of the values' quotients by ten
 abbrev pub by_tens : Item → Item → Ordering

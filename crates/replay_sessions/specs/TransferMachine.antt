@@ -1,8 +1,14 @@
 -- What the lines of mode transfer do.
 use Rattle.std.specs.Prelude.{ℕ, length, Ok, Err, is_none, if◌then◌else◌, nat_lt}
-use Rattle.cordyceps.specs.declared.replay.item.Item.{Item}
-use Rattle.cordyceps.specs.TransferCores.{after, TransferStep, Load, SetNext, Exchange, Take, Walk, Done, Pushed, Failed, Taken, Nothing, Gives, Last, core_step, push_steps, take_steps, Answered, new_machine, with_party, with_room, held_in, stepped, is_at_rest, is_ready}
-use Rattle.cordyceps.specs.TransferCores as cores
+use Rattle.cordyceps_commands.specs.declared.item.Item.{Item}
+use Rattle.cordyceps_base.specs.Runs.{after}
+use Rattle.cordyceps_stack.specs.declared.cores.steps.TransferStep.{TransferStep}
+use Rattle.cordyceps_stack.specs.declared.cores.steps.TransferStep.TheVariants.{Load, SetNext, Exchange, Take, Walk}
+use Rattle.cordyceps_stack.specs.declared.cores.steps.TransferAnswer.TheVariants.{Done, Pushed, Failed, Taken, Nothing, Gives, Last}
+use Rattle.cordyceps_stack.specs.Cores.CoreMeets.{core_step}
+use Rattle.cordyceps_stack.specs.Cores.Alone.{push_steps, take_steps}
+use Rattle.cordyceps_stack.specs.Cores.Machine.{Answered, new_machine, with_party, with_room, held_in, stepped, is_at_rest, is_ready}
+use Rattle.cordyceps_stack.specs.Cores.Machine as cores
 use Rattle.replay_driver.specs.Script.{Machine}
 use Rattle.replay_sessions.specs.Commands.{core_commands_machine}
 use Rattle.replay_lines.specs.CoreReplies.{CoreLine, party, done, truth, found, last, failed, taken, nothing, show, not_there}

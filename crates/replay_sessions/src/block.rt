@@ -1,6 +1,6 @@
 //! A cursor block whose end has not come.
 
-use cordyceps::replay::{CursorCommand, ListEnd};
+use cordyceps_commands::{CursorCommand, ListEnd};
 
 /// A cursor block that is open: its list, where its cursor begins, and its lines so far.
 #[derive(Drop)]

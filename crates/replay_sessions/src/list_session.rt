@@ -1,15 +1,16 @@
 //! Scripts in mode `list`.
 ghost use Rattle.std.specs.Prelude.{◌≡◌, Some, None, IsSome, IfOk, OnOk, OnErr};
-ghost use Rattle.cordyceps.specs.Lists.{step, Fits};
-ghost use Rattle.cordyceps.specs.Replies.{lines_of};
-ghost use Rattle.cordyceps.specs.Tables.{empty_table};
+ghost use Rattle.cordyceps_tables.specs.Lists.{step, Fits};
+ghost use Rattle.cordyceps_commands.specs.Replies.{lines_of};
+ghost use Rattle.cordyceps_tables.specs.Tables.{empty_table};
 ghost use Rattle.replay_sessions.specs.ListMachine.{list_machine};
 ghost use Rattle.replay_sessions.specs.OpenBlocks.{opened, IsOpen, CanRun, Closes};
 ghost use Rattle.replay_driver.specs.Steps.{TakesLine};
 
 use crate::block::Block;
 use crate::playing::{alone, last_reply};
-use cordyceps::replay::{CursorCommand, ListCommand, Lists, Reply, replay_lists};
+use cordyceps_commands::{CursorCommand, ListCommand, Reply};
+use cordyceps_tables::replay::{Lists, replay_lists};
 use replay_driver::session::Session;
 use replay_lines::cursor_command::read_cursor_command;
 use replay_lines::list_command::{Entry, read_entry};

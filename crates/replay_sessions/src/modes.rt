@@ -9,7 +9,7 @@ use crate::queue_session::QueueSession;
 use crate::sorted_session::SortedSession;
 use crate::stack_session::StackSession;
 use crate::transfer_session::TransferSession;
-use cordyceps::replay::Item;
+use cordyceps_commands::Item;
 use replay_driver::fault::Fault;
 use replay_driver::script::run_script;
 use replay_driver::sink::Sink;

@@ -1,8 +1,8 @@
 //! A session's one command, and its one reply.
 ghost use Rattle.std.specs.Prelude.{◌≡◌, ◌∷◌, [], ◌++◌, List, IfOk};
-ghost use Rattle.cordyceps.specs.declared.replay.reply.Reply.{Reply};
+ghost use Rattle.cordyceps_commands.specs.declared.reply.Reply.{Reply};
 
-use cordyceps::replay::Reply;
+use cordyceps_commands::Reply;
 use std::alloc::{AllocError, Global};
 use std::collections::VecDeque;
 use std::mem;

@@ -3,8 +3,8 @@ ghost use Rattle.std.specs.Prelude.{◌≡◌, IfOk};
 ghost use Rattle.replay_lines.specs.CoreReplies.{said};
 ghost use Rattle.replay_sessions.specs.QueueMachine.{told, told_error, told_found, takes_step, step, new_core};
 
-use cordyceps::mpsc_queue::{QueueAnswer, QueueCore, QueueStep, StepError, TryDequeueError};
-use cordyceps::replay::Item;
+use cordyceps_commands::Item;
+use cordyceps_queue::mpsc_queue::{QueueAnswer, QueueCore, QueueStep, StepError, TryDequeueError};
 use replay_driver::session::Session;
 use replay_lines::core_reply::{CoreReply, push_core_reply};
 use replay_lines::queue_command::{QueueCommand, read_command};

@@ -1,13 +1,14 @@
 //! Scripts in mode `sorted`.
 ghost use Rattle.std.specs.Prelude.{◌≡◌, ℕ, IfOk};
 ghost use Rattle.std.specs.declared.cmp.Ordering.{Ordering};
-ghost use Rattle.cordyceps.specs.Replies.{lines_of};
-ghost use Rattle.cordyceps.specs.Sorteds.{step, order_of, Fits, AreInOrder};
-ghost use Rattle.cordyceps.specs.Tables.{empty_table};
+ghost use Rattle.cordyceps_commands.specs.Replies.{lines_of};
+ghost use Rattle.cordyceps_tables.specs.Sorteds.{step, order_of, Fits, AreInOrder};
+ghost use Rattle.cordyceps_tables.specs.Tables.{empty_table};
 ghost use Rattle.replay_sessions.specs.Tens.{by_tens, ComparesTens};
 
 use crate::playing::{alone, last_reply};
-use cordyceps::replay::{Item, Reply, SortedCommand, Sorteds, replay_sorted};
+use cordyceps_commands::{Item, Reply, SortedCommand};
+use cordyceps_tables::replay::{Sorteds, replay_sorted};
 use replay_driver::session::Session;
 use replay_lines::reply::push_reply;
 use replay_lines::sorted_command::read_command;
@@ -60,8 +61,8 @@ impl<F: Fn(&Item, &Item) -> Ordering + Copy> SortedSession<F> {
 }
 
 impl<F: Fn(&Item, &Item) -> Ordering + Copy> Session for SortedSession<F> {
-    ghost use Rattle.cordyceps.specs.Sorteds.{order_of, AreInOrder};
-    ghost use Rattle.cordyceps.specs.Tables.{Table};
+    ghost use Rattle.cordyceps_tables.specs.Sorteds.{order_of, AreInOrder};
+    ghost use Rattle.cordyceps_tables.specs.Tables.{Table};
     ghost use Rattle.replay_sessions.specs.SortedMachine.{sorted_machine};
     ghost use Rattle.replay_sessions.specs.Tens.{by_tens, ComparesTens};
 

@@ -1,11 +1,12 @@
 //! Scripts in mode `stack`.
 ghost use Rattle.std.specs.Prelude.{◌≡◌, IfOk};
-ghost use Rattle.cordyceps.specs.Replies.{lines_of};
-ghost use Rattle.cordyceps.specs.Stacks.{step, Fits};
-ghost use Rattle.cordyceps.specs.Tables.{empty_table};
+ghost use Rattle.cordyceps_commands.specs.Replies.{lines_of};
+ghost use Rattle.cordyceps_tables.specs.Stacks.{step, Fits};
+ghost use Rattle.cordyceps_tables.specs.Tables.{empty_table};
 
 use crate::playing::{alone, last_reply};
-use cordyceps::replay::{Reply, StackCommand, Stacks, replay_stacks};
+use cordyceps_commands::{Reply, StackCommand};
+use cordyceps_tables::replay::{Stacks, replay_stacks};
 use replay_driver::session::Session;
 use replay_lines::reply::push_reply;
 use replay_lines::stack_command::read_command;
@@ -46,7 +47,7 @@ impl StackSession {
 }
 
 impl Session for StackSession {
-    ghost use Rattle.cordyceps.specs.Tables.{Table};
+    ghost use Rattle.cordyceps_tables.specs.Tables.{Table};
     ghost use Rattle.replay_sessions.specs.StackMachine.{stack_machine};
 
     ghost State = { Table };

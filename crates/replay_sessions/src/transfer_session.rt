@@ -3,8 +3,8 @@ ghost use Rattle.std.specs.Prelude.{◌≡◌, IfOk};
 ghost use Rattle.replay_lines.specs.CoreReplies.{said};
 ghost use Rattle.replay_sessions.specs.TransferMachine.{told, takes_step, step, new_core};
 
-use cordyceps::replay::Item;
-use cordyceps::stack::{StepError, TransferAnswer, TransferCore, TransferStep};
+use cordyceps_commands::Item;
+use cordyceps_stack::stack::{StepError, TransferAnswer, TransferCore, TransferStep};
 use replay_driver::session::Session;
 use replay_lines::core_reply::{CoreReply, push_core_reply};
 use replay_lines::transfer_command::{TransferCommand, read_command};

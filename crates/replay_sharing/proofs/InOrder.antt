@@ -7,8 +7,8 @@ use Rattle.std.proofs.lemmas.List.Sums.{sum_by-cons}
 use Rattle.std.specs.List.Sorted.{IsPermutation, IsSorted, IsNonDecreasingBy}
 use Rattle.std.specs.List.{sum_by}
 use Rattle.std.specs.Ordering.{nat_cmp}
-use Rattle.cordyceps.specs.Parties.Counts.{one_if, times}
-use Rattle.cordyceps.proofs.Parties.Counting.{one_here, one_else}
+use Rattle.cordyceps_shared.specs.Counts.{one_if, times}
+use Rattle.cordyceps_shared.proofs.Counting.{one_here, one_else}
 
 -- no number is less than x
 abbrev AtLeast : ℕ → List ℕ → Type 0

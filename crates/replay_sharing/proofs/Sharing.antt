@@ -1,11 +1,11 @@
 -- Two parties that were split off a whole one, and taken in again.
 use Rattle.std.proofs.Common.{◌≡◌, ℕ, zero, suc, List, [], ◌∷◌, ◌++◌, replicate, Bool, true, false, cond, ◌||◌, refl, sym, ap, ◌∙◌, subst, inl, inr, append_assoc, append-nil}
-use Rattle.cordyceps.specs.Parties.Histories.{plain, own, AllOwn}
-use Rattle.cordyceps.proofs.Parties.Adding.{plain_own}
-use Rattle.cordyceps.proofs.Parties.Interleaving.{all_left, all_right}
-use Rattle.cordyceps.specs.Parties.Interleaving.{Interleaves}
-use Rattle.cordyceps.specs.Parties.Knowing.{merged}
-use Rattle.cordyceps.specs.Transfers.History.{Event, Load, Push, Taken, pushes, held_after, held_from}
+use Rattle.cordyceps_shared.specs.Histories.{plain, own, AllOwn}
+use Rattle.cordyceps_shared.proofs.Adding.{plain_own}
+use Rattle.cordyceps_shared.proofs.Interleaving.{all_left, all_right}
+use Rattle.cordyceps_shared.specs.Interleaving.{Interleaves}
+use Rattle.cordyceps_shared.specs.Knowing.{merged}
+use Rattle.cordyceps_stack.specs.History.{Event, Load, Push, Taken, pushes, held_after, held_from}
 use Rattle.replay_sharing.specs.Sharing.{NoBatch}
 
 -- each item is one of these

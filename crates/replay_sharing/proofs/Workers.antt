@@ -4,20 +4,20 @@ use Rattle.std.proofs.lemmas.List.{append_cancel_left}
 use Rattle.std.proofs.lemmas.List.Sorted.{IsPermutation-map, IsPermutation-reverse, IsPermutation-trans, length_permutation}
 use Rattle.std.specs.List.Sorted.{IsPermutation, IsSorted}
 use Rattle.std.specs.Ordering.{nat_cmp}
-use Rattle.cordyceps.specs.Elements.Element.{Element}
-use Rattle.cordyceps.specs.Parties.Histories.{plain, own, AllOwn}
-use Rattle.cordyceps.specs.Parties.Interleaving.{Interleaves}
-use Rattle.cordyceps.specs.Parties.Knowing.{Foreign, unmarked, merged, Begins}
-use Rattle.cordyceps.specs.Parties.Shares.{Name, first_name, whole, keeps_half, gives_half, joined}
-use Rattle.cordyceps.specs.Parties.Standings.{name_of, keeping, giving, Absorbs}
-use Rattle.cordyceps.proofs.Parties.Adding.{none_else, adds_then, plain_append, plain_unmarked, plain_own, tail_own, whole_adds}
-use Rattle.cordyceps.proofs.Parties.Interleaving.{interleaved_permutes}
-use Rattle.cordyceps.specs.declared.replay.item.Item.{Item}
-use Rattle.cordyceps.specs.Transfers.History.{Event, Load, Push, Taken, pushes, held, Legal, actor}
-use Rattle.cordyceps.specs.Transfers.Calls.{PartyOf, Adds, PushesAt, Takes}
+use Rattle.cordyceps_base.specs.Element.{Element}
+use Rattle.cordyceps_shared.specs.Histories.{plain, own, AllOwn}
+use Rattle.cordyceps_shared.specs.Interleaving.{Interleaves}
+use Rattle.cordyceps_shared.specs.Knowing.{Foreign, unmarked, merged, Begins}
+use Rattle.cordyceps_shared.specs.Shares.{Name, first_name, whole, keeps_half, gives_half, joined}
+use Rattle.cordyceps_shared.specs.Standings.{name_of, keeping, giving, Absorbs}
+use Rattle.cordyceps_shared.proofs.Adding.{none_else, adds_then, plain_append, plain_unmarked, plain_own, tail_own, whole_adds}
+use Rattle.cordyceps_shared.proofs.Interleaving.{interleaved_permutes}
+use Rattle.cordyceps_commands.specs.declared.item.Item.{Item}
+use Rattle.cordyceps_stack.specs.History.{Event, Load, Push, Taken, pushes, held, Legal, actor}
+use Rattle.cordyceps_stack.specs.Shared.Calls.{PartyOf, Adds, PushesAt, Takes}
 use Rattle.replay_sharing.specs.Sharing.{item, Works, Shared, NoBatch}
 use Rattle.replay_sharing.proofs.InOrder.{sorted_as}
-use Rattle.cordyceps.proofs.Parties.Acting.{merged_since}
+use Rattle.cordyceps_shared.proofs.Acting.{merged_since}
 use Rattle.replay_sharing.proofs.Sharing.{Every, Other, pushed_by_both, none_taken, held_since, none_append, pushes_append, tries_take_nothing, tries_push_once}
 
 abbrev Party : Type 0

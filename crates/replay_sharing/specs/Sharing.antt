@@ -1,12 +1,12 @@
 -- What two workers that share a stack come to.
 use Rattle.std.specs.Prelude.{◌≡◌, ℕ, List, [], ◌∷◌, ◌++◌, reverse, Result, Ok, Err, decimal}
-use Rattle.cordyceps.specs.Elements.Element.{Element}
-use Rattle.cordyceps.specs.Parties.Interleaving.{Interleaves}
-use Rattle.cordyceps.specs.Parties.Shares.{Name}
-use Rattle.cordyceps.specs.Parties.Standings.{name_of}
-use Rattle.cordyceps.specs.declared.replay.item.Item.{Item}
-use Rattle.cordyceps.specs.Transfers.History.{Event, Load, Push, Taken, pushes}
-use Rattle.cordyceps.specs.Transfers.Calls.{PartyOf, Adds}
+use Rattle.cordyceps_base.specs.Element.{Element}
+use Rattle.cordyceps_shared.specs.Interleaving.{Interleaves}
+use Rattle.cordyceps_shared.specs.Shares.{Name}
+use Rattle.cordyceps_shared.specs.Standings.{name_of}
+use Rattle.cordyceps_commands.specs.declared.item.Item.{Item}
+use Rattle.cordyceps_stack.specs.History.{Event, Load, Push, Taken, pushes}
+use Rattle.cordyceps_stack.specs.Shared.Calls.{PartyOf, Adds}
 use Rattle.replay_driver.specs.declared.fault.Fault.{Fault}
 use Rattle.replay_driver.specs.declared.fault.Fault.TheVariants as faults
 

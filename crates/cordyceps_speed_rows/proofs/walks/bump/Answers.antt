@@ -1,6 +1,6 @@
 use Rattle.std.proofs.Common.{◌%◌, ◌+◌, ◌^◌, arith}
 use Rattle.cordyceps_list.specs.IterMut.{elements, from, to}
-use Rattle.cordyceps.specs.declared.replay.item.Item.{Item}
+use Rattle.cordyceps.specs.Commands.Item.{Item}
 use Rattle.cordyceps.proofs.Walks.{bump_inside}
 use Rattle.cordyceps_speed_rows.proofs.walks.bump.Goals as goal
 

@@ -1,9 +1,9 @@
 use Rattle.std.proofs.Common.{◌≡◌, ℕ, List, ◌++◌, ◌∙◌, ap, sym, arith, take}
 use Rattle.std.proofs.lemmas.List.{take_all}
 use Rattle.std.specs.List.{flat_map}
-use Rattle.cordyceps.specs.declared.replay.reply.Reply.{Reply}
-use Rattle.cordyceps.specs.Replies.{lines_of, found, len, index}
-use Rattle.cordyceps.proofs.Replies.{found_line, len_line, index_line}
+use Rattle.cordyceps_commands.specs.declared.reply.Reply.{Reply}
+use Rattle.cordyceps_commands.specs.Replies.{lines_of, found, len, index}
+use Rattle.cordyceps_commands.proofs.Replies.{found_line, len_line, index_line}
 use Rattle.replay_lines.specs.ReplyText.{line_text, text_of}
 use Rattle.replay_lines.proofs.Texts.{block_text, found_text, line_pushed}
 use Rattle.replay_lines.proofs.reply.+push_reply.Goals as goal

@@ -1,6 +1,6 @@
 use Rattle.std.proofs.Common.{◌≡◌, ◌++◌, length, take}
 use Rattle.std.specs.List.{flat_map}
-use Rattle.cordyceps.specs.Replies.{lines_of}
+use Rattle.cordyceps_commands.specs.Replies.{lines_of}
 use Rattle.replay_lines.specs.ReplyText.{text_of}
 use Rattle.replay_lines.proofs.reply.+push_reply.Given as goal
 

@@ -1,5 +1,5 @@
-use Rattle.cordyceps.specs.Sorteds.{order_of}
-use Rattle.cordyceps.proofs.Ordered.{own}
+use Rattle.cordyceps_tables.specs.Sorteds.{order_of}
+use Rattle.cordyceps_tables.proofs.Ordered.{own}
 use Rattle.replay_sessions.specs.Tens.{by_tens}
 use Rattle.replay_sessions.proofs.modes.run.Goals as goal
 

@@ -2,11 +2,11 @@ use Rattle.std.proofs.Common.{◌∙◌, List, map, ap, subst}
 use Rattle.std.proofs.lemmas.List.{map-id}
 use Rattle.std.proofs.lemmas.Result.{IfOk-weaker}
 use Rattle.std.specs.List.Sorted.{IsPermutation}
-use Rattle.cordyceps.specs.Elements.Element.{Element}
-use Rattle.cordyceps.specs.Parties.Standings.{keeping, giving, Absorbs}
-use Rattle.cordyceps.specs.declared.replay.item.Item.{Item}
-use Rattle.cordyceps.specs.Transfers.History.{Legal}
-use Rattle.cordyceps.specs.Transfers.Calls.{PartyOf}
+use Rattle.cordyceps_base.specs.Element.{Element}
+use Rattle.cordyceps_shared.specs.Standings.{keeping, giving, Absorbs}
+use Rattle.cordyceps_commands.specs.declared.item.Item.{Item}
+use Rattle.cordyceps_stack.specs.History.{Legal}
+use Rattle.cordyceps_stack.specs.Shared.Calls.{PartyOf}
 use Rattle.replay_sharing.specs.Sharing.{Works, Shared}
 use Rattle.replay_sharing.proofs.Workers.{shared}
 use Rattle.replay_sharing.proofs.share.run_workers.Goals as goal

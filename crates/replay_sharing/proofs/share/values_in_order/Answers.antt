@@ -1,7 +1,7 @@
 use Rattle.std.proofs.Common.{◌++◌, ◌∷◌, [], map, sym, ap, ◌∙◌, subst, append_assoc, append-nil}
 use Rattle.std.specs.List.Sorted.{IsPermutation}
-use Rattle.cordyceps.specs.Elements.Element.{Element}
-use Rattle.cordyceps.specs.declared.replay.item.Item.{Item}
+use Rattle.cordyceps_base.specs.Element.{Element}
+use Rattle.cordyceps_commands.specs.declared.item.Item.{Item}
 use Rattle.replay_sharing.proofs.share.values_in_order.Goals as goal
 
 pub loop-node-init : goal.loop-node-init

@@ -1,4 +1,4 @@
-use Rattle.cordyceps.specs.Lists.{step}
+use Rattle.cordyceps_tables.specs.Lists.{step}
 use Rattle.replay_sessions.proofs.OneCommand.{replied}
 use Rattle.replay_sessions.proofs.list_session.ListSession.play.Goals as goal
 

@@ -1,7 +1,7 @@
 use Rattle.std.proofs.Common.{◌++◌, ◌∷◌, [], refl, sym, ◌∙◌, ap, inl}
 use Rattle.std.proofs.lemmas.List.{append-nil}
 use Rattle.std.proofs.lemmas.Result.{err_from_is_err_and}
-use Rattle.cordyceps.specs.Replies.{lines_of}
+use Rattle.cordyceps_commands.specs.Replies.{lines_of}
 use Rattle.replay_lines.specs.ReplyText.{text_of}
 use Rattle.replay_lines.specs.ListScript.{meaning_of}
 use Rattle.replay_sessions.proofs.ListLines.{some_meaning, command_read, outside, entered, entered_as}

@@ -1,5 +1,5 @@
 use Rattle.std.proofs.Common.{◌/◌}
-use Rattle.cordyceps.proofs.Keys.{computes_by}
+use Rattle.cordyceps_tables.proofs.Keys.{computes_by}
 use Rattle.replay_sessions.specs.Tens.{by_tens}
 use Rattle.replay_sessions.proofs.sorted_session.SortedSession.new.Goals as goal
 

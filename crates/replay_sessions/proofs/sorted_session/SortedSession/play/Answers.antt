@@ -1,7 +1,7 @@
 use Rattle.std.proofs.Common.{◌/◌}
-use Rattle.cordyceps.specs.Sorteds.{step, order_of}
-use Rattle.cordyceps.proofs.Keys.{computes_by}
-use Rattle.cordyceps.proofs.Ordered.{own}
+use Rattle.cordyceps_tables.specs.Sorteds.{step, order_of}
+use Rattle.cordyceps_tables.proofs.Keys.{computes_by}
+use Rattle.cordyceps_tables.proofs.Ordered.{own}
 use Rattle.replay_sessions.specs.Tens.{by_tens}
 use Rattle.replay_sessions.proofs.OneCommand.{replied}
 use Rattle.replay_sessions.proofs.sorted_session.SortedSession.play.Goals as goal

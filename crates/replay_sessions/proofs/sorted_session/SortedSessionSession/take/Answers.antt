@@ -2,9 +2,9 @@ use Rattle.std.proofs.Common.{◌++◌, ◌∷◌, [], refl, sym, ◌∙◌, ap,
 use Rattle.std.specs.Option.{option_map}
 use Rattle.std.proofs.lemmas.List.{append-nil}
 use Rattle.std.proofs.lemmas.Result.{err_from_is_err_and}
-use Rattle.cordyceps.specs.Replies.{lines_of}
-use Rattle.cordyceps.specs.Sorteds.{order_of}
-use Rattle.cordyceps.proofs.Ordered.{own}
+use Rattle.cordyceps_commands.specs.Replies.{lines_of}
+use Rattle.cordyceps_tables.specs.Sorteds.{order_of}
+use Rattle.cordyceps_tables.proofs.Ordered.{own}
 use Rattle.replay_lines.specs.ReplyText.{text_of}
 use Rattle.replay_lines.specs.SortedScript.{entry_for, entry_of}
 use Rattle.replay_sessions.specs.SortedMachine.{step_entry}

@@ -1,4 +1,4 @@
-use Rattle.cordyceps.specs.Stacks.{step}
+use Rattle.cordyceps_tables.specs.Stacks.{step}
 use Rattle.replay_sessions.proofs.OneCommand.{replied}
 use Rattle.replay_sessions.proofs.stack_session.StackSession.play.Goals as goal
 

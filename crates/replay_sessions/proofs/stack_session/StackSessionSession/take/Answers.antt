@@ -1,8 +1,8 @@
 use Rattle.std.proofs.Common.{◌++◌, ◌∷◌, [], refl, sym, ◌∙◌, ap, inl}
 use Rattle.std.proofs.lemmas.List.{append-nil}
 use Rattle.std.proofs.lemmas.Result.{err_from_is_err_and}
-use Rattle.cordyceps.specs.Replies.{lines_of}
-use Rattle.cordyceps.specs.Stacks.{step}
+use Rattle.cordyceps_commands.specs.Replies.{lines_of}
+use Rattle.cordyceps_tables.specs.Stacks.{step}
 use Rattle.replay_lines.specs.ReplyText.{text_of}
 use Rattle.replay_lines.specs.StackScript.{command_of}
 use Rattle.replay_sessions.proofs.Lines.{taken, taken_as}

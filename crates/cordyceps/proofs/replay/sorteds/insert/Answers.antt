@@ -1,7 +1,0 @@
-use Rattle.std.proofs.Common.{◌≡◌, subst}
-use Rattle.cordyceps_stack.specs.Arrangement.{put}
-use Rattle.cordyceps.proofs.replay.sorteds.insert.Goals as goal
-
-pub returns-clause-put : goal.returns-clause-put
-returns-clause-put g c =
-    λ cmp by sorted. subst (λ e. c.insert.new.self.0 ≡ put cmp c.args.list.now.0 e) c.in_ok-node_of.ensures (c.insert.ensures.placed cmp by sorted)

@@ -1,8 +1,0 @@
-use Rattle.std.proofs.Common.{[], rules}
-use Rattle.cordyceps.proofs.Ends.{all_empty}
-use Rattle.cordyceps.proofs.replay.stacks.Stacks.new.Goals as goal
-
-pub returns : goal.returns
-returns c =
-    let made = c.from_fn.ensures.items in
-    all_empty c.from_fn.result 16 made.long (λ i below. let called = (made.at i [] below).2 in search rules)

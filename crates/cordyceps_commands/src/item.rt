@@ -1,0 +1,103 @@
+//! What the replayed structures hold.
+ghost use Rattle.std.specs.Prelude.{◌≡◌};
+ghost use Rattle.std.proofs.Common.{rules};
+ghost use Rattle.std.specs.Cmp.{partial_order_from_own_ties};
+ghost use Rattle.std.specs.Cmp.Rules.{comparing};
+ghost use Rattle.std.specs.Ordering.{as_partial_cmp};
+ghost use Rattle.cordyceps_commands.specs.Items.{by_value_then_number};
+
+use cordyceps_base::linked::Linked;
+use cordyceps_base::node::Node;
+use cordyceps_base::{list, mpsc_queue, stack};
+use std::cmp::Ordering;
+
+/// A value and a number. Items are ordered by value, and those of one value by number.
+///
+/// An item can stand in structures of each kind: its handle is a node that holds it. Where a
+/// replay makes that node, the node's number is the item's `id`.
+#[derive(Clone, Copy, Debug, PartialEq, Eq)]
+pub struct Item {
+    /// The value, which a command may replace.
+    pub value: u64,
+    /// The number by which the item is known. It need not be unique.
+    pub id: u64,
+}
+
+impl Ord for Item {
+    ghost cmp = { by_value_then_number };
+
+    ghost total = { Prim.search (comparing, rules) };
+
+    ghost matches_partial_cmp = { Prim.search (comparing, rules) };
+
+    ghost matches_eq = { Prim.search (comparing, rules) };
+
+    /// Compares the values, and the numbers where these are equal.
+    fn cmp(&self, other: &Item) -> Ordering {
+        self.value.cmp(&other.value).then(self.id.cmp(&other.id))
+    }
+}
+
+impl PartialOrd for Item {
+    ghost partial_cmp = { as_partial_cmp by_value_then_number };
+
+    ghost laws = { partial_order_from_own_ties (Prim.search (comparing, rules)) (Prim.search (comparing, rules)) };
+
+    /// Compares as `cmp` does.
+    fn partial_cmp(&self, other: &Item) -> Option<Ordering> {
+        Some(self.cmp(other))
+    }
+}
+
+impl Linked<list::Links<Item>> for Item {
+    type Handle = Node<Item, list::Links<Item>>;
+
+    ghost element = { λ h. h };
+
+    fn into_ptr(handle: Node<Item, list::Links<Item>>) -> Node<Item, list::Links<Item>> {
+        handle
+    }
+
+    fn from_ptr(node: Node<Item, list::Links<Item>>) -> Node<Item, list::Links<Item>>
+        ensures { result ≡ node }
+    {
+        // a list's node is its handle
+        node
+    }
+}
+
+impl Linked<stack::Links<Item>> for Item {
+    type Handle = Node<Item, stack::Links<Item>>;
+
+    ghost element = { λ h. h };
+
+    fn into_ptr(handle: Node<Item, stack::Links<Item>>) -> Node<Item, stack::Links<Item>> {
+        handle
+    }
+
+    fn from_ptr(node: Node<Item, stack::Links<Item>>) -> Node<Item, stack::Links<Item>>
+        ensures { result ≡ node }
+    {
+        // a stack's node is its handle
+        node
+    }
+}
+
+impl Linked<mpsc_queue::Links<Item>> for Item {
+    type Handle = Node<Item, mpsc_queue::Links<Item>>;
+
+    ghost element = { λ h. h };
+
+    fn into_ptr(
+        handle: Node<Item, mpsc_queue::Links<Item>>,
+    ) -> Node<Item, mpsc_queue::Links<Item>> {
+        handle
+    }
+
+    fn from_ptr(node: Node<Item, mpsc_queue::Links<Item>>) -> Node<Item, mpsc_queue::Links<Item>>
+        ensures { result ≡ node }
+    {
+        // a queue's node is its handle
+        node
+    }
+}

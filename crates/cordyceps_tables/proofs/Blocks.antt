@@ -1,0 +1,173 @@
+-- Lines of a cursor block.
+use Rattle.std.proofs.Common.{◌≡◌, ℕ, zero, suc, ◌+◌, ◌<◌, ◌≤◌, Bool, true, false, not, List, [], ◌∷◌, ◌++◌, length, take, drop, Option, Some, slice_get, refl, sym, ap, ◌∙◌, arith, inl, inr, eq-eqb, set, ◌≢◌, subst}
+use Rattle.std.specs.Prelude.{nat_lt, nat_eq, nat_le, if◌then◌else◌, ◌&&◌}
+use Rattle.std.proofs.lemmas.List.{set-set, set-get_or, get_or-set_same, get_or-set_other}
+use Rattle.std.proofs.lemmas.Bool.{cases_lt}
+use Rattle.std.proofs.lemmas.Bool.Decides.{nat_tests}
+use Rattle.cordyceps_base.specs.Runs.{after, replies_to}
+use Rattle.cordyceps_base.specs.Element.{Elements, values, with_value}
+use Rattle.cordyceps_list.specs.declared.cursor_mut.CursorMut.{CursorMut}
+use Rattle.cordyceps_list.specs.Cursor.{Stands, elements, place}
+use Rattle.cordyceps_list.proofs.Lent.{same_value}
+use Rattle.cordyceps_tables.proofs.Places.{same_or_not, inside}
+use Rattle.cordyceps_commands.specs.declared.item.Item.{Item}
+use Rattle.cordyceps_commands.specs.declared.reply.Reply.{Reply}
+use Rattle.cordyceps_commands.specs.declared.list_command.ListEnd.{ListEnd}
+use Rattle.cordyceps_commands.specs.declared.list_command.CursorCommand.{CursorCommand}
+use Rattle.cordyceps_commands.specs.declared.list_command.CursorCommand.TheVariants.{SplitAfter, SplitBefore, SpliceAfter, SpliceBefore}
+use Rattle.cordyceps_commands.specs.Replies.{Line, lines_of, done, found_or_nothing}
+use Rattle.cordyceps_tables.specs.Tables.{Table, held_at}
+use Rattle.cordyceps_tables.specs.Blocks.{Spot, State, blocked, first_place, rewritten, Goes, Obeys, line_on, line_step, state_of, LineRuns, cut_behind, cut_before, put_behind, put_before, split_to, splice_from}
+
+pub goes_written : (old new : CursorMut Item) (s : Elements Item) (k at : ℕ) (o : Option Item) (item : Item) (value : ℕ) (reply : Reply) →
+    Stands old new (with_value s at (record item { value = value })) k → Some item ≡ o → lines_of reply ≡ done ∷ [] → Goes old new (rewritten s k at o value) reply
+goes_written old new s k at o item value reply stands is told = rw (← is) (record { stands = stands; told = told })
+
+pub goes_on : (old new : CursorMut Item) (s : Elements Item) (k : ℕ) (x : Item) (reply : Reply) →
+    Stands old new (with_value s k x) (k + 1) → Some x ≡ slice_get (values s) k → lines_of reply ≡ found_or_nothing (Some x) ∷ [] →
+    Goes old new ((s, if nat_lt k (length s) then k + 1 else k), found_or_nothing (slice_get (values s) k)) reply
+goes_on old new s k x reply stands is told =
+    let below = inside s k x is in
+    let moved : (if nat_lt k (length s) then k + 1 else k) ≡ k + 1 = grind (arith, nat_tests) in
+    let same = same_value s k x (sym is) in
+    rw (moved, ← is) (record { stands = rw same at stands; told = told })
+
+-- what a list holds, where the list with a number was put back
+put_back : (table : Table) (n : ℕ) (s : Elements Item) → n < length table → held_at (set table n s) n ≡ s
+put_back table n s lt = get_or-set_same table n s [] lt
+
+not_the_other : (n m : ℕ) (b : Bool) → (not (nat_eq n m) && b) ≡ true → m ≢ n
+not_the_other n m b is e = let both = eq-eqb n m (sym e) in let never : false ≡ true = rw both at is in absurd cc
+
+held_at_other : (table : Table) (n m : ℕ) (s : Elements Item) (p : Elements Item → Bool) → (not (nat_eq n m) && p (held_at (set table n s) m)) ≡ (not (nat_eq n m) && p (held_at table m))
+held_at_other table n m s p = elim (same_or_not n m) [
+  | inl e ↦ rw (eq-eqb n m e) refl
+  | inr ne ↦ rw (get_or-set_other table n m s [] ne) refl
+]
+
+set_over : (table : Table) (n m : ℕ) (s t u : Elements Item) → set (set (set table n s) m t) n u ≡ set (set table m t) n u
+set_over [] n m s t u = refl
+set_over (row ∷ table) zero zero s t u = refl
+set_over (row ∷ table) zero (suc m) s t u = refl
+set_over (row ∷ table) (suc n) zero s t u = ap (λ (rows : Table). t ∷ rows) (set-set table n s u)
+set_over (row ∷ table) (suc n) (suc m) s t u = ap (λ (rows : Table). row ∷ rows) (set_over table n m s t u)
+
+-- a split cut this off, and kept this
+pub record Cuts (old new : CursorMut Item) (gone : Elements Item) (cut : Spot × Elements Item) : Type 0 where
+  pub stands : Stands old new cut.0.0 cut.0.1
+  pub cut_off : gone ≡ cut.1
+
+pub cuts_behind : (old new : CursorMut Item) (gone : Elements Item) → place old ≤ length (elements old) →
+    (place old < length (elements old) → gone ≡ drop (place old + 1) (elements old)) →
+    (place old < length (elements old) → Stands old new (take (place old + 1) (elements old)) (place old)) →
+    (place old ≡ length (elements old) → gone ≡ elements old) → (place old ≡ length (elements old) → Stands old new [] 0) →
+    Cuts old new gone (cut_behind (elements old) (place old))
+cuts_behind old new gone within inside inside_stands null null_stands = elim (cases_lt (place old) (length (elements old))) [
+  | inl lt ↦
+      let is : nat_lt (place old) (length (elements old)) ≡ true = grind (arith, nat_tests) in
+      rw is (record { stands = inside_stands lt; cut_off = inside lt })
+  | inr ge ↦
+      let is : nat_lt (place old) (length (elements old)) ≡ false = grind (arith, nat_tests) in
+      let at_end : place old ≡ length (elements old) = omega arith in
+      rw is (record { stands = null_stands at_end; cut_off = null at_end })
+]
+
+pub stands_behind : (old new : CursorMut Item) (more : Elements Item) → place old ≤ length (elements old) →
+    (place old < length (elements old) → Stands old new (take (place old + 1) (elements old) ++ more ++ drop (place old + 1) (elements old)) (place old)) →
+    (place old ≡ length (elements old) → Stands old new (more ++ elements old) (length (elements old) + length more)) →
+    Stands old new (put_behind (elements old) (place old) more).0 (put_behind (elements old) (place old) more).1
+stands_behind old new more within inside null = elim (cases_lt (place old) (length (elements old))) [
+  | inl lt ↦
+      let is : nat_lt (place old) (length (elements old)) ≡ true = grind (arith, nat_tests) in
+      rw is (inside lt)
+  | inr ge ↦
+      let is : nat_lt (place old) (length (elements old)) ≡ false = grind (arith, nat_tests) in
+      let at_end : place old ≡ length (elements old) = omega arith in
+      let P : ℕ → Type 0 = λ k. Stands old new (more ++ elements old) (k + length more) in
+      rw is (subst P (sym at_end) (null at_end))
+]
+
+same_state : (before after : Table) (n : ℕ) (s t : Elements Item) (j k : ℕ) → before ≡ after → s ≡ t → j ≡ k → let state : State = (set before n s, j) in state ≡ (set after n t, k)
+same_state before after n s t j k p q r = rw (p, q, r) refl
+
+module _ (n m : ℕ) (table : Table) (old new : CursorMut Item) (reply : Reply) (within : n < length table) where
+  split_run : (gone : Elements Item) (cut : Spot × Elements Item) → true ≡ (not (nat_eq n m) && nat_eq (length (held_at table m)) 0) → Cuts old new gone cut → lines_of reply ≡ done ∷ [] →
+      (state_of (set table m gone) n new ≡ (split_to (state_of table n old) n m cut).0) × (lines_of reply ≡ (split_to (state_of table n old) n m cut).1 ∷ [])
+  split_run gone cut free cuts told =
+      let done_so : split_to (state_of table n old) n m cut ≡ ((set (set table m cut.1) n cut.0.0, cut.0.1), done) =
+      rw (held_at_other table n m (elements old) (λ t. nat_eq (length t) 0), ← free, set_over table n m (elements old) cut.1 cut.0.0) refl in
+      (rw done_so (same_state (set table m gone) (set table m cut.1) n (elements new) cut.0.0 (place new) cut.0.1 (ap (λ t. set table m t) cuts.cut_off) cuts.stands.elements_are cuts.stands.place_is), rw done_so told)
+
+  pub split_after_steps : (gone : Elements Item) → true ≡ (not (nat_eq n m) && nat_eq (length (held_at table m)) 0) → Cuts old new gone (cut_behind (elements old) (place old)) → lines_of reply ≡ done ∷ [] →
+      LineRuns n table (set table m gone) old new (SplitAfter m) reply
+  split_after_steps gone free cuts told =
+      let run = split_run gone (cut_behind (elements old) (place old)) free cuts told in
+      let held = put_back table n (elements old) within in
+      record { same_reference = cuts.stands.same_reference; state_is = rw held run.0; told = rw held run.1 }
+
+  pub split_before_steps : (gone : Elements Item) → true ≡ (not (nat_eq n m) && nat_eq (length (held_at table m)) 0) → Cuts old new gone (cut_before (elements old) (place old)) → lines_of reply ≡ done ∷ [] →
+      LineRuns n table (set table m gone) old new (SplitBefore m) reply
+  split_before_steps gone free cuts told =
+      let run = split_run gone (cut_before (elements old) (place old)) free cuts told in
+      let held = put_back table n (elements old) within in
+      record { same_reference = cuts.stands.same_reference; state_is = rw held run.0; told = rw held run.1 }
+
+  splice_run : (joined : Spot) → true ≡ (not (nat_eq n m) && nat_le (length (elements old) + length (held_at table m)) 18446744073709551615) → Stands old new joined.0 joined.1 → lines_of reply ≡ done ∷ [] →
+      (state_of (set table m []) n new ≡ (splice_from (state_of table n old) n m joined).0) × (lines_of reply ≡ (splice_from (state_of table n old) n m joined).1 ∷ [])
+  splice_run joined fits stands told =
+      let done_so : splice_from (state_of table n old) n m joined ≡ ((set (set table m []) n joined.0, joined.1), done) =
+      rw (put_back table n (elements old) within, held_at_other table n m (elements old) (λ t. nat_le (length (elements old) + length t) 18446744073709551615), ← fits, set_over table n m (elements old) [] joined.0) refl in
+      (rw done_so (same_state (set table m []) (set table m []) n (elements new) joined.0 (place new) joined.1 refl stands.elements_are stands.place_is), rw done_so told)
+
+  pub splice_after_steps : true ≡ (not (nat_eq n m) && nat_le (length (elements old) + length (held_at table m)) 18446744073709551615) →
+      Stands old new (put_behind (elements old) (place old) (held_at table m)).0 (put_behind (elements old) (place old) (held_at table m)).1 → lines_of reply ≡ done ∷ [] →
+      LineRuns n table (set table m []) old new (SpliceAfter m) reply
+  splice_after_steps fits stands told =
+      let run = splice_run (put_behind (elements old) (place old) (held_at table m)) fits stands told in
+      let held = put_back table n (elements old) within in
+      let other = get_or-set_other table n m (elements old) [] (not_the_other n m _ (sym fits)) in
+      record { same_reference = stands.same_reference; state_is = rw (held, other) (rw (held, other) at run.0); told = rw (held, other) (rw (held, other) at run.1) }
+
+  pub splice_before_steps : true ≡ (not (nat_eq n m) && nat_le (length (elements old) + length (held_at table m)) 18446744073709551615) →
+      Stands old new (put_before (elements old) (place old) (held_at table m)).0 (put_before (elements old) (place old) (held_at table m)).1 → lines_of reply ≡ done ∷ [] →
+      LineRuns n table (set table m []) old new (SpliceBefore m) reply
+  splice_before_steps fits stands told =
+      let run = splice_run (put_before (elements old) (place old) (held_at table m)) fits stands told in
+      let held = put_back table n (elements old) within in
+      let other = get_or-set_other table n m (elements old) [] (not_the_other n m _ (sym fits)) in
+      record { same_reference = stands.same_reference; state_is = rw (held, other) (rw (held, other) at run.0); told = rw (held, other) (rw (held, other) at run.1) }
+
+-- a line on the cursor's list alone
+alone_step : (n : ℕ) (table : Table) (s : Elements Item) (k : ℕ) (line : CursorCommand) → n < length table →
+    ((m : ℕ) → line ≡ SplitAfter m → ⊥) → ((m : ℕ) → line ≡ SplitBefore m → ⊥) → ((m : ℕ) → line ≡ SpliceAfter m → ⊥) → ((m : ℕ) → line ≡ SpliceBefore m → ⊥) →
+    line_step n (set table n s, k) line ≡ ((set table n (line_on s k line).0.0, (line_on s k line).0.1), (line_on s k line).1)
+alone_step n table s k (SplitAfter m) within a b c d = absurd (a m refl)
+alone_step n table s k (SplitBefore m) within a b c d = absurd (b m refl)
+alone_step n table s k (SpliceAfter m) within a b c d = absurd (c m refl)
+alone_step n table s k (SpliceBefore m) within a b c d = absurd (d m refl)
+alone_step n table s k line within a b c d = rw (put_back table n s within, set-set) refl
+
+pub alone_steps : (n : ℕ) (table : Table) (old new : CursorMut Item) (line : CursorCommand) (reply : Reply) → n < length table →
+    ((m : ℕ) → line ≡ SplitAfter m → ⊥) → ((m : ℕ) → line ≡ SplitBefore m → ⊥) → ((m : ℕ) → line ≡ SpliceAfter m → ⊥) → ((m : ℕ) → line ≡ SpliceBefore m → ⊥) →
+    Obeys old new line reply → LineRuns n table table old new line reply
+alone_steps n table old new line reply within a b c d obeys =
+    let step = alone_step n table (elements old) (place old) line within a b c d in
+    record {
+      same_reference = obeys.stands.same_reference;
+      state_is = rw step (same_state table table n (elements new) (line_on (elements old) (place old) line).0.0 (place new) (line_on (elements old) (place old) line).0.1 refl obeys.stands.elements_are obeys.stands.place_is);
+      told = rw step obeys.told;
+    }
+
+-- the lines of a block were run on the list that was taken out, and it was put back
+pub block_done : (n : ℕ) (table left : Table) (first last : CursorMut Item) (end : ListEnd) (lines : List CursorCommand) (before told : List Line) → n < length table →
+    elements first ≡ held_at table n → place first ≡ first_place end (length (held_at table n)) →
+    state_of left n last ≡ after (line_step n) (state_of (set table n []) n first) lines →
+    told ≡ before ++ replies_to (line_step n) (state_of (set table n []) n first) lines →
+    let result : Table × List Line = (set left n (elements last), told) in result ≡ blocked table n end lines before
+block_done n table left first last end lines before told within held at state said =
+    let start : State = (table, first_place end (length (held_at table n))) in
+    let opened : state_of (set table n []) n first ≡ start =
+    rw set-set (same_state table table n (elements first) (held_at table n) (place first) (first_place end (length (held_at table n))) refl held at ∙ rw (set-get_or) refl) in
+    let run : state_of left n last ≡ after (line_step n) start lines = rw opened at state in
+    let replied : told ≡ before ++ replies_to (line_step n) start lines = rw opened at said in
+    rw (ap (λ (p : State). p.0) run, replied) refl

@@ -1,0 +1,9 @@
+pub mod Blocks
+pub mod Ends
+pub mod Filters
+pub mod Keys
+pub mod Ordered
+pub mod Places
+pub mod Plays
+pub mod Sorteds
+pub mod Walks

@@ -1,0 +1,146 @@
+-- What the lines of a cursor block do.
+use Rattle.std.specs.Prelude.{◌≡◌, ℕ, ◌+◌, ◌-◌, ◌<◌, true, not, ◌&&◌, List, [], ◌∷◌, ◌++◌, length, take, drop, Option, Some, None, slice_get, slice_set, if◌then◌else◌, nat_eq, nat_lt, nat_le}
+use Rattle.cordyceps_base.specs.Element.{Element, Elements, values, with_value}
+use Rattle.cordyceps_base.specs.Runs.{after, replies_to}
+use Rattle.cordyceps_list.specs.declared.cursor_mut.CursorMut.{CursorMut}
+use Rattle.cordyceps_list.specs.Cursor.{Stands, elements, place, lender}
+use Rattle.cordyceps_list.specs.Places.{next_place, prev_place, index_at}
+pub use Rattle.cordyceps_commands.specs.ListCommands.{OtherFits, EndsBlock, BlockFits}
+use Rattle.cordyceps_commands.specs.declared.item.Item.{Item}
+use Rattle.cordyceps_commands.specs.declared.list_command.ListEnd.{ListEnd}
+use Rattle.cordyceps_commands.specs.declared.list_command.ListEnd.TheVariants as ends
+use Rattle.cordyceps_commands.specs.declared.list_command.CursorCommand.{CursorCommand}
+use Rattle.cordyceps_commands.specs.declared.list_command.CursorCommand.TheVariants as lines
+use Rattle.cordyceps_commands.specs.declared.reply.Reply.{Reply}
+use Rattle.cordyceps_commands.specs.Replies.{Line, lines_of, block_begins, done, nothing, len, not_there, found_or_nothing, index_or_nothing}
+use Rattle.cordyceps_tables.specs.Tables.{Table, element_of, held_at}
+use Rattle.cordyceps_tables.specs.Filters.{passing, all_but}
+
+-- elements, and a cursor's place among them, from 0 to their number, which is the null place
+abbrev pub Spot : Type 0
+Spot = Elements Item × ℕ
+
+-- the place where a cursor begins among so many elements
+abbrev pub first_place : ListEnd → ℕ → ℕ
+first_place ends.Front count = 0
+first_place ends.Back count = count - 1
+
+-- the item at a place, where there is one, gets another value
+abbrev pub rewritten : Elements Item → ℕ → ℕ → Option Item → ℕ → Spot × Line
+rewritten s k at None value = ((s, k), nothing)
+rewritten s k at (Some item) value = ((with_value s at (record item { value = value }), k), done)
+
+-- the element at a place is taken out, and the cursor is at the one behind it
+abbrev pub removed : Elements Item → ℕ → Spot × Line
+removed s at = ((all_but s at, at), found_or_nothing (slice_get (values s) at))
+
+-- more elements behind the cursor's, at the null place first
+abbrev pub put_behind : Elements Item → ℕ → Elements Item → Spot
+put_behind s k more = if nat_lt k (length s) then (take (k + 1) s ++ more ++ drop (k + 1) s, k) else (more ++ s, k + length more)
+
+-- more elements before the cursor's, at the null place last
+abbrev pub put_before : Elements Item → ℕ → Elements Item → Spot
+put_before s k more = (take k s ++ more ++ drop k s, k + length more)
+
+-- one more element, where the length is below the largest `usize`
+abbrev pub inserted : Elements Item → ℕ → Spot → Spot × Line
+inserted s k more = if nat_lt (length s) 18446744073709551615 then (more, done) else ((s, k), not_there)
+
+abbrev pub inserted_behind : Elements Item → ℕ → Element Item → Spot × Line
+inserted_behind s k e = inserted s k (put_behind s k (e ∷ []))
+
+abbrev pub inserted_before : Elements Item → ℕ → Element Item → Spot × Line
+inserted_before s k e = inserted s k (put_before s k (e ∷ []))
+
+-- The elements and the cursor's place after a line on its list alone, and the reply. The other lines are not run so.
+abbrev pub line_on : Elements Item → ℕ → CursorCommand → Spot × Line
+line_on s k lines.MoveNext = ((s, next_place (length s) k), done)
+line_on s k lines.MovePrev = ((s, prev_place (length s) k), done)
+line_on s k lines.Current = ((s, k), found_or_nothing (slice_get (values s) k))
+line_on s k lines.PeekNext = ((s, k), found_or_nothing (slice_get (values s) (next_place (length s) k)))
+line_on s k lines.PeekPrev = ((s, k), found_or_nothing (slice_get (values s) (prev_place (length s) k)))
+line_on s k lines.Index = ((s, k), index_or_nothing (index_at (length s) k))
+line_on s k lines.Len = ((s, k), len (length s))
+line_on s k (lines.Set value) = rewritten s k k (slice_get (values s) k) value
+line_on s k (lines.SetNext value) = rewritten s k (next_place (length s) k) (slice_get (values s) (next_place (length s) k)) value
+line_on s k (lines.SetPrev value) = rewritten s k (prev_place (length s) k) (slice_get (values s) (prev_place (length s) k)) value
+line_on s k lines.Next = ((s, if nat_lt k (length s) then k + 1 else k), found_or_nothing (slice_get (values s) k))
+line_on s k lines.RemoveCurrent = removed s k
+line_on s k (lines.RemoveFirst filter) = removed s (passing filter true s k)
+line_on s k (lines.InsertAfter item) = inserted_behind s k (element_of item)
+line_on s k (lines.InsertBefore item) = inserted_before s k (element_of item)
+line_on s k lines.End = ((s, k), done)
+line_on s k line = ((s, k), not_there)
+
+-- a cursor's list and its place became these, and this is the reply
+pub record Goes (old new : CursorMut Item) (to : Spot × Line) (reply : Reply) : Type 0 where
+  pub stands : Stands old new to.0.0 to.0.1
+  pub told : lines_of reply ≡ to.1 ∷ []
+
+-- the same by a line
+abbrev pub Obeys : CursorMut Item → CursorMut Item → CursorCommand → Reply → Type 0
+Obeys old new line reply = Goes old new (line_on (elements old) (place old) line) reply
+
+-- a table, and a cursor's place in one of its lists
+abbrev pub State : Type 0
+State = Table × ℕ
+
+-- what a split behind the cursor's element keeps, with the cursor's place, and what goes; from the null place all goes
+abbrev pub cut_behind : Elements Item → ℕ → Spot × Elements Item
+cut_behind s k = if nat_lt k (length s) then ((take (k + 1) s, k), drop (k + 1) s) else (([], 0), s)
+
+-- what a split before the cursor's element keeps, with the cursor's place, and what goes
+abbrev pub cut_before : Elements Item → ℕ → Spot × Elements Item
+cut_before s k = ((drop k s, 0), take k s)
+
+-- what a split cuts off becomes the other list, where that is another one and empty
+abbrev pub split_to : State → ℕ → ℕ → Spot × Elements Item → State × Line
+split_to (table, k) list other cut =
+    if not (nat_eq list other) && nat_eq (length (held_at table other)) 0
+    then ((slice_set (slice_set table other cut.1) list cut.0.0, cut.0.1), done)
+    else ((table, k), not_there)
+
+-- all of the other list went into the cursor's, where that is another one and the sum of the lengths fits
+abbrev pub splice_from : State → ℕ → ℕ → Spot → State × Line
+splice_from (table, k) list other joined =
+    if not (nat_eq list other) && nat_le (length (held_at table list) + length (held_at table other)) 18446744073709551615
+    then ((slice_set (slice_set table other []) list joined.0, joined.1), done)
+    else ((table, k), not_there)
+
+-- the table and the cursor's place after a line of a block on the list with a number, and the reply
+abbrev pub line_step : ℕ → State → CursorCommand → State × Line
+line_step list (table, k) (lines.SplitAfter other) = split_to (table, k) list other (cut_behind (held_at table list) k)
+line_step list (table, k) (lines.SplitBefore other) = split_to (table, k) list other (cut_before (held_at table list) k)
+line_step list (table, k) (lines.SpliceAfter other) = splice_from (table, k) list other (put_behind (held_at table list) k (held_at table other))
+line_step list (table, k) (lines.SpliceBefore other) = splice_from (table, k) list other (put_before (held_at table list) k (held_at table other))
+line_step list (table, k) line = let on = line_on (held_at table list) k line in ((slice_set table list on.0.0, on.0.1), on.1)
+
+-- the table after lines on a cursor that begins at an end of a list, and the replies to them behind earlier ones
+abbrev pub blocked : Table → ℕ → ListEnd → List CursorCommand → List Line → Table × List Line
+blocked table list end lines told =
+    let start : State = (table, first_place end (length (held_at table list))) in
+    ((after (line_step list) start lines).0, told ++ replies_to (line_step list) start lines)
+
+-- the table after a block, and behind the mark the replies to its lines, that to the line which opens it first
+abbrev pub block : Table → ℕ → ListEnd → List CursorCommand → Table × List Line
+block table list end lines = blocked table list end lines (block_begins ∷ done ∷ [])
+
+-- the table that holds a cursor's list at its number, and the cursor's place
+abbrev pub state_of : Table → ℕ → CursorMut Item → State
+state_of table list cursor = (slice_set table list (elements cursor), place cursor)
+
+-- a table and a cursor on the list with a number went on by a line, and this is the reply
+pub record LineRuns (list : ℕ) (table new_table : Table) (old new : CursorMut Item) (line : CursorCommand) (reply : Reply) : Type 0 where
+  pub same_reference : lender new ≡ lender old
+  pub state_is : state_of new_table list new ≡ (line_step list (state_of table list old) line).0
+  pub told : lines_of reply ≡ (line_step list (state_of table list old) line).1 ∷ []
+
+-- the nodes that a line puts in, and those of many lines
+abbrev pub made_for : CursorCommand → Elements Item
+made_for (lines.InsertAfter item) = element_of item ∷ []
+made_for (lines.InsertBefore item) = element_of item ∷ []
+made_for line = []
+
+abbrev pub made_for_all : List CursorCommand → Elements Item
+made_for_all [] = []
+made_for_all (line ∷ rest) = made_for line ++ made_for_all rest

@@ -1,0 +1,385 @@
+//! Cursor blocks: commands that run lines on a cursor.
+//!
+//! The room for the replies and all nodes that the lines put in are made before the first line is run. While the lines
+//! run, the cursor's list is out of the table, so that a line may change another list.
+ghost use Rattle.std.specs.Prelude.{◌≡◌, ◌+◌, ◌<◌, ◌≤◌, [], ◌∷◌, ◌++◌, true, not, ◌&&◌, nat_eq, nat_le, length, take, drop, IfOk, OnOk, OnErr, vec_capacity};
+ghost use Rattle.std.specs.List.{flat_map};
+ghost use Rattle.cordyceps_base.specs.Runs.{after, replies_to};
+ghost use Rattle.cordyceps_list.specs.Cursor.{elements, place, lender};
+ghost use Rattle.cordyceps_commands.specs.Replies.{lines_of};
+ghost use Rattle.cordyceps_tables.specs.Tables.{held_at};
+ghost use Rattle.cordyceps_tables.specs.Filters.{passes};
+ghost use Rattle.cordyceps_tables.specs.Blocks.{first_place, inserted_behind, inserted_before, line_step, state_of, made_for, made_for_all, block, blocked, OtherFits, BlockFits, Goes, Obeys, LineRuns};
+
+use crate::replay::filters::passes;
+use crate::replay::nodes::node_of;
+use crate::replay::replies::{block_of, done, index_of, len_of, not_there, nothing, reply_of};
+use cordyceps_base::list::Links;
+use cordyceps_base::node::Node;
+use cordyceps_commands::{CursorCommand, Filter, Item, ListEnd, Reply};
+use cordyceps_list::cursor_mut::CursorMut;
+use cordyceps_list::list::List;
+use std::alloc::{AllocError, Global};
+use std::mem;
+
+/// Gives the item that the cursor is at another value.
+fn set(cursor: &mut CursorMut<'_, Item>, value: u64) -> Reply
+    ensures { Obeys cursor.old cursor.new (CursorCommand.Set value) result }
+{
+    let Some(item) = cursor.current_mut() else {
+        return nothing();
+    };
+    item.value = value;
+    done()
+}
+
+/// Gives the next item another value.
+fn set_next(cursor: &mut CursorMut<'_, Item>, value: u64) -> Reply
+    ensures { Obeys cursor.old cursor.new (CursorCommand.SetNext value) result }
+{
+    let Some(item) = cursor.peek_next_mut() else {
+        return nothing();
+    };
+    item.value = value;
+    done()
+}
+
+/// Gives the item before another value.
+fn set_prev(cursor: &mut CursorMut<'_, Item>, value: u64) -> Reply
+    ensures { Obeys cursor.old cursor.new (CursorCommand.SetPrev value) result }
+{
+    let Some(item) = cursor.peek_prev_mut() else {
+        return nothing();
+    };
+    item.value = value;
+    done()
+}
+
+/// Looks at the item that the cursor is at, and moves on from it.
+fn step(cursor: &mut CursorMut<'_, Item>) -> Reply
+    ensures { Obeys cursor.old cursor.new CursorCommand.Next result }
+{
+    let Some(item) = cursor.next() else {
+        return nothing();
+    };
+    reply_of(Some(*item))
+}
+
+/// Takes the first item out, from the cursor on, that passes.
+fn remove_first(cursor: &mut CursorMut<'_, Item>, filter: Filter) -> Reply
+    ensures { Obeys cursor.old cursor.new (CursorCommand.RemoveFirst filter) result }
+{
+    let mut turn = true;
+    let removed = cursor.remove_first(
+        move |item: &Item| -> bool
+            ensures answer { result ≡ passes filter turn.entry item.now }
+            ensures turned { turn.exit ≡ not turn.entry }
+        {
+            let is = passes(filter, turn, item);
+            turn = !turn;
+            is
+        },
+    );
+    reply_of(removed.map(Node::into_value))
+}
+
+/// Puts a node in behind the cursor's.
+fn insert_after(cursor: &mut CursorMut<'_, Item>, node: Node<Item, Links<Item>>) -> Reply
+    ensures { Goes cursor.old cursor.new (inserted_behind (elements cursor.old) (place cursor.old) node) result }
+{
+    if cursor.len() < usize::MAX {
+        cursor.insert_after(node);
+        done()
+    } else {
+        not_there()
+    }
+}
+
+/// Puts a node in before the cursor's.
+fn insert_before(cursor: &mut CursorMut<'_, Item>, node: Node<Item, Links<Item>>) -> Reply
+    ensures { Goes cursor.old cursor.new (inserted_before (elements cursor.old) (place cursor.old) node) result }
+{
+    if cursor.len() < usize::MAX {
+        cursor.insert_before(node);
+        done()
+    } else {
+        not_there()
+    }
+}
+
+/// Takes out the first of the nodes that were made.
+fn first_of(nodes: &mut List<Item>) -> Node<Item, Links<Item>>
+    requires { 0 < length nodes.old }
+    ensures { nodes.old ≡ result ∷ nodes.new }
+{
+    let Some(node) = nodes.pop_front() else {
+        unreachable!()
+    };
+    node
+}
+
+/// Runs a line on the cursor's list alone. The node that it puts in is the first of those that were made. Lines that
+/// name another list are not run here.
+pub(crate) fn run_alone(
+    cursor: &mut CursorMut<'_, Item>,
+    nodes: &mut List<Item>,
+    line: CursorCommand,
+) -> Reply
+    requires { take (length (made_for line)) nodes.old ≡ made_for line }
+    ensures obeys { Obeys cursor.old cursor.new line result }
+    ensures nodes { nodes.new ≡ drop (length (made_for line)) nodes.old }
+{
+    match line {
+        CursorCommand::MoveNext => {
+            cursor.move_next();
+            done()
+        }
+        CursorCommand::MovePrev => {
+            cursor.move_prev();
+            done()
+        }
+        CursorCommand::Current => reply_of(cursor.current().copied()),
+        CursorCommand::PeekNext => reply_of(cursor.peek_next().copied()),
+        CursorCommand::PeekPrev => reply_of(cursor.peek_prev().copied()),
+        CursorCommand::Index => index_of(cursor.index()),
+        CursorCommand::Len => len_of(cursor.len()),
+        CursorCommand::Set(value) => set(cursor, value),
+        CursorCommand::SetNext(value) => set_next(cursor, value),
+        CursorCommand::SetPrev(value) => set_prev(cursor, value),
+        CursorCommand::Next => step(cursor),
+        CursorCommand::RemoveCurrent => reply_of(cursor.remove_current().map(Node::into_value)),
+        CursorCommand::RemoveFirst(filter) => remove_first(cursor, filter),
+        CursorCommand::InsertAfter(_) => insert_after(cursor, first_of(nodes)),
+        CursorCommand::InsertBefore(_) => insert_before(cursor, first_of(nodes)),
+        CursorCommand::SplitAfter(_) | CursorCommand::SplitBefore(_) => not_there(),
+        CursorCommand::SpliceAfter(_) | CursorCommand::SpliceBefore(_) => not_there(),
+        CursorCommand::End => done(),
+    }
+}
+
+/// Whether another list is free to take what a split cuts off.
+fn is_free(lists: &[List<Item>], list: usize, other: u8) -> bool
+    requires { other < length lists.now }
+    ensures { result ≡ (not (nat_eq list other) && nat_eq (length (held_at lists.now other)) 0) }
+{
+    list != other as usize && lists[other as usize].len() == 0
+}
+
+/// Whether another list fits into one with so many items.
+fn fits_in(lists: &[List<Item>], list: usize, len: usize, other: u8) -> bool
+    requires { other < length lists.now }
+    ensures { result ≡ (not (nat_eq list other) && nat_le (len + length (held_at lists.now other)) usize.MAX) }
+{
+    list != other as usize && lists[other as usize].len() <= usize::MAX - len
+}
+
+/// Moves the items behind the cursor's to another list.
+fn split_after(
+    lists: &mut [List<Item>],
+    list: usize,
+    cursor: &mut CursorMut<'_, Item>,
+    other: u8,
+) -> Reply
+    requires list { list < length lists.old }
+    requires other { other < length lists.old }
+    ensures { LineRuns list lists.old lists.new cursor.old cursor.new (CursorCommand.SplitAfter other) result }
+{
+    if !is_free(lists, list, other) {
+        return not_there();
+    }
+    lists[other as usize] = cursor.split_after();
+    done()
+}
+
+/// Moves the items before the cursor's to another list.
+fn split_before(
+    lists: &mut [List<Item>],
+    list: usize,
+    cursor: &mut CursorMut<'_, Item>,
+    other: u8,
+) -> Reply
+    requires list { list < length lists.old }
+    requires other { other < length lists.old }
+    ensures { LineRuns list lists.old lists.new cursor.old cursor.new (CursorCommand.SplitBefore other) result }
+{
+    if !is_free(lists, list, other) {
+        return not_there();
+    }
+    lists[other as usize] = cursor.split_before();
+    done()
+}
+
+/// Moves all items of another list behind the cursor's.
+fn splice_after(
+    lists: &mut [List<Item>],
+    list: usize,
+    cursor: &mut CursorMut<'_, Item>,
+    other: u8,
+) -> Reply
+    requires list { list < length lists.old }
+    requires other { other < length lists.old }
+    ensures { LineRuns list lists.old lists.new cursor.old cursor.new (CursorCommand.SpliceAfter other) result }
+{
+    if !fits_in(lists, list, cursor.len(), other) {
+        return not_there();
+    }
+    let more = mem::replace(&mut lists[other as usize], List::new());
+    cursor.splice_after(more);
+    done()
+}
+
+/// Moves all items of another list before the cursor's.
+fn splice_before(
+    lists: &mut [List<Item>],
+    list: usize,
+    cursor: &mut CursorMut<'_, Item>,
+    other: u8,
+) -> Reply
+    requires list { list < length lists.old }
+    requires other { other < length lists.old }
+    ensures { LineRuns list lists.old lists.new cursor.old cursor.new (CursorCommand.SpliceBefore other) result }
+{
+    if !fits_in(lists, list, cursor.len(), other) {
+        return not_there();
+    }
+    let more = mem::replace(&mut lists[other as usize], List::new());
+    cursor.splice_before(more);
+    done()
+}
+
+/// Runs a line. The cursor's list was taken out of the lists.
+fn run_line(
+    lists: &mut [List<Item>],
+    list: usize,
+    cursor: &mut CursorMut<'_, Item>,
+    nodes: &mut List<Item>,
+    line: CursorCommand,
+) -> Reply
+    requires list { list < length lists.old }
+    requires count { length lists.old ≡ 16 }
+    requires other { OtherFits line }
+    requires nodes { take (length (made_for line)) nodes.old ≡ made_for line }
+    ensures steps { LineRuns list lists.old lists.new cursor.old cursor.new line result }
+    ensures nodes { nodes.new ≡ drop (length (made_for line)) nodes.old }
+{
+    match line {
+        CursorCommand::SplitAfter(other) => split_after(lists, list, cursor, other),
+        CursorCommand::SplitBefore(other) => split_before(lists, list, cursor, other),
+        CursorCommand::SpliceAfter(other) => splice_after(lists, list, cursor, other),
+        CursorCommand::SpliceBefore(other) => splice_before(lists, list, cursor, other),
+        _ => run_alone(cursor, nodes, line),
+    }
+}
+
+/// Runs lines, with the nodes that were made for them. There must be room for the replies.
+fn run_lines(
+    lists: &mut [List<Item>],
+    list: usize,
+    cursor: &mut CursorMut<'_, Item>,
+    mut nodes: List<Item>,
+    lines: &[CursorCommand],
+    replies: &mut Vec<Reply>,
+)
+    requires list { list < length lists.old }
+    requires count { length lists.old ≡ 16 }
+    requires fit { BlockFits lines.now }
+    requires nodes { nodes ≡ made_for_all lines.now }
+    requires room { length replies.old.items + length lines.now ≤ vec_capacity replies.old }
+    ensures same_reference { lender cursor.new ≡ lender cursor.old }
+    ensures state { state_of lists.new list cursor.new
+        ≡ after (line_step list) (state_of lists.old list cursor.old) lines.now }
+    ensures told { flat_map lines_of replies.new.items
+        ≡ flat_map lines_of replies.old.items
+        ++ replies_to (line_step list) (state_of lists.old list cursor.old) lines.now }
+{
+    for line in lines {
+        let reply = run_line(lists, list, cursor, &mut nodes, *line);
+        let Ok(()) = replies.push(reply) else {
+            unreachable!()
+        };
+    }
+}
+
+/// A cursor at an end of a list.
+fn cursor_at(list: &mut List<Item>, end: ListEnd) -> CursorMut<'_, Item>
+    ensures same_reference { lender result ≡ list.entry.ghost_name }
+    ensures elements { elements result ≡ list.old }
+    ensures place { place result ≡ first_place end (length list.old) }
+{
+    match end {
+        ListEnd::Front => list.cursor_front_mut(),
+        ListEnd::Back => list.cursor_back_mut(),
+    }
+}
+
+/// Runs lines on a cursor that begins at an end of a list. While they run, the list is out of the table.
+fn run_at(
+    lists: &mut [List<Item>],
+    list: usize,
+    end: ListEnd,
+    nodes: List<Item>,
+    lines: &[CursorCommand],
+    replies: &mut Vec<Reply>,
+)
+    requires list { list < length lists.old }
+    requires count { length lists.old ≡ 16 }
+    requires fit { BlockFits lines.now }
+    requires nodes { nodes ≡ made_for_all lines.now }
+    requires room { length replies.old.items + length lines.now ≤ vec_capacity replies.old }
+    ensures { (lists.new, flat_map lines_of replies.new.items)
+        ≡ blocked lists.old list end lines.now (flat_map lines_of replies.old.items) }
+{
+    let mut held = mem::replace(&mut lists[list], List::new());
+    let mut cursor = cursor_at(&mut held, end);
+    run_lines(lists, list, &mut cursor, nodes, lines, replies);
+    drop(cursor);
+    lists[list] = held;
+}
+
+/// Makes the node that a line puts in, if it does, unless memory for it is refused.
+fn make_for(alloc: Global, nodes: &mut List<Item>, line: CursorCommand) -> Result<(), AllocError>
+    requires { length nodes.old < usize.MAX }
+    ensures { OnOk result (nodes.new ≡ nodes.old ++ made_for line) }
+{
+    match line {
+        CursorCommand::InsertAfter(item) | CursorCommand::InsertBefore(item) => {
+            let node = node_of(alloc, item)?;
+            nodes.push_back(node);
+            Ok(())
+        }
+        _ => Ok(()),
+    }
+}
+
+/// Makes the nodes that lines put in, in order, unless memory for one is refused.
+fn make_all(alloc: Global, lines: &[CursorCommand]) -> Result<List<Item>, AllocError>
+    ensures { IfOk result (λ nodes. nodes ≡ made_for_all lines.now) }
+{
+    let mut nodes = List::new();
+    for line in lines {
+        make_for(alloc, &mut nodes, *line)?;
+    }
+    Ok(nodes)
+}
+
+/// Runs a block, unless memory for its nodes or its replies is refused: then it has changed nothing.
+pub(crate) fn run_block(
+    alloc: Global,
+    lists: &mut [List<Item>],
+    list: usize,
+    end: ListEnd,
+    lines: &[CursorCommand],
+) -> Result<Reply, AllocError>
+    requires list { list < length lists.old }
+    requires count { length lists.old ≡ 16 }
+    requires fit { BlockFits lines.now }
+    ensures ok { IfOk result (λ reply. (lists.new, lines_of reply) ≡ block lists.old list end lines.now) }
+    ensures err { OnErr result (lists.new ≡ lists.old) }
+{
+    let mut replies = Vec::new(alloc);
+    replies.push(done())?;
+    replies.reserve(lines.len())?;
+    let nodes = make_all(alloc, lines)?;
+    run_at(lists, list, end, nodes, lines, &mut replies);
+    Ok(block_of(replies))
+}

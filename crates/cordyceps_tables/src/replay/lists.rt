@@ -1,0 +1,268 @@
+//! Commands on a table of lists.
+ghost use Rattle.std.specs.Prelude.{◌≡◌, ◌++◌, ◌∷◌, [], ◌-◌, ◌<◌, length, take, drop, All, IfOk, OnErr, slice_get};
+ghost use Rattle.cordyceps_base.specs.Element.{values};
+ghost use Rattle.cordyceps_commands.specs.Replies.{lines_of, found_or_nothing};
+ghost use Rattle.cordyceps_tables.specs.Tables.{empty_table, element_of};
+ghost use Rattle.cordyceps_tables.specs.Lists.{list_of, pushed, written, appended, split, step, step_on, Fits};
+ghost use Rattle.cordyceps_tables.specs.Plays.{Plays};
+
+use crate::replay::blocks::run_block;
+use crate::replay::filters::drain;
+use crate::replay::nodes::node_of;
+use crate::replay::played::Played;
+use crate::replay::replies::{done, len_of, not_there, nothing, reply_of};
+use crate::replay::walks::{bump, show, walk, walk_into};
+use cordyceps_base::node::Node;
+use cordyceps_commands::{Item, ListCommand, Reply};
+use cordyceps_list::list::List;
+use std::alloc::{AllocError, Global};
+use std::collections::VecDeque;
+use std::marker::Model;
+use std::mem;
+
+/// The number of the list that a command names first.
+fn number_of(command: &ListCommand) -> u8
+    ensures { result ≡ list_of command.now }
+{
+    match command {
+        ListCommand::PushFront(list, _) | ListCommand::PushBack(list, _) => *list,
+        ListCommand::PopFront(list) | ListCommand::PopBack(list) => *list,
+        ListCommand::Front(list) | ListCommand::Back(list) => *list,
+        ListCommand::SetFront(list, _) | ListCommand::SetBack(list, _) => *list,
+        ListCommand::Len(list) | ListCommand::Show(list) => *list,
+        ListCommand::Append(list, _) | ListCommand::Split(list, _, _) => *list,
+        ListCommand::Remove(list, _) | ListCommand::Bump(list, _) => *list,
+        ListCommand::Walk(list, _) | ListCommand::Into(list, _) => *list,
+        ListCommand::Drain(list, _, _) | ListCommand::Cursor(list, _, _) => *list,
+    }
+}
+
+/// Puts an item at the front, unless memory for its node is refused.
+fn push_front(alloc: Global, list: &mut List<Item>, item: Item) -> Result<Reply, AllocError>
+    ensures ok { IfOk result (λ reply. (list.new, lines_of reply) ≡ pushed list.old (element_of item ∷ list.old)) }
+    ensures err { OnErr result (list.new ≡ list.old) }
+{
+    let node = node_of(alloc, item)?;
+    if list.len() < usize::MAX {
+        list.push_front(node);
+        Ok(done())
+    } else {
+        Ok(not_there())
+    }
+}
+
+/// Puts an item at the back, unless memory for its node is refused.
+fn push_back(alloc: Global, list: &mut List<Item>, item: Item) -> Result<Reply, AllocError>
+    ensures ok { IfOk result
+        (λ reply. (list.new, lines_of reply) ≡ pushed list.old (list.old ++ element_of item ∷ [])) }
+    ensures err { OnErr result (list.new ≡ list.old) }
+{
+    let node = node_of(alloc, item)?;
+    if list.len() < usize::MAX {
+        list.push_back(node);
+        Ok(done())
+    } else {
+        Ok(not_there())
+    }
+}
+
+/// Takes out the first item. Its node is gone afterwards.
+fn pop_front(list: &mut List<Item>) -> Reply
+    ensures kept { list.new ≡ drop 1 list.old }
+    ensures reply { lines_of result ≡ found_or_nothing (slice_get (values list.old) 0) ∷ [] }
+{
+    reply_of(list.pop_front().map(Node::into_value))
+}
+
+/// Takes out the last item. Its node is gone afterwards.
+#[tactic(auto, using(crate::proofs::Ends::all_but_last, crate::proofs::Ends::last_value))]
+fn pop_back(list: &mut List<Item>) -> Reply
+    ensures kept { list.new ≡ take (length list.old - 1) list.old }
+    ensures reply { lines_of result ≡ found_or_nothing (slice_get (values list.old) (length list.old - 1)) ∷ [] }
+{
+    reply_of(list.pop_back().map(Node::into_value))
+}
+
+/// Gives the first item another value.
+fn set_front(list: &mut List<Item>, value: u64) -> Reply
+    ensures { (list.new, lines_of result) ≡ written list.old 0 (slice_get (values list.old) 0) value }
+{
+    let Some(item) = list.front_mut() else {
+        return nothing();
+    };
+    item.value = value;
+    done()
+}
+
+/// Gives the last item another value.
+fn set_back(list: &mut List<Item>, value: u64) -> Reply
+    ensures { (list.new, lines_of result)
+        ≡ written list.old (length list.old - 1) (slice_get (values list.old) (length list.old - 1)) value }
+{
+    let Some(item) = list.back_mut() else {
+        return nothing();
+    };
+    item.value = value;
+    done()
+}
+
+/// Runs a command on its list alone, unless memory for it is refused. Blocks, and commands that name a second list, are
+/// not run here.
+fn run_on(alloc: Global, list: &mut List<Item>, command: &ListCommand) -> Result<Reply, AllocError>
+    ensures ok { IfOk result (λ reply. (list.new, lines_of reply) ≡ step_on list.old command.now) }
+    ensures err { OnErr result (list.new ≡ list.old) }
+{
+    match command {
+        ListCommand::PushFront(_, item) => push_front(alloc, list, *item),
+        ListCommand::PushBack(_, item) => push_back(alloc, list, *item),
+        ListCommand::PopFront(_) => Ok(pop_front(list)),
+        ListCommand::PopBack(_) => Ok(pop_back(list)),
+        ListCommand::Front(_) => Ok(reply_of(list.front().copied())),
+        ListCommand::Back(_) => Ok(reply_of(list.back().copied())),
+        ListCommand::SetFront(_, value) => Ok(set_front(list, *value)),
+        ListCommand::SetBack(_, value) => Ok(set_back(list, *value)),
+        ListCommand::Len(_) => Ok(len_of(list.len())),
+        ListCommand::Remove(_, id) => Ok(reply_of(list.remove(*id).map(Node::into_value))),
+        ListCommand::Bump(_, by) => Ok(bump(list, *by)),
+        ListCommand::Walk(_, turns) => walk(alloc, list, turns),
+        ListCommand::Into(_, turns) => walk_into(alloc, list, turns),
+        ListCommand::Drain(_, filter, limit) => drain(alloc, list, *filter, *limit),
+        ListCommand::Show(_) => show(alloc, list),
+        ListCommand::Append(_, _) | ListCommand::Split(_, _, _) => Ok(not_there()),
+        ListCommand::Cursor(_, _, _) => Ok(not_there()),
+    }
+}
+
+/// Moves all items of the second list behind those of the first.
+fn append(lists: &mut [List<Item>], list: usize, other: usize) -> Reply
+    requires list { list < length lists.old }
+    requires other { other < length lists.old }
+    ensures { (lists.new, lines_of result) ≡ appended lists.old list other }
+{
+    if list == other || lists[list].len() > usize::MAX - lists[other].len() {
+        return not_there();
+    }
+    let mut more = mem::replace(&mut lists[other], List::new());
+    lists[list].append(&mut more);
+    done()
+}
+
+/// Keeps so many items, and moves the others to the second list.
+fn split(lists: &mut [List<Item>], list: usize, at: usize, other: usize) -> Reply
+    requires list { list < length lists.old }
+    requires other { other < length lists.old }
+    ensures { (lists.new, lines_of result) ≡ split lists.old list at other }
+{
+    if list == other || lists[other].len() != 0 {
+        return not_there();
+    }
+    let Some(rest) = lists[list].try_split_off(at) else {
+        return nothing();
+    };
+    lists[other] = rest;
+    done()
+}
+
+/// Sixteen lists of items, numbered from 0. Lists without items take no memory.
+#[derive(Drop)]
+pub struct Lists {
+    lists: [List<Item>; 16],
+}
+
+impl Model for Lists {
+    ghost use Rattle.std.specs.Prelude.{List};
+    ghost use Rattle.cordyceps_base.specs.Element.{Elements};
+    ghost use Rattle.cordyceps_commands.specs.declared.item.Item.{Item};
+
+    ghost Value = { List (Elements Item) };
+
+    ghost view = { λ s. s.lists };
+}
+
+impl Lists {
+    /// Sixteen empty lists. It takes no memory.
+    pub fn new() -> Self
+        ensures { result ≡ empty_table 16 }
+    {
+        Lists {
+            lists: std::array::from_fn(|_| List::new()),
+        }
+    }
+
+    /// Runs a command, unless memory for it is refused.
+    fn run(&mut self, alloc: Global, command: &ListCommand) -> Result<Reply, AllocError>
+        requires { Fits command.now }
+        ensures ok { IfOk result (λ reply. (self.new, lines_of reply) ≡ step self.old command.now) }
+        ensures err { OnErr result (self.new ≡ self.old) }
+    {
+        match command {
+            ListCommand::Append(list, other) => {
+                Ok(append(&mut self.lists, *list as usize, *other as usize))
+            }
+            ListCommand::Split(list, at, other) => Ok(split(
+                &mut self.lists,
+                *list as usize,
+                *at as usize,
+                *other as usize,
+            )),
+            ListCommand::Cursor(list, end, lines) => {
+                run_block(alloc, &mut self.lists, *list as usize, *end, lines)
+            }
+            _ => {
+                let list = &mut self.lists[number_of(command) as usize];
+                run_on(alloc, list, command)
+            }
+        }
+    }
+}
+
+impl Default for Lists {
+    ghost is_default = { λ s. s ≡ empty_table 16 };
+
+    /// Sixteen empty lists, as `new` gives.
+    fn default() -> Self {
+        Lists::new()
+    }
+}
+
+/// Takes the first command out.
+fn pass(commands: &mut VecDeque<ListCommand>)
+    ensures { commands.new.items ≡ drop 1 commands.old.items }
+{
+    commands.pop_front();
+}
+
+/// Runs the commands in order. Each list that a command names must be one of the lists 0 to 15, and in a block an `End`
+/// must stand last.
+///
+/// Before a command is run, the room for its reply is made, and the node of each item that it puts into a list. If that
+/// memory is refused, the call ends: the rest begins with that command, which has changed nothing, and the commands
+/// before it stay done. The rest may be played on the same lists later. A block is one command.
+///
+/// A command takes the time of its call. On the ends of a list that is constant, and so it is for `Append` and for each
+/// line of a block but `RemoveFirst`; the others walk along the list. The replies take memory in the count of the
+/// commands and of what they show, and making room for them takes constant time a command over the whole call.
+pub fn replay_lists(
+    alloc: Global,
+    lists: &mut Lists,
+    commands: VecDeque<ListCommand>,
+) -> Played<ListCommand>
+    requires { All Fits commands.items }
+    ensures { Plays step lists.old commands.items result.replies.items result.rest.items lists.new }
+{
+    let mut replies = Vec::new(alloc);
+    let mut rest = commands;
+    while let Some(command) = rest.front() {
+        if replies.reserve(1).is_err() {
+            break;
+        }
+        let Ok(reply) = lists.run(alloc, command) else {
+            break;
+        };
+        let Ok(()) = replies.push(reply) else {
+            unreachable!()
+        };
+        pass(&mut rest);
+    }
+    Played { replies, rest }
+}

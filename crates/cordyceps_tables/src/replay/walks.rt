@@ -1,0 +1,97 @@
+//! Commands on a list by its iterators.
+ghost use Rattle.std.specs.Prelude.{◌≡◌, ◌∷◌, [], Some, map, IfOk, OnOk, OnErr};
+ghost use Rattle.cordyceps_base.specs.Element.{values};
+ghost use Rattle.cordyceps_commands.specs.Replies.{done, show, lines_of};
+ghost use Rattle.cordyceps_tables.specs.Walks.{given, left, walked, bumped};
+
+use crate::replay::replies::{done, show_of};
+use cordyceps_base::node::Node;
+use cordyceps_commands::{Item, Reply, Turn};
+use cordyceps_list::iter::{IntoIter, Iter};
+use cordyceps_list::list::List;
+use std::alloc::{AllocError, Global};
+use std::mem;
+
+/// Adds a number to each item's value, modulo 2 to the 64.
+pub(crate) fn bump(list: &mut List<Item>, by: u64) -> Reply
+    ensures kept { list.new ≡ bumped by list.old }
+    ensures reply { lines_of result ≡ done ∷ [] }
+{
+    let mut items = list.iter_mut();
+    while let Some(item) = items.next() {
+        item.value = item.value.wrapping_add(by);
+    }
+    done()
+}
+
+/// What an iterator gives from one of its ends.
+fn look(items: &mut Iter<'_, Item>, turn: Turn) -> Option<Item>
+    ensures answer { result ≡ given turn items.old }
+    ensures left { items.new ≡ left turn items.old }
+{
+    match turn {
+        Turn::Next => items.next().copied(),
+        Turn::NextBack => items.next_back().copied(),
+    }
+}
+
+/// Shows the items that an iterator gives, unless memory for them is refused.
+pub(crate) fn walk(alloc: Global, list: &List<Item>, turns: &[Turn]) -> Result<Reply, AllocError>
+    ensures { IfOk result (λ reply. lines_of reply ≡ show (walked turns.now (values list.now)) ∷ []) }
+{
+    let mut shown = Vec::with_capacity(alloc, turns.len())?;
+    let mut items = list.iter();
+    for turn in turns {
+        let item = look(&mut items, *turn);
+        let Ok(()) = shown.push(item) else {
+            unreachable!()
+        };
+    }
+    Ok(show_of(shown))
+}
+
+/// What an iterator takes out at one of its ends.
+#[tactic(auto, using(crate::proofs::Walks::last_given))]
+fn take(items: &mut IntoIter<Item>, turn: Turn) -> Option<Item>
+    ensures answer { result ≡ given turn (values items.old) }
+    ensures left { values items.new ≡ left turn (values items.old) }
+{
+    match turn {
+        Turn::Next => items.next().map(Node::into_value),
+        Turn::NextBack => items.next_back().map(Node::into_value),
+    }
+}
+
+/// Takes all items out, and shows those that an iterator gives, unless memory for them is refused.
+pub(crate) fn walk_into(
+    alloc: Global,
+    list: &mut List<Item>,
+    turns: &[Turn],
+) -> Result<Reply, AllocError>
+    ensures emptied { OnOk result (list.new ≡ []) }
+    ensures ok { IfOk result (λ reply. lines_of reply ≡ show (walked turns.now (values list.old)) ∷ []) }
+    ensures err { OnErr result (list.new ≡ list.old) }
+{
+    let mut shown = Vec::with_capacity(alloc, turns.len())?;
+    let mut items = mem::replace(list, List::new()).into_iter();
+    for turn in turns {
+        let item = take(&mut items, *turn);
+        let Ok(()) = shown.push(item) else {
+            unreachable!()
+        };
+    }
+    Ok(show_of(shown))
+}
+
+/// Shows all items, unless memory for that is refused.
+pub(crate) fn show(alloc: Global, list: &List<Item>) -> Result<Reply, AllocError>
+    ensures { IfOk result (λ reply. lines_of reply ≡ show (map Some (values list.now)) ∷ []) }
+{
+    let mut shown = Vec::with_capacity(alloc, list.len())?;
+    for item in list.iter() {
+        let Ok(()) = shown.push(Some(*item)) else {
+            unreachable!()
+        };
+    }
+    Ok(show_of(shown))
+}
