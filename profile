@@ -1,15 +1,16 @@
 #!/usr/bin/env python3
 """Measures what the proof of each function costs, in processor seconds.
 
-    ./profile [--rows N] [CRATE..]
+    ./profile [--rows N] [--only PATH] [CRATE..]
 
 It proves each crate from nothing with one job, as `rt ci` does, and the tests of a crate that has some; with no CRATE,
-all crates. Libraries that are missing are built first. The check prints a line as it ends with a function or a closure.
-What it used since the line before is that function's cost, and what it used before its first line is the crate's
-start, with the first function in it. Other work on the machine changes these figures little.
+all crates. With --only it proves the functions that PATH names and those that they call, as `rt check --only PATH`.
+Libraries that are missing are built first. The check prints a line as it ends with a function or a closure. What it
+used since the line before is that function's cost, and what it used before its first line is the crate's start, with
+the first function in it. Other work on the machine changes these figures little.
 
 It prints a line for each check as it ends, and then the N dearest functions of all of them, 20 with no --rows, as a
-table in Markdown. The status is 1 where a crate is not proved.
+table in Markdown. The status is 1 where something is not proved.
 """
 
 import argparse
@@ -45,11 +46,10 @@ def used(pid):
 def cost_of(crate, flags):
     """Checks a crate from nothing."""
     words = [rtlib.RATTLE, "check", *crate.words([*flags, "--jobs", "1"], keeps=False), "--progress"]
-    functions, start, before, is_proved = [], None, 0.0, False
+    functions, start, before = [], None, 0.0
     how = {"stdin": subprocess.DEVNULL, "stdout": subprocess.PIPE, "stderr": subprocess.STDOUT, "text": True}
     check = subprocess.Popen([*rtlib.guarded(), *words], cwd=crate.folder, errors="replace", **how)
     for line in check.stdout:
-        is_proved = is_proved or line.startswith("logic=proved ")
         found = CHECKED.match(line)
         if found:
             now = used(check.pid)
@@ -61,7 +61,7 @@ def cost_of(crate, flags):
     _, status, usage = os.wait4(check.pid, 0)
     check.returncode = os.waitstatus_to_exitcode(status)
     whole = usage.ru_utime + usage.ru_stime
-    return Cost(whole if start is None else start, whole, usage.ru_maxrss, functions, is_proved)
+    return Cost(whole if start is None else start, whole, usage.ru_maxrss, functions, check.returncode == 0)
 
 
 def build_libraries(crate):
@@ -76,18 +76,21 @@ def build_libraries(crate):
 def main():
     parser = argparse.ArgumentParser(description=__doc__, formatter_class=argparse.RawDescriptionHelpFormatter)
     parser.add_argument("--rows", type=int, default=20, metavar="N")
+    parser.add_argument("--only", metavar="PATH")
     parser.add_argument("crates", nargs="*", metavar="CRATE")
     asked = parser.parse_args()
     every = {it.name: it for it in rtlib.crates_below(TOP)}
     lacking = [it for it in asked.crates if it not in every]
     if lacking:
         sys.exit(f"profile: there is no crate {lacking[0]}")
+    only = ["--only", asked.only] if asked.only else []
     dearest, whole, failed = [], 0.0, 0
     for crate in [every[it] for it in asked.crates] or sorted(every.values(), key=lambda it: len(it.below())):
         build_libraries(crate)
-        for flags in ([], ["--test"]) if crate.has_tests() else ([],):
-            cost = cost_of(crate, flags)
-            name = f"{crate.name} {'(tests)' if flags else ''}".strip()
+        checks = [False, True] if crate.has_tests() else [False]
+        for tests in checks[-1:] if only else checks:
+            cost = cost_of(crate, ["--test"] * tests + only)
+            name = f"{crate.name} (tests)" if tests else crate.name
             verdict = "proved" if cost.is_proved else "NOT PROVED"
             said = f"{cost.whole:.0f} s, of which {cost.start:.0f} before and in its first function"
             print(f"{name}: {verdict}: {said}, {cost.memory / 1e6:.1f} GB", flush=True)
