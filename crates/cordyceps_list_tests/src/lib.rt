@@ -1,6 +1,9 @@
-//! Tests of lists: their ends, iterators, splits and filters, drops, and laws.
+//! Tests of nodes and of the chains that link them, and of lists: their ends, iterators, splits and filters, drops, and
+//! laws.
 #![tactic(auto)]
 
+#[cfg(test)]
+mod chains;
 #[cfg(test)]
 mod compared;
 #[cfg(test)]
@@ -13,5 +16,7 @@ mod items;
 mod list_ends;
 #[cfg(test)]
 mod list_laws;
+#[cfg(test)]
+mod nodes;
 #[cfg(test)]
 mod whole_lists;

@@ -5,7 +5,7 @@ ghost use Rattle.std.specs.Prelude.{◌≡◌};
 use crate::compared::same;
 use crate::items::{number, number_of};
 use cordyceps_queue::mpsc_queue::{Consumer, MpscQueue, OwnedConsumer, Party, TryDequeueError};
-use cordyceps_queue_testing::items::Handle;
+use cordyceps_queue_testing::items::{Handle, found};
 use cordyceps_queue_testing::seats::Seated;
 use cordyceps_testing::counted::Counted;
 use std::alloc::Global;
@@ -15,6 +15,11 @@ use std::sync::{Arc, Wait};
 /// Puts an element into a room that has to be there.
 pub fn puts(rt: &impl Abort, seat: &mut Seated<'_>, handle: Handle) {
     same(rt, seat.put(handle).is_ok(), true);
+}
+
+/// Compares the number of what one try gave, or why it gave nothing, with what is wanted.
+pub fn takes(rt: &impl Abort, seat: &mut Seated<'_>, wanted: Result<u64, TryDequeueError>) {
+    same(rt, found(seat.try_take()), wanted);
 }
 
 /// The number of what comes out at last, or none where nothing was held.
@@ -27,6 +32,14 @@ pub fn consumer_of<'q>(rt: &impl Abort, seat: Seated<'q>) -> Consumer<'q, Counte
     match seat.try_consume() {
         Ok(consumer) => consumer,
         Err(_) => panic!(rt; "nobody else has the right"),
+    }
+}
+
+/// The party that is handed back, since another has the right.
+pub fn handed_back<'q>(rt: &impl Abort, seat: Seated<'q>) -> Seated<'q> {
+    match seat.try_consume() {
+        Ok(_) => panic!(rt; "another has the right"),
+        Err(back) => back,
     }
 }
 

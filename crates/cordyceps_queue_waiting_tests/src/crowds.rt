@@ -1,6 +1,7 @@
 //! Crowds at a queue: threads that put elements in, and threads that take them out meanwhile.
-use crate::calls::{dropped, puts};
+use crate::calls::puts;
 use crate::compared::same;
+use crate::items::dropped;
 use cordyceps_queue::mpsc_queue::{MAX_ROOMS, MpscQueue, TryDequeueError};
 use cordyceps_queue_testing::items::{Handle, elements};
 use cordyceps_queue_testing::seats::Seated;

@@ -1,7 +1,8 @@
 //! Consumers that are forgotten, parties that are dropped with a room, and the numbers of errors.
 
-use crate::calls::{consumer_of, dropped, handed_back, puts, takes};
+use crate::calls::{consumer_of, handed_back, puts, takes};
 use crate::compared::same;
+use crate::items::dropped;
 use cordyceps_queue::mpsc_queue::{MpscQueue, TryDequeueError};
 use cordyceps_queue_testing::items::{Handle, element, found, pair};
 use cordyceps_queue_testing::seats::Seated;

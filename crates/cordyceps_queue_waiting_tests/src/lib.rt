@@ -1,5 +1,5 @@
-//! Tests of the queue that threads share, through its public names: of its calls that may wait, and of consumers that
-//! own it with others.
+//! Tests of the queue that threads share, through its public names: of its calls that may wait, of consumers that own it
+//! with others or are forgotten, of parties that are dropped, and of many that put in and take out.
 #![tactic(auto)]
 
 #[cfg(test)]
@@ -11,7 +11,11 @@ mod compared;
 #[cfg(test)]
 mod consumers;
 #[cfg(test)]
+mod crowds;
+#[cfg(test)]
 mod flags;
+#[cfg(test)]
+mod forgotten;
 #[cfg(test)]
 mod items;
 #[cfg(test)]
