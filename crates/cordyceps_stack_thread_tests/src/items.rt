@@ -22,6 +22,15 @@ pub fn pair(alloc: Global, first: u64, drops: &Drops) -> Result<(Handle, Handle)
     Ok((one, two))
 }
 
+/// The elements 10 and 11, and 20 and 21.
+pub fn two_pairs(
+    alloc: Global,
+    drops: &Drops,
+) -> Result<((Handle, Handle), (Handle, Handle)), AllocError> {
+    let tens = pair(alloc, 10, drops)?;
+    Ok((tens, pair(alloc, 20, drops)?))
+}
+
 /// Compares how many drops were counted with what is wanted.
 pub fn dropped(rt: &impl Abort, drops: &Drops, wanted: u64) {
     same(rt, drops.count(), wanted);

@@ -1,7 +1,7 @@
 //! Pushes that follow a try which missed, since another thread pushed or took meanwhile.
 use crate::compared::same;
 use crate::flags::await_flag;
-use crate::items::{Handle, dropped, pair, taken};
+use crate::items::{Handle, dropped, taken, two_pairs};
 use crate::seats::Seated;
 use cordyceps_stack::stack::{Stack, TransferStack};
 use cordyceps_testing::counted::{Counted, Drops};
@@ -268,18 +268,16 @@ fn run_both<'s, R: Threads + Wait + Abort + Sync>(
     both
 }
 
-/// Compares what two threads have at last, with what is held, with what they had at first.
-fn round<R: Threads + Wait + Abort + Sync>(
+/// Runs two threads, each with two of four rooms and a pair of elements, and gives what they have at last, with what is
+/// held.
+fn play<R: Threads + Wait + Abort + Sync>(
     rt: &R,
-    alloc: Global,
     plan: (Course, Way),
     missed: u64,
-) -> Result<(), AllocError> {
-    let drops = Drops::new(alloc)?;
-    let tens = pair(alloc, 10, &drops)?;
-    let twenties = pair(alloc, 20, &drops)?;
-    let (stack, party) = TransferStack::new(alloc, 4)?;
-    let mut seat = Seated::at(&stack, party);
+    mut seat: Seated<'_>,
+    pairs: ((Handle, Handle), (Handle, Handle)),
+) -> Stack<Counted> {
+    let (tens, twenties) = pairs;
     let one = Pusher::with_pair(seat.split(rt, 2), tens);
     let two = Pusher::with_pair(seat.split(rt, 2), twenties);
     let mut all = Pusher::new(seat);
@@ -288,8 +286,22 @@ fn round<R: Threads + Wait + Abort + Sync>(
     all.add(two);
     all.take();
     all.is_counted(rt);
+    all.left
+}
+
+/// Compares what two threads have at last, with what is held, with what they had at first.
+fn round<R: Threads + Wait + Abort + Sync>(
+    rt: &R,
+    alloc: Global,
+    plan: (Course, Way),
+    missed: u64,
+) -> Result<(), AllocError> {
+    let drops = Drops::new(alloc)?;
+    let (stack, party) = TransferStack::new(alloc, 4)?;
+    let pairs = two_pairs(alloc, &drops)?;
+    let left = play(rt, plan, missed, Seated::at(&stack, party), pairs);
     dropped(rt, &drops, 0);
-    taken(rt, alloc, all.left, 0, &[10, 11, 20, 21])?;
+    taken(rt, alloc, left, 0, &[10, 11, 20, 21])?;
     dropped(rt, &drops, 4);
     Ok(())
 }

@@ -4,7 +4,7 @@ ghost use Rattle.std.specs.Thread.{IsSync};
 
 use crate::compared::same;
 use crate::flags::{await_flag, watched};
-use crate::items::{Handle, dropped, element, pair, taken};
+use crate::items::{Handle, dropped, element, pair, taken, two_pairs};
 use crate::races::Race;
 use crate::seats::Seated;
 use cordyceps_stack::stack::{Party, Stack, TransferStack};
@@ -156,9 +156,8 @@ fn push_and_take_back<R: Threads + Wait + Abort + Sync>(
 fn multithreaded_push(rt: HostRuntime) -> Result<(), AllocError> {
     for _ in 0..ROUNDS {
         let drops = Drops::new(rt.alloc())?;
-        let tens = pair(rt.alloc(), 10, &drops)?;
-        let twenties = pair(rt.alloc(), 20, &drops)?;
         let (stack, party) = TransferStack::new(rt.alloc(), 4)?;
+        let (tens, twenties) = two_pairs(rt.alloc(), &drops)?;
         let all = push_and_take_back(&rt, &stack, party, tens, twenties);
         taken(&rt, rt.alloc(), all, 0, &FOUR)?;
         dropped(&rt, &drops, 4);
@@ -166,21 +165,17 @@ fn multithreaded_push(rt: HostRuntime) -> Result<(), AllocError> {
     Ok(())
 }
 
-/// Compares what a race's threads took so often, with what was left to the test, with what was pushed.
-fn run_race<R: Threads + Wait + Abort + Sync>(
+/// Runs a race at a stack of four rooms, takes what its threads left to the test, and gives all that was taken so often.
+fn race_out<R: Threads + Wait + Abort + Sync>(
     rt: &R,
-    alloc: Global,
     takings: u64,
-) -> Result<(), AllocError> {
-    let drops = Drops::new(alloc)?;
-    let tens = pair(alloc, 10, &drops)?;
-    let twenties = pair(alloc, 20, &drops)?;
+    mut seat: Seated<'_>,
+    pairs: ((Handle, Handle), (Handle, Handle)),
+) -> Stack<Counted> {
     let race = Race::new(takings);
-    let (stack, party) = TransferStack::new(alloc, 4)?;
-    let mut seat = Seated::at(&stack, party);
     let pushing = (seat.split(rt, 2), seat.split(rt, 2));
     let taking = (seat.split(rt, 0), seat.split(rt, 0));
-    let (mut all, others) = race.run(rt, pushing, (tens, twenties), taking);
+    let (mut all, others) = race.run(rt, pushing, pairs, taking);
     for node in others {
         all.push(node);
     }
@@ -188,6 +183,19 @@ fn run_race<R: Threads + Wait + Abort + Sync>(
         race.turn(rt, &mut seat, &mut all);
     }
     seat.takes(rt, &[]);
+    all
+}
+
+/// Compares what was taken in a race with what was pushed.
+fn run_race<R: Threads + Wait + Abort + Sync>(
+    rt: &R,
+    alloc: Global,
+    takings: u64,
+) -> Result<(), AllocError> {
+    let drops = Drops::new(alloc)?;
+    let (stack, party) = TransferStack::new(alloc, 4)?;
+    let pairs = two_pairs(alloc, &drops)?;
+    let all = race_out(rt, takings, Seated::at(&stack, party), pairs);
     dropped(rt, &drops, 0);
     taken(rt, alloc, all, takings, &FOUR)?;
     dropped(rt, &drops, 4);

@@ -4,6 +4,7 @@ use crate::compared::same;
 use cordyceps_stack::stack::{Party, TransferStack};
 use cordyceps_testing::counted::Counted;
 use std::alloc::{AllocError, Global};
+use std::process::Abort;
 use std::sync::Wait;
 use std::thread;
 use std::thread::Threads;
@@ -36,17 +37,28 @@ fn numbers(alloc: Global) -> Result<Vec<u64>, AllocError> {
     Ok(numbers)
 }
 
+/// Compares the line that `share` prints, as it is made of the numbers.
+fn prints(rt: &impl Abort, alloc: Global, numbers: &[u64]) -> Result<(), AllocError> {
+    if let [first, second, third, fourth] = numbers {
+        let line = format!(in alloc; "{first} {second} {third} {fourth}\n")?;
+        same(rt, line.as_str(), "10 11 20 21\n");
+    }
+    same(rt, numbers.len(), 4);
+    Ok(())
+}
+
+/// Splits a stack's rooms between two threads, and compares what comes back.
+fn share_rooms<R: Threads + Wait + Abort + Sync>(rt: &R, alloc: Global) -> Result<(), AllocError> {
+    let (stack, mut party) = TransferStack::<Counted>::new(alloc, 4)?;
+    let parties = (stack.split(&mut party, 2), stack.split(&mut party, 2));
+    let (first, second) = start_both(rt, parties)?;
+    same(rt, (first.rooms(), second.rooms()), (2, 2));
+    Ok(())
+}
+
 #[test]
 fn two_threads_without_nodes(rt: HostRuntime) -> Result<(), AllocError> {
-    let (stack, mut party) = TransferStack::<Counted>::new(rt.alloc(), 4)?;
-    let parties = (stack.split(&mut party, 2), stack.split(&mut party, 2));
-    let (first, second) = start_both(&rt, parties)?;
-    same(&rt, (first.rooms(), second.rooms()), (2, 2));
+    share_rooms(&rt, rt.alloc())?;
     let numbers = numbers(rt.alloc())?;
-    if let [first, second, third, fourth] = numbers.as_slice() {
-        let line = format!(in rt.alloc(); "{first} {second} {third} {fourth}\n")?;
-        same(&rt, line.as_str(), "10 11 20 21\n");
-    }
-    same(&rt, numbers.len(), 4);
-    Ok(())
+    prints(&rt, rt.alloc(), numbers.as_slice())
 }
