@@ -1,13 +1,16 @@
 #!/usr/bin/env python3
 """Measures what the proof of each function costs, in processor seconds.
 
-    ./profile [--rows N] [--only PATH] [CRATE..]
+    ./profile [--rows N] [--only PATH].. [CRATE..]
 
 It proves each crate from nothing with one job, as `rt ci` does, and the tests of a crate that has some; with no CRATE,
 all crates. With --only it proves the functions that PATH names and those that they call, as `rt check --only PATH`.
-Libraries that are missing are built first. The check prints a line as it ends with a function or a closure. What it
-used since the line before is that function's cost, and what it used before its first line is the crate's start, with
-the first function in it. Other work on the machine changes these figures little.
+Libraries that are missing are built first; those that `rt ci` left are quicker to read than others.
+
+The check prints a line as it ends with a function or a closure. What it used since the line before is that function's
+cost, and what it used before its first line is the crate's start, with the first function in it. A check reads parts of
+libraries when a function first needs them, which counts as that function's. Other work makes the seconds longer, by up
+to a half where processors share cores: compare what was measured beside the same work.
 
 It prints a line for each check as it ends, and then the N dearest functions of all of them, 20 with no --rows, as a
 table in Markdown. The status is 1 where something is not proved.
@@ -19,7 +22,6 @@ import re
 import shutil
 import subprocess
 import sys
-import tempfile
 from collections import namedtuple
 
 TOP = os.path.dirname(os.path.realpath(__file__))
@@ -76,14 +78,14 @@ def build_libraries(crate):
 def main():
     parser = argparse.ArgumentParser(description=__doc__, formatter_class=argparse.RawDescriptionHelpFormatter)
     parser.add_argument("--rows", type=int, default=20, metavar="N")
-    parser.add_argument("--only", metavar="PATH")
+    parser.add_argument("--only", action="append", default=[], metavar="PATH")
     parser.add_argument("crates", nargs="*", metavar="CRATE")
     asked = parser.parse_args()
     every = {it.name: it for it in rtlib.crates_below(TOP)}
     lacking = [it for it in asked.crates if it not in every]
     if lacking:
         sys.exit(f"profile: there is no crate {lacking[0]}")
-    only = ["--only", asked.only] if asked.only else []
+    only = [word for path in asked.only for word in ("--only", path)]
     dearest, whole, failed = [], 0.0, 0
     for crate in [every[it] for it in asked.crates] or sorted(every.values(), key=lambda it: len(it.below())):
         build_libraries(crate)
