@@ -1,10 +1,3 @@
-pub mod Arrangement
 pub mod CoreTheory
-pub mod Elements
-pub mod Grown
 pub mod Histories
-pub mod Places
-pub mod Preorder
-pub mod Puts
 pub mod SharedTheory
-pub mod Taken

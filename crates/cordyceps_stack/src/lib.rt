@@ -1,12 +1,7 @@
-//! Stacks, and lists that are kept in order.
+//! The stack that threads share, and its core; and stacks and sorted lists, which it passes on.
 #![tactic(auto)]
 
-mod by_fn;
 mod cores;
-mod counter;
-mod grow;
-mod iter;
-mod order;
 mod shared;
 pub mod sorted_list;
 pub mod stack;

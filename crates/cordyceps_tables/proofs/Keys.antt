@@ -7,8 +7,8 @@ use Rattle.std.specs.Fn.{FnReturnsAtPair}
 use Rattle.std.specs.Ordering.{nat_cmp}
 use Rattle.std.specs.declared.cmp.Ordering.{Ordering}
 use Rattle.std.proofs.lemmas.Cmp.{nat_cmp_total}
-use Rattle.cordyceps_stack.specs.ByFn.{Computes}
-use Rattle.cordyceps_stack.specs.Preorder.{preorder_from_total}
+use Rattle.cordyceps_single.specs.ByFn.{Computes}
+use Rattle.cordyceps_single.specs.Preorder.{preorder_from_total}
 use Rattle.cordyceps_commands.specs.declared.item.Item.{Item}
 
 pub computes_by : {F : Type 0} (key : Item → ℕ) (g : Shared F (Bor Item × (Bor Item × Unit {0})) Ordering) (f : F) →

@@ -3,15 +3,15 @@ use Rattle.std.proofs.Common.{◌≡◌, ℕ, zero, suc, Bool, List, [], ◌∷�
 use Rattle.std.specs.declared.cmp.Ordering.{Ordering}
 use Rattle.std.specs.List.Sorted.{IsSortedBy}
 use Rattle.cordyceps_base.specs.Element.{Elements}
-use Rattle.cordyceps_stack.specs.Arrangement.{less, StandsFor, put_all}
-use Rattle.cordyceps_stack.specs.Preorder.{IsPreorder}
-use Rattle.cordyceps_stack.proofs.Preorder.{by_test, ranks}
-use Rattle.cordyceps_stack.proofs.Puts.{put_all_stands, is_put_all, put_in_order}
-use Rattle.cordyceps_stack.proofs.Arrangement.{arrangement_nil, ascends_from_sorted, sorted_from_ascends}
+use Rattle.cordyceps_single.specs.Arrangement.{less, StandsFor, put_all}
+use Rattle.cordyceps_single.specs.Preorder.{IsPreorder}
+use Rattle.cordyceps_single.proofs.Preorder.{by_test, ranks}
+use Rattle.cordyceps_single.proofs.Puts.{put_all_stands, is_put_all, put_in_order}
+use Rattle.cordyceps_single.proofs.Arrangement.{arrangement_nil, ascends_from_sorted, sorted_from_ascends}
 use denote.Param.{read}
 use Rattle.std.specs.declared.cmp.Ord.Ghosts.{cmp}
 use Rattle.std.specs.Cmp.{back_total}
-use Rattle.cordyceps_stack.specs.Preorder.{preorder_from_total}
+use Rattle.cordyceps_single.specs.Preorder.{preorder_from_total}
 use Rattle.cordyceps_commands.specs.contracts.item.ItemOrd.TheImpl.{ghosts}
 use Rattle.cordyceps_commands.specs.contracts.item.ItemOrd.TheImpl.Laws.{total-law}
 use Rattle.cordyceps_commands.specs.declared.item.Item.{Item}

@@ -5,8 +5,8 @@ use Rattle.std.proofs.lemmas.Bool.{lt-ltb, ltb-true}
 use Rattle.std.specs.declared.cmp.Ordering.{Ordering}
 use Rattle.std.specs.List.Sorted.{IsSortedBy}
 use Rattle.cordyceps_base.specs.Element.{Elements}
-use Rattle.cordyceps_stack.specs.Arrangement.{less}
-use Rattle.cordyceps_stack.proofs.Preorder.{by_test}
+use Rattle.cordyceps_single.specs.Arrangement.{less}
+use Rattle.cordyceps_single.proofs.Preorder.{by_test}
 use Rattle.cordyceps_commands.specs.declared.item.Item.{Item}
 use Rattle.cordyceps_commands.specs.declared.sorted_command.SortedCommand.{SortedCommand}
 use Rattle.cordyceps_commands.specs.Replies.{Line}

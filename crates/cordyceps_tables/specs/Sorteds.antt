@@ -4,7 +4,7 @@ use Rattle.std.specs.declared.cmp.Ordering.{Ordering}
 use Rattle.std.specs.List.Sorted.{IsSortedBy}
 use Rattle.cordyceps_base.specs.Element.{Elements, values}
 pub use Rattle.cordyceps_commands.specs.SortedCommands.{list_of, Fits}
-use Rattle.cordyceps_stack.specs.Arrangement.{less, put, put_all}
+use Rattle.cordyceps_single.specs.Arrangement.{less, put, put_all}
 use Rattle.cordyceps_commands.specs.declared.item.Item.{Item}
 use Rattle.cordyceps_commands.specs.declared.sorted_command.SortedCommand.{SortedCommand}
 use Rattle.cordyceps_commands.specs.declared.sorted_command.SortedCommand.TheVariants as commands

@@ -7,11 +7,11 @@ ghost use Rattle.cordyceps_stack.specs.Shared.Words.{start};
 
 use crate::shared::steps::walk;
 use crate::shared::table::{PartySeat, Words};
-use crate::stack::Stack;
 use cordyceps_base::linked::Linked;
 use cordyceps_base::stack::Links;
 use cordyceps_shared::slots::Filled;
 use cordyceps_shared::tickets::Tickets;
+use cordyceps_single::stack::{Stack, put_last};
 
 /// The elements that the party has in hand, to which `at` leads. Their tickets go to its others.
 pub(crate) fn hand_out<T: Linked<Links<T>>>(
@@ -34,7 +34,7 @@ pub(crate) fn hand_out<T: Linked<Links<T>>>(
     while at != 0 {
         let (Filled { ticket, item }, below) = walk(words, seat, at);
         tickets.put(ticket);
-        batch.put_last(item);
+        put_last(&mut batch, item);
         at = below;
     }
     batch

@@ -9,12 +9,12 @@ ghost use Rattle.cordyceps_stack.specs.Shared.Calls.{PushesAt, Misses, Takes, Lo
 use crate::shared::batch::hand_out;
 use crate::shared::table::{OwnedTable, PartySeat};
 use crate::shared::{parting, steps};
-use crate::stack::Stack;
 use cordyceps_base::linked::Linked;
 use cordyceps_base::shared::MAX_ROOMS;
 use cordyceps_base::stack::Links;
 use cordyceps_shared::slots::Filled;
 use cordyceps_shared::tickets::Tickets;
+use cordyceps_single::stack::Stack;
 use std::alloc::{AllocError, Global};
 use std::marker::Model;
 

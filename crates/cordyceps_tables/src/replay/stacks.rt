@@ -11,7 +11,7 @@ use crate::replay::played::Played;
 use crate::replay::replies::{done, not_there, reply_of, show_of, truth_of};
 use cordyceps_base::node::Node;
 use cordyceps_commands::{Item, Reply, StackCommand};
-use cordyceps_stack::stack::Stack;
+use cordyceps_single::stack::Stack;
 use std::alloc::{AllocError, Global};
 use std::collections::VecDeque;
 use std::marker::Model;

@@ -2,7 +2,7 @@ use Rattle.std.proofs.Common.{rules, ◌/◌}
 use Rattle.std.specs.Ordering.{nat_cmp}
 use Rattle.std.specs.Cmp.{on_total}
 use Rattle.std.proofs.lemmas.Cmp.{nat_cmp_total}
-use Rattle.cordyceps_stack.specs.Preorder.{preorder_from_total}
+use Rattle.cordyceps_single.specs.Preorder.{preorder_from_total}
 use Rattle.cordyceps_stack_tests.specs.declared.asked.Asked.{Asked}
 use Rattle.cordyceps_stack_tests.proofs.sorted_lists.keeps_equals_by_arrival.Goals as goal
 

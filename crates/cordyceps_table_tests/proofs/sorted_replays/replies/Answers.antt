@@ -2,7 +2,7 @@ use Rattle.std.proofs.Common.{rules, ◌/◌}
 use Rattle.std.specs.Ordering.{nat_cmp}
 use Rattle.std.specs.Cmp.{on_total}
 use Rattle.std.proofs.lemmas.Cmp.{nat_cmp_total}
-use Rattle.cordyceps_stack.specs.Preorder.{preorder_from_total}
+use Rattle.cordyceps_single.specs.Preorder.{preorder_from_total}
 use Rattle.cordyceps.specs.Commands.Item.{Item}
 use Rattle.cordyceps.specs.Sorteds.{Fits}
 use Rattle.cordyceps_table_tests.proofs.Rests.{All-left}

@@ -1,5 +1,5 @@
 use Rattle.std.proofs.Common.{◌≡◌, subst}
-use Rattle.cordyceps_stack.specs.Arrangement.{put}
+use Rattle.cordyceps_single.specs.Arrangement.{put}
 use Rattle.cordyceps_tables.proofs.replay.sorteds.insert.Goals as goal
 
 pub returns-clause-put : goal.returns-clause-put

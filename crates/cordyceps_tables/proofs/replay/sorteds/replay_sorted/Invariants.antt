@@ -1,7 +1,7 @@
 use Rattle.std.proofs.Common.{◌≡◌, All}
 use Rattle.std.specs.VecDeque.{deque_len}
 use Rattle.std.specs.declared.cmp.Ordering.{Ordering}
-use Rattle.cordyceps_stack.specs.ByFn.{Computes}
+use Rattle.cordyceps_single.specs.ByFn.{Computes}
 use Rattle.cordyceps_commands.specs.declared.item.Item.{Item}
 use Rattle.cordyceps_tables.specs.Sorteds.{order_of, step, Fits, AreInOrder}
 use Rattle.cordyceps_tables.specs.Plays.{Plays, AnswersSome}

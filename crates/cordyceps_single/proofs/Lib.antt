@@ -1,0 +1,7 @@
+pub mod Arrangement
+pub mod Elements
+pub mod Grown
+pub mod Places
+pub mod Preorder
+pub mod Puts
+pub mod Taken

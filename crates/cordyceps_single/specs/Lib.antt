@@ -1,0 +1,5 @@
+pub mod Arrangement
+pub mod ByFn
+pub mod Grow
+pub mod Place
+pub mod Preorder

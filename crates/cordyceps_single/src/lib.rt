@@ -1,0 +1,10 @@
+//! Stacks, and lists that are kept in order, as chains that one thread owns.
+#![tactic(auto)]
+
+mod by_fn;
+mod counter;
+mod grow;
+mod iter;
+mod order;
+pub mod sorted_list;
+pub mod stack;

@@ -1,8 +1,0 @@
-use Rattle.std.proofs.Common.{rules}
-use Rattle.cordyceps_stack.proofs.stack.Stack.take_all.Goals as goal
-
-pub returns-clause-taken : goal.returns-clause-taken
-returns-clause-taken g c = search rules
-
-pub returns-clause-left : goal.returns-clause-left
-returns-clause-left g c = search rules
