@@ -3,8 +3,10 @@
 
 ghost use Rattle.std.specs.Prelude.{◌≡◌, ◌<◌, ◌≤◌, ◌∷◌, map, slice_get, IfSome, MatchOption};
 
-use cordyceps::list::Links;
-use cordyceps::{Kind, Linked, List, Node};
+use cordyceps_base::linked::Linked;
+use cordyceps_base::list::Links;
+use cordyceps_base::node::{Kind, Node};
+use cordyceps_list::list::List;
 
 /// A sector that is to be read, from a time on.
 #[derive(Clone, Copy, Debug, PartialEq, Eq)]
@@ -49,7 +51,8 @@ pub fn take_due(requests: &mut List<Request>, now: u64) -> Option<ListRequest>
 #[cfg(test)]
 mod tests {
     use super::{Request, take_due};
-    use cordyceps::{List, Node, Refused};
+    use cordyceps_base::node::{Node, Refused};
+    use cordyceps_list::list::List;
 
     #[test]
     fn takes_what_is_due(rt: HostRuntime) -> Result<(), Refused<Request>> {
