@@ -1,5 +1,6 @@
 -- Lines that are taken one after the other.
-use Rattle.std.proofs.Common.{◌≡◌, ℕ, ◌+◌, List, [], ◌∷◌, ◌++◌, length, Some, None, refl, sym, ◌∙◌, ap, arith, append_assoc}
+use Rattle.std.proofs.Common.{◌≡◌, ℕ, ◌+◌, ◌≤◌, List, [], ◌∷◌, ◌++◌, length, Some, None, false, nat_lt, refl, sym, ◌∙◌, ap, arith, append_assoc}
+use Rattle.std.proofs.lemmas.Bool.Decides.{nat_tests}
 use Rattle.std.proofs.lemmas.List.{append-nil}
 use Rattle.std.proofs.lemmas.List.Concat.{flat_map-append}
 use Rattle.std.specs.List.{concat, AllByRecursion}
@@ -38,6 +39,10 @@ pub first_bad-at : {S : Type 0} (machine : Machine S) (old new : S) (lines more 
 first_bad-at machine old new [] more line texts (same, none) bad = rw (← same, bad) refl
 first_bad-at machine old new (first ∷ lines) more line texts (next, front, others, step, steps, joined) bad =
     rw (step, first_bad-at machine next new lines more line others steps bad) (ap Some (omega arith))
+
+-- a line that is not too long is taken by the machine
+pub short_line : {S : Type 0} (machine : Machine S) (state : S) (line : List ℕ) → length line ≤ 120 → step_of machine state line ≡ machine.step state line
+short_line machine state line short = let is : nat_lt 120 (length line) ≡ false = grind (arith, nat_tests) in rw is refl
 
 pub all-append : {A : Type 0} (P : A → Type 0) (xs ys : List A) → AllByRecursion P xs → AllByRecursion P ys → AllByRecursion P (xs ++ ys)
 all-append P [] ys p q = q
