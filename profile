@@ -38,11 +38,29 @@ Cost = namedtuple("Cost", "start whole memory functions is_proved")
 
 
 def used(pid):
-    """The processor seconds that a running process has used."""
-    with open(f"/proc/{pid}/stat", encoding="utf-8") as it:
-        # (a name in parentheses stands before the fields)
-        fields = it.read().rpartition(")")[2].split()
-    return sum(map(int, fields[11:15])) / TICKS
+    """The processor seconds that a running process and those that it started have used."""
+    seconds = 0.0
+    # (what it started runs in processes that count as its own once they have ended)
+    for each in (pid, *children_of(pid)):
+        try:
+            with open(f"/proc/{each}/stat", encoding="utf-8") as it:
+                # (a name in parentheses stands before the fields)
+                fields = it.read().rpartition(")")[2].split()
+        except OSError:
+            continue
+        seconds += sum(map(int, fields[11:15])) / TICKS
+    return seconds
+
+
+def children_of(pid):
+    found = []
+    for thread in os.listdir(f"/proc/{pid}/task"):
+        try:
+            with open(f"/proc/{pid}/task/{thread}/children", encoding="utf-8") as it:
+                found += it.read().split()
+        except OSError:
+            continue
+    return found
 
 
 def cost_of(crate, flags):
