@@ -6,7 +6,7 @@ use std::fmt;
 use std::time::Duration;
 
 /// How long so many operations took, in rounds.
-#[derive(Clone, Copy, Debug, PartialEq, Eq)]
+#[derive(Clone, Copy)]
 pub struct Cost {
     /// The time of all of them.
     pub time: Duration,
@@ -18,7 +18,7 @@ pub struct Cost {
 }
 
 /// A time in tenths of a nanosecond, which prints as nanoseconds with one decimal.
-#[derive(Clone, Copy, Debug, PartialEq, Eq)]
+#[derive(Clone, Copy)]
 pub struct Tenths(pub u128);
 
 impl fmt::Display for Tenths {

@@ -100,6 +100,27 @@ fn drain_even(list: &mut List<Item>, even: &mut Vec<ListNode>) -> Result<(), Fau
     Ok(())
 }
 
+/// Makes a list, takes about half of it out, and puts all back. Only the filter is measured.
+fn drain_round(
+    rt: &impl Clock,
+    nodes: &mut Vec<ListNode>,
+    even: &mut Vec<ListNode>,
+    cost: &mut Cost,
+) -> Result<(), Fault> {
+    nodes.reverse();
+    let mut list = List::new();
+    push_all_back(&mut list, nodes);
+    let count = list.len();
+    let mut stopwatch = Stopwatch::start(rt)?;
+    drain_even(&mut list, even)?;
+    cost.add(count, stopwatch.look(rt)?);
+    pop_all_front(&mut list, nodes)?;
+    match nodes.append(even) {
+        Ok(()) => Ok(()),
+        Err(_) => Err(Fault::Memory),
+    }
+}
+
 /// Measures filters over a whole list, which take about half of it out.
 fn measure_drains(
     rt: &impl Clock,
@@ -110,15 +131,7 @@ fn measure_drains(
     let mut cost = Cost::none();
     let mut even = with_room(alloc, nodes.len())?;
     for _ in 0..rounds {
-        let mut list = List::new();
-        nodes.reverse();
-        push_all_back(&mut list, nodes);
-        let count = list.len();
-        let mut stopwatch = Stopwatch::start(rt)?;
-        drain_even(&mut list, &mut even)?;
-        cost.add(count, stopwatch.look(rt)?);
-        pop_all_front(&mut list, nodes)?;
-        nodes.append(&mut even).map_err(|_| Fault::Memory)?;
+        drain_round(rt, nodes, &mut even, &mut cost)?;
     }
     Ok(cost)
 }

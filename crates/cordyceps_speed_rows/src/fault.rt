@@ -3,7 +3,7 @@
 use std::fmt;
 
 /// Why the program measured no more. Its text is the line for standard error, without a line feed.
-#[derive(Clone, Copy, Debug, PartialEq, Eq)]
+#[derive(Clone, Copy)]
 pub enum Fault {
     /// The arguments are not at most one number of rounds.
     Usage,

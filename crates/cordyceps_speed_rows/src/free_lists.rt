@@ -72,7 +72,7 @@ impl Alone {
 }
 
 /// What was measured of what is shared.
-#[derive(Clone, Copy, Debug)]
+#[derive(Clone, Copy)]
 struct Shared {
     /// A `put_remote`.
     put_remote: Cost,
@@ -123,7 +123,7 @@ fn measure_shared(
 }
 
 /// What was measured of a local part.
-#[derive(Clone, Copy, Debug)]
+#[derive(Clone, Copy)]
 struct Own {
     /// A `put`.
     put: Cost,
@@ -179,7 +179,9 @@ fn measure_local(
     nodes: &mut Vec<StackNode>,
     rounds: u32,
 ) -> Result<Own, Fault> {
-    let (list, party) = FreeList::new(alloc, 0).map_err(|_| Fault::Memory)?;
+    let Ok((list, party)) = FreeList::new(alloc, 0) else {
+        return Err(Fault::Memory);
+    };
     let mut local = list.local(party);
     let mut own = Own {
         put: Cost::none(),

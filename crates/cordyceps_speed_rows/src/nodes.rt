@@ -20,7 +20,10 @@ pub fn mix(id: u64) -> u64 {
 
 /// A node.
 pub fn make_node<L: Kind>(alloc: Global, id: u64, value: u64) -> Result<Node<Item, L>, Fault> {
-    Node::new(alloc, id, Item { value, id }).map_err(|_| Fault::Memory)
+    match Node::new(alloc, id, Item { value, id }) {
+        Ok(node) => Ok(node),
+        Err(_) => Err(Fault::Memory),
+    }
 }
 
 /// So many nodes that hold items, with numbers from 0 on.

@@ -134,7 +134,7 @@ fn unpack_all(batches: &mut Vec<Batch<Item>>, nodes: &mut Vec<QueueNode>) -> Res
 }
 
 /// What was measured of a queue that threads share.
-#[derive(Clone, Copy, Debug)]
+#[derive(Clone, Copy)]
 struct Queues {
     /// An `enqueue`.
     enqueue: Cost,
@@ -256,6 +256,36 @@ fn measure_batches(
     Ok(cost)
 }
 
+/// Measures calls one by one, with so many elements. Answers the sum of the numbers of what came out last too.
+fn singles_of(
+    rt: &impl Clock,
+    alloc: Global,
+    elements: usize,
+    rounds: u32,
+) -> Result<(Queues, u64), Fault>
+    requires { elements ≤ MAX_ROOMS }
+{
+    let mut nodes = make_nodes(alloc, elements)?;
+    let queues = measure_singles(rt, alloc, &mut nodes, rounds)?;
+    Ok((queues, sum_numbers(nodes.as_slice())))
+}
+
+/// Measures batches of at most so many, with so many elements. Answers the sum of the numbers of what came out last too.
+fn batches_of(
+    rt: &impl Clock,
+    alloc: Global,
+    elements: usize,
+    most: usize,
+    rounds: u32,
+) -> Result<(Cost, u64), Fault>
+    requires rooms { elements ≤ MAX_ROOMS }
+    requires some { 1 ≤ most }
+{
+    let mut nodes = make_nodes(alloc, elements)?;
+    let cost = measure_batches(rt, alloc, &mut nodes, most, rounds)?;
+    Ok((cost, sum_numbers(nodes.as_slice())))
+}
+
 /// Measures queues that threads share, and shows them. Answers the sum of the numbers of what came out last.
 pub fn show_queues<R: Clock + Print>(
     rt: &R,
@@ -265,13 +295,9 @@ pub fn show_queues<R: Clock + Print>(
 ) -> Result<u64, Fault>
     requires { elements ≤ MAX_ROOMS }
 {
-    let mut nodes = make_nodes(alloc, elements)?;
-    let singles = measure_singles(rt, alloc, &mut nodes, table.rounds)?;
-    let sum = sum_numbers(nodes.as_slice());
-    let mut nodes = make_nodes(alloc, elements)?;
-    let few = measure_batches(rt, alloc, &mut nodes, 64, table.rounds)?;
-    let mut nodes = make_nodes(alloc, elements)?;
-    let many = measure_batches(rt, alloc, &mut nodes, 1024, table.rounds)?;
+    let (singles, sum) = singles_of(rt, alloc, elements, table.rounds)?;
+    let (few, _) = batches_of(rt, alloc, elements, 64, table.rounds)?;
+    let (many, last) = batches_of(rt, alloc, elements, 1024, table.rounds)?;
     let share = "an element's share, the batch not gone through";
     let rows = [
         ("MpscQueue: enqueue", singles.enqueue, "by a party"),
@@ -289,5 +315,5 @@ pub fn show_queues<R: Clock + Print>(
         ("Consumer: take_linked(1024)", many, share),
     ];
     table.rows(rt, elements, &rows)?;
-    Ok(sum.wrapping_add(sum_numbers(nodes.as_slice())))
+    Ok(sum.wrapping_add(last))
 }

@@ -14,7 +14,7 @@ use std::alloc::Global;
 use std::time::Clock;
 
 /// Which value the element with a number has.
-#[derive(Clone, Copy, Debug)]
+#[derive(Clone, Copy)]
 enum Values {
     /// That number: each goes behind all others.
     Ascending,
@@ -62,7 +62,7 @@ fn folded(mut list: SortedList<Item, Least>) -> u64 {
 }
 
 /// What was measured of insertions, and a number over what the list held last.
-#[derive(Clone, Copy, Debug)]
+#[derive(Clone, Copy)]
 struct Insertions {
     cost: Cost,
     sum: u64,

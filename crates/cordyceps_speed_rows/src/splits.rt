@@ -28,7 +28,9 @@ struct Part {
 /// Cuts four nodes off the end.
 fn cut_part(nodes: &mut Vec<ListNode>) -> Result<Part, Fault> {
     let at = nodes.len().saturating_sub(4);
-    let few = nodes.split_off(at).map_err(|_| Fault::Memory)?;
+    let Ok(few) = nodes.split_off(at) else {
+        return Err(Fault::Memory);
+    };
     if few.len() > 4 {
         return Err(Fault::Memory);
     }

@@ -4,7 +4,7 @@ use crate::fault::Fault;
 use std::time::{Clock, Duration, Instant};
 
 /// Measures the time from one look to the next.
-#[derive(Clone, Copy, Debug)]
+#[derive(Clone, Copy)]
 pub struct Stopwatch {
     looked: Instant,
 }
@@ -25,5 +25,8 @@ impl Stopwatch {
 }
 
 fn now(rt: &impl Clock) -> Result<Instant, Fault> {
-    Instant::now(rt).map_err(|_| Fault::Clock)
+    match Instant::now(rt) {
+        Ok(now) => Ok(now),
+        Err(_) => Err(Fault::Clock),
+    }
 }

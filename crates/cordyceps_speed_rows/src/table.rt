@@ -4,7 +4,7 @@ use crate::cost::Cost;
 use crate::fault::Fault;
 
 /// What is shown of each kind of call.
-#[derive(Clone, Copy, Debug, PartialEq, Eq)]
+#[derive(Clone, Copy)]
 pub enum Shown {
     /// How many of them were measured.
     Counts,
@@ -16,7 +16,7 @@ pub enum Shown {
 pub type Row<'a> = (&'a str, Cost, &'a str);
 
 /// How many rounds are measured of each kind of call, and what is shown of them.
-#[derive(Clone, Copy, Debug, PartialEq, Eq)]
+#[derive(Clone, Copy)]
 pub struct Table {
     pub rounds: u32,
     pub shown: Shown,
@@ -35,7 +35,10 @@ impl Table {
                 )
             }
         };
-        written.map_err(|_| Fault::Write)
+        if written.is_err() {
+            return Err(Fault::Write);
+        }
+        Ok(())
     }
 
     /// Writes the row of one kind of call, with this many elements in the collection.
@@ -53,7 +56,10 @@ impl Table {
             Shown::Counts => println!(rt; "{name:<36}{elements:>8}{count:>10}  {what}"),
             Shown::Times => println!(rt; "{name:<36}{elements:>8} {mean} {least}  {what}"),
         };
-        written.map_err(|_| Fault::Write)
+        if written.is_err() {
+            return Err(Fault::Write);
+        }
+        Ok(())
     }
 
     /// Writes the rows of kinds of call, each with this many elements in the collection.

@@ -63,7 +63,7 @@ impl Alone {
 }
 
 /// What was measured of a stack that threads share.
-#[derive(Clone, Copy, Debug)]
+#[derive(Clone, Copy)]
 struct Transfers {
     /// A push.
     push: Cost,

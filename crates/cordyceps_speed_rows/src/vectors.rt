@@ -8,12 +8,18 @@ use std::alloc::Global;
 pub fn with_room<T>(alloc: Global, count: usize) -> Result<Vec<T>, Fault>
     ensures { IfOk result (λ room. room.items ≡ []) }
 {
-    Vec::with_capacity(alloc, count).map_err(|_| Fault::Memory)
+    match Vec::with_capacity(alloc, count) {
+        Ok(room) => Ok(room),
+        Err(_) => Err(Fault::Memory),
+    }
 }
 
 /// Puts an item behind the others.
 pub fn push<T: Drop>(items: &mut Vec<T>, item: T) -> Result<(), Fault>
     ensures { OnOk result (items.new.items ≡ items.old.items ++ item ∷ []) }
 {
-    items.push(item).map_err(|_| Fault::Memory)
+    match items.push(item) {
+        Ok(()) => Ok(()),
+        Err(_) => Err(Fault::Memory),
+    }
 }

@@ -40,7 +40,7 @@ fn bump(list: &mut List<Item>) {
 }
 
 /// What was measured of walks, and the sum of what they saw.
-#[derive(Clone, Copy, Debug)]
+#[derive(Clone, Copy)]
 struct Walks {
     cost: Cost,
     sum: u64,
@@ -82,6 +82,27 @@ fn measure_changes(rt: &impl Clock, list: &mut List<Item>, rounds: u32) -> Resul
     Ok(cost)
 }
 
+/// Measures walks by an iterator through nodes that are scattered in memory.
+fn scattered(rt: &impl Clock, alloc: Global, elements: usize, rounds: u32) -> Result<Walks, Fault> {
+    let mut nodes = make_nodes(alloc, elements)?;
+    shuffle(&mut nodes);
+    measure_iterator(rt, &list_of(nodes), rounds)
+}
+
+/// Measures walks through nodes that lie in memory as in the list: by an iterator, with changes, and by a cursor.
+fn in_order(
+    rt: &impl Clock,
+    alloc: Global,
+    elements: usize,
+    rounds: u32,
+) -> Result<(Walks, Cost, Walks), Fault> {
+    let mut list = list_of(make_nodes(alloc, elements)?);
+    let steps = measure_iterator(rt, &list, rounds)?;
+    let changes = measure_changes(rt, &mut list, rounds)?;
+    let looks = measure_cursor(rt, &list, rounds)?;
+    Ok((steps, changes, looks))
+}
+
 /// Measures walks, and shows them. Answers the sum of the values that were seen.
 pub fn show_walks<R: Clock + Print>(
     rt: &R,
@@ -89,13 +110,8 @@ pub fn show_walks<R: Clock + Print>(
     table: Table,
     elements: usize,
 ) -> Result<u64, Fault> {
-    let mut list = list_of(make_nodes(alloc, elements)?);
-    let steps = measure_iterator(rt, &list, table.rounds)?;
-    let changes = measure_changes(rt, &mut list, table.rounds)?;
-    let looks = measure_cursor(rt, &list, table.rounds)?;
-    let mut nodes = make_nodes(alloc, elements)?;
-    shuffle(&mut nodes);
-    let far = measure_iterator(rt, &list_of(nodes), table.rounds)?;
+    let (steps, changes, looks) = in_order(rt, alloc, elements, table.rounds)?;
+    let far = scattered(rt, alloc, elements, table.rounds)?;
     let rows = [
         ("List: iter", steps.cost, "a step, the nodes as memory lies"),
         ("List: iter_mut", changes, "a step that changes a value"),
