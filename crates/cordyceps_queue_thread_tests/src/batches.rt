@@ -1,7 +1,8 @@
 //! Batches that consumers take at once: alone, and while threads put elements in.
+ghost use Rattle.std.specs.Prelude.{◌≤◌};
 
 use crate::compared::same;
-use crate::items::{Handle, dropped, element, elements, gives, number};
+use crate::items::{Handle, dropped, element, elements, gives, number, pair};
 use crate::seats::{Seated, consumer_of, three_queued};
 use cordyceps_queue::mpsc_queue::{Batch, Consumer, MpscQueue, OwnedConsumer, TryDequeueError};
 use cordyceps_testing::counted::{Counted, Drops};
@@ -57,27 +58,29 @@ fn a_batch_has_all_that_is_held(rt: HostRuntime) -> Result<(), AllocError> {
     Ok(())
 }
 
-/// Three elements of two parties: the first puts two in, and the second one.
+/// The first of two parties puts a pair of elements in, and the second one more.
 fn two_put_three(
     rt: &impl Abort,
-    alloc: Global,
     seats: (Seated<'_>, Seated<'_>),
-    drops: &Drops,
-) -> Result<(), AllocError> {
+    pair: (Handle, Handle),
+    third: Handle,
+) {
     let (mut first, mut second) = seats;
-    first.put(rt, element(alloc, 1, drops)?);
-    first.put(rt, element(alloc, 2, drops)?);
-    second.put(rt, element(alloc, 3, drops)?);
-    Ok(())
+    let (one, two) = pair;
+    first.put(rt, one);
+    first.put(rt, two);
+    second.put(rt, third);
 }
 
 #[test]
 fn a_batch_has_what_two_parties_put_in(rt: HostRuntime) -> Result<(), AllocError> {
     let drops = Drops::new(rt.alloc())?;
+    let pair = pair(rt.alloc(), 1, &drops)?;
+    let third = element(rt.alloc(), 3, &drops)?;
     let (queue, party) = MpscQueue::new(rt.alloc(), 3)?;
     let mut seat = Seated::at(&queue, party);
     let seats = (seat.split(&rt, 2), seat.split(&rt, 1));
-    two_put_three(&rt, rt.alloc(), seats, &drops)?;
+    two_put_three(&rt, seats, pair, third);
     let mut consumer = seat.consumer(&rt);
     same(&rt, consumer.rooms(), 0);
     takes_all(&rt, &mut consumer);
@@ -188,6 +191,26 @@ impl<'q> Rows<'q> {
     }
 }
 
+/// Adds the numbers of a batch's elements.
+fn add_numbers(
+    rt: &impl Abort,
+    numbers: &mut Vec<u64>,
+    batch: Batch<Counted>,
+) -> Result<(), AllocError> {
+    for node in batch {
+        numbers.push(number(rt, &node))?;
+    }
+    Ok(())
+}
+
+/// How many elements a batch has at most. To the proof of a call it is any such number: at a numeral as great as this the
+/// call's clauses are many steps long.
+fn most() -> usize
+    ensures { 1 ≤ result }
+{
+    64
+}
+
 /// The numbers of the elements that come in batches, until they are so many.
 fn drain(
     rt: &impl Abort,
@@ -197,12 +220,8 @@ fn drain(
 ) -> Result<Vec<u64>, AllocError> {
     let mut numbers = Vec::new(alloc);
     for _ in 0..TRIES {
-        match consumer.take_linked(64) {
-            Ok(batch) => {
-                for node in batch {
-                    numbers.push(number(rt, &node))?;
-                }
-            }
+        match consumer.take_linked(most()) {
+            Ok(batch) => add_numbers(rt, &mut numbers, batch)?,
             Err(_) => thread::yield_now(),
         }
         if numbers.len() == wanted {
