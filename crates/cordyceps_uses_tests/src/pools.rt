@@ -26,6 +26,20 @@ fn count(numbers: &mut Vec<u64>, blocks: Stack<Block>) -> Result<(), AllocError>
     Ok(())
 }
 
+/// The numbers of the blocks of three stacks, the least first.
+fn numbers_of(
+    alloc: Global,
+    stacks: (Stack<Block>, Stack<Block>, Stack<Block>),
+) -> Result<Vec<u64>, AllocError> {
+    let (mine, yours, left) = stacks;
+    let mut numbers = Vec::new(alloc);
+    count(&mut numbers, mine)?;
+    count(&mut numbers, yours)?;
+    count(&mut numbers, left)?;
+    numbers.sort()?;
+    Ok(numbers)
+}
+
 #[test]
 fn each_block_is_in_one_place(rt: HostRuntime) -> Result<(), AllocError> {
     let taker = [
@@ -39,12 +53,8 @@ fn each_block_is_in_one_place(rt: HostRuntime) -> Result<(), AllocError> {
     let giver = [Command::PutRemote, Command::PutRemote, Command::PutRemote];
     for _ in 0..ROUNDS {
         let all = (blocks(rt.alloc(), 1, 3)?, blocks(rt.alloc(), 3, 6)?);
-        let (mine, yours, left) = share(&rt, rt.alloc(), 3, all, &taker, &giver)?;
-        let mut numbers = Vec::new(rt.alloc());
-        count(&mut numbers, mine)?;
-        count(&mut numbers, yours)?;
-        count(&mut numbers, left)?;
-        numbers.sort()?;
+        let given = share(&rt, rt.alloc(), 3, all, &taker, &giver)?;
+        let numbers = numbers_of(rt.alloc(), given)?;
         same(&rt, numbers.as_slice(), &[1, 2, 3, 4, 5]);
     }
     Ok(())

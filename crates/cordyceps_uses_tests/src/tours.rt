@@ -10,6 +10,7 @@ use cordyceps_uses::tour::{
     QueueJob, StackJob, give_back, hand_over, least_rank, rotate, send, take_the_second,
 };
 use std::alloc::{AllocError, Global};
+use std::sync::Wait;
 
 /// A job for stacks, whose rank is ten times its number.
 fn stack_job(alloc: Global, number: u32) -> Result<StackJob, AllocError> {
@@ -50,22 +51,53 @@ fn lists(rt: HostRuntime) -> Result<(), AllocError> {
     Ok(())
 }
 
+/// Adds the numbers of two jobs that one party hands another.
+fn hand_two_over(rt: &impl Wait, alloc: Global, numbers: &mut Vec<u64>) -> Result<(), AllocError> {
+    let first = stack_job(alloc, 3)?;
+    let second = stack_job(alloc, 4)?;
+    for job in hand_over(rt, alloc, first, second)? {
+        numbers.push(job.id())?;
+    }
+    Ok(())
+}
+
+/// Adds the numbers of two jobs that are sent.
+fn send_two(alloc: Global, numbers: &mut Vec<u64>) -> Result<(), AllocError> {
+    let first = queue_job(alloc, 5)?;
+    let second = queue_job(alloc, 6)?;
+    if let Some(batch) = send(alloc, first, second)? {
+        for job in batch {
+            numbers.push(job.id())?;
+        }
+    }
+    Ok(())
+}
+
+/// Adds the number of a job that is given back.
+fn give_one_back(alloc: Global, numbers: &mut Vec<u64>) -> Result<(), AllocError> {
+    let near = stack_job(alloc, 7)?;
+    let far = stack_job(alloc, 8)?;
+    if let Some(job) = give_back(alloc, near, far)? {
+        numbers.push(job.id())?;
+    }
+    Ok(())
+}
+
+/// The least rank of two jobs.
+fn least_of_two(alloc: Global) -> Result<Option<u32>, AllocError> {
+    let first = stack_job(alloc, 2)?;
+    let second = stack_job(alloc, 1)?;
+    Ok(least_rank(first, second))
+}
+
 #[test]
 fn stacks_and_queues(rt: HostRuntime) -> Result<(), AllocError> {
     let alloc = rt.alloc();
-    let least = least_rank(stack_job(alloc, 2)?, stack_job(alloc, 1)?);
+    let least = least_of_two(alloc)?;
     let mut came = Vec::new(alloc);
-    for job in hand_over(&rt, alloc, stack_job(alloc, 3)?, stack_job(alloc, 4)?)? {
-        came.push(job.id())?;
-    }
-    if let Some(batch) = send(alloc, queue_job(alloc, 5)?, queue_job(alloc, 6)?)? {
-        for job in batch {
-            came.push(job.id())?;
-        }
-    }
-    if let Some(job) = give_back(alloc, stack_job(alloc, 7)?, stack_job(alloc, 8)?)? {
-        came.push(job.id())?;
-    }
+    hand_two_over(&rt, alloc, &mut came)?;
+    send_two(alloc, &mut came)?;
+    give_one_back(alloc, &mut came)?;
     same(&rt, (least, came.as_slice()), (Some(10), &[4, 3, 5, 6, 7]));
     Ok(())
 }
