@@ -4,21 +4,17 @@ use denote.RawPtr.{Ptr, null_ptr}
 use Rattle.std.specs.declared.alloc.Global.{Global}
 use Rattle.cordyceps_base.specs.declared.boxes.Address.{Address}
 use Rattle.cordyceps_base.specs.declared.node.Block.{Block}
-use Rattle.cordyceps_base.specs.declared.list.Links.{Links}
 use Rattle.cordyceps_base.specs.Boxes.{box_addresses, box_values, set_value}
-use Rattle.cordyceps_base.specs.Nodes.{Nodes, spots, nodes_of}
+use Rattle.cordyceps_base.specs.Nodes.{Nodes, spots, nodes_of, OwnedNode}
 use Rattle.cordyceps_base.specs.Spots.{AreTestable}
-use Rattle.cordyceps_base.specs.DoubleChain.{OwnedNode, next_of, prev_of, Segment, IsLinked}
+use Rattle.cordyceps_base.specs.DoubleChain.{next_of, prev_of, Segment, IsLinked}
 use Rattle.cordyceps_base.proofs.Nodes.{with_content, length_is, seen_at, length-take-within, length-drop-within, length-set_value, box_addresses-set}
 
-abbrev Node : Type 0 → Type 0
-Node X = Block X (Links X)
-
 -- the block with another `next`, and with another `prev`
-abbrev pub with_next : {X : Type 0} → Node X → Address → Node X
+abbrev pub with_next : {X : Type 0} → Block X → Address → Block X
 with_next b p = record b { links = record b.links { next = p } }
 
-abbrev pub with_prev : {X : Type 0} → Node X → Address → Node X
+abbrev pub with_prev : {X : Type 0} → Block X → Address → Block X
 with_prev b p = record b { links = record b.links { prev = p } }
 
 module _ {X : Type 0} where
@@ -34,25 +30,25 @@ module _ {X : Type 0} where
   last_on p h (n ∷ m ∷ ns) t q zero e f = absurd (omega (arith, e))
   last_on p h (n ∷ m ∷ ns) t q (suc j) e f = last_on n.0 (next_of n.2) (m ∷ ns) t q j (omega (arith, e)) f.2
 
-  next_on : (p h : Ptr) (ns : List (OwnedNode X)) (t q : Ptr) (k : ℕ) (b : Node X) → Segment p h ns t q → slice_get (box_values ns) k ≡ Some b → k + 1 < length ns → slice_get (box_addresses ns) (suc k) ≡ Some (next_of b)
+  next_on : (p h : Ptr) (ns : List (OwnedNode X)) (t q : Ptr) (k : ℕ) (b : Block X) → Segment p h ns t q → slice_get (box_values ns) k ≡ Some b → k + 1 < length ns → slice_get (box_addresses ns) (suc k) ≡ Some (next_of b)
   next_on p h [] t q k b f e l = cc
   next_on p h (n ∷ []) t q zero b f e l = absurd (omega (arith, l))
-  next_on p h (n ∷ m ∷ ns) t q zero b f e l = let same : n.2 ≡ b = cc in ap Some (sym f.2.0 ∙ ap (λ (x : Node X). next_of x) same)
+  next_on p h (n ∷ m ∷ ns) t q zero b f e l = let same : n.2 ≡ b = cc in ap Some (sym f.2.0 ∙ ap (λ (x : Block X). next_of x) same)
   next_on p h (n ∷ ns) t q (suc k) b f e l = next_on n.0 (next_of n.2) ns t q k b f.2 e (omega (arith, l))
 
-  prev_on : (p h : Ptr) (ns : List (OwnedNode X)) (t q : Ptr) (k : ℕ) (b : Node X) → Segment p h ns t q → slice_get (box_values ns) (suc k) ≡ Some b → slice_get (box_addresses ns) k ≡ Some (prev_of b)
+  prev_on : (p h : Ptr) (ns : List (OwnedNode X)) (t q : Ptr) (k : ℕ) (b : Block X) → Segment p h ns t q → slice_get (box_values ns) (suc k) ≡ Some b → slice_get (box_addresses ns) k ≡ Some (prev_of b)
   prev_on p h [] t q k b f e = cc
   prev_on p h (n ∷ []) t q k b f e = cc
-  prev_on p h (n ∷ m ∷ ns) t q zero b f e = let same : m.2 ≡ b = cc in ap Some (sym f.2.1 ∙ ap (λ (x : Node X). prev_of x) same)
+  prev_on p h (n ∷ m ∷ ns) t q zero b f e = let same : m.2 ≡ b = cc in ap Some (sym f.2.1 ∙ ap (λ (x : Block X). prev_of x) same)
   prev_on p h (n ∷ m ∷ ns) t q (suc k) b f e = prev_on n.0 (next_of n.2) (m ∷ ns) t q k b f.2 e
 
   module _ (h t : Ptr) (len : ℕ) (ns : List (OwnedNode X)) (v : Nodes X) (seen : nodes_of ns ≡ v) (linked : IsLinked h t len ns) where
-    pub next_place : (k : ℕ) (b : Node X) → slice_get (box_values ns) k ≡ Some b → k + 1 < length v → slice_get (spots v) (k + 1) ≡ Some b.links.next.ptr
+    pub next_place : (k : ℕ) (b : Block X) → slice_get (box_values ns) k ≡ Some b → k + 1 < length v → slice_get (spots v) (k + 1) ≡ Some b.links.next.ptr
     next_place k b e p =
         let on : suc k ≡ k + 1 = omega arith in let long = length_is ns v seen in
         subst (λ j. slice_get (spots v) j ≡ Some b.links.next.ptr) on (seen_at ns v seen (suc k) b.links.next.ptr (next_on null_ptr h ns t null_ptr k b linked.2 e (omega (arith, p, long))))
 
-    pub prev_place : (k : ℕ) (b : Node X) → slice_get (box_values ns) k ≡ Some b → 0 < k → slice_get (spots v) (k - 1) ≡ Some b.links.prev.ptr
+    pub prev_place : (k : ℕ) (b : Block X) → slice_get (box_values ns) k ≡ Some b → 0 < k → slice_get (spots v) (k - 1) ≡ Some b.links.prev.ptr
     prev_place k b e p =
         let on : k ≡ suc (k - 1) = omega (arith, p) in
         seen_at ns v seen (k - 1) b.links.prev.ptr (prev_on null_ptr h ns t null_ptr (k - 1) b linked.2 (subst (λ j. slice_get (box_values ns) j ≡ Some b) on e))
@@ -71,13 +67,13 @@ module _ {X : Type 0} where
     last_here = let long = linked.0 in last_on null_ptr h ns t null_ptr (len - 1) (omega (arith, some, long)) linked.2
 
   -- the only node
-  pub single : (h t : Ptr) (len : ℕ) (ns : List (OwnedNode X)) (a : Global) → IsLinked h t len ns → length (nodes_of ns) ≡ 1 → (x : Node X) × (ns ≡ (h, a, x) ∷ [])
+  pub single : (h t : Ptr) (len : ℕ) (ns : List (OwnedNode X)) (a : Global) → IsLinked h t len ns → length (nodes_of ns) ≡ 1 → (x : Block X) × (ns ≡ (h, a, x) ∷ [])
   single h t len [] a linked e = absurd (omega (arith, e))
   single h t len (n ∷ []) a linked e = (n.2, λ i. (sym linked.2.0 i, a, n.2) ∷ [])
   single h t len (n ∷ m ∷ ns) a linked e = absurd (omega (arith, e))
 
   -- a row of one node that leads to nx and back to pr
-  pub linked_one : (p : Ptr) (a : Global) (v : Node X) (nx pr : Address) (b c : Node X) (one : List (OwnedNode X)) → one ≡ (p, a, v) ∷ [] → slice_get (box_values one) 0 ≡ Some b
+  pub linked_one : (p : Ptr) (a : Global) (v : Block X) (nx pr : Address) (b c : Block X) (one : List (OwnedNode X)) → one ≡ (p, a, v) ∷ [] → slice_get (box_values one) 0 ≡ Some b
       → slice_get (box_values (set_value one 0 (with_next b nx))) 0 ≡ Some c → set_value (set_value one 0 (with_next b nx)) 0 (with_prev c pr) ≡ (p, a, with_prev (with_next v nx) pr) ∷ []
   linked_one p a v nx pr b c one e r s =
       let r' : slice_get (box_values ((p, a, v) ∷ [])) 0 ≡ Some b = subst (λ ls. slice_get (box_values ls) 0 ≡ Some b) e r in let is_v : v ≡ b = cc in
@@ -85,23 +81,23 @@ module _ {X : Type 0} where
       ap (λ ls. set_value (set_value ls 0 (with_next b nx)) 0 (with_prev c pr)) e ∙ (λ i. (p, a, with_prev (sym is_b i) pr) ∷ []) ∙ (λ i. (p, a, with_prev (with_next (sym is_v i) nx) pr) ∷ [])
 
   -- ---- a link is written
-  pub relinked_last : (p h : Ptr) (ns : List (OwnedNode X)) (t q : Ptr) (nx : Address) (b : Node X) (j : ℕ) → suc j ≡ length ns → Segment p h ns t q → slice_get (box_values ns) j ≡ Some b → Segment p h (set_value ns j (with_next b nx)) t nx.ptr
+  pub relinked_last : (p h : Ptr) (ns : List (OwnedNode X)) (t q : Ptr) (nx : Address) (b : Block X) (j : ℕ) → suc j ≡ length ns → Segment p h ns t q → slice_get (box_values ns) j ≡ Some b → Segment p h (set_value ns j (with_next b nx)) t nx.ptr
   relinked_last p h [] t q nx b j e f r = absurd (omega (arith, e))
-  relinked_last p h (n ∷ []) t q nx b zero e f r = let same : n.2 ≡ b = cc in (f.0, ap (λ (x : Node X). prev_of x) (sym same) ∙ f.1, (refl, f.2.1))
+  relinked_last p h (n ∷ []) t q nx b zero e f r = let same : n.2 ≡ b = cc in (f.0, ap (λ (x : Block X). prev_of x) (sym same) ∙ f.1, (refl, f.2.1))
   relinked_last p h (n ∷ []) t q nx b (suc j) e f r = absurd (omega (arith, e))
   relinked_last p h (n ∷ m ∷ ns) t q nx b zero e f r = absurd (omega (arith, e))
   relinked_last p h (n ∷ m ∷ ns) t q nx b (suc j) e f r = (f.0, f.1, relinked_last n.0 (next_of n.2) (m ∷ ns) t q nx b j (omega (arith, e)) f.2 r)
 
-  pub relinked_first : (p h : Ptr) (ns : List (OwnedNode X)) (t q : Ptr) (pr : Address) (b : Node X) → Segment p h ns t q → slice_get (box_values ns) 0 ≡ Some b → Segment pr.ptr h (set_value ns 0 (with_prev b pr)) t q
+  pub relinked_first : (p h : Ptr) (ns : List (OwnedNode X)) (t q : Ptr) (pr : Address) (b : Block X) → Segment p h ns t q → slice_get (box_values ns) 0 ≡ Some b → Segment pr.ptr h (set_value ns 0 (with_prev b pr)) t q
   relinked_first p h [] t q pr b f r = cc
-  relinked_first p h (n ∷ ns) t q pr b f r = let same : n.2 ≡ b = cc in (f.0, refl, subst (λ (x : Node X). Segment n.0 (next_of x) ns t q) same f.2)
+  relinked_first p h (n ∷ ns) t q pr b f r = let same : n.2 ≡ b = cc in (f.0, refl, subst (λ (x : Block X). Segment n.0 (next_of x) ns t q) same f.2)
 
   -- ---- one row behind another
   pub segment_join : (p h : Ptr) (xs : List (OwnedNode X)) (l m : Ptr) (ys : List (OwnedNode X)) (t q : Ptr) → Segment p h xs l m → Segment l m ys t q → Segment p h (xs ++ ys) t q
   segment_join p h [] l m ys t q f g = subst (λ (s : Ptr × Ptr). Segment s.0 s.1 ys t q) (λ i. (f.1 i, sym f.0 i)) g
   segment_join p h (x ∷ xs) l m ys t q f g = (f.0, f.1, segment_join x.0 (next_of x.2) xs l m ys t q f.2 g)
 
-  pub joined : (h t : Ptr) (o l : Address) (m k : ℕ) (xs ys js : List (OwnedNode X)) (b c : Node X) → IsLinked h l.ptr m xs → IsLinked o.ptr t k ys → 0 < m → slice_get (box_values xs) (m - 1) ≡ Some b → slice_get (box_values ys) 0 ≡ Some c
+  pub joined : (h t : Ptr) (o l : Address) (m k : ℕ) (xs ys js : List (OwnedNode X)) (b c : Block X) → IsLinked h l.ptr m xs → IsLinked o.ptr t k ys → 0 < m → slice_get (box_values xs) (m - 1) ≡ Some b → slice_get (box_values ys) 0 ≡ Some c
       → js ≡ set_value xs (m - 1) (with_next b o) ++ set_value ys 0 (with_prev c l) → AreTestable (box_addresses js) → IsLinked h t (m + k) js
   joined h t o l m k xs ys js b c f g some r s all a =
       let first = f.0 in let second = g.0 in
@@ -112,18 +108,18 @@ module _ {X : Type 0} where
       (omega (arith, first, second, long), a, subst (λ ls. Segment null_ptr h ls t null_ptr) (sym all) (segment_join null_ptr h _ l.ptr o.ptr _ t null_ptr front back))
 
   -- ---- a row is cut
-  pub cut_before : (p h : Ptr) (k : ℕ) (ns : List (OwnedNode X)) (t q at : Ptr) (b : Node X) → Segment p h ns t q → slice_get (box_addresses ns) k ≡ Some at → slice_get (box_values ns) k ≡ Some b
+  pub cut_before : (p h : Ptr) (k : ℕ) (ns : List (OwnedNode X)) (t q at : Ptr) (b : Block X) → Segment p h ns t q → slice_get (box_addresses ns) k ≡ Some at → slice_get (box_values ns) k ≡ Some b
       → Segment p h (take k ns) (prev_of b) at × Segment (prev_of b) at (drop k ns) t q
   cut_before p h k [] t q at b f s e = cc
   cut_before p h zero (n ∷ ns) t q at b f s e =
-      let same : n.2 ≡ b = cc in let lies : n.0 ≡ at = cc in let to : prev_of n.2 ≡ prev_of b = ap (λ (x : Node X). prev_of x) same in ((f.0 ∙ lies, sym to ∙ f.1), (sym lies, to, f.2))
+      let same : n.2 ≡ b = cc in let lies : n.0 ≡ at = cc in let to : prev_of n.2 ≡ prev_of b = ap (λ (x : Block X). prev_of x) same in ((f.0 ∙ lies, sym to ∙ f.1), (sym lies, to, f.2))
   cut_before p h (suc k) (n ∷ ns) t q at b f s e = let on = cut_before n.0 (next_of n.2) k ns t q at b f.2 s e in ((f.0, f.1, on.0), on.1)
 
-  pub cut_after : (p h : Ptr) (k : ℕ) (ns : List (OwnedNode X)) (t q at : Ptr) (b : Node X) → Segment p h ns t q → slice_get (box_addresses ns) k ≡ Some at → slice_get (box_values ns) k ≡ Some b
+  pub cut_after : (p h : Ptr) (k : ℕ) (ns : List (OwnedNode X)) (t q at : Ptr) (b : Block X) → Segment p h ns t q → slice_get (box_addresses ns) k ≡ Some at → slice_get (box_values ns) k ≡ Some b
       → Segment p h (take (suc k) ns) at (next_of b) × Segment at (next_of b) (drop (suc k) ns) t q
   cut_after p h k [] t q at b f s e = cc
   cut_after p h zero (n ∷ ns) t q at b f s e =
-      let same : n.2 ≡ b = cc in let lies : n.0 ≡ at = cc in let to : next_of n.2 ≡ next_of b = ap (λ (x : Node X). next_of x) same in
+      let same : n.2 ≡ b = cc in let lies : n.0 ≡ at = cc in let to : next_of n.2 ≡ next_of b = ap (λ (x : Block X). next_of x) same in
       ((f.0, f.1, (to, sym lies)), subst (λ (s : Ptr × Ptr). Segment s.0 s.1 ns t q) (λ i. (lies i, to i)) f.2)
   cut_after p h (suc k) (n ∷ ns) t q at b f s e = let on = cut_after n.0 (next_of n.2) k ns t q at b f.2 s e in ((f.0, f.1, on.0), on.1)
 
@@ -132,7 +128,7 @@ module _ {X : Type 0} where
     pub front_end : Segment null_ptr h (take k ns) l r → slice_get (box_addresses (take k ns)) (k - 1) ≡ Some l
     front_end f = last_on null_ptr h (take k ns) l r (k - 1) (let same = length-take-within k ns (omega (arith, less, long)) in omega (arith, pos, same)) f
 
-    pub front_cut : (b : Node X) (js : List (OwnedNode X)) → Segment null_ptr h (take k ns) l r → slice_get (box_values (take k ns)) (k - 1) ≡ Some b
+    pub front_cut : (b : Block X) (js : List (OwnedNode X)) → Segment null_ptr h (take k ns) l r → slice_get (box_values (take k ns)) (k - 1) ≡ Some b
         → js ≡ set_value (take k ns) (k - 1) (with_next b no) → AreTestable (box_addresses js) → IsLinked h l k js
     front_cut b js f e is a =
         let same = length-take-within k ns (omega (arith, less, long)) in
@@ -142,7 +138,7 @@ module _ {X : Type 0} where
     pub back_end : Segment l r (drop k ns) t null_ptr → slice_get (box_addresses (drop k ns)) 0 ≡ Some r
     back_end f = first_on l r (drop k ns) t null_ptr f (let same = length-drop-within k ns (omega (arith, less, long)) in omega (arith, same, less, long))
 
-    pub back_cut : (b : Node X) (js : List (OwnedNode X)) → Segment l r (drop k ns) t null_ptr → slice_get (box_values (drop k ns)) 0 ≡ Some b
+    pub back_cut : (b : Block X) (js : List (OwnedNode X)) → Segment l r (drop k ns) t null_ptr → slice_get (box_values (drop k ns)) 0 ≡ Some b
         → js ≡ set_value (drop k ns) 0 (with_prev b no') → AreTestable (box_addresses js) → IsLinked r t (len - k) js
     back_cut b js f e is a =
         let same = length-drop-within k ns (omega (arith, less, long)) in
@@ -150,11 +146,11 @@ module _ {X : Type 0} where
         (ap (λ j. j - k) long ∙ same ∙ sym (ap length is ∙ length-set_value (drop k ns) 0 (with_prev b no')), a, subst (λ (s : List (OwnedNode X) × Ptr). Segment s.1 r s.0 t null_ptr) (λ i. (sym is i, null' i)) on)
 
   -- ---- a value is written
-  segment_keep : (p h : Ptr) (ns : List (OwnedNode X)) (t q : Ptr) (k : ℕ) (b : Node X) (w : X) → Segment p h ns t q → slice_get (box_values ns) k ≡ Some b → Segment p h (set_value ns k (with_content b w)) t q
+  segment_keep : (p h : Ptr) (ns : List (OwnedNode X)) (t q : Ptr) (k : ℕ) (b : Block X) (w : X) → Segment p h ns t q → slice_get (box_values ns) k ≡ Some b → Segment p h (set_value ns k (with_content b w)) t q
   segment_keep p h [] t q k b w f e = f
-  segment_keep p h (n ∷ ns) t q zero b w f e = let same : n.2 ≡ b = cc in (f.0, ap (λ (x : Node X). prev_of x) (sym same) ∙ f.1, subst (λ (x : Node X). Segment n.0 (next_of x) ns t q) same f.2)
+  segment_keep p h (n ∷ ns) t q zero b w f e = let same : n.2 ≡ b = cc in (f.0, ap (λ (x : Block X). prev_of x) (sym same) ∙ f.1, subst (λ (x : Block X). Segment n.0 (next_of x) ns t q) same f.2)
   segment_keep p h (n ∷ ns) t q (suc k) b w f e = (f.0, f.1, segment_keep n.0 (next_of n.2) ns t q k b w f.2 e)
 
-  pub linked_keep : (h t : Ptr) (len : ℕ) (ns : List (OwnedNode X)) (k : ℕ) (b : Node X) (w : X) → IsLinked h t len ns → slice_get (box_values ns) k ≡ Some b → IsLinked h t len (set_value ns k (with_content b w))
+  pub linked_keep : (h t : Ptr) (len : ℕ) (ns : List (OwnedNode X)) (k : ℕ) (b : Block X) (w : X) → IsLinked h t len ns → slice_get (box_values ns) k ≡ Some b → IsLinked h t len (set_value ns k (with_content b w))
   linked_keep h t len ns k b w f e =
       (f.0 ∙ sym (length-set_value ns k (with_content b w)), subst AreTestable (sym (box_addresses-set ns k (with_content b w))) f.1, segment_keep null_ptr h ns t null_ptr k b w f.2 e)

@@ -4,20 +4,20 @@ use denote.RawPtr.{Ptr, null_ptr}
 use Rattle.std.specs.declared.alloc.Global.{Global}
 use Rattle.cordyceps_base.specs.declared.boxes.Address.{Address}
 use Rattle.cordyceps_base.specs.declared.node.Block.{Block}
-use Rattle.cordyceps_base.specs.declared.list.Links.{Links}
 use Rattle.cordyceps_base.specs.Boxes.{box_addresses, box_values, set_value}
-use Rattle.cordyceps_base.specs.DoubleChain.{OwnedNode, Segment, next_of, prev_of}
+use Rattle.cordyceps_base.specs.Nodes.{OwnedNode}
+use Rattle.cordyceps_base.specs.DoubleChain.{Segment, next_of, prev_of}
 use Rattle.cordyceps_base.proofs.DoubleChain.{cut_after, cut_before, first_on, last_on, relinked_first, relinked_last, segment_join, with_next, with_prev}
 use Rattle.cordyceps_base.proofs.Nodes.{length-drop-within, length-take-within, within_values}
 use Rattle.cordyceps_base.proofs.Segments.{first_one}
 
-value_behind : {X : Type 0} (k : ℕ) (ns : List (OwnedNode X)) (b : Block X (Links X)) → slice_get (box_values ns) k ≡ Some b → slice_get (box_values (drop k ns)) 0 ≡ Some b
+value_behind : {X : Type 0} (k : ℕ) (ns : List (OwnedNode X)) (b : Block X) → slice_get (box_values ns) k ≡ Some b → slice_get (box_values (drop k ns)) 0 ≡ Some b
 value_behind k [] b e = cc
 value_behind zero (n ∷ ns) b e = e
 value_behind (suc k) (n ∷ ns) b e = value_behind k ns b e
 
 -- b: what node k, at `at`, holds
-module _ {X : Type 0} (h t : Ptr) (ns : List (OwnedNode X)) (k : ℕ) (at : Ptr) (b : Block X (Links X)) (linked : Segment null_ptr h ns t null_ptr) (on : slice_get (box_addresses ns) k ≡ Some at) (holds : slice_get (box_values ns) k ≡ Some b) where
+module _ {X : Type 0} (h t : Ptr) (ns : List (OwnedNode X)) (k : ℕ) (at : Ptr) (b : Block X) (linked : Segment null_ptr h ns t null_ptr) (on : slice_get (box_addresses ns) k ≡ Some at) (holds : slice_get (box_values ns) k ≡ Some b) where
   parts : Segment null_ptr h (take k ns) (prev_of b) at × Segment (prev_of b) at (drop k ns) t null_ptr
   parts = cut_before null_ptr h k ns t null_ptr at b linked on holds
 
@@ -41,22 +41,22 @@ module _ {X : Type 0} (h t : Ptr) (ns : List (OwnedNode X)) (k : ℕ) (at : Ptr)
       let long = length-drop-within k ns (within_values ns k b holds) in let left = length-drop-within 1 (drop k ns) (omega (arith, more, long)) in
       first_on at (next_of b) (drop 1 (drop k ns)) t null_ptr after.1 (omega (arith, more, long, left))
 
-  pub one_there : (a : Global) × (x : Block X (Links X)) × (take 1 (drop k ns) ≡ (at, a, x) ∷ [])
+  pub one_there : (a : Global) × (x : Block X) × (take 1 (drop k ns) ≡ (at, a, x) ∷ [])
   one_there = first_one (prev_of b) at (drop k ns) t null_ptr some_behind parts.1
 
   -- the nodes before it, the last of which leads to another
-  front_leads : 0 < k → (o : Block X (Links X)) (next : Address) → slice_get (box_values (take k ns)) (k - 1) ≡ Some o → Segment null_ptr h (set_value (take k ns) (k - 1) (with_next o next)) (prev_of b) next.ptr
+  front_leads : 0 < k → (o : Block X) (next : Address) → slice_get (box_values (take k ns)) (k - 1) ≡ Some o → Segment null_ptr h (set_value (take k ns) (k - 1) (with_next o next)) (prev_of b) next.ptr
   front_leads pos o next e = relinked_last null_ptr h (take k ns) (prev_of b) at next o (k - 1) (before pos) parts.0 e
 
   -- its neighbours lead to one another
-  pub linked_over : 0 < k → (o p : Block X (Links X)) → slice_get (box_values (take k ns)) (k - 1) ≡ Some o → slice_get (box_values (drop 1 (drop k ns))) 0 ≡ Some p
+  pub linked_over : 0 < k → (o p : Block X) → slice_get (box_values (take k ns)) (k - 1) ≡ Some o → slice_get (box_values (drop 1 (drop k ns))) 0 ≡ Some p
       → Segment null_ptr h (set_value (take k ns) (k - 1) (with_next o b.links.next) ++ set_value (drop 1 (drop k ns)) 0 (with_prev p b.links.prev)) t null_ptr
   linked_over pos o p e f =
       segment_join null_ptr h (set_value (take k ns) (k - 1) (with_next o b.links.next)) (prev_of b) (next_of b) (set_value (drop 1 (drop k ns)) 0 (with_prev p b.links.prev)) t null_ptr
       (front_leads pos o b.links.next e) (relinked_first at (next_of b) (drop 1 (drop k ns)) t null_ptr b.links.prev p after.1 f)
 
   -- another node lies between it and the one before
-  pub linked_with : 0 < k → (new : Address) (a : Global) (w o p : Block X (Links X)) → prev_of w ≡ prev_of b → next_of w ≡ at → slice_get (box_values (take k ns)) (k - 1) ≡ Some o → slice_get (box_values (drop k ns)) 0 ≡ Some p
+  pub linked_with : 0 < k → (new : Address) (a : Global) (w o p : Block X) → prev_of w ≡ prev_of b → next_of w ≡ at → slice_get (box_values (take k ns)) (k - 1) ≡ Some o → slice_get (box_values (drop k ns)) 0 ≡ Some p
       → Segment null_ptr h (set_value (take k ns) (k - 1) (with_next o new) ++ ((new.ptr, a, w) ∷ [] ++ set_value (drop k ns) 0 (with_prev p new))) t null_ptr
   linked_with pos new a w o p back on e f =
       let behind = relinked_first (prev_of b) at (drop k ns) t null_ptr new p parts.1 f in

@@ -5,7 +5,6 @@ use denote.RawPtr.{Ptr, null_ptr, Testable, InBlock}
 use Rattle.std.specs.declared.alloc.Global.{Global}
 use Rattle.cordyceps_base.specs.declared.boxes.Address.{Address}
 use Rattle.cordyceps_base.specs.declared.node.Block.{Block}
-use Rattle.cordyceps_base.specs.declared.list.Links.{Links}
 use Rattle.cordyceps_base.specs.Element.{Element}
 use Rattle.cordyceps_base.specs.Boxes.{box_addresses, box_values, set_value}
 use Rattle.cordyceps_base.specs.Spots.{same_ptr, index_of, AreTestable}
@@ -49,18 +48,18 @@ module _ {Z B : Type 0} where
   tested_back (x ∷ xs) ys a = tested_back xs ys a.2
 
 abbrev pub Row : Type 0 → Type 0
-Row X = List (OwnedNode X (Links X))
+Row X = List (OwnedNode X)
 
 module _ {X : Type 0} where
-  pub segment_front : (p h : Ptr) (xs : Row X) (n : OwnedNode X (Links X)) (ys : Row X) (t q : Ptr) → Segment p h (xs ++ n ∷ ys) t q → Segment p h xs (prev_of n.2) n.0
+  pub segment_front : (p h : Ptr) (xs : Row X) (n : OwnedNode X) (ys : Row X) (t q : Ptr) → Segment p h (xs ++ n ∷ ys) t q → Segment p h xs (prev_of n.2) n.0
   segment_front p h [] n ys t q f = (f.0, f.1)
   segment_front p h (x ∷ xs) n ys t q f = (f.0, f.1, segment_front x.0 (next_of x.2) xs n ys t q f.2)
 
-  pub segment_back : (p h : Ptr) (xs : Row X) (n : OwnedNode X (Links X)) (ys : Row X) (t q : Ptr) → Segment p h (xs ++ n ∷ ys) t q → Segment n.0 (next_of n.2) ys t q
+  pub segment_back : (p h : Ptr) (xs : Row X) (n : OwnedNode X) (ys : Row X) (t q : Ptr) → Segment p h (xs ++ n ∷ ys) t q → Segment n.0 (next_of n.2) ys t q
   segment_back p h [] n ys t q f = f.2
   segment_back p h (x ∷ xs) n ys t q f = segment_back x.0 (next_of x.2) xs n ys t q f.2
 
-  pub segment_upto : (p h : Ptr) (xs : Row X) (n : OwnedNode X (Links X)) (ys : Row X) (t q : Ptr) → Segment p h (xs ++ n ∷ ys) t q → Segment p h (xs ++ n ∷ []) n.0 (next_of n.2)
+  pub segment_upto : (p h : Ptr) (xs : Row X) (n : OwnedNode X) (ys : Row X) (t q : Ptr) → Segment p h (xs ++ n ∷ ys) t q → Segment p h (xs ++ n ∷ []) n.0 (next_of n.2)
   segment_upto p h [] n ys t q f = (f.0, f.1, (refl, refl))
   segment_upto p h (x ∷ xs) n ys t q f = (f.0, f.1, segment_upto x.0 (next_of x.2) xs n ys t q f.2)
 
@@ -69,7 +68,7 @@ module _ {X : Type 0} where
   last_testable p h [] t q f a z = subst Testable (sym f.1) z
   last_testable p h (n ∷ ns) t q f a z = last_testable n.0 (next_of n.2) ns t q f.2 a.2 a.1
 
-  last_block : (p h : Ptr) (n : OwnedNode X (Links X)) (ns : Row X) (t q : Ptr) → Segment p h (n ∷ ns) t q → AreTestable (box_addresses (n ∷ ns)) → InBlock t
+  last_block : (p h : Ptr) (n : OwnedNode X) (ns : Row X) (t q : Ptr) → Segment p h (n ∷ ns) t q → AreTestable (box_addresses (n ∷ ns)) → InBlock t
   last_block p h n [] t q f a = subst InBlock (sym f.2.1) a.0
   last_block p h n (m ∷ ns) t q f a = last_block n.0 (next_of n.2) m ns t q f.2 a.2
 
@@ -88,20 +87,20 @@ module _ {X : Type 0} where
   last_there p h (n ∷ m ∷ ns) t q zero e f = absurd (omega (arith, e))
   last_there p h (n ∷ m ∷ ns) t q (suc j) e f = last_there n.0 (next_of n.2) (m ∷ ns) t q j (omega (arith, e)) f.2
 
-  pub last_relinked : (p h : Ptr) (ns : Row X) (t q : Ptr) (nx : Address) (b : Block X (Links X)) (j : ℕ) → suc j ≡ length ns → Segment p h ns t q → slice_get (box_values (drop j ns)) 0 ≡ Some b
+  pub last_relinked : (p h : Ptr) (ns : Row X) (t q : Ptr) (nx : Address) (b : Block X) (j : ℕ) → suc j ≡ length ns → Segment p h ns t q → slice_get (box_values (drop j ns)) 0 ≡ Some b
       → Segment p h (take j ns ++ set_value (drop j ns) 0 (with_next b nx)) t nx.ptr
   last_relinked p h [] t q nx b j e f r = absurd (omega (arith, e))
-  last_relinked p h (n ∷ []) t q nx b zero e f r = let same : n.2 ≡ b = cc in (f.0, ap (λ (x : Block X (Links X)). prev_of x) (sym same) ∙ f.1, (refl, f.2.1))
+  last_relinked p h (n ∷ []) t q nx b zero e f r = let same : n.2 ≡ b = cc in (f.0, ap (λ (x : Block X). prev_of x) (sym same) ∙ f.1, (refl, f.2.1))
   last_relinked p h (n ∷ []) t q nx b (suc j) e f r = absurd (omega (arith, e))
   last_relinked p h (n ∷ m ∷ ns) t q nx b zero e f r = absurd (omega (arith, e))
   last_relinked p h (n ∷ m ∷ ns) t q nx b (suc j) e f r = (f.0, f.1, last_relinked n.0 (next_of n.2) (m ∷ ns) t q nx b j (omega (arith, e)) f.2 r)
 
-  pub shown_relinked : (ns : Row X) (k : ℕ) (b : Block X (Links X)) (nx : Address) → slice_get (box_values (drop k ns)) 0 ≡ Some b → nodes_of (take k ns ++ set_value (drop k ns) 0 (with_next b nx)) ≡ nodes_of ns
+  pub shown_relinked : (ns : Row X) (k : ℕ) (b : Block X) (nx : Address) → slice_get (box_values (drop k ns)) 0 ≡ Some b → nodes_of (take k ns ++ set_value (drop k ns) 0 (with_next b nx)) ≡ nodes_of ns
   shown_relinked ns k b nx e =
       nodes_of-append (take k ns) (set_value (drop k ns) 0 (with_next b nx)) ∙ ap (λ s. nodes_of (take k ns) ++ s) (nodes_of-set (drop k ns) 0 b (with_next b nx) e refl refl)
       ∙ sym (nodes_of-append (take k ns) (drop k ns)) ∙ ap nodes_of (sym (take-drop k ns))
 
-  pub last_one : (p h : Ptr) (ns : Row X) (t q : Ptr) (j : ℕ) → suc j ≡ length ns → Segment p h ns t q → (a : Global) × (x : Block X (Links X)) × (drop j ns ≡ (t, a, x) ∷ [])
+  pub last_one : (p h : Ptr) (ns : Row X) (t q : Ptr) (j : ℕ) → suc j ≡ length ns → Segment p h ns t q → (a : Global) × (x : Block X) × (drop j ns ≡ (t, a, x) ∷ [])
   last_one p h [] t q j e f = absurd (omega (arith, e))
   last_one p h (n ∷ []) t q zero e f = (n.1, n.2, λ i. (sym f.2.1 i, n.1, n.2) ∷ [])
   last_one p h (n ∷ []) t q (suc j) e f = absurd (omega (arith, e))
@@ -109,7 +108,7 @@ module _ {X : Type 0} where
   last_one p h (n ∷ m ∷ ns) t q (suc j) e f = last_one n.0 (next_of n.2) (m ∷ ns) t q j (omega (arith, e)) f.2
 
   -- ---- the first node
-  pub first_one : (p h : Ptr) (ns : Row X) (t q : Ptr) → 0 < length ns → Segment p h ns t q → (a : Global) × (x : Block X (Links X)) × (take 1 ns ≡ (h, a, x) ∷ [])
+  pub first_one : (p h : Ptr) (ns : Row X) (t q : Ptr) → 0 < length ns → Segment p h ns t q → (a : Global) × (x : Block X) × (take 1 ns ≡ (h, a, x) ∷ [])
   first_one p h [] t q some f = absurd (omega (arith, some))
   first_one p h (n ∷ ns) t q some f = (n.1, n.2, λ i. (sym f.0 i, n.1, n.2) ∷ [])
 
@@ -128,7 +127,7 @@ module _ {X : Type 0} where
 module _ {X : Type 0} where
   -- all that a cut at an address shows of a chain
   pub record Cut (h t : Ptr) (ns front back : Row X) (p : Ptr) : Type 0 where
-    pub node : OwnedNode X (Links X)
+    pub node : OwnedNode X
     pub after : Row X
     pub here : back ≡ node ∷ after
     pub whole : ns ≡ front ++ node ∷ after
@@ -156,7 +155,7 @@ module _ {X : Type 0} where
       }
 
   module _ (h t : Ptr) (ns front back : Row X) (p : Ptr) (u : Cut h t ns front back p) where
-    pub node_is : (b : Block X (Links X)) → slice_get (box_values back) 0 ≡ Some b → u.node.2 ≡ b
+    pub node_is : (b : Block X) → slice_get (box_values back) 0 ≡ Some b → u.node.2 ≡ b
     node_is b e = let at : slice_get (box_values (u.node ∷ u.after)) 0 ≡ Some b = subst (λ ls. slice_get (box_values ls) 0 ≡ Some b) u.here e in cc
 
     pub rest_is : (rest : Row X) → rest ≡ drop 1 back → rest ≡ u.after
@@ -165,11 +164,11 @@ module _ {X : Type 0} where
     pub one_is : (one : Row X) (a : Global) → one ≡ take 1 back → one ≡ (p, a, u.node.2) ∷ []
     one_is one a e = e ∙ ap (take 1) u.here ∙ (λ i. (u.lies i, a, u.node.2) ∷ [])
 
-    pub front_linked : (b : Block X (Links X)) → slice_get (box_values back) 0 ≡ Some b → (q : Ptr) × Segment null_ptr h front (prev_of b) q
+    pub front_linked : (b : Block X) → slice_get (box_values back) 0 ≡ Some b → (q : Ptr) × Segment null_ptr h front (prev_of b) q
     front_linked b e = (u.node.0, subst (λ x. Segment null_ptr h front (prev_of x) u.node.0) (node_is b e) u.first)
 
-    pub rest_linked : (b : Block X (Links X)) (rest : Row X) → slice_get (box_values back) 0 ≡ Some b → rest ≡ drop 1 back → (q : Ptr) × Segment q (next_of b) rest t null_ptr
-    rest_linked b rest e f = (u.node.0, subst (λ (s : Block X (Links X) × Row X). Segment u.node.0 (next_of s.0) s.1 t null_ptr) (λ i. (node_is b e i, sym (rest_is rest f) i)) u.second)
+    pub rest_linked : (b : Block X) (rest : Row X) → slice_get (box_values back) 0 ≡ Some b → rest ≡ drop 1 back → (q : Ptr) × Segment q (next_of b) rest t null_ptr
+    rest_linked b rest e f = (u.node.0, subst (λ (s : Block X × Row X). Segment u.node.0 (next_of s.0) s.1 t null_ptr) (λ i. (node_is b e i, sym (rest_is rest f) i)) u.second)
 
     pub front_tested : AreTestable (box_addresses ns) → AreTestable (box_addresses front)
     front_tested a = tested_front front (u.node ∷ u.after) (subst (λ ls. AreTestable (box_addresses ls)) u.whole a)
@@ -193,13 +192,13 @@ module _ {X : Type 0} where
         let c : length js ≡ length f + length r = ap length is ∙ length-append f r in
         omega (arith, l, a, b, c)
 
-    pub taken_is : (v : Nodes X) (x : Block X (Links X)) → nodes_of ns ≡ v → u.node.2 ≡ x → v ≡ nodes_of front ++ (p, block_element x) ∷ nodes_of u.after
+    pub taken_is : (v : Nodes X) (x : Block X) → nodes_of ns ≡ v → u.node.2 ≡ x → v ≡ nodes_of front ++ (p, block_element x) ∷ nodes_of u.after
     taken_is v x seen same = sym seen ∙ ap nodes_of u.whole ∙ nodes_of-append front (u.node ∷ u.after) ∙ (λ i. nodes_of front ++ (u.lies i, block_element (same i)) ∷ nodes_of u.after)
 
     pub left_is : (rest f r js : Row X) → rest ≡ drop 1 back → nodes_of f ≡ nodes_of front → nodes_of r ≡ nodes_of rest → js ≡ f ++ r → nodes_of js ≡ nodes_of front ++ nodes_of u.after
     left_is rest f r js e m o is = ap nodes_of is ∙ nodes_of-append f r ∙ (λ i. m i ++ (o ∙ ap nodes_of (rest_is rest e)) i)
 
-  pub sole : (p : Ptr) (a : Global) (x y : Block X (Links X)) (one : Row X) → one ≡ (p, a, x) ∷ [] → one ≡ (p, a, y) ∷ [] → x ≡ y
+  pub sole : (p : Ptr) (a : Global) (x y : Block X) (one : Row X) → one ≡ (p, a, x) ∷ [] → one ≡ (p, a, y) ∷ [] → x ≡ y
   sole p a x y one e f = let both : slice_get (box_values ((p, a, x) ∷ [])) 0 ≡ slice_get (box_values ((p, a, y) ∷ [])) 0 = ap (λ ls. slice_get (box_values ls) 0) (sym e ∙ f) in cc
 
   module _ (ns back : Row X) (v : Nodes X) (p : Ptr) (seen : nodes_of ns ≡ v) (at : (k : ℕ) × (slice_get (spots v) k ≡ Some p)) (e : back ≡ drop (index_of p (box_addresses ns)) ns) where
@@ -209,7 +208,7 @@ module _ {X : Type 0} where
     pub place_there : slice_get (box_addresses back) 0 ≡ Some p
     place_there = ap (λ ls. slice_get (box_addresses ls) 0) (e ∙ on.2) ∙ ap Some on.3
 
-    pub value_there : (b : Block X (Links X)) → slice_get (box_values back) 0 ≡ Some b → (before : Nodes X) × (id : ℕ) × (after : Nodes X) × (v ≡ before ++ (p, record { id = id; value = b.value }) ∷ after)
+    pub value_there : (b : Block X) → slice_get (box_values back) 0 ≡ Some b → (before : Nodes X) × (id : ℕ) × (after : Nodes X) × (v ≡ before ++ (p, record { id = id; value = b.value }) ∷ after)
     value_there b r =
         let front : Row X = take (index_of p (box_addresses ns)) ns in
         let r' : slice_get (box_values (on.0 ∷ on.1)) 0 ≡ Some b = subst (λ ls. slice_get (box_values ls) 0 ≡ Some b) (e ∙ on.2) r in let same : on.0.2 ≡ b = cc in
@@ -259,7 +258,7 @@ module _ {X : Type 0} where
           omega (arith, l, a)
 
   -- ---- neighbours
-  last_split : (p h : Ptr) (ns : Row X) (t q : Ptr) → Segment p h ns t q → 0 < length ns → (xs : Row X) × (x : OwnedNode X (Links X)) × (ns ≡ xs ++ x ∷ []) × (x.0 ≡ t)
+  last_split : (p h : Ptr) (ns : Row X) (t q : Ptr) → Segment p h ns t q → 0 < length ns → (xs : Row X) × (x : OwnedNode X) × (ns ≡ xs ++ x ∷ []) × (x.0 ≡ t)
   last_split p h [] t q f some = absurd (omega (arith, some))
   last_split p h (n ∷ []) t q f some = ([], n, refl, sym f.2.1)
   last_split p h (n ∷ m ∷ ns) t q f some = let on = last_split n.0 (next_of n.2) (m ∷ ns) t q f.2 (omega arith) in (n ∷ on.0, on.1, ap (λ l. n ∷ l) on.2, on.3)
@@ -276,7 +275,7 @@ module _ {X : Type 0} where
   none_last h [] t q f z e = refl
   none_last h (n ∷ ns) t q f z e = absurd (subst InBlock e (last_block null_ptr h n ns t q f z))
 
-  module _ (h t : Ptr) (ns front back : Row X) (p : Ptr) (u : Cut h t ns front back p) (v : Nodes X) (seen : nodes_of ns ≡ v) (z : AreTestable (box_addresses ns)) (b : Block X (Links X)) (e : slice_get (box_values back) 0 ≡ Some b) where
+  module _ (h t : Ptr) (ns front back : Row X) (p : Ptr) (u : Cut h t ns front back p) (v : Nodes X) (seen : nodes_of ns ≡ v) (z : AreTestable (box_addresses ns)) (b : Block X) (e : slice_get (box_values back) 0 ≡ Some b) where
     here_is : v ≡ nodes_of front ++ (p, block_element u.node.2) ∷ nodes_of u.after
     here_is = taken_is h t ns front back p u v u.node.2 seen refl
 
@@ -287,26 +286,26 @@ module _ {X : Type 0} where
     after_tested = rest_tested h t ns front back p u u.after (sym (ap (drop 1) u.here)) z
 
     pub next_testable : Testable (next_of b)
-    next_testable = subst (λ (x : Block X (Links X)). Testable (next_of x)) same (first_testable u.node.0 (next_of u.node.2) u.after t u.second after_tested)
+    next_testable = subst (λ (x : Block X). Testable (next_of x)) same (first_testable u.node.0 (next_of u.node.2) u.after t u.second after_tested)
 
     pub prev_testable : Testable (prev_of b)
-    prev_testable = subst (λ (x : Block X (Links X)). Testable (prev_of x)) same (last_testable null_ptr h front (prev_of u.node.2) u.node.0 u.first (front_tested h t ns front back p u z) null_Testable)
+    prev_testable = subst (λ (x : Block X). Testable (prev_of x)) same (last_testable null_ptr h front (prev_of u.node.2) u.node.0 u.first (front_tested h t ns front back p u z) null_Testable)
 
     pub next_there : InBlock (next_of b) → AreNext v p (next_of b)
     next_there i =
-        let on = first_shown u.node.0 (next_of u.node.2) u.after t u.second (subst (λ (x : Block X (Links X)). InBlock (next_of x)) (sym same) i) in
+        let on = first_shown u.node.0 (next_of u.node.2) u.after t u.second (subst (λ (x : Block X). InBlock (next_of x)) (sym same) i) in
         (nodes_of front, block_element u.node.2, on.0, on.1, here_is ∙ (λ j. nodes_of front ++ (p, block_element u.node.2) ∷ on.2 j) ∙ (λ j. nodes_of front ++ (p, block_element u.node.2) ∷ (next_of (same j), on.0) ∷ on.1))
 
     pub next_none : next_of b ≡ null_ptr → IsLast v p
     next_none i =
-        let none = none_first u.node.0 (next_of u.node.2) u.after t u.second after_tested (ap (λ (x : Block X (Links X)). next_of x) same ∙ i) in
+        let none = none_first u.node.0 (next_of u.node.2) u.after t u.second after_tested (ap (λ (x : Block X). next_of x) same ∙ i) in
         (nodes_of front, block_element u.node.2, here_is ∙ (λ j. nodes_of front ++ (p, block_element u.node.2) ∷ none j))
 
     pub prev_there : InBlock (prev_of b) → AreNext v (prev_of b) p
     prev_there i =
-        let some = some_last h front (prev_of u.node.2) u.node.0 u.first (subst (λ (x : Block X (Links X)). InBlock (prev_of x)) (sym same) i) in
+        let some = some_last h front (prev_of u.node.2) u.node.0 u.first (subst (λ (x : Block X). InBlock (prev_of x)) (sym same) i) in
         let on = last_split null_ptr h front (prev_of u.node.2) u.node.0 u.first some in let o = block_element on.1.2 in
-        let lies : on.1.0 ≡ prev_of b = on.3 ∙ ap (λ (x : Block X (Links X)). prev_of x) same in (
+        let lies : on.1.0 ≡ prev_of b = on.3 ∙ ap (λ (x : Block X). prev_of x) same in (
           nodes_of on.0,
           o,
           block_element u.node.2,
@@ -317,7 +316,7 @@ module _ {X : Type 0} where
 
     pub prev_none : prev_of b ≡ null_ptr → IsFirst v p
     prev_none i =
-        let none = none_last h front (prev_of u.node.2) u.node.0 u.first (front_tested h t ns front back p u z) (ap (λ (x : Block X (Links X)). prev_of x) same ∙ i) in
+        let none = none_last h front (prev_of u.node.2) u.node.0 u.first (front_tested h t ns front back p u z) (ap (λ (x : Block X). prev_of x) same ∙ i) in
         (block_element u.node.2, nodes_of u.after, here_is ∙ (λ j. none j ++ (p, block_element u.node.2) ∷ nodes_of u.after))
 
   -- ---- the ends

@@ -2,19 +2,15 @@
 use Rattle.std.specs.Prelude.{◌≡◌, ℕ, List, [], ◌∷◌, length}
 use denote.RawPtr.{Ptr, null_ptr}
 use Rattle.cordyceps_base.specs.declared.node.Block.{Block}
-use Rattle.cordyceps_base.specs.declared.list.Links.{Links}
 use Rattle.cordyceps_base.specs.Boxes.{box_addresses}
-use Rattle.cordyceps_base.specs.Nodes as all
+use Rattle.cordyceps_base.specs.Nodes.{OwnedNode}
 use Rattle.cordyceps_base.specs.Spots.{AreTestable}
 
-abbrev pub OwnedNode : Type 0 → Type 0
-OwnedNode X = all.OwnedNode X (Links X)
-
 module _ {X : Type 0} where
-  abbrev pub next_of : Block X (Links X) → Ptr
+  abbrev pub next_of : Block X → Ptr
   next_of b = b.links.next.ptr
 
-  abbrev pub prev_of : Block X (Links X) → Ptr
+  abbrev pub prev_of : Block X → Ptr
   prev_of b = b.links.prev.ptr
 
   -- the nodes are linked both ways: h leads to the first and t to the last, the first `prev` is p and the last `next` q

@@ -8,5 +8,4 @@ pub mod NodeLends
 pub mod Nodes
 pub mod Runs
 pub mod SingleChain
-pub mod SingleLink
 pub mod Spots

@@ -30,13 +30,13 @@ module _ {X : Type 0} where
   with_item (n ∷ ns) (suc k) w = n ∷ with_item ns k w
 
 -- a node, as a chain owns it: its address, the handle that frees it and its block
-abbrev pub OwnedNode : Type 0 → Type 0 → Type 0
-OwnedNode X L = Ptr × Global × Block X L
+abbrev pub OwnedNode : Type 0 → Type 0
+OwnedNode X = Ptr × Global × Block X
 
-module _ {X L : Type 0} where
+module _ {X : Type 0} where
   -- the element in a block
-  abbrev pub block_element : Block X L → Element X
+  abbrev pub block_element : Block X → Element X
   block_element b = record { id = b.id; value = b.value }
 
-  abbrev pub nodes_of : List (OwnedNode X L) → Nodes X
+  abbrev pub nodes_of : List (OwnedNode X) → Nodes X
   nodes_of = map (λ n. (n.0, block_element n.2))

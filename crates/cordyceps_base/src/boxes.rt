@@ -84,6 +84,9 @@ impl<B, A: Allocator> Model for Boxes<B, A> {
 // Boxes may go to another thread if their values and their allocator may.
 unsafe impl<B: Send, A: Allocator + Send> Send for Boxes<B, A> {}
 
+// Threads may share boxes if they may share their values.
+unsafe impl<B: Sync, A: Allocator> Sync for Boxes<B, A> {}
+
 impl<B, A: Allocator> Boxes<B, A> {
     ghost use Rattle.cordyceps_base.specs.BoxesLends.{lends_value};
 

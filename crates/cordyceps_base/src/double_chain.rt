@@ -12,7 +12,7 @@ use crate::double_row::{Row, cut_out, node_of, put_in};
 use crate::list::Links;
 use crate::node::{Block, Node};
 use std::alloc::Global;
-use std::marker::Model;
+use std::marker::{Model, PhantomData};
 use std::mem;
 
 /// Nodes that are linked both ways. A contract sees them as a list, each as the address where it lies and its element.
@@ -96,14 +96,14 @@ impl<T> DoubleChain<T> {
         T: Drop,
         ensures { (place : Ptr) × (result ≡ (place, node) ∷ []) }
     {
-        let Node { block } = node;
+        let Node { block, kind: _ } = node;
         let (at, _, boxes) = Boxes::one(Loose::of(block));
         DoubleChain::of_one(at, boxes)
     }
 
     /// The chain of the one node of a row.
     fn of_one(at: Address, row: Row<T>) -> DoubleChain<T>
-        requires { (a : Global) × (x : Block T (Links T)) × (row.blocks ≡ (at.ptr, a, x) ∷ []) }
+        requires { (a : Global) × (x : Block T) × (row.blocks ≡ (at.ptr, a, x) ∷ []) }
         ensures { result ≡ nodes_of row.blocks }
     {
         let mut boxes = row;
@@ -133,6 +133,7 @@ impl<T> DoubleChain<T> {
         let alloc = boxes.get(head, 0).alloc;
         Node {
             block: boxes.only(head, alloc).into_box(),
+            kind: PhantomData,
         }
     }
 
@@ -363,7 +364,7 @@ impl<T: Drop> DoubleChain<T> {
             len,
             boxes: mut back,
         } = self;
-        let Node { mut block } = node;
+        let Node { mut block, kind: _ } = node;
         block.links.prev = Address::nowhere();
         block.links.next = head;
         let (at, _, new) = Boxes::one(Loose::of(block));
@@ -389,7 +390,7 @@ impl<T: Drop> DoubleChain<T> {
             len,
             boxes: mut front,
         } = self;
-        let Node { mut block } = node;
+        let Node { mut block, kind: _ } = node;
         block.links.prev = tail;
         block.links.next = Address::nowhere();
         let (at, _, new) = Boxes::one(Loose::of(block));

@@ -10,18 +10,20 @@ use crate::boxes::{Address, Boxes, Loose};
 use crate::list::Links;
 use crate::node::{Block, Node};
 use std::alloc::Global;
+use std::marker::PhantomData;
 
 /// The nodes of a chain, or of a part of one.
-pub(crate) type Row<T> = Boxes<Block<T, Links<T>>, Global>;
+pub(crate) type Row<T> = Boxes<Block<T>, Global>;
 
 /// The one node of a row.
 pub(crate) fn node_of<T: Drop>(at: Address, row: Row<T>) -> Node<T, Links<T>>
-    requires { (a : Global) × (x : Block T (Links T)) × (row.blocks ≡ (at.ptr, a, x) ∷ []) }
+    requires { (a : Global) × (x : Block T) × (row.blocks ≡ (at.ptr, a, x) ∷ []) }
     ensures { nodes_of row.blocks ≡ (at.ptr, result) ∷ [] }
 {
     let alloc = row.get(at, 0).alloc;
     Node {
         block: row.only(at, alloc).into_box(),
+        kind: PhantomData,
     }
 }
 
@@ -84,7 +86,7 @@ pub(crate) fn between<T: Drop>(
     ensures linked { Segment null_ptr result.1.ptr result.3.blocks result.2.ptr null_ptr }
     ensures holds { nodes_of result.3.blocks ≡ nodes_of front.blocks ++ (result.0.ptr, node) ∷ nodes_of back.blocks }
 {
-    let Node { block } = node;
+    let Node { block, kind: _ } = node;
     let (at, _, one) = Boxes::one(Loose::of(block));
     let mut one = one;
     one.get_mut(at, 0).links.next = next;
@@ -125,7 +127,7 @@ pub(crate) fn put_in<T: Drop>(row: Row<T>, at: Address, k: usize, node: Node<T, 
         → Segment null_ptr h result.blocks t null_ptr }
 {
     let prev = row.get(at, k).links.prev;
-    let Node { mut block } = node;
+    let Node { mut block, kind: _ } = node;
     block.links.prev = prev;
     block.links.next = at;
     let (new, _, one) = Boxes::one(Loose::of(block));

@@ -1,8 +1,8 @@
 //! Owned nodes, the handles that stand for them, and the two chains that link them.
 //!
-//! A node is a block of memory of its own, with room for the links of one kind of collection, so that linking takes
-//! no memory. What a contract sees of a node, a handle or a collection is its elements: each a number, which the maker
-//! of the node chose, and a value.
+//! A node is a block of memory of its own, with room for the links of any collection, so that linking takes no
+//! memory. What a contract sees of a node, a handle or a collection is its elements: each a number, which the maker of
+//! the node chose, and a value.
 #![tactic(auto)]
 
 pub mod boxes;
@@ -14,6 +14,5 @@ pub mod mpsc_queue;
 pub mod node;
 pub mod shared;
 pub mod single_chain;
-pub mod single_link;
 pub mod stack;
 pub mod steps;

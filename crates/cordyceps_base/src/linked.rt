@@ -23,3 +23,15 @@ pub trait Linked<L: Kind>: Sized + Drop {
     fn from_ptr(node: Node<Self, L>) -> Self::Handle
         ensures { element result ≡ node };
 }
+
+/// Makes a handle for collections of one kind a handle for those of another, with the same element.
+///
+/// It takes no memory, unless `into_ptr` or `from_ptr` of `T` do. A handle that is a node has `Node::into_kind`.
+pub fn change_kind<L: Kind, M: Kind, T: Linked<L> + Linked<M>>(
+    handle: <T as Linked<L>>::Handle,
+) -> <T as Linked<M>>::Handle
+    ensures { ⟦<T as Linked<M>>⟧.element result ≡ ⟦<T as Linked<L>>⟧.element handle }
+{
+    let node = <T as Linked<L>>::into_ptr(handle);
+    <T as Linked<M>>::from_ptr(node.into_kind())
+}

@@ -1,12 +1,13 @@
 //! The kind of node that queues link.
-use crate::node::Kind;
-use crate::single_link::NextLink;
+use crate::node::{Kind, Sealed};
+use std::marker::PhantomData;
 
-/// What tells the nodes of queues apart from those of stacks and sorted lists.
-#[derive(Clone, Copy, Debug)]
-pub struct InQueue;
+/// The kind of node that queues link.
+#[derive(Drop)]
+pub struct Links<T> {
+    value: PhantomData<T>,
+}
 
-/// The link of a node of a queue.
-pub type Links<T> = NextLink<T, InQueue>;
+impl<T> Sealed for Links<T> {}
 
-impl<T> Kind for NextLink<T, InQueue> {}
+impl<T> Kind for Links<T> {}

@@ -2,29 +2,44 @@
 ghost use Rattle.std.specs.Prelude.{◌≡◌, IfOk, IfErr};
 ghost use Rattle.std.specs.Borrow.{sem};
 
+use crate::boxes::Address;
 use std::alloc::Global;
-use std::marker::Model;
+use std::marker::{Model, PhantomData};
 
 /// Keeps `Kind` to the kinds of this crate.
-pub(crate) trait Sealed {
-    /// The links of a node that is in no collection.
-    fn unlinked() -> Self;
+pub(crate) trait Sealed {}
+
+/// A kind of node: which collections can link it. The kinds are `list::Links`, `stack::Links` and `mpsc_queue::Links`.
+/// A node is of one kind at a time; `Node::into_kind` changes it.
+pub trait Kind: Sealed + Drop {}
+
+/// The addresses of a node's neighbours. Lists use both, and the other collections `next` alone.
+#[derive(Clone, Copy)]
+pub struct BlockLinks {
+    pub(crate) next: Address,
+    pub(crate) prev: Address,
 }
 
-/// A kind of node: which collections can link it, by the links that its block holds. The kinds are `list::Links`,
-/// `stack::Links` and `mpsc_queue::Links`.
-pub trait Kind: Sealed + Drop {}
+impl BlockLinks {
+    /// The links of a node that is in no collection.
+    fn unlinked() -> BlockLinks {
+        BlockLinks {
+            next: Address::nowhere(),
+            prev: Address::nowhere(),
+        }
+    }
+}
 
 /// The block of one node. `alloc` frees it.
 #[derive(Drop)]
-pub struct Block<T, L> {
-    pub(crate) links: L,
+pub struct Block<T> {
+    pub(crate) links: BlockLinks,
     pub(crate) alloc: Global,
     pub(crate) id: u64,
     pub(crate) value: T,
 }
 
-impl<T, L: Kind> Block<T, L> {
+impl<T> Block<T> {
     fn into_value(self) -> T
         ensures { result ≡ self.value }
     {
@@ -38,11 +53,15 @@ impl<T, L: Kind> Block<T, L> {
     }
 }
 
-/// An owned node that is in no collection: a number, a value, and room for links of kind `L`. It is one block of
-/// memory, and the size of a pointer. Nodes of the stack and queue kinds can be sent to a thread where `T` can.
+/// An owned node that is in no collection: a number, a value, and room for the links of any collection. Collections of
+/// kind `L` can link it.
+///
+/// It is one block of memory, and the size of a pointer. It can be sent to a thread, and shared by threads, where `T`
+/// can.
 #[derive(Drop)]
 pub struct Node<T, L> {
-    pub(crate) block: Box<Block<T, L>>,
+    pub(crate) block: Box<Block<T>>,
+    pub(crate) kind: PhantomData<L>,
 }
 
 impl<T, L> Model for Node<T, L> {
@@ -68,13 +87,16 @@ impl<T, L: Kind> Node<T, L> {
         ensures value_returned { IfErr result (λ e. e.value ≡ value) }
     {
         let block = Block {
-            links: L::unlinked(),
+            links: BlockLinks::unlinked(),
             alloc,
             id,
             value,
         };
         match Box::new(alloc, block) {
-            Ok(block) => Ok(Node { block }),
+            Ok(block) => Ok(Node {
+                block,
+                kind: PhantomData,
+            }),
             Err(refused) => Err(Refused {
                 value: refused.value.into_value(),
             }),
@@ -92,6 +114,15 @@ impl<T, L> Node<T, L> {
         self.block.id
     }
 
+    /// Gives the node another number. The value stays.
+    pub fn set_id(&mut self, id: u64)
+        ensures id { self.new.id ≡ id }
+        ensures value { self.new.value ≡ self.old.value }
+    {
+        let block = &mut self.block;
+        block.id = id;
+    }
+
     /// The value.
     pub fn get(&self) -> &T
         ensures { result.now ≡ self.now.value }
@@ -107,13 +138,27 @@ impl<T, L> Node<T, L> {
         &mut self.block.value
     }
 
+    /// Makes it a node of another kind, which other collections can link. It takes no memory and no time.
+    pub fn into_kind<M: Kind>(self) -> Node<T, M>
+        ensures { result ≡ self }
+    {
+        let Node { block, kind: _ } = self;
+        Node {
+            block,
+            kind: PhantomData,
+        }
+    }
+
     /// Frees the node, and hands out its value.
     pub fn into_value(self) -> T
     where
         L: Kind,
         ensures { result ≡ self.value }
     {
-        let Node { block } = self;
-        Box::into_inner(block).into_value()
+        let Node {
+            block: boxed,
+            kind: _,
+        } = self;
+        Box::into_inner(boxed).into_value()
     }
 }

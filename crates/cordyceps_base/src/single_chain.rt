@@ -4,28 +4,48 @@ ghost use Rattle.std.specs.Iterator.{YieldsFirstRef, item_count};
 ghost use denote.RawPtr.{Ptr, InBlock, Testable};
 ghost use Rattle.cordyceps_base.specs.Element.{Element, ids, values};
 ghost use Rattle.cordyceps_base.specs.Nodes.{elements};
-ghost use Rattle.cordyceps_base.specs.SingleChain.{EndsAt, relinked};
+ghost use Rattle.cordyceps_base.specs.SingleChain.{EndsAt, relinked, unless_null};
 
 use crate::boxes::{Address, Boxes, Loose};
 use crate::node::{Block, Node};
-use crate::single_link::{Next, NextLink};
 use std::alloc::Global;
-use std::marker::Model;
+use std::marker::{Model, PhantomData};
 use std::mem;
 
 /// The blocks of nodes, each with the link to the node after.
-type Row<T, K> = Boxes<Block<T, NextLink<T, K>>, Global>;
+type Row<T> = Boxes<Block<T>, Global>;
+
+/// The address itself, or that of nothing.
+fn or_nowhere(next: Option<Address>) -> Address
+    requires { IfSome next (λ a. InBlock a.ptr) }
+    ensures { unless_null result ≡ next }
+{
+    match next {
+        Some(address) => address,
+        None => Address::nowhere(),
+    }
+}
+
+/// The address, unless it is that of nothing.
+fn somewhere(address: Address) -> Option<Address>
+    requires { Testable address.ptr }
+    ensures { result ≡ unless_null address }
+{
+    if address.is_somewhere() {
+        Some(address)
+    } else {
+        None
+    }
+}
 
 /// The row with another link in its last node, which lies at `last`.
-fn with_last_link<T, K>(row: Row<T, K>, last: Address, next: Option<Address>) -> Row<T, K>
+fn with_last_link<T>(row: Row<T>, last: Address, next: Address) -> Row<T>
     requires some { 0 < length row.blocks }
     requires at { EndsAt row.blocks last.ptr }
-    requires somewhere { IfSome next (λ a. InBlock a.ptr × Testable a.ptr) }
     ensures { result.blocks ≡ relinked row.blocks next }
 {
     let (front, mut end) = row.cut_last();
-    let link = Next::of(next);
-    end.get_mut(last, 0).links.next = link;
+    end.get_mut(last, 0).links.next = next;
     front.join(end)
 }
 
@@ -33,13 +53,14 @@ fn with_last_link<T, K>(row: Row<T, K>, last: Address, next: Option<Address>) ->
 ///
 /// There is no bound on how many nodes it can have. The links are the chain's own. `tail` means nothing where there is
 /// no node.
-pub struct SingleChain<T, K> {
+pub struct SingleChain<T, L> {
     head: Option<Address>,
     tail: Address,
-    boxes: Row<T, K>,
+    boxes: Row<T>,
+    kind: PhantomData<L>,
 }
 
-impl<T, K> Model for SingleChain<T, K> {
+impl<T, L> Model for SingleChain<T, L> {
     ghost use Rattle.cordyceps_base.specs.Nodes.{Nodes, nodes_of};
     ghost use Rattle.cordyceps_base.specs.SingleChain.{IsLine};
 
@@ -51,7 +72,7 @@ impl<T, K> Model for SingleChain<T, K> {
 }
 
 /// Frees each node, from the first to the last.
-impl<T: Drop, K> Drop for SingleChain<T, K> {
+impl<T: Drop, L> Drop for SingleChain<T, L> {
     fn drop(mut self) {
         while !self.is_empty() {
             drop(self.unlink_front());
@@ -60,15 +81,16 @@ impl<T: Drop, K> Drop for SingleChain<T, K> {
     }
 }
 
-impl<T, K> SingleChain<T, K> {
+impl<T, L> SingleChain<T, L> {
     /// The chain of no node.
-    pub fn empty() -> SingleChain<T, K>
+    pub fn empty() -> SingleChain<T, L>
         ensures { result ≡ [] }
     {
         SingleChain {
             head: None,
             tail: Address::nowhere(),
             boxes: Boxes::empty(),
+            kind: PhantomData,
         }
     }
 
@@ -80,14 +102,14 @@ impl<T, K> SingleChain<T, K> {
     }
 
     /// Takes the nodes out, and leaves an empty chain.
-    pub fn take(&mut self) -> SingleChain<T, K>
+    pub fn take(&mut self) -> SingleChain<T, L>
         ensures { (result ≡ self.old) × (self.new ≡ []) }
     {
         mem::replace(self, SingleChain::empty())
     }
 
     /// Puts nodes into an empty chain.
-    pub fn put(&mut self, nodes: SingleChain<T, K>)
+    pub fn put(&mut self, nodes: SingleChain<T, L>)
         requires { self.old ≡ [] }
         ensures { self.new ≡ nodes }
     {
@@ -103,29 +125,30 @@ impl<T, K> SingleChain<T, K> {
             head: _,
             tail: _,
             boxes,
+            kind: _,
         } = self;
         boxes.discard();
     }
 
     /// The chain of one node.
-    pub fn one(node: Node<T, NextLink<T, K>>) -> SingleChain<T, K>
+    pub fn one(node: Node<T, L>) -> SingleChain<T, L>
     where
         T: Drop,
         ensures { (place : Ptr) × (result ≡ (place, node) ∷ []) }
     {
-        let Node { mut block } = node;
-        let link = Next::of(None);
-        block.links.next = link;
+        let Node { mut block, kind: _ } = node;
+        block.links.next = Address::nowhere();
         let (at, _, boxes) = Boxes::one(Loose::of(block));
         SingleChain {
             head: Some(at),
             tail: at,
-            boxes,
+            boxes: boxes.tested(),
+            kind: PhantomData,
         }
     }
 
     /// The only node.
-    pub fn only(self) -> Node<T, NextLink<T, K>>
+    pub fn only(self) -> Node<T, L>
     where
         T: Drop,
         requires { length self ≡ 1 }
@@ -135,10 +158,12 @@ impl<T, K> SingleChain<T, K> {
             head: _,
             tail,
             boxes,
+            kind: _,
         } = self;
         let alloc = boxes.get(tail, 0).alloc;
         Node {
             block: boxes.only(tail, alloc).into_box(),
+            kind: PhantomData,
         }
     }
 
@@ -178,7 +203,7 @@ impl<T, K> SingleChain<T, K> {
     }
 
     /// The values, from the first to the last.
-    pub fn values(&self) -> Values<'_, T, K>
+    pub fn values(&self) -> Values<'_, T>
         ensures { result ≡ values (elements self.now) }
     {
         Values {
@@ -188,7 +213,7 @@ impl<T, K> SingleChain<T, K> {
     }
 
     /// The nodes of `self` and then those of `other`. It takes no walk.
-    pub fn join(self, other: SingleChain<T, K>) -> SingleChain<T, K>
+    pub fn join(self, other: SingleChain<T, L>) -> SingleChain<T, L>
         ensures { result ≡ self ++ other }
     {
         if self.is_empty() {
@@ -199,25 +224,38 @@ impl<T, K> SingleChain<T, K> {
             other.discard();
             return self;
         }
-        let SingleChain { head, tail, boxes } = self;
+        let SingleChain {
+            head,
+            tail,
+            boxes,
+            kind: _,
+        } = self;
         let SingleChain {
             head: after,
             tail: last,
             boxes: others,
+            kind: _,
         } = other;
-        let others = others.tested();
+        let link = or_nowhere(after);
+        let boxes = with_last_link(boxes, tail, link).join(others);
         SingleChain {
             head,
             tail: last,
-            boxes: with_last_link(boxes, tail, after).join(others),
+            boxes: boxes.tested(),
+            kind: PhantomData,
         }
     }
 
     /// A cursor on the first node.
-    pub fn into_cursor(self) -> Cursor<T, K>
+    pub fn into_cursor(self) -> Cursor<T, L>
         ensures { (result.before ≡ []) × (result.rest ≡ self) }
     {
-        let SingleChain { head, tail, boxes } = self;
+        let SingleChain {
+            head,
+            tail,
+            boxes,
+            kind: _,
+        } = self;
         Cursor {
             head: None,
             before: Address::nowhere(),
@@ -225,13 +263,14 @@ impl<T, K> SingleChain<T, K> {
             tail,
             front: Boxes::empty(),
             rest: boxes,
+            kind: PhantomData,
         }
     }
 }
 
-impl<T: Drop, K> SingleChain<T, K> {
+impl<T: Drop, L> SingleChain<T, L> {
     /// Puts a node first.
-    pub fn link_front(&mut self, node: Node<T, NextLink<T, K>>)
+    pub fn link_front(&mut self, node: Node<T, L>)
         ensures { (place : Ptr) × (self.new ≡ (place, node) ∷ self.old) }
     {
         let rest = self.take();
@@ -239,7 +278,7 @@ impl<T: Drop, K> SingleChain<T, K> {
     }
 
     /// Puts a node last. It takes no walk.
-    pub fn link_back(&mut self, node: Node<T, NextLink<T, K>>)
+    pub fn link_back(&mut self, node: Node<T, L>)
         ensures { (place : Ptr) × (self.new ≡ self.old ++ (place, node) ∷ []) }
     {
         let rest = self.take();
@@ -247,7 +286,7 @@ impl<T: Drop, K> SingleChain<T, K> {
     }
 
     /// Takes the first node out.
-    pub fn unlink_front(&mut self) -> Node<T, NextLink<T, K>>
+    pub fn unlink_front(&mut self) -> Node<T, L>
         requires { 0 < length self.old }
         ensures { (place : Ptr) × (self.old ≡ (place, result) ∷ self.new) }
     {
@@ -257,22 +296,29 @@ impl<T: Drop, K> SingleChain<T, K> {
     }
 
     /// The first node, and the chain of the others.
-    fn split_first(self) -> (Node<T, NextLink<T, K>>, SingleChain<T, K>)
+    fn split_first(self) -> (Node<T, L>, SingleChain<T, L>)
         requires { 0 < length self }
         ensures { (place : Ptr) × (self ≡ (place, result.0) ∷ result.1) }
     {
-        let SingleChain { head, tail, boxes } = self;
+        let SingleChain {
+            head,
+            tail,
+            boxes,
+            kind: _,
+        } = self;
         let first = head.unwrap();
         let (front, rest) = boxes.cut(1);
         let block = front.get(first, 0);
         let alloc = block.alloc;
         let others = SingleChain {
-            head: block.links.next.get(),
+            head: somewhere(block.links.next),
             tail,
             boxes: rest,
+            kind: PhantomData,
         };
         let node = Node {
             block: front.only(first, alloc).into_box(),
+            kind: PhantomData,
         };
         (node, others)
     }
@@ -280,23 +326,23 @@ impl<T: Drop, K> SingleChain<T, K> {
 
 /// The values of a chain's nodes, in order. A contract sees those that are left.
 #[derive(Drop)]
-pub struct Values<'a, T, K> {
+pub struct Values<'a, T> {
     next: Option<Address>,
-    rest: &'a Row<T, K>,
+    rest: &'a Row<T>,
 }
 
-impl<'a, T, K> Model for Values<'a, T, K> {
+impl<'a, T> Model for Values<'a, T> {
     ghost use Rattle.std.specs.Prelude.{List};
-    ghost use Rattle.cordyceps_base.specs.SingleChain.{IsLed, values_in};
+    ghost use Rattle.cordyceps_base.specs.SingleChain.{AreLed, values_in};
 
     ghost Value = { List T };
 
     ghost view = { λ v. values_in v.rest.now.blocks };
 
-    ghost invariant = { λ v. IsLed v.next v.rest.now.blocks };
+    ghost invariant = { λ v. AreLed v.next v.rest.now.blocks };
 }
 
-impl<'a, T, K> Iterator for Values<'a, T, K> {
+impl<'a, T> Iterator for Values<'a, T> {
     type Item = &'a T;
 
     ghost next_gives = { YieldsFirstRef (λ v. v) };
@@ -308,7 +354,7 @@ impl<'a, T, K> Iterator for Values<'a, T, K> {
             Some(at) => {
                 let rest = self.rest;
                 let block = rest.get(at, 0);
-                self.next = block.links.next.get();
+                self.next = somewhere(block.links.next);
                 self.rest = rest.behind_first();
                 Some(&block.value)
             }
@@ -322,16 +368,17 @@ impl<'a, T, K> Iterator for Values<'a, T, K> {
 ///
 /// A move writes no memory. `head` is that of the nodes before. `before` is the address of the last of these, and
 /// means nothing where there is none, nor does `tail` where there is no node.
-pub struct Cursor<T, K> {
+pub struct Cursor<T, L> {
     head: Option<Address>,
     before: Address,
     at: Option<Address>,
     tail: Address,
-    front: Row<T, K>,
-    rest: Row<T, K>,
+    front: Row<T>,
+    rest: Row<T>,
+    kind: PhantomData<L>,
 }
 
-impl<T, K> Model for Cursor<T, K> {
+impl<T, L> Model for Cursor<T, L> {
     ghost use Rattle.cordyceps_base.specs.Nodes.{nodes_of};
     ghost use Rattle.cordyceps_base.specs.SingleChain.{Parted, IsParted};
 
@@ -343,13 +390,13 @@ impl<T, K> Model for Cursor<T, K> {
 }
 
 /// Frees each node, from the first to the last.
-impl<T: Drop, K> Drop for Cursor<T, K> {
+impl<T: Drop, L> Drop for Cursor<T, L> {
     fn drop(self) {
         drop(self.close());
     }
 }
 
-impl<T, K> Cursor<T, K> {
+impl<T, L> Cursor<T, L> {
     /// The value of the node that the cursor is on. It is `None` behind the last node.
     pub fn current(&self) -> Option<&T>
         ensures some { IfSome result (λ v. slice_get (values (elements self.now.rest)) 0 ≡ Some v.now) }
@@ -372,7 +419,7 @@ impl<T, K> Cursor<T, K> {
         self.put(cursor.moved());
     }
 
-    fn moved(self) -> Cursor<T, K>
+    fn moved(self) -> Cursor<T, L>
         requires { 0 < length self.rest }
         ensures { (node : Ptr × Element T)
             × (self.rest ≡ node ∷ result.rest)
@@ -385,10 +432,11 @@ impl<T, K> Cursor<T, K> {
             tail,
             front,
             rest,
+            kind: _,
         } = self;
         let here = at.unwrap();
-        let (first, rest) = rest.cut(1);
-        let next = first.get(here, 0).links.next.get();
+        let (first, rest) = rest.tested().cut(1);
+        let next = somewhere(first.get(here, 0).links.next);
         Cursor {
             head: head.or(at),
             before: here,
@@ -396,16 +444,17 @@ impl<T, K> Cursor<T, K> {
             tail,
             front: front.join(first),
             rest,
+            kind: PhantomData,
         }
     }
 
-    fn take(&mut self) -> Cursor<T, K>
+    fn take(&mut self) -> Cursor<T, L>
         ensures { (result ≡ self.old) × (self.new.before ≡ []) × (self.new.rest ≡ []) }
     {
         mem::replace(self, SingleChain::empty().into_cursor())
     }
 
-    fn put(&mut self, cursor: Cursor<T, K>)
+    fn put(&mut self, cursor: Cursor<T, L>)
         requires { (self.old.before ≡ []) × (self.old.rest ≡ []) }
         ensures { self.new ≡ cursor }
     {
@@ -414,7 +463,7 @@ impl<T, K> Cursor<T, K> {
     }
 
     /// The chain of all nodes. It takes no walk.
-    pub fn close(self) -> SingleChain<T, K>
+    pub fn close(self) -> SingleChain<T, L>
         ensures { result ≡ self.before ++ self.rest }
     {
         let Cursor {
@@ -424,18 +473,20 @@ impl<T, K> Cursor<T, K> {
             tail,
             front,
             rest,
+            kind: _,
         } = self;
         SingleChain {
             head: head.or(at),
             tail,
-            boxes: front.join(rest),
+            boxes: front.join(rest).tested(),
+            kind: PhantomData,
         }
     }
 }
 
-impl<T: Drop, K> Cursor<T, K> {
+impl<T: Drop, L> Cursor<T, L> {
     /// Puts a node before the one that the cursor is on. It takes no walk.
-    pub fn insert(&mut self, node: Node<T, NextLink<T, K>>)
+    pub fn insert(&mut self, node: Node<T, L>)
         ensures { (place : Ptr)
             × (self.new.before ≡ self.old.before ++ (place, node) ∷ [])
             × (self.new.rest ≡ self.old.rest) }
@@ -444,7 +495,7 @@ impl<T: Drop, K> Cursor<T, K> {
         self.put(cursor.with_node(node));
     }
 
-    fn with_node(self, node: Node<T, NextLink<T, K>>) -> Cursor<T, K>
+    fn with_node(self, node: Node<T, L>) -> Cursor<T, L>
         ensures { (place : Ptr)
             × (result.before ≡ self.before ++ (place, node) ∷ [])
             × (result.rest ≡ self.rest) }
@@ -456,11 +507,11 @@ impl<T: Drop, K> Cursor<T, K> {
             tail,
             front,
             rest,
+            kind: _,
         } = self;
-        let Node { mut block } = node;
+        let Node { mut block, kind: _ } = node;
         let rest = rest.tested();
-        let link = Next::of(at);
-        block.links.next = link;
+        block.links.next = or_nowhere(at);
         let (place, _, new) = Boxes::one(Loose::of(block));
         let new = new.tested();
         let tail = if at.is_none() { place } else { tail };
@@ -472,6 +523,7 @@ impl<T: Drop, K> Cursor<T, K> {
                 tail,
                 front: front.join(new),
                 rest,
+                kind: PhantomData,
             };
         }
         Cursor {
@@ -479,8 +531,9 @@ impl<T: Drop, K> Cursor<T, K> {
             before: place,
             at,
             tail,
-            front: with_last_link(front, before, Some(place)).join(new),
+            front: with_last_link(front, before, place).join(new),
             rest,
+            kind: PhantomData,
         }
     }
 }

@@ -1,12 +1,13 @@
 //! The kind of node that stacks and sorted lists link.
-use crate::node::Kind;
-use crate::single_link::NextLink;
+use crate::node::{Kind, Sealed};
+use std::marker::PhantomData;
 
-/// What tells the nodes of stacks and sorted lists apart from those of queues.
-#[derive(Clone, Copy, Debug)]
-pub struct InStack;
+/// The kind of node that stacks and sorted lists link.
+#[derive(Drop)]
+pub struct Links<T> {
+    value: PhantomData<T>,
+}
 
-/// The link of a node of a stack or a sorted list.
-pub type Links<T> = NextLink<T, InStack>;
+impl<T> Sealed for Links<T> {}
 
-impl<T> Kind for NextLink<T, InStack> {}
+impl<T> Kind for Links<T> {}

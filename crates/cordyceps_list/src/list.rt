@@ -1,5 +1,5 @@
 //! The list.
-ghost use Rattle.std.specs.Prelude.{◌≡◌, ◌+◌, ◌-◌, ◌<◌, ◌==◌, [], ◌∷◌, ◌++◌, length, slice_get, MatchOption, option_copied, Some};
+ghost use Rattle.std.specs.Prelude.{◌≡◌, ◌+◌, ◌-◌, ◌<◌, ◌==◌, [], ◌∷◌, ◌++◌, length, slice_get, MatchOption, MatchResult, option_copied, Some};
 ghost use Rattle.std.specs.Option.{option_copied_mut};
 ghost use Rattle.std.specs.Borrow.{sem};
 ghost use Rattle.cordyceps_base.specs.Element.{values};
@@ -101,6 +101,38 @@ impl<T: Linked<Links<T>>> List<T> {
     {
         self.fingers = self.fingers.after_splice(self.chain.len(), 1);
         self.chain.link_back(T::into_ptr(handle));
+    }
+
+    /// Puts an element first, at once, where there is room in the length.
+    ///
+    /// # Errors
+    /// A list of `usize::MAX` elements hands the handle back, and stays as it was.
+    pub fn try_push_front(&mut self, handle: T::Handle) -> Result<(), T::Handle>
+        ensures { MatchResult result
+            (λ _. (length self.old < usize.MAX) × (self.new ≡ T.element handle ∷ self.old))
+            (λ back. (length self.old ≡ usize.MAX) × (back ≡ handle) × (self.new ≡ self.old)) }
+    {
+        if self.len() == usize::MAX {
+            return Err(handle);
+        }
+        self.push_front(handle);
+        Ok(())
+    }
+
+    /// Puts an element last, at once, where there is room in the length.
+    ///
+    /// # Errors
+    /// A list of `usize::MAX` elements hands the handle back, and stays as it was.
+    pub fn try_push_back(&mut self, handle: T::Handle) -> Result<(), T::Handle>
+        ensures { MatchResult result
+            (λ _. (length self.old < usize.MAX) × (self.new ≡ self.old ++ T.element handle ∷ []))
+            (λ back. (length self.old ≡ usize.MAX) × (back ≡ handle) × (self.new ≡ self.old)) }
+    {
+        if self.len() == usize::MAX {
+            return Err(handle);
+        }
+        self.push_back(handle);
+        Ok(())
     }
 
     /// Takes the first element out, at once. `None` where there is none.

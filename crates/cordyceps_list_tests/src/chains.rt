@@ -2,7 +2,7 @@
 use crate::compared::same;
 use cordyceps_base::double_chain::DoubleChain;
 use cordyceps_base::single_chain::SingleChain;
-use cordyceps_base::stack::InStack;
+use cordyceps_base::stack::Links;
 use cordyceps_testing::counted::{Drops, counted_node};
 use cordyceps_testing::nodes::node_of;
 use std::alloc::{AllocError, Global};
@@ -38,7 +38,7 @@ fn links_both_ways(rt: HostRuntime) -> Result<(), Fail> {
 }
 
 /// Asserts the values of a chain, in order.
-fn holds(rt: &impl Abort, chain: &SingleChain<u64, InStack>, wanted: &[u64]) {
+fn holds(rt: &impl Abort, chain: &SingleChain<u64, Links<u64>>, wanted: &[u64]) {
     let mut left = wanted.iter();
     for value in chain.values() {
         same(rt, Some(value), left.next());
@@ -47,7 +47,12 @@ fn holds(rt: &impl Abort, chain: &SingleChain<u64, InStack>, wanted: &[u64]) {
 }
 
 /// Asserts the first and the last value of a chain.
-fn ends(rt: &impl Abort, chain: &SingleChain<u64, InStack>, first: Option<u64>, last: Option<u64>) {
+fn ends(
+    rt: &impl Abort,
+    chain: &SingleChain<u64, Links<u64>>,
+    first: Option<u64>,
+    last: Option<u64>,
+) {
     same(rt, chain.is_empty(), first.is_none());
     same(rt, chain.first().copied(), first);
     same(rt, chain.last().copied(), last);
@@ -107,7 +112,7 @@ impl Drop for Noted {
 fn noted_chain(
     alloc: Global,
     order: &Rc<Cell<u64>, Global>,
-) -> Result<SingleChain<Noted, InStack>, AllocError> {
+) -> Result<SingleChain<Noted, Links<Noted>>, AllocError> {
     let mut chain = SingleChain::empty();
     for digit in 1..4u64 {
         let order = Rc::clone(order)?;

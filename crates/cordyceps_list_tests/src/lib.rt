@@ -11,6 +11,8 @@ mod drops;
 #[cfg(test)]
 mod filters;
 #[cfg(test)]
+mod handles;
+#[cfg(test)]
 mod items;
 #[cfg(test)]
 mod list_ends;
@@ -18,5 +20,7 @@ mod list_ends;
 mod list_laws;
 #[cfg(test)]
 mod nodes;
+#[cfg(test)]
+mod travels;
 #[cfg(test)]
 mod whole_lists;

@@ -57,6 +57,20 @@ fn is_a_stack_at_the_front(rt: HostRuntime) -> Result<(), Fail> {
 }
 
 #[test]
+fn tries_to_push_at_both_ends(rt: HostRuntime) -> Result<(), Fail> {
+    let drops = Drops::new(rt.alloc())?;
+    let mut list = one_to_three(&rt, rt.alloc(), &drops)?;
+    let first = counted_node(rt.alloc(), 7, 70, &drops)?;
+    assert!(rt; list.try_push_front(first).is_ok());
+    let last = counted_node(rt.alloc(), 8, 80, &drops)?;
+    assert!(rt; list.try_push_back(last).is_ok());
+    same(&rt, drops.count(), 0);
+    gives(&rt, &mut list, &[7, 1, 2, 3, 8]);
+    same(&rt, drops.count(), 5);
+    Ok(())
+}
+
+#[test]
 fn is_a_queue_from_the_back(rt: HostRuntime) -> Result<(), Fail> {
     let drops = Drops::new(rt.alloc())?;
     let mut list = one_to_three(&rt, rt.alloc(), &drops)?;

@@ -4,16 +4,11 @@ use cordyceps_base::node::{Kind, Node, Refused};
 use cordyceps_base::shared::{MAX_ROOMS, StepError};
 use cordyceps_base::steps::{Steps, count_one};
 use cordyceps_base::{list, mpsc_queue, stack};
-use cordyceps_testing::counted::{Counted, Drops};
+use cordyceps_testing::counted::{Counted, Drops, counted_node};
 use cordyceps_testing::nodes::node_of;
 use std::alloc::{AllocError, Global};
-use std::marker::Send;
 use std::process::Abort;
 use std::test::Fail;
-
-fn sent<T: Send>(value: T) -> T {
-    value
-}
 
 #[test]
 fn keeps_its_number_and_value(rt: HostRuntime) -> Result<(), Fail> {
@@ -27,11 +22,27 @@ fn keeps_its_number_and_value(rt: HostRuntime) -> Result<(), Fail> {
 }
 
 #[test]
-fn travels_where_its_value_does(rt: HostRuntime) -> Result<(), Fail> {
-    let of_stack: Node<u64, stack::Links<u64>> = sent(node_of(rt.alloc(), 1, 2)?);
-    let of_queue: Node<u64, mpsc_queue::Links<u64>> = sent(node_of(rt.alloc(), 3, 4)?);
-    same(&rt, of_stack.into_value(), 2);
-    same(&rt, of_queue.into_value(), 4);
+fn takes_another_number(rt: HostRuntime) -> Result<(), Fail> {
+    let mut node: Node<u64, list::Links<u64>> = node_of(rt.alloc(), 1, 7)?;
+    node.set_id(18446744073709551615);
+    same(&rt, (node.id(), *node.get()), (18446744073709551615, 7));
+    Ok(())
+}
+
+#[test]
+fn becomes_a_node_of_each_kind(rt: HostRuntime) -> Result<(), Fail> {
+    let drops = Drops::new(rt.alloc())?;
+    let of_list: Node<Counted, list::Links<Counted>> = counted_node(rt.alloc(), 5, 50, &drops)?;
+    let of_stack: Node<Counted, stack::Links<Counted>> = of_list.into_kind();
+    let of_queue: Node<Counted, mpsc_queue::Links<Counted>> = of_stack.into_kind();
+    let again: Node<Counted, list::Links<Counted>> = of_queue.into_kind();
+    same(
+        &rt,
+        (again.id(), again.get().value, drops.count()),
+        (5, 50, 0),
+    );
+    drop(again);
+    same(&rt, drops.count(), 1);
     Ok(())
 }
 

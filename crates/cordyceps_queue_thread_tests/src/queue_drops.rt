@@ -9,6 +9,7 @@ use cordyceps_base::node::{Node, Refused};
 use cordyceps_queue::mpsc_queue::{Batch, Closed, Links, MpscQueue, TryDequeueError};
 use cordyceps_testing::counted::{Counted, Drops};
 use cordyceps_testing::nodes::node_of;
+use cordyceps_testing::travels::{sent, shared};
 use std::alloc::AllocError;
 use std::cell::Cell;
 use std::marker::{Send, Sync};
@@ -168,9 +169,14 @@ impl Linked<Links<Lone>> for Lone {
     }
 }
 
-/// What threads can share.
-fn shared<T: Sync>(thing: &T) -> &T {
-    thing
+/// A batch can be sent where its values can.
+fn a_batch_travels_where_its_values_do<T: Send>(batch: Batch<T>) -> Batch<T> {
+    sent(batch)
+}
+
+/// A batch can be shared where its values can.
+fn a_batch_is_shared_where_its_values_are<T: Sync>(batch: &Batch<T>) -> &Batch<T> {
+    shared(batch)
 }
 
 /// A queue can be shared where its handles can only be sent.
@@ -195,6 +201,43 @@ fn a_queue_is_shared_where_handles_are_sent(rt: HostRuntime) -> Result<(), Alloc
     match stub {
         Some(node) => same(&rt, node.get().value.get(), 7),
         None => panic!(rt; "the stub was handed in"),
+    }
+    Ok(())
+}
+
+/// An element that threads can share.
+#[derive(Drop)]
+struct Plain {
+    value: u64,
+}
+
+impl Linked<Links<Plain>> for Plain {
+    type Handle = Node<Plain, Links<Plain>>;
+
+    ghost element = { λ h. h };
+
+    fn into_ptr(handle: Node<Plain, Links<Plain>>) -> Node<Plain, Links<Plain>> {
+        handle
+    }
+
+    fn from_ptr(node: Node<Plain, Links<Plain>>) -> Node<Plain, Links<Plain>>
+        ensures { result ≡ node }
+    {
+        node
+    }
+}
+
+#[test]
+fn a_batch_is_sent_and_shared_where_its_values_are(rt: HostRuntime) -> Result<(), AllocError> {
+    let (queue, mut party) = MpscQueue::new(rt.alloc(), 1)?;
+    let node = node_of::<Plain, Links<Plain>>(rt.alloc(), 1, Plain { value: 7 })?;
+    queue.enqueue(&mut party, node);
+    let Closed { elements, stub: _ } = queue.close(party);
+    let mut elements = a_batch_travels_where_its_values_do(elements);
+    let _ = a_batch_is_shared_where_its_values_are(&elements);
+    match elements.next() {
+        Some(node) => same(&rt, node.get().value, 7),
+        None => panic!(rt; "an element was put in"),
     }
     Ok(())
 }

@@ -4,7 +4,7 @@ ghost use Rattle.cordyceps_shared.specs.Counts.{below};
 
 use cordyceps_base::node::Node;
 use cordyceps_base::single_chain::SingleChain;
-use cordyceps_base::stack::{InStack, Links};
+use cordyceps_base::stack::Links;
 use std::alloc::{AllocError, Global};
 use std::marker::Model;
 
@@ -47,7 +47,7 @@ impl Ticket {
 /// Linking takes no memory and cannot be refused. There can be 2^64 - 1 of them. A drop frees each ticket.
 #[derive(Drop)]
 pub struct Tickets {
-    chain: SingleChain<(), InStack>,
+    chain: SingleChain<(), Links<()>>,
     count: usize,
 }
 

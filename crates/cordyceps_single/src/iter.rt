@@ -5,7 +5,7 @@ ghost use Rattle.cordyceps_base.specs.Element.{values};
 ghost use Rattle.cordyceps_base.specs.Nodes.{elements};
 
 use cordyceps_base::single_chain::{SingleChain, Values};
-use cordyceps_base::stack::InStack;
+use cordyceps_base::stack::Links;
 use std::marker::Model;
 
 /// The values of a sorted list, from the first to the last. A contract sees those that are left.
@@ -13,7 +13,7 @@ use std::marker::Model;
 /// Once it has given `None` it always does.
 #[derive(Drop)]
 pub struct SortedListIter<'a, T> {
-    values: Values<'a, T, InStack>,
+    values: Values<'a, T>,
 }
 
 impl<'a, T> Model for SortedListIter<'a, T> {
@@ -26,7 +26,7 @@ impl<'a, T> Model for SortedListIter<'a, T> {
 
 impl<'a, T> SortedListIter<'a, T> {
     /// The values of all nodes of a chain.
-    pub(crate) fn new(chain: &'a SingleChain<T, InStack>) -> SortedListIter<'a, T>
+    pub(crate) fn new(chain: &'a SingleChain<T, Links<T>>) -> SortedListIter<'a, T>
         ensures { result ≡ values (elements chain.now) }
     {
         SortedListIter {

@@ -4,7 +4,6 @@ ghost use Rattle.std.specs.Iterator.{YieldsFirstBy, item_count};
 
 use cordyceps_base::linked::Linked;
 use cordyceps_base::single_chain::SingleChain;
-use cordyceps_base::stack::InStack;
 pub use cordyceps_base::stack::Links;
 use std::marker::Model;
 
@@ -15,7 +14,7 @@ use std::marker::Model;
 /// node once.
 #[derive(Drop)]
 pub struct Stack<T> {
-    chain: SingleChain<T, InStack>,
+    chain: SingleChain<T, Links<T>>,
 }
 
 impl<T> Model for Stack<T> {

@@ -1,5 +1,5 @@
 //! A list whose elements are reached by the spots where they lie.
-ghost use Rattle.std.specs.Prelude.{◌≡◌, ◌+◌, ◌<◌, ◌≤◌, ◌==◌, [], ◌∷◌, ◌++◌, length, slice_get, MatchOption, Some, None};
+ghost use Rattle.std.specs.Prelude.{◌≡◌, ◌+◌, ◌<◌, ◌≤◌, ◌==◌, [], ◌∷◌, ◌++◌, length, slice_get, MatchOption, MatchResult, Some, None};
 ghost use Rattle.std.specs.Borrow.{sem};
 ghost use denote.RawPtr.{Ptr};
 ghost use Rattle.cordyceps_base.specs.BySpot.{HasSpot, HoldsAt, IsTaken, IsPutBefore, IsPutAfter, IsMovedFront, IsMovedBack, IsFirst, IsLast, AreNext};
@@ -132,6 +132,38 @@ impl<T: Linked<Links<T>>> StableList<T> {
     {
         let address = self.chain.link_last(T::into_ptr(handle));
         Spot { address }
+    }
+
+    /// Puts an element first, at once, where there is room in the length, and answers its spot.
+    ///
+    /// # Errors
+    /// A list of `usize::MAX` elements hands the handle back, and stays as it was.
+    pub fn try_push_front(&mut self, handle: T::Handle) -> Result<Spot, T::Handle>
+        ensures { MatchResult result
+            (λ spot. (length self.old < usize.MAX) × (self.new ≡ (spot, T.element handle) ∷ self.old)
+            × AreApart (spots self.new))
+            (λ back. (length self.old ≡ usize.MAX) × (back ≡ handle) × (self.new ≡ self.old)) }
+    {
+        if self.len() == usize::MAX {
+            return Err(handle);
+        }
+        Ok(self.push_front(handle))
+    }
+
+    /// Puts an element last, at once, where there is room in the length, and answers its spot.
+    ///
+    /// # Errors
+    /// A list of `usize::MAX` elements hands the handle back, and stays as it was.
+    pub fn try_push_back(&mut self, handle: T::Handle) -> Result<Spot, T::Handle>
+        ensures { MatchResult result
+            (λ spot. (length self.old < usize.MAX) × (self.new ≡ self.old ++ (spot, T.element handle) ∷ [])
+            × AreApart (spots self.new))
+            (λ back. (length self.old ≡ usize.MAX) × (back ≡ handle) × (self.new ≡ self.old)) }
+    {
+        if self.len() == usize::MAX {
+            return Err(handle);
+        }
+        Ok(self.push_back(handle))
     }
 
     /// Puts an element in before that at `at`, at once, and answers its spot. There must be room in the length.

@@ -12,4 +12,6 @@ mod many_operations;
 #[cfg(test)]
 mod single_calls;
 #[cfg(test)]
+mod travels;
+#[cfg(test)]
 mod walks;

@@ -40,6 +40,25 @@ fn pushes_answer_their_spots(rt: HostRuntime) -> Result<(), Fail> {
     Ok(())
 }
 
+#[test]
+fn tries_of_a_push_answer_their_spots(rt: HostRuntime) -> Result<(), Fail> {
+    let mut list: StableList<Item> = StableList::new();
+    match list.try_push_back(plain(rt.alloc(), 2)?) {
+        Ok(spot) => same(&rt, around(&list, spot), [None, Some(2), None]),
+        Err(_) => panic!(rt; "the list is not full"),
+    }
+    match list.try_push_front(plain(rt.alloc(), 1)?) {
+        Ok(spot) => same(&rt, around(&list, spot), [None, Some(1), Some(2)]),
+        Err(_) => panic!(rt; "the list is not full"),
+    }
+    match list.try_push_back(plain(rt.alloc(), 3)?) {
+        Ok(spot) => same(&rt, around(&list, spot), [Some(2), Some(3), None]),
+        Err(_) => panic!(rt; "the list is not full"),
+    }
+    holds(&rt, &list, &[1, 2, 3]);
+    Ok(())
+}
+
 /// Puts 9 in before the item that is so many moves behind the first of 1, 2 and 3.
 fn puts_before(
     rt: &impl Abort,

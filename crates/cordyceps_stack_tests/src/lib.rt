@@ -24,4 +24,6 @@ mod stacks;
 #[cfg(test)]
 mod threads;
 #[cfg(test)]
+mod travels;
+#[cfg(test)]
 mod users;

@@ -103,7 +103,7 @@ impl<T> DoubleChain<T> {
     /// The nodes without that at `at`, and the row of that alone, where it lay.
     fn parted(self, at: Address) -> (DoubleChain<T>, Row<T>)
         requires { HasSpot self at.ptr }
-        ensures parts { (a : Global) × (x : Block T (Links T)) × IsTaken self at.ptr (block_element x) result.0
+        ensures parts { (a : Global) × (x : Block T) × IsTaken self at.ptr (block_element x) result.0
             × (result.1.blocks ≡ (at.ptr, a, x) ∷ []) }
         ensures fits { length result.0 + 1 < 2 ^ 64 }
     {

@@ -4,7 +4,7 @@ ghost use Rattle.std.specs.Iterator.{YieldsFirstBy, item_count, at_most, UpTo};
 ghost use Rattle.std.specs.Iterator.SizeHint.{IsWithinCount};
 
 use cordyceps_base::linked::Linked;
-use cordyceps_base::mpsc_queue::{InQueue, Links};
+use cordyceps_base::mpsc_queue::Links;
 use cordyceps_base::single_chain::SingleChain;
 use std::iter::{ExactSizeIterator, FusedIterator};
 use std::marker::Model;
@@ -16,7 +16,7 @@ use std::marker::Model;
 /// time whatever is left. A drop frees each node that is left.
 #[derive(Drop)]
 pub struct Batch<T> {
-    chain: SingleChain<T, InQueue>,
+    chain: SingleChain<T, Links<T>>,
     len: usize,
 }
 

@@ -1,8 +1,8 @@
 use Rattle.std.proofs.Common.{◌≡◌, ◌-◌, ◌∷◌, ◌++◌, slice_get, Some, refl, sym, ap, ◌∙◌, subst}
 use denote.RawPtr.{null_ptr}
 use Rattle.cordyceps_base.specs.Boxes.{box_addresses, box_values, set_value}
-use Rattle.cordyceps_base.specs.DoubleChain.{OwnedNode, Segment}
-use Rattle.cordyceps_base.specs.Nodes.{block_element, nodes_of}
+use Rattle.cordyceps_base.specs.DoubleChain.{Segment}
+use Rattle.cordyceps_base.specs.Nodes.{block_element, nodes_of, OwnedNode}
 use Rattle.cordyceps_base.proofs.DoubleChain.{with_next, with_prev}
 use Rattle.cordyceps_base.proofs.InnerNodes.{linked_with, node_there, prev_there}
 use Rattle.cordyceps_base.proofs.Nodes.{nodes_of-append, nodes_of-drop, nodes_of-set, nodes_of-take}

@@ -10,5 +10,5 @@ get_mut-requires g c = subst (λ ns. slice_get (box_addresses ns) 0 ≡ Some c.a
 pub returns : goal.returns
 returns g c =
     let cut = c.cut_last-front.ensures in let b = c.get_mut.result.now in
-    c.join.ensures ∙ (λ i. cut.0 i ++ set_value (cut.1 i) 0 (with_next b (c.of-link.ensures i)))
+    c.join.ensures ∙ (λ i. cut.0 i ++ set_value (cut.1 i) 0 (with_next b c.args.next))
     ∙ relink c.args.row.blocks b c.args.next c.requires.some (subst (λ ns. slice_get (box_values ns) 0 ≡ Some b) cut.1 c.get_mut.ensures.value)

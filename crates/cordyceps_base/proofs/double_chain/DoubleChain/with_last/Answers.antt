@@ -1,9 +1,9 @@
 use Rattle.std.proofs.Common.{◌≡◌, suc, List, ◌-◌, [], ◌∷◌, ◌++◌, length, length-append, ap, ◌∙◌, sym, subst, refl, arith}
 use denote.RawPtr.{null_ptr}
 use Rattle.cordyceps_base.specs.Boxes.{box_addresses, set_value}
-use Rattle.cordyceps_base.specs.Nodes.{nodes_of}
+use Rattle.cordyceps_base.specs.Nodes.{nodes_of, OwnedNode}
 use Rattle.cordyceps_base.specs.Spots.{AreTestable}
-use Rattle.cordyceps_base.specs.DoubleChain.{OwnedNode, Segment}
+use Rattle.cordyceps_base.specs.DoubleChain.{Segment}
 use Rattle.cordyceps_base.specs.Nodes.{block_element}
 use Rattle.cordyceps_base.proofs.DoubleChain.{last_here, relinked_last, segment_join, with_next}
 use Rattle.cordyceps_base.proofs.Nodes.{length_is, length-set_value, nodes_of-append, nodes_of-set}

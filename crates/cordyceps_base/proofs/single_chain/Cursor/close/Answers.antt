@@ -1,10 +1,15 @@
-use Rattle.std.proofs.Common.{sym, subst}
+use Rattle.std.proofs.Common.{sym, subst, ◌∙◌}
 use Rattle.core.specs.Option.{option_or}
-use Rattle.cordyceps_base.specs.SingleChain.{IsLine}
+use Rattle.cordyceps_base.specs.Boxes.{box_addresses}
+use Rattle.cordyceps_base.specs.SingleChain.{IsLed, EndsAt}
+use Rattle.cordyceps_base.specs.Spots.{AreTestable}
 use Rattle.cordyceps_base.proofs.SingleChain.{closed}
 use Rattle.cordyceps_base.proofs.single_chain.Cursor.close.Goals as goal
 
 pub invariant_of-result : goal.invariant_of-result
 invariant_of-result g c =
-    let i = c.self.inside in
-    subst (λ h. IsLine h i.tail.ptr c.join.result.blocks) (sym c.or.ensures) (subst (IsLine (option_or i.head i.at) i.tail.ptr) (sym c.join.ensures) (closed i.head i.at i.before.ptr i.tail.ptr i.front.blocks i.rest.blocks c.self.invariant))
+    let i = c.self.inside in let is = c.tested.ensures.0 ∙ c.join.ensures in let all = closed i.head i.at i.before.ptr i.tail.ptr i.front.blocks i.rest.blocks c.self.invariant in (
+      subst (λ h. IsLed h c.tested.result.blocks) (sym c.or.ensures) (subst (IsLed (option_or i.head i.at)) (sym is) all.0),
+      subst (λ l. EndsAt l i.tail.ptr) (sym is) all.1,
+      subst (λ l. AreTestable (box_addresses l)) (sym c.tested.ensures.0) c.tested.ensures.1,
+    )

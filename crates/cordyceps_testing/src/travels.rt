@@ -1,0 +1,18 @@
+//! What can be sent to a thread, and what threads can share.
+ghost use Rattle.std.specs.Prelude.{◌≡◌};
+
+use std::marker::{Send, Sync};
+
+/// Takes what can be sent to a thread, and hands it back.
+pub fn sent<T: Send>(value: T) -> T
+    ensures { result ≡ value }
+{
+    value
+}
+
+/// Takes what threads can share, and hands it back.
+pub fn shared<T: Sync>(value: &T) -> &T
+    ensures { result.now ≡ value.now }
+{
+    value
+}
