@@ -1,5 +1,5 @@
 //! A few lines with each collection.
-ghost use Rattle.std.specs.Prelude.{◌≡◌, ◌+◌, ◌<◌, [], ◌∷◌, ◌++◌, take, drop, length, min, option_map, Some, IfOk};
+ghost use Rattle.std.specs.Prelude.{◌≡◌, ◌+◌, ◌<◌, [], ◌∷◌, ◌++◌, take, drop, length, min, option_map, Some, IfOk, IfErr};
 
 use crate::job::Job;
 use cordyceps::mpsc_queue::Batch;
@@ -9,7 +9,7 @@ use cordyceps::{
 };
 use freelist::FreeList;
 use std::alloc::{AllocError, Global};
-use std::sync::Wait;
+use std::sync::{Mutex, Wait};
 
 /// A job that can be put into a list.
 pub type ListJob = Node<Job, list::Links<Job>>;
@@ -42,6 +42,22 @@ pub fn rotate(jobs: &mut List<Job>)
     if let Some(first) = jobs.pop_front() {
         jobs.push_back(first);
     }
+}
+
+/// Puts a job that came out of a queue behind those that wait in a list which threads share.
+///
+/// # Errors
+/// A list of `usize::MAX` jobs hands the job back.
+pub fn submit<R: Wait>(rt: &R, waiting: &Mutex<List<Job>>, job: QueueJob) -> Result<(), ListJob>
+    ensures { IfErr result (λ back. back ≡ job) }
+{
+    // the same node, for lists: it takes no memory
+    waiting.lock(rt).try_push_back(job.into_kind())
+}
+
+/// Takes the job that waits longest out of a list which threads share. `None` where none waits.
+pub fn next_job<R: Wait>(rt: &R, waiting: &Mutex<List<Job>>) -> Option<ListJob> {
+    waiting.lock(rt).pop_front()
 }
 
 /// The least rank of two jobs.

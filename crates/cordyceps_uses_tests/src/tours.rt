@@ -7,10 +7,11 @@ use cordyceps::{List, Node};
 use cordyceps_testing::nodes::node_of;
 use cordyceps_uses::job::Job;
 use cordyceps_uses::tour::{
-    QueueJob, StackJob, give_back, hand_over, least_rank, rotate, send, take_the_second,
+    QueueJob, StackJob, give_back, hand_over, least_rank, next_job, rotate, send, submit,
+    take_the_second,
 };
 use std::alloc::{AllocError, Global};
-use std::sync::Wait;
+use std::sync::{Mutex, Wait};
 
 /// A job for stacks, whose rank is ten times its number.
 fn stack_job(alloc: Global, number: u32) -> Result<StackJob, AllocError> {
@@ -48,6 +49,21 @@ fn lists(rt: HostRuntime) -> Result<(), AllocError> {
         None => None,
     };
     same(&rt, (second, first, jobs.len()), (Some((2, 3)), Some(2), 1));
+    Ok(())
+}
+
+#[test]
+fn a_list_behind_a_lock(rt: HostRuntime) -> Result<(), AllocError> {
+    let waiting: Mutex<List<Job>> = Mutex::new(List::new());
+    assert!(rt; submit(&rt, &waiting, queue_job(rt.alloc(), 1)?).is_ok());
+    assert!(rt; submit(&rt, &waiting, queue_job(rt.alloc(), 2)?).is_ok());
+    let mut numbers: Vec<u64> = Vec::new(rt.alloc());
+    for _turn in 0..3u32 {
+        if let Some(job) = next_job(&rt, &waiting) {
+            numbers.push(job.id())?;
+        }
+    }
+    same(&rt, numbers.as_slice(), &[1, 2]);
     Ok(())
 }
 
