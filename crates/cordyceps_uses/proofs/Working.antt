@@ -1,5 +1,5 @@
 -- What a worker's turns add up to, and that all jobs are done in the end.
-use Rattle.std.proofs.Common.{◌≡◌, ℕ, List, [], ◌∷◌, ◌++◌, map, reverse, refl, sym, ap, ◌∙◌, subst, arith}
+use Rattle.std.proofs.Common.{◌≡◌, ℕ, List, [], ◌++◌, map, reverse, refl, sym, ap, ◌∙◌, subst, arith}
 use Rattle.cordyceps.specs.Parties.Seated.{TableId}
 use Rattle.cordyceps.specs.Elements.Element.{Element}
 use Rattle.cordyceps.specs.Parties.Counts.{tally, Same}

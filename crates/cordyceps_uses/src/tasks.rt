@@ -1,6 +1,6 @@
-//! Tasks of one type that go through a stack, a stack that threads share, and a sorted list, in the nodes that they
-//! were made with, and into a list in new ones.
-ghost use Rattle.std.specs.Prelude.{◌≡◌, ◌<◌, ◌≤◌, [], ◌∷◌, ◌++◌, length, reverse, IfErr, IfOk, OnErr, OnOk};
+//! Tasks of one type that go through a stack, a stack that threads share, a sorted list and a list, in the nodes that
+//! they were made with.
+ghost use Rattle.std.specs.Prelude.{◌≡◌, ◌<◌, ◌≤◌, [], ◌∷◌, ◌++◌, length, reverse, IfErr, IfOk};
 ghost use Rattle.cordyceps.specs.Parties.Histories.{plain};
 ghost use Rattle.cordyceps.specs.Parties.Shares.{whole};
 ghost use Rattle.cordyceps.specs.Transfers.History.{held};
@@ -8,7 +8,7 @@ ghost use Rattle.cordyceps_uses.specs.Tasks.{IsSchedule};
 
 use cordyceps::sorted_list::Least;
 use cordyceps::stack::{Links, MAX_ROOMS, Party};
-use cordyceps::{Kind, Linked, List, Node, Refused, SortedList, Stack, TransferStack};
+use cordyceps::{Kind, Linked, List, Node, SortedList, Stack, TransferStack};
 use std::alloc::Global;
 use std::sync::Wait;
 
@@ -21,8 +21,8 @@ pub struct Task {
     pub number: u64,
 }
 
-/// Tasks go into collections of any kind. A node is of one kind for life: one of stacks goes into sorted lists too, and
-/// into those that threads share, but into no list.
+/// Tasks go into collections of any kind. A node of stacks goes into sorted lists too, and into those that threads share,
+/// and by `into_kind` it becomes one of lists or queues.
 impl<L: Kind> Linked<L> for Task {
     type Handle = Node<Task, L>;
 
@@ -83,19 +83,11 @@ pub fn schedule<R: Wait>(
     Ok(SortedList::from_stack_min(came))
 }
 
-/// Puts a task from a stack behind those of a list, which has room for one more. Its node is freed, and it gets a new
-/// one. Where memory for that is refused, `Err` gives the task back.
-pub fn move_to_list(
-    alloc: Global,
-    list: &mut List<Task>,
-    node: Node<Task, Links<Task>>,
-) -> Result<(), Refused<Task>>
+/// Puts a task from a stack behind those of a list, which has room for one more. Its node becomes one of lists: it is
+/// not freed, and no memory is taken.
+pub fn move_to_list(list: &mut List<Task>, node: Node<Task, Links<Task>>)
     requires { length list.old < usize.MAX }
-    ensures moved { OnOk result (list.new ≡ list.old ++ node ∷ []) }
-    ensures kept { OnErr result (list.new ≡ list.old) }
-    ensures returned { IfErr result (λ e. e.value ≡ node.value) }
+    ensures { list.new ≡ list.old ++ node ∷ [] }
 {
-    let moved = Node::new(alloc, node.id(), node.into_value())?;
-    list.push_back(moved);
-    Ok(())
+    list.push_back(node.into_kind());
 }

@@ -3,7 +3,7 @@ ghost use Rattle.std.specs.Prelude.{◌≡◌, ◌≤◌, [], ◌∷◌, IfErr, 
 ghost use Rattle.cordyceps_uses.specs.Timers.{started, due};
 
 use cordyceps::sorted_list::{Least, Links};
-use cordyceps::{Linked, Node, Refused, SortedList};
+use cordyceps::{Kind, Linked, Node, Refused, SortedList};
 use std::alloc::Global;
 use std::marker::Model;
 
@@ -16,21 +16,25 @@ pub struct Timer<P> {
     pub payload: P,
 }
 
-impl<P: Drop> Linked<Links<Timer<P>>> for Timer<P> {
-    type Handle = Node<Timer<P>, Links<Timer<P>>>;
+/// Timers go into collections of any kind.
+impl<L: Kind, P: Drop> Linked<L> for Timer<P> {
+    type Handle = Node<Timer<P>, L>;
 
     ghost element = { λ h. h };
 
-    fn into_ptr(handle: Node<Timer<P>, Links<Timer<P>>>) -> Node<Timer<P>, Links<Timer<P>>> {
+    fn into_ptr(handle: Node<Timer<P>, L>) -> Node<Timer<P>, L> {
         handle
     }
 
-    fn from_ptr(node: Node<Timer<P>, Links<Timer<P>>>) -> Node<Timer<P>, Links<Timer<P>>>
+    fn from_ptr(node: Node<Timer<P>, L>) -> Node<Timer<P>, L>
         ensures { result ≡ node }
     {
         node
     }
 }
+
+/// A timer that does not run, in a node that can be put among those that do.
+pub type Stopped<P> = Node<Timer<P>, Links<Timer<P>>>;
 
 /// Timers that run. A contract sees their deadlines and payloads, the earliest first, and equals as they were started.
 #[derive(Drop)]
@@ -70,13 +74,36 @@ impl<P: Drop> Timers<P> {
     {
         match Node::new(alloc, deadline, Timer { deadline, payload }) {
             Ok(node) => {
-                self.list.insert(node);
+                self.restart(node);
                 Ok(())
             }
             Err(refused) => Err(Refused {
                 value: refused.value.payload,
             }),
         }
+    }
+
+    /// Starts a timer in the node that it has: it comes behind all whose deadline is not later. It takes no memory.
+    ///
+    /// One comparison tells where it is the last, and otherwise it walks from the earliest on.
+    pub fn restart(&mut self, timer: Stopped<P>)
+        ensures { self.new ≡ started timer.value.deadline timer.value.payload self.old }
+    {
+        self.list.insert(timer);
+    }
+
+    /// Takes the earliest timer out in its node, if it is due at the time `now`. `None` where none is due; all stay
+    /// then. It takes the same time whatever runs.
+    pub fn stop_due(&mut self, now: u64) -> Option<Stopped<P>>
+        ensures { MatchOption result
+            ((self.new ≡ self.old) × (due now self.old ≡ []))
+            (λ t. (self.old ≡ (t.value.deadline, t.value.payload) ∷ self.new) × (t.value.deadline ≤ now)) }
+    {
+        let first = self.list.iter().next()?;
+        if first.deadline > now {
+            return None;
+        }
+        self.list.pop_front()
     }
 
     /// Takes the earliest timer out, if it is due at the time `now`. `None` where none is due; all stay then. It takes
@@ -86,11 +113,7 @@ impl<P: Drop> Timers<P> {
             ((self.new ≡ self.old) × (due now self.old ≡ []))
             (λ t. (self.old ≡ (t.deadline, t.payload) ∷ self.new) × (t.deadline ≤ now)) }
     {
-        let first = self.list.iter().next()?;
-        if first.deadline > now {
-            return None;
-        }
-        match self.list.pop_front() {
+        match self.stop_due(now) {
             Some(node) => Some(node.into_value()),
             None => None,
         }

@@ -40,9 +40,7 @@ fn a_task_goes_into_a_list(rt: HostRuntime) -> Result<(), AllocError> {
     for number in [7, 8] {
         let node = task(alloc, 5, number)?;
         assert!(rt; list.len() < 2);
-        if move_to_list(alloc, &mut list, node).is_err() {
-            return Err(AllocError);
-        }
+        move_to_list(&mut list, node);
     }
     for wanted in [7, 8] {
         let number = match list.pop_front() {

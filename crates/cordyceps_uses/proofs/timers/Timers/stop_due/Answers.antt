@@ -1,7 +1,7 @@
 use Rattle.std.proofs.Common.{List, ℕ, refl, sym, ap, ◌∙◌}
 use Rattle.cordyceps_uses.specs.Timers.{due}
 use Rattle.cordyceps_uses.proofs.Deadlines.{none_due, first_later}
-use Rattle.cordyceps_uses.proofs.timers.Timers.pop_due.Goals as goal
+use Rattle.cordyceps_uses.proofs.timers.Timers.stop_due.Goals as goal
 
 pub returns-in_err-first : goal.returns-in_err-first
 returns-in_err-first g c =
