@@ -1,5 +1,6 @@
 mod Deadlines
 mod Entries
+mod Scheduling
 pub mod Sharing
 pub mod Turning
 mod Working

@@ -2,6 +2,8 @@ pub mod Mailbox
 pub mod Pool
 pub mod Recency
 pub mod RunQueue
+pub mod Scheduler
 pub mod Tasks
 pub mod TimerWheel
 pub mod Timers
+pub mod Ways

@@ -6,6 +6,7 @@ pub mod mailbox;
 pub mod pool;
 pub mod recency;
 pub mod run_queue;
+pub mod scheduler;
 pub mod tasks;
 pub mod timer_wheel;
 pub mod timers;

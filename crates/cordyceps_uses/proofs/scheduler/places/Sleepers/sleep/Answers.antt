@@ -1,0 +1,21 @@
+use Rattle.std.proofs.Common.{ap, arith}
+use Rattle.cordyceps_uses.specs.declared.timers.Timer.{Timer}
+use Rattle.cordyceps_uses.specs.declared.scheduler.work.Work.{Work}
+use Rattle.cordyceps_uses.specs.Scheduler.{one_of}
+use Rattle.cordyceps_uses.proofs.Scheduling.{times_restarted}
+use Rattle.cordyceps_uses.proofs.scheduler.places.Sleepers.sleep.Goals as goal
+
+pub invariant_of-self : goal.invariant_of-self
+invariant_of-self g c =
+    let n = g.L.Follow.number in
+    let r = g.L.Follow.rounds in
+    record {
+      counted = omega (
+        arith,
+        c.give.ensures.taken,
+        ap (λ (v : Timer Work). one_of n r v.payload) c.get.ensures,
+        ap (λ (v : Timer Work). one_of n r v.payload) c.get_mut.ensures.value,
+        c.args.self.now.counted,
+        times_restarted n r c.saturating_add.result c.get_mut.result.now.payload c.args.self.now.timers c.restart.new.self c.restart.ensures,
+      );
+    }

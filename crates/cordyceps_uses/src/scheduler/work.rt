@@ -1,0 +1,101 @@
+//! What a task of the scheduler has to do.
+ghost use Rattle.std.specs.Prelude.{◌≡◌, ◌+◌, ◌*◌, ◌<◌, ◌≤◌, ◌==◌};
+
+/// What a task does: it adds its number to its sum, in so many rounds, and sleeps between two of them. Its sum is always
+/// that of the rounds that it ran, which are no more than it has.
+#[derive(Drop)]
+pub struct Work {
+    number: u32,
+    rounds: u32,
+    pause: u32,
+    ran: u32,
+    sum: u64,
+    ghost within: { ran ≤ rounds },
+    ghost worked: { sum ≡ ran * number },
+}
+
+impl Work {
+    /// The work of a new task: its number, its rounds, and how long it sleeps between two of them.
+    pub fn new(number: u32, rounds: u32, pause: u32) -> Work
+        ensures number { result.number ≡ number }
+        ensures rounds { result.rounds ≡ rounds }
+        ensures pause { result.pause ≡ pause }
+        ensures ran { result.ran ≡ 0 }
+    {
+        Work {
+            number,
+            rounds,
+            pause,
+            ran: 0,
+            sum: 0,
+        }
+    }
+
+    /// The number.
+    pub fn number(&self) -> u32
+        ensures { result ≡ self.now.number }
+    {
+        self.number
+    }
+
+    /// How many rounds it has.
+    pub fn rounds(&self) -> u32
+        ensures { result ≡ self.now.rounds }
+    {
+        self.rounds
+    }
+
+    /// How long it sleeps between two rounds.
+    pub fn pause(&self) -> u32
+        ensures { result ≡ self.now.pause }
+    {
+        self.pause
+    }
+
+    /// How many rounds it ran.
+    pub fn ran(&self) -> u32
+        ensures { result ≡ self.now.ran }
+    {
+        self.ran
+    }
+
+    /// The sum of the rounds that it ran.
+    pub fn sum(&self) -> u64
+        ensures { result ≡ self.now.sum }
+    {
+        self.sum
+    }
+
+    /// Whether no round is left.
+    pub fn is_done(&self) -> bool
+        ensures { result ≡ (self.now.ran == self.now.rounds) }
+    {
+        let Work {
+            number: _,
+            rounds,
+            pause: _,
+            ran,
+            sum: _,
+        } = self;
+        ran == rounds
+    }
+
+    /// Runs one round, where one is left.
+    pub fn run(&mut self)
+        requires { self.old.ran < self.old.rounds }
+        ensures number { self.new.number ≡ self.old.number }
+        ensures rounds { self.new.rounds ≡ self.old.rounds }
+        ensures pause { self.new.pause ≡ self.old.pause }
+        ensures ran { self.new.ran ≡ self.old.ran + 1 }
+    {
+        let Work {
+            number,
+            rounds: _,
+            pause: _,
+            ran,
+            sum,
+        } = self;
+        *sum += *number as u64;
+        *ran += 1;
+    }
+}
