@@ -7,7 +7,8 @@ use crate::nodes::{ListNode, make_nodes, sum_numbers};
 use crate::stopwatch::Stopwatch;
 use crate::table::Table;
 use crate::vectors::push;
-use cordyceps::{Item, List};
+use cordyceps_commands::Item;
+use cordyceps_list::list::List;
 use std::alloc::Global;
 use std::time::Clock;
 

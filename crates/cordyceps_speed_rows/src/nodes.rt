@@ -3,8 +3,9 @@ ghost use Rattle.std.specs.Prelude.{◌≡◌, ◌+◌, [], length, IfOk, OnOk};
 
 use crate::fault::Fault;
 use crate::vectors::{push, with_room};
-use cordyceps::list::Links;
-use cordyceps::{Item, Kind, Node};
+use cordyceps_base::list::Links;
+use cordyceps_base::node::{Kind, Node};
+use cordyceps_commands::Item;
 use std::alloc::Global;
 
 /// What goes into a list, and comes out.

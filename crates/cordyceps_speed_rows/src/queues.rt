@@ -8,8 +8,10 @@ use crate::nodes::{make_nodes, sum_numbers};
 use crate::stopwatch::Stopwatch;
 use crate::table::Table;
 use crate::vectors::{push, with_room};
-use cordyceps::mpsc_queue::{Batch, Consumer, Links, MAX_ROOMS, Party};
-use cordyceps::{Item, MpscQueue, Node};
+use cordyceps_base::mpsc_queue::Links;
+use cordyceps_base::node::Node;
+use cordyceps_commands::Item;
+use cordyceps_queue::mpsc_queue::{Batch, Consumer, MAX_ROOMS, MpscQueue, Party};
 use std::alloc::Global;
 use std::time::Clock;
 

@@ -8,8 +8,8 @@ use crate::stacks::StackNode;
 use crate::stopwatch::Stopwatch;
 use crate::table::Table;
 use crate::vectors::{push, with_room};
-use cordyceps::sorted_list::Least;
-use cordyceps::{Item, SortedList};
+use cordyceps_commands::Item;
+use cordyceps_single::sorted_list::{Least, SortedList};
 use std::alloc::Global;
 use std::time::Clock;
 

@@ -12,7 +12,8 @@ use crate::nodes::{ListNode, make_nodes, shuffle, sum_numbers};
 use crate::stopwatch::Stopwatch;
 use crate::table::Table;
 use crate::vectors::{push, with_room};
-use cordyceps::{Item, Spot, StableList};
+use cordyceps_commands::Item;
+use cordyceps_stable::stable_list::{Spot, StableList};
 use std::alloc::Global;
 use std::time::Clock;
 

@@ -7,8 +7,10 @@ use crate::nodes::{make_nodes, move_all, sum_numbers};
 use crate::stopwatch::Stopwatch;
 use crate::table::Table;
 use crate::vectors::{push, with_room};
-use cordyceps::stack::Links;
-use cordyceps::{Item, Node, Stack};
+use cordyceps_base::node::Node;
+use cordyceps_base::stack::Links;
+use cordyceps_commands::Item;
+use cordyceps_single::stack::Stack;
 use std::alloc::Global;
 use std::time::Clock;
 

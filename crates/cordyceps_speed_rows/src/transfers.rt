@@ -8,8 +8,9 @@ use crate::nodes::{make_nodes, sum_numbers};
 use crate::stacks::{StackNode, pop_all};
 use crate::stopwatch::Stopwatch;
 use crate::table::Table;
-use cordyceps::stack::{MAX_ROOMS, Party};
-use cordyceps::{Item, Stack, TransferStack};
+use cordyceps_commands::Item;
+use cordyceps_single::stack::Stack;
+use cordyceps_stack::stack::{MAX_ROOMS, Party, TransferStack};
 use std::alloc::Global;
 use std::time::Clock;
 

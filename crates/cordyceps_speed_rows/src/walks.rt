@@ -7,7 +7,8 @@ use crate::fault::Fault;
 use crate::nodes::{make_nodes, shuffle};
 use crate::stopwatch::Stopwatch;
 use crate::table::Table;
-use cordyceps::{Item, List};
+use cordyceps_commands::Item;
+use cordyceps_list::list::List;
 use std::alloc::Global;
 use std::time::Clock;
 
