@@ -52,6 +52,15 @@ struct Taker<'q> {
 }
 
 impl<'q> Taker<'q> {
+    /// A thread that has taken nothing yet.
+    fn new(alloc: Global, seat: Seated<'q>) -> Taker<'q> {
+        let taken = Taken {
+            numbers: Vec::new(alloc),
+            busy: 0,
+        };
+        Taker { seat, taken }
+    }
+
     /// Takes out by one try, and counts it where it gave an element.
     fn turn(&mut self, out: &AtomicU64) -> Result<(), AllocError> {
         match self.seat.try_take() {
@@ -104,9 +113,10 @@ impl Crowd {
     ) -> Result<Vec<Producer<'q>>, AllocError> {
         let mut producers = Vec::new(alloc);
         for index in 0..self.producers {
+            let row = elements(alloc, index.wrapping_mul(self.each), self.each, drops)?;
             producers.push(Producer {
                 seat: seat.split(self.each as usize),
-                elements: elements(alloc, index.wrapping_mul(self.each), self.each, drops)?,
+                elements: row,
             })?;
         }
         Ok(producers)
@@ -120,13 +130,7 @@ impl Crowd {
     ) -> Result<Vec<Taker<'q>>, AllocError> {
         let mut takers = Vec::new(alloc);
         for _ in 0..self.takers {
-            takers.push(Taker {
-                seat: seat.split(0),
-                taken: Taken {
-                    numbers: Vec::new(alloc),
-                    busy: 0,
-                },
-            })?;
+            takers.push(Taker::new(alloc, seat.split(0)))?;
         }
         Ok(takers)
     }

@@ -78,6 +78,14 @@ fn drain_both<R: Threads + Wait + Abort + Sync>(
     thread::join(rt, work, watch).0
 }
 
+/// The numbers of both, the least first.
+fn sorted(first: Vec<u64>, second: Vec<u64>) -> Numbers {
+    let (mut all, mut more) = (first, second);
+    all.append(&mut more)?;
+    all.sort()?;
+    Ok(all)
+}
+
 /// Compares the numbers of both, the least first, with those that are wanted.
 fn together(
     rt: &impl Abort,
@@ -85,11 +93,7 @@ fn together(
     wanted: &[u64],
 ) -> Result<(), AllocError> {
     let (first, second) = numbers;
-    let mut all = first?;
-    for number in second? {
-        all.push(number)?;
-    }
-    all.sort()?;
+    let all = sorted(first?, second?)?;
     same(rt, all.as_slice(), wanted);
     Ok(())
 }
