@@ -2,9 +2,10 @@
 ghost use Rattle.std.specs.Prelude.{◌≤◌};
 
 use crate::compared::same;
-use crate::items::{Handle, dropped, element, elements, gives, number, pair};
+use crate::items::{dropped, gives, number};
 use crate::seats::{Seated, consumer_of, three_queued};
 use cordyceps_queue::mpsc_queue::{Batch, Consumer, MpscQueue, OwnedConsumer, TryDequeueError};
+use cordyceps_queue_testing::items::{Handle, element, elements, pair};
 use cordyceps_testing::counted::{Counted, Drops};
 use std::alloc::{AllocError, Global};
 use std::process::Abort;

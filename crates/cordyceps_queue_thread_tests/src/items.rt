@@ -1,39 +1,9 @@
-//! Elements of a shared queue, which count how many of them were dropped, and what a queue gives.
+//! The numbers of elements, how many were dropped, and what a queue gives.
 use crate::compared::same;
-use cordyceps_base::node::Node;
-use cordyceps_queue::mpsc_queue::{Batch, Links};
-use cordyceps_testing::counted::{Counted, Drops, counted_node};
-use std::alloc::{AllocError, Global};
+use cordyceps_queue::mpsc_queue::Batch;
+use cordyceps_queue_testing::items::Handle;
+use cordyceps_testing::counted::{Counted, Drops};
 use std::process::Abort;
-
-/// What goes into a queue, and comes out.
-pub type Handle = Node<Counted, Links<Counted>>;
-
-/// An element of this number, with ten times as much as its value.
-pub fn element(alloc: Global, number: u64, drops: &Drops) -> Result<Handle, AllocError> {
-    counted_node(alloc, number, number.wrapping_mul(10), drops)
-}
-
-/// Two elements, of this number and the next.
-pub fn pair(alloc: Global, first: u64, drops: &Drops) -> Result<(Handle, Handle), AllocError> {
-    let one = element(alloc, first, drops)?;
-    let two = element(alloc, first.wrapping_add(1), drops)?;
-    Ok((one, two))
-}
-
-/// So many elements, of this number and the next ones.
-pub fn elements(
-    alloc: Global,
-    first: u64,
-    count: u64,
-    drops: &Drops,
-) -> Result<Vec<Handle>, AllocError> {
-    let mut all = Vec::new(alloc);
-    for index in 0..count {
-        all.push(element(alloc, first.wrapping_add(index), drops)?)?;
-    }
-    Ok(all)
-}
 
 /// The number of an element that was made so. Its value has to be ten times as much.
 pub fn number(rt: &impl Abort, node: &Handle) -> u64 {

@@ -2,11 +2,12 @@
 ghost use Rattle.std.specs.Prelude.{◌≡◌};
 
 use crate::compared::same;
-use crate::items::{dropped, element, has_number, number};
+use crate::items::{dropped, has_number, number};
 use crate::seats::{Seated, consumer_of, consumes, three_queued};
 use cordyceps_base::linked::Linked;
 use cordyceps_base::node::{Node, Refused};
 use cordyceps_queue::mpsc_queue::{Batch, Closed, Links, MpscQueue, TryDequeueError};
+use cordyceps_queue_testing::items::element;
 use cordyceps_testing::counted::{Counted, Drops};
 use cordyceps_testing::nodes::node_of;
 use cordyceps_testing::travels::{sent, shared};

@@ -3,9 +3,10 @@ ghost use Rattle.std.specs.Arc.{arc_value};
 ghost use Rattle.std.specs.Prelude.{◌≡◌};
 
 use crate::compared::same;
-use crate::items::{Handle, dropped, element, elements, number};
+use crate::items::{dropped, number};
 use crate::seats::{Seated, consumer_of, found, put, takes};
 use cordyceps_queue::mpsc_queue::{Consumer, MpscQueue, OwnedConsumer, Party, TryDequeueError};
+use cordyceps_queue_testing::items::{Handle, element, elements};
 use cordyceps_testing::counted::{Counted, Drops};
 use std::alloc::{AllocError, Global};
 use std::process::Abort;

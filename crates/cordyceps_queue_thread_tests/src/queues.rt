@@ -3,9 +3,10 @@ ghost use Rattle.std.specs.Prelude.{◌≡◌};
 ghost use Rattle.cordyceps_shared.specs.Shares.{whole};
 
 use crate::compared::same;
-use crate::items::{Handle, dropped, element, elements, gives, has_number, pair};
+use crate::items::{dropped, gives, has_number};
 use crate::seats::{Seated, consumes, put, takes, with_stub};
 use cordyceps_queue::mpsc_queue::{Closed, Consumer, MpscQueue, Party, TryDequeueError};
+use cordyceps_queue_testing::items::{Handle, element, elements, pair};
 use cordyceps_testing::counted::{Counted, Drops};
 use std::alloc::AllocError;
 use std::process::Abort;

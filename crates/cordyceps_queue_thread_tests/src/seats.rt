@@ -3,9 +3,10 @@ ghost use Rattle.std.specs.Prelude.{◌≡◌, ◌≤◌, IfOk};
 ghost use Rattle.cordyceps_shared.specs.Shares.{whole};
 
 use crate::compared::same;
-use crate::items::{Handle, element, number, pair};
+use crate::items::number;
 use cordyceps_base::node::Refused;
 use cordyceps_queue::mpsc_queue::{Consumer, MAX_ROOMS, MpscQueue, Party, TryDequeueError};
+use cordyceps_queue_testing::items::{Handle, element, pair};
 use cordyceps_testing::counted::{Counted, Drops};
 use std::alloc::{AllocError, Global};
 use std::process::Abort;
