@@ -1,7 +1,7 @@
 //! The order in which lists drop what they hold.
 ghost use Rattle.std.specs.Prelude.{◌≡◌};
 
-use crate::compared::same;
+use crate::compared::{has_place, same};
 use cordyceps_base::linked::Linked;
 use cordyceps_base::list::Links;
 use cordyceps_base::node::Node;
@@ -57,7 +57,7 @@ fn six_turns(
     for turn in 0..6u64 {
         let count = Arc::try_clone(count)?;
         let node = node_of(alloc, turn, Turn { turn, count })?;
-        assert!(rt; list.len() < usize::MAX);
+        has_place(rt, list.len());
         list.push_back(node);
     }
     Ok(list)

@@ -3,7 +3,7 @@ ghost use Rattle.std.specs.Prelude.{◌<◌, IfOk};
 ghost use Rattle.std.specs.List.{All};
 ghost use Rattle.cordyceps_base.specs.Element.{values};
 
-use crate::compared::same;
+use crate::compared::{at_most, same};
 use crate::items::{comes_out, holds, list_of, shows};
 use cordyceps_list::iter::Iter;
 use cordyceps_list::list::List;
@@ -107,7 +107,7 @@ fn keeps(rt: &impl Abort, list: &List<Item>, removed: &[Option<u64>]) {
     for v in [1u64, 2, 3, 4, 5, 6].as_slice() {
         keeps_next(rt, &mut left, removed, *v);
     }
-    assert!(rt; left.next().is_none());
+    same(rt, left.next().is_none(), true);
 }
 
 /// Calls `next` so often, drops the filter, and asserts what was asked, what was removed and what was kept.
@@ -137,9 +137,9 @@ fn drops_after(
         (calls, Some(&asked)),
         (calls, filtering.asked.get(calls)),
     );
-    assert!(rt; asks.in_turn.get());
+    same(rt, asks.in_turn.get(), true);
     same(rt, Rc::strong_count(&asks), 1);
-    assert!(rt; calls <= 7);
+    at_most(rt, calls, 7);
     keeps(rt, &list, &filtering.removed[..calls]);
     Ok(())
 }

@@ -1,6 +1,6 @@
 //! Lists of items whose number and value are the same.
 
-use crate::compared::same;
+use crate::compared::{has_place, same};
 use cordyceps_list::list::List;
 use cordyceps_testing::items::{Handle, Item, plain, value};
 use cordyceps_testing::nodes::number;
@@ -25,7 +25,7 @@ pub fn fill(
     items: &[u64],
 ) -> Result<(), AllocError> {
     for v in items {
-        assert!(rt; list.len() < usize::MAX);
+        has_place(rt, list.len());
         list.push_back(plain(alloc, *v)?);
     }
     Ok(())
@@ -45,5 +45,5 @@ pub fn holds(rt: &impl Abort, list: &List<Item>, items: &[u64]) {
     for item in list.iter() {
         same(rt, Some(item.value), left.next().copied());
     }
-    assert!(rt; left.next().is_none());
+    same(rt, left.next().is_none(), true);
 }

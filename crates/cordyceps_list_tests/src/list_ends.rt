@@ -1,5 +1,5 @@
 //! The ends of lists, and drops.
-use crate::compared::same;
+use crate::compared::{has_place, same};
 use cordyceps_list::list::List;
 use cordyceps_testing::counted::{Counted, Drops, counted_node};
 use cordyceps_testing::nodes::number;
@@ -16,7 +16,7 @@ fn push_front(
     drops: &Drops,
 ) -> Result<(), AllocError> {
     for id in ids {
-        assert!(rt; list.len() < usize::MAX);
+        has_place(rt, list.len());
         list.push_front(counted_node(alloc, *id, *id, drops)?);
     }
     Ok(())
@@ -30,7 +30,7 @@ fn one_to_three(
 ) -> Result<List<Counted>, AllocError> {
     let mut list: List<Counted> = List::default();
     for id in 1..4u64 {
-        assert!(rt; list.len() < usize::MAX);
+        has_place(rt, list.len());
         list.push_back(counted_node(alloc, id, id, drops)?);
     }
     Ok(list)
@@ -48,7 +48,7 @@ fn gives(rt: &impl Abort, list: &mut List<Counted>, wanted: &[u64]) {
 fn is_a_stack_at_the_front(rt: HostRuntime) -> Result<(), Fail> {
     let drops = Drops::new(rt.alloc())?;
     let mut list: List<Counted> = List::new();
-    assert!(rt; list.is_empty());
+    same(&rt, list.is_empty(), true);
     push_front(&rt, rt.alloc(), &mut list, &[5, 7, 9], &drops)?;
     same(&rt, list.len(), 3);
     gives(&rt, &mut list, &[9, 7, 5]);
@@ -140,14 +140,16 @@ fn counts_ends(
     same(rt, drops.counts(), [1, 0, 2]);
     same(rt, number(list.pop_back()), Some(3));
     same(rt, drops.counts(), [1, 1, 2]);
-    assert!(rt; list.front().is_some() && list.back().is_some());
+    let ends = (list.front().is_some(), list.back().is_some());
+    same(rt, ends, (true, true));
     Ok(())
 }
 
 #[test]
 fn lends_its_ends(rt: HostRuntime) -> Result<(), Fail> {
     let mut empty: List<Counted> = List::new();
-    assert!(rt; empty.front_mut().is_none() && empty.back_mut().is_none());
+    let ends = (empty.front_mut().is_none(), empty.back_mut().is_none());
+    same(&rt, ends, (true, true));
     let drops = EndDrops::none(rt.alloc())?;
     let mut list = one_to_three(&rt, rt.alloc(), &drops.other)?;
     counts_ends(&rt, &mut list, &drops)?;

@@ -1,5 +1,5 @@
 //! Whole lists: iterators, splits, appends, removals and filters.
-use crate::compared::same;
+use crate::compared::{at_most, has_place, same};
 use crate::items::{comes_out, holds, list_of, shows};
 use cordyceps_base::steps::Steps;
 use cordyceps_list::list::List;
@@ -37,7 +37,7 @@ fn raises_forth(rt: &impl Abort, list: &mut List<Item>) {
             item.value = item.value.wrapping_add(1);
         }
     }
-    assert!(rt; left.next().is_none());
+    same(rt, left.next().is_none(), true);
 }
 
 /// Adds one to each value of 2, 3 and 4, from the back.
@@ -49,7 +49,7 @@ fn raises_back(rt: &impl Abort, list: &mut List<Item>) {
             item.value = item.value.wrapping_add(1);
         }
     }
-    assert!(rt; left.next_back().is_none());
+    same(rt, left.next_back().is_none(), true);
 }
 
 #[test]
@@ -80,7 +80,7 @@ fn splits_and_appends(
     moves: u64,
 ) -> Result<(), AllocError> {
     let all = [1u64, 2, 3, 4, 5];
-    assert!(rt; at <= all.len());
+    at_most(rt, at, all.len());
     let mut list = list_of(rt, alloc, &all)?;
     let mut steps = Steps::new();
     assert!(rt; list.len() == 5);
@@ -88,9 +88,10 @@ fn splits_and_appends(
         same(rt, steps.count(), moves);
         holds(rt, &list, &all[..at]);
         holds(rt, &rest, &all[at..]);
-        assert!(rt; list.len() <= 5 && rest.len() <= 5);
+        at_most(rt, list.len(), 5);
+        at_most(rt, rest.len(), 5);
         list.append(&mut rest);
-        assert!(rt; rest.is_empty());
+        same(rt, rest.is_empty(), true);
         holds(rt, &list, &all);
     } else {
         assert!(rt; false, "at {at}");
@@ -100,7 +101,7 @@ fn splits_and_appends(
 
 /// Splits a list of the items 1 to 5 past its end, at its end, before its last item, and before its first.
 fn splits_at_its_ends(rt: &impl Abort, list: &mut List<Item>) {
-    assert!(rt; list.try_split_off(6).is_none());
+    same(rt, list.try_split_off(6).is_none(), true);
     holds(rt, list, &[1, 2, 3, 4, 5]);
     for (at, split, kept) in [
         (5usize, [].as_slice(), [1u64, 2, 3, 4, 5].as_slice()),
@@ -141,7 +142,7 @@ fn push(
     id: u64,
     value: u64,
 ) -> Result<(), AllocError> {
-    assert!(rt; list.len() < usize::MAX);
+    has_place(rt, list.len());
     list.push_back(node_of(alloc, id, Item { value })?);
     Ok(())
 }
@@ -154,7 +155,7 @@ fn removes_by_number(rt: HostRuntime) -> Result<(), Fail> {
     push(&rt, rt.alloc(), &mut list, 7, 71)?;
     same(&rt, held(list.remove(7)), Some(70));
     same(&rt, held(list.remove(7)), Some(71));
-    assert!(rt; list.remove(7).is_none());
+    same(&rt, held(list.remove(7)), None);
     holds(&rt, &list, &[50]);
     Ok(())
 }
@@ -167,10 +168,12 @@ fn appends(
     other: &mut List<Item>,
     both: &[u64],
 ) -> Result<(), AllocError> {
-    assert!(rt; list.len() <= 2 && other.len() <= 2);
+    at_most(rt, list.len(), 2);
+    at_most(rt, other.len(), 2);
     list.append(other);
     holds(rt, list, both);
-    assert!(rt; other.is_empty() && other.len() < usize::MAX);
+    same(rt, other.is_empty(), true);
+    has_place(rt, other.len());
     other.push_front(plain(alloc, 9)?);
     holds(rt, other, &[9]);
     Ok(())
@@ -204,7 +207,7 @@ fn a_filter_dropped_early_keeps_the_rest(rt: HostRuntime) -> Result<(), Fail> {
         comes_out(&rt, all.next(), want);
     }
     drop(all);
-    assert!(rt; list.is_empty());
+    same(&rt, list.is_empty(), true);
     Ok(())
 }
 
@@ -214,8 +217,8 @@ fn restores_what_was_split_off(rt: HostRuntime) -> Result<(), Fail> {
     for at in 0..6usize {
         let mut list = list_of(&rt, rt.alloc(), &all)?;
         if let Some(rest) = list.try_split_off(at) {
-            assert!(rt; list.len() <= 5);
-            assert!(rt; rest.len() <= 5);
+            at_most(&rt, list.len(), 5);
+            at_most(&rt, rest.len(), 5);
             list.extend(rest.into_iter());
         }
         holds(&rt, &list, &all);
