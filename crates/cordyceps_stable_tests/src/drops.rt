@@ -1,5 +1,5 @@
 //! How often a stable list drops what it holds, and what came out of it.
-use crate::compared::same;
+use crate::compared::{at_most, has_place, same};
 use crate::items::spot_at;
 use cordyceps_stable::stable_list::StableList;
 use cordyceps_testing::counted::{Counted, Drops, counted_node};
@@ -16,7 +16,7 @@ fn counted(
 ) -> Result<StableList<Counted>, AllocError> {
     let mut list: StableList<Counted> = StableList::new();
     for before in 0..many {
-        assert!(rt; list.len() < usize::MAX);
+        has_place(rt, list.len());
         let id = before.wrapping_add(1);
         list.push_back(counted_node(alloc, id, id, drops)?);
     }
@@ -33,7 +33,7 @@ fn drops_one(
 ) {
     let before = drops.count();
     let spot = spot_at(list, moves);
-    assert!(rt; spot.is_some());
+    same(rt, spot.is_some(), true);
     if let Some(spot) = spot {
         let node = list.remove(spot);
         same(rt, (node.id(), drops.count()), (wanted, before));
@@ -62,11 +62,13 @@ fn moved_elements_are_dropped_once(rt: HostRuntime) -> Result<(), Fail> {
     let mut list = counted(&rt, rt.alloc(), 2, &drops)?;
     let mut other = counted(&rt, rt.alloc(), 3, &drops)?;
     let last = other.back();
-    assert!(rt; last.is_some());
+    same(&rt, last.is_some(), true);
     if let Some(spot) = last {
         other.move_to_front(spot);
     }
-    assert!(rt; list.len() == 2 && other.len() == 3);
+    same(&rt, (list.len(), other.len()), (2, 3));
+    at_most(&rt, list.len(), 2);
+    at_most(&rt, other.len(), 3);
     list.append(&mut other);
     drop(other);
     same(&rt, drops.count(), 0);

@@ -2,7 +2,7 @@
 ghost use Rattle.std.specs.Prelude.{◌≡◌, IfSome};
 ghost use Rattle.cordyceps_base.specs.BySpot.{HasSpot};
 
-use crate::compared::same;
+use crate::compared::{has_place, same};
 use cordyceps_base::linked::Linked;
 use cordyceps_list::list::Links;
 use cordyceps_stable::stable_list::{Spot, StableList};
@@ -18,7 +18,7 @@ pub fn list_of(
 ) -> Result<StableList<Item>, AllocError> {
     let mut list = StableList::new();
     for v in items {
-        assert!(rt; list.len() < usize::MAX);
+        has_place(rt, list.len());
         list.push_back(plain(alloc, *v)?);
     }
     Ok(list)
@@ -32,7 +32,7 @@ pub fn holds(rt: &impl Abort, list: &StableList<Item>, items: &[u64]) {
     for item in list.iter() {
         same(rt, Some(item.value), left.next().copied());
     }
-    assert!(rt; left.next().is_none());
+    same(rt, left.next().is_none(), true);
 }
 
 /// The spot that is so many moves behind the first, if there is one.

@@ -2,7 +2,7 @@
 ghost use Rattle.std.specs.Prelude.{IfSome};
 ghost use Rattle.cordyceps_base.specs.BySpot.{HasSpot};
 
-use crate::compared::same;
+use crate::compared::{has_place, same};
 use crate::items::{around, spot_at};
 use cordyceps_stable::stable_list::{Spot, StableList};
 use cordyceps_testing::draws::Draws;
@@ -61,7 +61,7 @@ impl Both {
         ensures { IfSome result (λ drawn. HasSpot self.now.list drawn.1) }
     {
         let len = self.queue.len();
-        assert!(rt; len < usize::MAX);
+        has_place(rt, len);
         let at = draws.place(len);
         let spot = spot_at(&self.list, at);
         same(rt, spot.is_some(), at < len);
@@ -93,12 +93,12 @@ impl Both {
         for item in self.list.iter() {
             same(rt, Some(item.value), second(forth.next()));
         }
-        assert!(rt; forth.next().is_none());
+        same(rt, forth.next().is_none(), true);
         let mut back = self.queue.iter();
         for item in self.list.iter().rev() {
             same(rt, Some(item.value), second(back.next_back()));
         }
-        assert!(rt; back.next().is_none());
+        same(rt, back.next().is_none(), true);
     }
 
     fn push_front(
@@ -108,7 +108,7 @@ impl Both {
         draws: &mut Draws,
     ) -> Result<(), AllocError> {
         let (node, pair) = self.make(alloc, draws)?;
-        assert!(rt; self.list.len() < usize::MAX);
+        has_place(rt, self.list.len());
         self.queue.push_front(pair)?;
         let spot = self.list.push_front(node);
         self.lies(rt, spot, 0);
@@ -122,7 +122,7 @@ impl Both {
         draws: &mut Draws,
     ) -> Result<(), AllocError> {
         let (node, pair) = self.make(alloc, draws)?;
-        assert!(rt; self.list.len() < usize::MAX);
+        has_place(rt, self.list.len());
         let last = self.queue.len();
         self.queue.push_back(pair)?;
         let spot = self.list.push_back(node);
@@ -227,7 +227,7 @@ impl Both {
             }
         }
         self.agree(rt);
-        assert!(rt; self.list.is_empty());
+        same(rt, self.list.is_empty(), true);
     }
 
     /// Does one drawn operation on both.

@@ -22,6 +22,7 @@ fn an_empty_list_has_no_ends(rt: HostRuntime) -> Result<(), Fail> {
 }
 
 #[test]
+#[tactic(auto, using(crate::proofs::Reached::last_has))]
 fn pushes_answer_their_spots(rt: HostRuntime) -> Result<(), Fail> {
     let mut list: StableList<Item> = StableList::new();
     let second = list.push_back(plain(rt.alloc(), 2)?);
@@ -127,7 +128,7 @@ fn removes(
 ) -> Result<(), AllocError> {
     let mut list = list_of(rt, alloc, all)?;
     let spot = spot_at(&list, moves);
-    assert!(rt; spot.is_some());
+    same(rt, spot.is_some(), true);
     if let Some(spot) = spot {
         same(rt, list.remove(spot).id(), wanted);
         holds(rt, &list, left);
@@ -144,7 +145,7 @@ fn removes_at_a_spot(rt: HostRuntime) -> Result<(), Fail> {
     removes(&rt, rt.alloc(), &all, 3, 4, &[1, 2, 3])?;
     removes(&rt, rt.alloc(), &[7], 0, 7, &[])?;
     let list = list_of(&rt, rt.alloc(), &all)?;
-    assert!(rt; spot_at(&list, 4).is_none());
+    same(&rt, spot_at(&list, 4).is_none(), true);
     Ok(())
 }
 
@@ -152,7 +153,7 @@ fn removes_at_a_spot(rt: HostRuntime) -> Result<(), Fail> {
 fn writes(rt: &impl Abort, alloc: Global, moves: usize, all: &[u64]) -> Result<(), AllocError> {
     let mut list = list_of(rt, alloc, &[1, 2, 3])?;
     let spot = spot_at(&list, moves);
-    assert!(rt; spot.is_some());
+    same(rt, spot.is_some(), true);
     if let Some(spot) = spot {
         list.get_mut(spot).value = 9;
         holds(rt, &list, all);
@@ -261,7 +262,7 @@ fn comes_from_a_list_and_becomes_one(rt: HostRuntime) -> Result<(), Fail> {
     let mut stable = StableList::from_list(list);
     holds(&rt, &stable, &[1, 2]);
     let spot = stable.back();
-    assert!(rt; spot.is_some());
+    same(&rt, spot.is_some(), true);
     if let Some(spot) = spot {
         stable.move_to_front(spot);
     }

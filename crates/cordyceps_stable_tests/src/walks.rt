@@ -15,7 +15,7 @@ fn reads_forth(rt: &impl Abort, list: &StableList<Item>, wanted: &[u64]) {
         same(rt, list.get(spot).value, *want);
         left = list.next(spot);
     }
-    assert!(rt; left.is_none());
+    same(rt, left.is_none(), true);
 }
 
 /// Asserts what a walk from the last spot to the first reads.
@@ -27,7 +27,7 @@ fn reads_back(rt: &impl Abort, list: &StableList<Item>, wanted: &[u64]) {
         same(rt, list.get(spot).value, *want);
         left = list.prev(spot);
     }
-    assert!(rt; left.is_none());
+    same(rt, left.is_none(), true);
 }
 
 #[test]
