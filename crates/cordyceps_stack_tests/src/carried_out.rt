@@ -1,5 +1,6 @@
 //! Lists of commands, and where the blocks are afterwards.
 use crate::blocks::{dropped, gives, pair};
+use crate::compared::at_most;
 use cordyceps_testing::counted::{Counted, Drops};
 use freelist::Stack;
 use freelist::laws::{Command, Turn, run_both};
@@ -25,7 +26,7 @@ fn ends_with(
     hand: &[u64],
     shared: &[u64],
 ) -> Result<(), AllocError> {
-    assert!(rt; rooms <= 9);
+    at_most(rt, rooms, 9);
     let drops = Drops::new(alloc)?;
     let hands = (two_blocks(alloc, &drops)?, Stack::new());
     let mut turns = Vec::new(alloc);

@@ -49,7 +49,7 @@ fn pops<O: Order<Number>>(rt: &impl Abort, list: &mut SortedList<Number, O>, wan
     for want in wanted {
         same(rt, number(list.pop_front()), Some(*want));
     }
-    assert!(rt; list.pop_front().is_none());
+    same(rt, list.pop_front().is_none(), true);
 }
 
 #[test]

@@ -14,10 +14,18 @@ fn pushes_three(
     stack: &mut Stack<Counted>,
     drops: &Drops,
 ) -> Result<(), AllocError> {
-    assert!(rt; stack.is_empty());
-    assert!(rt; stack.push_was_empty(counted_node(alloc, 1, 0, drops)?));
+    same(rt, stack.is_empty(), true);
+    same(
+        rt,
+        stack.push_was_empty(counted_node(alloc, 1, 0, drops)?),
+        true,
+    );
     stack.push(counted_node(alloc, 2, 0, drops)?);
-    assert!(rt; !stack.push_was_empty(counted_node(alloc, 3, 0, drops)?));
+    same(
+        rt,
+        stack.push_was_empty(counted_node(alloc, 3, 0, drops)?),
+        false,
+    );
     Ok(())
 }
 
@@ -49,12 +57,12 @@ fn takes_all_while_more_comes(rt: HostRuntime) -> Result<(), Fail> {
     let mut stack: Stack<Counted> = Stack::default();
     pushes_three(&rt, rt.alloc(), &mut stack, &drops)?;
     let taken = stack.take_all();
-    assert!(rt; stack.is_empty());
+    same(&rt, stack.is_empty(), true);
     push_again(rt.alloc(), &mut stack, taken, &drops)?;
     same(&rt, drops.count(), 3);
     let mut taken = stack.take_all();
     gives(&rt, &mut taken, &[11, 12, 13]);
-    assert!(rt; stack.pop().is_none());
+    same(&rt, stack.pop().is_none(), true);
     same(&rt, drops.count(), 6);
     Ok(())
 }
@@ -95,7 +103,7 @@ fn gives_and_pushes(
         same(rt, number(taken.next()), Some(*id));
         stack.push(counted_node(alloc, id.wrapping_add(10), 0, drops)?);
     }
-    assert!(rt; taken.next().is_none());
+    same(rt, taken.next().is_none(), true);
     Ok(())
 }
 
@@ -117,6 +125,6 @@ fn unsync(rt: HostRuntime) -> Result<(), Fail> {
     let mut taken = stack.take_all();
     gives_and_pushes(&rt, rt.alloc(), &mut stack, &mut taken, &drops)?;
     walks(&rt, stack.take_all());
-    assert!(rt; stack.is_empty());
+    same(&rt, stack.is_empty(), true);
     Ok(())
 }

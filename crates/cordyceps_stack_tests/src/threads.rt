@@ -1,9 +1,11 @@
 //! Threads that put blocks back, while their owner gets them.
+ghost use Rattle.std.specs.Prelude.{◌≡◌};
+
 use crate::blocks::{blocks, dropped, each_once};
 use crate::users::{Remote, get_all};
 use cordyceps_testing::counted::{Counted, Drops};
-use freelist::{FreeList, Local, Stack};
-use std::alloc::AllocError;
+use freelist::{FreeList, Local, Party, Stack};
+use std::alloc::{AllocError, Global};
 use std::process::Abort;
 use std::thread;
 use std::thread::Threads;
@@ -28,16 +30,37 @@ fn put_and_get<R: Threads + Abort + Sync>(
     thread::join(rt, put, get).1
 }
 
+/// The blocks with numbers below 64, in two halves.
+fn two_halves(
+    alloc: Global,
+    drops: &Drops,
+) -> Result<(Stack<Counted>, Stack<Counted>), AllocError> {
+    let low = blocks(alloc, 0, 32, drops)?;
+    let high = blocks(alloc, 32, 64, drops)?;
+    Ok((low, high))
+}
+
+/// What comes back to the owner, where two others have the 64 rooms and put a half back each.
+fn come_back<R: Threads + Abort + Sync>(
+    rt: &R,
+    list: &FreeList<Counted>,
+    mut party: Party<Counted>,
+    halves: (Stack<Counted>, Stack<Counted>),
+) -> Stack<Counted>
+    requires { (party.table ≡ list.now) × (party.rooms ≡ 64) }
+{
+    let first = Remote::at(list, list.split(&mut party, 32));
+    let second = Remote::at(list, list.split(&mut party, 32));
+    put_and_get(rt, list.local(party), (first, second), halves, 64)
+}
+
 #[test]
 fn what_threads_put_back_comes_once(rt: HostRuntime) -> Result<(), AllocError> {
     for _ in 0..ROUNDS {
         let drops = Drops::new(rt.alloc())?;
-        let low = blocks(rt.alloc(), 0, 32, &drops)?;
-        let high = blocks(rt.alloc(), 32, 64, &drops)?;
-        let (list, mut party) = FreeList::new(rt.alloc(), 64)?;
-        let first = Remote::at(&list, list.split(&mut party, 32));
-        let second = Remote::at(&list, list.split(&mut party, 32));
-        let all = put_and_get(&rt, list.local(party), (first, second), (low, high), 64);
+        let halves = two_halves(rt.alloc(), &drops)?;
+        let (list, party) = FreeList::new(rt.alloc(), 64)?;
+        let all = come_back(&rt, &list, party, halves);
         dropped(&rt, &drops, 0);
         each_once(&rt, rt.alloc(), all, 64)?;
         dropped(&rt, &drops, 64);

@@ -2,7 +2,7 @@
 ghost use Rattle.std.specs.Prelude.{◌≡◌};
 
 use crate::blocks::Handle;
-use crate::compared::same;
+use crate::compared::{has_room, same};
 use cordyceps_testing::counted::Counted;
 use cordyceps_testing::nodes::number;
 use freelist::{FreeList, Local, Party, Stack};
@@ -25,7 +25,7 @@ pub fn puts(
     ensures table { party.new.table ≡ list.now }
     ensures share { party.new.share ≡ party.old.share }
 {
-    assert!(rt; party.rooms() > 0);
+    has_room(rt, party.rooms());
     match list.put_remote(party, handle) {
         Ok(was_empty) => same(rt, was_empty, first),
         Err(_) => panic!(rt; "nobody else puts a block back or takes"),
@@ -90,7 +90,7 @@ impl<'f> Remote<'f> {
     fn put(&mut self, rt: &impl Abort, handle: Handle) {
         let mut block = handle;
         for _ in 0..TURNS {
-            assert!(rt; self.party.rooms() > 0);
+            has_room(rt, self.party.rooms());
             match self.list.put_remote(&mut self.party, block) {
                 Ok(_) => return,
                 Err(back) => block = back,
