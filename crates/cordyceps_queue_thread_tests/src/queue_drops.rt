@@ -230,7 +230,7 @@ impl Linked<Links<Plain>> for Plain {
 
 #[test]
 fn a_batch_is_sent_and_shared_where_its_values_are(rt: HostRuntime) -> Result<(), AllocError> {
-    let (queue, mut party) = MpscQueue::new(rt.alloc(), 1)?;
+    let (queue, mut party) = MpscQueue::<Plain>::new(rt.alloc(), 1)?;
     let node = node_of::<Plain, Links<Plain>>(rt.alloc(), 1, Plain { value: 7 })?;
     queue.enqueue(&mut party, node);
     let Closed { elements, stub: _ } = queue.close(party);
