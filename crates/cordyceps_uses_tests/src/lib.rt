@@ -12,6 +12,8 @@ mod pools;
 #[cfg(test)]
 mod run_queues;
 #[cfg(test)]
+mod schedules;
+#[cfg(test)]
 mod task_ways;
 #[cfg(test)]
 mod timer_orders;
