@@ -43,7 +43,7 @@ fn count(tasks: Stack<Task>) -> (u64, u64) {
     let (mut count, mut rounds) = (0u64, 0u64);
     for task in tasks {
         count = count.wrapping_add(1);
-        rounds = rounds.wrapping_add(task.get().payload.ran() as u64);
+        rounds = rounds.wrapping_add(task.get().payload.ran as u64);
     }
     (count, rounds)
 }
@@ -80,10 +80,7 @@ fn main(rt: HostRuntime) -> ExitCode {
         return out_of_memory(&rt);
     };
     let submitted = tasks.len();
-    let followed = Followed {
-        number: 0,
-        rounds: ROUNDS,
-    };
+    let followed = Followed::new(0, ROUNDS);
     let Ok(outcome) = run(&rt, rt.alloc(), tasks, ROOMS, TURNS, followed) else {
         return out_of_memory(&rt);
     };

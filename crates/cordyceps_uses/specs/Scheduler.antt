@@ -5,6 +5,11 @@ use Rattle.cordyceps.specs.Parties.Counts.{tally}
 use Rattle.cordyceps_uses.specs.declared.timers.Timer.{Timer}
 use Rattle.cordyceps_uses.specs.declared.scheduler.work.Work.{Work}
 
+-- which task is followed: one with this number, and so many rounds
+pub record Name : Type 0 where
+  pub number : ℕ
+  pub rounds : ℕ
+
 -- one for a task with the number n and r rounds, and none for another
 abbrev pub one_of : ℕ → ℕ → Work → ℕ
 one_of n r w = cond (nat_eq w.number n && nat_eq w.rounds r) 1 0

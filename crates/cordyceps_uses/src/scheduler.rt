@@ -347,7 +347,7 @@ fn run_followed<L: Follow + Sync, R: Threads + Wait + Sync>(
 /// Runs tasks on four threads: one sends them to a dispatcher, and again when they are due after a sleep, the
 /// dispatcher hands them to two workers, and these run a round of each, until all are done. Each task is in one place in
 /// the end: whichever is followed, it is as often among those that sleep, are on their way, wait or are done as it is
-/// among those that were given. Those that are done ran all their rounds. Nothing that runs depends on which is followed.
+/// among those that were given. Those that are done ran all their rounds. Which task is followed only `holding` can see.
 ///
 /// Each thread ends when all tasks are done, or after so many turns; the submitter also when it has no room left in the
 /// queue. The queue has so many rooms, at most `MAX_ROOMS`, and a task needs one for each of its rounds.

@@ -16,12 +16,6 @@ use std::thread::Threads;
 /// How often the threads look for something to do, at most.
 const TURNS: u64 = 1_000_000_000;
 
-/// The task that the contract follows.
-const FOLLOWED: Followed = Followed {
-    number: 1,
-    rounds: 5,
-};
-
 /// Makes a task, and asks again where memory was refused.
 fn task(
     alloc: Global,
@@ -74,9 +68,9 @@ fn all_done(done: u64) -> Counts {
 fn note(counts: &mut Counts, seen: &mut [bool], done: Stack<Task>, rounds: u32) {
     for task in done {
         let work = &task.get().payload;
-        let number = work.number();
+        let number = work.number;
         let sum = (number as u64).wrapping_mul(rounds as u64);
-        let is_right = work.ran() == rounds && work.sum() == sum;
+        let is_right = work.ran == rounds && work.sum == sum;
         counts.done = counts.done.wrapping_add(1);
         match seen.get_mut(number as usize) {
             Some(seen) if is_right && !*seen => *seen = true,
@@ -121,11 +115,18 @@ fn eight<R: Threads + Wait + Sync>(
 ) -> Result<Counts, AllocError>
     requires { (8 ≤ rooms) × (rooms ≤ MAX_ROOMS) }
 {
-    let again = match run(rt, alloc, tasks(alloc, 8, 3, 4)?, rooms, turns, FOLLOWED) {
+    let again = match run(
+        rt,
+        alloc,
+        tasks(alloc, 8, 3, 4)?,
+        rooms,
+        turns,
+        Followed::new(1, 5),
+    ) {
         Ok(outcome) => return Ok(count(&mut [false; 8], outcome, 3)),
         Err(back) => back,
     };
-    match run(rt, alloc, again, rooms, turns, FOLLOWED) {
+    match run(rt, alloc, again, rooms, turns, Followed::new(1, 5)) {
         Ok(outcome) => Ok(count(&mut [false; 8], outcome, 3)),
         Err(_) => Err(AllocError),
     }
@@ -136,7 +137,7 @@ fn each_task_is_done_once(rt: HostRuntime) -> Result<(), AllocError> {
     let alloc = rt.alloc();
     let tasks = tasks(alloc, 10_000, 5, 1)?;
     let mut seen = Vec::from_elem(alloc, false, 10_000)?;
-    let Ok(outcome) = run(&rt, alloc, tasks, 50_000, TURNS, FOLLOWED) else {
+    let Ok(outcome) = run(&rt, alloc, tasks, 50_000, TURNS, Followed::new(1, 5)) else {
         return Err(AllocError);
     };
     same(&rt, count(&mut seen, outcome, 5), all_done(10_000));

@@ -3,7 +3,7 @@ ghost use Rattle.std.specs.Prelude.{◌≡◌, ℕ, ◌+◌, ◌≤◌};
 ghost use Rattle.cordyceps_uses.specs.Scheduler.{one_of};
 
 use crate::scheduler::work::Work;
-use std::marker::Brand;
+use std::marker::{Brand, Model};
 use std::sync::ledger::{Book, Ledger, Share};
 
 /// The task that a ledger follows.
@@ -21,21 +21,38 @@ impl Follow for Brand {
     ghost rounds = { 0 };
 }
 
-/// The task that is followed: one with this number, and so many rounds.
+/// The task that is followed: one with this number, and so many rounds. Only this module can look at it, so nothing
+/// else that runs depends on it.
 #[derive(Clone, Copy)]
 pub struct Followed {
-    /// Its number.
-    pub number: u32,
-    /// How many rounds it has.
-    pub rounds: u32,
+    number: u32,
+    rounds: u32,
+}
+
+impl Model for Followed {
+    ghost use Rattle.cordyceps_uses.specs.Scheduler.{Name};
+
+    ghost Value = { Name };
+
+    ghost view = { λ f. record { number = f.number; rounds = f.rounds } };
+
+    ghost inverse = { λ n. record { number = n.number; rounds = n.rounds } };
 }
 
 impl Followed {
+    /// The task with this number and so many rounds.
+    pub fn new(number: u32, rounds: u32) -> Followed
+        ensures number { result.number ≡ number }
+        ensures rounds { result.rounds ≡ rounds }
+    {
+        Followed { number, rounds }
+    }
+
     /// One for the work of a task that is followed, and none for that of another.
-    pub fn count(self, work: &Work) -> u64
+    fn count(self, work: &Work) -> u64
         ensures { result ≡ one_of self.number self.rounds work.now }
     {
-        if work.number() == self.number && work.rounds() == self.rounds {
+        if work.number == self.number && work.rounds == self.rounds {
             1
         } else {
             0
@@ -46,8 +63,8 @@ impl Followed {
 /// How often the followed task is in one place, or in the hands of one thread. It is one part of the ledger.
 #[derive(Drop)]
 pub struct Holding<L: Follow> {
-    followed: Followed,
-    share: Share<L>,
+    pub followed: Followed,
+    pub share: Share<L>,
     ghost part: { share.parts ≡ 1 },
     ghost number: { followed.number ≡ L.number },
     ghost rounds: { followed.rounds ≡ L.rounds },

@@ -14,9 +14,9 @@ pub type Task = Timer<Work>;
 /// Tasks that sleep, the earliest deadline first, and the time.
 #[derive(Drop)]
 pub struct Sleepers<L: Follow> {
-    time: u64,
-    timers: Timers<Work>,
-    holding: Holding<L>,
+    pub time: u64,
+    pub timers: Timers<Work>,
+    pub holding: Holding<L>,
     ghost counted: { holding.share.amount ≡ times L.number L.rounds (asleep timers) },
 }
 
@@ -41,7 +41,7 @@ impl<L: Follow> Sleepers<L> {
     {
         let mut task = task;
         mine.give(&mut self.holding, &task.get().payload);
-        let pause = task.get().payload.pause() as u64;
+        let pause = task.get().payload.pause as u64;
         task.get_mut().deadline = self.time.saturating_add(pause);
         self.timers.restart(task);
     }
@@ -77,8 +77,8 @@ impl<L: Follow> Sleepers<L> {
 /// Tasks that wait for a worker, in the order in which they came.
 #[derive(Drop)]
 pub struct Runnable<L: Follow> {
-    tasks: List<Task>,
-    holding: Holding<L>,
+    pub tasks: List<Task>,
+    pub holding: Holding<L>,
     ghost counted: { holding.share.amount ≡ times L.number L.rounds (works tasks) },
 }
 

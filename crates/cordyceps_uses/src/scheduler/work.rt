@@ -5,11 +5,11 @@ ghost use Rattle.std.specs.Prelude.{◌≡◌, ◌+◌, ◌*◌, ◌<◌, ◌≤
 /// that of the rounds that it ran, which are no more than it has.
 #[derive(Drop)]
 pub struct Work {
-    number: u32,
-    rounds: u32,
-    pause: u32,
-    ran: u32,
-    sum: u64,
+    pub number: u32,
+    pub rounds: u32,
+    pub pause: u32,
+    pub ran: u32,
+    pub sum: u64,
     ghost within: { ran ≤ rounds },
     ghost worked: { sum ≡ ran * number },
 }
@@ -29,41 +29,6 @@ impl Work {
             ran: 0,
             sum: 0,
         }
-    }
-
-    /// The number.
-    pub fn number(&self) -> u32
-        ensures { result ≡ self.now.number }
-    {
-        self.number
-    }
-
-    /// How many rounds it has.
-    pub fn rounds(&self) -> u32
-        ensures { result ≡ self.now.rounds }
-    {
-        self.rounds
-    }
-
-    /// How long it sleeps between two rounds.
-    pub fn pause(&self) -> u32
-        ensures { result ≡ self.now.pause }
-    {
-        self.pause
-    }
-
-    /// How many rounds it ran.
-    pub fn ran(&self) -> u32
-        ensures { result ≡ self.now.ran }
-    {
-        self.ran
-    }
-
-    /// The sum of the rounds that it ran.
-    pub fn sum(&self) -> u64
-        ensures { result ≡ self.now.sum }
-    {
-        self.sum
     }
 
     /// Whether no round is left.
