@@ -42,6 +42,7 @@ fn pushes_answer_their_spots(rt: HostRuntime) -> Result<(), Fail> {
 }
 
 #[test]
+#[tactic(auto, using(crate::proofs::Reached::last_has))]
 fn tries_of_a_push_answer_their_spots(rt: HostRuntime) -> Result<(), Fail> {
     let mut list: StableList<Item> = StableList::new();
     match list.try_push_back(plain(rt.alloc(), 2)?) {
