@@ -73,6 +73,19 @@ fn owners_travel_where_their_values_do<'a, T: Send + Drop, F: Send>(
     )
 }
 
+/// What owns elements, or lends them to be changed, can be shared where the values can.
+fn owners_are_shared_where_their_values_are<'a, T: Sync, F: Sync>(
+    into_iter: &IntoIter<T>,
+    iter_mut: &IterMut<'a, T>,
+    cursor_mut: &CursorMut<'a, T>,
+    filter: &DrainFilter<'a, T, F>,
+) {
+    let _ = shared(into_iter);
+    let _ = shared(iter_mut);
+    let _ = shared(cursor_mut);
+    let _ = shared(filter);
+}
+
 /// What reads elements can be sent and shared where the values can be shared.
 fn readers_travel_where_their_values_are_shared<'a, T: Sync>(
     iter: Iter<'a, T>,
@@ -134,7 +147,7 @@ fn what_is_made_of_a_list_goes_on_where_it_was_sent(rt: HostRuntime) -> Result<(
 }
 
 #[test]
-fn what_takes_or_changes_elements_is_sent(rt: HostRuntime) -> Result<(), Fail> {
+fn what_takes_or_changes_elements_is_sent_and_shared(rt: HostRuntime) -> Result<(), Fail> {
     let owned = list_of(&rt, rt.alloc(), &[1, 2, 3])?;
     let mut lent = list_of(&rt, rt.alloc(), &[4, 5])?;
     let mut walked = list_of(&rt, rt.alloc(), &[6])?;
@@ -145,6 +158,7 @@ fn what_takes_or_changes_elements_is_sent(rt: HostRuntime) -> Result<(), Fail> {
         walked.cursor_front_mut(),
         drained.drain_filter(|item: &Item| item.value == 8),
     );
+    owners_are_shared_where_their_values_are(&into_iter, &iter_mut, &cursor_mut, &filter);
     same(&rt, (into_iter.len(), iter_mut.len()), (3, 2));
     same(&rt, cursor_mut.index(), Some(0));
     comes_out(&rt, filter.next(), Some(8));
