@@ -19,8 +19,8 @@ Seat = PartyOf (Element (Timer Work))
 abbrev pub Sent : List Work → Seat → Seat → Type 0
 Sent ws u w = Moves work_of ws [] u w
 
--- n and r: the number and the rounds of the task that is followed. From u to w a party sent some tasks, which came to its hands
--- before, and so it holds as many more: b after a
+-- n and r: the number and the rounds of the task that is followed. From u to w a party sent some tasks, which came to
+-- its hands before, and so it holds as many more: b after a
 pub record Woken (n r a b : ℕ) (u w : Seat) : Type 0 where
   pub tasks : List Work
   pub sent : Sent tasks u w

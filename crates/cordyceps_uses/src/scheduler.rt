@@ -128,7 +128,9 @@ fn submit_and_wake<L: Follow, R: Wait>(
 ) -> Submitted<L>
     requires table { from.party.table ≡ queue.now.table }
     requires room { length tasks ≤ from.party.rooms }
-    ensures sent { Woken L.number L.rounds from.holding.share.amount result.holding.share.amount from.party result.party }
+    ensures sent { Woken L.number L.rounds
+        from.holding.share.amount result.holding.share.amount
+        from.party result.party }
     ensures all { result.book.total ≡ from.book.total + times L.number L.rounds (works tasks) }
 {
     submit(
@@ -191,13 +193,18 @@ fn run_three<L: Follow + Sync, R: Threads + Wait + Sync>(
     requires table { dispatcher.party.table ≡ queue.now.table }
     requires advance { turns ≤ dispatcher.holding.share.amount }
     requires workers { (workers.0.share.amount ≡ 0) × (workers.1.share.amount ≡ 0) }
-    ensures { Came L.number L.rounds dispatcher.holding.share.amount result.0.holding.share.amount dispatcher.party result.0.party }
+    ensures { Came L.number L.rounds
+        dispatcher.holding.share.amount result.0.holding.share.amount
+        dispatcher.party result.0.party }
 {
     thread::join(
         rt,
         || -> Dispatched<L>
-            requires { IsSync R.row × (dispatcher.party.table ≡ queue.now.table) × (turns ≤ dispatcher.holding.share.amount) }
-            ensures { Came L.number L.rounds dispatcher.holding.share.amount result.holding.share.amount dispatcher.party result.party }
+            requires { IsSync R.row × (dispatcher.party.table ≡ queue.now.table)
+                × (turns ≤ dispatcher.holding.share.amount) }
+            ensures { Came L.number L.rounds
+                dispatcher.holding.share.amount result.holding.share.amount
+                dispatcher.party result.party }
         { dispatch_all(rt, queue, dispatcher, shared, turns) },
         || -> (Worked<L>, Worked<L>)
             requires { IsSync R.row × (workers.0.share.amount ≡ 0) × (workers.1.share.amount ≡ 0) }
@@ -219,21 +226,31 @@ fn run_four<L: Follow + Sync, R: Threads + Wait + Sync>(
     requires submitter { (submitter.party.table ≡ queue.now.table) × (length tasks ≤ submitter.party.rooms) }
     requires dispatcher { (dispatcher.party.table ≡ queue.now.table) × (turns ≤ dispatcher.holding.share.amount) }
     requires workers { (workers.0.share.amount ≡ 0) × (workers.1.share.amount ≡ 0) }
-    ensures sent { Woken L.number L.rounds submitter.holding.share.amount result.0.holding.share.amount submitter.party result.0.party }
+    ensures sent { Woken L.number L.rounds
+        submitter.holding.share.amount result.0.holding.share.amount
+        submitter.party result.0.party }
     ensures all { result.0.book.total ≡ submitter.book.total + times L.number L.rounds (works tasks) }
-    ensures came { Came L.number L.rounds dispatcher.holding.share.amount result.1.0.holding.share.amount dispatcher.party result.1.0.party }
+    ensures came { Came L.number L.rounds
+        dispatcher.holding.share.amount result.1.0.holding.share.amount
+        dispatcher.party result.1.0.party }
 {
     thread::join(
         rt,
         || -> Submitted<L>
-            requires { IsSync R.row × (submitter.party.table ≡ queue.now.table) × (length tasks ≤ submitter.party.rooms) }
-            ensures sent { Woken L.number L.rounds submitter.holding.share.amount result.holding.share.amount submitter.party result.party }
+            requires { IsSync R.row × (submitter.party.table ≡ queue.now.table)
+                × (length tasks ≤ submitter.party.rooms) }
+            ensures sent { Woken L.number L.rounds
+                submitter.holding.share.amount result.holding.share.amount
+                submitter.party result.party }
             ensures all { result.book.total ≡ submitter.book.total + times L.number L.rounds (works tasks) }
         { submit_and_wake(rt, queue, submitter, shared, tasks, turns) },
         || -> (Dispatched<L>, (Worked<L>, Worked<L>))
-            requires { IsSync R.row × (dispatcher.party.table ≡ queue.now.table) × (turns ≤ dispatcher.holding.share.amount)
+            requires { IsSync R.row × (dispatcher.party.table ≡ queue.now.table)
+                × (turns ≤ dispatcher.holding.share.amount)
                 × (workers.0.share.amount ≡ 0) × (workers.1.share.amount ≡ 0) }
-            ensures { Came L.number L.rounds dispatcher.holding.share.amount result.0.holding.share.amount dispatcher.party result.0.party }
+            ensures { Came L.number L.rounds
+                dispatcher.holding.share.amount result.0.holding.share.amount
+                dispatcher.party result.0.party }
         { run_three(rt, queue, dispatcher, shared, workers, turns) },
     )
 }
@@ -302,7 +319,8 @@ fn run_followed<L: Follow + Sync, R: Threads + Wait + Sync>(
     requires room { length tasks ≤ rooms }
     requires few { rooms ≤ MAX_ROOMS }
     ensures each_once { IfOk result (λ o. times L.number L.rounds (works tasks)
-        ≡ times L.number L.rounds (asleep o.asleep) + times L.number L.rounds (works o.on_way) + times L.number L.rounds (works o.runnable)
+        ≡ times L.number L.rounds (asleep o.asleep) + times L.number L.rounds (works o.on_way)
+        + times L.number L.rounds (works o.runnable)
         + times L.number L.rounds (works o.done.0) + times L.number L.rounds (works o.done.1)) }
     ensures done { IfOk result (λ o. (all_done (works o.done.0) ≡ true) × (all_done (works o.done.1) ≡ true)) }
     ensures back { IfErr result (λ back. back ≡ tasks) }
@@ -345,15 +363,16 @@ fn run_followed<L: Follow + Sync, R: Threads + Wait + Sync>(
 }
 
 /// Runs tasks on four threads: one sends them to a dispatcher, and again when they are due after a sleep, the
-/// dispatcher hands them to two workers, and these run a round of each, until all are done. Each task is in one place in
-/// the end: whichever is followed, it is as often among those that sleep, are on their way, wait or are done as it is
-/// among those that were given. Those that are done ran all their rounds. Which task is followed only `holding` can see.
+/// dispatcher hands them to two workers, and these run a round of each, until all are done. Each task is in one place
+/// in the end: whichever is followed, it is as often among those that sleep, are on their way, wait or are done as it
+/// is among those that were given. Those that are done ran all their rounds. Only `holding` sees which is followed.
 ///
 /// Each thread ends when all tasks are done, or after so many turns; the submitter also when it has no room left in the
 /// queue. The queue has so many rooms, at most `MAX_ROOMS`, and a task needs one for each of its rounds.
 ///
 /// # Errors
-/// Where memory for the queue is refused, `Err` gives the tasks back, none of which was run. No other call takes memory.
+/// Where memory for the queue is refused, `Err` gives the tasks back, none of which was run. No other call takes
+/// memory.
 ///
 /// # Waits
 /// For the two locks, each of which is held for one call, and for the threads that it starts.
@@ -368,8 +387,10 @@ pub fn run<R: Threads + Wait + Sync>(
     requires room { length tasks ≤ rooms }
     requires few { rooms ≤ MAX_ROOMS }
     ensures each_once { IfOk result (λ o. times followed.number followed.rounds (works tasks)
-        ≡ times followed.number followed.rounds (asleep o.asleep) + times followed.number followed.rounds (works o.on_way)
-        + times followed.number followed.rounds (works o.runnable) + times followed.number followed.rounds (works o.done.0)
+        ≡ times followed.number followed.rounds (asleep o.asleep)
+        + times followed.number followed.rounds (works o.on_way)
+        + times followed.number followed.rounds (works o.runnable)
+        + times followed.number followed.rounds (works o.done.0)
         + times followed.number followed.rounds (works o.done.1)) }
     ensures done { IfOk result (λ o. (all_done (works o.done.0) ≡ true) × (all_done (works o.done.1) ≡ true)) }
     ensures back { IfErr result (λ back. back ≡ tasks) }

@@ -150,7 +150,8 @@ fn settle<L: Follow, R: Wait>(
     task: Node<Task, list::Links<Task>>,
 )
     requires { one_of L.number L.rounds task.value.payload ≤ mine.old.share.amount }
-    ensures held { mine.new.share.amount + one_of L.number L.rounds task.value.payload + times L.number L.rounds (works done.old)
+    ensures held { mine.new.share.amount + one_of L.number L.rounds task.value.payload
+        + times L.number L.rounds (works done.old)
         ≡ mine.old.share.amount + times L.number L.rounds (works done.new) }
     ensures finished { all_done (works done.old) ≡ true → all_done (works done.new) ≡ true }
 {

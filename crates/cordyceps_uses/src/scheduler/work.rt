@@ -1,8 +1,8 @@
 //! What a task of the scheduler has to do.
 ghost use Rattle.std.specs.Prelude.{◌≡◌, ◌+◌, ◌*◌, ◌<◌, ◌≤◌, ◌==◌};
 
-/// What a task does: it adds its number to its sum, in so many rounds, and sleeps between two of them. Its sum is always
-/// that of the rounds that it ran, which are no more than it has.
+/// What a task does: it adds its number to its sum, in so many rounds, and sleeps between two of them. Its sum is
+/// always that of the rounds that it ran, which are no more than it has.
 #[derive(Drop)]
 pub struct Work {
     pub number: u32,
