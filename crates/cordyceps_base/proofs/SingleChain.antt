@@ -70,6 +70,11 @@ module _ {X : Type 0} where
   next_testable-cut h [] w f tested e = cc
   next_testable-cut h (n ∷ ns) w f tested e = next_testable h (n ∷ ns) w f tested e
 
+  -- the address that leads to a first node is that node's
+  pub leads_itself : (a : Address) (ns : List (OwnedNode X)) → IsLed (unless_null a) ns → 0 < length ns → unless_null a ≡ Some a
+  leads_itself a [] f some = absurd (omega arith)
+  leads_itself a (n ∷ ns) f some = f.0 ∙ ap (λ (p : Ptr). Some (record { ptr = p })) (sym (some_is a.ptr n.0 f.0))
+
   -- nodes that are shown
   pub some_nodes : (ns : List (OwnedNode X)) → (¬ (nodes_of ns ≡ [])) → 0 < length ns
   some_nodes [] not = absurd (not refl)

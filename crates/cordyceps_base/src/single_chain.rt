@@ -51,10 +51,10 @@ fn with_last_link<T>(row: Row<T>, last: Address, next: Address) -> Row<T>
 
 /// Nodes that are linked one way. A contract sees them as a list, each as the address where it lies and its element.
 ///
-/// There is no bound on how many nodes it can have. The links are the chain's own. `tail` means nothing where there is
-/// no node.
+/// There is no bound on how many nodes it can have. The links are the chain's own. Where there is no node, `head` is
+/// null, and `tail` means nothing.
 pub struct SingleChain<T, L> {
-    head: Option<Address>,
+    head: Address,
     tail: Address,
     boxes: Row<T>,
     kind: PhantomData<L>,
@@ -62,13 +62,13 @@ pub struct SingleChain<T, L> {
 
 impl<T, L> Model for SingleChain<T, L> {
     ghost use Rattle.cordyceps_base.specs.Nodes.{Nodes, nodes_of};
-    ghost use Rattle.cordyceps_base.specs.SingleChain.{IsLine};
+    ghost use Rattle.cordyceps_base.specs.SingleChain.{IsLine, unless_null};
 
     ghost Value = { Nodes T };
 
     ghost view = { λ c. nodes_of c.boxes.blocks };
 
-    ghost invariant = { λ c. IsLine c.head c.tail.ptr c.boxes.blocks };
+    ghost invariant = { λ c. IsLine (unless_null c.head) c.tail.ptr c.boxes.blocks };
 }
 
 /// Frees each node, from the first to the last.
@@ -87,7 +87,7 @@ impl<T, L> SingleChain<T, L> {
         ensures { result ≡ [] }
     {
         SingleChain {
-            head: None,
+            head: Address::nowhere(),
             tail: Address::nowhere(),
             boxes: Boxes::empty(),
             kind: PhantomData,
@@ -98,7 +98,7 @@ impl<T, L> SingleChain<T, L> {
     pub fn is_empty(&self) -> bool
         ensures { IsTrue result ↔ (self.now ≡ []) }
     {
-        self.head.is_none()
+        somewhere(self.head).is_none()
     }
 
     /// Takes the nodes out, and leaves an empty chain.
@@ -140,7 +140,7 @@ impl<T, L> SingleChain<T, L> {
         block.links.next = Address::nowhere();
         let (at, _, boxes) = Boxes::one(Loose::of(block));
         SingleChain {
-            head: Some(at),
+            head: at,
             tail: at,
             boxes: boxes.tested(),
             kind: PhantomData,
@@ -172,7 +172,7 @@ impl<T, L> SingleChain<T, L> {
         ensures some { IfSome result (λ v. slice_get (values (elements self.now)) 0 ≡ Some v.now) }
         ensures none { IfNone result (self.now ≡ []) }
     {
-        match self.head {
+        match somewhere(self.head) {
             Some(at) => Some(&self.boxes.get(at, 0).value),
             None => None,
         }
@@ -183,7 +183,7 @@ impl<T, L> SingleChain<T, L> {
         ensures some { IfSome result (λ n. slice_get (ids (elements self.now)) 0 ≡ Some n) }
         ensures none { IfNone result (self.now ≡ []) }
     {
-        match self.head {
+        match somewhere(self.head) {
             Some(at) => Some(self.boxes.get(at, 0).id),
             None => None,
         }
@@ -207,7 +207,7 @@ impl<T, L> SingleChain<T, L> {
         ensures { result ≡ values (elements self.now) }
     {
         Values {
-            next: self.head,
+            next: somewhere(self.head),
             rest: &self.boxes,
         }
     }
@@ -236,8 +236,7 @@ impl<T, L> SingleChain<T, L> {
             boxes: others,
             kind: _,
         } = other;
-        let link = or_nowhere(after);
-        let boxes = with_last_link(boxes, tail, link).join(others);
+        let boxes = with_last_link(boxes, tail, after).join(others);
         SingleChain {
             head,
             tail: last,
@@ -259,7 +258,7 @@ impl<T, L> SingleChain<T, L> {
         Cursor {
             head: None,
             before: Address::nowhere(),
-            at: head,
+            at: somewhere(head),
             tail,
             front: Boxes::empty(),
             rest: boxes,
@@ -306,18 +305,17 @@ impl<T: Drop, L> SingleChain<T, L> {
             boxes,
             kind: _,
         } = self;
-        let first = head.unwrap();
         let (front, rest) = boxes.cut(1);
-        let block = front.get(first, 0);
+        let block = front.get(head, 0);
         let alloc = block.alloc;
         let others = SingleChain {
-            head: somewhere(block.links.next),
+            head: block.links.next,
             tail,
             boxes: rest,
             kind: PhantomData,
         };
         let node = Node {
-            block: front.only(first, alloc).into_box(),
+            block: front.only(head, alloc).into_box(),
             kind: PhantomData,
         };
         (node, others)
@@ -475,10 +473,11 @@ impl<T, L> Cursor<T, L> {
             rest,
             kind: _,
         } = self;
+        let boxes = front.join(rest).tested();
         SingleChain {
-            head: head.or(at),
+            head: or_nowhere(head.or(at)),
             tail,
-            boxes: front.join(rest).tested(),
+            boxes,
             kind: PhantomData,
         }
     }

@@ -21,3 +21,4 @@ pub mod Standing
 pub mod Summing
 pub mod Telling
 pub mod Tracing
+pub mod Words

@@ -6,7 +6,7 @@ use native.Mathlib.Decide.{ℕ_discrete}
 use lib.ListN.{get_elem?}
 use Rattle.cordyceps_shared.specs.Counts.{times, below}
 use Rattle.cordyceps_shared.specs.Places.{ItemAt}
-use Rattle.cordyceps_shared.specs.Slots.{Homes, EmptyAtHome}
+use Rattle.cordyceps_shared.specs.Slots.{Homes, Near, EmptyAtHome}
 use Rattle.cordyceps_shared.proofs.Counting.{one_here, one_else}
 
 module _ {A : Type 0} where
@@ -43,6 +43,23 @@ pub at_below : (n i r : ℕ) → ItemAt (below n) i r → r < n
 at_below zero i r a = absurd a
 at_below (suc n) zero r a = omega arith
 at_below (suc n) (suc i) r a = omega (arith, at_below n i r a)
+
+-- ---- rooms of a table
+pub near_cons : (slots t : ℕ) (xs ys : List ℕ) → t < slots → Near slots ys → xs ≡ t ∷ ys → Near slots xs
+near_cons slots t xs ys first near same i r ir = by i (subst (λ l. ItemAt l i r) same ir)
+  where
+    by : (j : ℕ) → ItemAt (t ∷ ys) j r → r < slots
+    by zero a = subst (λ n. n < slots) (sym a) first
+    by (suc j) a = near j r a
+
+pub near_drop : (slots n : ℕ) (xs : List ℕ) → Near slots xs → Near slots (drop n xs)
+near_drop slots n xs near i r a = let t = at_drop n xs i r a in near t.0 r t.1
+
+pub near_take : (slots n : ℕ) (xs : List ℕ) → Near slots xs → Near slots (take n xs)
+near_take slots n xs near i r a = near i r (at_take n xs i r a).0
+
+pub near_append : (slots : ℕ) (xs ys : List ℕ) → Near slots xs → Near slots ys → Near slots (xs ++ ys)
+near_append slots xs ys near near_too i r a = elim (at_either xs ys i r a) [ inl t ↦ near i r t | inr t ↦ near_too t.0 r t.1 ]
 
 vacant_at : {A : Type 0} (n i : ℕ) (a : A) → i < n → get_elem? (map some (replicate n a)) i ≡ some (some a)
 vacant_at zero i a h = absurd (omega arith)

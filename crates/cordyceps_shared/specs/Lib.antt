@@ -9,3 +9,4 @@ pub mod Sending
 pub mod Shares
 pub mod Slots
 pub mod Standings
+pub mod Words

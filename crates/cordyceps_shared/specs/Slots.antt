@@ -1,5 +1,5 @@
 -- The slots of a shared collection's table, one for each room. E is the type of elements.
-use Rattle.std.specs.Prelude.{◌≡◌, ℕ, List, Option, None}
+use Rattle.std.specs.Prelude.{◌≡◌, ◌<◌, ℕ, List, Option, None}
 use mathlib.Core.Option.{some}
 use mathlib.Core.Option as maybe
 use lib.ListN.{get_elem?}
@@ -14,6 +14,10 @@ Homes E = List (maybe.Option (Option (Filled E)))
 -- the slots that are in hand, the last taken first
 abbrev pub Hand : Type 0 → Type 0
 Hand E = List (ℕ × Option (Filled E))
+
+-- the rooms are of a table with that many slots
+abbrev pub Near : ℕ → List ℕ → Type 0
+Near slots rooms = (i r : ℕ) → ItemAt rooms i r → r < slots
 
 -- what a step on the table does
 abbrev pub TableStep : Type 0 → Type 0

@@ -2,6 +2,7 @@
 //! lies in slots, and the theory of the parties that act on them, of names, shares and histories.
 #![tactic(auto)]
 
+pub mod layout;
 pub mod room;
 pub mod slots;
 pub mod tickets;

@@ -1,6 +1,6 @@
 -- The steps of a party that dequeues keep the rule of a queue's table. Each is proved where no slot is in hand; `returning`
 -- adds that one is given back first.
-use Rattle.std.proofs.Common.{◌≡◌, ◌≢◌, ℕ, zero, suc, ◌+◌, ◌-◌, List, [], ◌∷◌, ◌++◌, drop, length, reverse, set, get_or, Option, Some, None, refl, sym, ap, ◌∙◌, subst, arith, get_or-set_other, get_or-set_same, length-set}
+use Rattle.std.proofs.Common.{◌≡◌, ◌≢◌, ℕ, zero, suc, ◌+◌, ◌-◌, List, [], ◌∷◌, ◌++◌, drop, length, reverse, set, get_or, Option, Some, None, refl, sym, ap, ◌∙◌, subst, arith, length-set}
 use Rattle.std.proofs.lemmas.List.{reverse-append}
 use mathlib.Core.Option.{some, none}
 use mathlib.Core.Path.{fun_ext}
@@ -9,6 +9,9 @@ use lib.ListN.{get_elem?}
 use lib.Seq.{set-get_or}
 use Rattle.atomic_table.specs.Table.{Act, keeps, takes, stepped, carried_after, Valid}
 use Rattle.atomic_table.proofs.Lists.{set_else}
+use Rattle.cordyceps_shared.specs.Words as word
+use Rattle.cordyceps_shared.specs.declared.layout.TheConstants.{RIGHT, LINKS}
+use Rattle.cordyceps_shared.proofs.Words.{right_set, head_beside_right}
 use Rattle.cordyceps_shared.specs.Histories.{events, of_seat}
 use Rattle.cordyceps_shared.specs.Knowing.{Under}
 use Rattle.cordyceps_shared.specs.Shares.{Name}
@@ -94,27 +97,27 @@ module _ {E : Type 0} (s : TableState E) (k : RuleHolds s) (id : ℕ) (v : View 
     where
       spelled : (w : View E) → stands n id (party v) stage ≡ machine_of k.cell s.words (set s.views id (sees es v.free v.back stage))
       spelled w j = record {
-        head = get_or s.words 0 0;
-        right = get_or s.words 1 0;
-        count = length s.words - 2;
-        next = λ r. link_of (get_or s.words (2 + r) 0);
+        head = word.head s.words;
+        right = word.right s.words;
+        count = length s.words - LINKS;
+        next = λ r. link_of (word.next s.words r);
         cell = k.cell;
         party = views_put s k id v at named (sees es v.free v.back stage) named j;
       }
 
   -- the right changes
   pub rights : (es : List (Event Name E)) → Under actor (name v) es → (stage : Stage) (chain : Chain) (right : ℕ) → Meets (set_right n id (party v) right stage) chain (reverse es ++ out_events) → Among chain.rooms k.chain.rooms → ((q : ℕ) → stage ≡ Cleared q → ⊥)
-      → RuleHolds record { words = set s.words 1 right; homes = s.homes; views = set s.views id (sees es v.free v.back stage) } × Sees v es (sees es v.free v.back stage)
+      → RuleHolds record { words = set s.words RIGHT right; homes = s.homes; views = set s.views id (sees es v.free v.back stage) } × Sees v es (sees es v.free v.back stage)
   rights es under stage chain right met among away =
       let w = sees es v.free v.back stage in
-      keeps_rule s k id es v w (set s.words 1 right) s.homes k.cell chain (set_right n id (party v) right stage) at named under refl spelled met (length-set s.words 1 right) refl (full_among chain.rooms among) (empties_same s k id w (k.empty id v at named)) (readies_same s k id w away)
+      keeps_rule s k id es v w (set s.words RIGHT right) s.homes k.cell chain (set_right n id (party v) right stage) at named under refl spelled met (length-set s.words RIGHT right) refl (full_among chain.rooms among) (empties_same s k id w (k.empty id v at named)) (readies_same s k id w away)
     where
-      spelled : set_right n id (party v) right stage ≡ machine_of k.cell (set s.words 1 right) (set s.views id (sees es v.free v.back stage))
+      spelled : set_right n id (party v) right stage ≡ machine_of k.cell (set s.words RIGHT right) (set s.views id (sees es v.free v.back stage))
       spelled j = record {
-        head = sym (get_or-set_other s.words 1 0 right 0 (λ x. absurd (omega arith))) j;
-        right = sym (get_or-set_same s.words 1 right 0 (let w = wide_words s k id v at named in omega arith)) j;
-        count = ap (λ l. l - 2) (sym (length-set s.words 1 right)) j;
-        next = sym (links_same s.words 1 right (omega arith)) j;
+        head = sym (head_beside_right s.words right) j;
+        right = sym (right_set s.words right (let w = wide_words s k id v at named in omega arith)) j;
+        count = ap (λ l. l - LINKS) (sym (length-set s.words RIGHT right)) j;
+        next = sym (links_same s.words RIGHT right (omega arith)) j;
         cell = k.cell;
         party = views_put s k id v at named (sees es v.free v.back stage) named j;
       }
@@ -173,10 +176,10 @@ module _ {E : Type 0} (s : TableState E) (k : RuleHolds s) (id : ℕ) (v : View 
 
     spelled_out : freed_machine ≡ machine_of (update k.cell t None) s.words (set s.views id out_view)
     spelled_out j = record {
-      head = get_or s.words 0 0;
-      right = get_or s.words 1 0;
-      count = length s.words - 2;
-      next = λ x. link_of (get_or s.words (2 + x) 0);
+      head = word.head s.words;
+      right = word.right s.words;
+      count = length s.words - LINKS;
+      next = λ x. link_of (word.next s.words x);
       cell = update k.cell t None;
       party = (put_twice n.party id (Some handed_party) (Some (party out_view)) ∙ views_put s k id v at named out_view named) j;
     }
@@ -248,18 +251,18 @@ module _ {E : Type 0} (s : TableState E) (k : RuleHolds s) (id : ℕ) (v : View 
   ReadsTail before slots t found w = (found ≡ 0 → stands_at before (Null t) (v, []) w) × ((r : ℕ) → found ≡ suc r → hands_out before slots t r (v, []) w)
 
   pub reading : (before : List (Event Name E)) (under : Under actor (name v) before) (M : Meets n k.chain (reverse before ++ out_events)) (t i : ℕ) (has : tail_of v.stage ≡ Some t) (nothing : (a b : ℕ) → Owes v.stage a b → ⊥) (is_real : t ≢ 0) → HasLooked (name v) (reverse before ++ out_events)
-      → i ≡ t + 2 → (slots : ℕ) → length s.homes ≡ slots → (x : ℕ) → get_or s.words i 0 ≡ x → Comes i (get_or s.words i 0) (ReadsTail before slots t)
+      → i ≡ LINKS + t → (slots : ℕ) → length s.homes ≡ slots → (x : ℕ) → get_or s.words i 0 ≡ x → Comes i (get_or s.words i 0) (ReadsTail before slots t)
   reading before under M t i has nothing is_real looked is slots deep zero e =
-      let here_is : get_or s.words (2 + t) 0 ≡ get_or s.words i 0 = ap (λ q. get_or s.words q 0) (sum is) in
+      let here_is : word.next s.words t ≡ get_or s.words i 0 = ap (λ q. get_or s.words q 0) (sum is) in
       let c = nulls before under M t i has nothing is_real looked (ap link_of (here_is ∙ e)) in
       (c.0, c.1, c.2, c.3, ((λ _. c.4), λ r f. absurd (zero_suc (sym e ∙ f))))
     where
-      sum : i ≡ t + 2 → 2 + t ≡ i
+      sum : i ≡ LINKS + t → LINKS + t ≡ i
       sum a = omega arith
   reading before under M t i has nothing is_real looked is slots deep (suc r) e =
-      let here_is : get_or s.words (2 + t) 0 ≡ get_or s.words i 0 = ap (λ q. get_or s.words q 0) (sum is) in
+      let here_is : word.next s.words t ≡ get_or s.words i 0 = ap (λ q. get_or s.words q 0) (sum is) in
       let c = hands before under M t r i has nothing is_real (ap link_of (here_is ∙ e)) slots deep in
       (c.0, c.1, c.2, c.3, ((λ f. absurd (suc_zero (sym e ∙ f))), λ r' f. subst (λ q. hands_out before slots t q (v, []) (c.0, carried_after [] c.1)) (suc_inj (sym e ∙ f)) c.4))
     where
-      sum : i ≡ t + 2 → 2 + t ≡ i
+      sum : i ≡ LINKS + t → LINKS + t ≡ i
       sum a = omega arith

@@ -1,9 +1,12 @@
 -- The steps of `enqueue` keep the rule of a queue's table.
-use Rattle.std.proofs.Common.{◌≡◌, ◌≢◌, ℕ, suc, ◌+◌, ◌-◌, ◌<◌, List, [], ◌∷◌, ◌++◌, length, reverse, set, get_or, Option, Some, None, refl, sym, ap, ◌∙◌, subst, inl, inr, arith, get_or-set_other, get_or-set_same, length-set}
+use Rattle.std.proofs.Common.{◌≡◌, ◌≢◌, ℕ, suc, ◌+◌, ◌-◌, ◌<◌, List, [], ◌∷◌, ◌++◌, length, reverse, set, Option, Some, None, refl, sym, ap, ◌∙◌, subst, inl, inr, arith, length-set}
 use mathlib.Core.Option.{some, none}
 use lib.ListN.{get_elem?}
 use Rattle.atomic_table.specs.Table.{keeps, takes, gives, homes_after, rest, step, Allows}
 use Rattle.atomic_table.proofs.Lists.{set_here, set_else}
+use Rattle.cordyceps_shared.specs.Words as word
+use Rattle.cordyceps_shared.specs.declared.layout.TheConstants.{HEAD, LINKS}
+use Rattle.cordyceps_shared.proofs.Words.{head_set, right_beside_head, head_beside_next, right_beside_next}
 use Rattle.cordyceps_shared.specs.Histories.{events, of_seat}
 use Rattle.cordyceps_shared.specs.Knowing.{all_seen}
 use Rattle.cordyceps_shared.specs.Shares.{Name, first_name}
@@ -49,7 +52,7 @@ module _ {E : Type 0} (s : TableState E) (k : RuleHolds s) (id : ℕ) (v : View 
   pub views_put : (w : View E) → w.known.share ≢ [] → update m.party id (Some (party w)) ≡ (λ j. party_of (get_elem? (set s.views id w) j))
   views_put w some_name = sym (parties_put s.views id w (at_length s.views id v at) some_name)
 
-  pub wide_words : length s.words ≡ 2 + length s.homes
+  pub wide_words : length s.words ≡ LINKS + length s.homes
   wide_words = k.wide
 
   -- ---- the store of null
@@ -67,7 +70,7 @@ module _ {E : Type 0} (s : TableState E) (k : RuleHolds s) (id : ℕ) (v : View 
     clear_view = view_after [] rs [] (Cleared r) (Some e)
 
     abbrev words_clear : List ℕ
-    words_clear = set s.words (2 + r) 0
+    words_clear = set s.words (LINKS + r) 0
 
     abbrev homes_clear : Homes E
     homes_clear = set s.homes r none
@@ -77,9 +80,9 @@ module _ {E : Type 0} (s : TableState E) (k : RuleHolds s) (id : ℕ) (v : View 
 
     clear_machine : clear_room m id (party v) r rs e ≡ machine_of (update k.cell r (Some e)) words_clear (set s.views id clear_view)
     clear_machine i = record {
-      head = sym (get_or-set_other s.words (2 + r) 0 0 0 (λ x. absurd (omega arith))) i;
-      right = sym (get_or-set_other s.words (2 + r) 1 0 0 (λ x. absurd (omega arith))) i;
-      count = ap (λ n. n - 2) (sym (length-set s.words (2 + r) 0)) i;
+      head = sym (head_beside_next s.words r 0) i;
+      right = sym (right_beside_next s.words r 0) i;
+      count = ap (λ n. n - LINKS) (sym (length-set s.words (LINKS + r) 0)) i;
       next = sym (links_put s.words r 0 (let w = wide_words in let l = inside in omega arith)) i;
       cell = update k.cell r (Some e);
       party = views_put clear_view named i;
@@ -96,7 +99,7 @@ module _ {E : Type 0} (s : TableState E) (k : RuleHolds s) (id : ℕ) (v : View 
     clear_kept : RuleHolds record { words = words_clear; homes = homes_clear; views = set s.views id clear_view } × Sees v [] clear_view
     clear_kept = keeps_rule s k id [] v clear_view words_clear homes_clear (update k.cell r (Some e)) (chain_after_clear m k.chain past k.meets id (party v) here idle r rs spare e) (clear_room m id (party v) r rs e)
         at named tt refl clear_machine (clear_keeps m k.chain past k.meets id (party v) here idle r rs spare e)
-        (length-set s.words (2 + r) 0) (length-set s.homes r none) clear_full
+        (length-set s.words (LINKS + r) 0) (length-set s.homes r none) clear_full
         (empties s k id r none clear_view clear_empty (λ j ne mine. ne (spare_one mine (rooms.own 0 r refl))))
         (readies s k id r (Some e) clear_view (λ q is. ap (λ z. update k.cell r (Some e) z) (sym (ap room_of is)) ∙ put_same k.cell r (Some e)) (λ j ne mine. ready_spare mine (rooms.own 0 r refl)))
 
@@ -106,13 +109,13 @@ module _ {E : Type 0} (s : TableState E) (k : RuleHolds s) (id : ℕ) (v : View 
     has = k.ready id v r at named ready ∙ item
 
     abbrev found_word : ℕ
-    found_word = get_or s.words 0 0
+    found_word = word.head s.words
 
     abbrev pub swap_view : View E
     swap_view = view_after (Event.Swap (name v) e ∷ []) v.free v.back (Swapped r found_word) None
 
     abbrev words_swap : List ℕ
-    words_swap = set s.words 0 r
+    words_swap = set s.words HEAD r
 
     abbrev homes_swap : Homes E
     homes_swap = set s.homes r (some (Some (full_slot r e)))
@@ -122,10 +125,10 @@ module _ {E : Type 0} (s : TableState E) (k : RuleHolds s) (id : ℕ) (v : View 
 
     swap_machine : swap_head m id (party v) r (Swapped r found_word) ≡ machine_of k.cell words_swap (set s.views id swap_view)
     swap_machine i = record {
-      head = sym (get_or-set_same s.words 0 r 0 (let w = wide_words in omega arith)) i;
-      right = sym (get_or-set_other s.words 0 1 r 0 (λ x. absurd (omega arith))) i;
-      count = ap (λ n. n - 2) (sym (length-set s.words 0 r)) i;
-      next = sym (links_same s.words 0 r (omega arith)) i;
+      head = sym (head_set s.words r (let w = wide_words in omega arith)) i;
+      right = sym (right_beside_head s.words r) i;
+      count = ap (λ n. n - LINKS) (sym (length-set s.words HEAD r)) i;
+      next = sym (links_same s.words HEAD r (omega arith)) i;
       cell = k.cell;
       party = views_put swap_view named i;
     }
@@ -142,7 +145,7 @@ module _ {E : Type 0} (s : TableState E) (k : RuleHolds s) (id : ℕ) (v : View 
     swap_kept : RuleHolds record { words = words_swap; homes = homes_swap; views = set s.views id swap_view } × Sees v (Event.Swap (name v) e ∷ []) swap_view
     swap_kept = keeps_rule s k id (Event.Swap (name v) e ∷ []) v swap_view words_swap homes_swap k.cell (chain_after_swap m k.chain past k.meets id (party v) here r e ready has) (swap_head m id (party v) r (Swapped r found_word))
         at named (refl, tt) refl swap_machine (swap_keeps m k.chain past k.meets id (party v) here r e ready has)
-        (length-set s.words 0 r) (length-set s.homes r (some (Some (full_slot r e)))) swap_full
+        (length-set s.words HEAD r) (length-set s.homes r (some (Some (full_slot r e)))) swap_full
         (empties s k id r (some (Some (full_slot r e))) swap_view swap_empty (λ j ne mine. ready_spare known.1 mine))
         (readies_same s k id swap_view (λ q is. cc))
 
@@ -152,13 +155,13 @@ module _ {E : Type 0} (s : TableState E) (k : RuleHolds s) (id : ℕ) (v : View 
     link_view = view_after (Event.Link (name v) ∷ []) v.free v.back Rest None
 
     abbrev words_link : List ℕ
-    words_link = set s.words (2 + old) (suc r)
+    words_link = set s.words (LINKS + old) (suc r)
 
     link_machine : link_next m id (party v) old r Rest ≡ machine_of k.cell words_link (set s.views id link_view)
     link_machine i = record {
-      head = sym (get_or-set_other s.words (2 + old) 0 (suc r) 0 (λ x. absurd (omega arith))) i;
-      right = sym (get_or-set_other s.words (2 + old) 1 (suc r) 0 (λ x. absurd (omega arith))) i;
-      count = ap (λ n. n - 2) (sym (length-set s.words (2 + old) (suc r))) i;
+      head = sym (head_beside_next s.words old (suc r)) i;
+      right = sym (right_beside_next s.words old (suc r)) i;
+      count = ap (λ n. n - LINKS) (sym (length-set s.words (LINKS + old) (suc r))) i;
       next = sym (links_put s.words old (suc r) (let w = wide_words in let l = inside in omega arith)) i;
       cell = k.cell;
       party = views_put link_view named i;
@@ -167,14 +170,14 @@ module _ {E : Type 0} (s : TableState E) (k : RuleHolds s) (id : ℕ) (v : View 
     link_kept : RuleHolds record { words = words_link; homes = s.homes; views = set s.views id link_view } × Sees v (Event.Link (name v) ∷ []) link_view
     link_kept = keeps_rule s k id (Event.Link (name v) ∷ []) v link_view words_link s.homes k.cell k.chain (link_next m id (party v) old r Rest)
         at named (refl, tt) refl link_machine (link_keeps m k.chain past k.meets id (party v) here r old waits)
-        (length-set s.words (2 + old) (suc r)) refl k.full (empties_same s k id link_view (k.empty id v at named)) (readies_same s k id link_view (λ q is. cc))
+        (length-set s.words (LINKS + old) (suc r)) refl k.full (empties_same s k id link_view (k.empty id v at named)) (readies_same s k id link_view (λ q is. cc))
 
 module _ {E : Type 0} where
-  pub clears : (slots id i : ℕ) (me : SeatState E) (r : ℕ) (rs : List ℕ) (item : Option E) (e : E) → i ≡ r + 2 → item ≡ Some e → me.0.stage ≡ Rest → me.0.back ≡ [] → me.0.free ≡ r ∷ rs → me.0.known.share ≢ []
+  pub clears : (slots id i : ℕ) (me : SeatState E) (r : ℕ) (rs : List ℕ) (item : Option E) (e : E) → i ≡ LINKS + r → item ≡ Some e → me.0.stage ≡ Rest → me.0.back ≡ [] → me.0.free ≡ r ∷ rs → me.0.known.share ≢ []
       → Allows RuleHolds slots id me i (λ _. 0) (λ _. play.cleared item (step slots i 0 0 none) me 0)
   clears slots id i me r rs item e is chosen idle bare free named s k deep at fits =
       let c = clear_kept s k id me.0 at named r rs e idle bare free in
-      let same : 2 + r ≡ i = omega arith in
+      let same : LINKS + r ≡ i = omega arith in
       let there = empty s k id me.0 at named r rs e idle bare free 0 r refl in
       let near : r < slots = let l = at_length s.homes r (some None) there in omega arith in
       let w = clear_view s k id me.0 at named r rs e idle bare free in (
@@ -189,7 +192,7 @@ module _ {E : Type 0} where
       )
 
   pub swaps : (slots id : ℕ) (me : SeatState E) (r : ℕ) (e : E) (cs : Hand E) → me.0.stage ≡ Cleared r → me.0.item ≡ Some e → me.1 ≡ (r, Some (full_slot r e)) ∷ cs → r < slots → me.0.known.share ≢ []
-      → Allows RuleHolds slots id me 0 (λ _. r) (play.swapped (step slots 0 r 0 none) me)
+      → Allows RuleHolds slots id me HEAD (λ _. r) (play.swapped (step slots HEAD r 0 none) me)
   swaps slots id me r e cs ready item hand near named s k deep at fits =
       let inside : r < length s.homes = omega arith in
       let c = swap_kept s k id me.0 at named r e ready item inside in
@@ -197,21 +200,21 @@ module _ {E : Type 0} where
         w,
         gives,
         tt,
-        subst (λ z. RuleHolds record { words = set s.words 0 r; homes = homes_after s.homes z gives; views = set s.views id w }) (sym hand) c.0,
+        subst (λ z. RuleHolds record { words = set s.words HEAD r; homes = homes_after s.homes z gives; views = set s.views id w }) (sym hand) c.0,
         λ r' e' cs' ready' item' hand'.
             let p : Cleared r ≡ Cleared r' = sym ready ∙ ready' in
             let q : e ≡ e' = some_inj (sym item ∙ item') in
             let h = head_near s k in
-            (ap (λ l. Swapped (room_of l) (get_or s.words 0 0)) p, refl, refl, ap rest hand', omega arith, subst (λ x. Sees me.0 (Event.Swap (name me.0) x ∷ []) w) q c.1),
+            (ap (λ l. Swapped (room_of l) (word.head s.words)) p, refl, refl, ap rest hand', omega arith, subst (λ x. Sees me.0 (Event.Swap (name me.0) x ∷ []) w) q c.1),
       )
 
-  pub links_on : (slots id i n : ℕ) (me : SeatState E) (r old : ℕ) → i ≡ old + 2 → n ≡ r + 1 → me.0.stage ≡ Swapped r old → old < slots → me.0.known.share ≢ []
+  pub links_on : (slots id i n : ℕ) (me : SeatState E) (r old : ℕ) → i ≡ LINKS + old → n ≡ r + 1 → me.0.stage ≡ Swapped r old → old < slots → me.0.known.share ≢ []
       → Allows RuleHolds slots id me i (λ _. n) (λ _. play.linked (step slots i n 0 none) me n)
   links_on slots id i n me r old is is_n waits near named s k deep at fits =
       let inside : old < length s.homes = omega arith in
       let c = link_kept s k id me.0 at named r old waits inside in
       let w = link_view s k id me.0 at named r old waits inside in
-      let same : 2 + old ≡ i = omega arith in
+      let same : LINKS + old ≡ i = omega arith in
       let same_n : suc r ≡ n = omega arith in (
         w,
         keeps,

@@ -3,12 +3,15 @@ use Rattle.std.proofs.Common.{◌≡◌, ◌≢◌, ℕ, zero, suc, ◌+◌, ◌
 use mathlib.Core.Option.{some, none}
 use lib.ListN.{get_elem?}
 use Rattle.atomic_table.specs.Table.{keeps, carried_after, step, Allows}
+use Rattle.cordyceps_shared.specs.Slots.{Near}
+use Rattle.cordyceps_shared.specs.Words as word
+use Rattle.cordyceps_shared.specs.declared.layout.TheConstants.{RIGHT, LINKS}
 use Rattle.cordyceps_shared.specs.Shares.{Name}
 use Rattle.cordyceps_queue.specs.declared.cores.stage.Stage.{Stage}
 use Rattle.cordyceps_queue.specs.declared.cores.stage.Stage.TheVariants.{Rest, Holding, Second}
 use Rattle.cordyceps_queue.specs.History.{Event}
 use Rattle.cordyceps_queue.specs.Cores.Meets.{Owes, tail_of, AtStage, Real, Meets}
-use Rattle.cordyceps_queue.specs.Shared.Plays.{SeatState, Near, carry, stands_at, hands_out}
+use Rattle.cordyceps_queue.specs.Shared.Plays.{SeatState, carry, stands_at, hands_out}
 use Rattle.cordyceps_queue.specs.Shared.Plays as play
 use Rattle.cordyceps_queue.specs.Shared.Rule.{TableState, link_of, party, RuleHolds}
 use Rattle.cordyceps_queue.specs.Shared.View.{View, name}
@@ -33,17 +36,17 @@ module _ {E : Type 0} (s : TableState E) (k : RuleHolds s) (id : ℕ) (v : View 
 
   -- ---- the swap of the right
   module _ (rest : v.stage ≡ Rest) where
-    unmoved : get_or s.words 1 0 ≡ 0 → set_right core id (party v) 0 Rest ≡ core
+    unmoved : word.right s.words ≡ 0 → set_right core id (party v) 0 Rest ≡ core
     unmoved e j = record {
-      head = get_or s.words 0 0;
+      head = word.head s.words;
       right = sym e j;
-      count = length s.words - 2;
-      next = λ r. link_of (get_or s.words (2 + r) 0);
+      count = length s.words - LINKS;
+      next = λ r. link_of (word.next s.words r);
       cell = k.cell;
       party = (ap (λ (p : AbstractParty Name). update core.party id (Some p)) (λ i. record { name = name v; stage = sym rest i; spare = v.back ++ v.free }) ∙ put_again core.party id (party v) is_there) j;
     }
 
-    takes_bare : (slots : ℕ) → length s.homes ≡ slots → (x : ℕ) → get_or s.words 1 0 ≡ x → Comes s k id v at named bare 1 0 (play.took (step slots 1 0 0 none) (v, []))
+    takes_bare : (slots : ℕ) → length s.homes ≡ slots → (x : ℕ) → word.right s.words ≡ x → Comes s k id v at named bare RIGHT 0 (play.took (step slots RIGHT 0 0 none) (v, []))
     takes_bare slots deep zero e =
         let x : Event Name E = Event.Busy (name v) in
         let met = subst (λ q. Meets q k.chain (x ∷ gone_by)) (sym (unmoved e)) (busy_keeps core k.chain gone_by k.meets id (party v) is_there rest e) in
@@ -74,23 +77,23 @@ module _ {E : Type 0} (s : TableState E) (k : RuleHolds s) (id : ℕ) (v : View 
     pub looked_on : Meets core k.chain (Event.Look (name v) ∷ gone_by)
     looked_on = tell_keeps core k.chain gone_by k.meets id (party v) is_there t has (Event.Look (name v)) holding (keeping core k.chain gone_by k.meets id (party v) is_there t has).held_by refl refl (λ q s. s) (λ q n w. w)
 
-    gives_bare : (n' : ℕ) → n' ≡ t + 1 → Comes s k id v at named bare 1 n' (λ _. stands_at (Event.Free (name v) ∷ []) Rest (v, []))
+    gives_bare : (n' : ℕ) → n' ≡ t + 1 → Comes s k id v at named bare RIGHT n' (λ _. stands_at (Event.Free (name v) ∷ []) Rest (v, []))
     gives_bare n' is =
         let x : Event Name E = Event.Free (name v) in
         let r = rights s k id v at named bare (x ∷ []) (refl, tt) Rest (chain_after_give core k.chain gone_by k.meets id (party v) is_there t holding) (suc t)
         (give_keeps core k.chain gone_by k.meets id (party v) is_there t holding) (same_rooms s k id v at named bare) (λ q is. cc) in
         let same : suc t ≡ n' = omega arith in
         let w = sees s k id v at named bare (x ∷ []) v.free v.back Rest in
-        (w, keeps, tt, subst (λ q. RuleHolds record { words = set s.words 1 q; homes = s.homes; views = set s.views id w }) same r.0, stood s k id v at named bare (x ∷ []) Rest r.1)
+        (w, keeps, tt, subst (λ q. RuleHolds record { words = set s.words RIGHT q; homes = s.homes; views = set s.views id w }) same r.0, stood s k id v at named bare (x ∷ []) Rest r.1)
 
-    looks_bare : t ≢ 0 → (i : ℕ) → i ≡ t + 2 → (slots : ℕ) → length s.homes ≡ slots → Comes s k id v at named bare i (get_or s.words i 0) (ReadsTail s k id v at named bare (Event.Look (name v) ∷ []) slots t)
+    looks_bare : t ≢ 0 → (i : ℕ) → i ≡ LINKS + t → (slots : ℕ) → length s.homes ≡ slots → Comes s k id v at named bare i (get_or s.words i 0) (ReadsTail s k id v at named bare (Event.Look (name v) ∷ []) slots t)
     looks_bare is_real i is slots deep = reading s k id v at named bare (Event.Look (name v) ∷ []) (refl, tt) looked_on t i has nothing is_real (inl refl) is slots deep (get_or s.words i 0) refl
 
   module _ (t : ℕ) (behind : v.stage ≡ Second t) where
     knows_tail : Real k.chain.keeper k.chain.rooms gone_by id (name v) t
     knows_tail = subst (AtStage core.head core.next core.cell k.chain.owner k.chain.keeper k.chain.rooms gone_by id (name v)) behind (k.meets.fits id (party v) is_there)
 
-    reads_bare : (i : ℕ) → i ≡ t + 2 → (slots : ℕ) → length s.homes ≡ slots → Comes s k id v at named bare i (get_or s.words i 0) (ReadsTail s k id v at named bare [] slots t)
+    reads_bare : (i : ℕ) → i ≡ LINKS + t → (slots : ℕ) → length s.homes ≡ slots → Comes s k id v at named bare i (get_or s.words i 0) (ReadsTail s k id v at named bare [] slots t)
     reads_bare i is slots deep = reading s k id v at named bare [] tt k.meets t i (ap tail_of behind) (λ a b o. subst (λ l. Owes l a b) behind o) knows_tail.is_real knows_tail.looked is slots deep (get_or s.words i 0) refl
 
 -- the tail of two stages that are one
@@ -101,21 +104,21 @@ same_second : {p : Stage} {t u : ℕ} → p ≡ Second t → p ≡ Second u → 
 same_second a b = some_inj (ap tail_of (sym a ∙ b))
 
 module _ {E : Type 0} (slots id : ℕ) (me : SeatState E) (hand : me.1 ≡ carry me.0.back) (near : Near slots me.0.back) (named : me.0.known.share ≢ []) where
-  pub takes_right : me.0.stage ≡ Rest → Allows RuleHolds slots id me 1 (λ _. 0) (play.took (step slots 1 0 0 none) me)
-  takes_right rest = returning slots id 1 me (λ _. 0) (play.took (step slots 1 0 0 none) me) hand near named
-      (λ s k deep at fits. takes_bare s k id (view_returned me.0) at named refl rest slots deep (get_or s.words 1 0) refl)
+  pub takes_right : me.0.stage ≡ Rest → Allows RuleHolds slots id me RIGHT (λ _. 0) (play.took (step slots RIGHT 0 0 none) me)
+  takes_right rest = returning slots id RIGHT me (λ _. 0) (play.took (step slots RIGHT 0 0 none) me) hand near named
+      (λ s k deep at fits. takes_bare s k id (view_returned me.0) at named refl rest slots deep (word.right s.words) refl)
 
-  pub gives_right : (t n' : ℕ) → n' ≡ t + 1 → me.0.stage ≡ Holding t → Allows RuleHolds slots id me 1 (λ _. n') (λ _. play.gave (step slots 1 n' 0 none) me n')
-  gives_right t n' is holding = returning slots id 1 me (λ _. n') (λ _. play.gave (step slots 1 n' 0 none) me n') hand near named
+  pub gives_right : (t n' : ℕ) → n' ≡ t + 1 → me.0.stage ≡ Holding t → Allows RuleHolds slots id me RIGHT (λ _. n') (λ _. play.gave (step slots RIGHT n' 0 none) me n')
+  gives_right t n' is holding = returning slots id RIGHT me (λ _. n') (λ _. play.gave (step slots RIGHT n' 0 none) me n') hand near named
       (λ s k deep at fits. let c = gives_bare s k id (view_returned me.0) at named refl t holding n' is in (c.0, c.1, c.2, c.3, λ _ _. c.4))
 
-  pub looks : (t i : ℕ) → i ≡ t + 2 → me.0.stage ≡ Holding t → t ≢ 0 → Allows RuleHolds slots id me i (λ x. x) (play.looked (step slots i 0 0 none) me)
+  pub looks : (t i : ℕ) → i ≡ LINKS + t → me.0.stage ≡ Holding t → t ≢ 0 → Allows RuleHolds slots id me i (λ x. x) (play.looked (step slots i 0 0 none) me)
   looks t i is holding is_real = returning slots id i me (λ x. x) (play.looked (step slots i 0 0 none) me) hand near named
       (λ s k deep at fits.
       let c = looks_bare s k id (view_returned me.0) at named refl t holding is_real i is slots deep in
       (c.0, c.1, c.2, c.3, λ u stage ne. subst (λ q. ReadsTail s k id (view_returned me.0) at named refl (Event.Look (name me.0) ∷ []) slots q (get_or s.words i 0) (c.0, carried_after [] c.1)) (same_tail holding stage) c.4))
 
-  pub reads_behind : (t i : ℕ) → i ≡ t + 2 → me.0.stage ≡ Second t → Allows RuleHolds slots id me i (λ x. x) (play.read (step slots i 0 0 none) me)
+  pub reads_behind : (t i : ℕ) → i ≡ LINKS + t → me.0.stage ≡ Second t → Allows RuleHolds slots id me i (λ x. x) (play.read (step slots i 0 0 none) me)
   reads_behind t i is behind = returning slots id i me (λ x. x) (play.read (step slots i 0 0 none) me) hand near named
       (λ s k deep at fits.
       let c = reads_bare s k id (view_returned me.0) at named refl t behind i is slots deep in

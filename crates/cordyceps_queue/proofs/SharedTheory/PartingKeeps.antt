@@ -7,6 +7,8 @@ use lib.ListN.{get_elem?, length-map, length-replicate}
 use lib.Seq.{set-get_or}
 use Rattle.atomic_table.specs.Table.{opening, Splits, Joins, Allows, step, keeps}
 use Rattle.atomic_table.proofs.Lists.{at_longer, set_else}
+use Rattle.cordyceps_shared.specs.Words as word
+use Rattle.cordyceps_shared.specs.declared.layout.TheConstants.{HEAD, LINKS}
 use Rattle.cordyceps_shared.specs.Histories.{events}
 use Rattle.cordyceps_shared.specs.Knowing.{SharesApart}
 use Rattle.cordyceps_shared.specs.Shares.{Name}
@@ -57,7 +59,7 @@ module _ (E : Type 0) where
   vacant_empty : (rooms : ℕ) → let homes : Homes E = map some (replicate (rooms + 1) None) in EmptyAtHome homes (down_from rooms)
   vacant_empty rooms = empty_new (rooms + 1) (down_from rooms) (λ i r a. let t = at_down_from rooms i r a in let e = t.0 in omega arith)
 
-  pub opens : (rooms : ℕ) (words : List ℕ) → length words ≡ rooms + 3 → get_or words 0 0 ≡ 0 → get_or words 1 0 ≡ 1 → get_or words 2 0 ≡ 0 → RuleHolds {E = E} (opening words (replicate (rooms + 1) None) (newcomer rooms))
+  pub opens : (rooms : ℕ) (words : List ℕ) → length words ≡ LINKS + rooms + 1 → word.head words ≡ 0 → word.right words ≡ 1 → word.next words 0 ≡ 0 → RuleHolds {E = E} (opening words (replicate (rooms + 1) None) (newcomer rooms))
   opens rooms words wide head right link =
       let first : View E = newcomer rooms in
       let known = seats.opens actor knows first refl in
@@ -70,7 +72,7 @@ module _ (E : Type 0) where
         meets = record {
           legal = tt;
           last = (0, refl, head);
-          ends = ap (λ n. link_of (get_or words (2 + n) 0)) head ∙ ap link_of link;
+          ends = ap (λ n. link_of (word.next words n)) head ∙ ap link_of link;
           joined = λ i a b ia ib. absurd ib;
           once = λ i j r ir jr. (only_at 0 r i ir).0 ∙ sym (only_at 0 r j jr).0;
           shared = λ i r ir. ap owner (only_at 0 r i ir).1 ∙ stub rooms;
@@ -78,7 +80,7 @@ module _ (E : Type 0) where
           unmade = λ r l. deal_else 0 (down_from rooms) only_stub r (λ i a. let t = at_down_from rooms i r a in let e = t.0 in absurd (omega arith)) ∙ others_unmade r (omega arith);
           holds = refl;
           right = (refl, 0, right, refl);
-          fits = λ k p e. subst (λ (q : AbstractParty Name). AtStage (get_or words 0 0) (λ r. link_of (get_or words (2 + r) 0)) (λ (_ : ℕ). let x : Option E = None in x) owner None (0 ∷ []) [] k q.name q.stage) (is_first rooms k p e).1 tt;
+          fits = λ k p e. subst (λ (q : AbstractParty Name). AtStage (word.head words) (λ r. link_of (word.next words r)) (λ (_ : ℕ). let x : Option E = None in x) owner None (0 ∷ []) [] k q.name q.stage) (is_first rooms k p e).1 tt;
           rooms = λ k p e. let t = is_first rooms k p e in subst (λ (z : ℕ × AbstractParty Name). OwnsRooms owner z.0 z.1.spare) (λ c. (sym t.0 c, t.1 c)) (mine rooms);
           names = λ j k p q ej ek same. (is_first rooms j p ej).0 ∙ sym (is_first rooms k q ek).0;
           strangers = λ q away. tt;
@@ -337,10 +339,10 @@ module _ {E : Type 0} (s : TableState E) (k : RuleHolds s) (id : ℕ) (v : View 
     where
       unchanged : machine_of k.cell s.words s.views ≡ machine_of k.cell s.words (set s.views id (view_without_told v))
       unchanged i = record {
-        head = get_or s.words 0 0;
-        right = get_or s.words 1 0;
-        count = length s.words - 2;
-        next = λ r. link_of (get_or s.words (2 + r) 0);
+        head = word.head s.words;
+        right = word.right s.words;
+        count = length s.words - LINKS;
+        next = λ r. link_of (word.next s.words r);
         cell = k.cell;
         party = (sym (put_again (core s k).party id (party v) (party_at s k id v at named)) ∙ sym (parties_put s.views id (view_without_told v) (at_length s.views id v at) named)) i;
       }
@@ -349,7 +351,7 @@ module _ {E : Type 0} where
   pub joins : (id other : ℕ) (v w : View E) → v.stage ≡ Rest → w.stage ≡ Rest → v.back ≡ [] → w.back ≡ [] → v.known.share ≢ [] → w.known.share ≢ [] → Joins RuleHolds id v other w (view_absorbing v w) view_absorbed
   joins id other v w rest rest_too bare bare_too named named_too s k at apart there = joint_kept s k id other v w rest rest_too bare bare_too named named_too at apart there
 
-  pub learns : (slots id : ℕ) (me : SeatState E) (v w : View E) → me.0 ≡ view_absorbing v w → v.known.share ≢ [] → Allows RuleHolds slots id me 0 (λ n. n) (learned (step slots 0 0 0 none) me)
+  pub learns : (slots id : ℕ) (me : SeatState E) (v w : View E) → me.0 ≡ view_absorbing v w → v.known.share ≢ [] → Allows RuleHolds slots id me HEAD (λ n. n) (learned (step slots HEAD 0 0 none) me)
   learns slots id me v w is named s k deep at fits =
       let u = me.0 in
       let some_name : u.known.share ≢ [] = λ e. joined_some v.known.share w.known.share named (sym (ap (λ (z : View E). z.known.share) is) ∙ e) in
@@ -357,7 +359,7 @@ module _ {E : Type 0} where
         view_without_told u,
         keeps,
         tt,
-        subst (λ (ws : List ℕ). RuleHolds record { words = ws; homes = s.homes; views = set s.views id (view_without_told u) }) (sym (set-get_or s.words 0 0)) (forgot_kept s k id u at some_name),
+        subst (λ (ws : List ℕ). RuleHolds record { words = ws; homes = s.homes; views = set s.views id (view_without_told u) }) (sym (set-get_or s.words HEAD 0)) (forgot_kept s k id u at some_name),
         (
           refl,
           refl,

@@ -3,6 +3,7 @@ use Rattle.std.proofs.Common.{◌≡◌, ◌≢◌, ℕ, zero, suc, ◌-◌, ◌
 use Rattle.atomic_table.specs.Table.{rest}
 use Rattle.cordyceps_shared.specs.Knowing.{Grown}
 use Rattle.cordyceps_shared.specs.Shares.{Name, first_name}
+use Rattle.cordyceps_shared.proofs.Places.{near_cons}
 use Rattle.cordyceps_shared.proofs.Choices.{some_or}
 use Rattle.cordyceps_shared.proofs.Telling.{grown_then}
 use Rattle.cordyceps_queue.specs.declared.cores.stage.Stage.{Stage}
@@ -13,20 +14,13 @@ use Rattle.cordyceps_queue.specs.declared.shared.table.Tried.TheVariants.{Out, E
 use Rattle.cordyceps_queue.specs.Shared.Parts.{AsksRight, Tries, Dequeued}
 use Rattle.cordyceps_queue.specs.History.{Event, actor}
 use Rattle.cordyceps_shared.specs.Places.{ItemAt}
-use Rattle.cordyceps_shared.specs.Slots.{TableStep, full_slot, Hand}
-use Rattle.cordyceps_queue.specs.Shared.Plays.{SeatState, LegalReversed, Near, carry, stands_at, hands_out, HandsOneOut, IsResting, IsHolding, IsAtStage, Blocked, took}
+use Rattle.cordyceps_shared.specs.Slots.{Near, TableStep, full_slot, Hand}
+use Rattle.cordyceps_queue.specs.Shared.Plays.{SeatState, LegalReversed, carry, stands_at, hands_out, HandsOneOut, IsResting, IsHolding, IsAtStage, Blocked, took}
 use Rattle.cordyceps_queue.specs.Shared.View.{View, name}
 
 -- the free rooms are those of before, and the slot in hand
 near_all : (slots : ℕ) (back free now : List ℕ) → back ≡ [] → now ≡ back ++ free → Near slots free → Near slots now
 near_all slots back free now bare same near i r ir = near i r (subst (λ l. ItemAt l i r) (same ∙ ap (λ l. l ++ free) bare) ir)
-
-near_cons : (slots t : ℕ) (xs ys : List ℕ) → t < slots → Near slots ys → xs ≡ t ∷ ys → Near slots xs
-near_cons slots t xs ys first near same i r ir = by i (subst (λ l. ItemAt l i r) same ir)
-  where
-    by : (j : ℕ) → ItemAt (t ∷ ys) j r → r < slots
-    by zero a = subst (λ n. n < slots) (sym a) first
-    by (suc j) a = near j r a
 
 pub pred_suc : (n : ℕ) → n ≢ 0 → n ≡ suc (n - 1)
 pred_suc n ne = omega arith

@@ -1,6 +1,7 @@
 -- What a party of a shared queue is when it is new, split off, or has taken another in.
 use Rattle.std.proofs.Common.{◌≡◌, ◌≢◌, Some, ℕ, zero, suc, ◌+◌, List, [], ◌∷◌, ◌++◌, length, take, drop, refl, sym, ap, ◌∙◌, subst, arith, length-append, inl, inr}
 use Rattle.atomic_table.specs.Seated.{TableId}
+use Rattle.cordyceps_shared.specs.Slots.{Near}
 use Rattle.cordyceps_shared.specs.Counts.{below}
 use Rattle.cordyceps_shared.specs.Histories.{plain}
 use Rattle.cordyceps_shared.specs.Knowing.{IsKnown}
@@ -11,14 +12,14 @@ use Rattle.cordyceps_shared.proofs.Ordering.{whole_share, keeps_share, gives_sha
 use Rattle.cordyceps_shared.proofs.Tracing.{of_kept, of_given}
 use Rattle.cordyceps_queue.specs.Shared.Parts.{standing, IsSeated}
 use Rattle.cordyceps_queue.specs.Shared.Parting.{view_keeping, view_giving, view_absorbing, view_without_told}
-use Rattle.cordyceps_queue.specs.Shared.Plays.{SeatState, Near, IsResting}
+use Rattle.cordyceps_queue.specs.Shared.Plays.{SeatState, IsResting}
 use Rattle.cordyceps_queue.specs.Shared.Plays as seen
 use Rattle.cordyceps_queue.specs.Shared.Rule.{IsTable}
 use Rattle.cordyceps_queue.specs.Shared.Calls.{same_name, Legal, NonePending, NoneHolds}
 use Rattle.cordyceps_queue.specs.History.{holder, IsPending}
 use Rattle.cordyceps_queue.specs.Shared.View.{View, newcomer, down_from}
 use Rattle.cordyceps_queue.proofs.Legality.{told_legal}
-use Rattle.cordyceps_shared.proofs.Places.{at_take, at_drop, at_either}
+use Rattle.cordyceps_shared.proofs.Places.{near_drop, near_take, near_append}
 use Rattle.cordyceps_queue.proofs.SharedTheory.PartingKeeps.{at_down_from}
 
 -- ---- a new party
@@ -37,9 +38,6 @@ length_down_from (suc n) = ap suc (length_down_from n)
 
 near_down_from : (slots rooms : ℕ) → slots ≡ rooms + 1 → Near slots (down_from rooms)
 near_down_from slots rooms is i r a = let t = at_down_from rooms i r a in let e = t.0 in omega arith
-
-both_near : (slots : ℕ) (xs ys : List ℕ) → Near slots xs → Near slots ys → Near slots (xs ++ ys)
-both_near slots xs ys near near_too i r a = elim (at_either xs ys i r a) [ inl t ↦ near i r t | inr t ↦ near_too t.0 r t.1 ]
 
 module _ {E : Type 0} where
   new_rests : (slots rooms : ℕ) → slots ≡ rooms + 1 → let first : View E = newcomer rooms in IsResting slots (first, [])
@@ -64,7 +62,7 @@ module _ {E : Type 0} where
   pub kept_seated : (z z' : TableId) (n : ℕ) (m k : SeatState E) (tickets left : List ℕ) → IsSeated z m tickets → z' ≡ z → k ≡ (view_keeping n m.0, []) → left ≡ drop n tickets → IsSeated z' k left
   kept_seated z z' n m k tickets left s at is have = subst (λ (q : TableId × SeatState E). IsSeated q.0 q.1 left) (λ i. (sym at i, sym is i)) record {
     table = s.table;
-    rests = (s.rests.0, s.rests.1, refl, keeps_some m.0.known.share s.rests.3, λ i r a. let t = at_drop n m.0.free i r a in s.rests.4 t.0 r t.1);
+    rests = (s.rests.0, s.rests.1, refl, keeps_some m.0.known.share s.rests.3, near_drop z.slots n m.0.free s.rests.4);
     free = ap (drop n) s.free ∙ sym have;
     legal = s.legal;
     alone = λ e. absurd (keeps_not_whole m.0.known.share e);
@@ -76,7 +74,7 @@ module _ {E : Type 0} where
   pub given_seated : (z z' : TableId) (n : ℕ) (m k : SeatState E) (tickets some_of : List ℕ) → IsSeated z m tickets → z' ≡ z → k ≡ (view_giving n m.0, []) → some_of ≡ take n tickets → IsSeated z' k some_of
   given_seated z z' n m k tickets some_of s at is have = subst (λ (q : TableId × SeatState E). IsSeated q.0 q.1 some_of) (λ i. (sym at i, sym is i)) record {
     table = s.table;
-    rests = (refl, refl, refl, gives_some m.0.known.share s.rests.3, λ i r a. s.rests.4 i r (at_take n m.0.free i r a).0);
+    rests = (refl, refl, refl, gives_some m.0.known.share s.rests.3, near_take z.slots n m.0.free s.rests.4);
     free = ap (take n) s.free ∙ sym have;
     legal = subst (λ h. Legal h) (sym (plain_unmarked m.0.known.seen)) s.legal;
     alone = λ e. absurd (not_whole m.0.known.share e);
@@ -90,7 +88,7 @@ module _ {E : Type 0} where
       → IsKnown (λ h. seen.LegalReversed h) (view_absorbing m.0 o.0).known → NonePending (view_absorbing m.0 o.0).known.share (plain (view_absorbing m.0 o.0).known.seen) → NoneHolds (view_absorbing m.0 o.0).known.share (plain (view_absorbing m.0 o.0).known.seen) → all ≡ mine ++ theirs → IsSeated z' k all
   absorbed_seated z y z' m o k mine theirs all s other same at is known linked unheld have = subst (λ (q : TableId × SeatState E). IsSeated q.0 q.1 all) (λ i. (sym at i, sym is i)) record {
     table = s.table;
-    rests = (refl, refl, refl, joined_some m.0.known.share o.0.known.share s.rests.3, both_near z.slots m.0.free o.0.free s.rests.4 (subst (λ (q : TableId). Near q.slots o.0.free) same other.rests.4));
+    rests = (refl, refl, refl, joined_some m.0.known.share o.0.known.share s.rests.3, near_append z.slots m.0.free o.0.free s.rests.4 (subst (λ (q : TableId). Near q.slots o.0.free) same other.rests.4));
     free = (λ i. s.free i ++ other.free i) ∙ sym have;
     legal = told_legal same_name (plain (view_absorbing m.0 o.0).known.seen) known.legal;
     alone = known.alone;

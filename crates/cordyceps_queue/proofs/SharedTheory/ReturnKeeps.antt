@@ -7,6 +7,8 @@ use lib.ListN.{get_elem?}
 use Rattle.atomic_table.specs.Table.{Act, keeps, gives, stepped, homes_after, carried_after, Valid, Allows}
 use Rattle.atomic_table.specs.Table as table
 use Rattle.atomic_table.proofs.Lists.{set_here, set_else}
+use Rattle.cordyceps_shared.specs.Words as word
+use Rattle.cordyceps_shared.specs.declared.layout.TheConstants.{LINKS}
 use Rattle.cordyceps_shared.specs.Histories.{events}
 use Rattle.cordyceps_shared.proofs.Changing.{one_set}
 use Rattle.cordyceps_shared.proofs.Telling.{at_length, owned_same, fits_same}
@@ -15,8 +17,8 @@ use Rattle.cordyceps_shared.specs.Places.{ItemAt}
 use Rattle.cordyceps_queue.specs.History.{actor}
 use Rattle.cordyceps_queue.specs.declared.cores.stage.Stage.TheVariants.{Cleared}
 use Rattle.cordyceps_queue.specs.Cores.Meets.{Spare, Meets}
-use Rattle.cordyceps_queue.specs.Shared.Plays.{SeatState, Near, carry}
-use Rattle.cordyceps_shared.specs.Slots.{Homes, EmptyAtHome, Hand}
+use Rattle.cordyceps_queue.specs.Shared.Plays.{SeatState, carry}
+use Rattle.cordyceps_shared.specs.Slots.{Near, Homes, EmptyAtHome, Hand}
 use Rattle.cordyceps_queue.specs.Shared.Rule.{TableState, link_of, party, machine_of, RuleHolds}
 use Rattle.cordyceps_queue.specs.Shared.View.{View, knows}
 use Rattle.cordyceps_queue.specs.Cores.Abstract.{update}
@@ -121,10 +123,10 @@ module _ {E : Type 0} where
     where
       unchanged : machine_of k.cell s.words s.views ≡ machine_of k.cell s.words (set s.views id (view_returned v))
       unchanged i = record {
-        head = get_or s.words 0 0;
-        right = get_or s.words 1 0;
-        count = length s.words - 2;
-        next = λ r. link_of (get_or s.words (2 + r) 0);
+        head = word.head s.words;
+        right = word.right s.words;
+        count = length s.words - LINKS;
+        next = λ r. link_of (word.next s.words r);
         cell = k.cell;
         party = (sym (put_again (core s k).party id (party v) (party_at s k id v at named)) ∙ views_put s k id v at named (view_returned v) named) i;
       }

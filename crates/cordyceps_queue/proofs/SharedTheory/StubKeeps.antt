@@ -1,9 +1,13 @@
 -- The steps of a try to dequeue at the stub, and of putting it in, keep the rule of a queue's table.
-use Rattle.std.proofs.Common.{◌≡◌, ◌≢◌, ℕ, zero, suc, ◌+◌, ◌-◌, ◌<◌, List, [], ◌∷◌, ◌++◌, length, set, get_or, Some, None, refl, sym, ap, ◌∙◌, subst, inl, inr, arith, get_or-set_other, get_or-set_same, length-set}
+use Rattle.std.proofs.Common.{◌≡◌, ◌≢◌, ℕ, zero, suc, ◌+◌, ◌-◌, ◌<◌, List, [], ◌∷◌, ◌++◌, length, set, get_or, Some, None, refl, sym, ap, ◌∙◌, subst, inl, inr, arith, length-set}
 use mathlib.Core.Option.{some, none}
 use native.Mathlib.Decide.{ℕ_discrete}
 use lib.ListN.{get_elem?}
 use Rattle.atomic_table.specs.Table.{keeps, carried_after, stepped, step, Allows}
+use Rattle.cordyceps_shared.specs.Slots.{Near}
+use Rattle.cordyceps_shared.specs.Words as word
+use Rattle.cordyceps_shared.specs.declared.layout.TheConstants.{HEAD, LINKS}
+use Rattle.cordyceps_shared.proofs.Words.{head_set, right_beside_head, head_beside_next, right_beside_next}
 use Rattle.cordyceps_shared.specs.Shares.{Name}
 use Rattle.cordyceps_queue.specs.declared.cores.stage.Stage.{Stage}
 use Rattle.cordyceps_queue.specs.declared.cores.stage.Stage.TheVariants.{Cleared, Holding, StubNull, Second, Null, PutClear, PutSwap, PutLink, PutRead}
@@ -11,7 +15,7 @@ use Rattle.cordyceps_queue.specs.History.{Event}
 use Rattle.cordyceps_shared.specs.Places.{ItemAt}
 use Rattle.cordyceps_queue.specs.Cores.Meets.{Owes, tail_of, Chain, AtStage, Meets}
 use Rattle.cordyceps_queue.specs.Past.{WasBlocked}
-use Rattle.cordyceps_queue.specs.Shared.Plays.{SeatState, Near, Sees, carry, stands_at, hands_out, Blocked}
+use Rattle.cordyceps_queue.specs.Shared.Plays.{SeatState, Sees, carry, stands_at, hands_out, Blocked}
 use Rattle.cordyceps_queue.specs.Shared.Plays as play
 use Rattle.cordyceps_queue.specs.Shared.Rule.{TableState, link_of, machine_of, FullAtHome, party, RuleHolds}
 use Rattle.cordyceps_queue.specs.Shared.View.{View, name}
@@ -61,7 +65,7 @@ module _ {E : Type 0} (s : TableState E) (k : RuleHolds s) (id : ℕ) (v : View 
     tail_at : ItemAt k.chain.rooms 0 0
     tail_at = (keeping core k.chain past k.meets id (party v) is_there 0 (ap tail_of holding)).tail
 
-    looks_stub_bare : (slots : ℕ) → length s.homes ≡ slots → (x : ℕ) → get_or s.words 2 0 ≡ x → Comes s k id v at named bare 2 (get_or s.words 2 0) (play.looked_stub (step slots 2 0 0 none) (v, []))
+    looks_stub_bare : (slots : ℕ) → length s.homes ≡ slots → (x : ℕ) → word.next s.words 0 ≡ x → Comes s k id v at named bare LINKS (word.next s.words 0) (play.looked_stub (step slots LINKS 0 0 none) (v, []))
     looks_stub_bare slots deep zero e =
         let nothing : (a b : ℕ) → Owes v.stage a b → ⊥ = λ a b o. subst (λ l. Owes l a b) holding o in
         let open_link : core.next 0 ≡ None = ap link_of e in
@@ -70,12 +74,12 @@ module _ {E : Type 0} (s : TableState E) (k : RuleHolds s) (id : ℕ) (v : View 
           inl refl,
           (λ far. inl (inl refl, open_blocks core k.chain (look ∷ past) looked id (party v) is_there 0 (ap tail_of holding) nothing open_link far)),
         ) in
-        let r = reads s k id v at named bare (look ∷ []) (refl, tt) StubNull k.chain met (same_rooms s k id v at named bare) (λ q is. cc) 2 in
+        let r = reads s k id v at named bare (look ∷ []) (refl, tt) StubNull k.chain met (same_rooms s k id v at named bare) (λ q is. cc) LINKS in
         (view (look ∷ []) StubNull, keeps, tt, r.0, λ _. ((λ _. stood s k id v at named bare (look ∷ []) StubNull r.1), λ r' f. absurd (zero_suc (sym e ∙ f))))
     looks_stub_bare slots deep (suc r) e =
         let linked : core.next 0 ≡ Some r = ap link_of e in
         let met = pass_keeps core k.chain (look ∷ past) looked id (party v) is_there r holding linked (inl refl) in
-        let o = reads s k id v at named bare (look ∷ []) (refl, tt) (Second r) (chain_after_pass core k.chain (look ∷ past) looked id (party v) is_there r holding linked (inl refl)) met (less_rooms s k id v at named bare) (λ q is. cc) 2 in
+        let o = reads s k id v at named bare (look ∷ []) (refl, tt) (Second r) (chain_after_pass core k.chain (look ∷ past) looked id (party v) is_there r holding linked (inl refl)) met (less_rooms s k id v at named bare) (λ q is. cc) LINKS in
         let at_second = second core k.chain past k.meets 0 r tail_at linked in
         let near = chain_near s k 1 r at_second in
         let ne : r ≢ 0 = λ z. zero_suc (k.meets.once 0 1 0 tail_at (subst (ItemAt k.chain.rooms 1) z at_second)) in
@@ -89,7 +93,7 @@ module _ {E : Type 0} (s : TableState E) (k : RuleHolds s) (id : ℕ) (v : View 
 
   -- ---- the read of head behind a null link
   module _ (at_null : v.stage ≡ StubNull) where
-    heads_stub_bare : (slots : ℕ) → Dec (get_or s.words 0 0 ≡ 0) → Comes s k id v at named bare 0 (get_or s.words 0 0) (play.headed_stub (step slots 0 0 0 none) (v, []))
+    heads_stub_bare : (slots : ℕ) → Dec (word.head s.words ≡ 0) → Comes s k id v at named bare HEAD (word.head s.words) (play.headed_stub (step slots HEAD 0 0 none) (v, []))
     heads_stub_bare slots (yes e) =
         let x : Event Name E = Event.Empty (name v) in
         let has : tail_of v.stage ≡ Some 0 = ap tail_of at_null in
@@ -97,10 +101,10 @@ module _ {E : Type 0} (s : TableState E) (k : RuleHolds s) (id : ℕ) (v : View 
         let held = record (party v) { stage = Holding 0 } in
         let back : Meets (stands core id (party v) (Holding 0)) k.chain past = stage_keeps core k.chain past k.meets id (party v) is_there 0 has (Holding 0) refl (λ a b o. absurd (subst (λ l. Owes l a b) at_null o)) mine in
         let met = tell_keeps (stands core id (party v) (Holding 0)) k.chain past back id held (put_same core.party id (Some held)) 0 refl x refl (mine.held_by, none_held core k.chain past k.meets id (party v) is_there 0 has refl e) refl refl (λ q s. s) (λ q n w. w) in
-        let r = reads s k id v at named bare (x ∷ []) (refl, tt) (Holding 0) k.chain met (same_rooms s k id v at named bare) (λ q is. cc) 0 in
+        let r = reads s k id v at named bare (x ∷ []) (refl, tt) (Holding 0) k.chain met (same_rooms s k id v at named bare) (λ q is. cc) HEAD in
         (view (x ∷ []) (Holding 0), keeps, tt, r.0, λ _. ((λ _. stood s k id v at named bare (x ∷ []) (Holding 0) r.1), λ ne. absurd (ne e)))
     heads_stub_bare slots (no ne) =
-        let c = fails 0 0 (ap tail_of at_null) (λ a b o. subst (λ l. Owes l a b) at_null o) ((fits_at StubNull at_null).2 ne) in
+        let c = fails 0 HEAD (ap tail_of at_null) (λ a b o. subst (λ l. Owes l a b) at_null o) ((fits_at StubNull at_null).2 ne) in
         (c.0, c.1, c.2, c.3, λ _. ((λ e. absurd (ne e)), λ _. c.4))
 
   module _ (t : ℕ) (at_null : v.stage ≡ Null t) where
@@ -108,16 +112,16 @@ module _ {E : Type 0} (s : TableState E) (k : RuleHolds s) (id : ℕ) (v : View 
     HeadTells : ℕ → SeatState E → Type 0
     HeadTells found z = (found ≡ t → stands_at [] (PutClear t) (v, []) z) × (found ≢ t → stands_at [] (Holding t) (v, []) z × Blocked z.0)
 
-    heads_bare : Dec (get_or s.words 0 0 ≡ t) → Comes s k id v at named bare 0 (get_or s.words 0 0) HeadTells
+    heads_bare : Dec (word.head s.words ≡ t) → Comes s k id v at named bare HEAD (word.head s.words) HeadTells
     unfolding HeadTells
     heads_bare (yes e) =
         let f = fits_at (Null t) at_null in
         let met = stage_keeps core k.chain past k.meets id (party v) is_there t (ap tail_of at_null) (PutClear t) refl (λ a b o. absurd (subst (λ l. Owes l a b) at_null o))
         (f.0, stub_out core k.chain past k.meets id (party v) is_there t (ap tail_of at_null) f.0.is_real e) in
-        let r = reads s k id v at named bare [] tt (PutClear t) k.chain met (same_rooms s k id v at named bare) (λ q is. cc) 0 in
+        let r = reads s k id v at named bare [] tt (PutClear t) k.chain met (same_rooms s k id v at named bare) (λ q is. cc) HEAD in
         (view [] (PutClear t), keeps, tt, r.0, ((λ _. stood s k id v at named bare [] (PutClear t) r.1), λ ne. absurd (ne e)))
     heads_bare (no ne) =
-        let c = fails t 0 (ap tail_of at_null) (λ a b o. subst (λ l. Owes l a b) at_null o) ((fits_at (Null t) at_null).1 ne) in
+        let c = fails t HEAD (ap tail_of at_null) (λ a b o. subst (λ l. Owes l a b) at_null o) ((fits_at (Null t) at_null).1 ne) in
         (c.0, c.1, c.2, c.3, ((λ e. absurd (ne e)), λ _. c.4))
 
   -- ---- the stub is put in
@@ -127,51 +131,51 @@ module _ {E : Type 0} (s : TableState E) (k : RuleHolds s) (id : ℕ) (v : View 
   stores stage chain next i x same met full away =
       keeps_rule s k id [] v (view [] stage) (set s.words i x) s.homes k.cell chain next at named tt refl same met (length-set s.words i x) refl full (empties_same s k id (view [] stage) (k.empty id v at named)) (readies_same s k id (view [] stage) away)
 
-  clears_stub_bare : (t : ℕ) → v.stage ≡ PutClear t → Comes s k id v at named bare 2 0 (λ _. stands_at [] (PutSwap t) (v, []))
+  clears_stub_bare : (t : ℕ) → v.stage ≡ PutClear t → Comes s k id v at named bare LINKS 0 (λ _. stands_at [] (PutSwap t) (v, []))
   clears_stub_bare t l =
-      let r = stores (PutSwap t) k.chain (clear_stub core id (party v) t) 2 0 spelled (clear_stub_keeps core k.chain past k.meets id (party v) is_there t l) k.full (λ q is. cc) in
+      let r = stores (PutSwap t) k.chain (clear_stub core id (party v) t) LINKS 0 spelled (clear_stub_keeps core k.chain past k.meets id (party v) is_there t l) k.full (λ q is. cc) in
       (view [] (PutSwap t), keeps, tt, r.0, stood s k id v at named bare [] (PutSwap t) r.1)
     where
-      spelled : clear_stub core id (party v) t ≡ machine_of k.cell (set s.words 2 0) (set s.views id (view [] (PutSwap t)))
+      spelled : clear_stub core id (party v) t ≡ machine_of k.cell (set s.words LINKS 0) (set s.views id (view [] (PutSwap t)))
       spelled j = record {
-        head = sym (get_or-set_other s.words 2 0 0 0 (λ x. absurd (omega arith))) j;
-        right = sym (get_or-set_other s.words 2 1 0 0 (λ x. absurd (omega arith))) j;
-        count = ap (λ l. l - 2) (sym (length-set s.words 2 0)) j;
+        head = sym (head_beside_next s.words 0 0) j;
+        right = sym (right_beside_next s.words 0 0) j;
+        count = ap (λ l. l - LINKS) (sym (length-set s.words LINKS 0)) j;
         next = sym (links_put s.words 0 0 (let w = wide_words s k id v at named in let st = k.stub in omega arith)) j;
         cell = k.cell;
         party = views_put s k id v at named (view [] (PutSwap t)) named j;
       }
 
-  swaps_stub_bare : (t : ℕ) → v.stage ≡ PutSwap t → Comes s k id v at named bare 0 0 (λ found. stands_at [] (PutLink t found) (v, []))
+  swaps_stub_bare : (t : ℕ) → v.stage ≡ PutSwap t → Comes s k id v at named bare HEAD 0 (λ found. stands_at [] (PutLink t found) (v, []))
   swaps_stub_bare t l =
-      let old = get_or s.words 0 0 in
-      let r = stores (PutLink t old) (chain_after_stub core k.chain past k.meets id (party v) is_there t l) (swap_head core id (party v) 0 (PutLink t old)) 0 0 spelled
+      let old = word.head s.words in
+      let r = stores (PutLink t old) (chain_after_stub core k.chain past k.meets id (party v) is_there t l) (swap_head core id (party v) 0 (PutLink t old)) HEAD 0 spelled
       (swap_stub_keeps core k.chain past k.meets id (party v) is_there t l) full (λ q is. cc) in
       (view [] (PutLink t old), keeps, tt, r.0, stood s k id v at named bare [] (PutLink t old) r.1)
     where
-      spelled : swap_head core id (party v) 0 (PutLink t (get_or s.words 0 0)) ≡ machine_of k.cell (set s.words 0 0) (set s.views id (view [] (PutLink t (get_or s.words 0 0))))
+      spelled : swap_head core id (party v) 0 (PutLink t (word.head s.words)) ≡ machine_of k.cell (set s.words HEAD 0) (set s.views id (view [] (PutLink t (word.head s.words))))
       spelled j = record {
-        head = sym (get_or-set_same s.words 0 0 0 (let w = wide_words s k id v at named in omega arith)) j;
-        right = sym (get_or-set_other s.words 0 1 0 0 (λ x. absurd (omega arith))) j;
-        count = ap (λ l. l - 2) (sym (length-set s.words 0 0)) j;
-        next = sym (links_same s.words 0 0 (omega arith)) j;
+        head = sym (head_set s.words 0 (let w = wide_words s k id v at named in omega arith)) j;
+        right = sym (right_beside_head s.words 0) j;
+        count = ap (λ l. l - LINKS) (sym (length-set s.words HEAD 0)) j;
+        next = sym (links_same s.words HEAD 0 (omega arith)) j;
         cell = k.cell;
-        party = views_put s k id v at named (view [] (PutLink t (get_or s.words 0 0))) named j;
+        party = views_put s k id v at named (view [] (PutLink t (word.head s.words))) named j;
       }
 
       full : FullAtHome s.homes k.cell (k.chain.rooms ++ 0 ∷ [])
       full i x ix ne = elim (at_split k.chain.rooms 0 i x ix) [ inl a ↦ k.full i x a ne | inr a ↦ absurd (ne a.1) ]
 
-  links_stub_bare : (t old : ℕ) → v.stage ≡ PutLink t old → old < length s.homes → Comes s k id v at named bare (2 + old) 1 (λ _. stands_at [] (PutRead t) (v, []))
+  links_stub_bare : (t old : ℕ) → v.stage ≡ PutLink t old → old < length s.homes → Comes s k id v at named bare (LINKS + old) 1 (λ _. stands_at [] (PutRead t) (v, []))
   links_stub_bare t old l inside =
-      let r = stores (PutRead t) k.chain (link_next core id (party v) old 0 (PutRead t)) (2 + old) 1 spelled (link_stub_keeps core k.chain past k.meets id (party v) is_there t old l) k.full (λ q is. cc) in
+      let r = stores (PutRead t) k.chain (link_next core id (party v) old 0 (PutRead t)) (LINKS + old) 1 spelled (link_stub_keeps core k.chain past k.meets id (party v) is_there t old l) k.full (λ q is. cc) in
       (view [] (PutRead t), keeps, tt, r.0, stood s k id v at named bare [] (PutRead t) r.1)
     where
-      spelled : link_next core id (party v) old 0 (PutRead t) ≡ machine_of k.cell (set s.words (2 + old) 1) (set s.views id (view [] (PutRead t)))
+      spelled : link_next core id (party v) old 0 (PutRead t) ≡ machine_of k.cell (set s.words (LINKS + old) 1) (set s.views id (view [] (PutRead t)))
       spelled j = record {
-        head = sym (get_or-set_other s.words (2 + old) 0 1 0 (λ x. absurd (omega arith))) j;
-        right = sym (get_or-set_other s.words (2 + old) 1 1 0 (λ x. absurd (omega arith))) j;
-        count = ap (λ l. l - 2) (sym (length-set s.words (2 + old) 1)) j;
+        head = sym (head_beside_next s.words old 1) j;
+        right = sym (right_beside_next s.words old 1) j;
+        count = ap (λ l. l - LINKS) (sym (length-set s.words (LINKS + old) 1)) j;
         next = sym (links_put s.words old 1 (let w = wide_words s k id v at named in let st = inside in omega arith)) j;
         cell = k.cell;
         party = views_put s k id v at named (view [] (PutRead t)) named j;
@@ -182,18 +186,18 @@ module _ {E : Type 0} (s : TableState E) (k : RuleHolds s) (id : ℕ) (v : View 
     RereadTells : ℕ → ℕ → SeatState E → Type 0
     RereadTells slots found z = (found ≡ 0 → stands_at [] (Holding t) (v, []) z × Blocked z.0) × ((r : ℕ) → found ≡ suc r → hands_out [] slots t r (v, []) z)
 
-    rereads_bare : (slots : ℕ) → length s.homes ≡ slots → (i : ℕ) → i ≡ t + 2 → (x : ℕ) → get_or s.words i 0 ≡ x → Comes s k id v at named bare i (get_or s.words i 0) (RereadTells slots)
+    rereads_bare : (slots : ℕ) → length s.homes ≡ slots → (i : ℕ) → i ≡ LINKS + t → (x : ℕ) → get_or s.words i 0 ≡ x → Comes s k id v at named bare i (get_or s.words i 0) (RereadTells slots)
     unfolding RereadTells
     rereads_bare slots deep i is zero e =
         let f = fits_at (PutRead t) at_put in
         let nothing : (a b : ℕ) → Owes v.stage a b → ⊥ = λ a b o. subst (λ l. Owes l a b) at_put o in
-        let sum : 2 + t ≡ i = omega arith in
+        let sum : LINKS + t ≡ i = omega arith in
         let open_link : core.next t ≡ None = ap link_of (ap (λ q. get_or s.words q 0) sum ∙ e) in
         let c = fails t i (ap tail_of at_put) nothing (was_now (name v) past f.0.looked (open_blocks core k.chain past k.meets id (party v) is_there t (ap tail_of at_put) nothing open_link f.1)) in
         (c.0, c.1, c.2, c.3, ((λ _. c.4), λ r g. absurd (zero_suc (sym e ∙ g))))
     rereads_bare slots deep i is (suc r) e =
         let f = fits_at (PutRead t) at_put in
-        let sum : 2 + t ≡ i = omega arith in
+        let sum : LINKS + t ≡ i = omega arith in
         let linked : core.next t ≡ Some r = ap link_of (ap (λ q. get_or s.words q 0) sum ∙ e) in
         let c = hands s k id v at named bare [] tt k.meets t r i (ap tail_of at_put) (λ a b o. subst (λ l. Owes l a b) at_put o) f.0.is_real linked slots deep in
         (c.0, c.1, c.2, c.3, ((λ g. absurd (suc_zero (sym e ∙ g))), λ r' g. subst (λ q. hands_out [] slots t q (v, []) (c.0, carried_after [] c.1)) (suc_inj (sym e ∙ g)) c.4))
@@ -214,13 +218,13 @@ same_link : {p : Stage} {t u a b : ℕ} → p ≡ PutLink t a → p ≡ PutLink 
 same_link a b = some_inj (ap tail_of (sym a ∙ b))
 
 module _ {E : Type 0} (slots id : ℕ) (me : SeatState E) (hand : me.1 ≡ carry me.0.back) (near : Near slots me.0.back) (named : me.0.known.share ≢ []) where
-  pub looks_stub : me.0.stage ≡ Holding 0 → Allows RuleHolds slots id me 2 (λ x. x) (play.looked_stub (step slots 2 0 0 none) me)
-  looks_stub holding = returning slots id 2 me (λ x. x) (play.looked_stub (step slots 2 0 0 none) me) hand near named
-      (λ s k deep at fits. looks_stub_bare s k id (view_returned me.0) at named refl holding slots deep (get_or s.words 2 0) refl)
+  pub looks_stub : me.0.stage ≡ Holding 0 → Allows RuleHolds slots id me LINKS (λ x. x) (play.looked_stub (step slots LINKS 0 0 none) me)
+  looks_stub holding = returning slots id LINKS me (λ x. x) (play.looked_stub (step slots LINKS 0 0 none) me) hand near named
+      (λ s k deep at fits. looks_stub_bare s k id (view_returned me.0) at named refl holding slots deep (word.next s.words 0) refl)
 
-  pub heads_stub : me.0.stage ≡ StubNull → Allows RuleHolds slots id me 0 (λ x. x) (play.headed_stub (step slots 0 0 0 none) me)
-  heads_stub at_null = returning slots id 0 me (λ x. x) (play.headed_stub (step slots 0 0 0 none) me) hand near named
-      (λ s k deep at fits. heads_stub_bare s k id (view_returned me.0) at named refl at_null slots (ℕ_discrete (get_or s.words 0 0) 0))
+  pub heads_stub : me.0.stage ≡ StubNull → Allows RuleHolds slots id me HEAD (λ x. x) (play.headed_stub (step slots HEAD 0 0 none) me)
+  heads_stub at_null = returning slots id HEAD me (λ x. x) (play.headed_stub (step slots HEAD 0 0 none) me) hand near named
+      (λ s k deep at fits. heads_stub_bare s k id (view_returned me.0) at named refl at_null slots (ℕ_discrete (word.head s.words) 0))
 
   HeadFacts : ℕ → ℕ → SeatState E → Type 0
   HeadFacts t found z = (found ≡ t → stands_at [] (PutClear t) me z) × (found ≢ t → stands_at [] (Holding t) me z × Blocked z.0)
@@ -228,36 +232,36 @@ module _ {E : Type 0} (slots id : ℕ) (me : SeatState E) (hand : me.1 ≡ carry
   RereadFacts : ℕ → ℕ → SeatState E → Type 0
   RereadFacts t found z = (found ≡ 0 → stands_at [] (Holding t) me z × Blocked z.0) × ((r : ℕ) → found ≡ suc r → hands_out [] slots t r me z)
 
-  pub heads : (t : ℕ) → me.0.stage ≡ Null t → Allows RuleHolds slots id me 0 (λ x. x) (play.headed (step slots 0 0 0 none) me)
+  pub heads : (t : ℕ) → me.0.stage ≡ Null t → Allows RuleHolds slots id me HEAD (λ x. x) (play.headed (step slots HEAD 0 0 none) me)
   unfolding HeadTells HeadFacts
-  heads t at_null = returning slots id 0 me (λ x. x) (play.headed (step slots 0 0 0 none) me) hand near named
+  heads t at_null = returning slots id HEAD me (λ x. x) (play.headed (step slots HEAD 0 0 none) me) hand near named
       (λ s k deep at fits.
-      let c = heads_bare s k id (view_returned me.0) at named refl t at_null (ℕ_discrete (get_or s.words 0 0) t) in
-      (c.0, c.1, c.2, c.3, λ u stage. subst (λ q. HeadFacts q (get_or s.words 0 0) (c.0, carried_after [] c.1)) (same_null at_null stage) c.4))
+      let c = heads_bare s k id (view_returned me.0) at named refl t at_null (ℕ_discrete (word.head s.words) t) in
+      (c.0, c.1, c.2, c.3, λ u stage. subst (λ q. HeadFacts q (word.head s.words) (c.0, carried_after [] c.1)) (same_null at_null stage) c.4))
 
-  pub rereads : (t i : ℕ) → i ≡ t + 2 → me.0.stage ≡ PutRead t → Allows RuleHolds slots id me i (λ x. x) (play.reread (step slots i 0 0 none) me)
+  pub rereads : (t i : ℕ) → i ≡ LINKS + t → me.0.stage ≡ PutRead t → Allows RuleHolds slots id me i (λ x. x) (play.reread (step slots i 0 0 none) me)
   unfolding RereadTells RereadFacts
   rereads t i is at_put = returning slots id i me (λ x. x) (play.reread (step slots i 0 0 none) me) hand near named
       (λ s k deep at fits.
       let c = rereads_bare s k id (view_returned me.0) at named refl t at_put slots deep i is (get_or s.words i 0) refl in
       (c.0, c.1, c.2, c.3, λ u stage. subst (λ q. RereadFacts q (get_or s.words i 0) (c.0, carried_after [] c.1)) (same_put at_put stage) c.4))
 
-  pub clears_stub : (t : ℕ) → me.0.stage ≡ PutClear t → Allows RuleHolds slots id me 2 (λ _. 0) (λ _. play.cleared_stub (step slots 2 0 0 none) me 0)
-  clears_stub t l = returning slots id 2 me (λ _. 0) (λ _. play.cleared_stub (step slots 2 0 0 none) me 0) hand near named
+  pub clears_stub : (t : ℕ) → me.0.stage ≡ PutClear t → Allows RuleHolds slots id me LINKS (λ _. 0) (λ _. play.cleared_stub (step slots LINKS 0 0 none) me 0)
+  clears_stub t l = returning slots id LINKS me (λ _. 0) (λ _. play.cleared_stub (step slots LINKS 0 0 none) me 0) hand near named
       (λ s k deep at fits.
       let c = clears_stub_bare s k id (view_returned me.0) at named refl t l in
       (c.0, c.1, c.2, c.3, λ u stage. subst (λ q. stands_at [] (PutSwap q) me (c.0, carried_after [] c.1)) (same_clear l stage) c.4))
 
-  pub swaps_stub : (t : ℕ) → me.0.stage ≡ PutSwap t → Allows RuleHolds slots id me 0 (λ _. 0) (play.swapped_stub (step slots 0 0 0 none) me)
-  swaps_stub t l = returning slots id 0 me (λ _. 0) (play.swapped_stub (step slots 0 0 0 none) me) hand near named
+  pub swaps_stub : (t : ℕ) → me.0.stage ≡ PutSwap t → Allows RuleHolds slots id me HEAD (λ _. 0) (play.swapped_stub (step slots HEAD 0 0 none) me)
+  swaps_stub t l = returning slots id HEAD me (λ _. 0) (play.swapped_stub (step slots HEAD 0 0 none) me) hand near named
       (λ s k deep at fits.
       let c = swaps_stub_bare s k id (view_returned me.0) at named refl t l in
       let h = head_near s k in
-      (c.0, c.1, c.2, c.3, λ u stage. (subst (λ q. stands_at [] (PutLink q (get_or s.words 0 0)) me (c.0, carried_after [] c.1)) (same_swap l stage) c.4, omega arith)))
+      (c.0, c.1, c.2, c.3, λ u stage. (subst (λ q. stands_at [] (PutLink q (word.head s.words)) me (c.0, carried_after [] c.1)) (same_swap l stage) c.4, omega arith)))
 
-  pub links_stub : (t old i : ℕ) → i ≡ old + 2 → old < slots → me.0.stage ≡ PutLink t old → Allows RuleHolds slots id me i (λ _. 1) (λ _. play.linked_stub (step slots i 1 0 none) me 1)
+  pub links_stub : (t old i : ℕ) → i ≡ LINKS + old → old < slots → me.0.stage ≡ PutLink t old → Allows RuleHolds slots id me i (λ _. 1) (λ _. play.linked_stub (step slots i 1 0 none) me 1)
   links_stub t old i is inside l = returning slots id i me (λ _. 1) (λ _. play.linked_stub (step slots i 1 0 none) me 1) hand near named
       (λ s k deep at fits.
       let c = links_stub_bare s k id (view_returned me.0) at named refl t old l (omega arith) in
-      let sum : 2 + old ≡ i = omega arith in
+      let sum : LINKS + old ≡ i = omega arith in
       (c.0, c.1, c.2, subst (λ (q : ℕ). RuleHolds (stepped s q 1 id [] c.0 c.1)) sum c.3, λ u o stage. subst (λ q. stands_at [] (PutRead q) me (c.0, carried_after [] c.1)) (same_link l stage) c.4))

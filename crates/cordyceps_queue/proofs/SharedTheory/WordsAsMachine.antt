@@ -1,5 +1,5 @@
 -- A change of a queue's words and views is a change of its machine.
-use Rattle.std.proofs.Common.{◌≡◌, ◌≢◌, ℕ, suc, ◌+◌, ◌<◌, List, [], ◌∷◌, ◌++◌, length, reverse, set, get_or, Option, Some, refl, sym, ap, ◌∙◌, subst, arith, get_or-set_other, get_or-set_same}
+use Rattle.std.proofs.Common.{◌≡◌, ◌≢◌, ℕ, suc, ◌+◌, ◌<◌, List, [], ◌∷◌, ◌++◌, length, reverse, set, Option, Some, refl, sym, ap, ◌∙◌, subst, arith, get_or-set_other}
 use Rattle.std.proofs.lemmas.List.{reverse-append}
 use mathlib.Core.Option.{some, none}
 use mathlib.Core.Option as maybe
@@ -7,6 +7,9 @@ use mathlib.Core.Path.{fun_ext}
 use native.Mathlib.Decide.{ℕ_discrete}
 use lib.ListN.{get_elem?}
 use Rattle.atomic_table.proofs.Lists.{set_here, set_else}
+use Rattle.cordyceps_shared.specs.Words as word
+use Rattle.cordyceps_shared.specs.declared.layout.TheConstants.{LINKS}
+use Rattle.cordyceps_shared.proofs.Words.{next_set, next_beside_next}
 use Rattle.cordyceps_shared.specs.Histories.{events, of_seat}
 use Rattle.cordyceps_shared.specs.Knowing.{Under, all_seen}
 use Rattle.cordyceps_shared.specs.Shares.{Name}
@@ -31,20 +34,20 @@ at_behind (x ∷ xs) ys i a p = let e : suc (length xs + i) ≡ suc (length xs) 
 
 -- the links that the words are
 abbrev pub links : List ℕ → ℕ → Option ℕ
-links words j = link_of (get_or words (2 + j) 0)
+links words j = link_of (word.next words j)
 
 -- a store to a link
-pub links_put : (words : List ℕ) (r n : ℕ) → 2 + r < length words → links (set words (2 + r) n) ≡ update (links words) r (link_of n)
+pub links_put : (words : List ℕ) (r n : ℕ) → LINKS + r < length words → links (set words (LINKS + r) n) ≡ update (links words) r (link_of n)
 links_put words r n lt = fun_ext (λ j. elim (ℕ_discrete j r) [
   | yes same ↦
-      let here : links (set words (2 + r) n) r ≡ link_of n = ap link_of (get_or-set_same words (2 + r) n 0 lt) in
-      subst (λ k. links (set words (2 + r) n) k ≡ update (links words) r (link_of n) k) (sym same) (here ∙ sym (put_same (links words) r (link_of n)))
-  | no ne ↦ ap link_of (get_or-set_other words (2 + r) (2 + j) n 0 (λ e. ne (omega arith))) ∙ sym (put_other (links words) r (link_of n) j ne)
+      let here : links (set words (LINKS + r) n) r ≡ link_of n = ap link_of (next_set words r n lt) in
+      subst (λ k. links (set words (LINKS + r) n) k ≡ update (links words) r (link_of n) k) (sym same) (here ∙ sym (put_same (links words) r (link_of n)))
+  | no ne ↦ ap link_of (next_beside_next words r j n ne) ∙ sym (put_other (links words) r (link_of n) j ne)
 ])
 
 -- a store to head or the right leaves the links
-pub links_same : (words : List ℕ) (i n : ℕ) → i < 2 → links (set words i n) ≡ links words
-links_same words i n lt = fun_ext (λ j. ap link_of (get_or-set_other words i (2 + j) n 0 (λ e. absurd (omega arith))))
+pub links_same : (words : List ℕ) (i n : ℕ) → i < LINKS → links (set words i n) ≡ links words
+links_same words i n lt = fun_ext (λ j. ap link_of (get_or-set_other words i (LINKS + j) n 0 (λ e. absurd (omega arith))))
 
 named_party : (names : List Name) (p : AbstractParty Name) → names ≢ [] → party_if names p ≡ Some p
 named_party [] p some_name = absurd (some_name refl)
@@ -120,8 +123,8 @@ module _ {E : Type 0} where
       | no ne ↦ at_length s.homes r (some (slot_of r (k.cell r))) (k.full i r ir ne)
     ]
 
-    pub head_near : get_or s.words 0 0 < length s.homes
-    head_near = chain_near k.meets.last.0 (get_or s.words 0 0) k.meets.last.2
+    pub head_near : word.head s.words < length s.homes
+    head_near = chain_near k.meets.last.0 (word.head s.words) k.meets.last.2
 
     -- the cleared room of another party, or of this one before the step, is that party's alone
     ready_owner : (j : ℕ) (u : View E) (r : ℕ) → get_elem? s.views j ≡ some u → u.known.share ≢ [] → u.stage ≡ Cleared r → k.chain.owner r ≡ Ready j

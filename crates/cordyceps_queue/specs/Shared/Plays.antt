@@ -9,17 +9,12 @@ use Rattle.cordyceps_queue.specs.declared.cores.stage.Stage.{Stage}
 use Rattle.cordyceps_queue.specs.declared.cores.stage.Stage.TheVariants.{Rest, Cleared, Swapped, Holding, StubNull, Second, Null, PutClear, PutSwap, PutLink, PutRead}
 use Rattle.cordyceps_shared.specs.declared.slots.Filled.{Filled}
 use Rattle.cordyceps_queue.specs.History.{Event, actor}
-use Rattle.cordyceps_shared.specs.Places.{ItemAt}
 use Rattle.cordyceps_queue.specs.Past.{IsLegal, WasBlocked}
-use Rattle.cordyceps_shared.specs.Slots.{Hand, TableStep, full_slot}
+use Rattle.cordyceps_shared.specs.Slots.{Hand, Near, TableStep, full_slot}
 use Rattle.cordyceps_queue.specs.Shared.View.{View, name}
 
 abbrev pub SeatState : Type 0 → Type 0
 SeatState E = Me (Option (Filled E)) (View E)
-
--- the rooms are of a table with that many slots
-abbrev pub Near : ℕ → List ℕ → Type 0
-Near slots rooms = (i r : ℕ) → ItemAt rooms i r → r < slots
 
 module _ {E : Type 0} where
   abbrev pub LegalReversed : List (Event Name E) → Type 0

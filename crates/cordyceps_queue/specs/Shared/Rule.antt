@@ -1,5 +1,5 @@
 -- The rule of a queue's table, which each step of each party keeps.
-use Rattle.std.specs.Prelude.{◌≡◌, ◌≢◌, ℕ, zero, suc, ◌+◌, ◌-◌, ◌≤◌, List, [], ◌∷◌, ◌++◌, length, reverse, Option, Some, None, slice_index}
+use Rattle.std.specs.Prelude.{◌≡◌, ◌≢◌, ℕ, zero, suc, ◌+◌, ◌-◌, ◌≤◌, List, [], ◌∷◌, ◌++◌, length, reverse, Option, Some, None}
 use mathlib.Core.Option.{some, none}
 use mathlib.Core.Option as maybe
 use lib.ListN.{get_elem?}
@@ -9,6 +9,8 @@ use Rattle.cordyceps_base.specs.declared.shared.TheConstants.{MAX_ROOMS}
 use Rattle.cordyceps_shared.specs.Histories.{events}
 use Rattle.cordyceps_shared.specs.Knowing.{SharesApart, AllAgree}
 use Rattle.cordyceps_shared.specs.Shares.{Name}
+use Rattle.cordyceps_shared.specs.Words as word
+use Rattle.cordyceps_shared.specs.declared.layout.TheConstants.{LINKS}
 use Rattle.cordyceps_queue.specs.declared.cores.stage.Stage.TheVariants.{Cleared}
 use Rattle.cordyceps_shared.specs.Slots.{Homes, full_slot, EmptyAtHome}
 use Rattle.cordyceps_shared.specs.declared.slots.Filled.{Filled}
@@ -48,14 +50,13 @@ module _ {E : Type 0} where
   party_of none = None
   party_of (some v) = party_if v.known.share (party v)
 
-  -- The machine that the words and the views spell: word 0 is head, word 1 the right, and word 2 + r the link of room r. What
-  -- the rooms have is said apart, since a slot may be out with a seat.
+  -- The machine that the words and the views spell. What the rooms have is said apart, since a slot may be out with a seat.
   abbrev pub machine_of : (ℕ → Option E) → List ℕ → List (View E) → AbstractMachine Name E
   machine_of cell words views = record {
-    head = slice_index words 0;
-    right = slice_index words 1;
-    count = length words - 2;
-    next = λ r. link_of (slice_index words (2 + r));
+    head = word.head words;
+    right = word.right words;
+    count = length words - LINKS;
+    next = λ r. link_of (word.next words r);
     cell = cell;
     party = λ k. party_of (get_elem? views k);
   }
@@ -78,7 +79,7 @@ module _ {E : Type 0} where
     pub cell : ℕ → Option E
     pub chain : Chain
     pub meets : Meets (machine_of cell s.words s.views) chain (reverse (events history))
-    pub wide : length s.words ≡ 2 + length s.homes
+    pub wide : length s.words ≡ LINKS + length s.homes
     pub stub : 1 ≤ length s.homes
     pub full : FullAtHome s.homes cell chain.rooms
     pub empty : AllEmptyAtHome s.homes s.views
@@ -86,6 +87,6 @@ module _ {E : Type 0} where
     pub fits : AllAgree actor knows s.views history
     pub owned : SharesApart knows s.views history
 
--- a link for each slot, head and the right, and the stub's slot
+-- a link for each slot, behind the words before the links, and the stub's slot
 abbrev pub IsTable : TableId → Type 0
-IsTable z = (z.words ≡ 2 + z.slots) × (1 ≤ z.slots) × (z.slots ≤ suc MAX_ROOMS)
+IsTable z = (z.words ≡ LINKS + z.slots) × (1 ≤ z.slots) × (z.slots ≤ suc MAX_ROOMS)

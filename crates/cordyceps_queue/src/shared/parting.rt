@@ -12,6 +12,7 @@ use crate::shared::plays::{Cut, Learn, Merge};
 use crate::shared::table::{OwnedTable, PartySeat, Words};
 use atomic_table::Table;
 use cordyceps_base::shared::MAX_ROOMS;
+use cordyceps_shared::layout::{HEAD, LINKS, RIGHT};
 use cordyceps_shared::slots::Count;
 use std::alloc::{AllocError, Global};
 use std::marker::Brand;
@@ -26,8 +27,8 @@ pub(crate) fn open<E: Drop>(
     ensures { IfOk result (λ r. (r.1.table_id ≡ r.0.shared.table_id) × IsTable r.0.shared.table_id
         × (r.0.shared.table_id.slots ≡ rooms + 1) × (r.1.me ≡ (newcomer rooms, []))) }
 {
-    let mut words = vec![in alloc; 0; rooms + 3]?;
-    words[1] = 1;
+    let mut words = vec![in alloc; 0; LINKS + rooms + 1]?;
+    words[RIGHT] = 1;
     Table::vacant(alloc, words.as_slice(), rooms + 1, &rooms)
 }
 
@@ -71,5 +72,5 @@ pub(crate) fn absorb<E: Drop>(words: &Words<E>, seat: &mut PartySeat<E>, other: 
         NoneHolds known.share (plain known.seen) }
 {
     words.join_seat::<Merge>(seat, other);
-    words.load::<Learn>(seat, 0);
+    words.load::<Learn>(seat, HEAD);
 }

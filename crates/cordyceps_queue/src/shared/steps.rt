@@ -9,6 +9,7 @@ ghost use Rattle.cordyceps_queue.specs.declared.cores.stage.Stage.TheVariants.{C
 
 use crate::shared::plays::{Clear, Give, Link, Look, Reread, Swap, Take};
 use crate::shared::table::{Chosen, PartySeat, Words};
+use cordyceps_shared::layout::{HEAD, LINKS, RIGHT};
 use cordyceps_shared::slots::Filled;
 use cordyceps_shared::tickets::Ticket;
 use std::marker::Brand;
@@ -22,7 +23,7 @@ fn clear<E: Drop, B: Chosen<E>>(words: &Words<E>, seat: &mut PartySeat<E>, room:
     ensures table { seat.new.table_id ≡ seat.old.table_id }
     ensures cleared { IsCleared words.now.table_id.slots room _item.now seat.old.me seat.new.me }
 {
-    words.store::<Clear<B>>(seat, room + 2, 0);
+    words.store::<Clear<B>>(seat, LINKS + room, 0);
 }
 
 /// Puts the element into the slot in hand, makes its room the head, and answers the old head.
@@ -36,8 +37,10 @@ fn swap_in<E: Drop>(words: &Words<E>, seat: &mut PartySeat<E>, full: Filled<E>) 
     ensures swapped { IsSwapped words.now.table_id.slots full.ticket result full.item seat.old.me seat.new.me }
 {
     let room = full.ticket.room();
-    words.exchange(seat, room, Some(full));
-    words.swap::<Swap>(seat, 0, room as u64)
+    let None = words.exchange(seat, room, Some(full)) else {
+        unreachable!()
+    };
+    words.swap::<Swap>(seat, HEAD, room as u64)
 }
 
 /// Makes the old head lead to the room.
@@ -51,7 +54,7 @@ fn link<E: Drop>(words: &Words<E>, seat: &mut PartySeat<E>, room: usize, old: us
     ensures free { seat.new.me.0.free ≡ seat.old.me.0.free }
     ensures sees { Sees seat.old.me.0 (Event.Link (name seat.old.me.0) ∷ []) seat.new.me.0 }
 {
-    words.store::<Link>(seat, old + 2, room as u64 + 1);
+    words.store::<Link>(seat, LINKS + old, room as u64 + 1);
 }
 
 /// Puts an element into a free room, which the ticket is of, makes the room the head, and links it.
@@ -79,7 +82,7 @@ pub(crate) fn give<E: Drop>(words: &Words<E>, seat: &mut PartySeat<E>, tail: usi
     ensures rest { IsResting words.now.table_id.slots seat.new.me }
     ensures answer { stands_at (Event.Free (name seat.old.me.0) ∷ []) Rest seat.old.me seat.new.me }
 {
-    words.store::<Give>(seat, 1, tail as u64 + 1);
+    words.store::<Give>(seat, RIGHT, tail as u64 + 1);
 }
 
 /// Reads the link of the tail again, behind which the stub was put in.
@@ -90,7 +93,7 @@ pub(crate) fn reread<E: Drop>(words: &Words<E>, seat: &mut PartySeat<E>, tail: u
     ensures null { result ≡ 0 → stands_at [] (Holding tail) seat.old.me seat.new.me × Blocked seat.new.me.0 }
     ensures room { (r : ℕ) → result ≡ suc r → hands_out [] words.now.table_id.slots tail r seat.old.me seat.new.me }
 {
-    words.load::<Reread>(seat, tail + 2)
+    words.load::<Reread>(seat, LINKS + tail)
 }
 
 /// Takes the right, and answers 1 more than the tail's room, or 0 beside another holder.
@@ -100,7 +103,7 @@ pub(crate) fn take<E: Drop>(words: &Words<E>, seat: &mut PartySeat<E>) -> u64
     ensures table { seat.new.table_id ≡ seat.old.table_id }
     ensures took { AsksRight words.now.table_id.slots result seat.old.me seat.new.me }
 {
-    words.swap::<Take>(seat, 1, 0)
+    words.swap::<Take>(seat, RIGHT, 0)
 }
 
 /// Reads the link of a tail that is no stub, and hands its element out where that leads on: the new tail, and what lay
@@ -120,7 +123,7 @@ pub(crate) fn look<E: Drop>(
         × HandsOneOut (Event.Look (name seat.old.me.0) ∷ []) words.now.table_id.slots tail r.0 r.1.item seat.old.me
         seat.new.me) }
 {
-    let next = words.load::<Look>(seat, tail + 2);
+    let next = words.load::<Look>(seat, LINKS + tail);
     if next == 0 {
         return None;
     }

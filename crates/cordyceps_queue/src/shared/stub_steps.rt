@@ -9,6 +9,7 @@ ghost use Rattle.cordyceps_queue.specs.declared.cores.stage.Stage.TheVariants.{H
 
 use crate::shared::plays::{ClearStub, Head, HeadStub, LinkStub, LookStub, Read, SwapStub};
 use crate::shared::table::{PartySeat, Words};
+use cordyceps_shared::layout::{HEAD, LINKS};
 use cordyceps_shared::slots::Filled;
 
 /// Reads the stub's link, where the stub is the tail.
@@ -21,7 +22,7 @@ pub(crate) fn look_first<E: Drop>(words: &Words<E>, seat: &mut PartySeat<E>) -> 
         → stands_at (Event.Look (name seat.old.me.0) ∷ []) (Second r) seat.old.me seat.new.me
         × (r < words.now.table_id.slots) × (r ≢ 0) }
 {
-    words.load::<LookStub>(seat, 2)
+    words.load::<LookStub>(seat, LINKS)
 }
 
 /// Reads the head behind a null link of the stub.
@@ -32,7 +33,7 @@ pub(crate) fn head_of_stub<E: Drop>(words: &Words<E>, seat: &mut PartySeat<E>) -
     ensures stub { result ≡ 0 → stands_at (Event.Empty (name seat.old.me.0) ∷ []) (Holding 0) seat.old.me seat.new.me }
     ensures room { result ≢ 0 → stands_at [] (Holding 0) seat.old.me seat.new.me × Blocked seat.new.me.0 }
 {
-    words.load::<HeadStub>(seat, 0)
+    words.load::<HeadStub>(seat, HEAD)
 }
 
 /// Reads the link of the tail that stood behind the stub.
@@ -43,7 +44,7 @@ pub(crate) fn read_second<E: Drop>(words: &Words<E>, seat: &mut PartySeat<E>, ta
     ensures null { result ≡ 0 → stands_at [] (Null tail) seat.old.me seat.new.me }
     ensures room { (r : ℕ) → result ≡ suc r → hands_out [] words.now.table_id.slots tail r seat.old.me seat.new.me }
 {
-    words.load::<Read>(seat, tail + 2)
+    words.load::<Read>(seat, LINKS + tail)
 }
 
 /// Whether the tail, whose link was null, is the head too.
@@ -54,7 +55,7 @@ pub(crate) fn is_head<E: Drop>(words: &Words<E>, seat: &mut PartySeat<E>, tail: 
     ensures alone { result ≡ true → stands_at [] (PutClear tail) seat.old.me seat.new.me }
     ensures passed { result ≡ false → stands_at [] (Holding tail) seat.old.me seat.new.me × Blocked seat.new.me.0 }
 {
-    words.load::<Head>(seat, 0) == tail as u64
+    words.load::<Head>(seat, HEAD) == tail as u64
 }
 
 fn clear_stub<E: Drop>(words: &Words<E>, seat: &mut PartySeat<E>, _tail: usize)
@@ -63,7 +64,7 @@ fn clear_stub<E: Drop>(words: &Words<E>, seat: &mut PartySeat<E>, _tail: usize)
     ensures table { seat.new.table_id ≡ seat.old.table_id }
     ensures answer { stands_at [] (PutSwap _tail) seat.old.me seat.new.me }
 {
-    words.store::<ClearStub>(seat, 2, 0);
+    words.store::<ClearStub>(seat, LINKS, 0);
 }
 
 fn swap_stub<E: Drop>(words: &Words<E>, seat: &mut PartySeat<E>, _tail: usize) -> u64
@@ -73,7 +74,7 @@ fn swap_stub<E: Drop>(words: &Words<E>, seat: &mut PartySeat<E>, _tail: usize) -
     ensures answer { stands_at [] (PutLink _tail result) seat.old.me seat.new.me }
     ensures near { result < words.now.table_id.slots }
 {
-    words.swap::<SwapStub>(seat, 0, 0)
+    words.swap::<SwapStub>(seat, HEAD, 0)
 }
 
 fn link_stub<E: Drop>(words: &Words<E>, seat: &mut PartySeat<E>, _tail: usize, old: usize)
@@ -83,7 +84,7 @@ fn link_stub<E: Drop>(words: &Words<E>, seat: &mut PartySeat<E>, _tail: usize, o
     ensures table { seat.new.table_id ≡ seat.old.table_id }
     ensures answer { stands_at [] (PutRead _tail) seat.old.me seat.new.me }
 {
-    words.store::<LinkStub>(seat, old + 2, 1);
+    words.store::<LinkStub>(seat, LINKS + old, 1);
 }
 
 /// Puts the stub in at the head, behind the tail.

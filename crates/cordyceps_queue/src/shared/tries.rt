@@ -28,6 +28,7 @@ fn behind_tail<E: Drop>(words: &Words<E>, seat: &mut PartySeat<E>, tail: usize) 
 }
 
 /// Goes on behind a null link of a tail that is no stub.
+#[inline(never)]
 fn at_end<E: Drop>(words: &Words<E>, seat: &mut PartySeat<E>, tail: usize) -> (u64, Tried<E>)
     requires table { (seat.old.table_id ≡ words.now.table_id) × IsTable words.now.table_id }
     requires stage { IsAtStage words.now.table_id.slots (Null tail) seat.old.me × (tail < words.now.table_id.slots) }
@@ -56,6 +57,7 @@ fn behind_stub<E: Drop>(words: &Words<E>, seat: &mut PartySeat<E>, tail: usize) 
 }
 
 /// Tries where the tail is the stub.
+#[inline(never)]
 fn look_stub<E: Drop>(words: &Words<E>, seat: &mut PartySeat<E>) -> (u64, Tried<E>)
     requires table { (seat.old.table_id ≡ words.now.table_id) × IsTable words.now.table_id }
     requires holding { IsHolding words.now.table_id.slots 0 seat.old.me }
@@ -73,7 +75,9 @@ fn look_stub<E: Drop>(words: &Words<E>, seat: &mut PartySeat<E>) -> (u64, Tried<
     (0, Tried::Inconsistent)
 }
 
-/// Tries once, as the party that has the right: the tail after the try, and what it came to.
+/// Tries once, as the party that has the right: the tail after the try, and what it came to. Where the tail leads on,
+/// that is a part of the caller.
+#[inline(always)]
 pub(crate) fn advance<E: Drop>(
     words: &Words<E>,
     seat: &mut PartySeat<E>,

@@ -1,14 +1,17 @@
 -- What the calls of a shared transfer stack promise, from what their parts leave.
-use Rattle.std.proofs.Common.{◌≡◌, ◌+◌, ℕ, suc, List, [], ◌∷◌, ◌++◌, reverse, length, replicate, take, drop, Bool, refl, sym, ap, ◌∙◌, subst, inl, inr, length-append}
-use Rattle.std.specs.Prelude.{◌⊎◌, IsTrue}
+use Rattle.std.proofs.Common.{◌≡◌, ◌+◌, ◌<◌, ℕ, suc, List, [], ◌∷◌, ◌++◌, reverse, length, replicate, take, drop, Bool, refl, sym, ap, ◌∙◌, subst, length-append}
+use Rattle.std.specs.Prelude.{IsTrue}
 use Rattle.atomic_table.specs.Seated.{TableId}
 use Rattle.cordyceps_shared.specs.Counts.{below}
 use Rattle.cordyceps_shared.specs.Histories.{plain, AllOwn}
 use Rattle.cordyceps_shared.specs.Knowing.{Known, Begins, IsKnown}
+use Rattle.cordyceps_shared.specs.Places.{ItemAt}
+use Rattle.cordyceps_shared.specs.Slots.{Near}
 use Rattle.cordyceps_shared.specs.Shares.{Name, whole, first_name, IsShare}
 use Rattle.cordyceps_shared.specs.Standings.{name_of, new_party, Absorbs}
-use Rattle.cordyceps_shared.proofs.Adding.{replicate_more, keeps_not_whole, not_whole, plain_unmarked, merged_front, adds_then, whole_adds}
+use Rattle.cordyceps_shared.proofs.Adding.{keeps_not_whole, not_whole, plain_unmarked, merged_front, whole_adds}
 use Rattle.cordyceps_shared.proofs.Counting.{below_length}
+use Rattle.cordyceps_shared.proofs.Places.{at_below, near_drop, near_take, near_append}
 use Rattle.cordyceps_shared.proofs.Naming.{joined_some, joined_apart, keeps_some, gives_some}
 use Rattle.cordyceps_shared.proofs.Ordering.{whole_share, keeps_share, gives_share, joined_share}
 use Rattle.cordyceps_stack.specs.Shared.Parts.{HasPushed, HasMissed, TookAll, EmptiesHand, standing, IsSeated}
@@ -23,10 +26,15 @@ use Rattle.cordyceps_stack.proofs.SharedTheory.PartsJoin.{not_overtaken}
 use Rattle.cordyceps_stack.proofs.Histories.{legal_none}
 
 module _ {E : Type 0} where
-  pub new_seated : (z table : TableId) (rooms : ℕ) (m : SeatState E) (tickets : List ℕ) → (z ≡ table) × IsTable table → m ≡ (newcomer rooms, []) → tickets ≡ below rooms → IsSeated z m tickets
-  new_seated z table rooms m tickets at is have = record {
+  pub new_seated : (z table : TableId) (rooms : ℕ) (m : SeatState E) (tickets : List ℕ) → (z ≡ table) × IsTable table → table.slots ≡ rooms → m ≡ (newcomer rooms, []) → tickets ≡ below rooms → IsSeated z m tickets
+  new_seated z table rooms m tickets at wide is have = record {
     table = subst (λ q. IsTable q) (sym at.0) at.1;
-    rests = (ap (λ (q : SeatState E). q.0.doing) is, ap (λ (q : SeatState E). q.1) is, λ e. let no : whole ≡ [] = sym (ap (λ (q : SeatState E). q.0.known.share) is) ∙ e in absurd (cc));
+    rests = (
+      ap (λ (q : SeatState E). q.0.doing) is,
+      ap (λ (q : SeatState E). q.1) is,
+      (λ e. let no : whole ≡ [] = sym (ap (λ (q : SeatState E). q.0.known.share) is) ∙ e in absurd (cc)),
+      λ i r a. subst (λ n. r < n) (sym (ap (λ (q : TableId). q.slots) at.0 ∙ wide)) (at_below rooms i r (subst (λ (q : SeatState E). ItemAt q.0.free i r) is a)),
+    );
     free = ap (λ (q : SeatState E). q.0.free) is ∙ sym have;
     legal = subst (λ (q : SeatState E). Legal (plain q.0.known.seen)) (sym is) legal_none;
     alone = λ _. subst (λ (q : SeatState E). AllOwn q.0.known.seen) (sym is) tt;
@@ -39,7 +47,12 @@ module _ {E : Type 0} where
   pub kept_seated : (z z' : TableId) (n : ℕ) (m k : SeatState E) (tickets left : List ℕ) → IsSeated z m tickets → z' ≡ z → k ≡ (view_keeping n m.0, []) → left ≡ drop n tickets → IsSeated z' k left
   kept_seated z z' n m k tickets left s at is have = record {
     table = subst (λ q. IsTable q) (sym at) s.table;
-    rests = (ap (λ (q : SeatState E). q.0.doing) is ∙ s.rests.0, ap (λ (q : SeatState E). q.1) is, λ e. keeps_some m.0.known.share s.rests.2 (sym (ap (λ (q : SeatState E). q.0.known.share) is) ∙ e));
+    rests = (
+      ap (λ (q : SeatState E). q.0.doing) is ∙ s.rests.0,
+      ap (λ (q : SeatState E). q.1) is,
+      (λ e. keeps_some m.0.known.share s.rests.2 (sym (ap (λ (q : SeatState E). q.0.known.share) is) ∙ e)),
+      subst (λ (q : TableId × SeatState E). Near q.0.slots q.1.0.free) (λ i. (sym at i, sym is i)) (near_drop z.slots n m.0.free s.rests.3),
+    );
     free = ap (λ (q : SeatState E). q.0.free) is ∙ (ap (drop n) s.free ∙ sym have);
     legal = subst (λ (q : SeatState E). Legal (plain q.0.known.seen)) (sym is) s.legal;
     alone = λ e. absurd (keeps_not_whole m.0.known.share (sym (ap (λ (q : SeatState E). q.0.known.share) is) ∙ e));
@@ -49,17 +62,28 @@ module _ {E : Type 0} where
   pub given_seated : (z z' : TableId) (n : ℕ) (m k : SeatState E) (tickets some_of : List ℕ) → IsSeated z m tickets → z' ≡ z → k ≡ (view_giving n m.0, []) → some_of ≡ take n tickets → IsSeated z' k some_of
   given_seated z z' n m k tickets some_of s at is have = record {
     table = subst (λ q. IsTable q) (sym at) s.table;
-    rests = (ap (λ (q : SeatState E). q.0.doing) is, ap (λ (q : SeatState E). q.1) is, λ e. gives_some m.0.known.share s.rests.2 (sym (ap (λ (q : SeatState E). q.0.known.share) is) ∙ e));
+    rests = (
+      ap (λ (q : SeatState E). q.0.doing) is,
+      ap (λ (q : SeatState E). q.1) is,
+      (λ e. gives_some m.0.known.share s.rests.2 (sym (ap (λ (q : SeatState E). q.0.known.share) is) ∙ e)),
+      subst (λ (q : TableId × SeatState E). Near q.0.slots q.1.0.free) (λ i. (sym at i, sym is i)) (near_take z.slots n m.0.free s.rests.3),
+    );
     free = ap (λ (q : SeatState E). q.0.free) is ∙ (ap (take n) s.free ∙ sym have);
     legal = subst (λ (q : SeatState E). Legal (plain q.0.known.seen)) (sym is) (subst (λ h. Legal h) (sym (plain_unmarked m.0.known.seen)) s.legal);
     alone = λ e. absurd (not_whole m.0.known.share (sym (ap (λ (q : SeatState E). q.0.known.share) is) ∙ e));
     share = subst (λ (q : SeatState E). IsShare q.0.known.share) (sym is) (gives_share m.0.known.share s.share);
   }
 
-  pub absorbed_seated : (z y z' : TableId) (m o k : SeatState E) (mine theirs all : List ℕ) → IsSeated z m mine → IsSeated y o theirs → z' ≡ z → k ≡ (view_without_told (view_absorbing m.0 o.0), []) → IsKnown (λ h. Legal h) (view_absorbing m.0 o.0).known → all ≡ mine ++ theirs → IsSeated z' k all
-  absorbed_seated z y z' m o k mine theirs all s other at is known have = record {
+  pub absorbed_seated : (z y z' : TableId) (m o k : SeatState E) (mine theirs all : List ℕ) → IsSeated z m mine → IsSeated y o theirs → y ≡ z → z' ≡ z → k ≡ (view_without_told (view_absorbing m.0 o.0), []) → IsKnown (λ h. Legal h) (view_absorbing m.0 o.0).known → all ≡ mine ++ theirs → IsSeated z' k all
+  absorbed_seated z y z' m o k mine theirs all s other beside at is known have = record {
     table = subst (λ q. IsTable q) (sym at) s.table;
-    rests = (ap (λ (q : SeatState E). q.0.doing) is, ap (λ (q : SeatState E). q.1) is, λ e. joined_some m.0.known.share o.0.known.share s.rests.2 (sym (ap (λ (q : SeatState E). q.0.known.share) is) ∙ e));
+    rests = (
+      ap (λ (q : SeatState E). q.0.doing) is,
+      ap (λ (q : SeatState E). q.1) is,
+      (λ e. joined_some m.0.known.share o.0.known.share s.rests.2 (sym (ap (λ (q : SeatState E). q.0.known.share) is) ∙ e)),
+      subst (λ (q : TableId × SeatState E). Near q.0.slots q.1.0.free) (λ i. (sym at i, sym is i))
+          (near_append z.slots m.0.free o.0.free s.rests.3 (subst (λ (q : TableId). Near q.slots o.0.free) beside other.rests.3)),
+    );
     free = ap (λ (q : SeatState E). q.0.free) is ∙ ((λ i. s.free i ++ other.free i) ∙ sym have);
     legal = subst (λ (q : SeatState E). Legal (plain q.0.known.seen)) (sym is) known.legal;
     alone = λ e. subst (λ (q : SeatState E). AllOwn q.0.known.seen) (sym is) (known.alone (sym (ap (λ (q : SeatState E). q.0.known.share) is) ∙ e));
@@ -85,8 +109,8 @@ module _ {E : Type 0} where
   pub adds : (z z' : TableId) (v w : View E) (es : List (Event Name E)) → Sees v es w → z' ≡ z → Adds (standing z v) es (standing z' w)
   adds z z' v w es g at = (record { rest = g.rest; is = g.is; adds = g.adds; foreign = g.foreign; legal = g.legal; share = g.share; alone = g.alone }, at)
 
-  pub pushes_once : (z z' : TableId) (ticket : ℕ) (x : E) (first : Bool) (m k : SeatState E) → HasPushed ticket x first m k → z' ≡ z → PushesAt 1 x first (standing z m.0) (standing z' k.0)
-  pushes_once z z' ticket x first m k h at = (adds z z' m.0 k.0 (Load (name m.0) ∷ Push (name m.0) x ∷ []) h.sees at, h.ends, ap (λ (ys : List ℕ). length ys) h.free)
+  pub pushes_at : (z z' : TableId) (tries ticket : ℕ) (x : E) (first : Bool) (m k : SeatState E) → HasPushed tries ticket x first m k → z' ≡ z → PushesAt tries x first (standing z m.0) (standing z' k.0)
+  pushes_at z z' tries ticket x first m k h at = (adds z z' m.0 k.0 (replicate tries (Load (name m.0)) ++ Push (name m.0) x ∷ []) h.sees at, h.ends, ap (λ (ys : List ℕ). length ys) h.free)
 
   pub misses_once : (z z' : TableId) (m k : SeatState E) → HasMissed m k → z' ≡ z → Misses (standing z m.0) (standing z' k.0)
   misses_once z z' m k h at = (adds z z' m.0 k.0 (Load (name m.0) ∷ []) h.sees at, h.overtaken, ap (λ (ys : List ℕ). length ys) h.free)
@@ -98,7 +122,7 @@ module _ {E : Type 0} where
   length_elements [] = refl
   length_elements (x ∷ xs) = ap suc (length_elements xs)
 
-  pub takes : (z z' : TableId) (slots found : ℕ) (m mid k : SeatState E) → TookAll slots found m mid → EmptiesHand mid k → z' ≡ z → Takes (room_elements (to_hand_out mid.0.doing)) (standing z m.0) (standing z' k.0)
+  pub takes : (z z' : TableId) (slots found : ℕ) (m mid k : SeatState E) → TookAll slots found m mid → EmptiesHand slots mid k → z' ≡ z → Takes (room_elements (to_hand_out mid.0.doing)) (standing z m.0) (standing z' k.0)
   takes z z' slots found m mid k t h at =
       let g = t.sees in (
         (
@@ -123,36 +147,3 @@ module _ {E : Type 0} where
   -- a whole party takes exactly what its history holds
   pub takes_held : (u w : PartyOf E) (batch : List E) → u.share ≡ whole → Takes batch u w → batch ≡ reverse (held (plain u.seen))
   takes_held u w batch is t = t.0.0.legal (plain u.seen) [] (name_of u) batch (whole_adds actor (λ h. Legal h) u w (Taken (name_of u) batch ∷ []) is t.0)
-
-  -- ---- tries
-  -- as yet no try, or so many that failed
-  abbrev pub FailedTries : PartyOf E → PartyOf E → Type 0
-  FailedTries u v = (v ≡ u) ⊎ ((tries : ℕ) × Adds u (replicate (suc tries) (Load (name_of u))) v)
-
-  same_name : (u v : PartyOf E) (es : List (Event Name E)) → Adds u es v → name_of v ≡ name_of u
-  same_name u v es a = ap first_name a.0.share
-
-  loads_then : (u v w : PartyOf E) (tries : ℕ) (es : Name → List (Event Name E)) → Adds u (replicate tries (Load (name_of u))) v → Adds v (Load (name_of v) ∷ es (name_of v)) w → Adds u (replicate (suc tries) (Load (name_of u)) ++ es (name_of u)) w
-  loads_then u v w tries es a b =
-      let n = same_name u v (replicate tries (Load (name_of u))) a in
-      subst (λ xs. Adds u xs w) (replicate_more tries (Load (name_of u)) (es (name_of u)))
-      (adds_then actor (λ h. Legal h) u v w (replicate tries (Load (name_of u))) (Load (name_of u) ∷ es (name_of u)) a (subst (λ q. Adds v (Load q ∷ es q) w) n b))
-
-  none_more : (xs : List (Event Name E)) → xs ++ [] ≡ xs
-  none_more [] = refl
-  none_more (x ∷ xs) = ap (λ z. x ∷ z) (none_more xs)
-
-  pub tried_again : (u v w : PartyOf E) → FailedTries u v → Misses v w → FailedTries u w
-  tried_again u v w (inl e) m = inr (0, subst (λ (q : PartyOf E). Adds q (Load (name_of q) ∷ []) w) e m.0)
-  tried_again u v w (inr t) m = inr (suc t.0, subst (λ xs. Adds u xs w) (none_more (replicate (suc (suc t.0)) (Load (name_of u)))) (loads_then u v w (suc t.0) (λ _. []) t.1 m.0))
-
-  pub tried_pushed : (u v w : PartyOf E) (x : E) (first : Bool) → FailedTries u v → v.rooms ≡ u.rooms → PushesAt 1 x first v w → (tries : ℕ) × PushesAt (suc tries) x first u w
-  tried_pushed u v w x first (inl e) r p = (0, subst (λ (q : PartyOf E). PushesAt 1 x first q w) e p)
-  tried_pushed u v w x first (inr t) r p = (
-    suc t.0,
-    (
-      loads_then u v w (suc t.0) (λ n. Push n x ∷ []) t.1 p.0,
-      subst (λ n. EndsPushed x (IsTrue first) n w.seen) (same_name u v (replicate (suc t.0) (Load (name_of u))) t.1) p.1,
-      sym r ∙ p.2,
-    ),
-  )

@@ -1,10 +1,11 @@
 -- The rule of a transfer stack's table at the start, and where a party is split in two or takes another in.
-use Rattle.std.proofs.Common.{◌≡◌, ◌≢◌, ℕ, suc, List, [], ◌∷◌, ◌++◌, map, reverse, length, replicate, get_or, set, eqb, refl, sym, ap, ◌∙◌, subst, inl, inr, ⊎_elim, arith, append_assoc, None}
+use Rattle.std.proofs.Common.{◌≡◌, ◌≢◌, ◌+◌, ℕ, List, [], ◌∷◌, ◌++◌, map, reverse, length, replicate, get_or, set, eqb, refl, sym, ap, ◌∙◌, subst, inl, inr, ⊎_elim, arith, append_assoc, None}
 use mathlib.Core.Option.{some, none}
 use lib.ListN.{get_elem?, length-map, length-replicate}
 use Rattle.atomic_table.specs.Table.{opening, Splits, Joins, Allows, step, keeps}
 use Rattle.cordyceps_shared.specs.Counts.{one_if, below}
 use Rattle.cordyceps_shared.specs.Shares.{Name}
+use Rattle.cordyceps_shared.specs.declared.layout.TheConstants.{HEAD, LINKS}
 use Rattle.cordyceps_shared.proofs.Counting.{tally_set, tally_append, tally_cut, below_once}
 use Rattle.cordyceps_shared.proofs.Changing.{two_set, set_more, was_there}
 use Rattle.cordyceps_shared.proofs.Cutting.{owned_cut, fits_cut}
@@ -28,7 +29,7 @@ legal_front : {P E : Type 0} (xs ys : List (Event P E)) → Legal (xs ++ ys) →
 legal_front xs ys l before after p batch e = l before (after ++ ys) p batch (ap (λ z. z ++ ys) e ∙ append_assoc before (Taken p batch ∷ after) ys)
 
 module _ (E : Type 0) where
-  pub opens : (rooms : ℕ) (words : List ℕ) → length words ≡ suc rooms → get_or words 0 0 ≡ 0 → RuleHolds {E = E} (opening words (replicate rooms None) (newcomer rooms))
+  pub opens : (rooms : ℕ) (words : List ℕ) → length words ≡ LINKS + rooms → get_or words HEAD 0 ≡ 0 → RuleHolds {E = E} (opening words (replicate rooms None) (newcomer rooms))
   opens rooms words wide zeros =
       let first : View E = newcomer rooms in
       let known = seats.opens actor knows first refl in record {
@@ -41,7 +42,7 @@ module _ (E : Type 0) where
           apart = λ r. omega (arith, below_once rooms r);
           each = λ j v e. subst (λ (z : View E). AtDoing words [] j z.doing) (seats.only first v j e).1 tt;
         };
-        wide = wide ∙ ap suc (sym (length-map (replicate rooms None) some ∙ length-replicate rooms None));
+        wide = wide ∙ ap (λ n. LINKS + n) (sym (length-map (replicate rooms None) some ∙ length-replicate rooms None));
         full = tt;
         empty = λ j v e. subst (λ (z : View E). let homes : Homes E = map some (replicate rooms None) in EmptyAtHome homes z.free) (seats.only first v j e).1 (empty_new rooms (below rooms) (at_below rooms));
         fits = known.1;
@@ -102,7 +103,7 @@ module _ {E : Type 0} where
         owned = owned_join knows s.views k.history id other v w (view_absorbing v w) view_absorbed at apart there refl refl named k.owned;
       }
 
-  pub learns : (slots id : ℕ) (me : SeatState E) → me.0.doing ≡ Idle → Allows RuleHolds slots id me 0 (λ n. n) (learned (step slots 0 0 0 none) me)
+  pub learns : (slots id : ℕ) (me : SeatState E) → me.0.doing ≡ Idle → Allows RuleHolds slots id me HEAD (λ n. n) (learned (step slots HEAD 0 0 none) me)
   learns slots id me idle s k deep at fits =
       let v = me.0 in
       let w = view_without_told v in
@@ -111,7 +112,7 @@ module _ {E : Type 0} where
         w,
         keeps,
         tt,
-        unwritten s 0 s.homes (set s.views id w)
+        unwritten s HEAD s.homes (set s.views id w)
             (step_keeps s k id v w s.words s.homes k.chain k.history at meets refl refl k.full (k.empty id v at) (λ _ _ _ _ _ _. refl)
             (fits_forgot actor knows s.views k.history id v w at refl refl refl k.fits) (owned_same knows s.views k.history id v w at refl k.owned)),
         (refl, refl, seats.is_known actor knows (λ z. Legal z) legal_front s.views k.history id v k.owned k.fits at k.meets.legal, omega arith),

@@ -15,6 +15,8 @@ use Rattle.cordyceps_shared.specs.Counts.{one_if, times}
 use Rattle.cordyceps_shared.specs.Histories.{events, marked, plain, of_seat}
 use Rattle.cordyceps_shared.specs.Knowing.{Known, Under, SharesApart, AllAgree, all_seen}
 use Rattle.cordyceps_shared.specs.Shares.{Name}
+use Rattle.cordyceps_shared.specs.Words.{head}
+use Rattle.cordyceps_shared.specs.declared.layout.TheConstants.{HEAD, LINKS}
 use Rattle.cordyceps_shared.proofs.Choices.{some_or, first_or, rest_from}
 use Rattle.cordyceps_shared.proofs.Changing.{one_set}
 use Rattle.cordyceps_shared.proofs.Counting.{tally_one, tally_two, one_here, distinct_few}
@@ -24,11 +26,11 @@ use Rattle.cordyceps_shared.proofs.Telling.{at_length, owned_same, fits_same, te
 use Rattle.cordyceps_shared.specs.declared.slots.Filled.{Filled}
 use Rattle.cordyceps_stack.specs.History.{Event, Load, Push, Taken, held, Legal, actor, SomeChange}
 use Rattle.cordyceps_stack.specs.Cores.Stages.{room_elements}
-use Rattle.cordyceps_stack.specs.Shared.View.{Doing, Idle, Loaded, Set, Missed, Walking, View, knows, name, walking, in_chain, at_work, count_with_party}
-use Rattle.cordyceps_stack.specs.Shared.Words.{History, head, start, Since, AtDoing, WordsMeet}
+use Rattle.cordyceps_stack.specs.Shared.View.{Doing, Idle, Ready, Loaded, Set, Walking, View, knows, name, walking, in_chain, at_work, count_with_party}
+use Rattle.cordyceps_stack.specs.Shared.Words.{History, start, Since, AtDoing, WordsMeet}
 use Rattle.cordyceps_shared.specs.Slots.{Homes, Hand, TableStep, full_slot, EmptyAtHome}
 use Rattle.cordyceps_stack.specs.Shared.Rule.{TableState, FullAtHome, RuleHolds}
-use Rattle.cordyceps_stack.specs.Shared.Plays.{SeatState, Sees, carry, Near, to_hand_out}
+use Rattle.cordyceps_stack.specs.Shared.Plays.{SeatState, Sees, carry, NearChain, to_hand_out}
 use Rattle.cordyceps_stack.specs.Shared.Calls.{EndsPushed, IsOvertaken}
 use Rattle.cordyceps_stack.specs.Shared.Plays as play
 use Rattle.cordyceps_stack.proofs.SharedTheory.WordsKeep.{spells_start, since_now, rests, loads, writes, pushes, takes_all, walks, rooms_differ}
@@ -39,9 +41,9 @@ set_of (Loaded r read) = Set r read
 set_of d = d
 
 abbrev room_of : {E : Type 0} → Doing E → ℕ
+room_of (Ready r) = r
 room_of (Loaded r read) = r
 room_of (Set r read) = r
-room_of (Missed r) = r
 room_of d = 0
 
 abbrev read_of : {E : Type 0} → Doing E → ℕ
@@ -102,7 +104,7 @@ module _ {E : Type 0} where
     history = h;
     chain = chain;
     meets = meets;
-    wide = wide ∙ (k.wide ∙ ap suc (sym deep));
+    wide = wide ∙ (k.wide ∙ ap (λ n. LINKS + n) (sym deep));
     full = full;
     empty = one_set (λ _ u. EmptyAtHome homes u.free) s.views j w empty (λ i u ne e. empty_frame s.homes homes u.free (λ r m. same i u r ne e m) (k.empty i u e));
     fits = fits;
@@ -143,7 +145,7 @@ module _ {E : Type 0} where
   view_after v j h free doing = record { known = all_seen j h v.known.share; free = free; doing = doing }
 
   -- ---- looking
-  pub looks : (slots id : ℕ) (me : SeatState E) → me.0.doing ≡ Idle → me.0.known.share ≢ [] → Allows RuleHolds slots id me 0 (λ n. n) (play.looked (step slots 0 0 0 none) me)
+  pub looks : (slots id : ℕ) (me : SeatState E) → me.0.doing ≡ Idle → me.0.known.share ≢ [] → Allows RuleHolds slots id me HEAD (λ n. n) (play.looked (step slots HEAD 0 0 none) me)
   looks slots id me idle named s k deep at fits =
       let v = me.0 in
       let x : Event Name E = Load (name v) in
@@ -154,7 +156,7 @@ module _ {E : Type 0} where
         w,
         keeps,
         tt,
-        unwritten s 0 s.homes (set s.views id w) (step_keeps s k id v w s.words s.homes k.chain h at meets refl refl k.full (k.empty id v at) (λ _ _ _ _ _ _. refl) t.1 t.0),
+        unwritten s HEAD s.homes (set s.views id w) (step_keeps s k id v w s.words s.homes k.chain h at meets refl refl k.full (k.empty id v at) (λ _ _ _ _ _ _. refl) t.1 t.0),
         (
           sym idle,
           refl,
@@ -169,33 +171,51 @@ module _ {E : Type 0} where
       )
 
   -- ---- pushing
-  pub begins : (slots id : ℕ) (me : SeatState E) (r : ℕ) (rs : List ℕ) → me.0.doing ≡ Idle → me.0.free ≡ r ∷ rs → me.0.known.share ≢ [] → Allows RuleHolds slots id me 0 (λ n. n) (play.loaded (step slots 0 0 0 none) me)
-  begins slots id me r rs idle free named s k deep at fits =
+  pub readies : (slots id i : ℕ) (me : SeatState E) (r : ℕ) (rs : List ℕ) → i ≡ LINKS + r → me.0.doing ≡ Idle → me.0.free ≡ r ∷ rs → Allows RuleHolds slots id me i (λ n. n) (play.readied (step slots i 0 0 none) me)
+  readies slots id i me r rs is idle free s k deep at fits =
       let v = me.0 in
-      let x : Event Name E = Load (name v) in
-      let h = k.history ++ (id, x) ∷ [] in
-      let read = head s.words in
-      let w = view_after v id h rs (Loaded r read) in
+      let w : View E = record v { doing = Ready r; free = rs } in
       let was : (q : ℕ) → count_with_party q v ≡ one_if (eqb r q) + times q rs + 0 = λ q. ap (λ l. times q l + at_work q v.doing) free ∙ ap (λ p. one_if (eqb r q) + times q rs + at_work q p) idle in
       let here = one_here r in
       let mine : 1 ≤ count_with_party r v = let e = was r in omega arith in
       let alone_in : times r rs ≡ 0 = let e = was r in let o = once s k id v r at in omega arith in
       let empty : EmptyAtHome s.homes (r ∷ rs) = subst (EmptyAtHome s.homes) free (k.empty id v at) in
       let moves = slot_moves s k id v r none at mine in
-      let meets = loads s.words k.chain s.views k.history id v w (name v) k.meets at (λ q. let e = was q in omega arith) (since_now s.words k.history id (name v)) in
-      let t = told s k id (x ∷ []) v w h at named (refl, tt) refl refl meets.legal in (
+      let meets = rests s.words k.chain s.views k.history id v w k.meets at (λ q. let e = was q in omega arith) tt in
+      let t = untold s k id v w at refl in (
         w,
         takes r None,
         empty 0 r refl,
-        unwritten s 0 (set s.homes r none) (set s.views id w)
-            (step_keeps s k id v w s.words (set s.homes r none) k.chain h at meets refl (length-set s.homes r none) moves.0 (empty_else s.homes r none rs alone_in (λ i. empty (suc i))) moves.1 t.1 t.0),
+        unwritten s i (set s.homes r none) (set s.views id w)
+            (step_keeps s k id v w s.words (set s.homes r none) k.chain k.history at meets refl (length-set s.homes r none) moves.0 (empty_else s.homes r none rs alone_in (λ i. empty (suc i))) moves.1 t.1 t.0),
         λ r' rs' free'. let same = sym free ∙ free' in
             let inside = at_length s.homes r (some None) (empty 0 r refl) in
             let first = ap (first_or 0) same in
-            (ap (λ q. let p : Doing E = Loaded q read in p) first, ap rest_from same, ap (λ q. (q, let y : Option (Filled E) = None in y) ∷ me.1) first, subst (λ q. q < slots) first (omega arith), t.2),
+            let others = ap rest_from same in (
+              is ∙ ap (λ q. LINKS + q) first,
+              (λ j. let u : View E = record v { doing = Ready (first j); free = others j } in u),
+              ap (λ q. (q, let y : Option (Filled E) = None in y) ∷ me.1) first,
+              subst (λ q. q < slots) first (omega arith),
+            ),
       )
 
-  pub links : (slots id i : ℕ) (me : SeatState E) (r read : ℕ) → i ≡ suc r → me.0.doing ≡ Loaded r read → r < slots → Allows RuleHolds slots id me i (λ _. read) (λ _. play.wrote (step slots i read 0 none) me read)
+  pub reads_head : (slots id : ℕ) (me : SeatState E) (r : ℕ) → me.0.doing ≡ Ready r → me.0.known.share ≢ [] → Allows RuleHolds slots id me HEAD (λ n. n) (play.loaded (step slots HEAD 0 0 none) me)
+  reads_head slots id me r ready named s k deep at fits =
+      let v = me.0 in
+      let x : Event Name E = Load (name v) in
+      let h = k.history ++ (id, x) ∷ [] in
+      let read = head s.words in
+      let w = view_after v id h v.free (Loaded r read) in
+      let meets = loads s.words k.chain s.views k.history id v w (name v) k.meets at (λ q. let c = ap (at_work q) ready in omega arith) (since_now s.words k.history id (name v)) in
+      let t = told s k id (x ∷ []) v w h at named (refl, tt) refl refl meets.legal in (
+        w,
+        keeps,
+        tt,
+        unwritten s HEAD s.homes (set s.views id w) (step_keeps s k id v w s.words s.homes k.chain h at meets refl refl k.full (k.empty id v at) (λ _ _ _ _ _ _. refl) t.1 t.0),
+        λ r' ready'. (ap (λ p. let d : Doing E = Loaded (room_of p) read in d) (sym ready ∙ ready'), refl, refl, t.2),
+      )
+
+  pub links : (slots id i : ℕ) (me : SeatState E) (r read : ℕ) → i ≡ LINKS + r → me.0.doing ≡ Loaded r read → r < slots → Allows RuleHolds slots id me i (λ _. read) (λ _. play.wrote (step slots i read 0 none) me read)
   links slots id i me r read is doing inside s k deep at fits =
       let v = me.0 in
       let w : View E = record v { doing = Set r read } in
@@ -206,7 +226,7 @@ module _ {E : Type 0} where
         keeps,
         tt,
         subst (λ (q : ℕ). RuleHolds record { words = set s.words q read; homes = s.homes; views = set s.views id w }) (sym is)
-            (step_keeps s k id v w (set s.words (suc r) read) s.homes k.chain k.history at meets (length-set s.words (suc r) read) refl k.full (k.empty id v at) (λ _ _ _ _ _ _. refl) t.1 t.0),
+            (step_keeps s k id v w (set s.words (LINKS + r) read) s.homes k.chain k.history at meets (length-set s.words (LINKS + r) read) refl k.full (k.empty id v at) (λ _ _ _ _ _ _. refl) t.1 t.0),
         λ r' read' doing'. let same = sym doing ∙ doing' in (ap (λ p. let z : View E = record v { doing = set_of p } in z) same, refl),
       )
 
@@ -230,7 +250,7 @@ module _ {E : Type 0} where
 
   hits : (slots id : ℕ) (me : SeatState E) (r read : ℕ) (x : E) (cs : Hand E) → Poised me r read x cs → r < slots → (s : TableState E) (k : RuleHolds s) → length s.homes ≡ slots → get_elem? s.views id ≡ some me.0
       → head s.words ≡ read
-      → (w : View E) × (a : Act (Option (Filled E))) × Valid s.homes me.1 a × RuleHolds (stepped s 0 (suc r) id me.1 w a) × (w.doing ≡ Idle) × (w.free ≡ me.0.free) × (carried_after me.1 a ≡ cs)
+      → (w : View E) × (a : Act (Option (Filled E))) × Valid s.homes me.1 a × RuleHolds (stepped s HEAD (suc r) id me.1 w a) × (w.doing ≡ Idle) × (w.free ≡ me.0.free) × (carried_after me.1 a ≡ cs)
       × Sees me.0 (Push (name me.0) x ∷ []) w × EndsPushed x (head s.words ≡ 0) (name me.0) w.known.seen
   hits slots id me r read x cs poised inside s k deep at top =
       let v = me.0 in
@@ -246,12 +266,12 @@ module _ {E : Type 0} where
       let meets = pushes s.words k.chain s.views k.history id v w r read (name v) x k.meets at poised.doing refl refl top (omega arith) in
       let moves = slot_moves s k id v r y at mine in
       let t = told s k id (e ∷ []) v w h at poised.named (refl, tt) refl refl meets.legal in
-      let kept = step_keeps s k id v w (set s.words 0 (suc r)) (set s.homes r y) ((r, x) ∷ k.chain) h at meets (length-set s.words 0 (suc r)) (length-set s.homes r y)
+      let kept = step_keeps s k id v w (set s.words HEAD (suc r)) (set s.homes r y) ((r, x) ∷ k.chain) h at meets (length-set s.words HEAD (suc r)) (length-set s.homes r y)
       (set_here s.homes r y (omega arith), moves.0) (empty_else s.homes r y v.free none_free (k.empty id v at)) moves.1 t.1 t.0 in (
         w,
         gives,
         tt,
-        subst (λ c. RuleHolds record { words = set s.words 0 (suc r); homes = homes_after s.homes c gives; views = set s.views id w }) (sym poised.hand) kept,
+        subst (λ c. RuleHolds record { words = set s.words HEAD (suc r); homes = homes_after s.homes c gives; views = set s.views id w }) (sym poised.hand) kept,
         refl,
         refl,
         ap rest poised.hand,
@@ -264,19 +284,19 @@ module _ {E : Type 0} where
       )
 
   passes : (slots id : ℕ) (me : SeatState E) (r read : ℕ) (x : E) (cs : Hand E) → Poised me r read x cs → (s : TableState E) (k : RuleHolds s) → get_elem? s.views id ≡ some me.0 → head s.words ≢ read
-      → (w : View E) × (a : Act (Option (Filled E))) × Valid s.homes me.1 a × RuleHolds (stepped s 0 (head s.words) id me.1 w a) × (w.doing ≡ Missed r) × (w.free ≡ me.0.free) × (carried_after me.1 a ≡ me.1)
+      → (w : View E) × (a : Act (Option (Filled E))) × Valid s.homes me.1 a × RuleHolds (stepped s HEAD (head s.words) id me.1 w a) × (w.doing ≡ Ready r) × (w.free ≡ me.0.free) × (carried_after me.1 a ≡ me.1)
       × Sees me.0 [] w × IsOvertaken w.known.seen
   passes slots id me r read x cs poised s k at miss =
       let v = me.0 in
       let h = k.history in
-      let w = view_after v id h v.free (Missed r) in
+      let w = view_after v id h v.free (Ready r) in
       let known : AtDoing s.words h id (Set r read) = subst (λ (d : Doing E). AtDoing s.words h id d) poised.doing (k.meets.each id v at) in
       let meets = rests s.words k.chain s.views h id v w k.meets at (λ q. let c = ap (at_work q) poised.doing in omega arith) tt in
       let t = told s k id [] v w h at poised.named tt (sym (append-nil h)) refl meets.legal in (
         w,
         keeps,
         tt,
-        unwritten s 0 s.homes (set s.views id w) (step_keeps s k id v w s.words s.homes k.chain h at meets refl refl k.full (k.empty id v at) (λ _ _ _ _ _ _. refl) t.1 t.0),
+        unwritten s HEAD s.homes (set s.views id w) (step_keeps s k id v w s.words s.homes k.chain h at meets refl refl k.full (k.empty id v at) (λ _ _ _ _ _ _. refl) t.1 t.0),
         refl,
         refl,
         refl,
@@ -288,7 +308,7 @@ module _ {E : Type 0} where
   Tells : (me k : SeatState E) (found : ℕ) → ℕ × ℕ × Filled E × Hand E → Type 0
   Tells me k found z =
       (found ≡ z.1 → (k.0.doing ≡ Idle) × (k.0.free ≡ me.0.free) × (k.1 ≡ z.3) × Sees me.0 (Push (name me.0) z.2.item ∷ []) k.0 × EndsPushed z.2.item (found ≡ 0) (name me.0) k.0.known.seen)
-      × (found ≢ z.1 → (k.0.doing ≡ Missed z.0) × (k.0.free ≡ me.0.free) × (k.1 ≡ me.1) × Sees me.0 [] k.0 × IsOvertaken k.0.known.seen)
+      × (found ≢ z.1 → (k.0.doing ≡ Ready z.0) × (k.0.free ≡ me.0.free) × (k.1 ≡ me.1) × Sees me.0 [] k.0 × IsOvertaken k.0.known.seen)
 
   says : (st : TableStep E) (me k : SeatState E) (r read found : ℕ) (x : E) (cs : Hand E) → Poised me r read x cs → Tells me k found (r, read, full_slot r x, cs) → play.exchanged st me found k
   unfolding Tells
@@ -298,7 +318,7 @@ module _ {E : Type 0} where
       subst (Tells me k found) (λ i. (ap room_of p i, ap read_of p i, ap (slot_or (full_slot r x)) q i, ap rest q i)) t
 
   pub exchanges : (slots id new : ℕ) (me : SeatState E) (r read : ℕ) (x : E) (cs : Hand E) → new ≡ suc r → Poised me r read x cs → r < slots
-      → Allows RuleHolds slots id me 0 (λ n. either (eqb n read) new n) (play.exchanged (step slots 0 read new none) me)
+      → Allows RuleHolds slots id me HEAD (λ n. either (eqb n read) new n) (play.exchanged (step slots HEAD read new none) me)
   unfolding Tells
   exchanges slots id new me r read x cs is poised inside s k deep at fits =
       let n : ℕ = head s.words in
@@ -307,18 +327,18 @@ module _ {E : Type 0} where
         d.0,
         d.1,
         d.2,
-        subst (λ (m : ℕ). RuleHolds (stepped s 0 m id me.1 d.0 d.1)) (sym is ∙ sym (ap (λ b. either b new n) (eq-eqb n read hit))) d.3,
-        says (step slots 0 read new none) me (d.0, carried_after me.1 d.1) r read n x cs poised ((λ _. (d.4, d.5, d.6, d.7, d.8)), λ not. absurd (not hit)),
+        subst (λ (m : ℕ). RuleHolds (stepped s HEAD m id me.1 d.0 d.1)) (sym is ∙ sym (ap (λ b. either b new n) (eq-eqb n read hit))) d.3,
+        says (step slots HEAD read new none) me (d.0, carried_after me.1 d.1) r read n x cs poised ((λ _. (d.4, d.5, d.6, d.7, d.8)), λ not. absurd (not hit)),
       ))
       (λ miss. let d = passes slots id me r read x cs poised s k at miss in (
         d.0,
         d.1,
         d.2,
-        subst (λ (m : ℕ). RuleHolds (stepped s 0 m id me.1 d.0 d.1)) (sym (ap (λ b. either b new n) (ne_eqb n read miss))) d.3,
-        says (step slots 0 read new none) me (d.0, carried_after me.1 d.1) r read n x cs poised ((λ e. absurd (miss e)), λ _. (d.4, d.5, d.6, d.7, d.8)),
+        subst (λ (m : ℕ). RuleHolds (stepped s HEAD m id me.1 d.0 d.1)) (sym (ap (λ b. either b new n) (ne_eqb n read miss))) d.3,
+        says (step slots HEAD read new none) me (d.0, carried_after me.1 d.1) r read n x cs poised ((λ e. absurd (miss e)), λ _. (d.4, d.5, d.6, d.7, d.8)),
       ))
 
-  pub returns : (slots id i : ℕ) (me : SeatState E) (r : ℕ) (cs : Hand E) → i ≡ suc r → me.0.doing ≡ Missed r → me.1 ≡ (r, None) ∷ cs → r < slots
+  pub returns : (slots id i : ℕ) (me : SeatState E) (r : ℕ) (cs : Hand E) → i ≡ LINKS + r → me.0.doing ≡ Ready r → me.1 ≡ (r, None) ∷ cs → r < slots
       → Allows RuleHolds slots id me i (λ n. n) (play.returned (step slots i 0 0 none) me)
   returns slots id i me r cs is doing hand inside s k deep at fits =
       let v = me.0 in
@@ -339,7 +359,7 @@ module _ {E : Type 0} where
         subst (λ c. RuleHolds record { words = set s.words i (get_or s.words i 0); homes = homes_after s.homes c gives; views = set s.views id w }) (sym hand) (unwritten s i (set s.homes r y) (set s.views id w) kept),
         λ r' cs' doing' hand'.
             let same = sym doing ∙ doing' in
-            (is ∙ ap (λ p. suc (room_of p)) same, ap (λ p. let z : View E = record v { doing = Idle; free = room_of p ∷ v.free } in z) same, ap rest hand'),
+            (is ∙ ap (λ p. LINKS + room_of p) same, ap (λ p. let z : View E = record v { doing = Idle; free = room_of p ∷ v.free } in z) same, ap rest hand'),
       )
 
   -- ---- taking
@@ -371,11 +391,11 @@ module _ {E : Type 0} where
   carried_all [] cs = refl
   carried_all (x ∷ xs) cs = ap (λ z. (x.0, Some (full_slot x.0 x.1)) ∷ z) (carried_all xs cs)
 
-  near_all : (homes : Homes E) (xs : List (ℕ × E)) → FullAtHome homes xs → Near (length homes) xs
+  near_all : (homes : Homes E) (xs : List (ℕ × E)) → FullAtHome homes xs → NearChain (length homes) xs
   near_all homes [] full = tt
   near_all homes (x ∷ xs) full = (at_length homes x.0 (some (Some (full_slot x.0 x.1))) full.0, near_all homes xs full.1)
 
-  pub takes_whole : (slots id : ℕ) (me : SeatState E) → me.0.doing ≡ Idle → me.0.known.share ≢ [] → Allows RuleHolds slots id me 0 (λ _. 0) (play.took (step slots 0 0 0 none) me)
+  pub takes_whole : (slots id : ℕ) (me : SeatState E) → me.0.doing ≡ Idle → me.0.known.share ≢ [] → Allows RuleHolds slots id me HEAD (λ _. 0) (play.took (step slots HEAD 0 0 none) me)
   takes_whole slots id me idle named s k deep at fits =
       let v = me.0 in
       let xs = k.chain in
@@ -391,12 +411,12 @@ module _ {E : Type 0} where
         w,
         all_of xs,
         valid_all xs s.homes me.1 k.full (λ r. let a = k.meets.apart r in omega arith),
-        step_keeps s k id v w (set s.words 0 0) homes [] h at meets (length-set s.words 0 0) (homes_long xs s.homes me.1) tt
+        step_keeps s k id v w (set s.words HEAD 0) homes [] h at meets (length-set s.words HEAD 0) (homes_long xs s.homes me.1) tt
             (empty_frame s.homes homes v.free (λ q m. stays v id q at m) (k.empty id v at)) (λ i u q other there m. stays u i q there m) t.1 t.0,
-        λ _. (xs, spells_start s.words (head s.words) xs k.meets.spelled, refl, refl, carried_all xs me.1, subst (λ n. Near n xs) deep (near_all s.homes xs k.full), t.2),
+        λ _. (xs, spells_start s.words (head s.words) xs k.meets.spelled, refl, refl, carried_all xs me.1, subst (λ n. NearChain n xs) deep (near_all s.homes xs k.full), t.2),
       )
 
-  pub walks_one : (slots id i : ℕ) (me : SeatState E) (x : ℕ × E) (xs : List (ℕ × E)) (cs : Hand E) → i ≡ suc x.0 → me.0.doing ≡ Walking (x ∷ xs) → me.1 ≡ (x.0, None) ∷ cs → x.0 < slots
+  pub walks_one : (slots id i : ℕ) (me : SeatState E) (x : ℕ × E) (xs : List (ℕ × E)) (cs : Hand E) → i ≡ LINKS + x.0 → me.0.doing ≡ Walking (x ∷ xs) → me.1 ≡ (x.0, None) ∷ cs → x.0 < slots
       → Allows RuleHolds slots id me i (λ n. n) (play.walked (step slots i 0 0 none) me)
   walks_one slots id i me x xs cs is doing hand inside s k deep at fits =
       let v = me.0 in

@@ -1,5 +1,5 @@
 -- Each step of a party keeps the words of a transfer stack beside its history.
-use Rattle.std.proofs.Common.{◌≡◌, ◌≢◌, ◌⊎◌, ℕ, suc, ◌+◌, ◌≤◌, ◌<◌, List, [], ◌∷◌, ◌++◌, reverse, length, set, eqb, refl, sym, ap, ◌∙◌, subst, inl, inr, ⊎_elim, arith, append_assoc, get_or-set_other, get_or-set_same}
+use Rattle.std.proofs.Common.{◌≡◌, ◌≢◌, ◌⊎◌, ℕ, suc, ◌+◌, ◌≤◌, ◌<◌, List, [], ◌∷◌, ◌++◌, reverse, length, set, eqb, refl, sym, ap, ◌∙◌, subst, inl, inr, ⊎_elim, arith, append_assoc}
 use Rattle.std.proofs.lemmas.List.{reverse-append}
 use mathlib.Core.Option.{some}
 use lib.ListN.{get_elem?}
@@ -7,13 +7,16 @@ use Rattle.atomic_table.proofs.Lists.{at_snoc}
 use Rattle.cordyceps_shared.specs.Counts.{one_if, times}
 use Rattle.cordyceps_shared.specs.Histories.{events}
 use Rattle.cordyceps_shared.specs.Shares.{Name}
+use Rattle.cordyceps_shared.specs.Words.{head, next}
+use Rattle.cordyceps_shared.specs.declared.layout.TheConstants.{HEAD, LINKS}
 use Rattle.cordyceps_shared.proofs.Changing.{one_set}
 use Rattle.cordyceps_shared.proofs.Counting.{tally_set, tally_one, tally_two, tally_snoc, one_here}
 use Rattle.cordyceps_shared.proofs.Seeing.{events_more, without_more}
+use Rattle.cordyceps_shared.proofs.Words.{head_set, next_set, head_beside_next, next_beside_next, next_beside_head}
 use Rattle.cordyceps_stack.specs.History.{Event, Load, Push, Taken, held, held_after, Legal, IsChange, SomeChange}
 use Rattle.cordyceps_stack.specs.Cores.Stages.{room_elements}
-use Rattle.cordyceps_stack.specs.Shared.View.{Doing, Idle, Loaded, Set, Missed, Walking, View, walking, in_chain, at_work, count_with_party}
-use Rattle.cordyceps_stack.specs.Shared.Words.{History, head, next, start, Spells, Since, AtDoing, WordsMeet}
+use Rattle.cordyceps_stack.specs.Shared.View.{Doing, Idle, Ready, Loaded, Set, Walking, View, walking, in_chain, at_work, count_with_party}
+use Rattle.cordyceps_stack.specs.Shared.Words.{History, start, Spells, Since, AtDoing, WordsMeet}
 use Rattle.cordyceps_stack.proofs.Histories.{MayFollow, held_more, legal_more, change_more, change_last}
 
 module _ {E : Type 0} where
@@ -57,9 +60,9 @@ module _ {E : Type 0} where
   pub does_frame : (ws ws' : List ℕ) (h h' : History E) (j : ℕ) (doing : Doing E) → ((r : ℕ) → 1 ≤ at_work r doing → next ws' r ≡ next ws r)
       → ((read : ℕ) → Since ws h j read → Since ws' h' j read) → AtDoing ws h j doing → AtDoing ws' h' j doing
   does_frame ws ws' h h' j Idle same since k = tt
+  does_frame ws ws' h h' j (Ready r) same since k = tt
   does_frame ws ws' h h' j (Loaded r read) same since k = since read k
   does_frame ws ws' h h' j (Set r read) same since k = let here = one_here r in (same r (omega arith) ∙ k.0, since read k.1)
-  does_frame ws ws' h h' j (Missed r) same since k = tt
   does_frame ws ws' h h' j (Walking xs) same since k = spells_frame ws ws' (start xs) xs same k
 
   pub held_event : (h : History E) (j : ℕ) (x : Event Name E) → held (events (h ++ (j, x) ∷ [])) ≡ held_after (held (events h)) x
@@ -67,15 +70,6 @@ module _ {E : Type 0} where
 
   legal_event : (h : History E) (j : ℕ) (x : Event Name E) → Legal (events h) → MayFollow (events h) x → Legal (events (h ++ (j, x) ∷ []))
   legal_event h j x l a = subst (λ z. Legal z) (sym (events_more h j (x ∷ []))) (legal_more (events h) x l a)
-
-head_stays : (ws : List ℕ) (r x : ℕ) → head (set ws (suc r) x) ≡ head ws
-head_stays ws r x = get_or-set_other ws (suc r) 0 x 0 (λ e. omega arith)
-
-next_stays : (ws : List ℕ) (r s x : ℕ) → s ≢ r → next (set ws (suc r) x) s ≡ next ws s
-next_stays ws r s x n = get_or-set_other ws (suc r) (suc s) x 0 (λ e. n (omega arith))
-
-next_above : (ws : List ℕ) (s x : ℕ) → next (set ws 0 x) s ≡ next ws s
-next_above ws s x = get_or-set_other ws 0 (suc s) x 0 (λ e. omega arith)
 
 -- where a list has one room and not another, the rooms are two
 pub rooms_differ : (count : ℕ → ℕ) (r s : ℕ) → count r ≡ 0 → 1 ≤ count s → s ≢ r
@@ -126,51 +120,51 @@ module _ {E : Type 0} where
       (λ i u other e. does_frame ws ws h h' i u.doing (λ r _. refl) (λ read. since_event ws ws h i read j (Load n) (λ z. other (sym z)) (inl refl)))
 
   pub writes : (ws : List ℕ) (chain : List (ℕ × E)) (views : List (View E)) (h : History E) (j : ℕ) (v w : View E) (r read : ℕ) → WordsMeet ws chain views h → get_elem? views j ≡ some v
-      → v.doing ≡ Loaded r read → w.doing ≡ Set r read → w.free ≡ v.free → suc r < length ws
-      → WordsMeet (set ws (suc r) read) chain (set views j w) h
+      → v.doing ≡ Loaded r read → w.doing ≡ Set r read → w.free ≡ v.free → LINKS + r < length ws
+      → WordsMeet (set ws (LINKS + r) read) chain (set views j w) h
   writes ws chain views h j v w r read m at was now free inside =
-      let ws' = set ws (suc r) read in
+      let ws' = set ws (LINKS + r) read in
       let mine : count_with_party r v ≡ times r v.free + 1 = ap (λ d. times r v.free + at_work r d) was ∙ ap (λ n. times r v.free + n) (one_here r) in
       let alone = tally_one (count_with_party r) views j v at in
       let apart = m.apart r in
       let known : AtDoing ws h j (Loaded r read) = subst (λ (d : Doing E). AtDoing ws h j d) was (m.each j v at) in
-      let top = head_stays ws r read in
+      let top = head_beside_next ws r read in
       advance ws ws' chain chain views h h j v w m at m.legal
-      (subst (λ n. Spells ws' n chain) (sym top) (spells_frame ws ws' (head ws) chain (λ s k. next_stays ws r s read (rooms_differ (λ z. in_chain z chain) r s (omega arith) k)) m.spelled))
+      (subst (λ n. Spells ws' n chain) (sym top) (spells_frame ws ws' (head ws) chain (λ s k. next_beside_next ws r s read (rooms_differ (λ z. in_chain z chain) r s (omega arith) k)) m.spelled))
       m.holds
       (λ s. let a : count_with_party s w ≡ times s v.free + one_if (eqb r s) = (λ i. times s (free i) + at_work s (now i)) in let b : count_with_party s v ≡ times s v.free + one_if (eqb r s) = ap (λ d. times s v.free + at_work s d) was in omega arith)
-      (subst (λ (d : Doing E). AtDoing ws' h j d) (sym now) (get_or-set_same ws (suc r) read 0 inside, since_words ws ws' h j read top known))
+      (subst (λ (d : Doing E). AtDoing ws' h j d) (sym now) (next_set ws r read inside, since_words ws ws' h j read top known))
       (λ i u other e. let both = tally_two (count_with_party r) views i j u v other e at in
-      does_frame ws ws' h h i u.doing (λ s k. next_stays ws r s read (rooms_differ (λ z. at_work z u.doing) r s (omega arith) k)) (λ n. since_words ws ws' h i n top))
+      does_frame ws ws' h h i u.doing (λ s k. next_beside_next ws r s read (rooms_differ (λ z. at_work z u.doing) r s (omega arith) k)) (λ n. since_words ws ws' h i n top))
 
   pub pushes : (ws : List ℕ) (chain : List (ℕ × E)) (views : List (View E)) (h : History E) (j : ℕ) (v w : View E) (r read : ℕ) (n : Name) (x : E) → WordsMeet ws chain views h → get_elem? views j ≡ some v
-      → v.doing ≡ Set r read → w.doing ≡ Idle → w.free ≡ v.free → head ws ≡ read → 0 < length ws
-      → WordsMeet (set ws 0 (suc r)) ((r, x) ∷ chain) (set views j w) (h ++ (j, Push n x) ∷ [])
+      → v.doing ≡ Set r read → w.doing ≡ Idle → w.free ≡ v.free → head ws ≡ read → HEAD < length ws
+      → WordsMeet (set ws HEAD (suc r)) ((r, x) ∷ chain) (set views j w) (h ++ (j, Push n x) ∷ [])
   pushes ws chain views h j v w r read n x m at was now free top inside =
-      let ws' = set ws 0 (suc r) in
+      let ws' = set ws HEAD (suc r) in
       let h' = h ++ (j, Push n x) ∷ [] in
       let known : AtDoing ws h j (Set r read) = subst (λ (d : Doing E). AtDoing ws h j d) was (m.each j v at) in
-      let below : next ws' r ≡ head ws = next_above ws r (suc r) ∙ (known.0 ∙ sym top) in
+      let below : next ws' r ≡ head ws = next_beside_head ws r (suc r) ∙ (known.0 ∙ sym top) in
       advance ws ws' chain ((r, x) ∷ chain) views h h' j v w m at (legal_event h j (Push n x) m.legal tt)
-      (get_or-set_same ws 0 (suc r) 0 inside, subst (λ k. Spells ws' k chain) (sym below) (spells_frame ws ws' (head ws) chain (λ s k. next_above ws s (suc r)) m.spelled))
+      (head_set ws (suc r) inside, subst (λ k. Spells ws' k chain) (sym below) (spells_frame ws ws' (head ws) chain (λ s k. next_beside_head ws s (suc r)) m.spelled))
       (ap (λ (l : List E). x ∷ l) m.holds ∙ (sym (reverse-append (held (events h)) (x ∷ [])) ∙ ap (λ es. reverse es) (sym (held_event h j (Push n x)))))
       (λ s. let a : count_with_party s w ≡ times s v.free + 0 = (λ i. times s (free i) + at_work s (now i)) in let b : count_with_party s v ≡ times s v.free + one_if (eqb r s) = ap (λ d. times s v.free + at_work s d) was in omega arith)
       (subst (λ (d : Doing E). AtDoing ws' h' j d) (sym now) tt)
-      (λ i u other e. does_frame ws ws' h h' i u.doing (λ s k. next_above ws s (suc r)) (λ k. since_event ws ws' h i k j (Push n x) (λ z. other (sym z)) (inr tt)))
+      (λ i u other e. does_frame ws ws' h h' i u.doing (λ s k. next_beside_head ws s (suc r)) (λ k. since_event ws ws' h i k j (Push n x) (λ z. other (sym z)) (inr tt)))
 
   pub takes_all : (ws : List ℕ) (chain : List (ℕ × E)) (views : List (View E)) (h : History E) (j : ℕ) (v w : View E) (n : Name) → WordsMeet ws chain views h → get_elem? views j ≡ some v
-      → v.doing ≡ Idle → w.doing ≡ walking chain → w.free ≡ v.free → 0 < length ws
-      → WordsMeet (set ws 0 0) [] (set views j w) (h ++ (j, Taken n (room_elements chain)) ∷ [])
+      → v.doing ≡ Idle → w.doing ≡ walking chain → w.free ≡ v.free → HEAD < length ws
+      → WordsMeet (set ws HEAD 0) [] (set views j w) (h ++ (j, Taken n (room_elements chain)) ∷ [])
   takes_all ws chain views h j v w n m at was now free inside =
-      let ws' = set ws 0 0 in
+      let ws' = set ws HEAD 0 in
       let x = Taken n (room_elements chain) in
       let h' = h ++ (j, x) ∷ [] in
-      let empty = get_or-set_same ws 0 0 0 inside in
+      let empty = head_set ws 0 inside in
       advance ws ws' chain [] views h h' j v w m at (legal_event h j x m.legal m.holds) empty (ap (λ es. reverse es) (sym (held_event h j x)))
       (λ s. let a : count_with_party s w ≡ times s v.free + in_chain s chain = (λ i. times s (free i) + at_work s (now i)) ∙ ap (λ k. times s v.free + k) (at_work_walking s chain) in
       let b : count_with_party s v ≡ times s v.free + 0 = ap (λ d. times s v.free + at_work s d) was in omega arith)
-      (subst (λ (d : Doing E). AtDoing ws' h' j d) (sym now) (walks_on ws ws' h' j chain (λ s. next_above ws s 0) m.spelled))
-      (λ i u other e. does_frame ws ws' h h' i u.doing (λ s k. next_above ws s 0) (λ k. since_event ws ws' h i k j x (λ z. other (sym z)) (emptied ws ws' n chain empty m.spelled)))
+      (subst (λ (d : Doing E). AtDoing ws' h' j d) (sym now) (walks_on ws ws' h' j chain (λ s. next_beside_head ws s 0) m.spelled))
+      (λ i u other e. does_frame ws ws' h h' i u.doing (λ s k. next_beside_head ws s 0) (λ k. since_event ws ws' h i k j x (λ z. other (sym z)) (emptied ws ws' n chain empty m.spelled)))
 
   pub walks : (ws : List ℕ) (chain : List (ℕ × E)) (views : List (View E)) (h : History E) (j : ℕ) (v w : View E) (x : ℕ × E) (xs : List (ℕ × E)) → WordsMeet ws chain views h → get_elem? views j ≡ some v
       → v.doing ≡ Walking (x ∷ xs) → w.doing ≡ walking xs → w.free ≡ x.0 ∷ v.free

@@ -1,16 +1,17 @@
 -- What each atomic step tells a party of a transfer stack: of its seat m before, of the word that it found, and of its seat
 -- k after. A seat has a view, and the slots in hand, the last taken first.
-use Rattle.std.specs.Prelude.{◌≡◌, ◌≢◌, ℕ, suc, ◌<◌, ◌≤◌, List, [], ◌∷◌, length, Option, Some, None}
+use Rattle.std.specs.Prelude.{◌≡◌, ◌≢◌, ℕ, ◌+◌, ◌<◌, ◌≤◌, List, [], ◌∷◌, length, Option, Some, None}
 use Rattle.atomic_table.specs.Table.{Me}
 use Rattle.cordyceps_shared.specs.Knowing.{Grown}
 use Rattle.cordyceps_shared.specs.Shares.{Name}
+use Rattle.cordyceps_shared.specs.declared.layout.TheConstants.{LINKS}
 use Rattle.cordyceps_shared.specs.declared.slots.Filled.{Filled}
 use Rattle.cordyceps_stack.specs.History.{Event, Load, Push, Taken, Legal, actor}
 use Rattle.cordyceps_stack.specs.Cores.Stages.{room_elements}
 use Rattle.cordyceps_stack.specs.Shared.Calls.{EndsPushed, EndsLooked, IsOvertaken}
-use Rattle.cordyceps_stack.specs.Shared.View.{Doing, Idle, Loaded, Set, Missed, Walking, View, name, walking}
+use Rattle.cordyceps_stack.specs.Shared.View.{Doing, Idle, Ready, Loaded, Set, Walking, View, name, walking}
 use Rattle.cordyceps_stack.specs.Shared.Words.{start}
-use Rattle.cordyceps_shared.specs.Slots.{Hand, TableStep, full_slot}
+use Rattle.cordyceps_shared.specs.Slots.{Hand, Near, TableStep, full_slot}
 
 abbrev pub SeatState : Type 0 → Type 0
 SeatState E = Me (Option (Filled E)) (View E)
@@ -25,17 +26,17 @@ module _ {E : Type 0} where
   carry [] cs = cs
   carry (x ∷ xs) cs = (x.0, Some (full_slot x.0 x.1)) ∷ carry xs cs
 
-  -- the rooms are of a table with that many slots
-  abbrev pub Near : ℕ → List (ℕ × E) → Type 0
-  Near slots [] = Unit {0}
-  Near slots (x ∷ xs) = (x.0 < slots) × Near slots xs
+  -- the chain's rooms are of a table with that many slots
+  abbrev pub NearChain : ℕ → List (ℕ × E) → Type 0
+  NearChain slots [] = Unit {0}
+  NearChain slots (x ∷ xs) = (x.0 < slots) × NearChain slots xs
 
   -- what a party has yet to hand out
   abbrev pub to_hand_out : Doing E → List (ℕ × E)
   to_hand_out Idle = []
+  to_hand_out (Ready r) = []
   to_hand_out (Loaded r read) = []
   to_hand_out (Set r read) = []
-  to_hand_out (Missed r) = []
   to_hand_out (Walking xs) = xs
 
   -- ---- the steps
@@ -45,10 +46,15 @@ module _ {E : Type 0} where
       (k.0.doing ≡ m.0.doing) × (k.0.free ≡ m.0.free) × (k.1 ≡ m.1) × Sees m.0 (Load (name m.0) ∷ []) k.0
       × EndsLooked (read ≡ 0) (name m.0) k.0.known.seen
 
-  -- a load of head by a party that begins to push: the slot of its first free room is in hand
+  -- a read of the link of its first free room by a party that begins to push: the room's slot is in hand
+  abbrev pub readied : TableStep E → SeatState E → ℕ → SeatState E → Type 0
+  readied st m found k = (r : ℕ) (rs : List ℕ) → m.0.free ≡ r ∷ rs
+      → (st.word ≡ LINKS + r) × (k.0 ≡ record m.0 { doing = Ready r; free = rs }) × (k.1 ≡ (r, None) ∷ m.1) × (r < st.slots)
+
+  -- a load of head by a party that pushes
   abbrev pub loaded : TableStep E → SeatState E → ℕ → SeatState E → Type 0
-  loaded st m read k = (r : ℕ) (rs : List ℕ) → m.0.free ≡ r ∷ rs
-      → (k.0.doing ≡ Loaded r read) × (k.0.free ≡ rs) × (k.1 ≡ (r, None) ∷ m.1) × (r < st.slots) × Sees m.0 (Load (name m.0) ∷ []) k.0
+  loaded st m read k = (r : ℕ) → m.0.doing ≡ Ready r
+      → (k.0.doing ≡ Loaded r read) × (k.0.free ≡ m.0.free) × (k.1 ≡ m.1) × Sees m.0 (Load (name m.0) ∷ []) k.0
 
   -- a store of what was read in the room's link
   abbrev pub wrote : TableStep E → SeatState E → ℕ → SeatState E → Type 0
@@ -58,17 +64,17 @@ module _ {E : Type 0} where
   abbrev pub exchanged : TableStep E → SeatState E → ℕ → SeatState E → Type 0
   exchanged st m found k = (r read : ℕ) (x : Filled E) (cs : Hand E) → m.0.doing ≡ Set r read → m.1 ≡ (r, Some x) ∷ cs
       → (found ≡ read → (k.0.doing ≡ Idle) × (k.0.free ≡ m.0.free) × (k.1 ≡ cs) × Sees m.0 (Push (name m.0) x.item ∷ []) k.0 × EndsPushed x.item (found ≡ 0) (name m.0) k.0.known.seen)
-      × (found ≢ read → (k.0.doing ≡ Missed r) × (k.0.free ≡ m.0.free) × (k.1 ≡ m.1) × Sees m.0 [] k.0 × IsOvertaken k.0.known.seen)
+      × (found ≢ read → (k.0.doing ≡ Ready r) × (k.0.free ≡ m.0.free) × (k.1 ≡ m.1) × Sees m.0 [] k.0 × IsOvertaken k.0.known.seen)
 
-  -- a read of the link of a room whose exchange failed: its slot goes back
+  -- a read of the link of a room that is not pushed: its slot goes back
   abbrev pub returned : TableStep E → SeatState E → ℕ → SeatState E → Type 0
-  returned st m found k = (r : ℕ) (cs : Hand E) → m.0.doing ≡ Missed r → m.1 ≡ (r, None) ∷ cs
-      → (st.word ≡ suc r) × (k.0 ≡ record m.0 { doing = Idle; free = r ∷ m.0.free }) × (k.1 ≡ cs)
+  returned st m found k = (r : ℕ) (cs : Hand E) → m.0.doing ≡ Ready r → m.1 ≡ (r, None) ∷ cs
+      → (st.word ≡ LINKS + r) × (k.0 ≡ record m.0 { doing = Idle; free = r ∷ m.0.free }) × (k.1 ≡ cs)
 
   -- a swap of head: the slots of all that was held are in hand
   abbrev pub took : TableStep E → SeatState E → ℕ → SeatState E → Type 0
   took st m found k = m.0.doing ≡ Idle
-      → (chain : List (ℕ × E)) × (found ≡ start chain) × (k.0.doing ≡ walking chain) × (k.0.free ≡ m.0.free) × (k.1 ≡ carry chain m.1) × Near st.slots chain
+      → (chain : List (ℕ × E)) × (found ≡ start chain) × (k.0.doing ≡ walking chain) × (k.0.free ≡ m.0.free) × (k.1 ≡ carry chain m.1) × NearChain st.slots chain
       × Sees m.0 (Taken (name m.0) (room_elements chain) ∷ []) k.0
 
   -- a read of the link of the next room to be handed out: its slot goes back
@@ -78,9 +84,14 @@ module _ {E : Type 0} where
 
   -- ---- between the steps
   -- the party is between two calls
-  abbrev pub IsResting : SeatState E → Type 0
-  IsResting m = (m.0.doing ≡ Idle) × (m.1 ≡ []) × (m.0.known.share ≢ [])
+  abbrev pub IsResting : ℕ → SeatState E → Type 0
+  IsResting slots m = (m.0.doing ≡ Idle) × (m.1 ≡ []) × (m.0.known.share ≢ []) × Near slots m.0.free
+
+  -- the party pushes what lies in the slot in hand, which is this room's
+  abbrev pub IsReady : ℕ → ℕ → E → SeatState E → Type 0
+  IsReady slots room x m =
+      (m.0.doing ≡ Ready room) × (m.1 ≡ (room, Some (full_slot room x)) ∷ []) × (m.0.known.share ≢ []) × Near slots m.0.free × (room < slots)
 
   -- the party has these rooms to hand out, and their slots in hand
   abbrev pub IsWalking : ℕ → List (ℕ × E) → SeatState E → Type 0
-  IsWalking slots xs m = (m.0.doing ≡ walking xs) × (m.1 ≡ carry xs []) × Near slots xs × (m.0.known.share ≢ [])
+  IsWalking slots xs m = (m.0.doing ≡ walking xs) × (m.1 ≡ carry xs []) × NearChain slots xs × (m.0.known.share ≢ []) × Near slots m.0.free

@@ -1,5 +1,5 @@
 -- The rule of a transfer stack's table, which each step of each party keeps.
-use Rattle.std.specs.Prelude.{◌≡◌, ℕ, suc, ◌≤◌, List, [], ◌∷◌, length, Option, Some}
+use Rattle.std.specs.Prelude.{◌≡◌, ℕ, ◌+◌, ◌≤◌, List, [], ◌∷◌, length, Option, Some}
 use mathlib.Core.Option.{some}
 use lib.ListN.{get_elem?}
 use Rattle.atomic_table.specs.Table.{State}
@@ -7,6 +7,7 @@ use Rattle.atomic_table.specs.Seated.{TableId}
 use Rattle.cordyceps_base.specs.declared.shared.TheConstants.{MAX_ROOMS}
 use Rattle.cordyceps_shared.specs.Knowing.{SharesApart, AllAgree}
 use Rattle.cordyceps_shared.specs.Slots.{Homes, full_slot, EmptyAtHome}
+use Rattle.cordyceps_shared.specs.declared.layout.TheConstants.{LINKS}
 use Rattle.cordyceps_shared.specs.declared.slots.Filled.{Filled}
 use Rattle.cordyceps_stack.specs.History.{actor}
 use Rattle.cordyceps_stack.specs.Shared.View.{View, knows}
@@ -26,12 +27,12 @@ module _ {E : Type 0} where
     pub history : History E
     pub chain : List (ℕ × E)
     pub meets : WordsMeet s.words chain s.views history
-    pub wide : length s.words ≡ suc (length s.homes)
+    pub wide : length s.words ≡ LINKS + length s.homes
     pub full : FullAtHome s.homes chain
     pub empty : (j : ℕ) (v : View E) → get_elem? s.views j ≡ some v → EmptyAtHome s.homes v.free
     pub fits : AllAgree actor knows s.views history
     pub owned : SharesApart knows s.views history
 
--- a link for each slot, and head, for at most as many rooms as a stack may have
+-- a link for each slot, behind the words before the links, for at most as many rooms as a stack may have
 abbrev pub IsTable : TableId → Type 0
-IsTable z = (z.words ≡ suc z.slots) × (z.slots ≤ MAX_ROOMS)
+IsTable z = (z.words ≡ LINKS + z.slots) × (z.slots ≤ MAX_ROOMS)

@@ -9,12 +9,12 @@ use Rattle.cordyceps_stack.specs.History.{Event}
 -- where a party is within a call
 pub data Doing (E : Type 0) : Type 0 where
   Idle : Doing E
-  -- it pushes with this room, and read this word at head
+  -- it pushes with this room, whose slot it has in hand, or gives that back
+  Ready : ℕ → Doing E
+  -- and it read this word at head
   Loaded : ℕ → ℕ → Doing E
   -- and it wrote that word into the room's link
   Set : ℕ → ℕ → Doing E
-  -- its exchange failed, and it has yet to give this room's slot back
-  Missed : ℕ → Doing E
   -- it has these rooms yet to hand out, with their elements
   Walking : List (ℕ × E) → Doing E
 
@@ -47,9 +47,9 @@ module _ {E : Type 0} where
 
   abbrev pub at_work : ℕ → Doing E → ℕ
   at_work r Idle = 0
+  at_work r (Ready s) = one_if (nat_eq s r)
   at_work r (Loaded s read) = one_if (nat_eq s r)
   at_work r (Set s read) = one_if (nat_eq s r)
-  at_work r (Missed s) = one_if (nat_eq s r)
   at_work r (Walking xs) = in_chain r xs
 
   abbrev pub count_with_party : ℕ → View E → ℕ

@@ -1,24 +1,19 @@
 -- The words of a shared transfer stack, and what they and its parties have to do with the history.
--- Word 0 is head, and the word r + 1 is the link of room r. Each is 0 for null, or 1 more than a room.
-use Rattle.std.specs.Prelude.{◌≡◌, ◌⊎◌, ℕ, suc, ◌+◌, ◌≤◌, List, [], ◌∷◌, ◌++◌, reverse, slice_index}
+-- Each word is 0 for null, or 1 more than a room.
+use Rattle.std.specs.Prelude.{◌≡◌, ◌⊎◌, ℕ, suc, ◌+◌, ◌≤◌, List, [], ◌∷◌, ◌++◌, reverse}
 use mathlib.Core.Option.{some}
 use lib.ListN.{get_elem?}
 use Rattle.cordyceps_shared.specs.Counts.{tally}
 use Rattle.cordyceps_shared.specs.Histories.{events, NoneOf}
 use Rattle.cordyceps_shared.specs.Shares.{Name}
+use Rattle.cordyceps_shared.specs.Words.{head, next}
 use Rattle.cordyceps_stack.specs.History.{Event, Load, held, Legal, SomeChange}
 use Rattle.cordyceps_stack.specs.Cores.Stages.{room_elements}
-use Rattle.cordyceps_stack.specs.Shared.View.{Doing, Idle, Loaded, Set, Missed, Walking, View, in_chain, count_with_party}
+use Rattle.cordyceps_stack.specs.Shared.View.{Doing, Idle, Ready, Loaded, Set, Walking, View, in_chain, count_with_party}
 
 -- each event with the seat of its party
 abbrev pub History : Type 0 → Type 0
 History E = List (ℕ × Event Name E)
-
-abbrev pub head : List ℕ → ℕ
-head words = slice_index words 0
-
-abbrev pub next : List ℕ → ℕ → ℕ
-next words r = slice_index words (suc r)
 
 -- the word that leads to a chain
 abbrev pub start : {E : Type 0} → List (ℕ × E) → ℕ
@@ -43,9 +38,9 @@ module _ {E : Type 0} where
   -- what holds of a party that does this
   abbrev pub AtDoing : List ℕ → History E → ℕ → Doing E → Type 0
   AtDoing words history j Idle = Unit {0}
+  AtDoing words history j (Ready r) = Unit {0}
   AtDoing words history j (Loaded r read) = Since words history j read
   AtDoing words history j (Set r read) = (next words r ≡ read) × Since words history j read
-  AtDoing words history j (Missed r) = Unit {0}
   AtDoing words history j (Walking xs) = Spells words (start xs) xs
 
   -- the history is legal, what it holds is in the chain, no room is in two places, and each party does what its events led

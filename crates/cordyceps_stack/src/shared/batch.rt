@@ -26,7 +26,7 @@ pub(crate) fn hand_out<T: Linked<Links<T>>>(
     requires tickets { tickets.old ≡ seat.old.me.0.free }
     ensures table { seat.new.table_id ≡ seat.old.table_id }
     ensures stack { result ≡ map T.element (room_elements (to_hand_out seat.old.me.0.doing)) }
-    ensures seat { EmptiesHand seat.old.me seat.new.me }
+    ensures seat { EmptiesHand words.now.table_id.slots seat.old.me seat.new.me }
     ensures tickets { tickets.new ≡ seat.new.me.0.free }
 {
     let mut at = at;

@@ -30,7 +30,7 @@ use std::marker::Model;
 /// The source is `TransferStack` of the Rust crate `cordyceps`, with a fixed number of rooms in place of bare pointers.
 #[derive(Drop)]
 pub struct TransferStack<T: Linked<Links<T>>> {
-    rooms: OwnedTable<T::Handle>,
+    pub(crate) rooms: OwnedTable<T::Handle>,
 }
 
 impl<T: Linked<Links<T>>> Model for TransferStack<T> {
@@ -51,8 +51,8 @@ impl<T: Linked<Links<T>>> Model for TransferStack<T> {
 /// rooms of a party that is dropped are lost for good, and no party is whole afterwards.
 #[derive(Drop)]
 pub struct Party<T: Linked<Links<T>>> {
-    seat: PartySeat<T::Handle>,
-    tickets: Tickets,
+    pub(crate) seat: PartySeat<T::Handle>,
+    pub(crate) tickets: Tickets,
 }
 
 impl<T: Linked<Links<T>>> Model for Party<T> {

@@ -11,6 +11,7 @@ use crate::shared::plays::{Cut, Learn, Merge};
 use crate::shared::table::{OwnedTable, PartySeat, Words};
 use atomic_table::Table;
 use cordyceps_base::shared::MAX_ROOMS;
+use cordyceps_shared::layout::{HEAD, LINKS};
 use cordyceps_shared::slots::Count;
 use std::alloc::{AllocError, Global};
 use std::marker::Brand;
@@ -21,15 +22,16 @@ pub(crate) fn open<E: Drop>(
     rooms: usize,
 ) -> Result<(OwnedTable<E>, PartySeat<E>), AllocError>
     requires { rooms ≤ MAX_ROOMS }
-    ensures { IfOk result (λ r. IsSeatOf r.1.table_id r.0.shared.table_id × (r.1.me ≡ (newcomer rooms, []))) }
+    ensures { IfOk result (λ r. IsSeatOf r.1.table_id r.0.shared.table_id × (r.0.shared.table_id.slots ≡ rooms)
+        × (r.1.me ≡ (newcomer rooms, []))) }
 {
-    let words = vec![in alloc; 0; rooms + 1]?;
+    let words = vec![in alloc; 0; LINKS + rooms]?;
     Table::vacant(alloc, words.as_slice(), rooms, &rooms)
 }
 
 fn cut<E: Drop, B: Count>(words: &Words<E>, seat: &mut PartySeat<E>, rooms: usize) -> PartySeat<E>
     requires table { IsSeatOf seat.old.table_id words.now.table_id }
-    requires rest { IsResting seat.old.me × (B.rooms ≡ rooms) }
+    requires rest { IsResting words.now.table_id.slots seat.old.me × (B.rooms ≡ rooms) }
     ensures table { (seat.new.table_id ≡ seat.old.table_id) × (result.table_id ≡ seat.old.table_id) }
     ensures views { (seat.new.me ≡ (view_keeping rooms seat.old.me.0, []))
         × (result.me ≡ (view_giving rooms seat.old.me.0, [])) }
@@ -44,7 +46,7 @@ pub(crate) fn split<E: Drop>(
     rooms: usize,
 ) -> PartySeat<E>
     requires table { IsSeatOf seat.old.table_id words.now.table_id }
-    requires rest { IsResting seat.old.me }
+    requires rest { IsResting words.now.table_id.slots seat.old.me }
     ensures table { (seat.new.table_id ≡ seat.old.table_id) × (result.table_id ≡ seat.old.table_id) }
     ensures views { (seat.new.me ≡ (view_keeping rooms seat.old.me.0, []))
         × (result.me ≡ (view_giving rooms seat.old.me.0, [])) }
@@ -55,12 +57,12 @@ pub(crate) fn split<E: Drop>(
 /// Takes another seat in. What one had seen begins what the other had.
 pub(crate) fn absorb<E: Drop>(words: &Words<E>, seat: &mut PartySeat<E>, other: PartySeat<E>)
     requires table { IsSeatOf seat.old.table_id words.now.table_id × IsSeatOf other.table_id words.now.table_id }
-    requires rest { IsResting seat.old.me × IsResting other.me }
+    requires rest { IsResting words.now.table_id.slots seat.old.me × IsResting words.now.table_id.slots other.me }
     ensures table { seat.new.table_id ≡ seat.old.table_id }
     ensures views { seat.new.me ≡ (view_without_told (view_absorbing seat.old.me.0 other.me.0), []) }
     ensures known { IsKnown (λ h. Legal h) (view_absorbing seat.old.me.0 other.me.0).known }
     ensures few { length seat.new.me.0.free ≤ words.now.table_id.slots }
 {
     words.join_seat::<Merge>(seat, other);
-    words.load::<Learn>(seat, 0);
+    words.load::<Learn>(seat, HEAD);
 }

@@ -1,5 +1,5 @@
 //! What each step of a shared transfer stack tells. These types are for the proofs alone.
-ghost use Rattle.cordyceps_stack.specs.Shared.Plays.{looked, loaded, wrote, exchanged, returned, took, walked};
+ghost use Rattle.cordyceps_stack.specs.Shared.Plays.{looked, readied, loaded, wrote, exchanged, returned, took, walked};
 ghost use Rattle.cordyceps_stack.specs.Shared.Parting.{learned, view_keeping, view_giving, view_absorbing, view_absorbed};
 
 use crate::shared::table::SeatView;
@@ -13,9 +13,15 @@ impl<E> Play<Option<Filled<E>>, SeatView<E>> for Look {
     ghost then = { looked };
 }
 
-pub(crate) struct Begin;
+pub(crate) struct Ready;
 
-impl<E> Play<Option<Filled<E>>, SeatView<E>> for Begin {
+impl<E> Play<Option<Filled<E>>, SeatView<E>> for Ready {
+    ghost then = { readied };
+}
+
+pub(crate) struct Load;
+
+impl<E> Play<Option<Filled<E>>, SeatView<E>> for Load {
     ghost then = { loaded };
 }
 

@@ -1,67 +1,99 @@
 //! The atomic steps of a shared transfer stack: each function is a part of a call.
-ghost use Rattle.std.specs.Prelude.{◌≡◌, ◌≢◌, ◌<◌, ℕ, List, [], ◌∷◌, Some, None, MatchResult, IsTrue};
-ghost use Rattle.cordyceps_stack.specs.Shared.Parts.{IsSeatOf, Begun, IsSet, Settled, HasPushed, HasMissed, TookAll, Walked};
-ghost use Rattle.cordyceps_stack.specs.History.{Load};
-ghost use Rattle.cordyceps_stack.specs.Shared.Plays.{Sees, IsResting, IsWalking, to_hand_out};
+ghost use Rattle.std.specs.Prelude.{◌≡◌, ◌≢◌, ◌<◌, ℕ, suc, List, [], ◌∷◌, Some, None, MatchResult, MatchOption, IsTrue};
+ghost use Rattle.cordyceps_stack.specs.Shared.Parts.{IsSeatOf, IsFilled, IsLoaded, Settled, HasMissed, HasPushed, SettlesAt, TookAll, Walked};
+ghost use Rattle.cordyceps_stack.specs.History as event;
+ghost use Rattle.cordyceps_stack.specs.Shared.Plays.{Sees, IsResting, IsReady, IsWalking, to_hand_out};
 ghost use Rattle.cordyceps_shared.specs.Slots.{full_slot};
 ghost use Rattle.cordyceps_stack.specs.Shared.Calls.{EndsLooked};
-ghost use Rattle.cordyceps_stack.specs.Shared.View.{Idle, Loaded, Set, Missed, name};
+ghost use Rattle.cordyceps_stack.specs.Shared.View.{Idle, name};
+ghost use Rattle.cordyceps_stack.specs.Shared.View as doing;
+ghost use Rattle.cordyceps_shared.specs.Shares.{whole};
 ghost use Rattle.cordyceps_stack.specs.Shared.Words.{start};
 
-use crate::shared::plays::{Begin, Exchange, Look, Return, Take, Walk, Write};
+use crate::shared::plays::{Exchange, Load, Look, Ready, Return, Take, Walk, Write};
 use crate::shared::table::{PartySeat, Words};
+use cordyceps_shared::layout::{HEAD, LINKS};
 use cordyceps_shared::slots::Filled;
 use cordyceps_shared::tickets::Ticket;
+use crossbeam_utils::Backoff;
+use std::sync::Wait;
 
-/// Reads `head`, and takes the slot of the first free room in hand.
-fn begin<E: Drop>(words: &Words<E>, seat: &mut PartySeat<E>, room: usize) -> u64
+/// Takes the slot of the first free room in hand, which the ticket is of, and fills it.
+fn fill<E: Drop>(words: &Words<E>, seat: &mut PartySeat<E>, full: Filled<E>)
     requires table { IsSeatOf seat.old.table_id words.now.table_id }
-    requires rest { IsResting seat.old.me }
-    requires room { (rs : List ℕ) × (seat.old.me.0.free ≡ room ∷ rs) }
+    requires rest { IsResting words.now.table_id.slots seat.old.me }
+    requires room { (rs : List ℕ) × (seat.old.me.0.free ≡ full.ticket ∷ rs) }
     ensures table { seat.new.table_id ≡ seat.old.table_id }
-    ensures begun { Begun words.now.table_id.slots room result seat.old.me seat.new.me }
-{
-    words.load::<Begin>(seat, 0)
-}
-
-/// Puts the element into the slot in hand, and writes what was read into the room's link.
-fn link<E: Drop>(words: &Words<E>, seat: &mut PartySeat<E>, read: u64, full: Filled<E>)
-    requires table { IsSeatOf seat.old.table_id words.now.table_id }
-    requires loaded { (seat.old.me.0.doing ≡ Loaded full.ticket read)
-        × (seat.old.me.1 ≡ (full.ticket, None) ∷ [])
-        × (full.ticket < words.now.table_id.slots) }
-    ensures table { seat.new.table_id ≡ seat.old.table_id }
-    ensures set { IsSet full.ticket read full seat.old.me seat.new.me }
+    ensures filled { IsFilled words.now.table_id.slots full seat.old.me seat.new.me }
 {
     let room = full.ticket.room();
-    words.exchange(seat, room, Some(full));
-    words.store::<Write>(seat, room + 1, read);
+    words.load::<Ready>(seat, LINKS + room);
+    let None = words.exchange(seat, room, Some(full)) else {
+        unreachable!()
+    };
+}
+
+/// Reads `head`.
+fn load<E: Drop>(words: &Words<E>, seat: &mut PartySeat<E>, _room: usize) -> u64
+    requires table { IsSeatOf seat.old.table_id words.now.table_id }
+    requires ready { (seat.old.me.0.doing ≡ doing.Ready _room) × (seat.old.me.0.known.share ≢ []) }
+    ensures table { seat.new.table_id ≡ seat.old.table_id }
+    ensures loaded { IsLoaded _room result seat.old.me seat.new.me }
+{
+    words.load::<Load>(seat, HEAD)
+}
+
+/// Writes what was read into the room's link.
+fn link<E: Drop>(words: &Words<E>, seat: &mut PartySeat<E>, room: usize, read: u64)
+    requires table { IsSeatOf seat.old.table_id words.now.table_id }
+    requires loaded { (seat.old.me.0.doing ≡ doing.Loaded room read) × (room < words.now.table_id.slots) }
+    ensures table { seat.new.table_id ≡ seat.old.table_id }
+    ensures set { seat.new.me ≡ (record seat.old.me.0 { doing = doing.Set room read }, seat.old.me.1) }
+{
+    words.store::<Write>(seat, LINKS + room, read);
 }
 
 /// Exchanges `head`, if it is still what was read, with the room, and tells whether it was.
 fn settle<E: Drop>(words: &Words<E>, seat: &mut PartySeat<E>, room: usize, read: u64) -> bool
     requires table { IsSeatOf seat.old.table_id words.now.table_id }
     requires set { (x : E) × (seat.old.me.1 ≡ (room, Some (full_slot room x)) ∷ []) }
-    requires stage { (seat.old.me.0.doing ≡ Set room read) × (seat.old.me.0.known.share ≢ [])
+    requires stage { (seat.old.me.0.doing ≡ doing.Set room read) × (seat.old.me.0.known.share ≢ [])
         × (room < words.now.table_id.slots) }
     ensures table { seat.new.table_id ≡ seat.old.table_id }
     ensures settled { (x : E) → seat.old.me.1 ≡ (room, Some (full_slot room x)) ∷ []
         → Settled room read x result seat.old.me seat.new.me }
 {
-    words.compare_exchange::<Exchange>(seat, 0, read, room as u64 + 1) == read
+    words.compare_exchange::<Exchange>(seat, HEAD, read, room as u64 + 1) == read
+}
+
+/// Tries once to push what lies in the slot in hand, and answers whether nothing was held. `None` where another came
+/// between, and the slot is in hand as before.
+fn attempt<E: Drop>(words: &Words<E>, seat: &mut PartySeat<E>, room: usize) -> Option<bool>
+    requires table { IsSeatOf seat.old.table_id words.now.table_id }
+    requires ready { (x : E) × IsReady words.now.table_id.slots room x seat.old.me }
+    ensures table { seat.new.table_id ≡ seat.old.table_id }
+    ensures answer { (x : E) → IsReady words.now.table_id.slots room x seat.old.me → MatchOption result
+        (HasMissed seat.old.me seat.new.me) (λ first. SettlesAt words.now.table_id.slots 1 x first seat.old.me seat.new.me) }
+{
+    let read = load(words, seat, room);
+    link(words, seat, room, read);
+    if settle(words, seat, room, read) {
+        Some(read == 0)
+    } else {
+        None
+    }
 }
 
 /// Takes the element out of the slot in hand, and gives the slot back.
 fn back_out<E: Drop>(words: &Words<E>, seat: &mut PartySeat<E>, room: usize) -> Filled<E>
     requires table { IsSeatOf seat.old.table_id words.now.table_id }
-    requires missed { (x : E) × (seat.old.me.1 ≡ (room, Some (full_slot room x)) ∷ []) }
-    requires stage { (seat.old.me.0.doing ≡ Missed room) × (room < words.now.table_id.slots) }
+    requires ready { (x : E) × IsReady words.now.table_id.slots room x seat.old.me }
     ensures table { seat.new.table_id ≡ seat.old.table_id }
     ensures element { seat.old.me.1 ≡ (room, Some result) ∷ [] }
     ensures seat { seat.new.me ≡ (record seat.old.me.0 { doing = Idle; free = room ∷ seat.old.me.0.free }, []) }
 {
     let full = words.exchange(seat, room, None);
-    words.load::<Return>(seat, room + 1);
+    words.load::<Return>(seat, LINKS + room);
     let Some(full) = full else { unreachable!() };
     full
 }
@@ -74,43 +106,89 @@ pub(crate) fn try_push<E: Drop>(
     item: E,
 ) -> Result<bool, Filled<E>>
     requires table { IsSeatOf seat.old.table_id words.now.table_id }
-    requires rest { IsResting seat.old.me }
+    requires rest { IsResting words.now.table_id.slots seat.old.me }
     requires room { (rs : List ℕ) × (seat.old.me.0.free ≡ ticket ∷ rs) }
     ensures table { seat.new.table_id ≡ seat.old.table_id }
-    ensures rest { IsResting seat.new.me }
+    ensures rest { IsResting words.now.table_id.slots seat.new.me }
     ensures answer { MatchResult result
-        (λ first. HasPushed ticket item first seat.old.me seat.new.me)
+        (λ first. HasPushed 1 ticket item first seat.old.me seat.new.me)
         (λ back. (back ≡ full_slot ticket item) × HasMissed seat.old.me seat.new.me) }
 {
     let room = ticket.room();
-    let read = begin(words, seat, room);
-    link(words, seat, read, Filled { ticket, item });
-    if settle(words, seat, room, read) {
-        return Ok(read == 0);
+    fill(words, seat, Filled { ticket, item });
+    match attempt(words, seat, room) {
+        Some(first) => Ok(first),
+        None => Err(back_out(words, seat, room)),
     }
-    Err(back_out(words, seat, room))
+}
+
+/// Pushes what lies in the slot in hand, by as many tries as it takes, and tells whether nothing was held.
+fn settle_at_last<E: Drop, R: Wait>(
+    rt: &R,
+    words: &Words<E>,
+    seat: &mut PartySeat<E>,
+    room: usize,
+) -> bool
+    requires table { IsSeatOf seat.old.table_id words.now.table_id }
+    requires ready { (x : E) × IsReady words.now.table_id.slots room x seat.old.me }
+    ensures table { seat.new.table_id ≡ seat.old.table_id }
+    ensures answer { (x : E) → IsReady words.now.table_id.slots room x seat.old.me
+        → (tries : ℕ) × SettlesAt words.now.table_id.slots (suc tries) x result seat.old.me seat.new.me }
+    ensures whole { (x : E) → IsReady words.now.table_id.slots room x seat.old.me
+        → seat.old.me.0.known.share ≡ whole → SettlesAt words.now.table_id.slots 1 x result seat.old.me seat.new.me }
+{
+    let backoff = Backoff::new();
+    for _ in rt.forever() {
+        match attempt(words, seat, room) {
+            Some(first) => return first,
+            None => backoff.spin(),
+        }
+    }
+    unreachable!()
+}
+
+/// Pushes into the first free room, which the ticket is of, by as many tries as it takes, and tells whether nothing was
+/// held. The slot stays filled from try to try.
+pub(crate) fn push<E: Drop, R: Wait>(
+    rt: &R,
+    words: &Words<E>,
+    seat: &mut PartySeat<E>,
+    ticket: Ticket,
+    item: E,
+) -> bool
+    requires table { IsSeatOf seat.old.table_id words.now.table_id }
+    requires rest { IsResting words.now.table_id.slots seat.old.me }
+    requires room { (rs : List ℕ) × (seat.old.me.0.free ≡ ticket ∷ rs) }
+    ensures table { seat.new.table_id ≡ seat.old.table_id }
+    ensures rest { IsResting words.now.table_id.slots seat.new.me }
+    ensures pushed { (tries : ℕ) × HasPushed (suc tries) ticket item result seat.old.me seat.new.me }
+    ensures whole { seat.old.me.0.known.share ≡ whole → HasPushed 1 ticket item result seat.old.me seat.new.me }
+{
+    let room = ticket.room();
+    fill(words, seat, Filled { ticket, item });
+    settle_at_last(rt, words, seat, room)
 }
 
 /// Whether nothing is held.
 pub(crate) fn is_empty<E: Drop>(words: &Words<E>, seat: &mut PartySeat<E>) -> bool
     requires table { IsSeatOf seat.old.table_id words.now.table_id }
-    requires rest { IsResting seat.old.me }
+    requires rest { IsResting words.now.table_id.slots seat.old.me }
     ensures table { seat.new.table_id ≡ seat.old.table_id }
-    ensures rest { IsResting seat.new.me × (seat.new.me.0.free ≡ seat.old.me.0.free) }
-    ensures sees { Sees seat.old.me.0 (Load (name seat.old.me.0) ∷ []) seat.new.me.0 }
+    ensures rest { IsResting words.now.table_id.slots seat.new.me × (seat.new.me.0.free ≡ seat.old.me.0.free) }
+    ensures sees { Sees seat.old.me.0 (event.Load (name seat.old.me.0) ∷ []) seat.new.me.0 }
     ensures answer { EndsLooked (IsTrue result) (name seat.old.me.0) seat.new.me.0.known.seen }
 {
-    words.load::<Look>(seat, 0) == 0
+    words.load::<Look>(seat, HEAD) == 0
 }
 
 /// Takes all that is held, to be handed out by `walk`. Answers the word that leads to it.
 pub(crate) fn take<E: Drop>(words: &Words<E>, seat: &mut PartySeat<E>) -> u64
     requires table { IsSeatOf seat.old.table_id words.now.table_id }
-    requires rest { IsResting seat.old.me }
+    requires rest { IsResting words.now.table_id.slots seat.old.me }
     ensures table { seat.new.table_id ≡ seat.old.table_id }
     ensures took { TookAll words.now.table_id.slots result seat.old.me seat.new.me }
 {
-    words.swap::<Take>(seat, 0, 0)
+    words.swap::<Take>(seat, HEAD, 0)
 }
 
 /// Hands out the newest of what was taken, to which `at` leads, and answers the word that leads to the next.
@@ -121,8 +199,9 @@ pub(crate) fn walk<E: Drop>(words: &Words<E>, seat: &mut PartySeat<E>, at: u64) 
     ensures table { seat.new.table_id ≡ seat.old.table_id }
     ensures walked { Walked words.now.table_id.slots result.0 result.1 seat.old.me seat.new.me }
 {
-    let full = words.exchange(seat, at as usize - 1, None);
-    let below = words.load::<Walk>(seat, at as usize);
+    let room = at as usize - 1;
+    let full = words.exchange(seat, room, None);
+    let below = words.load::<Walk>(seat, LINKS + room);
     let Some(full) = full else { unreachable!() };
     (full, below)
 }

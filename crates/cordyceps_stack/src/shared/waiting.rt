@@ -4,9 +4,9 @@ ghost use Rattle.cordyceps_shared.specs.Shares.{whole};
 ghost use Rattle.cordyceps_stack.specs.Shared.Calls.{PushesAt};
 
 use crate::shared::calls::{Party, TransferStack};
+use crate::shared::steps;
 use cordyceps_base::linked::Linked;
 use cordyceps_base::stack::Links;
-use crossbeam_utils::Backoff;
 use std::sync::Wait;
 
 impl<T: Linked<Links<T>>> TransferStack<T> {
@@ -28,15 +28,7 @@ impl<T: Linked<Links<T>>> TransferStack<T> {
         ensures pushed { (tries : ℕ) × PushesAt (suc tries) handle result party.old party.new }
         ensures whole { party.old.share ≡ whole → PushesAt 1 handle result party.old party.new }
     {
-        let backoff = Backoff::new();
-        let mut handle = handle;
-        for _ in rt.forever() {
-            match self.try_push(party, handle) {
-                Ok(first) => return first,
-                Err(back) => handle = back,
-            }
-            backoff.spin();
-        }
-        unreachable!()
+        let ticket = party.tickets.take();
+        steps::push(rt, &self.rooms.shared, &mut party.seat, ticket, handle)
     }
 }

@@ -2,6 +2,7 @@ use Rattle.std.proofs.Common.{ℕ, List, sym, ap, ◌∙◌, subst, rules}
 use mathlib.Core.Option.{none}
 use Rattle.atomic_table.specs.Table.{step}
 use Rattle.cordyceps_shared.specs.Places.{ItemAt}
+use Rattle.cordyceps_shared.specs.declared.layout.TheConstants.{RIGHT}
 use Rattle.cordyceps_queue.specs.Shared.Plays.{carry}
 use Rattle.cordyceps_queue.proofs.SharedTheory.HolderAllowed.{takes_right}
 use Rattle.cordyceps_queue.proofs.SharedTheory.PartsJoin.{takes_by}
@@ -17,4 +18,4 @@ swap-requires g c =
     )
 
 pub returns-clause-took : goal.returns-clause-took
-returns-clause-took g c = takes_by (step c.args.words.now.table_id.slots 1 0 0 none) _ _ c.requires.rest _ c.swap.ensures.2
+returns-clause-took g c = takes_by (step c.args.words.now.table_id.slots RIGHT 0 0 none) _ _ c.requires.rest _ c.swap.ensures.2

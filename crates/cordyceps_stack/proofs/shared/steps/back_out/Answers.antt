@@ -1,4 +1,4 @@
-use Rattle.std.proofs.Common.{[], ◌∷◌, Option, Some, None, sym, ap, ◌∙◌, rules, add-one}
+use Rattle.std.proofs.Common.{[], ◌∷◌, Option, Some, None, refl, sym, ap, ◌∙◌, rules}
 use Rattle.atomic_table.specs.Table.{rest}
 use Rattle.cordyceps_shared.specs.declared.slots.Filled.{Filled}
 use Rattle.cordyceps_shared.specs.Slots.{full_slot}
@@ -7,16 +7,16 @@ use Rattle.cordyceps_stack.proofs.shared.steps.back_out.Goals as goal
 
 pub exchange-full-requires : goal.exchange-full-requires
 exchange-full-requires g c =
-    let h = c.requires.missed.1 in
-    (search rules, (_, h ∙ ap (λ z. (c.args.room, Some (full_slot c.args.room c.requires.missed.0)) ∷ rest z) (sym h)))
+    let h = c.requires.ready.1.1 in
+    (search rules, (_, h ∙ ap (λ z. (c.args.room, Some (full_slot c.args.room c.requires.ready.0)) ∷ rest z) (sym h)))
 
 pub load-requires : goal.load-requires
 load-requires g c =
-    let h = c.requires.missed.1 in
+    let ready = c.requires.ready.1 in
     let y = c.exchange-full.ensures.3 in
     let none : Option (Filled g.row.E.Denot) = None in
-    let missed = ap (λ m. m.0.doing) y ∙ c.requires.stage.0 in
-    let empty = ap (λ m. m.1) y ∙ ap (λ z. (c.args.room, none) ∷ rest z) h in
+    let missed = ap (λ m. m.0.doing) y ∙ ready.0 in
+    let empty = ap (λ m. m.1) y ∙ ap (λ z. (c.args.room, none) ∷ rest z) ready.1 in
     let t = c.requires.table in
-    let near = c.requires.stage.1 in
-    (search rules, search rules, returns _ _ _ _ c.args.room [] (add-one c.args.room) missed empty near)
+    let near = ready.4 in
+    (search rules, search rules, returns _ _ _ _ c.args.room [] refl missed empty near)

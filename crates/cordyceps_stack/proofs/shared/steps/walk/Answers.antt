@@ -1,17 +1,15 @@
-use Rattle.std.proofs.Common.{◌≡◌, ℕ, List, [], ◌∷◌, Option, Some, None, sym, ap, ◌∙◌, subst, rules}
+use Rattle.std.proofs.Common.{◌≡◌, ◌+◌, ℕ, List, [], ◌∷◌, Option, Some, None, sym, ap, ◌∙◌, subst, rules}
 use Rattle.atomic_table.specs.Table.{rest}
+use Rattle.cordyceps_shared.specs.declared.layout.TheConstants.{LINKS}
 use Rattle.cordyceps_shared.specs.declared.slots.Filled.{Filled}
 use Rattle.cordyceps_stack.specs.Shared.Plays.{to_hand_out, carry, IsWalking}
 use Rattle.cordyceps_shared.specs.Slots.{full_slot}
 use Rattle.cordyceps_stack.specs.Shared.Words.{start}
-use Rattle.cordyceps_stack.proofs.SharedTheory.PartsJoin.{next_of, batch_walking}
+use Rattle.cordyceps_stack.proofs.SharedTheory.PartsJoin.{hand_of, next_of, batch_walking}
 use Rattle.cordyceps_shared.proofs.Choices.{some_or}
+use Rattle.cordyceps_shared.proofs.Places.{near_cons}
 use Rattle.cordyceps_stack.proofs.SharedTheory.StepsKeep.{walks_one}
 use Rattle.cordyceps_stack.proofs.shared.steps.walk.Goals as goal
-
-abbrev hand_of : {A : Type 0} → List (ℕ × Option A) → Option A
-hand_of [] = None
-hand_of (x ∷ xs) = x.1
 
 pub exchange-full-requires : goal.exchange-full-requires
 exchange-full-requires g c =
@@ -28,7 +26,7 @@ load-below-requires g c =
     let doing = ap (λ m. m.0.doing) y ∙ n.doing in
     let empty = ap (λ m. m.1) y ∙ (λ j. (n.index j, none) ∷ rest (n.hand j)) in
     let inside = n.inside in
-    let word = n.word in
+    let word = ap (λ z. LINKS + z) n.index in
     let table = c.requires.table in
     (search rules, search rules, walks_one _ _ _ _ n.here n.others (carry n.others []) word doing empty inside)
 
@@ -46,7 +44,13 @@ returns-clause-walked g c =
     let now = ap (λ v. v.doing) z.1 in
     let batch : to_hand_out c.load-below.new.seat.me.0.doing ≡ n.others = ap to_hand_out now ∙ batch_walking n.others in record {
       batch = ap to_hand_out n.doing ∙ (λ j. ((sym full j).ticket, (sym full j).item) ∷ sym batch j);
-      walking = subst (λ xs. IsWalking c.args.words.now.table_id.slots xs c.load-below.new.seat.me) (sym batch) (now, z.2, n.near, λ e. c.requires.batch.0.3 (sym (ap (λ m. m.0.known.share) y.3) ∙ (sym (ap (λ v. v.known.share) z.1) ∙ e)));
+      walking = subst (λ xs. IsWalking c.args.words.now.table_id.slots xs c.load-below.new.seat.me) (sym batch) (
+        now,
+        z.2,
+        n.near,
+        (λ e. b.0.3 (sym (ap (λ m. m.0.known.share) y.3) ∙ (sym (ap (λ v. v.known.share) z.1) ∙ e))),
+        near_cons c.args.words.now.table_id.slots n.here.0 c.load-below.new.seat.me.0.free c.args.seat.now.me.0.free n.inside n.free (ap (λ v. v.free) z.1 ∙ ap (λ m. n.here.0 ∷ m.0.free) y.3),
+      );
       below_is = z.0 ∙ ap start (sym batch);
       free = ap (λ v. v.free) z.1 ∙ (λ j. (sym full j).ticket ∷ (y.3 j).0.free);
       known = ap (λ v. v.known) z.1 ∙ ap (λ m. m.0.known) y.3;

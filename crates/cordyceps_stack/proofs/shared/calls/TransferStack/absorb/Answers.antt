@@ -1,4 +1,4 @@
-use Rattle.std.proofs.Common.{subst}
+use Rattle.std.proofs.Common.{subst, rules}
 use Rattle.cordyceps_shared.specs.Standings.{Absorbs}
 use Rattle.cordyceps_stack.specs.Shared.Parts.{standing}
 use Rattle.cordyceps_stack.specs.History.{Legal}
@@ -8,7 +8,7 @@ use Rattle.cordyceps_stack.proofs.shared.calls.TransferStack.absorb.Goals as goa
 pub invariant_of-party : goal.invariant_of-party
 invariant_of-party g c =
     let e = c.absorb.ensures in
-    absorbed_seated _ _ _ c.party.inside.seat.me c.other.inside.seat.me c.absorb.new.seat.me _ _ _ c.party.invariant c.other.invariant e.table e.views e.known c.append.ensures
+    absorbed_seated _ _ _ c.party.inside.seat.me c.other.inside.seat.me c.absorb.new.seat.me _ _ _ c.party.invariant c.other.invariant (search rules) e.table e.views e.known c.append.ensures
 
 pub returns : goal.returns
 returns g c =

@@ -1,0 +1,13 @@
+//! Where the words of a table that threads share lie.
+//!
+//! `HEAD` and `RIGHT` have 128 bytes of their own, two cache lines, since a processor may fetch lines in pairs: a step on
+//! one of them does not take the other, or a link, away from another processor.
+
+/// The index of the word that leads to the element put in last.
+pub const HEAD: usize = 16;
+
+/// The index of the word of a queue's right to dequeue.
+pub const RIGHT: usize = 32;
+
+/// The index of the link of room 0. Those of the other rooms follow, in order.
+pub const LINKS: usize = 48;
