@@ -88,6 +88,7 @@ fn link_stub<E: Drop>(words: &Words<E>, seat: &mut PartySeat<E>, _tail: usize, o
 }
 
 /// Puts the stub in at the head, behind the tail.
+#[inline(never)]
 pub(crate) fn put_stub<E: Drop>(words: &Words<E>, seat: &mut PartySeat<E>, tail: usize)
     requires table { (seat.old.table_id ≡ words.now.table_id) × IsTable words.now.table_id }
     requires stage { IsAtStage words.now.table_id.slots (PutClear tail) seat.old.me }

@@ -1,4 +1,6 @@
 //! A try to dequeue, of a party that has the right or takes it for this try.
+//!
+//! A try is a part of its caller, so that what it comes to stays in registers. Only `put_stub` is called.
 ghost use Rattle.std.specs.Prelude.{◌≡◌, ◌<◌, [], ◌∷◌};
 ghost use Rattle.cordyceps_queue.specs.Shared.Parts.{Tries, Dequeued};
 ghost use Rattle.cordyceps_queue.specs.History.{Event};
@@ -14,6 +16,7 @@ use crate::shared::stub_steps::{
 use crate::shared::table::{PartySeat, Tried, Words};
 
 /// Goes on where the stub was put in behind the tail.
+#[inline(always)]
 fn behind_tail<E: Drop>(words: &Words<E>, seat: &mut PartySeat<E>, tail: usize) -> (u64, Tried<E>)
     requires table { (seat.old.table_id ≡ words.now.table_id) × IsTable words.now.table_id }
     requires stage { IsAtStage words.now.table_id.slots (PutRead tail) seat.old.me × (tail < words.now.table_id.slots) }
@@ -28,7 +31,7 @@ fn behind_tail<E: Drop>(words: &Words<E>, seat: &mut PartySeat<E>, tail: usize) 
 }
 
 /// Goes on behind a null link of a tail that is no stub.
-#[inline(never)]
+#[inline(always)]
 fn at_end<E: Drop>(words: &Words<E>, seat: &mut PartySeat<E>, tail: usize) -> (u64, Tried<E>)
     requires table { (seat.old.table_id ≡ words.now.table_id) × IsTable words.now.table_id }
     requires stage { IsAtStage words.now.table_id.slots (Null tail) seat.old.me × (tail < words.now.table_id.slots) }
@@ -43,6 +46,7 @@ fn at_end<E: Drop>(words: &Words<E>, seat: &mut PartySeat<E>, tail: usize) -> (u
 }
 
 /// Goes on where the stub was passed.
+#[inline(always)]
 fn behind_stub<E: Drop>(words: &Words<E>, seat: &mut PartySeat<E>, tail: usize) -> (u64, Tried<E>)
     requires table { (seat.old.table_id ≡ words.now.table_id) × IsTable words.now.table_id }
     requires stage { IsAtStage words.now.table_id.slots (Second tail) seat.old.me × (tail < words.now.table_id.slots) }
@@ -57,7 +61,7 @@ fn behind_stub<E: Drop>(words: &Words<E>, seat: &mut PartySeat<E>, tail: usize) 
 }
 
 /// Tries where the tail is the stub.
-#[inline(never)]
+#[inline(always)]
 fn look_stub<E: Drop>(words: &Words<E>, seat: &mut PartySeat<E>) -> (u64, Tried<E>)
     requires table { (seat.old.table_id ≡ words.now.table_id) × IsTable words.now.table_id }
     requires holding { IsHolding words.now.table_id.slots 0 seat.old.me }
@@ -75,8 +79,7 @@ fn look_stub<E: Drop>(words: &Words<E>, seat: &mut PartySeat<E>) -> (u64, Tried<
     (0, Tried::Inconsistent)
 }
 
-/// Tries once, as the party that has the right: the tail after the try, and what it came to. Where the tail leads on,
-/// that is a part of the caller.
+/// Tries once, as the party that has the right: the tail after the try, and what it came to.
 #[inline(always)]
 pub(crate) fn advance<E: Drop>(
     words: &Words<E>,
