@@ -172,7 +172,7 @@ impl<T: Linked<Links<T>>> MpscQueue<T> {
     }
 
     /// Gives up some of a party's rooms, and half of its first name, to a new party, which has seen the same history
-    /// and has no event of its own. It reads the head once, and goes through the rooms that it gives up.
+    /// and has no event of its own. It goes through the rooms that it gives up.
     pub fn split(&self, party: &mut Party<T>, rooms: usize) -> Party<T>
         requires table { party.old.table ≡ self.now.table }
         requires rooms { rooms ≤ party.old.rooms }
@@ -183,7 +183,7 @@ impl<T: Linked<Links<T>>> MpscQueue<T> {
         Party { seat, tickets }
     }
 
-    /// Takes another party in: its rooms, its names and its events, and what it has seen. It reads the head twice.
+    /// Takes another party in: its rooms, its names and its events, and what it has seen. It reads the head once.
     pub fn absorb(&self, party: &mut Party<T>, other: Party<T>)
         requires { (party.old.table ≡ self.now.table) × (other.table ≡ self.now.table) }
         ensures { Absorbs (λ h. Legal h) party.old other party.new }

@@ -136,7 +136,7 @@ impl<T: Linked<Links<T>>> TransferStack<T> {
     }
 
     /// Gives up some of a party's rooms, and half of its first name, to a new party, which has seen the same history
-    /// and has no event of its own. It reads the head once, and goes through the rooms that it gives up.
+    /// and has no event of its own. It goes through the rooms that it gives up.
     pub fn split(&self, party: &mut Party<T>, rooms: usize) -> Party<T>
         requires table { party.old.table ≡ self.now }
         requires rooms { rooms ≤ party.old.rooms }
@@ -147,7 +147,7 @@ impl<T: Linked<Links<T>>> TransferStack<T> {
         Party { seat, tickets }
     }
 
-    /// Takes another party in: its rooms, its names and its events, and what it has seen. It reads the head twice.
+    /// Takes another party in: its rooms, its names and its events, and what it has seen. It reads the head once.
     pub fn absorb(&self, party: &mut Party<T>, other: Party<T>)
         requires { (party.old.table ≡ self.now) × (other.table ≡ self.now) }
         ensures { Absorbs (λ h. Legal h) party.old other party.new }
