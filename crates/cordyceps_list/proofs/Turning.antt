@@ -1,6 +1,6 @@
 -- Sequences that are taken from both ends in turn.
-use Rattle.std.proofs.Common.{◌≡◌, ℕ, ◌+◌, ◌-◌, ◌<◌, Bool, true, false, List, [], ◌∷◌, ◌++◌, get_or, length, take, drop, refl, sym, ap, ◌∙◌, append_assoc, add-one}
-use Rattle.std.proofs.lemmas.List.{append-nil, take-append-drop}
+use Rattle.std.proofs.Common.{◌≡◌, ℕ, ◌+◌, ◌-◌, ◌<◌, ◌≤◌, Bool, true, false, List, [], ◌∷◌, ◌++◌, get_or, length, take, drop, refl, sym, ap, ◌∙◌, append_assoc, add-one}
+use Rattle.std.proofs.lemmas.List.{append-nil, drop_all, nil_from_length, take-append-drop}
 use Rattle.std.proofs.Math.Seq.{drop-cons}
 use Rattle.cordyceps_list.specs.Turns.{Parts, first_out, last_out, parts_from, parts_by}
 
@@ -46,3 +46,18 @@ module _ {A : Type 0} where
       let q : Parts A = record { firsts = f'; left = l'; lasts = b' } in
       let new : q ≡ last_out p = λ j. record { firsts = fe j; left = le j; lasts = be j } in
       ap (λ u. parts_from (drop (i + 1) turns) u) new ∙ sym (turned turns i d false p below is) ∙ was
+
+  -- behind the last turn the parts are those of all turns
+  pub last_parts : (turns : List Bool) (i : ℕ) (s f l b : List A) → length turns ≤ i → parts_from (drop i turns) (record { firsts = f; left = l; lasts = b }) ≡ parts_by turns s → record { firsts = f; left = l; lasts = b } ≡ parts_by turns s
+  last_parts turns i s f l b past is =
+      let p : Parts A = record { firsts = f; left = l; lasts = b } in
+      sym (ap (λ u. parts_from u p) (drop_all i turns past)) ∙ is
+
+  -- with nothing left, what came from the front is all but what came from the back
+  pub all_firsts : (f l x : List A) → f ++ l ≡ x → length l ≡ 0 → f ≡ x
+  all_firsts f l x is none = sym (append-nil f) ∙ sym (ap (λ t. f ++ t) (nil_from_length l none)) ∙ is
+
+  pub all_once : (turns : List Bool) (s f l b : List A) → f ++ l ≡ (parts_by turns s).firsts ++ (parts_by turns s).left → b ≡ (parts_by turns s).lasts → length l ≡ 0 → f ++ b ≡ s
+  all_once turns s f l b front back none =
+      let firsts = all_firsts f l ((parts_by turns s).firsts ++ (parts_by turns s).left) front none in
+      (λ j. firsts j ++ back j) ∙ all_parts turns s
