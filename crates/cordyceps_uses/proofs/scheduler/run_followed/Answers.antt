@@ -1,4 +1,4 @@
-use Rattle.std.proofs.Common.{List, ap, ◌∙◌, arith}
+use Rattle.std.proofs.Common.{rules, List, ap, ◌∙◌, arith}
 use Rattle.std.proofs.lemmas.List.{map-id}
 use Rattle.cordyceps.specs.Elements.Element.{Elements}
 use Rattle.cordyceps.specs.Parties.Histories.{plain}
@@ -33,3 +33,6 @@ returns-clause-each_once g c =
       tally_append (one_of n r) came.tasks (works left),
       ap (λ (z : Elements (Timer Work)). times n r (works z)) on_way,
     )
+
+pub returns-in_default-clause-back : goal.returns-in_default-clause-back
+returns-in_default-clause-back g c = search rules
