@@ -23,7 +23,7 @@ module _ {X : Type 0} where
   after_taken c d p q e (b, o, a, was, is) = (b ++ (p, o) ∷ [], a, is ∙ sym (append_assoc b ((p, o) ∷ []) ((q, e) ∷ a)), was ∙ sym (append_assoc b ((p, o) ∷ []) a))
 
   -- what lies in the list has its spot there: the condition of `remove` and `get`
-  spot_at : (b a : Nodes X) (q : Ptr) (e : Element X) → slice_get (spots (b ++ (q, e) ∷ a)) (length b) ≡ Some q
+  pub spot_at : (b a : Nodes X) (q : Ptr) (e : Element X) → slice_get (spots (b ++ (q, e) ∷ a)) (length b) ≡ Some q
   spot_at [] a q e = refl
   spot_at (x ∷ b) a q e = spot_at b a q e
 

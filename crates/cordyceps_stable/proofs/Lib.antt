@@ -1,3 +1,6 @@
 pub mod Agreeing
+pub mod Arranged
+pub mod Classes
 pub mod Holding
+mod Parts
 mod Spots

@@ -20,7 +20,7 @@ use std::marker::Model;
 /// runs: each call that takes a spot requires it.
 #[derive(Clone, Copy)]
 pub struct Spot {
-    address: Address,
+    pub(crate) address: Address,
 }
 
 impl Model for Spot {
@@ -41,7 +41,7 @@ impl Model for Spot {
 /// changes the list all spots differ. A drop frees each node once.
 #[derive(Drop)]
 pub struct StableList<T> {
-    chain: DoubleChain<T>,
+    pub(crate) chain: DoubleChain<T>,
 }
 
 impl<T> Model for StableList<T> {
@@ -61,7 +61,7 @@ impl<T: Linked<Links<T>>> Default for StableList<T> {
 }
 
 /// The spot of an address, if there is one.
-fn spot_of(address: Option<Address>) -> Option<Spot>
+pub(crate) fn spot_of(address: Option<Address>) -> Option<Spot>
     ensures { MatchOption address (result ≡ None) (λ p. result ≡ Some p.ptr) }
 {
     match address {
