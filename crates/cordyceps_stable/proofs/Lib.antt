@@ -3,4 +3,6 @@ pub mod Arranged
 pub mod Classes
 pub mod Holding
 mod Parts
+pub mod Reached
 mod Spots
+pub mod Walk

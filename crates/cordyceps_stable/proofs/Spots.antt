@@ -4,6 +4,7 @@ use denote.RawPtr.{Ptr}
 use Rattle.cordyceps_base.specs.declared.boxes.Address.{Address}
 use Rattle.cordyceps_base.specs.Element.{Element}
 use Rattle.cordyceps_base.specs.Nodes.{Nodes}
+use Rattle.cordyceps_stable.specs.Walk.{Place}
 
 -- what holds of an address, if there is one, holds of its spot
 spot_matches : (o : Option Address) (r : Option Ptr) → MatchOption o (r ≡ None) (λ p. r ≡ Some p.ptr) → (A : Type 0) (B : Ptr → Type 0) → MatchOption o A (λ p. B p.ptr) → MatchOption r A B
@@ -27,3 +28,7 @@ module _ {X : Type 0} where
   -- where an element was moved
   pub move_said : (P : Nodes X → Ptr → Nodes X → Type 0) (c d : Nodes X) (p q : Ptr) (m n : Nodes X) → P c p m → c ≡ d → p ≡ q → n ≡ m → P d q n
   move_said P c d p q m n h view at same = subst (λ (l : Nodes X × Ptr × Nodes X). P l.0 l.1 l.2) (λ i. (view i, at i, sym same i)) h
+
+  -- where a cursor comes to
+  pub place_said : (P : Nodes X → Option Ptr → Option Ptr → Type 0) (c : Nodes X) (o r q : Option Ptr) (s : Place X) → P c q r → o ≡ q → ◌≡◌ {A = Place X} (record { nodes = c; spot = o }) s → P s.nodes s.spot r
+  place_said P c o r q s h is view = subst (λ (l : Place X). P l.nodes l.spot r) view (subst (λ w. P c w r) (sym is) h)

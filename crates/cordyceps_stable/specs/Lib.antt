@@ -1,3 +1,4 @@
 pub mod Agreeing
 pub mod Arranged
 pub mod StableLending
+pub mod Walk

@@ -2,6 +2,7 @@
 #![tactic(auto)]
 
 mod counter;
+mod cursor;
 mod merging;
 mod placing;
 mod renewing;

@@ -7,6 +7,7 @@ ghost use Rattle.cordyceps_base.specs.Element.{values};
 ghost use Rattle.cordyceps_base.specs.Nodes.{elements, spots};
 ghost use Rattle.cordyceps_base.specs.Spots.{index_of, AreApart};
 
+pub use crate::cursor::SpotCursor;
 use cordyceps_base::boxes::Address;
 use cordyceps_base::double_chain::DoubleChain;
 use cordyceps_base::linked::Linked;
@@ -307,6 +308,23 @@ impl<T: Linked<Links<T>>> StableList<T> {
         let more = other.chain.take();
         let nodes = self.chain.take();
         self.chain.put(nodes.join(more).apart());
+    }
+
+    /// Returns a cursor at the first element, or at the null place of an empty list, at once.
+    pub fn cursor_front(&self) -> SpotCursor<'_, T>
+        ensures nodes { result.nodes ≡ self.now }
+        ensures spot { MatchOption result.spot (self.now ≡ []) (λ p. IsFirst self.now p) }
+    {
+        SpotCursor::new(&self.chain, self.front())
+    }
+
+    /// Returns a cursor at the element at `at`, at once.
+    pub fn cursor_at(&self, at: Spot) -> SpotCursor<'_, T>
+        requires { HasSpot self.now at }
+        ensures nodes { result.nodes ≡ self.now }
+        ensures spot { result.spot ≡ Some at }
+    {
+        SpotCursor::new(&self.chain, Some(at))
     }
 
     /// The values, in order.

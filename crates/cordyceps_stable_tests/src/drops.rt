@@ -56,7 +56,7 @@ fn drops_each_element_once(rt: HostRuntime) -> Result<(), Fail> {
 }
 
 #[test]
-#[tactic(auto, using(crate::proofs::Reached::last_has))]
+#[tactic(auto, using(cordyceps_stable::proofs::Reached::last_has))]
 fn moved_elements_are_dropped_once(rt: HostRuntime) -> Result<(), Fail> {
     let drops = Drops::new(rt.alloc())?;
     let mut list = counted(&rt, rt.alloc(), 2, &drops)?;

@@ -36,7 +36,7 @@ pub fn holds(rt: &impl Abort, list: &StableList<Item>, items: &[u64]) {
 }
 
 /// The spot that is so many moves behind the first, if there is one.
-#[tactic(auto, using(crate::proofs::Reached::first_has, crate::proofs::Reached::next_reached))]
+#[tactic(auto, using(cordyceps_stable::proofs::Reached::first_has, cordyceps_stable::proofs::Reached::next_reached))]
 pub fn spot_at<T: Linked<Links<T>>>(list: &StableList<T>, moves: usize) -> Option<Spot>
     ensures { IfSome result (λ p. HasSpot list.now p) }
 {

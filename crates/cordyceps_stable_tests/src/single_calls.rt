@@ -22,7 +22,7 @@ fn an_empty_list_has_no_ends(rt: HostRuntime) -> Result<(), Fail> {
 }
 
 #[test]
-#[tactic(auto, using(crate::proofs::Reached::last_has))]
+#[tactic(auto, using(cordyceps_stable::proofs::Reached::last_has))]
 fn pushes_answer_their_spots(rt: HostRuntime) -> Result<(), Fail> {
     let mut list: StableList<Item> = StableList::new();
     let second = list.push_back(plain(rt.alloc(), 2)?);
@@ -42,7 +42,7 @@ fn pushes_answer_their_spots(rt: HostRuntime) -> Result<(), Fail> {
 }
 
 #[test]
-#[tactic(auto, using(crate::proofs::Reached::last_has))]
+#[tactic(auto, using(cordyceps_stable::proofs::Reached::last_has))]
 fn tries_of_a_push_answer_their_spots(rt: HostRuntime) -> Result<(), Fail> {
     let mut list: StableList<Item> = StableList::new();
     match list.try_push_back(plain(rt.alloc(), 2)?) {
@@ -254,7 +254,7 @@ fn appends_to_and_from_nothing(rt: HostRuntime) -> Result<(), Fail> {
 }
 
 #[test]
-#[tactic(auto, using(crate::proofs::Reached::last_has))]
+#[tactic(auto, using(cordyceps_stable::proofs::Reached::last_has))]
 fn comes_from_a_list_and_becomes_one(rt: HostRuntime) -> Result<(), Fail> {
     let mut list: List<Item> = List::new();
     list.push_back(plain(rt.alloc(), 1)?);

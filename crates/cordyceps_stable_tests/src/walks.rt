@@ -7,7 +7,7 @@ use std::process::Abort;
 use std::test::Fail;
 
 /// Asserts what a walk from the first spot to the last reads.
-#[tactic(auto, using(crate::proofs::Reached::first_has, crate::proofs::Reached::next_spot))]
+#[tactic(auto, using(cordyceps_stable::proofs::Reached::first_has, cordyceps_stable::proofs::Reached::next_spot))]
 fn reads_forth(rt: &impl Abort, list: &StableList<Item>, wanted: &[u64]) {
     let mut left = list.front();
     for want in wanted {
@@ -19,7 +19,7 @@ fn reads_forth(rt: &impl Abort, list: &StableList<Item>, wanted: &[u64]) {
 }
 
 /// Asserts what a walk from the last spot to the first reads.
-#[tactic(auto, using(crate::proofs::Reached::last_has, crate::proofs::Reached::prev_spot))]
+#[tactic(auto, using(cordyceps_stable::proofs::Reached::last_has, cordyceps_stable::proofs::Reached::prev_spot))]
 fn reads_back(rt: &impl Abort, list: &StableList<Item>, wanted: &[u64]) {
     let mut left = list.back();
     for want in wanted {

@@ -1,4 +1,4 @@
-use Rattle.cordyceps_stable_tests.proofs.Reached.{next_spot, prev_spot}
+use Rattle.cordyceps_stable.proofs.Reached.{next_spot, prev_spot}
 use Rattle.cordyceps_stable_tests.proofs.items.around.Goals as goal
 
 pub value_at-requires : goal.value_at-requires

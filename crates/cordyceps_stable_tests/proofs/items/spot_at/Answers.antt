@@ -1,4 +1,4 @@
-use Rattle.cordyceps_stable_tests.proofs.Reached.{next_reached}
+use Rattle.cordyceps_stable.proofs.Reached.{next_reached}
 use Rattle.cordyceps_stable_tests.proofs.items.spot_at.Goals as goal
 
 pub loop-preserved : goal.loop-preserved

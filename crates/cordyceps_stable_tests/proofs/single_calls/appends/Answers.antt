@@ -1,4 +1,4 @@
-use Rattle.cordyceps_stable_tests.proofs.Reached.{joined_spot}
+use Rattle.cordyceps_stable.proofs.Reached.{joined_spot}
 use Rattle.cordyceps_stable_tests.proofs.single_calls.appends.Goals as goal
 
 pub value_at-requires-2 : goal.value_at-requires-2

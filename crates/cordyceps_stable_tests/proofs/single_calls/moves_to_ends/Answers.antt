@@ -1,4 +1,4 @@
-use Rattle.cordyceps_stable_tests.proofs.Reached.{moved_back_has}
+use Rattle.cordyceps_stable.proofs.Reached.{moved_back_has}
 use Rattle.cordyceps_stable_tests.proofs.single_calls.moves_to_ends.Goals as goal
 
 pub around-requires-in-Some-spot : goal.around-requires-in-Some-spot

@@ -1,4 +1,4 @@
-use Rattle.cordyceps_stable_tests.proofs.Reached.{put_after_has}
+use Rattle.cordyceps_stable.proofs.Reached.{put_after_has}
 use Rattle.cordyceps_stable_tests.proofs.single_calls.puts_behind.Goals as goal
 
 pub around-requires : goal.around-requires

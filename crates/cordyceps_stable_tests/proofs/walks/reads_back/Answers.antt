@@ -1,4 +1,4 @@
-use Rattle.cordyceps_stable_tests.proofs.Reached.{prev_spot}
+use Rattle.cordyceps_stable.proofs.Reached.{prev_spot}
 use Rattle.cordyceps_stable_tests.proofs.walks.reads_back.Goals as goal
 
 pub loop-want-preserved : goal.loop-want-preserved

@@ -1,4 +1,4 @@
-use Rattle.cordyceps_stable_tests.proofs.Reached.{put_after_has}
+use Rattle.cordyceps_stable.proofs.Reached.{put_after_has}
 use Rattle.cordyceps_stable_tests.proofs.many_operations.Both.insert_after.Goals as goal
 
 pub lies-requires : goal.lies-requires

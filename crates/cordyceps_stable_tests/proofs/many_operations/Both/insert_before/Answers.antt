@@ -1,4 +1,4 @@
-use Rattle.cordyceps_stable_tests.proofs.Reached.{put_before_has}
+use Rattle.cordyceps_stable.proofs.Reached.{put_before_has}
 use Rattle.cordyceps_stable_tests.proofs.many_operations.Both.insert_before.Goals as goal
 
 pub lies-requires : goal.lies-requires

@@ -1,4 +1,4 @@
-use Rattle.cordyceps_stable_tests.proofs.Reached.{moved_back_has}
+use Rattle.cordyceps_stable.proofs.Reached.{moved_back_has}
 use Rattle.cordyceps_stable_tests.proofs.many_operations.Both.move_to_back.Goals as goal
 
 pub lies-requires : goal.lies-requires

@@ -5,6 +5,7 @@ use denote.RawPtr.{Ptr}
 use Rattle.cordyceps_base.specs.BySpot.{HasSpot, IsPutBefore, IsPutAfter, IsMovedBack, IsFirst, IsLast, AreNext}
 use Rattle.cordyceps_base.specs.Nodes.{Nodes}
 use Rattle.cordyceps_base.specs.Element.{Element}
+use Rattle.cordyceps_stable.specs.Walk.{IsOn, IsBack}
 use Rattle.cordyceps_stable.proofs.Holding.{lies_spot, before_taken, after_taken}
 
 module _ {X : Type 0} where
@@ -49,3 +50,14 @@ module _ {X : Type 0} where
 
   pub moved_back_has : (c d : Nodes X) (p : Ptr) → IsMovedBack c p d → HasSpot d p
   moved_back_has c d p (e, rest, taken, is) = lies_spot d p e (rest, [], is)
+
+  -- where a cursor comes to
+  pub on_has : (c : Nodes X) (o r : Option Ptr) → IsOn c o r → IfSome r (λ q. HasSpot c q)
+  on_has c None None h = tt
+  on_has c None (Some q) h = first_has c q h
+  on_has c (Some p) r h = next_spot c p r h
+
+  pub back_has : (c : Nodes X) (o r : Option Ptr) → IsBack c o r → IfSome r (λ q. HasSpot c q)
+  back_has c None None h = tt
+  back_has c None (Some q) h = last_has c q h
+  back_has c (Some p) r h = prev_spot c p r h

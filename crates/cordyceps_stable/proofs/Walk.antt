@@ -1,0 +1,76 @@
+-- For loops of one's own: where a spot stands among those of a list, and that a walk comes to an end.
+use Rattle.std.proofs.Common.{◌≡◌, ℕ, zero, suc, ◌+◌, ◌<◌, true, false, List, [], ◌∷◌, ◌++◌, length, length-append, slice_get, cond, Option, Some, None, MatchOption, refl, ap, sym, ◌∙◌, subst, append_assoc, arith}
+use denote.RawPtr.{Ptr}
+use Rattle.cordyceps_base.specs.BySpot.{HasSpot, IsFirst, IsLast, AreNext}
+use Rattle.cordyceps_base.specs.Element.{Element}
+use Rattle.cordyceps_base.specs.Nodes.{Nodes, spots}
+use Rattle.cordyceps_base.specs.Spots.{same_ptr, index_of, IsNew, AreApart}
+use Rattle.cordyceps_base.proofs.SpotsMemory.{same_ptr_eq, same_ptr_refl}
+use Rattle.cordyceps_single.proofs.Preorder.{by_test}
+use Rattle.cordyceps_stable.specs.Walk.{nodes_from}
+
+turned : (p q : Ptr) → same_ptr p q ≡ false → same_ptr q p ≡ false
+turned p q other = by_test (same_ptr q p) (λ t.
+    let same : same_ptr p q ≡ true = subst (λ r. same_ptr p r ≡ true) (sym (same_ptr_eq q p t)) (same_ptr_refl p) in absurd cc) (λ f. f)
+
+at_head : (p q : Ptr) (ps : List Ptr) → same_ptr p q ≡ true → index_of p (q ∷ ps) ≡ 0
+at_head p q ps same = ap (λ b. cond b zero (suc (index_of p ps))) same
+
+behind_head : (p q : Ptr) (ps : List Ptr) → same_ptr p q ≡ false → index_of p (q ∷ ps) ≡ suc (index_of p ps)
+behind_head p q ps other = ap (λ b. cond b zero (suc (index_of p ps))) other
+
+below : (ps : List Ptr) (p : Ptr) (k : ℕ) → slice_get ps k ≡ Some p → index_of p ps < length ps
+below [] p k at = absurd cc
+below (q ∷ ps) p zero at =
+    let here : q ≡ p = cc in
+    let first = at_head p q ps (subst (λ r. same_ptr p r ≡ true) (sym here) (same_ptr_refl p)) in omega (arith, first)
+below (q ∷ ps) p (suc k) at = by_test (same_ptr p q)
+    (λ t. let first = at_head p q ps t in omega (arith, first))
+    (λ f. let later = behind_head p q ps f in let rest = below ps p k at in omega (arith, later, rest))
+
+module _ {X : Type 0} where
+  spots_long : (c : Nodes X) → length (spots c) ≡ length c
+  spots_long [] = refl
+  spots_long (x ∷ c) = ap suc (spots_long c)
+
+  -- the index of a spot is below the length, so the length without the index is a measure
+  pub index_below : (c : Nodes X) (p : Ptr) → HasSpot c p → index_of p (spots c) < length c
+  index_below c p (k, at) = let low = below (spots c) p k at in let long = spots_long c in omega (arith, low, long)
+
+  -- the first spot has the index 0
+  pub first_index : (c : Nodes X) (p : Ptr) → IsFirst c p → index_of p (spots c) ≡ 0
+  first_index c p (e, after, is) = ap (λ l. index_of p (spots l)) is ∙ at_head p p (spots after) (same_ptr_refl p)
+
+  differs : (q p : Ptr) (before after : Nodes X) (e : Element X) → IsNew q (spots (before ++ (p, e) ∷ after)) → same_ptr p q ≡ false
+  differs q p [] after e new = turned q p new.0
+  differs q p (x ∷ before) after e new = differs q p before after e new.1
+
+  -- where all spots differ, the index of a spot is the number of nodes before it
+  pub index_is : (before after : Nodes X) (p : Ptr) (e : Element X) → AreApart (spots (before ++ (p, e) ∷ after)) → index_of p (spots (before ++ (p, e) ∷ after)) ≡ length before
+  index_is [] after p e apart = at_head p p (spots after) (same_ptr_refl p)
+  index_is (x ∷ before) after p e apart =
+      behind_head p x.0 (spots (before ++ (p, e) ∷ after)) (differs x.0 p before after e apart.0) ∙ ap suc (index_is before after p e apart.1)
+
+  index_in : (c before after : Nodes X) (p : Ptr) (e : Element X) → AreApart (spots c) → c ≡ before ++ (p, e) ∷ after → index_of p (spots c) ≡ length before
+  index_in c before after p e apart is = ap (λ l. index_of p (spots l)) is ∙ index_is before after p e (subst (λ l. AreApart (spots l)) is apart)
+
+  -- the last spot has the index before the length
+  pub last_index : (c : Nodes X) (p : Ptr) → AreApart (spots c) → IsLast c p → index_of p (spots c) + 1 ≡ length c
+  last_index c p apart (before, e, is) =
+      let at = index_in c before [] p e apart is in omega (arith, at, ap length is, length-append before ((p, e) ∷ []))
+
+  -- `next` raises the index by one, and `prev` lowers it by one
+  pub next_index : (c : Nodes X) (p q : Ptr) → AreApart (spots c) → AreNext c p q → index_of q (spots c) ≡ index_of p (spots c) + 1
+  next_index c p q apart (before, e, o, after, is) =
+      let at = index_in c before ((q, o) ∷ after) p e apart is in
+      let on = index_in c (before ++ (p, e) ∷ []) after q o apart (is ∙ sym (append_assoc before ((p, e) ∷ []) ((q, o) ∷ after))) in
+      omega (arith, at, on, length-append before ((p, e) ∷ []))
+
+  -- a loop that goes on by what `next` answers comes to an end: fewer nodes are left
+  pub next_nearer : (c : Nodes X) (p : Ptr) (r : Option Ptr) → AreApart (spots c) → HasSpot c p → MatchOption r (IsLast c p) (λ q. AreNext c p q) → nodes_from c r < nodes_from c (Some p)
+  next_nearer c p None apart there h = let low = index_below c p there in omega (arith, low)
+  next_nearer c p (Some q) apart there h = let low = index_below c p there in let on = next_index c p q apart h in omega (arith, low, on)
+
+  -- a loop that goes back by what `prev` answers comes to an end: the index falls
+  pub prev_nearer : (c : Nodes X) (p q : Ptr) → AreApart (spots c) → AreNext c q p → index_of q (spots c) < index_of p (spots c)
+  prev_nearer c p q apart h = let on = next_index c q p apart h in omega (arith, on)

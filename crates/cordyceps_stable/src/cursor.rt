@@ -1,0 +1,100 @@
+//! Cursors that go from spot to spot.
+ghost use Rattle.std.specs.Prelude.{◌≡◌, IfSome, Some, None, MatchOption};
+ghost use denote.RawPtr.{Ptr};
+ghost use Rattle.cordyceps_base.specs.BySpot.{HasSpot, HoldsAt};
+ghost use Rattle.cordyceps_stable.specs.Walk.{IsOn, IsBack};
+
+use crate::stable_list::{Spot, spot_of};
+use cordyceps_base::double_chain::DoubleChain;
+use std::marker::Model;
+
+/// A cursor by which a stable list is read, or a sorted one. It is at an element, or at the null place, which comes
+/// behind the last element and before the first.
+///
+/// Each call takes at most a move along a link.
+#[derive(Drop)]
+pub struct SpotCursor<'a, T> {
+    chain: &'a DoubleChain<T>,
+    at: Option<Spot>,
+}
+
+impl<'a, T> Model for SpotCursor<'a, T> {
+    ghost use Rattle.std.specs.Prelude.{IfSome};
+    ghost use Rattle.cordyceps_base.specs.BySpot.{HasSpot};
+    ghost use Rattle.cordyceps_stable.specs.Walk.{Place};
+
+    ghost Value = { Place T };
+
+    ghost view = { λ c. record { nodes = c.chain.now; spot = c.at } };
+
+    ghost invariant = { λ c. IfSome c.at (λ p. HasSpot c.chain.now p) };
+}
+
+impl<'a, T> SpotCursor<'a, T> {
+    /// A cursor at a spot of a chain, or at the null place.
+    pub(crate) fn new(chain: &'a DoubleChain<T>, at: Option<Spot>) -> SpotCursor<'a, T>
+        requires { IfSome at (λ p. HasSpot chain.now p) }
+        ensures { result ≡ record { nodes = chain.now; spot = at } }
+    {
+        SpotCursor { chain, at }
+    }
+
+    /// The place after the cursor's.
+    fn place_after(&self) -> Option<Spot>
+        ensures place { IsOn self.now.nodes self.now.spot result }
+        ensures there { IfSome result (λ p. HasSpot self.now.nodes p) }
+    {
+        match self.at {
+            Some(at) => spot_of(self.chain.next_at(at.address)),
+            None => spot_of(self.chain.first()),
+        }
+    }
+
+    /// The place before the cursor's.
+    fn place_before(&self) -> Option<Spot>
+        ensures place { IsBack self.now.nodes self.now.spot result }
+        ensures there { IfSome result (λ p. HasSpot self.now.nodes p) }
+    {
+        match self.at {
+            Some(at) => spot_of(self.chain.prev_at(at.address)),
+            None => spot_of(self.chain.last()),
+        }
+    }
+
+    /// Moves on to the next element, and from the last to the null place, and from there to the first.
+    pub fn move_next(&mut self)
+        ensures nodes { self.new.nodes ≡ self.old.nodes }
+        ensures moved { IsOn self.old.nodes self.old.spot self.new.spot }
+    {
+        let at = self.place_after();
+        *self = SpotCursor::new(self.chain, at);
+    }
+
+    /// Moves back to the element before, and from the first to the null place, and from there to the last.
+    pub fn move_prev(&mut self)
+        ensures nodes { self.new.nodes ≡ self.old.nodes }
+        ensures moved { IsBack self.old.nodes self.old.spot self.new.spot }
+    {
+        let at = self.place_before();
+        *self = SpotCursor::new(self.chain, at);
+    }
+
+    /// Returns the spot of the element that the cursor is at. `None` at the null place.
+    pub fn spot(&self) -> Option<Spot>
+        ensures spot { result ≡ self.now.spot }
+        ensures there { IfSome result (λ p. HasSpot self.now.nodes p) }
+    {
+        self.at
+    }
+
+    /// Returns the value that the cursor is at. `None` at the null place.
+    pub fn current(&self) -> Option<&'a T>
+        ensures { MatchOption result (self.now.spot ≡ None)
+            (λ v. (p : Ptr) × (self.now.spot ≡ Some p) × HoldsAt self.now.nodes p v.now) }
+    {
+        match self.at {
+            Some(at) => Some(self.chain.get_at(at.address)),
+            None => None,
+        }
+    }
+}
