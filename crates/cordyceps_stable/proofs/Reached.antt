@@ -2,7 +2,7 @@
 use Rattle.std.proofs.Common.{append_assoc, ◌≡◌, [], ◌∷◌, ◌++◌, Option, Some, None, MatchOption, sym, ap, ◌∙◌, subst}
 use Rattle.std.specs.Prelude.{IfSome}
 use denote.RawPtr.{Ptr}
-use Rattle.cordyceps_base.specs.BySpot.{HasSpot, IsPutBefore, IsPutAfter, IsMovedBack, IsFirst, IsLast, AreNext}
+use Rattle.cordyceps_base.specs.BySpot.{HasSpot, IsTaken, IsPutBefore, IsPutAfter, IsMovedBack, IsFirst, IsLast, AreNext}
 use Rattle.cordyceps_base.specs.Nodes.{Nodes}
 use Rattle.cordyceps_base.specs.Element.{Element}
 use Rattle.cordyceps_stable.specs.Walk.{IsOn, IsBack}
@@ -40,6 +40,10 @@ module _ {X : Type 0} where
   pub prev_spot : (c : Nodes X) (p : Ptr) (o : Option Ptr) → MatchOption o (IsFirst c p) (λ q. AreNext c q p) → IfSome o (λ q. HasSpot c q)
   prev_spot c p None h = tt
   prev_spot c p (Some q) h = prev_has c q p h
+
+  -- where an element was inserted, as what `others` of a sorted list says
+  pub taken_has : (c d : Nodes X) (p : Ptr) (e : Element X) → IsTaken c p e d → HasSpot c p
+  taken_has c d p e (before, after, is, _) = lies_spot c p e (before, after, is)
 
   -- where an element was put in, or moved to
   pub put_before_has : (c d : Nodes X) (p q : Ptr) (e : Element X) → IsPutBefore c p q e d → HasSpot d q
