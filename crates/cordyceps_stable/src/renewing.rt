@@ -1,7 +1,7 @@
 //! A node of a chain that gets another value, and one that is parted from the others, each where it lies.
 ghost use Rattle.std.specs.Prelude.{◌≡◌, ◌+◌, ◌^◌, ◌<◌, [], ◌∷◌, ◌++◌, length};
 ghost use Rattle.std.specs.Fn.{FnOnceReturnsAtMut};
-ghost use Rattle.cordyceps_base.specs.BySpot.{HasSpot, IsTaken};
+ghost use Rattle.cordyceps_base.specs.BySpot.{HasSpot, HoldsAt, IsTaken};
 ghost use Rattle.cordyceps_base.specs.Element.{Element};
 ghost use Rattle.cordyceps_base.specs.Nodes.{Nodes};
 
@@ -15,7 +15,7 @@ pub(crate) fn change_at<T, R, F: FnOnce(&mut T) -> R>(
     change: F,
 ) -> R
     requires there { HasSpot chain.old at.ptr }
-    requires callable { F.IsAlwaysCallable change }
+    requires callable { (lent : _) → HoldsAt chain.old at.ptr lent.now → F.pre change lent }
     ensures { (before : Nodes T) × (e : Element T) × (w : T) × (after : Nodes T)
         × (chain.old ≡ before ++ (at.ptr, e) ∷ after)
         × (chain.new ≡ before ++ (at.ptr, record { id = e.id; value = w }) ∷ after)
