@@ -122,7 +122,8 @@ pub(crate) fn try_push<E: Drop>(
     }
 }
 
-/// Pushes what lies in the slot in hand, by as many tries as it takes, and tells whether nothing was held.
+/// Pushes what lies in the slot in hand, by as many tries as it takes, and tells whether nothing was held. It pauses from
+/// the second miss on: what another did meanwhile is over before a pause would be.
 fn settle_at_last<E: Drop, R: Wait>(
     rt: &R,
     words: &Words<E>,
@@ -138,10 +139,16 @@ fn settle_at_last<E: Drop, R: Wait>(
         → seat.old.me.0.known.share ≡ whole → SettlesAt words.now.table_id.slots 1 x result seat.old.me seat.new.me }
 {
     let backoff = Backoff::new();
+    let mut missed = false;
     for _ in rt.forever() {
         match attempt(words, seat, room) {
             Some(first) => return first,
-            None => backoff.spin(),
+            None => {
+                if missed {
+                    backoff.spin();
+                }
+                missed = true;
+            }
         }
     }
     unreachable!()

@@ -36,3 +36,19 @@ loop-preserved g c =
       tried_again m.0 w.0 c.attempt.new.seat.me.0 i.5 miss.sees,
       λ is. absurd (whole_hits w c.attempt.new.seat.me miss (tried_share m.0 w.0 i.5 ∙ is)),
     )
+
+pub loop-preserved-then-missed : goal.loop-preserved-then-missed
+loop-preserved-then-missed g c =
+    let i = c.loop.invariant in
+    let m = c.args.seat.now.me in
+    let w = c.loop.seat.me in
+    let ready = c.requires.ready in
+    let miss = c.in-None-attempt.ensures.answer ready.0 (tried_ready c.args.words.now.table_id.slots c.args.room ready.0 m w i.2 i.3 i.4 i.5 ready.1) in (
+      search rules,
+      search rules,
+      miss.doing ∙ i.2,
+      miss.hand ∙ i.3,
+      miss.free ∙ i.4,
+      tried_again m.0 w.0 c.attempt.new.seat.me.0 i.5 miss.sees,
+      λ is. absurd (whole_hits w c.attempt.new.seat.me miss (tried_share m.0 w.0 i.5 ∙ is)),
+    )
