@@ -1,4 +1,8 @@
 -- Lemmas for users of stable lists, as the crates below prove them.
 pub use Rattle.cordyceps_base.proofs.SpotsMemory.{same_ptr_refl}
 pub use Rattle.cordyceps_stable.proofs.Agreeing
+pub use Rattle.cordyceps_stable.proofs.Arranged
+pub use Rattle.cordyceps_stable.proofs.Classes
 pub use Rattle.cordyceps_stable.proofs.Holding
+pub use Rattle.cordyceps_stable.proofs.Reached
+pub use Rattle.cordyceps_stable.proofs.Walk

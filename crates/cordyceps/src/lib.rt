@@ -6,7 +6,8 @@
 //! [`SortedList`] take handles and give them back, and own the nodes in between. Linking a node
 //! takes no memory.
 //!
-//! A [`StableList`] hands out a [`Spot`] for each element, by which it is reached, taken out and moved at once.
+//! A [`StableList`] hands out a [`Spot`] for each element, by which it is reached, taken out and moved at once. A
+//! [`StableSortedList`] does so too, and an order keeps it sorted.
 //!
 //! A [`TransferStack`] is shared by threads, without a lock: each pushes to it by a party of its own, and takes all
 //! that it holds at once. An [`MpscQueue`] is shared in the same way: many put elements in, and one at a time takes
@@ -27,6 +28,7 @@ pub mod mpsc_queue;
 pub mod replay;
 pub mod sorted_list;
 pub mod stable_list;
+pub mod stable_sorted_list;
 pub mod stack;
 
 pub use cordyceps_base::linked::Linked;
@@ -35,6 +37,7 @@ pub use cordyceps_base::steps::Steps;
 pub use cordyceps_list::list::List;
 pub use cordyceps_queue::mpsc_queue::MpscQueue;
 pub use cordyceps_stable::stable_list::{Spot, StableList};
+pub use cordyceps_stable::stable_sorted_list::StableSortedList;
 pub use cordyceps_stack::sorted_list::{SortedList, SortedListIter};
 pub use cordyceps_stack::stack::{Stack, TransferStack};
 pub use replay::Item;
