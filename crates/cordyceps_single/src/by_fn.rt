@@ -24,8 +24,8 @@ impl<T, F> Model for ByFn<T, F> {
 }
 
 impl<T, F> ByFn<T, F> {
-    /// The order that `by` computes.
-    pub(crate) fn new(by: F) -> ByFn<T, F>
+    /// Makes the order that `by` computes.
+    pub fn new(by: F) -> ByFn<T, F>
         ensures { result ≡ by }
     {
         ByFn {

@@ -2,7 +2,7 @@
 #![tactic(auto)]
 
 mod by_fn;
-mod counter;
+pub mod counter;
 mod grow;
 mod iter;
 mod order;

@@ -1,7 +1,6 @@
 //! Lists whose elements are reached by the spots where they lie.
 #![tactic(auto)]
 
-mod counter;
 mod cursor;
 mod merging;
 mod placing;
