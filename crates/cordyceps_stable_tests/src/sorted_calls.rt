@@ -1,10 +1,14 @@
 //! Each call of a sorted list with spots, and what it answers.
+ghost use Rattle.std.specs.Prelude.{◌≡◌, ◌/◌};
+ghost use Rattle.std.specs.Ordering.{nat_cmp};
+
 use crate::compared::{at_most, has_place, same};
 use crate::sorted_items::{Key, Keys, around, key_at, keys_of, make, parts, pops, shows, spot_at};
 use cordyceps_base::steps::Steps;
-use cordyceps_single::sorted_list::Least;
+use cordyceps_single::sorted_list::{Least, Order};
 use cordyceps_stable::stable_sorted_list::StableSortedList;
 use std::alloc::{AllocError, Global};
+use std::cmp::Ordering;
 use std::process::Abort;
 use std::test::Fail;
 
@@ -42,6 +46,43 @@ fn the_greatest_comes_first_and_equals_by_arrival(rt: HostRuntime) -> Result<(),
     }
     shows(&rt, &list, &[5, 5, 3, 3, 1]);
     pops(&rt, &mut list, &[(1, 5), (3, 5), (2, 3), (5, 3), (4, 1)]);
+    Ok(())
+}
+
+/// The order of the tens in the keys.
+fn by_tens(first: &Key, second: &Key) -> Ordering
+    ensures { result ≡ nat_cmp (first.now.value / 10) (second.now.value / 10) }
+{
+    (first.value / 10).cmp(&(second.value / 10))
+}
+
+/// Inserts a key, and counts the numbers up.
+fn insert_next<O: Order<Key>>(
+    rt: &impl Abort,
+    alloc: Global,
+    list: &mut StableSortedList<Key, O>,
+    id: &mut u64,
+    value: u64,
+) -> Result<(), AllocError>
+    requires { O.can_compare list.old.order }
+    ensures { list.new.order ≡ list.old.order }
+{
+    has_place(rt, list.len());
+    *id = id.wrapping_add(1);
+    list.insert(make(alloc, *id, value)?);
+    Ok(())
+}
+
+#[test]
+fn a_function_orders_the_list(rt: HostRuntime) -> Result<(), Fail> {
+    let mut list = StableSortedList::new_with_cmp(by_tens);
+    let mut id = 0u64;
+    insert_next(&rt, rt.alloc(), &mut list, &mut id, 21)?;
+    insert_next(&rt, rt.alloc(), &mut list, &mut id, 11)?;
+    insert_next(&rt, rt.alloc(), &mut list, &mut id, 12)?;
+    insert_next(&rt, rt.alloc(), &mut list, &mut id, 20)?;
+    shows(&rt, &list, &[11, 12, 21, 20]);
+    pops(&rt, &mut list, &[(2, 11), (3, 12), (1, 21), (4, 20)]);
     Ok(())
 }
 
