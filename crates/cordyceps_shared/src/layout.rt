@@ -1,7 +1,7 @@
 //! Where the words of a table that threads share lie.
 //!
-//! `HEAD` and `RIGHT` have 128 bytes of their own, two cache lines, since a processor may fetch lines in pairs: a step on
-//! one of them does not take the other, or a link, away from another processor.
+//! `HEAD` and `RIGHT` have 128 bytes each of their own. These are two cache lines, since a processor may fetch lines in
+//! pairs. So a step on one of them takes neither the other nor a link away from another processor.
 
 /// The index of the word that leads to the element put in last.
 pub const HEAD: usize = 16;

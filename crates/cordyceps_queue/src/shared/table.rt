@@ -28,9 +28,9 @@ impl<E> TableRule<Option<Filled<E>>, SeatView<E>, usize> for Rule {
     ghost first = { newcomer };
 }
 
-/// The word `HEAD` is the head's room, and the word `RIGHT` is 0 while the right is out, else 1 more than the tail's room.
-/// The word `LINKS + r` is the link of room `r`: 0 for null, else 1 more than the room after it. The other words are not
-/// used. Slot `r` has the ticket and the element of room `r`, and room 0 is the stub's.
+/// The word `HEAD` is the head's room. The word `RIGHT` is 0 while the right is out, and else 1 more than the tail's
+/// room. The word `LINKS + r` is the link of room `r`: 0 for null, and else 1 more than the room after it. The other
+/// words are not used. Slot `r` has the ticket and the element of room `r`, and room 0 is the stub's.
 pub(crate) type Words<E> = Shared<Option<Filled<E>>, SeatView<E>, usize, Rule>;
 
 /// The same, with its memory.

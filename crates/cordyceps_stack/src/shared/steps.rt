@@ -73,7 +73,8 @@ fn attempt<E: Drop>(words: &Words<E>, seat: &mut PartySeat<E>, room: usize) -> O
     requires ready { (x : E) × IsReady words.now.table_id.slots room x seat.old.me }
     ensures table { seat.new.table_id ≡ seat.old.table_id }
     ensures answer { (x : E) → IsReady words.now.table_id.slots room x seat.old.me → MatchOption result
-        (HasMissed seat.old.me seat.new.me) (λ first. SettlesAt words.now.table_id.slots 1 x first seat.old.me seat.new.me) }
+        (HasMissed seat.old.me seat.new.me)
+        (λ first. SettlesAt words.now.table_id.slots 1 x first seat.old.me seat.new.me) }
 {
     let read = load(words, seat, room);
     link(words, seat, room, read);
@@ -122,8 +123,8 @@ pub(crate) fn try_push<E: Drop>(
     }
 }
 
-/// Pushes what lies in the slot in hand, by as many tries as it takes, and tells whether nothing was held. It pauses from
-/// the second miss on: what another did meanwhile is over before a pause would be.
+/// Pushes what lies in the slot in hand, by as many tries as it takes, and tells whether nothing was held. It pauses
+/// from the second miss on: a pause takes longer than the step of another party that made the first try miss.
 fn settle_at_last<E: Drop, R: Wait>(
     rt: &R,
     words: &Words<E>,

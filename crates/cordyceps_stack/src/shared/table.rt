@@ -28,8 +28,8 @@ impl<E> TableRule<Option<Filled<E>>, SeatView<E>, usize> for Rule {
     ghost first = { newcomer };
 }
 
-/// The word `HEAD` is 0, or 1 more than the room that was pushed last. The word `LINKS + r` is the link of room `r`, which
-/// leads to the room below, and slot `r` has its ticket and element. The other words are not used.
+/// The word `HEAD` is 0, or 1 more than the room that was pushed last. The word `LINKS + r` is the link of room `r`,
+/// which leads to the room below, and slot `r` has its ticket and element. The other words are not used.
 pub(crate) type Words<E> = Shared<Option<Filled<E>>, SeatView<E>, usize, Rule>;
 
 /// The same, with its memory.
