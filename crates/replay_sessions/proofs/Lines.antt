@@ -1,8 +1,7 @@
 -- What a line that is a command does.
 use Rattle.std.proofs.Common.{◌≡◌, ℕ, List, [], ◌∷◌, Option, Some, refl, sym, ◌∙◌, ap}
 use Rattle.cordyceps_commands.specs.Replies.{Line}
-use Rattle.replay_sessions.specs.Commands.{answered, commands_machine, core_answered, core_commands_machine}
-use Rattle.replay_lines.specs.CoreReplies.{CoreLine, core_text}
+use Rattle.replay_sessions.specs.Commands.{answered, commands_machine}
 use Rattle.replay_lines.specs.ReplyText.{text_of}
 
 module _ {M C : Type 0} (command_of : List ℕ → Option C) (step : M → C → M × List Line) where
@@ -12,12 +11,3 @@ module _ {M C : Type 0} (command_of : List ℕ → Option C) (step : M → C →
   pub taken_as : (state new : M) (line : List ℕ) (command : C) (replies : List Line) → Some command ≡ command_of line → (new, replies) ≡ step state command →
       (commands_machine command_of step).step state line ≡ Some (new, text_of replies ∷ [])
   taken_as state new line command replies is done = taken state line command is ∙ ap (λ (r : M × List Line). Some (answered r)) (sym done)
-
--- the same of a core's commands
-module _ {M C : Type 0} (command_of : List ℕ → Option C) (step : M → C → M × CoreLine) where
-  pub core_taken : (state : M) (line : List ℕ) (command : C) → Some command ≡ command_of line → (core_commands_machine command_of step).step state line ≡ Some (core_answered (step state command))
-  core_taken state line command is = rw (← is) refl
-
-  pub core_taken_as : (state new : M) (line : List ℕ) (command : C) (reply : CoreLine) → Some command ≡ command_of line → (new, reply) ≡ step state command →
-      (core_commands_machine command_of step).step state line ≡ Some (new, core_text reply ∷ [])
-  core_taken_as state new line command reply is done = core_taken state line command is ∙ ap (λ (r : M × CoreLine). Some (core_answered r)) (sym done)

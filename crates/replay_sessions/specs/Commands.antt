@@ -4,7 +4,6 @@ use Rattle.std.specs.Option.{option_map}
 use Rattle.cordyceps_commands.specs.Replies.{Line}
 use Rattle.replay_driver.specs.Script.{Machine}
 use Rattle.replay_lines.specs.ReplyText.{text_of}
-use Rattle.replay_lines.specs.CoreReplies.{CoreLine, core_text}
 
 -- what a command leads to, and its text
 abbrev pub answered : {M : Type 0} → M × List Line → M × List (List ℕ)
@@ -13,11 +12,3 @@ answered next = (next.0, text_of next.1 ∷ [])
 -- Each good line is a command, and its replies are its text. The end completes nothing.
 abbrev pub commands_machine : {M C : Type 0} → (List ℕ → Option C) → (M → C → M × List Line) → Machine M
 commands_machine command_of step = record { step = λ state line. option_map (λ command. answered (step state command)) (command_of line); ending = λ state. [] }
-
--- the same of one reply line of a core
-abbrev pub core_answered : {M : Type 0} → M × CoreLine → M × List (List ℕ)
-core_answered next = (next.0, core_text next.1 ∷ [])
-
--- Each good line is a command on a core, and its reply line is its text. The end completes nothing.
-abbrev pub core_commands_machine : {M C : Type 0} → (List ℕ → Option C) → (M → C → M × CoreLine) → Machine M
-core_commands_machine command_of step = record { step = λ state line. option_map (λ command. core_answered (step state command)) (command_of line); ending = λ state. [] }

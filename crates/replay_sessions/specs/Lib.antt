@@ -3,8 +3,6 @@ pub mod ListMachine
 pub mod OpenBlocks
 pub mod StackMachine
 pub mod SortedMachine
-pub mod TransferMachine
-pub mod QueueMachine
 pub mod Tens
 pub mod Modes
 pub mod Arguments

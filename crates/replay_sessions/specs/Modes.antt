@@ -11,8 +11,8 @@ use Rattle.replay_driver.specs.Script.{Runs}
 use Rattle.replay_sessions.specs.ListMachine.{list_machine}
 use Rattle.replay_sessions.specs.StackMachine.{stack_machine}
 use Rattle.replay_sessions.specs.SortedMachine.{sorted_machine}
-use Rattle.replay_sessions.specs.TransferMachine as transfers
-use Rattle.replay_sessions.specs.QueueMachine as queues
+use Rattle.replay_cores.specs.TransferMachine as transfers
+use Rattle.replay_cores.specs.QueueMachine as queues
 use Rattle.replay_sessions.specs.Tens.{by_tens}
 
 module _ {F : Type 0} where

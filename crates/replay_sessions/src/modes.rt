@@ -5,11 +5,11 @@ ghost use Rattle.replay_sessions.specs.Modes.{IfSorted, RunsIn};
 ghost use Rattle.replay_sessions.specs.Tens.{by_tens, ComparesTens};
 
 use crate::list_session::ListSession;
-use crate::queue_session::QueueSession;
 use crate::sorted_session::SortedSession;
 use crate::stack_session::StackSession;
-use crate::transfer_session::TransferSession;
 use cordyceps_commands::Item;
+use replay_cores::queue_session::QueueSession;
+use replay_cores::transfer_session::TransferSession;
 use replay_driver::fault::Fault;
 use replay_driver::script::run_script;
 use replay_driver::sink::Sink;

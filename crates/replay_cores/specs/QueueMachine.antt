@@ -13,7 +13,7 @@ use Rattle.cordyceps_queue.specs.Cores.Alone.{enqueue_steps, is_ready, may_deque
 use Rattle.cordyceps_queue.specs.Cores.Drain.{may_drain, drained_at, batch_of}
 use Rattle.cordyceps_queue.specs.Cores.Machine as cores
 use Rattle.replay_driver.specs.Script.{Machine}
-use Rattle.replay_sessions.specs.Commands.{core_commands_machine}
+use Rattle.replay_cores.specs.Commands.{core_commands_machine}
 use Rattle.replay_lines.specs.CoreReplies.{CoreLine, party, done, found, busy, empty, inconsistent, show, not_there}
 use Rattle.replay_lines.specs.QueueScript.{command_of}
 use Rattle.replay_lines.specs.declared.queue_command.QueueCommand.{QueueCommand}

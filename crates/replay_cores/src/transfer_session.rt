@@ -1,7 +1,7 @@
 //! Scripts in mode `transfer`.
 ghost use Rattle.std.specs.Prelude.{◌≡◌, IfOk};
 ghost use Rattle.replay_lines.specs.CoreReplies.{said};
-ghost use Rattle.replay_sessions.specs.TransferMachine.{told, takes_step, step, new_core};
+ghost use Rattle.replay_cores.specs.TransferMachine.{told, takes_step, step, new_core};
 
 use cordyceps_commands::Item;
 use cordyceps_stack::stack::{StepError, TransferAnswer, TransferCore, TransferStep};
@@ -112,7 +112,7 @@ impl TransferSession {
 }
 
 impl Session for TransferSession {
-    ghost use Rattle.replay_sessions.specs.TransferMachine.{Core, transfer_machine};
+    ghost use Rattle.replay_cores.specs.TransferMachine.{Core, transfer_machine};
 
     ghost State = { Core };
 

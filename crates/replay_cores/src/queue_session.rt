@@ -1,7 +1,7 @@
 //! Scripts in mode `queue`.
 ghost use Rattle.std.specs.Prelude.{◌≡◌, IfOk};
 ghost use Rattle.replay_lines.specs.CoreReplies.{said};
-ghost use Rattle.replay_sessions.specs.QueueMachine.{told, told_error, told_found, takes_step, step, new_core};
+ghost use Rattle.replay_cores.specs.QueueMachine.{told, told_error, told_found, takes_step, step, new_core};
 
 use cordyceps_commands::Item;
 use cordyceps_queue::mpsc_queue::{QueueAnswer, QueueCore, QueueStep, StepError, TryDequeueError};
@@ -145,7 +145,7 @@ impl QueueSession {
 }
 
 impl Session for QueueSession {
-    ghost use Rattle.replay_sessions.specs.QueueMachine.{Core, queue_machine};
+    ghost use Rattle.replay_cores.specs.QueueMachine.{Core, queue_machine};
 
     ghost State = { Core };
 

@@ -2,10 +2,10 @@ use Rattle.std.proofs.Common.{◌++◌, ◌∷◌, [], refl, sym, ◌∙◌, ap,
 use Rattle.std.proofs.lemmas.List.{append-nil}
 use Rattle.std.proofs.lemmas.Result.{err_from_is_err_and}
 use Rattle.replay_lines.specs.CoreReplies.{said, core_text}
-use Rattle.replay_lines.specs.TransferScript.{command_of}
-use Rattle.replay_sessions.specs.TransferMachine.{step}
-use Rattle.replay_sessions.proofs.Lines.{core_taken, core_taken_as}
-use Rattle.replay_sessions.proofs.transfer_session.TransferSessionSession.take.Goals as goal
+use Rattle.replay_lines.specs.QueueScript.{command_of}
+use Rattle.replay_cores.specs.QueueMachine.{step}
+use Rattle.replay_cores.proofs.Lines.{core_taken, core_taken_as}
+use Rattle.replay_cores.proofs.queue_session.QueueSessionSession.take.Goals as goal
 
 pub returns-in_err-reply-clause-taken : goal.returns-in_err-reply-clause-taken
 returns-in_err-reply-clause-taken c =

@@ -10,7 +10,7 @@ use Rattle.cordyceps_stack.specs.Cores.Alone.{push_steps, take_steps}
 use Rattle.cordyceps_stack.specs.Cores.Machine.{Answered, new_machine, with_party, with_room, held_in, stepped, is_at_rest, is_ready}
 use Rattle.cordyceps_stack.specs.Cores.Machine as cores
 use Rattle.replay_driver.specs.Script.{Machine}
-use Rattle.replay_sessions.specs.Commands.{core_commands_machine}
+use Rattle.replay_cores.specs.Commands.{core_commands_machine}
 use Rattle.replay_lines.specs.CoreReplies.{CoreLine, party, done, truth, found, last, failed, taken, nothing, show, not_there}
 use Rattle.replay_lines.specs.TransferScript.{command_of}
 use Rattle.replay_lines.specs.declared.transfer_command.TransferCommand.{TransferCommand}
