@@ -28,8 +28,7 @@ WrongBody = namedtuple("WrongBody", "crate name functions promises")
 @lru_cache(None)
 def judge():
     """The tool that judges wrong bodies, as a module: it reads them, and finds their functions."""
-    at = next(it for it in (f"{sources.TOP}/tools/wrong_bodies", f"{sources.TOP}/wrong_bodies") if os.path.isfile(it))
-    loader = importlib.machinery.SourceFileLoader("wrong_bodies", at)
+    loader = importlib.machinery.SourceFileLoader("wrong_bodies", f"{sources.TOP}/tools/wrong_bodies")
     module = importlib.util.module_from_spec(importlib.util.spec_from_loader("wrong_bodies", loader))
     loader.exec_module(module)
     return module

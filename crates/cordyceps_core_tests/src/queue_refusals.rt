@@ -1,5 +1,5 @@
 //! What a queue's core answers after memory was refused. These tests say more where an allocation is made to fail, as
-//! `./refusals` does.
+//! `tools/refusals` does.
 use crate::compared::same;
 use crate::scripts::script_of;
 use cordyceps_queue::mpsc_queue::{

@@ -378,7 +378,7 @@ fn goes_on(rt: &impl Abort, second: &Replay<u64>, taken: usize) {
     same(rt, second.stopped, false);
 }
 
-// It says more where an allocation is made to fail, as `./refusals` does.
+// It says more where an allocation is made to fail, as `tools/refusals` does.
 #[test]
 fn finishes_from_the_rest(rt: HostRuntime) -> Result<(), Fail> {
     let steps = script(rt.alloc())?;

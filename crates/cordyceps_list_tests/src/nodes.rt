@@ -75,7 +75,8 @@ fn comes_and_goes<L: Kind>(rt: &impl Abort, alloc: Global) -> Result<(), AllocEr
     Ok(())
 }
 
-// It says more where an allocation is made to fail, as `./refusals` does: the value then comes back from `Node::new`.
+// It says more where an allocation is made to fail, as `tools/refusals` does: the value then comes back from
+// `Node::new`.
 #[test]
 fn makes_a_node_of_the_value_handed_back(rt: HostRuntime) -> Result<(), Fail> {
     comes_and_goes::<list::Links<Counted>>(&rt, rt.alloc())?;

@@ -112,7 +112,7 @@ fn a_dropped_consumer_leaves_what_is_held(rt: HostRuntime) -> Result<(), AllocEr
     Ok(())
 }
 
-// It says more where an allocation is made to fail, as `./refusals` does: `new` then answers `Err`,
+// It says more where an allocation is made to fail, as `tools/refusals` does: `new` then answers `Err`,
 // and the next call, which meets none, makes a queue.
 #[test]
 fn makes_a_queue_after_refused_memory(rt: HostRuntime) -> Result<(), AllocError> {

@@ -81,7 +81,7 @@ fn put_and_get_one(
     finishes(rt, local, 2);
 }
 
-// It says more where an allocation is made to fail, as `./refusals` does: `new` then answers `Err`,
+// It says more where an allocation is made to fail, as `tools/refusals` does: `new` then answers `Err`,
 // and the next call, which meets none, makes a free list.
 #[test]
 fn makes_a_free_list_after_refused_memory(rt: HostRuntime) -> Result<(), AllocError> {

@@ -178,7 +178,7 @@ fn what_a_close_gave_drops_once(rt: HostRuntime) -> Result<(), AllocError> {
     Ok(())
 }
 
-// It says more where an allocation is made to fail, as `./refusals` does: `new` then answers `Err`,
+// It says more where an allocation is made to fail, as `tools/refusals` does: `new` then answers `Err`,
 // and the next call, which meets none, makes a stack.
 #[test]
 fn makes_a_stack_after_refused_memory(rt: HostRuntime) -> Result<(), AllocError> {

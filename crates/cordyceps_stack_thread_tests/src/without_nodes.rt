@@ -1,5 +1,5 @@
-//! What a stack and two threads ask for beside the nodes. `./refusals` holds mode `share` of `cordyceps_replay` against
-//! this, which asks for the same but makes no node.
+//! What a stack and two threads ask for beside the nodes. `tools/refusals` holds mode `share` of `cordyceps_replay`
+//! against this, which asks for the same but makes no node.
 use crate::compared::same;
 use cordyceps_stack::stack::{Party, TransferStack};
 use cordyceps_testing::counted::Counted;

@@ -1,5 +1,5 @@
 //! Tests of replays of commands on tables of lists, stacks and sorted lists. Some say more where an allocation is made
-//! to fail, as `./refusals` does with those of its table: the rest is then run on.
+//! to fail, as `tools/refusals` does with those of its table: the rest is then run on.
 #![tactic(auto)]
 
 #[cfg(test)]
