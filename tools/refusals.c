@@ -1,8 +1,8 @@
 // Stands before the allocator of a program, by LD_PRELOAD, and refuses one of its requests for memory, or one of its
 // threads. What the C library asks for itself is neither counted nor refused.
 //
-// REFUSALS_AT and REFUSALS_THREAD say which request and which thread is refused, from 1 on; 0 refuses none. REFUSALS_TOLD
-// names a file of the size of `struct told`, which has what happened, however the program ends.
+// REFUSALS_AT and REFUSALS_THREAD say which request and which thread is refused, from 1 on; 0 refuses none.
+// REFUSALS_TOLD names a file of the size of `struct told`, which has what happened, however the program ends.
 
 typedef unsigned long word;
 
