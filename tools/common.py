@@ -45,6 +45,11 @@ def stop(why):
     sys.exit(2)
 
 
+def text_of(path):
+    with open(path, encoding="utf-8") as it:
+        return it.read()
+
+
 def kit(*paths):
     """The folder of the toolchain, which has these files."""
     rt = shutil.which("rt")

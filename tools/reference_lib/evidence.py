@@ -31,7 +31,6 @@ def judge():
     loader = importlib.machinery.SourceFileLoader("wrong_bodies", f"{sources.TOP}/tools/wrong_bodies")
     module = importlib.util.module_from_spec(importlib.util.spec_from_loader("wrong_bodies", loader))
     loader.exec_module(module)
-    module.rtlib = module.common.rtlib()
     return module
 
 

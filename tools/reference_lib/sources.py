@@ -9,7 +9,7 @@ import re
 from collections import namedtuple
 from functools import lru_cache
 
-TOP = os.path.dirname(os.path.dirname(os.path.dirname(os.path.realpath(__file__))))
+from common import TOP, text_of  # noqa: F401 (others of these files take them from here)
 
 # An item: the file that it stands in, the number of its first line, its kind, its name, its visibility, its lines
 # without the doc comment, that comment, its attributes, and which file of specs each word comes from that its clauses
@@ -108,11 +108,6 @@ def spec_file(module):
             return spec_file(".".join([again[1], *more[1:]])) if again else file
         more.insert(0, path.pop())
     return None
-
-
-def text_of(path):
-    with open(path, encoding="utf-8") as it:
-        return it.read()
 
 
 def inside(item):
