@@ -110,8 +110,8 @@ fn counts_what_it_asks(rt: HostRuntime) -> Result<(), Fail> {
         (7, (1, [Some(5), Some(7), None])),
         (7, (2, [Some(7), Some(7), None])),
         (6, (5, [Some(5), Some(6), Some(7)])),
-        (1, (9, [None, Some(1), Some(5)])),
-        (5, (13, [Some(5), Some(5), Some(6)])),
+        (1, (7, [None, Some(1), Some(5)])),
+        (5, (12, [Some(5), Some(5), Some(6)])),
     ] {
         counts(&rt, rt.alloc(), &mut list, &mut steps, value, wanted)?;
     }
