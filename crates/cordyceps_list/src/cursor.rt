@@ -1,4 +1,4 @@
-//! Cursors by which a list is read.
+//! Cursors that read a list.
 ghost use Rattle.std.specs.Prelude.{◌≡◌, ◌+◌, ◌-◌, ◌<◌, ◌≤◌, ◌==◌, length, slice_get, option_copied, IfSome, None};
 ghost use Rattle.std.specs.Iterator.{at_most, UpTo};
 ghost use Rattle.std.specs.Iterator.SizeHint.{IsWithinCount};
@@ -12,10 +12,10 @@ use cordyceps_base::double_chain::DoubleChain;
 use cordyceps_base::linked::Linked;
 use std::marker::Model;
 
-/// A cursor by which a list is read. Its place is from 0 to the length, which is the null place, at no element; moving
-/// on from there leads to the first, and back from the first leads there.
+/// A cursor that reads a list. A contract sees the elements and the cursor's place.
 ///
-/// Each call takes at most a move along a link.
+/// A place is an index from 0 to the length. The length is the null place, which has no element: it is after the last
+/// element and before the first. A list can have several such cursors at a time.
 #[derive(Drop)]
 pub struct Cursor<'a, T> {
     chain: &'a DoubleChain<T>,
@@ -35,14 +35,20 @@ impl<'a, T> Model for Cursor<'a, T> {
 }
 
 impl<T: Linked<Links<T>>> List<T> {
-    /// A cursor at the first element, or at the null place of an empty list.
+    /// Returns a cursor at the first element, or at the null place if the list is empty.
+    ///
+    /// # Complexity
+    /// O(1).
     pub fn cursor_front(&self) -> Cursor<'_, T>
         ensures { result ≡ record { elements = self.now; place = 0 } }
     {
         Cursor::at_place(self, 0)
     }
 
-    /// A cursor at the last element, or at the null place of an empty list.
+    /// Returns a cursor at the last element, or at the null place if the list is empty.
+    ///
+    /// # Complexity
+    /// O(1).
     pub fn cursor_back(&self) -> Cursor<'_, T>
         ensures { result ≡ record { elements = self.now; place = length self.now - 1 } }
     {
@@ -50,7 +56,7 @@ impl<T: Linked<Links<T>>> List<T> {
     }
 }
 
-/// The place after a place among so many elements, of which the null place is one more.
+/// Returns the place after `at` in a list of `len` elements; after the null place comes 0.
 pub(crate) fn place_after(at: usize, len: usize) -> usize
     requires { at ≤ len }
     ensures value { result ≡ next_place len at }
@@ -60,7 +66,7 @@ pub(crate) fn place_after(at: usize, len: usize) -> usize
     if at < len { at + 1 } else { 0 }
 }
 
-/// The place before a place among so many elements, of which the null place is one more.
+/// Returns the place before `at` in a list of `len` elements; before 0 comes the null place.
 pub(crate) fn place_before(at: usize, len: usize) -> usize
     requires { at ≤ len }
     ensures value { result ≡ prev_place len at }
@@ -72,7 +78,7 @@ pub(crate) fn place_before(at: usize, len: usize) -> usize
 impl<'a, T: Linked<Links<T>>> Cursor<'a, T> {
     ghost use Rattle.cordyceps_list.specs.Places.{index_at};
 
-    /// A cursor at a place.
+    /// Returns a cursor at a place. Requires that the place is at most the length.
     pub(crate) fn at_place(list: &'a List<T>, at: usize) -> Cursor<'a, T>
         requires { at ≤ length list.now }
         ensures { result ≡ record { elements = list.now; place = at } }
@@ -83,7 +89,7 @@ impl<'a, T: Linked<Links<T>>> Cursor<'a, T> {
         Cursor { chain, place, at }
     }
 
-    /// The cursor's place.
+    /// Returns the cursor's place.
     pub(crate) fn at(&self) -> usize
         ensures value { result ≡ self.now.place }
         ensures inside { result ≤ length self.now.elements }
@@ -91,21 +97,30 @@ impl<'a, T: Linked<Links<T>>> Cursor<'a, T> {
         self.at
     }
 
-    /// The number of elements of the list.
+    /// Returns the number of elements of the list.
+    ///
+    /// # Complexity
+    /// O(1).
     pub fn len(&self) -> usize
         ensures { result ≡ length self.now.elements }
     {
         self.chain.len()
     }
 
-    /// Whether the list has no element.
+    /// Returns `true` if the list has no element.
+    ///
+    /// # Complexity
+    /// O(1).
     pub fn is_empty(&self) -> bool
         ensures { result ≡ (length self.now.elements == 0) }
     {
         self.len() == 0
     }
 
-    /// The index of the element that the cursor is at. `None` at the null place.
+    /// Returns the index of the cursor's element, or `None` at the null place.
+    ///
+    /// # Complexity
+    /// O(1).
     pub fn index(&self) -> Option<usize>
         ensures { result ≡ index_at (length self.now.elements) self.now.place }
     {
@@ -116,7 +131,11 @@ impl<'a, T: Linked<Links<T>>> Cursor<'a, T> {
         }
     }
 
-    /// Moves to the next place: from the last element to the null place, and from there to the first.
+    /// Moves the cursor to the next place: from the last element to the null place, and from there to the first
+    /// element.
+    ///
+    /// # Complexity
+    /// O(1).
     pub fn move_next(&mut self)
         ensures elements { self.new.elements ≡ self.old.elements }
         ensures place { self.new.place ≡ next_place (length self.old.elements) self.old.place }
@@ -133,7 +152,11 @@ impl<'a, T: Linked<Links<T>>> Cursor<'a, T> {
         }
     }
 
-    /// Moves to the place before: from the first element to the null place, and from there to the last.
+    /// Moves the cursor to the previous place: from the first element to the null place, and from there to the last
+    /// element.
+    ///
+    /// # Complexity
+    /// O(1).
     pub fn move_prev(&mut self)
         ensures elements { self.new.elements ≡ self.old.elements }
         ensures place { self.new.place ≡ prev_place (length self.old.elements) self.old.place }
@@ -151,7 +174,10 @@ impl<'a, T: Linked<Links<T>>> Cursor<'a, T> {
         self.at -= 1;
     }
 
-    /// The value that the cursor is at. `None` at the null place.
+    /// Returns a reference to the value at the cursor, or `None` at the null place.
+    ///
+    /// # Complexity
+    /// O(1).
     pub fn current(&self) -> Option<&'a T>
         ensures { option_copied result ≡ slice_get (values self.now.elements) self.now.place }
     {
@@ -163,7 +189,11 @@ impl<'a, T: Linked<Links<T>>> Cursor<'a, T> {
         }
     }
 
-    /// The value at the next place. `None` where that is the null place; from the null place it is the first.
+    /// Returns a reference to the value at the next place, or `None` if that is the null place. At the null place it
+    /// returns the first value, if there is one.
+    ///
+    /// # Complexity
+    /// O(1).
     #[tactic(auto, using(crate::proofs::Written::none_past))]
     pub fn peek_next(&self) -> Option<&'a T>
         ensures { option_copied result
@@ -180,7 +210,11 @@ impl<'a, T: Linked<Links<T>>> Cursor<'a, T> {
         Some(chain.get(chain.next(self.place, self.at), next))
     }
 
-    /// The value at the place before. `None` where that is the null place; from the null place it is the last.
+    /// Returns a reference to the value at the previous place, or `None` if that is the null place. At the null place
+    /// it returns the last value, if there is one.
+    ///
+    /// # Complexity
+    /// O(1).
     #[tactic(auto, using(crate::proofs::Written::none_before_first))]
     pub fn peek_prev(&self) -> Option<&'a T>
         ensures { option_copied result
@@ -197,7 +231,8 @@ impl<'a, T: Linked<Links<T>>> Cursor<'a, T> {
     }
 }
 
-/// The values from the cursor's place on. Behind the last the cursor is at the null place, and stays there.
+/// Iterates over the values from the cursor's place to the last. After the last value the cursor is at the null place,
+/// and stays there.
 impl<'a, T: Linked<Links<T>>> Iterator for Cursor<'a, T> {
     type Item = &'a T;
 
@@ -205,6 +240,11 @@ impl<'a, T: Linked<Links<T>>> Iterator for Cursor<'a, T> {
 
     ghost remaining = { λ s. at_most (length s.elements - s.place) };
 
+    /// Returns a reference to the value at the cursor, and moves the cursor to the next place. At the null place it
+    /// returns `None`, and the cursor stays there.
+    ///
+    /// # Complexity
+    /// O(1).
     fn next(&mut self) -> Option<&'a T> {
         let chain = self.chain;
         if self.at == chain.len() {
@@ -216,7 +256,10 @@ impl<'a, T: Linked<Links<T>>> Iterator for Cursor<'a, T> {
         Some(item)
     }
 
-    /// Bounds nothing, since the cursor may move between the calls of `next`.
+    /// Returns `(0, None)`, since the cursor may move between two calls of `next`.
+    ///
+    /// # Complexity
+    /// O(1).
     fn size_hint(&self) -> (usize, Option<usize>)
         ensures lower { IsWithinCount result.0 (at_most (length self.now.elements - self.now.place)) }
         ensures upper { IfSome result.1 (UpTo (at_most (length self.now.elements - self.now.place))) }

@@ -1,4 +1,4 @@
-//! Cursors by which a list is changed.
+//! Cursors that change a list.
 ghost use Rattle.std.specs.Prelude.{◌≡◌, ◌+◌, ◌-◌, ◌<◌, ◌≤◌, ◌==◌, [], ◌∷◌, ◌++◌, take, drop, length, slice_get, option_copied, option_map};
 ghost use Rattle.std.specs.Option.{option_copied_mut};
 ghost use Rattle.std.specs.Borrow.{sem};
@@ -11,10 +11,10 @@ use crate::list::{Links, List};
 use cordyceps_base::linked::Linked;
 use std::mem;
 
-/// A cursor by which a list is read and changed. Its place is from 0 to the length, which is the null place, at no
-/// element; moving on from there leads to the first, and back from the first leads there.
+/// A cursor that reads and changes a list. A contract sees the elements and the cursor's place.
 ///
-/// Each call takes a few moves along links, wherever the cursor is, but for `remove_first`.
+/// A place is an index from 0 to the length. The length is the null place, which has no element: it is after the last
+/// element and before the first. The cursor borrows the list until it ends.
 pub struct CursorMut<'a, T> {
     list: &'a mut List<T>,
     at: usize,
@@ -24,6 +24,10 @@ pub struct CursorMut<'a, T> {
 impl<T> Drop for CursorMut<'_, T> {
     ghost use Rattle.cordyceps_list.specs.Cursor.{elements};
 
+    /// Ends the cursor. The list then has the cursor's elements.
+    ///
+    /// # Complexity
+    /// O(1).
     fn drop(self)
         ensures { self.exit.0.now ≡ elements self.entry }
     {
@@ -34,7 +38,10 @@ impl<T> Drop for CursorMut<'_, T> {
 impl<T: Linked<Links<T>>> List<T> {
     ghost use Rattle.cordyceps_list.specs.Cursor.{elements, place, lender};
 
-    /// A cursor at the first element, or at the null place of an empty list.
+    /// Returns a cursor at the first element, or at the null place if the list is empty.
+    ///
+    /// # Complexity
+    /// O(1).
     pub fn cursor_front_mut(&mut self) -> CursorMut<'_, T>
         ensures same_reference { lender result ≡ self.entry.ghost_name }
         ensures elements { elements result ≡ self.old }
@@ -43,7 +50,10 @@ impl<T: Linked<Links<T>>> List<T> {
         CursorMut { list: self, at: 0 }
     }
 
-    /// A cursor at the last element, or at the null place of an empty list.
+    /// Returns a cursor at the last element, or at the null place if the list is empty.
+    ///
+    /// # Complexity
+    /// O(1).
     pub fn cursor_back_mut(&mut self) -> CursorMut<'_, T>
         ensures same_reference { lender result ≡ self.entry.ghost_name }
         ensures elements { elements result ≡ self.old }
@@ -60,7 +70,7 @@ impl<'a, T: Linked<Links<T>>> CursorMut<'a, T> {
     ghost use Rattle.cordyceps_list.specs.Filter.{RemovesFirst};
     ghost use Rattle.cordyceps_list.specs.Walk.{MayAsk};
 
-    /// A cursor at a place.
+    /// Returns a cursor at a place. Requires that the place is at most the length.
     pub(crate) fn at_place(list: &'a mut List<T>, at: usize) -> CursorMut<'a, T>
         requires { at ≤ length list.old }
         ensures same_reference { lender result ≡ list.entry.ghost_name }
@@ -70,7 +80,7 @@ impl<'a, T: Linked<Links<T>>> CursorMut<'a, T> {
         CursorMut { list, at }
     }
 
-    /// The cursor's place.
+    /// Returns the cursor's place.
     pub(crate) fn at(&self) -> usize
         ensures value { result ≡ place self.now }
         ensures inside { result ≤ length (elements self.now) }
@@ -78,21 +88,30 @@ impl<'a, T: Linked<Links<T>>> CursorMut<'a, T> {
         self.at
     }
 
-    /// The number of elements of the list.
+    /// Returns the number of elements of the list.
+    ///
+    /// # Complexity
+    /// O(1).
     pub fn len(&self) -> usize
         ensures { result ≡ length (elements self.now) }
     {
         self.list.len()
     }
 
-    /// Whether the list has no element.
+    /// Returns `true` if the list has no element.
+    ///
+    /// # Complexity
+    /// O(1).
     pub fn is_empty(&self) -> bool
         ensures { result ≡ (length (elements self.now) == 0) }
     {
         self.list.is_empty()
     }
 
-    /// The index of the element that the cursor is at. `None` at the null place.
+    /// Returns the index of the cursor's element, or `None` at the null place.
+    ///
+    /// # Complexity
+    /// O(1).
     pub fn index(&self) -> Option<usize>
         ensures { result ≡ index_at (length (elements self.now)) (place self.now) }
     {
@@ -103,7 +122,11 @@ impl<'a, T: Linked<Links<T>>> CursorMut<'a, T> {
         }
     }
 
-    /// Moves to the next place: from the last element to the null place, and from there to the first.
+    /// Moves the cursor to the next place: from the last element to the null place, and from there to the first
+    /// element.
+    ///
+    /// # Complexity
+    /// O(1).
     pub fn move_next(&mut self)
         ensures { Stands self.old self.new (elements self.old)
             (next_place (length (elements self.old)) (place self.old)) }
@@ -112,7 +135,11 @@ impl<'a, T: Linked<Links<T>>> CursorMut<'a, T> {
         self.go_to(place_after(self.at, len));
     }
 
-    /// Moves to the place before: from the first element to the null place, and from there to the last.
+    /// Moves the cursor to the previous place: from the first element to the null place, and from there to the last
+    /// element.
+    ///
+    /// # Complexity
+    /// O(1).
     pub fn move_prev(&mut self)
         ensures { Stands self.old self.new (elements self.old)
             (prev_place (length (elements self.old)) (place self.old)) }
@@ -121,7 +148,7 @@ impl<'a, T: Linked<Links<T>>> CursorMut<'a, T> {
         self.go_to(place_before(self.at, len));
     }
 
-    /// Moves to a place.
+    /// Moves the cursor to a place.
     fn go_to(&mut self, at: usize)
         requires { at ≤ length (elements self.old) }
         ensures { Stands self.old self.new (elements self.old) at }
@@ -130,14 +157,21 @@ impl<'a, T: Linked<Links<T>>> CursorMut<'a, T> {
         self.list.stand_at(at);
     }
 
-    /// The value that the cursor is at. `None` at the null place.
+    /// Returns a reference to the value at the cursor, or `None` at the null place.
+    ///
+    /// # Complexity
+    /// O(1).
     pub fn current(&self) -> Option<&T>
         ensures { option_copied result ≡ slice_get (values (elements self.now)) (place self.now) }
     {
         self.list.get_at(self.at)
     }
 
-    /// The value at the next place. `None` where that is the null place; from the null place it is the first.
+    /// Returns a reference to the value at the next place, or `None` if that is the null place. At the null place it
+    /// returns the first value, if there is one.
+    ///
+    /// # Complexity
+    /// O(1).
     pub fn peek_next(&self) -> Option<&T>
         ensures { option_copied result
             ≡ slice_get (values (elements self.now)) (next_place (length (elements self.now)) (place self.now)) }
@@ -145,7 +179,11 @@ impl<'a, T: Linked<Links<T>>> CursorMut<'a, T> {
         self.list.get_at(place_after(self.at, self.list.len()))
     }
 
-    /// The value at the place before. `None` where that is the null place; from the null place it is the last.
+    /// Returns a reference to the value at the previous place, or `None` if that is the null place. At the null place
+    /// it returns the last value, if there is one.
+    ///
+    /// # Complexity
+    /// O(1).
     pub fn peek_prev(&self) -> Option<&T>
         ensures { option_copied result
             ≡ slice_get (values (elements self.now)) (prev_place (length (elements self.now)) (place self.now)) }
@@ -153,7 +191,11 @@ impl<'a, T: Linked<Links<T>>> CursorMut<'a, T> {
         self.list.get_at(place_before(self.at, self.list.len()))
     }
 
-    /// The value that the cursor is at, to be changed. `None` at the null place.
+    /// Returns a mutable reference to the value at the cursor, or `None` at the null place. The element keeps its
+    /// number.
+    ///
+    /// # Complexity
+    /// O(1).
     #[tactic(auto, using(cordyceps_base::proofs::Places::length_with_value))]
     pub fn current_mut(&mut self) -> Option<&mut T>
         ensures* writes_back { sem 𝓛
@@ -169,7 +211,11 @@ impl<'a, T: Linked<Links<T>>> CursorMut<'a, T> {
         Some(list.value_mut_at(here))
     }
 
-    /// The value at the next place, to be changed. `None` as `peek_next`.
+    /// Returns a mutable reference to the value at the next place, or `None` if that is the null place. The element
+    /// keeps its number, and the cursor its place.
+    ///
+    /// # Complexity
+    /// O(1).
     #[tactic(auto, using(cordyceps_base::proofs::Places::length_with_value))]
     pub fn peek_next_mut(&mut self) -> Option<&mut T>
         ensures* writes_back { sem 𝓛
@@ -186,7 +232,11 @@ impl<'a, T: Linked<Links<T>>> CursorMut<'a, T> {
         Some(list.value_mut_at(at))
     }
 
-    /// The value at the place before, to be changed. `None` as `peek_prev`.
+    /// Returns a mutable reference to the value at the previous place, or `None` if that is the null place. The element
+    /// keeps its number, and the cursor its place.
+    ///
+    /// # Complexity
+    /// O(1).
     #[tactic(auto, using(cordyceps_base::proofs::Places::length_with_value))]
     pub fn peek_prev_mut(&mut self) -> Option<&mut T>
         ensures* writes_back { sem 𝓛
@@ -203,8 +253,11 @@ impl<'a, T: Linked<Links<T>>> CursorMut<'a, T> {
         Some(list.value_mut_at(at))
     }
 
-    /// Lends the value that the cursor is at, and moves to the next place. At the null place it answers `None`, and
-    /// stays.
+    /// Returns a mutable reference to the value at the cursor, and moves the cursor to the next place. At the null
+    /// place it returns `None`, and the cursor stays there.
+    ///
+    /// # Complexity
+    /// O(1).
     #[tactic(auto, using(cordyceps_base::proofs::Places::length_with_value))]
     pub fn next(&mut self) -> Option<&mut T>
         ensures* writes_back { sem 𝓛
@@ -221,8 +274,11 @@ impl<'a, T: Linked<Links<T>>> CursorMut<'a, T> {
         Some(list.value_mut_passing(at))
     }
 
-    /// Puts an element in before the cursor, which stays at its element. At the null place it comes last. There must be
-    /// room in the length.
+    /// Inserts an element before the cursor's, at which the cursor stays. At the null place the element becomes the
+    /// last one. Requires a length below `usize::MAX`.
+    ///
+    /// # Complexity
+    /// O(1).
     pub fn insert_before(&mut self, handle: T::Handle)
         requires { length (elements self.old) < usize.MAX }
         ensures { Stands self.old self.new
@@ -234,8 +290,11 @@ impl<'a, T: Linked<Links<T>>> CursorMut<'a, T> {
         self.list.insert_at(at, handle);
     }
 
-    /// Puts an element in behind the one that the cursor is at. At the null place it comes first. There must be room in
-    /// the length.
+    /// Inserts an element after the cursor's, at which the cursor stays. At the null place the element becomes the
+    /// first one. Requires a length below `usize::MAX`.
+    ///
+    /// # Complexity
+    /// O(1).
     pub fn insert_after(&mut self, handle: T::Handle)
         requires { length (elements self.old) < usize.MAX }
         ensures inside { place self.old < length (elements self.old)
@@ -253,7 +312,10 @@ impl<'a, T: Linked<Links<T>>> CursorMut<'a, T> {
         }
     }
 
-    /// Takes out the element that the cursor is at, which then is at the one behind it. `None` at the null place.
+    /// Removes the cursor's element and returns it, or `None` at the null place. The cursor is then at the next place.
+    ///
+    /// # Complexity
+    /// O(1).
     pub fn remove_current(&mut self) -> Option<T::Handle>
         ensures answer { option_map T.element result ≡ slice_get (elements self.old) (place self.old) }
         ensures stands { Stands self.old self.new
@@ -263,8 +325,11 @@ impl<'a, T: Linked<Links<T>>> CursorMut<'a, T> {
         self.list.take_at(self.at)
     }
 
-    /// Puts all elements of `list` in before the cursor, which stays at its element. At the null place they come last.
-    /// The sum of the lengths must fit.
+    /// Inserts all elements of `list` before the cursor's, at which the cursor stays. At the null place they become the
+    /// last ones. Requires that the sum of the lengths is at most `usize::MAX`.
+    ///
+    /// # Complexity
+    /// O(1).
     pub fn splice_before(&mut self, list: List<T>)
         requires { length (elements self.old) + length list ≤ usize.MAX }
         ensures { Stands self.old self.new
@@ -276,8 +341,11 @@ impl<'a, T: Linked<Links<T>>> CursorMut<'a, T> {
         self.at += more;
     }
 
-    /// Puts all elements of `list` in behind the one that the cursor is at. At the null place they come first. The sum
-    /// of the lengths must fit.
+    /// Inserts all elements of `list` after the cursor's, at which the cursor stays. At the null place they become the
+    /// first ones. Requires that the sum of the lengths is at most `usize::MAX`.
+    ///
+    /// # Complexity
+    /// O(1).
     pub fn splice_after(&mut self, list: List<T>)
         requires { length (elements self.old) + length list ≤ usize.MAX }
         ensures inside { place self.old < length (elements self.old)
@@ -296,8 +364,11 @@ impl<'a, T: Linked<Links<T>>> CursorMut<'a, T> {
         }
     }
 
-    /// Keeps the elements up to the one that the cursor is at, and answers those behind it. At the null place it
-    /// answers all, and the cursor is at the null place of the empty list.
+    /// Splits the list after the cursor's element, and returns the elements after it. At the null place it returns all
+    /// elements, and the cursor is at the null place of an empty list.
+    ///
+    /// # Complexity
+    /// O(1).
     pub fn split_after(&mut self) -> List<T>
         ensures inside { place self.old < length (elements self.old)
             → (result ≡ drop (place self.old + 1) (elements self.old)) }
@@ -313,8 +384,11 @@ impl<'a, T: Linked<Links<T>>> CursorMut<'a, T> {
         self.list.split_at(0)
     }
 
-    /// Keeps the elements from the one that the cursor is at on, and answers those before it. At the null place it
-    /// answers all.
+    /// Splits the list before the cursor's element, and returns the elements before it. The cursor stays at its
+    /// element, which is then the first one. At the null place it returns all elements.
+    ///
+    /// # Complexity
+    /// O(1).
     pub fn split_before(&mut self) -> List<T>
         ensures answer { result ≡ take (place self.old) (elements self.old) }
         ensures stands { Stands self.old self.new (drop (place self.old) (elements self.old)) 0 }
@@ -326,9 +400,14 @@ impl<'a, T: Linked<Links<T>>> CursorMut<'a, T> {
         rest
     }
 
-    /// Asks the predicate of the values from the cursor's place on, in order, up to the first `true`, and takes that
-    /// element out: the cursor is at the one behind it. Without a `true` the answer is `None`, and the cursor is at the
-    /// null place. The predicate must be callable on these values.
+    /// Removes the first element for which the predicate returns `true` and returns it, searching from the cursor's
+    /// place to the last element. The cursor is then at the next place.
+    ///
+    /// The predicate is called on the values in order, up to the first `true`. If there is none, it returns `None`, and
+    /// the cursor is at the null place. Requires that the predicate can be called on these values.
+    ///
+    /// # Complexity
+    /// O(k), for k values that the predicate is called on.
     pub fn remove_first<F: FnMut(&T) -> bool + Drop>(
         &mut self,
         mut predicate: F,
@@ -342,7 +421,7 @@ impl<'a, T: Linked<Links<T>>> CursorMut<'a, T> {
         self.remove_first_by(&mut predicate)
     }
 
-    /// The same, by a predicate that the caller keeps.
+    /// Removes an element as `remove_first` does, by a predicate that the caller keeps.
     pub(crate) fn remove_first_by<F: FnMut(&T) -> bool>(
         &mut self,
         predicate: &mut F,
@@ -357,7 +436,10 @@ impl<'a, T: Linked<Links<T>>> CursorMut<'a, T> {
         self.list.take_at(found)
     }
 
-    /// A cursor that only reads, at the same place.
+    /// Returns a cursor that only reads, at the same place.
+    ///
+    /// # Complexity
+    /// O(1).
     pub fn as_cursor(&self) -> Cursor<'_, T>
         ensures elements { result.elements ≡ elements self.now }
         ensures place { result.place ≡ place self.now }

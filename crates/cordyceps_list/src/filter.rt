@@ -1,4 +1,4 @@
-//! Lists that are drained of the elements that pass.
+//! The iterator that removes the elements for which a predicate returns `true`.
 ghost use Rattle.std.specs.Prelude.{◌≡◌, ◌≤◌, length};
 
 use crate::cursor_mut::CursorMut;
@@ -6,8 +6,13 @@ use crate::finger::Fingers;
 use crate::list::{Links, List};
 use cordyceps_base::linked::Linked;
 
-/// Takes the elements that pass out of a list, and hands them out, in order. Each element is asked once, when the walk
-/// comes to it; dropped early, it keeps every element that it has not asked.
+/// An iterator that removes the elements for which a predicate returns `true`, in order, and returns them.
+///
+/// The predicate is called once on each value, when the iterator comes to it. The other elements stay in the list. So
+/// do those that it has not come to when it is dropped.
+///
+/// # Complexity
+/// Each `next` is O(k), for k values that the predicate is called on. Dropping is O(1).
 pub struct DrainFilter<'a, T, F> {
     list: &'a mut List<T>,
     at: usize,
@@ -18,6 +23,10 @@ pub struct DrainFilter<'a, T, F> {
 impl<'a, T, F: Drop> Drop for DrainFilter<'a, T, F> {
     ghost use Rattle.cordyceps_list.specs.DrainFilter.{elements};
 
+    /// Ends the iterator. The elements that it has not returned stay in the list.
+    ///
+    /// # Complexity
+    /// O(1).
     fn drop(self)
         ensures { self.exit.0.now ≡ elements self.entry }
     {
@@ -32,8 +41,11 @@ impl<'a, T, F: Drop> Drop for DrainFilter<'a, T, F> {
 impl<T: Linked<Links<T>>> List<T> {
     ghost use Rattle.cordyceps_list.specs.DrainFilter.{elements, place, lender, predicate_of};
 
-    /// Hands out the elements of which the predicate says `true`, and keeps the others. Each call of `next` asks that
-    /// the predicate is callable on the values that it has not seen.
+    /// Returns an iterator that removes the elements for which the predicate returns `true`, and keeps the others. Each
+    /// call of `next` requires that the predicate can be called on the values that are left.
+    ///
+    /// # Complexity
+    /// O(1), and O(n) for the whole iteration, for n elements.
     pub fn drain_filter<F: FnMut(&T) -> bool + Drop>(
         &mut self,
         predicate: F,
@@ -69,6 +81,10 @@ impl<'a, T: Linked<Links<T>>, F: FnMut(&T) -> bool + Drop> Iterator for DrainFil
 
     ghost remaining = { λ s. at_most (length (elements s) - place s) };
 
+    /// Removes the next element for which the predicate returns `true` and returns it, or `None` if there is none.
+    ///
+    /// # Complexity
+    /// O(k), for k values that the predicate is called on.
     fn next(&mut self) -> Option<T::Handle> {
         let mut cursor = CursorMut::at_place(&mut *self.list, self.at);
         let removed = cursor.remove_first_by(&mut self.predicate);
@@ -76,6 +92,10 @@ impl<'a, T: Linked<Links<T>>, F: FnMut(&T) -> bool + Drop> Iterator for DrainFil
         removed
     }
 
+    /// Returns 0 and the length of the list as bounds.
+    ///
+    /// # Complexity
+    /// O(1).
     fn size_hint(&self) -> (usize, Option<usize>)
         ensures lower { IsWithinCount result.0 (at_most (length (elements self.now) - place self.now)) }
         ensures upper { IfSome result.1 (UpTo (at_most (length (elements self.now) - place self.now))) }

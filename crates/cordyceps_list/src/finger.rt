@@ -1,4 +1,4 @@
-//! Fingers: nodes of a chain that a list remembers, so that a place near one of them is found in few moves.
+//! Fingers: nodes that a list remembers, so that places near them are found in few moves.
 ghost use Rattle.std.specs.Prelude.{◌≡◌, ◌+◌, ◌-◌, ◌^◌, ◌<◌, ◌⊎◌, length, IfSome};
 ghost use Rattle.cordyceps_base.specs.Nodes.{LiesAt};
 
@@ -6,7 +6,7 @@ use cordyceps_base::boxes::Address;
 use cordyceps_base::double_chain::DoubleChain;
 use cordyceps_base::steps::{Steps, count_one};
 
-/// The address of a node and its index. At the chain's length it is on no node, and its address says nothing.
+/// The address of a node and its index. At an index of the length it is on no node, and its address is not used.
 #[derive(Clone, Copy)]
 pub(crate) struct Finger {
     pub(crate) at: Address,
@@ -16,7 +16,7 @@ pub(crate) struct Finger {
 impl Finger {
     ghost use Rattle.cordyceps_list.specs.Fingers.{IsOn, FingerFits, moves_between, PutsIn, TakesOut, ChangesBehind};
 
-    /// A finger behind the last of so many nodes.
+    /// Returns a finger after the last of `len` nodes, on no node.
     pub(crate) fn behind(len: usize) -> Finger
         ensures { result.index ≡ len }
     {
@@ -26,7 +26,7 @@ impl Finger {
         }
     }
 
-    /// The finger taken off its node, in a chain that has so many. Its address stays, which is less to write.
+    /// Returns a finger on no node of a chain of `len` nodes. It keeps the address, which saves a write.
     fn off(self, len: usize) -> Finger
         ensures { result.index ≡ len }
     {
@@ -36,7 +36,7 @@ impl Finger {
         }
     }
 
-    /// A finger on the first node.
+    /// Returns a finger on the first node. Requires that the chain is not empty.
     pub(crate) fn at_head<T>(chain: &DoubleChain<T>) -> Finger
         requires { 0 < length chain.now }
         ensures on { IsOn chain.now result }
@@ -48,7 +48,7 @@ impl Finger {
         }
     }
 
-    /// A finger on the last node.
+    /// Returns a finger on the last node. Requires that the chain is not empty.
     pub(crate) fn at_tail<T>(chain: &DoubleChain<T>) -> Finger
         requires { 0 < length chain.now }
         ensures on { IsOn chain.now result }
@@ -60,12 +60,12 @@ impl Finger {
         }
     }
 
-    /// How many moves it is away from a place.
+    /// Returns the number of moves from the finger to an index.
     fn distance(self, to: usize) -> usize {
         self.index.abs_diff(to)
     }
 
-    /// The finger that is fewer moves away from a place.
+    /// Returns the finger that is fewer moves away from an index.
     fn or_nearer(self, other: Finger, to: usize) -> Finger
         ensures { (result ≡ self) ⊎ (result ≡ other) }
     {
@@ -76,7 +76,7 @@ impl Finger {
         }
     }
 
-    /// This finger or the end of the chain that is given, where that is nearer or this finger is on no node.
+    /// Returns this finger, or the one on an end of the chain, if that is nearer to an index or this one is on no node.
     fn or_end<T>(self, chain: &DoubleChain<T>, end: Finger, to: usize) -> Finger
         requires fits { FingerFits chain.now self }
         requires on { IsOn chain.now end }
@@ -89,7 +89,7 @@ impl Finger {
         }
     }
 
-    /// Moves along the links, one node at a time, to the place `to`.
+    /// Moves along the links, one node at a time, to the index `to`.
     fn walked<T>(self, chain: &DoubleChain<T>, to: usize) -> Finger
         requires on { IsOn chain.now self }
         requires inside { to < length chain.now }
@@ -108,7 +108,7 @@ impl Finger {
         finger
     }
 
-    /// Moves along one link, towards the place `to`, and counts the move. Each counted move is made here.
+    /// Moves along one link, towards the index `to`, and counts the move.
     fn moved<T>(self, chain: &DoubleChain<T>, to: usize, steps: &mut Steps) -> Finger
         requires on { IsOn chain.now self }
         requires inside { to < length chain.now }
@@ -132,7 +132,7 @@ impl Finger {
         }
     }
 
-    /// Moves to the place `to`, and counts the moves.
+    /// Moves to the index `to`, and counts the moves.
     pub(crate) fn walked_in<T>(self, chain: &DoubleChain<T>, to: usize, steps: &mut Steps) -> Finger
         requires on { IsOn chain.now self }
         requires inside { to < length chain.now }
@@ -148,7 +148,7 @@ impl Finger {
         finger
     }
 
-    /// After so many nodes were put in at place `k`.
+    /// Returns the finger after `more` nodes were inserted at place `k`.
     fn after_splice(self, k: usize, more: usize) -> Finger
         requires { self.index + more < 2 ^ 64 }
         ensures { PutsIn k more self result }
@@ -162,7 +162,7 @@ impl Finger {
         }
     }
 
-    /// After node `k` was taken out, of a chain that has so many nodes now.
+    /// Returns the finger after node `k` was removed from a chain, which has `len` nodes now.
     pub(crate) fn after_unlink(self, k: usize, len: usize) -> Finger
         ensures { TakesOut k len self result }
     {
@@ -178,7 +178,7 @@ impl Finger {
         }
     }
 
-    /// After a change behind the first `kept` nodes, of a chain that has so many nodes now.
+    /// Returns the finger after a change of the nodes after the first `kept` of a chain, which has `len` nodes now.
     fn after_change(self, kept: usize, len: usize) -> Finger
         ensures { ChangesBehind kept len self result }
     {
@@ -190,8 +190,8 @@ impl Finger {
     }
 }
 
-/// The two fingers of a list. The front one follows what walks on from the front, and the back one what walks on
-/// from the back, so that neither disturbs the other.
+/// The two fingers of a list. The front one follows walks from the front, and the back one walks from the back, so that
+/// neither disturbs the other.
 #[derive(Clone, Copy)]
 pub(crate) struct Fingers {
     pub(crate) front: Finger,
@@ -201,7 +201,7 @@ pub(crate) struct Fingers {
 impl Fingers {
     ghost use Rattle.cordyceps_list.specs.Fingers.{FingersFit, PutsIn, TakesOut, ChangesBehind};
 
-    /// Two fingers behind the last node.
+    /// Returns two fingers on no node.
     pub(crate) fn behind<T>(chain: &DoubleChain<T>) -> Fingers
         ensures { FingersFit chain.now result }
     {
@@ -212,7 +212,7 @@ impl Fingers {
         }
     }
 
-    /// A finger on the first node, and one on the last. Behind the last node where there is none.
+    /// Returns a finger on the first node and one on the last, or two on no node if the chain is empty.
     pub(crate) fn at_ends<T>(chain: &DoubleChain<T>) -> Fingers
         ensures { FingersFit chain.now result }
     {
@@ -225,7 +225,7 @@ impl Fingers {
         }
     }
 
-    /// The address of a node where the front finger is on it, or comes to it by the next link.
+    /// Returns the address of a node if the front finger is on it or on the one before it, and moves the finger to it.
     fn seek_near<T>(&mut self, chain: &DoubleChain<T>, to: usize) -> Option<Address>
         requires fit { FingersFit chain.now self.old }
         requires inside { to < length chain.now }
@@ -243,8 +243,8 @@ impl Fingers {
         None
     }
 
-    /// The address of a node: at once where the front finger is on it or on the one before it. It is a part of its
-    /// caller, so that a loop at the front finger has no call in it.
+    /// Returns the address of a node, without a walk if the front finger is on it or on the one before it. It is
+    /// inlined, so that a loop at the front finger has no call.
     #[inline(always)]
     pub(crate) fn seek<T>(&mut self, chain: &DoubleChain<T>, to: usize) -> Address
         requires fit { FingersFit chain.now self.old }
@@ -258,7 +258,8 @@ impl Fingers {
         }
     }
 
-    /// The same, found from the nearest of the two ends and the two fingers, one of which moves there.
+    /// Returns the address of a node, found from the nearest of the two ends and the two fingers, one of which moves
+    /// there.
     fn seek_far<T>(&mut self, chain: &DoubleChain<T>, to: usize) -> Address
         requires fit { FingersFit chain.now self.old }
         requires inside { to < length chain.now }
@@ -276,7 +277,7 @@ impl Fingers {
         }
     }
 
-    /// The same where `to` may be the place behind the last node, which is no node's.
+    /// Returns the address of a node as `seek` does, or null if `to` is the place after the last node.
     pub(crate) fn seek_within<T>(&mut self, chain: &DoubleChain<T>, to: usize) -> Address
         requires { FingersFit chain.now self.old }
         ensures fit { FingersFit chain.now self.new }
@@ -289,7 +290,7 @@ impl Fingers {
         }
     }
 
-    /// After so many nodes were put in at place `k`.
+    /// Returns the fingers after `more` nodes were inserted at place `k`.
     pub(crate) fn after_splice(self, k: usize, more: usize) -> Fingers
         requires front { self.front.index + more < 2 ^ 64 }
         requires back { self.back.index + more < 2 ^ 64 }
@@ -302,7 +303,7 @@ impl Fingers {
         }
     }
 
-    /// After node `k` was taken out, of a chain that has so many nodes now.
+    /// Returns the fingers after node `k` was removed from a chain, which has `len` nodes now.
     pub(crate) fn after_unlink(self, k: usize, len: usize) -> Fingers
         ensures front { TakesOut k len self.front result.front }
         ensures back { TakesOut k len self.back result.back }
@@ -313,7 +314,7 @@ impl Fingers {
         }
     }
 
-    /// After a change behind the first `kept` nodes, of a chain that has so many nodes now.
+    /// Returns the fingers after a change of the nodes after the first `kept` of a chain, which has `len` nodes now.
     pub(crate) fn after_change(self, kept: usize, len: usize) -> Fingers
         ensures front { ChangesBehind kept len self.front result.front }
         ensures back { ChangesBehind kept len self.back result.back }

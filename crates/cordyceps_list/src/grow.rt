@@ -6,7 +6,11 @@ use crate::list::{Links, List};
 use cordyceps_base::linked::Linked;
 
 impl<T: Linked<Links<T>>> List<T> {
-    /// Puts the items last, in their order. The iterator must end, and the total length must fit.
+    /// Appends the items of an iterator to the back of the list, in their order. Requires that the iterator ends, and
+    /// that the length stays at most `usize::MAX`.
+    ///
+    /// # Complexity
+    /// O(k), for k items, and what the iterator takes.
     pub fn extend<I: IntoIterator<Item = T::Handle>>(&mut self, items: I)
         requires { EndsWithin I.into_iter_gives I.IntoIter.next_gives I.IntoIter.can_next I.IntoIter.remaining
             (usize.MAX - length self.old) items }
@@ -17,7 +21,11 @@ impl<T: Linked<Links<T>>> List<T> {
         }
     }
 
-    /// A list of the items, in their order. The iterator must end, and their number must fit.
+    /// Creates a list of the items of an iterator, in their order. Requires that the iterator ends after at most
+    /// `usize::MAX` items.
+    ///
+    /// # Complexity
+    /// O(k), for k items, and what the iterator takes.
     pub fn from_iter<I: IntoIterator<Item = T::Handle>>(items: I) -> List<T>
         requires { EndsWithin I.into_iter_gives I.IntoIter.next_gives I.IntoIter.can_next I.IntoIter.remaining usize.MAX
             items }

@@ -12,7 +12,10 @@ use cordyceps_base::linked::Linked;
 use std::iter::{DoubleEndedIterator, ExactSizeIterator, FusedIterator};
 use std::marker::Model;
 
-/// The values of a list, from both ends. Each step takes one move along a link.
+/// An iterator over the values of a list, from both ends. A contract sees the values that are left.
+///
+/// # Complexity
+/// Each `next` and each `next_back` is O(1).
 #[derive(Drop)]
 pub struct Iter<'a, T> {
     chain: &'a DoubleChain<T>,
@@ -35,7 +38,10 @@ impl<'a, T> Model for Iter<'a, T> {
     ghost invariant = { λ i. KnowsEnds i.chain.now i.first i.last i.front i.back };
 }
 
-/// The values of a chain, in order, for a collection that keeps its nodes in one.
+/// Returns an iterator over the values of a chain, in order, for a collection that keeps its nodes in one.
+///
+/// # Complexity
+/// O(1).
 pub fn over<T>(chain: &DoubleChain<T>) -> Iter<'_, T>
     ensures { result ≡ values (elements chain.now) }
 {
@@ -55,7 +61,10 @@ pub fn over<T>(chain: &DoubleChain<T>) -> Iter<'_, T>
 }
 
 impl<T: Linked<Links<T>>> List<T> {
-    /// The values, in order.
+    /// Returns an iterator over the values, in order.
+    ///
+    /// # Complexity
+    /// O(1), and O(1) for each value.
     pub fn iter(&self) -> Iter<'_, T>
         ensures { result ≡ values self.now }
     {
@@ -70,6 +79,10 @@ impl<'a, T: Linked<Links<T>>> Iterator for Iter<'a, T> {
 
     ghost remaining = { item_count (λ s. s) };
 
+    /// Returns a reference to the first value that is left, or `None` if none is.
+    ///
+    /// # Complexity
+    /// O(1).
     fn next(&mut self) -> Option<&'a T> {
         if self.front == self.back {
             return None;
@@ -81,6 +94,10 @@ impl<'a, T: Linked<Links<T>>> Iterator for Iter<'a, T> {
         Some(item)
     }
 
+    /// Returns the number of values that are left, as both bounds.
+    ///
+    /// # Complexity
+    /// O(1).
     fn size_hint(&self) -> (usize, Option<usize>)
         ensures lower { IsWithinCount result.0 (at_most (length self.now)) }
         ensures upper { IfSome result.1 (UpTo (at_most (length self.now))) }
@@ -94,6 +111,10 @@ impl<'a, T: Linked<Links<T>>> Iterator for Iter<'a, T> {
 impl<'a, T: Linked<Links<T>>> DoubleEndedIterator for Iter<'a, T> {
     ghost next_back_gives = { YieldsLastRef (λ s. s) };
 
+    /// Returns a reference to the last value that is left, or `None` if none is.
+    ///
+    /// # Complexity
+    /// O(1).
     fn next_back(&mut self) -> Option<&'a T> {
         if self.front == self.back {
             return None;
@@ -108,6 +129,10 @@ impl<'a, T: Linked<Links<T>>> DoubleEndedIterator for Iter<'a, T> {
 }
 
 impl<'a, T: Linked<Links<T>>> ExactSizeIterator for Iter<'a, T> {
+    /// Returns the number of values that are left.
+    ///
+    /// # Complexity
+    /// O(1).
     fn len(&self) -> usize {
         self.back - self.front
     }
@@ -122,12 +147,20 @@ impl<'a, T: Linked<Links<T>>> IntoIterator for &'a List<T> {
 
     ghost into_iter_gives = { λ l r. r ≡ values l.now };
 
+    /// Returns an iterator over the values, as `iter` does.
+    ///
+    /// # Complexity
+    /// O(1), and O(1) for each value.
     fn into_iter(self) -> Iter<'a, T> {
         self.iter()
     }
 }
 
-/// The handles of a list, from both ends. A drop frees those that are left.
+/// An iterator that owns a list and returns its elements, from both ends. A contract sees the elements that are left.
+/// Dropping it frees these.
+///
+/// # Complexity
+/// Each `next` and each `next_back` is O(1). Dropping is O(n), for n elements that are left.
 #[derive(Drop)]
 pub struct IntoIter<T> {
     list: List<T>,
@@ -148,6 +181,10 @@ impl<T: Linked<Links<T>>> IntoIterator for List<T> {
 
     ghost into_iter_gives = { λ l r. r ≡ l };
 
+    /// Converts the list into an iterator over its elements, in order.
+    ///
+    /// # Complexity
+    /// O(1), and O(1) for each element.
     fn into_iter(self) -> IntoIter<T> {
         IntoIter { list: self }
     }
@@ -160,10 +197,18 @@ impl<T: Linked<Links<T>>> Iterator for IntoIter<T> {
 
     ghost remaining = { item_count (λ s. s) };
 
+    /// Returns the first element that is left, or `None` if none is.
+    ///
+    /// # Complexity
+    /// O(1).
     fn next(&mut self) -> Option<T::Handle> {
         self.list.pop_front()
     }
 
+    /// Returns the number of elements that are left, as both bounds.
+    ///
+    /// # Complexity
+    /// O(1).
     fn size_hint(&self) -> (usize, Option<usize>)
         ensures lower { IsWithinCount result.0 (at_most (length self.now)) }
         ensures upper { IfSome result.1 (UpTo (at_most (length self.now))) }
@@ -177,12 +222,20 @@ impl<T: Linked<Links<T>>> Iterator for IntoIter<T> {
 impl<T: Linked<Links<T>>> DoubleEndedIterator for IntoIter<T> {
     ghost next_back_gives = { YieldsLastBy T.element (λ s. s) };
 
+    /// Returns the last element that is left, or `None` if none is.
+    ///
+    /// # Complexity
+    /// O(1).
     fn next_back(&mut self) -> Option<T::Handle> {
         self.list.pop_back()
     }
 }
 
 impl<T: Linked<Links<T>>> ExactSizeIterator for IntoIter<T> {
+    /// Returns the number of elements that are left.
+    ///
+    /// # Complexity
+    /// O(1).
     fn len(&self) -> usize {
         self.list.len()
     }

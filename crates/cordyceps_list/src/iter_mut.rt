@@ -1,4 +1,4 @@
-//! Values of a list that are lent one at a time.
+//! The iterator over mutable references to the values of a list.
 ghost use Rattle.std.specs.Prelude.{◌≡◌, ◌+◌, ◌-◌, ◌<◌, ◌≤◌, length, slice_get, Some, None, nat_lt, [], if◌then◌else◌};
 ghost use Rattle.std.specs.Option.{option_copied_mut};
 ghost use Rattle.std.specs.Borrow.{sem};
@@ -9,7 +9,13 @@ use crate::finger::Fingers;
 use crate::list::{Links, List};
 use cordyceps_base::linked::Linked;
 
-/// The values of a list from both ends, lent one at a time. Each step takes a move or two along links.
+/// An iterator over mutable references to the values of a list, from both ends. A contract sees the elements and the
+/// two indexes between which the values are left.
+///
+/// It is no `Iterator`, since a reference has to end before the next one is returned.
+///
+/// # Complexity
+/// Each `next` and each `next_back` is O(1).
 pub struct IterMut<'a, T> {
     list: &'a mut List<T>,
     front: usize,
@@ -21,6 +27,10 @@ pub struct IterMut<'a, T> {
 impl<T> Drop for IterMut<'_, T> {
     ghost use Rattle.cordyceps_list.specs.IterMut.{elements};
 
+    /// Ends the iterator. The list then has the iterator's elements.
+    ///
+    /// # Complexity
+    /// O(1).
     fn drop(self)
         ensures { self.exit.0.now ≡ elements self.entry }
     {
@@ -35,7 +45,10 @@ impl<T> Drop for IterMut<'_, T> {
 impl<T: Linked<Links<T>>> List<T> {
     ghost use Rattle.cordyceps_list.specs.IterMut.{elements, from, to, lender};
 
-    /// The values, in order, to be changed.
+    /// Returns an `IterMut` over the values, in order.
+    ///
+    /// # Complexity
+    /// O(1), and O(1) for each value.
     pub fn iter_mut(&mut self) -> IterMut<'_, T>
         ensures same_reference { lender result ≡ self.entry.ghost_name }
         ensures elements { elements result ≡ self.old }
@@ -55,14 +68,20 @@ impl<T: Linked<Links<T>>> List<T> {
 impl<'a, T: Linked<Links<T>>> IterMut<'a, T> {
     ghost use Rattle.cordyceps_list.specs.IterMut.{elements, from, to, LendsAndSpans};
 
-    /// How many values are left.
+    /// Returns the number of values that are left.
+    ///
+    /// # Complexity
+    /// O(1).
     pub fn len(&self) -> usize
         ensures { result ≡ to self.now - from self.now }
     {
         self.back - self.front
     }
 
-    /// Lends the first value that is left. `None` where none is, from then on.
+    /// Returns a mutable reference to the first value that is left, or `None` if none is. The element keeps its number.
+    ///
+    /// # Complexity
+    /// O(1).
     #[tactic(auto, using(cordyceps_base::proofs::Places::length_with_value))]
     pub fn next(&mut self) -> Option<&mut T>
         ensures* writes_back { sem 𝓛
@@ -81,7 +100,10 @@ impl<'a, T: Linked<Links<T>>> IterMut<'a, T> {
         Some(list.value_mut_passing(at))
     }
 
-    /// Lends the last value that is left. `None` where none is, from then on.
+    /// Returns a mutable reference to the last value that is left, or `None` if none is. The element keeps its number.
+    ///
+    /// # Complexity
+    /// O(1).
     #[tactic(auto, using(cordyceps_base::proofs::Places::length_with_value))]
     pub fn next_back(&mut self) -> Option<&mut T>
         ensures* writes_back { sem 𝓛

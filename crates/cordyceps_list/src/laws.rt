@@ -1,4 +1,4 @@
-//! Laws of lists. Each is a small function whose contract is the law, and whose body is the calls that it speaks of.
+//! Laws of lists. Each is a small function whose contract is the law, and whose body is the calls that it is about.
 ghost use Rattle.std.specs.Prelude.{◌≡◌, ◌+◌, ◌-◌, ◌%◌, ◌*◌, ◌<◌, ◌≤◌, ◌∷◌, [], ◌++◌, length, take, drop, option_map, Some};
 ghost use Rattle.std.specs.Fn.{FnOnceReturnsAt, FnOnceReturnsAtPair};
 ghost use Rattle.cordyceps_list.specs.Turns.{parts_by};
@@ -11,8 +11,13 @@ use crate::iter::IntoIter;
 use crate::list::{Links, List};
 use cordyceps_base::linked::Linked;
 
-/// What is pushed first is popped first, and the list is as it was. Between the two, `look` is shown the list with the
-/// element first; its answer comes first.
+/// Pushes an element to the front and pops it. The popped element is the pushed one, and the list is as it was.
+///
+/// Between the two calls `look` is called with the list, which has the element first. Returns its result and the popped
+/// handle. Requires a length below `usize::MAX`, and that `look` can be called.
+///
+/// # Complexity
+/// O(1), and what `look` takes.
 pub fn pop_pushed_front<T: Linked<Links<T>>, R, F: FnOnce(&List<T>) -> R>(
     list: &mut List<T>,
     handle: T::Handle,
@@ -29,8 +34,13 @@ pub fn pop_pushed_front<T: Linked<Links<T>>, R, F: FnOnce(&List<T>) -> R>(
     (shown, list.pop_front())
 }
 
-/// What is pushed last is popped last, and the list is as it was. Between the two, `look` is shown the list with the
-/// element last; its answer comes first.
+/// Pushes an element to the back and pops it. The popped element is the pushed one, and the list is as it was.
+///
+/// Between the two calls `look` is called with the list, which has the element last. Returns its result and the popped
+/// handle. Requires a length below `usize::MAX`, and that `look` can be called.
+///
+/// # Complexity
+/// O(1), and what `look` takes.
 pub fn pop_pushed_back<T: Linked<Links<T>>, R, F: FnOnce(&List<T>) -> R>(
     list: &mut List<T>,
     handle: T::Handle,
@@ -47,8 +57,13 @@ pub fn pop_pushed_back<T: Linked<Links<T>>, R, F: FnOnce(&List<T>) -> R>(
     (shown, list.pop_back())
 }
 
-/// What is split off and appended again restores the list. Between the two, `look` is shown what was kept and what was
-/// split off. Gives its answer.
+/// Splits the list at an index and appends what was split off. The list is as it was.
+///
+/// Between the two calls `look` is called with what was kept and what was split off. Returns its result. Requires that
+/// the index is at most the length, and that `look` can be called.
+///
+/// # Complexity
+/// That of `split_off`, and what `look` takes.
 pub fn append_split_off<T: Linked<Links<T>>, R, F: FnOnce(&List<T>, &List<T>) -> R>(
     list: &mut List<T>,
     at: usize,
@@ -66,7 +81,7 @@ pub fn append_split_off<T: Linked<Links<T>>, R, F: FnOnce(&List<T>, &List<T>) ->
     shown
 }
 
-/// Asks `next`, and puts what it gives behind those from the front.
+/// Calls `next`, and appends its result to those from the front.
 fn move_first<T: Linked<Links<T>>>(left: &mut IntoIter<T>, firsts: &mut List<T>)
     requires { length firsts.old + length left.old ≤ usize.MAX }
     ensures firsts { firsts.new ≡ firsts.old ++ take 1 left.old }
@@ -77,7 +92,7 @@ fn move_first<T: Linked<Links<T>>>(left: &mut IntoIter<T>, firsts: &mut List<T>)
     }
 }
 
-/// Asks `next_back`, and puts what it gives before those from the back.
+/// Calls `next_back`, and prepends its result to those from the back.
 fn move_last<T: Linked<Links<T>>>(left: &mut IntoIter<T>, lasts: &mut List<T>)
     requires { length left.old + length lasts.old ≤ usize.MAX }
     ensures lasts { lasts.new ≡ drop (length left.old - 1) left.old ++ lasts.old }
@@ -88,8 +103,13 @@ fn move_last<T: Linked<Links<T>>>(left: &mut IntoIter<T>, lasts: &mut List<T>)
     }
 }
 
-/// Takes elements from both ends in turn: `true` asks `next`, and `false` asks `next_back`. Those from the front, those
-/// that are left, and those from the back are all elements, each once and in order.
+/// Takes elements from both ends in turn: `true` calls `next`, and `false` calls `next_back`. Returns those from the
+/// front, the iterator over those that are left, and those from the back.
+///
+/// Together these are all elements, each once and in order.
+///
+/// # Complexity
+/// O(k), for k turns.
 pub fn take_from_both_ends<T: Linked<Links<T>>>(
     list: List<T>,
     turns: &[bool],
@@ -115,7 +135,11 @@ pub fn take_from_both_ends<T: Linked<Links<T>>>(
 impl<'a, T: Linked<Links<T>>> CursorMut<'a, T> {
     ghost use Rattle.cordyceps_list.specs.Cursor.{elements, place, Stands};
 
-    /// Moves on so often. One move more than there are elements leads to the same place.
+    /// Moves the cursor to the next place `moves` times. One move more than there are elements leads back to the same
+    /// place.
+    ///
+    /// # Complexity
+    /// O(`moves`).
     pub fn go_on(&mut self, moves: usize)
         ensures moved { Stands self.old self.new (elements self.old)
             ((place self.old + moves) % (length (elements self.old) + 1)) }
@@ -128,8 +152,11 @@ impl<'a, T: Linked<Links<T>>> CursorMut<'a, T> {
         }
     }
 
-    /// Moves back so often. A move back leads where as many moves on as there are elements lead, and one move back more
-    /// than there are elements leads to the same place.
+    /// Moves the cursor to the previous place `moves` times. This leads to the same place as `moves` times the length
+    /// moves to the next place. One move more than there are elements leads back to the same place.
+    ///
+    /// # Complexity
+    /// O(`moves`).
     pub fn go_back(&mut self, moves: usize)
         ensures moved { Stands self.old self.new (elements self.old)
             ((place self.old + moves * length (elements self.old)) % (length (elements self.old) + 1)) }

@@ -1,4 +1,4 @@
-//! The list.
+//! The doubly linked list.
 ghost use Rattle.std.specs.Prelude.{◌≡◌, ◌+◌, ◌-◌, ◌<◌, ◌==◌, [], ◌∷◌, ◌++◌, length, slice_get, MatchOption, MatchResult, option_copied, Some};
 ghost use Rattle.std.specs.Option.{option_copied_mut};
 ghost use Rattle.std.specs.Borrow.{sem};
@@ -13,8 +13,11 @@ use std::marker::Model;
 
 /// A doubly linked list of owned nodes. A contract sees its elements, in order.
 ///
-/// Handles go in and come out as the same elements; linking takes no memory and cannot be refused. The list knows its
-/// length. A drop frees each node once.
+/// A handle that is put in comes out as the same element. Linking allocates nothing and cannot be refused. The list
+/// stores its length. The interface follows that of `List` in the Rust crate `cordyceps`.
+///
+/// # Complexity
+/// Dropping the list frees each node once: O(n), for n elements.
 #[derive(Drop)]
 pub struct List<T> {
     pub(crate) chain: DoubleChain<T>,
@@ -36,6 +39,10 @@ impl<T> Model for List<T> {
 impl<T: Linked<Links<T>>> Default for List<T> {
     ghost is_default = { λ l. l ≡ [] };
 
+    /// Creates an empty list, as `new` does.
+    ///
+    /// # Complexity
+    /// O(1).
     fn default() -> List<T> {
         List::new()
     }
@@ -44,7 +51,10 @@ impl<T: Linked<Links<T>>> Default for List<T> {
 impl<T: Linked<Links<T>>> List<T> {
     ghost use Rattle.cordyceps_list.specs.Lending.{LendsAt, LendsIfAt};
 
-    /// An empty list. It takes no memory.
+    /// Creates an empty list. Allocates nothing.
+    ///
+    /// # Complexity
+    /// O(1).
     pub fn new() -> List<T>
         ensures { result ≡ [] }
     {
@@ -53,7 +63,10 @@ impl<T: Linked<Links<T>>> List<T> {
         List { chain, fingers }
     }
 
-    /// A list of the nodes of a chain, at once, for a collection that keeps its nodes in one.
+    /// Creates a list of the nodes of a chain, for a collection that keeps its nodes in one.
+    ///
+    /// # Complexity
+    /// O(1).
     pub fn from_chain(chain: DoubleChain<T>) -> List<T>
         ensures { result ≡ elements chain }
     {
@@ -63,7 +76,10 @@ impl<T: Linked<Links<T>>> List<T> {
         }
     }
 
-    /// The nodes as a chain, at once, for a collection that keeps its nodes in one.
+    /// Converts the list into the chain of its nodes, for a collection that keeps its nodes in one.
+    ///
+    /// # Complexity
+    /// O(1).
     pub fn into_chain(self) -> DoubleChain<T>
         ensures { elements result ≡ self }
     {
@@ -71,21 +87,30 @@ impl<T: Linked<Links<T>>> List<T> {
         chain
     }
 
-    /// The number of elements, at once.
+    /// Returns the number of elements.
+    ///
+    /// # Complexity
+    /// O(1).
     pub fn len(&self) -> usize
         ensures { result ≡ length self.now }
     {
         self.chain.len()
     }
 
-    /// Whether there is no element.
+    /// Returns `true` if the list has no element.
+    ///
+    /// # Complexity
+    /// O(1).
     pub fn is_empty(&self) -> bool
         ensures { result ≡ (length self.now == 0) }
     {
         self.len() == 0
     }
 
-    /// Puts an element first, at once. There must be room in the length.
+    /// Prepends an element to the list. Requires a length below `usize::MAX`.
+    ///
+    /// # Complexity
+    /// O(1).
     pub fn push_front(&mut self, handle: T::Handle)
         requires { length self.old < usize.MAX }
         ensures { self.new ≡ T.element handle ∷ self.old }
@@ -94,7 +119,10 @@ impl<T: Linked<Links<T>>> List<T> {
         self.chain.link_front(T::into_ptr(handle));
     }
 
-    /// Puts an element last, at once. There must be room in the length.
+    /// Appends an element to the back of the list. Requires a length below `usize::MAX`.
+    ///
+    /// # Complexity
+    /// O(1).
     pub fn push_back(&mut self, handle: T::Handle)
         requires { length self.old < usize.MAX }
         ensures { self.new ≡ self.old ++ T.element handle ∷ [] }
@@ -103,10 +131,13 @@ impl<T: Linked<Links<T>>> List<T> {
         self.chain.link_back(T::into_ptr(handle));
     }
 
-    /// Puts an element first, at once, where there is room in the length.
+    /// Prepends an element to the list, if the length is below `usize::MAX`.
     ///
     /// # Errors
-    /// A list of `usize::MAX` elements hands the handle back, and stays as it was.
+    /// At a length of `usize::MAX` the handle is returned, and the list is unchanged.
+    ///
+    /// # Complexity
+    /// O(1).
     pub fn try_push_front(&mut self, handle: T::Handle) -> Result<(), T::Handle>
         ensures { MatchResult result
             (λ _. (length self.old < usize.MAX) × (self.new ≡ T.element handle ∷ self.old))
@@ -119,10 +150,13 @@ impl<T: Linked<Links<T>>> List<T> {
         Ok(())
     }
 
-    /// Puts an element last, at once, where there is room in the length.
+    /// Appends an element to the back of the list, if the length is below `usize::MAX`.
     ///
     /// # Errors
-    /// A list of `usize::MAX` elements hands the handle back, and stays as it was.
+    /// At a length of `usize::MAX` the handle is returned, and the list is unchanged.
+    ///
+    /// # Complexity
+    /// O(1).
     pub fn try_push_back(&mut self, handle: T::Handle) -> Result<(), T::Handle>
         ensures { MatchResult result
             (λ _. (length self.old < usize.MAX) × (self.new ≡ self.old ++ T.element handle ∷ []))
@@ -135,7 +169,10 @@ impl<T: Linked<Links<T>>> List<T> {
         Ok(())
     }
 
-    /// Takes the first element out, at once. `None` where there is none.
+    /// Removes the first element and returns it, or `None` if the list is empty.
+    ///
+    /// # Complexity
+    /// O(1).
     pub fn pop_front(&mut self) -> Option<T::Handle>
         ensures { MatchOption result ((self.old ≡ []) × (self.new ≡ [])) (λ h. self.old ≡ T.element h ∷ self.new) }
     {
@@ -146,7 +183,10 @@ impl<T: Linked<Links<T>>> List<T> {
         Some(T::from_ptr(self.chain.unlink_front()))
     }
 
-    /// Takes the last element out, at once. `None` where there is none.
+    /// Removes the last element and returns it, or `None` if the list is empty.
+    ///
+    /// # Complexity
+    /// O(1).
     pub fn pop_back(&mut self) -> Option<T::Handle>
         ensures { MatchOption result ((self.old ≡ []) × (self.new ≡ []))
             (λ h. self.old ≡ self.new ++ T.element h ∷ []) }
@@ -159,7 +199,10 @@ impl<T: Linked<Links<T>>> List<T> {
         Some(T::from_ptr(self.chain.unlink_back()))
     }
 
-    /// The first value. `None` where there is none.
+    /// Returns a reference to the first value, or `None` if the list is empty.
+    ///
+    /// # Complexity
+    /// O(1).
     pub fn front(&self) -> Option<&T>
         ensures { option_copied result ≡ slice_get (values self.now) 0 }
     {
@@ -169,7 +212,10 @@ impl<T: Linked<Links<T>>> List<T> {
         Some(self.chain.get(self.chain.head(), 0))
     }
 
-    /// The last value. `None` where there is none.
+    /// Returns a reference to the last value, or `None` if the list is empty.
+    ///
+    /// # Complexity
+    /// O(1).
     pub fn back(&self) -> Option<&T>
         ensures { option_copied result ≡ slice_get (values self.now) (length self.now - 1) }
     {
@@ -179,7 +225,10 @@ impl<T: Linked<Links<T>>> List<T> {
         Some(self.chain.get(self.chain.tail(), self.chain.len() - 1))
     }
 
-    /// The first value, to be changed. The element keeps its number. `None` where there is none.
+    /// Returns a mutable reference to the first value, or `None` if the list is empty. The element keeps its number.
+    ///
+    /// # Complexity
+    /// O(1).
     pub fn front_mut(&mut self) -> Option<&mut T>
         ensures* writes_back { sem 𝓛 (LendsIfAt T.row self.entry 0 result) }
         ensures value { option_copied_mut result ≡ slice_get (values self.old) 0 }
@@ -190,7 +239,10 @@ impl<T: Linked<Links<T>>> List<T> {
         Some(self.value_mut_at(0))
     }
 
-    /// The last value, to be changed. The element keeps its number. `None` where there is none.
+    /// Returns a mutable reference to the last value, or `None` if the list is empty. The element keeps its number.
+    ///
+    /// # Complexity
+    /// O(1).
     pub fn back_mut(&mut self) -> Option<&mut T>
         ensures* writes_back { sem 𝓛 (LendsIfAt T.row self.entry (length self.old - 1) result) }
         ensures value { option_copied_mut result ≡ slice_get (values self.old) (length self.old - 1) }
@@ -202,8 +254,10 @@ impl<T: Linked<Links<T>>> List<T> {
         Some(self.value_mut_at(len - 1))
     }
 
-    /// Lends the value at a place with an element, by at most one move more than it is away from the nearest of the two
-    /// ends and the two fingers.
+    /// Returns a mutable reference to the value at an index. Requires that the index is below the length.
+    ///
+    /// # Complexity
+    /// At most one move along a link more than the index is away from the nearest of the two ends and the two fingers.
     pub(crate) fn value_mut_at(&mut self, at: usize) -> &mut T
         requires { at < length self.old }
         ensures* writes_back { sem 𝓛 (LendsAt T.row self.entry at result) }
@@ -213,7 +267,11 @@ impl<T: Linked<Links<T>>> List<T> {
         self.chain.get_mut(place, at)
     }
 
-    /// The same, and the front finger goes on to the place behind, so that a walk from the front finds it there.
+    /// Returns a mutable reference to the value at an index, and moves the front finger to the next index, where a walk
+    /// from the front continues. Requires that the index is below the length and below `usize::MAX`.
+    ///
+    /// # Complexity
+    /// That of `value_mut_at`, and one move more.
     pub(crate) fn value_mut_passing(&mut self, at: usize) -> &mut T
         requires inside { at < length self.old }
         requires room { at < usize.MAX }

@@ -1,4 +1,4 @@
-//! Elements that are put in and taken out at places.
+//! Elements that are inserted and removed at places.
 ghost use Rattle.std.specs.Prelude.{◌≡◌, ◌+◌, ◌<◌, ◌≤◌, ◌∷◌, ◌++◌, length, take, drop, slice_get, option_copied, option_map, MatchOption, None, Some};
 ghost use Rattle.cordyceps_base.specs.Element.{found, values, without};
 ghost use Rattle.cordyceps_base.specs.Nodes.{elements};
@@ -9,7 +9,7 @@ use crate::list::{Links, List};
 use cordyceps_base::double_chain::DoubleChain;
 use cordyceps_base::linked::Linked;
 
-/// The first node with a number, sought from the front.
+/// Returns a finger on the first node with a number, sought from the front.
 fn find<T>(chain: &DoubleChain<T>, id: u64) -> Option<Finger>
     ensures on { MatchOption result (found id (elements chain.now) ≡ None)
         (λ f. IsOn chain.now f × (found id (elements chain.now) ≡ slice_get (elements chain.now) f.index)) }
@@ -31,8 +31,11 @@ fn find<T>(chain: &DoubleChain<T>, id: u64) -> Option<Finger>
 }
 
 impl<T: Linked<Links<T>>> List<T> {
-    /// Takes out the first element with this number, and answers it. Where there is none it answers `None`, and changes
-    /// nothing. It walks from the front to that element.
+    /// Removes the first element with this number and returns it. If there is none, it returns `None`, and the list is
+    /// unchanged.
+    ///
+    /// # Complexity
+    /// O(k), where k is the index of that element, or the length if there is none: it walks from the front.
     pub fn remove(&mut self, id: u64) -> Option<T::Handle>
         ensures answer { option_map T.element result ≡ found id self.old }
         ensures kept { self.new ≡ without id self.old }
@@ -42,8 +45,9 @@ impl<T: Linked<Links<T>>> List<T> {
         Some(self.remove_at(found.index))
     }
 
-    /// Takes out the element at a place, and leaves the front finger on the one that is there then. As a part of its
-    /// caller it needs no search where that has just sought this place.
+    /// Removes the element at an index, and leaves the front finger on the node that is at the index then. Requires
+    /// that the index is below the length. It is inlined, so that it costs no search where its caller has just sought
+    /// this index.
     #[inline(always)]
     pub(crate) fn remove_at(&mut self, at: usize) -> T::Handle
         requires { at < length self.old }
@@ -61,7 +65,7 @@ impl<T: Linked<Links<T>>> List<T> {
         T::from_ptr(self.chain.unlink(place, at))
     }
 
-    /// Takes out the element at a place, if there is one.
+    /// Removes the element at an index and returns it, or `None` if the index is not below the length.
     #[inline(always)]
     pub(crate) fn take_at(&mut self, at: usize) -> Option<T::Handle>
         ensures answer { option_map T.element result ≡ slice_get self.old at }
@@ -74,7 +78,8 @@ impl<T: Linked<Links<T>>> List<T> {
         }
     }
 
-    /// Puts all elements of `other` in at a place.
+    /// Inserts all elements of `other` at a place. Requires that the place is at most the length, and that the sum of
+    /// the lengths is at most `usize::MAX`.
     pub(crate) fn splice_at(&mut self, at: usize, other: List<T>)
         requires within { at ≤ length self.old }
         requires fits { length self.old + length other ≤ usize.MAX }
@@ -86,8 +91,8 @@ impl<T: Linked<Links<T>>> List<T> {
         self.chain.splice(place, at, chain);
     }
 
-    /// Puts all elements of `other` in behind the one at a place. A finger stays on that one, so that a call there takes
-    /// no walk through what was put in.
+    /// Inserts all elements of `other` after the one at an index. A finger stays on that one, so that a call there does
+    /// not walk through the new elements.
     pub(crate) fn splice_behind(&mut self, at: usize, other: List<T>)
         requires inside { at < length self.old }
         requires fits { length self.old + length other ≤ usize.MAX }
@@ -100,7 +105,7 @@ impl<T: Linked<Links<T>>> List<T> {
         self.chain.splice(behind, at + 1, chain);
     }
 
-    /// Puts an element in at a place.
+    /// Inserts an element at a place. Requires that the place is at most the length, and a length below `usize::MAX`.
     pub(crate) fn insert_at(&mut self, at: usize, handle: T::Handle)
         requires within { at ≤ length self.old }
         requires fits { length self.old < usize.MAX }
@@ -111,14 +116,14 @@ impl<T: Linked<Links<T>>> List<T> {
         self.chain.link(place, at, T::into_ptr(handle));
     }
 
-    /// Moves a finger to a place, so that calls near it take few moves.
+    /// Moves a finger to a place, so that calls near it are O(1).
     pub(crate) fn stand_at(&mut self, at: usize)
         ensures { self.new ≡ self.old }
     {
         self.fingers.seek_within(&self.chain, at);
     }
 
-    /// The value at a place, if there is one.
+    /// Returns a reference to the value at an index, or `None` if the index is not below the length.
     pub(crate) fn get_at(&self, at: usize) -> Option<&T>
         ensures { option_copied result ≡ slice_get (values self.now) at }
     {
@@ -131,7 +136,8 @@ impl<T: Linked<Links<T>>> List<T> {
         }
     }
 
-    /// Keeps the elements before a place, and answers the others.
+    /// Splits the list at a place, and returns the elements from there on. Requires that the place is at most the
+    /// length.
     pub(crate) fn split_at(&mut self, at: usize) -> List<T>
         requires { at ≤ length self.old }
         ensures kept { self.new ≡ take at self.old }

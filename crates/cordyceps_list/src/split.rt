@@ -10,7 +10,8 @@ use cordyceps_base::linked::Linked;
 use cordyceps_base::steps::Steps;
 use std::mem;
 
-/// The address of the node before place `at`, found from the nearer end, from the head where both are equally far.
+/// Returns the address of the node before the place `at`, found from the nearer end, or from the head if both are
+/// equally near.
 fn node_before<T>(chain: &DoubleChain<T>, at: usize, steps: &mut Steps) -> Address
     requires inside { (0 < at) × (at < length chain.now) }
     requires room { steps.old + min (at - 1) (length chain.now - at) < 2 ^ 64 }
@@ -28,7 +29,11 @@ fn node_before<T>(chain: &DoubleChain<T>, at: usize, steps: &mut Steps) -> Addre
 }
 
 impl<T: Linked<Links<T>>> List<T> {
-    /// Moves all elements of `other` behind those of this list, at once. The sum of the lengths must fit.
+    /// Moves all elements of `other` to the back of this list, and leaves `other` empty. Requires that the sum of the
+    /// lengths is at most `usize::MAX`.
+    ///
+    /// # Complexity
+    /// O(1).
     pub fn append(&mut self, other: &mut List<T>)
         requires { length self.old + length other.old ≤ usize.MAX }
         ensures joined { self.new ≡ self.old ++ other.old }
@@ -41,7 +46,11 @@ impl<T: Linked<Links<T>>> List<T> {
         self.chain.put(nodes.join(more));
     }
 
-    /// Keeps the elements before the place `at`, and answers the others. See `try_split_off_in` for its cost.
+    /// Splits the list at an index, and returns the elements from there on. Requires that the index is at most the
+    /// length.
+    ///
+    /// # Complexity
+    /// O(min(at, n - at)), for n elements: it walks from the nearer end.
     pub fn split_off(&mut self, at: usize) -> List<T>
         requires { at ≤ length self.old }
         ensures kept { self.new ≡ take at self.old }
@@ -53,8 +62,11 @@ impl<T: Linked<Links<T>>> List<T> {
         }
     }
 
-    /// Keeps the elements before the place `at`, and answers the others. Beyond the length it answers `None`, and
-    /// changes nothing. See `try_split_off_in` for its cost.
+    /// Splits the list at an index, and returns the elements from there on. If the index is above the length, it
+    /// returns `None`, and the list is unchanged.
+    ///
+    /// # Complexity
+    /// O(min(at, n - at)), for n elements: it walks from the nearer end.
     pub fn try_split_off(&mut self, at: usize) -> Option<List<T>>
         ensures variant { IsSome result ↔ (at ≤ length self.old) }
         ensures some { IfSome result (λ rest. (self.new ≡ take at self.old) × (rest ≡ drop at self.old)) }
@@ -63,8 +75,11 @@ impl<T: Linked<Links<T>>> List<T> {
         self.try_split_off_in(at, &mut Steps::new())
     }
 
-    /// As `try_split_off`, and adds the moves along links to a count: strictly inside the list it goes to the node
-    /// before the place from the nearer end, and else it makes none. The count must have room for them.
+    /// Splits the list as `try_split_off` does, and adds the number of moves along links to `steps`. Requires that the
+    /// count stays at most `u64::MAX`.
+    ///
+    /// # Complexity
+    /// For n elements it makes min(at - 1, n - at) moves if 0 < `at` < n, and else none.
     pub fn try_split_off_in(&mut self, at: usize, steps: &mut Steps) -> Option<List<T>>
         requires { steps.old + min (at - 1) (length self.old - at) < 2 ^ 64 }
         ensures variant { IsSome result ↔ (at ≤ length self.old) }

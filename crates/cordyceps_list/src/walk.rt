@@ -11,8 +11,8 @@ use crate::list::{Links, List};
 use cordyceps_base::double_chain::DoubleChain;
 use cordyceps_base::linked::Linked;
 
-/// Asks the predicate of the values from a finger's place on, up to the first `true`. Answers that place, or the one
-/// behind the last node.
+/// Calls the predicate on the values from a finger's place on, up to the first `true`, and returns a finger there, or
+/// after the last node if there is none.
 fn first_passing<T, F: FnMut(&T) -> bool>(
     chain: &DoubleChain<T>,
     from: Finger,
@@ -37,7 +37,8 @@ fn first_passing<T, F: FnMut(&T) -> bool>(
 }
 
 impl<T: Linked<Links<T>>> List<T> {
-    /// The same, from a place of the list on.
+    /// Calls the predicate on the values from a place on, up to the first `true`, and returns its index, or the length
+    /// if there is none.
     pub(crate) fn first_passing<F: FnMut(&T) -> bool>(
         &mut self,
         at: usize,

@@ -1,4 +1,4 @@
-//! Laws of iterators that lend values to be changed.
+//! Laws of iterators that return mutable references.
 ghost use Rattle.std.specs.Prelude.{◌≡◌, ◌-◌, ◌++◌, length, take, drop, reverse, IfOk, OnOk};
 ghost use Rattle.std.specs.Iterator.{YieldsFirst, YieldsLast};
 ghost use Rattle.cordyceps_base.specs.Element.{values};
@@ -10,7 +10,7 @@ use crate::list::{Links, List};
 use cordyceps_base::linked::Linked;
 use std::alloc::{AllocError, Global};
 
-/// Copies the value that `next` lends.
+/// Returns a copy of the value that `next` returns.
 fn copied_next<T: Linked<Links<T>> + Copy>(left: &mut IterMut<'_, T>) -> Option<T>
     ensures same_reference { lender left.new ≡ lender left.old }
     ensures elements { elements left.new ≡ elements left.old }
@@ -22,7 +22,7 @@ fn copied_next<T: Linked<Links<T>> + Copy>(left: &mut IterMut<'_, T>) -> Option<
     Some(*value)
 }
 
-/// Copies the value that `next_back` lends.
+/// Returns a copy of the value that `next_back` returns.
 fn copied_next_back<T: Linked<Links<T>> + Copy>(left: &mut IterMut<'_, T>) -> Option<T>
     ensures same_reference { lender left.new ≡ lender left.old }
     ensures elements { elements left.new ≡ elements left.old }
@@ -34,7 +34,7 @@ fn copied_next_back<T: Linked<Links<T>> + Copy>(left: &mut IterMut<'_, T>) -> Op
     Some(*value)
 }
 
-/// Asks `next`, and puts a copy of what it lends behind those from the front.
+/// Calls `next`, and appends a copy of its result to those from the front.
 fn copy_first<T: Linked<Links<T>> + Copy>(
     left: &mut IterMut<'_, T>,
     firsts: &mut Vec<T>,
@@ -50,7 +50,7 @@ fn copy_first<T: Linked<Links<T>> + Copy>(
     Ok(())
 }
 
-/// Asks `next_back`, and puts a copy of what it lends behind those from the back.
+/// Calls `next_back`, and appends a copy of its result to those from the back.
 fn copy_last<T: Linked<Links<T>> + Copy>(
     left: &mut IterMut<'_, T>,
     lasts: &mut Vec<T>,
@@ -67,9 +67,17 @@ fn copy_last<T: Linked<Links<T>> + Copy>(
     Ok(())
 }
 
-/// Borrows the values from both ends in turn: `true` asks `next`, and `false` asks `next_back`. What is left then comes
-/// from the front. Copies of those from the front, and of those from the back, the last lent first, are all values,
-/// each once and in order.
+/// Copies the values from both ends in turn: `true` calls `next`, and `false` calls `next_back`. The values that are
+/// left then follow from the front. Returns those from the front, in order, and those from the back, the last one
+/// first.
+///
+/// The first and the second reversed are together all values, each once and in order.
+///
+/// # Errors
+/// If memory is refused, it returns `AllocError`.
+///
+/// # Complexity
+/// O(k + n), for k turns and n elements, with amortized O(1) for each value that it collects.
 pub fn copy_from_both_ends<T: Linked<Links<T>> + Copy>(
     alloc: Global,
     list: &mut List<T>,

@@ -1,4 +1,4 @@
-//! Laws of shared cursors and of iterators that lend values.
+//! Laws of cursors and iterators that read.
 ghost use Rattle.std.specs.Prelude.{◌≡◌, ◌+◌, ◌-◌, ◌*◌, ◌%◌, ◌++◌, length, take, drop, map, reverse, IfOk, OnOk};
 ghost use Rattle.cordyceps_base.specs.Element.{values};
 ghost use Rattle.cordyceps_list.specs.Turns.{parts_by};
@@ -9,7 +9,7 @@ use crate::list::{Links, List};
 use cordyceps_base::linked::Linked;
 use std::alloc::{AllocError, Global};
 
-/// Asks `next`, and puts what it gives behind those from the front.
+/// Calls `next`, and appends its result to those from the front.
 fn read_first<'a, T: Linked<Links<T>>>(
     left: &mut Iter<'a, T>,
     firsts: &mut Vec<&'a T>,
@@ -24,7 +24,7 @@ fn read_first<'a, T: Linked<Links<T>>>(
     Ok(())
 }
 
-/// Asks `next_back`, and puts what it gives behind those from the back.
+/// Calls `next_back`, and appends its result to those from the back.
 fn read_last<'a, T: Linked<Links<T>>>(
     left: &mut Iter<'a, T>,
     lasts: &mut Vec<&'a T>,
@@ -39,9 +39,17 @@ fn read_last<'a, T: Linked<Links<T>>>(
     Ok(())
 }
 
-/// Reads the values from both ends in turn: `true` asks `next`, and `false` asks `next_back`. What is left then comes
-/// from the front. Those from the front, and those from the back, the last read first, are all values, each once and in
-/// order.
+/// Reads the values from both ends in turn: `true` calls `next`, and `false` calls `next_back`. The values that are
+/// left then follow from the front. Returns those from the front, in order, and those from the back, the last one
+/// first.
+///
+/// The first and the second reversed are together all values, each once and in order.
+///
+/// # Errors
+/// If memory is refused, it returns `AllocError`.
+///
+/// # Complexity
+/// O(k + n), for k turns and n elements, with amortized O(1) for each value that it collects.
 pub fn read_from_both_ends<'a, T: Linked<Links<T>>>(
     alloc: Global,
     list: &'a List<T>,
@@ -71,7 +79,11 @@ pub fn read_from_both_ends<'a, T: Linked<Links<T>>>(
 }
 
 impl<'a, T: Linked<Links<T>>> Cursor<'a, T> {
-    /// Moves on so often. One move more than there are elements leads to the same place.
+    /// Moves the cursor to the next place `moves` times. One move more than there are elements leads back to the same
+    /// place.
+    ///
+    /// # Complexity
+    /// O(`moves`).
     pub fn go_on(&mut self, moves: usize)
         ensures elements { self.new.elements ≡ self.old.elements }
         ensures place { self.new.place ≡ (self.old.place + moves) % (length self.old.elements + 1) }
@@ -83,8 +95,11 @@ impl<'a, T: Linked<Links<T>>> Cursor<'a, T> {
         }
     }
 
-    /// Moves back so often. A move back leads where as many moves on as there are elements lead, and one move back more
-    /// than there are elements leads to the same place.
+    /// Moves the cursor to the previous place `moves` times. This leads to the same place as `moves` times the length
+    /// moves to the next place. One move more than there are elements leads back to the same place.
+    ///
+    /// # Complexity
+    /// O(`moves`).
     pub fn go_back(&mut self, moves: usize)
         ensures elements { self.new.elements ≡ self.old.elements }
         ensures place { self.new.place
