@@ -1,4 +1,4 @@
-//! Cursors that go from spot to spot.
+//! Cursors that move from spot to spot.
 ghost use Rattle.std.specs.Prelude.{◌≡◌, IfSome, Some, None, MatchOption};
 ghost use denote.RawPtr.{Ptr};
 ghost use Rattle.cordyceps_base.specs.BySpot.{HasSpot, HoldsAt};
@@ -8,10 +8,10 @@ use crate::stable_list::{Spot, spot_of};
 use cordyceps_base::double_chain::DoubleChain;
 use std::marker::Model;
 
-/// A cursor by which a stable list is read, or a sorted one. It is at an element, or at the null place, which comes
-/// behind the last element and before the first.
+/// A cursor that reads a stable list or a stable sorted list. A contract sees the nodes and the spot that the cursor is
+/// at.
 ///
-/// Each call takes at most a move along a link.
+/// It is at an element, or at the null place, which is after the last element and before the first.
 #[derive(Drop)]
 pub struct SpotCursor<'a, T> {
     chain: &'a DoubleChain<T>,
@@ -31,7 +31,7 @@ impl<'a, T> Model for SpotCursor<'a, T> {
 }
 
 impl<'a, T> SpotCursor<'a, T> {
-    /// A cursor at a spot of a chain, or at the null place.
+    /// Returns a cursor at a spot of a chain, or at the null place. Requires that the spot is valid.
     pub(crate) fn new(chain: &'a DoubleChain<T>, at: Option<Spot>) -> SpotCursor<'a, T>
         requires { IfSome at (λ p. HasSpot chain.now p) }
         ensures { result ≡ record { nodes = chain.now; spot = at } }
@@ -39,7 +39,7 @@ impl<'a, T> SpotCursor<'a, T> {
         SpotCursor { chain, at }
     }
 
-    /// The place after the cursor's.
+    /// Returns the spot after the cursor's, or `None` for the null place.
     fn place_after(&self) -> Option<Spot>
         ensures place { IsOn self.now.nodes self.now.spot result }
         ensures there { IfSome result (λ p. HasSpot self.now.nodes p) }
@@ -50,7 +50,7 @@ impl<'a, T> SpotCursor<'a, T> {
         }
     }
 
-    /// The place before the cursor's.
+    /// Returns the spot before the cursor's, or `None` for the null place.
     fn place_before(&self) -> Option<Spot>
         ensures place { IsBack self.now.nodes self.now.spot result }
         ensures there { IfSome result (λ p. HasSpot self.now.nodes p) }
@@ -61,7 +61,11 @@ impl<'a, T> SpotCursor<'a, T> {
         }
     }
 
-    /// Moves on to the next element, and from the last to the null place, and from there to the first.
+    /// Moves the cursor to the next element: from the last element to the null place, and from there to the first
+    /// element.
+    ///
+    /// # Complexity
+    /// O(1).
     pub fn move_next(&mut self)
         ensures nodes { self.new.nodes ≡ self.old.nodes }
         ensures moved { IsOn self.old.nodes self.old.spot self.new.spot }
@@ -70,7 +74,11 @@ impl<'a, T> SpotCursor<'a, T> {
         *self = SpotCursor::new(self.chain, at);
     }
 
-    /// Moves back to the element before, and from the first to the null place, and from there to the last.
+    /// Moves the cursor to the previous element: from the first element to the null place, and from there to the last
+    /// element.
+    ///
+    /// # Complexity
+    /// O(1).
     pub fn move_prev(&mut self)
         ensures nodes { self.new.nodes ≡ self.old.nodes }
         ensures moved { IsBack self.old.nodes self.old.spot self.new.spot }
@@ -79,7 +87,10 @@ impl<'a, T> SpotCursor<'a, T> {
         *self = SpotCursor::new(self.chain, at);
     }
 
-    /// Returns the spot of the element that the cursor is at. `None` at the null place.
+    /// Returns the spot of the cursor's element, or `None` at the null place.
+    ///
+    /// # Complexity
+    /// O(1).
     pub fn spot(&self) -> Option<Spot>
         ensures spot { result ≡ self.now.spot }
         ensures there { IfSome result (λ p. HasSpot self.now.nodes p) }
@@ -87,7 +98,10 @@ impl<'a, T> SpotCursor<'a, T> {
         self.at
     }
 
-    /// Returns the value that the cursor is at. `None` at the null place.
+    /// Returns a reference to the value at the cursor, or `None` at the null place.
+    ///
+    /// # Complexity
+    /// O(1).
     pub fn current(&self) -> Option<&'a T>
         ensures { MatchOption result (self.now.spot ≡ None)
             (λ v. (p : Ptr) × (self.now.spot ≡ Some p) × HoldsAt self.now.nodes p v.now) }

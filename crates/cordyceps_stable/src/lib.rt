@@ -1,4 +1,4 @@
-//! Lists whose elements are reached by the spots where they lie.
+//! Lists whose elements are reached by stable pointers, their spots.
 #![tactic(auto)]
 
 mod cursor;

@@ -1,4 +1,4 @@
-//! A node of a chain that gets another value, and one that is parted from the others, each where it lies.
+//! Changes of a node in place: its value is changed, or it is separated from the others and stays at its address.
 ghost use Rattle.std.specs.Prelude.{◌≡◌, ◌+◌, ◌^◌, ◌<◌, [], ◌∷◌, ◌++◌, length};
 ghost use Rattle.std.specs.Fn.{FnOnceReturnsAtMut};
 ghost use Rattle.cordyceps_base.specs.BySpot.{HasSpot, HoldsAt, IsTaken};
@@ -8,7 +8,7 @@ ghost use Rattle.cordyceps_base.specs.Nodes.{Nodes};
 use cordyceps_base::boxes::Address;
 use cordyceps_base::double_chain::DoubleChain;
 
-/// Calls a function on the value at an address, which it may change.
+/// Calls a function on the value at an address, which it may change, and returns its result.
 pub(crate) fn change_at<T, R, F: FnOnce(&mut T) -> R>(
     chain: &mut DoubleChain<T>,
     at: Address,
@@ -24,7 +24,7 @@ pub(crate) fn change_at<T, R, F: FnOnce(&mut T) -> R>(
     change(chain.get_at_mut(at))
 }
 
-/// The nodes without that at `at`, and that alone, where it lay.
+/// Separates the node at `at` from the others, and returns these and that. Each stays at its address.
 pub(crate) fn part_at<T>(chain: DoubleChain<T>, at: Address) -> (DoubleChain<T>, DoubleChain<T>)
     requires { HasSpot chain at.ptr }
     ensures parts { (e : Element T) × IsTaken chain at.ptr e result.0 × (result.1 ≡ (at.ptr, e) ∷ []) }

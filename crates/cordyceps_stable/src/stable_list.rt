@@ -1,4 +1,4 @@
-//! A list whose elements are reached by the spots where they lie.
+//! A list whose elements are reached by their spots.
 ghost use Rattle.std.specs.Prelude.{◌≡◌, ◌+◌, ◌<◌, ◌≤◌, ◌==◌, [], ◌∷◌, ◌++◌, length, slice_get, MatchOption, MatchResult, Some, None};
 ghost use Rattle.std.specs.Borrow.{sem};
 ghost use denote.RawPtr.{Ptr};
@@ -15,10 +15,11 @@ use cordyceps_list::iter::{Iter, over};
 use cordyceps_list::list::{Links, List};
 use std::marker::Model;
 
-/// Where an element of a `StableList` lies. It owns nothing, tells nothing, and can be kept anywhere.
+/// A stable pointer to an element of a `StableList` or a `StableSortedList`. It owns nothing, and can be copied and
+/// kept anywhere.
 ///
-/// It is good for the list that holds an element there, for as long as that does. Nothing checks this when the program
-/// runs: each call that takes a spot requires it.
+/// It is valid for the list that has the element, as long as the list has it. Each call that takes a spot requires a
+/// valid one. Nothing checks this when the program runs.
 #[derive(Clone, Copy)]
 pub struct Spot {
     pub(crate) address: Address,
@@ -34,12 +35,15 @@ impl Model for Spot {
     ghost inverse = { λ p. record { address = record { ptr = p } } };
 }
 
-/// A doubly linked list of owned nodes that hands out a spot for each element. A contract sees the elements in order,
+/// A doubly linked list of owned nodes that returns a spot for each element. A contract sees the elements in order,
 /// each with its spot.
 ///
-/// An element is reached, taken out and moved by its spot, at once. Its spot stays the same while it is in the list,
-/// and also where all elements go to another list. Linking takes no memory and cannot be refused. After each call that
-/// changes the list all spots differ. A drop frees each node once.
+/// An element is reached, removed and moved by its spot. The spot stays the same while the element is in the list, and
+/// also when all elements are moved to another list. After each call that changes the list, its spots are distinct.
+/// Linking allocates nothing and cannot be refused.
+///
+/// # Complexity
+/// Dropping the list frees each node once: O(n), for n elements.
 #[derive(Drop)]
 pub struct StableList<T> {
     pub(crate) chain: DoubleChain<T>,
@@ -56,12 +60,16 @@ impl<T> Model for StableList<T> {
 impl<T: Linked<Links<T>>> Default for StableList<T> {
     ghost is_default = { λ l. l ≡ [] };
 
+    /// Creates an empty list, as `new` does.
+    ///
+    /// # Complexity
+    /// O(1).
     fn default() -> StableList<T> {
         StableList::new()
     }
 }
 
-/// The spot of an address, if there is one.
+/// Returns the spot of an address, if there is one.
 pub(crate) fn spot_of(address: Option<Address>) -> Option<Spot>
     ensures { MatchOption address (result ≡ None) (λ p. result ≡ Some p.ptr) }
 {
@@ -74,7 +82,10 @@ pub(crate) fn spot_of(address: Option<Address>) -> Option<Spot>
 impl<T: Linked<Links<T>>> StableList<T> {
     ghost use Rattle.cordyceps_stable.specs.StableLending.{LendsSpot};
 
-    /// An empty list. It takes no memory.
+    /// Creates an empty list. Allocates nothing.
+    ///
+    /// # Complexity
+    /// O(1).
     pub fn new() -> StableList<T>
         ensures { result ≡ [] }
     {
@@ -83,7 +94,10 @@ impl<T: Linked<Links<T>>> StableList<T> {
         }
     }
 
-    /// The elements of a list, at once.
+    /// Converts a list into a stable list of the same elements.
+    ///
+    /// # Complexity
+    /// O(1).
     pub fn from_list(list: List<T>) -> StableList<T>
         ensures holds { elements result ≡ list }
         ensures apart { AreApart (spots result) }
@@ -93,7 +107,10 @@ impl<T: Linked<Links<T>>> StableList<T> {
         }
     }
 
-    /// The elements as a list, at once.
+    /// Converts the stable list into a list of the same elements.
+    ///
+    /// # Complexity
+    /// O(1).
     pub fn into_list(self) -> List<T>
         ensures { result ≡ elements self }
     {
@@ -101,21 +118,30 @@ impl<T: Linked<Links<T>>> StableList<T> {
         List::from_chain(chain)
     }
 
-    /// The number of elements, at once.
+    /// Returns the number of elements.
+    ///
+    /// # Complexity
+    /// O(1).
     pub fn len(&self) -> usize
         ensures { result ≡ length self.now }
     {
         self.chain.len()
     }
 
-    /// Whether there is no element.
+    /// Returns `true` if the list has no element.
+    ///
+    /// # Complexity
+    /// O(1).
     pub fn is_empty(&self) -> bool
         ensures { result ≡ (length self.now == 0) }
     {
         self.len() == 0
     }
 
-    /// Puts an element first, at once, and answers its spot. There must be room in the length.
+    /// Prepends an element to the list and returns its spot. Requires a length below `usize::MAX`.
+    ///
+    /// # Complexity
+    /// O(1).
     pub fn push_front(&mut self, handle: T::Handle) -> Spot
         requires { length self.old < usize.MAX }
         ensures holds { self.new ≡ (result, T.element handle) ∷ self.old }
@@ -125,7 +151,10 @@ impl<T: Linked<Links<T>>> StableList<T> {
         Spot { address }
     }
 
-    /// Puts an element last, at once, and answers its spot. There must be room in the length.
+    /// Appends an element to the back of the list and returns its spot. Requires a length below `usize::MAX`.
+    ///
+    /// # Complexity
+    /// O(1).
     pub fn push_back(&mut self, handle: T::Handle) -> Spot
         requires { length self.old < usize.MAX }
         ensures holds { self.new ≡ self.old ++ (result, T.element handle) ∷ [] }
@@ -135,10 +164,13 @@ impl<T: Linked<Links<T>>> StableList<T> {
         Spot { address }
     }
 
-    /// Puts an element first, at once, where there is room in the length, and answers its spot.
+    /// Prepends an element to the list and returns its spot, if the length is below `usize::MAX`.
     ///
     /// # Errors
-    /// A list of `usize::MAX` elements hands the handle back, and stays as it was.
+    /// At a length of `usize::MAX` the handle is returned, and the list is unchanged.
+    ///
+    /// # Complexity
+    /// O(1).
     pub fn try_push_front(&mut self, handle: T::Handle) -> Result<Spot, T::Handle>
         ensures { MatchResult result
             (λ spot. (length self.old < usize.MAX) × (self.new ≡ (spot, T.element handle) ∷ self.old)
@@ -151,10 +183,13 @@ impl<T: Linked<Links<T>>> StableList<T> {
         Ok(self.push_front(handle))
     }
 
-    /// Puts an element last, at once, where there is room in the length, and answers its spot.
+    /// Appends an element to the back of the list and returns its spot, if the length is below `usize::MAX`.
     ///
     /// # Errors
-    /// A list of `usize::MAX` elements hands the handle back, and stays as it was.
+    /// At a length of `usize::MAX` the handle is returned, and the list is unchanged.
+    ///
+    /// # Complexity
+    /// O(1).
     pub fn try_push_back(&mut self, handle: T::Handle) -> Result<Spot, T::Handle>
         ensures { MatchResult result
             (λ spot. (length self.old < usize.MAX) × (self.new ≡ self.old ++ (spot, T.element handle) ∷ [])
@@ -167,7 +202,11 @@ impl<T: Linked<Links<T>>> StableList<T> {
         Ok(self.push_back(handle))
     }
 
-    /// Puts an element in before that at `at`, at once, and answers its spot. There must be room in the length.
+    /// Inserts an element before the one at `at` and returns its spot. Requires that `at` is valid, and a length below
+    /// `usize::MAX`.
+    ///
+    /// # Complexity
+    /// O(1).
     pub fn insert_before(&mut self, at: Spot, handle: T::Handle) -> Spot
         requires there { HasSpot self.old at }
         requires fits { length self.old < usize.MAX }
@@ -178,7 +217,11 @@ impl<T: Linked<Links<T>>> StableList<T> {
         Spot { address }
     }
 
-    /// Puts an element in behind that at `at`, at once, and answers its spot. There must be room in the length.
+    /// Inserts an element after the one at `at` and returns its spot. Requires that `at` is valid, and a length below
+    /// `usize::MAX`.
+    ///
+    /// # Complexity
+    /// O(1).
     pub fn insert_after(&mut self, at: Spot, handle: T::Handle) -> Spot
         requires there { HasSpot self.old at }
         requires fits { length self.old < usize.MAX }
@@ -189,7 +232,10 @@ impl<T: Linked<Links<T>>> StableList<T> {
         Spot { address }
     }
 
-    /// Takes the element at `at` out, at once.
+    /// Removes the element at `at` and returns it. Requires that `at` is valid.
+    ///
+    /// # Complexity
+    /// O(1).
     pub fn remove(&mut self, at: Spot) -> T::Handle
         requires { HasSpot self.old at }
         ensures taken { IsTaken self.old at (T.element result) self.new }
@@ -200,7 +246,10 @@ impl<T: Linked<Links<T>>> StableList<T> {
         T::from_ptr(node)
     }
 
-    /// Takes the first element out, at once. `None` where there is none.
+    /// Removes the first element and returns it, or `None` if the list is empty.
+    ///
+    /// # Complexity
+    /// O(1).
     pub fn pop_front(&mut self) -> Option<T::Handle>
         ensures taken { MatchOption result ((self.old ≡ []) × (self.new ≡ []))
             (λ h. (spot : Ptr) × (self.old ≡ (spot, T.element h) ∷ self.new)) }
@@ -215,7 +264,10 @@ impl<T: Linked<Links<T>>> StableList<T> {
         Some(T::from_ptr(node))
     }
 
-    /// Takes the last element out, at once. `None` where there is none.
+    /// Removes the last element and returns it, or `None` if the list is empty.
+    ///
+    /// # Complexity
+    /// O(1).
     pub fn pop_back(&mut self) -> Option<T::Handle>
         ensures taken { MatchOption result ((self.old ≡ []) × (self.new ≡ []))
             (λ h. (spot : Ptr) × (self.old ≡ self.new ++ (spot, T.element h) ∷ [])) }
@@ -230,7 +282,10 @@ impl<T: Linked<Links<T>>> StableList<T> {
         Some(T::from_ptr(node))
     }
 
-    /// The value at `at`, at once.
+    /// Returns a reference to the value at `at`. Requires that `at` is valid.
+    ///
+    /// # Complexity
+    /// O(1).
     pub fn get(&self, at: Spot) -> &T
         requires { HasSpot self.now at }
         ensures { HoldsAt self.now at result.now }
@@ -238,7 +293,11 @@ impl<T: Linked<Links<T>>> StableList<T> {
         self.chain.get_at(at.address)
     }
 
-    /// The value at `at`, at once, to be changed. The element keeps its number and its spot.
+    /// Returns a mutable reference to the value at `at`. The element keeps its number and its spot. Requires that `at`
+    /// is valid.
+    ///
+    /// # Complexity
+    /// O(1).
     pub fn get_mut(&mut self, at: Spot) -> &mut T
         requires { HasSpot self.old at }
         ensures* writes_back { sem 𝓛 (LendsSpot T.row self.entry at result) }
@@ -247,21 +306,30 @@ impl<T: Linked<Links<T>>> StableList<T> {
         self.chain.get_at_mut(at.address)
     }
 
-    /// The spot of the first element. `None` where there is none.
+    /// Returns the spot of the first element, or `None` if the list is empty.
+    ///
+    /// # Complexity
+    /// O(1).
     pub fn front(&self) -> Option<Spot>
         ensures { MatchOption result (self.now ≡ []) (λ p. IsFirst self.now p) }
     {
         spot_of(self.chain.first())
     }
 
-    /// The spot of the last element. `None` where there is none.
+    /// Returns the spot of the last element, or `None` if the list is empty.
+    ///
+    /// # Complexity
+    /// O(1).
     pub fn back(&self) -> Option<Spot>
         ensures { MatchOption result (self.now ≡ []) (λ p. IsLast self.now p) }
     {
         spot_of(self.chain.last())
     }
 
-    /// The spot after `at`. `None` where the last element lies there.
+    /// Returns the spot after `at`, or `None` if the last element is at `at`. Requires that `at` is valid.
+    ///
+    /// # Complexity
+    /// O(1).
     pub fn next(&self, at: Spot) -> Option<Spot>
         requires { HasSpot self.now at }
         ensures { MatchOption result (IsLast self.now at) (λ p. AreNext self.now at p) }
@@ -269,7 +337,10 @@ impl<T: Linked<Links<T>>> StableList<T> {
         spot_of(self.chain.next_at(at.address))
     }
 
-    /// The spot before `at`. `None` where the first element lies there.
+    /// Returns the spot before `at`, or `None` if the first element is at `at`. Requires that `at` is valid.
+    ///
+    /// # Complexity
+    /// O(1).
     pub fn prev(&self, at: Spot) -> Option<Spot>
         requires { HasSpot self.now at }
         ensures { MatchOption result (IsFirst self.now at) (λ p. AreNext self.now p at) }
@@ -277,7 +348,11 @@ impl<T: Linked<Links<T>>> StableList<T> {
         spot_of(self.chain.prev_at(at.address))
     }
 
-    /// Puts the element at `at` first, at once. It keeps its spot, and the others their order.
+    /// Moves the element at `at` to the front of the list. It keeps its spot, and the others their order. Requires that
+    /// `at` is valid.
+    ///
+    /// # Complexity
+    /// O(1).
     pub fn move_to_front(&mut self, at: Spot)
         requires { HasSpot self.old at }
         ensures moved { IsMovedFront self.old at self.new }
@@ -287,7 +362,11 @@ impl<T: Linked<Links<T>>> StableList<T> {
         self.chain.keep_apart();
     }
 
-    /// Puts the element at `at` last, at once. It keeps its spot, and the others their order.
+    /// Moves the element at `at` to the back of the list. It keeps its spot, and the others their order. Requires that
+    /// `at` is valid.
+    ///
+    /// # Complexity
+    /// O(1).
     pub fn move_to_back(&mut self, at: Spot)
         requires { HasSpot self.old at }
         ensures moved { IsMovedBack self.old at self.new }
@@ -297,8 +376,11 @@ impl<T: Linked<Links<T>>> StableList<T> {
         self.chain.keep_apart();
     }
 
-    /// Moves all elements of `other` behind those of this list, at once. They keep their spots. The sum of the lengths
-    /// must fit.
+    /// Moves all elements of `other` to the back of this list, and leaves `other` empty. They keep their spots.
+    /// Requires that the sum of the lengths is at most `usize::MAX`.
+    ///
+    /// # Complexity
+    /// O(1).
     pub fn append(&mut self, other: &mut StableList<T>)
         requires { length self.old + length other.old ≤ usize.MAX }
         ensures joined { self.new ≡ self.old ++ other.old }
@@ -310,7 +392,10 @@ impl<T: Linked<Links<T>>> StableList<T> {
         self.chain.put(nodes.join(more).apart());
     }
 
-    /// Returns a cursor at the first element, or at the null place of an empty list, at once.
+    /// Returns a cursor at the first element, or at the null place if the list is empty.
+    ///
+    /// # Complexity
+    /// O(1).
     pub fn cursor_front(&self) -> SpotCursor<'_, T>
         ensures nodes { result.nodes ≡ self.now }
         ensures spot { MatchOption result.spot (self.now ≡ []) (λ p. IsFirst self.now p) }
@@ -318,7 +403,10 @@ impl<T: Linked<Links<T>>> StableList<T> {
         SpotCursor::new(&self.chain, self.front())
     }
 
-    /// Returns a cursor at the element at `at`, at once.
+    /// Returns a cursor at the element at `at`. Requires that `at` is valid.
+    ///
+    /// # Complexity
+    /// O(1).
     pub fn cursor_at(&self, at: Spot) -> SpotCursor<'_, T>
         requires { HasSpot self.now at }
         ensures nodes { result.nodes ≡ self.now }
@@ -327,7 +415,10 @@ impl<T: Linked<Links<T>>> StableList<T> {
         SpotCursor::new(&self.chain, Some(at))
     }
 
-    /// The values, in order.
+    /// Returns an iterator over the values, in order.
+    ///
+    /// # Complexity
+    /// O(1), and O(1) for each value.
     pub fn iter(&self) -> Iter<'_, T>
         ensures { result ≡ values (elements self.now) }
     {
