@@ -7,10 +7,10 @@ use crate::order::Order;
 use std::cmp::Ordering;
 use std::marker::{Model, PhantomData};
 
-/// The order that a function computes. A contract sees the function.
+/// The order that a function of the caller's computes. A contract sees the function.
 ///
-/// A list may ask it where the function can be called on any two values and computes a total preorder. Who makes a list
-/// with it answers for that, and each call that asks the order repeats the condition.
+/// A list may compare by it if the function can be called on any two values and is a total preorder. Creating a list
+/// with it requires this, and so does each call that compares.
 #[derive(Drop)]
 pub struct ByFn<T, F> {
     by: F,
@@ -24,7 +24,10 @@ impl<T, F> Model for ByFn<T, F> {
 }
 
 impl<T, F> ByFn<T, F> {
-    /// Makes the order that `by` computes.
+    /// Creates the order that `by` computes.
+    ///
+    /// # Complexity
+    /// O(1).
     pub fn new(by: F) -> ByFn<T, F>
         ensures { result ≡ by }
     {
@@ -44,6 +47,7 @@ impl<T, F: Fn(&T, &T) -> Ordering> Order<T> for ByFn<T, F> {
 
     ghost lawful = { λ _ _ by. by.lawful };
 
+    /// Compares two values by the function.
     fn compare(&self, first: &T, second: &T) -> Ordering {
         (self.by)(first, second)
     }

@@ -1,17 +1,17 @@
-//! What is done at each comparison of a walk.
+//! What an insertion counts its comparisons with.
 ghost use Rattle.std.specs.Prelude.{◌≡◌, ◌+◌, ◌<◌, ◌^◌, ℕ, ⊤};
 
 use cordyceps_base::steps::{Steps, count_one};
 
-/// A count of comparisons, or none.
+/// A counter of comparisons, or none.
 pub trait Counter {
-    // Whether it counts.
+    // Holds if it counts.
     ghost counts: { Type 0 };
 
-    // What it has counted.
+    // The number of comparisons that it has counted.
     ghost counted: { Self → ℕ };
 
-    /// Counts one comparison more, as long as the count has room.
+    /// Counts one comparison, if the counter counts and has not reached its maximum.
     fn count_comparison(&mut self)
         ensures { counts → counted self.old + 1 < 2 ^ 64 → counted self.new ≡ counted self.old + 1 };
 }
@@ -21,6 +21,7 @@ impl Counter for Steps {
 
     ghost counted = { λ steps. steps };
 
+    /// Adds one, unless the count is `u64::MAX`.
     fn count_comparison(&mut self) {
         if self.count() < u64::MAX {
             count_one(self);
@@ -28,7 +29,7 @@ impl Counter for Steps {
     }
 }
 
-/// For who does not want to know.
+/// A counter that counts nothing.
 #[derive(Drop)]
 pub struct Uncounted;
 
@@ -37,5 +38,6 @@ impl Counter for Uncounted {
 
     ghost counted = { λ _. 0 };
 
+    /// Does nothing.
     fn count_comparison(&mut self) {}
 }

@@ -8,9 +8,12 @@ use cordyceps_base::single_chain::{SingleChain, Values};
 use cordyceps_base::stack::Links;
 use std::marker::Model;
 
-/// The values of a sorted list, from the first to the last. A contract sees those that are left.
+/// An iterator over the values of a sorted list, from the first to the last. A contract sees the values that are left.
 ///
-/// Once it has given `None` it always does.
+/// When it has returned `None` once, it returns `None` from then on.
+///
+/// # Complexity
+/// Each `next` is O(1).
 #[derive(Drop)]
 pub struct SortedListIter<'a, T> {
     values: Values<'a, T>,
@@ -25,7 +28,7 @@ impl<'a, T> Model for SortedListIter<'a, T> {
 }
 
 impl<'a, T> SortedListIter<'a, T> {
-    /// The values of all nodes of a chain.
+    /// Creates an iterator over the values of a chain.
     pub(crate) fn new(chain: &'a SingleChain<T, Links<T>>) -> SortedListIter<'a, T>
         ensures { result ≡ values (elements chain.now) }
     {
@@ -42,6 +45,10 @@ impl<'a, T> Iterator for SortedListIter<'a, T> {
 
     ghost remaining = { item_count (λ i. i) };
 
+    /// Returns a reference to the first value that is left, or `None` if none is.
+    ///
+    /// # Complexity
+    /// O(1).
     fn next(&mut self) -> Option<&'a T> {
         self.values.next()
     }

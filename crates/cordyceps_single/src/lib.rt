@@ -1,4 +1,4 @@
-//! Stacks, and lists that are kept in order, as chains that one thread owns.
+//! Stacks and sorted lists.
 #![tactic(auto)]
 
 mod by_fn;

@@ -7,31 +7,31 @@ ghost use Rattle.cordyceps_single.specs.Preorder.{IsPreorder, preorder_from_tota
 
 use std::cmp::Ordering;
 
-/// A comparison of values by which a list can be kept in order.
+/// A comparison of values by which a list can be kept sorted.
 ///
-/// It is a total preorder, which an implementor proves: `compare` answers by one function of the two values, `Less` one
-/// way is `Greater` the other way, `Equal` is `Equal` both ways, and 'not `Greater`' is transitive. Values that are
-/// `Equal` may differ.
+/// It is a total preorder, which an implementor proves: `compare` is one function of the two values, `Less` one way is
+/// `Greater` the other way, `Equal` is `Equal` both ways, and 'not `Greater`' is transitive. Values that are `Equal`
+/// may differ.
 pub trait Order<T> {
     // Holds of an order and the function that it computes.
     ghost compares_by: { Self → (T → T → Ordering) → Type 0 };
 
-    // Holds of the orders that may be asked.
+    // Holds of the orders whose `compare` may be called.
     ghost can_compare: { Self → Type 0 } = { λ _. ⊤ };
 
-    /// How the first value stands to the second.
+    /// Compares two values.
     fn compare(&self, first: &T, second: &T) -> Ordering
         requires { can_compare self.now }
         ensures { (cmp : T → T → Ordering) → compares_by self.now cmp → result ≡ cmp first.now second.now };
 
-    // An order that may be asked computes a function.
+    // An order whose `compare` may be called computes a function.
     ghost computes: { (order : Self) → can_compare order → (cmp : T → T → Ordering) × compares_by order cmp };
 
     // What an order computes is a total preorder.
     ghost lawful: { (order : Self) (cmp : T → T → Ordering) → compares_by order cmp → IsPreorder cmp };
 }
 
-/// The order of `Ord`: the least value first.
+/// The order of `Ord`, with the least value first.
 #[derive(Clone, Copy)]
 pub struct Least;
 
@@ -42,12 +42,13 @@ impl<T: Ord> Order<T> for Least {
 
     ghost lawful = { λ _ cmp e. subst IsPreorder (sym e) (preorder_from_total T.total) };
 
+    /// Compares two values by `Ord`.
     fn compare(&self, first: &T, second: &T) -> Ordering {
         first.cmp(second)
     }
 }
 
-/// The order of `Ord` the other way round: the greatest value first.
+/// The reversed order of `Ord`, with the greatest value first.
 #[derive(Clone, Copy)]
 pub struct Greatest;
 
@@ -58,6 +59,7 @@ impl<T: Ord> Order<T> for Greatest {
 
     ghost lawful = { λ _ cmp e. subst IsPreorder (sym e) (preorder_from_total (back_total T.total)) };
 
+    /// Compares two values by `Ord`, the other way round.
     fn compare(&self, first: &T, second: &T) -> Ordering {
         second.cmp(first)
     }

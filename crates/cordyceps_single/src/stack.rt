@@ -7,11 +7,14 @@ use cordyceps_base::single_chain::SingleChain;
 pub use cordyceps_base::stack::Links;
 use std::marker::Model;
 
-/// A stack of owned nodes: what was pushed last comes out first. A contract sees its elements, the last pushed first.
+/// A stack of owned nodes: the element that was pushed last is popped first. A contract sees its elements, the last
+/// pushed first.
 ///
-/// Handles go in and come out as the same elements; linking takes no memory and cannot be refused. There is no bound on
-/// how many elements it can have. Each call takes the same time whatever the stack holds, but a drop, which frees each
-/// node once.
+/// A handle that is pushed comes out as the same element. Linking allocates nothing and cannot be refused. The number
+/// of elements has no bound. The interface follows that of `Stack` in the Rust crate `cordyceps`.
+///
+/// # Complexity
+/// Dropping the stack frees each node once: O(n), for n elements.
 #[derive(Drop)]
 pub struct Stack<T> {
     chain: SingleChain<T, Links<T>>,
@@ -29,13 +32,20 @@ impl<T> Model for Stack<T> {
 impl<T: Linked<Links<T>>> Default for Stack<T> {
     ghost is_default = { λ s. s ≡ [] };
 
+    /// Creates an empty stack, as `new` does.
+    ///
+    /// # Complexity
+    /// O(1).
     fn default() -> Stack<T> {
         Stack::new()
     }
 }
 
 impl<T: Linked<Links<T>>> Stack<T> {
-    /// An empty stack. It takes no memory.
+    /// Creates an empty stack. Allocates nothing.
+    ///
+    /// # Complexity
+    /// O(1).
     pub fn new() -> Stack<T>
         ensures { result ≡ [] }
     {
@@ -44,21 +54,30 @@ impl<T: Linked<Links<T>>> Stack<T> {
         }
     }
 
-    /// Whether there is no element.
+    /// Returns `true` if the stack has no element.
+    ///
+    /// # Complexity
+    /// O(1).
     pub fn is_empty(&self) -> bool
         ensures { result ≡ (length self.now == 0) }
     {
         self.chain.is_empty()
     }
 
-    /// Puts an element on top.
+    /// Pushes an element onto the stack.
+    ///
+    /// # Complexity
+    /// O(1).
     pub fn push(&mut self, handle: T::Handle)
         ensures { self.new ≡ T.element handle ∷ self.old }
     {
         self.chain.link_front(T::into_ptr(handle));
     }
 
-    /// Puts an element on top, and tells whether there was none before.
+    /// Pushes an element onto the stack, and returns `true` if the stack was empty before.
+    ///
+    /// # Complexity
+    /// O(1).
     pub fn push_was_empty(&mut self, handle: T::Handle) -> bool
         ensures pushed { self.new ≡ T.element handle ∷ self.old }
         ensures was_empty { result ≡ (length self.old == 0) }
@@ -68,7 +87,10 @@ impl<T: Linked<Links<T>>> Stack<T> {
         was_empty
     }
 
-    /// Takes the element out that was pushed last. `None` where there is none.
+    /// Removes the element that was pushed last and returns it, or `None` if the stack is empty.
+    ///
+    /// # Complexity
+    /// O(1).
     pub fn pop(&mut self) -> Option<T::Handle>
         ensures { MatchOption result ((self.old ≡ []) × (self.new ≡ [])) (λ h. self.old ≡ T.element h ∷ self.new) }
     {
@@ -78,7 +100,10 @@ impl<T: Linked<Links<T>>> Stack<T> {
         Some(T::from_ptr(self.chain.unlink_front()))
     }
 
-    /// Takes all elements out at once, as a stack of their own, and leaves this one empty.
+    /// Moves all elements to a new stack, which it returns, and leaves this one empty.
+    ///
+    /// # Complexity
+    /// O(1).
     pub fn take_all(&mut self) -> Stack<T>
         ensures taken { result ≡ self.old }
         ensures left { self.new ≡ [] }
@@ -89,14 +114,17 @@ impl<T: Linked<Links<T>>> Stack<T> {
     }
 }
 
-/// Puts an element below all others of a stack. It takes no walk.
+/// Puts an element below all others of a stack.
+///
+/// # Complexity
+/// O(1).
 pub fn put_last<T: Linked<Links<T>>>(stack: &mut Stack<T>, handle: T::Handle)
     ensures { stack.new ≡ stack.old ++ T.element handle ∷ [] }
 {
     stack.chain.link_back(T::into_ptr(handle));
 }
 
-/// Pops. Once it has given `None` it does so until something is pushed.
+/// Pops the elements. When `next` has returned `None`, it does so until an element is pushed.
 impl<T: Linked<Links<T>>> Iterator for Stack<T> {
     type Item = T::Handle;
 
@@ -104,6 +132,10 @@ impl<T: Linked<Links<T>>> Iterator for Stack<T> {
 
     ghost remaining = { item_count (λ s. s) };
 
+    /// Removes the element that was pushed last and returns it, as `pop` does.
+    ///
+    /// # Complexity
+    /// O(1).
     fn next(&mut self) -> Option<T::Handle> {
         self.pop()
     }
