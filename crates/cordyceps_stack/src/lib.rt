@@ -1,4 +1,4 @@
-//! The stack that threads share, and its core; and stacks and sorted lists, which it passes on.
+//! The stack that threads share, with its core; it re-exports stacks and sorted lists.
 #![tactic(auto)]
 
 mod cores;

@@ -1,4 +1,4 @@
-//! The core of a transfer stack, and its steps.
+//! The core of a transfer stack.
 ghost use Rattle.std.specs.Prelude.{◌≡◌, ◌≤◌, ◌++◌, ◌↔◌, ℕ, [], ◌∷◌, List, Some, None, Err, slice_get, nat_eq, length, reverse, true, IsFalse, IfOk, IfErr, OnOk, OnErr, is_ok, is_none};
 ghost use Rattle.std.specs.Option.{option_eq};
 ghost use Rattle.cordyceps_base.specs.Runs.{after};
@@ -16,15 +16,16 @@ use cordyceps_base::shared::StepError;
 use std::alloc::Global;
 use std::marker::Model;
 
-/// What a step answers. One that is refused gives its element back.
+/// What a step returns. A step that is refused returns its element.
 type Answered<E> = Result<TransferAnswer<E>, (StepError, Option<E>)>;
 
-/// The core of a transfer stack: a plain value whose steps named parties take one at a time, in any order.
+/// The core of a transfer stack: the algorithm as a plain value, whose steps the parties take one at a time, in any
+/// order.
 ///
-/// A party pushes an element by `Load`, `SetNext` and `Exchange`, which needs a free room of its own, and takes all
-/// that is held by `Take` and as many times `Walk` as it took elements, whose rooms become its free ones. Steps of
-/// other parties may come between. A contract sees the core as a machine: `head`, the rooms, and where each party
-/// stands.
+/// A party pushes an element by the steps `Load`, `SetNext` and `Exchange`, for which it needs a free room of its own.
+/// It takes all elements by `Take` and one `Walk` for each of them, whose rooms become its free ones. Steps of other
+/// parties may come between. A contract sees the core as a machine: the head, the rooms, and at which stage each party
+/// is.
 #[derive(Drop)]
 pub struct TransferCore<E> {
     alloc: Global,
@@ -45,7 +46,10 @@ impl<E> Model for TransferCore<E> {
 }
 
 impl<E: Drop> TransferCore<E> {
-    /// A core with no party and no room, which holds nothing. It takes no memory.
+    /// Creates a core without parties, rooms and elements. Allocates nothing.
+    ///
+    /// # Complexity
+    /// O(1).
     pub fn new(alloc: Global) -> Self
         ensures machine { result ≡ new_machine }
         ensures history { CoreMeets [] result }
@@ -59,9 +63,13 @@ impl<E: Drop> TransferCore<E> {
         }
     }
 
-    /// Adds a party at rest, without rooms, and answers its number. The numbers begin at 0.
+    /// Adds a party at rest, without rooms, and returns its number. The first number is 0.
     ///
-    /// `Memory` where there is none for it, which changes nothing.
+    /// # Errors
+    /// If memory is refused, it returns `Memory`, and the core is unchanged.
+    ///
+    /// # Complexity
+    /// Amortized O(1).
     pub fn add_party(&mut self) -> Result<usize, StepError>
         ensures ok { IfOk result (λ party. (party ≡ length self.old.parties) × (self.new ≡ with_party self.old)) }
         ensures err { IfErr result (λ e. (e ≡ StepError.Memory) × (self.new ≡ self.old)) }
@@ -75,9 +83,14 @@ impl<E: Drop> TransferCore<E> {
         }
     }
 
-    /// Adds a free room of a party, wherever that stands.
+    /// Adds a free room to a party, at any stage.
     ///
-    /// `NotThere` where there is no such party, and `Memory` where there is none for the room. Both change nothing.
+    /// # Errors
+    /// If there is no such party, it returns `NotThere`. If memory is refused, it returns `Memory`. Both leave the core
+    /// unchanged.
+    ///
+    /// # Complexity
+    /// Amortized O(1).
     pub fn add_room(&mut self, party: usize) -> Result<(), StepError>
         ensures not_there { (result ≡ Err StepError.NotThere) ↔ (length self.old.parties ≤ party) }
         ensures ok { OnOk result (self.new ≡ with_room self.old party) }
@@ -94,11 +107,14 @@ impl<E: Drop> TransferCore<E> {
         }
     }
 
-    /// Takes a step of a party. No step takes memory; `Load` looks through the rooms for a free one, and each other
-    /// step takes the same time whatever the core holds.
+    /// Takes a step of a party. Allocates nothing.
     ///
-    /// `NotThere` where there is no such party, it is not at that step, or it has no free room for a `Load`. This
-    /// changes nothing and gives the element back. `Memory` never comes.
+    /// # Errors
+    /// If there is no such party, it is not at that step, or it has no free room for a `Load`, it returns `NotThere`
+    /// and the step's element, and the core is unchanged. It never returns `Memory`.
+    ///
+    /// # Complexity
+    /// O(r) for `Load`, for r rooms, among which it seeks a free one. O(1) for the other steps.
     pub fn step(
         &mut self,
         party: usize,
@@ -115,7 +131,7 @@ impl<E: Drop> TransferCore<E> {
             → CoreMeets h self.old
             → CoreMeets (h ++ step_events h self.old party step result) self.new × AnswerSays h party result }
 
-        // What a party's walks hand out, and then what is left of them, are the batches that it took.
+        // What a party's walks return, and then what is left of them, are the batches that it took.
         ensures walks { (h : List (Event ℕ E))
             → CoreMeets h self.old
             → HandsOn h self.old (h ++ step_events h self.old party step result) self.new
@@ -127,11 +143,15 @@ impl<E: Drop> TransferCore<E> {
         }
     }
 
-    /// Pushes an element by a party's three steps, with no step of another between, and tells whether nothing was held.
-    /// It takes no memory; it looks through the rooms for a free one.
+    /// Pushes an element by three steps of a party, without a step of another between, and returns `true` if the core
+    /// had no element. Allocates nothing.
     ///
-    /// `NotThere` where there is no such party, it is not at rest, or it has no free room. This changes nothing and
-    /// gives the element back. `Memory` never comes.
+    /// # Errors
+    /// If there is no such party, it is not at rest, or it has no free room, it returns `NotThere` and the element, and
+    /// the core is unchanged. It never returns `Memory`.
+    ///
+    /// # Complexity
+    /// O(r), for r rooms, among which it seeks a free one.
     pub fn push_was_empty(&mut self, party: usize, element: E) -> Result<bool, (StepError, E)>
         ensures accepted { is_ok result ≡ is_ready self.old party }
         ensures err { IfErr result (λ e. (e ≡ (StepError.NotThere, element)) × (self.new ≡ self.old)) }
@@ -155,12 +175,15 @@ impl<E: Drop> TransferCore<E> {
         Ok(was_empty)
     }
 
-    /// Takes all that is held, newest first, by a party's steps with no step of another between. The rooms of what was
-    /// taken become free ones of the party.
+    /// Takes all elements by steps of a party, without a step of another between, and returns them, the newest first.
+    /// Their rooms become free ones of the party.
     ///
-    /// `NotThere` where there is no such party or it is not at rest, and `Memory` where there is none for as many
-    /// elements as there are rooms in use, for which room is made before the first step. Both change nothing. It goes
-    /// through the rooms once, to count these, and then through what is held.
+    /// # Errors
+    /// If there is no such party or it is not at rest, it returns `NotThere`. If memory for as many elements as there
+    /// are rooms in use is refused, it returns `Memory`. Both leave the core unchanged.
+    ///
+    /// # Complexity
+    /// O(r), for r rooms, with at most one allocation.
     pub fn take_all(&mut self, party: usize) -> Result<Vec<E>, StepError>
         ensures not_there { (result ≡ Err StepError.NotThere) ↔ IsFalse (is_at_rest self.old party) }
         ensures err { OnErr result (self.new ≡ self.old) }
@@ -190,7 +213,7 @@ impl<E: Drop> TransferCore<E> {
 }
 
 impl<E: Drop> TransferCore<E> {
-    /// Where a party stands, if there is such a party.
+    /// Returns the stage of a party, if there is such a party.
     fn stage_of(&self, party: usize) -> Option<Stage>
         ensures stage { result ≡ slice_get self.now.parties party }
         ensures sound { IsSound self.now }
@@ -198,7 +221,7 @@ impl<E: Drop> TransferCore<E> {
         self.parties.get(party).copied()
     }
 
-    /// Takes a step of a party that stands at `stage`.
+    /// Takes a step of a party that is at `stage`.
     fn act(&mut self, party: usize, step: TransferStep<E>, stage: Stage) -> Answered<E>
         requires { slice_get self.old.parties party ≡ Some stage }
         ensures machine { self.new ≡ (acts self.old party step stage).0 }
@@ -304,14 +327,14 @@ impl<E: Drop> TransferCore<E> {
         }
     }
 
-    /// Whether there is such a party and it is at rest.
+    /// Returns `true` if there is such a party and it is at rest.
     fn is_at_rest(&self, party: usize) -> bool
         ensures { result ≡ is_at_rest self.now party }
     {
         matches!(self.stage_of(party), Some(Stage::Rest))
     }
 
-    /// Whether there is such a party, at rest and with a free room.
+    /// Returns `true` if there is such a party, at rest and with a free room.
     fn is_ready(&self, party: usize) -> bool
         ensures { result ≡ is_ready self.now party }
     {

@@ -1,4 +1,4 @@
-//! Whole lists of steps.
+//! Lists of steps.
 ghost use Rattle.std.specs.Prelude.{◌≡◌, ◌≢◌, ◌↔◌, [], None, IsTrue};
 ghost use Rattle.cordyceps_stack.specs.Cores.CoreMeets.{Replayed};
 
@@ -8,11 +8,15 @@ use crate::cores::steps::TransferStep;
 use std::alloc::Global;
 use std::collections::VecDeque;
 
-/// Takes steps, each with the number of its party, in order, and keeps the replies. A step that is refused as
-/// `NotThere` is a reply too, and the next one follows.
+/// Takes steps in order, each with the number of its party, and collects what they return. A step that returns
+/// `NotThere` counts too, and the next one follows.
 ///
-/// Room for a reply is made before its step. Where memory for it is refused the replay stops, and that step is the
-/// first of the rest; what was taken stays taken. Each step takes the time that it takes by itself.
+/// # Errors
+/// Memory for a reply is made sure of before its step. If it is refused, the replay stops: that step and those after it
+/// are the rest, and the core keeps what the steps before it did.
+///
+/// # Complexity
+/// That of the steps.
 pub fn replay<E: Drop>(
     alloc: Global,
     mut core: TransferCore<E>,

@@ -24,7 +24,7 @@ impl<E> Model for Rooms<E> {
 }
 
 impl<E: Drop> Rooms<E> {
-    /// No rooms. It takes no memory.
+    /// Creates an empty list of rooms. Allocates nothing.
     pub(crate) fn new(alloc: Global) -> Self
         ensures { result ≡ [] }
     {
@@ -33,7 +33,7 @@ impl<E: Drop> Rooms<E> {
         }
     }
 
-    /// Adds a free room of the party.
+    /// Adds a free room of a party.
     pub(crate) fn add(&mut self, party: usize) -> Result<(), AllocError>
         ensures ok { OnOk result (self.new ≡ self.old ++ new_room party ∷ []) }
         ensures err { OnErr result (self.new ≡ self.old) }
@@ -46,14 +46,14 @@ impl<E: Drop> Rooms<E> {
         Ok(())
     }
 
-    /// The party's free room with the least number, by a walk through all rooms.
+    /// Returns the party's free room with the least number, by a walk through all rooms.
     pub(crate) fn least_free(&self, party: usize) -> Option<usize>
         ensures { result ≡ least_free party self.now }
     {
         self.list.iter().position(|room| room.owner == Some(party))
     }
 
-    /// The room to which the room `at` leads.
+    /// Returns the room that the room `at` leads to.
     pub(crate) fn next(&self, at: usize) -> Option<usize>
         requires { at < length self.now }
         ensures { result ≡ next_in (slice_get self.now at) }
@@ -61,7 +61,7 @@ impl<E: Drop> Rooms<E> {
         self.list[at].next
     }
 
-    /// Puts an element into a room, which is nobody's free one from then on.
+    /// Puts an element into a room, which is then no party's free one.
     pub(crate) fn hold(&mut self, at: usize, element: E)
         requires { at < length self.old }
         ensures { self.new ≡ change (holding element) at self.old }
@@ -91,7 +91,7 @@ impl<E: Drop> Rooms<E> {
         room.element.take().unwrap()
     }
 
-    /// How many rooms have an element, by a walk through all rooms.
+    /// Returns the number of rooms that have an element, by a walk through all rooms.
     pub(crate) fn occupied(&self) -> usize
         ensures { result ≡ occupied self.now }
     {

@@ -1,21 +1,21 @@
-//! Where the parties of a transfer core stand.
+//! The stages of the parties of a transfer core.
 
-/// A push under way: the room of its element, and what its party read from `head`.
+/// A push that has begun: the room of its element, and what its party read from the head.
 #[derive(Clone, Copy)]
 pub(crate) struct Attempt {
     pub(crate) room: usize,
     pub(crate) read: Option<usize>,
 }
 
-/// Where a party stands between two steps.
+/// Where a party is between two steps.
 #[derive(Clone, Copy)]
 pub(crate) enum Stage {
-    /// At no push and no walk.
+    /// In no call.
     Rest,
-    /// A room has the element of a push, and `head` was read.
+    /// In a push: a room has the element, and the head was read.
     Loaded(Attempt),
-    /// The room leads to what was read.
+    /// In a push: the room leads to what was read.
     Set(Attempt),
-    /// On the way through a batch, at the room that is handed out next.
+    /// In a taking, at the room whose element comes next.
     Walking(usize),
 }

@@ -1,24 +1,25 @@
-//! The steps of a transfer core, and their answers.
+//! The steps of a transfer core, and what they return.
 ghost use Rattle.std.specs.Prelude.{◌≡◌};
 ghost use Rattle.cordyceps_stack.specs.Cores.Machine.{step_element};
 
 /// A step of one party: an atomic step of a transfer stack.
 #[derive(Drop)]
 pub enum TransferStep<E> {
-    /// Begins a push: puts the element into the party's least free room and reads `head`. It needs a party at rest.
+    /// Begins a push: puts the element into the party's free room with the least number, and reads the head. Needs a
+    /// party at rest.
     Load(E),
-    /// Makes the room lead to what was read.
+    /// Continues a push: makes the room lead to what was read.
     SetNext,
-    /// Ends a push: makes the room the new `head` if `head` is still what was read. If it is not, the push has failed.
+    /// Ends a push: makes the room the new head if the head is still what was read. Otherwise the push has failed.
     Exchange,
-    /// Takes all that is held, for the party to walk through. It needs a party at rest.
+    /// Takes all elements, through which the party then walks. Needs a party at rest.
     Take,
-    /// Hands out the next element of what was taken.
+    /// Returns the next element of what was taken.
     Walk,
 }
 
 impl<E: Drop> TransferStep<E> {
-    /// The element that the step brings.
+    /// Returns the element that the step brings, if any.
     pub(crate) fn into_element(self) -> Option<E>
         ensures { result ≡ step_element self }
     {
@@ -29,20 +30,20 @@ impl<E: Drop> TransferStep<E> {
     }
 }
 
-/// What a step answers.
+/// What a step returns.
 #[derive(Drop, Debug, PartialEq)]
 pub enum TransferAnswer<E> {
-    /// The push goes on with its next step.
+    /// The push continues with its next step.
     Done,
-    /// The element was pushed; true where nothing was held.
+    /// The element was pushed. `true` if there was no element before.
     Pushed(bool),
-    /// The push failed, and here is its element. The room is free again.
+    /// The push failed, and its element is returned. The room is free again.
     Failed(E),
-    /// What was held was taken, and the walk through it begins.
+    /// All elements were taken, and the walk through them begins.
     Taken,
-    /// Nothing was held.
+    /// There was no element to take.
     Nothing,
-    /// The next element of what was taken, with more behind it.
+    /// The next element of what was taken. More follow.
     Gives(E),
     /// The last element of what was taken. The party is at rest again.
     Last(E),

@@ -1,4 +1,4 @@
-//! How what a party took from a shared transfer stack becomes a plain stack.
+//! How what a party took from a shared stack becomes a plain stack.
 ghost use Rattle.std.specs.Prelude.{◌≡◌, map};
 ghost use Rattle.cordyceps_stack.specs.Shared.Parts.{IsSeatOf, EmptiesHand};
 ghost use Rattle.cordyceps_stack.specs.Cores.Stages.{room_elements};
@@ -13,7 +13,8 @@ use cordyceps_shared::slots::Filled;
 use cordyceps_shared::tickets::Tickets;
 use cordyceps_single::stack::{Stack, put_last};
 
-/// The elements that the party has in hand, to which `at` leads. Their tickets go to its others.
+/// Moves the elements that the party took out of their slots, from the room that `at` leads to on, and their tickets to
+/// the party's others.
 pub(crate) fn hand_out<T: Linked<Links<T>>>(
     words: &Words<T::Handle>,
     seat: &mut PartySeat<T::Handle>,

@@ -18,16 +18,19 @@ use cordyceps_single::stack::Stack;
 use std::alloc::{AllocError, Global};
 use std::marker::Model;
 
-/// A stack that threads share without a lock. They push to it one element at a time, and take all that it holds at
-/// once.
+/// A stack that threads share without a lock. They push to it one element at a time, and take all its elements at once.
 ///
-/// It has as many rooms as its maker chose, each for one element. Each call is made by a party, which has some of the
-/// rooms and what it has seen of the stack's history (for contracts alone). Elements go in by handles, and the same
-/// elements come out, the last pushed first. No call on a made stack takes memory.
+/// Its maker chooses the number of its rooms. A room is a unit of capacity: a push uses one. Each call is made through
+/// a party of this stack, which has some of the rooms. Calls allocate nothing, except `new`. A handle that is pushed
+/// comes out as the same element, the last pushed first.
 ///
-/// A contract sees which table the stack has: `party.table` is that of its own stack. A drop drops what is held.
+/// A contract sees the stack's table, by which it knows the parties of this stack: their `table` is the same. It sees
+/// no contents; what happened to the stack is told by what its parties have seen, their observed prefix of its history.
 ///
-/// The source is `TransferStack` of the Rust crate `cordyceps`, with a fixed number of rooms in place of bare pointers.
+/// The interface follows that of `TransferStack` in the Rust crate `cordyceps`.
+///
+/// # Complexity
+/// Dropping the stack drops its elements: O(r), for r rooms.
 #[derive(Drop)]
 pub struct TransferStack<T: Linked<Links<T>>> {
     pub(crate) rooms: OwnedTable<T::Handle>,
@@ -44,11 +47,18 @@ impl<T: Linked<Links<T>>> Model for TransferStack<T> {
     ghost invariant = { λ s. IsTable s.rooms.shared.table_id };
 }
 
-/// The right to act on one stack, with a number of rooms. It can be sent to a thread where `T::Handle` can.
+/// A handle through which a thread acts on one stack, with a number of rooms. It can be sent to a thread if `T::Handle`
+/// can.
 ///
-/// A contract sees its stack, the history that it has seen with a mark at its own events, its share of names, and how
-/// many rooms it has. A party whose share is the empty word alone is whole: it took back all that were split off. The
-/// rooms of a party that is dropped are lost for good, and no party is whole afterwards.
+/// A contract sees the table of its stack, what it has seen (the observed prefix of the history, with a mark at its own
+/// events), its share (its permission: which part of the names of events it has), and the number of its rooms. A party
+/// whose share is the empty word alone is whole: it has the full permission, and has absorbed all parties that were
+/// split off.
+///
+/// If a party is dropped, its rooms are lost for good, and no party is whole afterwards.
+///
+/// # Complexity
+/// Dropping a party is O(r), for r rooms that it has.
 #[derive(Drop)]
 pub struct Party<T: Linked<Links<T>>> {
     pub(crate) seat: PartySeat<T::Handle>,
@@ -67,10 +77,13 @@ impl<T: Linked<Links<T>>> Model for Party<T> {
 }
 
 impl<T: Linked<Links<T>>> Party<T> {
-    /// How many rooms the party has: it can push as many elements before it takes some.
+    /// Returns the number of rooms that the party has: it can push as many elements before it takes some.
     ///
-    /// To a contract it tells what every party knows: what it has seen is legal, and a whole party has seen only its
-    /// own events.
+    /// Its contract also states what is true of every party: what it has seen is legal, and a whole party has seen only
+    /// its own events.
+    ///
+    /// # Complexity
+    /// O(1).
     pub fn rooms(&self) -> usize
         ensures count { result ≡ self.now.rooms }
         ensures knows { Knows (λ h. Legal h) self.now }
@@ -80,10 +93,14 @@ impl<T: Linked<Links<T>>> Party<T> {
 }
 
 impl<T: Linked<Links<T>>> TransferStack<T> {
-    /// An empty stack with this many rooms, at most `MAX_ROOMS`, and the party that has them all, which is whole.
+    /// Creates an empty stack with `rooms` rooms, and the party that has them all, which is whole. Requires that
+    /// `rooms` is at most `MAX_ROOMS`.
     ///
-    /// It makes an allocation for each room, and four for the words and slots of all. `AllocError` where one is
-    /// refused.
+    /// # Errors
+    /// If memory is refused, it returns `AllocError`, and nothing is kept.
+    ///
+    /// # Complexity
+    /// O(`rooms`), with an allocation for each room and four more.
     pub fn new(alloc: Global, rooms: usize) -> Result<(TransferStack<T>, Party<T>), AllocError>
         requires { rooms ≤ MAX_ROOMS }
         ensures { IfOk result (λ made. made.1 ≡ new_party made.0 rooms) }
@@ -93,11 +110,18 @@ impl<T: Linked<Links<T>>> TransferStack<T> {
         Ok((TransferStack { rooms }, Party { seat, tickets }))
     }
 
-    /// Tries once to push an element, by one load and one compare-exchange of the stack's head. It waits for nobody.
+    /// Tries once to push an element. Requires that the party has a room, which the element then uses. Returns `true`
+    /// if the stack was empty just before.
     ///
-    /// `Ok` tells whether nothing was held just before; the element's room is then in use. `Err` hands the element
-    /// back, and leaves the room. It comes only where another party pushed, or took what was held, between the two
-    /// steps, and so never to a whole party.
+    /// # Errors
+    /// If another party pushed, or took what was held, between its two steps, the handle is returned, and the party
+    /// keeps its room. To a whole party this never happens.
+    ///
+    /// # Complexity
+    /// O(1): one load and one compare-exchange of the head, and steps on the room.
+    ///
+    /// # Waits
+    /// Never.
     pub fn try_push(&self, party: &mut Party<T>, handle: T::Handle) -> Result<bool, T::Handle>
         requires table { party.old.table ≡ self.now }
         requires room { 0 < party.old.rooms }
@@ -116,7 +140,13 @@ impl<T: Linked<Links<T>>> TransferStack<T> {
         }
     }
 
-    /// Whether nothing is held, as one load of the stack's head found it. A push may follow at once.
+    /// Returns `true` if the stack has no element. Other parties may change this at any time.
+    ///
+    /// # Complexity
+    /// O(1): one load of the head.
+    ///
+    /// # Waits
+    /// Never.
     pub fn is_empty(&self, party: &mut Party<T>) -> bool
         requires { party.old.table ≡ self.now }
         ensures { Looks result party.old party.new }
@@ -124,8 +154,13 @@ impl<T: Linked<Links<T>>> TransferStack<T> {
         steps::is_empty(&self.rooms.shared, &mut party.seat)
     }
 
-    /// Takes all that is held, the last pushed first, at one swap of the stack's head. The rooms of what was taken
-    /// become the party's. It waits for nobody, and walks through what it took.
+    /// Takes all elements, the last pushed first. Their rooms become the party's.
+    ///
+    /// # Complexity
+    /// O(n), for n elements: one swap of the head, and then a walk through what it took.
+    ///
+    /// # Waits
+    /// Never.
     pub fn take_all(&self, party: &mut Party<T>) -> Stack<T>
         requires { party.old.table ≡ self.now }
         ensures { (batch : List T.Handle) × (result ≡ map T.element batch) × Takes batch party.old party.new }
@@ -135,8 +170,14 @@ impl<T: Linked<Links<T>>> TransferStack<T> {
         hand_out(words, &mut party.seat, &mut party.tickets, at)
     }
 
-    /// Gives up some of a party's rooms, and half of its first name, to a new party, which has seen the same history
-    /// and has no event of its own. It goes through the rooms that it gives up.
+    /// Splits a new party off `party`, which gives it `rooms` of its rooms and a part of its share. The new party has
+    /// seen the same history, in which no event is its own. Requires that the party has as many rooms.
+    ///
+    /// # Complexity
+    /// O(`rooms`).
+    ///
+    /// # Waits
+    /// Never.
     pub fn split(&self, party: &mut Party<T>, rooms: usize) -> Party<T>
         requires table { party.old.table ≡ self.now }
         requires rooms { rooms ≤ party.old.rooms }
@@ -147,7 +188,13 @@ impl<T: Linked<Links<T>>> TransferStack<T> {
         Party { seat, tickets }
     }
 
-    /// Takes another party in: its rooms, its names and its events, and what it has seen. It reads the head once.
+    /// Absorbs another party: `party` has its rooms, its names and its events, and has seen what the two had seen.
+    ///
+    /// # Complexity
+    /// O(1).
+    ///
+    /// # Waits
+    /// Never.
     pub fn absorb(&self, party: &mut Party<T>, other: Party<T>)
         requires { (party.old.table ≡ self.now) × (other.table ≡ self.now) }
         ensures { Absorbs (λ h. Legal h) party.old other party.new }
@@ -157,8 +204,14 @@ impl<T: Linked<Links<T>>> TransferStack<T> {
         party.tickets.append(tickets);
     }
 
-    /// Ends the stack, and gives all that is held, the last pushed first: exactly what the whole party's history holds.
-    /// It walks through what is held, and frees the rooms.
+    /// Closes the stack and returns all its elements, the last pushed first. Requires the whole party; the result is
+    /// exactly what its history holds.
+    ///
+    /// # Complexity
+    /// O(r), for r rooms, which it frees.
+    ///
+    /// # Waits
+    /// Never.
     pub fn close(self, mut party: Party<T>) -> Stack<T>
         requires table { party.table ≡ self }
         requires whole { party.share ≡ whole }

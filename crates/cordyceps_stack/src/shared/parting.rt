@@ -1,4 +1,4 @@
-//! A new shared transfer stack, and how a party of it is split in two or takes another in.
+//! How a shared stack is created, and how its parties are split and absorbed.
 ghost use Rattle.std.specs.Prelude.{◌≡◌, ◌≤◌, [], length, IfOk};
 ghost use Rattle.cordyceps_shared.specs.Knowing.{IsKnown};
 ghost use Rattle.cordyceps_stack.specs.History.{Legal};
@@ -16,7 +16,7 @@ use cordyceps_shared::slots::Count;
 use std::alloc::{AllocError, Global};
 use std::marker::Brand;
 
-/// The words and slots of an empty stack with this many rooms, and the seat of the party that has them all.
+/// Creates the words and slots of an empty stack with `rooms` rooms, and the seat of the party that has them all.
 pub(crate) fn open<E: Drop>(
     alloc: Global,
     rooms: usize,
@@ -39,7 +39,7 @@ fn cut<E: Drop, B: Count>(words: &Words<E>, seat: &mut PartySeat<E>, rooms: usiz
     words.split_seat::<Cut<B>>(seat)
 }
 
-/// A seat with half of the first name and the first rooms of another.
+/// Splits a seat, which has half of the first name and the first rooms of another, off that.
 pub(crate) fn split<E: Drop>(
     words: &Words<E>,
     seat: &mut PartySeat<E>,
@@ -54,7 +54,7 @@ pub(crate) fn split<E: Drop>(
     cut::<E, Brand>(words, seat, rooms)
 }
 
-/// Takes another seat in. What one had seen begins what the other had.
+/// Absorbs another seat. What one of the two had seen is a prefix of what the other had.
 pub(crate) fn absorb<E: Drop>(words: &Words<E>, seat: &mut PartySeat<E>, other: PartySeat<E>)
     requires table { IsSeatOf seat.old.table_id words.now.table_id × IsSeatOf other.table_id words.now.table_id }
     requires rest { IsResting words.now.table_id.slots seat.old.me × IsResting words.now.table_id.slots other.me }

@@ -1,4 +1,4 @@
-//! The atomic steps of a shared transfer stack: each function is a part of a call.
+//! The atomic steps of a shared stack. Each function is a part of a call.
 ghost use Rattle.std.specs.Prelude.{◌≡◌, ◌≢◌, ◌<◌, ℕ, suc, List, [], ◌∷◌, Some, None, MatchResult, MatchOption, IsTrue};
 ghost use Rattle.cordyceps_stack.specs.Shared.Parts.{IsSeatOf, IsFilled, IsLoaded, Settled, HasMissed, HasPushed, SettlesAt, TookAll, Walked};
 ghost use Rattle.cordyceps_stack.specs.History as event;
@@ -18,7 +18,7 @@ use cordyceps_shared::tickets::Ticket;
 use crossbeam_utils::Backoff;
 use std::sync::Wait;
 
-/// Takes the slot of the first free room in hand, which the ticket is of, and fills it.
+/// Takes the slot of the first free room, whose ticket is given, and fills it.
 fn fill<E: Drop>(words: &Words<E>, seat: &mut PartySeat<E>, full: Filled<E>)
     requires table { IsSeatOf seat.old.table_id words.now.table_id }
     requires rest { IsResting words.now.table_id.slots seat.old.me }
@@ -33,7 +33,7 @@ fn fill<E: Drop>(words: &Words<E>, seat: &mut PartySeat<E>, full: Filled<E>)
     };
 }
 
-/// Reads `head`.
+/// Reads the head.
 fn load<E: Drop>(words: &Words<E>, seat: &mut PartySeat<E>, _room: usize) -> u64
     requires table { IsSeatOf seat.old.table_id words.now.table_id }
     requires ready { (seat.old.me.0.doing ≡ doing.Ready _room) × (seat.old.me.0.known.share ≢ []) }
@@ -53,7 +53,7 @@ fn link<E: Drop>(words: &Words<E>, seat: &mut PartySeat<E>, room: usize, read: u
     words.store::<Write>(seat, LINKS + room, read);
 }
 
-/// Exchanges `head`, if it is still what was read, with the room, and tells whether it was.
+/// Exchanges the head with the room if it is still what was read, and returns `true` if it was.
 fn settle<E: Drop>(words: &Words<E>, seat: &mut PartySeat<E>, room: usize, read: u64) -> bool
     requires table { IsSeatOf seat.old.table_id words.now.table_id }
     requires set { (x : E) × (seat.old.me.1 ≡ (room, Some (full_slot room x)) ∷ []) }
@@ -66,8 +66,8 @@ fn settle<E: Drop>(words: &Words<E>, seat: &mut PartySeat<E>, room: usize, read:
     words.compare_exchange::<Exchange>(seat, HEAD, read, room as u64 + 1) == read
 }
 
-/// Tries once to push what lies in the slot in hand, and answers whether nothing was held. `None` where another came
-/// between, and the slot is in hand as before.
+/// Tries once to push what is in the slot that the party took, and returns whether the stack was empty. If another
+/// party came between, it returns `None`, and the slot is as before.
 fn attempt<E: Drop>(words: &Words<E>, seat: &mut PartySeat<E>, room: usize) -> Option<bool>
     requires table { IsSeatOf seat.old.table_id words.now.table_id }
     requires ready { (x : E) × IsReady words.now.table_id.slots room x seat.old.me }
@@ -85,7 +85,7 @@ fn attempt<E: Drop>(words: &Words<E>, seat: &mut PartySeat<E>, room: usize) -> O
     }
 }
 
-/// Takes the element out of the slot in hand, and gives the slot back.
+/// Empties the slot that the party took, and returns it.
 fn back_out<E: Drop>(words: &Words<E>, seat: &mut PartySeat<E>, room: usize) -> Filled<E>
     requires table { IsSeatOf seat.old.table_id words.now.table_id }
     requires ready { (x : E) × IsReady words.now.table_id.slots room x seat.old.me }
@@ -99,7 +99,7 @@ fn back_out<E: Drop>(words: &Words<E>, seat: &mut PartySeat<E>, room: usize) -> 
     full
 }
 
-/// Tries once to push into the first free room, which the ticket is of.
+/// Tries once to push into the first free room, whose ticket is given.
 pub(crate) fn try_push<E: Drop>(
     words: &Words<E>,
     seat: &mut PartySeat<E>,
@@ -123,8 +123,9 @@ pub(crate) fn try_push<E: Drop>(
     }
 }
 
-/// Pushes what lies in the slot in hand, by as many tries as it takes, and tells whether nothing was held. It pauses
-/// from the second miss on: a pause takes longer than the step of another party that made the first try miss.
+/// Pushes what is in the slot that the party took, by as many tries as it needs, and returns whether the stack was
+/// empty. It pauses from the second failure on: a pause takes longer than the step of another party that made the first
+/// one fail.
 fn settle_at_last<E: Drop, R: Wait>(
     rt: &R,
     words: &Words<E>,
@@ -155,8 +156,8 @@ fn settle_at_last<E: Drop, R: Wait>(
     unreachable!()
 }
 
-/// Pushes into the first free room, which the ticket is of, by as many tries as it takes, and tells whether nothing was
-/// held. The slot stays filled from try to try.
+/// Pushes into the first free room, whose ticket is given, by as many tries as it needs, and returns whether the stack
+/// was empty. The slot stays filled from try to try.
 pub(crate) fn push<E: Drop, R: Wait>(
     rt: &R,
     words: &Words<E>,
@@ -177,7 +178,7 @@ pub(crate) fn push<E: Drop, R: Wait>(
     settle_at_last(rt, words, seat, room)
 }
 
-/// Whether nothing is held.
+/// Returns `true` if the stack has no element.
 pub(crate) fn is_empty<E: Drop>(words: &Words<E>, seat: &mut PartySeat<E>) -> bool
     requires table { IsSeatOf seat.old.table_id words.now.table_id }
     requires rest { IsResting words.now.table_id.slots seat.old.me }
@@ -189,7 +190,7 @@ pub(crate) fn is_empty<E: Drop>(words: &Words<E>, seat: &mut PartySeat<E>) -> bo
     words.load::<Look>(seat, HEAD) == 0
 }
 
-/// Takes all that is held, to be handed out by `walk`. Answers the word that leads to it.
+/// Takes all elements, for `walk` to return them, and returns the word that leads to the first.
 pub(crate) fn take<E: Drop>(words: &Words<E>, seat: &mut PartySeat<E>) -> u64
     requires table { IsSeatOf seat.old.table_id words.now.table_id }
     requires rest { IsResting words.now.table_id.slots seat.old.me }
@@ -199,7 +200,7 @@ pub(crate) fn take<E: Drop>(words: &Words<E>, seat: &mut PartySeat<E>) -> u64
     words.swap::<Take>(seat, HEAD, 0)
 }
 
-/// Hands out the newest of what was taken, to which `at` leads, and answers the word that leads to the next.
+/// Returns the newest element of what was taken, which `at` leads to, and the word that leads to the next.
 pub(crate) fn walk<E: Drop>(words: &Words<E>, seat: &mut PartySeat<E>, at: u64) -> (Filled<E>, u64)
     requires table { IsSeatOf seat.old.table_id words.now.table_id }
     requires batch { let batch = to_hand_out seat.old.me.0.doing in

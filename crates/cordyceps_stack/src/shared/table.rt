@@ -1,4 +1,4 @@
-//! What the table of a shared transfer stack holds, and what its seats know.
+//! The table of a shared stack, and what its seats know.
 ghost use Rattle.cordyceps_stack.specs.Shared.View.{View, newcomer};
 
 use atomic_table::{Seat, Shared, Table, TableRule};
@@ -17,7 +17,7 @@ impl<E> Model for SeatView<E> {
     ghost view = { λ _. newcomer 0 };
 }
 
-/// The rule that each step keeps. Its key is the number of rooms.
+/// The invariant of the table, which each step keeps. Its key is the number of rooms.
 pub(crate) struct Rule;
 
 impl<E> TableRule<Option<Filled<E>>, SeatView<E>, usize> for Rule {
@@ -28,12 +28,14 @@ impl<E> TableRule<Option<Filled<E>>, SeatView<E>, usize> for Rule {
     ghost first = { newcomer };
 }
 
+/// The words and slots of the table.
+///
 /// The word `HEAD` is 0, or 1 more than the room that was pushed last. The word `LINKS + r` is the link of room `r`,
 /// which leads to the room below, and slot `r` has its ticket and element. The other words are not used.
 pub(crate) type Words<E> = Shared<Option<Filled<E>>, SeatView<E>, usize, Rule>;
 
-/// The same, with its memory.
+/// The table, which owns its memory.
 pub(crate) type OwnedTable<E> = Table<Option<Filled<E>>, SeatView<E>, usize, Rule, Global>;
 
-/// A party's seat.
+/// The seat of a party: the token by which it acts on the table.
 pub(crate) type PartySeat<E> = Seat<Option<Filled<E>>, SeatView<E>>;

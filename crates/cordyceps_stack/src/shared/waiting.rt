@@ -1,4 +1,4 @@
-//! The calls of a shared stack that wait for others.
+//! The calls of a shared stack that may wait.
 ghost use Rattle.std.specs.Prelude.{◌≡◌, ◌<◌, ℕ, suc, Bool};
 ghost use Rattle.cordyceps_shared.specs.Shares.{whole};
 ghost use Rattle.cordyceps_stack.specs.Shared.Calls.{PushesAt};
@@ -10,8 +10,14 @@ use cordyceps_base::stack::Links;
 use std::sync::Wait;
 
 impl<T: Linked<Links<T>>> TransferStack<T> {
-    /// Pushes an element, by as many tries as it takes, and pauses between them. If others push or take without end it
-    /// may never return. A whole party's first try is its last.
+    /// Pushes an element. Requires that the party has a room, which the element then uses.
+    ///
+    /// # Complexity
+    /// O(t), for t tries, each as that of `try_push`.
+    ///
+    /// # Waits
+    /// While other parties push or take between its steps it tries again, and pauses from the second failure on. If
+    /// they do so without end, it never returns. A whole party succeeds at its first try.
     pub fn push<R: Wait>(&self, rt: &R, party: &mut Party<T>, handle: T::Handle)
         requires table { party.old.table ≡ self.now }
         requires room { 0 < party.old.rooms }
@@ -21,7 +27,13 @@ impl<T: Linked<Links<T>>> TransferStack<T> {
         self.push_was_empty(rt, party, handle);
     }
 
-    /// The same, and tells whether nothing was held just before. A whole party's first try is its last.
+    /// Pushes an element as `push` does, and returns `true` if the stack was empty just before.
+    ///
+    /// # Complexity
+    /// O(t), for t tries, each as that of `try_push`.
+    ///
+    /// # Waits
+    /// As `push`.
     pub fn push_was_empty<R: Wait>(&self, rt: &R, party: &mut Party<T>, handle: T::Handle) -> bool
         requires table { party.old.table ≡ self.now }
         requires room { 0 < party.old.rooms }
