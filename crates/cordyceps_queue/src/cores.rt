@@ -1,4 +1,4 @@
-//! The core as a plain value, whose steps are taken one at a time.
+//! The core: the algorithm as a plain value, which takes one step at a time.
 
 pub(crate) mod calls;
 pub(crate) mod machine;

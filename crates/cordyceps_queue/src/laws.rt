@@ -1,5 +1,5 @@
-//! Laws of histories and of queues. Each is a function whose contract is the law: one of all histories has no body, and
-//! one of calls has these calls.
+//! Laws of histories and of queues. Each is a function whose contract is the law. One about all histories has an empty
+//! body, and one about calls has these calls as its body.
 ghost use Rattle.std.specs.Prelude.{◌≡◌, ◌≤◌, ◌++◌, map, length, Ok};
 ghost use Rattle.cordyceps_shared.specs.Histories.{plain};
 ghost use Rattle.cordyceps_shared.specs.Shares.{whole};
@@ -18,34 +18,51 @@ use cordyceps_base::linked::Linked;
 use cordyceps_base::mpsc_queue::Links;
 use cordyceps_base::shared::StepError;
 
-/// A history is legal by its beginnings exactly if it is legal event by event, and blocked by its counts exactly if the
-/// oldest or the second oldest held element is of a party that has not linked it.
+/// States that two readings of a history agree: it is legal by its prefixes exactly if it is legal event by event, and
+/// blocked by its counts exactly if the oldest or second oldest element is of a party that has not linked it.
+///
+/// # Complexity
+/// O(1): it does nothing.
 pub fn both_ways<P, E>()
     ensures legal { LegalBothWays P E }
     ensures blocked { BlockedBothWays P E }
     ensures was_blocked { WasBlockedBothWays P E }
 {}
 
-/// Elements of one producer leave in its order, in each legal history: what came out and was put in by one party, in
-/// the order in which it came out, and then what is held of that party's, is what that party put in, in its order.
+/// States that the elements of one producer leave in its order, in each legal history: those that came out, and then
+/// those that are held, are what that party put in, in order.
+///
+/// # Complexity
+/// O(1): it does nothing.
 pub fn producers_in_order<P, E>()
     ensures { ProducersInOrder P E }
 {}
 
-/// At most one party holds the right, in each legal history: who took it once more than it gave it back.
+/// States that at most one party has the right to dequeue, in each legal history: the one that took it once more than
+/// it gave it back.
+///
+/// # Complexity
+/// O(1): it does nothing.
 pub fn one_holder<P, E>()
     ensures { OneHolder P E }
 {}
 
-/// `Busy` and `Inconsistent` are others' doing: where a party finds the right taken, or a try blocked, it is by a name
-/// that is none of its own.
+/// States that `Busy` and `Inconsistent` are caused by others: if a party finds the right taken or a try blocked, it is
+/// by a name that is none of its own.
+///
+/// # Complexity
+/// O(1): it does nothing.
 pub fn others_doing<E>()
     ensures busy { BusyIsAnothers E }
     ensures blocked { BlockedIsAnothers E }
     ensures blocked_try { BlockedTryIsAnothers E }
 {}
 
-/// What a party puts in leaves in its order, behind what was held, and the stub comes back.
+/// Enqueues the elements of a batch by a whole party, and closes the queue. They leave in order after those that were
+/// held, and the stub is returned.
+///
+/// # Complexity
+/// O(r), for r rooms of the queue.
 pub fn close_behind<T: Linked<Links<T>>>(
     queue: MpscQueue<T>,
     mut party: Party<T>,
@@ -63,11 +80,13 @@ pub fn close_behind<T: Linked<Links<T>>>(
     queue.close(party)
 }
 
-/// What a core answers to a step.
+/// What a step of a core returns.
 type Answered<E> = Result<QueueAnswer<E>, (StepError, Option<E>)>;
 
-/// Takes the right as one party and then as another. Of two takings with no giving back between them at most one gets
-/// it, at any core.
+/// Takes the right to dequeue by one party and then by another. At most one of the two gets it, at any core.
+///
+/// # Complexity
+/// O(1).
 pub fn take_twice<E: Drop>(
     core: &mut QueueCore<E>,
     first: usize,

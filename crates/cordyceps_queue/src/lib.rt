@@ -1,4 +1,4 @@
-//! Queues of which many parties put elements in, and one at a time takes them out.
+//! Queues with many producers and one consumer at a time.
 #![tactic(auto)]
 
 mod cores;

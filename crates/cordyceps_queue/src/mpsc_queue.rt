@@ -1,4 +1,4 @@
-//! Queues with many producers and one consumer at a time.
+//! The queue that threads share, the kind of its nodes, and its core.
 pub use crate::cores::calls::QueueCore;
 pub use crate::cores::replay::replay;
 pub use crate::cores::replay_end::Replay;

@@ -1,4 +1,4 @@
-//! What threads share: the words and slots of a table, and the calls of parties on them.
+//! The shared queue: the words and slots of a table, and the calls of parties on them.
 
 pub(crate) mod batch;
 pub(crate) mod calls;

@@ -1,4 +1,4 @@
-//! The core.
+//! The core of a queue.
 ghost use Rattle.std.specs.Prelude.{◌≡◌, ◌≢◌, ◌++◌, ◌↔◌, ◌≤◌, ℕ, [], List, Some, Err, slice_get, length, IfOk, IfErr, OnOk, OnErr, IsFalse, is_ok};
 ghost use Rattle.cordyceps_base.specs.Runs.{after};
 ghost use Rattle.cordyceps_queue.specs.Cores.Alone.{is_ready, may_dequeue, enqueue_steps, dequeued, found_of, dequeue_events, Enqueued, Finds, LooksBlocked};
@@ -14,10 +14,10 @@ use cordyceps_base::shared::StepError;
 use std::alloc::Global;
 use std::marker::Model;
 
-/// A queue whose steps are taken one at a time, by parties with numbers, in any order.
+/// The core of a queue: the algorithm as a plain value, whose steps the parties take one at a time, in any order.
 ///
-/// A contract sees its machine: the head, the right to dequeue, the rooms and the stages of the parties; and says of
-/// each history that the core met which one it meets afterwards. Such a history is legal.
+/// A contract sees its machine: the head, the right to dequeue, the rooms, and at which stage each party is. For each
+/// history that the core met before a call it says which one it meets afterwards. Such a history is legal.
 #[derive(Drop)]
 pub struct QueueCore<E> {
     alloc: Global,
@@ -36,7 +36,10 @@ impl<E> Model for QueueCore<E> {
 }
 
 impl<E: Drop> QueueCore<E> {
-    /// A core with no party, which holds nothing. It takes no memory, and keeps `alloc` for what is added later.
+    /// Creates a core without parties, rooms and elements. Allocates nothing; `alloc` is used for what is added later.
+    ///
+    /// # Complexity
+    /// O(1).
     pub fn new(alloc: Global) -> Self
         ensures machine { result ≡ new_machine }
         ensures meets { CoreMeets [] result }
@@ -47,7 +50,13 @@ impl<E: Drop> QueueCore<E> {
         }
     }
 
-    /// Adds a party at rest, without rooms, and answers its number. `Memory` changes nothing.
+    /// Adds a party at rest, without rooms, and returns its number. The first number is 0.
+    ///
+    /// # Errors
+    /// If memory is refused, it returns `Memory`, and the core is unchanged.
+    ///
+    /// # Complexity
+    /// Amortized O(1).
     pub fn add_party(&mut self) -> Result<usize, StepError>
         ensures ok { IfOk result (λ n. (n ≡ length self.old.parties) × (self.new ≡ with_party self.old)) }
         ensures err { IfErr result (λ e. (e ≡ StepError.Memory) × (self.new ≡ self.old)) }
@@ -56,7 +65,14 @@ impl<E: Drop> QueueCore<E> {
         self.machine.add_party().map_err(|_| StepError::Memory)
     }
 
-    /// Adds a free room of the party. `NotThere` is for a party that there is not; it and `Memory` change nothing.
+    /// Adds a free room to a party, at any stage.
+    ///
+    /// # Errors
+    /// If there is no such party, it returns `NotThere`. If memory is refused, it returns `Memory`. Both leave the core
+    /// unchanged.
+    ///
+    /// # Complexity
+    /// Amortized O(1).
     pub fn add_room(&mut self, party: usize) -> Result<(), StepError>
         ensures ok { OnOk result (self.new ≡ with_room self.old party) }
         ensures err { OnErr result (self.new ≡ self.old) }
@@ -72,9 +88,14 @@ impl<E: Drop> QueueCore<E> {
         }
     }
 
-    /// Takes a party's step. `NotThere` comes exactly where there is no such party, it is not at that step, or it has
-    /// no free room for it; that changes nothing, and hands the step's element back. A step needs no memory, so that
-    /// `Memory` never comes.
+    /// Takes a step of a party. Allocates nothing.
+    ///
+    /// # Errors
+    /// If there is no such party, it is not at that step, or it has no free room for a `Clear`, it returns `NotThere`
+    /// and the step's element, and the core is unchanged. It never returns `Memory`.
+    ///
+    /// # Complexity
+    /// O(r) for `Clear` with an element, for r rooms, among which it seeks a free one. O(1) for the other steps.
     pub fn step(&mut self, party: usize, step: QueueStep<E>) -> Answered<E>
         ensures machine { self.new ≡ (stepped self.old party step).0 }
         ensures answer { result ≡ (stepped self.old party step).1 }
@@ -86,9 +107,15 @@ impl<E: Drop> QueueCore<E> {
         self.machine.act(party, step)
     }
 
-    /// Puts an element behind all others, as a party that runs alone: `Clear`, `Swap` and `Link`. `NotThere` comes
-    /// exactly where the party is not at rest or has no free room; that changes nothing, and hands the element back. It
-    /// needs no memory.
+    /// Appends an element by the steps `Clear`, `Swap` and `Link` of a party, without a step of another between.
+    /// Allocates nothing.
+    ///
+    /// # Errors
+    /// If the party is not at rest or has no free room, it returns `NotThere` and the element, and the core is
+    /// unchanged.
+    ///
+    /// # Complexity
+    /// O(r), for r rooms, among which it seeks a free one.
     pub fn enqueue(&mut self, party: usize, element: E) -> Result<(), (StepError, E)>
         ensures accepted { is_ok result ≡ is_ready self.old party }
         ensures err { IfErr result (λ e. (e ≡ (StepError.NotThere, element)) × (self.new ≡ self.old)) }
@@ -105,9 +132,15 @@ impl<E: Drop> QueueCore<E> {
         Ok(())
     }
 
-    /// Takes the oldest element out, as a party that runs alone. From rest it takes the right first and gives it back
-    /// last; a party that holds the right does neither. `NotThere` comes exactly at the other stages, and changes
-    /// nothing. It needs no memory.
+    /// Tries once to remove the oldest element by steps of a party, without a step of another between. A party at rest
+    /// takes the right to dequeue first and gives it back last; one that has the right does neither. Allocates nothing.
+    ///
+    /// # Errors
+    /// If the party is at another stage, it returns `NotThere`, and the core is unchanged. The inner error says why no
+    /// element came out.
+    ///
+    /// # Complexity
+    /// O(1).
     pub fn try_dequeue(&mut self, party: usize) -> Result<Result<E, TryDequeueError>, StepError>
         ensures accepted { is_ok result ≡ may_dequeue (slice_get self.old.parties party) }
         ensures err { IfErr result (λ e. (e ≡ StepError.NotThere) × (self.new ≡ self.old)) }
@@ -130,13 +163,17 @@ impl<E: Drop> QueueCore<E> {
         Ok(found(self.machine.dequeue(party)))
     }
 
-    /// Takes elements out, oldest first, by tries of one party that runs alone, until `max` came out or a try gives
-    /// none: these, or why the first try gave none. From rest it takes the right first and gives it back last; a party
-    /// that holds the right does neither.
+    /// Removes up to `max` elements by tries of a party, without a step of another between, and returns them, the
+    /// oldest first. A party at rest takes the right to dequeue first and gives it back last; one that has the right
+    /// does neither.
     ///
-    /// `NotThere` comes exactly where the party is at another stage or `max` is 0, and `Memory` where there is none for
-    /// the elements: room for as many as are held, or for `max` if that is less, is made before the first step. Both
-    /// change nothing. It goes through the rooms and the parties once, to count what is held.
+    /// # Errors
+    /// If the party is at another stage or `max` is 0, it returns `NotThere`. If memory is refused for `max` elements,
+    /// or for all elements if these are fewer, it returns `Memory`. Both leave the core unchanged. The inner error is
+    /// that of the first try, if no element came out.
+    ///
+    /// # Complexity
+    /// O(r + p), for r rooms and p parties, through which it counts the elements, with at most one allocation.
     pub fn take_linked(
         &mut self,
         party: usize,

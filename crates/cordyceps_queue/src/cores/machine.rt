@@ -30,6 +30,7 @@ impl<E> Model for Machine<E> {
 }
 
 impl<E: Drop> Machine<E> {
+    /// Creates a machine without parties, rooms and elements.
     pub(crate) fn new(alloc: Global) -> Self
         ensures { result ≡ new_machine }
     {
@@ -41,7 +42,7 @@ impl<E: Drop> Machine<E> {
         }
     }
 
-    /// Adds a party at rest, and answers its number.
+    /// Adds a party at rest, and returns its number.
     pub(crate) fn add_party(&mut self) -> Result<usize, AllocError>
         ensures ok { IfOk result (λ n. (n ≡ length self.old.parties) × (self.new ≡ with_party self.old)) }
         ensures err { OnErr result (self.new ≡ self.old) }
@@ -51,7 +52,7 @@ impl<E: Drop> Machine<E> {
         Ok(party)
     }
 
-    /// Adds a free room of the party.
+    /// Adds a free room of a party.
     pub(crate) fn add_room(&mut self, party: usize) -> Result<(), AllocError>
         ensures ok { OnOk result (self.new ≡ with_room self.old party) }
         ensures err { OnErr result (self.new ≡ self.old) }
@@ -59,21 +60,21 @@ impl<E: Drop> Machine<E> {
         self.rooms.add(party)
     }
 
-    /// Where the party is.
+    /// Returns the stage of a party, if there is such a party.
     pub(crate) fn stage(&self, party: usize) -> Option<Stage>
         ensures { result ≡ slice_get self.now.parties party }
     {
         self.parties.get(party).copied()
     }
 
-    /// Whether the party has a free room.
+    /// Returns `true` if the party has a free room.
     pub(crate) fn has_room(&self, party: usize) -> bool
         ensures { result ≡ is_some (least_free party self.now.rooms) }
     {
         self.rooms.least_free(party).is_some()
     }
 
-    /// How many elements are held, by a walk through all rooms and parties.
+    /// Returns the number of elements, by a walk through all rooms and parties.
     pub(crate) fn count_held(&self) -> usize
         ensures { result ≡ count_held self.now }
     {
@@ -85,7 +86,7 @@ impl<E: Drop> Machine<E> {
         self.rooms.occupied().saturating_sub(cleared)
     }
 
-    /// The party goes to another stage.
+    /// Moves a party to another stage, and returns `answer`.
     fn stand(&mut self, party: usize, stage: Stage, answer: QueueAnswer<E>) -> Answered<E>
         requires { party < length self.old.parties }
         ensures machine { self.new ≡ (stands self.old party stage answer).0 }
@@ -153,7 +154,7 @@ impl<E: Drop> Machine<E> {
         Ok(QueueAnswer::Done)
     }
 
-    /// Hands the tail's element out, and goes on to the next room.
+    /// Takes the tail's element out, and moves the party to the next room.
     fn hand_out(&mut self, party: usize, tail: usize, next: usize) -> Answered<E>
         requires party { party < length self.old.parties }
         requires full { IsSome (element_in (slice_get self.old.rooms tail)) }
@@ -242,7 +243,7 @@ impl<E: Drop> Machine<E> {
         }
     }
 
-    /// Takes a party's step, or refuses it.
+    /// Takes a step of a party, or refuses it.
     pub(crate) fn act(&mut self, party: usize, step: QueueStep<E>) -> Answered<E>
         requires { IsSound self.old }
         ensures machine { self.new ≡ (stepped self.old party step).0 }

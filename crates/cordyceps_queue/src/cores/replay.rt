@@ -1,4 +1,4 @@
-//! Whole lists of steps.
+//! Lists of steps.
 ghost use Rattle.std.specs.Prelude.{◌≡◌, ◌≢◌, ◌↔◌, [], None, IsTrue};
 ghost use Rattle.cordyceps_queue.specs.Cores.CoreMeets.{Replayed};
 
@@ -8,10 +8,15 @@ use crate::cores::steps::QueueStep;
 use std::alloc::Global;
 use std::collections::VecDeque;
 
-/// Takes the steps in order. A step that is not there is replied to, and the run goes on.
+/// Takes steps in order, each with the number of its party, and collects what they return. A step that returns
+/// `NotThere` counts too, and the next one follows.
 ///
-/// Before each step there is made room for its reply. Where that is refused the replay stops before the step: `stopped`
-/// is true, and `rest` begins with it. A step itself needs no memory, so that `back` is always `None`.
+/// # Errors
+/// Memory for a reply is made sure of before its step. If it is refused, the replay stops: that step and those after it
+/// are the rest, and the core keeps what the steps before it did.
+///
+/// # Complexity
+/// That of the steps.
 pub fn replay<E: Drop>(
     alloc: Global,
     mut core: QueueCore<E>,

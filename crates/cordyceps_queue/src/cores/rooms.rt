@@ -9,7 +9,7 @@ use cordyceps_shared::room::Room;
 use std::alloc::{AllocError, Global};
 use std::marker::Model;
 
-/// Rooms with numbers from 1, each with a place for one element. The stub, which never has one, is room 0.
+/// Rooms with numbers from 1, each for one element. The stub, which has no element, is room 0.
 #[derive(Drop)]
 pub(crate) struct Rooms<E> {
     stub_next: Option<usize>,
@@ -26,7 +26,7 @@ impl<E> Model for Rooms<E> {
     ghost view = { λ rooms. stub_room rooms.stub_next ∷ rooms.list.items };
 }
 
-/// Where the first room stands that is a free one of the party.
+/// Returns the index of the party's first free room.
 fn first_free<E>(rooms: &[Room<E>], party: usize) -> Option<usize>
     ensures place { result ≡ position (is_free_for party) rooms.now }
     ensures within { IfSome result (λ place. place < length rooms.now) }
@@ -35,7 +35,7 @@ fn first_free<E>(rooms: &[Room<E>], party: usize) -> Option<usize>
 }
 
 impl<E: Drop> Rooms<E> {
-    /// The stub's room alone. It takes no memory.
+    /// Creates the stub's room alone. Allocates nothing.
     pub(crate) fn new(alloc: Global) -> Self
         ensures { result ≡ stub_room None ∷ [] }
     {
@@ -45,7 +45,7 @@ impl<E: Drop> Rooms<E> {
         }
     }
 
-    /// Adds a free room of the party.
+    /// Adds a free room of a party.
     pub(crate) fn add(&mut self, party: usize) -> Result<(), AllocError>
         ensures ok { OnOk result
             (self.new ≡ self.old ++ record { owner = Some party; element = None; next = None } ∷ []) }
@@ -59,7 +59,7 @@ impl<E: Drop> Rooms<E> {
         Ok(())
     }
 
-    /// The party's free room with the least number.
+    /// Returns the party's free room with the least number, by a walk through all rooms.
     pub(crate) fn least_free(&self, party: usize) -> Option<usize>
         ensures { result ≡ least_free party self.now }
     {
@@ -67,7 +67,7 @@ impl<E: Drop> Rooms<E> {
         Some(place + 1)
     }
 
-    /// The room to which the room `at` leads.
+    /// Returns the room that the room `at` leads to.
     pub(crate) fn next(&self, at: usize) -> Option<usize>
         requires { at < length self.now }
         ensures { result ≡ next_in (slice_get self.now at) }
@@ -79,7 +79,7 @@ impl<E: Drop> Rooms<E> {
         }
     }
 
-    /// How many rooms have an element, by a walk through all rooms.
+    /// Returns the number of rooms that have an element, by a walk through all rooms.
     pub(crate) fn occupied(&self) -> usize
         ensures { result ≡ occupied self.now }
     {
@@ -89,7 +89,7 @@ impl<E: Drop> Rooms<E> {
             .count()
     }
 
-    /// Puts the element into a room, which is nobody's free one from then on and leads nowhere.
+    /// Puts an element into a room, which is then no party's free one and has a null link.
     pub(crate) fn hold(&mut self, at: usize, element: E)
         requires within { at < length self.old }
         requires not_stub { 0 < at }
@@ -102,7 +102,7 @@ impl<E: Drop> Rooms<E> {
         };
     }
 
-    /// Makes the room `at` lead to another.
+    /// Makes a room lead to another.
     pub(crate) fn link(&mut self, at: usize, next: Option<usize>)
         requires { at < length self.old }
         ensures { self.new ≡ change (linking next) at self.old }

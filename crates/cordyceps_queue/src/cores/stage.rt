@@ -1,34 +1,37 @@
-//! Where a party is.
+//! The stages of the parties of a core.
 ghost use Rattle.std.specs.Prelude.{◌≡◌};
 ghost use Rattle.cordyceps_queue.specs.Cores.Drain.{is_cleared};
 
 /// Where a party is between two steps. `room` is the room that it enqueues, `old` the head before its swap, and `tail`
-/// the room at which the party with the right dequeues. The stub is room 0.
+/// the room at which the party that has the right dequeues. The stub is room 0.
 #[derive(Clone, Copy)]
 pub enum Stage {
+    /// In no call.
     Rest,
-    /// The room's link is null, and its element is chosen.
+    /// In an enqueue: the link of `room` is null, and it has the element.
     Cleared(usize),
-    /// The room is the head, and is to be linked behind the old one.
+    /// In an enqueue: `room` is the head, and has yet to be linked after `old`.
     Swapped(usize, usize),
-    /// The party has the right, and is between two tries.
+    /// The party has the right to dequeue, and is between two tries, at `tail`.
     Holding(usize),
-    /// The stub is the tail, and its next word was null.
+    /// In a try: the stub is the tail, and its link was null.
     StubNull,
-    /// The stub was passed.
+    /// In a try: the stub was passed, and `tail` is after it.
     Second(usize),
-    /// The tail's next word was null.
+    /// In a try: the link of `tail` was null.
     Null(usize),
-    /// The tail was the head, so that the stub is put in: it is to be cleared, to be swapped, and to be linked.
+    /// In a try: `tail` was the head, and the stub's link has yet to be made null before the stub is put in.
     PutClear(usize),
+    /// In a try: the stub's link is null, and the stub has yet to become the head. `tail` is the room.
     PutSwap(usize),
+    /// In a try: the stub is the head, and has yet to be linked. The rooms are `tail` and `old`.
     PutLink(usize, usize),
-    /// The stub is in, and the tail's next word is to be read again.
+    /// In a try: the stub was put in, and the link of `tail` has yet to be read again.
     PutRead(usize),
 }
 
 impl Stage {
-    /// Whether the party has an element in a room that it has yet to swap in.
+    /// Returns `true` if the party has an element in a room that has yet to become the head.
     pub(crate) fn is_cleared(&self) -> bool
         ensures { result ≡ is_cleared self.now }
     {

@@ -1,41 +1,42 @@
-//! The steps of a core and their answers.
+//! The steps of a core, and what they return.
 ghost use Rattle.std.specs.Prelude.{◌≡◌};
 ghost use Rattle.cordyceps_queue.specs.Cores.Machine.{step_element};
 
 use cordyceps_base::shared::StepError;
 
-/// Why nothing was dequeued.
+/// Why no element was dequeued.
 #[derive(Clone, Copy, Debug, PartialEq, Eq)]
 pub enum TryDequeueError {
-    /// Nothing was held.
+    /// The queue had no element.
     Empty = 1,
-    /// The oldest element or the one behind it is not linked yet.
+    /// The oldest element or the one after it is not linked yet.
     Inconsistent = 2,
-    /// Another party holds the right to dequeue.
+    /// Another party has the right to dequeue.
     Busy = 3,
 }
 
 /// A step of one party: a read or a write of one word.
 #[derive(Drop)]
 pub enum QueueStep<E> {
-    /// The next word of a free room becomes null, and the room gets the element. Without an element: that of the stub.
+    /// Makes a free room's link null, and puts the element into the room. Without an element, it makes the stub's link
+    /// null.
     Clear(Option<E>),
-    /// The head becomes the room, or the stub.
+    /// Makes the room the head, or the stub.
     Swap,
-    /// The next word of the old head becomes the room, or the stub.
+    /// Makes the old head lead to the room, or to the stub.
     Link,
-    /// The right to dequeue is taken, if it is free.
+    /// Takes the right to dequeue if it is free.
     Take,
-    /// The next word of the tail is read.
+    /// Reads the tail's link.
     ReadNext,
-    /// The head is read.
+    /// Reads the head.
     ReadHead,
-    /// The right to dequeue is given back.
+    /// Gives the right to dequeue back.
     Give,
 }
 
 impl<E: Drop> QueueStep<E> {
-    /// The element that the step brings.
+    /// Returns the element that the step brings, if any.
     pub(crate) fn into_element(self) -> Option<E>
         ensures { result ≡ step_element self }
     {
@@ -46,22 +47,22 @@ impl<E: Drop> QueueStep<E> {
     }
 }
 
-/// What an accepted step answers.
+/// What a step returns.
 #[derive(Drop, Debug, PartialEq, Eq)]
 pub enum QueueAnswer<E> {
-    /// The step was taken, and there is more to do.
+    /// The step was taken, and the call goes on or has ended.
     Done,
-    /// The party holds the right to dequeue.
+    /// The party has the right to dequeue.
     Taken,
-    /// Another party holds it.
+    /// Another party has the right to dequeue.
     Busy,
-    /// The oldest element comes out.
+    /// The oldest element.
     Out(E),
-    /// Nothing is held.
+    /// There was no element.
     Empty,
-    /// The oldest element or the one behind it is not linked yet.
+    /// The oldest element or the one after it is not linked yet.
     Inconsistent,
 }
 
-/// What a step answers. `Err` hands the step's element back.
+/// What a step returns. A step that is refused returns its element.
 pub(crate) type Answered<E> = Result<QueueAnswer<E>, (StepError, Option<E>)>;

@@ -1,4 +1,4 @@
-//! Whole calls of one party, by its steps.
+//! Calls of one party, by its steps.
 ghost use Rattle.std.specs.Prelude.{◌≡◌, ◌≤◌, ◌⊎◌, ℕ, [], List, Some, length, slice_get, true, vec_capacity};
 ghost use Rattle.cordyceps_queue.specs.Cores.Alone.{next_step, is_done, found_of, tries, dequeued, may_dequeue, is_ready};
 ghost use Rattle.cordyceps_queue.specs.Cores.CoreMeets.{CoreMeets, IsSound};
@@ -9,7 +9,7 @@ use crate::cores::machine::Machine;
 use crate::cores::stage::Stage;
 use crate::cores::steps::{Answered, QueueAnswer, QueueStep, TryDequeueError};
 
-/// The step of a try to dequeue at this stage.
+/// Returns the step that a try to dequeue takes at a stage.
 fn next_step<E>(stage: Option<Stage>) -> QueueStep<E>
     ensures { result ≡ next_step stage }
 {
@@ -22,14 +22,14 @@ fn next_step<E>(stage: Option<Stage>) -> QueueStep<E>
     }
 }
 
-/// Whether a try goes on.
+/// Returns `true` if a try goes on.
 fn is_done<E>(answer: &Answered<E>) -> bool
     ensures { result ≡ is_done answer.now }
 {
     matches!(answer, Ok(QueueAnswer::Done))
 }
 
-/// What an answer means for a try to dequeue.
+/// Returns the outcome of a try to dequeue, from the result of its last step.
 pub(crate) fn found<E: Drop>(answer: Answered<E>) -> Result<E, TryDequeueError>
     ensures { result ≡ found_of answer }
 {
@@ -41,7 +41,7 @@ pub(crate) fn found<E: Drop>(answer: Answered<E>) -> Result<E, TryDequeueError>
     }
 }
 
-/// What a call answers that took this batch and then stopped so.
+/// Returns the batch, or why the first try failed if the batch is empty.
 pub(crate) fn batch_or<E: Drop>(
     batch: Vec<E>,
     stop: Option<TryDequeueError>,
@@ -55,21 +55,21 @@ pub(crate) fn batch_or<E: Drop>(
 }
 
 impl<E: Drop> Machine<E> {
-    /// Whether the party is at rest and has a free room.
+    /// Returns `true` if the party is at rest and has a free room.
     pub(crate) fn is_ready(&self, party: usize) -> bool
         ensures { result ≡ is_ready self.now party }
     {
         matches!(self.stage(party), Some(Stage::Rest)) && self.has_room(party)
     }
 
-    /// Whether the party is at a stage from which it may dequeue.
+    /// Returns `true` if the party is at a stage from which it may dequeue.
     pub(crate) fn may_dequeue(&self, party: usize) -> bool
         ensures { result ≡ may_dequeue (slice_get self.now.parties party) }
     {
         matches!(self.stage(party), Some(Stage::Rest | Stage::Holding(_)))
     }
 
-    /// The steps of a holder's try to dequeue. From any stage there are at most seven.
+    /// Takes the steps of a try by the party that has the right, which are at most seven.
     fn try_holding(&mut self, party: usize) -> Answered<E>
         requires { IsSound self.old }
         ensures machine { self.new ≡ (tries party 6 self.old).0 }
@@ -84,7 +84,7 @@ impl<E: Drop> Machine<E> {
         self.act(party, next_step(self.stage(party)))
     }
 
-    /// A try to dequeue. A party at rest takes the right first and gives it back last.
+    /// Tries to dequeue. A party at rest takes the right first and gives it back last.
     pub(crate) fn dequeue(&mut self, party: usize) -> Answered<E>
         requires { IsSound self.old }
         ensures machine { self.new ≡ (dequeued self.old party).0 }
@@ -103,8 +103,8 @@ impl<E: Drop> Machine<E> {
         }
     }
 
-    /// Tries of a holder, one after the other, until the batch, which begins empty, has `max` elements or a try gives
-    /// none. Answers why it gave none.
+    /// Tries one after the other, as the party that has the right, until the batch has `max` elements or a try fails,
+    /// and returns why it failed. The batch is empty at first.
     fn drain(&mut self, party: usize, batch: &mut Vec<E>, max: usize) -> Option<TryDequeueError>
         requires holding { (t : ℕ) × (slice_get self.old.parties party ≡ Some (Stage.Holding t)) }
         requires empty { batch.old.items ≡ [] }
@@ -121,8 +121,8 @@ impl<E: Drop> Machine<E> {
         None
     }
 
-    /// The same, from any stage from which a party may dequeue. A party at rest takes the right first and gives it back
-    /// last.
+    /// Takes a batch as `drain` does, from any stage from which a party may dequeue. A party at rest takes the right
+    /// first and gives it back last.
     pub(crate) fn take_batch(
         &mut self,
         party: usize,

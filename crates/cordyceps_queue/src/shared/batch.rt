@@ -1,4 +1,4 @@
-//! What came out of a queue.
+//! Elements that came out of a queue.
 ghost use Rattle.std.specs.Prelude.{◌≡◌, ◌+◌, ◌<◌, ◌^◌, ◌==◌, [], ◌∷◌, ◌++◌, length, Some, IfSome};
 ghost use Rattle.std.specs.Iterator.{YieldsFirstBy, item_count, at_most, UpTo};
 ghost use Rattle.std.specs.Iterator.SizeHint.{IsWithinCount};
@@ -9,11 +9,11 @@ use cordyceps_base::single_chain::SingleChain;
 use std::iter::{ExactSizeIterator, FusedIterator};
 use std::marker::Model;
 
-/// Owned handles that came out of a queue. An iterator hands them out, the oldest first. A contract sees their
-/// elements, the oldest first.
+/// An iterator that owns the elements that came out of a queue, and returns them, the oldest first. A contract sees the
+/// elements that are left. The Rust crate `cordyceps` has no such type.
 ///
-/// It is this project's own: the Rust crate `cordyceps` has no such type. No call takes memory, and each takes the same
-/// time whatever is left. A drop frees each node that is left.
+/// # Complexity
+/// Dropping it frees each node that is left: O(n), for n elements. Its calls allocate nothing.
 #[derive(Drop)]
 pub struct Batch<T> {
     chain: SingleChain<T, Links<T>>,
@@ -33,7 +33,7 @@ impl<T> Model for Batch<T> {
 }
 
 impl<T: Linked<Links<T>>> Batch<T> {
-    /// No elements.
+    /// Creates an empty batch.
     pub(crate) fn new() -> Batch<T>
         ensures { result ≡ [] }
     {
@@ -43,21 +43,27 @@ impl<T: Linked<Links<T>>> Batch<T> {
         }
     }
 
-    /// How many elements are left. It takes no walk.
+    /// Returns the number of elements that are left.
+    ///
+    /// # Complexity
+    /// O(1).
     pub fn len(&self) -> usize
         ensures { result ≡ length self.now }
     {
         self.len
     }
 
-    /// Whether no element is left.
+    /// Returns `true` if no element is left.
+    ///
+    /// # Complexity
+    /// O(1).
     pub fn is_empty(&self) -> bool
         ensures { result ≡ (length self.now == 0) }
     {
         self.len == 0
     }
 
-    /// Puts an element behind the others. It takes no walk.
+    /// Appends an element to the batch, in O(1).
     pub(crate) fn put_last(&mut self, handle: T::Handle)
         requires { length self.old + 1 < 2 ^ 64 }
         ensures { self.new ≡ self.old ++ T.element handle ∷ [] }
@@ -67,7 +73,7 @@ impl<T: Linked<Links<T>>> Batch<T> {
     }
 }
 
-/// Takes the oldest element out. Once it has given `None` it does so for good.
+/// Returns the elements, the oldest first. When it has returned `None` once, it returns `None` from then on.
 impl<T: Linked<Links<T>>> Iterator for Batch<T> {
     type Item = T::Handle;
 
@@ -75,6 +81,10 @@ impl<T: Linked<Links<T>>> Iterator for Batch<T> {
 
     ghost remaining = { item_count (λ b. b) };
 
+    /// Returns the oldest element that is left, or `None` if none is.
+    ///
+    /// # Complexity
+    /// O(1).
     fn next(&mut self) -> Option<T::Handle> {
         if self.is_empty() {
             return None;
@@ -83,6 +93,10 @@ impl<T: Linked<Links<T>>> Iterator for Batch<T> {
         Some(T::from_ptr(self.chain.unlink_front()))
     }
 
+    /// Returns the number of elements that are left, as both bounds.
+    ///
+    /// # Complexity
+    /// O(1).
     fn size_hint(&self) -> (usize, Option<usize>)
         ensures lower { IsWithinCount result.0 (at_most (length self.now)) }
         ensures upper { IfSome result.1 (UpTo (at_most (length self.now))) }
@@ -93,6 +107,10 @@ impl<T: Linked<Links<T>>> Iterator for Batch<T> {
 }
 
 impl<T: Linked<Links<T>>> ExactSizeIterator for Batch<T> {
+    /// Returns the number of elements that are left.
+    ///
+    /// # Complexity
+    /// O(1).
     fn len(&self) -> usize {
         Batch::len(self)
     }

@@ -23,15 +23,22 @@ use std::marker::Model;
 
 /// A queue that threads share without a lock: many put elements in, and one at a time takes them out.
 ///
-/// It has as many rooms as its maker chose, each for one element. Each call is made by a party, which has some of the
-/// rooms and what it has seen of the queue's history (for contracts alone). Elements go in by handles, and the same
-/// elements come out, in the order in which they were put in. No call on a made queue takes memory.
+/// Its maker chooses the number of its rooms. A room is a unit of capacity: an enqueue uses one. Each call is made
+/// through a party of this queue, which has some of the rooms. Calls allocate nothing, except the constructors. A
+/// handle that is put in comes out as the same element, first in, first out. A party dequeues by the right to do so,
+/// which one party has at a time.
 ///
-/// Who dequeues has the right to do so, which one party has at a time. A drop drops what is held, and the stub.
+/// A contract sees the queue's table, by which it knows the parties of this queue: their `table` is the same; and the
+/// stub. It sees no contents; what happened to the queue is told by what its parties have seen, their observed prefix
+/// of its history.
 ///
-/// The source is `MpscQueue` of the Rust crate `cordyceps`, by Vyukov's algorithm
-/// (<https://www.1024cores.net/home/lock-free-algorithms/queues/intrusive-mpsc-node-based-queue>), with a fixed number
-/// of rooms in place of bare pointers. It never answers `Empty` where an element was put in and not linked yet.
+/// The algorithm is Vyukov's 'Intrusive MPSC node-based queue'
+/// (<https://www.1024cores.net/home/lock-free-algorithms/queues/intrusive-mpsc-node-based-queue>), and the interface
+/// that of `MpscQueue` in the Rust crate `cordyceps`. Unlike these, it never returns `Empty` when an element was put in
+/// and is not linked yet.
+///
+/// # Complexity
+/// Dropping the queue drops its elements and the stub: O(r), for r rooms.
 #[derive(Drop)]
 pub struct MpscQueue<T: Linked<Links<T>>> {
     pub(crate) rooms: OwnedTable<T::Handle>,
@@ -49,11 +56,18 @@ impl<T: Linked<Links<T>>> Model for MpscQueue<T> {
     ghost invariant = { λ q. IsTable q.rooms.shared.table_id };
 }
 
-/// The right to act on one queue, with a number of rooms. It can be sent to a thread where `T::Handle` can.
+/// A handle through which a thread acts on one queue, with a number of rooms. It can be sent to a thread if `T::Handle`
+/// can.
 ///
-/// A contract sees its queue's table, the history that it has seen with a mark at its own events, its share of names,
-/// and how many rooms it has. A party whose share is the empty word alone is whole: it took back all that were split
-/// off. The rooms of a party that is dropped are lost for good, and no party is whole afterwards.
+/// A contract sees the table of its queue, what it has seen (the observed prefix of the history, with a mark at its own
+/// events), its share (its permission: which part of the names of events it has), and the number of its rooms. A party
+/// whose share is the empty word alone is whole: it has the full permission, and has absorbed all parties that were
+/// split off.
+///
+/// If a party is dropped, its rooms are lost for good, and no party is whole afterwards.
+///
+/// # Complexity
+/// Dropping a party is O(r), for r rooms that it has.
 #[derive(Drop)]
 pub struct Party<T: Linked<Links<T>>> {
     pub(crate) seat: PartySeat<T::Handle>,
@@ -72,10 +86,14 @@ impl<T: Linked<Links<T>>> Model for Party<T> {
 }
 
 impl<T: Linked<Links<T>>> Party<T> {
-    /// How many rooms the party has: it can put in as many elements before it takes some out.
+    /// Returns the number of rooms that the party has: it can put in as many elements before it takes some out.
     ///
-    /// To a contract it tells what every party knows: what it has seen is legal, and a whole party has seen only its
-    /// own events; none of its names begins another, none is pending, and none has the right to dequeue.
+    /// Its contract also states what is true of every party: what it has seen is legal, and a whole party has seen only
+    /// its own events. None of its names is a prefix of another, has an element that is not linked yet, or has the
+    /// right to dequeue.
+    ///
+    /// # Complexity
+    /// O(1).
     pub fn rooms(&self) -> usize
         ensures count { result ≡ self.now.rooms }
         ensures knows { Knows (λ h. Legal h) self.now }
@@ -86,7 +104,7 @@ impl<T: Linked<Links<T>>> Party<T> {
     }
 }
 
-/// A ticket for each room but the stub's.
+/// Creates a ticket for each room except the stub's.
 fn tickets_of(alloc: Global, rooms: usize) -> Result<Tickets, AllocError>
     requires { rooms ≤ MAX_ROOMS }
     ensures { IfOk result (λ t. t ≡ down_from rooms) }
@@ -96,11 +114,14 @@ fn tickets_of(alloc: Global, rooms: usize) -> Result<Tickets, AllocError>
 }
 
 impl<T: Linked<Links<T>>> MpscQueue<T> {
-    /// An empty queue with this many rooms, at most `MAX_ROOMS`, and the party that has them all, which is whole. Its
-    /// stub is a room without a node, beside the others.
+    /// Creates an empty queue with `rooms` rooms, and the party that has them all, which is whole. Its stub is a
+    /// further room, without a node. Requires that `rooms` is at most `MAX_ROOMS`.
     ///
-    /// It makes an allocation for each room and one for the stub's, and four for the words and slots of all.
-    /// `AllocError` where one is refused.
+    /// # Errors
+    /// If memory is refused, it returns `AllocError`, and nothing is kept.
+    ///
+    /// # Complexity
+    /// O(`rooms`), with an allocation for each room and five more.
     pub fn new(alloc: Global, rooms: usize) -> Result<(MpscQueue<T>, Party<T>), AllocError>
         requires { rooms ≤ MAX_ROOMS }
         ensures { IfOk result (λ made. (made.0.stub ≡ None) × (made.1 ≡ new_party made.0.table rooms)) }
@@ -110,9 +131,13 @@ impl<T: Linked<Links<T>>> MpscQueue<T> {
         Ok((MpscQueue { rooms, stub: None }, Party { seat, tickets }))
     }
 
-    /// The same, with a stub that the caller hands in, and that `close` hands back.
+    /// Creates an empty queue as `new` does, with a stub that the caller provides and that `close` returns.
     ///
-    /// It makes three allocations more. `Refused` hands the stub back where one is refused.
+    /// # Errors
+    /// If memory is refused, it returns `Refused` with the stub.
+    ///
+    /// # Complexity
+    /// That of `new`, with three more allocations.
     pub fn new_with_stub(
         alloc: Global,
         stub: T::Handle,
@@ -139,7 +164,13 @@ impl<T: Linked<Links<T>>> MpscQueue<T> {
         }
     }
 
-    /// Puts an element behind all others, by one swap of the queue's head, and links it. It waits for nobody.
+    /// Appends an element to the queue. Requires that the party has a room, which the element then uses.
+    ///
+    /// # Complexity
+    /// O(1): one swap of the head, and steps on the room and the old head's link.
+    ///
+    /// # Waits
+    /// Never.
     pub fn enqueue(&self, party: &mut Party<T>, handle: T::Handle)
         requires table { party.old.table ≡ self.now.table }
         requires room { 0 < party.old.rooms }
@@ -149,12 +180,19 @@ impl<T: Linked<Links<T>>> MpscQueue<T> {
         steps::enqueue(&self.rooms.shared, &mut party.seat, ticket, handle);
     }
 
-    /// Tries once to take the oldest element out: takes the right to dequeue, looks, and gives the right back. The room
-    /// of what comes out becomes the party's. It waits for nobody.
+    /// Tries once to remove the oldest element and returns it: it takes the right to dequeue, tries, and gives the
+    /// right back. The element's room becomes the party's.
     ///
-    /// `Empty` where nothing was held, `Inconsistent` where the oldest element or the one behind it is not linked yet,
-    /// `Busy` where another party has the right. Each leaves the elements as they were. A whole party meets `Empty`
-    /// alone.
+    /// # Errors
+    /// It returns `Empty` if the queue had no element, `Inconsistent` if the oldest element or the one after it is not
+    /// linked yet, and `Busy` if another party has the right to dequeue. Each leaves the elements unchanged. To a whole
+    /// party only `Empty` happens.
+    ///
+    /// # Complexity
+    /// O(1).
+    ///
+    /// # Waits
+    /// Never.
     pub fn try_dequeue(&self, party: &mut Party<T>) -> Result<T::Handle, TryDequeueError>
         requires { party.old.table ≡ self.now.table }
         ensures answer { Dequeues result party.old party.new }
@@ -171,8 +209,14 @@ impl<T: Linked<Links<T>>> MpscQueue<T> {
         }
     }
 
-    /// Gives up some of a party's rooms, and half of its first name, to a new party, which has seen the same history
-    /// and has no event of its own. It goes through the rooms that it gives up.
+    /// Splits a new party off `party`, which gives it `rooms` of its rooms and a part of its share. The new party has
+    /// seen the same history, in which no event is its own. Requires that the party has as many rooms.
+    ///
+    /// # Complexity
+    /// O(`rooms`).
+    ///
+    /// # Waits
+    /// Never.
     pub fn split(&self, party: &mut Party<T>, rooms: usize) -> Party<T>
         requires table { party.old.table ≡ self.now.table }
         requires rooms { rooms ≤ party.old.rooms }
@@ -183,7 +227,13 @@ impl<T: Linked<Links<T>>> MpscQueue<T> {
         Party { seat, tickets }
     }
 
-    /// Takes another party in: its rooms, its names and its events, and what it has seen. It reads the head once.
+    /// Absorbs another party: `party` has its rooms, its names and its events, and has seen what the two had seen.
+    ///
+    /// # Complexity
+    /// O(1).
+    ///
+    /// # Waits
+    /// Never.
     pub fn absorb(&self, party: &mut Party<T>, other: Party<T>)
         requires { (party.old.table ≡ self.now.table) × (other.table ≡ self.now.table) }
         ensures { Absorbs (λ h. Legal h) party.old other party.new }
@@ -193,8 +243,14 @@ impl<T: Linked<Links<T>>> MpscQueue<T> {
         party.tickets.append(tickets);
     }
 
-    /// Ends the queue, and gives all that is held, the oldest first: exactly what the whole party's history holds, and
-    /// the stub that `new_with_stub` took. It frees the rooms.
+    /// Closes the queue and returns all its elements, the oldest first, and the stub that `new_with_stub` took.
+    /// Requires the whole party; the elements are exactly those that its history holds.
+    ///
+    /// # Complexity
+    /// O(r), for r rooms, which it frees.
+    ///
+    /// # Waits
+    /// Never.
     pub fn close(self, party: Party<T>) -> Closed<T>
         requires table { party.table ≡ self.table }
         requires whole { party.share ≡ whole }
@@ -211,7 +267,7 @@ impl<T: Linked<Links<T>>> MpscQueue<T> {
         Closed { elements, stub }
     }
 
-    /// Takes out all that is held, as a party that is whole.
+    /// Removes all elements, by a whole party, and returns them.
     fn drain(&self, party: &mut Party<T>) -> Batch<T>
         requires table { party.old.table ≡ self.now.table }
         requires whole { party.old.share ≡ whole }
@@ -232,6 +288,6 @@ impl<T: Linked<Links<T>>> MpscQueue<T> {
 pub struct Closed<T: Linked<Links<T>>> {
     /// The elements, the oldest first.
     pub elements: Batch<T>,
-    /// The stub that the queue's maker handed in, if any.
+    /// The stub that the queue's maker provided, if any.
     pub stub: Option<T::Handle>,
 }

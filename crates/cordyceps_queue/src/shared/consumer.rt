@@ -38,7 +38,7 @@ impl<E: Drop> Model for Right<E> {
     ghost invariant = { λ r. IsConsuming r.seat.table_id r.tail r.seat.me r.tickets };
 }
 
-/// Takes the right, and hands the party back beside another holder.
+/// Takes the right to dequeue. If another party has it, returns the party.
 pub(crate) fn take_right<T: Linked<Links<T>>>(
     words: &Words<T::Handle>,
     party: Party<T>,
@@ -59,7 +59,7 @@ pub(crate) fn take_right<T: Linked<Links<T>>>(
     })
 }
 
-/// Takes elements out, the oldest first, until there are `max` or a try gives none. `Err` is the first try's.
+/// Removes elements, the oldest first, until there are `max` or a try fails. If the first try fails, returns its error.
 pub(crate) fn take_batch<T: Linked<Links<T>>>(
     words: &Words<T::Handle>,
     right: &mut Right<T::Handle>,
@@ -88,7 +88,7 @@ pub(crate) fn take_batch<T: Linked<Links<T>>>(
     Ok(batch)
 }
 
-/// Gives the right back.
+/// Gives the right to dequeue back.
 pub(crate) fn give_right<T: Linked<Links<T>>>(
     words: &Words<T::Handle>,
     right: Right<T::Handle>,
@@ -106,8 +106,8 @@ pub(crate) fn give_right<T: Linked<Links<T>>>(
 }
 
 impl<E: Drop> Right<E> {
-    /// How many rooms the party has. To a contract it tells what every party knows, and that its first name has the
-    /// right to dequeue.
+    /// Returns the number of rooms that the party has. Its contract also states what is true of every party, and that
+    /// its first name has the right to dequeue.
     pub fn rooms(&self) -> usize
         ensures count { result ≡ self.now.rooms }
         ensures knows { Knows (λ h. Legal h) self.now }
@@ -117,7 +117,7 @@ impl<E: Drop> Right<E> {
         self.tickets.len()
     }
 
-    /// Tries once to take the oldest element out.
+    /// Tries once to remove the oldest element.
     pub fn try_once(&mut self, words: &Words<E>) -> Result<E, TryDequeueError>
         requires { self.old.table ≡ words.now.table_id }
         ensures answer { Consumes result self.old self.new }
@@ -136,10 +136,14 @@ impl<E: Drop> Right<E> {
     }
 }
 
-/// A party that has the right to dequeue from a queue that it borrows. No other party dequeues meanwhile. It can be
-/// sent to a thread where `T::Handle` can.
+/// A party that has the right to dequeue from a queue, which it borrows. No other party dequeues meanwhile. It can be
+/// sent to a thread if `T::Handle` can.
 ///
-/// A contract sees the party. A drop gives the right back, and ends the party, whose rooms are then lost for good.
+/// A contract sees the party. Dropping the consumer gives the right back and drops the party, whose rooms are then lost
+/// for good; `release` returns it.
+///
+/// # Complexity
+/// Dropping a consumer is O(r), for r rooms that its party has.
 pub struct Consumer<'a, T: Linked<Links<T>>> {
     queue: &'a MpscQueue<T>,
     right: Right<T::Handle>,
@@ -156,17 +160,27 @@ impl<'a, T: Linked<Links<T>>> Model for Consumer<'a, T> {
     ghost invariant = { λ c. c.right.table ≡ c.queue.now.table };
 }
 
-/// Gives the right back, and ends the party.
 impl<'a, T: Linked<Links<T>>> Drop for Consumer<'a, T> {
+    /// Gives the right to dequeue back by one store, and drops the party.
+    ///
+    /// # Complexity
+    /// O(r), for r rooms that the party has.
     fn drop(self) {
         drop(self.release());
     }
 }
 
 impl<T: Linked<Links<T>>> MpscQueue<T> {
-    /// Takes the right to dequeue, by one swap, for as long as the consumer lasts. It waits for nobody.
+    /// Tries once to take the right to dequeue, and returns a consumer that has it until it ends.
     ///
-    /// `Err` hands the party back where another party has the right. A whole party always gets it.
+    /// # Errors
+    /// If another party has the right, the party is returned. To a whole party this never happens.
+    ///
+    /// # Complexity
+    /// O(1): one swap.
+    ///
+    /// # Waits
+    /// Never.
     pub fn try_consume(&self, party: Party<T>) -> Result<Consumer<'_, T>, Party<T>>
         requires { party.table ≡ self.now.table }
         ensures answer { MatchResult result (λ consumer. TakesRight party consumer) (λ back. FindsBusy party back) }
@@ -180,10 +194,18 @@ impl<T: Linked<Links<T>>> MpscQueue<T> {
 }
 
 impl<'a, T: Linked<Links<T>>> Consumer<'a, T> {
-    /// Tries once to take the oldest element out. The room of what comes out becomes the party's. It waits for nobody.
+    /// Tries once to remove the oldest element and returns it. The element's room becomes the party's.
     ///
-    /// `Empty` where nothing was held, `Inconsistent` where the oldest element or the one behind it is not linked yet.
-    /// Each leaves the elements as they were. A whole party meets `Empty` alone, and no consumer meets `Busy`.
+    /// # Errors
+    /// It returns `Empty` if the queue had no element, and `Inconsistent` if the oldest element or the one after it is
+    /// not linked yet. Each leaves the elements unchanged. `Busy` never happens, and to a whole party only `Empty`
+    /// happens.
+    ///
+    /// # Complexity
+    /// O(1).
+    ///
+    /// # Waits
+    /// Never.
     pub fn try_dequeue(&mut self) -> Result<T::Handle, TryDequeueError>
         ensures answer { Consumes result self.old self.new }
         ensures whole { self.old.share ≡ whole → IsCertain result }
@@ -192,10 +214,17 @@ impl<'a, T: Linked<Links<T>>> Consumer<'a, T> {
         self.right.try_once(&queue.rooms.shared)
     }
 
-    /// Takes elements out until it has `max` or a try is not `Ok`, and answers them, the oldest first. Each try is as
-    /// that of `try_dequeue`. It takes no memory, and waits for nobody.
+    /// Removes up to `max` elements and returns them, the oldest first: it calls `try_dequeue` until there are `max`
+    /// elements or a call fails. Requires that `max` is at least 1. Allocates nothing.
     ///
-    /// `Err` is the first try's, where that gave no element. A whole party gets all that is held, up to `max`.
+    /// # Errors
+    /// If the first call fails, its error is returned. A whole party gets all elements, up to `max`.
+    ///
+    /// # Complexity
+    /// O(k + 1), for k elements that it returns.
+    ///
+    /// # Waits
+    /// Never.
     pub fn take_linked(&mut self, max: usize) -> Result<Batch<T>, TryDequeueError>
         requires { 1 ≤ max }
         ensures answer { MatchResult result
@@ -209,8 +238,11 @@ impl<'a, T: Linked<Links<T>>> Consumer<'a, T> {
         take_batch(&queue.rooms.shared, &mut self.right, max)
     }
 
-    /// How many rooms the party has. To a contract it tells what every party knows, and that its first name has the
-    /// right to dequeue.
+    /// Returns the number of rooms that the party has. Its contract also states what is true of every party, and that
+    /// its first name has the right to dequeue.
+    ///
+    /// # Complexity
+    /// O(1).
     pub fn rooms(&self) -> usize
         ensures count { result ≡ self.now.rooms }
         ensures knows { Knows (λ h. Legal h) self.now }
@@ -220,7 +252,13 @@ impl<'a, T: Linked<Links<T>>> Consumer<'a, T> {
         self.right.rooms()
     }
 
-    /// Gives the right back, by one store, and answers the party.
+    /// Gives the right to dequeue back, and returns the party.
+    ///
+    /// # Complexity
+    /// O(1): one store.
+    ///
+    /// # Waits
+    /// Never.
     pub fn release(self) -> Party<T>
         ensures { GivesRight self.entry result }
     {

@@ -19,11 +19,14 @@ use std::alloc::Global;
 use std::marker::Model;
 use std::sync::Arc;
 
-/// A party that has the right to dequeue from a queue that it owns with others. No other party dequeues meanwhile. It
-/// can be sent to a thread where `T::Handle` can.
+/// A party that has the right to dequeue from a queue, whose ownership it shares. No other party dequeues meanwhile. It
+/// can be sent to a thread if `T::Handle` can.
 ///
-/// A contract sees the queue and the party. A drop gives the right back, gives its part of the queue up, and ends the
-/// party, whose rooms are then lost for good.
+/// A contract sees the queue and the party. Dropping the consumer gives the right back, drops its reference to the
+/// queue, and drops the party, whose rooms are then lost for good; `release` returns both.
+///
+/// # Complexity
+/// Dropping a consumer is O(r), for r rooms that its party has, and dropping the queue if its reference is the last.
 pub struct OwnedConsumer<T: Linked<Links<T>>> {
     queue: Arc<MpscQueue<T>, Global>,
     right: Right<T::Handle>,
@@ -41,18 +44,28 @@ impl<T: Linked<Links<T>>> Model for OwnedConsumer<T> {
     ghost invariant = { λ c. c.right.table ≡ (arc_value c.queue).table };
 }
 
-/// Gives the right back, and ends the party.
 impl<T: Linked<Links<T>>> Drop for OwnedConsumer<T> {
+    /// Gives the right to dequeue back by one store, and drops the queue's reference and the party.
+    ///
+    /// # Complexity
+    /// O(r), for r rooms that the party has, and what dropping the queue takes if its reference is the last.
     fn drop(self) {
         drop(self.release());
     }
 }
 
 impl<T: Linked<Links<T>>> MpscQueue<T> {
-    /// Takes the right to dequeue, by one swap, for as long as the consumer lasts, which owns the queue with others. It
-    /// waits for nobody.
+    /// Tries once to take the right to dequeue, and returns a consumer that has it until it ends and shares the
+    /// ownership of the queue.
     ///
-    /// `Err` hands both back where another party has the right. A whole party always gets it.
+    /// # Errors
+    /// If another party has the right, the queue and the party are returned. To a whole party this never happens.
+    ///
+    /// # Complexity
+    /// O(1): one swap.
+    ///
+    /// # Waits
+    /// Never.
     pub fn try_consume_owned(
         queue: Arc<MpscQueue<T>, Global>,
         party: Party<T>,
@@ -71,10 +84,18 @@ impl<T: Linked<Links<T>>> MpscQueue<T> {
 }
 
 impl<T: Linked<Links<T>>> OwnedConsumer<T> {
-    /// Tries once to take the oldest element out. The room of what comes out becomes the party's. It waits for nobody.
+    /// Tries once to remove the oldest element and returns it. The element's room becomes the party's.
     ///
-    /// `Empty` where nothing was held, `Inconsistent` where the oldest element or the one behind it is not linked yet.
-    /// Each leaves the elements as they were. A whole party meets `Empty` alone, and no consumer meets `Busy`.
+    /// # Errors
+    /// It returns `Empty` if the queue had no element, and `Inconsistent` if the oldest element or the one after it is
+    /// not linked yet. Each leaves the elements unchanged. `Busy` never happens, and to a whole party only `Empty`
+    /// happens.
+    ///
+    /// # Complexity
+    /// O(1).
+    ///
+    /// # Waits
+    /// Never.
     pub fn try_dequeue(&mut self) -> Result<T::Handle, TryDequeueError>
         ensures queue { self.new.queue ≡ self.old.queue }
         ensures answer { Consumes result self.old.party self.new.party }
@@ -84,10 +105,17 @@ impl<T: Linked<Links<T>>> OwnedConsumer<T> {
         self.right.try_once(&queue.rooms.shared)
     }
 
-    /// Takes elements out until it has `max` or a try is not `Ok`, and answers them, the oldest first. Each try is as
-    /// that of `try_dequeue`. It takes no memory, and waits for nobody.
+    /// Removes up to `max` elements and returns them, the oldest first: it calls `try_dequeue` until there are `max`
+    /// elements or a call fails. Requires that `max` is at least 1. Allocates nothing.
     ///
-    /// `Err` is the first try's, where that gave no element. A whole party gets all that is held, up to `max`.
+    /// # Errors
+    /// If the first call fails, its error is returned. A whole party gets all elements, up to `max`.
+    ///
+    /// # Complexity
+    /// O(k + 1), for k elements that it returns.
+    ///
+    /// # Waits
+    /// Never.
     pub fn take_linked(&mut self, max: usize) -> Result<Batch<T>, TryDequeueError>
         requires { 1 ≤ max }
         ensures queue { self.new.queue ≡ self.old.queue }
@@ -103,8 +131,11 @@ impl<T: Linked<Links<T>>> OwnedConsumer<T> {
         take_batch(&queue.rooms.shared, &mut self.right, max)
     }
 
-    /// How many rooms the party has. To a contract it tells what every party knows, and that its first name has the
-    /// right to dequeue.
+    /// Returns the number of rooms that the party has. Its contract also states what is true of every party, and that
+    /// its first name has the right to dequeue.
+    ///
+    /// # Complexity
+    /// O(1).
     pub fn rooms(&self) -> usize
         ensures count { result ≡ self.now.party.rooms }
         ensures knows { Knows (λ h. Legal h) self.now.party }
@@ -114,7 +145,13 @@ impl<T: Linked<Links<T>>> OwnedConsumer<T> {
         self.right.rooms()
     }
 
-    /// Gives the right back, by one store, and answers the queue and the party.
+    /// Gives the right to dequeue back, and returns the queue and the party.
+    ///
+    /// # Complexity
+    /// O(1): one store.
+    ///
+    /// # Waits
+    /// Never.
     pub fn release(self) -> (Arc<MpscQueue<T>, Global>, Party<T>)
         ensures { (arc_value result.0 ≡ self.queue) × GivesRight self.party result.1 }
     {

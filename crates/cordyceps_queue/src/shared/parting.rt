@@ -1,4 +1,4 @@
-//! A new shared queue, and how a party of it is split in two or takes another in.
+//! How a shared queue is created, and how its parties are split and absorbed.
 ghost use Rattle.std.specs.Prelude.{◌≡◌, ◌+◌, ◌≤◌, [], length, IfOk};
 ghost use Rattle.cordyceps_shared.specs.Histories.{plain};
 ghost use Rattle.cordyceps_shared.specs.Knowing.{IsKnown};
@@ -17,8 +17,8 @@ use cordyceps_shared::slots::Count;
 use std::alloc::{AllocError, Global};
 use std::marker::Brand;
 
-/// The words and slots of an empty queue with this many rooms beside the stub's, and the seat of the party that has
-/// them all.
+/// Creates the words and slots of an empty queue with `rooms` rooms beside the stub's, and the seat of the party that
+/// has them all.
 pub(crate) fn open<E: Drop>(
     alloc: Global,
     rooms: usize,
@@ -42,7 +42,7 @@ fn cut<E: Drop, B: Count>(words: &Words<E>, seat: &mut PartySeat<E>, rooms: usiz
     words.split_seat::<Cut<B>>(seat)
 }
 
-/// A seat with half of the first name and the first free rooms of another.
+/// Splits a seat, which has half of the first name and the first free rooms of another, off that.
 pub(crate) fn split<E: Drop>(
     words: &Words<E>,
     seat: &mut PartySeat<E>,
@@ -57,7 +57,7 @@ pub(crate) fn split<E: Drop>(
     cut::<E, Brand>(words, seat, rooms)
 }
 
-/// Takes another seat in. What one had seen begins what the other had.
+/// Absorbs another seat. What one of the two had seen is a prefix of what the other had.
 pub(crate) fn absorb<E: Drop>(words: &Words<E>, seat: &mut PartySeat<E>, other: PartySeat<E>)
     requires table { (seat.old.table_id ≡ words.now.table_id) × (other.table_id ≡ words.now.table_id)
         × IsTable words.now.table_id }

@@ -1,4 +1,4 @@
-//! What each step of a shared queue tells. These types are for the proofs alone.
+//! The steps of a shared queue, for contracts. Values of these types are not used when the program runs.
 ghost use Rattle.cordyceps_queue.specs.Shared.Plays.{cleared, swapped, linked, took, looked, looked_stub, read, headed, headed_stub, cleared_stub, swapped_stub, linked_stub, gave, reread};
 ghost use Rattle.cordyceps_queue.specs.Shared.Parting.{learned, view_keeping, view_giving, view_absorbing, view_absorbed};
 
@@ -7,6 +7,7 @@ use atomic_table::{Join, Play, Split};
 use cordyceps_shared::slots::{Count, Filled};
 use std::marker::PhantomData;
 
+/// A store that makes a room's link null, by which an enqueue takes the room's slot.
 pub(crate) struct Clear<B> {
     item: PhantomData<B>,
 }
@@ -15,90 +16,105 @@ impl<E, B: Chosen<E>> Play<Option<Filled<E>>, SeatView<E>> for Clear<B> {
     ghost then = { cleared B.item };
 }
 
+/// A swap of the head, which puts an element in.
 pub(crate) struct Swap;
 
 impl<E> Play<Option<Filled<E>>, SeatView<E>> for Swap {
     ghost then = { swapped };
 }
 
+/// A store to the old head's link, which links the element.
 pub(crate) struct Link;
 
 impl<E> Play<Option<Filled<E>>, SeatView<E>> for Link {
     ghost then = { linked };
 }
 
+/// A swap of the right to dequeue, which takes it if it is free.
 pub(crate) struct Take;
 
 impl<E> Play<Option<Filled<E>>, SeatView<E>> for Take {
     ghost then = { took };
 }
 
+/// A store that gives the right to dequeue back.
 pub(crate) struct Give;
 
 impl<E> Play<Option<Filled<E>>, SeatView<E>> for Give {
     ghost then = { gave };
 }
 
+/// A load of the tail's link after the stub was put in.
 pub(crate) struct Reread;
 
 impl<E> Play<Option<Filled<E>>, SeatView<E>> for Reread {
     ghost then = { reread };
 }
 
+/// A load of the link of a tail that is not the stub, which begins a try.
 pub(crate) struct Look;
 
 impl<E> Play<Option<Filled<E>>, SeatView<E>> for Look {
     ghost then = { looked };
 }
 
+/// A load of the stub's link when the stub is the tail, which begins a try.
 pub(crate) struct LookStub;
 
 impl<E> Play<Option<Filled<E>>, SeatView<E>> for LookStub {
     ghost then = { looked_stub };
 }
 
+/// A load of the link of the room after the stub.
 pub(crate) struct Read;
 
 impl<E> Play<Option<Filled<E>>, SeatView<E>> for Read {
     ghost then = { read };
 }
 
+/// A load of the head after the tail's link was null.
 pub(crate) struct Head;
 
 impl<E> Play<Option<Filled<E>>, SeatView<E>> for Head {
     ghost then = { headed };
 }
 
+/// A load of the head after the stub's link was null.
 pub(crate) struct HeadStub;
 
 impl<E> Play<Option<Filled<E>>, SeatView<E>> for HeadStub {
     ghost then = { headed_stub };
 }
 
+/// A store that makes the stub's link null.
 pub(crate) struct ClearStub;
 
 impl<E> Play<Option<Filled<E>>, SeatView<E>> for ClearStub {
     ghost then = { cleared_stub };
 }
 
+/// A swap of the head, which puts the stub in.
 pub(crate) struct SwapStub;
 
 impl<E> Play<Option<Filled<E>>, SeatView<E>> for SwapStub {
     ghost then = { swapped_stub };
 }
 
+/// A store to the old head's link, which links the stub.
 pub(crate) struct LinkStub;
 
 impl<E> Play<Option<Filled<E>>, SeatView<E>> for LinkStub {
     ghost then = { linked_stub };
 }
 
+/// A load of the head after an absorb.
 pub(crate) struct Learn;
 
 impl<E> Play<Option<Filled<E>>, SeatView<E>> for Learn {
     ghost then = { learned };
 }
 
+/// A split, at which a party gives up `B::rooms` rooms.
 pub(crate) struct Cut<B> {
     count: PhantomData<B>,
 }
@@ -109,6 +125,7 @@ impl<E, B: Count> Split<SeatView<E>> for Cut<B> {
     ghost right = { view_giving B.rooms };
 }
 
+/// An absorb.
 pub(crate) struct Merge;
 
 impl<E> Join<SeatView<E>> for Merge {

@@ -14,7 +14,7 @@ use cordyceps_shared::slots::Filled;
 use cordyceps_shared::tickets::Ticket;
 use std::marker::Brand;
 
-/// Makes a free room's link null, and takes the room's slot in hand, before this element is put in.
+/// Makes a free room's link null and takes the room's slot, before this element is put in.
 fn clear<E: Drop, B: Chosen<E>>(words: &Words<E>, seat: &mut PartySeat<E>, room: usize, _item: &E)
     requires table { (seat.old.table_id ≡ words.now.table_id) × IsTable words.now.table_id }
     requires rest { IsResting words.now.table_id.slots seat.old.me }
@@ -26,7 +26,7 @@ fn clear<E: Drop, B: Chosen<E>>(words: &Words<E>, seat: &mut PartySeat<E>, room:
     words.store::<Clear<B>>(seat, LINKS + room, 0);
 }
 
-/// Puts the element into the slot in hand, makes its room the head, and answers the old head.
+/// Puts the element into the slot, makes its room the head, and returns the old head.
 fn swap_in<E: Drop>(words: &Words<E>, seat: &mut PartySeat<E>, full: Filled<E>) -> u64
     requires table { (seat.old.table_id ≡ words.now.table_id) × IsTable words.now.table_id }
     requires stage { (seat.old.me.0.stage ≡ Cleared full.ticket) × (seat.old.me.0.item ≡ Some full.item)
@@ -57,7 +57,7 @@ fn link<E: Drop>(words: &Words<E>, seat: &mut PartySeat<E>, room: usize, old: us
     words.store::<Link>(seat, LINKS + old, room as u64 + 1);
 }
 
-/// Puts an element into a free room, which the ticket is of, makes the room the head, and links it.
+/// Puts an element into a free room, whose ticket is given, makes the room the head, and links it.
 pub(crate) fn enqueue<E: Drop>(words: &Words<E>, seat: &mut PartySeat<E>, ticket: Ticket, item: E)
     requires table { (seat.old.table_id ≡ words.now.table_id) × IsTable words.now.table_id }
     requires rest { IsResting words.now.table_id.slots seat.old.me }
@@ -74,7 +74,7 @@ pub(crate) fn enqueue<E: Drop>(words: &Words<E>, seat: &mut PartySeat<E>, ticket
     link(words, seat, room, old as usize);
 }
 
-/// Gives the right back, and the slot in hand.
+/// Gives the right to dequeue back, and the slot that the party took.
 pub(crate) fn give<E: Drop>(words: &Words<E>, seat: &mut PartySeat<E>, tail: usize)
     requires table { (seat.old.table_id ≡ words.now.table_id) × IsTable words.now.table_id }
     requires holding { IsHolding words.now.table_id.slots tail seat.old.me }
@@ -85,7 +85,7 @@ pub(crate) fn give<E: Drop>(words: &Words<E>, seat: &mut PartySeat<E>, tail: usi
     words.store::<Give>(seat, RIGHT, tail as u64 + 1);
 }
 
-/// Reads the link of the tail again, behind which the stub was put in.
+/// Reads the tail's link again, after the stub was put in.
 pub(crate) fn reread<E: Drop>(words: &Words<E>, seat: &mut PartySeat<E>, tail: usize) -> u64
     requires table { (seat.old.table_id ≡ words.now.table_id) × IsTable words.now.table_id }
     requires stage { IsAtStage words.now.table_id.slots (PutRead tail) seat.old.me × (tail < words.now.table_id.slots) }
@@ -96,7 +96,7 @@ pub(crate) fn reread<E: Drop>(words: &Words<E>, seat: &mut PartySeat<E>, tail: u
     words.load::<Reread>(seat, LINKS + tail)
 }
 
-/// Takes the right, and answers 1 more than the tail's room, or 0 beside another holder.
+/// Takes the right to dequeue, and returns 1 more than the tail's room, or 0 if another party has the right.
 pub(crate) fn take<E: Drop>(words: &Words<E>, seat: &mut PartySeat<E>) -> u64
     requires table { (seat.old.table_id ≡ words.now.table_id) × IsTable words.now.table_id }
     requires rest { IsResting words.now.table_id.slots seat.old.me }
@@ -106,8 +106,8 @@ pub(crate) fn take<E: Drop>(words: &Words<E>, seat: &mut PartySeat<E>) -> u64
     words.swap::<Take>(seat, RIGHT, 0)
 }
 
-/// Reads the link of a tail that is no stub, and hands its element out where that leads on: the new tail, and what lay
-/// in the slot. `None` where the link is null.
+/// Reads the link of a tail that is not the stub. If it leads on, returns the new tail and what was in the slot; if it
+/// is null, returns `None`.
 pub(crate) fn look<E: Drop>(
     words: &Words<E>,
     seat: &mut PartySeat<E>,

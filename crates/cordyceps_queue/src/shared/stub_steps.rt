@@ -12,7 +12,7 @@ use crate::shared::table::{PartySeat, Words};
 use cordyceps_shared::layout::{HEAD, LINKS};
 use cordyceps_shared::slots::Filled;
 
-/// Reads the stub's link, where the stub is the tail.
+/// Reads the stub's link, when the stub is the tail.
 pub(crate) fn look_first<E: Drop>(words: &Words<E>, seat: &mut PartySeat<E>) -> u64
     requires table { (seat.old.table_id ≡ words.now.table_id) × IsTable words.now.table_id }
     requires holding { IsHolding words.now.table_id.slots 0 seat.old.me }
@@ -25,7 +25,7 @@ pub(crate) fn look_first<E: Drop>(words: &Words<E>, seat: &mut PartySeat<E>) -> 
     words.load::<LookStub>(seat, LINKS)
 }
 
-/// Reads the head behind a null link of the stub.
+/// Reads the head, after the stub's link was null.
 pub(crate) fn head_of_stub<E: Drop>(words: &Words<E>, seat: &mut PartySeat<E>) -> u64
     requires table { (seat.old.table_id ≡ words.now.table_id) × IsTable words.now.table_id }
     requires stage { IsAtStage words.now.table_id.slots StubNull seat.old.me }
@@ -36,7 +36,7 @@ pub(crate) fn head_of_stub<E: Drop>(words: &Words<E>, seat: &mut PartySeat<E>) -
     words.load::<HeadStub>(seat, HEAD)
 }
 
-/// Reads the link of the tail that stood behind the stub.
+/// Reads the link of the tail that was after the stub.
 pub(crate) fn read_second<E: Drop>(words: &Words<E>, seat: &mut PartySeat<E>, tail: usize) -> u64
     requires table { (seat.old.table_id ≡ words.now.table_id) × IsTable words.now.table_id }
     requires stage { IsAtStage words.now.table_id.slots (Second tail) seat.old.me × (tail < words.now.table_id.slots) }
@@ -47,7 +47,7 @@ pub(crate) fn read_second<E: Drop>(words: &Words<E>, seat: &mut PartySeat<E>, ta
     words.load::<Read>(seat, LINKS + tail)
 }
 
-/// Whether the tail, whose link was null, is the head too.
+/// Returns `true` if the tail, whose link was null, is the head too.
 pub(crate) fn is_head<E: Drop>(words: &Words<E>, seat: &mut PartySeat<E>, tail: usize) -> bool
     requires table { (seat.old.table_id ≡ words.now.table_id) × IsTable words.now.table_id }
     requires stage { IsAtStage words.now.table_id.slots (Null tail) seat.old.me × (tail < words.now.table_id.slots) }
@@ -87,7 +87,7 @@ fn link_stub<E: Drop>(words: &Words<E>, seat: &mut PartySeat<E>, _tail: usize, o
     words.store::<LinkStub>(seat, LINKS + old, 1);
 }
 
-/// Puts the stub in at the head, behind the tail.
+/// Puts the stub in at the head, after the tail.
 #[inline(never)]
 pub(crate) fn put_stub<E: Drop>(words: &Words<E>, seat: &mut PartySeat<E>, tail: usize)
     requires table { (seat.old.table_id ≡ words.now.table_id) × IsTable words.now.table_id }
@@ -100,7 +100,7 @@ pub(crate) fn put_stub<E: Drop>(words: &Words<E>, seat: &mut PartySeat<E>, tail:
     link_stub(words, seat, tail, old as usize);
 }
 
-/// Takes the tail's element out of its slot, which is in hand.
+/// Takes the tail's element out of its slot, which the party has.
 pub(crate) fn take_out<E: Drop>(words: &Words<E>, seat: &mut PartySeat<E>, tail: usize) -> Filled<E>
     requires table { (seat.old.table_id ≡ words.now.table_id) × (tail < words.now.table_id.slots) }
     requires full { (e : E) × (seat.old.me.1 ≡ (tail, Some (full_slot tail e)) ∷ []) }

@@ -1,4 +1,4 @@
-//! What the table of a shared queue holds, and what its seats know.
+//! The table of a shared queue, and what its seats know.
 ghost use Rattle.cordyceps_queue.specs.Shared.View.{View, newcomer};
 
 use atomic_table::{Seat, Shared, Table, TableRule};
@@ -17,7 +17,7 @@ impl<E> Model for SeatView<E> {
     ghost view = { λ _. newcomer 0 };
 }
 
-/// The rule that each step keeps. Its key is the number of rooms.
+/// The invariant of the table, which each step keeps. Its key is the number of rooms.
 pub(crate) struct Rule;
 
 impl<E> TableRule<Option<Filled<E>>, SeatView<E>, usize> for Rule {
@@ -28,18 +28,20 @@ impl<E> TableRule<Option<Filled<E>>, SeatView<E>, usize> for Rule {
     ghost first = { newcomer };
 }
 
-/// The word `HEAD` is the head's room. The word `RIGHT` is 0 while the right is out, and else 1 more than the tail's
-/// room. The word `LINKS + r` is the link of room `r`: 0 for null, and else 1 more than the room after it. The other
-/// words are not used. Slot `r` has the ticket and the element of room `r`, and room 0 is the stub's.
+/// The words and slots of the table.
+///
+/// The word `HEAD` is the head's room. The word `RIGHT` is 0 while a party has the right to dequeue, and else 1 more
+/// than the tail's room. The word `LINKS + r` is the link of room `r`: 0 for null, and else 1 more than the room after
+/// it. The other words are not used. Slot `r` has the ticket and the element of room `r`, and room 0 is the stub's.
 pub(crate) type Words<E> = Shared<Option<Filled<E>>, SeatView<E>, usize, Rule>;
 
-/// The same, with its memory.
+/// The table, which owns its memory.
 pub(crate) type OwnedTable<E> = Table<Option<Filled<E>>, SeatView<E>, usize, Rule, Global>;
 
-/// A party's seat.
+/// The seat of a party: the token by which it acts on the table.
 pub(crate) type PartySeat<E> = Seat<Option<Filled<E>>, SeatView<E>>;
 
-/// The element that a room is cleared for. Each call that clears one picks it.
+/// The element that a room is cleared for. Each call that clears a room chooses it.
 pub(crate) trait Chosen<E> {
     ghost use Rattle.std.specs.Prelude.{Option};
 
@@ -52,11 +54,13 @@ impl<E> Chosen<E> for Brand {
     ghost item = { None };
 }
 
-/// What a try to dequeue came to.
+/// The outcome of a try to dequeue.
 #[derive(Drop)]
 pub(crate) enum Tried<E> {
-    /// The oldest element came out, with its room's ticket.
+    /// The oldest element came out, with the ticket of its room.
     Out(Filled<E>),
+    /// The queue had no element.
     Empty,
+    /// The oldest element or the one after it is not linked yet.
     Inconsistent,
 }

@@ -1,6 +1,6 @@
 //! A try to dequeue, of a party that has the right or takes it for this try.
 //!
-//! A try is a part of its caller, so that what it comes to stays in registers. Only `put_stub` is called.
+//! A try is inlined into its caller, so that its outcome stays in registers. Only `put_stub` is called.
 ghost use Rattle.std.specs.Prelude.{◌≡◌, ◌<◌, [], ◌∷◌};
 ghost use Rattle.cordyceps_queue.specs.Shared.Parts.{Tries, Dequeued};
 ghost use Rattle.cordyceps_queue.specs.History.{Event};
@@ -15,7 +15,7 @@ use crate::shared::stub_steps::{
 };
 use crate::shared::table::{PartySeat, Tried, Words};
 
-/// Goes on where the stub was put in behind the tail.
+/// Continues a try after the stub was put in after the tail.
 #[inline(always)]
 fn behind_tail<E: Drop>(words: &Words<E>, seat: &mut PartySeat<E>, tail: usize) -> (u64, Tried<E>)
     requires table { (seat.old.table_id ≡ words.now.table_id) × IsTable words.now.table_id }
@@ -30,7 +30,7 @@ fn behind_tail<E: Drop>(words: &Words<E>, seat: &mut PartySeat<E>, tail: usize) 
     (next - 1, Tried::Out(take_out(words, seat, tail)))
 }
 
-/// Goes on behind a null link of a tail that is no stub.
+/// Continues a try at a null link of a tail that is not the stub.
 #[inline(always)]
 fn at_end<E: Drop>(words: &Words<E>, seat: &mut PartySeat<E>, tail: usize) -> (u64, Tried<E>)
     requires table { (seat.old.table_id ≡ words.now.table_id) × IsTable words.now.table_id }
@@ -45,7 +45,7 @@ fn at_end<E: Drop>(words: &Words<E>, seat: &mut PartySeat<E>, tail: usize) -> (u
     behind_tail(words, seat, tail)
 }
 
-/// Goes on where the stub was passed.
+/// Continues a try after the stub was passed.
 #[inline(always)]
 fn behind_stub<E: Drop>(words: &Words<E>, seat: &mut PartySeat<E>, tail: usize) -> (u64, Tried<E>)
     requires table { (seat.old.table_id ≡ words.now.table_id) × IsTable words.now.table_id }
@@ -60,7 +60,7 @@ fn behind_stub<E: Drop>(words: &Words<E>, seat: &mut PartySeat<E>, tail: usize) 
     (next - 1, Tried::Out(take_out(words, seat, tail)))
 }
 
-/// Tries where the tail is the stub.
+/// Tries once when the tail is the stub.
 #[inline(always)]
 fn look_stub<E: Drop>(words: &Words<E>, seat: &mut PartySeat<E>) -> (u64, Tried<E>)
     requires table { (seat.old.table_id ≡ words.now.table_id) × IsTable words.now.table_id }
@@ -79,7 +79,7 @@ fn look_stub<E: Drop>(words: &Words<E>, seat: &mut PartySeat<E>) -> (u64, Tried<
     (0, Tried::Inconsistent)
 }
 
-/// Tries once, as the party that has the right: the tail after the try, and what it came to.
+/// Tries once, as the party that has the right, and returns the tail after the try and the outcome.
 #[inline(always)]
 pub(crate) fn advance<E: Drop>(
     words: &Words<E>,
@@ -101,7 +101,7 @@ pub(crate) fn advance<E: Drop>(
     }
 }
 
-/// Takes the right, tries once, and gives the right back. `None` beside another holder.
+/// Takes the right, tries once, and gives the right back. Returns `None` if another party has the right.
 pub(crate) fn try_dequeue<E: Drop>(words: &Words<E>, seat: &mut PartySeat<E>) -> Option<Tried<E>>
     requires table { (seat.old.table_id ≡ words.now.table_id) × IsTable words.now.table_id }
     requires rest { IsResting words.now.table_id.slots seat.old.me }

@@ -1,4 +1,4 @@
-//! A value that is kept apart.
+//! A value that is kept for later.
 ghost use Rattle.std.specs.Prelude.{◌≡◌, IfOk, IfErr};
 
 use atomic_table::{Closed, Refused, Table, TableRule};
@@ -6,7 +6,7 @@ use std::alloc::{AllocFailed, Global};
 use std::marker::Model;
 use std::snapshot::Snapshot;
 
-/// The only slot is at home with the value that the key shows.
+/// The invariant of a vault: its only slot is at home, with the value that the key shows.
 struct AtHome;
 
 impl<E> TableRule<E, (), Snapshot<E>> for AtHome {
@@ -17,9 +17,9 @@ impl<E> TableRule<E, (), Snapshot<E>> for AtHome {
     ghost first = { λ _. tt };
 }
 
-/// Keeps one value, which nobody reads until it is handed out. To a contract it is that value.
+/// Keeps one value, which nobody reads until `into_inner` returns it. A contract sees the value.
 ///
-/// Threads can share it where `E` can be sent to a thread: `E` need not be one that threads can share. A drop drops the
+/// Threads can share it if `E` can be sent to a thread, even if `E` cannot be shared by threads. Dropping it drops the
 /// value.
 #[derive(Drop)]
 pub(crate) struct Vault<E> {
@@ -37,7 +37,7 @@ impl<E> Model for Vault<E> {
 }
 
 impl<E> Vault<E> {
-    /// Keeps a value. It makes three allocations, and frees one of them. Where one is refused the value comes back.
+    /// Keeps a value, by three allocations, one of which it frees. If memory is refused, returns the value.
     pub(crate) fn new(alloc: Global, value: E) -> Result<Vault<E>, AllocFailed<E>>
         ensures kept { IfOk result (λ v. v ≡ value) }
         ensures value_returned { IfErr result (λ e. e.value ≡ value) }
@@ -57,7 +57,7 @@ impl<E> Vault<E> {
         }
     }
 
-    /// Hands the value out, and frees the memory.
+    /// Returns the value, and frees the memory.
     pub(crate) fn into_inner(self) -> E
         ensures { result ≡ self }
     {

@@ -1,4 +1,4 @@
-//! The calls of a shared queue that wait for others.
+//! The calls of a shared queue that may wait.
 ghost use Rattle.std.specs.Arc.{arc_value};
 ghost use Rattle.std.specs.Prelude.{◌≡◌, ◌≢◌, true, false, Err};
 ghost use Rattle.cordyceps_shared.specs.Shares.{whole};
@@ -15,7 +15,7 @@ use crossbeam_utils::Backoff;
 use std::alloc::Global;
 use std::sync::{Arc, Wait};
 
-/// Whether a try found that nothing was held, which ends a waiting call.
+/// Returns `true` if a try found no element, which ends a call that waits.
 fn found_nothing(why: TryDequeueError) -> bool
     ensures yes { result ≡ true → why ≡ error.Empty }
     ensures no { result ≡ false → why ≢ error.Empty }
@@ -24,11 +24,16 @@ fn found_nothing(why: TryDequeueError) -> bool
 }
 
 impl<T: Linked<Links<T>>> MpscQueue<T> {
-    /// Takes the oldest element out, by as many tries as it takes, and pauses between them. `None` where nothing was
-    /// held.
+    /// Removes the oldest element and returns it, or `None` if the queue had none. The element's room becomes the
+    /// party's.
     ///
-    /// It waits while another party has the right, and while the oldest element or the one behind it is not linked yet.
-    /// If that never ends, it never returns. A whole party's first try is its last.
+    /// # Complexity
+    /// O(t), for t tries, each as that of `try_dequeue`.
+    ///
+    /// # Waits
+    /// For another party that has the right to dequeue, and for the producer that has yet to link the oldest element or
+    /// the one after it. It pauses between its tries. If these never finish, it never returns. A whole party succeeds
+    /// at its first try.
     pub fn dequeue<R: Wait>(&self, rt: &R, party: &mut Party<T>) -> Option<T::Handle>
         requires { party.old.table ≡ self.now.table }
         ensures same { IsSame party.old party.new }
@@ -50,8 +55,14 @@ impl<T: Linked<Links<T>>> MpscQueue<T> {
         unreachable!()
     }
 
-    /// Takes the right to dequeue, by as many tries as it takes, and pauses between them. While another party has the
-    /// right it waits, and if that never ends, it never returns. A whole party's first try is its last.
+    /// Takes the right to dequeue, and returns a consumer that has it.
+    ///
+    /// # Complexity
+    /// O(t), for t tries, each as that of `try_consume`.
+    ///
+    /// # Waits
+    /// For another party that has the right to dequeue. It pauses between its tries. If that party never gives the
+    /// right back, it never returns. A whole party succeeds at its first try.
     pub fn consume<R: Wait>(&self, rt: &R, party: Party<T>) -> Consumer<'_, T>
         requires { party.table ≡ self.now.table }
         ensures same { IsSame party result }
@@ -70,7 +81,13 @@ impl<T: Linked<Links<T>>> MpscQueue<T> {
         unreachable!()
     }
 
-    /// The same, for a queue that the consumer owns a share of.
+    /// Takes the right to dequeue, and returns a consumer that has it and shares the ownership of the queue.
+    ///
+    /// # Complexity
+    /// O(t), for t tries, each as that of `try_consume_owned`.
+    ///
+    /// # Waits
+    /// As `consume`.
     pub fn consume_owned<R: Wait>(
         rt: &R,
         queue: Arc<MpscQueue<T>, Global>,
@@ -96,11 +113,15 @@ impl<T: Linked<Links<T>>> MpscQueue<T> {
 }
 
 impl<'a, T: Linked<Links<T>>> Consumer<'a, T> {
-    /// Takes the oldest element out, by as many tries as it takes, and pauses between them. `None` where nothing was
-    /// held.
+    /// Removes the oldest element and returns it, or `None` if the queue had none. The element's room becomes the
+    /// party's.
     ///
-    /// It waits while the oldest element or the one behind it is not linked yet. If that never ends, it never returns.
-    /// A whole party's first try is its last.
+    /// # Complexity
+    /// O(t), for t tries, each as that of `try_dequeue`.
+    ///
+    /// # Waits
+    /// For the producer that has yet to link the oldest element or the one after it. It pauses between its tries. If
+    /// the producer never finishes, it never returns. A whole party succeeds at its first try.
     pub fn dequeue<R: Wait>(&mut self, rt: &R) -> Option<T::Handle>
         ensures same { IsSame self.old self.new }
         ensures answer { AtLast (Consumes (Err error.Inconsistent)) (Consumes (try_result result)) self.old self.new }
@@ -123,11 +144,15 @@ impl<'a, T: Linked<Links<T>>> Consumer<'a, T> {
 }
 
 impl<T: Linked<Links<T>>> OwnedConsumer<T> {
-    /// Takes the oldest element out, by as many tries as it takes, and pauses between them. `None` where nothing was
-    /// held.
+    /// Removes the oldest element and returns it, or `None` if the queue had none. The element's room becomes the
+    /// party's.
     ///
-    /// It waits while the oldest element or the one behind it is not linked yet. If that never ends, it never returns.
-    /// A whole party's first try is its last.
+    /// # Complexity
+    /// O(t), for t tries, each as that of `try_dequeue`.
+    ///
+    /// # Waits
+    /// For the producer that has yet to link the oldest element or the one after it. It pauses between its tries. If
+    /// the producer never finishes, it never returns. A whole party succeeds at its first try.
     pub fn dequeue<R: Wait>(&mut self, rt: &R) -> Option<T::Handle>
         ensures queue { self.new.queue ≡ self.old.queue }
         ensures same { IsSame self.old.party self.new.party }
