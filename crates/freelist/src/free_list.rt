@@ -13,13 +13,17 @@ use cordyceps_stack::stack::{MAX_ROOMS, Party, Stack, TransferStack};
 use std::alloc::{AllocError, Global};
 use std::marker::Model;
 
-/// Blocks that threads put back, to be taken by their owners. A block is owned by a handle, and is with a user, with a
-/// `Local` or shared, in one of them only.
+/// A free list that threads share: they put blocks back, and their owner takes them. A handle owns a block. Each block
+/// is with a user, in a `Local` or shared, and in one of these only.
 ///
-/// A contract sees which table the free list has: `party.table` is that of its own. A drop drops what is shared.
+/// It follows the sharded free lists of allocators, as those of mimalloc: a local list, and a shared one that the owner
+/// takes as a whole when the local one is empty. A room is a unit of capacity: a shared block uses one. Each call is
+/// made through a party of this list: a handle through which a thread acts, and which has some of the rooms.
 ///
-/// Its shape is that of the sharded free lists of allocators, as in mimalloc: a local list, and one that is shared,
-/// which the owner takes as a whole when it runs out.
+/// A contract sees the list's table, by which it knows the parties of this list: their `table` is the same.
+///
+/// # Complexity
+/// Dropping the list drops the shared blocks: O(r), for r rooms.
 #[derive(Drop)]
 pub struct FreeList<T: Linked<Links<T>>> {
     shared: TransferStack<T>,
@@ -34,11 +38,14 @@ impl<T: Linked<Links<T>>> Model for FreeList<T> {
 }
 
 impl<T: Linked<Links<T>>> FreeList<T> {
-    /// A free list with nothing in it and this many rooms for what is shared, at most `MAX_ROOMS`, and the party that
-    /// has them all, which is whole.
+    /// Creates an empty free list with `rooms` rooms for shared blocks, and the party that has them all, which is
+    /// whole. Requires that `rooms` is at most `MAX_ROOMS`.
     ///
-    /// It makes an allocation for each room, and four for the words and slots of all. `AllocError` where one is
-    /// refused.
+    /// # Errors
+    /// If memory is refused, it returns `AllocError`, and nothing is kept.
+    ///
+    /// # Complexity
+    /// O(`rooms`), with an allocation for each room and four more.
     pub fn new(alloc: Global, rooms: usize) -> Result<(FreeList<T>, Party<T>), AllocError>
         requires { rooms ≤ MAX_ROOMS }
         ensures { IfOk result (λ made. made.1 ≡ new_party made.0 rooms) }
@@ -47,11 +54,18 @@ impl<T: Linked<Links<T>>> FreeList<T> {
         Ok((FreeList { shared }, party))
     }
 
-    /// Tries once to put a block back, by one load and one compare-exchange. It waits for nobody.
+    /// Tries once to put a block back for all. Requires that the party has a room, which the block then uses. Returns
+    /// `true` if no block was shared just before.
     ///
-    /// `Ok` tells whether nothing was shared just before; a room of the party's is then in use. `Err` hands the block
-    /// back, and leaves the room. It comes only where another party put a block back, or took all, between the two
-    /// steps, and so never to a whole party.
+    /// # Errors
+    /// If another party put a block back, or took all, between its two steps, the handle is returned, and the party
+    /// keeps its room. To a whole party this never happens.
+    ///
+    /// # Complexity
+    /// O(1): one load and one compare-exchange of the head, and steps on the room.
+    ///
+    /// # Waits
+    /// Never.
     pub fn put_remote(&self, party: &mut Party<T>, handle: T::Handle) -> Result<bool, T::Handle>
         requires table { party.old.table ≡ self.now }
         requires room { 0 < party.old.rooms }
@@ -63,8 +77,14 @@ impl<T: Linked<Links<T>>> FreeList<T> {
         self.shared.try_push(party, handle)
     }
 
-    /// Gives up some of a party's rooms, and half of its first name, to a new party, which has seen the same history
-    /// and has no event of its own. It goes through the rooms that it gives up.
+    /// Splits a new party off `party`, which gives it `rooms` of its rooms and a part of its share. The new party has
+    /// seen the same history, in which no event is its own. Requires that the party has as many rooms.
+    ///
+    /// # Complexity
+    /// O(`rooms`).
+    ///
+    /// # Waits
+    /// Never.
     pub fn split(&self, party: &mut Party<T>, rooms: usize) -> Party<T>
         requires table { party.old.table ≡ self.now }
         requires rooms { rooms ≤ party.old.rooms }
@@ -73,7 +93,13 @@ impl<T: Linked<Links<T>>> FreeList<T> {
         self.shared.split(party, rooms)
     }
 
-    /// Takes another party in: its rooms, its names and its events, and what it has seen.
+    /// Absorbs another party: `party` has its rooms, its names and its events, and has seen what the two had seen.
+    ///
+    /// # Complexity
+    /// O(1).
+    ///
+    /// # Waits
+    /// Never.
     pub fn absorb(&self, party: &mut Party<T>, other: Party<T>)
         requires { (party.old.table ≡ self.now) × (other.table ≡ self.now) }
         ensures { Absorbs (λ h. Legal h) party.old other party.new }
@@ -81,7 +107,10 @@ impl<T: Linked<Links<T>>> FreeList<T> {
         self.shared.absorb(party, other);
     }
 
-    /// A local part with no block, for the owner of a party. There can be several at once.
+    /// Creates a local part without blocks, for the owner of a party. There can be several at a time.
+    ///
+    /// # Complexity
+    /// O(1).
     pub fn local(&self, party: Party<T>) -> Local<'_, T>
         requires { party.table ≡ self.now }
         ensures { (result.blocks ≡ []) × (result.party ≡ party) }
@@ -89,8 +118,14 @@ impl<T: Linked<Links<T>>> FreeList<T> {
         Local::new(&self.shared, party)
     }
 
-    /// Ends the free list, and gives all that is shared, the last put back first: exactly what the whole party's
-    /// history holds. It walks through what is shared, and frees the rooms.
+    /// Closes the free list and returns all shared blocks, the last put back first. Requires the whole party; the
+    /// result is exactly what its history holds.
+    ///
+    /// # Complexity
+    /// O(r), for r rooms, which it frees.
+    ///
+    /// # Waits
+    /// Never.
     pub fn close(self, party: Party<T>) -> Stack<T>
         requires table { party.table ≡ self }
         requires whole { party.share ≡ whole }

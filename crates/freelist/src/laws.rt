@@ -1,4 +1,4 @@
-//! The law of free lists: over every list of calls each block is in one place.
+//! The law of free lists: after any commands each block is in one place.
 ghost use Rattle.std.specs.Prelude.{◌≡◌, ◌≤◌, [], ◌∷◌, ◌++◌, map, reverse, List, None, IfOk};
 ghost use Rattle.cordyceps_shared.specs.Histories.{plain};
 ghost use Rattle.cordyceps_shared.specs.Shares.{whole};
@@ -15,28 +15,32 @@ use cordyceps_stack::stack::{Party, Stack};
 use std::alloc::{AllocError, Global};
 use std::marker::Model;
 
-/// What a user of a free list does next. Where it lacks what a command needs, it does nothing.
+/// What a user of a free list does next. If the user lacks what a command needs, the command does nothing.
 #[derive(Clone, Copy, PartialEq, Eq, Debug)]
 pub enum Command {
-    /// Takes a block out of its local part, which it needs.
+    /// Gets a block from its local part.
     Get,
-    /// Puts the block that it had last into its local part. It needs both.
+    /// Puts the block that it got last into its local part.
     Put,
-    /// Tries once to put that block back for all. It needs a block, and a room of its party's.
+    /// Tries once to put that block back for all. Needs a room of its party's too.
     PutRemote,
-    /// Makes a local part of the spare party, which it needs. It may have no local part yet.
+    /// Makes a local part of the spare party. Needs that there is no local part yet.
     Open,
-    /// Ends its local part, which it needs: takes the blocks, and makes the party the spare one. There may be no spare
-    /// party yet.
+    /// Ends its local part: keeps the blocks, and makes the party the spare one. Needs that there is no spare party
+    /// yet.
     Finish,
-    /// Splits a spare party with so many rooms off its own, which needs as many. There may be no spare party yet.
+    /// Splits a spare party with this many rooms off its own, which needs as many. Needs that there is no spare party
+    /// yet.
     Split(usize),
-    /// Has its party absorb the spare one, which it needs.
+    /// Absorbs the spare party.
     Absorb,
 }
 
-/// A user of a free list: blocks that are with it, perhaps a local part, a party that puts back remotely, and perhaps a
-/// spare party. A contract sees these, and its free list's table. A drop frees the blocks, and ends the parties.
+/// A user of a free list: the blocks that are with it, a local part or none, a party that puts blocks back for all, and
+/// a spare party or none. A contract sees these and the table of its free list.
+///
+/// # Complexity
+/// Dropping it frees the blocks and drops the parties: O(n + r), for n blocks and r rooms of its parties.
 #[derive(Drop)]
 pub struct User<'a, T: Linked<Links<T>>> {
     list: &'a FreeList<T>,
@@ -57,7 +61,7 @@ impl<'a, T: Linked<Links<T>>> Model for User<'a, T> {
     ghost invariant = { λ u. AreAt u.list.now u.party u.local u.spare };
 }
 
-/// Puts blocks on others, one after the other.
+/// Pushes the blocks of one stack onto another, in the order in which they are popped.
 fn pile<T: Linked<Links<T>>>(hand: &mut Stack<T>, blocks: Stack<T>)
     ensures { hand.new ≡ reverse blocks ++ hand.old }
 {
@@ -68,7 +72,10 @@ fn pile<T: Linked<Links<T>>>(hand: &mut Stack<T>, blocks: Stack<T>)
 }
 
 impl<'a, T: Linked<Links<T>>> User<'a, T> {
-    /// A user with these blocks and this party.
+    /// Creates a user with these blocks and this party.
+    ///
+    /// # Complexity
+    /// O(1).
     pub fn new(list: &'a FreeList<T>, hand: Stack<T>, party: Party<T>) -> User<'a, T>
         requires { party.table ≡ list.now }
         ensures { result ≡ alone list.now hand party }
@@ -169,8 +176,11 @@ impl<'a, T: Linked<Links<T>>> User<'a, T> {
     }
 }
 
-/// Carries out commands, one after the other, whatever other users do meanwhile. Each block is with the user, in its
-/// local part, or was put back; none is lost, and none is there twice.
+/// Carries out commands, one after the other, whatever other users do meanwhile. Each block that the user had is with
+/// it, in its local part, or was put back for all: none is lost, and none is in two places.
+///
+/// # Complexity
+/// That of the commands.
 pub fn carry_out<T: Linked<Links<T>>>(user: &mut User<'_, T>, commands: &[Command])
     ensures { CarriesOut T.element commands.now user.old user.new }
 {
@@ -179,7 +189,11 @@ pub fn carry_out<T: Linked<Links<T>>>(user: &mut User<'_, T>, commands: &[Comman
     }
 }
 
-/// Ends a user: gives all blocks that are with it and in its local part, and one party, which absorbed its others.
+/// Ends a user, and returns all blocks that are with it and in its local part, and one party, which has absorbed its
+/// others.
+///
+/// # Complexity
+/// O(n), for n blocks in its local part.
 pub fn retire<T: Linked<Links<T>>>(user: User<'_, T>) -> (Stack<T>, Party<T>)
     ensures carries { CarriesOut T.element closing user.entry (alone user.entry.table result.0 result.1) }
     ensures table { result.1.table ≡ user.entry.table }
@@ -198,8 +212,11 @@ pub fn retire<T: Linked<Links<T>>>(user: User<'_, T>) -> (Stack<T>, Party<T>)
     (hand, party)
 }
 
-/// Ends a free list as `close` does. If its party absorbed those of all users, then each block is with a user, in a
-/// local part or among the blocks that this gives, in one of them only.
+/// Closes a free list as `close` does. If its party has absorbed those of all users, each block is with a user, in a
+/// local part or in the result, and in one of these only.
+///
+/// # Complexity
+/// O(r), for r rooms.
 pub fn close_all<T: Linked<Links<T>>>(list: FreeList<T>, party: Party<T>) -> Stack<T>
     requires table { party.table ≡ list }
     requires whole { party.share ≡ whole }
@@ -208,7 +225,7 @@ pub fn close_all<T: Linked<Links<T>>>(list: FreeList<T>, party: Party<T>) -> Sta
         → Met (all_parties T.element lives) party
         → EachOnce T.element lives result }
 {
-    // to the proof it tells what the party knows
+    // its contract states what is true of the party
     party.rooms();
     list.close(party)
 }
@@ -216,9 +233,9 @@ pub fn close_all<T: Linked<Links<T>>>(list: FreeList<T>, party: Party<T>) -> Sta
 /// Which of two users does what next.
 #[derive(Clone, Copy, PartialEq, Eq, Debug)]
 pub enum Turn {
-    /// The first carries out a command.
+    /// The first user carries out a command.
     First(Command),
-    /// The second does.
+    /// The second user carries out a command.
     Second(Command),
 }
 
@@ -232,6 +249,9 @@ fn take_turn<T: Linked<Links<T>>>(first: &mut User<'_, T>, second: &mut User<'_,
 }
 
 /// Carries out the commands of two users in turn.
+///
+/// # Complexity
+/// That of the commands.
 pub fn take_turns<T: Linked<Links<T>>>(
     first: &mut User<'_, T>,
     second: &mut User<'_, T>,
@@ -244,11 +264,15 @@ pub fn take_turns<T: Linked<Links<T>>>(
     }
 }
 
-/// Makes a free list with two users, each with its blocks and so many rooms, carries out their commands in turn, and
-/// ends the users and the list. Gives the blocks that are with the first then, with the second, and shared: together
-/// they are the blocks that both had.
+/// Creates a free list with two users, each with its blocks and `rooms` rooms, carries out their commands in turn, and
+/// ends the users and the list. Returns the blocks that are then with the first, with the second, and shared: together
+/// they are the blocks that both had. Requires that `rooms` is at most half of `MAX_ROOMS`.
 ///
-/// `AllocError` where `new` answers that; the blocks are dropped then.
+/// # Errors
+/// If memory is refused, it returns `AllocError`, and the blocks are dropped.
+///
+/// # Complexity
+/// O(`rooms`), and that of the commands.
 pub fn run_both<T: Linked<Links<T>>>(
     alloc: Global,
     rooms: usize,

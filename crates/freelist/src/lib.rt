@@ -1,5 +1,4 @@
-//! Free lists: blocks that an owner hands out and takes back without an atomic step, and that others put back from
-//! their threads.
+//! Free lists: an owner gets and puts blocks back without an atomic step, and other threads put blocks back too.
 #![tactic(auto)]
 
 mod free_list;

@@ -7,8 +7,13 @@ use cordyceps_base::stack::Links;
 use cordyceps_stack::stack::{Party, Stack, TransferStack};
 use std::marker::Model;
 
-/// Blocks at hand, of one owner, who takes what is shared when they run out. A contract sees them, the last put back
-/// first, and the party. A drop frees them, and ends the party, whose rooms are then lost for good.
+/// The local part of a free list: the blocks of one owner, who takes the shared ones when these run out. A contract
+/// sees the blocks, the last put back first, and the party.
+///
+/// Dropping it drops the party, whose rooms are then lost for good; `finish` returns it.
+///
+/// # Complexity
+/// Dropping it frees each block once: O(n + r), for n blocks and r rooms of its party.
 #[derive(Drop)]
 pub struct Local<'a, T: Linked<Links<T>>> {
     shared: &'a TransferStack<T>,
@@ -28,6 +33,7 @@ impl<'a, T: Linked<Links<T>>> Model for Local<'a, T> {
 }
 
 impl<'a, T: Linked<Links<T>>> Local<'a, T> {
+    /// Creates a local part without blocks.
     pub(crate) fn new(shared: &'a TransferStack<T>, party: Party<T>) -> Local<'a, T>
         requires { party.table ≡ shared.now }
         ensures { (result.blocks ≡ []) × (result.party ≡ party) }
@@ -39,8 +45,15 @@ impl<'a, T: Linked<Links<T>>> Local<'a, T> {
         }
     }
 
-    /// Takes out the block that was put back last. Where there is none it first takes all that is shared, at one swap,
-    /// and walks through it; `None` where that is nothing either. It waits for nobody.
+    /// Removes the block that was put back last and returns it. If there is none, it first takes all shared blocks.
+    /// Returns `None` if there is no block at all.
+    ///
+    /// # Complexity
+    /// O(1) if there is a local block, without an atomic step. Otherwise O(n), for n shared blocks: one swap of the
+    /// head, and a walk through them.
+    ///
+    /// # Waits
+    /// Never.
     pub fn get(&mut self) -> Option<T::Handle>
         ensures { GetsFrom T.element self.old.blocks self.old.party result self.new }
     {
@@ -52,6 +65,9 @@ impl<'a, T: Linked<Links<T>>> Local<'a, T> {
     }
 
     /// Puts a block back, without an atomic step.
+    ///
+    /// # Complexity
+    /// O(1).
     pub fn put(&mut self, handle: T::Handle)
         ensures blocks { self.new.blocks ≡ T.element handle ∷ self.old.blocks }
         ensures party { self.new.party ≡ self.old.party }
@@ -59,7 +75,10 @@ impl<'a, T: Linked<Links<T>>> Local<'a, T> {
         self.blocks.push(handle);
     }
 
-    /// Gives the blocks at hand and the party back.
+    /// Ends the local part, and returns its blocks and its party.
+    ///
+    /// # Complexity
+    /// O(1).
     pub fn finish(self) -> (Stack<T>, Party<T>)
         ensures { (result.0 ≡ self.entry.blocks) × (result.1 ≡ self.entry.party) }
     {
