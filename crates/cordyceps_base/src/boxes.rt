@@ -1,4 +1,4 @@
-//! A row of boxes that are reached through their raw pointers. This is all of the crate's unsafe code.
+//! Boxes that are reached by their raw pointers. This module has all of the crate's unsafe code.
 ghost use Rattle.std.specs.Prelude.{◌≡◌, ◌≤◌, ◌<◌, ◌-◌, ℕ, List, [], ◌∷◌, ◌++◌, length, take, drop, slice_get, Some};
 ghost use Rattle.std.specs.Borrow.{sem};
 ghost use Rattle.std.specs.Box.Ownership.{box_owns};
@@ -13,14 +13,17 @@ use std::marker::{Model, PhantomData, Send, Sync};
 use std::ptr;
 use std::ptr::NonNull;
 
-/// Where a box's value lies. It owns nothing.
+/// The address of a box's value, or null. It owns nothing.
 #[derive(Clone, Copy)]
 pub struct Address {
     ptr: *mut u8,
 }
 
 impl Address {
-    /// The address of nothing.
+    /// Returns the null address.
+    ///
+    /// # Complexity
+    /// O(1).
     pub fn nowhere() -> Address
         ensures { result.ptr ≡ null_ptr }
     {
@@ -29,7 +32,7 @@ impl Address {
         }
     }
 
-    /// Whether it is the address of something.
+    /// Returns `true` if the address is not null.
     pub(crate) fn is_somewhere(self) -> bool
         requires { Testable self.ptr }
         ensures { MatchBool result (InBlock self.ptr) (self.ptr ≡ null_ptr) }
@@ -54,6 +57,7 @@ impl<B, A: Allocator> Model for Loose<B, A> {
 }
 
 impl<B: Drop, A: Allocator> Loose<B, A> {
+    /// Converts a box into its pointer and its allocator.
     pub(crate) fn of(value: Box<B, A>) -> Loose<B, A>
         ensures { result.value ≡ value.value }
     {
@@ -61,6 +65,7 @@ impl<B: Drop, A: Allocator> Loose<B, A> {
         Loose { at, alloc }
     }
 
+    /// Converts the pointer and the allocator back into the box.
     pub(crate) fn into_box(self) -> Box<B, A>
         ensures { result.value ≡ self.value }
     {
@@ -69,7 +74,8 @@ impl<B: Drop, A: Allocator> Loose<B, A> {
     }
 }
 
-/// The owner of a row of boxes, each given by its address, its allocator and its value. It takes no space.
+/// The owner of a sequence of boxes, reached by their addresses. It has no size, and all its calls are O(1). A contract
+/// sees the address, the allocator and the value of each box.
 pub struct Boxes<B, A: Allocator> {
     mark: PhantomData<*mut (B, A)>,
     ghost blocks: { List (Ptr × A × B) },
@@ -90,18 +96,21 @@ unsafe impl<B: Sync, A: Allocator> Sync for Boxes<B, A> {}
 impl<B, A: Allocator> Boxes<B, A> {
     ghost use Rattle.cordyceps_base.specs.BoxesLends.{lends_value};
 
+    /// Returns the owner of no box.
     pub(crate) fn empty() -> Boxes<B, A>
         ensures { result.blocks ≡ [] }
     {
         Boxes { mark: PhantomData }
     }
 
+    /// Ends the owner of no box.
     pub(crate) fn discard(self)
         requires { self.blocks ≡ [] }
     {
         let Boxes { mark: _ } = self;
     }
 
+    /// Returns the address and the allocator of a box, and its owner.
     pub(crate) fn one(block: Loose<B, A>) -> (Address, A, Boxes<B, A>)
         ensures { result.2.blocks ≡ (result.0.ptr, result.1, block.value) ∷ [] }
     {
@@ -110,6 +119,7 @@ impl<B, A: Allocator> Boxes<B, A> {
         (Address { ptr }, alloc, Boxes { mark: PhantomData })
     }
 
+    /// Returns the only box.
     pub(crate) fn only(self, at: Address, alloc: A) -> Loose<B, A>
         requires { (x : B) × (self.blocks ≡ (at.ptr, alloc, x) ∷ []) }
         ensures { self.blocks ≡ (at.ptr, alloc, result.value) ∷ [] }
@@ -119,6 +129,7 @@ impl<B, A: Allocator> Boxes<B, A> {
         Loose { at, alloc }
     }
 
+    /// Joins two owners to one of the boxes of both.
     pub(crate) fn join(self, other: Boxes<B, A>) -> Boxes<B, A>
         ensures { result.blocks ≡ self.blocks ++ other.blocks }
     {
@@ -127,7 +138,7 @@ impl<B, A: Allocator> Boxes<B, A> {
         Boxes { mark: PhantomData }
     }
 
-    /// The first `count` boxes, and the others.
+    /// Splits the owner into that of the first `count` boxes and that of the others.
     pub(crate) fn cut(self, count: usize) -> (Boxes<B, A>, Boxes<B, A>)
         ensures { (result.0.blocks ≡ take count self.blocks) × (result.1.blocks ≡ drop count self.blocks) }
     {
@@ -135,7 +146,7 @@ impl<B, A: Allocator> Boxes<B, A> {
         (Boxes { mark: PhantomData }, Boxes { mark: PhantomData })
     }
 
-    /// The boxes before the first that lies at `at`, and the others. It takes no time.
+    /// Splits the owner into that of the boxes before the first one at `at` and that of the others.
     pub(crate) fn cut_at(self, at: Address) -> (Boxes<B, A>, Boxes<B, A>)
         ensures { let k = index_of at.ptr (box_addresses self.blocks) in
             (result.0.blocks ≡ take k self.blocks) × (result.1.blocks ≡ drop k self.blocks) }
@@ -144,7 +155,7 @@ impl<B, A: Allocator> Boxes<B, A> {
         (Boxes { mark: PhantomData }, Boxes { mark: PhantomData })
     }
 
-    /// The same boxes. No two lie at one address, if their values take space. It takes no time.
+    /// Returns the same boxes. Its contract states that their addresses are distinct, if their values have a size.
     pub(crate) fn apart(self) -> Boxes<B, A>
         ensures { (result.blocks ≡ self.blocks) × (0 < type_size B.row → AreApart (box_addresses self.blocks)) }
     {
@@ -152,28 +163,28 @@ impl<B, A: Allocator> Boxes<B, A> {
         Boxes { mark: PhantomData }
     }
 
-    /// The boxes behind the first. It takes no time.
+    /// Returns the boxes after the first.
     pub(crate) fn behind_first(&self) -> &Boxes<B, A>
         ensures { result.now.blocks ≡ drop 1 self.now.blocks }
     {
         self
     }
 
-    /// The boxes from the first that lies at `at` on. It takes no time.
+    /// Returns the boxes from the first one at `at` on.
     pub(crate) fn from_address(&self, at: Address) -> &Boxes<B, A>
         ensures { result.now.blocks ≡ drop (index_of at.ptr (box_addresses self.now.blocks)) self.now.blocks }
     {
         self
     }
 
-    /// The last box alone. It takes no time.
+    /// Returns the last box alone.
     pub(crate) fn only_last(&self) -> &Boxes<B, A>
         ensures { result.now.blocks ≡ drop (length self.now.blocks - 1) self.now.blocks }
     {
         self
     }
 
-    /// All boxes but the last, and the last.
+    /// Splits the owner into that of all boxes but the last and that of the last.
     pub(crate) fn cut_last(self) -> (Boxes<B, A>, Boxes<B, A>)
         ensures { let count = length self.blocks - 1 in
             (result.0.blocks ≡ take count self.blocks) × (result.1.blocks ≡ drop count self.blocks) }
@@ -182,7 +193,7 @@ impl<B, A: Allocator> Boxes<B, A> {
         (Boxes { mark: PhantomData }, Boxes { mark: PhantomData })
     }
 
-    /// `k` is the index of the box at `at`, which only the proof needs.
+    /// Returns a reference to the value of box `k`, which is at `at`. Only the contract needs `k`.
     pub(crate) fn get(&self, at: Address, k: usize) -> &B
         requires { slice_get (box_addresses self.now.blocks) k ≡ Some at.ptr }
         ensures { slice_get (box_values self.now.blocks) k ≡ Some result.now }
@@ -191,7 +202,7 @@ impl<B, A: Allocator> Boxes<B, A> {
         unsafe { &*at }
     }
 
-    /// The value of the first box that lies at `at`.
+    /// Returns a mutable reference to the value of the first box at `at`.
     pub(crate) fn at_mut(&mut self, at: Address) -> &mut B
         requires { (k : ℕ) × (slice_get (box_addresses self.old.blocks) k ≡ Some at.ptr) }
         ensures* writes_back { sem 𝓛
@@ -203,7 +214,7 @@ impl<B, A: Allocator> Boxes<B, A> {
         unsafe { &mut *at }
     }
 
-    /// The value of box `k`, which lies at `at`. Only the proof needs `k`.
+    /// Returns a mutable reference to the value of box `k`, which is at `at`. Only the contract needs `k`.
     pub(crate) fn get_mut(&mut self, at: Address, k: usize) -> &mut B
         requires { slice_get (box_addresses self.old.blocks) k ≡ Some at.ptr }
         ensures* writes_back { sem 𝓛 (lends_value B.row A.row A.Allocator self.entry k result) }
@@ -215,7 +226,7 @@ impl<B, A: Allocator> Boxes<B, A> {
 }
 
 impl<B> Boxes<B, Global> {
-    /// The same boxes. Each address may be compared with null. It takes no time.
+    /// Returns the same boxes. Its contract states that their addresses may be compared with null.
     pub(crate) fn tested(self) -> Boxes<B, Global>
         ensures { (result.blocks ≡ self.blocks) × AreTestable (box_addresses self.blocks) }
     {

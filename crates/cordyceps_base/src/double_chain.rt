@@ -1,4 +1,4 @@
-//! A doubly linked chain of nodes.
+//! A doubly linked chain of nodes, from which collections are built.
 ghost use Rattle.std.specs.Prelude.{◌≡◌, ℕ, ◌+◌, ◌-◌, ◌^◌, ◌<◌, ◌≤◌, [], ◌∷◌, ◌++◌, length, take, drop, slice_get, Some};
 ghost use Rattle.std.specs.Borrow.{sem};
 ghost use denote.RawPtr.{Ptr};
@@ -15,10 +15,12 @@ use std::alloc::Global;
 use std::marker::{Model, PhantomData};
 use std::mem;
 
-/// Nodes that are linked both ways. A contract sees them as a list, each as the address where it lies and its element.
+/// Nodes that are linked both ways. A contract sees a list of the nodes, each as its address and its element.
 ///
-/// The links are the chain's own, and no call but `drop` walks along them. The first `prev` and the last `next` are the
-/// address of nothing, as are `head` and `tail` where there is no node.
+/// The first `prev` and the last `next` are null, and so are `head` and `tail` if there is no node.
+///
+/// # Complexity
+/// Each call is O(1) and allocates nothing. Dropping the chain is O(n), for n nodes.
 pub struct DoubleChain<T> {
     head: Address,
     tail: Address,
@@ -50,6 +52,7 @@ impl<T: Drop> Drop for DoubleChain<T> {
 impl<T> DoubleChain<T> {
     ghost use Rattle.cordyceps_base.specs.DoubleChainLends.{lends_item};
 
+    /// Creates an empty chain.
     pub fn empty() -> DoubleChain<T>
         ensures { result ≡ [] }
     {
@@ -61,7 +64,7 @@ impl<T> DoubleChain<T> {
         }
     }
 
-    /// Takes the nodes out, and leaves an empty chain.
+    /// Takes all nodes, and leaves an empty chain.
     pub fn take(&mut self) -> DoubleChain<T>
         ensures { (result ≡ self.old) × (self.new ≡ []) }
     {
@@ -90,7 +93,7 @@ impl<T> DoubleChain<T> {
         boxes.discard();
     }
 
-    /// The chain of one node.
+    /// Creates a chain of one node.
     pub fn one(node: Node<T, Links<T>>) -> DoubleChain<T>
     where
         T: Drop,
@@ -101,7 +104,7 @@ impl<T> DoubleChain<T> {
         DoubleChain::of_one(at, boxes)
     }
 
-    /// The chain of the one node of a row.
+    /// Creates a chain of the one node of a row.
     fn of_one(at: Address, row: Row<T>) -> DoubleChain<T>
         requires { (a : Global) × (x : Block T) × (row.blocks ≡ (at.ptr, a, x) ∷ []) }
         ensures { result ≡ nodes_of row.blocks }
@@ -117,7 +120,7 @@ impl<T> DoubleChain<T> {
         }
     }
 
-    /// The only node.
+    /// Returns the only node.
     pub fn only(self) -> Node<T, Links<T>>
     where
         T: Drop,
@@ -137,13 +140,14 @@ impl<T> DoubleChain<T> {
         }
     }
 
+    /// Returns the number of nodes.
     pub fn len(&self) -> usize
         ensures { result ≡ length self.now }
     {
         self.len
     }
 
-    /// The address of the first node.
+    /// Returns the address of the first node. Requires that the chain is not empty.
     pub fn head(&self) -> Address
         requires { 0 < length self.now }
         ensures { LiesAt self.now 0 result }
@@ -151,7 +155,7 @@ impl<T> DoubleChain<T> {
         self.head
     }
 
-    /// The address of the last node.
+    /// Returns the address of the last node. Requires that the chain is not empty.
     pub fn tail(&self) -> Address
         requires { 0 < length self.now }
         ensures { LiesAt self.now (length self.now - 1) result }
@@ -159,7 +163,7 @@ impl<T> DoubleChain<T> {
         self.tail
     }
 
-    /// The address after that of node `k`, which is `at`.
+    /// Returns the address of the node after node `k`, which is at `at`. For the last node the address is null.
     pub fn next(&self, at: Address, k: usize) -> Address
         requires { LiesAt self.now k at }
         ensures { k + 1 < length self.now → LiesAt self.now (k + 1) result }
@@ -167,7 +171,7 @@ impl<T> DoubleChain<T> {
         self.boxes.get(at, k).links.next
     }
 
-    /// The address before that of node `k`, which is `at`.
+    /// Returns the address of the node before node `k`, which is at `at`. For the first node the address is null.
     pub fn prev(&self, at: Address, k: usize) -> Address
         requires { LiesAt self.now k at }
         ensures { 0 < k → LiesAt self.now (k - 1) result }
@@ -175,6 +179,7 @@ impl<T> DoubleChain<T> {
         self.boxes.get(at, k).links.prev
     }
 
+    /// Returns the number of node `k`, which is at `at`.
     pub fn id(&self, at: Address, k: usize) -> u64
         requires { LiesAt self.now k at }
         ensures { slice_get (ids (elements self.now)) k ≡ Some result }
@@ -182,6 +187,7 @@ impl<T> DoubleChain<T> {
         self.boxes.get(at, k).id
     }
 
+    /// Returns a reference to the value of node `k`, which is at `at`.
     pub fn get(&self, at: Address, k: usize) -> &T
         requires { LiesAt self.now k at }
         ensures { slice_get (values (elements self.now)) k ≡ Some result.now }
@@ -189,6 +195,7 @@ impl<T> DoubleChain<T> {
         &self.boxes.get(at, k).value
     }
 
+    /// Returns a mutable reference to the value of node `k`, which is at `at`. The element keeps its number.
     pub fn get_mut(&mut self, at: Address, k: usize) -> &mut T
         requires { LiesAt self.old k at }
         ensures* writes_back { sem 𝓛 (lends_item T.row self.entry k result) }
@@ -198,7 +205,8 @@ impl<T> DoubleChain<T> {
         &mut block.value
     }
 
-    /// The nodes of `self` and then those of `other`.
+    /// Joins two chains to one of the nodes of `self` and then those of `other`. Requires that the sum of the lengths
+    /// is at most `usize::MAX`.
     pub fn join(self, other: DoubleChain<T>) -> DoubleChain<T>
         requires { length self + length other < 2 ^ 64 }
         ensures { result ≡ self ++ other }
@@ -233,7 +241,7 @@ impl<T> DoubleChain<T> {
         }
     }
 
-    /// The first `k` nodes, of which `at` is the last, and the others.
+    /// Splits the chain after the first `k` nodes, the last of which is at `at`.
     pub fn cut_behind(self, at: Address, k: usize) -> (DoubleChain<T>, DoubleChain<T>)
         requires { (0 < k) × (LiesAt self (k - 1) at) }
         ensures { (result.0 ≡ take k self) × (result.1 ≡ drop k self) }
@@ -266,7 +274,7 @@ impl<T> DoubleChain<T> {
         (first, rest)
     }
 
-    /// The first `k` nodes, and the others, of which `at` is the first.
+    /// Splits the chain before node `k`, which is at `at` and not the first.
     pub fn cut(self, at: Address, k: usize) -> (DoubleChain<T>, DoubleChain<T>)
         requires { (0 < k) × (LiesAt self k at) }
         ensures { (result.0 ≡ take k self) × (result.1 ≡ drop k self) }
@@ -298,7 +306,7 @@ impl<T> DoubleChain<T> {
 }
 
 impl<T: Drop> DoubleChain<T> {
-    /// Puts a node first.
+    /// Prepends a node. Requires a length below `usize::MAX`.
     pub fn link_front(&mut self, node: Node<T, Links<T>>)
         requires { length self.old + 1 < 2 ^ 64 }
         ensures { (place : Ptr) × (self.new ≡ (place, node) ∷ self.old) }
@@ -311,7 +319,7 @@ impl<T: Drop> DoubleChain<T> {
         self.put(nodes);
     }
 
-    /// Puts a node last.
+    /// Appends a node. Requires a length below `usize::MAX`.
     pub fn link_back(&mut self, node: Node<T, Links<T>>)
         requires { length self.old + 1 < 2 ^ 64 }
         ensures { (place : Ptr) × (self.new ≡ self.old ++ (place, node) ∷ []) }
@@ -324,7 +332,7 @@ impl<T: Drop> DoubleChain<T> {
         self.put(nodes);
     }
 
-    /// Takes the first node out.
+    /// Removes the first node and returns it. Requires that the chain is not empty.
     pub fn unlink_front(&mut self) -> Node<T, Links<T>>
         requires { 0 < length self.old }
         ensures { (place : Ptr) × (self.old ≡ (place, result) ∷ self.new) }
@@ -338,7 +346,7 @@ impl<T: Drop> DoubleChain<T> {
         node
     }
 
-    /// Takes the last node out.
+    /// Removes the last node and returns it. Requires that the chain is not empty.
     pub fn unlink_back(&mut self) -> Node<T, Links<T>>
         requires { 0 < length self.old }
         ensures { (place : Ptr) × (self.old ≡ self.new ++ (place, result) ∷ []) }
@@ -352,7 +360,7 @@ impl<T: Drop> DoubleChain<T> {
         node
     }
 
-    /// The nodes behind one more, and its address.
+    /// Prepends a node to a chain that is not empty, and returns its address too.
     fn with_first(self, node: Node<T, Links<T>>) -> (DoubleChain<T>, Address)
         requires some { 0 < length self }
         requires fits { length self + 1 < 2 ^ 64 }
@@ -378,7 +386,7 @@ impl<T: Drop> DoubleChain<T> {
         (whole, at)
     }
 
-    /// The nodes before one more, and its address.
+    /// Appends a node to a chain that is not empty, and returns its address too.
     fn with_last(self, node: Node<T, Links<T>>) -> (DoubleChain<T>, Address)
         requires some { 0 < length self }
         requires fits { length self + 1 < 2 ^ 64 }
@@ -404,7 +412,7 @@ impl<T: Drop> DoubleChain<T> {
         (whole, at)
     }
 
-    /// The nodes with one more before node `k`, which lies at `at`.
+    /// Inserts a node before node `k`, which is at `at` and not the first.
     fn with_inner(self, at: Address, k: usize, node: Node<T, Links<T>>) -> DoubleChain<T>
         requires inner { 0 < k }
         requires on { LiesAt self k at }
@@ -425,7 +433,7 @@ impl<T: Drop> DoubleChain<T> {
         }
     }
 
-    /// Node `k`, which lies at `at`, and the others, of which some lie on either side.
+    /// Removes node `k`, which is at `at` and has a neighbour on either side.
     fn without_inner(self, at: Address, k: usize) -> (Node<T, Links<T>>, DoubleChain<T>)
         requires inner { (0 < k) × (k + 1 < length self) }
         requires on { LiesAt self k at }
@@ -448,7 +456,7 @@ impl<T: Drop> DoubleChain<T> {
         (node, left)
     }
 
-    /// The first node, and those behind it.
+    /// Removes the first of several nodes.
     fn without_first(self) -> (Node<T, Links<T>>, DoubleChain<T>)
         requires { 1 < length self }
         ensures { (place : Ptr) × (self ≡ (place, result.0) ∷ result.1) }
@@ -472,7 +480,7 @@ impl<T: Drop> DoubleChain<T> {
         (node_of(head, one), left)
     }
 
-    /// The last node, and those before it.
+    /// Removes the last of several nodes.
     fn without_last(self) -> (Node<T, Links<T>>, DoubleChain<T>)
         requires { 1 < length self }
         ensures { (place : Ptr) × (self ≡ result.1 ++ (place, result.0) ∷ []) }
@@ -498,7 +506,7 @@ impl<T: Drop> DoubleChain<T> {
 }
 
 impl<T> DoubleChain<T> {
-    /// The nodes before place `k`, and those from there on. `at` is where node `k` lies, if there is one.
+    /// Splits the chain before place `k`. If there is a node `k`, it is at `at`.
     pub fn split(self, at: Address, k: usize) -> (DoubleChain<T>, DoubleChain<T>)
         requires within { k ≤ length self }
         requires on { k < length self → LiesAt self k at }
@@ -514,7 +522,8 @@ impl<T> DoubleChain<T> {
         self.cut(at, k)
     }
 
-    /// Puts nodes in at place `k`. `at` is where node `k` lies, if there is one.
+    /// Inserts nodes at place `k`. If there is a node `k`, it is at `at`. Requires that the sum of the lengths is at
+    /// most `usize::MAX`.
     pub fn splice(&mut self, at: Address, k: usize, nodes: DoubleChain<T>)
         requires within { k ≤ length self.old }
         requires on { k < length self.old → LiesAt self.old k at }
@@ -527,7 +536,7 @@ impl<T> DoubleChain<T> {
 }
 
 impl<T: Drop> DoubleChain<T> {
-    /// Puts a node in at place `k`. `at` is where node `k` lies, if there is one.
+    /// Inserts a node at place `k`. If there is a node `k`, it is at `at`. Requires a length below `usize::MAX`.
     pub fn link(&mut self, at: Address, k: usize, node: Node<T, Links<T>>)
         requires within { k ≤ length self.old }
         requires on { k < length self.old → LiesAt self.old k at }
@@ -544,7 +553,7 @@ impl<T: Drop> DoubleChain<T> {
         self.put(nodes);
     }
 
-    /// Takes node `k` out, which lies at `at`.
+    /// Removes node `k`, which is at `at`, and returns it.
     pub fn unlink(&mut self, at: Address, k: usize) -> Node<T, Links<T>>
         requires { LiesAt self.old k at }
         ensures node { (place : Ptr) × (slice_get self.old k ≡ Some (place, result)) }

@@ -1,4 +1,4 @@
-//! Rows of nodes that lead on and back, where a chain is parted or joined there.
+//! Rows of doubly linked nodes, which are the parts of a chain that is split or joined.
 ghost use Rattle.std.specs.Prelude.{◌≡◌, ◌+◌, ◌<◌, [], ◌∷◌, ◌++◌, length, take, drop, slice_get, Some};
 ghost use denote.RawPtr.{Ptr, null_ptr};
 ghost use Rattle.cordyceps_base.specs.Boxes.{box_addresses};
@@ -15,7 +15,7 @@ use std::marker::PhantomData;
 /// The nodes of a chain, or of a part of one.
 pub(crate) type Row<T> = Boxes<Block<T>, Global>;
 
-/// The one node of a row.
+/// Returns the one node of a row.
 pub(crate) fn node_of<T: Drop>(at: Address, row: Row<T>) -> Node<T, Links<T>>
     requires { (a : Global) × (x : Block T) × (row.blocks ≡ (at.ptr, a, x) ∷ []) }
     ensures { nodes_of row.blocks ≡ (at.ptr, result) ∷ [] }
@@ -27,7 +27,8 @@ pub(crate) fn node_of<T: Drop>(at: Address, row: Row<T>) -> Node<T, Links<T>>
     }
 }
 
-/// A row whose last node leads to `next` in place of what it led to, and the address of its first.
+/// Makes the last node of a row lead to `next`. Returns the row and the address of its first node, or `next` if it is
+/// empty.
 pub(crate) fn followed_by<T>(
     row: Row<T>,
     head: Address,
@@ -48,7 +49,8 @@ pub(crate) fn followed_by<T>(
     }
 }
 
-/// A row whose first node leads back to `prev` in place of what it led back to, and the address of its last.
+/// Makes the first node of a row lead back to `prev`. Returns the row and the address of its last node, or `prev` if it
+/// is empty.
 pub(crate) fn behind<T>(
     row: Row<T>,
     first: Address,
@@ -69,7 +71,7 @@ pub(crate) fn behind<T>(
     }
 }
 
-/// A node between two rows: its address, those of the first node and the last, and the whole row.
+/// Links a node between two rows. Returns its address, those of the first and the last node, and the whole row.
 pub(crate) fn between<T: Drop>(
     front: Row<T>,
     head: Address,
@@ -96,7 +98,7 @@ pub(crate) fn between<T: Drop>(
     (at, head, tail, front.join(one.join(back)))
 }
 
-/// The node at `at`, which is node `k` and has one on either side, and the row without it.
+/// Removes node `k`, which is at `at` and has a neighbour on either side. Returns the node and the row.
 pub(crate) fn cut_out<T: Drop>(row: Row<T>, at: Address, k: usize) -> (Node<T, Links<T>>, Row<T>)
     requires inner { (0 < k) × (k + 1 < length row.blocks) }
     requires on { slice_get (box_addresses row.blocks) k ≡ Some at.ptr }
@@ -116,7 +118,7 @@ pub(crate) fn cut_out<T: Drop>(row: Row<T>, at: Address, k: usize) -> (Node<T, L
     (node_of(at, one), front.join(rest))
 }
 
-/// A row with one more node before that at `at`, which is node `k` and not the first.
+/// Inserts a node before node `k`, which is at `at` and not the first.
 pub(crate) fn put_in<T: Drop>(row: Row<T>, at: Address, k: usize, node: Node<T, Links<T>>) -> Row<T>
     requires inner { 0 < k }
     requires on { slice_get (box_addresses row.blocks) k ≡ Some at.ptr }

@@ -1,8 +1,8 @@
-//! Owned nodes, the handles that stand for them, and the two chains that link them.
+//! Owned nodes, the handles that represent them, and the two chains that link them.
 //!
-//! A node is a block of memory of its own, with room for the links of any collection, so that linking takes no
-//! memory. What a contract sees of a node, a handle or a collection is its elements: each a number, which the maker of
-//! the node chose, and a value.
+//! A node is a block of memory of its own, with the links of any collection, so that linking allocates nothing. A
+//! contract sees the elements of a node, a handle or a collection. An element is a number, which the maker of the node
+//! chose, and a value.
 #![tactic(auto)]
 
 pub mod boxes;

@@ -1,4 +1,4 @@
-//! Handles: how a type's values are handed to collections.
+//! Handles: how the values of a type are passed to collections.
 ghost use Rattle.std.specs.Prelude.{◌≡◌};
 ghost use Rattle.cordyceps_base.specs.Element.{Element};
 
@@ -6,27 +6,29 @@ use crate::node::{Kind, Node};
 
 /// A type whose values can be linked into collections of kind `L`.
 ///
-/// A handle owns one node, and means that node's number and value. Both functions keep them, so what goes into a
-/// collection by a handle comes out of it as the same element.
+/// A handle owns one node, and represents its element. Both functions keep the element, so what is put into a
+/// collection by a handle comes out as the same element.
 pub trait Linked<L: Kind>: Sized + Drop {
-    /// What is handed to a collection, and handed out by it.
+    /// The owning pointer that is passed to a collection, and returned by it.
     type Handle: Drop;
 
-    // The number and the value that a handle means.
+    // The element that a handle represents.
     ghost element: { Self.Handle → Element Self };
 
-    /// The node that a handle owns.
+    /// Returns the node that a handle owns. The element stays the same.
     fn into_ptr(handle: Self::Handle) -> Node<Self, L>
         ensures { result ≡ element handle };
 
-    /// The handle that owns a node.
+    /// Returns the handle that owns a node. The element stays the same.
     fn from_ptr(node: Node<Self, L>) -> Self::Handle
         ensures { element result ≡ node };
 }
 
-/// Makes a handle for collections of one kind a handle for those of another, with the same element.
+/// Converts a handle for collections of one kind into a handle for those of another, with the same element. If the
+/// handle is a node, `Node::into_kind` does the same.
 ///
-/// It takes no memory, unless `into_ptr` or `from_ptr` of `T` do. A handle that is a node has `Node::into_kind`.
+/// # Complexity
+/// That of `into_ptr` and `from_ptr`. Apart from these it is O(1) and allocates nothing.
 pub fn change_kind<L: Kind, M: Kind, T: Linked<L> + Linked<M>>(
     handle: <T as Linked<L>>::Handle,
 ) -> <T as Linked<M>>::Handle

@@ -9,11 +9,11 @@ use std::marker::{Model, PhantomData};
 /// Keeps `Kind` to the kinds of this crate.
 pub(crate) trait Sealed {}
 
-/// A kind of node: which collections can link it. The kinds are `list::Links`, `stack::Links` and `mpsc_queue::Links`.
-/// A node is of one kind at a time; `Node::into_kind` changes it.
+/// A kind of node: a mark in the node's type, by which a collection can link it. The kinds are `list::Links`,
+/// `stack::Links` and `mpsc_queue::Links`. A node has one kind at a time, and `Node::into_kind` changes it.
 pub trait Kind: Sealed + Drop {}
 
-/// The addresses of a node's neighbours. Lists use both, and the other collections `next` alone.
+/// The addresses of a node's neighbours. Lists use both, and the other collections only `next`.
 #[derive(Clone, Copy)]
 pub struct BlockLinks {
     pub(crate) next: Address,
@@ -21,7 +21,7 @@ pub struct BlockLinks {
 }
 
 impl BlockLinks {
-    /// The links of a node that is in no collection.
+    /// Returns the links of a node that is in no collection.
     fn unlinked() -> BlockLinks {
         BlockLinks {
             next: Address::nowhere(),
@@ -30,7 +30,7 @@ impl BlockLinks {
     }
 }
 
-/// The block of one node. `alloc` frees it.
+/// The block of memory of one node. `alloc` frees it.
 #[derive(Drop)]
 pub struct Block<T> {
     pub(crate) links: BlockLinks,
@@ -53,11 +53,11 @@ impl<T> Block<T> {
     }
 }
 
-/// An owned node that is in no collection: a number, a value, and room for the links of any collection. Collections of
-/// kind `L` can link it.
+/// An owned node that is in no collection: a number, a value, and the links of any collection. Collections of kind `L`
+/// can link it. A contract sees its element: the number and the value.
 ///
-/// It is one block of memory, and the size of a pointer. It can be sent to a thread, and shared by threads, where `T`
-/// can.
+/// It owns one block of memory, and has the size of a pointer. It can be sent to a thread, and shared by threads, if
+/// `T` can. Dropping it frees the block.
 #[derive(Drop)]
 pub struct Node<T, L> {
     pub(crate) block: Box<Block<T>>,
@@ -72,16 +72,21 @@ impl<T, L> Model for Node<T, L> {
     ghost view = { λ n. record { id = n.block.value.id; value = n.block.value.value } };
 }
 
-/// There was no memory for a node. It hands the value back.
+/// The error of a constructor whose memory was refused. It returns the value.
 #[derive(Drop, Debug)]
 pub struct Refused<T> {
+    /// The value that was passed to the constructor.
     pub value: T,
 }
 
 impl<T, L: Kind> Node<T, L> {
-    /// A node with this number and value. The number is the caller's choice, and need not differ from others.
+    /// Creates a node with a number and a value. The number is the caller's choice, and need not differ from others.
     ///
-    /// It makes one allocation. Where that is refused the value comes back.
+    /// # Errors
+    /// If memory is refused, it returns `Refused` with the value.
+    ///
+    /// # Complexity
+    /// O(1), with one allocation.
     pub fn new(alloc: Global, id: u64, value: T) -> Result<Node<T, L>, Refused<T>>
         ensures made { IfOk result (λ n. n ≡ record { id = id; value = value }) }
         ensures value_returned { IfErr result (λ e. e.value ≡ value) }
@@ -107,14 +112,20 @@ impl<T, L: Kind> Node<T, L> {
 impl<T, L> Node<T, L> {
     ghost use Rattle.cordyceps_base.specs.NodeLends.{lends_value};
 
-    /// The number.
+    /// Returns the number.
+    ///
+    /// # Complexity
+    /// O(1).
     pub fn id(&self) -> u64
         ensures { result ≡ self.now.id }
     {
         self.block.id
     }
 
-    /// Gives the node another number. The value stays.
+    /// Sets the number. The value stays.
+    ///
+    /// # Complexity
+    /// O(1).
     pub fn set_id(&mut self, id: u64)
         ensures id { self.new.id ≡ id }
         ensures value { self.new.value ≡ self.old.value }
@@ -123,14 +134,20 @@ impl<T, L> Node<T, L> {
         block.id = id;
     }
 
-    /// The value.
+    /// Returns a reference to the value.
+    ///
+    /// # Complexity
+    /// O(1).
     pub fn get(&self) -> &T
         ensures { result.now ≡ self.now.value }
     {
         &self.block.value
     }
 
-    /// The value, to be changed. The number stays.
+    /// Returns a mutable reference to the value. The number stays.
+    ///
+    /// # Complexity
+    /// O(1).
     pub fn get_mut(&mut self) -> &mut T
         ensures* writes_back { sem 𝓛 (lends_value T.row L.row self.entry result) }
         ensures value { result.now ≡ self.old.value }
@@ -138,7 +155,10 @@ impl<T, L> Node<T, L> {
         &mut self.block.value
     }
 
-    /// Makes it a node of another kind, which other collections can link. It takes no memory and no time.
+    /// Converts the node into one of another kind, which other collections can link. Allocates nothing.
+    ///
+    /// # Complexity
+    /// O(1).
     pub fn into_kind<M: Kind>(self) -> Node<T, M>
         ensures { result ≡ self }
     {
@@ -149,7 +169,10 @@ impl<T, L> Node<T, L> {
         }
     }
 
-    /// Frees the node, and hands out its value.
+    /// Frees the node and returns its value.
+    ///
+    /// # Complexity
+    /// O(1).
     pub fn into_value(self) -> T
     where
         L: Kind,

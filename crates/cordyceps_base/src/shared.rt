@@ -1,9 +1,9 @@
 //! What the collections that threads share have in common.
 
-/// The most rooms that a shared collection can have.
+/// The maximum number of rooms that a shared collection can have.
 pub const MAX_ROOMS: usize = 1_048_576;
 
-/// Why a step of a shared collection's core was not taken. It changed nothing.
+/// Why a step of a shared collection's core was refused. The core is unchanged.
 #[derive(Clone, Copy, Debug, PartialEq, Eq)]
 pub enum StepError {
     /// There is no such party, it is not at that step, or it has no free room.

@@ -1,4 +1,4 @@
-//! A singly linked chain of nodes, and the two ways to walk along it.
+//! A singly linked chain of nodes, from which collections are built, and the two ways to walk along it.
 ghost use Rattle.std.specs.Prelude.{◌≡◌, ◌-◌, ◌<◌, ◌↔◌, [], ◌∷◌, ◌++◌, length, slice_get, Some, IsTrue, IfSome, IfNone};
 ghost use Rattle.std.specs.Iterator.{YieldsFirstRef, item_count};
 ghost use denote.RawPtr.{Ptr, InBlock, Testable};
@@ -12,10 +12,10 @@ use std::alloc::Global;
 use std::marker::{Model, PhantomData};
 use std::mem;
 
-/// The blocks of nodes, each with the link to the node after.
+/// The nodes of a chain, or of a part of one.
 type Row<T> = Boxes<Block<T>, Global>;
 
-/// The address itself, or that of nothing.
+/// Returns the address, or null if there is none.
 fn or_nowhere(next: Option<Address>) -> Address
     requires { IfSome next (λ a. InBlock a.ptr) }
     ensures { unless_null result ≡ next }
@@ -26,7 +26,7 @@ fn or_nowhere(next: Option<Address>) -> Address
     }
 }
 
-/// The address, unless it is that of nothing.
+/// Returns the address, or `None` if it is null.
 fn somewhere(address: Address) -> Option<Address>
     requires { Testable address.ptr }
     ensures { result ≡ unless_null address }
@@ -38,7 +38,7 @@ fn somewhere(address: Address) -> Option<Address>
     }
 }
 
-/// The row with another link in its last node, which lies at `last`.
+/// Sets the link of the last node of a row, which is at `last`.
 fn with_last_link<T>(row: Row<T>, last: Address, next: Address) -> Row<T>
     requires some { 0 < length row.blocks }
     requires at { EndsAt row.blocks last.ptr }
@@ -49,10 +49,12 @@ fn with_last_link<T>(row: Row<T>, last: Address, next: Address) -> Row<T>
     front.join(end)
 }
 
-/// Nodes that are linked one way. A contract sees them as a list, each as the address where it lies and its element.
+/// Nodes that are linked one way. A contract sees a list of the nodes, each as its address and its element.
 ///
-/// There is no bound on how many nodes it can have. The links are the chain's own. Where there is no node, `head` is
-/// null, and `tail` means nothing.
+/// The number of nodes has no bound. If there is no node, `head` is null, and `tail` is not used.
+///
+/// # Complexity
+/// Each call is O(1) and allocates nothing. Dropping the chain is O(n), for n nodes.
 pub struct SingleChain<T, L> {
     head: Address,
     tail: Address,
@@ -82,7 +84,7 @@ impl<T: Drop, L> Drop for SingleChain<T, L> {
 }
 
 impl<T, L> SingleChain<T, L> {
-    /// The chain of no node.
+    /// Creates an empty chain.
     pub fn empty() -> SingleChain<T, L>
         ensures { result ≡ [] }
     {
@@ -94,14 +96,14 @@ impl<T, L> SingleChain<T, L> {
         }
     }
 
-    /// Whether there is no node.
+    /// Returns `true` if the chain has no node.
     pub fn is_empty(&self) -> bool
         ensures { IsTrue result ↔ (self.now ≡ []) }
     {
         somewhere(self.head).is_none()
     }
 
-    /// Takes the nodes out, and leaves an empty chain.
+    /// Takes all nodes, and leaves an empty chain.
     pub fn take(&mut self) -> SingleChain<T, L>
         ensures { (result ≡ self.old) × (self.new ≡ []) }
     {
@@ -130,7 +132,7 @@ impl<T, L> SingleChain<T, L> {
         boxes.discard();
     }
 
-    /// The chain of one node.
+    /// Creates a chain of one node.
     pub fn one(node: Node<T, L>) -> SingleChain<T, L>
     where
         T: Drop,
@@ -147,7 +149,7 @@ impl<T, L> SingleChain<T, L> {
         }
     }
 
-    /// The only node.
+    /// Returns the only node.
     pub fn only(self) -> Node<T, L>
     where
         T: Drop,
@@ -167,7 +169,7 @@ impl<T, L> SingleChain<T, L> {
         }
     }
 
-    /// The value of the first node.
+    /// Returns a reference to the value of the first node, or `None` if the chain is empty.
     pub fn first(&self) -> Option<&T>
         ensures some { IfSome result (λ v. slice_get (values (elements self.now)) 0 ≡ Some v.now) }
         ensures none { IfNone result (self.now ≡ []) }
@@ -178,7 +180,7 @@ impl<T, L> SingleChain<T, L> {
         }
     }
 
-    /// The number of the first node.
+    /// Returns the number of the first node, or `None` if the chain is empty.
     pub fn first_id(&self) -> Option<u64>
         ensures some { IfSome result (λ n. slice_get (ids (elements self.now)) 0 ≡ Some n) }
         ensures none { IfNone result (self.now ≡ []) }
@@ -189,7 +191,7 @@ impl<T, L> SingleChain<T, L> {
         }
     }
 
-    /// The value of the last node. It takes no walk.
+    /// Returns a reference to the value of the last node, or `None` if the chain is empty.
     pub fn last(&self) -> Option<&T>
         ensures some { let last = length self.now - 1 in
             IfSome result (λ v. slice_get (values (elements self.now)) last ≡ Some v.now) }
@@ -202,7 +204,7 @@ impl<T, L> SingleChain<T, L> {
         Some(&last.get(self.tail, 0).value)
     }
 
-    /// The values, from the first to the last.
+    /// Returns an iterator over the values, from the first to the last.
     pub fn values(&self) -> Values<'_, T>
         ensures { result ≡ values (elements self.now) }
     {
@@ -212,7 +214,7 @@ impl<T, L> SingleChain<T, L> {
         }
     }
 
-    /// The nodes of `self` and then those of `other`. It takes no walk.
+    /// Joins two chains to one of the nodes of `self` and then those of `other`.
     pub fn join(self, other: SingleChain<T, L>) -> SingleChain<T, L>
         ensures { result ≡ self ++ other }
     {
@@ -245,7 +247,7 @@ impl<T, L> SingleChain<T, L> {
         }
     }
 
-    /// A cursor on the first node.
+    /// Converts the chain into a cursor at its first node.
     pub fn into_cursor(self) -> Cursor<T, L>
         ensures { (result.before ≡ []) × (result.rest ≡ self) }
     {
@@ -268,7 +270,7 @@ impl<T, L> SingleChain<T, L> {
 }
 
 impl<T: Drop, L> SingleChain<T, L> {
-    /// Puts a node first.
+    /// Prepends a node.
     pub fn link_front(&mut self, node: Node<T, L>)
         ensures { (place : Ptr) × (self.new ≡ (place, node) ∷ self.old) }
     {
@@ -276,7 +278,7 @@ impl<T: Drop, L> SingleChain<T, L> {
         self.put(SingleChain::one(node).join(rest));
     }
 
-    /// Puts a node last. It takes no walk.
+    /// Appends a node.
     pub fn link_back(&mut self, node: Node<T, L>)
         ensures { (place : Ptr) × (self.new ≡ self.old ++ (place, node) ∷ []) }
     {
@@ -284,7 +286,7 @@ impl<T: Drop, L> SingleChain<T, L> {
         self.put(rest.join(SingleChain::one(node)));
     }
 
-    /// Takes the first node out.
+    /// Removes the first node and returns it. Requires that the chain is not empty.
     pub fn unlink_front(&mut self) -> Node<T, L>
         requires { 0 < length self.old }
         ensures { (place : Ptr) × (self.old ≡ (place, result) ∷ self.new) }
@@ -294,7 +296,7 @@ impl<T: Drop, L> SingleChain<T, L> {
         node
     }
 
-    /// The first node, and the chain of the others.
+    /// Removes the first node, and returns it and the chain of the others.
     fn split_first(self) -> (Node<T, L>, SingleChain<T, L>)
         requires { 0 < length self }
         ensures { (place : Ptr) × (self ≡ (place, result.0) ∷ result.1) }
@@ -322,7 +324,10 @@ impl<T: Drop, L> SingleChain<T, L> {
     }
 }
 
-/// The values of a chain's nodes, in order. A contract sees those that are left.
+/// An iterator over the values of a chain, in order. A contract sees the values that are left.
+///
+/// # Complexity
+/// Each `next` is O(1).
 #[derive(Drop)]
 pub struct Values<'a, T> {
     next: Option<Address>,
@@ -347,6 +352,7 @@ impl<'a, T> Iterator for Values<'a, T> {
 
     ghost remaining = { item_count (λ v. v) };
 
+    /// Returns a reference to the first value that is left, or `None` if none is.
     fn next(&mut self) -> Option<&'a T> {
         match self.next {
             Some(at) => {
@@ -361,11 +367,13 @@ impl<'a, T> Iterator for Values<'a, T> {
     }
 }
 
-/// A chain that is walked along, and the node that the walk is on. A contract sees the nodes before that one, and the
-/// rest from it on.
+/// A chain and a node of it that a walk is at. A contract sees the nodes before that one, and the rest from it on.
 ///
-/// A move writes no memory. `head` is that of the nodes before. `before` is the address of the last of these, and
-/// means nothing where there is none, nor does `tail` where there is no node.
+/// A move writes no memory. `head` is that of the nodes before. `before` is the address of the last of these, and is
+/// not used if there is none. Nor is `tail` if there is no node.
+///
+/// # Complexity
+/// Each call is O(1) and allocates nothing. Dropping the cursor is O(n), for n nodes.
 pub struct Cursor<T, L> {
     head: Option<Address>,
     before: Address,
@@ -395,7 +403,7 @@ impl<T: Drop, L> Drop for Cursor<T, L> {
 }
 
 impl<T, L> Cursor<T, L> {
-    /// The value of the node that the cursor is on. It is `None` behind the last node.
+    /// Returns a reference to the value at the cursor, or `None` after the last node.
     pub fn current(&self) -> Option<&T>
         ensures some { IfSome result (λ v. slice_get (values (elements self.now.rest)) 0 ≡ Some v.now) }
         ensures none { IfNone result (self.now.rest ≡ []) }
@@ -406,7 +414,7 @@ impl<T, L> Cursor<T, L> {
         }
     }
 
-    /// Moves on by one node.
+    /// Moves the cursor to the next node. Requires that it is at a node.
     pub fn advance(&mut self)
         requires { 0 < length self.old.rest }
         ensures { (node : Ptr × Element T)
@@ -460,7 +468,7 @@ impl<T, L> Cursor<T, L> {
         empty.close().discard();
     }
 
-    /// The chain of all nodes. It takes no walk.
+    /// Converts the cursor into the chain of all nodes.
     pub fn close(self) -> SingleChain<T, L>
         ensures { result ≡ self.before ++ self.rest }
     {
@@ -484,7 +492,7 @@ impl<T, L> Cursor<T, L> {
 }
 
 impl<T: Drop, L> Cursor<T, L> {
-    /// Puts a node before the one that the cursor is on. It takes no walk.
+    /// Inserts a node before the one that the cursor is at, or after the last.
     pub fn insert(&mut self, node: Node<T, L>)
         ensures { (place : Ptr)
             × (self.new.before ≡ self.old.before ++ (place, node) ∷ [])

@@ -2,7 +2,7 @@
 use crate::node::{Kind, Sealed};
 use std::marker::PhantomData;
 
-/// The kind of node that stacks and sorted lists link.
+/// The kind of node that stacks, sorted lists and shared stacks link.
 #[derive(Drop)]
 pub struct Links<T> {
     value: PhantomData<T>,

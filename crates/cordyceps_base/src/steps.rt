@@ -3,7 +3,8 @@ ghost use Rattle.std.specs.Prelude.{◌≡◌, ◌+◌, ◌<◌, ◌^◌};
 
 use std::marker::Model;
 
-/// How many steps the calls took that were passed this count: moves along a link, or comparisons.
+/// A count of steps: moves along a link, or comparisons. Calls that take it add the steps that they make. A contract
+/// sees the number.
 #[derive(Drop, Debug)]
 pub struct Steps {
     count: u64,
@@ -18,14 +19,20 @@ impl Model for Steps {
 }
 
 impl Steps {
-    /// A count of no steps.
+    /// Creates a count of no steps.
+    ///
+    /// # Complexity
+    /// O(1).
     pub fn new() -> Steps
         ensures { result ≡ 0 }
     {
         Steps { count: 0 }
     }
 
-    /// The number of steps.
+    /// Returns the number of steps.
+    ///
+    /// # Complexity
+    /// O(1).
     pub fn count(&self) -> u64
         ensures { result ≡ self.now }
     {
@@ -36,12 +43,19 @@ impl Steps {
 impl Default for Steps {
     ghost is_default = { λ s. s ≡ 0 };
 
+    /// Creates a count of no steps, as `new` does.
+    ///
+    /// # Complexity
+    /// O(1).
     fn default() -> Steps {
         Steps::new()
     }
 }
 
-/// Counts one more step, for the collections that follow links or ask orders.
+/// Adds one step, for collections that count theirs. Requires that the count is below `u64::MAX`.
+///
+/// # Complexity
+/// O(1).
 pub fn count_one(steps: &mut Steps)
     requires { steps.old + 1 < 2 ^ 64 }
     ensures { steps.new ≡ steps.old + 1 }

@@ -1,4 +1,5 @@
-//! Calls that reach the nodes of a chain by their addresses alone.
+//! Calls that reach the nodes of a chain by their addresses alone. Each requires that a node of the chain is at the
+//! address.
 ghost use Rattle.std.specs.Prelude.{◌≡◌, ◌+◌, ◌^◌, ◌<◌, [], ◌∷◌, ◌++◌, length, slice_get, Some, MatchOption};
 ghost use Rattle.std.specs.Borrow.{sem};
 ghost use Rattle.cordyceps_base.specs.BySpot.{HasSpot, HoldsAt, IsTaken, IsPutBefore, IsPutAfter, IsMovedFront, IsMovedBack, IsFirst, IsLast, AreNext};
@@ -16,7 +17,7 @@ use std::alloc::Global;
 impl<T> DoubleChain<T> {
     ghost use Rattle.cordyceps_base.specs.DoubleChainLends.{lends_item};
 
-    /// The same nodes. No two lie at one address. It takes no time.
+    /// Returns the same nodes. Its contract states that their addresses are distinct.
     pub fn apart(self) -> DoubleChain<T>
         ensures { (result ≡ self) × AreApart (spots self) }
     {
@@ -34,7 +35,7 @@ impl<T> DoubleChain<T> {
         }
     }
 
-    /// Changes nothing. No two nodes lie at one address.
+    /// Changes nothing. Its contract states that the addresses of the nodes are distinct.
     pub fn keep_apart(&mut self)
         ensures { (self.new ≡ self.old) × AreApart (spots self.new) }
     {
@@ -42,21 +43,21 @@ impl<T> DoubleChain<T> {
         self.put(differing);
     }
 
-    /// The address of the first node. `None` where there is none.
+    /// Returns the address of the first node, or `None` if the chain is empty.
     pub fn first(&self) -> Option<Address>
         ensures { MatchOption result (self.now ≡ []) (λ p. IsFirst self.now p.ptr) }
     {
         if self.len == 0 { None } else { Some(self.head) }
     }
 
-    /// The address of the last node. `None` where there is none.
+    /// Returns the address of the last node, or `None` if the chain is empty.
     pub fn last(&self) -> Option<Address>
         ensures { MatchOption result (self.now ≡ []) (λ p. IsLast self.now p.ptr) }
     {
         if self.len == 0 { None } else { Some(self.tail) }
     }
 
-    /// The address after that at `at`. `None` where the last node lies there.
+    /// Returns the address of the node after the one at `at`, or `None` if that is the last.
     pub fn next_at(&self, at: Address) -> Option<Address>
         requires { HasSpot self.now at.ptr }
         ensures { MatchOption result (IsLast self.now at.ptr) (λ p. AreNext self.now at.ptr p.ptr) }
@@ -69,7 +70,7 @@ impl<T> DoubleChain<T> {
         }
     }
 
-    /// The address before that at `at`. `None` where the first node lies there.
+    /// Returns the address of the node before the one at `at`, or `None` if that is the first.
     pub fn prev_at(&self, at: Address) -> Option<Address>
         requires { HasSpot self.now at.ptr }
         ensures { MatchOption result (IsFirst self.now at.ptr) (λ p. AreNext self.now p.ptr at.ptr) }
@@ -82,7 +83,7 @@ impl<T> DoubleChain<T> {
         }
     }
 
-    /// The value at an address.
+    /// Returns a reference to the value at an address.
     pub fn get_at(&self, at: Address) -> &T
         requires { HasSpot self.now at.ptr }
         ensures { HoldsAt self.now at.ptr result.now }
@@ -90,7 +91,7 @@ impl<T> DoubleChain<T> {
         &self.boxes.from_address(at).get(at, 0).value
     }
 
-    /// The value at an address, to be changed. The element keeps its number.
+    /// Returns a mutable reference to the value at an address. The element keeps its number.
     pub fn get_at_mut(&mut self, at: Address) -> &mut T
         requires { HasSpot self.old at.ptr }
         ensures* writes_back { sem 𝓛 (lends_item T.row self.entry (index_of at.ptr (spots self.old)) result) }
@@ -100,7 +101,7 @@ impl<T> DoubleChain<T> {
         &mut block.value
     }
 
-    /// The nodes without that at `at`, and the row of that alone, where it lay.
+    /// Separates the node at `at` from the others.
     fn parted(self, at: Address) -> (DoubleChain<T>, Row<T>)
         requires { HasSpot self at.ptr }
         ensures parts { (a : Global) × (x : Block T) × IsTaken self at.ptr (block_element x) result.0
@@ -129,7 +130,7 @@ impl<T> DoubleChain<T> {
         (left, one)
     }
 
-    /// Puts the node at `at` first. It stays where it lies.
+    /// Moves the node at `at` to the front. It keeps its address.
     pub fn move_front(&mut self, at: Address)
         requires { HasSpot self.old at.ptr }
         ensures { IsMovedFront self.old at.ptr self.new }
@@ -138,7 +139,7 @@ impl<T> DoubleChain<T> {
         self.put(DoubleChain::of_one(at, one).join(rest));
     }
 
-    /// Puts the node at `at` last. It stays where it lies.
+    /// Moves the node at `at` to the back. It keeps its address.
     pub fn move_back(&mut self, at: Address)
         requires { HasSpot self.old at.ptr }
         ensures { IsMovedBack self.old at.ptr self.new }
@@ -149,7 +150,7 @@ impl<T> DoubleChain<T> {
 }
 
 impl<T: Drop> DoubleChain<T> {
-    /// Puts a node first, and answers its address.
+    /// Prepends a node and returns its address. Requires a length below `usize::MAX`.
     pub fn link_first(&mut self, node: Node<T, Links<T>>) -> Address
         requires { length self.old + 1 < 2 ^ 64 }
         ensures holds { self.new ≡ (result.ptr, node) ∷ self.old }
@@ -162,7 +163,7 @@ impl<T: Drop> DoubleChain<T> {
         at
     }
 
-    /// Puts a node last, and answers its address.
+    /// Appends a node and returns its address. Requires a length below `usize::MAX`.
     pub fn link_last(&mut self, node: Node<T, Links<T>>) -> Address
         requires { length self.old + 1 < 2 ^ 64 }
         ensures holds { self.new ≡ self.old ++ (result.ptr, node) ∷ [] }
@@ -175,7 +176,7 @@ impl<T: Drop> DoubleChain<T> {
         at
     }
 
-    /// The nodes with one more before that at `at`, and its address.
+    /// Inserts a node before the one at `at`, and returns its address too.
     fn with_before(self, at: Address, node: Node<T, Links<T>>) -> (DoubleChain<T>, Address)
         requires there { HasSpot self at.ptr }
         requires fits { length self + 1 < 2 ^ 64 }
@@ -199,7 +200,7 @@ impl<T: Drop> DoubleChain<T> {
         (whole, new)
     }
 
-    /// The nodes with one more behind that at `at`, and its address.
+    /// Inserts a node after the one at `at`, and returns its address too.
     fn with_after(self, at: Address, node: Node<T, Links<T>>) -> (DoubleChain<T>, Address)
         requires there { HasSpot self at.ptr }
         requires fits { length self + 1 < 2 ^ 64 }
@@ -225,7 +226,7 @@ impl<T: Drop> DoubleChain<T> {
         (whole, new)
     }
 
-    /// Puts a node in before that at `at`, and answers its address.
+    /// Inserts a node before the one at `at` and returns its address. Requires a length below `usize::MAX`.
     pub fn link_before(&mut self, at: Address, node: Node<T, Links<T>>) -> Address
         requires there { HasSpot self.old at.ptr }
         requires fits { length self.old + 1 < 2 ^ 64 }
@@ -237,7 +238,7 @@ impl<T: Drop> DoubleChain<T> {
         new
     }
 
-    /// Puts a node in behind that at `at`, and answers its address.
+    /// Inserts a node after the one at `at` and returns its address. Requires a length below `usize::MAX`.
     pub fn link_after(&mut self, at: Address, node: Node<T, Links<T>>) -> Address
         requires there { HasSpot self.old at.ptr }
         requires fits { length self.old + 1 < 2 ^ 64 }
@@ -249,7 +250,7 @@ impl<T: Drop> DoubleChain<T> {
         new
     }
 
-    /// Takes the node at `at` out.
+    /// Removes the node at `at` and returns it.
     pub fn unlink_at(&mut self, at: Address) -> Node<T, Links<T>>
         requires { HasSpot self.old at.ptr }
         ensures { IsTaken self.old at.ptr result self.new }
