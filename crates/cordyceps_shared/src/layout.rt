@@ -1,9 +1,9 @@
-//! Where the words of a table that threads share lie.
+//! The layout of the words of a shared table.
 //!
 //! `HEAD` and `RIGHT` have 128 bytes each of their own. These are two cache lines, since a processor may fetch lines in
 //! pairs. So a step on one of them takes neither the other nor a link away from another processor.
 
-/// The index of the word that leads to the element put in last.
+/// The index of the word that leads to the element that was put in last.
 pub const HEAD: usize = 16;
 
 /// The index of the word of a queue's right to dequeue.

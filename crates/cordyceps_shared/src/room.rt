@@ -1,9 +1,12 @@
-//! A room of a core.
+//! The rooms of a core.
 
-/// The place of one element, with the link that leads to another room. `owner` is the party whose free room it is.
+/// A room of a core: a unit of capacity, for one element, with a link to another room.
 #[derive(Drop)]
 pub struct Room<E> {
+    /// The party that can use the room, if it is free.
     pub owner: Option<usize>,
+    /// The element in the room, if it is in use.
     pub element: Option<E>,
+    /// The room that this one leads to, if any.
     pub next: Option<usize>,
 }

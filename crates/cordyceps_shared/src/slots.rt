@@ -1,16 +1,18 @@
-//! What lies in the slots of a table that threads share.
+//! What is in the slots of a shared table.
 
 use crate::tickets::Ticket;
 use std::marker::Brand;
 
-/// What lies in the slot of a room in use: the room's ticket and its element.
+/// The content of the slot of a room in use.
 #[derive(Drop)]
 pub struct Filled<E> {
+    /// The room's ticket.
     pub ticket: Ticket,
+    /// The element.
     pub item: E,
 }
 
-/// How many rooms a party gives up. Each call that splits one picks it.
+/// The number of rooms that a party gives up. Each call that splits a party chooses it.
 pub trait Count {
     ghost use Rattle.std.specs.Prelude.{ℕ};
 

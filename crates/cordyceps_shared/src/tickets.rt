@@ -1,4 +1,4 @@
-//! The right to use the rooms of a shared collection.
+//! Tickets: the tokens by which parties use the rooms of a shared collection.
 ghost use Rattle.std.specs.Prelude.{◌≡◌, ◌+◌, ◌<◌, ◌≤◌, ◌^◌, [], ◌∷◌, ◌++◌, length, take, drop, slice_get, Some, IfOk};
 ghost use Rattle.cordyceps_shared.specs.Counts.{below};
 
@@ -8,9 +8,9 @@ use cordyceps_base::stack::Links;
 use std::alloc::{AllocError, Global};
 use std::marker::Model;
 
-/// The right to use one room of a shared collection. To a contract it is the room's number.
+/// The token for one room of a shared collection: who has it can use the room. A contract sees the room's number.
 ///
-/// It is one block of memory, and the size of a pointer. A drop frees it.
+/// It owns one block of memory, which dropping it frees, and has the size of a pointer.
 #[derive(Drop)]
 pub struct Ticket {
     node: Node<(), Links<()>>,
@@ -34,7 +34,10 @@ impl Ticket {
         }
     }
 
-    /// The room's number.
+    /// Returns the room's number.
+    ///
+    /// # Complexity
+    /// O(1).
     pub fn room(&self) -> usize
         ensures { result ≡ self.now }
     {
@@ -42,9 +45,11 @@ impl Ticket {
     }
 }
 
-/// Tickets, in the order in which they are used. A contract sees them as the list of their rooms' numbers.
+/// A list of tickets, in the order in which they are used. A contract sees the numbers of their rooms. Linking
+/// allocates nothing and cannot be refused. There can be 2^64 - 1 of them.
 ///
-/// Linking takes no memory and cannot be refused. There can be 2^64 - 1 of them. A drop frees each ticket.
+/// # Complexity
+/// Dropping it frees each ticket: O(n), for n tickets.
 #[derive(Drop)]
 pub struct Tickets {
     chain: SingleChain<(), Links<()>>,
@@ -64,7 +69,10 @@ impl Model for Tickets {
 }
 
 impl Tickets {
-    /// No tickets. It takes no memory.
+    /// Creates an empty list. Allocates nothing.
+    ///
+    /// # Complexity
+    /// O(1).
     pub fn none() -> Tickets
         ensures { result ≡ [] }
     {
@@ -74,10 +82,13 @@ impl Tickets {
         }
     }
 
-    /// A ticket for each room from `count - 1` down to 0, in that order.
+    /// Creates a ticket for each room from `count - 1` down to 0, in that order.
     ///
-    /// It makes an allocation for each ticket. Where one is refused, it frees those that it made. Its time grows with
-    /// `count`.
+    /// # Errors
+    /// If memory is refused, it returns `AllocError`, and frees the tickets that it made.
+    ///
+    /// # Complexity
+    /// O(`count`), with an allocation for each ticket.
     pub fn new(alloc: Global, count: usize) -> Result<Tickets, AllocError>
         ensures { IfOk result (λ t. t ≡ below count) }
     {
@@ -89,14 +100,20 @@ impl Tickets {
         Ok(tickets)
     }
 
-    /// How many tickets there are. It takes no walk.
+    /// Returns the number of tickets.
+    ///
+    /// # Complexity
+    /// O(1).
     pub fn len(&self) -> usize
         ensures { result ≡ length self.now }
     {
         self.count
     }
 
-    /// The room of the ticket that `take` gives.
+    /// Returns the room of the first ticket. Requires that there is one.
+    ///
+    /// # Complexity
+    /// O(1).
     pub fn first(&self) -> usize
         requires { 0 < length self.now }
         ensures { slice_get self.now 0 ≡ Some result }
@@ -104,7 +121,10 @@ impl Tickets {
         self.chain.first_id().unwrap() as usize
     }
 
-    /// Takes the first ticket out.
+    /// Removes the first ticket and returns it. Requires that there is one.
+    ///
+    /// # Complexity
+    /// O(1).
     pub fn take(&mut self) -> Ticket
         requires { 0 < length self.old }
         ensures taken { self.old ≡ result ∷ self.new }
@@ -116,7 +136,10 @@ impl Tickets {
         }
     }
 
-    /// Puts a ticket first, so that `take` gives it next.
+    /// Prepends a ticket, which `take` returns next.
+    ///
+    /// # Complexity
+    /// O(1).
     pub fn put(&mut self, ticket: Ticket)
         requires { length self.old + 1 < 2 ^ 64 }
         ensures { self.new ≡ ticket ∷ self.old }
@@ -126,7 +149,7 @@ impl Tickets {
         self.count += 1;
     }
 
-    /// Puts a ticket last. It takes no walk.
+    /// Appends a ticket, in O(1).
     fn put_last(&mut self, ticket: Ticket)
         requires { length self.old + 1 < 2 ^ 64 }
         ensures { self.new ≡ self.old ++ ticket ∷ [] }
@@ -136,7 +159,10 @@ impl Tickets {
         self.count += 1;
     }
 
-    /// Takes the first `count` tickets out, and leaves the others. Its time grows with `count`.
+    /// Removes the first `count` tickets and returns them. Requires that there are as many.
+    ///
+    /// # Complexity
+    /// O(`count`).
     pub fn split_off(&mut self, count: usize) -> Tickets
         requires { count ≤ length self.old }
         ensures { (result ≡ take count self.old) × (self.new ≡ drop count self.old) }
@@ -148,7 +174,10 @@ impl Tickets {
         first
     }
 
-    /// Puts tickets behind those that are there, in their order. It takes no walk.
+    /// Appends the tickets of `other`, in their order.
+    ///
+    /// # Complexity
+    /// O(1).
     pub fn append(&mut self, other: Tickets)
         requires { length self.old + length other < 2 ^ 64 }
         ensures { self.new ≡ self.old ++ other }
