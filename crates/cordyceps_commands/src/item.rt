@@ -1,4 +1,4 @@
-//! What the replayed structures hold.
+//! The items that the structures of a replay hold.
 ghost use Rattle.std.specs.Prelude.{◌≡◌};
 ghost use Rattle.std.proofs.Common.{rules};
 ghost use Rattle.std.specs.Cmp.{partial_order_from_own_ties};
@@ -11,15 +11,15 @@ use cordyceps_base::node::Node;
 use cordyceps_base::{list, mpsc_queue, stack};
 use std::cmp::Ordering;
 
-/// A value and a number. Items are ordered by value, and those of one value by number.
+/// A value and a number. Items are ordered by value, and then by number.
 ///
-/// An item can stand in structures of each kind: its handle is a node that holds it. Where a
-/// replay makes that node, the node's number is the item's `id`.
+/// An item can be linked into collections of each kind: its handle is a node that holds it. If a replay makes that
+/// node, the node's number is the item's `id`.
 #[derive(Clone, Copy, Debug, PartialEq, Eq)]
 pub struct Item {
     /// The value, which a command may replace.
     pub value: u64,
-    /// The number by which the item is known. It need not be unique.
+    /// The number of the item, which need not be unique.
     pub id: u64,
 }
 
@@ -32,7 +32,7 @@ impl Ord for Item {
 
     ghost matches_eq = { Prim.search (comparing, rules) };
 
-    /// Compares the values, and the numbers where these are equal.
+    /// Compares the values, and then the numbers.
     fn cmp(&self, other: &Item) -> Ordering {
         self.value.cmp(&other.value).then(self.id.cmp(&other.id))
     }
