@@ -1,4 +1,4 @@
-//! Tables of lists, stacks and sorted lists that hold items, and commands that are replayed on them.
+//! Tables of lists, stacks and sorted lists of items, and the replay of commands on them.
 #![tactic(auto)]
 
 pub mod replay;

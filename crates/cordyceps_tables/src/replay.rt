@@ -1,7 +1,7 @@
-//! Commands that are run, one after the other, on tables of structures that hold items.
+//! The replay of commands on tables of structures that hold items.
 //!
 //! A table owns its structures. Each command is one call of a structure, or a block of calls of a cursor, and has one
-//! reply. Each reply, and what the structures hold afterwards, is proved to be what the commands mean.
+//! reply. A contract says that each reply, and what the structures hold afterwards, are what the commands mean.
 
 mod blocks;
 mod filters;

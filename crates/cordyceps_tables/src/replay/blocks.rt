@@ -1,7 +1,7 @@
 //! Cursor blocks: commands that run lines on a cursor.
 //!
-//! The room for the replies and all nodes that the lines put in are made before the first line is run. While the lines
-//! run, the cursor's list is out of the table, so that a line may change another list.
+//! Memory for the replies and for all nodes that the lines insert is allocated before the first line is run. While the
+//! lines run, the cursor's list is out of the table, so that a line may change another list.
 ghost use Rattle.std.specs.Prelude.{◌≡◌, ◌+◌, ◌<◌, ◌≤◌, [], ◌∷◌, ◌++◌, true, not, ◌&&◌, nat_eq, nat_le, length, take, drop, IfOk, OnOk, OnErr, vec_capacity};
 ghost use Rattle.std.specs.List.{flat_map};
 ghost use Rattle.cordyceps_base.specs.Runs.{after, replies_to};
@@ -22,7 +22,7 @@ use cordyceps_list::list::List;
 use std::alloc::{AllocError, Global};
 use std::mem;
 
-/// Gives the item that the cursor is at another value.
+/// Sets the value of the item at the cursor.
 fn set(cursor: &mut CursorMut<'_, Item>, value: u64) -> Reply
     ensures { Obeys cursor.old cursor.new (CursorCommand.Set value) result }
 {
@@ -33,7 +33,7 @@ fn set(cursor: &mut CursorMut<'_, Item>, value: u64) -> Reply
     done()
 }
 
-/// Gives the next item another value.
+/// Sets the value of the next item.
 fn set_next(cursor: &mut CursorMut<'_, Item>, value: u64) -> Reply
     ensures { Obeys cursor.old cursor.new (CursorCommand.SetNext value) result }
 {
@@ -44,7 +44,7 @@ fn set_next(cursor: &mut CursorMut<'_, Item>, value: u64) -> Reply
     done()
 }
 
-/// Gives the item before another value.
+/// Sets the value of the previous item.
 fn set_prev(cursor: &mut CursorMut<'_, Item>, value: u64) -> Reply
     ensures { Obeys cursor.old cursor.new (CursorCommand.SetPrev value) result }
 {
@@ -55,7 +55,7 @@ fn set_prev(cursor: &mut CursorMut<'_, Item>, value: u64) -> Reply
     done()
 }
 
-/// Looks at the item that the cursor is at, and moves on from it.
+/// Reads the item at the cursor, and moves the cursor to the next place.
 fn step(cursor: &mut CursorMut<'_, Item>) -> Reply
     ensures { Obeys cursor.old cursor.new CursorCommand.Next result }
 {
@@ -65,7 +65,7 @@ fn step(cursor: &mut CursorMut<'_, Item>) -> Reply
     reply_of(Some(*item))
 }
 
-/// Takes the first item out, from the cursor on, that passes.
+/// Removes the first item that passes, from the cursor on.
 fn remove_first(cursor: &mut CursorMut<'_, Item>, filter: Filter) -> Reply
     ensures { Obeys cursor.old cursor.new (CursorCommand.RemoveFirst filter) result }
 {
@@ -83,7 +83,7 @@ fn remove_first(cursor: &mut CursorMut<'_, Item>, filter: Filter) -> Reply
     reply_of(removed.map(Node::into_value))
 }
 
-/// Puts a node in behind the cursor's.
+/// Inserts a node after the cursor's.
 fn insert_after(cursor: &mut CursorMut<'_, Item>, node: Node<Item, Links<Item>>) -> Reply
     ensures { Goes cursor.old cursor.new (inserted_behind (elements cursor.old) (place cursor.old) node) result }
 {
@@ -95,7 +95,7 @@ fn insert_after(cursor: &mut CursorMut<'_, Item>, node: Node<Item, Links<Item>>)
     }
 }
 
-/// Puts a node in before the cursor's.
+/// Inserts a node before the cursor's.
 fn insert_before(cursor: &mut CursorMut<'_, Item>, node: Node<Item, Links<Item>>) -> Reply
     ensures { Goes cursor.old cursor.new (inserted_before (elements cursor.old) (place cursor.old) node) result }
 {
@@ -107,7 +107,7 @@ fn insert_before(cursor: &mut CursorMut<'_, Item>, node: Node<Item, Links<Item>>
     }
 }
 
-/// Takes out the first of the nodes that were made.
+/// Removes the first of the nodes that were made.
 fn first_of(nodes: &mut List<Item>) -> Node<Item, Links<Item>>
     requires { 0 < length nodes.old }
     ensures { nodes.old ≡ result ∷ nodes.new }
@@ -118,7 +118,7 @@ fn first_of(nodes: &mut List<Item>) -> Node<Item, Links<Item>>
     node
 }
 
-/// Runs a line on the cursor's list alone. The node that it puts in is the first of those that were made. Lines that
+/// Runs a line on the cursor's list alone. The node that it inserts is the first of those that were made. Lines that
 /// name another list are not run here.
 pub(crate) fn run_alone(
     cursor: &mut CursorMut<'_, Item>,
@@ -157,7 +157,7 @@ pub(crate) fn run_alone(
     }
 }
 
-/// Whether another list is free to take what a split cuts off.
+/// Returns `true` if another list can take what a split cuts off.
 fn is_free(lists: &[List<Item>], list: usize, other: u8) -> bool
     requires { other < length lists.now }
     ensures { result ≡ (not (nat_eq list other) && nat_eq (length (held_at lists.now other)) 0) }
@@ -165,7 +165,7 @@ fn is_free(lists: &[List<Item>], list: usize, other: u8) -> bool
     list != other as usize && lists[other as usize].len() == 0
 }
 
-/// Whether another list fits into one with so many items.
+/// Returns `true` if another list fits into one with `len` items.
 fn fits_in(lists: &[List<Item>], list: usize, len: usize, other: u8) -> bool
     requires { other < length lists.now }
     ensures { result ≡ (not (nat_eq list other) && nat_le (len + length (held_at lists.now other)) usize.MAX) }
@@ -173,7 +173,7 @@ fn fits_in(lists: &[List<Item>], list: usize, len: usize, other: u8) -> bool
     list != other as usize && lists[other as usize].len() <= usize::MAX - len
 }
 
-/// Moves the items behind the cursor's to another list.
+/// Moves the items after the cursor's to another list.
 fn split_after(
     lists: &mut [List<Item>],
     list: usize,
@@ -209,7 +209,7 @@ fn split_before(
     done()
 }
 
-/// Moves all items of another list behind the cursor's.
+/// Moves all items of another list after the cursor's.
 fn splice_after(
     lists: &mut [List<Item>],
     list: usize,
@@ -271,7 +271,7 @@ fn run_line(
     }
 }
 
-/// Runs lines, with the nodes that were made for them. There must be room for the replies.
+/// Runs lines, with the nodes that were made for them. Requires capacity for the replies.
 fn run_lines(
     lists: &mut [List<Item>],
     list: usize,
@@ -300,7 +300,7 @@ fn run_lines(
     }
 }
 
-/// A cursor at an end of a list.
+/// Returns a cursor at an end of a list.
 fn cursor_at(list: &mut List<Item>, end: ListEnd) -> CursorMut<'_, Item>
     ensures same_reference { lender result ≡ list.entry.ghost_name }
     ensures elements { elements result ≡ list.old }
@@ -336,7 +336,7 @@ fn run_at(
     lists[list] = held;
 }
 
-/// Makes the node that a line puts in, if it does, unless memory for it is refused.
+/// Creates the node that a line inserts, if it does.
 fn make_for(alloc: Global, nodes: &mut List<Item>, line: CursorCommand) -> Result<(), AllocError>
     requires { length nodes.old < usize.MAX }
     ensures { OnOk result (nodes.new ≡ nodes.old ++ made_for line) }
@@ -351,7 +351,7 @@ fn make_for(alloc: Global, nodes: &mut List<Item>, line: CursorCommand) -> Resul
     }
 }
 
-/// Makes the nodes that lines put in, in order, unless memory for one is refused.
+/// Creates the nodes that lines insert, in order.
 fn make_all(alloc: Global, lines: &[CursorCommand]) -> Result<List<Item>, AllocError>
     ensures { IfOk result (λ nodes. nodes ≡ made_for_all lines.now) }
 {
@@ -362,7 +362,7 @@ fn make_all(alloc: Global, lines: &[CursorCommand]) -> Result<List<Item>, AllocE
     Ok(nodes)
 }
 
-/// Runs a block, unless memory for its nodes or its replies is refused: then it has changed nothing.
+/// Runs a block. If memory for its nodes or its replies is refused, it changes nothing.
 pub(crate) fn run_block(
     alloc: Global,
     lists: &mut [List<Item>],

@@ -1,4 +1,4 @@
-//! Commands that take out the items that pass a filter.
+//! Commands that remove the items that pass a filter.
 ghost use Rattle.std.specs.Prelude.{◌≡◌, ◌≤◌, [], length, min, IfOk, OnErr, true, not, vec_capacity};
 ghost use Rattle.cordyceps_commands.specs.Replies.{lines_of};
 ghost use Rattle.cordyceps_tables.specs.Filters.{passes, drained};
@@ -9,7 +9,7 @@ use cordyceps_commands::{Filter, Item, Reply};
 use cordyceps_list::list::List;
 use std::alloc::{AllocError, Global};
 
-/// Whether an item passes. The turn is that of the first item, the third, and so on.
+/// Returns `true` if an item passes. The turn is that of the first item, the third, and so on.
 pub(crate) fn passes(filter: Filter, turn: bool, item: &Item) -> bool
     ensures { result ≡ passes filter turn item.now }
 {
@@ -20,7 +20,7 @@ pub(crate) fn passes(filter: Filter, turn: bool, item: &Item) -> bool
     }
 }
 
-/// Takes the items out that pass, at most so many, and shows them. They must have room.
+/// Removes the items that pass, at most `limit`, and shows them. Requires capacity for these.
 fn take_out(
     list: &mut List<Item>,
     filter: Filter,
@@ -53,7 +53,7 @@ fn take_out(
     show_of(items)
 }
 
-/// Takes the items out that pass, at most so many, and shows them, unless memory for that is refused.
+/// Removes the items that pass, at most `limit`, and shows them. If memory for these is refused, it changes nothing.
 pub(crate) fn drain(
     alloc: Global,
     list: &mut List<Item>,

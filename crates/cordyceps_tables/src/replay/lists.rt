@@ -20,7 +20,7 @@ use std::collections::VecDeque;
 use std::marker::Model;
 use std::mem;
 
-/// The number of the list that a command names first.
+/// Returns the number of the list that a command names first.
 fn number_of(command: &ListCommand) -> u8
     ensures { result ≡ list_of command.now }
 {
@@ -37,7 +37,7 @@ fn number_of(command: &ListCommand) -> u8
     }
 }
 
-/// Puts an item at the front, unless memory for its node is refused.
+/// Prepends an item.
 fn push_front(alloc: Global, list: &mut List<Item>, item: Item) -> Result<Reply, AllocError>
     ensures ok { IfOk result (λ reply. (list.new, lines_of reply) ≡ pushed list.old (element_of item ∷ list.old)) }
     ensures err { OnErr result (list.new ≡ list.old) }
@@ -51,7 +51,7 @@ fn push_front(alloc: Global, list: &mut List<Item>, item: Item) -> Result<Reply,
     }
 }
 
-/// Puts an item at the back, unless memory for its node is refused.
+/// Appends an item.
 fn push_back(alloc: Global, list: &mut List<Item>, item: Item) -> Result<Reply, AllocError>
     ensures ok { IfOk result
         (λ reply. (list.new, lines_of reply) ≡ pushed list.old (list.old ++ element_of item ∷ [])) }
@@ -66,7 +66,7 @@ fn push_back(alloc: Global, list: &mut List<Item>, item: Item) -> Result<Reply, 
     }
 }
 
-/// Takes out the first item. Its node is gone afterwards.
+/// Removes the first item, and frees its node.
 fn pop_front(list: &mut List<Item>) -> Reply
     ensures kept { list.new ≡ drop 1 list.old }
     ensures reply { lines_of result ≡ found_or_nothing (slice_get (values list.old) 0) ∷ [] }
@@ -74,7 +74,7 @@ fn pop_front(list: &mut List<Item>) -> Reply
     reply_of(list.pop_front().map(Node::into_value))
 }
 
-/// Takes out the last item. Its node is gone afterwards.
+/// Removes the last item, and frees its node.
 #[tactic(auto, using(crate::proofs::Ends::all_but_last, crate::proofs::Ends::last_value))]
 fn pop_back(list: &mut List<Item>) -> Reply
     ensures kept { list.new ≡ take (length list.old - 1) list.old }
@@ -83,7 +83,7 @@ fn pop_back(list: &mut List<Item>) -> Reply
     reply_of(list.pop_back().map(Node::into_value))
 }
 
-/// Gives the first item another value.
+/// Sets the value of the first item.
 fn set_front(list: &mut List<Item>, value: u64) -> Reply
     ensures { (list.new, lines_of result) ≡ written list.old 0 (slice_get (values list.old) 0) value }
 {
@@ -94,7 +94,7 @@ fn set_front(list: &mut List<Item>, value: u64) -> Reply
     done()
 }
 
-/// Gives the last item another value.
+/// Sets the value of the last item.
 fn set_back(list: &mut List<Item>, value: u64) -> Reply
     ensures { (list.new, lines_of result)
         ≡ written list.old (length list.old - 1) (slice_get (values list.old) (length list.old - 1)) value }
@@ -106,8 +106,7 @@ fn set_back(list: &mut List<Item>, value: u64) -> Reply
     done()
 }
 
-/// Runs a command on its list alone, unless memory for it is refused. Blocks, and commands that name a second list, are
-/// not run here.
+/// Runs a command on its list alone. Blocks, and commands that name a second list, are not run here.
 fn run_on(alloc: Global, list: &mut List<Item>, command: &ListCommand) -> Result<Reply, AllocError>
     ensures ok { IfOk result (λ reply. (list.new, lines_of reply) ≡ step_on list.old command.now) }
     ensures err { OnErr result (list.new ≡ list.old) }
@@ -133,7 +132,7 @@ fn run_on(alloc: Global, list: &mut List<Item>, command: &ListCommand) -> Result
     }
 }
 
-/// Moves all items of the second list behind those of the first.
+/// Moves all items of the second list to the back of the first.
 fn append(lists: &mut [List<Item>], list: usize, other: usize) -> Reply
     requires list { list < length lists.old }
     requires other { other < length lists.old }
@@ -147,7 +146,7 @@ fn append(lists: &mut [List<Item>], list: usize, other: usize) -> Reply
     done()
 }
 
-/// Keeps so many items, and moves the others to the second list.
+/// Keeps `at` items, and moves the others to the second list.
 fn split(lists: &mut [List<Item>], list: usize, at: usize, other: usize) -> Reply
     requires list { list < length lists.old }
     requires other { other < length lists.old }
@@ -163,7 +162,10 @@ fn split(lists: &mut [List<Item>], list: usize, at: usize, other: usize) -> Repl
     done()
 }
 
-/// Sixteen lists of items, numbered from 0. Lists without items take no memory.
+/// Sixteen lists of items, numbered from 0. A contract sees the elements of each.
+///
+/// # Complexity
+/// Dropping it frees each node once: O(n), for n items.
 #[derive(Drop)]
 pub struct Lists {
     lists: [List<Item>; 16],
@@ -180,7 +182,10 @@ impl Model for Lists {
 }
 
 impl Lists {
-    /// Sixteen empty lists. It takes no memory.
+    /// Creates sixteen empty lists. Allocates nothing.
+    ///
+    /// # Complexity
+    /// O(1).
     pub fn new() -> Self
         ensures { result ≡ empty_table 16 }
     {
@@ -189,7 +194,7 @@ impl Lists {
         }
     }
 
-    /// Runs a command, unless memory for it is refused.
+    /// Runs a command.
     fn run(&mut self, alloc: Global, command: &ListCommand) -> Result<Reply, AllocError>
         requires { Fits command.now }
         ensures ok { IfOk result (λ reply. (self.new, lines_of reply) ≡ step self.old command.now) }
@@ -219,29 +224,33 @@ impl Lists {
 impl Default for Lists {
     ghost is_default = { λ s. s ≡ empty_table 16 };
 
-    /// Sixteen empty lists, as `new` gives.
+    /// Creates sixteen empty lists, as `new` does.
+    ///
+    /// # Complexity
+    /// O(1).
     fn default() -> Self {
         Lists::new()
     }
 }
 
-/// Takes the first command out.
+/// Removes the first command.
 fn pass(commands: &mut VecDeque<ListCommand>)
     ensures { commands.new.items ≡ drop 1 commands.old.items }
 {
     commands.pop_front();
 }
 
-/// Runs the commands in order. Each list that a command names must be one of the lists 0 to 15, and in a block an `End`
-/// must stand last.
+/// Runs commands in order, and returns their replies and the commands that were not run. Requires that the commands
+/// name the lists 0 to 15, and that in a block an `End` comes only last.
 ///
-/// Before a command is run, the room for its reply is made, and the node of each item that it puts into a list. If that
-/// memory is refused, the call ends: the rest begins with that command, which has changed nothing, and the commands
-/// before it stay done. The rest may be played on the same lists later. A block is one command.
+/// # Errors
+/// If memory for a command's reply or nodes is refused, the replay stops: that command, which has changed nothing, and
+/// those after it are the rest. They can be run later on the same lists. A block is one command.
 ///
-/// A command takes the time of its call. On the ends of a list that is constant, and so it is for `Append` and for each
-/// line of a block but `RemoveFirst`; the others walk along the list. The replies take memory in the count of the
-/// commands and of what they show, and making room for them takes constant time a command over the whole call.
+/// # Complexity
+/// Each command takes the time of its calls: O(1) at the ends of a list, for `Len` and `Append`, and for each line of a
+/// block other than `RemoveFirst`; the others walk along the list. A reply takes amortized O(1), and `Show` and `Block`
+/// as much for each item and line.
 pub fn replay_lists(
     alloc: Global,
     lists: &mut Lists,

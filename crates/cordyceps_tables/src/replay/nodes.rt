@@ -6,7 +6,7 @@ use cordyceps_base::node::{Kind, Node};
 use cordyceps_commands::Item;
 use std::alloc::{AllocError, Global};
 
-/// A node with the item and its number, unless memory for it is refused.
+/// Creates a node with the item and its number.
 pub(crate) fn node_of<L: Kind>(alloc: Global, item: Item) -> Result<Node<Item, L>, AllocError>
     ensures { IfOk result (λ node. node ≡ element_of item) }
 {

@@ -1,13 +1,13 @@
-//! What comes of commands.
+//! The result of a replay.
 
 use cordyceps_commands::Reply;
 use std::collections::VecDeque;
 
-/// What came of commands: the replies to those that were run, and those that were not.
+/// The result of a replay: the replies to the commands that were run, and the commands that were not run.
 #[derive(Drop)]
 pub struct Played<C> {
-    /// One reply for each command that was run, in their order.
+    /// One reply for each command that was run, in order.
     pub replies: Vec<Reply>,
-    /// The commands that were not run, in their order. It is empty if memory sufficed.
+    /// The commands that were not run, in order. Empty unless memory was refused.
     pub rest: VecDeque<C>,
 }

@@ -1,32 +1,32 @@
-//! Replies to commands, made of what a structure answered.
+//! Replies to commands, made from the results of calls.
 ghost use Rattle.std.specs.Prelude.{◌≡◌, ◌∷◌, []};
 ghost use Rattle.std.specs.List.{flat_map};
 ghost use Rattle.cordyceps_commands.specs.Replies.{block_begins, done, nothing, len, truth, show, not_there, lines_of, found_or_nothing, index_or_nothing};
 
 use cordyceps_commands::{Item, Reply};
 
-/// The command was run.
+/// Returns the reply that a command was run.
 pub(crate) fn done() -> Reply
     ensures { lines_of result ≡ done ∷ [] }
 {
     Reply::Done
 }
 
-/// The condition was not met.
+/// Returns the reply that a command's condition was not met.
 pub(crate) fn not_there() -> Reply
     ensures { lines_of result ≡ not_there ∷ [] }
 {
     Reply::NotThere
 }
 
-/// There is no such item.
+/// Returns the reply that there is no such item.
 pub(crate) fn nothing() -> Reply
     ensures { lines_of result ≡ nothing ∷ [] }
 {
     Reply::Nothing
 }
 
-/// So many items.
+/// Returns the reply with a number of items.
 #[tactic(auto, using(cordyceps_commands::proofs::Replies::len_line))]
 pub(crate) fn len_of(count: usize) -> Reply
     ensures { lines_of result ≡ len count ∷ [] }
@@ -34,7 +34,7 @@ pub(crate) fn len_of(count: usize) -> Reply
     Reply::Len(count as u64)
 }
 
-/// Whether it is so.
+/// Returns the reply with a truth value.
 #[tactic(auto, using(cordyceps_commands::proofs::Replies::truth_line))]
 pub(crate) fn truth_of(is: bool) -> Reply
     ensures { lines_of result ≡ truth is ∷ [] }
@@ -42,7 +42,7 @@ pub(crate) fn truth_of(is: bool) -> Reply
     Reply::Truth(is)
 }
 
-/// The items that were asked for.
+/// Returns the reply with the items that were asked for.
 #[tactic(auto, using(cordyceps_commands::proofs::Replies::show_line))]
 pub(crate) fn show_of(items: Vec<Option<Item>>) -> Reply
     ensures { lines_of result ≡ show items.items ∷ [] }
@@ -50,7 +50,7 @@ pub(crate) fn show_of(items: Vec<Option<Item>>) -> Reply
     Reply::Show(items)
 }
 
-/// The replies to the lines of a block.
+/// Returns the reply with the replies to the lines of a block.
 #[tactic(auto, using(cordyceps_commands::proofs::Replies::block_lines))]
 pub(crate) fn block_of(replies: Vec<Reply>) -> Reply
     ensures { lines_of result ≡ block_begins ∷ flat_map lines_of replies.items }
@@ -58,7 +58,7 @@ pub(crate) fn block_of(replies: Vec<Reply>) -> Reply
     Reply::Block(replies)
 }
 
-/// The item, if there is one.
+/// Returns the reply with an item, if there is one.
 #[tactic(auto, using(cordyceps_commands::proofs::Replies::found_line))]
 pub(crate) fn reply_of(item: Option<Item>) -> Reply
     ensures { lines_of result ≡ found_or_nothing item ∷ [] }
@@ -69,7 +69,7 @@ pub(crate) fn reply_of(item: Option<Item>) -> Reply
     }
 }
 
-/// The index, if there is one.
+/// Returns the reply with an index, if there is one.
 #[tactic(auto, using(cordyceps_commands::proofs::Replies::index_line))]
 pub(crate) fn index_of(index: Option<usize>) -> Reply
     ensures { lines_of result ≡ index_or_nothing index ∷ [] }

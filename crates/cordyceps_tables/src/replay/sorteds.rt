@@ -22,7 +22,7 @@ use std::cmp::Ordering;
 use std::collections::VecDeque;
 use std::marker::Model;
 
-/// The number of the list that a command names.
+/// Returns the number of the list that a command names.
 fn number_of(command: &SortedCommand) -> u8
     ensures { result ≡ list_of command.now }
 {
@@ -32,7 +32,7 @@ fn number_of(command: &SortedCommand) -> u8
     }
 }
 
-/// Puts an item in, unless memory for its node is refused.
+/// Inserts an item.
 fn insert<O: Order<Item>>(
     alloc: Global,
     list: &mut SortedList<Item, O>,
@@ -51,7 +51,7 @@ fn insert<O: Order<Item>>(
     Ok(done())
 }
 
-/// Takes out the first item. Its node is gone afterwards.
+/// Removes the first item, and frees its node.
 fn pop_front<O: Order<Item>>(list: &mut SortedList<Item, O>) -> Reply
     ensures kept { list.new.0 ≡ drop 1 list.old.0 }
     ensures reply { lines_of result ≡ found_or_nothing (slice_get (values list.old.0) 0) ∷ [] }
@@ -60,7 +60,7 @@ fn pop_front<O: Order<Item>>(list: &mut SortedList<Item, O>) -> Reply
     reply_of(list.pop_front().map(Node::into_value))
 }
 
-/// Looks at all items, unless memory for the reply is refused.
+/// Reads all items.
 fn show<O: Order<Item>>(alloc: Global, list: &SortedList<Item, O>) -> Result<Reply, AllocError>
     ensures { IfOk result (λ reply. lines_of reply ≡ show (map Some (values list.now.0)) ∷ []) }
 {
@@ -71,14 +71,14 @@ fn show<O: Order<Item>>(alloc: Global, list: &SortedList<Item, O>) -> Result<Rep
     Ok(show_of(items))
 }
 
-/// Whether there is no item.
+/// Returns `true` if the list has no item.
 fn is_empty<O: Order<Item>>(list: &SortedList<Item, O>) -> bool
     ensures { result ≡ (length list.now.0 == 0) }
 {
     list.iter().next().is_none()
 }
 
-/// A stack on which the items were pushed in order, unless memory for a node is refused.
+/// Creates a stack onto which the items were pushed in order.
 fn stack_of(alloc: Global, items: &[Item]) -> Result<Stack<Item>, AllocError>
     ensures { IfOk result (λ stack. stack ≡ map element_of (reverse items.now)) }
 {
@@ -89,8 +89,7 @@ fn stack_of(alloc: Global, items: &[Item]) -> Result<Stack<Item>, AllocError>
     Ok(stack)
 }
 
-/// Runs a command on its list, unless memory for it is refused. Where the list is to be made of a
-/// stack, it hands out the stack.
+/// Runs a command on its list. If the list has to be created from a stack, it returns the stack.
 fn run_on<O: Order<Item>>(
     alloc: Global,
     list: &mut SortedList<Item, O>,
@@ -118,7 +117,7 @@ fn run_on<O: Order<Item>>(
     }
 }
 
-/// Runs a command on a list that has the least item first, unless memory for it is refused.
+/// Runs a command on a list that has the least item first.
 fn run_least(
     alloc: Global,
     list: &mut SortedList<Item, Least>,
@@ -135,7 +134,7 @@ fn run_least(
     Ok(reply)
 }
 
-/// Runs a command on a list that has the greatest item first, unless memory for it is refused.
+/// Runs a command on a list that has the greatest item first.
 fn run_greatest(
     alloc: Global,
     list: &mut SortedList<Item, Greatest>,
@@ -152,7 +151,7 @@ fn run_greatest(
     Ok(reply)
 }
 
-/// Runs a command on a list in the order of a function, unless memory for it is refused.
+/// Runs a command on a list that a function keeps sorted.
 fn run_own<F: Fn(&Item, &Item) -> Ordering + Copy>(
     alloc: Global,
     list: &mut SortedList<Item, ByFn<Item, F>>,
@@ -176,11 +175,11 @@ fn run_own<F: Fn(&Item, &Item) -> Ordering + Copy>(
     Ok(reply)
 }
 
-/// A sorted list in the order of a function.
+/// A list that a function keeps sorted.
 type OwnList<F> = SortedList<Item, ByFn<Item, F>>;
 
-/// Five sorted lists in the order of a function. They are no array: that of an array, its size is bounded only where
-/// its items' type is known, and each generic caller would owe the bound.
+/// Five lists that a function keeps sorted. They are no array: the size of an array is bounded only if its items' type
+/// is known, and each generic caller would have to show the bound.
 #[derive(Drop)]
 struct OwnLists<F> {
     first: OwnList<F>,
@@ -201,7 +200,7 @@ impl<F> Model for OwnLists<F> {
 }
 
 impl<F: Fn(&Item, &Item) -> Ordering + Copy> OwnLists<F> {
-    /// Five empty lists.
+    /// Creates five empty lists.
     fn new(by: F) -> Self
         requires callable { F.IsAlwaysCallable by }
         requires total { (cmp : Item → Item → Ordering) × Computes F.Fn by cmp }
@@ -216,7 +215,7 @@ impl<F: Fn(&Item, &Item) -> Ordering + Copy> OwnLists<F> {
         }
     }
 
-    /// Runs a command on one of the lists, unless memory for it is refused.
+    /// Runs a command on one of the lists.
     fn run(
         &mut self,
         alloc: Global,
@@ -251,9 +250,11 @@ impl<F: Fn(&Item, &Item) -> Ordering + Copy> OwnLists<F> {
     }
 }
 
-/// Sixteen sorted lists of items, numbered from 0: the first six have the least item first, the
-/// next five the greatest, and the others are in the order of a function of the caller's. Lists
-/// without items take no memory.
+/// Sixteen sorted lists of items, numbered from 0: six with the least item first, five with the greatest first, and
+/// five that a function of the caller's keeps sorted. A contract sees the elements of each, and the function.
+///
+/// # Complexity
+/// Dropping it frees each node once: O(n), for n items.
 #[derive(Drop)]
 pub struct Sorteds<F> {
     least: [SortedList<Item, Least>; 6],
@@ -280,8 +281,11 @@ impl<F> Model for Sorteds<F> {
 }
 
 impl<F: Fn(&Item, &Item) -> Ordering + Copy> Sorteds<F> {
-    /// Sixteen empty lists, the last five by a function, which must be callable on any two items
-    /// and compute a total preorder. It takes no memory.
+    /// Creates sixteen empty lists, the last five with the function `by`. Requires that it can be called on any two
+    /// items and is a total preorder. Allocates nothing.
+    ///
+    /// # Complexity
+    /// O(1).
     pub fn new(by: F) -> Self
         requires callable { F.IsAlwaysCallable by }
         requires total { (cmp : Item → Item → Ordering) × Computes F.Fn by cmp }
@@ -297,7 +301,7 @@ impl<F: Fn(&Item, &Item) -> Ordering + Copy> Sorteds<F> {
         }
     }
 
-    /// Runs a command, unless memory for it is refused.
+    /// Runs a command.
     fn run(&mut self, alloc: Global, command: &SortedCommand) -> Result<Reply, AllocError>
         requires fits { Fits command.now }
         requires callable { F.IsAlwaysCallable self.old.1 }
@@ -321,18 +325,17 @@ impl<F: Fn(&Item, &Item) -> Ordering + Copy> Sorteds<F> {
     }
 }
 
-/// Runs the commands in order. Each of them must name one of the lists 0 to 15, and the function
-/// must be callable on any two items and compute a total preorder.
+/// Runs commands in order, and returns their replies and the commands that were not run. Requires that the commands
+/// name the lists 0 to 15, and that the function can be called on any two items and is a total preorder.
 ///
-/// Before a command is run, the room for its reply is made and, where it puts items into a list,
-/// their nodes. If that memory is refused, the call ends: the rest begins with that command,
-/// which has changed nothing, and the commands before it stay done. The rest may be played on the
-/// same lists later.
+/// # Errors
+/// If memory for a command's reply or nodes is refused, the replay stops: that command, which has changed nothing, and
+/// those after it are the rest. They can be run later on the same lists.
 ///
-/// `PopFront` takes constant time. `Insert` takes constant time where the item is not less than
-/// the last, and else time in the length of the list; `Show` takes time in that too. `FromStack`
-/// inserts each item. The replies take memory in the count of the commands and of the items that
-/// are shown.
+/// # Complexity
+/// Each command takes the time of its calls: O(1) for `PopFront`, and for `Insert` if the item is not less than the
+/// last. Otherwise `Insert` is O(n), for n items of the list, and so is `Show`. `FromStack` inserts each of its items.
+/// A reply takes amortized O(1), and `Show` as much for each item.
 pub fn replay_sorted<F: Fn(&Item, &Item) -> Ordering + Copy>(
     alloc: Global,
     sorteds: &mut Sorteds<F>,

@@ -16,7 +16,7 @@ use std::alloc::{AllocError, Global};
 use std::collections::VecDeque;
 use std::marker::Model;
 
-/// Puts an item on top, unless memory for its node is refused.
+/// Pushes an item.
 fn push(alloc: Global, stack: &mut Stack<Item>, item: Item) -> Result<Reply, AllocError>
     ensures pushed { OnOk result (stack.new ≡ element_of item ∷ stack.old) }
     ensures reply { IfOk result (λ reply. lines_of reply ≡ truth (length stack.old == 0) ∷ []) }
@@ -26,7 +26,7 @@ fn push(alloc: Global, stack: &mut Stack<Item>, item: Item) -> Result<Reply, All
     Ok(truth_of(stack.push_was_empty(node)))
 }
 
-/// Takes out the item that was pushed last. Its node is gone afterwards.
+/// Removes the item that was pushed last, and frees its node.
 fn pop(stack: &mut Stack<Item>) -> Reply
     ensures kept { stack.new ≡ drop 1 stack.old }
     ensures reply { lines_of result ≡ found_or_nothing (slice_get (values stack.old) 0) ∷ [] }
@@ -43,7 +43,7 @@ fn put_back(stack: &mut Stack<Item>, mut others: Stack<Item>)
     }
 }
 
-/// Takes all items out, unless memory for the reply is refused: then all are put back.
+/// Removes all items. If memory for the reply is refused, it puts all back.
 fn drain(alloc: Global, stack: &mut Stack<Item>) -> Result<Reply, AllocError>
     ensures emptied { OnOk result (stack.new ≡ []) }
     ensures reply { IfOk result (λ reply. lines_of reply ≡ show (map Some (values stack.old)) ∷ []) }
@@ -62,7 +62,10 @@ fn drain(alloc: Global, stack: &mut Stack<Item>) -> Result<Reply, AllocError>
     Ok(show_of(items))
 }
 
-/// Sixteen stacks of items, numbered from 0. Stacks without items take no memory.
+/// Sixteen stacks of items, numbered from 0. A contract sees the elements of each.
+///
+/// # Complexity
+/// Dropping it frees each node once: O(n), for n items.
 #[derive(Drop)]
 pub struct Stacks {
     stacks: [Stack<Item>; 16],
@@ -79,7 +82,10 @@ impl Model for Stacks {
 }
 
 impl Stacks {
-    /// Sixteen empty stacks. It takes no memory.
+    /// Creates sixteen empty stacks. Allocates nothing.
+    ///
+    /// # Complexity
+    /// O(1).
     pub fn new() -> Self
         ensures { result ≡ empty_table 16 }
     {
@@ -88,7 +94,7 @@ impl Stacks {
         }
     }
 
-    /// Moves all that a stack holds to another one, if that is empty.
+    /// Moves all items of a stack to another one, if that is empty.
     fn take_all(&mut self, from: usize, to: usize) -> Reply
         requires from { from < 16 }
         requires to { to < 16 }
@@ -101,7 +107,7 @@ impl Stacks {
         done()
     }
 
-    /// Runs a command, unless memory for it is refused.
+    /// Runs a command.
     fn run(&mut self, alloc: Global, command: &StackCommand) -> Result<Reply, AllocError>
         requires { Fits command.now }
         ensures ok { IfOk result (λ reply. (self.new, lines_of reply) ≡ step self.old command.now) }
@@ -124,22 +130,25 @@ impl Stacks {
 impl Default for Stacks {
     ghost is_default = { λ s. s ≡ empty_table 16 };
 
-    /// Sixteen empty stacks, as `new` gives.
+    /// Creates sixteen empty stacks, as `new` does.
+    ///
+    /// # Complexity
+    /// O(1).
     fn default() -> Self {
         Stacks::new()
     }
 }
 
-/// Runs the commands in order. Each of them must name stacks among 0 to 15.
+/// Runs commands in order, and returns their replies and the commands that were not run. Requires that the commands
+/// name the stacks 0 to 15.
 ///
-/// Before a command is run, the room for its reply is made and, where it pushes an item, the
-/// item's node. If that memory is refused, the call ends: the rest begins with that command,
-/// which has changed nothing, and the commands before it stay done. The rest may be played on the
-/// same stacks later.
+/// # Errors
+/// If memory for a command's reply or node is refused, the replay stops: that command, which has changed nothing, and
+/// those after it are the rest. They can be run later on the same stacks.
 ///
-/// A command takes constant time, but `Drain`, which takes time in the count of the items. The
-/// replies take memory in the count of the commands and of the items that were drained, and
-/// making room for them takes constant time for each of these over the whole call.
+/// # Complexity
+/// O(1) for each command other than `Drain`, which is O(n), for n items. A reply takes amortized O(1), and that of
+/// `Drain` as much for each item.
 pub fn replay_stacks(
     alloc: Global,
     stacks: &mut Stacks,

@@ -12,7 +12,7 @@ use cordyceps_list::list::List;
 use std::alloc::{AllocError, Global};
 use std::mem;
 
-/// Adds a number to each item's value, modulo 2 to the 64.
+/// Adds a number to the value of each item, modulo 2^64.
 pub(crate) fn bump(list: &mut List<Item>, by: u64) -> Reply
     ensures kept { list.new ≡ bumped by list.old }
     ensures reply { lines_of result ≡ done ∷ [] }
@@ -24,7 +24,7 @@ pub(crate) fn bump(list: &mut List<Item>, by: u64) -> Reply
     done()
 }
 
-/// What an iterator gives from one of its ends.
+/// Returns what an iterator returns at one of its ends.
 fn look(items: &mut Iter<'_, Item>, turn: Turn) -> Option<Item>
     ensures answer { result ≡ given turn items.old }
     ensures left { items.new ≡ left turn items.old }
@@ -35,7 +35,7 @@ fn look(items: &mut Iter<'_, Item>, turn: Turn) -> Option<Item>
     }
 }
 
-/// Shows the items that an iterator gives, unless memory for them is refused.
+/// Shows the items that an iterator returns. If memory for these is refused, it returns an error.
 pub(crate) fn walk(alloc: Global, list: &List<Item>, turns: &[Turn]) -> Result<Reply, AllocError>
     ensures { IfOk result (λ reply. lines_of reply ≡ show (walked turns.now (values list.now)) ∷ []) }
 {
@@ -50,7 +50,7 @@ pub(crate) fn walk(alloc: Global, list: &List<Item>, turns: &[Turn]) -> Result<R
     Ok(show_of(shown))
 }
 
-/// What an iterator takes out at one of its ends.
+/// Returns the item of the handle that an iterator returns at one of its ends.
 #[tactic(auto, using(crate::proofs::Walks::last_given))]
 fn take(items: &mut IntoIter<Item>, turn: Turn) -> Option<Item>
     ensures answer { result ≡ given turn (values items.old) }
@@ -62,7 +62,7 @@ fn take(items: &mut IntoIter<Item>, turn: Turn) -> Option<Item>
     }
 }
 
-/// Takes all items out, and shows those that an iterator gives, unless memory for them is refused.
+/// Removes all items, and shows those that an iterator returns. If memory for these is refused, it changes nothing.
 pub(crate) fn walk_into(
     alloc: Global,
     list: &mut List<Item>,
@@ -83,7 +83,7 @@ pub(crate) fn walk_into(
     Ok(show_of(shown))
 }
 
-/// Shows all items, unless memory for that is refused.
+/// Shows all items. If memory for these is refused, it returns an error.
 pub(crate) fn show(alloc: Global, list: &List<Item>) -> Result<Reply, AllocError>
     ensures { IfOk result (λ reply. lines_of reply ≡ show (map Some (values list.now)) ∷ []) }
 {
