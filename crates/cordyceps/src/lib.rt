@@ -1,26 +1,25 @@
 //! Lists, stacks and sorted lists of owned nodes, a stack and a queue that threads share, the cores of the two, and
 //! commands that are replayed on tables of structures.
 //!
-//! A [`Node`] owns one element: a number and a value. A type says by [`Linked`] what handle
-//! stands for such a node, and for structures of which [`Kind`]. A [`List`], a [`Stack`] and a
-//! [`SortedList`] take handles and give them back, and own the nodes in between. Linking a node
-//! takes no memory.
+//! A [`Node`] owns one element: a number and a value. A type says by [`Linked`] which handle represents such a node,
+//! and for collections of which [`Kind`]. A [`List`], a [`Stack`] and a [`SortedList`] take handles and return them,
+//! and own the nodes in between. Linking a node allocates nothing.
 //!
-//! A [`StableList`] hands out a [`Spot`] for each element, by which it is reached, taken out and moved at once. A
-//! [`StableSortedList`] does so too, and an order keeps it sorted.
+//! A [`StableList`] returns a [`Spot`] for each element: a stable pointer, by which the element is reached, removed and
+//! moved in O(1). A [`StableSortedList`] does so too, and an order keeps it sorted.
 //!
-//! A [`TransferStack`] is shared by threads, without a lock: each pushes to it by a party of its own, and takes all
-//! that it holds at once. An [`MpscQueue`] is shared in the same way: many put elements in, and one at a time takes
-//! them out, in their order.
+//! A [`TransferStack`] is shared by threads, without a lock: each pushes to it through a party of its own, and takes
+//! all its elements at once. An [`MpscQueue`] is shared in the same way: many put elements in, and one at a time takes
+//! them out, first in, first out.
 //!
-//! A [`stack::TransferCore`] and an [`mpsc_queue::QueueCore`] are the algorithms of the structures that threads share,
-//! as plain values whose steps are taken in any order.
+//! A [`stack::TransferCore`] and an [`mpsc_queue::QueueCore`] are the algorithms of the shared structures as plain
+//! values, whose steps are taken in any order.
 //!
-//! What a clause or a proof over these collections names is here too, in modules by collection: its words in `specs`,
+//! What a clause or a proof about these collections names is here too, in modules by collection: its words in `specs`,
 //! its lemmas in `proofs`.
 //!
-//! The module [`replay`] runs commands on tables of sixteen lists, stacks or sorted lists of [`Item`]s. Each reply, and
-//! what the structures hold afterwards, is proved to be what the commands mean.
+//! The module [`replay`] runs commands on tables of sixteen lists, stacks or sorted lists of [`Item`]s. A contract says
+//! that each reply, and what the structures hold afterwards, are what the commands mean.
 #![tactic(auto)]
 
 pub mod list;

@@ -1,4 +1,4 @@
-//! Lists: their iterators, their cursors, and the kind of the nodes that stand in them.
+//! Lists, their iterators and cursors, and the kind of their nodes.
 
 pub use cordyceps_base::list::Links;
 pub use cordyceps_list::cursor::Cursor;
@@ -8,7 +8,7 @@ pub use cordyceps_list::iter::{IntoIter, Iter};
 pub use cordyceps_list::iter_mut::IterMut;
 pub use cordyceps_list::list::List;
 
-/// Places in a list.
+/// Cursors of lists.
 pub mod cursor {
     pub use cordyceps_list::cursor::Cursor;
     pub use cordyceps_list::cursor_mut::CursorMut;

@@ -1,4 +1,4 @@
-//! A queue that threads share, with many producers and one consumer at a time, and its core.
+//! The queue that threads share, with many producers and one consumer at a time, and its core.
 
 pub use cordyceps_base::mpsc_queue::Links;
 pub use cordyceps_queue::mpsc_queue::{

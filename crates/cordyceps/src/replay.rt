@@ -1,4 +1,4 @@
-//! Commands that are run, one after the other, on tables of structures that hold items.
+//! The replay of commands on tables of structures that hold items.
 //!
 //! A table owns its structures. Each command is one call of a structure, or a block of calls of a cursor, and has one
 //! reply.

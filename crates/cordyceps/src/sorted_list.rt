@@ -1,4 +1,4 @@
-//! Lists that are kept in order, the orders, and the kind of the nodes that stand in them.
+//! Sorted lists, their orders, and the kind of their nodes.
 
 pub use cordyceps_stack::sorted_list::{
     ByFn, Greatest, Least, Links, Order, SortedList, SortedListIter,

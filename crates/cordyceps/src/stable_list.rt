@@ -1,3 +1,3 @@
-//! Lists whose elements are reached by the spots where they lie.
+//! Lists whose elements are reached by stable pointers, their spots.
 
 pub use cordyceps_stable::stable_list::{Spot, SpotCursor, StableList};

@@ -1,5 +1,5 @@
-//! Lists that are kept in order, and whose elements are reached by the spots where they lie. The orders are those of
-//! `sorted_list`, and the nodes those of `list`.
+//! Sorted lists whose elements are reached by stable pointers, their spots. The orders are those of `sorted_list`, and
+//! the nodes those of `list`.
 
 pub use cordyceps_stable::stable_list::{Spot, SpotCursor};
 pub use cordyceps_stable::stable_sorted_list::StableSortedList;

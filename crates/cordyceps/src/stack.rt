@@ -1,4 +1,4 @@
-//! Stacks, the kind of the nodes that stand in them, the stack that threads share, and its core.
+//! Stacks, the kind of their nodes, the stack that threads share, and its core.
 
 pub use cordyceps_base::stack::Links;
 pub use cordyceps_stack::stack::{
