@@ -8,17 +8,19 @@ use cordyceps_base::list::Links;
 use cordyceps_base::node::{Kind, Node};
 use cordyceps_list::list::List;
 
-/// A sector that is to be read, from a time on.
+/// A request to read a sector, from a time on.
 #[derive(Clone, Copy, Debug, PartialEq, Eq)]
 pub struct Request {
+    /// The time from which the sector may be read.
     pub due: u64,
+    /// The sector to read.
     pub sector: u64,
 }
 
 /// A request that can be put into a list.
 pub type ListRequest = Node<Request, Links<Request>>;
 
-/// A request can stand in each collection: its handle is a node, whatever links that has.
+/// A request can be put into each collection: its handle is a node of any kind.
 impl<L: Kind> Linked<L> for Request {
     type Handle = Node<Request, L>;
 
@@ -35,7 +37,11 @@ impl<L: Kind> Linked<L> for Request {
     }
 }
 
-/// Takes the first request out, if it is due. `None` where there is none, or its time has not come; all stay then.
+/// Removes the first request and returns it, if it is due. Otherwise, or if there is no request, it returns `None`, and
+/// the list is unchanged.
+///
+/// # Complexity
+/// O(1).
 pub fn take_due(requests: &mut List<Request>, now: u64) -> Option<ListRequest>
     ensures { MatchOption result
         ((requests.new ≡ requests.old)
