@@ -2,14 +2,14 @@
 
 use std::fmt;
 
-/// A read or a write failed.
+/// The error of a read or a write that failed.
 #[derive(Clone, Copy, Debug, PartialEq, Eq)]
 pub struct Failed;
 
 /// Why a run stopped before the end of its input. Its text is the line for standard error, without a line feed.
 #[derive(Clone, Copy, Debug, PartialEq, Eq)]
 pub enum Fault {
-    /// This line, counted from 1, is not a command of the mode.
+    /// The line with this number, counted from 1, is not a command of the mode.
     BadLine(u64),
     /// The source failed.
     Read,
@@ -23,8 +23,11 @@ impl Fault {
     ghost use Rattle.std.specs.Prelude.{◌≡◌};
     ghost use Rattle.replay_driver.specs.Faults.{status_of};
 
-    /// The exit status of a program that ends with the fault: 2 for a bad line, 3 for a failed read or write, 4 for
-    /// refused memory.
+    /// Returns the exit status of a program that ends with this fault: 2 for a bad line, 3 for a failed read or write,
+    /// 4 for refused memory.
+    ///
+    /// # Complexity
+    /// O(1).
     pub fn status(&self) -> u8
         ensures { result ≡ status_of self.now }
     {

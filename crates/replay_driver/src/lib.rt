@@ -1,4 +1,5 @@
-//! Runs a script of any mode: reads lines from a source, hands them to a session, and writes the replies to a sink.
+//! The driver of scripts of any mode: it reads lines from a source, passes them to a session, and writes the replies to
+//! a sink.
 #![tactic(auto)]
 
 pub mod fault;

@@ -1,4 +1,4 @@
-//! The driver: lines from a source to a session, and texts from the session to a sink.
+//! The driver: it moves lines from a source to a session, and texts from the session to a sink.
 ghost use Rattle.std.specs.Prelude.{◌≡◌, ◌+◌, ◌-◌, ◌<◌, ◌≤◌, ◌^◌, [], length, take, drop, IfOk, OnOk, OnErr, IsTrue, ◌↔◌, Err};
 ghost use Rattle.replay_driver.specs.Steps.{TakesOne, TakesLines, TakesLast, Reads, fault_of};
 ghost use Rattle.replay_driver.specs.Halts.{Halts, EndsLines};
@@ -13,13 +13,13 @@ use crate::text::flush;
 use memchr::memchr;
 use std::alloc::Global;
 
-/// How long a line may be, without its line feed.
+/// The maximum length of a line, without its line feed.
 const LONGEST_LINE: usize = 120;
 
-/// How much text waits before it is written.
+/// The length of text at which it is written.
 const FULL: usize = 1 << 16;
 
-/// Takes one line. Where enough text waits, it is written.
+/// Takes one line. If the text is long enough, writes it.
 fn take_line<S: Session, O: Sink>(
     session: &mut S,
     line: &[u8],
@@ -45,7 +45,8 @@ fn take_line<S: Session, O: Sink>(
     Ok(())
 }
 
-/// Takes the complete lines of a block, and answers how many bytes they are. The count goes up by the good lines.
+/// Takes the complete lines of a block, and returns how many bytes they are. Adds the number of good lines to the
+/// count.
 fn take_lines<S: Session, O: Sink>(
     session: &mut S,
     block: &[u8],
@@ -71,7 +72,7 @@ fn take_lines<S: Session, O: Sink>(
     Ok(start)
 }
 
-/// What a stop at this line is to the caller.
+/// Returns the fault of a stop at this line.
 fn fault_at(stop: Stop, line: u64) -> Fault
     ensures { result ≡ fault_of stop line }
 {
@@ -82,7 +83,7 @@ fn fault_at(stop: Stop, line: u64) -> Fault
     }
 }
 
-/// Takes what stands behind the last line feed, where it is a line.
+/// Takes what is after the last line feed, if it is a line.
 fn take_last<S: Session, O: Sink>(
     session: &mut S,
     line: &[u8],
@@ -100,7 +101,7 @@ fn take_last<S: Session, O: Sink>(
     take_line(session, line, text, output)
 }
 
-/// Reads behind the bytes that are held at the front of the block, and answers where they end now.
+/// Reads into the block after the `held` bytes at its front, and returns where the bytes end now.
 fn read_more<I: Source>(input: &mut I, block: &mut [u8], held: usize) -> Result<usize, Failed>
     requires { held < length block.old }
     ensures len { length block.new ≡ length block.old }
@@ -167,10 +168,10 @@ fn read_lines<S: Session, I: Source, O: Sink>(
     }
 }
 
-/// How many bytes are read at once.
+/// The number of bytes that are read at once.
 const BLOCK: usize = 1 << 16;
 
-/// Answers the end of the lines, unless writing or memory failed before.
+/// Tells the session of the end of the lines, unless writing or memory failed before.
 fn end_lines<S: Session>(
     session: &mut S,
     text: &mut Vec<u8>,
@@ -189,7 +190,7 @@ fn end_lines<S: Session>(
     }
 }
 
-/// Whether a write failed.
+/// Returns `true` if a write failed.
 fn has_stopped_writing(halt: Result<(), Fault>) -> bool
     ensures { IsTrue result ↔ (halt ≡ Err Fault.Write) }
 {
@@ -198,9 +199,18 @@ fn has_stopped_writing(halt: Result<(), Fault>) -> bool
 
 /// Runs a script: reads its lines, and writes the replies to them.
 ///
-/// The lines go to the session, up to the first bad one or to the end of the input, which is then told of the end. What
-/// stands written after a fault is as `run` says. At the call the source and the sink may be in any state, and the
-/// session in any in which it may take lines.
+/// The lines go to the session, up to the first bad one or to the end of the input. Then the session is told of the
+/// end, unless writing or memory failed. The source and the sink may be in any state, and the session in any state in
+/// which it takes lines.
+///
+/// # Errors
+/// It returns `BadLine` with the number of the first line that is bad or has more than 120 bytes without its line feed,
+/// `Read` or `Write` if the source or the sink failed, and `Memory` if memory was refused. The replies to all commands
+/// before that are written, except after `Write`: then a prefix of the replies is.
+///
+/// # Complexity
+/// O(b), for b bytes of the script, and what the session takes. It allocates a block of 65,536 bytes, and keeps about
+/// as many bytes of replies before it writes them.
 pub fn run_script<S: Session, I: Source, O: Sink>(
     alloc: Global,
     session: &mut S,
@@ -227,9 +237,14 @@ pub fn run_script<S: Session, I: Source, O: Sink>(
     }
 }
 
-/// Runs a script that stands in memory, as `run_script` does.
+/// Runs a script that is in memory, as `run_script` does. After `Ok`, each line of the script was taken, and the
+/// replies to all of them are written.
 ///
-/// After `Ok` each line of the script was taken, and the replies to all of them stand written.
+/// # Errors
+/// Those of `run_script`.
+///
+/// # Complexity
+/// That of `run_script`.
 pub fn run_bytes<S: Session, O: Sink>(
     alloc: Global,
     session: &mut S,

@@ -13,7 +13,7 @@ pub trait Session {
     // What the commands change.
     ghost State: { Type 0 };
 
-    // What each line does, and what it answers.
+    // What each line does, and its replies.
     ghost machine: { Machine State };
 
     ghost state: { Self → State };
@@ -21,20 +21,28 @@ pub trait Session {
     // Holds of a session that may take lines, as long as it lasts.
     ghost is_ready: { Self → Type 0 } = { λ _. ⊤ };
 
-    /// Takes a line, without its line feed, and adds the texts of the commands that it completes.
+    /// Takes a line, without its line feed, and appends the texts of the commands that it completes. Returns `false` if
+    /// the line is bad, and then changes nothing.
     ///
-    /// `Ok(false)` means that the line is bad, and nothing changes. After an `Err` memory was refused at one of the
-    /// commands: the texts of those before it were added, and the session takes no further line. The cost is that of
-    /// the commands and their texts.
+    /// # Errors
+    /// If memory for one of the commands is refused, it returns `AllocError`. The texts of those before it were
+    /// appended, and the session takes no further line.
+    ///
+    /// # Complexity
+    /// That of the commands and their texts.
     fn take(&mut self, line: &[u8], text: &mut Vec<u8>) -> Result<bool, AllocError>
         requires { is_ready self.old }
         ensures taken { TakesLine machine (state self.old) line.now (state self.new)
             text.old.items text.new.items result }
         ensures ready { is_ready self.new };
 
-    /// Adds the texts of what the end of the lines completes.
+    /// Appends the texts of the commands that the end of the lines completes.
     ///
-    /// After an `Err` memory was refused at one of them, and those before it were added.
+    /// # Errors
+    /// If memory for one of them is refused, it returns `AllocError`. The texts of those before it were appended.
+    ///
+    /// # Complexity
+    /// That of the commands and their texts.
     fn end(&mut self, text: &mut Vec<u8>) -> Result<(), AllocError>
         requires { is_ready self.old }
         ensures { Ends machine (state self.old) text.old.items text.new.items result };

@@ -6,7 +6,7 @@ ghost use Rattle.replay_driver.specs.Known.{Appends-nothing, Appends-more};
 use crate::fault::Failed;
 use std::io::Write;
 
-/// Where bytes go.
+/// A destination of bytes.
 pub trait Sink {
     // These bytes were written between the first state and the second.
     ghost takes: { Self → Self → List ℕ → Type 0 };
@@ -14,9 +14,10 @@ pub trait Sink {
     // A write failed: each further one fails.
     ghost has_failed: { Self → Type 0 };
 
-    /// Writes a front of the bytes, and answers how many: at least one where there are some.
+    /// Writes a prefix of the bytes, and returns its length: at least 1 if there are any bytes.
     ///
-    /// An `Err` writes no byte, and each further write fails too.
+    /// # Errors
+    /// If the write fails, no byte was written, and each further write fails too.
     fn write(&mut self, bytes: &[u8]) -> Result<usize, Failed>
         ensures count { IfOk result (λ n. n ≤ length bytes.now) }
         ensures some { IfOk result (λ n. 0 < length bytes.now → 0 < n) }
@@ -34,8 +35,8 @@ pub trait Sink {
 
 /// A writer as a sink.
 ///
-/// A write fails where the writer's does, an interrupted one too, and where the writer takes none of some bytes. The
-/// writer is not flushed: give one that keeps nothing back, or flush what `into_inner` answers.
+/// A write fails if the writer's does, even if it was interrupted, or if the writer takes none of the bytes. The writer
+/// is not flushed: use one without a buffer, or flush what `into_inner` returns.
 #[derive(Drop)]
 pub struct ToWrite<W> {
     writer: W,
@@ -46,7 +47,10 @@ impl<W: Write> ToWrite<W> {
     ghost use Rattle.std.specs.Prelude.{◌≡◌};
     ghost use Rattle.replay_driver.specs.Streams.{writer_of};
 
-    /// The sink whose bytes go to the writer. It has not failed.
+    /// Creates a sink that writes to a writer. It has not failed.
+    ///
+    /// # Complexity
+    /// O(1).
     pub fn new(writer: W) -> Self
         ensures writer { writer_of result ≡ writer }
         ensures sound { ⟦<ToWrite<W> as Sink>⟧.has_failed result → ⊥ }
@@ -62,7 +66,10 @@ impl<W> ToWrite<W> {
     ghost use Rattle.std.specs.Prelude.{◌≡◌};
     ghost use Rattle.replay_driver.specs.Streams.{writer_of};
 
-    /// The writer.
+    /// Returns the writer.
+    ///
+    /// # Complexity
+    /// O(1).
     pub fn into_inner(self) -> W
         ensures { result ≡ writer_of self }
     {

@@ -5,15 +5,15 @@ ghost use Rattle.replay_driver.specs.Known.{IsReadOut, Gives, gives-nothing, giv
 use crate::fault::Failed;
 use std::io::Read;
 
-/// How many bytes a source gives at most.
+/// The maximum number of bytes of a source.
 const MOST_BYTES: u64 = 1 << 63;
 
-/// Where bytes come from: at most 2 to the 63 of them.
+/// A source of bytes, at most 2^63 of them.
 pub trait Source {
     // These bytes were read between the first state and the second.
     ghost gives: { Self → Self → List ℕ → Type 0 };
 
-    // At most so many bytes are still to come.
+    // The maximum number of bytes that are still to come.
     ghost room: { Self → ℕ };
 
     // The end was met: no byte comes any more.
@@ -22,10 +22,11 @@ pub trait Source {
     // A read failed: each further one fails.
     ghost has_failed: { Self → Type 0 };
 
-    /// Reads into the front of the buffer, and answers how many bytes.
+    /// Reads bytes into the front of the buffer, and returns how many. If it returns 0 for a buffer that is not empty,
+    /// the end was met: no byte follows. Nothing else is the end.
     ///
-    /// At 0 bytes into a buffer that is not empty, the end is met: no byte comes any more. Nothing else ends it. An
-    /// `Err` reads no byte, and each further read fails too.
+    /// # Errors
+    /// If the read fails, no byte was read, and each further read fails too.
     fn read(&mut self, buffer: &mut [u8]) -> Result<usize, Failed>
         ensures count { IfOk result (λ n. n ≤ length buffer.new) }
         ensures bytes { IfOk result (λ n. gives self.old self.new (take n buffer.new)) }
@@ -55,7 +56,7 @@ pub trait Source {
 
 /// A reader as a source.
 ///
-/// A read fails where the reader's does, an interrupted one too, and past 2 to the 63 bytes.
+/// A read fails if the reader's does, even if it was interrupted, or after 2^63 bytes.
 #[derive(Drop)]
 pub struct FromRead<R: Read> {
     reader: R,
@@ -70,7 +71,10 @@ impl<R: Read> FromRead<R> {
     ghost use Rattle.std.specs.Prelude.{◌≡◌, ◌^◌};
     ghost use Rattle.replay_driver.specs.Streams.{reader_of};
 
-    /// The source of what the reader gives from here on. It has not failed.
+    /// Creates a source of what the reader returns from now on. It has not failed.
+    ///
+    /// # Complexity
+    /// O(1).
     pub fn new(reader: R) -> Self
         ensures reader { reader_of result ≡ reader }
         ensures sound { ⟦<FromRead<R> as Source>⟧.has_failed result → ⊥ }

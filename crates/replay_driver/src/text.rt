@@ -1,11 +1,17 @@
-//! Writes a whole text.
+//! Writes of a whole text.
 ghost use Rattle.std.specs.Prelude.{◌≡◌, ℕ, List, [], OnErr, OnOk};
 ghost use Rattle.replay_driver.specs.Steps.{Writes};
 
 use crate::fault::Failed;
 use crate::sink::Sink;
 
-/// Writes the whole text, which is empty then.
+/// Writes the whole text to a sink, and leaves the text empty.
+///
+/// # Errors
+/// If a write fails, a prefix of the text was written.
+///
+/// # Complexity
+/// That of the writes, of which there is at most one for each byte.
 pub fn flush<O: Sink>(output: &mut O, text: &mut Vec<u8>) -> Result<(), Failed>
     ensures wrote { OnOk result (Writes O.takes output.old text.old.items output.new [] []) }
     ensures empty { OnOk result (text.new.items ≡ []) }
