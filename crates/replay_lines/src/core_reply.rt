@@ -9,35 +9,35 @@ use std::alloc::{AllocError, Global};
 /// The reply to a line of the modes `transfer` and `queue`.
 #[derive(Drop)]
 pub enum CoreReply {
-    /// This party was added.
+    /// The party with this number was added.
     Party(usize),
-    /// Done, with nothing to tell.
+    /// The command was run, and there is nothing more to tell.
     Done,
-    /// Whether nothing was held.
+    /// `true` if the core had no item before.
     Truth(bool),
     /// An item came out.
     Found(Item),
     /// An item came out, the last one of what was taken.
     Last(Item),
-    /// A push failed, and here is its item.
+    /// A push failed, and its item is returned.
     Failed(Item),
-    /// What was held was taken, and is yet to come out.
+    /// All items were taken, and have yet to come out.
     Taken,
-    /// Nothing was held when all was to be taken.
+    /// There was no item to take.
     Nothing,
     /// Another party has the right to dequeue.
     Busy,
-    /// The queue holds nothing.
+    /// The queue has no item.
     Empty,
-    /// The oldest item of the queue or the one behind it is not linked yet.
+    /// The oldest item of the queue or the one after it is not linked yet.
     Inconsistent,
-    /// What came out at once: newest first of a transfer stack, oldest first of a queue.
+    /// The items that came out together: newest first from a transfer stack, oldest first from a queue.
     Show(Vec<Item>),
-    /// There is no such party, or it may not take that step or make that call.
+    /// There is no such party, or it cannot take that step or make that call.
     NotThere,
 }
 
-/// Adds a line of a word and an item. An `Err` adds nothing.
+/// Appends a line of a word and an item. If memory is refused, appends nothing.
 fn push_item(alloc: Global, text: &mut Vec<u8>, word: &str, item: Item) -> Result<(), AllocError>
     ensures ok { OnOk result (text.new.items ≡ text.old.items ++ item_text word.now item) }
     ensures err { OnErr result (text.new.items ≡ text.old.items) }
@@ -48,7 +48,7 @@ fn push_item(alloc: Global, text: &mut Vec<u8>, word: &str, item: Item) -> Resul
     text.extend_from_slice(line.as_bytes())
 }
 
-/// Adds a line that shows these items. An `Err` adds nothing.
+/// Appends a line that shows items. If memory is refused, appends nothing.
 fn push_items(alloc: Global, text: &mut Vec<u8>, items: &[Item]) -> Result<(), AllocError>
     ensures ok { OnOk result (text.new.items ≡ text.old.items ++ core_text (show items.now)) }
     ensures err { OnErr result (text.new.items ≡ text.old.items) }
@@ -60,7 +60,13 @@ fn push_items(alloc: Global, text: &mut Vec<u8>, items: &[Item]) -> Result<(), A
     push_show(alloc, text, &shown)
 }
 
-/// Adds a reply's line to the text. After an `Err` memory was refused, and nothing was added.
+/// Appends the line of a reply to the text.
+///
+/// # Errors
+/// If memory is refused, it returns `AllocError`, and appends nothing.
+///
+/// # Complexity
+/// Amortized O(k), for k items of the reply.
 pub fn push_core_reply(
     alloc: Global,
     text: &mut Vec<u8>,

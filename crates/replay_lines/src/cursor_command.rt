@@ -1,4 +1,4 @@
-//! Reads the lines of a cursor block.
+//! The lines of a cursor block.
 ghost use Rattle.std.specs.Prelude.{◌≡◌, Some, IfSome};
 ghost use Rattle.cordyceps_commands.specs.ListCommands.{OtherFits};
 ghost use Rattle.replay_lines.specs.Words.{words_left};
@@ -11,20 +11,30 @@ use crate::list_words::filter;
 use crate::words::Words;
 use cordyceps_commands::CursorCommand;
 
-/// The command words of a block.
+/// A command word of a block.
 #[derive(Clone, Copy)]
 pub enum CursorVerb {
-    /// A word that is a command, with no words behind it.
+    /// A word that is a command by itself.
     Bare(CursorCommand),
+    /// `set V`: sets the value of the item at the cursor.
     Set,
+    /// `setn V`: sets the value of the next item.
     SetNext,
+    /// `setp V`: sets the value of the previous item.
     SetPrev,
+    /// `first F`: removes the first item that passes, from the cursor on.
     RemoveFirst,
+    /// `insa ID V`: inserts an item after the cursor's.
     InsertAfter,
+    /// `insb ID V`: inserts an item before the cursor's.
     InsertBefore,
+    /// `splita M`: moves the items after the cursor's to list M.
     SplitAfter,
+    /// `splitb M`: moves the items before the cursor's to list M.
     SplitBefore,
+    /// `splicea M`: moves all items of list M after the cursor's.
     SpliceAfter,
+    /// `spliceb M`: moves all items of list M before the cursor's.
     SpliceBefore,
 }
 
@@ -84,7 +94,7 @@ fn read_verb(word: &[u8]) -> Option<CursorVerb>
     }
 }
 
-/// Reads the words that a command word needs.
+/// Reads the words that follow a command word.
 fn read_with(verb: CursorVerb, words: Words) -> Option<CursorCommand>
     ensures { result ≡ command_with verb (words_left words.entry.rest) }
 {
@@ -103,7 +113,7 @@ fn read_with(verb: CursorVerb, words: Words) -> Option<CursorCommand>
     }
 }
 
-/// Reads the command word, and the words that it needs.
+/// Reads the command word, and the words that follow it.
 fn read_words(line: &[u8]) -> Option<CursorCommand>
     ensures { result ≡ cursor_command_of line.now }
 {
@@ -112,7 +122,10 @@ fn read_words(line: &[u8]) -> Option<CursorCommand>
     read_with(verb, words)
 }
 
-/// What a line of a block of mode `list` means. `None` means that it is bad.
+/// Reads a line of a block of mode `list`, or returns `None` if the line is bad.
+///
+/// # Complexity
+/// O(b), for b bytes of the line.
 pub fn read_cursor_command(line: &[u8]) -> Option<CursorCommand>
     ensures value { result ≡ cursor_command_of line.now }
     ensures fits { IfSome result OtherFits }

@@ -1,4 +1,4 @@
-//! The lines of scripts: words and numbers, the commands that lines of each mode are, and the texts of replies.
+//! The lines of scripts: words and numbers, the commands of each mode, and the texts of replies.
 #![tactic(auto)]
 
 pub mod core_reply;

@@ -1,4 +1,5 @@
-//! Reads the words behind a command word, to the end of the line.
+//! The words after a command word, up to the end of the line. Each function returns `None` if the words are not these,
+//! and takes O(b), for b bytes of the words.
 ghost use Rattle.std.specs.Prelude.{◌≡◌, ◌∷◌, [], None, MatchOption};
 ghost use Rattle.replay_lines.specs.Words.{words_left};
 ghost use Rattle.replay_lines.specs.LineWords.{only_word_of, nothing_of, structure_of, value_of, item_of, two_structures_of, structure_and_value_of, structure_and_item_of, party_and_number_of, party_and_item_of, perhaps_item_of, party_and_perhaps_item_of};
@@ -18,7 +19,7 @@ pub fn only_word<'a>(mut words: Words<'a>) -> Option<&'a [u8]>
     }
 }
 
-/// Reads that there is no word.
+/// Reads no word.
 pub fn nothing(mut words: Words) -> Option<()>
     ensures { result ≡ nothing_of (words_left words.entry.rest) }
 {
@@ -28,21 +29,21 @@ pub fn nothing(mut words: Words) -> Option<()>
     }
 }
 
-/// Reads `S`.
+/// Reads `S`, the number of a structure.
 pub fn structure(words: Words) -> Option<u8>
     ensures { result ≡ structure_of (words_left words.entry.rest) }
 {
     structure_number(only_word(words)?)
 }
 
-/// Reads `V`.
+/// Reads `V`, a value.
 pub fn value(words: Words) -> Option<u64>
     ensures { result ≡ value_of (words_left words.entry.rest) }
 {
     number(only_word(words)?)
 }
 
-/// Reads `ID V`.
+/// Reads `ID V`, an item.
 pub fn item(mut words: Words) -> Option<Item>
     ensures { result ≡ item_of (words_left words.entry.rest) }
 {
@@ -51,7 +52,7 @@ pub fn item(mut words: Words) -> Option<Item>
     Some(Item { value, id })
 }
 
-/// The item with this number and this value.
+/// Returns the item with this number and this value.
 pub fn item_with(id: &[u8], value: &[u8]) -> Option<Item>
     ensures { result ≡ item_of (id.now ∷ value.now ∷ []) }
 {
@@ -60,7 +61,7 @@ pub fn item_with(id: &[u8], value: &[u8]) -> Option<Item>
     Some(Item { value, id })
 }
 
-/// Reads `S M`.
+/// Reads `S M`, the numbers of two structures.
 pub fn two_structures(mut words: Words) -> Option<(u8, u8)>
     ensures { result ≡ two_structures_of (words_left words.entry.rest) }
 {
@@ -68,7 +69,7 @@ pub fn two_structures(mut words: Words) -> Option<(u8, u8)>
     Some((first, structure(words)?))
 }
 
-/// Reads `S V`.
+/// Reads `S V`, the number of a structure and a value.
 pub fn structure_and_value(mut words: Words) -> Option<(u8, u64)>
     ensures { result ≡ structure_and_value_of (words_left words.entry.rest) }
 {
@@ -76,7 +77,7 @@ pub fn structure_and_value(mut words: Words) -> Option<(u8, u64)>
     Some((structure, value(words)?))
 }
 
-/// Reads `S ID V`.
+/// Reads `S ID V`, the number of a structure and an item.
 pub fn structure_and_item(mut words: Words) -> Option<(u8, Item)>
     ensures { result ≡ structure_and_item_of (words_left words.entry.rest) }
 {
@@ -84,14 +85,14 @@ pub fn structure_and_item(mut words: Words) -> Option<(u8, Item)>
     Some((structure, item(words)?))
 }
 
-/// Reads `P`.
+/// Reads `P`, the number of a party.
 pub fn party(words: Words) -> Option<usize>
     ensures { result ≡ value_of (words_left words.entry.rest) }
 {
     Some(value(words)? as usize)
 }
 
-/// Reads `P N`.
+/// Reads `P N`, the number of a party and another number.
 pub fn party_and_number(mut words: Words) -> Option<(usize, usize)>
     ensures { result ≡ party_and_number_of (words_left words.entry.rest) }
 {
@@ -99,7 +100,7 @@ pub fn party_and_number(mut words: Words) -> Option<(usize, usize)>
     Some((party as usize, value(words)? as usize))
 }
 
-/// Reads `P ID V`.
+/// Reads `P ID V`, the number of a party and an item.
 pub fn party_and_item(mut words: Words) -> Option<(usize, Item)>
     ensures { result ≡ party_and_item_of (words_left words.entry.rest) }
 {
@@ -118,7 +119,7 @@ fn perhaps_item(words: Words) -> Option<Option<Item>>
     }
 }
 
-/// Reads `P`, or `P ID V`.
+/// Reads `P` or `P ID V`, the number of a party and an item if there is one.
 pub fn party_and_perhaps_item(mut words: Words) -> Option<(usize, Option<Item>)>
     ensures { result ≡ party_and_perhaps_item_of (words_left words.entry.rest) }
 {

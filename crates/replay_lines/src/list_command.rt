@@ -1,4 +1,4 @@
-//! Reads the lines of mode `list` outside of blocks.
+//! The lines of mode `list` outside of blocks.
 ghost use Rattle.std.specs.Prelude.{◌≡◌, true, Some, is_some, IfOk, OnErr, IfSome};
 ghost use Rattle.std.specs.Option.{option_map};
 ghost use Rattle.replay_lines.specs.Words.{words_left};
@@ -13,45 +13,64 @@ use crate::words::Words;
 use cordyceps_commands::{ListCommand, ListEnd};
 use std::alloc::{AllocError, Global};
 
-/// The command words of the mode whose commands are read without memory.
+/// A command word of the mode whose command is read without an allocation.
 #[derive(Clone, Copy)]
 pub enum PlainVerb {
+    /// `pushf L ID V`: prepends an item.
     PushFront,
+    /// `pushb L ID V`: appends an item.
     PushBack,
+    /// `popf L`: removes the first item.
     PopFront,
+    /// `popb L`: removes the last item.
     PopBack,
+    /// `front L`: reads the first item.
     Front,
+    /// `back L`: reads the last item.
     Back,
+    /// `setf L V`: sets the value of the first item.
     SetFront,
+    /// `setb L V`: sets the value of the last item.
     SetBack,
+    /// `len L`: counts the items.
     Len,
+    /// `append L M`: moves all items of list M to the back of list L.
     Append,
+    /// `split L AT M`: keeps AT items, and moves the others to list M.
     Split,
+    /// `remove L ID`: removes the first item with this number.
     Remove,
+    /// `bump L N`: adds N to the value of each item.
     Bump,
+    /// `drain L F K`: removes the items that pass, at most K.
     Drain,
+    /// `show L`: reads all items.
     Show,
 }
 
-/// The command words of the mode.
+/// A command word of the mode.
 #[derive(Clone, Copy)]
 pub enum Verb {
+    /// A word whose command is read without an allocation.
     Plain(PlainVerb),
+    /// `walk L W`: reads items by an iterator, from both ends.
     Walk,
+    /// `into L W`: removes all items, and shows those that an iterator returns.
     Into,
+    /// `cursor L front` or `cursor L back`: begins a cursor block.
     Cursor,
 }
 
-/// What a line is, outside of blocks.
+/// What a line outside of blocks is.
 #[derive(Drop)]
 pub enum Entry {
-    /// A command, which is no block.
+    /// A command that is not a block.
     Command(ListCommand),
-    /// The beginning of a block: the number of its list, and where its cursor begins.
+    /// The first line of a block: the number of its list, and the end at which its cursor begins.
     Cursor(u8, ListEnd),
 }
 
-/// The words of commands on the ends of a list.
+/// Reads a word of a command on the ends of a list.
 fn read_end_verb(word: &[u8]) -> Option<PlainVerb>
     ensures { result ≡ end_verb_of word.now }
 {
@@ -112,7 +131,7 @@ fn read_verb(word: &[u8]) -> Option<Verb>
     }
 }
 
-/// Reads the words that a command word needs.
+/// Reads the words that follow a command word.
 fn read_plain(verb: PlainVerb, rest: Words) -> Option<ListCommand>
     ensures { result ≡ plain_command_with verb (words_left rest.entry.rest) }
 {
@@ -135,7 +154,7 @@ fn read_plain(verb: PlainVerb, rest: Words) -> Option<ListCommand>
     }
 }
 
-/// Reads the command word, and the words that it needs.
+/// Reads the command word, and the words that follow it.
 fn read_words(alloc: Global, line: &[u8]) -> Result<Option<Entry>, AllocError>
     ensures value { IfOk result (λ read. option_map meant read ≡ meaning_of line.now) }
     ensures err { OnErr result (is_some (meaning_of line.now) ≡ true) }
@@ -161,8 +180,13 @@ fn read_words(alloc: Global, line: &[u8]) -> Result<Option<Entry>, AllocError>
     }
 }
 
-/// What a line of mode `list` means outside of blocks, unless memory for it is refused. `None` means that it is bad.
-/// Where memory is refused, it is not.
+/// Reads a line of mode `list` outside of blocks, or returns `None` if the line is bad.
+///
+/// # Errors
+/// If memory is refused, it returns `AllocError`. The line is not bad then.
+///
+/// # Complexity
+/// O(b), for b bytes of the line. Only `walk` and `into` allocate.
 pub fn read_entry(alloc: Global, line: &[u8]) -> Result<Option<Entry>, AllocError>
     ensures value { IfOk result (λ read. option_map meant read ≡ meaning_of line.now) }
     ensures fits { IfOk result (λ read. IfSome read EntryFits) }

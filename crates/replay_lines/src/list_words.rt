@@ -1,4 +1,5 @@
-//! Reads words of mode `list`.
+//! Words of mode `list`. Each function returns `None` if the words are not these, and takes O(b), for b bytes of the
+//! words.
 ghost use Rattle.std.specs.Prelude.{◌≡◌, true, Some, is_some, IfOk, OnErr};
 ghost use Rattle.std.specs.Option.{option_map};
 ghost use Rattle.replay_lines.specs.Words.{words_left};
@@ -9,7 +10,7 @@ use crate::words::{Words, number, structure_number};
 use cordyceps_commands::{Filter, ListEnd, Turn};
 use std::alloc::{AllocError, Global};
 
-/// An end of a list.
+/// Reads an end of a list.
 fn list_end(word: &[u8]) -> Option<ListEnd>
     ensures { result ≡ end_of word.now }
 {
@@ -22,7 +23,7 @@ fn list_end(word: &[u8]) -> Option<ListEnd>
     }
 }
 
-/// `F`.
+/// Reads `F`, a filter.
 pub fn filter(word: &[u8]) -> Option<Filter>
     ensures { result ≡ filter_of word.now }
 {
@@ -47,7 +48,7 @@ fn turn(letter: u8) -> Option<Turn>
     }
 }
 
-/// Whether it is `W`, of 1 to 64 letters.
+/// Returns `true` if the word is `W`, of 1 to 64 letters.
 fn are_turns(word: &[u8]) -> bool
     ensures { result ≡ is_some (turns_of word.now) }
 {
@@ -62,7 +63,7 @@ fn are_turns(word: &[u8]) -> bool
     true
 }
 
-/// Reads `W`, unless memory for it is refused.
+/// Reads `W`.
 fn turns(alloc: Global, word: &[u8]) -> Result<Vec<Turn>, AllocError>
     requires { is_some (turns_of word.now) ≡ true }
     ensures { IfOk result (λ turns. Some turns.items ≡ turns_of word.now) }
@@ -77,7 +78,10 @@ fn turns(alloc: Global, word: &[u8]) -> Result<Vec<Turn>, AllocError>
     Ok(turns)
 }
 
-/// Reads `L W`, unless memory for it is refused.
+/// Reads `L W`, the number of a list and the turns of an iterator.
+///
+/// # Errors
+/// If memory is refused, it returns `AllocError`. The words are these then.
 pub fn structure_and_turns(
     alloc: Global,
     mut words: Words,
@@ -99,7 +103,7 @@ pub fn structure_and_turns(
     Ok(Some((structure, turns)))
 }
 
-/// Reads `L AT M`.
+/// Reads `L AT M`: the number of a list, an index, and the number of another list.
 pub fn split_words(mut words: Words) -> Option<(u8, (u64, u8))>
     ensures { result ≡ split_words_of (words_left words.entry.rest) }
 {
@@ -108,7 +112,7 @@ pub fn split_words(mut words: Words) -> Option<(u8, (u64, u8))>
     Some((list, (at, structure(words)?)))
 }
 
-/// Reads `L F K`.
+/// Reads `L F K`: the number of a list, a filter, and a number of items.
 pub fn drain_words(mut words: Words) -> Option<(u8, (Filter, u64))>
     ensures { result ≡ drain_words_of (words_left words.entry.rest) }
 {
@@ -117,7 +121,7 @@ pub fn drain_words(mut words: Words) -> Option<(u8, (Filter, u64))>
     Some((list, (filter, value(words)?)))
 }
 
-/// Reads `L front` or `L back`.
+/// Reads `L front` or `L back`, the number of a list and an end of it.
 pub fn structure_and_end(mut words: Words) -> Option<(u8, ListEnd)>
     ensures { result ≡ structure_and_end_of (words_left words.entry.rest) }
 {

@@ -1,4 +1,4 @@
-//! Reads the lines of mode `queue`.
+//! The lines of mode `queue`.
 ghost use Rattle.std.specs.Prelude.{◌≡◌, Some, IfSome};
 ghost use Rattle.replay_lines.specs.Words.{words_left};
 ghost use Rattle.replay_lines.specs.QueueScript.{call_of, verb_of, command_with, command_of};
@@ -13,48 +13,60 @@ use cordyceps_commands::Item;
 pub enum QueueCommand {
     /// Adds a party.
     Party,
-    /// Adds a room of the party.
+    /// Adds a free room to the party.
     Room(usize),
-    /// Puts an item into a free room, or readies the stub for its way into the queue.
+    /// Puts an item into a free room, or makes the stub's link null before the stub is put in.
     Clear(usize, Option<Item>),
-    /// Makes that room, or the stub, the head.
+    /// Makes that room the head, or the stub.
     Swap(usize),
-    /// Makes the old head lead to it.
+    /// Makes the old head lead to that room, or to the stub.
     Link(usize),
     /// Takes the right to dequeue.
     Take(usize),
-    /// Reads what the tail leads to.
+    /// Reads the tail's link.
     ReadNext(usize),
     /// Reads the head.
     ReadHead(usize),
     /// Gives the right to dequeue back.
     Give(usize),
-    /// Enqueues with no step of another party between.
+    /// Appends an item, without a step of another party between.
     Enqueue(usize, Item),
-    /// Tries to dequeue with no step of another party between.
+    /// Tries once to remove the oldest item, without a step of another party between.
     Dequeue(usize),
-    /// Takes up to so many items out by tries, with no step of another party between.
+    /// Removes up to this many items, without a step of another party between.
     Batch(usize, usize),
 }
 
-/// The command words of the mode.
+/// A command word of the mode.
 #[derive(Clone, Copy)]
 pub enum Verb {
+    /// `party`: adds a party.
     Party,
+    /// `room P`: adds a free room to the party.
     Room,
+    /// `clear P ID V`: puts an item into a free room. `clear P`: makes the stub's link null before the stub is put in.
     Clear,
+    /// `swap P`: makes that room the head, or the stub.
     Swap,
+    /// `link P`: makes the old head lead to that room, or to the stub.
     Link,
+    /// `take P`: takes the right to dequeue.
     Take,
+    /// `next P`: reads the tail's link.
     ReadNext,
+    /// `head P`: reads the head.
     ReadHead,
+    /// `give P`: gives the right to dequeue back.
     Give,
+    /// `enq P ID V`: appends an item.
     Enqueue,
+    /// `deq P`: tries once to remove the oldest item.
     Dequeue,
+    /// `batch P N`: removes up to N items.
     Batch,
 }
 
-/// The words of whole calls.
+/// Reads a word of a whole call.
 fn read_call(word: &[u8]) -> Option<Verb>
     ensures { result ≡ call_of word.now }
 {
@@ -95,7 +107,7 @@ fn read_verb(word: &[u8]) -> Option<Verb>
     }
 }
 
-/// Reads the words that a command word needs.
+/// Reads the words that follow a command word.
 fn read_with(verb: Verb, words: Words) -> Option<QueueCommand>
     ensures { result ≡ command_with verb (words_left words.entry.rest) }
 {
@@ -115,7 +127,7 @@ fn read_with(verb: Verb, words: Words) -> Option<QueueCommand>
     }
 }
 
-/// Reads the command word, and the words that it needs.
+/// Reads the command word, and the words that follow it.
 fn read_words(line: &[u8]) -> Option<QueueCommand>
     ensures { result ≡ command_of line.now }
 {
@@ -124,7 +136,10 @@ fn read_words(line: &[u8]) -> Option<QueueCommand>
     read_with(verb, words)
 }
 
-/// What a line of mode `queue` means. `None` means that it is bad.
+/// Reads a line of mode `queue`, or returns `None` if the line is bad.
+///
+/// # Complexity
+/// O(b), for b bytes of the line.
 pub fn read_command(line: &[u8]) -> Option<QueueCommand>
     ensures value { result ≡ command_of line.now }
     ensures spelled { IfSome result (λ command. line.now ≡ spelling_of command) }

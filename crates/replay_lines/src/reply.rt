@@ -1,4 +1,4 @@
-//! The text of replies to commands on tables.
+//! The texts of replies to commands on tables.
 ghost use Rattle.std.specs.Prelude.{◌≡◌, ◌++◌, length, take, OnErr, OnOk};
 ghost use Rattle.cordyceps_commands.specs.Replies.{lines_of, show};
 ghost use Rattle.replay_lines.specs.ReplyText.{line_text, shown_text, text_of};
@@ -6,7 +6,7 @@ ghost use Rattle.replay_lines.specs.ReplyText.{line_text, shown_text, text_of};
 use cordyceps_commands::{Item, Reply};
 use std::alloc::{AllocError, Global};
 
-/// Adds an item as a line of items shows it. An `Err` adds nothing.
+/// Appends an item as a line of items shows it. If memory is refused, appends nothing.
 fn push_shown(alloc: Global, text: &mut Vec<u8>, item: Option<Item>) -> Result<(), AllocError>
     ensures ok { OnOk result (text.new.items ≡ text.old.items ++ shown_text item) }
     ensures err { OnErr result (text.new.items ≡ text.old.items) }
@@ -20,7 +20,7 @@ fn push_shown(alloc: Global, text: &mut Vec<u8>, item: Option<Item>) -> Result<(
     text.extend_from_slice(shown.as_bytes())
 }
 
-/// Adds a line that shows the items. An `Err` may leave a part of it behind the text.
+/// Appends a line that shows items. If memory is refused, a prefix of the line may have been appended.
 fn push_all(alloc: Global, text: &mut Vec<u8>, items: &[Option<Item>]) -> Result<(), AllocError>
     ensures ok { OnOk result (text.new.items ≡ text.old.items ++ line_text (show items.now)) }
     ensures front { take (length text.old.items) text.new.items ≡ text.old.items }
@@ -32,7 +32,13 @@ fn push_all(alloc: Global, text: &mut Vec<u8>, items: &[Option<Item>]) -> Result
     text.extend_from_slice(b"\n")
 }
 
-/// Adds a line that shows the items. An `Err` adds nothing.
+/// Appends a line that shows items to the text.
+///
+/// # Errors
+/// If memory is refused, it returns `AllocError`, and appends nothing.
+///
+/// # Complexity
+/// Amortized O(k), for k items.
 pub fn push_show(
     alloc: Global,
     text: &mut Vec<u8>,
@@ -49,7 +55,13 @@ pub fn push_show(
     Ok(())
 }
 
-/// Adds a reply's lines to the text. After an `Err` memory was refused, and nothing was added.
+/// Appends the lines of a reply to the text.
+///
+/// # Errors
+/// If memory is refused, it returns `AllocError`, and appends nothing.
+///
+/// # Complexity
+/// Amortized O(k), for k items and lines of the reply.
 pub fn push_reply(alloc: Global, text: &mut Vec<u8>, reply: &Reply) -> Result<(), AllocError>
     ensures ok { OnOk result (text.new.items ≡ text.old.items ++ text_of (lines_of reply.now)) }
     ensures err { OnErr result (text.new.items ≡ text.old.items) }

@@ -1,4 +1,4 @@
-//! Reads the lines of mode `sorted`.
+//! The lines of mode `sorted`.
 ghost use Rattle.std.specs.Prelude.{◌≡◌, ◌++◌, Some, None, true, is_some, IfOk, IfSome, OnErr};
 ghost use Rattle.std.specs.Option.{option_map};
 ghost use Rattle.cordyceps_commands.specs.SortedCommands.{Fits};
@@ -11,12 +11,16 @@ use cordyceps_commands::{Item, SortedCommand};
 use memchr::memchr;
 use std::alloc::{AllocError, Global};
 
-/// The command words of the mode.
+/// A command word of the mode.
 #[derive(Clone, Copy)]
 pub enum Verb {
+    /// `insert S ID V`: inserts an item.
     Insert,
+    /// `pop S`: removes the first item.
     Pop,
+    /// `show S`: reads all items.
     Show,
+    /// `from S ID:V ..`: pushes the items onto a stack, and creates the list from it.
     From,
 }
 
@@ -46,7 +50,7 @@ fn pair(word: &[u8]) -> Option<Item>
     item_with(&word[..colon], &word[colon + 1..])
 }
 
-/// Whether all words are pairs `ID:V`.
+/// Returns `true` if all words are pairs `ID:V`.
 fn are_pairs(mut words: Words) -> bool
     ensures { result ≡ is_some (pairs_of (words_left words.entry.rest)) }
 {
@@ -58,7 +62,7 @@ fn are_pairs(mut words: Words) -> bool
     true
 }
 
-/// Reads pairs `ID:V`, up to the last word, unless memory for them is refused.
+/// Reads pairs `ID:V`, up to the last word.
 fn pairs(alloc: Global, mut words: Words) -> Result<Vec<Item>, AllocError>
     requires { is_some (pairs_of (words_left words.rest)) ≡ true }
     ensures { IfOk result (λ items. Some items.items ≡ pairs_of (words_left words.entry.rest)) }
@@ -73,7 +77,7 @@ fn pairs(alloc: Global, mut words: Words) -> Result<Vec<Item>, AllocError>
     Ok(items)
 }
 
-/// Reads the number of a list and the pairs `ID:V` of a stack, at least one, unless memory for them is refused.
+/// Reads the number of a list and the pairs `ID:V` of a stack, at least one.
 fn from_stack(alloc: Global, mut words: Words) -> Result<Option<SortedCommand>, AllocError>
     ensures value { IfOk result
         (λ command. option_map entry_for command
@@ -95,7 +99,13 @@ fn from_stack(alloc: Global, mut words: Words) -> Result<Option<SortedCommand>, 
     Ok(Some(SortedCommand::FromStack(list, items)))
 }
 
-/// What a line of mode `sorted` means. `None` means that it is bad. Where memory is refused, it is not.
+/// Reads a line of mode `sorted`, or returns `None` if the line is bad.
+///
+/// # Errors
+/// If memory is refused, it returns `AllocError`. The line is not bad then.
+///
+/// # Complexity
+/// O(b), for b bytes of the line. Only `from` allocates.
 pub fn read_command(alloc: Global, line: &[u8]) -> Result<Option<SortedCommand>, AllocError>
     ensures value { IfOk result (λ command. option_map entry_for command ≡ entry_of line.now) }
     ensures fits { IfOk result (λ command. IfSome command Fits) }

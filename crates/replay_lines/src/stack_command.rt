@@ -1,4 +1,4 @@
-//! Reads the lines of mode `stack`.
+//! The lines of mode `stack`.
 ghost use Rattle.std.specs.Prelude.{◌≡◌, Some, IfSome};
 ghost use Rattle.cordyceps_commands.specs.StackCommands.{Fits};
 ghost use Rattle.replay_lines.specs.StackScript.{verb_of, command_of};
@@ -7,13 +7,18 @@ use crate::line_words::{structure, structure_and_item, two_structures};
 use crate::words::Words;
 use cordyceps_commands::StackCommand;
 
-/// The command words of the mode.
+/// A command word of the mode.
 #[derive(Clone, Copy)]
 pub enum Verb {
+    /// `push S ID V`: pushes an item.
     Push,
+    /// `pop S`: removes the item that was pushed last.
     Pop,
+    /// `take S M`: moves all items to stack M.
     Take,
+    /// `empty S`: tests if the stack is empty.
     Empty,
+    /// `drain S`: removes all items.
     Drain,
 }
 
@@ -35,7 +40,10 @@ fn read_verb(word: &[u8]) -> Option<Verb>
     }
 }
 
-/// What a line of mode `stack` means. `None` means that it is bad.
+/// Reads a line of mode `stack`, or returns `None` if the line is bad.
+///
+/// # Complexity
+/// O(b), for b bytes of the line.
 pub fn read_command(line: &[u8]) -> Option<StackCommand>
     ensures value { result ≡ command_of line.now }
     ensures fits { IfSome result Fits }

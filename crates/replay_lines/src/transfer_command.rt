@@ -1,4 +1,4 @@
-//! Reads the lines of mode `transfer`.
+//! The lines of mode `transfer`.
 ghost use Rattle.std.specs.Prelude.{◌≡◌, Some, IfSome};
 ghost use Rattle.replay_lines.specs.Words.{words_left};
 ghost use Rattle.replay_lines.specs.TransferScript.{verb_of, command_with, command_of};
@@ -13,35 +13,44 @@ use cordyceps_commands::Item;
 pub enum TransferCommand {
     /// Adds a party.
     Party,
-    /// Adds a room of the party.
+    /// Adds a free room to the party.
     Room(usize),
     /// Begins a push.
     Load(usize, Item),
     /// Makes the room of a push lead to what was read.
     SetNext(usize),
-    /// Ends a push, if nothing has come in between.
+    /// Ends a push, which fails if the head is not what was read.
     Exchange(usize),
-    /// Takes all that is held.
+    /// Takes all items.
     Take(usize),
-    /// Hands out the next item of what was taken.
+    /// Returns the next item of what was taken.
     Walk(usize),
-    /// Pushes with no step of another party between.
+    /// Pushes an item, without a step of another party between.
     Push(usize, Item),
-    /// Takes all that is held, and hands it out, with no step of another party between.
+    /// Takes all items and returns them, without a step of another party between.
     TakeAll(usize),
 }
 
-/// The command words of the mode.
+/// A command word of the mode.
 #[derive(Clone, Copy)]
 pub enum Verb {
+    /// `party`: adds a party.
     Party,
+    /// `room P`: adds a free room to the party.
     Room,
+    /// `load P ID V`: begins a push.
     Load,
+    /// `setnext P`: makes the room of a push lead to what was read.
     SetNext,
+    /// `exch P`: ends a push.
     Exchange,
+    /// `take P`: takes all items.
     Take,
+    /// `walk P`: returns the next item of what was taken.
     Walk,
+    /// `push P ID V`: pushes an item.
     Push,
+    /// `takeall P`: takes all items and returns them.
     TakeAll,
 }
 
@@ -71,7 +80,7 @@ fn read_verb(word: &[u8]) -> Option<Verb>
     }
 }
 
-/// Reads the words that a command word needs.
+/// Reads the words that follow a command word.
 fn read_with(verb: Verb, words: Words) -> Option<TransferCommand>
     ensures { result ≡ command_with verb (words_left words.entry.rest) }
 {
@@ -88,7 +97,7 @@ fn read_with(verb: Verb, words: Words) -> Option<TransferCommand>
     }
 }
 
-/// Reads the command word, and the words that it needs.
+/// Reads the command word, and the words that follow it.
 fn read_words(line: &[u8]) -> Option<TransferCommand>
     ensures { result ≡ command_of line.now }
 {
@@ -97,7 +106,10 @@ fn read_words(line: &[u8]) -> Option<TransferCommand>
     read_with(verb, words)
 }
 
-/// What a line of mode `transfer` means. `None` means that it is bad.
+/// Reads a line of mode `transfer`, or returns `None` if the line is bad.
+///
+/// # Complexity
+/// O(b), for b bytes of the line.
 pub fn read_command(line: &[u8]) -> Option<TransferCommand>
     ensures value { result ≡ command_of line.now }
     ensures spelled { IfSome result (λ command. line.now ≡ spelling_of command) }

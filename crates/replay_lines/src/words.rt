@@ -4,7 +4,7 @@ ghost use Rattle.replay_lines.specs.Words.{number_of, structure_number_of, words
 
 use memchr::memchr;
 
-/// The number that the digits of a word are.
+/// Returns the number that the digits of a word are.
 fn read_number(word: &[u8]) -> Option<u64>
     ensures { result ≡ number_of word.now }
 {
@@ -24,7 +24,11 @@ fn read_number(word: &[u8]) -> Option<u64>
     Some(value)
 }
 
-/// The number below 2 to the 64 that a word spells in decimal, with no leading zero.
+/// Returns the number below 2^64 that a word spells in decimal, without a leading zero. Returns `None` if it spells
+/// none.
+///
+/// # Complexity
+/// O(b), for b bytes of the word.
 pub fn number(word: &[u8]) -> Option<u64>
     ensures value { result ≡ number_of word.now }
     ensures numeral { IfSome result (λ n. word.now ≡ decimal n) }
@@ -33,7 +37,10 @@ pub fn number(word: &[u8]) -> Option<u64>
     read_number(word)
 }
 
-/// The number of one of sixteen structures, 0 to 15.
+/// Returns the number of one of sixteen structures, from 0 to 15. Returns `None` if the word spells no such number.
+///
+/// # Complexity
+/// O(b), for b bytes of the word.
 pub fn structure_number(word: &[u8]) -> Option<u8>
     ensures { result ≡ structure_number_of word.now }
 {
@@ -43,7 +50,7 @@ pub fn structure_number(word: &[u8]) -> Option<u8>
     }
 }
 
-/// The words of a line that were not read yet. Words are parted by exactly one space.
+/// The words of a line that were not read yet. Two words are separated by exactly one space.
 #[derive(Clone, Copy)]
 pub struct Words<'a> {
     rest: Option<&'a [u8]>,
@@ -53,14 +60,20 @@ impl<'a> Words<'a> {
     ghost use Rattle.std.specs.Prelude.{◌≡◌, ◌∷◌, [], Some, MatchOption};
     ghost use Rattle.replay_lines.specs.Words.{words_left, words};
 
-    /// All words of a line. A space at either end, or two in a row, part an empty word.
+    /// Creates the sequence of all words of a line. A space at an end, or after another space, separates an empty word.
+    ///
+    /// # Complexity
+    /// O(1).
     pub fn new(line: &'a [u8]) -> Self
         ensures { words_left result.rest ≡ words line.now }
     {
         Words { rest: Some(line) }
     }
 
-    /// Reads the next word. `None` means that there is none, and changes nothing.
+    /// Reads the next word, or returns `None` if there is none.
+    ///
+    /// # Complexity
+    /// O(b), for b bytes of the word.
     pub fn next_word(&mut self) -> Option<&'a [u8]>
         ensures { MatchOption result ((words_left self.old.rest ≡ []) × (words_left self.new.rest ≡ []))
             (λ word. words_left self.old.rest ≡ word.now ∷ words_left self.new.rest) }
