@@ -10,7 +10,7 @@ use replay_lines::core_reply::{CoreReply, push_core_reply};
 use replay_lines::queue_command::{QueueCommand, read_command};
 use std::alloc::{AllocError, Global};
 
-/// What a step answers, as a reply.
+/// Returns the reply to a step.
 fn reply_of(answer: Result<QueueAnswer<Item>, (StepError, Option<Item>)>) -> CoreReply
     ensures { said result ≡ told answer }
 {
@@ -24,7 +24,7 @@ fn reply_of(answer: Result<QueueAnswer<Item>, (StepError, Option<Item>)>) -> Cor
     }
 }
 
-/// Why a try to dequeue gave nothing, as a reply.
+/// Returns the reply to a try to dequeue that failed.
 fn reply_of_error(error: TryDequeueError) -> CoreReply
     ensures { said result ≡ told_error error }
 {
@@ -35,7 +35,7 @@ fn reply_of_error(error: TryDequeueError) -> CoreReply
     }
 }
 
-/// What a try to dequeue found, as a reply.
+/// Returns the reply to a try to dequeue.
 fn reply_of_found(found: Result<Item, TryDequeueError>) -> CoreReply
     ensures { said result ≡ told_found found }
 {
@@ -45,7 +45,7 @@ fn reply_of_found(found: Result<Item, TryDequeueError>) -> CoreReply
     }
 }
 
-/// A script in mode `queue`: its core.
+/// A session of a script in mode `queue`, with its core.
 #[derive(Drop)]
 pub struct QueueSession {
     alloc: Global,
@@ -53,7 +53,10 @@ pub struct QueueSession {
 }
 
 impl QueueSession {
-    /// A core with no party, which holds nothing. This takes no memory.
+    /// Creates a session with a core without parties, rooms and items. Allocates nothing.
+    ///
+    /// # Complexity
+    /// O(1).
     pub fn new(alloc: Global) -> Self
         ensures { result.core ≡ new_core }
     {
@@ -122,7 +125,7 @@ impl QueueSession {
         }
     }
 
-    /// Does what a command says, unless memory for it is refused.
+    /// Runs a command.
     fn play(&mut self, command: QueueCommand) -> Result<CoreReply, AllocError>
         ensures { IfOk result (λ reply.
             (self.new.core, said reply) ≡ step self.old.core command) }

@@ -10,7 +10,7 @@ use replay_lines::core_reply::{CoreReply, push_core_reply};
 use replay_lines::transfer_command::{TransferCommand, read_command};
 use std::alloc::{AllocError, Global};
 
-/// What a step answers, as a reply.
+/// Returns the reply to a step.
 fn reply_of(answer: Result<TransferAnswer<Item>, (StepError, Option<Item>)>) -> CoreReply
     ensures { said result ≡ told answer }
 {
@@ -26,7 +26,7 @@ fn reply_of(answer: Result<TransferAnswer<Item>, (StepError, Option<Item>)>) -> 
     }
 }
 
-/// A script in mode `transfer`: its core.
+/// A session of a script in mode `transfer`, with its core.
 #[derive(Drop)]
 pub struct TransferSession {
     alloc: Global,
@@ -34,7 +34,10 @@ pub struct TransferSession {
 }
 
 impl TransferSession {
-    /// A core with no party, which holds nothing. This takes no memory.
+    /// Creates a session with a core without parties, rooms and items. Allocates nothing.
+    ///
+    /// # Complexity
+    /// O(1).
     pub fn new(alloc: Global) -> Self
         ensures { result.core ≡ new_core }
     {
@@ -92,7 +95,7 @@ impl TransferSession {
         }
     }
 
-    /// Does what a command says, unless memory for it is refused.
+    /// Runs a command.
     fn play(&mut self, command: TransferCommand) -> Result<CoreReply, AllocError>
         ensures { IfOk result (λ reply.
             (self.new.core, said reply) ≡ step self.old.core command) }
