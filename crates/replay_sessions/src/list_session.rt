@@ -18,7 +18,7 @@ use replay_lines::reply::push_reply;
 use std::alloc::{AllocError, Global};
 use std::collections::VecDeque;
 
-/// A script in mode `list`: its sixteen lists, and the block that is open.
+/// A session of a script in mode `list`, with its sixteen lists, and a cursor block if one is open.
 #[derive(Drop)]
 pub struct ListSession {
     alloc: Global,
@@ -29,7 +29,10 @@ pub struct ListSession {
 }
 
 impl ListSession {
-    /// Sixteen empty lists. This takes no memory.
+    /// Creates a session with sixteen empty lists. Allocates nothing.
+    ///
+    /// # Complexity
+    /// O(1).
     pub fn new(alloc: Global) -> Self
         ensures lists { result.lists ≡ empty_table 16 }
         ensures block { result.block ≡ None }
@@ -42,7 +45,7 @@ impl ListSession {
         }
     }
 
-    /// Runs one command, unless memory for it is refused.
+    /// Runs one command, and returns its reply.
     fn play(&mut self, command: ListCommand) -> Result<Reply, AllocError>
         requires { Fits command }
         ensures reply { IfOk result (λ reply. (self.new.lists, lines_of reply) ≡ step self.old.lists command) }
@@ -54,7 +57,7 @@ impl ListSession {
         last_reply(played.replies)
     }
 
-    /// Runs the block that is open, and adds its text. Where memory is refused, it adds nothing.
+    /// Runs the block that is open, and appends its text. If memory is refused, it appends nothing.
     fn close(&mut self, text: &mut Vec<u8>) -> Result<(), AllocError>
         requires { CanRun self.old.block }
         ensures ok { OnOk result

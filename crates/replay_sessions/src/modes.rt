@@ -17,43 +17,47 @@ use replay_driver::source::Source;
 use std::alloc::Global;
 use std::cmp::Ordering;
 
-/// The line on standard error where the arguments name no mode, without its line feed.
+/// The line on standard error if the arguments name no mode, without its line feed.
 pub const USAGE: &str = "usage: cordyceps_replay list|stack|sorted|transfer|queue|share";
 
-/// What the commands of a script are.
+/// The mode of a script: what its commands are about.
 #[derive(Clone, Copy, Drop)]
 pub enum Mode<F> {
-    /// Commands over sixteen lists.
+    /// Sixteen lists.
     List,
-    /// Commands over sixteen stacks.
+    /// Sixteen stacks.
     Stack,
-    /// Commands over sixteen sorted lists: six with the least item first, five with the greatest first, and five by the
-    /// function, which must compare the quotients of the values by ten.
+    /// Sixteen sorted lists: six with the least item first, five with the greatest first, and five that the function
+    /// keeps sorted, which must compare the values divided by ten.
     Sorted(F),
-    /// Commands over the core of a transfer stack, which begins with no party.
+    /// The core of a transfer stack, which begins without parties.
     Transfer,
-    /// Commands over the core of a queue, which begins with no party.
+    /// The core of a queue, which begins without parties.
     Queue,
 }
 
-/// What the arguments ask for.
+/// What the program's arguments choose.
 #[derive(Clone, Copy, Debug, PartialEq, Eq)]
 pub enum Choice {
-    /// To run a script in mode `list`.
+    /// Runs a script in mode `list`.
     List,
-    /// To run a script in mode `stack`.
+    /// Runs a script in mode `stack`.
     Stack,
-    /// To run a script in mode `sorted`.
+    /// Runs a script in mode `sorted`.
     Sorted,
-    /// To run a script in mode `transfer`.
+    /// Runs a script in mode `transfer`.
     Transfer,
-    /// To run a script in mode `queue`.
+    /// Runs a script in mode `queue`.
     Queue,
-    /// To let two threads share a stack.
+    /// Lets two threads share a stack.
     Share,
 }
 
-/// Reads the words after the program's name: exactly one, which names a mode. `None` means that they are not that.
+/// Returns what the words after the program's name choose, or `None` unless there is exactly one word and it names a
+/// mode.
+///
+/// # Complexity
+/// O(1).
 pub fn choose(words: &[String]) -> Option<Choice>
     ensures { Chooses (map string_bytes words.now) result }
 {
@@ -68,18 +72,22 @@ pub fn choose(words: &[String]) -> Option<Choice>
     }
 }
 
-/// Runs the script that the source gives, and writes its replies to the sink.
+/// Runs the script that the source provides, and writes its replies to the sink.
 ///
-/// A line ends with a line feed, which the last one may lack, and has at most 120 bytes without it. After a bad line or
-/// a failed read the replies to the lines before it stand written. After a failed write, what the sink took is a
-/// beginning of the replies. After refused memory, the replies to the commands before the one that was refused stand
-/// written. More may be read than the lines that were taken.
+/// A line ends with a line feed, which the last one may lack, and has at most 120 bytes without it. In mode `list` a
+/// cursor block is one command. It is run when its end is met, the end of the input, a bad line or a failed read.
 ///
-/// In mode `list` a cursor block is one command. It is run when its end is met, the end of the input, a bad line or a
-/// failed read.
+/// # Errors
+/// It returns `BadLine` with the number of the first bad line, or `Read` if the source failed. The replies to the lines
+/// before it are then written. It returns `Write` if the sink failed. A prefix of the replies is then written. It
+/// returns `Memory` if memory was refused. The replies to the commands before the refused one are then written.
 ///
-/// The source is read in blocks of 65,536 bytes, and that is how much of the input and, but for one command's replies,
-/// of the replies waits in memory. The lines of a cursor block wait too, until it is run.
+/// More of the source may have been read than the lines that were taken.
+///
+/// # Complexity
+/// O(b), for b bytes of the script, and what the commands take. The source is read in blocks of 65,536 bytes. Memory
+/// holds one block, and about as many bytes of replies in addition to the replies to one command and the lines of a
+/// cursor block.
 pub fn run<F: Fn(&Item, &Item) -> Ordering + Copy, I: Source, O: Sink>(
     alloc: Global,
     mode: Mode<F>,
@@ -118,7 +126,10 @@ pub fn run<F: Fn(&Item, &Item) -> Ordering + Copy, I: Source, O: Sink>(
     }
 }
 
-/// Compares the quotients of the values by ten.
+/// Compares the values divided by ten.
+///
+/// # Complexity
+/// O(1).
 pub fn compare_tens(first: &Item, second: &Item) -> Ordering
     ensures { result ≡ by_tens first.now second.now }
 {

@@ -7,7 +7,13 @@ use std::alloc::{AllocError, Global};
 use std::collections::VecDeque;
 use std::mem;
 
-/// The command alone, in the memory of earlier ones.
+/// Returns a list of one command, in the memory of an earlier list.
+///
+/// # Errors
+/// If memory is refused, it returns `AllocError`.
+///
+/// # Complexity
+/// Amortized O(1), and what dropping the earlier commands takes.
 pub fn alone<C: Drop>(
     alloc: Global,
     earlier: &mut VecDeque<C>,
@@ -21,7 +27,13 @@ pub fn alone<C: Drop>(
     Ok(commands)
 }
 
-/// The last of the replies. Where one command was to be run, there is none if memory was refused.
+/// Returns the last of the replies.
+///
+/// # Errors
+/// If there is no reply, since memory for the command was refused, it returns `AllocError`.
+///
+/// # Complexity
+/// O(n), for n replies, which it drops.
 pub fn last_reply(mut replies: Vec<Reply>) -> Result<Reply, AllocError>
     ensures { IfOk result (λ reply. (front : List Reply) × (replies.items ≡ front ++ reply ∷ [])) }
 {

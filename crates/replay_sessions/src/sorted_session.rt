@@ -16,7 +16,7 @@ use std::alloc::{AllocError, Global};
 use std::cmp::Ordering;
 use std::collections::VecDeque;
 
-/// A script in mode `sorted`: its sixteen sorted lists.
+/// A session of a script in mode `sorted`, with its sixteen sorted lists.
 #[derive(Drop)]
 pub struct SortedSession<F> {
     alloc: Global,
@@ -26,7 +26,11 @@ pub struct SortedSession<F> {
 }
 
 impl<F: Fn(&Item, &Item) -> Ordering + Copy> SortedSession<F> {
-    /// Sixteen empty lists, the last five by a function that compares quotients by ten. This takes no memory.
+    /// Creates a session with sixteen empty lists, the last five with the function `by`, which compares values divided
+    /// by ten. Allocates nothing.
+    ///
+    /// # Complexity
+    /// O(1).
     pub fn new(alloc: Global, by: F) -> Self
         requires callable { F.IsAlwaysCallable by }
         requires tens { ComparesTens F.Fn by }
@@ -41,7 +45,7 @@ impl<F: Fn(&Item, &Item) -> Ordering + Copy> SortedSession<F> {
         }
     }
 
-    /// Runs one command, unless memory for it is refused.
+    /// Runs one command, and returns its reply.
     fn play(&mut self, command: SortedCommand) -> Result<Reply, AllocError>
         requires fits { Fits command }
         requires callable { F.IsAlwaysCallable self.old.sorteds.1 }

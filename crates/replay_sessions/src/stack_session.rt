@@ -13,7 +13,7 @@ use replay_lines::stack_command::read_command;
 use std::alloc::{AllocError, Global};
 use std::collections::VecDeque;
 
-/// A script in mode `stack`: its sixteen stacks.
+/// A session of a script in mode `stack`, with its sixteen stacks.
 #[derive(Drop)]
 pub struct StackSession {
     alloc: Global,
@@ -23,7 +23,10 @@ pub struct StackSession {
 }
 
 impl StackSession {
-    /// Sixteen empty stacks. This takes no memory.
+    /// Creates a session with sixteen empty stacks. Allocates nothing.
+    ///
+    /// # Complexity
+    /// O(1).
     pub fn new(alloc: Global) -> Self
         ensures { result.stacks ≡ empty_table 16 }
     {
@@ -34,7 +37,7 @@ impl StackSession {
         }
     }
 
-    /// Runs one command, unless memory for it is refused.
+    /// Runs one command, and returns its reply.
     fn play(&mut self, command: StackCommand) -> Result<Reply, AllocError>
         requires { Fits command }
         ensures { IfOk result (λ reply. (self.new.stacks, lines_of reply) ≡ step self.old.stacks command) }
