@@ -1,4 +1,4 @@
-//! Two threads that push to one stack, of which all is taken in the end.
+//! Two threads that push to one stack, whose elements are all taken in the end.
 ghost use Rattle.std.specs.Prelude.{◌≡◌, [], length, map, IfOk, IfErr};
 ghost use Rattle.std.specs.Ordering.{nat_cmp};
 ghost use Rattle.std.specs.List.Sorted.{IsPermutation, IsSorted};
@@ -22,16 +22,17 @@ use std::sync::Wait;
 use std::thread;
 use std::thread::{Promise, Threads};
 
-/// What goes into the stack, and comes out.
+/// The handle of an item of the stack.
 type Handle = Node<Item, Links<Item>>;
 
 /// What a worker of [`share`] passes before it pushes.
 pub trait Gate: Sync {
-    /// Called once before the first try of each push. The workers are 0 and 1, and so are the pushes of each.
+    /// Lets a worker pass. It is called once before the first try of each push. The workers are 0 and 1, and so are the
+    /// pushes of each.
     fn pass(&self, worker: u64, push: u64);
 }
 
-/// The gate that lets each worker pass at once.
+/// A gate that lets each worker pass at once.
 #[derive(Clone, Copy, Debug)]
 pub struct OpenGate;
 
@@ -39,7 +40,7 @@ impl Gate for OpenGate {
     fn pass(&self, _worker: u64, _push: u64) {}
 }
 
-/// The node of the item whose value and number are this.
+/// Creates a node of the item whose value and number are `number`.
 fn node(alloc: Global, number: u64) -> Result<Handle, AllocError>
     ensures { IfOk result (λ node. node ≡ item number) }
 {
@@ -53,7 +54,7 @@ fn node(alloc: Global, number: u64) -> Result<Handle, AllocError>
     }
 }
 
-/// What a worker is to do: to push these, by the rooms of this party.
+/// What a worker has to do: push two handles, by the rooms of a party.
 #[derive(Drop)]
 struct Task {
     party: Snapshot<Party<Item>>,
@@ -75,7 +76,14 @@ impl Promise<Party<Item>> for Task {
     ghost kept_by = { λ task back. Works task.handles.value.0 task.handles.value.1 task.party.value back };
 }
 
-/// What each worker of [`share`] does: passes the gate and pushes, twice, and hands the party back.
+/// Does what each worker of [`share`] does: passes the gate and pushes, twice, and returns the party. Requires that the
+/// party has two rooms.
+///
+/// # Complexity
+/// That of two calls of `TransferStack::push` and of `Gate::pass`.
+///
+/// # Waits
+/// As `TransferStack::push` and `Gate::pass`.
 pub fn work<R: Wait, G: Gate>(
     rt: &R,
     gate: &G,
@@ -95,8 +103,8 @@ pub fn work<R: Wait, G: Gate>(
     party
 }
 
-/// Runs both workers, each in a thread of its own. Memory is refused where a thread cannot be started; the other one
-/// has then ended too.
+/// Runs both workers, each in its own thread. If a thread cannot be started, it returns `AllocError`, and the other
+/// thread has ended.
 fn work_both<R: Threads + Wait + Sync, G: Gate>(
     rt: &R,
     gate: &G,
@@ -139,7 +147,7 @@ fn work_both<R: Threads + Wait + Sync, G: Gate>(
     )
 }
 
-/// The values of the items, in order.
+/// Returns the values of the items, sorted.
 fn values_in_order(alloc: Global, items: Stack<Item>) -> Result<Vec<u64>, AllocError>
     ensures { IfOk result (λ values. IsPermutation (map (λ e. e.value.value) items) values.items
         × IsSorted nat_cmp values.items) }
@@ -174,12 +182,21 @@ fn run_workers<R: Threads + Wait + Sync, G: Gate>(
     values_in_order(alloc, stack.take_all(party))
 }
 
-/// Two threads push to the stack, the one 10 and then 11, the other 20 and then 21, each item with its value as its
-/// number. Once both have ended all is taken, and the values come in order: 10, 11, 20, 21.
+/// Lets two threads push to a stack, one 10 and then 11, and the other 20 and then 21, each item with its value as its
+/// number. When both have ended it takes all items, and returns their values, sorted: 10, 11, 20, 21.
 ///
-/// Before each push the gate is passed. The party has to be whole, with 4 rooms, and to hold nothing; it gives two
-/// rooms to each worker, and takes them back. `Memory` where memory for the items or the values was refused, or a
-/// thread could not be started. The other thread has then ended too, and the party may not be whole.
+/// The gate is passed before each push. Requires a whole party with 4 rooms whose stack is empty. Each worker has a
+/// party with two of its rooms, which it absorbs in the end.
+///
+/// # Errors
+/// If memory for the items or the values is refused or a thread cannot be started, it returns `Memory`. The other
+/// thread has ended then, and the party may not be whole.
+///
+/// # Complexity
+/// That of the two calls of `work`, and O(1) more.
+///
+/// # Waits
+/// For both threads.
 pub fn share<R: Threads + Wait + Sync, G: Gate>(
     rt: &R,
     alloc: Global,
@@ -199,7 +216,7 @@ pub fn share<R: Threads + Wait + Sync, G: Gate>(
     }
 }
 
-/// The line that shows four values.
+/// Returns the line that shows four values.
 fn line_of(alloc: Global, values: &[u64]) -> Result<Vec<u8>, AllocError>
     requires { length values.now ≡ 4 }
     ensures { IfOk result (λ line. line.items ≡ shown values.now) }
@@ -213,10 +230,17 @@ fn line_of(alloc: Global, values: &[u64]) -> Result<Vec<u8>, AllocError>
     }
 }
 
-/// Makes a stack of four rooms, and writes what [`share`] answers on it, as a line: `10 11 20 21`.
+/// Creates a stack of four rooms, and writes what [`share`] returns on it as a line: `10 11 20 21`.
 ///
-/// `Memory` as in `share`, and where memory for the stack or the line was refused; nothing is written then. After
-/// `Write`, a beginning of the line stands written.
+/// # Errors
+/// If `share` fails, or memory for the stack or the line is refused, it returns `Memory`, and nothing is written. If
+/// the sink fails, it returns `Write`, and a prefix of the line is written.
+///
+/// # Complexity
+/// That of `share`, and O(1) more.
+///
+/// # Waits
+/// As `share`.
 pub fn run_share<R: Threads + Wait + Sync, O: Sink>(
     rt: &R,
     alloc: Global,
