@@ -2,7 +2,9 @@
 use Rattle.std.proofs.Common.{◌≡◌, ℕ, ◌+◌, ◌*◌, Bool, ◌&&◌, true, false, cond, nat_lt, List, [], ◌∷◌, ◌++◌, map, refl, ap, ◌∙◌, eq-eqb, arith}
 use Rattle.std.specs.Prelude.{Result, nat_eq}
 use Rattle.std.proofs.lemmas.Bool.{eqb-true}
+use denote.RawPtr.{Ptr}
 use Rattle.cordyceps.specs.Elements.Element.{Element, Elements}
+use Rattle.cordyceps.specs.Elements.Nodes.{Nodes}
 use Rattle.cordyceps.specs.Parties.Histories.{plain}
 use Rattle.cordyceps.specs.Parties.Seated.{TableId}
 use Rattle.cordyceps.specs.Parties.Sending.{Splits}
@@ -24,18 +26,18 @@ use Rattle.cordyceps_uses.specs.Timers.{started}
 use Rattle.cordyceps_uses.specs.Ways.{Seat, work_of, Sent, Woken, Came}
 
 module _ (n r : ℕ) where
-  started_by : (b : Bool) (d : ℕ) (w : Work) (x : ℕ × Work) (s t : List (ℕ × Work)) → times n r (asleep t) ≡ one_of n r w + times n r (asleep s)
-      → times n r (asleep (cond b ((d, w) ∷ x ∷ s) (x ∷ t))) ≡ one_of n r w + times n r (asleep (x ∷ s))
-  started_by true d w x s t is = refl
-  started_by false d w x s t is = omega arith
+  started_by : (b : Bool) (x y : Ptr × Element (Timer Work)) (s t : Nodes (Timer Work)) → times n r (asleep t) ≡ one_of n r y.1.value.payload + times n r (asleep s)
+      → times n r (asleep (cond b (y ∷ x ∷ s) (x ∷ t))) ≡ one_of n r y.1.value.payload + times n r (asleep (x ∷ s))
+  started_by true x y s t is = refl
+  started_by false x y s t is = omega arith
 
   -- one more sleeps
-  pub times_started : (d : ℕ) (w : Work) (s : List (ℕ × Work)) → times n r (asleep (started d w s)) ≡ one_of n r w + times n r (asleep s)
-  times_started d w [] = refl
-  times_started d w (x ∷ s) = started_by (nat_lt d x.0) d w x s (started d w s) (times_started d w s)
+  times_started : (q : Ptr) (t : Element (Timer Work)) (s : Nodes (Timer Work)) → times n r (asleep (started q t s)) ≡ one_of n r t.value.payload + times n r (asleep s)
+  times_started q t [] = refl
+  times_started q t (x ∷ s) = started_by (nat_lt t.value.deadline x.1.value.deadline) x (q, t) s (started q t s) (times_started q t s)
 
-  pub times_restarted : (d : ℕ) (w : Work) (s t : List (ℕ × Work)) → t ≡ started d w s → times n r (asleep t) ≡ one_of n r w + times n r (asleep s)
-  times_restarted d w s t is = ap (λ z. times n r (asleep z)) is ∙ times_started d w s
+  pub times_restarted : (q : Ptr) (t : Element (Timer Work)) (s u : Nodes (Timer Work)) → u ≡ started q t s → times n r (asleep u) ≡ one_of n r t.value.payload + times n r (asleep s)
+  times_restarted q t s u is = ap (λ z. times n r (asleep z)) is ∙ times_started q t s
 
   -- one more waits
   pub times_put : (s : Elements (Timer Work)) (e : Element (Timer Work)) → times n r (works (s ++ e ∷ [])) ≡ times n r (works s) + one_of n r e.value.payload

@@ -1,5 +1,6 @@
 pub mod Mailbox
 pub mod Pool
+pub mod Ranks
 pub mod Recency
 pub mod RunQueue
 pub mod Scheduler

@@ -1,6 +1,7 @@
 -- Tasks of a scheduler, and how often one of them stands in a place.
 use Rattle.std.specs.Prelude.{◌≡◌, ℕ, ◌*◌, List, [], ◌∷◌, map, Bool, true, cond, nat_eq, ◌&&◌}
 use Rattle.cordyceps.specs.Elements.Element.{Elements}
+use Rattle.cordyceps.specs.Elements.Nodes.{Nodes}
 use Rattle.cordyceps.specs.Parties.Counts.{tally}
 use Rattle.cordyceps_uses.specs.declared.timers.Timer.{Timer}
 use Rattle.cordyceps_uses.specs.declared.scheduler.work.Work.{Work}
@@ -26,9 +27,9 @@ times n r ws = tally (one_of n r) ws
 abbrev pub works : Elements (Timer Work) → List Work
 works s = map (λ e. e.value.payload) s
 
--- those that sleep until their deadlines
-abbrev pub asleep : List (ℕ × Work) → List Work
-asleep s = map (λ p. p.1) s
+-- those that sleep until their deadlines, each at its spot
+abbrev pub asleep : Nodes (Timer Work) → List Work
+asleep s = map (λ n. n.1.value.payload) s
 
 -- each ran all its rounds, and its sum is that of all
 abbrev pub is_done : Work → Bool

@@ -1,23 +1,26 @@
--- Timers: deadlines and payloads, the earliest first, equals by arrival.
-use Rattle.std.specs.Prelude.{ℕ, ◌≤◌, List, [], ◌∷◌, map, nat_lt, if◌then◌else◌}
+-- Timers, each with its spot: the earliest deadline first, equals as they were started.
+use Rattle.std.specs.Prelude.{ℕ, ◌≤◌, [], ◌∷◌, nat_lt, if◌then◌else◌}
 use Rattle.std.specs.List.{AllByRecursion}
-use Rattle.cordyceps.specs.Elements.Element.{Elements}
+use denote.RawPtr.{Ptr}
+use Rattle.cordyceps.specs.Elements.Element.{Element}
+use Rattle.cordyceps.specs.Elements.Nodes.{Nodes}
 use Rattle.cordyceps_uses.specs.declared.timers.Timer.{Timer}
 
 module _ {P : Type 0} where
-  abbrev pub timers_of : Elements (Timer P) → List (ℕ × P)
-  timers_of s = map (λ e. (e.value.deadline, e.value.payload)) s
+  -- a new timer, whose number is its deadline
+  abbrev pub new_timer : ℕ → P → Element (Timer P)
+  new_timer d p = record { id = d; value = record { deadline = d; payload = p } }
 
-  abbrev pub InOrder : List (ℕ × P) → Type 0
+  abbrev pub InOrder : Nodes (Timer P) → Type 0
   InOrder [] = Unit {0}
-  InOrder (x ∷ s) = AllByRecursion (λ y. x.0 ≤ y.0) s × InOrder s
+  InOrder (x ∷ s) = AllByRecursion (λ y. x.1.value.deadline ≤ y.1.value.deadline) s × InOrder s
 
-  -- one more, behind all whose deadline is not later
-  abbrev pub started : ℕ → P → List (ℕ × P) → List (ℕ × P)
-  started d p [] = (d, p) ∷ []
-  started d p (x ∷ s) = if nat_lt d x.0 then (d, p) ∷ x ∷ s else x ∷ started d p s
+  -- one more, which lies at q, behind all whose deadline is not later
+  abbrev pub started : Ptr → Element (Timer P) → Nodes (Timer P) → Nodes (Timer P)
+  started q t [] = (q, t) ∷ []
+  started q t (x ∷ s) = if nat_lt t.value.deadline x.1.value.deadline then (q, t) ∷ x ∷ s else x ∷ started q t s
 
   -- those that are due
-  abbrev pub due : ℕ → List (ℕ × P) → List (ℕ × P)
+  abbrev pub due : ℕ → Nodes (Timer P) → Nodes (Timer P)
   due now [] = []
-  due now (x ∷ s) = if nat_lt now x.0 then due now s else x ∷ due now s
+  due now (x ∷ s) = if nat_lt now x.1.value.deadline then due now s else x ∷ due now s

@@ -1,9 +1,14 @@
-//! Timers, the earliest deadline first.
-ghost use Rattle.std.specs.Prelude.{◌≡◌, ◌≤◌, [], ◌∷◌, IfErr, OnErr, OnOk, MatchOption};
-ghost use Rattle.cordyceps_uses.specs.Timers.{started, due};
+//! Timers, the earliest deadline first, each of which can be cancelled before it is due.
+ghost use Rattle.std.specs.Prelude.{◌≡◌, ◌≤◌, ◌<◌, ℕ, [], ◌∷◌, length, IfErr, IfOk, IsOk, MatchOption, OnErr, OnOk};
+ghost use denote.RawPtr.{Ptr};
+ghost use Rattle.cordyceps.specs.Elements.Nodes.{spots};
+ghost use Rattle.cordyceps.specs.Spots.BySpot.{HasSpot, IsTaken};
+ghost use Rattle.cordyceps.specs.Spots.Spots.{AreApart};
+ghost use Rattle.cordyceps_uses.specs.Timers.{started, new_timer, due};
 
-use cordyceps::sorted_list::{Least, Links};
-use cordyceps::{Kind, Linked, Node, Refused, SortedList};
+use cordyceps::list::Links;
+use cordyceps::sorted_list::Least;
+use cordyceps::{Kind, Linked, Node, Refused, Spot, StableSortedList};
 use std::alloc::Global;
 use std::marker::Model;
 
@@ -36,21 +41,23 @@ impl<L: Kind, P: Drop> Linked<L> for Timer<P> {
 /// A timer that does not run, in a node that can be put among those that do.
 pub type Stopped<P> = Node<Timer<P>, Links<Timer<P>>>;
 
-/// Timers that run. A contract sees their deadlines and payloads, the earliest first, and equals as they were started.
+/// Timers that run. A contract sees each with its spot, the earliest deadline first, and equals as they were started.
 #[derive(Drop)]
 pub struct Timers<P> {
-    list: SortedList<Timer<P>, Least>,
+    list: StableSortedList<Timer<P>, Least>,
 }
 
 impl<P> Model for Timers<P> {
-    ghost use Rattle.std.specs.Prelude.{ℕ, List};
-    ghost use Rattle.cordyceps_uses.specs.Timers.{timers_of, InOrder};
+    ghost use Rattle.cordyceps.specs.Elements.Nodes.{Nodes, spots};
+    ghost use Rattle.cordyceps.specs.Spots.Spots.{AreApart};
+    ghost use Rattle.cordyceps_uses.specs.declared.timers.Timer.{Timer};
+    ghost use Rattle.cordyceps_uses.specs.Timers.{InOrder};
 
-    ghost Value = { List (ℕ × P) };
+    ghost Value = { Nodes (Timer P) };
 
-    ghost view = { λ t. timers_of t.list.0 };
+    ghost view = { λ t. t.list.nodes };
 
-    ghost invariant = { λ t. InOrder (timers_of t.list.0) };
+    ghost invariant = { λ t. InOrder t.list.nodes × AreApart (spots t.list.nodes) };
 }
 
 impl<P: Drop> Timers<P> {
@@ -59,45 +66,76 @@ impl<P: Drop> Timers<P> {
         ensures { result ≡ [] }
     {
         Timers {
-            list: SortedList::new_min(),
+            list: StableSortedList::new_min(),
         }
     }
 
-    /// Starts a timer: it comes behind all whose deadline is not later. It takes memory for one timer; where that is
-    /// refused it gives the payload back.
+    /// Starts a timer, and answers its spot: it comes behind all whose deadline is not later. It takes memory for one
+    /// timer, in a node whose number is the deadline.
     ///
-    /// One comparison tells where it is the last, and otherwise it walks from the earliest on.
-    pub fn start(&mut self, alloc: Global, deadline: u64, payload: P) -> Result<(), Refused<P>>
-        ensures started { OnOk result (self.new ≡ started deadline payload self.old) }
+    /// It compares with the latest timer first, and goes on towards the earliest, up to one whose deadline is not
+    /// later.
+    ///
+    /// # Errors
+    /// The payload comes back where that memory is refused, or where `usize::MAX` timers run.
+    pub fn start(&mut self, alloc: Global, deadline: u64, payload: P) -> Result<Spot, Refused<P>>
+        ensures started { IfOk result (λ spot. self.new ≡ started spot (new_timer deadline payload) self.old) }
         ensures kept { OnErr result (self.new ≡ self.old) }
         ensures returned { IfErr result (λ e. e.value ≡ payload) }
+        ensures apart { OnOk result (AreApart (spots self.new)) }
     {
-        match Node::new(alloc, deadline, Timer { deadline, payload }) {
-            Ok(node) => {
-                self.restart(node);
-                Ok(())
+        let node = match Node::new(alloc, deadline, Timer { deadline, payload }) {
+            Ok(node) => node,
+            Err(refused) => {
+                return Err(Refused {
+                    value: refused.value.payload,
+                });
             }
-            Err(refused) => Err(Refused {
-                value: refused.value.payload,
+        };
+        match self.restart(node) {
+            Ok(spot) => Ok(spot),
+            Err(node) => Err(Refused {
+                value: node.into_value().payload,
             }),
         }
     }
 
-    /// Starts a timer in the node that it has: it comes behind all whose deadline is not later. It takes no memory.
+    /// Starts a timer in the node that it has, and answers its spot: it comes behind all whose deadline is not later.
+    /// It takes no memory.
     ///
-    /// One comparison tells where it is the last, and otherwise it walks from the earliest on.
-    pub fn restart(&mut self, timer: Stopped<P>)
-        ensures { self.new ≡ started timer.value.deadline timer.value.payload self.old }
+    /// It compares as `start` does.
+    ///
+    /// # Errors
+    /// The timer comes back where `usize::MAX` timers run.
+    pub fn restart(&mut self, timer: Stopped<P>) -> Result<Spot, Stopped<P>>
+        ensures started { IfOk result (λ spot. self.new ≡ started spot timer self.old) }
+        ensures succeeds { length self.old < usize.MAX → IsOk result }
+        ensures kept { OnErr result (self.new ≡ self.old) }
+        ensures returned { IfErr result (λ back. back ≡ timer) }
+        ensures apart { OnOk result (AreApart (spots self.new)) }
     {
-        self.list.insert(timer);
+        if self.list.len() == usize::MAX {
+            return Err(timer);
+        }
+        Ok(self.list.insert(timer))
+    }
+
+    /// Takes the timer at a spot out in its node, at once, before it is due.
+    pub fn cancel(&mut self, spot: Spot) -> Stopped<P>
+        requires { HasSpot self.old spot }
+        ensures taken { IsTaken self.old spot result self.new }
+        ensures apart { AreApart (spots self.new) }
+    {
+        self.list.remove(spot)
     }
 
     /// Takes the earliest timer out in its node, if it is due at the time `now`. `None` where none is due; all stay
     /// then. It takes the same time whatever runs.
     pub fn stop_due(&mut self, now: u64) -> Option<Stopped<P>>
-        ensures { MatchOption result
+        ensures stopped { MatchOption result
             ((self.new ≡ self.old) × (due now self.old ≡ []))
-            (λ t. (self.old ≡ (t.value.deadline, t.value.payload) ∷ self.new) × (t.value.deadline ≤ now)) }
+            (λ t. (spot : Ptr) × (self.old ≡ (spot, t) ∷ self.new) × (t.value.deadline ≤ now)) }
+        ensures apart { AreApart (spots self.new) }
     {
         let first = self.list.iter().next()?;
         if first.deadline > now {
@@ -109,9 +147,11 @@ impl<P: Drop> Timers<P> {
     /// Takes the earliest timer out, if it is due at the time `now`. `None` where none is due; all stay then. It takes
     /// the same time whatever runs.
     pub fn pop_due(&mut self, now: u64) -> Option<Timer<P>>
-        ensures { MatchOption result
+        ensures popped { MatchOption result
             ((self.new ≡ self.old) × (due now self.old ≡ []))
-            (λ t. (self.old ≡ (t.deadline, t.payload) ∷ self.new) × (t.deadline ≤ now)) }
+            (λ t. (spot : Ptr) × (id : ℕ) × (self.old ≡ (spot, record { id = id; value = t }) ∷ self.new)
+            × (t.deadline ≤ now)) }
+        ensures apart { AreApart (spots self.new) }
     {
         match self.stop_due(now) {
             Some(node) => Some(node.into_value()),

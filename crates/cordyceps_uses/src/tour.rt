@@ -1,11 +1,17 @@
 //! A few lines with each collection.
-ghost use Rattle.std.specs.Prelude.{◌≡◌, ◌+◌, ◌<◌, [], ◌∷◌, ◌++◌, take, drop, length, min, option_map, Some, IfOk, IfErr};
+ghost use Rattle.std.specs.Prelude.{◌≡◌, ◌+◌, ◌<◌, [], ◌∷◌, ◌++◌, take, drop, length, min, option_map, Some, IfOk, IfErr, MatchOption};
+ghost use denote.RawPtr.{Ptr};
+ghost use Rattle.cordyceps.specs.Elements.Nodes.{spots};
+ghost use Rattle.cordyceps.specs.Orders.Arrangement.{IsEarliestLeast};
+ghost use Rattle.cordyceps.specs.Spots.Spots.{AreApart};
+ghost use Rattle.cordyceps_uses.specs.Ranks.{comes_before};
 
 use crate::job::Job;
 use cordyceps::mpsc_queue::Batch;
 use cordyceps::sorted_list::Least;
 use cordyceps::{
-    List, MpscQueue, Node, Refused, SortedList, Stack, TransferStack, list, mpsc_queue, stack,
+    List, MpscQueue, Node, Refused, SortedList, StableList, Stack, TransferStack, list, mpsc_queue,
+    stack,
 };
 use freelist::FreeList;
 use std::alloc::{AllocError, Global};
@@ -42,6 +48,25 @@ pub fn rotate(jobs: &mut List<Job>)
     if let Some(first) = jobs.pop_front() {
         jobs.push_back(first);
     }
+}
+
+/// Takes the job with the least rank out, and of equals the first. A walk finds its spot, and the others stay.
+pub fn take_least(jobs: &mut StableList<Job>) -> Option<ListJob>
+    requires { AreApart (spots jobs.old) }
+    ensures least { MatchOption result ((jobs.old ≡ []) × (jobs.new ≡ []))
+        (λ job. (spot : Ptr) × IsEarliestLeast comes_before jobs.old (spot, job) jobs.new) }
+    ensures apart { AreApart (spots jobs.new) }
+{
+    let mut cursor = jobs.cursor_front();
+    let mut best = cursor.spot()?;
+    cursor.move_next();
+    while let Some(at) = cursor.spot() {
+        if jobs.get(at).rank < jobs.get(best).rank {
+            best = at;
+        }
+        cursor.move_next();
+    }
+    Some(jobs.remove(best))
 }
 
 /// Puts a job that came out of a queue behind those that wait in a list which threads share.

@@ -1,16 +1,21 @@
 //! A few lines with each collection, and what they answer.
+ghost use Rattle.std.specs.Prelude.{IfOk};
+ghost use Rattle.cordyceps.specs.Elements.Nodes.{spots};
+ghost use Rattle.cordyceps.specs.Spots.Spots.{AreApart};
+
 use crate::compared::same;
 use cordyceps::list::Links as ListLinks;
 use cordyceps::mpsc_queue::Links as QueueLinks;
 use cordyceps::stack::Links as StackLinks;
-use cordyceps::{List, Node};
-use cordyceps_testing::nodes::node_of;
+use cordyceps::{List, Node, StableList};
+use cordyceps_testing::nodes::{node_of, number};
 use cordyceps_uses::job::Job;
 use cordyceps_uses::tour::{
     QueueJob, StackJob, give_back, hand_over, least_rank, next_job, rotate, send, submit,
-    take_the_second,
+    take_least, take_the_second,
 };
 use std::alloc::{AllocError, Global};
+use std::process::Abort;
 use std::sync::{Mutex, Wait};
 
 /// A job for stacks, whose rank is ten times its number.
@@ -49,6 +54,59 @@ fn lists(rt: HostRuntime) -> Result<(), AllocError> {
         None => None,
     };
     same(&rt, (second, first, jobs.len()), (Some((2, 3)), Some(2), 1));
+    Ok(())
+}
+
+/// A stable list of jobs with these ranks, which are numbered from 1 on.
+fn ranked(alloc: Global, ranks: &[u32]) -> Result<StableList<Job>, AllocError>
+    ensures { IfOk result (λ jobs. AreApart (spots jobs)) }
+{
+    let mut jobs: StableList<Job> = StableList::new();
+    let mut number = 0u64;
+    for rank in ranks {
+        number = number.wrapping_add(1);
+        let node: Node<Job, ListLinks<Job>> = node_of(alloc, number, Job { rank: *rank })?;
+        if jobs.try_push_back(node).is_err() {
+            return Err(AllocError);
+        }
+    }
+    Ok(jobs)
+}
+
+/// Compares the number of the job that is taken with the one that is wanted.
+fn takes(rt: &impl Abort, jobs: &mut StableList<Job>, wanted: Option<u64>)
+    requires { AreApart (spots jobs.old) }
+    ensures { AreApart (spots jobs.new) }
+{
+    same(rt, number(take_least(jobs)), wanted);
+}
+
+/// Takes all jobs out of a list, and compares their numbers with those that are wanted.
+fn takes_all(
+    rt: &impl Abort,
+    alloc: Global,
+    ranks: &[u32],
+    wanted: &[u64],
+) -> Result<(), AllocError> {
+    let mut jobs = ranked(alloc, ranks)?;
+    for number in wanted {
+        takes(rt, &mut jobs, Some(*number));
+    }
+    takes(rt, &mut jobs, None);
+    Ok(())
+}
+
+#[test]
+fn the_least_job_comes_first(rt: HostRuntime) -> Result<(), AllocError> {
+    for (ranks, wanted) in [
+        ([].as_slice(), [].as_slice()),
+        (&[7], &[1]),
+        (&[1, 2, 3], &[1, 2, 3]),
+        (&[3, 2, 1], &[3, 2, 1]),
+        (&[5, 3, 9, 3], &[2, 4, 1, 3]),
+    ] {
+        takes_all(&rt, rt.alloc(), ranks, wanted)?;
+    }
     Ok(())
 }
 

@@ -1,5 +1,5 @@
 //! The two places of the scheduler that stand under locks: where tasks sleep, and where they wait for a worker.
-ghost use Rattle.std.specs.Prelude.{◌≡◌, ◌+◌, ◌≤◌, ◌<◌, length, true, MatchOption};
+ghost use Rattle.std.specs.Prelude.{◌≡◌, ◌+◌, ◌≤◌, ◌<◌, length, true, IfErr, MatchOption, OnErr, OnOk};
 ghost use Rattle.cordyceps_uses.specs.Scheduler.{one_of, times, works, asleep};
 
 use crate::scheduler::holding::{Follow, Holding};
@@ -34,16 +34,28 @@ impl<L: Follow> Sleepers<L> {
 
     /// Puts a task to sleep, from the hands of a thread, until its pause is over.
     ///
-    /// One comparison tells where its deadline is the latest, and otherwise it walks from the earliest on.
-    pub fn sleep(&mut self, mine: &mut Holding<L>, task: Stopped<Work>)
+    /// It compares with the latest deadline first, and goes on towards the earliest, up to one that is not later.
+    ///
+    /// # Errors
+    /// The task comes back where `usize::MAX` tasks sleep.
+    pub fn sleep(&mut self, mine: &mut Holding<L>, task: Stopped<Work>) -> Result<(), Stopped<Work>>
         requires { one_of L.number L.rounds task.value.payload ≤ mine.old.share.amount }
-        ensures { mine.new.share.amount + one_of L.number L.rounds task.value.payload ≡ mine.old.share.amount }
+        ensures slept { OnOk result
+            (mine.new.share.amount + one_of L.number L.rounds task.value.payload ≡ mine.old.share.amount) }
+        ensures kept { OnErr result (mine.new.share.amount ≡ mine.old.share.amount) }
+        ensures returned { IfErr result (λ back. back.value.payload ≡ task.value.payload) }
     {
         let mut task = task;
         mine.give(&mut self.holding, &task.get().payload);
         let pause = task.get().payload.pause as u64;
         task.get_mut().deadline = self.time.saturating_add(pause);
-        self.timers.restart(task);
+        match self.timers.restart(task) {
+            Ok(_) => Ok(()),
+            Err(task) => {
+                self.holding.give(mine, &task.get().payload);
+                Err(task)
+            }
+        }
     }
 
     /// Wakes a task that is due, into the hands of a thread. Where none is due, time goes on by one.

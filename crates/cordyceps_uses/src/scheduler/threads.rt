@@ -141,7 +141,7 @@ fn run_round(task: &mut Node<Task, list::Links<Task>>)
     }
 }
 
-/// Keeps a task that is done, and puts another to sleep.
+/// Keeps a task that is done, and puts another to sleep. Where no more can sleep, it runs its other rounds at once.
 fn settle<L: Follow, R: Wait>(
     rt: &R,
     shared: &Shared<L>,
@@ -155,12 +155,17 @@ fn settle<L: Follow, R: Wait>(
         ≡ mine.old.share.amount + times L.number L.rounds (works done.new) }
     ensures finished { all_done (works done.old) ≡ true → all_done (works done.new) ≡ true }
 {
-    if task.get().payload.is_done() {
-        done.push(task.into_kind());
-        shared.unfinished.fetch_sub(1, Ordering::SeqCst);
-    } else {
-        shared.sleepers.lock(rt).sleep(mine, task.into_kind());
+    let mut task = task;
+    if !task.get().payload.is_done() {
+        let slept = shared.sleepers.lock(rt).sleep(mine, task);
+        let Err(awake) = slept else {
+            return;
+        };
+        task = awake;
+        task.get_mut().payload.finish();
     }
+    done.push(task.into_kind());
+    shared.unfinished.fetch_sub(1, Ordering::SeqCst);
 }
 
 /// Runs tasks, a round of one at each turn, and keeps those that are done. The others sleep until their next round. It

@@ -1,12 +1,16 @@
-use Rattle.std.proofs.Common.{refl, ◌∙◌}
+use Rattle.std.proofs.Common.{◌∷◌, ◌++◌, [], refl, ap, ◌∙◌}
 use Rattle.cordyceps_uses.specs.Timers.{started}
-use Rattle.cordyceps_uses.proofs.Deadlines.{by_deadline, gt_by_deadline, is_started, keeps_order}
+use Rattle.cordyceps_uses.proofs.Deadlines.{is_started, keeps_order, stands}
 use Rattle.cordyceps_uses.proofs.timers.Timers.restart.Goals as goal
 
 pub invariant_of-self : goal.invariant_of-self
-invariant_of-self g c = keeps_order by_deadline gt_by_deadline c.self.inside.list.0 c.insert.new.self.0 c.args.timer c.self.invariant (c.insert.ensures.placed _ refl)
+invariant_of-self g c =
+    let was = c.self.inside.list.nodes in
+    let placed = c.insert.ensures.arrangement _ was refl (stands was c.self.invariant.0) in
+    (keeps_order c.insert.new.self.nodes (was ++ (c.insert.result, c.args.timer) ∷ []) placed, c.insert.ensures.apart)
 
-pub returns : goal.returns
-returns g c =
-    let is = is_started by_deadline gt_by_deadline c.self.inside.list.0 c.insert.new.self.0 c.args.timer c.self.invariant (c.insert.ensures.placed _ refl) in
-    is ∙ (λ i. started c.args.timer.value.deadline c.args.timer.value.payload (c.self.view_is i))
+pub returns-clause-started : goal.returns-clause-started
+returns-clause-started g c =
+    let was = c.self.inside.list.nodes in
+    let placed = c.insert.ensures.arrangement _ was refl (stands was c.self.invariant.0) in
+    is_started was c.insert.new.self.nodes c.insert.result c.args.timer c.self.invariant.0 placed ∙ ap (started c.insert.result c.args.timer) c.self.view_is

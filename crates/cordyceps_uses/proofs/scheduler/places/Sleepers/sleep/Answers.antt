@@ -16,6 +16,6 @@ invariant_of-self g c =
         ap (λ (v : Timer Work). one_of n r v.payload) c.get.ensures,
         ap (λ (v : Timer Work). one_of n r v.payload) c.get_mut.ensures.value,
         c.args.self.now.counted,
-        times_restarted n r c.saturating_add.result c.get_mut.result.now.payload c.args.self.now.timers c.restart.new.self c.restart.ensures,
+        times_restarted n r c.in-Ok.field-0 _ c.args.self.now.timers c.restart.new.self c.in-Ok.ensures.started,
       );
     }
