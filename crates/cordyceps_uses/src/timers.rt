@@ -61,7 +61,7 @@ impl<P> Model for Timers<P> {
 }
 
 impl<P: Drop> Timers<P> {
-    /// No timers.
+    /// Makes timers of which none runs. It takes no memory.
     pub fn new() -> Timers<P>
         ensures { result ≡ [] }
     {
@@ -70,14 +70,14 @@ impl<P: Drop> Timers<P> {
         }
     }
 
-    /// Starts a timer, and answers its spot: it comes behind all whose deadline is not later. It takes memory for one
-    /// timer, in a node whose number is the deadline.
-    ///
-    /// It compares with the latest timer first, and goes on towards the earliest, up to one whose deadline is not
-    /// later.
+    /// Starts a timer behind all whose deadline is not later, and answers its spot. It takes memory for one node, whose
+    /// number is the deadline.
     ///
     /// # Errors
     /// The payload comes back where that memory is refused, or where `usize::MAX` timers run.
+    ///
+    /// # Complexity
+    /// A comparison with each timer whose deadline is later, and with one more.
     pub fn start(&mut self, alloc: Global, deadline: u64, payload: P) -> Result<Spot, Refused<P>>
         ensures started { IfOk result (λ spot. self.new ≡ started spot (new_timer deadline payload) self.old) }
         ensures kept { OnErr result (self.new ≡ self.old) }
@@ -100,13 +100,14 @@ impl<P: Drop> Timers<P> {
         }
     }
 
-    /// Starts a timer in the node that it has, and answers its spot: it comes behind all whose deadline is not later.
-    /// It takes no memory.
-    ///
-    /// It compares as `start` does.
+    /// Starts a timer in the node that it has, behind all whose deadline is not later, and answers its spot. It takes
+    /// no memory.
     ///
     /// # Errors
     /// The timer comes back where `usize::MAX` timers run.
+    ///
+    /// # Complexity
+    /// As `start`.
     pub fn restart(&mut self, timer: Stopped<P>) -> Result<Spot, Stopped<P>>
         ensures started { IfOk result (λ spot. self.new ≡ started spot timer self.old) }
         ensures succeeds { length self.old < usize.MAX → IsOk result }

@@ -50,7 +50,7 @@ pub fn rotate(jobs: &mut List<Job>)
     }
 }
 
-/// Takes the job with the least rank out, and of equals the first. A walk finds its spot, and the others stay.
+/// Takes the job with the least rank out, and of equals the first. The others stay.
 pub fn take_least(jobs: &mut StableList<Job>) -> Option<ListJob>
     requires { AreApart (spots jobs.old) }
     ensures least { MatchOption result ((jobs.old ≡ []) × (jobs.new ≡ []))
@@ -58,6 +58,7 @@ pub fn take_least(jobs: &mut StableList<Job>) -> Option<ListJob>
     ensures apart { AreApart (spots jobs.new) }
 {
     let mut cursor = jobs.cursor_front();
+    // the spot of the best job that the cursor has passed
     let mut best = cursor.spot()?;
     cursor.move_next();
     while let Some(at) = cursor.spot() {

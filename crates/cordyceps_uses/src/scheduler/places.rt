@@ -34,10 +34,11 @@ impl<L: Follow> Sleepers<L> {
 
     /// Puts a task to sleep, from the hands of a thread, until its pause is over.
     ///
-    /// It compares with the latest deadline first, and goes on towards the earliest, up to one that is not later.
-    ///
     /// # Errors
     /// The task comes back where `usize::MAX` tasks sleep.
+    ///
+    /// # Complexity
+    /// A comparison with each sleeper whose deadline is later, and with one more.
     pub fn sleep(&mut self, mine: &mut Holding<L>, task: Stopped<Work>) -> Result<(), Stopped<Work>>
         requires { one_of L.number L.rounds task.value.payload ≤ mine.old.share.amount }
         ensures slept { OnOk result
