@@ -1,5 +1,5 @@
 -- A walk from spot to spot that keeps the best node so far: the first of those with the least rank.
-use Rattle.std.proofs.Common.{◌≡◌, ℕ, ◌<◌, ◌≤◌, Bool, true, false, nat_lt, [], ◌∷◌, ◌++◌, Option, Some, None, MatchOption, refl, sym, ap, ◌∙◌, subst, append_assoc, arith}
+use Rattle.std.proofs.Common.{◌≡◌, ℕ, ◌<◌, ◌≤◌, Bool, true, false, nat_lt, [], ◌∷◌, ◌++◌, Option, Some, None, refl, sym, ap, ◌∙◌, subst, append_assoc, arith}
 use Rattle.std.proofs.lemmas.Bool.{le-ltb, lt-ltb}
 use Rattle.std.proofs.lemmas.List.Elements.{All-from_recursion}
 use Rattle.std.specs.List.{AllByRecursion}
@@ -7,7 +7,7 @@ use denote.RawPtr.{Ptr}
 use Rattle.cordyceps.specs.Elements.Element.{Element}
 use Rattle.cordyceps.specs.Elements.Nodes.{Nodes, spots}
 use Rattle.cordyceps.specs.Orders.Arrangement.{IsEarliestLeast}
-use Rattle.cordyceps.specs.Spots.BySpot.{HasSpot, HoldsAt, IsTaken, IsFirst, IsLast, AreNext}
+use Rattle.cordyceps.specs.Spots.BySpot.{HasSpot, HoldsAt, IsTaken, IsFirst}
 use Rattle.cordyceps.specs.Spots.Spots.{AreApart}
 use Rattle.cordyceps.specs.Spots.Walk.{IsOn}
 use Rattle.cordyceps.proofs.Spots.Classes.{all_append, all_weaker}

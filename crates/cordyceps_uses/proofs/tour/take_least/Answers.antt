@@ -1,4 +1,4 @@
-use Rattle.std.proofs.Common.{◌≡◌, ℕ, ◌<◌, [], Option, Some, MatchOption, sym, ◌∙◌, subst}
+use Rattle.std.proofs.Common.{◌≡◌, ℕ, ◌<◌, [], Option, MatchOption, sym, ◌∙◌, subst}
 use denote.RawPtr.{Ptr}
 use Rattle.cordyceps.specs.Spots.BySpot.{IsFirst}
 use Rattle.cordyceps.specs.Spots.Walk.{nodes_from}
