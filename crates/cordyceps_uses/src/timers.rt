@@ -77,7 +77,7 @@ impl<P: Drop> Timers<P> {
     /// The payload comes back where that memory is refused, or where `usize::MAX` timers run.
     ///
     /// # Complexity
-    /// A comparison with each timer whose deadline is later, and with one more.
+    /// O(k + 1), where k timers have a later deadline; O(1) where all have.
     pub fn start(&mut self, alloc: Global, deadline: u64, payload: P) -> Result<Spot, Refused<P>>
         ensures started { IfOk result (λ spot. self.new ≡ started spot (new_timer deadline payload) self.old) }
         ensures kept { OnErr result (self.new ≡ self.old) }

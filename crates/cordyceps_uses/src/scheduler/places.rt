@@ -38,7 +38,7 @@ impl<L: Follow> Sleepers<L> {
     /// The task comes back where `usize::MAX` tasks sleep.
     ///
     /// # Complexity
-    /// A comparison with each sleeper whose deadline is later, and with one more.
+    /// O(k + 1), where k sleepers have a later deadline; O(1) where all have.
     pub fn sleep(&mut self, mine: &mut Holding<L>, task: Stopped<Work>) -> Result<(), Stopped<Work>>
         requires { one_of L.number L.rounds task.value.payload ≤ mine.old.share.amount }
         ensures slept { OnOk result
