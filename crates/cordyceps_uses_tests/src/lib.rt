@@ -6,6 +6,8 @@ mod caches;
 #[cfg(test)]
 mod compared;
 #[cfg(test)]
+mod disks;
+#[cfg(test)]
 mod mailboxes;
 #[cfg(test)]
 mod pools;

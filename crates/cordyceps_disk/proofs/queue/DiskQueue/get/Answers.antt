@@ -1,0 +1,5 @@
+use Rattle.cordyceps_disk.proofs.Seeing.{seen_spot}
+use Rattle.cordyceps_disk.proofs.queue.DiskQueue.get.Goals as goal
+
+pub get-requires : goal.get-requires
+get-requires g c = seen_spot c.args.self.now c.self.inside.requests.nodes c.self.inside.tickets.nodes c.self.inside.head c.self.view_is c.args.at c.requires

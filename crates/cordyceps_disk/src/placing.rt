@@ -1,0 +1,160 @@
+//! Where the elevator goes on, and how a request and its ticket come in and go out together.
+ghost use Rattle.std.specs.Prelude.{ℕ, ◌≡◌, ◌<◌, ◌≤◌, length, if◌then◌else◌, Some, IfErr, IfOk, OnErr};
+ghost use denote.RawPtr.{Ptr};
+ghost use Rattle.cordyceps.specs.Elements.Element.{Element};
+ghost use Rattle.cordyceps.specs.Elements.Nodes.{Nodes, spots};
+ghost use Rattle.cordyceps.specs.Spots.BySpot.{HasSpot, IsTaken};
+ghost use Rattle.cordyceps.specs.Spots.Spots.{AreApart};
+ghost use Rattle.cordyceps_disk.specs.Pairs.{Paired, Rises, ahead_of, sector_of, waiting_of, due_of};
+ghost use Rattle.cordyceps_disk.specs.Queue.{IsOut, element, put_by};
+
+use crate::request::{ByDeadline, BySector, Request, Ticket, Waiting};
+use cordyceps::{Node, Refused, Spot, StableSortedList};
+use std::alloc::Global;
+
+/// The requests that wait, by sector.
+pub(crate) type Requests<P> = StableSortedList<Waiting<P>, BySector>;
+
+/// Their tickets, by deadline.
+pub(crate) type Tickets = StableSortedList<Ticket, ByDeadline>;
+
+/// Whether a request at a sector that comes in now is the next one at or above the head.
+pub(crate) fn leads<P: Drop>(
+    requests: &Requests<P>,
+    ahead: Option<Spot>,
+    head: u64,
+    sector: u64,
+) -> bool
+    requires apart { AreApart (spots requests.now.nodes) }
+    requires ahead { ahead ≡ ahead_of head requests.now.nodes }
+    ensures { (n : Ptr × Element (Waiting P))
+        → sector_of n ≡ sector
+        → ahead_of head (put_by sector_of n requests.now.nodes) ≡ (if result then Some n.0 else ahead) }
+{
+    if sector < head {
+        return false;
+    }
+    match ahead {
+        Some(first) => sector < requests.get(first).request.sector,
+        None => true,
+    }
+}
+
+/// The next one at or above the head, once the request at `at` has gone.
+pub(crate) fn left_ahead<P: Drop>(
+    requests: &Requests<P>,
+    ahead: Option<Spot>,
+    head: u64,
+    at: Spot,
+) -> Option<Spot>
+    requires there { HasSpot requests.now.nodes at }
+    requires apart { AreApart (spots requests.now.nodes) }
+    requires order { Rises sector_of requests.now.nodes }
+    requires ahead { ahead ≡ ahead_of head requests.now.nodes }
+    ensures { (e : Element (Waiting P)) (rest : Nodes (Waiting P))
+        → IsTaken requests.now.nodes at e rest
+        → result ≡ ahead_of head rest }
+{
+    if requests.get(at).request.sector < head {
+        return ahead;
+    }
+    if let Some(before) = requests.prev(at) {
+        if requests.get(before).request.sector >= head {
+            return ahead;
+        }
+    }
+    requests.next(at)
+}
+
+/// The first one at or above the sector of the request at `at`, once that has gone.
+///
+/// It walks back over the requests at the same sector.
+pub(crate) fn first_above<P: Drop>(requests: &Requests<P>, at: Spot) -> Option<Spot>
+    requires there { HasSpot requests.now.nodes at }
+    requires apart { AreApart (spots requests.now.nodes) }
+    requires order { Rises sector_of requests.now.nodes }
+    ensures { (e : Element (Waiting P)) (rest : Nodes (Waiting P))
+        → IsTaken requests.now.nodes at e rest
+        → result ≡ ahead_of e.value.request.sector rest }
+{
+    let sector = requests.get(at).request.sector;
+    let mut first = requests.next(at);
+    let mut place = at;
+    while let Some(before) = requests.prev(place) {
+        if requests.get(before).request.sector < sector {
+            break;
+        }
+        first = Some(before);
+        place = before;
+    }
+    first
+}
+
+/// Puts a request in and a ticket for it, and answers the spot of the request. Where memory is refused it gives the
+/// request back.
+pub(crate) fn link<P: Drop>(
+    requests: &mut Requests<P>,
+    tickets: &mut Tickets,
+    alloc: Global,
+    request: Request<P>,
+) -> Result<Spot, Refused<Request<P>>>
+    requires paired { Paired requests.old.nodes tickets.old.nodes }
+    requires fits { length requests.old.nodes < usize.MAX }
+    ensures put { IfOk result (λ spot. (e : Element (Waiting P)) × (e.value.request ≡ request)
+        × (requests.new.nodes ≡ put_by sector_of (spot, e) requests.old.nodes)) }
+    ensures due { IfOk result (λ spot.
+        due_of tickets.new.nodes ≡ put_by (λ d. d.0) (request.deadline, spot) (due_of tickets.old.nodes)) }
+    ensures paired { Paired requests.new.nodes tickets.new.nodes }
+    ensures requests_kept { OnErr result (requests.new.nodes ≡ requests.old.nodes) }
+    ensures tickets_kept { OnErr result (tickets.new.nodes ≡ tickets.old.nodes) }
+    ensures returned { IfErr result (λ e. e.value ≡ request) }
+{
+    let (sector, deadline) = (request.sector, request.deadline);
+    let ticket = Ticket {
+        deadline,
+        request: None,
+    };
+    let Ok(ticket) = Node::new(alloc, deadline, ticket) else {
+        return Err(Refused { value: request });
+    };
+    let ticket = tickets.insert(ticket);
+    match Node::new(alloc, sector, Waiting { request, ticket }) {
+        Ok(node) => {
+            let at = requests.insert(node);
+            tickets.update(
+                ticket,
+                |ticket: &mut Ticket| -> ()
+                    ensures deadline { ticket.new.deadline ≡ ticket.old.deadline }
+                    ensures request { ticket.new.request ≡ Some at }
+                {
+                    ticket.request = Some(at);
+                },
+            );
+            Ok(at)
+        }
+        Err(refused) => {
+            tickets.remove(ticket);
+            Err(Refused {
+                value: refused.value.request,
+            })
+        }
+    }
+}
+
+/// Takes a request out, and its ticket.
+pub(crate) fn unlink<P: Drop>(
+    requests: &mut Requests<P>,
+    tickets: &mut Tickets,
+    at: Spot,
+) -> Request<P>
+    requires there { HasSpot requests.old.nodes at }
+    requires paired { Paired requests.old.nodes tickets.old.nodes }
+    ensures taken { (e : Element (Waiting P)) × (e.value.request ≡ result)
+        × IsTaken requests.old.nodes at e requests.new.nodes }
+    ensures due { IsOut (due_of tickets.old.nodes) (result.deadline, at) (due_of tickets.new.nodes) }
+    ensures paired { Paired requests.new.nodes tickets.new.nodes }
+{
+    let Waiting { request, ticket } = requests.remove(at).into_value();
+    tickets.remove(ticket);
+    request
+}
