@@ -1,8 +1,10 @@
 -- What the steps and calls of a queue's core do to its machine, as the crates below define it.
 pub use Rattle.cordyceps_base.specs.Runs.{after}
 pub use Rattle.cordyceps_queue.specs.declared.cores.steps.QueueStep.{QueueStep}
-pub use Rattle.cordyceps_queue.specs.declared.cores.steps.QueueStep.TheVariants.{Clear, Swap, Link, Take, ReadNext, ReadHead, Give}
-pub use Rattle.cordyceps_queue.specs.declared.cores.steps.QueueAnswer.TheVariants.{Done, Taken, Busy, Out, Empty, Inconsistent}
+pub use Rattle.cordyceps_queue.specs.declared.cores.steps.QueueStep.TheVariants.{Clear, Swap, Link, Take, ReadNext}
+pub use Rattle.cordyceps_queue.specs.declared.cores.steps.QueueStep.TheVariants.{ReadHead, Give}
+pub use Rattle.cordyceps_queue.specs.declared.cores.steps.QueueAnswer.TheVariants.{Done, Taken, Busy, Out, Empty}
+pub use Rattle.cordyceps_queue.specs.declared.cores.steps.QueueAnswer.TheVariants.{Inconsistent}
 pub use Rattle.cordyceps_queue.specs.declared.cores.steps.TryDequeueError.{TryDequeueError}
 pub use Rattle.cordyceps_queue.specs.declared.cores.steps.TryDequeueError.TheVariants.{Empty as FindsEmpty, Inconsistent as FindsInconsistent, Busy as FindsBusy}
 pub use Rattle.cordyceps_queue.specs.Cores.Machine.{Machine, Answered, stepped, is_there, step_element, step_events}

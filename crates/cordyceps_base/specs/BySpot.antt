@@ -11,7 +11,8 @@ module _ {X : Type 0} where
 
   -- the value w lies at p
   abbrev pub HoldsAt : Nodes X → Ptr → X → Type 0
-  HoldsAt c p w = (before : Nodes X) × (id : ℕ) × (after : Nodes X) × (c ≡ before ++ (p, record { id = id; value = w }) ∷ after)
+  HoldsAt c p w =
+      (before : Nodes X) × (id : ℕ) × (after : Nodes X) × (c ≡ before ++ (p, record { id = id; value = w }) ∷ after)
 
   -- the node e at p was taken out of c, and d is left
   abbrev pub IsTaken : Nodes X → Ptr → Element X → Nodes X → Type 0
@@ -19,11 +20,15 @@ module _ {X : Type 0} where
 
   -- the node e was put in before that at p, and lies at q
   abbrev pub IsPutBefore : Nodes X → Ptr → Ptr → Element X → Nodes X → Type 0
-  IsPutBefore c p q e d = (before : Nodes X) × (o : Element X) × (after : Nodes X) × (c ≡ before ++ (p, o) ∷ after) × (d ≡ before ++ (q, e) ∷ (p, o) ∷ after)
+  IsPutBefore c p q e d =
+      (before : Nodes X) × (o : Element X) × (after : Nodes X) × (c ≡ before ++ (p, o) ∷ after)
+      × (d ≡ before ++ (q, e) ∷ (p, o) ∷ after)
 
   -- the node e was put in behind that at p, and lies at q
   abbrev pub IsPutAfter : Nodes X → Ptr → Ptr → Element X → Nodes X → Type 0
-  IsPutAfter c p q e d = (before : Nodes X) × (o : Element X) × (after : Nodes X) × (c ≡ before ++ (p, o) ∷ after) × (d ≡ before ++ (p, o) ∷ (q, e) ∷ after)
+  IsPutAfter c p q e d =
+      (before : Nodes X) × (o : Element X) × (after : Nodes X) × (c ≡ before ++ (p, o) ∷ after)
+      × (d ≡ before ++ (p, o) ∷ (q, e) ∷ after)
 
   -- the node at p comes first, and keeps its spot; the others keep their order
   abbrev pub IsMovedFront : Nodes X → Ptr → Nodes X → Type 0
@@ -43,4 +48,6 @@ module _ {X : Type 0} where
 
   -- the node at q is the next after that at p
   abbrev pub AreNext : Nodes X → Ptr → Ptr → Type 0
-  AreNext c p q = (before : Nodes X) × (e : Element X) × (o : Element X) × (after : Nodes X) × (c ≡ before ++ (p, e) ∷ (q, o) ∷ after)
+  AreNext c p q =
+      (before : Nodes X) × (e : Element X) × (o : Element X) × (after : Nodes X)
+      × (c ≡ before ++ (p, e) ∷ (q, o) ∷ after)

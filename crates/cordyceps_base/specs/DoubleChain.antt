@@ -18,6 +18,8 @@ module _ {X : Type 0} where
   Segment p h [] t q = (h ≡ q) × (t ≡ p)
   Segment p h (n ∷ ns) t q = (h ≡ n.0) × (prev_of n.2 ≡ p) × Segment n.0 (next_of n.2) ns t q
 
-  -- the nodes are linked both ways from head to tail, both ends lead to nothing, and each address may be compared with null
+  -- the nodes are linked both ways from head to tail, both ends lead to nothing, and each address may be compared with
+  -- null
   abbrev pub IsLinked : Ptr → Ptr → ℕ → List (OwnedNode X) → Type 0
-  IsLinked head tail len ns = (len ≡ length ns) × AreTestable (box_addresses ns) × Segment null_ptr head ns tail null_ptr
+  IsLinked head tail len ns =
+      (len ≡ length ns) × AreTestable (box_addresses ns) × Segment null_ptr head ns tail null_ptr

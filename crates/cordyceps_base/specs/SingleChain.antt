@@ -66,7 +66,8 @@ module _ {X : Type 0} where
 
   -- the nodes are linked, and at leads to the rest
   abbrev pub IsParted : Option Address → Ptr → Option Address → Ptr → List (OwnedNode X) → List (OwnedNode X) → Type 0
-  IsParted head before at tail front rest = IsFront head front at × EndsAt front before × IsLed at rest × EndsAt (front ++ rest) tail
+  IsParted head before at tail front rest =
+      IsFront head front at × EndsAt front before × IsLed at rest × EndsAt (front ++ rest) tail
 
   -- the values in the nodes
   abbrev pub values_in : List (OwnedNode X) → List X

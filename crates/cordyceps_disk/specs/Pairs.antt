@@ -52,5 +52,7 @@ module _ {P : Type 0} where
     pub apart : AreApart (spots c)
     pub tickets_apart : AreApart (spots t)
     pub length : length t ≡ length c
-    pub ticket : (q : Ptr) (e : Element (Waiting P)) → Lies c q e → (k : Element Ticket) × Lies t e.value.ticket k × (k.value ≡ ticket_for q e)
-    pub request : (u : Ptr) (k : Element Ticket) → Lies t u k → (q : Ptr) × (e : Element (Waiting P)) × Lies c q e × (e.value.ticket ≡ u) × (k.value ≡ ticket_for q e)
+    pub ticket : (q : Ptr) (e : Element (Waiting P)) → Lies c q e → (k : Element Ticket) × Lies t e.value.ticket k
+        × (k.value ≡ ticket_for q e)
+    pub request : (u : Ptr) (k : Element Ticket) → Lies t u k → (q : Ptr) × (e : Element (Waiting P)) × Lies c q e
+        × (e.value.ticket ≡ u) × (k.value ≡ ticket_for q e)

@@ -62,7 +62,8 @@ module _ {P : Type 0} where
     pub before : Nodes (Request P)
     pub after : Nodes (Request P)
     pub waiting : q.waiting ≡ before ++ (p, element r) ∷ after
-    pub turn : (Each before (λ w. w.sector < q.head) × (q.head ≤ r.sector)) ⊎ ((before ≡ []) × Each q.waiting (λ w. w.sector < q.head))
+    pub turn : (Each before (λ w. w.sector < q.head) × (q.head ≤ r.sector))
+        ⊎ ((before ≡ []) × Each q.waiting (λ w. w.sector < q.head))
     pub least : Each after (λ w. r.sector ≤ w.sector)
 
   -- the request r at p is the one to be served at a time

@@ -26,4 +26,5 @@ module _ {P : Type 0} where
   Ran (Submit r ∷ s) q served w = (p : Ptr) × Ran s (submitted p r q) served w
   Ran (Serve now ∷ s) q served w =
       ((q.waiting ≡ []) × Ran s q served w)
-      ⊎ ((p : Ptr) × (r : Request P) × (rest : List (Request P)) × (left : Queue P) × (served ≡ r ∷ rest) × IsNext now p r q × HasLeft p r q left × (left.head ≡ r.sector) × Ran s left rest w)
+      ⊎ ((p : Ptr) × (r : Request P) × (rest : List (Request P)) × (left : Queue P) × (served ≡ r ∷ rest)
+      × IsNext now p r q × HasLeft p r q left × (left.head ≡ r.sector) × Ran s left rest w)

@@ -30,4 +30,6 @@ module _ {X : Type 0} where
 module _ (κ : NamedLft) (R : RattleType) where
   -- once the loan ends, the value at place k is the last one written, and the cursor stands at j
   abbrev pub LendsAndStands : MutBor (CursorMut R.Denot) → ℕ → ℕ → Option (MutBor R.Denot) → Fml
-  LendsAndStands c k j r = LendsSo (the_row κ R) R c r (λ n w. OnSome r (Stands c.now n (with_value (elements c.now) k w) j)) (λ n. IfNone r (Stands c.now n (elements c.now) (place c.now)))
+  LendsAndStands c k j r =
+      LendsSo (the_row κ R) R c r (λ n w. OnSome r (Stands c.now n (with_value (elements c.now) k w) j)) (λ n.
+      IfNone r (Stands c.now n (elements c.now) (place c.now)))

@@ -21,13 +21,17 @@ module _ {X : Type 0} where
 
 -- a finger where so many nodes were put in at a place
 abbrev pub PutsIn : ℕ → ℕ → Finger → Finger → Type 0
-PutsIn k more old new = (old.index < k → new ≡ old) × (k ≤ old.index → new ≡ record { at = old.at; index = old.index + more })
+PutsIn k more old new =
+    (old.index < k → new ≡ old) × (k ≤ old.index → new ≡ record { at = old.at; index = old.index + more })
 
 -- a finger where the node at a place was taken out, and so many are left: where it was on that node it is on none
 abbrev pub TakesOut : ℕ → ℕ → Finger → Finger → Type 0
-TakesOut k len old new = (old.index < k → new ≡ old) × (old.index ≡ k → new.index ≡ len) × (k < old.index → new ≡ record { at = old.at; index = old.index - 1 })
+TakesOut k len old new =
+    (old.index < k → new ≡ old) × (old.index ≡ k → new.index ≡ len)
+    × (k < old.index → new ≡ record { at = old.at; index = old.index - 1 })
 
--- a finger where the chain changed behind the first nodes, and has so many now: if it was on none of those, it is on none
+-- a finger where the chain changed behind the first nodes, and has so many now: if it was on none of those, it is on
+-- none
 abbrev pub ChangesBehind : ℕ → ℕ → Finger → Finger → Type 0
 ChangesBehind kept len old new = (old.index < kept → new ≡ old) × (kept ≤ old.index → new.index ≡ len)
 

@@ -12,7 +12,9 @@ pub record Position (X : Type 0) : Type 0 where
 
 -- a call of a cursor's `next` at s answers r and leaves t
 abbrev pub GivesAndMoves : {X : Type 0} → Position X → Option (Bor X) → Position X → Type 0
-GivesAndMoves s r t = MatchOption r ((s.place ≡ length s.elements) × (t ≡ s)) (λ x. (slice_get (values s.elements) s.place ≡ Some x.now) × (t ≡ record s { place = s.place + 1 }))
+GivesAndMoves s r t =
+    MatchOption r ((s.place ≡ length s.elements) × (t ≡ s)) (λ x. (slice_get (values s.elements) s.place ≡ Some x.now)
+    × (t ≡ record s { place = s.place + 1 }))
 
 -- a cursor is at place at of the nodes, the length being the null place, and where there is a node it lies at p
 pub record StandsAt {X : Type 0} (c : Nodes X) (p : Address) (at : ℕ) : Type 0 where

@@ -14,7 +14,12 @@ module _ {A : Type 0} where
 
   -- and the last
   abbrev pub last_out : Parts A → Parts A
-  last_out p = record { firsts = p.firsts; left = take (length p.left - 1) p.left; lasts = drop (length p.left - 1) p.left ++ p.lasts }
+  last_out p =
+      record {
+        firsts = p.firsts;
+        left = take (length p.left - 1) p.left;
+        lasts = drop (length p.left - 1) p.left ++ p.lasts;
+      }
 
   -- the turns in order: `true` asks for the first of what is left, and `false` for the last
   abbrev pub parts_from : List Bool → Parts A → Parts A

@@ -1,5 +1,6 @@
 -- The history of a queue: what its parties, of any type of names P, did to it, the oldest event first.
-use Rattle.std.specs.Prelude.{◌≡◌, ℕ, suc, ◌+◌, ◌<◌, ◌≤◌, ◌≢◌, ◌⊎◌, List, [], ◌∷◌, ◌++◌, drop, length, Option, Some, None}
+use Rattle.std.specs.Prelude.{◌≡◌, ℕ, suc, ◌+◌, ◌<◌, ◌≤◌, ◌≢◌, ◌⊎◌, List, [], ◌∷◌, ◌++◌, drop, length, Option, Some}
+use Rattle.std.specs.Prelude.{None}
 
 pub data Event (P E : Type 0) : Type 0 where
   -- the party put its element behind all others, and later made the one before lead to it
@@ -92,9 +93,11 @@ module _ {P E : Type 0} (same : Discrete P) where
 
   pub record IsLegal (h : List (Event P E)) : Type 0 where
     -- in every beginning what went out is a beginning of what came in
-    pub in_order : (past later : List (Event P E)) → h ≡ past ++ later → (rest : List E) × (went past ++ rest ≡ came past)
+    pub in_order : (past later : List (Event P E)) → h ≡ past ++ later → (rest : List E)
+        × (went past ++ rest ≡ came past)
     -- in every beginning each party has as many links as swaps, or one fewer
-    pub links : (past later : List (Event P E)) → h ≡ past ++ later → (q : P) → (links_by q past ≡ swaps_by q past) ⊎ IsPending q past
+    pub links : (past later : List (Event P E)) → h ≡ past ++ later → (q : P) → (links_by q past ≡ swaps_by q past)
+        ⊎ IsPending q past
     -- each event may follow those before it
     pub turns : (past later : List (Event P E)) (x : Event P E) → h ≡ past ++ x ∷ later → MayFollow past x
 

@@ -15,10 +15,14 @@ LegalBothWays P E = (same : Discrete P) (h : List (Event P E)) → told.IsLegal 
 
 -- blocked by counts of events, or by the place of an open swap
 abbrev pub BlockedBothWays : (P E : Type 0) → Type 0
-BlockedBothWays P E = (same : Discrete P) (h : List (Event P E)) → told.IsLegal same h → told.IsBlocked same h ↔ past.IsBlocked (reverse h)
+BlockedBothWays P E =
+    (same : Discrete P) (h : List (Event P E)) → told.IsLegal same h →
+    told.IsBlocked same h ↔ past.IsBlocked (reverse h)
 
 abbrev pub WasBlockedBothWays : (P E : Type 0) → Type 0
-WasBlockedBothWays P E = (same : Discrete P) (h : List (Event P E)) (q : P) → told.IsLegal same h → told.WasBlocked same q h ↔ past.WasBlocked q (reverse h)
+WasBlockedBothWays P E =
+    (same : Discrete P) (h : List (Event P E)) (q : P) → told.IsLegal same h →
+    told.WasBlocked same q h ↔ past.WasBlocked q (reverse h)
 
 -- this element before the others, if it is so
 abbrev pub first_if : {A E : Type 0} → Dec A → E → List E → List E
@@ -44,8 +48,8 @@ module _ {P E : Type 0} (same : Discrete P) where
   put_in_by q (Swap p e ∷ h) = first_if (same q p) e (put_in_by q h)
   put_in_by q (_ ∷ h) = put_in_by q h
 
-  -- what came out was put in by these parties, and what is held by those: of each party, what came out, in the order in which
-  -- it did, and then what is held, is what that party put in, in its order
+  -- what came out was put in by these parties, and what is held by those: of each party, what came out, in the order in
+  -- which it did, and then what is held, is what that party put in, in its order
   pub record LeaveInOrder (h : List (Event P E)) : Type 0 where
     pub left : List (P × E)
     pub rest : List (P × E)
@@ -69,8 +73,8 @@ module _ {P E : Type 0} (same : Discrete P) where
   abbrev pub HasRight : P → List (Event P E) → Type 0
   HasRight q h = suc (frees_by q h) ≡ takes_by q h
 
-  -- who took the right once more than it gave it back is the holder, which is one party or none, and each other party gave it
-  -- back as often as it took it
+  -- who took the right once more than it gave it back is the holder, which is one party or none, and each other party
+  -- gave it back as often as it took it
   pub record OneHasRight (h : List (Event P E)) : Type 0 where
     pub counts : (q : P) → HasRight q h ⊎ (frees_by q h ≡ takes_by q h)
     pub holds : (q : P) → HasRight q h ↔ (holder h ≡ Some q)
@@ -79,11 +83,13 @@ module _ {P E : Type 0} (same : Discrete P) where
 -- in each beginning of a legal history
 abbrev pub ProducersInOrder : (P E : Type 0) → Type 0
 ProducersInOrder P E =
-    (same : Discrete P) (h past later : List (Event P E)) → told.IsLegal same h → h ≡ past ++ later → LeaveInOrder same past
+    (same : Discrete P) (h past later : List (Event P E)) → told.IsLegal same h → h ≡ past ++ later →
+    LeaveInOrder same past
 
 abbrev pub OneHolder : (P E : Type 0) → Type 0
 OneHolder P E =
-    (same : Discrete P) (h past later : List (Event P E)) → told.IsLegal same h → h ≡ past ++ later → OneHasRight same past
+    (same : Discrete P) (h past later : List (Event P E)) → told.IsLegal same h → h ≡ past ++ later →
+    OneHasRight same past
 
 -- just before the event by which the party found the right taken, another had it: its name is none of the party's
 pub record FoundTaken {E : Type 0} (u w : PartyOf E) : Type 0 where
@@ -96,14 +102,18 @@ pub record FoundTaken {E : Type 0} (u w : PartyOf E) : Type 0 where
 
 -- a party of which no name has the right, and which finds it taken
 abbrev pub BusyIsAnothers : Type 0 → Type 0
-BusyIsAnothers E = (u w : PartyOf E) → Legal (plain u.seen) → NoneHolds u.share (plain u.seen) → Adds u (Busy (name_of u) ∷ []) w → FoundTaken u w
+BusyIsAnothers E =
+    (u w : PartyOf E) → Legal (plain u.seen) → NoneHolds u.share (plain u.seen) → Adds u (Busy (name_of u) ∷ []) w →
+    FoundTaken u w
 
 -- a party of which no name is pending, and of which a try was blocked: it was so by a name that is none of the party's
 abbrev pub BlockedIsAnothers : Type 0 → Type 0
 BlockedIsAnothers E =
-    (u w : PartyOf E) → Legal (plain u.seen) → NonePending u.share (plain u.seen) → (d : Dequeues (Err error.Inconsistent) u w) → IsOf u.share d.2.blocked.by → ⊥
+    (u w : PartyOf E) → Legal (plain u.seen) → NonePending u.share (plain u.seen) →
+    (d : Dequeues (Err error.Inconsistent) u w) → IsOf u.share d.2.blocked.by → ⊥
 
 -- and the same of a consumer's try
 abbrev pub BlockedTryIsAnothers : Type 0 → Type 0
 BlockedTryIsAnothers E =
-    (u w : PartyOf E) → Legal (plain u.seen) → NonePending u.share (plain u.seen) → (d : Consumes (Err error.Inconsistent) u w) → IsOf u.share d.2.blocked.by → ⊥
+    (u w : PartyOf E) → Legal (plain u.seen) → NonePending u.share (plain u.seen) →
+    (d : Consumes (Err error.Inconsistent) u w) → IsOf u.share d.2.blocked.by → ⊥

@@ -4,8 +4,8 @@ use Rattle.cordyceps_shared.specs.Histories.{own}
 use Rattle.cordyceps_shared.specs.Standings.{Standing}
 
 module _ {X : Type 0} where
-  -- the party has seen more, with exactly these events of its own. Collection and share are the same. Other than `Adds` it says
-  -- nothing of what is legal, so it holds of a party that did nothing
+  -- the party has seen more, with exactly these events of its own. Collection and share are the same. Other than `Adds`
+  -- it says nothing of what is legal, so it holds of a party that did nothing
   pub record Acts (u : Standing X) (es : List X) (w : Standing X) : Type 0 where
     pub rest : List (Bool × X)
     pub is : w.seen ≡ u.seen ++ rest
@@ -15,8 +15,8 @@ module _ {X : Type 0} where
 
 -- puts and takes: what an event put in, and what it took out
 module _ {X A : Type 0} (puts takes : X → List A) where
-  -- from u to w the party put in the first list and took out the second, each in this order; what goes in takes a room, and what
-  -- comes out gives one
+  -- from u to w the party put in the first list and took out the second, each in this order; what goes in takes a room,
+  -- and what comes out gives one
   pub record Moves (sent got : List A) (u w : Standing X) : Type 0 where
     pub events : List X
     pub acts : Acts u events w

@@ -34,8 +34,8 @@ module _ {X : Type 0} where
   Under actor n [] = Unit {0}
   Under actor n (x ∷ xs) = (actor x ≡ n) × Under actor n xs
 
-  -- what it has seen is a beginning of the history, with all events of its own and all that carry names of its share; and so
-  -- is what it was told, and no event is marked both there and in what it had seen itself
+  -- what it has seen is a beginning of the history, with all events of its own and all that carry names of its share;
+  -- and so is what it was told, and no event is marked both there and in what it had seen itself
   pub record Agrees (actor : X → Name) (history : List (ℕ × X)) (j : ℕ) (k : Known X) : Type 0 where
     pub before : List (ℕ × X)
     pub later : List (ℕ × X)
@@ -63,8 +63,8 @@ module _ {X : Type 0} where
   abbrev pub AllAgree : {V : Type 0} → (X → Name) → (V → Known X) → List V → List (ℕ × X) → Type 0
   AllAgree actor knows views history = (j : ℕ) (v : _) → get_elem? views j ≡ some v → Agrees actor history j (knows v)
 
-  -- the party has seen more, in which its own events are these, and others' carry no name of its share; it is legal; the
-  -- share is the same; and a whole party saw no event of another
+  -- the party has seen more, in which its own events are these, and others' carry no name of its share; it is legal;
+  -- the share is the same; and a whole party saw no event of another
   pub record Grown (actor : X → Name) (Legal : List X → Type 0) (v : Known X) (es : List X) (w : Known X) : Type 0 where
     pub rest : List (Bool × X)
     pub is : w.seen ≡ v.seen ++ rest
@@ -95,7 +95,8 @@ module _ {X : Type 0} where
 
   -- what a party knows that took another in, and what is left of the other
   abbrev pub known_absorbing : Known X → Known X → Known X
-  known_absorbing k l = record { seen = merged k.seen l.seen; had = k.seen; told = l.seen; share = joined k.share l.share }
+  known_absorbing k l =
+      record { seen = merged k.seen l.seen; had = k.seen; told = l.seen; share = joined k.share l.share }
 
   abbrev pub known_absorbed : Known X
   known_absorbed = record { seen = []; had = []; told = []; share = [] }
@@ -104,8 +105,8 @@ module _ {X : Type 0} where
   abbrev pub Begins : List X → List X → Type 0
   Begins xs ys = (rest : List X) × (ys ≡ xs ++ rest)
 
-  -- what a party knows: a legal history that begins with what it was told, no event that it and the party it absorbed both
-  -- had marked, and of a whole party no event of another
+  -- what a party knows: a legal history that begins with what it was told, no event that it and the party it absorbed
+  -- both had marked, and of a whole party no event of another
   pub record IsKnown (Legal : List X → Type 0) (k : Known X) : Type 0 where
     pub legal : Legal (plain k.seen)
     pub told : Begins (plain k.told) (plain k.seen)

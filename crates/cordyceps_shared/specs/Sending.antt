@@ -11,12 +11,13 @@ module _ {A : Type 0} where
   how_many [] = 0
   how_many (xs ∷ lists) = length xs + how_many lists
 
-  -- each item that comes in is the next one of some sender, and in the end none has an item left: so those of each come in its
-  -- order, none is lost, and none comes twice
+  -- each item that comes in is the next one of some sender, and in the end none has an item left: so those of each come
+  -- in its order, none is lost, and none comes twice
   abbrev pub Delivers : List (List A) → List A → Type 0
   Delivers lists [] = how_many lists ≡ 0
   Delivers lists (x ∷ all) =
-      (before : List (List A)) × (left : List A) × (after : List (List A)) × (lists ≡ before ++ (x ∷ left) ∷ after) × Delivers (before ++ left ∷ after) all
+      (before : List (List A)) × (left : List A) × (after : List (List A)) × (lists ≡ before ++ (x ∷ left) ∷ after)
+      × Delivers (before ++ left ∷ after) all
 
 -- a party as it is after it gave up n rooms, and the one that has them
 abbrev pub Splits : {X : Type 0} → ℕ → Standing X → Standing X → Standing X → Type 0

@@ -5,8 +5,8 @@ use Rattle.cordyceps_shared.specs.Histories.{plain, AllOwn, Apart}
 use Rattle.cordyceps_shared.specs.Knowing.{Known, Grown, unmarked, merged, Begins}
 use Rattle.cordyceps_shared.specs.Shares.{Name, whole, first_name, keeps_half, gives_half, joined, NamesApart, IsShare}
 
--- which collection the party is of; the history that it has seen, with a mark at its own events; its share; and how many
--- rooms it has
+-- which collection the party is of; the history that it has seen, with a mark at its own events; its share; and how
+-- many rooms it has
 pub record Standing (X : Type 0) : Type 0 where
   pub table : TableId
   pub seen : List (Bool × X)
@@ -25,8 +25,8 @@ module _ {X : Type 0} where
   abbrev pub new_party : TableId → ℕ → Standing X
   new_party table rooms = record { table = table; seen = []; share = whole; rooms = rooms }
 
-  -- the party has seen more, with exactly these events of its own; those of others carry no name of its share, and a whole
-  -- party saw none. What it has seen is legal. Collection and share are the same
+  -- the party has seen more, with exactly these events of its own; those of others carry no name of its share, and a
+  -- whole party saw none. What it has seen is legal. Collection and share are the same
   abbrev pub Adds : (actor : X → Name) (Legal : List X → Type 0) → Standing X → List X → Standing X → Type 0
   Adds actor Legal u es w = Grown actor Legal (known_of u) es (known_of w) × (w.table ≡ u.table)
 
@@ -37,14 +37,16 @@ module _ {X : Type 0} where
   abbrev pub giving : ℕ → Standing X → Standing X
   giving n u = record { table = u.table; seen = unmarked u.seen; share = gives_half u.share; rooms = n }
 
-  -- what every party knows: what it has seen is legal, a whole party has seen no event of another, and its names are a share
+  -- what every party knows: what it has seen is legal, a whole party has seen no event of another, and its names are a
+  -- share
   pub record Knows (Legal : List X → Type 0) (u : Standing X) : Type 0 where
     pub legal : Legal (plain u.seen)
     pub alone : u.share ≡ whole → AllOwn u.seen
     pub share : IsShare u.share
 
-  -- the party u became w when it took in the party o. It has seen the longer of what the two had seen, which the shorter
-  -- begins; no event is marked by both, and the own events are those of both; their shares had no name in common
+  -- the party u became w when it took in the party o. It has seen the longer of what the two had seen, which the
+  -- shorter begins; no event is marked by both, and the own events are those of both; their shares had no name in
+  -- common
   pub record Absorbs (Legal : List X → Type 0) (u o w : Standing X) : Type 0 where
     pub table : w.table ≡ u.table
     pub seen : w.seen ≡ merged u.seen o.seen

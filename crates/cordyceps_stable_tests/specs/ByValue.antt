@@ -6,4 +6,8 @@ use Rattle.cordyceps_single.specs.Preorder.{IsPreorder}
 use Rattle.cordyceps_testing.specs.declared.counted.Counted.{Counted}
 
 pub by_value_lawful : IsPreorder (λ (x y : Counted). nat_cmp x.value y.value)
-by_value_lawful = record { turns = λ x y. nat_cmp_total.antisymm x.value y.value; trans = λ x y z. upto nat_cmp_total x.value y.value z.value }
+by_value_lawful =
+    record {
+      turns = λ x y. nat_cmp_total.antisymm x.value y.value;
+      trans = λ x y z. upto nat_cmp_total x.value y.value z.value;
+    }

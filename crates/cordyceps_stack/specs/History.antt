@@ -32,7 +32,9 @@ module _ {P E : Type 0} where
 
   -- at each taking the batch is the reverse of what is held before it
   abbrev pub Legal : List (Event P E) → Type 0
-  Legal h = (before after : List (Event P E)) (p : P) (batch : List E) → h ≡ before ++ Taken p batch ∷ after → batch ≡ reverse (held before)
+  Legal h =
+      (before after : List (Event P E)) (p : P) (batch : List E) → h ≡ before ++ Taken p batch ∷ after →
+      batch ≡ reverse (held before)
 
   -- the elements pushed
   abbrev pub pushes : List (Event P E) → List E

@@ -1,5 +1,6 @@
 -- What the lines of a cursor block do.
-use Rattle.std.specs.Prelude.{◌≡◌, ℕ, ◌+◌, ◌-◌, ◌<◌, true, not, ◌&&◌, List, [], ◌∷◌, ◌++◌, length, take, drop, Option, Some, None, slice_get, slice_set, if◌then◌else◌, nat_eq, nat_lt, nat_le}
+use Rattle.std.specs.Prelude.{◌≡◌, ℕ, ◌+◌, ◌-◌, ◌<◌, true, not, ◌&&◌, List, [], ◌∷◌, ◌++◌, length, take, drop, Option}
+use Rattle.std.specs.Prelude.{Some, None, slice_get, slice_set, if◌then◌else◌, nat_eq, nat_lt, nat_le}
 use Rattle.cordyceps_base.specs.Element.{Element, Elements, values, with_value}
 use Rattle.cordyceps_base.specs.Runs.{after, replies_to}
 use Rattle.cordyceps_list.specs.declared.cursor_mut.CursorMut.{CursorMut}
@@ -12,7 +13,8 @@ use Rattle.cordyceps_commands.specs.declared.list_command.ListEnd.TheVariants as
 use Rattle.cordyceps_commands.specs.declared.list_command.CursorCommand.{CursorCommand}
 use Rattle.cordyceps_commands.specs.declared.list_command.CursorCommand.TheVariants as lines
 use Rattle.cordyceps_commands.specs.declared.reply.Reply.{Reply}
-use Rattle.cordyceps_commands.specs.Replies.{Line, lines_of, block_begins, done, nothing, len, not_there, found_or_nothing, index_or_nothing}
+use Rattle.cordyceps_commands.specs.Replies.{Line, lines_of, block_begins, done, nothing, len, not_there}
+use Rattle.cordyceps_commands.specs.Replies.{found_or_nothing, index_or_nothing}
 use Rattle.cordyceps_tables.specs.Tables.{Table, element_of, held_at}
 use Rattle.cordyceps_tables.specs.Filters.{passing, all_but}
 
@@ -36,7 +38,8 @@ removed s at = ((all_but s at, at), found_or_nothing (slice_get (values s) at))
 
 -- more elements behind the cursor's, at the null place first
 abbrev pub put_behind : Elements Item → ℕ → Elements Item → Spot
-put_behind s k more = if nat_lt k (length s) then (take (k + 1) s ++ more ++ drop (k + 1) s, k) else (more ++ s, k + length more)
+put_behind s k more =
+    if nat_lt k (length s) then (take (k + 1) s ++ more ++ drop (k + 1) s, k) else (more ++ s, k + length more)
 
 -- more elements before the cursor's, at the null place last
 abbrev pub put_before : Elements Item → ℕ → Elements Item → Spot
@@ -62,8 +65,10 @@ line_on s k lines.PeekPrev = ((s, k), found_or_nothing (slice_get (values s) (pr
 line_on s k lines.Index = ((s, k), index_or_nothing (index_at (length s) k))
 line_on s k lines.Len = ((s, k), len (length s))
 line_on s k (lines.Set value) = rewritten s k k (slice_get (values s) k) value
-line_on s k (lines.SetNext value) = rewritten s k (next_place (length s) k) (slice_get (values s) (next_place (length s) k)) value
-line_on s k (lines.SetPrev value) = rewritten s k (prev_place (length s) k) (slice_get (values s) (prev_place (length s) k)) value
+line_on s k (lines.SetNext value) =
+    rewritten s k (next_place (length s) k) (slice_get (values s) (next_place (length s) k)) value
+line_on s k (lines.SetPrev value) =
+    rewritten s k (prev_place (length s) k) (slice_get (values s) (prev_place (length s) k)) value
 line_on s k lines.Next = ((s, if nat_lt k (length s) then k + 1 else k), found_or_nothing (slice_get (values s) k))
 line_on s k lines.RemoveCurrent = removed s k
 line_on s k (lines.RemoveFirst filter) = removed s (passing filter true s k)
@@ -111,9 +116,12 @@ splice_from (table, k) list other joined =
 abbrev pub line_step : ℕ → State → CursorCommand → State × Line
 line_step list (table, k) (lines.SplitAfter other) = split_to (table, k) list other (cut_behind (held_at table list) k)
 line_step list (table, k) (lines.SplitBefore other) = split_to (table, k) list other (cut_before (held_at table list) k)
-line_step list (table, k) (lines.SpliceAfter other) = splice_from (table, k) list other (put_behind (held_at table list) k (held_at table other))
-line_step list (table, k) (lines.SpliceBefore other) = splice_from (table, k) list other (put_before (held_at table list) k (held_at table other))
-line_step list (table, k) line = let on = line_on (held_at table list) k line in ((slice_set table list on.0.0, on.0.1), on.1)
+line_step list (table, k) (lines.SpliceAfter other) =
+    splice_from (table, k) list other (put_behind (held_at table list) k (held_at table other))
+line_step list (table, k) (lines.SpliceBefore other) =
+    splice_from (table, k) list other (put_before (held_at table list) k (held_at table other))
+line_step list (table, k) line =
+    let on = line_on (held_at table list) k line in ((slice_set table list on.0.0, on.0.1), on.1)
 
 -- the table after lines on a cursor that begins at an end of a list, and the replies to them behind earlier ones
 abbrev pub blocked : Table → ℕ → ListEnd → List CursorCommand → List Line → Table × List Line
@@ -130,7 +138,8 @@ abbrev pub state_of : Table → ℕ → CursorMut Item → State
 state_of table list cursor = (slice_set table list (elements cursor), place cursor)
 
 -- a table and a cursor on the list with a number went on by a line, and this is the reply
-pub record LineRuns (list : ℕ) (table new_table : Table) (old new : CursorMut Item) (line : CursorCommand) (reply : Reply) : Type 0 where
+pub record LineRuns (list : ℕ) (table new_table : Table) (old new : CursorMut Item) (line : CursorCommand)
+    (reply : Reply) : Type 0 where
   pub same_reference : lender new ≡ lender old
   pub state_is : state_of new_table list new ≡ (line_step list (state_of table list old) line).0
   pub told : lines_of reply ≡ (line_step list (state_of table list old) line).1 ∷ []

@@ -1,5 +1,6 @@
 -- The removal of items that pass a filter.
-use Rattle.std.specs.Prelude.{ℕ, zero, suc, ◌+◌, ◌%◌, ◌==◌, Bool, true, not, List, [], ◌∷◌, ◌++◌, take, drop, slice_get, if◌then◌else◌}
+use Rattle.std.specs.Prelude.{ℕ, zero, suc, ◌+◌, ◌%◌, ◌==◌, Bool, true, not, List, [], ◌∷◌, ◌++◌, take, drop, slice_get}
+use Rattle.std.specs.Prelude.{if◌then◌else◌}
 use Rattle.std.specs.Option.{option_map_or}
 use Rattle.cordyceps_base.specs.Element.{Elements, values}
 use Rattle.cordyceps_commands.specs.declared.item.Item.{Item}
@@ -20,7 +21,8 @@ skipped filter turn (item ∷ items) = if passes filter turn item then 0 else sk
 -- the turn behind that item
 abbrev pub turn_behind : Filter → Bool → List Item → Bool
 turn_behind filter turn [] = turn
-turn_behind filter turn (item ∷ items) = if passes filter turn item then not turn else turn_behind filter (not turn) items
+turn_behind filter turn (item ∷ items) =
+    if passes filter turn item then not turn else turn_behind filter (not turn) items
 
 -- the place of the first element, from a place on, that passes, or the length
 abbrev pub passing : Filter → Bool → Elements Item → ℕ → ℕ

@@ -1,5 +1,6 @@
 -- What commands do to a table of lists.
-use Rattle.std.specs.Prelude.{ℕ, ◌+◌, ◌<◌, ◌-◌, true, not, ◌&&◌, List, [], ◌∷◌, ◌++◌, length, map, take, drop, Option, Some, None, option_map, slice_get, slice_set, if◌then◌else◌, nat_eq, nat_lt, nat_le}
+use Rattle.std.specs.Prelude.{ℕ, ◌+◌, ◌<◌, ◌-◌, true, not, ◌&&◌, List, [], ◌∷◌, ◌++◌, length, map, take, drop, Option}
+use Rattle.std.specs.Prelude.{Some, None, option_map, slice_get, slice_set, if◌then◌else◌, nat_eq, nat_lt, nat_le}
 use Rattle.cordyceps_base.specs.Element.{Elements, values, with_value, found, without}
 pub use Rattle.cordyceps_commands.specs.ListCommands.{list_of, OthersFit, Fits}
 use Rattle.cordyceps_commands.specs.declared.item.Item.{Item}
@@ -24,7 +25,8 @@ written s k (Some item) value = (with_value s k (record item { value = value }),
 abbrev pub shown : List Item × Elements Item → Elements Item × List Line
 shown split = (split.1, show (map Some split.0) ∷ [])
 
--- The elements of a list after a command on it alone, and the replies to the command's lines. The other commands are not run so.
+-- The elements of a list after a command on it alone, and the replies to the command's lines. The other commands are
+-- not run so.
 abbrev pub step_on : Elements Item → ListCommand → Elements Item × List Line
 step_on s (commands.PushFront list item) = pushed s (element_of item ∷ s)
 step_on s (commands.PushBack list item) = pushed s (s ++ element_of item ∷ [])
@@ -54,13 +56,17 @@ appended table list other =
 abbrev pub halved : Table → ℕ → ℕ → ℕ → Table × List Line
 halved table list at other =
     if nat_le at (length (held_at table list))
-    then (slice_set (slice_set table list (take at (held_at table list))) other (drop at (held_at table list)), done ∷ [])
+    then (
+      slice_set (slice_set table list (take at (held_at table list))) other (drop at (held_at table list)),
+      done ∷ [],
+    )
     else (table, nothing ∷ [])
 
 -- the same, where these are two lists and the second is empty
 abbrev pub split : Table → ℕ → ℕ → ℕ → Table × List Line
 split table list at other =
-    if not (nat_eq list other) && nat_eq (length (held_at table other)) 0 then halved table list at other else (table, not_there ∷ [])
+    if not (nat_eq list other) && nat_eq (length (held_at table other)) 0 then halved table list at other else
+    (table, not_there ∷ [])
 
 -- the table after a command, and the replies to the command's lines
 abbrev pub step : Table → ListCommand → Table × List Line

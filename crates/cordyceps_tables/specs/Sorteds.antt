@@ -1,5 +1,6 @@
 -- What commands do to a table of sorted lists.
-use Rattle.std.specs.Prelude.{ℕ, ◌<◌, List, [], ◌∷◌, length, drop, map, Option, Some, None, slice_get, reverse, if◌then◌else◌, nat_eq, nat_lt}
+use Rattle.std.specs.Prelude.{ℕ, ◌<◌, List, [], ◌∷◌, length, drop, map, Option, Some, None, slice_get, reverse}
+use Rattle.std.specs.Prelude.{if◌then◌else◌, nat_eq, nat_lt}
 use Rattle.std.specs.declared.cmp.Ordering.{Ordering}
 use Rattle.std.specs.List.Sorted.{IsSortedBy}
 use Rattle.cordyceps_base.specs.Element.{Elements, values}
@@ -13,10 +14,11 @@ use Rattle.cordyceps_tables.specs.Tables.{Table, element_of, held_at, on}
 
 -- the items of a stack on which they were pushed in this order, the last pushed first, put into an empty list
 abbrev pub filled : (Item → Item → Ordering) → List Item → Elements Item → Elements Item × List Line
-filled cmp items s = if nat_eq (length s) 0 then (put_all cmp [] (map element_of (reverse items)), done ∷ []) else (s, not_there ∷ [])
+filled cmp items s =
+    if nat_eq (length s) 0 then (put_all cmp [] (map element_of (reverse items)), done ∷ []) else (s, not_there ∷ [])
 
--- The order of the list with this number: that of items in the first six, the same the other way round in the next five,
--- and the caller's in the others.
+-- The order of the list with this number: that of items in the first six, the same the other way round in the next
+-- five, and the caller's in the others.
 abbrev pub order_of : (own cmp : Item → Item → Ordering) → ℕ → Item → Item → Ordering
 order_of own cmp n = if nat_lt n 6 then own else if nat_lt n 11 then (λ x y. own y x) else cmp
 

@@ -10,14 +10,15 @@ use Rattle.cordyceps_shared.specs.Standings.{new_party, keeping, giving, Knows, 
 use Rattle.cordyceps_stack.specs.History.{Event, Load, Push, Taken, Legal, held, pushes, taken}
 use Rattle.cordyceps_stack.specs.Shared.Calls.{PartyOf, Adds}
 use Rattle.freelist.specs.Blocks.{LocalOf}
-use Rattle.freelist.specs.Whereabouts.{Whereabouts, Call, Run, behind, command_of, attempts, fetches, Story, at_start, at_end, all_gained, all_lost}
+use Rattle.freelist.specs.Whereabouts.{Whereabouts, Call, Run, behind, command_of, attempts, fetches, Story, at_start}
+use Rattle.freelist.specs.Whereabouts.{at_end, all_gained, all_lost}
 use Rattle.freelist.specs.declared.laws.Command.{Command}
 use Rattle.freelist.specs.declared.laws.Command.TheVariants as kinds
 use Rattle.freelist.specs.declared.laws.Turn.{Turn}
 use Rattle.freelist.specs.declared.laws.Turn.TheVariants as turns
 
--- what a contract sees of a user: its free list's table, the blocks that are with it, the last come by first, its local part,
--- if it has one, the party that puts blocks back remotely, and a spare one, if there is one
+-- what a contract sees of a user: its free list's table, the blocks that are with it, the last come by first, its local
+-- part, if it has one, the party that puts blocks back remotely, and a spare one, if there is one
 pub record UserOf (T H : Type 0) : Type 0 where
   pub table : TableId
   pub hand : List (Element T)
@@ -97,8 +98,8 @@ module _ {H : Type 0} where
   abbrev pub Acts : PartyOf H → List (Event Name H) → PartyOf H → Type 0
   Acts p es q = ((es ≡ []) × (q ≡ p)) ⊎ Adds p es q
 
--- these are the shares into which splits made that of this name alone: of the party that puts back remotely, of that of the
--- local part, and of the spare one
+-- these are the shares into which splits made that of this name alone: of the party that puts back remotely, of that of
+-- the local part, and of the spare one
 abbrev pub Divides : Name → List Name → Option (List Name) → Option (List Name) → Type 0
 Divides n p None None = p ≡ n ∷ []
 Divides n p (Some l) None = (p ≡ keeps_half (n ∷ [])) × (l ≡ gives_half (n ∷ []))
@@ -138,7 +139,15 @@ module _ {T H : Type 0} (element : H → Element T) where
   -- the whereabouts of a user's blocks after its parties made these events
   abbrev pub whereabouts_after : UserOf T H → List (Event Name H) → Whereabouts (Element T)
   whereabouts_after u es =
-      record { with_user = u.hand; local = local_blocks u.local; put_back = map element (pushes es); fetched = map element (taken es); rooms = u.party.rooms; local_rooms = rooms_of (local_party u.local); spare_rooms = rooms_of u.spare }
+      record {
+        with_user = u.hand;
+        local = local_blocks u.local;
+        put_back = map element (pushes es);
+        fetched = map element (taken es);
+        rooms = u.party.rooms;
+        local_rooms = rooms_of (local_party u.local);
+        spare_rooms = rooms_of u.spare;
+      }
 
   -- a user carried out these commands, by one call each, and did nothing else
   pub record CarriesOut (ks : List Command) (u w : UserOf T H) : Type 0 where
@@ -173,8 +182,8 @@ module _ {T H : Type 0} (element : H → Element T) where
   abbrev pub stories : List Life → List (Story (Element T))
   stories lives = map (λ l. l.story) lives
 
-  -- whatever f gives: its sum over all blocks that these users have at the end, over what is shared, and over what they let go
-  -- of, is that over what they had at the start and came by
+  -- whatever f gives: its sum over all blocks that these users have at the end, over what is shared, and over what they
+  -- let go of, is that over what they had at the start and came by
   abbrev pub EachOnce : List Life → List (Element T) → Type 0
   EachOnce lives shared =
       (f : Element T → ℕ) →
@@ -184,7 +193,8 @@ module _ {T H : Type 0} (element : H → Element T) where
 -- these parties were absorbed, one into another, until this one was left
 pub data Met {H : Type 0} : List (PartyOf H) → PartyOf H → Type 0 where
   one : (p : PartyOf H) → Met (p ∷ []) p
-  absorbed : (ps qs : List (PartyOf H)) (u o w : PartyOf H) → Met ps u → Met qs o → Absorbs (λ h. Legal h) u o w → Met (ps ++ qs) w
+  absorbed : (ps qs : List (PartyOf H)) (u o w : PartyOf H) → Met ps u → Met qs o → Absorbs (λ h. Legal h) u o w →
+      Met (ps ++ qs) w
 
 -- the commands of the first of two users who take turns, and those of the second
 abbrev pub firsts : List Turn → List Command
@@ -202,15 +212,17 @@ module _ {T H : Type 0} (element : H → Element T) where
   abbrev pub BothCarryOut : List Turn → UserOf T H → UserOf T H → UserOf T H → UserOf T H → Type 0
   BothCarryOut ts u u2 v v2 = CarriesOut element (firsts ts) u u2 × CarriesOut element (seconds ts) v v2
 
-  -- two users of a new list, each with so many of its rooms, took turns, and then ended with these blocks, and with a party
-  -- each; one absorbed the other, and gave what was shared
+  -- two users of a new list, each with so many of its rooms, took turns, and then ended with these blocks, and with a
+  -- party each; one absorbed the other, and gave what was shared
   pub record BothRun (ts : List Turn) (rooms : ℕ) (mine yours mine2 yours2 shared : List (Element T)) : Type 0 where
     pub table : TableId
     pub first : PartyOf H
     pub second : PartyOf H
     pub last : PartyOf H
-    pub first_carries : CarriesOut element (firsts ts ++ closing) (alone table mine (keeping rooms (new_party table (2 * rooms)))) (alone table mine2 first)
-    pub second_carries : CarriesOut element (seconds ts ++ closing) (alone table yours (giving rooms (new_party table (2 * rooms)))) (alone table yours2 second)
+    pub first_carries : CarriesOut element (firsts ts
+        ++ closing) (alone table mine (keeping rooms (new_party table (2 * rooms)))) (alone table mine2 first)
+    pub second_carries : CarriesOut element (seconds ts
+        ++ closing) (alone table yours (giving rooms (new_party table (2 * rooms)))) (alone table yours2 second)
     pub met : Absorbs (λ h. Legal h) first second last
     pub ends_whole : last.share ≡ whole
     pub shared_is : shared ≡ map element (reverse (held (plain last.seen)))

@@ -1,13 +1,14 @@
 -- Where the blocks of a free list are, and what calls do to that: of one user, over a list of calls, and of all users.
-use Rattle.std.specs.Prelude.{◌≡◌, ◌≢◌, ℕ, suc, ◌+◌, ◌-◌, ◌<◌, ◌≤◌, List, [], ◌∷◌, ◌++◌, length, reverse, Option, Some, None, IsSome, ◌⊎◌}
+use Rattle.std.specs.Prelude.{◌≡◌, ◌≢◌, ℕ, suc, ◌+◌, ◌-◌, ◌<◌, ◌≤◌, List, [], ◌∷◌, ◌++◌, length, reverse, Option, Some}
+use Rattle.std.specs.Prelude.{None, IsSome, ◌⊎◌}
 use Rattle.cordyceps_shared.specs.Counts.{tally}
 use Rattle.cordyceps_stack.specs.History.{Event, Legal, held, pushes, taken}
 use Rattle.freelist.specs.declared.laws.Command.{Command}
 use Rattle.freelist.specs.declared.laws.Command.TheVariants as kinds
 
--- where the blocks are that came by a user: they are with it, or in its local part, the last put back first; or it put them
--- back remotely. Which ones it took of what is shared, the oldest first. And how many rooms its parties have: the one that
--- puts back remotely, that of its local part, if it has one, and a spare one, if there is one
+-- where the blocks are that came by a user: they are with it, or in its local part, the last put back first; or it put
+-- them back remotely. Which ones it took of what is shared, the oldest first. And how many rooms its parties have: the
+-- one that puts back remotely, that of its local part, if it has one, and a spare one, if there is one
 pub record Whereabouts (B : Type 0) : Type 0 where
   pub with_user : List B
   pub local : List B
@@ -21,7 +22,8 @@ pub record Whereabouts (B : Type 0) : Type 0 where
 pub data Call (B : Type 0) : Type 0 where
   -- `get`, which answered the first local block
   Gets : B → Call B
-  -- `get`, which found no local block, took this batch of what is shared, the newest first, and answered its first block
+  -- `get`, which found no local block, took this batch of what is shared, the newest first, and answered its first
+  -- block
   Fetches : List B → Option B → Call B
   -- `put`
   Puts : B → Call B
@@ -77,7 +79,12 @@ module _ {B : Type 0} where
       × (s.local ≡ [])
       × (batch ≡ behind first t.local)
       × (first ≡ None → t.local ≡ [])
-      × (t ≡ record s { with_user = behind first s.with_user; local = t.local; local_rooms = Some (n + length batch); fetched = s.fetched ++ reverse batch })
+      × (t ≡ record s {
+        with_user = behind first s.with_user;
+        local = t.local;
+        local_rooms = Some (n + length batch);
+        fetched = s.fetched ++ reverse batch;
+      })
   Does (Puts b) s t =
       IsSome s.local_rooms
       × Without b s.with_user t.with_user
@@ -96,7 +103,12 @@ module _ {B : Type 0} where
       (n : ℕ)
       × (s.local_rooms ≡ Some n)
       × (s.spare_rooms ≡ None)
-      × (t ≡ record s { with_user = reverse s.local ++ s.with_user; local = []; local_rooms = None; spare_rooms = Some n })
+      × (t ≡ record s {
+        with_user = reverse s.local ++ s.with_user;
+        local = [];
+        local_rooms = None;
+        spare_rooms = Some n;
+      })
   Does (Splits n) s t =
       (n ≤ s.rooms) × (s.spare_rooms ≡ None) × (t ≡ record s { rooms = s.rooms - n; spare_rooms = Some n })
   Does Joins s t =

@@ -10,4 +10,8 @@ core_answered next = (next.0, core_text next.1 ∷ [])
 
 -- Each good line is a command on a core, and its reply line is its text. The end completes nothing.
 abbrev pub core_commands_machine : {M C : Type 0} → (List ℕ → Option C) → (M → C → M × CoreLine) → Machine M
-core_commands_machine command_of step = record { step = λ state line. option_map (λ command. core_answered (step state command)) (command_of line); ending = λ state. [] }
+core_commands_machine command_of step =
+    record {
+      step = λ state line. option_map (λ command. core_answered (step state command)) (command_of line);
+      ending = λ state. [];
+    }

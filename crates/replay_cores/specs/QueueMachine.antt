@@ -3,10 +3,14 @@ use Rattle.std.specs.Prelude.{â„•, List, length, Result, Ok, Err, slice_get, ifâ
 use Rattle.cordyceps_commands.specs.declared.item.Item.{Item}
 use Rattle.cordyceps_base.specs.Runs.{after}
 use Rattle.cordyceps_queue.specs.declared.cores.steps.QueueStep.{QueueStep}
-use Rattle.cordyceps_queue.specs.declared.cores.steps.QueueStep.TheVariants.{Clear, Swap, Link, Take, ReadNext, ReadHead, Give}
-use Rattle.cordyceps_queue.specs.declared.cores.steps.QueueAnswer.TheVariants.{Done, Taken, Busy, Out, Empty, Inconsistent}
+use Rattle.cordyceps_queue.specs.declared.cores.steps.QueueStep.TheVariants.{Clear, Swap, Link, Take, ReadNext}
+use Rattle.cordyceps_queue.specs.declared.cores.steps.QueueStep.TheVariants.{ReadHead, Give}
+use Rattle.cordyceps_queue.specs.declared.cores.steps.QueueAnswer.TheVariants.{Done, Taken, Busy, Out, Empty}
+use Rattle.cordyceps_queue.specs.declared.cores.steps.QueueAnswer.TheVariants.{Inconsistent}
 use Rattle.cordyceps_queue.specs.declared.cores.steps.TryDequeueError.{TryDequeueError}
-use Rattle.cordyceps_queue.specs.declared.cores.steps.TryDequeueError.TheVariants.{Empty as FindsEmpty, Inconsistent as FindsInconsistent, Busy as FindsBusy}
+use Rattle.cordyceps_queue.specs.declared.cores.steps.TryDequeueError.TheVariants.{Empty as FindsEmpty}
+use Rattle.cordyceps_queue.specs.declared.cores.steps.TryDequeueError.TheVariants.{Inconsistent as FindsInconsistent}
+use Rattle.cordyceps_queue.specs.declared.cores.steps.TryDequeueError.TheVariants.{Busy as FindsBusy}
 use Rattle.cordyceps_queue.specs.Cores.Machine.{Answered, stepped}
 use Rattle.cordyceps_queue.specs.Cores.CoreMeets.{core_step, new_machine, with_party, with_room}
 use Rattle.cordyceps_queue.specs.Cores.Alone.{enqueue_steps, is_ready, may_dequeue, dequeued, found_of}
@@ -72,7 +76,8 @@ step m (commands.Take p) = takes_step m p Take
 step m (commands.ReadNext p) = takes_step m p ReadNext
 step m (commands.ReadHead p) = takes_step m p ReadHead
 step m (commands.Give p) = takes_step m p Give
-step m (commands.Enqueue p item) = if is_ready m p then (after core_step m (enqueue_steps p item), done) else (m, not_there)
+step m (commands.Enqueue p item) =
+    if is_ready m p then (after core_step m (enqueue_steps p item), done) else (m, not_there)
 step m (commands.Dequeue p) = if may_dequeue (slice_get m.parties p) then tries_once m p else (m, not_there)
 step m (commands.Batch p n) = if may_drain n (slice_get m.parties p) then takes_batch m p n else (m, not_there)
 

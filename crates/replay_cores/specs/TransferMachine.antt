@@ -4,14 +4,17 @@ use Rattle.cordyceps_commands.specs.declared.item.Item.{Item}
 use Rattle.cordyceps_base.specs.Runs.{after}
 use Rattle.cordyceps_stack.specs.declared.cores.steps.TransferStep.{TransferStep}
 use Rattle.cordyceps_stack.specs.declared.cores.steps.TransferStep.TheVariants.{Load, SetNext, Exchange, Take, Walk}
-use Rattle.cordyceps_stack.specs.declared.cores.steps.TransferAnswer.TheVariants.{Done, Pushed, Failed, Taken, Nothing, Gives, Last}
+use Rattle.cordyceps_stack.specs.declared.cores.steps.TransferAnswer.TheVariants.{Done, Pushed, Failed, Taken, Nothing}
+use Rattle.cordyceps_stack.specs.declared.cores.steps.TransferAnswer.TheVariants.{Gives, Last}
 use Rattle.cordyceps_stack.specs.Cores.CoreMeets.{core_step}
 use Rattle.cordyceps_stack.specs.Cores.Alone.{push_steps, take_steps}
-use Rattle.cordyceps_stack.specs.Cores.Machine.{Answered, new_machine, with_party, with_room, held_in, stepped, is_at_rest, is_ready}
+use Rattle.cordyceps_stack.specs.Cores.Machine.{Answered, new_machine, with_party, with_room, held_in, stepped}
+use Rattle.cordyceps_stack.specs.Cores.Machine.{is_at_rest, is_ready}
 use Rattle.cordyceps_stack.specs.Cores.Machine as cores
 use Rattle.replay_driver.specs.Script.{Machine}
 use Rattle.replay_cores.specs.Commands.{core_commands_machine}
-use Rattle.replay_lines.specs.CoreReplies.{CoreLine, party, done, truth, found, last, failed, taken, nothing, show, not_there}
+use Rattle.replay_lines.specs.CoreReplies.{CoreLine, party, done, truth, found, last, failed, taken, nothing, show}
+use Rattle.replay_lines.specs.CoreReplies.{not_there}
 use Rattle.replay_lines.specs.TransferScript.{command_of}
 use Rattle.replay_lines.specs.declared.transfer_command.TransferCommand.{TransferCommand}
 use Rattle.replay_lines.specs.declared.transfer_command.TransferCommand.TheVariants as commands
@@ -44,7 +47,8 @@ step m (commands.SetNext p) = takes_step m p SetNext
 step m (commands.Exchange p) = takes_step m p Exchange
 step m (commands.Take p) = takes_step m p Take
 step m (commands.Walk p) = takes_step m p Walk
-step m (commands.Push p item) = if is_ready m p then (after core_step m (push_steps p item), truth (is_none m.head)) else (m, not_there)
+step m (commands.Push p item) =
+    if is_ready m p then (after core_step m (push_steps p item), truth (is_none m.head)) else (m, not_there)
 step m (commands.TakeAll p) =
     if is_at_rest m p then (after core_step m (take_steps p (length (held_in m))), show (held_in m)) else (m, not_there)
 

@@ -9,23 +9,30 @@ use Rattle.replay_driver.specs.declared.fault.Fault.TheVariants as faults
 -- all of these lines were taken, or those before the first bad one
 abbrev pub Taken : {S : Type 0} → Machine S → S → List (List ℕ) → S → List (List ℕ) → Type 0
 Taken machine old lines new texts =
-    (before : List (List ℕ)) × (others : List (List ℕ)) × (lines ≡ before ++ others) × Steps machine old before new texts × IsOver machine new others
+    (before : List (List ℕ)) × (others : List (List ℕ)) × (lines ≡ before ++ others)
+    × Steps machine old before new texts × IsOver machine new others
 
 -- the lines, the texts of the replies so far, and those that are still to come
-abbrev pub Halted : {S O : Type 0} → Machine S → S → S → (ended read_failed : Type 0) → (O → O → List ℕ → Type 0) → O → List ℕ → O → List ℕ → Type 0
+abbrev pub Halted : {S O : Type 0} → Machine S → S → S → (ended read_failed : Type 0) → (O → O → List ℕ → Type 0) → O →
+    List ℕ → O → List ℕ → Type 0
     → List (List ℕ) → List ℕ → List (List ℕ) → List (List ℕ) → List (List ℕ) → Result (Unit {0}) Fault → Type 0
 Halted machine old new ended read_failed takes output text output' text' write_failed complete unfinished lines texts more (Ok _) =
-    ended × (lines ≡ complete ++ last_line unfinished) × (first_bad machine old lines ≡ None) × Taken machine old lines new texts × Writes takes output text output' text' (concat texts)
+    ended × (lines ≡ complete ++ last_line unfinished) × (first_bad machine old lines ≡ None)
+    × Taken machine old lines new texts × Writes takes output text output' text' (concat texts)
 Halted machine old new ended read_failed takes output text output' text' write_failed complete unfinished lines texts more (Err (faults.BadLine n)) =
-    (first_bad machine old lines ≡ Some n) × Taken machine old lines new texts × Writes takes output text output' text' (concat texts)
+    (first_bad machine old lines ≡ Some n) × Taken machine old lines new texts
+    × Writes takes output text output' text' (concat texts)
 Halted machine old new ended read_failed takes output text output' text' write_failed complete unfinished lines texts more (Err faults.Read) =
-    read_failed × (lines ≡ complete) × (length unfinished ≤ 120) × (first_bad machine old lines ≡ None) × Taken machine old lines new texts × Writes takes output text output' text' (concat texts)
+    read_failed × (lines ≡ complete) × (length unfinished ≤ 120) × (first_bad machine old lines ≡ None)
+    × Taken machine old lines new texts × Writes takes output text output' text' (concat texts)
 Halted machine old new ended read_failed takes output text output' text' write_failed complete unfinished lines texts more (Err faults.Write) =
     write_failed × (waiting : List ℕ) × Writes takes output text output' waiting (concat texts)
 Halted machine old new ended read_failed takes output text output' text' write_failed complete unfinished lines texts more (Err faults.Memory) =
     (front : List ℕ) × Stops machine old lines front × Writes takes output text output' text' front
 
-pub record Halts {S O : Type 0} (machine : Machine S) (old new : S) (gave : List ℕ → Type 0) (ended read_failed : Type 0) (takes : O → O → List ℕ → Type 0) (output : O) (text : List ℕ) (output' : O) (text' : List ℕ) (write_failed : Type 0) (result : Result (Unit {0}) Fault) : Type 0 where
+pub record Halts {S O : Type 0} (machine : Machine S) (old new : S) (gave : List ℕ → Type 0)
+    (ended read_failed : Type 0) (takes : O → O → List ℕ → Type 0) (output : O) (text : List ℕ) (output' : O)
+    (text' : List ℕ) (write_failed : Type 0) (result : Result (Unit {0}) Fault) : Type 0 where
   pub complete : List (List ℕ)
   pub unfinished : List ℕ
   pub bytes : List ℕ
@@ -39,7 +46,8 @@ pub record Halts {S O : Type 0} (machine : Machine S) (old new : S) (gave : List
   pub halted : Halted machine old new ended read_failed takes output text output' text' write_failed complete unfinished lines texts more result
 
 -- The end of the lines was answered where the lines halted by themselves.
-abbrev pub EndsLines : {S : Type 0} → Machine S → S → List ℕ → List ℕ → Result (Unit {0}) Fault → Result (Unit {0}) Fault → Type 0
+abbrev pub EndsLines : {S : Type 0} → Machine S → S → List ℕ → List ℕ → Result (Unit {0}) Fault →
+    Result (Unit {0}) Fault → Type 0
 EndsLines machine state text text' (Err faults.Memory) result = (result ≡ Err faults.Memory) × (text' ≡ text)
 EndsLines machine state text text' (Err faults.Write) result = (result ≡ Err faults.Write) × (text' ≡ text)
 EndsLines machine state text text' halt result =

@@ -1,5 +1,6 @@
 -- What a script's lines are, and what a mode answers to them.
-use Rattle.std.specs.Prelude.{◌≡◌, ℕ, suc, ◌<◌, ◌≤◌, List, [], ◌∷◌, ◌++◌, length, take, Option, None, Some, Result, Ok, Err, if◌then◌else◌, nat_lt, nat_eq, ◌⊎◌, Bool, IsTrue}
+use Rattle.std.specs.Prelude.{◌≡◌, ℕ, suc, ◌<◌, ◌≤◌, List, [], ◌∷◌, ◌++◌, length, take, Option, None, Some, Result, Ok}
+use Rattle.std.specs.Prelude.{Err, if◌then◌else◌, nat_lt, nat_eq, ◌⊎◌, Bool, IsTrue}
 use Rattle.std.specs.Option.{option_map, unwrap_or}
 use Rattle.std.specs.List.{slice_split, concat}
 use Rattle.replay_driver.specs.declared.fault.Fault.{Fault}
@@ -20,19 +21,22 @@ step_of machine state line = if nat_lt 120 (length line) then None else machine.
 abbrev pub Steps : {S : Type 0} → Machine S → S → List (List ℕ) → S → List (List ℕ) → Type 0
 Steps machine old [] new texts = (new ≡ old) × (texts ≡ [])
 Steps {S} machine old (line ∷ lines) new texts =
-    (mid : S) × (first : List (List ℕ)) × (others : List (List ℕ)) × (step_of machine old line ≡ Some (mid, first)) × Steps machine mid lines new others × (texts ≡ first ++ others)
+    (mid : S) × (first : List (List ℕ)) × (others : List (List ℕ)) × (step_of machine old line ≡ Some (mid, first))
+    × Steps machine mid lines new others × (texts ≡ first ++ others)
 
 -- the texts of the replies, a text for each command, up to the first bad line
 abbrev pub replies : {S : Type 0} → Machine S → S → List (List ℕ) → List (List ℕ)
 replies machine state [] = machine.ending state
 replies machine state (line ∷ lines) =
-    unwrap_or (option_map (λ next. next.1 ++ replies machine next.0 lines) (step_of machine state line)) (machine.ending state)
+    unwrap_or (option_map (λ next. next.1
+    ++ replies machine next.0 lines) (step_of machine state line)) (machine.ending state)
 
 -- the number of the first bad line, counted from 1
 abbrev pub first_bad : {S : Type 0} → Machine S → S → List (List ℕ) → Option ℕ
 first_bad machine state [] = None
 first_bad machine state (line ∷ lines) =
-    unwrap_or (option_map (λ next. option_map suc (first_bad machine next.0 lines)) (step_of machine state line)) (Some 1)
+    unwrap_or (option_map (λ next.
+    option_map suc (first_bad machine next.0 lines)) (step_of machine state line)) (Some 1)
 
 -- the text of a script: its reply lines, one after the other
 abbrev pub text : {S : Type 0} → Machine S → S → List (List ℕ) → List ℕ
@@ -63,7 +67,8 @@ abbrev pub AreLines : (ended : Type 0) → List (List ℕ) → List ℕ → List
 AreLines ended complete unfinished lines =
     (lines ≡ complete) ⊎ ((ended ⊎ (120 < length unfinished)) × (lines ≡ complete ++ last_line unfinished))
 
--- Memory was refused at one of these commands, and this is the text of those before it. Where there are none, it is empty.
+-- Memory was refused at one of these commands, and this is the text of those before it. Where there are none, it is
+-- empty.
 abbrev pub StopsAmong : List (List ℕ) → List ℕ → Type 0
 StopsAmong texts front = (n : ℕ) × ((n ≡ 0) ⊎ (n < length texts)) × (front ≡ concat (take n texts))
 
@@ -75,24 +80,30 @@ IsOver machine state (line ∷ lines) = step_of machine state line ≡ None
 -- Memory was refused at a command of the next line, or where that is over, at one that the end completes.
 abbrev pub StopsNext : {S : Type 0} → Machine S → S → List (List ℕ) → List ℕ → Type 0
 StopsNext {S} machine state lines front =
-    ((line : List ℕ) × (after : List (List ℕ)) × (last : S) × (texts : List (List ℕ)) × (lines ≡ line ∷ after) × (step_of machine state line ≡ Some (last, texts)) × StopsAmong texts front)
+    ((line : List ℕ) × (after : List (List ℕ)) × (last : S) × (texts : List (List ℕ)) × (lines ≡ line ∷ after)
+    × (step_of machine state line ≡ Some (last, texts)) × StopsAmong texts front)
     ⊎ (IsOver machine state lines × (0 < length (machine.ending state)) × StopsAmong (machine.ending state) front)
 
--- Memory was refused at a command. The lines before its own are good, and what was written is the text of all of them, and
--- of the commands before it.
+-- Memory was refused at a command. The lines before its own are good, and what was written is the text of all of them,
+-- and of the commands before it.
 abbrev pub Stops : {S : Type 0} → Machine S → S → List (List ℕ) → List ℕ → Type 0
 Stops {S} machine state lines written =
     (before : List (List ℕ)) × (others : List (List ℕ)) × (mid : S) × (texts : List (List ℕ)) × (front : List ℕ)
-    × (lines ≡ before ++ others) × Steps machine state before mid texts × StopsNext machine mid others front × (written ≡ concat texts ++ front)
+    × (lines ≡ before ++ others) × Steps machine state before mid texts × StopsNext machine mid others front
+    × (written ≡ concat texts ++ front)
 
 -- What a run of a script may answer, where these lines were read and these bytes were written.
-abbrev pub Answers : {S : Type 0} → Machine S → S → (ended read_failed write_failed : Type 0) → (complete : List (List ℕ)) (unfinished : List ℕ) (lines : List (List ℕ)) (written : List ℕ) → Result (Unit {0}) Fault → Type 0
+abbrev pub Answers : {S : Type 0} → Machine S → S → (ended read_failed write_failed : Type 0) →
+    (complete : List (List ℕ)) (unfinished : List ℕ) (lines : List (List ℕ)) (written : List ℕ) →
+    Result (Unit {0}) Fault → Type 0
 Answers machine state ended read_failed write_failed complete unfinished lines written (Ok _) =
-    ended × (lines ≡ complete ++ last_line unfinished) × (first_bad machine state lines ≡ None) × (written ≡ text machine state lines)
+    ended × (lines ≡ complete ++ last_line unfinished) × (first_bad machine state lines ≡ None)
+    × (written ≡ text machine state lines)
 Answers machine state ended read_failed write_failed complete unfinished lines written (Err (faults.BadLine n)) =
     (first_bad machine state lines ≡ Some n) × (written ≡ text machine state lines)
 Answers machine state ended read_failed write_failed complete unfinished lines written (Err faults.Read) =
-    read_failed × (lines ≡ complete) × (length unfinished ≤ 120) × (first_bad machine state lines ≡ None) × (written ≡ text machine state lines)
+    read_failed × (lines ≡ complete) × (length unfinished ≤ 120) × (first_bad machine state lines ≡ None)
+    × (written ≡ text machine state lines)
 Answers machine state ended read_failed write_failed complete unfinished lines written (Err faults.Write) =
     write_failed × (rest : List ℕ) × (text machine state lines ≡ written ++ rest)
 Answers machine state ended read_failed write_failed complete unfinished lines written (Err faults.Memory) =
@@ -104,7 +115,8 @@ AnswersAll machine state script took =
     (first_bad machine state (lines_of script) ≡ None) × took (text machine state (lines_of script))
 
 -- What a run of a script reads, writes and answers.
-pub record Runs {S : Type 0} (machine : Machine S) (state : S) (gave : List ℕ → Type 0) (ended read_failed : Type 0) (took : List ℕ → Type 0) (write_failed : Type 0) (result : Result (Unit {0}) Fault) : Type 0 where
+pub record Runs {S : Type 0} (machine : Machine S) (state : S) (gave : List ℕ → Type 0) (ended read_failed : Type 0)
+    (took : List ℕ → Type 0) (write_failed : Type 0) (result : Result (Unit {0}) Fault) : Type 0 where
   pub complete : List (List ℕ)
   pub unfinished : List ℕ
   pub bytes : List ℕ
@@ -117,6 +129,8 @@ pub record Runs {S : Type 0} (machine : Machine S) (state : S) (gave : List ℕ 
   pub answers : Answers machine state ended read_failed write_failed complete unfinished lines written result
 
 -- What a run of a script that stands in memory reads, writes and answers: a beginning of it was read.
-abbrev pub RunsOver : {S : Type 0} → Machine S → S → (script : List ℕ) (took : List ℕ → Type 0) (write_failed : Type 0) → Result (Unit {0}) Fault → Type 0
+abbrev pub RunsOver : {S : Type 0} → Machine S → S →
+    (script : List ℕ) (took : List ℕ → Type 0) (write_failed : Type 0) → Result (Unit {0}) Fault → Type 0
 RunsOver machine state script took write_failed result =
-    (rest : List ℕ) × (read_failed : Bool) × Runs machine state (λ bytes. script ≡ bytes ++ rest) (rest ≡ []) (IsTrue read_failed) took write_failed result
+    (rest : List ℕ) × (read_failed : Bool) × Runs machine state (λ bytes. script ≡ bytes ++ rest) (rest
+    ≡ []) (IsTrue read_failed) took write_failed result

@@ -1,5 +1,6 @@
 -- How far a run of a script has come.
-use Rattle.std.specs.Prelude.{◌≡◌, ℕ, ◌+◌, ◌<◌, ◌≤◌, Bool, true, false, List, [], ◌∷◌, ◌++◌, length, drop, None, Some, Result, Ok, Err, nat_eq}
+use Rattle.std.specs.Prelude.{◌≡◌, ℕ, ◌+◌, ◌<◌, ◌≤◌, Bool, true, false, List, [], ◌∷◌, ◌++◌, length, drop, None, Some}
+use Rattle.std.specs.Prelude.{Result, Ok, Err, nat_eq}
 use Rattle.std.specs.List.{concat, flat_map, All, AllByRecursion}
 use Rattle.replay_driver.specs.Script.{Machine, step_of, Steps, StopsAmong, last_line}
 use Rattle.replay_driver.specs.declared.fault.Fault.{Fault}
@@ -20,15 +21,18 @@ Writes takes old text new rest added = (written : List ℕ) × takes old new wri
 
 -- a session took a line, and its replies were added to the text
 abbrev pub TakesLine : {S E : Type 0} → Machine S → S → List ℕ → S → List ℕ → List ℕ → Result Bool E → Type 0
-TakesLine machine old line new text after (Ok true) = (texts : List (List ℕ)) × (machine.step old line ≡ Some (new, texts)) × (after ≡ text ++ concat texts)
+TakesLine machine old line new text after (Ok true) =
+    (texts : List (List ℕ)) × (machine.step old line ≡ Some (new, texts)) × (after ≡ text ++ concat texts)
 TakesLine machine old line new text after (Ok false) = (machine.step old line ≡ None) × (new ≡ old) × (after ≡ text)
 TakesLine {S} machine old line new text after (Err e) =
-    (last : S) × (texts : List (List ℕ)) × (front : List ℕ) × (machine.step old line ≡ Some (last, texts)) × StopsAmong texts front × (after ≡ text ++ front)
+    (last : S) × (texts : List (List ℕ)) × (front : List ℕ) × (machine.step old line ≡ Some (last, texts))
+    × StopsAmong texts front × (after ≡ text ++ front)
 
 -- memory was refused at a command that the end completes, and the texts of those before it were added
 abbrev pub EndStops : {S : Type 0} → Machine S → S → List ℕ → List ℕ → Type 0
 EndStops machine old text after =
-    (front : List ℕ) × (0 < length (machine.ending old)) × StopsAmong (machine.ending old) front × (after ≡ text ++ front)
+    (front : List ℕ) × (0 < length (machine.ending old)) × StopsAmong (machine.ending old) front
+    × (after ≡ text ++ front)
 
 -- a session's last replies were added to the text
 abbrev pub Ends : {S E : Type 0} → Machine S → S → List ℕ → List ℕ → Result (Unit {0}) E → Type 0
@@ -36,40 +40,53 @@ Ends machine old text after (Ok _) = after ≡ text ++ concat (machine.ending ol
 Ends machine old text after (Err e) = EndStops machine old text after
 
 -- one line was taken, or stopped the script
-abbrev pub TakesOne : {S O : Type 0} → Machine S → S → List ℕ → S → (O → O → List ℕ → Type 0) → O → List ℕ → O → List ℕ → Type 0 → Result (Unit {0}) Stop → Type 0
+abbrev pub TakesOne : {S O : Type 0} → Machine S → S → List ℕ → S → (O → O → List ℕ → Type 0) → O → List ℕ → O →
+    List ℕ → Type 0 → Result (Unit {0}) Stop → Type 0
 TakesOne machine old line new takes output text output' text' failed (Ok _) =
-    (texts : List (List ℕ)) × (step_of machine old line ≡ Some (new, texts)) × Writes takes output text output' text' (concat texts)
+    (texts : List (List ℕ)) × (step_of machine old line ≡ Some (new, texts))
+    × Writes takes output text output' text' (concat texts)
 TakesOne machine old line new takes output text output' text' failed (Err stops.Bad) =
     (step_of machine old line ≡ None) × (new ≡ old) × Writes takes output text output' text' []
 TakesOne {S} machine old line new takes output text output' text' failed (Err stops.Memory) =
-    (last : S) × (texts : List (List ℕ)) × (front : List ℕ) × (step_of machine old line ≡ Some (last, texts)) × StopsAmong texts front × Writes takes output text output' text' front
+    (last : S) × (texts : List (List ℕ)) × (front : List ℕ) × (step_of machine old line ≡ Some (last, texts))
+    × StopsAmong texts front × Writes takes output text output' text' front
 TakesOne machine old line new takes output text output' text' failed (Err stops.Write) =
-    (texts : List (List ℕ)) × (rest : List ℕ) × (step_of machine old line ≡ Some (new, texts)) × Writes takes output text output' rest (concat texts) × failed
+    (texts : List (List ℕ)) × (rest : List ℕ) × (step_of machine old line ≡ Some (new, texts))
+    × Writes takes output text output' rest (concat texts) × failed
 
 -- these lines stand in the bytes, each with its line feed, and then a rest; they lead on, and have these replies
-pub record Leads {S : Type 0} (machine : Machine S) (old : S) (bytes : List ℕ) (lines : List (List ℕ)) (rest : List ℕ) (new : S) (texts : List (List ℕ)) : Type 0 where
+pub record Leads {S : Type 0} (machine : Machine S) (old : S) (bytes : List ℕ) (lines : List (List ℕ)) (rest : List ℕ)
+    (new : S) (texts : List (List ℕ)) : Type 0 where
   pub cut : bytes ≡ flat_map ended lines ++ rest
   pub no_feed : AllByRecursion HasNoFeed lines
   pub steps : Steps machine old lines new texts
 
 -- the lines of a block were taken, or one of them stopped the script
-abbrev pub TakesLines : {S O : Type 0} → Machine S → S → List ℕ → S → (O → O → List ℕ → Type 0) → O → List ℕ → O → List ℕ → Type 0 → ℕ → ℕ → Result ℕ Stop → Type 0
+abbrev pub TakesLines : {S O : Type 0} → Machine S → S → List ℕ → S → (O → O → List ℕ → Type 0) → O → List ℕ → O →
+    List ℕ → Type 0 → ℕ → ℕ → Result ℕ Stop → Type 0
 TakesLines machine old block new takes output text output' text' failed count count' (Ok used) =
     (lines : List (List ℕ)) × (texts : List (List ℕ)) × Leads machine old block lines (drop used block) new texts
-    × (used ≤ length block) × HasNoFeed (drop used block) × (count' ≡ count + length lines) × Writes takes output text output' text' (concat texts)
+    × (used ≤ length block) × HasNoFeed (drop used block) × (count' ≡ count + length lines)
+    × Writes takes output text output' text' (concat texts)
 TakesLines machine old block new takes output text output' text' failed count count' (Err stops.Bad) =
-    (lines : List (List ℕ)) × (texts : List (List ℕ)) × (line : List ℕ) × (rest : List ℕ) × Leads machine old block lines (line ++ 10 ∷ rest) new texts
-    × HasNoFeed line × (step_of machine new line ≡ None) × (count' ≡ count + length lines) × Writes takes output text output' text' (concat texts)
+    (lines : List (List ℕ)) × (texts : List (List ℕ)) × (line : List ℕ) × (rest : List ℕ)
+    × Leads machine old block lines (line ++ 10 ∷ rest) new texts
+    × HasNoFeed line × (step_of machine new line ≡ None) × (count' ≡ count + length lines)
+    × Writes takes output text output' text' (concat texts)
 TakesLines {S} machine old block new takes output text output' text' failed count count' (Err stops.Memory) =
-    (lines : List (List ℕ)) × (texts : List (List ℕ)) × (line : List ℕ) × (rest : List ℕ) × (mid : S) × (last : S) × (added : List (List ℕ)) × (front : List ℕ)
-    × Leads machine old block lines (line ++ 10 ∷ rest) mid texts × HasNoFeed line × (step_of machine mid line ≡ Some (last, added)) × StopsAmong added front
+    (lines : List (List ℕ)) × (texts : List (List ℕ)) × (line : List ℕ) × (rest : List ℕ) × (mid : S) × (last : S)
+    × (added : List (List ℕ)) × (front : List ℕ)
+    × Leads machine old block lines (line ++ 10 ∷ rest) mid texts × HasNoFeed line
+    × (step_of machine mid line ≡ Some (last, added)) × StopsAmong added front
     × Writes takes output text output' text' (concat texts ++ front)
 TakesLines machine old block new takes output text output' text' failed count count' (Err stops.Write) =
-    (lines : List (List ℕ)) × (texts : List (List ℕ)) × (rest : List ℕ) × (waiting : List ℕ) × Leads machine old block lines rest new texts
+    (lines : List (List ℕ)) × (texts : List (List ℕ)) × (rest : List ℕ) × (waiting : List ℕ)
+    × Leads machine old block lines rest new texts
     × Writes takes output text output' waiting (concat texts) × failed
 
 -- How far a block was taken: these are the good lines so far, the texts of their replies, and what was written of them.
-pub record SoFar {S O : Type 0} (machine : Machine S) (takes : O → O → List ℕ → Type 0) (old : S) (output : O) (text : List ℕ) (bytes rest : List ℕ) (new : S) (output' : O) (text' : List ℕ) (count : ℕ) : Type 0 where
+pub record SoFar {S O : Type 0} (machine : Machine S) (takes : O → O → List ℕ → Type 0) (old : S) (output : O)
+    (text : List ℕ) (bytes rest : List ℕ) (new : S) (output' : O) (text' : List ℕ) (count : ℕ) : Type 0 where
   pub lines : List (List ℕ)
   pub texts : List (List ℕ)
   pub leads : Leads machine old bytes lines rest new texts
@@ -83,9 +100,11 @@ fault_of stops.Memory line = faults.Memory
 fault_of stops.Write line = faults.Write
 
 -- what stands behind the last line feed was taken, where it is a line, or stopped the script
-abbrev pub TakesLast : {S O : Type 0} → Machine S → S → List ℕ → S → (O → O → List ℕ → Type 0) → O → List ℕ → O → List ℕ → Type 0 → Result (Unit {0}) Stop → Type 0
+abbrev pub TakesLast : {S O : Type 0} → Machine S → S → List ℕ → S → (O → O → List ℕ → Type 0) → O → List ℕ → O →
+    List ℕ → Type 0 → Result (Unit {0}) Stop → Type 0
 TakesLast machine old line new takes output text output' text' failed (Ok _) =
-    (texts : List (List ℕ)) × Steps machine old (last_line line) new texts × Writes takes output text output' text' (concat texts)
+    (texts : List (List ℕ)) × Steps machine old (last_line line) new texts
+    × Writes takes output text output' text' (concat texts)
 TakesLast machine old line new takes output text output' text' failed (Err stop) =
     (0 < length line) × TakesOne machine old line new takes output text output' text' failed (Err stop)
 

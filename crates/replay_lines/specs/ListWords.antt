@@ -1,5 +1,6 @@
 -- What words of mode list are read as, and how they are spelled.
-use Rattle.std.specs.Prelude.{ℕ, ◌||◌, List, [], ◌∷◌, map, length, Option, None, Some, if◌then◌else◌, codes, nat_lt, nat_eq}
+use Rattle.std.specs.Prelude.{ℕ, ◌||◌, List, [], ◌∷◌, map, length, Option, None, Some, if◌then◌else◌, codes, nat_lt}
+use Rattle.std.specs.Prelude.{nat_eq}
 use Rattle.std.specs.Option.{option_map, option_and_then}
 use Rattle.std.specs.Str.{bytes_eq}
 use Rattle.cordyceps_commands.specs.declared.list_command.ListEnd.{ListEnd}
@@ -35,7 +36,8 @@ turn_of letter =
 -- each letter is n or b
 abbrev pub letters_of : List ℕ → Option (List Turn)
 letters_of [] = Some []
-letters_of (letter ∷ letters) = option_and_then (λ turn. option_map (λ turns. turn ∷ turns) (letters_of letters)) (turn_of letter)
+letters_of (letter ∷ letters) =
+    option_and_then (λ turn. option_map (λ turns. turn ∷ turns) (letters_of letters)) (turn_of letter)
 
 -- W, of 1 to 64 letters
 abbrev pub turns_of : List ℕ → Option (List Turn)

@@ -3,7 +3,8 @@ use Rattle.std.specs.Prelude.{ℕ, List, [], ◌∷◌, Option, None, Some, if�
 use Rattle.std.specs.Option.{option_map, option_and_then}
 use Rattle.std.specs.Str.{bytes_eq}
 use Rattle.replay_lines.specs.Words.{words}
-use Rattle.replay_lines.specs.LineWords.{nothing_of, value_of, party_and_number_of, party_and_item_of, party_and_perhaps_item_of}
+use Rattle.replay_lines.specs.LineWords.{nothing_of, value_of, party_and_number_of, party_and_item_of}
+use Rattle.replay_lines.specs.LineWords.{party_and_perhaps_item_of}
 use Rattle.replay_lines.specs.declared.queue_command.QueueCommand.{QueueCommand}
 use Rattle.replay_lines.specs.declared.queue_command.QueueCommand.TheVariants as commands
 use Rattle.replay_lines.specs.declared.queue_command.Verb.{Verb}

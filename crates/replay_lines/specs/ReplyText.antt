@@ -2,7 +2,8 @@
 use Rattle.std.specs.Prelude.{ℕ, true, false, List, [], ◌++◌, Option, None, Some, codes, decimal}
 use Rattle.std.specs.List.{flat_map}
 use Rattle.cordyceps_commands.specs.declared.item.Item.{Item}
-use Rattle.cordyceps_commands.specs.Replies.{Line, block_begins, done, found, nothing, len, index, truth, show, not_there}
+use Rattle.cordyceps_commands.specs.Replies.{Line, block_begins, done, found, nothing, len, index, truth, show}
+use Rattle.cordyceps_commands.specs.Replies.{not_there}
 
 -- an item as a line of items shows it
 abbrev pub shown_text : Option Item → List ℕ

@@ -46,7 +46,8 @@ pairs_of (word ∷ words) = option_and_then (λ item. option_map (λ items. item
 abbrev pub structure_and_pairs_of : List (List ℕ) → Option (ℕ × List Item)
 structure_and_pairs_of [] = None
 structure_and_pairs_of (list ∷ []) = None
-structure_and_pairs_of (list ∷ word ∷ words) = option_and_then (λ l. option_map (λ items. (l, items)) (pairs_of (word ∷ words))) (structure_number_of list)
+structure_and_pairs_of (list ∷ word ∷ words) =
+    option_and_then (λ l. option_map (λ items. (l, items)) (pairs_of (word ∷ words))) (structure_number_of list)
 
 -- what a command word and the words after it mean
 abbrev pub entry_with : Verb → List (List ℕ) → Option Entry

@@ -17,7 +17,8 @@ words_left (Some rest) = words rest.now
 abbrev pub number_from : ℕ → List ℕ → Option ℕ
 number_from value [] = Some value
 number_from value (digit ∷ digits) =
-    if is_ascii_digit digit && nat_lt (value * 10 + (digit - 48)) 18446744073709551616 then number_from (value * 10 + (digit - 48)) digits else None
+    if is_ascii_digit digit && nat_lt (value * 10 + (digit - 48)) 18446744073709551616 then
+    number_from (value * 10 + (digit - 48)) digits else None
 
 -- the number below 2 ^ 64 that a word spells in decimal: no word spells one with a leading zero, but 0 itself
 abbrev pub number_of : List ℕ → Option ℕ

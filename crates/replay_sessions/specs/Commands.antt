@@ -11,4 +11,8 @@ answered next = (next.0, text_of next.1 ∷ [])
 
 -- Each good line is a command, and its replies are its text. The end completes nothing.
 abbrev pub commands_machine : {M C : Type 0} → (List ℕ → Option C) → (M → C → M × List Line) → Machine M
-commands_machine command_of step = record { step = λ state line. option_map (λ command. answered (step state command)) (command_of line); ending = λ state. [] }
+commands_machine command_of step =
+    record {
+      step = λ state line. option_map (λ command. answered (step state command)) (command_of line);
+      ending = λ state. [];
+    }

@@ -25,9 +25,16 @@ module _ {F : Type 0} where
   IfSorted modes.Queue These = Unit {0}
 
   -- sixteen structures that are empty at first, or a new core; items are ordered by `own`
-  abbrev pub RunsIn : (own : Item → Item → Ordering) → Mode F → (gave : List ℕ → Type 0) → (ended read_failed : Type 0) → (took : List ℕ → Type 0) → (write_failed : Type 0) → Result (Unit {0}) Fault → Type 0
-  RunsIn own modes.List gave ended read_failed took write_failed result = Runs list_machine (empty_table 16, None) gave ended read_failed took write_failed result
-  RunsIn own modes.Stack gave ended read_failed took write_failed result = Runs stack_machine (empty_table 16) gave ended read_failed took write_failed result
-  RunsIn own (modes.Sorted by) gave ended read_failed took write_failed result = Runs (sorted_machine (order_of own by_tens)) (empty_table 16) gave ended read_failed took write_failed result
-  RunsIn own modes.Transfer gave ended read_failed took write_failed result = Runs transfers.transfer_machine transfers.new_core gave ended read_failed took write_failed result
-  RunsIn own modes.Queue gave ended read_failed took write_failed result = Runs queues.queue_machine queues.new_core gave ended read_failed took write_failed result
+  abbrev pub RunsIn : (own : Item → Item → Ordering) → Mode F → (gave : List ℕ → Type 0) →
+      (ended read_failed : Type 0) → (took : List ℕ → Type 0) → (write_failed : Type 0) → Result (Unit {0}) Fault →
+      Type 0
+  RunsIn own modes.List gave ended read_failed took write_failed result =
+      Runs list_machine (empty_table 16, None) gave ended read_failed took write_failed result
+  RunsIn own modes.Stack gave ended read_failed took write_failed result =
+      Runs stack_machine (empty_table 16) gave ended read_failed took write_failed result
+  RunsIn own (modes.Sorted by) gave ended read_failed took write_failed result =
+      Runs (sorted_machine (order_of own by_tens)) (empty_table 16) gave ended read_failed took write_failed result
+  RunsIn own modes.Transfer gave ended read_failed took write_failed result =
+      Runs transfers.transfer_machine transfers.new_core gave ended read_failed took write_failed result
+  RunsIn own modes.Queue gave ended read_failed took write_failed result =
+      Runs queues.queue_machine queues.new_core gave ended read_failed took write_failed result

@@ -33,4 +33,5 @@ CanRun (Some block) = (block.list < 16) × BlockFits block.lines.items
 -- the open block, where there is one, was run, and its replies were added to the text
 abbrev pub Closes : State → State → List ℕ → List ℕ → Type 0
 Closes (table, None) new before after = (new ≡ (table, None)) × (after ≡ before)
-Closes (table, Some held) new before after = (new ≡ ((run_block table held).0, None)) × (after ≡ before ++ text_of (run_block table held).1)
+Closes (table, Some held) new before after =
+    (new ≡ ((run_block table held).0, None)) × (after ≡ before ++ text_of (run_block table held).1)

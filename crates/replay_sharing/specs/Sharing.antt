@@ -29,8 +29,8 @@ pub record Works (a b : Element Item) (u w : PartyOf (Element Item)) : Type 0 wh
   pub pushed : pushes events ≡ a ∷ b ∷ []
   pub rooms : w.rooms ≡ 0
 
--- A whole party has gained the pushes of 10, 11, 20 and 21, loads, and last the taking of the four, and no other event; 10
--- came before 11, and 20 before 21. The answer is what was taken, in order.
+-- A whole party has gained the pushes of 10, 11, 20 and 21, loads, and last the taking of the four, and no other event;
+-- 10 came before 11, and 20 before 21. The answer is what was taken, in order.
 pub record Shared (u w : PartyOf (Element Item)) (values : List ℕ) : Type 0 where
   pub events : List (Event Name (Element Item))
   pub adds : Adds u (events ++ Taken (name_of u) (reverse (pushes events)) ∷ []) w
@@ -49,6 +49,8 @@ shown (v ∷ w ∷ vs) = decimal v ++ 32 ∷ shown (w ∷ vs)
 abbrev pub Prints : (took : List ℕ → Type 0) (write_failed : Type 0) → Result (Unit {0}) Fault → Type 0
 Prints took write_failed (Ok _) = took (shown (10 ∷ 11 ∷ 20 ∷ 21 ∷ []))
 Prints took write_failed (Err faults.Memory) = took []
-Prints took write_failed (Err faults.Write) = write_failed × (written : List ℕ) × (rest : List ℕ) × (shown (10 ∷ 11 ∷ 20 ∷ 21 ∷ []) ≡ written ++ rest) × took written
+Prints took write_failed (Err faults.Write) =
+    write_failed × (written : List ℕ) × (rest : List ℕ) × (shown (10 ∷ 11 ∷ 20 ∷ 21 ∷ []) ≡ written ++ rest)
+    × took written
 Prints took write_failed (Err faults.Read) = ⊥
 Prints took write_failed (Err (faults.BadLine n)) = ⊥

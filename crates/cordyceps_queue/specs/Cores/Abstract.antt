@@ -1,7 +1,9 @@
 -- A queue's machine as functions of a room's or a party's number, whoever keeps the words: what each step does to it.
 use Rattle.std.specs.Prelude.{ℕ, zero, suc, Bool, true, false, cond, eqb, ltb, List, [], ◌∷◌, Option, Some, None}
 use Rattle.cordyceps_queue.specs.declared.cores.stage.Stage.{Stage}
-use Rattle.cordyceps_queue.specs.declared.cores.stage.Stage.TheVariants.{Rest, Cleared, Swapped, Holding, StubNull, Second, Null, PutClear, PutSwap, PutLink, PutRead}
+use Rattle.cordyceps_queue.specs.declared.cores.stage.Stage.TheVariants.{Rest, Cleared, Swapped, Holding, StubNull}
+use Rattle.cordyceps_queue.specs.declared.cores.stage.Stage.TheVariants.{Second, Null, PutClear, PutSwap, PutLink}
+use Rattle.cordyceps_queue.specs.declared.cores.stage.Stage.TheVariants.{PutRead}
 use Rattle.cordyceps_queue.specs.declared.cores.steps.QueueStep.{QueueStep}
 use Rattle.cordyceps_queue.specs.declared.cores.steps.QueueStep.TheVariants as step
 use Rattle.cordyceps_queue.specs.declared.cores.steps.QueueAnswer.{QueueAnswer}
@@ -44,7 +46,11 @@ module _ {P E : Type 0} where
   add_party m k name = record m { party = update m.party k (Some (record { name = name; stage = Rest; spare = [] })) }
 
   abbrev pub add_room : AbstractMachine P E → ℕ → AbstractParty P → AbstractMachine P E
-  add_room m k p = record m { count = suc m.count; party = update m.party k (Some (record p { spare = insert_room m.count p.spare })) }
+  add_room m k p =
+      record m {
+        count = suc m.count;
+        party = update m.party k (Some (record p { spare = insert_room m.count p.spare }));
+      }
 
   -- a free room gets the element
   abbrev pub clear_room : AbstractMachine P E → ℕ → AbstractParty P → ℕ → List ℕ → E → AbstractMachine P E
@@ -89,11 +95,14 @@ module _ {P E : Type 0} where
 
   abbrev pub takes : AbstractMachine P E → ℕ → AbstractParty P → ℕ → Option (Move P E)
   takes m k p zero = Some (record { after = m; answer = answer.Busy; events = Event.Busy p.name ∷ [] })
-  takes m k p (suc t) = Some (record { after = set_right m k p 0 (Holding t); answer = answer.Taken; events = Event.Take p.name ∷ [] })
+  takes m k p (suc t) =
+      Some (record { after = set_right m k p 0 (Holding t); answer = answer.Taken; events = Event.Take p.name ∷ [] })
 
-  abbrev pub gives_out : AbstractMachine P E → ℕ → AbstractParty P → ℕ → ℕ → Option E → List (Event P E) → Option (Move P E)
+  abbrev pub gives_out : AbstractMachine P E → ℕ → AbstractParty P → ℕ → ℕ → Option E → List (Event P E) →
+      Option (Move P E)
   gives_out m k p t r None before = None
-  gives_out m k p t r (Some e) before = Some (record { after = hand_out m k p t r; answer = answer.Out e; events = Event.Out p.name e ∷ before })
+  gives_out m k p t r (Some e) before =
+      Some (record { after = hand_out m k p t r; answer = answer.Out e; events = Event.Out p.name e ∷ before })
 
   -- the next word of the tail t, which is no stub, was read
   abbrev pub reads : AbstractMachine P E → ℕ → AbstractParty P → ℕ → Option ℕ → List (Event P E) → Option (Move P E)
@@ -116,7 +125,8 @@ module _ {P E : Type 0} where
   reads_put m k p t (Some r) = gives_out m k p t r (m.cell t) []
 
   abbrev pub heads_stub : AbstractMachine P E → ℕ → AbstractParty P → Bool → Option (Move P E)
-  heads_stub m k p true = Some (record { after = stands m k p (Holding 0); answer = answer.Empty; events = Event.Empty p.name ∷ [] })
+  heads_stub m k p true =
+      Some (record { after = stands m k p (Holding 0); answer = answer.Empty; events = Event.Empty p.name ∷ [] })
   heads_stub m k p false = fails m k p 0
 
   abbrev pub heads : AbstractMachine P E → ℕ → AbstractParty P → ℕ → Bool → Option (Move P E)

@@ -1,6 +1,7 @@
--- Which cores meet which histories, and what a run of a core's steps is. A core's parties are named by their numbers, and
--- its history has the oldest event first.
-use Rattle.std.specs.Prelude.{◌≡◌, ◌≢◌, ℕ, suc, List, [], ◌∷◌, ◌++◌, length, reverse, Option, Some, None, Ok, Err, slice_get}
+-- Which cores meet which histories, and what a run of a core's steps is. A core's parties are named by their numbers,
+-- and its history has the oldest event first.
+use Rattle.std.specs.Prelude.{◌≡◌, ◌≢◌, ℕ, suc, List, [], ◌∷◌, ◌++◌, length, reverse, Option, Some, None, Ok, Err}
+use Rattle.std.specs.Prelude.{slice_get}
 use native.Mathlib.Decide.{ℕ_discrete}
 use Rattle.cordyceps_base.specs.Runs.{Ran, history_after, AllSay}
 use Rattle.cordyceps_queue.specs.declared.cores.stage.Stage.{Stage}
@@ -74,11 +75,15 @@ module _ {E : Type 0} where
   core_says h s a = AnswerSays h s.0 a
 
   -- the core took the first steps of all, with these replies; it meets each history that it met, with their events
-  pub record Replayed (all : List (ℕ × QueueStep E)) (old new : Machine E) (replies : List (Answered E)) (rest : List (ℕ × QueueStep E)) : Type 0 where
+  pub record Replayed (all : List (ℕ × QueueStep E)) (old new : Machine E) (replies : List (Answered E))
+      (rest : List (ℕ × QueueStep E)) : Type 0 where
     pub run : Ran core_step all old new replies rest
-    pub meets : (h : List (Event ℕ E)) → CoreMeets h old → CoreMeets (history_after core_step core_events h old run.ran) new × AllSay core_step core_events core_says h old run.ran
+    pub meets : (h : List (Event ℕ E)) → CoreMeets h old →
+        CoreMeets (history_after core_step core_events h old run.ran) new
+        × AllSay core_step core_events core_says h old run.ran
     -- what went out, and then what is held, is what came in
-    pub in_order : (h : List (Event ℕ E)) → CoreMeets h old → let now = history_after core_step core_events h old run.ran in went now ++ held now ≡ came now
+    pub in_order : (h : List (Event ℕ E)) → CoreMeets h old →
+        let now = history_after core_step core_events h old run.ran in went now ++ held now ≡ came now
 
   -- a core that has no party
   abbrev pub new_machine : Machine E
@@ -88,4 +93,10 @@ module _ {E : Type 0} where
   with_party m = record { head = m.head; right = m.right; rooms = m.rooms; parties = m.parties ++ Rest ∷ [] }
 
   abbrev pub with_room : Machine E → ℕ → Machine E
-  with_room m p = record { head = m.head; right = m.right; rooms = m.rooms ++ record { owner = Some p; element = None; next = None } ∷ []; parties = m.parties }
+  with_room m p =
+      record {
+        head = m.head;
+        right = m.right;
+        rooms = m.rooms ++ record { owner = Some p; element = None; next = None } ∷ [];
+        parties = m.parties;
+      }

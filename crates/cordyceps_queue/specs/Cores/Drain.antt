@@ -1,5 +1,6 @@
 -- Several tries that one party runs alone, one after the other, and what their call answers.
-use Rattle.std.specs.Prelude.{◌≡◌, ◌≢◌, ℕ, zero, suc, ◌-◌, ◌≤◌, Bool, true, false, List, [], ◌∷◌, ◌++◌, length, take, count_by, vec_items, Option, Some, None, Result, Ok, Err, Vec}
+use Rattle.std.specs.Prelude.{◌≡◌, ◌≢◌, ℕ, zero, suc, ◌-◌, ◌≤◌, Bool, true, false, List, [], ◌∷◌, ◌++◌, length, take}
+use Rattle.std.specs.Prelude.{count_by, vec_items, Option, Some, None, Result, Ok, Err, Vec}
 use native.Mathlib.Decide.{ℕ_discrete}
 use Rattle.cordyceps_shared.specs.Rooms.{occupied}
 use Rattle.cordyceps_queue.specs.declared.cores.stage.Stage.{Stage}
@@ -92,8 +93,8 @@ module _ {E : Type 0} where
   last_look p (Some Rest) es = Take p ∷ outs p es ++ Look p ∷ []
   last_look p stage es = outs p es ++ Look p ∷ []
 
-  -- why no more came: as many came as were asked for; no more was held; the history was blocked just after the last look; or
-  -- another party had the right
+  -- why no more came: as many came as were asked for; no more was held; the history was blocked just after the last
+  -- look; or another party had the right
   abbrev pub Stops : List (Event ℕ E) → ℕ → ℕ → Option Stage → List E → Option TryDequeueError → Type 0
   Stops h p n stage es None = length es ≡ n
   Stops h p n stage es (Some error.Empty) = held h ≡ es
@@ -101,7 +102,8 @@ module _ {E : Type 0} where
   Stops h p n stage es (Some error.Busy) = (es ≡ []) × (q : ℕ) × (holder h ≡ Some q) × (p ≢ q)
 
   -- what a call took, by the history before it: the oldest elements, and why no more
-  pub record Drains (h : List (Event ℕ E)) (p n : ℕ) (stage : Option Stage) (es : List E) (stop : Option TryDequeueError) : Type 0 where
+  pub record Drains (h : List (Event ℕ E)) (p n : ℕ) (stage : Option Stage) (es : List E)
+      (stop : Option TryDequeueError) : Type 0 where
     pub rest : List E
     pub front : held h ≡ es ++ rest
     pub few : length es ≤ n

@@ -1,9 +1,12 @@
 -- The machine of a queue's core as plain data, and what each step does to it.
-use Rattle.std.specs.Prelude.{ℕ, zero, suc, List, [], ◌∷◌, Bool, true, false, nat_eq, Option, Some, None, Result, Ok, Err, slice_get, slice_set, is_some, if◌then◌else◌}
+use Rattle.std.specs.Prelude.{ℕ, zero, suc, List, [], ◌∷◌, Bool, true, false, nat_eq, Option, Some, None, Result, Ok}
+use Rattle.std.specs.Prelude.{Err, slice_get, slice_set, is_some, if◌then◌else◌}
 use Rattle.cordyceps_base.specs.declared.shared.StepError.{StepError}
 use Rattle.cordyceps_base.specs.declared.shared.StepError.TheVariants.{NotThere}
 use Rattle.cordyceps_queue.specs.declared.cores.stage.Stage.{Stage}
-use Rattle.cordyceps_queue.specs.declared.cores.stage.Stage.TheVariants.{Rest, Cleared, Swapped, Holding, StubNull, Second, Null, PutClear, PutSwap, PutLink, PutRead}
+use Rattle.cordyceps_queue.specs.declared.cores.stage.Stage.TheVariants.{Rest, Cleared, Swapped, Holding, StubNull}
+use Rattle.cordyceps_queue.specs.declared.cores.stage.Stage.TheVariants.{Second, Null, PutClear, PutSwap, PutLink}
+use Rattle.cordyceps_queue.specs.declared.cores.stage.Stage.TheVariants.{PutRead}
 use Rattle.cordyceps_queue.specs.declared.cores.steps.QueueStep.{QueueStep}
 use Rattle.cordyceps_queue.specs.declared.cores.steps.QueueStep.TheVariants as step
 use Rattle.cordyceps_queue.specs.declared.cores.steps.QueueAnswer.{QueueAnswer}
@@ -60,35 +63,62 @@ module _ {E : Type 0} where
 
   -- p goes to another stage
   abbrev pub stands : Machine E → ℕ → Stage → QueueAnswer E → Outcome E
-  stands m p stage a = (record { head = m.head; right = m.right; rooms = m.rooms; parties = slice_set m.parties p stage }, Ok a)
+  stands m p stage a =
+      (record { head = m.head; right = m.right; rooms = m.rooms; parties = slice_set m.parties p stage }, Ok a)
 
   -- an element goes into the least free room
   abbrev pub clear : Machine E → ℕ → E → Option ℕ → Outcome E
   clear m p e None = (m, Err (NotThere, Some e))
-  clear m p e (Some r) =
-      (record { head = m.head; right = m.right; rooms = change (holding e) r m.rooms; parties = slice_set m.parties p (Cleared r) }, Ok answer.Done)
+  clear m p e (Some r) = (
+    record {
+      head = m.head;
+      right = m.right;
+      rooms = change (holding e) r m.rooms;
+      parties = slice_set m.parties p (Cleared r);
+    },
+    Ok answer.Done,
+  )
 
   -- head becomes this room
   abbrev pub swap : Machine E → ℕ → ℕ → Stage → Outcome E
-  swap m p r stage = (record { head = r; right = m.right; rooms = m.rooms; parties = slice_set m.parties p stage }, Ok answer.Done)
+  swap m p r stage =
+      (record { head = r; right = m.right; rooms = m.rooms; parties = slice_set m.parties p stage }, Ok answer.Done)
 
   -- the next word of a room is written
   abbrev pub link : Machine E → ℕ → ℕ → Option ℕ → Stage → Outcome E
-  link m p at next stage =
-      (record { head = m.head; right = m.right; rooms = change (linking next) at m.rooms; parties = slice_set m.parties p stage }, Ok answer.Done)
+  link m p at next stage = (
+    record {
+      head = m.head;
+      right = m.right;
+      rooms = change (linking next) at m.rooms;
+      parties = slice_set m.parties p stage;
+    },
+    Ok answer.Done,
+  )
 
   abbrev pub take : Machine E → ℕ → Option ℕ → Outcome E
   take m p None = (m, Ok answer.Busy)
-  take m p (Some t) = (record { head = m.head; right = None; rooms = m.rooms; parties = slice_set m.parties p (Holding t) }, Ok answer.Taken)
+  take m p (Some t) = (
+    record { head = m.head; right = None; rooms = m.rooms; parties = slice_set m.parties p (Holding t) },
+    Ok answer.Taken,
+  )
 
   abbrev pub give : Machine E → ℕ → ℕ → Outcome E
-  give m p t = (record { head = m.head; right = Some t; rooms = m.rooms; parties = slice_set m.parties p Rest }, Ok answer.Done)
+  give m p t =
+      (record { head = m.head; right = Some t; rooms = m.rooms; parties = slice_set m.parties p Rest }, Ok answer.Done)
 
   -- the tail's element comes out, its room is p's, and the room behind it becomes the tail; in a core the tail has one
   abbrev pub hand_out : Machine E → ℕ → ℕ → ℕ → Option E → Outcome E
   hand_out m p t r None = refused m step.ReadNext
-  hand_out m p t r (Some e) =
-      (record { head = m.head; right = m.right; rooms = change (freeing p) t m.rooms; parties = slice_set m.parties p (Holding r) }, Ok (answer.Out e))
+  hand_out m p t r (Some e) = (
+    record {
+      head = m.head;
+      right = m.right;
+      rooms = change (freeing p) t m.rooms;
+      parties = slice_set m.parties p (Holding r);
+    },
+    Ok (answer.Out e),
+  )
 
   -- the next word of the tail was read, where the tail is the stub, is an element's, or is read again
   abbrev pub read_stub : Machine E → ℕ → Option ℕ → Outcome E

@@ -4,7 +4,9 @@ use Rattle.cordyceps_shared.specs.Places.{ItemAt}
 use Rattle.cordyceps_queue.specs.History.{Event}
 use Rattle.cordyceps_queue.specs.Past.{held, holder, IsSettled, IsPendingAt, HasLooked, WasBlocked, IsLegal}
 use Rattle.cordyceps_queue.specs.declared.cores.stage.Stage.{Stage}
-use Rattle.cordyceps_queue.specs.declared.cores.stage.Stage.TheVariants.{Rest, Cleared, Swapped, Holding, StubNull, Second, Null, PutClear, PutSwap, PutLink, PutRead}
+use Rattle.cordyceps_queue.specs.declared.cores.stage.Stage.TheVariants.{Rest, Cleared, Swapped, Holding, StubNull}
+use Rattle.cordyceps_queue.specs.declared.cores.stage.Stage.TheVariants.{Second, Null, PutClear, PutSwap, PutLink}
+use Rattle.cordyceps_queue.specs.declared.cores.stage.Stage.TheVariants.{PutRead}
 use Rattle.cordyceps_queue.specs.Cores.Abstract.{AbstractParty, AbstractMachine}
 
 -- the rooms without the stub's
@@ -74,37 +76,46 @@ abbrev pub IsStranger : {P : Type 0} → (ℕ → Option (AbstractParty P)) → 
 IsStranger {P} party q = (k : ℕ) (p : AbstractParty P) → party k ≡ Some p → p.name ≢ q
 
 -- the party k with this name has the right, and its tail is t
-pub record Keeps {P E : Type 0} (keeper : Option ℕ) (rooms : List ℕ) (h : List (Event P E)) (k : ℕ) (name : P) (t : ℕ) : Type 0 where
+pub record Keeps {P E : Type 0} (keeper : Option ℕ) (rooms : List ℕ) (h : List (Event P E)) (k : ℕ) (name : P)
+    (t : ℕ) : Type 0 where
   pub kept : keeper ≡ Some k
   pub held_by : holder h ≡ Some name
   pub tail : ItemAt rooms 0 t
   pub settled : IsSettled name h
 
 -- the same, the tail is no stub, and the party has looked
-pub record Real {P E : Type 0} (keeper : Option ℕ) (rooms : List ℕ) (h : List (Event P E)) (k : ℕ) (name : P) (t : ℕ) : Type 0 where
+pub record Real {P E : Type 0} (keeper : Option ℕ) (rooms : List ℕ) (h : List (Event P E)) (k : ℕ) (name : P)
+    (t : ℕ) : Type 0 where
   pub keeps : Keeps keeper rooms h k name t
   pub is_real : t ≢ 0
   pub looked : HasLooked name h
 
-module _ {P E : Type 0} (head : ℕ) (next : ℕ → Option ℕ) (cell : ℕ → Option E) (owner : ℕ → Owner) (keeper : Option ℕ) (rooms : List ℕ) (h : List (Event P E)) where
+module _ {P E : Type 0} (head : ℕ) (next : ℕ → Option ℕ) (cell : ℕ → Option E) (owner : ℕ → Owner) (keeper : Option ℕ)
+    (rooms : List ℕ) (h : List (Event P E)) where
   -- what holds of party k at this stage
   abbrev pub AtStage : ℕ → P → Stage → Type 0
   AtStage k name Rest = IsSettled name h
-  AtStage k name (Cleared r) = IsSettled name h × (owner r ≡ Ready k) × (r ≢ 0) × (next r ≡ None) × (e : E) × (cell r ≡ Some e)
-  AtStage k name (Swapped r old) = (i : ℕ) × ItemAt rooms i old × ItemAt rooms (suc i) r × (r ≢ 0) × (next old ≡ None) × IsPendingAt name (rank rooms (suc i)) h
+  AtStage k name (Cleared r) =
+      IsSettled name h × (owner r ≡ Ready k) × (r ≢ 0) × (next r ≡ None) × (e : E) × (cell r ≡ Some e)
+  AtStage k name (Swapped r old) =
+      (i : ℕ) × ItemAt rooms i old × ItemAt rooms (suc i) r × (r ≢ 0) × (next old ≡ None)
+      × IsPendingAt name (rank rooms (suc i)) h
   AtStage k name (Holding t) = Keeps keeper rooms h k name t
   AtStage k name StubNull = Keeps keeper rooms h k name 0 × HasLooked name h × (head ≢ 0 → WasBlocked name h)
   AtStage k name (Second t) = Real keeper rooms h k name t
   AtStage k name (Null t) = Real keeper rooms h k name t × (head ≢ t → WasBlocked name h)
   AtStage k name (PutClear t) = Real keeper rooms h k name t × IsOut rooms
   AtStage k name (PutSwap t) = Real keeper rooms h k name t × IsOut rooms × (next 0 ≡ None)
-  AtStage k name (PutLink t old) = Real keeper rooms h k name t × ((i : ℕ) × ItemAt rooms i old × ItemAt rooms (suc i) 0 × (next old ≡ None))
+  AtStage k name (PutLink t old) =
+      Real keeper rooms h k name t × ((i : ℕ) × ItemAt rooms i old × ItemAt rooms (suc i) 0 × (next old ≡ None))
   AtStage k name (PutRead t) = Real keeper rooms h k name t × (head ≢ t)
 
 -- the right is out with a party, or it is the tail's room and 1
 abbrev pub RightIs : {P E : Type 0} → ℕ → (ℕ → Option (AbstractParty P)) → List ℕ → List (Event P E) → Option ℕ → Type 0
 RightIs right party rooms h None = (holder h ≡ None) × (t : ℕ) × (right ≡ suc t) × ItemAt rooms 0 t
-RightIs {P} {E} right party rooms h (Some k) = (right ≡ 0) × (p : AbstractParty P) × (t : ℕ) × (party k ≡ Some p) × (tail_of p.stage ≡ Some t) × (holder h ≡ Some p.name)
+RightIs {P} {E} right party rooms h (Some k) =
+    (right ≡ 0) × (p : AbstractParty P) × (t : ℕ) × (party k ≡ Some p) × (tail_of p.stage ≡ Some t)
+    × (holder h ≡ Some p.name)
 
 pub record Meets {P E : Type 0} (m : AbstractMachine P E) (c : Chain) (h : List (Event P E)) : Type 0 where
   pub legal : IsLegal h
@@ -119,7 +130,8 @@ pub record Meets {P E : Type 0} (m : AbstractMachine P E) (c : Chain) (h : List 
   pub holds : map m.cell (real c.rooms) ≡ map Some (held h)
   -- the parties
   pub right : RightIs m.right m.party c.rooms h c.keeper
-  pub fits : (k : ℕ) (p : AbstractParty P) → m.party k ≡ Some p → AtStage m.head m.next m.cell c.owner c.keeper c.rooms h k p.name p.stage
+  pub fits : (k : ℕ) (p : AbstractParty P) → m.party k ≡ Some p →
+      AtStage m.head m.next m.cell c.owner c.keeper c.rooms h k p.name p.stage
   pub rooms : (k : ℕ) (p : AbstractParty P) → m.party k ≡ Some p → OwnsRooms c.owner k p.spare
   pub names : (j k : ℕ) (p q : AbstractParty P) → m.party j ≡ Some p → m.party k ≡ Some q → p.name ≡ q.name → j ≡ k
   pub strangers : (q : P) → IsStranger m.party q → IsSettled q h

@@ -1,4 +1,5 @@
--- What a consumer promises that takes several elements out in one call: of the party u before, and of the party w after.
+-- What a consumer promises that takes several elements out in one call: of the party u before, and of the party w
+-- after.
 use Rattle.std.specs.Prelude.{◌≡◌, ◌≢◌, ◌⊎◌, ℕ, ◌+◌, ◌<◌, List, [], ◌∷◌, ◌++◌, length}
 use Rattle.cordyceps_shared.specs.Standings.{name_of}
 use Rattle.cordyceps_queue.specs.History.{Event, Look, Out, Empty}
@@ -10,8 +11,8 @@ outs p [] = []
 outs p (e ∷ es) = Look p ∷ Out p e ∷ outs p es
 
 module _ {E : Type 0} where
-  -- the tries gave these elements: as many as were asked for, or fewer, and then a try found that nothing was held, or one was
-  -- blocked
+  -- the tries gave these elements: as many as were asked for, or fewer, and then a try found that nothing was held, or
+  -- one was blocked
   abbrev pub StopsAt : ℕ → List E → PartyOf E → PartyOf E → Type 0
   StopsAt max es u w =
       ((length es ≡ max) × Adds u (outs (name_of u) es) w)

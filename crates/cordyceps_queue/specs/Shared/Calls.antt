@@ -9,7 +9,8 @@ use Rattle.cordyceps_shared.specs.Standings.{Standing, name_of}
 use Rattle.cordyceps_shared.specs.Standings as parties
 use Rattle.cordyceps_queue.specs.declared.cores.steps.TryDequeueError.{TryDequeueError}
 use Rattle.cordyceps_queue.specs.declared.cores.steps.TryDequeueError.TheVariants as error
-use Rattle.cordyceps_queue.specs.History.{Event, Swap, Link, Take, Busy, Look, Out, Empty, Free, actor, holder, IsLegal, IsPending, IsBlocked}
+use Rattle.cordyceps_queue.specs.History.{Event, Swap, Link, Take, Busy, Look, Out, Empty, Free, actor, holder, IsLegal}
+use Rattle.cordyceps_queue.specs.History.{IsPending, IsBlocked}
 
 -- what a contract sees of a queue: its table, and the stub that its maker handed in
 pub record QueueOf (E : Type 0) : Type 0 where
@@ -55,7 +56,8 @@ module _ {E : Type 0} where
   -- it took the right, tried, and gave the right back, or another party had the right
   abbrev pub Dequeues : Result E TryDequeueError → PartyOf E → PartyOf E → Type 0
   Dequeues (Ok e) u w =
-      Adds u (Take (name_of u) ∷ Look (name_of u) ∷ Out (name_of u) e ∷ Free (name_of u) ∷ []) w × (w.rooms ≡ suc u.rooms)
+      Adds u (Take (name_of u) ∷ Look (name_of u) ∷ Out (name_of u) e ∷ Free (name_of u) ∷ []) w
+      × (w.rooms ≡ suc u.rooms)
   Dequeues (Err error.Empty) u w =
       Adds u (Take (name_of u) ∷ Look (name_of u) ∷ Empty (name_of u) ∷ Free (name_of u) ∷ []) w × (w.rooms ≡ u.rooms)
   Dequeues (Err error.Inconsistent) u w =
@@ -98,7 +100,8 @@ module _ {E : Type 0} where
   Retries Fails u (v ∷ vs) w = Fails u v × Retries Fails v vs w
 
   -- it failed as often as it did, and then ended so
-  abbrev pub AtLast : (PartyOf E → PartyOf E → Type 0) → (PartyOf E → PartyOf E → Type 0) → PartyOf E → PartyOf E → Type 0
+  abbrev pub AtLast : (PartyOf E → PartyOf E → Type 0) → (PartyOf E → PartyOf E → Type 0) → PartyOf E → PartyOf E →
+      Type 0
   AtLast Fails Ends u w = (tries : List (PartyOf E)) × (v : PartyOf E) × Retries Fails u tries v × Ends v w
 
   -- a try that a waiting call follows with another

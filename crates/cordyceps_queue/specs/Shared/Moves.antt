@@ -16,8 +16,8 @@ module _ {E A : Type 0} (f : E → A) where
   got_by (Out p e) = f e ∷ []
   got_by _ = []
 
-  -- from u to w the party put in elements of which f tells the first list, and took out those of which it tells the second, each
-  -- in this order
+  -- from u to w the party put in elements of which f tells the first list, and took out those of which it tells the
+  -- second, each in this order
   abbrev pub Moves : List A → List A → PartyOf E → PartyOf E → Type 0
   Moves sent got u w = parties.Moves put_by got_by sent got u w
 

@@ -16,7 +16,8 @@ module _ {E : Type 0} where
 
   abbrev pub learned : TableStep E → SeatState E → ℕ → SeatState E → Type 0
   learned st m read k =
-      (k.0 ≡ view_without_told m.0) × (k.1 ≡ m.1) × IsKnown (λ h. LegalReversed h) m.0.known × (length m.0.free ≤ st.slots)
+      (k.0 ≡ view_without_told m.0) × (k.1 ≡ m.1) × IsKnown (λ h. LegalReversed h) m.0.known
+      × (length m.0.free ≤ st.slots)
       × NonePending m.0.known.share (plain m.0.known.seen) × NoneHolds m.0.known.share (plain m.0.known.seen)
 
   -- what a party has that gave up the first n of its free rooms, and what the new one has
@@ -24,11 +25,19 @@ module _ {E : Type 0} where
   view_keeping n v = record v { known = knowing.known_keeping v.known; free = drop n v.free }
 
   abbrev pub view_giving : ℕ → View E → View E
-  view_giving n v = record { known = knowing.known_giving v.known; free = take n v.free; back = []; stage = Rest; item = None }
+  view_giving n v =
+      record { known = knowing.known_giving v.known; free = take n v.free; back = []; stage = Rest; item = None }
 
   -- what a party has that took another in, and what is left of the other
   abbrev pub view_absorbing : View E → View E → View E
-  view_absorbing v w = record { known = knowing.known_absorbing v.known w.known; free = v.free ++ w.free; back = []; stage = Rest; item = None }
+  view_absorbing v w =
+      record {
+        known = knowing.known_absorbing v.known w.known;
+        free = v.free ++ w.free;
+        back = [];
+        stage = Rest;
+        item = None;
+      }
 
   abbrev pub view_absorbed : View E
   view_absorbed = record { known = knowing.known_absorbed; free = []; back = []; stage = Rest; item = None }

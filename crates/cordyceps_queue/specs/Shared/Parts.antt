@@ -35,7 +35,8 @@ module _ {E : Type 0} where
   -- what a try came to, after these events, and the tail after it
   abbrev pub Tries : List (Event Name E) → ℕ → SeatState E → SeatState E → ℕ → Tried E → Type 0
   Tries before slots m k t (Out full) = HandsOneOut before slots full.ticket t full.item m k
-  Tries before slots m k t Empty = IsHolding slots t k × stands_at (before ++ Event.Empty (name m.0) ∷ []) (Holding t) m k
+  Tries before slots m k t Empty =
+      IsHolding slots t k × stands_at (before ++ Event.Empty (name m.0) ∷ []) (Holding t) m k
   Tries before slots m k t Inconsistent = IsHolding slots t k × stands_at before (Holding t) m k × Blocked k.0
 
   -- the party took the right, or another party has it
@@ -48,22 +49,25 @@ module _ {E : Type 0} where
   Dequeued slots m k None = (k.0.free ≡ m.0.free) × Sees m.0 (Event.Busy (name m.0) ∷ []) k.0
   Dequeued slots m k (Some (Out full)) =
       (k.0.free ≡ full.ticket ∷ m.0.free)
-      × Sees m.0 (Event.Take (name m.0) ∷ Event.Look (name m.0) ∷ Event.Out (name m.0) full.item ∷ Event.Free (name m.0) ∷ []) k.0
+      × Sees m.0 (Event.Take (name m.0) ∷ Event.Look (name m.0) ∷ Event.Out (name m.0) full.item ∷ Event.Free (name m.0)
+      ∷ []) k.0
       × (length m.0.free ≤ slots)
   Dequeued slots m k (Some Empty) =
       (k.0.free ≡ m.0.free)
-      × Sees m.0 (Event.Take (name m.0) ∷ Event.Look (name m.0) ∷ Event.Empty (name m.0) ∷ Event.Free (name m.0) ∷ []) k.0
+      × Sees m.0 (Event.Take (name m.0) ∷ Event.Look (name m.0) ∷ Event.Empty (name m.0) ∷ Event.Free (name m.0)
+      ∷ []) k.0
   Dequeued slots m k (Some Inconsistent) =
       (k.0.free ≡ m.0.free)
-      × ((v : View E) × Sees m.0 (Event.Take (name m.0) ∷ Event.Look (name m.0) ∷ []) v × Blocked v × Sees v (Event.Free (name m.0) ∷ []) k.0)
+      × ((v : View E) × Sees m.0 (Event.Take (name m.0) ∷ Event.Look (name m.0) ∷ []) v × Blocked v
+      × Sees v (Event.Free (name m.0) ∷ []) k.0)
 
   -- ---- parties
   -- what a contract sees of a party with this seat
   abbrev pub standing : TableId → View E → PartyOf E
   standing z v = record { table = z; seen = v.known.seen; share = v.known.share; rooms = length (v.back ++ v.free) }
 
-  -- the party is between two calls, has the tickets of its free rooms, and has seen a legal history, a whole party with no
-  -- event of another; its names are a share, of which none is pending, and none has the right
+  -- the party is between two calls, has the tickets of its free rooms, and has seen a legal history, a whole party with
+  -- no event of another; its names are a share, of which none is pending, and none has the right
   pub record IsSeated (z : TableId) (m : SeatState E) (tickets : List ℕ) : Type 0 where
     pub table : IsTable z
     pub rests : IsResting z.slots m
@@ -74,8 +78,8 @@ module _ {E : Type 0} where
     pub linked : NonePending m.0.known.share (plain m.0.known.seen)
     pub unheld : NoneHolds m.0.known.share (plain m.0.known.seen)
 
-  -- the party has the right, its tail is t, and it has the tickets of its rooms; it has seen a legal history, a whole party
-  -- with no event of another; its names are a share, of which none is pending, and the first has the right
+  -- the party has the right, its tail is t, and it has the tickets of its rooms; it has seen a legal history, a whole
+  -- party with no event of another; its names are a share, of which none is pending, and the first has the right
   pub record IsConsuming (z : TableId) (t : ℕ) (m : SeatState E) (tickets : List ℕ) : Type 0 where
     pub table : IsTable z
     pub holds : IsHolding z.slots t m

@@ -1,12 +1,14 @@
--- What each atomic step tells a party of a queue: of its seat m before, of the word that it found, and of its seat k after.
--- A seat has a view, and the slots in hand, the last taken first.
+-- What each atomic step tells a party of a queue: of its seat m before, of the word that it found, and of its seat k
+-- after. A seat has a view, and the slots in hand, the last taken first.
 use Rattle.std.specs.Prelude.{◌≡◌, ◌≢◌, ℕ, suc, ◌<◌, ◌≤◌, List, [], ◌∷◌, ◌++◌, reverse, length, Option, Some, None}
 use Rattle.atomic_table.specs.Table.{Me}
 use Rattle.cordyceps_shared.specs.Histories.{plain}
 use Rattle.cordyceps_shared.specs.Knowing.{Grown}
 use Rattle.cordyceps_shared.specs.Shares.{Name}
 use Rattle.cordyceps_queue.specs.declared.cores.stage.Stage.{Stage}
-use Rattle.cordyceps_queue.specs.declared.cores.stage.Stage.TheVariants.{Rest, Cleared, Swapped, Holding, StubNull, Second, Null, PutClear, PutSwap, PutLink, PutRead}
+use Rattle.cordyceps_queue.specs.declared.cores.stage.Stage.TheVariants.{Rest, Cleared, Swapped, Holding, StubNull}
+use Rattle.cordyceps_queue.specs.declared.cores.stage.Stage.TheVariants.{Second, Null, PutClear, PutSwap, PutLink}
+use Rattle.cordyceps_queue.specs.declared.cores.stage.Stage.TheVariants.{PutRead}
 use Rattle.cordyceps_shared.specs.declared.slots.Filled.{Filled}
 use Rattle.cordyceps_queue.specs.History.{Event, actor}
 use Rattle.cordyceps_queue.specs.Past.{IsLegal, WasBlocked}
@@ -30,18 +32,22 @@ module _ {E : Type 0} where
 
   abbrev pub cleared_for : Option E → ℕ → SeatState E → SeatState E → Type 0
   cleared_for item slots m k = (r : ℕ) (rs : List ℕ) (e : E) → m.0.free ≡ r ∷ rs → item ≡ Some e
-      → (k.0.stage ≡ Cleared r) × (k.0.item ≡ Some e) × (k.0.free ≡ rs) × (k.0.back ≡ m.0.back) × (k.1 ≡ (r, None) ∷ m.1) × (r < slots) × Sees m.0 [] k.0
+      → (k.0.stage ≡ Cleared r) × (k.0.item ≡ Some e) × (k.0.free ≡ rs) × (k.0.back ≡ m.0.back)
+      × (k.1 ≡ (r, None) ∷ m.1) × (r < slots) × Sees m.0 [] k.0
 
   abbrev pub cleared : Option E → TableStep E → SeatState E → ℕ → SeatState E → Type 0
   cleared item st m read k = cleared_for item st.slots m k
 
   abbrev pub swapped : TableStep E → SeatState E → ℕ → SeatState E → Type 0
-  swapped st m found k = (r : ℕ) (e : E) (cs : Hand E) → m.0.stage ≡ Cleared r → m.0.item ≡ Some e → m.1 ≡ (r, Some (full_slot r e)) ∷ cs
-      → (k.0.stage ≡ Swapped r found) × (k.0.free ≡ m.0.free) × (k.0.back ≡ m.0.back) × (k.1 ≡ cs) × (found < st.slots) × Sees m.0 (Event.Swap (name m.0) e ∷ []) k.0
+  swapped st m found k =
+      (r : ℕ) (e : E) (cs : Hand E) → m.0.stage ≡ Cleared r → m.0.item ≡ Some e → m.1 ≡ (r, Some (full_slot r e)) ∷ cs
+      → (k.0.stage ≡ Swapped r found) × (k.0.free ≡ m.0.free) × (k.0.back ≡ m.0.back) × (k.1 ≡ cs) × (found < st.slots)
+      × Sees m.0 (Event.Swap (name m.0) e ∷ []) k.0
 
   abbrev pub linked : TableStep E → SeatState E → ℕ → SeatState E → Type 0
   linked st m n k = (r old : ℕ) → m.0.stage ≡ Swapped r old
-      → (k.0.stage ≡ Rest) × (k.0.free ≡ m.0.free) × (k.0.back ≡ m.0.back) × (k.1 ≡ m.1) × Sees m.0 (Event.Link (name m.0) ∷ []) k.0
+      → (k.0.stage ≡ Rest) × (k.0.free ≡ m.0.free) × (k.0.back ≡ m.0.back) × (k.1 ≡ m.1)
+      × Sees m.0 (Event.Link (name m.0) ∷ []) k.0
 
   -- the slots in hand, of rooms that are to be given back
   abbrev pub carry : List ℕ → Hand E
@@ -50,21 +56,27 @@ module _ {E : Type 0} where
 
   -- the party has the right, its tail is t, and it has in hand the emptied slot of what it handed out last, if any
   abbrev pub IsHolding : ℕ → ℕ → SeatState E → Type 0
-  IsHolding slots t m = (m.0.stage ≡ Holding t) × (m.1 ≡ carry m.0.back) × (m.0.known.share ≢ []) × Near slots (m.0.back ++ m.0.free) × (t < slots)
+  IsHolding slots t m =
+      (m.0.stage ≡ Holding t) × (m.1 ≡ carry m.0.back) × (m.0.known.share ≢ []) × Near slots (m.0.back ++ m.0.free)
+      × (t < slots)
 
   -- the slot is given back, and the party stands at this stage
   abbrev pub stands_at : List (Event Name E) → Stage → SeatState E → SeatState E → Type 0
-  stands_at es stage m k = (k.0.stage ≡ stage) × (k.0.back ≡ []) × (k.0.free ≡ m.0.back ++ m.0.free) × (k.1 ≡ []) × Sees m.0 es k.0
+  stands_at es stage m k =
+      (k.0.stage ≡ stage) × (k.0.back ≡ []) × (k.0.free ≡ m.0.back ++ m.0.free) × (k.1 ≡ []) × Sees m.0 es k.0
 
   -- the tail's element is handed out
   abbrev pub hands_out : List (Event Name E) → ℕ → ℕ → ℕ → SeatState E → SeatState E → Type 0
-  hands_out before slots t r m k = (e : E) × (k.0.stage ≡ Holding r) × (k.0.back ≡ t ∷ []) × (k.0.free ≡ m.0.back ++ m.0.free) × (k.1 ≡ (t, Some (full_slot t e)) ∷ [])
+  hands_out before slots t r m k =
+      (e : E) × (k.0.stage ≡ Holding r) × (k.0.back ≡ t ∷ []) × (k.0.free ≡ m.0.back ++ m.0.free)
+      × (k.1 ≡ (t, Some (full_slot t e)) ∷ [])
       × (t < slots) × (r < slots) × Sees m.0 (before ++ Event.Out (name m.0) e ∷ []) k.0 × (length k.0.free ≤ slots)
 
   -- the same, and the party holds on with the emptied slot in hand
   abbrev pub HandsOneOut : List (Event Name E) → ℕ → ℕ → ℕ → E → SeatState E → SeatState E → Type 0
   HandsOneOut before slots t r e m k =
-      IsHolding slots r k × (k.0.back ≡ t ∷ []) × (k.0.free ≡ m.0.back ++ m.0.free) × Sees m.0 (before ++ Event.Out (name m.0) e ∷ []) k.0 × (length k.0.free ≤ slots)
+      IsHolding slots r k × (k.0.back ≡ t ∷ []) × (k.0.free ≡ m.0.back ++ m.0.free)
+      × Sees m.0 (before ++ Event.Out (name m.0) e ∷ []) k.0 × (length k.0.free ≤ slots)
 
   -- some beginning that contains the party's last look is blocked
   abbrev pub Blocked : View E → Type 0
@@ -72,7 +84,8 @@ module _ {E : Type 0} where
 
   -- the party is at this stage, with at most one slot in hand
   abbrev pub IsAtStage : ℕ → Stage → SeatState E → Type 0
-  IsAtStage slots stage m = (m.0.stage ≡ stage) × (m.1 ≡ carry m.0.back) × (m.0.known.share ≢ []) × Near slots (m.0.back ++ m.0.free)
+  IsAtStage slots stage m =
+      (m.0.stage ≡ stage) × (m.1 ≡ carry m.0.back) × (m.0.known.share ≢ []) × Near slots (m.0.back ++ m.0.free)
 
   abbrev pub took : TableStep E → SeatState E → ℕ → SeatState E → Type 0
   took st m found k = m.0.stage ≡ Rest

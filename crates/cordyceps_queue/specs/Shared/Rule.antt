@@ -1,5 +1,6 @@
 -- The rule of a queue's table, which each step of each party keeps.
-use Rattle.std.specs.Prelude.{◌≡◌, ◌≢◌, ℕ, zero, suc, ◌+◌, ◌-◌, ◌≤◌, List, [], ◌∷◌, ◌++◌, length, reverse, Option, Some, None}
+use Rattle.std.specs.Prelude.{◌≡◌, ◌≢◌, ℕ, zero, suc, ◌+◌, ◌-◌, ◌≤◌, List, [], ◌∷◌, ◌++◌, length, reverse, Option, Some}
+use Rattle.std.specs.Prelude.{None}
 use mathlib.Core.Option.{some, none}
 use mathlib.Core.Option as maybe
 use lib.ListN.{get_elem?}
@@ -50,7 +51,8 @@ module _ {E : Type 0} where
   party_of none = None
   party_of (some v) = party_if v.known.share (party v)
 
-  -- The machine that the words and the views spell. What the rooms have is said apart, since a slot may be out with a seat.
+  -- The machine that the words and the views spell. What the rooms have is said apart, since a slot may be out with a
+  -- seat.
   abbrev pub machine_of : (ℕ → Option E) → List ℕ → List (View E) → AbstractMachine Name E
   machine_of cell words views = record {
     head = word.head words;
@@ -63,15 +65,19 @@ module _ {E : Type 0} where
 
   -- the slots of the chain's rooms are at home, each with its element
   abbrev pub FullAtHome : Homes E → (ℕ → Option E) → List ℕ → Type 0
-  FullAtHome homes cell rooms = (i r : ℕ) → ItemAt rooms i r → r ≢ 0 → get_elem? homes r ≡ some (some (slot_of r (cell r)))
+  FullAtHome homes cell rooms =
+      (i r : ℕ) → ItemAt rooms i r → r ≢ 0 → get_elem? homes r ≡ some (some (slot_of r (cell r)))
 
   -- the slots of each party's free rooms are at home, with nothing in them
   abbrev pub AllEmptyAtHome : Homes E → List (View E) → Type 0
-  AllEmptyAtHome homes views = (j : ℕ) (v : View E) → get_elem? views j ≡ some v → v.known.share ≢ [] → EmptyAtHome homes v.free
+  AllEmptyAtHome homes views =
+      (j : ℕ) (v : View E) → get_elem? views j ≡ some v → v.known.share ≢ [] → EmptyAtHome homes v.free
 
   -- a cleared room has the element that it was cleared for
   abbrev pub AllReady : (ℕ → Option E) → List (View E) → Type 0
-  AllReady cell views = (j : ℕ) (v : View E) (r : ℕ) → get_elem? views j ≡ some v → v.known.share ≢ [] → v.stage ≡ Cleared r → cell r ≡ v.item
+  AllReady cell views =
+      (j : ℕ) (v : View E) (r : ℕ) → get_elem? views j ≡ some v → v.known.share ≢ [] → v.stage ≡ Cleared r →
+      cell r ≡ v.item
 
   -- there is one history, which the machine meets, and of which each party has seen a beginning
   pub record RuleHolds (s : TableState E) : Type 0 where

@@ -7,8 +7,8 @@ use Rattle.cordyceps_queue.specs.declared.cores.stage.Stage.{Stage}
 use Rattle.cordyceps_queue.specs.declared.cores.stage.Stage.TheVariants.{Rest}
 use Rattle.cordyceps_queue.specs.History.{Event}
 
--- what the party knows of the history; its free rooms; its rooms whose slot it has yet to give back; where it is within a
--- call; and the element that it cleared a room for
+-- what the party knows of the history; its free rooms; its rooms whose slot it has yet to give back; where it is within
+-- a call; and the element that it cleared a room for
 pub record View (E : Type 0) : Type 0 where
   pub known : Known (Event Name E)
   pub free : List ℕ

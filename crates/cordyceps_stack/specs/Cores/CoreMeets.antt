@@ -11,8 +11,8 @@ use Rattle.cordyceps_stack.specs.Cores.Stages.{AtStage, LeadsThrough, room_eleme
 use Rattle.cordyceps_stack.specs.Cores.Walks.{HandsOn, given_in}
 
 module _ {E : Type 0} where
-  -- a core meets a history: the history is legal, what it holds is in the stack, and each party stands where its events have
-  -- led it
+  -- a core meets a history: the history is legal, what it holds is in the stack, and each party stands where its events
+  -- have led it
   pub record CoreMeets (h : List (Event ℕ E)) (m : Machine E) : Type 0 where
     pub legal : Legal h
     -- the party that a room in use is with, or none where it is in the stack
@@ -57,11 +57,13 @@ module _ {E : Type 0} where
   core_says h s a = AnswerSays h s.0 a
 
   -- the core took the first of the steps, with these replies, and the others are the rest
-  pub record Replayed (all : List (ℕ × TransferStep E)) (old new : Machine E) (replies : List (Answered E)) (rest : List (ℕ × TransferStep E)) : Type 0 where
+  pub record Replayed (all : List (ℕ × TransferStep E)) (old new : Machine E) (replies : List (Answered E))
+      (rest : List (ℕ × TransferStep E)) : Type 0 where
     pub run : Ran core_step all old new replies rest
     -- it meets the history followed by the events of the steps, and each reply says what it says of the history before
     pub meets : (h : List (Event ℕ E)) → CoreMeets h old
-        → CoreMeets (history_after core_step core_events h old run.ran) new × AllSay core_step core_events core_says h old run.ran
+        → CoreMeets (history_after core_step core_events h old run.ran) new
+        × AllSay core_step core_events core_says h old run.ran
     -- what was taken, and then what is held, is what was pushed
     pub nothing_lost : (h : List (Event ℕ E)) → CoreMeets h old
         → let after = history_after core_step core_events h old run.ran in taken after ++ held after ≡ pushes after

@@ -1,5 +1,6 @@
 -- A transfer core as plain data, and what each step does to it.
-use Rattle.std.specs.Prelude.{ℕ, zero, suc, List, [], ◌∷◌, ◌++◌, reverse, Bool, true, false, nat_eq, Option, Some, None, Result, Ok, Err, slice_get, slice_set, is_none, is_some, ◌&&◌}
+use Rattle.std.specs.Prelude.{ℕ, zero, suc, List, [], ◌∷◌, ◌++◌, reverse, Bool, true, false, nat_eq, Option, Some, None}
+use Rattle.std.specs.Prelude.{Result, Ok, Err, slice_get, slice_set, is_none, is_some, ◌&&◌}
 use Rattle.std.specs.Option.{option_eq}
 use Rattle.std.specs.List.{position}
 use Rattle.cordyceps_base.specs.declared.shared.StepError.{StepError}
@@ -71,7 +72,8 @@ module _ {E : Type 0} where
   abbrev pub elements_from : ℕ → List (Room E) → Option ℕ → List E
   elements_from zero rooms start = []
   elements_from (suc n) rooms None = []
-  elements_from (suc n) rooms (Some r) = first_then (element_in (slice_get rooms r)) (elements_from n rooms (next_in (slice_get rooms r)))
+  elements_from (suc n) rooms (Some r) =
+      first_then (element_in (slice_get rooms r)) (elements_from n rooms (next_in (slice_get rooms r)))
 
   -- what a machine holds, newest first
   abbrev pub held_in : Machine E → List E
@@ -92,30 +94,45 @@ module _ {E : Type 0} where
   abbrev pub load : Machine E → ℕ → E → Option ℕ → Outcome E
   load m p e None = refused m (step.Load e)
   load m p e (Some r) = (
-    record { head = m.head; rooms = change (holding e) r m.rooms; parties = slice_set m.parties p (Loaded record { room = r; read = m.head }) },
+    record {
+      head = m.head;
+      rooms = change (holding e) r m.rooms;
+      parties = slice_set m.parties p (Loaded record { room = r; read = m.head });
+    },
     Ok answer.Done,
   )
 
   abbrev pub set_next : Machine E → ℕ → Attempt → Outcome E
-  set_next m p a =
-      (record { head = m.head; rooms = change (linking a.read) a.room m.rooms; parties = slice_set m.parties p (Set a) }, Ok answer.Done)
+  set_next m p a = (
+    record {
+      head = m.head;
+      rooms = change (linking a.read) a.room m.rooms;
+      parties = slice_set m.parties p (Set a);
+    },
+    Ok answer.Done,
+  )
 
   -- p's exchange fails, with the room r and its element; in a core the room of a push has one
   abbrev pub fails : Machine E → ℕ → ℕ → Option E → Outcome E
   fails m p r None = refused m step.Exchange
-  fails m p r (Some e) =
-      (record { head = m.head; rooms = change (freeing p) r m.rooms; parties = slice_set m.parties p Rest }, Ok (answer.Failed e))
+  fails m p r (Some e) = (
+    record { head = m.head; rooms = change (freeing p) r m.rooms; parties = slice_set m.parties p Rest },
+    Ok (answer.Failed e),
+  )
 
   -- p exchanges, where `head` is what was read, or is not
   abbrev pub exchange : Machine E → ℕ → Attempt → Bool → Outcome E
-  exchange m p a true =
-      (record { head = Some a.room; rooms = m.rooms; parties = slice_set m.parties p Rest }, Ok (answer.Pushed (is_none a.read)))
+  exchange m p a true = (
+    record { head = Some a.room; rooms = m.rooms; parties = slice_set m.parties p Rest },
+    Ok (answer.Pushed (is_none a.read)),
+  )
   exchange m p a false = fails m p a.room (element_in (slice_get m.rooms a.room))
 
   -- p takes, with this `head`
   abbrev pub take : Machine E → ℕ → Option ℕ → Outcome E
   take m p None = (m, Ok answer.Nothing)
-  take m p (Some r) = (record { head = None; rooms = m.rooms; parties = slice_set m.parties p (Walking r) }, Ok answer.Taken)
+  take m p (Some r) =
+      (record { head = None; rooms = m.rooms; parties = slice_set m.parties p (Walking r) }, Ok answer.Taken)
 
   abbrev pub handed : E → Option ℕ → TransferAnswer E
   handed e None = answer.Last e
@@ -124,8 +141,14 @@ module _ {E : Type 0} where
   -- p walks at the room r, with this link and element; in a core a room that is walked has one
   abbrev pub walk : Machine E → ℕ → ℕ → Option ℕ → Option E → Outcome E
   walk m p r next None = refused m step.Walk
-  walk m p r next (Some e) =
-      (record { head = m.head; rooms = change (freeing p) r m.rooms; parties = slice_set m.parties p (stage_after_walk next) }, Ok (handed e next))
+  walk m p r next (Some e) = (
+    record {
+      head = m.head;
+      rooms = change (freeing p) r m.rooms;
+      parties = slice_set m.parties p (stage_after_walk next);
+    },
+    Ok (handed e next),
+  )
 
   -- what p's step does at its stage
   abbrev pub acts : Machine E → ℕ → TransferStep E → Stage → Outcome E
@@ -172,7 +195,8 @@ module _ {E : Type 0} where
   push_event p None = []
   push_event p (Some e) = Push p e ∷ []
 
-  abbrev pub answer_events : {P : Type 0} → List (Event P E) → P → Option E → TransferStep E → TransferAnswer E → List (Event P E)
+  abbrev pub answer_events : {P : Type 0} → List (Event P E) → P → Option E → TransferStep E → TransferAnswer E →
+      List (Event P E)
   answer_events h p hand (step.Load e) a = Load p ∷ []
   answer_events h p hand s (answer.Pushed b) = push_event p hand
   answer_events h p hand s answer.Taken = Taken p (reverse (held h)) ∷ []
@@ -180,6 +204,7 @@ module _ {E : Type 0} where
   answer_events h p hand s a = []
 
   -- the events that a step of p adds to the history, by its answer; a refused step adds none
-  abbrev pub answered_events : {P : Type 0} → List (Event P E) → P → Option E → TransferStep E → Answered E → List (Event P E)
+  abbrev pub answered_events : {P : Type 0} → List (Event P E) → P → Option E → TransferStep E → Answered E →
+      List (Event P E)
   answered_events h p hand s (Ok a) = answer_events h p hand s a
   answered_events h p hand s (Err e) = []

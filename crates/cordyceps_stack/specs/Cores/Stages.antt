@@ -15,12 +15,13 @@ module _ {E : Type 0} where
   NotAmong r [] = Unit {0}
   NotAmong r (x ∷ xs) = (r ≢ x.0) × NotAmong r xs
 
-  -- from `start` the links lead through these rooms, with these elements, to null, and through none of them twice; `own`
-  -- says that each is with the party `with`, or with none, which is in the stack
+  -- from `start` the links lead through these rooms, with these elements, to null, and through none of them twice;
+  -- `own` says that each is with the party `with`, or with none, which is in the stack
   abbrev pub LeadsThrough : List (Room E) → (ℕ → Option ℕ) → Option ℕ → Option ℕ → List (ℕ × E) → Type 0
   LeadsThrough rooms own with start [] = start ≡ None
   LeadsThrough rooms own with start (x ∷ xs) =
-      (next : Option ℕ) × (start ≡ Some x.0) × (slice_get rooms x.0 ≡ Some (room_in_use x.1 next)) × (own x.0 ≡ with) × NotAmong x.0 xs × LeadsThrough rooms own with next xs
+      (next : Option ℕ) × (start ≡ Some x.0) × (slice_get rooms x.0 ≡ Some (room_in_use x.1 next)) × (own x.0 ≡ with)
+      × NotAmong x.0 xs × LeadsThrough rooms own with next xs
 
   -- the elements of these rooms
   abbrev pub room_elements : List (ℕ × E) → List E
@@ -53,5 +54,6 @@ module _ {E : Type 0} where
   abbrev pub AtStage : List (Event ℕ E) → Option ℕ → List (Room E) → (ℕ → Option ℕ) → ℕ → Stage → Type 0
   AtStage h head rooms own p Rest = Unit {0}
   AtStage h head rooms own p (Loaded a) = InHand rooms own p a.room × HasRead h p head a.read
-  AtStage h head rooms own p (Set a) = (hand : InHand rooms own p a.room) × (hand.next ≡ a.read) × HasRead h p head a.read
+  AtStage h head rooms own p (Set a) =
+      (hand : InHand rooms own p a.room) × (hand.next ≡ a.read) × HasRead h p head a.read
   AtStage h head rooms own p (Walking r) = HasBatchLeft h rooms own p r

@@ -24,7 +24,9 @@ module _ {E : Type 0} where
   -- from `start` the links lead through rooms with these elements to null
   abbrev pub LeadsToElements : List (Room E) → Option ℕ → List E → Type 0
   LeadsToElements rooms start [] = start ≡ None
-  LeadsToElements rooms start (e ∷ es) = (r : ℕ) × (next : Option ℕ) × (start ≡ Some r) × (slice_get rooms r ≡ Some (room_in_use e next)) × LeadsToElements rooms next es
+  LeadsToElements rooms start (e ∷ es) =
+      (r : ℕ) × (next : Option ℕ) × (start ≡ Some r) × (slice_get rooms r ≡ Some (room_in_use e next))
+      × LeadsToElements rooms next es
 
   -- what a party at this stage has yet to hand out
   abbrev pub IsLeftAt : List (Room E) → Option Stage → List E → Type 0

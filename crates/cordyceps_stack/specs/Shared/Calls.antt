@@ -39,7 +39,8 @@ module _ {E : Type 0} where
   -- it pushed e at its n-th try, which took a room, and `first` tells whether nothing was held before
   abbrev pub PushesAt : ℕ → E → Bool → PartyOf E → PartyOf E → Type 0
   PushesAt n e first u w =
-      Adds u (replicate n (Load (name_of u)) ++ Push (name_of u) e ∷ []) w × EndsPushed e (IsTrue first) (name_of u) w.seen × (u.rooms ≡ suc w.rooms)
+      Adds u (replicate n (Load (name_of u)) ++ Push (name_of u) e ∷ []) w
+      × EndsPushed e (IsTrue first) (name_of u) w.seen × (u.rooms ≡ suc w.rooms)
 
   -- it tried to push, and another came between
   abbrev pub Misses : PartyOf E → PartyOf E → Type 0

@@ -15,7 +15,7 @@ module _ {E A : Type 0} (f : E → A) where
   got_by (Taken p batch) = map f (reverse batch)
   got_by _ = []
 
-  -- from u to w the party put in elements of which f tells the first list, and took out those of which it tells the second, each
-  -- in this order, and each batch oldest first
+  -- from u to w the party put in elements of which f tells the first list, and took out those of which it tells the
+  -- second, each in this order, and each batch oldest first
   abbrev pub Moves : List A → List A → PartyOf E → PartyOf E → Type 0
   Moves sent got u w = parties.Moves put_by got_by sent got u w

@@ -1,5 +1,6 @@
 -- What the parts of a call on a shared transfer stack leave: of the party's seat m before, and of its seat k after.
-use Rattle.std.specs.Prelude.{◌≡◌, ℕ, ◌+◌, ◌<◌, ◌≤◌, List, [], ◌∷◌, ◌++◌, length, replicate, Some, Bool, true, false, IsTrue}
+use Rattle.std.specs.Prelude.{◌≡◌, ℕ, ◌+◌, ◌<◌, ◌≤◌, List, [], ◌∷◌, ◌++◌, length, replicate, Some, Bool, true, false}
+use Rattle.std.specs.Prelude.{IsTrue}
 use Rattle.atomic_table.specs.Seated.{TableId}
 use Rattle.cordyceps_shared.specs.Histories.{plain, AllOwn}
 use Rattle.cordyceps_shared.specs.Shares.{whole, IsShare}
@@ -33,7 +34,8 @@ module _ {E : Type 0} where
   -- its exchange came to this
   abbrev pub Settled : ℕ → ℕ → E → Bool → SeatState E → SeatState E → Type 0
   Settled room read x true m k =
-      (k.0.doing ≡ Idle) × (k.0.free ≡ m.0.free) × (k.1 ≡ []) × Sees m.0 (Push (name m.0) x ∷ []) k.0 × EndsPushed x (read ≡ 0) (name m.0) k.0.known.seen
+      (k.0.doing ≡ Idle) × (k.0.free ≡ m.0.free) × (k.1 ≡ []) × Sees m.0 (Push (name m.0) x ∷ []) k.0
+      × EndsPushed x (read ≡ 0) (name m.0) k.0.known.seen
   Settled room read x false m k =
       (k.0.doing ≡ Ready room) × (k.0.free ≡ m.0.free) × (k.1 ≡ m.1) × Sees m.0 [] k.0 × IsOvertaken k.0.known.seen
 
@@ -85,8 +87,8 @@ module _ {E : Type 0} where
   abbrev pub standing : TableId → View E → PartyOf E
   standing z v = record { table = z; seen = v.known.seen; share = v.known.share; rooms = length v.free }
 
-  -- the party is between two calls, has the tickets of its free rooms, and has seen a legal history, a whole party with no
-  -- event of another; and its names are a share
+  -- the party is between two calls, has the tickets of its free rooms, and has seen a legal history, a whole party with
+  -- no event of another; and its names are a share
   pub record IsSeated (z : TableId) (m : SeatState E) (tickets : List ℕ) : Type 0 where
     pub table : IsTable z
     pub rests : IsResting z.slots m

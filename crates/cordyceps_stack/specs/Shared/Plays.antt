@@ -1,5 +1,5 @@
--- What each atomic step tells a party of a transfer stack: of its seat m before, of the word that it found, and of its seat
--- k after. A seat has a view, and the slots in hand, the last taken first.
+-- What each atomic step tells a party of a transfer stack: of its seat m before, of the word that it found, and of its
+-- seat k after. A seat has a view, and the slots in hand, the last taken first.
 use Rattle.std.specs.Prelude.{◌≡◌, ◌≢◌, ℕ, ◌+◌, ◌<◌, ◌≤◌, List, [], ◌∷◌, length, Option, Some, None}
 use Rattle.atomic_table.specs.Table.{Me}
 use Rattle.cordyceps_shared.specs.Knowing.{Grown}
@@ -49,7 +49,8 @@ module _ {E : Type 0} where
   -- a read of the link of its first free room by a party that begins to push: the room's slot is in hand
   abbrev pub readied : TableStep E → SeatState E → ℕ → SeatState E → Type 0
   readied st m found k = (r : ℕ) (rs : List ℕ) → m.0.free ≡ r ∷ rs
-      → (st.word ≡ LINKS + r) × (k.0 ≡ record m.0 { doing = Ready r; free = rs }) × (k.1 ≡ (r, None) ∷ m.1) × (r < st.slots)
+      → (st.word ≡ LINKS + r) × (k.0 ≡ record m.0 { doing = Ready r; free = rs }) × (k.1 ≡ (r, None) ∷ m.1)
+      × (r < st.slots)
 
   -- a load of head by a party that pushes
   abbrev pub loaded : TableStep E → SeatState E → ℕ → SeatState E → Type 0
@@ -63,8 +64,10 @@ module _ {E : Type 0} where
   -- a compare-exchange of head
   abbrev pub exchanged : TableStep E → SeatState E → ℕ → SeatState E → Type 0
   exchanged st m found k = (r read : ℕ) (x : Filled E) (cs : Hand E) → m.0.doing ≡ Set r read → m.1 ≡ (r, Some x) ∷ cs
-      → (found ≡ read → (k.0.doing ≡ Idle) × (k.0.free ≡ m.0.free) × (k.1 ≡ cs) × Sees m.0 (Push (name m.0) x.item ∷ []) k.0 × EndsPushed x.item (found ≡ 0) (name m.0) k.0.known.seen)
-      × (found ≢ read → (k.0.doing ≡ Ready r) × (k.0.free ≡ m.0.free) × (k.1 ≡ m.1) × Sees m.0 [] k.0 × IsOvertaken k.0.known.seen)
+      → (found ≡ read → (k.0.doing ≡ Idle) × (k.0.free ≡ m.0.free) × (k.1 ≡ cs)
+      × Sees m.0 (Push (name m.0) x.item ∷ []) k.0 × EndsPushed x.item (found ≡ 0) (name m.0) k.0.known.seen)
+      × (found ≢ read → (k.0.doing ≡ Ready r) × (k.0.free ≡ m.0.free) × (k.1 ≡ m.1) × Sees m.0 [] k.0
+      × IsOvertaken k.0.known.seen)
 
   -- a read of the link of a room that is not pushed: its slot goes back
   abbrev pub returned : TableStep E → SeatState E → ℕ → SeatState E → Type 0
@@ -74,13 +77,16 @@ module _ {E : Type 0} where
   -- a swap of head: the slots of all that was held are in hand
   abbrev pub took : TableStep E → SeatState E → ℕ → SeatState E → Type 0
   took st m found k = m.0.doing ≡ Idle
-      → (chain : List (ℕ × E)) × (found ≡ start chain) × (k.0.doing ≡ walking chain) × (k.0.free ≡ m.0.free) × (k.1 ≡ carry chain m.1) × NearChain st.slots chain
+      → (chain : List (ℕ × E)) × (found ≡ start chain) × (k.0.doing ≡ walking chain) × (k.0.free ≡ m.0.free)
+      × (k.1 ≡ carry chain m.1) × NearChain st.slots chain
       × Sees m.0 (Taken (name m.0) (room_elements chain) ∷ []) k.0
 
   -- a read of the link of the next room to be handed out: its slot goes back
   abbrev pub walked : TableStep E → SeatState E → ℕ → SeatState E → Type 0
-  walked st m found k = (x : ℕ × E) (xs : List (ℕ × E)) (cs : Hand E) → m.0.doing ≡ Walking (x ∷ xs) → m.1 ≡ (x.0, None) ∷ cs
-      → (found ≡ start xs) × (k.0 ≡ record m.0 { doing = walking xs; free = x.0 ∷ m.0.free }) × (k.1 ≡ cs) × (length k.0.free ≤ st.slots)
+  walked st m found k =
+      (x : ℕ × E) (xs : List (ℕ × E)) (cs : Hand E) → m.0.doing ≡ Walking (x ∷ xs) → m.1 ≡ (x.0, None) ∷ cs
+      → (found ≡ start xs) × (k.0 ≡ record m.0 { doing = walking xs; free = x.0 ∷ m.0.free }) × (k.1 ≡ cs)
+      × (length k.0.free ≤ st.slots)
 
   -- ---- between the steps
   -- the party is between two calls
@@ -90,8 +96,10 @@ module _ {E : Type 0} where
   -- the party pushes what lies in the slot in hand, which is this room's
   abbrev pub IsReady : ℕ → ℕ → E → SeatState E → Type 0
   IsReady slots room x m =
-      (m.0.doing ≡ Ready room) × (m.1 ≡ (room, Some (full_slot room x)) ∷ []) × (m.0.known.share ≢ []) × Near slots m.0.free × (room < slots)
+      (m.0.doing ≡ Ready room) × (m.1 ≡ (room, Some (full_slot room x)) ∷ []) × (m.0.known.share ≢ [])
+      × Near slots m.0.free × (room < slots)
 
   -- the party has these rooms to hand out, and their slots in hand
   abbrev pub IsWalking : ℕ → List (ℕ × E) → SeatState E → Type 0
-  IsWalking slots xs m = (m.0.doing ≡ walking xs) × (m.1 ≡ carry xs []) × NearChain slots xs × (m.0.known.share ≢ []) × Near slots m.0.free
+  IsWalking slots xs m =
+      (m.0.doing ≡ walking xs) × (m.1 ≡ carry xs []) × NearChain slots xs × (m.0.known.share ≢ []) × Near slots m.0.free

@@ -9,7 +9,8 @@ use Rattle.cordyceps_shared.specs.Shares.{Name}
 use Rattle.cordyceps_shared.specs.Words.{head, next}
 use Rattle.cordyceps_stack.specs.History.{Event, Load, held, Legal, SomeChange}
 use Rattle.cordyceps_stack.specs.Cores.Stages.{room_elements}
-use Rattle.cordyceps_stack.specs.Shared.View.{Doing, Idle, Ready, Loaded, Set, Walking, View, in_chain, count_with_party}
+use Rattle.cordyceps_stack.specs.Shared.View.{Doing, Idle, Ready, Loaded, Set, Walking, View, in_chain}
+use Rattle.cordyceps_stack.specs.Shared.View.{count_with_party}
 
 -- each event with the seat of its party
 abbrev pub History : Type 0 → Type 0
@@ -43,9 +44,10 @@ module _ {E : Type 0} where
   AtDoing words history j (Set r read) = (next words r ≡ read) × Since words history j read
   AtDoing words history j (Walking xs) = Spells words (start xs) xs
 
-  -- the history is legal, what it holds is in the chain, no room is in two places, and each party does what its events led
-  -- it to
-  pub record WordsMeet (words : List ℕ) (chain : List (ℕ × E)) (views : List (View E)) (history : History E) : Type 0 where
+  -- the history is legal, what it holds is in the chain, no room is in two places, and each party does what its events
+  -- led it to
+  pub record WordsMeet (words : List ℕ) (chain : List (ℕ × E)) (views : List (View E))
+      (history : History E) : Type 0 where
     pub legal : Legal (events history)
     pub spelled : Spells words (head words) chain
     pub holds : room_elements chain ≡ reverse (held (events history))
