@@ -63,6 +63,7 @@ impl Work {
         *sum += *number as u64;
         *ran += 1;
     }
+
     /// Runs all rounds that are left, one after the other.
     pub fn finish(&mut self)
         ensures number { self.new.number ≡ self.old.number }
