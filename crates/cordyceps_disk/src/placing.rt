@@ -1,12 +1,12 @@
 //! Where the elevator goes on, and how a request and its ticket come in and go out together.
-ghost use Rattle.std.specs.Prelude.{ℕ, ◌≡◌, ◌<◌, ◌≤◌, length, if◌then◌else◌, Some, IfErr, IfOk, OnErr};
+ghost use Rattle.std.specs.Prelude.{◌≡◌, ◌<◌, length, if◌then◌else◌, Some, IfErr, IfOk, OnErr};
 ghost use denote.RawPtr.{Ptr};
 ghost use Rattle.cordyceps.specs.Elements.Element.{Element};
 ghost use Rattle.cordyceps.specs.Elements.Nodes.{Nodes, spots};
 ghost use Rattle.cordyceps.specs.Spots.BySpot.{HasSpot, IsTaken};
 ghost use Rattle.cordyceps.specs.Spots.Spots.{AreApart};
-ghost use Rattle.cordyceps_disk.specs.Pairs.{Paired, Rises, ahead_of, sector_of, waiting_of, due_of};
-ghost use Rattle.cordyceps_disk.specs.Queue.{IsOut, element, put_by};
+ghost use Rattle.cordyceps_disk.specs.Pairs.{Paired, Rises, ahead_of, sector_of, due_of};
+ghost use Rattle.cordyceps_disk.specs.Queue.{IsOut, put_by};
 
 use crate::request::{ByDeadline, BySector, Request, Ticket, Waiting};
 use cordyceps::{Node, Refused, Spot, StableSortedList};
