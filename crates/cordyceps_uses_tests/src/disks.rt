@@ -158,25 +158,33 @@ fn a_request_that_was_refused_memory_is_put_in_again(rt: HostRuntime) -> Result<
     Ok(())
 }
 
+/// The steps that put these requests in, and then serve at these times.
+fn steps(
+    alloc: Global,
+    requests: &[(u64, u64, u64)],
+    times: &[u64],
+) -> Result<Vec<Step<u64>>, AllocError> {
+    let mut steps = Vec::new(alloc);
+    for (number, sector, deadline) in requests {
+        steps.push(Step::Submit(request(*number, *sector, *deadline)))?;
+    }
+    for now in times {
+        steps.push(Step::Serve(*now))?;
+    }
+    Ok(steps)
+}
+
 #[test]
 fn steps_are_carried_out_in_turn(rt: HostRuntime) -> Result<(), AllocError> {
     let mut queue = DiskQueue::new();
-    let steps = vec![in rt.alloc();
-        Step::Submit(request(1, 5, 50)),
-        Step::Submit(request(2, 3, 60)),
-        Step::Serve(0),
-        Step::Submit(request(3, 9, 10)),
-        Step::Submit(request(4, 2, 70)),
-        Step::Serve(20),
-        Step::Serve(20),
-    ]?;
-    // upwards from 0 to the sector 3, then the one overdue, and then again from the lowest
-    let served = carry_out(rt.alloc(), &mut queue, steps)?;
-    let mut numbers = Vec::new(rt.alloc());
-    for request in served {
-        numbers.push(request.payload)?;
+    let requests = [(1, 5, 50), (2, 3, 60), (3, 9, 10), (4, 2, 70)];
+    // upwards from the sector 2, then the one overdue, and then again from the lowest
+    let steps = steps(rt.alloc(), &requests, &[0, 20, 20])?;
+    let mut wanted = [4, 3, 2].iter();
+    for request in carry_out(rt.alloc(), &mut queue, steps)? {
+        same(&rt, Some(&request.payload), wanted.next());
     }
-    same(&rt, numbers, vec![in rt.alloc(); 2, 3, 4]?);
+    same(&rt, wanted.next(), None);
     same(&rt, parts(queue.next(20)), Some((5, 50, 1)));
     Ok(())
 }
