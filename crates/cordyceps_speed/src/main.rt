@@ -1,14 +1,16 @@
-//! Measures what calls of the library cost on one thread, by the program's own clock.
+//! Measures what calls of the library cost, by the program's own clock.
 //!
 //! Its one argument is a number of rounds, in each of which the elements go in and come out. It prints a table with a
-//! row for each kind of call: how many elements the collection holds, the nanoseconds of one call, on the mean and in
-//! the quickest round, and what is counted as one. The last line is a number over what was seen. Without an argument it
-//! makes few rounds, and prints how many calls of each kind were measured in place of their times, so that it always
-//! prints the same.
+//! row for each kind of call, on one thread: how many elements the collection holds, the nanoseconds of one call, on
+//! the mean and in the quickest round, and what is counted as one. The last line is a number over what was seen.
+//! Without an argument it makes few rounds, and prints how many calls of each kind were measured in place of their
+//! times, so that it always prints the same. With the argument `threads` it measures collections at which threads meet,
+//! and nothing else.
 //!
-//! The nodes are made before the clock starts: no call that is measured takes memory. The clock is read outside of the
-//! loops over the elements. Elements that are not in a collection wait in a vector, so the time of a push has that of a
-//! pop from it, and the time of a pop that of a push to it. The row of vectors says what the two cost.
+//! The nodes are made before the clock starts: no call of the library that is measured takes memory. The clock is read
+//! outside of the loops over the elements. Elements that are not in a collection wait in a vector, so the time of a
+//! push has that of a pop from it, and the time of a pop that of a push to it. The row of vectors says what the two
+//! cost.
 #![tactic(auto)]
 
 use cordyceps_speed_rows::edits::show_edits;
@@ -18,16 +20,21 @@ use cordyceps_speed_rows::free_lists::show_free_lists;
 use cordyceps_speed_rows::queues::show_queues;
 use cordyceps_speed_rows::sorteds::show_sorteds;
 use cordyceps_speed_rows::splits::show_splits;
+use cordyceps_speed_rows::stable_sorteds::{show_by_spots, show_inserts};
 use cordyceps_speed_rows::stables::show_stables;
 use cordyceps_speed_rows::stacks::show_stacks;
 use cordyceps_speed_rows::table::{Shown, Table};
+use cordyceps_speed_rows::timers::show_timers;
 use cordyceps_speed_rows::transfers::show_transfers;
 use cordyceps_speed_rows::vectors::push;
 use cordyceps_speed_rows::walks::show_walks;
+use cordyceps_speed_threads::meetings::show_meetings;
 use std::alloc::Global;
 use std::env;
 use std::io::ErrorKind;
 use std::process::ExitCode;
+use std::sync::Wait;
+use std::thread::Threads;
 use std::time::Clock;
 
 /// How many rounds are made where no argument says otherwise.
@@ -36,8 +43,14 @@ const ROUNDS: u32 = 10;
 /// How many elements go into a collection.
 const ELEMENTS: usize = 10_000;
 
-/// How many go into a sorted list.
+/// How many go into a sorted list in which they walk to their places.
 const FEW: usize = 1_000;
+
+/// How many timers run where their times are shown. Where their counts are shown there are few.
+const TIMERS: usize = 100_000;
+
+/// How many rounds threads make.
+const MEETINGS: u32 = 25;
 
 /// How many go into a queue, so that they are a whole number of batches, and into the local part of a free list.
 const BATCHES: usize = 1_024;
@@ -45,26 +58,43 @@ const BATCHES: usize = 1_024;
 /// How many blocks a free list has that are shared.
 const SHARED: usize = 64;
 
-/// What the words after the program's name ask for. `None` means that they are not at most one number.
-fn read(words: &[String]) -> Option<Table> {
+/// What the program is asked for.
+#[derive(Clone, Copy)]
+enum Asked {
+    /// Calls on one thread.
+    Calls(Table),
+    /// Collections at which threads meet.
+    Meetings,
+}
+
+/// What the word after the program's name asks for, if it is one.
+fn read_word(word: &str) -> Option<Asked> {
+    if word == "threads" {
+        return Some(Asked::Meetings);
+    }
+    match word.parse::<u32>() {
+        Ok(rounds) => Some(Asked::Calls(Table {
+            rounds,
+            shown: Shown::Times,
+        })),
+        Err(_) => None,
+    }
+}
+
+/// What the words after the program's name ask for, if they do.
+fn read(words: &[String]) -> Option<Asked> {
     match words {
-        [] => Some(Table {
+        [] => Some(Asked::Calls(Table {
             rounds: ROUNDS,
             shown: Shown::Counts,
-        }),
-        [word] => match word.as_str().parse::<u32>() {
-            Ok(rounds) => Some(Table {
-                rounds,
-                shown: Shown::Times,
-            }),
-            Err(_) => None,
-        },
+        })),
+        [word] => read_word(word.as_str()),
         _ => None,
     }
 }
 
 /// What the program's arguments ask for.
-fn ask(rt: &HostRuntime) -> Result<Table, Fault> {
+fn ask(rt: &HostRuntime) -> Result<Asked, Fault> {
     let mut words = Vec::new(rt.alloc());
     match env::args(rt) {
         Ok(arguments) => {
@@ -72,7 +102,7 @@ fn ask(rt: &HostRuntime) -> Result<Table, Fault> {
                 push(&mut words, word)?;
             }
         }
-        // an argument that is not text is no number
+        // an argument that is not text is neither a number nor a word
         Err(error) if error.kind() == ErrorKind::InvalidData => return Err(Fault::Usage),
         Err(_) => return Err(Fault::Memory),
     }
@@ -96,7 +126,24 @@ fn show_owned<R: Clock + Print>(rt: &R, alloc: Global, table: Table) -> Result<u
     Ok(lists.wrapping_add(others))
 }
 
-/// Measures and shows the collections that threads share. Answers a number over what was seen.
+/// How many timers run.
+fn timers(table: Table) -> usize {
+    match table.shown {
+        Shown::Counts => FEW,
+        Shown::Times => TIMERS,
+    }
+}
+
+/// Measures and shows sorted lists with spots, and timers in them and in others. Answers a number over what was seen.
+fn show_spots<R: Clock + Print>(rt: &R, alloc: Global, table: Table) -> Result<u64, Fault> {
+    let inserts = show_inserts(rt, alloc, table, FEW)?;
+    let by_spots = show_by_spots(rt, alloc, table, ELEMENTS)?;
+    let timers = show_timers(rt, alloc, table, timers(table), FEW)?;
+    Ok(inserts.wrapping_add(by_spots).wrapping_add(timers))
+}
+
+/// Measures and shows the collections that threads share, each by one party that is alone. Answers a number over what
+/// was seen.
 fn show_shared<R: Clock + Print>(rt: &R, alloc: Global, table: Table) -> Result<u64, Fault> {
     let transfers = show_transfers(rt, alloc, table, ELEMENTS)?;
     let queues = show_queues(rt, alloc, table, BATCHES)?;
@@ -104,18 +151,39 @@ fn show_shared<R: Clock + Print>(rt: &R, alloc: Global, table: Table) -> Result<
     Ok(transfers.wrapping_add(queues).wrapping_add(lists))
 }
 
-/// Measures and shows all.
-fn run(rt: &HostRuntime) -> Result<(), Fault> {
-    let table = ask(rt)?;
+/// Measures and shows calls on one thread.
+fn show_calls<R: Clock + Print>(rt: &R, alloc: Global, table: Table) -> Result<(), Fault> {
     table.head(rt)?;
-    let owned = show_owned(rt, rt.alloc(), table)?;
-    let shared = show_shared(rt, rt.alloc(), table)?;
-    let sum = owned.wrapping_add(shared);
-    println!(rt; "sum of what was seen: {sum}").map_err(|_| Fault::Write)
+    let owned = show_owned(rt, alloc, table)?;
+    let spots = show_spots(rt, alloc, table)?;
+    let shared = show_shared(rt, alloc, table)?;
+    let sum = owned.wrapping_add(spots).wrapping_add(shared);
+    match println!(rt; "sum of what was seen: {sum}") {
+        Ok(()) => Ok(()),
+        Err(_) => Err(Fault::Write),
+    }
+}
+
+/// Measures and shows collections at which threads meet.
+fn show_threads<R: Clock + Print + Threads + Wait + Sync>(
+    rt: &R,
+    alloc: Global,
+) -> Result<(), Fault> {
+    let table = Table {
+        rounds: MEETINGS,
+        shown: Shown::Times,
+    };
+    table.head(rt)?;
+    show_meetings(rt, alloc, table)
 }
 
 fn main(rt: HostRuntime) -> ExitCode {
-    match run(&rt) {
+    let shown = match ask(&rt) {
+        Ok(Asked::Calls(table)) => show_calls(&rt, rt.alloc(), table),
+        Ok(Asked::Meetings) => show_threads(&rt, rt.alloc()),
+        Err(fault) => Err(fault),
+    };
+    match shown {
         Ok(()) => ExitCode::SUCCESS,
         Err(fault) => {
             let _ = rt.eprintln(fault);

@@ -1,10 +1,16 @@
--- What a table has for each number after a place of it was written.
-use Rattle.std.proofs.Common.{◌≡◌, ℕ, ◌<◌, true, false, cond, eqb, List, length, set, get_or, Option, None, refl, sym, subst}
+-- What a table has for each number after a place of it was written, and whether it agrees with a sorted list.
+use Rattle.std.proofs.Common.{◌≡◌, ℕ, ◌∷◌, ◌<◌, true, false, cond, eqb, List, length, set, get_or, Option, None, Some, refl, sym, ap, subst, ◌∙◌, inl, inr, arith}
 use Rattle.std.proofs.lemmas.Bool.{eqb-true, eqb-false}
-use Rattle.std.proofs.lemmas.List.{get_or-set_same, get_or-set_other}
+use Rattle.std.proofs.lemmas.List.{get_or-set_same, get_or-set_other, get_or_past}
 use Rattle.std.proofs.lemmas.Option.{slice_get_read, get_or_from_slice_get}
 use denote.RawPtr.{Ptr}
-use Rattle.cordyceps_stable.specs.Agreeing.{IsUpdated}
+use Rattle.cordyceps_base.specs.BySpot.{IsTaken}
+use Rattle.cordyceps_base.specs.Element.{Element}
+use Rattle.cordyceps_base.specs.Nodes.{Nodes, spots}
+use Rattle.cordyceps_base.specs.Spots.{AreApart}
+use Rattle.cordyceps_stable.specs.Agreeing.{Lies, Agrees, IsUpdated}
+use Rattle.cordyceps_stable.proofs.Agreeing.{taken_agrees}
+use Rattle.cordyceps_stable.proofs.Holding.{first_taken, left_lies, taken_or_left}
 use Rattle.cordyceps_speed_rows.specs.Tables.{spot_of}
 
 -- a place was written
@@ -17,3 +23,27 @@ written s k w inside q = (elim (eqb k q) as (λ b. eqb k q ≡ b → get_or (set
 -- what was read at a place
 pub read : (s : List (Option Ptr)) (k : ℕ) (x : Option Ptr) → k < length s → x ≡ get_or s k x → spot_of s k ≡ x
 read s k x inside is = get_or_from_slice_get s k x None (slice_get_read s (length s) k x refl inside is)
+
+-- a number that has a spot has a place
+pub inside : (s : List (Option Ptr)) (k : ℕ) (p : Ptr) → spot_of s k ≡ Some p → k < length s
+inside s k p is = grind (arith, get_or_past s k None)
+
+module _ {X : Type 0} where
+  -- the first element was taken out, and its place emptied
+  pub popped_agrees : (f g : ℕ → Option Ptr) (c d : Nodes X) (p : Ptr) (e : Element X) → Agrees f c → IsUpdated f e.id None g → c ≡ (p, e) ∷ d → AreApart (spots d) → Agrees g d
+  popped_agrees f g c d p e was up is apart = taken_agrees f g c d p e was up (first_taken c d p e is) apart
+
+  -- an element was given another value, and put elsewhere at the same spot
+  pub updated_agrees : (f : ℕ → Option Ptr) (c d rest : Nodes X) (p : Ptr) (e w : Element X) → e.id ≡ w.id → Agrees f c → IsTaken c p e rest → IsTaken d p w rest → AreApart (spots d) → Agrees f d
+  updated_agrees f c d rest p e w same was from to apart = record { mapped = mapped; listed = listed; apart = apart } where
+    mapped : (k : ℕ) (q : Ptr) → f k ≡ Some q → (o : Element X) × (o.id ≡ k) × Lies d q o
+    mapped k q at = let (o, key, lies) = was.mapped k q at in elim (taken_or_left c rest p q e o from lies) as (λ _. (x : Element X) × (x.id ≡ k) × Lies d q x) [
+      | inl here ↦ (w, sym same ∙ ap (λ (x : Element X). x.id) (sym here.1) ∙ key, subst (λ s. Lies d s w) (sym here.0) (to.0, to.1, to.2))
+      | inr on ↦ (o, key, left_lies d rest p q w o to on)
+    ]
+
+    listed : (q : Ptr) (o : Element X) → Lies d q o → f o.id ≡ Some q
+    listed q o lies = elim (taken_or_left d rest p q w o to lies) as (λ _. f o.id ≡ Some q) [
+      | inl here ↦ ap (λ (x : Element X). f x.id) here.1 ∙ ap f (sym same) ∙ was.listed p e (from.0, from.1, from.2) ∙ ap Some (sym here.0)
+      | inr on ↦ was.listed q o (left_lies c rest p q e o from on)
+    ]

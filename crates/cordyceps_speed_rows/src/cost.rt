@@ -64,6 +64,11 @@ impl Cost {
         self.least = self.least.min(tenths_of(time, operations as u64));
     }
 
+    /// Whether the time of each round was measured. A round that was not took the longest time.
+    pub fn is_timed(&self) -> bool {
+        self.time < Duration::MAX
+    }
+
     /// The time of one operation, on the mean. 0 where there was none.
     pub fn mean(&self) -> Tenths
         ensures none { self.now.operations ≡ 0 → result.0 ≡ 0 }

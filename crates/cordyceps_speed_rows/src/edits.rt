@@ -32,17 +32,17 @@ fn edit_on(cursor: &mut CursorMut<'_, Item>, edits: usize) {
 }
 
 /// Measures edits at a cursor: a removal and an insertion for each element of the third quarter.
-fn measure_edits(rt: &impl Clock, list: &mut List<Item>, rounds: u32) -> Result<Cost, Fault> {
+fn measure_edits(rt: &impl Clock, list: &mut List<Item>, rounds: u32) -> Cost {
     let mut cost = Cost::none();
     for _ in 0..rounds {
         let count = list.len();
         let mut cursor = list.cursor_front_mut();
         walk_on(&mut cursor, count / 2);
-        let mut stopwatch = Stopwatch::start(rt)?;
+        let mut stopwatch = Stopwatch::start(rt);
         edit_on(&mut cursor, count / 4);
-        cost.add(count / 4 * 2, stopwatch.look(rt)?);
+        cost.add(count / 4 * 2, stopwatch.look(rt));
     }
-    Ok(cost)
+    cost
 }
 
 /// How often a list is split and spliced at a cursor in a round.
@@ -56,8 +56,8 @@ fn value_of(item: Option<&Item>) -> u64 {
     }
 }
 
-/// Splits the list behind the cursor, splices the rest in again, and looks at the cursor's value and those beside it, so
-/// often. Answers the sum of what it saw, modulo 2 to the 64.
+/// Splits the list behind the cursor, splices the rest in again, and looks at the cursor's value and those beside it,
+/// so often. Answers the sum of what it saw, modulo 2 to the 64.
 fn splice_and_look(cursor: &mut CursorMut<'_, Item>, splices: usize) -> u64 {
     let mut sum: u64 = 0;
     for _ in 0..splices {
@@ -75,22 +75,18 @@ fn splice_and_look(cursor: &mut CursorMut<'_, Item>, splices: usize) -> u64 {
 
 /// Measures splits and splices behind a cursor in the middle, with looks around there. Answers the sum of what they saw
 /// too, modulo 2 to the 64.
-fn measure_splices(
-    rt: &impl Clock,
-    list: &mut List<Item>,
-    rounds: u32,
-) -> Result<(Cost, u64), Fault> {
+fn measure_splices(rt: &impl Clock, list: &mut List<Item>, rounds: u32) -> (Cost, u64) {
     let (mut cost, mut sum) = (Cost::none(), 0u64);
     for _ in 0..rounds {
         let middle = list.len() / 2;
         let mut cursor = list.cursor_front_mut();
         walk_on(&mut cursor, middle);
-        let mut stopwatch = Stopwatch::start(rt)?;
+        let mut stopwatch = Stopwatch::start(rt);
         let seen = splice_and_look(&mut cursor, SPLICES);
-        cost.add(SPLICES, stopwatch.look(rt)?);
+        cost.add(SPLICES, stopwatch.look(rt));
         sum = sum.wrapping_add(seen);
     }
-    Ok((cost, sum))
+    (cost, sum)
 }
 
 /// Takes out the elements with an even value.
@@ -112,9 +108,9 @@ fn drain_round(
     let mut list = List::new();
     push_all_back(&mut list, nodes);
     let count = list.len();
-    let mut stopwatch = Stopwatch::start(rt)?;
+    let mut stopwatch = Stopwatch::start(rt);
     drain_even(&mut list, even)?;
-    cost.add(count, stopwatch.look(rt)?);
+    cost.add(count, stopwatch.look(rt));
     pop_all_front(&mut list, nodes)?;
     match nodes.append(even) {
         Ok(()) => Ok(()),
@@ -137,7 +133,8 @@ fn measure_drains(
     Ok(cost)
 }
 
-/// Measures edits, and shows them. Answers the sum of the values that were seen and of the numbers of what came out last.
+/// Measures edits, and shows them. Answers the sum of the values that were seen and of the numbers of what came out
+/// last.
 pub fn show_edits<R: Clock + Print>(
     rt: &R,
     alloc: Global,
@@ -145,8 +142,8 @@ pub fn show_edits<R: Clock + Print>(
     elements: usize,
 ) -> Result<u64, Fault> {
     let mut list = list_of(make_nodes(alloc, elements)?);
-    let edits = measure_edits(rt, &mut list, table.rounds)?;
-    let (splices, seen) = measure_splices(rt, &mut list, table.rounds)?;
+    let edits = measure_edits(rt, &mut list, table.rounds);
+    let (splices, seen) = measure_splices(rt, &mut list, table.rounds);
     let mut nodes = make_nodes(alloc, elements)?;
     let drains = measure_drains(rt, alloc, &mut nodes, table.rounds)?;
     let rows = [

@@ -49,10 +49,10 @@ fn measure_through(rt: &impl Clock, nodes: &mut Vec<ListNode>, rounds: u32) -> R
     for _ in 0..rounds {
         let mut list = List::new();
         let calls = nodes.len().saturating_mul(2);
-        let mut stopwatch = Stopwatch::start(rt)?;
+        let mut stopwatch = Stopwatch::start(rt);
         push_all_back(&mut list, nodes);
         pop_all_front(&mut list, nodes)?;
-        cost.add(calls, stopwatch.look(rt)?);
+        cost.add(calls, stopwatch.look(rt));
     }
     Ok(cost)
 }
@@ -95,10 +95,10 @@ fn measure_mixed(rt: &impl Clock, nodes: &mut Vec<ListNode>, rounds: u32) -> Res
     for _ in 0..rounds {
         let mut list = List::new();
         let calls = nodes.len().saturating_mul(2);
-        let mut stopwatch = Stopwatch::start(rt)?;
+        let mut stopwatch = Stopwatch::start(rt);
         push_all_mixed(&mut list, nodes);
         pop_all_mixed(&mut list, nodes)?;
-        cost.add(calls, stopwatch.look(rt)?);
+        cost.add(calls, stopwatch.look(rt));
     }
     Ok(cost)
 }
@@ -114,15 +114,15 @@ fn rotate_by(list: &mut List<Item>, count: usize) {
 }
 
 /// Measures turns of a whole list: a pop and a push for each element.
-fn measure_rotations(rt: &impl Clock, list: &mut List<Item>, rounds: u32) -> Result<Cost, Fault> {
+fn measure_rotations(rt: &impl Clock, list: &mut List<Item>, rounds: u32) -> Cost {
     let mut cost = Cost::none();
     for _ in 0..rounds {
         let count = list.len();
-        let mut stopwatch = Stopwatch::start(rt)?;
+        let mut stopwatch = Stopwatch::start(rt);
         rotate_by(list, count);
-        cost.add(count.saturating_mul(2), stopwatch.look(rt)?);
+        cost.add(count.saturating_mul(2), stopwatch.look(rt));
     }
-    Ok(cost)
+    cost
 }
 
 /// Measures the ends of lists, and shows them. Answers the sum of the numbers of what came out last.
@@ -137,7 +137,7 @@ pub fn show_ends<R: Clock + Print>(
     let mixed = measure_mixed(rt, &mut nodes, table.rounds)?;
     let sum = sum_numbers(nodes.as_slice());
     let mut list = list_of(nodes);
-    let turned = measure_rotations(rt, &mut list, table.rounds)?;
+    let turned = measure_rotations(rt, &mut list, table.rounds);
     let rows = [
         (
             "List: push_back, pop_front",

@@ -93,11 +93,11 @@ impl Shared {
         ensures { IfOk result (λ a. length nodes.new.items ≤ a.party.rooms) }
     {
         let count = nodes.len();
-        let mut stopwatch = Stopwatch::start(rt)?;
+        let mut stopwatch = Stopwatch::start(rt);
         alone.put_all(nodes);
-        self.put_remote.add(count, stopwatch.look(rt)?);
+        self.put_remote.add(count, stopwatch.look(rt));
         let (alone, mut blocks) = alone.fetch();
-        self.fetch.add(count, stopwatch.look(rt)?);
+        self.fetch.add(count, stopwatch.look(rt));
         pop_all(&mut blocks, nodes)?;
         Ok(alone)
     }
@@ -141,11 +141,11 @@ impl Own {
         nodes: &mut Vec<StackNode>,
     ) -> Result<(), Fault> {
         let count = nodes.len();
-        let mut stopwatch = Stopwatch::start(rt)?;
+        let mut stopwatch = Stopwatch::start(rt);
         put_all(local, nodes);
-        self.put.add(count, stopwatch.look(rt)?);
+        self.put.add(count, stopwatch.look(rt));
         get_all(local, nodes, count)?;
-        self.get.add(count, stopwatch.look(rt)?);
+        self.get.add(count, stopwatch.look(rt));
         Ok(())
     }
 }

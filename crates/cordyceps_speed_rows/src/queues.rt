@@ -158,11 +158,11 @@ impl Queues {
         ensures { OnOk result (length nodes.new.items ≤ alone.new.party.rooms) }
     {
         let count = nodes.len();
-        let mut stopwatch = Stopwatch::start(rt)?;
+        let mut stopwatch = Stopwatch::start(rt);
         alone.enqueue_all(nodes);
-        self.enqueue.add(count, stopwatch.look(rt)?);
+        self.enqueue.add(count, stopwatch.look(rt));
         alone.dequeue_all(nodes, count)?;
-        self.dequeue.add(count, stopwatch.look(rt)?);
+        self.dequeue.add(count, stopwatch.look(rt));
         Ok(())
     }
 
@@ -180,9 +180,9 @@ impl Queues {
         alone.enqueue_all(nodes);
         let Alone { queue, party } = alone;
         let mut consumer = consumer_of(&queue, party);
-        let mut stopwatch = Stopwatch::start(rt)?;
+        let mut stopwatch = Stopwatch::start(rt);
         consume_all(&mut consumer, nodes, count)?;
-        self.consume.add(count, stopwatch.look(rt)?);
+        self.consume.add(count, stopwatch.look(rt));
         let party = consumer.release();
         Ok(Alone { queue, party })
     }
@@ -229,9 +229,9 @@ fn batch_round(
     alone.enqueue_all(nodes);
     let Alone { queue, party } = alone;
     let mut consumer = consumer_of(&queue, party);
-    let mut stopwatch = Stopwatch::start(rt)?;
+    let mut stopwatch = Stopwatch::start(rt);
     take_batches(&mut consumer, batches, count.div_ceil(most), most)?;
-    cost.add(count, stopwatch.look(rt)?);
+    cost.add(count, stopwatch.look(rt));
     let party = consumer.release();
     unpack_all(batches, nodes)?;
     Ok(Alone { queue, party })
@@ -272,7 +272,8 @@ fn singles_of(
     Ok((queues, sum_numbers(nodes.as_slice())))
 }
 
-/// Measures batches of at most so many, with so many elements. Answers the sum of the numbers of what came out last too.
+/// Measures batches of at most so many, with so many elements. Answers the sum of the numbers of what came out last,
+/// too.
 fn batches_of(
     rt: &impl Clock,
     alloc: Global,

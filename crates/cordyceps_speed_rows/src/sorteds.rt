@@ -8,6 +8,7 @@ use crate::stacks::StackNode;
 use crate::stopwatch::Stopwatch;
 use crate::table::Table;
 use crate::vectors::{push, with_room};
+use cordyceps_base::node::{Kind, Node};
 use cordyceps_commands::Item;
 use cordyceps_single::sorted_list::{Least, SortedList};
 use std::alloc::Global;
@@ -15,7 +16,7 @@ use std::time::Clock;
 
 /// Which value the element with a number has.
 #[derive(Clone, Copy)]
-enum Values {
+pub enum Values {
     /// That number: each goes behind all others.
     Ascending,
     /// The less, the greater the number: each goes before all others.
@@ -25,7 +26,8 @@ enum Values {
 }
 
 impl Values {
-    fn of(self, count: usize, id: u64) -> u64 {
+    /// The value of the element with a number, of so many.
+    pub fn of(self, count: usize, id: u64) -> u64 {
         match self {
             Values::Ascending => id,
             Values::Descending => (count as u64).wrapping_sub(id),
@@ -35,7 +37,11 @@ impl Values {
 }
 
 /// The elements, the one with the greatest number first.
-fn elements_of(alloc: Global, count: usize, values: Values) -> Result<Vec<StackNode>, Fault> {
+pub fn elements_of<L: Kind>(
+    alloc: Global,
+    count: usize,
+    values: Values,
+) -> Result<Vec<Node<Item, L>>, Fault> {
     let mut nodes = with_room(alloc, count)?;
     for number in (0..count).rev() {
         let id = number as u64;
@@ -80,9 +86,9 @@ fn measure_insertions(
     for _ in 0..rounds {
         let mut nodes = elements_of(alloc, count, values)?;
         let mut list = SortedList::new_min();
-        let mut stopwatch = Stopwatch::start(rt)?;
+        let mut stopwatch = Stopwatch::start(rt);
         insert_all(&mut list, &mut nodes);
-        cost.add(count, stopwatch.look(rt)?);
+        cost.add(count, stopwatch.look(rt));
         sum = folded(list);
     }
     Ok(Insertions { cost, sum })

@@ -68,9 +68,9 @@ fn measure_appends(
     for _ in 0..rounds {
         let mut parts = cut_all(alloc, nodes, nodes.len() / 4)?;
         let mut list = List::new();
-        let mut stopwatch = Stopwatch::start(rt)?;
+        let mut stopwatch = Stopwatch::start(rt);
         append_all(&mut list, &mut parts);
-        cost.add(parts.len(), stopwatch.look(rt)?);
+        cost.add(parts.len(), stopwatch.look(rt));
         pop_all_front(&mut list, nodes)?;
     }
     Ok(cost)
@@ -93,14 +93,14 @@ fn measure_splits(
     at: usize,
     splits: usize,
     rounds: u32,
-) -> Result<Cost, Fault> {
+) -> Cost {
     let mut cost = Cost::none();
     for _ in 0..rounds {
-        let mut stopwatch = Stopwatch::start(rt)?;
+        let mut stopwatch = Stopwatch::start(rt);
         split_and_join(list, at, splits);
-        cost.add(splits, stopwatch.look(rt)?);
+        cost.add(splits, stopwatch.look(rt));
     }
-    Ok(cost)
+    cost
 }
 
 /// Measures joins and splits, and shows them. Answers the sum of the numbers of what was joined last.
@@ -114,10 +114,10 @@ pub fn show_splits<R: Clock + Print>(
     let appends = measure_appends(rt, alloc, &mut nodes, table.rounds)?;
     let sum = sum_numbers(nodes.as_slice());
     let mut list = list_of(nodes);
-    let first = measure_splits(rt, &mut list, 8, SPLITS, table.rounds)?;
-    let middle = measure_splits(rt, &mut list, elements / 2, WALKS, table.rounds)?;
+    let first = measure_splits(rt, &mut list, 8, SPLITS, table.rounds);
+    let middle = measure_splits(rt, &mut list, elements / 2, WALKS, table.rounds);
     let behind = elements.saturating_sub(8);
-    let last = measure_splits(rt, &mut list, behind, SPLITS, table.rounds)?;
+    let last = measure_splits(rt, &mut list, behind, SPLITS, table.rounds);
     let rows = [
         ("List: append", appends, "an append of a list of 4"),
         ("List: split_off(8), append", first, "both"),

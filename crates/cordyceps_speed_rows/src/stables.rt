@@ -3,7 +3,6 @@
 //! A table has the spot of each number's element. What is taken out by its number leaves its place in the table empty,
 //! so the table and the list agree, and a spot of the table may be handed to the list.
 ghost use Rattle.std.specs.Prelude.{ℕ, ◌≡◌, ◌+◌, ◌<◌, ◌≤◌, [], length, None, IfOk};
-ghost use Rattle.cordyceps_stable.specs.Agreeing.{Agrees};
 ghost use Rattle.cordyceps_speed_rows.specs.Tables.{spot_of};
 
 use crate::cost::Cost;
@@ -15,6 +14,7 @@ use crate::vectors::{push, with_room};
 use cordyceps_commands::Item;
 use cordyceps_stable::stable_list::{Spot, StableList};
 use std::alloc::Global;
+use std::marker::Model;
 use std::time::Clock;
 
 /// Puts all of the elements last, the last first.
@@ -40,97 +40,100 @@ fn measure_pushes(rt: &impl Clock, nodes: &mut Vec<ListNode>, rounds: u32) -> Re
     for _ in 0..rounds {
         let mut list = StableList::new();
         let calls = nodes.len();
-        let mut stopwatch = Stopwatch::start(rt)?;
+        let mut stopwatch = Stopwatch::start(rt);
         push_all(&mut list, nodes);
-        cost.add(calls, stopwatch.look(rt)?);
+        cost.add(calls, stopwatch.look(rt));
         pop_all(&mut list, nodes)?;
     }
     Ok(cost)
 }
 
-/// Puts an element last, and its spot into the table, where its number has a place there that is empty.
-fn put(spots: &mut Vec<Option<Spot>>, list: &mut StableList<Item>, node: ListNode)
-    requires { Agrees (spot_of spots.old.items) list.old }
-    ensures { Agrees (spot_of spots.new.items) list.new }
-{
-    let number = node.id() as usize;
-    if number < spots.len() && spots[number].is_none() && list.len() < usize::MAX {
-        let spot = list.push_back(node);
-        spots[number] = Some(spot);
-    }
+/// A stable list, and the table of its spots.
+#[derive(Drop)]
+struct Numbered {
+    spots: Vec<Option<Spot>>,
+    list: StableList<Item>,
 }
 
-/// Puts all of the elements in, the last first.
-fn put_all(spots: &mut Vec<Option<Spot>>, list: &mut StableList<Item>, nodes: &mut Vec<ListNode>)
-    requires { Agrees (spot_of spots.old.items) list.old }
-    ensures { Agrees (spot_of spots.new.items) list.new }
-{
-    while let Some(node) = nodes.pop() {
-        put(spots, list, node);
-    }
+impl Model for Numbered {
+    ghost use Rattle.cordyceps_stable.specs.Agreeing.{Agrees};
+    ghost use Rattle.cordyceps_speed_rows.specs.Tables.{spot_of};
+
+    ghost Value = { Unit {0} };
+
+    ghost view = { λ n. tt };
+
+    ghost invariant = { λ n. Agrees (spot_of n.spots.items) n.list };
 }
 
-/// Takes the element with a number out, by its spot.
-fn remove(
-    spots: &mut Vec<Option<Spot>>,
-    list: &mut StableList<Item>,
-    number: usize,
-) -> Option<ListNode>
-    requires { Agrees (spot_of spots.old.items) list.old }
-    ensures { Agrees (spot_of spots.new.items) list.new }
-{
-    if number < spots.len() {
-        let spot = spots[number]?;
-        spots[number] = None;
-        return Some(list.remove(spot));
+impl Numbered {
+    /// Makes an empty list, and a table with so many places.
+    fn new(alloc: Global, count: usize) -> Result<Numbered, Fault> {
+        let spots = empty_table(alloc, count)?;
+        let list = StableList::new();
+        Ok(Numbered { spots, list })
     }
-    None
-}
 
-/// Takes the elements with these numbers out, in this order.
-fn remove_all(
-    spots: &mut Vec<Option<Spot>>,
-    list: &mut StableList<Item>,
-    numbers: &[usize],
-    nodes: &mut Vec<ListNode>,
-) -> Result<(), Fault>
-    requires { Agrees (spot_of spots.old.items) list.old }
-    ensures { Agrees (spot_of spots.new.items) list.new }
-{
-    for number in numbers {
-        if let Some(node) = remove(spots, list, *number) {
-            push(nodes, node)?;
+    /// Puts an element last, where its number has a place in the table that is empty, and drops it elsewhere.
+    fn put(&mut self, node: ListNode) {
+        let number = node.id() as usize;
+        if number < self.spots.len()
+            && self.spots[number].is_none()
+            && self.list.len() < usize::MAX
+        {
+            let spot = self.list.push_back(node);
+            self.spots[number] = Some(spot);
         }
     }
-    Ok(())
-}
 
-/// Puts the element with a number first, by its spot.
-fn move_front(spots: &Vec<Option<Spot>>, list: &mut StableList<Item>, number: usize)
-    requires { Agrees (spot_of spots.now.items) list.old }
-    ensures { Agrees (spot_of spots.now.items) list.new }
-{
-    if number >= spots.len() {
-        return;
+    /// Takes the element with a number out, by its spot.
+    fn remove(&mut self, number: usize) -> Option<ListNode> {
+        if number < self.spots.len() {
+            let spot = self.spots[number]?;
+            self.spots[number] = None;
+            return Some(self.list.remove(spot));
+        }
+        None
     }
-    let Some(spot) = spots[number] else {
-        return;
-    };
-    list.move_to_front(spot);
-}
 
-/// Puts the elements with these numbers first, one after another.
-fn move_all_front(spots: &Vec<Option<Spot>>, list: &mut StableList<Item>, numbers: &[usize])
-    requires { Agrees (spot_of spots.now.items) list.old }
-    ensures { Agrees (spot_of spots.now.items) list.new }
-{
-    for number in numbers {
-        move_front(spots, list, *number);
+    /// Puts the element with a number first, by its spot.
+    fn move_front(&mut self, number: usize) {
+        if number >= self.spots.len() {
+            return;
+        }
+        let Some(spot) = self.spots[number] else {
+            return;
+        };
+        self.list.move_to_front(spot);
+    }
+
+    /// Puts all of the elements in, the last first.
+    fn put_all(&mut self, nodes: &mut Vec<ListNode>) {
+        while let Some(node) = nodes.pop() {
+            self.put(node);
+        }
+    }
+
+    /// Takes the elements with these numbers out, in this order.
+    fn remove_all(&mut self, numbers: &[usize], nodes: &mut Vec<ListNode>) -> Result<(), Fault> {
+        for number in numbers {
+            if let Some(node) = self.remove(*number) {
+                push(nodes, node)?;
+            }
+        }
+        Ok(())
+    }
+
+    /// Puts the elements with these numbers first, one after another.
+    fn move_all_front(&mut self, numbers: &[usize]) {
+        for number in numbers {
+            self.move_front(*number);
+        }
     }
 }
 
 /// A table with so many places, which are empty.
-fn empty_table(alloc: Global, count: usize) -> Result<Vec<Option<Spot>>, Fault>
+pub fn empty_table(alloc: Global, count: usize) -> Result<Vec<Option<Spot>>, Fault>
     ensures { IfOk result (λ spots. (k : ℕ) → spot_of spots.items k ≡ None) }
 {
     let mut spots = with_room(alloc, count)?;
@@ -149,15 +152,13 @@ fn measure_removals(
     rounds: u32,
 ) -> Result<Cost, Fault> {
     let mut cost = Cost::none();
-    let mut spots = empty_table(alloc, nodes.len())?;
-    let mut list = StableList::new();
+    let mut list = Numbered::new(alloc, nodes.len())?;
     for _ in 0..rounds {
-        put_all(&mut spots, &mut list, nodes);
+        list.put_all(nodes);
         shuffle(order);
-        let calls = list.len();
-        let mut stopwatch = Stopwatch::start(rt)?;
-        remove_all(&mut spots, &mut list, order.as_slice(), nodes)?;
-        cost.add(calls, stopwatch.look(rt)?);
+        let mut stopwatch = Stopwatch::start(rt);
+        list.remove_all(order.as_slice(), nodes)?;
+        cost.add(order.len(), stopwatch.look(rt));
     }
     Ok(cost)
 }
@@ -171,21 +172,20 @@ fn measure_moves(
     rounds: u32,
 ) -> Result<Cost, Fault> {
     let mut cost = Cost::none();
-    let mut spots = empty_table(alloc, nodes.len())?;
-    let mut list = StableList::new();
-    put_all(&mut spots, &mut list, nodes);
+    let mut list = Numbered::new(alloc, nodes.len())?;
+    list.put_all(nodes);
     for _ in 0..rounds {
         shuffle(order);
-        let mut stopwatch = Stopwatch::start(rt)?;
-        move_all_front(&spots, &mut list, order.as_slice());
-        cost.add(order.len(), stopwatch.look(rt)?);
+        let mut stopwatch = Stopwatch::start(rt);
+        list.move_all_front(order.as_slice());
+        cost.add(order.len(), stopwatch.look(rt));
     }
-    pop_all(&mut list, nodes)?;
+    list.remove_all(order.as_slice(), nodes)?;
     Ok(cost)
 }
 
 /// The numbers below this one, in their order.
-fn numbers_below(alloc: Global, count: usize) -> Result<Vec<usize>, Fault> {
+pub fn numbers_below(alloc: Global, count: usize) -> Result<Vec<usize>, Fault> {
     let mut numbers = with_room(alloc, count)?;
     for number in 0..count {
         push(&mut numbers, number)?;

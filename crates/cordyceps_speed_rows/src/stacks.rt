@@ -43,10 +43,10 @@ fn measure_stack(rt: &impl Clock, nodes: &mut Vec<StackNode>, rounds: u32) -> Re
     for _ in 0..rounds {
         let mut stack = Stack::new();
         let calls = nodes.len().saturating_mul(2);
-        let mut stopwatch = Stopwatch::start(rt)?;
+        let mut stopwatch = Stopwatch::start(rt);
         push_all(&mut stack, nodes);
         pop_all(&mut stack, nodes)?;
-        cost.add(calls, stopwatch.look(rt)?);
+        cost.add(calls, stopwatch.look(rt));
     }
     Ok(cost)
 }
@@ -62,10 +62,10 @@ fn measure_moves(
     let count = nodes.len();
     let mut others = with_room(alloc, count)?;
     for _ in 0..rounds {
-        let mut stopwatch = Stopwatch::start(rt)?;
+        let mut stopwatch = Stopwatch::start(rt);
         move_all(nodes, &mut others)?;
         move_all(&mut others, nodes)?;
-        cost.add(count.saturating_mul(2), stopwatch.look(rt)?);
+        cost.add(count.saturating_mul(2), stopwatch.look(rt));
     }
     Ok(cost)
 }

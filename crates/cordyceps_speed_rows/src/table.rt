@@ -50,6 +50,9 @@ impl Table {
         cost: &Cost,
         what: &str,
     ) -> Result<(), Fault> {
+        if !cost.is_timed() {
+            return Err(Fault::Clock);
+        }
         let count = cost.operations;
         let (mean, least) = (cost.mean(), cost.quickest());
         let written = match self.shown {

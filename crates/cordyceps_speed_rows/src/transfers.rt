@@ -84,12 +84,12 @@ impl Transfers {
         ensures { OnOk result (length nodes.new.items ≤ alone.new.party.rooms) }
     {
         let count = nodes.len();
-        let mut stopwatch = Stopwatch::start(rt)?;
+        let mut stopwatch = Stopwatch::start(rt);
         alone.push_all(nodes);
-        self.push.add(count, stopwatch.look(rt)?);
+        self.push.add(count, stopwatch.look(rt));
         let mut taken = alone.take_all();
         pop_all(&mut taken, nodes)?;
-        self.take.add(count, stopwatch.look(rt)?);
+        self.take.add(count, stopwatch.look(rt));
         Ok(())
     }
 }

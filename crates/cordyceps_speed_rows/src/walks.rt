@@ -48,46 +48,46 @@ struct Walks {
 }
 
 /// Measures walks by an iterator.
-fn measure_iterator(rt: &impl Clock, list: &List<Item>, rounds: u32) -> Result<Walks, Fault> {
+fn measure_iterator(rt: &impl Clock, list: &List<Item>, rounds: u32) -> Walks {
     let (mut cost, mut sum) = (Cost::none(), 0u64);
     for _ in 0..rounds {
-        let mut stopwatch = Stopwatch::start(rt)?;
+        let mut stopwatch = Stopwatch::start(rt);
         let seen = sum_by_iterator(list);
-        cost.add(list.len(), stopwatch.look(rt)?);
+        cost.add(list.len(), stopwatch.look(rt));
         sum = sum.wrapping_add(seen);
     }
-    Ok(Walks { cost, sum })
+    Walks { cost, sum }
 }
 
 /// Measures walks by a cursor.
-fn measure_cursor(rt: &impl Clock, list: &List<Item>, rounds: u32) -> Result<Walks, Fault> {
+fn measure_cursor(rt: &impl Clock, list: &List<Item>, rounds: u32) -> Walks {
     let (mut cost, mut sum) = (Cost::none(), 0u64);
     for _ in 0..rounds {
-        let mut stopwatch = Stopwatch::start(rt)?;
+        let mut stopwatch = Stopwatch::start(rt);
         let seen = sum_by_cursor(list);
-        cost.add(list.len(), stopwatch.look(rt)?);
+        cost.add(list.len(), stopwatch.look(rt));
         sum = sum.wrapping_add(seen);
     }
-    Ok(Walks { cost, sum })
+    Walks { cost, sum }
 }
 
 /// Measures walks that change each value.
-fn measure_changes(rt: &impl Clock, list: &mut List<Item>, rounds: u32) -> Result<Cost, Fault> {
+fn measure_changes(rt: &impl Clock, list: &mut List<Item>, rounds: u32) -> Cost {
     let mut cost = Cost::none();
     for _ in 0..rounds {
         let count = list.len();
-        let mut stopwatch = Stopwatch::start(rt)?;
+        let mut stopwatch = Stopwatch::start(rt);
         bump(list);
-        cost.add(count, stopwatch.look(rt)?);
+        cost.add(count, stopwatch.look(rt));
     }
-    Ok(cost)
+    cost
 }
 
 /// Measures walks by an iterator through nodes that are scattered in memory.
 fn scattered(rt: &impl Clock, alloc: Global, elements: usize, rounds: u32) -> Result<Walks, Fault> {
     let mut nodes = make_nodes(alloc, elements)?;
     shuffle(&mut nodes);
-    measure_iterator(rt, &list_of(nodes), rounds)
+    Ok(measure_iterator(rt, &list_of(nodes), rounds))
 }
 
 /// Measures walks through nodes that lie in memory as in the list: by an iterator, with changes, and by a cursor.
@@ -98,9 +98,9 @@ fn in_order(
     rounds: u32,
 ) -> Result<(Walks, Cost, Walks), Fault> {
     let mut list = list_of(make_nodes(alloc, elements)?);
-    let steps = measure_iterator(rt, &list, rounds)?;
-    let changes = measure_changes(rt, &mut list, rounds)?;
-    let looks = measure_cursor(rt, &list, rounds)?;
+    let steps = measure_iterator(rt, &list, rounds);
+    let changes = measure_changes(rt, &mut list, rounds);
+    let looks = measure_cursor(rt, &list, rounds);
     Ok((steps, changes, looks))
 }
 

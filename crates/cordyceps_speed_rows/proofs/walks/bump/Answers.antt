@@ -1,4 +1,4 @@
-use Rattle.std.proofs.Common.{◌%◌, ◌+◌, ◌^◌, ◌<◌, slice_get, arith}
+use Rattle.std.proofs.Common.{◌%◌, ◌+◌, ◌^◌, slice_get, arith}
 use Rattle.cordyceps_base.specs.Element.{values}
 use Rattle.cordyceps_list.specs.IterMut.{elements, from, to}
 use Rattle.cordyceps_list.proofs.Lent.{lent_some}

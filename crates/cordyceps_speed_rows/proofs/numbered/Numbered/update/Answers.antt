@@ -1,0 +1,16 @@
+use Rattle.std.proofs.Common.{◌<◌, length, arith, ◌∙◌, refl}
+use Rattle.cordyceps_stable.proofs.Agreeing.{answer_spot}
+use Rattle.cordyceps_speed_rows.specs.Tables.{spot_of}
+use Rattle.cordyceps_speed_rows.proofs.Tables.{read, updated_agrees}
+use Rattle.cordyceps_speed_rows.proofs.numbered.Numbered.update.Goals as goal
+
+pub update-requires-clause-there : goal.update-requires-clause-there
+update-requires-clause-there c =
+    let table = c.self.inside.spots.items in
+    let inside : c.args.number < length table = omega (arith, c.if-number-len.false, c.len.ensures) in
+    answer_spot (spot_of table) c.self.inside.list.nodes c.self.invariant c.args.number c.in-Some.spot (read table c.args.number c.index.result.now inside c.index.ensures ∙ c.in-Some.is)
+
+pub invariant_of-self : goal.invariant_of-self
+invariant_of-self c =
+    let (e, w, rest, gave, was, is, stands) = c.update.ensures.changed in
+    updated_agrees (spot_of c.self.inside.spots.items) c.self.inside.list.nodes c.update.new.self.nodes rest c.in-Some.spot e _ refl c.self.invariant was is c.update.ensures.apart

@@ -1,0 +1,168 @@
+//! The collections at which threads meet: the library's two, and others beside them.
+ghost use Rattle.std.specs.Prelude.{◌≡◌};
+
+use crate::threads::Seat;
+use cordyceps_commands::Item;
+use cordyceps_queue::mpsc_queue;
+use cordyceps_queue::mpsc_queue::MpscQueue;
+use cordyceps_speed_rows::stacks::StackNode;
+use cordyceps_stack::stack;
+use cordyceps_stack::stack::TransferStack;
+use crossbeam_channel::{Receiver, Sender};
+use crossbeam_queue::SegQueue;
+use std::collections::VecDeque;
+use std::sync::{Mutex, Wait};
+
+/// A party at its stack.
+#[derive(Drop)]
+pub struct AtStack<'a> {
+    pub stack: &'a TransferStack<Item>,
+    pub party: stack::Party<Item>,
+    ghost seated: { party.table ≡ stack.now },
+}
+
+impl<'a> Seat for AtStack<'a> {
+    fn rooms(&self) -> usize {
+        self.party.rooms()
+    }
+
+    fn split(&mut self, rooms: usize) -> AtStack<'a> {
+        let rooms = rooms.min(self.party.rooms());
+        let party = self.stack.split(&mut self.party, rooms);
+        AtStack {
+            stack: self.stack,
+            party,
+        }
+    }
+
+    fn put<R: Wait>(&mut self, rt: &R, element: StackNode) {
+        if self.party.rooms() > 0 {
+            self.stack.push(rt, &mut self.party, element);
+        }
+    }
+
+    fn take<R: Wait>(&mut self, _rt: &R, taken: &mut Vec<StackNode>) {
+        for node in self.stack.take_all(&mut self.party) {
+            drop(taken.push(node));
+        }
+    }
+}
+
+/// A party at its queue.
+#[derive(Drop)]
+pub struct AtQueue<'a> {
+    pub queue: &'a MpscQueue<Item>,
+    pub party: mpsc_queue::Party<Item>,
+    ghost seated: { party.table ≡ queue.now.table },
+}
+
+impl<'a> Seat for AtQueue<'a> {
+    fn rooms(&self) -> usize {
+        self.party.rooms()
+    }
+
+    fn split(&mut self, rooms: usize) -> AtQueue<'a> {
+        let rooms = rooms.min(self.party.rooms());
+        let party = self.queue.split(&mut self.party, rooms);
+        AtQueue {
+            queue: self.queue,
+            party,
+        }
+    }
+
+    fn put<R: Wait>(&mut self, _rt: &R, element: StackNode) {
+        if self.party.rooms() > 0 {
+            self.queue.enqueue(&mut self.party, element.into_kind());
+        }
+    }
+
+    fn take<R: Wait>(&mut self, _rt: &R, taken: &mut Vec<StackNode>) {
+        if let Ok(node) = self.queue.try_dequeue(&mut self.party) {
+            drop(taken.push(node.into_kind()));
+        }
+    }
+}
+
+/// What each thread has the whole of.
+pub trait Shared {
+    /// Puts an element in.
+    fn put<R: Wait>(&self, rt: &R, element: StackNode);
+
+    /// Takes out what one try gives, and puts it behind the others.
+    fn take<R: Wait>(&self, rt: &R, taken: &mut Vec<StackNode>);
+}
+
+/// A thread at such a collection.
+#[derive(Drop)]
+pub struct At<'a, C>(pub &'a C);
+
+impl<'a, C: Shared> Seat for At<'a, C> {
+    fn split(&mut self, _rooms: usize) -> At<'a, C> {
+        At(self.0)
+    }
+
+    fn put<R: Wait>(&mut self, rt: &R, element: StackNode) {
+        self.0.put(rt, element);
+    }
+
+    fn take<R: Wait>(&mut self, rt: &R, taken: &mut Vec<StackNode>) {
+        self.0.take(rt, taken);
+    }
+}
+
+impl Shared for Mutex<Vec<StackNode>> {
+    fn put<R: Wait>(&self, rt: &R, element: StackNode) {
+        let mut elements = self.lock(rt);
+        drop(elements.push(element));
+    }
+
+    fn take<R: Wait>(&self, rt: &R, taken: &mut Vec<StackNode>) {
+        let mut elements = self.lock(rt);
+        drop(taken.append(&mut elements));
+    }
+}
+
+impl Shared for Mutex<VecDeque<StackNode>> {
+    fn put<R: Wait>(&self, rt: &R, element: StackNode) {
+        let mut elements = self.lock(rt);
+        drop(elements.push_back(element));
+    }
+
+    fn take<R: Wait>(&self, rt: &R, taken: &mut Vec<StackNode>) {
+        let mut elements = self.lock(rt);
+        if let Some(element) = elements.pop_front() {
+            drop(taken.push(element));
+        }
+    }
+}
+
+impl Shared for SegQueue<StackNode> {
+    fn put<R: Wait>(&self, rt: &R, element: StackNode) {
+        drop(self.push(rt, element));
+    }
+
+    fn take<R: Wait>(&self, rt: &R, taken: &mut Vec<StackNode>) {
+        if let Some(element) = self.pop(rt) {
+            drop(taken.push(element));
+        }
+    }
+}
+
+/// A channel, both of whose ends each thread has.
+#[derive(Drop)]
+pub struct Channel {
+    pub sender: Sender<StackNode>,
+    pub receiver: Receiver<StackNode>,
+}
+
+impl Shared for Channel {
+    fn put<R: Wait>(&self, rt: &R, element: StackNode) {
+        drop(self.sender.send(rt, element));
+    }
+
+    fn take<R: Wait>(&self, rt: &R, taken: &mut Vec<StackNode>) {
+        if let Ok(element) = self.receiver.try_recv(rt) {
+            drop(taken.push(element));
+        }
+    }
+}
