@@ -6,7 +6,7 @@ use Rattle.cordyceps_base.specs.declared.boxes.Address.{Address}
 use Rattle.cordyceps_base.specs.declared.node.Block.{Block}
 use Rattle.cordyceps_base.specs.Boxes.{box_addresses, box_values, set_value}
 use Rattle.cordyceps_base.specs.Nodes.{Nodes, spots, nodes_of, OwnedNode}
-use Rattle.cordyceps_base.specs.Spots.{AreTestable}
+use Rattle.cordyceps_base.specs.Spots.{AreNullComparable}
 use Rattle.cordyceps_base.specs.DoubleChain.{next_of, prev_of, Segment, IsLinked}
 use Rattle.cordyceps_base.proofs.Nodes.{with_content, length_is, seen_at, length-take-within, length-drop-within, length-set_value, box_addresses-set}
 
@@ -98,7 +98,7 @@ module _ {X : Type 0} where
   segment_join p h (x ∷ xs) l m ys t q f g = (f.0, f.1, segment_join x.0 (next_of x.2) xs l m ys t q f.2 g)
 
   pub joined : (h t : Ptr) (o l : Address) (m k : ℕ) (xs ys js : List (OwnedNode X)) (b c : Block X) → IsLinked h l.ptr m xs → IsLinked o.ptr t k ys → 0 < m → slice_get (box_values xs) (m - 1) ≡ Some b → slice_get (box_values ys) 0 ≡ Some c
-      → js ≡ set_value xs (m - 1) (with_next b o) ++ set_value ys 0 (with_prev c l) → AreTestable (box_addresses js) → IsLinked h t (m + k) js
+      → js ≡ set_value xs (m - 1) (with_next b o) ++ set_value ys 0 (with_prev c l) → AreNullComparable (box_addresses js) → IsLinked h t (m + k) js
   joined h t o l m k xs ys js b c f g some r s all a =
       let first = f.0 in let second = g.0 in
       let long : length js ≡ length xs + length ys =
@@ -129,7 +129,7 @@ module _ {X : Type 0} where
     front_end f = last_on null_ptr h (take k ns) l r (k - 1) (let same = length-take-within k ns (omega (arith, less, long)) in omega (arith, pos, same)) f
 
     pub front_cut : (b : Block X) (js : List (OwnedNode X)) → Segment null_ptr h (take k ns) l r → slice_get (box_values (take k ns)) (k - 1) ≡ Some b
-        → js ≡ set_value (take k ns) (k - 1) (with_next b no) → AreTestable (box_addresses js) → IsLinked h l k js
+        → js ≡ set_value (take k ns) (k - 1) (with_next b no) → AreNullComparable (box_addresses js) → IsLinked h l k js
     front_cut b js f e is a =
         let same = length-take-within k ns (omega (arith, less, long)) in
         let on = relinked_last null_ptr h (take k ns) l r no b (k - 1) (omega (arith, pos, same)) f e in
@@ -139,7 +139,7 @@ module _ {X : Type 0} where
     back_end f = first_on l r (drop k ns) t null_ptr f (let same = length-drop-within k ns (omega (arith, less, long)) in omega (arith, same, less, long))
 
     pub back_cut : (b : Block X) (js : List (OwnedNode X)) → Segment l r (drop k ns) t null_ptr → slice_get (box_values (drop k ns)) 0 ≡ Some b
-        → js ≡ set_value (drop k ns) 0 (with_prev b no') → AreTestable (box_addresses js) → IsLinked r t (len - k) js
+        → js ≡ set_value (drop k ns) 0 (with_prev b no') → AreNullComparable (box_addresses js) → IsLinked r t (len - k) js
     back_cut b js f e is a =
         let same = length-drop-within k ns (omega (arith, less, long)) in
         let on = relinked_first l r (drop k ns) t null_ptr no' b f e in
@@ -153,4 +153,4 @@ module _ {X : Type 0} where
 
   pub linked_keep : (h t : Ptr) (len : ℕ) (ns : List (OwnedNode X)) (k : ℕ) (b : Block X) (w : X) → IsLinked h t len ns → slice_get (box_values ns) k ≡ Some b → IsLinked h t len (set_value ns k (with_content b w))
   linked_keep h t len ns k b w f e =
-      (f.0 ∙ sym (length-set_value ns k (with_content b w)), subst AreTestable (sym (box_addresses-set ns k (with_content b w))) f.1, segment_keep null_ptr h ns t null_ptr k b w f.2 e)
+      (f.0 ∙ sym (length-set_value ns k (with_content b w)), subst AreNullComparable (sym (box_addresses-set ns k (with_content b w))) f.1, segment_keep null_ptr h ns t null_ptr k b w f.2 e)

@@ -7,7 +7,7 @@ use Rattle.cordyceps_base.specs.declared.boxes.Address.{Address}
 use Rattle.cordyceps_base.specs.declared.node.Block.{Block}
 use Rattle.cordyceps_base.specs.Element.{Element}
 use Rattle.cordyceps_base.specs.Boxes.{box_addresses, box_values, set_value}
-use Rattle.cordyceps_base.specs.Spots.{same_ptr, index_of, AreTestable}
+use Rattle.cordyceps_base.specs.Spots.{same_ptr, index_of, AreNullComparable}
 use Rattle.cordyceps_base.specs.BySpot.{IsFirst, IsLast, AreNext}
 use Rattle.cordyceps_base.specs.DoubleChain.{Segment, IsLinked, next_of, prev_of}
 use Rattle.cordyceps_base.specs.Nodes.{Nodes, spots, block_element, OwnedNode, nodes_of}
@@ -35,15 +35,15 @@ module _ {Z B : Type 0} where
     | false ↦ λ other. let on = found ns p k e in (on.0, on.1, ap (λ (b : Bool). drop (if b then zero else suc (index_of p (box_addresses ns))) (n ∷ ns)) other ∙ on.2, on.3)
   ]) refl
 
-  pub tested_front : (xs ys : List (Ptr × Z × B)) → AreTestable (box_addresses (xs ++ ys)) → AreTestable (box_addresses xs)
+  pub tested_front : (xs ys : List (Ptr × Z × B)) → AreNullComparable (box_addresses (xs ++ ys)) → AreNullComparable (box_addresses xs)
   tested_front [] ys a = tt
   tested_front (x ∷ xs) ys a = (a.0, a.1, tested_front xs ys a.2)
 
-  pub tested_upto : (xs : List (Ptr × Z × B)) (n : Ptr × Z × B) (ys : List (Ptr × Z × B)) → AreTestable (box_addresses (xs ++ n ∷ ys)) → AreTestable (box_addresses (xs ++ n ∷ []))
+  pub tested_upto : (xs : List (Ptr × Z × B)) (n : Ptr × Z × B) (ys : List (Ptr × Z × B)) → AreNullComparable (box_addresses (xs ++ n ∷ ys)) → AreNullComparable (box_addresses (xs ++ n ∷ []))
   tested_upto [] n ys a = (a.0, a.1, tt)
   tested_upto (x ∷ xs) n ys a = (a.0, a.1, tested_upto xs n ys a.2)
 
-  pub tested_back : (xs ys : List (Ptr × Z × B)) → AreTestable (box_addresses (xs ++ ys)) → AreTestable (box_addresses ys)
+  pub tested_back : (xs ys : List (Ptr × Z × B)) → AreNullComparable (box_addresses (xs ++ ys)) → AreNullComparable (box_addresses ys)
   tested_back [] ys a = a
   tested_back (x ∷ xs) ys a = tested_back xs ys a.2
 
@@ -64,11 +64,11 @@ module _ {X : Type 0} where
   segment_upto p h (x ∷ xs) n ys t q f = (f.0, f.1, segment_upto x.0 (next_of x.2) xs n ys t q f.2)
 
   -- ---- the last node
-  pub last_testable : (p h : Ptr) (ns : Row X) (t q : Ptr) → Segment p h ns t q → AreTestable (box_addresses ns) → Testable p → Testable t
+  pub last_testable : (p h : Ptr) (ns : Row X) (t q : Ptr) → Segment p h ns t q → AreNullComparable (box_addresses ns) → Testable p → Testable t
   last_testable p h [] t q f a z = subst Testable (sym f.1) z
   last_testable p h (n ∷ ns) t q f a z = last_testable n.0 (next_of n.2) ns t q f.2 a.2 a.1
 
-  last_block : (p h : Ptr) (n : OwnedNode X) (ns : Row X) (t q : Ptr) → Segment p h (n ∷ ns) t q → AreTestable (box_addresses (n ∷ ns)) → InBlock t
+  last_block : (p h : Ptr) (n : OwnedNode X) (ns : Row X) (t q : Ptr) → Segment p h (n ∷ ns) t q → AreNullComparable (box_addresses (n ∷ ns)) → InBlock t
   last_block p h n [] t q f a = subst InBlock (sym f.2.1) a.0
   last_block p h n (m ∷ ns) t q f a = last_block n.0 (next_of n.2) m ns t q f.2 a.2
 
@@ -76,7 +76,7 @@ module _ {X : Type 0} where
   some_last h [] t q f b = absurd (subst InBlock f.1 b)
   some_last h (n ∷ ns) t q f b = omega arith
 
-  pub no_last : (h nx : Ptr) (ns : Row X) (t q : Ptr) → Segment null_ptr h ns t q → AreTestable (box_addresses ns) → t ≡ null_ptr → Segment null_ptr nx ns t nx
+  pub no_last : (h nx : Ptr) (ns : Row X) (t q : Ptr) → Segment null_ptr h ns t q → AreNullComparable (box_addresses ns) → t ≡ null_ptr → Segment null_ptr nx ns t nx
   no_last h nx [] t q f a e = (refl, f.1)
   no_last h nx (n ∷ ns) t q f a e = absurd (subst InBlock e (last_block null_ptr h n ns t q f a))
 
@@ -112,7 +112,7 @@ module _ {X : Type 0} where
   first_one p h [] t q some f = absurd (omega (arith, some))
   first_one p h (n ∷ ns) t q some f = (n.1, n.2, λ i. (sym f.0 i, n.1, n.2) ∷ [])
 
-  pub first_testable : (p f : Ptr) (ns : Row X) (t : Ptr) → Segment p f ns t null_ptr → AreTestable (box_addresses ns) → Testable f
+  pub first_testable : (p f : Ptr) (ns : Row X) (t : Ptr) → Segment p f ns t null_ptr → AreNullComparable (box_addresses ns) → Testable f
   first_testable p f [] t s a = subst Testable (sym s.0) null_Testable
   first_testable p f (n ∷ ns) t s a = subst Testable (sym s.0) a.1
 
@@ -120,7 +120,7 @@ module _ {X : Type 0} where
   first_there p f [] t s b = absurd (subst InBlock s.0 b)
   first_there p f (n ∷ ns) t s b = ap Some (sym s.0)
 
-  pub no_first : (p f pr : Ptr) (ns : Row X) (t : Ptr) → Segment p f ns t null_ptr → AreTestable (box_addresses ns) → f ≡ null_ptr → Segment pr f ns pr null_ptr
+  pub no_first : (p f pr : Ptr) (ns : Row X) (t : Ptr) → Segment p f ns t null_ptr → AreNullComparable (box_addresses ns) → f ≡ null_ptr → Segment pr f ns pr null_ptr
   no_first p f pr [] t s a e = (e, refl)
   no_first p f pr (n ∷ ns) t s a e = absurd (subst InBlock (sym s.0 ∙ e) a.0)
 
@@ -170,13 +170,13 @@ module _ {X : Type 0} where
     pub rest_linked : (b : Block X) (rest : Row X) → slice_get (box_values back) 0 ≡ Some b → rest ≡ drop 1 back → (q : Ptr) × Segment q (next_of b) rest t null_ptr
     rest_linked b rest e f = (u.node.0, subst (λ (s : Block X × Row X). Segment u.node.0 (next_of s.0) s.1 t null_ptr) (λ i. (node_is b e i, sym (rest_is rest f) i)) u.second)
 
-    pub front_tested : AreTestable (box_addresses ns) → AreTestable (box_addresses front)
-    front_tested a = tested_front front (u.node ∷ u.after) (subst (λ ls. AreTestable (box_addresses ls)) u.whole a)
+    pub front_comparable : AreNullComparable (box_addresses ns) → AreNullComparable (box_addresses front)
+    front_comparable a = tested_front front (u.node ∷ u.after) (subst (λ ls. AreNullComparable (box_addresses ls)) u.whole a)
 
-    pub rest_tested : (rest : Row X) → rest ≡ drop 1 back → AreTestable (box_addresses ns) → AreTestable (box_addresses rest)
+    pub rest_tested : (rest : Row X) → rest ≡ drop 1 back → AreNullComparable (box_addresses ns) → AreNullComparable (box_addresses rest)
     rest_tested rest f a =
-        let all : AreTestable (box_addresses (u.node ∷ u.after)) = tested_back front (u.node ∷ u.after) (subst (λ ls. AreTestable (box_addresses ls)) u.whole a) in
-        subst (λ ls. AreTestable (box_addresses ls)) (sym (rest_is rest f)) all.2
+        let all : AreNullComparable (box_addresses (u.node ∷ u.after)) = tested_back front (u.node ∷ u.after) (subst (λ ls. AreNullComparable (box_addresses ls)) u.whole a) in
+        subst (λ ls. AreNullComparable (box_addresses ls)) (sym (rest_is rest f)) all.2
 
     lengths : length ns ≡ length front + suc (length u.after)
     lengths = ap length u.whole ∙ length-append front (u.node ∷ u.after)
@@ -218,8 +218,8 @@ module _ {X : Type 0} where
     pub back_linked : (q : Ptr) × Segment q p back t null_ptr
     back_linked = (prev_of u.node.2, subst (λ ls. Segment (prev_of u.node.2) p ls t null_ptr) (sym u.here) (sym u.lies, refl, u.second))
 
-    pub all_tested : AreTestable (box_addresses ns) → AreTestable (box_addresses back)
-    all_tested a = subst (λ ls. AreTestable (box_addresses ls)) (sym u.here) (tested_back front (u.node ∷ u.after) (subst (λ ls. AreTestable (box_addresses ls)) u.whole a))
+    pub all_tested : AreNullComparable (box_addresses ns) → AreNullComparable (box_addresses back)
+    all_tested a = subst (λ ls. AreNullComparable (box_addresses ls)) (sym u.here) (tested_back front (u.node ∷ u.after) (subst (λ ls. AreNullComparable (box_addresses ls)) u.whole a))
 
     pub back_shown : (s : Nodes X) (n : Ptr × Element X) → s ≡ nodes_of front ++ n ∷ nodes_of back → s ≡ nodes_of front ++ n ∷ (p, block_element u.node.2) ∷ nodes_of u.after
     back_shown s n e = e ∙ (λ i. nodes_of front ++ n ∷ nodes_of (u.here i)) ∙ (λ i. nodes_of front ++ n ∷ (u.lies i, block_element u.node.2) ∷ nodes_of u.after)
@@ -242,8 +242,8 @@ module _ {X : Type 0} where
             (segment_upto null_ptr h front u.node u.after t null_ptr (subst (λ ls. Segment null_ptr h ls t null_ptr) u.whole g)),
       )
 
-      pub upto_tested : AreTestable (box_addresses ns) → AreTestable (box_addresses f)
-      upto_tested a = subst (λ ls. AreTestable (box_addresses ls)) (sym upto_is) (tested_upto front u.node u.after (subst (λ ls. AreTestable (box_addresses ls)) u.whole a))
+      pub upto_tested : AreNullComparable (box_addresses ns) → AreNullComparable (box_addresses f)
+      upto_tested a = subst (λ ls. AreNullComparable (box_addresses ls)) (sym upto_is) (tested_upto front u.node u.after (subst (λ ls. AreNullComparable (box_addresses ls)) u.whole a))
 
       pub upto_shown : (s : Nodes X) (n : Ptr × Element X) → s ≡ nodes_of f ++ n ∷ nodes_of r → s ≡ nodes_of front ++ (p, block_element u.node.2) ∷ n ∷ nodes_of u.after
       upto_shown s n e =
@@ -267,29 +267,29 @@ module _ {X : Type 0} where
   first_shown a f [] t s b = absurd (subst InBlock s.0 b)
   first_shown a f (n ∷ ns) t s b = (block_element n.2, nodes_of ns, λ i. (sym s.0 i, block_element n.2) ∷ nodes_of ns)
 
-  none_first : (a f : Ptr) (ns : Row X) (t : Ptr) → Segment a f ns t null_ptr → AreTestable (box_addresses ns) → f ≡ null_ptr → nodes_of ns ≡ []
+  none_first : (a f : Ptr) (ns : Row X) (t : Ptr) → Segment a f ns t null_ptr → AreNullComparable (box_addresses ns) → f ≡ null_ptr → nodes_of ns ≡ []
   none_first a f [] t s z e = refl
   none_first a f (n ∷ ns) t s z e = absurd (subst InBlock (sym s.0 ∙ e) z.0)
 
-  none_last : (h : Ptr) (ns : Row X) (t q : Ptr) → Segment null_ptr h ns t q → AreTestable (box_addresses ns) → t ≡ null_ptr → nodes_of ns ≡ []
+  none_last : (h : Ptr) (ns : Row X) (t q : Ptr) → Segment null_ptr h ns t q → AreNullComparable (box_addresses ns) → t ≡ null_ptr → nodes_of ns ≡ []
   none_last h [] t q f z e = refl
   none_last h (n ∷ ns) t q f z e = absurd (subst InBlock e (last_block null_ptr h n ns t q f z))
 
-  module _ (h t : Ptr) (ns front back : Row X) (p : Ptr) (u : Cut h t ns front back p) (v : Nodes X) (seen : nodes_of ns ≡ v) (z : AreTestable (box_addresses ns)) (b : Block X) (e : slice_get (box_values back) 0 ≡ Some b) where
+  module _ (h t : Ptr) (ns front back : Row X) (p : Ptr) (u : Cut h t ns front back p) (v : Nodes X) (seen : nodes_of ns ≡ v) (z : AreNullComparable (box_addresses ns)) (b : Block X) (e : slice_get (box_values back) 0 ≡ Some b) where
     here_is : v ≡ nodes_of front ++ (p, block_element u.node.2) ∷ nodes_of u.after
     here_is = taken_is h t ns front back p u v u.node.2 seen refl
 
     same : u.node.2 ≡ b
     same = node_is h t ns front back p u b e
 
-    after_tested : AreTestable (box_addresses u.after)
+    after_tested : AreNullComparable (box_addresses u.after)
     after_tested = rest_tested h t ns front back p u u.after (sym (ap (drop 1) u.here)) z
 
     pub next_testable : Testable (next_of b)
     next_testable = subst (λ (x : Block X). Testable (next_of x)) same (first_testable u.node.0 (next_of u.node.2) u.after t u.second after_tested)
 
     pub prev_testable : Testable (prev_of b)
-    prev_testable = subst (λ (x : Block X). Testable (prev_of x)) same (last_testable null_ptr h front (prev_of u.node.2) u.node.0 u.first (front_tested h t ns front back p u z) null_Testable)
+    prev_testable = subst (λ (x : Block X). Testable (prev_of x)) same (last_testable null_ptr h front (prev_of u.node.2) u.node.0 u.first (front_comparable h t ns front back p u z) null_Testable)
 
     pub next_there : InBlock (next_of b) → AreNext v p (next_of b)
     next_there i =
@@ -316,7 +316,7 @@ module _ {X : Type 0} where
 
     pub prev_none : prev_of b ≡ null_ptr → IsFirst v p
     prev_none i =
-        let none = none_last h front (prev_of u.node.2) u.node.0 u.first (front_tested h t ns front back p u z) (ap (λ (x : Block X). prev_of x) same ∙ i) in
+        let none = none_last h front (prev_of u.node.2) u.node.0 u.first (front_comparable h t ns front back p u z) (ap (λ (x : Block X). prev_of x) same ∙ i) in
         (block_element u.node.2, nodes_of u.after, here_is ∙ (λ j. none j ++ (p, block_element u.node.2) ∷ nodes_of u.after))
 
   -- ---- the ends

@@ -9,7 +9,7 @@ use Rattle.cordyceps_base.specs.declared.node.Block.{Block}
 use Rattle.cordyceps_base.specs.Boxes.{box_addresses, box_values, set_value}
 use Rattle.cordyceps_base.specs.Element.{Element, values as values_of}
 use Rattle.cordyceps_base.specs.Nodes.{elements, nodes_of, block_element, OwnedNode}
-use Rattle.cordyceps_base.specs.Spots.{AreTestable}
+use Rattle.cordyceps_base.specs.Spots.{AreNullComparable}
 use Rattle.cordyceps_base.specs.SingleChain.{unless_null, next_of, with_next, relinked, Leads, EndsAfter, EndsAt, IsLed, IsLine, IsFront, IsParted}
 
 pub is_none : (h : Option Address) → is_some h ≡ false → h ≡ None
@@ -52,23 +52,23 @@ module _ {X : Type 0} where
   some_first h (n ∷ ns) f p = subst IsSome (sym f.0) refl
 
   -- an address that leads to nodes is that of a block, as theirs are
-  pub led_somewhere : (h : Option Address) (ns : List (OwnedNode X)) → IsLed h ns → AreTestable (box_addresses ns) → IfSome h (λ a. InBlock a.ptr)
-  led_somewhere h [] f tested = subst (λ o. IfSome o (λ (a : Address). InBlock a.ptr)) (sym f) tt
-  led_somewhere h (n ∷ ns) f tested = subst (λ o. IfSome o (λ (a : Address). InBlock a.ptr)) (sym f.0) tested.0
+  pub led_somewhere : (h : Option Address) (ns : List (OwnedNode X)) → IsLed h ns → AreNullComparable (box_addresses ns) → IfSome h (λ a. InBlock a.ptr)
+  led_somewhere h [] f null_comparable = subst (λ o. IfSome o (λ (a : Address). InBlock a.ptr)) (sym f) tt
+  led_somewhere h (n ∷ ns) f null_comparable = subst (λ o. IfSome o (λ (a : Address). InBlock a.ptr)) (sym f.0) null_comparable.0
 
   -- a link that leads to nodes, or nowhere, may be compared with null
-  pub link_testable : (a : Address) (ns : List (OwnedNode X)) → IsLed (unless_null a) ns → AreTestable (box_addresses ns) → Testable a.ptr
-  link_testable a [] f tested = none_testable a.ptr f
-  link_testable a (n ∷ ns) f tested = subst Testable (sym (some_is a.ptr n.0 f.0)) tested.1
+  pub link_testable : (a : Address) (ns : List (OwnedNode X)) → IsLed (unless_null a) ns → AreNullComparable (box_addresses ns) → Testable a.ptr
+  link_testable a [] f null_comparable = none_testable a.ptr f
+  link_testable a (n ∷ ns) f null_comparable = subst Testable (sym (some_is a.ptr n.0 f.0)) null_comparable.1
 
-  pub next_testable : (h : Option Address) (ns : List (OwnedNode X)) (w : Block X) → IsLed h ns → AreTestable (box_addresses ns) → slice_get (box_values ns) 0 ≡ Some w → Testable w.links.next.ptr
-  next_testable h [] w f tested e = cc
-  next_testable h (n ∷ ns) w f tested e =
-      let same : n.2 ≡ w = cc in subst (λ (x : Block X). Testable x.links.next.ptr) same (link_testable n.2.links.next ns f.1 tested.2)
+  pub next_testable : (h : Option Address) (ns : List (OwnedNode X)) (w : Block X) → IsLed h ns → AreNullComparable (box_addresses ns) → slice_get (box_values ns) 0 ≡ Some w → Testable w.links.next.ptr
+  next_testable h [] w f null_comparable e = cc
+  next_testable h (n ∷ ns) w f null_comparable e =
+      let same : n.2 ≡ w = cc in subst (λ (x : Block X). Testable x.links.next.ptr) same (link_testable n.2.links.next ns f.1 null_comparable.2)
 
-  pub next_testable-cut : (h : Option Address) (ns : List (OwnedNode X)) (w : Block X) → IsLed h ns → AreTestable (box_addresses ns) → slice_get (box_values (take 1 ns)) 0 ≡ Some w → Testable w.links.next.ptr
-  next_testable-cut h [] w f tested e = cc
-  next_testable-cut h (n ∷ ns) w f tested e = next_testable h (n ∷ ns) w f tested e
+  pub next_testable-cut : (h : Option Address) (ns : List (OwnedNode X)) (w : Block X) → IsLed h ns → AreNullComparable (box_addresses ns) → slice_get (box_values (take 1 ns)) 0 ≡ Some w → Testable w.links.next.ptr
+  next_testable-cut h [] w f null_comparable e = cc
+  next_testable-cut h (n ∷ ns) w f null_comparable e = next_testable h (n ∷ ns) w f null_comparable e
 
   -- the address that leads to a first node is that node's
   pub leads_itself : (a : Address) (ns : List (OwnedNode X)) → IsLed (unless_null a) ns → 0 < length ns → unless_null a ≡ Some a

@@ -4,7 +4,7 @@ use denote.RawPtr.{Ptr, null_ptr}
 use Rattle.cordyceps_base.specs.declared.node.Block.{Block}
 use Rattle.cordyceps_base.specs.Boxes.{box_addresses}
 use Rattle.cordyceps_base.specs.Nodes.{OwnedNode}
-use Rattle.cordyceps_base.specs.Spots.{AreTestable}
+use Rattle.cordyceps_base.specs.Spots.{AreNullComparable}
 
 module _ {X : Type 0} where
   abbrev pub next_of : Block X → Ptr
@@ -22,4 +22,4 @@ module _ {X : Type 0} where
   -- null
   abbrev pub IsLinked : Ptr → Ptr → ℕ → List (OwnedNode X) → Type 0
   IsLinked head tail len ns =
-      (len ≡ length ns) × AreTestable (box_addresses ns) × Segment null_ptr head ns tail null_ptr
+      (len ≡ length ns) × AreNullComparable (box_addresses ns) × Segment null_ptr head ns tail null_ptr

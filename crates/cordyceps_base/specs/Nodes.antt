@@ -16,8 +16,8 @@ module _ {X : Type 0} where
   spots = map (λ n. n.0)
 
   -- node k lies at p
-  abbrev pub LiesAt : Nodes X → ℕ → Address → Type 0
-  LiesAt c k p = slice_get (spots c) k ≡ Some p.ptr
+  abbrev pub IsAt : Nodes X → ℕ → Address → Type 0
+  IsAt c k p = slice_get (spots c) k ≡ Some p.ptr
 
   -- their elements
   abbrev pub elements : Nodes X → Elements X

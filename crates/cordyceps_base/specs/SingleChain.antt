@@ -6,7 +6,7 @@ use Rattle.cordyceps_base.specs.declared.node.Block.{Block}
 use Rattle.cordyceps_base.specs.Boxes.{box_addresses}
 use Rattle.cordyceps_base.specs.Element.{values}
 use Rattle.cordyceps_base.specs.Nodes.{Nodes, OwnedNode, elements, nodes_of}
-use Rattle.cordyceps_base.specs.Spots.{AreTestable}
+use Rattle.cordyceps_base.specs.Spots.{AreNullComparable}
 
 -- an address, unless it is that of nothing
 abbrev pub unless_null : Address → Option Address
@@ -53,11 +53,11 @@ module _ {X : Type 0} where
 
   -- the same, and each address may be compared with null
   abbrev pub AreLed : Option Address → List (OwnedNode X) → Type 0
-  AreLed h ns = IsLed h ns × AreTestable (box_addresses ns)
+  AreLed h ns = IsLed h ns × AreNullComparable (box_addresses ns)
 
   -- the nodes are linked, from head to tail, and each address may be compared with null
   abbrev pub IsLine : Option Address → Ptr → List (OwnedNode X) → Type 0
-  IsLine head tail ns = IsLed head ns × EndsAt ns tail × AreTestable (box_addresses ns)
+  IsLine head tail ns = IsLed head ns × EndsAt ns tail × AreNullComparable (box_addresses ns)
 
   -- the same with no head where there is no node, up to z
   abbrev pub IsFront : Option Address → List (OwnedNode X) → Option Address → Type 0

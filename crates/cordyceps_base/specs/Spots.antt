@@ -20,11 +20,11 @@ IsNew p [] = Unit {0}
 IsNew p (q ∷ qs) = (same_ptr p q ≡ false) × IsNew p qs
 
 -- no pointer comes twice
-abbrev pub AreApart : List Ptr → Type 0
-AreApart [] = Unit {0}
-AreApart (p ∷ ps) = IsNew p ps × AreApart ps
+abbrev pub AreDistinct : List Ptr → Type 0
+AreDistinct [] = Unit {0}
+AreDistinct (p ∷ ps) = IsNew p ps × AreDistinct ps
 
 -- each is the address of a block, and may be compared with null
-abbrev pub AreTestable : List Ptr → Type 0
-AreTestable [] = Unit {0}
-AreTestable (p ∷ ps) = InBlock p × Testable p × AreTestable ps
+abbrev pub AreNullComparable : List Ptr → Type 0
+AreNullComparable [] = Unit {0}
+AreNullComparable (p ∷ ps) = InBlock p × Testable p × AreNullComparable ps

@@ -5,7 +5,7 @@ ghost use Rattle.std.specs.Box.Ownership.{box_owns};
 ghost use denote.RawPtr.{Ptr, null_ptr, InBlock, Testable};
 ghost use Rattle.std.specs.Bool.{MatchBool};
 ghost use Rattle.cordyceps_base.specs.Boxes.{boxes_own, boxes_lent, box_addresses, box_values};
-ghost use Rattle.cordyceps_base.specs.Spots.{index_of, AreApart, AreTestable};
+ghost use Rattle.cordyceps_base.specs.Spots.{index_of, AreDistinct, AreNullComparable};
 ghost use Rattle.std.specs.Mem.{type_size};
 
 use std::alloc::{Allocator, Global};
@@ -24,7 +24,7 @@ impl Address {
     ///
     /// # Complexity
     /// O(1).
-    pub fn nowhere() -> Address
+    pub fn null() -> Address
         ensures { result.ptr ≡ null_ptr }
     {
         Address {
@@ -33,7 +33,7 @@ impl Address {
     }
 
     /// Returns `true` if the address is not null.
-    pub(crate) fn is_somewhere(self) -> bool
+    pub(crate) fn is_not_null(self) -> bool
         requires { Testable self.ptr }
         ensures { MatchBool result (InBlock self.ptr) (self.ptr ≡ null_ptr) }
     {
@@ -46,30 +46,30 @@ unsafe impl Send for Address {}
 unsafe impl Sync for Address {}
 
 /// A box as its pointer and its allocator.
-pub struct Loose<B, A: Allocator> {
+pub struct RawBox<B, A: Allocator> {
     at: *mut B,
     alloc: A,
     ghost value: { B },
 }
 
-impl<B, A: Allocator> Model for Loose<B, A> {
+impl<B, A: Allocator> Model for RawBox<B, A> {
     ghost also_owns = { λ l. box_owns (A.dealloc_token l.alloc) B.row l.at l.value };
 }
 
-impl<B: Drop, A: Allocator> Loose<B, A> {
+impl<B: Drop, A: Allocator> RawBox<B, A> {
     /// Converts a box into its pointer and its allocator.
-    pub(crate) fn of(value: Box<B, A>) -> Loose<B, A>
+    pub(crate) fn from_box(value: Box<B, A>) -> RawBox<B, A>
         ensures { result.value ≡ value.value }
     {
         let (at, alloc) = Box::into_raw_with_allocator(value);
-        Loose { at, alloc }
+        RawBox { at, alloc }
     }
 
     /// Converts the pointer and the allocator back into the box.
     pub(crate) fn into_box(self) -> Box<B, A>
         ensures { result.value ≡ self.value }
     {
-        let Loose { at, alloc } = self;
+        let RawBox { at, alloc } = self;
         unsafe { Box::from_raw(alloc, at) }
     }
 }
@@ -111,22 +111,22 @@ impl<B, A: Allocator> Boxes<B, A> {
     }
 
     /// Returns the address and the allocator of a box, and its owner.
-    pub(crate) fn one(block: Loose<B, A>) -> (Address, A, Boxes<B, A>)
+    pub(crate) fn one(block: RawBox<B, A>) -> (Address, A, Boxes<B, A>)
         ensures { result.2.blocks ≡ (result.0.ptr, result.1, block.value) ∷ [] }
     {
-        let Loose { at, alloc } = block;
+        let RawBox { at, alloc } = block;
         let ptr = at as *mut u8;
         (Address { ptr }, alloc, Boxes { mark: PhantomData })
     }
 
     /// Returns the only box.
-    pub(crate) fn only(self, at: Address, alloc: A) -> Loose<B, A>
+    pub(crate) fn only(self, at: Address, alloc: A) -> RawBox<B, A>
         requires { (x : B) × (self.blocks ≡ (at.ptr, alloc, x) ∷ []) }
         ensures { self.blocks ≡ (at.ptr, alloc, result.value) ∷ [] }
     {
         let Boxes { mark: _ } = self;
         let at = at.ptr as *mut B;
-        Loose { at, alloc }
+        RawBox { at, alloc }
     }
 
     /// Joins two owners to one of the boxes of both.
@@ -156,15 +156,15 @@ impl<B, A: Allocator> Boxes<B, A> {
     }
 
     /// Returns the same boxes. Its contract states that their addresses are distinct, if their values have a size.
-    pub(crate) fn apart(self) -> Boxes<B, A>
-        ensures { (result.blocks ≡ self.blocks) × (0 < type_size B.row → AreApart (box_addresses self.blocks)) }
+    pub(crate) fn distinct(self) -> Boxes<B, A>
+        ensures { (result.blocks ≡ self.blocks) × (0 < type_size B.row → AreDistinct (box_addresses self.blocks)) }
     {
         let Boxes { mark: _ } = self;
         Boxes { mark: PhantomData }
     }
 
     /// Returns the boxes after the first.
-    pub(crate) fn behind_first(&self) -> &Boxes<B, A>
+    pub(crate) fn after_first(&self) -> &Boxes<B, A>
         ensures { result.now.blocks ≡ drop 1 self.now.blocks }
     {
         self
@@ -227,8 +227,8 @@ impl<B, A: Allocator> Boxes<B, A> {
 
 impl<B> Boxes<B, Global> {
     /// Returns the same boxes. Its contract states that their addresses may be compared with null.
-    pub(crate) fn tested(self) -> Boxes<B, Global>
-        ensures { (result.blocks ≡ self.blocks) × AreTestable (box_addresses self.blocks) }
+    pub(crate) fn null_comparable(self) -> Boxes<B, Global>
+        ensures { (result.blocks ≡ self.blocks) × AreNullComparable (box_addresses self.blocks) }
     {
         let Boxes { mark: _ } = self;
         Boxes { mark: PhantomData }

@@ -3,11 +3,11 @@ ghost use Rattle.std.specs.Prelude.{◌≡◌, ℕ, ◌+◌, ◌-◌, ◌^◌, �
 ghost use Rattle.std.specs.Borrow.{sem};
 ghost use denote.RawPtr.{Ptr};
 ghost use Rattle.cordyceps_base.specs.Element.{ids, values};
-ghost use Rattle.cordyceps_base.specs.Nodes.{elements, nodes_of, LiesAt};
+ghost use Rattle.cordyceps_base.specs.Nodes.{elements, nodes_of, IsAt};
 
 mod by_address;
 
-use crate::boxes::{Address, Boxes, Loose};
+use crate::boxes::{Address, Boxes, RawBox};
 use crate::double_row::{Row, cut_out, node_of, put_in};
 use crate::list::Links;
 use crate::node::{Block, Node};
@@ -57,8 +57,8 @@ impl<T> DoubleChain<T> {
         ensures { result ≡ [] }
     {
         DoubleChain {
-            head: Address::nowhere(),
-            tail: Address::nowhere(),
+            head: Address::null(),
+            tail: Address::null(),
             len: 0,
             boxes: Boxes::empty(),
         }
@@ -97,10 +97,10 @@ impl<T> DoubleChain<T> {
     pub fn one(node: Node<T, Links<T>>) -> DoubleChain<T>
     where
         T: Drop,
-        ensures { (place : Ptr) × (result ≡ (place, node) ∷ []) }
+        ensures { (address : Ptr) × (result ≡ (address, node) ∷ []) }
     {
         let Node { block, kind: _ } = node;
-        let (at, _, boxes) = Boxes::one(Loose::of(block));
+        let (at, _, boxes) = Boxes::one(RawBox::from_box(block));
         DoubleChain::of_one(at, boxes)
     }
 
@@ -110,13 +110,13 @@ impl<T> DoubleChain<T> {
         ensures { result ≡ nodes_of row.blocks }
     {
         let mut boxes = row;
-        boxes.get_mut(at, 0).links.next = Address::nowhere();
-        boxes.get_mut(at, 0).links.prev = Address::nowhere();
+        boxes.get_mut(at, 0).links.next = Address::null();
+        boxes.get_mut(at, 0).links.prev = Address::null();
         DoubleChain {
             head: at,
             tail: at,
             len: 1,
-            boxes: boxes.tested(),
+            boxes: boxes.null_comparable(),
         }
     }
 
@@ -125,7 +125,7 @@ impl<T> DoubleChain<T> {
     where
         T: Drop,
         requires { length self ≡ 1 }
-        ensures { (place : Ptr) × (self ≡ (place, result) ∷ []) }
+        ensures { (address : Ptr) × (self ≡ (address, result) ∷ []) }
     {
         let DoubleChain {
             head,
@@ -150,7 +150,7 @@ impl<T> DoubleChain<T> {
     /// Returns the address of the first node. Requires that the chain is not empty.
     pub fn head(&self) -> Address
         requires { 0 < length self.now }
-        ensures { LiesAt self.now 0 result }
+        ensures { IsAt self.now 0 result }
     {
         self.head
     }
@@ -158,30 +158,30 @@ impl<T> DoubleChain<T> {
     /// Returns the address of the last node. Requires that the chain is not empty.
     pub fn tail(&self) -> Address
         requires { 0 < length self.now }
-        ensures { LiesAt self.now (length self.now - 1) result }
+        ensures { IsAt self.now (length self.now - 1) result }
     {
         self.tail
     }
 
     /// Returns the address of the node after node `k`, which is at `at`. For the last node the address is null.
     pub fn next(&self, at: Address, k: usize) -> Address
-        requires { LiesAt self.now k at }
-        ensures { k + 1 < length self.now → LiesAt self.now (k + 1) result }
+        requires { IsAt self.now k at }
+        ensures { k + 1 < length self.now → IsAt self.now (k + 1) result }
     {
         self.boxes.get(at, k).links.next
     }
 
     /// Returns the address of the node before node `k`, which is at `at`. For the first node the address is null.
     pub fn prev(&self, at: Address, k: usize) -> Address
-        requires { LiesAt self.now k at }
-        ensures { 0 < k → LiesAt self.now (k - 1) result }
+        requires { IsAt self.now k at }
+        ensures { 0 < k → IsAt self.now (k - 1) result }
     {
         self.boxes.get(at, k).links.prev
     }
 
     /// Returns the number of node `k`, which is at `at`.
     pub fn id(&self, at: Address, k: usize) -> u64
-        requires { LiesAt self.now k at }
+        requires { IsAt self.now k at }
         ensures { slice_get (ids (elements self.now)) k ≡ Some result }
     {
         self.boxes.get(at, k).id
@@ -189,7 +189,7 @@ impl<T> DoubleChain<T> {
 
     /// Returns a reference to the value of node `k`, which is at `at`.
     pub fn get(&self, at: Address, k: usize) -> &T
-        requires { LiesAt self.now k at }
+        requires { IsAt self.now k at }
         ensures { slice_get (values (elements self.now)) k ≡ Some result.now }
     {
         &self.boxes.get(at, k).value
@@ -197,7 +197,7 @@ impl<T> DoubleChain<T> {
 
     /// Returns a mutable reference to the value of node `k`, which is at `at`. The element keeps its number.
     pub fn get_mut(&mut self, at: Address, k: usize) -> &mut T
-        requires { LiesAt self.old k at }
+        requires { IsAt self.old k at }
         ensures* writes_back { sem 𝓛 (lends_item T.row self.entry k result) }
         ensures value { slice_get (values (elements self.old)) k ≡ Some result.now }
     {
@@ -237,13 +237,13 @@ impl<T> DoubleChain<T> {
             head,
             tail: last,
             len: len + more,
-            boxes: front.join(back).tested(),
+            boxes: front.join(back).null_comparable(),
         }
     }
 
     /// Splits the chain after the first `k` nodes, the last of which is at `at`.
-    pub fn cut_behind(self, at: Address, k: usize) -> (DoubleChain<T>, DoubleChain<T>)
-        requires { (0 < k) × (LiesAt self (k - 1) at) }
+    pub fn cut_after(self, at: Address, k: usize) -> (DoubleChain<T>, DoubleChain<T>)
+        requires { (0 < k) × (IsAt self (k - 1) at) }
         ensures { (result.0 ≡ take k self) × (result.1 ≡ drop k self) }
     {
         if k == self.len {
@@ -257,26 +257,26 @@ impl<T> DoubleChain<T> {
         } = self;
         let after = boxes.get(at, k - 1).links.next;
         let (mut front, mut back) = boxes.cut(k);
-        front.get_mut(at, k - 1).links.next = Address::nowhere();
-        back.get_mut(after, 0).links.prev = Address::nowhere();
+        front.get_mut(at, k - 1).links.next = Address::null();
+        back.get_mut(after, 0).links.prev = Address::null();
         let first = DoubleChain {
             head,
             tail: at,
             len: k,
-            boxes: front.tested(),
+            boxes: front.null_comparable(),
         };
         let rest = DoubleChain {
             head: after,
             tail,
             len: len - k,
-            boxes: back.tested(),
+            boxes: back.null_comparable(),
         };
         (first, rest)
     }
 
     /// Splits the chain before node `k`, which is at `at` and not the first.
     pub fn cut(self, at: Address, k: usize) -> (DoubleChain<T>, DoubleChain<T>)
-        requires { (0 < k) × (LiesAt self k at) }
+        requires { (0 < k) × (IsAt self k at) }
         ensures { (result.0 ≡ take k self) × (result.1 ≡ drop k self) }
     {
         let DoubleChain {
@@ -287,19 +287,19 @@ impl<T> DoubleChain<T> {
         } = self;
         let before = boxes.get(at, k).links.prev;
         let (mut front, mut back) = boxes.cut(k);
-        front.get_mut(before, k - 1).links.next = Address::nowhere();
-        back.get_mut(at, 0).links.prev = Address::nowhere();
+        front.get_mut(before, k - 1).links.next = Address::null();
+        back.get_mut(at, 0).links.prev = Address::null();
         let first = DoubleChain {
             head,
             tail: before,
             len: k,
-            boxes: front.tested(),
+            boxes: front.null_comparable(),
         };
         let rest = DoubleChain {
             head: at,
             tail,
             len: len - k,
-            boxes: back.tested(),
+            boxes: back.null_comparable(),
         };
         (first, rest)
     }
@@ -309,7 +309,7 @@ impl<T: Drop> DoubleChain<T> {
     /// Prepends a node. Requires a length below `usize::MAX`.
     pub fn link_front(&mut self, node: Node<T, Links<T>>)
         requires { length self.old + 1 < 2 ^ 64 }
-        ensures { (place : Ptr) × (self.new ≡ (place, node) ∷ self.old) }
+        ensures { (address : Ptr) × (self.new ≡ (address, node) ∷ self.old) }
     {
         if self.len == 0 {
             self.put(DoubleChain::one(node));
@@ -322,7 +322,7 @@ impl<T: Drop> DoubleChain<T> {
     /// Appends a node. Requires a length below `usize::MAX`.
     pub fn link_back(&mut self, node: Node<T, Links<T>>)
         requires { length self.old + 1 < 2 ^ 64 }
-        ensures { (place : Ptr) × (self.new ≡ self.old ++ (place, node) ∷ []) }
+        ensures { (address : Ptr) × (self.new ≡ self.old ++ (address, node) ∷ []) }
     {
         if self.len == 0 {
             self.put(DoubleChain::one(node));
@@ -335,7 +335,7 @@ impl<T: Drop> DoubleChain<T> {
     /// Removes the first node and returns it. Requires that the chain is not empty.
     pub fn unlink_front(&mut self) -> Node<T, Links<T>>
         requires { 0 < length self.old }
-        ensures { (place : Ptr) × (self.old ≡ (place, result) ∷ self.new) }
+        ensures { (address : Ptr) × (self.old ≡ (address, result) ∷ self.new) }
     {
         let nodes = self.take();
         if nodes.len() == 1 {
@@ -349,7 +349,7 @@ impl<T: Drop> DoubleChain<T> {
     /// Removes the last node and returns it. Requires that the chain is not empty.
     pub fn unlink_back(&mut self) -> Node<T, Links<T>>
         requires { 0 < length self.old }
-        ensures { (place : Ptr) × (self.old ≡ self.new ++ (place, result) ∷ []) }
+        ensures { (address : Ptr) × (self.old ≡ self.new ++ (address, result) ∷ []) }
     {
         let nodes = self.take();
         if nodes.len() == 1 {
@@ -373,15 +373,15 @@ impl<T: Drop> DoubleChain<T> {
             boxes: mut back,
         } = self;
         let Node { mut block, kind: _ } = node;
-        block.links.prev = Address::nowhere();
+        block.links.prev = Address::null();
         block.links.next = head;
-        let (at, _, new) = Boxes::one(Loose::of(block));
+        let (at, _, new) = Boxes::one(RawBox::from_box(block));
         back.get_mut(head, 0).links.prev = at;
         let whole = DoubleChain {
             head: at,
             tail,
             len: len + 1,
-            boxes: new.join(back).tested(),
+            boxes: new.join(back).null_comparable(),
         };
         (whole, at)
     }
@@ -400,14 +400,14 @@ impl<T: Drop> DoubleChain<T> {
         } = self;
         let Node { mut block, kind: _ } = node;
         block.links.prev = tail;
-        block.links.next = Address::nowhere();
-        let (at, _, new) = Boxes::one(Loose::of(block));
+        block.links.next = Address::null();
+        let (at, _, new) = Boxes::one(RawBox::from_box(block));
         front.get_mut(tail, len - 1).links.next = at;
         let whole = DoubleChain {
             head,
             tail: at,
             len: len + 1,
-            boxes: front.join(new).tested(),
+            boxes: front.join(new).null_comparable(),
         };
         (whole, at)
     }
@@ -415,9 +415,9 @@ impl<T: Drop> DoubleChain<T> {
     /// Inserts a node before node `k`, which is at `at` and not the first.
     fn with_inner(self, at: Address, k: usize, node: Node<T, Links<T>>) -> DoubleChain<T>
         requires inner { 0 < k }
-        requires on { LiesAt self k at }
+        requires on { IsAt self k at }
         requires fits { length self + 1 < 2 ^ 64 }
-        ensures { (place : Ptr) × (result ≡ take k self ++ (place, node) ∷ drop k self) }
+        ensures { (address : Ptr) × (result ≡ take k self ++ (address, node) ∷ drop k self) }
     {
         let DoubleChain {
             head,
@@ -429,14 +429,14 @@ impl<T: Drop> DoubleChain<T> {
             head,
             tail,
             len: len + 1,
-            boxes: put_in(boxes, at, k, node).tested(),
+            boxes: put_in(boxes, at, k, node).null_comparable(),
         }
     }
 
     /// Removes node `k`, which is at `at` and has a neighbour on either side.
     fn without_inner(self, at: Address, k: usize) -> (Node<T, Links<T>>, DoubleChain<T>)
         requires inner { (0 < k) × (k + 1 < length self) }
-        requires on { LiesAt self k at }
+        requires on { IsAt self k at }
         ensures node { slice_get self k ≡ Some (at.ptr, result.0) }
         ensures others { result.1 ≡ take k self ++ drop (k + 1) self }
     {
@@ -451,7 +451,7 @@ impl<T: Drop> DoubleChain<T> {
             head,
             tail,
             len: len - 1,
-            boxes: others.tested(),
+            boxes: others.null_comparable(),
         };
         (node, left)
     }
@@ -459,7 +459,7 @@ impl<T: Drop> DoubleChain<T> {
     /// Removes the first of several nodes.
     fn without_first(self) -> (Node<T, Links<T>>, DoubleChain<T>)
         requires { 1 < length self }
-        ensures { (place : Ptr) × (self ≡ (place, result.0) ∷ result.1) }
+        ensures { (address : Ptr) × (self ≡ (address, result.0) ∷ result.1) }
     {
         let DoubleChain {
             head,
@@ -470,12 +470,12 @@ impl<T: Drop> DoubleChain<T> {
         let others = len - 1;
         let next = boxes.get(head, 0).links.next;
         let (one, mut rest) = boxes.cut(1);
-        rest.get_mut(next, 0).links.prev = Address::nowhere();
+        rest.get_mut(next, 0).links.prev = Address::null();
         let left = DoubleChain {
             head: next,
             tail,
             len: others,
-            boxes: rest.tested(),
+            boxes: rest.null_comparable(),
         };
         (node_of(head, one), left)
     }
@@ -483,7 +483,7 @@ impl<T: Drop> DoubleChain<T> {
     /// Removes the last of several nodes.
     fn without_last(self) -> (Node<T, Links<T>>, DoubleChain<T>)
         requires { 1 < length self }
-        ensures { (place : Ptr) × (self ≡ result.1 ++ (place, result.0) ∷ []) }
+        ensures { (address : Ptr) × (self ≡ result.1 ++ (address, result.0) ∷ []) }
     {
         let DoubleChain {
             head,
@@ -494,12 +494,12 @@ impl<T: Drop> DoubleChain<T> {
         let before = len - 1;
         let prev = boxes.get(tail, before).links.prev;
         let (mut front, one) = boxes.cut(before);
-        front.get_mut(prev, before - 1).links.next = Address::nowhere();
+        front.get_mut(prev, before - 1).links.next = Address::null();
         let left = DoubleChain {
             head,
             tail: prev,
             len: before,
-            boxes: front.tested(),
+            boxes: front.null_comparable(),
         };
         (node_of(tail, one), left)
     }
@@ -509,7 +509,7 @@ impl<T> DoubleChain<T> {
     /// Splits the chain before place `k`. If there is a node `k`, it is at `at`.
     pub fn split(self, at: Address, k: usize) -> (DoubleChain<T>, DoubleChain<T>)
         requires within { k ≤ length self }
-        requires on { k < length self → LiesAt self k at }
+        requires on { k < length self → IsAt self k at }
         ensures front { result.0 ≡ take k self }
         ensures back { result.1 ≡ drop k self }
     {
@@ -526,7 +526,7 @@ impl<T> DoubleChain<T> {
     /// most `usize::MAX`.
     pub fn splice(&mut self, at: Address, k: usize, nodes: DoubleChain<T>)
         requires within { k ≤ length self.old }
-        requires on { k < length self.old → LiesAt self.old k at }
+        requires on { k < length self.old → IsAt self.old k at }
         requires fits { length self.old + length nodes < 2 ^ 64 }
         ensures { self.new ≡ take k self.old ++ (nodes ++ drop k self.old) }
     {
@@ -539,9 +539,9 @@ impl<T: Drop> DoubleChain<T> {
     /// Inserts a node at place `k`. If there is a node `k`, it is at `at`. Requires a length below `usize::MAX`.
     pub fn link(&mut self, at: Address, k: usize, node: Node<T, Links<T>>)
         requires within { k ≤ length self.old }
-        requires on { k < length self.old → LiesAt self.old k at }
+        requires on { k < length self.old → IsAt self.old k at }
         requires fits { length self.old + 1 < 2 ^ 64 }
-        ensures { (place : Ptr) × (self.new ≡ take k self.old ++ (place, node) ∷ drop k self.old) }
+        ensures { (address : Ptr) × (self.new ≡ take k self.old ++ (address, node) ∷ drop k self.old) }
     {
         if k == 0 {
             return self.link_front(node);
@@ -555,8 +555,8 @@ impl<T: Drop> DoubleChain<T> {
 
     /// Removes node `k`, which is at `at`, and returns it.
     pub fn unlink(&mut self, at: Address, k: usize) -> Node<T, Links<T>>
-        requires { LiesAt self.old k at }
-        ensures node { (place : Ptr) × (slice_get self.old k ≡ Some (place, result)) }
+        requires { IsAt self.old k at }
+        ensures node { (address : Ptr) × (slice_get self.old k ≡ Some (address, result)) }
         ensures others { self.new ≡ take k self.old ++ drop (k + 1) self.old }
     {
         if k == 0 {

@@ -4,9 +4,9 @@ ghost use denote.RawPtr.{Ptr, null_ptr};
 ghost use Rattle.cordyceps_base.specs.Boxes.{box_addresses};
 ghost use Rattle.cordyceps_base.specs.DoubleChain.{Segment};
 ghost use Rattle.cordyceps_base.specs.Nodes.{nodes_of};
-ghost use Rattle.cordyceps_base.specs.Spots.{AreTestable};
+ghost use Rattle.cordyceps_base.specs.Spots.{AreNullComparable};
 
-use crate::boxes::{Address, Boxes, Loose};
+use crate::boxes::{Address, Boxes, RawBox};
 use crate::list::Links;
 use crate::node::{Block, Node};
 use std::alloc::Global;
@@ -36,11 +36,11 @@ pub(crate) fn followed_by<T>(
     next: Address,
 ) -> (Address, Row<T>)
     requires linked { (q : Ptr) × Segment null_ptr head.ptr row.blocks last.ptr q }
-    requires tested { AreTestable (box_addresses row.blocks) }
+    requires null_comparable { AreNullComparable (box_addresses row.blocks) }
     ensures linked { Segment null_ptr result.0.ptr result.1.blocks last.ptr next.ptr }
     ensures same { nodes_of result.1.blocks ≡ nodes_of row.blocks }
 {
-    if last.is_somewhere() {
+    if last.is_not_null() {
         let (front, mut end) = row.cut_last();
         end.get_mut(last, 0).links.next = next;
         (head, front.join(end))
@@ -51,18 +51,18 @@ pub(crate) fn followed_by<T>(
 
 /// Makes the first node of a row lead back to `prev`. Returns the row and the address of its last node, or `prev` if it
 /// is empty.
-pub(crate) fn behind<T>(
+pub(crate) fn preceded_by<T>(
     row: Row<T>,
     first: Address,
     tail: Address,
     prev: Address,
 ) -> (Address, Row<T>)
     requires linked { (p : Ptr) × Segment p first.ptr row.blocks tail.ptr null_ptr }
-    requires tested { AreTestable (box_addresses row.blocks) }
+    requires null_comparable { AreNullComparable (box_addresses row.blocks) }
     ensures linked { Segment prev.ptr first.ptr result.1.blocks result.0.ptr null_ptr }
     ensures same { nodes_of result.1.blocks ≡ nodes_of row.blocks }
 {
-    if first.is_somewhere() {
+    if first.is_not_null() {
         let mut row = row;
         row.get_mut(first, 0).links.prev = prev;
         (tail, row)
@@ -83,18 +83,18 @@ pub(crate) fn between<T: Drop>(
 ) -> (Address, Address, Address, Row<T>)
     requires front { (q : Ptr) × Segment null_ptr head.ptr front.blocks prev.ptr q }
     requires back { (p : Ptr) × Segment p next.ptr back.blocks tail.ptr null_ptr }
-    requires front_tested { AreTestable (box_addresses front.blocks) }
-    requires back_tested { AreTestable (box_addresses back.blocks) }
+    requires front_comparable { AreNullComparable (box_addresses front.blocks) }
+    requires back_comparable { AreNullComparable (box_addresses back.blocks) }
     ensures linked { Segment null_ptr result.1.ptr result.3.blocks result.2.ptr null_ptr }
     ensures holds { nodes_of result.3.blocks ≡ nodes_of front.blocks ++ (result.0.ptr, node) ∷ nodes_of back.blocks }
 {
     let Node { block, kind: _ } = node;
-    let (at, _, one) = Boxes::one(Loose::of(block));
+    let (at, _, one) = Boxes::one(RawBox::from_box(block));
     let mut one = one;
     one.get_mut(at, 0).links.next = next;
     one.get_mut(at, 0).links.prev = prev;
     let (head, front) = followed_by(front, head, prev, at);
-    let (tail, back) = behind(back, next, tail, at);
+    let (tail, back) = preceded_by(back, next, tail, at);
     (at, head, tail, front.join(one.join(back)))
 }
 
@@ -123,8 +123,8 @@ pub(crate) fn put_in<T: Drop>(row: Row<T>, at: Address, k: usize, node: Node<T, 
     requires inner { 0 < k }
     requires on { slice_get (box_addresses row.blocks) k ≡ Some at.ptr }
     requires linked { (h : Ptr) × (t : Ptr) × Segment null_ptr h row.blocks t null_ptr }
-    ensures holds { (place : Ptr)
-        × (nodes_of result.blocks ≡ take k (nodes_of row.blocks) ++ (place, node) ∷ drop k (nodes_of row.blocks)) }
+    ensures holds { (address : Ptr)
+        × (nodes_of result.blocks ≡ take k (nodes_of row.blocks) ++ (address, node) ∷ drop k (nodes_of row.blocks)) }
     ensures linked { (h t : Ptr) → Segment null_ptr h row.blocks t null_ptr
         → Segment null_ptr h result.blocks t null_ptr }
 {
@@ -132,7 +132,7 @@ pub(crate) fn put_in<T: Drop>(row: Row<T>, at: Address, k: usize, node: Node<T, 
     let Node { mut block, kind: _ } = node;
     block.links.prev = prev;
     block.links.next = at;
-    let (new, _, one) = Boxes::one(Loose::of(block));
+    let (new, _, one) = Boxes::one(RawBox::from_box(block));
     let (mut front, mut back) = row.cut(k);
     front.get_mut(prev, k - 1).links.next = new;
     back.get_mut(at, 0).links.prev = new;

@@ -24,8 +24,8 @@ impl BlockLinks {
     /// Returns the links of a node that is in no collection.
     fn unlinked() -> BlockLinks {
         BlockLinks {
-            next: Address::nowhere(),
-            prev: Address::nowhere(),
+            next: Address::null(),
+            prev: Address::null(),
         }
     }
 }

@@ -6,7 +6,7 @@ ghost use Rattle.cordyceps_base.specs.Element.{Element, ids, values};
 ghost use Rattle.cordyceps_base.specs.Nodes.{elements};
 ghost use Rattle.cordyceps_base.specs.SingleChain.{EndsAt, relinked, unless_null};
 
-use crate::boxes::{Address, Boxes, Loose};
+use crate::boxes::{Address, Boxes, RawBox};
 use crate::node::{Block, Node};
 use std::alloc::Global;
 use std::marker::{Model, PhantomData};
@@ -22,16 +22,16 @@ fn or_nowhere(next: Option<Address>) -> Address
 {
     match next {
         Some(address) => address,
-        None => Address::nowhere(),
+        None => Address::null(),
     }
 }
 
 /// Returns the address, or `None` if it is null.
-fn somewhere(address: Address) -> Option<Address>
+fn not_null(address: Address) -> Option<Address>
     requires { Testable address.ptr }
     ensures { result ≡ unless_null address }
 {
-    if address.is_somewhere() {
+    if address.is_not_null() {
         Some(address)
     } else {
         None
@@ -89,8 +89,8 @@ impl<T, L> SingleChain<T, L> {
         ensures { result ≡ [] }
     {
         SingleChain {
-            head: Address::nowhere(),
-            tail: Address::nowhere(),
+            head: Address::null(),
+            tail: Address::null(),
             boxes: Boxes::empty(),
             kind: PhantomData,
         }
@@ -100,7 +100,7 @@ impl<T, L> SingleChain<T, L> {
     pub fn is_empty(&self) -> bool
         ensures { IsTrue result ↔ (self.now ≡ []) }
     {
-        somewhere(self.head).is_none()
+        not_null(self.head).is_none()
     }
 
     /// Takes all nodes, and leaves an empty chain.
@@ -136,15 +136,15 @@ impl<T, L> SingleChain<T, L> {
     pub fn one(node: Node<T, L>) -> SingleChain<T, L>
     where
         T: Drop,
-        ensures { (place : Ptr) × (result ≡ (place, node) ∷ []) }
+        ensures { (address : Ptr) × (result ≡ (address, node) ∷ []) }
     {
         let Node { mut block, kind: _ } = node;
-        block.links.next = Address::nowhere();
-        let (at, _, boxes) = Boxes::one(Loose::of(block));
+        block.links.next = Address::null();
+        let (at, _, boxes) = Boxes::one(RawBox::from_box(block));
         SingleChain {
             head: at,
             tail: at,
-            boxes: boxes.tested(),
+            boxes: boxes.null_comparable(),
             kind: PhantomData,
         }
     }
@@ -154,7 +154,7 @@ impl<T, L> SingleChain<T, L> {
     where
         T: Drop,
         requires { length self ≡ 1 }
-        ensures { (place : Ptr) × (self ≡ (place, result) ∷ []) }
+        ensures { (address : Ptr) × (self ≡ (address, result) ∷ []) }
     {
         let SingleChain {
             head: _,
@@ -174,7 +174,7 @@ impl<T, L> SingleChain<T, L> {
         ensures some { IfSome result (λ v. slice_get (values (elements self.now)) 0 ≡ Some v.now) }
         ensures none { IfNone result (self.now ≡ []) }
     {
-        match somewhere(self.head) {
+        match not_null(self.head) {
             Some(at) => Some(&self.boxes.get(at, 0).value),
             None => None,
         }
@@ -185,7 +185,7 @@ impl<T, L> SingleChain<T, L> {
         ensures some { IfSome result (λ n. slice_get (ids (elements self.now)) 0 ≡ Some n) }
         ensures none { IfNone result (self.now ≡ []) }
     {
-        match somewhere(self.head) {
+        match not_null(self.head) {
             Some(at) => Some(self.boxes.get(at, 0).id),
             None => None,
         }
@@ -209,7 +209,7 @@ impl<T, L> SingleChain<T, L> {
         ensures { result ≡ values (elements self.now) }
     {
         Values {
-            next: somewhere(self.head),
+            next: not_null(self.head),
             rest: &self.boxes,
         }
     }
@@ -242,7 +242,7 @@ impl<T, L> SingleChain<T, L> {
         SingleChain {
             head,
             tail: last,
-            boxes: boxes.tested(),
+            boxes: boxes.null_comparable(),
             kind: PhantomData,
         }
     }
@@ -259,8 +259,8 @@ impl<T, L> SingleChain<T, L> {
         } = self;
         Cursor {
             head: None,
-            before: Address::nowhere(),
-            at: somewhere(head),
+            before: Address::null(),
+            at: not_null(head),
             tail,
             front: Boxes::empty(),
             rest: boxes,
@@ -272,7 +272,7 @@ impl<T, L> SingleChain<T, L> {
 impl<T: Drop, L> SingleChain<T, L> {
     /// Prepends a node.
     pub fn link_front(&mut self, node: Node<T, L>)
-        ensures { (place : Ptr) × (self.new ≡ (place, node) ∷ self.old) }
+        ensures { (address : Ptr) × (self.new ≡ (address, node) ∷ self.old) }
     {
         let rest = self.take();
         self.put(SingleChain::one(node).join(rest));
@@ -280,7 +280,7 @@ impl<T: Drop, L> SingleChain<T, L> {
 
     /// Appends a node.
     pub fn link_back(&mut self, node: Node<T, L>)
-        ensures { (place : Ptr) × (self.new ≡ self.old ++ (place, node) ∷ []) }
+        ensures { (address : Ptr) × (self.new ≡ self.old ++ (address, node) ∷ []) }
     {
         let rest = self.take();
         self.put(rest.join(SingleChain::one(node)));
@@ -289,7 +289,7 @@ impl<T: Drop, L> SingleChain<T, L> {
     /// Removes the first node and returns it. Requires that the chain is not empty.
     pub fn unlink_front(&mut self) -> Node<T, L>
         requires { 0 < length self.old }
-        ensures { (place : Ptr) × (self.old ≡ (place, result) ∷ self.new) }
+        ensures { (address : Ptr) × (self.old ≡ (address, result) ∷ self.new) }
     {
         let (node, others) = self.take().split_first();
         self.put(others);
@@ -299,7 +299,7 @@ impl<T: Drop, L> SingleChain<T, L> {
     /// Removes the first node, and returns it and the chain of the others.
     fn split_first(self) -> (Node<T, L>, SingleChain<T, L>)
         requires { 0 < length self }
-        ensures { (place : Ptr) × (self ≡ (place, result.0) ∷ result.1) }
+        ensures { (address : Ptr) × (self ≡ (address, result.0) ∷ result.1) }
     {
         let SingleChain {
             head,
@@ -358,8 +358,8 @@ impl<'a, T> Iterator for Values<'a, T> {
             Some(at) => {
                 let rest = self.rest;
                 let block = rest.get(at, 0);
-                self.next = somewhere(block.links.next);
-                self.rest = rest.behind_first();
+                self.next = not_null(block.links.next);
+                self.rest = rest.after_first();
                 Some(&block.value)
             }
             None => None,
@@ -441,8 +441,8 @@ impl<T, L> Cursor<T, L> {
             kind: _,
         } = self;
         let here = at.unwrap();
-        let (first, rest) = rest.tested().cut(1);
-        let next = somewhere(first.get(here, 0).links.next);
+        let (first, rest) = rest.null_comparable().cut(1);
+        let next = not_null(first.get(here, 0).links.next);
         Cursor {
             head: head.or(at),
             before: here,
@@ -481,7 +481,7 @@ impl<T, L> Cursor<T, L> {
             rest,
             kind: _,
         } = self;
-        let boxes = front.join(rest).tested();
+        let boxes = front.join(rest).null_comparable();
         SingleChain {
             head: or_nowhere(head.or(at)),
             tail,
@@ -494,8 +494,8 @@ impl<T, L> Cursor<T, L> {
 impl<T: Drop, L> Cursor<T, L> {
     /// Inserts a node before the one that the cursor is at, or after the last.
     pub fn insert(&mut self, node: Node<T, L>)
-        ensures { (place : Ptr)
-            × (self.new.before ≡ self.old.before ++ (place, node) ∷ [])
+        ensures { (address : Ptr)
+            × (self.new.before ≡ self.old.before ++ (address, node) ∷ [])
             × (self.new.rest ≡ self.old.rest) }
     {
         let cursor = self.take();
@@ -503,8 +503,8 @@ impl<T: Drop, L> Cursor<T, L> {
     }
 
     fn with_node(self, node: Node<T, L>) -> Cursor<T, L>
-        ensures { (place : Ptr)
-            × (result.before ≡ self.before ++ (place, node) ∷ [])
+        ensures { (address : Ptr)
+            × (result.before ≡ self.before ++ (address, node) ∷ [])
             × (result.rest ≡ self.rest) }
     {
         let Cursor {
@@ -517,15 +517,15 @@ impl<T: Drop, L> Cursor<T, L> {
             kind: _,
         } = self;
         let Node { mut block, kind: _ } = node;
-        let rest = rest.tested();
+        let rest = rest.null_comparable();
         block.links.next = or_nowhere(at);
-        let (place, _, new) = Boxes::one(Loose::of(block));
-        let new = new.tested();
-        let tail = if at.is_none() { place } else { tail };
+        let (address, _, new) = Boxes::one(RawBox::from_box(block));
+        let new = new.null_comparable();
+        let tail = if at.is_none() { address } else { tail };
         if head.is_none() {
             return Cursor {
-                head: Some(place),
-                before: place,
+                head: Some(address),
+                before: address,
                 at,
                 tail,
                 front: front.join(new),
@@ -535,10 +535,10 @@ impl<T: Drop, L> Cursor<T, L> {
         }
         Cursor {
             head,
-            before: place,
+            before: address,
             at,
             tail,
-            front: with_last_link(front, before, place).join(new),
+            front: with_last_link(front, before, address).join(new),
             rest,
             kind: PhantomData,
         }

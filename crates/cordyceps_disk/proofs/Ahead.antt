@@ -6,7 +6,7 @@ use denote.RawPtr.{Ptr}
 use Rattle.cordyceps.specs.Elements.Element.{Element}
 use Rattle.cordyceps.specs.Elements.Nodes.{Nodes, spots}
 use Rattle.cordyceps.specs.Spots.BySpot.{HasSpot, HoldsAt, IsTaken, IsFirst, IsLast, AreNext}
-use Rattle.cordyceps.specs.Spots.Spots.{AreApart}
+use Rattle.cordyceps.specs.Spots.Spots.{AreDistinct}
 use Rattle.cordyceps.proofs.Orders.Preorder.{by_test}
 use Rattle.cordyceps.proofs.Spots.Classes.{all_weaker}
 use Rattle.cordyceps.proofs.Spots.Holding.{lies_spot, unique}
@@ -22,27 +22,27 @@ module _ {X : Type 0} where
   first_spot (n ∷ c) = Some n.0
 
   -- what lies in a list at a spot
-  pub same_split : (c b a d z : Nodes X) (p : Ptr) (e o : Element X) → AreApart (spots c) → c ≡ b ++ (p, e) ∷ a → c ≡ d ++ (p, o) ∷ z → (b ≡ d) × (e ≡ o) × (a ≡ z)
-  same_split c b a d z p e o apart is was = unique b a d z p e o (sym is ∙ was) (subst (λ l. AreApart (spots l)) is apart)
+  pub same_split : (c b a d z : Nodes X) (p : Ptr) (e o : Element X) → AreDistinct (spots c) → c ≡ b ++ (p, e) ∷ a → c ≡ d ++ (p, o) ∷ z → (b ≡ d) × (e ≡ o) × (a ≡ z)
+  same_split c b a d z p e o distinct is was = unique b a d z p e o (sym is ∙ was) (subst (λ l. AreDistinct (spots l)) is distinct)
 
-  pub holds_value : (c b a : Nodes X) (p : Ptr) (e : Element X) (w : X) → AreApart (spots c) → c ≡ b ++ (p, e) ∷ a → HoldsAt c p w → w ≡ e.value
-  holds_value c b a p e w apart is (before, id, after, was) =
-      let same = same_split c b a before after p e (record { id = id; value = w }) apart is was in sym (ap (λ (o : Element X). o.value) same.1)
+  pub holds_value : (c b a : Nodes X) (p : Ptr) (e : Element X) (w : X) → AreDistinct (spots c) → c ≡ b ++ (p, e) ∷ a → HoldsAt c p w → w ≡ e.value
+  holds_value c b a p e w distinct is (before, id, after, was) =
+      let same = same_split c b a before after p e (record { id = id; value = w }) distinct is was in sym (ap (λ (o : Element X). o.value) same.1)
 
   -- what `next` answers
-  pub next_is : (c b a : Nodes X) (p : Ptr) (e : Element X) (r : Option Ptr) → AreApart (spots c) → c ≡ b ++ (p, e) ∷ a → MatchOption r (IsLast c p) (λ q. AreNext c p q) → r ≡ first_spot a
-  next_is c b a p e None apart is (before, o, was) =
-      let same = same_split c b a before [] p e o apart is was in sym (ap first_spot same.2)
-  next_is c b a p e (Some q) apart is (before, o, u, after, was) =
-      let same = same_split c b a before ((q, u) ∷ after) p e o apart is was in sym (ap first_spot same.2)
+  pub next_is : (c b a : Nodes X) (p : Ptr) (e : Element X) (r : Option Ptr) → AreDistinct (spots c) → c ≡ b ++ (p, e) ∷ a → MatchOption r (IsLast c p) (λ q. AreNext c p q) → r ≡ first_spot a
+  next_is c b a p e None distinct is (before, o, was) =
+      let same = same_split c b a before [] p e o distinct is was in sym (ap first_spot same.2)
+  next_is c b a p e (Some q) distinct is (before, o, u, after, was) =
+      let same = same_split c b a before ((q, u) ∷ after) p e o distinct is was in sym (ap first_spot same.2)
 
   -- what `prev` answers
-  pub prev_none : (c b a : Nodes X) (p : Ptr) (e : Element X) → AreApart (spots c) → c ≡ b ++ (p, e) ∷ a → IsFirst c p → b ≡ []
-  prev_none c b a p e apart is (o, after, was) = (same_split c b a [] after p e o apart is was).0
+  pub prev_none : (c b a : Nodes X) (p : Ptr) (e : Element X) → AreDistinct (spots c) → c ≡ b ++ (p, e) ∷ a → IsFirst c p → b ≡ []
+  prev_none c b a p e distinct is (o, after, was) = (same_split c b a [] after p e o distinct is was).0
 
-  pub prev_some : (c b a : Nodes X) (p q : Ptr) (e : Element X) → AreApart (spots c) → c ≡ b ++ (p, e) ∷ a → AreNext c q p → (d : Nodes X) × (o : Element X) × (b ≡ d ++ (q, o) ∷ [])
-  prev_some c b a p q e apart is (before, o, u, after, was) =
-      let same = same_split c b a (before ++ (q, o) ∷ []) after p e u apart is (was ∙ sym (append_assoc before ((q, o) ∷ []) ((p, u) ∷ after))) in (before, o, same.0)
+  pub prev_some : (c b a : Nodes X) (p q : Ptr) (e : Element X) → AreDistinct (spots c) → c ≡ b ++ (p, e) ∷ a → AreNext c q p → (d : Nodes X) × (o : Element X) × (b ≡ d ++ (q, o) ∷ [])
+  prev_some c b a p q e distinct is (before, o, u, after, was) =
+      let same = same_split c b a (before ++ (q, o) ∷ []) after p e u distinct is (was ∙ sym (append_assoc before ((q, o) ∷ []) ((p, u) ∷ after))) in (before, o, same.0)
 
 module _ {P : Type 0} where
   on : (h : ℕ) (n : Ptr × Element (Waiting P)) (c : Nodes (Waiting P)) → sector_of n < h → ahead_of h (n ∷ c) ≡ ahead_of h c
@@ -116,19 +116,19 @@ module _ {P : Type 0} where
       ap (λ r. ahead_of h (cond r (n ∷ l ∷ s) (l ∷ put_by sector_of n s))) (le-ltb (sector_of n) (sector_of l) past) ∙ on h l (put_by sector_of n s) none.0 ∙ put_behind h n b a m above none.1 less
 
   -- what `leads` answers, where there is a first at or above the head, and where there is none
-  pub leads_some : (h s : ℕ) (c : Nodes (Waiting P)) (p : Ptr) (w : Waiting P) (r : Bool) → AreApart (spots c) → ahead_of h c ≡ Some p → HoldsAt c p w → r ≡ nat_lt s w.request.sector → h ≤ s → (n : Ptr × Element (Waiting P)) → sector_of n ≡ s → ahead_of h (put_by sector_of n c) ≡ cond r (Some n.0) (Some p)
-  leads_some h s c p w r apart is holds answer above n same =
+  pub leads_some : (h s : ℕ) (c : Nodes (Waiting P)) (p : Ptr) (w : Waiting P) (r : Bool) → AreDistinct (spots c) → ahead_of h c ≡ Some p → HoldsAt c p w → r ≡ nat_lt s w.request.sector → h ≤ s → (n : Ptr × Element (Waiting P)) → sector_of n ≡ s → ahead_of h (put_by sector_of n c) ≡ cond r (Some n.0) (Some p)
+  leads_some h s c p w r distinct is holds answer above n same =
       let (b, e, a, at, none, high) = found h c p is in
-      let value = holds_value c b a p e w apart at holds in
+      let value = holds_value c b a p e w distinct at holds in
       let key : w.request.sector ≡ e.value.request.sector = ap (λ (v : Waiting P). v.request.sector) value in
       ap (λ l. ahead_of h (put_by sector_of n l)) at ∙ by_test (nat_lt s w.request.sector)
       (λ t. let less = ltb-true s w.request.sector t in put_before h n b a (p, e) (omega (arith, above, same)) none (omega (arith, less, key, same)) ∙ sym (ap (λ v. cond v (Some n.0) (Some p)) (answer ∙ t)))
       (λ f. let most = ltb-false s w.request.sector f in put_behind h n b a (p, e) high none (omega (arith, most, key, same)) ∙ sym (ap (λ v. cond v (Some n.0) (Some p)) (answer ∙ f)))
 
   -- ---- one less
-  module _ (h : ℕ) (c b a rest : Nodes (Waiting P)) (p : Ptr) (e o : Element (Waiting P)) (apart : AreApart (spots c)) (rises : Rises sector_of c) (is : c ≡ b ++ (p, e) ∷ a) (gone : IsTaken c p o rest) where
+  module _ (h : ℕ) (c b a rest : Nodes (Waiting P)) (p : Ptr) (e o : Element (Waiting P)) (distinct : AreDistinct (spots c)) (rises : Rises sector_of c) (is : c ≡ b ++ (p, e) ∷ a) (gone : IsTaken c p o rest) where
     same : (b ≡ gone.0) × (e ≡ o) × (a ≡ gone.1)
-    same = same_split c b a gone.0 gone.1 p e o apart is gone.2
+    same = same_split c b a gone.0 gone.1 p e o distinct is gone.2
 
     pub rest_is : rest ≡ b ++ a
     rest_is = gone.3 ∙ (λ i. sym same.0 i ++ sym same.2 i)
@@ -178,8 +178,8 @@ module _ {P : Type 0} where
     pub splits : c ≡ front ++ (place, here) ∷ behind
     pub first : r ≡ ahead_of h passed
 
-  pub walk_starts : (h : ℕ) (c : Nodes (Waiting P)) (p : Ptr) (w : Waiting P) (r : Option Ptr) → AreApart (spots c) → Rises sector_of c → HasSpot c p → HoldsAt c p w → h ≡ w.request.sector → MatchOption r (IsLast c p) (λ q. AreNext c p q) → Walked h c p p r
-  walk_starts h c p w r apart rises there (b, id, a, is) at next =
+  pub walk_starts : (h : ℕ) (c : Nodes (Waiting P)) (p : Ptr) (w : Waiting P) (r : Option Ptr) → AreDistinct (spots c) → Rises sector_of c → HasSpot c p → HoldsAt c p w → h ≡ w.request.sector → MatchOption r (IsLast c p) (λ q. AreNext c p q) → Walked h c p p r
+  walk_starts h c p w r distinct rises there (b, id, a, is) at next =
       let e : Element (Waiting P) = record { id = id; value = w } in
       record {
         front = b;
@@ -193,19 +193,19 @@ module _ {P : Type 0} where
         sector = at;
         left = refl;
         splits = is;
-        first = next_is c b a p e r apart is next ∙ sym (all_above h a (all_weaker (λ n. w.request.sector ≤ sector_of n) (λ n. h ≤ sector_of n) (λ n q. omega (arith, q, at)) a (high sector_of b a (p, e) (subst (Rises sector_of) is rises))));
+        first = next_is c b a p e r distinct is next ∙ sym (all_above h a (all_weaker (λ n. w.request.sector ≤ sector_of n) (λ n. h ≤ sector_of n) (λ n q. omega (arith, q, at)) a (high sector_of b a (p, e) (subst (Rises sector_of) is rises))));
       }
 
-  module _ (h : ℕ) (c : Nodes (Waiting P)) (at place : Ptr) (r : Option Ptr) (apart : AreApart (spots c)) (rises : Rises sector_of c) (w : Walked h c at place r) where
+  module _ (h : ℕ) (c : Nodes (Waiting P)) (at place : Ptr) (r : Option Ptr) (distinct : AreDistinct (spots c)) (rises : Rises sector_of c) (w : Walked h c at place r) where
     pub walk_there : HasSpot c place
     walk_there = lies_spot c place w.here (w.front, w.behind, w.splits)
 
     -- the one before is at the sector too
     pub walk_goes : (q : Ptr) (v : Waiting P) → AreNext c q place → HoldsAt c q v → h ≤ v.request.sector → Walked h c at q (Some q)
     walk_goes q v next holds above =
-        let (d, o, is) = prev_some c w.front w.behind place q w.here apart w.splits next in
+        let (d, o, is) = prev_some c w.front w.behind place q w.here distinct w.splits next in
         let split : c ≡ d ++ (q, o) ∷ (place, w.here) ∷ w.behind = w.splits ∙ ap (λ l. l ++ (place, w.here) ∷ w.behind) is ∙ append_assoc d ((q, o) ∷ []) ((place, w.here) ∷ w.behind) in
-        let value = holds_value c d ((place, w.here) ∷ w.behind) q o v apart split holds in
+        let value = holds_value c d ((place, w.here) ∷ w.behind) q o v distinct split holds in
         record {
           front = d;
           passed = (q, o) ∷ w.passed;
@@ -223,7 +223,7 @@ module _ {P : Type 0} where
 
     module _ (e : Element (Waiting P)) (rest : Nodes (Waiting P)) (gone : IsTaken c at e rest) where
       is_gone : (w.gone ≡ e) × (rest ≡ w.front ++ w.passed)
-      is_gone = let same = same_split c w.before w.after gone.0 gone.1 at w.gone e apart w.holds gone.2 in (same.1, gone.3 ∙ (λ i. sym same.0 i ++ sym same.2 i) ∙ w.left)
+      is_gone = let same = same_split c w.before w.after gone.0 gone.1 at w.gone e distinct w.holds gone.2 in (same.1, gone.3 ∙ (λ i. sym same.0 i ++ sym same.2 i) ∙ w.left)
 
       sector_is : h ≡ e.value.request.sector
       sector_is = w.sector ∙ ap (λ (o : Element (Waiting P)). o.value.request.sector) is_gone.0
@@ -233,41 +233,41 @@ module _ {P : Type 0} where
 
       -- nothing is before
       pub walk_ends_first : IsFirst c place → r ≡ ahead_of e.value.request.sector rest
-      walk_ends_first first = ends (ap (λ l. ahead_of h (l ++ w.passed)) (prev_none c w.front w.behind place w.here apart w.splits first))
+      walk_ends_first first = ends (ap (λ l. ahead_of h (l ++ w.passed)) (prev_none c w.front w.behind place w.here distinct w.splits first))
 
       -- the one before is at a lower sector
       pub walk_ends : (q : Ptr) (v : Waiting P) → AreNext c q place → HoldsAt c q v → v.request.sector < h → r ≡ ahead_of e.value.request.sector rest
       walk_ends q v next holds below =
-          let (d, o, is) = prev_some c w.front w.behind place q w.here apart w.splits next in
+          let (d, o, is) = prev_some c w.front w.behind place q w.here distinct w.splits next in
           let split : c ≡ d ++ (q, o) ∷ (place, w.here) ∷ w.behind = w.splits ∙ ap (λ l. l ++ (place, w.here) ∷ w.behind) is ∙ append_assoc d ((q, o) ∷ []) ((place, w.here) ∷ w.behind) in
-          let value = holds_value c d ((place, w.here) ∷ w.behind) q o v apart split holds in
+          let value = holds_value c d ((place, w.here) ∷ w.behind) q o v distinct split holds in
           ends (skip h w.front w.passed (all_below h c w.front d ((place, w.here) ∷ w.behind) (q, o) rises w.splits is (omega (arith, below, ap (λ (x : Waiting P). x.request.sector) value))))
 
   -- ---- what `left_ahead` answers
-  module _ (h : ℕ) (c rest : Nodes (Waiting P)) (p : Ptr) (e : Element (Waiting P)) (w : Waiting P) (apart : AreApart (spots c)) (rises : Rises sector_of c) (gone : IsTaken c p e rest) (lent : HoldsAt c p w) where
+  module _ (h : ℕ) (c rest : Nodes (Waiting P)) (p : Ptr) (e : Element (Waiting P)) (w : Waiting P) (distinct : AreDistinct (spots c)) (rises : Rises sector_of c) (gone : IsTaken c p e rest) (lent : HoldsAt c p w) where
     key : w.request.sector ≡ e.value.request.sector
-    key = ap (λ (x : Waiting P). x.request.sector) (holds_value c gone.0 gone.1 p e w apart gone.2 lent)
+    key = ap (λ (x : Waiting P). x.request.sector) (holds_value c gone.0 gone.1 p e w distinct gone.2 lent)
 
     pub goes_below : w.request.sector < h → ahead_of h c ≡ ahead_of h rest
-    goes_below below = left_below h c gone.0 gone.1 rest p e e apart rises gone.2 gone (omega (arith, below, key))
+    goes_below below = left_below h c gone.0 gone.1 rest p e e distinct rises gone.2 gone (omega (arith, below, key))
 
     pub goes_behind : (q : Ptr) (v : Waiting P) → AreNext c q p → HoldsAt c q v → h ≤ v.request.sector → ahead_of h c ≡ ahead_of h rest
     goes_behind q v next holds above =
-        let (d, o, is) = prev_some c gone.0 gone.1 p q e apart gone.2 next in
+        let (d, o, is) = prev_some c gone.0 gone.1 p q e distinct gone.2 next in
         let split : c ≡ d ++ (q, o) ∷ (p, e) ∷ gone.1 = gone.2 ∙ ap (λ l. l ++ (p, e) ∷ gone.1) is ∙ append_assoc d ((q, o) ∷ []) ((p, e) ∷ gone.1) in
-        let value = holds_value c d ((p, e) ∷ gone.1) q o v apart split holds in
-        left_behind h c gone.0 gone.1 rest p e e apart rises gone.2 gone d (q, o) is (omega (arith, above, ap (λ (x : Waiting P). x.request.sector) value))
+        let value = holds_value c d ((p, e) ∷ gone.1) q o v distinct split holds in
+        left_behind h c gone.0 gone.1 rest p e e distinct rises gone.2 gone d (q, o) is (omega (arith, above, ap (λ (x : Waiting P). x.request.sector) value))
 
     module _ (r : Option Ptr) (next : MatchOption r (IsLast c p) (λ q. AreNext c p q)) (above : h ≤ w.request.sector) where
       leaves : AllByRecursion (λ n. sector_of n < h) gone.0 → r ≡ ahead_of h rest
-      leaves none = next_is c gone.0 gone.1 p e r apart gone.2 next ∙ left_first h c gone.0 gone.1 rest p e e apart rises gone.2 gone (omega (arith, above, key)) none
+      leaves none = next_is c gone.0 gone.1 p e r distinct gone.2 next ∙ left_first h c gone.0 gone.1 rest p e e distinct rises gone.2 gone (omega (arith, above, key)) none
 
       pub goes_first : IsFirst c p → r ≡ ahead_of h rest
-      goes_first first = leaves (subst (AllByRecursion (λ n. sector_of n < h)) (sym (prev_none c gone.0 gone.1 p e apart gone.2 first)) tt)
+      goes_first first = leaves (subst (AllByRecursion (λ n. sector_of n < h)) (sym (prev_none c gone.0 gone.1 p e distinct gone.2 first)) tt)
 
       pub goes_after : (q : Ptr) (v : Waiting P) → AreNext c q p → HoldsAt c q v → v.request.sector < h → r ≡ ahead_of h rest
       goes_after q v before holds below =
-          let (d, o, is) = prev_some c gone.0 gone.1 p q e apart gone.2 before in
+          let (d, o, is) = prev_some c gone.0 gone.1 p q e distinct gone.2 before in
           let split : c ≡ d ++ (q, o) ∷ (p, e) ∷ gone.1 = gone.2 ∙ ap (λ l. l ++ (p, e) ∷ gone.1) is ∙ append_assoc d ((q, o) ∷ []) ((p, e) ∷ gone.1) in
-          let value = holds_value c d ((p, e) ∷ gone.1) q o v apart split holds in
+          let value = holds_value c d ((p, e) ∷ gone.1) q o v distinct split holds in
           leaves (all_below h c gone.0 d ((p, e) ∷ gone.1) (q, o) rises gone.2 is (omega (arith, below, ap (λ (x : Waiting P). x.request.sector) value)))

@@ -5,7 +5,7 @@ use denote.RawPtr.{Ptr}
 use Rattle.cordyceps.specs.Elements.Element.{Element}
 use Rattle.cordyceps.specs.Elements.Nodes.{Nodes}
 use Rattle.cordyceps.specs.Spots.BySpot.{HoldsAt, IsFirst}
-use Rattle.cordyceps.specs.Spots.Agreeing.{Lies}
+use Rattle.cordyceps.specs.Spots.Agreeing.{HasElementAt}
 use Rattle.cordyceps_disk.specs.declared.request.Request.{Request}
 use Rattle.cordyceps_disk.specs.declared.request.Ticket.{Ticket}
 use Rattle.cordyceps_disk.specs.declared.request.Waiting.{Waiting}
@@ -24,7 +24,7 @@ rest_of [] = []
 rest_of (x ∷ s) = s
 
 -- the first key is the least
-least_first : {X : Type 0} (key : Ptr × Element X → ℕ) (n : Ptr × Element X) (s : Nodes X) → AllByRecursion (λ m. key n ≤ key m) s → (q : Ptr) (e : Element X) → Lies (n ∷ s) q e → key n ≤ key (q, e)
+least_first : {X : Type 0} (key : Ptr × Element X → ℕ) (n : Ptr × Element X) (s : Nodes X) → AllByRecursion (λ m. key n ≤ key m) s → (q : Ptr) (e : Element X) → HasElementAt (n ∷ s) q e → key n ≤ key (q, e)
 least_first key n s all q e ([], a, is) = let same = ap (head_or n) is in omega (arith, ap key same)
 least_first key n s all q e (m ∷ b, a, is) = go s all b a (ap rest_of is) where
   go : (s : Nodes _) → AllByRecursion (λ m. key n ≤ key m) s → (b a : Nodes _) → s ≡ b ++ (q, e) ∷ a → key n ≤ key (q, e)
@@ -39,7 +39,7 @@ nothing (x ∷ s) is = absurd cc
 
 module _ {P : Type 0} where
   -- what lies among those that a contract sees
-  pub lay : (c : Nodes (Waiting P)) (q : Ptr) (w : Element (Request P)) → Lies (waiting_of c) q w → (e : Element (Waiting P)) × Lies c q e × (w ≡ element e.value.request)
+  pub lay : (c : Nodes (Waiting P)) (q : Ptr) (w : Element (Request P)) → HasElementAt (waiting_of c) q w → (e : Element (Waiting P)) × HasElementAt c q e × (w ≡ element e.value.request)
   lay [] q w ([], a, is) = absurd cc
   lay [] q w (m ∷ b, a, is) = absurd cc
   lay (n ∷ c) q w ([], a, is) =
@@ -65,18 +65,18 @@ module _ {P : Type 0} where
     value_is = holds_value t [] first.1 u k w was.tickets_apart t_is holds
 
     -- the request of the first ticket
-    owner : (q : Ptr) × (e : Element (Waiting P)) × Lies c q e × (e.value.ticket ≡ u) × (k.value ≡ ticket_for q e)
+    owner : (q : Ptr) × (e : Element (Waiting P)) × HasElementAt c q e × (e.value.ticket ≡ u) × (k.value ≡ ticket_for q e)
     owner = was.request u k ([], first.1, t_is)
 
     -- no deadline is earlier
-    earliest : (q : Ptr) (e : Element (Waiting P)) → Lies c q e → w.deadline ≤ e.value.request.deadline
+    earliest : (q : Ptr) (e : Element (Waiting P)) → HasElementAt c q e → w.deadline ≤ e.value.request.deadline
     earliest q e lies =
         let (j, there, is) = was.ticket q e lies in
         let rises = subst (Rises deadline_of) t_is was.by_deadline in
-        let low = least_first deadline_of (u, k) first.1 rises.0 e.value.ticket j (subst (λ s. Lies s e.value.ticket j) t_is there) in
+        let low = least_first deadline_of (u, k) first.1 rises.0 e.value.ticket j (subst (λ s. HasElementAt s e.value.ticket j) t_is there) in
         omega (arith, low, ap (λ (x : Ticket). x.deadline) is, ap (λ (x : Ticket). x.deadline) value_is)
 
-    earliest_seen : (q : Ptr) (v : Element (Request P)) → Lies (waiting_of c) q v → w.deadline ≤ v.value.deadline
+    earliest_seen : (q : Ptr) (v : Element (Request P)) → HasElementAt (waiting_of c) q v → w.deadline ≤ v.value.deadline
     earliest_seen q v lies = let (e, there, same) = lay c q v lies in
         omega (arith, earliest q e there, ap (λ (x : Element (Request P)). x.value.deadline) same)
 

@@ -6,7 +6,7 @@ use Rattle.cordyceps.specs.Elements.Element.{Element}
 use Rattle.cordyceps.specs.Elements.Nodes.{Nodes, spots}
 use Rattle.cordyceps.specs.Spots.Arranged.{Arranges}
 use Rattle.cordyceps.specs.Spots.BySpot.{IsTaken}
-use Rattle.cordyceps.specs.Spots.Spots.{AreApart}
+use Rattle.cordyceps.specs.Spots.Spots.{AreDistinct}
 use Rattle.cordyceps_disk.specs.declared.request.Ticket.{Ticket}
 use Rattle.cordyceps_disk.specs.declared.request.Waiting.{Waiting}
 use Rattle.cordyceps_disk.specs.Orders.{by_deadline_lawful, by_sector_lawful}
@@ -27,12 +27,12 @@ pub ticket_put : (t s : Nodes Ticket) (n : Ptr × Element Ticket) → Rises dead
 ticket_put t s n rises insert = let key : Ticket → ℕ = λ w. w.deadline in is_put key by_deadline_lawful t s n rises (insert (itself key by_deadline_lawful t rises))
 
 -- what a change of the ticket that came in last answers
-pub ticket_changed : (t s m : Nodes Ticket) (u : Ptr) (k e : Element Ticket) (w : Ticket) → Rises deadline_of t → AreApart (spots s) → s ≡ put_by deadline_of (u, k) t → IsTaken s u k t
+pub ticket_changed : (t s m : Nodes Ticket) (u : Ptr) (k e : Element Ticket) (w : Ticket) → Rises deadline_of t → AreDistinct (spots s) → s ≡ put_by deadline_of (u, k) t → IsTaken s u k t
     → (Deadlines s s → (left : Nodes Ticket) × (IsTaken s u e left × Deadlines m (left ++ (u, record { id = e.id; value = w }) ∷ []))) → m ≡ put_by deadline_of (u, record { id = e.id; value = w }) t
-ticket_changed t s m u k e w rises apart put others update =
+ticket_changed t s m u k e w rises distinct put others update =
     let key : Ticket → ℕ = λ x. x.deadline in
     let (left, (taken, arranged)) = update (itself key by_deadline_lawful s (subst (Rises deadline_of) (sym put) (put_rises deadline_of (u, k) t rises))) in
-    let same = back_again s t left u k e apart others taken in
+    let same = back_again s t left u k e distinct others taken in
     is_put key by_deadline_lawful t m (u, record { id = e.id; value = w }) rises (subst (λ l. Deadlines m (l ++ (u, record { id = e.id; value = w }) ∷ [])) same arranged)
 
 -- a ticket of which both parts are known

@@ -4,8 +4,8 @@ use denote.RawPtr.{Ptr}
 use Rattle.cordyceps.specs.Elements.Element.{Element}
 use Rattle.cordyceps.specs.Elements.Nodes.{Nodes, spots}
 use Rattle.cordyceps.specs.Spots.BySpot.{HasSpot, IsTaken}
-use Rattle.cordyceps.specs.Spots.Spots.{AreApart}
-use Rattle.cordyceps.specs.Spots.Agreeing.{Lies}
+use Rattle.cordyceps.specs.Spots.Spots.{AreDistinct}
+use Rattle.cordyceps.specs.Spots.Agreeing.{HasElementAt}
 use Rattle.cordyceps.proofs.Spots.Holding.{lies_spot, left_lies, taken_or_left, taken_gone}
 use Rattle.cordyceps_disk.specs.declared.request.Request.{Request}
 use Rattle.cordyceps_disk.specs.declared.request.Ticket.{Ticket}
@@ -19,12 +19,12 @@ taken_long : {X : Type 0} (c d : Nodes X) (p : Ptr) (e : Element X) → IsTaken 
 taken_long c d p e (b, a, is, left) = ap length is ∙ length-append b ((p, e) ∷ a) ∙ (omega (arith, length-append b a)) ∙ ap (λ l. suc (length l)) (sym left)
 
 -- an element that was put in and went again left nothing behind
-pub back_again : {X : Type 0} (c d s : Nodes X) (p : Ptr) (e o : Element X) → AreApart (spots c) → IsTaken c p e d → IsTaken c p o s → s ≡ d
-back_again c d s p e o apart (b, a, is, left) (f, r, was, rest) = let same = same_split c b a f r p e o apart is was in rest ∙ (λ i. sym same.0 i ++ sym same.2 i) ∙ sym left
+pub back_again : {X : Type 0} (c d s : Nodes X) (p : Ptr) (e o : Element X) → AreDistinct (spots c) → IsTaken c p e d → IsTaken c p o s → s ≡ d
+back_again c d s p e o distinct (b, a, is, left) (f, r, was, rest) = let same = same_split c b a f r p e o distinct is was in rest ∙ (λ i. sym same.0 i ++ sym same.2 i) ∙ sym left
 
 -- what was taken out at one spot is the same
-pub same_taken : {X : Type 0} (c d s : Nodes X) (p : Ptr) (e o : Element X) → AreApart (spots c) → IsTaken c p e d → IsTaken c p o s → e ≡ o
-same_taken c d s p e o apart (b, a, is, left) (f, r, was, rest) = (same_split c b a f r p e o apart is was).1
+pub same_taken : {X : Type 0} (c d s : Nodes X) (p : Ptr) (e o : Element X) → AreDistinct (spots c) → IsTaken c p e d → IsTaken c p o s → e ≡ o
+same_taken c d s p e o distinct (b, a, is, left) (f, r, was, rest) = (same_split c b a f r p e o distinct is was).1
 
 -- ---- what a contract sees
 pub put_due : (n : Ptr × Element Ticket) (t : Nodes Ticket) → due_of (put_by deadline_of n t) ≡ put_by (λ d. d.0) (n.1.value.deadline, spot_or n.1.value.request) (due_of t)
@@ -51,8 +51,8 @@ module _ {P : Type 0} where
   spots_waiting [] = refl
   spots_waiting (n ∷ c) = ap (λ l. n.0 ∷ l) (spots_waiting c)
 
-  pub apart_waiting : (c : Nodes (Waiting P)) → AreApart (spots c) → AreApart (spots (waiting_of c))
-  apart_waiting c apart = subst AreApart (sym (spots_waiting c)) apart
+  pub apart_waiting : (c : Nodes (Waiting P)) → AreDistinct (spots c) → AreDistinct (spots (waiting_of c))
+  apart_waiting c distinct = subst AreDistinct (sym (spots_waiting c)) distinct
 
   pub long_waiting : (c : Nodes (Waiting P)) → length (waiting_of c) ≡ length c
   long_waiting [] = refl
@@ -64,7 +64,7 @@ module _ {P : Type 0} where
   pub taken_waiting : (c d : Nodes (Waiting P)) (p : Ptr) (e : Element (Waiting P)) → IsTaken c p e d → IsTaken (waiting_of c) p (element e.value.request) (waiting_of d)
   taken_waiting c d p e (b, a, is, left) = (waiting_of b, waiting_of a, ap (λ l. waiting_of l) is ∙ join_waiting b ((p, e) ∷ a), ap (λ l. waiting_of l) left ∙ join_waiting b a)
 
-  pub lies_waiting : (c : Nodes (Waiting P)) (q : Ptr) (e : Element (Waiting P)) → Lies c q e → Lies (waiting_of c) q (element e.value.request)
+  pub lies_waiting : (c : Nodes (Waiting P)) (q : Ptr) (e : Element (Waiting P)) → HasElementAt c q e → HasElementAt (waiting_of c) q (element e.value.request)
   lies_waiting c q e (b, a, is) = (waiting_of b, waiting_of a, ap (λ l. waiting_of l) is ∙ join_waiting b ((q, e) ∷ a))
 
   -- ---- coming and going
@@ -76,14 +76,14 @@ module _ {P : Type 0} where
     pub ticket_is : (q u : Ptr) (e : Element (Waiting P)) (k : Element Ticket) (d : Nodes (Waiting P)) (s : Nodes Ticket) → IsTaken c q e d → e.value.ticket ≡ u → IsTaken t u k s → k.value ≡ ticket_for q e
     ticket_is q u e k d s (b, a, is, left) at (f, r, has, rest) =
         let (o, lies, says) = was.ticket q e (b, a, is) in
-        let (g, z, there) = subst (λ p. Lies t p o) at lies in
+        let (g, z, there) = subst (λ p. HasElementAt t p o) at lies in
         ap (λ (x : Element Ticket). x.value) (same_split t f r g z u k o was.tickets_apart has there).1 ∙ says
 
-    pub left_paired : (q u : Ptr) (e : Element (Waiting P)) (k : Element Ticket) (d : Nodes (Waiting P)) (s : Nodes Ticket) → IsTaken c q e d → e.value.ticket ≡ u → IsTaken t u k s → AreApart (spots d) → AreApart (spots s) → Paired d s
-    left_paired q u e k d s gone at went apart tickets_apart = record {
+    pub left_paired : (q u : Ptr) (e : Element (Waiting P)) (k : Element Ticket) (d : Nodes (Waiting P)) (s : Nodes Ticket) → IsTaken c q e d → e.value.ticket ≡ u → IsTaken t u k s → AreDistinct (spots d) → AreDistinct (spots s) → Paired d s
+    left_paired q u e k d s gone at went distinct tickets_apart = record {
       by_sector = subst (Rises sector_of) (sym gone.3) (rises_without sector_of gone.0 gone.1 (q, e) (subst (Rises sector_of) gone.2 was.by_sector));
       by_deadline = subst (Rises deadline_of) (sym went.3) (rises_without deadline_of went.0 went.1 (u, k) (subst (Rises deadline_of) went.2 was.by_deadline));
-      apart = apart;
+      distinct = distinct;
       tickets_apart = tickets_apart;
       length = omega (arith, taken_long c d q e gone, taken_long t s u k went, was.length);
       ticket = tickets;
@@ -92,32 +92,32 @@ module _ {P : Type 0} where
       says : k.value ≡ ticket_for q e
       says = ticket_is q u e k d s gone at went
 
-      tickets : (r : Ptr) (o : Element (Waiting P)) → Lies d r o → (j : Element Ticket) × Lies s o.value.ticket j × (j.value ≡ ticket_for r o)
+      tickets : (r : Ptr) (o : Element (Waiting P)) → HasElementAt d r o → (j : Element Ticket) × HasElementAt s o.value.ticket j × (j.value ≡ ticket_for r o)
       tickets r o lies =
           let (j, there, is) = was.ticket r o (left_lies c d q r e o gone lies) in
-          elim (taken_or_left t s u o.value.ticket k j went there) as (λ _. (j : Element Ticket) × Lies s o.value.ticket j × (j.value ≡ ticket_for r o)) [
+          elim (taken_or_left t s u o.value.ticket k j went there) as (λ _. (j : Element Ticket) × HasElementAt s o.value.ticket j × (j.value ≡ ticket_for r o)) [
             | inl same ↦
                 let both : ticket_for r o ≡ ticket_for q e = sym is ∙ ap (λ (x : Element Ticket). x.value) same.1 ∙ says in
                 let one : r ≡ q = ap (λ (x : Ticket). spot_or x.request) both in
-                absurd (taken_gone c d q e was.apart gone (subst (λ p. HasSpot d p) one (lies_spot d r o lies)))
+                absurd (taken_gone c d q e was.distinct gone (subst (λ p. HasSpot d p) one (lies_spot d r o lies)))
             | inr still ↦ (j, still, is)
           ]
 
-      requests : (v : Ptr) (j : Element Ticket) → Lies s v j → (r : Ptr) × (o : Element (Waiting P)) × Lies d r o × (o.value.ticket ≡ v) × (j.value ≡ ticket_for r o)
+      requests : (v : Ptr) (j : Element Ticket) → HasElementAt s v j → (r : Ptr) × (o : Element (Waiting P)) × HasElementAt d r o × (o.value.ticket ≡ v) × (j.value ≡ ticket_for r o)
       requests v j lies =
           let (r, o, there, where_at, is) = was.request v j (left_lies t s u v k j went lies) in
-          elim (taken_or_left c d q r e o gone there) as (λ _. (r : Ptr) × (o : Element (Waiting P)) × Lies d r o × (o.value.ticket ≡ v) × (j.value ≡ ticket_for r o)) [
+          elim (taken_or_left c d q r e o gone there) as (λ _. (r : Ptr) × (o : Element (Waiting P)) × HasElementAt d r o × (o.value.ticket ≡ v) × (j.value ≡ ticket_for r o)) [
             | inl same ↦
                 let one : v ≡ u = sym where_at ∙ ap (λ (x : Element (Waiting P)). x.value.ticket) same.1 ∙ at in
                 absurd (taken_gone t s u k was.tickets_apart went (subst (λ p. HasSpot s p) one (lies_spot s v j lies)))
             | inr still ↦ (r, o, still, where_at, is)
           ]
 
-    pub put_paired : (q u : Ptr) (e : Element (Waiting P)) (k : Element Ticket) (d : Nodes (Waiting P)) (s : Nodes Ticket) → d ≡ put_by sector_of (q, e) c → s ≡ put_by deadline_of (u, k) t → e.value.ticket ≡ u → k.value ≡ ticket_for q e → AreApart (spots d) → AreApart (spots s) → Paired d s
-    put_paired q u e k d s put placed at says apart tickets_apart = record {
+    pub put_paired : (q u : Ptr) (e : Element (Waiting P)) (k : Element Ticket) (d : Nodes (Waiting P)) (s : Nodes Ticket) → d ≡ put_by sector_of (q, e) c → s ≡ put_by deadline_of (u, k) t → e.value.ticket ≡ u → k.value ≡ ticket_for q e → AreDistinct (spots d) → AreDistinct (spots s) → Paired d s
+    put_paired q u e k d s put placed at says distinct tickets_apart = record {
       by_sector = subst (Rises sector_of) (sym put) (put_rises sector_of (q, e) c was.by_sector);
       by_deadline = subst (Rises deadline_of) (sym placed) (put_rises deadline_of (u, k) t was.by_deadline);
-      apart = apart;
+      distinct = distinct;
       tickets_apart = tickets_apart;
       length = omega (arith, ap length put, ap length placed, put_long sector_of (q, e) c, put_long deadline_of (u, k) t, was.length);
       ticket = tickets;
@@ -129,18 +129,18 @@ module _ {P : Type 0} where
       got : IsTaken s u k t
       got = subst (λ l. IsTaken l u k t) (sym placed) (put_taken (λ (w : Ticket). w.deadline) (u, k) t was.by_deadline)
 
-      tickets : (r : Ptr) (o : Element (Waiting P)) → Lies d r o → (j : Element Ticket) × Lies s o.value.ticket j × (j.value ≡ ticket_for r o)
-      tickets r o lies = elim (taken_or_left d c q r e o came lies) as (λ _. (j : Element Ticket) × Lies s o.value.ticket j × (j.value ≡ ticket_for r o)) [
+      tickets : (r : Ptr) (o : Element (Waiting P)) → HasElementAt d r o → (j : Element Ticket) × HasElementAt s o.value.ticket j × (j.value ≡ ticket_for r o)
+      tickets r o lies = elim (taken_or_left d c q r e o came lies) as (λ _. (j : Element Ticket) × HasElementAt s o.value.ticket j × (j.value ≡ ticket_for r o)) [
         | inl same ↦ (
           k,
-          subst (λ p. Lies s p k) (sym at ∙ ap (λ (x : Element (Waiting P)). x.value.ticket) (sym same.1)) (got.0, got.1, got.2),
+          subst (λ p. HasElementAt s p k) (sym at ∙ ap (λ (x : Element (Waiting P)). x.value.ticket) (sym same.1)) (got.0, got.1, got.2),
           says ∙ (λ i. ticket_for (sym same.0 i) (sym same.1 i)),
         )
         | inr there ↦ let (j, lay, is) = was.ticket r o there in (j, left_lies s t u o.value.ticket k j got lay, is)
       ]
 
-      requests : (v : Ptr) (j : Element Ticket) → Lies s v j → (r : Ptr) × (o : Element (Waiting P)) × Lies d r o × (o.value.ticket ≡ v) × (j.value ≡ ticket_for r o)
-      requests v j lies = elim (taken_or_left s t u v k j got lies) as (λ _. (r : Ptr) × (o : Element (Waiting P)) × Lies d r o × (o.value.ticket ≡ v) × (j.value ≡ ticket_for r o)) [
+      requests : (v : Ptr) (j : Element Ticket) → HasElementAt s v j → (r : Ptr) × (o : Element (Waiting P)) × HasElementAt d r o × (o.value.ticket ≡ v) × (j.value ≡ ticket_for r o)
+      requests v j lies = elim (taken_or_left s t u v k j got lies) as (λ _. (r : Ptr) × (o : Element (Waiting P)) × HasElementAt d r o × (o.value.ticket ≡ v) × (j.value ≡ ticket_for r o)) [
         | inl same ↦ (q, e, (came.0, came.1, came.2), at ∙ sym same.0, ap (λ (x : Element Ticket). x.value) same.1 ∙ says)
         | inr there ↦ let (r, o, lay, where_at, is) = was.request v j there in (r, o, left_lies d c q r e o came lay, where_at, is)
       ]

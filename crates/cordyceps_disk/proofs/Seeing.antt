@@ -4,9 +4,9 @@ use Rattle.std.specs.Prelude.{IfSome}
 use denote.RawPtr.{Ptr}
 use Rattle.cordyceps.specs.Elements.Element.{Element}
 use Rattle.cordyceps.specs.Elements.Nodes.{Nodes, spots}
-use Rattle.cordyceps.specs.Spots.Agreeing.{Lies}
+use Rattle.cordyceps.specs.Spots.Agreeing.{HasElementAt}
 use Rattle.cordyceps.specs.Spots.BySpot.{HasSpot, IsTaken}
-use Rattle.cordyceps.specs.Spots.Spots.{AreApart}
+use Rattle.cordyceps.specs.Spots.Spots.{AreDistinct}
 use Rattle.cordyceps.proofs.Spots.Holding.{lies_spot}
 use Rattle.cordyceps_disk.specs.declared.request.Request.{Request}
 use Rattle.cordyceps_disk.specs.declared.request.Ticket.{Ticket}
@@ -21,8 +21,8 @@ module _ {P : Type 0} (q : Queue P) (c : Nodes (Waiting P)) (t : Nodes Ticket) (
   pub seen_spot : (p : Ptr) → HasSpot q.waiting p → HasSpot c p
   seen_spot p there = has_waiting c p (subst (λ (w : Queue P). HasSpot w.waiting p) (sym view) there)
 
-  pub seen_apart : AreApart (spots c) → AreApart (spots q.waiting)
-  seen_apart apart = subst (λ (w : Queue P). AreApart (spots w.waiting)) view (apart_waiting c apart)
+  pub seen_apart : AreDistinct (spots c) → AreDistinct (spots q.waiting)
+  seen_apart distinct = subst (λ (w : Queue P). AreDistinct (spots w.waiting)) view (apart_waiting c distinct)
 
   -- one came in
   module _ (d : Nodes (Waiting P)) (s : Nodes Ticket) (p : Ptr) (r : Request P) (put : (e : Element (Waiting P)) × (e.value.request ≡ r) × (d ≡ put_by sector_of (p, e) c)) where
@@ -50,11 +50,11 @@ module _ {P : Type 0} (q : Queue P) (c : Nodes (Waiting P)) (t : Nodes Ticket) (
     seen_left out = subst (λ w. HasLeft p r w (seen d s k)) view (record { waiting = gone; due = out })
 
     -- it is the one that was next
-    pub seen_next : (now : ℕ) (o : Request P) → AreApart (spots c) → IsNext now p o q → IsNext now p r q
-    seen_next now o apart next =
+    pub seen_next : (now : ℕ) (o : Request P) → AreDistinct (spots c) → IsNext now p o q → IsNext now p r q
+    seen_next now o distinct next =
         let (b, a, is) = next.lies in
-        let (f, z, was) = subst (λ (w : Queue P). Lies w.waiting p (element r)) view (gone.0, gone.1, gone.2) in
-        let same = same_split q.waiting b a f z p (element o) (element r) (seen_apart apart) is was in
+        let (f, z, was) = subst (λ (w : Queue P). HasElementAt w.waiting p (element r)) view (gone.0, gone.1, gone.2) in
+        let same = same_split q.waiting b a f z p (element o) (element r) (seen_apart distinct) is was in
         subst (λ x. IsNext now p x q) (ap (λ (e : Element (Request P)). e.value) same.1) next
 
 -- a request that is next waits

@@ -4,8 +4,8 @@ use Rattle.std.specs.List.{AllByRecursion}
 use denote.RawPtr.{Ptr, null_ptr}
 use Rattle.cordyceps.specs.Elements.Element.{Element}
 use Rattle.cordyceps.specs.Elements.Nodes.{Nodes, spots}
-use Rattle.cordyceps.specs.Spots.Agreeing.{Lies}
-use Rattle.cordyceps.specs.Spots.Spots.{AreApart}
+use Rattle.cordyceps.specs.Spots.Agreeing.{HasElementAt}
+use Rattle.cordyceps.specs.Spots.Spots.{AreDistinct}
 use Rattle.cordyceps_disk.specs.declared.request.Request.{Request}
 use Rattle.cordyceps_disk.specs.declared.request.Ticket.{Ticket}
 use Rattle.cordyceps_disk.specs.declared.request.Waiting.{Waiting}
@@ -49,10 +49,10 @@ module _ {P : Type 0} where
   pub record Paired (c : Nodes (Waiting P)) (t : Nodes Ticket) : Type 0 where
     pub by_sector : Rises sector_of c
     pub by_deadline : Rises deadline_of t
-    pub apart : AreApart (spots c)
-    pub tickets_apart : AreApart (spots t)
+    pub distinct : AreDistinct (spots c)
+    pub tickets_apart : AreDistinct (spots t)
     pub length : length t ≡ length c
-    pub ticket : (q : Ptr) (e : Element (Waiting P)) → Lies c q e → (k : Element Ticket) × Lies t e.value.ticket k
+    pub ticket : (q : Ptr) (e : Element (Waiting P)) → HasElementAt c q e → (k : Element Ticket) × HasElementAt t e.value.ticket k
         × (k.value ≡ ticket_for q e)
-    pub request : (u : Ptr) (k : Element Ticket) → Lies t u k → (q : Ptr) × (e : Element (Waiting P)) × Lies c q e
+    pub request : (u : Ptr) (k : Element Ticket) → HasElementAt t u k → (q : Ptr) × (e : Element (Waiting P)) × HasElementAt c q e
         × (e.value.ticket ≡ u) × (k.value ≡ ticket_for q e)

@@ -3,7 +3,7 @@ use Rattle.std.specs.Prelude.{◌≡◌, ℕ, ◌<◌, ◌≤◌, List, [], ◌�
 use denote.RawPtr.{Ptr}
 use Rattle.cordyceps.specs.Elements.Element.{Element}
 use Rattle.cordyceps.specs.Elements.Nodes.{Nodes}
-use Rattle.cordyceps.specs.Spots.Agreeing.{Lies}
+use Rattle.cordyceps.specs.Spots.Agreeing.{HasElementAt}
 use Rattle.cordyceps.specs.Spots.BySpot.{IsTaken}
 use Rattle.cordyceps_disk.specs.declared.request.Request.{Request}
 
@@ -20,11 +20,11 @@ module _ {A : Type 0} where
 module _ {X : Type 0} where
   -- p holds of each value
   abbrev pub Each : Nodes X → (X → Type 0) → Type 0
-  Each c p = (q : Ptr) (e : Element X) → Lies c q e → p e.value
+  Each c p = (q : Ptr) (e : Element X) → HasElementAt c q e → p e.value
 
   -- p holds of some value
   abbrev pub Any : Nodes X → (X → Type 0) → Type 0
-  Any c p = (q : Ptr) × (e : Element X) × Lies c q e × p e.value
+  Any c p = (q : Ptr) × (e : Element X) × HasElementAt c q e × p e.value
 
 -- what a contract sees of a queue: the requests by sector, their deadlines and spots by deadline, and the head's sector
 pub record Queue (P : Type 0) : Type 0 where
@@ -68,6 +68,6 @@ module _ {P : Type 0} where
 
   -- the request r at p is the one to be served at a time
   pub record IsNext (now : ℕ) (p : Ptr) (r : Request P) (q : Queue P) : Type 0 where
-    pub lies : Lies q.waiting p (element r)
+    pub lies : HasElementAt q.waiting p (element r)
     pub urgent : Any q.waiting (λ w. w.deadline < now) → IsUrgent now p r q
     pub upwards : Each q.waiting (λ w. now ≤ w.deadline) → IsUpwards p r q

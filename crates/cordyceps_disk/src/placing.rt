@@ -4,7 +4,7 @@ ghost use denote.RawPtr.{Ptr};
 ghost use Rattle.cordyceps.specs.Elements.Element.{Element};
 ghost use Rattle.cordyceps.specs.Elements.Nodes.{Nodes, spots};
 ghost use Rattle.cordyceps.specs.Spots.BySpot.{HasSpot, IsTaken};
-ghost use Rattle.cordyceps.specs.Spots.Spots.{AreApart};
+ghost use Rattle.cordyceps.specs.Spots.Spots.{AreDistinct};
 ghost use Rattle.cordyceps_disk.specs.Pairs.{Paired, Rises, ahead_of, sector_of, due_of};
 ghost use Rattle.cordyceps_disk.specs.Queue.{IsOut, put_by};
 
@@ -25,7 +25,7 @@ pub(crate) fn leads<P: Drop>(
     head: u64,
     sector: u64,
 ) -> bool
-    requires apart { AreApart (spots requests.now.nodes) }
+    requires distinct { AreDistinct (spots requests.now.nodes) }
     requires ahead { ahead ≡ ahead_of head requests.now.nodes }
     ensures { (n : Ptr × Element (Waiting P))
         → sector_of n ≡ sector
@@ -48,7 +48,7 @@ pub(crate) fn left_ahead<P: Drop>(
     at: Spot,
 ) -> Option<Spot>
     requires there { HasSpot requests.now.nodes at }
-    requires apart { AreApart (spots requests.now.nodes) }
+    requires distinct { AreDistinct (spots requests.now.nodes) }
     requires order { Rises sector_of requests.now.nodes }
     requires ahead { ahead ≡ ahead_of head requests.now.nodes }
     ensures { (e : Element (Waiting P)) (rest : Nodes (Waiting P))
@@ -71,7 +71,7 @@ pub(crate) fn left_ahead<P: Drop>(
 /// It walks back over the requests at the same sector.
 pub(crate) fn first_above<P: Drop>(requests: &Requests<P>, at: Spot) -> Option<Spot>
     requires there { HasSpot requests.now.nodes at }
-    requires apart { AreApart (spots requests.now.nodes) }
+    requires distinct { AreDistinct (spots requests.now.nodes) }
     requires order { Rises sector_of requests.now.nodes }
     ensures { (e : Element (Waiting P)) (rest : Nodes (Waiting P))
         → IsTaken requests.now.nodes at e rest

@@ -3,7 +3,7 @@ ghost use Rattle.std.specs.Prelude.{◌≡◌, ◌==◌, [], length, IfOk, IfErr
 ghost use denote.RawPtr.{Ptr};
 ghost use Rattle.cordyceps.specs.Elements.Nodes.{spots};
 ghost use Rattle.cordyceps.specs.Spots.BySpot.{HasSpot, HoldsAt, IsTaken};
-ghost use Rattle.cordyceps.specs.Spots.Spots.{AreApart};
+ghost use Rattle.cordyceps.specs.Spots.Spots.{AreDistinct};
 ghost use Rattle.cordyceps_disk.specs.Queue.{HasLeft, IsNext, element, submitted};
 
 use crate::placing::{Requests, Tickets, first_above, leads, left_ahead, link, unlink};
@@ -78,7 +78,7 @@ impl<P: Drop> DiskQueue<P> {
         ensures submitted { IfOk result (λ spot. self.new ≡ submitted spot request self.old) }
         ensures others { IfOk result (λ spot. IsTaken self.new.waiting spot (element request) self.old.waiting) }
         ensures there { IfOk result (λ spot. HasSpot self.new.waiting spot) }
-        ensures apart { AreApart (spots self.new.waiting) }
+        ensures distinct { AreDistinct (spots self.new.waiting) }
         ensures kept { OnErr result (self.new ≡ self.old) }
         ensures returned { IfErr result (λ e. e.value ≡ request) }
     {
@@ -98,7 +98,7 @@ impl<P: Drop> DiskQueue<P> {
         requires { HasSpot self.old.waiting at }
         ensures left { HasLeft at result self.old self.new }
         ensures head { self.new.head ≡ self.old.head }
-        ensures apart { AreApart (spots self.new.waiting) }
+        ensures distinct { AreDistinct (spots self.new.waiting) }
     {
         self.ahead = left_ahead(&self.requests, self.ahead, self.head, at);
         unlink(&mut self.requests, &mut self.tickets, at)
@@ -116,7 +116,7 @@ impl<P: Drop> DiskQueue<P> {
     pub fn next(&mut self, now: u64) -> Option<Request<P>>
         ensures served { MatchOption result ((self.old.waiting ≡ []) × (self.new ≡ self.old))
             (λ r. (p : Ptr) × IsNext now p r self.old × HasLeft p r self.old self.new × (self.new.head ≡ r.sector)) }
-        ensures apart { AreApart (spots self.new.waiting) }
+        ensures distinct { AreDistinct (spots self.new.waiting) }
     {
         let at = self.peek(now)?;
         self.ahead = first_above(&self.requests, at);

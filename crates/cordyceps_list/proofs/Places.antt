@@ -5,11 +5,11 @@ use Rattle.std.proofs.lemmas.List.{length-take, append-nil, take_all, drop_all}
 use Rattle.std.proofs.Math.Seq.{take-append_seam}
 use denote.RawPtr.{Ptr}
 use Rattle.cordyceps_base.specs.Element.{Element}
-use Rattle.cordyceps_base.specs.Nodes.{Nodes, spots, LiesAt, with_item}
+use Rattle.cordyceps_base.specs.Nodes.{Nodes, spots, IsAt, with_item}
 use Rattle.cordyceps_base.proofs.Places.{spot_before, spot_pushed, spot_pulled, spots-with_item, length-with_item}
 use Rattle.cordyceps_list.specs.declared.finger.Finger.{Finger}
 use Rattle.cordyceps_list.specs.declared.finger.Fingers.{Fingers}
-use Rattle.cordyceps_list.specs.Fingers.{FingerFits, FingersFit, PutsIn, TakesOut, ChangesBehind}
+use Rattle.cordyceps_list.specs.Fingers.{FingerFits, FingersFit, PutsIn, TakesOut, ChangesAfter}
 
 module _ {X : Type 0} where
   -- the first nodes stay
@@ -19,7 +19,7 @@ module _ {X : Type 0} where
       let short = length-take k c in
       record {
         within = omega arith;
-        on = λ on_node. subst (λ (e : Nodes X). LiesAt e f.index f.at) (sym is) (spot_before c more k f.index f.at.ptr before (fits.on (omega arith)));
+        on = λ on_node. subst (λ (e : Nodes X). IsAt e f.index f.at) (sym is) (spot_before c more k f.index f.at.ptr before (fits.on (omega arith)));
       }
 
   fits_splice : (c d more : Nodes X) (old new : Finger) (k count : ℕ) → FingerFits c old → k ≤ length c → d ≡ take k c ++ (more ++ drop k c) → count ≡ length more → PutsIn k count old new → FingerFits d new
@@ -61,7 +61,7 @@ module _ {X : Type 0} where
   ]
 
   -- on the node that comes where one was taken out
-  fits_next : (c d : Nodes X) (f : Finger) (k : ℕ) → k < length c → d ≡ take k c ++ drop (k + 1) c → f.index ≡ k → (k + 1 < length c → LiesAt c (k + 1) f.at) → FingerFits d f
+  fits_next : (c d : Nodes X) (f : Finger) (k : ℕ) → k < length c → d ≡ take k c ++ drop (k + 1) c → f.index ≡ k → (k + 1 < length c → IsAt c (k + 1) f.at) → FingerFits d f
   fits_next c d f k inside is here next =
       let long = ap length is ∙ length-append (take k c) (drop (k + 1) c) in
       let short = length-take k c in
@@ -74,7 +74,7 @@ module _ {X : Type 0} where
             subst (λ (e : Nodes X). slice_get (spots e) f.index ≡ Some at) (sym is) (subst (λ (n : ℕ). slice_get (spots (take k c ++ drop (k + 1) c)) n ≡ Some at) (omega arith) there);
       }
 
-  fits_front : (c d : Nodes X) (old new : Finger) (k : ℕ) → FingerFits c old → k ≤ length c → d ≡ take k c → ChangesBehind k k old new → FingerFits d new
+  fits_front : (c d : Nodes X) (old new : Finger) (k : ℕ) → FingerFits c old → k ≤ length c → d ≡ take k c → ChangesAfter k k old new → FingerFits d new
   fits_front c d old new k fits front is change = elim (cases_lt old.index k) as (λ _. FingerFits d new) [
     | inl before ↦ subst (FingerFits d) (sym (change.0 before)) (fits_kept c d old k [] fits before front (is ∙ sym (append-nil (take k c))))
     | inr behind ↦
@@ -92,11 +92,11 @@ module _ {X : Type 0} where
       record { front = fits_unlink c d old.front new.front k len fit.front inside is many f; back = fits_unlink c d old.back new.back k len fit.back inside is many b }
 
   -- the same where the front finger is put on the node that comes there
-  pub fit_removed : (c d : Nodes X) (old : Finger) (new : Fingers) (k len : ℕ) → FingerFits c old → k < length c → d ≡ take k c ++ drop (k + 1) c → len ≡ length d → new.front.index ≡ k → (k + 1 < length c → LiesAt c (k + 1) new.front.at) → TakesOut k len old new.back → FingersFit d new
+  pub fit_removed : (c d : Nodes X) (old : Finger) (new : Fingers) (k len : ℕ) → FingerFits c old → k < length c → d ≡ take k c ++ drop (k + 1) c → len ≡ length d → new.front.index ≡ k → (k + 1 < length c → IsAt c (k + 1) new.front.at) → TakesOut k len old new.back → FingersFit d new
   fit_removed c d old new k len fits inside is many here next b =
       record { front = fits_next c d new.front k inside is here next; back = fits_unlink c d old new.back k len fits inside is many b }
 
-  pub fit_front : (c d : Nodes X) (old new : Fingers) (k : ℕ) → FingersFit c old → k ≤ length c → d ≡ take k c → ChangesBehind k k old.front new.front → ChangesBehind k k old.back new.back → FingersFit d new
+  pub fit_front : (c d : Nodes X) (old new : Fingers) (k : ℕ) → FingersFit c old → k ≤ length c → d ≡ take k c → ChangesAfter k k old.front new.front → ChangesAfter k k old.back new.back → FingersFit d new
   fit_front c d old new k fit front is f b =
       record { front = fits_front c d old.front new.front k fit.front front is f; back = fits_front c d old.back new.back k fit.back front is b }
 

@@ -1,18 +1,18 @@
 -- Fingers on the nodes of a chain.
 use Rattle.std.specs.Prelude.{◌≡◌, ℕ, ◌+◌, ◌-◌, ◌<◌, ◌≤◌, length}
-use Rattle.cordyceps_base.specs.Nodes.{Nodes, LiesAt}
+use Rattle.cordyceps_base.specs.Nodes.{Nodes, IsAt}
 use Rattle.cordyceps_list.specs.declared.finger.Finger.{Finger}
 use Rattle.cordyceps_list.specs.declared.finger.Fingers.{Fingers}
 
 module _ {X : Type 0} where
   -- the finger is on a node, and knows its index
   abbrev pub IsOn : Nodes X → Finger → Type 0
-  IsOn c f = (f.index < length c) × LiesAt c f.index f.at
+  IsOn c f = (f.index < length c) × IsAt c f.index f.at
 
   -- the same, or the finger is behind the last node, whatever its address
   pub record FingerFits (c : Nodes X) (f : Finger) : Type 0 where
     pub within : f.index ≤ length c
-    pub on : f.index < length c → LiesAt c f.index f.at
+    pub on : f.index < length c → IsAt c f.index f.at
 
   -- both fingers fit the chain
   pub record FingersFit (c : Nodes X) (fs : Fingers) : Type 0 where
@@ -32,8 +32,8 @@ TakesOut k len old new =
 
 -- a finger where the chain changed behind the first nodes, and has so many now: if it was on none of those, it is on
 -- none
-abbrev pub ChangesBehind : ℕ → ℕ → Finger → Finger → Type 0
-ChangesBehind kept len old new = (old.index < kept → new ≡ old) × (kept ≤ old.index → new.index ≡ len)
+abbrev pub ChangesAfter : ℕ → ℕ → Finger → Finger → Type 0
+ChangesAfter kept len old new = (old.index < kept → new ≡ old) × (kept ≤ old.index → new.index ≡ len)
 
 -- how many links lie between two places
 abbrev pub moves_between : ℕ → ℕ → ℕ

@@ -3,7 +3,7 @@ use Rattle.std.specs.Prelude.{◌≡◌, ℕ, ◌+◌, ◌<◌, ◌≤◌, lengt
 use Rattle.std.specs.Borrow.{Bor}
 use Rattle.cordyceps_base.specs.declared.boxes.Address.{Address}
 use Rattle.cordyceps_base.specs.Element.{Elements, values}
-use Rattle.cordyceps_base.specs.Nodes.{Nodes, LiesAt}
+use Rattle.cordyceps_base.specs.Nodes.{Nodes, IsAt}
 
 -- a sequence, and a place in it, its length being the null place
 pub record Position (X : Type 0) : Type 0 where
@@ -19,4 +19,4 @@ GivesAndMoves s r t =
 -- a cursor is at place at of the nodes, the length being the null place, and where there is a node it lies at p
 pub record StandsAt {X : Type 0} (c : Nodes X) (p : Address) (at : ℕ) : Type 0 where
   pub within : at ≤ length c
-  pub on : at < length c → LiesAt c at p
+  pub on : at < length c → IsAt c at p

@@ -1,6 +1,6 @@
 //! Fingers: nodes that a list remembers, so that places near them are found in few moves.
 ghost use Rattle.std.specs.Prelude.{◌≡◌, ◌+◌, ◌-◌, ◌^◌, ◌<◌, ◌⊎◌, length, IfSome};
-ghost use Rattle.cordyceps_base.specs.Nodes.{LiesAt};
+ghost use Rattle.cordyceps_base.specs.Nodes.{IsAt};
 
 use cordyceps_base::boxes::Address;
 use cordyceps_base::double_chain::DoubleChain;
@@ -14,14 +14,14 @@ pub(crate) struct Finger {
 }
 
 impl Finger {
-    ghost use Rattle.cordyceps_list.specs.Fingers.{IsOn, FingerFits, moves_between, PutsIn, TakesOut, ChangesBehind};
+    ghost use Rattle.cordyceps_list.specs.Fingers.{IsOn, FingerFits, moves_between, PutsIn, TakesOut, ChangesAfter};
 
     /// Returns a finger after the last of `len` nodes, on no node.
     pub(crate) fn behind(len: usize) -> Finger
         ensures { result.index ≡ len }
     {
         Finger {
-            at: Address::nowhere(),
+            at: Address::null(),
             index: len,
         }
     }
@@ -180,7 +180,7 @@ impl Finger {
 
     /// Returns the finger after a change of the nodes after the first `kept` of a chain, which has `len` nodes now.
     fn after_change(self, kept: usize, len: usize) -> Finger
-        ensures { ChangesBehind kept len self result }
+        ensures { ChangesAfter kept len self result }
     {
         if self.index < kept {
             self
@@ -199,7 +199,7 @@ pub(crate) struct Fingers {
 }
 
 impl Fingers {
-    ghost use Rattle.cordyceps_list.specs.Fingers.{FingersFit, PutsIn, TakesOut, ChangesBehind};
+    ghost use Rattle.cordyceps_list.specs.Fingers.{FingersFit, PutsIn, TakesOut, ChangesAfter};
 
     /// Returns two fingers on no node.
     pub(crate) fn behind<T>(chain: &DoubleChain<T>) -> Fingers
@@ -230,7 +230,7 @@ impl Fingers {
         requires fit { FingersFit chain.now self.old }
         requires inside { to < length chain.now }
         ensures fit { FingersFit chain.now self.new }
-        ensures at { IfSome result (λ at. LiesAt chain.now to at) }
+        ensures at { IfSome result (λ at. IsAt chain.now to at) }
     {
         if self.front.index == to {
             return Some(self.front.at);
@@ -250,7 +250,7 @@ impl Fingers {
         requires fit { FingersFit chain.now self.old }
         requires inside { to < length chain.now }
         ensures fit { FingersFit chain.now self.new }
-        ensures at { LiesAt chain.now to result }
+        ensures at { IsAt chain.now to result }
     {
         match self.seek_near(chain, to) {
             Some(at) => at,
@@ -264,7 +264,7 @@ impl Fingers {
         requires fit { FingersFit chain.now self.old }
         requires inside { to < length chain.now }
         ensures fit { FingersFit chain.now self.new }
-        ensures at { LiesAt chain.now to result }
+        ensures at { IsAt chain.now to result }
     {
         let front = self.front.or_end(chain, Finger::at_head(chain), to);
         let back = self.back.or_end(chain, Finger::at_tail(chain), to);
@@ -281,12 +281,12 @@ impl Fingers {
     pub(crate) fn seek_within<T>(&mut self, chain: &DoubleChain<T>, to: usize) -> Address
         requires { FingersFit chain.now self.old }
         ensures fit { FingersFit chain.now self.new }
-        ensures on { to < length chain.now → LiesAt chain.now to result }
+        ensures on { to < length chain.now → IsAt chain.now to result }
     {
         if to < chain.len() {
             self.seek(chain, to)
         } else {
-            Address::nowhere()
+            Address::null()
         }
     }
 
@@ -316,8 +316,8 @@ impl Fingers {
 
     /// Returns the fingers after a change of the nodes after the first `kept` of a chain, which has `len` nodes now.
     pub(crate) fn after_change(self, kept: usize, len: usize) -> Fingers
-        ensures front { ChangesBehind kept len self.front result.front }
-        ensures back { ChangesBehind kept len self.back result.back }
+        ensures front { ChangesAfter kept len self.front result.front }
+        ensures back { ChangesAfter kept len self.back result.back }
     {
         Fingers {
             front: self.front.after_change(kept, len),

@@ -47,7 +47,7 @@ pub fn over<T>(chain: &DoubleChain<T>) -> Iter<'_, T>
 {
     let back = chain.len();
     let (first, last) = if back == 0 {
-        (Address::nowhere(), Address::nowhere())
+        (Address::null(), Address::null())
     } else {
         (chain.head(), chain.tail())
     };

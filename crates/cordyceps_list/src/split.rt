@@ -1,6 +1,6 @@
 //! Lists that are joined and split.
 ghost use Rattle.std.specs.Prelude.{◌≡◌, ◌+◌, ◌-◌, ◌^◌, ◌<◌, ◌≤◌, ◌↔◌, [], ◌++◌, length, take, drop, min, IsSome, IfSome, IfNone};
-ghost use Rattle.cordyceps_base.specs.Nodes.{LiesAt};
+ghost use Rattle.cordyceps_base.specs.Nodes.{IsAt};
 
 use crate::finger::Finger;
 use crate::list::{Links, List};
@@ -15,7 +15,7 @@ use std::mem;
 fn node_before<T>(chain: &DoubleChain<T>, at: usize, steps: &mut Steps) -> Address
     requires inside { (0 < at) × (at < length chain.now) }
     requires room { steps.old + min (at - 1) (length chain.now - at) < 2 ^ 64 }
-    ensures place { LiesAt chain.now (at - 1) result }
+    ensures place { IsAt chain.now (at - 1) result }
     ensures counted { steps.new ≡ steps.old + min (at - 1) (length chain.now - at) }
 {
     let before = at - 1;
@@ -99,7 +99,7 @@ impl<T: Linked<Links<T>>> List<T> {
         }
         let before = node_before(&self.chain, at, steps);
         self.fingers = self.fingers.after_change(at, at);
-        let (front, rest) = self.chain.take().cut_behind(before, at);
+        let (front, rest) = self.chain.take().cut_after(before, at);
         self.chain.put(front);
         Some(List::from_chain(rest))
     }

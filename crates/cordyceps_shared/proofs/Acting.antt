@@ -1,7 +1,7 @@
 -- What parties did in several steps, and what a party did that gave rooms to another and took it in again.
 use Rattle.std.proofs.Common.{◌≡◌, ℕ, List, [], ◌∷◌, ◌++◌, Bool, refl, sym, ap, ◌∙◌, subst, append-nil, append_assoc}
 use Rattle.cordyceps_shared.specs.Acting.{Acts}
-use Rattle.cordyceps_shared.specs.Histories.{plain, own, AllOwn, Apart}
+use Rattle.cordyceps_shared.specs.Histories.{plain, own, AllOwn, AreDisjoint}
 use Rattle.cordyceps_shared.specs.Interleaving.{Interleaves}
 use Rattle.cordyceps_shared.specs.Knowing.{unmarked, merged, Begins}
 use Rattle.cordyceps_shared.specs.Shares.{Name, joined, IsShare}
@@ -19,7 +19,7 @@ module _ {X : Type 0} where
   merged_since [] ys zs = refl
   merged_since (x ∷ xs) ys zs = λ i. (or_false x.0 i, x.1) ∷ merged_since xs ys zs i
 
-  apart_since : (xs ys zs : List (Bool × X)) → Apart (xs ++ ys) (unmarked xs ++ zs) → Apart ys zs
+  apart_since : (xs ys zs : List (Bool × X)) → AreDisjoint (xs ++ ys) (unmarked xs ++ zs) → AreDisjoint ys zs
   apart_since [] ys zs a = a
   apart_since (x ∷ xs) ys zs a = apart_since xs ys zs a.1
 
@@ -60,7 +60,7 @@ module _ {X : Type 0} (Legal : List X → Type 0) where
       let mine = a.rest in
       let theirs = b.rest in
       let both : merged v.seen o.seen ≡ u.seen ++ merged mine theirs = (λ i. merged (a.is i) (b.is i)) ∙ merged_since u.seen mine theirs in
-      let apart = apart_since u.seen mine theirs (subst (λ (z : List (Bool × X) × List (Bool × X)). Apart z.0 z.1) (λ i. (a.is i, b.is i)) m.apart) in
+      let apart = apart_since u.seen mine theirs (subst (λ (z : List (Bool × X) × List (Bool × X)). AreDisjoint z.0 z.1) (λ i. (a.is i, b.is i)) m.apart) in
       let begun = begins_since u.seen theirs (merged mine theirs)
       (subst (λ (z : List (Bool × X) × List (Bool × X)). Begins (plain z.0) (plain z.1)) (λ i. (b.is i, (m.seen ∙ both) i)) m.theirs) in
       let all = own (merged mine theirs) in (

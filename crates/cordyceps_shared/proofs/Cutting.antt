@@ -4,7 +4,7 @@ use mathlib.Core.Option.{some}
 use lib.ListN.{get_elem?}
 use Rattle.cordyceps_shared.specs.Shares.{Name, covers, keeps_half, gives_half}
 use Rattle.cordyceps_shared.specs.Histories.{events, marked, NoneOf}
-use Rattle.cordyceps_shared.specs.Knowing.{Known, Agrees, Below, SharesApart, AllAgree, unmarked, known_keeping, known_giving}
+use Rattle.cordyceps_shared.specs.Knowing.{Known, Agrees, Below, SharesDisjoint, AllAgree, unmarked, known_keeping, known_giving}
 use Rattle.cordyceps_shared.proofs.Changing.{set_more}
 use Rattle.cordyceps_shared.proofs.Counting.{tally_set, tally_snoc}
 use Rattle.cordyceps_shared.proofs.Naming.{split_covers, keeps_some, gives_some}
@@ -26,8 +26,8 @@ module _ {X : Type 0} where
   below_less n m (x ∷ xs) l b = let low = b.0 in (omega arith, below_less n m xs l b.1)
 
 module _ {X V : Type 0} (knows : V → Known X) where
-  pub owned_cut : (views : List V) (h : List (ℕ × X)) (j : ℕ) (v left right : V) → get_elem? views j ≡ some v → knows left ≡ known_keeping (knows v) → knows right ≡ known_giving (knows v) → (knows v).share ≢ [] → SharesApart knows views h
-      → SharesApart knows (set views j left ++ right ∷ []) h
+  pub owned_cut : (views : List V) (h : List (ℕ × X)) (j : ℕ) (v left right : V) → get_elem? views j ≡ some v → knows left ≡ known_keeping (knows v) → knows right ≡ known_giving (knows v) → (knows v).share ≢ [] → SharesDisjoint knows views h
+      → SharesDisjoint knows (set views j left ++ right ∷ []) h
   owned_cut views h j v left right at is_left is_right named o =
       let l = ap (λ (k : Known X). k.share) is_left in
       let r = ap (λ (k : Known X). k.share) is_right in record {
@@ -44,7 +44,7 @@ module _ {X V : Type 0} (knows : V → Known X) where
       }
 
 module _ {X V : Type 0} (actor : X → Name) (knows : V → Known X) where
-  pub fits_cut : (views : List V) (h : List (ℕ × X)) (j : ℕ) (v left right : V) → get_elem? views j ≡ some v → knows left ≡ known_keeping (knows v) → knows right ≡ known_giving (knows v) → SharesApart knows views h → AllAgree actor knows views h
+  pub fits_cut : (views : List V) (h : List (ℕ × X)) (j : ℕ) (v left right : V) → get_elem? views j ≡ some v → knows left ≡ known_keeping (knows v) → knows right ≡ known_giving (knows v) → SharesDisjoint knows views h → AllAgree actor knows views h
       → AllAgree actor knows (set views j left ++ right ∷ []) h
   fits_cut views h j v left right at is_left is_right o fits =
       let n = length views in

@@ -5,8 +5,8 @@ use mathlib.Core.Option.{some}
 use native.Mathlib.Decide.{ℕ_discrete}
 use lib.ListN.{get_elem?}
 use Rattle.cordyceps_shared.specs.Shares.{Name, covers, joined}
-use Rattle.cordyceps_shared.specs.Histories.{events, marked, plain, NoneOf, Apart}
-use Rattle.cordyceps_shared.specs.Knowing.{Known, Foreign, Agrees, Below, SharesApart, AllAgree, merged, known_absorbing, known_absorbed}
+use Rattle.cordyceps_shared.specs.Histories.{events, marked, plain, NoneOf, AreDisjoint}
+use Rattle.cordyceps_shared.specs.Knowing.{Known, Foreign, Agrees, Below, SharesDisjoint, AllAgree, merged, known_absorbing, known_absorbed}
 use Rattle.cordyceps_shared.proofs.Changing.{two_set, was_there}
 use Rattle.cordyceps_shared.proofs.Counting.{tally_set}
 use Rattle.cordyceps_shared.proofs.Naming.{join_covers, joined_some, letters}
@@ -24,7 +24,7 @@ module _ {X : Type 0} where
   fits_gone actor h a b apart = record { before = []; later = relabel a b h; is = refl; seen = refl; none = without_gone a b h apart; foreign = foreign_none actor (events (relabel a b h)); told = (events (relabel a b h), refl); short = omega arith; apart = tt }
 
   -- no event of one history is marked by two seats
-  marked_apart : (a b : ℕ) (xs us ys vs : List (ℕ × X)) → b ≢ a → xs ++ us ≡ ys ++ vs → Apart (marked a xs) (marked b ys)
+  marked_apart : (a b : ℕ) (xs us ys vs : List (ℕ × X)) → b ≢ a → xs ++ us ≡ ys ++ vs → AreDisjoint (marked a xs) (marked b ys)
   marked_apart a b [] us ys vs n e = tt
   marked_apart a b (x ∷ xs) us [] vs n e = tt
   marked_apart a b (x ∷ xs) us (y ∷ ys) vs n e = (not_both, marked_apart a b xs us ys vs n (cc))
@@ -54,7 +54,7 @@ module _ {X : Type 0} where
             (foreign_later actor k.share t.first.0 t.later fk.later t.first.1 fk.foreign) (foreign_later actor l.share t.second.0 t.later fl.later t.second.1 fl.foreign));
         told = (events fl.later, events_relabel a b h ∙ (ap events fl.is ∙ (events_append fl.before fl.later ∙ ap (λ z. z ++ events fl.later) (sym (ap plain fl.seen ∙ plain_marked b fl.before)))));
         short = omega (arith, t.long, ap (λ (z : List (Bool × X)). length z) fl.seen, ap (λ (z : List (Bool × X)). length z) seen, length_marked b fl.before, length_marked a (relabel a b t.before), length_relabel a b t.before);
-        apart = subst (λ (z : List (Bool × X) × List (Bool × X)). Apart z.0 z.1) (λ c. (sym fk.seen c, sym fl.seen c)) (marked_apart a b fk.before fk.later fl.before fl.later other (sym fk.is ∙ fl.is));
+        apart = subst (λ (z : List (Bool × X) × List (Bool × X)). AreDisjoint z.0 z.1) (λ c. (sym fk.seen c, sym fl.seen c)) (marked_apart a b fk.before fk.later fl.before fl.later other (sym fk.is ∙ fl.is));
       }
 
   fits_others : (actor : X → Name) (h : List (ℕ × X)) (a b i : ℕ) (k : Known X) → i ≢ a → i ≢ b → Agrees actor h i k → Agrees actor (relabel a b h) i k
@@ -72,7 +72,7 @@ module _ {X : Type 0} where
 
 module _ {X V : Type 0} (knows : V → Known X) where
   pub owned_join : (views : List V) (h : List (ℕ × X)) (a b : ℕ) (v w x y : V) → get_elem? views a ≡ some v → b ≢ a → get_elem? (set views a x) b ≡ some w → knows x ≡ known_absorbing (knows v) (knows w) → knows y ≡ known_absorbed → (knows v).share ≢ []
-      → SharesApart knows views h → SharesApart knows (set (set views a x) b y) (relabel a b h)
+      → SharesDisjoint knows views h → SharesDisjoint knows (set (set views a x) b y) (relabel a b h)
   owned_join views h a b v w x y at apart there is_both is_spent named o =
       let one = set views a x in
       let long = length-set one b y ∙ length-set views a x in

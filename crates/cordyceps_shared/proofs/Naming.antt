@@ -2,7 +2,7 @@
 use Rattle.std.proofs.Common.{◌≡◌, ◌≢◌, ℕ, ◌+◌, ◌≤◌, List, [], ◌∷◌, ◌++◌, length, replicate, Bool, true, false, cond, refl, sym, ap, arith, true≢false, length-append}
 use Rattle.std.proofs.lemmas.List.{length-replicate}
 use Rattle.cordyceps_shared.specs.Counts.{tally, one_if}
-use Rattle.cordyceps_shared.specs.Shares.{Name, same_bit, begins, covers, earlier, insert_name, insert_names, is_pair, parent, cons_joined, combine, joined, keeps_half, gives_half, Clear, NamesApart}
+use Rattle.cordyceps_shared.specs.Shares.{Name, same_bit, begins, covers, earlier, insert_name, insert_names, is_pair, parent, cons_joined, combine, joined, keeps_half, gives_half, Clear, NamesDisjoint}
 
 -- the two halves of a name
 pub halves : (n x : Name) → one_if (begins (n ++ false ∷ []) x) + one_if (begins (n ++ true ∷ []) x) ≤ one_if (begins n x)
@@ -157,10 +157,10 @@ module _ (long : ℕ) where
   clear_of n [] few = tt
   clear_of n (m ∷ ms) few = (not_begun n m (λ x l. omega (arith, few x l)), not_begun m n (λ x l. omega (arith, few x l)), clear_of n ms (λ x l. omega (arith, few x l)))
 
-  names_apart : (ns ms : List Name) → ((x : Name) → long ≤ length x → covers x ns + covers x ms ≤ 1) → NamesApart ns ms
+  names_apart : (ns ms : List Name) → ((x : Name) → long ≤ length x → covers x ns + covers x ms ≤ 1) → NamesDisjoint ns ms
   names_apart [] ms few = tt
   names_apart (n ∷ ns) ms few = (clear_of n ms (λ x l. omega (arith, few x l)), names_apart ns ms (λ x l. omega (arith, few x l)))
 
 -- shares had no name in common where what they became covers no long name twice
-pub joined_apart : (long : ℕ) (ns ms : List Name) → ((x : Name) → long ≤ length x → covers x (joined ns ms) ≤ 1) → NamesApart ns ms
+pub joined_apart : (long : ℕ) (ns ms : List Name) → ((x : Name) → long ≤ length x → covers x (joined ns ms) ≤ 1) → NamesDisjoint ns ms
 joined_apart long ns ms once = names_apart (long + (letters ns + letters ms)) ns ms (λ x l. omega (arith, once x (omega arith), join_covers x ns ms (omega arith)))

@@ -2,7 +2,7 @@
 use Rattle.std.proofs.Common.{◌≡◌, List, [], ◌∷◌, ◌++◌, Bool, true, false, cond, refl, sym, ap, ◌∙◌, subst, true≢false}
 use Rattle.cordyceps_shared.proofs.Halving.{halves_earlier, halves_pair, half_parent}
 use Rattle.cordyceps_shared.proofs.Naming.{begins_longer, joined_some, keeps_some, gives_some}
-use Rattle.cordyceps_shared.specs.Shares.{Name, begins, earlier, insert_name, insert_names, is_pair, parent, cons_joined, combine, joined, whole, keeps_half, gives_half, InFront, Clear, NamesApart, InOrder, NoPair, IsShare}
+use Rattle.cordyceps_shared.specs.Shares.{Name, begins, earlier, insert_name, insert_names, is_pair, parent, cons_joined, combine, joined, whole, keeps_half, gives_half, InFront, Clear, NamesDisjoint, InOrder, NoPair, IsShare}
 
 no_longer : {A : Type 0} → true ≡ false → A
 no_longer e = absurd (true≢false e)
@@ -68,17 +68,17 @@ begins_not (true ∷ bs) (false ∷ us) t e = refl
 begins_not (false ∷ bs) (true ∷ us) t e = refl
 
 -- the name is clear of one
-abbrev Apart : Name → Name → Type 0
-Apart x n = (begins x n ≡ false) × (begins n x ≡ false)
+abbrev AreDisjoint : Name → Name → Type 0
+AreDisjoint x n = (begins x n ≡ false) × (begins n x ≡ false)
 
-parent_apart : (x n m : Name) → is_pair n m ≡ true → Apart x n → Apart x m → Apart x (parent n)
+parent_apart : (x n m : Name) → is_pair n m ≡ true → AreDisjoint x n → AreDisjoint x m → AreDisjoint x (parent n)
 parent_apart x n m pair a b =
     let t = pair_halves n m pair in
-    let first : Apart x (parent n ++ false ∷ []) = subst (λ z. Apart x z) t.0 a in
-    let second : Apart x (parent n ++ true ∷ []) = subst (λ z. Apart x z) t.1 b in
+    let first : AreDisjoint x (parent n ++ false ∷ []) = subst (λ z. AreDisjoint x z) t.0 a in
+    let second : AreDisjoint x (parent n ++ true ∷ []) = subst (λ z. AreDisjoint x z) t.1 b in
     (begins_not x (parent n) (false ∷ []) first.0, not_begun (parent n) x first.1 second.1 first.0)
 
-placed_clear : (x n : Name) (ms : List Name) → Apart x n → Clear x ms → Clear x (cons_joined n ms)
+placed_clear : (x n : Name) (ms : List Name) → AreDisjoint x n → Clear x ms → Clear x (cons_joined n ms)
 placed_clear x n [] a c = (a.0, a.1, tt)
 placed_clear x n (m ∷ ms) a c = at_pair (is_pair n m) (λ e. placed_clear x (parent n) ms (parent_apart x n m e a (c.0, c.1)) c.2)
   where
@@ -90,7 +90,7 @@ combined_clear : (x : Name) (ns : List Name) → Clear x ns → Clear x (combine
 combined_clear x [] c = tt
 combined_clear x (n ∷ ns) c = placed_clear x n (combine ns) (c.0, c.1) (combined_clear x ns c.2)
 
-put_clear : (x n : Name) (ms : List Name) → Apart x n → Clear x ms → Clear x (insert_name n ms)
+put_clear : (x n : Name) (ms : List Name) → AreDisjoint x n → Clear x ms → Clear x (insert_name n ms)
 put_clear x n [] a c = (a.0, a.1, tt)
 put_clear x n (m ∷ ms) a c = at_first (earlier n m) (put_clear x n ms a c.2)
   where
@@ -174,7 +174,7 @@ put_order n (m ∷ ms) c o =
     at_first true first second = first refl
     at_first false first second = second refl
 
-all_order : (ns ms : List Name) → NamesApart ns ms → InOrder ns → InOrder ms → InOrder (insert_names ns ms)
+all_order : (ns ms : List Name) → NamesDisjoint ns ms → InOrder ns → InOrder ms → InOrder (insert_names ns ms)
 all_order [] ms a o p = p
 all_order (n ∷ ns) ms a o p = put_order n (insert_names ns ms) (all_clear n ns ms o.1 a.0) (all_order ns ms a.1 o.2 p)
 
@@ -196,7 +196,7 @@ placed_order n (m ∷ ms) o = at_pair (is_pair n m) (λ e.
     at_pair true more = more refl
     at_pair false more = o
 
-placed_front : (x n : Name) (ms : List Name) → Apart x n → Clear x ms → earlier x n ≡ true → InFront x ms → InFront x (cons_joined n ms)
+placed_front : (x n : Name) (ms : List Name) → AreDisjoint x n → Clear x ms → earlier x n ≡ true → InFront x ms → InFront x (cons_joined n ms)
 placed_front x n [] a c e f = (e, tt)
 placed_front x n (m ∷ ms) a c e f = at_pair (is_pair n m) (λ pair.
     let up = parent_apart x n m pair a (c.0, c.1) in
@@ -222,7 +222,7 @@ combined_order : (ns : List Name) → InOrder ns → InOrder (combine ns)
 combined_order [] o = tt
 combined_order (n ∷ ns) o = placed_order n (combine ns) (combined_front n ns o.1 o.0, combined_clear n ns o.1, combined_order ns o.2)
 
-pub joined_order : (ns ms : List Name) → NamesApart ns ms → InOrder ns → InOrder ms → InOrder (joined ns ms)
+pub joined_order : (ns ms : List Name) → NamesDisjoint ns ms → InOrder ns → InOrder ms → InOrder (joined ns ms)
 joined_order ns ms a o p = combined_order (insert_names ns ms) (all_order ns ms a o p)
 
 -- ---- shares
@@ -270,7 +270,7 @@ keeps_share ns s = (keeps_some ns s.0, keeps_order ns s.1, keeps_unpaired ns s.1
 pub gives_share : (ns : List Name) → IsShare ns → IsShare (gives_half ns)
 gives_share ns s = (gives_some ns s.0, gives_order ns, gives_unpaired ns)
 
-pub joined_share : (ns ms : List Name) → NamesApart ns ms → IsShare ns → IsShare ms → IsShare (joined ns ms)
+pub joined_share : (ns ms : List Name) → NamesDisjoint ns ms → IsShare ns → IsShare ms → IsShare (joined ns ms)
 joined_share ns ms a s t = (joined_some ns ms s.0, joined_order ns ms a s.1 t.1, combined_unpaired (insert_names ns ms))
 
 -- ---- what was split is what it was when its halves are joined

@@ -1,6 +1,6 @@
 -- The own events of parties that act, are split and take others in.
 use Rattle.std.proofs.Common.{◌≡◌, ℕ, List, [], ◌∷◌, ◌++◌, Bool, true, false, cond, ◌&&◌, ◌||◌, refl, sym, ap, ◌∙◌, subst, inl, inr}
-use Rattle.cordyceps_shared.specs.Histories.{plain, own, Apart}
+use Rattle.cordyceps_shared.specs.Histories.{plain, own, AreDisjoint}
 use Rattle.cordyceps_shared.specs.Interleaving.{Interleaves}
 use Rattle.cordyceps_shared.specs.Knowing.{unmarked, merged, Begins}
 use Rattle.cordyceps_shared.specs.Shares.{Name}
@@ -20,7 +20,7 @@ module _ {X : Type 0} where
   one_more false true x y us vs ws same apart h = inr (vs, ap (λ z. z ∷ vs) (sym same), h)
   one_more true true x y us vs ws same apart h = absurd (cc)
 
-  pub own_merged : (xs ys : List (Bool × X)) → Apart xs ys → Begins (plain ys) (plain (merged xs ys)) → Interleaves (own xs) (own ys) (own (merged xs ys))
+  pub own_merged : (xs ys : List (Bool × X)) → AreDisjoint xs ys → Begins (plain ys) (plain (merged xs ys)) → Interleaves (own xs) (own ys) (own (merged xs ys))
   own_merged [] ys apart begins = all_right (own ys)
   own_merged (x ∷ xs) [] apart begins = all_left (own (x ∷ xs))
   own_merged (x ∷ xs) (y ∷ ys) apart begins =

@@ -4,7 +4,7 @@ use mathlib.Core.Option.{some, some-injective, some-ne-none}
 use lib.ListN.{get_elem?}
 use Rattle.cordyceps_shared.specs.Shares.{Name, covers, whole}
 use Rattle.cordyceps_shared.specs.Histories.{events, marked, plain, NoneOf, AllOwn}
-use Rattle.cordyceps_shared.specs.Knowing.{Known, Agrees, SharesApart, AllAgree, Begins, IsKnown, newcomer}
+use Rattle.cordyceps_shared.specs.Knowing.{Known, Agrees, SharesDisjoint, AllAgree, Begins, IsKnown, newcomer}
 use Rattle.cordyceps_shared.proofs.Counting.{tally_one}
 use Rattle.cordyceps_shared.proofs.Renaming.{same_first, events_append}
 use Rattle.cordyceps_shared.proofs.Seeing.{marked_append, plain_marked}
@@ -48,7 +48,7 @@ module _ {X : Type 0} where
   fits_new actor = record { before = []; later = []; is = refl; seen = refl; none = tt; foreign = tt; told = ([], refl); short = omega arith; apart = tt }
 
 module _ {X V : Type 0} (actor : X → Name) (knows : V → Known X) where
-  pub is_known : (Legal : List X → Type 0) (front : (xs ys : List X) → Legal (xs ++ ys) → Legal xs) (views : List V) (h : List (ℕ × X)) (j : ℕ) (v : V) → SharesApart knows views h → AllAgree actor knows views h → get_elem? views j ≡ some v → Legal (events h)
+  pub is_known : (Legal : List X → Type 0) (front : (xs ys : List X) → Legal (xs ++ ys) → Legal xs) (views : List V) (h : List (ℕ × X)) (j : ℕ) (v : V) → SharesDisjoint knows views h → AllAgree actor knows views h → get_elem? views j ≡ some v → Legal (events h)
       → IsKnown Legal (knows v)
   is_known Legal front views h j v o fits at legal =
       let k = knows v in
@@ -64,13 +64,13 @@ module _ {X V : Type 0} (actor : X → Name) (knows : V → Known X) where
       }
 
   -- a party that has the whole share has seen all
-  pub all_known : (views : List V) (h : List (ℕ × X)) (j : ℕ) (v : V) → SharesApart knows views h → AllAgree actor knows views h → get_elem? views j ≡ some v → (knows v).share ≡ whole → plain (knows v).seen ≡ events h
+  pub all_known : (views : List V) (h : List (ℕ × X)) (j : ℕ) (v : V) → SharesDisjoint knows views h → AllAgree actor knows views h → get_elem? views j ≡ some v → (knows v).share ≡ whole → plain (knows v).seen ≡ events h
   all_known views h j v o fits at is =
       let f = fits j v at in
       let none = nothing_later j f.later f.none (λ i n. later_without i f.before f.later (subst (NoneOf i) f.is (whole_without knows views h j i v o at is n))) in
       sym (seen_front actor h j (knows v) f ∙ (ap (λ z. plain (knows v).seen ++ events z) none ∙ append-nil (plain (knows v).seen)))
 
-  pub opens : (v : V) → knows v ≡ newcomer → SharesApart knows (v ∷ []) [] × AllAgree actor knows (v ∷ []) []
+  pub opens : (v : V) → knows v ≡ newcomer → SharesDisjoint knows (v ∷ []) [] × AllAgree actor knows (v ∷ []) []
   opens v is = (
     record { below = tt; quiet = λ _ _ _ _. tt; long = 0; apart = λ x l. let c = ap (λ (k : Known X). covers x k.share) is in omega arith },
     λ j u e. let t = only v u j e in subst (λ (z : ℕ × Known X). Agrees actor [] z.0 z.1) (λ c. (sym t.0 c, (sym is ∙ ap knows t.1) c)) (fits_new actor),

@@ -7,8 +7,8 @@ use lib.ListN.{get_elem?, length-replicate}
 use Rattle.atomic_table.proofs.Lists.{set_here}
 use Rattle.cordyceps_shared.specs.Shares.{Name, covers, whole, first_name, begins, Clear}
 use Rattle.cordyceps_shared.specs.Counts.{one_if}
-use Rattle.cordyceps_shared.specs.Histories.{events, marked, plain, others, NoneOf, AllOwn, Apart, of_seat}
-use Rattle.cordyceps_shared.specs.Knowing.{Known, Foreign, Under, Agrees, Below, SharesApart, AllAgree, Grown, all_seen}
+use Rattle.cordyceps_shared.specs.Histories.{events, marked, plain, others, NoneOf, AllOwn, AreDisjoint, of_seat}
+use Rattle.cordyceps_shared.specs.Knowing.{Known, Foreign, Under, Agrees, Below, SharesDisjoint, AllAgree, Grown, all_seen}
 use Rattle.cordyceps_shared.proofs.Changing.{one_set}
 use Rattle.cordyceps_shared.proofs.Counting.{tally_set, tally_two}
 use Rattle.cordyceps_shared.proofs.Naming.{some_cover, clear_of}
@@ -41,7 +41,7 @@ module _ {X : Type 0} where
   all_own j [] others = tt
   all_own j (x ∷ xs) others = (dite (ℕ_discrete x.0 j) (λ e. eq-eqb x.0 j e) (λ n. absurd ((others x.0 n).0 refl)), all_own j xs (λ i n. (others i n).1))
 
-  apart_none : (xs : List (Bool × X)) → Apart xs []
+  apart_none : (xs : List (Bool × X)) → AreDisjoint xs []
   apart_none [] = tt
   apart_none (x ∷ xs) = tt
 
@@ -111,7 +111,7 @@ module _ {X : Type 0} (actor : X → Name) where
   }
 
 module _ {X V : Type 0} (knows : V → Known X) where
-  pub owned_same : (views : List V) (h : List (ℕ × X)) (j : ℕ) (v w : V) → get_elem? views j ≡ some v → (knows w).share ≡ (knows v).share → SharesApart knows views h → SharesApart knows (set views j w) h
+  pub owned_same : (views : List V) (h : List (ℕ × X)) (j : ℕ) (v w : V) → get_elem? views j ≡ some v → (knows w).share ≡ (knows v).share → SharesDisjoint knows views h → SharesDisjoint knows (set views j w) h
   owned_same views h j v w at same o = record {
     below = subst (λ n. Below n h) (sym (length-set views j w)) o.below;
     quiet = one_set (λ i u. (knows u).share ≡ [] → NoneOf i h) views j w (λ none_of. o.quiet j v at (sym same ∙ none_of)) (λ i u _ there none_of. o.quiet i u there none_of);
@@ -120,7 +120,7 @@ module _ {X V : Type 0} (knows : V → Known X) where
   }
 
   -- the first name of another's share is clear of a share
-  pub first_clear : (views : List V) (h : List (ℕ × X)) (i j : ℕ) (u v : V) → SharesApart knows views h → i ≢ j → get_elem? views i ≡ some u → get_elem? views j ≡ some v → (knows v).share ≢ [] → Clear (first_name (knows v).share) (knows u).share
+  pub first_clear : (views : List V) (h : List (ℕ × X)) (i j : ℕ) (u v : V) → SharesDisjoint knows views h → i ≢ j → get_elem? views i ≡ some u → get_elem? views j ≡ some v → (knows v).share ≢ [] → Clear (first_name (knows v).share) (knows u).share
   first_clear views h i j u v o other there at named =
       clear_of o.long (first_name (knows v).share) (knows u).share
       (λ x l. omega (arith, tally_two (λ (z : V). covers x (knows z).share) views i j u v other there at, o.apart x l, at_least_first x (knows v).share named))
@@ -140,17 +140,17 @@ module _ {X V : Type 0} (actor : X → Name) (knows : V → Known X) where
       let shorter = f.short in
       let a = ap (λ (z : List (Bool × X)). length z) seen in
       let b = ap (λ (z : List (Bool × X)). length z) told in
-      fits_set views h j w record { before = f.before; later = f.later; is = f.is; seen = seen ∙ f.seen; none = f.none; foreign = subst (λ z. Foreign actor z (events f.later)) (sym share) f.foreign; told = (f.told.0, f.told.1 ∙ ap (λ z. plain z ++ f.told.0) (sym told)); short = omega arith; apart = subst (λ (z : List (Bool × X) × List (Bool × X)). Apart z.0 z.1) (λ c. (sym had c, sym told c)) f.apart } (λ i u _. fits i u)
+      fits_set views h j w record { before = f.before; later = f.later; is = f.is; seen = seen ∙ f.seen; none = f.none; foreign = subst (λ z. Foreign actor z (events f.later)) (sym share) f.foreign; told = (f.told.0, f.told.1 ∙ ap (λ z. plain z ++ f.told.0) (sym told)); short = omega arith; apart = subst (λ (z : List (Bool × X) × List (Bool × X)). AreDisjoint z.0 z.1) (λ c. (sym had c, sym told c)) f.apart } (λ i u _. fits i u)
 
   -- what it was told is forgotten
   pub fits_forgot : (views : List V) (h : List (ℕ × X)) (j : ℕ) (v w : V) → get_elem? views j ≡ some v → (knows w).share ≡ (knows v).share → (knows w).seen ≡ (knows v).seen → (knows w).told ≡ [] → AllAgree actor knows views h → AllAgree actor knows (set views j w) h
   fits_forgot views h j v w at share seen told fits =
       let f = fits j v at in
       let b = ap (λ (z : List (Bool × X)). length z) told in
-      fits_set views h j w record { before = f.before; later = f.later; is = f.is; seen = seen ∙ f.seen; none = f.none; foreign = subst (λ z. Foreign actor z (events f.later)) (sym share) f.foreign; told = (events h, ap (λ z. plain z ++ events h) (sym told)); short = omega arith; apart = subst (λ z. Apart (knows w).had z) (sym told) (apart_none (knows w).had) } (λ i u _. fits i u)
+      fits_set views h j w record { before = f.before; later = f.later; is = f.is; seen = seen ∙ f.seen; none = f.none; foreign = subst (λ z. Foreign actor z (events f.later)) (sym share) f.foreign; told = (events h, ap (λ z. plain z ++ events h) (sym told)); short = omega arith; apart = subst (λ z. AreDisjoint (knows w).had z) (sym told) (apart_none (knows w).had) } (λ i u _. fits i u)
 
 module _ {X V : Type 0} (knows : V → Known X) where
-  pub owned_more : (views : List V) (h : List (ℕ × X)) (j : ℕ) (es : List X) (v w : V) → get_elem? views j ≡ some v → (knows w).share ≡ (knows v).share → (knows v).share ≢ [] → SharesApart knows views h → SharesApart knows (set views j w) (h ++ of_seat j es)
+  pub owned_more : (views : List V) (h : List (ℕ × X)) (j : ℕ) (es : List X) (v w : V) → get_elem? views j ≡ some v → (knows w).share ≡ (knows v).share → (knows v).share ≢ [] → SharesDisjoint knows views h → SharesDisjoint knows (set views j w) (h ++ of_seat j es)
   owned_more views h j es v w at same some_share o = record {
     below = below_more (length (set views j w)) h j es (let l = length-set views j w in let a = at_length views j v at in omega arith) (subst (λ n. Below n h) (sym (length-set views j w)) o.below);
     quiet = one_set (λ i u. (knows u).share ≡ [] → NoneOf i (h ++ of_seat j es)) views j w (λ none_of. absurd (some_share (sym same ∙ none_of)))
@@ -160,7 +160,7 @@ module _ {X V : Type 0} (knows : V → Known X) where
   }
 
   -- beside a whole share there is no other
-  only_share : (views : List V) (h : List (ℕ × X)) (j i : ℕ) (v u : V) → SharesApart knows views h → get_elem? views j ≡ some v → (knows v).share ≡ whole → i ≢ j → get_elem? views i ≡ some u → (names : List Name) → (knows u).share ≡ names → names ≡ []
+  only_share : (views : List V) (h : List (ℕ × X)) (j i : ℕ) (v u : V) → SharesDisjoint knows views h → get_elem? views j ≡ some v → (knows v).share ≡ whole → i ≢ j → get_elem? views i ≡ some u → (names : List Name) → (knows u).share ≡ names → names ≡ []
   only_share views h j i v u o at is other there [] e = refl
   only_share views h j i v u o at is other there (n ∷ ns) e =
       let x = n ++ replicate o.long false in
@@ -172,7 +172,7 @@ module _ {X V : Type 0} (knows : V → Known X) where
       let some_of = some_cover n (replicate o.long false) ns in
       absurd (omega arith)
 
-  pub whole_without : (views : List V) (h : List (ℕ × X)) (j i : ℕ) (v : V) → SharesApart knows views h → get_elem? views j ≡ some v → (knows v).share ≡ whole → i ≢ j → NoneOf i h
+  pub whole_without : (views : List V) (h : List (ℕ × X)) (j i : ℕ) (v : V) → SharesDisjoint knows views h → get_elem? views j ≡ some v → (knows v).share ≡ whole → i ≢ j → NoneOf i h
   whole_without views h j i v o at is other = dite (dec_le (length views) i)
       (λ l. below_without (length views) h i l o.below)
       (λ not. let t = there views i (lt_of_not-le not) in o.quiet i t.0 t.1 (only_share views h j i v t.0 o at is other t.1 (knows t.0).share refl))
@@ -180,11 +180,11 @@ module _ {X V : Type 0} (knows : V → Known X) where
 module _ {X V : Type 0} (actor : X → Name) (knows : V → Known X) where
   -- what a step keeps, and what it tells, where the party j has seen all and adds these events
   pub record Told (Legal : List X → Type 0) (views : List V) (h : List (ℕ × X)) (j : ℕ) (es : List X) (v w : V) : Type 0 where
-    pub owned : SharesApart knows (set views j w) (h ++ of_seat j es)
+    pub owned : SharesDisjoint knows (set views j w) (h ++ of_seat j es)
     pub fits : AllAgree actor knows (set views j w) (h ++ of_seat j es)
     pub grown : Grown actor Legal (knows v) es (knows w)
 
-  pub tells : (Legal : List X → Type 0) (views : List V) (h : List (ℕ × X)) (j : ℕ) (es : List X) (v w : V) → SharesApart knows views h → AllAgree actor knows views h → get_elem? views j ≡ some v
+  pub tells : (Legal : List X → Type 0) (views : List V) (h : List (ℕ × X)) (j : ℕ) (es : List X) (v w : V) → SharesDisjoint knows views h → AllAgree actor knows views h → get_elem? views j ≡ some v
       → (knows v).share ≢ [] → Under actor (first_name (knows v).share) es → knows w ≡ all_seen j (h ++ of_seat j es) (knows v).share → Legal (events (h ++ of_seat j es)) → Told Legal views h j es v w
   tells Legal views h j es v w o fits at named under knows_w legal =
       let owned = owned_more knows views h j es v w at (ap (λ (k : Known X). k.share) knows_w) named o in

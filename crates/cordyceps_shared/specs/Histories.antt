@@ -35,10 +35,10 @@ module _ {X : Type 0} where
   AllOwn (x ∷ xs) = (x.0 ≡ true) × AllOwn xs
 
   -- at no place do both have a mark
-  abbrev pub Apart : List (Bool × X) → List (Bool × X) → Type 0
-  Apart [] ys = Unit {0}
-  Apart (x ∷ xs) [] = Unit {0}
-  Apart (x ∷ xs) (y ∷ ys) = ((x.0 && y.0) ≡ false) × Apart xs ys
+  abbrev pub AreDisjoint : List (Bool × X) → List (Bool × X) → Type 0
+  AreDisjoint [] ys = Unit {0}
+  AreDisjoint (x ∷ xs) [] = Unit {0}
+  AreDisjoint (x ∷ xs) (y ∷ ys) = ((x.0 && y.0) ≡ false) × AreDisjoint xs ys
 
   -- no event is of seat j
   abbrev pub NoneOf : ℕ → List (ℕ × X) → Type 0

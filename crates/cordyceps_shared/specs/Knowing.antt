@@ -4,7 +4,7 @@ use Rattle.std.specs.Prelude.{◌≡◌, ℕ, ◌<◌, ◌≤◌, List, [], ◌�
 use mathlib.Core.Option.{some}
 use lib.ListN.{get_elem?}
 use Rattle.cordyceps_shared.specs.Counts.{tally}
-use Rattle.cordyceps_shared.specs.Histories.{events, marked, plain, own, others, NoneOf, AllOwn, Apart}
+use Rattle.cordyceps_shared.specs.Histories.{events, marked, plain, own, others, NoneOf, AllOwn, AreDisjoint}
 use Rattle.cordyceps_shared.specs.Shares.{Name, covers, whole, keeps_half, gives_half, joined, Clear}
 
 -- the history so far, with a mark at its own events; what it had seen itself when it last absorbed a party, and what
@@ -45,7 +45,7 @@ module _ {X : Type 0} where
     pub foreign : Foreign actor k.share (events later)
     pub told : (rest : List X) × (events history ≡ plain k.told ++ rest)
     pub short : length k.told ≤ length k.seen
-    pub apart : Apart k.had k.told
+    pub apart : AreDisjoint k.had k.told
 
   -- the seats of the events are below n
   abbrev pub Below : ℕ → List (ℕ × X) → Type 0
@@ -53,7 +53,7 @@ module _ {X : Type 0} where
   Below n (x ∷ xs) = (x.0 < n) × Below n xs
 
   -- the events are of seats with a share, and no long name is covered twice
-  pub record SharesApart {V : Type 0} (knows : V → Known X) (views : List V) (history : List (ℕ × X)) : Type 0 where
+  pub record SharesDisjoint {V : Type 0} (knows : V → Known X) (views : List V) (history : List (ℕ × X)) : Type 0 where
     pub below : Below (length views) history
     pub quiet : (j : ℕ) (v : V) → get_elem? views j ≡ some v → (knows v).share ≡ [] → NoneOf j history
     pub long : ℕ
@@ -110,7 +110,7 @@ module _ {X : Type 0} where
   pub record IsKnown (Legal : List X → Type 0) (k : Known X) : Type 0 where
     pub legal : Legal (plain k.seen)
     pub told : Begins (plain k.told) (plain k.seen)
-    pub apart : Apart k.had k.told
+    pub apart : AreDisjoint k.had k.told
     pub alone : k.share ≡ whole → AllOwn k.seen
     pub long : ℕ
     pub once : (x : Name) → long ≤ length x → covers x k.share ≤ 1

@@ -92,9 +92,9 @@ Clear n [] = Unit {0}
 Clear n (m ∷ ms) = (begins n m ≡ false) × (begins m n ≡ false) × Clear n ms
 
 -- the shares have no name in common: no name of one begins a name of the other
-abbrev pub NamesApart : List Name → List Name → Type 0
-NamesApart [] ms = Unit {0}
-NamesApart (n ∷ ns) ms = Clear n ms × NamesApart ns ms
+abbrev pub NamesDisjoint : List Name → List Name → Type 0
+NamesDisjoint [] ms = Unit {0}
+NamesDisjoint (n ∷ ns) ms = Clear n ms × NamesDisjoint ns ms
 
 -- the name is one of these, begins one, or is begun by one
 abbrev pub IsOf : List Name → Name → Type 0

@@ -1,9 +1,9 @@
 -- What a contract tells of a party of a shared collection. X is the type of the collection's events.
 use Rattle.std.specs.Prelude.{◌≡◌, ℕ, ◌+◌, ◌-◌, List, [], Bool}
 use Rattle.atomic_table.specs.Seated.{TableId}
-use Rattle.cordyceps_shared.specs.Histories.{plain, AllOwn, Apart}
+use Rattle.cordyceps_shared.specs.Histories.{plain, AllOwn, AreDisjoint}
 use Rattle.cordyceps_shared.specs.Knowing.{Known, Grown, unmarked, merged, Begins}
-use Rattle.cordyceps_shared.specs.Shares.{Name, whole, first_name, keeps_half, gives_half, joined, NamesApart, IsShare}
+use Rattle.cordyceps_shared.specs.Shares.{Name, whole, first_name, keeps_half, gives_half, joined, NamesDisjoint, IsShare}
 
 -- which collection the party is of; the history that it has seen, with a mark at its own events; its share; and how
 -- many rooms it has
@@ -50,8 +50,8 @@ module _ {X : Type 0} where
   pub record Absorbs (Legal : List X → Type 0) (u o w : Standing X) : Type 0 where
     pub table : w.table ≡ u.table
     pub seen : w.seen ≡ merged u.seen o.seen
-    pub apart : Apart u.seen o.seen
-    pub names : NamesApart u.share o.share
+    pub apart : AreDisjoint u.seen o.seen
+    pub names : NamesDisjoint u.share o.share
     pub mine : Begins (plain u.seen) (plain w.seen)
     pub theirs : Begins (plain o.seen) (plain w.seen)
     pub legal : Legal (plain w.seen)

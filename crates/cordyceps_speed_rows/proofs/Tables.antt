@@ -7,8 +7,8 @@ use denote.RawPtr.{Ptr}
 use Rattle.cordyceps_base.specs.BySpot.{IsTaken}
 use Rattle.cordyceps_base.specs.Element.{Element}
 use Rattle.cordyceps_base.specs.Nodes.{Nodes, spots}
-use Rattle.cordyceps_base.specs.Spots.{AreApart}
-use Rattle.cordyceps_stable.specs.Agreeing.{Lies, Agrees, IsUpdated}
+use Rattle.cordyceps_base.specs.Spots.{AreDistinct}
+use Rattle.cordyceps_stable.specs.Agreeing.{HasElementAt, Agrees, IsUpdated}
 use Rattle.cordyceps_stable.proofs.Agreeing.{taken_agrees}
 use Rattle.cordyceps_stable.proofs.Holding.{first_taken, left_lies, taken_or_left}
 use Rattle.cordyceps_speed_rows.specs.Tables.{spot_of}
@@ -30,19 +30,19 @@ inside s k p is = grind (arith, get_or_past s k None)
 
 module _ {X : Type 0} where
   -- the first element was taken out, and its place emptied
-  pub popped_agrees : (f g : ℕ → Option Ptr) (c d : Nodes X) (p : Ptr) (e : Element X) → Agrees f c → IsUpdated f e.id None g → c ≡ (p, e) ∷ d → AreApart (spots d) → Agrees g d
+  pub popped_agrees : (f g : ℕ → Option Ptr) (c d : Nodes X) (p : Ptr) (e : Element X) → Agrees f c → IsUpdated f e.id None g → c ≡ (p, e) ∷ d → AreDistinct (spots d) → Agrees g d
   popped_agrees f g c d p e was up is apart = taken_agrees f g c d p e was up (first_taken c d p e is) apart
 
   -- an element was given another value, and put elsewhere at the same spot
-  pub updated_agrees : (f : ℕ → Option Ptr) (c d rest : Nodes X) (p : Ptr) (e w : Element X) → e.id ≡ w.id → Agrees f c → IsTaken c p e rest → IsTaken d p w rest → AreApart (spots d) → Agrees f d
+  pub updated_agrees : (f : ℕ → Option Ptr) (c d rest : Nodes X) (p : Ptr) (e w : Element X) → e.id ≡ w.id → Agrees f c → IsTaken c p e rest → IsTaken d p w rest → AreDistinct (spots d) → Agrees f d
   updated_agrees f c d rest p e w same was from to apart = record { mapped = mapped; listed = listed; apart = apart } where
-    mapped : (k : ℕ) (q : Ptr) → f k ≡ Some q → (o : Element X) × (o.id ≡ k) × Lies d q o
-    mapped k q at = let (o, key, lies) = was.mapped k q at in elim (taken_or_left c rest p q e o from lies) as (λ _. (x : Element X) × (x.id ≡ k) × Lies d q x) [
-      | inl here ↦ (w, sym same ∙ ap (λ (x : Element X). x.id) (sym here.1) ∙ key, subst (λ s. Lies d s w) (sym here.0) (to.0, to.1, to.2))
+    mapped : (k : ℕ) (q : Ptr) → f k ≡ Some q → (o : Element X) × (o.id ≡ k) × HasElementAt d q o
+    mapped k q at = let (o, key, lies) = was.mapped k q at in elim (taken_or_left c rest p q e o from lies) as (λ _. (x : Element X) × (x.id ≡ k) × HasElementAt d q x) [
+      | inl here ↦ (w, sym same ∙ ap (λ (x : Element X). x.id) (sym here.1) ∙ key, subst (λ s. HasElementAt d s w) (sym here.0) (to.0, to.1, to.2))
       | inr on ↦ (o, key, left_lies d rest p q w o to on)
     ]
 
-    listed : (q : Ptr) (o : Element X) → Lies d q o → f o.id ≡ Some q
+    listed : (q : Ptr) (o : Element X) → HasElementAt d q o → f o.id ≡ Some q
     listed q o lies = elim (taken_or_left d rest p q w o to lies) as (λ _. f o.id ≡ Some q) [
       | inl here ↦ ap (λ (x : Element X). f x.id) here.1 ∙ ap f (sym same) ∙ was.listed p e (from.0, from.1, from.2) ∙ ap Some (sym here.0)
       | inr on ↦ was.listed q o (left_lies c rest p q e o from on)

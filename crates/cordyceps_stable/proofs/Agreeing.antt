@@ -7,9 +7,9 @@ use denote.RawPtr.{Ptr}
 use Rattle.cordyceps_base.specs.BySpot.{HasSpot, IsTaken, IsMovedFront, IsMovedBack}
 use Rattle.cordyceps_base.specs.Element.{Element}
 use Rattle.cordyceps_base.specs.Nodes.{Nodes, spots, with_item}
-use Rattle.cordyceps_base.specs.Spots.{AreApart}
+use Rattle.cordyceps_base.specs.Spots.{AreDistinct}
 use Rattle.cordyceps_base.proofs.Places.{spots-with_item}
-use Rattle.cordyceps_stable.specs.Agreeing.{Lies, Agrees, IsUpdated}
+use Rattle.cordyceps_stable.specs.Agreeing.{HasElementAt, Agrees, IsUpdated}
 use Rattle.cordyceps_stable.proofs.Holding.{lies_spot, unique, taken_gone, left_lies, taken_or_left, first_taken, last_taken, moved_lies, joined_lies, front_lies, back_lies, written_lies, written_lay}
 
 abbrev spot_or : Ptr → Option Ptr → Ptr
@@ -35,11 +35,11 @@ module _ {X : Type 0} where
   pub removes_key : (f : ℕ → Option Ptr) (c : Nodes X) → Agrees f c → (k : ℕ) (p : Ptr) → f k ≡ Some p → (e : Element X) (d : Nodes X) → IsTaken c p e d → e.id ≡ k
   removes_key f c g k p at e d (b, a, is, _) =
       let (x, key, (b', a', is')) = g.mapped k p at in
-      let same = unique b a b' a' p e x (sym is ∙ is') (subst (λ s. AreApart (spots s)) is g.apart) in
+      let same = unique b a b' a' p e x (sym is ∙ is') (subst (λ s. AreDistinct (spots s)) is g.distinct) in
       ap (λ (y : Element X). y.id) same.1 ∙ key
 
   -- elements of one number lie at one spot
-  pub keys_differ : (f : ℕ → Option Ptr) (c : Nodes X) → Agrees f c → (q r : Ptr) (e o : Element X) → Lies c q e → Lies c r o → e.id ≡ o.id → q ≡ r
+  pub keys_differ : (f : ℕ → Option Ptr) (c : Nodes X) → Agrees f c → (q r : Ptr) (e o : Element X) → HasElementAt c q e → HasElementAt c r o → e.id ≡ o.id → q ≡ r
   keys_differ f c g q r e o l m same = let one = g.listed q e l in let two = g.listed r o m in ap (spot_or q) (sym one ∙ ap f same ∙ two)
 
   -- a map that finds nothing agrees with an empty list
@@ -48,22 +48,22 @@ module _ {X : Type 0} where
       record {
         mapped = λ k p at. absurd (none_some (f k) p (none k) at);
         listed = λ q e lies. absurd (no_lies lies.0 lies.1 q e (sym is ∙ lies.2));
-        apart = subst (λ s. AreApart (spots s)) (sym is) tt;
+        distinct = subst (λ s. AreDistinct (spots s)) (sym is) tt;
       } where
         no_lies : (b a : Nodes X) (q : Ptr) (e : Element X) → [] ≡ b ++ (q, e) ∷ a → ⊥
         no_lies [] a q e is = cc
         no_lies (x ∷ b) a q e is = cc
 
   -- an element was put in, of a number that the map did not know: `first_taken` and its like tell which
-  pub put_agrees : (f g : ℕ → Option Ptr) (c d : Nodes X) (p : Ptr) (e : Element X) → Agrees f c → f e.id ≡ None → IsUpdated f e.id (Some p) g → IsTaken d p e c → AreApart (spots d) → Agrees g d
-  put_agrees f g c d p e was fresh up t apart = record { mapped = mapped; listed = listed; apart = apart } where
-    mapped : (k : ℕ) (q : Ptr) → g k ≡ Some q → (o : Element X) × (o.id ≡ k) × Lies d q o
-    mapped k q at = elim (either_way f g e.id (Some p) up k) as (λ _. (o : Element X) × (o.id ≡ k) × Lies d q o) [
+  pub put_agrees : (f g : ℕ → Option Ptr) (c d : Nodes X) (p : Ptr) (e : Element X) → Agrees f c → f e.id ≡ None → IsUpdated f e.id (Some p) g → IsTaken d p e c → AreDistinct (spots d) → Agrees g d
+  put_agrees f g c d p e was fresh up t distinct = record { mapped = mapped; listed = listed; distinct = distinct } where
+    mapped : (k : ℕ) (q : Ptr) → g k ≡ Some q → (o : Element X) × (o.id ≡ k) × HasElementAt d q o
+    mapped k q at = elim (either_way f g e.id (Some p) up k) as (λ _. (o : Element X) × (o.id ≡ k) × HasElementAt d q o) [
       | inl here ↦ let same : p ≡ q = ap (spot_or p) (sym here.1 ∙ at) in (e, sym here.0, (t.0, t.1, t.2 ∙ ap (λ s. t.0 ++ (s, e) ∷ t.1) same))
       | inr other ↦ let (o, key, lies) = was.mapped k q (sym other.1 ∙ at) in (o, key, left_lies d c p q e o t lies)
     ]
 
-    listed : (q : Ptr) (o : Element X) → Lies d q o → g o.id ≡ Some q
+    listed : (q : Ptr) (o : Element X) → HasElementAt d q o → g o.id ≡ Some q
     listed q o lies = elim (taken_or_left d c p q e o t lies) as (λ _. g o.id ≡ Some q) [
       | inl same ↦ ap (λ (x : Element X). g x.id) same.1 ∙ up e.id ∙ update_here f e.id (Some p) ∙ ap Some (sym same.0)
       | inr on ↦ let known = was.listed q o on in elim (either_way f g e.id (Some p) up o.id) as (λ _. g o.id ≡ Some q) [
@@ -73,43 +73,43 @@ module _ {X : Type 0} where
     ]
 
   -- an element was taken out
-  pub taken_agrees : (f g : ℕ → Option Ptr) (c d : Nodes X) (p : Ptr) (e : Element X) → Agrees f c → IsUpdated f e.id None g → IsTaken c p e d → AreApart (spots d) → Agrees g d
-  taken_agrees f g c d p e was up t apart = record { mapped = mapped; listed = listed; apart = apart } where
-    mapped : (k : ℕ) (q : Ptr) → g k ≡ Some q → (o : Element X) × (o.id ≡ k) × Lies d q o
-    mapped k q at = elim (either_way f g e.id None up k) as (λ _. (o : Element X) × (o.id ≡ k) × Lies d q o) [
+  pub taken_agrees : (f g : ℕ → Option Ptr) (c d : Nodes X) (p : Ptr) (e : Element X) → Agrees f c → IsUpdated f e.id None g → IsTaken c p e d → AreDistinct (spots d) → Agrees g d
+  taken_agrees f g c d p e was up t distinct = record { mapped = mapped; listed = listed; distinct = distinct } where
+    mapped : (k : ℕ) (q : Ptr) → g k ≡ Some q → (o : Element X) × (o.id ≡ k) × HasElementAt d q o
+    mapped k q at = elim (either_way f g e.id None up k) as (λ _. (o : Element X) × (o.id ≡ k) × HasElementAt d q o) [
       | inl here ↦ absurd (none_some (g k) q here.1 at)
-      | inr other ↦ let (o, key, lies) = was.mapped k q (sym other.1 ∙ at) in elim (taken_or_left c d p q e o t lies) as (λ _. (x : Element X) × (x.id ≡ k) × Lies d q x) [
+      | inr other ↦ let (o, key, lies) = was.mapped k q (sym other.1 ∙ at) in elim (taken_or_left c d p q e o t lies) as (λ _. (x : Element X) × (x.id ≡ k) × HasElementAt d q x) [
         | inl same ↦ absurd (other.0 (sym key ∙ ap (λ (x : Element X). x.id) same.1))
         | inr on ↦ (o, key, on)
       ]
     ]
 
-    listed : (q : Ptr) (o : Element X) → Lies d q o → g o.id ≡ Some q
+    listed : (q : Ptr) (o : Element X) → HasElementAt d q o → g o.id ≡ Some q
     listed q o lies = let before = left_lies c d p q e o t lies in elim (either_way f g e.id None up o.id) as (λ _. g o.id ≡ Some q) [
       | inl here ↦
           let same : q ≡ p = keys_differ f c was q p o e before (t.0, t.1, t.2) here.0 in
-          absurd (taken_gone c d p e was.apart t (lies_spot d p o (subst (λ s. Lies d s o) same lies)))
+          absurd (taken_gone c d p e was.distinct t (lies_spot d p o (subst (λ s. HasElementAt d s o) same lies)))
       | inr other ↦ other.1 ∙ was.listed q o before
     ]
 
   -- `remove` at the map's spot for k
-  pub removed_agrees : (f g : ℕ → Option Ptr) (c d : Nodes X) (k : ℕ) (p : Ptr) (e : Element X) → Agrees f c → f k ≡ Some p → IsUpdated f k None g → IsTaken c p e d → AreApart (spots d) → Agrees g d
-  removed_agrees f g c d k p e was at up t apart = taken_agrees f g c d p e was (subst (λ n. IsUpdated f n None g) (sym (removes_key f c was k p at e d t)) up) t apart
+  pub removed_agrees : (f g : ℕ → Option Ptr) (c d : Nodes X) (k : ℕ) (p : Ptr) (e : Element X) → Agrees f c → f k ≡ Some p → IsUpdated f k None g → IsTaken c p e d → AreDistinct (spots d) → Agrees g d
+  removed_agrees f g c d k p e was at up t distinct = taken_agrees f g c d p e was (subst (λ n. IsUpdated f n None g) (sym (removes_key f c was k p at e d t)) up) t distinct
 
   -- an element was moved: the two lists are the same without it
-  kept_agrees : (f : ℕ → Option Ptr) (c d rest : Nodes X) (p : Ptr) (e : Element X) → Agrees f c → IsTaken c p e rest → IsTaken d p e rest → AreApart (spots d) → Agrees f d
-  kept_agrees f c d rest p e was from to apart =
+  kept_agrees : (f : ℕ → Option Ptr) (c d rest : Nodes X) (p : Ptr) (e : Element X) → Agrees f c → IsTaken c p e rest → IsTaken d p e rest → AreDistinct (spots d) → Agrees f d
+  kept_agrees f c d rest p e was from to distinct =
       record {
         mapped = λ k q at. let (o, key, lies) = was.mapped k q at in (o, key, moved_lies c d rest p q e o from to lies);
         listed = λ q o lies. was.listed q o (moved_lies d c rest p q e o to from lies);
-        apart = apart;
+        distinct = distinct;
       }
 
-  pub moved_front_agrees : (f : ℕ → Option Ptr) (c d : Nodes X) (p : Ptr) → Agrees f c → IsMovedFront c p d → AreApart (spots d) → Agrees f d
-  moved_front_agrees f c d p was (e, rest, t, is) apart = kept_agrees f c d rest p e was t (first_taken d rest p e is) apart
+  pub moved_front_agrees : (f : ℕ → Option Ptr) (c d : Nodes X) (p : Ptr) → Agrees f c → IsMovedFront c p d → AreDistinct (spots d) → Agrees f d
+  moved_front_agrees f c d p was (e, rest, t, is) distinct = kept_agrees f c d rest p e was t (first_taken d rest p e is) distinct
 
-  pub moved_back_agrees : (f : ℕ → Option Ptr) (c d : Nodes X) (p : Ptr) → Agrees f c → IsMovedBack c p d → AreApart (spots d) → Agrees f d
-  moved_back_agrees f c d p was (e, rest, t, is) apart = kept_agrees f c d rest p e was t (last_taken d rest p e is) apart
+  pub moved_back_agrees : (f : ℕ → Option Ptr) (c d : Nodes X) (p : Ptr) → Agrees f c → IsMovedBack c p d → AreDistinct (spots d) → Agrees f d
+  moved_back_agrees f c d p was (e, rest, t, is) distinct = kept_agrees f c d rest p e was t (last_taken d rest p e is) distinct
 
   -- a value was written, as through `get_mut`
   pub written_agrees : (f : ℕ → Option Ptr) (c : Nodes X) (k : ℕ) (w : X) → Agrees f c → Agrees f (with_item c k w)
@@ -117,19 +117,19 @@ module _ {X : Type 0} where
       record {
         mapped = λ n q at. let (e, key, lies) = was.mapped n q at in let (o, same, on) = written_lies c k w q e lies in (o, same ∙ key, on);
         listed = λ q o lies. let (e, same, on) = written_lay c k w q o lies in ap f (sym same) ∙ was.listed q e on;
-        apart = subst AreApart (sym (spots-with_item c k w)) was.apart;
+        distinct = subst AreDistinct (sym (spots-with_item c k w)) was.distinct;
       }
 
   -- two lists were joined, whose maps know no number in common
-  pub joined_agrees : (f g h : ℕ → Option Ptr) (c d : Nodes X) → Agrees f c → Agrees g d → ((k : ℕ) → (f k ≡ None) ⊎ (g k ≡ None)) → ((k : ℕ) → h k ≡ option_or (f k) (g k)) → AreApart (spots (c ++ d)) → Agrees h (c ++ d)
-  joined_agrees f g h c d one two disjoint both apart = record { mapped = mapped; listed = listed; apart = apart } where
-    mapped : (k : ℕ) (q : Ptr) → h k ≡ Some q → (o : Element X) × (o.id ≡ k) × Lies (c ++ d) q o
-    mapped k q at = (elim (f k) as (λ w. f k ≡ w → h k ≡ option_or w (g k) → (o : Element X) × (o.id ≡ k) × Lies (c ++ d) q o) [
+  pub joined_agrees : (f g h : ℕ → Option Ptr) (c d : Nodes X) → Agrees f c → Agrees g d → ((k : ℕ) → (f k ≡ None) ⊎ (g k ≡ None)) → ((k : ℕ) → h k ≡ option_or (f k) (g k)) → AreDistinct (spots (c ++ d)) → Agrees h (c ++ d)
+  joined_agrees f g h c d one two disjoint both distinct = record { mapped = mapped; listed = listed; distinct = distinct } where
+    mapped : (k : ℕ) (q : Ptr) → h k ≡ Some q → (o : Element X) × (o.id ≡ k) × HasElementAt (c ++ d) q o
+    mapped k q at = (elim (f k) as (λ w. f k ≡ w → h k ≡ option_or w (g k) → (o : Element X) × (o.id ≡ k) × HasElementAt (c ++ d) q o) [
       | None ↦ λ none is. let (o, key, lies) = two.mapped k q (sym is ∙ at) in (o, key, back_lies c d q o lies)
       | Some p ↦ λ some is. let (o, key, lies) = one.mapped k q (some ∙ sym is ∙ at) in (o, key, front_lies c d q o lies)
     ]) refl (both k)
 
-    listed : (q : Ptr) (o : Element X) → Lies (c ++ d) q o → h o.id ≡ Some q
+    listed : (q : Ptr) (o : Element X) → HasElementAt (c ++ d) q o → h o.id ≡ Some q
     listed q o lies = elim (joined_lies c d q o lies) as (λ _. h o.id ≡ Some q) [
       | inl on ↦ both o.id ∙ ap (λ w. option_or w (g o.id)) (one.listed q o on)
       | inr on ↦ let known = two.listed q o on in elim (disjoint o.id) as (λ _. h o.id ≡ Some q) [

@@ -4,9 +4,9 @@ use denote.RawPtr.{Ptr}
 use Rattle.cordyceps_base.specs.BySpot.{HasSpot, IsTaken, IsPutBefore, IsPutAfter}
 use Rattle.cordyceps_base.specs.Element.{Element}
 use Rattle.cordyceps_base.specs.Nodes.{Nodes, spots, with_item}
-use Rattle.cordyceps_base.specs.Spots.{IsNew, AreApart}
+use Rattle.cordyceps_base.specs.Spots.{IsNew, AreDistinct}
 use Rattle.cordyceps_base.proofs.SpotsMemory.{same_ptr_refl}
-use Rattle.cordyceps_stable.specs.Agreeing.{Lies}
+use Rattle.cordyceps_stable.specs.Agreeing.{HasElementAt}
 
 module _ {X : Type 0} where
   -- c is d with the element e at p: so an element was taken out of c, which left d, or one was put into d, which made c
@@ -27,7 +27,7 @@ module _ {X : Type 0} where
   spot_at [] a q e = refl
   spot_at (x ∷ b) a q e = spot_at b a q e
 
-  pub lies_spot : (c : Nodes X) (p : Ptr) (e : Element X) → Lies c p e → HasSpot c p
+  pub lies_spot : (c : Nodes X) (p : Ptr) (e : Element X) → HasElementAt c p e → HasSpot c p
   lies_spot c p e (b, a, is) = (length b, subst (λ d. slice_get (spots d) (length b) ≡ Some p) (sym is) (spot_at b a p e))
 
   not_new : (p : Ptr) (b a : Nodes X) (e : Element X) → IsNew p (spots (b ++ (p, e) ∷ a)) → ⊥
@@ -43,86 +43,86 @@ module _ {X : Type 0} where
   rest_of (x ∷ xs) = xs
 
   -- a spot names one element
-  pub unique : (b a d z : Nodes X) (p : Ptr) (e o : Element X) → b ++ (p, e) ∷ a ≡ d ++ (p, o) ∷ z → AreApart (spots (b ++ (p, e) ∷ a)) → (b ≡ d) × (e ≡ o) × (a ≡ z)
-  unique [] a [] z p e o is apart = (refl, ap (λ s. (head_or (p, e) s).1) is, ap rest_of is)
-  unique [] a (y ∷ d) z p e o is apart = let rest : a ≡ d ++ (p, o) ∷ z = ap rest_of is in absurd (not_new p d z o (subst (λ s. IsNew p (spots s)) rest apart.0))
-  unique (x ∷ b) a [] z p e o is apart = let first : x.0 ≡ p = ap (λ s. (head_or x s).0) is in absurd (not_new p b a e (subst (λ q. IsNew q (spots (b ++ (p, e) ∷ a))) first apart.0))
-  unique (x ∷ b) a (y ∷ d) z p e o is apart =
-      let first : x ≡ y = ap (head_or x) is in let rest : b ++ (p, e) ∷ a ≡ d ++ (p, o) ∷ z = ap rest_of is in let on = unique b a d z p e o rest apart.1 in ((λ i. first i ∷ on.0 i), on.1, on.2)
+  pub unique : (b a d z : Nodes X) (p : Ptr) (e o : Element X) → b ++ (p, e) ∷ a ≡ d ++ (p, o) ∷ z → AreDistinct (spots (b ++ (p, e) ∷ a)) → (b ≡ d) × (e ≡ o) × (a ≡ z)
+  unique [] a [] z p e o is distinct = (refl, ap (λ s. (head_or (p, e) s).1) is, ap rest_of is)
+  unique [] a (y ∷ d) z p e o is distinct = let rest : a ≡ d ++ (p, o) ∷ z = ap rest_of is in absurd (not_new p d z o (subst (λ s. IsNew p (spots s)) rest distinct.0))
+  unique (x ∷ b) a [] z p e o is distinct = let first : x.0 ≡ p = ap (λ s. (head_or x s).0) is in absurd (not_new p b a e (subst (λ q. IsNew q (spots (b ++ (p, e) ∷ a))) first distinct.0))
+  unique (x ∷ b) a (y ∷ d) z p e o is distinct =
+      let first : x ≡ y = ap (head_or x) is in let rest : b ++ (p, e) ∷ a ≡ d ++ (p, o) ∷ z = ap rest_of is in let on = unique b a d z p e o rest distinct.1 in ((λ i. first i ∷ on.0 i), on.1, on.2)
 
-  has_split : (c : Nodes X) (k : ℕ) (p : Ptr) → slice_get (spots c) k ≡ Some p → (e : Element X) × Lies c p e
+  has_split : (c : Nodes X) (k : ℕ) (p : Ptr) → slice_get (spots c) k ≡ Some p → (e : Element X) × HasElementAt c p e
   has_split [] k p at = cc
   has_split (x ∷ c) zero p at = let same : x.0 ≡ p = cc in (x.1, ([], c, λ i. (same i, x.1) ∷ c))
   has_split (x ∷ c) (suc k) p at = let on = has_split c k p at in (on.0, (x ∷ on.1.0, on.1.1, ap (λ s. x ∷ s) on.1.2))
 
-  new_part : (p : Ptr) (b a : Nodes X) (e : Element X) → AreApart (spots (b ++ (p, e) ∷ a)) → (k : ℕ) → slice_get (spots (b ++ a)) k ≡ Some p → ⊥
-  new_part p [] a e apart k at = let on = has_split a k p at in not_new p on.1.0 on.1.1 on.0 (subst (λ s. IsNew p (spots s)) on.1.2 apart.0)
-  new_part p (x ∷ b) a e apart zero at = let same : x.0 ≡ p = cc in not_new p b a e (subst (λ q. IsNew q (spots (b ++ (p, e) ∷ a))) same apart.0)
-  new_part p (x ∷ b) a e apart (suc k) at = new_part p b a e apart.1 k at
+  new_part : (p : Ptr) (b a : Nodes X) (e : Element X) → AreDistinct (spots (b ++ (p, e) ∷ a)) → (k : ℕ) → slice_get (spots (b ++ a)) k ≡ Some p → ⊥
+  new_part p [] a e distinct k at = let on = has_split a k p at in not_new p on.1.0 on.1.1 on.0 (subst (λ s. IsNew p (spots s)) on.1.2 distinct.0)
+  new_part p (x ∷ b) a e distinct zero at = let same : x.0 ≡ p = cc in not_new p b a e (subst (λ q. IsNew q (spots (b ++ (p, e) ∷ a))) same distinct.0)
+  new_part p (x ∷ b) a e distinct (suc k) at = new_part p b a e distinct.1 k at
 
   -- where an element was taken out none lies, and where one was put in none lay
-  pub taken_gone : (c d : Nodes X) (p : Ptr) (e : Element X) → AreApart (spots c) → IsTaken c p e d → HasSpot d p → ⊥
-  taken_gone c d p e apart (b, a, is, left) (k, at) = new_part p b a e (subst (λ s. AreApart (spots s)) is apart) k (subst (λ s. slice_get (spots s) k ≡ Some p) left at)
+  pub taken_gone : (c d : Nodes X) (p : Ptr) (e : Element X) → AreDistinct (spots c) → IsTaken c p e d → HasSpot d p → ⊥
+  taken_gone c d p e distinct (b, a, is, left) (k, at) = new_part p b a e (subst (λ s. AreDistinct (spots s)) is distinct) k (subst (λ s. slice_get (spots s) k ≡ Some p) left at)
 
   -- what lies in the list without an element lies there with it
-  pub left_lies : (c d : Nodes X) (p q : Ptr) (e o : Element X) → IsTaken c p e d → Lies d q o → Lies c q o
+  pub left_lies : (c d : Nodes X) (p q : Ptr) (e o : Element X) → IsTaken c p e d → HasElementAt d q o → HasElementAt c q o
   left_lies c d p q e o (b, a, is, left) (b', a', lies) = let on = go b a b' a' (sym left ∙ lies) in (on.0, on.1, is ∙ on.2) where
-    go : (b a b' a' : Nodes X) → b ++ a ≡ b' ++ (q, o) ∷ a' → Lies (b ++ (p, e) ∷ a) q o
+    go : (b a b' a' : Nodes X) → b ++ a ≡ b' ++ (q, o) ∷ a' → HasElementAt (b ++ (p, e) ∷ a) q o
     go [] a b' a' is = ((p, e) ∷ b', a', ap (λ s. (p, e) ∷ s) is)
     go (x ∷ b) a [] a' is = ([], b ++ (p, e) ∷ a, ap (λ s. head_or x s ∷ b ++ (p, e) ∷ a) is)
     go (x ∷ b) a (y ∷ b') a' is = let on = go b a b' a' (ap rest_of is) in (x ∷ on.0, on.1, ap (λ s. x ∷ s) on.2)
 
   -- what lies in the list with an element is that element, or lies there without it
-  pub taken_or_left : (c d : Nodes X) (p q : Ptr) (e o : Element X) → IsTaken c p e d → Lies c q o → ((q ≡ p) × (o ≡ e)) ⊎ Lies d q o
-  taken_or_left c d p q e o (b, a, is, left) (b', a', lies) = subst (λ s. ((q ≡ p) × (o ≡ e)) ⊎ Lies s q o) (sym left) (go b a b' a' (sym is ∙ lies)) where
-    go : (b a b' a' : Nodes X) → b ++ (p, e) ∷ a ≡ b' ++ (q, o) ∷ a' → ((q ≡ p) × (o ≡ e)) ⊎ Lies (b ++ a) q o
+  pub taken_or_left : (c d : Nodes X) (p q : Ptr) (e o : Element X) → IsTaken c p e d → HasElementAt c q o → ((q ≡ p) × (o ≡ e)) ⊎ HasElementAt d q o
+  taken_or_left c d p q e o (b, a, is, left) (b', a', lies) = subst (λ s. ((q ≡ p) × (o ≡ e)) ⊎ HasElementAt s q o) (sym left) (go b a b' a' (sym is ∙ lies)) where
+    go : (b a b' a' : Nodes X) → b ++ (p, e) ∷ a ≡ b' ++ (q, o) ∷ a' → ((q ≡ p) × (o ≡ e)) ⊎ HasElementAt (b ++ a) q o
     go [] a [] a' is = inl (sym (ap (λ s. (head_or (p, e) s).0) is), sym (ap (λ s. (head_or (p, e) s).1) is))
     go [] a (y ∷ b') a' is = inr (b', a', ap rest_of is)
     go (x ∷ b) a [] a' is = inr ([], b ++ a, ap (λ s. head_or x s ∷ b ++ a) is)
-    go (x ∷ b) a (y ∷ b') a' is = elim (go b a b' a' (ap rest_of is)) as (λ _. ((q ≡ p) × (o ≡ e)) ⊎ Lies (x ∷ b ++ a) q o) [
+    go (x ∷ b) a (y ∷ b') a' is = elim (go b a b' a' (ap rest_of is)) as (λ _. ((q ≡ p) × (o ≡ e)) ⊎ HasElementAt (x ∷ b ++ a) q o) [
       | inl same ↦ inl same
       | inr on ↦ inr (x ∷ on.0, on.1, ap (λ s. x ∷ s) on.2)
     ]
 
   -- after a removal all others lie where they lay
-  pub others_lie : (c d : Nodes X) (p q : Ptr) (e o : Element X) → IsTaken c p e d → Lies c q o → (q ≡ p → ⊥) → Lies d q o
-  others_lie c d p q e o t lies other = elim (taken_or_left c d p q e o t lies) as (λ _. Lies d q o) [
+  pub others_lie : (c d : Nodes X) (p q : Ptr) (e o : Element X) → IsTaken c p e d → HasElementAt c q o → (q ≡ p → ⊥) → HasElementAt d q o
+  others_lie c d p q e o t lies other = elim (taken_or_left c d p q e o t lies) as (λ _. HasElementAt d q o) [
     | inl same ↦ absurd (other same.0)
     | inr on ↦ on
   ]
 
   -- two lists that are the same without the element at a spot hold the same, as before and after a move
-  pub moved_lies : (c d rest : Nodes X) (p q : Ptr) (e o : Element X) → IsTaken c p e rest → IsTaken d p e rest → Lies c q o → Lies d q o
-  moved_lies c d rest p q e o was is lies = elim (taken_or_left c rest p q e o was lies) as (λ _. Lies d q o) [
+  pub moved_lies : (c d rest : Nodes X) (p q : Ptr) (e o : Element X) → IsTaken c p e rest → IsTaken d p e rest → HasElementAt c q o → HasElementAt d q o
+  moved_lies c d rest p q e o was is lies = elim (taken_or_left c rest p q e o was lies) as (λ _. HasElementAt d q o) [
     | inl same ↦ let at = sym same.0 in let of = sym same.1 in (is.0, is.1, is.2 ∙ (λ i. is.0 ++ (at i, of i) ∷ is.1))
     | inr on ↦ left_lies d rest p q e o is on
   ]
 
   -- what lies in two lists that were joined lies in one of them
-  pub joined_lies : (c d : Nodes X) (q : Ptr) (o : Element X) → Lies (c ++ d) q o → Lies c q o ⊎ Lies d q o
+  pub joined_lies : (c d : Nodes X) (q : Ptr) (o : Element X) → HasElementAt (c ++ d) q o → HasElementAt c q o ⊎ HasElementAt d q o
   joined_lies [] d q o lies = inr lies
   joined_lies (x ∷ c) d q o ([], a, is) = inl ([], c, ap (λ s. head_or x s ∷ c) is)
-  joined_lies (x ∷ c) d q o (y ∷ b, a, is) = elim (joined_lies c d q o (b, a, ap rest_of is)) as (λ _. Lies (x ∷ c) q o ⊎ Lies d q o) [
+  joined_lies (x ∷ c) d q o (y ∷ b, a, is) = elim (joined_lies c d q o (b, a, ap rest_of is)) as (λ _. HasElementAt (x ∷ c) q o ⊎ HasElementAt d q o) [
     | inl on ↦ inl (x ∷ on.0, on.1, ap (λ s. x ∷ s) on.2)
     | inr on ↦ inr on
   ]
 
-  pub front_lies : (c d : Nodes X) (q : Ptr) (o : Element X) → Lies c q o → Lies (c ++ d) q o
+  pub front_lies : (c d : Nodes X) (q : Ptr) (o : Element X) → HasElementAt c q o → HasElementAt (c ++ d) q o
   front_lies c d q o (b, a, is) = (b, a ++ d, ap (λ s. s ++ d) is ∙ append_assoc b ((q, o) ∷ a) d)
 
-  pub back_lies : (c d : Nodes X) (q : Ptr) (o : Element X) → Lies d q o → Lies (c ++ d) q o
+  pub back_lies : (c d : Nodes X) (q : Ptr) (o : Element X) → HasElementAt d q o → HasElementAt (c ++ d) q o
   back_lies c d q o (b, a, is) = (c ++ b, a, ap (λ s. c ++ s) is ∙ sym (append_assoc c b ((q, o) ∷ a)))
 
   -- a value that was written changes no number and no spot
-  pub written_lies : (c : Nodes X) (k : ℕ) (w : X) (q : Ptr) (e : Element X) → Lies c q e → (o : Element X) × (o.id ≡ e.id) × Lies (with_item c k w) q o
-  written_lies c k w q e (b, a, is) = subst (λ s. (o : Element X) × (o.id ≡ e.id) × Lies (with_item s k w) q o) (sym is) (go b a k) where
-    go : (b a : Nodes X) (k : ℕ) → (o : Element X) × (o.id ≡ e.id) × Lies (with_item (b ++ (q, e) ∷ a) k w) q o
+  pub written_lies : (c : Nodes X) (k : ℕ) (w : X) (q : Ptr) (e : Element X) → HasElementAt c q e → (o : Element X) × (o.id ≡ e.id) × HasElementAt (with_item c k w) q o
+  written_lies c k w q e (b, a, is) = subst (λ s. (o : Element X) × (o.id ≡ e.id) × HasElementAt (with_item s k w) q o) (sym is) (go b a k) where
+    go : (b a : Nodes X) (k : ℕ) → (o : Element X) × (o.id ≡ e.id) × HasElementAt (with_item (b ++ (q, e) ∷ a) k w) q o
     go [] a zero = (record { id = e.id; value = w }, refl, ([], a, refl))
     go [] a (suc k) = (e, refl, ([], with_item a k w, refl))
     go (x ∷ b) a zero = (e, refl, ((x.0, record { id = x.1.id; value = w }) ∷ b, a, refl))
     go (x ∷ b) a (suc k) = let (o, key, (f, r, on)) = go b a k in (o, key, (x ∷ f, r, ap (λ s. x ∷ s) on))
 
-  pub written_lay : (c : Nodes X) (k : ℕ) (w : X) (q : Ptr) (o : Element X) → Lies (with_item c k w) q o → (e : Element X) × (e.id ≡ o.id) × Lies c q e
+  pub written_lay : (c : Nodes X) (k : ℕ) (w : X) (q : Ptr) (o : Element X) → HasElementAt (with_item c k w) q o → (e : Element X) × (e.id ≡ o.id) × HasElementAt c q e
   written_lay [] k w q o ([], a, is) = cc
   written_lay [] k w q o (y ∷ b, a, is) = cc
   written_lay (n ∷ c) zero w q o ([], a, is) =

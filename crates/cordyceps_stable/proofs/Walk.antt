@@ -4,7 +4,7 @@ use denote.RawPtr.{Ptr}
 use Rattle.cordyceps_base.specs.BySpot.{HasSpot, IsFirst, IsLast, AreNext}
 use Rattle.cordyceps_base.specs.Element.{Element}
 use Rattle.cordyceps_base.specs.Nodes.{Nodes, spots}
-use Rattle.cordyceps_base.specs.Spots.{same_ptr, index_of, IsNew, AreApart}
+use Rattle.cordyceps_base.specs.Spots.{same_ptr, index_of, IsNew, AreDistinct}
 use Rattle.cordyceps_base.proofs.SpotsMemory.{same_ptr_eq, same_ptr_refl}
 use Rattle.cordyceps_single.proofs.Preorder.{by_test}
 use Rattle.cordyceps_stable.specs.Walk.{nodes_from}
@@ -46,31 +46,31 @@ module _ {X : Type 0} where
   differs q p (x ∷ before) after e new = differs q p before after e new.1
 
   -- where all spots differ, the index of a spot is the number of nodes before it
-  pub index_is : (before after : Nodes X) (p : Ptr) (e : Element X) → AreApart (spots (before ++ (p, e) ∷ after)) → index_of p (spots (before ++ (p, e) ∷ after)) ≡ length before
-  index_is [] after p e apart = at_head p p (spots after) (same_ptr_refl p)
-  index_is (x ∷ before) after p e apart =
-      behind_head p x.0 (spots (before ++ (p, e) ∷ after)) (differs x.0 p before after e apart.0) ∙ ap suc (index_is before after p e apart.1)
+  pub index_is : (before after : Nodes X) (p : Ptr) (e : Element X) → AreDistinct (spots (before ++ (p, e) ∷ after)) → index_of p (spots (before ++ (p, e) ∷ after)) ≡ length before
+  index_is [] after p e distinct = at_head p p (spots after) (same_ptr_refl p)
+  index_is (x ∷ before) after p e distinct =
+      behind_head p x.0 (spots (before ++ (p, e) ∷ after)) (differs x.0 p before after e distinct.0) ∙ ap suc (index_is before after p e distinct.1)
 
-  index_in : (c before after : Nodes X) (p : Ptr) (e : Element X) → AreApart (spots c) → c ≡ before ++ (p, e) ∷ after → index_of p (spots c) ≡ length before
-  index_in c before after p e apart is = ap (λ l. index_of p (spots l)) is ∙ index_is before after p e (subst (λ l. AreApart (spots l)) is apart)
+  index_in : (c before after : Nodes X) (p : Ptr) (e : Element X) → AreDistinct (spots c) → c ≡ before ++ (p, e) ∷ after → index_of p (spots c) ≡ length before
+  index_in c before after p e distinct is = ap (λ l. index_of p (spots l)) is ∙ index_is before after p e (subst (λ l. AreDistinct (spots l)) is distinct)
 
   -- the last spot has the index before the length
-  pub last_index : (c : Nodes X) (p : Ptr) → AreApart (spots c) → IsLast c p → index_of p (spots c) + 1 ≡ length c
-  last_index c p apart (before, e, is) =
-      let at = index_in c before [] p e apart is in omega (arith, at, ap length is, length-append before ((p, e) ∷ []))
+  pub last_index : (c : Nodes X) (p : Ptr) → AreDistinct (spots c) → IsLast c p → index_of p (spots c) + 1 ≡ length c
+  last_index c p distinct (before, e, is) =
+      let at = index_in c before [] p e distinct is in omega (arith, at, ap length is, length-append before ((p, e) ∷ []))
 
   -- `next` raises the index by one, and `prev` lowers it by one
-  pub next_index : (c : Nodes X) (p q : Ptr) → AreApart (spots c) → AreNext c p q → index_of q (spots c) ≡ index_of p (spots c) + 1
-  next_index c p q apart (before, e, o, after, is) =
-      let at = index_in c before ((q, o) ∷ after) p e apart is in
-      let on = index_in c (before ++ (p, e) ∷ []) after q o apart (is ∙ sym (append_assoc before ((p, e) ∷ []) ((q, o) ∷ after))) in
+  pub next_index : (c : Nodes X) (p q : Ptr) → AreDistinct (spots c) → AreNext c p q → index_of q (spots c) ≡ index_of p (spots c) + 1
+  next_index c p q distinct (before, e, o, after, is) =
+      let at = index_in c before ((q, o) ∷ after) p e distinct is in
+      let on = index_in c (before ++ (p, e) ∷ []) after q o distinct (is ∙ sym (append_assoc before ((p, e) ∷ []) ((q, o) ∷ after))) in
       omega (arith, at, on, length-append before ((p, e) ∷ []))
 
   -- a loop that goes on by what `next` answers comes to an end: fewer nodes are left
-  pub next_nearer : (c : Nodes X) (p : Ptr) (r : Option Ptr) → AreApart (spots c) → HasSpot c p → MatchOption r (IsLast c p) (λ q. AreNext c p q) → nodes_from c r < nodes_from c (Some p)
-  next_nearer c p None apart there h = let low = index_below c p there in omega (arith, low)
-  next_nearer c p (Some q) apart there h = let low = index_below c p there in let on = next_index c p q apart h in omega (arith, low, on)
+  pub next_nearer : (c : Nodes X) (p : Ptr) (r : Option Ptr) → AreDistinct (spots c) → HasSpot c p → MatchOption r (IsLast c p) (λ q. AreNext c p q) → nodes_from c r < nodes_from c (Some p)
+  next_nearer c p None distinct there h = let low = index_below c p there in omega (arith, low)
+  next_nearer c p (Some q) distinct there h = let low = index_below c p there in let on = next_index c p q distinct h in omega (arith, low, on)
 
   -- a loop that goes back by what `prev` answers comes to an end: the index falls
-  pub prev_nearer : (c : Nodes X) (p q : Ptr) → AreApart (spots c) → AreNext c q p → index_of q (spots c) < index_of p (spots c)
-  prev_nearer c p q apart h = let on = next_index c q p apart h in omega (arith, on)
+  pub prev_nearer : (c : Nodes X) (p q : Ptr) → AreDistinct (spots c) → AreNext c q p → index_of q (spots c) < index_of p (spots c)
+  prev_nearer c p q distinct h = let on = next_index c q p distinct h in omega (arith, on)

@@ -5,7 +5,7 @@ ghost use denote.RawPtr.{Ptr};
 ghost use Rattle.cordyceps_base.specs.BySpot.{HasSpot, HoldsAt, IsTaken, IsPutBefore, IsPutAfter, IsMovedFront, IsMovedBack, IsFirst, IsLast, AreNext};
 ghost use Rattle.cordyceps_base.specs.Element.{values};
 ghost use Rattle.cordyceps_base.specs.Nodes.{elements, spots};
-ghost use Rattle.cordyceps_base.specs.Spots.{index_of, AreApart};
+ghost use Rattle.cordyceps_base.specs.Spots.{index_of, AreDistinct};
 
 pub use crate::cursor::SpotCursor;
 use cordyceps_base::boxes::Address;
@@ -100,10 +100,10 @@ impl<T: Linked<Links<T>>> StableList<T> {
     /// O(1).
     pub fn from_list(list: List<T>) -> StableList<T>
         ensures holds { elements result ≡ list }
-        ensures apart { AreApart (spots result) }
+        ensures distinct { AreDistinct (spots result) }
     {
         StableList {
-            chain: list.into_chain().apart(),
+            chain: list.into_chain().distinct(),
         }
     }
 
@@ -145,7 +145,7 @@ impl<T: Linked<Links<T>>> StableList<T> {
     pub fn push_front(&mut self, handle: T::Handle) -> Spot
         requires { length self.old < usize.MAX }
         ensures holds { self.new ≡ (result, T.element handle) ∷ self.old }
-        ensures apart { AreApart (spots self.new) }
+        ensures distinct { AreDistinct (spots self.new) }
     {
         let address = self.chain.link_first(T::into_ptr(handle));
         Spot { address }
@@ -158,7 +158,7 @@ impl<T: Linked<Links<T>>> StableList<T> {
     pub fn push_back(&mut self, handle: T::Handle) -> Spot
         requires { length self.old < usize.MAX }
         ensures holds { self.new ≡ self.old ++ (result, T.element handle) ∷ [] }
-        ensures apart { AreApart (spots self.new) }
+        ensures distinct { AreDistinct (spots self.new) }
     {
         let address = self.chain.link_last(T::into_ptr(handle));
         Spot { address }
@@ -174,7 +174,7 @@ impl<T: Linked<Links<T>>> StableList<T> {
     pub fn try_push_front(&mut self, handle: T::Handle) -> Result<Spot, T::Handle>
         ensures { MatchResult result
             (λ spot. (length self.old < usize.MAX) × (self.new ≡ (spot, T.element handle) ∷ self.old)
-            × AreApart (spots self.new))
+            × AreDistinct (spots self.new))
             (λ back. (length self.old ≡ usize.MAX) × (back ≡ handle) × (self.new ≡ self.old)) }
     {
         if self.len() == usize::MAX {
@@ -193,7 +193,7 @@ impl<T: Linked<Links<T>>> StableList<T> {
     pub fn try_push_back(&mut self, handle: T::Handle) -> Result<Spot, T::Handle>
         ensures { MatchResult result
             (λ spot. (length self.old < usize.MAX) × (self.new ≡ self.old ++ (spot, T.element handle) ∷ [])
-            × AreApart (spots self.new))
+            × AreDistinct (spots self.new))
             (λ back. (length self.old ≡ usize.MAX) × (back ≡ handle) × (self.new ≡ self.old)) }
     {
         if self.len() == usize::MAX {
@@ -211,7 +211,7 @@ impl<T: Linked<Links<T>>> StableList<T> {
         requires there { HasSpot self.old at }
         requires fits { length self.old < usize.MAX }
         ensures holds { IsPutBefore self.old at result (T.element handle) self.new }
-        ensures apart { AreApart (spots self.new) }
+        ensures distinct { AreDistinct (spots self.new) }
     {
         let address = self.chain.link_before(at.address, T::into_ptr(handle));
         Spot { address }
@@ -226,7 +226,7 @@ impl<T: Linked<Links<T>>> StableList<T> {
         requires there { HasSpot self.old at }
         requires fits { length self.old < usize.MAX }
         ensures holds { IsPutAfter self.old at result (T.element handle) self.new }
-        ensures apart { AreApart (spots self.new) }
+        ensures distinct { AreDistinct (spots self.new) }
     {
         let address = self.chain.link_after(at.address, T::into_ptr(handle));
         Spot { address }
@@ -239,10 +239,10 @@ impl<T: Linked<Links<T>>> StableList<T> {
     pub fn remove(&mut self, at: Spot) -> T::Handle
         requires { HasSpot self.old at }
         ensures taken { IsTaken self.old at (T.element result) self.new }
-        ensures apart { AreApart (spots self.new) }
+        ensures distinct { AreDistinct (spots self.new) }
     {
         let node = self.chain.unlink_at(at.address);
-        self.chain.keep_apart();
+        self.chain.keep_distinct();
         T::from_ptr(node)
     }
 
@@ -253,14 +253,14 @@ impl<T: Linked<Links<T>>> StableList<T> {
     pub fn pop_front(&mut self) -> Option<T::Handle>
         ensures taken { MatchOption result ((self.old ≡ []) × (self.new ≡ []))
             (λ h. (spot : Ptr) × (self.old ≡ (spot, T.element h) ∷ self.new)) }
-        ensures apart { AreApart (spots self.new) }
+        ensures distinct { AreDistinct (spots self.new) }
     {
         if self.chain.len() == 0 {
-            self.chain.keep_apart();
+            self.chain.keep_distinct();
             return None;
         }
         let node = self.chain.unlink_front();
-        self.chain.keep_apart();
+        self.chain.keep_distinct();
         Some(T::from_ptr(node))
     }
 
@@ -271,14 +271,14 @@ impl<T: Linked<Links<T>>> StableList<T> {
     pub fn pop_back(&mut self) -> Option<T::Handle>
         ensures taken { MatchOption result ((self.old ≡ []) × (self.new ≡ []))
             (λ h. (spot : Ptr) × (self.old ≡ self.new ++ (spot, T.element h) ∷ [])) }
-        ensures apart { AreApart (spots self.new) }
+        ensures distinct { AreDistinct (spots self.new) }
     {
         if self.chain.len() == 0 {
-            self.chain.keep_apart();
+            self.chain.keep_distinct();
             return None;
         }
         let node = self.chain.unlink_back();
-        self.chain.keep_apart();
+        self.chain.keep_distinct();
         Some(T::from_ptr(node))
     }
 
@@ -356,10 +356,10 @@ impl<T: Linked<Links<T>>> StableList<T> {
     pub fn move_to_front(&mut self, at: Spot)
         requires { HasSpot self.old at }
         ensures moved { IsMovedFront self.old at self.new }
-        ensures apart { AreApart (spots self.new) }
+        ensures distinct { AreDistinct (spots self.new) }
     {
         self.chain.move_front(at.address);
-        self.chain.keep_apart();
+        self.chain.keep_distinct();
     }
 
     /// Moves the element at `at` to the back of the list. It keeps its spot, and the others their order. Requires that
@@ -370,10 +370,10 @@ impl<T: Linked<Links<T>>> StableList<T> {
     pub fn move_to_back(&mut self, at: Spot)
         requires { HasSpot self.old at }
         ensures moved { IsMovedBack self.old at self.new }
-        ensures apart { AreApart (spots self.new) }
+        ensures distinct { AreDistinct (spots self.new) }
     {
         self.chain.move_back(at.address);
-        self.chain.keep_apart();
+        self.chain.keep_distinct();
     }
 
     /// Moves all elements of `other` to the back of this list, and leaves `other` empty. They keep their spots.
@@ -385,11 +385,11 @@ impl<T: Linked<Links<T>>> StableList<T> {
         requires { length self.old + length other.old ≤ usize.MAX }
         ensures joined { self.new ≡ self.old ++ other.old }
         ensures emptied { other.new ≡ [] }
-        ensures apart { AreApart (spots self.new) }
+        ensures distinct { AreDistinct (spots self.new) }
     {
         let more = other.chain.take();
         let nodes = self.chain.take();
-        self.chain.put(nodes.join(more).apart());
+        self.chain.put(nodes.join(more).distinct());
     }
 
     /// Returns a cursor at the first element, or at the null place if the list is empty.

@@ -17,7 +17,7 @@ use Rattle.cordyceps_commands.specs.declared.list_command.CursorCommand.{CursorC
 use Rattle.cordyceps_commands.specs.declared.list_command.CursorCommand.TheVariants.{SplitAfter, SplitBefore, SpliceAfter, SpliceBefore}
 use Rattle.cordyceps_commands.specs.Replies.{Line, lines_of, done, found_or_nothing}
 use Rattle.cordyceps_tables.specs.Tables.{Table, held_at}
-use Rattle.cordyceps_tables.specs.Blocks.{Spot, State, blocked, first_place, rewritten, Goes, Obeys, line_on, line_step, state_of, LineRuns, cut_behind, cut_before, put_behind, put_before, split_to, splice_from}
+use Rattle.cordyceps_tables.specs.Blocks.{Spot, State, blocked, first_place, rewritten, Goes, Obeys, line_on, line_step, state_of, LineRuns, cut_after, cut_before, put_after, put_before, split_to, splice_from}
 
 pub goes_written : (old new : CursorMut Item) (s : Elements Item) (k at : ℕ) (o : Option Item) (item : Item) (value : ℕ) (reply : Reply) →
     Stands old new (with_value s at (record item { value = value })) k → Some item ≡ o → lines_of reply ≡ done ∷ [] → Goes old new (rewritten s k at o value) reply
@@ -61,7 +61,7 @@ pub cuts_behind : (old new : CursorMut Item) (gone : Elements Item) → place ol
     (place old < length (elements old) → gone ≡ drop (place old + 1) (elements old)) →
     (place old < length (elements old) → Stands old new (take (place old + 1) (elements old)) (place old)) →
     (place old ≡ length (elements old) → gone ≡ elements old) → (place old ≡ length (elements old) → Stands old new [] 0) →
-    Cuts old new gone (cut_behind (elements old) (place old))
+    Cuts old new gone (cut_after (elements old) (place old))
 cuts_behind old new gone within inside inside_stands null null_stands = elim (cases_lt (place old) (length (elements old))) [
   | inl lt ↦
       let is : nat_lt (place old) (length (elements old)) ≡ true = grind (arith, nat_tests) in
@@ -75,7 +75,7 @@ cuts_behind old new gone within inside inside_stands null null_stands = elim (ca
 pub stands_behind : (old new : CursorMut Item) (more : Elements Item) → place old ≤ length (elements old) →
     (place old < length (elements old) → Stands old new (take (place old + 1) (elements old) ++ more ++ drop (place old + 1) (elements old)) (place old)) →
     (place old ≡ length (elements old) → Stands old new (more ++ elements old) (length (elements old) + length more)) →
-    Stands old new (put_behind (elements old) (place old) more).0 (put_behind (elements old) (place old) more).1
+    Stands old new (put_after (elements old) (place old) more).0 (put_after (elements old) (place old) more).1
 stands_behind old new more within inside null = elim (cases_lt (place old) (length (elements old))) [
   | inl lt ↦
       let is : nat_lt (place old) (length (elements old)) ≡ true = grind (arith, nat_tests) in
@@ -98,10 +98,10 @@ module _ (n m : ℕ) (table : Table) (old new : CursorMut Item) (reply : Reply) 
       rw (held_at_other table n m (elements old) (λ t. nat_eq (length t) 0), ← free, set_over table n m (elements old) cut.1 cut.0.0) refl in
       (rw done_so (same_state (set table m gone) (set table m cut.1) n (elements new) cut.0.0 (place new) cut.0.1 (ap (λ t. set table m t) cuts.cut_off) cuts.stands.elements_are cuts.stands.place_is), rw done_so told)
 
-  pub split_after_steps : (gone : Elements Item) → true ≡ (not (nat_eq n m) && nat_eq (length (held_at table m)) 0) → Cuts old new gone (cut_behind (elements old) (place old)) → lines_of reply ≡ done ∷ [] →
+  pub split_after_steps : (gone : Elements Item) → true ≡ (not (nat_eq n m) && nat_eq (length (held_at table m)) 0) → Cuts old new gone (cut_after (elements old) (place old)) → lines_of reply ≡ done ∷ [] →
       LineRuns n table (set table m gone) old new (SplitAfter m) reply
   split_after_steps gone free cuts told =
-      let run = split_run gone (cut_behind (elements old) (place old)) free cuts told in
+      let run = split_run gone (cut_after (elements old) (place old)) free cuts told in
       let held = put_back table n (elements old) within in
       record { same_reference = cuts.stands.same_reference; state_is = rw held run.0; told = rw held run.1 }
 
@@ -120,10 +120,10 @@ module _ (n m : ℕ) (table : Table) (old new : CursorMut Item) (reply : Reply) 
       (rw done_so (same_state (set table m []) (set table m []) n (elements new) joined.0 (place new) joined.1 refl stands.elements_are stands.place_is), rw done_so told)
 
   pub splice_after_steps : true ≡ (not (nat_eq n m) && nat_le (length (elements old) + length (held_at table m)) 18446744073709551615) →
-      Stands old new (put_behind (elements old) (place old) (held_at table m)).0 (put_behind (elements old) (place old) (held_at table m)).1 → lines_of reply ≡ done ∷ [] →
+      Stands old new (put_after (elements old) (place old) (held_at table m)).0 (put_after (elements old) (place old) (held_at table m)).1 → lines_of reply ≡ done ∷ [] →
       LineRuns n table (set table m []) old new (SpliceAfter m) reply
   splice_after_steps fits stands told =
-      let run = splice_run (put_behind (elements old) (place old) (held_at table m)) fits stands told in
+      let run = splice_run (put_after (elements old) (place old) (held_at table m)) fits stands told in
       let held = put_back table n (elements old) within in
       let other = get_or-set_other table n m (elements old) [] (not_the_other n m _ (sym fits)) in
       record { same_reference = stands.same_reference; state_is = rw (held, other) (rw (held, other) at run.0); told = rw (held, other) (rw (held, other) at run.1) }

@@ -9,7 +9,7 @@ use Rattle.cordyceps_list.specs.Filter.{RemovesFirst}
 use Rattle.cordyceps_tables.proofs.Places.{past_end}
 use Rattle.cordyceps_commands.specs.declared.item.Item.{Item}
 use Rattle.cordyceps_commands.specs.declared.list_command.Filter.{Filter}
-use Rattle.cordyceps_tables.specs.Filters.{passes, skipped, turn_behind, passing, all_but, drained}
+use Rattle.cordyceps_tables.specs.Filters.{passes, skipped, turn_after, passing, all_but, drained}
 
 value_at : (s : Elements Item) (k : ℕ) (e : Element Item) → slice_get s k ≡ Some e → slice_get (values s) k ≡ Some e.value
 value_at s k e is = slice_get-map (λ (x : Element Item). x.value) s k ∙ rw is refl
@@ -33,7 +33,7 @@ drained_none filter (suc n) turn s k is = rw (no_value_at s (passing filter turn
 
 drained_more : (filter : Filter) (n : ℕ) (turn : Bool) (s : Elements Item) (k : ℕ) (e : Element Item) → slice_get s (passing filter turn s k) ≡ Some e →
     let at = passing filter turn s k in
-    let more = drained filter n (turn_behind filter turn (drop k (values s))) (all_but s at) at in
+    let more = drained filter n (turn_after filter turn (drop k (values s))) (all_but s at) at in
     drained filter (suc n) turn s k ≡ (e.value ∷ more.0, more.1)
 drained_more filter n turn s k e is = rw (value_at s (passing filter turn s k) e is) refl
 
@@ -44,7 +44,7 @@ pub record Asks (R : Filter × Bool → Item → Bool → Filter × Bool → Typ
   pub turns : (f h : Filter × Bool) (x : Item) (b : Bool) → R f x b h → h.1 ≡ not f.1
 
 module _ (R : Filter × Bool → Item → Bool → Filter × Bool → Type 0) (asks : Asks R) where
-  walked_over : (f g : Filter × Bool) (xs : List Item) (n : ℕ) → Walks R f xs n g → (n ≡ skipped f.0 f.1 xs) × (g.0 ≡ f.0) × (g.1 ≡ turn_behind f.0 f.1 xs)
+  walked_over : (f g : Filter × Bool) (xs : List Item) (n : ℕ) → Walks R f xs n g → (n ≡ skipped f.0 f.1 xs) × (g.0 ≡ f.0) × (g.1 ≡ turn_after f.0 f.1 xs)
   walked_over f g [] n (none, same) = (none, ap (λ (p : Filter × Bool). p.0) same, ap (λ (p : Filter × Bool). p.1) same)
   walked_over f g (x ∷ xs) n (true, h, called, (none, same)) =
       let is = asks.answers f h x true called in
@@ -57,7 +57,7 @@ module _ (R : Filter × Bool → Item → Bool → Filter × Bool → Type 0) (a
       let turned = asks.turns f h x false called in
       let later = walked_over h g xs m walks in
       let count : m ≡ skipped f.0 (not f.1) xs = rw (kept, turned) at later.0 in
-      let last : g.1 ≡ turn_behind f.0 (not f.1) xs = rw (kept, turned) at later.2 in
+      let last : g.1 ≡ turn_after f.0 (not f.1) xs = rw (kept, turned) at later.2 in
       (rw (← is) (more ∙ ap (λ (i : ℕ). i + 1) count), later.1 ∙ kept, rw (← is) last)
 
   module _ {H : Type 0} (element : H → Element Item) where
@@ -74,7 +74,7 @@ module _ (R : Filter × Bool → Item → Bool → Filter × Bool → Type 0) (a
     takes_more s t k j i n f g filter h item items all removes own is below told kept =
         let place : j ≡ passing filter f.1 s k = rw own at (place_of s t k j f g (Some h) removes) in
         let over = walked_over f g (drop k (values s)) (j - k) removes.walks in
-        let turn : g.1 ≡ turn_behind filter f.1 (drop k (values s)) = rw own at over.2 in
+        let turn : g.1 ≡ turn_after filter f.1 (drop k (values s)) = rw own at over.2 in
         let at : slice_get s j ≡ Some (element h) = sym removes.answer in
         let there : slice_get s (passing filter f.1 s k) ≡ Some (element h) = rw (← place) at in
         let one = drained_more filter (n - (i + 1)) f.1 s k (element h) there in

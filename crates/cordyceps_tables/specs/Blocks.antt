@@ -37,8 +37,8 @@ abbrev pub removed : Elements Item → ℕ → Spot × Line
 removed s at = ((all_but s at, at), found_or_nothing (slice_get (values s) at))
 
 -- more elements behind the cursor's, at the null place first
-abbrev pub put_behind : Elements Item → ℕ → Elements Item → Spot
-put_behind s k more =
+abbrev pub put_after : Elements Item → ℕ → Elements Item → Spot
+put_after s k more =
     if nat_lt k (length s) then (take (k + 1) s ++ more ++ drop (k + 1) s, k) else (more ++ s, k + length more)
 
 -- more elements before the cursor's, at the null place last
@@ -49,8 +49,8 @@ put_before s k more = (take k s ++ more ++ drop k s, k + length more)
 abbrev pub inserted : Elements Item → ℕ → Spot → Spot × Line
 inserted s k more = if nat_lt (length s) 18446744073709551615 then (more, done) else ((s, k), not_there)
 
-abbrev pub inserted_behind : Elements Item → ℕ → Element Item → Spot × Line
-inserted_behind s k e = inserted s k (put_behind s k (e ∷ []))
+abbrev pub inserted_after : Elements Item → ℕ → Element Item → Spot × Line
+inserted_after s k e = inserted s k (put_after s k (e ∷ []))
 
 abbrev pub inserted_before : Elements Item → ℕ → Element Item → Spot × Line
 inserted_before s k e = inserted s k (put_before s k (e ∷ []))
@@ -72,7 +72,7 @@ line_on s k (lines.SetPrev value) =
 line_on s k lines.Next = ((s, if nat_lt k (length s) then k + 1 else k), found_or_nothing (slice_get (values s) k))
 line_on s k lines.RemoveCurrent = removed s k
 line_on s k (lines.RemoveFirst filter) = removed s (passing filter true s k)
-line_on s k (lines.InsertAfter item) = inserted_behind s k (element_of item)
+line_on s k (lines.InsertAfter item) = inserted_after s k (element_of item)
 line_on s k (lines.InsertBefore item) = inserted_before s k (element_of item)
 line_on s k lines.End = ((s, k), done)
 line_on s k line = ((s, k), not_there)
@@ -91,8 +91,8 @@ abbrev pub State : Type 0
 State = Table × ℕ
 
 -- what a split behind the cursor's element keeps, with the cursor's place, and what goes; from the null place all goes
-abbrev pub cut_behind : Elements Item → ℕ → Spot × Elements Item
-cut_behind s k = if nat_lt k (length s) then ((take (k + 1) s, k), drop (k + 1) s) else (([], 0), s)
+abbrev pub cut_after : Elements Item → ℕ → Spot × Elements Item
+cut_after s k = if nat_lt k (length s) then ((take (k + 1) s, k), drop (k + 1) s) else (([], 0), s)
 
 -- what a split before the cursor's element keeps, with the cursor's place, and what goes
 abbrev pub cut_before : Elements Item → ℕ → Spot × Elements Item
@@ -114,10 +114,10 @@ splice_from (table, k) list other joined =
 
 -- the table and the cursor's place after a line of a block on the list with a number, and the reply
 abbrev pub line_step : ℕ → State → CursorCommand → State × Line
-line_step list (table, k) (lines.SplitAfter other) = split_to (table, k) list other (cut_behind (held_at table list) k)
+line_step list (table, k) (lines.SplitAfter other) = split_to (table, k) list other (cut_after (held_at table list) k)
 line_step list (table, k) (lines.SplitBefore other) = split_to (table, k) list other (cut_before (held_at table list) k)
 line_step list (table, k) (lines.SpliceAfter other) =
-    splice_from (table, k) list other (put_behind (held_at table list) k (held_at table other))
+    splice_from (table, k) list other (put_after (held_at table list) k (held_at table other))
 line_step list (table, k) (lines.SpliceBefore other) =
     splice_from (table, k) list other (put_before (held_at table list) k (held_at table other))
 line_step list (table, k) line =

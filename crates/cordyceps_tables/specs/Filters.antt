@@ -19,10 +19,10 @@ skipped filter turn [] = 0
 skipped filter turn (item ∷ items) = if passes filter turn item then 0 else skipped filter (not turn) items + 1
 
 -- the turn behind that item
-abbrev pub turn_behind : Filter → Bool → List Item → Bool
-turn_behind filter turn [] = turn
-turn_behind filter turn (item ∷ items) =
-    if passes filter turn item then not turn else turn_behind filter (not turn) items
+abbrev pub turn_after : Filter → Bool → List Item → Bool
+turn_after filter turn [] = turn
+turn_after filter turn (item ∷ items) =
+    if passes filter turn item then not turn else turn_after filter (not turn) items
 
 -- the place of the first element, from a place on, that passes, or the length
 abbrev pub passing : Filter → Bool → Elements Item → ℕ → ℕ
@@ -37,5 +37,5 @@ abbrev pub drained : Filter → ℕ → Bool → Elements Item → ℕ → List 
 drained filter zero turn s k = ([], s)
 drained filter (suc n) turn s k =
     let at = passing filter turn s k in
-    let more = drained filter n (turn_behind filter turn (drop k (values s))) (all_but s at) at in
+    let more = drained filter n (turn_after filter turn (drop k (values s))) (all_but s at) at in
     option_map_or (λ item. (item ∷ more.0, more.1)) (slice_get (values s) at) ([], s)

@@ -8,7 +8,7 @@ use Rattle.cordyceps.specs.Elements.Element.{Element, values}
 use Rattle.cordyceps.specs.Elements.Nodes.{Nodes, elements, spots, with_item}
 use Rattle.cordyceps.specs.Spots.Spots.{index_of}
 use Rattle.cordyceps.proofs.Spots.{same_ptr_refl}
-use Rattle.cordyceps.specs.Spots.Agreeing.{Lies, Agrees, IsUpdated}
+use Rattle.cordyceps.specs.Spots.Agreeing.{HasElementAt, Agrees, IsUpdated}
 use Rattle.cordyceps.proofs.Spots.Agreeing.{removes_key, keys_differ}
 use Rattle.cordyceps.proofs.Spots.Holding.{lies_spot, front_lies, taken_gone}
 use Rattle.cordyceps_uses.specs.declared.recency.Entry.{Entry}
@@ -23,7 +23,7 @@ module _ {V : Type 0} where
 
   -- no element has the number k
   abbrev Lacks : ℕ → Nodes (Entry V) → Type 0
-  Lacks k c = (q : Ptr) (e : Element (Entry V)) → Lies c q e → e.id ≡ k → ⊥
+  Lacks k c = (q : Ptr) (e : Element (Entry V)) → HasElementAt c q e → e.id ≡ k → ⊥
 
   lacks_rest : (k : ℕ) (n : Ptr × Element (Entry V)) (c : Nodes (Entry V)) → Lacks k (n ∷ c) → Lacks k c
   lacks_rest k n c none q e (b, a, is) = none q e (n ∷ b, a, ap (λ s. n ∷ s) is)
@@ -55,7 +55,7 @@ module _ {V : Type 0} where
   lacks_before : (f : ℕ → Option Ptr) (k : ℕ) (b a : Nodes (Entry V)) (p : Ptr) (e : Element (Entry V)) → Agrees f (b ++ (p, e) ∷ a) → e.id ≡ k → Lacks k b
   lacks_before f k b a p e was key q o lies same =
       let at : q ≡ p = keys_differ f (b ++ (p, e) ∷ a) was q p o e (front_lies b ((p, e) ∷ a) q o lies) (b, a, refl) (same ∙ sym key) in
-      taken_gone (b ++ (p, e) ∷ a) (b ++ a) p e was.apart (b, a, refl, refl) (lies_spot (b ++ a) p o (subst (λ s. Lies (b ++ a) s o) at (front_lies b a q o lies)))
+      taken_gone (b ++ (p, e) ∷ a) (b ++ a) p e was.distinct (b, a, refl, refl) (lies_spot (b ++ a) p o (subst (λ s. HasElementAt (b ++ a) s o) at (front_lies b a q o lies)))
 
 -- ---- a key that the map finds nowhere
 module _ {V : Type 0} (f : ℕ → Option Ptr) (k : ℕ) (c : Nodes (Entry V)) (was : Agrees f c) (none : f k ≡ None) where
@@ -80,7 +80,7 @@ same_agrees f g c was same =
     record {
       mapped = λ q p at. was.mapped q p (sym (same q) ∙ at);
       listed = λ q e lies. same e.id ∙ was.listed q e lies;
-      apart = was.apart;
+      distinct = was.distinct;
     }
 
 -- taking out a key that the map does not find

@@ -9,7 +9,7 @@ use Rattle.std.proofs.lemmas.Nat.{mod_below}
 use denote.RawPtr.{Ptr}
 use Rattle.cordyceps.specs.Elements.Element.{Element}
 use Rattle.cordyceps.specs.Elements.Nodes.{Nodes, elements, spots}
-use Rattle.cordyceps.specs.Spots.Agreeing.{Lies}
+use Rattle.cordyceps.specs.Spots.Agreeing.{HasElementAt}
 use Rattle.cordyceps.proofs.Spots.Holding.{lies_spot}
 use Rattle.cordyceps_uses.specs.declared.timer_wheel.Timer.{Timer}
 use Rattle.cordyceps_uses.specs.TimerWheel.{Dial, dial, waiting, with_waiting, Ahead, IsGood, IsInPlace}
@@ -24,9 +24,9 @@ same_tick n t d ahead within same =
       | inr less ↦ let most = mul-le-mul_left n less in omega (arith, of_t, of_d, same, ahead, most)
     ]
 
-nowhere : {X : Type 0} (q : Ptr) (e : Element X) → Lies [] q e → ⊥
-nowhere q e ([], a, is) = cc
-nowhere q e (x ∷ b, a, is) = cc
+null : {X : Type 0} (q : Ptr) (e : Element X) → HasElementAt [] q e → ⊥
+null q e ([], a, is) = cc
+null q e (x ∷ b, a, is) = cc
 
 each_same : {X : Type 0} (x : X) (n s : ℕ) → get_or (replicate n x) s x ≡ x
 each_same x zero s = refl
@@ -34,11 +34,11 @@ each_same x (suc n) zero = refl
 each_same x (suc n) (suc s) = each_same x n s
 
 pub empty_in_place : {P : Type 0} (n t : ℕ) (slots : List (Nodes (Timer P))) → slots ≡ replicate n [] → IsInPlace (dial t slots)
-empty_in_place n t slots is s q e lies = absurd (nowhere q e (subst (λ l. Lies l q e) (ap (λ l. get_or l s []) is ∙ each_same [] n s) lies))
+empty_in_place n t slots is s q e lies = absurd (null q e (subst (λ l. HasElementAt l q e) (ap (λ l. get_or l s []) is ∙ each_same [] n s) lies))
 
 module _ {P : Type 0} (w : Dial P) (some : 0 < length w.slots) (was : IsInPlace w) where
   -- others were put into the slot of d, each of which lay there or is due at d
-  pub in_place : (d : ℕ) (c : Nodes (Timer P)) → ((q : Ptr) (e : Element (Timer P)) → Lies c q e → Lies (waiting d w) q e ⊎ ((e.id ≡ d) × Ahead d w)) → IsInPlace (with_waiting d c w)
+  pub in_place : (d : ℕ) (c : Nodes (Timer P)) → ((q : Ptr) (e : Element (Timer P)) → HasElementAt c q e → HasElementAt (waiting d w) q e ⊎ ((e.id ≡ d) × Ahead d w)) → IsInPlace (with_waiting d c w)
   in_place d c from s q e lies = (elim (eqb s (d % length w.slots)) as (λ b. eqb s (d % length w.slots) ≡ b → (e.id % length (set w.slots (d % length w.slots) c) ≡ s) × Ahead e.id (with_waiting d c w)) [
     | true ↦ λ here. put (here_of here)
     | false ↦ λ unlike. other (λ is. absurd (differ unlike is))
@@ -61,13 +61,13 @@ module _ {P : Type 0} (w : Dial P) (some : 0 < length w.slots) (was : IsInPlace 
     put : s ≡ slot → (e.id % length (set w.slots slot c) ≡ s) × Ahead e.id (with_waiting d c w)
     put is =
         let there = ap (λ k. get_or (set w.slots slot c) k []) is ∙ get_or-set_same w.slots slot c [] (mod_below d (length w.slots) some) in
-        elim (from q e (subst (λ l. Lies l q e) there lies)) as (λ _. (e.id % length (set w.slots slot c) ≡ s) × Ahead e.id (with_waiting d c w)) [
+        elim (from q e (subst (λ l. HasElementAt l q e) there lies)) as (λ _. (e.id % length (set w.slots slot c) ≡ s) × Ahead e.id (with_waiting d c w)) [
           | inl old ↦ let on = was slot q e old in ends (on.0 ∙ sym is, on.1)
           | inr due ↦ ends (ap (λ n. n % length w.slots) due.0 ∙ sym is, subst (λ n. Ahead n w) (sym due.0) due.1)
         ]
 
     other : (s ≢ slot) → (e.id % length (set w.slots slot c) ≡ s) × Ahead e.id (with_waiting d c w)
-    other elsewhere = ends (was s q e (subst (λ l. Lies l q e) (get_or-set_other w.slots slot s c [] elsewhere) lies))
+    other elsewhere = ends (was s q e (subst (λ l. HasElementAt l q e) (get_or-set_other w.slots slot s c [] elsewhere) lies))
 
   -- those that are due now were given out, and the time went on
   pub ticked : IsInPlace (dial (w.time + 1) (with_waiting w.time [] w).slots)
@@ -76,13 +76,13 @@ module _ {P : Type 0} (w : Dial P) (some : 0 < length w.slots) (was : IsInPlace 
     slot = w.time % length w.slots
 
     ends : (e.id % length (set w.slots slot []) ≡ s) × Ahead e.id (with_waiting w.time [] w)
-    ends = in_place w.time [] (λ r o none. absurd (nowhere r o none)) s q e lies
+    ends = in_place w.time [] (λ r o none. absurd (null r o none)) s q e lies
 
     gone : e.id ≡ w.time → ⊥
     gone is =
         let at : s ≡ slot = sym ends.0 ∙ (λ i. is i % length-set w.slots slot [] i) in
         let there = ap (λ k. get_or (set w.slots slot []) k []) at ∙ get_or-set_same w.slots slot [] [] (mod_below w.time (length w.slots) some) in
-        nowhere q e (subst (λ l. Lies l q e) there lies)
+        null q e (subst (λ l. HasElementAt l q e) there lies)
 
     later : w.time + 1 ≤ e.id
     later = elim (eq-or-lt_of_le ends.1.0) as (λ _. w.time + 1 ≤ e.id) [
@@ -91,7 +91,7 @@ module _ {P : Type 0} (w : Dial P) (some : 0 < length w.slots) (was : IsInPlace 
     ]
 
 -- after others were put into a slot, as the code writes it
-pub put_in_place : {P : Type 0} (t slot d : ℕ) (slots : List (Nodes (Timer P))) (c : Nodes (Timer P)) → slot ≡ d % length slots → (0 < length slots) × IsInPlace (dial t slots) → ((q : Ptr) (e : Element (Timer P)) → Lies c q e → Lies (waiting d (dial t slots)) q e ⊎ ((e.id ≡ d) × Ahead d (dial t slots))) → (0 < length (set slots slot c)) × IsInPlace (dial t (set slots slot c))
+pub put_in_place : {P : Type 0} (t slot d : ℕ) (slots : List (Nodes (Timer P))) (c : Nodes (Timer P)) → slot ≡ d % length slots → (0 < length slots) × IsInPlace (dial t slots) → ((q : Ptr) (e : Element (Timer P)) → HasElementAt c q e → HasElementAt (waiting d (dial t slots)) q e ⊎ ((e.id ≡ d) × Ahead d (dial t slots))) → (0 < length (set slots slot c)) × IsInPlace (dial t (set slots slot c))
 put_in_place t slot d slots c is was from = (
   omega (arith, was.0, length-set slots slot c),
   subst (λ k. IsInPlace (dial t (set slots k c))) (sym is) (in_place (dial t slots) was.0 was.1 d c from),
@@ -108,7 +108,7 @@ tick_in_place t slot slots is was = (
 pub put_seen : {P : Type 0} (w : Dial P) (t slot d : ℕ) (slots : List (Nodes (Timer P))) (c : Nodes (Timer P)) → slot ≡ d % length slots → dial t slots ≡ w → dial t (set slots slot c) ≡ with_waiting d c w
 put_seen w t slot d slots c is seen = ap (λ k. dial t (set slots k c)) is ∙ ap (with_waiting d c) seen
 
-pub only_lies : {X : Type 0} (p q : Ptr) (o e : Element X) → Lies ((p, o) ∷ []) q e → e ≡ o
+pub only_lies : {X : Type 0} (p q : Ptr) (o e : Element X) → HasElementAt ((p, o) ∷ []) q e → e ≡ o
 only_lies {X} p q o e ([], a, is) = sym (ap (λ (s : Nodes X). (get_or s 0 (p, o)).1) is)
 only_lies p q o e (x ∷ [], a, is) = cc
 only_lies p q o e (x ∷ y ∷ b, a, is) = cc
@@ -119,7 +119,7 @@ at_slot t slot d slots c is some at =
     let within : slot < length slots = subst (λ k. k < length slots) (sym is) (mod_below d (length slots) some) in
     ap (λ k. get_or slots k []) (sym is) ∙ get_or_default slots slot [] c within ∙ sym at
 
-lies_at : {X : Type 0} (c : Nodes X) (k : ℕ) (d : Ptr × Element X) → k < length c → Lies c (get_or c k d).0 (get_or c k d).1
+lies_at : {X : Type 0} (c : Nodes X) (k : ℕ) (d : Ptr × Element X) → k < length c → HasElementAt c (get_or c k d).0 (get_or c k d).1
 lies_at [] k d within = absurd (omega (arith, within))
 lies_at (x ∷ c) zero d within = ([], c, refl)
 lies_at (x ∷ c) (suc k) d within = let (b, a, is) = lies_at c k d (omega (arith, within)) in (x ∷ b, a, ap (λ s. x ∷ s) is)

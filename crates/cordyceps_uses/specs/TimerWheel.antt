@@ -4,7 +4,7 @@ use denote.RawPtr.{Ptr}
 use Rattle.cordyceps.specs.Spots.BySpot.{HasSpot}
 use Rattle.cordyceps.specs.Elements.Element.{Element}
 use Rattle.cordyceps.specs.Elements.Nodes.{Nodes}
-use Rattle.cordyceps.specs.Spots.Agreeing.{Lies}
+use Rattle.cordyceps.specs.Spots.Agreeing.{HasElementAt}
 use Rattle.cordyceps_uses.specs.declared.timer_wheel.Timer.{Timer}
 
 -- what a contract sees of a wheel
@@ -35,5 +35,5 @@ module _ {P : Type 0} where
   -- each timer is in the slot of its deadline, which is ahead
   abbrev pub IsInPlace : Dial P → Type 0
   IsInPlace w =
-      (s : ℕ) (q : Ptr) (e : Element (Timer P)) → Lies (slice_index_or w.slots s []) q e → (e.id % length w.slots ≡ s)
+      (s : ℕ) (q : Ptr) (e : Element (Timer P)) → HasElementAt (slice_index_or w.slots s []) q e → (e.id % length w.slots ≡ s)
       × Ahead e.id w

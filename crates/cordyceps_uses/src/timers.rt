@@ -3,7 +3,7 @@ ghost use Rattle.std.specs.Prelude.{◌≡◌, ◌≤◌, ◌<◌, ℕ, [], ◌�
 ghost use denote.RawPtr.{Ptr};
 ghost use Rattle.cordyceps.specs.Elements.Nodes.{spots};
 ghost use Rattle.cordyceps.specs.Spots.BySpot.{HasSpot, IsTaken};
-ghost use Rattle.cordyceps.specs.Spots.Spots.{AreApart};
+ghost use Rattle.cordyceps.specs.Spots.Spots.{AreDistinct};
 ghost use Rattle.cordyceps_uses.specs.Timers.{started, new_timer, due};
 
 use cordyceps::list::Links;
@@ -49,7 +49,7 @@ pub struct Timers<P> {
 
 impl<P> Model for Timers<P> {
     ghost use Rattle.cordyceps.specs.Elements.Nodes.{Nodes, spots};
-    ghost use Rattle.cordyceps.specs.Spots.Spots.{AreApart};
+    ghost use Rattle.cordyceps.specs.Spots.Spots.{AreDistinct};
     ghost use Rattle.cordyceps_uses.specs.declared.timers.Timer.{Timer};
     ghost use Rattle.cordyceps_uses.specs.Timers.{InOrder};
 
@@ -57,7 +57,7 @@ impl<P> Model for Timers<P> {
 
     ghost view = { λ t. t.list.nodes };
 
-    ghost invariant = { λ t. InOrder t.list.nodes × AreApart (spots t.list.nodes) };
+    ghost invariant = { λ t. InOrder t.list.nodes × AreDistinct (spots t.list.nodes) };
 }
 
 impl<P: Drop> Timers<P> {
@@ -82,7 +82,7 @@ impl<P: Drop> Timers<P> {
         ensures started { IfOk result (λ spot. self.new ≡ started spot (new_timer deadline payload) self.old) }
         ensures kept { OnErr result (self.new ≡ self.old) }
         ensures returned { IfErr result (λ e. e.value ≡ payload) }
-        ensures apart { OnOk result (AreApart (spots self.new)) }
+        ensures distinct { OnOk result (AreDistinct (spots self.new)) }
     {
         let node = match Node::new(alloc, deadline, Timer { deadline, payload }) {
             Ok(node) => node,
@@ -113,7 +113,7 @@ impl<P: Drop> Timers<P> {
         ensures succeeds { length self.old < usize.MAX → IsOk result }
         ensures kept { OnErr result (self.new ≡ self.old) }
         ensures returned { IfErr result (λ back. back ≡ timer) }
-        ensures apart { OnOk result (AreApart (spots self.new)) }
+        ensures distinct { OnOk result (AreDistinct (spots self.new)) }
     {
         if self.list.len() == usize::MAX {
             return Err(timer);
@@ -125,7 +125,7 @@ impl<P: Drop> Timers<P> {
     pub fn cancel(&mut self, spot: Spot) -> Stopped<P>
         requires { HasSpot self.old spot }
         ensures taken { IsTaken self.old spot result self.new }
-        ensures apart { AreApart (spots self.new) }
+        ensures distinct { AreDistinct (spots self.new) }
     {
         self.list.remove(spot)
     }
@@ -136,7 +136,7 @@ impl<P: Drop> Timers<P> {
         ensures stopped { MatchOption result
             ((self.new ≡ self.old) × (due now self.old ≡ []))
             (λ t. (spot : Ptr) × (self.old ≡ (spot, t) ∷ self.new) × (t.value.deadline ≤ now)) }
-        ensures apart { AreApart (spots self.new) }
+        ensures distinct { AreDistinct (spots self.new) }
     {
         let first = self.list.iter().next()?;
         if first.deadline > now {
@@ -152,7 +152,7 @@ impl<P: Drop> Timers<P> {
             ((self.new ≡ self.old) × (due now self.old ≡ []))
             (λ t. (spot : Ptr) × (id : ℕ) × (self.old ≡ (spot, record { id = id; value = t }) ∷ self.new)
             × (t.deadline ≤ now)) }
-        ensures apart { AreApart (spots self.new) }
+        ensures distinct { AreDistinct (spots self.new) }
     {
         match self.stop_due(now) {
             Some(node) => Some(node.into_value()),

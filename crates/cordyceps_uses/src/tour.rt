@@ -3,7 +3,7 @@ ghost use Rattle.std.specs.Prelude.{◌≡◌, ◌+◌, ◌<◌, [], ◌∷◌, 
 ghost use denote.RawPtr.{Ptr};
 ghost use Rattle.cordyceps.specs.Elements.Nodes.{spots};
 ghost use Rattle.cordyceps.specs.Orders.Arrangement.{IsEarliestLeast};
-ghost use Rattle.cordyceps.specs.Spots.Spots.{AreApart};
+ghost use Rattle.cordyceps.specs.Spots.Spots.{AreDistinct};
 ghost use Rattle.cordyceps_uses.specs.Ranks.{comes_before};
 
 use crate::job::Job;
@@ -52,10 +52,10 @@ pub fn rotate(jobs: &mut List<Job>)
 
 /// Takes the job with the least rank out, and of equals the first. The others stay.
 pub fn take_least(jobs: &mut StableList<Job>) -> Option<ListJob>
-    requires { AreApart (spots jobs.old) }
+    requires { AreDistinct (spots jobs.old) }
     ensures least { MatchOption result ((jobs.old ≡ []) × (jobs.new ≡ []))
         (λ job. (spot : Ptr) × IsEarliestLeast comes_before jobs.old (spot, job) jobs.new) }
-    ensures apart { AreApart (spots jobs.new) }
+    ensures distinct { AreDistinct (spots jobs.new) }
 {
     let mut cursor = jobs.cursor_front();
     // the spot of the best job that the cursor has passed

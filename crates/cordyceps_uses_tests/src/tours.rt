@@ -1,7 +1,7 @@
 //! A few lines with each collection, and what they answer.
 ghost use Rattle.std.specs.Prelude.{IfOk};
 ghost use Rattle.cordyceps.specs.Elements.Nodes.{spots};
-ghost use Rattle.cordyceps.specs.Spots.Spots.{AreApart};
+ghost use Rattle.cordyceps.specs.Spots.Spots.{AreDistinct};
 
 use crate::compared::same;
 use cordyceps::list::Links as ListLinks;
@@ -59,7 +59,7 @@ fn lists(rt: HostRuntime) -> Result<(), AllocError> {
 
 /// A stable list of jobs with these ranks, which are numbered from 1 on.
 fn ranked(alloc: Global, ranks: &[u32]) -> Result<StableList<Job>, AllocError>
-    ensures { IfOk result (λ jobs. AreApart (spots jobs)) }
+    ensures { IfOk result (λ jobs. AreDistinct (spots jobs)) }
 {
     let mut jobs: StableList<Job> = StableList::new();
     let mut number = 0u64;
@@ -75,8 +75,8 @@ fn ranked(alloc: Global, ranks: &[u32]) -> Result<StableList<Job>, AllocError>
 
 /// Compares the number of the job that is taken with the one that is wanted.
 fn takes(rt: &impl Abort, jobs: &mut StableList<Job>, wanted: Option<u64>)
-    requires { AreApart (spots jobs.old) }
-    ensures { AreApart (spots jobs.new) }
+    requires { AreDistinct (spots jobs.old) }
+    ensures { AreDistinct (spots jobs.new) }
 {
     same(rt, number(take_least(jobs)), wanted);
 }

@@ -5,11 +5,11 @@ ghost use Rattle.std.specs.Borrow.{sem};
 ghost use Rattle.cordyceps_base.specs.BySpot.{HasSpot, HoldsAt, IsTaken, IsPutBefore, IsPutAfter, IsMovedFront, IsMovedBack, IsFirst, IsLast, AreNext};
 ghost use Rattle.cordyceps_base.specs.Element.{values};
 ghost use Rattle.cordyceps_base.specs.Nodes.{block_element, elements, spots};
-ghost use Rattle.cordyceps_base.specs.Spots.{index_of, AreApart};
+ghost use Rattle.cordyceps_base.specs.Spots.{index_of, AreDistinct};
 
 use super::DoubleChain;
 use crate::boxes::Address;
-use crate::double_row::{Row, behind, between, followed_by, node_of};
+use crate::double_row::{Row, between, followed_by, node_of, preceded_by};
 use crate::list::Links;
 use crate::node::{Block, Node};
 use std::alloc::Global;
@@ -18,8 +18,8 @@ impl<T> DoubleChain<T> {
     ghost use Rattle.cordyceps_base.specs.DoubleChainLends.{lends_item};
 
     /// Returns the same nodes. Its contract states that their addresses are distinct.
-    pub fn apart(self) -> DoubleChain<T>
-        ensures { (result ≡ self) × AreApart (spots self) }
+    pub fn distinct(self) -> DoubleChain<T>
+        ensures { (result ≡ self) × AreDistinct (spots self) }
     {
         let DoubleChain {
             head,
@@ -31,15 +31,15 @@ impl<T> DoubleChain<T> {
             head,
             tail,
             len,
-            boxes: boxes.apart(),
+            boxes: boxes.distinct(),
         }
     }
 
     /// Changes nothing. Its contract states that the addresses of the nodes are distinct.
-    pub fn keep_apart(&mut self)
-        ensures { (self.new ≡ self.old) × AreApart (spots self.new) }
+    pub fn keep_distinct(&mut self)
+        ensures { (self.new ≡ self.old) × AreDistinct (spots self.new) }
     {
-        let differing = self.take().apart();
+        let differing = self.take().distinct();
         self.put(differing);
     }
 
@@ -63,11 +63,7 @@ impl<T> DoubleChain<T> {
         ensures { MatchOption result (IsLast self.now at.ptr) (λ p. AreNext self.now at.ptr p.ptr) }
     {
         let next = self.boxes.from_address(at).get(at, 0).links.next;
-        if next.is_somewhere() {
-            Some(next)
-        } else {
-            None
-        }
+        if next.is_not_null() { Some(next) } else { None }
     }
 
     /// Returns the address of the node before the one at `at`, or `None` if that is the first.
@@ -76,11 +72,7 @@ impl<T> DoubleChain<T> {
         ensures { MatchOption result (IsFirst self.now at.ptr) (λ p. AreNext self.now p.ptr at.ptr) }
     {
         let prev = self.boxes.from_address(at).get(at, 0).links.prev;
-        if prev.is_somewhere() {
-            Some(prev)
-        } else {
-            None
-        }
+        if prev.is_not_null() { Some(prev) } else { None }
     }
 
     /// Returns a reference to the value at an address.
@@ -120,12 +112,12 @@ impl<T> DoubleChain<T> {
         let prev = back.get(at, 0).links.prev;
         let (one, rest) = back.cut(1);
         let (head, front) = followed_by(front, head, prev, next);
-        let (tail, rest) = behind(rest, next, tail, prev);
+        let (tail, rest) = preceded_by(rest, next, tail, prev);
         let left = DoubleChain {
             head,
             tail,
             len: len - 1,
-            boxes: front.join(rest).tested(),
+            boxes: front.join(rest).null_comparable(),
         };
         (left, one)
     }
@@ -154,12 +146,12 @@ impl<T: Drop> DoubleChain<T> {
     pub fn link_first(&mut self, node: Node<T, Links<T>>) -> Address
         requires { length self.old + 1 < 2 ^ 64 }
         ensures holds { self.new ≡ (result.ptr, node) ∷ self.old }
-        ensures apart { AreApart (spots self.new) }
+        ensures distinct { AreDistinct (spots self.new) }
     {
         let rest = self.take();
         let one = DoubleChain::one(node);
         let at = one.head();
-        self.put(one.join(rest).apart());
+        self.put(one.join(rest).distinct());
         at
     }
 
@@ -167,12 +159,12 @@ impl<T: Drop> DoubleChain<T> {
     pub fn link_last(&mut self, node: Node<T, Links<T>>) -> Address
         requires { length self.old + 1 < 2 ^ 64 }
         ensures holds { self.new ≡ self.old ++ (result.ptr, node) ∷ [] }
-        ensures apart { AreApart (spots self.new) }
+        ensures distinct { AreDistinct (spots self.new) }
     {
         let rest = self.take();
         let one = DoubleChain::one(node);
         let at = one.head();
-        self.put(rest.join(one).apart());
+        self.put(rest.join(one).distinct());
         at
     }
 
@@ -195,7 +187,7 @@ impl<T: Drop> DoubleChain<T> {
             head,
             tail,
             len: len + 1,
-            boxes: boxes.tested(),
+            boxes: boxes.null_comparable(),
         };
         (whole, new)
     }
@@ -221,7 +213,7 @@ impl<T: Drop> DoubleChain<T> {
             head,
             tail,
             len: len + 1,
-            boxes: boxes.tested(),
+            boxes: boxes.null_comparable(),
         };
         (whole, new)
     }
@@ -231,10 +223,10 @@ impl<T: Drop> DoubleChain<T> {
         requires there { HasSpot self.old at.ptr }
         requires fits { length self.old + 1 < 2 ^ 64 }
         ensures holds { IsPutBefore self.old at.ptr result.ptr node self.new }
-        ensures apart { AreApart (spots self.new) }
+        ensures distinct { AreDistinct (spots self.new) }
     {
         let (nodes, new) = self.take().with_before(at, node);
-        self.put(nodes.apart());
+        self.put(nodes.distinct());
         new
     }
 
@@ -243,10 +235,10 @@ impl<T: Drop> DoubleChain<T> {
         requires there { HasSpot self.old at.ptr }
         requires fits { length self.old + 1 < 2 ^ 64 }
         ensures holds { IsPutAfter self.old at.ptr result.ptr node self.new }
-        ensures apart { AreApart (spots self.new) }
+        ensures distinct { AreDistinct (spots self.new) }
     {
         let (nodes, new) = self.take().with_after(at, node);
-        self.put(nodes.apart());
+        self.put(nodes.distinct());
         new
     }
 

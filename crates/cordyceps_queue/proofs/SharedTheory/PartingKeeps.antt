@@ -10,7 +10,7 @@ use Rattle.atomic_table.proofs.Lists.{at_longer, set_else}
 use Rattle.cordyceps_shared.specs.Words as word
 use Rattle.cordyceps_shared.specs.declared.layout.TheConstants.{HEAD, LINKS}
 use Rattle.cordyceps_shared.specs.Histories.{events}
-use Rattle.cordyceps_shared.specs.Knowing.{SharesApart}
+use Rattle.cordyceps_shared.specs.Knowing.{SharesDisjoint}
 use Rattle.cordyceps_shared.specs.Shares.{Name}
 use Rattle.cordyceps_shared.proofs.Changing.{one_set, two_set, set_more, was_there}
 use Rattle.cordyceps_shared.proofs.Cutting.{owned_cut, fits_cut}
@@ -145,7 +145,7 @@ module _ {E : Type 0} (s : TableState E) (k : RuleHolds s) (id n : ℕ) (v : Vie
   taken : (i r : ℕ) → ItemAt (take n v.free) i r → k.chain.owner r ≡ Spare id
   taken i r a = free_rooms.own i r (at_take n v.free i r a).0
 
-  cut_owned : SharesApart knows cut_views k.history
+  cut_owned : SharesDisjoint knows cut_views k.history
   cut_owned = owned_cut knows s.views k.history id v left_view right at refl refl named k.owned
 
   abbrev Gone_cut : Name → Type 0
@@ -242,7 +242,7 @@ module _ {E : Type 0} (s : TableState E) (k : RuleHolds s) (id other : ℕ) (v w
   second_rooms : OwnsRooms k.chain.owner other w.free
   second_rooms = subst (λ l. OwnsRooms k.chain.owner other (l ++ w.free)) bare_too (rooms_of s k other w there_first named_too)
 
-  joint_owned : SharesApart knows joint relabelled_history
+  joint_owned : SharesDisjoint knows joint relabelled_history
   joint_owned = owned_join knows s.views k.history id other v w (view_absorbing v w) view_absorbed at apart there refl refl named k.owned
 
   abbrev Gone_join : Name → Type 0

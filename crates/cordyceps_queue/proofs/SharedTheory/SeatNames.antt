@@ -8,7 +8,7 @@ use mathlib.Core.Option as maybe
 use native.Mathlib.Decide.{ℕ_discrete}
 use lib.ListN.{get_elem?, length-replicate}
 use Rattle.cordyceps_shared.specs.Histories.{events, plain}
-use Rattle.cordyceps_shared.specs.Knowing.{Foreign, SharesApart}
+use Rattle.cordyceps_shared.specs.Knowing.{Foreign, SharesDisjoint}
 use Rattle.cordyceps_shared.specs.Shares.{Name, covers, first_name, Clear, IsOf}
 use Rattle.cordyceps_shared.proofs.Counting.{tally_two, distinct_few}
 use Rattle.cordyceps_shared.proofs.Naming.{some_cover}
@@ -50,7 +50,7 @@ named_first (n ∷ ns) y not = some_cover n y ns
 pub name_known : (q n : Name) → Dec (q ≡ n)
 name_known q n = List-discrete Bool-discrete q n
 
-module _ {E : Type 0} (views : List (View E)) (h : History E) (o : SharesApart knows views h) where
+module _ {E : Type 0} (views : List (View E)) (h : History E) (o : SharesDisjoint knows views h) where
   -- two parties differ in the first names of their shares
   same_seat : (i j : ℕ) (u v : View E) → get_elem? views i ≡ some u → get_elem? views j ≡ some v → u.known.share ≢ [] → v.known.share ≢ [] → name u ≡ name v → i ≡ j
   same_seat i j u v at there named named_too same = elim (ℕ_discrete i j) [

@@ -8,7 +8,7 @@ use Rattle.atomic_table.specs.Table.{State}
 use Rattle.atomic_table.specs.Seated.{TableId}
 use Rattle.cordyceps_base.specs.declared.shared.TheConstants.{MAX_ROOMS}
 use Rattle.cordyceps_shared.specs.Histories.{events}
-use Rattle.cordyceps_shared.specs.Knowing.{SharesApart, AllAgree}
+use Rattle.cordyceps_shared.specs.Knowing.{SharesDisjoint, AllAgree}
 use Rattle.cordyceps_shared.specs.Shares.{Name}
 use Rattle.cordyceps_shared.specs.Words as word
 use Rattle.cordyceps_shared.specs.declared.layout.TheConstants.{LINKS}
@@ -91,7 +91,7 @@ module _ {E : Type 0} where
     pub empty : AllEmptyAtHome s.homes s.views
     pub ready : AllReady cell s.views
     pub fits : AllAgree actor knows s.views history
-    pub owned : SharesApart knows s.views history
+    pub owned : SharesDisjoint knows s.views history
 
 -- a link for each slot, behind the words before the links, and the stub's slot
 abbrev pub IsTable : TableId → Type 0

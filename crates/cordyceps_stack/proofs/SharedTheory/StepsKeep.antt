@@ -13,7 +13,7 @@ use Rattle.atomic_table.specs.Table as table
 use Rattle.atomic_table.proofs.Lists.{set_here, set_else}
 use Rattle.cordyceps_shared.specs.Counts.{one_if, times}
 use Rattle.cordyceps_shared.specs.Histories.{events, marked, plain, of_seat}
-use Rattle.cordyceps_shared.specs.Knowing.{Known, Under, SharesApart, AllAgree, all_seen}
+use Rattle.cordyceps_shared.specs.Knowing.{Known, Under, SharesDisjoint, AllAgree, all_seen}
 use Rattle.cordyceps_shared.specs.Shares.{Name}
 use Rattle.cordyceps_shared.specs.Words.{head}
 use Rattle.cordyceps_shared.specs.declared.layout.TheConstants.{HEAD, LINKS}
@@ -83,13 +83,13 @@ module _ {E : Type 0} where
   -- ---- what a step keeps
   -- the party j sees all, and adds these events
   told : (s : TableState E) (k : RuleHolds s) (j : ℕ) (es : List (Event Name E)) (v w : View E) (h : History E) → get_elem? s.views j ≡ some v → v.known.share ≢ [] → Under actor (name v) es → h ≡ k.history ++ of_seat j es
-      → w.known ≡ all_seen j h v.known.share → Legal (events h) → SharesApart knows (set s.views j w) h × AllAgree actor knows (set s.views j w) h × Sees v es w
+      → w.known ≡ all_seen j h v.known.share → Legal (events h) → SharesDisjoint knows (set s.views j w) h × AllAgree actor knows (set s.views j w) h × Sees v es w
   told s k j es v w h at named under is sees legal =
       let t = tells actor knows (λ z. Legal z) s.views k.history j es v w k.owned k.fits at named under (sees ∙ ap (λ z. all_seen j z v.known.share) is) (subst (λ z. Legal (events z)) is legal) in
-      (subst (SharesApart knows (set s.views j w)) (sym is) t.owned, subst (AllAgree actor knows (set s.views j w)) (sym is) t.fits, t.grown)
+      (subst (SharesDisjoint knows (set s.views j w)) (sym is) t.owned, subst (AllAgree actor knows (set s.views j w)) (sym is) t.fits, t.grown)
 
   -- the party j sees nothing
-  untold : (s : TableState E) (k : RuleHolds s) (j : ℕ) (v w : View E) → get_elem? s.views j ≡ some v → w.known ≡ v.known → SharesApart knows (set s.views j w) k.history × AllAgree actor knows (set s.views j w) k.history
+  untold : (s : TableState E) (k : RuleHolds s) (j : ℕ) (v w : View E) → get_elem? s.views j ≡ some v → w.known ≡ v.known → SharesDisjoint knows (set s.views j w) k.history × AllAgree actor knows (set s.views j w) k.history
   untold s k j v w at same = (
     owned_same knows s.views k.history j v w at (ap (λ (z : Known (Event Name E)). z.share) same) k.owned,
     fits_same actor knows s.views k.history j v w at (ap (λ (z : Known (Event Name E)). z.share) same) (ap (λ (z : Known (Event Name E)). z.seen) same) (ap (λ (z : Known (Event Name E)). z.had) same) (ap (λ (z : Known (Event Name E)). z.told) same) k.fits,
@@ -98,7 +98,7 @@ module _ {E : Type 0} where
   pub step_keeps : (s : TableState E) (k : RuleHolds s) (j : ℕ) (v w : View E) (words : List ℕ) (homes : Homes E) (chain : List (ℕ × E)) (h : History E) → get_elem? s.views j ≡ some v
       → WordsMeet words chain (set s.views j w) h → length words ≡ length s.words → length homes ≡ length s.homes → FullAtHome homes chain → EmptyAtHome homes w.free
       → ((i : ℕ) (u : View E) (r : ℕ) → i ≢ j → get_elem? s.views i ≡ some u → 1 ≤ times r u.free → get_elem? homes r ≡ get_elem? s.homes r)
-      → AllAgree actor knows (set s.views j w) h → SharesApart knows (set s.views j w) h
+      → AllAgree actor knows (set s.views j w) h → SharesDisjoint knows (set s.views j w) h
       → RuleHolds record { words = words; homes = homes; views = set s.views j w }
   step_keeps s k j v w words homes chain h at meets wide deep full empty same fits owned = record {
     history = h;

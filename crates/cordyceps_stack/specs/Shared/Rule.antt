@@ -5,7 +5,7 @@ use lib.ListN.{get_elem?}
 use Rattle.atomic_table.specs.Table.{State}
 use Rattle.atomic_table.specs.Seated.{TableId}
 use Rattle.cordyceps_base.specs.declared.shared.TheConstants.{MAX_ROOMS}
-use Rattle.cordyceps_shared.specs.Knowing.{SharesApart, AllAgree}
+use Rattle.cordyceps_shared.specs.Knowing.{SharesDisjoint, AllAgree}
 use Rattle.cordyceps_shared.specs.Slots.{Homes, full_slot, EmptyAtHome}
 use Rattle.cordyceps_shared.specs.declared.layout.TheConstants.{LINKS}
 use Rattle.cordyceps_shared.specs.declared.slots.Filled.{Filled}
@@ -31,7 +31,7 @@ module _ {E : Type 0} where
     pub full : FullAtHome s.homes chain
     pub empty : (j : ℕ) (v : View E) → get_elem? s.views j ≡ some v → EmptyAtHome s.homes v.free
     pub fits : AllAgree actor knows s.views history
-    pub owned : SharesApart knows s.views history
+    pub owned : SharesDisjoint knows s.views history
 
 -- a link for each slot, behind the words before the links, for at most as many rooms as a stack may have
 abbrev pub IsTable : TableId → Type 0

@@ -9,7 +9,7 @@ ghost use Rattle.cordyceps_list.specs.Cursor.{elements, place, lender};
 ghost use Rattle.cordyceps_commands.specs.Replies.{lines_of};
 ghost use Rattle.cordyceps_tables.specs.Tables.{held_at};
 ghost use Rattle.cordyceps_tables.specs.Filters.{passes};
-ghost use Rattle.cordyceps_tables.specs.Blocks.{first_place, inserted_behind, inserted_before, line_step, state_of, made_for, made_for_all, block, blocked, OtherFits, BlockFits, Goes, Obeys, LineRuns};
+ghost use Rattle.cordyceps_tables.specs.Blocks.{first_place, inserted_after, inserted_before, line_step, state_of, made_for, made_for_all, block, blocked, OtherFits, BlockFits, Goes, Obeys, LineRuns};
 
 use crate::replay::filters::passes;
 use crate::replay::nodes::node_of;
@@ -85,7 +85,7 @@ fn remove_first(cursor: &mut CursorMut<'_, Item>, filter: Filter) -> Reply
 
 /// Inserts a node after the cursor's.
 fn insert_after(cursor: &mut CursorMut<'_, Item>, node: Node<Item, Links<Item>>) -> Reply
-    ensures { Goes cursor.old cursor.new (inserted_behind (elements cursor.old) (place cursor.old) node) result }
+    ensures { Goes cursor.old cursor.new (inserted_after (elements cursor.old) (place cursor.old) node) result }
 {
     if cursor.len() < usize::MAX {
         cursor.insert_after(node);

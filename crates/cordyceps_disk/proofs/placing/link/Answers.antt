@@ -24,7 +24,7 @@ returns-in-Ok-new-clause-put g c = (
 pub told : (g : _) (c : goal.After-update g) → (c.update.ensures.changed.1 ≡ record { deadline = c.args.request.deadline; request = Some c.insert-at.result })
 told g c =
     let (e, w, rest, returns, taken, _, _) = c.update.ensures.changed in
-    let same = same_taken c.insert-ticket.new.self.nodes c.args.tickets.now.nodes rest c.insert-ticket.result c.in-Ok.ticket e c.insert-ticket.ensures.apart c.insert-ticket.ensures.others taken in
+    let same = same_taken c.insert-ticket.new.self.nodes c.args.tickets.now.nodes rest c.insert-ticket.result c.in-Ok.ticket e c.insert-ticket.ensures.distinct c.insert-ticket.ensures.others taken in
     ticket_told c.in-Ok.ticket e w returns.shown.now returns.left.now c.args.request.deadline c.insert-at.result (sym same) (ap (λ n. n.value.deadline) c.in-Ok.ensures.made) returns.shows returns.leaves returns.met.0 returns.met.1
 
 pub placed : (g : _) (c : goal.After-update g) → (c.update.new.self.nodes ≡ put_by deadline_of (c.insert-ticket.result, record { id = c.update.ensures.changed.0.id; value = c.update.ensures.changed.1 }) c.args.tickets.now.nodes)
@@ -34,7 +34,7 @@ placed g c =
     let s = c.insert-ticket.new.self.nodes in
     let u = c.insert-ticket.result in
     let put = ticket_put t s (u, c.in-Ok.ticket) c.requires.paired.by_deadline (c.insert-ticket.ensures.arrangement _ t refl) in
-    ticket_changed t s c.update.new.self.nodes u c.in-Ok.ticket e w c.requires.paired.by_deadline c.insert-ticket.ensures.apart put c.insert-ticket.ensures.others (again _ s refl)
+    ticket_changed t s c.update.new.self.nodes u c.in-Ok.ticket e w c.requires.paired.by_deadline c.insert-ticket.ensures.distinct put c.insert-ticket.ensures.others (again _ s refl)
 
 pub returns-in-Ok-new-clause-due : goal.returns-in-Ok-new-clause-due
 returns-in-Ok-new-clause-due g c =
@@ -54,10 +54,10 @@ returns-in-Ok-new-clause-paired g c =
     let put = request_put c.args.requests.now.nodes c.insert-at.new.self.nodes (c.insert-at.result, n) c.requires.paired.by_sector (c.insert-at.ensures.arrangement _ c.args.requests.now.nodes refl) in
     let says = told g c ∙ ap (λ d. record { deadline = d; request = Some c.insert-at.result }) (sym (ap (λ m. m.value.request.deadline) made)) in
     put_paired c.args.requests.now.nodes c.args.tickets.now.nodes c.requires.paired c.insert-at.result c.insert-ticket.result n (record { id = e.id; value = w }) c.insert-at.new.self.nodes c.update.new.self.nodes
-    put (placed g c) (ap (λ m. m.value.ticket) made) says c.insert-at.ensures.apart c.update.ensures.apart
+    put (placed g c) (ap (λ m. m.value.ticket) made) says c.insert-at.ensures.distinct c.update.ensures.distinct
 
 pub returns-in-Err-clause-tickets_kept : goal.returns-in-Err-clause-tickets_kept
-returns-in-Err-clause-tickets_kept g c = back_again c.insert-ticket.new.self.nodes c.args.tickets.now.nodes c.remove.new.self.nodes c.insert-ticket.result c.in-Ok.ticket c.remove.result c.insert-ticket.ensures.apart c.insert-ticket.ensures.others c.remove.ensures.taken
+returns-in-Err-clause-tickets_kept g c = back_again c.insert-ticket.new.self.nodes c.args.tickets.now.nodes c.remove.new.self.nodes c.insert-ticket.result c.in-Ok.ticket c.remove.result c.insert-ticket.ensures.distinct c.insert-ticket.ensures.others c.remove.ensures.taken
 
 pub returns-in-Err-clause-paired : goal.returns-in-Err-clause-paired
 returns-in-Err-clause-paired g c = subst (λ s. Paired c.args.requests.now.nodes s) (sym (returns-in-Err-clause-tickets_kept g c)) c.requires.paired

@@ -24,4 +24,4 @@ returns-clause-due g c =
 pub returns-clause-paired : goal.returns-clause-paired
 returns-clause-paired g c =
     let at = ap (λ w. w.ticket) (sym c.into_value-request.ensures) in
-    left_paired c.args.requests.now.nodes c.args.tickets.now.nodes c.requires.paired c.args.at c.into_value-request.result.ticket c.remove.result c.remove-2.result c.remove.new.self.nodes c.remove-2.new.self.nodes c.remove.ensures.taken at c.remove-2.ensures.taken c.remove.ensures.apart c.remove-2.ensures.apart
+    left_paired c.args.requests.now.nodes c.args.tickets.now.nodes c.requires.paired c.args.at c.into_value-request.result.ticket c.remove.result c.remove-2.result c.remove.new.self.nodes c.remove-2.new.self.nodes c.remove.ensures.taken at c.remove-2.ensures.taken c.remove.ensures.distinct c.remove-2.ensures.distinct

@@ -12,7 +12,7 @@ returns-clause-agree g c =
     let after = get nat_eq c.remove.new.self in
     let (spot, is) = c.in_ok-node.ensures.taken in
     let up = subst (λ n. IsUpdated f n None after) c.id-key.ensures c.remove.ensures.updates.0 in
-    taken_agrees f after c.args.list.now c.pop_back.new.self spot c.in_ok-node.node c.requires.agree up (last_taken c.args.list.now c.pop_back.new.self spot c.in_ok-node.node is) c.in_ok-node.ensures.apart
+    taken_agrees f after c.args.list.now c.pop_back.new.self spot c.in_ok-node.node c.requires.agree up (last_taken c.args.list.now c.pop_back.new.self spot c.in_ok-node.node is) c.in_ok-node.ensures.distinct
 
 pub returns-clause-out : goal.returns-clause-out
 returns-clause-out g c =

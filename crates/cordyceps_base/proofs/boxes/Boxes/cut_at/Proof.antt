@@ -24,7 +24,7 @@ use Rattle.std.proofs.raw_atomic.Walks.{proved_at, leaves}
 use Rattle.std_alloc.proofs.RcSteps.{word}
 use Rattle.cordyceps_base.specs.Boxes.{box_addresses}
 use Rattle.cordyceps_base.specs.Spots.{index_of}
-use Rattle.cordyceps_base.proofs.Memory.{Br, Pr, word_had, place-Good, Row, Held, mark, boxes_had, boxes_made, row_cut, take-drop}
+use Rattle.cordyceps_base.proofs.Memory.{Br, Pr, word_had, address-Good, Row, Held, mark, boxes_had, boxes_made, row_cut, take-drop}
 use Rattle.cordyceps_base.specs.contracts.boxes.Boxes.cut_at.{ended, clauses}
 use Rattle.cordyceps_base.specs.contracts.boxes.Boxes.cut_at.Key.{name as #self}
 use Rattle.cordyceps_base.proofs.boxes.Boxes.cut_at.Statement.{statement}
@@ -43,7 +43,7 @@ cut_at_spec 𝓤 𝓛 𝓜 𝓡 wired T A L LA g d dd allocator glued =
     qed 𝓛 ((toks ⊛ ‵ (owns (types_at En.signature.params κs) z.0.3 z.0.4)) ∷ asked ∷ []) ∵ split ! $ move ! (1 ∷ []) $ fsplit ! $ boxes_had ! E x z.0.4.0 (λ e0. move ! (1 ∷ []) $ fsplit ! $ word_had ! at.ptr z.0.4.1.0 (λ e1. move ! (1 ∷ 0 ∷ []) $
     -- [the row; nothing; the tokens; what is asked]
     suffices ! (Run ws) (subst (λ (us : List Val). ent 𝓤 (Run ws) (Run us)) (sym (λ i. e0 i ++ (e1 i ++ []))) (id⊢ 𝓤 (Run ws))) $
-    enter ! 𝓣.C 𝓣.Λ fn ws Post $ alloc_all ! (λ l. pass_all ! refl ((tt, (tt, tt)), (place-Good at.ptr, tt)) $
+    enter ! 𝓣.C 𝓣.Λ fn ws Post $ alloc_all ! (λ l. pass_all ! refl ((tt, (tt, tt)), (address-Good at.ptr, tt)) $
     sets ! (agg ! (no_more !)) refl (tt, tt) $ sets ! (agg ! (and_then ! (get ! refl) (no_more !))) refl (tt, (tt, tt)) $
     sets ! (agg ! (no_more !)) refl (tt, tt) $ sets ! (agg ! (and_then ! (get ! refl) (no_more !))) refl (tt, (tt, tt)) $
     sets ! (agg ! (and_then ! (get ! refl) (and_then ! (get ! refl) (no_more !)))) refl (tt, ((tt, tt), ((tt, tt), tt))) $

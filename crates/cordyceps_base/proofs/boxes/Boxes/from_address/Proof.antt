@@ -22,7 +22,7 @@ use denote.Triple.Walked.{Stays, stay_dropped, Goes-dropped, walk_of}
 use Rattle.std_alloc.proofs.BoxSteps.Form.{Bx, args, R}
 use Rattle.std.proofs.raw_atomic.Walks.{proved_at, leaves}
 use Rattle.cordyceps_base.specs.Boxes.{boxes_lent, box_addresses}
-use Rattle.cordyceps_base.proofs.Memory.{Br, Pr, word_had, place-Good, lent_behind}
+use Rattle.cordyceps_base.proofs.Memory.{Br, Pr, word_had, address-Good, lent_behind}
 use Rattle.std_alloc.proofs.RcSteps.{word}
 use Rattle.cordyceps_base.specs.Spots.{index_of}
 use Rattle.cordyceps_base.specs.contracts.boxes.Boxes.from_address.{ended, clauses}
@@ -43,7 +43,7 @@ from_address_spec 𝓤 𝓛 𝓜 𝓡 wired T A L LA g d dd allocator glued =
     qed 𝓛 ((toks ⊛ ‵ (owns (types_at En.signature.params κs) z.0.3 z.0.4)) ∷ asked ∷ []) ∵ split ! $ move ! (1 ∷ []) $ fsplit ! $ fsplit ! $ feq_l ! (λ e0. move ! (1 ∷ []) $ fsplit ! $ word_had ! at.ptr z.0.4.1.0 (λ e1. move ! (1 ∷ 0 ∷ []) $
     -- [what the `&` holds; nothing; the tokens; what is asked]
     suffices ! (Run (v ∷ word at.ptr ∷ [])) (subst (λ (us : List Val). ent 𝓤 (Run (v ∷ word at.ptr ∷ [])) (Run us)) (sym (λ i. e0 i ++ (e1 i ++ []))) (id⊢ 𝓤 (Run (v ∷ word at.ptr ∷ [])))) $
-    enter ! 𝓣.C 𝓣.Λ fn (v ∷ word at.ptr ∷ []) Post $ alloc_all ! (λ l. pass_all ! refl ((tt, tt), (place-Good at.ptr, tt)) $
+    enter ! 𝓣.C 𝓣.Λ fn (v ∷ word at.ptr ∷ []) Post $ alloc_all ! (λ l. pass_all ! refl ((tt, tt), (address-Good at.ptr, tt)) $
     sets ! (of_opd ! (get ! refl)) refl (tt, tt) $
     unhide ! $ fsplit ! $ move ! (1 ∷ []) $ use1 𝓛 (‵ (boxes_lent (R E) new.blocks κ)) (lent_behind 𝓛 (R E) κ k x.now.blocks) $ move ! (1 ∷ 0 ∷ []) $ fjoin ! $
     use1 𝓛 (‵ (hidden_shr B κ new rb ro)) (id⊢ 𝓤 _) $ feq_i ! (List Val) (v ∷ []) (v ∷ []) refl $ fjoin ! $

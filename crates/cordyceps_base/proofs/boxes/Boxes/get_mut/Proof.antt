@@ -43,7 +43,7 @@ use Rattle.std_alloc.proofs.BoxSteps.Form.{Bx, args, X, R}
 use Rattle.std_alloc.proofs.RcSteps.{word}
 use Rattle.cordyceps_base.specs.Boxes.{box_addresses, box_values}
 use Rattle.cordyceps_base.specs.BoxesLends.{with_box_value}
-use Rattle.cordyceps_base.proofs.Memory.{Br, Pr, Row, Held, Mark, Found, at_index, row_take, row_put, word_had, place-Good}
+use Rattle.cordyceps_base.proofs.Memory.{Br, Pr, Row, Held, Mark, Found, at_index, row_take, row_put, word_had, address-Good}
 use Rattle.cordyceps_base.specs.contracts.boxes.Boxes.get_mut.Key.{name as #self}
 use Rattle.cordyceps_base.proofs.boxes.Boxes.get_mut.Statement as stated
 use Rattle.cordyceps_base.proofs.boxes.Boxes.get_mut.Code as code
@@ -110,7 +110,7 @@ module _ (E : Bx) {M : Type 1} {𝓤 : Ura M} (𝓛 : Logic 𝓤) (C : Calls �
   walk asked fits =
       let found : Found d.blocks k at.ptr = at_index d.blocks k at.ptr asked in let xs = found.0 in let n = found.1 in let ys = found.2 in
       let code = (Br E).coded.code d in
-      qed 𝓛 Had ∵ enter ! C Λ (function E) (vptr rb ro ∷ word at.ptr ∷ vint w64 k ∷ []) _ $ alloc_all ! (λ l. pass_all ! refl ((tt, tt), (place-Good at.ptr, ((tt, record { fits = fits }), tt))) $
+      qed 𝓛 Had ∵ enter ! C Λ (function E) (vptr rb ro ∷ word at.ptr ∷ vint w64 k ∷ []) _ $ alloc_all ! (λ l. pass_all ! refl ((tt, tt), (address-Good at.ptr, ((tt, record { fits = fits }), tt))) $
       let En : Env 𝓤 H = env (function E).locals l in
       opens ! tt (Br E) {h = d} rb ro (λ ws. move ! (1 ∷ []) $ fsplit ! $ move ! (1 ∷ []) $ rewrite ! 0 (λ (ns : List (Held E)). ‵ (Row E ns)) found.3 refl $
       use1 𝓛 (‵ (fsep (points_to (R E) n.0 n.2) (token E.al n.1 (bare (lone (R E).mir)) n.0)) ⊛ ‵ (Row E (xs ++ ys))) (row_take 𝓛 (token E.al) (R E) xs n ys) $ split ! $ fsplit ! $

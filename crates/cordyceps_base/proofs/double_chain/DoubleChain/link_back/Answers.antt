@@ -3,5 +3,5 @@ use Rattle.cordyceps_base.proofs.double_chain.DoubleChain.link_back.Goals as goa
 
 pub returns : goal.returns
 returns g c =
-    let place = c.with_last-nodes.result.1.ptr in
-    (place, c.put-2.ensures ∙ c.with_last-nodes.ensures ∙ (λ i. c.take.ensures.0 i ++ (place, c.args.node) ∷ []))
+    let address = c.with_last-nodes.result.1.ptr in
+    (address, c.put-2.ensures ∙ c.with_last-nodes.ensures ∙ (λ i. c.take.ensures.0 i ++ (address, c.args.node) ∷ []))

@@ -14,4 +14,4 @@ only-requires g c = let i = c.self.inside in single i.head.ptr i.tail.ptr i.len 
 
 pub returns : goal.returns
 returns g c =
-    let place = c.self.inside.head.ptr in (place, sym c.self.view_is ∙ ap nodes_of c.only.ensures ∙ (λ i. (place, block_element (sym c.into_box.ensures i)) ∷ []))
+    let address = c.self.inside.head.ptr in (address, sym c.self.view_is ∙ ap nodes_of c.only.ensures ∙ (λ i. (address, block_element (sym c.into_box.ensures i)) ∷ []))

@@ -3,10 +3,10 @@ use denote.RawPtr.{null_ptr}
 use Rattle.cordyceps_base.specs.Boxes.{box_addresses}
 use Rattle.cordyceps_base.specs.DoubleChain.{Segment}
 use Rattle.cordyceps_base.specs.Nodes.{nodes_of}
-use Rattle.cordyceps_base.specs.Spots.{AreTestable}
+use Rattle.cordyceps_base.specs.Spots.{AreNullComparable}
 use Rattle.cordyceps_base.proofs.DoubleChain.{segment_join}
 use Rattle.cordyceps_base.proofs.Nodes.{length-nodes_of, length_is}
-use Rattle.cordyceps_base.proofs.Segments.{Cut, cut, one_is, front_linked, rest_linked, front_tested, rest_tested, some, left_length, taken_is, left_is}
+use Rattle.cordyceps_base.proofs.Segments.{Cut, cut, one_is, front_linked, rest_linked, front_comparable, rest_tested, some, left_length, taken_is, left_is}
 use Rattle.cordyceps_base.proofs.double_chain.DoubleChain.parted.Goals as goal
 
 pub get-requires : goal.get-requires
@@ -27,20 +27,20 @@ followed_by-front-requires-clause-linked g c =
     let u : Cut h t ns front back p = cut h t ns front back c.args.self p c.self.view_is c.requires c.self.invariant.2 c.cut_at-front.ensures.0 c.cut_at-front.ensures.1 in
     front_linked h t ns front back p u c.get-2.result.now c.get-2.ensures
 
-pub followed_by-front-requires-clause-tested : goal.followed_by-front-requires-clause-tested
-followed_by-front-requires-clause-tested g c =
+pub followed_by-front-requires-clause-null_comparable : goal.followed_by-front-requires-clause-null_comparable
+followed_by-front-requires-clause-null_comparable g c =
     let i = c.self.inside in let h = i.head.ptr in let t = i.tail.ptr in let ns = i.boxes.blocks in let p = c.args.at.ptr in let front = c.cut_at-front.result.0.blocks in let back = c.cut_at-front.result.1.blocks in
     let u : Cut h t ns front back p = cut h t ns front back c.args.self p c.self.view_is c.requires c.self.invariant.2 c.cut_at-front.ensures.0 c.cut_at-front.ensures.1 in
-    front_tested h t ns front back p u c.self.invariant.1
+    front_comparable h t ns front back p u c.self.invariant.1
 
-pub behind-rest-requires-clause-linked : goal.behind-rest-requires-clause-linked
-behind-rest-requires-clause-linked g c =
+pub preceded_by-rest-requires-clause-linked : goal.preceded_by-rest-requires-clause-linked
+preceded_by-rest-requires-clause-linked g c =
     let i = c.self.inside in let h = i.head.ptr in let t = i.tail.ptr in let ns = i.boxes.blocks in let p = c.args.at.ptr in let front = c.cut_at-front.result.0.blocks in let back = c.cut_at-front.result.1.blocks in
     let u : Cut h t ns front back p = cut h t ns front back c.args.self p c.self.view_is c.requires c.self.invariant.2 c.cut_at-front.ensures.0 c.cut_at-front.ensures.1 in
     rest_linked h t ns front back p u c.get.result.now c.cut-one.result.1.blocks c.get.ensures c.cut-one.ensures.1
 
-pub behind-rest-requires-clause-tested : goal.behind-rest-requires-clause-tested
-behind-rest-requires-clause-tested g c =
+pub preceded_by-rest-requires-clause-null_comparable : goal.preceded_by-rest-requires-clause-null_comparable
+preceded_by-rest-requires-clause-null_comparable g c =
     let i = c.self.inside in let h = i.head.ptr in let t = i.tail.ptr in let ns = i.boxes.blocks in let p = c.args.at.ptr in let front = c.cut_at-front.result.0.blocks in let back = c.cut_at-front.result.1.blocks in
     let u : Cut h t ns front back p = cut h t ns front back c.args.self p c.self.view_is c.requires c.self.invariant.2 c.cut_at-front.ensures.0 c.cut_at-front.ensures.1 in
     rest_tested h t ns front back p u c.cut-one.result.1.blocks c.cut-one.ensures.1 c.self.invariant.1
@@ -55,25 +55,25 @@ pub invariant_of-left : goal.invariant_of-left
 invariant_of-left g c =
     let i = c.self.inside in let h = i.head.ptr in let t = i.tail.ptr in let ns = i.boxes.blocks in let p = c.args.at.ptr in let front = c.cut_at-front.result.0.blocks in let back = c.cut_at-front.result.1.blocks in
     let u : Cut h t ns front back p = cut h t ns front back c.args.self p c.self.view_is c.requires c.self.invariant.2 c.cut_at-front.ensures.0 c.cut_at-front.ensures.1 in
-    let f = c.followed_by-front.result.1.blocks in let r = c.behind-rest.result.1.blocks in let js = c.tested.ensures.0 ∙ c.join.ensures in (
-      ap (λ l. l - 1) (c.len-len.ensures ∙ length_is ns c.args.self c.self.view_is) ∙ left_length h t ns front back p u c.cut-one.result.1.blocks f r c.tested.result.blocks c.cut-one.ensures.1 c.followed_by-front.ensures.same c.behind-rest.ensures.same js,
-      subst (λ ls. AreTestable (box_addresses ls)) (sym c.tested.ensures.0) c.tested.ensures.1,
-      subst (λ ls. Segment null_ptr c.followed_by-front.result.0.ptr ls c.behind-rest.result.0.ptr null_ptr) (sym js)
-          (segment_join null_ptr c.followed_by-front.result.0.ptr f c.get-2.result.now.links.prev.ptr c.get.result.now.links.next.ptr r c.behind-rest.result.0.ptr null_ptr c.followed_by-front.ensures.linked c.behind-rest.ensures.linked),
+    let f = c.followed_by-front.result.1.blocks in let r = c.preceded_by-rest.result.1.blocks in let js = c.null_comparable.ensures.0 ∙ c.join.ensures in (
+      ap (λ l. l - 1) (c.len-len.ensures ∙ length_is ns c.args.self c.self.view_is) ∙ left_length h t ns front back p u c.cut-one.result.1.blocks f r c.null_comparable.result.blocks c.cut-one.ensures.1 c.followed_by-front.ensures.same c.preceded_by-rest.ensures.same js,
+      subst (λ ls. AreNullComparable (box_addresses ls)) (sym c.null_comparable.ensures.0) c.null_comparable.ensures.1,
+      subst (λ ls. Segment null_ptr c.followed_by-front.result.0.ptr ls c.preceded_by-rest.result.0.ptr null_ptr) (sym js)
+          (segment_join null_ptr c.followed_by-front.result.0.ptr f c.get-2.result.now.links.prev.ptr c.get.result.now.links.next.ptr r c.preceded_by-rest.result.0.ptr null_ptr c.followed_by-front.ensures.linked c.preceded_by-rest.ensures.linked),
     )
 
 pub returns-clause-parts : goal.returns-clause-parts
 returns-clause-parts g c =
     let i = c.self.inside in let h = i.head.ptr in let t = i.tail.ptr in let ns = i.boxes.blocks in let p = c.args.at.ptr in let front = c.cut_at-front.result.0.blocks in let back = c.cut_at-front.result.1.blocks in
     let u : Cut h t ns front back p = cut h t ns front back c.args.self p c.self.view_is c.requires c.self.invariant.2 c.cut_at-front.ensures.0 c.cut_at-front.ensures.1 in
-    let f = c.followed_by-front.result.1.blocks in let r = c.behind-rest.result.1.blocks in (
+    let f = c.followed_by-front.result.1.blocks in let r = c.preceded_by-rest.result.1.blocks in (
       u.node.1,
       u.node.2,
       (
         nodes_of front,
         nodes_of u.after,
         taken_is h t ns front back p u c.args.self u.node.2 c.self.view_is refl,
-        left_is h t ns front back p u c.cut-one.result.1.blocks f r c.tested.result.blocks c.cut-one.ensures.1 c.followed_by-front.ensures.same c.behind-rest.ensures.same (c.tested.ensures.0 ∙ c.join.ensures),
+        left_is h t ns front back p u c.cut-one.result.1.blocks f r c.null_comparable.result.blocks c.cut-one.ensures.1 c.followed_by-front.ensures.same c.preceded_by-rest.ensures.same (c.null_comparable.ensures.0 ∙ c.join.ensures),
       ),
       one_is h t ns front back p u c.cut-one.result.0.blocks u.node.1 c.cut-one.ensures.0,
     )
@@ -82,6 +82,6 @@ pub returns-clause-fits : goal.returns-clause-fits
 returns-clause-fits g c =
     let i = c.self.inside in let h = i.head.ptr in let t = i.tail.ptr in let ns = i.boxes.blocks in let p = c.args.at.ptr in let front = c.cut_at-front.result.0.blocks in let back = c.cut_at-front.result.1.blocks in
     let u : Cut h t ns front back p = cut h t ns front back c.args.self p c.self.view_is c.requires c.self.invariant.2 c.cut_at-front.ensures.0 c.cut_at-front.ensures.1 in
-    let f = c.followed_by-front.result.1.blocks in let r = c.behind-rest.result.1.blocks in let l = c.len-len.ensures ∙ length_is ns c.args.self c.self.view_is in let m = some h t ns front back p u in
-    let left = left_length h t ns front back p u c.cut-one.result.1.blocks f r c.tested.result.blocks c.cut-one.ensures.1 c.followed_by-front.ensures.same c.behind-rest.ensures.same (c.tested.ensures.0 ∙ c.join.ensures) in
-    let seen = length-nodes_of c.tested.result.blocks in omega (arith, l, m, left, seen)
+    let f = c.followed_by-front.result.1.blocks in let r = c.preceded_by-rest.result.1.blocks in let l = c.len-len.ensures ∙ length_is ns c.args.self c.self.view_is in let m = some h t ns front back p u in
+    let left = left_length h t ns front back p u c.cut-one.result.1.blocks f r c.null_comparable.result.blocks c.cut-one.ensures.1 c.followed_by-front.ensures.same c.preceded_by-rest.ensures.same (c.null_comparable.ensures.0 ∙ c.join.ensures) in
+    let seen = length-nodes_of c.null_comparable.result.blocks in omega (arith, l, m, left, seen)

@@ -3,5 +3,5 @@ use Rattle.cordyceps_base.proofs.double_chain.DoubleChain.unlink_front.Goals as 
 
 pub returns : goal.returns
 returns g c =
-    let (place, is) = c.without_first-node.ensures in
-    (place, sym c.take-nodes.ensures.0 ∙ is ∙ (λ i. (place, c.without_first-node.result.0) ∷ sym c.put.ensures i))
+    let (address, is) = c.without_first-node.ensures in
+    (address, sym c.take-nodes.ensures.0 ∙ is ∙ (λ i. (address, c.without_first-node.result.0) ∷ sym c.put.ensures i))

@@ -3,7 +3,7 @@ use denote.RawPtr.{null_ptr}
 use Rattle.cordyceps_base.specs.Boxes.{box_addresses}
 use Rattle.cordyceps_base.specs.DoubleChain.{Segment}
 use Rattle.cordyceps_base.specs.Nodes.{nodes_of, block_element}
-use Rattle.cordyceps_base.specs.Spots.{AreTestable}
+use Rattle.cordyceps_base.specs.Spots.{AreNullComparable}
 use Rattle.cordyceps_base.proofs.Segments.{Cut, cut, rest_linked, rest_tested, taken_is, upto_linked, upto_tested, upto_shown, upto_length}
 use Rattle.cordyceps_base.proofs.double_chain.DoubleChain.with_after.Goals as goal
 
@@ -25,14 +25,14 @@ between-boxes-requires-clause-back g c =
     let u : Cut h t ns front back p = cut h t ns front back c.args.self p c.self.view_is c.requires.there c.self.invariant.2 c.cut_at-front.ensures.0 c.cut_at-front.ensures.1 in
     rest_linked h t ns front back p u c.get.result.now c.cut-one.result.1.blocks c.get.ensures c.cut-one.ensures.1
 
-pub between-boxes-requires-clause-front_tested : goal.between-boxes-requires-clause-front_tested
-between-boxes-requires-clause-front_tested g c =
+pub between-boxes-requires-clause-front_comparable : goal.between-boxes-requires-clause-front_comparable
+between-boxes-requires-clause-front_comparable g c =
     let i = c.self.inside in let h = i.head.ptr in let t = i.tail.ptr in let ns = i.boxes.blocks in let p = c.args.at.ptr in let front = c.cut_at-front.result.0.blocks in let back = c.cut_at-front.result.1.blocks in
     let u : Cut h t ns front back p = cut h t ns front back c.args.self p c.self.view_is c.requires.there c.self.invariant.2 c.cut_at-front.ensures.0 c.cut_at-front.ensures.1 in
     upto_tested h t ns front back p u c.cut-one.result.0.blocks c.join-front.result.blocks c.cut-one.result.1.blocks c.cut-one.ensures.0 c.join-front.ensures c.cut-one.ensures.1 c.self.invariant.1
 
-pub between-boxes-requires-clause-back_tested : goal.between-boxes-requires-clause-back_tested
-between-boxes-requires-clause-back_tested g c =
+pub between-boxes-requires-clause-back_comparable : goal.between-boxes-requires-clause-back_comparable
+between-boxes-requires-clause-back_comparable g c =
     let i = c.self.inside in let h = i.head.ptr in let t = i.tail.ptr in let ns = i.boxes.blocks in let p = c.args.at.ptr in let front = c.cut_at-front.result.0.blocks in let back = c.cut_at-front.result.1.blocks in
     let u : Cut h t ns front back p = cut h t ns front back c.args.self p c.self.view_is c.requires.there c.self.invariant.2 c.cut_at-front.ensures.0 c.cut_at-front.ensures.1 in
     rest_tested h t ns front back p u c.cut-one.result.1.blocks c.cut-one.ensures.1 c.self.invariant.1
@@ -42,9 +42,9 @@ invariant_of-whole g c =
     let i = c.self.inside in let h = i.head.ptr in let t = i.tail.ptr in let ns = i.boxes.blocks in let p = c.args.at.ptr in let front = c.cut_at-front.result.0.blocks in let back = c.cut_at-front.result.1.blocks in
     let u : Cut h t ns front back p = cut h t ns front back c.args.self p c.self.view_is c.requires.there c.self.invariant.2 c.cut_at-front.ensures.0 c.cut_at-front.ensures.1 in (
       ap (λ l. l + 1) c.self.invariant.0
-          ∙ upto_length h t ns front back p u c.cut-one.result.0.blocks c.join-front.result.blocks c.cut-one.result.1.blocks c.cut-one.ensures.0 c.join-front.ensures c.cut-one.ensures.1 c.tested.result.blocks _ (ap nodes_of c.tested.ensures.0 ∙ c.between-boxes.ensures.holds),
-      subst (λ ls. AreTestable (box_addresses ls)) (sym c.tested.ensures.0) c.tested.ensures.1,
-      subst (λ ls. Segment null_ptr c.between-boxes.result.1.ptr ls c.between-boxes.result.2.ptr null_ptr) (sym c.tested.ensures.0) c.between-boxes.ensures.linked,
+          ∙ upto_length h t ns front back p u c.cut-one.result.0.blocks c.join-front.result.blocks c.cut-one.result.1.blocks c.cut-one.ensures.0 c.join-front.ensures c.cut-one.ensures.1 c.null_comparable.result.blocks _ (ap nodes_of c.null_comparable.ensures.0 ∙ c.between-boxes.ensures.holds),
+      subst (λ ls. AreNullComparable (box_addresses ls)) (sym c.null_comparable.ensures.0) c.null_comparable.ensures.1,
+      subst (λ ls. Segment null_ptr c.between-boxes.result.1.ptr ls c.between-boxes.result.2.ptr null_ptr) (sym c.null_comparable.ensures.0) c.between-boxes.ensures.linked,
     )
 
 pub returns : goal.returns
@@ -55,5 +55,5 @@ returns g c =
       block_element u.node.2,
       nodes_of u.after,
       taken_is h t ns front back p u c.args.self u.node.2 c.self.view_is refl,
-      upto_shown h t ns front back p u c.cut-one.result.0.blocks c.join-front.result.blocks c.cut-one.result.1.blocks c.cut-one.ensures.0 c.join-front.ensures c.cut-one.ensures.1 _ _ (ap nodes_of c.tested.ensures.0 ∙ c.between-boxes.ensures.holds),
+      upto_shown h t ns front back p u c.cut-one.result.0.blocks c.join-front.result.blocks c.cut-one.result.1.blocks c.cut-one.ensures.0 c.join-front.ensures c.cut-one.ensures.1 _ _ (ap nodes_of c.null_comparable.ensures.0 ∙ c.between-boxes.ensures.holds),
     )

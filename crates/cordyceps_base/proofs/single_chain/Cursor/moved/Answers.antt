@@ -11,24 +11,24 @@ pub unwrap-here-requires : goal.unwrap-here-requires
 unwrap-here-requires g c =
     let i = c.self.inside in let long = ap (λ v. length v.rest) c.self.view_is in some_first i.at i.rest.blocks c.self.invariant.2 (omega (arith, long, length-nodes_of i.rest.blocks))
 
-pub somewhere-next-requires : goal.somewhere-next-requires
-somewhere-next-requires g c =
-    let i = c.self.inside in let b = c.get.result.now in let cut0 = c.cut-first.ensures.0 ∙ ap (λ l. take 1 l) c.tested.ensures.0 in
-    next_testable-cut i.at i.rest.blocks b c.self.invariant.2 c.tested.ensures.1 (subst (λ ns. slice_get (box_values ns) 0 ≡ Some b) cut0 c.get.ensures)
+pub not_null-next-requires : goal.not_null-next-requires
+not_null-next-requires g c =
+    let i = c.self.inside in let b = c.get.result.now in let cut0 = c.cut-first.ensures.0 ∙ ap (λ l. take 1 l) c.null_comparable.ensures.0 in
+    next_testable-cut i.at i.rest.blocks b c.self.invariant.2 c.null_comparable.ensures.1 (subst (λ ns. slice_get (box_values ns) 0 ≡ Some b) cut0 c.get.ensures)
 
 pub invariant_of-result : goal.invariant_of-result
 invariant_of-result g c =
-    let i = c.self.inside in let same = c.tested.ensures.0 in let cut0 = c.cut-first.ensures.0 ∙ ap (λ l. take 1 l) same in let cut1 = c.cut-first.ensures.1 ∙ ap (λ l. drop 1 l) same in let b = c.get.result.now in
+    let i = c.self.inside in let same = c.null_comparable.ensures.0 in let cut0 = c.cut-first.ensures.0 ∙ ap (λ l. take 1 l) same in let cut1 = c.cut-first.ensures.1 ∙ ap (λ l. drop 1 l) same in let b = c.get.result.now in
     let moved = moved_on i.head i.at i.before.ptr i.tail.ptr i.front.blocks i.rest.blocks c.unwrap-here.result b c.self.invariant c.unwrap-here.ensures (subst (λ ns. slice_get (box_values ns) 0 ≡ Some b) cut0 c.get.ensures) in
     let front = c.join.ensures ∙ ap (λ l. i.front.blocks ++ l) cut0 in
-    subst (λ n. IsParted c.or.result c.unwrap-here.result.ptr n i.tail.ptr c.join.result.blocks c.cut-first.result.1.blocks) (sym c.somewhere-next.ensures)
+    subst (λ n. IsParted c.or.result c.unwrap-here.result.ptr n i.tail.ptr c.join.result.blocks c.cut-first.result.1.blocks) (sym c.not_null-next.ensures)
     (subst (λ h. IsParted h c.unwrap-here.result.ptr (next_of b) i.tail.ptr c.join.result.blocks c.cut-first.result.1.blocks) (sym c.or.ensures)
     (subst (λ l. IsParted (option_or i.head i.at) c.unwrap-here.result.ptr (next_of b) i.tail.ptr l c.cut-first.result.1.blocks) (sym front)
     (subst (λ l. IsParted (option_or i.head i.at) c.unwrap-here.result.ptr (next_of b) i.tail.ptr (i.front.blocks ++ take 1 i.rest.blocks) l) (sym cut1) moved)))
 
 pub returns : goal.returns
 returns g c =
-    let i = c.self.inside in let same = c.tested.ensures.0 in let cut0 = c.cut-first.ensures.0 ∙ ap (λ l. take 1 l) same in let cut1 = c.cut-first.ensures.1 ∙ ap (λ l. drop 1 l) same in let first = first_shown i.rest.blocks c.get.result.now (subst (λ ns. slice_get (box_values ns) 0 ≡ Some c.get.result.now) cut0 c.get.ensures) in (
+    let i = c.self.inside in let same = c.null_comparable.ensures.0 in let cut0 = c.cut-first.ensures.0 ∙ ap (λ l. take 1 l) same in let cut1 = c.cut-first.ensures.1 ∙ ap (λ l. drop 1 l) same in let first = first_shown i.rest.blocks c.get.result.now (subst (λ ns. slice_get (box_values ns) 0 ≡ Some c.get.result.now) cut0 c.get.ensures) in (
       first.0,
       ap (λ v. v.rest) (sym c.self.view_is) ∙ first.1 ∙ ap (λ l. first.0 ∷ nodes_of l) (sym cut1),
       ap nodes_of c.join.ensures ∙ nodes_of-append i.front.blocks c.cut-first.result.0.blocks ∙ ap (λ l. nodes_of i.front.blocks ++ nodes_of l) cut0 ∙ ap (λ l. nodes_of i.front.blocks ++ l) first.2 ∙ ap (λ v. v.before ++ first.0 ∷ []) c.self.view_is,

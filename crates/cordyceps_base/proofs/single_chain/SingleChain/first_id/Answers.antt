@@ -6,8 +6,8 @@ use Rattle.cordyceps_base.proofs.Nodes.{id_on}
 use Rattle.cordyceps_base.proofs.SingleChain.{link_testable}
 use Rattle.cordyceps_base.proofs.single_chain.SingleChain.first_id.Goals as goal
 
-pub somewhere-requires : goal.somewhere-requires
-somewhere-requires g c = link_testable c.self.inside.head c.self.inside.boxes.blocks c.self.invariant.0 c.self.invariant.2
+pub not_null-requires : goal.not_null-requires
+not_null-requires g c = link_testable c.self.inside.head c.self.inside.boxes.blocks c.self.invariant.0 c.self.invariant.2
 
 pub returns-in-Some-clause-some : goal.returns-in-Some-clause-some
 returns-in-Some-clause-some g c = subst (λ v. slice_get (ids (elements v)) 0 ≡ Some c.get.result.now.id) c.self.view_is (id_on c.self.inside.boxes.blocks 0 c.get.result.now c.get.ensures)

@@ -2,8 +2,8 @@ use Rattle.std.proofs.Common.{rules}
 use Rattle.cordyceps_base.proofs.SingleChain.{link_testable}
 use Rattle.cordyceps_base.proofs.single_chain.SingleChain.is_empty.Goals as goal
 
-pub somewhere-requires : goal.somewhere-requires
-somewhere-requires g c = link_testable c.self.inside.head c.self.inside.boxes.blocks c.self.invariant.0 c.self.invariant.2
+pub not_null-requires : goal.not_null-requires
+not_null-requires g c = link_testable c.self.inside.head c.self.inside.boxes.blocks c.self.invariant.0 c.self.invariant.2
 
 pub returns : goal.returns
 returns g c = search rules

@@ -8,4 +8,4 @@ only-requires g c = let i = c.self.inside in single i.tail.ptr i.boxes.blocks c.
 
 pub returns : goal.returns
 returns g c =
-    let place = c.self.inside.tail.ptr in (place, sym c.self.view_is ∙ ap nodes_of c.only.ensures ∙ (λ i. (place, block_element (sym c.into_box.ensures i)) ∷ []))
+    let address = c.self.inside.tail.ptr in (address, sym c.self.view_is ∙ ap nodes_of c.only.ensures ∙ (λ i. (address, block_element (sym c.into_box.ensures i)) ∷ []))

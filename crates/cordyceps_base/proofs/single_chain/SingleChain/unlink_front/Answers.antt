@@ -3,4 +3,4 @@ use Rattle.cordyceps_base.proofs.single_chain.SingleChain.unlink_front.Goals as 
 
 pub returns : goal.returns
 returns g c =
-    let (place, is) = c.split_first-node.ensures in (place, sym c.take.ensures.0 ∙ is ∙ ap (λ l. (place, c.split_first-node.result.0) ∷ l) (sym c.put.ensures))
+    let (address, is) = c.split_first-node.ensures in (address, sym c.take.ensures.0 ∙ is ∙ ap (λ l. (address, c.split_first-node.result.0) ∷ l) (sym c.put.ensures))

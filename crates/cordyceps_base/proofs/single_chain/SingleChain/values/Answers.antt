@@ -5,11 +5,11 @@ use Rattle.cordyceps_base.specs.SingleChain.{IsLed}
 use Rattle.cordyceps_base.proofs.SingleChain.{link_testable}
 use Rattle.cordyceps_base.proofs.single_chain.SingleChain.values.Goals as goal
 
-pub somewhere-requires : goal.somewhere-requires
-somewhere-requires g c = link_testable c.self.inside.head c.self.inside.boxes.blocks c.self.invariant.0 c.self.invariant.2
+pub not_null-requires : goal.not_null-requires
+not_null-requires g c = link_testable c.self.inside.head c.self.inside.boxes.blocks c.self.invariant.0 c.self.invariant.2
 
 pub invariant_of-result : goal.invariant_of-result
-invariant_of-result g c = (subst (λ h. IsLed h c.self.inside.boxes.blocks) (sym c.somewhere.ensures) c.self.invariant.0, c.self.invariant.2)
+invariant_of-result g c = (subst (λ h. IsLed h c.self.inside.boxes.blocks) (sym c.not_null.ensures) c.self.invariant.0, c.self.invariant.2)
 
 pub returns : goal.returns
 returns g c = ap (λ v. values (elements v)) c.self.view_is

@@ -6,8 +6,8 @@ use Rattle.cordyceps_base.proofs.single_chain.ValuesIterator.next.Goals as goal
 pub get-block-requires : goal.get-block-requires
 get-block-requires g c = first_at c.self.inside.next c.self.inside.rest.now.blocks c.in-Some.at c.self.invariant.0 c.in-Some.is
 
-pub somewhere-self-inside-requires : goal.somewhere-self-inside-requires
-somewhere-self-inside-requires g c = next_testable c.self.inside.next c.self.inside.rest.now.blocks c.get-block.result.now c.self.invariant.0 c.self.invariant.1 c.get-block.ensures
+pub not_null-self-inside-requires : goal.not_null-self-inside-requires
+not_null-self-inside-requires g c = next_testable c.self.inside.next c.self.inside.rest.now.blocks c.get-block.result.now c.self.invariant.0 c.self.invariant.1 c.get-block.ensures
 
 pub returns-in-None-clause-steps : goal.returns-in-None-clause-steps
 returns-in-None-clause-steps g c =

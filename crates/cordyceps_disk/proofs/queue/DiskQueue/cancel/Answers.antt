@@ -15,5 +15,5 @@ pub returns-clause-left : goal.returns-clause-left
 returns-clause-left g c =
     seen_left c.args.self.now c.self.inside.requests.nodes c.self.inside.tickets.nodes c.self.inside.head c.self.view_is c.unlink.new.requests.nodes c.unlink.new.tickets.nodes c.self.inside.head c.args.at c.unlink.result c.unlink.ensures.taken c.unlink.ensures.due
 
-pub returns-clause-apart : goal.returns-clause-apart
-returns-clause-apart g c = apart_waiting c.unlink.new.requests.nodes c.unlink.ensures.paired.apart
+pub returns-clause-distinct : goal.returns-clause-distinct
+returns-clause-distinct g c = apart_waiting c.unlink.new.requests.nodes c.unlink.ensures.paired.distinct

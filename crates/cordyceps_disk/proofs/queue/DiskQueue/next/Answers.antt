@@ -16,9 +16,9 @@ returns-clause-served g c =
     let d = c.unlink-request.new.requests.nodes in
     let s = c.unlink-request.new.tickets.nodes in
     let k = c.unlink-request.result.sector in
-    let in_queue = seen_next c.args.self.now c.self.inside.requests.nodes c.self.inside.tickets.nodes c.self.inside.head c.self.view_is d s k at c.unlink-request.result c.unlink-request.ensures.taken c.args.now r c.self.invariant.0.apart next in
+    let in_queue = seen_next c.args.self.now c.self.inside.requests.nodes c.self.inside.tickets.nodes c.self.inside.head c.self.view_is d s k at c.unlink-request.result c.unlink-request.ensures.taken c.args.now r c.self.invariant.0.distinct next in
     let left = seen_left c.args.self.now c.self.inside.requests.nodes c.self.inside.tickets.nodes c.self.inside.head c.self.view_is d s k at c.unlink-request.result c.unlink-request.ensures.taken c.unlink-request.ensures.due in
     (at, in_queue, left, refl)
 
-pub returns-clause-apart : goal.returns-clause-apart
-returns-clause-apart g c = apart_waiting c.unlink-request.new.requests.nodes c.unlink-request.ensures.paired.apart
+pub returns-clause-distinct : goal.returns-clause-distinct
+returns-clause-distinct g c = apart_waiting c.unlink-request.new.requests.nodes c.unlink-request.ensures.paired.distinct

@@ -1,7 +1,7 @@
 use Rattle.std.proofs.Common.{◌≡◌, sym, ◌∙◌, subst}
 use Rattle.cordyceps.specs.Elements.Nodes.{spots}
 use Rattle.cordyceps.specs.Spots.BySpot.{IsTaken}
-use Rattle.cordyceps.specs.Spots.Spots.{AreApart}
+use Rattle.cordyceps.specs.Spots.Spots.{AreDistinct}
 use Rattle.cordyceps.proofs.Spots.Reached.{taken_has}
 use Rattle.cordyceps_disk.specs.Pairs.{seen}
 use Rattle.cordyceps_disk.specs.Queue.{Queue, element}
@@ -10,11 +10,11 @@ use Rattle.cordyceps_disk.proofs.Seeing.{seen_apart, seen_others, seen_submitted
 use Rattle.cordyceps_disk.proofs.queue.DiskQueue.submit.Goals as goal
 use Rattle.cordyceps_disk.proofs.queue.DiskQueue.submit.Goals.{then-is_next, else-is_next}
 
-pub returns-then-len-clause-apart : goal.returns-then-len-clause-apart
-returns-then-len-clause-apart g c = seen_apart c.args.self.now c.self.inside.requests.nodes c.self.inside.tickets.nodes c.self.inside.head c.self.view_is c.self.invariant.0.apart
+pub returns-then-len-clause-distinct : goal.returns-then-len-clause-distinct
+returns-then-len-clause-distinct g c = seen_apart c.args.self.now c.self.inside.requests.nodes c.self.inside.tickets.nodes c.self.inside.head c.self.view_is c.self.invariant.0.distinct
 
-pub returns-in_err-at-clause-apart : goal.returns-in_err-at-clause-apart
-returns-in_err-at-clause-apart g c = apart_waiting c.link.new.requests.nodes c.link.ensures.paired.apart
+pub returns-in_err-at-clause-distinct : goal.returns-in_err-at-clause-distinct
+returns-in_err-at-clause-distinct g c = apart_waiting c.link.new.requests.nodes c.link.ensures.paired.distinct
 
 pub returns-clause-submitted : goal.returns-clause-submitted
 returns-clause-submitted g c =
@@ -34,9 +34,9 @@ returns-clause-others g c =
 pub returns-clause-there : goal.returns-clause-there
 returns-clause-there g c = taken_has c.if-is_next.self.waiting c.args.self.now.waiting c.in_ok-at.at (element c.args.request) (returns-clause-others g c)
 
-pub returns-clause-apart : goal.returns-clause-apart
-returns-clause-apart g c =
+pub returns-clause-distinct : goal.returns-clause-distinct
+returns-clause-distinct g c =
     let d = c.link.new.requests.nodes in
     let s = c.link.new.tickets.nodes in
     let is : c.if-is_next.self ≡ seen d s c.self.inside.head = elim c.if-is_next.branch as (λ _. c.if-is_next.self ≡ seen d s c.self.inside.head) [ then-is_next w ↦ w.self-is | else-is_next w ↦ w.self-is ] in
-    subst (λ (q : Queue _). AreApart (spots q.waiting)) (sym is) (apart_waiting d c.link.ensures.paired.apart)
+    subst (λ (q : Queue _). AreDistinct (spots q.waiting)) (sym is) (apart_waiting d c.link.ensures.paired.distinct)

@@ -8,14 +8,14 @@ use Rattle.cordyceps_list.proofs.list.List.try_split_off_in.Goals as goal
 pub invariant_of-self : goal.invariant_of-self
 invariant_of-self g c =
     fit_front c.self.inside.chain c.put.new.self c.self.inside.fingers c.after_change-self-inside.result c.args.at c.self.invariant (omega (arith, c.len-len.ensures))
-    (c.put.ensures ∙ c.cut_behind-front.ensures.0 ∙ ap (take c.args.at) c.take.ensures.0) c.after_change-self-inside.ensures.front c.after_change-self-inside.ensures.back
+    (c.put.ensures ∙ c.cut_after-front.ensures.0 ∙ ap (take c.args.at) c.take.ensures.0) c.after_change-self-inside.ensures.front c.after_change-self-inside.ensures.back
 
 pub returns-clause-some : goal.returns-clause-some
 returns-clause-some g c =
     let nodes = c.self.inside.chain in
     let at = c.args.at in
-    let front = c.put.ensures ∙ c.cut_behind-front.ensures.0 ∙ ap (take at) c.take.ensures.0 in
-    let rest = c.cut_behind-front.ensures.1 ∙ ap (drop at) c.take.ensures.0 in (
+    let front = c.put.ensures ∙ c.cut_after-front.ensures.0 ∙ ap (take at) c.take.ensures.0 in
+    let rest = c.cut_after-front.ensures.1 ∙ ap (drop at) c.take.ensures.0 in (
       ap elements front ∙ sym (take-map (λ n. n.1) at nodes) ∙ ap (take at) c.self.view_is,
       c.from_chain.ensures ∙ ap elements rest ∙ sym (drop-map (λ n. n.1) at nodes) ∙ ap (drop at) c.self.view_is,
     )

@@ -19,7 +19,7 @@ invariant_of-self g c =
     let p = c.in-Some.field-0.now in
     let w : Entry _ = record { value = c.replace-old.new.dest } in
     let long = written_length f c.args.key c.self.inside.list c.move_to_front.new.self p c.self.invariant.0 (sym c.in-Some.ensures.value) c.move_to_front.ensures.moved w in
-    let moved = moved_front_agrees f c.self.inside.list c.move_to_front.new.self p c.self.invariant.0 c.move_to_front.ensures.moved c.move_to_front.ensures.apart in (
+    let moved = moved_front_agrees f c.self.inside.list c.move_to_front.new.self p c.self.invariant.0 c.move_to_front.ensures.moved c.move_to_front.ensures.distinct in (
       written_agrees f c.move_to_front.new.self (index_of p (spots c.move_to_front.new.self)) w moved,
       omega (arith, long, c.self.invariant.1),
       c.self.invariant.2,
@@ -70,7 +70,7 @@ invariant_of-self-2 g c =
     let put = c.push_front-spot.ensures.holds ∙ ap (λ n. (c.push_front-spot.result, n) ∷ c.make_room-out.new.list) c.in-Ok.ensures.made in
     let taken = first_taken c.push_front-spot.new.self c.make_room-out.new.list c.push_front-spot.result e put in
     let updated = subst (λ r. OnOk r (Updates nat_eq c.make_room-out.new.spots c.insert-put.new.self c.args.key (Some c.push_front-spot.result))) c.unwrap.ensures c.insert-put.ensures.updates in (
-      put_agrees f after c.make_room-out.new.list c.push_front-spot.new.self c.push_front-spot.result e c.make_room-out.ensures.agree absent updated.0 taken c.push_front-spot.ensures.apart,
+      put_agrees f after c.make_room-out.new.list c.push_front-spot.new.self c.push_front-spot.result e c.make_room-out.ensures.agree absent updated.0 taken c.push_front-spot.ensures.distinct,
       omega (arith, ap length put, c.make_room-out.ensures.room),
       c.self.invariant.2,
     )

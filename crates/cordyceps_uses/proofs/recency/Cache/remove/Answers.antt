@@ -30,7 +30,7 @@ pub invariant_of-self-2 : goal.invariant_of-self-2
 invariant_of-self-2 g c =
     let f = get nat_eq c.self.inside.spots in
     let some = length_taken f c.args.key c.self.inside.list c.remove-2.new.self c.in_ok-spot.spot c.remove-2.result c.self.invariant.0 (sym c.in_ok-spot.ensures.value) c.remove-2.ensures.taken in (
-      removed_agrees f (get nat_eq c.remove.new.self) c.self.inside.list c.remove-2.new.self c.args.key c.in_ok-spot.spot c.remove-2.result c.self.invariant.0 (sym c.in_ok-spot.ensures.value) c.in_ok-spot.ensures.updates.0 c.remove-2.ensures.taken c.remove-2.ensures.apart,
+      removed_agrees f (get nat_eq c.remove.new.self) c.self.inside.list c.remove-2.new.self c.args.key c.in_ok-spot.spot c.remove-2.result c.self.invariant.0 (sym c.in_ok-spot.ensures.value) c.in_ok-spot.ensures.updates.0 c.remove-2.ensures.taken c.remove-2.ensures.distinct,
       omega (arith, some, c.self.invariant.1),
       c.self.invariant.2,
     )

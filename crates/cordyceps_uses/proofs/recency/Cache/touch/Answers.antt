@@ -12,7 +12,7 @@ pub invariant_of-self : goal.invariant_of-self
 invariant_of-self g c =
     let f = get nat_eq c.self.inside.spots in
     let long = moved_length f c.args.key c.self.inside.list c.move_to_front.new.self c.in-Some.field-0.now c.self.invariant.0 (sym c.in-Some.ensures.value) c.move_to_front.ensures.moved in (
-      moved_front_agrees f c.self.inside.list c.move_to_front.new.self c.in-Some.field-0.now c.self.invariant.0 c.move_to_front.ensures.moved c.move_to_front.ensures.apart,
+      moved_front_agrees f c.self.inside.list c.move_to_front.new.self c.in-Some.field-0.now c.self.invariant.0 c.move_to_front.ensures.moved c.move_to_front.ensures.distinct,
       omega (arith, long, c.self.invariant.1),
       c.self.invariant.2,
     )

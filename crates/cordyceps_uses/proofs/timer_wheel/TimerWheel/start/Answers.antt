@@ -1,6 +1,6 @@
 use Rattle.std.proofs.Common.{◌≡◌, inl, inr, subst, sym, ap, ◌∙◌, ◌%◌, ◌⊎◌, [], ◌∷◌, ◌++◌, length, set, arith}
 use Rattle.cordyceps.specs.Elements.Nodes.{Nodes}
-use Rattle.cordyceps.specs.Spots.Agreeing.{Lies}
+use Rattle.cordyceps.specs.Spots.Agreeing.{HasElementAt}
 use Rattle.cordyceps.proofs.Spots.Holding.{joined_lies}
 use Rattle.cordyceps_uses.specs.declared.timer_wheel.Timer.{Timer}
 use Rattle.cordyceps_uses.specs.TimerWheel.{dial, waiting, Ahead, IsGood}
@@ -17,8 +17,8 @@ invariant_of-self g c =
     let ahead : Ahead d (dial t slots) = (c.if-deadline-self.false, omega (arith, c.if-deadline-self.false, c.if-deadline-self-2.false, c.len.ensures)) in
     let last : Nodes (Timer _) = (c.push_back-spot.result, c.args.timer) ∷ [] in
     put_in_place t c.slot-slot.result d slots c.push_back-spot.new.self is c.self.invariant
-    (λ q e lies. elim (joined_lies c.index_mut.result.now last q e (subst (λ l. Lies l q e) c.push_back-spot.ensures.holds lies)) as (λ _. Lies (waiting d (dial t slots)) q e ⊎ ((e.id ≡ d) × Ahead d (dial t slots))) [
-      | inl old ↦ inl (subst (λ l. Lies l q e) (sym at) old)
+    (λ q e lies. elim (joined_lies c.index_mut.result.now last q e (subst (λ l. HasElementAt l q e) c.push_back-spot.ensures.holds lies)) as (λ _. HasElementAt (waiting d (dial t slots)) q e ⊎ ((e.id ≡ d) × Ahead d (dial t slots))) [
+      | inl old ↦ inl (subst (λ l. HasElementAt l q e) (sym at) old)
       | inr new ↦ inr (ap (λ n. n.id) (only_lies c.push_back-spot.result q c.args.timer e new) ∙ sym c.id-deadline.ensures, ahead)
     ])
 

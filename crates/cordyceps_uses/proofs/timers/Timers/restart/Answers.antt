@@ -7,7 +7,7 @@ pub invariant_of-self : goal.invariant_of-self
 invariant_of-self g c =
     let was = c.self.inside.list.nodes in
     let placed = c.insert.ensures.arrangement _ was refl (stands was c.self.invariant.0) in
-    (keeps_order c.insert.new.self.nodes (was ++ (c.insert.result, c.args.timer) ∷ []) placed, c.insert.ensures.apart)
+    (keeps_order c.insert.new.self.nodes (was ++ (c.insert.result, c.args.timer) ∷ []) placed, c.insert.ensures.distinct)
 
 pub returns-clause-started : goal.returns-clause-started
 returns-clause-started g c =

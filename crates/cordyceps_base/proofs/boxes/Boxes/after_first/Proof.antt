@@ -1,4 +1,4 @@
--- `behind_first` shows the boxes behind the first. Assumes `Logic`.
+-- `after_first` shows the boxes behind the first. Assumes `Logic`.
 use Rattle.std.proofs.Common.{◌≡◌, List, [], ◌∷◌, ◌++◌, refl, sym, subst, drop}
 use mir.Val.{Val, vptr}
 use mir.MapTy.{inst_fn}
@@ -23,13 +23,13 @@ use Rattle.std_alloc.proofs.BoxSteps.Form.{Bx, args, R}
 use Rattle.std.proofs.raw_atomic.Walks.{proved_at, leaves}
 use Rattle.cordyceps_base.specs.Boxes.{boxes_lent}
 use Rattle.cordyceps_base.proofs.Memory.{Br, lent_behind}
-use Rattle.cordyceps_base.specs.contracts.boxes.Boxes.behind_first.{ended, clauses}
-use Rattle.cordyceps_base.specs.contracts.boxes.Boxes.behind_first.Key.{name as #self}
-use Rattle.cordyceps_base.proofs.boxes.Boxes.behind_first.Statement.{statement}
-use Rattle.cordyceps_base.proofs.boxes.Boxes.behind_first.Code as code
+use Rattle.cordyceps_base.specs.contracts.boxes.Boxes.after_first.{ended, clauses}
+use Rattle.cordyceps_base.specs.contracts.boxes.Boxes.after_first.Key.{name as #self}
+use Rattle.cordyceps_base.proofs.boxes.Boxes.after_first.Statement.{statement}
+use Rattle.cordyceps_base.proofs.boxes.Boxes.after_first.Code as code
 
-pub behind_first_spec : {M : Type 1} → statement M
-behind_first_spec 𝓤 𝓛 𝓜 𝓡 wired T A L LA g d dd allocator glued =
+pub after_first_spec : {M : Type 1} → statement M
+after_first_spec 𝓤 𝓛 𝓜 𝓡 wired T A L LA g d dd allocator glued =
     let H = 𝓛.H in let 𝓣 = tables 𝓤 H 𝓜 𝓡 𝓡.env in let E : Bx = record { row = T; laws = L; al = record { row = A; laws = LA; g = g; d = d; drops = dd } } in let B : RattleType = Br E in
     let En = ended T A g d dd in let c = clauses T A g d dd 𝓛 𝓜.mem 𝓡.returns in let fn = inst_fn (args E) code.function in
     let hs : Stays En.signature.params En.kept = (stay_dropped (RefOf (0 ∷ []) tt (plain (λ _. B)) (λ _. tt)) yes, tt) in

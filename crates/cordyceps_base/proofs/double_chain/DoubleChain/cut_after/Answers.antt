@@ -2,12 +2,12 @@ use Rattle.std.proofs.Common.{◌<◌, ◌-◌, take, drop, ap, ◌∙◌, sym, 
 use Rattle.cordyceps_base.specs.Boxes.{box_addresses, box_values, set_value}
 use Rattle.cordyceps_base.specs.DoubleChain.{Segment}
 use Rattle.cordyceps_base.specs.Nodes.{nodes_of}
-use Rattle.cordyceps_base.specs.Spots.{AreTestable}
+use Rattle.cordyceps_base.specs.Spots.{AreNullComparable}
 use Rattle.std.specs.Prelude.{◌≡◌, suc, slice_get, Some}
 use denote.RawPtr.{null_ptr}
 use Rattle.cordyceps_base.proofs.DoubleChain.{cut_after, front_end, front_cut, back_end, back_cut, with_next, with_prev}
 use Rattle.cordyceps_base.proofs.Nodes.{at_place, nodes_of-take, nodes_of-drop, nodes_of-set, within_values}
-use Rattle.cordyceps_base.proofs.double_chain.DoubleChain.cut_behind.Goals as goal
+use Rattle.cordyceps_base.proofs.double_chain.DoubleChain.cut_after.Goals as goal
 
 pub get-requires : goal.get-requires
 get-requires g c = at_place c.self.inside.boxes.blocks c.args.self c.self.view_is (c.args.k - 1) c.args.at.ptr c.requires.1
@@ -18,7 +18,7 @@ get_mut-requires g c =
     let parts = subst (λ j. Segment null_ptr i.head.ptr (take j ns) at b.links.next.ptr × Segment at b.links.next.ptr (drop j ns) i.tail.ptr null_ptr) on
     (cut_after null_ptr i.head.ptr (k - 1) ns i.tail.ptr null_ptr at b c.self.invariant.2 (at_place ns c.args.self c.self.view_is (k - 1) at c.requires.1) c.get.ensures) in
     let long = c.self.invariant.0 in let within = within_values ns (k - 1) b c.get.ensures in let whole = c.if-k-self.false in let less : k < i.len = omega (arith, long, within, whole) in
-    subst (λ ls. slice_get (box_addresses ls) (k - 1) ≡ Some at) (sym c.cut-front.ensures.0) (front_end k i.len ns i.head.ptr i.tail.ptr at b.links.next.ptr c.nowhere.result c.nowhere.result c.nowhere.ensures c.nowhere.ensures c.requires.0 less long parts.0)
+    subst (λ ls. slice_get (box_addresses ls) (k - 1) ≡ Some at) (sym c.cut-front.ensures.0) (front_end k i.len ns i.head.ptr i.tail.ptr at b.links.next.ptr c.null.result c.null.result c.null.ensures c.null.ensures c.requires.0 less long parts.0)
 
 pub get_mut-requires-2 : goal.get_mut-requires-2
 get_mut-requires-2 g c =
@@ -26,7 +26,7 @@ get_mut-requires-2 g c =
     let parts = subst (λ j. Segment null_ptr i.head.ptr (take j ns) at b.links.next.ptr × Segment at b.links.next.ptr (drop j ns) i.tail.ptr null_ptr) on
     (cut_after null_ptr i.head.ptr (k - 1) ns i.tail.ptr null_ptr at b c.self.invariant.2 (at_place ns c.args.self c.self.view_is (k - 1) at c.requires.1) c.get.ensures) in
     let long = c.self.invariant.0 in let within = within_values ns (k - 1) b c.get.ensures in let whole = c.if-k-self.false in let less : k < i.len = omega (arith, long, within, whole) in
-    subst (λ ls. slice_get (box_addresses ls) 0 ≡ Some b.links.next.ptr) (sym c.cut-front.ensures.1) (back_end k i.len ns i.head.ptr i.tail.ptr at b.links.next.ptr c.nowhere.result c.nowhere.result c.nowhere.ensures c.nowhere.ensures c.requires.0 less long parts.1)
+    subst (λ ls. slice_get (box_addresses ls) 0 ≡ Some b.links.next.ptr) (sym c.cut-front.ensures.1) (back_end k i.len ns i.head.ptr i.tail.ptr at b.links.next.ptr c.null.result c.null.result c.null.ensures c.null.ensures c.requires.0 less long parts.1)
 
 pub overflow_sub-rest : goal.overflow_sub-rest
 overflow_sub-rest g c =
@@ -38,11 +38,11 @@ invariant_of-first g c =
     let parts = subst (λ j. Segment null_ptr i.head.ptr (take j ns) at b.links.next.ptr × Segment at b.links.next.ptr (drop j ns) i.tail.ptr null_ptr) on
     (cut_after null_ptr i.head.ptr (k - 1) ns i.tail.ptr null_ptr at b c.self.invariant.2 (at_place ns c.args.self c.self.view_is (k - 1) at c.requires.1) c.get.ensures) in
     let long = c.self.invariant.0 in let within = within_values ns (k - 1) b c.get.ensures in let whole = c.if-k-self.false in let less : k < i.len = omega (arith, long, within, whole) in
-    let no = c.nowhere.result in let f = c.cut-front.ensures.0 in let o = c.get_mut.result.now in
-    front_cut k i.len ns i.head.ptr i.tail.ptr at b.links.next.ptr no no c.nowhere.ensures c.nowhere.ensures c.requires.0 less long o c.tested.result.blocks parts.0
+    let no = c.null.result in let f = c.cut-front.ensures.0 in let o = c.get_mut.result.now in
+    front_cut k i.len ns i.head.ptr i.tail.ptr at b.links.next.ptr no no c.null.ensures c.null.ensures c.requires.0 less long o c.null_comparable.result.blocks parts.0
     (subst (λ ls. slice_get (box_values ls) (k - 1) ≡ Some o) f c.get_mut.ensures.value)
-    (c.tested.ensures.0 ∙ ap (λ ls. set_value ls (k - 1) (with_next o no)) f)
-    (subst (λ ls. AreTestable (box_addresses ls)) (sym c.tested.ensures.0) c.tested.ensures.1)
+    (c.null_comparable.ensures.0 ∙ ap (λ ls. set_value ls (k - 1) (with_next o no)) f)
+    (subst (λ ls. AreNullComparable (box_addresses ls)) (sym c.null_comparable.ensures.0) c.null_comparable.ensures.1)
 
 pub invariant_of-rest : goal.invariant_of-rest
 invariant_of-rest g c =
@@ -50,15 +50,15 @@ invariant_of-rest g c =
     let parts = subst (λ j. Segment null_ptr i.head.ptr (take j ns) at b.links.next.ptr × Segment at b.links.next.ptr (drop j ns) i.tail.ptr null_ptr) on
     (cut_after null_ptr i.head.ptr (k - 1) ns i.tail.ptr null_ptr at b c.self.invariant.2 (at_place ns c.args.self c.self.view_is (k - 1) at c.requires.1) c.get.ensures) in
     let long = c.self.invariant.0 in let within = within_values ns (k - 1) b c.get.ensures in let whole = c.if-k-self.false in let less : k < i.len = omega (arith, long, within, whole) in
-    let no = c.nowhere-2.result in let f = c.cut-front.ensures.1 in let o = c.get_mut-2.result.now in
-    back_cut k i.len ns i.head.ptr i.tail.ptr at b.links.next.ptr no no c.nowhere-2.ensures c.nowhere-2.ensures c.requires.0 less long o c.tested-2.result.blocks parts.1
+    let no = c.null-2.result in let f = c.cut-front.ensures.1 in let o = c.get_mut-2.result.now in
+    back_cut k i.len ns i.head.ptr i.tail.ptr at b.links.next.ptr no no c.null-2.ensures c.null-2.ensures c.requires.0 less long o c.null_comparable-2.result.blocks parts.1
     (subst (λ ls. slice_get (box_values ls) 0 ≡ Some o) f c.get_mut-2.ensures.value)
-    (c.tested-2.ensures.0 ∙ ap (λ ls. set_value ls 0 (with_prev o no)) f)
-    (subst (λ ls. AreTestable (box_addresses ls)) (sym c.tested-2.ensures.0) c.tested-2.ensures.1)
+    (c.null_comparable-2.ensures.0 ∙ ap (λ ls. set_value ls 0 (with_prev o no)) f)
+    (subst (λ ls. AreNullComparable (box_addresses ls)) (sym c.null_comparable-2.ensures.0) c.null_comparable-2.ensures.1)
 
 pub returns : goal.returns
 returns g c =
     let ns = c.self.inside.boxes.blocks in let k = c.args.k in let f = c.cut-front.ensures in let o = c.get_mut.result.now in let p = c.get_mut-2.result.now in (
-      ap nodes_of c.tested.ensures.0 ∙ nodes_of-set c.cut-front.result.0.blocks (k - 1) o (with_next o c.nowhere.result) c.get_mut.ensures.value refl refl ∙ ap nodes_of f.0 ∙ nodes_of-take k ns ∙ ap (take k) c.self.view_is,
-      ap nodes_of c.tested-2.ensures.0 ∙ nodes_of-set c.cut-front.result.1.blocks 0 p (with_prev p c.nowhere-2.result) c.get_mut-2.ensures.value refl refl ∙ ap nodes_of f.1 ∙ nodes_of-drop k ns ∙ ap (drop k) c.self.view_is,
+      ap nodes_of c.null_comparable.ensures.0 ∙ nodes_of-set c.cut-front.result.0.blocks (k - 1) o (with_next o c.null.result) c.get_mut.ensures.value refl refl ∙ ap nodes_of f.0 ∙ nodes_of-take k ns ∙ ap (take k) c.self.view_is,
+      ap nodes_of c.null_comparable-2.ensures.0 ∙ nodes_of-set c.cut-front.result.1.blocks 0 p (with_prev p c.null-2.result) c.get_mut-2.ensures.value refl refl ∙ ap nodes_of f.1 ∙ nodes_of-drop k ns ∙ ap (drop k) c.self.view_is,
     )
