@@ -1,18 +1,9 @@
-//! Flags that threads set, and how long a test looks at them.
+//! Waiting for flags that threads set.
 use std::process::Abort;
-use std::sync::atomic::{AtomicBool, Ordering};
-use std::thread;
-
-/// How often a test looks at a flag before it fails.
-const LOOKS: u64 = 10_000_000;
+use std::sync::atomic::AtomicBool;
+use test_support::flags::is_set_in_time;
 
 /// Looks at a flag until it is set, and fails where that never comes.
 pub fn await_flag(rt: &impl Abort, flag: &AtomicBool) {
-    for _ in 0..LOOKS {
-        if flag.load(Ordering::SeqCst) {
-            return;
-        }
-        thread::yield_now();
-    }
-    panic!(rt; "a thread's calls have not returned");
+    assert!(rt; is_set_in_time(flag), "a thread's calls have not returned");
 }
