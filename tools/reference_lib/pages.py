@@ -148,11 +148,12 @@ class Page:
         return f"[{text}]({'' if other == self.name else other}#{anchor})"
 
     def about(self, item):
-        """A doc comment, but for its section of costs."""
+        """A doc comment, but for its section of costs. Blocks of code in it are Rust."""
         text, more = doc_of(item)
         self.lines += [*text.split("\n"), ""]
         for title, body in more.items():
             if title != "Complexity":
+                body = re.sub(r"^```\n(.*?)^```$", r"```rust\n\1```", body, flags=re.M | re.S)
                 self.lines += [*f"**{title}.** {body}".split("\n"), ""]
 
 

@@ -58,6 +58,19 @@ impl<T> Block<T> {
 ///
 /// It owns one block of memory, and has the size of a pointer. It can be sent to a thread, and shared by threads, if
 /// `T` can. Dropping it frees the block.
+///
+/// # Examples
+/// From `tour::take_the_second` of `cordyceps_uses`:
+/// ```
+/// // a node has a number, which its maker chooses, and a value
+/// jobs.push_back(Node::new(alloc, 1, Job { rank: 7 })?);
+/// ```
+///
+/// From `tour::submit` of `cordyceps_uses`:
+/// ```
+/// // the same node, for lists: it takes no memory
+/// waiting.lock(rt).try_push_back(job.into_kind())
+/// ```
 #[derive(Drop)]
 pub struct Node<T, L> {
     pub(crate) block: Box<Block<T>>,

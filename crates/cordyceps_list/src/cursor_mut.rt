@@ -15,6 +15,14 @@ use std::mem;
 ///
 /// A place is an index from 0 to the length. The length is the null place, which has no element: it is after the last
 /// element and before the first. The cursor borrows the list until it ends.
+///
+/// # Examples
+/// From `tour::take_the_second` of `cordyceps_uses`:
+/// ```
+/// let mut cursor = jobs.cursor_front_mut();
+/// cursor.move_next();
+/// Ok(cursor.remove_current())
+/// ```
 pub struct CursorMut<'a, T> {
     list: &'a mut List<T>,
     at: usize,

@@ -18,6 +18,23 @@ use std::marker::Model;
 ///
 /// # Complexity
 /// Dropping the list frees each node once: O(n), for n elements.
+///
+/// # Examples
+/// From `tour::take_the_second` of `cordyceps_uses`:
+/// ```
+/// let mut jobs: List<Job> = List::new();
+/// // a node has a number, which its maker chooses, and a value
+/// jobs.push_back(Node::new(alloc, 1, Job { rank: 7 })?);
+/// jobs.push_back(Node::new(alloc, 2, Job { rank: 3 })?);
+/// jobs.push_back(Node::new(alloc, 3, Job { rank: 5 })?);
+/// ```
+///
+/// From `tour::rotate` of `cordyceps_uses`:
+/// ```
+/// if let Some(first) = jobs.pop_front() {
+///     jobs.push_back(first);
+/// }
+/// ```
 #[derive(Drop)]
 pub struct List<T> {
     pub(crate) chain: DoubleChain<T>,

@@ -15,6 +15,14 @@ use std::marker::Model;
 ///
 /// # Complexity
 /// Dropping the stack frees each node once: O(n), for n elements.
+///
+/// # Examples
+/// From `tour::least_rank` of `cordyceps_uses`:
+/// ```
+/// let mut arrived: Stack<Job> = Stack::new();
+/// arrived.push(first);
+/// arrived.push(second);
+/// ```
 #[derive(Drop)]
 pub struct Stack<T> {
     chain: SingleChain<T, Links<T>>,

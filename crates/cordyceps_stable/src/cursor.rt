@@ -12,6 +12,22 @@ use std::marker::Model;
 /// at.
 ///
 /// It is at an element, or at the null place, which is after the last element and before the first.
+///
+/// # Examples
+/// From `tour::take_least` of `cordyceps_uses`:
+/// ```
+/// let mut cursor = jobs.cursor_front();
+/// // the spot of the best job that the cursor has passed
+/// let mut best = cursor.spot()?;
+/// cursor.move_next();
+/// while let Some(at) = cursor.spot() {
+///     if jobs.get(at).rank < jobs.get(best).rank {
+///         best = at;
+///     }
+///     cursor.move_next();
+/// }
+/// Some(jobs.remove(best))
+/// ```
 #[derive(Drop)]
 pub struct SpotCursor<'a, T> {
     chain: &'a DoubleChain<T>,

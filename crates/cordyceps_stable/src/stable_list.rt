@@ -44,6 +44,20 @@ impl Model for Spot {
 ///
 /// # Complexity
 /// Dropping the list frees each node once: O(n), for n elements.
+///
+/// # Examples
+/// From `recency::Cache::insert` of `cordyceps_uses`:
+/// ```
+/// let spot = self.list.push_front(node);
+/// let put: Result<_, _> = self.spots.insert(key, spot);
+/// ```
+///
+/// From `recency::Cache::get` of `cordyceps_uses`:
+/// ```
+/// let spot = *self.spots.get(&key)?;
+/// let value = self.list.get(spot).value;
+/// self.list.move_to_front(spot);
+/// ```
 #[derive(Drop)]
 pub struct StableList<T> {
     pub(crate) chain: DoubleChain<T>,

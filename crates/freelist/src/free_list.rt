@@ -24,6 +24,21 @@ use std::marker::Model;
 ///
 /// # Complexity
 /// Dropping the list drops the shared blocks: O(r), for r rooms.
+///
+/// # Examples
+/// From `tour::give_back` of `cordyceps_uses`:
+/// ```
+/// let (blocks, mut party) = FreeList::<Job>::new(alloc, 8)?;
+/// // another thread's party, and the owner's part
+/// let mut remote = blocks.split(&mut party, 8);
+/// let mut local = blocks.local(party);
+/// // without an atomic step
+/// local.put(near);
+/// // `Err` hands the block back: try again
+/// let _ = blocks.put_remote(&mut remote, far);
+/// // the last that was put, else what others put back
+/// Ok(local.get())
+/// ```
 #[derive(Drop)]
 pub struct FreeList<T: Linked<Links<T>>> {
     shared: TransferStack<T>,

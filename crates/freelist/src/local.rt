@@ -14,6 +14,17 @@ use std::marker::Model;
 ///
 /// # Complexity
 /// Dropping it frees each block once: O(n + r), for n blocks and r rooms of its party.
+///
+/// # Examples
+/// From `tour::give_back` of `cordyceps_uses`:
+/// ```
+/// // without an atomic step
+/// local.put(near);
+/// // `Err` hands the block back: try again
+/// let _ = blocks.put_remote(&mut remote, far);
+/// // the last that was put, else what others put back
+/// Ok(local.get())
+/// ```
 #[derive(Drop)]
 pub struct Local<'a, T: Linked<Links<T>>> {
     shared: &'a TransferStack<T>,

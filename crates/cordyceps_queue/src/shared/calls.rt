@@ -39,6 +39,22 @@ use std::marker::Model;
 ///
 /// # Complexity
 /// Dropping the queue drops its elements and the stub: O(r), for r rooms.
+///
+/// # Examples
+/// From `tour::send` of `cordyceps_uses`:
+/// ```
+/// let (queue, mut party) = MpscQueue::<Job>::new(alloc, 8)?;
+/// let mut sender = queue.split(&mut party, 4);
+/// queue.enqueue(&mut sender, first);
+/// queue.enqueue(&mut sender, second);
+/// // the sender has ended, and what it did is the party's
+/// queue.absorb(&mut party, sender);
+/// // the right to take jobs out, of one party at a time
+/// let Ok(mut consumer) = queue.try_consume(party) else {
+///     return Ok(None);
+/// };
+/// Ok(consumer.take_linked(16).ok())
+/// ```
 #[derive(Drop)]
 pub struct MpscQueue<T: Linked<Links<T>>> {
     pub(crate) rooms: OwnedTable<T::Handle>,
@@ -68,6 +84,16 @@ impl<T: Linked<Links<T>>> Model for MpscQueue<T> {
 ///
 /// # Complexity
 /// Dropping a party is O(r), for r rooms that it has.
+///
+/// # Examples
+/// From `tour::send` of `cordyceps_uses`:
+/// ```
+/// let mut sender = queue.split(&mut party, 4);
+/// queue.enqueue(&mut sender, first);
+/// queue.enqueue(&mut sender, second);
+/// // the sender has ended, and what it did is the party's
+/// queue.absorb(&mut party, sender);
+/// ```
 #[derive(Drop)]
 pub struct Party<T: Linked<Links<T>>> {
     pub(crate) seat: PartySeat<T::Handle>,

@@ -144,6 +144,16 @@ impl<E: Drop> Right<E> {
 ///
 /// # Complexity
 /// Dropping a consumer is O(r), for r rooms that its party has.
+///
+/// # Examples
+/// From `tour::send` of `cordyceps_uses`:
+/// ```
+/// // the right to take jobs out, of one party at a time
+/// let Ok(mut consumer) = queue.try_consume(party) else {
+///     return Ok(None);
+/// };
+/// Ok(consumer.take_linked(16).ok())
+/// ```
 pub struct Consumer<'a, T: Linked<Links<T>>> {
     queue: &'a MpscQueue<T>,
     right: Right<T::Handle>,

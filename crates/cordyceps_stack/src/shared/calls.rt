@@ -31,6 +31,21 @@ use std::marker::Model;
 ///
 /// # Complexity
 /// Dropping the stack drops its elements: O(r), for r rooms.
+///
+/// # Examples
+/// From `tour::hand_over` of `cordyceps_uses`:
+/// ```
+/// // rooms for eight jobs, and a party that has them all
+/// let (shared, mut taker) = TransferStack::<Job>::new(alloc, 8)?;
+/// // a party for another thread, which can push four
+/// let mut pusher = shared.split(&mut taker, 4);
+/// // tries until nobody comes between; `try_push` tries once, and may hand the job back
+/// shared.push(rt, &mut pusher, first);
+/// shared.push(rt, &mut pusher, second);
+/// // the other thread has ended, and what it did is the taker's
+/// shared.absorb(&mut taker, pusher);
+/// Ok(shared.take_all(&mut taker))
+/// ```
 #[derive(Drop)]
 pub struct TransferStack<T: Linked<Links<T>>> {
     pub(crate) rooms: OwnedTable<T::Handle>,
@@ -59,6 +74,18 @@ impl<T: Linked<Links<T>>> Model for TransferStack<T> {
 ///
 /// # Complexity
 /// Dropping a party is O(r), for r rooms that it has.
+///
+/// # Examples
+/// From `tour::hand_over` of `cordyceps_uses`:
+/// ```
+/// // a party for another thread, which can push four
+/// let mut pusher = shared.split(&mut taker, 4);
+/// // tries until nobody comes between; `try_push` tries once, and may hand the job back
+/// shared.push(rt, &mut pusher, first);
+/// shared.push(rt, &mut pusher, second);
+/// // the other thread has ended, and what it did is the taker's
+/// shared.absorb(&mut taker, pusher);
+/// ```
 #[derive(Drop)]
 pub struct Party<T: Linked<Links<T>>> {
     pub(crate) seat: PartySeat<T::Handle>,

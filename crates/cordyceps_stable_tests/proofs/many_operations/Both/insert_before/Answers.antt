@@ -1,5 +1,0 @@
-use Rattle.cordyceps_stable.proofs.Reached.{put_before_has}
-use Rattle.cordyceps_stable_tests.proofs.many_operations.Both.insert_before.Goals as goal
-
-pub lies-requires : goal.lies-requires
-lies-requires g c = put_before_has _ _ _ _ _ c.insert_before-new.ensures.holds

@@ -1,9 +1,0 @@
-//! What the tests of several crates share: values that count their drops, elements of lists, nodes, drawn numbers, and
-//! what can be sent and shared.
-#![tactic(auto)]
-
-pub mod counted;
-pub mod draws;
-pub mod items;
-pub mod nodes;
-pub mod travels;

@@ -1,5 +1,0 @@
-use Rattle.cordyceps.proofs.Spots.Reached.{taken_has}
-use Rattle.cordyceps_uses_tests.proofs.timer_orders.a_cancelled_timer_is_started_again.Goals as goal
-
-pub cancel-cancelled-requires : goal.cancel-cancelled-requires
-cancel-cancelled-requires g c = taken_has _ _ _ _ c.in_ok-spot.ensures.1

@@ -1,6 +1,0 @@
-use Rattle.cordyceps.specs.Elements.Nodes.{spots}
-use Rattle.cordyceps.specs.Spots.Spots.{AreDistinct}
-use Rattle.cordyceps_uses_tests.proofs.tours.ranked.Given as goal
-
-abbrev pub invariant-loop-rank : goal.invariant-loop-rank
-invariant-loop-rank l = AreDistinct (spots l.jobs)

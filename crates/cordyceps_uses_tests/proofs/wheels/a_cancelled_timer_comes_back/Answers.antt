@@ -1,9 +1,0 @@
-use Rattle.std.proofs.Common.{sym, subst}
-use Rattle.cordyceps_uses.specs.TimerWheel.{IsGood}
-use Rattle.cordyceps_uses.proofs.Turning.{stays_good}
-use Rattle.cordyceps_uses_tests.proofs.wheels.a_cancelled_timer_comes_back.Goals as goal
-
-pub cancel-node-requires : goal.cancel-node-requires
-cancel-node-requires g c =
-    let stays = stays_good c.start.new.self c.in_ok-second.second.id c.in-Ok.ticket.deadline c.in-Ok.ticket.spot c.in-Ok-start.other.spot c.in_ok-second.second c.in-Ok.ensures.good in
-    subst (λ w. IsGood c.in-Ok.ticket.deadline c.in-Ok.ticket.spot w) (sym c.in-Ok-start.ensures.started) stays

@@ -1,0 +1,98 @@
+//! Nodes and counts of steps.
+use crate::compared::same;
+use cordyceps_base::node::{Kind, Node, Refused};
+use cordyceps_base::shared::{MAX_ROOMS, StepError};
+use cordyceps_base::steps::{Steps, count_one};
+use cordyceps_base::{list, mpsc_queue, stack};
+use std::alloc::{AllocError, Global};
+use std::process::Abort;
+use std::test::Fail;
+use test_support::counted::{Counted, Drops, counted_node};
+use test_support::nodes::node_of;
+
+#[test]
+fn keeps_its_number_and_value(rt: HostRuntime) -> Result<(), Fail> {
+    let mut node: Node<u64, list::Links<u64>> = node_of(rt.alloc(), 18446744073709551615, 7)?;
+    same(&rt, node.id(), 18446744073709551615);
+    same(&rt, *node.get(), 7);
+    *node.get_mut() = 8;
+    same(&rt, node.id(), 18446744073709551615);
+    same(&rt, node.into_value(), 8);
+    Ok(())
+}
+
+#[test]
+fn takes_another_number(rt: HostRuntime) -> Result<(), Fail> {
+    let mut node: Node<u64, list::Links<u64>> = node_of(rt.alloc(), 1, 7)?;
+    node.set_id(18446744073709551615);
+    same(&rt, (node.id(), *node.get()), (18446744073709551615, 7));
+    Ok(())
+}
+
+#[test]
+fn becomes_a_node_of_each_kind(rt: HostRuntime) -> Result<(), Fail> {
+    let drops = Drops::new(rt.alloc())?;
+    let of_list: Node<Counted, list::Links<Counted>> = counted_node(rt.alloc(), 5, 50, &drops)?;
+    let of_stack: Node<Counted, stack::Links<Counted>> = of_list.into_kind();
+    let of_queue: Node<Counted, mpsc_queue::Links<Counted>> = of_stack.into_kind();
+    let again: Node<Counted, list::Links<Counted>> = of_queue.into_kind();
+    same(
+        &rt,
+        (again.id(), again.get().value, drops.count()),
+        (5, 50, 0),
+    );
+    drop(again);
+    same(&rt, drops.count(), 1);
+    Ok(())
+}
+
+/// A node of the number 7 and of a value that counts its drop. Where memory is refused the value comes back, and goes
+/// into the next call.
+fn seventh<L: Kind>(
+    rt: &impl Abort,
+    alloc: Global,
+    value: Counted,
+    drops: &Drops,
+) -> Result<Node<Counted, L>, AllocError> {
+    match Node::new(alloc, 7, value) {
+        Ok(node) => Ok(node),
+        Err(Refused { value }) => {
+            same(rt, (value.value, drops.count()), (70, 0));
+            node_of(alloc, 7, value)
+        }
+    }
+}
+
+/// Makes such a node, and drops it.
+fn comes_and_goes<L: Kind>(rt: &impl Abort, alloc: Global) -> Result<(), AllocError> {
+    let drops = Drops::new(alloc)?;
+    let value = Counted::new(70, &drops)?;
+    let node: Node<Counted, L> = seventh(rt, alloc, value, &drops)?;
+    same(rt, (node.id(), node.get().value), (7, 70));
+    same(rt, drops.count(), 0);
+    drop(node);
+    same(rt, drops.count(), 1);
+    Ok(())
+}
+
+// It says more where an allocation is made to fail, as `tools/refusals` does: the value then comes back from
+// `Node::new`.
+#[test]
+fn makes_a_node_of_the_value_handed_back(rt: HostRuntime) -> Result<(), Fail> {
+    comes_and_goes::<list::Links<Counted>>(&rt, rt.alloc())?;
+    comes_and_goes::<stack::Links<Counted>>(&rt, rt.alloc())?;
+    comes_and_goes::<mpsc_queue::Links<Counted>>(&rt, rt.alloc())?;
+    Ok(())
+}
+
+#[test]
+fn counts_steps(rt: HostRuntime) {
+    let mut steps = Steps::new();
+    same(&rt, steps.count(), 0);
+    count_one(&mut steps);
+    same(&rt, steps.count(), 1);
+    same(&rt, Steps::default().count(), 0);
+    same(&rt, StepError::NotThere as u8, 1);
+    same(&rt, StepError::Memory as u8, 2);
+    same(&rt, MAX_ROOMS, 1048576);
+}

@@ -1,0 +1,76 @@
+//! Numbered blocks, which count their drops.
+use crate::compared::same;
+use cordyceps_base::node::Node;
+use freelist::{Links, Stack};
+use std::alloc::{AllocError, Global};
+use std::process::Abort;
+use test_support::counted::{Counted, Drops, counted_node};
+use test_support::nodes::number;
+
+/// What a free list hands out, and takes back.
+pub type Handle = Node<Counted, Links<Counted>>;
+
+/// A block of this number.
+pub fn block(alloc: Global, number: u64, drops: &Drops) -> Result<Handle, AllocError> {
+    counted_node(alloc, number, 0, drops)
+}
+
+/// Two blocks, of this number and the next.
+pub fn pair(alloc: Global, first: u64, drops: &Drops) -> Result<(Handle, Handle), AllocError> {
+    let one = block(alloc, first, drops)?;
+    let two = block(alloc, first.wrapping_add(1), drops)?;
+    Ok((one, two))
+}
+
+/// Blocks of the numbers from the first to the one before the end.
+pub fn blocks(
+    alloc: Global,
+    first: u64,
+    end: u64,
+    drops: &Drops,
+) -> Result<Stack<Counted>, AllocError> {
+    let mut made = Stack::new();
+    for number in first..end {
+        made.push(block(alloc, number, drops)?);
+    }
+    Ok(made)
+}
+
+/// Compares how many drops were counted with what is wanted.
+pub fn dropped(rt: &impl Abort, drops: &Drops, wanted: u64) {
+    same(rt, drops.count(), wanted);
+}
+
+/// Compares the numbers that a stack gives with those that are wanted, and has it give no more.
+pub fn gives(rt: &impl Abort, stack: Stack<Counted>, wanted: &[u64]) {
+    let mut left = stack;
+    for wanted in wanted {
+        same(rt, number(left.pop()), Some(*wanted));
+    }
+    same(rt, left.is_empty(), true);
+}
+
+/// The numbers of these blocks, the least first.
+fn sorted(alloc: Global, blocks: Stack<Counted>) -> Result<Vec<u64>, AllocError> {
+    let mut numbers = Vec::new(alloc);
+    for block in blocks {
+        numbers.push(block.id())?;
+    }
+    numbers.sort()?;
+    Ok(numbers)
+}
+
+/// Compares the numbers of these blocks with those below an end, each of which is to be there once.
+pub fn each_once(
+    rt: &impl Abort,
+    alloc: Global,
+    blocks: Stack<Counted>,
+    end: u64,
+) -> Result<(), AllocError> {
+    let numbers = sorted(alloc, blocks)?;
+    same(rt, numbers.len() as u64, end);
+    for (place, number) in numbers.iter().enumerate() {
+        same(rt, *number, place as u64);
+    }
+    Ok(())
+}

@@ -1,0 +1,97 @@
+//! Calls of a free list, one after the other.
+use crate::blocks::{Handle, block, dropped, gives, pair};
+use crate::compared::same;
+use crate::users::{Remote, finishes, gets, puts};
+use freelist::{FreeList, Local};
+use std::alloc::AllocError;
+use std::process::Abort;
+use test_support::counted::{Counted, Drops};
+use test_support::nodes::number;
+
+/// Puts 1 and 2 into a local part, has 3 and 4 put back for all, and gets all four.
+fn put_and_get(
+    rt: &impl Abort,
+    mut local: Local<'_, Counted>,
+    mut remote: Remote<'_>,
+    own: (Handle, Handle),
+    others: (Handle, Handle),
+) {
+    let (one, two) = own;
+    let (three, four) = others;
+    local.put(one);
+    local.put(two);
+    remote.puts(rt, three, true);
+    remote.puts(rt, four, false);
+    gets(rt, &mut local, &[Some(2), Some(1), Some(4), Some(3), None]);
+    finishes(rt, local, 3);
+}
+
+#[test]
+fn local_blocks_come_before_shared_ones(rt: HostRuntime) -> Result<(), AllocError> {
+    let drops = Drops::new(rt.alloc())?;
+    let own = pair(rt.alloc(), 1, &drops)?;
+    let others = pair(rt.alloc(), 3, &drops)?;
+    let (list, mut party) = FreeList::new(rt.alloc(), 3)?;
+    let remote = Remote::at(&list, list.split(&mut party, 2));
+    put_and_get(&rt, list.local(party), remote, own, others);
+    dropped(&rt, &drops, 4);
+    Ok(())
+}
+
+#[test]
+fn a_close_gives_what_is_shared(rt: HostRuntime) -> Result<(), AllocError> {
+    let drops = Drops::new(rt.alloc())?;
+    let (one, two) = pair(rt.alloc(), 1, &drops)?;
+    let (list, mut party) = FreeList::new(rt.alloc(), 5)?;
+    let mut other = list.split(&mut party, 2);
+    same(&rt, (party.rooms(), other.rooms()), (3, 2));
+    puts(&rt, &list, &mut other, one, true);
+    puts(&rt, &list, &mut party, two, false);
+    same(&rt, (party.rooms(), other.rooms()), (2, 1));
+    list.absorb(&mut party, other);
+    same(&rt, party.rooms(), 3);
+    gives(&rt, list.close(party), &[2, 1]);
+    Ok(())
+}
+
+#[test]
+fn a_free_list_without_rooms_shares_nothing(rt: HostRuntime) -> Result<(), AllocError> {
+    let (list, mut party) = FreeList::<Counted>::new(rt.alloc(), 0)?;
+    let other = list.split(&mut party, 0);
+    same(&rt, (party.rooms(), other.rooms()), (0, 0));
+    let mut local = list.local(other);
+    same(&rt, number(local.get()), None);
+    let (blocks, other) = local.finish();
+    gives(&rt, blocks, &[]);
+    list.absorb(&mut party, other);
+    same(&rt, party.rooms(), 0);
+    gives(&rt, list.close(party), &[]);
+    Ok(())
+}
+
+/// Puts a block back for all and gets it.
+fn put_and_get_one(
+    rt: &impl Abort,
+    mut remote: Remote<'_>,
+    mut local: Local<'_, Counted>,
+    one: Handle,
+) {
+    remote.puts(rt, one, true);
+    gets(rt, &mut local, &[Some(1), None]);
+    finishes(rt, local, 2);
+}
+
+// It says more where an allocation is made to fail, as `tools/refusals` does: `new` then answers `Err`,
+// and the next call, which meets none, makes a free list.
+#[test]
+fn makes_a_free_list_after_refused_memory(rt: HostRuntime) -> Result<(), AllocError> {
+    let (list, mut party) = match FreeList::<Counted>::new(rt.alloc(), 2) {
+        Ok(made) => made,
+        Err(AllocError) => FreeList::new(rt.alloc(), 2)?,
+    };
+    let drops = Drops::new(rt.alloc())?;
+    let one = block(rt.alloc(), 1, &drops)?;
+    let remote = Remote::at(&list, list.split(&mut party, 1));
+    put_and_get_one(&rt, remote, list.local(party), one);
+    Ok(())
+}

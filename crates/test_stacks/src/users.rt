@@ -1,0 +1,115 @@
+//! Users of a free list: parties that put blocks back for all, and owners of a local part.
+ghost use Rattle.std.specs.Prelude.{◌≡◌};
+
+use crate::blocks::Handle;
+use crate::compared::{has_room, same};
+use freelist::{FreeList, Local, Party, Stack};
+use std::process::Abort;
+use std::thread;
+use test_support::counted::Counted;
+use test_support::nodes::number;
+
+/// How often a thread tries a call at most, before the test fails.
+const TURNS: u64 = 10_000_000;
+
+/// Puts a block back by one try, which nobody overtakes, and compares whether nothing was shared before with what is
+/// wanted.
+pub fn puts(
+    rt: &impl Abort,
+    list: &FreeList<Counted>,
+    party: &mut Party<Counted>,
+    handle: Handle,
+    first: bool,
+)
+    requires { party.old.table ≡ list.now }
+    ensures table { party.new.table ≡ list.now }
+    ensures share { party.new.share ≡ party.old.share }
+{
+    has_room(rt, party.rooms());
+    match list.put_remote(party, handle) {
+        Ok(was_empty) => same(rt, was_empty, first),
+        Err(_) => panic!(rt; "nobody else puts a block back or takes"),
+    }
+}
+
+/// Compares the numbers of the blocks that come out one after the other with those that are wanted.
+pub fn gets(rt: &impl Abort, local: &mut Local<'_, Counted>, wanted: &[Option<u64>]) {
+    for wanted in wanted {
+        same(rt, number(local.get()), *wanted);
+    }
+}
+
+/// Ends a local part, and compares how many rooms its party has with what is wanted. No block is to be left.
+pub fn finishes(rt: &impl Abort, local: Local<'_, Counted>, rooms: usize) {
+    let (blocks, party) = local.finish();
+    same(rt, blocks.is_empty(), true);
+    same(rt, party.rooms(), rooms);
+}
+
+/// Gets so many blocks, turn after turn.
+pub fn get_all(rt: &impl Abort, mut local: Local<'_, Counted>, wanted: usize) -> Stack<Counted> {
+    let mut all = Stack::new();
+    let mut left = wanted;
+    for _ in 0..TURNS {
+        if left == 0 {
+            return all;
+        }
+        match local.get() {
+            Some(block) => {
+                all.push(block);
+                left -= 1;
+            }
+            None => thread::yield_now(),
+        }
+    }
+    panic!(rt; "not all blocks came back");
+}
+
+/// A party at its free list.
+#[derive(Drop)]
+pub struct Remote<'f> {
+    list: &'f FreeList<Counted>,
+    party: Party<Counted>,
+    ghost seated: { party.table ≡ list.now },
+}
+
+impl<'f> Remote<'f> {
+    /// A party of this free list.
+    pub fn at(list: &'f FreeList<Counted>, party: Party<Counted>) -> Remote<'f>
+        requires { party.table ≡ list.now }
+    {
+        Remote { list, party }
+    }
+
+    /// Puts a block back by one try, and compares whether nothing was shared before with what is wanted.
+    pub fn puts(&mut self, rt: &impl Abort, handle: Handle, first: bool) {
+        puts(rt, self.list, &mut self.party, handle, first);
+    }
+
+    /// Puts a block back into a room that has to be there, try after try.
+    fn put(&mut self, rt: &impl Abort, handle: Handle) {
+        let mut block = handle;
+        for _ in 0..TURNS {
+            has_room(rt, self.party.rooms());
+            match self.list.put_remote(&mut self.party, block) {
+                Ok(_) => return,
+                Err(back) => block = back,
+            }
+            thread::yield_now();
+        }
+        panic!(rt; "a block was not put back");
+    }
+
+    /// Puts all of these blocks back.
+    pub fn put_all(mut self, rt: &impl Abort, blocks: Stack<Counted>) {
+        for block in blocks {
+            self.put(rt, block);
+        }
+    }
+
+    /// A local part with this party.
+    pub fn local(self) -> Local<'f, Counted> {
+        let Remote { list, party } = self;
+        list.local(party)
+    }
+}

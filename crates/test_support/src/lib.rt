@@ -1,0 +1,10 @@
+//! What the tests of several crates share: values that count their drops, elements of lists, nodes, drawn numbers,
+//! flags that threads set, and what can be sent and shared.
+#![tactic(auto)]
+
+pub mod counted;
+pub mod draws;
+pub mod flags;
+pub mod items;
+pub mod nodes;
+pub mod travels;
