@@ -46,7 +46,7 @@ module _ {E : Type 0} (s : TableState E) (k : RuleHolds s) (id : ℕ) (v : View 
       party = (ap (λ (p : AbstractParty Name). update core.party id (Some p)) (λ i. record { name = name v; stage = sym rest i; spare = v.back ++ v.free }) ∙ put_again core.party id (party v) is_there) j;
     }
 
-    takes_bare : (slots : ℕ) → length s.homes ≡ slots → (x : ℕ) → word.right s.words ≡ x → Comes s k id v at named bare RIGHT 0 (play.took (step slots RIGHT 0 0 none) (v, []))
+    takes_bare : (slots : ℕ) → length s.homes ≡ slots → (x : ℕ) → word.right s.words ≡ x → Comes s k id v at named bare RIGHT 0 (play.after_take (step slots RIGHT 0 0 none) (v, []))
     takes_bare slots deep zero e =
         let x : Event Name E = Event.Busy (name v) in
         let met = subst (λ q. Meets q k.chain (x ∷ gone_by)) (sym (unmoved e)) (busy_keeps core k.chain gone_by k.meets id (party v) is_there rest e) in
@@ -104,22 +104,22 @@ same_second : {p : Stage} {t u : ℕ} → p ≡ Second t → p ≡ Second u → 
 same_second a b = some_inj (ap tail_of (sym a ∙ b))
 
 module _ {E : Type 0} (slots id : ℕ) (me : SeatState E) (hand : me.1 ≡ carry me.0.back) (near : Near slots me.0.back) (named : me.0.known.share ≢ []) where
-  pub takes_right : me.0.stage ≡ Rest → Allows RuleHolds slots id me RIGHT (λ _. 0) (play.took (step slots RIGHT 0 0 none) me)
-  takes_right rest = returning slots id RIGHT me (λ _. 0) (play.took (step slots RIGHT 0 0 none) me) hand near named
+  pub takes_right : me.0.stage ≡ Rest → Allows RuleHolds slots id me RIGHT (λ _. 0) (play.after_take (step slots RIGHT 0 0 none) me)
+  takes_right rest = returning slots id RIGHT me (λ _. 0) (play.after_take (step slots RIGHT 0 0 none) me) hand near named
       (λ s k deep at fits. takes_bare s k id (view_returned me.0) at named refl rest slots deep (word.right s.words) refl)
 
-  pub gives_right : (t n' : ℕ) → n' ≡ t + 1 → me.0.stage ≡ Holding t → Allows RuleHolds slots id me RIGHT (λ _. n') (λ _. play.gave (step slots RIGHT n' 0 none) me n')
-  gives_right t n' is holding = returning slots id RIGHT me (λ _. n') (λ _. play.gave (step slots RIGHT n' 0 none) me n') hand near named
+  pub gives_right : (t n' : ℕ) → n' ≡ t + 1 → me.0.stage ≡ Holding t → Allows RuleHolds slots id me RIGHT (λ _. n') (λ _. play.after_give (step slots RIGHT n' 0 none) me n')
+  gives_right t n' is holding = returning slots id RIGHT me (λ _. n') (λ _. play.after_give (step slots RIGHT n' 0 none) me n') hand near named
       (λ s k deep at fits. let c = gives_bare s k id (view_returned me.0) at named refl t holding n' is in (c.0, c.1, c.2, c.3, λ _ _. c.4))
 
-  pub looks : (t i : ℕ) → i ≡ LINKS + t → me.0.stage ≡ Holding t → t ≢ 0 → Allows RuleHolds slots id me i (λ x. x) (play.looked (step slots i 0 0 none) me)
-  looks t i is holding is_real = returning slots id i me (λ x. x) (play.looked (step slots i 0 0 none) me) hand near named
+  pub looks : (t i : ℕ) → i ≡ LINKS + t → me.0.stage ≡ Holding t → t ≢ 0 → Allows RuleHolds slots id me i (λ x. x) (play.after_look (step slots i 0 0 none) me)
+  looks t i is holding is_real = returning slots id i me (λ x. x) (play.after_look (step slots i 0 0 none) me) hand near named
       (λ s k deep at fits.
       let c = looks_bare s k id (view_returned me.0) at named refl t holding is_real i is slots deep in
       (c.0, c.1, c.2, c.3, λ u stage ne. subst (λ q. ReadsTail s k id (view_returned me.0) at named refl (Event.Look (name me.0) ∷ []) slots q (get_or s.words i 0) (c.0, carried_after [] c.1)) (same_tail holding stage) c.4))
 
-  pub reads_behind : (t i : ℕ) → i ≡ LINKS + t → me.0.stage ≡ Second t → Allows RuleHolds slots id me i (λ x. x) (play.read (step slots i 0 0 none) me)
-  reads_behind t i is behind = returning slots id i me (λ x. x) (play.read (step slots i 0 0 none) me) hand near named
+  pub reads_behind : (t i : ℕ) → i ≡ LINKS + t → me.0.stage ≡ Second t → Allows RuleHolds slots id me i (λ x. x) (play.after_read (step slots i 0 0 none) me)
+  reads_behind t i is behind = returning slots id i me (λ x. x) (play.after_read (step slots i 0 0 none) me) hand near named
       (λ s k deep at fits.
       let c = reads_bare s k id (view_returned me.0) at named refl t behind i is slots deep in
       (c.0, c.1, c.2, c.3, λ u stage. subst (λ q. ReadsTail s k id (view_returned me.0) at named refl [] slots q (get_or s.words i 0) (c.0, carried_after [] c.1)) (same_second behind stage) c.4))

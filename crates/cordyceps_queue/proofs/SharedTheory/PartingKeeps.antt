@@ -24,7 +24,7 @@ use Rattle.cordyceps_queue.specs.declared.cores.stage.Stage.TheVariants.{Rest, C
 use Rattle.cordyceps_queue.specs.History.{Event, actor}
 use Rattle.cordyceps_shared.specs.Places.{ItemAt}
 use Rattle.cordyceps_queue.specs.Cores.Meets.{Owner, Shared, Spare, Unmade, OwnsRooms, AtStage, Meets}
-use Rattle.cordyceps_queue.specs.Shared.Parting.{view_keeping, view_giving, view_absorbing, view_absorbed, view_without_told, learned}
+use Rattle.cordyceps_queue.specs.Shared.Parting.{view_keeping, view_giving, view_absorbing, view_absorbed, view_without_told, after_learn}
 use Rattle.cordyceps_queue.specs.Past.{IsLegal, IsSettled}
 use Rattle.cordyceps_queue.specs.Shared.Plays.{SeatState, LegalReversed}
 use Rattle.cordyceps_shared.specs.Slots.{Homes, EmptyAtHome}
@@ -351,7 +351,7 @@ module _ {E : Type 0} where
   pub joins : (id other : ℕ) (v w : View E) → v.stage ≡ Rest → w.stage ≡ Rest → v.back ≡ [] → w.back ≡ [] → v.known.share ≢ [] → w.known.share ≢ [] → Joins RuleHolds id v other w (view_absorbing v w) view_absorbed
   joins id other v w rest rest_too bare bare_too named named_too s k at apart there = joint_kept s k id other v w rest rest_too bare bare_too named named_too at apart there
 
-  pub learns : (slots id : ℕ) (me : SeatState E) (v w : View E) → me.0 ≡ view_absorbing v w → v.known.share ≢ [] → Allows RuleHolds slots id me HEAD (λ n. n) (learned (step slots HEAD 0 0 none) me)
+  pub learns : (slots id : ℕ) (me : SeatState E) (v w : View E) → me.0 ≡ view_absorbing v w → v.known.share ≢ [] → Allows RuleHolds slots id me HEAD (λ n. n) (after_learn (step slots HEAD 0 0 none) me)
   learns slots id me v w is named s k deep at fits =
       let u = me.0 in
       let some_name : u.known.share ≢ [] = λ e. joined_some v.known.share w.known.share named (sym (ap (λ (z : View E). z.known.share) is) ∙ e) in

@@ -15,7 +15,7 @@ use Rattle.cordyceps_queue.specs.Shared.Parts.{AsksRight, Tries, Dequeued}
 use Rattle.cordyceps_queue.specs.History.{Event, actor}
 use Rattle.cordyceps_shared.specs.Places.{ItemAt}
 use Rattle.cordyceps_shared.specs.Slots.{Near, TableStep, full_slot, Hand}
-use Rattle.cordyceps_queue.specs.Shared.Plays.{SeatState, LegalReversed, carry, stands_at, hands_out, HandsOneOut, IsResting, IsHolding, IsAtStage, Blocked, took}
+use Rattle.cordyceps_queue.specs.Shared.Plays.{SeatState, LegalReversed, carry, stands_at, hands_out, HandsOneOut, IsResting, IsHolding, IsAtStage, Blocked, after_take}
 use Rattle.cordyceps_queue.specs.Shared.View.{View, name}
 
 -- the free rooms are those of before, and the slot in hand
@@ -30,7 +30,7 @@ hand_of d [] = None
 hand_of d (x ∷ xs) = x.1
 
 module _ {E : Type 0} where
-  pub takes_by : (st : TableStep E) (m k : SeatState E) → IsResting st.slots m → (found : ℕ) → took st m found k → AsksRight st.slots found m k
+  pub takes_by : (st : TableStep E) (m k : SeatState E) → IsResting st.slots m → (found : ℕ) → after_take st m found k → AsksRight st.slots found m k
   takes_by st m k q zero t =
       let b = (t q.0).0 refl in
       ((b.0, b.1, b.3, (λ e. q.3 (sym b.4.share ∙ e)), near_all st.slots m.0.back m.0.free k.0.free q.1 b.2 q.4), b)

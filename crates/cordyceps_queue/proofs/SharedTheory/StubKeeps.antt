@@ -65,7 +65,7 @@ module _ {E : Type 0} (s : TableState E) (k : RuleHolds s) (id : ℕ) (v : View 
     tail_at : ItemAt k.chain.rooms 0 0
     tail_at = (keeping core k.chain past k.meets id (party v) is_there 0 (ap tail_of holding)).tail
 
-    looks_stub_bare : (slots : ℕ) → length s.homes ≡ slots → (x : ℕ) → word.next s.words 0 ≡ x → Comes s k id v at named bare LINKS (word.next s.words 0) (play.looked_stub (step slots LINKS 0 0 none) (v, []))
+    looks_stub_bare : (slots : ℕ) → length s.homes ≡ slots → (x : ℕ) → word.next s.words 0 ≡ x → Comes s k id v at named bare LINKS (word.next s.words 0) (play.after_look_stub (step slots LINKS 0 0 none) (v, []))
     looks_stub_bare slots deep zero e =
         let nothing : (a b : ℕ) → Owes v.stage a b → ⊥ = λ a b o. subst (λ l. Owes l a b) holding o in
         let open_link : core.next 0 ≡ None = ap link_of e in
@@ -93,7 +93,7 @@ module _ {E : Type 0} (s : TableState E) (k : RuleHolds s) (id : ℕ) (v : View 
 
   -- ---- the read of head behind a null link
   module _ (at_null : v.stage ≡ StubNull) where
-    heads_stub_bare : (slots : ℕ) → Dec (word.head s.words ≡ 0) → Comes s k id v at named bare HEAD (word.head s.words) (play.headed_stub (step slots HEAD 0 0 none) (v, []))
+    heads_stub_bare : (slots : ℕ) → Dec (word.head s.words ≡ 0) → Comes s k id v at named bare HEAD (word.head s.words) (play.after_head_stub (step slots HEAD 0 0 none) (v, []))
     heads_stub_bare slots (yes e) =
         let x : Event Name E = Event.Empty (name v) in
         let has : tail_of v.stage ≡ Some 0 = ap tail_of at_null in
@@ -218,12 +218,12 @@ same_link : {p : Stage} {t u a b : ℕ} → p ≡ PutLink t a → p ≡ PutLink 
 same_link a b = some_inj (ap tail_of (sym a ∙ b))
 
 module _ {E : Type 0} (slots id : ℕ) (me : SeatState E) (hand : me.1 ≡ carry me.0.back) (near : Near slots me.0.back) (named : me.0.known.share ≢ []) where
-  pub looks_stub : me.0.stage ≡ Holding 0 → Allows RuleHolds slots id me LINKS (λ x. x) (play.looked_stub (step slots LINKS 0 0 none) me)
-  looks_stub holding = returning slots id LINKS me (λ x. x) (play.looked_stub (step slots LINKS 0 0 none) me) hand near named
+  pub looks_stub : me.0.stage ≡ Holding 0 → Allows RuleHolds slots id me LINKS (λ x. x) (play.after_look_stub (step slots LINKS 0 0 none) me)
+  looks_stub holding = returning slots id LINKS me (λ x. x) (play.after_look_stub (step slots LINKS 0 0 none) me) hand near named
       (λ s k deep at fits. looks_stub_bare s k id (view_returned me.0) at named refl holding slots deep (word.next s.words 0) refl)
 
-  pub heads_stub : me.0.stage ≡ StubNull → Allows RuleHolds slots id me HEAD (λ x. x) (play.headed_stub (step slots HEAD 0 0 none) me)
-  heads_stub at_null = returning slots id HEAD me (λ x. x) (play.headed_stub (step slots HEAD 0 0 none) me) hand near named
+  pub heads_stub : me.0.stage ≡ StubNull → Allows RuleHolds slots id me HEAD (λ x. x) (play.after_head_stub (step slots HEAD 0 0 none) me)
+  heads_stub at_null = returning slots id HEAD me (λ x. x) (play.after_head_stub (step slots HEAD 0 0 none) me) hand near named
       (λ s k deep at fits. heads_stub_bare s k id (view_returned me.0) at named refl at_null slots (ℕ_discrete (word.head s.words) 0))
 
   HeadFacts : ℕ → ℕ → SeatState E → Type 0
@@ -232,35 +232,35 @@ module _ {E : Type 0} (slots id : ℕ) (me : SeatState E) (hand : me.1 ≡ carry
   RereadFacts : ℕ → ℕ → SeatState E → Type 0
   RereadFacts t found z = (found ≡ 0 → stands_at [] (Holding t) me z × Blocked z.0) × ((r : ℕ) → found ≡ suc r → hands_out [] slots t r me z)
 
-  pub heads : (t : ℕ) → me.0.stage ≡ Null t → Allows RuleHolds slots id me HEAD (λ x. x) (play.headed (step slots HEAD 0 0 none) me)
+  pub heads : (t : ℕ) → me.0.stage ≡ Null t → Allows RuleHolds slots id me HEAD (λ x. x) (play.after_head (step slots HEAD 0 0 none) me)
   unfolding HeadTells HeadFacts
-  heads t at_null = returning slots id HEAD me (λ x. x) (play.headed (step slots HEAD 0 0 none) me) hand near named
+  heads t at_null = returning slots id HEAD me (λ x. x) (play.after_head (step slots HEAD 0 0 none) me) hand near named
       (λ s k deep at fits.
       let c = heads_bare s k id (view_returned me.0) at named refl t at_null (ℕ_discrete (word.head s.words) t) in
       (c.0, c.1, c.2, c.3, λ u stage. subst (λ q. HeadFacts q (word.head s.words) (c.0, carried_after [] c.1)) (same_null at_null stage) c.4))
 
-  pub rereads : (t i : ℕ) → i ≡ LINKS + t → me.0.stage ≡ PutRead t → Allows RuleHolds slots id me i (λ x. x) (play.reread (step slots i 0 0 none) me)
+  pub rereads : (t i : ℕ) → i ≡ LINKS + t → me.0.stage ≡ PutRead t → Allows RuleHolds slots id me i (λ x. x) (play.after_reread (step slots i 0 0 none) me)
   unfolding RereadTells RereadFacts
-  rereads t i is at_put = returning slots id i me (λ x. x) (play.reread (step slots i 0 0 none) me) hand near named
+  rereads t i is at_put = returning slots id i me (λ x. x) (play.after_reread (step slots i 0 0 none) me) hand near named
       (λ s k deep at fits.
       let c = rereads_bare s k id (view_returned me.0) at named refl t at_put slots deep i is (get_or s.words i 0) refl in
       (c.0, c.1, c.2, c.3, λ u stage. subst (λ q. RereadFacts q (get_or s.words i 0) (c.0, carried_after [] c.1)) (same_put at_put stage) c.4))
 
-  pub clears_stub : (t : ℕ) → me.0.stage ≡ PutClear t → Allows RuleHolds slots id me LINKS (λ _. 0) (λ _. play.cleared_stub (step slots LINKS 0 0 none) me 0)
-  clears_stub t l = returning slots id LINKS me (λ _. 0) (λ _. play.cleared_stub (step slots LINKS 0 0 none) me 0) hand near named
+  pub clears_stub : (t : ℕ) → me.0.stage ≡ PutClear t → Allows RuleHolds slots id me LINKS (λ _. 0) (λ _. play.after_clear_stub (step slots LINKS 0 0 none) me 0)
+  clears_stub t l = returning slots id LINKS me (λ _. 0) (λ _. play.after_clear_stub (step slots LINKS 0 0 none) me 0) hand near named
       (λ s k deep at fits.
       let c = clears_stub_bare s k id (view_returned me.0) at named refl t l in
       (c.0, c.1, c.2, c.3, λ u stage. subst (λ q. stands_at [] (PutSwap q) me (c.0, carried_after [] c.1)) (same_clear l stage) c.4))
 
-  pub swaps_stub : (t : ℕ) → me.0.stage ≡ PutSwap t → Allows RuleHolds slots id me HEAD (λ _. 0) (play.swapped_stub (step slots HEAD 0 0 none) me)
-  swaps_stub t l = returning slots id HEAD me (λ _. 0) (play.swapped_stub (step slots HEAD 0 0 none) me) hand near named
+  pub swaps_stub : (t : ℕ) → me.0.stage ≡ PutSwap t → Allows RuleHolds slots id me HEAD (λ _. 0) (play.after_swap_stub (step slots HEAD 0 0 none) me)
+  swaps_stub t l = returning slots id HEAD me (λ _. 0) (play.after_swap_stub (step slots HEAD 0 0 none) me) hand near named
       (λ s k deep at fits.
       let c = swaps_stub_bare s k id (view_returned me.0) at named refl t l in
       let h = head_near s k in
       (c.0, c.1, c.2, c.3, λ u stage. (subst (λ q. stands_at [] (PutLink q (word.head s.words)) me (c.0, carried_after [] c.1)) (same_swap l stage) c.4, omega arith)))
 
-  pub links_stub : (t old i : ℕ) → i ≡ LINKS + old → old < slots → me.0.stage ≡ PutLink t old → Allows RuleHolds slots id me i (λ _. 1) (λ _. play.linked_stub (step slots i 1 0 none) me 1)
-  links_stub t old i is inside l = returning slots id i me (λ _. 1) (λ _. play.linked_stub (step slots i 1 0 none) me 1) hand near named
+  pub links_stub : (t old i : ℕ) → i ≡ LINKS + old → old < slots → me.0.stage ≡ PutLink t old → Allows RuleHolds slots id me i (λ _. 1) (λ _. play.after_link_stub (step slots i 1 0 none) me 1)
+  links_stub t old i is inside l = returning slots id i me (λ _. 1) (λ _. play.after_link_stub (step slots i 1 0 none) me 1) hand near named
       (λ s k deep at fits.
       let c = links_stub_bare s k id (view_returned me.0) at named refl t old l (omega arith) in
       let sum : LINKS + old ≡ i = omega arith in

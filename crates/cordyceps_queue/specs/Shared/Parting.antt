@@ -14,8 +14,8 @@ module _ {E : Type 0} where
   abbrev pub view_without_told : View E → View E
   view_without_told v = record v { known = record v.known { had = []; told = [] } }
 
-  abbrev pub learned : TableStep E → SeatState E → ℕ → SeatState E → Type 0
-  learned st m read k =
+  abbrev pub after_learn : TableStep E → SeatState E → ℕ → SeatState E → Type 0
+  after_learn st m read k =
       (k.0 ≡ view_without_told m.0) × (k.1 ≡ m.1) × IsKnown (λ h. LegalReversed h) m.0.known
       × (length m.0.free ≤ st.slots)
       × NonePending m.0.known.share (plain m.0.known.seen) × NoneHolds m.0.known.share (plain m.0.known.seen)

@@ -30,22 +30,22 @@ module _ {E : Type 0} where
   abbrev pub IsResting : ℕ → SeatState E → Type 0
   IsResting slots m = (m.0.stage ≡ Rest) × (m.0.back ≡ []) × (m.1 ≡ []) × (m.0.known.share ≢ []) × Near slots m.0.free
 
-  abbrev pub cleared_for : Option E → ℕ → SeatState E → SeatState E → Type 0
-  cleared_for item slots m k = (r : ℕ) (rs : List ℕ) (e : E) → m.0.free ≡ r ∷ rs → item ≡ Some e
+  abbrev pub after_clear_for : Option E → ℕ → SeatState E → SeatState E → Type 0
+  after_clear_for item slots m k = (r : ℕ) (rs : List ℕ) (e : E) → m.0.free ≡ r ∷ rs → item ≡ Some e
       → (k.0.stage ≡ Cleared r) × (k.0.item ≡ Some e) × (k.0.free ≡ rs) × (k.0.back ≡ m.0.back)
       × (k.1 ≡ (r, None) ∷ m.1) × (r < slots) × Sees m.0 [] k.0
 
-  abbrev pub cleared : Option E → TableStep E → SeatState E → ℕ → SeatState E → Type 0
-  cleared item st m read k = cleared_for item st.slots m k
+  abbrev pub after_clear : Option E → TableStep E → SeatState E → ℕ → SeatState E → Type 0
+  after_clear item st m found k = after_clear_for item st.slots m k
 
-  abbrev pub swapped : TableStep E → SeatState E → ℕ → SeatState E → Type 0
-  swapped st m found k =
+  abbrev pub after_swap : TableStep E → SeatState E → ℕ → SeatState E → Type 0
+  after_swap st m found k =
       (r : ℕ) (e : E) (cs : Hand E) → m.0.stage ≡ Cleared r → m.0.item ≡ Some e → m.1 ≡ (r, Some (full_slot r e)) ∷ cs
       → (k.0.stage ≡ Swapped r found) × (k.0.free ≡ m.0.free) × (k.0.back ≡ m.0.back) × (k.1 ≡ cs) × (found < st.slots)
       × Sees m.0 (Event.Swap (name m.0) e ∷ []) k.0
 
-  abbrev pub linked : TableStep E → SeatState E → ℕ → SeatState E → Type 0
-  linked st m n k = (r old : ℕ) → m.0.stage ≡ Swapped r old
+  abbrev pub after_link : TableStep E → SeatState E → ℕ → SeatState E → Type 0
+  after_link st m n k = (r old : ℕ) → m.0.stage ≡ Swapped r old
       → (k.0.stage ≡ Rest) × (k.0.free ≡ m.0.free) × (k.0.back ≡ m.0.back) × (k.1 ≡ m.1)
       × Sees m.0 (Event.Link (name m.0) ∷ []) k.0
 
@@ -87,56 +87,56 @@ module _ {E : Type 0} where
   IsAtStage slots stage m =
       (m.0.stage ≡ stage) × (m.1 ≡ carry m.0.back) × (m.0.known.share ≢ []) × Near slots (m.0.back ++ m.0.free)
 
-  abbrev pub took : TableStep E → SeatState E → ℕ → SeatState E → Type 0
-  took st m found k = m.0.stage ≡ Rest
+  abbrev pub after_take : TableStep E → SeatState E → ℕ → SeatState E → Type 0
+  after_take st m found k = m.0.stage ≡ Rest
       → (found ≡ 0 → stands_at (Event.Busy (name m.0) ∷ []) Rest m k)
       × ((t : ℕ) → found ≡ suc t → stands_at (Event.Take (name m.0) ∷ []) (Holding t) m k × (t < st.slots))
 
   -- the first read of a try, of the stub's link
-  abbrev pub looked_stub : TableStep E → SeatState E → ℕ → SeatState E → Type 0
-  looked_stub st m found k = m.0.stage ≡ Holding 0
+  abbrev pub after_look_stub : TableStep E → SeatState E → ℕ → SeatState E → Type 0
+  after_look_stub st m found k = m.0.stage ≡ Holding 0
       → (found ≡ 0 → stands_at (Event.Look (name m.0) ∷ []) StubNull m k)
       × ((r : ℕ) → found ≡ suc r → stands_at (Event.Look (name m.0) ∷ []) (Second r) m k × (r < st.slots) × (r ≢ 0))
 
   -- the first read of a try, of another tail's link
-  abbrev pub looked : TableStep E → SeatState E → ℕ → SeatState E → Type 0
-  looked st m found k = (t : ℕ) → m.0.stage ≡ Holding t → t ≢ 0
+  abbrev pub after_look : TableStep E → SeatState E → ℕ → SeatState E → Type 0
+  after_look st m found k = (t : ℕ) → m.0.stage ≡ Holding t → t ≢ 0
       → (found ≡ 0 → stands_at (Event.Look (name m.0) ∷ []) (Null t) m k)
       × ((r : ℕ) → found ≡ suc r → hands_out (Event.Look (name m.0) ∷ []) st.slots t r m k)
 
   -- the read behind the stub
-  abbrev pub read : TableStep E → SeatState E → ℕ → SeatState E → Type 0
-  read st m found k = (t : ℕ) → m.0.stage ≡ Second t
+  abbrev pub after_read : TableStep E → SeatState E → ℕ → SeatState E → Type 0
+  after_read st m found k = (t : ℕ) → m.0.stage ≡ Second t
       → (found ≡ 0 → stands_at [] (Null t) m k)
       × ((r : ℕ) → found ≡ suc r → hands_out [] st.slots t r m k)
 
   -- the read after the stub was put in
-  abbrev pub reread : TableStep E → SeatState E → ℕ → SeatState E → Type 0
-  reread st m found k = (t : ℕ) → m.0.stage ≡ PutRead t
+  abbrev pub after_reread : TableStep E → SeatState E → ℕ → SeatState E → Type 0
+  after_reread st m found k = (t : ℕ) → m.0.stage ≡ PutRead t
       → (found ≡ 0 → stands_at [] (Holding t) m k × Blocked k.0)
       × ((r : ℕ) → found ≡ suc r → hands_out [] st.slots t r m k)
 
   -- the read of head behind a null link of the stub
-  abbrev pub headed_stub : TableStep E → SeatState E → ℕ → SeatState E → Type 0
-  headed_stub st m found k = m.0.stage ≡ StubNull
+  abbrev pub after_head_stub : TableStep E → SeatState E → ℕ → SeatState E → Type 0
+  after_head_stub st m found k = m.0.stage ≡ StubNull
       → (found ≡ 0 → stands_at (Event.Empty (name m.0) ∷ []) (Holding 0) m k)
       × (found ≢ 0 → stands_at [] (Holding 0) m k × Blocked k.0)
 
   -- the read of head behind a null link of another tail
-  abbrev pub headed : TableStep E → SeatState E → ℕ → SeatState E → Type 0
-  headed st m found k = (t : ℕ) → m.0.stage ≡ Null t
+  abbrev pub after_head : TableStep E → SeatState E → ℕ → SeatState E → Type 0
+  after_head st m found k = (t : ℕ) → m.0.stage ≡ Null t
       → (found ≡ t → stands_at [] (PutClear t) m k)
       × (found ≢ t → stands_at [] (Holding t) m k × Blocked k.0)
 
   -- the stub is put in: its link becomes null, it becomes the head, and the old head is linked to it
-  abbrev pub cleared_stub : TableStep E → SeatState E → ℕ → SeatState E → Type 0
-  cleared_stub st m n k = (t : ℕ) → m.0.stage ≡ PutClear t → stands_at [] (PutSwap t) m k
+  abbrev pub after_clear_stub : TableStep E → SeatState E → ℕ → SeatState E → Type 0
+  after_clear_stub st m n k = (t : ℕ) → m.0.stage ≡ PutClear t → stands_at [] (PutSwap t) m k
 
-  abbrev pub swapped_stub : TableStep E → SeatState E → ℕ → SeatState E → Type 0
-  swapped_stub st m found k = (t : ℕ) → m.0.stage ≡ PutSwap t → stands_at [] (PutLink t found) m k × (found < st.slots)
+  abbrev pub after_swap_stub : TableStep E → SeatState E → ℕ → SeatState E → Type 0
+  after_swap_stub st m found k = (t : ℕ) → m.0.stage ≡ PutSwap t → stands_at [] (PutLink t found) m k × (found < st.slots)
 
-  abbrev pub linked_stub : TableStep E → SeatState E → ℕ → SeatState E → Type 0
-  linked_stub st m n k = (t old : ℕ) → m.0.stage ≡ PutLink t old → stands_at [] (PutRead t) m k
+  abbrev pub after_link_stub : TableStep E → SeatState E → ℕ → SeatState E → Type 0
+  after_link_stub st m n k = (t old : ℕ) → m.0.stage ≡ PutLink t old → stands_at [] (PutRead t) m k
 
-  abbrev pub gave : TableStep E → SeatState E → ℕ → SeatState E → Type 0
-  gave st m n k = (t : ℕ) → m.0.stage ≡ Holding t → stands_at (Event.Free (name m.0) ∷ []) Rest m k
+  abbrev pub after_give : TableStep E → SeatState E → ℕ → SeatState E → Type 0
+  after_give st m n k = (t : ℕ) → m.0.stage ≡ Holding t → stands_at (Event.Free (name m.0) ∷ []) Rest m k
