@@ -3,7 +3,7 @@ use Rattle.std.proofs.Common.{◌≡◌, ◌+◌, ◌⊎◌, List, [], ◌∷◌
 use Rattle.std.proofs.lemmas.List.{take-append-drop, take-map, drop-map}
 use Rattle.std.proofs.Math.Seq.{take-append_seam, drop-append_seam}
 use Rattle.cordyceps_queue.specs.History.{Event, Swap, Link, Take, Busy, Look, Out, Empty, Free, IsLegal, came, went, held, holder}
-use Rattle.cordyceps_queue.specs.Laws.{first_if, sent, sent_by, put_in_by, takes_by, frees_by, HasRight, ProducersInOrder, OneHolder}
+use Rattle.cordyceps_queue.specs.Laws.{first_if, sends_in, sent_by, put_in_by, takes_by, frees_by, HasRight, ProducersInOrder, OneHolder}
 use Rattle.cordyceps_queue.specs.Past as past
 use Rattle.cordyceps_queue.proofs.CoreTheory.Basics.{some_inj, none_some}
 use Rattle.cordyceps_queue.proofs.BothWays.{legal_both_ways}
@@ -15,7 +15,7 @@ first_append (yes a) e es fs = refl
 first_append (no n) e es fs = refl
 
 module _ {P E : Type 0} where
-  came_sent : (h : List (Event P E)) → map (λ x. x.1) (sent h) ≡ came h
+  came_sent : (h : List (Event P E)) → map (λ x. x.1) (sends_in h) ≡ came h
   came_sent [] = refl
   came_sent (Swap p e ∷ h) = ap (λ l. e ∷ l) (came_sent h)
   came_sent (Link p ∷ h) = came_sent h
@@ -32,7 +32,7 @@ module _ {P E : Type 0} (same : Discrete P) (q : P) where
   sent_by_append (x ∷ xs) ys =
       ap (first_if (same q x.0) x.1) (sent_by_append xs ys) ∙ first_append (same q x.0) x.1 (sent_by same q xs) (sent_by same q ys)
 
-  put_in : (h : List (Event P E)) → sent_by same q (sent h) ≡ put_in_by same q h
+  put_in : (h : List (Event P E)) → sent_by same q (sends_in h) ≡ put_in_by same q h
   put_in [] = refl
   put_in (Swap p e ∷ h) = ap (first_if (same q p) e) (put_in h)
   put_in (Link p ∷ h) = put_in h
@@ -114,13 +114,13 @@ pub producers_in_order : (P E : Type 0) → ProducersInOrder P E
 producers_in_order P E same h before later legal e =
     let n = length (went before) in
     let i = legal.in_order before later e in
-    let all = take-append-drop n (sent before) in record {
-      left = take n (sent before);
-      rest = drop n (sent before);
-      gone = sym (take-map (λ x. x.1) n (sent before)) ∙ ap (take n) (came_sent before ∙ sym i.1) ∙ take-append_seam (went before) i.0;
-      kept = sym (drop-map (λ x. x.1) n (sent before)) ∙ ap (drop n) (came_sent before);
+    let all = take-append-drop n (sends_in before) in record {
+      left = take n (sends_in before);
+      rest = drop n (sends_in before);
+      gone = sym (take-map (λ x. x.1) n (sends_in before)) ∙ ap (take n) (came_sent before ∙ sym i.1) ∙ take-append_seam (went before) i.0;
+      kept = sym (drop-map (λ x. x.1) n (sends_in before)) ∙ ap (drop n) (came_sent before);
       all = all;
-      each = λ q. sym (sent_by_append same q (take n (sent before)) (drop n (sent before))) ∙ ap (sent_by same q) all ∙ put_in same q before;
+      each = λ q. sym (sent_by_append same q (take n (sends_in before)) (drop n (sends_in before))) ∙ ap (sent_by same q) all ∙ put_in same q before;
     }
 
 pub one_holder : (P E : Type 0) → OneHolder P E

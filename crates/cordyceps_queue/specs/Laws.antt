@@ -31,10 +31,10 @@ first_if (no n) e es = es
 
 module _ {P E : Type 0} where
   -- the elements that came in, each with the party that put it in
-  abbrev pub sent : List (Event P E) → List (P × E)
-  sent [] = []
-  sent (Swap p e ∷ h) = (p, e) ∷ sent h
-  sent (_ ∷ h) = sent h
+  abbrev pub sends_in : List (Event P E) → List (P × E)
+  sends_in [] = []
+  sends_in (Swap p e ∷ h) = (p, e) ∷ sends_in h
+  sends_in (_ ∷ h) = sends_in h
 
 module _ {P E : Type 0} (same : Discrete P) where
   -- those of them that one party put in
@@ -55,7 +55,7 @@ module _ {P E : Type 0} (same : Discrete P) where
     pub rest : List (P × E)
     pub gone : map (λ x. x.1) left ≡ went h
     pub kept : map (λ x. x.1) rest ≡ held h
-    pub all : left ++ rest ≡ sent h
+    pub all : left ++ rest ≡ sends_in h
     pub each : (q : P) → sent_by q left ++ sent_by q rest ≡ put_in_by q h
 
   -- how often the party took the right, and how often it gave it back

@@ -7,7 +7,7 @@ use Rattle.cordyceps_queue.specs.declared.cores.stage.Stage.TheVariants.{Rest, C
 use Rattle.cordyceps_queue.specs.declared.cores.steps.QueueStep.{QueueStep}
 use Rattle.cordyceps_queue.specs.declared.cores.steps.QueueStep.TheVariants as step
 use Rattle.cordyceps_queue.specs.declared.cores.steps.QueueAnswer.TheVariants as answer
-use Rattle.cordyceps_queue.specs.Cores.Abstract.{AbstractParty, AbstractMachine, Move, clears, swaps, takes, gives_out, reads, reads_stub, looks, reads_put, heads_stub, heads, act, act_of, stands}
+use Rattle.cordyceps_queue.specs.Cores.Abstract.{AbstractParty, AbstractMachine, Move, clears, swaps, takes, gives_out, reads, reads_stub, looks, reads_put, heads_stub, heads, act, act_of, set_stage}
 use Rattle.cordyceps_queue.specs.Cores.Meets.{Owes, tail_of, Chain, Meets, AtStage, Real}
 use Rattle.cordyceps_queue.specs.Cores.StepKeeps.{SaysReversed, StepKeeps}
 use Rattle.cordyceps_queue.proofs.CoreTheory.Basics.{some_inj, none_some, suc_zero, put_same}
@@ -85,16 +85,16 @@ module _ {P E : Type 0} (m : AbstractMachine P E) (c : Chain) (k : ℕ) (p : Abs
         reads_keep (Event.Look p.name ∷ []) h (looked_on (suc t) holding) refl (suc t) (ap tail_of holding) (λ a b o. subst (λ l. Owes l a b) holding o) suc_zero (inl refl) (m.next (suc t)) refl e
 
     -- back to Holding without an element
-    fails_keep : (t : ℕ) → tail_of p.stage ≡ Some t → ((a b : ℕ) → Owes p.stage a b → ⊥) → WasBlocked p.name h → Kept p.name h (record { after = stands m k p (Holding t); answer = answer.Inconsistent; events = [] })
+    fails_keep : (t : ℕ) → tail_of p.stage ≡ Some t → ((a b : ℕ) → Owes p.stage a b → ⊥) → WasBlocked p.name h → Kept p.name h (record { after = set_stage m k p (Holding t); answer = answer.Inconsistent; events = [] })
     fails_keep t has nothing blocked = (c, stage_keeps m c h M k p at t has (Holding t) refl (λ a b o. absurd (nothing a b o)) (keeping m c h M k p at t has), blocked)
 
     heads_stub_keep : p.stage ≡ StubNull → (b : Bool) → eqb m.head 0 ≡ b → heads_stub m k p b ≡ Some v → Kept p.name h v
     heads_stub_keep stage true same e =
         let has : tail_of p.stage ≡ Some 0 = ap tail_of stage in
-        let back : Meets (stands m k p (Holding 0)) c h = stage_keeps m c h M k p at 0 has (Holding 0) refl (λ a b o. absurd (subst (λ l. Owes l a b) stage o)) (keeping m c h M k p at 0 has) in
+        let back : Meets (set_stage m k p (Holding 0)) c h = stage_keeps m c h M k p at 0 has (Holding 0) refl (λ a b o. absurd (subst (λ l. Owes l a b) stage o)) (keeping m c h M k p at 0 has) in
         subst (Kept p.name h) (some_inj e) (
           c,
-          tell_keeps (stands m k p (Holding 0)) c h back k (record p { stage = Holding 0 }) (put_same m.party k (Some (record p { stage = Holding 0 }))) 0 refl (Event.Empty p.name) refl
+          tell_keeps (set_stage m k p (Holding 0)) c h back k (record p { stage = Holding 0 }) (put_same m.party k (Some (record p { stage = Holding 0 }))) 0 refl (Event.Empty p.name) refl
               ((keeping m c h M k p at 0 has).held_by, none_held m c h M k p at 0 has refl (eqb-true m.head 0 same)) refl refl (λ q s. s) (λ q n w. w),
           none_held m c h M k p at 0 has refl (eqb-true m.head 0 same),
         )

@@ -5,7 +5,7 @@ use Rattle.cordyceps_queue.specs.History.{Event}
 use Rattle.cordyceps_queue.specs.Past.{held, holder, MayCome, IsSettled, IsPendingAt, IsBlocked, HasLooked, WasBlocked}
 use Rattle.cordyceps_queue.specs.declared.cores.stage.Stage.{Stage}
 use Rattle.cordyceps_queue.specs.declared.cores.stage.Stage.TheVariants.{Rest, Cleared, Swapped, Holding}
-use Rattle.cordyceps_queue.specs.Cores.Abstract.{update, AbstractParty, AbstractMachine, stands}
+use Rattle.cordyceps_queue.specs.Cores.Abstract.{update, AbstractParty, AbstractMachine, set_stage}
 use Rattle.cordyceps_shared.specs.Places.{ItemAt}
 use Rattle.cordyceps_queue.specs.Cores.Meets.{real, rank, Owner, Owes, tail_of, Chain, IsOut, OwnsRooms, Joined, Keeps, AtStage, RightIs, Meets}
 use Rattle.cordyceps_queue.proofs.CoreTheory.Basics.{some_inj, some_none, none_some, suc_zero, put_same, put_all, at_one, at_within}
@@ -79,7 +79,7 @@ module _ {P E : Type 0} (m : AbstractMachine P E) (c : Chain) (h : List (Event P
   right_with party rooms h' q u e tail by = subst (RightIs m.right party rooms h') (sym keeping.kept) (zero_right, q, u, e, tail, by)
 
   -- only the stage changes
-  pub stage_keeps : (stage : Stage) → tail_of stage ≡ Some t → ((a b : ℕ) → Owes p.stage a b → Owes stage a b) → AtStage m.head m.next m.cell c.owner c.keeper c.rooms h k p.name stage → Meets (stands m k p stage) c h
+  pub stage_keeps : (stage : Stage) → tail_of stage ≡ Some t → ((a b : ℕ) → Owes p.stage a b → Owes stage a b) → AtStage m.head m.next m.cell c.owner c.keeper c.rooms h k p.name stage → Meets (set_stage m k p stage) c h
   stage_keeps stage has' on mine = record {
     legal = M.legal;
     last = M.last;

@@ -5,7 +5,7 @@ use Rattle.cordyceps_queue.specs.Past.{came, went, held, holder, WasBlocked, IsL
 use Rattle.cordyceps_queue.specs.declared.cores.steps.QueueStep.{QueueStep}
 use Rattle.cordyceps_queue.specs.declared.cores.steps.QueueAnswer.{QueueAnswer}
 use Rattle.cordyceps_queue.specs.declared.cores.steps.QueueAnswer.TheVariants as answer
-use Rattle.cordyceps_queue.specs.Cores.Abstract.{AbstractParty, AbstractMachine, Move, add_party, add_room, moved}
+use Rattle.cordyceps_queue.specs.Cores.Abstract.{AbstractParty, AbstractMachine, Move, add_party, add_room, move_of}
 use Rattle.cordyceps_queue.specs.Cores.Meets.{Chain, IsStranger, Meets}
 
 -- what an answer says of the history before the step
@@ -21,7 +21,7 @@ SaysReversed q answer.Inconsistent h = WasBlocked q h
 abbrev pub StepKeeps : (P E : Type 0) → Type 0
 StepKeeps P E =
     (m : AbstractMachine P E) (c : Chain) (h : List (Event P E)) → Meets m c h →
-    (k : ℕ) (p : AbstractParty P) (s : QueueStep E) (v : Move P E) → m.party k ≡ Some p → moved m k s ≡ Some v →
+    (k : ℕ) (p : AbstractParty P) (s : QueueStep E) (v : Move P E) → m.party k ≡ Some p → move_of m k s ≡ Some v →
     (c' : Chain) × Meets v.after c' (v.events ++ h) × SaysReversed p.name v.answer h
 
 -- what was handed out, followed by what is held, is the order of exchange

@@ -7,7 +7,7 @@ use Rattle.cordyceps_queue.specs.declared.cores.stage.Stage.TheVariants.{Rest, C
 use Rattle.cordyceps_queue.specs.declared.shared.table.Tried.{Tried}
 use Rattle.cordyceps_queue.specs.declared.shared.table.Tried.TheVariants.{Out, Empty, Inconsistent}
 use Rattle.cordyceps_queue.specs.History.{Event, holder}
-use Rattle.cordyceps_queue.specs.Shared.Plays.{SeatState, Sees, IsResting, IsHolding, HandsOneOut, stands_at, Blocked}
+use Rattle.cordyceps_queue.specs.Shared.Plays.{SeatState, Sees, IsResting, IsHolding, HandsOneOut, moves_to, Blocked}
 use Rattle.cordyceps_queue.specs.Shared.Rule.{IsTable}
 use Rattle.cordyceps_queue.specs.Shared.Calls.{PartyOf, Legal, NonePending, NoneHolds}
 use Rattle.cordyceps_queue.specs.Shared.View.{View, name}
@@ -36,13 +36,13 @@ module _ {E : Type 0} where
   abbrev pub Tries : List (Event Name E) → ℕ → SeatState E → SeatState E → ℕ → Tried E → Type 0
   Tries before slots m k t (Out full) = HandsOneOut before slots full.ticket t full.item m k
   Tries before slots m k t Empty =
-      IsHolding slots t k × stands_at (before ++ Event.Empty (name m.0) ∷ []) (Holding t) m k
-  Tries before slots m k t Inconsistent = IsHolding slots t k × stands_at before (Holding t) m k × Blocked k.0
+      IsHolding slots t k × moves_to (before ++ Event.Empty (name m.0) ∷ []) (Holding t) m k
+  Tries before slots m k t Inconsistent = IsHolding slots t k × moves_to before (Holding t) m k × Blocked k.0
 
   -- the party took the right, or another party has it
   abbrev pub AsksRight : ℕ → ℕ → SeatState E → SeatState E → Type 0
-  AsksRight slots zero m k = IsResting slots k × stands_at (Event.Busy (name m.0) ∷ []) Rest m k
-  AsksRight slots (suc t) m k = IsHolding slots t k × stands_at (Event.Take (name m.0) ∷ []) (Holding t) m k
+  AsksRight slots zero m k = IsResting slots k × moves_to (Event.Busy (name m.0) ∷ []) Rest m k
+  AsksRight slots (suc t) m k = IsHolding slots t k × moves_to (Event.Take (name m.0) ∷ []) (Holding t) m k
 
   -- a whole try of a party that rested: `None` beside another holder
   abbrev pub Dequeued : ℕ → SeatState E → SeatState E → Option (Tried E) → Type 0

@@ -61,8 +61,8 @@ module _ {E : Type 0} where
       × (t < slots)
 
   -- the slot is given back, and the party stands at this stage
-  abbrev pub stands_at : List (Event Name E) → Stage → SeatState E → SeatState E → Type 0
-  stands_at es stage m k =
+  abbrev pub moves_to : List (Event Name E) → Stage → SeatState E → SeatState E → Type 0
+  moves_to es stage m k =
       (k.0.stage ≡ stage) × (k.0.back ≡ []) × (k.0.free ≡ m.0.back ++ m.0.free) × (k.1 ≡ []) × Sees m.0 es k.0
 
   -- the tail's element is handed out
@@ -89,54 +89,54 @@ module _ {E : Type 0} where
 
   abbrev pub after_take : TableStep E → SeatState E → ℕ → SeatState E → Type 0
   after_take st m found k = m.0.stage ≡ Rest
-      → (found ≡ 0 → stands_at (Event.Busy (name m.0) ∷ []) Rest m k)
-      × ((t : ℕ) → found ≡ suc t → stands_at (Event.Take (name m.0) ∷ []) (Holding t) m k × (t < st.slots))
+      → (found ≡ 0 → moves_to (Event.Busy (name m.0) ∷ []) Rest m k)
+      × ((t : ℕ) → found ≡ suc t → moves_to (Event.Take (name m.0) ∷ []) (Holding t) m k × (t < st.slots))
 
   -- the first read of a try, of the stub's link
   abbrev pub after_look_stub : TableStep E → SeatState E → ℕ → SeatState E → Type 0
   after_look_stub st m found k = m.0.stage ≡ Holding 0
-      → (found ≡ 0 → stands_at (Event.Look (name m.0) ∷ []) StubNull m k)
-      × ((r : ℕ) → found ≡ suc r → stands_at (Event.Look (name m.0) ∷ []) (Second r) m k × (r < st.slots) × (r ≢ 0))
+      → (found ≡ 0 → moves_to (Event.Look (name m.0) ∷ []) StubNull m k)
+      × ((r : ℕ) → found ≡ suc r → moves_to (Event.Look (name m.0) ∷ []) (Second r) m k × (r < st.slots) × (r ≢ 0))
 
   -- the first read of a try, of another tail's link
   abbrev pub after_look : TableStep E → SeatState E → ℕ → SeatState E → Type 0
   after_look st m found k = (t : ℕ) → m.0.stage ≡ Holding t → t ≢ 0
-      → (found ≡ 0 → stands_at (Event.Look (name m.0) ∷ []) (Null t) m k)
+      → (found ≡ 0 → moves_to (Event.Look (name m.0) ∷ []) (Null t) m k)
       × ((r : ℕ) → found ≡ suc r → hands_out (Event.Look (name m.0) ∷ []) st.slots t r m k)
 
   -- the read behind the stub
   abbrev pub after_read : TableStep E → SeatState E → ℕ → SeatState E → Type 0
   after_read st m found k = (t : ℕ) → m.0.stage ≡ Second t
-      → (found ≡ 0 → stands_at [] (Null t) m k)
+      → (found ≡ 0 → moves_to [] (Null t) m k)
       × ((r : ℕ) → found ≡ suc r → hands_out [] st.slots t r m k)
 
   -- the read after the stub was put in
   abbrev pub after_reread : TableStep E → SeatState E → ℕ → SeatState E → Type 0
   after_reread st m found k = (t : ℕ) → m.0.stage ≡ PutRead t
-      → (found ≡ 0 → stands_at [] (Holding t) m k × Blocked k.0)
+      → (found ≡ 0 → moves_to [] (Holding t) m k × Blocked k.0)
       × ((r : ℕ) → found ≡ suc r → hands_out [] st.slots t r m k)
 
   -- the read of head behind a null link of the stub
   abbrev pub after_head_stub : TableStep E → SeatState E → ℕ → SeatState E → Type 0
   after_head_stub st m found k = m.0.stage ≡ StubNull
-      → (found ≡ 0 → stands_at (Event.Empty (name m.0) ∷ []) (Holding 0) m k)
-      × (found ≢ 0 → stands_at [] (Holding 0) m k × Blocked k.0)
+      → (found ≡ 0 → moves_to (Event.Empty (name m.0) ∷ []) (Holding 0) m k)
+      × (found ≢ 0 → moves_to [] (Holding 0) m k × Blocked k.0)
 
   -- the read of head behind a null link of another tail
   abbrev pub after_head : TableStep E → SeatState E → ℕ → SeatState E → Type 0
   after_head st m found k = (t : ℕ) → m.0.stage ≡ Null t
-      → (found ≡ t → stands_at [] (PutClear t) m k)
-      × (found ≢ t → stands_at [] (Holding t) m k × Blocked k.0)
+      → (found ≡ t → moves_to [] (PutClear t) m k)
+      × (found ≢ t → moves_to [] (Holding t) m k × Blocked k.0)
 
   -- the stub is put in: its link becomes null, it becomes the head, and the old head is linked to it
   abbrev pub after_clear_stub : TableStep E → SeatState E → ℕ → SeatState E → Type 0
-  after_clear_stub st m n k = (t : ℕ) → m.0.stage ≡ PutClear t → stands_at [] (PutSwap t) m k
+  after_clear_stub st m n k = (t : ℕ) → m.0.stage ≡ PutClear t → moves_to [] (PutSwap t) m k
 
   abbrev pub after_swap_stub : TableStep E → SeatState E → ℕ → SeatState E → Type 0
-  after_swap_stub st m found k = (t : ℕ) → m.0.stage ≡ PutSwap t → stands_at [] (PutLink t found) m k × (found < st.slots)
+  after_swap_stub st m found k = (t : ℕ) → m.0.stage ≡ PutSwap t → moves_to [] (PutLink t found) m k × (found < st.slots)
 
   abbrev pub after_link_stub : TableStep E → SeatState E → ℕ → SeatState E → Type 0
-  after_link_stub st m n k = (t old : ℕ) → m.0.stage ≡ PutLink t old → stands_at [] (PutRead t) m k
+  after_link_stub st m n k = (t old : ℕ) → m.0.stage ≡ PutLink t old → moves_to [] (PutRead t) m k
 
   abbrev pub after_give : TableStep E → SeatState E → ℕ → SeatState E → Type 0
-  after_give st m n k = (t : ℕ) → m.0.stage ≡ Holding t → stands_at (Event.Free (name m.0) ∷ []) Rest m k
+  after_give st m n k = (t : ℕ) → m.0.stage ≡ Holding t → moves_to (Event.Free (name m.0) ∷ []) Rest m k

@@ -1,7 +1,7 @@
 //! The machine of a core: its words, its rooms and the stages of its parties.
 ghost use Rattle.std.specs.Prelude.{◌≡◌, ◌≢◌, ◌<◌, ◌++◌, ◌∷◌, [], length, Some, None, IsSome, IfOk, OnOk, OnErr, slice_get, nat_eq, is_some};
 ghost use Rattle.cordyceps_shared.specs.Rooms.{element_in, next_in};
-ghost use Rattle.cordyceps_queue.specs.Cores.Machine.{stepped, acts, least_free, stands, clear, swap, link, take, give, hand_out, look, read, read_again, read_stub, head_stub, head_tail};
+ghost use Rattle.cordyceps_queue.specs.Cores.Machine.{after_step, acts, least_free, set_stage, clear, swap, link, take, give, hand_out, look, read, read_again, read_stub, head_stub, head_tail};
 ghost use Rattle.cordyceps_queue.specs.Cores.CoreMeets.{IsSound, new_machine, with_party, with_room};
 ghost use Rattle.cordyceps_queue.specs.Cores.Drain.{count_held};
 
@@ -89,8 +89,8 @@ impl<E: Drop> Machine<E> {
     /// Moves a party to another stage, and returns `answer`.
     fn stand(&mut self, party: usize, stage: Stage, answer: QueueAnswer<E>) -> Answered<E>
         requires { party < length self.old.parties }
-        ensures machine { self.new ≡ (stands self.old party stage answer).0 }
-        ensures answer { result ≡ (stands self.old party stage answer).1 }
+        ensures machine { self.new ≡ (set_stage self.old party stage answer).0 }
+        ensures answer { result ≡ (set_stage self.old party stage answer).1 }
     {
         self.parties[party] = stage;
         Ok(answer)
@@ -246,8 +246,8 @@ impl<E: Drop> Machine<E> {
     /// Takes a step of a party, or refuses it.
     pub(crate) fn act(&mut self, party: usize, step: QueueStep<E>) -> Answered<E>
         requires { IsSound self.old }
-        ensures machine { self.new ≡ (stepped self.old party step).0 }
-        ensures answer { result ≡ (stepped self.old party step).1 }
+        ensures machine { self.new ≡ (after_step self.old party step).0 }
+        ensures answer { result ≡ (after_step self.old party step).1 }
     {
         let Some(stage) = self.stage(party) else {
             return Err((StepError::NotThere, step.into_element()));

@@ -3,7 +3,7 @@ ghost use Rattle.std.specs.Prelude.{◌≡◌, ◌<◌, ◌++◌, [], ◌∷◌,
 ghost use Rattle.std.specs.List.{position};
 ghost use Rattle.cordyceps_shared.specs.Rooms.{occupied};
 ghost use Rattle.cordyceps_shared.specs.Rooms.{change, linking, freeing, is_free_for, element_in, next_in};
-ghost use Rattle.cordyceps_queue.specs.Cores.Machine.{holding, stub_room, least_free};
+ghost use Rattle.cordyceps_queue.specs.Cores.Machine.{with_element, stub_room, least_free};
 
 use cordyceps_shared::room::Room;
 use std::alloc::{AllocError, Global};
@@ -93,7 +93,7 @@ impl<E: Drop> Rooms<E> {
     pub(crate) fn hold(&mut self, at: usize, element: E)
         requires within { at < length self.old }
         requires not_stub { 0 < at }
-        ensures { self.new ≡ change (holding element) at self.old }
+        ensures { self.new ≡ change (with_element element) at self.old }
     {
         self.list[at - 1] = Room {
             owner: None,

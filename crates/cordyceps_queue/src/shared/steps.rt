@@ -2,7 +2,7 @@
 ghost use Rattle.std.specs.Prelude.{◌≡◌, ◌≢◌, ◌≤◌, ◌<◌, ℕ, suc, List, [], ◌∷◌, Some, None, MatchOption};
 ghost use Rattle.cordyceps_queue.specs.Shared.Parts.{IsCleared, IsSwapped, AsksRight};
 ghost use Rattle.cordyceps_queue.specs.History.{Event};
-ghost use Rattle.cordyceps_queue.specs.Shared.Plays.{Sees, IsResting, IsHolding, IsAtStage, Blocked, HandsOneOut, stands_at, hands_out};
+ghost use Rattle.cordyceps_queue.specs.Shared.Plays.{Sees, IsResting, IsHolding, IsAtStage, Blocked, HandsOneOut, moves_to, hands_out};
 ghost use Rattle.cordyceps_queue.specs.Shared.Rule.{IsTable};
 ghost use Rattle.cordyceps_queue.specs.Shared.View.{name};
 ghost use Rattle.cordyceps_queue.specs.declared.cores.stage.Stage.TheVariants.{Cleared, Swapped, Rest, Holding, Null, PutRead};
@@ -80,7 +80,7 @@ pub(crate) fn give<E: Drop>(words: &Words<E>, seat: &mut PartySeat<E>, tail: usi
     requires holding { IsHolding words.now.table_id.slots tail seat.old.me }
     ensures table { seat.new.table_id ≡ seat.old.table_id }
     ensures rest { IsResting words.now.table_id.slots seat.new.me }
-    ensures answer { stands_at (Event.Free (name seat.old.me.0) ∷ []) Rest seat.old.me seat.new.me }
+    ensures answer { moves_to (Event.Free (name seat.old.me.0) ∷ []) Rest seat.old.me seat.new.me }
 {
     words.store::<Give>(seat, RIGHT, tail as u64 + 1);
 }
@@ -90,7 +90,7 @@ pub(crate) fn reread<E: Drop>(words: &Words<E>, seat: &mut PartySeat<E>, tail: u
     requires table { (seat.old.table_id ≡ words.now.table_id) × IsTable words.now.table_id }
     requires stage { IsAtStage words.now.table_id.slots (PutRead tail) seat.old.me × (tail < words.now.table_id.slots) }
     ensures table { seat.new.table_id ≡ seat.old.table_id }
-    ensures null { result ≡ 0 → stands_at [] (Holding tail) seat.old.me seat.new.me × Blocked seat.new.me.0 }
+    ensures null { result ≡ 0 → moves_to [] (Holding tail) seat.old.me seat.new.me × Blocked seat.new.me.0 }
     ensures room { (r : ℕ) → result ≡ suc r → hands_out [] words.now.table_id.slots tail r seat.old.me seat.new.me }
 {
     words.load::<Reread>(seat, LINKS + tail)
@@ -118,7 +118,7 @@ pub(crate) fn look<E: Drop>(
     requires real { tail ≢ 0 }
     ensures table { seat.new.table_id ≡ seat.old.table_id }
     ensures answer { MatchOption result
-        (stands_at (Event.Look (name seat.old.me.0) ∷ []) (Null tail) seat.old.me seat.new.me)
+        (moves_to (Event.Look (name seat.old.me.0) ∷ []) (Null tail) seat.old.me seat.new.me)
         (λ r. (r.1.ticket ≡ tail)
         × HandsOneOut (Event.Look (name seat.old.me.0) ∷ []) words.now.table_id.slots tail r.0 r.1.item seat.old.me
         seat.new.me) }

@@ -1,7 +1,7 @@
 //! The atomic steps of a try to dequeue at the stub, and of putting the stub in. Each function is a part of a call.
 ghost use Rattle.std.specs.Prelude.{◌≡◌, ◌≢◌, ◌<◌, ℕ, suc, [], ◌∷◌, true, false, Some, None};
 ghost use Rattle.cordyceps_queue.specs.History.{Event};
-ghost use Rattle.cordyceps_queue.specs.Shared.Plays.{IsHolding, IsAtStage, Blocked, hands_out, stands_at};
+ghost use Rattle.cordyceps_queue.specs.Shared.Plays.{IsHolding, IsAtStage, Blocked, hands_out, moves_to};
 ghost use Rattle.cordyceps_shared.specs.Slots.{full_slot};
 ghost use Rattle.cordyceps_queue.specs.Shared.Rule.{IsTable};
 ghost use Rattle.cordyceps_queue.specs.Shared.View.{name};
@@ -17,9 +17,9 @@ pub(crate) fn look_first<E: Drop>(words: &Words<E>, seat: &mut PartySeat<E>) -> 
     requires table { (seat.old.table_id ≡ words.now.table_id) × IsTable words.now.table_id }
     requires holding { IsHolding words.now.table_id.slots 0 seat.old.me }
     ensures table { seat.new.table_id ≡ seat.old.table_id }
-    ensures null { result ≡ 0 → stands_at (Event.Look (name seat.old.me.0) ∷ []) StubNull seat.old.me seat.new.me }
+    ensures null { result ≡ 0 → moves_to (Event.Look (name seat.old.me.0) ∷ []) StubNull seat.old.me seat.new.me }
     ensures room { (r : ℕ) → result ≡ suc r
-        → stands_at (Event.Look (name seat.old.me.0) ∷ []) (Second r) seat.old.me seat.new.me
+        → moves_to (Event.Look (name seat.old.me.0) ∷ []) (Second r) seat.old.me seat.new.me
         × (r < words.now.table_id.slots) × (r ≢ 0) }
 {
     words.load::<LookStub>(seat, LINKS)
@@ -30,8 +30,8 @@ pub(crate) fn head_of_stub<E: Drop>(words: &Words<E>, seat: &mut PartySeat<E>) -
     requires table { (seat.old.table_id ≡ words.now.table_id) × IsTable words.now.table_id }
     requires stage { IsAtStage words.now.table_id.slots StubNull seat.old.me }
     ensures table { seat.new.table_id ≡ seat.old.table_id }
-    ensures stub { result ≡ 0 → stands_at (Event.Empty (name seat.old.me.0) ∷ []) (Holding 0) seat.old.me seat.new.me }
-    ensures room { result ≢ 0 → stands_at [] (Holding 0) seat.old.me seat.new.me × Blocked seat.new.me.0 }
+    ensures stub { result ≡ 0 → moves_to (Event.Empty (name seat.old.me.0) ∷ []) (Holding 0) seat.old.me seat.new.me }
+    ensures room { result ≢ 0 → moves_to [] (Holding 0) seat.old.me seat.new.me × Blocked seat.new.me.0 }
 {
     words.load::<HeadStub>(seat, HEAD)
 }
@@ -41,7 +41,7 @@ pub(crate) fn read_second<E: Drop>(words: &Words<E>, seat: &mut PartySeat<E>, ta
     requires table { (seat.old.table_id ≡ words.now.table_id) × IsTable words.now.table_id }
     requires stage { IsAtStage words.now.table_id.slots (Second tail) seat.old.me × (tail < words.now.table_id.slots) }
     ensures table { seat.new.table_id ≡ seat.old.table_id }
-    ensures null { result ≡ 0 → stands_at [] (Null tail) seat.old.me seat.new.me }
+    ensures null { result ≡ 0 → moves_to [] (Null tail) seat.old.me seat.new.me }
     ensures room { (r : ℕ) → result ≡ suc r → hands_out [] words.now.table_id.slots tail r seat.old.me seat.new.me }
 {
     words.load::<Read>(seat, LINKS + tail)
@@ -52,8 +52,8 @@ pub(crate) fn is_head<E: Drop>(words: &Words<E>, seat: &mut PartySeat<E>, tail: 
     requires table { (seat.old.table_id ≡ words.now.table_id) × IsTable words.now.table_id }
     requires stage { IsAtStage words.now.table_id.slots (Null tail) seat.old.me × (tail < words.now.table_id.slots) }
     ensures table { seat.new.table_id ≡ seat.old.table_id }
-    ensures alone { result ≡ true → stands_at [] (PutClear tail) seat.old.me seat.new.me }
-    ensures passed { result ≡ false → stands_at [] (Holding tail) seat.old.me seat.new.me × Blocked seat.new.me.0 }
+    ensures alone { result ≡ true → moves_to [] (PutClear tail) seat.old.me seat.new.me }
+    ensures passed { result ≡ false → moves_to [] (Holding tail) seat.old.me seat.new.me × Blocked seat.new.me.0 }
 {
     words.load::<Head>(seat, HEAD) == tail as u64
 }
@@ -62,7 +62,7 @@ fn clear_stub<E: Drop>(words: &Words<E>, seat: &mut PartySeat<E>, _tail: usize)
     requires table { (seat.old.table_id ≡ words.now.table_id) × IsTable words.now.table_id }
     requires stage { IsAtStage words.now.table_id.slots (PutClear _tail) seat.old.me }
     ensures table { seat.new.table_id ≡ seat.old.table_id }
-    ensures answer { stands_at [] (PutSwap _tail) seat.old.me seat.new.me }
+    ensures answer { moves_to [] (PutSwap _tail) seat.old.me seat.new.me }
 {
     words.store::<ClearStub>(seat, LINKS, 0);
 }
@@ -71,7 +71,7 @@ fn swap_stub<E: Drop>(words: &Words<E>, seat: &mut PartySeat<E>, _tail: usize) -
     requires table { (seat.old.table_id ≡ words.now.table_id) × IsTable words.now.table_id }
     requires stage { IsAtStage words.now.table_id.slots (PutSwap _tail) seat.old.me }
     ensures table { seat.new.table_id ≡ seat.old.table_id }
-    ensures answer { stands_at [] (PutLink _tail result) seat.old.me seat.new.me }
+    ensures answer { moves_to [] (PutLink _tail result) seat.old.me seat.new.me }
     ensures near { result < words.now.table_id.slots }
 {
     words.swap::<SwapStub>(seat, HEAD, 0)
@@ -82,7 +82,7 @@ fn link_stub<E: Drop>(words: &Words<E>, seat: &mut PartySeat<E>, _tail: usize, o
     requires stage { IsAtStage words.now.table_id.slots (PutLink _tail old) seat.old.me
         × (old < words.now.table_id.slots) }
     ensures table { seat.new.table_id ≡ seat.old.table_id }
-    ensures answer { stands_at [] (PutRead _tail) seat.old.me seat.new.me }
+    ensures answer { moves_to [] (PutRead _tail) seat.old.me seat.new.me }
 {
     words.store::<LinkStub>(seat, LINKS + old, 1);
 }
@@ -93,7 +93,7 @@ pub(crate) fn put_stub<E: Drop>(words: &Words<E>, seat: &mut PartySeat<E>, tail:
     requires table { (seat.old.table_id ≡ words.now.table_id) × IsTable words.now.table_id }
     requires stage { IsAtStage words.now.table_id.slots (PutClear tail) seat.old.me }
     ensures table { seat.new.table_id ≡ seat.old.table_id }
-    ensures answer { stands_at [] (PutRead tail) seat.old.me seat.new.me }
+    ensures answer { moves_to [] (PutRead tail) seat.old.me seat.new.me }
 {
     clear_stub(words, seat, tail);
     let old = swap_stub(words, seat, tail);

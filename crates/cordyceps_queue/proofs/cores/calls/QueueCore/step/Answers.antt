@@ -1,5 +1,5 @@
 use Rattle.std.proofs.Common.{ap, subst, sym, ◌∙◌}
-use Rattle.cordyceps_queue.specs.Cores.Machine.{Machine, stepped}
+use Rattle.cordyceps_queue.specs.Cores.Machine.{Machine, after_step}
 use Rattle.cordyceps_queue.specs.Cores.CoreMeets.{CoreMeets}
 use Rattle.cordyceps_queue.proofs.CoreTheory.Refusals.{exact}
 use Rattle.cordyceps_queue.proofs.CoreTheory.CoreKeeps.{core_steps, sound_step}
@@ -9,10 +9,10 @@ pub invariant_of-self : goal.invariant_of-self
 invariant_of-self g c = rw c.act.ensures.machine (sound_step c.self.inside.machine c.args.party c.args.step c.self.invariant)
 
 pub returns-clause-machine : goal.returns-clause-machine
-returns-clause-machine g c = c.act.ensures.machine ∙ ap (λ (m : Machine g.row.E.Denot). (stepped m c.args.party c.args.step).0) c.self.view_is
+returns-clause-machine g c = c.act.ensures.machine ∙ ap (λ (m : Machine g.row.E.Denot). (after_step m c.args.party c.args.step).0) c.self.view_is
 
 pub returns-clause-answer : goal.returns-clause-answer
-returns-clause-answer g c = c.act.ensures.answer ∙ ap (λ (m : Machine g.row.E.Denot). (stepped m c.args.party c.args.step).1) c.self.view_is
+returns-clause-answer g c = c.act.ensures.answer ∙ ap (λ (m : Machine g.row.E.Denot). (after_step m c.args.party c.args.step).1) c.self.view_is
 
 pub returns-clause-refused : goal.returns-clause-refused
 returns-clause-refused g c = rw (c.act.ensures.machine, c.act.ensures.answer, ← c.self.view_is) (exact c.self.inside.machine c.args.party c.args.step c.self.invariant).1

@@ -1,6 +1,6 @@
 use Rattle.std.proofs.Common.{◌≡◌, true, ◌++◌, ap, sym, subst, ◌∙◌}
 use Rattle.std.specs.Prelude.{slice_get}
-use Rattle.cordyceps_queue.specs.Cores.Alone.{may_dequeue, dequeued, found_of, dequeue_events}
+use Rattle.cordyceps_queue.specs.Cores.Alone.{may_dequeue, after_dequeue, found_of, dequeue_events}
 use Rattle.cordyceps_queue.specs.Cores.CoreMeets.{CoreMeets}
 use Rattle.cordyceps_queue.proofs.CoreTheory.AloneDequeue.{dequeued_law, busy_law, inconsistent_law}
 use Rattle.cordyceps_queue.proofs.cores.calls.QueueCore.try_dequeue.Goals as goal
@@ -10,7 +10,7 @@ invariant_of-self g c =
     let m = c.self.inside.machine in
     let p = c.args.party in
     let may : may_dequeue (slice_get c.self.inside.machine.parties c.args.party) ≡ true = sym c.may_dequeue.ensures ∙ c.if-not-may_dequeue.false in
-    rw c.dequeue.ensures.machine (c.self.invariant.0 ++ dequeue_events p (slice_get m.parties p) (found_of (dequeued m p).1), (dequeued_law c.self.invariant.0 m p c.self.invariant.1 may).0)
+    rw c.dequeue.ensures.machine (c.self.invariant.0 ++ dequeue_events p (slice_get m.parties p) (found_of (after_dequeue m p).1), (dequeued_law c.self.invariant.0 m p c.self.invariant.1 may).0)
 
 pub returns-clause-history : goal.returns-clause-history
 returns-clause-history g c = λ h was.
