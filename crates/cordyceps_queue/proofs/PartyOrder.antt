@@ -76,8 +76,8 @@ module _ {P E : Type 0} (same : Discrete P) (q : P) where
       ap (frees_by same q) (reverse-cons x g) ∙ (let r = frees_reverse g in omega (arith, frees_append (reverse g) (x ∷ []), frees_append (x ∷ []) g))
 
   -- the counts of the holder, and of any other party
-  counted : (g : List (Event P E)) → past.IsLegal g
-      → (past.holder g ≡ Some q → HasRight same q g) × ((past.holder g ≡ Some q → ⊥) → frees_by same q g ≡ takes_by same q g)
+  counted : (g : List (Event P E)) → past.IsLegalReversed g
+      → (past.holder_reversed g ≡ Some q → HasRight same q g) × ((past.holder_reversed g ≡ Some q → ⊥) → frees_by same q g ≡ takes_by same q g)
   counted [] legal = ((λ e. absurd (none_some e)), λ n. refl)
   counted (Take p ∷ g) legal =
       let even = (counted g legal.1).1 (λ e. none_some (sym legal.0 ∙ e)) in (
@@ -125,25 +125,25 @@ producers_in_order P E same h before later legal e =
 
 pub one_holder : (P E : Type 0) → OneHolder P E
 one_holder P E same h before later legal e =
-    let back = subst (λ g. past.IsLegal g) (turned_split h before later e) ((legal_both_ways P E same h).0 legal) in
+    let back = subst (λ g. past.IsLegalReversed g) (turned_split h before later e) ((legal_both_ways P E same h).0 legal) in
     let l = front_legal (reverse later) (reverse before) back in record {
       counts = λ q. counts l q;
       holds = λ q. ((λ r. held_by l q r), λ is. has l q is);
       one = λ p q a b. some_inj (sym (held_by l p a) ∙ held_by l q b);
     }
   where
-    has : past.IsLegal (reverse before) → (q : P) → holder before ≡ Some q → HasRight same q before
+    has : past.IsLegalReversed (reverse before) → (q : P) → holder before ≡ Some q → HasRight same q before
     has l q is =
         let r = (counted same q (reverse before) l).0 (sym (holder_of before) ∙ is) in
         omega (arith, takes_reverse same q before, frees_reverse same q before)
 
-    even : past.IsLegal (reverse before) → (q : P) → (holder before ≡ Some q → ⊥) → frees_by same q before ≡ takes_by same q before
+    even : past.IsLegalReversed (reverse before) → (q : P) → (holder before ≡ Some q → ⊥) → frees_by same q before ≡ takes_by same q before
     even l q no_right =
         let r = (counted same q (reverse before) l).1 (λ is. no_right (holder_of before ∙ is)) in
         omega (arith, takes_reverse same q before, frees_reverse same q before)
 
-    counts : past.IsLegal (reverse before) → (q : P) → HasRight same q before ⊎ (frees_by same q before ≡ takes_by same q before)
+    counts : past.IsLegalReversed (reverse before) → (q : P) → HasRight same q before ⊎ (frees_by same q before ≡ takes_by same q before)
     counts l q = elim (is_of same (holder before) q) [ inl is ↦ inl (has l q is) | inr no_right ↦ inr (even l q no_right) ]
 
-    held_by : past.IsLegal (reverse before) → (q : P) → HasRight same q before → holder before ≡ Some q
+    held_by : past.IsLegalReversed (reverse before) → (q : P) → HasRight same q before → holder before ≡ Some q
     held_by l q r = elim (is_of same (holder before) q) [ inl is ↦ is | inr no_right ↦ (let z = even l q no_right in absurd (omega arith)) ]

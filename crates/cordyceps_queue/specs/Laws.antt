@@ -11,18 +11,18 @@ use Rattle.cordyceps_queue.specs.Past as past
 
 -- legal by the conditions on every beginning, or event by event
 abbrev pub LegalBothWays : (P E : Type 0) → Type 0
-LegalBothWays P E = (same : Discrete P) (h : List (Event P E)) → told.IsLegal same h ↔ past.IsLegal (reverse h)
+LegalBothWays P E = (same : Discrete P) (h : List (Event P E)) → told.IsLegal same h ↔ past.IsLegalReversed (reverse h)
 
 -- blocked by counts of events, or by the place of an open swap
 abbrev pub BlockedBothWays : (P E : Type 0) → Type 0
 BlockedBothWays P E =
     (same : Discrete P) (h : List (Event P E)) → told.IsLegal same h →
-    told.IsBlocked same h ↔ past.IsBlocked (reverse h)
+    told.IsBlocked same h ↔ past.IsBlockedReversed (reverse h)
 
 abbrev pub WasBlockedBothWays : (P E : Type 0) → Type 0
 WasBlockedBothWays P E =
     (same : Discrete P) (h : List (Event P E)) (q : P) → told.IsLegal same h →
-    told.WasBlocked same q h ↔ past.WasBlocked q (reverse h)
+    told.WasBlocked same q h ↔ past.WasBlockedReversed q (reverse h)
 
 -- this element before the others, if it is so
 abbrev pub first_if : {A E : Type 0} → Dec A → E → List E → List E

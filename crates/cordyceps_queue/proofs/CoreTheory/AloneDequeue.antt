@@ -33,8 +33,8 @@ module _ {E : Type 0} where
   blocked_take : (h : List (Event ℕ E)) (p : ℕ) (m : Machine E) → CoreMeets (h ++ Take p ∷ []) m → IsBlocked ℕ_discrete (h ++ Take p ∷ []) → IsBlocked ℕ_discrete h
   blocked_take h p m was b =
       let turned : reverse (h ++ Take p ∷ []) ≡ Take p ∷ reverse h = reverse-append h (Take p ∷ []) in
-      let legal : past.IsLegal (Take p ∷ reverse h) = subst past.IsLegal turned was.meets.legal in
-      told_blocked ℕ_discrete h legal.1 (subst past.IsBlocked turned (past_blocked ℕ_discrete (h ++ Take p ∷ []) was.meets.legal b))
+      let legal : past.IsLegalReversed (Take p ∷ reverse h) = subst past.IsLegalReversed turned was.meets.legal in
+      told_blocked ℕ_discrete h legal.1 (subst past.IsBlockedReversed turned (past_blocked ℕ_discrete (h ++ Take p ∷ []) was.meets.legal b))
 
   finds_before : (h : List (Event ℕ E)) (p : ℕ) (m : Machine E) → CoreMeets (h ++ Take p ∷ []) m → (a : QueueAnswer E) → IsFinal a → Finds (h ++ Take p ∷ []) p (found_of (Ok a)) → Finds h p (found_of (Ok a))
   finds_before h p m was answer.Done f s = absurd f
@@ -124,12 +124,12 @@ module _ {E : Type 0} where
   still_blocked h p m (Some Rest) may was b =
       let all : reverse (h ++ Take p ∷ Look p ∷ Free p ∷ []) ≡ Free p ∷ Look p ∷ Take p ∷ reverse h = reverse-append h (Take p ∷ Look p ∷ Free p ∷ []) in
       let turned : reverse (h ++ Take p ∷ Look p ∷ []) ≡ Look p ∷ Take p ∷ reverse h = reverse-append h (Take p ∷ Look p ∷ []) in
-      let legal : past.IsLegal (Free p ∷ Look p ∷ Take p ∷ reverse h) = subst past.IsLegal all was.meets.legal in
-      told_blocked ℕ_discrete (h ++ Take p ∷ Look p ∷ []) (subst past.IsLegal (sym turned) legal.1) (subst past.IsBlocked (sym turned) (past_blocked ℕ_discrete h legal.1.1.1 b))
+      let legal : past.IsLegalReversed (Free p ∷ Look p ∷ Take p ∷ reverse h) = subst past.IsLegalReversed all was.meets.legal in
+      told_blocked ℕ_discrete (h ++ Take p ∷ Look p ∷ []) (subst past.IsLegalReversed (sym turned) legal.1) (subst past.IsBlockedReversed (sym turned) (past_blocked ℕ_discrete h legal.1.1.1 b))
   still_blocked h p m (Some (Holding t)) may was b =
       let turned : reverse (h ++ Look p ∷ []) ≡ Look p ∷ reverse h = reverse-append h (Look p ∷ []) in
-      let legal : past.IsLegal (Look p ∷ reverse h) = subst past.IsLegal turned was.meets.legal in
-      told_blocked ℕ_discrete (h ++ Look p ∷ []) was.meets.legal (subst past.IsBlocked (sym turned) (past_blocked ℕ_discrete h legal.1 b))
+      let legal : past.IsLegalReversed (Look p ∷ reverse h) = subst past.IsLegalReversed turned was.meets.legal in
+      told_blocked ℕ_discrete (h ++ Look p ∷ []) was.meets.legal (subst past.IsBlockedReversed (sym turned) (past_blocked ℕ_discrete h legal.1 b))
   still_blocked h p m stage may was b = let no : ⊥ = cc in absurd no
 
   pub inconsistent_law : (h : List (Event ℕ E)) (m : Machine E) (p : ℕ) → CoreMeets h m → may_dequeue (slice_get m.parties p) ≡ true → found_of (after_dequeue m p).1 ≡ Err error.Inconsistent → LooksBlocked h p (slice_get m.parties p)

@@ -37,7 +37,7 @@ module _ {E : Type 0} where
   gone : (h : List (Event ℕ E)) (p : ℕ) (e : E) (m m2 : Machine E) → CoreMeets h m → CoreMeets (h ++ Look p ∷ Out p e ∷ []) m2 → held (h ++ Look p ∷ Out p e ∷ []) ≡ drop 1 (held h)
   gone h p e m m2 was is =
       let turned : reverse (h ++ Look p ∷ Out p e ∷ []) ≡ Out p e ∷ Look p ∷ reverse h = reverse-append h (Look p ∷ Out p e ∷ []) in
-      held_of (h ++ Look p ∷ Out p e ∷ []) is.meets.legal ∙ (ap (λ l. past.held l) turned ∙ ap (drop 1) (sym (held_of h was.meets.legal)))
+      held_of (h ++ Look p ∷ Out p e ∷ []) is.meets.legal ∙ (ap (λ l. past.held_reversed l) turned ∙ ap (drop 1) (sym (held_of h was.meets.legal)))
 
   one_more : (p : ℕ) (e : E) (es : List E) (stop : Option TryDequeueError) → drain_events p (e ∷ es) stop ≡ Look p ∷ Out p e ∷ drain_events p es stop
   one_more p e es None = refl

@@ -150,10 +150,10 @@ module _ {E : Type 0} where
   blocked_before : (h : List (Event ℕ E)) (p : ℕ) (m : Machine E) → CoreMeets (h ++ Look p ∷ []) m → WasBlocked ℕ_discrete p (h ++ Look p ∷ []) → IsBlocked ℕ_discrete h
   blocked_before h p m was w =
       let turned : reverse (h ++ Look p ∷ []) ≡ Look p ∷ reverse h = reverse-append h (Look p ∷ []) in
-      let legal : past.IsLegal (Look p ∷ reverse h) = subst past.IsLegal turned was.meets.legal in
-      from legal (subst (past.WasBlocked p) turned (past_was_blocked ℕ_discrete (h ++ Look p ∷ []) was.meets.legal p w))
+      let legal : past.IsLegalReversed (Look p ∷ reverse h) = subst past.IsLegalReversed turned was.meets.legal in
+      from legal (subst (past.WasBlockedReversed p) turned (past_was_blocked ℕ_discrete (h ++ Look p ∷ []) was.meets.legal p w))
     where
-      from : past.IsLegal (Look p ∷ reverse h) → past.WasBlocked p (Look p ∷ reverse h) → IsBlocked ℕ_discrete h
+      from : past.IsLegalReversed (Look p ∷ reverse h) → past.WasBlockedReversed p (Look p ∷ reverse h) → IsBlocked ℕ_discrete h
       from legal (inl b) = told_blocked ℕ_discrete h legal.1 b.1
       from legal (inr b) = absurd (b.0 refl)
 

@@ -23,7 +23,7 @@ use Rattle.cordyceps_shared.specs.declared.slots.Filled.{Filled}
 use Rattle.cordyceps_queue.specs.History.{Event, actor}
 use Rattle.cordyceps_shared.specs.Places.{ItemAt}
 use Rattle.cordyceps_queue.specs.Cores.Meets.{Spare, Shared, OwnsRooms, Chain, Owes, tail_of, AtStage, Meets}
-use Rattle.cordyceps_queue.specs.Past.{HasLooked, WasBlocked}
+use Rattle.cordyceps_queue.specs.Past.{HasLooked, WasBlockedReversed}
 use Rattle.cordyceps_queue.specs.Shared.Plays.{SeatState, Sees, moves_to, hands_out, Blocked}
 use Rattle.cordyceps_shared.specs.Slots.{Homes, full_slot, EmptyAtHome}
 use Rattle.cordyceps_queue.specs.Shared.Rule.{TableState, link_of, slot_of, party, machine_of, FullAtHome, RuleHolds}
@@ -204,8 +204,8 @@ module _ {E : Type 0} (s : TableState E) (k : RuleHolds s) (id : ℕ) (v : View 
   pub stood : (es : List (Event Name E)) (stage : Stage) → Sees v es (sees es v.free v.back stage) → moves_to es stage (v, []) (sees es v.free v.back stage, [])
   stood es stage adds = (refl, bare, ap (λ l. l ++ v.free) (sym bare), refl, adds)
 
-  pub blocked : (es : List (Event Name E)) (stage : Stage) → WasBlocked (name v) (reverse es ++ out_events) → Blocked (sees es v.free v.back stage)
-  blocked es stage was = subst (WasBlocked (name v)) (sym (ap (λ z. reverse z) (plain_marked id (k.history ++ of_seat id es)) ∙ (ap (λ z. reverse z) (events_more k.history id es) ∙ reverse-append (events k.history) es))) was
+  pub blocked : (es : List (Event Name E)) (stage : Stage) → WasBlockedReversed (name v) (reverse es ++ out_events) → Blocked (sees es v.free v.back stage)
+  blocked es stage was = subst (WasBlockedReversed (name v)) (sym (ap (λ z. reverse z) (plain_marked id (k.history ++ of_seat id es)) ∙ (ap (λ z. reverse z) (events_more k.history id es) ∙ reverse-append (events k.history) es))) was
 
   pub same_rooms : Among k.chain.rooms k.chain.rooms
   same_rooms i x ix = (i, ix)

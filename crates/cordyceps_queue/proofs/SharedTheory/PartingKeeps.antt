@@ -25,7 +25,7 @@ use Rattle.cordyceps_queue.specs.History.{Event, actor}
 use Rattle.cordyceps_shared.specs.Places.{ItemAt}
 use Rattle.cordyceps_queue.specs.Cores.Meets.{Owner, Shared, Spare, Unmade, OwnsRooms, AtStage, Meets}
 use Rattle.cordyceps_queue.specs.Shared.Parting.{view_keeping, view_giving, view_absorbing, view_absorbed, view_without_told, after_learn}
-use Rattle.cordyceps_queue.specs.Past.{IsLegal, IsSettled}
+use Rattle.cordyceps_queue.specs.Past.{IsLegalReversed, IsSettled}
 use Rattle.cordyceps_queue.specs.Shared.Plays.{SeatState, LegalReversed}
 use Rattle.cordyceps_shared.specs.Slots.{Homes, EmptyAtHome}
 use Rattle.cordyceps_queue.specs.Shared.Rule.{TableState, History, link_of, party, party_of, machine_of, RuleHolds}
@@ -314,12 +314,12 @@ module _ {E : Type 0} (s : TableState E) (k : RuleHolds s) (id other : ℕ) (v w
   }
 
 -- ---- what a party learns that took another in
-legal_behind : {P E : Type 0} (us vs : List (Event P E)) → IsLegal (us ++ vs) → IsLegal vs
+legal_behind : {P E : Type 0} (us vs : List (Event P E)) → IsLegalReversed (us ++ vs) → IsLegalReversed vs
 legal_behind [] vs l = l
 legal_behind (x ∷ us) vs l = legal_behind us vs l.1
 
 legal_front : {E : Type 0} (xs ys : List (Event Name E)) → LegalReversed (xs ++ ys) → LegalReversed xs
-legal_front xs ys l = legal_behind (reverse ys) (reverse xs) (subst (λ z. IsLegal z) (reverse-append xs ys) l)
+legal_front xs ys l = legal_behind (reverse ys) (reverse xs) (subst (λ z. IsLegalReversed z) (reverse-append xs ys) l)
 
 module _ {E : Type 0} (s : TableState E) (k : RuleHolds s) (id : ℕ) (v : View E) (at : get_elem? s.views id ≡ some v) (named : v.known.share ≢ []) where
   forgot_kept : RuleHolds record { words = s.words; homes = s.homes; views = set s.views id (view_without_told v) }

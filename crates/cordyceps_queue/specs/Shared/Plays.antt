@@ -11,7 +11,7 @@ use Rattle.cordyceps_queue.specs.declared.cores.stage.Stage.TheVariants.{Second,
 use Rattle.cordyceps_queue.specs.declared.cores.stage.Stage.TheVariants.{PutRead}
 use Rattle.cordyceps_shared.specs.declared.slots.Filled.{Filled}
 use Rattle.cordyceps_queue.specs.History.{Event, actor}
-use Rattle.cordyceps_queue.specs.Past.{IsLegal, WasBlocked}
+use Rattle.cordyceps_queue.specs.Past.{IsLegalReversed, WasBlockedReversed}
 use Rattle.cordyceps_shared.specs.Slots.{Hand, Near, TableStep, full_slot}
 use Rattle.cordyceps_queue.specs.Shared.View.{View, name}
 
@@ -20,7 +20,7 @@ SeatState E = Me (Option (Filled E)) (View E)
 
 module _ {E : Type 0} where
   abbrev pub LegalReversed : List (Event Name E) → Type 0
-  LegalReversed es = IsLegal (reverse es)
+  LegalReversed es = IsLegalReversed (reverse es)
 
   -- the party has seen more, in which its own events are these
   abbrev pub Sees : View E → List (Event Name E) → View E → Type 0
@@ -80,7 +80,7 @@ module _ {E : Type 0} where
 
   -- some beginning that contains the party's last look is blocked
   abbrev pub Blocked : View E → Type 0
-  Blocked v = WasBlocked (name v) (reverse (plain v.known.seen))
+  Blocked v = WasBlockedReversed (name v) (reverse (plain v.known.seen))
 
   -- the party is at this stage, with at most one slot in hand
   abbrev pub IsAtStage : ℕ → Stage → SeatState E → Type 0
