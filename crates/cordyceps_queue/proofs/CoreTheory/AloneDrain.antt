@@ -158,8 +158,8 @@ module _ {E : Type 0} where
   batch_law n h m p was may = whole_at n h m p was (slice_get m.parties p) refl may
 
   -- elements that came out before, in front of those that came out
-  abbrev pub behind : List E → Drained E → Drained E
-  behind es d = (d.0, es ++ d.1, d.2)
+  abbrev pub after_items : List E → Drained E → Drained E
+  after_items es d = (d.0, es ++ d.1, d.2)
 
   -- a try of a holder that gave an element
   pub record Gave (h : List (Event ℕ E)) (p : ℕ) (m : Machine E) (e : E) : Type 0 where
@@ -179,14 +179,14 @@ module _ {E : Type 0} where
         left = finds.1 ∙ ap (λ z. e ∷ z) (ap (drop 1) (sym finds.1) ∙ sym (gone h p e m (tries p 6 m).0 was met));
       }
 
-  pub behind_more : (p k : ℕ) (items : List E) (m : Machine E) (e : E) → found_of (tries p 6 m).1 ≡ Ok e → behind (items ++ e ∷ []) (after_drain p k (tries p 6 m).0) ≡ behind items (after_drain p (suc k) m)
-  behind_more p k items m e is =
+  pub after_more : (p k : ℕ) (items : List E) (m : Machine E) (e : E) → found_of (tries p 6 m).1 ≡ Ok e → after_items (items ++ e ∷ []) (after_drain p k (tries p 6 m).0) ≡ after_items items (after_drain p (suc k) m)
+  after_more p k items m e is =
       let d = after_drain p k (tries p 6 m).0 in
-      ap (λ es. (d.0, es, d.2)) (append_assoc items (e ∷ []) d.1) ∙ ap (behind items) (sym (ap (drain_goes_on (after_drain p k) (tries p 6 m).0) is))
+      ap (λ es. (d.0, es, d.2)) (append_assoc items (e ∷ []) d.1) ∙ ap (after_items items) (sym (ap (drain_goes_on (after_drain p k) (tries p 6 m).0) is))
 
-  pub behind_last : (p k : ℕ) (items : List E) (m : Machine E) (why : TryDequeueError) → found_of (tries p 6 m).1 ≡ Err why → ((tries p 6 m).0, items, Some why) ≡ behind items (after_drain p (suc k) m)
-  behind_last p k items m why is =
-      ap (λ es. ((tries p 6 m).0, es, Some why)) (sym (append-nil items)) ∙ ap (behind items) (sym (ap (drain_goes_on (after_drain p k) (tries p 6 m).0) is))
+  pub after_last : (p k : ℕ) (items : List E) (m : Machine E) (why : TryDequeueError) → found_of (tries p 6 m).1 ≡ Err why → ((tries p 6 m).0, items, Some why) ≡ after_items items (after_drain p (suc k) m)
+  after_last p k items m why is =
+      ap (λ es. ((tries p 6 m).0, es, Some why)) (sym (append-nil items)) ∙ ap (after_items items) (sym (ap (drain_goes_on (after_drain p k) (tries p 6 m).0) is))
 
   -- the right was free, and is taken
   pub record Took (h : List (Event ℕ E)) (p : ℕ) (m : Machine E) : Type 0 where

@@ -121,5 +121,5 @@ module _ {E : Type 0} where
       from rec true = refl
       from rec false = rec
 
-  pub first_behind : (p : ℕ) (next : Option ℕ) (rooms : List (Room E)) → least_free p (stub_room next ∷ rooms) ≡ option_map suc (position (is_free_for p) rooms)
-  first_behind p next rooms = first_from p rooms 0 ∙ ap (option_map suc) (sym (position_from-zero (is_free_for p) rooms))
+  pub first_after : (p : ℕ) (next : Option ℕ) (rooms : List (Room E)) → least_free p (stub_room next ∷ rooms) ≡ option_map suc (position (is_free_for p) rooms)
+  first_after p next rooms = first_from p rooms 0 ∙ ap (option_map suc) (sym (position_from-zero (is_free_for p) rooms))

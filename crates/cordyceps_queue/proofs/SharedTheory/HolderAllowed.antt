@@ -89,12 +89,12 @@ module _ {E : Type 0} (s : TableState E) (k : RuleHolds s) (id : ℕ) (v : View 
     looks_bare : t ≢ 0 → (i : ℕ) → i ≡ LINKS + t → (slots : ℕ) → length s.homes ≡ slots → Comes s k id v at named bare i (get_or s.words i 0) (ReadsTail s k id v at named bare (Event.Look (name v) ∷ []) slots t)
     looks_bare is_real i is slots deep = reading s k id v at named bare (Event.Look (name v) ∷ []) (refl, tt) looked_on t i has nothing is_real (inl refl) is slots deep (get_or s.words i 0) refl
 
-  module _ (t : ℕ) (behind : v.stage ≡ Second t) where
+  module _ (t : ℕ) (at_second : v.stage ≡ Second t) where
     knows_tail : Real k.chain.keeper k.chain.rooms gone_by id (name v) t
-    knows_tail = subst (AtStage core.head core.next core.cell k.chain.owner k.chain.keeper k.chain.rooms gone_by id (name v)) behind (k.meets.fits id (party v) is_there)
+    knows_tail = subst (AtStage core.head core.next core.cell k.chain.owner k.chain.keeper k.chain.rooms gone_by id (name v)) at_second (k.meets.fits id (party v) is_there)
 
     reads_bare : (i : ℕ) → i ≡ LINKS + t → (slots : ℕ) → length s.homes ≡ slots → Comes s k id v at named bare i (get_or s.words i 0) (ReadsTail s k id v at named bare [] slots t)
-    reads_bare i is slots deep = reading s k id v at named bare [] tt k.meets t i (ap tail_of behind) (λ a b o. subst (λ l. Owes l a b) behind o) knows_tail.is_real knows_tail.looked is slots deep (get_or s.words i 0) refl
+    reads_bare i is slots deep = reading s k id v at named bare [] tt k.meets t i (ap tail_of at_second) (λ a b o. subst (λ l. Owes l a b) at_second o) knows_tail.is_real knows_tail.looked is slots deep (get_or s.words i 0) refl
 
 -- the tail of two stages that are one
 same_tail : {p : Stage} {t u : ℕ} → p ≡ Holding t → p ≡ Holding u → t ≡ u
@@ -118,8 +118,8 @@ module _ {E : Type 0} (slots id : ℕ) (me : SeatState E) (hand : me.1 ≡ carry
       let c = looks_bare s k id (view_returned me.0) at named refl t holding is_real i is slots deep in
       (c.0, c.1, c.2, c.3, λ u stage ne. subst (λ q. ReadsTail s k id (view_returned me.0) at named refl (Event.Look (name me.0) ∷ []) slots q (get_or s.words i 0) (c.0, carried_after [] c.1)) (same_tail holding stage) c.4))
 
-  pub reads_behind : (t i : ℕ) → i ≡ LINKS + t → me.0.stage ≡ Second t → Allows RuleHolds slots id me i (λ x. x) (play.after_read (step slots i 0 0 none) me)
-  reads_behind t i is behind = returning slots id i me (λ x. x) (play.after_read (step slots i 0 0 none) me) hand near named
+  pub reads_after : (t i : ℕ) → i ≡ LINKS + t → me.0.stage ≡ Second t → Allows RuleHolds slots id me i (λ x. x) (play.after_read (step slots i 0 0 none) me)
+  reads_after t i is at_second = returning slots id i me (λ x. x) (play.after_read (step slots i 0 0 none) me) hand near named
       (λ s k deep at fits.
-      let c = reads_bare s k id (view_returned me.0) at named refl t behind i is slots deep in
-      (c.0, c.1, c.2, c.3, λ u stage. subst (λ q. ReadsTail s k id (view_returned me.0) at named refl [] slots q (get_or s.words i 0) (c.0, carried_after [] c.1)) (same_second behind stage) c.4))
+      let c = reads_bare s k id (view_returned me.0) at named refl t at_second i is slots deep in
+      (c.0, c.1, c.2, c.3, λ u stage. subst (λ q. ReadsTail s k id (view_returned me.0) at named refl [] slots q (get_or s.words i 0) (c.0, carried_after [] c.1)) (same_second at_second stage) c.4))

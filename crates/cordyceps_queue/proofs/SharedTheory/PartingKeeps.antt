@@ -314,12 +314,12 @@ module _ {E : Type 0} (s : TableState E) (k : RuleHolds s) (id other : ℕ) (v w
   }
 
 -- ---- what a party learns that took another in
-legal_behind : {P E : Type 0} (us vs : List (Event P E)) → IsLegalReversed (us ++ vs) → IsLegalReversed vs
-legal_behind [] vs l = l
-legal_behind (x ∷ us) vs l = legal_behind us vs l.1
+legal_after : {P E : Type 0} (us vs : List (Event P E)) → IsLegalReversed (us ++ vs) → IsLegalReversed vs
+legal_after [] vs l = l
+legal_after (x ∷ us) vs l = legal_after us vs l.1
 
 legal_front : {E : Type 0} (xs ys : List (Event Name E)) → LegalReversed (xs ++ ys) → LegalReversed xs
-legal_front xs ys l = legal_behind (reverse ys) (reverse xs) (subst (λ z. IsLegalReversed z) (reverse-append xs ys) l)
+legal_front xs ys l = legal_after (reverse ys) (reverse xs) (subst (λ z. IsLegalReversed z) (reverse-append xs ys) l)
 
 module _ {E : Type 0} (s : TableState E) (k : RuleHolds s) (id : ℕ) (v : View E) (at : get_elem? s.views id ≡ some v) (named : v.known.share ≢ []) where
   forgot_kept : RuleHolds record { words = s.words; homes = s.homes; views = set s.views id (view_without_told v) }

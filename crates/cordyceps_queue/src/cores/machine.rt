@@ -120,13 +120,13 @@ impl<E: Drop> Machine<E> {
         Ok(QueueAnswer::Done)
     }
 
-    fn link(&mut self, party: usize, at: usize, next: Option<usize>, stage: Stage) -> Answered<E>
+    fn link(&mut self, party: usize, room: usize, next: Option<usize>, stage: Stage) -> Answered<E>
         requires party { party < length self.old.parties }
-        requires room { at < length self.old.rooms }
-        ensures machine { self.new ≡ (link self.old party at next stage).0 }
-        ensures answer { result ≡ (link self.old party at next stage).1 }
+        requires room { room < length self.old.rooms }
+        ensures machine { self.new ≡ (link self.old party room next stage).0 }
+        ensures answer { result ≡ (link self.old party room next stage).1 }
     {
-        self.rooms.link(at, next);
+        self.rooms.link(room, next);
         self.parties[party] = stage;
         Ok(QueueAnswer::Done)
     }

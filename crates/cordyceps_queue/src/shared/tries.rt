@@ -17,7 +17,7 @@ use crate::shared::table::{PartySeat, Tried, Words};
 
 /// Continues a try after the stub was put in after the tail.
 #[inline(always)]
-fn behind_tail<E: Drop>(words: &Words<E>, seat: &mut PartySeat<E>, tail: usize) -> (u64, Tried<E>)
+fn after_tail<E: Drop>(words: &Words<E>, seat: &mut PartySeat<E>, tail: usize) -> (u64, Tried<E>)
     requires table { (seat.old.table_id ≡ words.now.table_id) × IsTable words.now.table_id }
     requires stage { IsAtStage words.now.table_id.slots (PutRead tail) seat.old.me × (tail < words.now.table_id.slots) }
     ensures table { seat.new.table_id ≡ seat.old.table_id }
@@ -42,12 +42,12 @@ fn at_end<E: Drop>(words: &Words<E>, seat: &mut PartySeat<E>, tail: usize) -> (u
         return (tail as u64, Tried::Inconsistent);
     }
     put_stub(words, seat, tail);
-    behind_tail(words, seat, tail)
+    after_tail(words, seat, tail)
 }
 
 /// Continues a try after the stub was passed.
 #[inline(always)]
-fn behind_stub<E: Drop>(words: &Words<E>, seat: &mut PartySeat<E>, tail: usize) -> (u64, Tried<E>)
+fn after_stub<E: Drop>(words: &Words<E>, seat: &mut PartySeat<E>, tail: usize) -> (u64, Tried<E>)
     requires table { (seat.old.table_id ≡ words.now.table_id) × IsTable words.now.table_id }
     requires stage { IsAtStage words.now.table_id.slots (Second tail) seat.old.me × (tail < words.now.table_id.slots) }
     ensures table { seat.new.table_id ≡ seat.old.table_id }
@@ -71,7 +71,7 @@ fn look_stub<E: Drop>(words: &Words<E>, seat: &mut PartySeat<E>) -> (u64, Tried<
 {
     let next = look_first(words, seat);
     if next != 0 {
-        return behind_stub(words, seat, next as usize - 1);
+        return after_stub(words, seat, next as usize - 1);
     }
     if head_of_stub(words, seat) == 0 {
         return (0, Tried::Empty);

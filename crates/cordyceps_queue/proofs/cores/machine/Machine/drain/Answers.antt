@@ -3,7 +3,7 @@ use Rattle.std.specs.Prelude.{Ok, Err}
 use Rattle.cordyceps_queue.specs.Cores.Alone.{tries, found_of}
 use Rattle.cordyceps_queue.specs.Cores.Drain.{after_drain}
 use Rattle.cordyceps_queue.specs.History.{held}
-use Rattle.cordyceps_queue.proofs.CoreTheory.AloneDrain.{behind, gave, behind_more, behind_last}
+use Rattle.cordyceps_queue.proofs.CoreTheory.AloneDrain.{after_items, gave, after_more, after_last}
 use Rattle.cordyceps_queue.proofs.cores.machine.Machine.drain.Goals as goal
 
 -- one element more has its room, where one fewer is held
@@ -33,7 +33,7 @@ loop-self-preserved g c =
     let k = c.args.max - length c.push_reserved.new.self.items in
     let again : c.args.max - length old ≡ suc k = omega (arith, longer, c.loop-self-test.true, c.len.ensures) in
     rw c.try_holding.ensures.machine record {
-      whole = ap (λ es. behind es (after_drain p k (tries p 6 m).0)) more ∙ (behind_more p k old m e is ∙ (ap (λ n. behind old (after_drain p n m)) (sym again) ∙ i.whole));
+      whole = ap (λ es. after_items es (after_drain p k (tries p 6 m).0)) more ∙ (after_more p k old m e is ∙ (ap (λ n. after_items old (after_drain p n m)) (sym again) ∙ i.whole));
       holding = G.holds;
       room = (_, G.meets, roomy c.args.max (vec_capacity c.loop-self.batch) (vec_capacity c.push_reserved.new.self) (length old) (length c.push_reserved.new.self.items) (length (held i.room.0)) _ c.push_reserved.ensures.capacity (let n = ap length G.left in omega (arith, n, longer)) i.room.2);
       few = omega (arith, longer, c.loop-self-test.true, c.len.ensures);
@@ -48,4 +48,4 @@ returns-in-Err g c =
     let is : found_of (tries p 6 m).1 ≡ Err c.in-Err.why = ap found_of (sym c.try_holding.ensures.answer) ∙ (sym c.found.ensures ∙ c.in-Err.is) in
     let k = c.args.max - length old - 1 in
     let again : c.args.max - length old ≡ suc k = omega (arith, c.loop-self-test.true, c.len.ensures) in
-    rw c.try_holding.ensures.machine (behind_last p k old m c.in-Err.why is ∙ (ap (λ n. behind old (after_drain p n m)) (sym again) ∙ i.whole))
+    rw c.try_holding.ensures.machine (after_last p k old m c.in-Err.why is ∙ (ap (λ n. after_items old (after_drain p n m)) (sym again) ∙ i.whole))
