@@ -144,8 +144,8 @@ impl<E: Drop> QueueCore<E> {
     pub fn try_dequeue(&mut self, party: usize) -> Result<Result<E, TryDequeueError>, StepError>
         ensures accepted { is_ok result ≡ may_dequeue (slice_get self.old.parties party) }
         ensures err { IfErr result (λ e. (e ≡ StepError.NotThere) × (self.new ≡ self.old)) }
-        ensures ok { IfOk result
-            (λ found. (self.new ≡ (after_dequeue self.old party).0) × (found ≡ found_of (after_dequeue self.old party).1)) }
+        ensures ok { IfOk result (λ found. (self.new ≡ (after_dequeue self.old party).0)
+            × (found ≡ found_of (after_dequeue self.old party).1)) }
         ensures history { IfOk result (λ found. (h : List (Event ℕ E)) → CoreMeets h self.old
             → CoreMeets (h ++ dequeue_events party (slice_get self.old.parties party) found) self.new
             × Finds h party found) }
@@ -182,7 +182,8 @@ impl<E: Drop> QueueCore<E> {
         ensures not_there { (result ≡ Err StepError.NotThere)
             ↔ IsFalse (may_drain max (slice_get self.old.parties party)) }
         ensures err { OnErr result (self.new ≡ self.old) }
-        ensures ok { IfOk result (λ batch. let d = after_drain_at party max self.old (slice_get self.old.parties party) in
+        ensures ok { IfOk result (λ batch.
+            let d = after_drain_at party max self.old (slice_get self.old.parties party) in
             (self.new ≡ d.0) × (batch_as_list batch ≡ batch_of d.1 d.2)) }
         ensures history { OnOk result
             (let d = after_drain_at party max self.old (slice_get self.old.parties party) in (h : List (Event ℕ E))

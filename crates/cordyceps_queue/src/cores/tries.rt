@@ -72,8 +72,7 @@ impl<E: Drop> Machine<E> {
     /// Takes the steps of a try by the party that has the right, which are at most seven.
     fn try_holding(&mut self, party: usize) -> Answered<E>
         requires { IsSound self.old }
-        ensures machine { self.new ≡ (tries party 6 self.old).0 }
-        ensures answer { result ≡ (tries party 6 self.old).1 }
+        ensures { (self.new, result) ≡ tries party 6 self.old }
     {
         for _ in 0..6usize {
             let answer = self.act(party, next_step(self.stage(party)));
@@ -87,8 +86,7 @@ impl<E: Drop> Machine<E> {
     /// Tries to dequeue. A party at rest takes the right first and gives it back last.
     pub(crate) fn dequeue(&mut self, party: usize) -> Answered<E>
         requires { IsSound self.old }
-        ensures machine { self.new ≡ (after_dequeue self.old party).0 }
-        ensures answer { result ≡ (after_dequeue self.old party).1 }
+        ensures { (self.new, result) ≡ after_dequeue self.old party }
     {
         let Some(Stage::Rest) = self.stage(party) else {
             return self.try_holding(party);
