@@ -1,4 +1,5 @@
 -- A queue's machine as functions of a room's or a party's number, whoever keeps the words: what each step does to it.
+-- The head of Machine has a picture of the four readings of one machine.
 use Rattle.std.specs.Prelude.{ℕ, zero, suc, Bool, true, false, cond, eqb, ltb, List, [], ◌∷◌, Option, Some, None}
 use Rattle.cordyceps_queue.specs.declared.cores.stage.Stage.{Stage}
 use Rattle.cordyceps_queue.specs.declared.cores.stage.Stage.TheVariants.{Rest, Cleared, Swapped, Holding, StubNull}

@@ -1,4 +1,25 @@
 -- The machine of a queue's core as plain data, and what each step does to it.
+--
+-- One machine is read in four ways:
+--
+--     src/cores: the code                      words and views of a shared table
+--               |                                             |
+--               | view                                        |
+--               v                                             |
+--     Machine: lists                                          | machine_of
+--     Cores/Machine                                           | Shared/Rule
+--               |                                             |
+--               | abstract_of, Cores/CoreMeets                |
+--               v                                             v
+--     AbstractMachine: functions of a room's or a party's number, Cores/Abstract
+--               |
+--               | Meets, Cores/Meets
+--               v
+--     a history, from its newest event back
+--
+-- The code has vectors. A contract of the core sees a `Machine`, and `after_step` says what each step makes of it. The
+-- lemmas speak of an `AbstractMachine`, which does not say who keeps the words, and `move_of` says what a step makes of
+-- that. So each step is shown once to keep what the machine meets (`StepKeeps`), for a core and for a shared table.
 use Rattle.std.specs.Prelude.{ℕ, zero, suc, List, [], ◌∷◌, Bool, true, false, nat_eq, Option, Some, None, Result, Ok}
 use Rattle.std.specs.Prelude.{Err, slice_get, slice_set, is_some, if◌then◌else◌}
 use Rattle.cordyceps_base.specs.declared.shared.StepError.{StepError}
@@ -86,11 +107,11 @@ module _ {E : Type 0} where
 
   -- the next word of a room is written
   abbrev pub link : Machine E → ℕ → ℕ → Option ℕ → Stage → Outcome E
-  link m p at next stage = (
+  link m p r next stage = (
     record {
       head = m.head;
       right = m.right;
-      rooms = change (linking next) at m.rooms;
+      rooms = change (linking next) r m.rooms;
       parties = slice_set m.parties p stage;
     },
     Ok answer.Done,
@@ -107,7 +128,7 @@ module _ {E : Type 0} where
   give m p t =
       (record { head = m.head; right = Some t; rooms = m.rooms; parties = slice_set m.parties p Rest }, Ok answer.Done)
 
-  -- the tail's element comes out, its room is p's, and the room behind it becomes the tail; in a core the tail has one
+  -- the tail's element comes out, its room is p's, and the room after it becomes the tail; in a core the tail has one
   abbrev pub hand_out : Machine E → ℕ → ℕ → ℕ → Option E → Outcome E
   hand_out m p t r None = refusal m step.ReadNext
   hand_out m p t r (Some e) = (
