@@ -65,7 +65,7 @@ module _ {P E : Type 0} (same : Discrete P) where
   counts_looked q (Empty p ∷ g) l = counts_looked q g l
   counts_looked q (Free p ∷ g) l = counts_looked q g l
 
-  -- where a blocked beginning ends that has the party's last look
+  -- where a blocked prefix ends that has the party's last look
   record Cut (q : P) (g : List (Event P E)) : Type 0 where
     later : List (Event P E)
     before : List (Event P E)

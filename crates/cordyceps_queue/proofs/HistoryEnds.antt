@@ -35,7 +35,7 @@ module _ {P E : Type 0} where
   holder_from-append o [] t = refl
   holder_from-append o (x ∷ h) t = holder_from-append (holder_after o x) h t
 
-  -- one event before all others, as it is read backwards
+  -- one event before all others, read from the newest event back
   came_last : (x : Event P E) (g : List (Event P E)) → past.came_reversed g ++ told.came (x ∷ []) ≡ past.came_reversed (x ∷ g)
   came_last (Swap p e) g = refl
   came_last (Link p) g = append-nil (past.came_reversed g)

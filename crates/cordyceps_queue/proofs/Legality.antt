@@ -22,7 +22,7 @@ pub not_by : {P : Type 0} (same : Discrete P) (q p : P) (n : ℕ) → one_if_dec
 not_by same q p n e s = let z = one_same (same q p) s in omega arith
 
 module _ {P E : Type 0} where
-  -- a beginning of a legal history is legal
+  -- a prefix of a legal history is legal
   pub front_legal : (later before : List (Event P E)) → past.IsLegalReversed (later ++ before) → past.IsLegalReversed before
   front_legal [] before legal = legal
   front_legal (x ∷ later) before legal = front_legal later before legal.1
@@ -183,7 +183,7 @@ module _ {P E : Type 0} (same : Discrete P) where
       let legal = past_legal g (legal_front (reverse g) (x ∷ []) L') in
       (came_next g legal x L', legal)
 
--- where a pending party's last swap stands
+-- where a pending party's last swap is
 pub record Stood {P E : Type 0} (same : Discrete P) (q : P) (n : ℕ) (h : List (Event P E)) : Type 0 where
   pub later : List (Event P E)
   pub element : E
@@ -216,7 +216,7 @@ module _ {P E : Type 0} (same : Discrete P) where
   stood (Empty p ∷ h) legal q n w = stood_on q n n (Empty p) h (λ l s. s) refl (stood h legal.1 q n w)
   stood (Free p ∷ h) legal q n w = stood_on q n n (Free p) h (λ l s. s) refl (stood h legal.1 q n w)
 
-  -- what stands there is pending
+  -- what is there is pending
   pub stands : (l before : List (Event P E)) (q : P) (e : E) (n : ℕ) → past.IsLegalReversed (l ++ Swap q e ∷ before) → IsOpen q (l ++ Swap q e ∷ before) → swaps_by same q l ≡ 0 → length (past.came_reversed before) ≡ length (past.went_reversed (l ++ Swap q e ∷ before)) + n → IsPendingAt q n (l ++ Swap q e ∷ before)
   stands [] before q e n legal unlinked none there = inl (refl, omega (arith, ap length (in_order P E before legal.1), length-append (past.went_reversed before) (past.held_reversed before)))
   stands (Swap p x ∷ l) before q e n legal unlinked none there =

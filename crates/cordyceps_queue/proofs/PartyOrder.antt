@@ -1,4 +1,4 @@
--- What every legal history says of producers and of the holder; and that of two takings at most one gets the right.
+-- What every legal history says of producers and of the holder; and that of two swaps of the right at most one gets it.
 use Rattle.std.proofs.Common.{◌≡◌, ◌+◌, ◌⊎◌, List, [], ◌∷◌, ◌++◌, map, take, drop, reverse, length, Option, Some, None, refl, ap, sym, ◌∙◌, subst, inl, inr, append-nil, arith}
 use Rattle.std.proofs.lemmas.List.{take-append-drop, take-map, drop-map}
 use Rattle.std.proofs.Math.Seq.{take-append_seam, drop-append_seam}

@@ -9,7 +9,7 @@ use Rattle.cordyceps_queue.specs.History as told
 use Rattle.cordyceps_queue.specs.History.{Event, Swap, Take, Busy, Free, went, held, holder, one_if_dec}
 use Rattle.cordyceps_queue.specs.Past as past
 
--- legal by the conditions on every beginning, or event by event
+-- legal by the conditions on every prefix, or event by event
 abbrev pub LegalBothWays : (P E : Type 0) → Type 0
 LegalBothWays P E = (same : Discrete P) (h : List (Event P E)) → told.IsLegal same h ↔ past.IsLegalReversed (reverse h)
 
@@ -80,7 +80,7 @@ module _ {P E : Type 0} (same : Discrete P) where
     pub holds : (q : P) → HasRight q h ↔ (holder h ≡ Some q)
     pub one : (p q : P) → HasRight p h → HasRight q h → p ≡ q
 
--- in each beginning of a legal history
+-- in each prefix of a legal history
 abbrev pub ProducersInOrder : (P E : Type 0) → Type 0
 ProducersInOrder P E =
     (same : Discrete P) (h past later : List (Event P E)) → told.IsLegal same h → h ≡ past ++ later →

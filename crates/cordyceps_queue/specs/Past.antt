@@ -1,5 +1,5 @@
--- Histories read from their newest event backwards: what stood before an event is the list behind it. These forms go by
--- recursion on that list, and say the same as those of History on the list turned round.
+-- Histories read from their newest event back: what was before an event is the rest of the list. These forms go by
+-- recursion on that list, and say the same as those of History on the list reversed.
 use Rattle.std.specs.Prelude.{◌≡◌, ℕ, suc, ◌<◌, ◌≢◌, ◌⊎◌, List, [], ◌∷◌, ◌++◌, drop, length, Option, Some, None}
 use Rattle.cordyceps_queue.specs.History.{Event, Swap, Link, Take, Busy, Look, Out, Empty, Free}
 
@@ -42,7 +42,7 @@ IsOpen q (Swap p e ∷ h) = (q ≡ p) ⊎ ((q ≢ p) × IsOpen q h)
 IsOpen q (Link p ∷ h) = (q ≢ p) × IsOpen q h
 IsOpen q (_ ∷ h) = IsOpen q h
 
--- the party has not linked its last swap, whose element stands at place n of what is held
+-- the party has not linked its last swap, whose element is at place n of what is held
 abbrev pub IsPendingAt : {P E : Type 0} → P → ℕ → List (Event P E) → Type 0
 IsPendingAt q n [] = ⊥
 IsPendingAt q n (Swap p e ∷ h) = ((q ≡ p) × (n ≡ length (held_reversed h))) ⊎ ((q ≢ p) × IsPendingAt q n h)
@@ -59,10 +59,11 @@ HasLooked q [] = ⊥
 HasLooked q (Look p ∷ h) = (q ≡ p) ⊎ HasLooked q h
 HasLooked q (_ ∷ h) = HasLooked q h
 
--- some beginning that contains the last look of the party is blocked
+-- some prefix that contains the last look of the party is blocked
 abbrev pub WasBlockedReversed : {P E : Type 0} → P → List (Event P E) → Type 0
 WasBlockedReversed q [] = ⊥
-WasBlockedReversed q (Look p ∷ h) = (HasLooked q (Look p ∷ h) × IsBlockedReversed (Look p ∷ h)) ⊎ ((q ≢ p) × WasBlockedReversed q h)
+WasBlockedReversed q (Look p ∷ h) =
+    (HasLooked q (Look p ∷ h) × IsBlockedReversed (Look p ∷ h)) ⊎ ((q ≢ p) × WasBlockedReversed q h)
 WasBlockedReversed q (x ∷ h) = (HasLooked q (x ∷ h) × IsBlockedReversed (x ∷ h)) ⊎ WasBlockedReversed q h
 
 -- what has to hold just before an event

@@ -119,7 +119,7 @@ module _ {E : Type 0} where
   pub busy_law : (h : List (Event ℕ E)) (m : Machine E) (p q : ℕ) → CoreMeets h m → holder h ≡ Some q → p ≢ q → may_dequeue (slice_get m.parties p) ≡ true → found_of (after_dequeue m p).1 ≡ Err error.Busy
   busy_law h m p q was held ne may = busy_at h m p q was held ne (slice_get m.parties p) refl may
 
-  -- what was blocked before a look, or before a taking and a look, is so after them
+  -- what was blocked before a `Look`, or before a `Take` and a `Look`, is so after them
   pub still_blocked : (h : List (Event ℕ E)) (p : ℕ) (m : Machine E) (stage : Option Stage) → may_dequeue stage ≡ true → CoreMeets (h ++ dequeue_events p stage (Err error.Inconsistent)) m → IsBlocked ℕ_discrete h → LooksBlocked h p stage
   still_blocked h p m (Some Rest) may was b =
       let all : reverse (h ++ Take p ∷ Look p ∷ Free p ∷ []) ≡ Free p ∷ Look p ∷ Take p ∷ reverse h = reverse-append h (Take p ∷ Look p ∷ Free p ∷ []) in

@@ -157,7 +157,7 @@ module _ {E : Type 0} where
   pub batch_law : (n : ℕ) (h : List (Event ℕ E)) (m : Machine E) (p : ℕ) → CoreMeets h m → may_dequeue (slice_get m.parties p) ≡ true → Whole h p n (slice_get m.parties p) (after_drain_at p n m (slice_get m.parties p))
   batch_law n h m p was may = whole_at n h m p was (slice_get m.parties p) refl may
 
-  -- elements that came out before, in front of those that came out
+  -- elements that came out before, and then those that came out
   abbrev pub after_items : List E → Drained E → Drained E
   after_items es d = (d.0, es ++ d.1, d.2)
 
@@ -207,12 +207,12 @@ module _ {E : Type 0} where
         holds = right_was m p m.right took_at at;
       }
 
-  -- ---- what a call answers
+  -- ---- what a call returns
   take_front : (es rest : List E) → front (length es) (es ++ rest) ≡ es
   take_front [] rest = refl
   take_front (e ∷ es) rest = ap (λ z. e ∷ z) (take_front es rest)
 
-  -- looks and takings of the right swap and link nothing
+  -- `Look` and `Take` swap and link nothing
   looks_swap : (q p : ℕ) (es : List E) → swaps_by ℕ_discrete q (outs p es ++ Look p ∷ []) ≡ 0
   looks_swap q p [] = refl
   looks_swap q p (e ∷ es) = looks_swap q p es

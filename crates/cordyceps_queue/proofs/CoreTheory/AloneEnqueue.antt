@@ -1,4 +1,4 @@
--- A whole enqueueing that one party runs alone.
+-- A whole enqueue that one party runs alone.
 use Rattle.std.proofs.Common.{◌≡◌, ℕ, ◌≤◌, true, List, [], ◌∷◌, ◌++◌, length, drop, refl, ap, sym, ◌∙◌, subst, append_assoc, append-nil, length-append, arith}
 use Rattle.std.specs.Prelude.{Option, Some, slice_get, is_some}
 use Rattle.std.proofs.lemmas.List.{drop-append-le}

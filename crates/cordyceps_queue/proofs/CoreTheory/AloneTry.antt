@@ -62,7 +62,7 @@ module _ {E : Type 0} where
   abbrev Holds : ℕ → Machine E → Type 0
   Holds p m = (t : ℕ) × (slice_get m.parties p ≡ Some (Holding t))
 
-  -- where the party stands after the answer
+  -- the stage of the party after the answer
   abbrev Stands : ℕ → Stage → QueueAnswer E → Machine E → Type 0
   Stands p stage answer.Done m = (l : Stage) × (slice_get m.parties p ≡ Some l) × (steps_left l < steps_left stage) × IsMidTry l
   Stands p stage answer.Taken m = ⊥

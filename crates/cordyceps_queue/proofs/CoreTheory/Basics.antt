@@ -157,7 +157,7 @@ module _ {P E : Type 0} where
   open_from (Empty p ∷ h) q n w = open_from h q n w
   open_from (Free p ∷ h) q n w = open_from h q n w
 
--- how often a number stands in a list, by place
+-- how often a number is in a list, by place
 pub times_none : (r : ℕ) (xs : List ℕ) → ((i : ℕ) → ItemAt xs i r → ⊥) → times r xs ≡ 0
 times_none r [] away = refl
 times_none r (x ∷ xs) away = omega (arith, one_else x r (λ e. away 0 (sym e)), times_none r xs (λ i. away (suc i)))

@@ -35,7 +35,7 @@ at_some [] i lt = absurd (omega arith)
 at_some (x ∷ xs) zero lt = (x, refl)
 at_some (x ∷ xs) (suc i) lt = at_some xs i (omega arith)
 
--- the stub in front is no element
+-- the stub at the tail is no element
 stub_less : (xs : List ℕ) → ItemAt xs 0 0 → suc (length (real xs)) ≤ length xs
 stub_less [] a = absurd a
 stub_less (zero ∷ xs) a = let l = real_within xs in omega arith
@@ -127,7 +127,7 @@ module _ {P E : Type 0} (m : AbstractMachine P E) (c : Chain) (h : List (Event P
       mine : AtStage m.head m.next m.cell c.owner c.keeper c.rooms (x ∷ h) k p.name p.stage
       mine = subst (AtStage m.head m.next m.cell c.owner c.keeper c.rooms (x ∷ h) k p.name) (sym holding) (record { kept = keeping.kept; held_by = same_holder ∙ keeping.held_by; tail = keeping.tail; settled = settled p.name keeping.settled })
 
-  -- another party owes the link behind the tail
+  -- another party owes the tail's link
   blocker : (j : ℕ) (q : P) (b : ℕ) (stage : Stage) → Owes stage t b → tail_of stage ≡ None → AtStage m.head m.next m.cell c.owner c.keeper c.rooms h j q stage → IsBlockedReversed h
   blocker j q b (Swapped x old) o none f =
       let first : f.0 ≡ 0 = M.once f.0 0 old f.1 (subst (ItemAt c.rooms 0) o.0 keeping.tail) in
@@ -137,7 +137,7 @@ module _ {P E : Type 0} (m : AbstractMachine P E) (c : Chain) (h : List (Event P
   blocker j q b (Cleared x) o none f = absurd o
   blocker j q b stage o none f = absurd (some_none none)
 
-  -- an open link behind the tail blocks
+  -- an open link of the tail blocks
   pub open_blocks : ((a b : ℕ) → Owes p.stage a b → ⊥) → m.next t ≡ None → m.head ≢ t → IsBlockedReversed h
   open_blocks nothing null far =
       let long : M.last.0 ≢ 0 = λ e. far (at_one c.rooms 0 m.head t (subst (λ i. ItemAt c.rooms i m.head) e M.last.2) keeping.tail) in

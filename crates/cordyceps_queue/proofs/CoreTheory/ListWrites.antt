@@ -32,7 +32,7 @@ module _ {X : Type 0} where
   get_push_other (y ∷ xs) x zero ne = refl
   get_push_other (y ∷ xs) x (suc j) ne = get_push_other xs x j (λ e. ne (ap suc e))
 
-  -- no item stands behind the last
+  -- no item is after the last
   pub get_beyond : (xs : List X) → slice_get xs (length xs) ≡ None
   get_beyond [] = refl
   get_beyond (x ∷ xs) = get_beyond xs
@@ -79,7 +79,7 @@ module _ {X A : Type 0} (get : Option X → A) where
       at (y ∷ xs) (suc j) = at xs j
 
 module _ {X : Type 0} where
-  -- a write behind the first item
+  -- a write after the first item
   pub set_after : (f : X → X) (x : X) (xs : List X) (i : ℕ) (d : X) → 0 < i → i < suc (length xs) → x ∷ slice_set xs (i - 1) (f (slice_index_or xs (i - 1) d)) ≡ change f i (x ∷ xs)
   set_after f x xs zero d pos lt = absurd (omega arith)
   set_after f x xs (suc i) d pos lt =

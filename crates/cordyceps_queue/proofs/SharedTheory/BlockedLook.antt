@@ -18,7 +18,7 @@ use Rattle.cordyceps_queue.proofs.Legality.{front_legal}
 use Rattle.cordyceps_queue.proofs.SharedTheory.BlockedPast.{since_look}
 
 module _ {X : Type 0} where
-  -- where the last own event stands
+  -- where the last own event is
   record LastOwn (seen : List (Bool × X)) (es : List X) (x : X) : Type 0 where
     pub before : List (Bool × X)
     pub later : List (Bool × X)
@@ -42,7 +42,7 @@ module _ {X : Type 0} where
       let l = last_own seen es x more in
       record { before = (true, y) ∷ l.before; later = l.later; is = ap (λ r. (true, y) ∷ r) l.is; first = (λ i. same i ∷ l.first i); none = l.none }
 
-  -- a beginning of what was seen, with its marks
+  -- a prefix of what was seen, with its marks
   record Front (seen : List (Bool × X)) (xs : List X) : Type 0 where
     pub front : List (Bool × X)
     pub after : List (Bool × X)

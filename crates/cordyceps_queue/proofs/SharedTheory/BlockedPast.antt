@@ -1,10 +1,10 @@
--- A beginning that contains a look is blocked, where one that contains the last look of its name is.
+-- A prefix that contains a look is blocked, where one that contains the last look of its name is.
 use Rattle.std.proofs.Common.{◌≡◌, List, [], ◌∷◌, ◌++◌, refl, ap, inl, inr}
 use Rattle.cordyceps_queue.specs.History.{Event, Swap, Link, Take, Busy, Look, Out, Empty, Free}
 use Rattle.cordyceps_queue.specs.Past.{IsBlockedReversed, WasBlockedReversed}
 
 module _ {P E : Type 0} (q : P) (h : List (Event P E)) where
-  -- the events after the look, the newest first, cut where the beginning ends
+  -- the events after the look, the newest first, cut where the prefix ends
   pub record Cut (xs : List (Event P E)) : Type 0 where
     pub later : List (Event P E)
     pub now : List (Event P E)

@@ -34,7 +34,7 @@ module _ {E : Type 0} where
       let after = held_of (plain w.seen) (subst (λ r. past.IsLegalReversed r) (sym back) l) ∙ ap (λ r. past.held_reversed r) back in
       before ∙ (out.2 ∙ ap (λ xs. e ∷ xs) (sym (after ∙ ap (drop 1) out.2)))
 
-  -- what a whole party puts in is held behind what was
+  -- what a whole party puts in is held after what was
   pub holds_last : (u w : PartyOf E) (e : E) → u.share ≡ whole → Enqueues e u w → held (plain w.seen) ≡ held (plain u.seen) ++ e ∷ []
   holds_last u w e is d =
       let n = name_of u in

@@ -206,7 +206,7 @@ module _ {E : Type 0} (s : TableState E) (k : RuleHolds s) (id n : ℕ) (v : Vie
 pub splits : {E : Type 0} (id n : ℕ) (v : View E) → v.known.share ≢ [] → v.stage ≡ Rest → v.back ≡ [] → Splits RuleHolds id v (view_keeping n v) (view_giving n v)
 splits id n v named rest bare s k at = cut_kept s k id n v named rest bare at
 
--- ---- taking another in
+-- ---- a party takes another in
 module _ {E : Type 0} (s : TableState E) (k : RuleHolds s) (id other : ℕ) (v w : View E) (rest : v.stage ≡ Rest) (rest_too : w.stage ≡ Rest) (bare : v.back ≡ []) (bare_too : w.back ≡ []) (named : v.known.share ≢ []) (named_too : w.known.share ≢ [])
     (at : get_elem? s.views id ≡ some v) (apart : other ≢ id) (there : get_elem? (set s.views id (view_absorbing v w)) other ≡ some w) where
   abbrev joint : List (View E)

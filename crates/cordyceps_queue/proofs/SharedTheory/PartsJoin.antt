@@ -73,7 +73,7 @@ module _ {E : Type 0} where
       (T.0, subst (λ xs. moves_to xs (Holding t) m l) (sym (append_assoc es fs (end (name k.0))) ∙ ap (λ n. (es ++ fs) ++ end n) (ap first_name a.4.share)) (stands_then es (fs ++ end (name k.0)) p (Holding t) m k l a T.1))
   tries_then slots es fs p m k l t Inconsistent a T = (T.0, stands_then es fs p (Holding t) m k l a T.1, T.2)
 
-  -- where a party stands after a step
+  -- the stage of a party after a step
   pub at_stage : (slots : ℕ) (es : List (Event Name E)) (p : Stage) (m k : SeatState E) → m.0.known.share ≢ [] → Near slots (m.0.back ++ m.0.free) → moves_to es p m k → IsAtStage slots p k
   at_stage slots es p m k named near a =
       let f = frees slots es p m k named a in

@@ -38,7 +38,7 @@ module _ {P E A : Type 0} (f : E → A) where
   all_got (Empty p ∷ h) = all_got h
   all_got (Free p ∷ h) = all_got h
 
-  -- what a legal history holds, behind what came out of it, is what was put in
+  -- what came out of a legal history, and then what it holds, is what was put in
   pub all_kept : (same : Discrete P) (h : List (Event P E)) → IsLegal same h → flat_map (got_by f) h ++ map f (held h) ≡ flat_map (put_by f) h
   all_kept same h legal =
       ap (λ l. l ++ map f (held h)) (all_got h) ∙ (sym (map-append f (went h) (held h)) ∙ (ap (map f) (nothing_lost same h legal) ∙ sym (all_put h)))

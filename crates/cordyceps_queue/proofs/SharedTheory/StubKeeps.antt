@@ -91,7 +91,7 @@ module _ {E : Type 0} (s : TableState E) (k : RuleHolds s) (id : ℕ) (v : View 
           λ _. ((λ f. absurd (suc_zero (sym e ∙ f))), λ r' f. subst (λ q. moves_to (look ∷ []) (Second q) (v, []) (w, []) × (q < slots) × (q ≢ 0)) (suc_inj (sym e ∙ f)) (stood s k id v at named bare (look ∷ []) (Second r) o.1, omega arith, ne)),
         )
 
-  -- ---- the read of head behind a null link
+  -- ---- the read of head after a null link
   module _ (at_null : v.stage ≡ StubNull) where
     heads_stub_bare : (slots : ℕ) → Dec (word.head s.words ≡ 0) → Comes s k id v at named bare HEAD (word.head s.words) (play.after_head_stub (step slots HEAD 0 0 none) (v, []))
     heads_stub_bare slots (yes e) =

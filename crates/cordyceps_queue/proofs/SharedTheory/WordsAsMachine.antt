@@ -131,7 +131,7 @@ module _ {E : Type 0} where
     ready_owner j u r at some_name is =
         (subst (AtStage core.head core.next core.cell k.chain.owner k.chain.keeper k.chain.rooms (reverse (events k.history)) j (party u).name) is (k.meets.fits j (party u) (party_at j u at some_name))).1
 
-    -- what rooms have changes in one room, which no other party has cleared, or nowhere
+    -- what rooms have changes in one room, which no other party has cleared, or in none
     pub readies : (id r : ℕ) (y : Option E) (w : View E) → ((q : ℕ) → w.stage ≡ Cleared q → update k.cell r y q ≡ w.item) → ((j : ℕ) → j ≢ id → k.chain.owner r ≡ Ready j → ⊥) → AllReady (update k.cell r y) (set s.views id w)
     readies id r y w mine apart j u q = one_set (λ _ z. z.known.share ≢ [] → z.stage ≡ Cleared q → update k.cell r y q ≡ z.item) s.views id w (λ _ is. mine q is)
         (λ i z ne e some_name is. put_other k.cell r y q (λ same. apart i ne (ap k.chain.owner (sym same) ∙ ready_owner i z q e some_name is)) ∙ k.ready i z q e some_name is)

@@ -50,7 +50,7 @@ module _ {E : Type 0} where
   abbrev pub is_ready : Machine E → ℕ → Bool
   is_ready m p = is_rest (slice_get m.parties p) && is_some (least_free p m.rooms)
 
-  -- the steps of an enqueueing
+  -- the steps of an enqueue
   abbrev pub enqueue_steps : ℕ → E → List (ℕ × QueueStep E)
   enqueue_steps p e = (p, step.Clear (Some e)) ∷ (p, step.Swap) ∷ (p, step.Link) ∷ []
 

@@ -40,7 +40,7 @@ module _ {E : Type 0} where
   abbrev pub IsOwned : Machine E → Type 0
   IsOwned m = (k : ℕ) → slice_get m.parties k ≡ None → free_rooms k m.rooms ≡ []
 
-  -- `Meets` reads the history from its newest event backwards
+  -- `Meets` reads the history from its newest event back
   pub record CoreMeets (h : List (Event ℕ E)) (m : Machine E) : Type 0 where
     pub legal : IsLegal ℕ_discrete h
     pub chain : Chain

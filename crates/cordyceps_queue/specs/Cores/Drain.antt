@@ -1,4 +1,4 @@
--- Several tries that one party runs alone, one after the other, and what their call answers.
+-- Several tries that one party runs alone, one after the other, and what their call returns.
 use Rattle.std.specs.Prelude.{◌≡◌, ◌≢◌, ℕ, zero, suc, ◌-◌, ◌≤◌, Bool, true, false, List, [], ◌∷◌, ◌++◌, length, take}
 use Rattle.std.specs.Prelude.{count_by, vec_items, Option, Some, None, Result, Ok, Err, Vec}
 use native.Mathlib.Decide.{ℕ_discrete}
@@ -54,17 +54,18 @@ module _ {E : Type 0} where
   after_drain_at p n m (Some Rest) = let out = after_step m p step.Take in drains_first p n out.0 out.1
   after_drain_at p n m stage = after_drain p n m
 
-  -- the answer: the elements, or why there is none
+  -- the result: the elements, or why there is none
   abbrev pub batch_of : List E → Option TryDequeueError → Result (List E) TryDequeueError
   batch_of [] (Some why) = Err why
   batch_of es stop = Ok es
 
-  -- what a call answered, with the elements of its vector
+  -- what a call returned, with the elements of its vector
   abbrev pub batch_as_list : {Z : Type 0} → Result (Vec E Z) TryDequeueError → Result (List E) TryDequeueError
   batch_as_list (Ok batch) = Ok (vec_items batch)
   batch_as_list (Err why) = Err why
 
-  -- the answer where nobody stands in the way: the oldest of these elements, n or all, or that there is none
+  -- the result where no other party is pending or has the right: the oldest of these elements, n or all, or that there
+  -- is none
   abbrev pub oldest : ℕ → List E → Result (List E) TryDequeueError
   oldest n [] = Err error.Empty
   oldest n (e ∷ es) = Ok (take n (e ∷ es))

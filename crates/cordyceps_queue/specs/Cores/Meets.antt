@@ -2,7 +2,8 @@
 use Rattle.std.specs.Prelude.{◌≡◌, ℕ, zero, suc, ◌≤◌, ◌≢◌, ◌⊎◌, List, [], ◌∷◌, map, length, Option, Some, None}
 use Rattle.cordyceps_shared.specs.Places.{ItemAt}
 use Rattle.cordyceps_queue.specs.History.{Event}
-use Rattle.cordyceps_queue.specs.Past.{held_reversed, holder_reversed, IsSettled, IsPendingAt, HasLooked, WasBlockedReversed, IsLegalReversed}
+use Rattle.cordyceps_queue.specs.Past.{held_reversed, holder_reversed, IsSettled, IsPendingAt, HasLooked}
+use Rattle.cordyceps_queue.specs.Past.{WasBlockedReversed, IsLegalReversed}
 use Rattle.cordyceps_queue.specs.declared.cores.stage.Stage.{Stage}
 use Rattle.cordyceps_queue.specs.declared.cores.stage.Stage.TheVariants.{Rest, Cleared, Swapped, Holding, StubNull}
 use Rattle.cordyceps_queue.specs.declared.cores.stage.Stage.TheVariants.{Second, Null, PutClear, PutSwap, PutLink}

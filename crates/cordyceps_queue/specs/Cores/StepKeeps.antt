@@ -1,7 +1,8 @@
 -- What each step keeps.
 use Rattle.std.specs.Prelude.{◌≡◌, ◌≢◌, ℕ, List, [], ◌∷◌, ◌++◌, Some, None}
 use Rattle.cordyceps_queue.specs.History.{Event}
-use Rattle.cordyceps_queue.specs.Past.{came_reversed, went_reversed, held_reversed, holder_reversed, WasBlockedReversed, IsLegalReversed}
+use Rattle.cordyceps_queue.specs.Past.{came_reversed, went_reversed, held_reversed, holder_reversed}
+use Rattle.cordyceps_queue.specs.Past.{WasBlockedReversed, IsLegalReversed}
 use Rattle.cordyceps_queue.specs.declared.cores.steps.QueueStep.{QueueStep}
 use Rattle.cordyceps_queue.specs.declared.cores.steps.QueueAnswer.{QueueAnswer}
 use Rattle.cordyceps_queue.specs.declared.cores.steps.QueueAnswer.TheVariants as answer
