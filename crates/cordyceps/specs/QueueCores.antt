@@ -7,10 +7,10 @@ pub use Rattle.cordyceps_queue.specs.declared.cores.steps.QueueAnswer.TheVariant
 pub use Rattle.cordyceps_queue.specs.declared.cores.steps.QueueAnswer.TheVariants.{Inconsistent}
 pub use Rattle.cordyceps_queue.specs.declared.cores.steps.TryDequeueError.{TryDequeueError}
 pub use Rattle.cordyceps_queue.specs.declared.cores.steps.TryDequeueError.TheVariants.{Empty as FindsEmpty, Inconsistent as FindsInconsistent, Busy as FindsBusy}
-pub use Rattle.cordyceps_queue.specs.Cores.Machine.{Machine, Answered, stepped, is_there, step_element, step_events}
+pub use Rattle.cordyceps_queue.specs.Cores.Machine.{Machine, Answered, after_step, is_there, step_element, step_events}
 pub use Rattle.cordyceps_queue.specs.Cores.CoreMeets.{core_step, new_machine, with_party, with_room}
-pub use Rattle.cordyceps_queue.specs.Cores.Alone.{enqueue_steps, is_ready, may_dequeue, dequeued, found_of}
-pub use Rattle.cordyceps_queue.specs.Cores.Drain.{may_drain, drained_at, batch_of, given}
+pub use Rattle.cordyceps_queue.specs.Cores.Alone.{enqueue_steps, is_ready, may_dequeue, after_dequeue, found_of}
+pub use Rattle.cordyceps_queue.specs.Cores.Drain.{may_drain, after_drain_at, batch_of, batch_as_list}
 pub use Rattle.cordyceps_queue.specs.Cores.Alone
 pub use Rattle.cordyceps_queue.specs.Cores.CoreMeets
 pub use Rattle.cordyceps_queue.specs.Cores.Drain

@@ -12,10 +12,10 @@ use Rattle.cordyceps_queue.proofs.CoreTheory.HolderSteps.{was_now}
 
 module _ {P E : Type 0} (same : Discrete P) where
   -- `h` has the oldest event first
-  pub told_blocked : (h : List (Event P E)) → past.IsLegal (reverse h) → past.IsBlocked (reverse h) → told.IsBlocked same h
+  pub told_blocked : (h : List (Event P E)) → past.IsLegalReversed (reverse h) → past.IsBlockedReversed (reverse h) → told.IsBlocked same h
   told_blocked h legal b =
       let S = stood same (reverse h) legal b.0 b.1 b.3 in
-      let came : length (told.came (reverse S.before)) ≡ length (told.went h) + b.1 = ap length (came_of (reverse S.before) ∙ ap past.came (reverse-reverse S.before)) ∙ S.there ∙ ap (λ l. length l + b.1) (sym (went_of h)) in
+      let came : length (told.came (reverse S.before)) ≡ length (told.went h) + b.1 = ap length (came_of (reverse S.before) ∙ ap past.came_reversed (reverse-reverse S.before)) ∙ S.there ∙ ap (λ l. length l + b.1) (sym (went_of h)) in
       record {
         by = b.0;
         pending = ap suc (sym (links_by-reverse same b.0 h)) ∙ (counts same (reverse h) legal b.0).1 (open_from (reverse h) b.0 b.1 b.3) ∙ swaps_by-reverse same b.0 h;
@@ -28,18 +28,18 @@ module _ {P E : Type 0} (same : Discrete P) where
         near = let near = b.2 in omega (arith, came);
       }
 
-  pub past_blocked : (h : List (Event P E)) → past.IsLegal (reverse h) → told.IsBlocked same h → past.IsBlocked (reverse h)
+  pub past_blocked : (h : List (Event P E)) → past.IsLegalReversed (reverse h) → told.IsBlocked same h → past.IsBlockedReversed (reverse h)
   past_blocked h legal B =
       let n : ℕ = length (told.came B.past) - length (told.went h) in
       let is : reverse h ≡ reverse B.later ++ Swap B.by B.element ∷ reverse B.past = turned_at h B.past B.later (Swap B.by B.element) B.is in
-      let came : length (past.came (reverse B.past)) ≡ length (past.went (reverse h)) + n =
+      let came : length (past.came_reversed (reverse B.past)) ≡ length (past.went_reversed (reverse h)) + n =
       ap length (sym (came_of B.past)) ∙ (let l = B.held_there in let e : length (told.came B.past) ≡ length (told.went h) + n = omega arith in e) ∙ ap (λ l. length l + n) (went_of h) in
       let unlinked : IsOpen B.by (reverse h) = elim (settled_or_open same (reverse h) B.by) [
         | inl s ↦ let c = (counts same (reverse h) legal B.by).0 s in let l = links_by-reverse same B.by h in let w = swaps_by-reverse same B.by h in let e = B.pending in absurd (omega arith)
         | inr o ↦ o
       ] in
-      let at = stands same (reverse B.later) (reverse B.past) B.by B.element n (subst past.IsLegal is legal) (subst (IsOpen B.by) is unlinked) (swaps_by-reverse same B.by B.later ∙ B.last)
-      (subst (λ g. length (past.came (reverse B.past)) ≡ length (past.went g) + n) is came) in
+      let at = stands same (reverse B.later) (reverse B.past) B.by B.element n (subst past.IsLegalReversed is legal) (subst (IsOpen B.by) is unlinked) (swaps_by-reverse same B.by B.later ∙ B.last)
+      (subst (λ g. length (past.came_reversed (reverse B.past)) ≡ length (past.went_reversed g) + n) is came) in
       (B.by, n, (let l = B.near in omega arith), subst (past.IsPendingAt B.by n) (sym is) at)
 
   looked_counts : (q : P) (g : List (Event P E)) → HasLooked q g → 0 < looks_by same q g
@@ -65,22 +65,22 @@ module _ {P E : Type 0} (same : Discrete P) where
   counts_looked q (Empty p ∷ g) l = counts_looked q g l
   counts_looked q (Free p ∷ g) l = counts_looked q g l
 
-  -- where a blocked beginning ends that has the party's last look
+  -- where a blocked prefix ends that has the party's last look
   record Cut (q : P) (g : List (Event P E)) : Type 0 where
     later : List (Event P E)
     before : List (Event P E)
     is : g ≡ later ++ before
     none : looks_by same q later ≡ 0
     looked : HasLooked q before
-    blocked : past.IsBlocked before
+    blocked : past.IsBlockedReversed before
 
-  cut_now : (q : P) (g : List (Event P E)) → HasLooked q g → past.IsBlocked g → Cut q g
+  cut_now : (q : P) (g : List (Event P E)) → HasLooked q g → past.IsBlockedReversed g → Cut q g
   cut_now q g l b = record { later = []; before = g; is = refl; none = refl; looked = l; blocked = b }
 
   cut_on : (q : P) (x : Event P E) (g : List (Event P E)) → ((l : List (Event P E)) → looks_by same q l ≡ 0 → looks_by same q (x ∷ l) ≡ 0) → Cut q g → Cut q (x ∷ g)
   cut_on q x g on C = record { later = x ∷ C.later; before = C.before; is = ap (λ l. x ∷ l) C.is; none = on C.later C.none; looked = C.looked; blocked = C.blocked }
 
-  cut : (q : P) (g : List (Event P E)) → past.WasBlocked q g → Cut q g
+  cut : (q : P) (g : List (Event P E)) → past.WasBlockedReversed q g → Cut q g
   cut q [] w = absurd w
   cut q (Look p ∷ g) (inl w) = cut_now q (Look p ∷ g) w.0 w.1
   cut q (Look p ∷ g) (inr w) = cut_on q (Look p) g (λ l s. let z = one_other (same q p) w.0 in omega arith) (cut q g w.1)
@@ -99,7 +99,7 @@ module _ {P E : Type 0} (same : Discrete P) where
   cut q (Free p ∷ g) (inl w) = cut_now q (Free p ∷ g) w.0 w.1
   cut q (Free p ∷ g) (inr w) = cut_on q (Free p) g (λ l s. s) (cut q g w)
 
-  uncut : (q : P) (later before : List (Event P E)) → looks_by same q later ≡ 0 → HasLooked q before → past.IsBlocked before → past.WasBlocked q (later ++ before)
+  uncut : (q : P) (later before : List (Event P E)) → looks_by same q later ≡ 0 → HasLooked q before → past.IsBlockedReversed before → past.WasBlockedReversed q (later ++ before)
   uncut q [] before none l b = was_now q before l b
   uncut q (Look p ∷ later) before none l b =
       let ne = not_by same q p (looks_by same q later) none in let z = one_other (same q p) ne in inr (ne, uncut q later before (omega arith) l b)
@@ -111,23 +111,23 @@ module _ {P E : Type 0} (same : Discrete P) where
   uncut q (Empty p ∷ later) before none l b = inr (uncut q later before none l b)
   uncut q (Free p ∷ later) before none l b = inr (uncut q later before none l b)
 
-  pub told_was_blocked : (h : List (Event P E)) → past.IsLegal (reverse h) → (q : P) → past.WasBlocked q (reverse h) → told.WasBlocked same q h
+  pub told_was_blocked : (h : List (Event P E)) → past.IsLegalReversed (reverse h) → (q : P) → past.WasBlockedReversed q (reverse h) → told.WasBlocked same q h
   told_was_blocked h legal q w =
       let C = cut q (reverse h) w in
       let back : reverse (reverse C.before) ≡ C.before = reverse-reverse C.before in
-      let front : past.IsLegal (reverse (reverse C.before)) = subst past.IsLegal (sym back) (front_legal C.later C.before (subst past.IsLegal C.is legal)) in
+      let front : past.IsLegalReversed (reverse (reverse C.before)) = subst past.IsLegalReversed (sym back) (front_legal C.later C.before (subst past.IsLegalReversed C.is legal)) in
       record {
         past = reverse C.before;
         later = reverse C.later;
         is = sym (reverse-reverse h) ∙ turned_split (reverse h) C.later C.before C.is;
         looked = let l = looked_counts q C.before C.looked in omega (arith, looks_by-reverse same q C.before);
         last = looks_by-reverse same q C.later ∙ C.none;
-        blocked = told_blocked (reverse C.before) front (subst past.IsBlocked (sym back) C.blocked);
+        blocked = told_blocked (reverse C.before) front (subst past.IsBlockedReversed (sym back) C.blocked);
       }
 
-  pub past_was_blocked : (h : List (Event P E)) → past.IsLegal (reverse h) → (q : P) → told.WasBlocked same q h → past.WasBlocked q (reverse h)
+  pub past_was_blocked : (h : List (Event P E)) → past.IsLegalReversed (reverse h) → (q : P) → told.WasBlocked same q h → past.WasBlockedReversed q (reverse h)
   past_was_blocked h legal q W =
       let is : reverse h ≡ reverse W.later ++ reverse W.past = turned_split h W.past W.later W.is in
-      let front : past.IsLegal (reverse W.past) = front_legal (reverse W.later) (reverse W.past) (subst past.IsLegal is legal) in
+      let front : past.IsLegalReversed (reverse W.past) = front_legal (reverse W.later) (reverse W.past) (subst past.IsLegalReversed is legal) in
       let looked : 0 < looks_by same q (reverse W.past) = let l = W.looked in omega (arith, looks_by-reverse same q W.past) in
-      subst (past.WasBlocked q) (sym is) (uncut q (reverse W.later) (reverse W.past) (looks_by-reverse same q W.later ∙ W.last) (counts_looked q (reverse W.past) looked) (past_blocked W.past front W.blocked))
+      subst (past.WasBlockedReversed q) (sym is) (uncut q (reverse W.later) (reverse W.past) (looks_by-reverse same q W.later ∙ W.last) (counts_looked q (reverse W.past) looked) (past_blocked W.past front W.blocked))

@@ -8,7 +8,7 @@ use Rattle.cordyceps_queue.specs.Laws.{LegalBothWays, BlockedBothWays, WasBlocke
 use Rattle.cordyceps_queue.proofs.Blocked.{told_blocked, past_blocked, told_was_blocked, past_was_blocked}
 use Rattle.cordyceps_queue.proofs.Legality.{told_legal, past_legal}
 
-turned_legal : {P E : Type 0} (same : Discrete P) (h : List (Event P E)) → told.IsLegal same h → past.IsLegal (reverse h)
+turned_legal : {P E : Type 0} (same : Discrete P) (h : List (Event P E)) → told.IsLegal same h → past.IsLegalReversed (reverse h)
 turned_legal same h legal = past_legal same (reverse h) (subst (told.IsLegal same) (sym (reverse-reverse h)) legal)
 
 pub legal_both_ways : (P E : Type 0) → LegalBothWays P E

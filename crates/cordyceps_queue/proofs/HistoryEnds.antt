@@ -35,28 +35,28 @@ module _ {P E : Type 0} where
   holder_from-append o [] t = refl
   holder_from-append o (x ∷ h) t = holder_from-append (holder_after o x) h t
 
-  -- one event before all others, as it is read backwards
-  came_last : (x : Event P E) (g : List (Event P E)) → past.came g ++ told.came (x ∷ []) ≡ past.came (x ∷ g)
+  -- one event before all others, read from the newest event back
+  came_last : (x : Event P E) (g : List (Event P E)) → past.came_reversed g ++ told.came (x ∷ []) ≡ past.came_reversed (x ∷ g)
   came_last (Swap p e) g = refl
-  came_last (Link p) g = append-nil (past.came g)
-  came_last (Take p) g = append-nil (past.came g)
-  came_last (Busy p) g = append-nil (past.came g)
-  came_last (Look p) g = append-nil (past.came g)
-  came_last (Out p e) g = append-nil (past.came g)
-  came_last (Empty p) g = append-nil (past.came g)
-  came_last (Free p) g = append-nil (past.came g)
+  came_last (Link p) g = append-nil (past.came_reversed g)
+  came_last (Take p) g = append-nil (past.came_reversed g)
+  came_last (Busy p) g = append-nil (past.came_reversed g)
+  came_last (Look p) g = append-nil (past.came_reversed g)
+  came_last (Out p e) g = append-nil (past.came_reversed g)
+  came_last (Empty p) g = append-nil (past.came_reversed g)
+  came_last (Free p) g = append-nil (past.came_reversed g)
 
-  went_last : (x : Event P E) (g : List (Event P E)) → past.went g ++ told.went (x ∷ []) ≡ past.went (x ∷ g)
+  went_last : (x : Event P E) (g : List (Event P E)) → past.went_reversed g ++ told.went (x ∷ []) ≡ past.went_reversed (x ∷ g)
   went_last (Out p e) g = refl
-  went_last (Link p) g = append-nil (past.went g)
-  went_last (Take p) g = append-nil (past.went g)
-  went_last (Busy p) g = append-nil (past.went g)
-  went_last (Look p) g = append-nil (past.went g)
-  went_last (Swap p e) g = append-nil (past.went g)
-  went_last (Empty p) g = append-nil (past.went g)
-  went_last (Free p) g = append-nil (past.went g)
+  went_last (Link p) g = append-nil (past.went_reversed g)
+  went_last (Take p) g = append-nil (past.went_reversed g)
+  went_last (Busy p) g = append-nil (past.went_reversed g)
+  went_last (Look p) g = append-nil (past.went_reversed g)
+  went_last (Swap p e) g = append-nil (past.went_reversed g)
+  went_last (Empty p) g = append-nil (past.went_reversed g)
+  went_last (Free p) g = append-nil (past.went_reversed g)
 
-  holder_last : (x : Event P E) (g : List (Event P E)) → holder_after (past.holder g) x ≡ past.holder (x ∷ g)
+  holder_last : (x : Event P E) (g : List (Event P E)) → holder_after (past.holder_reversed g) x ≡ past.holder_reversed (x ∷ g)
   holder_last (Swap p e) g = refl
   holder_last (Link p) g = refl
   holder_last (Take p) g = refl
@@ -66,15 +66,15 @@ module _ {P E : Type 0} where
   holder_last (Empty p) g = refl
   holder_last (Free p) g = refl
 
-  pub came-reverse : (g : List (Event P E)) → told.came (reverse g) ≡ past.came g
+  pub came-reverse : (g : List (Event P E)) → told.came (reverse g) ≡ past.came_reversed g
   came-reverse [] = refl
   came-reverse (x ∷ g) = ap told.came (reverse-cons x g) ∙ came-append (reverse g) (x ∷ []) ∙ ap (λ l. l ++ told.came (x ∷ [])) (came-reverse g) ∙ came_last x g
 
-  pub went-reverse : (g : List (Event P E)) → told.went (reverse g) ≡ past.went g
+  pub went-reverse : (g : List (Event P E)) → told.went (reverse g) ≡ past.went_reversed g
   went-reverse [] = refl
   went-reverse (x ∷ g) = ap told.went (reverse-cons x g) ∙ went-append (reverse g) (x ∷ []) ∙ ap (λ l. l ++ told.went (x ∷ [])) (went-reverse g) ∙ went_last x g
 
-  pub holder-reverse : (g : List (Event P E)) → told.holder (reverse g) ≡ past.holder g
+  pub holder-reverse : (g : List (Event P E)) → told.holder (reverse g) ≡ past.holder_reversed g
   holder-reverse [] = refl
   holder-reverse (x ∷ g) = ap told.holder (reverse-cons x g) ∙ holder_from-append None (reverse g) (x ∷ []) ∙ ap (λ o. holder_after o x) (holder-reverse g) ∙ holder_last x g
 

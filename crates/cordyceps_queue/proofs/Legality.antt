@@ -22,27 +22,27 @@ pub not_by : {P : Type 0} (same : Discrete P) (q p : P) (n : ℕ) → one_if_dec
 not_by same q p n e s = let z = one_same (same q p) s in omega arith
 
 module _ {P E : Type 0} where
-  -- a beginning of a legal history is legal
-  pub front_legal : (later before : List (Event P E)) → past.IsLegal (later ++ before) → past.IsLegal before
+  -- a prefix of a legal history is legal
+  pub front_legal : (later before : List (Event P E)) → past.IsLegalReversed (later ++ before) → past.IsLegalReversed before
   front_legal [] before legal = legal
   front_legal (x ∷ later) before legal = front_legal later before legal.1
 
-  pub came_of : (h : List (Event P E)) → told.came h ≡ past.came (reverse h)
+  pub came_of : (h : List (Event P E)) → told.came h ≡ past.came_reversed (reverse h)
   came_of h = ap told.came (sym (reverse-reverse h)) ∙ came-reverse (reverse h)
 
-  pub went_of : (h : List (Event P E)) → told.went h ≡ past.went (reverse h)
+  pub went_of : (h : List (Event P E)) → told.went h ≡ past.went_reversed (reverse h)
   went_of h = ap told.went (sym (reverse-reverse h)) ∙ went-reverse (reverse h)
 
-  pub holder_of : (h : List (Event P E)) → told.holder h ≡ past.holder (reverse h)
+  pub holder_of : (h : List (Event P E)) → told.holder h ≡ past.holder_reversed (reverse h)
   holder_of h = ap told.holder (sym (reverse-reverse h)) ∙ holder-reverse (reverse h)
 
-  whole : (h : List (Event P E)) → past.IsLegal (reverse h) → told.went h ++ past.held (reverse h) ≡ told.came h
-  whole h legal = ap (λ l. l ++ past.held (reverse h)) (went_of h) ∙ in_order P E (reverse h) legal ∙ sym (came_of h)
+  whole : (h : List (Event P E)) → past.IsLegalReversed (reverse h) → told.went h ++ past.held_reversed (reverse h) ≡ told.came h
+  whole h legal = ap (λ l. l ++ past.held_reversed (reverse h)) (went_of h) ∙ in_order P E (reverse h) legal ∙ sym (came_of h)
 
-  pub held_of : (h : List (Event P E)) → past.IsLegal (reverse h) → told.held h ≡ past.held (reverse h)
-  held_of h legal = ap (drop (length (told.went h))) (sym (whole h legal)) ∙ drop-append_seam (told.went h) (past.held (reverse h))
+  pub held_of : (h : List (Event P E)) → past.IsLegalReversed (reverse h) → told.held h ≡ past.held_reversed (reverse h)
+  held_of h legal = ap (drop (length (told.went h))) (sym (whole h legal)) ∙ drop-append_seam (told.went h) (past.held_reversed (reverse h))
 
-  follows_of : (h : List (Event P E)) (x : Event P E) → past.IsLegal (reverse h) → MayCome x (reverse h) → MayFollow h x
+  follows_of : (h : List (Event P E)) (x : Event P E) → past.IsLegalReversed (reverse h) → MayCome x (reverse h) → MayFollow h x
   follows_of h (Swap p e) legal may = tt
   follows_of h (Link p) legal may = tt
   follows_of h (Take p) legal may = holder_of h ∙ may
@@ -64,7 +64,7 @@ module _ {P E : Type 0} (same : Discrete P) where
   counts_link h p q unlinked c e = let z = one_same (same q p) e in let r = c (subst (λ x. IsOpen x h) (sym e) unlinked) in omega arith
 
   -- the counts of a settled party, and of one with an unlinked swap
-  pub counts : (h : List (Event P E)) → past.IsLegal h → (q : P) → (IsSettled q h → links_by same q h ≡ swaps_by same q h) × (IsOpen q h → suc (links_by same q h) ≡ swaps_by same q h)
+  pub counts : (h : List (Event P E)) → past.IsLegalReversed h → (q : P) → (IsSettled q h → links_by same q h ≡ swaps_by same q h) × (IsOpen q h → suc (links_by same q h) ≡ swaps_by same q h)
   counts [] legal q = ((λ s. refl), (λ w. absurd w))
   counts (Swap p e ∷ h) legal q =
       let c = counts h legal.1 q in (
@@ -107,7 +107,7 @@ module _ {P E : Type 0} (same : Discrete P) where
   settled_or_open (Free p ∷ h) q = settled_or_open h q
 
   -- as many links as swaps, or one fewer
-  even_or_one : (h : List (Event P E)) → past.IsLegal (reverse h) → (q : P) → (links_by same q h ≡ swaps_by same q h) ⊎ IsPending same q h
+  even_or_one : (h : List (Event P E)) → past.IsLegalReversed (reverse h) → (q : P) → (links_by same q h ≡ swaps_by same q h) ⊎ IsPending same q h
   even_or_one h legal q =
       let l : links_by same q (reverse h) ≡ links_by same q h = links_by-reverse same q h in
       let s : swaps_by same q (reverse h) ≡ swaps_by same q h = swaps_by-reverse same q h in
@@ -116,17 +116,17 @@ module _ {P E : Type 0} (same : Discrete P) where
         | inr b ↦ inr (ap suc (sym l) ∙ (counts (reverse h) legal q).1 b ∙ s)
       ]
 
-  pub told_legal : (h : List (Event P E)) → past.IsLegal (reverse h) → told.IsLegal same h
+  pub told_legal : (h : List (Event P E)) → past.IsLegalReversed (reverse h) → told.IsLegal same h
   told_legal h legal = record {
-    in_order = λ before later e. (past.held (reverse before), whole before (front_of before later e));
+    in_order = λ before later e. (past.held_reversed (reverse before), whole before (front_of before later e));
     links = λ before later e. even_or_one before (front_of before later e);
     turns = λ before later x e.
-        let l : past.IsLegal (x ∷ reverse before) = front_legal (reverse later) (x ∷ reverse before) (subst past.IsLegal (turned_at h before later x e) legal) in
+        let l : past.IsLegalReversed (x ∷ reverse before) = front_legal (reverse later) (x ∷ reverse before) (subst past.IsLegalReversed (turned_at h before later x e) legal) in
         follows_of before x l.1 l.0;
   }
     where
-      front_of : (before later : List (Event P E)) → h ≡ before ++ later → past.IsLegal (reverse before)
-      front_of before later e = front_legal (reverse later) (reverse before) (subst past.IsLegal (turned_split h before later e) legal)
+      front_of : (before later : List (Event P E)) → h ≡ before ++ later → past.IsLegalReversed (reverse before)
+      front_of before later e = front_legal (reverse later) (reverse before) (subst past.IsLegalReversed (turned_split h before later e) legal)
 
   legal_front : (h t : List (Event P E)) → told.IsLegal same (h ++ t) → told.IsLegal same h
   legal_front h t L = record {
@@ -136,7 +136,7 @@ module _ {P E : Type 0} (same : Discrete P) where
   }
 
   -- the counts of both, with and without the newest event
-  module _ (g : List (Event P E)) (legal : past.IsLegal g) (x : Event P E) (L : told.IsLegal same (reverse g ++ x ∷ [])) where
+  module _ (g : List (Event P E)) (legal : past.IsLegalReversed g) (x : Event P E) (L : told.IsLegal same (reverse g ++ x ∷ [])) where
     links_with : (q : P) → (links_by same q g + links_by same q (x ∷ []) ≡ swaps_by same q g + swaps_by same q (x ∷ [])) ⊎ (suc (links_by same q g + links_by same q (x ∷ [])) ≡ swaps_by same q g + swaps_by same q (x ∷ []))
     links_with q =
         let l : links_by same q (reverse g ++ x ∷ []) ≡ links_by same q g + links_by same q (x ∷ []) = links_by-append same q (reverse g) (x ∷ []) ∙ ap (λ n. n + links_by same q (x ∷ [])) (links_by-reverse same q g) in
@@ -149,10 +149,10 @@ module _ {P E : Type 0} (same : Discrete P) where
     may : MayFollow (reverse g) x
     may = L.turns (reverse g) [] x refl
 
-    held_by : told.holder (reverse g) ≡ past.holder g
+    held_by : told.holder (reverse g) ≡ past.holder_reversed g
     held_by = holder-reverse g
 
-  came_next : (g : List (Event P E)) → past.IsLegal g → (x : Event P E) → told.IsLegal same (reverse g ++ x ∷ []) → MayCome x g
+  came_next : (g : List (Event P E)) → past.IsLegalReversed g → (x : Event P E) → told.IsLegal same (reverse g ++ x ∷ []) → MayCome x g
   came_next g legal (Swap p e) L = elim (settled_or_open g p) [
     | inl a ↦ a
     | inr b ↦ let z = one_same (same p p) refl in let c = (counts g legal p).1 b in elim (links_with g legal (Swap p e) L p) [ inl u ↦ absurd (omega arith) | inr u ↦ absurd (omega arith) ]
@@ -166,38 +166,38 @@ module _ {P E : Type 0} (same : Discrete P) where
   came_next g legal (Look p) L = sym (held_by g legal (Look p) L) ∙ may g legal (Look p) L
   came_next g legal (Out p e) L =
       let w = L.in_order (reverse g ++ Out p e ∷ []) [] (sym (append-nil (reverse g ++ Out p e ∷ []))) in
-      let out : told.went (reverse g ++ Out p e ∷ []) ≡ past.went g ++ e ∷ [] = went-append (reverse g) (Out p e ∷ []) ∙ ap (λ l. l ++ e ∷ []) (went-reverse g) in
-      let all : told.came (reverse g ++ Out p e ∷ []) ≡ past.came g = came-append (reverse g) (Out p e ∷ []) ∙ append-nil (told.came (reverse g)) ∙ came-reverse g in
-      let both : past.went g ++ past.held g ≡ past.went g ++ e ∷ w.0 = in_order P E g legal ∙ sym all ∙ sym w.1 ∙ ap (λ l. l ++ w.0) out ∙ append_assoc (past.went g) (e ∷ []) w.0 in
-      (sym (held_by g legal (Out p e) L) ∙ may g legal (Out p e) L, w.0, append_cancel_left (past.went g) (past.held g) (e ∷ w.0) both)
+      let out : told.went (reverse g ++ Out p e ∷ []) ≡ past.went_reversed g ++ e ∷ [] = went-append (reverse g) (Out p e ∷ []) ∙ ap (λ l. l ++ e ∷ []) (went-reverse g) in
+      let all : told.came (reverse g ++ Out p e ∷ []) ≡ past.came_reversed g = came-append (reverse g) (Out p e ∷ []) ∙ append-nil (told.came (reverse g)) ∙ came-reverse g in
+      let both : past.went_reversed g ++ past.held_reversed g ≡ past.went_reversed g ++ e ∷ w.0 = in_order P E g legal ∙ sym all ∙ sym w.1 ∙ ap (λ l. l ++ w.0) out ∙ append_assoc (past.went_reversed g) (e ∷ []) w.0 in
+      (sym (held_by g legal (Out p e) L) ∙ may g legal (Out p e) L, w.0, append_cancel_left (past.went_reversed g) (past.held_reversed g) (e ∷ w.0) both)
   came_next g legal (Empty p) L =
       let m = may g legal (Empty p) L in
-      let both : past.went g ++ past.held g ≡ past.went g ++ [] = in_order P E g legal ∙ sym (came-reverse g) ∙ sym m.1 ∙ went-reverse g ∙ sym (append-nil (past.went g)) in
-      (sym (held_by g legal (Empty p) L) ∙ m.0, append_cancel_left (past.went g) (past.held g) [] both)
+      let both : past.went_reversed g ++ past.held_reversed g ≡ past.went_reversed g ++ [] = in_order P E g legal ∙ sym (came-reverse g) ∙ sym m.1 ∙ went-reverse g ∙ sym (append-nil (past.went_reversed g)) in
+      (sym (held_by g legal (Empty p) L) ∙ m.0, append_cancel_left (past.went_reversed g) (past.held_reversed g) [] both)
   came_next g legal (Free p) L = sym (held_by g legal (Free p) L) ∙ may g legal (Free p) L
 
-  pub past_legal : (g : List (Event P E)) → told.IsLegal same (reverse g) → past.IsLegal g
+  pub past_legal : (g : List (Event P E)) → told.IsLegal same (reverse g) → past.IsLegalReversed g
   past_legal [] L = tt
   past_legal (x ∷ g) L =
       let L' : told.IsLegal same (reverse g ++ x ∷ []) = subst (told.IsLegal same) (reverse-cons x g) L in
       let legal = past_legal g (legal_front (reverse g) (x ∷ []) L') in
       (came_next g legal x L', legal)
 
--- where a pending party's last swap stands
+-- where a pending party's last swap is
 pub record Stood {P E : Type 0} (same : Discrete P) (q : P) (n : ℕ) (h : List (Event P E)) : Type 0 where
   pub later : List (Event P E)
   pub element : E
   pub before : List (Event P E)
   pub is : h ≡ later ++ Swap q element ∷ before
   pub last : swaps_by same q later ≡ 0
-  pub there : length (past.came before) ≡ length (past.went h) + n
+  pub there : length (past.came_reversed before) ≡ length (past.went_reversed h) + n
 
 module _ {P E : Type 0} (same : Discrete P) where
   -- one event more that is no swap by the party and no element out
-  stood_on : (q : P) (n k : ℕ) (x : Event P E) (h : List (Event P E)) → ((l : List (Event P E)) → swaps_by same q l ≡ 0 → swaps_by same q (x ∷ l) ≡ 0) → length (past.went h) + k ≡ length (past.went (x ∷ h)) + n → Stood same q k h → Stood same q n (x ∷ h)
+  stood_on : (q : P) (n k : ℕ) (x : Event P E) (h : List (Event P E)) → ((l : List (Event P E)) → swaps_by same q l ≡ 0 → swaps_by same q (x ∷ l) ≡ 0) → length (past.went_reversed h) + k ≡ length (past.went_reversed (x ∷ h)) + n → Stood same q k h → Stood same q n (x ∷ h)
   stood_on q n k x h on e S = record { later = x ∷ S.later; element = S.element; before = S.before; is = ap (λ l. x ∷ l) S.is; last = on S.later S.last; there = S.there ∙ e }
 
-  pub stood : (h : List (Event P E)) → past.IsLegal h → (q : P) (n : ℕ) → IsPendingAt q n h → Stood same q n h
+  pub stood : (h : List (Event P E)) → past.IsLegalReversed h → (q : P) (n : ℕ) → IsPendingAt q n h → Stood same q n h
   stood [] legal q n w = absurd w
   stood (Swap p e ∷ h) legal q n (inl w) = record {
     later = [];
@@ -205,20 +205,20 @@ module _ {P E : Type 0} (same : Discrete P) where
     before = h;
     is = ap (λ r. Swap r e ∷ h) (sym w.0);
     last = refl;
-    there = let o = in_order P E h legal.1 in omega (arith, ap length o, length-append (past.went h) (past.held h), w.1);
+    there = let o = in_order P E h legal.1 in omega (arith, ap length o, length-append (past.went_reversed h) (past.held_reversed h), w.1);
   }
   stood (Swap p e ∷ h) legal q n (inr w) = stood_on q n n (Swap p e) h (λ l s. let z = one_other (same q p) w.0 in omega arith) refl (stood h legal.1 q n w.1)
   stood (Link p ∷ h) legal q n w = stood_on q n n (Link p) h (λ l s. s) refl (stood h legal.1 q n w.1)
   stood (Take p ∷ h) legal q n w = stood_on q n n (Take p) h (λ l s. s) refl (stood h legal.1 q n w)
   stood (Busy p ∷ h) legal q n w = stood_on q n n (Busy p) h (λ l s. s) refl (stood h legal.1 q n w)
   stood (Look p ∷ h) legal q n w = stood_on q n n (Look p) h (λ l s. s) refl (stood h legal.1 q n w)
-  stood (Out p e ∷ h) legal q n w = stood_on q n (suc n) (Out p e) h (λ l s. s) (omega (arith, length-append (past.went h) (e ∷ []))) (stood h legal.1 q (suc n) w)
+  stood (Out p e ∷ h) legal q n w = stood_on q n (suc n) (Out p e) h (λ l s. s) (omega (arith, length-append (past.went_reversed h) (e ∷ []))) (stood h legal.1 q (suc n) w)
   stood (Empty p ∷ h) legal q n w = stood_on q n n (Empty p) h (λ l s. s) refl (stood h legal.1 q n w)
   stood (Free p ∷ h) legal q n w = stood_on q n n (Free p) h (λ l s. s) refl (stood h legal.1 q n w)
 
-  -- what stands there is pending
-  pub stands : (l before : List (Event P E)) (q : P) (e : E) (n : ℕ) → past.IsLegal (l ++ Swap q e ∷ before) → IsOpen q (l ++ Swap q e ∷ before) → swaps_by same q l ≡ 0 → length (past.came before) ≡ length (past.went (l ++ Swap q e ∷ before)) + n → IsPendingAt q n (l ++ Swap q e ∷ before)
-  stands [] before q e n legal unlinked none there = inl (refl, omega (arith, ap length (in_order P E before legal.1), length-append (past.went before) (past.held before)))
+  -- what is there is pending
+  pub stands : (l before : List (Event P E)) (q : P) (e : E) (n : ℕ) → past.IsLegalReversed (l ++ Swap q e ∷ before) → IsOpen q (l ++ Swap q e ∷ before) → swaps_by same q l ≡ 0 → length (past.came_reversed before) ≡ length (past.went_reversed (l ++ Swap q e ∷ before)) + n → IsPendingAt q n (l ++ Swap q e ∷ before)
+  stands [] before q e n legal unlinked none there = inl (refl, omega (arith, ap length (in_order P E before legal.1), length-append (past.went_reversed before) (past.held_reversed before)))
   stands (Swap p x ∷ l) before q e n legal unlinked none there =
       let ne = not_by same q p (swaps_by same q l) none in
       let z = one_other (same q p) ne in
@@ -228,6 +228,6 @@ module _ {P E : Type 0} (same : Discrete P) where
   stands (Busy p ∷ l) before q e n legal unlinked none there = stands l before q e n legal.1 unlinked none there
   stands (Look p ∷ l) before q e n legal unlinked none there = stands l before q e n legal.1 unlinked none there
   stands (Out p x ∷ l) before q e n legal unlinked none there =
-      stands l before q e (suc n) legal.1 unlinked none (omega (arith, there, length-append (past.went (l ++ Swap q e ∷ before)) (x ∷ [])))
+      stands l before q e (suc n) legal.1 unlinked none (omega (arith, there, length-append (past.went_reversed (l ++ Swap q e ∷ before)) (x ∷ [])))
   stands (Empty p ∷ l) before q e n legal unlinked none there = stands l before q e n legal.1 unlinked none there
   stands (Free p ∷ l) before q e n legal unlinked none there = stands l before q e n legal.1 unlinked none there

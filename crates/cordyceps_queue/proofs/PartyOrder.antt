@@ -1,9 +1,9 @@
--- What every legal history says of producers and of the holder; and that of two takings at most one gets the right.
+-- What every legal history says of producers and of the holder; and that of two swaps of the right at most one gets it.
 use Rattle.std.proofs.Common.{◌≡◌, ◌+◌, ◌⊎◌, List, [], ◌∷◌, ◌++◌, map, take, drop, reverse, length, Option, Some, None, refl, ap, sym, ◌∙◌, subst, inl, inr, append-nil, arith}
 use Rattle.std.proofs.lemmas.List.{take-append-drop, take-map, drop-map}
 use Rattle.std.proofs.Math.Seq.{take-append_seam, drop-append_seam}
 use Rattle.cordyceps_queue.specs.History.{Event, Swap, Link, Take, Busy, Look, Out, Empty, Free, IsLegal, came, went, held, holder}
-use Rattle.cordyceps_queue.specs.Laws.{first_if, sent, sent_by, put_in_by, takes_by, frees_by, HasRight, ProducersInOrder, OneHolder}
+use Rattle.cordyceps_queue.specs.Laws.{first_if, sends_in, sent_by, put_in_by, takes_by, frees_by, HasRight, ProducersInOrder, OneHolder}
 use Rattle.cordyceps_queue.specs.Past as past
 use Rattle.cordyceps_queue.proofs.CoreTheory.Basics.{some_inj, none_some}
 use Rattle.cordyceps_queue.proofs.BothWays.{legal_both_ways}
@@ -15,7 +15,7 @@ first_append (yes a) e es fs = refl
 first_append (no n) e es fs = refl
 
 module _ {P E : Type 0} where
-  came_sent : (h : List (Event P E)) → map (λ x. x.1) (sent h) ≡ came h
+  came_sent : (h : List (Event P E)) → map (λ x. x.1) (sends_in h) ≡ came h
   came_sent [] = refl
   came_sent (Swap p e ∷ h) = ap (λ l. e ∷ l) (came_sent h)
   came_sent (Link p ∷ h) = came_sent h
@@ -32,7 +32,7 @@ module _ {P E : Type 0} (same : Discrete P) (q : P) where
   sent_by_append (x ∷ xs) ys =
       ap (first_if (same q x.0) x.1) (sent_by_append xs ys) ∙ first_append (same q x.0) x.1 (sent_by same q xs) (sent_by same q ys)
 
-  put_in : (h : List (Event P E)) → sent_by same q (sent h) ≡ put_in_by same q h
+  put_in : (h : List (Event P E)) → sent_by same q (sends_in h) ≡ put_in_by same q h
   put_in [] = refl
   put_in (Swap p e ∷ h) = ap (first_if (same q p) e) (put_in h)
   put_in (Link p ∷ h) = put_in h
@@ -76,8 +76,8 @@ module _ {P E : Type 0} (same : Discrete P) (q : P) where
       ap (frees_by same q) (reverse-cons x g) ∙ (let r = frees_reverse g in omega (arith, frees_append (reverse g) (x ∷ []), frees_append (x ∷ []) g))
 
   -- the counts of the holder, and of any other party
-  counted : (g : List (Event P E)) → past.IsLegal g
-      → (past.holder g ≡ Some q → HasRight same q g) × ((past.holder g ≡ Some q → ⊥) → frees_by same q g ≡ takes_by same q g)
+  counted : (g : List (Event P E)) → past.IsLegalReversed g
+      → (past.holder_reversed g ≡ Some q → HasRight same q g) × ((past.holder_reversed g ≡ Some q → ⊥) → frees_by same q g ≡ takes_by same q g)
   counted [] legal = ((λ e. absurd (none_some e)), λ n. refl)
   counted (Take p ∷ g) legal =
       let even = (counted g legal.1).1 (λ e. none_some (sym legal.0 ∙ e)) in (
@@ -114,36 +114,36 @@ pub producers_in_order : (P E : Type 0) → ProducersInOrder P E
 producers_in_order P E same h before later legal e =
     let n = length (went before) in
     let i = legal.in_order before later e in
-    let all = take-append-drop n (sent before) in record {
-      left = take n (sent before);
-      rest = drop n (sent before);
-      gone = sym (take-map (λ x. x.1) n (sent before)) ∙ ap (take n) (came_sent before ∙ sym i.1) ∙ take-append_seam (went before) i.0;
-      kept = sym (drop-map (λ x. x.1) n (sent before)) ∙ ap (drop n) (came_sent before);
+    let all = take-append-drop n (sends_in before) in record {
+      left = take n (sends_in before);
+      rest = drop n (sends_in before);
+      gone = sym (take-map (λ x. x.1) n (sends_in before)) ∙ ap (take n) (came_sent before ∙ sym i.1) ∙ take-append_seam (went before) i.0;
+      kept = sym (drop-map (λ x. x.1) n (sends_in before)) ∙ ap (drop n) (came_sent before);
       all = all;
-      each = λ q. sym (sent_by_append same q (take n (sent before)) (drop n (sent before))) ∙ ap (sent_by same q) all ∙ put_in same q before;
+      each = λ q. sym (sent_by_append same q (take n (sends_in before)) (drop n (sends_in before))) ∙ ap (sent_by same q) all ∙ put_in same q before;
     }
 
 pub one_holder : (P E : Type 0) → OneHolder P E
 one_holder P E same h before later legal e =
-    let back = subst (λ g. past.IsLegal g) (turned_split h before later e) ((legal_both_ways P E same h).0 legal) in
+    let back = subst (λ g. past.IsLegalReversed g) (turned_split h before later e) ((legal_both_ways P E same h).0 legal) in
     let l = front_legal (reverse later) (reverse before) back in record {
       counts = λ q. counts l q;
       holds = λ q. ((λ r. held_by l q r), λ is. has l q is);
       one = λ p q a b. some_inj (sym (held_by l p a) ∙ held_by l q b);
     }
   where
-    has : past.IsLegal (reverse before) → (q : P) → holder before ≡ Some q → HasRight same q before
+    has : past.IsLegalReversed (reverse before) → (q : P) → holder before ≡ Some q → HasRight same q before
     has l q is =
         let r = (counted same q (reverse before) l).0 (sym (holder_of before) ∙ is) in
         omega (arith, takes_reverse same q before, frees_reverse same q before)
 
-    even : past.IsLegal (reverse before) → (q : P) → (holder before ≡ Some q → ⊥) → frees_by same q before ≡ takes_by same q before
+    even : past.IsLegalReversed (reverse before) → (q : P) → (holder before ≡ Some q → ⊥) → frees_by same q before ≡ takes_by same q before
     even l q no_right =
         let r = (counted same q (reverse before) l).1 (λ is. no_right (holder_of before ∙ is)) in
         omega (arith, takes_reverse same q before, frees_reverse same q before)
 
-    counts : past.IsLegal (reverse before) → (q : P) → HasRight same q before ⊎ (frees_by same q before ≡ takes_by same q before)
+    counts : past.IsLegalReversed (reverse before) → (q : P) → HasRight same q before ⊎ (frees_by same q before ≡ takes_by same q before)
     counts l q = elim (is_of same (holder before) q) [ inl is ↦ inl (has l q is) | inr no_right ↦ inr (even l q no_right) ]
 
-    held_by : past.IsLegal (reverse before) → (q : P) → HasRight same q before → holder before ≡ Some q
+    held_by : past.IsLegalReversed (reverse before) → (q : P) → HasRight same q before → holder before ≡ Some q
     held_by l q r = elim (is_of same (holder before) q) [ inl is ↦ is | inr no_right ↦ (let z = even l q no_right in absurd (omega arith)) ]

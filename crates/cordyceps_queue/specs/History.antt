@@ -3,7 +3,7 @@ use Rattle.std.specs.Prelude.{◌≡◌, ℕ, suc, ◌+◌, ◌<◌, ◌≤◌, 
 use Rattle.std.specs.Prelude.{None}
 
 pub data Event (P E : Type 0) : Type 0 where
-  -- the party put its element behind all others, and later made the one before lead to it
+  -- the party put its element last, and later made the one before lead to it
   Swap : P → E → Event P E
   Link : P → Event P E
   -- it took the right to dequeue, or another had it
@@ -52,11 +52,11 @@ module _ {P E : Type 0} where
   holder_from o [] = o
   holder_from o (x ∷ h) = holder_from (holder_after o x) h
 
-  -- the party of a taking that has no giving back after it
+  -- the party of a `Take` that has no `Free` after it
   abbrev pub holder : List (Event P E) → Option P
   holder h = holder_from None h
 
-  -- what has to hold just before an event: takings and givings back alternate, and only the holder tries
+  -- what has to hold just before an event: `Take` and `Free` alternate, and only the holder tries
   abbrev pub MayFollow : List (Event P E) → Event P E → Type 0
   MayFollow h (Swap p e) = Unit {0}
   MayFollow h (Link p) = Unit {0}
@@ -92,10 +92,10 @@ module _ {P E : Type 0} (same : Discrete P) where
   IsPending q h = suc (links_by q h) ≡ swaps_by q h
 
   pub record IsLegal (h : List (Event P E)) : Type 0 where
-    -- in every beginning what went out is a beginning of what came in
+    -- in every prefix what went out is a prefix of what came in
     pub in_order : (past later : List (Event P E)) → h ≡ past ++ later → (rest : List E)
         × (went past ++ rest ≡ came past)
-    -- in every beginning each party has as many links as swaps, or one fewer
+    -- in every prefix each party has as many links as swaps, or one fewer
     pub links : (past later : List (Event P E)) → h ≡ past ++ later → (q : P) → (links_by q past ≡ swaps_by q past)
         ⊎ IsPending q past
     -- each event may follow those before it
@@ -113,7 +113,7 @@ module _ {P E : Type 0} (same : Discrete P) where
     pub held_there : length (went h) ≤ length (came past)
     pub near : length (came past) < length (went h) + 2
 
-  -- some beginning that contains the party's last look is blocked
+  -- some prefix that contains the party's last look is blocked
   pub record WasBlocked (q : P) (h : List (Event P E)) : Type 0 where
     pub past : List (Event P E)
     pub later : List (Event P E)

@@ -9,20 +9,20 @@ use Rattle.cordyceps_queue.specs.History as told
 use Rattle.cordyceps_queue.specs.History.{Event, Swap, Take, Busy, Free, went, held, holder, one_if_dec}
 use Rattle.cordyceps_queue.specs.Past as past
 
--- legal by the conditions on every beginning, or event by event
+-- legal by the conditions on every prefix, or event by event
 abbrev pub LegalBothWays : (P E : Type 0) → Type 0
-LegalBothWays P E = (same : Discrete P) (h : List (Event P E)) → told.IsLegal same h ↔ past.IsLegal (reverse h)
+LegalBothWays P E = (same : Discrete P) (h : List (Event P E)) → told.IsLegal same h ↔ past.IsLegalReversed (reverse h)
 
 -- blocked by counts of events, or by the place of an open swap
 abbrev pub BlockedBothWays : (P E : Type 0) → Type 0
 BlockedBothWays P E =
     (same : Discrete P) (h : List (Event P E)) → told.IsLegal same h →
-    told.IsBlocked same h ↔ past.IsBlocked (reverse h)
+    told.IsBlocked same h ↔ past.IsBlockedReversed (reverse h)
 
 abbrev pub WasBlockedBothWays : (P E : Type 0) → Type 0
 WasBlockedBothWays P E =
     (same : Discrete P) (h : List (Event P E)) (q : P) → told.IsLegal same h →
-    told.WasBlocked same q h ↔ past.WasBlocked q (reverse h)
+    told.WasBlocked same q h ↔ past.WasBlockedReversed q (reverse h)
 
 -- this element before the others, if it is so
 abbrev pub first_if : {A E : Type 0} → Dec A → E → List E → List E
@@ -31,10 +31,10 @@ first_if (no n) e es = es
 
 module _ {P E : Type 0} where
   -- the elements that came in, each with the party that put it in
-  abbrev pub sent : List (Event P E) → List (P × E)
-  sent [] = []
-  sent (Swap p e ∷ h) = (p, e) ∷ sent h
-  sent (_ ∷ h) = sent h
+  abbrev pub sends_in : List (Event P E) → List (P × E)
+  sends_in [] = []
+  sends_in (Swap p e ∷ h) = (p, e) ∷ sends_in h
+  sends_in (_ ∷ h) = sends_in h
 
 module _ {P E : Type 0} (same : Discrete P) where
   -- those of them that one party put in
@@ -55,7 +55,7 @@ module _ {P E : Type 0} (same : Discrete P) where
     pub rest : List (P × E)
     pub gone : map (λ x. x.1) left ≡ went h
     pub kept : map (λ x. x.1) rest ≡ held h
-    pub all : left ++ rest ≡ sent h
+    pub all : left ++ rest ≡ sends_in h
     pub each : (q : P) → sent_by q left ++ sent_by q rest ≡ put_in_by q h
 
   -- how often the party took the right, and how often it gave it back
@@ -80,7 +80,7 @@ module _ {P E : Type 0} (same : Discrete P) where
     pub holds : (q : P) → HasRight q h ↔ (holder h ≡ Some q)
     pub one : (p q : P) → HasRight p h → HasRight q h → p ≡ q
 
--- in each beginning of a legal history
+-- in each prefix of a legal history
 abbrev pub ProducersInOrder : (P E : Type 0) → Type 0
 ProducersInOrder P E =
     (same : Discrete P) (h past later : List (Event P E)) → told.IsLegal same h → h ≡ past ++ later →

@@ -1,32 +1,32 @@
--- Histories read from their newest event backwards: what stood before an event is the list behind it. These forms go by
--- recursion on that list, and say the same as those of History on the list turned round.
+-- Histories read from their newest event back: what was before an event is the rest of the list. These forms go by
+-- recursion on that list, and say the same as those of History on the list reversed.
 use Rattle.std.specs.Prelude.{◌≡◌, ℕ, suc, ◌<◌, ◌≢◌, ◌⊎◌, List, [], ◌∷◌, ◌++◌, drop, length, Option, Some, None}
 use Rattle.cordyceps_queue.specs.History.{Event, Swap, Link, Take, Busy, Look, Out, Empty, Free}
 
 -- the elements that came in, oldest first
-abbrev pub came : {P E : Type 0} → List (Event P E) → List E
-came [] = []
-came (Swap p e ∷ h) = came h ++ e ∷ []
-came (_ ∷ h) = came h
+abbrev pub came_reversed : {P E : Type 0} → List (Event P E) → List E
+came_reversed [] = []
+came_reversed (Swap p e ∷ h) = came_reversed h ++ e ∷ []
+came_reversed (_ ∷ h) = came_reversed h
 
 -- the elements that went out, oldest first
-abbrev pub went : {P E : Type 0} → List (Event P E) → List E
-went [] = []
-went (Out p e ∷ h) = went h ++ e ∷ []
-went (_ ∷ h) = went h
+abbrev pub went_reversed : {P E : Type 0} → List (Event P E) → List E
+went_reversed [] = []
+went_reversed (Out p e ∷ h) = went_reversed h ++ e ∷ []
+went_reversed (_ ∷ h) = went_reversed h
 
 -- the elements that are held, oldest first
-abbrev pub held : {P E : Type 0} → List (Event P E) → List E
-held [] = []
-held (Swap p e ∷ h) = held h ++ e ∷ []
-held (Out p e ∷ h) = drop 1 (held h)
-held (_ ∷ h) = held h
+abbrev pub held_reversed : {P E : Type 0} → List (Event P E) → List E
+held_reversed [] = []
+held_reversed (Swap p e ∷ h) = held_reversed h ++ e ∷ []
+held_reversed (Out p e ∷ h) = drop 1 (held_reversed h)
+held_reversed (_ ∷ h) = held_reversed h
 
-abbrev pub holder : {P E : Type 0} → List (Event P E) → Option P
-holder [] = None
-holder (Take p ∷ h) = Some p
-holder (Free p ∷ h) = None
-holder (_ ∷ h) = holder h
+abbrev pub holder_reversed : {P E : Type 0} → List (Event P E) → Option P
+holder_reversed [] = None
+holder_reversed (Take p ∷ h) = Some p
+holder_reversed (Free p ∷ h) = None
+holder_reversed (_ ∷ h) = holder_reversed h
 
 -- each swap of the party has its link
 abbrev pub IsSettled : {P E : Type 0} → P → List (Event P E) → Type 0
@@ -42,40 +42,41 @@ IsOpen q (Swap p e ∷ h) = (q ≡ p) ⊎ ((q ≢ p) × IsOpen q h)
 IsOpen q (Link p ∷ h) = (q ≢ p) × IsOpen q h
 IsOpen q (_ ∷ h) = IsOpen q h
 
--- the party has not linked its last swap, whose element stands at place n of what is held
+-- the party has not linked its last swap, whose element is at place n of what is held
 abbrev pub IsPendingAt : {P E : Type 0} → P → ℕ → List (Event P E) → Type 0
 IsPendingAt q n [] = ⊥
-IsPendingAt q n (Swap p e ∷ h) = ((q ≡ p) × (n ≡ length (held h))) ⊎ ((q ≢ p) × IsPendingAt q n h)
+IsPendingAt q n (Swap p e ∷ h) = ((q ≡ p) × (n ≡ length (held_reversed h))) ⊎ ((q ≢ p) × IsPendingAt q n h)
 IsPendingAt q n (Link p ∷ h) = (q ≢ p) × IsPendingAt q n h
 IsPendingAt q n (Out p e ∷ h) = IsPendingAt q (suc n) h
 IsPendingAt q n (_ ∷ h) = IsPendingAt q n h
 
 -- the oldest or the second oldest held element came by a swap that is not linked
-abbrev pub IsBlocked : {P E : Type 0} → List (Event P E) → Type 0
-IsBlocked {P} h = (q : P) × (n : ℕ) × (n < 2) × IsPendingAt q n h
+abbrev pub IsBlockedReversed : {P E : Type 0} → List (Event P E) → Type 0
+IsBlockedReversed {P} h = (q : P) × (n : ℕ) × (n < 2) × IsPendingAt q n h
 
 abbrev pub HasLooked : {P E : Type 0} → P → List (Event P E) → Type 0
 HasLooked q [] = ⊥
 HasLooked q (Look p ∷ h) = (q ≡ p) ⊎ HasLooked q h
 HasLooked q (_ ∷ h) = HasLooked q h
 
--- some beginning that contains the last look of the party is blocked
-abbrev pub WasBlocked : {P E : Type 0} → P → List (Event P E) → Type 0
-WasBlocked q [] = ⊥
-WasBlocked q (Look p ∷ h) = (HasLooked q (Look p ∷ h) × IsBlocked (Look p ∷ h)) ⊎ ((q ≢ p) × WasBlocked q h)
-WasBlocked q (x ∷ h) = (HasLooked q (x ∷ h) × IsBlocked (x ∷ h)) ⊎ WasBlocked q h
+-- some prefix that contains the last look of the party is blocked
+abbrev pub WasBlockedReversed : {P E : Type 0} → P → List (Event P E) → Type 0
+WasBlockedReversed q [] = ⊥
+WasBlockedReversed q (Look p ∷ h) =
+    (HasLooked q (Look p ∷ h) × IsBlockedReversed (Look p ∷ h)) ⊎ ((q ≢ p) × WasBlockedReversed q h)
+WasBlockedReversed q (x ∷ h) = (HasLooked q (x ∷ h) × IsBlockedReversed (x ∷ h)) ⊎ WasBlockedReversed q h
 
 -- what has to hold just before an event
 abbrev pub MayCome : {P E : Type 0} → Event P E → List (Event P E) → Type 0
 MayCome (Swap p e) h = IsSettled p h
 MayCome (Link p) h = IsOpen p h
-MayCome (Take p) h = holder h ≡ None
-MayCome {P} (Busy p) h = (q : P) × (holder h ≡ Some q) × (p ≢ q)
-MayCome (Look p) h = holder h ≡ Some p
-MayCome {P} {E} (Out p e) h = (holder h ≡ Some p) × (rest : List E) × (held h ≡ e ∷ rest)
-MayCome (Empty p) h = (holder h ≡ Some p) × (held h ≡ [])
-MayCome (Free p) h = holder h ≡ Some p
+MayCome (Take p) h = holder_reversed h ≡ None
+MayCome {P} (Busy p) h = (q : P) × (holder_reversed h ≡ Some q) × (p ≢ q)
+MayCome (Look p) h = holder_reversed h ≡ Some p
+MayCome {P} {E} (Out p e) h = (holder_reversed h ≡ Some p) × (rest : List E) × (held_reversed h ≡ e ∷ rest)
+MayCome (Empty p) h = (holder_reversed h ≡ Some p) × (held_reversed h ≡ [])
+MayCome (Free p) h = holder_reversed h ≡ Some p
 
-abbrev pub IsLegal : {P E : Type 0} → List (Event P E) → Type 0
-IsLegal [] = Unit {0}
-IsLegal (x ∷ h) = MayCome x h × IsLegal h
+abbrev pub IsLegalReversed : {P E : Type 0} → List (Event P E) → Type 0
+IsLegalReversed [] = Unit {0}
+IsLegalReversed (x ∷ h) = MayCome x h × IsLegalReversed h

@@ -6,7 +6,7 @@ ghost use Rattle.cordyceps_shared.specs.Shares.{whole};
 ghost use Rattle.cordyceps_queue.specs.History.{held};
 ghost use Rattle.cordyceps_queue.specs.Laws.{LegalBothWays, BlockedBothWays, WasBlockedBothWays, ProducersInOrder, OneHolder};
 ghost use Rattle.cordyceps_queue.specs.Laws.{BusyIsAnothers, BlockedIsAnothers, BlockedTryIsAnothers};
-ghost use Rattle.cordyceps_queue.specs.Cores.Machine.{stepped};
+ghost use Rattle.cordyceps_queue.specs.Cores.Machine.{after_step};
 ghost use Rattle.cordyceps_queue.specs.declared.cores.steps.QueueAnswer.TheVariants as answers;
 ghost use Rattle.cordyceps_queue.specs.declared.cores.steps.QueueStep.TheVariants as kinds;
 
@@ -92,9 +92,9 @@ pub fn take_twice<E: Drop>(
     first: usize,
     second: usize,
 ) -> (Answered<E>, Answered<E>)
-    ensures one { result.0 ≡ (stepped core.old first kinds.Take).1 }
-    ensures other { result.1 ≡ (stepped (stepped core.old first kinds.Take).0 second kinds.Take).1 }
-    ensures core { core.new ≡ (stepped (stepped core.old first kinds.Take).0 second kinds.Take).0 }
+    ensures one { result.0 ≡ (after_step core.old first kinds.Take).1 }
+    ensures other { result.1 ≡ (after_step (after_step core.old first kinds.Take).0 second kinds.Take).1 }
+    ensures core { core.new ≡ (after_step (after_step core.old first kinds.Take).0 second kinds.Take).0 }
     ensures law { result.0 ≡ Ok answers.Taken → result.1 ≡ Ok answers.Taken → ⊥ }
 {
     let one = core.step(first, QueueStep::Take);

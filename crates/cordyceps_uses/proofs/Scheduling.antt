@@ -15,7 +15,7 @@ use Rattle.cordyceps.proofs.Parties.Moving.{moves_none, moves_then}
 use Rattle.cordyceps.proofs.Parties.Sending.{exchanged}
 use Rattle.cordyceps.specs.Queues.History.{held}
 use Rattle.cordyceps.specs.Queues.Calls.{Legal, same_name, Enqueues, Dequeues}
-use Rattle.cordyceps.specs.Queues.Moves.{put_by, got_by, Moves, given}
+use Rattle.cordyceps.specs.Queues.Moves.{put_by, got_by, Moves, got_by_try}
 use Rattle.cordyceps.specs.Queues.TryDequeueError.{TryDequeueError}
 use Rattle.cordyceps.proofs.Queues.PartyMoves.{all_kept, moves_dequeue}
 use Rattle.cordyceps.proofs.Queues.Sending.{then_enqueues}
@@ -75,9 +75,9 @@ module _ (n r : ℕ) where
     given = omega (arith, is.given, next.given, tally_append (one_of n r) is.tasks next.tasks);
   }
 
-  pub came_try : (a c : ℕ) (t : Result (Element (Timer Work)) TryDequeueError) (u w : Seat) → c + times n r (given work_of t) ≡ a → Dequeues t u w → Came n r a c u w
+  pub came_try : (a c : ℕ) (t : Result (Element (Timer Work)) TryDequeueError) (u w : Seat) → c + times n r (got_by_try work_of t) ≡ a → Dequeues t u w → Came n r a c u w
   came_try a c t u w is at = record {
-    tasks = given work_of t;
+    tasks = got_by_try work_of t;
     took = moves_dequeue work_of t u w at;
     given = is;
   }

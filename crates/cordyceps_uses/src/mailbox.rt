@@ -2,7 +2,7 @@
 ghost use Rattle.std.specs.Prelude.{◌≡◌, ◌≤◌, [], ◌∷◌, ◌++◌, length, IfOk};
 ghost use Rattle.std.specs.Thread.{IsSync};
 ghost use Rattle.cordyceps.specs.Parties.Sending.{how_many, Delivers, MaySend};
-ghost use Rattle.cordyceps.specs.Queues.Moves.{Moves, given};
+ghost use Rattle.cordyceps.specs.Queues.Moves.{Moves, got_by_try};
 ghost use Rattle.cordyceps.specs.Queues.Sending.{Sends};
 ghost use Rattle.cordyceps_uses.specs.Mailbox.{contents, value_of};
 
@@ -95,7 +95,7 @@ fn send_each<R: Threads + Sync>(
 
 /// Puts what a try found behind what was received.
 fn note(received: &mut Vec<u64>, found: Result<Letter, TryDequeueError>) -> Result<(), AllocError>
-    ensures { IfOk result (λ _. received.new.items ≡ received.old.items ++ given value_of found) }
+    ensures { IfOk result (λ _. received.new.items ≡ received.old.items ++ got_by_try value_of found) }
 {
     let Ok(letter) = found else {
         return Ok(());

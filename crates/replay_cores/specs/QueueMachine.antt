@@ -11,10 +11,10 @@ use Rattle.cordyceps_queue.specs.declared.cores.steps.TryDequeueError.{TryDequeu
 use Rattle.cordyceps_queue.specs.declared.cores.steps.TryDequeueError.TheVariants.{Empty as FindsEmpty}
 use Rattle.cordyceps_queue.specs.declared.cores.steps.TryDequeueError.TheVariants.{Inconsistent as FindsInconsistent}
 use Rattle.cordyceps_queue.specs.declared.cores.steps.TryDequeueError.TheVariants.{Busy as FindsBusy}
-use Rattle.cordyceps_queue.specs.Cores.Machine.{Answered, stepped}
+use Rattle.cordyceps_queue.specs.Cores.Machine.{Answered, after_step}
 use Rattle.cordyceps_queue.specs.Cores.CoreMeets.{core_step, new_machine, with_party, with_room}
-use Rattle.cordyceps_queue.specs.Cores.Alone.{enqueue_steps, is_ready, may_dequeue, dequeued, found_of}
-use Rattle.cordyceps_queue.specs.Cores.Drain.{may_drain, drained_at, batch_of}
+use Rattle.cordyceps_queue.specs.Cores.Alone.{enqueue_steps, is_ready, may_dequeue, after_dequeue, found_of}
+use Rattle.cordyceps_queue.specs.Cores.Drain.{may_drain, after_drain_at, batch_of}
 use Rattle.cordyceps_queue.specs.Cores.Machine as cores
 use Rattle.replay_driver.specs.Script.{Machine}
 use Rattle.replay_cores.specs.Commands.{core_commands_machine}
@@ -55,15 +55,15 @@ told_batch (Err error) = told_error error
 
 -- a party's step, and its answer
 abbrev pub takes_step : Core → ℕ → QueueStep Item → Core × CoreLine
-takes_step m p s = let out = stepped m p s in (out.0, told out.1)
+takes_step m p s = let out = after_step m p s in (out.0, told out.1)
 
 -- a party's try to dequeue, and what it found
 abbrev pub tries_once : Core → ℕ → Core × CoreLine
-tries_once m p = let out = dequeued m p in (out.0, told_found (found_of out.1))
+tries_once m p = let out = after_dequeue m p in (out.0, told_found (found_of out.1))
 
 -- a party's tries for up to n items, and what they took out
 abbrev pub takes_batch : Core → ℕ → ℕ → Core × CoreLine
-takes_batch m p n = let d = drained_at p n m (slice_get m.parties p) in (d.0, told_batch (batch_of d.1 d.2))
+takes_batch m p n = let d = after_drain_at p n m (slice_get m.parties p) in (d.0, told_batch (batch_of d.1 d.2))
 
 -- the core after a command, and the reply
 abbrev pub step : Core → QueueCommand → Core × CoreLine

@@ -11,9 +11,9 @@ use Rattle.cordyceps_queue.specs.declared.cores.steps.QueueAnswer.TheVariants as
 use Rattle.cordyceps_queue.specs.declared.cores.steps.TryDequeueError.TheVariants as error
 use Rattle.cordyceps_queue.specs.History.{Event, Take, Busy, Look, Free, came, went, held, holder, IsBlocked}
 use Rattle.cordyceps_queue.specs.Past as past
-use Rattle.cordyceps_queue.specs.Cores.Machine.{Machine, Outcome, events_of, stepped_at, stepped, take}
+use Rattle.cordyceps_queue.specs.Cores.Machine.{Machine, Outcome, events_of, after_step_at, after_step, take}
 use Rattle.cordyceps_queue.specs.Cores.CoreMeets.{right_word, party_at, abstract_of, CoreMeets}
-use Rattle.cordyceps_queue.specs.Cores.Alone.{found_of, may_dequeue, tries, gives_back, takes_first, dequeued_at, dequeued, try_events, dequeue_events, Finds, LooksBlocked}
+use Rattle.cordyceps_queue.specs.Cores.Alone.{found_of, may_dequeue, tries, gives_back, takes_first, after_dequeue_at, after_dequeue, try_events, dequeue_events, Finds, LooksBlocked}
 use Rattle.cordyceps_queue.proofs.CoreTheory.Basics.{some_inj, some_none}
 use Rattle.cordyceps_queue.proofs.Blocked.{told_blocked, past_blocked}
 use Rattle.cordyceps_queue.proofs.HistoryEnds.{came-append, went-append}
@@ -33,8 +33,8 @@ module _ {E : Type 0} where
   blocked_take : (h : List (Event ℕ E)) (p : ℕ) (m : Machine E) → CoreMeets (h ++ Take p ∷ []) m → IsBlocked ℕ_discrete (h ++ Take p ∷ []) → IsBlocked ℕ_discrete h
   blocked_take h p m was b =
       let turned : reverse (h ++ Take p ∷ []) ≡ Take p ∷ reverse h = reverse-append h (Take p ∷ []) in
-      let legal : past.IsLegal (Take p ∷ reverse h) = subst past.IsLegal turned was.meets.legal in
-      told_blocked ℕ_discrete h legal.1 (subst past.IsBlocked turned (past_blocked ℕ_discrete (h ++ Take p ∷ []) was.meets.legal b))
+      let legal : past.IsLegalReversed (Take p ∷ reverse h) = subst past.IsLegalReversed turned was.meets.legal in
+      told_blocked ℕ_discrete h legal.1 (subst past.IsBlockedReversed turned (past_blocked ℕ_discrete (h ++ Take p ∷ []) was.meets.legal b))
 
   finds_before : (h : List (Event ℕ E)) (p : ℕ) (m : Machine E) → CoreMeets (h ++ Take p ∷ []) m → (a : QueueAnswer E) → IsFinal a → Finds (h ++ Take p ∷ []) p (found_of (Ok a)) → Finds h p (found_of (Ok a))
   finds_before h p m was answer.Done f s = absurd f
@@ -68,13 +68,13 @@ module _ {E : Type 0} where
       let T = tries_law p 6 (h ++ Take p ∷ []) m (Holding t) at tt (omega arith) (subst (λ l. CoreMeets l m) (sym (append-nil (h ++ Take p ∷ []))) was) in
       let H : List (Event ℕ E) = (h ++ Take p ∷ []) ++ try_events p (found_of (Ok T.answer)) in
       let K = core_steps H out.0 p step.Give T.meets in
-      let given : CoreMeets (H ++ Free p ∷ []) (stepped out.0 p step.Give).0 =
-      subst (λ l. CoreMeets (H ++ l) (stepped out.0 p step.Give).0) (ap (λ o. events_of p out.0.rooms o step.Give (stepped_at out.0 p o step.Give).1) T.holds.1) K.0 in
+      let given : CoreMeets (H ++ Free p ∷ []) (after_step out.0 p step.Give).0 =
+      subst (λ l. CoreMeets (H ++ l) (after_step out.0 p step.Give).0) (ap (λ o. events_of p out.0.rooms o step.Give (after_step_at out.0 p o step.Give).1) T.holds.1) K.0 in
       let whole : H ++ Free p ∷ [] ≡ h ++ dequeue_events p (Some Rest) (found_of (Ok T.answer)) =
       append_assoc (h ++ Take p ∷ []) (try_events p (found_of (Ok T.answer))) (Free p ∷ []) ∙ append_assoc h (Take p ∷ []) (try_events p (found_of (Ok T.answer)) ++ Free p ∷ [])
       ∙ ap (λ l. h ++ l) (sym (from_rest p T.answer T.final)) in
-      subst (λ r. CoreMeets (h ++ dequeue_events p (Some Rest) (found_of r)) (stepped out.0 p step.Give).0 × Finds h p (found_of r)) (sym T.is)
-      (subst (λ l. CoreMeets l (stepped out.0 p step.Give).0) whole given, finds_before h p m was T.answer T.final T.finds)
+      subst (λ r. CoreMeets (h ++ dequeue_events p (Some Rest) (found_of r)) (after_step out.0 p step.Give).0 × Finds h p (found_of r)) (sym T.is)
+      (subst (λ l. CoreMeets l (after_step out.0 p step.Give).0) whole given, finds_before h p m was T.answer T.final T.finds)
 
   law_rest : (h : List (Event ℕ E)) (m : Machine E) (p : ℕ) → CoreMeets h m → slice_get m.parties p ≡ Some Rest → (o : Option ℕ) → m.right ≡ o → Law h p (Some Rest) (takes_first p (take m p o).0 (take m p o).1)
   law_rest h m p was at None right =
@@ -85,13 +85,13 @@ module _ {E : Type 0} where
       let met : CoreMeets (h ++ Take p ∷ []) (take m p (Some t)).0 = subst (λ (n : Machine E). CoreMeets (h ++ Take p ∷ []) n) (ap (λ o. (take m p o).0) right) K.0 in
       law_taken h (take m p (Some t)).0 p t met (slice_get-set_same m.parties p (Holding t) Rest at)
 
-  law_at : (h : List (Event ℕ E)) (m : Machine E) (p : ℕ) → CoreMeets h m → (stage : Option Stage) → slice_get m.parties p ≡ stage → may_dequeue stage ≡ true → Law h p stage (dequeued_at p m stage)
+  law_at : (h : List (Event ℕ E)) (m : Machine E) (p : ℕ) → CoreMeets h m → (stage : Option Stage) → slice_get m.parties p ≡ stage → may_dequeue stage ≡ true → Law h p stage (after_dequeue_at p m stage)
   law_at h m p was (Some Rest) at may =
-      subst (λ (out : Outcome E). Law h p (Some Rest) (takes_first p out.0 out.1)) (sym (ap (λ o. stepped_at m p o step.Take) at)) (law_rest h m p was at m.right refl)
+      subst (λ (out : Outcome E). Law h p (Some Rest) (takes_first p out.0 out.1)) (sym (ap (λ o. after_step_at m p o step.Take) at)) (law_rest h m p was at m.right refl)
   law_at h m p was (Some (Holding t)) at may = law_holding h m p t was at
   law_at h m p was stage at may = let no : ⊥ = cc in absurd no
 
-  pub dequeued_law : (h : List (Event ℕ E)) (m : Machine E) (p : ℕ) → CoreMeets h m → may_dequeue (slice_get m.parties p) ≡ true → CoreMeets (h ++ dequeue_events p (slice_get m.parties p) (found_of (dequeued m p).1)) (dequeued m p).0 × Finds h p (found_of (dequeued m p).1)
+  pub dequeued_law : (h : List (Event ℕ E)) (m : Machine E) (p : ℕ) → CoreMeets h m → may_dequeue (slice_get m.parties p) ≡ true → CoreMeets (h ++ dequeue_events p (slice_get m.parties p) (found_of (after_dequeue m p).1)) (after_dequeue m p).0 × Finds h p (found_of (after_dequeue m p).1)
   dequeued_law h m p was may = law_at h m p was (slice_get m.parties p) refl may
 
   -- the right is not there where a party has it, and a party that has it is that one
@@ -110,29 +110,29 @@ module _ {E : Type 0} where
   busy_rest h m p q was held None right = refl
   busy_rest h m p q was held (Some t) right = absurd (no_right h m q t was held right)
 
-  busy_at : (h : List (Event ℕ E)) (m : Machine E) (p q : ℕ) → CoreMeets h m → holder h ≡ Some q → p ≢ q → (stage : Option Stage) → slice_get m.parties p ≡ stage → may_dequeue stage ≡ true → found_of (dequeued_at p m stage).1 ≡ Err error.Busy
+  busy_at : (h : List (Event ℕ E)) (m : Machine E) (p q : ℕ) → CoreMeets h m → holder h ≡ Some q → p ≢ q → (stage : Option Stage) → slice_get m.parties p ≡ stage → may_dequeue stage ≡ true → found_of (after_dequeue_at p m stage).1 ≡ Err error.Busy
   busy_at h m p q was held ne (Some Rest) at may =
-      subst (λ (out : Outcome E). found_of (takes_first p out.0 out.1).1 ≡ Err error.Busy) (sym (ap (λ o. stepped_at m p o step.Take) at)) (busy_rest h m p q was held m.right refl)
+      subst (λ (out : Outcome E). found_of (takes_first p out.0 out.1).1 ≡ Err error.Busy) (sym (ap (λ o. after_step_at m p o step.Take) at)) (busy_rest h m p q was held m.right refl)
   busy_at h m p q was held ne (Some (Holding t)) at may = absurd (ne (holds_right h m p q t was held at))
   busy_at h m p q was held ne stage at may = let no : ⊥ = cc in absurd no
 
-  pub busy_law : (h : List (Event ℕ E)) (m : Machine E) (p q : ℕ) → CoreMeets h m → holder h ≡ Some q → p ≢ q → may_dequeue (slice_get m.parties p) ≡ true → found_of (dequeued m p).1 ≡ Err error.Busy
+  pub busy_law : (h : List (Event ℕ E)) (m : Machine E) (p q : ℕ) → CoreMeets h m → holder h ≡ Some q → p ≢ q → may_dequeue (slice_get m.parties p) ≡ true → found_of (after_dequeue m p).1 ≡ Err error.Busy
   busy_law h m p q was held ne may = busy_at h m p q was held ne (slice_get m.parties p) refl may
 
-  -- what was blocked before a look, or before a taking and a look, is so after them
+  -- what was blocked before a `Look`, or before a `Take` and a `Look`, is so after them
   pub still_blocked : (h : List (Event ℕ E)) (p : ℕ) (m : Machine E) (stage : Option Stage) → may_dequeue stage ≡ true → CoreMeets (h ++ dequeue_events p stage (Err error.Inconsistent)) m → IsBlocked ℕ_discrete h → LooksBlocked h p stage
   still_blocked h p m (Some Rest) may was b =
       let all : reverse (h ++ Take p ∷ Look p ∷ Free p ∷ []) ≡ Free p ∷ Look p ∷ Take p ∷ reverse h = reverse-append h (Take p ∷ Look p ∷ Free p ∷ []) in
       let turned : reverse (h ++ Take p ∷ Look p ∷ []) ≡ Look p ∷ Take p ∷ reverse h = reverse-append h (Take p ∷ Look p ∷ []) in
-      let legal : past.IsLegal (Free p ∷ Look p ∷ Take p ∷ reverse h) = subst past.IsLegal all was.meets.legal in
-      told_blocked ℕ_discrete (h ++ Take p ∷ Look p ∷ []) (subst past.IsLegal (sym turned) legal.1) (subst past.IsBlocked (sym turned) (past_blocked ℕ_discrete h legal.1.1.1 b))
+      let legal : past.IsLegalReversed (Free p ∷ Look p ∷ Take p ∷ reverse h) = subst past.IsLegalReversed all was.meets.legal in
+      told_blocked ℕ_discrete (h ++ Take p ∷ Look p ∷ []) (subst past.IsLegalReversed (sym turned) legal.1) (subst past.IsBlockedReversed (sym turned) (past_blocked ℕ_discrete h legal.1.1.1 b))
   still_blocked h p m (Some (Holding t)) may was b =
       let turned : reverse (h ++ Look p ∷ []) ≡ Look p ∷ reverse h = reverse-append h (Look p ∷ []) in
-      let legal : past.IsLegal (Look p ∷ reverse h) = subst past.IsLegal turned was.meets.legal in
-      told_blocked ℕ_discrete (h ++ Look p ∷ []) was.meets.legal (subst past.IsBlocked (sym turned) (past_blocked ℕ_discrete h legal.1 b))
+      let legal : past.IsLegalReversed (Look p ∷ reverse h) = subst past.IsLegalReversed turned was.meets.legal in
+      told_blocked ℕ_discrete (h ++ Look p ∷ []) was.meets.legal (subst past.IsBlockedReversed (sym turned) (past_blocked ℕ_discrete h legal.1 b))
   still_blocked h p m stage may was b = let no : ⊥ = cc in absurd no
 
-  pub inconsistent_law : (h : List (Event ℕ E)) (m : Machine E) (p : ℕ) → CoreMeets h m → may_dequeue (slice_get m.parties p) ≡ true → found_of (dequeued m p).1 ≡ Err error.Inconsistent → LooksBlocked h p (slice_get m.parties p)
+  pub inconsistent_law : (h : List (Event ℕ E)) (m : Machine E) (p : ℕ) → CoreMeets h m → may_dequeue (slice_get m.parties p) ≡ true → found_of (after_dequeue m p).1 ≡ Err error.Inconsistent → LooksBlocked h p (slice_get m.parties p)
   inconsistent_law h m p was may is =
       let L = dequeued_law h m p was may in
-      still_blocked h p (dequeued m p).0 (slice_get m.parties p) may (subst (λ f. CoreMeets (h ++ dequeue_events p (slice_get m.parties p) f) (dequeued m p).0) is L.0) (subst (Finds h p) is L.1)
+      still_blocked h p (after_dequeue m p).0 (slice_get m.parties p) may (subst (λ f. CoreMeets (h ++ dequeue_events p (slice_get m.parties p) f) (after_dequeue m p).0) is L.0) (subst (Finds h p) is L.1)

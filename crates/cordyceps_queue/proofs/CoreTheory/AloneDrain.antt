@@ -14,10 +14,10 @@ use Rattle.cordyceps_queue.specs.declared.cores.steps.TryDequeueError.TheVariant
 use Rattle.cordyceps_queue.specs.History.{Event, Take, Busy, Look, Out, Free, held, holder, swaps_by, links_by, IsBlocked}
 use Rattle.cordyceps_queue.specs.Past as past
 use Rattle.cordyceps_queue.specs.Shared.Batches.{outs}
-use Rattle.cordyceps_queue.specs.Cores.Machine.{Machine, Outcome, events_of, stepped_at, stepped, take}
+use Rattle.cordyceps_queue.specs.Cores.Machine.{Machine, Outcome, events_of, after_step_at, after_step, take}
 use Rattle.cordyceps_queue.specs.Cores.CoreMeets.{CoreMeets}
 use Rattle.cordyceps_queue.specs.Cores.Alone.{found_of, may_dequeue, tries, try_events, Finds}
-use Rattle.cordyceps_queue.specs.Cores.Drain.{Drained, went_on, drained, hands_back, drains_first, drained_at, batch_of, oldest, NobodyPending, NobodyElse, drain_events, batch_events, last_look, Stops, Drains}
+use Rattle.cordyceps_queue.specs.Cores.Drain.{Drained, drain_goes_on, after_drain, hands_back, drains_first, after_drain_at, batch_of, oldest, NobodyPending, NobodyElse, drain_events, batch_events, last_look, Stops, Drains}
 use Rattle.cordyceps_queue.proofs.HistoryEnds.{swaps_by-append, links_by-append}
 use Rattle.cordyceps_queue.proofs.CoreTheory.AloneDequeue.{held_take, still_blocked, no_right, holds_right}
 use Rattle.cordyceps_queue.proofs.Legality.{held_of}
@@ -37,7 +37,7 @@ module _ {E : Type 0} where
   gone : (h : List (Event ℕ E)) (p : ℕ) (e : E) (m m2 : Machine E) → CoreMeets h m → CoreMeets (h ++ Look p ∷ Out p e ∷ []) m2 → held (h ++ Look p ∷ Out p e ∷ []) ≡ drop 1 (held h)
   gone h p e m m2 was is =
       let turned : reverse (h ++ Look p ∷ Out p e ∷ []) ≡ Out p e ∷ Look p ∷ reverse h = reverse-append h (Look p ∷ Out p e ∷ []) in
-      held_of (h ++ Look p ∷ Out p e ∷ []) is.meets.legal ∙ (ap (λ l. past.held l) turned ∙ ap (drop 1) (sym (held_of h was.meets.legal)))
+      held_of (h ++ Look p ∷ Out p e ∷ []) is.meets.legal ∙ (ap (λ l. past.held_reversed l) turned ∙ ap (drop 1) (sym (held_of h was.meets.legal)))
 
   one_more : (p : ℕ) (e : E) (es : List E) (stop : Option TryDequeueError) → drain_events p (e ∷ es) stop ≡ Look p ∷ Out p e ∷ drain_events p es stop
   one_more p e es None = refl
@@ -52,15 +52,15 @@ module _ {E : Type 0} where
   stops_more h p n t u e es (Some error.Busy) left s not = absurd (not refl)
 
   -- from the answer of the first try on
-  next : (n : ℕ) → ((h : List (Event ℕ E)) (m : Machine E) (p t : ℕ) → CoreMeets h m → slice_get m.parties p ≡ Some (Holding t) → Law h p n t (drained p n m)) →
+  next : (n : ℕ) → ((h : List (Event ℕ E)) (m : Machine E) (p t : ℕ) → CoreMeets h m → slice_get m.parties p ≡ Some (Holding t) → Law h p n t (after_drain p n m)) →
       (h : List (Event ℕ E)) (m : Machine E) (p t : ℕ) → CoreMeets h m → (out : Machine E) (a : QueueAnswer E) → IsFinal a → CoreMeets (h ++ try_events p (found_of (Ok a))) out →
-      Finds h p (found_of (Ok a)) → (u : ℕ) × (slice_get out.parties p ≡ Some (Holding u)) → Law h p (suc n) t (went_on (drained p n) out (found_of (Ok a)))
+      Finds h p (found_of (Ok a)) → (u : ℕ) × (slice_get out.parties p ≡ Some (Holding u)) → Law h p (suc n) t (drain_goes_on (after_drain p n) out (found_of (Ok a)))
   next n rest h m p t was out answer.Done f met finds holds = absurd f
   next n rest h m p t was out answer.Taken f met finds holds = absurd f
   next n rest h m p t was out answer.Busy f met finds holds = absurd f
   next n rest h m p t was out (answer.Out e) f met finds holds =
       let L = rest (h ++ Look p ∷ Out p e ∷ []) out p holds.0 met holds.1 in
-      let d = drained p n out in
+      let d = after_drain p n out in
       let left : held h ≡ e ∷ held (h ++ Look p ∷ Out p e ∷ []) = finds.1 ∙ ap (λ z. e ∷ z) (ap (drop 1) (sym finds.1) ∙ sym (gone h p e m out was met)) in
       record {
         meets = subst (λ l. CoreMeets l d.0) (append_assoc h (Look p ∷ Out p e ∷ []) (drain_events p d.1 d.2) ∙ ap (λ l. h ++ l) (sym (one_more p e d.1 d.2))) L.meets;
@@ -86,7 +86,7 @@ module _ {E : Type 0} where
     free = λ e. let no : ⊥ = cc in no;
   }
 
-  pub law : (n : ℕ) (h : List (Event ℕ E)) (m : Machine E) (p t : ℕ) → CoreMeets h m → slice_get m.parties p ≡ Some (Holding t) → Law h p n t (drained p n m)
+  pub law : (n : ℕ) (h : List (Event ℕ E)) (m : Machine E) (p t : ℕ) → CoreMeets h m → slice_get m.parties p ≡ Some (Holding t) → Law h p n t (after_drain p n m)
   law zero h m p t was at = record {
     meets = subst (λ l. CoreMeets l m) (sym (append-nil h)) was;
     took = record { rest = held h; front = refl; few = omega arith; stops = refl };
@@ -95,7 +95,7 @@ module _ {E : Type 0} where
   }
   law (suc n) h m p t was at =
       let T = tries_law p 6 h m (Holding t) at tt (omega arith) (subst (λ l. CoreMeets l m) (sym (append-nil h)) was) in
-      subst (λ r. Law h p (suc n) t (went_on (drained p n) (tries p 6 m).0 (found_of r))) (sym T.is) (next n (law n) h m p t was (tries p 6 m).0 T.answer T.final T.meets T.finds T.holds)
+      subst (λ r. Law h p (suc n) t (drain_goes_on (after_drain p n) (tries p 6 m).0 (found_of r))) (sym T.is) (next n (law n) h m p t was (tries p 6 m).0 T.answer T.final T.meets T.finds T.holds)
 
   -- what a call comes to
   pub record Whole (h : List (Event ℕ E)) (p n : ℕ) (stage : Option Stage) (d : Drained E) : Type 0 where
@@ -115,19 +115,19 @@ module _ {E : Type 0} where
   stops_before h p n t es (Some error.Busy) f s = absurd (f refl)
 
   -- the right was free
-  whole_taken : (n : ℕ) (h : List (Event ℕ E)) (m : Machine E) (p t : ℕ) → CoreMeets (h ++ Take p ∷ []) m → slice_get m.parties p ≡ Some (Holding t) → Whole h p n (Some Rest) (hands_back p (drained p n m))
+  whole_taken : (n : ℕ) (h : List (Event ℕ E)) (m : Machine E) (p t : ℕ) → CoreMeets (h ++ Take p ∷ []) m → slice_get m.parties p ≡ Some (Holding t) → Whole h p n (Some Rest) (hands_back p (after_drain p n m))
   whole_taken n h m p t was at =
       let L = law n (h ++ Take p ∷ []) m p t was at in
-      let d = drained p n m in
+      let d = after_drain p n m in
       let H : List (Event ℕ E) = (h ++ Take p ∷ []) ++ drain_events p d.1 d.2 in
       let K = core_steps H d.0 p step.Give L.meets in
-      let given : CoreMeets (H ++ Free p ∷ []) (stepped d.0 p step.Give).0 =
-      subst (λ l. CoreMeets (H ++ l) (stepped d.0 p step.Give).0) (ap (λ o. events_of p d.0.rooms o step.Give (stepped_at d.0 p o step.Give).1) L.holds.1) K.0 in
+      let given : CoreMeets (H ++ Free p ∷ []) (after_step d.0 p step.Give).0 =
+      subst (λ l. CoreMeets (H ++ l) (after_step d.0 p step.Give).0) (ap (λ o. events_of p d.0.rooms o step.Give (after_step_at d.0 p o step.Give).1) L.holds.1) K.0 in
       let whole : H ++ Free p ∷ [] ≡ h ++ batch_events p (Some Rest) d.1 d.2 =
       append_assoc (h ++ Take p ∷ []) (drain_events p d.1 d.2) (Free p ∷ []) ∙ (append_assoc h (Take p ∷ []) (drain_events p d.1 d.2 ++ Free p ∷ [])
       ∙ ap (λ l. h ++ l) (sym (rest_events p d.1 d.2 L.free))) in
       record {
-        meets = subst (λ l. CoreMeets l (stepped d.0 p step.Give).0) whole given;
+        meets = subst (λ l. CoreMeets l (after_step d.0 p step.Give).0) whole given;
         took = record {
           rest = L.took.rest;
           front = sym (held_take h p) ∙ L.took.front;
@@ -148,18 +148,18 @@ module _ {E : Type 0} where
       let met : CoreMeets (h ++ Take p ∷ []) (take m p (Some t)).0 = subst (λ (k : Machine E). CoreMeets (h ++ Take p ∷ []) k) (ap (λ o. (take m p o).0) right) K.0 in
       whole_taken n h (take m p (Some t)).0 p t met (slice_get-set_same m.parties p (Holding t) Rest at)
 
-  whole_at : (n : ℕ) (h : List (Event ℕ E)) (m : Machine E) (p : ℕ) → CoreMeets h m → (stage : Option Stage) → slice_get m.parties p ≡ stage → may_dequeue stage ≡ true → Whole h p n stage (drained_at p n m stage)
+  whole_at : (n : ℕ) (h : List (Event ℕ E)) (m : Machine E) (p : ℕ) → CoreMeets h m → (stage : Option Stage) → slice_get m.parties p ≡ stage → may_dequeue stage ≡ true → Whole h p n stage (after_drain_at p n m stage)
   whole_at n h m p was (Some Rest) at may =
-      subst (λ out. Whole h p n (Some Rest) (drains_first p n out.0 out.1)) (sym (ap (λ o. stepped_at m p o step.Take) at)) (whole_rest n h m p was at m.right refl)
+      subst (λ out. Whole h p n (Some Rest) (drains_first p n out.0 out.1)) (sym (ap (λ o. after_step_at m p o step.Take) at)) (whole_rest n h m p was at m.right refl)
   whole_at n h m p was (Some (Holding t)) at may = let L = law n h m p t was at in record { meets = L.meets; took = L.took }
   whole_at n h m p was stage at may = let no : ⊥ = cc in absurd no
 
-  pub batch_law : (n : ℕ) (h : List (Event ℕ E)) (m : Machine E) (p : ℕ) → CoreMeets h m → may_dequeue (slice_get m.parties p) ≡ true → Whole h p n (slice_get m.parties p) (drained_at p n m (slice_get m.parties p))
+  pub batch_law : (n : ℕ) (h : List (Event ℕ E)) (m : Machine E) (p : ℕ) → CoreMeets h m → may_dequeue (slice_get m.parties p) ≡ true → Whole h p n (slice_get m.parties p) (after_drain_at p n m (slice_get m.parties p))
   batch_law n h m p was may = whole_at n h m p was (slice_get m.parties p) refl may
 
-  -- elements that came out before, in front of those that came out
-  abbrev pub behind : List E → Drained E → Drained E
-  behind es d = (d.0, es ++ d.1, d.2)
+  -- elements that came out before, and then those that came out
+  abbrev pub after_items : List E → Drained E → Drained E
+  after_items es d = (d.0, es ++ d.1, d.2)
 
   -- a try of a holder that gave an element
   pub record Gave (h : List (Event ℕ E)) (p : ℕ) (m : Machine E) (e : E) : Type 0 where
@@ -179,14 +179,14 @@ module _ {E : Type 0} where
         left = finds.1 ∙ ap (λ z. e ∷ z) (ap (drop 1) (sym finds.1) ∙ sym (gone h p e m (tries p 6 m).0 was met));
       }
 
-  pub behind_more : (p k : ℕ) (items : List E) (m : Machine E) (e : E) → found_of (tries p 6 m).1 ≡ Ok e → behind (items ++ e ∷ []) (drained p k (tries p 6 m).0) ≡ behind items (drained p (suc k) m)
-  behind_more p k items m e is =
-      let d = drained p k (tries p 6 m).0 in
-      ap (λ es. (d.0, es, d.2)) (append_assoc items (e ∷ []) d.1) ∙ ap (behind items) (sym (ap (went_on (drained p k) (tries p 6 m).0) is))
+  pub after_more : (p k : ℕ) (items : List E) (m : Machine E) (e : E) → found_of (tries p 6 m).1 ≡ Ok e → after_items (items ++ e ∷ []) (after_drain p k (tries p 6 m).0) ≡ after_items items (after_drain p (suc k) m)
+  after_more p k items m e is =
+      let d = after_drain p k (tries p 6 m).0 in
+      ap (λ es. (d.0, es, d.2)) (append_assoc items (e ∷ []) d.1) ∙ ap (after_items items) (sym (ap (drain_goes_on (after_drain p k) (tries p 6 m).0) is))
 
-  pub behind_last : (p k : ℕ) (items : List E) (m : Machine E) (why : TryDequeueError) → found_of (tries p 6 m).1 ≡ Err why → ((tries p 6 m).0, items, Some why) ≡ behind items (drained p (suc k) m)
-  behind_last p k items m why is =
-      ap (λ es. ((tries p 6 m).0, es, Some why)) (sym (append-nil items)) ∙ ap (behind items) (sym (ap (went_on (drained p k) (tries p 6 m).0) is))
+  pub after_last : (p k : ℕ) (items : List E) (m : Machine E) (why : TryDequeueError) → found_of (tries p 6 m).1 ≡ Err why → ((tries p 6 m).0, items, Some why) ≡ after_items items (after_drain p (suc k) m)
+  after_last p k items m why is =
+      ap (λ es. ((tries p 6 m).0, es, Some why)) (sym (append-nil items)) ∙ ap (after_items items) (sym (ap (drain_goes_on (after_drain p k) (tries p 6 m).0) is))
 
   -- the right was free, and is taken
   pub record Took (h : List (Event ℕ E)) (p : ℕ) (m : Machine E) : Type 0 where
@@ -198,21 +198,21 @@ module _ {E : Type 0} where
   right_was m p None took at = let no : ⊥ = cc in absurd no
   right_was m p (Some t) took at = (t, slice_get-set_same m.parties p (Holding t) Rest at)
 
-  pub taken_first : (h : List (Event ℕ E)) (m : Machine E) (p : ℕ) → CoreMeets h m → slice_get m.parties p ≡ Some Rest → (stepped m p step.Take).1 ≡ Ok answer.Taken → Took h p (stepped m p step.Take).0
+  pub taken_first : (h : List (Event ℕ E)) (m : Machine E) (p : ℕ) → CoreMeets h m → slice_get m.parties p ≡ Some Rest → (after_step m p step.Take).1 ≡ Ok answer.Taken → Took h p (after_step m p step.Take).0
   taken_first h m p was at took =
-      let took_at : (take m p m.right).1 ≡ Ok answer.Taken = sym (ap (λ o. (stepped_at m p o step.Take).1) at) ∙ took in
-      subst (Took h p) (sym (ap (λ o. (stepped_at m p o step.Take).0) at)) record {
+      let took_at : (take m p m.right).1 ≡ Ok answer.Taken = sym (ap (λ o. (after_step_at m p o step.Take).1) at) ∙ took in
+      subst (Took h p) (sym (ap (λ o. (after_step_at m p o step.Take).0) at)) record {
         meets = (step_met h m p Rest at step.Take answer.Taken took_at was).0;
         held_is = held_take h p;
         holds = right_was m p m.right took_at at;
       }
 
-  -- ---- what a call answers
+  -- ---- what a call returns
   take_front : (es rest : List E) → front (length es) (es ++ rest) ≡ es
   take_front [] rest = refl
   take_front (e ∷ es) rest = ap (λ z. e ∷ z) (take_front es rest)
 
-  -- looks and takings of the right swap and link nothing
+  -- `Look` and `Take` swap and link nothing
   looks_swap : (q p : ℕ) (es : List E) → swaps_by ℕ_discrete q (outs p es ++ Look p ∷ []) ≡ 0
   looks_swap q p [] = refl
   looks_swap q p (e ∷ es) = looks_swap q p es
@@ -244,10 +244,10 @@ module _ {E : Type 0} where
   stops_oldest h p n stage es rest (Some error.Busy) some first few s still mine = absurd (s.3 (mine s.1 s.2))
 
   pub oldest_law : (h : List (Event ℕ E)) (m : Machine E) (p n : ℕ) → CoreMeets h m → may_dequeue (slice_get m.parties p) ≡ true → 1 ≤ n → NobodyPending h → NobodyElse h p →
-      let d = drained_at p n m (slice_get m.parties p) in batch_of d.1 d.2 ≡ oldest n (held h)
+      let d = after_drain_at p n m (slice_get m.parties p) in batch_of d.1 d.2 ≡ oldest n (held h)
   oldest_law h m p n was may some still mine =
       let W = batch_law n h m p was may in
-      let d = drained_at p n m (slice_get m.parties p) in
+      let d = after_drain_at p n m (slice_get m.parties p) in
       stops_oldest h p n (slice_get m.parties p) d.1 W.took.rest d.2 some W.took.front W.took.few W.took.stops still mine
 
   -- where another party has the right
@@ -257,12 +257,12 @@ module _ {E : Type 0} where
   held_rest h m p q n was held (Some t) right = absurd (no_right h m q t was held right)
 
   held_at : (h : List (Event ℕ E)) (m : Machine E) (p q n : ℕ) → CoreMeets h m → holder h ≡ Some q → p ≢ q → (stage : Option Stage) → slice_get m.parties p ≡ stage → may_dequeue stage ≡ true →
-      let d = drained_at p n m stage in batch_of d.1 d.2 ≡ Err error.Busy
+      let d = after_drain_at p n m stage in batch_of d.1 d.2 ≡ Err error.Busy
   held_at h m p q n was held ne (Some Rest) at may =
-      subst (λ (out : Outcome E). let d = drains_first p n out.0 out.1 in batch_of d.1 d.2 ≡ Err error.Busy) (sym (ap (λ o. stepped_at m p o step.Take) at)) (held_rest h m p q n was held m.right refl)
+      subst (λ (out : Outcome E). let d = drains_first p n out.0 out.1 in batch_of d.1 d.2 ≡ Err error.Busy) (sym (ap (λ o. after_step_at m p o step.Take) at)) (held_rest h m p q n was held m.right refl)
   held_at h m p q n was held ne (Some (Holding t)) at may = absurd (ne (holds_right h m p q t was held at))
   held_at h m p q n was held ne stage at may = let no : ⊥ = cc in absurd no
 
   pub held_law : (h : List (Event ℕ E)) (m : Machine E) (p q n : ℕ) → CoreMeets h m → holder h ≡ Some q → p ≢ q → may_dequeue (slice_get m.parties p) ≡ true →
-      let d = drained_at p n m (slice_get m.parties p) in batch_of d.1 d.2 ≡ Err error.Busy
+      let d = after_drain_at p n m (slice_get m.parties p) in batch_of d.1 d.2 ≡ Err error.Busy
   held_law h m p q n was held ne may = held_at h m p q n was held ne (slice_get m.parties p) refl may

@@ -1,4 +1,4 @@
--- A whole enqueueing that one party runs alone.
+-- A whole enqueue that one party runs alone.
 use Rattle.std.proofs.Common.{◌≡◌, ℕ, ◌≤◌, true, List, [], ◌∷◌, ◌++◌, length, drop, refl, ap, sym, ◌∙◌, subst, append_assoc, append-nil, length-append, arith}
 use Rattle.std.specs.Prelude.{Option, Some, slice_get, is_some}
 use Rattle.std.proofs.lemmas.List.{drop-append-le}
@@ -9,7 +9,7 @@ use Rattle.cordyceps_queue.specs.declared.cores.steps.QueueStep.TheVariants as s
 use Rattle.cordyceps_queue.specs.declared.cores.steps.QueueAnswer.TheVariants as answer
 use Rattle.cordyceps_queue.specs.History.{Event, Swap, Link, came, went, held}
 use Rattle.cordyceps_shared.specs.Rooms.{element_in}
-use Rattle.cordyceps_queue.specs.Cores.Machine.{Machine, least_free, comes_in, holding, stepped_at, stepped, clear, swap, link}
+use Rattle.cordyceps_queue.specs.Cores.Machine.{Machine, least_free, comes_in, with_element, after_step_at, after_step, clear, swap, link}
 use Rattle.cordyceps_queue.specs.Cores.CoreMeets.{CoreMeets, core_step}
 use Rattle.cordyceps_queue.specs.Cores.Alone.{is_rest, is_ready, enqueue_steps}
 use Rattle.cordyceps_shared.proofs.Choices.{both_from, some_from}
@@ -50,14 +50,14 @@ module _ {E : Type 0} where
 
     steps_are : after core_step m (enqueue_steps p e) ≡ linked_machine
     steps_are =
-        ap (λ (n : Machine E). (stepped (stepped n p step.Swap).0 p step.Link).0) (ap (λ o. (stepped_at m p o (step.Clear (Some e))).0) at ∙ ap (λ o. (clear m p e o).0) free)
-        ∙ ap (λ (n : Machine E). (stepped n p step.Link).0) (ap (λ o. (stepped_at cleared_machine p o step.Swap).0) at_cleared)
-        ∙ ap (λ o. (stepped_at swapped_machine p o step.Link).0) at_swapped
+        ap (λ (n : Machine E). (after_step (after_step n p step.Swap).0 p step.Link).0) (ap (λ o. (after_step_at m p o (step.Clear (Some e))).0) at ∙ ap (λ o. (clear m p e o).0) free)
+        ∙ ap (λ (n : Machine E). (after_step n p step.Link).0) (ap (λ o. (after_step_at cleared_machine p o step.Swap).0) at_cleared)
+        ∙ ap (λ o. (after_step_at swapped_machine p o step.Link).0) at_swapped
 
     element_there : element_in (slice_get cleared_machine.rooms r) ≡ Some e
     element_there =
         let w = get_within m.rooms r (free_within m (h, was) p r at free).1 in
-        ap element_in (slice_get-change_same (holding e) m.rooms r w.0 w.1)
+        ap element_in (slice_get-change_same (with_element e) m.rooms r w.0 w.1)
 
     met_cleared : CoreMeets h cleared_machine
     met_cleared =

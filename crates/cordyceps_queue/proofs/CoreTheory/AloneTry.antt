@@ -11,7 +11,7 @@ use Rattle.cordyceps_queue.specs.declared.cores.steps.QueueAnswer.{QueueAnswer}
 use Rattle.cordyceps_queue.specs.declared.cores.steps.QueueAnswer.TheVariants as answer
 use Rattle.cordyceps_queue.specs.History.{Event, Look, Out, Empty, came, went, held, IsBlocked, WasBlocked}
 use Rattle.cordyceps_shared.specs.Rooms.{element_in, next_in}
-use Rattle.cordyceps_queue.specs.Cores.Machine.{Machine, Outcome, events_of, acts, stepped_at, look, read, read_again, hand_out, head_stub, head_tail}
+use Rattle.cordyceps_queue.specs.Cores.Machine.{Machine, Outcome, events_of, acts, after_step_at, look, read, read_again, hand_out, head_stub, head_tail}
 use Rattle.cordyceps_queue.specs.Cores.CoreMeets.{CoreMeets, IsSound, Says, AnswerSays}
 use Rattle.cordyceps_queue.specs.Cores.Alone.{next_step, found_of, goes_on, tries, try_events, Finds}
 use Rattle.cordyceps_queue.proofs.CoreTheory.Basics.{none_some, suc_zero}
@@ -62,7 +62,7 @@ module _ {E : Type 0} where
   abbrev Holds : ℕ → Machine E → Type 0
   Holds p m = (t : ℕ) × (slice_get m.parties p ≡ Some (Holding t))
 
-  -- where the party stands after the answer
+  -- the stage of the party after the answer
   abbrev Stands : ℕ → Stage → QueueAnswer E → Machine E → Type 0
   Stands p stage answer.Done m = (l : Stage) × (slice_get m.parties p ≡ Some l) × (steps_left l < steps_left stage) × IsMidTry l
   Stands p stage answer.Taken m = ⊥
@@ -150,10 +150,10 @@ module _ {E : Type 0} where
   blocked_before : (h : List (Event ℕ E)) (p : ℕ) (m : Machine E) → CoreMeets (h ++ Look p ∷ []) m → WasBlocked ℕ_discrete p (h ++ Look p ∷ []) → IsBlocked ℕ_discrete h
   blocked_before h p m was w =
       let turned : reverse (h ++ Look p ∷ []) ≡ Look p ∷ reverse h = reverse-append h (Look p ∷ []) in
-      let legal : past.IsLegal (Look p ∷ reverse h) = subst past.IsLegal turned was.meets.legal in
-      from legal (subst (past.WasBlocked p) turned (past_was_blocked ℕ_discrete (h ++ Look p ∷ []) was.meets.legal p w))
+      let legal : past.IsLegalReversed (Look p ∷ reverse h) = subst past.IsLegalReversed turned was.meets.legal in
+      from legal (subst (past.WasBlockedReversed p) turned (past_was_blocked ℕ_discrete (h ++ Look p ∷ []) was.meets.legal p w))
     where
-      from : past.IsLegal (Look p ∷ reverse h) → past.WasBlocked p (Look p ∷ reverse h) → IsBlocked ℕ_discrete h
+      from : past.IsLegalReversed (Look p ∷ reverse h) → past.WasBlockedReversed p (Look p ∷ reverse h) → IsBlocked ℕ_discrete h
       from legal (inl b) = told_blocked ℕ_discrete h legal.1 b.1
       from legal (inr b) = absurd (b.0 refl)
 
@@ -220,7 +220,7 @@ module _ {E : Type 0} where
   pub step_met : (H : List (Event ℕ E)) (m : Machine E) (p : ℕ) (stage : Stage) → slice_get m.parties p ≡ Some stage → (s : QueueStep E) (a : QueueAnswer E) → (acts m p stage s).1 ≡ Ok a → CoreMeets H m →
       CoreMeets (H ++ events_of p m.rooms (Some stage) s (Ok a)) (acts m p stage s).0 × Says H p a
   step_met H m p stage at s a is was =
-      let law = subst (λ o. CoreMeets (H ++ events_of p m.rooms o s (stepped_at m p o s).1) (stepped_at m p o s).0 × AnswerSays H p (stepped_at m p o s).1) at (core_steps H m p s was) in
+      let law = subst (λ o. CoreMeets (H ++ events_of p m.rooms o s (after_step_at m p o s).1) (after_step_at m p o s).0 × AnswerSays H p (after_step_at m p o s).1) at (core_steps H m p s was) in
       subst (λ r. CoreMeets (H ++ events_of p m.rooms (Some stage) s r) (acts m p stage s).0 × AnswerSays H p r) is law
 
   pub tries_law : (p n : ℕ) (h : List (Event ℕ E)) (m : Machine E) (stage : Stage) → slice_get m.parties p ≡ Some stage → IsTry stage → steps_left stage ≤ n → CoreMeets (h ++ so_far p stage) m → Ended h p (tries p n m)
@@ -228,11 +228,11 @@ module _ {E : Type 0} where
       let T = tried m (h ++ so_far p stage, was) p stage at is in
       let K = step_met (h ++ so_far p stage) m p stage at (next_step (Some stage)) T.answer T.is was in
       let met = subst (λ l. CoreMeets l (acts m p stage (next_step (Some stage))).0) (append_assoc h (so_far p stage) (events_of p m.rooms (Some stage) (next_step (Some stage)) (Ok T.answer)) ∙ ap (λ l. h ++ l) T.events) K.0 in
-      subst (λ o. Ended h p (stepped_at m p o (next_step o))) (sym at) (ends_now h p m stage was (acts m p stage (next_step (Some stage))) T.answer T.is T.stands met K.1 le)
+      subst (λ o. Ended h p (after_step_at m p o (next_step o))) (sym at) (ends_now h p m stage was (acts m p stage (next_step (Some stage))) T.answer T.is T.stands met K.1 le)
   tries_law p (suc n) h m stage at is le was =
       let T = tried m (h ++ so_far p stage, was) p stage at is in
       let out = acts m p stage (next_step (Some stage)) in
       let K = step_met (h ++ so_far p stage) m p stage at (next_step (Some stage)) T.answer T.is was in
       let met = subst (λ l. CoreMeets l (acts m p stage (next_step (Some stage))).0) (append_assoc h (so_far p stage) (events_of p m.rooms (Some stage) (next_step (Some stage)) (Ok T.answer)) ∙ ap (λ l. h ++ l) T.events) K.0 in
-      subst (λ o. Ended h p (goes_on (tries p n) (stepped_at m p o (next_step o)).0 (stepped_at m p o (next_step o)).1)) (sym at)
+      subst (λ o. Ended h p (goes_on (tries p n) (after_step_at m p o (next_step o)).0 (after_step_at m p o (next_step o)).1)) (sym at)
       (ends_later h p m stage was (acts m p stage (next_step (Some stage))) n (λ l at' is' le' was'. tries_law p n h out.0 l at' is' le' was') T.answer T.is T.stands met K.1 le)

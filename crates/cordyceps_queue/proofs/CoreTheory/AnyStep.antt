@@ -1,13 +1,13 @@
 -- Each accepted step keeps what a machine meets.
 use Rattle.std.proofs.Common.{◌≡◌, ℕ, zero, suc, ◌≢◌, Bool, true, false, eqb, List, [], ◌∷◌, ◌++◌, Option, Some, None, refl, sym, ap, ◌∙◌, subst, inl, eqb-true, eq-eqb, true≢false}
 use Rattle.cordyceps_queue.specs.History.{Event}
-use Rattle.cordyceps_queue.specs.Past.{held, HasLooked, WasBlocked}
+use Rattle.cordyceps_queue.specs.Past.{held_reversed, HasLooked, WasBlockedReversed}
 use Rattle.cordyceps_queue.specs.declared.cores.stage.Stage.{Stage}
 use Rattle.cordyceps_queue.specs.declared.cores.stage.Stage.TheVariants.{Rest, Cleared, Swapped, Holding, StubNull, Second, Null, PutClear, PutSwap, PutLink, PutRead}
 use Rattle.cordyceps_queue.specs.declared.cores.steps.QueueStep.{QueueStep}
 use Rattle.cordyceps_queue.specs.declared.cores.steps.QueueStep.TheVariants as step
 use Rattle.cordyceps_queue.specs.declared.cores.steps.QueueAnswer.TheVariants as answer
-use Rattle.cordyceps_queue.specs.Cores.Abstract.{AbstractParty, AbstractMachine, Move, clears, swaps, takes, gives_out, reads, reads_stub, looks, reads_put, heads_stub, heads, act, act_of, stands}
+use Rattle.cordyceps_queue.specs.Cores.Abstract.{AbstractParty, AbstractMachine, Move, clears, swaps, takes, gives_out, reads, reads_stub, looks, reads_put, heads_stub, heads, act, act_of, set_stage}
 use Rattle.cordyceps_queue.specs.Cores.Meets.{Owes, tail_of, Chain, Meets, AtStage, Real}
 use Rattle.cordyceps_queue.specs.Cores.StepKeeps.{SaysReversed, StepKeeps}
 use Rattle.cordyceps_queue.proofs.CoreTheory.Basics.{some_inj, none_some, suc_zero, put_same}
@@ -24,13 +24,13 @@ ne_of a b e s = true≢false (sym (eq-eqb a b s) ∙ e)
 
 module _ {P E : Type 0} (m : AbstractMachine P E) (c : Chain) (k : ℕ) (p : AbstractParty P) (at : m.party k ≡ Some p) (v : Move P E) where
   -- from a tail that is no stub
-  gives_out_keep : (before h : List (Event P E)) (M : Meets m c (before ++ h)) → held (before ++ h) ≡ held h → (t r : ℕ) → tail_of p.stage ≡ Some t → ((a b : ℕ) → Owes p.stage a b → ⊥) → t ≢ 0 → m.next t ≡ Some r → (e : Option E) → m.cell t ≡ e → gives_out m k p t r e before ≡ Some v → Kept p.name h v
+  gives_out_keep : (before h : List (Event P E)) (M : Meets m c (before ++ h)) → held_reversed (before ++ h) ≡ held_reversed h → (t r : ℕ) → tail_of p.stage ≡ Some t → ((a b : ℕ) → Owes p.stage a b → ⊥) → t ≢ 0 → m.next t ≡ Some r → (e : Option E) → m.cell t ≡ e → gives_out m k p t r e before ≡ Some v → Kept p.name h v
   gives_out_keep before h M same t r has nothing ne linked None full e = absurd (none_some e)
   gives_out_keep before h M same t r has nothing ne linked (Some x) full e =
       let now = out_keeps m c (before ++ h) M k p at t r has nothing ne linked x full in
       subst (Kept p.name h) (some_inj e) (chain_after_out m c (before ++ h) M k p at t r has nothing ne linked x full, now, (now.legal.0.1, sym same ∙ now.legal.0.2))
 
-  reads_keep : (before h : List (Event P E)) (M : Meets m c (before ++ h)) → held (before ++ h) ≡ held h → (t : ℕ) → tail_of p.stage ≡ Some t → ((a b : ℕ) → Owes p.stage a b → ⊥) → t ≢ 0 → HasLooked p.name (before ++ h) → (n : Option ℕ) → m.next t ≡ n → reads m k p t n before ≡ Some v → Kept p.name h v
+  reads_keep : (before h : List (Event P E)) (M : Meets m c (before ++ h)) → held_reversed (before ++ h) ≡ held_reversed h → (t : ℕ) → tail_of p.stage ≡ Some t → ((a b : ℕ) → Owes p.stage a b → ⊥) → t ≢ 0 → HasLooked p.name (before ++ h) → (n : Option ℕ) → m.next t ≡ n → reads m k p t n before ≡ Some v → Kept p.name h v
   reads_keep before h M same t has nothing ne looked None next e =
       subst (Kept p.name h) (some_inj e) (
         c,
@@ -85,16 +85,16 @@ module _ {P E : Type 0} (m : AbstractMachine P E) (c : Chain) (k : ℕ) (p : Abs
         reads_keep (Event.Look p.name ∷ []) h (looked_on (suc t) holding) refl (suc t) (ap tail_of holding) (λ a b o. subst (λ l. Owes l a b) holding o) suc_zero (inl refl) (m.next (suc t)) refl e
 
     -- back to Holding without an element
-    fails_keep : (t : ℕ) → tail_of p.stage ≡ Some t → ((a b : ℕ) → Owes p.stage a b → ⊥) → WasBlocked p.name h → Kept p.name h (record { after = stands m k p (Holding t); answer = answer.Inconsistent; events = [] })
+    fails_keep : (t : ℕ) → tail_of p.stage ≡ Some t → ((a b : ℕ) → Owes p.stage a b → ⊥) → WasBlockedReversed p.name h → Kept p.name h (record { after = set_stage m k p (Holding t); answer = answer.Inconsistent; events = [] })
     fails_keep t has nothing blocked = (c, stage_keeps m c h M k p at t has (Holding t) refl (λ a b o. absurd (nothing a b o)) (keeping m c h M k p at t has), blocked)
 
     heads_stub_keep : p.stage ≡ StubNull → (b : Bool) → eqb m.head 0 ≡ b → heads_stub m k p b ≡ Some v → Kept p.name h v
     heads_stub_keep stage true same e =
         let has : tail_of p.stage ≡ Some 0 = ap tail_of stage in
-        let back : Meets (stands m k p (Holding 0)) c h = stage_keeps m c h M k p at 0 has (Holding 0) refl (λ a b o. absurd (subst (λ l. Owes l a b) stage o)) (keeping m c h M k p at 0 has) in
+        let back : Meets (set_stage m k p (Holding 0)) c h = stage_keeps m c h M k p at 0 has (Holding 0) refl (λ a b o. absurd (subst (λ l. Owes l a b) stage o)) (keeping m c h M k p at 0 has) in
         subst (Kept p.name h) (some_inj e) (
           c,
-          tell_keeps (stands m k p (Holding 0)) c h back k (record p { stage = Holding 0 }) (put_same m.party k (Some (record p { stage = Holding 0 }))) 0 refl (Event.Empty p.name) refl
+          tell_keeps (set_stage m k p (Holding 0)) c h back k (record p { stage = Holding 0 }) (put_same m.party k (Some (record p { stage = Holding 0 }))) 0 refl (Event.Empty p.name) refl
               ((keeping m c h M k p at 0 has).held_by, none_held m c h M k p at 0 has refl (eqb-true m.head 0 same)) refl refl (λ q s. s) (λ q n w. w),
           none_held m c h M k p at 0 has refl (eqb-true m.head 0 same),
         )

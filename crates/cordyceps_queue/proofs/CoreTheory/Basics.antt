@@ -4,7 +4,7 @@ use native.Mathlib.Decide.{ℕ_discrete}
 use Rattle.cordyceps_shared.specs.Counts.{times, one_if}
 use Rattle.cordyceps_shared.proofs.Counting.{one_here, one_else}
 use Rattle.cordyceps_queue.specs.History.{Event, Swap, Link, Take, Busy, Look, Out, Empty, Free}
-use Rattle.cordyceps_queue.specs.Past.{held, IsOpen, IsPendingAt}
+use Rattle.cordyceps_queue.specs.Past.{held_reversed, IsOpen, IsPendingAt}
 use Rattle.cordyceps_queue.specs.Cores.Abstract.{update}
 use Rattle.cordyceps_shared.specs.Places.{ItemAt}
 use Rattle.cordyceps_queue.specs.Cores.Meets.{real, rank}
@@ -117,15 +117,15 @@ drop_less (x ∷ xs) = omega arith
 
 module _ {P E : Type 0} where
   -- a pending party's element is held
-  pending_within : (h : List (Event P E)) (q : P) (n : ℕ) → IsPendingAt q n h → n < length (held h)
+  pending_within : (h : List (Event P E)) (q : P) (n : ℕ) → IsPendingAt q n h → n < length (held_reversed h)
   pending_within [] q n w = absurd w
-  pending_within (Swap p e ∷ h) q n (inl w) = omega (arith, length-append (held h) (e ∷ []), w.1)
-  pending_within (Swap p e ∷ h) q n (inr w) = let l = pending_within h q n w.1 in omega (arith, length-append (held h) (e ∷ []))
+  pending_within (Swap p e ∷ h) q n (inl w) = omega (arith, length-append (held_reversed h) (e ∷ []), w.1)
+  pending_within (Swap p e ∷ h) q n (inr w) = let l = pending_within h q n w.1 in omega (arith, length-append (held_reversed h) (e ∷ []))
   pending_within (Link p ∷ h) q n w = pending_within h q n w.1
   pending_within (Take p ∷ h) q n w = pending_within h q n w
   pending_within (Busy p ∷ h) q n w = pending_within h q n w
   pending_within (Look p ∷ h) q n w = pending_within h q n w
-  pending_within (Out p e ∷ h) q n w = let l = pending_within h q (suc n) w in omega (arith, drop_less (held h))
+  pending_within (Out p e ∷ h) q n w = let l = pending_within h q (suc n) w in omega (arith, drop_less (held_reversed h))
   pending_within (Empty p ∷ h) q n w = pending_within h q n w
   pending_within (Free p ∷ h) q n w = pending_within h q n w
 
@@ -157,7 +157,7 @@ module _ {P E : Type 0} where
   open_from (Empty p ∷ h) q n w = open_from h q n w
   open_from (Free p ∷ h) q n w = open_from h q n w
 
--- how often a number stands in a list, by place
+-- how often a number is in a list, by place
 pub times_none : (r : ℕ) (xs : List ℕ) → ((i : ℕ) → ItemAt xs i r → ⊥) → times r xs ≡ 0
 times_none r [] away = refl
 times_none r (x ∷ xs) away = omega (arith, one_else x r (λ e. away 0 (sym e)), times_none r xs (λ i. away (suc i)))

@@ -1,7 +1,7 @@
 -- A room comes to the end of the chain.
 use Rattle.std.proofs.Common.{◌≡◌, ℕ, zero, suc, ◌<◌, ◌≤◌, ◌≢◌, List, [], ◌∷◌, ◌++◌, length, Option, Some, None, refl, sym, ap, ◌∙◌, subst, inl, inr, arith, length-append}
 use Rattle.cordyceps_queue.specs.History.{Event}
-use Rattle.cordyceps_queue.specs.Past.{held, holder}
+use Rattle.cordyceps_queue.specs.Past.{held_reversed, holder_reversed}
 use Rattle.cordyceps_queue.specs.Cores.Abstract.{update, AbstractParty, AbstractMachine}
 use Rattle.cordyceps_shared.specs.Places.{ItemAt}
 use Rattle.cordyceps_queue.specs.Cores.Meets.{real, Owes, Chain, Joined, RightIs, Meets}
@@ -18,21 +18,21 @@ real_within (zero ∷ xs) = let l = real_within xs in omega arith
 real_within (suc x ∷ xs) = let l = real_within xs in omega arith
 
 -- what the right is does not turn on the end of the chain
-pub right_more : {P E : Type 0} (right : ℕ) (party : ℕ → Option (AbstractParty P)) (rooms : List ℕ) (r : ℕ) (h : List (Event P E)) (x : Event P E) (keeper : Option ℕ) → holder (x ∷ h) ≡ holder h → RightIs right party rooms h keeper → RightIs right party (rooms ++ r ∷ []) (x ∷ h) keeper
+pub right_more : {P E : Type 0} (right : ℕ) (party : ℕ → Option (AbstractParty P)) (rooms : List ℕ) (r : ℕ) (h : List (Event P E)) (x : Event P E) (keeper : Option ℕ) → holder_reversed (x ∷ h) ≡ holder_reversed h → RightIs right party rooms h keeper → RightIs right party (rooms ++ r ∷ []) (x ∷ h) keeper
 right_more right party rooms r h x None same R = (same ∙ R.0, R.1, R.2, at_more rooms (r ∷ []) 0 R.1 R.3)
 right_more right party rooms r h x (Some k) same R = (R.0, R.1, R.2, R.3, R.4, same ∙ R.5)
 
 -- nor on an event that leaves the holder
-pub right_same : {P E : Type 0} (right : ℕ) (party : ℕ → Option (AbstractParty P)) (rooms : List ℕ) (h : List (Event P E)) (x : Event P E) (keeper : Option ℕ) → holder (x ∷ h) ≡ holder h → RightIs right party rooms h keeper → RightIs right party rooms (x ∷ h) keeper
+pub right_same : {P E : Type 0} (right : ℕ) (party : ℕ → Option (AbstractParty P)) (rooms : List ℕ) (h : List (Event P E)) (x : Event P E) (keeper : Option ℕ) → holder_reversed (x ∷ h) ≡ holder_reversed h → RightIs right party rooms h keeper → RightIs right party rooms (x ∷ h) keeper
 right_same right party rooms h x None same R = (same ∙ R.0, R.1, R.2, R.3)
 right_same right party rooms h x (Some k) same R = (R.0, R.1, R.2, R.3, R.4, same ∙ R.5)
 
 module _ {P E : Type 0} (m : AbstractMachine P E) (c : Chain) (h : List (Event P E)) (M : Meets m c h) where
-  pub held_length : length (real c.rooms) ≡ length (held h)
-  held_length = sym (length_map m.cell (real c.rooms)) ∙ ap length M.holds ∙ length_map Some (held h)
+  pub held_length : length (real c.rooms) ≡ length (held_reversed h)
+  held_length = sym (length_map m.cell (real c.rooms)) ∙ ap length M.holds ∙ length_map Some (held_reversed h)
 
   -- where head is the tail, at most one element is held
-  pub alone : (t : ℕ) → ItemAt c.rooms 0 t → m.head ≡ t → length (held h) < 2
+  pub alone : (t : ℕ) → ItemAt c.rooms 0 t → m.head ≡ t → length (held_reversed h) < 2
   alone t first same =
       let e : M.last.0 ≡ 0 = M.once M.last.0 0 t (subst (ItemAt c.rooms M.last.0) same M.last.2) first in
       omega (arith, held_length, real_within c.rooms, M.last.1, e)

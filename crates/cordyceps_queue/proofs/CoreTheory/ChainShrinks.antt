@@ -1,7 +1,7 @@
 -- The tail goes on by one room.
 use Rattle.std.proofs.Common.{◌≡◌, ℕ, zero, suc, ◌≢◌, ◌⊎◌, Bool, true, false, cond, ltb, List, [], ◌∷◌, map, drop, length, Option, Some, None, refl, sym, ap, ◌∙◌, subst, inl, inr, arith}
 use Rattle.cordyceps_queue.specs.History.{Event}
-use Rattle.cordyceps_queue.specs.Past.{held, IsSettled, IsPendingAt}
+use Rattle.cordyceps_queue.specs.Past.{held_reversed, IsSettled, IsPendingAt}
 use Rattle.cordyceps_queue.specs.declared.cores.stage.Stage.{Stage}
 use Rattle.cordyceps_queue.specs.declared.cores.stage.Stage.TheVariants.{Rest, Cleared, Swapped}
 use Rattle.cordyceps_queue.specs.Cores.Abstract.{insert_room, AbstractMachine}
@@ -147,5 +147,5 @@ module _ {P E : Type 0} (m : AbstractMachine P E) (c : Chain) (h : List (Event P
   producer_drops cell' owner' keeper keeper' h' j q stays ready settled pending stage e f = absurd (some_none e)
 
 -- the tail's element is the oldest that is held
-pub tail_full : {P E : Type 0} (m : AbstractMachine P E) (c : Chain) (h : List (Event P E)) (M : Meets m c h) (t : ℕ) → t ≢ 0 → ItemAt c.rooms 0 t → (e : E) × (rest : List E) × (held h ≡ e ∷ rest) × (m.cell t ≡ Some e) × (map m.cell (real (drop 1 c.rooms)) ≡ map Some rest)
-tail_full m c h M t ne first = map_split (held h) (m.cell t) (map m.cell (real (drop 1 c.rooms))) (ap (map m.cell) (sym (real_first c.rooms t ne first)) ∙ M.holds)
+pub tail_full : {P E : Type 0} (m : AbstractMachine P E) (c : Chain) (h : List (Event P E)) (M : Meets m c h) (t : ℕ) → t ≢ 0 → ItemAt c.rooms 0 t → (e : E) × (rest : List E) × (held_reversed h ≡ e ∷ rest) × (m.cell t ≡ Some e) × (map m.cell (real (drop 1 c.rooms)) ≡ map Some rest)
+tail_full m c h M t ne first = map_split (held_reversed h) (m.cell t) (map m.cell (real (drop 1 c.rooms))) (ap (map m.cell) (sym (real_first c.rooms t ne first)) ∙ M.holds)

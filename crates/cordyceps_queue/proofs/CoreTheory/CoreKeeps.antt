@@ -16,7 +16,7 @@ use Rattle.cordyceps_queue.specs.History.{Event, came, went, held}
 use Rattle.cordyceps_queue.specs.Cores.StepKeeps as kept
 use Rattle.cordyceps_queue.specs.Cores.Machine as core
 use Rattle.cordyceps_shared.specs.Rooms.{next_in, element_in}
-use Rattle.cordyceps_queue.specs.Cores.Machine.{Machine, Answered, Outcome, free_rooms, refused, events_of, stepped_at, stepped, step_events}
+use Rattle.cordyceps_queue.specs.Cores.Machine.{Machine, Answered, Outcome, free_rooms, refusal, events_of, after_step_at, after_step, step_events}
 use Rattle.cordyceps_queue.specs.Cores.Abstract as words
 use Rattle.cordyceps_queue.specs.Cores.Abstract.{AbstractParty, AbstractMachine, Move, update, insert_room}
 use Rattle.cordyceps_queue.specs.Cores.Meets.{Chain, IsStranger, Meets}
@@ -59,7 +59,7 @@ module _ {E : Type 0} where
   unchanged h m was = subst (λ k. CoreMeets k m) (sym (append-nil h)) was
 
   module _ (h : List (Event ℕ E)) (m : Machine E) (p : ℕ) (s : QueueStep E) (was : CoreMeets h m) (stage : Stage) (at : slice_get m.parties p ≡ Some stage) where
-    goes_by : (o : Option (Move ℕ E)) (out : Outcome E) → words.moved (abstract_of m) p s ≡ o → Follows m p stage s o out → Goes_on h m p (Some stage) s out
+    goes_by : (o : Option (Move ℕ E)) (out : Outcome E) → words.move_of (abstract_of m) p s ≡ o → Follows m p stage s o out → Goes_on h m p (Some stage) s out
     goes_by None out e f = subst (Goes_on h m p (Some stage) s) (sym f) (unchanged h m was, tt)
     goes_by (Some v) out e f =
         let K = step_keeps ℕ E (abstract_of m) was.chain (reverse h) was.meets p (me_of m p stage) s v (ap (party_at m.rooms p) at) e in
@@ -70,17 +70,17 @@ module _ {E : Type 0} where
           subst (AnswerSays h p) (sym f.1) (says_of h m was p v.answer K.2),
         )
 
-  steps_at : (h : List (Event ℕ E)) (m : Machine E) (p : ℕ) (s : QueueStep E) → CoreMeets h m → (o : Option Stage) → slice_get m.parties p ≡ o → Goes_on h m p o s (stepped_at m p o s)
+  steps_at : (h : List (Event ℕ E)) (m : Machine E) (p : ℕ) (s : QueueStep E) → CoreMeets h m → (o : Option Stage) → slice_get m.parties p ≡ o → Goes_on h m p o s (after_step_at m p o s)
   steps_at h m p s was None at = (unchanged h m was, tt)
   steps_at h m p s was (Some stage) at =
       goes_by h m p s was stage at (words.act (abstract_of m) p (me_of m p stage) stage s) (core.acts m p stage s) (ap (λ o. words.act_of (abstract_of m) p (party_at m.rooms p o) s) at)
       (acts_follow m p was.owned was.chain (reverse h) was.meets stage at s)
 
-  pub core_steps : (h : List (Event ℕ E)) (m : Machine E) (p : ℕ) (s : QueueStep E) → CoreMeets h m → CoreMeets (h ++ step_events m p s (stepped m p s).1) (stepped m p s).0 × AnswerSays h p (stepped m p s).1
+  pub core_steps : (h : List (Event ℕ E)) (m : Machine E) (p : ℕ) (s : QueueStep E) → CoreMeets h m → CoreMeets (h ++ step_events m p s (after_step m p s).1) (after_step m p s).0 × AnswerSays h p (after_step m p s).1
   core_steps h m p s was = steps_at h m p s was (slice_get m.parties p) refl
 
-  pub sound_step : (m : Machine E) (p : ℕ) (s : QueueStep E) → IsSound m → IsSound (stepped m p s).0
-  sound_step m p s was = (was.0 ++ step_events m p s (stepped m p s).1, (core_steps was.0 m p s was.1).0)
+  pub sound_step : (m : Machine E) (p : ℕ) (s : QueueStep E) → IsSound m → IsSound (after_step m p s).0
+  sound_step m p s was = (was.0 ++ step_events m p s (after_step m p s).1, (core_steps was.0 m p s was.1).0)
 
   -- a new core
   pub meets_new : CoreMeets {E = E} [] new_machine

@@ -1,9 +1,9 @@
 -- The right is taken and given back, and the tail goes on.
 use Rattle.std.proofs.Common.{◌≡◌, ℕ, suc, ◌≢◌, List, ◌∷◌, map, drop, Option, Some, None, refl, sym, ap, ◌∙◌, subst, inl, inr}
 use Rattle.cordyceps_queue.specs.History.{Event}
-use Rattle.cordyceps_queue.specs.Past.{held, holder, IsSettled, IsPendingAt, HasLooked}
+use Rattle.cordyceps_queue.specs.Past.{held_reversed, holder_reversed, IsSettled, IsPendingAt, HasLooked}
 use Rattle.cordyceps_queue.specs.declared.cores.stage.Stage.TheVariants.{Rest, Holding, Second}
-use Rattle.cordyceps_queue.specs.Cores.Abstract.{update, insert_room, AbstractParty, AbstractMachine, stands, set_right, hand_out}
+use Rattle.cordyceps_queue.specs.Cores.Abstract.{update, insert_room, AbstractParty, AbstractMachine, set_stage, set_right, hand_out}
 use Rattle.cordyceps_shared.specs.Places.{ItemAt}
 use Rattle.cordyceps_queue.specs.Cores.Meets.{real, Owner, Shared, Spare, Ready, Unmade, Owes, tail_of, Chain, OwnsRooms, Keeps, AtStage, RightIs, Meets}
 use Rattle.cordyceps_queue.proofs.CoreTheory.Basics.{some_inj, none_some, suc_zero, zero_suc, suc_inj, put_same, put_other, put_all, map_put}
@@ -12,7 +12,7 @@ use Rattle.cordyceps_queue.proofs.CoreTheory.ProducerSteps.{spare_shared, ready_
 use Rattle.cordyceps_queue.proofs.CoreTheory.HolderSteps.{producer_moves, keeping, other_none, right_with}
 use Rattle.cordyceps_queue.proofs.CoreTheory.ChainShrinks.{at_down, at_up, real_stub, real_first, rank_stub, rank_first, map_split, room_was, room_once, second, last_less, once_less, tail_away, producer_drops}
 
-pub free_right : {P E : Type 0} (right : ℕ) (party : ℕ → Option (AbstractParty P)) (rooms : List ℕ) (h : List (Event P E)) (keeper : Option ℕ) (t : ℕ) → right ≡ suc t → RightIs right party rooms h keeper → (keeper ≡ None) × (holder h ≡ None) × ItemAt rooms 0 t
+pub free_right : {P E : Type 0} (right : ℕ) (party : ℕ → Option (AbstractParty P)) (rooms : List ℕ) (h : List (Event P E)) (keeper : Option ℕ) (t : ℕ) → right ≡ suc t → RightIs right party rooms h keeper → (keeper ≡ None) × (holder_reversed h ≡ None) × ItemAt rooms 0 t
 free_right right party rooms h None t e R = (refl, R.0, subst (ItemAt rooms 0) (suc_inj (sym R.2 ∙ e)) R.3)
 free_right right party rooms h (Some j) t e R = absurd (suc_zero (sym e ∙ R.0))
 
@@ -25,7 +25,7 @@ module _ {P E : Type 0} (m : AbstractMachine P E) (c : Chain) (h : List (Event P
     abbrev taker : AbstractParty P
     taker = record p { stage = Holding t }
 
-    free : (c.keeper ≡ None) × (holder h ≡ None) × ItemAt c.rooms 0 t
+    free : (c.keeper ≡ None) × (holder_reversed h ≡ None) × ItemAt c.rooms 0 t
     free = free_right m.right m.party c.rooms h c.keeper t right M.right
 
     settled : IsSettled p.name h
@@ -98,7 +98,7 @@ module _ {P E : Type 0} (m : AbstractMachine P E) (c : Chain) (h : List (Event P
     at_second : ItemAt c.rooms 1 r
     at_second = second m c h M 0 r keeps_stub.tail linked
 
-    pub pass_keeps : Meets (stands m k p (Second r)) chain_after_pass h
+    pub pass_keeps : Meets (set_stage m k p (Second r)) chain_after_pass h
     pass_keeps = record {
       legal = M.legal;
       last = last_less m c h M 0 r keeps_stub.tail linked;
@@ -141,10 +141,10 @@ module _ {P E : Type 0} (m : AbstractMachine P E) (c : Chain) (h : List (Event P
     next_at : ItemAt c.rooms 1 r
     next_at = second m c h M t r keeps_tail.tail linked
 
-    oldest : (x : E) × (rest : List E) × (held h ≡ x ∷ rest) × (m.cell t ≡ Some x) × (map m.cell (real (drop 1 c.rooms)) ≡ map Some rest)
-    oldest = map_split (held h) (m.cell t) (map m.cell (real (drop 1 c.rooms))) (ap (map m.cell) (sym (real_first c.rooms t is_real keeps_tail.tail)) ∙ M.holds)
+    oldest : (x : E) × (rest : List E) × (held_reversed h ≡ x ∷ rest) × (m.cell t ≡ Some x) × (map m.cell (real (drop 1 c.rooms)) ≡ map Some rest)
+    oldest = map_split (held_reversed h) (m.cell t) (map m.cell (real (drop 1 c.rooms))) (ap (map m.cell) (sym (real_first c.rooms t is_real keeps_tail.tail)) ∙ M.holds)
 
-    is_oldest : held h ≡ e ∷ oldest.1
+    is_oldest : held_reversed h ≡ e ∷ oldest.1
     is_oldest = oldest.2 ∙ ap (λ x. x ∷ oldest.1) (some_inj (sym oldest.3 ∙ full))
 
     not_tail : (x : ℕ) (o : Owner) → c.owner x ≡ o → (o ≡ Shared → ⊥) → update c.owner t (Spare k) x ≡ o

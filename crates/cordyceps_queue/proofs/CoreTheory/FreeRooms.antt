@@ -17,7 +17,7 @@ ltb_true i j lt = grind arith
 ltb_false : (i j : ℕ) → j ≤ i → ltb i j ≡ false
 ltb_false i j le = grind arith
 
--- a room behind another goes in behind it
+-- a room after another goes in after it
 with_later : (n i : ℕ) (free : List ℕ) → i < n → insert_room n (i ∷ free) ≡ i ∷ insert_room n free
 with_later n i free lt = ap (λ b. cond b (n ∷ i ∷ free) (i ∷ insert_room n free)) (ltb_false n i (omega arith))
 
@@ -112,7 +112,7 @@ module _ {E : Type 0} where
   free_pushed_other p [] y i now = ap (λ b. cond b (i ∷ []) []) now
   free_pushed_other p (x ∷ xs) y i now = ap (λ ys. cond (is_free_for p x) (i ∷ ys) ys) (free_pushed_other p xs y (suc i) now)
 
-  -- the least free room, by its place behind the stub
+  -- the least free room, by its place after the stub
   first_from : (p : ℕ) (rooms : List (Room E)) (i : ℕ) → first_of (free_from p (suc i) rooms) ≡ option_map suc (position_from (is_free_for p) i rooms)
   first_from p [] i = refl
   first_from p (x ∷ xs) i = let e : suc i ≡ i + 1 = omega arith in from (first_from p xs (suc i) ∙ ap (λ n. option_map suc (position_from (is_free_for p) n xs)) e) (is_free_for p x)
@@ -121,5 +121,5 @@ module _ {E : Type 0} where
       from rec true = refl
       from rec false = rec
 
-  pub first_behind : (p : ℕ) (next : Option ℕ) (rooms : List (Room E)) → least_free p (stub_room next ∷ rooms) ≡ option_map suc (position (is_free_for p) rooms)
-  first_behind p next rooms = first_from p rooms 0 ∙ ap (option_map suc) (sym (position_from-zero (is_free_for p) rooms))
+  pub first_after : (p : ℕ) (next : Option ℕ) (rooms : List (Room E)) → least_free p (stub_room next ∷ rooms) ≡ option_map suc (position (is_free_for p) rooms)
+  first_after p next rooms = first_from p rooms 0 ∙ ap (option_map suc) (sym (position_from-zero (is_free_for p) rooms))

@@ -125,7 +125,7 @@ module _ {E : Type 0} (h : List (Event ℕ E)) (m : Machine E) (was : CoreMeets 
       let rooms = real was.chain.rooms in
       let taken = cleared_rooms m.parties in
       let as_many : length (held h) ≡ length rooms =
-      ap length (held_of h was.meets.legal) ∙ (sym (length-map (past.held (reverse h)) Some) ∙ (sym (ap length was.meets.holds) ∙ length-map rooms (abstract_of m).cell)) in
+      ap length (held_of h was.meets.legal) ∙ (sym (length-map (past.held_reversed (reverse h)) Some) ∙ (sym (ap length was.meets.holds) ∙ length-map rooms (abstract_of m).cell)) in
       let placed : (r : ℕ) → 1 ≤ times r rooms → (i : ℕ) × ItemAt was.chain.rooms i r = λ r l. times_at r was.chain.rooms (omega (arith, real_times r was.chain.rooms)) in
       let few = full_few (rooms ++ taken) m.rooms
       (λ r. subst (λ n. n ≤ 1) (sym (tally_append (λ x. one_if (eqb x r)) rooms taken)) (one_of (times r rooms) (times r taken)
@@ -134,7 +134,7 @@ module _ {E : Type 0} (h : List (Event ℕ E)) (m : Machine E) (was : CoreMeets 
       (λ a b. let p = placed r a in let q = cleared_at r m.parties b in
       let no : IsReady Shared = subst IsReady (sym (made q.0 r q.1).0 ∙ was.meets.shared p.0 r p.1) tt in no)))
       (λ r l. elim (dec_le 1 (times r rooms)) [
-        | yes a ↦ cell_full (abstract_of m).cell r rooms (past.held (reverse h)) was.meets.holds a
+        | yes a ↦ cell_full (abstract_of m).cell r rooms (past.held_reversed (reverse h)) was.meets.holds a
         | no a ↦ let q = cleared_at r m.parties (omega (arith, a, l, tally_append (λ x. one_if (eqb x r)) rooms taken)) in (made q.0 r q.1).1
       ]) in
       omega (arith, few, length-append rooms taken, as_many, count_cleared m.parties)

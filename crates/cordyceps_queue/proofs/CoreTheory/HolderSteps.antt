@@ -2,10 +2,10 @@
 use Rattle.std.proofs.Common.{◌≡◌, ℕ, zero, suc, ◌<◌, ◌≤◌, ◌≢◌, List, [], ◌∷◌, map, length, Option, Some, None, refl, sym, ap, ◌∙◌, subst, inl, inr, arith}
 use native.Mathlib.Decide.{ℕ_discrete}
 use Rattle.cordyceps_queue.specs.History.{Event}
-use Rattle.cordyceps_queue.specs.Past.{held, holder, MayCome, IsSettled, IsPendingAt, IsBlocked, HasLooked, WasBlocked}
+use Rattle.cordyceps_queue.specs.Past.{held_reversed, holder_reversed, MayCome, IsSettled, IsPendingAt, IsBlockedReversed, HasLooked, WasBlockedReversed}
 use Rattle.cordyceps_queue.specs.declared.cores.stage.Stage.{Stage}
 use Rattle.cordyceps_queue.specs.declared.cores.stage.Stage.TheVariants.{Rest, Cleared, Swapped, Holding}
-use Rattle.cordyceps_queue.specs.Cores.Abstract.{update, AbstractParty, AbstractMachine, stands}
+use Rattle.cordyceps_queue.specs.Cores.Abstract.{update, AbstractParty, AbstractMachine, set_stage}
 use Rattle.cordyceps_shared.specs.Places.{ItemAt}
 use Rattle.cordyceps_queue.specs.Cores.Meets.{real, rank, Owner, Owes, tail_of, Chain, IsOut, OwnsRooms, Joined, Keeps, AtStage, RightIs, Meets}
 use Rattle.cordyceps_queue.proofs.CoreTheory.Basics.{some_inj, some_none, none_some, suc_zero, put_same, put_all, at_one, at_within}
@@ -13,7 +13,7 @@ use Rattle.cordyceps_queue.proofs.CoreTheory.ChainGrows.{held_length}
 use Rattle.cordyceps_queue.proofs.CoreTheory.OtherParties.{joined_put, names_put, strange, keeps_of, has_none}
 
 -- blocked now, and the party has looked
-pub was_now : {P E : Type 0} (q : P) (h : List (Event P E)) → HasLooked q h → IsBlocked h → WasBlocked q h
+pub was_now : {P E : Type 0} (q : P) (h : List (Event P E)) → HasLooked q h → IsBlockedReversed h → WasBlockedReversed q h
 was_now q [] l b = absurd l
 was_now q (Event.Look p ∷ h) l b = inl (l, b)
 was_now q (Event.Swap p e ∷ h) l b = inl (l, b)
@@ -35,7 +35,7 @@ at_some [] i lt = absurd (omega arith)
 at_some (x ∷ xs) zero lt = (x, refl)
 at_some (x ∷ xs) (suc i) lt = at_some xs i (omega arith)
 
--- the stub in front is no element
+-- the stub at the tail is no element
 stub_less : (xs : List ℕ) → ItemAt xs 0 0 → suc (length (real xs)) ≤ length xs
 stub_less [] a = absurd a
 stub_less (zero ∷ xs) a = let l = real_within xs in omega arith
@@ -75,11 +75,11 @@ module _ {P E : Type 0} (m : AbstractMachine P E) (c : Chain) (h : List (Event P
   zero_right = right_zero m.right m.party c.rooms h c.keeper k keeping.kept M.right
 
   -- the right stays with the party
-  pub right_with : (party : ℕ → Option (AbstractParty P)) (rooms : List ℕ) (h' : List (Event P E)) (q : AbstractParty P) (u : ℕ) → party k ≡ Some q → tail_of q.stage ≡ Some u → holder h' ≡ Some q.name → RightIs m.right party rooms h' c.keeper
+  pub right_with : (party : ℕ → Option (AbstractParty P)) (rooms : List ℕ) (h' : List (Event P E)) (q : AbstractParty P) (u : ℕ) → party k ≡ Some q → tail_of q.stage ≡ Some u → holder_reversed h' ≡ Some q.name → RightIs m.right party rooms h' c.keeper
   right_with party rooms h' q u e tail by = subst (RightIs m.right party rooms h') (sym keeping.kept) (zero_right, q, u, e, tail, by)
 
   -- only the stage changes
-  pub stage_keeps : (stage : Stage) → tail_of stage ≡ Some t → ((a b : ℕ) → Owes p.stage a b → Owes stage a b) → AtStage m.head m.next m.cell c.owner c.keeper c.rooms h k p.name stage → Meets (stands m k p stage) c h
+  pub stage_keeps : (stage : Stage) → tail_of stage ≡ Some t → ((a b : ℕ) → Owes p.stage a b → Owes stage a b) → AtStage m.head m.next m.cell c.owner c.keeper c.rooms h k p.name stage → Meets (set_stage m k p stage) c h
   stage_keeps stage has' on mine = record {
     legal = M.legal;
     last = M.last;
@@ -101,7 +101,7 @@ module _ {P E : Type 0} (m : AbstractMachine P E) (c : Chain) (h : List (Event P
       moved = record p { stage = stage }
 
   -- only the history grows, by a look or an answer
-  pub tell_keeps : (x : Event P E) → p.stage ≡ Holding t → MayCome x h → held (x ∷ h) ≡ held h → holder (x ∷ h) ≡ holder h → ((q : P) → IsSettled q h → IsSettled q (x ∷ h)) → ((q : P) (n : ℕ) → IsPendingAt q n h → IsPendingAt q n (x ∷ h)) → Meets m c (x ∷ h)
+  pub tell_keeps : (x : Event P E) → p.stage ≡ Holding t → MayCome x h → held_reversed (x ∷ h) ≡ held_reversed h → holder_reversed (x ∷ h) ≡ holder_reversed h → ((q : P) → IsSettled q h → IsSettled q (x ∷ h)) → ((q : P) (n : ℕ) → IsPendingAt q n h → IsPendingAt q n (x ∷ h)) → Meets m c (x ∷ h)
   tell_keeps x holding may same_held same_holder settled pending = record {
     legal = (may, M.legal);
     last = M.last;
@@ -127,8 +127,8 @@ module _ {P E : Type 0} (m : AbstractMachine P E) (c : Chain) (h : List (Event P
       mine : AtStage m.head m.next m.cell c.owner c.keeper c.rooms (x ∷ h) k p.name p.stage
       mine = subst (AtStage m.head m.next m.cell c.owner c.keeper c.rooms (x ∷ h) k p.name) (sym holding) (record { kept = keeping.kept; held_by = same_holder ∙ keeping.held_by; tail = keeping.tail; settled = settled p.name keeping.settled })
 
-  -- another party owes the link behind the tail
-  blocker : (j : ℕ) (q : P) (b : ℕ) (stage : Stage) → Owes stage t b → tail_of stage ≡ None → AtStage m.head m.next m.cell c.owner c.keeper c.rooms h j q stage → IsBlocked h
+  -- another party owes the tail's link
+  blocker : (j : ℕ) (q : P) (b : ℕ) (stage : Stage) → Owes stage t b → tail_of stage ≡ None → AtStage m.head m.next m.cell c.owner c.keeper c.rooms h j q stage → IsBlockedReversed h
   blocker j q b (Swapped x old) o none f =
       let first : f.0 ≡ 0 = M.once f.0 0 old f.1 (subst (ItemAt c.rooms 0) o.0 keeping.tail) in
       let l = rank_within c.rooms (suc f.0) in
@@ -137,14 +137,14 @@ module _ {P E : Type 0} (m : AbstractMachine P E) (c : Chain) (h : List (Event P
   blocker j q b (Cleared x) o none f = absurd o
   blocker j q b stage o none f = absurd (some_none none)
 
-  -- an open link behind the tail blocks
-  pub open_blocks : ((a b : ℕ) → Owes p.stage a b → ⊥) → m.next t ≡ None → m.head ≢ t → IsBlocked h
+  -- an open link of the tail blocks
+  pub open_blocks : ((a b : ℕ) → Owes p.stage a b → ⊥) → m.next t ≡ None → m.head ≢ t → IsBlockedReversed h
   open_blocks nothing null far =
       let long : M.last.0 ≢ 0 = λ e. far (at_one c.rooms 0 m.head t (subst (λ i. ItemAt c.rooms i m.head) e M.last.2) keeping.tail) in
       let second = at_some c.rooms 1 (omega (arith, M.last.1)) in
       from second.0 (M.joined 0 t second.0 keeping.tail second.1)
     where
-      from : (b : ℕ) → Joined m.next m.party t b → IsBlocked h
+      from : (b : ℕ) → Joined m.next m.party t b → IsBlockedReversed h
       from b (inl l) = absurd (some_none (sym l ∙ null))
       from b (inr o) = elim (ℕ_discrete o.1.0 k) [
         | yes same ↦ let e : o.1.1 ≡ p = some_inj (sym o.1.2 ∙ ap m.party same ∙ at) in absurd (nothing t b (subst (λ (r : AbstractParty P). Owes r.stage t b) e o.1.3))
@@ -155,11 +155,11 @@ module _ {P E : Type 0} (m : AbstractMachine P E) (c : Chain) (h : List (Event P
   only : m.head ≡ t → M.last.0 ≡ 0
   only same = M.once M.last.0 0 t (subst (ItemAt c.rooms M.last.0) same M.last.2) keeping.tail
 
-  pub none_held : t ≡ 0 → m.head ≡ t → held h ≡ []
+  pub none_held : t ≡ 0 → m.head ≡ t → held_reversed h ≡ []
   none_held stub same =
       let l = stub_less c.rooms (subst (ItemAt c.rooms 0) stub keeping.tail) in
       let e = only same in
-      no_items (held h) (omega (arith, held_length m c h M, M.last.1))
+      no_items (held_reversed h) (omega (arith, held_length m c h M, M.last.1))
 
   pub stub_out : t ≢ 0 → m.head ≡ t → IsOut c.rooms
   stub_out real same i a =

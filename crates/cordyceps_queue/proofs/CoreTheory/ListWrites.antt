@@ -32,7 +32,7 @@ module _ {X : Type 0} where
   get_push_other (y ∷ xs) x zero ne = refl
   get_push_other (y ∷ xs) x (suc j) ne = get_push_other xs x j (λ e. ne (ap suc e))
 
-  -- no item stands behind the last
+  -- no item is after the last
   pub get_beyond : (xs : List X) → slice_get xs (length xs) ≡ None
   get_beyond [] = refl
   get_beyond (x ∷ xs) = get_beyond xs
@@ -79,10 +79,10 @@ module _ {X A : Type 0} (get : Option X → A) where
       at (y ∷ xs) (suc j) = at xs j
 
 module _ {X : Type 0} where
-  -- a write behind the first item
-  pub set_behind : (f : X → X) (x : X) (xs : List X) (i : ℕ) (d : X) → 0 < i → i < suc (length xs) → x ∷ slice_set xs (i - 1) (f (slice_index_or xs (i - 1) d)) ≡ change f i (x ∷ xs)
-  set_behind f x xs zero d pos lt = absurd (omega arith)
-  set_behind f x xs (suc i) d pos lt =
+  -- a write after the first item
+  pub set_after : (f : X → X) (x : X) (xs : List X) (i : ℕ) (d : X) → 0 < i → i < suc (length xs) → x ∷ slice_set xs (i - 1) (f (slice_index_or xs (i - 1) d)) ≡ change f i (x ∷ xs)
+  set_after f x xs zero d pos lt = absurd (omega arith)
+  set_after f x xs (suc i) d pos lt =
       let e : suc i - 1 ≡ i = omega arith in
       ap (λ n. x ∷ slice_set xs n (f (slice_index_or xs n d))) e ∙ ap (λ ys. x ∷ ys) (set_change f xs i (slice_index_or xs i d) (at xs i (omega arith)))
     where
@@ -91,9 +91,9 @@ module _ {X : Type 0} where
       at (y ∷ ys) zero lt = refl
       at (y ∷ ys) (suc i) lt = at ys i (omega arith)
 
-  pub get_behind : (x : X) (xs : List X) (i : ℕ) (d : X) → 0 < i → i < suc (length xs) → slice_get (x ∷ xs) i ≡ Some (slice_index_or xs (i - 1) d)
-  get_behind x xs zero d pos lt = absurd (omega arith)
-  get_behind x xs (suc i) d pos lt = let e : suc i - 1 ≡ i = omega arith in at xs i (omega arith) ∙ ap (λ n. Some (slice_index_or xs n d)) (sym e)
+  pub get_after : (x : X) (xs : List X) (i : ℕ) (d : X) → 0 < i → i < suc (length xs) → slice_get (x ∷ xs) i ≡ Some (slice_index_or xs (i - 1) d)
+  get_after x xs zero d pos lt = absurd (omega arith)
+  get_after x xs (suc i) d pos lt = let e : suc i - 1 ≡ i = omega arith in at xs i (omega arith) ∙ ap (λ n. Some (slice_index_or xs n d)) (sym e)
     where
       at : (xs : List X) (i : ℕ) → i < length xs → slice_get xs i ≡ Some (slice_index_or xs i d)
       at [] i lt = absurd (omega arith)

@@ -3,7 +3,7 @@ use Rattle.std.proofs.Common.{◌≡◌, ℕ, suc, ◌≢◌, ◌⊎◌, List, [
 use native.Mathlib.Decide.{ℕ_discrete}
 use Rattle.std.proofs.lemmas.List.{map-append}
 use Rattle.cordyceps_queue.specs.History.{Event}
-use Rattle.cordyceps_queue.specs.Past.{held, holder, IsPendingAt, HasLooked, WasBlocked}
+use Rattle.cordyceps_queue.specs.Past.{held_reversed, holder_reversed, IsPendingAt, HasLooked, WasBlockedReversed}
 use Rattle.cordyceps_queue.specs.declared.cores.stage.Stage.{Stage}
 use Rattle.cordyceps_queue.specs.declared.cores.stage.Stage.TheVariants.{Rest, Cleared, Swapped, Holding, StubNull, Second, Null, PutClear, PutSwap, PutLink, PutRead}
 use Rattle.cordyceps_queue.specs.Cores.Abstract.{update, AbstractParty, AbstractMachine, clear_room, swap_head, link_next}
@@ -123,9 +123,9 @@ module _ {P E : Type 0} (m : AbstractMachine P E) (c : Chain) (h : List (Event P
     owes_nothing : (a b : ℕ) → Owes p.stage a b → Owes (Swapped r m.head) a b
     owes_nothing a b o = absurd (subst (λ l. Owes l a b) ready o)
 
-    newly : (q : P) (t : ℕ) → ItemAt c.rooms 0 t → HasLooked q h → ((m.head ≢ t) → WasBlocked q h) → WasBlocked q (Event.Swap p.name e ∷ h)
+    newly : (q : P) (t : ℕ) → ItemAt c.rooms 0 t → HasLooked q h → ((m.head ≢ t) → WasBlockedReversed q h) → WasBlockedReversed q (Event.Swap p.name e ∷ h)
     newly q t first looked before = elim (ℕ_discrete m.head t) [
-      | yes same ↦ inl (looked, (p.name, length (held h), alone m c h M t first same, inl (refl, refl)))
+      | yes same ↦ inl (looked, (p.name, length (held_reversed h), alone m c h M t first same, inl (refl, refl)))
       | no ne ↦ inr (before ne)
     ]
 
@@ -182,7 +182,7 @@ module _ {P E : Type 0} (m : AbstractMachine P E) (c : Chain) (h : List (Event P
       stub = put_other c.owner r Shared 0 (other_room 0 M.stub) ∙ M.stub;
       unmade = λ x lt. put_other c.owner r Shared x (λ s. ready_unmade (ap c.owner s ∙ was.1) (M.unmade x lt)) ∙ M.unmade x lt;
       holds = ap (map m.cell) (real_more c.rooms (r ∷ []) ∙ ap (λ l. real c.rooms ++ l) (real_one r was.2)) ∙ map-append m.cell (real c.rooms) (r ∷ [])
-          ∙ ap (λ l. l ++ m.cell r ∷ []) M.holds ∙ ap (λ x. map Some (held h) ++ x ∷ []) full ∙ sym (map-append Some (held h) (e ∷ []));
+          ∙ ap (λ l. l ++ m.cell r ∷ []) M.holds ∙ ap (λ x. map Some (held_reversed h) ++ x ∷ []) full ∙ sym (map-append Some (held_reversed h) (e ∷ []));
       right = right_more m.right _ c.rooms r h (Event.Swap p.name e) c.keeper refl (right_put m.party k p swapped_party at m.right c.rooms h c.keeper (ap tail_of ready) M.right);
       fits = put_all (λ j q. AtStage r m.next m.cell (update c.owner r Shared) c.keeper (c.rooms ++ r ∷ []) (Event.Swap p.name e ∷ h) j q.name q.stage) m.party k swapped_party
           (λ j q ne eq. swap_others j q.name q.stage ne (λ s. ne (M.names j k q p eq at s)) (M.fits j q eq))
@@ -289,7 +289,7 @@ module _ {P E : Type 0} (m : AbstractMachine P E) (c : Chain) (h : List (Event P
   busy_others j q (PutRead t) f = (busy_real j q t f.0, f.1)
 
   -- the right is out with another party
-  out_with : p.stage ≡ Rest → m.right ≡ 0 → (keeper : Option ℕ) → RightIs m.right m.party c.rooms h keeper → (q : P) × (holder h ≡ Some q) × (p.name ≢ q)
+  out_with : p.stage ≡ Rest → m.right ≡ 0 → (keeper : Option ℕ) → RightIs m.right m.party c.rooms h keeper → (q : P) × (holder_reversed h ≡ Some q) × (p.name ≢ q)
   out_with rest taken None R = absurd (suc_zero (sym R.2 ∙ taken))
   out_with rest taken (Some j) R = (
     R.1.name,

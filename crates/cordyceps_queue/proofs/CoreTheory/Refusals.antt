@@ -7,7 +7,7 @@ use Rattle.cordyceps_queue.specs.declared.cores.stage.Stage.TheVariants.{Rest, C
 use Rattle.cordyceps_queue.specs.declared.cores.steps.QueueStep.{QueueStep}
 use Rattle.cordyceps_queue.specs.declared.cores.steps.QueueStep.TheVariants as step
 use Rattle.cordyceps_shared.specs.Rooms.{element_in, next_in}
-use Rattle.cordyceps_queue.specs.Cores.Machine.{Machine, Outcome, step_element, least_free, clear, take, hand_out, read_stub, read, read_again, look, head_stub, head_tail, may_take_at, is_there, stepped_at, stepped}
+use Rattle.cordyceps_queue.specs.Cores.Machine.{Machine, Outcome, step_element, least_free, clear, take, hand_out, read_stub, read, read_again, look, head_stub, head_tail, may_take_at, is_there, after_step_at, after_step}
 use Rattle.cordyceps_queue.specs.Cores.CoreMeets.{IsSound}
 use Rattle.cordyceps_queue.proofs.CoreTheory.Basics.{none_some, suc_zero}
 use Rattle.cordyceps_queue.proofs.CoreTheory.RoomsAtStages.{holding_full, second_full, put_read_full}
@@ -56,7 +56,7 @@ module _ {E : Type 0} where
   exact_head_tail m p t true = (refl, tt)
   exact_head_tail m p t false = (refl, tt)
 
-  exact_at : (m : Machine E) (p : ℕ) (s : QueueStep E) (o : Option Stage) → IsSound m → slice_get m.parties p ≡ o → Exact m s (may_take_at (least_free p m.rooms) o s) (stepped_at m p o s)
+  exact_at : (m : Machine E) (p : ℕ) (s : QueueStep E) (o : Option Stage) → IsSound m → slice_get m.parties p ≡ o → Exact m s (may_take_at (least_free p m.rooms) o s) (after_step_at m p o s)
   exact_at m p s None sound at = (refl, (refl, refl))
   exact_at m p (step.Clear (Some e)) (Some Rest) sound at = exact_clear m p e (least_free p m.rooms)
   exact_at m p step.Take (Some Rest) sound at = exact_take m p m.right
@@ -73,5 +73,5 @@ module _ {E : Type 0} where
   exact_at m p step.ReadNext (Some (PutRead t)) sound at = exact_read_again m p t (next_in (slice_get m.rooms t)) (put_read_full m sound p t at)
   exact_at m p s (Some stage) sound at = (refl, (refl, refl))
 
-  pub exact : (m : Machine E) (p : ℕ) (s : QueueStep E) → IsSound m → Exact m s (is_there m p s) (stepped m p s)
+  pub exact : (m : Machine E) (p : ℕ) (s : QueueStep E) → IsSound m → Exact m s (is_there m p s) (after_step m p s)
   exact m p s sound = exact_at m p s (slice_get m.parties p) sound refl

@@ -1,4 +1,4 @@
--- What stands in the rooms at the stages of a core's parties.
+-- What is in the rooms at the stages of a core's parties.
 use Rattle.std.proofs.Common.{◌≡◌, ◌≢◌, ℕ, zero, suc, ◌<◌, ◌≤◌, ◌⊎◌, List, [], ◌∷◌, length, reverse, refl, ap, sym, inl, inr, arith}
 use Rattle.std.specs.Prelude.{Some, slice_get}
 use Rattle.std.proofs.lemmas.Bool.{cases_lt}

@@ -14,7 +14,7 @@ use Rattle.cordyceps_queue.specs.declared.cores.steps.QueueAnswer.TheVariants as
 use Rattle.cordyceps_queue.specs.History.{Event}
 use Rattle.cordyceps_queue.specs.Cores.Machine as core
 use Rattle.cordyceps_shared.specs.Rooms.{change, linking, freeing, next_in, element_in, is_free_for}
-use Rattle.cordyceps_queue.specs.Cores.Machine.{Machine, Outcome, holding, free_rooms, refused, events_of}
+use Rattle.cordyceps_queue.specs.Cores.Machine.{Machine, Outcome, with_element, free_rooms, refusal, events_of}
 use Rattle.cordyceps_queue.specs.Cores.Abstract as words
 use Rattle.cordyceps_queue.specs.Cores.Abstract.{AbstractParty, AbstractMachine, Move, update, insert_room}
 use Rattle.cordyceps_shared.specs.Places.{ItemAt}
@@ -67,7 +67,7 @@ module _ {E : Type 0} where
 
   -- the outcome is that of the move, with its events
   abbrev pub Follows : Machine E → ℕ → Stage → QueueStep E → Option (Move ℕ E) → Outcome E → Type 0
-  Follows m p stage s None out = out ≡ refused m s
+  Follows m p stage s None out = out ≡ refusal m s
   Follows m p stage s (Some v) out = (abstract_of out.0 ≡ v.after) × (out.1 ≡ Ok v.answer) × (events_of p m.rooms (Some stage) s out.1 ≡ reverse v.events) × IsOwned out.0
 
   abbrev pub me_of : Machine E → ℕ → Stage → AbstractParty ℕ
@@ -83,7 +83,7 @@ module _ {E : Type 0} where
 
     -- the rooms stay
     stays : (head : ℕ) (right : Option ℕ) (new : Stage) →
-        (abstract_of (record { head = head; right = right; rooms = m.rooms; parties = slice_set m.parties p new }) ≡ record (words.stands (abstract_of m) p me new) { head = head; right = right_word right })
+        (abstract_of (record { head = head; right = right; rooms = m.rooms; parties = slice_set m.parties p new }) ≡ record (words.set_stage (abstract_of m) p me new) { head = head; right = right_word right })
         × IsOwned (record { head = head; right = right; rooms = m.rooms; parties = slice_set m.parties p new })
     stays head right new = (
       words_eq head (right_word right) (length m.rooms) (length m.rooms) (read next_in m.rooms) (read next_in m.rooms) (read element_in m.rooms) (read element_in m.rooms) _ _ refl refl refl
@@ -94,7 +94,7 @@ module _ {E : Type 0} where
     -- a room is linked
     links : (at_room : ℕ) (room : Room E) (next : Option ℕ) (new : Stage) → slice_get m.rooms at_room ≡ Some room →
         let after : Machine E = record { head = m.head; right = m.right; rooms = change (linking next) at_room m.rooms; parties = slice_set m.parties p new } in
-        (abstract_of after ≡ record (words.stands (abstract_of m) p me new) { next = update (read next_in m.rooms) at_room next }) × IsOwned after
+        (abstract_of after ≡ record (words.set_stage (abstract_of m) p me new) { next = update (read next_in m.rooms) at_room next }) × IsOwned after
     links at_room room next new there =
         let same : (k : ℕ) → free_rooms k (change (linking next) at_room m.rooms) ≡ free_rooms k m.rooms = λ k. free_same k (linking next) m.rooms 0 at_room (λ y e. refl) in (
           words_eq m.head (right_word m.right) (length (change (linking next) at_room m.rooms)) (length m.rooms) (read next_in (change (linking next) at_room m.rooms)) (update (read next_in m.rooms) at_room next)
@@ -106,18 +106,18 @@ module _ {E : Type 0} where
 
     -- the least free room gets an element
     holds : (e : E) (r : ℕ) (rest : List ℕ) → free_rooms p m.rooms ≡ r ∷ rest →
-        let after : Machine E = record { head = m.head; right = m.right; rooms = change (holding e) r m.rooms; parties = slice_set m.parties p (Cleared r) } in
+        let after : Machine E = record { head = m.head; right = m.right; rooms = change (with_element e) r m.rooms; parties = slice_set m.parties p (Cleared r) } in
         (abstract_of after ≡ words.clear_room (abstract_of m) p me r rest e) × IsOwned after
     holds e r rest free =
-        let w = free_first p (holding e) m.rooms 0 r rest (λ y. refl) free in
+        let w = free_first p (with_element e) m.rooms 0 r rest (λ y. refl) free in
         let same : r ≡ w.0 = omega (arith, w.2) in
         let there : slice_get m.rooms r ≡ Some w.1 = ap (slice_get m.rooms) same ∙ w.3 in
-        let others : (k : ℕ) → k ≢ p → free_rooms k (change (holding e) r m.rooms) ≡ free_rooms k m.rooms = λ k ne. free_same k (holding e) m.rooms 0 r (λ y got. sym (not_mine k ne y (some_inj (sym there ∙ got)) w.4)) in (
-          words_eq m.head (right_word m.right) (length (change (holding e) r m.rooms)) (length m.rooms) (read next_in (change (holding e) r m.rooms)) (update (read next_in m.rooms) r None)
-              (read element_in (change (holding e) r m.rooms)) (update (read element_in m.rooms) r (Some e)) _ _
-              (length-change (holding e) r m.rooms) (read_changed next_in (holding e) m.rooms r w.1 there) (read_changed element_in (holding e) m.rooms r w.1 there)
-              (parties_put m.rooms (change (holding e) r m.rooms) m.parties p stage (Cleared r) rest at (ap (λ n. free_rooms p (change (holding e) n m.rooms)) same ∙ w.5) others),
-          owned_by m.head m.right (change (holding e) r m.rooms) (Cleared r) others,
+        let others : (k : ℕ) → k ≢ p → free_rooms k (change (with_element e) r m.rooms) ≡ free_rooms k m.rooms = λ k ne. free_same k (with_element e) m.rooms 0 r (λ y got. sym (not_mine k ne y (some_inj (sym there ∙ got)) w.4)) in (
+          words_eq m.head (right_word m.right) (length (change (with_element e) r m.rooms)) (length m.rooms) (read next_in (change (with_element e) r m.rooms)) (update (read next_in m.rooms) r None)
+              (read element_in (change (with_element e) r m.rooms)) (update (read element_in m.rooms) r (Some e)) _ _
+              (length-change (with_element e) r m.rooms) (read_changed next_in (with_element e) m.rooms r w.1 there) (read_changed element_in (with_element e) m.rooms r w.1 there)
+              (parties_put m.rooms (change (with_element e) r m.rooms) m.parties p stage (Cleared r) rest at (ap (λ n. free_rooms p (change (with_element e) n m.rooms)) same ∙ w.5) others),
+          owned_by m.head m.right (change (with_element e) r m.rooms) (Cleared r) others,
         )
       where
         not_mine : (k : ℕ) → k ≢ p → (y : Room E) {x : Room E} → x ≡ y → is_free_for p x ≡ true → is_free_for k y ≡ false

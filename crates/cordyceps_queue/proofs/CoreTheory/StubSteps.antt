@@ -131,7 +131,7 @@ module _ {P E : Type 0} (m : AbstractMachine P E) (c : Chain) (h : List (Event P
           (subst (λ n. (n ≡ Some b) ⊎ ((n ≡ None) × Owed m.party a b)) (sym (put_other m.next old (Some 0) a apart)) (M.joined i a b ia ib))
     ]
 
-    -- head is behind the stub's neighbour
+    -- head is after the stub's neighbour
     head_far : (i : ℕ) → i ≡ M.last.0 → i ≢ open_stub.1.0
     head_far i e s = let l = at_within c.rooms (suc open_stub.1.0) 0 open_stub.1.2 in absurd (omega (arith, M.last.1))
 

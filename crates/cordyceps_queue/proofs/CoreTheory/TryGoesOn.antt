@@ -4,9 +4,9 @@ use Rattle.std.specs.Prelude.{Some, Ok, slice_get}
 use Rattle.cordyceps_queue.specs.declared.cores.stage.Stage.TheVariants.{Rest}
 use Rattle.cordyceps_queue.specs.declared.cores.steps.QueueStep.TheVariants as step
 use Rattle.cordyceps_queue.specs.declared.cores.steps.QueueAnswer.TheVariants as answer
-use Rattle.cordyceps_queue.specs.Cores.Machine.{Machine, Answered, Outcome, stepped}
+use Rattle.cordyceps_queue.specs.Cores.Machine.{Machine, Answered, Outcome, after_step}
 use Rattle.cordyceps_queue.specs.Cores.CoreMeets.{IsSound}
-use Rattle.cordyceps_queue.specs.Cores.Alone.{next_step, is_done, goes_on, tries, gives_back, takes_first, dequeued_at, dequeued}
+use Rattle.cordyceps_queue.specs.Cores.Alone.{next_step, is_done, goes_on, tries, gives_back, takes_first, after_dequeue_at, after_dequeue}
 use Rattle.cordyceps_queue.proofs.CoreTheory.CoreKeeps.{sound_step}
 
 module _ {E : Type 0} where
@@ -23,11 +23,11 @@ module _ {E : Type 0} where
     pub sound : IsSound m
     pub same : tries p (6 - c) m ≡ tries p 6 first
 
-  module _ (p : ℕ) (first m m' : Machine E) (c : ℕ) (r : Answered E) (lt : c < 6) (g : Going p first m c) (machine : m' ≡ (stepped m p (next_step (slice_get m.parties p))).0) (told : r ≡ (stepped m p (next_step (slice_get m.parties p))).1) where
+  module _ (p : ℕ) (first m m' : Machine E) (c : ℕ) (r : Answered E) (lt : c < 6) (g : Going p first m c) (out : ◌≡◌ {A = Outcome E} (m', r) (after_step m p (next_step (slice_get m.parties p)))) where
     on : goes_on (tries p (6 - (c + 1))) m' r ≡ tries p 6 first
     on =
         let n : suc (6 - (c + 1)) ≡ 6 - c = omega arith in
-        ap (λ x. goes_on (tries p (6 - (c + 1))) x r) machine ∙ ap (goes_on (tries p (6 - (c + 1))) (stepped m p (next_step (slice_get m.parties p))).0) told ∙ ap (λ k. tries p k m) n ∙ g.same
+        ap (λ (o : Outcome E). goes_on (tries p (6 - (c + 1))) o.0 o.1) out ∙ ap (λ k. tries p k m) n ∙ g.same
 
     pub going_more : IsSound m' → is_done r ≡ true → Going p first m' (c + 1)
     going_more s yes_done = let done = done_of r yes_done in record { sound = s; same = ap (goes_on (tries p (6 - (c + 1))) m') (sym done) ∙ on }
@@ -38,19 +38,18 @@ module _ {E : Type 0} where
   pub sound_tries : (p n : ℕ) (m : Machine E) → IsSound m → IsSound (tries p n m).0
   sound_tries p zero m s = sound_step m p (next_step (slice_get m.parties p)) s
   sound_tries p (suc n) m s =
-      let after : Machine E = (stepped m p (next_step (slice_get m.parties p))).0 in
-      let s' : IsSound (stepped m p (next_step (slice_get m.parties p))).0 = sound_step m p (next_step (slice_get m.parties p)) s in
-      from (stepped m p (next_step (slice_get m.parties p))).0 s' (sound_tries p n (stepped m p (next_step (slice_get m.parties p))).0 s') (stepped m p (next_step (slice_get m.parties p))).1
+      let after : Machine E = (after_step m p (next_step (slice_get m.parties p))).0 in
+      let s' : IsSound (after_step m p (next_step (slice_get m.parties p))).0 = sound_step m p (next_step (slice_get m.parties p)) s in
+      from (after_step m p (next_step (slice_get m.parties p))).0 s' (sound_tries p n (after_step m p (next_step (slice_get m.parties p))).0 s') (after_step m p (next_step (slice_get m.parties p))).1
     where
       from : (m' : Machine E) → IsSound m' → IsSound (tries p n m').0 → (r : Answered E) → IsSound (goes_on (tries p n) m' r).0
       from m' s rest (Ok answer.Done) = rest
       from m' s rest r = s
 
   -- a call from rest, where the right was free
-  pub taken_gives : (m m1 m2 m3 : Machine E) (p : ℕ) (r a : Answered E) → slice_get m.parties p ≡ Some Rest → m1 ≡ (stepped m p step.Take).0 → r ≡ (stepped m p step.Take).1 → r ≡ Ok answer.Taken →
-      m2 ≡ (tries p 6 m1).0 → a ≡ (tries p 6 m1).1 → m3 ≡ (stepped m2 p step.Give).0 → (m3 ≡ (dequeued m p).0) × (a ≡ (dequeued m p).1)
-  taken_gives m m1 m2 m3 p r a at first told taken second found third =
-      let whole : dequeued m p ≡ gives_back p (tries p 6 (stepped m p step.Take).0) = ap (dequeued_at p m) at ∙ ap (takes_first p (stepped m p step.Take).0) (sym told ∙ taken) in (
-        third ∙ ap (λ (n : Machine E). (stepped n p step.Give).0) (second ∙ ap (λ (n : Machine E). (tries p 6 n).0) first) ∙ ap (λ (o : Outcome E). o.0) (sym whole),
-        found ∙ ap (λ (n : Machine E). (tries p 6 n).1) first ∙ ap (λ (o : Outcome E). o.1) (sym whole),
-      )
+  pub taken_gives : (m m1 m2 m3 : Machine E) (p : ℕ) (r a : Answered E) → slice_get m.parties p ≡ Some Rest → ◌≡◌ {A = Outcome E} (m1, r) (after_step m p step.Take) → r ≡ Ok answer.Taken →
+      ◌≡◌ {A = Outcome E} (m2, a) (tries p 6 m1) → m3 ≡ (after_step m2 p step.Give).0 → ◌≡◌ {A = Outcome E} (m3, a) (after_dequeue m p)
+  taken_gives m m1 m2 m3 p r a at first taken second third =
+      let told : r ≡ (after_step m p step.Take).1 = ap (λ (o : Outcome E). o.1) first in
+      let whole : after_dequeue m p ≡ gives_back p (tries p 6 (after_step m p step.Take).0) = ap (after_dequeue_at p m) at ∙ ap (takes_first p (after_step m p step.Take).0) (sym told ∙ taken) in
+      ap (λ (n : Machine E). (n, a)) third ∙ ap (gives_back p) second ∙ ap (λ (o : Outcome E). gives_back p (tries p 6 o.0)) first ∙ sym whole

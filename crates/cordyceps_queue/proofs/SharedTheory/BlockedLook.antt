@@ -18,7 +18,7 @@ use Rattle.cordyceps_queue.proofs.Legality.{front_legal}
 use Rattle.cordyceps_queue.proofs.SharedTheory.BlockedPast.{since_look}
 
 module _ {X : Type 0} where
-  -- where the last own event stands
+  -- where the last own event is
   record LastOwn (seen : List (Bool × X)) (es : List X) (x : X) : Type 0 where
     pub before : List (Bool × X)
     pub later : List (Bool × X)
@@ -42,21 +42,21 @@ module _ {X : Type 0} where
       let l = last_own seen es x more in
       record { before = (true, y) ∷ l.before; later = l.later; is = ap (λ r. (true, y) ∷ r) l.is; first = (λ i. same i ∷ l.first i); none = l.none }
 
-  -- a beginning of what was seen, with its marks
+  -- a prefix of what was seen, with its marks
   record Front (seen : List (Bool × X)) (xs : List X) : Type 0 where
     pub front : List (Bool × X)
-    pub behind : List (Bool × X)
-    pub is : seen ≡ front ++ behind
+    pub after : List (Bool × X)
+    pub is : seen ≡ front ++ after
     pub plainly : plain front ≡ xs
 
   front_of : (seen : List (Bool × X)) (xs ys : List X) → plain seen ≡ xs ++ ys → Front seen xs
-  front_of seen [] ys e = record { front = []; behind = seen; is = refl; plainly = refl }
+  front_of seen [] ys e = record { front = []; after = seen; is = refl; plainly = refl }
   front_of [] (x ∷ xs) ys e = absurd (cc)
   front_of (s ∷ seen) (x ∷ xs) ys e =
       let same : s.1 ≡ x = cc in
       let more : plain seen ≡ xs ++ ys = cc in
       let f = front_of seen xs ys more in
-      record { front = s ∷ f.front; behind = f.behind; is = ap (λ z. s ∷ z) f.is; plainly = (λ i. same i ∷ f.plainly i) }
+      record { front = s ∷ f.front; after = f.after; is = ap (λ z. s ∷ z) f.is; plainly = (λ i. same i ∷ f.plainly i) }
 
   none_front : (xs ys : List (Bool × X)) → own (xs ++ ys) ≡ [] → own xs ≡ []
   none_front [] ys e = refl
@@ -75,7 +75,7 @@ module _ {E : Type 0} where
       let seen_is : v.known.seen ≡ early ++ (true, look) ∷ l.later = a.is ∙ (ap (λ r. u.known.seen ++ r) l.is ∙ sym (append_assoc u.known.seen l.before ((true, look) ∷ l.later))) in
       let plain_is : plain v.known.seen ≡ plain early ++ look ∷ plain l.later = ap (λ r. plain r) seen_is ∙ plain_append early ((true, look) ∷ l.later) in
       let back : reverse (plain v.known.seen) ≡ reverse (plain l.later) ++ look ∷ reverse (plain early) = ap reverse plain_is ∙ turned (plain early) (plain l.later) look in
-      let cut = since_look (name v) (reverse (plain early)) (reverse (plain l.later)) (subst (past.WasBlocked (name v)) back b) in
+      let cut = since_look (name v) (reverse (plain early)) (reverse (plain l.later)) (subst (past.WasBlockedReversed (name v)) back b) in
       let parts : plain l.later ≡ reverse cut.now ++ reverse cut.later = sym (reverse-reverse (plain l.later)) ∙ (ap reverse cut.is ∙ reverse-append cut.later cut.now) in
       let f = front_of l.later (reverse cut.now) (reverse cut.later) parts in
       let began = early ++ (true, look) ∷ f.front in
@@ -83,11 +83,11 @@ module _ {E : Type 0} where
       ap reverse (plain_append early ((true, look) ∷ f.front)) ∙ (turned (plain early) (plain f.front) look
       ∙ ap (λ r. r ++ look ∷ reverse (plain early)) (ap reverse f.plainly ∙ reverse-reverse cut.now)) in
       let all : reverse (plain v.known.seen) ≡ cut.later ++ (cut.now ++ look ∷ reverse (plain early)) = back ∙ (ap (λ r. r ++ look ∷ reverse (plain early)) cut.is ∙ append_assoc cut.later cut.now (look ∷ reverse (plain early))) in
-      let legal = front_legal cut.later (cut.now ++ look ∷ reverse (plain early)) (subst (λ r. past.IsLegal r) all a.legal) in record {
+      let legal = front_legal cut.later (cut.now ++ look ∷ reverse (plain early)) (subst (λ r. past.IsLegalReversed r) all a.legal) in record {
         past = began;
-        later = f.behind ++ c.rest;
-        is = c.is ∙ (ap (λ r. r ++ c.rest) (seen_is ∙ (ap (λ r. early ++ (true, look) ∷ r) f.is ∙ sym (append_assoc early ((true, look) ∷ f.front) f.behind))) ∙ append_assoc began f.behind c.rest);
-        adds = own_append early ((true, look) ∷ f.front) ∙ ((λ i. own_append u.known.seen l.before i ++ look ∷ none_front f.front f.behind (ap (λ r. own r) (sym f.is) ∙ l.none) i)
+        later = f.after ++ c.rest;
+        is = c.is ∙ (ap (λ r. r ++ c.rest) (seen_is ∙ (ap (λ r. early ++ (true, look) ∷ r) f.is ∙ sym (append_assoc early ((true, look) ∷ f.front) f.after))) ∙ append_assoc began f.after c.rest);
+        adds = own_append early ((true, look) ∷ f.front) ∙ ((λ i. own_append u.known.seen l.before i ++ look ∷ none_front f.front f.after (ap (λ r. own r) (sym f.is) ∙ l.none) i)
             ∙ (append_assoc (own u.known.seen) (own l.before) (look ∷ []) ∙ ap (λ r. own u.known.seen ++ (r ++ look ∷ [])) l.first));
-        blocked = told_blocked same_name (plain began) (subst (λ r. past.IsLegal r) (sym began_is) legal) (subst (λ r. past.IsBlocked r) (sym began_is) cut.blocked);
+        blocked = told_blocked same_name (plain began) (subst (λ r. past.IsLegalReversed r) (sym began_is) legal) (subst (λ r. past.IsBlockedReversed r) (sym began_is) cut.blocked);
       }

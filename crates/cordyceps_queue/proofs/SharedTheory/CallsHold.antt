@@ -50,7 +50,7 @@ module _ {E : Type 0} where
   enqueues z z' m k e ticket before after at free g =
       (adds z z' m.0 k.0 (Swap (name m.0) e ∷ Link (name m.0) ∷ []) g at, ap length ((λ i. before i ++ free i) ∙ ap (λ (xs : List ℕ). ticket ∷ (xs ++ k.0.free)) (sym after)))
 
-  -- ---- taking one out
+  -- ---- a call takes one out
   same_rooms : (m k : SeatState E) → m.0.back ≡ [] → k.0.back ≡ [] → k.0.free ≡ m.0.free → length (k.0.back ++ k.0.free) ≡ length (m.0.back ++ m.0.free)
   same_rooms m k before after free = ap length ((λ i. after i ++ free i) ∙ ap (λ (xs : List ℕ). xs ++ m.0.free) (sym before))
 

@@ -17,10 +17,10 @@ use Rattle.cordyceps_queue.proofs.SharedTheory.TriesInTurn.{Run, run_holds}
 
 module _ {E : Type 0} where
   -- the legal history of a whole party that added these events, the newest first
-  back_legal : (u w : PartyOf E) (es : List (Event Name E)) → u.share ≡ whole → Adds u es w → past.IsLegal (reverse es ++ reverse (plain u.seen))
+  back_legal : (u w : PartyOf E) (es : List (Event Name E)) → u.share ≡ whole → Adds u es w → past.IsLegalReversed (reverse es ++ reverse (plain u.seen))
   back_legal u w es is a =
       let all = whole_adds actor (λ h. Legal h) u w es is a in
-      subst (λ r. past.IsLegal r) (ap reverse all ∙ reverse-append (plain u.seen) es) ((legal_both_ways Name E same_name (plain w.seen)).0 a.0.legal)
+      subst (λ r. past.IsLegalReversed r) (ap reverse all ∙ reverse-append (plain u.seen) es) ((legal_both_ways Name E same_name (plain w.seen)).0 a.0.legal)
 
   pub takes_first : (u w : PartyOf E) (e : E) → u.share ≡ whole → Dequeues (Ok e) u w → held (plain u.seen) ≡ e ∷ held (plain w.seen)
   takes_first u w e is d =
@@ -31,10 +31,10 @@ module _ {E : Type 0} where
       let out = l.1.0 in
       let all = whole_adds actor (λ h. Legal h) u w es is d.0 in
       let back : reverse (plain w.seen) ≡ reverse es ++ reverse (plain u.seen) = ap reverse all ∙ reverse-append (plain u.seen) es in
-      let after = held_of (plain w.seen) (subst (λ r. past.IsLegal r) (sym back) l) ∙ ap (λ r. past.held r) back in
+      let after = held_of (plain w.seen) (subst (λ r. past.IsLegalReversed r) (sym back) l) ∙ ap (λ r. past.held_reversed r) back in
       before ∙ (out.2 ∙ ap (λ xs. e ∷ xs) (sym (after ∙ ap (drop 1) out.2)))
 
-  -- what a whole party puts in is held behind what was
+  -- what a whole party puts in is held after what was
   pub holds_last : (u w : PartyOf E) (e : E) → u.share ≡ whole → Enqueues e u w → held (plain w.seen) ≡ held (plain u.seen) ++ e ∷ []
   holds_last u w e is d =
       let n = name_of u in
@@ -42,7 +42,7 @@ module _ {E : Type 0} where
       let l = back_legal u w es is d.0 in
       let all = whole_adds actor (λ h. Legal h) u w es is d.0 in
       let back : reverse (plain w.seen) ≡ reverse es ++ reverse (plain u.seen) = ap reverse all ∙ reverse-append (plain u.seen) es in
-      held_of (plain w.seen) (subst (λ r. past.IsLegal r) (sym back) l) ∙ ap (λ r. past.held r) back ∙ ap (λ xs. xs ++ e ∷ []) (sym (held_of (plain u.seen) l.1.1))
+      held_of (plain w.seen) (subst (λ r. past.IsLegalReversed r) (sym back) l) ∙ ap (λ r. past.held_reversed r) back ∙ ap (λ xs. xs ++ e ∷ []) (sym (held_of (plain u.seen) l.1.1))
 
   -- a try that took this element
   abbrev pub TakesOut : E → PartyOf E → PartyOf E → Type 0
@@ -72,7 +72,7 @@ module _ {E : Type 0} where
       let out = l.0 in
       let all = whole_adds actor (λ h. Legal h) u w es is d.0 in
       let back : reverse (plain w.seen) ≡ reverse es ++ reverse (plain u.seen) = ap reverse all ∙ reverse-append (plain u.seen) es in
-      let after = held_of (plain w.seen) (subst (λ r. past.IsLegal r) (sym back) l) ∙ ap (λ r. past.held r) back in
+      let after = held_of (plain w.seen) (subst (λ r. past.IsLegalReversed r) (sym back) l) ∙ ap (λ r. past.held_reversed r) back in
       held_of (plain u.seen) l.1.1 ∙ (out.2 ∙ ap (λ xs. e ∷ xs) (sym (after ∙ ap (drop 1) out.2)))
 
   pub gives_none : (u w : PartyOf E) (why : TryDequeueError) → u.share ≡ whole → Consumes (Err why) u w → IsCertain {E = E} (Err why) → (why ≡ error.Empty) × (held (plain u.seen) ≡ [])

@@ -23,12 +23,12 @@ use Rattle.cordyceps_shared.specs.declared.slots.Filled.{Filled}
 use Rattle.cordyceps_queue.specs.History.{Event, actor}
 use Rattle.cordyceps_shared.specs.Places.{ItemAt}
 use Rattle.cordyceps_queue.specs.Cores.Meets.{Spare, Shared, OwnsRooms, Chain, Owes, tail_of, AtStage, Meets}
-use Rattle.cordyceps_queue.specs.Past.{HasLooked, WasBlocked}
-use Rattle.cordyceps_queue.specs.Shared.Plays.{SeatState, Sees, stands_at, hands_out, Blocked}
+use Rattle.cordyceps_queue.specs.Past.{HasLooked, WasBlockedReversed}
+use Rattle.cordyceps_queue.specs.Shared.Plays.{SeatState, Sees, moves_to, hands_out, Blocked}
 use Rattle.cordyceps_shared.specs.Slots.{Homes, full_slot, EmptyAtHome}
 use Rattle.cordyceps_queue.specs.Shared.Rule.{TableState, link_of, slot_of, party, machine_of, FullAtHome, RuleHolds}
 use Rattle.cordyceps_queue.specs.Shared.View.{View, name}
-use Rattle.cordyceps_queue.specs.Cores.Abstract.{AbstractParty, AbstractMachine, update, insert_room, stands, set_right, hand_out}
+use Rattle.cordyceps_queue.specs.Cores.Abstract.{AbstractParty, AbstractMachine, update, insert_room, set_stage, set_right, hand_out}
 use Rattle.cordyceps_queue.proofs.CoreTheory.Basics.{zero_suc, suc_zero, suc_inj, put_same, put_other, put_all}
 use Rattle.cordyceps_queue.proofs.CoreTheory.DequeueSteps.{out_keeps, chain_after_out}
 use Rattle.cordyceps_queue.proofs.CoreTheory.HolderSteps.{was_now, keeping, right_with, stage_keeps, open_blocks}
@@ -87,15 +87,15 @@ module _ {E : Type 0} (s : TableState E) (k : RuleHolds s) (id : ℕ) (v : View 
   full_among rooms among i x ix ne = let a = among i x ix in k.full a.0 x a.1 ne
 
   -- a step that changes no word and no slot
-  pub reads : (es : List (Event Name E)) → Under actor (name v) es → (stage : Stage) (chain : Chain) → Meets (stands n id (party v) stage) chain (reverse es ++ out_events) → Among chain.rooms k.chain.rooms → ((q : ℕ) → stage ≡ Cleared q → ⊥) → (i : ℕ)
+  pub reads : (es : List (Event Name E)) → Under actor (name v) es → (stage : Stage) (chain : Chain) → Meets (set_stage n id (party v) stage) chain (reverse es ++ out_events) → Among chain.rooms k.chain.rooms → ((q : ℕ) → stage ≡ Cleared q → ⊥) → (i : ℕ)
       → RuleHolds record { words = set s.words i (get_or s.words i 0); homes = s.homes; views = set s.views id (sees es v.free v.back stage) } × Sees v es (sees es v.free v.back stage)
   reads es under stage chain met among away i =
       let w = sees es v.free v.back stage in
-      let same : stands n id (party v) stage ≡ machine_of k.cell s.words (set s.views id w) = spelled w in
-      let r = keeps_rule s k id es v w s.words s.homes k.cell chain (stands n id (party v) stage) at named under refl same met refl refl (full_among chain.rooms among) (empties_same s k id w (k.empty id v at named)) (readies_same s k id w away) in
+      let same : set_stage n id (party v) stage ≡ machine_of k.cell s.words (set s.views id w) = spelled w in
+      let r = keeps_rule s k id es v w s.words s.homes k.cell chain (set_stage n id (party v) stage) at named under refl same met refl refl (full_among chain.rooms among) (empties_same s k id w (k.empty id v at named)) (readies_same s k id w away) in
       (subst (λ (ws : List ℕ). RuleHolds record { words = ws; homes = s.homes; views = set s.views id w }) (sym (set-get_or s.words i 0)) r.0, r.1)
     where
-      spelled : (w : View E) → stands n id (party v) stage ≡ machine_of k.cell s.words (set s.views id (sees es v.free v.back stage))
+      spelled : (w : View E) → set_stage n id (party v) stage ≡ machine_of k.cell s.words (set s.views id (sees es v.free v.back stage))
       spelled w j = record {
         head = word.head s.words;
         right = word.right s.words;
@@ -201,11 +201,11 @@ module _ {E : Type 0} (s : TableState E) (k : RuleHolds s) (id : ℕ) (v : View 
         (subst (λ (ws : List ℕ). RuleHolds record { words = ws; homes = homes_out; views = set s.views id out_view }) (sym (set-get_or s.words i 0)) kept.0, kept.1)
 
   -- ---- what the steps tell
-  pub stood : (es : List (Event Name E)) (stage : Stage) → Sees v es (sees es v.free v.back stage) → stands_at es stage (v, []) (sees es v.free v.back stage, [])
+  pub stood : (es : List (Event Name E)) (stage : Stage) → Sees v es (sees es v.free v.back stage) → moves_to es stage (v, []) (sees es v.free v.back stage, [])
   stood es stage adds = (refl, bare, ap (λ l. l ++ v.free) (sym bare), refl, adds)
 
-  pub blocked : (es : List (Event Name E)) (stage : Stage) → WasBlocked (name v) (reverse es ++ out_events) → Blocked (sees es v.free v.back stage)
-  blocked es stage was = subst (WasBlocked (name v)) (sym (ap (λ z. reverse z) (plain_marked id (k.history ++ of_seat id es)) ∙ (ap (λ z. reverse z) (events_more k.history id es) ∙ reverse-append (events k.history) es))) was
+  pub blocked : (es : List (Event Name E)) (stage : Stage) → WasBlockedReversed (name v) (reverse es ++ out_events) → Blocked (sees es v.free v.back stage)
+  blocked es stage was = subst (WasBlockedReversed (name v)) (sym (ap (λ z. reverse z) (plain_marked id (k.history ++ of_seat id es)) ∙ (ap (λ z. reverse z) (events_more k.history id es) ∙ reverse-append (events k.history) es))) was
 
   pub same_rooms : Among k.chain.rooms k.chain.rooms
   same_rooms i x ix = (i, ix)
@@ -236,7 +236,7 @@ module _ {E : Type 0} (s : TableState E) (k : RuleHolds s) (id : ℕ) (v : View 
 
   -- with the tail's link null
   nulls : (before : List (Event Name E)) (under : Under actor (name v) before) (M : Meets n k.chain (reverse before ++ out_events)) (t i : ℕ) (has : tail_of v.stage ≡ Some t) (nothing : (a b : ℕ) → Owes v.stage a b → ⊥) (is_real : t ≢ 0) → HasLooked (name v) (reverse before ++ out_events) → n.next t ≡ None
-      → Comes i (get_or s.words i 0) (λ _. stands_at before (Null t) (v, []))
+      → Comes i (get_or s.words i 0) (λ _. moves_to before (Null t) (v, []))
   nulls before under M t i has nothing is_real looked open_link =
       let h = reverse before ++ out_events in
       let met = stage_keeps n k.chain h M id (party v) there t has (Null t) refl (λ a b o. absurd (nothing a b o)) (
@@ -248,7 +248,7 @@ module _ {E : Type 0} (s : TableState E) (k : RuleHolds s) (id : ℕ) (v : View 
 
   -- the read of a tail's link that is no stub
   abbrev pub ReadsTail : List (Event Name E) → ℕ → ℕ → ℕ → SeatState E → Type 0
-  ReadsTail before slots t found w = (found ≡ 0 → stands_at before (Null t) (v, []) w) × ((r : ℕ) → found ≡ suc r → hands_out before slots t r (v, []) w)
+  ReadsTail before slots t found w = (found ≡ 0 → moves_to before (Null t) (v, []) w) × ((r : ℕ) → found ≡ suc r → hands_out before slots t r (v, []) w)
 
   pub reading : (before : List (Event Name E)) (under : Under actor (name v) before) (M : Meets n k.chain (reverse before ++ out_events)) (t i : ℕ) (has : tail_of v.stage ≡ Some t) (nothing : (a b : ℕ) → Owes v.stage a b → ⊥) (is_real : t ≢ 0) → HasLooked (name v) (reverse before ++ out_events)
       → i ≡ LINKS + t → (slots : ℕ) → length s.homes ≡ slots → (x : ℕ) → get_or s.words i 0 ≡ x → Comes i (get_or s.words i 0) (ReadsTail before slots t)

@@ -174,7 +174,7 @@ module _ {E : Type 0} (s : TableState E) (k : RuleHolds s) (id : ℕ) (v : View 
 
 module _ {E : Type 0} where
   pub clears : (slots id i : ℕ) (me : SeatState E) (r : ℕ) (rs : List ℕ) (item : Option E) (e : E) → i ≡ LINKS + r → item ≡ Some e → me.0.stage ≡ Rest → me.0.back ≡ [] → me.0.free ≡ r ∷ rs → me.0.known.share ≢ []
-      → Allows RuleHolds slots id me i (λ _. 0) (λ _. play.cleared item (step slots i 0 0 none) me 0)
+      → Allows RuleHolds slots id me i (λ _. 0) (λ _. play.after_clear item (step slots i 0 0 none) me 0)
   clears slots id i me r rs item e is chosen idle bare free named s k deep at fits =
       let c = clear_kept s k id me.0 at named r rs e idle bare free in
       let same : LINKS + r ≡ i = omega arith in
@@ -192,7 +192,7 @@ module _ {E : Type 0} where
       )
 
   pub swaps : (slots id : ℕ) (me : SeatState E) (r : ℕ) (e : E) (cs : Hand E) → me.0.stage ≡ Cleared r → me.0.item ≡ Some e → me.1 ≡ (r, Some (full_slot r e)) ∷ cs → r < slots → me.0.known.share ≢ []
-      → Allows RuleHolds slots id me HEAD (λ _. r) (play.swapped (step slots HEAD r 0 none) me)
+      → Allows RuleHolds slots id me HEAD (λ _. r) (play.after_swap (step slots HEAD r 0 none) me)
   swaps slots id me r e cs ready item hand near named s k deep at fits =
       let inside : r < length s.homes = omega arith in
       let c = swap_kept s k id me.0 at named r e ready item inside in
@@ -209,7 +209,7 @@ module _ {E : Type 0} where
       )
 
   pub links_on : (slots id i n : ℕ) (me : SeatState E) (r old : ℕ) → i ≡ LINKS + old → n ≡ r + 1 → me.0.stage ≡ Swapped r old → old < slots → me.0.known.share ≢ []
-      → Allows RuleHolds slots id me i (λ _. n) (λ _. play.linked (step slots i n 0 none) me n)
+      → Allows RuleHolds slots id me i (λ _. n) (λ _. play.after_link (step slots i n 0 none) me n)
   links_on slots id i n me r old is is_n waits near named s k deep at fits =
       let inside : old < length s.homes = omega arith in
       let c = link_kept s k id me.0 at named r old waits inside in

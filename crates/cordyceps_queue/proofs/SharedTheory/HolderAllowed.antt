@@ -11,7 +11,7 @@ use Rattle.cordyceps_queue.specs.declared.cores.stage.Stage.{Stage}
 use Rattle.cordyceps_queue.specs.declared.cores.stage.Stage.TheVariants.{Rest, Holding, Second}
 use Rattle.cordyceps_queue.specs.History.{Event}
 use Rattle.cordyceps_queue.specs.Cores.Meets.{Owes, tail_of, AtStage, Real, Meets}
-use Rattle.cordyceps_queue.specs.Shared.Plays.{SeatState, carry, stands_at, hands_out}
+use Rattle.cordyceps_queue.specs.Shared.Plays.{SeatState, carry, moves_to, hands_out}
 use Rattle.cordyceps_queue.specs.Shared.Plays as play
 use Rattle.cordyceps_queue.specs.Shared.Rule.{TableState, link_of, party, RuleHolds}
 use Rattle.cordyceps_queue.specs.Shared.View.{View, name}
@@ -46,7 +46,7 @@ module _ {E : Type 0} (s : TableState E) (k : RuleHolds s) (id : ℕ) (v : View 
       party = (ap (λ (p : AbstractParty Name). update core.party id (Some p)) (λ i. record { name = name v; stage = sym rest i; spare = v.back ++ v.free }) ∙ put_again core.party id (party v) is_there) j;
     }
 
-    takes_bare : (slots : ℕ) → length s.homes ≡ slots → (x : ℕ) → word.right s.words ≡ x → Comes s k id v at named bare RIGHT 0 (play.took (step slots RIGHT 0 0 none) (v, []))
+    takes_bare : (slots : ℕ) → length s.homes ≡ slots → (x : ℕ) → word.right s.words ≡ x → Comes s k id v at named bare RIGHT 0 (play.after_take (step slots RIGHT 0 0 none) (v, []))
     takes_bare slots deep zero e =
         let x : Event Name E = Event.Busy (name v) in
         let met = subst (λ q. Meets q k.chain (x ∷ gone_by)) (sym (unmoved e)) (busy_keeps core k.chain gone_by k.meets id (party v) is_there rest e) in
@@ -63,7 +63,7 @@ module _ {E : Type 0} (s : TableState E) (k : RuleHolds s) (id : ℕ) (v : View 
           keeps,
           tt,
           r.0,
-          λ _. ((λ f. absurd (suc_zero (sym e ∙ f))), λ t' f. subst (λ q. stands_at (x ∷ []) (Holding q) (v, []) (w, []) × (q < slots)) (suc_inj (sym e ∙ f)) (stood s k id v at named bare (x ∷ []) (Holding t) r.1, omega arith)),
+          λ _. ((λ f. absurd (suc_zero (sym e ∙ f))), λ t' f. subst (λ q. moves_to (x ∷ []) (Holding q) (v, []) (w, []) × (q < slots)) (suc_inj (sym e ∙ f)) (stood s k id v at named bare (x ∷ []) (Holding t) r.1, omega arith)),
         )
 
   -- ---- the reads of a link, and the store of the right
@@ -77,7 +77,7 @@ module _ {E : Type 0} (s : TableState E) (k : RuleHolds s) (id : ℕ) (v : View 
     pub looked_on : Meets core k.chain (Event.Look (name v) ∷ gone_by)
     looked_on = tell_keeps core k.chain gone_by k.meets id (party v) is_there t has (Event.Look (name v)) holding (keeping core k.chain gone_by k.meets id (party v) is_there t has).held_by refl refl (λ q s. s) (λ q n w. w)
 
-    gives_bare : (n' : ℕ) → n' ≡ t + 1 → Comes s k id v at named bare RIGHT n' (λ _. stands_at (Event.Free (name v) ∷ []) Rest (v, []))
+    gives_bare : (n' : ℕ) → n' ≡ t + 1 → Comes s k id v at named bare RIGHT n' (λ _. moves_to (Event.Free (name v) ∷ []) Rest (v, []))
     gives_bare n' is =
         let x : Event Name E = Event.Free (name v) in
         let r = rights s k id v at named bare (x ∷ []) (refl, tt) Rest (chain_after_give core k.chain gone_by k.meets id (party v) is_there t holding) (suc t)
@@ -89,12 +89,12 @@ module _ {E : Type 0} (s : TableState E) (k : RuleHolds s) (id : ℕ) (v : View 
     looks_bare : t ≢ 0 → (i : ℕ) → i ≡ LINKS + t → (slots : ℕ) → length s.homes ≡ slots → Comes s k id v at named bare i (get_or s.words i 0) (ReadsTail s k id v at named bare (Event.Look (name v) ∷ []) slots t)
     looks_bare is_real i is slots deep = reading s k id v at named bare (Event.Look (name v) ∷ []) (refl, tt) looked_on t i has nothing is_real (inl refl) is slots deep (get_or s.words i 0) refl
 
-  module _ (t : ℕ) (behind : v.stage ≡ Second t) where
+  module _ (t : ℕ) (at_second : v.stage ≡ Second t) where
     knows_tail : Real k.chain.keeper k.chain.rooms gone_by id (name v) t
-    knows_tail = subst (AtStage core.head core.next core.cell k.chain.owner k.chain.keeper k.chain.rooms gone_by id (name v)) behind (k.meets.fits id (party v) is_there)
+    knows_tail = subst (AtStage core.head core.next core.cell k.chain.owner k.chain.keeper k.chain.rooms gone_by id (name v)) at_second (k.meets.fits id (party v) is_there)
 
     reads_bare : (i : ℕ) → i ≡ LINKS + t → (slots : ℕ) → length s.homes ≡ slots → Comes s k id v at named bare i (get_or s.words i 0) (ReadsTail s k id v at named bare [] slots t)
-    reads_bare i is slots deep = reading s k id v at named bare [] tt k.meets t i (ap tail_of behind) (λ a b o. subst (λ l. Owes l a b) behind o) knows_tail.is_real knows_tail.looked is slots deep (get_or s.words i 0) refl
+    reads_bare i is slots deep = reading s k id v at named bare [] tt k.meets t i (ap tail_of at_second) (λ a b o. subst (λ l. Owes l a b) at_second o) knows_tail.is_real knows_tail.looked is slots deep (get_or s.words i 0) refl
 
 -- the tail of two stages that are one
 same_tail : {p : Stage} {t u : ℕ} → p ≡ Holding t → p ≡ Holding u → t ≡ u
@@ -104,22 +104,22 @@ same_second : {p : Stage} {t u : ℕ} → p ≡ Second t → p ≡ Second u → 
 same_second a b = some_inj (ap tail_of (sym a ∙ b))
 
 module _ {E : Type 0} (slots id : ℕ) (me : SeatState E) (hand : me.1 ≡ carry me.0.back) (near : Near slots me.0.back) (named : me.0.known.share ≢ []) where
-  pub takes_right : me.0.stage ≡ Rest → Allows RuleHolds slots id me RIGHT (λ _. 0) (play.took (step slots RIGHT 0 0 none) me)
-  takes_right rest = returning slots id RIGHT me (λ _. 0) (play.took (step slots RIGHT 0 0 none) me) hand near named
+  pub takes_right : me.0.stage ≡ Rest → Allows RuleHolds slots id me RIGHT (λ _. 0) (play.after_take (step slots RIGHT 0 0 none) me)
+  takes_right rest = returning slots id RIGHT me (λ _. 0) (play.after_take (step slots RIGHT 0 0 none) me) hand near named
       (λ s k deep at fits. takes_bare s k id (view_returned me.0) at named refl rest slots deep (word.right s.words) refl)
 
-  pub gives_right : (t n' : ℕ) → n' ≡ t + 1 → me.0.stage ≡ Holding t → Allows RuleHolds slots id me RIGHT (λ _. n') (λ _. play.gave (step slots RIGHT n' 0 none) me n')
-  gives_right t n' is holding = returning slots id RIGHT me (λ _. n') (λ _. play.gave (step slots RIGHT n' 0 none) me n') hand near named
+  pub gives_right : (t n' : ℕ) → n' ≡ t + 1 → me.0.stage ≡ Holding t → Allows RuleHolds slots id me RIGHT (λ _. n') (λ _. play.after_give (step slots RIGHT n' 0 none) me n')
+  gives_right t n' is holding = returning slots id RIGHT me (λ _. n') (λ _. play.after_give (step slots RIGHT n' 0 none) me n') hand near named
       (λ s k deep at fits. let c = gives_bare s k id (view_returned me.0) at named refl t holding n' is in (c.0, c.1, c.2, c.3, λ _ _. c.4))
 
-  pub looks : (t i : ℕ) → i ≡ LINKS + t → me.0.stage ≡ Holding t → t ≢ 0 → Allows RuleHolds slots id me i (λ x. x) (play.looked (step slots i 0 0 none) me)
-  looks t i is holding is_real = returning slots id i me (λ x. x) (play.looked (step slots i 0 0 none) me) hand near named
+  pub looks : (t i : ℕ) → i ≡ LINKS + t → me.0.stage ≡ Holding t → t ≢ 0 → Allows RuleHolds slots id me i (λ x. x) (play.after_look (step slots i 0 0 none) me)
+  looks t i is holding is_real = returning slots id i me (λ x. x) (play.after_look (step slots i 0 0 none) me) hand near named
       (λ s k deep at fits.
       let c = looks_bare s k id (view_returned me.0) at named refl t holding is_real i is slots deep in
       (c.0, c.1, c.2, c.3, λ u stage ne. subst (λ q. ReadsTail s k id (view_returned me.0) at named refl (Event.Look (name me.0) ∷ []) slots q (get_or s.words i 0) (c.0, carried_after [] c.1)) (same_tail holding stage) c.4))
 
-  pub reads_behind : (t i : ℕ) → i ≡ LINKS + t → me.0.stage ≡ Second t → Allows RuleHolds slots id me i (λ x. x) (play.read (step slots i 0 0 none) me)
-  reads_behind t i is behind = returning slots id i me (λ x. x) (play.read (step slots i 0 0 none) me) hand near named
+  pub reads_after : (t i : ℕ) → i ≡ LINKS + t → me.0.stage ≡ Second t → Allows RuleHolds slots id me i (λ x. x) (play.after_read (step slots i 0 0 none) me)
+  reads_after t i is at_second = returning slots id i me (λ x. x) (play.after_read (step slots i 0 0 none) me) hand near named
       (λ s k deep at fits.
-      let c = reads_bare s k id (view_returned me.0) at named refl t behind i is slots deep in
-      (c.0, c.1, c.2, c.3, λ u stage. subst (λ q. ReadsTail s k id (view_returned me.0) at named refl [] slots q (get_or s.words i 0) (c.0, carried_after [] c.1)) (same_second behind stage) c.4))
+      let c = reads_bare s k id (view_returned me.0) at named refl t at_second i is slots deep in
+      (c.0, c.1, c.2, c.3, λ u stage. subst (λ q. ReadsTail s k id (view_returned me.0) at named refl [] slots q (get_or s.words i 0) (c.0, carried_after [] c.1)) (same_second at_second stage) c.4))

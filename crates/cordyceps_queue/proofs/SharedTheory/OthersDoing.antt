@@ -32,7 +32,7 @@ module _ {X : Type 0} where
       let t = since r x e in
       record { front = (false, y) ∷ t.front; later = t.later; is = ap (λ z. (false, y) ∷ z) t.is; none = t.none }
 
-  -- a beginning with more own events than another is longer
+  -- a prefix with more own events than another is longer
   record Longer (seen rest past later : List (Bool × X)) (es : List X) : Type 0 where
     more : List (Bool × X)
     past_is : past ≡ seen ++ more

@@ -21,7 +21,7 @@ module _ {E : Type 0} where
   abbrev pub Balanced : List (Event Name E) → Type 0
   Balanced es = (q : Name) → (links_by same_name q es ≡ swaps_by same_name q es) × (frees_by same_name q es ≡ takes_by same_name q es)
 
-  -- neither swaps and links nor takings and givings back
+  -- neither `Swap` and `Link` nor `Take` and `Free`
   abbrev pub Neutral : List (Event Name E) → Type 0
   Neutral es = (q : Name) → (links_by same_name q es ≡ swaps_by same_name q es) × ((frees_by same_name q es ≡ 0) × (takes_by same_name q es ≡ 0))
 

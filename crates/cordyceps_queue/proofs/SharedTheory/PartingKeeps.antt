@@ -24,8 +24,8 @@ use Rattle.cordyceps_queue.specs.declared.cores.stage.Stage.TheVariants.{Rest, C
 use Rattle.cordyceps_queue.specs.History.{Event, actor}
 use Rattle.cordyceps_shared.specs.Places.{ItemAt}
 use Rattle.cordyceps_queue.specs.Cores.Meets.{Owner, Shared, Spare, Unmade, OwnsRooms, AtStage, Meets}
-use Rattle.cordyceps_queue.specs.Shared.Parting.{view_keeping, view_giving, view_absorbing, view_absorbed, view_without_told, learned}
-use Rattle.cordyceps_queue.specs.Past.{IsLegal, IsSettled}
+use Rattle.cordyceps_queue.specs.Shared.Parting.{view_keeping, view_giving, view_absorbing, view_absorbed, view_without_told, after_learn}
+use Rattle.cordyceps_queue.specs.Past.{IsLegalReversed, IsSettled}
 use Rattle.cordyceps_queue.specs.Shared.Plays.{SeatState, LegalReversed}
 use Rattle.cordyceps_shared.specs.Slots.{Homes, EmptyAtHome}
 use Rattle.cordyceps_queue.specs.Shared.Rule.{TableState, History, link_of, party, party_of, machine_of, RuleHolds}
@@ -206,7 +206,7 @@ module _ {E : Type 0} (s : TableState E) (k : RuleHolds s) (id n : ℕ) (v : Vie
 pub splits : {E : Type 0} (id n : ℕ) (v : View E) → v.known.share ≢ [] → v.stage ≡ Rest → v.back ≡ [] → Splits RuleHolds id v (view_keeping n v) (view_giving n v)
 splits id n v named rest bare s k at = cut_kept s k id n v named rest bare at
 
--- ---- taking another in
+-- ---- a party takes another in
 module _ {E : Type 0} (s : TableState E) (k : RuleHolds s) (id other : ℕ) (v w : View E) (rest : v.stage ≡ Rest) (rest_too : w.stage ≡ Rest) (bare : v.back ≡ []) (bare_too : w.back ≡ []) (named : v.known.share ≢ []) (named_too : w.known.share ≢ [])
     (at : get_elem? s.views id ≡ some v) (apart : other ≢ id) (there : get_elem? (set s.views id (view_absorbing v w)) other ≡ some w) where
   abbrev joint : List (View E)
@@ -314,12 +314,12 @@ module _ {E : Type 0} (s : TableState E) (k : RuleHolds s) (id other : ℕ) (v w
   }
 
 -- ---- what a party learns that took another in
-legal_behind : {P E : Type 0} (us vs : List (Event P E)) → IsLegal (us ++ vs) → IsLegal vs
-legal_behind [] vs l = l
-legal_behind (x ∷ us) vs l = legal_behind us vs l.1
+legal_after : {P E : Type 0} (us vs : List (Event P E)) → IsLegalReversed (us ++ vs) → IsLegalReversed vs
+legal_after [] vs l = l
+legal_after (x ∷ us) vs l = legal_after us vs l.1
 
 legal_front : {E : Type 0} (xs ys : List (Event Name E)) → LegalReversed (xs ++ ys) → LegalReversed xs
-legal_front xs ys l = legal_behind (reverse ys) (reverse xs) (subst (λ z. IsLegal z) (reverse-append xs ys) l)
+legal_front xs ys l = legal_after (reverse ys) (reverse xs) (subst (λ z. IsLegalReversed z) (reverse-append xs ys) l)
 
 module _ {E : Type 0} (s : TableState E) (k : RuleHolds s) (id : ℕ) (v : View E) (at : get_elem? s.views id ≡ some v) (named : v.known.share ≢ []) where
   forgot_kept : RuleHolds record { words = s.words; homes = s.homes; views = set s.views id (view_without_told v) }
@@ -351,7 +351,7 @@ module _ {E : Type 0} where
   pub joins : (id other : ℕ) (v w : View E) → v.stage ≡ Rest → w.stage ≡ Rest → v.back ≡ [] → w.back ≡ [] → v.known.share ≢ [] → w.known.share ≢ [] → Joins RuleHolds id v other w (view_absorbing v w) view_absorbed
   joins id other v w rest rest_too bare bare_too named named_too s k at apart there = joint_kept s k id other v w rest rest_too bare bare_too named named_too at apart there
 
-  pub learns : (slots id : ℕ) (me : SeatState E) (v w : View E) → me.0 ≡ view_absorbing v w → v.known.share ≢ [] → Allows RuleHolds slots id me HEAD (λ n. n) (learned (step slots HEAD 0 0 none) me)
+  pub learns : (slots id : ℕ) (me : SeatState E) (v w : View E) → me.0 ≡ view_absorbing v w → v.known.share ≢ [] → Allows RuleHolds slots id me HEAD (λ n. n) (after_learn (step slots HEAD 0 0 none) me)
   learns slots id me v w is named s k deep at fits =
       let u = me.0 in
       let some_name : u.known.share ≢ [] = λ e. joined_some v.known.share w.known.share named (sym (ap (λ (z : View E). z.known.share) is) ∙ e) in

@@ -15,7 +15,7 @@ use Rattle.cordyceps_queue.specs.Shared.Parts.{AsksRight, Tries, Dequeued}
 use Rattle.cordyceps_queue.specs.History.{Event, actor}
 use Rattle.cordyceps_shared.specs.Places.{ItemAt}
 use Rattle.cordyceps_shared.specs.Slots.{Near, TableStep, full_slot, Hand}
-use Rattle.cordyceps_queue.specs.Shared.Plays.{SeatState, LegalReversed, carry, stands_at, hands_out, HandsOneOut, IsResting, IsHolding, IsAtStage, Blocked, took}
+use Rattle.cordyceps_queue.specs.Shared.Plays.{SeatState, LegalReversed, carry, moves_to, hands_out, HandsOneOut, IsResting, IsHolding, IsAtStage, Blocked, after_take}
 use Rattle.cordyceps_queue.specs.Shared.View.{View, name}
 
 -- the free rooms are those of before, and the slot in hand
@@ -30,7 +30,7 @@ hand_of d [] = None
 hand_of d (x ∷ xs) = x.1
 
 module _ {E : Type 0} where
-  pub takes_by : (st : TableStep E) (m k : SeatState E) → IsResting st.slots m → (found : ℕ) → took st m found k → AsksRight st.slots found m k
+  pub takes_by : (st : TableStep E) (m k : SeatState E) → IsResting st.slots m → (found : ℕ) → after_take st m found k → AsksRight st.slots found m k
   takes_by st m k q zero t =
       let b = (t q.0).0 refl in
       ((b.0, b.1, b.3, (λ e. q.3 (sym b.4.share ∙ e)), near_all st.slots m.0.back m.0.free k.0.free q.1 b.2 q.4), b)
@@ -40,7 +40,7 @@ module _ {E : Type 0} where
       ((b.0, b.3 ∙ ap (λ (l : List ℕ). carry l) (sym b.1), (λ e. q.3 (sym b.4.share ∙ e)), subst (λ l. Near st.slots (l ++ k.0.free)) (sym b.1) (near_all st.slots m.0.back m.0.free k.0.free q.1 b.2 q.4), h.1), b)
 
   -- one step after another, where no slot is in hand between them
-  pub stands_then : (es fs : List (Event Name E)) (p q : Stage) (m k l : SeatState E) → stands_at es p m k → stands_at fs q k l → stands_at (es ++ fs) q m l
+  pub stands_then : (es fs : List (Event Name E)) (p q : Stage) (m k l : SeatState E) → moves_to es p m k → moves_to fs q k l → moves_to (es ++ fs) q m l
   stands_then es fs p q m k l a b = (b.0, b.1, b.2 ∙ (ap (λ xs. xs ++ k.0.free) a.1 ∙ a.2), b.3, grown_then actor LegalReversed m.0.known k.0.known l.0.known es fs a.4 b.4)
 
   -- what the next step asks
@@ -49,20 +49,20 @@ module _ {E : Type 0} where
     pub near : Near slots k.0.back
     pub named : k.0.known.share ≢ []
 
-  frees : (slots : ℕ) (es : List (Event Name E)) (p : Stage) (m k : SeatState E) → m.0.known.share ≢ [] → stands_at es p m k → Free slots k
+  frees : (slots : ℕ) (es : List (Event Name E)) (p : Stage) (m k : SeatState E) → m.0.known.share ≢ [] → moves_to es p m k → Free slots k
   frees slots es p m k named a = record {
     hand = a.3 ∙ ap (λ (l : List ℕ). carry l) (sym a.1);
     near = λ i r x. absurd (subst (λ l. ItemAt l i r) a.1 x);
     named = λ e. named (sym a.4.share ∙ e);
   }
 
-  holds_still : (slots t : ℕ) (es : List (Event Name E)) (m k : SeatState E) → m.0.known.share ≢ [] → Near slots (m.0.back ++ m.0.free) → t < slots → stands_at es (Holding t) m k → IsHolding slots t k
+  holds_still : (slots t : ℕ) (es : List (Event Name E)) (m k : SeatState E) → m.0.known.share ≢ [] → Near slots (m.0.back ++ m.0.free) → t < slots → moves_to es (Holding t) m k → IsHolding slots t k
   holds_still slots t es m k named near inside a =
       let f = frees slots es (Holding t) m k named a in
       (a.0, f.hand, f.named, (λ i r x. near i r (subst (λ l. ItemAt l i r) (ap (λ l. l ++ k.0.free) a.1 ∙ a.2) x)), inside)
 
   -- what a try came to, after more events
-  pub tries_then : (slots : ℕ) (es fs : List (Event Name E)) (p : Stage) (m k l : SeatState E) (t : ℕ) (r : Tried E) → stands_at es p m k → Tries fs slots k l t r → Tries (es ++ fs) slots m l t r
+  pub tries_then : (slots : ℕ) (es fs : List (Event Name E)) (p : Stage) (m k l : SeatState E) (t : ℕ) (r : Tried E) → moves_to es p m k → Tries fs slots k l t r → Tries (es ++ fs) slots m l t r
   tries_then slots es fs p m k l t (Out e) a T =
       let h = T in
       let rename = subst (λ n. Grown actor LegalReversed k.0.known (fs ++ Event.Out n e.item ∷ []) l.0.known) (ap first_name a.4.share) h.3 in
@@ -70,11 +70,11 @@ module _ {E : Type 0} where
       (h.0, h.1, h.2 ∙ (ap (λ xs. xs ++ k.0.free) a.1 ∙ a.2), subst (λ xs. Grown actor LegalReversed m.0.known xs l.0.known) (sym (append_assoc es fs out)) (grown_then actor LegalReversed m.0.known k.0.known l.0.known es (fs ++ out) a.4 rename), h.4)
   tries_then slots es fs p m k l t Empty a T =
       let end : Name → List (Event Name E) = λ n. Event.Empty n ∷ [] in
-      (T.0, subst (λ xs. stands_at xs (Holding t) m l) (sym (append_assoc es fs (end (name k.0))) ∙ ap (λ n. (es ++ fs) ++ end n) (ap first_name a.4.share)) (stands_then es (fs ++ end (name k.0)) p (Holding t) m k l a T.1))
+      (T.0, subst (λ xs. moves_to xs (Holding t) m l) (sym (append_assoc es fs (end (name k.0))) ∙ ap (λ n. (es ++ fs) ++ end n) (ap first_name a.4.share)) (stands_then es (fs ++ end (name k.0)) p (Holding t) m k l a T.1))
   tries_then slots es fs p m k l t Inconsistent a T = (T.0, stands_then es fs p (Holding t) m k l a T.1, T.2)
 
-  -- where a party stands after a step
-  pub at_stage : (slots : ℕ) (es : List (Event Name E)) (p : Stage) (m k : SeatState E) → m.0.known.share ≢ [] → Near slots (m.0.back ++ m.0.free) → stands_at es p m k → IsAtStage slots p k
+  -- the stage of a party after a step
+  pub at_stage : (slots : ℕ) (es : List (Event Name E)) (p : Stage) (m k : SeatState E) → m.0.known.share ≢ [] → Near slots (m.0.back ++ m.0.free) → moves_to es p m k → IsAtStage slots p k
   at_stage slots es p m k named near a =
       let f = frees slots es p m k named a in
       (a.0, f.hand, f.named, λ i r x. near i r (subst (λ l. ItemAt l i r) (ap (λ l. l ++ k.0.free) a.1 ∙ a.2) x))
@@ -99,7 +99,7 @@ module _ {E : Type 0} where
   tries_holding slots es k l t Inconsistent T = T.0
 
   -- a whole try
-  pub whole_try : (slots u t : ℕ) (m k l o : SeatState E) (r : Tried E) → IsResting slots m → stands_at (Event.Take (name m.0) ∷ []) (Holding u) m k → Tries (Event.Look (name k.0) ∷ []) slots k l t r → stands_at (Event.Free (name l.0) ∷ []) Rest l o → Dequeued slots m o (Some r)
+  pub whole_try : (slots u t : ℕ) (m k l o : SeatState E) (r : Tried E) → IsResting slots m → moves_to (Event.Take (name m.0) ∷ []) (Holding u) m k → Tries (Event.Look (name k.0) ∷ []) slots k l t r → moves_to (Event.Free (name l.0) ∷ []) Rest l o → Dequeued slots m o (Some r)
   whole_try slots u t m k l o (Out e) q a T b =
       let h = T in
       let first : name k.0 ≡ name m.0 = ap first_name a.4.share in
@@ -145,8 +145,8 @@ module _ {E : Type 0} where
       subst (λ q. HandsOneOut fs slots q r full.item m o) (ap (λ (x : Filled E). x.ticket) is) all
 
   -- a try that came to nothing, since its look was blocked
-  pub tries_blocked : (slots t : ℕ) (m k : SeatState E) → m.0.known.share ≢ [] → Near slots (m.0.back ++ m.0.free) → t < slots → stands_at [] (Holding t) m k × Blocked k.0 → Tries [] slots m k t Inconsistent
+  pub tries_blocked : (slots t : ℕ) (m k : SeatState E) → m.0.known.share ≢ [] → Near slots (m.0.back ++ m.0.free) → t < slots → moves_to [] (Holding t) m k × Blocked k.0 → Tries [] slots m k t Inconsistent
   tries_blocked slots t m k named near inside a = (holds_still slots t [] m k named near inside a.0, a.0, a.1)
 
-  pub tries_empty : (slots t : ℕ) (m k : SeatState E) → m.0.known.share ≢ [] → Near slots (m.0.back ++ m.0.free) → t < slots → stands_at (Event.Empty (name m.0) ∷ []) (Holding t) m k → Tries [] slots m k t Empty
+  pub tries_empty : (slots t : ℕ) (m k : SeatState E) → m.0.known.share ≢ [] → Near slots (m.0.back ++ m.0.free) → t < slots → moves_to (Event.Empty (name m.0) ∷ []) (Holding t) m k → Tries [] slots m k t Empty
   tries_empty slots t m k named near inside a = (holds_still slots t (Event.Empty (name m.0) ∷ []) m k named near inside a, a)

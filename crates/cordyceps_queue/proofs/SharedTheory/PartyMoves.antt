@@ -11,7 +11,7 @@ use Rattle.cordyceps_queue.specs.declared.cores.steps.TryDequeueError.TheVariant
 use Rattle.cordyceps_queue.specs.History.{Event, Swap, Link, Take, Busy, Look, Out, Empty, Free, came, went, held, IsLegal, actor}
 use Rattle.cordyceps_queue.specs.Shared.Batches.{outs, StopsAt, TakesLinked}
 use Rattle.cordyceps_queue.specs.Shared.Calls.{PartyOf, Legal, Adds, Enqueues, Dequeues, Consumes, TakesRight, FindsBusy, GivesRight, Retries, AtLast, MissesDequeue, try_result}
-use Rattle.cordyceps_queue.specs.Shared.Moves.{put_by, got_by, Moves, given}
+use Rattle.cordyceps_queue.specs.Shared.Moves.{put_by, got_by, Moves, got_by_try}
 use Rattle.cordyceps_queue.proofs.PartyOrder.{nothing_lost}
 
 module _ {P E A : Type 0} (f : E → A) where
@@ -38,7 +38,7 @@ module _ {P E A : Type 0} (f : E → A) where
   all_got (Empty p ∷ h) = all_got h
   all_got (Free p ∷ h) = all_got h
 
-  -- what a legal history holds, behind what came out of it, is what was put in
+  -- what came out of a legal history, and then what it holds, is what was put in
   pub all_kept : (same : Discrete P) (h : List (Event P E)) → IsLegal same h → flat_map (got_by f) h ++ map f (held h) ≡ flat_map (put_by f) h
   all_kept same h legal =
       ap (λ l. l ++ map f (held h)) (all_got h) ∙ (sym (map-append f (went h) (held h)) ∙ (ap (map f) (nothing_lost same h legal) ∙ sym (all_put h)))
@@ -61,13 +61,13 @@ module _ {E A : Type 0} (f : E → A) where
   pub moves_enqueue : (e : E) (u w : PartyOf E) → Enqueues e u w → Moves f (f e ∷ []) [] u w
   moves_enqueue e u w c = moved u w (Swap (name_of u) e ∷ Link (name_of u) ∷ []) c.0 (omega (arith, c.1))
 
-  pub moves_dequeue : (r : Result E TryDequeueError) (u w : PartyOf E) → Dequeues r u w → Moves f [] (given f r) u w
+  pub moves_dequeue : (r : Result E TryDequeueError) (u w : PartyOf E) → Dequeues r u w → Moves f [] (got_by_try f r) u w
   moves_dequeue (Ok e) u w c = let n = name_of u in moved u w (Take n ∷ Look n ∷ Out n e ∷ Free n ∷ []) c.0 (omega (arith, c.1))
   moves_dequeue (Err error.Empty) u w c = let n = name_of u in moved u w (Take n ∷ Look n ∷ Empty n ∷ Free n ∷ []) c.0 (omega (arith, c.1))
   moves_dequeue (Err error.Inconsistent) u w c = let n = name_of u in moved u w (Take n ∷ Look n ∷ Free n ∷ []) c.0 (omega (arith, c.1))
   moves_dequeue (Err error.Busy) u w c = moved u w (Busy (name_of u) ∷ []) c.0 (omega (arith, c.1))
 
-  pub moves_consume : (r : Result E TryDequeueError) (u w : PartyOf E) → Consumes r u w → Moves f [] (given f r) u w
+  pub moves_consume : (r : Result E TryDequeueError) (u w : PartyOf E) → Consumes r u w → Moves f [] (got_by_try f r) u w
   moves_consume (Ok e) u w c = let n = name_of u in moved u w (Look n ∷ Out n e ∷ []) c.0 (omega (arith, c.1))
   moves_consume (Err error.Empty) u w c = let n = name_of u in moved u w (Look n ∷ Empty n ∷ []) c.0 (omega (arith, c.1))
   moves_consume (Err error.Inconsistent) u w c = moved u w (Look (name_of u) ∷ []) c.0 (omega (arith, c.1))
@@ -109,6 +109,6 @@ module _ {E A : Type 0} (f : E → A) where
   moves_miss u w (inl c) = moves_dequeue (Err error.Busy) u w c
   moves_miss u w (inr c) = moves_dequeue (Err error.Inconsistent) u w c
 
-  pub moves_waiting : (o : Option E) (u w : PartyOf E) → AtLast MissesDequeue (Dequeues (try_result o)) u w → Moves f [] (given f (try_result o)) u w
+  pub moves_waiting : (o : Option E) (u w : PartyOf E) → AtLast MissesDequeue (Dequeues (try_result o)) u w → Moves f [] (got_by_try f (try_result o)) u w
   moves_waiting o u w a =
-      moves_at_last MissesDequeue (Dequeues (try_result o)) [] (given f (try_result o)) moves_miss (λ v x d. moves_dequeue (try_result o) v x d) u w a
+      moves_at_last MissesDequeue (Dequeues (try_result o)) [] (got_by_try f (try_result o)) moves_miss (λ v x d. moves_dequeue (try_result o) v x d) u w a

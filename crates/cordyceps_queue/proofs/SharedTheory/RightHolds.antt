@@ -13,7 +13,7 @@ use Rattle.cordyceps_queue.specs.declared.shared.table.Tried.TheVariants as trie
 use Rattle.cordyceps_queue.specs.declared.cores.steps.TryDequeueError.TheVariants as error
 use Rattle.cordyceps_queue.specs.Shared.Parts.{standing, IsSeated, IsConsuming, AsksRight, Tries}
 use Rattle.cordyceps_queue.specs.History.{Event, Take, Busy, Look, Out, Empty, Free}
-use Rattle.cordyceps_queue.specs.Shared.Plays.{SeatState, Sees, IsResting, IsHolding, stands_at}
+use Rattle.cordyceps_queue.specs.Shared.Plays.{SeatState, Sees, IsResting, IsHolding, moves_to}
 use Rattle.cordyceps_queue.specs.Shared.Rule.{IsTable}
 use Rattle.cordyceps_queue.specs.Shared.Calls.{same_name, BlockedAfter, TakesRight, FindsBusy, GivesRight, Consumes}
 use Rattle.cordyceps_queue.specs.Shared.View.{View, name}
@@ -52,7 +52,7 @@ module _ {E : Type 0} where
   takes_right z z' slots tail m k at a = (adds z z' m.0 k.0 (Take (name m.0) ∷ []) a.1.4 at, ap length (λ i. a.1.1 i ++ a.1.2 i))
 
   -- ---- the right is given back
-  pub right_given : (z z' t : TableId) (tail : ℕ) (m k : SeatState E) (tickets : List ℕ) → IsConsuming z tail m tickets → z' ≡ z → z ≡ t → IsResting t.slots k → stands_at (Free (name m.0) ∷ []) Rest m k → IsSeated z' k tickets
+  pub right_given : (z z' t : TableId) (tail : ℕ) (m k : SeatState E) (tickets : List ℕ) → IsConsuming z tail m tickets → z' ≡ z → z ≡ t → IsResting t.slots k → moves_to (Free (name m.0) ∷ []) Rest m k → IsSeated z' k tickets
   right_given z z' t tail m k tickets c at there rests a = record {
     table = subst (λ q. IsTable q) (sym at) c.table;
     rests = subst (λ (q : TableId). IsResting q.slots k) (sym (at ∙ there)) rests;
@@ -64,7 +64,7 @@ module _ {E : Type 0} where
     unheld = unheld_given m.0 k.0 a.4 c.legal c.held;
   }
 
-  pub gives_right : (z z' : TableId) (m k : SeatState E) → z' ≡ z → stands_at (Free (name m.0) ∷ []) Rest m k → GivesRight (standing z m.0) (standing z' k.0)
+  pub gives_right : (z z' : TableId) (m k : SeatState E) → z' ≡ z → moves_to (Free (name m.0) ∷ []) Rest m k → GivesRight (standing z m.0) (standing z' k.0)
   gives_right z z' m k at a = (adds z z' m.0 k.0 (Free (name m.0) ∷ []) a.4 at, ap length (λ i. a.1 i ++ a.2 i))
 
   -- ---- a try

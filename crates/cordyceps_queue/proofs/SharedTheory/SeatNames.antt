@@ -19,7 +19,7 @@ use Rattle.cordyceps_queue.specs.Cores.Meets.{AtStage, RightIs, tail_of}
 use Rattle.cordyceps_queue.specs.History.{Event, actor, links_by, swaps_by}
 use Rattle.cordyceps_queue.specs.Laws.{takes_by, frees_by}
 use Rattle.cordyceps_queue.specs.Shared.Calls.{same_name, Legal, NonePending, NoneHolds}
-use Rattle.cordyceps_queue.specs.Past.{holder, IsSettled, IsLegal}
+use Rattle.cordyceps_queue.specs.Past.{holder_reversed, IsSettled, IsLegalReversed}
 use Rattle.cordyceps_queue.specs.Shared.Rule.{TableState, History, party, party_if, party_of, RuleHolds}
 use Rattle.cordyceps_queue.specs.Shared.View.{View, knows, name}
 use Rattle.cordyceps_queue.specs.Cores.Abstract.{AbstractParty}
@@ -28,7 +28,7 @@ use Rattle.cordyceps_queue.proofs.HistoryEnds.{links_by-append, swaps_by-append,
 use Rattle.cordyceps_queue.proofs.Legality.{told_legal, front_legal, counts, holder_of}
 use Rattle.cordyceps_queue.proofs.PartyOrder.{takes_append, frees_append}
 use Rattle.cordyceps_queue.proofs.SharedTheory.OwnNames.{links_other, swaps_other, takes_other, frees_other, even_frees, not_holder}
-use Rattle.cordyceps_queue.proofs.SharedTheory.WordsAsMachine.{at_behind, core, party_at, rooms_of}
+use Rattle.cordyceps_queue.proofs.SharedTheory.WordsAsMachine.{at_after, core, party_at, rooms_of}
 use Rattle.cordyceps_shared.proofs.Telling.{at_length, first_clear}
 use Rattle.cordyceps_shared.proofs.Tracing.{foreign_counts}
 
@@ -80,7 +80,7 @@ module _ {E : Type 0} (s : TableState E) (k : RuleHolds s) (id : ℕ) (v : View 
   few_rooms =
       let R = rooms_of s k id v at named in
       distinct_few (length s.homes) v.free
-      (λ r. times_once r v.free (λ i j a b. let e = R.once (length v.back + i) (length v.back + j) r (at_behind v.back v.free i r a) (at_behind v.back v.free j r b) in omega arith))
+      (λ r. times_once r v.free (λ i j a b. let e = R.once (length v.back + i) (length v.back + j) r (at_after v.back v.free i r a) (at_after v.back v.free j r b) in omega arith))
       (λ r l. let t = times_at r v.free l in at_length s.homes r (some None) (k.empty id v at named t.0 r t.1))
 
 -- ---- a party between two calls: none of its names is pending, and none has the right
@@ -109,7 +109,7 @@ module _ {E : Type 0} (s : TableState E) (k : RuleHolds s) (id : ℕ) (v : View 
     ])
   ]
 
-  not_kept : (q : Name) → IsOf v.known.share q → (keeper : Option ℕ) (right : ℕ) (rooms : List ℕ) → RightIs right (core s k).party rooms past keeper → holder past ≢ Some q
+  not_kept : (q : Name) → IsOf v.known.share q → (keeper : Option ℕ) (right : ℕ) (rooms : List ℕ) → RightIs right (core s k).party rooms past keeper → holder_reversed past ≢ Some q
   not_kept q of None right rooms R e = none_some (sym R.0 ∙ e)
   not_kept q of (Some j) right rooms R e = elim (ℕ_discrete j id) [
     | yes here ↦
@@ -135,7 +135,7 @@ module _ {E : Type 0} (s : TableState E) (k : RuleHolds s) (id : ℕ) (v : View 
 
   seen_legal : Legal (plain v.known.seen)
   seen_legal = told_legal same_name (plain v.known.seen) (front_legal (reverse (events later)) (reverse (plain v.known.seen))
-      (subst (λ z. IsLegal z) (ap (λ z. reverse z) all_is ∙ reverse-append (plain v.known.seen) (events later)) k.meets.legal))
+      (subst (λ z. IsLegalReversed z) (ap (λ z. reverse z) all_is ∙ reverse-append (plain v.known.seen) (events later)) k.meets.legal))
 
   pub rest_linked : NonePending v.known.share (plain v.known.seen)
   unfolding past

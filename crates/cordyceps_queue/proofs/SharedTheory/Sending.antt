@@ -12,7 +12,7 @@ use Rattle.cordyceps_shared.proofs.Sending as parties
 use Rattle.cordyceps_queue.specs.declared.cores.steps.TryDequeueError.{TryDequeueError}
 use Rattle.cordyceps_queue.specs.History.{held}
 use Rattle.cordyceps_queue.specs.Shared.Calls.{PartyOf, Legal, same_name, Enqueues, Dequeues}
-use Rattle.cordyceps_queue.specs.Shared.Moves.{put_by, got_by, Moves, given}
+use Rattle.cordyceps_queue.specs.Shared.Moves.{put_by, got_by, Moves, got_by_try}
 use Rattle.cordyceps_queue.specs.Shared.Sending.{Sends}
 use Rattle.cordyceps_queue.proofs.SharedTheory.PartyMoves.{all_kept, moves_enqueue, moves_dequeue}
 
@@ -28,9 +28,9 @@ module _ {E A : Type 0} (f : E → A) where
       subst (λ z. Moves f z g u w) (ap (λ x. take i xs ++ x ∷ []) is ∙ sym (take_more xs i d within)) (then_enqueues e w before c)
 
   pub then_dequeues : {s g : List A} {u v : PartyOf E} (r : Result E TryDequeueError) (w : PartyOf E) → Moves f s g u v → Dequeues r v w
-      → Moves f s (g ++ given f r) u w
-  then_dequeues {s} {g} {u} {v} r w before c = subst (λ z. Moves f z (g ++ given f r) u w) (append-nil s)
-      (moves_then (put_by f) (got_by f) s g [] (given f r) u v w before (moves_dequeue f r v w c))
+      → Moves f s (g ++ got_by_try f r) u w
+  then_dequeues {s} {g} {u} {v} r w before c = subst (λ z. Moves f z (g ++ got_by_try f r) u w) (append-nil s)
+      (moves_then (put_by f) (got_by f) s g [] (got_by_try f r) u v w before (moves_dequeue f r v w c))
 
   -- the party of a new queue gave rooms to another, which sent lists, and received meanwhile. Taken in again, it is whole, and what
   -- it received, and then what is held, is what was sent

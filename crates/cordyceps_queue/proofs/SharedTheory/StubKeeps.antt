@@ -14,12 +14,12 @@ use Rattle.cordyceps_queue.specs.declared.cores.stage.Stage.TheVariants.{Cleared
 use Rattle.cordyceps_queue.specs.History.{Event}
 use Rattle.cordyceps_shared.specs.Places.{ItemAt}
 use Rattle.cordyceps_queue.specs.Cores.Meets.{Owes, tail_of, Chain, AtStage, Meets}
-use Rattle.cordyceps_queue.specs.Past.{WasBlocked}
-use Rattle.cordyceps_queue.specs.Shared.Plays.{SeatState, Sees, carry, stands_at, hands_out, Blocked}
+use Rattle.cordyceps_queue.specs.Past.{WasBlockedReversed}
+use Rattle.cordyceps_queue.specs.Shared.Plays.{SeatState, Sees, carry, moves_to, hands_out, Blocked}
 use Rattle.cordyceps_queue.specs.Shared.Plays as play
 use Rattle.cordyceps_queue.specs.Shared.Rule.{TableState, link_of, machine_of, FullAtHome, party, RuleHolds}
 use Rattle.cordyceps_queue.specs.Shared.View.{View, name}
-use Rattle.cordyceps_queue.specs.Cores.Abstract.{AbstractMachine, stands, clear_stub, swap_head, link_next}
+use Rattle.cordyceps_queue.specs.Cores.Abstract.{AbstractMachine, set_stage, clear_stub, swap_head, link_next}
 use Rattle.cordyceps_queue.proofs.CoreTheory.Basics.{some_inj, zero_suc, suc_zero, suc_inj, put_same, at_split}
 use Rattle.cordyceps_queue.proofs.CoreTheory.DequeueSteps.{pass_keeps, chain_after_pass}
 use Rattle.cordyceps_queue.proofs.CoreTheory.HolderSteps.{was_now, keeping, stage_keeps, tell_keeps, open_blocks, none_held, stub_out}
@@ -48,7 +48,7 @@ module _ {E : Type 0} (s : TableState E) (k : RuleHolds s) (id : ℕ) (v : View 
   fits_at stage e = subst (AtStage core.head core.next core.cell k.chain.owner k.chain.keeper k.chain.rooms past id (name v)) e (k.meets.fits id (party v) is_there)
 
   -- back to Holding, with nothing handed out
-  fails : (t i : ℕ) → tail_of v.stage ≡ Some t → ((a b : ℕ) → Owes v.stage a b → ⊥) → WasBlocked (name v) past → Comes s k id v at named bare i (get_or s.words i 0) (λ _ z. stands_at [] (Holding t) (v, []) z × Blocked z.0)
+  fails : (t i : ℕ) → tail_of v.stage ≡ Some t → ((a b : ℕ) → Owes v.stage a b → ⊥) → WasBlockedReversed (name v) past → Comes s k id v at named bare i (get_or s.words i 0) (λ _ z. moves_to [] (Holding t) (v, []) z × Blocked z.0)
   fails t i has nothing was =
       let met = stage_keeps core k.chain past k.meets id (party v) is_there t has (Holding t) refl (λ a b o. absurd (nothing a b o)) (keeping core k.chain past k.meets id (party v) is_there t has) in
       let r = reads s k id v at named bare [] tt (Holding t) k.chain met (same_rooms s k id v at named bare) (λ q is. cc) i in
@@ -65,7 +65,7 @@ module _ {E : Type 0} (s : TableState E) (k : RuleHolds s) (id : ℕ) (v : View 
     tail_at : ItemAt k.chain.rooms 0 0
     tail_at = (keeping core k.chain past k.meets id (party v) is_there 0 (ap tail_of holding)).tail
 
-    looks_stub_bare : (slots : ℕ) → length s.homes ≡ slots → (x : ℕ) → word.next s.words 0 ≡ x → Comes s k id v at named bare LINKS (word.next s.words 0) (play.looked_stub (step slots LINKS 0 0 none) (v, []))
+    looks_stub_bare : (slots : ℕ) → length s.homes ≡ slots → (x : ℕ) → word.next s.words 0 ≡ x → Comes s k id v at named bare LINKS (word.next s.words 0) (play.after_look_stub (step slots LINKS 0 0 none) (v, []))
     looks_stub_bare slots deep zero e =
         let nothing : (a b : ℕ) → Owes v.stage a b → ⊥ = λ a b o. subst (λ l. Owes l a b) holding o in
         let open_link : core.next 0 ≡ None = ap link_of e in
@@ -88,19 +88,19 @@ module _ {E : Type 0} (s : TableState E) (k : RuleHolds s) (id : ℕ) (v : View 
           keeps,
           tt,
           o.0,
-          λ _. ((λ f. absurd (suc_zero (sym e ∙ f))), λ r' f. subst (λ q. stands_at (look ∷ []) (Second q) (v, []) (w, []) × (q < slots) × (q ≢ 0)) (suc_inj (sym e ∙ f)) (stood s k id v at named bare (look ∷ []) (Second r) o.1, omega arith, ne)),
+          λ _. ((λ f. absurd (suc_zero (sym e ∙ f))), λ r' f. subst (λ q. moves_to (look ∷ []) (Second q) (v, []) (w, []) × (q < slots) × (q ≢ 0)) (suc_inj (sym e ∙ f)) (stood s k id v at named bare (look ∷ []) (Second r) o.1, omega arith, ne)),
         )
 
-  -- ---- the read of head behind a null link
+  -- ---- the read of head after a null link
   module _ (at_null : v.stage ≡ StubNull) where
-    heads_stub_bare : (slots : ℕ) → Dec (word.head s.words ≡ 0) → Comes s k id v at named bare HEAD (word.head s.words) (play.headed_stub (step slots HEAD 0 0 none) (v, []))
+    heads_stub_bare : (slots : ℕ) → Dec (word.head s.words ≡ 0) → Comes s k id v at named bare HEAD (word.head s.words) (play.after_head_stub (step slots HEAD 0 0 none) (v, []))
     heads_stub_bare slots (yes e) =
         let x : Event Name E = Event.Empty (name v) in
         let has : tail_of v.stage ≡ Some 0 = ap tail_of at_null in
         let mine = keeping core k.chain past k.meets id (party v) is_there 0 has in
         let held = record (party v) { stage = Holding 0 } in
-        let back : Meets (stands core id (party v) (Holding 0)) k.chain past = stage_keeps core k.chain past k.meets id (party v) is_there 0 has (Holding 0) refl (λ a b o. absurd (subst (λ l. Owes l a b) at_null o)) mine in
-        let met = tell_keeps (stands core id (party v) (Holding 0)) k.chain past back id held (put_same core.party id (Some held)) 0 refl x refl (mine.held_by, none_held core k.chain past k.meets id (party v) is_there 0 has refl e) refl refl (λ q s. s) (λ q n w. w) in
+        let back : Meets (set_stage core id (party v) (Holding 0)) k.chain past = stage_keeps core k.chain past k.meets id (party v) is_there 0 has (Holding 0) refl (λ a b o. absurd (subst (λ l. Owes l a b) at_null o)) mine in
+        let met = tell_keeps (set_stage core id (party v) (Holding 0)) k.chain past back id held (put_same core.party id (Some held)) 0 refl x refl (mine.held_by, none_held core k.chain past k.meets id (party v) is_there 0 has refl e) refl refl (λ q s. s) (λ q n w. w) in
         let r = reads s k id v at named bare (x ∷ []) (refl, tt) (Holding 0) k.chain met (same_rooms s k id v at named bare) (λ q is. cc) HEAD in
         (view (x ∷ []) (Holding 0), keeps, tt, r.0, λ _. ((λ _. stood s k id v at named bare (x ∷ []) (Holding 0) r.1), λ ne. absurd (ne e)))
     heads_stub_bare slots (no ne) =
@@ -110,7 +110,7 @@ module _ {E : Type 0} (s : TableState E) (k : RuleHolds s) (id : ℕ) (v : View 
   module _ (t : ℕ) (at_null : v.stage ≡ Null t) where
     -- what the read of head tells
     HeadTells : ℕ → SeatState E → Type 0
-    HeadTells found z = (found ≡ t → stands_at [] (PutClear t) (v, []) z) × (found ≢ t → stands_at [] (Holding t) (v, []) z × Blocked z.0)
+    HeadTells found z = (found ≡ t → moves_to [] (PutClear t) (v, []) z) × (found ≢ t → moves_to [] (Holding t) (v, []) z × Blocked z.0)
 
     heads_bare : Dec (word.head s.words ≡ t) → Comes s k id v at named bare HEAD (word.head s.words) HeadTells
     unfolding HeadTells
@@ -131,7 +131,7 @@ module _ {E : Type 0} (s : TableState E) (k : RuleHolds s) (id : ℕ) (v : View 
   stores stage chain next i x same met full away =
       keeps_rule s k id [] v (view [] stage) (set s.words i x) s.homes k.cell chain next at named tt refl same met (length-set s.words i x) refl full (empties_same s k id (view [] stage) (k.empty id v at named)) (readies_same s k id (view [] stage) away)
 
-  clears_stub_bare : (t : ℕ) → v.stage ≡ PutClear t → Comes s k id v at named bare LINKS 0 (λ _. stands_at [] (PutSwap t) (v, []))
+  clears_stub_bare : (t : ℕ) → v.stage ≡ PutClear t → Comes s k id v at named bare LINKS 0 (λ _. moves_to [] (PutSwap t) (v, []))
   clears_stub_bare t l =
       let r = stores (PutSwap t) k.chain (clear_stub core id (party v) t) LINKS 0 spelled (clear_stub_keeps core k.chain past k.meets id (party v) is_there t l) k.full (λ q is. cc) in
       (view [] (PutSwap t), keeps, tt, r.0, stood s k id v at named bare [] (PutSwap t) r.1)
@@ -146,7 +146,7 @@ module _ {E : Type 0} (s : TableState E) (k : RuleHolds s) (id : ℕ) (v : View 
         party = views_put s k id v at named (view [] (PutSwap t)) named j;
       }
 
-  swaps_stub_bare : (t : ℕ) → v.stage ≡ PutSwap t → Comes s k id v at named bare HEAD 0 (λ found. stands_at [] (PutLink t found) (v, []))
+  swaps_stub_bare : (t : ℕ) → v.stage ≡ PutSwap t → Comes s k id v at named bare HEAD 0 (λ found. moves_to [] (PutLink t found) (v, []))
   swaps_stub_bare t l =
       let old = word.head s.words in
       let r = stores (PutLink t old) (chain_after_stub core k.chain past k.meets id (party v) is_there t l) (swap_head core id (party v) 0 (PutLink t old)) HEAD 0 spelled
@@ -166,7 +166,7 @@ module _ {E : Type 0} (s : TableState E) (k : RuleHolds s) (id : ℕ) (v : View 
       full : FullAtHome s.homes k.cell (k.chain.rooms ++ 0 ∷ [])
       full i x ix ne = elim (at_split k.chain.rooms 0 i x ix) [ inl a ↦ k.full i x a ne | inr a ↦ absurd (ne a.1) ]
 
-  links_stub_bare : (t old : ℕ) → v.stage ≡ PutLink t old → old < length s.homes → Comes s k id v at named bare (LINKS + old) 1 (λ _. stands_at [] (PutRead t) (v, []))
+  links_stub_bare : (t old : ℕ) → v.stage ≡ PutLink t old → old < length s.homes → Comes s k id v at named bare (LINKS + old) 1 (λ _. moves_to [] (PutRead t) (v, []))
   links_stub_bare t old l inside =
       let r = stores (PutRead t) k.chain (link_next core id (party v) old 0 (PutRead t)) (LINKS + old) 1 spelled (link_stub_keeps core k.chain past k.meets id (party v) is_there t old l) k.full (λ q is. cc) in
       (view [] (PutRead t), keeps, tt, r.0, stood s k id v at named bare [] (PutRead t) r.1)
@@ -184,7 +184,7 @@ module _ {E : Type 0} (s : TableState E) (k : RuleHolds s) (id : ℕ) (v : View 
   -- the read after it
   module _ (t : ℕ) (at_put : v.stage ≡ PutRead t) where
     RereadTells : ℕ → ℕ → SeatState E → Type 0
-    RereadTells slots found z = (found ≡ 0 → stands_at [] (Holding t) (v, []) z × Blocked z.0) × ((r : ℕ) → found ≡ suc r → hands_out [] slots t r (v, []) z)
+    RereadTells slots found z = (found ≡ 0 → moves_to [] (Holding t) (v, []) z × Blocked z.0) × ((r : ℕ) → found ≡ suc r → hands_out [] slots t r (v, []) z)
 
     rereads_bare : (slots : ℕ) → length s.homes ≡ slots → (i : ℕ) → i ≡ LINKS + t → (x : ℕ) → get_or s.words i 0 ≡ x → Comes s k id v at named bare i (get_or s.words i 0) (RereadTells slots)
     unfolding RereadTells
@@ -218,50 +218,50 @@ same_link : {p : Stage} {t u a b : ℕ} → p ≡ PutLink t a → p ≡ PutLink 
 same_link a b = some_inj (ap tail_of (sym a ∙ b))
 
 module _ {E : Type 0} (slots id : ℕ) (me : SeatState E) (hand : me.1 ≡ carry me.0.back) (near : Near slots me.0.back) (named : me.0.known.share ≢ []) where
-  pub looks_stub : me.0.stage ≡ Holding 0 → Allows RuleHolds slots id me LINKS (λ x. x) (play.looked_stub (step slots LINKS 0 0 none) me)
-  looks_stub holding = returning slots id LINKS me (λ x. x) (play.looked_stub (step slots LINKS 0 0 none) me) hand near named
+  pub looks_stub : me.0.stage ≡ Holding 0 → Allows RuleHolds slots id me LINKS (λ x. x) (play.after_look_stub (step slots LINKS 0 0 none) me)
+  looks_stub holding = returning slots id LINKS me (λ x. x) (play.after_look_stub (step slots LINKS 0 0 none) me) hand near named
       (λ s k deep at fits. looks_stub_bare s k id (view_returned me.0) at named refl holding slots deep (word.next s.words 0) refl)
 
-  pub heads_stub : me.0.stage ≡ StubNull → Allows RuleHolds slots id me HEAD (λ x. x) (play.headed_stub (step slots HEAD 0 0 none) me)
-  heads_stub at_null = returning slots id HEAD me (λ x. x) (play.headed_stub (step slots HEAD 0 0 none) me) hand near named
+  pub heads_stub : me.0.stage ≡ StubNull → Allows RuleHolds slots id me HEAD (λ x. x) (play.after_head_stub (step slots HEAD 0 0 none) me)
+  heads_stub at_null = returning slots id HEAD me (λ x. x) (play.after_head_stub (step slots HEAD 0 0 none) me) hand near named
       (λ s k deep at fits. heads_stub_bare s k id (view_returned me.0) at named refl at_null slots (ℕ_discrete (word.head s.words) 0))
 
   HeadFacts : ℕ → ℕ → SeatState E → Type 0
-  HeadFacts t found z = (found ≡ t → stands_at [] (PutClear t) me z) × (found ≢ t → stands_at [] (Holding t) me z × Blocked z.0)
+  HeadFacts t found z = (found ≡ t → moves_to [] (PutClear t) me z) × (found ≢ t → moves_to [] (Holding t) me z × Blocked z.0)
 
   RereadFacts : ℕ → ℕ → SeatState E → Type 0
-  RereadFacts t found z = (found ≡ 0 → stands_at [] (Holding t) me z × Blocked z.0) × ((r : ℕ) → found ≡ suc r → hands_out [] slots t r me z)
+  RereadFacts t found z = (found ≡ 0 → moves_to [] (Holding t) me z × Blocked z.0) × ((r : ℕ) → found ≡ suc r → hands_out [] slots t r me z)
 
-  pub heads : (t : ℕ) → me.0.stage ≡ Null t → Allows RuleHolds slots id me HEAD (λ x. x) (play.headed (step slots HEAD 0 0 none) me)
+  pub heads : (t : ℕ) → me.0.stage ≡ Null t → Allows RuleHolds slots id me HEAD (λ x. x) (play.after_head (step slots HEAD 0 0 none) me)
   unfolding HeadTells HeadFacts
-  heads t at_null = returning slots id HEAD me (λ x. x) (play.headed (step slots HEAD 0 0 none) me) hand near named
+  heads t at_null = returning slots id HEAD me (λ x. x) (play.after_head (step slots HEAD 0 0 none) me) hand near named
       (λ s k deep at fits.
       let c = heads_bare s k id (view_returned me.0) at named refl t at_null (ℕ_discrete (word.head s.words) t) in
       (c.0, c.1, c.2, c.3, λ u stage. subst (λ q. HeadFacts q (word.head s.words) (c.0, carried_after [] c.1)) (same_null at_null stage) c.4))
 
-  pub rereads : (t i : ℕ) → i ≡ LINKS + t → me.0.stage ≡ PutRead t → Allows RuleHolds slots id me i (λ x. x) (play.reread (step slots i 0 0 none) me)
+  pub rereads : (t i : ℕ) → i ≡ LINKS + t → me.0.stage ≡ PutRead t → Allows RuleHolds slots id me i (λ x. x) (play.after_reread (step slots i 0 0 none) me)
   unfolding RereadTells RereadFacts
-  rereads t i is at_put = returning slots id i me (λ x. x) (play.reread (step slots i 0 0 none) me) hand near named
+  rereads t i is at_put = returning slots id i me (λ x. x) (play.after_reread (step slots i 0 0 none) me) hand near named
       (λ s k deep at fits.
       let c = rereads_bare s k id (view_returned me.0) at named refl t at_put slots deep i is (get_or s.words i 0) refl in
       (c.0, c.1, c.2, c.3, λ u stage. subst (λ q. RereadFacts q (get_or s.words i 0) (c.0, carried_after [] c.1)) (same_put at_put stage) c.4))
 
-  pub clears_stub : (t : ℕ) → me.0.stage ≡ PutClear t → Allows RuleHolds slots id me LINKS (λ _. 0) (λ _. play.cleared_stub (step slots LINKS 0 0 none) me 0)
-  clears_stub t l = returning slots id LINKS me (λ _. 0) (λ _. play.cleared_stub (step slots LINKS 0 0 none) me 0) hand near named
+  pub clears_stub : (t : ℕ) → me.0.stage ≡ PutClear t → Allows RuleHolds slots id me LINKS (λ _. 0) (λ _. play.after_clear_stub (step slots LINKS 0 0 none) me 0)
+  clears_stub t l = returning slots id LINKS me (λ _. 0) (λ _. play.after_clear_stub (step slots LINKS 0 0 none) me 0) hand near named
       (λ s k deep at fits.
       let c = clears_stub_bare s k id (view_returned me.0) at named refl t l in
-      (c.0, c.1, c.2, c.3, λ u stage. subst (λ q. stands_at [] (PutSwap q) me (c.0, carried_after [] c.1)) (same_clear l stage) c.4))
+      (c.0, c.1, c.2, c.3, λ u stage. subst (λ q. moves_to [] (PutSwap q) me (c.0, carried_after [] c.1)) (same_clear l stage) c.4))
 
-  pub swaps_stub : (t : ℕ) → me.0.stage ≡ PutSwap t → Allows RuleHolds slots id me HEAD (λ _. 0) (play.swapped_stub (step slots HEAD 0 0 none) me)
-  swaps_stub t l = returning slots id HEAD me (λ _. 0) (play.swapped_stub (step slots HEAD 0 0 none) me) hand near named
+  pub swaps_stub : (t : ℕ) → me.0.stage ≡ PutSwap t → Allows RuleHolds slots id me HEAD (λ _. 0) (play.after_swap_stub (step slots HEAD 0 0 none) me)
+  swaps_stub t l = returning slots id HEAD me (λ _. 0) (play.after_swap_stub (step slots HEAD 0 0 none) me) hand near named
       (λ s k deep at fits.
       let c = swaps_stub_bare s k id (view_returned me.0) at named refl t l in
       let h = head_near s k in
-      (c.0, c.1, c.2, c.3, λ u stage. (subst (λ q. stands_at [] (PutLink q (word.head s.words)) me (c.0, carried_after [] c.1)) (same_swap l stage) c.4, omega arith)))
+      (c.0, c.1, c.2, c.3, λ u stage. (subst (λ q. moves_to [] (PutLink q (word.head s.words)) me (c.0, carried_after [] c.1)) (same_swap l stage) c.4, omega arith)))
 
-  pub links_stub : (t old i : ℕ) → i ≡ LINKS + old → old < slots → me.0.stage ≡ PutLink t old → Allows RuleHolds slots id me i (λ _. 1) (λ _. play.linked_stub (step slots i 1 0 none) me 1)
-  links_stub t old i is inside l = returning slots id i me (λ _. 1) (λ _. play.linked_stub (step slots i 1 0 none) me 1) hand near named
+  pub links_stub : (t old i : ℕ) → i ≡ LINKS + old → old < slots → me.0.stage ≡ PutLink t old → Allows RuleHolds slots id me i (λ _. 1) (λ _. play.after_link_stub (step slots i 1 0 none) me 1)
+  links_stub t old i is inside l = returning slots id i me (λ _. 1) (λ _. play.after_link_stub (step slots i 1 0 none) me 1) hand near named
       (λ s k deep at fits.
       let c = links_stub_bare s k id (view_returned me.0) at named refl t old l (omega arith) in
       let sum : LINKS + old ≡ i = omega arith in
-      (c.0, c.1, c.2, subst (λ (q : ℕ). RuleHolds (stepped s q 1 id [] c.0 c.1)) sum c.3, λ u o stage. subst (λ q. stands_at [] (PutRead q) me (c.0, carried_after [] c.1)) (same_link l stage) c.4))
+      (c.0, c.1, c.2, subst (λ (q : ℕ). RuleHolds (stepped s q 1 id [] c.0 c.1)) sum c.3, λ u o stage. subst (λ q. moves_to [] (PutRead q) me (c.0, carried_after [] c.1)) (same_link l stage) c.4))

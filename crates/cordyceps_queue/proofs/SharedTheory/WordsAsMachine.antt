@@ -28,9 +28,9 @@ use Rattle.cordyceps_queue.specs.Shared.View.{View, knows, name}
 use Rattle.cordyceps_queue.specs.Cores.Abstract.{AbstractParty, AbstractMachine, update}
 use Rattle.cordyceps_queue.proofs.CoreTheory.Basics.{put_same, put_other}
 
-pub at_behind : {A : Type 0} (xs ys : List A) (i : ℕ) (a : A) → ItemAt ys i a → ItemAt (xs ++ ys) (length xs + i) a
-at_behind [] ys i a p = let e : i ≡ 0 + i = omega arith in subst (λ n. ItemAt ys n a) e p
-at_behind (x ∷ xs) ys i a p = let e : suc (length xs + i) ≡ suc (length xs) + i = omega arith in subst (λ n. ItemAt (x ∷ (xs ++ ys)) n a) e (at_behind xs ys i a p)
+pub at_after : {A : Type 0} (xs ys : List A) (i : ℕ) (a : A) → ItemAt ys i a → ItemAt (xs ++ ys) (length xs + i) a
+at_after [] ys i a p = let e : i ≡ 0 + i = omega arith in subst (λ n. ItemAt ys n a) e p
+at_after (x ∷ xs) ys i a p = let e : suc (length xs + i) ≡ suc (length xs) + i = omega arith in subst (λ n. ItemAt (x ∷ (xs ++ ys)) n a) e (at_after xs ys i a p)
 
 -- the links that the words are
 abbrev pub links : List ℕ → ℕ → Option ℕ
@@ -105,7 +105,7 @@ module _ {E : Type 0} where
     rooms_of j u at some_name = k.meets.rooms j (party u) (party_at j u at some_name)
 
     pub free_spare : (j : ℕ) (u : View E) (i r : ℕ) → get_elem? s.views j ≡ some u → u.known.share ≢ [] → ItemAt u.free i r → k.chain.owner r ≡ Spare j
-    free_spare j u i r at some_name ir = (rooms_of j u at some_name).own (length u.back + i) r (at_behind u.back u.free i r ir)
+    free_spare j u i r at some_name ir = (rooms_of j u at some_name).own (length u.back + i) r (at_after u.back u.free i r ir)
 
     -- one slot changes, which is of no free room of another party
     pub empties : (id r : ℕ) (y : maybe.Option (Option (Filled E))) (w : View E) → EmptyAtHome (set s.homes r y) w.free → ((j : ℕ) → j ≢ id → k.chain.owner r ≡ Spare j → ⊥) → AllEmptyAtHome (set s.homes r y) (set s.views id w)
@@ -131,7 +131,7 @@ module _ {E : Type 0} where
     ready_owner j u r at some_name is =
         (subst (AtStage core.head core.next core.cell k.chain.owner k.chain.keeper k.chain.rooms (reverse (events k.history)) j (party u).name) is (k.meets.fits j (party u) (party_at j u at some_name))).1
 
-    -- what rooms have changes in one room, which no other party has cleared, or nowhere
+    -- what rooms have changes in one room, which no other party has cleared, or in none
     pub readies : (id r : ℕ) (y : Option E) (w : View E) → ((q : ℕ) → w.stage ≡ Cleared q → update k.cell r y q ≡ w.item) → ((j : ℕ) → j ≢ id → k.chain.owner r ≡ Ready j → ⊥) → AllReady (update k.cell r y) (set s.views id w)
     readies id r y w mine apart j u q = one_set (λ _ z. z.known.share ≢ [] → z.stage ≡ Cleared q → update k.cell r y q ≡ z.item) s.views id w (λ _ is. mine q is)
         (λ i z ne e some_name is. put_other k.cell r y q (λ same. apart i ne (ap k.chain.owner (sym same) ∙ ready_owner i z q e some_name is)) ∙ k.ready i z q e some_name is)

@@ -1,4 +1,5 @@
 -- A queue's machine as functions of a room's or a party's number, whoever keeps the words: what each step does to it.
+-- The head of Machine has a picture of the four readings of one machine.
 use Rattle.std.specs.Prelude.{ℕ, zero, suc, Bool, true, false, cond, eqb, ltb, List, [], ◌∷◌, Option, Some, None}
 use Rattle.cordyceps_queue.specs.declared.cores.stage.Stage.{Stage}
 use Rattle.cordyceps_queue.specs.declared.cores.stage.Stage.TheVariants.{Rest, Cleared, Swapped, Holding, StubNull}
@@ -39,8 +40,8 @@ insert_room r [] = r ∷ []
 insert_room r (x ∷ xs) = cond (ltb r x) (r ∷ x ∷ xs) (x ∷ insert_room r xs)
 
 module _ {P E : Type 0} where
-  abbrev pub stands : AbstractMachine P E → ℕ → AbstractParty P → Stage → AbstractMachine P E
-  stands m k p stage = record m { party = update m.party k (Some (record p { stage = stage })) }
+  abbrev pub set_stage : AbstractMachine P E → ℕ → AbstractParty P → Stage → AbstractMachine P E
+  set_stage m k p stage = record m { party = update m.party k (Some (record p { stage = stage })) }
 
   abbrev pub add_party : AbstractMachine P E → ℕ → P → AbstractMachine P E
   add_party m k name = record m { party = update m.party k (Some (record { name = name; stage = Rest; spare = [] })) }
@@ -64,16 +65,16 @@ module _ {P E : Type 0} where
   }
 
   abbrev pub clear_stub : AbstractMachine P E → ℕ → AbstractParty P → ℕ → AbstractMachine P E
-  clear_stub m k p t = record (stands m k p (PutSwap t)) { next = update m.next 0 None }
+  clear_stub m k p t = record (set_stage m k p (PutSwap t)) { next = update m.next 0 None }
 
   abbrev pub swap_head : AbstractMachine P E → ℕ → AbstractParty P → ℕ → Stage → AbstractMachine P E
-  swap_head m k p r stage = record (stands m k p stage) { head = r }
+  swap_head m k p r stage = record (set_stage m k p stage) { head = r }
 
   abbrev pub link_next : AbstractMachine P E → ℕ → AbstractParty P → ℕ → ℕ → Stage → AbstractMachine P E
-  link_next m k p old r stage = record (stands m k p stage) { next = update m.next old (Some r) }
+  link_next m k p old r stage = record (set_stage m k p stage) { next = update m.next old (Some r) }
 
   abbrev pub set_right : AbstractMachine P E → ℕ → AbstractParty P → ℕ → Stage → AbstractMachine P E
-  set_right m k p n stage = record (stands m k p stage) { right = n }
+  set_right m k p n stage = record (set_stage m k p stage) { right = n }
 
   -- the tail's element is handed out, and its room is free again
   abbrev pub hand_out : AbstractMachine P E → ℕ → AbstractParty P → ℕ → ℕ → AbstractMachine P E
@@ -82,16 +83,16 @@ module _ {P E : Type 0} where
     party = update m.party k (Some (record { name = p.name; stage = Holding r; spare = insert_room t p.spare }));
   }
 
-  abbrev pub done : AbstractMachine P E → List (Event P E) → Option (Move P E)
-  done m events = Some (record { after = m; answer = answer.Done; events = events })
+  abbrev pub done_move : AbstractMachine P E → List (Event P E) → Option (Move P E)
+  done_move m events = Some (record { after = m; answer = answer.Done; events = events })
 
   abbrev pub clears : AbstractMachine P E → ℕ → AbstractParty P → List ℕ → E → Option (Move P E)
   clears m k p [] e = None
-  clears m k p (r ∷ rooms) e = done (clear_room m k p r rooms e) []
+  clears m k p (r ∷ rooms) e = done_move (clear_room m k p r rooms e) []
 
   abbrev pub swaps : AbstractMachine P E → ℕ → AbstractParty P → ℕ → Option E → Option (Move P E)
   swaps m k p r None = None
-  swaps m k p r (Some e) = done (swap_head m k p r (Swapped r m.head)) (Event.Swap p.name e ∷ [])
+  swaps m k p r (Some e) = done_move (swap_head m k p r (Swapped r m.head)) (Event.Swap p.name e ∷ [])
 
   abbrev pub takes : AbstractMachine P E → ℕ → AbstractParty P → ℕ → Option (Move P E)
   takes m k p zero = Some (record { after = m; answer = answer.Busy; events = Event.Busy p.name ∷ [] })
@@ -106,19 +107,19 @@ module _ {P E : Type 0} where
 
   -- the next word of the tail t, which is no stub, was read
   abbrev pub reads : AbstractMachine P E → ℕ → AbstractParty P → ℕ → Option ℕ → List (Event P E) → Option (Move P E)
-  reads m k p t None before = done (stands m k p (Null t)) before
+  reads m k p t None before = done_move (set_stage m k p (Null t)) before
   reads m k p t (Some r) before = gives_out m k p t r (m.cell t) before
 
   abbrev pub reads_stub : AbstractMachine P E → ℕ → AbstractParty P → Option ℕ → List (Event P E) → Option (Move P E)
-  reads_stub m k p None before = done (stands m k p StubNull) before
-  reads_stub m k p (Some r) before = done (stands m k p (Second r)) before
+  reads_stub m k p None before = done_move (set_stage m k p StubNull) before
+  reads_stub m k p (Some r) before = done_move (set_stage m k p (Second r)) before
 
   abbrev pub looks : AbstractMachine P E → ℕ → AbstractParty P → ℕ → Option (Move P E)
   looks m k p zero = reads_stub m k p (m.next 0) (Event.Look p.name ∷ [])
   looks m k p (suc t) = reads m k p (suc t) (m.next (suc t)) (Event.Look p.name ∷ [])
 
   abbrev pub fails : AbstractMachine P E → ℕ → AbstractParty P → ℕ → Option (Move P E)
-  fails m k p t = Some (record { after = stands m k p (Holding t); answer = answer.Inconsistent; events = [] })
+  fails m k p t = Some (record { after = set_stage m k p (Holding t); answer = answer.Inconsistent; events = [] })
 
   abbrev pub reads_put : AbstractMachine P E → ℕ → AbstractParty P → ℕ → Option ℕ → Option (Move P E)
   reads_put m k p t None = fails m k p t
@@ -126,26 +127,26 @@ module _ {P E : Type 0} where
 
   abbrev pub heads_stub : AbstractMachine P E → ℕ → AbstractParty P → Bool → Option (Move P E)
   heads_stub m k p true =
-      Some (record { after = stands m k p (Holding 0); answer = answer.Empty; events = Event.Empty p.name ∷ [] })
+      Some (record { after = set_stage m k p (Holding 0); answer = answer.Empty; events = Event.Empty p.name ∷ [] })
   heads_stub m k p false = fails m k p 0
 
   abbrev pub heads : AbstractMachine P E → ℕ → AbstractParty P → ℕ → Bool → Option (Move P E)
-  heads m k p t true = done (stands m k p (PutClear t)) []
+  heads m k p t true = done_move (set_stage m k p (PutClear t)) []
   heads m k p t false = fails m k p t
 
   abbrev pub act : AbstractMachine P E → ℕ → AbstractParty P → Stage → QueueStep E → Option (Move P E)
   act m k p Rest (step.Clear (Some e)) = clears m k p p.spare e
   act m k p Rest step.Take = takes m k p m.right
   act m k p (Cleared r) step.Swap = swaps m k p r (m.cell r)
-  act m k p (Swapped r old) step.Link = done (link_next m k p old r Rest) (Event.Link p.name ∷ [])
+  act m k p (Swapped r old) step.Link = done_move (link_next m k p old r Rest) (Event.Link p.name ∷ [])
   act m k p (Holding t) step.ReadNext = looks m k p t
-  act m k p (Holding t) step.Give = done (set_right m k p (suc t) Rest) (Event.Free p.name ∷ [])
+  act m k p (Holding t) step.Give = done_move (set_right m k p (suc t) Rest) (Event.Free p.name ∷ [])
   act m k p StubNull step.ReadHead = heads_stub m k p (eqb m.head 0)
   act m k p (Second t) step.ReadNext = reads m k p t (m.next t) []
   act m k p (Null t) step.ReadHead = heads m k p t (eqb m.head t)
-  act m k p (PutClear t) (step.Clear None) = done (clear_stub m k p t) []
-  act m k p (PutSwap t) step.Swap = done (swap_head m k p 0 (PutLink t m.head)) []
-  act m k p (PutLink t old) step.Link = done (link_next m k p old 0 (PutRead t)) []
+  act m k p (PutClear t) (step.Clear None) = done_move (clear_stub m k p t) []
+  act m k p (PutSwap t) step.Swap = done_move (swap_head m k p 0 (PutLink t m.head)) []
+  act m k p (PutLink t old) step.Link = done_move (link_next m k p old 0 (PutRead t)) []
   act m k p (PutRead t) step.ReadNext = reads_put m k p t (m.next t)
   act m k p _ _ = None
 
@@ -154,5 +155,5 @@ module _ {P E : Type 0} where
   act_of m k (Some p) s = act m k p p.stage s
 
   -- a step of party k. None: it is not there
-  abbrev pub moved : AbstractMachine P E → ℕ → QueueStep E → Option (Move P E)
-  moved m k s = act_of m k (m.party k) s
+  abbrev pub move_of : AbstractMachine P E → ℕ → QueueStep E → Option (Move P E)
+  move_of m k s = act_of m k (m.party k) s

@@ -13,7 +13,7 @@ use Rattle.cordyceps_queue.specs.declared.cores.steps.TryDequeueError.TheVariant
 use Rattle.cordyceps_queue.specs.History.{Event, Swap, Link, Take, Busy, Look, Out, Empty, Free, held, holder}
 use Rattle.cordyceps_queue.specs.History.{IsBlocked}
 use Rattle.cordyceps_queue.specs.Cores.CoreMeets.{CoreMeets}
-use Rattle.cordyceps_queue.specs.Cores.Machine.{Machine, Answered, Outcome, stepped, least_free}
+use Rattle.cordyceps_queue.specs.Cores.Machine.{Machine, Answered, Outcome, after_step, least_free}
 
 abbrev pub is_rest : Option Stage → Bool
 is_rest (Some Rest) = true
@@ -50,7 +50,7 @@ module _ {E : Type 0} where
   abbrev pub is_ready : Machine E → ℕ → Bool
   is_ready m p = is_rest (slice_get m.parties p) && is_some (least_free p m.rooms)
 
-  -- the steps of an enqueueing
+  -- the steps of an enqueue
   abbrev pub enqueue_steps : ℕ → E → List (ℕ × QueueStep E)
   enqueue_steps p e = (p, step.Clear (Some e)) ∷ (p, step.Swap) ∷ (p, step.Link) ∷ []
 
@@ -60,24 +60,24 @@ module _ {E : Type 0} where
 
   -- the steps that the stages of a holder allow, until an answer other than Done: one, and at most n more
   abbrev pub tries : ℕ → ℕ → Machine E → Outcome E
-  tries p zero m = stepped m p (next_step (slice_get m.parties p))
-  tries p (suc n) m = let out = stepped m p (next_step (slice_get m.parties p)) in goes_on (tries p n) out.0 out.1
+  tries p zero m = after_step m p (next_step (slice_get m.parties p))
+  tries p (suc n) m = let out = after_step m p (next_step (slice_get m.parties p)) in goes_on (tries p n) out.0 out.1
 
   -- the right is given back
   abbrev pub gives_back : ℕ → Outcome E → Outcome E
-  gives_back p out = ((stepped out.0 p step.Give).0, out.1)
+  gives_back p out = ((after_step out.0 p step.Give).0, out.1)
 
   abbrev pub takes_first : ℕ → Machine E → Answered E → Outcome E
   takes_first p m (Ok answer.Taken) = gives_back p (tries p 6 m)
   takes_first p m a = (m, a)
 
   -- a try to dequeue: from rest it takes the right first and gives it back last
-  abbrev pub dequeued_at : ℕ → Machine E → Option Stage → Outcome E
-  dequeued_at p m (Some Rest) = let out = stepped m p step.Take in takes_first p out.0 out.1
-  dequeued_at p m stage = tries p 6 m
+  abbrev pub after_dequeue_at : ℕ → Machine E → Option Stage → Outcome E
+  after_dequeue_at p m (Some Rest) = let out = after_step m p step.Take in takes_first p out.0 out.1
+  after_dequeue_at p m stage = tries p 6 m
 
-  abbrev pub dequeued : Machine E → ℕ → Outcome E
-  dequeued m p = dequeued_at p m (slice_get m.parties p)
+  abbrev pub after_dequeue : Machine E → ℕ → Outcome E
+  after_dequeue m p = after_dequeue_at p m (slice_get m.parties p)
 
   -- the events of a try by a holder
   abbrev pub try_events : ℕ → Result E TryDequeueError → List (Event ℕ E)

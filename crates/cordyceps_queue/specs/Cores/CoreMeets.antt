@@ -12,7 +12,7 @@ use Rattle.cordyceps_queue.specs.declared.cores.steps.QueueAnswer.{QueueAnswer}
 use Rattle.cordyceps_queue.specs.declared.cores.steps.QueueAnswer.TheVariants as answer
 use Rattle.cordyceps_queue.specs.History.{Event, came, went, held, holder, IsLegal, WasBlocked}
 use Rattle.cordyceps_shared.specs.Rooms.{next_in, element_in}
-use Rattle.cordyceps_queue.specs.Cores.Machine.{Machine, Answered, free_rooms, stub_room, stepped, step_events}
+use Rattle.cordyceps_queue.specs.Cores.Machine.{Machine, Answered, free_rooms, stub_room, after_step, step_events}
 use Rattle.cordyceps_queue.specs.Cores.Meets.{Chain, Meets}
 use Rattle.cordyceps_queue.specs.Cores.Abstract.{AbstractParty, AbstractMachine}
 
@@ -40,7 +40,7 @@ module _ {E : Type 0} where
   abbrev pub IsOwned : Machine E → Type 0
   IsOwned m = (k : ℕ) → slice_get m.parties k ≡ None → free_rooms k m.rooms ≡ []
 
-  -- `Meets` reads the history from its newest event backwards
+  -- `Meets` reads the history from its newest event back
   pub record CoreMeets (h : List (Event ℕ E)) (m : Machine E) : Type 0 where
     pub legal : IsLegal ℕ_discrete h
     pub chain : Chain
@@ -66,7 +66,7 @@ module _ {E : Type 0} where
 
   -- a step with its party
   abbrev pub core_step : Machine E → ℕ × QueueStep E → Machine E × Answered E
-  core_step m s = stepped m s.0 s.1
+  core_step m s = after_step m s.0 s.1
 
   abbrev pub core_events : List (Event ℕ E) → Machine E → ℕ × QueueStep E → Answered E → List (Event ℕ E)
   core_events h m s a = step_events m s.0 s.1 a

@@ -1,4 +1,4 @@
--- Several tries that one party runs alone, one after the other, and what their call answers.
+-- Several tries that one party runs alone, one after the other, and what their call returns.
 use Rattle.std.specs.Prelude.{◌≡◌, ◌≢◌, ℕ, zero, suc, ◌-◌, ◌≤◌, Bool, true, false, List, [], ◌∷◌, ◌++◌, length, take}
 use Rattle.std.specs.Prelude.{count_by, vec_items, Option, Some, None, Result, Ok, Err, Vec}
 use native.Mathlib.Decide.{ℕ_discrete}
@@ -11,7 +11,7 @@ use Rattle.cordyceps_queue.specs.declared.cores.steps.TryDequeueError.{TryDequeu
 use Rattle.cordyceps_queue.specs.declared.cores.steps.TryDequeueError.TheVariants as error
 use Rattle.cordyceps_queue.specs.History.{Event, Take, Busy, Look, Free, held, holder, IsPending, IsBlocked}
 use Rattle.cordyceps_queue.specs.Shared.Batches.{outs}
-use Rattle.cordyceps_queue.specs.Cores.Machine.{Machine, Answered, stepped}
+use Rattle.cordyceps_queue.specs.Cores.Machine.{Machine, Answered, after_step}
 use Rattle.cordyceps_queue.specs.Cores.Alone.{may_dequeue, found_of, tries, try_events}
 
 -- a machine, the elements that came out, oldest first, and why the last try gave none, if it did
@@ -32,39 +32,40 @@ module _ {E : Type 0} where
   abbrev pub count_held : Machine E → ℕ
   count_held m = occupied m.rooms - count_by is_cleared m.parties
 
-  abbrev pub went_on : (Machine E → Drained E) → Machine E → Result E TryDequeueError → Drained E
-  went_on next m (Ok e) = let d = next m in (d.0, e ∷ d.1, d.2)
-  went_on next m (Err why) = (m, [], Some why)
+  abbrev pub drain_goes_on : (Machine E → Drained E) → Machine E → Result E TryDequeueError → Drained E
+  drain_goes_on next m (Ok e) = let d = next m in (d.0, e ∷ d.1, d.2)
+  drain_goes_on next m (Err why) = (m, [], Some why)
 
   -- tries of a holder, until n elements came out or a try gave none
-  abbrev pub drained : ℕ → ℕ → Machine E → Drained E
-  drained p zero m = (m, [], None)
-  drained p (suc n) m = let out = tries p 6 m in went_on (drained p n) out.0 (found_of out.1)
+  abbrev pub after_drain : ℕ → ℕ → Machine E → Drained E
+  after_drain p zero m = (m, [], None)
+  after_drain p (suc n) m = let out = tries p 6 m in drain_goes_on (after_drain p n) out.0 (found_of out.1)
 
   -- the right is given back
   abbrev pub hands_back : ℕ → Drained E → Drained E
-  hands_back p d = ((stepped d.0 p step.Give).0, d.1, d.2)
+  hands_back p d = ((after_step d.0 p step.Give).0, d.1, d.2)
 
   abbrev pub drains_first : ℕ → ℕ → Machine E → Answered E → Drained E
-  drains_first p n m (Ok answer.Taken) = hands_back p (drained p n m)
+  drains_first p n m (Ok answer.Taken) = hands_back p (after_drain p n m)
   drains_first p n m a = (m, [], Some error.Busy)
 
   -- from rest the right is taken first and given back last
-  abbrev pub drained_at : ℕ → ℕ → Machine E → Option Stage → Drained E
-  drained_at p n m (Some Rest) = let out = stepped m p step.Take in drains_first p n out.0 out.1
-  drained_at p n m stage = drained p n m
+  abbrev pub after_drain_at : ℕ → ℕ → Machine E → Option Stage → Drained E
+  after_drain_at p n m (Some Rest) = let out = after_step m p step.Take in drains_first p n out.0 out.1
+  after_drain_at p n m stage = after_drain p n m
 
-  -- the answer: the elements, or why there is none
+  -- the result: the elements, or why there is none
   abbrev pub batch_of : List E → Option TryDequeueError → Result (List E) TryDequeueError
   batch_of [] (Some why) = Err why
   batch_of es stop = Ok es
 
-  -- what a call answered, with the elements of its vector
-  abbrev pub given : {Z : Type 0} → Result (Vec E Z) TryDequeueError → Result (List E) TryDequeueError
-  given (Ok batch) = Ok (vec_items batch)
-  given (Err why) = Err why
+  -- what a call returned, with the elements of its vector
+  abbrev pub batch_as_list : {Z : Type 0} → Result (Vec E Z) TryDequeueError → Result (List E) TryDequeueError
+  batch_as_list (Ok batch) = Ok (vec_items batch)
+  batch_as_list (Err why) = Err why
 
-  -- the answer where nobody stands in the way: the oldest of these elements, n or all, or that there is none
+  -- the result where no other party is pending or has the right: the oldest of these elements, n or all, or that there
+  -- is none
   abbrev pub oldest : ℕ → List E → Result (List E) TryDequeueError
   oldest n [] = Err error.Empty
   oldest n (e ∷ es) = Ok (take n (e ∷ es))

@@ -1,4 +1,25 @@
 -- The machine of a queue's core as plain data, and what each step does to it.
+--
+-- One machine is read in four ways:
+--
+--     src/cores: the code                      words and views of a shared table
+--               |                                             |
+--               | view                                        |
+--               v                                             |
+--     Machine: lists                                          | machine_of
+--     Cores/Machine                                           | Shared/Rule
+--               |                                             |
+--               | abstract_of, Cores/CoreMeets                |
+--               v                                             v
+--     AbstractMachine: functions of a room's or a party's number, Cores/Abstract
+--               |
+--               | Meets, Cores/Meets
+--               v
+--     a history, from its newest event back
+--
+-- The code has vectors. A contract of the core sees a `Machine`, and `after_step` says what each step makes of it. The
+-- lemmas speak of an `AbstractMachine`, which does not say who keeps the words, and `move_of` says what a step makes of
+-- that. So each step is shown once to keep what the machine meets (`StepKeeps`), for a core and for a shared table.
 use Rattle.std.specs.Prelude.{ℕ, zero, suc, List, [], ◌∷◌, Bool, true, false, nat_eq, Option, Some, None, Result, Ok}
 use Rattle.std.specs.Prelude.{Err, slice_get, slice_set, is_some, if◌then◌else◌}
 use Rattle.cordyceps_base.specs.declared.shared.StepError.{StepError}
@@ -40,8 +61,8 @@ module _ {E : Type 0} where
   stub_room next = record { owner = None; element = None; next = next }
 
   -- a room that got an element
-  abbrev pub holding : E → Room E → Room E
-  holding e room = record { owner = None; element = Some e; next = None }
+  abbrev pub with_element : E → Room E → Room E
+  with_element e room = record { owner = None; element = Some e; next = None }
 
   -- the numbers of p's free rooms, where the first room has the number i
   abbrev pub free_from : ℕ → ℕ → List (Room E) → List ℕ
@@ -58,12 +79,12 @@ module _ {E : Type 0} where
   step_element (step.Clear o) = o
   step_element _ = None
 
-  abbrev pub refused : Machine E → QueueStep E → Outcome E
-  refused m s = (m, Err (NotThere, step_element s))
+  abbrev pub refusal : Machine E → QueueStep E → Outcome E
+  refusal m s = (m, Err (NotThere, step_element s))
 
   -- p goes to another stage
-  abbrev pub stands : Machine E → ℕ → Stage → QueueAnswer E → Outcome E
-  stands m p stage a =
+  abbrev pub set_stage : Machine E → ℕ → Stage → QueueAnswer E → Outcome E
+  set_stage m p stage a =
       (record { head = m.head; right = m.right; rooms = m.rooms; parties = slice_set m.parties p stage }, Ok a)
 
   -- an element goes into the least free room
@@ -73,7 +94,7 @@ module _ {E : Type 0} where
     record {
       head = m.head;
       right = m.right;
-      rooms = change (holding e) r m.rooms;
+      rooms = change (with_element e) r m.rooms;
       parties = slice_set m.parties p (Cleared r);
     },
     Ok answer.Done,
@@ -86,11 +107,11 @@ module _ {E : Type 0} where
 
   -- the next word of a room is written
   abbrev pub link : Machine E → ℕ → ℕ → Option ℕ → Stage → Outcome E
-  link m p at next stage = (
+  link m p r next stage = (
     record {
       head = m.head;
       right = m.right;
-      rooms = change (linking next) at m.rooms;
+      rooms = change (linking next) r m.rooms;
       parties = slice_set m.parties p stage;
     },
     Ok answer.Done,
@@ -107,9 +128,9 @@ module _ {E : Type 0} where
   give m p t =
       (record { head = m.head; right = Some t; rooms = m.rooms; parties = slice_set m.parties p Rest }, Ok answer.Done)
 
-  -- the tail's element comes out, its room is p's, and the room behind it becomes the tail; in a core the tail has one
+  -- the tail's element comes out, its room is p's, and the room after it becomes the tail; in a core the tail has one
   abbrev pub hand_out : Machine E → ℕ → ℕ → ℕ → Option E → Outcome E
-  hand_out m p t r None = refused m step.ReadNext
+  hand_out m p t r None = refusal m step.ReadNext
   hand_out m p t r (Some e) = (
     record {
       head = m.head;
@@ -122,15 +143,15 @@ module _ {E : Type 0} where
 
   -- the next word of the tail was read, where the tail is the stub, is an element's, or is read again
   abbrev pub read_stub : Machine E → ℕ → Option ℕ → Outcome E
-  read_stub m p None = stands m p StubNull answer.Done
-  read_stub m p (Some r) = stands m p (Second r) answer.Done
+  read_stub m p None = set_stage m p StubNull answer.Done
+  read_stub m p (Some r) = set_stage m p (Second r) answer.Done
 
   abbrev pub read : Machine E → ℕ → ℕ → Option ℕ → Outcome E
-  read m p t None = stands m p (Null t) answer.Done
+  read m p t None = set_stage m p (Null t) answer.Done
   read m p t (Some r) = hand_out m p t r (element_in (slice_get m.rooms t))
 
   abbrev pub read_again : Machine E → ℕ → ℕ → Option ℕ → Outcome E
-  read_again m p t None = stands m p (Holding t) answer.Inconsistent
+  read_again m p t None = set_stage m p (Holding t) answer.Inconsistent
   read_again m p t (Some r) = hand_out m p t r (element_in (slice_get m.rooms t))
 
   abbrev pub look : Machine E → ℕ → ℕ → Option ℕ → Outcome E
@@ -139,12 +160,12 @@ module _ {E : Type 0} where
 
   -- head was read, and is the tail or not
   abbrev pub head_stub : Machine E → ℕ → Bool → Outcome E
-  head_stub m p true = stands m p (Holding 0) answer.Empty
-  head_stub m p false = stands m p (Holding 0) answer.Inconsistent
+  head_stub m p true = set_stage m p (Holding 0) answer.Empty
+  head_stub m p false = set_stage m p (Holding 0) answer.Inconsistent
 
   abbrev pub head_tail : Machine E → ℕ → ℕ → Bool → Outcome E
-  head_tail m p t true = stands m p (PutClear t) answer.Done
-  head_tail m p t false = stands m p (Holding t) answer.Inconsistent
+  head_tail m p t true = set_stage m p (PutClear t) answer.Done
+  head_tail m p t false = set_stage m p (Holding t) answer.Inconsistent
 
   -- what p's step does at its stage
   abbrev pub acts : Machine E → ℕ → Stage → QueueStep E → Outcome E
@@ -161,15 +182,15 @@ module _ {E : Type 0} where
   acts m p (PutSwap t) step.Swap = swap m p 0 (PutLink t m.head)
   acts m p (PutLink t old) step.Link = link m p old (Some 0) (PutRead t)
   acts m p (PutRead t) step.ReadNext = read_again m p t (next_in (slice_get m.rooms t))
-  acts m p _ s = refused m s
+  acts m p _ s = refusal m s
 
-  abbrev pub stepped_at : Machine E → ℕ → Option Stage → QueueStep E → Outcome E
-  stepped_at m p None s = refused m s
-  stepped_at m p (Some stage) s = acts m p stage s
+  abbrev pub after_step_at : Machine E → ℕ → Option Stage → QueueStep E → Outcome E
+  after_step_at m p None s = refusal m s
+  after_step_at m p (Some stage) s = acts m p stage s
 
   -- the machine after p's step, and the answer
-  abbrev pub stepped : Machine E → ℕ → QueueStep E → Outcome E
-  stepped m p s = stepped_at m p (slice_get m.parties p) s
+  abbrev pub after_step : Machine E → ℕ → QueueStep E → Outcome E
+  after_step m p s = after_step_at m p (slice_get m.parties p) s
 
   -- whether a party with this least free room may take the step at this stage
   abbrev pub may_take : Option ℕ → Stage → QueueStep E → Bool

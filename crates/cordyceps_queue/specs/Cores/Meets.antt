@@ -2,7 +2,8 @@
 use Rattle.std.specs.Prelude.{◌≡◌, ℕ, zero, suc, ◌≤◌, ◌≢◌, ◌⊎◌, List, [], ◌∷◌, map, length, Option, Some, None}
 use Rattle.cordyceps_shared.specs.Places.{ItemAt}
 use Rattle.cordyceps_queue.specs.History.{Event}
-use Rattle.cordyceps_queue.specs.Past.{held, holder, IsSettled, IsPendingAt, HasLooked, WasBlocked, IsLegal}
+use Rattle.cordyceps_queue.specs.Past.{held_reversed, holder_reversed, IsSettled, IsPendingAt, HasLooked}
+use Rattle.cordyceps_queue.specs.Past.{WasBlockedReversed, IsLegalReversed}
 use Rattle.cordyceps_queue.specs.declared.cores.stage.Stage.{Stage}
 use Rattle.cordyceps_queue.specs.declared.cores.stage.Stage.TheVariants.{Rest, Cleared, Swapped, Holding, StubNull}
 use Rattle.cordyceps_queue.specs.declared.cores.stage.Stage.TheVariants.{Second, Null, PutClear, PutSwap, PutLink}
@@ -79,7 +80,7 @@ IsStranger {P} party q = (k : ℕ) (p : AbstractParty P) → party k ≡ Some p 
 pub record Keeps {P E : Type 0} (keeper : Option ℕ) (rooms : List ℕ) (h : List (Event P E)) (k : ℕ) (name : P)
     (t : ℕ) : Type 0 where
   pub kept : keeper ≡ Some k
-  pub held_by : holder h ≡ Some name
+  pub held_by : holder_reversed h ≡ Some name
   pub tail : ItemAt rooms 0 t
   pub settled : IsSettled name h
 
@@ -101,9 +102,9 @@ module _ {P E : Type 0} (head : ℕ) (next : ℕ → Option ℕ) (cell : ℕ →
       (i : ℕ) × ItemAt rooms i old × ItemAt rooms (suc i) r × (r ≢ 0) × (next old ≡ None)
       × IsPendingAt name (rank rooms (suc i)) h
   AtStage k name (Holding t) = Keeps keeper rooms h k name t
-  AtStage k name StubNull = Keeps keeper rooms h k name 0 × HasLooked name h × (head ≢ 0 → WasBlocked name h)
+  AtStage k name StubNull = Keeps keeper rooms h k name 0 × HasLooked name h × (head ≢ 0 → WasBlockedReversed name h)
   AtStage k name (Second t) = Real keeper rooms h k name t
-  AtStage k name (Null t) = Real keeper rooms h k name t × (head ≢ t → WasBlocked name h)
+  AtStage k name (Null t) = Real keeper rooms h k name t × (head ≢ t → WasBlockedReversed name h)
   AtStage k name (PutClear t) = Real keeper rooms h k name t × IsOut rooms
   AtStage k name (PutSwap t) = Real keeper rooms h k name t × IsOut rooms × (next 0 ≡ None)
   AtStage k name (PutLink t old) =
@@ -112,13 +113,13 @@ module _ {P E : Type 0} (head : ℕ) (next : ℕ → Option ℕ) (cell : ℕ →
 
 -- the right is out with a party, or it is the tail's room and 1
 abbrev pub RightIs : {P E : Type 0} → ℕ → (ℕ → Option (AbstractParty P)) → List ℕ → List (Event P E) → Option ℕ → Type 0
-RightIs right party rooms h None = (holder h ≡ None) × (t : ℕ) × (right ≡ suc t) × ItemAt rooms 0 t
+RightIs right party rooms h None = (holder_reversed h ≡ None) × (t : ℕ) × (right ≡ suc t) × ItemAt rooms 0 t
 RightIs {P} {E} right party rooms h (Some k) =
     (right ≡ 0) × (p : AbstractParty P) × (t : ℕ) × (party k ≡ Some p) × (tail_of p.stage ≡ Some t)
-    × (holder h ≡ Some p.name)
+    × (holder_reversed h ≡ Some p.name)
 
 pub record Meets {P E : Type 0} (m : AbstractMachine P E) (c : Chain) (h : List (Event P E)) : Type 0 where
-  pub legal : IsLegal h
+  pub legal : IsLegalReversed h
   -- the chain
   pub last : (i : ℕ) × (length c.rooms ≡ suc i) × ItemAt c.rooms i m.head
   pub ends : m.next m.head ≡ None
@@ -127,7 +128,7 @@ pub record Meets {P E : Type 0} (m : AbstractMachine P E) (c : Chain) (h : List 
   pub shared : (i r : ℕ) → ItemAt c.rooms i r → c.owner r ≡ Shared
   pub stub : c.owner 0 ≡ Shared
   pub unmade : (r : ℕ) → m.count ≤ r → c.owner r ≡ Unmade
-  pub holds : map m.cell (real c.rooms) ≡ map Some (held h)
+  pub holds : map m.cell (real c.rooms) ≡ map Some (held_reversed h)
   -- the parties
   pub right : RightIs m.right m.party c.rooms h c.keeper
   pub fits : (k : ℕ) (p : AbstractParty P) → m.party k ≡ Some p →

@@ -1,32 +1,33 @@
 -- What each step keeps.
 use Rattle.std.specs.Prelude.{◌≡◌, ◌≢◌, ℕ, List, [], ◌∷◌, ◌++◌, Some, None}
 use Rattle.cordyceps_queue.specs.History.{Event}
-use Rattle.cordyceps_queue.specs.Past.{came, went, held, holder, WasBlocked, IsLegal}
+use Rattle.cordyceps_queue.specs.Past.{came_reversed, went_reversed, held_reversed, holder_reversed}
+use Rattle.cordyceps_queue.specs.Past.{WasBlockedReversed, IsLegalReversed}
 use Rattle.cordyceps_queue.specs.declared.cores.steps.QueueStep.{QueueStep}
 use Rattle.cordyceps_queue.specs.declared.cores.steps.QueueAnswer.{QueueAnswer}
 use Rattle.cordyceps_queue.specs.declared.cores.steps.QueueAnswer.TheVariants as answer
-use Rattle.cordyceps_queue.specs.Cores.Abstract.{AbstractParty, AbstractMachine, Move, add_party, add_room, moved}
+use Rattle.cordyceps_queue.specs.Cores.Abstract.{AbstractParty, AbstractMachine, Move, add_party, add_room, move_of}
 use Rattle.cordyceps_queue.specs.Cores.Meets.{Chain, IsStranger, Meets}
 
 -- what an answer says of the history before the step
 abbrev pub SaysReversed : {P E : Type 0} → P → QueueAnswer E → List (Event P E) → Type 0
 SaysReversed q answer.Done h = Unit {0}
-SaysReversed q answer.Taken h = holder h ≡ None
-SaysReversed {P} q answer.Busy h = (r : P) × (holder h ≡ Some r) × (q ≢ r)
-SaysReversed {P} {E} q (answer.Out e) h = (rest : List E) × (held h ≡ e ∷ rest)
-SaysReversed q answer.Empty h = held h ≡ []
-SaysReversed q answer.Inconsistent h = WasBlocked q h
+SaysReversed q answer.Taken h = holder_reversed h ≡ None
+SaysReversed {P} q answer.Busy h = (r : P) × (holder_reversed h ≡ Some r) × (q ≢ r)
+SaysReversed {P} {E} q (answer.Out e) h = (rest : List E) × (held_reversed h ≡ e ∷ rest)
+SaysReversed q answer.Empty h = held_reversed h ≡ []
+SaysReversed q answer.Inconsistent h = WasBlockedReversed q h
 
 -- an accepted step of a machine that meets a history leads to one that meets it with the step's events
 abbrev pub StepKeeps : (P E : Type 0) → Type 0
 StepKeeps P E =
     (m : AbstractMachine P E) (c : Chain) (h : List (Event P E)) → Meets m c h →
-    (k : ℕ) (p : AbstractParty P) (s : QueueStep E) (v : Move P E) → m.party k ≡ Some p → moved m k s ≡ Some v →
+    (k : ℕ) (p : AbstractParty P) (s : QueueStep E) (v : Move P E) → m.party k ≡ Some p → move_of m k s ≡ Some v →
     (c' : Chain) × Meets v.after c' (v.events ++ h) × SaysReversed p.name v.answer h
 
 -- what was handed out, followed by what is held, is the order of exchange
 abbrev pub InOrder : (P E : Type 0) → Type 0
-InOrder P E = (h : List (Event P E)) → IsLegal h → went h ++ held h ≡ came h
+InOrder P E = (h : List (Event P E)) → IsLegalReversed h → went_reversed h ++ held_reversed h ≡ came_reversed h
 
 -- a new machine
 abbrev pub new_abstract : {P E : Type 0} → AbstractMachine P E

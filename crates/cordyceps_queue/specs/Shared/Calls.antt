@@ -41,7 +41,7 @@ module _ {E : Type 0} where
   abbrev pub NoneHolds : List Name → List (Event Name E) → Type 0
   NoneHolds names h = (q : Name) → IsOf names q → holder h ≢ Some q
 
-  -- a beginning of what it has seen is blocked, in which its own events are those of before and these
+  -- a prefix of what it has seen is blocked, in which its own events are those of before and these
   pub record BlockedAfter (u : PartyOf E) (es : List (Event Name E)) (w : PartyOf E) : Type 0 where
     pub past : List (Bool × Event Name E)
     pub later : List (Bool × Event Name E)

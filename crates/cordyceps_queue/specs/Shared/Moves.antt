@@ -22,6 +22,6 @@ module _ {E A : Type 0} (f : E → A) where
   Moves sent got u w = parties.Moves put_by got_by sent got u w
 
   -- what a try took out
-  abbrev pub given : Result E TryDequeueError → List A
-  given (Ok e) = f e ∷ []
-  given (Err why) = []
+  abbrev pub got_by_try : Result E TryDequeueError → List A
+  got_by_try (Ok e) = f e ∷ []
+  got_by_try (Err why) = []

@@ -5,7 +5,7 @@ use Rattle.cordyceps_shared.specs.Knowing.{IsKnown}
 use Rattle.cordyceps_shared.specs.Knowing as knowing
 use Rattle.cordyceps_queue.specs.declared.cores.stage.Stage.TheVariants.{Rest}
 use Rattle.cordyceps_shared.specs.Slots.{TableStep}
-use Rattle.cordyceps_queue.specs.Shared.Plays.{SeatState, LegalReversed}
+use Rattle.cordyceps_queue.specs.Shared.Plays.{SeatState, LegalReversed, view, hand}
 use Rattle.cordyceps_queue.specs.Shared.Calls.{NonePending, NoneHolds}
 use Rattle.cordyceps_queue.specs.Shared.View.{View}
 
@@ -14,11 +14,12 @@ module _ {E : Type 0} where
   abbrev pub view_without_told : View E → View E
   view_without_told v = record v { known = record v.known { had = []; told = [] } }
 
-  abbrev pub learned : TableStep E → SeatState E → ℕ → SeatState E → Type 0
-  learned st m read k =
-      (k.0 ≡ view_without_told m.0) × (k.1 ≡ m.1) × IsKnown (λ h. LegalReversed h) m.0.known
-      × (length m.0.free ≤ st.slots)
-      × NonePending m.0.known.share (plain m.0.known.seen) × NoneHolds m.0.known.share (plain m.0.known.seen)
+  abbrev pub after_learn : TableStep E → SeatState E → ℕ → SeatState E → Type 0
+  after_learn st m read k =
+      (view k ≡ view_without_told (view m)) × (hand k ≡ hand m) × IsKnown (λ h. LegalReversed h) (view m).known
+      × (length (view m).free ≤ st.slots)
+      × NonePending (view m).known.share (plain (view m).known.seen)
+      × NoneHolds (view m).known.share (plain (view m).known.seen)
 
   -- what a party has that gave up the first n of its free rooms, and what the new one has
   abbrev pub view_keeping : ℕ → View E → View E

@@ -7,59 +7,64 @@ use Rattle.cordyceps_queue.specs.declared.cores.stage.Stage.TheVariants.{Rest, C
 use Rattle.cordyceps_queue.specs.declared.shared.table.Tried.{Tried}
 use Rattle.cordyceps_queue.specs.declared.shared.table.Tried.TheVariants.{Out, Empty, Inconsistent}
 use Rattle.cordyceps_queue.specs.History.{Event, holder}
-use Rattle.cordyceps_queue.specs.Shared.Plays.{SeatState, Sees, IsResting, IsHolding, HandsOneOut, stands_at, Blocked}
+use Rattle.cordyceps_queue.specs.Shared.Plays.{SeatState, view, hand, Sees, IsResting, IsHolding, HandsOneOut, moves_to}
+use Rattle.cordyceps_queue.specs.Shared.Plays.{Blocked}
 use Rattle.cordyceps_queue.specs.Shared.Rule.{IsTable}
 use Rattle.cordyceps_queue.specs.Shared.Calls.{PartyOf, Legal, NonePending, NoneHolds}
 use Rattle.cordyceps_queue.specs.Shared.View.{View, name}
 
+-- a seat of this table, which is a queue's
+abbrev pub IsSeatOf : TableId → TableId → Type 0
+IsSeatOf seat table = (seat ≡ table) × IsTable table
+
 module _ {E : Type 0} where
   -- a party that rested has cleared its first free room for this element, and has the room's slot in hand
   pub record IsCleared (slots room : ℕ) (e : E) (m k : SeatState E) : Type 0 where
-    pub stage : k.0.stage ≡ Cleared room
-    pub item : k.0.item ≡ Some e
-    pub free : m.0.free ≡ room ∷ k.0.free
-    pub back : k.0.back ≡ []
-    pub hand : k.1 ≡ (room, None) ∷ []
+    pub stage : (view k).stage ≡ Cleared room
+    pub item : (view k).item ≡ Some e
+    pub free : (view m).free ≡ room ∷ (view k).free
+    pub back : (view k).back ≡ []
+    pub hand : hand k ≡ (room, None) ∷ []
     pub near : room < slots
-    pub sees : Sees m.0 [] k.0
+    pub sees : Sees (view m) [] (view k)
 
   -- it has made that room the head
   pub record IsSwapped (slots room old : ℕ) (e : E) (m k : SeatState E) : Type 0 where
-    pub stage : k.0.stage ≡ Swapped room old
-    pub free : k.0.free ≡ m.0.free
-    pub back : k.0.back ≡ []
-    pub hand : k.1 ≡ []
+    pub stage : (view k).stage ≡ Swapped room old
+    pub free : (view k).free ≡ (view m).free
+    pub back : (view k).back ≡ []
+    pub hand : hand k ≡ []
     pub near : old < slots
-    pub sees : Sees m.0 (Event.Swap (name m.0) e ∷ []) k.0
+    pub sees : Sees (view m) (Event.Swap (name (view m)) e ∷ []) (view k)
 
   -- what a try came to, after these events, and the tail after it
   abbrev pub Tries : List (Event Name E) → ℕ → SeatState E → SeatState E → ℕ → Tried E → Type 0
   Tries before slots m k t (Out full) = HandsOneOut before slots full.ticket t full.item m k
   Tries before slots m k t Empty =
-      IsHolding slots t k × stands_at (before ++ Event.Empty (name m.0) ∷ []) (Holding t) m k
-  Tries before slots m k t Inconsistent = IsHolding slots t k × stands_at before (Holding t) m k × Blocked k.0
+      IsHolding slots t k × moves_to (before ++ Event.Empty (name (view m)) ∷ []) (Holding t) m k
+  Tries before slots m k t Inconsistent = IsHolding slots t k × moves_to before (Holding t) m k × Blocked (view k)
 
   -- the party took the right, or another party has it
   abbrev pub AsksRight : ℕ → ℕ → SeatState E → SeatState E → Type 0
-  AsksRight slots zero m k = IsResting slots k × stands_at (Event.Busy (name m.0) ∷ []) Rest m k
-  AsksRight slots (suc t) m k = IsHolding slots t k × stands_at (Event.Take (name m.0) ∷ []) (Holding t) m k
+  AsksRight slots zero m k = IsResting slots k × moves_to (Event.Busy (name (view m)) ∷ []) Rest m k
+  AsksRight slots (suc t) m k = IsHolding slots t k × moves_to (Event.Take (name (view m)) ∷ []) (Holding t) m k
 
   -- a whole try of a party that rested: `None` beside another holder
   abbrev pub Dequeued : ℕ → SeatState E → SeatState E → Option (Tried E) → Type 0
-  Dequeued slots m k None = (k.0.free ≡ m.0.free) × Sees m.0 (Event.Busy (name m.0) ∷ []) k.0
+  Dequeued slots m k None = ((view k).free ≡ (view m).free) × Sees (view m) (Event.Busy (name (view m)) ∷ []) (view k)
   Dequeued slots m k (Some (Out full)) =
-      (k.0.free ≡ full.ticket ∷ m.0.free)
-      × Sees m.0 (Event.Take (name m.0) ∷ Event.Look (name m.0) ∷ Event.Out (name m.0) full.item ∷ Event.Free (name m.0)
-      ∷ []) k.0
-      × (length m.0.free ≤ slots)
+      ((view k).free ≡ full.ticket ∷ (view m).free)
+      × Sees (view m) (Event.Take (name (view m)) ∷ Event.Look (name (view m)) ∷ Event.Out (name (view m)) full.item
+      ∷ Event.Free (name (view m)) ∷ []) (view k)
+      × (length (view m).free ≤ slots)
   Dequeued slots m k (Some Empty) =
-      (k.0.free ≡ m.0.free)
-      × Sees m.0 (Event.Take (name m.0) ∷ Event.Look (name m.0) ∷ Event.Empty (name m.0) ∷ Event.Free (name m.0)
-      ∷ []) k.0
+      ((view k).free ≡ (view m).free)
+      × Sees (view m) (Event.Take (name (view m)) ∷ Event.Look (name (view m)) ∷ Event.Empty (name (view m))
+      ∷ Event.Free (name (view m)) ∷ []) (view k)
   Dequeued slots m k (Some Inconsistent) =
-      (k.0.free ≡ m.0.free)
-      × ((v : View E) × Sees m.0 (Event.Take (name m.0) ∷ Event.Look (name m.0) ∷ []) v × Blocked v
-      × Sees v (Event.Free (name m.0) ∷ []) k.0)
+      ((view k).free ≡ (view m).free)
+      × ((v : View E) × Sees (view m) (Event.Take (name (view m)) ∷ Event.Look (name (view m)) ∷ []) v × Blocked v
+      × Sees v (Event.Free (name (view m)) ∷ []) (view k))
 
   -- ---- parties
   -- what a contract sees of a party with this seat
@@ -71,21 +76,21 @@ module _ {E : Type 0} where
   pub record IsSeated (z : TableId) (m : SeatState E) (tickets : List ℕ) : Type 0 where
     pub table : IsTable z
     pub rests : IsResting z.slots m
-    pub free : m.0.free ≡ tickets
-    pub legal : Legal (plain m.0.known.seen)
-    pub alone : m.0.known.share ≡ whole → AllOwn m.0.known.seen
-    pub share : IsShare m.0.known.share
-    pub linked : NonePending m.0.known.share (plain m.0.known.seen)
-    pub unheld : NoneHolds m.0.known.share (plain m.0.known.seen)
+    pub free : (view m).free ≡ tickets
+    pub legal : Legal (plain (view m).known.seen)
+    pub alone : (view m).known.share ≡ whole → AllOwn (view m).known.seen
+    pub share : IsShare (view m).known.share
+    pub linked : NonePending (view m).known.share (plain (view m).known.seen)
+    pub unheld : NoneHolds (view m).known.share (plain (view m).known.seen)
 
   -- the party has the right, its tail is t, and it has the tickets of its rooms; it has seen a legal history, a whole
   -- party with no event of another; its names are a share, of which none is pending, and the first has the right
   pub record IsConsuming (z : TableId) (t : ℕ) (m : SeatState E) (tickets : List ℕ) : Type 0 where
     pub table : IsTable z
     pub holds : IsHolding z.slots t m
-    pub rooms : m.0.back ++ m.0.free ≡ tickets
-    pub legal : Legal (plain m.0.known.seen)
-    pub alone : m.0.known.share ≡ whole → AllOwn m.0.known.seen
-    pub share : IsShare m.0.known.share
-    pub linked : NonePending m.0.known.share (plain m.0.known.seen)
-    pub held : holder (plain m.0.known.seen) ≡ Some (name m.0)
+    pub rooms : (view m).back ++ (view m).free ≡ tickets
+    pub legal : Legal (plain (view m).known.seen)
+    pub alone : (view m).known.share ≡ whole → AllOwn (view m).known.seen
+    pub share : IsShare (view m).known.share
+    pub linked : NonePending (view m).known.share (plain (view m).known.seen)
+    pub held : holder (plain (view m).known.seen) ≡ Some (name (view m))

@@ -51,8 +51,8 @@ module _ {E : Type 0} where
   party_of none = None
   party_of (some v) = party_if v.known.share (party v)
 
-  -- The machine that the words and the views spell. What the rooms have is said apart, since a slot may be out with a
-  -- seat.
+  -- The machine that the words and the views spell, one of the four readings at the head of Cores/Machine. What the
+  -- rooms have is an argument, since a slot may be out with a seat.
   abbrev pub machine_of : (ℕ → Option E) → List ℕ → List (View E) → AbstractMachine Name E
   machine_of cell words views = record {
     head = word.head words;
@@ -79,7 +79,7 @@ module _ {E : Type 0} where
       (j : ℕ) (v : View E) (r : ℕ) → get_elem? views j ≡ some v → v.known.share ≢ [] → v.stage ≡ Cleared r →
       cell r ≡ v.item
 
-  -- there is one history, which the machine meets, and of which each party has seen a beginning
+  -- there is one history, which the machine meets, and of which each party has seen a prefix
   pub record RuleHolds (s : TableState E) : Type 0 where
     pub history : History E
     pub cell : ℕ → Option E
@@ -93,6 +93,6 @@ module _ {E : Type 0} where
     pub fits : AllAgree actor knows s.views history
     pub owned : SharesDisjoint knows s.views history
 
--- a link for each slot, behind the words before the links, and the stub's slot
+-- a link for each slot, after the other words, and the stub's slot
 abbrev pub IsTable : TableId → Type 0
 IsTable z = (z.words ≡ LINKS + z.slots) × (1 ≤ z.slots) × (z.slots ≤ suc MAX_ROOMS)

@@ -1,10 +1,10 @@
 //! The core of a queue.
 ghost use Rattle.std.specs.Prelude.{◌≡◌, ◌≢◌, ◌++◌, ◌↔◌, ◌≤◌, ℕ, [], List, Some, Err, slice_get, length, IfOk, IfErr, OnOk, OnErr, IsFalse, is_ok};
 ghost use Rattle.cordyceps_base.specs.Runs.{after};
-ghost use Rattle.cordyceps_queue.specs.Cores.Alone.{is_ready, may_dequeue, enqueue_steps, dequeued, found_of, dequeue_events, Enqueued, Finds, LooksBlocked};
-ghost use Rattle.cordyceps_queue.specs.Cores.Drain.{may_drain, drained_at, given, batch_of, batch_events, oldest, NobodyPending, NobodyElse, Drains};
+ghost use Rattle.cordyceps_queue.specs.Cores.Alone.{is_ready, may_dequeue, enqueue_steps, after_dequeue, found_of, dequeue_events, Enqueued, Finds, LooksBlocked};
+ghost use Rattle.cordyceps_queue.specs.Cores.Drain.{may_drain, after_drain_at, batch_as_list, batch_of, batch_events, oldest, NobodyPending, NobodyElse, Drains};
 ghost use Rattle.cordyceps_queue.specs.History.{Event, holder, held};
-ghost use Rattle.cordyceps_queue.specs.Cores.Machine.{stepped, is_there, step_element, step_events};
+ghost use Rattle.cordyceps_queue.specs.Cores.Machine.{after_step, is_there, step_element, step_events};
 ghost use Rattle.cordyceps_queue.specs.Cores.CoreMeets.{CoreMeets, AnswerSays, core_step, new_machine, with_party, with_room};
 
 use crate::cores::machine::Machine;
@@ -97,8 +97,8 @@ impl<E: Drop> QueueCore<E> {
     /// # Complexity
     /// O(r) for `Clear` with an element, for r rooms, among which it seeks a free one. O(1) for the other steps.
     pub fn step(&mut self, party: usize, step: QueueStep<E>) -> Answered<E>
-        ensures machine { self.new ≡ (stepped self.old party step).0 }
-        ensures answer { result ≡ (stepped self.old party step).1 }
+        ensures machine { self.new ≡ (after_step self.old party step).0 }
+        ensures answer { result ≡ (after_step self.old party step).1 }
         ensures accepted { is_ok result ≡ is_there self.old party step }
         ensures refused { IfErr result (λ e. (e ≡ (StepError.NotThere, step_element step)) × (self.new ≡ self.old)) }
         ensures history { (h : List (Event ℕ E)) → CoreMeets h self.old
@@ -144,8 +144,8 @@ impl<E: Drop> QueueCore<E> {
     pub fn try_dequeue(&mut self, party: usize) -> Result<Result<E, TryDequeueError>, StepError>
         ensures accepted { is_ok result ≡ may_dequeue (slice_get self.old.parties party) }
         ensures err { IfErr result (λ e. (e ≡ StepError.NotThere) × (self.new ≡ self.old)) }
-        ensures ok { IfOk result
-            (λ found. (self.new ≡ (dequeued self.old party).0) × (found ≡ found_of (dequeued self.old party).1)) }
+        ensures ok { IfOk result (λ found. (self.new ≡ (after_dequeue self.old party).0)
+            × (found ≡ found_of (after_dequeue self.old party).1)) }
         ensures history { IfOk result (λ found. (h : List (Event ℕ E)) → CoreMeets h self.old
             → CoreMeets (h ++ dequeue_events party (slice_get self.old.parties party) found) self.new
             × Finds h party found) }
@@ -182,21 +182,22 @@ impl<E: Drop> QueueCore<E> {
         ensures not_there { (result ≡ Err StepError.NotThere)
             ↔ IsFalse (may_drain max (slice_get self.old.parties party)) }
         ensures err { OnErr result (self.new ≡ self.old) }
-        ensures ok { IfOk result (λ batch. let d = drained_at party max self.old (slice_get self.old.parties party) in
-            (self.new ≡ d.0) × (given batch ≡ batch_of d.1 d.2)) }
+        ensures ok { IfOk result (λ batch.
+            let d = after_drain_at party max self.old (slice_get self.old.parties party) in
+            (self.new ≡ d.0) × (batch_as_list batch ≡ batch_of d.1 d.2)) }
         ensures history { OnOk result
-            (let d = drained_at party max self.old (slice_get self.old.parties party) in (h : List (Event ℕ E))
+            (let d = after_drain_at party max self.old (slice_get self.old.parties party) in (h : List (Event ℕ E))
             → CoreMeets h self.old
             → CoreMeets (h ++ batch_events party (slice_get self.old.parties party) d.1 d.2) self.new
             × Drains h party max (slice_get self.old.parties party) d.1 d.2) }
         ensures all { IfOk result (λ batch. (h : List (Event ℕ E)) → CoreMeets h self.old
             → NobodyPending h
             → NobodyElse h party
-            → given batch ≡ oldest max (held h)) }
+            → batch_as_list batch ≡ oldest max (held h)) }
         ensures busy { IfOk result (λ batch. (h : List (Event ℕ E)) (q : ℕ) → CoreMeets h self.old
             → holder h ≡ Some q
             → party ≢ q
-            → given batch ≡ Err TryDequeueError.Busy) }
+            → batch_as_list batch ≡ Err TryDequeueError.Busy) }
     {
         if max == 0 || !self.machine.may_dequeue(party) {
             return Err(StepError::NotThere);

@@ -1,7 +1,9 @@
 //! The machine of a core: its words, its rooms and the stages of its parties.
+//!
+//! The head of `specs/Cores/Machine.antt` has a picture of the four readings of one machine, of which this is the code.
 ghost use Rattle.std.specs.Prelude.{◌≡◌, ◌≢◌, ◌<◌, ◌++◌, ◌∷◌, [], length, Some, None, IsSome, IfOk, OnOk, OnErr, slice_get, nat_eq, is_some};
 ghost use Rattle.cordyceps_shared.specs.Rooms.{element_in, next_in};
-ghost use Rattle.cordyceps_queue.specs.Cores.Machine.{stepped, acts, least_free, stands, clear, swap, link, take, give, hand_out, look, read, read_again, read_stub, head_stub, head_tail};
+ghost use Rattle.cordyceps_queue.specs.Cores.Machine.{after_step, acts, least_free, set_stage, clear, swap, link, take, give, hand_out, look, read, read_again, read_stub, head_stub, head_tail};
 ghost use Rattle.cordyceps_queue.specs.Cores.CoreMeets.{IsSound, new_machine, with_party, with_room};
 ghost use Rattle.cordyceps_queue.specs.Cores.Drain.{count_held};
 
@@ -89,8 +91,7 @@ impl<E: Drop> Machine<E> {
     /// Moves a party to another stage, and returns `answer`.
     fn stand(&mut self, party: usize, stage: Stage, answer: QueueAnswer<E>) -> Answered<E>
         requires { party < length self.old.parties }
-        ensures machine { self.new ≡ (stands self.old party stage answer).0 }
-        ensures answer { result ≡ (stands self.old party stage answer).1 }
+        ensures { (self.new, result) ≡ set_stage self.old party stage answer }
     {
         self.parties[party] = stage;
         Ok(answer)
@@ -99,8 +100,7 @@ impl<E: Drop> Machine<E> {
     fn clear(&mut self, party: usize, element: E) -> Answered<E>
         requires sound { IsSound self.old }
         requires at { slice_get self.old.parties party ≡ Some Stage.Rest }
-        ensures machine { self.new ≡ (clear self.old party element (least_free party self.old.rooms)).0 }
-        ensures answer { result ≡ (clear self.old party element (least_free party self.old.rooms)).1 }
+        ensures { (self.new, result) ≡ clear self.old party element (least_free party self.old.rooms) }
     {
         let Some(room) = self.rooms.least_free(party) else {
             return Err((StepError::NotThere, Some(element)));
@@ -112,29 +112,26 @@ impl<E: Drop> Machine<E> {
 
     fn swap(&mut self, party: usize, room: usize, stage: Stage) -> Answered<E>
         requires { party < length self.old.parties }
-        ensures machine { self.new ≡ (swap self.old party room stage).0 }
-        ensures answer { result ≡ (swap self.old party room stage).1 }
+        ensures { (self.new, result) ≡ swap self.old party room stage }
     {
         self.head = room;
         self.parties[party] = stage;
         Ok(QueueAnswer::Done)
     }
 
-    fn link(&mut self, party: usize, at: usize, next: Option<usize>, stage: Stage) -> Answered<E>
+    fn link(&mut self, party: usize, room: usize, next: Option<usize>, stage: Stage) -> Answered<E>
         requires party { party < length self.old.parties }
-        requires room { at < length self.old.rooms }
-        ensures machine { self.new ≡ (link self.old party at next stage).0 }
-        ensures answer { result ≡ (link self.old party at next stage).1 }
+        requires room { room < length self.old.rooms }
+        ensures { (self.new, result) ≡ link self.old party room next stage }
     {
-        self.rooms.link(at, next);
+        self.rooms.link(room, next);
         self.parties[party] = stage;
         Ok(QueueAnswer::Done)
     }
 
     fn take(&mut self, party: usize) -> Answered<E>
         requires { party < length self.old.parties }
-        ensures machine { self.new ≡ (take self.old party self.old.right).0 }
-        ensures answer { result ≡ (take self.old party self.old.right).1 }
+        ensures { (self.new, result) ≡ take self.old party self.old.right }
     {
         let Some(tail) = self.right else {
             return Ok(QueueAnswer::Busy);
@@ -146,8 +143,7 @@ impl<E: Drop> Machine<E> {
 
     fn give(&mut self, party: usize, tail: usize) -> Answered<E>
         requires { party < length self.old.parties }
-        ensures machine { self.new ≡ (give self.old party tail).0 }
-        ensures answer { result ≡ (give self.old party tail).1 }
+        ensures { (self.new, result) ≡ give self.old party tail }
     {
         self.right = Some(tail);
         self.parties[party] = Stage::Rest;
@@ -158,9 +154,7 @@ impl<E: Drop> Machine<E> {
     fn hand_out(&mut self, party: usize, tail: usize, next: usize) -> Answered<E>
         requires party { party < length self.old.parties }
         requires full { IsSome (element_in (slice_get self.old.rooms tail)) }
-        ensures machine { self.new
-            ≡ (hand_out self.old party tail next (element_in (slice_get self.old.rooms tail))).0 }
-        ensures answer { result ≡ (hand_out self.old party tail next (element_in (slice_get self.old.rooms tail))).1 }
+        ensures { (self.new, result) ≡ hand_out self.old party tail next (element_in (slice_get self.old.rooms tail)) }
     {
         let element = self.rooms.free(tail, party);
         self.parties[party] = Stage::Holding(next);
@@ -170,8 +164,7 @@ impl<E: Drop> Machine<E> {
     fn read_stub(&mut self, party: usize) -> Answered<E>
         requires party { party < length self.old.parties }
         requires room { 0 < length self.old.rooms }
-        ensures machine { self.new ≡ (read_stub self.old party (next_in (slice_get self.old.rooms 0))).0 }
-        ensures answer { result ≡ (read_stub self.old party (next_in (slice_get self.old.rooms 0))).1 }
+        ensures { (self.new, result) ≡ read_stub self.old party (next_in (slice_get self.old.rooms 0)) }
     {
         match self.rooms.next(0) {
             None => self.stand(party, Stage::StubNull, QueueAnswer::Done),
@@ -183,8 +176,7 @@ impl<E: Drop> Machine<E> {
         requires party { party < length self.old.parties }
         requires room { tail < length self.old.rooms }
         requires full { IsSome (element_in (slice_get self.old.rooms tail)) }
-        ensures machine { self.new ≡ (read self.old party tail (next_in (slice_get self.old.rooms tail))).0 }
-        ensures answer { result ≡ (read self.old party tail (next_in (slice_get self.old.rooms tail))).1 }
+        ensures { (self.new, result) ≡ read self.old party tail (next_in (slice_get self.old.rooms tail)) }
     {
         match self.rooms.next(tail) {
             None => self.stand(party, Stage::Null(tail), QueueAnswer::Done),
@@ -196,8 +188,7 @@ impl<E: Drop> Machine<E> {
         requires party { party < length self.old.parties }
         requires room { tail < length self.old.rooms }
         requires full { IsSome (element_in (slice_get self.old.rooms tail)) }
-        ensures machine { self.new ≡ (read_again self.old party tail (next_in (slice_get self.old.rooms tail))).0 }
-        ensures answer { result ≡ (read_again self.old party tail (next_in (slice_get self.old.rooms tail))).1 }
+        ensures { (self.new, result) ≡ read_again self.old party tail (next_in (slice_get self.old.rooms tail)) }
     {
         match self.rooms.next(tail) {
             None => self.stand(party, Stage::Holding(tail), QueueAnswer::Inconsistent),
@@ -209,8 +200,7 @@ impl<E: Drop> Machine<E> {
         requires party { party < length self.old.parties }
         requires room { tail < length self.old.rooms }
         requires full { tail ≢ 0 → IsSome (element_in (slice_get self.old.rooms tail)) }
-        ensures machine { self.new ≡ (look self.old party tail (next_in (slice_get self.old.rooms tail))).0 }
-        ensures answer { result ≡ (look self.old party tail (next_in (slice_get self.old.rooms tail))).1 }
+        ensures { (self.new, result) ≡ look self.old party tail (next_in (slice_get self.old.rooms tail)) }
     {
         if tail == 0 {
             self.read_stub(party)
@@ -221,8 +211,7 @@ impl<E: Drop> Machine<E> {
 
     fn head_stub(&mut self, party: usize) -> Answered<E>
         requires { party < length self.old.parties }
-        ensures machine { self.new ≡ (head_stub self.old party (nat_eq self.old.head 0)).0 }
-        ensures answer { result ≡ (head_stub self.old party (nat_eq self.old.head 0)).1 }
+        ensures { (self.new, result) ≡ head_stub self.old party (nat_eq self.old.head 0) }
     {
         if self.head == 0 {
             self.stand(party, Stage::Holding(0), QueueAnswer::Empty)
@@ -233,8 +222,7 @@ impl<E: Drop> Machine<E> {
 
     fn head_tail(&mut self, party: usize, tail: usize) -> Answered<E>
         requires { party < length self.old.parties }
-        ensures machine { self.new ≡ (head_tail self.old party tail (nat_eq self.old.head tail)).0 }
-        ensures answer { result ≡ (head_tail self.old party tail (nat_eq self.old.head tail)).1 }
+        ensures { (self.new, result) ≡ head_tail self.old party tail (nat_eq self.old.head tail) }
     {
         if self.head == tail {
             self.stand(party, Stage::PutClear(tail), QueueAnswer::Done)
@@ -246,8 +234,7 @@ impl<E: Drop> Machine<E> {
     /// Takes a step of a party, or refuses it.
     pub(crate) fn act(&mut self, party: usize, step: QueueStep<E>) -> Answered<E>
         requires { IsSound self.old }
-        ensures machine { self.new ≡ (stepped self.old party step).0 }
-        ensures answer { result ≡ (stepped self.old party step).1 }
+        ensures { (self.new, result) ≡ after_step self.old party step }
     {
         let Some(stage) = self.stage(party) else {
             return Err((StepError::NotThere, step.into_element()));

@@ -3,7 +3,7 @@ ghost use Rattle.std.specs.Prelude.{◌≡◌, ◌<◌, ◌++◌, [], ◌∷◌,
 ghost use Rattle.std.specs.List.{position};
 ghost use Rattle.cordyceps_shared.specs.Rooms.{occupied};
 ghost use Rattle.cordyceps_shared.specs.Rooms.{change, linking, freeing, is_free_for, element_in, next_in};
-ghost use Rattle.cordyceps_queue.specs.Cores.Machine.{holding, stub_room, least_free};
+ghost use Rattle.cordyceps_queue.specs.Cores.Machine.{with_element, stub_room, least_free};
 
 use cordyceps_shared::room::Room;
 use std::alloc::{AllocError, Global};
@@ -67,15 +67,15 @@ impl<E: Drop> Rooms<E> {
         Some(place + 1)
     }
 
-    /// Returns the room that the room `at` leads to.
-    pub(crate) fn next(&self, at: usize) -> Option<usize>
-        requires { at < length self.now }
-        ensures { result ≡ next_in (slice_get self.now at) }
+    /// Returns the room that `room` leads to.
+    pub(crate) fn next(&self, room: usize) -> Option<usize>
+        requires { room < length self.now }
+        ensures { result ≡ next_in (slice_get self.now room) }
     {
-        if at == 0 {
+        if room == 0 {
             self.stub_next
         } else {
-            self.list[at - 1].next
+            self.list[room - 1].next
         }
     }
 
@@ -90,12 +90,12 @@ impl<E: Drop> Rooms<E> {
     }
 
     /// Puts an element into a room, which is then no party's free one and has a null link.
-    pub(crate) fn hold(&mut self, at: usize, element: E)
-        requires within { at < length self.old }
-        requires not_stub { 0 < at }
-        ensures { self.new ≡ change (holding element) at self.old }
+    pub(crate) fn hold(&mut self, room: usize, element: E)
+        requires within { room < length self.old }
+        requires not_stub { 0 < room }
+        ensures { self.new ≡ change (with_element element) room self.old }
     {
-        self.list[at - 1] = Room {
+        self.list[room - 1] = Room {
             owner: None,
             element: Some(element),
             next: None,
@@ -103,25 +103,25 @@ impl<E: Drop> Rooms<E> {
     }
 
     /// Makes a room lead to another.
-    pub(crate) fn link(&mut self, at: usize, next: Option<usize>)
-        requires { at < length self.old }
-        ensures { self.new ≡ change (linking next) at self.old }
+    pub(crate) fn link(&mut self, room: usize, next: Option<usize>)
+        requires { room < length self.old }
+        ensures { self.new ≡ change (linking next) room self.old }
     {
-        if at == 0 {
+        if room == 0 {
             self.stub_next = next;
         } else {
-            self.list[at - 1].next = next;
+            self.list[room - 1].next = next;
         }
     }
 
     /// Takes the element out of a room, which is then a free one of the party.
-    pub(crate) fn free(&mut self, at: usize, party: usize) -> E
-        requires { IsSome (element_in (slice_get self.old at)) }
-        ensures rooms { self.new ≡ change (freeing party) at self.old }
-        ensures element { element_in (slice_get self.old at) ≡ Some result }
+    pub(crate) fn free(&mut self, room: usize, party: usize) -> E
+        requires { IsSome (element_in (slice_get self.old room)) }
+        ensures rooms { self.new ≡ change (freeing party) room self.old }
+        ensures element { element_in (slice_get self.old room) ≡ Some result }
     {
-        let room = &mut self.list[at - 1];
-        room.owner = Some(party);
-        room.element.take().unwrap()
+        let freed = &mut self.list[room - 1];
+        freed.owner = Some(party);
+        freed.element.take().unwrap()
     }
 }

@@ -1,8 +1,8 @@
 //! Calls of one party, by its steps.
 ghost use Rattle.std.specs.Prelude.{◌≡◌, ◌≤◌, ◌⊎◌, ℕ, [], List, Some, length, slice_get, true, vec_capacity};
-ghost use Rattle.cordyceps_queue.specs.Cores.Alone.{next_step, is_done, found_of, tries, dequeued, may_dequeue, is_ready};
+ghost use Rattle.cordyceps_queue.specs.Cores.Alone.{next_step, is_done, found_of, tries, after_dequeue, may_dequeue, is_ready};
 ghost use Rattle.cordyceps_queue.specs.Cores.CoreMeets.{CoreMeets, IsSound};
-ghost use Rattle.cordyceps_queue.specs.Cores.Drain.{given, batch_of, drained, drained_at};
+ghost use Rattle.cordyceps_queue.specs.Cores.Drain.{batch_as_list, batch_of, after_drain, after_drain_at};
 ghost use Rattle.cordyceps_queue.specs.History.{Event, held};
 
 use crate::cores::machine::Machine;
@@ -46,7 +46,7 @@ pub(crate) fn batch_or<E: Drop>(
     batch: Vec<E>,
     stop: Option<TryDequeueError>,
 ) -> Result<Vec<E>, TryDequeueError>
-    ensures { given result ≡ batch_of batch.items stop }
+    ensures { batch_as_list result ≡ batch_of batch.items stop }
 {
     match stop {
         Some(why) if batch.is_empty() => Err(why),
@@ -72,8 +72,7 @@ impl<E: Drop> Machine<E> {
     /// Takes the steps of a try by the party that has the right, which are at most seven.
     fn try_holding(&mut self, party: usize) -> Answered<E>
         requires { IsSound self.old }
-        ensures machine { self.new ≡ (tries party 6 self.old).0 }
-        ensures answer { result ≡ (tries party 6 self.old).1 }
+        ensures { (self.new, result) ≡ tries party 6 self.old }
     {
         for _ in 0..6usize {
             let answer = self.act(party, next_step(self.stage(party)));
@@ -87,8 +86,7 @@ impl<E: Drop> Machine<E> {
     /// Tries to dequeue. A party at rest takes the right first and gives it back last.
     pub(crate) fn dequeue(&mut self, party: usize) -> Answered<E>
         requires { IsSound self.old }
-        ensures machine { self.new ≡ (dequeued self.old party).0 }
-        ensures answer { result ≡ (dequeued self.old party).1 }
+        ensures { (self.new, result) ≡ after_dequeue self.old party }
     {
         let Some(Stage::Rest) = self.stage(party) else {
             return self.try_holding(party);
@@ -110,7 +108,7 @@ impl<E: Drop> Machine<E> {
         requires empty { batch.old.items ≡ [] }
         requires room { (h : List (Event ℕ E)) × CoreMeets h self.old
             × ((max ≤ vec_capacity batch.old) ⊎ (length (held h) ≤ vec_capacity batch.old)) }
-        ensures { (self.new, batch.new.items, result) ≡ drained party max self.old }
+        ensures { (self.new, batch.new.items, result) ≡ after_drain party max self.old }
     {
         while batch.len() < max {
             match found(self.try_holding(party)) {
@@ -134,7 +132,7 @@ impl<E: Drop> Machine<E> {
         requires room { (h : List (Event ℕ E)) × CoreMeets h self.old
             × ((max ≤ vec_capacity batch.old) ⊎ (length (held h) ≤ vec_capacity batch.old)) }
         ensures { (self.new, batch.new.items, result)
-            ≡ drained_at party max self.old (slice_get self.old.parties party) }
+            ≡ after_drain_at party max self.old (slice_get self.old.parties party) }
     {
         let Some(Stage::Rest) = self.stage(party) else {
             return self.drain(party, batch, max);

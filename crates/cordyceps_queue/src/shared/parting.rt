@@ -4,8 +4,8 @@ ghost use Rattle.cordyceps_shared.specs.Histories.{plain};
 ghost use Rattle.cordyceps_shared.specs.Knowing.{IsKnown};
 ghost use Rattle.cordyceps_queue.specs.Shared.Calls.{NonePending, NoneHolds};
 ghost use Rattle.cordyceps_queue.specs.Shared.Parting.{view_keeping, view_giving, view_absorbing, view_without_told};
-ghost use Rattle.cordyceps_queue.specs.Shared.Plays.{IsResting, LegalReversed};
-ghost use Rattle.cordyceps_queue.specs.Shared.Rule.{IsTable};
+ghost use Rattle.cordyceps_queue.specs.Shared.Plays.{IsResting, LegalReversed, view};
+ghost use Rattle.cordyceps_queue.specs.Shared.Parts.{IsSeatOf};
 ghost use Rattle.cordyceps_queue.specs.Shared.View.{newcomer};
 
 use crate::shared::plays::{Cut, Learn, Merge};
@@ -24,7 +24,7 @@ pub(crate) fn open<E: Drop>(
     rooms: usize,
 ) -> Result<(OwnedTable<E>, PartySeat<E>), AllocError>
     requires { rooms ≤ MAX_ROOMS }
-    ensures { IfOk result (λ r. (r.1.table_id ≡ r.0.shared.table_id) × IsTable r.0.shared.table_id
+    ensures { IfOk result (λ r. IsSeatOf r.1.table_id r.0.shared.table_id
         × (r.0.shared.table_id.slots ≡ rooms + 1) × (r.1.me ≡ (newcomer rooms, []))) }
 {
     let mut words = vec![in alloc; 0; LINKS + rooms + 1]?;
@@ -33,11 +33,11 @@ pub(crate) fn open<E: Drop>(
 }
 
 fn cut<E: Drop, B: Count>(words: &Words<E>, seat: &mut PartySeat<E>, rooms: usize) -> PartySeat<E>
-    requires table { (seat.old.table_id ≡ words.now.table_id) × IsTable words.now.table_id }
+    requires table { IsSeatOf seat.old.table_id words.now.table_id }
     requires rest { IsResting words.now.table_id.slots seat.old.me × (B.rooms ≡ rooms) }
     ensures table { (seat.new.table_id ≡ seat.old.table_id) × (result.table_id ≡ seat.old.table_id) }
-    ensures views { (seat.new.me ≡ (view_keeping rooms seat.old.me.0, []))
-        × (result.me ≡ (view_giving rooms seat.old.me.0, [])) }
+    ensures views { (seat.new.me ≡ (view_keeping rooms (view seat.old.me), []))
+        × (result.me ≡ (view_giving rooms (view seat.old.me), [])) }
 {
     words.split_seat::<Cut<B>>(seat)
 }
@@ -48,27 +48,26 @@ pub(crate) fn split<E: Drop>(
     seat: &mut PartySeat<E>,
     rooms: usize,
 ) -> PartySeat<E>
-    requires table { (seat.old.table_id ≡ words.now.table_id) × IsTable words.now.table_id }
+    requires table { IsSeatOf seat.old.table_id words.now.table_id }
     requires rest { IsResting words.now.table_id.slots seat.old.me }
     ensures table { (seat.new.table_id ≡ seat.old.table_id) × (result.table_id ≡ seat.old.table_id) }
-    ensures views { (seat.new.me ≡ (view_keeping rooms seat.old.me.0, []))
-        × (result.me ≡ (view_giving rooms seat.old.me.0, [])) }
+    ensures views { (seat.new.me ≡ (view_keeping rooms (view seat.old.me), []))
+        × (result.me ≡ (view_giving rooms (view seat.old.me), [])) }
 {
     cut::<E, Brand>(words, seat, rooms)
 }
 
 /// Absorbs another seat. What one of the two had seen is a prefix of what the other had.
 pub(crate) fn absorb<E: Drop>(words: &Words<E>, seat: &mut PartySeat<E>, other: PartySeat<E>)
-    requires table { (seat.old.table_id ≡ words.now.table_id) × (other.table_id ≡ words.now.table_id)
-        × IsTable words.now.table_id }
+    requires table { IsSeatOf seat.old.table_id words.now.table_id × IsSeatOf other.table_id words.now.table_id }
     requires rest { IsResting words.now.table_id.slots seat.old.me × IsResting words.now.table_id.slots other.me }
     ensures table { seat.new.table_id ≡ seat.old.table_id }
-    ensures views { seat.new.me ≡ (view_without_told (view_absorbing seat.old.me.0 other.me.0), []) }
-    ensures known { IsKnown (λ h. LegalReversed h) (view_absorbing seat.old.me.0 other.me.0).known }
-    ensures few { length seat.new.me.0.free ≤ words.now.table_id.slots }
-    ensures linked { let known = (view_absorbing seat.old.me.0 other.me.0).known in
+    ensures views { seat.new.me ≡ (view_without_told (view_absorbing (view seat.old.me) (view other.me)), []) }
+    ensures known { IsKnown (λ h. LegalReversed h) (view_absorbing (view seat.old.me) (view other.me)).known }
+    ensures few { length (view seat.new.me).free ≤ words.now.table_id.slots }
+    ensures linked { let known = (view_absorbing (view seat.old.me) (view other.me)).known in
         NonePending known.share (plain known.seen) }
-    ensures unheld { let known = (view_absorbing seat.old.me.0 other.me.0).known in
+    ensures unheld { let known = (view_absorbing (view seat.old.me) (view other.me)).known in
         NoneHolds known.share (plain known.seen) }
 {
     words.join_seat::<Merge>(seat, other);

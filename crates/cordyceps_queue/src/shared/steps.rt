@@ -1,9 +1,8 @@
 //! The atomic steps of a shared queue. Each function is a part of a call.
 ghost use Rattle.std.specs.Prelude.{◌≡◌, ◌≢◌, ◌≤◌, ◌<◌, ℕ, suc, List, [], ◌∷◌, Some, None, MatchOption};
-ghost use Rattle.cordyceps_queue.specs.Shared.Parts.{IsCleared, IsSwapped, AsksRight};
+ghost use Rattle.cordyceps_queue.specs.Shared.Parts.{IsSeatOf, IsCleared, IsSwapped, AsksRight};
 ghost use Rattle.cordyceps_queue.specs.History.{Event};
-ghost use Rattle.cordyceps_queue.specs.Shared.Plays.{Sees, IsResting, IsHolding, IsAtStage, Blocked, HandsOneOut, stands_at, hands_out};
-ghost use Rattle.cordyceps_queue.specs.Shared.Rule.{IsTable};
+ghost use Rattle.cordyceps_queue.specs.Shared.Plays.{Sees, IsResting, IsHolding, IsAtStage, Blocked, HandsOneOut, moves_to, hands_out, view, hand};
 ghost use Rattle.cordyceps_queue.specs.Shared.View.{name};
 ghost use Rattle.cordyceps_queue.specs.declared.cores.stage.Stage.TheVariants.{Cleared, Swapped, Rest, Holding, Null, PutRead};
 
@@ -16,9 +15,9 @@ use std::marker::Brand;
 
 /// Makes a free room's link null and takes the room's slot, before this element is put in.
 fn clear<E: Drop, B: Chosen<E>>(words: &Words<E>, seat: &mut PartySeat<E>, room: usize, _item: &E)
-    requires table { (seat.old.table_id ≡ words.now.table_id) × IsTable words.now.table_id }
+    requires table { IsSeatOf seat.old.table_id words.now.table_id }
     requires rest { IsResting words.now.table_id.slots seat.old.me }
-    requires room { (rs : List ℕ) × (seat.old.me.0.free ≡ room ∷ rs) }
+    requires room { (rs : List ℕ) × ((view seat.old.me).free ≡ room ∷ rs) }
     requires item { B.item ≡ Some _item.now }
     ensures table { seat.new.table_id ≡ seat.old.table_id }
     ensures cleared { IsCleared words.now.table_id.slots room _item.now seat.old.me seat.new.me }
@@ -28,11 +27,11 @@ fn clear<E: Drop, B: Chosen<E>>(words: &Words<E>, seat: &mut PartySeat<E>, room:
 
 /// Puts the element into the slot, makes its room the head, and returns the old head.
 fn swap_in<E: Drop>(words: &Words<E>, seat: &mut PartySeat<E>, full: Filled<E>) -> u64
-    requires table { (seat.old.table_id ≡ words.now.table_id) × IsTable words.now.table_id }
-    requires stage { (seat.old.me.0.stage ≡ Cleared full.ticket) × (seat.old.me.0.item ≡ Some full.item)
-        × (seat.old.me.0.back ≡ []) }
-    requires hand { seat.old.me.1 ≡ (full.ticket, None) ∷ [] }
-    requires near { (full.ticket < words.now.table_id.slots) × (seat.old.me.0.known.share ≢ []) }
+    requires table { IsSeatOf seat.old.table_id words.now.table_id }
+    requires stage { ((view seat.old.me).stage ≡ Cleared full.ticket) × ((view seat.old.me).item ≡ Some full.item)
+        × ((view seat.old.me).back ≡ []) }
+    requires hand { hand seat.old.me ≡ (full.ticket, None) ∷ [] }
+    requires near { (full.ticket < words.now.table_id.slots) × ((view seat.old.me).known.share ≢ []) }
     ensures table { seat.new.table_id ≡ seat.old.table_id }
     ensures swapped { IsSwapped words.now.table_id.slots full.ticket result full.item seat.old.me seat.new.me }
 {
@@ -45,28 +44,29 @@ fn swap_in<E: Drop>(words: &Words<E>, seat: &mut PartySeat<E>, full: Filled<E>) 
 
 /// Makes the old head lead to the room.
 fn link<E: Drop>(words: &Words<E>, seat: &mut PartySeat<E>, room: usize, old: usize)
-    requires table { (seat.old.table_id ≡ words.now.table_id) × IsTable words.now.table_id }
-    requires stage { (seat.old.me.0.stage ≡ Swapped room old) × (seat.old.me.0.back ≡ []) × (seat.old.me.1 ≡ []) }
+    requires table { IsSeatOf seat.old.table_id words.now.table_id }
+    requires stage { ((view seat.old.me).stage ≡ Swapped room old) × ((view seat.old.me).back ≡ [])
+        × (hand seat.old.me ≡ []) }
     requires near { (old < words.now.table_id.slots) × (room < words.now.table_id.slots)
-        × (seat.old.me.0.known.share ≢ []) }
+        × ((view seat.old.me).known.share ≢ []) }
     ensures table { seat.new.table_id ≡ seat.old.table_id }
-    ensures rest { (seat.new.me.0.stage ≡ Rest) × (seat.new.me.0.back ≡ []) × (seat.new.me.1 ≡ []) }
-    ensures free { seat.new.me.0.free ≡ seat.old.me.0.free }
-    ensures sees { Sees seat.old.me.0 (Event.Link (name seat.old.me.0) ∷ []) seat.new.me.0 }
+    ensures rest { ((view seat.new.me).stage ≡ Rest) × ((view seat.new.me).back ≡ []) × (hand seat.new.me ≡ []) }
+    ensures free { (view seat.new.me).free ≡ (view seat.old.me).free }
+    ensures sees { Sees (view seat.old.me) (Event.Link (name (view seat.old.me)) ∷ []) (view seat.new.me) }
 {
     words.store::<Link>(seat, LINKS + old, room as u64 + 1);
 }
 
 /// Puts an element into a free room, whose ticket is given, makes the room the head, and links it.
 pub(crate) fn enqueue<E: Drop>(words: &Words<E>, seat: &mut PartySeat<E>, ticket: Ticket, item: E)
-    requires table { (seat.old.table_id ≡ words.now.table_id) × IsTable words.now.table_id }
+    requires table { IsSeatOf seat.old.table_id words.now.table_id }
     requires rest { IsResting words.now.table_id.slots seat.old.me }
-    requires room { (rs : List ℕ) × (seat.old.me.0.free ≡ ticket ∷ rs) }
+    requires room { (rs : List ℕ) × ((view seat.old.me).free ≡ ticket ∷ rs) }
     ensures table { seat.new.table_id ≡ seat.old.table_id }
     ensures rest { IsResting words.now.table_id.slots seat.new.me }
-    ensures free { seat.old.me.0.free ≡ ticket ∷ seat.new.me.0.free }
-    ensures sees { Sees seat.old.me.0 (Event.Swap (name seat.old.me.0) item ∷ Event.Link (name seat.old.me.0) ∷ [])
-        seat.new.me.0 }
+    ensures free { (view seat.old.me).free ≡ ticket ∷ (view seat.new.me).free }
+    ensures sees { Sees (view seat.old.me)
+        (Event.Swap (name (view seat.old.me)) item ∷ Event.Link (name (view seat.old.me)) ∷ []) (view seat.new.me) }
 {
     let room = ticket.room();
     clear::<E, Brand>(words, seat, room, &item);
@@ -76,21 +76,21 @@ pub(crate) fn enqueue<E: Drop>(words: &Words<E>, seat: &mut PartySeat<E>, ticket
 
 /// Gives the right to dequeue back, and the slot that the party took.
 pub(crate) fn give<E: Drop>(words: &Words<E>, seat: &mut PartySeat<E>, tail: usize)
-    requires table { (seat.old.table_id ≡ words.now.table_id) × IsTable words.now.table_id }
+    requires table { IsSeatOf seat.old.table_id words.now.table_id }
     requires holding { IsHolding words.now.table_id.slots tail seat.old.me }
     ensures table { seat.new.table_id ≡ seat.old.table_id }
     ensures rest { IsResting words.now.table_id.slots seat.new.me }
-    ensures answer { stands_at (Event.Free (name seat.old.me.0) ∷ []) Rest seat.old.me seat.new.me }
+    ensures answer { moves_to (Event.Free (name (view seat.old.me)) ∷ []) Rest seat.old.me seat.new.me }
 {
     words.store::<Give>(seat, RIGHT, tail as u64 + 1);
 }
 
 /// Reads the tail's link again, after the stub was put in.
 pub(crate) fn reread<E: Drop>(words: &Words<E>, seat: &mut PartySeat<E>, tail: usize) -> u64
-    requires table { (seat.old.table_id ≡ words.now.table_id) × IsTable words.now.table_id }
+    requires table { IsSeatOf seat.old.table_id words.now.table_id }
     requires stage { IsAtStage words.now.table_id.slots (PutRead tail) seat.old.me × (tail < words.now.table_id.slots) }
     ensures table { seat.new.table_id ≡ seat.old.table_id }
-    ensures null { result ≡ 0 → stands_at [] (Holding tail) seat.old.me seat.new.me × Blocked seat.new.me.0 }
+    ensures null { result ≡ 0 → moves_to [] (Holding tail) seat.old.me seat.new.me × Blocked (view seat.new.me) }
     ensures room { (r : ℕ) → result ≡ suc r → hands_out [] words.now.table_id.slots tail r seat.old.me seat.new.me }
 {
     words.load::<Reread>(seat, LINKS + tail)
@@ -98,7 +98,7 @@ pub(crate) fn reread<E: Drop>(words: &Words<E>, seat: &mut PartySeat<E>, tail: u
 
 /// Takes the right to dequeue, and returns 1 more than the tail's room, or 0 if another party has the right.
 pub(crate) fn take<E: Drop>(words: &Words<E>, seat: &mut PartySeat<E>) -> u64
-    requires table { (seat.old.table_id ≡ words.now.table_id) × IsTable words.now.table_id }
+    requires table { IsSeatOf seat.old.table_id words.now.table_id }
     requires rest { IsResting words.now.table_id.slots seat.old.me }
     ensures table { seat.new.table_id ≡ seat.old.table_id }
     ensures took { AsksRight words.now.table_id.slots result seat.old.me seat.new.me }
@@ -113,14 +113,14 @@ pub(crate) fn look<E: Drop>(
     seat: &mut PartySeat<E>,
     tail: usize,
 ) -> Option<(u64, Filled<E>)>
-    requires table { (seat.old.table_id ≡ words.now.table_id) × IsTable words.now.table_id }
+    requires table { IsSeatOf seat.old.table_id words.now.table_id }
     requires holding { IsHolding words.now.table_id.slots tail seat.old.me }
     requires real { tail ≢ 0 }
     ensures table { seat.new.table_id ≡ seat.old.table_id }
     ensures answer { MatchOption result
-        (stands_at (Event.Look (name seat.old.me.0) ∷ []) (Null tail) seat.old.me seat.new.me)
+        (moves_to (Event.Look (name (view seat.old.me)) ∷ []) (Null tail) seat.old.me seat.new.me)
         (λ r. (r.1.ticket ≡ tail)
-        × HandsOneOut (Event.Look (name seat.old.me.0) ∷ []) words.now.table_id.slots tail r.0 r.1.item seat.old.me
+        × HandsOneOut (Event.Look (name (view seat.old.me)) ∷ []) words.now.table_id.slots tail r.0 r.1.item seat.old.me
         seat.new.me) }
 {
     let next = words.load::<Look>(seat, LINKS + tail);

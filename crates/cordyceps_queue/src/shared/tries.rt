@@ -2,10 +2,9 @@
 //!
 //! A try is inlined into its caller, so that its outcome stays in registers. Only `put_stub` is called.
 ghost use Rattle.std.specs.Prelude.{◌≡◌, ◌<◌, [], ◌∷◌};
-ghost use Rattle.cordyceps_queue.specs.Shared.Parts.{Tries, Dequeued};
+ghost use Rattle.cordyceps_queue.specs.Shared.Parts.{IsSeatOf, Tries, Dequeued};
 ghost use Rattle.cordyceps_queue.specs.History.{Event};
-ghost use Rattle.cordyceps_queue.specs.Shared.Plays.{IsResting, IsHolding, IsAtStage};
-ghost use Rattle.cordyceps_queue.specs.Shared.Rule.{IsTable};
+ghost use Rattle.cordyceps_queue.specs.Shared.Plays.{IsResting, IsHolding, IsAtStage, view};
 ghost use Rattle.cordyceps_queue.specs.Shared.View.{name};
 ghost use Rattle.cordyceps_queue.specs.declared.cores.stage.Stage.TheVariants.{Second, Null, PutRead};
 
@@ -17,8 +16,8 @@ use crate::shared::table::{PartySeat, Tried, Words};
 
 /// Continues a try after the stub was put in after the tail.
 #[inline(always)]
-fn behind_tail<E: Drop>(words: &Words<E>, seat: &mut PartySeat<E>, tail: usize) -> (u64, Tried<E>)
-    requires table { (seat.old.table_id ≡ words.now.table_id) × IsTable words.now.table_id }
+fn after_tail<E: Drop>(words: &Words<E>, seat: &mut PartySeat<E>, tail: usize) -> (u64, Tried<E>)
+    requires table { IsSeatOf seat.old.table_id words.now.table_id }
     requires stage { IsAtStage words.now.table_id.slots (PutRead tail) seat.old.me × (tail < words.now.table_id.slots) }
     ensures table { seat.new.table_id ≡ seat.old.table_id }
     ensures answer { Tries [] words.now.table_id.slots seat.old.me seat.new.me result.0 result.1 }
@@ -33,7 +32,7 @@ fn behind_tail<E: Drop>(words: &Words<E>, seat: &mut PartySeat<E>, tail: usize) 
 /// Continues a try at a null link of a tail that is not the stub.
 #[inline(always)]
 fn at_end<E: Drop>(words: &Words<E>, seat: &mut PartySeat<E>, tail: usize) -> (u64, Tried<E>)
-    requires table { (seat.old.table_id ≡ words.now.table_id) × IsTable words.now.table_id }
+    requires table { IsSeatOf seat.old.table_id words.now.table_id }
     requires stage { IsAtStage words.now.table_id.slots (Null tail) seat.old.me × (tail < words.now.table_id.slots) }
     ensures table { seat.new.table_id ≡ seat.old.table_id }
     ensures answer { Tries [] words.now.table_id.slots seat.old.me seat.new.me result.0 result.1 }
@@ -42,13 +41,13 @@ fn at_end<E: Drop>(words: &Words<E>, seat: &mut PartySeat<E>, tail: usize) -> (u
         return (tail as u64, Tried::Inconsistent);
     }
     put_stub(words, seat, tail);
-    behind_tail(words, seat, tail)
+    after_tail(words, seat, tail)
 }
 
 /// Continues a try after the stub was passed.
 #[inline(always)]
-fn behind_stub<E: Drop>(words: &Words<E>, seat: &mut PartySeat<E>, tail: usize) -> (u64, Tried<E>)
-    requires table { (seat.old.table_id ≡ words.now.table_id) × IsTable words.now.table_id }
+fn after_stub<E: Drop>(words: &Words<E>, seat: &mut PartySeat<E>, tail: usize) -> (u64, Tried<E>)
+    requires table { IsSeatOf seat.old.table_id words.now.table_id }
     requires stage { IsAtStage words.now.table_id.slots (Second tail) seat.old.me × (tail < words.now.table_id.slots) }
     ensures table { seat.new.table_id ≡ seat.old.table_id }
     ensures answer { Tries [] words.now.table_id.slots seat.old.me seat.new.me result.0 result.1 }
@@ -63,15 +62,15 @@ fn behind_stub<E: Drop>(words: &Words<E>, seat: &mut PartySeat<E>, tail: usize) 
 /// Tries once when the tail is the stub.
 #[inline(always)]
 fn look_stub<E: Drop>(words: &Words<E>, seat: &mut PartySeat<E>) -> (u64, Tried<E>)
-    requires table { (seat.old.table_id ≡ words.now.table_id) × IsTable words.now.table_id }
+    requires table { IsSeatOf seat.old.table_id words.now.table_id }
     requires holding { IsHolding words.now.table_id.slots 0 seat.old.me }
     ensures table { seat.new.table_id ≡ seat.old.table_id }
-    ensures answer { Tries (Event.Look (name seat.old.me.0) ∷ []) words.now.table_id.slots seat.old.me seat.new.me
+    ensures answer { Tries (Event.Look (name (view seat.old.me)) ∷ []) words.now.table_id.slots seat.old.me seat.new.me
         result.0 result.1 }
 {
     let next = look_first(words, seat);
     if next != 0 {
-        return behind_stub(words, seat, next as usize - 1);
+        return after_stub(words, seat, next as usize - 1);
     }
     if head_of_stub(words, seat) == 0 {
         return (0, Tried::Empty);
@@ -86,10 +85,10 @@ pub(crate) fn advance<E: Drop>(
     seat: &mut PartySeat<E>,
     tail: usize,
 ) -> (u64, Tried<E>)
-    requires table { (seat.old.table_id ≡ words.now.table_id) × IsTable words.now.table_id }
+    requires table { IsSeatOf seat.old.table_id words.now.table_id }
     requires holding { IsHolding words.now.table_id.slots tail seat.old.me }
     ensures table { seat.new.table_id ≡ seat.old.table_id }
-    ensures answer { Tries (Event.Look (name seat.old.me.0) ∷ []) words.now.table_id.slots seat.old.me seat.new.me
+    ensures answer { Tries (Event.Look (name (view seat.old.me)) ∷ []) words.now.table_id.slots seat.old.me seat.new.me
         result.0 result.1 }
 {
     if tail == 0 {
@@ -103,7 +102,7 @@ pub(crate) fn advance<E: Drop>(
 
 /// Takes the right, tries once, and gives the right back. Returns `None` if another party has the right.
 pub(crate) fn try_dequeue<E: Drop>(words: &Words<E>, seat: &mut PartySeat<E>) -> Option<Tried<E>>
-    requires table { (seat.old.table_id ≡ words.now.table_id) × IsTable words.now.table_id }
+    requires table { IsSeatOf seat.old.table_id words.now.table_id }
     requires rest { IsResting words.now.table_id.slots seat.old.me }
     ensures table { seat.new.table_id ≡ seat.old.table_id }
     ensures rest { IsResting words.now.table_id.slots seat.new.me }

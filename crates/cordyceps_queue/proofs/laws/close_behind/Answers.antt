@@ -16,7 +16,7 @@ loop-handle-preserved g c =
     let last = holds_last c.loop-handle.party c.enqueue.new.party e i.share d in
     let shown = ap (map element) last ∙ map-append element before (e ∷ []) in
     record {
-      behind = ap (λ xs. xs ++ c.next.new.self) shown ∙ (append_assoc (map element before) (element e ∷ []) c.next.new.self ∙ (ap (λ xs. map element before ++ xs) (sym first) ∙ i.behind));
+      after = ap (λ xs. xs ++ c.next.new.self) shown ∙ (append_assoc (map element before) (element e ∷ []) c.next.new.self ∙ (ap (λ xs. map element before ++ xs) (sym first) ∙ i.after));
       table = d.0.1 ∙ i.table;
       share = d.0.0.share ∙ i.share;
       rooms = omega (arith, i.rooms, d.1, ap length first);
@@ -29,4 +29,4 @@ pub returns-clause-elements : goal.returns-clause-elements
 returns-clause-elements g c =
     let i = c.loop-handle.invariant in
     let held_then = map g.T.Linked.element (held (plain c.loop-handle.party.seen)) in
-    c.close.ensures.elements ∙ (sym (append-nil held_then) ∙ (ap (λ xs. held_then ++ xs) (sym c.in_default.ensures.steps.0) ∙ i.behind))
+    c.close.ensures.elements ∙ (sym (append-nil held_then) ∙ (ap (λ xs. held_then ++ xs) (sym c.in_default.ensures.steps.0) ∙ i.after))

@@ -6,7 +6,7 @@ use Rattle.cordyceps_queue.proofs.laws.close_behind.Given as goal
 
 abbrev pub invariant-loop-handle : goal.invariant-loop-handle
 invariant-loop-handle g l = record {
-  behind : map g.T.Linked.element (held (plain l.party.seen)) ++ l.elements ≡ map g.T.Linked.element (held (plain l.initial.party.seen)) ++ l.initial.elements;
+  after : map g.T.Linked.element (held (plain l.party.seen)) ++ l.elements ≡ map g.T.Linked.element (held (plain l.initial.party.seen)) ++ l.initial.elements;
   table : l.party.table ≡ l.initial.party.table;
   share : l.party.share ≡ whole;
   rooms : length l.elements ≤ l.party.rooms;

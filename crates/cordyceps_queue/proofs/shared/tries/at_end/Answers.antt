@@ -13,8 +13,8 @@ put_stub-requires-clause-stage g c =
     let q = c.requires.stage in
     at_stage c.args.words.now.table_id.slots [] (PutClear c.args.tail) c.args.seat.now.me c.is_head.new.seat.me q.0.2 q.0.3 (c.is_head.ensures.alone c.if-not-is_head.false)
 
-pub behind_tail-requires-clause-stage : goal.behind_tail-requires-clause-stage
-behind_tail-requires-clause-stage g c =
+pub after_tail-requires-clause-stage : goal.after_tail-requires-clause-stage
+after_tail-requires-clause-stage g c =
     let q = c.requires.stage in
     let put = stands_then [] [] (PutClear c.args.tail) (PutRead c.args.tail) c.args.seat.now.me c.is_head.new.seat.me c.put_stub.new.seat.me (c.is_head.ensures.alone c.if-not-is_head.false) c.put_stub.ensures.answer in
     (at_stage c.args.words.now.table_id.slots [] (PutRead c.args.tail) c.args.seat.now.me c.put_stub.new.seat.me q.0.2 q.0.3 put, q.1)
@@ -22,4 +22,4 @@ behind_tail-requires-clause-stage g c =
 pub returns-clause-answer : goal.returns-clause-answer
 returns-clause-answer g c =
     let put = stands_then [] [] (PutClear c.args.tail) (PutRead c.args.tail) c.args.seat.now.me c.is_head.new.seat.me c.put_stub.new.seat.me (c.is_head.ensures.alone c.if-not-is_head.false) c.put_stub.ensures.answer in
-    tries_then c.args.words.now.table_id.slots [] [] (PutRead c.args.tail) c.args.seat.now.me c.put_stub.new.seat.me c.behind_tail.new.seat.me _ _ put c.behind_tail.ensures.answer
+    tries_then c.args.words.now.table_id.slots [] [] (PutRead c.args.tail) c.args.seat.now.me c.put_stub.new.seat.me c.after_tail.new.seat.me _ _ put c.after_tail.ensures.answer

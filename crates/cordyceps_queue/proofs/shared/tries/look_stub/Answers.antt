@@ -6,8 +6,8 @@ use Rattle.cordyceps_queue.specs.declared.shared.table.Tried.TheVariants.{Empty,
 use Rattle.cordyceps_queue.proofs.SharedTheory.PartsJoin.{pred_suc, at_stage, tries_then, tries_blocked, tries_empty}
 use Rattle.cordyceps_queue.proofs.shared.tries.look_stub.Goals as goal
 
-pub behind_stub-requires-clause-stage : goal.behind_stub-requires-clause-stage
-behind_stub-requires-clause-stage g c =
+pub after_stub-requires-clause-stage : goal.after_stub-requires-clause-stage
+after_stub-requires-clause-stage g c =
     let E = g.row.E.Denot in
     let q = c.requires.holding in
     let look : Event _ E = Event.Look (name c.args.seat.now.me.0) in
@@ -19,7 +19,7 @@ returns-then-next-ne0-clause-answer g c =
     let E = g.row.E.Denot in
     let look : Event _ E = Event.Look (name c.args.seat.now.me.0) in
     let h = c.look_first-next.ensures.room (c.look_first-next.result - 1) (pred_suc c.look_first-next.result c.if-next-ne0.true) in
-    tries_then c.args.words.now.table_id.slots (look ∷ []) [] (Second (c.look_first-next.result - 1)) c.args.seat.now.me c.look_first-next.new.seat.me c.behind_stub.new.seat.me _ _ h.0 c.behind_stub.ensures.answer
+    tries_then c.args.words.now.table_id.slots (look ∷ []) [] (Second (c.look_first-next.result - 1)) c.args.seat.now.me c.look_first-next.new.seat.me c.after_stub.new.seat.me _ _ h.0 c.after_stub.ensures.answer
 
 pub head_of_stub-requires-clause-stage : goal.head_of_stub-requires-clause-stage
 head_of_stub-requires-clause-stage g c =

@@ -4,12 +4,7 @@ use Rattle.cordyceps_shared.specs.Rooms.{next_in}
 use Rattle.cordyceps_queue.specs.Cores.Machine.{Machine}
 use Rattle.cordyceps_queue.proofs.cores.machine.Machine.read_stub.Goals as goal
 
-pub returns-in-None-clause-machine : goal.returns-in-None-clause-machine
-returns-in-None-clause-machine g c =
+pub returns-in-None : goal.returns-in-None
+returns-in-None g c =
     let none : next_in (slice_get c.args.self.now.rooms 0) ≡ None = ap (λ (m : Machine g.row.E.Denot). next_in (slice_get m.rooms 0)) (sym c.self.view_is) ∙ (sym c.next.ensures ∙ c.in-None.is) in
-    rw none c.stand.ensures.machine
-
-pub returns-in-None-clause-answer : goal.returns-in-None-clause-answer
-returns-in-None-clause-answer g c =
-    let none : next_in (slice_get c.args.self.now.rooms 0) ≡ None = ap (λ (m : Machine g.row.E.Denot). next_in (slice_get m.rooms 0)) (sym c.self.view_is) ∙ (sym c.next.ensures ∙ c.in-None.is) in
-    rw none c.stand.ensures.answer
+    rw none c.stand.ensures

@@ -1,7 +1,7 @@
 use Rattle.std.proofs.Common.{◌-◌, []}
 use Rattle.cordyceps_queue.specs.declared.cores.stage.Stage.TheVariants.{Null}
 use Rattle.cordyceps_queue.proofs.SharedTheory.PartsJoin.{pred_suc, hands_taken, at_stage, tries_then}
-use Rattle.cordyceps_queue.proofs.shared.tries.behind_stub.Goals as goal
+use Rattle.cordyceps_queue.proofs.shared.tries.after_stub.Goals as goal
 
 pub at_end-requires-clause-stage : goal.at_end-requires-clause-stage
 at_end-requires-clause-stage g c =

@@ -1,6 +1,6 @@
 use Rattle.std.proofs.Common.{◌-◌, [], ◌∙◌}
 use Rattle.cordyceps_queue.proofs.SharedTheory.PartsJoin.{pred_suc, hands_taken, tries_blocked}
-use Rattle.cordyceps_queue.proofs.shared.tries.behind_tail.Goals as goal
+use Rattle.cordyceps_queue.proofs.shared.tries.after_tail.Goals as goal
 
 pub reread-next-requires-clause-table : goal.reread-next-requires-clause-table
 reread-next-requires-clause-table g c = c.requires.table
