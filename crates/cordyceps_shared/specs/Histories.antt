@@ -11,8 +11,8 @@ module _ {X : Type 0} where
   mark j x = (nat_eq x.0 j, x.1)
 
   -- the history as the party of seat j sees it
-  abbrev pub marked : ℕ → List (ℕ × X) → List (Bool × X)
-  marked j h = map (mark j) h
+  abbrev pub with_marks : ℕ → List (ℕ × X) → List (Bool × X)
+  with_marks j h = map (mark j) h
 
   -- what was seen, without the marks
   abbrev pub plain : List (Bool × X) → List X

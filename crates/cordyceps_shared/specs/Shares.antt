@@ -29,14 +29,14 @@ same_bit false true = false
 same_bit false false = true
 
 -- the first name begins the second
-abbrev pub begins : Name → Name → Bool
-begins [] x = true
-begins (a ∷ us) [] = false
-begins (a ∷ us) (b ∷ bs) = cond (same_bit a b) (begins us bs) false
+abbrev pub is_prefix : Name → Name → Bool
+is_prefix [] x = true
+is_prefix (a ∷ us) [] = false
+is_prefix (a ∷ us) (b ∷ bs) = cond (same_bit a b) (is_prefix us bs) false
 
 -- how many names of the share begin x
 abbrev pub covers : Name → List Name → ℕ
-covers x names = tally (λ n. one_if (begins n x)) names
+covers x names = tally (λ n. one_if (is_prefix n x)) names
 
 -- of two names, neither of which begins the other, the first stands in front
 abbrev pub earlier : Name → Name → Bool
@@ -69,27 +69,27 @@ parent (a ∷ []) = []
 parent (a ∷ b ∷ us) = a ∷ parent (b ∷ us)
 
 -- a name in front of others, with w in place of w0 and w1 while there are such
-abbrev pub cons_joined : Name → List Name → List Name
-cons_joined n [] = n ∷ []
-cons_joined n (m ∷ ms) = cond (is_pair n m) (cons_joined (parent n) ms) (n ∷ m ∷ ms)
+abbrev pub combine_first : Name → List Name → List Name
+combine_first n [] = n ∷ []
+combine_first n (m ∷ ms) = cond (is_pair n m) (combine_first (parent n) ms) (n ∷ m ∷ ms)
 
 abbrev pub combine : List Name → List Name
 combine [] = []
-combine (n ∷ ns) = cons_joined n (combine ns)
+combine (n ∷ ns) = combine_first n (combine ns)
 
 -- two shares as one, with w in place of w0 and w1 while there are such
-abbrev pub joined : List Name → List Name → List Name
-joined ns ms = combine (insert_names ns ms)
+abbrev pub join_shares : List Name → List Name → List Name
+join_shares ns ms = combine (insert_names ns ms)
 
 -- the name stands in front of each of these
-abbrev pub InFront : Name → List Name → Type 0
-InFront n [] = Unit {0}
-InFront n (m ∷ ms) = (earlier n m ≡ true) × InFront n ms
+abbrev pub IsBefore : Name → List Name → Type 0
+IsBefore n [] = Unit {0}
+IsBefore n (m ∷ ms) = (earlier n m ≡ true) × IsBefore n ms
 
 -- neither does the name begin one of these, nor one of these the name
 abbrev pub Clear : Name → List Name → Type 0
 Clear n [] = Unit {0}
-Clear n (m ∷ ms) = (begins n m ≡ false) × (begins m n ≡ false) × Clear n ms
+Clear n (m ∷ ms) = (is_prefix n m ≡ false) × (is_prefix m n ≡ false) × Clear n ms
 
 -- the shares have no name in common: no name of one begins a name of the other
 abbrev pub NamesDisjoint : List Name → List Name → Type 0
@@ -103,7 +103,7 @@ IsOf names n = Clear n names → ⊥
 -- each name stands in front of those behind it, and none begins another
 abbrev pub InOrder : List Name → Type 0
 InOrder [] = Unit {0}
-InOrder (n ∷ ns) = InFront n ns × Clear n ns × InOrder ns
+InOrder (n ∷ ns) = IsBefore n ns × Clear n ns × InOrder ns
 
 -- no two neighbours are w0 and w1, of some w
 abbrev pub NoPair : List Name → Type 0

@@ -4,7 +4,7 @@ use Rattle.atomic_table.specs.Seated.{TableId}
 use Rattle.cordyceps_base.specs.Element.{Element}
 use Rattle.cordyceps_shared.specs.Counts.{tally, Same}
 use Rattle.cordyceps_shared.specs.Histories.{plain, own}
-use Rattle.cordyceps_shared.specs.Shares.{Name, whole, keeps_half, joined}
+use Rattle.cordyceps_shared.specs.Shares.{Name, whole, keeps_half, join_shares}
 use Rattle.cordyceps_shared.specs.Standings.{new_party, keeping, giving, Knows, Absorbs}
 use Rattle.cordyceps_shared.proofs.Adding.{plain_own}
 use Rattle.cordyceps_shared.proofs.Counting.{tally_append, tally_map, tally_reverse}
@@ -115,4 +115,4 @@ module _ {T H : Type 0} (element : H → Element T) where
       CarriesOut element js (alone t yours (giving rooms (new_party t all))) (alone t yours2 second) →
       Absorbs (λ h. Legal h) first second last → last.share ≡ whole
   both_whole ks js t rooms all mine yours mine2 yours2 first second last c d met =
-      met.share ∙ (ap (λ z. joined z second.share) (c.names (false ∷ []) refl) ∙ (ap (λ z. joined (keeps_half whole) z) (d.names (true ∷ []) refl) ∙ halves_join []))
+      met.share ∙ (ap (λ z. join_shares z second.share) (c.names (false ∷ []) refl) ∙ (ap (λ z. join_shares (keeps_half whole) z) (d.names (true ∷ []) refl) ∙ halves_join []))

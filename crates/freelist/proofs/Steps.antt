@@ -6,7 +6,7 @@ use Rattle.atomic_table.specs.Seated.{TableId}
 use Rattle.cordyceps_base.specs.Element.{Element}
 use Rattle.cordyceps_shared.specs.Counts.{tally}
 use Rattle.cordyceps_shared.specs.Histories.{own}
-use Rattle.cordyceps_shared.specs.Shares.{Name, keeps_half, gives_half, joined, insert_name}
+use Rattle.cordyceps_shared.specs.Shares.{Name, keeps_half, gives_half, join_shares, insert_name}
 use Rattle.cordyceps_shared.specs.Standings.{name_of, keeping, giving, Absorbs}
 use Rattle.cordyceps_shared.proofs.Halving.{halves_join}
 use Rattle.cordyceps_shared.proofs.Knowing.{adds_knows, absorbs_knows, keeps_knows, gives_knows}
@@ -310,10 +310,10 @@ module _ {T H : Type 0} (element : H → Element T) where
       let P = λ (y z : PartyOf H). CarriesOut element (kinds.Split rooms ∷ []) (with t hand l p None) (with t hand l y (Some z)) in
       subst (λ z. P p2 z) (sym gives) (subst (λ z. P z (giving rooms p)) (sym keeps) (split_to t hand l p rooms few))
 
-  absorb_names : (n : Name) (p p2 q : PartyOf H) (l : Option (PartyOf H)) → p2.share ≡ joined p.share q.share → Divides n p.share (share_of l) (Some q.share) → Divides n p2.share (share_of l) None
-  absorb_names n p p2 q None is d = is ∙ (ap (λ z. joined z q.share) d.0 ∙ (ap (λ z. joined (keeps_half (n ∷ [])) z) d.1 ∙ halves_join n))
+  absorb_names : (n : Name) (p p2 q : PartyOf H) (l : Option (PartyOf H)) → p2.share ≡ join_shares p.share q.share → Divides n p.share (share_of l) (Some q.share) → Divides n p2.share (share_of l) None
+  absorb_names n p p2 q None is d = is ∙ (ap (λ z. join_shares z q.share) d.0 ∙ (ap (λ z. join_shares (keeps_half (n ∷ [])) z) d.1 ∙ halves_join n))
   absorb_names n p p2 q (Some l) is d =
-      (is ∙ (ap (λ z. joined z q.share) d.0 ∙ (ap (λ z. joined (keeps_half (keeps_half (n ∷ []))) z) d.2 ∙ halves_join (n ++ false ∷ []))), d.1)
+      (is ∙ (ap (λ z. join_shares z q.share) d.0 ∙ (ap (λ z. join_shares (keeps_half (keeps_half (n ∷ []))) z) d.2 ∙ halves_join (n ++ false ∷ []))), d.1)
 
   pub carries_absorb : (t : TableId) (hand : List (Element T)) (l : Option (LocalOf T H)) (p p2 q : PartyOf H) → Absorbs (λ h. Legal h) p q p2 →
       CarriesOut element (kinds.Absorb ∷ []) (with t hand l p (Some q)) (with t hand l p2 None)

@@ -12,7 +12,7 @@ use Rattle.cordyceps_stack.specs.declared.cores.stage.Stage.{Stage}
 use Rattle.cordyceps_stack.specs.declared.cores.stage.Stage.TheVariants.{Rest, Loaded, Set}
 use Rattle.cordyceps_shared.specs.declared.room.Room.{Room}
 use Rattle.cordyceps_stack.specs.History.{Event, Load, Push, held}
-use Rattle.cordyceps_shared.specs.Rooms.{change, linking}
+use Rattle.cordyceps_shared.specs.Rooms.{change, with_link}
 use Rattle.cordyceps_stack.specs.Cores.Machine.{Machine, Outcome, holding, least_free, stepped, is_rest, is_at_rest, is_ready, in_hand_at, answered_events}
 use Rattle.cordyceps_stack.specs.Cores.CoreMeets.{CoreMeets, AnswerSays}
 use Rattle.cordyceps_shared.proofs.ListWrites.{slice_get-set_same, slice_get-change_same}
@@ -50,10 +50,10 @@ module _ {E : Type 0} where
       let qs : List Stage = set ps p (Set a) in
       let rooms : List (Room E) = change (holding e) r m.rooms in
       let m1 : Machine E = record { head = m.head; rooms = rooms; parties = ps } in
-      let m2 : Machine E = record { head = m.head; rooms = change (linking m.head) r rooms; parties = qs } in
+      let m2 : Machine E = record { head = m.head; rooms = change (with_link m.head) r rooms; parties = qs } in
       let at1 : slice_get ps p ≡ Some (Loaded a) = slice_get-set_same m.parties p (Loaded a) Rest at in
       let at2 : slice_get qs p ≡ Some (Set a) = slice_get-set_same ps p (Set a) (Loaded a) at1 in
-      let got2 : slice_get (change (linking m.head) r rooms) r ≡ Some (linking m.head (holding e room)) = slice_get-change_same (linking m.head) rooms r (holding e room) (slice_get-change_same (holding e) m.rooms r room got) in
+      let got2 : slice_get (change (with_link m.head) r rooms) r ≡ Some (with_link m.head (holding e room)) = slice_get-change_same (with_link m.head) rooms r (holding e room) (slice_get-change_same (holding e) m.rooms r room got) in
       record {
         loaded = m1;
         linked = m2;

@@ -10,7 +10,7 @@ use Rattle.cordyceps_stack.specs.declared.cores.stage.Stage.{Stage}
 use Rattle.cordyceps_stack.specs.declared.cores.stage.Stage.TheVariants.{Rest, Loaded, Set, Walking}
 use Rattle.cordyceps_shared.specs.declared.room.Room.{Room}
 use Rattle.cordyceps_stack.specs.History.{Event}
-use Rattle.cordyceps_shared.specs.Rooms.{change, linking, freeing, element_in, next_in}
+use Rattle.cordyceps_shared.specs.Rooms.{change, with_link, as_free_room, element_in, next_in}
 use Rattle.cordyceps_stack.specs.Cores.Machine.{Machine, holding, stage_after_walk, least_free, acts, stepped_at, stepped}
 use Rattle.cordyceps_stack.specs.Cores.Stages.{room_in_use}
 use Rattle.cordyceps_stack.specs.Cores.CoreMeets.{CoreMeets, IsSound, step_events, AnswerSays}
@@ -57,7 +57,7 @@ module _ {E : Type 0} where
   sound_load m p r e rooms s at free same = sound_step m _ p (step.Load e) s (rw (at, free, same) refl)
 
   pub sound_set_next : (m : Machine E) (p : ℕ) (a : Attempt) (rooms : List (Room E)) → IsSound m
-      → slice_get m.parties p ≡ Some (Loaded a) → rooms ≡ change (linking a.read) a.room m.rooms
+      → slice_get m.parties p ≡ Some (Loaded a) → rooms ≡ change (with_link a.read) a.room m.rooms
       → IsSound record { head = m.head; rooms = rooms; parties = set m.parties p (Set a) }
   sound_set_next m p a rooms s at same = sound_step m _ p step.SetNext s (rw (at, same) refl)
 
@@ -67,7 +67,7 @@ module _ {E : Type 0} where
   sound_push m p a s at test = sound_step m _ p step.Exchange s (rw (at, test) refl)
 
   pub sound_fail : (m : Machine E) (p : ℕ) (a : Attempt) (rooms : List (Room E)) → IsSound m
-      → slice_get m.parties p ≡ Some (Set a) → option_eq nat_eq m.head a.read ≡ false → rooms ≡ change (freeing p) a.room m.rooms
+      → slice_get m.parties p ≡ Some (Set a) → option_eq nat_eq m.head a.read ≡ false → rooms ≡ change (as_free_room p) a.room m.rooms
       → IsSound record { head = m.head; rooms = rooms; parties = set m.parties p Rest }
   sound_fail m p a rooms s at test same = let there = set_room m p a s at in sound_step m _ p step.Exchange s (rw (at, test, there.2, same) refl)
 
@@ -76,7 +76,7 @@ module _ {E : Type 0} where
   sound_take m p r s at top = sound_step m _ p step.Take s (rw (at, top) refl)
 
   pub sound_walk : (m : Machine E) (p r : ℕ) (next : Option ℕ) (rooms : List (Room E)) → IsSound m
-      → slice_get m.parties p ≡ Some (Walking r) → next ≡ next_in (slice_get m.rooms r) → rooms ≡ change (freeing p) r m.rooms
+      → slice_get m.parties p ≡ Some (Walking r) → next ≡ next_in (slice_get m.rooms r) → rooms ≡ change (as_free_room p) r m.rooms
       → IsSound record { head = m.head; rooms = rooms; parties = set m.parties p (stage_after_walk next) }
   sound_walk m p r next rooms s at link same = let there = walking_room m p r s at in sound_step m _ p step.Walk s (rw (at, there.2, link, there.2, same) refl)
 

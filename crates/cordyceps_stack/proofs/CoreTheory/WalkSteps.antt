@@ -13,7 +13,7 @@ use Rattle.cordyceps_stack.specs.declared.cores.steps.TransferAnswer.TheVariants
 use Rattle.cordyceps_stack.specs.declared.cores.steps.TransferStep.{TransferStep}
 use Rattle.cordyceps_stack.specs.declared.cores.steps.TransferStep.TheVariants as step
 use Rattle.cordyceps_stack.specs.History.{Event, Load, Push, Taken, held}
-use Rattle.cordyceps_shared.specs.Rooms.{change, linking, freeing, element_in, next_in}
+use Rattle.cordyceps_shared.specs.Rooms.{change, with_link, as_free_room, element_in, next_in}
 use Rattle.cordyceps_stack.specs.Cores.Machine.{Machine, Answered, holding, stage_after_walk, handed, least_free, load, exchange, fails, take, walk, stepped_at, stepped, in_hand_at, push_event, answer_events, answered_events}
 use Rattle.cordyceps_stack.specs.Cores.Stages.{room_in_use, LeadsThrough, room_elements}
 use Rattle.cordyceps_base.specs.Runs.{after, replies_to, history_after}
@@ -107,7 +107,7 @@ module _ {E : Type 0} where
   aside_exchange h m p q a true was ne at = record { stage = slice_get-set_other m.parties q p _ ne; rooms = λ r e next got mine. (got, mine) }
   aside_exchange h m p q a false was ne at =
       let hand = (was.parties q (Set a) at).0 in
-      rw hand.room (record { stage = slice_get-set_other m.parties q p _ ne; rooms = Keeps-change (freeing q) m.rooms was.own a.room (Some p) (not_mine was.own a.room q p hand.mine ne) })
+      rw hand.room (record { stage = slice_get-set_other m.parties q p _ ne; rooms = Keeps-change (as_free_room q) m.rooms was.own a.room (Some p) (not_mine was.own a.room q p hand.mine ne) })
 
   aside_take : (h : List (Event ℕ E)) (m : Machine E) (p q : ℕ) (o : Option ℕ) → (was : CoreMeets h m) → p ≢ q
       → Aside was.own m (take m q o).0 p
@@ -120,14 +120,14 @@ module _ {E : Type 0} where
   aside_walk h m p q r was ne at =
       let there = walking_at h m q r was at in
       let mine = (walks_on h m q r there.0 there.1 was (was.parties q (Walking r) at) there.2).0 in
-      rw there.2 (record { stage = slice_get-set_other m.parties q p _ ne; rooms = Keeps-change (freeing q) m.rooms was.own r (Some p) (not_mine was.own r q p mine ne) })
+      rw there.2 (record { stage = slice_get-set_other m.parties q p _ ne; rooms = Keeps-change (as_free_room q) m.rooms was.own r (Some p) (not_mine was.own r q p mine ne) })
 
   aside_at : (h : List (Event ℕ E)) (m : Machine E) (p q : ℕ) (s : TransferStep E) (o : Option Stage) → (was : CoreMeets h m)
       → p ≢ q → slice_get m.parties q ≡ o → Aside was.own m (stepped_at m q s o).0 p
   aside_at h m p q (step.Load e) (Some Rest) was ne at = aside_load h m p q e (least_free q m.rooms) was ne refl
   aside_at h m p q step.SetNext (Some (Loaded a)) was ne at =
       let hand = (was.parties q (Loaded a) at).0 in
-      record { stage = slice_get-set_other m.parties q p _ ne; rooms = Keeps-change (linking a.read) m.rooms was.own a.room (Some p) (not_mine was.own a.room q p hand.mine ne) }
+      record { stage = slice_get-set_other m.parties q p _ ne; rooms = Keeps-change (with_link a.read) m.rooms was.own a.room (Some p) (not_mine was.own a.room q p hand.mine ne) }
   aside_at h m p q step.Exchange (Some (Set a)) was ne at = aside_exchange h m p q a (option_eq nat_eq m.head a.read) was ne at
   aside_at h m p q step.Take (Some Rest) was ne at = aside_take h m p q m.head was ne
   aside_at h m p q step.Walk (Some (Walking r)) was ne at = aside_walk h m p q r was ne at
@@ -212,7 +212,7 @@ module _ {E : Type 0} where
   walked_by : (m : Machine E) (own : ℕ → Option ℕ) (p r : ℕ) (e : E) (next : Option ℕ) (rest : List (ℕ × E)) (left : List E)
       → slice_get m.parties p ≡ Some (Walking r) → slice_get m.rooms r ≡ Some (room_in_use e next)
       → LeadsThrough m.rooms own (Some p) (Some r) rest → left ≡ room_elements rest
-      → MovesOn p left [] record { head = m.head; rooms = change (freeing p) r m.rooms; parties = set m.parties p (stage_after_walk next) } (e ∷ [])
+      → MovesOn p left [] record { head = m.head; rooms = change (as_free_room p) r m.rooms; parties = set m.parties p (stage_after_walk next) } (e ∷ [])
   walked_by m own p r e next [] left at got l same = let no : ⊥ = cc in absurd no
   walked_by m own p r e next (x ∷ xs) left at got l same =
       let start : x.0 ≡ r = let first = l.1 in cc in
@@ -221,10 +221,10 @@ module _ {E : Type 0} where
       let link : l.0 ≡ next = ap (λ (y : Room E). y.next) room in
       let some_element : Some x.1 ≡ Some e = ap (λ (y : Room E). y.element) room in
       let element : x.1 ≡ e = cc in
-      let rooms' = change (freeing p) r m.rooms in
+      let rooms' = change (as_free_room p) r m.rooms in
       let on : LeadsToElements rooms' next (room_elements xs) = subst (λ top. LeadsToElements rooms' top (room_elements xs)) link
-      (subst (λ s. LeadsToElements (change (freeing p) s m.rooms) l.0 (room_elements xs)) start
-      (leads_from_linked (change (freeing p) x.0 m.rooms) own (Some p) l.0 xs (LeadsThrough-change (freeing p) m.rooms own (Some p) l.0 xs x.0 l.4 l.5))) in (
+      (subst (λ s. LeadsToElements (change (as_free_room p) s m.rooms) l.0 (room_elements xs)) start
+      (leads_from_linked (change (as_free_room p) x.0 m.rooms) own (Some p) l.0 xs (LeadsThrough-change (as_free_room p) m.rooms own (Some p) l.0 xs x.0 l.4 l.5))) in (
         room_elements xs,
         subst (λ (o : Option Stage). IsLeftAt rooms' o (room_elements xs)) (sym (slice_get-set_same m.parties p (stage_after_walk next) (Walking r) at)) (left_behind rooms' next (room_elements xs) on),
         append-nil left ∙ (same ∙ ap (λ (y : E). y ∷ room_elements xs) element),

@@ -12,7 +12,7 @@ use Rattle.atomic_table.specs.Table.{State, step, Act, keeps, takes, gives, step
 use Rattle.atomic_table.specs.Table as table
 use Rattle.atomic_table.proofs.Lists.{set_here, set_else}
 use Rattle.cordyceps_shared.specs.Counts.{one_if, times}
-use Rattle.cordyceps_shared.specs.Histories.{events, marked, plain, of_seat}
+use Rattle.cordyceps_shared.specs.Histories.{events, with_marks, plain, of_seat}
 use Rattle.cordyceps_shared.specs.Knowing.{Known, Under, SharesDisjoint, AllAgree, all_seen}
 use Rattle.cordyceps_shared.specs.Shares.{Name}
 use Rattle.cordyceps_shared.specs.Words.{head}
@@ -69,7 +69,7 @@ module _ {E : Type 0} where
       let t = start_empty chain in
       (λ e. reverse_none es (sym holds ∙ t.0 (sym is ∙ e)), λ e. is ∙ t.1 (holds ∙ ap (λ z. reverse z) e))
 
-  head_marked : (s : TableState E) (k : RuleHolds s) (id : ℕ) → (head s.words ≡ 0) ↔ (held (plain (marked id k.history)) ≡ [])
+  head_marked : (s : TableState E) (k : RuleHolds s) (id : ℕ) → (head s.words ≡ 0) ↔ (held (plain (with_marks id k.history)) ≡ [])
   head_marked s k id = subst (λ (z : List (Event Name E)). (head s.words ≡ 0) ↔ (held z ≡ [])) (sym (plain_marked id k.history))
       (head_says k.chain (held (events k.history)) (head s.words) (spells_start s.words (head s.words) k.chain k.meets.spelled) k.meets.holds)
 
@@ -163,8 +163,8 @@ module _ {E : Type 0} where
           refl,
           t.2,
           record {
-            before = marked id k.history;
-            is = marked_append id k.history ((id, x) ∷ []) ∙ ap (λ b. marked id k.history ++ (b, x) ∷ []) (eq-eqb id id refl);
+            before = with_marks id k.history;
+            is = marked_append id k.history ((id, x) ∷ []) ∙ ap (λ b. with_marks id k.history ++ (b, x) ∷ []) (eq-eqb id id refl);
             none = head_marked s k id;
           },
         ),
@@ -231,13 +231,13 @@ module _ {E : Type 0} where
       )
 
   -- what a party saw that loaded another head
-  overtaken : (s : TableState E) (k : RuleHolds s) (id read : ℕ) → Since s.words k.history id read → head s.words ≢ read → IsOvertaken (marked id k.history)
+  overtaken : (s : TableState E) (k : RuleHolds s) (id read : ℕ) → Since s.words k.history id read → head s.words ≢ read → IsOvertaken (with_marks id k.history)
   overtaken s k id read since miss =
       let x : Event Name E = Load since.name in record {
-        before = marked id since.before;
+        before = with_marks id since.before;
         load = since.name;
-        later = marked id since.later;
-        is = ap (marked id) since.is ∙ (marked_append id since.before ((id, x) ∷ since.later) ∙ ap (λ b. marked id since.before ++ (b, x) ∷ marked id since.later) (eq-eqb id id refl));
+        later = with_marks id since.later;
+        is = ap (with_marks id) since.is ∙ (marked_append id since.before ((id, x) ∷ since.later) ∙ ap (λ b. with_marks id since.before ++ (b, x) ∷ with_marks id since.later) (eq-eqb id id refl));
         others = own_without id since.later since.none;
         changed = subst (λ z. SomeChange z) (sym (plain_marked id since.later)) (⊎_elim (λ e. absurd (miss e)) (λ c. c) since.same);
       }
@@ -277,8 +277,8 @@ module _ {E : Type 0} where
         ap rest poised.hand,
         t.2,
         record {
-          before = marked id k.history;
-          is = marked_append id k.history ((id, e) ∷ []) ∙ ap (λ b. marked id k.history ++ (b, e) ∷ []) (eq-eqb id id refl);
+          before = with_marks id k.history;
+          is = marked_append id k.history ((id, e) ∷ []) ∙ ap (λ b. with_marks id k.history ++ (b, e) ∷ []) (eq-eqb id id refl);
           first = head_marked s k id;
         },
       )

@@ -6,7 +6,7 @@ use Rattle.std.specs.List.{position}
 use Rattle.cordyceps_base.specs.declared.shared.StepError.{StepError}
 use Rattle.cordyceps_base.specs.declared.shared.StepError.TheVariants.{NotThere}
 use Rattle.cordyceps_shared.specs.declared.room.Room.{Room}
-use Rattle.cordyceps_shared.specs.Rooms.{change, linking, freeing, is_free_for, element_in, next_in, occupied}
+use Rattle.cordyceps_shared.specs.Rooms.{change, with_link, as_free_room, is_free_for, element_in, next_in, occupied}
 use Rattle.cordyceps_stack.specs.declared.cores.stage.Attempt.{Attempt}
 use Rattle.cordyceps_stack.specs.declared.cores.stage.Stage.{Stage}
 use Rattle.cordyceps_stack.specs.declared.cores.stage.Stage.TheVariants.{Rest, Loaded, Set, Walking}
@@ -106,7 +106,7 @@ module _ {E : Type 0} where
   set_next m p a = (
     record {
       head = m.head;
-      rooms = change (linking a.read) a.room m.rooms;
+      rooms = change (with_link a.read) a.room m.rooms;
       parties = slice_set m.parties p (Set a);
     },
     Ok answer.Done,
@@ -116,7 +116,7 @@ module _ {E : Type 0} where
   abbrev pub fails : Machine E → ℕ → ℕ → Option E → Outcome E
   fails m p r None = refused m step.Exchange
   fails m p r (Some e) = (
-    record { head = m.head; rooms = change (freeing p) r m.rooms; parties = slice_set m.parties p Rest },
+    record { head = m.head; rooms = change (as_free_room p) r m.rooms; parties = slice_set m.parties p Rest },
     Ok (answer.Failed e),
   )
 
@@ -144,7 +144,7 @@ module _ {E : Type 0} where
   walk m p r next (Some e) = (
     record {
       head = m.head;
-      rooms = change (freeing p) r m.rooms;
+      rooms = change (as_free_room p) r m.rooms;
       parties = slice_set m.parties p (stage_after_walk next);
     },
     Ok (handed e next),

@@ -1,6 +1,6 @@
 //! The rooms of a transfer core.
 ghost use Rattle.std.specs.Prelude.{◌≡◌, ◌<◌, ◌≤◌, ◌++◌, [], ◌∷◌, length, slice_get, IsSome, Some, None, OnOk, OnErr};
-ghost use Rattle.cordyceps_shared.specs.Rooms.{change, linking, freeing, element_in, next_in};
+ghost use Rattle.cordyceps_shared.specs.Rooms.{change, with_link, as_free_room, element_in, next_in};
 ghost use Rattle.cordyceps_shared.specs.Rooms.{occupied};
 ghost use Rattle.cordyceps_stack.specs.Cores.Machine.{holding, new_room, least_free};
 
@@ -74,7 +74,7 @@ impl<E: Drop> Rooms<E> {
     /// Makes a room lead to `next`.
     pub(crate) fn link(&mut self, at: usize, next: Option<usize>)
         requires { at < length self.old }
-        ensures { self.new ≡ change (linking next) at self.old }
+        ensures { self.new ≡ change (with_link next) at self.old }
     {
         self.list[at].next = next;
     }
@@ -83,7 +83,7 @@ impl<E: Drop> Rooms<E> {
     pub(crate) fn free(&mut self, at: usize, party: usize) -> E
         requires within { at < length self.old }
         requires full { IsSome (element_in (slice_get self.old at)) }
-        ensures rooms { self.new ≡ change (freeing party) at self.old }
+        ensures rooms { self.new ≡ change (as_free_room party) at self.old }
         ensures element { element_in (slice_get self.old at) ≡ Some result }
     {
         let room = &mut self.list[at];
