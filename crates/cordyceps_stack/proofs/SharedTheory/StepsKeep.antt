@@ -145,7 +145,7 @@ module _ {E : Type 0} where
   view_after v j h free doing = record { known = all_seen j h v.known.share; free = free; doing = doing }
 
   -- ---- looking
-  pub looks : (slots id : ℕ) (me : SeatState E) → me.0.doing ≡ Idle → me.0.known.share ≢ [] → Allows RuleHolds slots id me HEAD (λ n. n) (play.looked (step slots HEAD 0 0 none) me)
+  pub looks : (slots id : ℕ) (me : SeatState E) → me.0.doing ≡ Idle → me.0.known.share ≢ [] → Allows RuleHolds slots id me HEAD (λ n. n) (play.after_look (step slots HEAD 0 0 none) me)
   looks slots id me idle named s k deep at fits =
       let v = me.0 in
       let x : Event Name E = Load (name v) in
@@ -171,7 +171,7 @@ module _ {E : Type 0} where
       )
 
   -- ---- pushing
-  pub readies : (slots id i : ℕ) (me : SeatState E) (r : ℕ) (rs : List ℕ) → i ≡ LINKS + r → me.0.doing ≡ Idle → me.0.free ≡ r ∷ rs → Allows RuleHolds slots id me i (λ n. n) (play.readied (step slots i 0 0 none) me)
+  pub readies : (slots id i : ℕ) (me : SeatState E) (r : ℕ) (rs : List ℕ) → i ≡ LINKS + r → me.0.doing ≡ Idle → me.0.free ≡ r ∷ rs → Allows RuleHolds slots id me i (λ n. n) (play.after_ready (step slots i 0 0 none) me)
   readies slots id i me r rs is idle free s k deep at fits =
       let v = me.0 in
       let w : View E = record v { doing = Ready r; free = rs } in
@@ -199,7 +199,7 @@ module _ {E : Type 0} where
             ),
       )
 
-  pub reads_head : (slots id : ℕ) (me : SeatState E) (r : ℕ) → me.0.doing ≡ Ready r → me.0.known.share ≢ [] → Allows RuleHolds slots id me HEAD (λ n. n) (play.loaded (step slots HEAD 0 0 none) me)
+  pub reads_head : (slots id : ℕ) (me : SeatState E) (r : ℕ) → me.0.doing ≡ Ready r → me.0.known.share ≢ [] → Allows RuleHolds slots id me HEAD (λ n. n) (play.after_load (step slots HEAD 0 0 none) me)
   reads_head slots id me r ready named s k deep at fits =
       let v = me.0 in
       let x : Event Name E = Load (name v) in
@@ -215,7 +215,7 @@ module _ {E : Type 0} where
         λ r' ready'. (ap (λ p. let d : Doing E = Loaded (room_of p) read in d) (sym ready ∙ ready'), refl, refl, t.2),
       )
 
-  pub links : (slots id i : ℕ) (me : SeatState E) (r read : ℕ) → i ≡ LINKS + r → me.0.doing ≡ Loaded r read → r < slots → Allows RuleHolds slots id me i (λ _. read) (λ _. play.wrote (step slots i read 0 none) me read)
+  pub links : (slots id i : ℕ) (me : SeatState E) (r read : ℕ) → i ≡ LINKS + r → me.0.doing ≡ Loaded r read → r < slots → Allows RuleHolds slots id me i (λ _. read) (λ _. play.after_write (step slots i read 0 none) me read)
   links slots id i me r read is doing inside s k deep at fits =
       let v = me.0 in
       let w : View E = record v { doing = Set r read } in
@@ -310,7 +310,7 @@ module _ {E : Type 0} where
       (found ≡ z.1 → (k.0.doing ≡ Idle) × (k.0.free ≡ me.0.free) × (k.1 ≡ z.3) × Sees me.0 (Push (name me.0) z.2.item ∷ []) k.0 × EndsPushed z.2.item (found ≡ 0) (name me.0) k.0.known.seen)
       × (found ≢ z.1 → (k.0.doing ≡ Ready z.0) × (k.0.free ≡ me.0.free) × (k.1 ≡ me.1) × Sees me.0 [] k.0 × IsOvertaken k.0.known.seen)
 
-  says : (st : TableStep E) (me k : SeatState E) (r read found : ℕ) (x : E) (cs : Hand E) → Poised me r read x cs → Tells me k found (r, read, full_slot r x, cs) → play.exchanged st me found k
+  says : (st : TableStep E) (me k : SeatState E) (r read found : ℕ) (x : E) (cs : Hand E) → Poised me r read x cs → Tells me k found (r, read, full_slot r x, cs) → play.after_exchange st me found k
   unfolding Tells
   says st me k r read found x cs poised t r' read' x' cs' doing hand =
       let p = sym poised.doing ∙ doing in
@@ -318,7 +318,7 @@ module _ {E : Type 0} where
       subst (Tells me k found) (λ i. (ap room_of p i, ap read_of p i, ap (slot_or (full_slot r x)) q i, ap rest q i)) t
 
   pub exchanges : (slots id new : ℕ) (me : SeatState E) (r read : ℕ) (x : E) (cs : Hand E) → new ≡ suc r → Poised me r read x cs → r < slots
-      → Allows RuleHolds slots id me HEAD (λ n. either (eqb n read) new n) (play.exchanged (step slots HEAD read new none) me)
+      → Allows RuleHolds slots id me HEAD (λ n. either (eqb n read) new n) (play.after_exchange (step slots HEAD read new none) me)
   unfolding Tells
   exchanges slots id new me r read x cs is poised inside s k deep at fits =
       let n : ℕ = head s.words in
@@ -339,7 +339,7 @@ module _ {E : Type 0} where
       ))
 
   pub returns : (slots id i : ℕ) (me : SeatState E) (r : ℕ) (cs : Hand E) → i ≡ LINKS + r → me.0.doing ≡ Ready r → me.1 ≡ (r, None) ∷ cs → r < slots
-      → Allows RuleHolds slots id me i (λ n. n) (play.returned (step slots i 0 0 none) me)
+      → Allows RuleHolds slots id me i (λ n. n) (play.after_return (step slots i 0 0 none) me)
   returns slots id i me r cs is doing hand inside s k deep at fits =
       let v = me.0 in
       let w : View E = record v { doing = Idle; free = r ∷ v.free } in
@@ -395,7 +395,7 @@ module _ {E : Type 0} where
   near_all homes [] full = tt
   near_all homes (x ∷ xs) full = (at_length homes x.0 (some (Some (full_slot x.0 x.1))) full.0, near_all homes xs full.1)
 
-  pub takes_whole : (slots id : ℕ) (me : SeatState E) → me.0.doing ≡ Idle → me.0.known.share ≢ [] → Allows RuleHolds slots id me HEAD (λ _. 0) (play.took (step slots HEAD 0 0 none) me)
+  pub takes_whole : (slots id : ℕ) (me : SeatState E) → me.0.doing ≡ Idle → me.0.known.share ≢ [] → Allows RuleHolds slots id me HEAD (λ _. 0) (play.after_take (step slots HEAD 0 0 none) me)
   takes_whole slots id me idle named s k deep at fits =
       let v = me.0 in
       let xs = k.chain in
@@ -417,7 +417,7 @@ module _ {E : Type 0} where
       )
 
   pub walks_one : (slots id i : ℕ) (me : SeatState E) (x : ℕ × E) (xs : List (ℕ × E)) (cs : Hand E) → i ≡ LINKS + x.0 → me.0.doing ≡ Walking (x ∷ xs) → me.1 ≡ (x.0, None) ∷ cs → x.0 < slots
-      → Allows RuleHolds slots id me i (λ n. n) (play.walked (step slots i 0 0 none) me)
+      → Allows RuleHolds slots id me i (λ n. n) (play.after_walk (step slots i 0 0 none) me)
   walks_one slots id i me x xs cs is doing hand inside s k deep at fits =
       let v = me.0 in
       let r = x.0 in

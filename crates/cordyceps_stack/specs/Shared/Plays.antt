@@ -41,49 +41,51 @@ module _ {E : Type 0} where
 
   -- ---- the steps
   -- a load of head by a party that looks whether nothing is held
-  abbrev pub looked : TableStep E → SeatState E → ℕ → SeatState E → Type 0
-  looked st m read k =
+  abbrev pub after_look : TableStep E → SeatState E → ℕ → SeatState E → Type 0
+  after_look st m read k =
       (k.0.doing ≡ m.0.doing) × (k.0.free ≡ m.0.free) × (k.1 ≡ m.1) × Sees m.0 (Load (name m.0) ∷ []) k.0
       × EndsLooked (read ≡ 0) (name m.0) k.0.known.seen
 
   -- a read of the link of its first free room by a party that begins to push: the room's slot is in hand
-  abbrev pub readied : TableStep E → SeatState E → ℕ → SeatState E → Type 0
-  readied st m found k = (r : ℕ) (rs : List ℕ) → m.0.free ≡ r ∷ rs
+  abbrev pub after_ready : TableStep E → SeatState E → ℕ → SeatState E → Type 0
+  after_ready st m found k = (r : ℕ) (rs : List ℕ) → m.0.free ≡ r ∷ rs
       → (st.word ≡ LINKS + r) × (k.0 ≡ record m.0 { doing = Ready r; free = rs }) × (k.1 ≡ (r, None) ∷ m.1)
       × (r < st.slots)
 
   -- a load of head by a party that pushes
-  abbrev pub loaded : TableStep E → SeatState E → ℕ → SeatState E → Type 0
-  loaded st m read k = (r : ℕ) → m.0.doing ≡ Ready r
+  abbrev pub after_load : TableStep E → SeatState E → ℕ → SeatState E → Type 0
+  after_load st m read k = (r : ℕ) → m.0.doing ≡ Ready r
       → (k.0.doing ≡ Loaded r read) × (k.0.free ≡ m.0.free) × (k.1 ≡ m.1) × Sees m.0 (Load (name m.0) ∷ []) k.0
 
   -- a store of what was read in the room's link
-  abbrev pub wrote : TableStep E → SeatState E → ℕ → SeatState E → Type 0
-  wrote st m n k = (r read : ℕ) → m.0.doing ≡ Loaded r read → (k.0 ≡ record m.0 { doing = Set r read }) × (k.1 ≡ m.1)
+  abbrev pub after_write : TableStep E → SeatState E → ℕ → SeatState E → Type 0
+  after_write st m n k = (r read : ℕ) → m.0.doing ≡ Loaded r read
+      → (k.0 ≡ record m.0 { doing = Set r read }) × (k.1 ≡ m.1)
 
   -- a compare-exchange of head
-  abbrev pub exchanged : TableStep E → SeatState E → ℕ → SeatState E → Type 0
-  exchanged st m found k = (r read : ℕ) (x : Filled E) (cs : Hand E) → m.0.doing ≡ Set r read → m.1 ≡ (r, Some x) ∷ cs
+  abbrev pub after_exchange : TableStep E → SeatState E → ℕ → SeatState E → Type 0
+  after_exchange st m found k = (r read : ℕ) (x : Filled E) (cs : Hand E) → m.0.doing ≡ Set r read
+      → m.1 ≡ (r, Some x) ∷ cs
       → (found ≡ read → (k.0.doing ≡ Idle) × (k.0.free ≡ m.0.free) × (k.1 ≡ cs)
       × Sees m.0 (Push (name m.0) x.item ∷ []) k.0 × EndsPushed x.item (found ≡ 0) (name m.0) k.0.known.seen)
       × (found ≢ read → (k.0.doing ≡ Ready r) × (k.0.free ≡ m.0.free) × (k.1 ≡ m.1) × Sees m.0 [] k.0
       × IsOvertaken k.0.known.seen)
 
   -- a read of the link of a room that is not pushed: its slot goes back
-  abbrev pub returned : TableStep E → SeatState E → ℕ → SeatState E → Type 0
-  returned st m found k = (r : ℕ) (cs : Hand E) → m.0.doing ≡ Ready r → m.1 ≡ (r, None) ∷ cs
+  abbrev pub after_return : TableStep E → SeatState E → ℕ → SeatState E → Type 0
+  after_return st m found k = (r : ℕ) (cs : Hand E) → m.0.doing ≡ Ready r → m.1 ≡ (r, None) ∷ cs
       → (st.word ≡ LINKS + r) × (k.0 ≡ record m.0 { doing = Idle; free = r ∷ m.0.free }) × (k.1 ≡ cs)
 
   -- a swap of head: the slots of all that was held are in hand
-  abbrev pub took : TableStep E → SeatState E → ℕ → SeatState E → Type 0
-  took st m found k = m.0.doing ≡ Idle
+  abbrev pub after_take : TableStep E → SeatState E → ℕ → SeatState E → Type 0
+  after_take st m found k = m.0.doing ≡ Idle
       → (chain : List (ℕ × E)) × (found ≡ start chain) × (k.0.doing ≡ walking chain) × (k.0.free ≡ m.0.free)
       × (k.1 ≡ carry chain m.1) × NearChain st.slots chain
       × Sees m.0 (Taken (name m.0) (room_elements chain) ∷ []) k.0
 
   -- a read of the link of the next room to be handed out: its slot goes back
-  abbrev pub walked : TableStep E → SeatState E → ℕ → SeatState E → Type 0
-  walked st m found k =
+  abbrev pub after_walk : TableStep E → SeatState E → ℕ → SeatState E → Type 0
+  after_walk st m found k =
       (x : ℕ × E) (xs : List (ℕ × E)) (cs : Hand E) → m.0.doing ≡ Walking (x ∷ xs) → m.1 ≡ (x.0, None) ∷ cs
       → (found ≡ start xs) × (k.0 ≡ record m.0 { doing = walking xs; free = x.0 ∷ m.0.free }) × (k.1 ≡ cs)
       × (length k.0.free ≤ st.slots)
