@@ -10,11 +10,11 @@ use Rattle.cordyceps_shared.proofs.Adding.{plain_own}
 use Rattle.cordyceps_shared.proofs.Counting.{tally_append, tally_map, tally_reverse}
 use Rattle.cordyceps_shared.proofs.Halving.{halves_join}
 use Rattle.cordyceps_shared.proofs.Summing.{tally_flat_map, tally_same}
-use Rattle.cordyceps_stack.specs.History.{Event, Legal, held, pushes, taken}
+use Rattle.cordyceps_stack.specs.History.{Event, Legal, held, pushes, taken_elements}
 use Rattle.cordyceps_stack.specs.Shared.Calls.{PartyOf}
 use Rattle.cordyceps_stack.specs.Shared.Moves.{put_by, got_by}
 use Rattle.cordyceps_stack.proofs.SharedTheory.PartyMoves.{all_put, all_got}
-use Rattle.freelist.specs.Whereabouts.{Call, Gains, Loses, command_of, gained, lost, Story, IsOf}
+use Rattle.freelist.specs.Whereabouts.{Call, Gains, Loses, command_of, gains, losses, Story, IsOf}
 use Rattle.freelist.specs.Users.{UserOf, alone, closing, own_sum, parties_of, whereabouts_after, CarriesOut, Life, all_parties, stories, EachOnce, Met, one, absorbed}
 use Rattle.freelist.specs.declared.laws.Command.{Command}
 use Rattle.freelist.proofs.Calls.{carries_then}
@@ -24,7 +24,7 @@ use Rattle.freelist.proofs.Whereabouts.{each_once}
 
 module _ {B : Type 0} where
   -- calls that carry out commands bring no block from elsewhere, and take none there
-  only_commands : (cs : List (Call B)) (ks : List Command) → map command_of cs ≡ map Some ks → (lost cs ≡ []) × (gained cs ≡ [])
+  only_commands : (cs : List (Call B)) (ks : List Command) → map command_of cs ≡ map Some ks → (losses cs ≡ []) × (gains cs ≡ [])
   only_commands [] ks e = (refl, refl)
   only_commands (c ∷ cs) [] e = cc
   only_commands (Gains b ∷ cs) (k ∷ ks) e = cc
@@ -74,7 +74,7 @@ module _ {T H : Type 0} (element : H → Element T) where
         legal = known.legal;
         pushed = λ f. sym (tally_map element f (pushes h)) ∙ (ap (tally f) (sym (all_put element h))
             ∙ gathers (put_by element) (λ u. u.end.put_back) f h lives sum (λ l. all_put element l.events ∙ sym l.put_back));
-        took = λ f. sym (tally_map element f (taken h)) ∙ (ap (tally f) (sym (all_got element h))
+        took = λ f. sym (tally_map element f (taken_elements h)) ∙ (ap (tally f) (sym (all_got element h))
             ∙ gathers (got_by element) (λ u. u.end.fetched) f h lives sum (λ l. all_got element l.events ∙ sym l.fetched));
       }
 

@@ -14,7 +14,7 @@ use Rattle.cordyceps_shared.proofs.Owning.{own_split}
 use Rattle.cordyceps_stack.specs.History.{Load, Push, Taken, Legal, actor}
 use Rattle.cordyceps_stack.specs.Shared.Calls.{PartyOf, PushesAt, Misses}
 use Rattle.freelist.specs.Blocks.{LocalOf, GivesFirst, GetsFrom}
-use Rattle.freelist.specs.Whereabouts.{Gets, Fetches, Puts, PutsRemote, HandsBack, Opens, Finishes, Splits, Joins, Idles, behind, Lacks}
+use Rattle.freelist.specs.Whereabouts.{Gets, Fetches, Puts, PutsRemote, HandsBack, Opens, Finishes, Splits, Joins, Idles, prepend_option, Lacks}
 use Rattle.freelist.specs.Users.{UserOf, whereabouts_after, share_of, rooms_of, Divides, local_party, CarriesOut}
 use Rattle.freelist.proofs.Calls.{stays, stays_local}
 use Rattle.freelist.proofs.Parties.{adds_own, absorbs_own, knows_last}
@@ -78,13 +78,13 @@ module _ {T H : Type 0} (element : H → Element T) where
   pub idles : (k : Command) (v u w : UserOf T H) → v ≡ u → v ≡ w → Lacks k (whereabouts_after element v []) → CarriesOut element (k ∷ []) u w
   idles k v u w first last lacks = subst (λ z. CarriesOut element (k ∷ []) z w) first (subst (λ z. CarriesOut element (k ∷ []) v z) last (carries_idle k v lacks))
 
-  first_out : (bs left : List (Element T)) (first : Option H) → GivesFirst element bs first left → (bs ≡ behind (element_if first) left) × (element_if first ≡ None → left ≡ [])
+  first_out : (bs left : List (Element T)) (first : Option H) → GivesFirst element bs first left → (bs ≡ prepend_option (element_if first) left) × (element_if first ≡ None → left ≡ [])
   first_out bs left None g = (g.0 ∙ sym g.1, λ _. g.1)
   first_out bs left (Some h) g = (g, λ e. cc)
 
   fetches_to : (t : TableId) (hand : List (Element T)) (q : PartyOf H) (first : Option H) (l : LocalOf T H) (p : PartyOf H) (o : Option (PartyOf H)) →
       GetsFrom element [] q first l →
-      CarriesOut element (kinds.Get ∷ []) (with t hand (Some (record { blocks = []; party = q })) p o) (with t (behind (element_if first) hand) (Some l) p o)
+      CarriesOut element (kinds.Get ∷ []) (with t hand (Some (record { blocks = []; party = q })) p o) (with t (prepend_option (element_if first) hand) (Some l) p o)
   fetches_to t hand q first l p o g =
       let batch = g.0 in
       let took = g.1 in
@@ -97,14 +97,14 @@ module _ {T H : Type 0} (element : H → Element T) where
         events = es;
         carries = refl;
         runs = (
-          whereabouts_after element (with t (behind (element_if first) hand) (Some l) p o) es,
+          whereabouts_after element (with t (prepend_option (element_if first) hand) (Some l) p o) es,
           (
             q.rooms,
             refl,
             refl,
             out.0,
             out.1,
-            ap (λ z. record (whereabouts_after element (with t (behind (element_if first) hand) (Some l) p o) []) { fetched = z; local_rooms = Some l.party.rooms }) some ∙ ap (λ z. record (whereabouts_after element (with t (behind (element_if first) hand) (Some l) p o) []) { fetched = reverse (map element batch); local_rooms = Some z }) rooms,
+            ap (λ z. record (whereabouts_after element (with t (prepend_option (element_if first) hand) (Some l) p o) []) { fetched = z; local_rooms = Some l.party.rooms }) some ∙ ap (λ z. record (whereabouts_after element (with t (prepend_option (element_if first) hand) (Some l) p o) []) { fetched = reverse (map element batch); local_rooms = Some z }) rooms,
           ),
           refl,
         );
@@ -135,7 +135,7 @@ module _ {T H : Type 0} (element : H → Element T) where
 
   get_from : (t : TableId) (hand : List (Element T)) (bs : List (Element T)) (q : PartyOf H) (first : Option H) (l : LocalOf T H) (p : PartyOf H) (o : Option (PartyOf H)) →
       GetsFrom element bs q first l →
-      CarriesOut element (kinds.Get ∷ []) (with t hand (Some (record { blocks = bs; party = q })) p o) (with t (behind (element_if first) hand) (Some l) p o)
+      CarriesOut element (kinds.Get ∷ []) (with t hand (Some (record { blocks = bs; party = q })) p o) (with t (prepend_option (element_if first) hand) (Some l) p o)
   get_from t hand [] q first l p o g = fetches_to t hand q first l p o g
   get_from t hand (b ∷ bs) q None l p o g = let none : b ∷ bs ≡ [] = g.1.0 in cc
   get_from t hand (b ∷ bs) q (Some h) l p o g =
@@ -144,7 +144,7 @@ module _ {T H : Type 0} (element : H → Element T) where
       subst (λ z. CarriesOut element (kinds.Get ∷ []) (with t hand (Some (record { blocks = b ∷ bs; party = q })) p o) (with t (element h ∷ hand) (Some (record { blocks = l.blocks; party = z })) p o)) (sym g.0) from
 
   pub carries_get : (t : TableId) (hand hand2 : List (Element T)) (l l2 : LocalOf T H) (p : PartyOf H) (o : Option (PartyOf H)) (first : Option H) →
-      GetsFrom element l.blocks l.party first l2 → hand2 ≡ behind (element_if first) hand →
+      GetsFrom element l.blocks l.party first l2 → hand2 ≡ prepend_option (element_if first) hand →
       CarriesOut element (kinds.Get ∷ []) (with t hand (Some l) p o) (with t hand2 (Some l2) p o)
   carries_get t hand hand2 l l2 p o first g insert_name =
       subst (λ z. CarriesOut element (kinds.Get ∷ []) (with t hand (Some l) p o) (with t z (Some l2) p o)) (sym insert_name) (get_from t hand l.blocks l.party first l2 p o g)

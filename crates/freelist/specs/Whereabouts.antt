@@ -2,7 +2,7 @@
 use Rattle.std.specs.Prelude.{◌≡◌, ◌≢◌, ℕ, suc, ◌+◌, ◌-◌, ◌<◌, ◌≤◌, List, [], ◌∷◌, ◌++◌, length, reverse, Option, Some}
 use Rattle.std.specs.Prelude.{None, IsSome, ◌⊎◌}
 use Rattle.cordyceps_shared.specs.Counts.{tally}
-use Rattle.cordyceps_stack.specs.History.{Event, Legal, held, pushes, taken}
+use Rattle.cordyceps_stack.specs.History.{Event, Legal, held, pushes, taken_elements}
 use Rattle.freelist.specs.declared.laws.Command.{Command}
 use Rattle.freelist.specs.declared.laws.Command.TheVariants as kinds
 
@@ -48,9 +48,9 @@ pub data Call (B : Type 0) : Type 0 where
 
 module _ {B : Type 0} where
   -- a block in front of others, if there is one
-  abbrev pub behind : Option B → List B → List B
-  behind None bs = bs
-  behind (Some b) bs = b ∷ bs
+  abbrev pub prepend_option : Option B → List B → List B
+  prepend_option None bs = bs
+  prepend_option (Some b) bs = b ∷ bs
 
   -- a block goes away
   pub record Without (b : B) (old new : List B) : Type 0 where
@@ -77,10 +77,10 @@ module _ {B : Type 0} where
       (n : ℕ)
       × (s.local_rooms ≡ Some n)
       × (s.local ≡ [])
-      × (batch ≡ behind first t.local)
+      × (batch ≡ prepend_option first t.local)
       × (first ≡ None → t.local ≡ [])
       × (t ≡ record s {
-        with_user = behind first s.with_user;
+        with_user = prepend_option first s.with_user;
         local = t.local;
         local_rooms = Some (n + length batch);
         fetched = s.fetched ++ reverse batch;
@@ -123,15 +123,15 @@ module _ {B : Type 0} where
   Run (c ∷ cs) s t = (m : Whereabouts B) × Does c s m × Run cs m t
 
   -- the blocks that a user came by, and those that it let go of
-  abbrev pub gained : List (Call B) → List B
-  gained [] = []
-  gained (Gains b ∷ cs) = b ∷ gained cs
-  gained (c ∷ cs) = gained cs
+  abbrev pub gains : List (Call B) → List B
+  gains [] = []
+  gains (Gains b ∷ cs) = b ∷ gains cs
+  gains (c ∷ cs) = gains cs
 
-  abbrev pub lost : List (Call B) → List B
-  lost [] = []
-  lost (Loses b ∷ cs) = b ∷ lost cs
-  lost (c ∷ cs) = lost cs
+  abbrev pub losses : List (Call B) → List B
+  losses [] = []
+  losses (Loses b ∷ cs) = b ∷ losses cs
+  losses (c ∷ cs) = losses cs
 
   -- the command that a call carries out, if it does
   abbrev pub command_of : Call B → Option Command
@@ -177,18 +177,18 @@ module _ {B : Type 0} (f : B → ℕ) where
   at_end users = tally (λ u. tally f u.end.with_user + tally f u.end.local) users
 
   -- the same for each block that users came by, and for each that they let go of
-  abbrev pub all_gained : List (Story B) → ℕ
-  all_gained users = tally (λ u. tally f (gained u.calls)) users
+  abbrev pub all_gains : List (Story B) → ℕ
+  all_gains users = tally (λ u. tally f (gains u.calls)) users
 
-  abbrev pub all_lost : List (Story B) → ℕ
-  all_lost users = tally (λ u. tally f (lost u.calls)) users
+  abbrev pub all_losses : List (Story B) → ℕ
+  all_losses users = tally (λ u. tally f (losses u.calls)) users
 
 module _ {P H B : Type 0} (block : H → B) where
   -- a legal history, whose pushes and takings are those of these users
   pub record IsOf (users : List (Story B)) (h : List (Event P H)) : Type 0 where
     pub legal : Legal h
     pub pushed : (f : B → ℕ) → tally (λ e. f (block e)) (pushes h) ≡ tally (λ u. tally f u.end.put_back) users
-    pub took : (f : B → ℕ) → tally (λ e. f (block e)) (taken h) ≡ tally (λ u. tally f u.end.fetched) users
+    pub took : (f : B → ℕ) → tally (λ e. f (block e)) (taken_elements h) ≡ tally (λ u. tally f u.end.fetched) users
 
   -- the sum at the end, and of what is held
   abbrev pub everywhere : (B → ℕ) → List (Story B) → List (Event P H) → ℕ

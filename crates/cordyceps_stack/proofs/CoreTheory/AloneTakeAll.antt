@@ -11,7 +11,7 @@ use Rattle.cordyceps_shared.specs.declared.room.Room.{Room}
 use Rattle.cordyceps_stack.specs.History.{Event, Taken, held}
 use Rattle.cordyceps_shared.specs.Rooms.{change, as_free_room, element_in, next_in}
 use Rattle.cordyceps_shared.specs.Rooms.{occupied}
-use Rattle.cordyceps_stack.specs.Cores.Machine.{stepped, Machine, stage_after_walk, elements_from, held_in}
+use Rattle.cordyceps_stack.specs.Cores.Machine.{after_step, Machine, stage_after_walk, elements_from, held_in}
 use Rattle.cordyceps_stack.specs.Cores.Stages.{room_in_use, NotAmong, LeadsThrough, room_elements}
 use Rattle.cordyceps_stack.specs.Cores.CoreMeets.{core_step, CoreMeets, IsSound}
 use Rattle.cordyceps_stack.specs.Cores.Alone.{take_steps}
@@ -58,7 +58,7 @@ module _ {E : Type 0} where
       (keeps_nothing h m p was at top))
   start_meets h m p (Some r) was at top = keeps_take h m p r was at top
 
-  start_steps : (m : Machine E) (p : ℕ) (top : Option ℕ) → slice_get m.parties p ≡ Some Rest → m.head ≡ top → record { head = None; rooms = m.rooms; parties = set m.parties p (stage_after_walk top) } ≡ (stepped m p step.Take).0
+  start_steps : (m : Machine E) (p : ℕ) (top : Option ℕ) → slice_get m.parties p ≡ Some Rest → m.head ≡ top → record { head = None; rooms = m.rooms; parties = set m.parties p (stage_after_walk top) } ≡ (after_step m p step.Take).0
   start_steps m p None at top = rw (at, top, set_as_it_was m.parties p Rest at) refl
   start_steps m p (Some r) at top = rw (at, top) refl
 
@@ -68,8 +68,8 @@ module _ {E : Type 0} where
   more_steps first p r walks rooms parties e next at got before =
       let m : Machine E = record { head = None; rooms = rooms; parties = set parties p (Walking r) } in
       let there : slice_get m.parties p ≡ Some (Walking r) = slice_get-set_same parties p (Walking r) Rest at in
-      let one : record { head = None; rooms = change (as_free_room p) r rooms; parties = set parties p (stage_after_walk next) } ≡ (stepped m p step.Walk).0 = rw (there, got, set-set) refl in
-      one ∙ (ap (λ (n : Machine E). (stepped n p step.Walk).0) before ∙ (sym (after-push core_step first (take_steps p walks) (p, step.Walk)) ∙ ap (λ ws. after core_step first ((p, step.Take) ∷ ws)) (one_more walks (p, step.Walk))))
+      let one : record { head = None; rooms = change (as_free_room p) r rooms; parties = set parties p (stage_after_walk next) } ≡ (after_step m p step.Walk).0 = rw (there, got, set-set) refl in
+      one ∙ (ap (λ (n : Machine E). (after_step n p step.Walk).0) before ∙ (sym (after-push core_step first (take_steps p walks) (p, step.Walk)) ∙ ap (λ ws. after core_step first ((p, step.Take) ∷ ws)) (one_more walks (p, step.Walk))))
 
   pub clear_start : (m : Machine E) (p : ℕ) → IsSound m → slice_get m.parties p ≡ Some Rest
       → Clearing m p m.rooms m.parties m.head []

@@ -11,7 +11,7 @@ use Rattle.cordyceps_stack.specs.declared.cores.stage.Stage.TheVariants.{Rest, L
 use Rattle.cordyceps_shared.specs.declared.room.Room.{Room}
 use Rattle.cordyceps_stack.specs.History.{Event}
 use Rattle.cordyceps_shared.specs.Rooms.{change, with_link, as_free_room, element_in, next_in}
-use Rattle.cordyceps_stack.specs.Cores.Machine.{Machine, holding, stage_after_walk, least_free, acts, stepped_at, stepped}
+use Rattle.cordyceps_stack.specs.Cores.Machine.{Machine, with_element, stage_after_walk, least_free, acts, after_step_at, after_step}
 use Rattle.cordyceps_stack.specs.Cores.Stages.{room_in_use}
 use Rattle.cordyceps_stack.specs.Cores.CoreMeets.{CoreMeets, IsSound, step_events, AnswerSays}
 use Rattle.cordyceps_stack.proofs.Histories.{legal_none}
@@ -32,11 +32,11 @@ module _ {E : Type 0} where
   pub core_acts : (h : List (Event ℕ E)) (m : Machine E) (p : ℕ) (s : TransferStep E) (stage : Stage)
       → slice_get m.parties p ≡ Some stage → CoreMeets h m
       → CoreMeets (h ++ step_events h m p s (acts m p s stage).1) (acts m p s stage).0 × AnswerSays h p (acts m p s stage).1
-  core_acts h m p s stage at was = subst (λ (o : Option Stage). CoreMeets (h ++ step_events h m p s (stepped_at m p s o).1) (stepped_at m p s o).0 × AnswerSays h p (stepped_at m p s o).1) at (core_steps h m p s was)
+  core_acts h m p s stage at was = subst (λ (o : Option Stage). CoreMeets (h ++ step_events h m p s (after_step_at m p s o).1) (after_step_at m p s o).0 × AnswerSays h p (after_step_at m p s o).1) at (core_steps h m p s was)
 
   -- a core's machine after a step is sound
-  pub sound_step : (m m' : Machine E) (p : ℕ) (s : TransferStep E) → IsSound m → (stepped m p s).0 ≡ m' → IsSound m'
-  sound_step m m' p s was e = subst IsSound e (was.0 ++ step_events was.0 m p s (stepped m p s).1, (core_steps was.0 m p s was.1).0)
+  pub sound_step : (m m' : Machine E) (p : ℕ) (s : TransferStep E) → IsSound m → (after_step m p s).0 ≡ m' → IsSound m'
+  sound_step m m' p s was e = subst IsSound e (was.0 ++ step_events was.0 m p s (after_step m p s).1, (core_steps was.0 m p s was.1).0)
 
   -- where a push is under way there is a room with an element
   pub loaded_room : (m : Machine E) (p : ℕ) (a : Attempt) → IsSound m → slice_get m.parties p ≡ Some (Loaded a)
@@ -52,7 +52,7 @@ module _ {E : Type 0} where
   walking_room m p r s at = walking_at s.0 m p r s.1 at
 
   pub sound_load : (m : Machine E) (p r : ℕ) (e : E) (rooms : List (Room E)) → IsSound m → slice_get m.parties p ≡ Some Rest
-      → least_free p m.rooms ≡ Some r → rooms ≡ change (holding e) r m.rooms
+      → least_free p m.rooms ≡ Some r → rooms ≡ change (with_element e) r m.rooms
       → IsSound record { head = m.head; rooms = rooms; parties = set m.parties p (Loaded record { room = r; read = m.head }) }
   sound_load m p r e rooms s at free same = sound_step m _ p (step.Load e) s (rw (at, free, same) refl)
 

@@ -9,7 +9,7 @@ use Rattle.cordyceps_stack.specs.declared.cores.stage.Stage.TheVariants.{Rest, L
 use Rattle.cordyceps_shared.specs.declared.room.Room.{Room}
 use Rattle.cordyceps_stack.specs.History.{Event, Load, Push, Taken, held, Legal, NoLoad, NoTaken, IsByAnother, SomeByAnother, LastLoad, LastBatch}
 use Rattle.cordyceps_shared.specs.Rooms.{change, with_link, as_free_room}
-use Rattle.cordyceps_stack.specs.Cores.Machine.{Machine, holding, stage_after_walk}
+use Rattle.cordyceps_stack.specs.Cores.Machine.{Machine, with_element, stage_after_walk}
 use Rattle.cordyceps_stack.specs.Cores.Stages.{room_in_use, NotAmong, LeadsThrough, room_elements, InHand, HasRead, HasBatchLeft, AtStage}
 use Rattle.cordyceps_stack.specs.Cores.CoreMeets.{CoreMeets}
 use Rattle.cordyceps_shared.proofs.ListWrites.{slice_get-set_same, slice_get-set_other, slice_get-change_same, set_as_it_was}
@@ -98,20 +98,20 @@ module _ {E : Type 0} where
 
   pub keeps_load : (h : List (Event ℕ E)) (m : Machine E) (p r o : ℕ) (e : E) (room : Room E) → CoreMeets h m
       → slice_get m.parties p ≡ Some Rest → slice_get m.rooms r ≡ Some room → room.owner ≡ Some o
-      → CoreMeets (h ++ Load p ∷ []) record { head = m.head; rooms = change (holding e) r m.rooms; parties = set m.parties p (Loaded record { room = r; read = m.head }) }
+      → CoreMeets (h ++ Load p ∷ []) record { head = m.head; rooms = change (with_element e) r m.rooms; parties = set m.parties p (Loaded record { room = r; read = m.head }) }
   keeps_load h m p r o e room was at got free =
-      let fresh : (w : Option ℕ) → Keeps m.rooms was.own (change (holding e) r m.rooms) (relabel was.own r (Some p)) w = λ w. Keeps-fresh (holding e) m.rooms was.own r room (Some p) w o got free in
-      meets_on h (h ++ Load p ∷ []) m p m.head (change (holding e) r m.rooms) Rest (Loaded record { room = r; read = m.head }) was at
+      let fresh : (w : Option ℕ) → Keeps m.rooms was.own (change (with_element e) r m.rooms) (relabel was.own r (Some p)) w = λ w. Keeps-fresh (with_element e) m.rooms was.own r room (Some p) w o got free in
+      meets_on h (h ++ Load p ∷ []) m p m.head (change (with_element e) r m.rooms) Rest (Loaded record { room = r; read = m.head }) was at
       record {
         legal = legal_more h (Load p) was.legal tt;
         own' = relabel was.own r (Some p);
         chain = was.chain;
-        linked = LeadsThrough-passed m.rooms was.own (change (holding e) r m.rooms) (relabel was.own r (Some p)) None None m.head was.chain (fresh None) was.linked;
+        linked = LeadsThrough-passed m.rooms was.own (change (with_element e) r m.rooms) (relabel was.own r (Some p)) None None m.head was.chain (fresh None) was.linked;
         holds = was.holds ∙ ap reverse (sym (held_more h (Load p)));
         goes = λ q ne. goes_event q h (Load p) m.head m.head ((λ e. ne (sym e)), tt) tt (inl refl);
         keeps = λ q ne. fresh (Some q);
         mine = (
-          record { element = e; next = room.next; room = slice_get-change_same (holding e) m.rooms r room got; mine = relabel_here was.own r (Some p) },
+          record { element = e; next = room.next; room = slice_get-change_same (with_element e) m.rooms r room got; mine = relabel_here was.own r (Some p) },
           record { since = []; loaded = loaded_now p h; moved = λ ne. absurd (ne refl) },
         );
       }

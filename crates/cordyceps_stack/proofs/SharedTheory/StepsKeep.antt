@@ -26,7 +26,7 @@ use Rattle.cordyceps_shared.proofs.Telling.{at_length, owned_same, fits_same, te
 use Rattle.cordyceps_shared.specs.declared.slots.Filled.{Filled}
 use Rattle.cordyceps_stack.specs.History.{Event, Load, Push, Taken, held, Legal, actor, SomeChange}
 use Rattle.cordyceps_stack.specs.Cores.Stages.{room_elements}
-use Rattle.cordyceps_stack.specs.Shared.View.{Doing, Idle, Ready, Loaded, Set, Walking, View, knows, name, walking, in_chain, at_work, count_with_party}
+use Rattle.cordyceps_stack.specs.Shared.View.{Doing, Idle, Ready, Loaded, Set, Walking, View, knows, name, walk_through, in_chain, at_work, count_with_party}
 use Rattle.cordyceps_stack.specs.Shared.Words.{History, start, Since, AtDoing, WordsMeet}
 use Rattle.cordyceps_shared.specs.Slots.{Homes, Hand, TableStep, full_slot, EmptyAtHome}
 use Rattle.cordyceps_stack.specs.Shared.Rule.{TableState, FullAtHome, RuleHolds}
@@ -401,7 +401,7 @@ module _ {E : Type 0} where
       let xs = k.chain in
       let e : Event Name E = Taken (name v) (room_elements xs) in
       let h = k.history ++ (id, e) ∷ [] in
-      let w = view_after v id h v.free (walking xs) in
+      let w = view_after v id h v.free (walk_through xs) in
       let wide = k.wide in
       let meets = takes_all s.words xs s.views k.history id v w (name v) k.meets at idle refl refl (omega arith) in
       let t = told s k id (e ∷ []) v w h at named (refl, tt) refl refl meets.legal in
@@ -421,7 +421,7 @@ module _ {E : Type 0} where
   walks_one slots id i me x xs cs is doing hand inside s k deep at fits =
       let v = me.0 in
       let r = x.0 in
-      let w : View E = record v { doing = walking xs; free = r ∷ v.free } in
+      let w : View E = record v { doing = walk_through xs; free = r ∷ v.free } in
       let y : maybe.Option (Option (Filled E)) = some None in
       let here = one_here r in
       let was : count_with_party r v ≡ times r v.free + (one_if (eqb r r) + in_chain r xs) = ap (λ d. times r v.free + at_work r d) doing in
@@ -443,7 +443,7 @@ module _ {E : Type 0} where
             let same = ap to_hand_out (sym doing ∙ doing') in
             let z : (x ≡ x') × (xs ≡ xs') = (ap (first_or x) same, ap rest_from same) in (
               ap (λ n. get_or s.words n 0) is ∙ (walked.0 ∙ ap start z.1),
-              (λ j. let u : View E = record v { doing = walking (z.1 j); free = (z.0 j).0 ∷ v.free } in u),
+              (λ j. let u : View E = record v { doing = walk_through (z.1 j); free = (z.0 j).0 ∷ v.free } in u),
               ap rest hand',
               omega arith,
             ),

@@ -9,7 +9,7 @@ use Rattle.cordyceps_shared.specs.declared.slots.Filled.{Filled}
 use Rattle.cordyceps_stack.specs.History.{Event, Load, Push, Taken, Legal, actor}
 use Rattle.cordyceps_stack.specs.Cores.Stages.{room_elements}
 use Rattle.cordyceps_stack.specs.Shared.Calls.{EndsPushed, EndsLooked, IsOvertaken}
-use Rattle.cordyceps_stack.specs.Shared.View.{Doing, Idle, Ready, Loaded, Set, Walking, View, name, walking}
+use Rattle.cordyceps_stack.specs.Shared.View.{Doing, Idle, Ready, Loaded, Set, Walking, View, name, walk_through}
 use Rattle.cordyceps_stack.specs.Shared.Words.{start}
 use Rattle.cordyceps_shared.specs.Slots.{Hand, Near, TableStep, full_slot}
 
@@ -79,7 +79,7 @@ module _ {E : Type 0} where
   -- a swap of head: the slots of all that was held are in hand
   abbrev pub after_take : TableStep E → SeatState E → ℕ → SeatState E → Type 0
   after_take st m found k = m.0.doing ≡ Idle
-      → (chain : List (ℕ × E)) × (found ≡ start chain) × (k.0.doing ≡ walking chain) × (k.0.free ≡ m.0.free)
+      → (chain : List (ℕ × E)) × (found ≡ start chain) × (k.0.doing ≡ walk_through chain) × (k.0.free ≡ m.0.free)
       × (k.1 ≡ carry chain m.1) × NearChain st.slots chain
       × Sees m.0 (Taken (name m.0) (room_elements chain) ∷ []) k.0
 
@@ -87,7 +87,7 @@ module _ {E : Type 0} where
   abbrev pub after_walk : TableStep E → SeatState E → ℕ → SeatState E → Type 0
   after_walk st m found k =
       (x : ℕ × E) (xs : List (ℕ × E)) (cs : Hand E) → m.0.doing ≡ Walking (x ∷ xs) → m.1 ≡ (x.0, None) ∷ cs
-      → (found ≡ start xs) × (k.0 ≡ record m.0 { doing = walking xs; free = x.0 ∷ m.0.free }) × (k.1 ≡ cs)
+      → (found ≡ start xs) × (k.0 ≡ record m.0 { doing = walk_through xs; free = x.0 ∷ m.0.free }) × (k.1 ≡ cs)
       × (length k.0.free ≤ st.slots)
 
   -- ---- between the steps
@@ -104,4 +104,5 @@ module _ {E : Type 0} where
   -- the party has these rooms to hand out, and their slots in hand
   abbrev pub IsWalking : ℕ → List (ℕ × E) → SeatState E → Type 0
   IsWalking slots xs m =
-      (m.0.doing ≡ walking xs) × (m.1 ≡ carry xs []) × NearChain slots xs × (m.0.known.share ≢ []) × Near slots m.0.free
+      (m.0.doing ≡ walk_through xs) × (m.1 ≡ carry xs []) × NearChain slots xs × (m.0.known.share ≢ [])
+      × Near slots m.0.free

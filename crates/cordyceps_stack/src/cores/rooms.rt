@@ -2,7 +2,7 @@
 ghost use Rattle.std.specs.Prelude.{◌≡◌, ◌<◌, ◌≤◌, ◌++◌, [], ◌∷◌, length, slice_get, IsSome, Some, None, OnOk, OnErr};
 ghost use Rattle.cordyceps_shared.specs.Rooms.{change, with_link, as_free_room, element_in, next_in};
 ghost use Rattle.cordyceps_shared.specs.Rooms.{occupied};
-ghost use Rattle.cordyceps_stack.specs.Cores.Machine.{holding, new_room, least_free};
+ghost use Rattle.cordyceps_stack.specs.Cores.Machine.{with_element, new_room, least_free};
 
 use cordyceps_shared::room::Room;
 use std::alloc::{AllocError, Global};
@@ -64,7 +64,7 @@ impl<E: Drop> Rooms<E> {
     /// Puts an element into a room, which is then no party's free one.
     pub(crate) fn hold(&mut self, at: usize, element: E)
         requires { at < length self.old }
-        ensures { self.new ≡ change (holding element) at self.old }
+        ensures { self.new ≡ change (with_element element) at self.old }
     {
         let room = &mut self.list[at];
         room.owner = None;
