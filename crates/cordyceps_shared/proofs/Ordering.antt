@@ -284,8 +284,8 @@ combined_same (n ∷ []) p = refl
 combined_same (n ∷ m ∷ ms) p = ap (combine_first n) (combined_same (m ∷ ms) p.1) ∙ placed_alone n (m ∷ ms) p
 
 -- names behind the given half stay behind it
-put_behind : (n x : Name) (ms : List Name) → earlier n x ≡ false → insert_name n (x ∷ ms) ≡ x ∷ insert_name n ms
-put_behind n x ms e = ap (λ b. cond b (n ∷ x ∷ ms) (x ∷ insert_name n ms)) e
+put_after : (n x : Name) (ms : List Name) → earlier n x ≡ false → insert_name n (x ∷ ms) ≡ x ∷ insert_name n ms
+put_after n x ms e = ap (λ b. cond b (n ∷ x ∷ ms) (x ∷ insert_name n ms)) e
 
 put_first : (n : Name) (ms : List Name) → IsBefore n ms → insert_name n ms ≡ n ∷ ms
 put_first n [] f = refl
@@ -299,10 +299,10 @@ not_earlier (false ∷ us) (false ∷ bs) c e = not_earlier us bs c e
 not_earlier (true ∷ us) (false ∷ bs) c e = no_longer (sym e)
 not_earlier (false ∷ us) (true ∷ bs) c e = refl
 
-put_all_behind : (x : Name) (ns : List Name) → Clear x ns → IsBefore x ns → InOrder ns → insert_names ns (x ∷ []) ≡ x ∷ ns
-put_all_behind x [] c f o = refl
-put_all_behind x (n ∷ ns) c f o =
-    ap (insert_name n) (put_all_behind x ns c.2 f.1 o.2) ∙ (put_behind n x ns (not_earlier x n c.0 f.0) ∙ ap (λ z. x ∷ z) (put_first n ns o.0))
+put_all_after : (x : Name) (ns : List Name) → Clear x ns → IsBefore x ns → InOrder ns → insert_names ns (x ∷ []) ≡ x ∷ ns
+put_all_after x [] c f o = refl
+put_all_after x (n ∷ ns) c f o =
+    ap (insert_name n) (put_all_after x ns c.2 f.1 o.2) ∙ (put_after n x ns (not_earlier x n c.0 f.0) ∙ ap (λ z. x ∷ z) (put_first n ns o.0))
 
 given_unpaired : (n m : Name) → is_pair (n ++ true ∷ []) m ≡ false
 given_unpaired n m = either (is_pair (n ++ true ∷ []) m) refl
@@ -329,7 +329,7 @@ share_joins (n ∷ ns) s =
     let l = n ++ false ∷ [] in
     let r = n ++ true ∷ [] in
     let o = s.1 in
-    let behind : insert_names ns (r ∷ []) ≡ r ∷ ns = put_all_behind r ns (clear_longer n (true ∷ []) ns o.1) (front_longer n (true ∷ []) ns o.1 o.0) o.2 in
-    let both : insert_names (l ∷ ns) (r ∷ []) ≡ l ∷ r ∷ ns = ap (insert_name l) behind ∙ ap (λ b. cond b (l ∷ r ∷ ns) (r ∷ insert_name l ns)) (halves_earlier n) in
+    let after : insert_names ns (r ∷ []) ≡ r ∷ ns = put_all_after r ns (clear_longer n (true ∷ []) ns o.1) (front_longer n (true ∷ []) ns o.1 o.0) o.2 in
+    let both : insert_names (l ∷ ns) (r ∷ []) ≡ l ∷ r ∷ ns = ap (insert_name l) after ∙ ap (λ b. cond b (l ∷ r ∷ ns) (r ∷ insert_name l ns)) (halves_earlier n) in
     let pair : combine_first l (r ∷ ns) ≡ combine_first (parent l) ns = ap (λ b. cond b (combine_first (parent l) ns) (l ∷ r ∷ ns)) (halves_pair n) in
     ap combine both ∙ (ap (combine_first l) (combined_same (r ∷ ns) (given_first n ns s.2)) ∙ (pair ∙ (ap (λ z. combine_first z ns) (half_parent n) ∙ placed_alone n ns s.2)))

@@ -18,7 +18,7 @@ use Rattle.freelist.specs.Whereabouts.{Gets, Fetches, Puts, PutsRemote, HandsBac
 use Rattle.freelist.specs.Users.{UserOf, whereabouts_after, share_of, rooms_of, Divides, local_party, CarriesOut}
 use Rattle.freelist.proofs.Calls.{stays, stays_local}
 use Rattle.freelist.proofs.Parties.{adds_own, absorbs_own, knows_last}
-use Rattle.freelist.proofs.Whereabouts.{tally_behind}
+use Rattle.freelist.proofs.Whereabouts.{tally_prepend}
 use Rattle.freelist.specs.declared.laws.Command.{Command}
 use Rattle.freelist.specs.declared.laws.Command.TheVariants as kinds
 
@@ -110,7 +110,7 @@ module _ {T H : Type 0} (element : H → Element T) where
         );
         looked = refl;
         took = refl;
-        own_events = λ g2. omega (arith, adds_own q l.party es took.0 g2, tally_behind (λ (z : PartyOf H). tally g2 (own z.seen)) o (q ∷ []), tally_behind (λ (z : PartyOf H). tally g2 (own z.seen)) o (l.party ∷ []));
+        own_events = λ g2. omega (arith, adds_own q l.party es took.0 g2, tally_prepend (λ (z : PartyOf H). tally g2 (own z.seen)) o (q ∷ []), tally_prepend (λ (z : PartyOf H). tally g2 (own z.seen)) o (l.party ∷ []));
         in_turn = λ _. (inl (refl, refl), inr took.0, refl);
         knows = λ k. (k.0, knows_last q l.party o (λ j. adds_knows actor (λ h. Legal h) q l.party es j took.0) k.1);
         names = λ n h. subst (λ z. Divides n p.share (Some z) (share_of o)) (sym took.0.0.share) h;

@@ -7,9 +7,9 @@ use Rattle.cordyceps_stack.proofs.Histories.{nothing_lost}
 use Rattle.freelist.specs.Whereabouts.{Whereabouts, Call, Gets, Fetches, Puts, PutsRemote, HandsBack, Opens, Finishes, Splits, Joins, Idles, Gains, Loses, prepend_option, Without, Does, Run, gains, losses, Story, IsOf, everywhere, at_start, at_end, all_gains, all_losses}
 
 module _ {B : Type 0} (f : B → ℕ) where
-  pub tally_behind : (o : Option B) (bs : List B) → tally f (prepend_option o bs) ≡ tally f (prepend_option o []) + tally f bs
-  tally_behind None bs = omega arith
-  tally_behind (Some b) bs = omega arith
+  pub tally_prepend : (o : Option B) (bs : List B) → tally f (prepend_option o bs) ≡ tally f (prepend_option o []) + tally f bs
+  tally_prepend None bs = omega arith
+  tally_prepend (Some b) bs = omega arith
 
   tally_without : (b : B) (old new : List B) → Without b old new → tally f old ≡ f b + tally f new
   tally_without b old new w = omega (arith, ap (tally f) w.old_is, ap (tally f) w.new_is, tally_append f w.before (b ∷ w.after), tally_append f w.before w.after)
@@ -26,7 +26,7 @@ module _ {B : Type 0} (f : B → ℕ) where
       let user : tally f t.with_user ≡ tally f (prepend_option first s.with_user) = ap (λ z. tally f z.with_user) d.5 in
       let back : tally f t.put_back ≡ tally f s.put_back = ap (λ z. tally f z.put_back) d.5 in
       let more : tally f t.fetched ≡ tally f (s.fetched ++ reverse batch) = ap (λ z. tally f z.fetched) d.5 in
-      omega (arith, user, back, more, ap (tally f) d.2, ap (tally f) d.3, tally_behind first t.local, tally_behind first s.with_user, tally_append f s.fetched (reverse batch), tally_reverse f batch)
+      omega (arith, user, back, more, ap (tally f) d.2, ap (tally f) d.3, tally_prepend first t.local, tally_prepend first s.with_user, tally_append f s.fetched (reverse batch), tally_reverse f batch)
   call_keeps (Puts b) s t d =
       omega (arith, tally_without b s.with_user t.with_user d.1, ap (λ z. tally f z.local) d.2, ap (λ z. tally f z.put_back) d.2, ap (λ z. tally f z.fetched) d.2)
   call_keeps (PutsRemote b) s t d =

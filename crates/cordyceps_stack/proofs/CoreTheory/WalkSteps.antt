@@ -195,11 +195,11 @@ module _ {E : Type 0} where
       )
 
   -- the rest of a walk, where it is at a room or at its end
-  left_behind : (rooms : List (Room E)) (next : Option ℕ) (es : List E) → LeadsToElements rooms next es
+  left_after : (rooms : List (Room E)) (next : Option ℕ) (es : List E) → LeadsToElements rooms next es
       → IsLeftAt rooms (Some (stage_after_walk next)) es
-  left_behind rooms None [] l = refl
-  left_behind rooms None (e ∷ es) l = let a = l.2 in let no : ⊥ = cc in absurd no
-  left_behind rooms (Some r) es l = l
+  left_after rooms None [] l = refl
+  left_after rooms None (e ∷ es) l = let a = l.2 in let no : ⊥ = cc in absurd no
+  left_after rooms (Some r) es l = l
 
   given_handed : (e : E) (next : Option ℕ) → handed_elements (Ok (walk_answer e next)) ≡ e ∷ []
   given_handed e None = refl
@@ -226,7 +226,7 @@ module _ {E : Type 0} where
       (subst (λ s. LeadsToElements (change (as_free_room p) s m.rooms) l.0 (room_elements xs)) start
       (leads_from_linked (change (as_free_room p) x.0 m.rooms) own (Some p) l.0 xs (LeadsThrough-change (as_free_room p) m.rooms own (Some p) l.0 xs x.0 l.4 l.5))) in (
         room_elements xs,
-        subst (λ (o : Option Stage). IsLeftAt rooms' o (room_elements xs)) (sym (slice_get-set_same m.parties p (stage_after_walk next) (Walking r) at)) (left_behind rooms' next (room_elements xs) on),
+        subst (λ (o : Option Stage). IsLeftAt rooms' o (room_elements xs)) (sym (slice_get-set_same m.parties p (stage_after_walk next) (Walking r) at)) (left_after rooms' next (room_elements xs) on),
         append-nil left ∙ (same ∙ ap (λ (y : E). y ∷ room_elements xs) element),
       )
 
