@@ -30,7 +30,7 @@ module _ {X : Type 0} where
   plain_unmarked [] = refl
   plain_unmarked (x ∷ xs) = ap (λ z. x.1 ∷ z) (plain_unmarked xs)
 
-  -- what a party saw begins what it sees with another
+  -- what a party saw is a prefix of what it sees with another
   pub merged_front : (xs ys : List (Bool × X)) → IsPrefixOf (plain xs) (plain (merge_marks xs ys))
   merged_front [] ys = (plain ys, refl)
   merged_front (x ∷ xs) [] = ([], sym (ap (λ z. x.1 ∷ z) (append_none (plain xs))))

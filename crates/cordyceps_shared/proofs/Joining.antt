@@ -1,4 +1,4 @@
--- Two seats may be made one, and it then learns that one had seen a beginning of what the other had.
+-- Two seats may be made one, and it then learns that one had seen a prefix of what the other had.
 use Rattle.std.proofs.Common.{◌≡◌, ◌≢◌, ℕ, ◌+◌, List, [], ◌++◌, ◌∷◌, length, set, Bool, true, false, ◌&&◌, eqb, ne_eqb, refl, sym, ap, ◌∙◌, subst, arith, length-set}
 use mathlib.Core.Logic.{dite}
 use mathlib.Core.Option.{some}

@@ -21,7 +21,7 @@ pub split_covers : (x : Name) (ns : List Name) → covers x (keeps_half ns) + co
 split_covers x [] = omega arith
 split_covers x (n ∷ ns) = omega (arith, halves n x)
 
--- a name stands for its two halves, where the other name is long
+-- a name represents its two halves, where the other name is long
 pub pair_covers : (n m x : Name) → is_pair n m ≡ true → length n ≤ length x → one_if (is_prefix (parent n) x) ≡ one_if (is_prefix n x) + one_if (is_prefix m x)
 pair_covers [] m x e l = absurd (true≢false (sym e))
 pair_covers (a ∷ us) [] x e l = absurd (true≢false (sym e))
@@ -88,7 +88,7 @@ pub join_covers : (x : Name) (ns ms : List Name) → letters ns + letters ms ≤
 join_covers x ns ms l =
     let a = tally_put_all (λ n. length n) ns ms in let b = tally_put_all (λ n. one_if (is_prefix n x)) ns ms in omega (arith, combine_covers x (insert_names ns ms) (omega arith))
 
--- a name begins what it is lengthened to
+-- a name is a prefix of what it is lengthened to
 pub prefix_longer : (n x : Name) → is_prefix n (n ++ x) ≡ true
 prefix_longer [] x = refl
 prefix_longer (true ∷ us) x = prefix_longer us x

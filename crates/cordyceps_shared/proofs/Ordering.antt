@@ -1,4 +1,4 @@
--- Names that are split and joined stand in order, and what was clear of them stays so.
+-- Names that are split and joined are in order, and what was clear of them stays so.
 use Rattle.std.proofs.Common.{◌≡◌, List, [], ◌∷◌, ◌++◌, Bool, true, false, cond, refl, sym, ap, ◌∙◌, subst, true≢false}
 use Rattle.cordyceps_shared.proofs.Halving.{halves_earlier, halves_pair, half_parent}
 use Rattle.cordyceps_shared.proofs.Naming.{prefix_longer, joined_some, keeps_some, gives_some}
@@ -283,7 +283,7 @@ combined_same [] p = refl
 combined_same (n ∷ []) p = refl
 combined_same (n ∷ m ∷ ms) p = ap (combine_first n) (combined_same (m ∷ ms) p.1) ∙ placed_alone n (m ∷ ms) p
 
--- names behind the given half stay behind it
+-- names after the given half stay after it
 put_after : (n x : Name) (ms : List Name) → earlier n x ≡ false → insert_name n (x ∷ ms) ≡ x ∷ insert_name n ms
 put_after n x ms e = ap (λ b. cond b (n ∷ x ∷ ms) (x ∷ insert_name n ms)) e
 

@@ -83,7 +83,7 @@ module _ (a b : ℕ) where
     without_back i [] ys w = (tt, w)
     without_back i (x ∷ xs) ys w = let t = without_back i xs ys w.1 in ((w.0, t.0), t.1)
 
-    -- two beginnings of one history, as one
+    -- two prefixes of one history, as one
     pub record Merge (bv lv bw lw : List (ℕ × X)) : Type 0 where
       pub before : List (ℕ × X)
       pub later : List (ℕ × X)

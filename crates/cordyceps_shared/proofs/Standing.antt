@@ -20,7 +20,7 @@ module _ {X : Type 0} where
   own_front [] ys a = tt
   own_front (x ∷ xs) ys a = (a.0, own_front xs ys a.1)
 
-  -- of two beginnings of one list the shorter begins the longer
+  -- of two prefixes of one list the shorter is a prefix of the longer
   shorter_is_prefix : (xs ys us vs : List X) → xs ++ us ≡ ys ++ vs → length xs ≤ length ys → IsPrefixOf xs ys
   shorter_is_prefix [] ys us vs e l = (ys, refl)
   shorter_is_prefix (x ∷ xs) [] us vs e l = absurd (omega arith)

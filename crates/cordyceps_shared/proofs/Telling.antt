@@ -79,7 +79,7 @@ module _ {X : Type 0} (actor : X → Name) where
   foreign_none [] = tt
   foreign_none (x ∷ xs) = (tt, foreign_none xs)
 
-  -- what another party saw stays a beginning
+  -- what another party saw stays a prefix
   pub fits_other : (h : List (ℕ × X)) (i j : ℕ) (n : Name) (es : List X) (k : Known X) → i ≢ j → Clear n k.share → Under actor n es → Agrees actor h i k → Agrees actor (h ++ of_seat j es) i k
   fits_other h i j n es k other clear under f = record {
     before = f.before;

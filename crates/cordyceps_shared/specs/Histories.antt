@@ -1,6 +1,6 @@
--- The history of a shared collection, the oldest event first. In the collection's rule each event stands beside the
--- number of the seat whose party it is of; in what a party has seen, beside a mark that says whether it is the party's
--- own.
+-- The history of a shared collection, the oldest event first. In the collection's rule each event has the
+-- number of the seat whose party it is of; in what a party has seen (the observed prefix), a mark that says whether it
+-- is the party's own.
 use Rattle.std.specs.Prelude.{◌≡◌, ◌≢◌, ℕ, List, [], ◌∷◌, map, Bool, true, false, ◌&&◌, cond, nat_eq}
 
 module _ {X : Type 0} where

@@ -24,7 +24,7 @@ module _ {X : Type 0} where
   abbrev pub all_seen : ℕ → List (ℕ × X) → List Name → Known X
   all_seen j h share = record { seen = with_marks j h; had = []; told = []; share = share }
 
-  -- no event carries a name of the share, or one that begins such a name or is begun by it
+  -- no event carries a name of the share, a prefix of such a name, or a name with such a prefix
   abbrev pub Foreign : (X → Name) → List Name → List X → Type 0
   Foreign actor share [] = Unit {0}
   Foreign actor share (x ∷ xs) = Clear (actor x) share × Foreign actor share xs
@@ -34,7 +34,7 @@ module _ {X : Type 0} where
   Under actor n [] = Unit {0}
   Under actor n (x ∷ xs) = (actor x ≡ n) × Under actor n xs
 
-  -- what it has seen is a beginning of the history, with all events of its own and all that carry names of its share;
+  -- what it has seen is a prefix of the history, with all events of its own and all that carry names of its share;
   -- and so is what it was told, and no event is marked both there and in what it had seen itself
   pub record Agrees (actor : X → Name) (history : List (ℕ × X)) (j : ℕ) (k : Known X) : Type 0 where
     pub before : List (ℕ × X)
@@ -80,7 +80,7 @@ module _ {X : Type 0} where
   without_marks [] = []
   without_marks (x ∷ xs) = (false, x.1) ∷ without_marks xs
 
-  -- the longer of two histories, one of which begins the other, with the marks of both
+  -- the longer of two histories, one of which is a prefix of the other, with the marks of both
   abbrev pub merge_marks : List (Bool × X) → List (Bool × X) → List (Bool × X)
   merge_marks [] ys = ys
   merge_marks (x ∷ xs) [] = x ∷ xs
@@ -101,12 +101,12 @@ module _ {X : Type 0} where
   abbrev pub known_absorbed : Known X
   known_absorbed = record { seen = []; had = []; told = []; share = [] }
 
-  -- one history begins another
+  -- one history is a prefix of another
   abbrev pub IsPrefixOf : List X → List X → Type 0
   IsPrefixOf xs ys = (rest : List X) × (ys ≡ xs ++ rest)
 
-  -- what a party knows: a legal history that begins with what it was told, no event that it and the party it absorbed
-  -- both had marked, and of a whole party no event of another
+  -- what a party knows: a legal history, of which what it was told is a prefix, no event that it and the party it
+  -- absorbed both had marked, and of a whole party no event of another
   pub record IsKnown (Legal : List X → Type 0) (k : Known X) : Type 0 where
     pub legal : Legal (plain k.seen)
     pub told : IsPrefixOf (plain k.told) (plain k.seen)

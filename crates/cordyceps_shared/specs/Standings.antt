@@ -45,8 +45,8 @@ module _ {X : Type 0} where
     pub alone : u.share ≡ whole → AllOwn u.seen
     pub share : IsShare u.share
 
-  -- the party u became w when it took in the party o. It has seen the longer of what the two had seen, which the
-  -- shorter begins; no event is marked by both, and the own events are those of both; their shares had no name in
+  -- the party u became w when it took in the party o. It has seen the longer of what the two had seen, of which the
+  -- shorter is a prefix; no event is marked by both, and the own events are those of both; their shares had no name in
   -- common
   pub record Absorbs (Legal : List X → Type 0) (u o w : Standing X) : Type 0 where
     pub table : w.table ≡ u.table

@@ -85,7 +85,7 @@ module _ {T H : Type 0} (element : H → Element T) where
       let g : H → ℕ = λ e. f (element e) in
       omega (arith, each_once element f (stories element lives) (plain w.seen) (is_of lives w met known is), ap (tally f) gives, tally_map element f (reverse (held (plain w.seen))), tally_reverse g (held (plain w.seen)))
 
-  -- a user from the beginning on to its end
+  -- a user from its start to its end
   pub from_new : (ks : List Command) (t : TableId) (hand : List (Element T)) (p q : PartyOf H) (u v : UserOf T H) (hand2 : List (Element T)) (p2 : PartyOf H) → q ≡ p → u ≡ alone t hand q →
       CarriesOut element ks u v → CarriesOut element closing v (alone v.table hand2 p2) → CarriesOut element (ks ++ closing) (alone t hand p) (alone t hand2 p2)
   from_new ks t hand p q u v hand2 p2 new is first last =

@@ -68,7 +68,7 @@ module _ {T H : Type 0} (element : H → Element T) where
     table = refl;
   }
 
-  -- another name for the user at the beginning, and at the end
+  -- another name for the user at the start, and at the end
   pub begins : (ks : List Command) (v u w : UserOf T H) → v ≡ u → CarriesOut element ks v w → CarriesOut element ks u w
   begins ks v u w is c = subst (λ z. CarriesOut element ks z w) is c
 

@@ -166,7 +166,7 @@ module _ {T H : Type 0} (element : H → Element T) where
     pub names : (n : Name) → HasName n u → HasName n w
     pub table : w.table ≡ u.table
 
-  -- a user, from the beginning on: its story, and its parties at the end, whose own events are those of the story
+  -- a user, from the start on: its story, and its parties at the end, whose own events are those of the story
   pub record Life : Type 0 where
     pub story : Story (Element T)
     pub parties : List (PartyOf H)
@@ -182,7 +182,7 @@ module _ {T H : Type 0} (element : H → Element T) where
   abbrev pub stories : List Life → List (Story (Element T))
   stories lives = map (λ l. l.story) lives
 
-  -- whatever f gives: its sum over all blocks that these users have at the end, over what is shared, and over what they
+  -- for each f, its sum over all blocks that these users have at the end, over what is shared, and over what they
   -- let go of, is that over what they had at the start and came by
   abbrev pub EachOnce : List Life → List (Element T) → Type 0
   EachOnce lives shared =

@@ -18,18 +18,18 @@ pub record Whereabouts (B : Type 0) : Type 0 where
   pub local_rooms : Option ℕ
   pub spare_rooms : Option ℕ
 
--- what was done, and what it answered
+-- what was done, and what it returned
 pub data Call (B : Type 0) : Type 0 where
-  -- `get`, which answered the first local block
+  -- `get`, which returned the first local block
   Gets : B → Call B
-  -- `get`, which found no local block, took this batch of what is shared, the newest first, and answered its first
+  -- `get`, which found no local block, took this batch of what is shared, the newest first, and returned its first
   -- block
   Fetches : List B → Option B → Call B
   -- `put`
   Puts : B → Call B
-  -- `put_remote`, which answered `Ok`
+  -- `put_remote`, which returned `Ok`
   PutsRemote : B → Call B
-  -- `put_remote`, which handed the block back
+  -- `put_remote`, which returned the block
   HandsBack : Call B
   -- `local`, with the spare party
   Opens : Call B
@@ -47,7 +47,7 @@ pub data Call (B : Type 0) : Type 0 where
   Loses : B → Call B
 
 module _ {B : Type 0} where
-  -- a block in front of others, if there is one
+  -- a block before others, if there is one
   abbrev pub prepend_option : Option B → List B → List B
   prepend_option None bs = bs
   prepend_option (Some b) bs = b ∷ bs
@@ -160,7 +160,7 @@ module _ {B : Type 0} where
   fetches (Fetches batch first ∷ cs) = suc (fetches cs)
   fetches (c ∷ cs) = fetches cs
 
--- what a user did, from the beginning on
+-- what a user did, from the start on
 pub record Story (B : Type 0) : Type 0 where
   pub calls : List (Call B)
   pub start : Whereabouts B
@@ -169,7 +169,7 @@ pub record Story (B : Type 0) : Type 0 where
   pub new : (start.put_back ≡ []) × (start.fetched ≡ [])
 
 module _ {B : Type 0} (f : B → ℕ) where
-  -- the sum of what f gives for each block with a user or local, at the start and at the end
+  -- the sum of f over the blocks with a user or local, at the start and at the end
   abbrev pub at_start : List (Story B) → ℕ
   at_start users = tally (λ u. tally f u.start.with_user + tally f u.start.local) users
 

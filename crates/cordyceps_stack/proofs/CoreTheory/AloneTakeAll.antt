@@ -89,7 +89,7 @@ module _ {E : Type 0} where
         );
       }
 
-  -- there is an element where the walk stands
+  -- there is an element where the walk is
   pub clear_room : (first : Machine E) (p r : ℕ) (rooms : List (Room E)) (parties : List Stage) (given : List E)
       → Clearing first p rooms parties (Some r) given → (e : E) × (next : Option ℕ) × (slice_get rooms r ≡ Some (room_in_use e next))
   clear_room first p r rooms parties given c = let hands = (c.law c.sound.0 c.sound.1).1 in first_of_rest rooms hands.own (Some p) r hands.rest hands.links

@@ -52,7 +52,7 @@ module _ {E : Type 0} where
       let g = goes.loads k.since k.loaded in
       record { since = g.0; loaded = g.1; moved = λ ne. elim g.3 [ inl same ↦ g.2 (k.moved (λ e. ne (same ∙ e))) | inr s ↦ s ] }
 
-  -- a party that takes no step stands where it stood
+  -- a party that takes no step is where it was
   pub bystander : (h h' : List (Event ℕ E)) (head head' : Option ℕ) (rooms : List (Room E)) (own : ℕ → Option ℕ) (rooms' : List (Room E)) (own' : ℕ → Option ℕ) (q : ℕ) (stage : Stage) → Goes q h h' head head' → Keeps rooms own rooms' own' (Some q) → AtStage h head rooms own q stage → AtStage h' head' rooms' own' q stage
   bystander h h' head head' rooms own rooms' own' q Rest goes k a = tt
   bystander h h' head head' rooms own rooms' own' q (Loaded t) goes k a = (hand_on rooms own rooms' own' q t.room k a.0, knows_on q h h' head head' t.read goes a.1)

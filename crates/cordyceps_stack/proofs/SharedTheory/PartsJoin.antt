@@ -20,7 +20,7 @@ use Rattle.cordyceps_stack.specs.Shared.Words.{start}
 pub is_zero : (n : ℕ) → (n ≡ 0) ↔ IsTrue (eqb n 0)
 is_zero n = (λ e. eq-eqb n 0 e, λ e. eqb-true n 0 e)
 
--- what lies in the slot in hand
+-- what is in the slot in hand
 abbrev pub hand_of : {A : Type 0} → List (ℕ × Option A) → Option A
 hand_of [] = None
 hand_of (x ∷ xs) = x.1

@@ -23,7 +23,7 @@ module _ {P E A : Type 0} (f : E → A) where
   all_got (Push p e ∷ h) = all_got h
   all_got (Taken p batch ∷ h) = ap (λ l. map f (reverse batch) ++ l) (all_got h) ∙ sym (map-append f (reverse batch) (taken_elements h))
 
-  -- what a legal history holds, behind what was taken, is what was pushed
+  -- what a legal history holds, after what was taken, is what was pushed
   pub all_kept : (h : List (Event P E)) → Legal h → flat_map (got_by f) h ++ map f (held h) ≡ flat_map (put_by f) h
   all_kept h legal =
       ap (λ l. l ++ map f (held h)) (all_got h) ∙ (sym (map-append f (taken_elements h) (held h)) ∙ (ap (map f) (nothing_lost h legal) ∙ sym (all_put h)))

@@ -11,7 +11,7 @@ use Rattle.cordyceps_stack.specs.Cores.Stages.{AtStage, LeadsThrough, room_eleme
 use Rattle.cordyceps_stack.specs.Cores.Walks.{HandsOn, handed_elements_of}
 
 module _ {E : Type 0} where
-  -- a core meets a history: the history is legal, what it holds is in the stack, and each party stands where its events
+  -- a core meets a history: the history is legal, what it holds is in the stack, and each party is where its events
   -- have led it
   pub record CoreMeets (h : List (Event ℕ E)) (m : Machine E) : Type 0 where
     pub legal : Legal h

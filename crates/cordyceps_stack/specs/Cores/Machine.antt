@@ -16,13 +16,13 @@ use Rattle.cordyceps_stack.specs.declared.cores.steps.TransferStep.{TransferStep
 use Rattle.cordyceps_stack.specs.declared.cores.steps.TransferStep.TheVariants as step
 use Rattle.cordyceps_stack.specs.History.{Event, Load, Push, Taken, held}
 
--- `head`, the rooms, and where each party stands, by its number
+-- `head`, the rooms, and where each party is, by its number
 pub record Machine (E : Type 0) : Type 0 where
   pub head : Option ℕ
   pub rooms : List (Room E)
   pub parties : List Stage
 
--- what a step answers; a refused one gives its element back
+-- what a step returns; a refused one returns its element
 abbrev pub Answered : Type 0 → Type 0
 Answered E = Result (TransferAnswer E) (StepError × Option E)
 

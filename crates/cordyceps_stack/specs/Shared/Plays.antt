@@ -21,7 +21,7 @@ module _ {E : Type 0} where
   abbrev pub Sees : View E → List (Event Name E) → View E → Type 0
   Sees v es w = Grown actor (λ h. Legal h) v.known es w.known
 
-  -- the filled slots of these rooms, in front of others in hand
+  -- the filled slots of these rooms, before others in hand
   abbrev pub carry : List (ℕ × E) → Hand E → Hand E
   carry [] cs = cs
   carry (x ∷ xs) cs = (x.0, Some (full_slot x.0 x.1)) ∷ carry xs cs
@@ -95,7 +95,7 @@ module _ {E : Type 0} where
   abbrev pub IsResting : ℕ → SeatState E → Type 0
   IsResting slots m = (m.0.doing ≡ Idle) × (m.1 ≡ []) × (m.0.known.share ≢ []) × Near slots m.0.free
 
-  -- the party pushes what lies in the slot in hand, which is this room's
+  -- the party pushes what is in the slot in hand, which is this room's
   abbrev pub IsReady : ℕ → ℕ → E → SeatState E → Type 0
   IsReady slots room x m =
       (m.0.doing ≡ Ready room) × (m.1 ≡ (room, Some (full_slot room x)) ∷ []) × (m.0.known.share ≢ [])

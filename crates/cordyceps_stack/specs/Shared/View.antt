@@ -41,7 +41,7 @@ module _ {E : Type 0} where
   walk_through [] = Idle
   walk_through (x ∷ xs) = Walking (x ∷ xs)
 
-  -- how often the room r stands in a chain, and among the rooms that a party works with
+  -- how often the room r is in a chain, and among the rooms that a party works with
   abbrev pub in_chain : ℕ → List (ℕ × E) → ℕ
   in_chain r xs = tally (λ x. one_if (nat_eq x.0 r)) xs
 
