@@ -7,7 +7,7 @@ pub use Rattle.cordyceps_stack.specs.declared.cores.steps.TransferAnswer.TheVari
 pub use Rattle.cordyceps_stack.specs.Cores.CoreMeets.{core_step}
 pub use Rattle.cordyceps_stack.specs.Cores.Alone.{push_steps, take_steps}
 pub use Rattle.cordyceps_stack.specs.Cores.Machine.{Machine, Answered, new_machine, with_party, with_room, held_in}
-pub use Rattle.cordyceps_stack.specs.Cores.Machine.{stepped, is_there, step_element, is_at_rest, is_ready}
+pub use Rattle.cordyceps_stack.specs.Cores.Machine.{after_step, is_there, step_element, is_at_rest, is_ready}
 pub use Rattle.cordyceps_stack.specs.Cores.Alone
 pub use Rattle.cordyceps_stack.specs.Cores.CoreMeets
 pub use Rattle.cordyceps_stack.specs.Cores.Walks

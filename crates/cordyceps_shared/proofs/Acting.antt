@@ -3,8 +3,8 @@ use Rattle.std.proofs.Common.{◌≡◌, ℕ, List, [], ◌∷◌, ◌++◌, Boo
 use Rattle.cordyceps_shared.specs.Acting.{Acts}
 use Rattle.cordyceps_shared.specs.Histories.{plain, own, AllOwn, AreDisjoint}
 use Rattle.cordyceps_shared.specs.Interleaving.{Interleaves}
-use Rattle.cordyceps_shared.specs.Knowing.{unmarked, merged, Begins}
-use Rattle.cordyceps_shared.specs.Shares.{Name, joined, IsShare}
+use Rattle.cordyceps_shared.specs.Knowing.{without_marks, merge_marks, IsPrefixOf}
+use Rattle.cordyceps_shared.specs.Shares.{Name, join_shares, IsShare}
 use Rattle.cordyceps_shared.specs.Standings.{Standing, keeping, giving, Adds, Absorbs}
 use Rattle.cordyceps_shared.proofs.Adding.{plain_own}
 use Rattle.cordyceps_shared.proofs.Ordering.{share_joins}
@@ -15,20 +15,20 @@ use Rattle.cordyceps_shared.proofs.Seeing.{own_append}
 
 -- ---- what was seen since
 module _ {X : Type 0} where
-  pub merged_since : (xs ys zs : List (Bool × X)) → merged (xs ++ ys) (unmarked xs ++ zs) ≡ xs ++ merged ys zs
+  pub merged_since : (xs ys zs : List (Bool × X)) → merge_marks (xs ++ ys) (without_marks xs ++ zs) ≡ xs ++ merge_marks ys zs
   merged_since [] ys zs = refl
   merged_since (x ∷ xs) ys zs = λ i. (or_false x.0 i, x.1) ∷ merged_since xs ys zs i
 
-  apart_since : (xs ys zs : List (Bool × X)) → AreDisjoint (xs ++ ys) (unmarked xs ++ zs) → AreDisjoint ys zs
+  apart_since : (xs ys zs : List (Bool × X)) → AreDisjoint (xs ++ ys) (without_marks xs ++ zs) → AreDisjoint ys zs
   apart_since [] ys zs a = a
   apart_since (x ∷ xs) ys zs a = apart_since xs ys zs a.1
 
-  begins_since : (xs ys zs : List (Bool × X)) → Begins (plain (unmarked xs ++ ys)) (plain (xs ++ zs)) → Begins (plain ys) (plain zs)
-  begins_since [] ys zs b = b
-  begins_since (x ∷ xs) ys zs b =
+  prefix_since : (xs ys zs : List (Bool × X)) → IsPrefixOf (plain (without_marks xs ++ ys)) (plain (xs ++ zs)) → IsPrefixOf (plain ys) (plain zs)
+  prefix_since [] ys zs b = b
+  prefix_since (x ∷ xs) ys zs b =
       let all = b.1 in
-      let others : plain (xs ++ zs) ≡ plain (unmarked xs ++ ys) ++ b.0 = cc in
-      begins_since xs ys zs (b.0, others)
+      let others : plain (xs ++ zs) ≡ plain (without_marks xs ++ ys) ++ b.0 = cc in
+      prefix_since xs ys zs (b.0, others)
 
   -- ---- one party
   pub acts_none : (u : Standing X) → Acts u [] u
@@ -59,18 +59,18 @@ module _ {X : Type 0} (Legal : List X → Type 0) where
   acts_both n u v o w xs ys share a b m =
       let mine = a.rest in
       let theirs = b.rest in
-      let both : merged v.seen o.seen ≡ u.seen ++ merged mine theirs = (λ i. merged (a.is i) (b.is i)) ∙ merged_since u.seen mine theirs in
+      let both : merge_marks v.seen o.seen ≡ u.seen ++ merge_marks mine theirs = (λ i. merge_marks (a.is i) (b.is i)) ∙ merged_since u.seen mine theirs in
       let apart = apart_since u.seen mine theirs (subst (λ (z : List (Bool × X) × List (Bool × X)). AreDisjoint z.0 z.1) (λ i. (a.is i, b.is i)) m.apart) in
-      let begun = begins_since u.seen theirs (merged mine theirs)
-      (subst (λ (z : List (Bool × X) × List (Bool × X)). Begins (plain z.0) (plain z.1)) (λ i. (b.is i, (m.seen ∙ both) i)) m.theirs) in
-      let all = own (merged mine theirs) in (
+      let begun = prefix_since u.seen theirs (merge_marks mine theirs)
+      (subst (λ (z : List (Bool × X) × List (Bool × X)). IsPrefixOf (plain z.0) (plain z.1)) (λ i. (b.is i, (m.seen ∙ both) i)) m.theirs) in
+      let all = own (merge_marks mine theirs) in (
         all,
         interleaves_same (own mine) xs (own theirs) ys all all a.adds b.adds refl (own_merged mine theirs apart begun),
         record {
-          rest = merged mine theirs;
+          rest = merge_marks mine theirs;
           is = m.seen ∙ both;
           adds = refl;
           table = m.table ∙ a.table;
-          share = m.share ∙ ((λ i. joined (a.share i) (b.share i)) ∙ share_joins u.share share);
+          share = m.share ∙ ((λ i. join_shares (a.share i) (b.share i)) ∙ share_joins u.share share);
         },
       )

@@ -1,7 +1,7 @@
 -- What parties see in several steps, by splitting and by joining.
 use Rattle.std.proofs.Common.{◌≡◌, ℕ, zero, suc, List, [], ◌∷◌, ◌++◌, replicate, Bool, cond, refl, sym, ap, ◌∙◌, subst}
 use Rattle.cordyceps_shared.specs.Histories.{plain, own, others, AllOwn}
-use Rattle.cordyceps_shared.specs.Knowing.{unmarked, merged, Begins}
+use Rattle.cordyceps_shared.specs.Knowing.{without_marks, merge_marks, IsPrefixOf}
 use Rattle.cordyceps_shared.specs.Shares.{Name, whole, keeps_half, gives_half}
 use Rattle.cordyceps_shared.specs.Standings.{Standing, known_of, Adds}
 use Rattle.cordyceps_shared.proofs.Telling.{grown_then}
@@ -26,12 +26,12 @@ module _ {X : Type 0} where
   plain_append [] ys = refl
   plain_append (x ∷ xs) ys = ap (λ z. x.1 ∷ z) (plain_append xs ys)
 
-  pub plain_unmarked : (xs : List (Bool × X)) → plain (unmarked xs) ≡ plain xs
+  pub plain_unmarked : (xs : List (Bool × X)) → plain (without_marks xs) ≡ plain xs
   plain_unmarked [] = refl
   plain_unmarked (x ∷ xs) = ap (λ z. x.1 ∷ z) (plain_unmarked xs)
 
-  -- what a party saw begins what it sees with another
-  pub merged_front : (xs ys : List (Bool × X)) → Begins (plain xs) (plain (merged xs ys))
+  -- what a party saw is a prefix of what it sees with another
+  pub merged_front : (xs ys : List (Bool × X)) → IsPrefixOf (plain xs) (plain (merge_marks xs ys))
   merged_front [] ys = (plain ys, refl)
   merged_front (x ∷ xs) [] = ([], sym (ap (λ z. x.1 ∷ z) (append_none (plain xs))))
     where

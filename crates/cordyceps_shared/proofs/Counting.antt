@@ -1,4 +1,4 @@
--- Sums over lists, and how often a number stands in one.
+-- Sums over lists, and how often a number is in one.
 use Rattle.std.proofs.Common.{◌≡◌, ◌≢◌, ℕ, zero, suc, ◌+◌, ◌≤◌, List, [], ◌∷◌, ◌++◌, set, eqb, refl, sym, ap, eq-eqb, ne_eqb, arith, take, drop, take-append-drop, length, map, reverse, Bool, true, false, ◌||◌, ◌<◌, ◌∙◌}
 use mathlib.Core.Option.{some, some-injective, some-ne-none}
 use lib.ListN.{get_elem?}

@@ -3,8 +3,8 @@ use Rattle.std.proofs.Common.{◌≡◌, ◌≢◌, ℕ, ◌≤◌, List, [], �
 use mathlib.Core.Option.{some}
 use lib.ListN.{get_elem?}
 use Rattle.cordyceps_shared.specs.Shares.{Name, covers, keeps_half, gives_half}
-use Rattle.cordyceps_shared.specs.Histories.{events, marked, NoneOf}
-use Rattle.cordyceps_shared.specs.Knowing.{Known, Agrees, Below, SharesDisjoint, AllAgree, unmarked, known_keeping, known_giving}
+use Rattle.cordyceps_shared.specs.Histories.{events, with_marks, NoneOf}
+use Rattle.cordyceps_shared.specs.Knowing.{Known, Agrees, Below, SharesDisjoint, AllAgree, without_marks, known_keeping, known_giving}
 use Rattle.cordyceps_shared.proofs.Changing.{set_more}
 use Rattle.cordyceps_shared.proofs.Counting.{tally_set, tally_snoc}
 use Rattle.cordyceps_shared.proofs.Naming.{split_covers, keeps_some, gives_some}
@@ -13,7 +13,7 @@ use Rattle.cordyceps_shared.proofs.Telling.{below_without, foreign_to}
 
 module _ {X : Type 0} where
   -- a party that has no event marks none
-  marked_new : (n j : ℕ) (h : List (ℕ × X)) → Below n h → marked n h ≡ unmarked (marked j h)
+  marked_new : (n j : ℕ) (h : List (ℕ × X)) → Below n h → with_marks n h ≡ without_marks (with_marks j h)
   marked_new n j [] b = refl
   marked_new n j (x ∷ xs) b = let low = b.0 in λ i. (ne_eqb x.0 n (λ e. omega arith) i, x.1) ∷ marked_new n j xs b.1 i
 
@@ -56,7 +56,7 @@ module _ {X V : Type 0} (actor : X → Name) (knows : V → Known X) where
         before = f.before;
         later = f.later;
         is = f.is;
-        seen = ap unmarked f.seen ∙ sym (marked_new n j f.before low.0);
+        seen = ap without_marks f.seen ∙ sym (marked_new n j f.before low.0);
         none = below_without n f.later n (omega arith) low.1;
         foreign = foreign_to actor share (gives_half share) (λ x. gives_clear x share) (events f.later) f.foreign;
         told = (events h, refl);

@@ -1,6 +1,6 @@
 -- A name that was split is what it was when its halves are joined.
 use Rattle.std.proofs.Common.{◌≡◌, [], ◌∷◌, ◌++◌, true, false, cond, refl, ap, ◌∙◌}
-use Rattle.cordyceps_shared.specs.Shares.{Name, earlier, is_pair, parent, cons_joined, combine, keeps_half, gives_half, joined}
+use Rattle.cordyceps_shared.specs.Shares.{Name, earlier, is_pair, parent, combine_first, combine, keeps_half, gives_half, join_shares}
 
 pub halves_earlier : (n : Name) → earlier (n ++ false ∷ []) (n ++ true ∷ []) ≡ true
 halves_earlier [] = refl
@@ -19,8 +19,8 @@ half_parent [] = refl
 half_parent (a ∷ []) = refl
 half_parent (a ∷ b ∷ n) = ap (λ z. a ∷ z) (half_parent (b ∷ n))
 
-pub halves_join : (n : Name) → joined (keeps_half (n ∷ [])) (gives_half (n ∷ [])) ≡ n ∷ []
+pub halves_join : (n : Name) → join_shares (keeps_half (n ∷ [])) (gives_half (n ∷ [])) ≡ n ∷ []
 halves_join n =
     let l = n ++ false ∷ [] in
     let r = n ++ true ∷ [] in
-    ap (λ b. combine (cond b (l ∷ r ∷ []) (r ∷ l ∷ []))) (halves_earlier n) ∙ (ap (λ b. cond b (cons_joined (parent l) []) (l ∷ r ∷ [])) (halves_pair n) ∙ ap (λ z. z ∷ []) (half_parent n))
+    ap (λ b. combine (cond b (l ∷ r ∷ []) (r ∷ l ∷ []))) (halves_earlier n) ∙ (ap (λ b. cond b (combine_first (parent l) []) (l ∷ r ∷ [])) (halves_pair n) ∙ ap (λ z. z ∷ []) (half_parent n))

@@ -1,12 +1,12 @@
--- Two seats may be made one, and it then learns that one had seen a beginning of what the other had.
+-- Two seats may be made one, and it then learns that one had seen a prefix of what the other had.
 use Rattle.std.proofs.Common.{◌≡◌, ◌≢◌, ℕ, ◌+◌, List, [], ◌++◌, ◌∷◌, length, set, Bool, true, false, ◌&&◌, eqb, ne_eqb, refl, sym, ap, ◌∙◌, subst, arith, length-set}
 use mathlib.Core.Logic.{dite}
 use mathlib.Core.Option.{some}
 use native.Mathlib.Decide.{ℕ_discrete}
 use lib.ListN.{get_elem?}
-use Rattle.cordyceps_shared.specs.Shares.{Name, covers, joined}
-use Rattle.cordyceps_shared.specs.Histories.{events, marked, plain, NoneOf, AreDisjoint}
-use Rattle.cordyceps_shared.specs.Knowing.{Known, Foreign, Agrees, Below, SharesDisjoint, AllAgree, merged, known_absorbing, known_absorbed}
+use Rattle.cordyceps_shared.specs.Shares.{Name, covers, join_shares}
+use Rattle.cordyceps_shared.specs.Histories.{events, with_marks, plain, NoneOf, AreDisjoint}
+use Rattle.cordyceps_shared.specs.Knowing.{Known, Foreign, Agrees, Below, SharesDisjoint, AllAgree, merge_marks, known_absorbing, known_absorbed}
 use Rattle.cordyceps_shared.proofs.Changing.{two_set, was_there}
 use Rattle.cordyceps_shared.proofs.Counting.{tally_set}
 use Rattle.cordyceps_shared.proofs.Naming.{join_covers, joined_some, letters}
@@ -24,7 +24,7 @@ module _ {X : Type 0} where
   fits_gone actor h a b apart = record { before = []; later = relabel a b h; is = refl; seen = refl; none = without_gone a b h apart; foreign = foreign_none actor (events (relabel a b h)); told = (events (relabel a b h), refl); short = omega arith; apart = tt }
 
   -- no event of one history is marked by two seats
-  marked_apart : (a b : ℕ) (xs us ys vs : List (ℕ × X)) → b ≢ a → xs ++ us ≡ ys ++ vs → AreDisjoint (marked a xs) (marked b ys)
+  marked_apart : (a b : ℕ) (xs us ys vs : List (ℕ × X)) → b ≢ a → xs ++ us ≡ ys ++ vs → AreDisjoint (with_marks a xs) (with_marks b ys)
   marked_apart a b [] us ys vs n e = tt
   marked_apart a b (x ∷ xs) us [] vs n e = tt
   marked_apart a b (x ∷ xs) us (y ∷ ys) vs n e = (not_both, marked_apart a b xs us ys vs n (cc))
@@ -44,13 +44,13 @@ module _ {X : Type 0} where
   fits_both : (actor : X → Name) (h : List (ℕ × X)) (a b : ℕ) (k l : Known X) → b ≢ a → Agrees actor h a k → Agrees actor h b l → Agrees actor (relabel a b h) a (known_absorbing k l)
   fits_both actor h a b k l other fk fl =
       let t = merge a b fk.before fk.later fl.before fl.later (sym fk.is ∙ fl.is) fk.none fl.none in
-      let seen = (λ c. merged (fk.seen c) (fl.seen c)) ∙ t.seen in record {
+      let seen = (λ c. merge_marks (fk.seen c) (fl.seen c)) ∙ t.seen in record {
         before = relabel a b t.before;
         later = relabel a b t.later;
         is = ap (relabel a b) (fk.is ∙ t.is) ∙ relabel_append a b t.before t.later;
         seen = seen;
         none = t.none;
-        foreign = subst (λ z. Foreign actor (joined k.share l.share) z) (sym (events_relabel a b t.later)) (foreign_both actor k.share l.share (joined k.share l.share) (λ x. joined_clear x k.share l.share) (events t.later)
+        foreign = subst (λ z. Foreign actor (join_shares k.share l.share) z) (sym (events_relabel a b t.later)) (foreign_both actor k.share l.share (join_shares k.share l.share) (λ x. joined_clear x k.share l.share) (events t.later)
             (foreign_later actor k.share t.first.0 t.later fk.later t.first.1 fk.foreign) (foreign_later actor l.share t.second.0 t.later fl.later t.second.1 fl.foreign));
         told = (events fl.later, events_relabel a b h ∙ (ap events fl.is ∙ (events_append fl.before fl.later ∙ ap (λ z. z ++ events fl.later) (sym (ap plain fl.seen ∙ plain_marked b fl.before)))));
         short = omega (arith, t.long, ap (λ (z : List (Bool × X)). length z) fl.seen, ap (λ (z : List (Bool × X)). length z) seen, length_marked b fl.before, length_marked a (relabel a b t.before), length_relabel a b t.before);

@@ -2,14 +2,14 @@
 use Rattle.std.proofs.Common.{◌≡◌, ℕ, List, [], ◌∷◌, ◌++◌, Bool, true, false, cond, ◌&&◌, ◌||◌, refl, sym, ap, ◌∙◌, subst, inl, inr}
 use Rattle.cordyceps_shared.specs.Histories.{plain, own, AreDisjoint}
 use Rattle.cordyceps_shared.specs.Interleaving.{Interleaves}
-use Rattle.cordyceps_shared.specs.Knowing.{unmarked, merged, Begins}
+use Rattle.cordyceps_shared.specs.Knowing.{without_marks, merge_marks, IsPrefixOf}
 use Rattle.cordyceps_shared.specs.Shares.{Name}
 use Rattle.cordyceps_shared.specs.Standings.{Standing, keeping, giving, Adds, Absorbs}
 use Rattle.cordyceps_shared.proofs.Interleaving.{all_left, all_right}
 use Rattle.cordyceps_shared.proofs.Seeing.{own_append}
 
 module _ {X : Type 0} where
-  pub own_unmarked : (xs : List (Bool × X)) → own (unmarked xs) ≡ []
+  pub own_unmarked : (xs : List (Bool × X)) → own (without_marks xs) ≡ []
   own_unmarked [] = refl
   own_unmarked (x ∷ xs) = own_unmarked xs
 
@@ -20,14 +20,14 @@ module _ {X : Type 0} where
   one_more false true x y us vs ws same apart h = inr (vs, ap (λ z. z ∷ vs) (sym same), h)
   one_more true true x y us vs ws same apart h = absurd (cc)
 
-  pub own_merged : (xs ys : List (Bool × X)) → AreDisjoint xs ys → Begins (plain ys) (plain (merged xs ys)) → Interleaves (own xs) (own ys) (own (merged xs ys))
-  own_merged [] ys apart begins = all_right (own ys)
-  own_merged (x ∷ xs) [] apart begins = all_left (own (x ∷ xs))
-  own_merged (x ∷ xs) (y ∷ ys) apart begins =
-      let all : x.1 ∷ plain (merged xs ys) ≡ y.1 ∷ (plain ys ++ begins.0) = begins.1 in
+  pub own_merged : (xs ys : List (Bool × X)) → AreDisjoint xs ys → IsPrefixOf (plain ys) (plain (merge_marks xs ys)) → Interleaves (own xs) (own ys) (own (merge_marks xs ys))
+  own_merged [] ys apart prefix = all_right (own ys)
+  own_merged (x ∷ xs) [] apart prefix = all_left (own (x ∷ xs))
+  own_merged (x ∷ xs) (y ∷ ys) apart prefix =
+      let all : x.1 ∷ plain (merge_marks xs ys) ≡ y.1 ∷ (plain ys ++ prefix.0) = prefix.1 in
       let same : x.1 ≡ y.1 = cc in
-      let others : plain (merged xs ys) ≡ plain ys ++ begins.0 = cc in
-      one_more x.0 y.0 x.1 y.1 (own xs) (own ys) (own (merged xs ys)) same apart.0 (own_merged xs ys apart.1 (begins.0, others))
+      let others : plain (merge_marks xs ys) ≡ plain ys ++ prefix.0 = cc in
+      one_more x.0 y.0 x.1 y.1 (own xs) (own ys) (own (merge_marks xs ys)) same apart.0 (own_merged xs ys apart.1 (prefix.0, others))
 
   -- the party that was split off has none as yet, and the other has those that it had
   pub own_split : (n : ℕ) (u : Standing X) → (own (giving n u).seen ≡ []) × (own (keeping n u).seen ≡ own u.seen)

@@ -26,7 +26,7 @@ module _ {A : Type 0} where
   at_either (z ∷ zs) ys zero x a = inl a
   at_either (z ∷ zs) ys (suc i) x a = elim (at_either zs ys i x a) [ inl t ↦ inl t | inr t ↦ let l = t.2 in inr (t.0, t.1, omega arith) ]
 
--- how often a number stands in a list that has it at a place
+-- how often a number is in a list that has it at a place
 pub times_some : (r : ℕ) (xs : List ℕ) (i : ℕ) → ItemAt xs i r → 1 ≤ times r xs
 times_some r [] i a = absurd a
 times_some r (x ∷ xs) zero a = let here = one_here r in let same = ap (λ y. times r (y ∷ xs)) a in omega arith

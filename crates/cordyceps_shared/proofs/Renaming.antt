@@ -3,8 +3,8 @@ use Rattle.std.proofs.Common.{◌≡◌, ◌≢◌, ℕ, ◌≤◌, ◌<◌, Lis
 use Rattle.std.proofs.lemmas.List.{map-append, length-map}
 use mathlib.Core.Logic.{dite}
 use native.Mathlib.Decide.{ℕ_discrete}
-use Rattle.cordyceps_shared.specs.Histories.{events, mark, marked, NoneOf}
-use Rattle.cordyceps_shared.specs.Knowing.{Below, merged}
+use Rattle.cordyceps_shared.specs.Histories.{events, mark, with_marks, NoneOf}
+use Rattle.cordyceps_shared.specs.Knowing.{Below, merge_marks}
 
 pub or_false : (b : Bool) → (b || false) ≡ b
 or_false true = refl
@@ -44,7 +44,7 @@ module _ (a b : ℕ) where
     pub relabel_append : (xs ys : List (ℕ × X)) → relabel (xs ++ ys) ≡ relabel xs ++ relabel ys
     relabel_append xs ys = map-append (λ x. (renamed_seat x.0, x.1)) xs ys
 
-    pub marked_relabel : (i : ℕ) (h : List (ℕ × X)) → i ≢ a → i ≢ b → marked i (relabel h) ≡ marked i h
+    pub marked_relabel : (i : ℕ) (h : List (ℕ × X)) → i ≢ a → i ≢ b → with_marks i (relabel h) ≡ with_marks i h
     marked_relabel i [] na nb = refl
     marked_relabel i (x ∷ xs) na nb = λ k. (same k, x.1) ∷ marked_relabel i xs na nb k
       where
@@ -68,14 +68,14 @@ module _ (a b : ℕ) where
     below_relabel n (x ∷ xs) l w = (dite (ℕ_discrete x.0 b) (λ e. subst (λ z. z < n) (sym (renamed_here x.0 e)) l) (λ m. subst (λ z. z < n) (sym (renamed_else x.0 m)) w.0), below_relabel n xs l w.1)
 
     -- the marks of b, where a has none
-    marked_taken : (h : List (ℕ × X)) → NoneOf a h → marked b h ≡ marked a (relabel h)
+    marked_taken : (h : List (ℕ × X)) → NoneOf a h → with_marks b h ≡ with_marks a (relabel h)
     marked_taken [] w = refl
     marked_taken (x ∷ xs) w = λ k. (same k, x.1) ∷ marked_taken xs w.1 k
       where
         same : eqb x.0 b ≡ eqb (renamed_seat x.0) a
         same = dite (ℕ_discrete x.0 b) (λ e. eq-eqb x.0 b e ∙ sym (eq-eqb (renamed_seat x.0) a (renamed_here x.0 e))) (λ n. ne_eqb x.0 b n ∙ sym (ne_eqb (renamed_seat x.0) a (λ c. w.0 (sym (renamed_else x.0 n) ∙ c))))
 
-    marked_kept : (h : List (ℕ × X)) → NoneOf b h → marked a h ≡ marked a (relabel h)
+    marked_kept : (h : List (ℕ × X)) → NoneOf b h → with_marks a h ≡ with_marks a (relabel h)
     marked_kept [] w = refl
     marked_kept (x ∷ xs) w = λ k. (eqb (sym (renamed_else x.0 w.0) k) a, x.1) ∷ marked_kept xs w.1 k
 
@@ -83,12 +83,12 @@ module _ (a b : ℕ) where
     without_back i [] ys w = (tt, w)
     without_back i (x ∷ xs) ys w = let t = without_back i xs ys w.1 in ((w.0, t.0), t.1)
 
-    -- two beginnings of one history, as one
+    -- two prefixes of one history, as one
     pub record Merge (bv lv bw lw : List (ℕ × X)) : Type 0 where
       pub before : List (ℕ × X)
       pub later : List (ℕ × X)
       pub is : bv ++ lv ≡ before ++ later
-      pub seen : merged (marked a bv) (marked b bw) ≡ marked a (relabel before)
+      pub seen : merge_marks (with_marks a bv) (with_marks b bw) ≡ with_marks a (relabel before)
       pub none : NoneOf a (relabel later)
       pub long : length bw ≤ length before
       -- what neither has seen is an end of what each had yet to see
@@ -119,7 +119,7 @@ module _ {X : Type 0} where
   pub length_relabel : (a b : ℕ) (h : List (ℕ × X)) → length (relabel a b h) ≡ length h
   length_relabel a b h = length-map h (λ x. (renamed_seat a b x.0, x.1))
 
-  pub length_marked : (j : ℕ) (h : List (ℕ × X)) → length (marked j h) ≡ length h
+  pub length_marked : (j : ℕ) (h : List (ℕ × X)) → length (with_marks j h) ≡ length h
   length_marked j h = length-map h (mark j)
 
   pub events_append : (xs ys : List (ℕ × X)) → events (xs ++ ys) ≡ events xs ++ events ys

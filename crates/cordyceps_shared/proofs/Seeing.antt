@@ -1,7 +1,7 @@
 -- A history with more events at its end, and what its marks say.
 use Rattle.std.proofs.Common.{◌≡◌, ◌≢◌, ℕ, List, [], ◌∷◌, ◌++◌, Bool, true, false, cond, refl, ap, ◌∙◌, eq-eqb, ne_eqb}
 use Rattle.std.proofs.lemmas.List.{map-append}
-use Rattle.cordyceps_shared.specs.Histories.{events, mark, marked, plain, own, others, NoneOf, of_seat}
+use Rattle.cordyceps_shared.specs.Histories.{events, mark, with_marks, plain, own, others, NoneOf, of_seat}
 
 module _ {X : Type 0} where
   pub events_of : (j : ℕ) (es : List X) → events (of_seat j es) ≡ es
@@ -19,10 +19,10 @@ module _ {X : Type 0} where
   without_more j [] i es n w = without_of j i es n
   without_more j (y ∷ ys) i es n w = (w.0, without_more j ys i es n w.1)
 
-  pub marked_append : (j : ℕ) (xs ys : List (ℕ × X)) → marked j (xs ++ ys) ≡ marked j xs ++ marked j ys
+  pub marked_append : (j : ℕ) (xs ys : List (ℕ × X)) → with_marks j (xs ++ ys) ≡ with_marks j xs ++ with_marks j ys
   marked_append j xs ys = map-append (mark j) xs ys
 
-  pub plain_marked : (j : ℕ) (xs : List (ℕ × X)) → plain (marked j xs) ≡ events xs
+  pub plain_marked : (j : ℕ) (xs : List (ℕ × X)) → plain (with_marks j xs) ≡ events xs
   plain_marked j [] = refl
   plain_marked j (x ∷ xs) = ap (λ (ys : List X). x.1 ∷ ys) (plain_marked j xs)
 
@@ -34,13 +34,13 @@ module _ {X : Type 0} where
       at_first true e = ap (λ (zs : List X). x.1 ∷ zs) e
       at_first false e = e
 
-  pub own_without : (j : ℕ) (xs : List (ℕ × X)) → NoneOf j xs → own (marked j xs) ≡ []
+  pub own_without : (j : ℕ) (xs : List (ℕ × X)) → NoneOf j xs → own (with_marks j xs) ≡ []
   own_without j [] w = refl
-  own_without j (x ∷ xs) w = ap (λ b. cond b (x.1 ∷ own (marked j xs)) (own (marked j xs))) (ne_eqb x.0 j w.0) ∙ own_without j xs w.1
+  own_without j (x ∷ xs) w = ap (λ b. cond b (x.1 ∷ own (with_marks j xs)) (own (with_marks j xs))) (ne_eqb x.0 j w.0) ∙ own_without j xs w.1
 
-  pub own_of : (j : ℕ) (es : List X) → own (marked j (of_seat j es)) ≡ es
+  pub own_of : (j : ℕ) (es : List X) → own (with_marks j (of_seat j es)) ≡ es
   own_of j [] = refl
-  own_of j (x ∷ xs) = ap (λ b. cond b (x ∷ own (marked j (of_seat j xs))) (own (marked j (of_seat j xs)))) (eq-eqb j j refl) ∙ ap (λ (ys : List X). x ∷ ys) (own_of j xs)
+  own_of j (x ∷ xs) = ap (λ b. cond b (x ∷ own (with_marks j (of_seat j xs))) (own (with_marks j (of_seat j xs)))) (eq-eqb j j refl) ∙ ap (λ (ys : List X). x ∷ ys) (own_of j xs)
 
   -- ---- what others did
   pub others_append : (xs ys : List (Bool × X)) → others (xs ++ ys) ≡ others xs ++ others ys
@@ -51,10 +51,10 @@ module _ {X : Type 0} where
       at_first true e = e
       at_first false e = ap (λ (zs : List X). x.1 ∷ zs) e
 
-  pub others_without : (j : ℕ) (xs : List (ℕ × X)) → NoneOf j xs → others (marked j xs) ≡ events xs
+  pub others_without : (j : ℕ) (xs : List (ℕ × X)) → NoneOf j xs → others (with_marks j xs) ≡ events xs
   others_without j [] w = refl
-  others_without j (x ∷ xs) w = ap (λ b. cond b (others (marked j xs)) (x.1 ∷ others (marked j xs))) (ne_eqb x.0 j w.0) ∙ ap (λ (ys : List X). x.1 ∷ ys) (others_without j xs w.1)
+  others_without j (x ∷ xs) w = ap (λ b. cond b (others (with_marks j xs)) (x.1 ∷ others (with_marks j xs))) (ne_eqb x.0 j w.0) ∙ ap (λ (ys : List X). x.1 ∷ ys) (others_without j xs w.1)
 
-  pub others_of : (j : ℕ) (es : List X) → others (marked j (of_seat j es)) ≡ []
+  pub others_of : (j : ℕ) (es : List X) → others (with_marks j (of_seat j es)) ≡ []
   others_of j [] = refl
-  others_of j (x ∷ xs) = ap (λ b. cond b (others (marked j (of_seat j xs))) (x ∷ others (marked j (of_seat j xs)))) (eq-eqb j j refl) ∙ others_of j xs
+  others_of j (x ∷ xs) = ap (λ b. cond b (others (with_marks j (of_seat j xs))) (x ∷ others (with_marks j (of_seat j xs)))) (eq-eqb j j refl) ∙ others_of j xs

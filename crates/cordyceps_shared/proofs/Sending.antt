@@ -78,7 +78,7 @@ module _ {X A : Type 0} {puts takes : X → List A} where
         subst (λ z. Sends puts takes z u w) (sym all)
         (both.0, delivers_more xs rest others.0 both.0 others.1 (interleaves_turned others.0 xs both.0 both.1), both.2)
 
-    -- ---- one received what the other sent, from the beginning on: held says what a history holds
+    -- ---- one received what the other sent, from the start on: held says what a history holds
     module _ (held : List X → List A) (kept_all : (h : List X) → Legal h → flat_map takes h ++ held h ≡ flat_map puts h) where
       pub exchanged : {k n : ℕ} {id : TableId} {u kept given v o w : Standing X} {got sent : List A} → u ≡ new_party id k → n ≤ k → Splits n u kept given
           → Moves puts takes [] got kept v → Moves puts takes sent [] given o → Absorbs Legal v o w

@@ -3,8 +3,8 @@ use Rattle.std.proofs.Common.{◌≡◌, ◌≢◌, ℕ, zero, suc, ◌≤◌, L
 use mathlib.Core.Option.{some, some-injective, some-ne-none}
 use lib.ListN.{get_elem?}
 use Rattle.cordyceps_shared.specs.Shares.{Name, covers, whole}
-use Rattle.cordyceps_shared.specs.Histories.{events, marked, plain, NoneOf, AllOwn}
-use Rattle.cordyceps_shared.specs.Knowing.{Known, Agrees, SharesDisjoint, AllAgree, Begins, IsKnown, newcomer}
+use Rattle.cordyceps_shared.specs.Histories.{events, with_marks, plain, NoneOf, AllOwn}
+use Rattle.cordyceps_shared.specs.Knowing.{Known, Agrees, SharesDisjoint, AllAgree, IsPrefixOf, IsKnown, newcomer}
 use Rattle.cordyceps_shared.proofs.Counting.{tally_one}
 use Rattle.cordyceps_shared.proofs.Renaming.{same_first, events_append}
 use Rattle.cordyceps_shared.proofs.Seeing.{marked_append, plain_marked}
@@ -20,12 +20,12 @@ module _ {X : Type 0} where
   own_front [] ys a = tt
   own_front (x ∷ xs) ys a = (a.0, own_front xs ys a.1)
 
-  -- of two beginnings of one list the shorter begins the longer
-  begins_longer : (xs ys us vs : List X) → xs ++ us ≡ ys ++ vs → length xs ≤ length ys → Begins xs ys
-  begins_longer [] ys us vs e l = (ys, refl)
-  begins_longer (x ∷ xs) [] us vs e l = absurd (omega arith)
-  begins_longer (x ∷ xs) (y ∷ ys) us vs e l =
-      let t = begins_longer xs ys us vs (cc) (omega arith) in
+  -- of two prefixes of one list the shorter is a prefix of the longer
+  shorter_is_prefix : (xs ys us vs : List X) → xs ++ us ≡ ys ++ vs → length xs ≤ length ys → IsPrefixOf xs ys
+  shorter_is_prefix [] ys us vs e l = (ys, refl)
+  shorter_is_prefix (x ∷ xs) [] us vs e l = absurd (omega arith)
+  shorter_is_prefix (x ∷ xs) (y ∷ ys) us vs e l =
+      let t = shorter_is_prefix xs ys us vs (cc) (omega arith) in
       (t.0, (λ k. same_first y x (ys ++ vs) (xs ++ us) (sym e) k ∷ t.1 k))
 
   length_plain : (xs : List (Bool × X)) → length (plain xs) ≡ length xs
@@ -55,10 +55,10 @@ module _ {X V : Type 0} (actor : X → Name) (knows : V → Known X) where
       let f = fits j v at in
       let all = seen_front actor h j k f in record {
         legal = front (plain k.seen) (events f.later) (subst Legal all legal);
-        told = begins_longer (plain k.told) (plain k.seen) f.told.0 (events f.later) (sym f.told.1 ∙ all) (omega (arith, length_plain k.told, length_plain k.seen, f.short));
+        told = shorter_is_prefix (plain k.told) (plain k.seen) f.told.0 (events f.later) (sym f.told.1 ∙ all) (omega (arith, length_plain k.told, length_plain k.seen, f.short));
         apart = f.apart;
-        alone = λ is. subst AllOwn (sym f.seen) (own_front (marked j f.before) (marked j f.later)
-            (subst AllOwn (ap (marked j) f.is ∙ marked_append j f.before f.later) (all_own j h (λ i n. whole_without knows views h j i v o at is n))));
+        alone = λ is. subst AllOwn (sym f.seen) (own_front (with_marks j f.before) (with_marks j f.later)
+            (subst AllOwn (ap (with_marks j) f.is ∙ marked_append j f.before f.later) (all_own j h (λ i n. whole_without knows views h j i v o at is n))));
         long = o.long;
         once = λ x l. omega (arith, o.apart x l, tally_one (λ (u : V). covers x (knows u).share) views j v at);
       }

@@ -5,9 +5,9 @@ use mathlib.Core.Logic.{dite}
 use native.Mathlib.Decide.{ℕ_discrete, dec_le}
 use lib.ListN.{get_elem?, length-replicate}
 use Rattle.atomic_table.proofs.Lists.{set_here}
-use Rattle.cordyceps_shared.specs.Shares.{Name, covers, whole, first_name, begins, Clear}
+use Rattle.cordyceps_shared.specs.Shares.{Name, covers, whole, first_name, is_prefix, Clear}
 use Rattle.cordyceps_shared.specs.Counts.{one_if}
-use Rattle.cordyceps_shared.specs.Histories.{events, marked, plain, others, NoneOf, AllOwn, AreDisjoint, of_seat}
+use Rattle.cordyceps_shared.specs.Histories.{events, with_marks, plain, others, NoneOf, AllOwn, AreDisjoint, of_seat}
 use Rattle.cordyceps_shared.specs.Knowing.{Known, Foreign, Under, Agrees, Below, SharesDisjoint, AllAgree, Grown, all_seen}
 use Rattle.cordyceps_shared.proofs.Changing.{one_set}
 use Rattle.cordyceps_shared.proofs.Counting.{tally_set, tally_two}
@@ -37,7 +37,7 @@ module _ {X : Type 0} where
   below_without n [] i l b = tt
   below_without n (y ∷ ys) i l b = let low = b.0 in ((λ e. omega arith), below_without n ys i l b.1)
 
-  pub all_own : (j : ℕ) (h : List (ℕ × X)) → ((i : ℕ) → i ≢ j → NoneOf i h) → AllOwn (marked j h)
+  pub all_own : (j : ℕ) (h : List (ℕ × X)) → ((i : ℕ) → i ≢ j → NoneOf i h) → AllOwn (with_marks j h)
   all_own j [] others = tt
   all_own j (x ∷ xs) others = (dite (ℕ_discrete x.0 j) (λ e. eq-eqb x.0 j e) (λ n. absurd ((others x.0 n).0 refl)), all_own j xs (λ i n. (others i n).1))
 
@@ -79,7 +79,7 @@ module _ {X : Type 0} (actor : X → Name) where
   foreign_none [] = tt
   foreign_none (x ∷ xs) = (tt, foreign_none xs)
 
-  -- what another party saw stays a beginning
+  -- what another party saw stays a prefix
   pub fits_other : (h : List (ℕ × X)) (i j : ℕ) (n : Name) (es : List X) (k : Known X) → i ≢ j → Clear n k.share → Under actor n es → Agrees actor h i k → Agrees actor (h ++ of_seat j es) i k
   fits_other h i j n es k other clear under f = record {
     before = f.before;
@@ -96,14 +96,14 @@ module _ {X : Type 0} (actor : X → Name) where
   pub fits_all : (h : List (ℕ × X)) (j : ℕ) (share : List Name) → Agrees actor h j (all_seen j h share)
   fits_all h j share = record { before = h; later = []; is = sym (append-nil h); seen = refl; none = tt; foreign = tt; told = (events h, refl); short = omega arith; apart = tt }
 
-  pub grown_all : (Legal : List X → Type 0) (h : List (ℕ × X)) (j : ℕ) (es : List X) (k : Known X) → Agrees actor h j k → Legal (events (h ++ of_seat j es)) → (k.share ≡ whole → AllOwn (marked j (h ++ of_seat j es)))
+  pub grown_all : (Legal : List X → Type 0) (h : List (ℕ × X)) (j : ℕ) (es : List X) (k : Known X) → Agrees actor h j k → Legal (events (h ++ of_seat j es)) → (k.share ≡ whole → AllOwn (with_marks j (h ++ of_seat j es)))
       → Grown actor Legal k es (all_seen j (h ++ of_seat j es) k.share)
   grown_all Legal h j es k f l alone = record {
-    rest = marked j f.later ++ marked j (of_seat j es);
-    is = marked_append j h (of_seat j es) ∙ (ap (λ z. z ++ marked j (of_seat j es)) (ap (marked j) f.is ∙ (marked_append j f.before f.later ∙ ap (λ z. z ++ marked j f.later) (sym f.seen)))
-        ∙ append_assoc k.seen (marked j f.later) (marked j (of_seat j es)));
-    adds = own_append (marked j f.later) (marked j (of_seat j es)) ∙ (λ i. own_without j f.later f.none i ++ own_of j es i);
-    foreign = subst (λ z. Foreign actor k.share z) (sym (others_append (marked j f.later) (marked j (of_seat j es)) ∙ (λ i. others_without j f.later f.none i ++ others_of j es i)))
+    rest = with_marks j f.later ++ with_marks j (of_seat j es);
+    is = marked_append j h (of_seat j es) ∙ (ap (λ z. z ++ with_marks j (of_seat j es)) (ap (with_marks j) f.is ∙ (marked_append j f.before f.later ∙ ap (λ z. z ++ with_marks j f.later) (sym f.seen)))
+        ∙ append_assoc k.seen (with_marks j f.later) (with_marks j (of_seat j es)));
+    adds = own_append (with_marks j f.later) (with_marks j (of_seat j es)) ∙ (λ i. own_without j f.later f.none i ++ own_of j es i);
+    foreign = subst (λ z. Foreign actor k.share z) (sym (others_append (with_marks j f.later) (with_marks j (of_seat j es)) ∙ (λ i. others_without j f.later f.none i ++ others_of j es i)))
         (foreign_append k.share (events f.later) [] f.foreign tt);
     legal = subst Legal (sym (plain_marked j (h ++ of_seat j es))) l;
     share = refl;
@@ -125,7 +125,7 @@ module _ {X V : Type 0} (knows : V → Known X) where
       clear_of o.long (first_name (knows v).share) (knows u).share
       (λ x l. omega (arith, tally_two (λ (z : V). covers x (knows z).share) views i j u v other there at, o.apart x l, at_least_first x (knows v).share named))
     where
-      at_least_first : (x : Name) (ns : List Name) → ns ≢ [] → one_if (begins (first_name ns) x) ≤ covers x ns
+      at_least_first : (x : Name) (ns : List Name) → ns ≢ [] → one_if (is_prefix (first_name ns) x) ≤ covers x ns
       at_least_first x [] not = absurd (not refl)
       at_least_first x (n ∷ ns) not = omega arith
 

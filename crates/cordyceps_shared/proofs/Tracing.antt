@@ -3,15 +3,15 @@ use Rattle.std.proofs.Common.{◌≡◌, ◌≢◌, ℕ, ◌+◌, List, [], ◌�
 use Rattle.std.proofs.lemmas.List.{append-nil}
 use Rattle.cordyceps_shared.specs.Histories.{plain, own, others}
 use Rattle.cordyceps_shared.specs.Knowing.{Known, Foreign, Grown}
-use Rattle.cordyceps_shared.specs.Shares.{Name, begins, first_name, keeps_half, gives_half, Clear, IsOf}
+use Rattle.cordyceps_shared.specs.Shares.{Name, is_prefix, first_name, keeps_half, gives_half, Clear, IsOf}
 use Rattle.cordyceps_shared.proofs.Adding.{plain_append}
-use Rattle.cordyceps_shared.proofs.Naming.{begins_longer}
+use Rattle.cordyceps_shared.proofs.Naming.{prefix_longer}
 use Rattle.cordyceps_shared.proofs.Ordering.{keeps_clear, gives_clear}
 
 -- ---- the names of a share
 pub first_of : (names : List Name) → names ≢ [] → IsOf names (first_name names)
 first_of [] some_name c = some_name refl
-first_of (n ∷ ns) some_name c = true≢false (sym (subst (λ m. begins n m ≡ true) (append-nil n) (begins_longer n [])) ∙ c.0)
+first_of (n ∷ ns) some_name c = true≢false (sym (subst (λ m. is_prefix n m ≡ true) (append-nil n) (prefix_longer n [])) ∙ c.0)
 
 pub of_kept : (names : List Name) (q : Name) → IsOf (keeps_half names) q → IsOf names q
 of_kept names q of c = of (keeps_clear q names c)

@@ -6,14 +6,14 @@ abbrev pub tally : {X : Type 0} → (X → ℕ) → List X → ℕ
 tally f [] = 0
 tally f (x ∷ xs) = f x + tally f xs
 
--- the same items, each as often: whatever f gives for each, its sums are the same
+-- the same items, each as often: the sums of any f are the same
 abbrev pub Same : {X : Type 0} → List X → List X → Type 0
 Same {X} xs ys = (f : X → ℕ) → tally f xs ≡ tally f ys
 
 abbrev pub one_if : Bool → ℕ
 one_if b = cond b 1 0
 
--- how often n stands in a list
+-- how often n is in a list
 abbrev pub times : ℕ → List ℕ → ℕ
 times n xs = tally (λ x. one_if (nat_eq x n)) xs
 

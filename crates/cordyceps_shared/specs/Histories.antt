@@ -1,6 +1,6 @@
--- The history of a shared collection, the oldest event first. In the collection's rule each event stands beside the
--- number of the seat whose party it is of; in what a party has seen, beside a mark that says whether it is the party's
--- own.
+-- The history of a shared collection, the oldest event first. In the collection's rule each event has the
+-- number of the seat whose party it is of; in what a party has seen (the observed prefix), a mark that says whether it
+-- is the party's own.
 use Rattle.std.specs.Prelude.{◌≡◌, ◌≢◌, ℕ, List, [], ◌∷◌, map, Bool, true, false, ◌&&◌, cond, nat_eq}
 
 module _ {X : Type 0} where
@@ -11,8 +11,8 @@ module _ {X : Type 0} where
   mark j x = (nat_eq x.0 j, x.1)
 
   -- the history as the party of seat j sees it
-  abbrev pub marked : ℕ → List (ℕ × X) → List (Bool × X)
-  marked j h = map (mark j) h
+  abbrev pub with_marks : ℕ → List (ℕ × X) → List (Bool × X)
+  with_marks j h = map (mark j) h
 
   -- what was seen, without the marks
   abbrev pub plain : List (Bool × X) → List X

@@ -4,8 +4,8 @@ use Rattle.std.specs.Prelude.{◌≡◌, ℕ, ◌<◌, ◌≤◌, List, [], ◌�
 use mathlib.Core.Option.{some}
 use lib.ListN.{get_elem?}
 use Rattle.cordyceps_shared.specs.Counts.{tally}
-use Rattle.cordyceps_shared.specs.Histories.{events, marked, plain, own, others, NoneOf, AllOwn, AreDisjoint}
-use Rattle.cordyceps_shared.specs.Shares.{Name, covers, whole, keeps_half, gives_half, joined, Clear}
+use Rattle.cordyceps_shared.specs.Histories.{events, with_marks, plain, own, others, NoneOf, AllOwn, AreDisjoint}
+use Rattle.cordyceps_shared.specs.Shares.{Name, covers, whole, keeps_half, gives_half, join_shares, Clear}
 
 -- the history so far, with a mark at its own events; what it had seen itself when it last absorbed a party, and what
 -- that party told it; and its share
@@ -22,9 +22,9 @@ module _ {X : Type 0} where
 
   -- what the party of seat j knows that has seen all
   abbrev pub all_seen : ℕ → List (ℕ × X) → List Name → Known X
-  all_seen j h share = record { seen = marked j h; had = []; told = []; share = share }
+  all_seen j h share = record { seen = with_marks j h; had = []; told = []; share = share }
 
-  -- no event carries a name of the share, or one that begins such a name or is begun by it
+  -- no event carries a name of the share, a prefix of such a name, or a name with such a prefix
   abbrev pub Foreign : (X → Name) → List Name → List X → Type 0
   Foreign actor share [] = Unit {0}
   Foreign actor share (x ∷ xs) = Clear (actor x) share × Foreign actor share xs
@@ -34,13 +34,13 @@ module _ {X : Type 0} where
   Under actor n [] = Unit {0}
   Under actor n (x ∷ xs) = (actor x ≡ n) × Under actor n xs
 
-  -- what it has seen is a beginning of the history, with all events of its own and all that carry names of its share;
+  -- what it has seen is a prefix of the history, with all events of its own and all that carry names of its share;
   -- and so is what it was told, and no event is marked both there and in what it had seen itself
   pub record Agrees (actor : X → Name) (history : List (ℕ × X)) (j : ℕ) (k : Known X) : Type 0 where
     pub before : List (ℕ × X)
     pub later : List (ℕ × X)
     pub is : history ≡ before ++ later
-    pub seen : k.seen ≡ marked j before
+    pub seen : k.seen ≡ with_marks j before
     pub none : NoneOf j later
     pub foreign : Foreign actor k.share (events later)
     pub told : (rest : List X) × (events history ≡ plain k.told ++ rest)
@@ -76,40 +76,40 @@ module _ {X : Type 0} where
 
   -- ---- splitting and joining
   -- the same events, none of which is the party's own
-  abbrev pub unmarked : List (Bool × X) → List (Bool × X)
-  unmarked [] = []
-  unmarked (x ∷ xs) = (false, x.1) ∷ unmarked xs
+  abbrev pub without_marks : List (Bool × X) → List (Bool × X)
+  without_marks [] = []
+  without_marks (x ∷ xs) = (false, x.1) ∷ without_marks xs
 
-  -- the longer of two histories, one of which begins the other, with the marks of both
-  abbrev pub merged : List (Bool × X) → List (Bool × X) → List (Bool × X)
-  merged [] ys = ys
-  merged (x ∷ xs) [] = x ∷ xs
-  merged (x ∷ xs) (y ∷ ys) = (x.0 || y.0, x.1) ∷ merged xs ys
+  -- the longer of two histories, one of which is a prefix of the other, with the marks of both
+  abbrev pub merge_marks : List (Bool × X) → List (Bool × X) → List (Bool × X)
+  merge_marks [] ys = ys
+  merge_marks (x ∷ xs) [] = x ∷ xs
+  merge_marks (x ∷ xs) (y ∷ ys) = (x.0 || y.0, x.1) ∷ merge_marks xs ys
 
   -- what a party knows that gave up half of its first name, and what the new one knows
   abbrev pub known_keeping : Known X → Known X
   known_keeping k = record k { share = keeps_half k.share }
 
   abbrev pub known_giving : Known X → Known X
-  known_giving k = record { seen = unmarked k.seen; had = []; told = []; share = gives_half k.share }
+  known_giving k = record { seen = without_marks k.seen; had = []; told = []; share = gives_half k.share }
 
   -- what a party knows that took another in, and what is left of the other
   abbrev pub known_absorbing : Known X → Known X → Known X
   known_absorbing k l =
-      record { seen = merged k.seen l.seen; had = k.seen; told = l.seen; share = joined k.share l.share }
+      record { seen = merge_marks k.seen l.seen; had = k.seen; told = l.seen; share = join_shares k.share l.share }
 
   abbrev pub known_absorbed : Known X
   known_absorbed = record { seen = []; had = []; told = []; share = [] }
 
-  -- one history begins another
-  abbrev pub Begins : List X → List X → Type 0
-  Begins xs ys = (rest : List X) × (ys ≡ xs ++ rest)
+  -- one history is a prefix of another
+  abbrev pub IsPrefixOf : List X → List X → Type 0
+  IsPrefixOf xs ys = (rest : List X) × (ys ≡ xs ++ rest)
 
-  -- what a party knows: a legal history that begins with what it was told, no event that it and the party it absorbed
-  -- both had marked, and of a whole party no event of another
+  -- what a party knows: a legal history, of which what it was told is a prefix, no event that it and the party it
+  -- absorbed both had marked, and of a whole party no event of another
   pub record IsKnown (Legal : List X → Type 0) (k : Known X) : Type 0 where
     pub legal : Legal (plain k.seen)
-    pub told : Begins (plain k.told) (plain k.seen)
+    pub told : IsPrefixOf (plain k.told) (plain k.seen)
     pub apart : AreDisjoint k.had k.told
     pub alone : k.share ≡ whole → AllOwn k.seen
     pub long : ℕ

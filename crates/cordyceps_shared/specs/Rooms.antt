@@ -11,11 +11,11 @@ change f (suc i) (x ∷ xs) = x ∷ change f i xs
 
 module _ {E : Type 0} where
   -- a room that got a link, and one that is p's free room again
-  abbrev pub linking : Option ℕ → Room E → Room E
-  linking next room = record { owner = room.owner; element = room.element; next = next }
+  abbrev pub with_link : Option ℕ → Room E → Room E
+  with_link next room = record { owner = room.owner; element = room.element; next = next }
 
-  abbrev pub freeing : ℕ → Room E → Room E
-  freeing p room = record { owner = Some p; element = None; next = room.next }
+  abbrev pub as_free_room : ℕ → Room E → Room E
+  as_free_room p room = record { owner = Some p; element = None; next = room.next }
 
   abbrev pub is_free_for : ℕ → Room E → Bool
   is_free_for p room = option_eq nat_eq room.owner (Some p)

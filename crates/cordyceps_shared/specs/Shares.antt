@@ -1,12 +1,12 @@
--- Names and shares. A name is a finite word of 0 (false) and 1 (true), and stands for all names that it begins. A party
--- acts under the first name of its share.
+-- Names and shares. A name is a finite word of 0 (false) and 1 (true), and represents all names that it is a prefix of.
+-- A share (permission) is a list of names. A party acts under the first name of its share.
 use Rattle.std.specs.Prelude.{◌≡◌, ◌≢◌, ℕ, List, [], ◌∷◌, ◌++◌, Bool, true, false, cond}
 use Rattle.cordyceps_shared.specs.Counts.{tally, one_if}
 
 abbrev pub Name : Type 0
 Name = List Bool
 
--- the share of a party that took back all that were split off: the empty word
+-- the share of a party that took back all that were split off, the full permission: the empty word
 abbrev pub whole : List Name
 whole = [] ∷ []
 
@@ -28,17 +28,17 @@ same_bit true b = b
 same_bit false true = false
 same_bit false false = true
 
--- the first name begins the second
-abbrev pub begins : Name → Name → Bool
-begins [] x = true
-begins (a ∷ us) [] = false
-begins (a ∷ us) (b ∷ bs) = cond (same_bit a b) (begins us bs) false
+-- the first name is a prefix of the second
+abbrev pub is_prefix : Name → Name → Bool
+is_prefix [] x = true
+is_prefix (a ∷ us) [] = false
+is_prefix (a ∷ us) (b ∷ bs) = cond (same_bit a b) (is_prefix us bs) false
 
--- how many names of the share begin x
+-- how many names of the share are prefixes of x
 abbrev pub covers : Name → List Name → ℕ
-covers x names = tally (λ n. one_if (begins n x)) names
+covers x names = tally (λ n. one_if (is_prefix n x)) names
 
--- of two names, neither of which begins the other, the first stands in front
+-- of two names, neither of which is a prefix of the other, the first is before the second
 abbrev pub earlier : Name → Name → Bool
 earlier [] m = true
 earlier (a ∷ us) [] = false
@@ -68,42 +68,42 @@ parent [] = []
 parent (a ∷ []) = []
 parent (a ∷ b ∷ us) = a ∷ parent (b ∷ us)
 
--- a name in front of others, with w in place of w0 and w1 while there are such
-abbrev pub cons_joined : Name → List Name → List Name
-cons_joined n [] = n ∷ []
-cons_joined n (m ∷ ms) = cond (is_pair n m) (cons_joined (parent n) ms) (n ∷ m ∷ ms)
+-- a name before others, with w in place of w0 and w1 while there are such
+abbrev pub combine_first : Name → List Name → List Name
+combine_first n [] = n ∷ []
+combine_first n (m ∷ ms) = cond (is_pair n m) (combine_first (parent n) ms) (n ∷ m ∷ ms)
 
 abbrev pub combine : List Name → List Name
 combine [] = []
-combine (n ∷ ns) = cons_joined n (combine ns)
+combine (n ∷ ns) = combine_first n (combine ns)
 
 -- two shares as one, with w in place of w0 and w1 while there are such
-abbrev pub joined : List Name → List Name → List Name
-joined ns ms = combine (insert_names ns ms)
+abbrev pub join_shares : List Name → List Name → List Name
+join_shares ns ms = combine (insert_names ns ms)
 
--- the name stands in front of each of these
-abbrev pub InFront : Name → List Name → Type 0
-InFront n [] = Unit {0}
-InFront n (m ∷ ms) = (earlier n m ≡ true) × InFront n ms
+-- the name is before each of these
+abbrev pub IsBefore : Name → List Name → Type 0
+IsBefore n [] = Unit {0}
+IsBefore n (m ∷ ms) = (earlier n m ≡ true) × IsBefore n ms
 
--- neither does the name begin one of these, nor one of these the name
+-- the name is a prefix of none of these, and none of these is a prefix of the name
 abbrev pub Clear : Name → List Name → Type 0
 Clear n [] = Unit {0}
-Clear n (m ∷ ms) = (begins n m ≡ false) × (begins m n ≡ false) × Clear n ms
+Clear n (m ∷ ms) = (is_prefix n m ≡ false) × (is_prefix m n ≡ false) × Clear n ms
 
--- the shares have no name in common: no name of one begins a name of the other
+-- the shares have no name in common: no name of one is a prefix of a name of the other
 abbrev pub NamesDisjoint : List Name → List Name → Type 0
 NamesDisjoint [] ms = Unit {0}
 NamesDisjoint (n ∷ ns) ms = Clear n ms × NamesDisjoint ns ms
 
--- the name is one of these, begins one, or is begun by one
+-- the name is one of these, is a prefix of one, or has one as a prefix
 abbrev pub IsOf : List Name → Name → Type 0
 IsOf names n = Clear n names → ⊥
 
--- each name stands in front of those behind it, and none begins another
+-- each name is before those after it, and none is a prefix of another
 abbrev pub InOrder : List Name → Type 0
 InOrder [] = Unit {0}
-InOrder (n ∷ ns) = InFront n ns × Clear n ns × InOrder ns
+InOrder (n ∷ ns) = IsBefore n ns × Clear n ns × InOrder ns
 
 -- no two neighbours are w0 and w1, of some w
 abbrev pub NoPair : List Name → Type 0
@@ -111,6 +111,6 @@ NoPair [] = Unit {0}
 NoPair (n ∷ []) = Unit {0}
 NoPair (n ∷ m ∷ ms) = (is_pair n m ≡ false) × NoPair (m ∷ ms)
 
--- some names in order, none of which begins another, and no two of which are the halves of one
+-- some names in order, none of which is a prefix of another, and no two of which are the halves of one
 abbrev pub IsShare : List Name → Type 0
 IsShare names = (names ≢ []) × InOrder names × NoPair names

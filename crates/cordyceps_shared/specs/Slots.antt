@@ -7,7 +7,7 @@ use Rattle.atomic_table.specs.Table.{Step}
 use Rattle.cordyceps_shared.specs.Places.{ItemAt}
 use Rattle.cordyceps_shared.specs.declared.slots.Filled.{Filled}
 
--- the slots: what lies in each that is at home, which is with the table, and not with a seat
+-- the slots: what is in each that is at home, which is with the table, and not with a seat
 abbrev pub Homes : Type 0 → Type 0
 Homes E = List (maybe.Option (Option (Filled E)))
 
@@ -24,7 +24,7 @@ abbrev pub TableStep : Type 0 → Type 0
 TableStep E = Step (Option (Filled E))
 
 module _ {E : Type 0} where
-  -- what lies in the slot of a room in use: its ticket and its element
+  -- what is in the slot of a room in use: its ticket and its element
   abbrev pub full_slot : ℕ → E → Filled E
   full_slot r e = record { ticket = r; item = e }
 

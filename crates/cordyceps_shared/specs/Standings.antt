@@ -2,8 +2,9 @@
 use Rattle.std.specs.Prelude.{◌≡◌, ℕ, ◌+◌, ◌-◌, List, [], Bool}
 use Rattle.atomic_table.specs.Seated.{TableId}
 use Rattle.cordyceps_shared.specs.Histories.{plain, AllOwn, AreDisjoint}
-use Rattle.cordyceps_shared.specs.Knowing.{Known, Grown, unmarked, merged, Begins}
-use Rattle.cordyceps_shared.specs.Shares.{Name, whole, first_name, keeps_half, gives_half, joined, NamesDisjoint, IsShare}
+use Rattle.cordyceps_shared.specs.Knowing.{Known, Grown, without_marks, merge_marks, IsPrefixOf}
+use Rattle.cordyceps_shared.specs.Shares.{Name, whole, first_name, keeps_half, gives_half, join_shares, NamesDisjoint}
+use Rattle.cordyceps_shared.specs.Shares.{IsShare}
 
 -- which collection the party is of; the history that it has seen, with a mark at its own events; its share; and how
 -- many rooms it has
@@ -35,7 +36,7 @@ module _ {X : Type 0} where
   keeping n u = record u { share = keeps_half u.share; rooms = u.rooms - n }
 
   abbrev pub giving : ℕ → Standing X → Standing X
-  giving n u = record { table = u.table; seen = unmarked u.seen; share = gives_half u.share; rooms = n }
+  giving n u = record { table = u.table; seen = without_marks u.seen; share = gives_half u.share; rooms = n }
 
   -- what every party knows: what it has seen is legal, a whole party has seen no event of another, and its names are a
   -- share
@@ -44,17 +45,17 @@ module _ {X : Type 0} where
     pub alone : u.share ≡ whole → AllOwn u.seen
     pub share : IsShare u.share
 
-  -- the party u became w when it took in the party o. It has seen the longer of what the two had seen, which the
-  -- shorter begins; no event is marked by both, and the own events are those of both; their shares had no name in
+  -- the party u became w when it took in the party o. It has seen the longer of what the two had seen, of which the
+  -- shorter is a prefix; no event is marked by both, and the own events are those of both; their shares had no name in
   -- common
   pub record Absorbs (Legal : List X → Type 0) (u o w : Standing X) : Type 0 where
     pub table : w.table ≡ u.table
-    pub seen : w.seen ≡ merged u.seen o.seen
+    pub seen : w.seen ≡ merge_marks u.seen o.seen
     pub apart : AreDisjoint u.seen o.seen
     pub names : NamesDisjoint u.share o.share
-    pub mine : Begins (plain u.seen) (plain w.seen)
-    pub theirs : Begins (plain o.seen) (plain w.seen)
+    pub mine : IsPrefixOf (plain u.seen) (plain w.seen)
+    pub theirs : IsPrefixOf (plain o.seen) (plain w.seen)
     pub legal : Legal (plain w.seen)
     pub alone : w.share ≡ whole → AllOwn w.seen
-    pub share : w.share ≡ joined u.share o.share
+    pub share : w.share ≡ join_shares u.share o.share
     pub rooms : w.rooms ≡ u.rooms + o.rooms

@@ -1,6 +1,6 @@
 -- How a history goes on.
 use Rattle.std.proofs.Common.{◌≡◌, List, [], ◌∷◌, ◌++◌, reverse, refl, ap, sym, ◌∙◌, subst, inl, inr, ◌⊎◌, append_assoc}
-use Rattle.cordyceps_stack.specs.History.{Event, Load, Push, Taken, held, held_from, held_after, Legal, NoLoad, NoTaken, IsByAnother, SomeByAnother, LastLoad, LastBatch, pushes, taken, IsChange, SomeChange}
+use Rattle.cordyceps_stack.specs.History.{Event, Load, Push, Taken, held, held_from, held_after, Legal, NoLoad, NoTaken, IsByAnother, SomeByAnother, LastLoad, LastBatch, pushes, taken_elements, IsChange, SomeChange}
 use Rattle.std.proofs.lemmas.List.{append-nil, reverse-reverse}
 
 module _ {A : Type 0} where
@@ -99,7 +99,7 @@ module _ {P E : Type 0} where
   moved_on before h v l = subst (λ k. Legal k) (sym (append_assoc before (v ∷ []) h)) l
 
   -- what was held, then what was pushed after, is what was taken after, and then what is held
-  lost_from : (before h : List (Event P E)) → Legal (before ++ h) → taken h ++ held_from (held before) h ≡ held before ++ pushes h
+  lost_from : (before h : List (Event P E)) → Legal (before ++ h) → taken_elements h ++ held_from (held before) h ≡ held before ++ pushes h
   lost_from before [] l = sym (append-nil (held before))
   lost_from before (Load p ∷ h) l =
       let more = lost_from (before ++ Load p ∷ []) h (moved_on before h (Load p) l) in
@@ -110,10 +110,10 @@ module _ {P E : Type 0} where
   lost_from before (Taken p b ∷ h) l =
       let more = lost_from (before ++ Taken p b ∷ []) h (moved_on before h (Taken p b) l) in
       let same : reverse b ≡ held before = ap reverse (l before h p b refl) ∙ reverse-reverse (held before) in
-      append_assoc (reverse b) (taken h) (held_from [] h) ∙ (ap (λ xs. reverse b ++ xs) (rw (held_more before (Taken p b)) at more) ∙ ap (λ xs. xs ++ pushes h) same)
+      append_assoc (reverse b) (taken_elements h) (held_from [] h) ∙ (ap (λ xs. reverse b ++ xs) (rw (held_more before (Taken p b)) at more) ∙ ap (λ xs. xs ++ pushes h) same)
 
   -- the batches, each oldest first, and then what is held, are the pushes
-  pub nothing_lost : (h : List (Event P E)) → Legal h → taken h ++ held h ≡ pushes h
+  pub nothing_lost : (h : List (Event P E)) → Legal h → taken_elements h ++ held h ≡ pushes h
   nothing_lost h l = lost_from [] h l
 
   pub change_more : (h k : List (Event P E)) → SomeChange h → SomeChange (h ++ k)

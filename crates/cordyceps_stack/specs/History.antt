@@ -44,11 +44,11 @@ module _ {P E : Type 0} where
   pushes (Taken p batch ∷ h) = pushes h
 
   -- the elements taken: the batches one after another, each oldest first
-  abbrev pub taken : List (Event P E) → List E
-  taken [] = []
-  taken (Load p ∷ h) = taken h
-  taken (Push p e ∷ h) = taken h
-  taken (Taken p batch ∷ h) = reverse batch ++ taken h
+  abbrev pub taken_elements : List (Event P E) → List E
+  taken_elements [] = []
+  taken_elements (Load p ∷ h) = taken_elements h
+  taken_elements (Push p e ∷ h) = taken_elements h
+  taken_elements (Taken p batch ∷ h) = reverse batch ++ taken_elements h
 
   -- no event is a load of p
   abbrev pub NoLoad : P → List (Event P E) → Type 0

@@ -5,10 +5,10 @@ use Rattle.cordyceps_base.specs.Element.{Element}
 use Rattle.cordyceps_shared.specs.Shares.{Name}
 use Rattle.cordyceps_shared.proofs.Adding.{adds_then}
 use Rattle.cordyceps_shared.proofs.Counting.{tally_append}
-use Rattle.cordyceps_stack.specs.History.{Event, Load, Push, Taken, Legal, pushes, taken, actor}
+use Rattle.cordyceps_stack.specs.History.{Event, Load, Push, Taken, Legal, pushes, taken_elements, actor}
 use Rattle.cordyceps_stack.specs.Shared.Calls.{PartyOf}
 use Rattle.freelist.specs.Blocks.{LocalOf}
-use Rattle.freelist.specs.Whereabouts.{Whereabouts, Call, Gets, Fetches, Puts, PutsRemote, HandsBack, Opens, Finishes, Splits, Joins, Idles, Gains, Loses, behind, Lacks, Does, Run, command_of, attempts, fetches}
+use Rattle.freelist.specs.Whereabouts.{Whereabouts, Call, Gets, Fetches, Puts, PutsRemote, HandsBack, Opens, Finishes, Splits, Joins, Idles, Gains, Loses, prepend_option, Lacks, Does, Run, command_of, attempts, fetches}
 use Rattle.freelist.specs.Users.{firsts, seconds, BothCarryOut, UserOf, looks, takings, puts_of, gets_of, Acts, ActsLocally, ActInTurn, OnlyBlocks, whereabouts_after, CarriesOut, local_blocks, local_party, rooms_of}
 use Rattle.freelist.specs.declared.laws.Command.{Command}
 use Rattle.freelist.specs.declared.laws.Command.TheVariants as kinds
@@ -32,7 +32,7 @@ module _ {B : Type 0} where
   does_moved : (xs ys : List B) (c : Call B) (s t : Whereabouts B) → Does c s t → Does c (moved_blocks xs ys s) (moved_blocks xs ys t)
   does_moved xs ys (Gets b) s t d = (d.0, ap (moved_blocks xs ys) d.1)
   does_moved xs ys (Fetches batch first) s t d =
-      (d.0, d.1, d.2, d.3, d.4, ap (moved_blocks xs ys) d.5 ∙ ap (λ z. record t { with_user = behind first s.with_user; local_rooms = Some (d.0 + length batch); put_back = xs ++ s.put_back; fetched = z; rooms = s.rooms; spare_rooms = s.spare_rooms }) (sym (append_assoc ys s.fetched (reverse batch))))
+      (d.0, d.1, d.2, d.3, d.4, ap (moved_blocks xs ys) d.5 ∙ ap (λ z. record t { with_user = prepend_option first s.with_user; local_rooms = Some (d.0 + length batch); put_back = xs ++ s.put_back; fetched = z; rooms = s.rooms; spare_rooms = s.spare_rooms }) (sym (append_assoc ys s.fetched (reverse batch))))
   does_moved xs ys (Puts b) s t d = (d.0, d.1, ap (moved_blocks xs ys) d.2)
   does_moved xs ys (PutsRemote b) s t d =
       (d.0, d.1, ap (moved_blocks xs ys) d.2 ∙ ap (λ z. record s { with_user = t.with_user; put_back = z; fetched = ys ++ s.fetched; rooms = t.rooms }) (sym (append_assoc xs s.put_back (b ∷ []))))
@@ -83,11 +83,11 @@ module _ {H : Type 0} where
   pushes_append (Push n e ∷ es) fs = ap (λ z. e ∷ z) (pushes_append es fs)
   pushes_append (Taken n batch ∷ es) fs = pushes_append es fs
 
-  taken_append : (es fs : List (Event Name H)) → taken (es ++ fs) ≡ taken es ++ taken fs
+  taken_append : (es fs : List (Event Name H)) → taken_elements (es ++ fs) ≡ taken_elements es ++ taken_elements fs
   taken_append [] fs = refl
   taken_append (Load n ∷ es) fs = taken_append es fs
   taken_append (Push n e ∷ es) fs = taken_append es fs
-  taken_append (Taken n batch ∷ es) fs = ap (λ z. reverse batch ++ z) (taken_append es fs) ∙ sym (append_assoc (reverse batch) (taken es) (taken fs))
+  taken_append (Taken n batch ∷ es) fs = ap (λ z. reverse batch ++ z) (taken_append es fs) ∙ sym (append_assoc (reverse batch) (taken_elements es) (taken_elements fs))
 
   puts_append : (es fs : List (Event Name H)) → puts_of (es ++ fs) ≡ puts_of es ++ puts_of fs
   puts_append [] fs = refl
@@ -172,11 +172,11 @@ module _ {T H : Type 0} (element : H → Element T) where
   pub carries_then : (ks js : List Command) (u v w : UserOf T H) → CarriesOut element ks u v → CarriesOut element js v w → CarriesOut element (ks ++ js) u w
   carries_then ks js u v w a b =
       let put = ap (map element) (pushes_append a.events b.events) ∙ map-append element (pushes a.events) (pushes b.events) in
-      let got = ap (map element) (taken_append a.events b.events) ∙ map-append element (taken a.events) (taken b.events) in
+      let got = ap (map element) (taken_append a.events b.events) ∙ map-append element (taken_elements a.events) (taken_elements b.events) in
       let xs = map element (pushes a.events) in
-      let ys = map element (taken a.events) in
+      let ys = map element (taken_elements a.events) in
       let xs2 = map element (pushes b.events) in
-      let ys2 = map element (taken b.events) in
+      let ys2 = map element (taken_elements b.events) in
       let moved_on = run_moved xs ys b.calls (whereabouts_after element v []) (whereabouts_after element w b.events) b.runs in
       let start = subst (λ z. Run b.calls (place v z (ys ++ [])) (place w (xs ++ xs2) (ys ++ ys2))) (append-nil xs) moved_on in
       let start2 = subst (λ z. Run b.calls (place v xs z) (place w (xs ++ xs2) (ys ++ ys2))) (append-nil ys) start in

@@ -4,17 +4,17 @@ use Rattle.atomic_table.specs.Seated.{TableId}
 use Rattle.cordyceps_base.specs.Element.{Element}
 use Rattle.cordyceps_shared.specs.Counts.{tally, Same}
 use Rattle.cordyceps_shared.specs.Histories.{plain, own}
-use Rattle.cordyceps_shared.specs.Shares.{Name, whole, keeps_half, joined}
+use Rattle.cordyceps_shared.specs.Shares.{Name, whole, keeps_half, join_shares}
 use Rattle.cordyceps_shared.specs.Standings.{new_party, keeping, giving, Knows, Absorbs}
 use Rattle.cordyceps_shared.proofs.Adding.{plain_own}
 use Rattle.cordyceps_shared.proofs.Counting.{tally_append, tally_map, tally_reverse}
 use Rattle.cordyceps_shared.proofs.Halving.{halves_join}
 use Rattle.cordyceps_shared.proofs.Summing.{tally_flat_map, tally_same}
-use Rattle.cordyceps_stack.specs.History.{Event, Legal, held, pushes, taken}
+use Rattle.cordyceps_stack.specs.History.{Event, Legal, held, pushes, taken_elements}
 use Rattle.cordyceps_stack.specs.Shared.Calls.{PartyOf}
 use Rattle.cordyceps_stack.specs.Shared.Moves.{put_by, got_by}
 use Rattle.cordyceps_stack.proofs.SharedTheory.PartyMoves.{all_put, all_got}
-use Rattle.freelist.specs.Whereabouts.{Call, Gains, Loses, command_of, gained, lost, Story, IsOf}
+use Rattle.freelist.specs.Whereabouts.{Call, Gains, Loses, command_of, gains, losses, Story, IsOf}
 use Rattle.freelist.specs.Users.{UserOf, alone, closing, own_sum, parties_of, whereabouts_after, CarriesOut, Life, all_parties, stories, EachOnce, Met, one, absorbed}
 use Rattle.freelist.specs.declared.laws.Command.{Command}
 use Rattle.freelist.proofs.Calls.{carries_then}
@@ -24,7 +24,7 @@ use Rattle.freelist.proofs.Whereabouts.{each_once}
 
 module _ {B : Type 0} where
   -- calls that carry out commands bring no block from elsewhere, and take none there
-  only_commands : (cs : List (Call B)) (ks : List Command) → map command_of cs ≡ map Some ks → (lost cs ≡ []) × (gained cs ≡ [])
+  only_commands : (cs : List (Call B)) (ks : List Command) → map command_of cs ≡ map Some ks → (losses cs ≡ []) × (gains cs ≡ [])
   only_commands [] ks e = (refl, refl)
   only_commands (c ∷ cs) [] e = cc
   only_commands (Gains b ∷ cs) (k ∷ ks) e = cc
@@ -74,7 +74,7 @@ module _ {T H : Type 0} (element : H → Element T) where
         legal = known.legal;
         pushed = λ f. sym (tally_map element f (pushes h)) ∙ (ap (tally f) (sym (all_put element h))
             ∙ gathers (put_by element) (λ u. u.end.put_back) f h lives sum (λ l. all_put element l.events ∙ sym l.put_back));
-        took = λ f. sym (tally_map element f (taken h)) ∙ (ap (tally f) (sym (all_got element h))
+        took = λ f. sym (tally_map element f (taken_elements h)) ∙ (ap (tally f) (sym (all_got element h))
             ∙ gathers (got_by element) (λ u. u.end.fetched) f h lives sum (λ l. all_got element l.events ∙ sym l.fetched));
       }
 
@@ -85,7 +85,7 @@ module _ {T H : Type 0} (element : H → Element T) where
       let g : H → ℕ = λ e. f (element e) in
       omega (arith, each_once element f (stories element lives) (plain w.seen) (is_of lives w met known is), ap (tally f) gives, tally_map element f (reverse (held (plain w.seen))), tally_reverse g (held (plain w.seen)))
 
-  -- a user from the beginning on to its end
+  -- a user from its start to its end
   pub from_new : (ks : List Command) (t : TableId) (hand : List (Element T)) (p q : PartyOf H) (u v : UserOf T H) (hand2 : List (Element T)) (p2 : PartyOf H) → q ≡ p → u ≡ alone t hand q →
       CarriesOut element ks u v → CarriesOut element closing v (alone v.table hand2 p2) → CarriesOut element (ks ++ closing) (alone t hand p) (alone t hand2 p2)
   from_new ks t hand p q u v hand2 p2 new is first last =
@@ -115,4 +115,4 @@ module _ {T H : Type 0} (element : H → Element T) where
       CarriesOut element js (alone t yours (giving rooms (new_party t all))) (alone t yours2 second) →
       Absorbs (λ h. Legal h) first second last → last.share ≡ whole
   both_whole ks js t rooms all mine yours mine2 yours2 first second last c d met =
-      met.share ∙ (ap (λ z. joined z second.share) (c.names (false ∷ []) refl) ∙ (ap (λ z. joined (keeps_half whole) z) (d.names (true ∷ []) refl) ∙ halves_join []))
+      met.share ∙ (ap (λ z. join_shares z second.share) (c.names (false ∷ []) refl) ∙ (ap (λ z. join_shares (keeps_half whole) z) (d.names (true ∷ []) refl) ∙ halves_join []))

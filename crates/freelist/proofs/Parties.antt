@@ -9,7 +9,7 @@ use Rattle.cordyceps_shared.proofs.Interleaving.{tally_interleaved}
 use Rattle.cordyceps_shared.proofs.Owning.{own_adds, own_absorbed}
 use Rattle.cordyceps_stack.specs.History.{Event, Legal, actor}
 use Rattle.cordyceps_stack.specs.Shared.Calls.{PartyOf, Adds}
-use Rattle.freelist.specs.Whereabouts.{behind}
+use Rattle.freelist.specs.Whereabouts.{prepend_option}
 use Rattle.freelist.specs.Users.{AllKnow}
 
 module _ {H : Type 0} where
@@ -21,6 +21,6 @@ module _ {H : Type 0} where
   absorbs_own u o w a g = tally_interleaved g (own u.seen) (own o.seen) (own w.seen) (own_absorbed (λ h. Legal h) u o w a)
 
   -- ---- what parties know
-  pub knows_last : (p q : PartyOf H) (o : Option (PartyOf H)) → (Knows (λ h. Legal h) p → Knows (λ h. Legal h) q) → AllKnow (behind o (p ∷ [])) → AllKnow (behind o (q ∷ []))
+  pub knows_last : (p q : PartyOf H) (o : Option (PartyOf H)) → (Knows (λ h. Legal h) p → Knows (λ h. Legal h) q) → AllKnow (prepend_option o (p ∷ [])) → AllKnow (prepend_option o (q ∷ []))
   knows_last p q None k a = (k a.0, tt)
   knows_last p q (Some o) k a = (a.0, (k a.1.0, tt))

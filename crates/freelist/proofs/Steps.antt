@@ -6,7 +6,7 @@ use Rattle.atomic_table.specs.Seated.{TableId}
 use Rattle.cordyceps_base.specs.Element.{Element}
 use Rattle.cordyceps_shared.specs.Counts.{tally}
 use Rattle.cordyceps_shared.specs.Histories.{own}
-use Rattle.cordyceps_shared.specs.Shares.{Name, keeps_half, gives_half, joined, insert_name}
+use Rattle.cordyceps_shared.specs.Shares.{Name, keeps_half, gives_half, join_shares, insert_name}
 use Rattle.cordyceps_shared.specs.Standings.{name_of, keeping, giving, Absorbs}
 use Rattle.cordyceps_shared.proofs.Halving.{halves_join}
 use Rattle.cordyceps_shared.proofs.Knowing.{adds_knows, absorbs_knows, keeps_knows, gives_knows}
@@ -14,11 +14,11 @@ use Rattle.cordyceps_shared.proofs.Owning.{own_split}
 use Rattle.cordyceps_stack.specs.History.{Load, Push, Taken, Legal, actor}
 use Rattle.cordyceps_stack.specs.Shared.Calls.{PartyOf, PushesAt, Misses}
 use Rattle.freelist.specs.Blocks.{LocalOf, GivesFirst, GetsFrom}
-use Rattle.freelist.specs.Whereabouts.{Gets, Fetches, Puts, PutsRemote, HandsBack, Opens, Finishes, Splits, Joins, Idles, behind, Lacks}
+use Rattle.freelist.specs.Whereabouts.{Gets, Fetches, Puts, PutsRemote, HandsBack, Opens, Finishes, Splits, Joins, Idles, prepend_option, Lacks}
 use Rattle.freelist.specs.Users.{UserOf, whereabouts_after, share_of, rooms_of, Divides, local_party, CarriesOut}
 use Rattle.freelist.proofs.Calls.{stays, stays_local}
 use Rattle.freelist.proofs.Parties.{adds_own, absorbs_own, knows_last}
-use Rattle.freelist.proofs.Whereabouts.{tally_behind}
+use Rattle.freelist.proofs.Whereabouts.{tally_prepend}
 use Rattle.freelist.specs.declared.laws.Command.{Command}
 use Rattle.freelist.specs.declared.laws.Command.TheVariants as kinds
 
@@ -68,7 +68,7 @@ module _ {T H : Type 0} (element : H → Element T) where
     table = refl;
   }
 
-  -- another name for the user at the beginning, and at the end
+  -- another name for the user at the start, and at the end
   pub begins : (ks : List Command) (v u w : UserOf T H) → v ≡ u → CarriesOut element ks v w → CarriesOut element ks u w
   begins ks v u w is c = subst (λ z. CarriesOut element ks z w) is c
 
@@ -78,13 +78,13 @@ module _ {T H : Type 0} (element : H → Element T) where
   pub idles : (k : Command) (v u w : UserOf T H) → v ≡ u → v ≡ w → Lacks k (whereabouts_after element v []) → CarriesOut element (k ∷ []) u w
   idles k v u w first last lacks = subst (λ z. CarriesOut element (k ∷ []) z w) first (subst (λ z. CarriesOut element (k ∷ []) v z) last (carries_idle k v lacks))
 
-  first_out : (bs left : List (Element T)) (first : Option H) → GivesFirst element bs first left → (bs ≡ behind (element_if first) left) × (element_if first ≡ None → left ≡ [])
+  first_out : (bs left : List (Element T)) (first : Option H) → GivesFirst element bs first left → (bs ≡ prepend_option (element_if first) left) × (element_if first ≡ None → left ≡ [])
   first_out bs left None g = (g.0 ∙ sym g.1, λ _. g.1)
   first_out bs left (Some h) g = (g, λ e. cc)
 
   fetches_to : (t : TableId) (hand : List (Element T)) (q : PartyOf H) (first : Option H) (l : LocalOf T H) (p : PartyOf H) (o : Option (PartyOf H)) →
       GetsFrom element [] q first l →
-      CarriesOut element (kinds.Get ∷ []) (with t hand (Some (record { blocks = []; party = q })) p o) (with t (behind (element_if first) hand) (Some l) p o)
+      CarriesOut element (kinds.Get ∷ []) (with t hand (Some (record { blocks = []; party = q })) p o) (with t (prepend_option (element_if first) hand) (Some l) p o)
   fetches_to t hand q first l p o g =
       let batch = g.0 in
       let took = g.1 in
@@ -97,20 +97,20 @@ module _ {T H : Type 0} (element : H → Element T) where
         events = es;
         carries = refl;
         runs = (
-          whereabouts_after element (with t (behind (element_if first) hand) (Some l) p o) es,
+          whereabouts_after element (with t (prepend_option (element_if first) hand) (Some l) p o) es,
           (
             q.rooms,
             refl,
             refl,
             out.0,
             out.1,
-            ap (λ z. record (whereabouts_after element (with t (behind (element_if first) hand) (Some l) p o) []) { fetched = z; local_rooms = Some l.party.rooms }) some ∙ ap (λ z. record (whereabouts_after element (with t (behind (element_if first) hand) (Some l) p o) []) { fetched = reverse (map element batch); local_rooms = Some z }) rooms,
+            ap (λ z. record (whereabouts_after element (with t (prepend_option (element_if first) hand) (Some l) p o) []) { fetched = z; local_rooms = Some l.party.rooms }) some ∙ ap (λ z. record (whereabouts_after element (with t (prepend_option (element_if first) hand) (Some l) p o) []) { fetched = reverse (map element batch); local_rooms = Some z }) rooms,
           ),
           refl,
         );
         looked = refl;
         took = refl;
-        own_events = λ g2. omega (arith, adds_own q l.party es took.0 g2, tally_behind (λ (z : PartyOf H). tally g2 (own z.seen)) o (q ∷ []), tally_behind (λ (z : PartyOf H). tally g2 (own z.seen)) o (l.party ∷ []));
+        own_events = λ g2. omega (arith, adds_own q l.party es took.0 g2, tally_prepend (λ (z : PartyOf H). tally g2 (own z.seen)) o (q ∷ []), tally_prepend (λ (z : PartyOf H). tally g2 (own z.seen)) o (l.party ∷ []));
         in_turn = λ _. (inl (refl, refl), inr took.0, refl);
         knows = λ k. (k.0, knows_last q l.party o (λ j. adds_knows actor (λ h. Legal h) q l.party es j took.0) k.1);
         names = λ n h. subst (λ z. Divides n p.share (Some z) (share_of o)) (sym took.0.0.share) h;
@@ -135,7 +135,7 @@ module _ {T H : Type 0} (element : H → Element T) where
 
   get_from : (t : TableId) (hand : List (Element T)) (bs : List (Element T)) (q : PartyOf H) (first : Option H) (l : LocalOf T H) (p : PartyOf H) (o : Option (PartyOf H)) →
       GetsFrom element bs q first l →
-      CarriesOut element (kinds.Get ∷ []) (with t hand (Some (record { blocks = bs; party = q })) p o) (with t (behind (element_if first) hand) (Some l) p o)
+      CarriesOut element (kinds.Get ∷ []) (with t hand (Some (record { blocks = bs; party = q })) p o) (with t (prepend_option (element_if first) hand) (Some l) p o)
   get_from t hand [] q first l p o g = fetches_to t hand q first l p o g
   get_from t hand (b ∷ bs) q None l p o g = let none : b ∷ bs ≡ [] = g.1.0 in cc
   get_from t hand (b ∷ bs) q (Some h) l p o g =
@@ -144,7 +144,7 @@ module _ {T H : Type 0} (element : H → Element T) where
       subst (λ z. CarriesOut element (kinds.Get ∷ []) (with t hand (Some (record { blocks = b ∷ bs; party = q })) p o) (with t (element h ∷ hand) (Some (record { blocks = l.blocks; party = z })) p o)) (sym g.0) from
 
   pub carries_get : (t : TableId) (hand hand2 : List (Element T)) (l l2 : LocalOf T H) (p : PartyOf H) (o : Option (PartyOf H)) (first : Option H) →
-      GetsFrom element l.blocks l.party first l2 → hand2 ≡ behind (element_if first) hand →
+      GetsFrom element l.blocks l.party first l2 → hand2 ≡ prepend_option (element_if first) hand →
       CarriesOut element (kinds.Get ∷ []) (with t hand (Some l) p o) (with t hand2 (Some l2) p o)
   carries_get t hand hand2 l l2 p o first g insert_name =
       subst (λ z. CarriesOut element (kinds.Get ∷ []) (with t hand (Some l) p o) (with t z (Some l2) p o)) (sym insert_name) (get_from t hand l.blocks l.party first l2 p o g)
@@ -310,10 +310,10 @@ module _ {T H : Type 0} (element : H → Element T) where
       let P = λ (y z : PartyOf H). CarriesOut element (kinds.Split rooms ∷ []) (with t hand l p None) (with t hand l y (Some z)) in
       subst (λ z. P p2 z) (sym gives) (subst (λ z. P z (giving rooms p)) (sym keeps) (split_to t hand l p rooms few))
 
-  absorb_names : (n : Name) (p p2 q : PartyOf H) (l : Option (PartyOf H)) → p2.share ≡ joined p.share q.share → Divides n p.share (share_of l) (Some q.share) → Divides n p2.share (share_of l) None
-  absorb_names n p p2 q None is d = is ∙ (ap (λ z. joined z q.share) d.0 ∙ (ap (λ z. joined (keeps_half (n ∷ [])) z) d.1 ∙ halves_join n))
+  absorb_names : (n : Name) (p p2 q : PartyOf H) (l : Option (PartyOf H)) → p2.share ≡ join_shares p.share q.share → Divides n p.share (share_of l) (Some q.share) → Divides n p2.share (share_of l) None
+  absorb_names n p p2 q None is d = is ∙ (ap (λ z. join_shares z q.share) d.0 ∙ (ap (λ z. join_shares (keeps_half (n ∷ [])) z) d.1 ∙ halves_join n))
   absorb_names n p p2 q (Some l) is d =
-      (is ∙ (ap (λ z. joined z q.share) d.0 ∙ (ap (λ z. joined (keeps_half (keeps_half (n ∷ []))) z) d.2 ∙ halves_join (n ++ false ∷ []))), d.1)
+      (is ∙ (ap (λ z. join_shares z q.share) d.0 ∙ (ap (λ z. join_shares (keeps_half (keeps_half (n ∷ []))) z) d.2 ∙ halves_join (n ++ false ∷ []))), d.1)
 
   pub carries_absorb : (t : TableId) (hand : List (Element T)) (l : Option (LocalOf T H)) (p p2 q : PartyOf H) → Absorbs (λ h. Legal h) p q p2 →
       CarriesOut element (kinds.Absorb ∷ []) (with t hand l p (Some q)) (with t hand l p2 None)

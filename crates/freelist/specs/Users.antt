@@ -7,11 +7,11 @@ use Rattle.cordyceps_shared.specs.Counts.{tally, Same}
 use Rattle.cordyceps_shared.specs.Histories.{plain, own}
 use Rattle.cordyceps_shared.specs.Shares.{Name, whole, keeps_half, gives_half}
 use Rattle.cordyceps_shared.specs.Standings.{new_party, keeping, giving, Knows, Absorbs}
-use Rattle.cordyceps_stack.specs.History.{Event, Load, Push, Taken, Legal, held, pushes, taken}
+use Rattle.cordyceps_stack.specs.History.{Event, Load, Push, Taken, Legal, held, pushes, taken_elements}
 use Rattle.cordyceps_stack.specs.Shared.Calls.{PartyOf, Adds}
 use Rattle.freelist.specs.Blocks.{LocalOf}
-use Rattle.freelist.specs.Whereabouts.{Whereabouts, Call, Run, behind, command_of, attempts, fetches, Story, at_start}
-use Rattle.freelist.specs.Whereabouts.{at_end, all_gained, all_lost}
+use Rattle.freelist.specs.Whereabouts.{Whereabouts, Call, Run, prepend_option, command_of, attempts, fetches, Story}
+use Rattle.freelist.specs.Whereabouts.{at_start, at_end, all_gains, all_losses}
 use Rattle.freelist.specs.declared.laws.Command.{Command}
 use Rattle.freelist.specs.declared.laws.Command.TheVariants as kinds
 use Rattle.freelist.specs.declared.laws.Turn.{Turn}
@@ -40,7 +40,7 @@ module _ {T H : Type 0} where
   local_party (Some l) = Some l.party
 
   abbrev pub parties_of : UserOf T H → List (PartyOf H)
-  parties_of u = u.party ∷ behind u.spare (behind (local_party u.local) [])
+  parties_of u = u.party ∷ prepend_option u.spare (prepend_option (local_party u.local) [])
 
 module _ {H : Type 0} where
   -- the party is of this table, if there is one
@@ -143,7 +143,7 @@ module _ {T H : Type 0} (element : H → Element T) where
         with_user = u.hand;
         local = local_blocks u.local;
         put_back = map element (pushes es);
-        fetched = map element (taken es);
+        fetched = map element (taken_elements es);
         rooms = u.party.rooms;
         local_rooms = rooms_of (local_party u.local);
         spare_rooms = rooms_of u.spare;
@@ -166,14 +166,14 @@ module _ {T H : Type 0} (element : H → Element T) where
     pub names : (n : Name) → HasName n u → HasName n w
     pub table : w.table ≡ u.table
 
-  -- a user, from the beginning on: its story, and its parties at the end, whose own events are those of the story
+  -- a user, from the start on: its story, and its parties at the end, whose own events are those of the story
   pub record Life : Type 0 where
     pub story : Story (Element T)
     pub parties : List (PartyOf H)
     pub events : List (Event Name H)
     pub own_events : (g : Event Name H → ℕ) → own_sum g parties ≡ tally g events
     pub put_back : story.end.put_back ≡ map element (pushes events)
-    pub fetched : story.end.fetched ≡ map element (taken events)
+    pub fetched : story.end.fetched ≡ map element (taken_elements events)
 
   abbrev pub all_parties : List Life → List (PartyOf H)
   all_parties [] = []
@@ -182,13 +182,13 @@ module _ {T H : Type 0} (element : H → Element T) where
   abbrev pub stories : List Life → List (Story (Element T))
   stories lives = map (λ l. l.story) lives
 
-  -- whatever f gives: its sum over all blocks that these users have at the end, over what is shared, and over what they
+  -- for each f, its sum over all blocks that these users have at the end, over what is shared, and over what they
   -- let go of, is that over what they had at the start and came by
   abbrev pub EachOnce : List Life → List (Element T) → Type 0
   EachOnce lives shared =
       (f : Element T → ℕ) →
-      at_end f (stories lives) + tally f shared + all_lost f (stories lives)
-      ≡ at_start f (stories lives) + all_gained f (stories lives)
+      at_end f (stories lives) + tally f shared + all_losses f (stories lives)
+      ≡ at_start f (stories lives) + all_gains f (stories lives)
 
 -- these parties were absorbed, one into another, until this one was left
 pub data Met {H : Type 0} : List (PartyOf H) → PartyOf H → Type 0 where

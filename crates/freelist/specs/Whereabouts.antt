@@ -2,7 +2,7 @@
 use Rattle.std.specs.Prelude.{◌≡◌, ◌≢◌, ℕ, suc, ◌+◌, ◌-◌, ◌<◌, ◌≤◌, List, [], ◌∷◌, ◌++◌, length, reverse, Option, Some}
 use Rattle.std.specs.Prelude.{None, IsSome, ◌⊎◌}
 use Rattle.cordyceps_shared.specs.Counts.{tally}
-use Rattle.cordyceps_stack.specs.History.{Event, Legal, held, pushes, taken}
+use Rattle.cordyceps_stack.specs.History.{Event, Legal, held, pushes, taken_elements}
 use Rattle.freelist.specs.declared.laws.Command.{Command}
 use Rattle.freelist.specs.declared.laws.Command.TheVariants as kinds
 
@@ -18,18 +18,18 @@ pub record Whereabouts (B : Type 0) : Type 0 where
   pub local_rooms : Option ℕ
   pub spare_rooms : Option ℕ
 
--- what was done, and what it answered
+-- what was done, and what it returned
 pub data Call (B : Type 0) : Type 0 where
-  -- `get`, which answered the first local block
+  -- `get`, which returned the first local block
   Gets : B → Call B
-  -- `get`, which found no local block, took this batch of what is shared, the newest first, and answered its first
+  -- `get`, which found no local block, took this batch of what is shared, the newest first, and returned its first
   -- block
   Fetches : List B → Option B → Call B
   -- `put`
   Puts : B → Call B
-  -- `put_remote`, which answered `Ok`
+  -- `put_remote`, which returned `Ok`
   PutsRemote : B → Call B
-  -- `put_remote`, which handed the block back
+  -- `put_remote`, which returned the block
   HandsBack : Call B
   -- `local`, with the spare party
   Opens : Call B
@@ -47,10 +47,10 @@ pub data Call (B : Type 0) : Type 0 where
   Loses : B → Call B
 
 module _ {B : Type 0} where
-  -- a block in front of others, if there is one
-  abbrev pub behind : Option B → List B → List B
-  behind None bs = bs
-  behind (Some b) bs = b ∷ bs
+  -- a block before others, if there is one
+  abbrev pub prepend_option : Option B → List B → List B
+  prepend_option None bs = bs
+  prepend_option (Some b) bs = b ∷ bs
 
   -- a block goes away
   pub record Without (b : B) (old new : List B) : Type 0 where
@@ -77,10 +77,10 @@ module _ {B : Type 0} where
       (n : ℕ)
       × (s.local_rooms ≡ Some n)
       × (s.local ≡ [])
-      × (batch ≡ behind first t.local)
+      × (batch ≡ prepend_option first t.local)
       × (first ≡ None → t.local ≡ [])
       × (t ≡ record s {
-        with_user = behind first s.with_user;
+        with_user = prepend_option first s.with_user;
         local = t.local;
         local_rooms = Some (n + length batch);
         fetched = s.fetched ++ reverse batch;
@@ -123,15 +123,15 @@ module _ {B : Type 0} where
   Run (c ∷ cs) s t = (m : Whereabouts B) × Does c s m × Run cs m t
 
   -- the blocks that a user came by, and those that it let go of
-  abbrev pub gained : List (Call B) → List B
-  gained [] = []
-  gained (Gains b ∷ cs) = b ∷ gained cs
-  gained (c ∷ cs) = gained cs
+  abbrev pub gains : List (Call B) → List B
+  gains [] = []
+  gains (Gains b ∷ cs) = b ∷ gains cs
+  gains (c ∷ cs) = gains cs
 
-  abbrev pub lost : List (Call B) → List B
-  lost [] = []
-  lost (Loses b ∷ cs) = b ∷ lost cs
-  lost (c ∷ cs) = lost cs
+  abbrev pub losses : List (Call B) → List B
+  losses [] = []
+  losses (Loses b ∷ cs) = b ∷ losses cs
+  losses (c ∷ cs) = losses cs
 
   -- the command that a call carries out, if it does
   abbrev pub command_of : Call B → Option Command
@@ -160,7 +160,7 @@ module _ {B : Type 0} where
   fetches (Fetches batch first ∷ cs) = suc (fetches cs)
   fetches (c ∷ cs) = fetches cs
 
--- what a user did, from the beginning on
+-- what a user did, from the start on
 pub record Story (B : Type 0) : Type 0 where
   pub calls : List (Call B)
   pub start : Whereabouts B
@@ -169,7 +169,7 @@ pub record Story (B : Type 0) : Type 0 where
   pub new : (start.put_back ≡ []) × (start.fetched ≡ [])
 
 module _ {B : Type 0} (f : B → ℕ) where
-  -- the sum of what f gives for each block with a user or local, at the start and at the end
+  -- the sum of f over the blocks with a user or local, at the start and at the end
   abbrev pub at_start : List (Story B) → ℕ
   at_start users = tally (λ u. tally f u.start.with_user + tally f u.start.local) users
 
@@ -177,18 +177,18 @@ module _ {B : Type 0} (f : B → ℕ) where
   at_end users = tally (λ u. tally f u.end.with_user + tally f u.end.local) users
 
   -- the same for each block that users came by, and for each that they let go of
-  abbrev pub all_gained : List (Story B) → ℕ
-  all_gained users = tally (λ u. tally f (gained u.calls)) users
+  abbrev pub all_gains : List (Story B) → ℕ
+  all_gains users = tally (λ u. tally f (gains u.calls)) users
 
-  abbrev pub all_lost : List (Story B) → ℕ
-  all_lost users = tally (λ u. tally f (lost u.calls)) users
+  abbrev pub all_losses : List (Story B) → ℕ
+  all_losses users = tally (λ u. tally f (losses u.calls)) users
 
 module _ {P H B : Type 0} (block : H → B) where
   -- a legal history, whose pushes and takings are those of these users
   pub record IsOf (users : List (Story B)) (h : List (Event P H)) : Type 0 where
     pub legal : Legal h
     pub pushed : (f : B → ℕ) → tally (λ e. f (block e)) (pushes h) ≡ tally (λ u. tally f u.end.put_back) users
-    pub took : (f : B → ℕ) → tally (λ e. f (block e)) (taken h) ≡ tally (λ u. tally f u.end.fetched) users
+    pub took : (f : B → ℕ) → tally (λ e. f (block e)) (taken_elements h) ≡ tally (λ u. tally f u.end.fetched) users
 
   -- the sum at the end, and of what is held
   abbrev pub everywhere : (B → ℕ) → List (Story B) → List (Event P H) → ℕ

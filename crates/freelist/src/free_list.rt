@@ -20,7 +20,9 @@ use std::marker::Model;
 /// takes as a whole when the local one is empty. A room is a unit of capacity: a shared block uses one. Each call is
 /// made through a party of this list: a handle through which a thread acts, and which has some of the rooms.
 ///
-/// A contract sees the list's table, by which it knows the parties of this list: their `table` is the same.
+/// A contract sees the list's table, by which it knows the parties of this list: their `table` is the same. What
+/// happened to the list is told by what its parties have seen, their observed prefix of its history. A party's share is
+/// its permission, and a whole party has the full one.
 ///
 /// # Complexity
 /// Dropping the list drops the shared blocks: O(r), for r rooms.

@@ -8,7 +8,7 @@ use Rattle.cordyceps_stack.specs.declared.cores.steps.TransferAnswer.TheVariants
 use Rattle.cordyceps_stack.specs.declared.cores.steps.TransferAnswer.TheVariants.{Gives, Last}
 use Rattle.cordyceps_stack.specs.Cores.CoreMeets.{core_step}
 use Rattle.cordyceps_stack.specs.Cores.Alone.{push_steps, take_steps}
-use Rattle.cordyceps_stack.specs.Cores.Machine.{Answered, new_machine, with_party, with_room, held_in, stepped}
+use Rattle.cordyceps_stack.specs.Cores.Machine.{Answered, new_machine, with_party, with_room, held_in, after_step}
 use Rattle.cordyceps_stack.specs.Cores.Machine.{is_at_rest, is_ready}
 use Rattle.cordyceps_stack.specs.Cores.Machine as cores
 use Rattle.replay_driver.specs.Script.{Machine}
@@ -36,7 +36,7 @@ told (Err refused) = not_there
 
 -- a party's step, and its answer
 abbrev pub takes_step : Core → ℕ → TransferStep Item → Core × CoreLine
-takes_step m p s = let out = stepped m p s in (out.0, told out.1)
+takes_step m p s = let out = after_step m p s in (out.0, told out.1)
 
 -- the core after a command, and the reply
 abbrev pub step : Core → TransferCommand → Core × CoreLine

@@ -4,7 +4,7 @@ use Rattle.cordyceps_shared.specs.Histories.{plain, own, AllOwn}
 use Rattle.cordyceps_shared.proofs.Adding.{plain_own}
 use Rattle.cordyceps_shared.proofs.Interleaving.{all_left, all_right}
 use Rattle.cordyceps_shared.specs.Interleaving.{Interleaves}
-use Rattle.cordyceps_shared.specs.Knowing.{merged}
+use Rattle.cordyceps_shared.specs.Knowing.{merge_marks}
 use Rattle.cordyceps_stack.specs.History.{Event, Load, Push, Taken, pushes, held_after, held_from}
 use Rattle.replay_sharing.specs.Sharing.{NoBatch}
 
@@ -38,16 +38,16 @@ module _ {P E : Type 0} (Mine : E → Type 0) where
 
   -- two parties saw beginnings of one history, each event of which is one's or the other's, and what the one pushed the
   -- other did not: what was pushed is what each pushed, in its order
-  pub pushed_by_both : (xs ys : List (Bool × Event P E)) (rest : List (Event P E)) → AllOwn (merged xs ys) → plain (merged xs ys) ≡ plain ys ++ rest
-      → Every Mine (pushes (own xs)) → Every (Other Mine) (pushes (own ys)) → Interleaves (pushes (own xs)) (pushes (own ys)) (pushes (plain (merged xs ys)))
+  pub pushed_by_both : (xs ys : List (Bool × Event P E)) (rest : List (Event P E)) → AllOwn (merge_marks xs ys) → plain (merge_marks xs ys) ≡ plain ys ++ rest
+      → Every Mine (pushes (own xs)) → Every (Other Mine) (pushes (own ys)) → Interleaves (pushes (own xs)) (pushes (own ys)) (pushes (plain (merge_marks xs ys)))
   pushed_by_both [] ys rest a e m n = subst (λ z. Interleaves [] (pushes z) (pushes (plain ys))) (plain_own ys a) (all_right (pushes (plain ys)))
   pushed_by_both (x ∷ xs) [] rest a e m n = subst (λ z. Interleaves (pushes z) [] (pushes (plain (x ∷ xs)))) (plain_own (x ∷ xs) a) (all_left (pushes (plain (x ∷ xs))))
   pushed_by_both (x ∷ xs) (y ∷ ys) rest a e m n =
       let same : y.1 ≡ x.1 = cc in
-      let more : plain (merged xs ys) ≡ plain ys ++ rest = cc in
+      let more : plain (merge_marks xs ys) ≡ plain ys ++ rest = cc in
       let n' = subst (λ v. Every (Other Mine) (pushes (marked y.0 v (own ys)))) same n in
-      subst (λ v. Interleaves (pushes (marked x.0 x.1 (own xs))) (pushes (marked y.0 v (own ys))) (pushes (x.1 ∷ plain (merged xs ys)))) (sym same)
-      (one_more x.1 x.0 y.0 (own xs) (own ys) (plain (merged xs ys)) a.0 m n' (pushed_by_both xs ys rest a.1 more))
+      subst (λ v. Interleaves (pushes (marked x.0 x.1 (own xs))) (pushes (marked y.0 v (own ys))) (pushes (x.1 ∷ plain (merge_marks xs ys)))) (sym same)
+      (one_more x.1 x.0 y.0 (own xs) (own ys) (plain (merge_marks xs ys)) a.0 m n' (pushed_by_both xs ys rest a.1 more))
 
 module _ {P E : Type 0} where
   no_more : (v : Event P E) (mine theirs : Bool) (xs ys zs : List (Event P E)) → (mine || theirs) ≡ true → NoBatch (cond mine (v ∷ xs) xs) → NoBatch (cond theirs (v ∷ ys) ys)
@@ -63,13 +63,13 @@ module _ {P E : Type 0} where
   no_more (Taken p b) false true xs ys zs a m n more = absurd n
 
   -- neither took, so nothing was taken
-  pub none_taken : (xs ys : List (Bool × Event P E)) (rest : List (Event P E)) → AllOwn (merged xs ys) → plain (merged xs ys) ≡ plain ys ++ rest → NoBatch (own xs) → NoBatch (own ys) → NoBatch (plain (merged xs ys))
+  pub none_taken : (xs ys : List (Bool × Event P E)) (rest : List (Event P E)) → AllOwn (merge_marks xs ys) → plain (merge_marks xs ys) ≡ plain ys ++ rest → NoBatch (own xs) → NoBatch (own ys) → NoBatch (plain (merge_marks xs ys))
   none_taken [] ys rest a e m n = subst (λ z. NoBatch z) (sym (plain_own ys a)) n
   none_taken (x ∷ xs) [] rest a e m n = subst (λ z. NoBatch z) (sym (plain_own (x ∷ xs) a)) m
   none_taken (x ∷ xs) (y ∷ ys) rest a e m n =
       let same : y.1 ≡ x.1 = cc in
-      let more : plain (merged xs ys) ≡ plain ys ++ rest = cc in
-      no_more x.1 x.0 y.0 (own xs) (own ys) (plain (merged xs ys)) a.0 m (subst (λ v. NoBatch (cond y.0 (v ∷ own ys) (own ys))) same n) (none_taken xs ys rest a.1 more)
+      let more : plain (merge_marks xs ys) ≡ plain ys ++ rest = cc in
+      no_more x.1 x.0 y.0 (own xs) (own ys) (plain (merge_marks xs ys)) a.0 m (subst (λ v. NoBatch (cond y.0 (v ∷ own ys) (own ys))) same n) (none_taken xs ys rest a.1 more)
 
   -- what is held after events none of which is a taking
   pub held_pushed : (es : List E) (h : List (Event P E)) → NoBatch h → held_from es h ≡ es ++ pushes h

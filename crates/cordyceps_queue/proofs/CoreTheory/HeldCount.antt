@@ -15,7 +15,7 @@ use Rattle.cordyceps_queue.specs.Past as past
 use Rattle.cordyceps_queue.specs.Cores.CoreMeets.{CoreMeets, abstract_of, party_at}
 use Rattle.cordyceps_shared.specs.Rooms.{occupied}
 use Rattle.cordyceps_queue.specs.Cores.Drain.{is_cleared, count_held}
-use Rattle.cordyceps_shared.specs.Rooms.{change, freeing, element_in}
+use Rattle.cordyceps_shared.specs.Rooms.{change, as_free_room, element_in}
 use Rattle.cordyceps_queue.specs.Cores.Machine.{Machine}
 use Rattle.cordyceps_shared.specs.Places.{ItemAt}
 use Rattle.cordyceps_queue.specs.Cores.Meets.{real, Owner, Shared, Ready}
@@ -28,12 +28,12 @@ module _ {E : Type 0} where
   abbrev is_full : Option (Room E) → Bool
   is_full room = is_some (element_in room)
 
-  occupied_freed : (r : ℕ) (rooms : List (Room E)) → is_full (slice_get rooms r) ≡ true → occupied (change (freeing 0) r rooms) + 1 ≡ occupied rooms
+  occupied_freed : (r : ℕ) (rooms : List (Room E)) → is_full (slice_get rooms r) ≡ true → occupied (change (as_free_room 0) r rooms) + 1 ≡ occupied rooms
   occupied_freed r [] full = let no : ⊥ = cc in absurd no
   occupied_freed zero (x ∷ xs) full =
       let one = ap one_if full in
-      omega (arith, one, occupied_cons (freeing 0 x) xs, occupied_cons x xs)
-  occupied_freed (suc r) (x ∷ xs) full = omega (arith, occupied_freed r xs full, occupied_cons x xs, occupied_cons x (change (freeing 0) r xs))
+      omega (arith, one, occupied_cons (as_free_room 0 x) xs, occupied_cons x xs)
+  occupied_freed (suc r) (x ∷ xs) full = omega (arith, occupied_freed r xs full, occupied_cons x xs, occupied_cons x (change (as_free_room 0) r xs))
 
   -- rooms that differ and have an element are at most those that have one
   full_few : (xs : List ℕ) (rooms : List (Room E)) → ((r : ℕ) → times r xs ≤ 1) → ((r : ℕ) → 1 ≤ times r xs → is_full (slice_get rooms r) ≡ true) → length xs ≤ occupied rooms
@@ -41,9 +41,9 @@ module _ {E : Type 0} where
   full_few (x ∷ xs) rooms once full =
       let here = one_here x in
       let less = occupied_freed x rooms (full x (omega arith)) in
-      let rest = full_few xs (change (freeing 0) x rooms) (λ r. omega (arith, once r)) (λ r m.
+      let rest = full_few xs (change (as_free_room 0) x rooms) (λ r. omega (arith, once r)) (λ r m.
       let apart : r ≢ x = λ e. let both = ap (λ z. times z xs) e in absurd (omega (arith, once x)) in
-      ap is_full (slice_get-change_other (freeing 0) rooms x r apart) ∙ full r (omega arith)) in
+      ap is_full (slice_get-change_other (as_free_room 0) rooms x r apart) ∙ full r (omega arith)) in
       omega (arith, less, rest)
 
 -- ---- the rooms that parties have cleared

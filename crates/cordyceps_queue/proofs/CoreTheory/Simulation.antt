@@ -13,7 +13,7 @@ use Rattle.cordyceps_queue.specs.declared.cores.steps.QueueStep.TheVariants as s
 use Rattle.cordyceps_queue.specs.declared.cores.steps.QueueAnswer.TheVariants as answer
 use Rattle.cordyceps_queue.specs.History.{Event}
 use Rattle.cordyceps_queue.specs.Cores.Machine as core
-use Rattle.cordyceps_shared.specs.Rooms.{change, linking, freeing, next_in, element_in, is_free_for}
+use Rattle.cordyceps_shared.specs.Rooms.{change, with_link, as_free_room, next_in, element_in, is_free_for}
 use Rattle.cordyceps_queue.specs.Cores.Machine.{Machine, Outcome, with_element, free_rooms, refusal, events_of}
 use Rattle.cordyceps_queue.specs.Cores.Abstract as words
 use Rattle.cordyceps_queue.specs.Cores.Abstract.{AbstractParty, AbstractMachine, Move, update, insert_room}
@@ -93,15 +93,15 @@ module _ {E : Type 0} where
 
     -- a room is linked
     links : (at_room : ℕ) (room : Room E) (next : Option ℕ) (new : Stage) → slice_get m.rooms at_room ≡ Some room →
-        let after : Machine E = record { head = m.head; right = m.right; rooms = change (linking next) at_room m.rooms; parties = slice_set m.parties p new } in
+        let after : Machine E = record { head = m.head; right = m.right; rooms = change (with_link next) at_room m.rooms; parties = slice_set m.parties p new } in
         (abstract_of after ≡ record (words.set_stage (abstract_of m) p me new) { next = update (read next_in m.rooms) at_room next }) × IsOwned after
     links at_room room next new there =
-        let same : (k : ℕ) → free_rooms k (change (linking next) at_room m.rooms) ≡ free_rooms k m.rooms = λ k. free_same k (linking next) m.rooms 0 at_room (λ y e. refl) in (
-          words_eq m.head (right_word m.right) (length (change (linking next) at_room m.rooms)) (length m.rooms) (read next_in (change (linking next) at_room m.rooms)) (update (read next_in m.rooms) at_room next)
-              (read element_in (change (linking next) at_room m.rooms)) (read element_in m.rooms) _ _
-              (length-change (linking next) at_room m.rooms) (read_changed next_in (linking next) m.rooms at_room room there) (read_same element_in (linking next) m.rooms at_room (λ y. refl))
-              (parties_put m.rooms (change (linking next) at_room m.rooms) m.parties p stage new (free_rooms p m.rooms) at (same p) (λ k ne. same k)),
-          owned_by m.head m.right (change (linking next) at_room m.rooms) new (λ k ne. same k),
+        let same : (k : ℕ) → free_rooms k (change (with_link next) at_room m.rooms) ≡ free_rooms k m.rooms = λ k. free_same k (with_link next) m.rooms 0 at_room (λ y e. refl) in (
+          words_eq m.head (right_word m.right) (length (change (with_link next) at_room m.rooms)) (length m.rooms) (read next_in (change (with_link next) at_room m.rooms)) (update (read next_in m.rooms) at_room next)
+              (read element_in (change (with_link next) at_room m.rooms)) (read element_in m.rooms) _ _
+              (length-change (with_link next) at_room m.rooms) (read_changed next_in (with_link next) m.rooms at_room room there) (read_same element_in (with_link next) m.rooms at_room (λ y. refl))
+              (parties_put m.rooms (change (with_link next) at_room m.rooms) m.parties p stage new (free_rooms p m.rooms) at (same p) (λ k ne. same k)),
+          owned_by m.head m.right (change (with_link next) at_room m.rooms) new (λ k ne. same k),
         )
 
     -- the least free room gets an element
@@ -125,17 +125,17 @@ module _ {E : Type 0} where
 
     -- the tail's room is the party's
     frees : (t r : ℕ) (room : Room E) → slice_get m.rooms t ≡ Some room → ((k : ℕ) → is_free_for k room ≡ false) →
-        let after : Machine E = record { head = m.head; right = m.right; rooms = change (freeing p) t m.rooms; parties = slice_set m.parties p (Holding r) } in
+        let after : Machine E = record { head = m.head; right = m.right; rooms = change (as_free_room p) t m.rooms; parties = slice_set m.parties p (Holding r) } in
         (abstract_of after ≡ words.hand_out (abstract_of m) p me t r) × IsOwned after
     frees t r room there used =
         let here : t + 0 ≡ t = omega arith in
-        let mine : free_rooms p (change (freeing p) t m.rooms) ≡ insert_room t (free_rooms p m.rooms) = free_more p (freeing p) m.rooms 0 t room there (used p) (own_room p) ∙ ap (λ n. insert_room n (free_rooms p m.rooms)) here in
-        let others : (k : ℕ) → k ≢ p → free_rooms k (change (freeing p) t m.rooms) ≡ free_rooms k m.rooms = λ k ne. free_same k (freeing p) m.rooms 0 t (λ y got. others_room k p ne ∙ sym (used k) ∙ ap (is_free_for k) (some_inj (sym there ∙ got))) in (
-          words_eq m.head (right_word m.right) (length (change (freeing p) t m.rooms)) (length m.rooms) (read next_in (change (freeing p) t m.rooms)) (read next_in m.rooms)
-              (read element_in (change (freeing p) t m.rooms)) (update (read element_in m.rooms) t None) _ _
-              (length-change (freeing p) t m.rooms) (read_same next_in (freeing p) m.rooms t (λ y. refl)) (read_changed element_in (freeing p) m.rooms t room there)
-              (parties_put m.rooms (change (freeing p) t m.rooms) m.parties p stage (Holding r) (insert_room t (free_rooms p m.rooms)) at mine others),
-          owned_by m.head m.right (change (freeing p) t m.rooms) (Holding r) others,
+        let mine : free_rooms p (change (as_free_room p) t m.rooms) ≡ insert_room t (free_rooms p m.rooms) = free_more p (as_free_room p) m.rooms 0 t room there (used p) (own_room p) ∙ ap (λ n. insert_room n (free_rooms p m.rooms)) here in
+        let others : (k : ℕ) → k ≢ p → free_rooms k (change (as_free_room p) t m.rooms) ≡ free_rooms k m.rooms = λ k ne. free_same k (as_free_room p) m.rooms 0 t (λ y got. others_room k p ne ∙ sym (used k) ∙ ap (is_free_for k) (some_inj (sym there ∙ got))) in (
+          words_eq m.head (right_word m.right) (length (change (as_free_room p) t m.rooms)) (length m.rooms) (read next_in (change (as_free_room p) t m.rooms)) (read next_in m.rooms)
+              (read element_in (change (as_free_room p) t m.rooms)) (update (read element_in m.rooms) t None) _ _
+              (length-change (as_free_room p) t m.rooms) (read_same next_in (as_free_room p) m.rooms t (λ y. refl)) (read_changed element_in (as_free_room p) m.rooms t room there)
+              (parties_put m.rooms (change (as_free_room p) t m.rooms) m.parties p stage (Holding r) (insert_room t (free_rooms p m.rooms)) at mine others),
+          owned_by m.head m.right (change (as_free_room p) t m.rooms) (Holding r) others,
         )
 
     module _ (c : Chain) (h : List (Event ℕ E)) (M : Meets (abstract_of m) c h) where

@@ -33,7 +33,7 @@ use Rattle.cordyceps_queue.specs.declared.cores.steps.QueueStep.TheVariants as s
 use Rattle.cordyceps_queue.specs.declared.cores.steps.QueueAnswer.{QueueAnswer}
 use Rattle.cordyceps_queue.specs.declared.cores.steps.QueueAnswer.TheVariants as answer
 use Rattle.cordyceps_shared.specs.declared.room.Room.{Room}
-use Rattle.cordyceps_shared.specs.Rooms.{change, linking, freeing, is_free_for, element_in, next_in}
+use Rattle.cordyceps_shared.specs.Rooms.{change, with_link, as_free_room, is_free_for, element_in, next_in}
 use Rattle.cordyceps_queue.specs.History.{Event}
 
 -- the words, the rooms with the stub's as room 0, and the stage of each party by its number; the right is the tail, or
@@ -111,7 +111,7 @@ module _ {E : Type 0} where
     record {
       head = m.head;
       right = m.right;
-      rooms = change (linking next) r m.rooms;
+      rooms = change (with_link next) r m.rooms;
       parties = slice_set m.parties p stage;
     },
     Ok answer.Done,
@@ -135,7 +135,7 @@ module _ {E : Type 0} where
     record {
       head = m.head;
       right = m.right;
-      rooms = change (freeing p) t m.rooms;
+      rooms = change (as_free_room p) t m.rooms;
       parties = slice_set m.parties p (Holding r);
     },
     Ok (answer.Out e),

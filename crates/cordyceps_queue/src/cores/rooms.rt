@@ -2,7 +2,7 @@
 ghost use Rattle.std.specs.Prelude.{◌≡◌, ◌<◌, ◌++◌, [], ◌∷◌, length, slice_get, is_some, IsSome, IfSome, Some, None, OnOk, OnErr};
 ghost use Rattle.std.specs.List.{position};
 ghost use Rattle.cordyceps_shared.specs.Rooms.{occupied};
-ghost use Rattle.cordyceps_shared.specs.Rooms.{change, linking, freeing, is_free_for, element_in, next_in};
+ghost use Rattle.cordyceps_shared.specs.Rooms.{change, with_link, as_free_room, is_free_for, element_in, next_in};
 ghost use Rattle.cordyceps_queue.specs.Cores.Machine.{with_element, stub_room, least_free};
 
 use cordyceps_shared::room::Room;
@@ -105,7 +105,7 @@ impl<E: Drop> Rooms<E> {
     /// Makes a room lead to another.
     pub(crate) fn link(&mut self, room: usize, next: Option<usize>)
         requires { room < length self.old }
-        ensures { self.new ≡ change (linking next) room self.old }
+        ensures { self.new ≡ change (with_link next) room self.old }
     {
         if room == 0 {
             self.stub_next = next;
@@ -117,7 +117,7 @@ impl<E: Drop> Rooms<E> {
     /// Takes the element out of a room, which is then a free one of the party.
     pub(crate) fn free(&mut self, room: usize, party: usize) -> E
         requires { IsSome (element_in (slice_get self.old room)) }
-        ensures rooms { self.new ≡ change (freeing party) room self.old }
+        ensures rooms { self.new ≡ change (as_free_room party) room self.old }
         ensures element { element_in (slice_get self.old room) ≡ Some result }
     {
         let freed = &mut self.list[room - 1];

@@ -12,8 +12,8 @@ use Rattle.cordyceps_stack.specs.declared.cores.stage.Stage.{Stage}
 use Rattle.cordyceps_stack.specs.declared.cores.stage.Stage.TheVariants.{Rest, Loaded, Set}
 use Rattle.cordyceps_shared.specs.declared.room.Room.{Room}
 use Rattle.cordyceps_stack.specs.History.{Event, Load, Push, held}
-use Rattle.cordyceps_shared.specs.Rooms.{change, linking}
-use Rattle.cordyceps_stack.specs.Cores.Machine.{Machine, Outcome, holding, least_free, stepped, is_rest, is_at_rest, is_ready, in_hand_at, answered_events}
+use Rattle.cordyceps_shared.specs.Rooms.{change, with_link}
+use Rattle.cordyceps_stack.specs.Cores.Machine.{Machine, Outcome, with_element, least_free, after_step, is_rest, is_at_rest, is_ready, in_hand_at, events_of_answered}
 use Rattle.cordyceps_stack.specs.Cores.CoreMeets.{CoreMeets, AnswerSays}
 use Rattle.cordyceps_shared.proofs.ListWrites.{slice_get-set_same, slice_get-change_same}
 use Rattle.cordyceps_shared.proofs.Choices.{both_from, some_from}
@@ -37,9 +37,9 @@ module _ {E : Type 0} where
     pub loaded : Machine E
     pub linked : Machine E
     pub pushed : Machine E
-    pub loads : stepped m p (step.Load e) ≡ (loaded, Ok answer.Done)
-    pub links : stepped loaded p step.SetNext ≡ (linked, Ok answer.Done)
-    pub pushes : stepped linked p step.Exchange ≡ (pushed, Ok (answer.Pushed (is_none m.head)))
+    pub loads : after_step m p (step.Load e) ≡ (loaded, Ok answer.Done)
+    pub links : after_step loaded p step.SetNext ≡ (linked, Ok answer.Done)
+    pub pushes : after_step linked p step.Exchange ≡ (pushed, Ok (answer.Pushed (is_none m.head)))
     pub hand : in_hand_at linked.rooms (slice_get linked.parties p) ≡ Some e
 
   pushing_at : (m : Machine E) (p r : ℕ) (e : E) (room : Room E) → slice_get m.parties p ≡ Some Rest
@@ -48,12 +48,12 @@ module _ {E : Type 0} where
       let a : Attempt = record { room = r; read = m.head } in
       let ps : List Stage = set m.parties p (Loaded a) in
       let qs : List Stage = set ps p (Set a) in
-      let rooms : List (Room E) = change (holding e) r m.rooms in
+      let rooms : List (Room E) = change (with_element e) r m.rooms in
       let m1 : Machine E = record { head = m.head; rooms = rooms; parties = ps } in
-      let m2 : Machine E = record { head = m.head; rooms = change (linking m.head) r rooms; parties = qs } in
+      let m2 : Machine E = record { head = m.head; rooms = change (with_link m.head) r rooms; parties = qs } in
       let at1 : slice_get ps p ≡ Some (Loaded a) = slice_get-set_same m.parties p (Loaded a) Rest at in
       let at2 : slice_get qs p ≡ Some (Set a) = slice_get-set_same ps p (Set a) (Loaded a) at1 in
-      let got2 : slice_get (change (linking m.head) r rooms) r ≡ Some (linking m.head (holding e room)) = slice_get-change_same (linking m.head) rooms r (holding e room) (slice_get-change_same (holding e) m.rooms r room got) in
+      let got2 : slice_get (change (with_link m.head) r rooms) r ≡ Some (with_link m.head (with_element e room)) = slice_get-change_same (with_link m.head) rooms r (with_element e room) (slice_get-change_same (with_element e) m.rooms r room got) in
       record {
         loaded = m1;
         linked = m2;
@@ -73,10 +73,10 @@ module _ {E : Type 0} where
       pushing_at m p free.0 e room.0 at free.1 room.1
 
   -- what one step keeps, at its outcome
-  pub step_to : (h : List (Event ℕ E)) (m : Machine E) (p : ℕ) (s : TransferStep E) (out : Outcome E) → stepped m p s ≡ out
+  pub step_to : (h : List (Event ℕ E)) (m : Machine E) (p : ℕ) (s : TransferStep E) (out : Outcome E) → after_step m p s ≡ out
       → CoreMeets h m
-      → CoreMeets (h ++ answered_events h p (in_hand_at m.rooms (slice_get m.parties p)) s out.1) out.0 × AnswerSays h p out.1
-  step_to h m p s out e was = subst (λ (o : Outcome E). CoreMeets (h ++ answered_events h p (in_hand_at m.rooms (slice_get m.parties p)) s o.1) o.0 × AnswerSays h p o.1) e (core_steps h m p s was)
+      → CoreMeets (h ++ events_of_answered h p (in_hand_at m.rooms (slice_get m.parties p)) s out.1) out.0 × AnswerSays h p out.1
+  step_to h m p s out e was = subst (λ (o : Outcome E). CoreMeets (h ++ events_of_answered h p (in_hand_at m.rooms (slice_get m.parties p)) s o.1) o.0 × AnswerSays h p o.1) e (core_steps h m p s was)
 
   pub push_meets : (h : List (Event ℕ E)) (m : Machine E) (p : ℕ) (e : E) → (run : Pushing m p e) → CoreMeets h m
       → CoreMeets ((h ++ Load p ∷ []) ++ Push p e ∷ []) run.pushed × ((is_none m.head ≡ true) ↔ (held h ≡ []))
@@ -89,15 +89,15 @@ module _ {E : Type 0} where
       (last, rw (held_more h (Load p)) at three.1)
 
   -- three steps of a ready party end the push
-  pub push_ends : (m m1 m2 m3 : Machine E) (p : ℕ) (e : E) → (run : Pushing m p e) → m1 ≡ (stepped m p (step.Load e)).0
-      → m2 ≡ (stepped m1 p step.SetNext).0 → m3 ≡ (stepped m2 p step.Exchange).0 → m3 ≡ run.pushed
+  pub push_ends : (m m1 m2 m3 : Machine E) (p : ℕ) (e : E) → (run : Pushing m p e) → m1 ≡ (after_step m p (step.Load e)).0
+      → m2 ≡ (after_step m1 p step.SetNext).0 → m3 ≡ (after_step m2 p step.Exchange).0 → m3 ≡ run.pushed
   push_ends m m1 m2 m3 p e run a c d =
       let first : m1 ≡ run.loaded = a ∙ ap (λ (o : Outcome E). o.0) run.loads in
-      let second : m2 ≡ run.linked = c ∙ (ap (λ (n : Machine E). (stepped n p step.SetNext).0) first ∙ ap (λ (o : Outcome E). o.0) run.links) in
-      d ∙ (ap (λ (n : Machine E). (stepped n p step.Exchange).0) second ∙ ap (λ (o : Outcome E). o.0) run.pushes)
+      let second : m2 ≡ run.linked = c ∙ (ap (λ (n : Machine E). (after_step n p step.SetNext).0) first ∙ ap (λ (o : Outcome E). o.0) run.links) in
+      d ∙ (ap (λ (n : Machine E). (after_step n p step.Exchange).0) second ∙ ap (λ (o : Outcome E). o.0) run.pushes)
 
-  pub push_alone : (m m1 m2 m3 : Machine E) (p : ℕ) (e : E) → is_ready m p ≡ true → m1 ≡ (stepped m p (step.Load e)).0
-      → m2 ≡ (stepped m1 p step.SetNext).0 → m3 ≡ (stepped m2 p step.Exchange).0
+  pub push_alone : (m m1 m2 m3 : Machine E) (p : ℕ) (e : E) → is_ready m p ≡ true → m1 ≡ (after_step m p (step.Load e)).0
+      → m2 ≡ (after_step m1 p step.SetNext).0 → m3 ≡ (after_step m2 p step.Exchange).0
       → (h : List (Event ℕ E)) → CoreMeets h m
       → CoreMeets ((h ++ Load p ∷ []) ++ Push p e ∷ []) m3 × ((is_none m.head ≡ true) ↔ (held h ≡ []))
   push_alone m m1 m2 m3 p e ready a c d h was =

@@ -9,9 +9,9 @@ use Rattle.cordyceps_stack.specs.declared.cores.stage.Stage.{Stage}
 use Rattle.cordyceps_stack.specs.declared.cores.stage.Stage.TheVariants.{Rest, Walking}
 use Rattle.cordyceps_shared.specs.declared.room.Room.{Room}
 use Rattle.cordyceps_stack.specs.History.{Event, Taken, held}
-use Rattle.cordyceps_shared.specs.Rooms.{change, freeing, element_in, next_in}
+use Rattle.cordyceps_shared.specs.Rooms.{change, as_free_room, element_in, next_in}
 use Rattle.cordyceps_shared.specs.Rooms.{occupied}
-use Rattle.cordyceps_stack.specs.Cores.Machine.{stepped, Machine, stage_after_walk, elements_from, held_in}
+use Rattle.cordyceps_stack.specs.Cores.Machine.{after_step, Machine, stage_after_walk, elements_from, held_in}
 use Rattle.cordyceps_stack.specs.Cores.Stages.{room_in_use, NotAmong, LeadsThrough, room_elements}
 use Rattle.cordyceps_stack.specs.Cores.CoreMeets.{core_step, CoreMeets, IsSound}
 use Rattle.cordyceps_stack.specs.Cores.Alone.{take_steps}
@@ -58,18 +58,18 @@ module _ {E : Type 0} where
       (keeps_nothing h m p was at top))
   start_meets h m p (Some r) was at top = keeps_take h m p r was at top
 
-  start_steps : (m : Machine E) (p : ℕ) (top : Option ℕ) → slice_get m.parties p ≡ Some Rest → m.head ≡ top → record { head = None; rooms = m.rooms; parties = set m.parties p (stage_after_walk top) } ≡ (stepped m p step.Take).0
+  start_steps : (m : Machine E) (p : ℕ) (top : Option ℕ) → slice_get m.parties p ≡ Some Rest → m.head ≡ top → record { head = None; rooms = m.rooms; parties = set m.parties p (stage_after_walk top) } ≡ (after_step m p step.Take).0
   start_steps m p None at top = rw (at, top, set_as_it_was m.parties p Rest at) refl
   start_steps m p (Some r) at top = rw (at, top) refl
 
   -- one walking step more
   more_steps : (first : Machine E) (p r walks : ℕ) (rooms : List (Room E)) (parties : List Stage) (e : E) (next : Option ℕ) → slice_get parties p ≡ Some Rest → slice_get rooms r ≡ Some (room_in_use e next) → record { head = None; rooms = rooms; parties = set parties p (Walking r) } ≡ after core_step first (take_steps p walks)
-      → record { head = None; rooms = change (freeing p) r rooms; parties = set parties p (stage_after_walk next) } ≡ after core_step first (take_steps p (suc walks))
+      → record { head = None; rooms = change (as_free_room p) r rooms; parties = set parties p (stage_after_walk next) } ≡ after core_step first (take_steps p (suc walks))
   more_steps first p r walks rooms parties e next at got before =
       let m : Machine E = record { head = None; rooms = rooms; parties = set parties p (Walking r) } in
       let there : slice_get m.parties p ≡ Some (Walking r) = slice_get-set_same parties p (Walking r) Rest at in
-      let one : record { head = None; rooms = change (freeing p) r rooms; parties = set parties p (stage_after_walk next) } ≡ (stepped m p step.Walk).0 = rw (there, got, set-set) refl in
-      one ∙ (ap (λ (n : Machine E). (stepped n p step.Walk).0) before ∙ (sym (after-push core_step first (take_steps p walks) (p, step.Walk)) ∙ ap (λ ws. after core_step first ((p, step.Take) ∷ ws)) (one_more walks (p, step.Walk))))
+      let one : record { head = None; rooms = change (as_free_room p) r rooms; parties = set parties p (stage_after_walk next) } ≡ (after_step m p step.Walk).0 = rw (there, got, set-set) refl in
+      one ∙ (ap (λ (n : Machine E). (after_step n p step.Walk).0) before ∙ (sym (after-push core_step first (take_steps p walks) (p, step.Walk)) ∙ ap (λ ws. after core_step first ((p, step.Take) ∷ ws)) (one_more walks (p, step.Walk))))
 
   pub clear_start : (m : Machine E) (p : ℕ) → IsSound m → slice_get m.parties p ≡ Some Rest
       → Clearing m p m.rooms m.parties m.head []
@@ -89,12 +89,12 @@ module _ {E : Type 0} where
         );
       }
 
-  -- there is an element where the walk stands
+  -- there is an element where the walk is
   pub clear_room : (first : Machine E) (p r : ℕ) (rooms : List (Room E)) (parties : List Stage) (given : List E)
       → Clearing first p rooms parties (Some r) given → (e : E) × (next : Option ℕ) × (slice_get rooms r ≡ Some (room_in_use e next))
   clear_room first p r rooms parties given c = let hands = (c.law c.sound.0 c.sound.1).1 in first_of_rest rooms hands.own (Some p) r hands.rest hands.links
 
-  hands_on : (all given : List E) (rooms : List (Room E)) (p r : ℕ) (e : E) (next : Option ℕ) (own : ℕ → Option ℕ) (rest : List (ℕ × E)) → LeadsThrough rooms own (Some p) (Some r) rest → given ++ room_elements rest ≡ all → slice_get rooms r ≡ Some (room_in_use e next) → Hands all (given ++ e ∷ []) (change (freeing p) r rooms) p next
+  hands_on : (all given : List E) (rooms : List (Room E)) (p r : ℕ) (e : E) (next : Option ℕ) (own : ℕ → Option ℕ) (rest : List (ℕ × E)) → LeadsThrough rooms own (Some p) (Some r) rest → given ++ room_elements rest ≡ all → slice_get rooms r ≡ Some (room_in_use e next) → Hands all (given ++ e ∷ []) (change (as_free_room p) r rooms) p next
   hands_on all given rooms p r e next own [] l whole got = let no : ⊥ = cc in absurd no
   hands_on all given rooms p r e next own (x ∷ xs) l whole got =
       let start : x.0 ≡ r = let first = l.1 in cc in
@@ -106,11 +106,11 @@ module _ {E : Type 0} where
       record {
         own = own;
         rest = xs;
-        links = LeadsThrough-change (freeing p) rooms own (Some p) next xs r (subst (λ s. NotAmong s xs) start l.4) (subst (λ top. LeadsThrough rooms own (Some p) top xs) link l.5);
+        links = LeadsThrough-change (as_free_room p) rooms own (Some p) next xs r (subst (λ s. NotAmong s xs) start l.4) (subst (λ top. LeadsThrough rooms own (Some p) top xs) link l.5);
         whole = append_assoc given (e ∷ []) (room_elements xs) ∙ (ap (λ (y : E). given ++ y ∷ room_elements xs) (sym element) ∙ whole);
       }
 
-  pub clear_more : (first : Machine E) (p r : ℕ) (rooms : List (Room E)) (parties : List Stage) (given : List E) (e : E) (next : Option ℕ) → Clearing first p rooms parties (Some r) given → slice_get rooms r ≡ Some (room_in_use e next) → Clearing first p (change (freeing p) r rooms) parties next (given ++ e ∷ [])
+  pub clear_more : (first : Machine E) (p r : ℕ) (rooms : List (Room E)) (parties : List Stage) (given : List E) (e : E) (next : Option ℕ) → Clearing first p rooms parties (Some r) given → slice_get rooms r ≡ Some (room_in_use e next) → Clearing first p (change (as_free_room p) r rooms) parties next (given ++ e ∷ [])
   clear_more first p r rooms parties given e next c got =
       record {
         sound = c.sound;
@@ -134,16 +134,16 @@ module _ {E : Type 0} where
 
   -- a room fewer has an element
   pub occupied_freed : (p r : ℕ) (rooms : List (Room E)) (e : E) (next : Option ℕ) → slice_get rooms r ≡ Some (room_in_use e next)
-      → occupied (change (freeing p) r rooms) + 1 ≡ occupied rooms
+      → occupied (change (as_free_room p) r rooms) + 1 ≡ occupied rooms
   occupied_freed p r [] e next got = let no : ⊥ = cc in absurd no
   occupied_freed p zero (x ∷ xs) e next got =
       let same : x ≡ room_in_use e next = cc in
-      rw same (omega (arith, occupied_cons (freeing p (room_in_use e next)) xs, occupied_cons (room_in_use e next) xs))
+      rw same (omega (arith, occupied_cons (as_free_room p (room_in_use e next)) xs, occupied_cons (room_in_use e next) xs))
   occupied_freed p (suc r) (x ∷ xs) e next got =
-      let more : occupied (change (freeing p) r xs) + 1 ≡ occupied xs = occupied_freed p r xs e next got in
-      omega (arith, occupied_cons x xs, occupied_cons x (change (freeing p) r xs))
+      let more : occupied (change (as_free_room p) r xs) + 1 ≡ occupied xs = occupied_freed p r xs e next got in
+      omega (arith, occupied_cons x xs, occupied_cons x (change (as_free_room p) r xs))
 
-  pub clear_next : (first : Machine E) (p r : ℕ) (rooms : List (Room E)) (parties : List Stage) (given : List E) (rooms' : List (Room E)) (at' : Option ℕ) (x : E) → Clearing first p rooms parties (Some r) given → rooms' ≡ change (freeing p) r rooms → at' ≡ next_in (slice_get rooms r) → element_in (slice_get rooms r) ≡ Some x
+  pub clear_next : (first : Machine E) (p r : ℕ) (rooms : List (Room E)) (parties : List Stage) (given : List E) (rooms' : List (Room E)) (at' : Option ℕ) (x : E) → Clearing first p rooms parties (Some r) given → rooms' ≡ change (as_free_room p) r rooms → at' ≡ next_in (slice_get rooms r) → element_in (slice_get rooms r) ≡ Some x
       → Clearing first p rooms' parties at' (given ++ x ∷ [])
   clear_next first p r rooms parties given rooms' at' x c freed follows gave =
       let there = clear_room first p r rooms parties given c in
@@ -152,7 +152,7 @@ module _ {E : Type 0} where
       let next : at' ≡ there.1 = follows ∙ ap next_in there.2 in
       rw (freed, next, ← element) (clear_more first p r rooms parties given there.0 there.1 c there.2)
 
-  pub clear_counts : (first : Machine E) (p r : ℕ) (rooms : List (Room E)) (parties : List Stage) (given : List E) (rooms' : List (Room E)) → Clearing first p rooms parties (Some r) given → rooms' ≡ change (freeing p) r rooms → occupied rooms' + 1 ≡ occupied rooms
+  pub clear_counts : (first : Machine E) (p r : ℕ) (rooms : List (Room E)) (parties : List Stage) (given : List E) (rooms' : List (Room E)) → Clearing first p rooms parties (Some r) given → rooms' ≡ change (as_free_room p) r rooms → occupied rooms' + 1 ≡ occupied rooms
   clear_counts first p r rooms parties given rooms' c freed =
       let there = clear_room first p r rooms parties given c in
       ap (λ (rs : List (Room E)). occupied rs + 1) freed ∙ occupied_freed p r rooms there.0 there.1 there.2
@@ -164,7 +164,7 @@ module _ {E : Type 0} where
       let there = clear_room first p r rooms parties given c in
       let m : Machine E = record { head = None; rooms = rooms; parties = parties } in
       let both = element_at m r there in
-      let count : occupied (change (freeing p) r rooms) + 1 ≡ occupied rooms = occupied_freed p r rooms there.0 there.1 there.2 in
+      let count : occupied (change (as_free_room p) r rooms) + 1 ≡ occupied rooms = occupied_freed p r rooms there.0 there.1 there.2 in
       (both.0, both.1, omega (arith, count))
 
   pub clear_machine : (first : Machine E) (p : ℕ) (rooms : List (Room E)) (parties : List Stage) (given : List E) → Clearing first p rooms parties None given → record { head = None; rooms = rooms; parties = parties } ≡ after core_step first (take_steps p (length given))
@@ -187,8 +187,8 @@ module _ {E : Type 0} where
   chain_within : (rooms : List (Room E)) (own : ℕ → Option ℕ) (w start : Option ℕ) (xs : List (ℕ × E)) → LeadsThrough rooms own w start xs → length xs ≤ occupied rooms
   chain_within rooms own w start [] l = omega arith
   chain_within rooms own w start (x ∷ xs) l =
-      let freed = change (freeing 0) x.0 rooms in
-      let more : length xs ≤ occupied freed = chain_within freed own w l.0 xs (LeadsThrough-change (freeing 0) rooms own w l.0 xs x.0 l.4 l.5) in
+      let freed = change (as_free_room 0) x.0 rooms in
+      let more : length xs ≤ occupied freed = chain_within freed own w l.0 xs (LeadsThrough-change (as_free_room 0) rooms own w l.0 xs x.0 l.4 l.5) in
       let count : occupied freed + 1 ≡ occupied rooms = occupied_freed 0 x.0 rooms x.1 l.0 l.2 in
       omega (arith, more, count)
 

@@ -13,7 +13,7 @@ use Rattle.cordyceps_stack.specs.declared.cores.stage.Stage.TheVariants.{Rest, L
 use Rattle.cordyceps_shared.specs.declared.room.Room.{Room}
 use Rattle.cordyceps_stack.specs.History.{Event, held}
 use Rattle.cordyceps_shared.specs.Rooms.{element_in, next_in, is_free_for}
-use Rattle.cordyceps_stack.specs.Cores.Machine.{Machine, Outcome, least_free, load, exchange, take, walk, stepped_at, stepped, in_hand_at, answered_events}
+use Rattle.cordyceps_stack.specs.Cores.Machine.{Machine, Outcome, least_free, load, exchange, take, walk, after_step_at, after_step, in_hand_at, events_of_answered}
 use Rattle.cordyceps_stack.specs.Cores.Stages.{room_in_use, LeadsThrough}
 use Rattle.cordyceps_stack.specs.Cores.CoreMeets.{CoreMeets, AnswerSays, step_events}
 use Rattle.cordyceps_shared.proofs.Choices.{option_same, option_differ}
@@ -52,7 +52,7 @@ module _ {E : Type 0} where
 
   -- the step's outcome is the machine's, and the machine meets the history with the step's events
   abbrev pub Goes_on : List (Event ℕ E) → ℕ → Option E → TransferStep E → Outcome E → Type 0
-  Goes_on h p hand s out = CoreMeets (h ++ answered_events h p hand s out.1) out.0 × AnswerSays h p out.1
+  Goes_on h p hand s out = CoreMeets (h ++ events_of_answered h p hand s out.1) out.0 × AnswerSays h p out.1
 
   unchanged : (h : List (Event ℕ E)) (m : Machine E) → CoreMeets h m → CoreMeets (h ++ []) m
   unchanged h m was = subst (λ k. CoreMeets k m) (sym (append-nil h)) was
@@ -101,7 +101,7 @@ module _ {E : Type 0} where
       rw there.2 (walked_on h m p r there.0 there.1 was at there.2)
 
   goes_at : (h : List (Event ℕ E)) (m : Machine E) (p : ℕ) (s : TransferStep E) (o : Option Stage)
-      → CoreMeets h m → slice_get m.parties p ≡ o → Goes_on h p (in_hand_at m.rooms o) s (stepped_at m p s o)
+      → CoreMeets h m → slice_get m.parties p ≡ o → Goes_on h p (in_hand_at m.rooms o) s (after_step_at m p s o)
   goes_at h m p (step.Load e) (Some Rest) was at = on_load h m p e (least_free p m.rooms) was at refl
   goes_at h m p step.SetNext (Some (Loaded a)) was at = (unchanged h _ (keeps_set_next h m p a was at), tt)
   goes_at h m p step.Exchange (Some (Set a)) was at = on_exchange h m p a (option_eq nat_eq m.head a.read) was at refl
@@ -111,5 +111,5 @@ module _ {E : Type 0} where
   goes_at h m p s o was at = (unchanged h m was, tt)
 
   pub core_steps : (h : List (Event ℕ E)) (m : Machine E) (p : ℕ) (s : TransferStep E) → CoreMeets h m
-      → CoreMeets (h ++ step_events h m p s (stepped m p s).1) (stepped m p s).0 × AnswerSays h p (stepped m p s).1
+      → CoreMeets (h ++ step_events h m p s (after_step m p s).1) (after_step m p s).0 × AnswerSays h p (after_step m p s).1
   core_steps h m p s was = goes_at h m p s (slice_get m.parties p) was refl

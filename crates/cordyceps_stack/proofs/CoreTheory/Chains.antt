@@ -76,7 +76,7 @@ module _ {E : Type 0} where
       let apart : s ≢ r = λ same. let owners : Some room ≡ Some (room_in_use e next) = sym at ∙ (ap (slice_get rooms) (sym same) ∙ got) in let both : room.owner ≡ None = owner_of room e next owners in cc in
       (slice_get-change_other f rooms r s apart ∙ got, mine)
 
-  -- links that begin nowhere, and somewhere
+  -- links that begin with null, and with a room
   pub LeadsThrough-none : (rooms : List (Room E)) (own : ℕ → Option ℕ) (w : Option ℕ) (xs : List (ℕ × E))
       → LeadsThrough rooms own w None xs → room_elements xs ≡ []
   LeadsThrough-none rooms own w [] l = refl

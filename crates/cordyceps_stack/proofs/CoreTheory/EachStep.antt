@@ -8,8 +8,8 @@ use Rattle.cordyceps_stack.specs.declared.cores.stage.Stage.{Stage}
 use Rattle.cordyceps_stack.specs.declared.cores.stage.Stage.TheVariants.{Rest, Loaded, Set, Walking}
 use Rattle.cordyceps_shared.specs.declared.room.Room.{Room}
 use Rattle.cordyceps_stack.specs.History.{Event, Load, Push, Taken, held, Legal, NoLoad, NoTaken, IsByAnother, SomeByAnother, LastLoad, LastBatch}
-use Rattle.cordyceps_shared.specs.Rooms.{change, linking, freeing}
-use Rattle.cordyceps_stack.specs.Cores.Machine.{Machine, holding, stage_after_walk}
+use Rattle.cordyceps_shared.specs.Rooms.{change, with_link, as_free_room}
+use Rattle.cordyceps_stack.specs.Cores.Machine.{Machine, with_element, stage_after_walk}
 use Rattle.cordyceps_stack.specs.Cores.Stages.{room_in_use, NotAmong, LeadsThrough, room_elements, InHand, HasRead, HasBatchLeft, AtStage}
 use Rattle.cordyceps_stack.specs.Cores.CoreMeets.{CoreMeets}
 use Rattle.cordyceps_shared.proofs.ListWrites.{slice_get-set_same, slice_get-set_other, slice_get-change_same, set_as_it_was}
@@ -52,7 +52,7 @@ module _ {E : Type 0} where
       let g = goes.loads k.since k.loaded in
       record { since = g.0; loaded = g.1; moved = λ ne. elim g.3 [ inl same ↦ g.2 (k.moved (λ e. ne (same ∙ e))) | inr s ↦ s ] }
 
-  -- a party that takes no step stands where it stood
+  -- a party that takes no step is where it was
   pub bystander : (h h' : List (Event ℕ E)) (head head' : Option ℕ) (rooms : List (Room E)) (own : ℕ → Option ℕ) (rooms' : List (Room E)) (own' : ℕ → Option ℕ) (q : ℕ) (stage : Stage) → Goes q h h' head head' → Keeps rooms own rooms' own' (Some q) → AtStage h head rooms own q stage → AtStage h' head' rooms' own' q stage
   bystander h h' head head' rooms own rooms' own' q Rest goes k a = tt
   bystander h h' head head' rooms own rooms' own' q (Loaded t) goes k a = (hand_on rooms own rooms' own' q t.room k a.0, knows_on q h h' head head' t.read goes a.1)
@@ -98,20 +98,20 @@ module _ {E : Type 0} where
 
   pub keeps_load : (h : List (Event ℕ E)) (m : Machine E) (p r o : ℕ) (e : E) (room : Room E) → CoreMeets h m
       → slice_get m.parties p ≡ Some Rest → slice_get m.rooms r ≡ Some room → room.owner ≡ Some o
-      → CoreMeets (h ++ Load p ∷ []) record { head = m.head; rooms = change (holding e) r m.rooms; parties = set m.parties p (Loaded record { room = r; read = m.head }) }
+      → CoreMeets (h ++ Load p ∷ []) record { head = m.head; rooms = change (with_element e) r m.rooms; parties = set m.parties p (Loaded record { room = r; read = m.head }) }
   keeps_load h m p r o e room was at got free =
-      let fresh : (w : Option ℕ) → Keeps m.rooms was.own (change (holding e) r m.rooms) (relabel was.own r (Some p)) w = λ w. Keeps-fresh (holding e) m.rooms was.own r room (Some p) w o got free in
-      meets_on h (h ++ Load p ∷ []) m p m.head (change (holding e) r m.rooms) Rest (Loaded record { room = r; read = m.head }) was at
+      let fresh : (w : Option ℕ) → Keeps m.rooms was.own (change (with_element e) r m.rooms) (relabel was.own r (Some p)) w = λ w. Keeps-fresh (with_element e) m.rooms was.own r room (Some p) w o got free in
+      meets_on h (h ++ Load p ∷ []) m p m.head (change (with_element e) r m.rooms) Rest (Loaded record { room = r; read = m.head }) was at
       record {
         legal = legal_more h (Load p) was.legal tt;
         own' = relabel was.own r (Some p);
         chain = was.chain;
-        linked = LeadsThrough-passed m.rooms was.own (change (holding e) r m.rooms) (relabel was.own r (Some p)) None None m.head was.chain (fresh None) was.linked;
+        linked = LeadsThrough-passed m.rooms was.own (change (with_element e) r m.rooms) (relabel was.own r (Some p)) None None m.head was.chain (fresh None) was.linked;
         holds = was.holds ∙ ap reverse (sym (held_more h (Load p)));
         goes = λ q ne. goes_event q h (Load p) m.head m.head ((λ e. ne (sym e)), tt) tt (inl refl);
         keeps = λ q ne. fresh (Some q);
         mine = (
-          record { element = e; next = room.next; room = slice_get-change_same (holding e) m.rooms r room got; mine = relabel_here was.own r (Some p) },
+          record { element = e; next = room.next; room = slice_get-change_same (with_element e) m.rooms r room got; mine = relabel_here was.own r (Some p) },
           record { since = []; loaded = loaded_now p h; moved = λ ne. absurd (ne refl) },
         );
       }
@@ -136,16 +136,16 @@ module _ {E : Type 0} where
 
   pub keeps_set_next : (h : List (Event ℕ E)) (m : Machine E) (p : ℕ) (a : Attempt) → CoreMeets h m
       → slice_get m.parties p ≡ Some (Loaded a)
-      → CoreMeets h record { head = m.head; rooms = change (linking a.read) a.room m.rooms; parties = set m.parties p (Set a) }
+      → CoreMeets h record { head = m.head; rooms = change (with_link a.read) a.room m.rooms; parties = set m.parties p (Set a) }
   keeps_set_next h m p a was at =
       let here = was.parties p (Loaded a) at in
-      own_room h m p a.room (linking a.read) (Loaded a) (Set a) was at here.0.mine
-      (record { element = here.0.element; next = a.read; room = slice_get-change_same (linking a.read) m.rooms a.room (room_in_use here.0.element here.0.next) here.0.room; mine = here.0.mine }, refl, here.1)
+      own_room h m p a.room (with_link a.read) (Loaded a) (Set a) was at here.0.mine
+      (record { element = here.0.element; next = a.read; room = slice_get-change_same (with_link a.read) m.rooms a.room (room_in_use here.0.element here.0.next) here.0.room; mine = here.0.mine }, refl, here.1)
 
   pub keeps_fail : (h : List (Event ℕ E)) (m : Machine E) (p : ℕ) (a : Attempt) → CoreMeets h m
       → slice_get m.parties p ≡ Some (Set a)
-      → CoreMeets h record { head = m.head; rooms = change (freeing p) a.room m.rooms; parties = set m.parties p Rest }
-  keeps_fail h m p a was at = own_room h m p a.room (freeing p) (Set a) Rest was at (was.parties p (Set a) at).0.mine tt
+      → CoreMeets h record { head = m.head; rooms = change (as_free_room p) a.room m.rooms; parties = set m.parties p Rest }
+  keeps_fail h m p a was at = own_room h m p a.room (as_free_room p) (Set a) Rest was at (was.parties p (Set a) at).0.mine tt
 
   pub keeps_push : (h : List (Event ℕ E)) (m : Machine E) (p : ℕ) (a : Attempt) (e : E) (next : Option ℕ)
       → CoreMeets h m → slice_get m.parties p ≡ Some (Set a) → m.head ≡ a.read
@@ -222,12 +222,12 @@ module _ {E : Type 0} where
 
   -- where the walk goes on
   walks_to : (h : List (Event ℕ E)) (m : Machine E) (p r : ℕ) (next : Option ℕ) (own : ℕ → Option ℕ) (xs : List (ℕ × E)) (e : E) → NotAmong r xs → LeadsThrough m.rooms own (Some p) next xs → (batch : List E) → LastBatch p h batch → (given : List E) → given ++ e ∷ room_elements xs ≡ batch
-      → AtStage h m.head (change (freeing p) r m.rooms) own p (stage_after_walk next)
+      → AtStage h m.head (change (as_free_room p) r m.rooms) own p (stage_after_walk next)
   walks_to h m p r None own xs e apart l batch taken given end = tt
   walks_to h m p r (Some s) own xs e apart l batch taken given end =
       record {
         rest = xs;
-        links = LeadsThrough-change (freeing p) m.rooms own (Some p) (Some s) xs r apart l;
+        links = LeadsThrough-change (as_free_room p) m.rooms own (Some p) (Some s) xs r apart l;
         batch = batch;
         taken = taken;
         given = given ++ e ∷ [];
@@ -235,7 +235,7 @@ module _ {E : Type 0} where
       }
 
   walks_at : (h : List (Event ℕ E)) (m : Machine E) (p r : ℕ) (e : E) (next : Option ℕ) (own : ℕ → Option ℕ) (rest : List (ℕ × E)) → LeadsThrough m.rooms own (Some p) (Some r) rest → (batch : List E) → LastBatch p h batch → (given : List E) → given ++ room_elements rest ≡ batch → slice_get m.rooms r ≡ Some (room_in_use e next)
-      → (own r ≡ Some p) × AtStage h m.head (change (freeing p) r m.rooms) own p (stage_after_walk next)
+      → (own r ≡ Some p) × AtStage h m.head (change (as_free_room p) r m.rooms) own p (stage_after_walk next)
   walks_at h m p r e next own [] l batch taken given end got = let no : ⊥ = cc in absurd no
   walks_at h m p r e next own (x ∷ xs) l batch taken given end got =
       let start : x.0 ≡ r = let first = l.1 in cc in
@@ -248,12 +248,12 @@ module _ {E : Type 0} where
 
   pub walks_on : (h : List (Event ℕ E)) (m : Machine E) (p r : ℕ) (e : E) (next : Option ℕ)
       → (was : CoreMeets h m) → (w : HasBatchLeft h m.rooms was.own p r) → slice_get m.rooms r ≡ Some (room_in_use e next)
-      → (was.own r ≡ Some p) × AtStage h m.head (change (freeing p) r m.rooms) was.own p (stage_after_walk next)
+      → (was.own r ≡ Some p) × AtStage h m.head (change (as_free_room p) r m.rooms) was.own p (stage_after_walk next)
   walks_on h m p r e next was w got = walks_at h m p r e next was.own w.rest w.links w.batch w.taken w.given w.end got
 
   pub keeps_walk : (h : List (Event ℕ E)) (m : Machine E) (p r : ℕ) (e : E) (next : Option ℕ) → CoreMeets h m
       → slice_get m.parties p ≡ Some (Walking r) → slice_get m.rooms r ≡ Some (room_in_use e next)
-      → CoreMeets h record { head = m.head; rooms = change (freeing p) r m.rooms; parties = set m.parties p (stage_after_walk next) }
+      → CoreMeets h record { head = m.head; rooms = change (as_free_room p) r m.rooms; parties = set m.parties p (stage_after_walk next) }
   keeps_walk h m p r e next was at got =
       let on = walks_on h m p r e next was (was.parties p (Walking r) at) got in
-      own_room h m p r (freeing p) (Walking r) (stage_after_walk next) was at on.0 on.1
+      own_room h m p r (as_free_room p) (Walking r) (stage_after_walk next) was at on.0 on.1

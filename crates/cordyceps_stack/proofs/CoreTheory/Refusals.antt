@@ -8,7 +8,7 @@ use Rattle.cordyceps_stack.specs.declared.cores.steps.TransferStep.TheVariants a
 use Rattle.cordyceps_stack.specs.declared.cores.stage.Attempt.{Attempt}
 use Rattle.cordyceps_stack.specs.declared.cores.stage.Stage.{Stage}
 use Rattle.cordyceps_stack.specs.declared.cores.stage.Stage.TheVariants.{Rest, Loaded, Set, Walking}
-use Rattle.cordyceps_stack.specs.Cores.Machine.{Machine, Outcome, acts, step_element, least_free, load, exchange, take, may_take, is_there, stepped, stepped_at}
+use Rattle.cordyceps_stack.specs.Cores.Machine.{Machine, Outcome, acts, step_element, least_free, load, exchange, take, may_take, is_there, after_step, after_step_at}
 use Rattle.cordyceps_stack.specs.Cores.CoreMeets.{IsSound}
 use Rattle.cordyceps_stack.proofs.CoreTheory.CoreKeeps.{set_room, walking_room}
 
@@ -31,7 +31,7 @@ module _ {E : Type 0} where
   exact_take m p (Some r) = (refl, tt)
 
   exact_at : (m : Machine E) (p : ℕ) (s : TransferStep E) (o : Option Stage) → IsSound m → slice_get m.parties p ≡ o
-      → Exact m s (may_take m p s o) (stepped_at m p s o)
+      → Exact m s (may_take m p s o) (after_step_at m p s o)
   exact_at m p (step.Load e) (Some Rest) sound at = exact_load m p e (least_free p m.rooms)
   exact_at m p step.SetNext (Some (Loaded a)) sound at = (refl, tt)
   exact_at m p step.Exchange (Some (Set a)) sound at = exact_exchange m p a (option_eq nat_eq m.head a.read) sound at
@@ -39,10 +39,10 @@ module _ {E : Type 0} where
   exact_at m p step.Walk (Some (Walking r)) sound at = rw (walking_room m p r sound at).2 (refl, tt)
   exact_at m p s o sound at = (refl, (refl, refl))
 
-  pub exact : (m : Machine E) (p : ℕ) (s : TransferStep E) → IsSound m → Exact m s (is_there m p s) (stepped m p s)
+  pub exact : (m : Machine E) (p : ℕ) (s : TransferStep E) → IsSound m → Exact m s (is_there m p s) (after_step m p s)
   exact m p s sound = exact_at m p s (slice_get m.parties p) sound refl
 
   -- the same, where it is known at which stage the party is
   pub exact_act : (m : Machine E) (p : ℕ) (s : TransferStep E) (stage : Stage) → IsSound m
       → slice_get m.parties p ≡ Some stage → Exact m s (is_there m p s) (acts m p s stage)
-  exact_act m p s stage sound at = subst (λ (o : Option Stage). Exact m s (is_there m p s) (stepped_at m p s o)) at (exact m p s sound)
+  exact_act m p s stage sound at = subst (λ (o : Option Stage). Exact m s (is_there m p s) (after_step_at m p s o)) at (exact m p s sound)

@@ -7,7 +7,7 @@ use Rattle.cordyceps_stack.specs.declared.cores.steps.TransferStep.{TransferStep
 use Rattle.cordyceps_stack.specs.History.{Event}
 use Rattle.cordyceps_stack.specs.Cores.Machine.{Machine, Answered}
 use Rattle.cordyceps_stack.specs.Cores.CoreMeets.{CoreMeets, core_step, core_events, core_says, Replayed}
-use Rattle.cordyceps_stack.specs.Cores.Walks.{HandsOn, given_in}
+use Rattle.cordyceps_stack.specs.Cores.Walks.{HandsOn, handed_elements_of}
 use Rattle.cordyceps_stack.proofs.Histories.{nothing_lost}
 use Rattle.cordyceps_stack.proofs.CoreTheory.AnyStep.{core_steps}
 use Rattle.cordyceps_stack.proofs.CoreTheory.WalkSteps.{run_hands}
@@ -25,11 +25,11 @@ module _ {E : Type 0} where
       (subst (CoreMeets (history_after core_step core_events h first r.ran)) (sym r.state) law.0, law.1)
 
   run_walks : (all : List (ℕ × TransferStep E)) (first last : Machine E) (replies : List (Answered E)) (rest : List (ℕ × TransferStep E)) → (r : Ran core_step all first last replies rest) → (h : List (Event ℕ E)) → CoreMeets h first
-      → HandsOn h first (history_after core_step core_events h first r.ran) last (λ p. given_in p r.ran replies)
+      → HandsOn h first (history_after core_step core_events h first r.ran) last (λ p. handed_elements_of p r.ran replies)
   run_walks all first last replies rest r h was =
       let after_all = history_after core_step core_events h first r.ran in
-      subst (λ (as' : List (Answered E)). HandsOn h first after_all last (λ p. given_in p r.ran as')) (sym r.told)
-      (subst (λ (m : Machine E). HandsOn h first after_all m (λ p. given_in p r.ran (replies_to core_step first r.ran))) (sym r.state)
+      subst (λ (as' : List (Answered E)). HandsOn h first after_all last (λ p. handed_elements_of p r.ran as')) (sym r.told)
+      (subst (λ (m : Machine E). HandsOn h first after_all m (λ p. handed_elements_of p r.ran (replies_to core_step first r.ran))) (sym r.state)
       (run_hands h first r.ran was))
 
   -- what holds of a whole run

@@ -11,10 +11,10 @@ use Rattle.cordyceps_stack.specs.declared.cores.steps.TransferAnswer.TheVariants
 use Rattle.cordyceps_stack.specs.declared.cores.steps.TransferStep.{TransferStep}
 use Rattle.cordyceps_stack.specs.declared.cores.steps.TransferStep.TheVariants as step
 use Rattle.cordyceps_stack.specs.History.{Event, Load, Push, Taken}
-use Rattle.cordyceps_stack.specs.Cores.Machine.{Machine, Outcome, with_party, acts, stepped_at, stepped, is_ready, in_hand_at, answered_events}
+use Rattle.cordyceps_stack.specs.Cores.Machine.{Machine, Outcome, with_party, acts, after_step_at, after_step, is_ready, in_hand_at, events_of_answered}
 use Rattle.cordyceps_stack.specs.Cores.CoreMeets.{CoreMeets, step_events, core_step}
 use Rattle.cordyceps_stack.specs.Cores.Alone.{take_steps}
-use Rattle.cordyceps_stack.specs.Cores.Walks.{batches, LeadsToElements, IsLeftAt, IsLeft, given_by, only, HandsOut, HandsOn}
+use Rattle.cordyceps_stack.specs.Cores.Walks.{batches, LeadsToElements, IsLeftAt, IsLeft, handed_elements, only, HandsOut, HandsOn}
 use Rattle.cordyceps_stack.proofs.CoreTheory.AlonePush.{Pushing, pushing, push_ends, step_to}
 use Rattle.cordyceps_stack.proofs.CoreTheory.CoreGrows.{slice_get-push, slice_get-pushed}
 use Rattle.cordyceps_stack.proofs.CoreTheory.AnyStep.{core_steps}
@@ -75,12 +75,12 @@ module _ {E : Type 0} where
   ]
 
   -- what a step that hands out nothing does, at its outcome
-  hands_to : (h : List (Event ℕ E)) (m : Machine E) (q : ℕ) (s : TransferStep E) (out : Outcome E) → stepped m q s ≡ out
-      → CoreMeets h m → given_by out.1 ≡ []
-      → HandsOn h m (h ++ answered_events h q (in_hand_at m.rooms (slice_get m.parties q)) s out.1) out.0 (λ p. [])
+  hands_to : (h : List (Event ℕ E)) (m : Machine E) (q : ℕ) (s : TransferStep E) (out : Outcome E) → after_step m q s ≡ out
+      → CoreMeets h m → handed_elements out.1 ≡ []
+      → HandsOn h m (h ++ events_of_answered h q (in_hand_at m.rooms (slice_get m.parties q)) s out.1) out.0 (λ p. [])
   hands_to h m q s out e was none p given before =
-      let h' = h ++ answered_events h q (in_hand_at m.rooms (slice_get m.parties q)) s out.1 in
-      let on = subst (λ (o : Outcome E). HandsOn h m (h ++ answered_events h q (in_hand_at m.rooms (slice_get m.parties q)) s o.1) o.0 (only q (given_by o.1))) e (hands_on h m q s was) in
+      let h' = h ++ events_of_answered h q (in_hand_at m.rooms (slice_get m.parties q)) s out.1 in
+      let on = subst (λ (o : Outcome E). HandsOn h m (h ++ events_of_answered h q (in_hand_at m.rooms (slice_get m.parties q)) s o.1) o.0 (only q (handed_elements o.1))) e (hands_on h m q s was) in
       subst (λ (es : List E). HandsOut h' out.0 p (given ++ es)) (ap (λ (es : List E). only q es p) none ∙ only_none q p) (on p given before)
 
   hands_then : (h h' h'' : List (Event ℕ E)) (m m' m'' : Machine E) → HandsOn h m h' m' (λ p. [])
@@ -101,8 +101,8 @@ module _ {E : Type 0} where
       let third = rw run.hand at (hands_to k run.linked p step.Exchange (run.pushed, Ok (answer.Pushed (is_none m.head))) run.pushes there refl) in
       hands_then h k (k ++ Push p e ∷ []) m run.loaded run.pushed first (hands_then k k (k ++ Push p e ∷ []) run.loaded run.linked run.pushed on third)
 
-  pub push_hands_alone : (m m1 m2 m3 : Machine E) (p : ℕ) (e : E) → is_ready m p ≡ true → m1 ≡ (stepped m p (step.Load e)).0
-      → m2 ≡ (stepped m1 p step.SetNext).0 → m3 ≡ (stepped m2 p step.Exchange).0
+  pub push_hands_alone : (m m1 m2 m3 : Machine E) (p : ℕ) (e : E) → is_ready m p ≡ true → m1 ≡ (after_step m p (step.Load e)).0
+      → m2 ≡ (after_step m1 p step.SetNext).0 → m3 ≡ (after_step m2 p step.Exchange).0
       → (h : List (Event ℕ E)) → CoreMeets h m → HandsOn h m ((h ++ Load p ∷ []) ++ Push p e ∷ []) m3 (λ q. [])
   push_hands_alone m m1 m2 m3 p e ready a c d h was =
       let run = pushing m p e ready in
@@ -111,20 +111,20 @@ module _ {E : Type 0} where
   -- a step, where it is known at which stage the party is
   pub hands_acts : (h : List (Event ℕ E)) (m : Machine E) (q : ℕ) (s : TransferStep E) (stage : Stage)
       → slice_get m.parties q ≡ Some stage → CoreMeets h m
-      → HandsOn h m (h ++ step_events h m q s (acts m q s stage).1) (acts m q s stage).0 (only q (given_by (acts m q s stage).1))
+      → HandsOn h m (h ++ step_events h m q s (acts m q s stage).1) (acts m q s stage).0 (only q (handed_elements (acts m q s stage).1))
   hands_acts h m q s stage at was =
-      subst (λ (o : Option Stage). HandsOn h m (h ++ step_events h m q s (stepped_at m q s o).1) (stepped_at m q s o).0 (only q (given_by (stepped_at m q s o).1))) at (hands_on h m q s was)
+      subst (λ (o : Option Stage). HandsOn h m (h ++ step_events h m q s (after_step_at m q s o).1) (after_step_at m q s o).0 (only q (handed_elements (after_step_at m q s o).1))) at (hands_on h m q s was)
 
   kept_walks : (n : ℕ) (h : List (Event ℕ E)) (m : Machine E) (p q : ℕ) (left : List E) → CoreMeets h m → q ≢ p
       → IsLeft m q left → IsLeft (after core_step m (replicate n (p, step.Walk))) q left
   kept_walks zero h m p q left was ne is = is
   kept_walks (suc n) h m p q left was ne is =
-      kept_walks n (h ++ step_events h m p step.Walk (stepped m p step.Walk).1) (stepped m p step.Walk).0 p q left (core_steps h m p step.Walk was).0 ne (left_kept h m q p step.Walk left was ne is)
+      kept_walks n (h ++ step_events h m p step.Walk (after_step m p step.Walk).1) (after_step m p step.Walk).0 p q left (core_steps h m p step.Walk was).0 ne (left_kept h m q p step.Walk left was ne is)
 
   kept_take : (n : ℕ) (h : List (Event ℕ E)) (m : Machine E) (p q : ℕ) (left : List E) → CoreMeets h m → q ≢ p
       → IsLeft m q left → IsLeft (after core_step m (take_steps p n)) q left
   kept_take n h m p q left was ne is =
-      kept_walks n (h ++ step_events h m p step.Take (stepped m p step.Take).1) (stepped m p step.Take).0 p q left (core_steps h m p step.Take was).0 ne (left_kept h m q p step.Take left was ne is)
+      kept_walks n (h ++ step_events h m p step.Take (after_step m p step.Take).1) (after_step m p step.Take).0 p q left (core_steps h m p step.Take was).0 ne (left_kept h m q p step.Take left was ne is)
 
   take_moves : (h : List (Event ℕ E)) (old new : Machine E) (p n q : ℕ) (batch left : List E) → CoreMeets h old
       → slice_get old.parties p ≡ Some Rest → slice_get new.parties p ≡ Some Rest → new ≡ after core_step old (take_steps p n)

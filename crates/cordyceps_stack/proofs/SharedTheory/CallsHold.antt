@@ -4,7 +4,7 @@ use Rattle.std.specs.Prelude.{IsTrue}
 use Rattle.atomic_table.specs.Seated.{TableId}
 use Rattle.cordyceps_shared.specs.Counts.{below}
 use Rattle.cordyceps_shared.specs.Histories.{plain, AllOwn}
-use Rattle.cordyceps_shared.specs.Knowing.{Known, Begins, IsKnown}
+use Rattle.cordyceps_shared.specs.Knowing.{Known, IsPrefixOf, IsKnown}
 use Rattle.cordyceps_shared.specs.Places.{ItemAt}
 use Rattle.cordyceps_shared.specs.Slots.{Near}
 use Rattle.cordyceps_shared.specs.Shares.{Name, whole, first_name, IsShare}
@@ -97,8 +97,8 @@ module _ {E : Type 0} where
     seen = ap (λ (q : SeatState E). q.0.known.seen) is;
     apart = known.apart;
     names = joined_apart known.long m.0.known.share o.0.known.share known.once;
-    mine = subst (λ (q : SeatState E). Begins (plain m.0.known.seen) (plain q.0.known.seen)) (sym is) (merged_front m.0.known.seen o.0.known.seen);
-    theirs = subst (λ (q : SeatState E). Begins (plain o.0.known.seen) (plain q.0.known.seen)) (sym is) known.told;
+    mine = subst (λ (q : SeatState E). IsPrefixOf (plain m.0.known.seen) (plain q.0.known.seen)) (sym is) (merged_front m.0.known.seen o.0.known.seen);
+    theirs = subst (λ (q : SeatState E). IsPrefixOf (plain o.0.known.seen) (plain q.0.known.seen)) (sym is) known.told;
     legal = subst (λ (q : SeatState E). Legal (plain q.0.known.seen)) (sym is) known.legal;
     alone = λ e. subst (λ (q : SeatState E). AllOwn q.0.known.seen) (sym is) (known.alone (sym (ap (λ (q : SeatState E). q.0.known.share) is) ∙ e));
     share = ap (λ (q : SeatState E). q.0.known.share) is;

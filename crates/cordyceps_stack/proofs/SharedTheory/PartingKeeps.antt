@@ -20,7 +20,7 @@ use Rattle.cordyceps_stack.specs.Shared.Words.{History, Since, AtDoing}
 use Rattle.cordyceps_shared.specs.Slots.{Homes, EmptyAtHome}
 use Rattle.cordyceps_stack.specs.Shared.Rule.{RuleHolds}
 use Rattle.cordyceps_stack.specs.Shared.Plays.{SeatState}
-use Rattle.cordyceps_stack.specs.Shared.Parting.{view_keeping, view_giving, view_absorbing, view_absorbed, view_without_told, learned}
+use Rattle.cordyceps_stack.specs.Shared.Parting.{view_keeping, view_giving, view_absorbing, view_absorbed, view_without_told, after_learn}
 use Rattle.cordyceps_stack.proofs.Histories.{legal_none}
 use Rattle.cordyceps_stack.proofs.SharedTheory.WordsKeep.{does_frame, rests, forks}
 use Rattle.cordyceps_stack.proofs.SharedTheory.StepsKeep.{step_keeps, unwritten, few_rooms}
@@ -103,7 +103,7 @@ module _ {E : Type 0} where
         owned = owned_join knows s.views k.history id other v w (view_absorbing v w) view_absorbed at apart there refl refl named k.owned;
       }
 
-  pub learns : (slots id : ℕ) (me : SeatState E) → me.0.doing ≡ Idle → Allows RuleHolds slots id me HEAD (λ n. n) (learned (step slots HEAD 0 0 none) me)
+  pub learns : (slots id : ℕ) (me : SeatState E) → me.0.doing ≡ Idle → Allows RuleHolds slots id me HEAD (λ n. n) (after_learn (step slots HEAD 0 0 none) me)
   learns slots id me idle s k deep at fits =
       let v = me.0 in
       let w = view_without_told v in

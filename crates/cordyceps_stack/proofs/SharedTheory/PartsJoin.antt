@@ -14,13 +14,13 @@ use Rattle.cordyceps_stack.specs.Shared.Plays.{SeatState, Sees, carry, NearChain
 use Rattle.cordyceps_shared.specs.Slots.{Near, full_slot}
 use Rattle.cordyceps_stack.specs.Shared.Parts.{IsFilled, HasMissed, HasPushed, SettlesAt}
 use Rattle.cordyceps_stack.specs.Shared.Calls.{EndsPushed, EndsLooked, IsOvertaken}
-use Rattle.cordyceps_stack.specs.Shared.View.{Idle, Walking, View, name, walking}
+use Rattle.cordyceps_stack.specs.Shared.View.{Idle, Walking, View, name, walk_through}
 use Rattle.cordyceps_stack.specs.Shared.Words.{start}
 
 pub is_zero : (n : ℕ) → (n ≡ 0) ↔ IsTrue (eqb n 0)
 is_zero n = (λ e. eq-eqb n 0 e, λ e. eqb-true n 0 e)
 
--- what lies in the slot in hand
+-- what is in the slot in hand
 abbrev pub hand_of : {A : Type 0} → List (ℕ × Option A) → Option A
 hand_of [] = None
 hand_of (x ∷ xs) = x.1
@@ -135,7 +135,7 @@ module _ {E : Type 0} where
   not_overtaken seen a m = no_change m.later (tail_own m.before ((true, Load m.load) ∷ m.later) (subst (λ z. AllOwn z) m.is a)).1 m.others m.changed
 
   -- ---- handing out
-  pub batch_walking : (xs : List (ℕ × E)) → to_hand_out (walking xs) ≡ xs
+  pub batch_walking : (xs : List (ℕ × E)) → to_hand_out (walk_through xs) ≡ xs
   batch_walking [] = refl
   batch_walking (x ∷ xs) = refl
 

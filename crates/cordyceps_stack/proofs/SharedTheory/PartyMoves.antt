@@ -4,7 +4,7 @@ use Rattle.std.proofs.lemmas.List.{map-append, length-map, append-nil, length-re
 use Rattle.cordyceps_shared.specs.Shares.{Name}
 use Rattle.cordyceps_shared.specs.Standings.{name_of}
 use Rattle.cordyceps_shared.proofs.Moving.{moves_by}
-use Rattle.cordyceps_stack.specs.History.{Event, Load, Push, Taken, pushes, taken, held, Legal, actor}
+use Rattle.cordyceps_stack.specs.History.{Event, Load, Push, Taken, pushes, taken_elements, held, Legal, actor}
 use Rattle.cordyceps_stack.specs.Shared.Calls.{PartyOf, Adds, PushesAt, Misses, Takes, Looks}
 use Rattle.cordyceps_stack.specs.Shared.Moves.{put_by, got_by, Moves}
 use Rattle.cordyceps_stack.proofs.Histories.{nothing_lost}
@@ -17,16 +17,16 @@ module _ {P E A : Type 0} (f : E → A) where
   all_put (Push p e ∷ h) = ap (λ l. f e ∷ l) (all_put h)
   all_put (Taken p batch ∷ h) = all_put h
 
-  pub all_got : (h : List (Event P E)) → flat_map (got_by f) h ≡ map f (taken h)
+  pub all_got : (h : List (Event P E)) → flat_map (got_by f) h ≡ map f (taken_elements h)
   all_got [] = refl
   all_got (Load p ∷ h) = all_got h
   all_got (Push p e ∷ h) = all_got h
-  all_got (Taken p batch ∷ h) = ap (λ l. map f (reverse batch) ++ l) (all_got h) ∙ sym (map-append f (reverse batch) (taken h))
+  all_got (Taken p batch ∷ h) = ap (λ l. map f (reverse batch) ++ l) (all_got h) ∙ sym (map-append f (reverse batch) (taken_elements h))
 
-  -- what a legal history holds, behind what was taken, is what was pushed
+  -- what a legal history holds, after what was taken, is what was pushed
   pub all_kept : (h : List (Event P E)) → Legal h → flat_map (got_by f) h ++ map f (held h) ≡ flat_map (put_by f) h
   all_kept h legal =
-      ap (λ l. l ++ map f (held h)) (all_got h) ∙ (sym (map-append f (taken h) (held h)) ∙ (ap (map f) (nothing_lost h legal) ∙ sym (all_put h)))
+      ap (λ l. l ++ map f (held h)) (all_got h) ∙ (sym (map-append f (taken_elements h) (held h)) ∙ (ap (map f) (nothing_lost h legal) ∙ sym (all_put h)))
 
   -- ---- tries, and a push
   tries_put : (n : ℕ) (p : P) (e : E) → flat_map (put_by f) (replicate n (Load p) ++ Push p e ∷ []) ≡ f e ∷ []

@@ -12,7 +12,7 @@ use Rattle.atomic_table.specs.Table.{State, step, Act, keeps, takes, gives, step
 use Rattle.atomic_table.specs.Table as table
 use Rattle.atomic_table.proofs.Lists.{set_here, set_else}
 use Rattle.cordyceps_shared.specs.Counts.{one_if, times}
-use Rattle.cordyceps_shared.specs.Histories.{events, marked, plain, of_seat}
+use Rattle.cordyceps_shared.specs.Histories.{events, with_marks, plain, of_seat}
 use Rattle.cordyceps_shared.specs.Knowing.{Known, Under, SharesDisjoint, AllAgree, all_seen}
 use Rattle.cordyceps_shared.specs.Shares.{Name}
 use Rattle.cordyceps_shared.specs.Words.{head}
@@ -26,7 +26,7 @@ use Rattle.cordyceps_shared.proofs.Telling.{at_length, owned_same, fits_same, te
 use Rattle.cordyceps_shared.specs.declared.slots.Filled.{Filled}
 use Rattle.cordyceps_stack.specs.History.{Event, Load, Push, Taken, held, Legal, actor, SomeChange}
 use Rattle.cordyceps_stack.specs.Cores.Stages.{room_elements}
-use Rattle.cordyceps_stack.specs.Shared.View.{Doing, Idle, Ready, Loaded, Set, Walking, View, knows, name, walking, in_chain, at_work, count_with_party}
+use Rattle.cordyceps_stack.specs.Shared.View.{Doing, Idle, Ready, Loaded, Set, Walking, View, knows, name, walk_through, in_chain, at_work, count_with_party}
 use Rattle.cordyceps_stack.specs.Shared.Words.{History, start, Since, AtDoing, WordsMeet}
 use Rattle.cordyceps_shared.specs.Slots.{Homes, Hand, TableStep, full_slot, EmptyAtHome}
 use Rattle.cordyceps_stack.specs.Shared.Rule.{TableState, FullAtHome, RuleHolds}
@@ -69,7 +69,7 @@ module _ {E : Type 0} where
       let t = start_empty chain in
       (λ e. reverse_none es (sym holds ∙ t.0 (sym is ∙ e)), λ e. is ∙ t.1 (holds ∙ ap (λ z. reverse z) e))
 
-  head_marked : (s : TableState E) (k : RuleHolds s) (id : ℕ) → (head s.words ≡ 0) ↔ (held (plain (marked id k.history)) ≡ [])
+  head_marked : (s : TableState E) (k : RuleHolds s) (id : ℕ) → (head s.words ≡ 0) ↔ (held (plain (with_marks id k.history)) ≡ [])
   head_marked s k id = subst (λ (z : List (Event Name E)). (head s.words ≡ 0) ↔ (held z ≡ [])) (sym (plain_marked id k.history))
       (head_says k.chain (held (events k.history)) (head s.words) (spells_start s.words (head s.words) k.chain k.meets.spelled) k.meets.holds)
 
@@ -145,7 +145,7 @@ module _ {E : Type 0} where
   view_after v j h free doing = record { known = all_seen j h v.known.share; free = free; doing = doing }
 
   -- ---- looking
-  pub looks : (slots id : ℕ) (me : SeatState E) → me.0.doing ≡ Idle → me.0.known.share ≢ [] → Allows RuleHolds slots id me HEAD (λ n. n) (play.looked (step slots HEAD 0 0 none) me)
+  pub looks : (slots id : ℕ) (me : SeatState E) → me.0.doing ≡ Idle → me.0.known.share ≢ [] → Allows RuleHolds slots id me HEAD (λ n. n) (play.after_look (step slots HEAD 0 0 none) me)
   looks slots id me idle named s k deep at fits =
       let v = me.0 in
       let x : Event Name E = Load (name v) in
@@ -163,15 +163,15 @@ module _ {E : Type 0} where
           refl,
           t.2,
           record {
-            before = marked id k.history;
-            is = marked_append id k.history ((id, x) ∷ []) ∙ ap (λ b. marked id k.history ++ (b, x) ∷ []) (eq-eqb id id refl);
+            before = with_marks id k.history;
+            is = marked_append id k.history ((id, x) ∷ []) ∙ ap (λ b. with_marks id k.history ++ (b, x) ∷ []) (eq-eqb id id refl);
             none = head_marked s k id;
           },
         ),
       )
 
   -- ---- pushing
-  pub readies : (slots id i : ℕ) (me : SeatState E) (r : ℕ) (rs : List ℕ) → i ≡ LINKS + r → me.0.doing ≡ Idle → me.0.free ≡ r ∷ rs → Allows RuleHolds slots id me i (λ n. n) (play.readied (step slots i 0 0 none) me)
+  pub readies : (slots id i : ℕ) (me : SeatState E) (r : ℕ) (rs : List ℕ) → i ≡ LINKS + r → me.0.doing ≡ Idle → me.0.free ≡ r ∷ rs → Allows RuleHolds slots id me i (λ n. n) (play.after_ready (step slots i 0 0 none) me)
   readies slots id i me r rs is idle free s k deep at fits =
       let v = me.0 in
       let w : View E = record v { doing = Ready r; free = rs } in
@@ -199,7 +199,7 @@ module _ {E : Type 0} where
             ),
       )
 
-  pub reads_head : (slots id : ℕ) (me : SeatState E) (r : ℕ) → me.0.doing ≡ Ready r → me.0.known.share ≢ [] → Allows RuleHolds slots id me HEAD (λ n. n) (play.loaded (step slots HEAD 0 0 none) me)
+  pub reads_head : (slots id : ℕ) (me : SeatState E) (r : ℕ) → me.0.doing ≡ Ready r → me.0.known.share ≢ [] → Allows RuleHolds slots id me HEAD (λ n. n) (play.after_load (step slots HEAD 0 0 none) me)
   reads_head slots id me r ready named s k deep at fits =
       let v = me.0 in
       let x : Event Name E = Load (name v) in
@@ -215,7 +215,7 @@ module _ {E : Type 0} where
         λ r' ready'. (ap (λ p. let d : Doing E = Loaded (room_of p) read in d) (sym ready ∙ ready'), refl, refl, t.2),
       )
 
-  pub links : (slots id i : ℕ) (me : SeatState E) (r read : ℕ) → i ≡ LINKS + r → me.0.doing ≡ Loaded r read → r < slots → Allows RuleHolds slots id me i (λ _. read) (λ _. play.wrote (step slots i read 0 none) me read)
+  pub links : (slots id i : ℕ) (me : SeatState E) (r read : ℕ) → i ≡ LINKS + r → me.0.doing ≡ Loaded r read → r < slots → Allows RuleHolds slots id me i (λ _. read) (λ _. play.after_write (step slots i read 0 none) me read)
   links slots id i me r read is doing inside s k deep at fits =
       let v = me.0 in
       let w : View E = record v { doing = Set r read } in
@@ -231,13 +231,13 @@ module _ {E : Type 0} where
       )
 
   -- what a party saw that loaded another head
-  overtaken : (s : TableState E) (k : RuleHolds s) (id read : ℕ) → Since s.words k.history id read → head s.words ≢ read → IsOvertaken (marked id k.history)
+  overtaken : (s : TableState E) (k : RuleHolds s) (id read : ℕ) → Since s.words k.history id read → head s.words ≢ read → IsOvertaken (with_marks id k.history)
   overtaken s k id read since miss =
       let x : Event Name E = Load since.name in record {
-        before = marked id since.before;
+        before = with_marks id since.before;
         load = since.name;
-        later = marked id since.later;
-        is = ap (marked id) since.is ∙ (marked_append id since.before ((id, x) ∷ since.later) ∙ ap (λ b. marked id since.before ++ (b, x) ∷ marked id since.later) (eq-eqb id id refl));
+        later = with_marks id since.later;
+        is = ap (with_marks id) since.is ∙ (marked_append id since.before ((id, x) ∷ since.later) ∙ ap (λ b. with_marks id since.before ++ (b, x) ∷ with_marks id since.later) (eq-eqb id id refl));
         others = own_without id since.later since.none;
         changed = subst (λ z. SomeChange z) (sym (plain_marked id since.later)) (⊎_elim (λ e. absurd (miss e)) (λ c. c) since.same);
       }
@@ -277,8 +277,8 @@ module _ {E : Type 0} where
         ap rest poised.hand,
         t.2,
         record {
-          before = marked id k.history;
-          is = marked_append id k.history ((id, e) ∷ []) ∙ ap (λ b. marked id k.history ++ (b, e) ∷ []) (eq-eqb id id refl);
+          before = with_marks id k.history;
+          is = marked_append id k.history ((id, e) ∷ []) ∙ ap (λ b. with_marks id k.history ++ (b, e) ∷ []) (eq-eqb id id refl);
           first = head_marked s k id;
         },
       )
@@ -310,7 +310,7 @@ module _ {E : Type 0} where
       (found ≡ z.1 → (k.0.doing ≡ Idle) × (k.0.free ≡ me.0.free) × (k.1 ≡ z.3) × Sees me.0 (Push (name me.0) z.2.item ∷ []) k.0 × EndsPushed z.2.item (found ≡ 0) (name me.0) k.0.known.seen)
       × (found ≢ z.1 → (k.0.doing ≡ Ready z.0) × (k.0.free ≡ me.0.free) × (k.1 ≡ me.1) × Sees me.0 [] k.0 × IsOvertaken k.0.known.seen)
 
-  says : (st : TableStep E) (me k : SeatState E) (r read found : ℕ) (x : E) (cs : Hand E) → Poised me r read x cs → Tells me k found (r, read, full_slot r x, cs) → play.exchanged st me found k
+  says : (st : TableStep E) (me k : SeatState E) (r read found : ℕ) (x : E) (cs : Hand E) → Poised me r read x cs → Tells me k found (r, read, full_slot r x, cs) → play.after_exchange st me found k
   unfolding Tells
   says st me k r read found x cs poised t r' read' x' cs' doing hand =
       let p = sym poised.doing ∙ doing in
@@ -318,7 +318,7 @@ module _ {E : Type 0} where
       subst (Tells me k found) (λ i. (ap room_of p i, ap read_of p i, ap (slot_or (full_slot r x)) q i, ap rest q i)) t
 
   pub exchanges : (slots id new : ℕ) (me : SeatState E) (r read : ℕ) (x : E) (cs : Hand E) → new ≡ suc r → Poised me r read x cs → r < slots
-      → Allows RuleHolds slots id me HEAD (λ n. either (eqb n read) new n) (play.exchanged (step slots HEAD read new none) me)
+      → Allows RuleHolds slots id me HEAD (λ n. either (eqb n read) new n) (play.after_exchange (step slots HEAD read new none) me)
   unfolding Tells
   exchanges slots id new me r read x cs is poised inside s k deep at fits =
       let n : ℕ = head s.words in
@@ -339,7 +339,7 @@ module _ {E : Type 0} where
       ))
 
   pub returns : (slots id i : ℕ) (me : SeatState E) (r : ℕ) (cs : Hand E) → i ≡ LINKS + r → me.0.doing ≡ Ready r → me.1 ≡ (r, None) ∷ cs → r < slots
-      → Allows RuleHolds slots id me i (λ n. n) (play.returned (step slots i 0 0 none) me)
+      → Allows RuleHolds slots id me i (λ n. n) (play.after_return (step slots i 0 0 none) me)
   returns slots id i me r cs is doing hand inside s k deep at fits =
       let v = me.0 in
       let w : View E = record v { doing = Idle; free = r ∷ v.free } in
@@ -395,13 +395,13 @@ module _ {E : Type 0} where
   near_all homes [] full = tt
   near_all homes (x ∷ xs) full = (at_length homes x.0 (some (Some (full_slot x.0 x.1))) full.0, near_all homes xs full.1)
 
-  pub takes_whole : (slots id : ℕ) (me : SeatState E) → me.0.doing ≡ Idle → me.0.known.share ≢ [] → Allows RuleHolds slots id me HEAD (λ _. 0) (play.took (step slots HEAD 0 0 none) me)
+  pub takes_whole : (slots id : ℕ) (me : SeatState E) → me.0.doing ≡ Idle → me.0.known.share ≢ [] → Allows RuleHolds slots id me HEAD (λ _. 0) (play.after_take (step slots HEAD 0 0 none) me)
   takes_whole slots id me idle named s k deep at fits =
       let v = me.0 in
       let xs = k.chain in
       let e : Event Name E = Taken (name v) (room_elements xs) in
       let h = k.history ++ (id, e) ∷ [] in
-      let w = view_after v id h v.free (walking xs) in
+      let w = view_after v id h v.free (walk_through xs) in
       let wide = k.wide in
       let meets = takes_all s.words xs s.views k.history id v w (name v) k.meets at idle refl refl (omega arith) in
       let t = told s k id (e ∷ []) v w h at named (refl, tt) refl refl meets.legal in
@@ -417,11 +417,11 @@ module _ {E : Type 0} where
       )
 
   pub walks_one : (slots id i : ℕ) (me : SeatState E) (x : ℕ × E) (xs : List (ℕ × E)) (cs : Hand E) → i ≡ LINKS + x.0 → me.0.doing ≡ Walking (x ∷ xs) → me.1 ≡ (x.0, None) ∷ cs → x.0 < slots
-      → Allows RuleHolds slots id me i (λ n. n) (play.walked (step slots i 0 0 none) me)
+      → Allows RuleHolds slots id me i (λ n. n) (play.after_walk (step slots i 0 0 none) me)
   walks_one slots id i me x xs cs is doing hand inside s k deep at fits =
       let v = me.0 in
       let r = x.0 in
-      let w : View E = record v { doing = walking xs; free = r ∷ v.free } in
+      let w : View E = record v { doing = walk_through xs; free = r ∷ v.free } in
       let y : maybe.Option (Option (Filled E)) = some None in
       let here = one_here r in
       let was : count_with_party r v ≡ times r v.free + (one_if (eqb r r) + in_chain r xs) = ap (λ d. times r v.free + at_work r d) doing in
@@ -443,7 +443,7 @@ module _ {E : Type 0} where
             let same = ap to_hand_out (sym doing ∙ doing') in
             let z : (x ≡ x') × (xs ≡ xs') = (ap (first_or x) same, ap rest_from same) in (
               ap (λ n. get_or s.words n 0) is ∙ (walked.0 ∙ ap start z.1),
-              (λ j. let u : View E = record v { doing = walking (z.1 j); free = (z.0 j).0 ∷ v.free } in u),
+              (λ j. let u : View E = record v { doing = walk_through (z.1 j); free = (z.0 j).0 ∷ v.free } in u),
               ap rest hand',
               omega arith,
             ),

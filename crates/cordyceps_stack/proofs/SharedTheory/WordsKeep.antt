@@ -15,7 +15,7 @@ use Rattle.cordyceps_shared.proofs.Seeing.{events_more, without_more}
 use Rattle.cordyceps_shared.proofs.Words.{head_set, next_set, head_beside_next, next_beside_next, next_beside_head}
 use Rattle.cordyceps_stack.specs.History.{Event, Load, Push, Taken, held, held_after, Legal, IsChange, SomeChange}
 use Rattle.cordyceps_stack.specs.Cores.Stages.{room_elements}
-use Rattle.cordyceps_stack.specs.Shared.View.{Doing, Idle, Ready, Loaded, Set, Walking, View, walking, in_chain, at_work, count_with_party}
+use Rattle.cordyceps_stack.specs.Shared.View.{Doing, Idle, Ready, Loaded, Set, Walking, View, walk_through, in_chain, at_work, count_with_party}
 use Rattle.cordyceps_stack.specs.Shared.Words.{History, start, Spells, Since, AtDoing, WordsMeet}
 use Rattle.cordyceps_stack.proofs.Histories.{MayFollow, held_more, legal_more, change_more, change_last}
 
@@ -76,15 +76,15 @@ pub rooms_differ : (count : ℕ → ℕ) (r s : ℕ) → count r ≡ 0 → 1 ≤
 rooms_differ count r s none here e = let same : count s ≡ count r = ap count e in omega arith
 
 module _ {E : Type 0} where
-  at_work_walking : (r : ℕ) (xs : List (ℕ × E)) → at_work r (walking xs) ≡ in_chain r xs
+  at_work_walking : (r : ℕ) (xs : List (ℕ × E)) → at_work r (walk_through xs) ≡ in_chain r xs
   at_work_walking r [] = refl
   at_work_walking r (x ∷ xs) = refl
 
-  walks_on : (ws ws' : List ℕ) (h : History E) (j : ℕ) (chain : List (ℕ × E)) → ((r : ℕ) → next ws' r ≡ next ws r) → Spells ws (head ws) chain → AtDoing ws' h j (walking chain)
+  walks_on : (ws ws' : List ℕ) (h : History E) (j : ℕ) (chain : List (ℕ × E)) → ((r : ℕ) → next ws' r ≡ next ws r) → Spells ws (head ws) chain → AtDoing ws' h j (walk_through chain)
   walks_on ws ws' h j [] same s = tt
   walks_on ws ws' h j (x ∷ xs) same s = spells_frame ws ws' (suc x.0) (x ∷ xs) (λ r _. same r) (refl, s.1)
 
-  walks_rest : (ws : List ℕ) (h : History E) (j : ℕ) (xs : List (ℕ × E)) → Spells ws (start xs) xs → AtDoing ws h j (walking xs)
+  walks_rest : (ws : List ℕ) (h : History E) (j : ℕ) (xs : List (ℕ × E)) → Spells ws (start xs) xs → AtDoing ws h j (walk_through xs)
   walks_rest ws h j [] s = tt
   walks_rest ws h j (x ∷ xs) s = s
 
@@ -153,7 +153,7 @@ module _ {E : Type 0} where
       (λ i u other e. does_frame ws ws' h h' i u.doing (λ s k. next_beside_head ws s (suc r)) (λ k. since_event ws ws' h i k j (Push n x) (λ z. other (sym z)) (inr tt)))
 
   pub takes_all : (ws : List ℕ) (chain : List (ℕ × E)) (views : List (View E)) (h : History E) (j : ℕ) (v w : View E) (n : Name) → WordsMeet ws chain views h → get_elem? views j ≡ some v
-      → v.doing ≡ Idle → w.doing ≡ walking chain → w.free ≡ v.free → HEAD < length ws
+      → v.doing ≡ Idle → w.doing ≡ walk_through chain → w.free ≡ v.free → HEAD < length ws
       → WordsMeet (set ws HEAD 0) [] (set views j w) (h ++ (j, Taken n (room_elements chain)) ∷ [])
   takes_all ws chain views h j v w n m at was now free inside =
       let ws' = set ws HEAD 0 in
@@ -167,7 +167,7 @@ module _ {E : Type 0} where
       (λ i u other e. does_frame ws ws' h h' i u.doing (λ s k. next_beside_head ws s 0) (λ k. since_event ws ws' h i k j x (λ z. other (sym z)) (emptied ws ws' n chain empty m.spelled)))
 
   pub walks : (ws : List ℕ) (chain : List (ℕ × E)) (views : List (View E)) (h : History E) (j : ℕ) (v w : View E) (x : ℕ × E) (xs : List (ℕ × E)) → WordsMeet ws chain views h → get_elem? views j ≡ some v
-      → v.doing ≡ Walking (x ∷ xs) → w.doing ≡ walking xs → w.free ≡ x.0 ∷ v.free
+      → v.doing ≡ Walking (x ∷ xs) → w.doing ≡ walk_through xs → w.free ≡ x.0 ∷ v.free
       → (next ws x.0 ≡ start xs) × WordsMeet ws chain (set views j w) h
   walks ws chain views h j v w x xs m at was now free =
       let known : AtDoing ws h j (Walking (x ∷ xs)) = subst (λ (d : Doing E). AtDoing ws h j d) was (m.each j v at) in

@@ -5,13 +5,13 @@ use Rattle.cordyceps_stack.specs.declared.cores.steps.TransferStep.{TransferStep
 use Rattle.cordyceps_stack.specs.declared.cores.steps.TransferAnswer.{TransferAnswer}
 use Rattle.cordyceps_stack.specs.declared.cores.steps.TransferAnswer.TheVariants as answer
 use Rattle.cordyceps_stack.specs.declared.cores.stage.Stage.{Stage}
-use Rattle.cordyceps_stack.specs.History.{Event, Legal, held, taken, pushes, Overtaken}
-use Rattle.cordyceps_stack.specs.Cores.Machine.{Machine, Answered, in_hand_at, answered_events, stepped}
+use Rattle.cordyceps_stack.specs.History.{Event, Legal, held, taken_elements, pushes, Overtaken}
+use Rattle.cordyceps_stack.specs.Cores.Machine.{Machine, Answered, in_hand_at, events_of_answered, after_step}
 use Rattle.cordyceps_stack.specs.Cores.Stages.{AtStage, LeadsThrough, room_elements}
-use Rattle.cordyceps_stack.specs.Cores.Walks.{HandsOn, given_in}
+use Rattle.cordyceps_stack.specs.Cores.Walks.{HandsOn, handed_elements_of}
 
 module _ {E : Type 0} where
-  -- a core meets a history: the history is legal, what it holds is in the stack, and each party stands where its events
+  -- a core meets a history: the history is legal, what it holds is in the stack, and each party is where its events
   -- have led it
   pub record CoreMeets (h : List (Event ℕ E)) (m : Machine E) : Type 0 where
     pub legal : Legal h
@@ -43,11 +43,11 @@ module _ {E : Type 0} where
 
   -- a step with its party
   abbrev pub core_step : Machine E → ℕ × TransferStep E → Machine E × Answered E
-  core_step m s = stepped m s.0 s.1
+  core_step m s = after_step m s.0 s.1
 
   -- the events that a step adds to the history, by its answer
   abbrev pub step_events : List (Event ℕ E) → Machine E → ℕ → TransferStep E → Answered E → List (Event ℕ E)
-  step_events h m p s a = answered_events h p (in_hand_at m.rooms (slice_get m.parties p)) s a
+  step_events h m p s a = events_of_answered h p (in_hand_at m.rooms (slice_get m.parties p)) s a
 
   abbrev pub core_events : List (Event ℕ E) → Machine E → ℕ × TransferStep E → Answered E → List (Event ℕ E)
   core_events h m s a = step_events h m s.0 s.1 a
@@ -66,7 +66,9 @@ module _ {E : Type 0} where
         × AllSay core_step core_events core_says h old run.ran
     -- what was taken, and then what is held, is what was pushed
     pub nothing_lost : (h : List (Event ℕ E)) → CoreMeets h old
-        → let after = history_after core_step core_events h old run.ran in taken after ++ held after ≡ pushes after
+        → let after = history_after core_step core_events h old run.ran in
+        taken_elements after ++ held after ≡ pushes after
     -- what each party's walks hand out, and then what is left of them, are its batches
     pub walks : (h : List (Event ℕ E)) → CoreMeets h old
-        → HandsOn h old (history_after core_step core_events h old run.ran) new (λ p. given_in p run.ran replies)
+        → HandsOn h old (history_after core_step core_events h old run.ran) new
+        (λ p. handed_elements_of p run.ran replies)

@@ -6,7 +6,7 @@ use Rattle.std.specs.List.{position}
 use Rattle.cordyceps_base.specs.declared.shared.StepError.{StepError}
 use Rattle.cordyceps_base.specs.declared.shared.StepError.TheVariants.{NotThere}
 use Rattle.cordyceps_shared.specs.declared.room.Room.{Room}
-use Rattle.cordyceps_shared.specs.Rooms.{change, linking, freeing, is_free_for, element_in, next_in, occupied}
+use Rattle.cordyceps_shared.specs.Rooms.{change, with_link, as_free_room, is_free_for, element_in, next_in, occupied}
 use Rattle.cordyceps_stack.specs.declared.cores.stage.Attempt.{Attempt}
 use Rattle.cordyceps_stack.specs.declared.cores.stage.Stage.{Stage}
 use Rattle.cordyceps_stack.specs.declared.cores.stage.Stage.TheVariants.{Rest, Loaded, Set, Walking}
@@ -16,13 +16,13 @@ use Rattle.cordyceps_stack.specs.declared.cores.steps.TransferStep.{TransferStep
 use Rattle.cordyceps_stack.specs.declared.cores.steps.TransferStep.TheVariants as step
 use Rattle.cordyceps_stack.specs.History.{Event, Load, Push, Taken, held}
 
--- `head`, the rooms, and where each party stands, by its number
+-- `head`, the rooms, and where each party is, by its number
 pub record Machine (E : Type 0) : Type 0 where
   pub head : Option ℕ
   pub rooms : List (Room E)
   pub parties : List Stage
 
--- what a step answers; a refused one gives its element back
+-- what a step returns; a refused one returns its element
 abbrev pub Answered : Type 0 → Type 0
 Answered E = Result (TransferAnswer E) (StepError × Option E)
 
@@ -57,8 +57,8 @@ module _ {E : Type 0} where
   with_room m p = record { head = m.head; rooms = m.rooms ++ new_room p ∷ []; parties = m.parties }
 
   -- a room that got an element
-  abbrev pub holding : E → Room E → Room E
-  holding e room = record { owner = None; element = Some e; next = room.next }
+  abbrev pub with_element : E → Room E → Room E
+  with_element e room = record { owner = None; element = Some e; next = room.next }
 
   -- the least of p's free rooms
   abbrev pub least_free : ℕ → List (Room E) → Option ℕ
@@ -87,16 +87,16 @@ module _ {E : Type 0} where
   step_element step.Take = None
   step_element step.Walk = None
 
-  abbrev pub refused : Machine E → TransferStep E → Outcome E
-  refused m s = (m, Err (NotThere, step_element s))
+  abbrev pub refusal : Machine E → TransferStep E → Outcome E
+  refusal m s = (m, Err (NotThere, step_element s))
 
   -- p loads, with this least free room
   abbrev pub load : Machine E → ℕ → E → Option ℕ → Outcome E
-  load m p e None = refused m (step.Load e)
+  load m p e None = refusal m (step.Load e)
   load m p e (Some r) = (
     record {
       head = m.head;
-      rooms = change (holding e) r m.rooms;
+      rooms = change (with_element e) r m.rooms;
       parties = slice_set m.parties p (Loaded record { room = r; read = m.head });
     },
     Ok answer.Done,
@@ -106,7 +106,7 @@ module _ {E : Type 0} where
   set_next m p a = (
     record {
       head = m.head;
-      rooms = change (linking a.read) a.room m.rooms;
+      rooms = change (with_link a.read) a.room m.rooms;
       parties = slice_set m.parties p (Set a);
     },
     Ok answer.Done,
@@ -114,9 +114,9 @@ module _ {E : Type 0} where
 
   -- p's exchange fails, with the room r and its element; in a core the room of a push has one
   abbrev pub fails : Machine E → ℕ → ℕ → Option E → Outcome E
-  fails m p r None = refused m step.Exchange
+  fails m p r None = refusal m step.Exchange
   fails m p r (Some e) = (
-    record { head = m.head; rooms = change (freeing p) r m.rooms; parties = slice_set m.parties p Rest },
+    record { head = m.head; rooms = change (as_free_room p) r m.rooms; parties = slice_set m.parties p Rest },
     Ok (answer.Failed e),
   )
 
@@ -134,20 +134,20 @@ module _ {E : Type 0} where
   take m p (Some r) =
       (record { head = None; rooms = m.rooms; parties = slice_set m.parties p (Walking r) }, Ok answer.Taken)
 
-  abbrev pub handed : E → Option ℕ → TransferAnswer E
-  handed e None = answer.Last e
-  handed e (Some r) = answer.Gives e
+  abbrev pub walk_answer : E → Option ℕ → TransferAnswer E
+  walk_answer e None = answer.Last e
+  walk_answer e (Some r) = answer.Gives e
 
   -- p walks at the room r, with this link and element; in a core a room that is walked has one
   abbrev pub walk : Machine E → ℕ → ℕ → Option ℕ → Option E → Outcome E
-  walk m p r next None = refused m step.Walk
+  walk m p r next None = refusal m step.Walk
   walk m p r next (Some e) = (
     record {
       head = m.head;
-      rooms = change (freeing p) r m.rooms;
+      rooms = change (as_free_room p) r m.rooms;
       parties = slice_set m.parties p (stage_after_walk next);
     },
-    Ok (handed e next),
+    Ok (walk_answer e next),
   )
 
   -- what p's step does at its stage
@@ -157,15 +157,15 @@ module _ {E : Type 0} where
   acts m p step.Exchange (Set a) = exchange m p a (option_eq nat_eq m.head a.read)
   acts m p step.Take Rest = take m p m.head
   acts m p step.Walk (Walking r) = walk m p r (next_in (slice_get m.rooms r)) (element_in (slice_get m.rooms r))
-  acts m p s stage = refused m s
+  acts m p s stage = refusal m s
 
-  abbrev pub stepped_at : Machine E → ℕ → TransferStep E → Option Stage → Outcome E
-  stepped_at m p s None = refused m s
-  stepped_at m p s (Some stage) = acts m p s stage
+  abbrev pub after_step_at : Machine E → ℕ → TransferStep E → Option Stage → Outcome E
+  after_step_at m p s None = refusal m s
+  after_step_at m p s (Some stage) = acts m p s stage
 
   -- the machine after p's step, and the answer
-  abbrev pub stepped : Machine E → ℕ → TransferStep E → Outcome E
-  stepped m p s = stepped_at m p s (slice_get m.parties p)
+  abbrev pub after_step : Machine E → ℕ → TransferStep E → Outcome E
+  after_step m p s = after_step_at m p s (slice_get m.parties p)
 
   abbrev pub may_take : Machine E → ℕ → TransferStep E → Option Stage → Bool
   may_take m p (step.Load e) (Some Rest) = is_some (least_free p m.rooms)
@@ -195,16 +195,16 @@ module _ {E : Type 0} where
   push_event p None = []
   push_event p (Some e) = Push p e ∷ []
 
-  abbrev pub answer_events : {P : Type 0} → List (Event P E) → P → Option E → TransferStep E → TransferAnswer E →
+  abbrev pub events_of_answer : {P : Type 0} → List (Event P E) → P → Option E → TransferStep E → TransferAnswer E →
       List (Event P E)
-  answer_events h p hand (step.Load e) a = Load p ∷ []
-  answer_events h p hand s (answer.Pushed b) = push_event p hand
-  answer_events h p hand s answer.Taken = Taken p (reverse (held h)) ∷ []
-  answer_events h p hand s answer.Nothing = Taken p [] ∷ []
-  answer_events h p hand s a = []
+  events_of_answer h p hand (step.Load e) a = Load p ∷ []
+  events_of_answer h p hand s (answer.Pushed b) = push_event p hand
+  events_of_answer h p hand s answer.Taken = Taken p (reverse (held h)) ∷ []
+  events_of_answer h p hand s answer.Nothing = Taken p [] ∷ []
+  events_of_answer h p hand s a = []
 
   -- the events that a step of p adds to the history, by its answer; a refused step adds none
-  abbrev pub answered_events : {P : Type 0} → List (Event P E) → P → Option E → TransferStep E → Answered E →
+  abbrev pub events_of_answered : {P : Type 0} → List (Event P E) → P → Option E → TransferStep E → Answered E →
       List (Event P E)
-  answered_events h p hand s (Ok a) = answer_events h p hand s a
-  answered_events h p hand s (Err e) = []
+  events_of_answered h p hand s (Ok a) = events_of_answer h p hand s a
+  events_of_answered h p hand s (Err e) = []

@@ -1,4 +1,4 @@
--- What holds of a core's machine and of a history where a party stands at a stage.
+-- What holds of a core's machine and of a history where a party is at a stage.
 use Rattle.std.specs.Prelude.{◌≡◌, ◌≢◌, ℕ, List, [], ◌∷◌, ◌++◌, Option, Some, None, slice_get}
 use Rattle.cordyceps_stack.specs.declared.cores.stage.Stage.{Stage}
 use Rattle.cordyceps_stack.specs.declared.cores.stage.Stage.TheVariants.{Rest, Loaded, Set, Walking}
@@ -41,7 +41,7 @@ module _ {E : Type 0} where
     pub loaded : LastLoad p h since
     pub moved : head ≢ read → SomeByAnother p since
 
-  -- what is yet to be handed out is an end of the party's last batch
+  -- what is yet to be handed out is a suffix of the party's last batch
   pub record HasBatchLeft (h : List (Event ℕ E)) (rooms : List (Room E)) (own : ℕ → Option ℕ) (p r : ℕ) : Type 0 where
     pub rest : List (ℕ × E)
     pub links : LeadsThrough rooms own (Some p) (Some r) rest
@@ -50,7 +50,7 @@ module _ {E : Type 0} where
     pub given : List E
     pub end : given ++ room_elements rest ≡ batch
 
-  -- what holds of a party that stands at this stage
+  -- what holds of a party at this stage
   abbrev pub AtStage : List (Event ℕ E) → Option ℕ → List (Room E) → (ℕ → Option ℕ) → ℕ → Stage → Type 0
   AtStage h head rooms own p Rest = Unit {0}
   AtStage h head rooms own p (Loaded a) = InHand rooms own p a.room × HasRead h p head a.read

@@ -38,15 +38,15 @@ module _ {E : Type 0} where
   IsLeft m p es = IsLeftAt m.rooms (slice_get m.parties p) es
 
   -- what an answer hands out
-  abbrev pub given_by : Answered E → List E
-  given_by (Ok (answer.Gives e)) = e ∷ []
-  given_by (Ok (answer.Last e)) = e ∷ []
-  given_by a = []
+  abbrev pub handed_elements : Answered E → List E
+  handed_elements (Ok (answer.Gives e)) = e ∷ []
+  handed_elements (Ok (answer.Last e)) = e ∷ []
+  handed_elements a = []
 
   -- what the answers to p's steps hand out
-  abbrev pub given_in : ℕ → List (ℕ × TransferStep E) → List (Answered E) → List E
-  given_in p (s ∷ ss) (a ∷ more) = only s.0 (given_by a) p ++ given_in p ss more
-  given_in p ss more = []
+  abbrev pub handed_elements_of : ℕ → List (ℕ × TransferStep E) → List (Answered E) → List E
+  handed_elements_of p (s ∷ ss) (a ∷ more) = only s.0 (handed_elements a) p ++ handed_elements_of p ss more
+  handed_elements_of p ss more = []
 
   -- what p handed out, and then what it has yet to, are its batches
   abbrev pub HandsOut : List (Event ℕ E) → Machine E → ℕ → List E → Type 0

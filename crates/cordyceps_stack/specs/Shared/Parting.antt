@@ -12,8 +12,8 @@ module _ {E : Type 0} where
   abbrev pub view_without_told : View E → View E
   view_without_told v = record v { known = record v.known { had = []; told = [] } }
 
-  abbrev pub learned : TableStep E → SeatState E → ℕ → SeatState E → Type 0
-  learned st m read k =
+  abbrev pub after_learn : TableStep E → SeatState E → ℕ → SeatState E → Type 0
+  after_learn st m read k =
       (k.0 ≡ view_without_told m.0) × (k.1 ≡ m.1) × IsKnown (λ h. Legal h) m.0.known × (length m.0.free ≤ st.slots)
 
   -- what a party has that gave up the first n of its free rooms, and what the new one has

@@ -9,7 +9,7 @@ use Rattle.cordyceps_shared.specs.declared.slots.Filled.{Filled}
 use Rattle.cordyceps_stack.specs.History.{Event, Load, Push, Taken, Legal, actor}
 use Rattle.cordyceps_stack.specs.Cores.Stages.{room_elements}
 use Rattle.cordyceps_stack.specs.Shared.Calls.{EndsPushed, EndsLooked, IsOvertaken}
-use Rattle.cordyceps_stack.specs.Shared.View.{Doing, Idle, Ready, Loaded, Set, Walking, View, name, walking}
+use Rattle.cordyceps_stack.specs.Shared.View.{Doing, Idle, Ready, Loaded, Set, Walking, View, name, walk_through}
 use Rattle.cordyceps_stack.specs.Shared.Words.{start}
 use Rattle.cordyceps_shared.specs.Slots.{Hand, Near, TableStep, full_slot}
 
@@ -21,7 +21,7 @@ module _ {E : Type 0} where
   abbrev pub Sees : View E → List (Event Name E) → View E → Type 0
   Sees v es w = Grown actor (λ h. Legal h) v.known es w.known
 
-  -- the filled slots of these rooms, in front of others in hand
+  -- the filled slots of these rooms, before others in hand
   abbrev pub carry : List (ℕ × E) → Hand E → Hand E
   carry [] cs = cs
   carry (x ∷ xs) cs = (x.0, Some (full_slot x.0 x.1)) ∷ carry xs cs
@@ -41,51 +41,53 @@ module _ {E : Type 0} where
 
   -- ---- the steps
   -- a load of head by a party that looks whether nothing is held
-  abbrev pub looked : TableStep E → SeatState E → ℕ → SeatState E → Type 0
-  looked st m read k =
+  abbrev pub after_look : TableStep E → SeatState E → ℕ → SeatState E → Type 0
+  after_look st m read k =
       (k.0.doing ≡ m.0.doing) × (k.0.free ≡ m.0.free) × (k.1 ≡ m.1) × Sees m.0 (Load (name m.0) ∷ []) k.0
       × EndsLooked (read ≡ 0) (name m.0) k.0.known.seen
 
   -- a read of the link of its first free room by a party that begins to push: the room's slot is in hand
-  abbrev pub readied : TableStep E → SeatState E → ℕ → SeatState E → Type 0
-  readied st m found k = (r : ℕ) (rs : List ℕ) → m.0.free ≡ r ∷ rs
+  abbrev pub after_ready : TableStep E → SeatState E → ℕ → SeatState E → Type 0
+  after_ready st m found k = (r : ℕ) (rs : List ℕ) → m.0.free ≡ r ∷ rs
       → (st.word ≡ LINKS + r) × (k.0 ≡ record m.0 { doing = Ready r; free = rs }) × (k.1 ≡ (r, None) ∷ m.1)
       × (r < st.slots)
 
   -- a load of head by a party that pushes
-  abbrev pub loaded : TableStep E → SeatState E → ℕ → SeatState E → Type 0
-  loaded st m read k = (r : ℕ) → m.0.doing ≡ Ready r
+  abbrev pub after_load : TableStep E → SeatState E → ℕ → SeatState E → Type 0
+  after_load st m read k = (r : ℕ) → m.0.doing ≡ Ready r
       → (k.0.doing ≡ Loaded r read) × (k.0.free ≡ m.0.free) × (k.1 ≡ m.1) × Sees m.0 (Load (name m.0) ∷ []) k.0
 
   -- a store of what was read in the room's link
-  abbrev pub wrote : TableStep E → SeatState E → ℕ → SeatState E → Type 0
-  wrote st m n k = (r read : ℕ) → m.0.doing ≡ Loaded r read → (k.0 ≡ record m.0 { doing = Set r read }) × (k.1 ≡ m.1)
+  abbrev pub after_write : TableStep E → SeatState E → ℕ → SeatState E → Type 0
+  after_write st m n k = (r read : ℕ) → m.0.doing ≡ Loaded r read
+      → (k.0 ≡ record m.0 { doing = Set r read }) × (k.1 ≡ m.1)
 
   -- a compare-exchange of head
-  abbrev pub exchanged : TableStep E → SeatState E → ℕ → SeatState E → Type 0
-  exchanged st m found k = (r read : ℕ) (x : Filled E) (cs : Hand E) → m.0.doing ≡ Set r read → m.1 ≡ (r, Some x) ∷ cs
+  abbrev pub after_exchange : TableStep E → SeatState E → ℕ → SeatState E → Type 0
+  after_exchange st m found k = (r read : ℕ) (x : Filled E) (cs : Hand E) → m.0.doing ≡ Set r read
+      → m.1 ≡ (r, Some x) ∷ cs
       → (found ≡ read → (k.0.doing ≡ Idle) × (k.0.free ≡ m.0.free) × (k.1 ≡ cs)
       × Sees m.0 (Push (name m.0) x.item ∷ []) k.0 × EndsPushed x.item (found ≡ 0) (name m.0) k.0.known.seen)
       × (found ≢ read → (k.0.doing ≡ Ready r) × (k.0.free ≡ m.0.free) × (k.1 ≡ m.1) × Sees m.0 [] k.0
       × IsOvertaken k.0.known.seen)
 
   -- a read of the link of a room that is not pushed: its slot goes back
-  abbrev pub returned : TableStep E → SeatState E → ℕ → SeatState E → Type 0
-  returned st m found k = (r : ℕ) (cs : Hand E) → m.0.doing ≡ Ready r → m.1 ≡ (r, None) ∷ cs
+  abbrev pub after_return : TableStep E → SeatState E → ℕ → SeatState E → Type 0
+  after_return st m found k = (r : ℕ) (cs : Hand E) → m.0.doing ≡ Ready r → m.1 ≡ (r, None) ∷ cs
       → (st.word ≡ LINKS + r) × (k.0 ≡ record m.0 { doing = Idle; free = r ∷ m.0.free }) × (k.1 ≡ cs)
 
   -- a swap of head: the slots of all that was held are in hand
-  abbrev pub took : TableStep E → SeatState E → ℕ → SeatState E → Type 0
-  took st m found k = m.0.doing ≡ Idle
-      → (chain : List (ℕ × E)) × (found ≡ start chain) × (k.0.doing ≡ walking chain) × (k.0.free ≡ m.0.free)
+  abbrev pub after_take : TableStep E → SeatState E → ℕ → SeatState E → Type 0
+  after_take st m found k = m.0.doing ≡ Idle
+      → (chain : List (ℕ × E)) × (found ≡ start chain) × (k.0.doing ≡ walk_through chain) × (k.0.free ≡ m.0.free)
       × (k.1 ≡ carry chain m.1) × NearChain st.slots chain
       × Sees m.0 (Taken (name m.0) (room_elements chain) ∷ []) k.0
 
   -- a read of the link of the next room to be handed out: its slot goes back
-  abbrev pub walked : TableStep E → SeatState E → ℕ → SeatState E → Type 0
-  walked st m found k =
+  abbrev pub after_walk : TableStep E → SeatState E → ℕ → SeatState E → Type 0
+  after_walk st m found k =
       (x : ℕ × E) (xs : List (ℕ × E)) (cs : Hand E) → m.0.doing ≡ Walking (x ∷ xs) → m.1 ≡ (x.0, None) ∷ cs
-      → (found ≡ start xs) × (k.0 ≡ record m.0 { doing = walking xs; free = x.0 ∷ m.0.free }) × (k.1 ≡ cs)
+      → (found ≡ start xs) × (k.0 ≡ record m.0 { doing = walk_through xs; free = x.0 ∷ m.0.free }) × (k.1 ≡ cs)
       × (length k.0.free ≤ st.slots)
 
   -- ---- between the steps
@@ -93,7 +95,7 @@ module _ {E : Type 0} where
   abbrev pub IsResting : ℕ → SeatState E → Type 0
   IsResting slots m = (m.0.doing ≡ Idle) × (m.1 ≡ []) × (m.0.known.share ≢ []) × Near slots m.0.free
 
-  -- the party pushes what lies in the slot in hand, which is this room's
+  -- the party pushes what is in the slot in hand, which is this room's
   abbrev pub IsReady : ℕ → ℕ → E → SeatState E → Type 0
   IsReady slots room x m =
       (m.0.doing ≡ Ready room) × (m.1 ≡ (room, Some (full_slot room x)) ∷ []) × (m.0.known.share ≢ [])
@@ -102,4 +104,5 @@ module _ {E : Type 0} where
   -- the party has these rooms to hand out, and their slots in hand
   abbrev pub IsWalking : ℕ → List (ℕ × E) → SeatState E → Type 0
   IsWalking slots xs m =
-      (m.0.doing ≡ walking xs) × (m.1 ≡ carry xs []) × NearChain slots xs × (m.0.known.share ≢ []) × Near slots m.0.free
+      (m.0.doing ≡ walk_through xs) × (m.1 ≡ carry xs []) × NearChain slots xs × (m.0.known.share ≢ [])
+      × Near slots m.0.free

@@ -22,7 +22,7 @@ module _ {E : Type 0} where
   FullAtHome homes [] = Unit {0}
   FullAtHome homes (x ∷ xs) = (get_elem? homes x.0 ≡ some (some (Some (full_slot x.0 x.1)))) × FullAtHome homes xs
 
-  -- there is one history, which the words, the slots and the parties meet, and of which each party has seen a beginning
+  -- there is one history, which the words, the slots and the parties meet, and of which each party has seen a prefix
   pub record RuleHolds (s : TableState E) : Type 0 where
     pub history : History E
     pub chain : List (ℕ × E)
@@ -33,6 +33,6 @@ module _ {E : Type 0} where
     pub fits : AllAgree actor knows s.views history
     pub owned : SharesDisjoint knows s.views history
 
--- a link for each slot, behind the words before the links, for at most as many rooms as a stack may have
+-- a link for each slot, after the words before the links, for at most as many rooms as a stack may have
 abbrev pub IsTable : TableId → Type 0
 IsTable z = (z.words ≡ LINKS + z.slots) × (z.slots ≤ MAX_ROOMS)

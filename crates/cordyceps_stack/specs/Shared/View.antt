@@ -37,11 +37,11 @@ module _ {E : Type 0} where
   name v = first_name v.known.share
 
   -- what a party does that has these rooms yet to hand out
-  abbrev pub walking : List (ℕ × E) → Doing E
-  walking [] = Idle
-  walking (x ∷ xs) = Walking (x ∷ xs)
+  abbrev pub walk_through : List (ℕ × E) → Doing E
+  walk_through [] = Idle
+  walk_through (x ∷ xs) = Walking (x ∷ xs)
 
-  -- how often the room r stands in a chain, and among the rooms that a party works with
+  -- how often the room r is in a chain, and among the rooms that a party works with
   abbrev pub in_chain : ℕ → List (ℕ × E) → ℕ
   in_chain r xs = tally (λ x. one_if (nat_eq x.0 r)) xs
 

@@ -6,8 +6,8 @@ ghost use Rattle.cordyceps_stack.specs.Cores.CoreMeets.{CoreMeets, IsSound, step
 ghost use Rattle.cordyceps_stack.specs.Cores.Alone.{push_steps, take_steps};
 ghost use Rattle.cordyceps_stack.specs.History.{Event, Load, Push, Taken, held};
 ghost use Rattle.cordyceps_shared.specs.Rooms.{element_in, next_in};
-ghost use Rattle.cordyceps_stack.specs.Cores.Machine.{new_machine, with_party, with_room, held_in, stepped, acts, is_there, step_element, is_at_rest, is_ready, load, set_next, exchange, take, walk, least_free};
-ghost use Rattle.cordyceps_stack.specs.Cores.Walks.{HandsOut, HandsOn, given_by, only};
+ghost use Rattle.cordyceps_stack.specs.Cores.Machine.{new_machine, with_party, with_room, held_in, after_step, acts, is_there, step_element, is_at_rest, is_ready, load, set_next, exchange, take, walk, least_free};
+ghost use Rattle.cordyceps_stack.specs.Cores.Walks.{HandsOut, HandsOn, handed_elements, only};
 
 use crate::cores::rooms::Rooms;
 use crate::cores::stage::{Attempt, Stage};
@@ -120,8 +120,8 @@ impl<E: Drop> TransferCore<E> {
         party: usize,
         step: TransferStep<E>,
     ) -> Result<TransferAnswer<E>, (StepError, Option<E>)>
-        ensures machine { self.new ≡ (stepped self.old party step).0 }
-        ensures answer { result ≡ (stepped self.old party step).1 }
+        ensures machine { self.new ≡ (after_step self.old party step).0 }
+        ensures answer { result ≡ (after_step self.old party step).1 }
 
         // What the definition of the machine says of refusals, in plain words.
         ensures accepted { is_ok result ≡ is_there self.old party step }
@@ -135,7 +135,7 @@ impl<E: Drop> TransferCore<E> {
         ensures walks { (h : List (Event ℕ E))
             → CoreMeets h self.old
             → HandsOn h self.old (h ++ step_events h self.old party step result) self.new
-            (only party (given_by result)) }
+            (only party (handed_elements result)) }
     {
         match self.stage_of(party) {
             Some(stage) => self.act(party, step, stage),

@@ -1,8 +1,8 @@
 //! The rooms of a transfer core.
 ghost use Rattle.std.specs.Prelude.{◌≡◌, ◌<◌, ◌≤◌, ◌++◌, [], ◌∷◌, length, slice_get, IsSome, Some, None, OnOk, OnErr};
-ghost use Rattle.cordyceps_shared.specs.Rooms.{change, linking, freeing, element_in, next_in};
+ghost use Rattle.cordyceps_shared.specs.Rooms.{change, with_link, as_free_room, element_in, next_in};
 ghost use Rattle.cordyceps_shared.specs.Rooms.{occupied};
-ghost use Rattle.cordyceps_stack.specs.Cores.Machine.{holding, new_room, least_free};
+ghost use Rattle.cordyceps_stack.specs.Cores.Machine.{with_element, new_room, least_free};
 
 use cordyceps_shared::room::Room;
 use std::alloc::{AllocError, Global};
@@ -53,40 +53,40 @@ impl<E: Drop> Rooms<E> {
         self.list.iter().position(|room| room.owner == Some(party))
     }
 
-    /// Returns the room that the room `at` leads to.
-    pub(crate) fn next(&self, at: usize) -> Option<usize>
-        requires { at < length self.now }
-        ensures { result ≡ next_in (slice_get self.now at) }
+    /// Returns the room that the room `index` leads to.
+    pub(crate) fn next(&self, index: usize) -> Option<usize>
+        requires { index < length self.now }
+        ensures { result ≡ next_in (slice_get self.now index) }
     {
-        self.list[at].next
+        self.list[index].next
     }
 
     /// Puts an element into a room, which is then no party's free one.
-    pub(crate) fn hold(&mut self, at: usize, element: E)
-        requires { at < length self.old }
-        ensures { self.new ≡ change (holding element) at self.old }
+    pub(crate) fn hold(&mut self, index: usize, element: E)
+        requires { index < length self.old }
+        ensures { self.new ≡ change (with_element element) index self.old }
     {
-        let room = &mut self.list[at];
+        let room = &mut self.list[index];
         room.owner = None;
         room.element = Some(element);
     }
 
     /// Makes a room lead to `next`.
-    pub(crate) fn link(&mut self, at: usize, next: Option<usize>)
-        requires { at < length self.old }
-        ensures { self.new ≡ change (linking next) at self.old }
+    pub(crate) fn link(&mut self, index: usize, next: Option<usize>)
+        requires { index < length self.old }
+        ensures { self.new ≡ change (with_link next) index self.old }
     {
-        self.list[at].next = next;
+        self.list[index].next = next;
     }
 
     /// Takes the element out of a room, which is then a free one of the party.
-    pub(crate) fn free(&mut self, at: usize, party: usize) -> E
-        requires within { at < length self.old }
-        requires full { IsSome (element_in (slice_get self.old at)) }
-        ensures rooms { self.new ≡ change (freeing party) at self.old }
-        ensures element { element_in (slice_get self.old at) ≡ Some result }
+    pub(crate) fn free(&mut self, index: usize, party: usize) -> E
+        requires within { index < length self.old }
+        requires full { IsSome (element_in (slice_get self.old index)) }
+        ensures rooms { self.new ≡ change (as_free_room party) index self.old }
+        ensures element { element_in (slice_get self.old index) ≡ Some result }
     {
-        let room = &mut self.list[at];
+        let room = &mut self.list[index];
         room.owner = Some(party);
         room.element.take().unwrap()
     }

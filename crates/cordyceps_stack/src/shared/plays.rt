@@ -1,6 +1,8 @@
 //! The steps of a shared stack, for contracts. Values of these types are not used when the program runs.
-ghost use Rattle.cordyceps_stack.specs.Shared.Plays.{looked, readied, loaded, wrote, exchanged, returned, took, walked};
-ghost use Rattle.cordyceps_stack.specs.Shared.Parting.{learned, view_keeping, view_giving, view_absorbing, view_absorbed};
+ghost use Rattle.cordyceps_stack.specs.Shared.Plays.{after_look, after_ready, after_load, after_write};
+ghost use Rattle.cordyceps_stack.specs.Shared.Plays.{after_exchange, after_return, after_take, after_walk};
+ghost use Rattle.cordyceps_stack.specs.Shared.Parting.{after_learn, view_keeping, view_giving};
+ghost use Rattle.cordyceps_stack.specs.Shared.Parting.{view_absorbing, view_absorbed};
 
 use crate::shared::table::SeatView;
 use atomic_table::{Join, Play, Split};
@@ -11,63 +13,63 @@ use std::marker::PhantomData;
 pub(crate) struct Look;
 
 impl<E> Play<Option<Filled<E>>, SeatView<E>> for Look {
-    ghost then = { looked };
+    ghost then = { after_look };
 }
 
 /// A load of a room's link, by which a push takes the room's slot.
 pub(crate) struct Ready;
 
 impl<E> Play<Option<Filled<E>>, SeatView<E>> for Ready {
-    ghost then = { readied };
+    ghost then = { after_ready };
 }
 
 /// A load of the head, which begins a try to push.
 pub(crate) struct Load;
 
 impl<E> Play<Option<Filled<E>>, SeatView<E>> for Load {
-    ghost then = { loaded };
+    ghost then = { after_load };
 }
 
 /// A store to a room's link.
 pub(crate) struct Write;
 
 impl<E> Play<Option<Filled<E>>, SeatView<E>> for Write {
-    ghost then = { wrote };
+    ghost then = { after_write };
 }
 
 /// A compare-exchange of the head, which ends a try to push.
 pub(crate) struct Exchange;
 
 impl<E> Play<Option<Filled<E>>, SeatView<E>> for Exchange {
-    ghost then = { exchanged };
+    ghost then = { after_exchange };
 }
 
 /// A load of a room's link, by which a push that failed returns the slot.
 pub(crate) struct Return;
 
 impl<E> Play<Option<Filled<E>>, SeatView<E>> for Return {
-    ghost then = { returned };
+    ghost then = { after_return };
 }
 
 /// A swap of the head, which takes all elements.
 pub(crate) struct Take;
 
 impl<E> Play<Option<Filled<E>>, SeatView<E>> for Take {
-    ghost then = { took };
+    ghost then = { after_take };
 }
 
 /// A load of a room's link, by which a walk returns an emptied slot.
 pub(crate) struct Walk;
 
 impl<E> Play<Option<Filled<E>>, SeatView<E>> for Walk {
-    ghost then = { walked };
+    ghost then = { after_walk };
 }
 
 /// A load of the head after an absorb.
 pub(crate) struct Learn;
 
 impl<E> Play<Option<Filled<E>>, SeatView<E>> for Learn {
-    ghost then = { learned };
+    ghost then = { after_learn };
 }
 
 /// A split, at which a party gives up `B::rooms` rooms.

@@ -1,7 +1,7 @@
 use Rattle.std.proofs.Common.{◌≡◌, sym, ap, ◌∙◌, rules}
 use Rattle.std.specs.Prelude.{is_none}
 use Rattle.cordyceps_stack.specs.declared.cores.steps.TransferStep.TheVariants as step
-use Rattle.cordyceps_stack.specs.Cores.Machine.{Machine, stepped}
+use Rattle.cordyceps_stack.specs.Cores.Machine.{Machine, after_step}
 use Rattle.cordyceps_stack.proofs.CoreTheory.WalkCalls.{push_hands_alone}
 use Rattle.cordyceps_stack.proofs.CoreTheory.AlonePush.{push_alone}
 use Rattle.cordyceps_stack.proofs.cores.calls.TransferCore.push_was_empty.Goals as goal
@@ -10,9 +10,9 @@ pub returns-clause-ok : goal.returns-clause-ok
 returns-clause-ok g c =
     let M = Machine g.row.E.Denot in
     let loaded = c.step.ensures.machine in
-    let linked = c.step-2.ensures.machine ∙ ap (λ (m : M). (stepped m c.args.party step.SetNext).0) loaded in
+    let linked = c.step-2.ensures.machine ∙ ap (λ (m : M). (after_step m c.args.party step.SetNext).0) loaded in
     let was : c.is_none-was_empty.result ≡ is_none c.args.self.now.head = search rules in
-    (was, c.step-3.ensures.machine ∙ ap (λ (m : M). (stepped m c.args.party step.Exchange).0) linked)
+    (was, c.step-3.ensures.machine ∙ ap (λ (m : M). (after_step m c.args.party step.Exchange).0) linked)
 
 pub returns-clause-history : goal.returns-clause-history
 returns-clause-history g c = λ h was.
