@@ -6,22 +6,22 @@ use Rattle.std.proofs.lemmas.List.Splits.{slice_split_at, slice_split_none, leng
 use Rattle.std.proofs.lemmas.Bool.Decides.{nat_tests}
 use Rattle.std.specs.List.{concat, flat_map, AllByRecursion}
 use Rattle.replay_driver.specs.Script.{Machine, step_of, Steps, replies, parts, last_line}
-use Rattle.replay_driver.specs.Steps.{ended, HasNoFeed, Writes, Leads, SoFar, TakesLines, TakesLast, fault_of}
+use Rattle.replay_driver.specs.Steps.{with_line_feed, HasNoFeed, Writes, Leads, SoFar, TakesLines, TakesLast, fault_of}
 use Rattle.replay_driver.specs.Halts.{Halts}
 use Rattle.replay_driver.specs.declared.fault.Fault.TheVariants as faults
 use Rattle.replay_driver.specs.declared.session.Stop.{Stop}
 use Rattle.replay_driver.specs.declared.session.Stop.TheVariants as stops
 use Rattle.replay_driver.proofs.Leads.{concat-append, steps-append, steps-one, replies-steps, first_bad-steps, first_bad-at, all-append, writes_more}
 
-feeds : (lines : List (List ℕ)) → length lines ≤ length (flat_map ended lines)
+feeds : (lines : List (List ℕ)) → length lines ≤ length (flat_map with_line_feed lines)
 feeds [] = omega arith
 feeds (line ∷ lines) = let h = feeds lines in simp length-append (omega arith)
 
-pub parts-after : (lines : List (List ℕ)) (rest : List ℕ) → AllByRecursion HasNoFeed lines → parts (flat_map ended lines ++ rest) ≡ lines ++ parts rest
+pub parts-after : (lines : List (List ℕ)) (rest : List ℕ) → AllByRecursion HasNoFeed lines → parts (flat_map with_line_feed lines ++ rest) ≡ lines ++ parts rest
 parts-after [] rest clean = refl
 parts-after (line ∷ lines) rest (first, others) =
-    let regroup : (ended line ++ flat_map ended lines) ++ rest ≡ line ++ 10 ∷ (flat_map ended lines ++ rest) = rw (append_assoc, append_assoc) refl in
-    rw regroup (slice_split_at (λ b. nat_eq b 10) line 10 (flat_map ended lines ++ rest) first refl ∙ ap (λ (xs : List (List ℕ)). line ∷ xs) (parts-after lines rest others))
+    let regroup : (with_line_feed line ++ flat_map with_line_feed lines) ++ rest ≡ line ++ 10 ∷ (flat_map with_line_feed lines ++ rest) = rw (append_assoc, append_assoc) refl in
+    rw regroup (slice_split_at (λ b. nat_eq b 10) line 10 (flat_map with_line_feed lines ++ rest) first refl ∙ ap (λ (xs : List (List ℕ)). line ∷ xs) (parts-after lines rest others))
 
 pub parts-clean : (rest : List ℕ) → HasNoFeed rest → parts rest ≡ rest ∷ []
 parts-clean rest clean = slice_split_none (λ b. nat_eq b 10) rest clean
@@ -42,7 +42,7 @@ parts-last bytes = last_of (parts bytes) (omega (arith, length-slice_split (λ b
 pub leads_joined : {S : Type 0} {machine : Machine S} {old mid new : S} {bytes rest rest2 : List ℕ} {lines lines2 texts texts2 : List (List ℕ)} →
     Leads machine old bytes lines rest mid texts → Leads machine mid rest lines2 rest2 new texts2 → Leads machine old bytes (lines ++ lines2) rest2 new (texts ++ texts2)
 leads_joined {machine = machine} {rest2 = rest2} {lines = lines} {lines2 = lines2} a b = record {
-  cut = a.cut ∙ ap (λ (xs : List ℕ). flat_map ended lines ++ xs) b.cut ∙ sym (append_assoc (flat_map ended lines) (flat_map ended lines2) rest2) ∙ ap (λ (xs : List ℕ). xs ++ rest2) (sym (flat_map-append ended lines lines2));
+  cut = a.cut ∙ ap (λ (xs : List ℕ). flat_map with_line_feed lines ++ xs) b.cut ∙ sym (append_assoc (flat_map with_line_feed lines) (flat_map with_line_feed lines2) rest2) ∙ ap (λ (xs : List ℕ). xs ++ rest2) (sym (flat_map-append with_line_feed lines lines2));
   no_feed = all-append HasNoFeed lines lines2 a.no_feed b.no_feed;
   steps = steps-append machine _ _ _ lines lines2 _ _ a.steps b.steps;
 }
@@ -56,7 +56,7 @@ pub extended : {S O : Type 0} {machine : Machine S} {takes : O → O → List �
 extended {rest = rest} so_far more = record {
   lines = so_far.lines;
   texts = so_far.texts;
-  leads = record { cut = ap (λ (xs : List ℕ). xs ++ more) so_far.leads.cut ∙ append_assoc (flat_map ended so_far.lines) rest more; no_feed = so_far.leads.no_feed; steps = so_far.leads.steps };
+  leads = record { cut = ap (λ (xs : List ℕ). xs ++ more) so_far.leads.cut ∙ append_assoc (flat_map with_line_feed so_far.lines) rest more; no_feed = so_far.leads.no_feed; steps = so_far.leads.steps };
   counted = so_far.counted;
   writes = so_far.writes;
 }

@@ -9,8 +9,8 @@ use Rattle.replay_driver.specs.declared.session.Stop.{Stop}
 use Rattle.replay_driver.specs.declared.session.Stop.TheVariants as stops
 
 -- a line with its line feed
-abbrev pub ended : List ℕ → List ℕ
-ended line = line ++ 10 ∷ []
+abbrev pub with_line_feed : List ℕ → List ℕ
+with_line_feed line = line ++ 10 ∷ []
 
 abbrev pub HasNoFeed : List ℕ → Type 0
 HasNoFeed bytes = All (λ b. nat_eq b 10 ≡ false) bytes
@@ -57,7 +57,7 @@ TakesOne machine old line new takes output text output' text' failed (Err stops.
 -- these lines stand in the bytes, each with its line feed, and then a rest; they lead on, and have these replies
 pub record Leads {S : Type 0} (machine : Machine S) (old : S) (bytes : List ℕ) (lines : List (List ℕ)) (rest : List ℕ)
     (new : S) (texts : List (List ℕ)) : Type 0 where
-  pub cut : bytes ≡ flat_map ended lines ++ rest
+  pub cut : bytes ≡ flat_map with_line_feed lines ++ rest
   pub no_feed : AllByRecursion HasNoFeed lines
   pub steps : Steps machine old lines new texts
 

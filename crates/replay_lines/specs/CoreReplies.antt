@@ -26,20 +26,20 @@ pub data CoreLine : Type 0 where
   not_there : CoreLine
 
 -- what a reply tells
-abbrev pub said : CoreReply → CoreLine
-said (replies.Party n) = party n
-said replies.Done = done
-said (replies.Truth b) = truth b
-said (replies.Found item) = found item
-said (replies.Last item) = last item
-said (replies.Failed item) = failed item
-said replies.Taken = taken
-said replies.Nothing = nothing
-said replies.Busy = busy
-said replies.Empty = empty
-said replies.Inconsistent = inconsistent
-said (replies.Show items) = show items.items
-said replies.NotThere = not_there
+abbrev pub line_of_reply : CoreReply → CoreLine
+line_of_reply (replies.Party n) = party n
+line_of_reply replies.Done = done
+line_of_reply (replies.Truth b) = truth b
+line_of_reply (replies.Found item) = found item
+line_of_reply (replies.Last item) = last item
+line_of_reply (replies.Failed item) = failed item
+line_of_reply replies.Taken = taken
+line_of_reply replies.Nothing = nothing
+line_of_reply replies.Busy = busy
+line_of_reply replies.Empty = empty
+line_of_reply replies.Inconsistent = inconsistent
+line_of_reply (replies.Show items) = show items.items
+line_of_reply replies.NotThere = not_there
 
 -- a word and an item
 abbrev pub item_text : List ℕ → Item → List ℕ
