@@ -72,7 +72,7 @@ joined {takes = takes} more failed so_far (lines, texts, leads, within, clean, c
   writes = rw concat-append (writes_more takes more _ _ _ _ _ _ _ _ so_far.writes writes);
 }
 
--- More bytes were read behind those that are held.
+-- More bytes were read after those that are held.
 pub grown : {S O : Type 0} {machine : Machine S} {takes : O → O → List ℕ → Type 0} {old new : RunState S O} {bytes rest : List ℕ} {n : ℕ} →
     SoFar machine takes bytes rest old new n → (more now block seen : List ℕ) (held end room left : ℕ) → now ≡ rest ++ more →
     held ≤ length block → rest ≡ take held block → end ≤ length seen → now ≡ take end seen →
@@ -130,7 +130,7 @@ halts_ended {machine = machine} {takes = takes} more {old = old} {mid = mid} {ne
       halted = (at_end, refl, first_bad-steps machine old.state new.state lines texts whole, (lines, [], sym (append-nil lines), whole, tt), rw concat-append (writes_more takes more _ _ _ _ _ _ _ _ so_far.writes writes));
     }
 
--- The sink failed, behind complete lines.
+-- The sink failed, after complete lines.
 pub halts_unwritten : {S O : Type 0} {machine : Machine S} {takes : O → O → List ℕ → Type 0} (more : (s t u : O) (xs ys : List ℕ) → takes s t xs → takes t u ys → takes s u (xs ++ ys))
     {old new : RunState S O} {q : O} {text2 bytes rest : List ℕ} {n : ℕ} {gave : List ℕ → Type 0} {is_end read_failed write_failed : Type 0} →
     SoFar machine takes bytes rest old new n → gave bytes → HasNoFeed rest → write_failed → (waiting : List ℕ) → Writes takes new.sink new.text q waiting [] →

@@ -39,7 +39,7 @@ runs_without_memory gave took = record {
 said_all : (all texts more : List (List ℕ)) (written : List ℕ) → all ≡ texts ++ more → concat texts ++ concat more ≡ written ++ [] → written ≡ concat all
 said_all all texts more written whole is = rw (whole, concat-append) (sym (append-nil written) ∙ sym is)
 
--- What is written is a beginning of the text.
+-- What is written is a prefix of the text.
 begins_all : (all texts more : List (List ℕ)) (written rest : List ℕ) → all ≡ texts ++ more → concat texts ++ concat more ≡ written ++ rest → (others : List ℕ) × (concat all ≡ written ++ others)
 begins_all all texts more written rest whole is = (rest, rw (whole, concat-append) is)
 
@@ -55,7 +55,7 @@ taken_replies : {S : Type 0} (machine : Machine S) (old new : S) (lines texts : 
 taken_replies machine old new lines texts (before, others, are, steps, over) =
     rw are (replies-steps machine old new before others texts steps ∙ ap (λ (xs : List (List ℕ)). texts ++ xs) (over_replies machine new others over))
 
--- Where memory was refused, what was written is a beginning of the text too.
+-- Where memory was refused, what was written is a prefix of the text too.
 among_begins : (texts : List (List ℕ)) (front : List ℕ) → StopsAmong texts front → (more : List ℕ) × (concat texts ≡ front ++ more)
 among_begins texts front (n, low, is) = (concat (drop n texts), split_at n texts ∙ ap (λ (xs : List ℕ). xs ++ concat (drop n texts)) (sym is))
 

@@ -1,4 +1,4 @@
--- How the reading of a script halts, before the end of the lines is answered and the last text is written.
+-- How the reading of a script halts, before the session is told of the end and the last text is written.
 use Rattle.std.specs.Prelude.{◌≡◌, ℕ, ◌≤◌, List, [], ◌∷◌, ◌++◌, length, None, Some, Result, Ok, Err, ◌⊎◌}
 use Rattle.std.specs.List.{concat}
 use Rattle.replay_driver.specs.Script.{Machine, Steps, replies, first_bad, IsOver, Stops, parts, last_line, AreLines}
@@ -45,7 +45,7 @@ pub record Halts {S O : Type 0} (machine : Machine S) (gave : List ℕ → Type 
   pub all : replies machine old.state lines ≡ texts ++ more
   pub halted : Halted machine ended read_failed takes write_failed old new complete unfinished lines texts result
 
--- The end of the lines was answered where the lines halted by themselves.
+-- The session was told of the end, unless writing or memory had failed.
 abbrev pub EndsLines : {S : Type 0} → Machine S → S → List ℕ → List ℕ → Result (Unit {0}) Fault →
     Result (Unit {0}) Fault → Type 0
 EndsLines machine state text text' (Err faults.Memory) result = (result ≡ Err faults.Memory) × (text' ≡ text)

@@ -15,7 +15,7 @@ with_line_feed line = line ++ 10 ∷ []
 abbrev pub HasNoFeed : List ℕ → Type 0
 HasNoFeed bytes = All (λ b. nat_eq b 10 ≡ false) bytes
 
--- The sink took the front of the text that was waiting and of what was added to it. The rest waits.
+-- The sink took a prefix of the text that was waiting and of what was added to it. The rest waits.
 abbrev pub Writes : {O : Type 0} → (O → O → List ℕ → Type 0) → O → List ℕ → O → List ℕ → List ℕ → Type 0
 Writes takes old text new rest added = (written : List ℕ) × takes old new written × (text ++ added ≡ written ++ rest)
 
@@ -61,7 +61,7 @@ TakesOne machine takes failed line old new (Err stops.Write) =
     (texts : List (List ℕ)) × (waiting : List ℕ) × (step_of machine old.state line ≡ Some (new.state, texts))
     × Writes takes old.sink old.text new.sink waiting (concat texts) × failed
 
--- these lines stand in the bytes, each with its line feed, and then a rest; they lead on, and have these replies
+-- the bytes are these lines, each with its line feed, and then a rest; the lines are good, and have these replies
 pub record Leads {S : Type 0} (machine : Machine S) (old : S) (bytes : List ℕ) (lines : List (List ℕ)) (rest : List ℕ)
     (new : S) (texts : List (List ℕ)) : Type 0 where
   pub cut : bytes ≡ flat_map with_line_feed lines ++ rest
@@ -112,7 +112,7 @@ fault_of stops.Bad line = faults.BadLine line
 fault_of stops.Memory line = faults.Memory
 fault_of stops.Write line = faults.Write
 
--- what stands behind the last line feed was taken, where it is a line, or stopped the script
+-- what follows the last line feed was taken, if it is a line, or stopped the script
 abbrev pub TakesLast : {S O : Type 0} → Machine S → (O → O → List ℕ → Type 0) → (failed : Type 0) → (line : List ℕ) →
     (old new : RunState S O) → Result (Unit {0}) Stop → Type 0
 TakesLast machine takes failed line old new (Ok _) =
@@ -121,6 +121,6 @@ TakesLast machine takes failed line old new (Ok _) =
 TakesLast machine takes failed line old new (Err stop) =
     (0 < length line) × TakesOne machine takes failed line old new (Err stop)
 
--- what was read between the states stands behind what was held
+-- what was read between the states follows what was held
 abbrev pub Reads : {I : Type 0} → (I → I → List ℕ → Type 0) → I → I → List ℕ → List ℕ → Type 0
 Reads gives old new held now = (bytes : List ℕ) × gives old new bytes × (now ≡ held ++ bytes)

@@ -10,7 +10,7 @@ pub data CoreLine : Type 0 where
   -- the number of the party that was added
   party : ℕ → CoreLine
   done : CoreLine
-  -- whether nothing was held
+  -- whether the core had no item
   truth : Bool → CoreLine
   -- an item that came out, the last one of what was taken, and one whose push failed
   found : Item → CoreLine
@@ -25,7 +25,7 @@ pub data CoreLine : Type 0 where
   show : List Item → CoreLine
   not_there : CoreLine
 
--- what a reply tells
+-- the line that a reply is
 abbrev pub line_of_reply : CoreReply → CoreLine
 line_of_reply (replies.Party n) = party n
 line_of_reply replies.Done = done

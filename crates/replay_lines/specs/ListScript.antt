@@ -30,7 +30,7 @@ abbrev pub meaning_of_entry : Entry → Meaning
 meaning_of_entry (entries.Command command) = meaning_of_command command
 meaning_of_entry (entries.Cursor list end) = cursor list end
 
--- what a command word and the words behind it mean
+-- what a command word and the words after it mean
 abbrev pub meaning_with : Verb → List (List ℕ) → Option Meaning
 meaning_with (verbs.Plain verb) words = option_map meaning_of_command (plain_command_with verb words)
 meaning_with verbs.Walk words = option_map (λ x. walk x.0 x.1) (structure_and_turns_of words)

@@ -36,7 +36,7 @@ words_of (walk list turns) = codes "walk" ∷ decimal list ∷ turns_word turns 
 words_of (into list turns) = codes "into" ∷ decimal list ∷ turns_word turns ∷ []
 words_of (cursor list end) = codes "cursor" ∷ decimal list ∷ end_word end ∷ []
 
--- its words, parted by one space
+-- its words, separated by one space
 abbrev pub spelling_of : Entry → List ℕ
 spelling_of entry = join_with_byte 32 (words_of (meaning_of_entry entry))
 
