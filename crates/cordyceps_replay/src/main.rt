@@ -29,7 +29,7 @@ fn report(rt: &HostRuntime, fault: Fault) -> ExitCode {
 }
 
 /// How a run ends the program.
-fn ended(rt: &HostRuntime, end: Result<(), Fault>) -> ExitCode {
+fn exit_code(rt: &HostRuntime, end: Result<(), Fault>) -> ExitCode {
     match end {
         Ok(()) => ExitCode::SUCCESS,
         Err(fault) => report(rt, fault),
@@ -50,12 +50,12 @@ fn main(rt: HostRuntime) -> ExitCode {
         Some(Choice::Sorted) => Mode::Sorted(compare_tens),
         Some(Choice::Transfer) => Mode::Transfer,
         Some(Choice::Queue) => Mode::Queue,
-        Some(Choice::Share) => return ended(&rt, run_share(&rt, rt.alloc(), &mut output)),
+        Some(Choice::Share) => return exit_code(&rt, run_share(&rt, rt.alloc(), &mut output)),
         None => {
             let _ = rt.eprintln(USAGE);
             return ExitCode::from(1);
         }
     };
     let mut input = FromRead::new(rt.reader());
-    ended(&rt, run(rt.alloc(), mode, &mut input, &mut output))
+    exit_code(&rt, run(rt.alloc(), mode, &mut input, &mut output))
 }

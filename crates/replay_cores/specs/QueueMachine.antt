@@ -28,42 +28,42 @@ abbrev pub Core : Type 0
 Core = cores.Machine Item
 
 -- the reply that tells a step's answer
-abbrev pub told : Answered Item → CoreLine
-told (Ok Done) = done
-told (Ok Taken) = done
-told (Ok Busy) = busy
-told (Ok (Out item)) = found item
-told (Ok Empty) = empty
-told (Ok Inconsistent) = inconsistent
-told (Err refused) = not_there
+abbrev pub reply_to_step : Answered Item → CoreLine
+reply_to_step (Ok Done) = done
+reply_to_step (Ok Taken) = done
+reply_to_step (Ok Busy) = busy
+reply_to_step (Ok (Out item)) = found item
+reply_to_step (Ok Empty) = empty
+reply_to_step (Ok Inconsistent) = inconsistent
+reply_to_step (Err refused) = not_there
 
 -- the reply that tells why a try to dequeue gave nothing
-abbrev pub told_error : TryDequeueError → CoreLine
-told_error FindsEmpty = empty
-told_error FindsInconsistent = inconsistent
-told_error FindsBusy = busy
+abbrev pub reply_to_error : TryDequeueError → CoreLine
+reply_to_error FindsEmpty = empty
+reply_to_error FindsInconsistent = inconsistent
+reply_to_error FindsBusy = busy
 
 -- the reply that tells what a try to dequeue found
-abbrev pub told_found : Result Item TryDequeueError → CoreLine
-told_found (Ok item) = found item
-told_found (Err error) = told_error error
+abbrev pub reply_to_try : Result Item TryDequeueError → CoreLine
+reply_to_try (Ok item) = found item
+reply_to_try (Err error) = reply_to_error error
 
 -- the reply that tells what several tries took out, or why they took out nothing
-abbrev pub told_batch : Result (List Item) TryDequeueError → CoreLine
-told_batch (Ok items) = show items
-told_batch (Err error) = told_error error
+abbrev pub reply_to_batch : Result (List Item) TryDequeueError → CoreLine
+reply_to_batch (Ok items) = show items
+reply_to_batch (Err error) = reply_to_error error
 
 -- a party's step, and its answer
 abbrev pub takes_step : Core → ℕ → QueueStep Item → Core × CoreLine
-takes_step m p s = let out = after_step m p s in (out.0, told out.1)
+takes_step m p s = let out = after_step m p s in (out.0, reply_to_step out.1)
 
 -- a party's try to dequeue, and what it found
 abbrev pub tries_once : Core → ℕ → Core × CoreLine
-tries_once m p = let out = after_dequeue m p in (out.0, told_found (found_of out.1))
+tries_once m p = let out = after_dequeue m p in (out.0, reply_to_try (found_of out.1))
 
 -- a party's tries for up to n items, and what they took out
 abbrev pub takes_batch : Core → ℕ → ℕ → Core × CoreLine
-takes_batch m p n = let d = after_drain_at p n m (slice_get m.parties p) in (d.0, told_batch (batch_of d.1 d.2))
+takes_batch m p n = let d = after_drain_at p n m (slice_get m.parties p) in (d.0, reply_to_batch (batch_of d.1 d.2))
 
 -- the core after a command, and the reply
 abbrev pub step : Core → QueueCommand → Core × CoreLine

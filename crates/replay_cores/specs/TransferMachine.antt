@@ -24,19 +24,19 @@ abbrev pub Core : Type 0
 Core = cores.Machine Item
 
 -- the reply that tells a step's answer
-abbrev pub told : Answered Item → CoreLine
-told (Ok Done) = done
-told (Ok (Pushed was_empty)) = truth was_empty
-told (Ok (Failed item)) = failed item
-told (Ok Taken) = taken
-told (Ok Nothing) = nothing
-told (Ok (Gives item)) = found item
-told (Ok (Last item)) = last item
-told (Err refused) = not_there
+abbrev pub reply_to_step : Answered Item → CoreLine
+reply_to_step (Ok Done) = done
+reply_to_step (Ok (Pushed was_empty)) = truth was_empty
+reply_to_step (Ok (Failed item)) = failed item
+reply_to_step (Ok Taken) = taken
+reply_to_step (Ok Nothing) = nothing
+reply_to_step (Ok (Gives item)) = found item
+reply_to_step (Ok (Last item)) = last item
+reply_to_step (Err refused) = not_there
 
 -- a party's step, and its answer
 abbrev pub takes_step : Core → ℕ → TransferStep Item → Core × CoreLine
-takes_step m p s = let out = after_step m p s in (out.0, told out.1)
+takes_step m p s = let out = after_step m p s in (out.0, reply_to_step out.1)
 
 -- the core after a command, and the reply
 abbrev pub step : Core → TransferCommand → Core × CoreLine

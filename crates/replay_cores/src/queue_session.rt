@@ -1,7 +1,7 @@
 //! Scripts in mode `queue`.
 ghost use Rattle.std.specs.Prelude.{◌≡◌, IfOk};
-ghost use Rattle.replay_lines.specs.CoreReplies.{said};
-ghost use Rattle.replay_cores.specs.QueueMachine.{told, told_error, told_found, takes_step, step, new_core};
+ghost use Rattle.replay_lines.specs.CoreReplies.{line_of_reply};
+ghost use Rattle.replay_cores.specs.QueueMachine.{reply_to_step, reply_to_error, reply_to_try, takes_step, step, new_core};
 
 use cordyceps_commands::Item;
 use cordyceps_queue::mpsc_queue::{QueueAnswer, QueueCore, QueueStep, StepError, TryDequeueError};
@@ -12,7 +12,7 @@ use std::alloc::{AllocError, Global};
 
 /// Returns the reply to a step.
 fn reply_of(answer: Result<QueueAnswer<Item>, (StepError, Option<Item>)>) -> CoreReply
-    ensures { said result ≡ told answer }
+    ensures { line_of_reply result ≡ reply_to_step answer }
 {
     match answer {
         Ok(QueueAnswer::Done | QueueAnswer::Taken) => CoreReply::Done,
@@ -26,7 +26,7 @@ fn reply_of(answer: Result<QueueAnswer<Item>, (StepError, Option<Item>)>) -> Cor
 
 /// Returns the reply to a try to dequeue that failed.
 fn reply_of_error(error: TryDequeueError) -> CoreReply
-    ensures { said result ≡ told_error error }
+    ensures { line_of_reply result ≡ reply_to_error error }
 {
     match error {
         TryDequeueError::Empty => CoreReply::Empty,
@@ -37,7 +37,7 @@ fn reply_of_error(error: TryDequeueError) -> CoreReply
 
 /// Returns the reply to a try to dequeue.
 fn reply_of_found(found: Result<Item, TryDequeueError>) -> CoreReply
-    ensures { said result ≡ told_found found }
+    ensures { line_of_reply result ≡ reply_to_try found }
 {
     match found {
         Ok(item) => CoreReply::Found(item),
@@ -68,7 +68,7 @@ impl QueueSession {
 
     fn add_party(&mut self) -> Result<CoreReply, AllocError>
         ensures { IfOk result (λ reply.
-            (self.new.core, said reply) ≡ step self.old.core QueueCommand.Party) }
+            (self.new.core, line_of_reply reply) ≡ step self.old.core QueueCommand.Party) }
     {
         match self.core.add_party() {
             Ok(party) => Ok(CoreReply::Party(party)),
@@ -78,7 +78,7 @@ impl QueueSession {
 
     fn add_room(&mut self, party: usize) -> Result<CoreReply, AllocError>
         ensures { IfOk result (λ reply.
-            (self.new.core, said reply) ≡ step self.old.core (QueueCommand.Room party)) }
+            (self.new.core, line_of_reply reply) ≡ step self.old.core (QueueCommand.Room party)) }
     {
         match self.core.add_room(party) {
             Ok(()) => Ok(CoreReply::Done),
@@ -88,13 +88,13 @@ impl QueueSession {
     }
 
     fn step(&mut self, party: usize, step: QueueStep<Item>) -> CoreReply
-        ensures { (self.new.core, said result) ≡ takes_step self.old.core party step }
+        ensures { (self.new.core, line_of_reply result) ≡ takes_step self.old.core party step }
     {
         reply_of(self.core.step(party, step))
     }
 
     fn enqueue(&mut self, party: usize, item: Item) -> CoreReply
-        ensures { (self.new.core, said result)
+        ensures { (self.new.core, line_of_reply result)
             ≡ step self.old.core (QueueCommand.Enqueue party item) }
     {
         match self.core.enqueue(party, item) {
@@ -104,7 +104,7 @@ impl QueueSession {
     }
 
     fn dequeue(&mut self, party: usize) -> CoreReply
-        ensures { (self.new.core, said result)
+        ensures { (self.new.core, line_of_reply result)
             ≡ step self.old.core (QueueCommand.Dequeue party) }
     {
         match self.core.try_dequeue(party) {
@@ -115,7 +115,7 @@ impl QueueSession {
 
     fn batch(&mut self, party: usize, max: usize) -> Result<CoreReply, AllocError>
         ensures { IfOk result (λ reply.
-            (self.new.core, said reply) ≡ step self.old.core (QueueCommand.Batch party max)) }
+            (self.new.core, line_of_reply reply) ≡ step self.old.core (QueueCommand.Batch party max)) }
     {
         match self.core.take_linked(party, max) {
             Ok(Ok(batch)) => Ok(CoreReply::Show(batch)),
@@ -128,7 +128,7 @@ impl QueueSession {
     /// Runs a command.
     fn play(&mut self, command: QueueCommand) -> Result<CoreReply, AllocError>
         ensures { IfOk result (λ reply.
-            (self.new.core, said reply) ≡ step self.old.core command) }
+            (self.new.core, line_of_reply reply) ≡ step self.old.core command) }
     {
         match command {
             QueueCommand::Party => self.add_party(),

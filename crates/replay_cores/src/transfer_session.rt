@@ -1,7 +1,7 @@
 //! Scripts in mode `transfer`.
 ghost use Rattle.std.specs.Prelude.{◌≡◌, IfOk};
-ghost use Rattle.replay_lines.specs.CoreReplies.{said};
-ghost use Rattle.replay_cores.specs.TransferMachine.{told, takes_step, step, new_core};
+ghost use Rattle.replay_lines.specs.CoreReplies.{line_of_reply};
+ghost use Rattle.replay_cores.specs.TransferMachine.{reply_to_step, takes_step, step, new_core};
 
 use cordyceps_commands::Item;
 use cordyceps_stack::stack::{StepError, TransferAnswer, TransferCore, TransferStep};
@@ -12,7 +12,7 @@ use std::alloc::{AllocError, Global};
 
 /// Returns the reply to a step.
 fn reply_of(answer: Result<TransferAnswer<Item>, (StepError, Option<Item>)>) -> CoreReply
-    ensures { said result ≡ told answer }
+    ensures { line_of_reply result ≡ reply_to_step answer }
 {
     match answer {
         Ok(TransferAnswer::Done) => CoreReply::Done,
@@ -49,7 +49,7 @@ impl TransferSession {
 
     fn add_party(&mut self) -> Result<CoreReply, AllocError>
         ensures { IfOk result (λ reply.
-            (self.new.core, said reply) ≡ step self.old.core TransferCommand.Party) }
+            (self.new.core, line_of_reply reply) ≡ step self.old.core TransferCommand.Party) }
     {
         match self.core.add_party() {
             Ok(party) => Ok(CoreReply::Party(party)),
@@ -59,7 +59,7 @@ impl TransferSession {
 
     fn add_room(&mut self, party: usize) -> Result<CoreReply, AllocError>
         ensures { IfOk result (λ reply.
-            (self.new.core, said reply) ≡ step self.old.core (TransferCommand.Room party)) }
+            (self.new.core, line_of_reply reply) ≡ step self.old.core (TransferCommand.Room party)) }
     {
         match self.core.add_room(party) {
             Ok(()) => Ok(CoreReply::Done),
@@ -69,13 +69,13 @@ impl TransferSession {
     }
 
     fn step(&mut self, party: usize, step: TransferStep<Item>) -> CoreReply
-        ensures { (self.new.core, said result) ≡ takes_step self.old.core party step }
+        ensures { (self.new.core, line_of_reply result) ≡ takes_step self.old.core party step }
     {
         reply_of(self.core.step(party, step))
     }
 
     fn push(&mut self, party: usize, item: Item) -> CoreReply
-        ensures { (self.new.core, said result)
+        ensures { (self.new.core, line_of_reply result)
             ≡ step self.old.core (TransferCommand.Push party item) }
     {
         match self.core.push_was_empty(party, item) {
@@ -86,7 +86,7 @@ impl TransferSession {
 
     fn take_all(&mut self, party: usize) -> Result<CoreReply, AllocError>
         ensures { IfOk result (λ reply.
-            (self.new.core, said reply) ≡ step self.old.core (TransferCommand.TakeAll party)) }
+            (self.new.core, line_of_reply reply) ≡ step self.old.core (TransferCommand.TakeAll party)) }
     {
         match self.core.take_all(party) {
             Ok(batch) => Ok(CoreReply::Show(batch)),
@@ -98,7 +98,7 @@ impl TransferSession {
     /// Runs a command.
     fn play(&mut self, command: TransferCommand) -> Result<CoreReply, AllocError>
         ensures { IfOk result (λ reply.
-            (self.new.core, said reply) ≡ step self.old.core command) }
+            (self.new.core, line_of_reply reply) ≡ step self.old.core command) }
     {
         match command {
             TransferCommand::Party => self.add_party(),

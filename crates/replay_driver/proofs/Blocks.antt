@@ -6,7 +6,7 @@ use Rattle.std.specs.List.{concat}
 use Rattle.std.proofs.lemmas.Bool.{eqb-true, false_from_ne_true}
 use Rattle.memchr.specs.Find.{IsFirstByte, is_byte}
 use Rattle.replay_driver.specs.Script.{Machine}
-use Rattle.replay_driver.specs.Steps.{HasNoFeed, Writes, SoFar, TakesOne, TakesLines}
+use Rattle.replay_driver.specs.Steps.{HasNoFeed, Writes, RunState, Progress, SoFar, TakesOne, TakesLines}
 use Rattle.replay_driver.specs.declared.session.Stop.{Stop}
 use Rattle.replay_driver.specs.declared.session.Stop.TheVariants as stops
 use Rattle.replay_driver.proofs.Leads.{concat-append, leads_more, writes_more}
@@ -35,37 +35,37 @@ pub slice_from : (block : List ℕ) (start : ℕ) → take (length block - start
 slice_from block start = take_all (length block - start) (drop start block) (omega (arith, length-drop start block))
 
 pub go_on : {S O : Type 0} (machine : Machine S) (takes : O → O → List ℕ → Type 0) (more : (s t u : O) (xs ys : List ℕ) → takes s t xs → takes t u ys → takes s u (xs ++ ys))
-    (old mid new : S) (o p q : O) (text text1 text2 block line passed rest : List ℕ) (n : ℕ) (failed : Type 0) →
-    SoFar machine takes old o text block (line ++ 10 ∷ rest) mid p text1 n → HasNoFeed line → passed ≡ line → TakesOne machine mid passed new takes p text1 q text2 failed (Ok tt) →
-    SoFar machine takes old o text block rest new q text2 (n + 1)
-go_on machine takes more old mid new o p q text text1 text2 block line passed rest n failed so_far clean same (added, step_passed, writes) =
+    (old mid new : RunState S O) (block line passed rest : List ℕ) (n : ℕ) (failed : Type 0) →
+    SoFar machine takes block (line ++ 10 ∷ rest) old mid n → HasNoFeed line → passed ≡ line → TakesOne machine takes failed passed mid new (Ok tt) →
+    SoFar machine takes block rest old new (n + 1)
+go_on machine takes more old mid new block line passed rest n failed so_far clean same (added, step_passed, writes) =
     let step = rw same at step_passed in record {
       lines = so_far.lines ++ line ∷ [];
       texts = so_far.texts ++ added;
-      leads = leads_more machine old mid new block line rest so_far.lines so_far.texts added so_far.leads clean step;
+      leads = leads_more machine old.state mid.state new.state block line rest so_far.lines so_far.texts added so_far.leads clean step;
       counted = rw (length-append, so_far.counted) refl;
-      writes = rw concat-append (writes_more takes more o p q text text1 text2 _ _ so_far.writes writes);
+      writes = rw concat-append (writes_more takes more old.sink mid.sink new.sink old.text mid.text new.text _ _ so_far.writes writes);
     }
 
 pub stopped : {S O : Type 0} (machine : Machine S) (takes : O → O → List ℕ → Type 0) (more : (s t u : O) (xs ys : List ℕ) → takes s t xs → takes t u ys → takes s u (xs ++ ys))
-    (old mid new : S) (o p q : O) (text text1 text2 block line passed rest : List ℕ) (count count1 n : ℕ) (failed : Type 0) (e : Stop) →
-    SoFar machine takes old o text block (line ++ 10 ∷ rest) mid p text1 n → count1 ≡ count + n → HasNoFeed line → passed ≡ line → TakesOne machine mid passed new takes p text1 q text2 failed (Err e) →
-    TakesLines machine old block new takes o text q text2 failed count count1 (Err e)
-stopped machine takes more old mid new o p q text text1 text2 block line passed rest count count1 n failed stops.Bad so_far counted clean is (step_passed, same, writes) =
+    (old new : Progress S O) (mid : RunState S O) (block line passed rest : List ℕ) (n : ℕ) (failed : Type 0) (e : Stop) →
+    SoFar machine takes block (line ++ 10 ∷ rest) old.run mid n → new.count ≡ old.count + n → HasNoFeed line → passed ≡ line → TakesOne machine takes failed passed mid new.run (Err e) →
+    TakesLines machine takes failed block old new (Err e)
+stopped machine takes more old new mid block line passed rest n failed stops.Bad so_far counted clean is (step_passed, same, writes) =
     let step = rw is at step_passed in
-    let wrote : Writes takes o text q text2 (concat so_far.texts) = rw append-nil at (writes_more takes more o p q text text1 text2 (concat so_far.texts) [] so_far.writes writes) in
-    (so_far.lines, so_far.texts, line, rest, rw same so_far.leads, clean, rw same step, counted ∙ ap (λ k. count + k) so_far.counted, wrote)
-stopped machine takes more old mid new o p q text text1 text2 block line passed rest count count1 n failed stops.Memory so_far counted clean is (last, added, front, step_passed, among, writes) =
+    let wrote : Writes takes old.run.sink old.run.text new.run.sink new.run.text (concat so_far.texts) = rw append-nil at (writes_more takes more old.run.sink mid.sink new.run.sink old.run.text mid.text new.run.text (concat so_far.texts) [] so_far.writes writes) in
+    (so_far.lines, so_far.texts, line, rest, rw same so_far.leads, clean, rw same step, counted ∙ ap (λ k. old.count + k) so_far.counted, wrote)
+stopped machine takes more old new mid block line passed rest n failed stops.Memory so_far counted clean is (last, added, front, step_passed, among, writes) =
     let step = rw is at step_passed in
-    (so_far.lines, so_far.texts, line, rest, mid, last, added, front, so_far.leads, clean, step, among, writes_more takes more o p q text text1 text2 _ _ so_far.writes writes)
-stopped machine takes more old mid new o p q text text1 text2 block line passed rest count count1 n failed stops.Write so_far counted clean is (added, waiting, step_passed, writes, did_fail) =
+    (so_far.lines, so_far.texts, line, rest, mid.state, last, added, front, so_far.leads, clean, step, among, writes_more takes more old.run.sink mid.sink new.run.sink old.run.text mid.text new.run.text _ _ so_far.writes writes)
+stopped machine takes more old new mid block line passed rest n failed stops.Write so_far counted clean is (added, waiting, step_passed, writes, did_fail) =
     let step = rw is at step_passed in (
       so_far.lines ++ line ∷ [],
       so_far.texts ++ added,
       rest,
       waiting,
-      leads_more machine old mid new block line rest so_far.lines so_far.texts added so_far.leads clean step,
-      rw concat-append (writes_more takes more o p q text text1 waiting _ _ so_far.writes writes),
+      leads_more machine old.run.state mid.state new.run.state block line rest so_far.lines so_far.texts added so_far.leads clean step,
+      rw concat-append (writes_more takes more old.run.sink mid.sink new.run.sink old.run.text mid.text waiting _ _ so_far.writes writes),
       did_fail,
     )
 

@@ -5,7 +5,7 @@ use Rattle.std.proofs.lemmas.List.{append-nil}
 use Rattle.std.proofs.lemmas.List.Concat.{flat_map-append}
 use Rattle.std.specs.List.{concat, AllByRecursion}
 use Rattle.replay_driver.specs.Script.{Machine, step_of, Steps, replies, first_bad}
-use Rattle.replay_driver.specs.Steps.{ended, HasNoFeed, Writes, Leads}
+use Rattle.replay_driver.specs.Steps.{with_line_feed, HasNoFeed, Writes, Leads}
 
 pub concat-append : (xs ys : List (List ℕ)) → concat (xs ++ ys) ≡ concat xs ++ concat ys
 concat-append [] ys = refl
@@ -55,7 +55,7 @@ pub leads_more : {S : Type 0} (machine : Machine S) (old mid new : S) (bytes lin
     Leads machine old bytes lines (line ++ 10 ∷ rest) mid texts → HasNoFeed line → step_of machine mid line ≡ Some (new, added) →
     Leads machine old bytes (lines ++ line ∷ []) rest new (texts ++ added)
 leads_more machine old mid new bytes line rest lines texts added so_far clean step = record {
-  cut = so_far.cut ∙ sym (rw (flat_map-append ended lines (line ∷ []), append_assoc, append-nil, append_assoc) refl);
+  cut = so_far.cut ∙ sym (rw (flat_map-append with_line_feed lines (line ∷ []), append_assoc, append-nil, append_assoc) refl);
   no_feed = all-append HasNoFeed lines (line ∷ []) so_far.no_feed (clean, tt);
   steps = steps-append machine old mid new lines (line ∷ []) texts added so_far.steps (steps-one machine mid new line added step);
 }

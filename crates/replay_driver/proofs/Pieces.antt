@@ -19,9 +19,9 @@ next_piece text seen start n same = rw (same, slice_end, take-add) refl
 front_and_more : (front middle back : List ℕ) (held n : ℕ) → length front ≡ held → n ≤ length middle → take (held + n) (front ++ (middle ++ back)) ≡ front ++ take n middle
 front_and_more front middle back held n size few = rw (← size, take-append-add, take-append-le) refl
 
--- what was read behind what is held
-pub read_behind : (held n : ℕ) (block buffer : List ℕ) → held ≤ length block → n ≤ length buffer → take (held + n) (put_mid held (length block - held) block buffer) ≡ take held block ++ take n buffer
-read_behind held n block buffer within few =
+-- what was read after what is held
+pub read_after : (held n : ℕ) (block buffer : List ℕ) → held ≤ length block → n ≤ length buffer → take (held + n) (put_mid held (length block - held) block buffer) ≡ take held block ++ take n buffer
+read_after held n block buffer within few =
     let size : length (take held block) ≡ held = omega (arith, length-take held block) in
     front_and_more (take held block) buffer (drop (length block - held) (drop held block)) held n size few
 

@@ -3,7 +3,7 @@ use Rattle.std.proofs.Common.{◌≡◌, ℕ, ◌<◌, List, [], ◌∷◌, ◌+
 use Rattle.std.proofs.lemmas.List.{append-nil, take-append-drop}
 use Rattle.std.specs.List.{concat}
 use Rattle.replay_driver.specs.Script.{Machine, replies, text, StopsAmong, IsOver, StopsNext, Stops, Runs}
-use Rattle.replay_driver.specs.Steps.{Writes, EndStops}
+use Rattle.replay_driver.specs.Steps.{Writes, EndStops, RunState}
 use Rattle.replay_driver.specs.Halts.{Taken, Halts, EndsLines}
 use Rattle.replay_driver.specs.declared.fault.Fault.{Fault}
 use Rattle.replay_driver.specs.declared.fault.Fault.TheVariants as faults
@@ -39,7 +39,7 @@ runs_without_memory gave took = record {
 said_all : (all texts more : List (List ℕ)) (written : List ℕ) → all ≡ texts ++ more → concat texts ++ concat more ≡ written ++ [] → written ≡ concat all
 said_all all texts more written whole is = rw (whole, concat-append) (sym (append-nil written) ∙ sym is)
 
--- What is written is a beginning of the text.
+-- What is written is a prefix of the text.
 begins_all : (all texts more : List (List ℕ)) (written rest : List ℕ) → all ≡ texts ++ more → concat texts ++ concat more ≡ written ++ rest → (others : List ℕ) × (concat all ≡ written ++ others)
 begins_all all texts more written rest whole is = (rest, rw (whole, concat-append) is)
 
@@ -55,7 +55,7 @@ taken_replies : {S : Type 0} (machine : Machine S) (old new : S) (lines texts : 
 taken_replies machine old new lines texts (before, others, are, steps, over) =
     rw are (replies-steps machine old new before others texts steps ∙ ap (λ (xs : List (List ℕ)). texts ++ xs) (over_replies machine new others over))
 
--- Where memory was refused, what was written is a beginning of the text too.
+-- Where memory was refused, what was written is a prefix of the text too.
 among_begins : (texts : List (List ℕ)) (front : List ℕ) → StopsAmong texts front → (more : List ℕ) × (concat texts ≡ front ++ more)
 among_begins texts front (n, low, is) = (concat (drop n texts), split_at n texts ∙ ap (λ (xs : List ℕ). xs ++ concat (drop n texts)) (sym is))
 
@@ -81,11 +81,11 @@ stops_end machine old new lines texts front written (before, others, are, steps,
     (before, others, new, texts, front, are, steps, inr (over, some, among), is)
 
 end_flushed : {S O : Type 0} {machine : Machine S} {takes : O → O → List ℕ → Type 0} (more : (s t u : O) (xs ys : List ℕ) → takes s t xs → takes t u ys → takes s u (xs ++ ys))
-    {old new : S} {o p q : O} {text1 : List ℕ} (text2 : List ℕ) {gave : List ℕ → Type 0} {is_end read_failed write_failed write_failed2 : Type 0} (halt : Result (Unit {0}) Fault)
-    (h : Halts machine old new gave is_end read_failed takes o [] p text1 write_failed halt) → Taken machine old h.lines new h.texts → Writes takes o [] p text1 (concat h.texts) → EndStops machine new text1 text2 → Writes takes p text2 q [] [] →
+    {old : S} {o q : O} {new : RunState S O} (text2 : List ℕ) {gave : List ℕ → Type 0} {is_end read_failed write_failed write_failed2 : Type 0} (halt : Result (Unit {0}) Fault)
+    (h : Halts machine gave is_end read_failed takes write_failed (record { state = old; sink = o; text = [] }) new halt) → Taken machine old h.lines new.state h.texts → Writes takes o [] new.sink new.text (concat h.texts) → EndStops machine new.state new.text text2 → Writes takes new.sink text2 q [] [] →
     Runs machine old gave is_end read_failed (takes o q) write_failed2 (Err faults.Memory)
-end_flushed {machine = machine} {takes = takes} more {old = old} {new = new} {o = o} {p = p} {q = q} {text1 = text1} text2 halt h taken wrote (front, some, among, added) writes =
-    let (written, took, is) = total takes more o p q text1 text2 [] (concat h.texts) front wrote added writes in
+end_flushed {machine = machine} {takes = takes} more {old = old} {o = o} {q = q} {new = new} text2 halt h taken wrote (front, some, among, added) writes =
+    let (written, took, is) = total takes more o new.sink q new.text text2 [] (concat h.texts) front wrote added writes in
     record {
       complete = h.complete;
       unfinished = h.unfinished;
@@ -96,17 +96,17 @@ end_flushed {machine = machine} {takes = takes} more {old = old} {new = new} {o 
       are_lines = h.are_lines;
       written = written;
       wrote = took;
-      answers = inr (stops_end machine old new h.lines h.texts front written taken some among (sym (append-nil written) ∙ sym is));
+      answers = inr (stops_end machine old new.state h.lines h.texts front written taken some among (sym (append-nil written) ∙ sym is));
     }
 
 end_unflushed : {S O : Type 0} {machine : Machine S} {takes : O → O → List ℕ → Type 0} (more : (s t u : O) (xs ys : List ℕ) → takes s t xs → takes t u ys → takes s u (xs ++ ys))
-    {old new : S} {o p q : O} {text1 : List ℕ} (text2 : List ℕ) {gave : List ℕ → Type 0} {is_end read_failed write_failed write_failed2 : Type 0} (halt : Result (Unit {0}) Fault)
-    (h : Halts machine old new gave is_end read_failed takes o [] p text1 write_failed halt) → Taken machine old h.lines new h.texts → Writes takes o [] p text1 (concat h.texts) → EndStops machine new text1 text2 → write_failed2 → (rest : List ℕ) → Writes takes p text2 q rest [] →
+    {old : S} {o q : O} {new : RunState S O} (text2 : List ℕ) {gave : List ℕ → Type 0} {is_end read_failed write_failed write_failed2 : Type 0} (halt : Result (Unit {0}) Fault)
+    (h : Halts machine gave is_end read_failed takes write_failed (record { state = old; sink = o; text = [] }) new halt) → Taken machine old h.lines new.state h.texts → Writes takes o [] new.sink new.text (concat h.texts) → EndStops machine new.state new.text text2 → write_failed2 → (rest : List ℕ) → Writes takes new.sink text2 q rest [] →
     Runs machine old gave is_end read_failed (takes o q) write_failed2 (Err faults.Write)
-end_unflushed {machine = machine} {takes = takes} more {old = old} {new = new} {o = o} {p = p} {q = q} {text1 = text1} text2 halt h taken wrote (front, some, among, added) did_fail rest writes =
-    let (written, took, is) = total takes more o p q text1 text2 rest (concat h.texts) front wrote added writes in
+end_unflushed {machine = machine} {takes = takes} more {old = old} {o = o} {q = q} {new = new} text2 halt h taken wrote (front, some, among, added) did_fail rest writes =
+    let (written, took, is) = total takes more o new.sink q new.text text2 rest (concat h.texts) front wrote added writes in
     let whole = concat h.texts ++ front in
-    let (others, begins) = stops_begin machine old h.lines whole (stops_end machine old new h.lines h.texts front whole taken some among refl) in
+    let (others, begins) = stops_begin machine old h.lines whole (stops_end machine old new.state h.lines h.texts front whole taken some among refl) in
     record {
       complete = h.complete;
       unfinished = h.unfinished;
@@ -121,75 +121,75 @@ end_unflushed {machine = machine} {takes = takes} more {old = old} {new = new} {
     }
 
 pub runs_flushed : {S O : Type 0} {machine : Machine S} {takes : O → O → List ℕ → Type 0} (more : (s t u : O) (xs ys : List ℕ) → takes s t xs → takes t u ys → takes s u (xs ++ ys))
-    {old new : S} {o p q : O} {text1 : List ℕ} (text2 : List ℕ) {gave : List ℕ → Type 0} {is_end read_failed write_failed write_failed2 : Type 0} (halt end : Result (Unit {0}) Fault) →
-    Halts machine old new gave is_end read_failed takes o [] p text1 write_failed halt → EndsLines machine new text1 text2 halt end → (end ≡ Err faults.Write → ⊥) → Writes takes p text2 q [] [] →
+    {old : S} {o q : O} {new : RunState S O} (text2 : List ℕ) {gave : List ℕ → Type 0} {is_end read_failed write_failed write_failed2 : Type 0} (halt end : Result (Unit {0}) Fault) →
+    Halts machine gave is_end read_failed takes write_failed (record { state = old; sink = o; text = [] }) new halt → EndsLines machine new.state new.text text2 halt end → (end ≡ Err faults.Write → ⊥) → Writes takes new.sink text2 q [] [] →
     Runs machine old gave is_end read_failed (takes o q) write_failed2 end
-runs_flushed {machine = machine} {takes = takes} more {old = old} {new = new} {o = o} {p = p} {q = q} {text1 = text1} text2 (Ok u) end h (inl (same, added)) differs writes =
+runs_flushed {machine = machine} {takes = takes} more {old = old} {o = o} {q = q} {new = new} text2 (Ok u) end h (inl (same, added)) differs writes =
     let (at_end, lines_are, none_bad, taken, wrote) = h.halted in
-    let (written, took, is) = total takes more o p q text1 text2 [] (concat h.texts) (concat (machine.ending new)) wrote added writes in
-    let said : written ≡ text machine old h.lines = said_all _ h.texts (machine.ending new) written (taken_replies machine old new h.lines h.texts taken) is in
+    let (written, took, is) = total takes more o new.sink q new.text text2 [] (concat h.texts) (concat (machine.ending new.state)) wrote added writes in
+    let said : written ≡ text machine old h.lines = said_all _ h.texts (machine.ending new.state) written (taken_replies machine old new.state h.lines h.texts taken) is in
     rw same (record { complete = h.complete; unfinished = h.unfinished; bytes = h.bytes; read = h.read; cut = h.cut; lines = h.lines; are_lines = h.are_lines; written = written; wrote = took; answers = (at_end, lines_are, none_bad, said) })
-runs_flushed {machine = machine} {takes = takes} more {old = old} {new = new} {o = o} {p = p} {q = q} {text1 = text1} text2 (Ok u) end h (inr (same, refused)) differs writes =
+runs_flushed {machine = machine} {takes = takes} more {old = old} {o = o} {q = q} {new = new} text2 (Ok u) end h (inr (same, refused)) differs writes =
     let (at_end, lines_are, none_bad, taken, wrote) = h.halted in
     rw same (end_flushed more text2 (Ok u) h taken wrote refused writes)
-runs_flushed {machine = machine} {takes = takes} more {old = old} {new = new} {o = o} {p = p} {q = q} {text1 = text1} text2 (Err (faults.BadLine line)) end h (inl (same, added)) differs writes =
+runs_flushed {machine = machine} {takes = takes} more {old = old} {o = o} {q = q} {new = new} text2 (Err (faults.BadLine line)) end h (inl (same, added)) differs writes =
     let (bad, taken, wrote) = h.halted in
-    let (written, took, is) = total takes more o p q text1 text2 [] (concat h.texts) (concat (machine.ending new)) wrote added writes in
-    let said : written ≡ text machine old h.lines = said_all _ h.texts (machine.ending new) written (taken_replies machine old new h.lines h.texts taken) is in
+    let (written, took, is) = total takes more o new.sink q new.text text2 [] (concat h.texts) (concat (machine.ending new.state)) wrote added writes in
+    let said : written ≡ text machine old h.lines = said_all _ h.texts (machine.ending new.state) written (taken_replies machine old new.state h.lines h.texts taken) is in
     rw same (record { complete = h.complete; unfinished = h.unfinished; bytes = h.bytes; read = h.read; cut = h.cut; lines = h.lines; are_lines = h.are_lines; written = written; wrote = took; answers = (bad, said) })
-runs_flushed {machine = machine} {takes = takes} more {old = old} {new = new} {o = o} {p = p} {q = q} {text1 = text1} text2 (Err (faults.BadLine line)) end h (inr (same, refused)) differs writes =
+runs_flushed {machine = machine} {takes = takes} more {old = old} {o = o} {q = q} {new = new} text2 (Err (faults.BadLine line)) end h (inr (same, refused)) differs writes =
     let (bad, taken, wrote) = h.halted in
     rw same (end_flushed more text2 (Err (faults.BadLine line)) h taken wrote refused writes)
-runs_flushed {machine = machine} {takes = takes} more {old = old} {new = new} {o = o} {p = p} {q = q} {text1 = text1} text2 (Err faults.Read) end h (inl (same, added)) differs writes =
+runs_flushed {machine = machine} {takes = takes} more {old = old} {o = o} {q = q} {new = new} text2 (Err faults.Read) end h (inl (same, added)) differs writes =
     let (did_fail, lines_are, short, none_bad, taken, wrote) = h.halted in
-    let (written, took, is) = total takes more o p q text1 text2 [] (concat h.texts) (concat (machine.ending new)) wrote added writes in
-    let said : written ≡ text machine old h.lines = said_all _ h.texts (machine.ending new) written (taken_replies machine old new h.lines h.texts taken) is in
+    let (written, took, is) = total takes more o new.sink q new.text text2 [] (concat h.texts) (concat (machine.ending new.state)) wrote added writes in
+    let said : written ≡ text machine old h.lines = said_all _ h.texts (machine.ending new.state) written (taken_replies machine old new.state h.lines h.texts taken) is in
     rw same (record { complete = h.complete; unfinished = h.unfinished; bytes = h.bytes; read = h.read; cut = h.cut; lines = h.lines; are_lines = h.are_lines; written = written; wrote = took; answers = (did_fail, lines_are, short, none_bad, said) })
-runs_flushed {machine = machine} {takes = takes} more {old = old} {new = new} {o = o} {p = p} {q = q} {text1 = text1} text2 (Err faults.Read) end h (inr (same, refused)) differs writes =
+runs_flushed {machine = machine} {takes = takes} more {old = old} {o = o} {q = q} {new = new} text2 (Err faults.Read) end h (inr (same, refused)) differs writes =
     let (did_fail, lines_are, short, none_bad, taken, wrote) = h.halted in
     rw same (end_flushed more text2 (Err faults.Read) h taken wrote refused writes)
-runs_flushed {machine = machine} {takes = takes} more {old = old} {new = new} {o = o} {p = p} {q = q} {text1 = text1} text2 (Err faults.Memory) end h (same, kept) differs writes =
+runs_flushed {machine = machine} {takes = takes} more {old = old} {o = o} {q = q} {new = new} text2 (Err faults.Memory) end h (same, kept) differs writes =
     let (front, stops, wrote) = h.halted in
-    let (written, took, is) = total takes more o p q text1 text2 [] front [] wrote (kept ∙ sym (append-nil text1)) writes in
+    let (written, took, is) = total takes more o new.sink q new.text text2 [] front [] wrote (kept ∙ sym (append-nil new.text)) writes in
     let all : front ≡ written = sym (append-nil front) ∙ is ∙ append-nil written in
     rw same (record { complete = h.complete; unfinished = h.unfinished; bytes = h.bytes; read = h.read; cut = h.cut; lines = h.lines; are_lines = h.are_lines; written = written; wrote = took; answers = inr (rw all at stops) })
-runs_flushed {machine = machine} {takes = takes} more {old = old} {new = new} {o = o} {p = p} {q = q} {text1 = text1} text2 (Err faults.Write) end h (same, kept) differs writes = absurd (differs same)
+runs_flushed {machine = machine} {takes = takes} more {old = old} {o = o} {q = q} {new = new} text2 (Err faults.Write) end h (same, kept) differs writes = absurd (differs same)
 
 pub runs_unflushed : {S O : Type 0} {machine : Machine S} {takes : O → O → List ℕ → Type 0} (more : (s t u : O) (xs ys : List ℕ) → takes s t xs → takes t u ys → takes s u (xs ++ ys))
-    {old new : S} {o p q : O} {text1 : List ℕ} (text2 : List ℕ) {gave : List ℕ → Type 0} {is_end read_failed write_failed write_failed2 : Type 0} (halt end : Result (Unit {0}) Fault) →
-    Halts machine old new gave is_end read_failed takes o [] p text1 write_failed halt → EndsLines machine new text1 text2 halt end → (end ≡ Err faults.Write → ⊥) → write_failed2 → (rest : List ℕ) → Writes takes p text2 q rest [] →
+    {old : S} {o q : O} {new : RunState S O} (text2 : List ℕ) {gave : List ℕ → Type 0} {is_end read_failed write_failed write_failed2 : Type 0} (halt end : Result (Unit {0}) Fault) →
+    Halts machine gave is_end read_failed takes write_failed (record { state = old; sink = o; text = [] }) new halt → EndsLines machine new.state new.text text2 halt end → (end ≡ Err faults.Write → ⊥) → write_failed2 → (rest : List ℕ) → Writes takes new.sink text2 q rest [] →
     Runs machine old gave is_end read_failed (takes o q) write_failed2 (Err faults.Write)
-runs_unflushed {machine = machine} {takes = takes} more {old = old} {new = new} {o = o} {p = p} {q = q} {text1 = text1} text2 (Ok u) end h (inl (same, added)) differs did_fail rest writes =
+runs_unflushed {machine = machine} {takes = takes} more {old = old} {o = o} {q = q} {new = new} text2 (Ok u) end h (inl (same, added)) differs did_fail rest writes =
     let (at_end, lines_are, none_bad, taken, wrote) = h.halted in
-    let (written, took, is) = total takes more o p q text1 text2 rest (concat h.texts) (concat (machine.ending new)) wrote added writes in
-    record { complete = h.complete; unfinished = h.unfinished; bytes = h.bytes; read = h.read; cut = h.cut; lines = h.lines; are_lines = h.are_lines; written = written; wrote = took; answers = (let found = begins_all _ h.texts (machine.ending new) written rest (taken_replies machine old new h.lines h.texts taken) is in (did_fail, found.0, found.1)) }
-runs_unflushed {machine = machine} {takes = takes} more {old = old} {new = new} {o = o} {p = p} {q = q} {text1 = text1} text2 (Ok u) end h (inr (same, refused)) differs did_fail rest writes =
+    let (written, took, is) = total takes more o new.sink q new.text text2 rest (concat h.texts) (concat (machine.ending new.state)) wrote added writes in
+    record { complete = h.complete; unfinished = h.unfinished; bytes = h.bytes; read = h.read; cut = h.cut; lines = h.lines; are_lines = h.are_lines; written = written; wrote = took; answers = (let found = begins_all _ h.texts (machine.ending new.state) written rest (taken_replies machine old new.state h.lines h.texts taken) is in (did_fail, found.0, found.1)) }
+runs_unflushed {machine = machine} {takes = takes} more {old = old} {o = o} {q = q} {new = new} text2 (Ok u) end h (inr (same, refused)) differs did_fail rest writes =
     let (at_end, lines_are, none_bad, taken, wrote) = h.halted in
     end_unflushed more text2 (Ok u) h taken wrote refused did_fail rest writes
-runs_unflushed {machine = machine} {takes = takes} more {old = old} {new = new} {o = o} {p = p} {q = q} {text1 = text1} text2 (Err (faults.BadLine line)) end h (inl (same, added)) differs did_fail rest writes =
+runs_unflushed {machine = machine} {takes = takes} more {old = old} {o = o} {q = q} {new = new} text2 (Err (faults.BadLine line)) end h (inl (same, added)) differs did_fail rest writes =
     let (bad, taken, wrote) = h.halted in
-    let (written, took, is) = total takes more o p q text1 text2 rest (concat h.texts) (concat (machine.ending new)) wrote added writes in
-    record { complete = h.complete; unfinished = h.unfinished; bytes = h.bytes; read = h.read; cut = h.cut; lines = h.lines; are_lines = h.are_lines; written = written; wrote = took; answers = (let found = begins_all _ h.texts (machine.ending new) written rest (taken_replies machine old new h.lines h.texts taken) is in (did_fail, found.0, found.1)) }
-runs_unflushed {machine = machine} {takes = takes} more {old = old} {new = new} {o = o} {p = p} {q = q} {text1 = text1} text2 (Err (faults.BadLine line)) end h (inr (same, refused)) differs did_fail rest writes =
+    let (written, took, is) = total takes more o new.sink q new.text text2 rest (concat h.texts) (concat (machine.ending new.state)) wrote added writes in
+    record { complete = h.complete; unfinished = h.unfinished; bytes = h.bytes; read = h.read; cut = h.cut; lines = h.lines; are_lines = h.are_lines; written = written; wrote = took; answers = (let found = begins_all _ h.texts (machine.ending new.state) written rest (taken_replies machine old new.state h.lines h.texts taken) is in (did_fail, found.0, found.1)) }
+runs_unflushed {machine = machine} {takes = takes} more {old = old} {o = o} {q = q} {new = new} text2 (Err (faults.BadLine line)) end h (inr (same, refused)) differs did_fail rest writes =
     let (bad, taken, wrote) = h.halted in
     end_unflushed more text2 (Err (faults.BadLine line)) h taken wrote refused did_fail rest writes
-runs_unflushed {machine = machine} {takes = takes} more {old = old} {new = new} {o = o} {p = p} {q = q} {text1 = text1} text2 (Err faults.Read) end h (inl (same, added)) differs did_fail rest writes =
+runs_unflushed {machine = machine} {takes = takes} more {old = old} {o = o} {q = q} {new = new} text2 (Err faults.Read) end h (inl (same, added)) differs did_fail rest writes =
     let (read_fail, lines_are, short, none_bad, taken, wrote) = h.halted in
-    let (written, took, is) = total takes more o p q text1 text2 rest (concat h.texts) (concat (machine.ending new)) wrote added writes in
-    record { complete = h.complete; unfinished = h.unfinished; bytes = h.bytes; read = h.read; cut = h.cut; lines = h.lines; are_lines = h.are_lines; written = written; wrote = took; answers = (let found = begins_all _ h.texts (machine.ending new) written rest (taken_replies machine old new h.lines h.texts taken) is in (did_fail, found.0, found.1)) }
-runs_unflushed {machine = machine} {takes = takes} more {old = old} {new = new} {o = o} {p = p} {q = q} {text1 = text1} text2 (Err faults.Read) end h (inr (same, refused)) differs did_fail rest writes =
+    let (written, took, is) = total takes more o new.sink q new.text text2 rest (concat h.texts) (concat (machine.ending new.state)) wrote added writes in
+    record { complete = h.complete; unfinished = h.unfinished; bytes = h.bytes; read = h.read; cut = h.cut; lines = h.lines; are_lines = h.are_lines; written = written; wrote = took; answers = (let found = begins_all _ h.texts (machine.ending new.state) written rest (taken_replies machine old new.state h.lines h.texts taken) is in (did_fail, found.0, found.1)) }
+runs_unflushed {machine = machine} {takes = takes} more {old = old} {o = o} {q = q} {new = new} text2 (Err faults.Read) end h (inr (same, refused)) differs did_fail rest writes =
     let (read_fail, lines_are, short, none_bad, taken, wrote) = h.halted in
     end_unflushed more text2 (Err faults.Read) h taken wrote refused did_fail rest writes
-runs_unflushed {machine = machine} {takes = takes} more {old = old} {new = new} {o = o} {p = p} {q = q} {text1 = text1} text2 (Err faults.Memory) end h (same, kept) differs did_fail rest writes =
+runs_unflushed {machine = machine} {takes = takes} more {old = old} {o = o} {q = q} {new = new} text2 (Err faults.Memory) end h (same, kept) differs did_fail rest writes =
     let (front, stops, wrote) = h.halted in
-    let (written, took, is) = total takes more o p q text1 text2 rest front [] wrote (kept ∙ sym (append-nil text1)) writes in
+    let (written, took, is) = total takes more o new.sink q new.text text2 rest front [] wrote (kept ∙ sym (append-nil new.text)) writes in
     let (others, begins) = stops_begin machine old h.lines front stops in
     record { complete = h.complete; unfinished = h.unfinished; bytes = h.bytes; read = h.read; cut = h.cut; lines = h.lines; are_lines = h.are_lines; written = written; wrote = took; answers = (let found = begins_front (text machine old h.lines) front others written rest begins (sym (append-nil front) ∙ is) in (did_fail, found.0, found.1)) }
-runs_unflushed {machine = machine} {takes = takes} more {old = old} {new = new} {o = o} {p = p} {q = q} {text1 = text1} text2 (Err faults.Write) end h (same, kept) differs did_fail rest writes = absurd (differs same)
+runs_unflushed {machine = machine} {takes = takes} more {old = old} {o = o} {q = q} {new = new} text2 (Err faults.Write) end h (same, kept) differs did_fail rest writes = absurd (differs same)
 
-pub runs_unwritten : {S O : Type 0} {machine : Machine S} {takes : O → O → List ℕ → Type 0} {old new : S} {o p : O} {text1 : List ℕ} (text2 : List ℕ) {gave : List ℕ → Type 0} {is_end read_failed write_failed : Type 0} (halt end : Result (Unit {0}) Fault) →
-    Halts machine old new gave is_end read_failed takes o [] p text1 write_failed halt → EndsLines machine new text1 text2 halt end → end ≡ Err faults.Write →
-    Runs machine old gave is_end read_failed (takes o p) write_failed (Err faults.Write)
+pub runs_unwritten : {S O : Type 0} {machine : Machine S} {takes : O → O → List ℕ → Type 0} {old : S} {o : O} {new : RunState S O} (text2 : List ℕ) {gave : List ℕ → Type 0} {is_end read_failed write_failed : Type 0} (halt end : Result (Unit {0}) Fault) →
+    Halts machine gave is_end read_failed takes write_failed (record { state = old; sink = o; text = [] }) new halt → EndsLines machine new.state new.text text2 halt end → end ≡ Err faults.Write →
+    Runs machine old gave is_end read_failed (takes o new.sink) write_failed (Err faults.Write)
 runs_unwritten text2 (Ok u) end h (inl (same, added)) stopped = let e = sym same ∙ stopped in cc
 runs_unwritten text2 (Ok u) end h (inr (same, added)) stopped = let e = sym same ∙ stopped in cc
 runs_unwritten text2 (Err (faults.BadLine line)) end h (inl (same, added)) stopped = let e = sym same ∙ stopped in cc
@@ -212,6 +212,6 @@ runs_unwritten {machine = machine} {old = old} text2 (Err faults.Write) end h (s
       answers = (let found = begins_front (text machine old h.lines) (concat h.texts) (concat h.more) written waiting (ap concat h.all ∙ concat-append h.texts h.more) is in (did_fail, found.0, found.1));
     }
 
-pub from_empty : {S O : Type 0} {machine : Machine S} {old new : S} {gave : List ℕ → Type 0} {is_end read_failed : Type 0} {takes : O → O → List ℕ → Type 0} {o p : O} {start text1 : List ℕ} {write_failed : Type 0} {halt : Result (Unit {0}) Fault} →
-    Halts machine old new gave is_end read_failed takes o start p text1 write_failed halt → start ≡ [] → Halts machine old new gave is_end read_failed takes o [] p text1 write_failed halt
+pub from_empty : {S O : Type 0} {machine : Machine S} {old : S} {o : O} {start : List ℕ} {new : RunState S O} {gave : List ℕ → Type 0} {is_end read_failed : Type 0} {takes : O → O → List ℕ → Type 0} {write_failed : Type 0} {halt : Result (Unit {0}) Fault} →
+    Halts machine gave is_end read_failed takes write_failed (record { state = old; sink = o; text = start }) new halt → start ≡ [] → Halts machine gave is_end read_failed takes write_failed (record { state = old; sink = o; text = [] }) new halt
 from_empty h empty = rw empty at h

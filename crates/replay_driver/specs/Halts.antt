@@ -1,8 +1,8 @@
--- How the reading of a script halts, before the end of the lines is answered and the last text is written.
+-- How the reading of a script halts, before the session is told of the end and the last text is written.
 use Rattle.std.specs.Prelude.{◌≡◌, ℕ, ◌≤◌, List, [], ◌∷◌, ◌++◌, length, None, Some, Result, Ok, Err, ◌⊎◌}
 use Rattle.std.specs.List.{concat}
 use Rattle.replay_driver.specs.Script.{Machine, Steps, replies, first_bad, IsOver, Stops, parts, last_line, AreLines}
-use Rattle.replay_driver.specs.Steps.{Writes, EndStops}
+use Rattle.replay_driver.specs.Steps.{Writes, EndStops, RunState}
 use Rattle.replay_driver.specs.declared.fault.Fault.{Fault}
 use Rattle.replay_driver.specs.declared.fault.Fault.TheVariants as faults
 
@@ -12,27 +12,27 @@ Taken machine old lines new texts =
     (before : List (List ℕ)) × (others : List (List ℕ)) × (lines ≡ before ++ others)
     × Steps machine old before new texts × IsOver machine new others
 
--- the lines, the texts of the replies so far, and those that are still to come
-abbrev pub Halted : {S O : Type 0} → Machine S → S → S → (ended read_failed : Type 0) → (O → O → List ℕ → Type 0) → O →
-    List ℕ → O → List ℕ → Type 0
-    → List (List ℕ) → List ℕ → List (List ℕ) → List (List ℕ) → List (List ℕ) → Result (Unit {0}) Fault → Type 0
-Halted machine old new ended read_failed takes output text output' text' write_failed complete unfinished lines texts more (Ok _) =
-    ended × (lines ≡ complete ++ last_line unfinished) × (first_bad machine old lines ≡ None)
-    × Taken machine old lines new texts × Writes takes output text output' text' (concat texts)
-Halted machine old new ended read_failed takes output text output' text' write_failed complete unfinished lines texts more (Err (faults.BadLine n)) =
-    (first_bad machine old lines ≡ Some n) × Taken machine old lines new texts
-    × Writes takes output text output' text' (concat texts)
-Halted machine old new ended read_failed takes output text output' text' write_failed complete unfinished lines texts more (Err faults.Read) =
-    read_failed × (lines ≡ complete) × (length unfinished ≤ 120) × (first_bad machine old lines ≡ None)
-    × Taken machine old lines new texts × Writes takes output text output' text' (concat texts)
-Halted machine old new ended read_failed takes output text output' text' write_failed complete unfinished lines texts more (Err faults.Write) =
-    write_failed × (waiting : List ℕ) × Writes takes output text output' waiting (concat texts)
-Halted machine old new ended read_failed takes output text output' text' write_failed complete unfinished lines texts more (Err faults.Memory) =
-    (front : List ℕ) × Stops machine old lines front × Writes takes output text output' text' front
+-- the lines, the texts of the replies so far, and how the run then is
+abbrev pub Halted : {S O : Type 0} → Machine S → (ended read_failed : Type 0) → (O → O → List ℕ → Type 0) →
+    (write_failed : Type 0) → (old new : RunState S O) → (complete : List (List ℕ)) → (unfinished : List ℕ) →
+    (lines texts : List (List ℕ)) → Result (Unit {0}) Fault → Type 0
+Halted machine ended read_failed takes write_failed old new complete unfinished lines texts (Ok _) =
+    ended × (lines ≡ complete ++ last_line unfinished) × (first_bad machine old.state lines ≡ None)
+    × Taken machine old.state lines new.state texts × Writes takes old.sink old.text new.sink new.text (concat texts)
+Halted machine ended read_failed takes write_failed old new complete unfinished lines texts (Err (faults.BadLine n)) =
+    (first_bad machine old.state lines ≡ Some n) × Taken machine old.state lines new.state texts
+    × Writes takes old.sink old.text new.sink new.text (concat texts)
+Halted machine ended read_failed takes write_failed old new complete unfinished lines texts (Err faults.Read) =
+    read_failed × (lines ≡ complete) × (length unfinished ≤ 120) × (first_bad machine old.state lines ≡ None)
+    × Taken machine old.state lines new.state texts × Writes takes old.sink old.text new.sink new.text (concat texts)
+Halted machine ended read_failed takes write_failed old new complete unfinished lines texts (Err faults.Write) =
+    write_failed × (waiting : List ℕ) × Writes takes old.sink old.text new.sink waiting (concat texts)
+Halted machine ended read_failed takes write_failed old new complete unfinished lines texts (Err faults.Memory) =
+    (front : List ℕ) × Stops machine old.state lines front × Writes takes old.sink old.text new.sink new.text front
 
-pub record Halts {S O : Type 0} (machine : Machine S) (old new : S) (gave : List ℕ → Type 0)
-    (ended read_failed : Type 0) (takes : O → O → List ℕ → Type 0) (output : O) (text : List ℕ) (output' : O)
-    (text' : List ℕ) (write_failed : Type 0) (result : Result (Unit {0}) Fault) : Type 0 where
+pub record Halts {S O : Type 0} (machine : Machine S) (gave : List ℕ → Type 0) (ended read_failed : Type 0)
+    (takes : O → O → List ℕ → Type 0) (write_failed : Type 0) (old new : RunState S O)
+    (result : Result (Unit {0}) Fault) : Type 0 where
   pub complete : List (List ℕ)
   pub unfinished : List ℕ
   pub bytes : List ℕ
@@ -42,10 +42,10 @@ pub record Halts {S O : Type 0} (machine : Machine S) (old new : S) (gave : List
   pub are_lines : AreLines ended complete unfinished lines
   pub texts : List (List ℕ)
   pub more : List (List ℕ)
-  pub all : replies machine old lines ≡ texts ++ more
-  pub halted : Halted machine old new ended read_failed takes output text output' text' write_failed complete unfinished lines texts more result
+  pub all : replies machine old.state lines ≡ texts ++ more
+  pub halted : Halted machine ended read_failed takes write_failed old new complete unfinished lines texts result
 
--- The end of the lines was answered where the lines halted by themselves.
+-- The session was told of the end, unless writing or memory had failed.
 abbrev pub EndsLines : {S : Type 0} → Machine S → S → List ℕ → List ℕ → Result (Unit {0}) Fault →
     Result (Unit {0}) Fault → Type 0
 EndsLines machine state text text' (Err faults.Memory) result = (result ≡ Err faults.Memory) × (text' ≡ text)

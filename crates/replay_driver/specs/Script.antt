@@ -1,4 +1,4 @@
--- What a script's lines are, and what a mode answers to them.
+-- What a script's lines are, and what a mode replies to them.
 use Rattle.std.specs.Prelude.{◌≡◌, ℕ, suc, ◌<◌, ◌≤◌, List, [], ◌∷◌, ◌++◌, length, take, Option, None, Some, Result, Ok}
 use Rattle.std.specs.Prelude.{Err, if◌then◌else◌, nat_lt, nat_eq, ◌⊎◌, Bool, IsTrue}
 use Rattle.std.specs.Option.{option_map, unwrap_or}
@@ -7,7 +7,7 @@ use Rattle.replay_driver.specs.declared.fault.Fault.{Fault}
 use Rattle.replay_driver.specs.declared.fault.Fault.TheVariants as faults
 
 -- What a mode does, as a machine over lines. A line leads to a state, and to the texts of the replies to the commands
--- that it completes, a text for each; a bad line leads nowhere. The end of the lines completes the commands that are
+-- that it completes, a text for each; a bad line has no step. The end of the lines completes the commands that are
 -- still open.
 pub record Machine (S : Type 0) : Type 0 where
   pub step : S → List ℕ → Option (S × List (List ℕ))
@@ -42,11 +42,11 @@ first_bad machine state (line ∷ lines) =
 abbrev pub text : {S : Type 0} → Machine S → S → List (List ℕ) → List ℕ
 text machine state lines = concat (replies machine state lines)
 
--- what stands between line feeds: each part but the last is a line, and the last is one that is not complete
+-- what is between line feeds: each part but the last is a line, and the last is one that is not complete
 abbrev pub parts : List ℕ → List (List ℕ)
 parts bytes = slice_split (λ b. nat_eq b 10) bytes
 
--- what stands behind the last line feed is a line where it has a byte
+-- what follows the last line feed is a line if it has a byte
 abbrev pub last_line : List ℕ → List (List ℕ)
 last_line [] = []
 last_line (b ∷ bytes) = (b ∷ bytes) ∷ []
@@ -92,7 +92,7 @@ Stops {S} machine state lines written =
     × (lines ≡ before ++ others) × Steps machine state before mid texts × StopsNext machine mid others front
     × (written ≡ concat texts ++ front)
 
--- What a run of a script may answer, where these lines were read and these bytes were written.
+-- What a run of a script may return, where these lines were read and these bytes were written.
 abbrev pub Answers : {S : Type 0} → Machine S → S → (ended read_failed write_failed : Type 0) →
     (complete : List (List ℕ)) (unfinished : List ℕ) (lines : List (List ℕ)) (written : List ℕ) →
     Result (Unit {0}) Fault → Type 0
@@ -114,7 +114,7 @@ abbrev pub AnswersAll : {S : Type 0} → Machine S → S → (script : List ℕ)
 AnswersAll machine state script took =
     (first_bad machine state (lines_of script) ≡ None) × took (text machine state (lines_of script))
 
--- What a run of a script reads, writes and answers.
+-- What a run of a script reads, writes and returns.
 pub record Runs {S : Type 0} (machine : Machine S) (state : S) (gave : List ℕ → Type 0) (ended read_failed : Type 0)
     (took : List ℕ → Type 0) (write_failed : Type 0) (result : Result (Unit {0}) Fault) : Type 0 where
   pub complete : List (List ℕ)
@@ -128,7 +128,7 @@ pub record Runs {S : Type 0} (machine : Machine S) (state : S) (gave : List ℕ 
   pub wrote : took written
   pub answers : Answers machine state ended read_failed write_failed complete unfinished lines written result
 
--- What a run of a script that stands in memory reads, writes and answers: a beginning of it was read.
+-- What a run of a script that is in memory reads, writes and returns: a prefix of it was read.
 abbrev pub RunsOver : {S : Type 0} → Machine S → S →
     (script : List ℕ) (took : List ℕ → Type 0) (write_failed : Type 0) → Result (Unit {0}) Fault → Type 0
 RunsOver machine state script took write_failed result =

@@ -9,13 +9,13 @@ use Rattle.replay_driver.specs.declared.session.Stop.{Stop}
 use Rattle.replay_driver.specs.declared.session.Stop.TheVariants as stops
 
 -- a line with its line feed
-abbrev pub ended : List ℕ → List ℕ
-ended line = line ++ 10 ∷ []
+abbrev pub with_line_feed : List ℕ → List ℕ
+with_line_feed line = line ++ 10 ∷ []
 
 abbrev pub HasNoFeed : List ℕ → Type 0
 HasNoFeed bytes = All (λ b. nat_eq b 10 ≡ false) bytes
 
--- The sink took the front of the text that was waiting and of what was added to it. The rest waits.
+-- The sink took a prefix of the text that was waiting and of what was added to it. The rest waits.
 abbrev pub Writes : {O : Type 0} → (O → O → List ℕ → Type 0) → O → List ℕ → O → List ℕ → List ℕ → Type 0
 Writes takes old text new rest added = (written : List ℕ) × takes old new written × (text ++ added ≡ written ++ rest)
 
@@ -39,59 +39,72 @@ abbrev pub Ends : {S E : Type 0} → Machine S → S → List ℕ → List ℕ �
 Ends machine old text after (Ok _) = after ≡ text ++ concat (machine.ending old)
 Ends machine old text after (Err e) = EndStops machine old text after
 
--- one line was taken, or stopped the script
-abbrev pub TakesOne : {S O : Type 0} → Machine S → S → List ℕ → S → (O → O → List ℕ → Type 0) → O → List ℕ → O →
-    List ℕ → Type 0 → Result (Unit {0}) Stop → Type 0
-TakesOne machine old line new takes output text output' text' failed (Ok _) =
-    (texts : List (List ℕ)) × (step_of machine old line ≡ Some (new, texts))
-    × Writes takes output text output' text' (concat texts)
-TakesOne machine old line new takes output text output' text' failed (Err stops.Bad) =
-    (step_of machine old line ≡ None) × (new ≡ old) × Writes takes output text output' text' []
-TakesOne {S} machine old line new takes output text output' text' failed (Err stops.Memory) =
-    (last : S) × (texts : List (List ℕ)) × (front : List ℕ) × (step_of machine old line ≡ Some (last, texts))
-    × StopsAmong texts front × Writes takes output text output' text' front
-TakesOne machine old line new takes output text output' text' failed (Err stops.Write) =
-    (texts : List (List ℕ)) × (rest : List ℕ) × (step_of machine old line ≡ Some (new, texts))
-    × Writes takes output text output' rest (concat texts) × failed
+-- A run of a script between two steps: the machine's state, the sink, and the text that waits to be written.
+pub record RunState (S O : Type 0) : Type 0 where
+  pub state : S
+  pub sink : O
+  pub text : List ℕ
 
--- these lines stand in the bytes, each with its line feed, and then a rest; they lead on, and have these replies
+-- one line was taken, or stopped the script
+abbrev pub TakesOne : {S O : Type 0} → Machine S → (O → O → List ℕ → Type 0) → (failed : Type 0) → (line : List ℕ) →
+    (old new : RunState S O) → Result (Unit {0}) Stop → Type 0
+TakesOne machine takes failed line old new (Ok _) =
+    (texts : List (List ℕ)) × (step_of machine old.state line ≡ Some (new.state, texts))
+    × Writes takes old.sink old.text new.sink new.text (concat texts)
+TakesOne machine takes failed line old new (Err stops.Bad) =
+    (step_of machine old.state line ≡ None) × (new.state ≡ old.state)
+    × Writes takes old.sink old.text new.sink new.text []
+TakesOne {S} machine takes failed line old new (Err stops.Memory) =
+    (last : S) × (texts : List (List ℕ)) × (front : List ℕ) × (step_of machine old.state line ≡ Some (last, texts))
+    × StopsAmong texts front × Writes takes old.sink old.text new.sink new.text front
+TakesOne machine takes failed line old new (Err stops.Write) =
+    (texts : List (List ℕ)) × (waiting : List ℕ) × (step_of machine old.state line ≡ Some (new.state, texts))
+    × Writes takes old.sink old.text new.sink waiting (concat texts) × failed
+
+-- the bytes are these lines, each with its line feed, and then a rest; the lines are good, and have these replies
 pub record Leads {S : Type 0} (machine : Machine S) (old : S) (bytes : List ℕ) (lines : List (List ℕ)) (rest : List ℕ)
     (new : S) (texts : List (List ℕ)) : Type 0 where
-  pub cut : bytes ≡ flat_map ended lines ++ rest
+  pub cut : bytes ≡ flat_map with_line_feed lines ++ rest
   pub no_feed : AllByRecursion HasNoFeed lines
   pub steps : Steps machine old lines new texts
 
+-- a run with the number of good lines so far
+pub record Progress (S O : Type 0) : Type 0 where
+  pub run : RunState S O
+  pub count : ℕ
+
 -- the lines of a block were taken, or one of them stopped the script
-abbrev pub TakesLines : {S O : Type 0} → Machine S → S → List ℕ → S → (O → O → List ℕ → Type 0) → O → List ℕ → O →
-    List ℕ → Type 0 → ℕ → ℕ → Result ℕ Stop → Type 0
-TakesLines machine old block new takes output text output' text' failed count count' (Ok used) =
-    (lines : List (List ℕ)) × (texts : List (List ℕ)) × Leads machine old block lines (drop used block) new texts
-    × (used ≤ length block) × HasNoFeed (drop used block) × (count' ≡ count + length lines)
-    × Writes takes output text output' text' (concat texts)
-TakesLines machine old block new takes output text output' text' failed count count' (Err stops.Bad) =
+abbrev pub TakesLines : {S O : Type 0} → Machine S → (O → O → List ℕ → Type 0) → (failed : Type 0) →
+    (block : List ℕ) → (old new : Progress S O) → Result ℕ Stop → Type 0
+TakesLines machine takes failed block old new (Ok used) =
+    (lines : List (List ℕ)) × (texts : List (List ℕ))
+    × Leads machine old.run.state block lines (drop used block) new.run.state texts
+    × (used ≤ length block) × HasNoFeed (drop used block) × (new.count ≡ old.count + length lines)
+    × Writes takes old.run.sink old.run.text new.run.sink new.run.text (concat texts)
+TakesLines machine takes failed block old new (Err stops.Bad) =
     (lines : List (List ℕ)) × (texts : List (List ℕ)) × (line : List ℕ) × (rest : List ℕ)
-    × Leads machine old block lines (line ++ 10 ∷ rest) new texts
-    × HasNoFeed line × (step_of machine new line ≡ None) × (count' ≡ count + length lines)
-    × Writes takes output text output' text' (concat texts)
-TakesLines {S} machine old block new takes output text output' text' failed count count' (Err stops.Memory) =
+    × Leads machine old.run.state block lines (line ++ 10 ∷ rest) new.run.state texts
+    × HasNoFeed line × (step_of machine new.run.state line ≡ None) × (new.count ≡ old.count + length lines)
+    × Writes takes old.run.sink old.run.text new.run.sink new.run.text (concat texts)
+TakesLines {S} machine takes failed block old new (Err stops.Memory) =
     (lines : List (List ℕ)) × (texts : List (List ℕ)) × (line : List ℕ) × (rest : List ℕ) × (mid : S) × (last : S)
     × (added : List (List ℕ)) × (front : List ℕ)
-    × Leads machine old block lines (line ++ 10 ∷ rest) mid texts × HasNoFeed line
+    × Leads machine old.run.state block lines (line ++ 10 ∷ rest) mid texts × HasNoFeed line
     × (step_of machine mid line ≡ Some (last, added)) × StopsAmong added front
-    × Writes takes output text output' text' (concat texts ++ front)
-TakesLines machine old block new takes output text output' text' failed count count' (Err stops.Write) =
+    × Writes takes old.run.sink old.run.text new.run.sink new.run.text (concat texts ++ front)
+TakesLines machine takes failed block old new (Err stops.Write) =
     (lines : List (List ℕ)) × (texts : List (List ℕ)) × (rest : List ℕ) × (waiting : List ℕ)
-    × Leads machine old block lines rest new texts
-    × Writes takes output text output' waiting (concat texts) × failed
+    × Leads machine old.run.state block lines rest new.run.state texts
+    × Writes takes old.run.sink old.run.text new.run.sink waiting (concat texts) × failed
 
--- How far a block was taken: these are the good lines so far, the texts of their replies, and what was written of them.
-pub record SoFar {S O : Type 0} (machine : Machine S) (takes : O → O → List ℕ → Type 0) (old : S) (output : O)
-    (text : List ℕ) (bytes rest : List ℕ) (new : S) (output' : O) (text' : List ℕ) (count : ℕ) : Type 0 where
+-- How far bytes were taken: these are the good lines so far, the texts of their replies, and what was written of them.
+pub record SoFar {S O : Type 0} (machine : Machine S) (takes : O → O → List ℕ → Type 0) (bytes rest : List ℕ)
+    (old new : RunState S O) (count : ℕ) : Type 0 where
   pub lines : List (List ℕ)
   pub texts : List (List ℕ)
-  pub leads : Leads machine old bytes lines rest new texts
+  pub leads : Leads machine old.state bytes lines rest new.state texts
   pub counted : count ≡ length lines
-  pub writes : Writes takes output text output' text' (concat texts)
+  pub writes : Writes takes old.sink old.text new.sink new.text (concat texts)
 
 -- what a stop at this line is to the caller
 abbrev pub fault_of : Stop → ℕ → Fault
@@ -99,15 +112,15 @@ fault_of stops.Bad line = faults.BadLine line
 fault_of stops.Memory line = faults.Memory
 fault_of stops.Write line = faults.Write
 
--- what stands behind the last line feed was taken, where it is a line, or stopped the script
-abbrev pub TakesLast : {S O : Type 0} → Machine S → S → List ℕ → S → (O → O → List ℕ → Type 0) → O → List ℕ → O →
-    List ℕ → Type 0 → Result (Unit {0}) Stop → Type 0
-TakesLast machine old line new takes output text output' text' failed (Ok _) =
-    (texts : List (List ℕ)) × Steps machine old (last_line line) new texts
-    × Writes takes output text output' text' (concat texts)
-TakesLast machine old line new takes output text output' text' failed (Err stop) =
-    (0 < length line) × TakesOne machine old line new takes output text output' text' failed (Err stop)
+-- what follows the last line feed was taken, if it is a line, or stopped the script
+abbrev pub TakesLast : {S O : Type 0} → Machine S → (O → O → List ℕ → Type 0) → (failed : Type 0) → (line : List ℕ) →
+    (old new : RunState S O) → Result (Unit {0}) Stop → Type 0
+TakesLast machine takes failed line old new (Ok _) =
+    (texts : List (List ℕ)) × Steps machine old.state (last_line line) new.state texts
+    × Writes takes old.sink old.text new.sink new.text (concat texts)
+TakesLast machine takes failed line old new (Err stop) =
+    (0 < length line) × TakesOne machine takes failed line old new (Err stop)
 
--- what was read between the states stands behind what was held
+-- what was read between the states follows what was held
 abbrev pub Reads : {I : Type 0} → (I → I → List ℕ → Type 0) → I → I → List ℕ → List ℕ → Type 0
 Reads gives old new held now = (bytes : List ℕ) × gives old new bytes × (now ≡ held ++ bytes)

@@ -1,4 +1,4 @@
--- What a source and a sink stand on.
+-- The reader of a source and the writer of a sink.
 use Rattle.replay_driver.specs.declared.source.FromRead.{FromRead}
 use Rattle.replay_driver.specs.declared.sink.ToWrite.{ToWrite}
 

@@ -28,8 +28,9 @@ fn take_line<S: Session, O: Sink>(
 ) -> Result<(), Stop>
     requires { S.is_ready session.old }
     ensures ready { S.is_ready session.new }
-    ensures taken { TakesOne S.machine (S.state session.old) line.now (S.state session.new)
-        O.takes output.old text.old.items output.new text.new.items (O.has_failed output.new) result }
+    ensures taken { TakesOne S.machine O.takes (O.has_failed output.new) line.now
+        (record { state = S.state session.old; sink = output.old; text = text.old.items })
+        (record { state = S.state session.new; sink = output.new; text = text.new.items }) result }
 {
     if line.len() > LONGEST_LINE {
         return Err(Stop::Bad);
@@ -57,9 +58,16 @@ fn take_lines<S: Session, O: Sink>(
     requires ready { S.is_ready session.old }
     requires room { count.old + length block.now < 2 ^ 64 }
     ensures ready { S.is_ready session.new }
-    ensures taken { TakesLines S.machine (S.state session.old) block.now (S.state session.new)
-        O.takes output.old text.old.items output.new text.new.items (O.has_failed output.new)
-        count.old count.new result }
+    ensures taken { TakesLines S.machine O.takes (O.has_failed output.new) block.now
+        (record {
+          run = record { state = S.state session.old; sink = output.old; text = text.old.items };
+          count = count.old;
+        })
+        (record {
+          run = record { state = S.state session.new; sink = output.new; text = text.new.items };
+          count = count.new;
+        })
+        result }
     ensures bound { count.new ≤ count.old + length block.now }
 {
     let mut start = 0;
@@ -92,8 +100,9 @@ fn take_last<S: Session, O: Sink>(
 ) -> Result<(), Stop>
     requires { S.is_ready session.old }
     ensures ready { S.is_ready session.new }
-    ensures taken { TakesLast S.machine (S.state session.old) line.now (S.state session.new)
-        O.takes output.old text.old.items output.new text.new.items (O.has_failed output.new) result }
+    ensures taken { TakesLast S.machine O.takes (O.has_failed output.new) line.now
+        (record { state = S.state session.old; sink = output.old; text = text.old.items })
+        (record { state = S.state session.new; sink = output.new; text = text.new.items }) result }
 {
     if line.is_empty() {
         return Ok(());
@@ -137,9 +146,11 @@ fn read_lines<S: Session, I: Source, O: Sink>(
     requires ready { S.is_ready session.old }
     requires block { 120 < length block.old }
     ensures ready { S.is_ready session.new }
-    ensures halts { Halts S.machine (S.state session.old) (S.state session.new)
+    ensures halts { Halts S.machine
         (I.gives input.old input.new) (I.at_end input.new) (I.has_failed input.new)
-        O.takes output.old text.old.items output.new text.new.items (O.has_failed output.new) result }
+        O.takes (O.has_failed output.new)
+        (record { state = S.state session.old; sink = output.old; text = text.old.items })
+        (record { state = S.state session.new; sink = output.new; text = text.new.items }) result }
 {
     let mut count = 0u64;
     let mut held = 0usize;

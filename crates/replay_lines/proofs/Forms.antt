@@ -22,7 +22,7 @@ pub chained : {A B : Type 0} (f : A → Option B) (o : Option A) (b : B) → opt
 chained f None b is = cc
 chained f (Some a) b is = (a, refl, is)
 
--- no space stands in these bytes
+-- no space is in these bytes
 abbrev pub has_no_space : List ℕ → Bool
 has_no_space [] = true
 has_no_space (b ∷ bs) = not (nat_eq b 32) && has_no_space bs
@@ -215,6 +215,6 @@ pub read_back : {A M : Type 0} {read : List (List ℕ) → Option A} {spell : A 
 read_back {A} {M} {read} {spell} read_words form word build a clean is can =
     ap read_words (split_joined word (spell a) (one_word word clean) (form.ones a can)) ∙ is ∙ ap (λ (o : Option A). option_map build o) (form.complete a can)
 
--- a line is its words, parted by one space
+-- a line is its words, separated by one space
 pub spelled_line : (line : List ℕ) (ws : List (List ℕ)) → words line ≡ ws → line ≡ join_with_byte 32 ws
 spelled_line line ws is = sym (join_with_byte-slice_split 32 line) ∙ ap (join_with_byte 32) is

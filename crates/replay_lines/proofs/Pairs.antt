@@ -1,4 +1,4 @@
--- Words that are pairs of numbers, parted by a colon.
+-- Words that are pairs of numbers, separated by a colon.
 use Rattle.std.proofs.Common.{◌≡◌, ℕ, ◌+◌, ◌-◌, List, [], ◌∷◌, ◌++◌, length, take, drop, Some, None, Option, Bool, true, false, refl, sym, ◌∙◌, ap, nat_eq}
 use Rattle.std.proofs.lemmas.List.Elements.{All-from_recursion}
 use Rattle.std.proofs.lemmas.List.Splits.{slice_split_none, join_with_byte-slice_split}
@@ -51,7 +51,7 @@ cut first rest =
     cut_parts first rest (slice_split colon rest) (number_of rest) refl (λ n is. whole rest n is)
     (λ v is. ap (join_with_byte 58) (sym is) ∙ join_with_byte-slice_split 58 rest)
 
--- a word is read as what stands before and behind its first colon
+-- a word is read as what is before and after its first colon
 pub read_pair : (word : List ℕ) (k : ℕ) → IsFirstByte (is_byte 58) word (Some k) → item_of (take k word ∷ take (length word - (k + 1)) (drop (k + 1) word) ∷ []) ≡ pair_of word
 read_pair word k h = sym (ap item_of (first_part 58 word k h) ∙ cut (take k word) (take (length word - (k + 1)) (drop (k + 1) word)))
 

@@ -14,7 +14,7 @@ use Rattle.replay_lines.specs.declared.list_command.Verb.{Verb}
 use Rattle.replay_lines.specs.declared.list_command.Verb.TheVariants as firsts
 use Rattle.replay_lines.specs.Words.{words}
 use Rattle.replay_lines.specs.ListVerbs.{end_verb_of, plain_verb_of, verb_of, plain_command_with}
-use Rattle.replay_lines.specs.ListScript.{Meaning, plain, walk, into, cursor, command_meant, meant, meaning_with, meaning_of_words, meaning_of, IsNoBlock, EntryFits}
+use Rattle.replay_lines.specs.ListScript.{Meaning, plain, walk, into, cursor, meaning_of_command, meaning_of_entry, meaning_with, meaning_of_words, meaning_of, IsNoBlock, EntryFits}
 use Rattle.replay_lines.specs.Spelling.{words_of, spelling_of, HasNumbers}
 use Rattle.replay_lines.proofs.Forms.{mapped, chained, look, in_none, structure_form, two_structures_form, structure_and_value_form, structure_and_item_form, IsForm, has_no_space, one_word, split_joined, made, read_back, spelled_line}
 use Rattle.replay_lines.proofs.ListForms.{structure_and_turns_form, split_words_form, drain_words_form, structure_and_end_form}
@@ -73,10 +73,10 @@ MeaningFits (into list turns) = list < 16
 MeaningFits (cursor list end) = list < 16
 
 abbrev plain_words : ListCommand → List (List ℕ)
-plain_words command = words_of (command_meant command)
+plain_words command = words_of (meaning_of_command command)
 
 abbrev PlainFits : ListCommand → Type 0
-PlainFits command = MeaningFits (command_meant command)
+PlainFits command = MeaningFits (meaning_of_command command)
 
 command_words : (v : PlainVerb) (word : List ℕ) (ws : List (List ℕ)) (c : ListCommand) → word ≡ word_of v → plain_command_with v ws ≡ Some c → (word ∷ ws ≡ plain_words c) × PlainFits c
 command_words verbs.PushFront = made plain_words PlainFits structure_and_item_form (codes "pushf") (λ x. commands.PushFront x.0 x.1) (λ x. refl) (λ x can. (record { first = can.0; others = tt }, tt))
@@ -97,7 +97,7 @@ command_words verbs.Show = made plain_words PlainFits structure_form (codes "sho
 
 meaning_words : (v : Verb) (word : List ℕ) (ws : List (List ℕ)) (m : Meaning) → word ≡ first_of v → meaning_with v ws ≡ Some m → (word ∷ ws ≡ words_of m) × MeaningFits m
 meaning_words (firsts.Plain v) = λ word ws m same is.
-    let (c, found, here) = mapped command_meant (plain_command_with v ws) m is in
+    let (c, found, here) = mapped meaning_of_command (plain_command_with v ws) m is in
     subst (λ (n : Meaning). (word ∷ ws ≡ words_of n) × MeaningFits n) here (command_words v word ws c same found)
 meaning_words firsts.Walk = made words_of MeaningFits structure_and_turns_form (codes "walk") (λ x. walk x.0 x.1) (λ x. refl) (λ x can. can.0)
 meaning_words firsts.Into = made words_of MeaningFits structure_and_turns_form (codes "into") (λ x. into x.0 x.1) (λ x. refl) (λ x can. can.0)
@@ -107,29 +107,29 @@ all_words : (ws : List (List ℕ)) (m : Meaning) → meaning_of_words ws ≡ Som
 all_words [] m is = cc
 all_words (word ∷ ws) m is = let (v, read, rest) = chained (λ v. meaning_with v ws) (verb_of word) m is in meaning_words v word ws m (first_word word v read) rest
 
-entry_fits : (entry : Entry) → MeaningFits (meant entry) → EntryFits entry
+entry_fits : (entry : Entry) → MeaningFits (meaning_of_entry entry) → EntryFits entry
 entry_fits (entries.Command (commands.Walk list turns)) fits = (record { first = fits; others = tt }, tt)
 entry_fits (entries.Command (commands.Into list turns)) fits = (record { first = fits; others = tt }, tt)
 entry_fits (entries.Command command) fits = fits
 entry_fits (entries.Cursor list end) fits = fits
 
-pub is_spelled : (line : List ℕ) (read : Option Entry) → option_map meant read ≡ meaning_of line → IfSome read (λ entry. line ≡ spelling_of entry)
+pub is_spelled : (line : List ℕ) (read : Option Entry) → option_map meaning_of_entry read ≡ meaning_of line → IfSome read (λ entry. line ≡ spelling_of entry)
 is_spelled line None is = tt
-is_spelled line (Some entry) is = spelled_line line (words_of (meant entry)) (all_words (words line) (meant entry) (sym is)).0
+is_spelled line (Some entry) is = spelled_line line (words_of (meaning_of_entry entry)) (all_words (words line) (meaning_of_entry entry) (sym is)).0
 
-pub line_fits : (line : List ℕ) (read : Option Entry) → option_map meant read ≡ meaning_of line → IfSome read EntryFits
+pub line_fits : (line : List ℕ) (read : Option Entry) → option_map meaning_of_entry read ≡ meaning_of line → IfSome read EntryFits
 line_fits line None is = tt
-line_fits line (Some entry) is = entry_fits entry (all_words (words line) (meant entry) (sym is)).1
+line_fits line (Some entry) is = entry_fits entry (all_words (words line) (meaning_of_entry entry) (sym is)).1
 
 -- the spelling of a command that has no `Vec` is read
 read_plain : {A : Type 0} {read : List (List ℕ) → Option A} {spell : A → List (List ℕ)} {Can : A → Type 0} → IsForm read spell Can → (v : PlainVerb) (build : A → ListCommand) (a : A) → has_no_space (word_of v) ≡ true →
-    verb_of (word_of v) ≡ Some (firsts.Plain v) → plain_command_with v (spell a) ≡ option_map build (read (spell a)) → Can a → meaning_of (join_with_byte 32 (word_of v ∷ spell a)) ≡ Some (command_meant (build a))
+    verb_of (word_of v) ≡ Some (firsts.Plain v) → plain_command_with v (spell a) ≡ option_map build (read (spell a)) → Can a → meaning_of (join_with_byte 32 (word_of v ∷ spell a)) ≡ Some (meaning_of_command (build a))
 read_plain {A} {read} {spell} form v build a clean verb is can =
     ap meaning_of_words (split_joined (word_of v) (spell a) (one_word (word_of v) clean) (form.ones a can))
     ∙ ap (λ (o : Option Verb). option_and_then (λ w. meaning_with w (spell a)) o) verb
-    ∙ ap (λ (o : Option ListCommand). option_map command_meant o) (is ∙ ap (λ (o : Option A). option_map build o) (form.complete a can))
+    ∙ ap (λ (o : Option ListCommand). option_map meaning_of_command o) (is ∙ ap (λ (o : Option A). option_map build o) (form.complete a can))
 
-spelled_command : (c : ListCommand) → Fits c → IsNoBlock c → HasNumbers (entries.Command c) → meaning_of (spelling_of (entries.Command c)) ≡ Some (command_meant c)
+spelled_command : (c : ListCommand) → Fits c → IsNoBlock c → HasNumbers (entries.Command c) → meaning_of (spelling_of (entries.Command c)) ≡ Some (meaning_of_command c)
 spelled_command (commands.PushFront l item) fits single numbers = read_plain structure_and_item_form verbs.PushFront (λ x. commands.PushFront x.0 x.1) (l, item) refl refl refl (fits.first, numbers)
 spelled_command (commands.PushBack l item) fits single numbers = read_plain structure_and_item_form verbs.PushBack (λ x. commands.PushBack x.0 x.1) (l, item) refl refl refl (fits.first, numbers)
 spelled_command (commands.PopFront l) fits single numbers = read_plain structure_form verbs.PopFront (λ m. commands.PopFront m) l refl refl refl fits.first
@@ -149,16 +149,16 @@ spelled_command (commands.Walk l turns) fits single numbers = read_back meaning_
 spelled_command (commands.Into l turns) fits single numbers = read_back meaning_of_words structure_and_turns_form (codes "into") (λ x. into x.0 x.1) (l, turns.items) refl refl (fits.first, numbers)
 spelled_command (commands.Cursor l end lines) fits single numbers = absurd single
 
-spelled : (entry : Entry) → EntryFits entry → HasNumbers entry → meaning_of (spelling_of entry) ≡ Some (meant entry)
+spelled : (entry : Entry) → EntryFits entry → HasNumbers entry → meaning_of (spelling_of entry) ≡ Some (meaning_of_entry entry)
 spelled (entries.Command c) fits numbers = spelled_command c fits.0 fits.1 numbers
 spelled (entries.Cursor l end) fits numbers = read_back meaning_of_words structure_and_end_form (codes "cursor") (λ x. cursor x.0 x.1) (l, end) refl refl (fits, tt)
 
-pub read_spelled : (line : List ℕ) (entry : Entry) → EntryFits entry → HasNumbers entry → spelling_of entry ≡ line → meaning_of line ≡ Some (meant entry)
+pub read_spelled : (line : List ℕ) (entry : Entry) → EntryFits entry → HasNumbers entry → spelling_of entry ≡ line → meaning_of line ≡ Some (meaning_of_entry entry)
 read_spelled line entry fits numbers is = sym (ap meaning_of is) ∙ spelled entry fits numbers
 
 -- what a line was read as, unless memory was refused
 abbrev IsRead : List ℕ → Result (Option Entry) AllocError → Type 0
-IsRead line result = IfOk result (λ read. option_map meant read ≡ meaning_of line)
+IsRead line result = IfOk result (λ read. option_map meaning_of_entry read ≡ meaning_of line)
 
 pub fits_read : (line : List ℕ) (result : Result (Option Entry) AllocError) → IsRead line result → IfOk result (λ read. IfSome read EntryFits)
 fits_read line (Ok read) is = line_fits line read is
@@ -169,6 +169,6 @@ spelled_read line (Ok read) is = is_spelled line read is
 spelled_read line (Err e) is = tt
 
 pub every_read : (line : List ℕ) (result : Result (Option Entry) AllocError) → IsRead line result →
-    IfOk result (λ read. (entry : Entry) → EntryFits entry → HasNumbers entry → spelling_of entry ≡ line → option_map meant read ≡ Some (meant entry))
+    IfOk result (λ read. (entry : Entry) → EntryFits entry → HasNumbers entry → spelling_of entry ≡ line → option_map meaning_of_entry read ≡ Some (meaning_of_entry entry))
 every_read line (Ok read) is = λ entry fits numbers same. is ∙ read_spelled line entry fits numbers same
 every_read line (Err e) is = tt

@@ -13,7 +13,7 @@ abbrev pub is_at : ℕ → ℕ → Bool
 is_at byte b = nat_eq b byte
 
 module _ (byte : ℕ) where
-  -- its first part stands in front of the first such byte, and the others are those of what stands behind it
+  -- its first part is before the first such byte, and the others are those of what is after it
   pub first_part : (text : List ℕ) (k : ℕ) → IsFirstByte (is_byte byte) text (Some k) → slice_split (is_at byte) text ≡ take k text ∷ slice_split (is_at byte) (take (length text - (k + 1)) (drop (k + 1) text))
   first_part text k h =
       let clean : All (λ b. nat_eq b byte ≡ false) (take k text) = λ j d lt.

@@ -10,7 +10,7 @@ pub data CoreLine : Type 0 where
   -- the number of the party that was added
   party : ℕ → CoreLine
   done : CoreLine
-  -- whether nothing was held
+  -- whether the core had no item
   truth : Bool → CoreLine
   -- an item that came out, the last one of what was taken, and one whose push failed
   found : Item → CoreLine
@@ -25,21 +25,21 @@ pub data CoreLine : Type 0 where
   show : List Item → CoreLine
   not_there : CoreLine
 
--- what a reply tells
-abbrev pub said : CoreReply → CoreLine
-said (replies.Party n) = party n
-said replies.Done = done
-said (replies.Truth b) = truth b
-said (replies.Found item) = found item
-said (replies.Last item) = last item
-said (replies.Failed item) = failed item
-said replies.Taken = taken
-said replies.Nothing = nothing
-said replies.Busy = busy
-said replies.Empty = empty
-said replies.Inconsistent = inconsistent
-said (replies.Show items) = show items.items
-said replies.NotThere = not_there
+-- the line that a reply is
+abbrev pub line_of_reply : CoreReply → CoreLine
+line_of_reply (replies.Party n) = party n
+line_of_reply replies.Done = done
+line_of_reply (replies.Truth b) = truth b
+line_of_reply (replies.Found item) = found item
+line_of_reply (replies.Last item) = last item
+line_of_reply (replies.Failed item) = failed item
+line_of_reply replies.Taken = taken
+line_of_reply replies.Nothing = nothing
+line_of_reply replies.Busy = busy
+line_of_reply replies.Empty = empty
+line_of_reply replies.Inconsistent = inconsistent
+line_of_reply (replies.Show items) = show items.items
+line_of_reply replies.NotThere = not_there
 
 -- a word and an item
 abbrev pub item_text : List ℕ → Item → List ℕ

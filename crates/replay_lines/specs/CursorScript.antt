@@ -39,7 +39,7 @@ verb_of word =
     else if bytes_eq word (codes "spliceb") then Some verbs.SpliceBefore
     else option_map (λ command. verbs.Bare command) (bare_of word)
 
--- what a command word and the words behind it mean
+-- what a command word and the words after it mean
 abbrev pub command_with : CursorVerb → List (List ℕ) → Option CursorCommand
 command_with (verbs.Bare command) words = option_map (λ none. command) (nothing_of words)
 command_with verbs.Set words = option_map (λ value. lines.Set value) (value_of words)

@@ -28,7 +28,7 @@ words_of (lines.SpliceAfter list) = codes "splicea" ∷ decimal list ∷ []
 words_of (lines.SpliceBefore list) = codes "spliceb" ∷ decimal list ∷ []
 words_of lines.End = codes "end" ∷ []
 
--- its words, parted by one space
+-- its words, separated by one space
 abbrev pub spelling_of : CursorCommand → List ℕ
 spelling_of command = join_with_byte 32 (words_of command)
 

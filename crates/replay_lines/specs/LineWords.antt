@@ -1,4 +1,4 @@
--- What the words behind a command word are read as, to the end of the line, and how these words are spelled.
+-- What the words after a command word are read as, to the end of the line, and how these words are spelled.
 use Rattle.std.specs.Prelude.{ℕ, ◌<◌, ◌^◌, List, [], ◌∷◌, Option, None, Some, decimal}
 use Rattle.std.specs.Option.{option_map, option_and_then}
 use Rattle.cordyceps_commands.specs.declared.item.Item.{Item}
@@ -14,7 +14,7 @@ only_word_of (word ∷ next ∷ words) = None
 abbrev pub only : {A : Type 0} → (List ℕ → Option A) → List (List ℕ) → Option A
 only kind words = option_and_then kind (only_word_of words)
 
--- a word of a kind, and what is read behind it
+-- a word of a kind, and what is read after it
 abbrev pub before : {A B : Type 0} → (List ℕ → Option A) → (List (List ℕ) → Option B) → List (List ℕ) → Option (A × B)
 before kind rest [] = None
 before kind rest (word ∷ words) = option_and_then (λ a. option_map (λ b. (a, b)) (rest words)) (kind word)

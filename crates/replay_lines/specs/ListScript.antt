@@ -21,18 +21,18 @@ pub data Meaning : Type 0 where
   into : ℕ → List Turn → Meaning
   cursor : ℕ → ListEnd → Meaning
 
-abbrev pub command_meant : ListCommand → Meaning
-command_meant (commands.Walk list turns) = walk list turns.items
-command_meant (commands.Into list turns) = into list turns.items
-command_meant command = plain command
+abbrev pub meaning_of_command : ListCommand → Meaning
+meaning_of_command (commands.Walk list turns) = walk list turns.items
+meaning_of_command (commands.Into list turns) = into list turns.items
+meaning_of_command command = plain command
 
-abbrev pub meant : Entry → Meaning
-meant (entries.Command command) = command_meant command
-meant (entries.Cursor list end) = cursor list end
+abbrev pub meaning_of_entry : Entry → Meaning
+meaning_of_entry (entries.Command command) = meaning_of_command command
+meaning_of_entry (entries.Cursor list end) = cursor list end
 
--- what a command word and the words behind it mean
+-- what a command word and the words after it mean
 abbrev pub meaning_with : Verb → List (List ℕ) → Option Meaning
-meaning_with (verbs.Plain verb) words = option_map command_meant (plain_command_with verb words)
+meaning_with (verbs.Plain verb) words = option_map meaning_of_command (plain_command_with verb words)
 meaning_with verbs.Walk words = option_map (λ x. walk x.0 x.1) (structure_and_turns_of words)
 meaning_with verbs.Into words = option_map (λ x. into x.0 x.1) (structure_and_turns_of words)
 meaning_with verbs.Cursor words = option_map (λ x. cursor x.0 x.1) (structure_and_end_of words)

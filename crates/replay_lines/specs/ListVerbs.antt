@@ -41,7 +41,7 @@ verb_of word =
     else if bytes_eq word (codes "cursor") then Some verbs.Cursor
     else option_map (λ verb. verbs.Plain verb) (plain_verb_of word)
 
--- what a command word and the words behind it mean
+-- what a command word and the words after it mean
 abbrev pub plain_command_with : PlainVerb → List (List ℕ) → Option ListCommand
 plain_command_with plain.PushFront words = option_map (λ x. commands.PushFront x.0 x.1) (structure_and_item_of words)
 plain_command_with plain.PushBack words = option_map (λ x. commands.PushBack x.0 x.1) (structure_and_item_of words)

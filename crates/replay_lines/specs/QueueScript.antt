@@ -31,7 +31,7 @@ verb_of word =
     else if bytes_eq word (codes "give") then Some verbs.Give
     else call_of word
 
--- what a command word and the words behind it mean
+-- what a command word and the words after it mean
 abbrev pub command_with : Verb → List (List ℕ) → Option QueueCommand
 command_with verbs.Party words = option_map (λ none. commands.Party) (nothing_of words)
 command_with verbs.Room words = option_map (λ p. commands.Room p) (value_of words)

@@ -19,7 +19,7 @@ words_of (commands.Enqueue p item) = codes "enq" ∷ decimal p ∷ item_words it
 words_of (commands.Dequeue p) = codes "deq" ∷ decimal p ∷ []
 words_of (commands.Batch p n) = codes "batch" ∷ decimal p ∷ decimal n ∷ []
 
--- its words, parted by one space
+-- its words, separated by one space
 abbrev pub spelling_of : QueueCommand → List ℕ
 spelling_of command = join_with_byte 32 (words_of command)
 

@@ -7,7 +7,7 @@ use Rattle.replay_lines.specs.declared.list_command.Entry.{Entry}
 use Rattle.replay_lines.specs.declared.list_command.Entry.TheVariants as entries
 use Rattle.replay_lines.specs.LineWords.{item_words, HasItemNumbers}
 use Rattle.replay_lines.specs.ListWords.{end_word, filter_word, turns_word}
-use Rattle.replay_lines.specs.ListScript.{Meaning, plain, walk, into, cursor, meant}
+use Rattle.replay_lines.specs.ListScript.{Meaning, plain, walk, into, cursor, meaning_of_entry}
 
 -- a command with a `Vec` has no words as a plain one
 abbrev pub plain_words : ListCommand → List (List ℕ)
@@ -36,9 +36,9 @@ words_of (walk list turns) = codes "walk" ∷ decimal list ∷ turns_word turns 
 words_of (into list turns) = codes "into" ∷ decimal list ∷ turns_word turns ∷ []
 words_of (cursor list end) = codes "cursor" ∷ decimal list ∷ end_word end ∷ []
 
--- its words, parted by one space
+-- its words, separated by one space
 abbrev pub spelling_of : Entry → List ℕ
-spelling_of entry = join_with_byte 32 (words_of (meant entry))
+spelling_of entry = join_with_byte 32 (words_of (meaning_of_entry entry))
 
 -- its numbers are below 2 ^ 64, and it has 1 to 64 turns
 abbrev pub HasNumbers : Entry → Type 0

@@ -22,7 +22,7 @@ verb_of word =
     else if bytes_eq word (codes "takeall") then Some verbs.TakeAll
     else None
 
--- what a command word and the words behind it mean
+-- what a command word and the words after it mean
 abbrev pub command_with : Verb → List (List ℕ) → Option TransferCommand
 command_with verbs.Party words = option_map (λ none. commands.Party) (nothing_of words)
 command_with verbs.Room words = option_map (λ p. commands.Room p) (value_of words)

@@ -16,7 +16,7 @@ words_of (commands.Walk p) = codes "walk" ∷ decimal p ∷ []
 words_of (commands.Push p item) = codes "push" ∷ decimal p ∷ item_words item
 words_of (commands.TakeAll p) = codes "takeall" ∷ decimal p ∷ []
 
--- its words, parted by one space
+-- its words, separated by one space
 abbrev pub spelling_of : TransferCommand → List ℕ
 spelling_of command = join_with_byte 32 (words_of command)
 

@@ -5,7 +5,7 @@ use Rattle.std.specs.Option.{option_and_then}
 use Rattle.std.specs.Char.{is_ascii_digit}
 use Rattle.std.specs.List.{slice_split}
 
--- what stands between the spaces
+-- what is between the spaces
 abbrev pub words : List ℕ → List (List ℕ)
 words line = slice_split (λ b. nat_eq b 32) line
 

@@ -1,6 +1,6 @@
 //! The replies of the modes `transfer` and `queue`.
 ghost use Rattle.std.specs.Prelude.{◌≡◌, ◌++◌, OnErr, OnOk};
-ghost use Rattle.replay_lines.specs.CoreReplies.{core_text, item_text, said, show};
+ghost use Rattle.replay_lines.specs.CoreReplies.{core_text, item_text, line_of_reply, show};
 
 use crate::reply::push_show;
 use cordyceps_commands::Item;
@@ -72,7 +72,7 @@ pub fn push_core_reply(
     text: &mut Vec<u8>,
     reply: &CoreReply,
 ) -> Result<(), AllocError>
-    ensures ok { OnOk result (text.new.items ≡ text.old.items ++ core_text (said reply.now)) }
+    ensures ok { OnOk result (text.new.items ≡ text.old.items ++ core_text (line_of_reply reply.now)) }
     ensures err { OnErr result (text.new.items ≡ text.old.items) }
 {
     match reply {

@@ -3,7 +3,7 @@ ghost use Rattle.std.specs.Prelude.{◌≡◌, true, Some, is_some, IfOk, OnErr,
 ghost use Rattle.std.specs.Option.{option_map};
 ghost use Rattle.replay_lines.specs.Words.{words_left};
 ghost use Rattle.replay_lines.specs.ListVerbs.{plain_verb_of, end_verb_of, verb_of, plain_command_with};
-ghost use Rattle.replay_lines.specs.ListScript.{meant, meaning_of, EntryFits};
+ghost use Rattle.replay_lines.specs.ListScript.{meaning_of_entry, meaning_of, EntryFits};
 ghost use Rattle.replay_lines.specs.Spelling.{spelling_of, HasNumbers};
 ghost use Rattle.replay_lines.specs.declared.list_command.Entry.{Entry};
 
@@ -156,7 +156,7 @@ fn read_plain(verb: PlainVerb, rest: Words) -> Option<ListCommand>
 
 /// Reads the command word, and the words that follow it.
 fn read_words(alloc: Global, line: &[u8]) -> Result<Option<Entry>, AllocError>
-    ensures value { IfOk result (λ read. option_map meant read ≡ meaning_of line.now) }
+    ensures value { IfOk result (λ read. option_map meaning_of_entry read ≡ meaning_of line.now) }
     ensures err { OnErr result (is_some (meaning_of line.now) ≡ true) }
 {
     let mut words = Words::new(line);
@@ -188,12 +188,12 @@ fn read_words(alloc: Global, line: &[u8]) -> Result<Option<Entry>, AllocError>
 /// # Complexity
 /// O(b), for b bytes of the line. Only `walk` and `into` allocate.
 pub fn read_entry(alloc: Global, line: &[u8]) -> Result<Option<Entry>, AllocError>
-    ensures value { IfOk result (λ read. option_map meant read ≡ meaning_of line.now) }
+    ensures value { IfOk result (λ read. option_map meaning_of_entry read ≡ meaning_of line.now) }
     ensures fits { IfOk result (λ read. IfSome read EntryFits) }
     ensures spelled { IfOk result (λ read. IfSome read (λ entry. line.now ≡ spelling_of entry)) }
     ensures every { IfOk result
         (λ read. (entry : Entry) → EntryFits entry → HasNumbers entry → spelling_of entry ≡ line.now
-        → option_map meant read ≡ Some (meant entry)) }
+        → option_map meaning_of_entry read ≡ Some (meaning_of_entry entry)) }
     ensures err { OnErr result (is_some (meaning_of line.now) ≡ true) }
 {
     read_words(alloc, line)

@@ -16,7 +16,7 @@ use Rattle.replay_sessions.specs.declared.block.Block.{Block}
 use Rattle.replay_lines.specs.declared.list_command.Entry.{Entry}
 use Rattle.replay_lines.specs.declared.list_command.Entry.TheVariants as entries
 use Rattle.replay_lines.specs.ReplyText.{text_of}
-use Rattle.replay_lines.specs.ListScript.{Meaning, command_meant, meant, meaning_of}
+use Rattle.replay_lines.specs.ListScript.{Meaning, meaning_of_command, meaning_of_entry, meaning_of}
 use Rattle.replay_lines.specs.CursorScript.{cursor_command_of}
 use Rattle.replay_driver.specs.Steps.{Ends}
 use Rattle.replay_sessions.specs.ListMachine.{list_machine, Open, State, run_block, longer, answered, take_outside, take_inside, take_line}
@@ -27,22 +27,22 @@ some_meaning (Some m) is = (m, refl)
 some_meaning None is = cc
 
 -- a command does what its line asks for
-stepped : (table : Table) (command : ListCommand) → take_outside table (command_meant command) ≡ answered (step table command)
+stepped : (table : Table) (command : ListCommand) → take_outside table (meaning_of_command command) ≡ answered (step table command)
 stepped table (commands.Walk list turns) = refl
 stepped table (commands.Into list turns) = refl
 stepped table command = refl
 
 -- what was read is the command's meaning
-pub command_read : (line : List ℕ) (read : Option Entry) (entry : Entry) (command : ListCommand) → read ≡ Some entry → entry ≡ entries.Command command → option_map meant read ≡ meaning_of line → Some (command_meant command) ≡ meaning_of line
-command_read line read entry command is same means = ap (option_map meant) (sym (is ∙ ap Some same)) ∙ means
+pub command_read : (line : List ℕ) (read : Option Entry) (entry : Entry) (command : ListCommand) → read ≡ Some entry → entry ≡ entries.Command command → option_map meaning_of_entry read ≡ meaning_of line → Some (meaning_of_command command) ≡ meaning_of line
+command_read line read entry command is same means = ap (option_map meaning_of_entry) (sym (is ∙ ap Some same)) ∙ means
 
 pub outside : (table : Table) (line : List ℕ) (meaning : Meaning) → Some meaning ≡ meaning_of line → take_line (table, None) line ≡ Some (take_outside table meaning)
 outside table line meaning is = rw (← is) refl
 
-pub entered : (table : Table) (line : List ℕ) (command : ListCommand) → Some (command_meant command) ≡ meaning_of line → take_line (table, None) line ≡ Some (answered (step table command))
-entered table line command is = outside table line (command_meant command) is ∙ ap Some (stepped table command)
+pub entered : (table : Table) (line : List ℕ) (command : ListCommand) → Some (meaning_of_command command) ≡ meaning_of line → take_line (table, None) line ≡ Some (answered (step table command))
+entered table line command is = outside table line (meaning_of_command command) is ∙ ap Some (stepped table command)
 
-pub entered_as : (table new : Table) (line : List ℕ) (command : ListCommand) (replies : List Line) → Some (command_meant command) ≡ meaning_of line → (new, replies) ≡ step table command →
+pub entered_as : (table new : Table) (line : List ℕ) (command : ListCommand) (replies : List Line) → Some (meaning_of_command command) ≡ meaning_of line → (new, replies) ≡ step table command →
     take_line (table, None) line ≡ Some ((new, None), text_of replies ∷ [])
 entered_as table new line command replies is done = entered table line command is ∙ ap (λ (r : Table × List Line). Some (answered r)) (sym done)
 

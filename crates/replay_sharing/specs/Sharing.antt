@@ -40,17 +40,17 @@ pub record Shared (u w : PartyOf (Element Item)) (values : List ℕ) : Type 0 wh
   pub answer : values ≡ 10 ∷ 11 ∷ 20 ∷ 21 ∷ []
 
 -- a line of numbers
-abbrev pub shown : List ℕ → List ℕ
-shown [] = 10 ∷ []
-shown (v ∷ []) = decimal v ++ 10 ∷ []
-shown (v ∷ w ∷ vs) = decimal v ++ 32 ∷ shown (w ∷ vs)
+abbrev pub line_of_numbers : List ℕ → List ℕ
+line_of_numbers [] = 10 ∷ []
+line_of_numbers (v ∷ []) = decimal v ++ 10 ∷ []
+line_of_numbers (v ∷ w ∷ vs) = decimal v ++ 32 ∷ line_of_numbers (w ∷ vs)
 
 -- What a run of mode share writes and answers.
 abbrev pub Prints : (took : List ℕ → Type 0) (write_failed : Type 0) → Result (Unit {0}) Fault → Type 0
-Prints took write_failed (Ok _) = took (shown (10 ∷ 11 ∷ 20 ∷ 21 ∷ []))
+Prints took write_failed (Ok _) = took (line_of_numbers (10 ∷ 11 ∷ 20 ∷ 21 ∷ []))
 Prints took write_failed (Err faults.Memory) = took []
 Prints took write_failed (Err faults.Write) =
-    write_failed × (written : List ℕ) × (rest : List ℕ) × (shown (10 ∷ 11 ∷ 20 ∷ 21 ∷ []) ≡ written ++ rest)
+    write_failed × (written : List ℕ) × (rest : List ℕ) × (line_of_numbers (10 ∷ 11 ∷ 20 ∷ 21 ∷ []) ≡ written ++ rest)
     × took written
 Prints took write_failed (Err faults.Read) = ⊥
 Prints took write_failed (Err (faults.BadLine n)) = ⊥

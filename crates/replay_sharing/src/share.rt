@@ -6,7 +6,7 @@ ghost use Rattle.std.specs.Thread.{IsSync};
 ghost use Rattle.cordyceps_shared.specs.Histories.{plain};
 ghost use Rattle.cordyceps_shared.specs.Shares.{whole};
 ghost use Rattle.cordyceps_stack.specs.History.{held};
-ghost use Rattle.replay_sharing.specs.Sharing.{item, Works, Shared, shown, Prints};
+ghost use Rattle.replay_sharing.specs.Sharing.{item, Works, Shared, line_of_numbers, Prints};
 ghost use Rattle.replay_driver.specs.declared.fault.Fault.TheVariants.{Memory};
 
 use cordyceps_base::node::Node;
@@ -219,7 +219,7 @@ pub fn share<R: Threads + Wait + Sync, G: Gate>(
 /// Returns the line that shows four values.
 fn line_of(alloc: Global, values: &[u64]) -> Result<Vec<u8>, AllocError>
     requires { length values.now ≡ 4 }
-    ensures { IfOk result (λ line. line.items ≡ shown values.now) }
+    ensures { IfOk result (λ line. line.items ≡ line_of_numbers values.now) }
 {
     match values {
         [first, second, third, fourth] => {

@@ -100,7 +100,9 @@ returns-in-Err-take_lines-clause-halts g c =
     let gave_them = g.met.I.Source.gives_more _ _ _ bytes more gave given in
     let all = grown so_far more (take end block) c.loop-end.block block held end (g.I.Source.room c.loop-end.input) (g.I.Source.room c.read_more.new.input) join
     (omega (arith, c.loop-end.invariant.short, c.loop-end.invariant.room)) refl c.in-Ok.ensures.within.1 refl c.in-Ok.ensures.room room in
-    rw c.fault_at-in-Err-take_lines.ensures (halts_stopped g.met.O.Sink.takes_more c.take_lines.new.count c.in-Err-take_lines.stop all.1 gave_them c.in-Err-take_lines.ensures.taken)
+    rw c.fault_at-in-Err-take_lines.ensures (halts_stopped g.met.O.Sink.takes_more
+    (record { run = record { state = g.S.Session.state c.take_lines.new.session; sink = c.take_lines.new.output; text = c.take_lines.new.text.items }; count = c.take_lines.new.count })
+    c.in-Err-take_lines.stop all.1 gave_them c.in-Err-take_lines.ensures.taken)
 
 pub overflow_add-result : goal.overflow_add-result
 overflow_add-result g c =

@@ -9,7 +9,9 @@ invariant-loop-end g l = record {
   short : l.held ≤ 120;
   clean : HasNoFeed (take l.held l.block);
   so_far : (bytes : List ℕ) × g.I.Source.gives l.fn.input l.input bytes × (length bytes + g.I.Source.room l.input ≤ 2 ^ 63)
-      × SoFar g.S.Session.machine g.O.Sink.takes (g.S.Session.state l.fn.session) l.fn.output l.fn.text.items bytes (take l.held l.block) (g.S.Session.state l.session) l.output l.text.items l.count;
+      × SoFar g.S.Session.machine g.O.Sink.takes bytes (take l.held l.block)
+      (record { state = g.S.Session.state l.fn.session; sink = l.fn.output; text = l.fn.text.items })
+      (record { state = g.S.Session.state l.session; sink = l.output; text = l.text.items }) l.count;
 }
 
 abbrev pub decreases-loop-end : goal.decreases-loop-end

@@ -32,9 +32,11 @@ returns-in_err-take_line-clause-taken g c =
     let rest = drop start block in
     let found : Found rest k = found_line rest k (rw (slice_from block start) at c.in-Some.ensures) in
     let so_far = rw found.cut at c.loop-length.invariant.so_far.3 in
-    rw (p.1, p.2) (stopped g.S.Session.machine g.O.Sink.takes g.met.O.Sink.takes_more (g.S.Session.state c.args.session.now) (g.S.Session.state c.loop-length.session) (g.S.Session.state c.take_line.new.session)
-    c.args.output.now c.loop-length.output c.take_line.new.output c.args.text.now.items c.loop-length.text.items c.take_line.new.text.items block (take k rest) _ (drop (k + 1) rest)
-    c.args.count.now c.loop-length.count c.loop-length.invariant.so_far.0 (g.O.Sink.has_failed c.take_line.new.output) c.in_err-take_line.field-0.0 so_far c.loop-length.invariant.so_far.1 found.clean (line_of block start k) c.in_err-take_line.ensures.taken)
+    rw (p.1, p.2) (stopped g.S.Session.machine g.O.Sink.takes g.met.O.Sink.takes_more
+    (record { run = record { state = g.S.Session.state c.args.session.now; sink = c.args.output.now; text = c.args.text.now.items }; count = c.args.count.now })
+    (record { run = record { state = g.S.Session.state c.take_line.new.session; sink = c.take_line.new.output; text = c.take_line.new.text.items }; count = c.loop-length.count })
+    (record { state = g.S.Session.state c.loop-length.session; sink = c.loop-length.output; text = c.loop-length.text.items })
+    block (take k rest) _ (drop (k + 1) rest) c.loop-length.invariant.so_far.0 (g.O.Sink.has_failed c.take_line.new.output) c.in_err-take_line.field-0.0 so_far c.loop-length.invariant.so_far.1 found.clean (line_of block start k) c.in_err-take_line.ensures.taken)
 
 pub loop-length-preserved : goal.loop-length-preserved
 loop-length-preserved g c =
@@ -45,9 +47,11 @@ loop-length-preserved g c =
     let found : Found rest k = found_line rest k (rw (slice_from block start) at c.in-Some.ensures) in
     let so_far = rw found.cut at c.loop-length.invariant.so_far.3 in
     let n = c.loop-length.invariant.so_far.0 in
-    let next = go_on g.S.Session.machine g.O.Sink.takes g.met.O.Sink.takes_more (g.S.Session.state c.args.session.now) (g.S.Session.state c.loop-length.session) (g.S.Session.state c.take_line.new.session)
-    c.args.output.now c.loop-length.output c.take_line.new.output c.args.text.now.items c.loop-length.text.items c.take_line.new.text.items block (take k rest) _ (drop (k + 1) rest)
-    n (g.O.Sink.has_failed c.take_line.new.output) so_far found.clean (line_of block start k) c.in_ok-take_line.ensures.taken in
+    let next = go_on g.S.Session.machine g.O.Sink.takes g.met.O.Sink.takes_more
+    (record { state = g.S.Session.state c.args.session.now; sink = c.args.output.now; text = c.args.text.now.items })
+    (record { state = g.S.Session.state c.loop-length.session; sink = c.loop-length.output; text = c.loop-length.text.items })
+    (record { state = g.S.Session.state c.take_line.new.session; sink = c.take_line.new.output; text = c.take_line.new.text.items })
+    block (take k rest) _ (drop (k + 1) rest) n (g.O.Sink.has_failed c.take_line.new.output) so_far found.clean (line_of block start k) c.in_ok-take_line.ensures.taken in
     record {
       ready = c.in_ok-take_line.ensures.ready;
       within = omega (arith, found.within, length-drop start block);

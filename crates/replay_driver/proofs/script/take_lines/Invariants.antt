@@ -7,7 +7,9 @@ invariant-loop-length g l = record {
   ready : g.S.Session.is_ready l.session;
   within : l.start ≤ length l.block;
   so_far : (n : ℕ) × (l.count ≡ l.initial.count + n) × (n ≤ l.start)
-      × SoFar g.S.Session.machine g.O.Sink.takes (g.S.Session.state l.fn.session) l.fn.output l.fn.text.items l.block (drop l.start l.block) (g.S.Session.state l.session) l.output l.text.items n;
+      × SoFar g.S.Session.machine g.O.Sink.takes l.block (drop l.start l.block)
+      (record { state = g.S.Session.state l.fn.session; sink = l.fn.output; text = l.fn.text.items })
+      (record { state = g.S.Session.state l.session; sink = l.output; text = l.text.items }) n;
 }
 
 abbrev pub decreases-loop-length : goal.decreases-loop-length

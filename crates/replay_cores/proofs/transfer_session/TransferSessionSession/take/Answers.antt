@@ -1,7 +1,7 @@
 use Rattle.std.proofs.Common.{◌++◌, ◌∷◌, [], refl, sym, ◌∙◌, ap, inl}
 use Rattle.std.proofs.lemmas.List.{append-nil}
 use Rattle.std.proofs.lemmas.Result.{err_from_is_err_and}
-use Rattle.replay_lines.specs.CoreReplies.{said, core_text}
+use Rattle.replay_lines.specs.CoreReplies.{line_of_reply, core_text}
 use Rattle.replay_lines.specs.TransferScript.{command_of}
 use Rattle.replay_cores.specs.TransferMachine.{step}
 use Rattle.replay_cores.proofs.Lines.{core_taken, core_taken_as}
@@ -27,7 +27,7 @@ returns-in_err-push_core_reply-clause-taken c =
 pub returns-clause-taken : goal.returns-clause-taken
 returns-clause-taken c =
     let reply = c.in_ok-reply.reply in (
-      core_text (said reply) ∷ [],
-      core_taken_as command_of step c.args.self.now.core c.play.new.self.core c.args.line.now c.in-Some.command (said reply) c.in-Some.ensures.value c.in_ok-reply.ensures,
-      c.in_ok-push_core_reply.ensures.ok ∙ ap (λ xs. c.args.text.now.items ++ xs) (sym (append-nil (core_text (said reply)))),
+      core_text (line_of_reply reply) ∷ [],
+      core_taken_as command_of step c.args.self.now.core c.play.new.self.core c.args.line.now c.in-Some.command (line_of_reply reply) c.in-Some.ensures.value c.in_ok-reply.ensures,
+      c.in_ok-push_core_reply.ensures.ok ∙ ap (λ xs. c.args.text.now.items ++ xs) (sym (append-nil (core_text (line_of_reply reply)))),
     )
