@@ -17,10 +17,10 @@ use Rattle.cordyceps_commands.specs.declared.list_command.CursorCommand.{CursorC
 use Rattle.cordyceps_commands.specs.declared.list_command.CursorCommand.TheVariants.{SplitAfter, SplitBefore, SpliceAfter, SpliceBefore}
 use Rattle.cordyceps_commands.specs.Replies.{Line, lines_of, done, found_or_nothing}
 use Rattle.cordyceps_tables.specs.Tables.{Table, held_at}
-use Rattle.cordyceps_tables.specs.Blocks.{Spot, State, blocked, first_place, rewritten, Goes, Obeys, line_on, line_step, state_of, LineRuns, cut_after, cut_before, put_after, put_before, split_to, splice_from}
+use Rattle.cordyceps_tables.specs.Blocks.{Spot, State, run_lines, first_place, set_at, Goes, Obeys, line_on, line_step, state_of, LineRuns, cut_after, cut_before, put_after, put_before, split_to, splice_from}
 
 pub goes_written : (old new : CursorMut Item) (s : Elements Item) (k at : ℕ) (o : Option Item) (item : Item) (value : ℕ) (reply : Reply) →
-    Stands old new (with_value s at (record item { value = value })) k → Some item ≡ o → lines_of reply ≡ done ∷ [] → Goes old new (rewritten s k at o value) reply
+    Stands old new (with_value s at (record item { value = value })) k → Some item ≡ o → lines_of reply ≡ done ∷ [] → Goes old new (set_at s k at o value) reply
 goes_written old new s k at o item value reply stands is told = rw (← is) (record { stands = stands; told = told })
 
 pub goes_on : (old new : CursorMut Item) (s : Elements Item) (k : ℕ) (x : Item) (reply : Reply) →
@@ -163,7 +163,7 @@ pub block_done : (n : ℕ) (table left : Table) (first last : CursorMut Item) (e
     elements first ≡ held_at table n → place first ≡ first_place end (length (held_at table n)) →
     state_of left n last ≡ after (line_step n) (state_of (set table n []) n first) lines →
     told ≡ before ++ replies_to (line_step n) (state_of (set table n []) n first) lines →
-    let result : Table × List Line = (set left n (elements last), told) in result ≡ blocked table n end lines before
+    let result : Table × List Line = (set left n (elements last), told) in result ≡ run_lines table n end lines before
 block_done n table left first last end lines before told within held at state said =
     let start : State = (table, first_place end (length (held_at table n))) in
     let opened : state_of (set table n []) n first ≡ start =

@@ -9,7 +9,7 @@ use Rattle.cordyceps_list.specs.Filter.{RemovesFirst}
 use Rattle.cordyceps_tables.proofs.Places.{past_end}
 use Rattle.cordyceps_commands.specs.declared.item.Item.{Item}
 use Rattle.cordyceps_commands.specs.declared.list_command.Filter.{Filter}
-use Rattle.cordyceps_tables.specs.Filters.{passes, skipped, turn_after, passing, all_but, drained}
+use Rattle.cordyceps_tables.specs.Filters.{passes, skip_count, turn_after, first_passing, all_but, drain}
 
 value_at : (s : Elements Item) (k : ℕ) (e : Element Item) → slice_get s k ≡ Some e → slice_get (values s) k ≡ Some e.value
 value_at s k e is = slice_get-map (λ (x : Element Item). x.value) s k ∙ rw is refl
@@ -27,15 +27,15 @@ length_all_but s k inside =
     let both = length-append (take k s) (drop (k + 1) s) in
     omega arith
 
-drained_none : (filter : Filter) (n : ℕ) (turn : Bool) (s : Elements Item) (k : ℕ) → slice_get s (passing filter turn s k) ≡ None → drained filter n turn s k ≡ ([], s)
-drained_none filter zero turn s k is = refl
-drained_none filter (suc n) turn s k is = rw (no_value_at s (passing filter turn s k) is) refl
+drain_none : (filter : Filter) (n : ℕ) (turn : Bool) (s : Elements Item) (k : ℕ) → slice_get s (first_passing filter turn s k) ≡ None → drain filter n turn s k ≡ ([], s)
+drain_none filter zero turn s k is = refl
+drain_none filter (suc n) turn s k is = rw (no_value_at s (first_passing filter turn s k) is) refl
 
-drained_more : (filter : Filter) (n : ℕ) (turn : Bool) (s : Elements Item) (k : ℕ) (e : Element Item) → slice_get s (passing filter turn s k) ≡ Some e →
-    let at = passing filter turn s k in
-    let more = drained filter n (turn_after filter turn (drop k (values s))) (all_but s at) at in
-    drained filter (suc n) turn s k ≡ (e.value ∷ more.0, more.1)
-drained_more filter n turn s k e is = rw (value_at s (passing filter turn s k) e is) refl
+drain_more : (filter : Filter) (n : ℕ) (turn : Bool) (s : Elements Item) (k : ℕ) (e : Element Item) → slice_get s (first_passing filter turn s k) ≡ Some e →
+    let at = first_passing filter turn s k in
+    let more = drain filter n (turn_after filter turn (drop k (values s))) (all_but s at) at in
+    drain filter (suc n) turn s k ≡ (e.value ∷ more.0, more.1)
+drain_more filter n turn s k e is = rw (value_at s (first_passing filter turn s k) e is) refl
 
 -- a predicate that asks the filter, and keeps it beside the turn
 pub record Asks (R : Filter × Bool → Item → Bool → Filter × Bool → Type 0) : Type 0 where
@@ -44,7 +44,7 @@ pub record Asks (R : Filter × Bool → Item → Bool → Filter × Bool → Typ
   pub turns : (f h : Filter × Bool) (x : Item) (b : Bool) → R f x b h → h.1 ≡ not f.1
 
 module _ (R : Filter × Bool → Item → Bool → Filter × Bool → Type 0) (asks : Asks R) where
-  walked_over : (f g : Filter × Bool) (xs : List Item) (n : ℕ) → Walks R f xs n g → (n ≡ skipped f.0 f.1 xs) × (g.0 ≡ f.0) × (g.1 ≡ turn_after f.0 f.1 xs)
+  walked_over : (f g : Filter × Bool) (xs : List Item) (n : ℕ) → Walks R f xs n g → (n ≡ skip_count f.0 f.1 xs) × (g.0 ≡ f.0) × (g.1 ≡ turn_after f.0 f.1 xs)
   walked_over f g [] n (none, same) = (none, ap (λ (p : Filter × Bool). p.0) same, ap (λ (p : Filter × Bool). p.1) same)
   walked_over f g (x ∷ xs) n (true, h, called, (none, same)) =
       let is = asks.answers f h x true called in
@@ -56,12 +56,12 @@ module _ (R : Filter × Bool → Item → Bool → Filter × Bool → Type 0) (a
       let kept = asks.keeps f h x false called in
       let turned = asks.turns f h x false called in
       let later = walked_over h g xs m walks in
-      let count : m ≡ skipped f.0 (not f.1) xs = rw (kept, turned) at later.0 in
+      let count : m ≡ skip_count f.0 (not f.1) xs = rw (kept, turned) at later.0 in
       let last : g.1 ≡ turn_after f.0 (not f.1) xs = rw (kept, turned) at later.2 in
       (rw (← is) (more ∙ ap (λ (i : ℕ). i + 1) count), later.1 ∙ kept, rw (← is) last)
 
   module _ {H : Type 0} (element : H → Element Item) where
-    place_of : (s t : Elements Item) (k j : ℕ) (f g : Filter × Bool) (r : Option H) → RemovesFirst element R s k f r t j g → j ≡ passing f.0 f.1 s k
+    place_of : (s t : Elements Item) (k j : ℕ) (f g : Filter × Bool) (r : Option H) → RemovesFirst element R s k f r t j g → j ≡ first_passing f.0 f.1 s k
     place_of s t k j f g r removes =
         let over = (walked_over f g (drop k (values s)) (j - k) removes.walks).0 in
         let from = removes.from in
@@ -69,31 +69,31 @@ module _ (R : Filter × Bool → Item → Bool → Filter × Bool → Type 0) (a
 
     pub takes_more : (s t : Elements Item) (k j i n : ℕ) (f g : Filter × Bool) (filter : Filter) (h : H) (item : Item) (items : List (Option Item)) (all : List Item × Elements Item) →
         RemovesFirst element R s k f (Some h) t j g → f.0 ≡ filter → item ≡ (element h).value → i < n →
-        items ++ map Some (drained filter (n - i) f.1 s k).0 ≡ map Some all.0 → (drained filter (n - i) f.1 s k).1 ≡ all.1 →
-        (g.0 ≡ filter) × (length s ≡ length t + 1) × ((items ++ Some item ∷ []) ++ map Some (drained filter (n - (i + 1)) g.1 t j).0 ≡ map Some all.0) × ((drained filter (n - (i + 1)) g.1 t j).1 ≡ all.1)
+        items ++ map Some (drain filter (n - i) f.1 s k).0 ≡ map Some all.0 → (drain filter (n - i) f.1 s k).1 ≡ all.1 →
+        (g.0 ≡ filter) × (length s ≡ length t + 1) × ((items ++ Some item ∷ []) ++ map Some (drain filter (n - (i + 1)) g.1 t j).0 ≡ map Some all.0) × ((drain filter (n - (i + 1)) g.1 t j).1 ≡ all.1)
     takes_more s t k j i n f g filter h item items all removes own is below told kept =
-        let place : j ≡ passing filter f.1 s k = rw own at (place_of s t k j f g (Some h) removes) in
+        let place : j ≡ first_passing filter f.1 s k = rw own at (place_of s t k j f g (Some h) removes) in
         let over = walked_over f g (drop k (values s)) (j - k) removes.walks in
         let turn : g.1 ≡ turn_after filter f.1 (drop k (values s)) = rw own at over.2 in
         let at : slice_get s j ≡ Some (element h) = sym removes.answer in
-        let there : slice_get s (passing filter f.1 s k) ≡ Some (element h) = rw (← place) at in
-        let one = drained_more filter (n - (i + 1)) f.1 s k (element h) there in
+        let there : slice_get s (first_passing filter f.1 s k) ≡ Some (element h) = rw (← place) at in
+        let one = drain_more filter (n - (i + 1)) f.1 s k (element h) there in
         let count : n - i ≡ suc (n - (i + 1)) = omega arith in
-        let step : drained filter (n - i) f.1 s k ≡ (item ∷ (drained filter (n - (i + 1)) g.1 t j).0, (drained filter (n - (i + 1)) g.1 t j).1) =
+        let step : drain filter (n - i) f.1 s k ≡ (item ∷ (drain filter (n - (i + 1)) g.1 t j).0, (drain filter (n - (i + 1)) g.1 t j).1) =
         rw (count, is, turn, removes.kept, place) one in
         let less : length s ≡ length t + 1 = rw removes.kept (length_all_but s j (slice_get_within s j (element h) at)) in
-        let told_now : items ++ map Some (item ∷ (drained filter (n - (i + 1)) g.1 t j).0) ≡ map Some all.0 = rw step at told in
+        let told_now : items ++ map Some (item ∷ (drain filter (n - (i + 1)) g.1 t j).0) ≡ map Some all.0 = rw step at told in
         (over.1 ∙ own, less, rw append_assoc told_now, ap (λ (p : List Item × Elements Item). p.1) (sym step) ∙ kept)
 
     pub takes_none : (s t : Elements Item) (k j n : ℕ) (f g : Filter × Bool) (filter : Filter) (items : List (Option Item)) (all : List Item × Elements Item) →
         RemovesFirst element R s k f None t j g → f.0 ≡ filter →
-        items ++ map Some (drained filter n f.1 s k).0 ≡ map Some all.0 → (drained filter n f.1 s k).1 ≡ all.1 →
+        items ++ map Some (drain filter n f.1 s k).0 ≡ map Some all.0 → (drain filter n f.1 s k).1 ≡ all.1 →
         (items ≡ map Some all.0) × (t ≡ all.1)
     takes_none s t k j n f g filter items all removes own told kept =
-        let place : j ≡ passing filter f.1 s k = rw own at (place_of s t k j f g None removes) in
+        let place : j ≡ first_passing filter f.1 s k = rw own at (place_of s t k j f g None removes) in
         let at : slice_get s j ≡ None = sym removes.answer in
-        let there : slice_get s (passing filter f.1 s k) ≡ None = rw (← place) at in
-        let step = drained_none filter n f.1 s k there in
+        let there : slice_get s (first_passing filter f.1 s k) ≡ None = rw (← place) at in
+        let step = drain_none filter n f.1 s k there in
         let stays : t ≡ s = removes.kept ∙ all_but_past s j at in
         let told_now : items ++ [] ≡ map Some all.0 = rw step at told in
         let kept_now : s ≡ all.1 = rw step at kept in
@@ -105,7 +105,7 @@ module _ (R : Filter × Bool → Item → Bool → Filter × Bool → Type 0) (a
 
     -- the first that passes is taken out
     pub takes_first : (s t : Elements Item) (k j : ℕ) (f g : Filter × Bool) (filter : Filter) (r : Option H) → RemovesFirst element R s k f r t j g → f ≡ (filter, true) →
-        (j ≡ passing filter true s k) × (t ≡ all_but s (passing filter true s k)) × (slice_get (values s) (passing filter true s k) ≡ option_map (λ h. (element h).value) r)
+        (j ≡ first_passing filter true s k) × (t ≡ all_but s (first_passing filter true s k)) × (slice_get (values s) (first_passing filter true s k) ≡ option_map (λ h. (element h).value) r)
     takes_first s t k j f g filter r removes own =
-        let place : j ≡ passing filter true s k = rw own at (place_of s t k j f g r removes) in
+        let place : j ≡ first_passing filter true s k = rw own at (place_of s t k j f g r removes) in
         (place, rw (← place) removes.kept, rw (← place) (value_of s j r removes.answer))

@@ -3,10 +3,10 @@ use Rattle.std.proofs.Common.{◌≡◌, ℕ, zero, suc, Bool, List, [], ◌∷�
 use Rattle.std.specs.declared.cmp.Ordering.{Ordering}
 use Rattle.std.specs.List.Sorted.{IsSortedBy}
 use Rattle.cordyceps_base.specs.Element.{Elements}
-use Rattle.cordyceps_single.specs.Arrangement.{less, StandsFor, put_all}
+use Rattle.cordyceps_single.specs.Arrangement.{less, Represents, put_all}
 use Rattle.cordyceps_single.specs.Preorder.{IsPreorder}
 use Rattle.cordyceps_single.proofs.Preorder.{by_test, ranks}
-use Rattle.cordyceps_single.proofs.Puts.{put_all_stands, is_put_all, put_in_order}
+use Rattle.cordyceps_single.proofs.Puts.{put_all_represents, is_put_all, put_in_order}
 use Rattle.cordyceps_single.proofs.Arrangement.{arrangement_nil, ascends_from_sorted, sorted_from_ascends}
 use denote.Param.{read}
 use Rattle.std.specs.declared.cmp.Ord.Ghosts.{cmp}
@@ -19,7 +19,7 @@ use Rattle.cordyceps_commands.specs.declared.sorted_command.SortedCommand.{Sorte
 use Rattle.cordyceps_commands.specs.declared.sorted_command.SortedCommand.TheVariants as commands
 use Rattle.cordyceps_commands.specs.Replies.{Line, done, not_there}
 use Rattle.cordyceps_tables.specs.Tables.{Table, empty_table, element_of, held_at}
-use Rattle.cordyceps_tables.specs.Sorteds.{contents, order_of, made_of, filled, step_on, step, list_of, AreInOrder}
+use Rattle.cordyceps_tables.specs.Sorteds.{contents, order_of, made_of, fill, step_on, step, list_of, AreInOrder}
 
 -- the order of items
 abbrev pub own : Item → Item → Ordering
@@ -27,26 +27,26 @@ own = read (cmp {X-1 = Item}) ghosts
 
 module _ {cmp : Item → Item → Ordering} (o : IsPreorder cmp) where
   -- what a command leads to, where the list is made of a stack
-  pub made_is : (s t stack : Elements Item) (made : Option (Elements Item)) (lines : List Line) (outcome : Elements Item × List Line) → (made_of cmp s made, lines) ≡ outcome → made ≡ Some stack → StandsFor cmp t stack → (t, lines) ≡ outcome
+  pub made_is : (s t stack : Elements Item) (made : Option (Elements Item)) (lines : List Line) (outcome : Elements Item × List Line) → (made_of cmp s made, lines) ≡ outcome → made ≡ Some stack → Represents cmp t stack → (t, lines) ≡ outcome
   made_is s t stack made lines outcome means is stands = ap (λ l. (l, lines)) (is_put_all o t stack stands ∙ ap (made_of cmp s) (sym is)) ∙ means
 
   rest_in_order : (s : Elements Item) → IsSortedBy (less cmp) s → IsSortedBy (less cmp) (drop 1 s)
   rest_in_order [] h = h
   rest_in_order (x ∷ s) h = sorted_from_ascends (less cmp) s (ascends_from_sorted (less cmp) (ranks o (λ e. e.value)) (x ∷ s) h).1
 
-  filled_in_order : (items : List Item) (s : Elements Item) → IsSortedBy (less cmp) s → IsSortedBy (less cmp) (filled cmp items s).0
-  filled_in_order items s h =
+  fill_in_order : (items : List Item) (s : Elements Item) → IsSortedBy (less cmp) s → IsSortedBy (less cmp) (fill cmp items s).0
+  fill_in_order items s h =
       let all = put_all cmp [] (map element_of (reverse items)) in
       let outcome : Bool → Elements Item × List Line = λ b. cond b (all, done ∷ []) (s, not_there ∷ []) in
       let InOrder : Bool → Type 0 = λ b. IsSortedBy (less cmp) (outcome b).0 in
-      by_test (nat_eq (length s) 0) (λ t. subst InOrder (sym t) (put_all_stands o [] [] (map element_of (reverse items)) (arrangement_nil (less cmp))).in_order) (λ f. subst InOrder (sym f) h)
+      by_test (nat_eq (length s) 0) (λ t. subst InOrder (sym t) (put_all_represents o [] [] (map element_of (reverse items)) (arrangement_nil (less cmp))).in_order) (λ f. subst InOrder (sym f) h)
 
   -- a command leaves its list in order
   pub step_on_in_order : (s : Elements Item) (command : SortedCommand) → IsSortedBy (less cmp) s → IsSortedBy (less cmp) (step_on cmp s command).0
   step_on_in_order s (commands.Insert list item) h = put_in_order o s (element_of item) h
   step_on_in_order s (commands.PopFront list) h = rest_in_order s h
   step_on_in_order s (commands.Show list) h = h
-  step_on_in_order s (commands.FromStack list items) h = filled_in_order items.items s h
+  step_on_in_order s (commands.FromStack list items) h = fill_in_order items.items s h
 
 -- what a command leads to, where no list is made
 pub left_is : (cmp : Item → Item → Ordering) (s : Elements Item) (made : Option (Elements Item)) (lines : List Line) (outcome : Elements Item × List Line) → (made_of cmp s made, lines) ≡ outcome → made ≡ None → (s, lines) ≡ outcome

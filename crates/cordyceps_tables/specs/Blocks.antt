@@ -16,7 +16,7 @@ use Rattle.cordyceps_commands.specs.declared.reply.Reply.{Reply}
 use Rattle.cordyceps_commands.specs.Replies.{Line, lines_of, block_begins, done, nothing, len, not_there}
 use Rattle.cordyceps_commands.specs.Replies.{found_or_nothing, index_or_nothing}
 use Rattle.cordyceps_tables.specs.Tables.{Table, element_of, held_at}
-use Rattle.cordyceps_tables.specs.Filters.{passing, all_but}
+use Rattle.cordyceps_tables.specs.Filters.{first_passing, all_but}
 
 -- elements, and a cursor's place among them, from 0 to their number, which is the null place
 abbrev pub Spot : Type 0
@@ -28,13 +28,13 @@ first_place ends.Front count = 0
 first_place ends.Back count = count - 1
 
 -- the item at a place, where there is one, gets another value
-abbrev pub rewritten : Elements Item → ℕ → ℕ → Option Item → ℕ → Spot × Line
-rewritten s k at None value = ((s, k), nothing)
-rewritten s k at (Some item) value = ((with_value s at (record item { value = value }), k), done)
+abbrev pub set_at : Elements Item → ℕ → ℕ → Option Item → ℕ → Spot × Line
+set_at s k at None value = ((s, k), nothing)
+set_at s k at (Some item) value = ((with_value s at (record item { value = value }), k), done)
 
 -- the element at a place is taken out, and the cursor is at the one behind it
-abbrev pub removed : Elements Item → ℕ → Spot × Line
-removed s at = ((all_but s at, at), found_or_nothing (slice_get (values s) at))
+abbrev pub remove : Elements Item → ℕ → Spot × Line
+remove s at = ((all_but s at, at), found_or_nothing (slice_get (values s) at))
 
 -- more elements behind the cursor's, at the null place first
 abbrev pub put_after : Elements Item → ℕ → Elements Item → Spot
@@ -46,14 +46,14 @@ abbrev pub put_before : Elements Item → ℕ → Elements Item → Spot
 put_before s k more = (take k s ++ more ++ drop k s, k + length more)
 
 -- one more element, where the length is below the largest `usize`
-abbrev pub inserted : Elements Item → ℕ → Spot → Spot × Line
-inserted s k more = if nat_lt (length s) 18446744073709551615 then (more, done) else ((s, k), not_there)
+abbrev pub insert : Elements Item → ℕ → Spot → Spot × Line
+insert s k more = if nat_lt (length s) 18446744073709551615 then (more, done) else ((s, k), not_there)
 
-abbrev pub inserted_after : Elements Item → ℕ → Element Item → Spot × Line
-inserted_after s k e = inserted s k (put_after s k (e ∷ []))
+abbrev pub insert_after : Elements Item → ℕ → Element Item → Spot × Line
+insert_after s k e = insert s k (put_after s k (e ∷ []))
 
-abbrev pub inserted_before : Elements Item → ℕ → Element Item → Spot × Line
-inserted_before s k e = inserted s k (put_before s k (e ∷ []))
+abbrev pub insert_before : Elements Item → ℕ → Element Item → Spot × Line
+insert_before s k e = insert s k (put_before s k (e ∷ []))
 
 -- The elements and the cursor's place after a line on its list alone, and the reply. The other lines are not run so.
 abbrev pub line_on : Elements Item → ℕ → CursorCommand → Spot × Line
@@ -64,16 +64,16 @@ line_on s k lines.PeekNext = ((s, k), found_or_nothing (slice_get (values s) (ne
 line_on s k lines.PeekPrev = ((s, k), found_or_nothing (slice_get (values s) (prev_place (length s) k)))
 line_on s k lines.Index = ((s, k), index_or_nothing (index_at (length s) k))
 line_on s k lines.Len = ((s, k), len (length s))
-line_on s k (lines.Set value) = rewritten s k k (slice_get (values s) k) value
+line_on s k (lines.Set value) = set_at s k k (slice_get (values s) k) value
 line_on s k (lines.SetNext value) =
-    rewritten s k (next_place (length s) k) (slice_get (values s) (next_place (length s) k)) value
+    set_at s k (next_place (length s) k) (slice_get (values s) (next_place (length s) k)) value
 line_on s k (lines.SetPrev value) =
-    rewritten s k (prev_place (length s) k) (slice_get (values s) (prev_place (length s) k)) value
+    set_at s k (prev_place (length s) k) (slice_get (values s) (prev_place (length s) k)) value
 line_on s k lines.Next = ((s, if nat_lt k (length s) then k + 1 else k), found_or_nothing (slice_get (values s) k))
-line_on s k lines.RemoveCurrent = removed s k
-line_on s k (lines.RemoveFirst filter) = removed s (passing filter true s k)
-line_on s k (lines.InsertAfter item) = inserted_after s k (element_of item)
-line_on s k (lines.InsertBefore item) = inserted_before s k (element_of item)
+line_on s k lines.RemoveCurrent = remove s k
+line_on s k (lines.RemoveFirst filter) = remove s (first_passing filter true s k)
+line_on s k (lines.InsertAfter item) = insert_after s k (element_of item)
+line_on s k (lines.InsertBefore item) = insert_before s k (element_of item)
 line_on s k lines.End = ((s, k), done)
 line_on s k line = ((s, k), not_there)
 
@@ -124,14 +124,14 @@ line_step list (table, k) line =
     let on = line_on (held_at table list) k line in ((slice_set table list on.0.0, on.0.1), on.1)
 
 -- the table after lines on a cursor that begins at an end of a list, and the replies to them behind earlier ones
-abbrev pub blocked : Table → ℕ → ListEnd → List CursorCommand → List Line → Table × List Line
-blocked table list end lines told =
+abbrev pub run_lines : Table → ℕ → ListEnd → List CursorCommand → List Line → Table × List Line
+run_lines table list end lines told =
     let start : State = (table, first_place end (length (held_at table list))) in
     ((after (line_step list) start lines).0, told ++ replies_to (line_step list) start lines)
 
 -- the table after a block, and behind the mark the replies to its lines, that to the line which opens it first
 abbrev pub block : Table → ℕ → ListEnd → List CursorCommand → Table × List Line
-block table list end lines = blocked table list end lines (block_begins ∷ done ∷ [])
+block table list end lines = run_lines table list end lines (block_begins ∷ done ∷ [])
 
 -- the table that holds a cursor's list at its number, and the cursor's place
 abbrev pub state_of : Table → ℕ → CursorMut Item → State

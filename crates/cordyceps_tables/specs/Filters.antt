@@ -14,9 +14,9 @@ passes filters.Alternate turn item = turn
 passes filters.All turn item = true
 
 -- how many items do not pass, before the first that does
-abbrev pub skipped : Filter → Bool → List Item → ℕ
-skipped filter turn [] = 0
-skipped filter turn (item ∷ items) = if passes filter turn item then 0 else skipped filter (not turn) items + 1
+abbrev pub skip_count : Filter → Bool → List Item → ℕ
+skip_count filter turn [] = 0
+skip_count filter turn (item ∷ items) = if passes filter turn item then 0 else skip_count filter (not turn) items + 1
 
 -- the turn behind that item
 abbrev pub turn_after : Filter → Bool → List Item → Bool
@@ -25,17 +25,17 @@ turn_after filter turn (item ∷ items) =
     if passes filter turn item then not turn else turn_after filter (not turn) items
 
 -- the place of the first element, from a place on, that passes, or the length
-abbrev pub passing : Filter → Bool → Elements Item → ℕ → ℕ
-passing filter turn s k = k + skipped filter turn (drop k (values s))
+abbrev pub first_passing : Filter → Bool → Elements Item → ℕ → ℕ
+first_passing filter turn s k = k + skip_count filter turn (drop k (values s))
 
 -- the elements without the one at a place
 abbrev pub all_but : Elements Item → ℕ → Elements Item
 all_but s k = take k s ++ drop (k + 1) s
 
 -- The items that are taken out from a place on, at most so many, and the elements that stay.
-abbrev pub drained : Filter → ℕ → Bool → Elements Item → ℕ → List Item × Elements Item
-drained filter zero turn s k = ([], s)
-drained filter (suc n) turn s k =
-    let at = passing filter turn s k in
-    let more = drained filter n (turn_after filter turn (drop k (values s))) (all_but s at) at in
+abbrev pub drain : Filter → ℕ → Bool → Elements Item → ℕ → List Item × Elements Item
+drain filter zero turn s k = ([], s)
+drain filter (suc n) turn s k =
+    let at = first_passing filter turn s k in
+    let more = drain filter n (turn_after filter turn (drop k (values s))) (all_but s at) at in
     option_map_or (λ item. (item ∷ more.0, more.1)) (slice_get (values s) at) ([], s)

@@ -13,8 +13,8 @@ use Rattle.cordyceps_commands.specs.Replies.{Line, done, show, not_there, found_
 use Rattle.cordyceps_tables.specs.Tables.{Table, element_of, held_at, on}
 
 -- the items of a stack on which they were pushed in this order, the last pushed first, put into an empty list
-abbrev pub filled : (Item → Item → Ordering) → List Item → Elements Item → Elements Item × List Line
-filled cmp items s =
+abbrev pub fill : (Item → Item → Ordering) → List Item → Elements Item → Elements Item × List Line
+fill cmp items s =
     if nat_eq (length s) 0 then (put_all cmp [] (map element_of (reverse items)), done ∷ []) else (s, not_there ∷ [])
 
 -- The order of the list with this number: that of items in the first six, the same the other way round in the next
@@ -27,7 +27,7 @@ abbrev pub step_on : (Item → Item → Ordering) → Elements Item → SortedCo
 step_on cmp s (commands.Insert list item) = (put cmp s (element_of item), done ∷ [])
 step_on cmp s (commands.PopFront list) = (drop 1 s, found_or_nothing (slice_get (values s) 0) ∷ [])
 step_on cmp s (commands.Show list) = (s, show (map Some (values s)) ∷ [])
-step_on cmp s (commands.FromStack list items) = filled cmp items.items s
+step_on cmp s (commands.FromStack list items) = fill cmp items.items s
 
 -- the elements of a list, once the stack that it is to be made of, if there is one, is put into an empty list
 abbrev pub made_of : (Item → Item → Ordering) → Elements Item → Option (Elements Item) → Elements Item

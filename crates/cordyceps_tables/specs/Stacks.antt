@@ -9,8 +9,8 @@ use Rattle.cordyceps_commands.specs.Replies.{Line, done, truth, show, not_there,
 use Rattle.cordyceps_tables.specs.Tables.{Table, element_of, held_at, on}
 
 -- all that one stack holds goes to another, which must be empty
-abbrev pub taken : Table → ℕ → ℕ → Table × List Line
-taken table from to =
+abbrev pub take_all : Table → ℕ → ℕ → Table × List Line
+take_all table from to =
     if not (nat_eq from to) && nat_eq (length (held_at table to)) 0
     then (slice_set (slice_set table from []) to (held_at table from), done ∷ [])
     else (table, not_there ∷ [])
@@ -19,6 +19,6 @@ taken table from to =
 abbrev pub step : Table → StackCommand → Table × List Line
 step table (commands.Push stack item) = on table stack (λ s. (element_of item ∷ s, truth (nat_eq (length s) 0) ∷ []))
 step table (commands.Pop stack) = on table stack (λ s. (drop 1 s, found_or_nothing (slice_get (values s) 0) ∷ []))
-step table (commands.TakeAll stack to) = taken table stack to
+step table (commands.TakeAll stack to) = take_all table stack to
 step table (commands.IsEmpty stack) = (table, truth (nat_eq (length (held_at table stack)) 0) ∷ [])
 step table (commands.Drain stack) = on table stack (λ s. ([], show (map Some (values s)) ∷ []))

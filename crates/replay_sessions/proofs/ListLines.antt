@@ -19,15 +19,15 @@ use Rattle.replay_lines.specs.ReplyText.{text_of}
 use Rattle.replay_lines.specs.ListScript.{Meaning, meaning_of_command, meaning_of_entry, meaning_of}
 use Rattle.replay_lines.specs.CursorScript.{cursor_command_of}
 use Rattle.replay_driver.specs.Steps.{Ends}
-use Rattle.replay_sessions.specs.ListMachine.{list_machine, Open, State, run_block, longer, answered, take_outside, take_inside, take_line}
-use Rattle.replay_sessions.specs.OpenBlocks.{opened, IsNoEnd, AreOpen, IsOpen, CanRun, Closes}
+use Rattle.replay_sessions.specs.ListMachine.{list_machine, Open, State, run_block, longer, outside_with_text, take_outside, take_inside, take_line}
+use Rattle.replay_sessions.specs.OpenBlocks.{open_of, IsNoEnd, AreOpen, IsOpen, CanRun, Closes}
 
 pub some_meaning : (meaning : Option Meaning) → is_some meaning ≡ true → (m : Meaning) × (Some m ≡ meaning)
 some_meaning (Some m) is = (m, refl)
 some_meaning None is = cc
 
 -- a command does what its line asks for
-stepped : (table : Table) (command : ListCommand) → take_outside table (meaning_of_command command) ≡ answered (step table command)
+stepped : (table : Table) (command : ListCommand) → take_outside table (meaning_of_command command) ≡ outside_with_text (step table command)
 stepped table (commands.Walk list turns) = refl
 stepped table (commands.Into list turns) = refl
 stepped table command = refl
@@ -39,12 +39,12 @@ command_read line read entry command is same means = ap (option_map meaning_of_e
 pub outside : (table : Table) (line : List ℕ) (meaning : Meaning) → Some meaning ≡ meaning_of line → take_line (table, None) line ≡ Some (take_outside table meaning)
 outside table line meaning is = rw (← is) refl
 
-pub entered : (table : Table) (line : List ℕ) (command : ListCommand) → Some (meaning_of_command command) ≡ meaning_of line → take_line (table, None) line ≡ Some (answered (step table command))
+pub entered : (table : Table) (line : List ℕ) (command : ListCommand) → Some (meaning_of_command command) ≡ meaning_of line → take_line (table, None) line ≡ Some (outside_with_text (step table command))
 entered table line command is = outside table line (meaning_of_command command) is ∙ ap Some (stepped table command)
 
 pub entered_as : (table new : Table) (line : List ℕ) (command : ListCommand) (replies : List Line) → Some (meaning_of_command command) ≡ meaning_of line → (new, replies) ≡ step table command →
     take_line (table, None) line ≡ Some ((new, None), text_of replies ∷ [])
-entered_as table new line command replies is done = entered table line command is ∙ ap (λ (r : Table × List Line). Some (answered r)) (sym done)
+entered_as table new line command replies is done = entered table line command is ∙ ap (λ (r : Table × List Line). Some (outside_with_text r)) (sym done)
 
 pub inside : (table : Table) (held : Open) (line : List ℕ) (command : CursorCommand) → Some command ≡ cursor_command_of line → take_line (table, Some held) line ≡ Some (take_inside table held command)
 inside table held line command is = rw (← is) refl
@@ -101,7 +101,7 @@ stays_open (first ∷ rest) line (first_fits, first_goes_on, held) fits goes_on 
 
 -- what the end completes: the open block, unless memory for it was refused
 pub ended : {E : Type 0} (table : Table) (block : Option Block) (new : State) (before after : List ℕ) (result : Result (Unit {0}) E) →
-    OnOk result (Closes (table, opened block) new before after) → OnErr result (after ≡ before) → OnErr result (IsSome block) → Ends list_machine (table, opened block) before after result
+    OnOk result (Closes (table, open_of block) new before after) → OnErr result (after ≡ before) → OnErr result (IsSome block) → Ends list_machine (table, open_of block) before after result
 ended table None new before after (Ok done) (is, same) kept some = same ∙ sym (append-nil before)
 ended table (Some block) new before after (Ok done) (is, added) kept some = added ∙ ap (λ (t : List ℕ). before ++ t) (sym (append-nil _))
 ended table None new before after (Err e) closes kept some = cc

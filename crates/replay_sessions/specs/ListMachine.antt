@@ -7,7 +7,7 @@ use Rattle.cordyceps_commands.specs.declared.list_command.CursorCommand.{CursorC
 use Rattle.cordyceps_commands.specs.declared.list_command.CursorCommand.TheVariants as lines
 use Rattle.cordyceps_commands.specs.Replies.{Line, show}
 use Rattle.cordyceps_tables.specs.Tables.{Table, on}
-use Rattle.cordyceps_tables.specs.Walks.{walked}
+use Rattle.cordyceps_tables.specs.Walks.{items_for}
 use Rattle.cordyceps_tables.specs.Blocks.{block}
 use Rattle.cordyceps_tables.specs.Lists.{step}
 use Rattle.replay_driver.specs.Script.{Machine}
@@ -31,19 +31,19 @@ abbrev pub longer : Open → CursorCommand → Open
 longer held line = (held.0, held.1, held.2 ++ line ∷ [])
 
 -- the replies to the lines of a command are one text, and no block is open
-abbrev pub answered : Table × List Line → State × List (List ℕ)
-answered next = ((next.0, None), text_of next.1 ∷ [])
+abbrev pub outside_with_text : Table × List Line → State × List (List ℕ)
+outside_with_text next = ((next.0, None), text_of next.1 ∷ [])
 
 -- what a line does outside of blocks; the first line of a block answers nothing yet
 abbrev pub take_outside : Table → Meaning → State × List (List ℕ)
-take_outside table (plain command) = answered (step table command)
-take_outside table (walk list turns) = answered (on table list (λ s. (s, show (walked turns (values s)) ∷ [])))
-take_outside table (into list turns) = answered (on table list (λ s. ([], show (walked turns (values s)) ∷ [])))
+take_outside table (plain command) = outside_with_text (step table command)
+take_outside table (walk list turns) = outside_with_text (on table list (λ s. (s, show (items_for turns (values s)) ∷ [])))
+take_outside table (into list turns) = outside_with_text (on table list (λ s. ([], show (items_for turns (values s)) ∷ [])))
 take_outside table (cursor list end) = ((table, Some (list, end, [])), [])
 
 -- what a line does in a block: its end runs it, and any other line waits for that
 abbrev pub take_inside : Table → Open → CursorCommand → State × List (List ℕ)
-take_inside table held lines.End = answered (run_block table (longer held lines.End))
+take_inside table held lines.End = outside_with_text (run_block table (longer held lines.End))
 take_inside table held line = ((table, Some (longer held line)), [])
 
 abbrev pub take_line : State → List ℕ → Option (State × List (List ℕ))

@@ -7,9 +7,9 @@ use Rattle.replay_sessions.specs.declared.block.Block.{Block}
 use Rattle.replay_sessions.specs.ListMachine.{Open, State, run_block}
 use Rattle.replay_lines.specs.ReplyText.{text_of}
 
-abbrev pub opened : Option Block → Option Open
-opened None = None
-opened (Some block) = Some (block.list, block.end, block.lines.items)
+abbrev pub open_of : Option Block → Option Open
+open_of None = None
+open_of (Some block) = Some (block.list, block.end, block.lines.items)
 
 abbrev pub IsNoEnd : CursorCommand → Type 0
 IsNoEnd lines.End = ⊥

@@ -5,7 +5,7 @@ use Rattle.cordyceps_commands.specs.declared.item.Item.{Item}
 use Rattle.cordyceps_commands.specs.declared.sorted_command.SortedCommand.TheVariants as commands
 use Rattle.cordyceps_commands.specs.Replies.{Line}
 use Rattle.cordyceps_tables.specs.Tables.{Table, on}
-use Rattle.cordyceps_tables.specs.Sorteds.{step, filled}
+use Rattle.cordyceps_tables.specs.Sorteds.{step, fill}
 use Rattle.replay_driver.specs.Script.{Machine}
 use Rattle.replay_lines.specs.SortedScript.{Entry, insert, pop, show, from, entry_of}
 use Rattle.replay_sessions.specs.Commands.{commands_machine}
@@ -15,7 +15,7 @@ abbrev pub step_entry : (ℕ → Item → Item → Ordering) → Table → Entry
 step_entry order table (insert list item) = step order table (commands.Insert list item)
 step_entry order table (pop list) = step order table (commands.PopFront list)
 step_entry order table (show list) = step order table (commands.Show list)
-step_entry order table (from list items) = on table list (filled (order list) items)
+step_entry order table (from list items) = on table list (fill (order list) items)
 
 -- each line is a command on the table
 abbrev pub sorted_machine : (ℕ → Item → Item → Ordering) → Machine Table

@@ -4,7 +4,7 @@ ghost use Rattle.cordyceps_tables.specs.Lists.{step, Fits};
 ghost use Rattle.cordyceps_commands.specs.Replies.{lines_of};
 ghost use Rattle.cordyceps_tables.specs.Tables.{empty_table};
 ghost use Rattle.replay_sessions.specs.ListMachine.{list_machine};
-ghost use Rattle.replay_sessions.specs.OpenBlocks.{opened, IsOpen, CanRun, Closes};
+ghost use Rattle.replay_sessions.specs.OpenBlocks.{open_of, IsOpen, CanRun, Closes};
 ghost use Rattle.replay_driver.specs.Steps.{TakesLine};
 
 use crate::block::Block;
@@ -61,7 +61,7 @@ impl ListSession {
     fn close(&mut self, text: &mut Vec<u8>) -> Result<(), AllocError>
         requires { CanRun self.old.block }
         ensures ok { OnOk result
-            (Closes (self.old.lists, opened self.old.block) (self.new.lists, opened self.new.block) text.old.items
+            (Closes (self.old.lists, open_of self.old.block) (self.new.lists, open_of self.new.block) text.old.items
             text.new.items) }
         ensures err { OnErr result (text.new.items ≡ text.old.items) }
         ensures open { OnErr result (IsSome self.old.block) }
@@ -78,8 +78,8 @@ impl ListSession {
     /// Takes a line outside of blocks.
     fn take_outside(&mut self, line: &[u8], text: &mut Vec<u8>) -> Result<bool, AllocError>
         requires { self.old.block ≡ None }
-        ensures taken { TakesLine list_machine (self.old.lists, opened self.old.block) line.now
-            (self.new.lists, opened self.new.block) text.old.items text.new.items result }
+        ensures taken { TakesLine list_machine (self.old.lists, open_of self.old.block) line.now
+            (self.new.lists, open_of self.new.block) text.old.items text.new.items result }
         ensures ready { IsOpen self.new.block }
     {
         match read_entry(self.alloc, line)? {
@@ -109,8 +109,8 @@ impl ListSession {
     ) -> Result<bool, AllocError>
         requires open { IsOpen (Some block) }
         requires block { self.old.block ≡ None }
-        ensures taken { TakesLine list_machine (self.old.lists, opened (Some block)) line.now
-            (self.new.lists, opened self.new.block) text.old.items text.new.items result }
+        ensures taken { TakesLine list_machine (self.old.lists, open_of (Some block)) line.now
+            (self.new.lists, open_of self.new.block) text.old.items text.new.items result }
         ensures ready { IsOpen self.new.block }
     {
         let Some(command) = read_cursor_command(line) else {
@@ -128,13 +128,13 @@ impl ListSession {
 
 impl Session for ListSession {
     ghost use Rattle.replay_sessions.specs.ListMachine.{State, list_machine};
-    ghost use Rattle.replay_sessions.specs.OpenBlocks.{opened, IsOpen};
+    ghost use Rattle.replay_sessions.specs.OpenBlocks.{open_of, IsOpen};
 
     ghost State = { State };
 
     ghost machine = { list_machine };
 
-    ghost state = { λ session. (session.lists, opened session.block) };
+    ghost state = { λ session. (session.lists, open_of session.block) };
 
     ghost is_ready = { λ session. IsOpen session.block };
 

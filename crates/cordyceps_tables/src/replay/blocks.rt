@@ -9,7 +9,7 @@ ghost use Rattle.cordyceps_list.specs.Cursor.{elements, place, lender};
 ghost use Rattle.cordyceps_commands.specs.Replies.{lines_of};
 ghost use Rattle.cordyceps_tables.specs.Tables.{held_at};
 ghost use Rattle.cordyceps_tables.specs.Filters.{passes};
-ghost use Rattle.cordyceps_tables.specs.Blocks.{first_place, inserted_after, inserted_before, line_step, state_of, made_for, made_for_all, block, blocked, OtherFits, BlockFits, Goes, Obeys, LineRuns};
+ghost use Rattle.cordyceps_tables.specs.Blocks.{first_place, insert_after, insert_before, line_step, state_of, made_for, made_for_all, block, run_lines, OtherFits, BlockFits, Goes, Obeys, LineRuns};
 
 use crate::replay::filters::passes;
 use crate::replay::nodes::node_of;
@@ -85,7 +85,7 @@ fn remove_first(cursor: &mut CursorMut<'_, Item>, filter: Filter) -> Reply
 
 /// Inserts a node after the cursor's.
 fn insert_after(cursor: &mut CursorMut<'_, Item>, node: Node<Item, Links<Item>>) -> Reply
-    ensures { Goes cursor.old cursor.new (inserted_after (elements cursor.old) (place cursor.old) node) result }
+    ensures { Goes cursor.old cursor.new (insert_after (elements cursor.old) (place cursor.old) node) result }
 {
     if cursor.len() < usize::MAX {
         cursor.insert_after(node);
@@ -97,7 +97,7 @@ fn insert_after(cursor: &mut CursorMut<'_, Item>, node: Node<Item, Links<Item>>)
 
 /// Inserts a node before the cursor's.
 fn insert_before(cursor: &mut CursorMut<'_, Item>, node: Node<Item, Links<Item>>) -> Reply
-    ensures { Goes cursor.old cursor.new (inserted_before (elements cursor.old) (place cursor.old) node) result }
+    ensures { Goes cursor.old cursor.new (insert_before (elements cursor.old) (place cursor.old) node) result }
 {
     if cursor.len() < usize::MAX {
         cursor.insert_before(node);
@@ -327,7 +327,7 @@ fn run_at(
     requires nodes { nodes ≡ made_for_all lines.now }
     requires room { length replies.old.items + length lines.now ≤ vec_capacity replies.old }
     ensures { (lists.new, flat_map lines_of replies.new.items)
-        ≡ blocked lists.old list end lines.now (flat_map lines_of replies.old.items) }
+        ≡ run_lines lists.old list end lines.now (flat_map lines_of replies.old.items) }
 {
     let mut held = mem::replace(&mut lists[list], List::new());
     let mut cursor = cursor_at(&mut held, end);

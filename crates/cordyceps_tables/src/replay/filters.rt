@@ -1,8 +1,8 @@
 //! Commands that remove the items that pass a filter.
 ghost use Rattle.std.specs.Prelude.{◌≡◌, ◌≤◌, [], length, min, IfOk, OnErr, true, not, vec_capacity};
 ghost use Rattle.cordyceps_commands.specs.Replies.{lines_of};
-ghost use Rattle.cordyceps_tables.specs.Filters.{passes, drained};
-ghost use Rattle.cordyceps_tables.specs.Lists.{shown};
+ghost use Rattle.cordyceps_tables.specs.Filters.{passes, drain};
+ghost use Rattle.cordyceps_tables.specs.Lists.{show_removed};
 
 use crate::replay::replies::show_of;
 use cordyceps_commands::{Filter, Item, Reply};
@@ -29,7 +29,7 @@ fn take_out(
 ) -> Reply
     requires none { items.items ≡ [] }
     requires room { min (length list.old) limit ≤ vec_capacity items }
-    ensures { (list.new, lines_of result) ≡ shown (drained filter limit true list.old 0) }
+    ensures { (list.new, lines_of result) ≡ show_removed (drain filter limit true list.old 0) }
 {
     let mut turn = true;
     let mut drain = list.drain_filter(
@@ -60,7 +60,7 @@ pub(crate) fn drain(
     filter: Filter,
     limit: u64,
 ) -> Result<Reply, AllocError>
-    ensures ok { IfOk result (λ reply. (list.new, lines_of reply) ≡ shown (drained filter limit true list.old 0)) }
+    ensures ok { IfOk result (λ reply. (list.new, lines_of reply) ≡ show_removed (drain filter limit true list.old 0)) }
     ensures err { OnErr result (list.new ≡ list.old) }
 {
     let items = Vec::with_capacity(alloc, list.len().min(limit as usize))?;

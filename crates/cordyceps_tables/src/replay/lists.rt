@@ -3,7 +3,7 @@ ghost use Rattle.std.specs.Prelude.{◌≡◌, ◌++◌, ◌∷◌, [], ◌-◌,
 ghost use Rattle.cordyceps_base.specs.Element.{values};
 ghost use Rattle.cordyceps_commands.specs.Replies.{lines_of, found_or_nothing};
 ghost use Rattle.cordyceps_tables.specs.Tables.{empty_table, element_of};
-ghost use Rattle.cordyceps_tables.specs.Lists.{list_of, pushed, written, appended, split, step, step_on, Fits};
+ghost use Rattle.cordyceps_tables.specs.Lists.{list_of, push, set_item, append, split, step, step_on, Fits};
 ghost use Rattle.cordyceps_tables.specs.Plays.{Plays};
 
 use crate::replay::blocks::run_block;
@@ -39,7 +39,7 @@ fn number_of(command: &ListCommand) -> u8
 
 /// Prepends an item.
 fn push_front(alloc: Global, list: &mut List<Item>, item: Item) -> Result<Reply, AllocError>
-    ensures ok { IfOk result (λ reply. (list.new, lines_of reply) ≡ pushed list.old (element_of item ∷ list.old)) }
+    ensures ok { IfOk result (λ reply. (list.new, lines_of reply) ≡ push list.old (element_of item ∷ list.old)) }
     ensures err { OnErr result (list.new ≡ list.old) }
 {
     let node = node_of(alloc, item)?;
@@ -54,7 +54,7 @@ fn push_front(alloc: Global, list: &mut List<Item>, item: Item) -> Result<Reply,
 /// Appends an item.
 fn push_back(alloc: Global, list: &mut List<Item>, item: Item) -> Result<Reply, AllocError>
     ensures ok { IfOk result
-        (λ reply. (list.new, lines_of reply) ≡ pushed list.old (list.old ++ element_of item ∷ [])) }
+        (λ reply. (list.new, lines_of reply) ≡ push list.old (list.old ++ element_of item ∷ [])) }
     ensures err { OnErr result (list.new ≡ list.old) }
 {
     let node = node_of(alloc, item)?;
@@ -85,7 +85,7 @@ fn pop_back(list: &mut List<Item>) -> Reply
 
 /// Sets the value of the first item.
 fn set_front(list: &mut List<Item>, value: u64) -> Reply
-    ensures { (list.new, lines_of result) ≡ written list.old 0 (slice_get (values list.old) 0) value }
+    ensures { (list.new, lines_of result) ≡ set_item list.old 0 (slice_get (values list.old) 0) value }
 {
     let Some(item) = list.front_mut() else {
         return nothing();
@@ -97,7 +97,7 @@ fn set_front(list: &mut List<Item>, value: u64) -> Reply
 /// Sets the value of the last item.
 fn set_back(list: &mut List<Item>, value: u64) -> Reply
     ensures { (list.new, lines_of result)
-        ≡ written list.old (length list.old - 1) (slice_get (values list.old) (length list.old - 1)) value }
+        ≡ set_item list.old (length list.old - 1) (slice_get (values list.old) (length list.old - 1)) value }
 {
     let Some(item) = list.back_mut() else {
         return nothing();
@@ -136,7 +136,7 @@ fn run_on(alloc: Global, list: &mut List<Item>, command: &ListCommand) -> Result
 fn append(lists: &mut [List<Item>], list: usize, other: usize) -> Reply
     requires list { list < length lists.old }
     requires other { other < length lists.old }
-    ensures { (lists.new, lines_of result) ≡ appended lists.old list other }
+    ensures { (lists.new, lines_of result) ≡ append lists.old list other }
 {
     if list == other || lists[list].len() > usize::MAX - lists[other].len() {
         return not_there();
@@ -146,16 +146,16 @@ fn append(lists: &mut [List<Item>], list: usize, other: usize) -> Reply
     done()
 }
 
-/// Keeps `at` items, and moves the others to the second list.
-fn split(lists: &mut [List<Item>], list: usize, at: usize, other: usize) -> Reply
+/// Keeps `index` items, and moves the others to the second list.
+fn split(lists: &mut [List<Item>], list: usize, index: usize, other: usize) -> Reply
     requires list { list < length lists.old }
     requires other { other < length lists.old }
-    ensures { (lists.new, lines_of result) ≡ split lists.old list at other }
+    ensures { (lists.new, lines_of result) ≡ split lists.old list index other }
 {
     if list == other || lists[other].len() != 0 {
         return not_there();
     }
-    let Some(rest) = lists[list].try_split_off(at) else {
+    let Some(rest) = lists[list].try_split_off(index) else {
         return nothing();
     };
     lists[other] = rest;

@@ -7,7 +7,7 @@ ghost use Rattle.cordyceps_single.specs.Arrangement.{less, put};
 ghost use Rattle.cordyceps_single.specs.ByFn.{Computes};
 ghost use Rattle.cordyceps_commands.specs.Replies.{done, show, lines_of, found_or_nothing};
 ghost use Rattle.cordyceps_tables.specs.Tables.{empty_table, element_of};
-ghost use Rattle.cordyceps_tables.specs.Sorteds.{filled, order_of, step, step_on, made_of, Fits, list_of, AreInOrder};
+ghost use Rattle.cordyceps_tables.specs.Sorteds.{fill, order_of, step, step_on, made_of, Fits, list_of, AreInOrder};
 ghost use Rattle.cordyceps_tables.specs.Plays.{Plays, AnswersSome};
 
 use crate::replay::nodes::node_of;
@@ -219,30 +219,30 @@ impl<F: Fn(&Item, &Item) -> Ordering + Copy> OwnLists<F> {
     fn run(
         &mut self,
         alloc: Global,
-        at: usize,
+        index: usize,
         by: F,
         command: &SortedCommand,
     ) -> Result<Reply, AllocError>
-        requires within { at < 5 }
+        requires within { index < 5 }
         requires same { All (λ l. l.1 ≡ by) self.old }
         requires callable { F.IsAlwaysCallable by }
         requires total { (cmp : Item → Item → Ordering) × Computes F.Fn by cmp }
         ensures ok { IfOk result (λ reply. (new : Elements Item × F)
-            × (self.new ≡ slice_set self.old at new)
+            × (self.new ≡ slice_set self.old index new)
             × ((cmp : Item → Item → Ordering)
             → Computes F.Fn by cmp
-            → IsSortedBy (less cmp) (slice_index_or self.old at ([], by)).0
-            → (new.0, lines_of reply) ≡ step_on cmp (slice_index_or self.old at ([], by)).0 command.now)) }
+            → IsSortedBy (less cmp) (slice_index_or self.old index ([], by)).0
+            → (new.0, lines_of reply) ≡ step_on cmp (slice_index_or self.old index ([], by)).0 command.now)) }
         ensures err { OnErr result (self.new ≡ self.old) }
         ensures order { All (λ l. l.1 ≡ by) self.new }
     {
-        if at < 1 {
+        if index < 1 {
             run_own(alloc, &mut self.first, by, command)
-        } else if at < 2 {
+        } else if index < 2 {
             run_own(alloc, &mut self.second, by, command)
-        } else if at < 3 {
+        } else if index < 3 {
             run_own(alloc, &mut self.third, by, command)
-        } else if at < 4 {
+        } else if index < 4 {
             run_own(alloc, &mut self.fourth, by, command)
         } else {
             run_own(alloc, &mut self.fifth, by, command)

@@ -3,7 +3,7 @@ ghost use Rattle.std.specs.Prelude.{◌≡◌, ◌∷◌, [], ◌++◌, ◌<◌,
 ghost use Rattle.cordyceps_base.specs.Element.{values};
 ghost use Rattle.cordyceps_commands.specs.Replies.{show, truth, lines_of, found_or_nothing};
 ghost use Rattle.cordyceps_tables.specs.Tables.{empty_table, element_of};
-ghost use Rattle.cordyceps_tables.specs.Stacks.{taken, step, Fits};
+ghost use Rattle.cordyceps_tables.specs.Stacks.{take_all, step, Fits};
 ghost use Rattle.cordyceps_tables.specs.Plays.{Plays};
 
 use crate::replay::nodes::node_of;
@@ -98,7 +98,7 @@ impl Stacks {
     fn take_all(&mut self, from: usize, to: usize) -> Reply
         requires from { from < 16 }
         requires to { to < 16 }
-        ensures { (self.new, lines_of result) ≡ taken self.old from to }
+        ensures { (self.new, lines_of result) ≡ take_all self.old from to }
     {
         if from == to || !self.stacks[to].is_empty() {
             return not_there();

@@ -2,7 +2,7 @@
 ghost use Rattle.std.specs.Prelude.{◌≡◌, ◌∷◌, [], Some, map, IfOk, OnOk, OnErr};
 ghost use Rattle.cordyceps_base.specs.Element.{values};
 ghost use Rattle.cordyceps_commands.specs.Replies.{done, show, lines_of};
-ghost use Rattle.cordyceps_tables.specs.Walks.{given, left, walked, bumped};
+ghost use Rattle.cordyceps_tables.specs.Walks.{item_for, rest_after, items_for, bump_all};
 
 use crate::replay::replies::{done, show_of};
 use cordyceps_base::node::Node;
@@ -14,7 +14,7 @@ use std::mem;
 
 /// Adds a number to the value of each item, modulo 2^64.
 pub(crate) fn bump(list: &mut List<Item>, by: u64) -> Reply
-    ensures kept { list.new ≡ bumped by list.old }
+    ensures kept { list.new ≡ bump_all by list.old }
     ensures reply { lines_of result ≡ done ∷ [] }
 {
     let mut items = list.iter_mut();
@@ -26,8 +26,8 @@ pub(crate) fn bump(list: &mut List<Item>, by: u64) -> Reply
 
 /// Returns what an iterator returns at one of its ends.
 fn look(items: &mut Iter<'_, Item>, turn: Turn) -> Option<Item>
-    ensures answer { result ≡ given turn items.old }
-    ensures left { items.new ≡ left turn items.old }
+    ensures answer { result ≡ item_for turn items.old }
+    ensures rest { items.new ≡ rest_after turn items.old }
 {
     match turn {
         Turn::Next => items.next().copied(),
@@ -37,7 +37,7 @@ fn look(items: &mut Iter<'_, Item>, turn: Turn) -> Option<Item>
 
 /// Shows the items that an iterator returns. If memory for these is refused, it returns an error.
 pub(crate) fn walk(alloc: Global, list: &List<Item>, turns: &[Turn]) -> Result<Reply, AllocError>
-    ensures { IfOk result (λ reply. lines_of reply ≡ show (walked turns.now (values list.now)) ∷ []) }
+    ensures { IfOk result (λ reply. lines_of reply ≡ show (items_for turns.now (values list.now)) ∷ []) }
 {
     let mut shown = Vec::with_capacity(alloc, turns.len())?;
     let mut items = list.iter();
@@ -53,8 +53,8 @@ pub(crate) fn walk(alloc: Global, list: &List<Item>, turns: &[Turn]) -> Result<R
 /// Returns the item of the handle that an iterator returns at one of its ends.
 #[tactic(auto, using(crate::proofs::Walks::last_given))]
 fn take(items: &mut IntoIter<Item>, turn: Turn) -> Option<Item>
-    ensures answer { result ≡ given turn (values items.old) }
-    ensures left { values items.new ≡ left turn (values items.old) }
+    ensures answer { result ≡ item_for turn (values items.old) }
+    ensures rest { values items.new ≡ rest_after turn (values items.old) }
 {
     match turn {
         Turn::Next => items.next().map(Node::into_value),
@@ -69,7 +69,7 @@ pub(crate) fn walk_into(
     turns: &[Turn],
 ) -> Result<Reply, AllocError>
     ensures emptied { OnOk result (list.new ≡ []) }
-    ensures ok { IfOk result (λ reply. lines_of reply ≡ show (walked turns.now (values list.old)) ∷ []) }
+    ensures ok { IfOk result (λ reply. lines_of reply ≡ show (items_for turns.now (values list.old)) ∷ []) }
     ensures err { OnErr result (list.new ≡ list.old) }
 {
     let mut shown = Vec::with_capacity(alloc, turns.len())?;

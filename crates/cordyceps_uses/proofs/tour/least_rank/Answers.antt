@@ -3,7 +3,7 @@ use Rattle.std.proofs.lemmas.Cmp.{by_ranked}
 use Rattle.std.specs.Cmp.{on_total, nat_cmp_total, ranked}
 use Rattle.std.specs.Ordering.{is_gt, nat_cmp}
 use Rattle.cordyceps.specs.Elements.Element.{Element, Elements, values}
-use Rattle.cordyceps.specs.Orders.Arrangement.{StandsFor, put_all}
+use Rattle.cordyceps.specs.Orders.Arrangement.{Represents, put_all}
 use Rattle.cordyceps.specs.Orders.Preorder.{IsPreorder, preorder_from_total}
 use Rattle.cordyceps.proofs.Orders.Puts.{is_put_all}
 use Rattle.cordyceps_uses.specs.declared.job.Job.{Job}
@@ -19,7 +19,7 @@ lesser a b =
     (λ e h. ap (λ o. cond (is_gt o) a b) e ∙ omega (arith, h)) (λ e h. ap (λ o. cond (is_gt o) a b) e ∙ omega (arith, h)) (λ e h. ap (λ o. cond (is_gt o) a b) e ∙ omega (arith, h))
 
 -- two jobs in order, as they arrived
-arranged : (s arrived : Elements Job) (a b : Element Job) → StandsFor (λ (x y : Job). nat_cmp x.rank y.rank) s arrived → arrived ≡ b ∷ a ∷ []
+arranged : (s arrived : Elements Job) (a b : Element Job) → Represents (λ (x y : Job). nat_cmp x.rank y.rank) s arrived → arrived ≡ b ∷ a ∷ []
     → s ≡ cond (is_gt (nat_cmp b.value.rank a.value.rank)) (a ∷ b ∷ []) (b ∷ a ∷ [])
 arranged s arrived a b stands is = is_put_all by_rank s arrived stands ∙ ap (put_all (λ (x y : Job). nat_cmp x.rank y.rank) []) is
 

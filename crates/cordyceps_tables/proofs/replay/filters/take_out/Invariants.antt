@@ -1,14 +1,14 @@
 use Rattle.std.proofs.Common.{◌≡◌, ◌+◌, ◌-◌, ◌≤◌, ◌++◌, Some, map, true, length, vec_capacity, min}
 use Rattle.cordyceps_list.specs.DrainFilter.{elements, place, lender, predicate_of}
-use Rattle.cordyceps_tables.specs.Filters.{drained}
+use Rattle.cordyceps_tables.specs.Filters.{drain}
 use Rattle.cordyceps_tables.specs.contracts.replay.filters.fn.take_out.drain_filter as closure
 use Rattle.cordyceps_tables.proofs.replay.filters.take_out.Given as goal
 
 abbrev pub invariant-loop : goal.invariant-loop
 invariant-loop l =
     let turn = (closure.captures (predicate_of l.drain)).turn in
-    let left = drained l.fn.filter (l.fn.limit - l.counter) turn (elements l.drain) (place l.drain) in
-    let all = drained l.fn.filter l.fn.limit true l.fn.list 0 in
+    let left = drain l.fn.filter (l.fn.limit - l.counter) turn (elements l.drain) (place l.drain) in
+    let all = drain l.fn.filter l.fn.limit true l.fn.list 0 in
     record {
       same_reference : lender l.drain ≡ lender l.initial.drain;
       filter_is : (closure.captures (predicate_of l.drain)).filter ≡ l.fn.filter;
