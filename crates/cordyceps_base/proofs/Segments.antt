@@ -230,7 +230,7 @@ module _ {X : Type 0} where
         let a : length js ≡ length front + suc (length back) = sym (length-nodes_of js) ∙ ap length e ∙ length-append (nodes_of front) (n ∷ nodes_of back) ∙ (λ i. length-nodes_of front i + suc (length-nodes_of back i)) in
         let b : length back ≡ suc (length u.after) = ap length u.here in omega (arith, l, a, b)
 
-    -- the row up to the node and with it, f, and that behind it, r
+    -- the row up to the node and with it, f, and that after it, r
     module _ (one f r : Row X) (is_one : one ≡ take 1 back) (is_f : f ≡ front ++ one) (is_r : r ≡ drop 1 back) where
       upto_is : f ≡ front ++ u.node ∷ []
       upto_is = is_f ∙ (λ i. front ++ is_one i) ∙ (λ i. front ++ take 1 (u.here i))

@@ -59,7 +59,7 @@ impl<T: Linked<Links<T>>> List<T> {
         ensures { result ≡ [] }
     {
         let chain = DoubleChain::empty();
-        let fingers = Fingers::behind(&chain);
+        let fingers = Fingers::after_last(&chain);
         List { chain, fingers }
     }
 
@@ -71,7 +71,7 @@ impl<T: Linked<Links<T>>> List<T> {
         ensures { result ≡ elements chain }
     {
         List {
-            fingers: Fingers::behind(&chain),
+            fingers: Fingers::after_last(&chain),
             chain,
         }
     }
@@ -258,13 +258,13 @@ impl<T: Linked<Links<T>>> List<T> {
     ///
     /// # Complexity
     /// At most one move along a link more than the index is away from the nearest of the two ends and the two fingers.
-    pub(crate) fn value_mut_at(&mut self, at: usize) -> &mut T
-        requires { at < length self.old }
-        ensures* writes_back { sem 𝓛 (LendsAt T.row self.entry at result) }
-        ensures value { slice_get (values self.old) at ≡ Some result.now }
+    pub(crate) fn value_mut_at(&mut self, index: usize) -> &mut T
+        requires { index < length self.old }
+        ensures* writes_back { sem 𝓛 (LendsAt T.row self.entry index result) }
+        ensures value { slice_get (values self.old) index ≡ Some result.now }
     {
-        let place = self.fingers.seek(&self.chain, at);
-        self.chain.get_mut(place, at)
+        let address = self.fingers.seek(&self.chain, index);
+        self.chain.get_mut(address, index)
     }
 
     /// Returns a mutable reference to the value at an index, and moves the front finger to the next index, where a walk
@@ -272,17 +272,17 @@ impl<T: Linked<Links<T>>> List<T> {
     ///
     /// # Complexity
     /// That of `value_mut_at`, and one move more.
-    pub(crate) fn value_mut_passing(&mut self, at: usize) -> &mut T
-        requires inside { at < length self.old }
-        requires room { at < usize.MAX }
-        ensures* writes_back { sem 𝓛 (LendsAt T.row self.entry at result) }
-        ensures value { slice_get (values self.old) at ≡ Some result.now }
+    pub(crate) fn value_mut_passing(&mut self, index: usize) -> &mut T
+        requires inside { index < length self.old }
+        requires room { index < usize.MAX }
+        ensures* writes_back { sem 𝓛 (LendsAt T.row self.entry index result) }
+        ensures value { slice_get (values self.old) index ≡ Some result.now }
     {
-        let place = self.fingers.seek(&self.chain, at);
+        let address = self.fingers.seek(&self.chain, index);
         self.fingers.front = Finger {
-            at: self.chain.next(place, at),
-            index: at + 1,
+            address: self.chain.next(address, index),
+            index: index + 1,
         };
-        self.chain.get_mut(place, at)
+        self.chain.get_mut(address, index)
     }
 }

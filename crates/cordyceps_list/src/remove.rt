@@ -1,6 +1,6 @@
 //! Elements that are inserted and removed at places.
 ghost use Rattle.std.specs.Prelude.{◌≡◌, ◌+◌, ◌<◌, ◌≤◌, ◌∷◌, ◌++◌, length, take, drop, slice_get, option_copied, option_map, MatchOption, None, Some};
-ghost use Rattle.cordyceps_base.specs.Element.{found, values, without};
+ghost use Rattle.cordyceps_base.specs.Element.{first_with_id, values, without_id};
 ghost use Rattle.cordyceps_base.specs.Nodes.{elements};
 ghost use Rattle.cordyceps_list.specs.Fingers.{IsOn};
 
@@ -11,21 +11,21 @@ use cordyceps_base::linked::Linked;
 
 /// Returns a finger on the first node with a number, sought from the front.
 fn find<T>(chain: &DoubleChain<T>, id: u64) -> Option<Finger>
-    ensures on { MatchOption result (found id (elements chain.now) ≡ None)
-        (λ f. IsOn chain.now f × (found id (elements chain.now) ≡ slice_get (elements chain.now) f.index)) }
-    ensures others { MatchOption result (without id (elements chain.now) ≡ elements chain.now)
-        (λ f. without id (elements chain.now)
+    ensures on { MatchOption result (first_with_id id (elements chain.now) ≡ None)
+        (λ f. IsOn chain.now f × (first_with_id id (elements chain.now) ≡ slice_get (elements chain.now) f.index)) }
+    ensures others { MatchOption result (without_id id (elements chain.now) ≡ elements chain.now)
+        (λ f. without_id id (elements chain.now)
         ≡ take f.index (elements chain.now) ++ drop (f.index + 1) (elements chain.now)) }
 {
     if chain.len() == 0 {
         return None;
     }
-    let mut at = chain.head();
+    let mut address = chain.head();
     for index in 0..chain.len() {
-        if chain.id(at, index) == id {
-            return Some(Finger { at, index });
+        if chain.id(address, index) == id {
+            return Some(Finger { address, index });
         }
-        at = chain.next(at, index);
+        address = chain.next(address, index);
     }
     None
 }
@@ -37,8 +37,8 @@ impl<T: Linked<Links<T>>> List<T> {
     /// # Complexity
     /// O(k), where k is the index of that element, or the length if there is none: it walks from the front.
     pub fn remove(&mut self, id: u64) -> Option<T::Handle>
-        ensures answer { option_map T.element result ≡ found id self.old }
-        ensures kept { self.new ≡ without id self.old }
+        ensures answer { option_map T.element result ≡ first_with_id id self.old }
+        ensures kept { self.new ≡ without_id id self.old }
     {
         let found = find(&self.chain, id)?;
         self.fingers.front = found;
@@ -49,30 +49,30 @@ impl<T: Linked<Links<T>>> List<T> {
     /// that the index is below the length. It is inlined, so that it costs no search where its caller has just sought
     /// this index.
     #[inline(always)]
-    pub(crate) fn remove_at(&mut self, at: usize) -> T::Handle
-        requires { at < length self.old }
-        ensures value { slice_get self.old at ≡ Some (T.element result) }
-        ensures kept { self.new ≡ take at self.old ++ drop (at + 1) self.old }
+    pub(crate) fn remove_at(&mut self, index: usize) -> T::Handle
+        requires { index < length self.old }
+        ensures value { slice_get self.old index ≡ Some (T.element result) }
+        ensures kept { self.new ≡ take index self.old ++ drop (index + 1) self.old }
     {
-        let place = self.fingers.seek(&self.chain, at);
+        let address = self.fingers.seek(&self.chain, index);
         self.fingers = Fingers {
             front: Finger {
-                at: self.chain.next(place, at),
-                index: at,
+                address: self.chain.next(address, index),
+                index,
             },
-            back: self.fingers.back.after_unlink(at, self.chain.len() - 1),
+            back: self.fingers.back.after_unlink(index, self.chain.len() - 1),
         };
-        T::from_ptr(self.chain.unlink(place, at))
+        T::from_ptr(self.chain.unlink(address, index))
     }
 
     /// Removes the element at an index and returns it, or `None` if the index is not below the length.
     #[inline(always)]
-    pub(crate) fn take_at(&mut self, at: usize) -> Option<T::Handle>
-        ensures answer { option_map T.element result ≡ slice_get self.old at }
-        ensures kept { self.new ≡ take at self.old ++ drop (at + 1) self.old }
+    pub(crate) fn take_at(&mut self, index: usize) -> Option<T::Handle>
+        ensures answer { option_map T.element result ≡ slice_get self.old index }
+        ensures kept { self.new ≡ take index self.old ++ drop (index + 1) self.old }
     {
-        if at < self.chain.len() {
-            Some(self.remove_at(at))
+        if index < self.chain.len() {
+            Some(self.remove_at(index))
         } else {
             None
         }
@@ -80,57 +80,57 @@ impl<T: Linked<Links<T>>> List<T> {
 
     /// Inserts all elements of `other` at a place. Requires that the place is at most the length, and that the sum of
     /// the lengths is at most `usize::MAX`.
-    pub(crate) fn splice_at(&mut self, at: usize, other: List<T>)
-        requires within { at ≤ length self.old }
+    pub(crate) fn splice_at(&mut self, index: usize, other: List<T>)
+        requires within { index ≤ length self.old }
         requires fits { length self.old + length other ≤ usize.MAX }
-        ensures { self.new ≡ take at self.old ++ other ++ drop at self.old }
+        ensures { self.new ≡ take index self.old ++ other ++ drop index self.old }
     {
         let List { chain, fingers: _ } = other;
-        let place = self.fingers.seek_within(&self.chain, at);
-        self.fingers = self.fingers.after_splice(at, chain.len());
-        self.chain.splice(place, at, chain);
+        let address = self.fingers.seek_within(&self.chain, index);
+        self.fingers = self.fingers.after_splice(index, chain.len());
+        self.chain.splice(address, index, chain);
     }
 
     /// Inserts all elements of `other` after the one at an index. A finger stays on that one, so that a call there does
     /// not walk through the new elements.
-    pub(crate) fn splice_behind(&mut self, at: usize, other: List<T>)
-        requires inside { at < length self.old }
+    pub(crate) fn splice_after(&mut self, index: usize, other: List<T>)
+        requires inside { index < length self.old }
         requires fits { length self.old + length other ≤ usize.MAX }
-        ensures { self.new ≡ take (at + 1) self.old ++ other ++ drop (at + 1) self.old }
+        ensures { self.new ≡ take (index + 1) self.old ++ other ++ drop (index + 1) self.old }
     {
         let List { chain, fingers: _ } = other;
-        let place = self.fingers.seek(&self.chain, at);
-        let behind = self.chain.next(place, at);
-        self.fingers = self.fingers.after_splice(at + 1, chain.len());
-        self.chain.splice(behind, at + 1, chain);
+        let address = self.fingers.seek(&self.chain, index);
+        let next = self.chain.next(address, index);
+        self.fingers = self.fingers.after_splice(index + 1, chain.len());
+        self.chain.splice(next, index + 1, chain);
     }
 
     /// Inserts an element at a place. Requires that the place is at most the length, and a length below `usize::MAX`.
-    pub(crate) fn insert_at(&mut self, at: usize, handle: T::Handle)
-        requires within { at ≤ length self.old }
+    pub(crate) fn insert_at(&mut self, index: usize, handle: T::Handle)
+        requires within { index ≤ length self.old }
         requires fits { length self.old < usize.MAX }
-        ensures { self.new ≡ take at self.old ++ T.element handle ∷ drop at self.old }
+        ensures { self.new ≡ take index self.old ++ T.element handle ∷ drop index self.old }
     {
-        let place = self.fingers.seek_within(&self.chain, at);
-        self.fingers = self.fingers.after_splice(at, 1);
-        self.chain.link(place, at, T::into_ptr(handle));
+        let address = self.fingers.seek_within(&self.chain, index);
+        self.fingers = self.fingers.after_splice(index, 1);
+        self.chain.link(address, index, T::into_ptr(handle));
     }
 
     /// Moves a finger to a place, so that calls near it are O(1).
-    pub(crate) fn stand_at(&mut self, at: usize)
+    pub(crate) fn stand_at(&mut self, index: usize)
         ensures { self.new ≡ self.old }
     {
-        self.fingers.seek_within(&self.chain, at);
+        self.fingers.seek_within(&self.chain, index);
     }
 
     /// Returns a reference to the value at an index, or `None` if the index is not below the length.
-    pub(crate) fn get_at(&self, at: usize) -> Option<&T>
-        ensures { option_copied result ≡ slice_get (values self.now) at }
+    pub(crate) fn get_at(&self, index: usize) -> Option<&T>
+        ensures { option_copied result ≡ slice_get (values self.now) index }
     {
-        if at < self.chain.len() {
+        if index < self.chain.len() {
             let mut fingers = self.fingers;
-            let place = fingers.seek(&self.chain, at);
-            Some(self.chain.get(place, at))
+            let address = fingers.seek(&self.chain, index);
+            Some(self.chain.get(address, index))
         } else {
             None
         }
@@ -138,14 +138,14 @@ impl<T: Linked<Links<T>>> List<T> {
 
     /// Splits the list at a place, and returns the elements from there on. Requires that the place is at most the
     /// length.
-    pub(crate) fn split_at(&mut self, at: usize) -> List<T>
-        requires { at ≤ length self.old }
-        ensures kept { self.new ≡ take at self.old }
-        ensures split { result ≡ drop at self.old }
+    pub(crate) fn split_at(&mut self, index: usize) -> List<T>
+        requires { index ≤ length self.old }
+        ensures kept { self.new ≡ take index self.old }
+        ensures split { result ≡ drop index self.old }
     {
-        let place = self.fingers.seek_within(&self.chain, at);
-        self.fingers = self.fingers.after_change(at, at);
-        let (front, rest) = self.chain.take().split(place, at);
+        let address = self.fingers.seek_within(&self.chain, index);
+        self.fingers = self.fingers.after_change(index, index);
+        let (front, rest) = self.chain.take().split(address, index);
         self.chain.put(front);
         List::from_chain(rest)
     }

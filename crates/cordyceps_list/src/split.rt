@@ -10,22 +10,22 @@ use cordyceps_base::linked::Linked;
 use cordyceps_base::steps::Steps;
 use std::mem;
 
-/// Returns the address of the node before the place `at`, found from the nearer end, or from the head if both are
+/// Returns the address of the node before the place `index`, found from the nearer end, or from the head if both are
 /// equally near.
-fn node_before<T>(chain: &DoubleChain<T>, at: usize, steps: &mut Steps) -> Address
-    requires inside { (0 < at) × (at < length chain.now) }
-    requires room { steps.old + min (at - 1) (length chain.now - at) < 2 ^ 64 }
-    ensures place { IsAt chain.now (at - 1) result }
-    ensures counted { steps.new ≡ steps.old + min (at - 1) (length chain.now - at) }
+fn node_before<T>(chain: &DoubleChain<T>, index: usize, steps: &mut Steps) -> Address
+    requires inside { (0 < index) × (index < length chain.now) }
+    requires room { steps.old + min (index - 1) (length chain.now - index) < 2 ^ 64 }
+    ensures place { IsAt chain.now (index - 1) result }
+    ensures counted { steps.new ≡ steps.old + min (index - 1) (length chain.now - index) }
 {
-    let before = at - 1;
+    let before = index - 1;
     let len = chain.len();
-    let end = if before <= len - at {
+    let end = if before <= len - index {
         Finger::at_head(chain)
     } else {
         Finger::at_tail(chain)
     };
-    end.walked_in(chain, before, steps).at
+    end.walked_in(chain, before, steps).address
 }
 
 impl<T: Linked<Links<T>>> List<T> {
@@ -50,13 +50,13 @@ impl<T: Linked<Links<T>>> List<T> {
     /// length.
     ///
     /// # Complexity
-    /// O(min(at, n - at)), for n elements: it walks from the nearer end.
-    pub fn split_off(&mut self, at: usize) -> List<T>
-        requires { at ≤ length self.old }
-        ensures kept { self.new ≡ take at self.old }
-        ensures split { result ≡ drop at self.old }
+    /// O(min(index, n - index)), for n elements: it walks from the nearer end.
+    pub fn split_off(&mut self, index: usize) -> List<T>
+        requires { index ≤ length self.old }
+        ensures kept { self.new ≡ take index self.old }
+        ensures split { result ≡ drop index self.old }
     {
-        match self.try_split_off(at) {
+        match self.try_split_off(index) {
             Some(rest) => rest,
             None => unreachable!(),
         }
@@ -66,40 +66,40 @@ impl<T: Linked<Links<T>>> List<T> {
     /// returns `None`, and the list is unchanged.
     ///
     /// # Complexity
-    /// O(min(at, n - at)), for n elements: it walks from the nearer end.
-    pub fn try_split_off(&mut self, at: usize) -> Option<List<T>>
-        ensures variant { IsSome result ↔ (at ≤ length self.old) }
-        ensures some { IfSome result (λ rest. (self.new ≡ take at self.old) × (rest ≡ drop at self.old)) }
+    /// O(min(index, n - index)), for n elements: it walks from the nearer end.
+    pub fn try_split_off(&mut self, index: usize) -> Option<List<T>>
+        ensures variant { IsSome result ↔ (index ≤ length self.old) }
+        ensures some { IfSome result (λ rest. (self.new ≡ take index self.old) × (rest ≡ drop index self.old)) }
         ensures none { IfNone result (self.new ≡ self.old) }
     {
-        self.try_split_off_in(at, &mut Steps::new())
+        self.try_split_off_in(index, &mut Steps::new())
     }
 
     /// Splits the list as `try_split_off` does, and adds the number of moves along links to `steps`. Requires that the
     /// count stays at most `u64::MAX`.
     ///
     /// # Complexity
-    /// For n elements it makes min(at - 1, n - at) moves if 0 < `at` < n, and else none.
-    pub fn try_split_off_in(&mut self, at: usize, steps: &mut Steps) -> Option<List<T>>
-        requires { steps.old + min (at - 1) (length self.old - at) < 2 ^ 64 }
-        ensures variant { IsSome result ↔ (at ≤ length self.old) }
-        ensures some { IfSome result (λ rest. (self.new ≡ take at self.old) × (rest ≡ drop at self.old)) }
+    /// For n elements it makes min(index - 1, n - index) moves if 0 < `index` < n, and else none.
+    pub fn try_split_off_in(&mut self, index: usize, steps: &mut Steps) -> Option<List<T>>
+        requires { steps.old + min (index - 1) (length self.old - index) < 2 ^ 64 }
+        ensures variant { IsSome result ↔ (index ≤ length self.old) }
+        ensures some { IfSome result (λ rest. (self.new ≡ take index self.old) × (rest ≡ drop index self.old)) }
         ensures none { IfNone result (self.new ≡ self.old) }
-        ensures counted { steps.new ≡ steps.old + min (at - 1) (length self.old - at) }
+        ensures counted { steps.new ≡ steps.old + min (index - 1) (length self.old - index) }
     {
         let len = self.chain.len();
-        if at > len {
+        if index > len {
             return None;
         }
-        if at == 0 {
+        if index == 0 {
             return Some(mem::replace(self, List::new()));
         }
-        if at == len {
+        if index == len {
             return Some(List::new());
         }
-        let before = node_before(&self.chain, at, steps);
-        self.fingers = self.fingers.after_change(at, at);
-        let (front, rest) = self.chain.take().cut_after(before, at);
+        let before = node_before(&self.chain, index, steps);
+        self.fingers = self.fingers.after_change(index, index);
+        let (front, rest) = self.chain.take().cut_after(before, index);
         self.chain.put(front);
         Some(List::from_chain(rest))
     }

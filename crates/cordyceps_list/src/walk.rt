@@ -27,10 +27,10 @@ fn first_passing<T, F: FnMut(&T) -> bool>(
 {
     let mut finger = from;
     while finger.index < chain.len() {
-        if predicate(chain.get(finger.at, finger.index)) {
+        if predicate(chain.get(finger.address, finger.index)) {
             return finger;
         }
-        finger.at = chain.next(finger.at, finger.index);
+        finger.address = chain.next(finger.address, finger.index);
         finger.index += 1;
     }
     finger
@@ -41,19 +41,19 @@ impl<T: Linked<Links<T>>> List<T> {
     /// if there is none.
     pub(crate) fn first_passing<F: FnMut(&T) -> bool>(
         &mut self,
-        at: usize,
+        index: usize,
         predicate: &mut F,
     ) -> usize
-        requires inside { at ≤ length self.old }
-        requires callable { MayAsk F.FnMut (drop at (values self.old)) predicate.old }
+        requires inside { index ≤ length self.old }
+        requires callable { MayAsk F.FnMut (drop index (values self.old)) predicate.old }
         ensures elements { self.new ≡ self.old }
-        ensures walks { Walks (CalledAt F.FnMut) predicate.old (drop at (values self.old)) (result - at) predicate.new }
-        ensures from { at ≤ result }
+        ensures walks { Walks (CalledAt F.FnMut) predicate.old (drop index (values self.old)) (result - index) predicate.new }
+        ensures from { index ≤ result }
         ensures to { result ≤ length self.old }
     {
         let from = Finger {
-            at: self.fingers.seek_within(&self.chain, at),
-            index: at,
+            address: self.fingers.seek_within(&self.chain, index),
+            index,
         };
         let found = first_passing(&self.chain, from, predicate);
         self.fingers.front = found;

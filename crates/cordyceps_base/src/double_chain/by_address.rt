@@ -94,7 +94,7 @@ impl<T> DoubleChain<T> {
     }
 
     /// Separates the node at `at` from the others.
-    fn parted(self, at: Address) -> (DoubleChain<T>, Row<T>)
+    fn separate(self, at: Address) -> (DoubleChain<T>, Row<T>)
         requires { HasSpot self at.ptr }
         ensures parts { (a : Global) × (x : Block T) × IsTaken self at.ptr (block_element x) result.0
             × (result.1.blocks ≡ (at.ptr, a, x) ∷ []) }
@@ -127,7 +127,7 @@ impl<T> DoubleChain<T> {
         requires { HasSpot self.old at.ptr }
         ensures { IsMovedFront self.old at.ptr self.new }
     {
-        let (rest, one) = self.take().parted(at);
+        let (rest, one) = self.take().separate(at);
         self.put(DoubleChain::of_one(at, one).join(rest));
     }
 
@@ -136,7 +136,7 @@ impl<T> DoubleChain<T> {
         requires { HasSpot self.old at.ptr }
         ensures { IsMovedBack self.old at.ptr self.new }
     {
-        let (rest, one) = self.take().parted(at);
+        let (rest, one) = self.take().separate(at);
         self.put(rest.join(DoubleChain::of_one(at, one)));
     }
 }
@@ -247,7 +247,7 @@ impl<T: Drop> DoubleChain<T> {
         requires { HasSpot self.old at.ptr }
         ensures { IsTaken self.old at.ptr result self.new }
     {
-        let (rest, one) = self.take().parted(at);
+        let (rest, one) = self.take().separate(at);
         self.put(rest);
         node_of(at, one)
     }

@@ -7,7 +7,7 @@ use Rattle.cordyceps_base.specs.Spots.{AreNullComparable}
 use Rattle.cordyceps_base.proofs.DoubleChain.{segment_join}
 use Rattle.cordyceps_base.proofs.Nodes.{length-nodes_of, length_is}
 use Rattle.cordyceps_base.proofs.Segments.{Cut, cut, one_is, front_linked, rest_linked, front_comparable, rest_tested, some, left_length, taken_is, left_is}
-use Rattle.cordyceps_base.proofs.double_chain.DoubleChain.parted.Goals as goal
+use Rattle.cordyceps_base.proofs.double_chain.DoubleChain.separate.Goals as goal
 
 pub get-requires : goal.get-requires
 get-requires g c =
