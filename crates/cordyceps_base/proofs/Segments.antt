@@ -319,25 +319,6 @@ module _ {X : Type 0} where
         let none = none_last h front (prev_of u.node.2) u.node.0 u.first (front_comparable h t ns front back p u z) (ap (λ (x : Block X). prev_of x) same ∙ i) in
         (block_element u.node.2, nodes_of u.after, here_is ∙ (λ j. none j ++ (p, block_element u.node.2) ∷ nodes_of u.after))
 
-  -- ---- the ends
-  module _ (h t : Ptr) (len : ℕ) (ns : Row X) (v : Nodes X) (seen : nodes_of ns ≡ v) (linked : IsLinked h t len ns) where
-    pub none_seen : len ≡ 0 → v ≡ []
-    none_seen e = sym seen ∙ go ns (sym linked.0 ∙ e) where
-      go : (ms : Row X) → length ms ≡ 0 → nodes_of ms ≡ []
-      go [] e = refl
-      go (m ∷ ms) e = absurd (omega (arith, e))
-
-    pub first_seen : 0 < len → IsFirst v h
-    first_seen some = let long = linked.0 in let on = go ns linked.2 (omega (arith, some, long)) in (on.0, on.1, sym seen ∙ on.2) where
-      go : (ms : Row X) → Segment null_ptr h ms t null_ptr → 0 < length ms → (e : Element X) × (after : Nodes X) × (nodes_of ms ≡ (h, e) ∷ after)
-      go [] f some = absurd (omega (arith, some))
-      go (m ∷ ms) f some = (block_element m.2, nodes_of ms, λ i. (sym f.0 i, block_element m.2) ∷ nodes_of ms)
-
-    pub last_seen : 0 < len → IsLast v t
-    last_seen some =
-        let long = linked.0 in let on = last_split null_ptr h ns t null_ptr linked.2 (omega (arith, some, long)) in
-        (nodes_of on.0, block_element on.1.2, sym seen ∙ ap nodes_of on.2 ∙ nodes_of-append on.0 (on.1 ∷ []) ∙ (λ i. nodes_of on.0 ++ (on.3 i, block_element on.1.2) ∷ []))
-
 -- a chain of one node, whose address is known
 pub sole_place : {X : Type 0} (c : Nodes X) (q p : Ptr) (e : Element X) → c ≡ (q, e) ∷ [] → slice_get (spots c) 0 ≡ Some p → c ≡ (p, e) ∷ []
 sole_place c q p e is at =

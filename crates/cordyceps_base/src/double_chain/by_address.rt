@@ -43,20 +43,6 @@ impl<T> DoubleChain<T> {
         self.put(differing);
     }
 
-    /// Returns the address of the first node, or `None` if the chain is empty.
-    pub fn first(&self) -> Option<Address>
-        ensures { MatchOption result (self.now ≡ []) (λ p. IsFirst self.now p.ptr) }
-    {
-        if self.len == 0 { None } else { Some(self.head) }
-    }
-
-    /// Returns the address of the last node, or `None` if the chain is empty.
-    pub fn last(&self) -> Option<Address>
-        ensures { MatchOption result (self.now ≡ []) (λ p. IsLast self.now p.ptr) }
-    {
-        if self.len == 0 { None } else { Some(self.tail) }
-    }
-
     /// Returns the address of the node after the one at `at`, or `None` if that is the last.
     pub fn next_at(&self, at: Address) -> Option<Address>
         requires { HasSpot self.now at.ptr }
@@ -142,32 +128,6 @@ impl<T> DoubleChain<T> {
 }
 
 impl<T: Drop> DoubleChain<T> {
-    /// Prepends a node and returns its address. Requires a length below `usize::MAX`.
-    pub fn link_first(&mut self, node: Node<T, Links<T>>) -> Address
-        requires { length self.old + 1 < 2 ^ 64 }
-        ensures holds { self.new ≡ (result.ptr, node) ∷ self.old }
-        ensures distinct { AreDistinct (spots self.new) }
-    {
-        let rest = self.take();
-        let one = DoubleChain::one(node);
-        let at = one.head();
-        self.put(one.join(rest).distinct());
-        at
-    }
-
-    /// Appends a node and returns its address. Requires a length below `usize::MAX`.
-    pub fn link_last(&mut self, node: Node<T, Links<T>>) -> Address
-        requires { length self.old + 1 < 2 ^ 64 }
-        ensures holds { self.new ≡ self.old ++ (result.ptr, node) ∷ [] }
-        ensures distinct { AreDistinct (spots self.new) }
-    {
-        let rest = self.take();
-        let one = DoubleChain::one(node);
-        let at = one.head();
-        self.put(rest.join(one).distinct());
-        at
-    }
-
     /// Inserts a node before the one at `at`, and returns its address too.
     fn with_before(self, at: Address, node: Node<T, Links<T>>) -> (DoubleChain<T>, Address)
         requires there { HasSpot self at.ptr }
