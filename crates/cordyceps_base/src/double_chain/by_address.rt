@@ -2,14 +2,17 @@
 //! address.
 ghost use Rattle.std.specs.Prelude.{◌≡◌, ◌+◌, ◌^◌, ◌<◌, [], ◌∷◌, ◌++◌, length, slice_get, Some, MatchOption};
 ghost use Rattle.std.specs.Borrow.{sem};
+ghost use denote.RawPtr.{Ptr, null_ptr};
+ghost use Rattle.cordyceps_base.specs.Boxes.{box_addresses};
 ghost use Rattle.cordyceps_base.specs.BySpot.{HasSpot, HoldsAt, IsTaken, IsPutBefore, IsPutAfter, IsMovedFront, IsMovedBack, IsFirst, IsLast, AreNext};
+ghost use Rattle.cordyceps_base.specs.DoubleChain.{Segment};
 ghost use Rattle.cordyceps_base.specs.Element.{values};
-ghost use Rattle.cordyceps_base.specs.Nodes.{block_element, elements, spots};
-ghost use Rattle.cordyceps_base.specs.Spots.{index_of, AreDistinct};
+ghost use Rattle.cordyceps_base.specs.Nodes.{block_element, elements, nodes_of, spots};
+ghost use Rattle.cordyceps_base.specs.Spots.{index_of, AreDistinct, AreNullComparable};
 
 use super::DoubleChain;
 use crate::boxes::Address;
-use crate::double_row::{Row, between, followed_by, node_of, preceded_by};
+use crate::double_row::{Part, Row, between, followed_by, node_of, preceded_by};
 use crate::list::Links;
 use crate::node::{Block, Node};
 use std::alloc::Global;
@@ -128,6 +131,33 @@ impl<T> DoubleChain<T> {
 }
 
 impl<T: Drop> DoubleChain<T> {
+    /// Creates a chain of a front part, a node and a back part, and returns the address of the node too. The parts have
+    /// `len` nodes together.
+    fn of_parts(
+        front: Part<T>,
+        node: Node<T, Links<T>>,
+        back: Part<T>,
+        len: usize,
+    ) -> (DoubleChain<T>, Address)
+        requires front { (q : Ptr) × Segment null_ptr front.first.ptr front.row.blocks front.last.ptr q }
+        requires back { (p : Ptr) × Segment p back.first.ptr back.row.blocks back.last.ptr null_ptr }
+        requires front_comparable { AreNullComparable (box_addresses front.row.blocks) }
+        requires back_comparable { AreNullComparable (box_addresses back.row.blocks) }
+        requires len { len ≡ length front.row.blocks + length back.row.blocks }
+        requires fits { len + 1 < 2 ^ 64 }
+        ensures { result.0 ≡ nodes_of front.row.blocks ++ (result.1.ptr, node) ∷ nodes_of back.row.blocks }
+    {
+        let (new, whole) = between(front, node, back);
+        let Part { first, last, row } = whole;
+        let chain = DoubleChain {
+            head: first,
+            tail: last,
+            len: len + 1,
+            boxes: row.null_comparable(),
+        };
+        (chain, new)
+    }
+
     /// Inserts a node before the one at `at`, and returns its address too.
     fn with_before(self, at: Address, node: Node<T, Links<T>>) -> (DoubleChain<T>, Address)
         requires there { HasSpot self at.ptr }
@@ -141,15 +171,17 @@ impl<T: Drop> DoubleChain<T> {
             boxes,
         } = self;
         let (front, back) = boxes.cut_at(at);
-        let prev = back.get(at, 0).links.prev;
-        let (new, head, tail, boxes) = between(front, head, prev, node, at, back, tail);
-        let whole = DoubleChain {
-            head,
-            tail,
-            len: len + 1,
-            boxes: boxes.null_comparable(),
+        let before = Part {
+            first: head,
+            last: back.get(at, 0).links.prev,
+            row: front,
         };
-        (whole, new)
+        let rest = Part {
+            first: at,
+            last: tail,
+            row: back,
+        };
+        DoubleChain::of_parts(before, node, rest, len)
     }
 
     /// Inserts a node after the one at `at`, and returns its address too.
@@ -167,15 +199,17 @@ impl<T: Drop> DoubleChain<T> {
         let (front, back) = boxes.cut_at(at);
         let next = back.get(at, 0).links.next;
         let (one, rest) = back.cut(1);
-        let front = front.join(one);
-        let (new, head, tail, boxes) = between(front, head, at, node, next, rest, tail);
-        let whole = DoubleChain {
-            head,
-            tail,
-            len: len + 1,
-            boxes: boxes.null_comparable(),
+        let before = Part {
+            first: head,
+            last: at,
+            row: front.join(one),
         };
-        (whole, new)
+        let after = Part {
+            first: next,
+            last: tail,
+            row: rest,
+        };
+        DoubleChain::of_parts(before, node, after, len)
     }
 
     /// Inserts a node before the one at `at` and returns its address. Requires a length below `usize::MAX`.
