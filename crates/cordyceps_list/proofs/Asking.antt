@@ -8,7 +8,7 @@ use Rattle.std.specs.Iterator.{CallableAtEachTurn, Yields}
 use Rattle.std.specs.List.{All, FoldsTo}
 use Rattle.cordyceps_base.specs.Element.{Element, Elements, values}
 use Rattle.cordyceps_list.specs.Filter.{RemovesFirst}
-use Rattle.cordyceps_list.specs.Walk.{Walks, MayAsk, MayAskAll}
+use Rattle.cordyceps_list.specs.Walks.{Walks, MayAsk, MayAskAll}
 
 module _ {X F : Type 0} {R : F → X → F → Type 0} {Q : F → X → Type 0} where
   at_first : (x : X) (xs : List X) (f : F) → CallableAtEachTurn list_steps R Q (x ∷ xs) f → Q f x

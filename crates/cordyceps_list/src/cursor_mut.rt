@@ -71,7 +71,7 @@ impl<'a, T: Linked<Links<T>>> CursorMut<'a, T> {
     ghost use Rattle.cordyceps_list.specs.Cursor.{elements, place, lender, Stands, LendsAndStands};
     ghost use Rattle.cordyceps_list.specs.Places.{next_place, prev_place, index_at};
     ghost use Rattle.cordyceps_list.specs.Filter.{RemovesFirst};
-    ghost use Rattle.cordyceps_list.specs.Walk.{MayAsk};
+    ghost use Rattle.cordyceps_list.specs.Walks.{MayAsk};
 
     /// Returns a cursor at a place. Requires that the place is at most the length.
     pub(crate) fn at_place(list: &'a mut List<T>, index: usize) -> CursorMut<'a, T>

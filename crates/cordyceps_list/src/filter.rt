@@ -71,7 +71,7 @@ impl<'a, T: Linked<Links<T>>, F: FnMut(&T) -> bool + Drop> Iterator for DrainFil
     ghost use Rattle.std.specs.Iterator.{at_most, UpTo};
     ghost use Rattle.cordyceps_base.specs.Element.{values};
     ghost use Rattle.cordyceps_list.specs.DrainFilter.{elements, place, predicate_of, drain_steps};
-    ghost use Rattle.cordyceps_list.specs.Walk.{MayAskAll};
+    ghost use Rattle.cordyceps_list.specs.Walks.{MayAskAll};
 
     type Item = T::Handle;
 

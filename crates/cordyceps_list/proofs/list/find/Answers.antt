@@ -3,7 +3,7 @@ use borrow.Author.Tests.{eq-eqb}
 use Rattle.std.proofs.lemmas.Bool.Decides.{nat_tests}
 use Rattle.cordyceps_base.specs.Nodes.{elements}
 use Rattle.cordyceps_list.proofs.Found.{found_at, unmet_more}
-use Rattle.cordyceps_list.proofs.remove.find.Goals as goal
+use Rattle.cordyceps_list.proofs.list.find.Goals as goal
 
 pub returns-then-id-clause-on : goal.returns-then-id-clause-on
 returns-then-id-clause-on g c =
