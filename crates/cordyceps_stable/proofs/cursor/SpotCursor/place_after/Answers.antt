@@ -1,5 +1,5 @@
-use Rattle.std.proofs.Common.{◌≡◌, Some, None, [], refl}
-use Rattle.cordyceps_base.specs.BySpot.{IsFirst, IsLast, AreNext}
+use Rattle.std.proofs.Common.{Some, None, refl}
+use Rattle.cordyceps_base.specs.BySpot.{IsLast, AreNext}
 use Rattle.cordyceps_base.specs.Nodes.{Nodes}
 use Rattle.cordyceps_stable.specs.Walk.{IsOn}
 use Rattle.cordyceps_stable.proofs.Reached.{on_has}
