@@ -92,7 +92,7 @@ module _ {X : Type 0} where
   relinked_first p h [] t q pr b f r = cc
   relinked_first p h (n ∷ ns) t q pr b f r = let same : n.2 ≡ b = cc in (f.0, refl, subst (λ (x : Block X). Segment n.0 (next_of x) ns t q) same f.2)
 
-  -- ---- one row behind another
+  -- ---- one row after another
   pub segment_join : (p h : Ptr) (xs : List (OwnedNode X)) (l m : Ptr) (ys : List (OwnedNode X)) (t q : Ptr) → Segment p h xs l m → Segment l m ys t q → Segment p h (xs ++ ys) t q
   segment_join p h [] l m ys t q f g = subst (λ (s : Ptr × Ptr). Segment s.0 s.1 ys t q) (λ i. (f.1 i, sym f.0 i)) g
   segment_join p h (x ∷ xs) l m ys t q f g = (f.0, f.1, segment_join x.0 (next_of x.2) xs l m ys t q f.2 g)

@@ -1,4 +1,4 @@
--- Places and elements of nodes, where others come behind them and where a value is written.
+-- Places and elements of nodes, where others come after them and where a value is written.
 use Rattle.std.proofs.Common.{◌≡◌, ℕ, zero, suc, ◌+◌, ◌-◌, ◌<◌, ◌≤◌, List, [], ◌∷◌, ◌++◌, length, take, drop, slice_get, Some, refl, ap, sym, ◌∙◌, subst, append_assoc, add-zero, add-suc, add-one, arith}
 use Rattle.std.proofs.lemmas.List.{map-append}
 use Rattle.std.specs.List.{take-map, drop-map}
@@ -20,22 +20,22 @@ module _ {X : Type 0} where
 
   -- a node is that many places further on where others were put in before it
   pub spot_pushed : (c more : Nodes X) (k i : ℕ) (p : Ptr) → k ≤ i → slice_get (spots c) i ≡ Some p → slice_get (spots (take k c ++ (more ++ drop k c))) (i + length more) ≡ Some p
-  spot_pushed c more zero i p behind at = spot_after c more i p at
-  spot_pushed [] more (suc k) i p behind at = cc
-  spot_pushed (n ∷ c) more (suc k) zero p behind at = absurd (omega arith)
-  spot_pushed (n ∷ c) more (suc k) (suc i) p behind at =
+  spot_pushed c more zero i p later at = spot_after c more i p at
+  spot_pushed [] more (suc k) i p later at = cc
+  spot_pushed (n ∷ c) more (suc k) zero p later at = absurd (omega arith)
+  spot_pushed (n ∷ c) more (suc k) (suc i) p later at =
       let on : suc (i + length more) ≡ suc i + length more = omega arith in
       subst (λ j. slice_get (spots (take (suc k) (n ∷ c) ++ (more ++ drop k c))) j ≡ Some p) on (spot_pushed c more k i p (omega arith) at)
 
   -- a node is one place nearer to the front where one before it was taken out
   spot_on : (c : Nodes X) (k i : ℕ) (p : Ptr) → k ≤ i → slice_get (spots c) (suc i) ≡ Some p → slice_get (spots (take k c ++ drop (suc k) c)) i ≡ Some p
-  spot_on [] k i p behind at = cc
-  spot_on (n ∷ c) zero i p behind at = at
-  spot_on (n ∷ c) (suc k) zero p behind at = absurd (omega arith)
-  spot_on (n ∷ c) (suc k) (suc i) p behind at = spot_on c k i p (omega arith) at
+  spot_on [] k i p later at = cc
+  spot_on (n ∷ c) zero i p later at = at
+  spot_on (n ∷ c) (suc k) zero p later at = absurd (omega arith)
+  spot_on (n ∷ c) (suc k) (suc i) p later at = spot_on c k i p (omega arith) at
 
   pub spot_pulled : (c : Nodes X) (k i : ℕ) (p : Ptr) → k < i → slice_get (spots c) i ≡ Some p → slice_get (spots (take k c ++ drop (k + 1) c)) (i - 1) ≡ Some p
-  spot_pulled c k i p behind at =
+  spot_pulled c k i p later at =
       let next : i ≡ suc (i - 1) = omega arith in
       rw add-one (spot_on c k (i - 1) p (omega arith) (subst (λ j. slice_get (spots c) j ≡ Some p) next at))
 

@@ -8,7 +8,7 @@ use Rattle.cordyceps_base.specs.declared.node.Block.{Block}
 use Rattle.cordyceps_base.specs.Element.{Element}
 use Rattle.cordyceps_base.specs.Boxes.{box_addresses, box_values, set_value}
 use Rattle.cordyceps_base.specs.Spots.{same_ptr, index_of, AreNullComparable}
-use Rattle.cordyceps_base.specs.BySpot.{IsFirst, IsLast, AreNext}
+use Rattle.cordyceps_base.specs.BySpot.{HasSpot, IsFirst, IsLast, AreNext}
 use Rattle.cordyceps_base.specs.DoubleChain.{Segment, IsLinked, next_of, prev_of}
 use Rattle.cordyceps_base.specs.Nodes.{Nodes, spots, block_element, OwnedNode, nodes_of}
 use Rattle.cordyceps_base.proofs.SpotsMemory.{same_ptr_eq, same_ptr_refl}
@@ -136,13 +136,13 @@ module _ {X : Type 0} where
     pub first : Segment null_ptr h front (prev_of node.2) node.0
     pub second : Segment node.0 (next_of node.2) after t null_ptr
 
-  pub cut : (h t : Ptr) (ns front back : Row X) (v : Nodes X) (p : Ptr) → nodes_of ns ≡ v → (k : ℕ) × (slice_get (spots v) k ≡ Some p) → Segment null_ptr h ns t null_ptr
-      → front ≡ take (index_of p (box_addresses ns)) ns → back ≡ drop (index_of p (box_addresses ns)) ns → Cut h t ns front back p
-  cut h t ns front back v p seen at linked f g =
+  pub cut : {h t : Ptr} {len : ℕ} {ns front back : Row X} {v : Nodes X} {p : Ptr} → nodes_of ns ≡ v → HasSpot v p → IsLinked h t len ns
+      → (front ≡ take (index_of p (box_addresses ns)) ns) × (back ≡ drop (index_of p (box_addresses ns)) ns) → Cut h t ns front back p
+  cut {h = h} {t = t} {ns = ns} {front = front} {v = v} {p = p} seen at linked (f, g) =
       let i = index_of p (box_addresses ns) in
       let on : Found p ns = found ns p at.0 (at_place ns v seen at.0 p at.1) in let n = on.0 in let ys = on.1 in
       let whole : ns ≡ front ++ n ∷ ys = take-drop i ns ∙ (λ j. sym f j ++ on.2 j) in
-      let linked' : Segment null_ptr h (front ++ n ∷ ys) t null_ptr = subst (λ ls. Segment null_ptr h ls t null_ptr) whole linked in
+      let linked' : Segment null_ptr h (front ++ n ∷ ys) t null_ptr = subst (λ ls. Segment null_ptr h ls t null_ptr) whole linked.2 in
       record {
         node = n;
         after = ys;
@@ -154,7 +154,7 @@ module _ {X : Type 0} where
         second = segment_back null_ptr h front n ys t null_ptr linked';
       }
 
-  module _ (h t : Ptr) (ns front back : Row X) (p : Ptr) (u : Cut h t ns front back p) where
+  module _ {h t : Ptr} {ns front back : Row X} {p : Ptr} (u : Cut h t ns front back p) where
     pub node_is : (b : Block X) → slice_get (box_values back) 0 ≡ Some b → u.node.2 ≡ b
     node_is b e = let at : slice_get (box_values (u.node ∷ u.after)) 0 ≡ Some b = subst (λ ls. slice_get (box_values ls) 0 ≡ Some b) u.here e in cc
 
@@ -214,7 +214,7 @@ module _ {X : Type 0} where
         let r' : slice_get (box_values (on.0 ∷ on.1)) 0 ≡ Some b = subst (λ ls. slice_get (box_values ls) 0 ≡ Some b) (e ∙ on.2) r in let same : on.0.2 ≡ b = cc in
         (nodes_of front, b.id, nodes_of on.1, sym seen ∙ ap nodes_of (take-drop (index_of p (box_addresses ns)) ns ∙ (λ i. front ++ on.2 i)) ∙ nodes_of-append front (on.0 ∷ on.1) ∙ (λ i. nodes_of front ++ (on.3 i, block_element (same i)) ∷ nodes_of on.1))
 
-  module _ (h t : Ptr) (ns front back : Row X) (p : Ptr) (u : Cut h t ns front back p) where
+  module _ {h t : Ptr} {ns front back : Row X} {p : Ptr} (u : Cut h t ns front back p) where
     pub back_linked : (q : Ptr) × Segment q p back t null_ptr
     back_linked = (prev_of u.node.2, subst (λ ls. Segment (prev_of u.node.2) p ls t null_ptr) (sym u.here) (sym u.lies, refl, u.second))
 
@@ -224,13 +224,10 @@ module _ {X : Type 0} where
     pub back_shown : (s : Nodes X) (n : Ptr × Element X) → s ≡ nodes_of front ++ n ∷ nodes_of back → s ≡ nodes_of front ++ n ∷ (p, block_element u.node.2) ∷ nodes_of u.after
     back_shown s n e = e ∙ (λ i. nodes_of front ++ n ∷ nodes_of (u.here i)) ∙ (λ i. nodes_of front ++ n ∷ (u.lies i, block_element u.node.2) ∷ nodes_of u.after)
 
-    pub put_length : (js : Row X) (n : Ptr × Element X) → nodes_of js ≡ nodes_of front ++ n ∷ nodes_of back → length ns + 1 ≡ length js
-    put_length js n e =
-        let l = lengths h t ns front back p u in
-        let a : length js ≡ length front + suc (length back) = sym (length-nodes_of js) ∙ ap length e ∙ length-append (nodes_of front) (n ∷ nodes_of back) ∙ (λ i. length-nodes_of front i + suc (length-nodes_of back i)) in
-        let b : length back ≡ suc (length u.after) = ap length u.here in omega (arith, l, a, b)
+    pub both_lengths : length ns ≡ length front + length back
+    both_lengths = let l = lengths u in let b : length back ≡ suc (length u.after) = ap length u.here in omega (arith, l, b)
 
-    -- the row up to the node and with it, f, and that behind it, r
+    -- the row up to the node and with it, f, and that after it, r
     module _ (one f r : Row X) (is_one : one ≡ take 1 back) (is_f : f ≡ front ++ one) (is_r : r ≡ drop 1 back) where
       upto_is : f ≡ front ++ u.node ∷ []
       upto_is = is_f ∙ (λ i. front ++ is_one i) ∙ (λ i. front ++ take 1 (u.here i))
@@ -247,15 +244,21 @@ module _ {X : Type 0} where
 
       pub upto_shown : (s : Nodes X) (n : Ptr × Element X) → s ≡ nodes_of f ++ n ∷ nodes_of r → s ≡ nodes_of front ++ (p, block_element u.node.2) ∷ n ∷ nodes_of u.after
       upto_shown s n e =
-          e ∙ (λ i. nodes_of (upto_is i) ++ n ∷ nodes_of (rest_is h t ns front back p u r is_r i)) ∙ (λ i. nodes_of-append front (u.node ∷ []) i ++ n ∷ nodes_of u.after) ∙ append_assoc (nodes_of front) ((u.node.0, block_element u.node.2) ∷ []) (n ∷ nodes_of u.after)
+          e ∙ (λ i. nodes_of (upto_is i) ++ n ∷ nodes_of (rest_is u r is_r i)) ∙ (λ i. nodes_of-append front (u.node ∷ []) i ++ n ∷ nodes_of u.after) ∙ append_assoc (nodes_of front) ((u.node.0, block_element u.node.2) ∷ []) (n ∷ nodes_of u.after)
           ∙ (λ i. nodes_of front ++ (u.lies i, block_element u.node.2) ∷ n ∷ nodes_of u.after)
 
-      pub upto_length : (js : Row X) (n : Ptr × Element X) → nodes_of js ≡ nodes_of f ++ n ∷ nodes_of r → length ns + 1 ≡ length js
-      upto_length js n e =
-          let l = lengths h t ns front back p u in
-          let a : length js ≡ length front + suc (suc (length u.after)) =
-          sym (length-nodes_of js) ∙ ap length (upto_shown (nodes_of js) n e) ∙ length-append (nodes_of front) ((p, block_element u.node.2) ∷ n ∷ nodes_of u.after) ∙ (λ i. length-nodes_of front i + suc (suc (length-nodes_of u.after i))) in
-          omega (arith, l, a)
+      pub upto_lengths : length ns ≡ length f + length r
+      upto_lengths =
+          let l = lengths u in
+          let a : length f ≡ length front + 1 = ap length upto_is ∙ length-append front (u.node ∷ []) in
+          let b : length r ≡ length u.after = ap length (rest_is u r is_r) in
+          omega (arith, l, a, b)
+
+  -- how many nodes there are where one was put between two rows
+  pub put_length : (js front back : Row X) (n : Ptr × Element X) → nodes_of js ≡ nodes_of front ++ n ∷ nodes_of back → length front + length back + 1 ≡ length js
+  put_length js front back n e =
+      let a : length js ≡ length front + suc (length back) = sym (length-nodes_of js) ∙ ap length e ∙ length-append (nodes_of front) (n ∷ nodes_of back) ∙ (λ i. length-nodes_of front i + suc (length-nodes_of back i)) in
+      omega (arith, a)
 
   -- ---- neighbours
   last_split : (p h : Ptr) (ns : Row X) (t q : Ptr) → Segment p h ns t q → 0 < length ns → (xs : Row X) × (x : OwnedNode X) × (ns ≡ xs ++ x ∷ []) × (x.0 ≡ t)
@@ -275,21 +278,21 @@ module _ {X : Type 0} where
   none_last h [] t q f z e = refl
   none_last h (n ∷ ns) t q f z e = absurd (subst InBlock e (last_block null_ptr h n ns t q f z))
 
-  module _ (h t : Ptr) (ns front back : Row X) (p : Ptr) (u : Cut h t ns front back p) (v : Nodes X) (seen : nodes_of ns ≡ v) (z : AreNullComparable (box_addresses ns)) (b : Block X) (e : slice_get (box_values back) 0 ≡ Some b) where
+  module _ {h t : Ptr} {ns front back : Row X} {p : Ptr} (u : Cut h t ns front back p) (v : Nodes X) (seen : nodes_of ns ≡ v) (z : AreNullComparable (box_addresses ns)) (b : Block X) (e : slice_get (box_values back) 0 ≡ Some b) where
     here_is : v ≡ nodes_of front ++ (p, block_element u.node.2) ∷ nodes_of u.after
-    here_is = taken_is h t ns front back p u v u.node.2 seen refl
+    here_is = taken_is u v u.node.2 seen refl
 
     same : u.node.2 ≡ b
-    same = node_is h t ns front back p u b e
+    same = node_is u b e
 
     after_tested : AreNullComparable (box_addresses u.after)
-    after_tested = rest_tested h t ns front back p u u.after (sym (ap (drop 1) u.here)) z
+    after_tested = rest_tested u u.after (sym (ap (drop 1) u.here)) z
 
     pub next_testable : Testable (next_of b)
     next_testable = subst (λ (x : Block X). Testable (next_of x)) same (first_testable u.node.0 (next_of u.node.2) u.after t u.second after_tested)
 
     pub prev_testable : Testable (prev_of b)
-    prev_testable = subst (λ (x : Block X). Testable (prev_of x)) same (last_testable null_ptr h front (prev_of u.node.2) u.node.0 u.first (front_comparable h t ns front back p u z) null_Testable)
+    prev_testable = subst (λ (x : Block X). Testable (prev_of x)) same (last_testable null_ptr h front (prev_of u.node.2) u.node.0 u.first (front_comparable u z) null_Testable)
 
     pub next_there : InBlock (next_of b) → AreNext v p (next_of b)
     next_there i =
@@ -316,27 +319,8 @@ module _ {X : Type 0} where
 
     pub prev_none : prev_of b ≡ null_ptr → IsFirst v p
     prev_none i =
-        let none = none_last h front (prev_of u.node.2) u.node.0 u.first (front_comparable h t ns front back p u z) (ap (λ (x : Block X). prev_of x) same ∙ i) in
+        let none = none_last h front (prev_of u.node.2) u.node.0 u.first (front_comparable u z) (ap (λ (x : Block X). prev_of x) same ∙ i) in
         (block_element u.node.2, nodes_of u.after, here_is ∙ (λ j. none j ++ (p, block_element u.node.2) ∷ nodes_of u.after))
-
-  -- ---- the ends
-  module _ (h t : Ptr) (len : ℕ) (ns : Row X) (v : Nodes X) (seen : nodes_of ns ≡ v) (linked : IsLinked h t len ns) where
-    pub none_seen : len ≡ 0 → v ≡ []
-    none_seen e = sym seen ∙ go ns (sym linked.0 ∙ e) where
-      go : (ms : Row X) → length ms ≡ 0 → nodes_of ms ≡ []
-      go [] e = refl
-      go (m ∷ ms) e = absurd (omega (arith, e))
-
-    pub first_seen : 0 < len → IsFirst v h
-    first_seen some = let long = linked.0 in let on = go ns linked.2 (omega (arith, some, long)) in (on.0, on.1, sym seen ∙ on.2) where
-      go : (ms : Row X) → Segment null_ptr h ms t null_ptr → 0 < length ms → (e : Element X) × (after : Nodes X) × (nodes_of ms ≡ (h, e) ∷ after)
-      go [] f some = absurd (omega (arith, some))
-      go (m ∷ ms) f some = (block_element m.2, nodes_of ms, λ i. (sym f.0 i, block_element m.2) ∷ nodes_of ms)
-
-    pub last_seen : 0 < len → IsLast v t
-    last_seen some =
-        let long = linked.0 in let on = last_split null_ptr h ns t null_ptr linked.2 (omega (arith, some, long)) in
-        (nodes_of on.0, block_element on.1.2, sym seen ∙ ap nodes_of on.2 ∙ nodes_of-append on.0 (on.1 ∷ []) ∙ (λ i. nodes_of on.0 ++ (on.3 i, block_element on.1.2) ∷ []))
 
 -- a chain of one node, whose address is known
 pub sole_place : {X : Type 0} (c : Nodes X) (q p : Ptr) (e : Element X) → c ≡ (q, e) ∷ [] → slice_get (spots c) 0 ≡ Some p → c ≡ (p, e) ∷ []

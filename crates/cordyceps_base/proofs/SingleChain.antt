@@ -10,7 +10,7 @@ use Rattle.cordyceps_base.specs.Boxes.{box_addresses, box_values, set_value}
 use Rattle.cordyceps_base.specs.Element.{Element, values as values_of}
 use Rattle.cordyceps_base.specs.Nodes.{elements, nodes_of, block_element, OwnedNode}
 use Rattle.cordyceps_base.specs.Spots.{AreNullComparable}
-use Rattle.cordyceps_base.specs.SingleChain.{unless_null, next_of, with_next, relinked, Leads, EndsAfter, EndsAt, IsLed, IsLine, IsFront, IsParted}
+use Rattle.cordyceps_base.specs.SingleChain.{unless_null, next_of, with_next, with_next_of_last, Leads, EndsAfter, EndsAt, IsLed, IsLine, IsFront, IsParted}
 
 pub is_none : (h : Option Address) → is_some h ≡ false → h ≡ None
 is_none None e = refl
@@ -97,10 +97,10 @@ module _ {X : Type 0} where
   last_place [] t f p = absurd (omega arith)
   last_place (m ∷ ns) t f p = let less : length ns ≡ length (m ∷ ns) - 1 = omega arith in subst (λ j. slice_get (box_addresses (drop j (m ∷ ns))) 0 ≡ Some t) less (last_on m ns t f)
 
-  pub behind_item : (k : ℕ) (ns : List (OwnedNode X)) → slice_get (values_of (elements (nodes_of (drop k ns)))) 0 ≡ slice_get (values_of (elements (nodes_of ns))) k
-  behind_item zero ns = refl
-  behind_item (suc k) [] = refl
-  behind_item (suc k) (n ∷ ns) = behind_item k ns
+  pub item_after : (k : ℕ) (ns : List (OwnedNode X)) → slice_get (values_of (elements (nodes_of (drop k ns)))) 0 ≡ slice_get (values_of (elements (nodes_of ns))) k
+  item_after zero ns = refl
+  item_after (suc k) [] = refl
+  item_after (suc k) (n ∷ ns) = item_after k ns
 
   -- the only node
   pub single : (t : Ptr) (ns : List (OwnedNode X)) (g : Global) → EndsAt ns t → length (nodes_of ns) ≡ 1 → (x : Block X) × (ns ≡ (t, g, x) ∷ [])
@@ -110,28 +110,28 @@ module _ {X : Type 0} where
 
   -- ---- another link in the last node
   relink_on : (n : OwnedNode X) (ns : List (OwnedNode X)) (b : Block X) (p : Address) → slice_get (box_values (drop (length ns) (n ∷ ns))) 0 ≡ Some b
-      → take (length ns) (n ∷ ns) ++ set_value (drop (length ns) (n ∷ ns)) 0 (with_next b p) ≡ relinked (n ∷ ns) p
+      → take (length ns) (n ∷ ns) ++ set_value (drop (length ns) (n ∷ ns)) 0 (with_next b p) ≡ with_next_of_last (n ∷ ns) p
   relink_on n [] b p e = let same : b ≡ n.2 = cc in ap (λ (x : Block X). (n.0, n.1, with_next x p) ∷ []) same
   relink_on n (m ∷ ns) b p e = ap (λ l. n ∷ l) (relink_on m ns b p e)
 
   pub relink : (ns : List (OwnedNode X)) (b : Block X) (p : Address) → 0 < length ns → slice_get (box_values (drop (length ns - 1) ns)) 0 ≡ Some b
-      → take (length ns - 1) ns ++ set_value (drop (length ns - 1) ns) 0 (with_next b p) ≡ relinked ns p
+      → take (length ns - 1) ns ++ set_value (drop (length ns - 1) ns) 0 (with_next b p) ≡ with_next_of_last ns p
   relink [] b p some e = absurd (omega arith)
   relink (n ∷ ns) b p some e =
       let less : length (n ∷ ns) - 1 ≡ length ns = omega arith in
       let here = subst (λ j. slice_get (box_values (drop j (n ∷ ns))) 0 ≡ Some b) less e in
-      subst (λ j. take j (n ∷ ns) ++ set_value (drop j (n ∷ ns)) 0 (with_next b p) ≡ relinked (n ∷ ns) p) (sym less) (relink_on n ns b p here)
+      subst (λ j. take j (n ∷ ns) ++ set_value (drop j (n ∷ ns)) 0 (with_next b p) ≡ with_next_of_last (n ∷ ns) p) (sym less) (relink_on n ns b p here)
 
-  pub nodes_of-relinked : (ns : List (OwnedNode X)) (p : Address) → nodes_of (relinked ns p) ≡ nodes_of ns
-  nodes_of-relinked [] p = refl
-  nodes_of-relinked (n ∷ []) p = refl
-  nodes_of-relinked (n ∷ m ∷ ns) p = ap (λ l. (n.0, block_element n.2) ∷ l) (nodes_of-relinked (m ∷ ns) p)
+  pub nodes_of-with_next_of_last : (ns : List (OwnedNode X)) (p : Address) → nodes_of (with_next_of_last ns p) ≡ nodes_of ns
+  nodes_of-with_next_of_last [] p = refl
+  nodes_of-with_next_of_last (n ∷ []) p = refl
+  nodes_of-with_next_of_last (n ∷ m ∷ ns) p = ap (λ l. (n.0, block_element n.2) ∷ l) (nodes_of-with_next_of_last (m ∷ ns) p)
 
-  leads_relinked : (h z : Option Address) (p : Address) (n : OwnedNode X) (ns : List (OwnedNode X)) → Leads h (n ∷ ns) z → Leads h (relinked (n ∷ ns) p) (unless_null p)
-  leads_relinked h z p n [] f = (f.0, refl)
-  leads_relinked h z p n (m ∷ ns) f = (f.0, leads_relinked (next_of n.2) z p m ns f.1)
+  leads_with_next_of_last : (h z : Option Address) (p : Address) (n : OwnedNode X) (ns : List (OwnedNode X)) → Leads h (n ∷ ns) z → Leads h (with_next_of_last (n ∷ ns) p) (unless_null p)
+  leads_with_next_of_last h z p n [] f = (f.0, refl)
+  leads_with_next_of_last h z p n (m ∷ ns) f = (f.0, leads_with_next_of_last (next_of n.2) z p m ns f.1)
 
-  -- ---- one row behind another
+  -- ---- one row after another
   leads_append : (h z w : Option Address) (xs ys : List (OwnedNode X)) → Leads h xs z → Leads z ys w → Leads h (xs ++ ys) w
   leads_append h z w [] ys f g = subst (λ o. Leads o ys w) (sym f) g
   leads_append h z w (x ∷ xs) ys f g = (f.0, leads_append (next_of x.2) z w xs ys f.1 g)
@@ -153,12 +153,12 @@ module _ {X : Type 0} where
   ends_back (x ∷ xs) y ys t f = ends_back_after x.0 xs y ys t f
 
   pub line_join : (h q : Option Address) (p : Address) (t u : Ptr) (xs ys : List (OwnedNode X)) → unless_null p ≡ q → IsLine h t xs → IsLine q u ys → 0 < length xs → 0 < length ys
-      → IsLed h (relinked xs p ++ ys) × EndsAt (relinked xs p ++ ys) u
+      → IsLed h (with_next_of_last xs p ++ ys) × EndsAt (with_next_of_last xs p ++ ys) u
   line_join h q p t u [] ys e f g some more = absurd (omega arith)
   line_join h q p t u (x ∷ xs) [] e f g some more = absurd (omega arith)
   line_join h q p t u (x ∷ xs) (y ∷ ys) e f g some more = (
-    leads_append h (unless_null p) None (relinked (x ∷ xs) p) (y ∷ ys) (leads_relinked h None p x xs f.0) (subst (λ o. IsLed o (y ∷ ys)) (sym e) g.0),
-    ends_append (relinked (x ∷ xs) p) y ys u g.1,
+    leads_append h (unless_null p) None (with_next_of_last (x ∷ xs) p) (y ∷ ys) (leads_with_next_of_last h None p x xs f.0) (subst (λ o. IsLed o (y ∷ ys)) (sym e) g.0),
+    ends_append (with_next_of_last (x ∷ xs) p) y ys u g.1,
   )
 
   -- ---- a cursor
@@ -193,15 +193,15 @@ module _ {X : Type 0} where
   ends_here at some [] n f e = subst (λ l. EndsAt l n.0) (sym (append_assoc some (n ∷ []) [])) (ends_append some n [] n.0 refl)
   ends_here at some (m ∷ ms) n f e = cc
 
-  pub joined_behind : (h at : Option Address) (b t u : Ptr) (front rest : List (OwnedNode X)) (n : OwnedNode X) (p : Address) → p.ptr ≡ n.0 → InBlock n.0 → IsParted h b at t front rest → (¬ (h ≡ None)) → next_of n.2 ≡ at
-      → EndsAt (relinked front p ++ n ∷ [] ++ rest) u → IsParted h n.0 at u (relinked front p ++ n ∷ []) rest
-  joined_behind h at b t u [] rest n p lies there f not next ends = absurd (not f.0)
-  joined_behind h at b t u (m ∷ ms) rest n p lies there f not next ends =
+  pub joined_after : (h at : Option Address) (b t u : Ptr) (front rest : List (OwnedNode X)) (n : OwnedNode X) (p : Address) → p.ptr ≡ n.0 → InBlock n.0 → IsParted h b at t front rest → (¬ (h ≡ None)) → next_of n.2 ≡ at
+      → EndsAt (with_next_of_last front p ++ n ∷ [] ++ rest) u → IsParted h n.0 at u (with_next_of_last front p ++ n ∷ []) rest
+  joined_after h at b t u [] rest n p lies there f not next ends = absurd (not f.0)
+  joined_after h at b t u (m ∷ ms) rest n p lies there f not next ends =
       let leads : unless_null p ≡ Some (record { ptr = n.0 }) = subst (λ (q : Ptr). unless_null (record { ptr = q }) ≡ Some (record { ptr = n.0 })) (sym lies) (leads_there n.0 there) in
-      let all = leads_append h (unless_null p) at (relinked (m ∷ ms) p) (n ∷ []) (leads_relinked h at p m ms f.0) (leads, next) in
-      (front_of h at (m ∷ ms) p n all, ends_append (relinked (m ∷ ms) p) n [] n.0 refl, f.2, ends)
+      let all = leads_append h (unless_null p) at (with_next_of_last (m ∷ ms) p) (n ∷ []) (leads_with_next_of_last h at p m ms f.0) (leads, next) in
+      (front_of h at (m ∷ ms) p n all, ends_append (with_next_of_last (m ∷ ms) p) n [] n.0 refl, f.2, ends)
     where
-      front_of : (h at : Option Address) (ms : List (OwnedNode X)) (p : Address) (n : OwnedNode X) → Leads h (relinked ms p ++ n ∷ []) at → IsFront h (relinked ms p ++ n ∷ []) at
+      front_of : (h at : Option Address) (ms : List (OwnedNode X)) (p : Address) (n : OwnedNode X) → Leads h (with_next_of_last ms p ++ n ∷ []) at → IsFront h (with_next_of_last ms p ++ n ∷ []) at
       front_of h at [] p n f = f
       front_of h at (m ∷ []) p n f = f
       front_of h at (m ∷ k ∷ ms) p n f = f

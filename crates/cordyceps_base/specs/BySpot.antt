@@ -24,7 +24,7 @@ module _ {X : Type 0} where
       (before : Nodes X) × (o : Element X) × (after : Nodes X) × (c ≡ before ++ (p, o) ∷ after)
       × (d ≡ before ++ (q, e) ∷ (p, o) ∷ after)
 
-  -- the node e was put in behind that at p, and lies at q
+  -- the node e was put in after that at p, and lies at q
   abbrev pub IsPutAfter : Nodes X → Ptr → Ptr → Element X → Nodes X → Type 0
   IsPutAfter c p q e d =
       (before : Nodes X) × (o : Element X) × (after : Nodes X) × (c ≡ before ++ (p, o) ∷ after)

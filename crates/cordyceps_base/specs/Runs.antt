@@ -20,7 +20,7 @@ module _ {M S R : Type 0} (step : M → S → M × R) where
     pub told : replies ≡ replies_to old ran
 
   module _ {V : Type 0} (events : List V → M → S → R → List V) where
-    -- a history, and behind it the events of the steps
+    -- a history, and after it the events of the steps
     abbrev pub history_after : List V → M → List S → List V
     history_after h m [] = h
     history_after h m (s ∷ ss) = history_after (h ++ events h m s (step m s).1) (step m s).0 ss

@@ -27,10 +27,10 @@ module _ {X : Type 0} where
   with_next b p = record b { links = record b.links { next = p } }
 
   -- the nodes with another `next` in the last
-  abbrev pub relinked : List (OwnedNode X) → Address → List (OwnedNode X)
-  relinked [] p = []
-  relinked (n ∷ []) p = (n.0, n.1, with_next n.2 p) ∷ []
-  relinked (n ∷ m ∷ ns) p = n ∷ relinked (m ∷ ns) p
+  abbrev pub with_next_of_last : List (OwnedNode X) → Address → List (OwnedNode X)
+  with_next_of_last [] p = []
+  with_next_of_last (n ∷ []) p = (n.0, n.1, with_next n.2 p) ∷ []
+  with_next_of_last (n ∷ m ∷ ns) p = n ∷ with_next_of_last (m ∷ ns) p
 
   -- h leads to the first node, each `next` to the node after, and the last `next` is z
   abbrev pub Leads : Option Address → List (OwnedNode X) → Option Address → Type 0

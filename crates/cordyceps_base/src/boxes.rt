@@ -96,20 +96,6 @@ unsafe impl<B: Sync, A: Allocator> Sync for Boxes<B, A> {}
 impl<B, A: Allocator> Boxes<B, A> {
     ghost use Rattle.cordyceps_base.specs.BoxesLends.{lends_value};
 
-    /// Returns the owner of no box.
-    pub(crate) fn empty() -> Boxes<B, A>
-        ensures { result.blocks ≡ [] }
-    {
-        Boxes { mark: PhantomData }
-    }
-
-    /// Ends the owner of no box.
-    pub(crate) fn discard(self)
-        requires { self.blocks ≡ [] }
-    {
-        let Boxes { mark: _ } = self;
-    }
-
     /// Returns the address and the allocator of a box, and its owner.
     pub(crate) fn one(block: RawBox<B, A>) -> (Address, A, Boxes<B, A>)
         ensures { result.2.blocks ≡ (result.0.ptr, result.1, block.value) ∷ [] }
@@ -127,6 +113,55 @@ impl<B, A: Allocator> Boxes<B, A> {
         let Boxes { mark: _ } = self;
         let at = at.ptr as *mut B;
         RawBox { at, alloc }
+    }
+
+    /// Returns a reference to the value of box `k`, which is at `at`. Only the contract needs `k`.
+    pub(crate) fn get(&self, at: Address, k: usize) -> &B
+        requires { slice_get (box_addresses self.now.blocks) k ≡ Some at.ptr }
+        ensures { slice_get (box_values self.now.blocks) k ≡ Some result.now }
+    {
+        let at = at.ptr as *mut B;
+        unsafe { &*at }
+    }
+
+    /// Returns a mutable reference to the value of box `k`, which is at `at`. Only the contract needs `k`.
+    pub(crate) fn get_mut(&mut self, at: Address, k: usize) -> &mut B
+        requires { slice_get (box_addresses self.old.blocks) k ≡ Some at.ptr }
+        ensures* writes_back { sem 𝓛 (lends_value B.row A.row A.Allocator self.entry k result) }
+        ensures value { slice_get (box_values self.old.blocks) k ≡ Some result.now }
+    {
+        let at = at.ptr as *mut B;
+        unsafe { &mut *at }
+    }
+
+    /// Returns a mutable reference to the value of the first box at `at`.
+    pub(crate) fn at_mut(&mut self, at: Address) -> &mut B
+        requires { (k : ℕ) × (slice_get (box_addresses self.old.blocks) k ≡ Some at.ptr) }
+        ensures* writes_back { sem 𝓛
+            (lends_value B.row A.row A.Allocator self.entry (index_of at.ptr (box_addresses self.old.blocks)) result) }
+        ensures value { slice_get (box_values self.old.blocks) (index_of at.ptr (box_addresses self.old.blocks))
+            ≡ Some result.now }
+    {
+        let at = at.ptr as *mut B;
+        unsafe { &mut *at }
+    }
+}
+
+// These do nothing at run time: an owner has no size. Their contracts state which boxes it owns, or what is known of
+// their addresses.
+impl<B, A: Allocator> Boxes<B, A> {
+    /// Returns the owner of no box.
+    pub(crate) fn empty() -> Boxes<B, A>
+        ensures { result.blocks ≡ [] }
+    {
+        Boxes { mark: PhantomData }
+    }
+
+    /// Ends the owner of no box.
+    pub(crate) fn discard(self)
+        requires { self.blocks ≡ [] }
+    {
+        let Boxes { mark: _ } = self;
     }
 
     /// Joins two owners to one of the boxes of both.
@@ -150,6 +185,15 @@ impl<B, A: Allocator> Boxes<B, A> {
     pub(crate) fn cut_at(self, at: Address) -> (Boxes<B, A>, Boxes<B, A>)
         ensures { let k = index_of at.ptr (box_addresses self.blocks) in
             (result.0.blocks ≡ take k self.blocks) × (result.1.blocks ≡ drop k self.blocks) }
+    {
+        let Boxes { mark: _ } = self;
+        (Boxes { mark: PhantomData }, Boxes { mark: PhantomData })
+    }
+
+    /// Splits the owner into that of all boxes but the last and that of the last.
+    pub(crate) fn cut_last(self) -> (Boxes<B, A>, Boxes<B, A>)
+        ensures { let count = length self.blocks - 1 in
+            (result.0.blocks ≡ take count self.blocks) × (result.1.blocks ≡ drop count self.blocks) }
     {
         let Boxes { mark: _ } = self;
         (Boxes { mark: PhantomData }, Boxes { mark: PhantomData })
@@ -183,48 +227,9 @@ impl<B, A: Allocator> Boxes<B, A> {
     {
         self
     }
-
-    /// Splits the owner into that of all boxes but the last and that of the last.
-    pub(crate) fn cut_last(self) -> (Boxes<B, A>, Boxes<B, A>)
-        ensures { let count = length self.blocks - 1 in
-            (result.0.blocks ≡ take count self.blocks) × (result.1.blocks ≡ drop count self.blocks) }
-    {
-        let Boxes { mark: _ } = self;
-        (Boxes { mark: PhantomData }, Boxes { mark: PhantomData })
-    }
-
-    /// Returns a reference to the value of box `k`, which is at `at`. Only the contract needs `k`.
-    pub(crate) fn get(&self, at: Address, k: usize) -> &B
-        requires { slice_get (box_addresses self.now.blocks) k ≡ Some at.ptr }
-        ensures { slice_get (box_values self.now.blocks) k ≡ Some result.now }
-    {
-        let at = at.ptr as *mut B;
-        unsafe { &*at }
-    }
-
-    /// Returns a mutable reference to the value of the first box at `at`.
-    pub(crate) fn at_mut(&mut self, at: Address) -> &mut B
-        requires { (k : ℕ) × (slice_get (box_addresses self.old.blocks) k ≡ Some at.ptr) }
-        ensures* writes_back { sem 𝓛
-            (lends_value B.row A.row A.Allocator self.entry (index_of at.ptr (box_addresses self.old.blocks)) result) }
-        ensures value { slice_get (box_values self.old.blocks) (index_of at.ptr (box_addresses self.old.blocks))
-            ≡ Some result.now }
-    {
-        let at = at.ptr as *mut B;
-        unsafe { &mut *at }
-    }
-
-    /// Returns a mutable reference to the value of box `k`, which is at `at`. Only the contract needs `k`.
-    pub(crate) fn get_mut(&mut self, at: Address, k: usize) -> &mut B
-        requires { slice_get (box_addresses self.old.blocks) k ≡ Some at.ptr }
-        ensures* writes_back { sem 𝓛 (lends_value B.row A.row A.Allocator self.entry k result) }
-        ensures value { slice_get (box_values self.old.blocks) k ≡ Some result.now }
-    {
-        let at = at.ptr as *mut B;
-        unsafe { &mut *at }
-    }
 }
 
+// Nor does this one, for boxes of `Global`.
 impl<B> Boxes<B, Global> {
     /// Returns the same boxes. Its contract states that their addresses may be compared with null.
     pub(crate) fn null_comparable(self) -> Boxes<B, Global>

@@ -3,7 +3,8 @@ ghost use Rattle.std.specs.Prelude.{◌≡◌, ℕ, ◌+◌, ◌-◌, ◌^◌, �
 ghost use Rattle.std.specs.Borrow.{sem};
 ghost use denote.RawPtr.{Ptr};
 ghost use Rattle.cordyceps_base.specs.Element.{ids, values};
-ghost use Rattle.cordyceps_base.specs.Nodes.{elements, nodes_of, IsAt};
+ghost use Rattle.cordyceps_base.specs.Nodes.{elements, nodes_of, spots, IsAt};
+ghost use Rattle.cordyceps_base.specs.Spots.{AreDistinct};
 
 mod by_address;
 
@@ -306,30 +307,44 @@ impl<T> DoubleChain<T> {
 }
 
 impl<T: Drop> DoubleChain<T> {
-    /// Prepends a node. Requires a length below `usize::MAX`.
-    pub fn link_front(&mut self, node: Node<T, Links<T>>)
+    /// Prepends a node and returns its address. Requires a length below `usize::MAX`.
+    pub fn link_front(&mut self, node: Node<T, Links<T>>) -> Address
         requires { length self.old + 1 < 2 ^ 64 }
-        ensures { (address : Ptr) × (self.new ≡ (address, node) ∷ self.old) }
+        ensures holds { self.new ≡ (result.ptr, node) ∷ self.old }
+        ensures distinct { AreDistinct (spots self.new) }
     {
         if self.len == 0 {
-            self.put(DoubleChain::one(node));
-            return;
+            return self.link_only(node);
         }
-        let (nodes, _) = self.take().with_first(node);
-        self.put(nodes);
+        let (nodes, address) = self.take().with_first(node);
+        self.put(nodes.distinct());
+        address
     }
 
-    /// Appends a node. Requires a length below `usize::MAX`.
-    pub fn link_back(&mut self, node: Node<T, Links<T>>)
+    /// Appends a node and returns its address. Requires a length below `usize::MAX`.
+    pub fn link_back(&mut self, node: Node<T, Links<T>>) -> Address
         requires { length self.old + 1 < 2 ^ 64 }
-        ensures { (address : Ptr) × (self.new ≡ self.old ++ (address, node) ∷ []) }
+        ensures holds { self.new ≡ self.old ++ (result.ptr, node) ∷ [] }
+        ensures distinct { AreDistinct (spots self.new) }
     {
         if self.len == 0 {
-            self.put(DoubleChain::one(node));
-            return;
+            return self.link_only(node);
         }
-        let (nodes, _) = self.take().with_last(node);
-        self.put(nodes);
+        let (nodes, address) = self.take().with_last(node);
+        self.put(nodes.distinct());
+        address
+    }
+
+    /// Links a node into an empty chain and returns its address.
+    fn link_only(&mut self, node: Node<T, Links<T>>) -> Address
+        requires { self.old ≡ [] }
+        ensures holds { self.new ≡ (result.ptr, node) ∷ [] }
+        ensures distinct { AreDistinct (spots self.new) }
+    {
+        let one = DoubleChain::one(node);
+        let address = one.head();
+        self.put(one.distinct());
+        address
     }
 
     /// Removes the first node and returns it. Requires that the chain is not empty.
@@ -544,10 +559,12 @@ impl<T: Drop> DoubleChain<T> {
         ensures { (address : Ptr) × (self.new ≡ take k self.old ++ (address, node) ∷ drop k self.old) }
     {
         if k == 0 {
-            return self.link_front(node);
+            self.link_front(node);
+            return;
         }
         if k == self.len {
-            return self.link_back(node);
+            self.link_back(node);
+            return;
         }
         let nodes = self.take().with_inner(at, k, node);
         self.put(nodes);

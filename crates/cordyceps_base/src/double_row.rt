@@ -15,6 +15,14 @@ use std::marker::PhantomData;
 /// The nodes of a chain, or of a part of one.
 pub(crate) type Row<T> = Boxes<Block<T>, Global>;
 
+/// A part of a chain: its row, and the addresses of its first and its last node. If it has no node, `first` is the
+/// address of the node after it, and `last` of the one before it.
+pub(crate) struct Part<T> {
+    pub(crate) first: Address,
+    pub(crate) last: Address,
+    pub(crate) row: Row<T>,
+}
+
 /// Returns the one node of a row.
 pub(crate) fn node_of<T: Drop>(at: Address, row: Row<T>) -> Node<T, Links<T>>
     requires { (a : Global) × (x : Block T) × (row.blocks ≡ (at.ptr, a, x) ∷ []) }
@@ -71,31 +79,39 @@ pub(crate) fn preceded_by<T>(
     }
 }
 
-/// Links a node between two rows. Returns its address, those of the first and the last node, and the whole row.
+/// Links a node between the front part of a chain and the back part. Returns its address and the whole.
 pub(crate) fn between<T: Drop>(
-    front: Row<T>,
-    head: Address,
-    prev: Address,
+    front: Part<T>,
     node: Node<T, Links<T>>,
-    next: Address,
-    back: Row<T>,
-    tail: Address,
-) -> (Address, Address, Address, Row<T>)
-    requires front { (q : Ptr) × Segment null_ptr head.ptr front.blocks prev.ptr q }
-    requires back { (p : Ptr) × Segment p next.ptr back.blocks tail.ptr null_ptr }
-    requires front_comparable { AreNullComparable (box_addresses front.blocks) }
-    requires back_comparable { AreNullComparable (box_addresses back.blocks) }
-    ensures linked { Segment null_ptr result.1.ptr result.3.blocks result.2.ptr null_ptr }
-    ensures holds { nodes_of result.3.blocks ≡ nodes_of front.blocks ++ (result.0.ptr, node) ∷ nodes_of back.blocks }
+    back: Part<T>,
+) -> (Address, Part<T>)
+    requires front { (q : Ptr) × Segment null_ptr front.first.ptr front.row.blocks front.last.ptr q }
+    requires back { (p : Ptr) × Segment p back.first.ptr back.row.blocks back.last.ptr null_ptr }
+    requires front_comparable { AreNullComparable (box_addresses front.row.blocks) }
+    requires back_comparable { AreNullComparable (box_addresses back.row.blocks) }
+    ensures linked { Segment null_ptr result.1.first.ptr result.1.row.blocks result.1.last.ptr null_ptr }
+    ensures holds { nodes_of result.1.row.blocks
+        ≡ nodes_of front.row.blocks ++ (result.0.ptr, node) ∷ nodes_of back.row.blocks }
 {
+    let Part {
+        first: head,
+        last: prev,
+        row: front,
+    } = front;
+    let Part {
+        first: next,
+        last: tail,
+        row: back,
+    } = back;
     let Node { block, kind: _ } = node;
     let (at, _, one) = Boxes::one(RawBox::from_box(block));
     let mut one = one;
     one.get_mut(at, 0).links.next = next;
     one.get_mut(at, 0).links.prev = prev;
-    let (head, front) = followed_by(front, head, prev, at);
-    let (tail, back) = preceded_by(back, next, tail, at);
-    (at, head, tail, front.join(one.join(back)))
+    let (first, front) = followed_by(front, head, prev, at);
+    let (last, back) = preceded_by(back, next, tail, at);
+    let row = front.join(one.join(back));
+    (at, Part { first, last, row })
 }
 
 /// Removes node `k`, which is at `at` and has a neighbour on either side. Returns the node and the row.

@@ -4,7 +4,7 @@ ghost use Rattle.std.specs.Iterator.{YieldsFirstRef, item_count};
 ghost use denote.RawPtr.{Ptr, InBlock, Testable};
 ghost use Rattle.cordyceps_base.specs.Element.{Element, ids, values};
 ghost use Rattle.cordyceps_base.specs.Nodes.{elements};
-ghost use Rattle.cordyceps_base.specs.SingleChain.{EndsAt, relinked, unless_null};
+ghost use Rattle.cordyceps_base.specs.SingleChain.{EndsAt, with_next_of_last, unless_null};
 
 use crate::boxes::{Address, Boxes, RawBox};
 use crate::node::{Block, Node};
@@ -42,7 +42,7 @@ fn not_null(address: Address) -> Option<Address>
 fn with_last_link<T>(row: Row<T>, last: Address, next: Address) -> Row<T>
     requires some { 0 < length row.blocks }
     requires at { EndsAt row.blocks last.ptr }
-    ensures { result.blocks ≡ relinked row.blocks next }
+    ensures { result.blocks ≡ with_next_of_last row.blocks next }
 {
     let (front, mut end) = row.cut_last();
     end.get_mut(last, 0).links.next = next;

@@ -8,14 +8,14 @@ use Rattle.std.specs.Iterator.{CallableAtEachTurn, Yields}
 use Rattle.std.specs.List.{All, FoldsTo}
 use Rattle.cordyceps_base.specs.Element.{Element, Elements, values}
 use Rattle.cordyceps_list.specs.Filter.{RemovesFirst}
-use Rattle.cordyceps_list.specs.Walk.{Walks, MayAsk, MayAskAll}
+use Rattle.cordyceps_list.specs.Walks.{Walks, MayAsk, MayAskAll}
 
 module _ {X F : Type 0} {R : F → X → F → Type 0} {Q : F → X → Type 0} where
   at_first : (x : X) (xs : List X) (f : F) → CallableAtEachTurn list_steps R Q (x ∷ xs) f → Q f x
   at_first x xs f h = h.at [] (x ∷ xs) f x xs refl refl refl
 
-  behind_first : (x : X) (xs : List X) (f n : F) → CallableAtEachTurn list_steps R Q (x ∷ xs) f → R f x n → CallableAtEachTurn list_steps R Q xs n
-  behind_first x xs f n h r = record { at = λ ys t q y u along calls step. h.at (x ∷ ys) t q y u (xs, refl, along) (n, r, calls) step }
+  after_first : (x : X) (xs : List X) (f n : F) → CallableAtEachTurn list_steps R Q (x ∷ xs) f → R f x n → CallableAtEachTurn list_steps R Q xs n
+  after_first x xs f n h r = record { at = λ ys t q y u along calls step. h.at (x ∷ ys) t q y u (xs, refl, along) (n, r, calls) step }
 
 follows : {X : Type 0} (xs : List X) (k : ℕ) (x : X) → slice_get xs k ≡ Some x → drop k xs ≡ x ∷ drop (suc k) xs
 follows [] zero x h = absurd cc
@@ -67,24 +67,24 @@ module _ {F X : Type 0} (g : Mut F (Bor X × Unit {0}) Bool) where
   pub may_ask_each : (xs : List X) (f : F) → ((q : F) → All (TakesAt g q) xs) → MayAskAll g xs f
   may_ask_each xs f each = record { at = λ ys t q x u along calls step. subst (All (TakesAt g q)) step (all_left (TakesAt g q) xs ys t along (each q)) 0 x (omega arith) }
 
-  -- the first of the values to be asked of, and the others behind a `false`
+  -- the first of the values to be asked of, and the others after a `false`
   pub may_ask_here : (xs : List X) (k : ℕ) (x : X) (f : F) → slice_get xs k ≡ Some x → MayAsk g (drop k xs) f → TakesAt g f x
   may_ask_here xs k x f there h = at_first x (drop (suc k) xs) f (subst (λ l. MayAsk g l f) (follows xs k x there) h)
 
   pub may_ask_on : (xs : List X) (k : ℕ) (x : X) (f n : F) → slice_get xs k ≡ Some x → CalledAt g f x false n → MayAsk g (drop k xs) f → MayAsk g (drop (k + 1) xs) n
   may_ask_on xs k x f n there call h =
       let e : suc k ≡ k + 1 = omega arith in
-      subst (λ i. MayAsk g (drop i xs) n) e (behind_first x (drop (suc k) xs) f n (subst (λ l. MayAsk g l f) (follows xs k x there) h) call)
+      subst (λ i. MayAsk g (drop i xs) n) e (after_first x (drop (suc k) xs) f n (subst (λ l. MayAsk g l f) (follows xs k x there) h) call)
 
   walked : (xs : List X) (n : ℕ) (f h : F) → Walks (CalledAt g) f xs n h → MayAskAll g xs f → MayAskAll g (drop (suc n) xs) h
   walked [] n f h (none, same) may = subst (MayAskAll g []) (sym same) may
   walked (x ∷ xs) n f h (true, next, call, (none, same)) may =
-      subst (λ i. MayAskAll g (drop i xs) h) (sym none) (subst (MayAskAll g xs) (sym same) (behind_first x xs f next may (true, call)))
+      subst (λ i. MayAskAll g (drop i xs) h) (sym none) (subst (MayAskAll g xs) (sym same) (after_first x xs f next may (true, call)))
   walked (x ∷ xs) n f h (false, next, call, (m, more, walk)) may =
       let e : suc m ≡ n = omega (arith, more) in
-      subst (λ i. MayAskAll g (drop i xs) h) e (walked xs m next h walk (behind_first x xs f next may (false, call)))
+      subst (λ i. MayAskAll g (drop i xs) h) e (walked xs m next h walk (after_first x xs f next may (false, call)))
 
-  -- behind the first element that passes, where that was taken out
+  -- after the first element that passes, where that was taken out
   pub may_ask_rest : {H : Type 0} (element : H → Element X) (s t : Elements X) (k j : ℕ) (f h : F) (r : Option H) → MayAskAll g (drop k (values s)) f → RemovesFirst element (CalledAt g) s k f r t j h → MayAskAll g (drop j (values t)) h
   may_ask_rest element s t k j f h r may removes =
       let rest = walked (drop k (values s)) (j - k) f h removes.walks may in

@@ -8,7 +8,7 @@ use Rattle.std.specs.Iterator.{MakesProgress, at_most}
 use Rattle.cordyceps_base.specs.Element.{Element, Elements, values}
 use Rattle.cordyceps_list.specs.DrainFilter.{elements, place, predicate_of, drain_steps}
 use Rattle.cordyceps_list.specs.declared.filter.DrainFilter.{DrainFilter}
-use Rattle.cordyceps_list.specs.Walk.{MayAskAll}
+use Rattle.cordyceps_list.specs.Walks.{MayAskAll}
 use Rattle.cordyceps_list.proofs.Asking.{may_ask_rest}
 
 fewer : {X : Type 0} (s t : Elements X) (k j : ℕ) (e : Element X) → k ≤ j → Some e ≡ slice_get s j → t ≡ take j s ++ drop (j + 1) s → length t - j < length s - k

@@ -1,21 +1,21 @@
 -- The first element with a number.
 use Rattle.std.proofs.Common.{◌≡◌, ℕ, zero, suc, ◌+◌, eqb, true, false, cond, [], ◌∷◌, ◌++◌, take, drop, slice_get, Some, refl, ap, sym, ◌∙◌, add-one, append_assoc}
-use Rattle.cordyceps_base.specs.Element.{Element, Elements, ids, found, without}
+use Rattle.cordyceps_base.specs.Element.{Element, Elements, first_with_id, ids, without_id}
 
 -- what stands at a place
-record StandsAt {X : Type 0} (s : Elements X) (at n : ℕ) : Type 0 where
+record StandsAt {X : Type 0} (s : Elements X) (index n : ℕ) : Type 0 where
   pub here : Element X
   pub number : here.id ≡ n
-  pub follows : drop at s ≡ here ∷ drop (at + 1) s
-  pub before : take (at + 1) s ≡ take at s ++ here ∷ []
-  pub there : slice_get s at ≡ Some here
+  pub follows : drop index s ≡ here ∷ drop (index + 1) s
+  pub before : take (index + 1) s ≡ take index s ++ here ∷ []
+  pub there : slice_get s index ≡ Some here
 
-stands : {X : Type 0} (s : Elements X) (at n : ℕ) → slice_get (ids s) at ≡ Some n → StandsAt s at n
+stands : {X : Type 0} (s : Elements X) (index n : ℕ) → slice_get (ids s) index ≡ Some n → StandsAt s index n
 stands [] zero n h = absurd cc
-stands [] (suc at) n h = absurd cc
+stands [] (suc index) n h = absurd cc
 stands (e ∷ s) zero n h = record { here = e; number = cc; follows = refl; before = refl; there = refl }
-stands (e ∷ s) (suc at) n h =
-    let k = stands s at n h in
+stands (e ∷ s) (suc index) n h =
+    let k = stands s index n h in
     record {
       here = k.here;
       number = k.number;
@@ -25,25 +25,25 @@ stands (e ∷ s) (suc at) n h =
     }
 
 -- none of the elements before a place has the number
-pub record Unmet {X : Type 0} (id : ℕ) (s : Elements X) (at : ℕ) : Type 0 where
-  pub answer : found id s ≡ found id (drop at s)
-  pub kept : without id s ≡ take at s ++ without id (drop at s)
+pub record Unmet {X : Type 0} (id : ℕ) (s : Elements X) (index : ℕ) : Type 0 where
+  pub answer : first_with_id id s ≡ first_with_id id (drop index s)
+  pub kept : without_id id s ≡ take index s ++ without_id id (drop index s)
 
-pub unmet_more : {X : Type 0} (id : ℕ) (s : Elements X) (at n : ℕ) → slice_get (ids s) at ≡ Some n → eqb n id ≡ false → Unmet id s at → Unmet id s (at + 1)
-unmet_more id s at n h d u =
-    let k = stands s at n h in
+pub unmet_more : {X : Type 0} (id : ℕ) (s : Elements X) (index n : ℕ) → slice_get (ids s) index ≡ Some n → eqb n id ≡ false → Unmet id s index → Unmet id s (index + 1)
+unmet_more id s index n h d u =
+    let k = stands s index n h in
     let e : eqb k.here.id id ≡ false = rw k.number d in
-    let here : found id (drop at s) ≡ found id (drop (at + 1) s) = rw k.follows (ap (λ b. cond b (Some k.here) (found id (drop (at + 1) s))) e) in
-    let gone : without id (drop at s) ≡ k.here ∷ without id (drop (at + 1) s) = rw k.follows (ap (λ b. cond b (drop (at + 1) s) (k.here ∷ without id (drop (at + 1) s))) e) in
+    let here : first_with_id id (drop index s) ≡ first_with_id id (drop (index + 1) s) = rw k.follows (ap (λ b. cond b (Some k.here) (first_with_id id (drop (index + 1) s))) e) in
+    let gone : without_id id (drop index s) ≡ k.here ∷ without_id id (drop (index + 1) s) = rw k.follows (ap (λ b. cond b (drop (index + 1) s) (k.here ∷ without_id id (drop (index + 1) s))) e) in
     record {
       answer = u.answer ∙ here;
-      kept = u.kept ∙ ap (λ t. take at s ++ t) gone ∙ sym (append_assoc (take at s) (k.here ∷ []) (without id (drop (at + 1) s))) ∙ ap (λ t. t ++ without id (drop (at + 1) s)) (sym k.before);
+      kept = u.kept ∙ ap (λ t. take index s ++ t) gone ∙ sym (append_assoc (take index s) (k.here ∷ []) (without_id id (drop (index + 1) s))) ∙ ap (λ t. t ++ without_id id (drop (index + 1) s)) (sym k.before);
     }
 
-pub found_at : {X : Type 0} (id : ℕ) (s : Elements X) (at n : ℕ) → slice_get (ids s) at ≡ Some n → eqb n id ≡ true → Unmet id s at → (found id s ≡ slice_get s at) × (without id s ≡ take at s ++ drop (at + 1) s)
-found_at id s at n h d u =
-    let k = stands s at n h in
+pub found_at : {X : Type 0} (id : ℕ) (s : Elements X) (index n : ℕ) → slice_get (ids s) index ≡ Some n → eqb n id ≡ true → Unmet id s index → (first_with_id id s ≡ slice_get s index) × (without_id id s ≡ take index s ++ drop (index + 1) s)
+found_at id s index n h d u =
+    let k = stands s index n h in
     let e : eqb k.here.id id ≡ true = rw k.number d in
-    let here : found id (drop at s) ≡ Some k.here = rw k.follows (ap (λ b. cond b (Some k.here) (found id (drop (at + 1) s))) e) in
-    let gone : without id (drop at s) ≡ drop (at + 1) s = rw k.follows (ap (λ b. cond b (drop (at + 1) s) (k.here ∷ without id (drop (at + 1) s))) e) in
-    (u.answer ∙ here ∙ sym k.there, u.kept ∙ ap (λ t. take at s ++ t) gone)
+    let here : first_with_id id (drop index s) ≡ Some k.here = rw k.follows (ap (λ b. cond b (Some k.here) (first_with_id id (drop (index + 1) s))) e) in
+    let gone : without_id id (drop index s) ≡ drop (index + 1) s = rw k.follows (ap (λ b. cond b (drop (index + 1) s) (k.here ∷ without_id id (drop (index + 1) s))) e) in
+    (u.answer ∙ here ∙ sym k.there, u.kept ∙ ap (λ t. take index s ++ t) gone)

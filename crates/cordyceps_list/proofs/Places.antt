@@ -19,40 +19,40 @@ module _ {X : Type 0} where
       let short = length-take k c in
       record {
         within = omega arith;
-        on = λ on_node. subst (λ (e : Nodes X). IsAt e f.index f.at) (sym is) (spot_before c more k f.index f.at.ptr before (fits.on (omega arith)));
+        on = λ on_node. subst (λ (e : Nodes X). IsAt e f.index f.address) (sym is) (spot_before c more k f.index f.address.ptr before (fits.on (omega arith)));
       }
 
   fits_splice : (c d more : Nodes X) (old new : Finger) (k count : ℕ) → FingerFits c old → k ≤ length c → d ≡ take k c ++ (more ++ drop k c) → count ≡ length more → PutsIn k count old new → FingerFits d new
   fits_splice c d more old new k count fits front is many change = elim (cases_lt old.index k) as (λ _. FingerFits d new) [
     | inl before ↦ subst (FingerFits d) (sym (change.0 before)) (fits_kept c d old k (more ++ drop k c) fits before front is)
-    | inr behind ↦
+    | inr later ↦
         let long = ap length is ∙ length-append (take k c) (more ++ drop k c) in
         let rest = length-append more (drop k c) in
         let short = length-take k c in
         let left = length-drop k c in
         let within = fits.within in
-        let at = old.at.ptr in
-        subst (FingerFits d) (sym (change.1 behind)) (record {
+        let address = old.address.ptr in
+        subst (FingerFits d) (sym (change.1 later)) (record {
           within = omega arith;
           on = λ on_node.
-              let there = spot_pushed c more k old.index at behind (fits.on (omega arith)) in
-              subst (λ (e : Nodes X). slice_get (spots e) (old.index + count) ≡ Some at) (sym is) (subst (λ (n : ℕ). slice_get (spots (take k c ++ (more ++ drop k c))) (old.index + n) ≡ Some at) (sym many) there);
+              let there = spot_pushed c more k old.index address later (fits.on (omega arith)) in
+              subst (λ (e : Nodes X). slice_get (spots e) (old.index + count) ≡ Some address) (sym is) (subst (λ (n : ℕ). slice_get (spots (take k c ++ (more ++ drop k c))) (old.index + n) ≡ Some address) (sym many) there);
         })
   ]
 
   fits_unlink : (c d : Nodes X) (old new : Finger) (k len : ℕ) → FingerFits c old → k < length c → d ≡ take k c ++ drop (k + 1) c → len ≡ length d → TakesOut k len old new → FingerFits d new
   fits_unlink c d old new k len fits inside is many change = elim (cases_lt old.index k) as (λ _. FingerFits d new) [
     | inl before ↦ subst (FingerFits d) (sym (change.0 before)) (fits_kept c d old k (drop (k + 1) c) fits before (omega arith) is)
-    | inr behind ↦ elim (cases_lt k old.index) as (λ _. FingerFits d new) [
+    | inr later ↦ elim (cases_lt k old.index) as (λ _. FingerFits d new) [
       | inl after ↦
           let long = ap length is ∙ length-append (take k c) (drop (k + 1) c) in
           let short = length-take k c in
           let left = length-drop (k + 1) c in
           let within = fits.within in
-          let at = old.at.ptr in
+          let address = old.address.ptr in
           subst (FingerFits d) (sym (change.2 after)) (record {
             within = omega arith;
-            on = λ on_node. subst (λ (e : Nodes X). slice_get (spots e) (old.index - 1) ≡ Some at) (sym is) (spot_pulled c k old.index at after (fits.on (omega arith)));
+            on = λ on_node. subst (λ (e : Nodes X). slice_get (spots e) (old.index - 1) ≡ Some address) (sym is) (spot_pulled c k old.index address after (fits.on (omega arith)));
           })
       | inr not_after ↦
           let gone : new.index ≡ len = change.1 (omega arith) in
@@ -61,24 +61,24 @@ module _ {X : Type 0} where
   ]
 
   -- on the node that comes where one was taken out
-  fits_next : (c d : Nodes X) (f : Finger) (k : ℕ) → k < length c → d ≡ take k c ++ drop (k + 1) c → f.index ≡ k → (k + 1 < length c → IsAt c (k + 1) f.at) → FingerFits d f
+  fits_next : (c d : Nodes X) (f : Finger) (k : ℕ) → k < length c → d ≡ take k c ++ drop (k + 1) c → f.index ≡ k → (k + 1 < length c → IsAt c (k + 1) f.address) → FingerFits d f
   fits_next c d f k inside is here next =
       let long = ap length is ∙ length-append (take k c) (drop (k + 1) c) in
       let short = length-take k c in
       let left = length-drop (k + 1) c in
-      let at = f.at.ptr in
+      let address = f.address.ptr in
       record {
         within = omega arith;
         on = λ on_node.
-            let there : slice_get (spots (take k c ++ drop (k + 1) c)) (k + 1 - 1) ≡ Some at = spot_pulled c k (k + 1) at (omega arith) (next (omega arith)) in
-            subst (λ (e : Nodes X). slice_get (spots e) f.index ≡ Some at) (sym is) (subst (λ (n : ℕ). slice_get (spots (take k c ++ drop (k + 1) c)) n ≡ Some at) (omega arith) there);
+            let there : slice_get (spots (take k c ++ drop (k + 1) c)) (k + 1 - 1) ≡ Some address = spot_pulled c k (k + 1) address (omega arith) (next (omega arith)) in
+            subst (λ (e : Nodes X). slice_get (spots e) f.index ≡ Some address) (sym is) (subst (λ (n : ℕ). slice_get (spots (take k c ++ drop (k + 1) c)) n ≡ Some address) (omega arith) there);
       }
 
   fits_front : (c d : Nodes X) (old new : Finger) (k : ℕ) → FingerFits c old → k ≤ length c → d ≡ take k c → ChangesAfter k k old new → FingerFits d new
   fits_front c d old new k fits front is change = elim (cases_lt old.index k) as (λ _. FingerFits d new) [
     | inl before ↦ subst (FingerFits d) (sym (change.0 before)) (fits_kept c d old k [] fits before front (is ∙ sym (append-nil (take k c))))
-    | inr behind ↦
-        let gone : new.index ≡ k = change.1 behind in
+    | inr later ↦
+        let gone : new.index ≡ k = change.1 later in
         let long = ap length is ∙ length-take k c in
         record { within = omega arith; on = λ on_node. absurd (omega arith) }
   ]
@@ -92,7 +92,7 @@ module _ {X : Type 0} where
       record { front = fits_unlink c d old.front new.front k len fit.front inside is many f; back = fits_unlink c d old.back new.back k len fit.back inside is many b }
 
   -- the same where the front finger is put on the node that comes there
-  pub fit_removed : (c d : Nodes X) (old : Finger) (new : Fingers) (k len : ℕ) → FingerFits c old → k < length c → d ≡ take k c ++ drop (k + 1) c → len ≡ length d → new.front.index ≡ k → (k + 1 < length c → IsAt c (k + 1) new.front.at) → TakesOut k len old new.back → FingersFit d new
+  pub fit_removed : (c d : Nodes X) (old : Finger) (new : Fingers) (k len : ℕ) → FingerFits c old → k < length c → d ≡ take k c ++ drop (k + 1) c → len ≡ length d → new.front.index ≡ k → (k + 1 < length c → IsAt c (k + 1) new.front.address) → TakesOut k len old new.back → FingersFit d new
   fit_removed c d old new k len fits inside is many here next b =
       record { front = fits_next c d new.front k inside is here next; back = fits_unlink c d old new.back k len fits inside is many b }
 
@@ -100,7 +100,7 @@ module _ {X : Type 0} where
   fit_front c d old new k fit front is f b =
       record { front = fits_front c d old.front new.front k fit.front front is f; back = fits_front c d old.back new.back k fit.back front is b }
 
-  -- others come behind the last node
+  -- others come after the last node
   pub fit_more : (c d more : Nodes X) (old new : Fingers) (k count : ℕ) → FingersFit c old → k ≡ length c → d ≡ c ++ more → count ≡ length more → PutsIn k count old.front new.front → PutsIn k count old.back new.back → FingersFit d new
   fit_more c d more old new k count fit end is many f b =
       let whole : take k c ++ (more ++ drop k c) ≡ c ++ more = rw (take_all k c (omega arith), drop_all k c (omega arith)) (ap (λ t. c ++ t) (append-nil more)) in
@@ -118,7 +118,7 @@ module _ {X : Type 0} where
   fits_written : (c : Nodes X) (k : ℕ) (w : X) (f : Finger) → FingerFits c f → FingerFits (with_item c k w) f
   fits_written c k w f fits =
       let long = length-with_item c k w in
-      record { within = (let inside = fits.within in omega arith); on = λ on_node. subst (λ (ps : List Ptr). slice_get ps f.index ≡ Some f.at.ptr) (sym (spots-with_item c k w)) (fits.on (omega arith)) }
+      record { within = (let inside = fits.within in omega arith); on = λ on_node. subst (λ (ps : List Ptr). slice_get ps f.index ≡ Some f.address.ptr) (sym (spots-with_item c k w)) (fits.on (omega arith)) }
 
   pub fit_written : (c : Nodes X) (k : ℕ) (w : X) (fs : Fingers) → FingersFit c fs → FingersFit (with_item c k w) fs
   fit_written c k w fs fit = record { front = fits_written c k w fs.front fit.front; back = fits_written c k w fs.back fit.back }

@@ -47,7 +47,7 @@ module _ {A : Type 0} where
       let new : q ≡ last_out p = λ j. record { firsts = fe j; left = le j; lasts = be j } in
       ap (λ u. parts_from (drop (i + 1) turns) u) new ∙ sym (turned turns i d false p below is) ∙ was
 
-  -- behind the last turn the parts are those of all turns
+  -- after the last turn the parts are those of all turns
   pub last_parts : (turns : List Bool) (i : ℕ) (s f l b : List A) → length turns ≤ i → parts_from (drop i turns) (record { firsts = f; left = l; lasts = b }) ≡ parts_by turns s → record { firsts = f; left = l; lasts = b } ≡ parts_by turns s
   last_parts turns i s f l b past is =
       let p : Parts A = record { firsts = f; left = l; lasts = b } in

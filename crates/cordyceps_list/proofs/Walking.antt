@@ -1,6 +1,6 @@
 -- Walks of a predicate, answer by answer.
 use Rattle.std.proofs.Common.{◌≡◌, ℕ, zero, suc, ◌+◌, Bool, true, false, List, [], ◌∷◌, length, drop, slice_get, Some, refl, subst, add-one}
-use Rattle.cordyceps_list.specs.Walk.{Walks}
+use Rattle.cordyceps_list.specs.Walks.{Walks}
 
 module _ {F X : Type 0} (R : F → X → Bool → F → Type 0) where
   -- past the last item nothing is asked

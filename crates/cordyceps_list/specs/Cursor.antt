@@ -15,7 +15,7 @@ module _ {X : Type 0} where
 
   -- the cursor's place among them
   abbrev pub place : CursorMut X → ℕ
-  place c = c.at
+  place c = c.index
 
   -- the loan of the list
   abbrev pub lender : CursorMut X → GName

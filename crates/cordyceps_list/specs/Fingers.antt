@@ -7,12 +7,12 @@ use Rattle.cordyceps_list.specs.declared.finger.Fingers.{Fingers}
 module _ {X : Type 0} where
   -- the finger is on a node, and knows its index
   abbrev pub IsOn : Nodes X → Finger → Type 0
-  IsOn c f = (f.index < length c) × IsAt c f.index f.at
+  IsOn c f = (f.index < length c) × IsAt c f.index f.address
 
-  -- the same, or the finger is behind the last node, whatever its address
+  -- the same, or the finger is after the last node, whatever its address
   pub record FingerFits (c : Nodes X) (f : Finger) : Type 0 where
     pub within : f.index ≤ length c
-    pub on : f.index < length c → IsAt c f.index f.at
+    pub on : f.index < length c → IsAt c f.index f.address
 
   -- both fingers fit the chain
   pub record FingersFit (c : Nodes X) (fs : Fingers) : Type 0 where
@@ -22,15 +22,15 @@ module _ {X : Type 0} where
 -- a finger where so many nodes were put in at a place
 abbrev pub PutsIn : ℕ → ℕ → Finger → Finger → Type 0
 PutsIn k more old new =
-    (old.index < k → new ≡ old) × (k ≤ old.index → new ≡ record { at = old.at; index = old.index + more })
+    (old.index < k → new ≡ old) × (k ≤ old.index → new ≡ record { address = old.address; index = old.index + more })
 
 -- a finger where the node at a place was taken out, and so many are left: where it was on that node it is on none
 abbrev pub TakesOut : ℕ → ℕ → Finger → Finger → Type 0
 TakesOut k len old new =
     (old.index < k → new ≡ old) × (old.index ≡ k → new.index ≡ len)
-    × (k < old.index → new ≡ record { at = old.at; index = old.index - 1 })
+    × (k < old.index → new ≡ record { address = old.address; index = old.index - 1 })
 
--- a finger where the chain changed behind the first nodes, and has so many now: if it was on none of those, it is on
+-- a finger where the chain changed after the first nodes, and has so many now: if it was on none of those, it is on
 -- none
 abbrev pub ChangesAfter : ℕ → ℕ → Finger → Finger → Type 0
 ChangesAfter kept len old new = (old.index < kept → new ≡ old) × (kept ≤ old.index → new.index ≡ len)

@@ -1,11 +1,11 @@
 pub mod Fingers
 pub mod Lending
-pub mod Grow
+pub mod GrowsBy
 pub mod Left
 pub mod Cursor
 pub mod IterMut
 pub mod Position
-pub mod Walk
+pub mod Walks
 pub mod Filter
 pub mod Places
 pub mod DrainFilter

@@ -16,7 +16,7 @@ GivesAndMoves s r t =
     MatchOption r ((s.place ≡ length s.elements) × (t ≡ s)) (λ x. (slice_get (values s.elements) s.place ≡ Some x.now)
     × (t ≡ record s { place = s.place + 1 }))
 
--- a cursor is at place at of the nodes, the length being the null place, and where there is a node it lies at p
-pub record StandsAt {X : Type 0} (c : Nodes X) (p : Address) (at : ℕ) : Type 0 where
-  pub within : at ≤ length c
-  pub on : at < length c → IsAt c at p
+-- a cursor is at this index of the nodes, the length being the null place, and where there is a node it is at p
+pub record StandsAt {X : Type 0} (c : Nodes X) (p : Address) (index : ℕ) : Type 0 where
+  pub within : index ≤ length c
+  pub on : index < length c → IsAt c index p

@@ -19,8 +19,8 @@ use std::marker::Model;
 #[derive(Drop)]
 pub struct Cursor<'a, T> {
     chain: &'a DoubleChain<T>,
-    place: Address,
-    at: usize,
+    address: Address,
+    index: usize,
 }
 
 impl<'a, T> Model for Cursor<'a, T> {
@@ -29,9 +29,9 @@ impl<'a, T> Model for Cursor<'a, T> {
 
     ghost Value = { Position T };
 
-    ghost view = { λ c. record { elements = elements c.chain.now; place = c.at } };
+    ghost view = { λ c. record { elements = elements c.chain.now; place = c.index } };
 
-    ghost invariant = { λ c. StandsAt c.chain.now c.place c.at };
+    ghost invariant = { λ c. StandsAt c.chain.now c.address c.index };
 }
 
 impl<T: Linked<Links<T>>> List<T> {
@@ -56,45 +56,49 @@ impl<T: Linked<Links<T>>> List<T> {
     }
 }
 
-/// Returns the place after `at` in a list of `len` elements; after the null place comes 0.
-pub(crate) fn place_after(at: usize, len: usize) -> usize
-    requires { at ≤ len }
-    ensures value { result ≡ next_place len at }
-    ensures inside { at < len → result ≡ at + 1 }
-    ensures null { at ≡ len → result ≡ 0 }
+/// Returns the place after `index` in a list of `len` elements; after the null place comes 0.
+pub(crate) fn place_after(index: usize, len: usize) -> usize
+    requires { index ≤ len }
+    ensures value { result ≡ next_place len index }
+    ensures inside { index < len → result ≡ index + 1 }
+    ensures null { index ≡ len → result ≡ 0 }
 {
-    if at < len { at + 1 } else { 0 }
+    if index < len { index + 1 } else { 0 }
 }
 
-/// Returns the place before `at` in a list of `len` elements; before 0 comes the null place.
-pub(crate) fn place_before(at: usize, len: usize) -> usize
-    requires { at ≤ len }
-    ensures value { result ≡ prev_place len at }
+/// Returns the place before `index` in a list of `len` elements; before 0 comes the null place.
+pub(crate) fn place_before(index: usize, len: usize) -> usize
+    requires { index ≤ len }
+    ensures value { result ≡ prev_place len index }
     ensures within { result ≤ len }
 {
-    if at > 0 { at - 1 } else { len }
+    if index > 0 { index - 1 } else { len }
 }
 
 impl<'a, T: Linked<Links<T>>> Cursor<'a, T> {
     ghost use Rattle.cordyceps_list.specs.Places.{index_at};
 
     /// Returns a cursor at a place. Requires that the place is at most the length.
-    pub(crate) fn at_place(list: &'a List<T>, at: usize) -> Cursor<'a, T>
-        requires { at ≤ length list.now }
-        ensures { result ≡ record { elements = list.now; place = at } }
+    pub(crate) fn at_place(list: &'a List<T>, index: usize) -> Cursor<'a, T>
+        requires { index ≤ length list.now }
+        ensures { result ≡ record { elements = list.now; place = index } }
     {
         let mut fingers = list.fingers;
         let chain = &list.chain;
-        let place = fingers.seek_within(chain, at);
-        Cursor { chain, place, at }
+        let address = fingers.seek_within(chain, index);
+        Cursor {
+            chain,
+            address,
+            index,
+        }
     }
 
     /// Returns the cursor's place.
-    pub(crate) fn at(&self) -> usize
+    pub(crate) fn place(&self) -> usize
         ensures value { result ≡ self.now.place }
         ensures inside { result ≤ length self.now.elements }
     {
-        self.at
+        self.index
     }
 
     /// Returns the number of elements of the list.
@@ -124,8 +128,8 @@ impl<'a, T: Linked<Links<T>>> Cursor<'a, T> {
     pub fn index(&self) -> Option<usize>
         ensures { result ≡ index_at (length self.now.elements) self.now.place }
     {
-        if self.at < self.chain.len() {
-            Some(self.at)
+        if self.index < self.chain.len() {
+            Some(self.index)
         } else {
             None
         }
@@ -141,14 +145,14 @@ impl<'a, T: Linked<Links<T>>> Cursor<'a, T> {
         ensures place { self.new.place ≡ next_place (length self.old.elements) self.old.place }
     {
         let chain = self.chain;
-        if self.at < chain.len() {
-            self.place = chain.next(self.place, self.at);
-            self.at += 1;
+        if self.index < chain.len() {
+            self.address = chain.next(self.address, self.index);
+            self.index += 1;
             return;
         }
-        self.at = 0;
+        self.index = 0;
         if chain.len() > 0 {
-            self.place = chain.head();
+            self.address = chain.head();
         }
     }
 
@@ -162,16 +166,16 @@ impl<'a, T: Linked<Links<T>>> Cursor<'a, T> {
         ensures place { self.new.place ≡ prev_place (length self.old.elements) self.old.place }
     {
         let chain = self.chain;
-        if self.at == 0 {
-            self.at = chain.len();
+        if self.index == 0 {
+            self.index = chain.len();
             return;
         }
-        self.place = if self.at < chain.len() {
-            chain.prev(self.place, self.at)
+        self.address = if self.index < chain.len() {
+            chain.prev(self.address, self.index)
         } else {
             chain.tail()
         };
-        self.at -= 1;
+        self.index -= 1;
     }
 
     /// Returns a reference to the value at the cursor, or `None` at the null place.
@@ -182,8 +186,8 @@ impl<'a, T: Linked<Links<T>>> Cursor<'a, T> {
         ensures { option_copied result ≡ slice_get (values self.now.elements) self.now.place }
     {
         let chain = self.chain;
-        if self.at < chain.len() {
-            Some(chain.get(self.place, self.at))
+        if self.index < chain.len() {
+            Some(chain.get(self.address, self.index))
         } else {
             None
         }
@@ -200,14 +204,14 @@ impl<'a, T: Linked<Links<T>>> Cursor<'a, T> {
             ≡ slice_get (values self.now.elements) (next_place (length self.now.elements) self.now.place) }
     {
         let chain = self.chain;
-        let next = place_after(self.at, chain.len());
+        let next = place_after(self.index, chain.len());
         if next == chain.len() {
             return None;
         }
         if next == 0 {
             return Some(chain.get(chain.head(), 0));
         }
-        Some(chain.get(chain.next(self.place, self.at), next))
+        Some(chain.get(chain.next(self.address, self.index), next))
     }
 
     /// Returns a reference to the value at the previous place, or `None` if that is the null place. At the null place
@@ -221,13 +225,13 @@ impl<'a, T: Linked<Links<T>>> Cursor<'a, T> {
             ≡ slice_get (values self.now.elements) (prev_place (length self.now.elements) self.now.place) }
     {
         let chain = self.chain;
-        if self.at == 0 {
+        if self.index == 0 {
             return None;
         }
-        if self.at < chain.len() {
-            return Some(chain.get(chain.prev(self.place, self.at), self.at - 1));
+        if self.index < chain.len() {
+            return Some(chain.get(chain.prev(self.address, self.index), self.index - 1));
         }
-        Some(chain.get(chain.tail(), self.at - 1))
+        Some(chain.get(chain.tail(), self.index - 1))
     }
 }
 
@@ -247,12 +251,12 @@ impl<'a, T: Linked<Links<T>>> Iterator for Cursor<'a, T> {
     /// O(1).
     fn next(&mut self) -> Option<&'a T> {
         let chain = self.chain;
-        if self.at == chain.len() {
+        if self.index == chain.len() {
             return None;
         }
-        let item = chain.get(self.place, self.at);
-        self.place = chain.next(self.place, self.at);
-        self.at += 1;
+        let item = chain.get(self.address, self.index);
+        self.address = chain.next(self.address, self.index);
+        self.index += 1;
         Some(item)
     }
 

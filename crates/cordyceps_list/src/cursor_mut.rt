@@ -25,8 +25,8 @@ use std::mem;
 /// ```
 pub struct CursorMut<'a, T> {
     list: &'a mut List<T>,
-    at: usize,
-    ghost inside: { at ≤ length list.now },
+    index: usize,
+    ghost inside: { index ≤ length list.now },
 }
 
 impl<T> Drop for CursorMut<'_, T> {
@@ -39,7 +39,7 @@ impl<T> Drop for CursorMut<'_, T> {
     fn drop(self)
         ensures { self.exit.0.now ≡ elements self.entry }
     {
-        let CursorMut { list: _, at: _ } = self;
+        let CursorMut { list: _, index: _ } = self;
     }
 }
 
@@ -55,7 +55,10 @@ impl<T: Linked<Links<T>>> List<T> {
         ensures elements { elements result ≡ self.old }
         ensures place { place result ≡ 0 }
     {
-        CursorMut { list: self, at: 0 }
+        CursorMut {
+            list: self,
+            index: 0,
+        }
     }
 
     /// Returns a cursor at the last element, or at the null place if the list is empty.
@@ -67,8 +70,8 @@ impl<T: Linked<Links<T>>> List<T> {
         ensures elements { elements result ≡ self.old }
         ensures place { place result ≡ length self.old - 1 }
     {
-        let at = self.len().saturating_sub(1);
-        CursorMut { list: self, at }
+        let index = self.len().saturating_sub(1);
+        CursorMut { list: self, index }
     }
 }
 
@@ -76,24 +79,24 @@ impl<'a, T: Linked<Links<T>>> CursorMut<'a, T> {
     ghost use Rattle.cordyceps_list.specs.Cursor.{elements, place, lender, Stands, LendsAndStands};
     ghost use Rattle.cordyceps_list.specs.Places.{next_place, prev_place, index_at};
     ghost use Rattle.cordyceps_list.specs.Filter.{RemovesFirst};
-    ghost use Rattle.cordyceps_list.specs.Walk.{MayAsk};
+    ghost use Rattle.cordyceps_list.specs.Walks.{MayAsk};
 
     /// Returns a cursor at a place. Requires that the place is at most the length.
-    pub(crate) fn at_place(list: &'a mut List<T>, at: usize) -> CursorMut<'a, T>
-        requires { at ≤ length list.old }
+    pub(crate) fn at_place(list: &'a mut List<T>, index: usize) -> CursorMut<'a, T>
+        requires { index ≤ length list.old }
         ensures same_reference { lender result ≡ list.entry.ghost_name }
         ensures elements { elements result ≡ list.old }
-        ensures place { place result ≡ at }
+        ensures place { place result ≡ index }
     {
-        CursorMut { list, at }
+        CursorMut { list, index }
     }
 
     /// Returns the cursor's place.
-    pub(crate) fn at(&self) -> usize
+    pub(crate) fn place(&self) -> usize
         ensures value { result ≡ place self.now }
         ensures inside { result ≤ length (elements self.now) }
     {
-        self.at
+        self.index
     }
 
     /// Returns the number of elements of the list.
@@ -123,8 +126,8 @@ impl<'a, T: Linked<Links<T>>> CursorMut<'a, T> {
     pub fn index(&self) -> Option<usize>
         ensures { result ≡ index_at (length (elements self.now)) (place self.now) }
     {
-        if self.at < self.list.len() {
-            Some(self.at)
+        if self.index < self.list.len() {
+            Some(self.index)
         } else {
             None
         }
@@ -140,7 +143,7 @@ impl<'a, T: Linked<Links<T>>> CursorMut<'a, T> {
             (next_place (length (elements self.old)) (place self.old)) }
     {
         let len = self.len();
-        self.go_to(place_after(self.at, len));
+        self.go_to(place_after(self.index, len));
     }
 
     /// Moves the cursor to the previous place: from the first element to the null place, and from there to the last
@@ -153,16 +156,16 @@ impl<'a, T: Linked<Links<T>>> CursorMut<'a, T> {
             (prev_place (length (elements self.old)) (place self.old)) }
     {
         let len = self.len();
-        self.go_to(place_before(self.at, len));
+        self.go_to(place_before(self.index, len));
     }
 
     /// Moves the cursor to a place.
-    fn go_to(&mut self, at: usize)
-        requires { at ≤ length (elements self.old) }
-        ensures { Stands self.old self.new (elements self.old) at }
+    fn go_to(&mut self, index: usize)
+        requires { index ≤ length (elements self.old) }
+        ensures { Stands self.old self.new (elements self.old) index }
     {
-        self.at = at;
-        self.list.stand_at(at);
+        self.index = index;
+        self.list.stand_at(index);
     }
 
     /// Returns a reference to the value at the cursor, or `None` at the null place.
@@ -172,7 +175,7 @@ impl<'a, T: Linked<Links<T>>> CursorMut<'a, T> {
     pub fn current(&self) -> Option<&T>
         ensures { option_copied result ≡ slice_get (values (elements self.now)) (place self.now) }
     {
-        self.list.get_at(self.at)
+        self.list.get_at(self.index)
     }
 
     /// Returns a reference to the value at the next place, or `None` if that is the null place. At the null place it
@@ -184,7 +187,7 @@ impl<'a, T: Linked<Links<T>>> CursorMut<'a, T> {
         ensures { option_copied result
             ≡ slice_get (values (elements self.now)) (next_place (length (elements self.now)) (place self.now)) }
     {
-        self.list.get_at(place_after(self.at, self.list.len()))
+        self.list.get_at(place_after(self.index, self.list.len()))
     }
 
     /// Returns a reference to the value at the previous place, or `None` if that is the null place. At the null place
@@ -196,7 +199,7 @@ impl<'a, T: Linked<Links<T>>> CursorMut<'a, T> {
         ensures { option_copied result
             ≡ slice_get (values (elements self.now)) (prev_place (length (elements self.now)) (place self.now)) }
     {
-        self.list.get_at(place_before(self.at, self.list.len()))
+        self.list.get_at(place_before(self.index, self.list.len()))
     }
 
     /// Returns a mutable reference to the value at the cursor, or `None` at the null place. The element keeps its
@@ -211,7 +214,7 @@ impl<'a, T: Linked<Links<T>>> CursorMut<'a, T> {
             result) }
         ensures value { option_copied_mut result ≡ slice_get (values (elements self.old)) (place self.old) }
     {
-        let here = self.at;
+        let here = self.index;
         if here == self.list.len() {
             return None;
         }
@@ -232,12 +235,12 @@ impl<'a, T: Linked<Links<T>>> CursorMut<'a, T> {
         ensures value { option_copied_mut result
             ≡ slice_get (values (elements self.old)) (next_place (length (elements self.old)) (place self.old)) }
     {
-        let at = place_after(self.at, self.list.len());
-        if at >= self.list.len() {
+        let index = place_after(self.index, self.list.len());
+        if index >= self.list.len() {
             return None;
         }
         let list = &mut *self.list;
-        Some(list.value_mut_at(at))
+        Some(list.value_mut_at(index))
     }
 
     /// Returns a mutable reference to the value at the previous place, or `None` if that is the null place. The element
@@ -253,12 +256,12 @@ impl<'a, T: Linked<Links<T>>> CursorMut<'a, T> {
         ensures value { option_copied_mut result
             ≡ slice_get (values (elements self.old)) (prev_place (length (elements self.old)) (place self.old)) }
     {
-        let at = place_before(self.at, self.list.len());
-        if at >= self.list.len() {
+        let index = place_before(self.index, self.list.len());
+        if index >= self.list.len() {
             return None;
         }
         let list = &mut *self.list;
-        Some(list.value_mut_at(at))
+        Some(list.value_mut_at(index))
     }
 
     /// Returns a mutable reference to the value at the cursor, and moves the cursor to the next place. At the null
@@ -273,13 +276,13 @@ impl<'a, T: Linked<Links<T>>> CursorMut<'a, T> {
             result) }
         ensures value { option_copied_mut result ≡ slice_get (values (elements self.old)) (place self.old) }
     {
-        let at = self.at;
-        if at == self.list.len() {
+        let index = self.index;
+        if index == self.list.len() {
             return None;
         }
-        self.at = at + 1;
+        self.index = index + 1;
         let list = &mut *self.list;
-        Some(list.value_mut_passing(at))
+        Some(list.value_mut_passing(index))
     }
 
     /// Inserts an element before the cursor's, at which the cursor stays. At the null place the element becomes the
@@ -293,9 +296,9 @@ impl<'a, T: Linked<Links<T>>> CursorMut<'a, T> {
             (take (place self.old) (elements self.old) ++ T.element handle ∷ drop (place self.old) (elements self.old))
             (place self.old + 1) }
     {
-        let at = self.at;
-        self.at += 1;
-        self.list.insert_at(at, handle);
+        let index = self.index;
+        self.index += 1;
+        self.list.insert_at(index, handle);
     }
 
     /// Inserts an element after the cursor's, at which the cursor stays. At the null place the element becomes the
@@ -312,11 +315,11 @@ impl<'a, T: Linked<Links<T>>> CursorMut<'a, T> {
         ensures null { place self.old ≡ length (elements self.old)
             → Stands self.old self.new (T.element handle ∷ elements self.old) (length (elements self.old) + 1) }
     {
-        if self.at < self.list.len() {
-            self.list.insert_at(self.at + 1, handle);
+        if self.index < self.list.len() {
+            self.list.insert_at(self.index + 1, handle);
         } else {
             self.list.insert_at(0, handle);
-            self.at += 1;
+            self.index += 1;
         }
     }
 
@@ -330,7 +333,7 @@ impl<'a, T: Linked<Links<T>>> CursorMut<'a, T> {
             (take (place self.old) (elements self.old) ++ drop (place self.old + 1) (elements self.old))
             (place self.old) }
     {
-        self.list.take_at(self.at)
+        self.list.take_at(self.index)
     }
 
     /// Inserts all elements of `list` before the cursor's, at which the cursor stays. At the null place they become the
@@ -345,8 +348,8 @@ impl<'a, T: Linked<Links<T>>> CursorMut<'a, T> {
             (place self.old + length list) }
     {
         let more = list.len();
-        self.list.splice_at(self.at, list);
-        self.at += more;
+        self.list.splice_at(self.index, list);
+        self.index += more;
     }
 
     /// Inserts all elements of `list` after the cursor's, at which the cursor stays. At the null place they become the
@@ -363,12 +366,12 @@ impl<'a, T: Linked<Links<T>>> CursorMut<'a, T> {
         ensures null { place self.old ≡ length (elements self.old)
             → Stands self.old self.new (list ++ elements self.old) (length (elements self.old) + length list) }
     {
-        if self.at < self.list.len() {
-            self.list.splice_behind(self.at, list);
+        if self.index < self.list.len() {
+            self.list.splice_after(self.index, list);
         } else {
             let more = list.len();
             self.list.splice_at(0, list);
-            self.at += more;
+            self.index += more;
         }
     }
 
@@ -385,10 +388,10 @@ impl<'a, T: Linked<Links<T>>> CursorMut<'a, T> {
         ensures null { place self.old ≡ length (elements self.old) → (result ≡ elements self.old) }
         ensures null_stands { place self.old ≡ length (elements self.old) → Stands self.old self.new [] 0 }
     {
-        if self.at < self.list.len() {
-            return self.list.split_at(self.at + 1);
+        if self.index < self.list.len() {
+            return self.list.split_at(self.index + 1);
         }
-        self.at = 0;
+        self.index = 0;
         self.list.split_at(0)
     }
 
@@ -401,9 +404,9 @@ impl<'a, T: Linked<Links<T>>> CursorMut<'a, T> {
         ensures answer { result ≡ take (place self.old) (elements self.old) }
         ensures stands { Stands self.old self.new (drop (place self.old) (elements self.old)) 0 }
     {
-        let at = self.at;
-        self.at = 0;
-        let mut rest = self.list.split_at(at);
+        let index = self.index;
+        self.index = 0;
+        let mut rest = self.list.split_at(index);
         mem::swap(&mut *self.list, &mut rest);
         rest
     }
@@ -439,8 +442,8 @@ impl<'a, T: Linked<Links<T>>> CursorMut<'a, T> {
             result (elements self.new) (place self.new) predicate.new }
         ensures same_reference { lender self.new ≡ lender self.old }
     {
-        let found = self.list.first_passing(self.at, predicate);
-        self.at = found;
+        let found = self.list.first_passing(self.index, predicate);
+        self.index = found;
         self.list.take_at(found)
     }
 
@@ -452,6 +455,6 @@ impl<'a, T: Linked<Links<T>>> CursorMut<'a, T> {
         ensures elements { result.elements ≡ elements self.now }
         ensures place { result.place ≡ place self.now }
     {
-        Cursor::at_place(&*self.list, self.at)
+        Cursor::at_place(&*self.list, self.index)
     }
 }

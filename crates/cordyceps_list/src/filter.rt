@@ -15,9 +15,9 @@ use cordyceps_base::linked::Linked;
 /// Each `next` is O(k), for k values that the predicate is called on. Dropping is O(1).
 pub struct DrainFilter<'a, T, F> {
     list: &'a mut List<T>,
-    at: usize,
+    index: usize,
     predicate: F,
-    ghost inside: { at ≤ length list.now },
+    ghost inside: { index ≤ length list.now },
 }
 
 impl<'a, T, F: Drop> Drop for DrainFilter<'a, T, F> {
@@ -32,7 +32,7 @@ impl<'a, T, F: Drop> Drop for DrainFilter<'a, T, F> {
     {
         let DrainFilter {
             list: _,
-            at: _,
+            index: _,
             predicate: _,
         } = self;
     }
@@ -58,7 +58,7 @@ impl<T: Linked<Links<T>>> List<T> {
         self.fingers = Fingers::at_ends(&self.chain);
         DrainFilter {
             list: self,
-            at: 0,
+            index: 0,
             predicate,
         }
     }
@@ -71,7 +71,7 @@ impl<'a, T: Linked<Links<T>>, F: FnMut(&T) -> bool + Drop> Iterator for DrainFil
     ghost use Rattle.std.specs.Iterator.{at_most, UpTo};
     ghost use Rattle.cordyceps_base.specs.Element.{values};
     ghost use Rattle.cordyceps_list.specs.DrainFilter.{elements, place, predicate_of, drain_steps};
-    ghost use Rattle.cordyceps_list.specs.Walk.{MayAskAll};
+    ghost use Rattle.cordyceps_list.specs.Walks.{MayAskAll};
 
     type Item = T::Handle;
 
@@ -86,9 +86,9 @@ impl<'a, T: Linked<Links<T>>, F: FnMut(&T) -> bool + Drop> Iterator for DrainFil
     /// # Complexity
     /// O(k), for k values that the predicate is called on.
     fn next(&mut self) -> Option<T::Handle> {
-        let mut cursor = CursorMut::at_place(&mut *self.list, self.at);
+        let mut cursor = CursorMut::at_place(&mut *self.list, self.index);
         let removed = cursor.remove_first_by(&mut self.predicate);
-        self.at = cursor.at();
+        self.index = cursor.place();
         removed
     }
 

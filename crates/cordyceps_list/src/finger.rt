@@ -9,7 +9,7 @@ use cordyceps_base::steps::{Steps, count_one};
 /// The address of a node and its index. At an index of the length it is on no node, and its address is not used.
 #[derive(Clone, Copy)]
 pub(crate) struct Finger {
-    pub(crate) at: Address,
+    pub(crate) address: Address,
     pub(crate) index: usize,
 }
 
@@ -17,11 +17,11 @@ impl Finger {
     ghost use Rattle.cordyceps_list.specs.Fingers.{IsOn, FingerFits, moves_between, PutsIn, TakesOut, ChangesAfter};
 
     /// Returns a finger after the last of `len` nodes, on no node.
-    pub(crate) fn behind(len: usize) -> Finger
+    pub(crate) fn after_last(len: usize) -> Finger
         ensures { result.index ≡ len }
     {
         Finger {
-            at: Address::null(),
+            address: Address::null(),
             index: len,
         }
     }
@@ -31,7 +31,7 @@ impl Finger {
         ensures { result.index ≡ len }
     {
         Finger {
-            at: self.at,
+            address: self.address,
             index: len,
         }
     }
@@ -43,7 +43,7 @@ impl Finger {
         ensures first { result.index ≡ 0 }
     {
         Finger {
-            at: chain.head(),
+            address: chain.head(),
             index: 0,
         }
     }
@@ -55,7 +55,7 @@ impl Finger {
         ensures last { result.index ≡ length chain.now - 1 }
     {
         Finger {
-            at: chain.tail(),
+            address: chain.tail(),
             index: chain.len() - 1,
         }
     }
@@ -98,11 +98,11 @@ impl Finger {
     {
         let mut finger = self;
         while finger.index < to {
-            finger.at = chain.next(finger.at, finger.index);
+            finger.address = chain.next(finger.address, finger.index);
             finger.index += 1;
         }
         while to < finger.index {
-            finger.at = chain.prev(finger.at, finger.index);
+            finger.address = chain.prev(finger.address, finger.index);
             finger.index -= 1;
         }
         finger
@@ -121,12 +121,12 @@ impl Finger {
         count_one(steps);
         if self.index < to {
             Finger {
-                at: chain.next(self.at, self.index),
+                address: chain.next(self.address, self.index),
                 index: self.index + 1,
             }
         } else {
             Finger {
-                at: chain.prev(self.at, self.index),
+                address: chain.prev(self.address, self.index),
                 index: self.index - 1,
             }
         }
@@ -157,7 +157,7 @@ impl Finger {
             return self;
         }
         Finger {
-            at: self.at,
+            address: self.address,
             index: self.index + more,
         }
     }
@@ -173,7 +173,7 @@ impl Finger {
             return self.off(len);
         }
         Finger {
-            at: self.at,
+            address: self.address,
             index: self.index - 1,
         }
     }
@@ -202,13 +202,13 @@ impl Fingers {
     ghost use Rattle.cordyceps_list.specs.Fingers.{FingersFit, PutsIn, TakesOut, ChangesAfter};
 
     /// Returns two fingers on no node.
-    pub(crate) fn behind<T>(chain: &DoubleChain<T>) -> Fingers
+    pub(crate) fn after_last<T>(chain: &DoubleChain<T>) -> Fingers
         ensures { FingersFit chain.now result }
     {
-        let behind = Finger::behind(chain.len());
+        let after_last = Finger::after_last(chain.len());
         Fingers {
-            front: behind,
-            back: behind,
+            front: after_last,
+            back: after_last,
         }
     }
 
@@ -217,7 +217,7 @@ impl Fingers {
         ensures { FingersFit chain.now result }
     {
         if chain.len() == 0 {
-            return Fingers::behind(chain);
+            return Fingers::after_last(chain);
         }
         Fingers {
             front: Finger::at_head(chain),
@@ -230,15 +230,15 @@ impl Fingers {
         requires fit { FingersFit chain.now self.old }
         requires inside { to < length chain.now }
         ensures fit { FingersFit chain.now self.new }
-        ensures at { IfSome result (λ at. IsAt chain.now to at) }
+        ensures address { IfSome result (λ address. IsAt chain.now to address) }
     {
         if self.front.index == to {
-            return Some(self.front.at);
+            return Some(self.front.address);
         }
         if 0 < to && self.front.index == to - 1 {
-            let at = chain.next(self.front.at, self.front.index);
-            self.front = Finger { at, index: to };
-            return Some(at);
+            let address = chain.next(self.front.address, self.front.index);
+            self.front = Finger { address, index: to };
+            return Some(address);
         }
         None
     }
@@ -250,10 +250,10 @@ impl Fingers {
         requires fit { FingersFit chain.now self.old }
         requires inside { to < length chain.now }
         ensures fit { FingersFit chain.now self.new }
-        ensures at { IsAt chain.now to result }
+        ensures address { IsAt chain.now to result }
     {
         match self.seek_near(chain, to) {
-            Some(at) => at,
+            Some(address) => address,
             None => self.seek_far(chain, to),
         }
     }
@@ -264,16 +264,16 @@ impl Fingers {
         requires fit { FingersFit chain.now self.old }
         requires inside { to < length chain.now }
         ensures fit { FingersFit chain.now self.new }
-        ensures at { IsAt chain.now to result }
+        ensures address { IsAt chain.now to result }
     {
         let front = self.front.or_end(chain, Finger::at_head(chain), to);
         let back = self.back.or_end(chain, Finger::at_tail(chain), to);
         if back.distance(to) < front.distance(to) {
             self.back = back.walked(chain, to);
-            self.back.at
+            self.back.address
         } else {
             self.front = front.walked(chain, to);
-            self.front.at
+            self.front.address
         }
     }
 

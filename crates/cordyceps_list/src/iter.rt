@@ -120,10 +120,10 @@ impl<'a, T: Linked<Links<T>>> DoubleEndedIterator for Iter<'a, T> {
             return None;
         }
         let chain = self.chain;
-        let at = self.back - 1;
-        let item = chain.get(self.last, at);
-        self.last = chain.prev(self.last, at);
-        self.back = at;
+        let index = self.back - 1;
+        let item = chain.get(self.last, index);
+        self.last = chain.prev(self.last, index);
+        self.back = index;
         Some(item)
     }
 }

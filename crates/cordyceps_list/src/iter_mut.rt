@@ -91,13 +91,13 @@ impl<'a, T: Linked<Links<T>>> IterMut<'a, T> {
             ≡ (if nat_lt (from self.old) (to self.old) then slice_get (values (elements self.old)) (from self.old)
             else None) }
     {
-        let at = self.front;
-        if at == self.back {
+        let index = self.front;
+        if index == self.back {
             return None;
         }
-        self.front = at + 1;
+        self.front = index + 1;
         let list = &mut *self.list;
-        Some(list.value_mut_passing(at))
+        Some(list.value_mut_passing(index))
     }
 
     /// Returns a mutable reference to the last value that is left, or `None` if none is. The element keeps its number.
@@ -116,9 +116,9 @@ impl<'a, T: Linked<Links<T>>> IterMut<'a, T> {
         if self.front == self.back {
             return None;
         }
-        let at = self.back - 1;
-        self.back = at;
+        let index = self.back - 1;
+        self.back = index;
         let list = &mut *self.list;
-        Some(list.value_mut_at(at))
+        Some(list.value_mut_at(index))
     }
 }

@@ -66,16 +66,16 @@ pub fn pop_pushed_back<T: Linked<Links<T>>, R, F: FnOnce(&List<T>) -> R>(
 /// That of `split_off`, and what `look` takes.
 pub fn append_split_off<T: Linked<Links<T>>, R, F: FnOnce(&List<T>, &List<T>) -> R>(
     list: &mut List<T>,
-    at: usize,
+    index: usize,
     look: F,
 ) -> R
-    requires within { at ≤ length list.old }
+    requires within { index ≤ length list.old }
     requires callable { F.IsAlwaysCallable look }
-    ensures shown { FnOnceReturnsAtPair F.FnOnce look (take at list.old) (drop at list.old) result }
+    ensures shown { FnOnceReturnsAtPair F.FnOnce look (take index list.old) (drop index list.old) result }
     ensures restored { list.new ≡ list.old }
 {
-    prove!(at <= list.len());
-    let mut rest = list.split_off(at);
+    prove!(index <= list.len());
+    let mut rest = list.split_off(index);
     let shown = look(&*list, &rest);
     list.append(&mut rest);
     shown
@@ -146,7 +146,7 @@ impl<'a, T: Linked<Links<T>>> CursorMut<'a, T> {
         ensures round { moves ≡ length (elements self.old) + 1
             → Stands self.old self.new (elements self.old) (place self.old) }
     {
-        prove!(self.at() <= self.len());
+        prove!(self.place() <= self.len());
         for _ in 0..moves {
             self.move_next();
         }
@@ -163,7 +163,7 @@ impl<'a, T: Linked<Links<T>>> CursorMut<'a, T> {
         ensures round { moves ≡ length (elements self.old) + 1
             → Stands self.old self.new (elements self.old) (place self.old) }
     {
-        prove!(self.at() <= self.len());
+        prove!(self.place() <= self.len());
         for _ in 0..moves {
             self.move_prev();
         }

@@ -1,15 +1,22 @@
 //! The doubly linked list.
-ghost use Rattle.std.specs.Prelude.{◌≡◌, ◌+◌, ◌-◌, ◌<◌, ◌==◌, [], ◌∷◌, ◌++◌, length, slice_get, MatchOption, MatchResult, option_copied, Some};
+ghost use Rattle.std.specs.Prelude.{◌≡◌, ◌+◌, ◌-◌, ◌<◌, ◌==◌, [], ◌∷◌, ◌++◌, length, slice_get, MatchOption, MatchResult, option_copied, Some, ◌^◌, ◌≤◌, ◌↔◌, take, drop, min, IsSome, IfSome, IfNone, option_map, None};
 ghost use Rattle.std.specs.Option.{option_copied_mut};
 ghost use Rattle.std.specs.Borrow.{sem};
-ghost use Rattle.cordyceps_base.specs.Element.{values};
-ghost use Rattle.cordyceps_base.specs.Nodes.{elements};
+ghost use Rattle.std.specs.Fn.{CalledAt};
+ghost use Rattle.cordyceps_base.specs.Element.{values, first_with_id, without_id};
+ghost use Rattle.cordyceps_base.specs.Nodes.{elements, IsAt};
+ghost use Rattle.cordyceps_list.specs.Fingers.{IsOn, FingerFits};
+ghost use Rattle.cordyceps_list.specs.GrowsBy.{GrowsBy, EndsWithin};
+ghost use Rattle.cordyceps_list.specs.Walks.{MayAsk, Walks};
 
 use crate::finger::{Finger, Fingers};
+use cordyceps_base::boxes::Address;
 use cordyceps_base::double_chain::DoubleChain;
 use cordyceps_base::linked::Linked;
 pub use cordyceps_base::list::Links;
+use cordyceps_base::steps::Steps;
 use std::marker::Model;
+use std::mem;
 
 /// A doubly linked list of owned nodes. A contract sees its elements, in order.
 ///
@@ -66,7 +73,7 @@ impl<T: Linked<Links<T>>> Default for List<T> {
 }
 
 impl<T: Linked<Links<T>>> List<T> {
-    ghost use Rattle.cordyceps_list.specs.Lending.{LendsAt, LendsIfAt};
+    ghost use Rattle.cordyceps_list.specs.Lending.{LendsIfAt};
 
     /// Creates an empty list. Allocates nothing.
     ///
@@ -76,7 +83,7 @@ impl<T: Linked<Links<T>>> List<T> {
         ensures { result ≡ [] }
     {
         let chain = DoubleChain::empty();
-        let fingers = Fingers::behind(&chain);
+        let fingers = Fingers::after_last(&chain);
         List { chain, fingers }
     }
 
@@ -88,7 +95,7 @@ impl<T: Linked<Links<T>>> List<T> {
         ensures { result ≡ elements chain }
     {
         List {
-            fingers: Fingers::behind(&chain),
+            fingers: Fingers::after_last(&chain),
             chain,
         }
     }
@@ -270,18 +277,207 @@ impl<T: Linked<Links<T>>> List<T> {
         }
         Some(self.value_mut_at(len - 1))
     }
+}
+
+/// Returns the address of the node before the place `index`, found from the nearer end, or from the head if both are
+/// equally near.
+fn node_before<T>(chain: &DoubleChain<T>, index: usize, steps: &mut Steps) -> Address
+    requires inside { (0 < index) × (index < length chain.now) }
+    requires room { steps.old + min (index - 1) (length chain.now - index) < 2 ^ 64 }
+    ensures place { IsAt chain.now (index - 1) result }
+    ensures counted { steps.new ≡ steps.old + min (index - 1) (length chain.now - index) }
+{
+    let before = index - 1;
+    let len = chain.len();
+    let end = if before <= len - index {
+        Finger::at_head(chain)
+    } else {
+        Finger::at_tail(chain)
+    };
+    end.walked_in(chain, before, steps).address
+}
+
+impl<T: Linked<Links<T>>> List<T> {
+    /// Moves all elements of `other` to the back of this list, and leaves `other` empty. Requires that the sum of the
+    /// lengths is at most `usize::MAX`.
+    ///
+    /// # Complexity
+    /// O(1).
+    pub fn append(&mut self, other: &mut List<T>)
+        requires { length self.old + length other.old ≤ usize.MAX }
+        ensures joined { self.new ≡ self.old ++ other.old }
+        ensures emptied { other.new ≡ [] }
+    {
+        let more = other.chain.take();
+        other.fingers = other.fingers.after_change(0, 0);
+        self.fingers = self.fingers.after_splice(self.chain.len(), more.len());
+        let nodes = self.chain.take();
+        self.chain.put(nodes.join(more));
+    }
+
+    /// Splits the list at an index, and returns the elements from there on. Requires that the index is at most the
+    /// length.
+    ///
+    /// # Complexity
+    /// O(min(index, n - index)), for n elements: it walks from the nearer end.
+    pub fn split_off(&mut self, index: usize) -> List<T>
+        requires { index ≤ length self.old }
+        ensures kept { self.new ≡ take index self.old }
+        ensures split { result ≡ drop index self.old }
+    {
+        match self.try_split_off(index) {
+            Some(rest) => rest,
+            None => unreachable!(),
+        }
+    }
+
+    /// Splits the list at an index, and returns the elements from there on. If the index is above the length, it
+    /// returns `None`, and the list is unchanged.
+    ///
+    /// # Complexity
+    /// O(min(index, n - index)), for n elements: it walks from the nearer end.
+    pub fn try_split_off(&mut self, index: usize) -> Option<List<T>>
+        ensures variant { IsSome result ↔ (index ≤ length self.old) }
+        ensures some { IfSome result (λ rest. (self.new ≡ take index self.old) × (rest ≡ drop index self.old)) }
+        ensures none { IfNone result (self.new ≡ self.old) }
+    {
+        self.try_split_off_in(index, &mut Steps::new())
+    }
+
+    /// Splits the list as `try_split_off` does, and adds the number of moves along links to `steps`. Requires that the
+    /// count stays at most `u64::MAX`.
+    ///
+    /// # Complexity
+    /// For n elements it makes min(index - 1, n - index) moves if 0 < `index` < n, and else none.
+    pub fn try_split_off_in(&mut self, index: usize, steps: &mut Steps) -> Option<List<T>>
+        requires { steps.old + min (index - 1) (length self.old - index) < 2 ^ 64 }
+        ensures variant { IsSome result ↔ (index ≤ length self.old) }
+        ensures some { IfSome result (λ rest. (self.new ≡ take index self.old) × (rest ≡ drop index self.old)) }
+        ensures none { IfNone result (self.new ≡ self.old) }
+        ensures counted { steps.new ≡ steps.old + min (index - 1) (length self.old - index) }
+    {
+        let len = self.chain.len();
+        if index > len {
+            return None;
+        }
+        if index == 0 {
+            return Some(mem::replace(self, List::new()));
+        }
+        if index == len {
+            return Some(List::new());
+        }
+        let before = node_before(&self.chain, index, steps);
+        self.fingers = self.fingers.after_change(index, index);
+        let (front, rest) = self.chain.take().cut_after(before, index);
+        self.chain.put(front);
+        Some(List::from_chain(rest))
+    }
+
+    /// Appends the items of an iterator to the back of the list, in their order. Requires that the iterator ends, and
+    /// that the length stays at most `usize::MAX`.
+    ///
+    /// # Complexity
+    /// O(k), for k items, and what the iterator takes.
+    pub fn extend<I: IntoIterator<Item = T::Handle>>(&mut self, items: I)
+        requires { EndsWithin I.into_iter_gives I.IntoIter.next_gives I.IntoIter.can_next I.IntoIter.remaining
+            (usize.MAX - length self.old) items }
+        ensures { GrowsBy I.into_iter_gives I.IntoIter.next_gives T.element self.old items self.new }
+    {
+        for item in items {
+            self.push_back(item);
+        }
+    }
+
+    /// Creates a list of the items of an iterator, in their order. Requires that the iterator ends after at most
+    /// `usize::MAX` items.
+    ///
+    /// # Complexity
+    /// O(k), for k items, and what the iterator takes.
+    pub fn from_iter<I: IntoIterator<Item = T::Handle>>(items: I) -> List<T>
+        requires { EndsWithin I.into_iter_gives I.IntoIter.next_gives I.IntoIter.can_next I.IntoIter.remaining usize.MAX
+            items }
+        ensures { GrowsBy I.into_iter_gives I.IntoIter.next_gives T.element [] items result }
+    {
+        let mut list = List::new();
+        list.extend(items);
+        list
+    }
+}
+
+/// Returns a finger on the first node with a number, sought from the front.
+fn find<T>(chain: &DoubleChain<T>, id: u64) -> Option<Finger>
+    ensures on { MatchOption result (first_with_id id (elements chain.now) ≡ None)
+        (λ f. IsOn chain.now f × (first_with_id id (elements chain.now) ≡ slice_get (elements chain.now) f.index)) }
+    ensures others { MatchOption result (without_id id (elements chain.now) ≡ elements chain.now)
+        (λ f. without_id id (elements chain.now)
+        ≡ take f.index (elements chain.now) ++ drop (f.index + 1) (elements chain.now)) }
+{
+    if chain.len() == 0 {
+        return None;
+    }
+    let mut address = chain.head();
+    for index in 0..chain.len() {
+        if chain.id(address, index) == id {
+            return Some(Finger { address, index });
+        }
+        address = chain.next(address, index);
+    }
+    None
+}
+
+/// Calls the predicate on the values from a finger's place on, up to the first `true`, and returns a finger there, or
+/// after the last node if there is none.
+fn first_passing<T, F: FnMut(&T) -> bool>(
+    chain: &DoubleChain<T>,
+    from: Finger,
+    predicate: &mut F,
+) -> Finger
+    requires fits { FingerFits chain.now from }
+    requires callable { MayAsk F.FnMut (drop from.index (values (elements chain.now))) predicate.old }
+    ensures fits { FingerFits chain.now result }
+    ensures walks { Walks (CalledAt F.FnMut) predicate.old (drop from.index (values (elements chain.now)))
+        (result.index - from.index) predicate.new }
+    ensures from { from.index ≤ result.index }
+{
+    let mut finger = from;
+    while finger.index < chain.len() {
+        if predicate(chain.get(finger.address, finger.index)) {
+            return finger;
+        }
+        finger.address = chain.next(finger.address, finger.index);
+        finger.index += 1;
+    }
+    finger
+}
+
+impl<T: Linked<Links<T>>> List<T> {
+    ghost use Rattle.cordyceps_list.specs.Lending.{LendsAt};
+
+    /// Removes the first element with this number and returns it. If there is none, it returns `None`, and the list is
+    /// unchanged.
+    ///
+    /// # Complexity
+    /// O(k), where k is the index of that element, or the length if there is none: it walks from the front.
+    pub fn remove(&mut self, id: u64) -> Option<T::Handle>
+        ensures answer { option_map T.element result ≡ first_with_id id self.old }
+        ensures kept { self.new ≡ without_id id self.old }
+    {
+        let found = find(&self.chain, id)?;
+        self.fingers.front = found;
+        Some(self.remove_at(found.index))
+    }
 
     /// Returns a mutable reference to the value at an index. Requires that the index is below the length.
     ///
     /// # Complexity
     /// At most one move along a link more than the index is away from the nearest of the two ends and the two fingers.
-    pub(crate) fn value_mut_at(&mut self, at: usize) -> &mut T
-        requires { at < length self.old }
-        ensures* writes_back { sem 𝓛 (LendsAt T.row self.entry at result) }
-        ensures value { slice_get (values self.old) at ≡ Some result.now }
+    pub(crate) fn value_mut_at(&mut self, index: usize) -> &mut T
+        requires { index < length self.old }
+        ensures* writes_back { sem 𝓛 (LendsAt T.row self.entry index result) }
+        ensures value { slice_get (values self.old) index ≡ Some result.now }
     {
-        let place = self.fingers.seek(&self.chain, at);
-        self.chain.get_mut(place, at)
+        let address = self.fingers.seek(&self.chain, index);
+        self.chain.get_mut(address, index)
     }
 
     /// Returns a mutable reference to the value at an index, and moves the front finger to the next index, where a walk
@@ -289,17 +485,145 @@ impl<T: Linked<Links<T>>> List<T> {
     ///
     /// # Complexity
     /// That of `value_mut_at`, and one move more.
-    pub(crate) fn value_mut_passing(&mut self, at: usize) -> &mut T
-        requires inside { at < length self.old }
-        requires room { at < usize.MAX }
-        ensures* writes_back { sem 𝓛 (LendsAt T.row self.entry at result) }
-        ensures value { slice_get (values self.old) at ≡ Some result.now }
+    pub(crate) fn value_mut_passing(&mut self, index: usize) -> &mut T
+        requires inside { index < length self.old }
+        requires room { index < usize.MAX }
+        ensures* writes_back { sem 𝓛 (LendsAt T.row self.entry index result) }
+        ensures value { slice_get (values self.old) index ≡ Some result.now }
     {
-        let place = self.fingers.seek(&self.chain, at);
+        let address = self.fingers.seek(&self.chain, index);
         self.fingers.front = Finger {
-            at: self.chain.next(place, at),
-            index: at + 1,
+            address: self.chain.next(address, index),
+            index: index + 1,
         };
-        self.chain.get_mut(place, at)
+        self.chain.get_mut(address, index)
+    }
+
+    /// Removes the element at an index, and leaves the front finger on the node that is at the index then. Requires
+    /// that the index is below the length. It is inlined, so that it costs no search where its caller has just sought
+    /// this index.
+    #[inline(always)]
+    pub(crate) fn remove_at(&mut self, index: usize) -> T::Handle
+        requires { index < length self.old }
+        ensures value { slice_get self.old index ≡ Some (T.element result) }
+        ensures kept { self.new ≡ take index self.old ++ drop (index + 1) self.old }
+    {
+        let address = self.fingers.seek(&self.chain, index);
+        self.fingers = Fingers {
+            front: Finger {
+                address: self.chain.next(address, index),
+                index,
+            },
+            back: self.fingers.back.after_unlink(index, self.chain.len() - 1),
+        };
+        T::from_ptr(self.chain.unlink(address, index))
+    }
+
+    /// Removes the element at an index and returns it, or `None` if the index is not below the length.
+    #[inline(always)]
+    pub(crate) fn take_at(&mut self, index: usize) -> Option<T::Handle>
+        ensures answer { option_map T.element result ≡ slice_get self.old index }
+        ensures kept { self.new ≡ take index self.old ++ drop (index + 1) self.old }
+    {
+        if index < self.chain.len() {
+            Some(self.remove_at(index))
+        } else {
+            None
+        }
+    }
+
+    /// Inserts all elements of `other` at a place. Requires that the place is at most the length, and that the sum of
+    /// the lengths is at most `usize::MAX`.
+    pub(crate) fn splice_at(&mut self, index: usize, other: List<T>)
+        requires within { index ≤ length self.old }
+        requires fits { length self.old + length other ≤ usize.MAX }
+        ensures { self.new ≡ take index self.old ++ other ++ drop index self.old }
+    {
+        let List { chain, fingers: _ } = other;
+        let address = self.fingers.seek_within(&self.chain, index);
+        self.fingers = self.fingers.after_splice(index, chain.len());
+        self.chain.splice(address, index, chain);
+    }
+
+    /// Inserts all elements of `other` after the one at an index. A finger stays on that one, so that a call there does
+    /// not walk through the new elements.
+    pub(crate) fn splice_after(&mut self, index: usize, other: List<T>)
+        requires inside { index < length self.old }
+        requires fits { length self.old + length other ≤ usize.MAX }
+        ensures { self.new ≡ take (index + 1) self.old ++ other ++ drop (index + 1) self.old }
+    {
+        let List { chain, fingers: _ } = other;
+        let address = self.fingers.seek(&self.chain, index);
+        let next = self.chain.next(address, index);
+        self.fingers = self.fingers.after_splice(index + 1, chain.len());
+        self.chain.splice(next, index + 1, chain);
+    }
+
+    /// Inserts an element at a place. Requires that the place is at most the length, and a length below `usize::MAX`.
+    pub(crate) fn insert_at(&mut self, index: usize, handle: T::Handle)
+        requires within { index ≤ length self.old }
+        requires fits { length self.old < usize.MAX }
+        ensures { self.new ≡ take index self.old ++ T.element handle ∷ drop index self.old }
+    {
+        let address = self.fingers.seek_within(&self.chain, index);
+        self.fingers = self.fingers.after_splice(index, 1);
+        self.chain.link(address, index, T::into_ptr(handle));
+    }
+
+    /// Moves a finger to a place, so that calls near it are O(1).
+    pub(crate) fn stand_at(&mut self, index: usize)
+        ensures { self.new ≡ self.old }
+    {
+        self.fingers.seek_within(&self.chain, index);
+    }
+
+    /// Returns a reference to the value at an index, or `None` if the index is not below the length.
+    pub(crate) fn get_at(&self, index: usize) -> Option<&T>
+        ensures { option_copied result ≡ slice_get (values self.now) index }
+    {
+        if index < self.chain.len() {
+            let mut fingers = self.fingers;
+            let address = fingers.seek(&self.chain, index);
+            Some(self.chain.get(address, index))
+        } else {
+            None
+        }
+    }
+
+    /// Splits the list at a place, and returns the elements from there on. Requires that the place is at most the
+    /// length.
+    pub(crate) fn split_at(&mut self, index: usize) -> List<T>
+        requires { index ≤ length self.old }
+        ensures kept { self.new ≡ take index self.old }
+        ensures split { result ≡ drop index self.old }
+    {
+        let address = self.fingers.seek_within(&self.chain, index);
+        self.fingers = self.fingers.after_change(index, index);
+        let (front, rest) = self.chain.take().split(address, index);
+        self.chain.put(front);
+        List::from_chain(rest)
+    }
+
+    /// Calls the predicate on the values from a place on, up to the first `true`, and returns its index, or the length
+    /// if there is none.
+    pub(crate) fn first_passing<F: FnMut(&T) -> bool>(
+        &mut self,
+        index: usize,
+        predicate: &mut F,
+    ) -> usize
+        requires inside { index ≤ length self.old }
+        requires callable { MayAsk F.FnMut (drop index (values self.old)) predicate.old }
+        ensures elements { self.new ≡ self.old }
+        ensures walks { Walks (CalledAt F.FnMut) predicate.old (drop index (values self.old)) (result - index) predicate.new }
+        ensures from { index ≤ result }
+        ensures to { result ≤ length self.old }
+    {
+        let from = Finger {
+            address: self.fingers.seek_within(&self.chain, index),
+            index,
+        };
+        let found = first_passing(&self.chain, from, predicate);
+        self.fingers.front = found;
+        found.index
     }
 }

@@ -21,7 +21,7 @@ module _ {X : Type 0} where
   pub prev_has : (c : Nodes X) (p q : Ptr) → AreNext c p q → HasSpot c p
   prev_has c p q (b, e, o, a, is) = lies_spot c p e (b, (q, o) ∷ a, is)
 
-  -- the first spot of a list whose elements were put behind those of another
+  -- the first spot of a list whose elements were put after those of another
   pub joined_first : (c d n : Nodes X) (p : Ptr) → n ≡ c ++ d → IsFirst d p → HasSpot n p
   joined_first c d n p joined (e, after, is) = lies_spot n p e (c, after, joined ∙ ap (λ s. c ++ s) is)
 

@@ -1,9 +1,10 @@
 -- What a call of the chain says, said of the list and of its spots.
-use Rattle.std.proofs.Common.{◌≡◌, Option, Some, None, MatchOption, sym, subst}
+use Rattle.std.proofs.Common.{◌≡◌, ℕ, zero, suc, [], ◌∷◌, length, slice_get, Option, Some, None, MatchOption, sym, ap, subst, arith}
 use denote.RawPtr.{Ptr}
 use Rattle.cordyceps_base.specs.declared.boxes.Address.{Address}
 use Rattle.cordyceps_base.specs.Element.{Element}
-use Rattle.cordyceps_base.specs.Nodes.{Nodes}
+use Rattle.cordyceps_base.specs.BySpot.{IsFirst, IsLast}
+use Rattle.cordyceps_base.specs.Nodes.{Nodes, spots}
 use Rattle.cordyceps_stable.specs.Walk.{Place}
 
 -- what holds of an address, if there is one, holds of its spot
@@ -13,8 +14,16 @@ spot_matches (Some p) r e A B h = subst (λ s. MatchOption s A B) (sym e) h
 
 module _ {X : Type 0} where
   -- which spot is at an end
-  pub end_said : (A : Nodes X → Type 0) (B : Nodes X → Ptr → Type 0) (o : Option Address) (r : Option Ptr) → MatchOption o (r ≡ None) (λ s. r ≡ Some s.ptr) → (c d : Nodes X) → MatchOption o (A c) (λ s. B c s.ptr) → c ≡ d → MatchOption r (A d) (B d)
-  end_said A B o r same c d h view = spot_matches o r same (A d) (B d) (subst (λ l. MatchOption o (A l) (λ s. B l s.ptr)) view h)
+  pub first_is : (c : Nodes X) (p : Ptr) → slice_get (spots c) 0 ≡ Some p → IsFirst c p
+  first_is [] p at = absurd cc
+  first_is (n ∷ c) p at = let same : n.0 ≡ p = cc in (n.1, c, λ i. (same i, n.1) ∷ c)
+
+  pub last_is : (c : Nodes X) (k : ℕ) (p : Ptr) → suc k ≡ length c → slice_get (spots c) k ≡ Some p → IsLast c p
+  last_is [] k p long at = absurd (omega (arith, long))
+  last_is (n ∷ []) zero p long at = let same : n.0 ≡ p = cc in ([], n.1, λ i. (same i, n.1) ∷ [])
+  last_is (n ∷ []) (suc k) p long at = absurd (omega (arith, long))
+  last_is (n ∷ m ∷ c) zero p long at = absurd (omega (arith, long))
+  last_is (n ∷ m ∷ c) (suc k) p long at = let (before, e, is) = last_is (m ∷ c) k p (omega (arith, long)) at in (n ∷ before, e, ap (λ s. n ∷ s) is)
 
   -- which spot is beside another
   pub step_said : (A : Nodes X → Ptr → Type 0) (B : Nodes X → Ptr → Ptr → Type 0) (o : Option Address) (r : Option Ptr) → MatchOption o (r ≡ None) (λ s. r ≡ Some s.ptr) → (c d : Nodes X) (p q : Ptr) → MatchOption o (A c p) (λ s. B c p s.ptr) → c ≡ d → p ≡ q → MatchOption r (A d q) (B d q)

@@ -16,8 +16,8 @@ turned p q other = by_test (same_ptr q p) (λ t.
 at_head : (p q : Ptr) (ps : List Ptr) → same_ptr p q ≡ true → index_of p (q ∷ ps) ≡ 0
 at_head p q ps same = ap (λ b. cond b zero (suc (index_of p ps))) same
 
-behind_head : (p q : Ptr) (ps : List Ptr) → same_ptr p q ≡ false → index_of p (q ∷ ps) ≡ suc (index_of p ps)
-behind_head p q ps other = ap (λ b. cond b zero (suc (index_of p ps))) other
+after_head : (p q : Ptr) (ps : List Ptr) → same_ptr p q ≡ false → index_of p (q ∷ ps) ≡ suc (index_of p ps)
+after_head p q ps other = ap (λ b. cond b zero (suc (index_of p ps))) other
 
 below : (ps : List Ptr) (p : Ptr) (k : ℕ) → slice_get ps k ≡ Some p → index_of p ps < length ps
 below [] p k at = absurd cc
@@ -26,7 +26,7 @@ below (q ∷ ps) p zero at =
     let first = at_head p q ps (subst (λ r. same_ptr p r ≡ true) (sym here) (same_ptr_refl p)) in omega (arith, first)
 below (q ∷ ps) p (suc k) at = by_test (same_ptr p q)
     (λ t. let first = at_head p q ps t in omega (arith, first))
-    (λ f. let later = behind_head p q ps f in let rest = below ps p k at in omega (arith, later, rest))
+    (λ f. let later = after_head p q ps f in let rest = below ps p k at in omega (arith, later, rest))
 
 module _ {X : Type 0} where
   spots_long : (c : Nodes X) → length (spots c) ≡ length c
@@ -49,7 +49,7 @@ module _ {X : Type 0} where
   pub index_is : (before after : Nodes X) (p : Ptr) (e : Element X) → AreDistinct (spots (before ++ (p, e) ∷ after)) → index_of p (spots (before ++ (p, e) ∷ after)) ≡ length before
   index_is [] after p e distinct = at_head p p (spots after) (same_ptr_refl p)
   index_is (x ∷ before) after p e distinct =
-      behind_head p x.0 (spots (before ++ (p, e) ∷ after)) (differs x.0 p before after e distinct.0) ∙ ap suc (index_is before after p e distinct.1)
+      after_head p x.0 (spots (before ++ (p, e) ∷ after)) (differs x.0 p before after e distinct.0) ∙ ap suc (index_is before after p e distinct.1)
 
   index_in : (c before after : Nodes X) (p : Ptr) (e : Element X) → AreDistinct (spots c) → c ≡ before ++ (p, e) ∷ after → index_of p (spots c) ≡ length before
   index_in c before after p e distinct is = ap (λ l. index_of p (spots l)) is ∙ index_is before after p e (subst (λ l. AreDistinct (spots l)) is distinct)

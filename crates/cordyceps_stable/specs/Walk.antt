@@ -11,7 +11,7 @@ pub record Place (X : Type 0) : Type 0 where
   pub spot : Option Ptr
 
 module _ {X : Type 0} where
-  -- the place r is the next after o; the null place comes behind the last node, and before the first
+  -- the place r is the next after o; the null place comes after the last node, and before the first
   abbrev pub IsOn : Nodes X → Option Ptr → Option Ptr → Type 0
   IsOn c None r = MatchOption r (c ≡ []) (λ q. IsFirst c q)
   IsOn c (Some p) r = MatchOption r (IsLast c p) (λ q. AreNext c p q)

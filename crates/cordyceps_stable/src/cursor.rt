@@ -4,7 +4,7 @@ ghost use denote.RawPtr.{Ptr};
 ghost use Rattle.cordyceps_base.specs.BySpot.{HasSpot, HoldsAt};
 ghost use Rattle.cordyceps_stable.specs.Walk.{IsOn, IsBack};
 
-use crate::stable_list::{Spot, spot_of};
+use crate::stable_list::{Spot, first_spot, last_spot, spot_of};
 use cordyceps_base::double_chain::DoubleChain;
 use std::marker::Model;
 
@@ -62,7 +62,7 @@ impl<'a, T> SpotCursor<'a, T> {
     {
         match self.at {
             Some(at) => spot_of(self.chain.next_at(at.address)),
-            None => spot_of(self.chain.first()),
+            None => first_spot(self.chain),
         }
     }
 
@@ -73,7 +73,7 @@ impl<'a, T> SpotCursor<'a, T> {
     {
         match self.at {
             Some(at) => spot_of(self.chain.prev_at(at.address)),
-            None => spot_of(self.chain.last()),
+            None => last_spot(self.chain),
         }
     }
 

@@ -93,6 +93,30 @@ pub(crate) fn spot_of(address: Option<Address>) -> Option<Spot>
     }
 }
 
+/// Returns the spot of the first node, or `None` if the chain is empty.
+pub(crate) fn first_spot<T>(chain: &DoubleChain<T>) -> Option<Spot>
+    ensures { MatchOption result (chain.now ≡ []) (λ p. IsFirst chain.now p) }
+{
+    if chain.len() == 0 {
+        return None;
+    }
+    Some(Spot {
+        address: chain.head(),
+    })
+}
+
+/// Returns the spot of the last node, or `None` if the chain is empty.
+pub(crate) fn last_spot<T>(chain: &DoubleChain<T>) -> Option<Spot>
+    ensures { MatchOption result (chain.now ≡ []) (λ p. IsLast chain.now p) }
+{
+    if chain.len() == 0 {
+        return None;
+    }
+    Some(Spot {
+        address: chain.tail(),
+    })
+}
+
 impl<T: Linked<Links<T>>> StableList<T> {
     ghost use Rattle.cordyceps_stable.specs.StableLending.{LendsSpot};
 
@@ -161,7 +185,7 @@ impl<T: Linked<Links<T>>> StableList<T> {
         ensures holds { self.new ≡ (result, T.element handle) ∷ self.old }
         ensures distinct { AreDistinct (spots self.new) }
     {
-        let address = self.chain.link_first(T::into_ptr(handle));
+        let address = self.chain.link_front(T::into_ptr(handle));
         Spot { address }
     }
 
@@ -174,7 +198,7 @@ impl<T: Linked<Links<T>>> StableList<T> {
         ensures holds { self.new ≡ self.old ++ (result, T.element handle) ∷ [] }
         ensures distinct { AreDistinct (spots self.new) }
     {
-        let address = self.chain.link_last(T::into_ptr(handle));
+        let address = self.chain.link_back(T::into_ptr(handle));
         Spot { address }
     }
 
@@ -327,7 +351,7 @@ impl<T: Linked<Links<T>>> StableList<T> {
     pub fn front(&self) -> Option<Spot>
         ensures { MatchOption result (self.now ≡ []) (λ p. IsFirst self.now p) }
     {
-        spot_of(self.chain.first())
+        first_spot(&self.chain)
     }
 
     /// Returns the spot of the last element, or `None` if the list is empty.
@@ -337,7 +361,7 @@ impl<T: Linked<Links<T>>> StableList<T> {
     pub fn back(&self) -> Option<Spot>
         ensures { MatchOption result (self.now ≡ []) (λ p. IsLast self.now p) }
     {
-        spot_of(self.chain.last())
+        last_spot(&self.chain)
     }
 
     /// Returns the spot after `at`, or `None` if the last element is at `at`. Requires that `at` is valid.

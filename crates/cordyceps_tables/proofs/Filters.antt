@@ -4,7 +4,7 @@ use Rattle.std.specs.Prelude.{option_map}
 use Rattle.std.proofs.lemmas.List.{length-take, append-nil, take_all, drop_all}
 use Rattle.std.proofs.lemmas.Option.{slice_get-map, slice_get_within}
 use Rattle.cordyceps_base.specs.Element.{Element, Elements, values}
-use Rattle.cordyceps_list.specs.Walk.{Walks}
+use Rattle.cordyceps_list.specs.Walks.{Walks}
 use Rattle.cordyceps_list.specs.Filter.{RemovesFirst}
 use Rattle.cordyceps_tables.proofs.Places.{past_end}
 use Rattle.cordyceps_commands.specs.declared.item.Item.{Item}

@@ -1,7 +1,7 @@
 -- What commands do to a table of lists.
 use Rattle.std.specs.Prelude.{ℕ, ◌+◌, ◌<◌, ◌-◌, true, not, ◌&&◌, List, [], ◌∷◌, ◌++◌, length, map, take, drop, Option}
 use Rattle.std.specs.Prelude.{Some, None, option_map, slice_get, slice_set, if◌then◌else◌, nat_eq, nat_lt, nat_le}
-use Rattle.cordyceps_base.specs.Element.{Elements, values, with_value, found, without}
+use Rattle.cordyceps_base.specs.Element.{Elements, values, with_value, first_with_id, without_id}
 pub use Rattle.cordyceps_commands.specs.ListCommands.{list_of, OthersFit, Fits}
 use Rattle.cordyceps_commands.specs.declared.item.Item.{Item}
 use Rattle.cordyceps_commands.specs.declared.list_command.ListCommand.{ListCommand}
@@ -37,7 +37,7 @@ step_on s (commands.Back list) = (s, found_or_nothing (slice_get (values s) (len
 step_on s (commands.SetFront list value) = set_item s 0 (slice_get (values s) 0) value
 step_on s (commands.SetBack list value) = set_item s (length s - 1) (slice_get (values s) (length s - 1)) value
 step_on s (commands.Len list) = (s, len (length s) ∷ [])
-step_on s (commands.Remove list id) = (without id s, found_or_nothing (option_map (λ e. e.value) (found id s)) ∷ [])
+step_on s (commands.Remove list id) = (without_id id s, found_or_nothing (option_map (λ e. e.value) (first_with_id id s)) ∷ [])
 step_on s (commands.Bump list by) = (bump_all by s, done ∷ [])
 step_on s (commands.Walk list turns) = (s, show (items_for turns.items (values s)) ∷ [])
 step_on s (commands.Into list turns) = ([], show (items_for turns.items (values s)) ∷ [])

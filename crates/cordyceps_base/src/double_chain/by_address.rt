@@ -2,14 +2,17 @@
 //! address.
 ghost use Rattle.std.specs.Prelude.{◌≡◌, ◌+◌, ◌^◌, ◌<◌, [], ◌∷◌, ◌++◌, length, slice_get, Some, MatchOption};
 ghost use Rattle.std.specs.Borrow.{sem};
+ghost use denote.RawPtr.{Ptr, null_ptr};
+ghost use Rattle.cordyceps_base.specs.Boxes.{box_addresses};
 ghost use Rattle.cordyceps_base.specs.BySpot.{HasSpot, HoldsAt, IsTaken, IsPutBefore, IsPutAfter, IsMovedFront, IsMovedBack, IsFirst, IsLast, AreNext};
+ghost use Rattle.cordyceps_base.specs.DoubleChain.{Segment};
 ghost use Rattle.cordyceps_base.specs.Element.{values};
-ghost use Rattle.cordyceps_base.specs.Nodes.{block_element, elements, spots};
-ghost use Rattle.cordyceps_base.specs.Spots.{index_of, AreDistinct};
+ghost use Rattle.cordyceps_base.specs.Nodes.{block_element, elements, nodes_of, spots};
+ghost use Rattle.cordyceps_base.specs.Spots.{index_of, AreDistinct, AreNullComparable};
 
 use super::DoubleChain;
 use crate::boxes::Address;
-use crate::double_row::{Row, between, followed_by, node_of, preceded_by};
+use crate::double_row::{Part, Row, between, followed_by, node_of, preceded_by};
 use crate::list::Links;
 use crate::node::{Block, Node};
 use std::alloc::Global;
@@ -41,20 +44,6 @@ impl<T> DoubleChain<T> {
     {
         let differing = self.take().distinct();
         self.put(differing);
-    }
-
-    /// Returns the address of the first node, or `None` if the chain is empty.
-    pub fn first(&self) -> Option<Address>
-        ensures { MatchOption result (self.now ≡ []) (λ p. IsFirst self.now p.ptr) }
-    {
-        if self.len == 0 { None } else { Some(self.head) }
-    }
-
-    /// Returns the address of the last node, or `None` if the chain is empty.
-    pub fn last(&self) -> Option<Address>
-        ensures { MatchOption result (self.now ≡ []) (λ p. IsLast self.now p.ptr) }
-    {
-        if self.len == 0 { None } else { Some(self.tail) }
     }
 
     /// Returns the address of the node after the one at `at`, or `None` if that is the last.
@@ -94,7 +83,7 @@ impl<T> DoubleChain<T> {
     }
 
     /// Separates the node at `at` from the others.
-    fn parted(self, at: Address) -> (DoubleChain<T>, Row<T>)
+    fn separate(self, at: Address) -> (DoubleChain<T>, Row<T>)
         requires { HasSpot self at.ptr }
         ensures parts { (a : Global) × (x : Block T) × IsTaken self at.ptr (block_element x) result.0
             × (result.1.blocks ≡ (at.ptr, a, x) ∷ []) }
@@ -127,7 +116,7 @@ impl<T> DoubleChain<T> {
         requires { HasSpot self.old at.ptr }
         ensures { IsMovedFront self.old at.ptr self.new }
     {
-        let (rest, one) = self.take().parted(at);
+        let (rest, one) = self.take().separate(at);
         self.put(DoubleChain::of_one(at, one).join(rest));
     }
 
@@ -136,36 +125,37 @@ impl<T> DoubleChain<T> {
         requires { HasSpot self.old at.ptr }
         ensures { IsMovedBack self.old at.ptr self.new }
     {
-        let (rest, one) = self.take().parted(at);
+        let (rest, one) = self.take().separate(at);
         self.put(rest.join(DoubleChain::of_one(at, one)));
     }
 }
 
 impl<T: Drop> DoubleChain<T> {
-    /// Prepends a node and returns its address. Requires a length below `usize::MAX`.
-    pub fn link_first(&mut self, node: Node<T, Links<T>>) -> Address
-        requires { length self.old + 1 < 2 ^ 64 }
-        ensures holds { self.new ≡ (result.ptr, node) ∷ self.old }
-        ensures distinct { AreDistinct (spots self.new) }
+    /// Creates a chain of a front part, a node and a back part, and returns the address of the node too. The parts have
+    /// `len` nodes together.
+    fn of_parts(
+        front: Part<T>,
+        node: Node<T, Links<T>>,
+        back: Part<T>,
+        len: usize,
+    ) -> (DoubleChain<T>, Address)
+        requires front { (q : Ptr) × Segment null_ptr front.first.ptr front.row.blocks front.last.ptr q }
+        requires back { (p : Ptr) × Segment p back.first.ptr back.row.blocks back.last.ptr null_ptr }
+        requires front_comparable { AreNullComparable (box_addresses front.row.blocks) }
+        requires back_comparable { AreNullComparable (box_addresses back.row.blocks) }
+        requires len { len ≡ length front.row.blocks + length back.row.blocks }
+        requires fits { len + 1 < 2 ^ 64 }
+        ensures { result.0 ≡ nodes_of front.row.blocks ++ (result.1.ptr, node) ∷ nodes_of back.row.blocks }
     {
-        let rest = self.take();
-        let one = DoubleChain::one(node);
-        let at = one.head();
-        self.put(one.join(rest).distinct());
-        at
-    }
-
-    /// Appends a node and returns its address. Requires a length below `usize::MAX`.
-    pub fn link_last(&mut self, node: Node<T, Links<T>>) -> Address
-        requires { length self.old + 1 < 2 ^ 64 }
-        ensures holds { self.new ≡ self.old ++ (result.ptr, node) ∷ [] }
-        ensures distinct { AreDistinct (spots self.new) }
-    {
-        let rest = self.take();
-        let one = DoubleChain::one(node);
-        let at = one.head();
-        self.put(rest.join(one).distinct());
-        at
+        let (new, whole) = between(front, node, back);
+        let Part { first, last, row } = whole;
+        let chain = DoubleChain {
+            head: first,
+            tail: last,
+            len: len + 1,
+            boxes: row.null_comparable(),
+        };
+        (chain, new)
     }
 
     /// Inserts a node before the one at `at`, and returns its address too.
@@ -181,15 +171,17 @@ impl<T: Drop> DoubleChain<T> {
             boxes,
         } = self;
         let (front, back) = boxes.cut_at(at);
-        let prev = back.get(at, 0).links.prev;
-        let (new, head, tail, boxes) = between(front, head, prev, node, at, back, tail);
-        let whole = DoubleChain {
-            head,
-            tail,
-            len: len + 1,
-            boxes: boxes.null_comparable(),
+        let before = Part {
+            first: head,
+            last: back.get(at, 0).links.prev,
+            row: front,
         };
-        (whole, new)
+        let rest = Part {
+            first: at,
+            last: tail,
+            row: back,
+        };
+        DoubleChain::of_parts(before, node, rest, len)
     }
 
     /// Inserts a node after the one at `at`, and returns its address too.
@@ -207,15 +199,17 @@ impl<T: Drop> DoubleChain<T> {
         let (front, back) = boxes.cut_at(at);
         let next = back.get(at, 0).links.next;
         let (one, rest) = back.cut(1);
-        let front = front.join(one);
-        let (new, head, tail, boxes) = between(front, head, at, node, next, rest, tail);
-        let whole = DoubleChain {
-            head,
-            tail,
-            len: len + 1,
-            boxes: boxes.null_comparable(),
+        let before = Part {
+            first: head,
+            last: at,
+            row: front.join(one),
         };
-        (whole, new)
+        let after = Part {
+            first: next,
+            last: tail,
+            row: rest,
+        };
+        DoubleChain::of_parts(before, node, after, len)
     }
 
     /// Inserts a node before the one at `at` and returns its address. Requires a length below `usize::MAX`.
@@ -247,7 +241,7 @@ impl<T: Drop> DoubleChain<T> {
         requires { HasSpot self.old at.ptr }
         ensures { IsTaken self.old at.ptr result self.new }
     {
-        let (rest, one) = self.take().parted(at);
+        let (rest, one) = self.take().separate(at);
         self.put(rest);
         node_of(at, one)
     }

@@ -89,7 +89,7 @@ impl<'a, T: Linked<Links<T>>> Cursor<'a, T> {
         ensures place { self.new.place ≡ (self.old.place + moves) % (length self.old.elements + 1) }
         ensures round { moves ≡ length self.old.elements + 1 → self.new ≡ self.old }
     {
-        prove!(self.at() <= self.len());
+        prove!(self.place() <= self.len());
         for _ in 0..moves {
             self.move_next();
         }
@@ -106,7 +106,7 @@ impl<'a, T: Linked<Links<T>>> Cursor<'a, T> {
             ≡ (self.old.place + moves * length self.old.elements) % (length self.old.elements + 1) }
         ensures round { moves ≡ length self.old.elements + 1 → self.new ≡ self.old }
     {
-        prove!(self.at() <= self.len());
+        prove!(self.place() <= self.len());
         for _ in 0..moves {
             self.move_prev();
         }

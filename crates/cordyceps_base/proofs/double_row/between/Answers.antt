@@ -6,10 +6,10 @@ use Rattle.cordyceps_base.proofs.double_row.between.Goals as goal
 
 pub returns-clause-linked : goal.returns-clause-linked
 returns-clause-linked g c =
-    let at = c.one-one.result.0.ptr in let a = c.one-one.result.1 in let v = c.from_box.result.value in let nx = c.args.next in let pr = c.args.prev in
+    let at = c.one-one.result.0.ptr in let a = c.one-one.result.1 in let v = c.from_box.result.value in let nx = c.args.back.first in let pr = c.args.front.last in
     let f = c.followed_by-front.result.1.blocks in let r = c.preceded_by-back.result.1.blocks in let h = c.followed_by-front.result.0.ptr in let t = c.preceded_by-back.result.0.ptr in
     let is = linked_one at a v nx pr c.get_mut.result.now c.get_mut-2.result.now c.one-one.result.2.blocks c.one-one.ensures c.get_mut.ensures.value c.get_mut-2.ensures.value in
     let w = with_prev (with_next v nx) pr in
     let back : Segment pr.ptr at ((at, a, w) ∷ [] ++ r) t null_ptr = (refl, refl, c.preceded_by-back.ensures.linked) in
-    subst (λ ls. Segment null_ptr h ls t null_ptr) (sym (c.join-2.ensures ∙ ap (λ ls. f ++ ls) (c.join.ensures ∙ ap (λ ls. ls ++ r) is)))
+    subst (λ ls. Segment null_ptr h ls t null_ptr) (sym (c.join-row.ensures ∙ ap (λ ls. f ++ ls) (c.join.ensures ∙ ap (λ ls. ls ++ r) is)))
     (segment_join null_ptr h f pr.ptr at ((at, a, w) ∷ [] ++ r) t null_ptr c.followed_by-front.ensures.linked back)

@@ -1,4 +1,4 @@
--- `from_address` shows the boxes behind the first. Assumes `Logic`.
+-- `from_address` shows the boxes after the first. Assumes `Logic`.
 use Rattle.std.proofs.Common.{◌≡◌, List, [], ◌∷◌, ◌++◌, refl, sym, subst, drop}
 use mir.Val.{Val, vptr}
 use mir.MapTy.{inst_fn}
@@ -22,7 +22,7 @@ use denote.Triple.Walked.{Stays, stay_dropped, Goes-dropped, walk_of}
 use Rattle.std_alloc.proofs.BoxSteps.Form.{Bx, args, R}
 use Rattle.std.proofs.raw_atomic.Walks.{proved_at, leaves}
 use Rattle.cordyceps_base.specs.Boxes.{boxes_lent, box_addresses}
-use Rattle.cordyceps_base.proofs.Memory.{Br, Pr, word_had, address-Good, lent_behind}
+use Rattle.cordyceps_base.proofs.Memory.{Br, Pr, word_had, address-Good, lent_after}
 use Rattle.std_alloc.proofs.RcSteps.{word}
 use Rattle.cordyceps_base.specs.Spots.{index_of}
 use Rattle.cordyceps_base.specs.contracts.boxes.Boxes.from_address.{ended, clauses}
@@ -45,7 +45,7 @@ from_address_spec 𝓤 𝓛 𝓜 𝓡 wired T A L LA g d dd allocator glued =
     suffices ! (Run (v ∷ word at.ptr ∷ [])) (subst (λ (us : List Val). ent 𝓤 (Run (v ∷ word at.ptr ∷ [])) (Run us)) (sym (λ i. e0 i ++ (e1 i ++ []))) (id⊢ 𝓤 (Run (v ∷ word at.ptr ∷ [])))) $
     enter ! 𝓣.C 𝓣.Λ fn (v ∷ word at.ptr ∷ []) Post $ alloc_all ! (λ l. pass_all ! refl ((tt, tt), (address-Good at.ptr, tt)) $
     sets ! (of_opd ! (get ! refl)) refl (tt, tt) $
-    unhide ! $ fsplit ! $ move ! (1 ∷ []) $ use1 𝓛 (‵ (boxes_lent (R E) new.blocks κ)) (lent_behind 𝓛 (R E) κ k x.now.blocks) $ move ! (1 ∷ 0 ∷ []) $ fjoin ! $
+    unhide ! $ fsplit ! $ move ! (1 ∷ []) $ use1 𝓛 (‵ (boxes_lent (R E) new.blocks κ)) (lent_after 𝓛 (R E) κ k x.now.blocks) $ move ! (1 ∷ 0 ∷ []) $ fjoin ! $
     use1 𝓛 (‵ (hidden_shr B κ new rb ro)) (id⊢ 𝓤 _) $ feq_i ! (List Val) (v ∷ []) (v ∷ []) refl $ fjoin ! $
     use0 𝓛 (raw (fact 𝓤 (new.blocks ≡ drop k x.now.blocks))) (fact_i 𝓤 (new.blocks ≡ drop k x.now.blocks) (emp 𝓤) refl) $ nothing ! $ nothing ! $ fjoin ! $ nothing ! $ fjoin ! $
     -- [what is left of the parameter; what is ensured; the result; nothing; the tokens]

@@ -22,7 +22,7 @@ use denote.Triple.Walked.{Stays, stay_dropped, Goes-dropped, walk_of}
 use Rattle.std_alloc.proofs.BoxSteps.Form.{Bx, args, R}
 use Rattle.std.proofs.raw_atomic.Walks.{proved_at, leaves}
 use Rattle.cordyceps_base.specs.Boxes.{boxes_lent}
-use Rattle.cordyceps_base.proofs.Memory.{Br, lent_behind}
+use Rattle.cordyceps_base.proofs.Memory.{Br, lent_after}
 use Rattle.cordyceps_base.specs.contracts.boxes.Boxes.only_last.{ended, clauses}
 use Rattle.cordyceps_base.specs.contracts.boxes.Boxes.only_last.Key.{name as #self}
 use Rattle.cordyceps_base.proofs.boxes.Boxes.only_last.Statement.{statement}
@@ -43,7 +43,7 @@ only_last_spec 𝓤 𝓛 𝓜 𝓡 wired T A L LA g d dd allocator glued =
     suffices ! (Run (v ∷ [])) (subst (λ (us : List Val). ent 𝓤 (Run (v ∷ [])) (Run us)) (sym (λ i. e0 i ++ [])) (id⊢ 𝓤 (Run (v ∷ [])))) $
     enter ! 𝓣.C 𝓣.Λ fn (v ∷ []) Post $ alloc_all ! (λ l. pass_all ! refl ((tt, tt), tt) $
     sets ! (of_opd ! (get ! refl)) refl (tt, tt) $
-    unhide ! $ fsplit ! $ move ! (1 ∷ []) $ use1 𝓛 (‵ (boxes_lent (R E) new.blocks κ)) (lent_behind 𝓛 (R E) κ (length x.now.blocks - 1) x.now.blocks) $ move ! (1 ∷ 0 ∷ []) $ fjoin ! $
+    unhide ! $ fsplit ! $ move ! (1 ∷ []) $ use1 𝓛 (‵ (boxes_lent (R E) new.blocks κ)) (lent_after 𝓛 (R E) κ (length x.now.blocks - 1) x.now.blocks) $ move ! (1 ∷ 0 ∷ []) $ fjoin ! $
     use1 𝓛 (‵ (hidden_shr B κ new rb ro)) (id⊢ 𝓤 _) $ feq_i ! (List Val) (v ∷ []) (v ∷ []) refl $ fjoin ! $
     use0 𝓛 (raw (fact 𝓤 (new.blocks ≡ drop (length x.now.blocks - 1) x.now.blocks))) (fact_i 𝓤 (new.blocks ≡ drop (length x.now.blocks - 1) x.now.blocks) (emp 𝓤) refl) $ nothing ! $ nothing ! $ fjoin ! $
     -- [what is left of the parameter; what is ensured; the result; nothing; the tokens]

@@ -3,10 +3,10 @@ use denote.RawPtr.{InBlock}
 use Rattle.cordyceps_base.specs.declared.boxes.Address.{Address}
 use Rattle.cordyceps_base.specs.Boxes.{box_addresses}
 use Rattle.cordyceps_base.specs.Nodes.{block_element, nodes_of, OwnedNode}
-use Rattle.cordyceps_base.specs.SingleChain.{EndsAt, IsParted, next_of, relinked}
+use Rattle.cordyceps_base.specs.SingleChain.{EndsAt, IsParted, next_of, with_next_of_last}
 use Rattle.cordyceps_base.specs.Spots.{AreNullComparable}
 use Rattle.cordyceps_base.proofs.Nodes.{nodes_of-append}
-use Rattle.cordyceps_base.proofs.SingleChain.{led_somewhere, joined_behind, ends_with, ends_here, nodes_of-relinked, is_none, is_not_none}
+use Rattle.cordyceps_base.proofs.SingleChain.{led_somewhere, joined_after, ends_with, ends_here, nodes_of-with_next_of_last, is_none, is_not_none}
 use Rattle.cordyceps_base.proofs.single_chain.Cursor.with_node.Goals.{then-is_none, else-is_none}
 use Rattle.cordyceps_base.proofs.single_chain.Cursor.with_node.Goals as goal
 
@@ -25,7 +25,7 @@ returns-then-is_none-2 g c =
 
 pub invariant_of-result-2 : goal.invariant_of-result-2
 invariant_of-result-2 g c =
-    let i = c.self.inside in let address = c.one-new.result.0 in let n : OwnedNode g.row.T.Denot = (address.ptr, c.one-new.result.1, c.from_box.result.value) in let front = relinked i.front.blocks address in let f = c.self.invariant in
+    let i = c.self.inside in let address = c.one-new.result.0 in let n : OwnedNode g.row.T.Denot = (address.ptr, c.one-new.result.1, c.from_box.result.value) in let front = with_next_of_last i.front.blocks address in let f = c.self.invariant in
     let null_comparable : AreNullComparable (box_addresses (n ∷ [])) = subst (λ l. AreNullComparable (box_addresses l)) c.one-new.ensures c.null_comparable-new.ensures.1 in let there : InBlock address.ptr = null_comparable.0 in
     let ends : EndsAt (front ++ n ∷ [] ++ i.rest.blocks) c.if-is_none.tail.ptr =
     elim c.if-is_none.branch [
@@ -34,14 +34,14 @@ invariant_of-result-2 g c =
     ] in
     subst (λ l. IsParted i.head address.ptr i.at c.if-is_none.tail.ptr c.join-2.result.blocks l) (sym c.null_comparable-rest.ensures.0)
     (subst (λ l. IsParted i.head address.ptr i.at c.if-is_none.tail.ptr l i.rest.blocks) (sym (c.join-2.ensures ∙ (λ j. c.with_last_link.ensures j ++ (c.null_comparable-new.ensures.0 ∙ c.one-new.ensures) j)))
-    (joined_behind i.head i.at i.before.ptr i.tail.ptr c.if-is_none.tail.ptr i.front.blocks i.rest.blocks n address refl there f (is_not_none i.head c.if-is_none-2.ensures) (ap (λ x. next_of x) c.from_box.ensures ∙ c.or_nowhere.ensures) ends))
+    (joined_after i.head i.at i.before.ptr i.tail.ptr c.if-is_none.tail.ptr i.front.blocks i.rest.blocks n address refl there f (is_not_none i.head c.if-is_none-2.ensures) (ap (λ x. next_of x) c.from_box.ensures ∙ c.or_nowhere.ensures) ends))
 
 pub returns : goal.returns
 returns g c =
     let i = c.self.inside in let address = c.one-new.result.0.ptr in
     let node = ap block_element c.from_box.ensures ∙ ap block_element c.deref_mut.ensures.value ∙ c.node.view_is in
     let new = ap nodes_of c.one-new.ensures ∙ (λ j. (address, node j) ∷ []) in
-    let front = ap nodes_of c.with_last_link.ensures ∙ nodes_of-relinked i.front.blocks c.one-new.result.0 ∙ ap (λ v. v.before) c.self.view_is in (
+    let front = ap nodes_of c.with_last_link.ensures ∙ nodes_of-with_next_of_last i.front.blocks c.one-new.result.0 ∙ ap (λ v. v.before) c.self.view_is in (
       address,
       ap nodes_of c.join-2.ensures ∙ (λ j. nodes_of (c.with_last_link.result.blocks ++ c.null_comparable-new.ensures.0 j)) ∙ nodes_of-append c.with_last_link.result.blocks c.one-new.result.2.blocks ∙ (λ j. front j ++ new j),
       ap nodes_of c.null_comparable-rest.ensures.0 ∙ ap (λ v. v.rest) c.self.view_is,

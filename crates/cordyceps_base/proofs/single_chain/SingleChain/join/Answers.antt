@@ -1,10 +1,10 @@
 use Rattle.std.proofs.Common.{◌++◌, refl, ap, ◌∙◌, sym, subst}
 use Rattle.cordyceps_base.specs.Nodes.{nodes_of}
 use Rattle.cordyceps_base.specs.Boxes.{box_addresses}
-use Rattle.cordyceps_base.specs.SingleChain.{IsLed, EndsAt, relinked, unless_null}
+use Rattle.cordyceps_base.specs.SingleChain.{IsLed, EndsAt, with_next_of_last, unless_null}
 use Rattle.cordyceps_base.specs.Spots.{AreNullComparable}
 use Rattle.cordyceps_base.proofs.Nodes.{nodes_of-append}
-use Rattle.cordyceps_base.proofs.SingleChain.{line_join, nodes_of-relinked, some_nodes}
+use Rattle.cordyceps_base.proofs.SingleChain.{line_join, nodes_of-with_next_of_last, some_nodes}
 use Rattle.cordyceps_base.proofs.single_chain.SingleChain.join.Goals as goal
 
 pub invariant_of-result-2 : goal.invariant_of-result-2
@@ -21,4 +21,4 @@ invariant_of-result-2 g c =
 pub returns : goal.returns
 returns g c =
     let xs = c.self.inside.boxes.blocks in let ys = c.other.inside.boxes.blocks in let next = c.other.inside.head in
-    ap nodes_of c.null_comparable.ensures.0 ∙ ap nodes_of c.join-boxes.ensures ∙ (λ i. nodes_of (c.with_last_link.ensures i ++ ys)) ∙ nodes_of-append (relinked xs next) ys ∙ (λ i. nodes_of-relinked xs next i ++ nodes_of ys) ∙ (λ i. c.self.view_is i ++ c.other.view_is i)
+    ap nodes_of c.null_comparable.ensures.0 ∙ ap nodes_of c.join-boxes.ensures ∙ (λ i. nodes_of (c.with_last_link.ensures i ++ ys)) ∙ nodes_of-append (with_next_of_last xs next) ys ∙ (λ i. nodes_of-with_next_of_last xs next i ++ nodes_of ys) ∙ (λ i. c.self.view_is i ++ c.other.view_is i)

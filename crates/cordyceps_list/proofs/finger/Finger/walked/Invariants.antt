@@ -9,7 +9,7 @@ abbrev pub decreases-loop-finger : goal.decreases-loop-finger
 decreases-loop-finger g l = l.to - l.finger.index
 
 abbrev pub invariant-loop-finger-2 : goal.invariant-loop-finger-2
-invariant-loop-finger-2 g l = record { on : IsOn l.chain l.finger; behind : l.to ≤ l.finger.index }
+invariant-loop-finger-2 g l = record { on : IsOn l.chain l.finger; after : l.to ≤ l.finger.index }
 
 abbrev pub decreases-loop-finger-2 : goal.decreases-loop-finger-2
 decreases-loop-finger-2 g l = l.finger.index

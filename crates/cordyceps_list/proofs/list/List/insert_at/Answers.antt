@@ -8,12 +8,12 @@ use Rattle.cordyceps_list.proofs.list.List.insert_at.Goals as goal
 pub invariant_of-self : goal.invariant_of-self
 invariant_of-self g c =
     let nodes = c.self.inside.chain in
-    let at = c.args.at in
-    let within : at ≤ length nodes = omega (arith, c.requires.within, ap length c.self.view_is, length-map nodes (λ n. n.1)) in
-    let (place, is) = c.link.ensures in
-    fit_splice nodes c.link.new.self ((place, c.into_ptr.result) ∷ []) c.seek_within-place.new.self c.after_splice-self-inside.result at 1 c.seek_within-place.ensures.fit within is refl c.after_splice-self-inside.ensures.front c.after_splice-self-inside.ensures.back
+    let index = c.args.index in
+    let within : index ≤ length nodes = omega (arith, c.requires.within, ap length c.self.view_is, length-map nodes (λ n. n.1)) in
+    let (address, is) = c.link.ensures in
+    fit_splice nodes c.link.new.self ((address, c.into_ptr.result) ∷ []) c.seek_within-address.new.self c.after_splice-self-inside.result index 1 c.seek_within-address.ensures.fit within is refl c.after_splice-self-inside.ensures.front c.after_splice-self-inside.ensures.back
 
 pub returns : goal.returns
 returns g c =
-    let (place, is) = c.link.ensures in
-    rw (← c.self.view_is, ← c.into_ptr.ensures) (ap elements is ∙ elements-linked c.self.inside.chain c.args.at place c.into_ptr.result)
+    let (address, is) = c.link.ensures in
+    rw (← c.self.view_is, ← c.into_ptr.ensures) (ap elements is ∙ elements-linked c.self.inside.chain c.args.index address c.into_ptr.result)

@@ -5,8 +5,7 @@ use Rattle.cordyceps_list.proofs.list.List.push_back.Goals as goal
 
 pub invariant_of-self : goal.invariant_of-self
 invariant_of-self g c =
-    let (place, is) = c.link_back.ensures in
-    fit_more c.self.inside.chain c.link_back.new.self (_ ∷ []) c.self.inside.fingers c.after_splice-self-inside.result c.len.result 1 c.self.invariant c.len.ensures is refl c.after_splice-self-inside.ensures.front c.after_splice-self-inside.ensures.back
+    fit_more c.self.inside.chain c.link_back.new.self (_ ∷ []) c.self.inside.fingers c.after_splice-self-inside.result c.len.result 1 c.self.invariant c.len.ensures c.link_back.ensures.holds refl c.after_splice-self-inside.ensures.front c.after_splice-self-inside.ensures.back
 
 pub returns : goal.returns
 returns g c = grind (arith, common_steps)

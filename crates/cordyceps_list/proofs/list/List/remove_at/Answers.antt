@@ -8,16 +8,16 @@ use Rattle.cordyceps_list.proofs.list.List.remove_at.Goals as goal
 pub invariant_of-self : goal.invariant_of-self
 invariant_of-self g c =
     let nodes = c.self.inside.chain in
-    let at = c.args.at in
-    let inside : at < length nodes = omega (arith, c.requires, ap length c.self.view_is, length-map nodes (λ n. n.1)) in
-    let long : c.len.result - 1 ≡ length c.unlink.new.self = omega (arith, c.len.ensures, inside, ap length c.unlink.ensures.others, length-append (take at nodes) (drop (at + 1) nodes), length-take at nodes, length-drop (at + 1) nodes) in
-    fit_removed nodes c.unlink.new.self c.seek-place.new.self.back (record { front = record { at = c.next.result; index = at }; back = c.after_unlink.result }) at _ c.seek-place.ensures.fit.back inside c.unlink.ensures.others long refl c.next.ensures c.after_unlink.ensures
+    let index = c.args.index in
+    let inside : index < length nodes = omega (arith, c.requires, ap length c.self.view_is, length-map nodes (λ n. n.1)) in
+    let long : c.len.result - 1 ≡ length c.unlink.new.self = omega (arith, c.len.ensures, inside, ap length c.unlink.ensures.others, length-append (take index nodes) (drop (index + 1) nodes), length-take index nodes, length-drop (index + 1) nodes) in
+    fit_removed nodes c.unlink.new.self c.seek-address.new.self.back (record { front = record { address = c.next.result; index = index }; back = c.after_unlink.result }) index _ c.seek-address.ensures.fit.back inside c.unlink.ensures.others long refl c.next.ensures c.after_unlink.ensures
 
 pub returns-clause-value : goal.returns-clause-value
 returns-clause-value g c =
-    let (place, is) = c.unlink.ensures.node in
-    rw (← c.self.view_is, c.from_ptr.ensures) (element-at c.self.inside.chain c.args.at place c.unlink.result is)
+    let (address, is) = c.unlink.ensures.node in
+    rw (← c.self.view_is, c.from_ptr.ensures) (element-at c.self.inside.chain c.args.index address c.unlink.result is)
 
 pub returns-clause-kept : goal.returns-clause-kept
 returns-clause-kept g c =
-    rw (← c.self.view_is) (ap elements c.unlink.ensures.others ∙ elements-unlinked c.self.inside.chain c.args.at)
+    rw (← c.self.view_is) (ap elements c.unlink.ensures.others ∙ elements-unlinked c.self.inside.chain c.args.index)

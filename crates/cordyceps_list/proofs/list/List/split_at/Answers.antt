@@ -8,16 +8,16 @@ use Rattle.cordyceps_list.proofs.list.List.split_at.Goals as goal
 pub invariant_of-self : goal.invariant_of-self
 invariant_of-self g c =
     let nodes = c.self.inside.chain in
-    let within : c.args.at ≤ length nodes = omega (arith, c.requires, ap length c.self.view_is, length-map nodes (λ n. n.1)) in
-    fit_front nodes c.put.new.self c.seek_within-place.new.self c.after_change-self-inside.result c.args.at c.seek_within-place.ensures.fit within
-    (c.put.ensures ∙ c.split-front.ensures.front ∙ ap (take c.args.at) c.take.ensures.0) c.after_change-self-inside.ensures.front c.after_change-self-inside.ensures.back
+    let within : c.args.index ≤ length nodes = omega (arith, c.requires, ap length c.self.view_is, length-map nodes (λ n. n.1)) in
+    fit_front nodes c.put.new.self c.seek_within-address.new.self c.after_change-self-inside.result c.args.index c.seek_within-address.ensures.fit within
+    (c.put.ensures ∙ c.split-front.ensures.front ∙ ap (take c.args.index) c.take.ensures.0) c.after_change-self-inside.ensures.front c.after_change-self-inside.ensures.back
 
 pub returns-clause-kept : goal.returns-clause-kept
 returns-clause-kept g c =
-    let at = c.args.at in
-    ap elements (c.put.ensures ∙ c.split-front.ensures.front ∙ ap (take at) c.take.ensures.0) ∙ sym (take-map (λ n. n.1) at c.self.inside.chain) ∙ ap (take at) c.self.view_is
+    let index = c.args.index in
+    ap elements (c.put.ensures ∙ c.split-front.ensures.front ∙ ap (take index) c.take.ensures.0) ∙ sym (take-map (λ n. n.1) index c.self.inside.chain) ∙ ap (take index) c.self.view_is
 
 pub returns-clause-split : goal.returns-clause-split
 returns-clause-split g c =
-    let at = c.args.at in
-    c.from_chain.ensures ∙ ap elements (c.split-front.ensures.back ∙ ap (drop at) c.take.ensures.0) ∙ sym (drop-map (λ n. n.1) at c.self.inside.chain) ∙ ap (drop at) c.self.view_is
+    let index = c.args.index in
+    c.from_chain.ensures ∙ ap elements (c.split-front.ensures.back ∙ ap (drop index) c.take.ensures.0) ∙ sym (drop-map (λ n. n.1) index c.self.inside.chain) ∙ ap (drop index) c.self.view_is

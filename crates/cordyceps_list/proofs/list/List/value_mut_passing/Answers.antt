@@ -10,15 +10,15 @@ use Rattle.cordyceps_list.proofs.list.List.value_mut_passing.Goals as goal
 pub invariant_of-self-lent : goal.invariant_of-self-lent
 invariant_of-self-lent g c =
     let nodes = c.self.inside.chain in
-    let k = c.args.at in
-    let passed : Finger = record { at = c.next.result; index = k + 1 } in
+    let k = c.args.index in
+    let passed : Finger = record { address = c.next.result; index = k + 1 } in
     let fits : FingerFits nodes passed = record { within = omega (arith, c.requires.inside, ap length c.self.view_is, length-map nodes (λ n. n.1)); on = c.next.ensures } in
-    λ w. fit_written nodes k w (record { front = passed; back = c.seek-place.new.self.back }) (record { front = fits; back = c.seek-place.ensures.fit.back })
+    λ w. fit_written nodes k w (record { front = passed; back = c.seek-address.new.self.back }) (record { front = fits; back = c.seek-address.ensures.fit.back })
 
 pub returns : goal.returns
 returns g c =
     let nodes = c.self.inside.chain in
-    let k = c.args.at in (
+    let k = c.args.index in (
       (refl, λ w. elements-with_item nodes k w ∙ ap (λ s. with_value s k w) c.self.view_is),
       record { writes_back = tt; value = rw (← c.self.view_is) c.get_mut.ensures.value },
     )

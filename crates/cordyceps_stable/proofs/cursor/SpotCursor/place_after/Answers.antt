@@ -1,9 +1,9 @@
-use Rattle.std.proofs.Common.{◌≡◌, Some, None, [], refl}
-use Rattle.cordyceps_base.specs.BySpot.{IsFirst, IsLast, AreNext}
+use Rattle.std.proofs.Common.{Some, None, refl}
+use Rattle.cordyceps_base.specs.BySpot.{IsLast, AreNext}
 use Rattle.cordyceps_base.specs.Nodes.{Nodes}
 use Rattle.cordyceps_stable.specs.Walk.{IsOn}
 use Rattle.cordyceps_stable.proofs.Reached.{on_has}
-use Rattle.cordyceps_stable.proofs.Spots.{end_said, step_said, place_said}
+use Rattle.cordyceps_stable.proofs.Spots.{step_said, place_said}
 use Rattle.cordyceps_stable.proofs.cursor.SpotCursor.place_after.Goals as goal
 
 pub returns-in-Some-clause-place : goal.returns-in-Some-clause-place
@@ -17,7 +17,7 @@ returns-in-Some-clause-there g c = on_has c.args.self.now.nodes c.args.self.now.
 pub returns-in-None-clause-place : goal.returns-in-None-clause-place
 returns-in-None-clause-place g c =
     let s : Nodes g.row.T.Denot = c.self.inside.chain.now in
-    place_said IsOn s c.self.inside.at c.spot_of-in-None.result None c.args.self.now (end_said (λ l. l ≡ []) IsFirst c.first.result c.spot_of-in-None.result c.spot_of-in-None.ensures s s c.first.ensures refl) c.in-None.is c.self.view_is
+    place_said IsOn s c.self.inside.at c.first_spot.result None c.args.self.now c.first_spot.ensures c.in-None.is c.self.view_is
 
 pub returns-in-None-clause-there : goal.returns-in-None-clause-there
-returns-in-None-clause-there g c = on_has c.args.self.now.nodes c.args.self.now.spot c.spot_of-in-None.result (returns-in-None-clause-place g c)
+returns-in-None-clause-there g c = on_has c.args.self.now.nodes c.args.self.now.spot c.first_spot.result (returns-in-None-clause-place g c)

@@ -9,7 +9,7 @@ module _ {U S H : Type 0} (becomes : U → S → Type 0) (steps : S → Option H
   EndsWithin can left n items =
       (it : S) → becomes items it → can it × IsFinite (left it) × HoldsAlong steps it (λ taken. length taken ≤ n)
 
-  -- what comes of the items went behind old, in order
+  -- what comes of the items went after old, in order
   abbrev pub GrowsBy : {X : Type 0} → (H → Element X) → Elements X → U → Elements X → Type 0
   GrowsBy element old items new =
       (it : S) × (taken : List H) × becomes items it × Drains steps it taken × (new ≡ old ++ map element taken)

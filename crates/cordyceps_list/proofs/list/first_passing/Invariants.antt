@@ -3,8 +3,8 @@ use Rattle.std.specs.Fn.{CalledAt}
 use Rattle.cordyceps_base.specs.Element.{values}
 use Rattle.cordyceps_base.specs.Nodes.{elements}
 use Rattle.cordyceps_list.specs.Fingers.{FingerFits}
-use Rattle.cordyceps_list.specs.Walk.{MayAsk, Walks}
-use Rattle.cordyceps_list.proofs.walk.first_passing.Given as goal
+use Rattle.cordyceps_list.specs.Walks.{MayAsk, Walks}
+use Rattle.cordyceps_list.proofs.list.first_passing.Given as goal
 
 abbrev pub invariant-loop-finger : goal.invariant-loop-finger
 invariant-loop-finger g l = record {

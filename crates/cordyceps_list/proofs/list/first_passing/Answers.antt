@@ -3,10 +3,10 @@ use Rattle.std.proofs.lemmas.List.{length-map}
 use Rattle.std.specs.Fn.{CalledAt}
 use Rattle.cordyceps_base.specs.Element.{values}
 use Rattle.cordyceps_base.specs.Nodes.{elements}
-use Rattle.cordyceps_list.specs.Walk.{Walks}
+use Rattle.cordyceps_list.specs.Walks.{Walks}
 use Rattle.cordyceps_list.proofs.Asking.{may_ask_here, may_ask_on}
 use Rattle.cordyceps_list.proofs.Walking.{walk_end, walk_stop, walk_step}
-use Rattle.cordyceps_list.proofs.walk.first_passing.Goals as goal
+use Rattle.cordyceps_list.proofs.list.first_passing.Goals as goal
 
 pub returns-then-predicate-clause-walks : goal.returns-then-predicate-clause-walks
 returns-then-predicate-clause-walks g c =

@@ -1,7 +1,7 @@
 use Rattle.std.proofs.Common.{ap, ◌∙◌, arith}
 use Rattle.cordyceps_list.specs.declared.finger.Finger.{Finger}
-use Rattle.cordyceps_list.proofs.split.node_before.Goals.{then-before-len, else-before-len}
-use Rattle.cordyceps_list.proofs.split.node_before.Goals as goal
+use Rattle.cordyceps_list.proofs.list.node_before.Goals.{then-before-len, else-before-len}
+use Rattle.cordyceps_list.proofs.list.node_before.Goals as goal
 
 pub walked_in-requires-clause-room : goal.walked_in-requires-clause-room
 walked_in-requires-clause-room g c = grind arith

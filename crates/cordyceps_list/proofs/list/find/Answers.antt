@@ -3,7 +3,7 @@ use borrow.Author.Tests.{eq-eqb}
 use Rattle.std.proofs.lemmas.Bool.Decides.{nat_tests}
 use Rattle.cordyceps_base.specs.Nodes.{elements}
 use Rattle.cordyceps_list.proofs.Found.{found_at, unmet_more}
-use Rattle.cordyceps_list.proofs.remove.find.Goals as goal
+use Rattle.cordyceps_list.proofs.list.find.Goals as goal
 
 pub returns-then-id-clause-on : goal.returns-then-id-clause-on
 returns-then-id-clause-on g c =
@@ -18,4 +18,4 @@ returns-then-id-clause-others g c = (found_at c.args.id (elements c.args.chain.n
 pub loop-index-preserved : goal.loop-index-preserved
 loop-index-preserved g c =
     let t : eqb c.id.result c.args.id ≡ false = grind (arith, nat_tests, c.if-id.false) in
-    record { on = c.next-at.ensures; unmet = unmet_more c.args.id (elements c.args.chain.now) c.loop-index.index c.id.result c.id.ensures t c.loop-index.invariant.unmet }
+    record { on = c.next-address.ensures; unmet = unmet_more c.args.id (elements c.args.chain.now) c.loop-index.index c.id.result c.id.ensures t c.loop-index.invariant.unmet }
