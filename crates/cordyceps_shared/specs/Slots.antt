@@ -3,7 +3,7 @@ use Rattle.std.specs.Prelude.{◌≡◌, ◌<◌, ℕ, List, Option, None}
 use mathlib.Core.Option.{some}
 use mathlib.Core.Option as maybe
 use lib.ListN.{get_elem?}
-use Rattle.atomic_table.specs.Table.{Step}
+use Rattle.atomic_table.specs.Table.{Step, Me}
 use Rattle.cordyceps_shared.specs.Places.{ItemAt}
 use Rattle.cordyceps_shared.specs.declared.slots.Filled.{Filled}
 
@@ -14,6 +14,17 @@ Homes E = List (maybe.Option (Option (Filled E)))
 -- the slots that are in hand, the last taken first
 abbrev pub Hand : Type 0 → Type 0
 Hand E = List (ℕ × Option (Filled E))
+
+-- a party's seat: its view, of type V, and the slots that it has in hand
+abbrev pub SeatWith : Type 0 → Type 0 → Type 0
+SeatWith E V = Me (Option (Filled E)) V
+
+module _ {E V : Type 0} where
+  abbrev pub view : SeatWith E V → V
+  view m = m.0
+
+  abbrev pub hand : SeatWith E V → Hand E
+  hand m = m.1
 
 -- the rooms are of a table with that many slots
 abbrev pub Near : ℕ → List ℕ → Type 0

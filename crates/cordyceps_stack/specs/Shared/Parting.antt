@@ -3,7 +3,7 @@ use Rattle.std.specs.Prelude.{◌≡◌, ℕ, ◌≤◌, [], ◌++◌, length, t
 use Rattle.cordyceps_shared.specs.Knowing.{IsKnown}
 use Rattle.cordyceps_shared.specs.Knowing as knowing
 use Rattle.cordyceps_stack.specs.History.{Legal}
-use Rattle.cordyceps_shared.specs.Slots.{TableStep}
+use Rattle.cordyceps_shared.specs.Slots.{TableStep, view, hand}
 use Rattle.cordyceps_stack.specs.Shared.Plays.{SeatState}
 use Rattle.cordyceps_stack.specs.Shared.View.{Idle, View}
 
@@ -14,7 +14,8 @@ module _ {E : Type 0} where
 
   abbrev pub after_learn : TableStep E → SeatState E → ℕ → SeatState E → Type 0
   after_learn st m read k =
-      (k.0 ≡ view_without_told m.0) × (k.1 ≡ m.1) × IsKnown (λ h. Legal h) m.0.known × (length m.0.free ≤ st.slots)
+      (view k ≡ view_without_told (view m)) × (hand k ≡ hand m) × IsKnown (λ h. Legal h) (view m).known
+      × (length (view m).free ≤ st.slots)
 
   -- what a party has that gave up the first n of its free rooms, and what the new one has
   abbrev pub view_keeping : ℕ → View E → View E

@@ -12,6 +12,7 @@ use Rattle.cordyceps_stack.specs.Shared.Rule.{IsTable}
 use Rattle.cordyceps_stack.specs.Shared.Calls.{PartyOf, EndsPushed, IsOvertaken}
 use Rattle.cordyceps_stack.specs.Shared.View.{Idle, Ready, Loaded, Set, View, name}
 use Rattle.cordyceps_stack.specs.Shared.Words.{start}
+use Rattle.cordyceps_shared.specs.Slots.{view, hand}
 
 -- a seat of this table, which is a stack's
 abbrev pub IsSeatOf : TableId → TableId → Type 0
@@ -21,66 +22,68 @@ module _ {E : Type 0} where
   -- a push has begun: the slot of the first free room is in hand, and filled
   pub record IsFilled (slots : ℕ) (full : Filled E) (m k : SeatState E) : Type 0 where
     pub ready : IsReady slots full.ticket full.item k
-    pub free : m.0.free ≡ full.ticket ∷ k.0.free
-    pub known : k.0.known ≡ m.0.known
+    pub free : (view m).free ≡ full.ticket ∷ (view k).free
+    pub known : (view k).known ≡ (view m).known
 
   -- it read head
   pub record IsLoaded (room read : ℕ) (m k : SeatState E) : Type 0 where
-    pub doing : k.0.doing ≡ Loaded room read
-    pub free : k.0.free ≡ m.0.free
-    pub hand : k.1 ≡ m.1
-    pub sees : Sees m.0 (Load (name m.0) ∷ []) k.0
+    pub doing : (view k).doing ≡ Loaded room read
+    pub free : (view k).free ≡ (view m).free
+    pub hand : hand k ≡ hand m
+    pub sees : Sees (view m) (Load (name (view m)) ∷ []) (view k)
 
   -- its exchange came to this
   abbrev pub Settled : ℕ → ℕ → E → Bool → SeatState E → SeatState E → Type 0
   Settled room read x true m k =
-      (k.0.doing ≡ Idle) × (k.0.free ≡ m.0.free) × (k.1 ≡ []) × Sees m.0 (Push (name m.0) x ∷ []) k.0
-      × EndsPushed x (read ≡ 0) (name m.0) k.0.known.seen
+      ((view k).doing ≡ Idle) × ((view k).free ≡ (view m).free) × (hand k ≡ [])
+      × Sees (view m) (Push (name (view m)) x ∷ []) (view k)
+      × EndsPushed x (read ≡ 0) (name (view m)) (view k).known.seen
   Settled room read x false m k =
-      (k.0.doing ≡ Ready room) × (k.0.free ≡ m.0.free) × (k.1 ≡ m.1) × Sees m.0 [] k.0 × IsOvertaken k.0.known.seen
+      ((view k).doing ≡ Ready room) × ((view k).free ≡ (view m).free) × (hand k ≡ hand m) × Sees (view m) [] (view k)
+      × IsOvertaken (view k).known.seen
 
   -- another came between, and the party does and has what it did and had
   pub record HasMissed (m k : SeatState E) : Type 0 where
-    pub doing : k.0.doing ≡ m.0.doing
-    pub hand : k.1 ≡ m.1
-    pub free : k.0.free ≡ m.0.free
-    pub sees : Sees m.0 (Load (name m.0) ∷ []) k.0
-    pub overtaken : IsOvertaken k.0.known.seen
+    pub doing : (view k).doing ≡ (view m).doing
+    pub hand : hand k ≡ hand m
+    pub free : (view k).free ≡ (view m).free
+    pub sees : Sees (view m) (Load (name (view m)) ∷ []) (view k)
+    pub overtaken : IsOvertaken (view k).known.seen
 
   -- the last of so many tries of a party that was ready has pushed, and the party rests
   pub record SettlesAt (slots tries : ℕ) (x : E) (first : Bool) (m k : SeatState E) : Type 0 where
     pub rests : IsResting slots k
-    pub free : k.0.free ≡ m.0.free
-    pub sees : Sees m.0 (replicate tries (Load (name m.0)) ++ Push (name m.0) x ∷ []) k.0
-    pub ends : EndsPushed x (IsTrue first) (name m.0) k.0.known.seen
+    pub free : (view k).free ≡ (view m).free
+    pub sees : Sees (view m) (replicate tries (Load (name (view m))) ++ Push (name (view m)) x ∷ []) (view k)
+    pub ends : EndsPushed x (IsTrue first) (name (view m)) (view k).known.seen
 
   -- a party that rested has pushed, at the last of so many tries
   pub record HasPushed (tries ticket : ℕ) (x : E) (first : Bool) (m k : SeatState E) : Type 0 where
-    pub free : m.0.free ≡ ticket ∷ k.0.free
-    pub sees : Sees m.0 (replicate tries (Load (name m.0)) ++ Push (name m.0) x ∷ []) k.0
-    pub ends : EndsPushed x (IsTrue first) (name m.0) k.0.known.seen
+    pub free : (view m).free ≡ ticket ∷ (view k).free
+    pub sees : Sees (view m) (replicate tries (Load (name (view m))) ++ Push (name (view m)) x ∷ []) (view k)
+    pub ends : EndsPushed x (IsTrue first) (name (view m)) (view k).known.seen
 
   -- the party has these rooms to hand out, which it took with one swap
   pub record TookAll (slots found : ℕ) (m k : SeatState E) : Type 0 where
-    pub walking : IsWalking slots (to_hand_out k.0.doing) k
-    pub found_is : found ≡ start (to_hand_out k.0.doing)
-    pub free : k.0.free ≡ m.0.free
-    pub sees : Sees m.0 (Taken (name m.0) (room_elements (to_hand_out k.0.doing)) ∷ []) k.0
+    pub walking : IsWalking slots (to_hand_out (view k).doing) k
+    pub found_is : found ≡ start (to_hand_out (view k).doing)
+    pub free : (view k).free ≡ (view m).free
+    pub sees : Sees (view m) (Taken (name (view m)) (room_elements (to_hand_out (view k).doing)) ∷ []) (view k)
 
   -- it has handed out one more, and this word leads to the next
   pub record Walked (slots : ℕ) (full : Filled E) (below : ℕ) (m k : SeatState E) : Type 0 where
-    pub batch : to_hand_out m.0.doing ≡ (full.ticket, full.item) ∷ to_hand_out k.0.doing
-    pub walking : IsWalking slots (to_hand_out k.0.doing) k
-    pub below_is : below ≡ start (to_hand_out k.0.doing)
-    pub free : k.0.free ≡ full.ticket ∷ m.0.free
-    pub known : k.0.known ≡ m.0.known
-    pub few : length k.0.free ≤ slots
+    pub batch : to_hand_out (view m).doing ≡ (full.ticket, full.item) ∷ to_hand_out (view k).doing
+    pub walking : IsWalking slots (to_hand_out (view k).doing) k
+    pub below_is : below ≡ start (to_hand_out (view k).doing)
+    pub free : (view k).free ≡ full.ticket ∷ (view m).free
+    pub known : (view k).known ≡ (view m).known
+    pub few : length (view k).free ≤ slots
 
   -- all that it had in hand is handed out
   pub record EmptiesHand (slots : ℕ) (m k : SeatState E) : Type 0 where
     pub rests : IsResting slots k
-    pub known : k.0.known ≡ m.0.known
-    pub free : length k.0.free ≡ length m.0.free + length (to_hand_out m.0.doing)
+    pub known : (view k).known ≡ (view m).known
+    pub free : length (view k).free ≡ length (view m).free + length (to_hand_out (view m).doing)
 
   -- ---- parties
   -- what a contract sees of a party with this seat
@@ -92,7 +95,7 @@ module _ {E : Type 0} where
   pub record IsSeated (z : TableId) (m : SeatState E) (tickets : List ℕ) : Type 0 where
     pub table : IsTable z
     pub rests : IsResting z.slots m
-    pub free : m.0.free ≡ tickets
-    pub legal : Legal (plain m.0.known.seen)
-    pub alone : m.0.known.share ≡ whole → AllOwn m.0.known.seen
-    pub share : IsShare m.0.known.share
+    pub free : (view m).free ≡ tickets
+    pub legal : Legal (plain (view m).known.seen)
+    pub alone : (view m).known.share ≡ whole → AllOwn (view m).known.seen
+    pub share : IsShare (view m).known.share

@@ -1,7 +1,6 @@
 -- What each atomic step tells a party of a transfer stack: of its seat m before, of the word that it found, and of its
 -- seat k after. A seat has a view, and the slots in hand, the last taken first.
 use Rattle.std.specs.Prelude.{◌≡◌, ◌≢◌, ℕ, ◌+◌, ◌<◌, ◌≤◌, List, [], ◌∷◌, length, Option, Some, None}
-use Rattle.atomic_table.specs.Table.{Me}
 use Rattle.cordyceps_shared.specs.Knowing.{Grown}
 use Rattle.cordyceps_shared.specs.Shares.{Name}
 use Rattle.cordyceps_shared.specs.declared.layout.TheConstants.{LINKS}
@@ -11,10 +10,10 @@ use Rattle.cordyceps_stack.specs.Cores.Stages.{room_elements}
 use Rattle.cordyceps_stack.specs.Shared.Calls.{EndsPushed, EndsLooked, IsOvertaken}
 use Rattle.cordyceps_stack.specs.Shared.View.{Doing, Idle, Ready, Loaded, Set, Walking, View, name, walk_through}
 use Rattle.cordyceps_stack.specs.Shared.Words.{start}
-use Rattle.cordyceps_shared.specs.Slots.{Hand, Near, TableStep, full_slot}
+use Rattle.cordyceps_shared.specs.Slots.{Hand, Near, TableStep, SeatWith, view, hand, full_slot}
 
 abbrev pub SeatState : Type 0 → Type 0
-SeatState E = Me (Option (Filled E)) (View E)
+SeatState E = SeatWith E (View E)
 
 module _ {E : Type 0} where
   -- the party has seen more, with these events of its own
@@ -43,66 +42,73 @@ module _ {E : Type 0} where
   -- a load of head by a party that looks whether nothing is held
   abbrev pub after_look : TableStep E → SeatState E → ℕ → SeatState E → Type 0
   after_look st m read k =
-      (k.0.doing ≡ m.0.doing) × (k.0.free ≡ m.0.free) × (k.1 ≡ m.1) × Sees m.0 (Load (name m.0) ∷ []) k.0
-      × EndsLooked (read ≡ 0) (name m.0) k.0.known.seen
+      ((view k).doing ≡ (view m).doing) × ((view k).free ≡ (view m).free) × (hand k ≡ hand m)
+      × Sees (view m) (Load (name (view m)) ∷ []) (view k)
+      × EndsLooked (read ≡ 0) (name (view m)) (view k).known.seen
 
   -- a read of the link of its first free room by a party that begins to push: the room's slot is in hand
   abbrev pub after_ready : TableStep E → SeatState E → ℕ → SeatState E → Type 0
-  after_ready st m found k = (r : ℕ) (rs : List ℕ) → m.0.free ≡ r ∷ rs
-      → (st.word ≡ LINKS + r) × (k.0 ≡ record m.0 { doing = Ready r; free = rs }) × (k.1 ≡ (r, None) ∷ m.1)
+  after_ready st m found k = (r : ℕ) (rs : List ℕ) → (view m).free ≡ r ∷ rs
+      → (st.word ≡ LINKS + r) × (view k ≡ record (view m) { doing = Ready r; free = rs })
+      × (hand k ≡ (r, None) ∷ hand m)
       × (r < st.slots)
 
   -- a load of head by a party that pushes
   abbrev pub after_load : TableStep E → SeatState E → ℕ → SeatState E → Type 0
-  after_load st m read k = (r : ℕ) → m.0.doing ≡ Ready r
-      → (k.0.doing ≡ Loaded r read) × (k.0.free ≡ m.0.free) × (k.1 ≡ m.1) × Sees m.0 (Load (name m.0) ∷ []) k.0
+  after_load st m read k = (r : ℕ) → (view m).doing ≡ Ready r
+      → ((view k).doing ≡ Loaded r read) × ((view k).free ≡ (view m).free) × (hand k ≡ hand m)
+      × Sees (view m) (Load (name (view m)) ∷ []) (view k)
 
   -- a store of what was read in the room's link
   abbrev pub after_write : TableStep E → SeatState E → ℕ → SeatState E → Type 0
-  after_write st m n k = (r read : ℕ) → m.0.doing ≡ Loaded r read
-      → (k.0 ≡ record m.0 { doing = Set r read }) × (k.1 ≡ m.1)
+  after_write st m n k = (r read : ℕ) → (view m).doing ≡ Loaded r read
+      → (view k ≡ record (view m) { doing = Set r read }) × (hand k ≡ hand m)
 
   -- a compare-exchange of head
   abbrev pub after_exchange : TableStep E → SeatState E → ℕ → SeatState E → Type 0
-  after_exchange st m found k = (r read : ℕ) (x : Filled E) (cs : Hand E) → m.0.doing ≡ Set r read
-      → m.1 ≡ (r, Some x) ∷ cs
-      → (found ≡ read → (k.0.doing ≡ Idle) × (k.0.free ≡ m.0.free) × (k.1 ≡ cs)
-      × Sees m.0 (Push (name m.0) x.item ∷ []) k.0 × EndsPushed x.item (found ≡ 0) (name m.0) k.0.known.seen)
-      × (found ≢ read → (k.0.doing ≡ Ready r) × (k.0.free ≡ m.0.free) × (k.1 ≡ m.1) × Sees m.0 [] k.0
-      × IsOvertaken k.0.known.seen)
+  after_exchange st m found k = (r read : ℕ) (x : Filled E) (cs : Hand E) → (view m).doing ≡ Set r read
+      → hand m ≡ (r, Some x) ∷ cs
+      → (found ≡ read → ((view k).doing ≡ Idle) × ((view k).free ≡ (view m).free) × (hand k ≡ cs)
+      × Sees (view m) (Push (name (view m)) x.item ∷ []) (view k)
+      × EndsPushed x.item (found ≡ 0) (name (view m)) (view k).known.seen)
+      × (found ≢ read → ((view k).doing ≡ Ready r) × ((view k).free ≡ (view m).free) × (hand k ≡ hand m)
+      × Sees (view m) [] (view k)
+      × IsOvertaken (view k).known.seen)
 
   -- a read of the link of a room that is not pushed: its slot goes back
   abbrev pub after_return : TableStep E → SeatState E → ℕ → SeatState E → Type 0
-  after_return st m found k = (r : ℕ) (cs : Hand E) → m.0.doing ≡ Ready r → m.1 ≡ (r, None) ∷ cs
-      → (st.word ≡ LINKS + r) × (k.0 ≡ record m.0 { doing = Idle; free = r ∷ m.0.free }) × (k.1 ≡ cs)
+  after_return st m found k = (r : ℕ) (cs : Hand E) → (view m).doing ≡ Ready r → hand m ≡ (r, None) ∷ cs
+      → (st.word ≡ LINKS + r) × (view k ≡ record (view m) { doing = Idle; free = r ∷ (view m).free }) × (hand k ≡ cs)
 
   -- a swap of head: the slots of all that was held are in hand
   abbrev pub after_take : TableStep E → SeatState E → ℕ → SeatState E → Type 0
-  after_take st m found k = m.0.doing ≡ Idle
-      → (chain : List (ℕ × E)) × (found ≡ start chain) × (k.0.doing ≡ walk_through chain) × (k.0.free ≡ m.0.free)
-      × (k.1 ≡ carry chain m.1) × NearChain st.slots chain
-      × Sees m.0 (Taken (name m.0) (room_elements chain) ∷ []) k.0
+  after_take st m found k = (view m).doing ≡ Idle
+      → (chain : List (ℕ × E)) × (found ≡ start chain) × ((view k).doing ≡ walk_through chain)
+      × ((view k).free ≡ (view m).free)
+      × (hand k ≡ carry chain (hand m)) × NearChain st.slots chain
+      × Sees (view m) (Taken (name (view m)) (room_elements chain) ∷ []) (view k)
 
   -- a read of the link of the next room to be handed out: its slot goes back
   abbrev pub after_walk : TableStep E → SeatState E → ℕ → SeatState E → Type 0
   after_walk st m found k =
-      (x : ℕ × E) (xs : List (ℕ × E)) (cs : Hand E) → m.0.doing ≡ Walking (x ∷ xs) → m.1 ≡ (x.0, None) ∷ cs
-      → (found ≡ start xs) × (k.0 ≡ record m.0 { doing = walk_through xs; free = x.0 ∷ m.0.free }) × (k.1 ≡ cs)
-      × (length k.0.free ≤ st.slots)
+      (x : ℕ × E) (xs : List (ℕ × E)) (cs : Hand E) → (view m).doing ≡ Walking (x ∷ xs) → hand m ≡ (x.0, None) ∷ cs
+      → (found ≡ start xs) × (view k ≡ record (view m) { doing = walk_through xs; free = x.0 ∷ (view m).free })
+      × (hand k ≡ cs)
+      × (length (view k).free ≤ st.slots)
 
   -- ---- between the steps
   -- the party is between two calls
   abbrev pub IsResting : ℕ → SeatState E → Type 0
-  IsResting slots m = (m.0.doing ≡ Idle) × (m.1 ≡ []) × (m.0.known.share ≢ []) × Near slots m.0.free
+  IsResting slots m = ((view m).doing ≡ Idle) × (hand m ≡ []) × ((view m).known.share ≢ []) × Near slots (view m).free
 
   -- the party pushes what is in the slot in hand, which is this room's
   abbrev pub IsReady : ℕ → ℕ → E → SeatState E → Type 0
   IsReady slots room x m =
-      (m.0.doing ≡ Ready room) × (m.1 ≡ (room, Some (full_slot room x)) ∷ []) × (m.0.known.share ≢ [])
-      × Near slots m.0.free × (room < slots)
+      ((view m).doing ≡ Ready room) × (hand m ≡ (room, Some (full_slot room x)) ∷ []) × ((view m).known.share ≢ [])
+      × Near slots (view m).free × (room < slots)
 
   -- the party has these rooms to hand out, and their slots in hand
   abbrev pub IsWalking : ℕ → List (ℕ × E) → SeatState E → Type 0
   IsWalking slots xs m =
-      (m.0.doing ≡ walk_through xs) × (m.1 ≡ carry xs []) × NearChain slots xs × (m.0.known.share ≢ [])
-      × Near slots m.0.free
+      ((view m).doing ≡ walk_through xs) × (hand m ≡ carry xs []) × NearChain slots xs × ((view m).known.share ≢ [])
+      × Near slots (view m).free

@@ -4,6 +4,7 @@ ghost use Rattle.cordyceps_stack.specs.Shared.Parts.{IsSeatOf, EmptiesHand};
 ghost use Rattle.cordyceps_stack.specs.Cores.Stages.{room_elements};
 ghost use Rattle.cordyceps_stack.specs.Shared.Plays.{IsWalking, to_hand_out};
 ghost use Rattle.cordyceps_stack.specs.Shared.Words.{start};
+ghost use Rattle.cordyceps_shared.specs.Slots.{view};
 
 use crate::shared::steps::walk;
 use crate::shared::table::{PartySeat, Words};
@@ -22,13 +23,13 @@ pub(crate) fn hand_out<T: Linked<Links<T>>>(
     at: u64,
 ) -> Stack<T>
     requires table { IsSeatOf seat.old.table_id words.now.table_id }
-    requires batch { let batch = to_hand_out seat.old.me.0.doing in
+    requires batch { let batch = to_hand_out (view seat.old.me).doing in
         IsWalking words.now.table_id.slots batch seat.old.me × (at ≡ start batch) }
-    requires tickets { tickets.old ≡ seat.old.me.0.free }
+    requires tickets { tickets.old ≡ (view seat.old.me).free }
     ensures table { seat.new.table_id ≡ seat.old.table_id }
-    ensures stack { result ≡ map T.element (room_elements (to_hand_out seat.old.me.0.doing)) }
+    ensures stack { result ≡ map T.element (room_elements (to_hand_out (view seat.old.me).doing)) }
     ensures seat { EmptiesHand words.now.table_id.slots seat.old.me seat.new.me }
-    ensures tickets { tickets.new ≡ seat.new.me.0.free }
+    ensures tickets { tickets.new ≡ (view seat.new.me).free }
 {
     let mut at = at;
     let mut batch = Stack::new();

@@ -6,6 +6,7 @@ ghost use Rattle.cordyceps_stack.specs.Shared.Parting.{view_keeping, view_giving
 ghost use Rattle.cordyceps_stack.specs.Shared.Parts.{IsSeatOf};
 ghost use Rattle.cordyceps_stack.specs.Shared.Plays.{IsResting};
 ghost use Rattle.cordyceps_stack.specs.Shared.View.{newcomer};
+ghost use Rattle.cordyceps_shared.specs.Slots.{view};
 
 use crate::shared::plays::{Cut, Learn, Merge};
 use crate::shared::table::{OwnedTable, PartySeat, Words};
@@ -33,8 +34,8 @@ fn cut<E: Drop, B: Count>(words: &Words<E>, seat: &mut PartySeat<E>, rooms: usiz
     requires table { IsSeatOf seat.old.table_id words.now.table_id }
     requires rest { IsResting words.now.table_id.slots seat.old.me × (B.rooms ≡ rooms) }
     ensures table { (seat.new.table_id ≡ seat.old.table_id) × (result.table_id ≡ seat.old.table_id) }
-    ensures views { (seat.new.me ≡ (view_keeping rooms seat.old.me.0, []))
-        × (result.me ≡ (view_giving rooms seat.old.me.0, [])) }
+    ensures views { (seat.new.me ≡ (view_keeping rooms (view seat.old.me), []))
+        × (result.me ≡ (view_giving rooms (view seat.old.me), [])) }
 {
     words.split_seat::<Cut<B>>(seat)
 }
@@ -48,8 +49,8 @@ pub(crate) fn split<E: Drop>(
     requires table { IsSeatOf seat.old.table_id words.now.table_id }
     requires rest { IsResting words.now.table_id.slots seat.old.me }
     ensures table { (seat.new.table_id ≡ seat.old.table_id) × (result.table_id ≡ seat.old.table_id) }
-    ensures views { (seat.new.me ≡ (view_keeping rooms seat.old.me.0, []))
-        × (result.me ≡ (view_giving rooms seat.old.me.0, [])) }
+    ensures views { (seat.new.me ≡ (view_keeping rooms (view seat.old.me), []))
+        × (result.me ≡ (view_giving rooms (view seat.old.me), [])) }
 {
     cut::<E, Brand>(words, seat, rooms)
 }
@@ -59,9 +60,9 @@ pub(crate) fn absorb<E: Drop>(words: &Words<E>, seat: &mut PartySeat<E>, other: 
     requires table { IsSeatOf seat.old.table_id words.now.table_id × IsSeatOf other.table_id words.now.table_id }
     requires rest { IsResting words.now.table_id.slots seat.old.me × IsResting words.now.table_id.slots other.me }
     ensures table { seat.new.table_id ≡ seat.old.table_id }
-    ensures views { seat.new.me ≡ (view_without_told (view_absorbing seat.old.me.0 other.me.0), []) }
-    ensures known { IsKnown (λ h. Legal h) (view_absorbing seat.old.me.0 other.me.0).known }
-    ensures few { length seat.new.me.0.free ≤ words.now.table_id.slots }
+    ensures views { seat.new.me ≡ (view_without_told (view_absorbing (view seat.old.me) (view other.me)), []) }
+    ensures known { IsKnown (λ h. Legal h) (view_absorbing (view seat.old.me) (view other.me)).known }
+    ensures few { length (view seat.new.me).free ≤ words.now.table_id.slots }
 {
     words.join_seat::<Merge>(seat, other);
     words.load::<Learn>(seat, HEAD);

@@ -3,7 +3,7 @@ ghost use Rattle.std.specs.Prelude.{◌≡◌, ◌≢◌, ◌<◌, ℕ, suc, Lis
 ghost use Rattle.cordyceps_stack.specs.Shared.Parts.{IsSeatOf, IsFilled, IsLoaded, Settled, HasMissed, HasPushed, SettlesAt, TookAll, Walked};
 ghost use Rattle.cordyceps_stack.specs.History as event;
 ghost use Rattle.cordyceps_stack.specs.Shared.Plays.{Sees, IsResting, IsReady, IsWalking, to_hand_out};
-ghost use Rattle.cordyceps_shared.specs.Slots.{full_slot};
+ghost use Rattle.cordyceps_shared.specs.Slots.{full_slot, view, hand};
 ghost use Rattle.cordyceps_stack.specs.Shared.Calls.{EndsLooked};
 ghost use Rattle.cordyceps_stack.specs.Shared.View.{Idle, name};
 ghost use Rattle.cordyceps_stack.specs.Shared.View as doing;
@@ -22,7 +22,7 @@ use std::sync::Wait;
 fn fill<E: Drop>(words: &Words<E>, seat: &mut PartySeat<E>, full: Filled<E>)
     requires table { IsSeatOf seat.old.table_id words.now.table_id }
     requires rest { IsResting words.now.table_id.slots seat.old.me }
-    requires room { (rs : List ℕ) × (seat.old.me.0.free ≡ full.ticket ∷ rs) }
+    requires room { (rs : List ℕ) × ((view seat.old.me).free ≡ full.ticket ∷ rs) }
     ensures table { seat.new.table_id ≡ seat.old.table_id }
     ensures filled { IsFilled words.now.table_id.slots full seat.old.me seat.new.me }
 {
@@ -36,7 +36,7 @@ fn fill<E: Drop>(words: &Words<E>, seat: &mut PartySeat<E>, full: Filled<E>)
 /// Reads the head.
 fn load<E: Drop>(words: &Words<E>, seat: &mut PartySeat<E>, _room: usize) -> u64
     requires table { IsSeatOf seat.old.table_id words.now.table_id }
-    requires ready { (seat.old.me.0.doing ≡ doing.Ready _room) × (seat.old.me.0.known.share ≢ []) }
+    requires ready { ((view seat.old.me).doing ≡ doing.Ready _room) × ((view seat.old.me).known.share ≢ []) }
     ensures table { seat.new.table_id ≡ seat.old.table_id }
     ensures loaded { IsLoaded _room result seat.old.me seat.new.me }
 {
@@ -46,9 +46,9 @@ fn load<E: Drop>(words: &Words<E>, seat: &mut PartySeat<E>, _room: usize) -> u64
 /// Writes what was read into the room's link.
 fn link<E: Drop>(words: &Words<E>, seat: &mut PartySeat<E>, room: usize, read: u64)
     requires table { IsSeatOf seat.old.table_id words.now.table_id }
-    requires loaded { (seat.old.me.0.doing ≡ doing.Loaded room read) × (room < words.now.table_id.slots) }
+    requires loaded { ((view seat.old.me).doing ≡ doing.Loaded room read) × (room < words.now.table_id.slots) }
     ensures table { seat.new.table_id ≡ seat.old.table_id }
-    ensures set { seat.new.me ≡ (record seat.old.me.0 { doing = doing.Set room read }, seat.old.me.1) }
+    ensures set { seat.new.me ≡ (record (view seat.old.me) { doing = doing.Set room read }, hand seat.old.me) }
 {
     words.store::<Write>(seat, LINKS + room, read);
 }
@@ -56,11 +56,11 @@ fn link<E: Drop>(words: &Words<E>, seat: &mut PartySeat<E>, room: usize, read: u
 /// Exchanges the head with the room if it is still what was read, and returns `true` if it was.
 fn settle<E: Drop>(words: &Words<E>, seat: &mut PartySeat<E>, room: usize, read: u64) -> bool
     requires table { IsSeatOf seat.old.table_id words.now.table_id }
-    requires set { (x : E) × (seat.old.me.1 ≡ (room, Some (full_slot room x)) ∷ []) }
-    requires stage { (seat.old.me.0.doing ≡ doing.Set room read) × (seat.old.me.0.known.share ≢ [])
+    requires set { (x : E) × (hand seat.old.me ≡ (room, Some (full_slot room x)) ∷ []) }
+    requires stage { ((view seat.old.me).doing ≡ doing.Set room read) × ((view seat.old.me).known.share ≢ [])
         × (room < words.now.table_id.slots) }
     ensures table { seat.new.table_id ≡ seat.old.table_id }
-    ensures settled { (x : E) → seat.old.me.1 ≡ (room, Some (full_slot room x)) ∷ []
+    ensures settled { (x : E) → hand seat.old.me ≡ (room, Some (full_slot room x)) ∷ []
         → Settled room read x result seat.old.me seat.new.me }
 {
     words.compare_exchange::<Exchange>(seat, HEAD, read, room as u64 + 1) == read
@@ -90,8 +90,9 @@ fn back_out<E: Drop>(words: &Words<E>, seat: &mut PartySeat<E>, room: usize) -> 
     requires table { IsSeatOf seat.old.table_id words.now.table_id }
     requires ready { (x : E) × IsReady words.now.table_id.slots room x seat.old.me }
     ensures table { seat.new.table_id ≡ seat.old.table_id }
-    ensures element { seat.old.me.1 ≡ (room, Some result) ∷ [] }
-    ensures seat { seat.new.me ≡ (record seat.old.me.0 { doing = Idle; free = room ∷ seat.old.me.0.free }, []) }
+    ensures element { hand seat.old.me ≡ (room, Some result) ∷ [] }
+    ensures seat { let old = view seat.old.me in
+        seat.new.me ≡ (record old { doing = Idle; free = room ∷ old.free }, []) }
 {
     let full = words.exchange(seat, room, None);
     words.load::<Return>(seat, LINKS + room);
@@ -108,7 +109,7 @@ pub(crate) fn try_push<E: Drop>(
 ) -> Result<bool, Filled<E>>
     requires table { IsSeatOf seat.old.table_id words.now.table_id }
     requires rest { IsResting words.now.table_id.slots seat.old.me }
-    requires room { (rs : List ℕ) × (seat.old.me.0.free ≡ ticket ∷ rs) }
+    requires room { (rs : List ℕ) × ((view seat.old.me).free ≡ ticket ∷ rs) }
     ensures table { seat.new.table_id ≡ seat.old.table_id }
     ensures rest { IsResting words.now.table_id.slots seat.new.me }
     ensures answer { MatchResult result
@@ -138,7 +139,8 @@ fn settle_at_last<E: Drop, R: Wait>(
     ensures answer { (x : E) → IsReady words.now.table_id.slots room x seat.old.me
         → (tries : ℕ) × SettlesAt words.now.table_id.slots (suc tries) x result seat.old.me seat.new.me }
     ensures whole { (x : E) → IsReady words.now.table_id.slots room x seat.old.me
-        → seat.old.me.0.known.share ≡ whole → SettlesAt words.now.table_id.slots 1 x result seat.old.me seat.new.me }
+        → (view seat.old.me).known.share ≡ whole
+        → SettlesAt words.now.table_id.slots 1 x result seat.old.me seat.new.me }
 {
     let backoff = Backoff::new();
     let mut missed = false;
@@ -167,11 +169,11 @@ pub(crate) fn push<E: Drop, R: Wait>(
 ) -> bool
     requires table { IsSeatOf seat.old.table_id words.now.table_id }
     requires rest { IsResting words.now.table_id.slots seat.old.me }
-    requires room { (rs : List ℕ) × (seat.old.me.0.free ≡ ticket ∷ rs) }
+    requires room { (rs : List ℕ) × ((view seat.old.me).free ≡ ticket ∷ rs) }
     ensures table { seat.new.table_id ≡ seat.old.table_id }
     ensures rest { IsResting words.now.table_id.slots seat.new.me }
     ensures pushed { (tries : ℕ) × HasPushed (suc tries) ticket item result seat.old.me seat.new.me }
-    ensures whole { seat.old.me.0.known.share ≡ whole → HasPushed 1 ticket item result seat.old.me seat.new.me }
+    ensures whole { (view seat.old.me).known.share ≡ whole → HasPushed 1 ticket item result seat.old.me seat.new.me }
 {
     let room = ticket.room();
     fill(words, seat, Filled { ticket, item });
@@ -183,9 +185,10 @@ pub(crate) fn is_empty<E: Drop>(words: &Words<E>, seat: &mut PartySeat<E>) -> bo
     requires table { IsSeatOf seat.old.table_id words.now.table_id }
     requires rest { IsResting words.now.table_id.slots seat.old.me }
     ensures table { seat.new.table_id ≡ seat.old.table_id }
-    ensures rest { IsResting words.now.table_id.slots seat.new.me × (seat.new.me.0.free ≡ seat.old.me.0.free) }
-    ensures sees { Sees seat.old.me.0 (event.Load (name seat.old.me.0) ∷ []) seat.new.me.0 }
-    ensures answer { EndsLooked (IsTrue result) (name seat.old.me.0) seat.new.me.0.known.seen }
+    ensures rest { IsResting words.now.table_id.slots seat.new.me
+        × ((view seat.new.me).free ≡ (view seat.old.me).free) }
+    ensures sees { Sees (view seat.old.me) (event.Load (name (view seat.old.me)) ∷ []) (view seat.new.me) }
+    ensures answer { EndsLooked (IsTrue result) (name (view seat.old.me)) (view seat.new.me).known.seen }
 {
     words.load::<Look>(seat, HEAD) == 0
 }
@@ -203,7 +206,7 @@ pub(crate) fn take<E: Drop>(words: &Words<E>, seat: &mut PartySeat<E>) -> u64
 /// Returns the newest element of what was taken, which `at` leads to, and the word that leads to the next.
 pub(crate) fn walk<E: Drop>(words: &Words<E>, seat: &mut PartySeat<E>, at: u64) -> (Filled<E>, u64)
     requires table { IsSeatOf seat.old.table_id words.now.table_id }
-    requires batch { let batch = to_hand_out seat.old.me.0.doing in
+    requires batch { let batch = to_hand_out (view seat.old.me).doing in
         IsWalking words.now.table_id.slots batch seat.old.me × (at ≡ start batch) × (at ≢ 0) }
     ensures table { seat.new.table_id ≡ seat.old.table_id }
     ensures walked { Walked words.now.table_id.slots result.0 result.1 seat.old.me seat.new.me }
