@@ -13,12 +13,12 @@ OtherFits (lines.SpliceAfter other) = other < 16
 OtherFits (lines.SpliceBefore other) = other < 16
 OtherFits line = Unit {0}
 
--- an end has no line behind it
+-- an end has no line after it
 abbrev pub EndsBlock : CursorCommand → List CursorCommand → Type 0
 EndsBlock lines.End rest = rest ≡ []
 EndsBlock line rest = Unit {0}
 
--- each line of a block names a list among sixteen, if one, and an end stands only last
+-- each line of a block names a list among sixteen, if one, and an end comes only last
 abbrev pub BlockFits : List CursorCommand → Type 0
 BlockFits [] = Unit {0}
 BlockFits (line ∷ rest) = OtherFits line × EndsBlock line rest × BlockFits rest

@@ -3,7 +3,7 @@ use Rattle.std.proofs.Common.{◌≡◌, ℕ, zero, suc, Bool, List, [], ◌∷�
 use Rattle.std.specs.declared.cmp.Ordering.{Ordering}
 use Rattle.std.specs.List.Sorted.{IsSortedBy}
 use Rattle.cordyceps_base.specs.Element.{Elements}
-use Rattle.cordyceps_single.specs.Arrangement.{less, Represents, put_all}
+use Rattle.cordyceps_single.specs.Arrangement.{Sorted, less, Represents, put_all}
 use Rattle.cordyceps_single.specs.Preorder.{IsPreorder}
 use Rattle.cordyceps_single.proofs.Preorder.{by_test, ranks}
 use Rattle.cordyceps_single.proofs.Puts.{put_all_represents, is_put_all, put_in_order}
@@ -96,11 +96,11 @@ pub empty_in_order : (order : ℕ → Item → Item → Ordering) (k : ℕ) → 
 empty_in_order order k n = subst (IsSortedBy (less (order n))) (sym (held_in_empty k n)) (arrangement_nil (less (order n))).in_order
 
 -- lists that hold nothing are so many empty ones
-pub contents_empty : {O : Type 0} (d : Elements Item × O) (lists : List (Elements Item × O)) (n : ℕ) → length lists ≡ n → ((i : ℕ) → i < n → (slice_index_or lists i d).0 ≡ []) → contents lists ≡ empty_table n
+pub contents_empty : {O : Type 0} (d : Sorted Item O) (lists : List (Sorted Item O)) (n : ℕ) → length lists ≡ n → ((i : ℕ) → i < n → (slice_index_or lists i d).elements ≡ []) → contents lists ≡ empty_table n
 contents_empty d [] zero long each = refl
 contents_empty d [] (suc n) long each = absurd cc
 contents_empty d (list ∷ lists) zero long each = absurd cc
 contents_empty d (list ∷ lists) (suc n) long each =
-    let first : list.0 ≡ [] = each 0 (omega arith) in
+    let first : list.elements ≡ [] = each 0 (omega arith) in
     let others : contents lists ≡ empty_table n = contents_empty d lists n (omega arith) (λ i lt. each (suc i) (omega arith)) in
     cc

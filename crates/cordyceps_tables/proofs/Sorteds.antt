@@ -5,7 +5,7 @@ use Rattle.std.proofs.lemmas.Bool.{lt-ltb, ltb-true}
 use Rattle.std.specs.declared.cmp.Ordering.{Ordering}
 use Rattle.std.specs.List.Sorted.{IsSortedBy}
 use Rattle.cordyceps_base.specs.Element.{Elements}
-use Rattle.cordyceps_single.specs.Arrangement.{less}
+use Rattle.cordyceps_single.specs.Arrangement.{Sorted, less}
 use Rattle.cordyceps_single.proofs.Preorder.{by_test}
 use Rattle.cordyceps_commands.specs.declared.item.Item.{Item}
 use Rattle.cordyceps_commands.specs.declared.sorted_command.SortedCommand.{SortedCommand}
@@ -23,29 +23,29 @@ on_list order cmp table after old new lines command is held set ran sorted =
     let here = ran (subst (IsSortedBy (less cmp)) held first) in
     ap (λ t. (t, lines)) set ∙ ap (λ (p : Elements Item × List Line). (slice_set table n p.0, p.1)) (here ∙ (λ i. step_on (sym is i) (sym held i) command))
 
-module _ {O : Type 0} (front back : Table) (lists : List (Elements Item × O)) (i : ℕ) where
+module _ {O : Type 0} (front back : Table) (lists : List (Sorted Item O)) (i : ℕ) where
   within : i < length lists → length front + i < length (front ++ contents lists)
   within below = rw (length-append, length-map) (omega arith)
 
-  held_within : (d : Elements Item × O) → i < length lists → held_at ((front ++ contents lists) ++ back) (length front + i) ≡ (get_or lists i d).0
+  held_within : (d : Sorted Item O) → i < length lists → held_at ((front ++ contents lists) ++ back) (length front + i) ≡ (get_or lists i d).elements
   held_within d below =
-      get_or_append_left (front ++ contents lists) back [] (length front + i) (within below) ∙ get_or-append-add front (contents lists) i [] ∙ get_or-map (λ l. l.0) lists i d [] below
+      get_or_append_left (front ++ contents lists) back [] (length front + i) (within below) ∙ get_or-append-add front (contents lists) i [] ∙ get_or-map (λ (l : Sorted Item O). l.elements) lists i d [] below
 
-  set_within : (new : Elements Item × O) → i < length lists → slice_set ((front ++ contents lists) ++ back) (length front + i) new.0 ≡ (front ++ contents (slice_set lists i new)) ++ back
+  set_within : (new : Sorted Item O) → i < length lists → slice_set ((front ++ contents lists) ++ back) (length front + i) new.elements ≡ (front ++ contents (slice_set lists i new)) ++ back
   set_within new below =
       let same : length front + i - length front ≡ i = omega arith in
-      set-append_left (front ++ contents lists) back (length front + i) new.0 (within below)
-      ∙ ap (λ l. l ++ back) (set-append_right front (contents lists) (length front) (length front + i) new.0 refl (omega arith) ∙ ap (λ l. front ++ l) (ap (λ k. slice_set (contents lists) k new.0) same ∙ sym (map-set (λ (l : Elements Item × O). l.0) lists i new)))
+      set-append_left (front ++ contents lists) back (length front + i) new.elements (within below)
+      ∙ ap (λ l. l ++ back) (set-append_right front (contents lists) (length front) (length front + i) new.elements refl (omega arith) ∙ ap (λ l. front ++ l) (ap (λ k. slice_set (contents lists) k new.elements) same ∙ sym (map-set (λ (l : Sorted Item O). l.elements) lists i new)))
 
-  -- a command on one of some lists that stand within the table
-  pub ran_within : (order : ℕ → Item → Item → Ordering) (cmp : Item → Item → Ordering) (table after : Table) (d new : Elements Item × O) (lines : List Line) (command : SortedCommand) →
+  -- a command on one of some lists that are within the table
+  pub ran_within : (order : ℕ → Item → Item → Ordering) (cmp : Item → Item → Ordering) (table after : Table) (d new : Sorted Item O) (lines : List Line) (command : SortedCommand) →
       list_of command ≡ length front + i → i < length lists → order (list_of command) ≡ cmp →
       table ≡ (front ++ contents lists) ++ back → after ≡ (front ++ contents (slice_set lists i new)) ++ back →
-      (IsSortedBy (less cmp) (get_or lists i d).0 → (new.0, lines) ≡ step_on cmp (get_or lists i d).0 command) → AreInOrder order table → (after, lines) ≡ step order table command
+      (IsSortedBy (less cmp) (get_or lists i d).elements → (new.elements, lines) ≡ step_on cmp (get_or lists i d).elements command) → AreInOrder order table → (after, lines) ≡ step order table command
   ran_within order cmp table after d new lines command at below is before then ran sorted =
-      on_list order cmp table after (get_or lists i d).0 new.0 lines command is
+      on_list order cmp table after (get_or lists i d).elements new.elements lines command is
       ((λ j. held_at (before j) (at j)) ∙ held_within d below)
-      (then ∙ sym (set_within new below) ∙ (λ j. slice_set (sym before j) (sym at j) new.0))
+      (then ∙ sym (set_within new below) ∙ (λ j. slice_set (sym before j) (sym at j) new.elements))
       ran sorted
 
 -- which order the lists have
@@ -66,5 +66,5 @@ module _ (own cmp : Item → Item → Ordering) (n : ℕ) where
 
 -- lists that all have the order `by`
 module _ {F : Type 0} (by : F) where
-  pub same_order : (now inside : List (Elements Item × F)) (k : ℕ) (d : Elements Item × F) → inside ≡ now → All (λ l. l.1 ≡ by) now → k < length inside → (get_or inside k d).1 ≡ by
+  pub same_order : (now inside : List (Sorted Item F)) (k : ℕ) (d : Sorted Item F) → inside ≡ now → All (λ l. l.order ≡ by) now → k < length inside → (get_or inside k d).order ≡ by
   same_order now inside k d same all within = (rw (sym same) at all) k d within

@@ -1,5 +1,5 @@
 -- What the lines of a cursor block do.
-use Rattle.std.specs.Prelude.{◌≡◌, ℕ, ◌+◌, ◌-◌, ◌<◌, true, not, ◌&&◌, List, [], ◌∷◌, ◌++◌, length, take, drop, Option}
+use Rattle.std.specs.Prelude.{◌≡◌, ℕ, ◌+◌, ◌-◌, true, not, ◌&&◌, List, [], ◌∷◌, ◌++◌, length, take, drop, Option}
 use Rattle.std.specs.Prelude.{Some, None, slice_get, slice_set, if◌then◌else◌, nat_eq, nat_lt, nat_le}
 use Rattle.cordyceps_base.specs.Element.{Element, Elements, values, with_value}
 use Rattle.cordyceps_base.specs.Runs.{after, replies_to}
@@ -32,11 +32,11 @@ abbrev pub set_at : Elements Item → ℕ → ℕ → Option Item → ℕ → Sp
 set_at s k at None value = ((s, k), nothing)
 set_at s k at (Some item) value = ((with_value s at (record item { value = value }), k), done)
 
--- the element at a place is taken out, and the cursor is at the one behind it
+-- the element at a place is taken out, and the cursor is at the one after it
 abbrev pub remove : Elements Item → ℕ → Spot × Line
 remove s at = ((all_but s at, at), found_or_nothing (slice_get (values s) at))
 
--- more elements behind the cursor's, at the null place first
+-- more elements after the cursor's, at the null place first
 abbrev pub put_after : Elements Item → ℕ → Elements Item → Spot
 put_after s k more =
     if nat_lt k (length s) then (take (k + 1) s ++ more ++ drop (k + 1) s, k) else (more ++ s, k + length more)
@@ -90,7 +90,7 @@ Obeys old new line reply = Goes old new (line_on (elements old) (place old) line
 abbrev pub State : Type 0
 State = Table × ℕ
 
--- what a split behind the cursor's element keeps, with the cursor's place, and what goes; from the null place all goes
+-- what a split after the cursor's element keeps, with the cursor's place, and what goes; from the null place all goes
 abbrev pub cut_after : Elements Item → ℕ → Spot × Elements Item
 cut_after s k = if nat_lt k (length s) then ((take (k + 1) s, k), drop (k + 1) s) else (([], 0), s)
 
@@ -123,13 +123,13 @@ line_step list (table, k) (lines.SpliceBefore other) =
 line_step list (table, k) line =
     let on = line_on (held_at table list) k line in ((slice_set table list on.0.0, on.0.1), on.1)
 
--- the table after lines on a cursor that begins at an end of a list, and the replies to them behind earlier ones
+-- the table after lines on a cursor that begins at an end of a list, and the replies to them after earlier ones
 abbrev pub run_lines : Table → ℕ → ListEnd → List CursorCommand → List Line → Table × List Line
 run_lines table list end lines told =
     let start : State = (table, first_place end (length (held_at table list))) in
     ((after (line_step list) start lines).0, told ++ replies_to (line_step list) start lines)
 
--- the table after a block, and behind the mark the replies to its lines, that to the line which opens it first
+-- the table after a block, and after the mark the replies to its lines, that to the line which opens it first
 abbrev pub block : Table → ℕ → ListEnd → List CursorCommand → Table × List Line
 block table list end lines = run_lines table list end lines (block_begins ∷ done ∷ [])
 

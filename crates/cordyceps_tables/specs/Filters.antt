@@ -18,7 +18,7 @@ abbrev pub skip_count : Filter → Bool → List Item → ℕ
 skip_count filter turn [] = 0
 skip_count filter turn (item ∷ items) = if passes filter turn item then 0 else skip_count filter (not turn) items + 1
 
--- the turn behind that item
+-- the turn after that item
 abbrev pub turn_after : Filter → Bool → List Item → Bool
 turn_after filter turn [] = turn
 turn_after filter turn (item ∷ items) =

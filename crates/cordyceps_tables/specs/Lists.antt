@@ -1,5 +1,5 @@
 -- What commands do to a table of lists.
-use Rattle.std.specs.Prelude.{ℕ, ◌+◌, ◌<◌, ◌-◌, true, not, ◌&&◌, List, [], ◌∷◌, ◌++◌, length, map, take, drop, Option}
+use Rattle.std.specs.Prelude.{ℕ, ◌+◌, ◌-◌, true, not, ◌&&◌, List, [], ◌∷◌, ◌++◌, length, map, take, drop, Option}
 use Rattle.std.specs.Prelude.{Some, None, option_map, slice_get, slice_set, if◌then◌else◌, nat_eq, nat_lt, nat_le}
 use Rattle.cordyceps_base.specs.Element.{Elements, values, with_value, first_with_id, without_id}
 pub use Rattle.cordyceps_commands.specs.ListCommands.{list_of, OthersFit, Fits}
@@ -10,7 +10,7 @@ use Rattle.cordyceps_commands.specs.Replies.{Line, done, nothing, len, show, not
 use Rattle.cordyceps_tables.specs.Tables.{Table, element_of, held_at, on}
 use Rattle.cordyceps_tables.specs.Walks.{items_for, bump_all}
 use Rattle.cordyceps_tables.specs.Filters.{drain}
-use Rattle.cordyceps_tables.specs.Blocks.{block, BlockFits}
+use Rattle.cordyceps_tables.specs.Blocks.{block}
 
 -- the elements after a push, which has its condition: the length is below the largest `usize`
 abbrev pub push : Elements Item → Elements Item → Elements Item × List Line
@@ -45,7 +45,7 @@ step_on s (commands.Drain list filter limit) = show_removed (drain filter limit 
 step_on s (commands.Show list) = (s, show (map Some (values s)) ∷ [])
 step_on s command = (s, not_there ∷ [])
 
--- all that the second list holds goes behind the first, where these are two and the sum of the lengths fits
+-- all that the second list holds goes after the first, where these are two and the sum of the lengths fits
 abbrev pub append : Table → ℕ → ℕ → Table × List Line
 append table list other =
     if not (nat_eq list other) && nat_le (length (held_at table list) + length (held_at table other)) 18446744073709551615

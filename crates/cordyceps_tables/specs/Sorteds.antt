@@ -1,11 +1,11 @@
 -- What commands do to a table of sorted lists.
-use Rattle.std.specs.Prelude.{ℕ, ◌<◌, List, [], ◌∷◌, length, drop, map, Option, Some, None, slice_get, reverse}
+use Rattle.std.specs.Prelude.{ℕ, List, [], ◌∷◌, length, drop, map, Option, Some, None, slice_get, reverse}
 use Rattle.std.specs.Prelude.{if◌then◌else◌, nat_eq, nat_lt}
 use Rattle.std.specs.declared.cmp.Ordering.{Ordering}
 use Rattle.std.specs.List.Sorted.{IsSortedBy}
 use Rattle.cordyceps_base.specs.Element.{Elements, values}
 pub use Rattle.cordyceps_commands.specs.SortedCommands.{list_of, Fits}
-use Rattle.cordyceps_single.specs.Arrangement.{less, put, put_all}
+use Rattle.cordyceps_single.specs.Arrangement.{Sorted, less, put, put_all}
 use Rattle.cordyceps_commands.specs.declared.item.Item.{Item}
 use Rattle.cordyceps_commands.specs.declared.sorted_command.SortedCommand.{SortedCommand}
 use Rattle.cordyceps_commands.specs.declared.sorted_command.SortedCommand.TheVariants as commands
@@ -34,9 +34,13 @@ abbrev pub made_of : (Item → Item → Ordering) → Elements Item → Option (
 made_of cmp s None = s
 made_of cmp s (Some stack) = put_all cmp [] stack
 
+-- an empty sorted list with an order
+abbrev pub empty_with : {O : Type 0} → O → Sorted Item O
+empty_with order = record { elements = []; order = order }
+
 -- what sorted lists hold, without their orders
-abbrev pub contents : {O : Type 0} → List (Elements Item × O) → Table
-contents lists = map (λ l. l.0) lists
+abbrev pub contents : {O : Type 0} → List (Sorted Item O) → Table
+contents lists = map (λ l. l.elements) lists
 
 -- the table after a command, and the replies to the command's lines
 abbrev pub step : (ℕ → Item → Item → Ordering) → Table → SortedCommand → Table × List Line

@@ -1,5 +1,5 @@
 -- What commands do to a table of stacks, each with its newest element first.
-use Rattle.std.specs.Prelude.{ℕ, ◌<◌, List, [], ◌∷◌, length, drop, map, Some, slice_get, slice_set, if◌then◌else◌}
+use Rattle.std.specs.Prelude.{ℕ, List, [], ◌∷◌, length, drop, map, Some, slice_get, slice_set, if◌then◌else◌}
 use Rattle.std.specs.Prelude.{nat_eq, ◌&&◌, not}
 use Rattle.cordyceps_base.specs.Element.{values}
 pub use Rattle.cordyceps_commands.specs.StackCommands.{Fits}

@@ -1,11 +1,11 @@
--- What iterators over a list give, and what they change.
+-- What iterators over a list return, and what they change.
 use Rattle.std.specs.Prelude.{ℕ, ◌+◌, ◌-◌, ◌%◌, ◌^◌, List, [], ◌∷◌, length, take, drop, map, Option, slice_get}
 use Rattle.cordyceps_base.specs.Element.{Element, Elements}
 use Rattle.cordyceps_commands.specs.declared.item.Item.{Item}
 use Rattle.cordyceps_commands.specs.declared.list_command.Turn.{Turn}
 use Rattle.cordyceps_commands.specs.declared.list_command.Turn.TheVariants as turns
 
--- the item that a turn gives, if there is one, and those that are left behind it
+-- the item that a turn returns, if there is one, and those that are left after it
 abbrev pub item_for : Turn → List Item → Option Item
 item_for turns.Next items = slice_get items 0
 item_for turns.NextBack items = slice_get items (length items - 1)
@@ -14,7 +14,7 @@ abbrev pub rest_after : Turn → List Item → List Item
 rest_after turns.Next items = drop 1 items
 rest_after turns.NextBack items = take (length items - 1) items
 
--- what turns give, one after the other
+-- what turns return, one after the other
 abbrev pub items_for : List Turn → List Item → List (Option Item)
 items_for [] items = []
 items_for (turn ∷ more) items = item_for turn items ∷ items_for more (rest_after turn items)

@@ -72,7 +72,7 @@ pub fn schedule<R: Wait>(
 ) -> Result<SortedList<Task, Least>, Stack<Task>>
     requires room { length tasks ≤ rooms }
     requires few { rooms ≤ MAX_ROOMS }
-    ensures schedule { IfOk result (λ list. IsSchedule (reverse tasks) list.0) }
+    ensures schedule { IfOk result (λ list. IsSchedule (reverse tasks) list.elements) }
     ensures back { IfErr result (λ back. back ≡ tasks) }
 {
     let Ok((shared, party)) = TransferStack::new(alloc, rooms) else {

@@ -19,8 +19,8 @@ fn insert_all<O: Order<Asked>>(
     numbers: &[u64],
     counts: &Rc<Counts, Global>,
 ) -> Result<(), AllocError>
-    requires { O.can_compare list.old.1 }
-    ensures { list.new.1 ≡ list.old.1 }
+    requires { O.can_compare list.old.order }
+    ensures { list.new.order ≡ list.old.order }
 {
     for number in numbers {
         list.insert(node(alloc, *number, counts)?);
@@ -43,7 +43,7 @@ fn push_all(
 
 /// Asserts that the list pops these numbers, and then nothing.
 fn pops<O: Order<Asked>>(rt: &impl Abort, list: &mut SortedList<Asked, O>, numbers: &[u64])
-    ensures { list.new.1 ≡ list.old.1 }
+    ensures { list.new.order ≡ list.old.order }
 {
     for number in numbers {
         same(rt, number_of(list.pop_front()), Some(*number));
@@ -77,7 +77,7 @@ fn sorts<O: Order<Asked>>(
     wanted: &[u64],
     counts: &Rc<Counts, Global>,
 ) -> Result<(), AllocError>
-    requires { O.can_compare list.old.1 }
+    requires { O.can_compare list.old.order }
 {
     insert_all(list, alloc, numbers, counts)?;
     pops(rt, list, wanted);
@@ -94,10 +94,10 @@ fn counts_of<O: Order<Asked>>(
     numbers: &[u64],
     counts: &Rc<Counts, Global>,
 ) -> Result<Vec<(u64, u64)>, AllocError>
-    requires order { O.can_compare list.old.1 }
-    requires empty { length list.old.0 ≡ 0 }
+    requires order { O.can_compare list.old.order }
+    requires empty { length list.old.elements ≡ 0 }
     requires few { length numbers.now ≤ 100 }
-    ensures order { list.new.1 ≡ list.old.1 }
+    ensures order { list.new.order ≡ list.old.order }
 {
     let mut steps = Steps::new();
     let mut seen = Vec::new(alloc);
@@ -115,8 +115,8 @@ fn asked_by_insert<O: Order<Asked>>(
     numbers: &[u64],
     counts: &Rc<Counts, Global>,
 ) -> Result<Vec<u64>, AllocError>
-    requires { O.can_compare list.old.1 }
-    ensures { list.new.1 ≡ list.old.1 }
+    requires { O.can_compare list.old.order }
+    ensures { list.new.order ≡ list.old.order }
 {
     let mut asked = Vec::new(alloc);
     for number in numbers {
@@ -178,8 +178,8 @@ fn shows_and_pops<O: Order<Asked>>(
     alloc: Global,
     counts: &Rc<Counts, Global>,
 ) -> Result<(), AllocError>
-    requires { O.can_compare list.old.1 }
-    ensures { list.new.1 ≡ list.old.1 }
+    requires { O.can_compare list.old.order }
+    ensures { list.new.order ≡ list.old.order }
 {
     insert_all(list, alloc, &NUMBERS, counts)?;
     shows(rt, list, &SORTED);
@@ -195,7 +195,7 @@ fn takes_back<O: Order<Asked>>(
     alloc: Global,
     counts: &Rc<Counts, Global>,
 ) -> Result<(), Fail>
-    requires { O.can_compare list.old.1 }
+    requires { O.can_compare list.old.order }
 {
     insert_all(list, alloc, &[20, 10, 30], counts)?;
     let first = list.pop_front().ok_or("nothing")?;

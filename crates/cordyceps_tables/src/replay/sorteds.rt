@@ -3,11 +3,11 @@ ghost use Rattle.std.specs.Prelude.{◌≡◌, ℕ, ◌∷◌, [], ◌++◌, ◌
 ghost use Rattle.std.specs.declared.cmp.Ordering.{Ordering};
 ghost use Rattle.std.specs.List.Sorted.{IsSortedBy};
 ghost use Rattle.cordyceps_base.specs.Element.{Elements, values};
-ghost use Rattle.cordyceps_single.specs.Arrangement.{less, put};
+ghost use Rattle.cordyceps_single.specs.Arrangement.{Sorted, less, put};
 ghost use Rattle.cordyceps_single.specs.ByFn.{Computes};
 ghost use Rattle.cordyceps_commands.specs.Replies.{done, show, lines_of, found_or_nothing};
 ghost use Rattle.cordyceps_tables.specs.Tables.{empty_table, element_of};
-ghost use Rattle.cordyceps_tables.specs.Sorteds.{fill, order_of, step, step_on, made_of, Fits, list_of, AreInOrder};
+ghost use Rattle.cordyceps_tables.specs.Sorteds.{empty_with, fill, order_of, step, step_on, made_of, Fits, list_of, AreInOrder};
 ghost use Rattle.cordyceps_tables.specs.Plays.{Plays, AnswersSome};
 
 use crate::replay::nodes::node_of;
@@ -38,14 +38,14 @@ fn insert<O: Order<Item>>(
     list: &mut SortedList<Item, O>,
     item: Item,
 ) -> Result<Reply, AllocError>
-    requires { O.can_compare list.old.1 }
+    requires { O.can_compare list.old.order }
     ensures put { OnOk result ((cmp : Item → Item → Ordering)
-        → O.compares_by list.old.1 cmp
-        → IsSortedBy (less cmp) list.old.0
-        → list.new.0 ≡ put cmp list.old.0 (element_of item)) }
+        → O.compares_by list.old.order cmp
+        → IsSortedBy (less cmp) list.old.elements
+        → list.new.elements ≡ put cmp list.old.elements (element_of item)) }
     ensures reply { IfOk result (λ reply. lines_of reply ≡ done ∷ []) }
     ensures err { OnErr result (list.new ≡ list.old) }
-    ensures order { list.new.1 ≡ list.old.1 }
+    ensures order { list.new.order ≡ list.old.order }
 {
     list.insert(node_of(alloc, item)?);
     Ok(done())
@@ -53,16 +53,16 @@ fn insert<O: Order<Item>>(
 
 /// Removes the first item, and frees its node.
 fn pop_front<O: Order<Item>>(list: &mut SortedList<Item, O>) -> Reply
-    ensures kept { list.new.0 ≡ drop 1 list.old.0 }
-    ensures reply { lines_of result ≡ found_or_nothing (slice_get (values list.old.0) 0) ∷ [] }
-    ensures order { list.new.1 ≡ list.old.1 }
+    ensures kept { list.new.elements ≡ drop 1 list.old.elements }
+    ensures reply { lines_of result ≡ found_or_nothing (slice_get (values list.old.elements) 0) ∷ [] }
+    ensures order { list.new.order ≡ list.old.order }
 {
     reply_of(list.pop_front().map(Node::into_value))
 }
 
 /// Reads all items.
 fn show<O: Order<Item>>(alloc: Global, list: &SortedList<Item, O>) -> Result<Reply, AllocError>
-    ensures { IfOk result (λ reply. lines_of reply ≡ show (map Some (values list.now.0)) ∷ []) }
+    ensures { IfOk result (λ reply. lines_of reply ≡ show (map Some (values list.now.elements)) ∷ []) }
 {
     let mut items = Vec::new(alloc);
     for item in list.iter() {
@@ -73,7 +73,7 @@ fn show<O: Order<Item>>(alloc: Global, list: &SortedList<Item, O>) -> Result<Rep
 
 /// Returns `true` if the list has no item.
 fn is_empty<O: Order<Item>>(list: &SortedList<Item, O>) -> bool
-    ensures { result ≡ (length list.now.0 == 0) }
+    ensures { result ≡ (length list.now.elements == 0) }
 {
     list.iter().next().is_none()
 }
@@ -95,13 +95,13 @@ fn run_on<O: Order<Item>>(
     list: &mut SortedList<Item, O>,
     command: &SortedCommand,
 ) -> Result<(Reply, Option<Stack<Item>>), AllocError>
-    requires { O.can_compare list.old.1 }
+    requires { O.can_compare list.old.order }
     ensures ok { IfOk result (λ r. (cmp : Item → Item → Ordering)
-        → O.compares_by list.old.1 cmp
-        → IsSortedBy (less cmp) list.old.0
-        → (made_of cmp list.new.0 r.1, lines_of r.0) ≡ step_on cmp list.old.0 command.now) }
+        → O.compares_by list.old.order cmp
+        → IsSortedBy (less cmp) list.old.elements
+        → (made_of cmp list.new.elements r.1, lines_of r.0) ≡ step_on cmp list.old.elements command.now) }
     ensures err { OnErr result (list.new ≡ list.old) }
-    ensures order { list.new.1 ≡ list.old.1 }
+    ensures order { list.new.order ≡ list.old.order }
 {
     match command {
         SortedCommand::Insert(_, item) => Ok((insert(alloc, list, *item)?, None)),
@@ -123,8 +123,8 @@ fn run_least(
     list: &mut SortedList<Item, Least>,
     command: &SortedCommand,
 ) -> Result<Reply, AllocError>
-    ensures ok { IfOk result (λ reply. IsSortedBy (less ⟦<Item as Ord>⟧.cmp) list.old.0
-        → (list.new.0, lines_of reply) ≡ step_on ⟦<Item as Ord>⟧.cmp list.old.0 command.now) }
+    ensures ok { IfOk result (λ reply. IsSortedBy (less ⟦<Item as Ord>⟧.cmp) list.old.elements
+        → (list.new.elements, lines_of reply) ≡ step_on ⟦<Item as Ord>⟧.cmp list.old.elements command.now) }
     ensures err { OnErr result (list.new ≡ list.old) }
 {
     let (reply, stack) = run_on(alloc, list, command)?;
@@ -140,8 +140,8 @@ fn run_greatest(
     list: &mut SortedList<Item, Greatest>,
     command: &SortedCommand,
 ) -> Result<Reply, AllocError>
-    ensures ok { IfOk result (λ reply. IsSortedBy (less (λ x y. ⟦<Item as Ord>⟧.cmp y x)) list.old.0
-        → (list.new.0, lines_of reply) ≡ step_on (λ x y. ⟦<Item as Ord>⟧.cmp y x) list.old.0 command.now) }
+    ensures ok { IfOk result (λ reply. IsSortedBy (less (λ x y. ⟦<Item as Ord>⟧.cmp y x)) list.old.elements
+        → (list.new.elements, lines_of reply) ≡ step_on (λ x y. ⟦<Item as Ord>⟧.cmp y x) list.old.elements command.now) }
     ensures err { OnErr result (list.new ≡ list.old) }
 {
     let (reply, stack) = run_on(alloc, list, command)?;
@@ -158,15 +158,15 @@ fn run_own<F: Fn(&Item, &Item) -> Ordering + Copy>(
     by: F,
     command: &SortedCommand,
 ) -> Result<Reply, AllocError>
-    requires same { list.old.1 ≡ by }
+    requires same { list.old.order ≡ by }
     requires callable { F.IsAlwaysCallable by }
     requires total { (cmp : Item → Item → Ordering) × Computes F.Fn by cmp }
     ensures ok { IfOk result (λ reply. (cmp : Item → Item → Ordering)
         → Computes F.Fn by cmp
-        → IsSortedBy (less cmp) list.old.0
-        → (list.new.0, lines_of reply) ≡ step_on cmp list.old.0 command.now) }
+        → IsSortedBy (less cmp) list.old.elements
+        → (list.new.elements, lines_of reply) ≡ step_on cmp list.old.elements command.now) }
     ensures err { OnErr result (list.new ≡ list.old) }
-    ensures order { list.new.1 ≡ by }
+    ensures order { list.new.order ≡ by }
 {
     let (reply, stack) = run_on(alloc, list, command)?;
     if let Some(stack) = stack {
@@ -191,10 +191,10 @@ struct OwnLists<F> {
 
 impl<F> Model for OwnLists<F> {
     ghost use Rattle.std.specs.Prelude.{List, ◌∷◌, []};
-    ghost use Rattle.cordyceps_base.specs.Element.{Elements};
     ghost use Rattle.cordyceps_commands.specs.declared.item.Item.{Item};
+    ghost use Rattle.cordyceps_single.specs.Arrangement.{Sorted};
 
-    ghost Value = { List (Elements Item × F) };
+    ghost Value = { List (Sorted Item F) };
 
     ghost view = { λ s. s.first ∷ s.second ∷ s.third ∷ s.fourth ∷ s.fifth ∷ [] };
 }
@@ -204,7 +204,7 @@ impl<F: Fn(&Item, &Item) -> Ordering + Copy> OwnLists<F> {
     fn new(by: F) -> Self
         requires callable { F.IsAlwaysCallable by }
         requires total { (cmp : Item → Item → Ordering) × Computes F.Fn by cmp }
-        ensures { result ≡ ([], by) ∷ ([], by) ∷ ([], by) ∷ ([], by) ∷ ([], by) ∷ [] }
+        ensures { result ≡ empty_with by ∷ empty_with by ∷ empty_with by ∷ empty_with by ∷ empty_with by ∷ [] }
     {
         OwnLists {
             first: SortedList::new_with_cmp(by),
@@ -224,17 +224,17 @@ impl<F: Fn(&Item, &Item) -> Ordering + Copy> OwnLists<F> {
         command: &SortedCommand,
     ) -> Result<Reply, AllocError>
         requires within { index < 5 }
-        requires same { All (λ l. l.1 ≡ by) self.old }
+        requires same { All (λ l. l.order ≡ by) self.old }
         requires callable { F.IsAlwaysCallable by }
         requires total { (cmp : Item → Item → Ordering) × Computes F.Fn by cmp }
-        ensures ok { IfOk result (λ reply. (new : Elements Item × F)
+        ensures ok { IfOk result (λ reply. (new : Sorted Item F)
             × (self.new ≡ slice_set self.old index new)
             × ((cmp : Item → Item → Ordering)
             → Computes F.Fn by cmp
-            → IsSortedBy (less cmp) (slice_index_or self.old index ([], by)).0
-            → (new.0, lines_of reply) ≡ step_on cmp (slice_index_or self.old index ([], by)).0 command.now)) }
+            → IsSortedBy (less cmp) (slice_index_or self.old index (empty_with by)).elements
+            → (new.elements, lines_of reply) ≡ step_on cmp (slice_index_or self.old index (empty_with by)).elements command.now)) }
         ensures err { OnErr result (self.new ≡ self.old) }
-        ensures order { All (λ l. l.1 ≡ by) self.new }
+        ensures order { All (λ l. l.order ≡ by) self.new }
     {
         if index < 1 {
             run_own(alloc, &mut self.first, by, command)
@@ -276,7 +276,7 @@ impl<F> Model for Sorteds<F> {
       least : length s.least ≡ 6;
       greatest : length s.greatest ≡ 5;
       own : length s.own ≡ 5;
-      ordered : All (λ l. l.1 ≡ s.by) s.own;
+      ordered : All (λ l. l.order ≡ s.by) s.own;
     } };
 }
 

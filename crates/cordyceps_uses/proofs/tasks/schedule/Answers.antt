@@ -15,5 +15,5 @@ returns-clause-schedule g c =
     let none = ap (λ (u : PartyOf (Element Task)). held (plain u.seen)) c.in-Ok.ensures in
     let all = c.push_all-party.ensures.held ∙ ap (λ (z : List (Element Task)). z ++ tasks) none in
     let came = c.close-came.ensures ∙ (map-id (reverse (held (plain c.push_all-party.result.seen))) ∙ ap (λ (z : List (Element Task)). reverse z) all) in
-    let stands = subst (λ (z : List (Element Task)). Represents (λ (x y : Task). nat_cmp x.rank y.rank) c.from_stack_min.result.0 z) came c.from_stack_min.ensures in
+    let stands = subst (λ (z : List (Element Task)). Represents (λ (x y : Task). nat_cmp x.rank y.rank) c.from_stack_min.result.elements z) came c.from_stack_min.ensures in
     record { in_order = stands.in_order; as_arrived = stands.stable }

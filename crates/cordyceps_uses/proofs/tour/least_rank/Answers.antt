@@ -37,7 +37,7 @@ returns-in_err-next c =
     let a = c.args.first in
     let b = c.args.second in
     let arrived = c.push-2.ensures ∙ ap (λ z. b ∷ z) (c.push.ensures ∙ ap (λ z. a ∷ z) c.new-arrived.ensures) in
-    let is = arranged c.from_stack_min-jobs.result.0 c.push-2.new.self a b c.from_stack_min-jobs.ensures arrived in
+    let is = arranged c.from_stack_min-jobs.result.elements c.push-2.new.self a b c.from_stack_min-jobs.ensures arrived in
     absurd (some_there (is_gt (nat_cmp b.value.rank a.value.rank)) a b (ap (λ (z : Elements Job). values z) (sym is) ∙ (sym c.iter.ensures.values ∙ c.in_err-next.ensures.steps.0)))
 
 pub returns : goal.returns
@@ -45,6 +45,6 @@ returns c =
     let a = c.args.first in
     let b = c.args.second in
     let arrived = c.push-2.ensures ∙ ap (λ z. b ∷ z) (c.push.ensures ∙ ap (λ z. a ∷ z) c.new-arrived.ensures) in
-    let is = arranged c.from_stack_min-jobs.result.0 c.push-2.new.self a b c.from_stack_min-jobs.ensures arrived in
+    let is = arranged c.from_stack_min-jobs.result.elements c.push-2.new.self a b c.from_stack_min-jobs.ensures arrived in
     let first = ap (λ (z : Elements Job). values z) (sym is) ∙ (sym c.iter.ensures.values ∙ c.in_ok-next.ensures.steps) in
     ap (λ z. Some z) (in_front (is_gt (nat_cmp b.value.rank a.value.rank)) a b c.in_ok-next.field-0.now c.next.new.self first ∙ lesser a.value.rank b.value.rank)

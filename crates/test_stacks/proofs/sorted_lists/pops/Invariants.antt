@@ -2,4 +2,4 @@ use Rattle.std.proofs.Common.{◌≡◌}
 use Rattle.test_stacks.proofs.sorted_lists.pops.Given as goal
 
 abbrev pub invariant-loop-number : goal.invariant-loop-number
-invariant-loop-number g l = l.list.1 ≡ l.fn.list.1
+invariant-loop-number g l = l.list.order ≡ l.fn.list.order

@@ -9,6 +9,6 @@ pub returns-clause-ok : goal.returns-clause-ok
 returns-clause-ok g c = λ cmp by sorted.
     let means = c.in_ok-reply.ensures.ok cmp (rw c.requires.same by) sorted in
     elim c.match-stack.branch [
-      | in-Some w ↦ rw w.list-is (made_is by.lawful c.run_on.new.list.0 w.from_stack_with_cmp.result.0 w.in-Some.stack c.in_ok-reply.stack _ _ means w.in-Some.is (w.from_stack_with_cmp.ensures.arrangement cmp by))
-      | in_default w ↦ rw w.list-is (left_is cmp c.run_on.new.list.0 c.in_ok-reply.stack _ _ means w.in_default.is)
+      | in-Some w ↦ rw w.list-is (made_is by.lawful c.run_on.new.list.elements w.from_stack_with_cmp.result.elements w.in-Some.stack c.in_ok-reply.stack _ _ means w.in-Some.is (w.from_stack_with_cmp.ensures.arrangement cmp by))
+      | in_default w ↦ rw w.list-is (left_is cmp c.run_on.new.list.elements c.in_ok-reply.stack _ _ means w.in_default.is)
     ]

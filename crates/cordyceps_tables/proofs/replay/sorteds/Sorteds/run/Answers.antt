@@ -1,7 +1,7 @@
 use Rattle.std.proofs.Common.{◌≡◌, ◌+◌, ◌-◌, ◌<◌, ◌++◌, length, [], refl, sym, ap, ◌∙◌, slice_set, arith, length-append}
 use Rattle.std.proofs.lemmas.Result.{IfOk-weaker}
 use Rattle.std.proofs.lemmas.List.{append_assoc, append-nil, length-map}
-use Rattle.cordyceps_tables.specs.Sorteds.{contents, list_of, order_of}
+use Rattle.cordyceps_tables.specs.Sorteds.{contents, empty_with, list_of, order_of}
 use Rattle.cordyceps_tables.proofs.Ordered.{own}
 use Rattle.cordyceps_tables.proofs.Sorteds.{ran_within, order_of_least, order_of_greatest, order_of_own}
 use Rattle.cordyceps_tables.proofs.replay.sorteds.Sorteds.run.Goals as goal
@@ -38,12 +38,12 @@ returns-else-list-lt11-clause-ok g c =
     let greatest : length s.greatest ≡ 5 = c.self.invariant.greatest in
     let mine : length s.own ≡ 5 = c.self.invariant.own in
     let front = contents s.least ++ contents s.greatest in
-    let at : list ≡ length front + (n - 11) = omega (arith, c.number_of-list.ensures, least, greatest, length-append (contents s.least) (contents s.greatest), length-map s.least (λ l. l.0), length-map s.greatest (λ l. l.0)) in
+    let at : list ≡ length front + (n - 11) = omega (arith, c.number_of-list.ensures, least, greatest, length-append (contents s.least) (contents s.greatest), length-map s.least (λ l. l.elements), length-map s.greatest (λ l. l.elements)) in
     let here : n - 11 < length s.own = omega (arith, mine, c.number_of-list.ensures, c.requires.fits) in
     let whole = ap (λ v. v.0) (sym c.self.view_is) ∙ sym (append-nil (front ++ contents s.own)) in
     IfOk-weaker c.run.result _ _
     (λ reply ran cmp by sorted.
     let (new, set, means) = ran in
     let after = ap (λ l. front ++ contents l) set ∙ sym (append-nil (front ++ contents (slice_set s.own (n - 11) new))) in
-    ran_within front [] s.own (n - 11) (order_of own cmp) cmp _ _ ([], s.by) new _ _ at here (order_of_own own cmp list (omega (arith, c.number_of-list.ensures))) whole after (means cmp (rw (ap (λ v. v.1) c.self.view_is) by)) sorted)
+    ran_within front [] s.own (n - 11) (order_of own cmp) cmp _ _ (empty_with s.by) new _ _ at here (order_of_own own cmp list (omega (arith, c.number_of-list.ensures))) whole after (means cmp (rw (ap (λ v. v.1) c.self.view_is) by)) sorted)
     c.run.ensures.ok
