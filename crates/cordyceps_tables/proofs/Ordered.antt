@@ -1,5 +1,5 @@
 -- Lists in order: what a command leaves is in order, and is what the command means.
-use Rattle.std.proofs.Common.{◌≡◌, ℕ, zero, suc, Bool, List, [], ◌∷◌, length, map, drop, reverse, refl, ap, sym, ◌∙◌, subst, cond, Option, Some, None, nat_eq, nat_lt, slice_set, slice_index_or, ◌<◌, arith}
+use Rattle.std.proofs.Common.{◌≡◌, ℕ, zero, suc, Bool, List, [], ◌∷◌, length, map, drop, reverse, refl, ap, sym, ◌∙◌, subst, cond, Option, Some, None, nat_eq, nat_lt, slice_set, slice_index_or, ◌<◌, arith, Result, Ok, Err, IfOk, OnErr}
 use Rattle.std.specs.declared.cmp.Ordering.{Ordering}
 use Rattle.std.specs.List.Sorted.{IsSortedBy}
 use Rattle.cordyceps_base.specs.Element.{Elements}
@@ -17,7 +17,8 @@ use Rattle.cordyceps_commands.specs.contracts.item.ItemOrd.TheImpl.Laws.{total-l
 use Rattle.cordyceps_commands.specs.declared.item.Item.{Item}
 use Rattle.cordyceps_commands.specs.declared.sorted_command.SortedCommand.{SortedCommand}
 use Rattle.cordyceps_commands.specs.declared.sorted_command.SortedCommand.TheVariants as commands
-use Rattle.cordyceps_commands.specs.Replies.{Line, done, not_there}
+use Rattle.cordyceps_commands.specs.declared.reply.Reply.{Reply}
+use Rattle.cordyceps_commands.specs.Replies.{Line, lines_of, done, not_there}
 use Rattle.cordyceps_tables.specs.Tables.{Table, empty_table, element_of, held_at}
 use Rattle.cordyceps_tables.specs.Sorteds.{contents, order_of, made_of, fill, step_on, step, list_of, AreInOrder}
 
@@ -85,6 +86,12 @@ pub stays_in_order : (order : ℕ → Item → Item → Ordering) → ((n : ℕ)
 stays_in_order order each table after lines command is_step h =
     let is : (step order table command).0 ≡ after = ap (λ (p : Table × List Line). p.0) (sym is_step) in
     subst (AreInOrder order) is (step_in_order order each table command h)
+
+-- the same of a command that may have been refused memory, and has then changed nothing
+pub stays_in_order_if : {E : Type 0} (order : ℕ → Item → Item → Ordering) → ((n : ℕ) → IsPreorder (order n)) → (table after : Table) (command : SortedCommand) (result : Result Reply E) →
+    IfOk result (λ reply. (after, lines_of reply) ≡ step order table command) → OnErr result (after ≡ table) → AreInOrder order table → AreInOrder order after
+stays_in_order_if order each table after command (Ok reply) ran same h = stays_in_order order each table after (lines_of reply) command ran h
+stays_in_order_if order each table after command (Err e) ran same h = subst (AreInOrder order) (sym same) h
 
 held_in_empty : (k n : ℕ) → held_at (empty_table k) n ≡ []
 held_in_empty zero n = refl

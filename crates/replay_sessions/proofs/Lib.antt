@@ -1,4 +1,3 @@
-pub mod OneCommand
 pub mod Lines
 pub mod ListLines
 pub mod SortedLines

@@ -34,7 +34,7 @@ longer held line = (held.0, held.1, held.2 ++ line ∷ [])
 abbrev pub outside_with_text : Table × List Line → State × List (List ℕ)
 outside_with_text next = ((next.0, None), text_of next.1 ∷ [])
 
--- what a line does outside of blocks; the first line of a block answers nothing yet
+-- what a line does outside of blocks; the first line of a block has no reply yet
 abbrev pub take_outside : Table → Meaning → State × List (List ℕ)
 take_outside table (plain command) = outside_with_text (step table command)
 take_outside table (walk list turns) = outside_with_text (on table list (λ s. (s, show (items_for turns (values s)) ∷ [])))

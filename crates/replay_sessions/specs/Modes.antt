@@ -1,4 +1,4 @@
--- What a run of a script in a mode reads, writes and answers.
+-- What a run of a script in a mode reads, writes and returns.
 use Rattle.std.specs.Prelude.{ℕ, List, None, Result}
 use Rattle.std.specs.declared.cmp.Ordering.{Ordering}
 use Rattle.cordyceps_commands.specs.declared.item.Item.{Item}

@@ -11,6 +11,6 @@ use Rattle.cordyceps_commands.specs.declared.item.Item.{Item}
 abbrev pub by_tens : Item → Item → Ordering
 by_tens x y = nat_cmp (x.value / 10) (y.value / 10)
 
--- what f answers is that order
+-- what f returns is that order
 abbrev pub ComparesTens : {F : Type 0} → Shared F (Bor Item × (Bor Item × Unit {0})) Ordering → F → Type 0
 ComparesTens g f = (x y : Item) (r : Ordering) → FnReturnsAtPair g f x y r → r ≡ by_tens x y

@@ -4,6 +4,5 @@
 mod block;
 mod list_session;
 pub mod modes;
-mod playing;
 mod sorted_session;
 mod stack_session;

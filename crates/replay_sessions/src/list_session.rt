@@ -8,23 +8,19 @@ ghost use Rattle.replay_sessions.specs.OpenBlocks.{open_of, IsOpen, CanRun, Clos
 ghost use Rattle.replay_driver.specs.Steps.{TakesLine};
 
 use crate::block::Block;
-use crate::playing::{alone, last_reply};
 use cordyceps_commands::{CursorCommand, ListCommand, Reply};
-use cordyceps_tables::replay::{Lists, replay_lists};
+use cordyceps_tables::replay::Lists;
 use replay_driver::session::Session;
 use replay_lines::cursor_command::read_cursor_command;
 use replay_lines::list_command::{Entry, read_entry};
 use replay_lines::reply::push_reply;
 use std::alloc::{AllocError, Global};
-use std::collections::VecDeque;
 
 /// A session of a script in mode `list`, with its sixteen lists, and a cursor block if one is open.
 #[derive(Drop)]
 pub struct ListSession {
     alloc: Global,
     lists: Lists,
-    // kept from line to line for its memory alone
-    commands: VecDeque<ListCommand>,
     block: Option<Block>,
 }
 
@@ -40,7 +36,6 @@ impl ListSession {
         ListSession {
             alloc,
             lists: Lists::new(),
-            commands: VecDeque::new(alloc),
             block: None,
         }
     }
@@ -51,10 +46,7 @@ impl ListSession {
         ensures reply { IfOk result (λ reply. (self.new.lists, lines_of reply) ≡ step self.old.lists command) }
         ensures block { self.new.block ≡ self.old.block }
     {
-        let commands = alone(self.alloc, &mut self.commands, command)?;
-        let played = replay_lists(self.alloc, &mut self.lists, commands);
-        self.commands = played.rest;
-        last_reply(played.replies)
+        self.lists.run(self.alloc, &command)
     }
 
     /// Runs the block that is open, and appends its text. If memory is refused, it appends nothing.

@@ -6,23 +6,19 @@ ghost use Rattle.cordyceps_tables.specs.Sorteds.{step, order_of, Fits, AreInOrde
 ghost use Rattle.cordyceps_tables.specs.Tables.{empty_table};
 ghost use Rattle.replay_sessions.specs.Tens.{by_tens, ComparesTens};
 
-use crate::playing::{alone, last_reply};
 use cordyceps_commands::{Item, Reply, SortedCommand};
-use cordyceps_tables::replay::{Sorteds, replay_sorted};
+use cordyceps_tables::replay::Sorteds;
 use replay_driver::session::Session;
 use replay_lines::reply::push_reply;
 use replay_lines::sorted_command::read_command;
 use std::alloc::{AllocError, Global};
 use std::cmp::Ordering;
-use std::collections::VecDeque;
 
 /// A session of a script in mode `sorted`, with its sixteen sorted lists.
 #[derive(Drop)]
 pub struct SortedSession<F> {
     alloc: Global,
     sorteds: Sorteds<F>,
-    // kept from line to line for its memory alone
-    commands: VecDeque<SortedCommand>,
 }
 
 impl<F: Fn(&Item, &Item) -> Ordering + Copy> SortedSession<F> {
@@ -41,7 +37,6 @@ impl<F: Fn(&Item, &Item) -> Ordering + Copy> SortedSession<F> {
         SortedSession {
             alloc,
             sorteds: Sorteds::new(by),
-            commands: VecDeque::new(alloc),
         }
     }
 
@@ -57,10 +52,7 @@ impl<F: Fn(&Item, &Item) -> Ordering + Copy> SortedSession<F> {
         ensures in_order { AreInOrder (order_of ⟦<Item as Ord>⟧.cmp by_tens) self.new.sorteds.0 }
         ensures function { self.new.sorteds.1 ≡ self.old.sorteds.1 }
     {
-        let commands = alone(self.alloc, &mut self.commands, command)?;
-        let played = replay_sorted(self.alloc, &mut self.sorteds, commands);
-        self.commands = played.rest;
-        last_reply(played.replies)
+        self.sorteds.run(self.alloc, &command)
     }
 }
 

@@ -4,22 +4,18 @@ ghost use Rattle.cordyceps_commands.specs.Replies.{lines_of};
 ghost use Rattle.cordyceps_tables.specs.Stacks.{step, Fits};
 ghost use Rattle.cordyceps_tables.specs.Tables.{empty_table};
 
-use crate::playing::{alone, last_reply};
 use cordyceps_commands::{Reply, StackCommand};
-use cordyceps_tables::replay::{Stacks, replay_stacks};
+use cordyceps_tables::replay::Stacks;
 use replay_driver::session::Session;
 use replay_lines::reply::push_reply;
 use replay_lines::stack_command::read_command;
 use std::alloc::{AllocError, Global};
-use std::collections::VecDeque;
 
 /// A session of a script in mode `stack`, with its sixteen stacks.
 #[derive(Drop)]
 pub struct StackSession {
     alloc: Global,
     stacks: Stacks,
-    // kept from line to line for its memory alone
-    commands: VecDeque<StackCommand>,
 }
 
 impl StackSession {
@@ -33,7 +29,6 @@ impl StackSession {
         StackSession {
             alloc,
             stacks: Stacks::new(),
-            commands: VecDeque::new(alloc),
         }
     }
 
@@ -42,10 +37,7 @@ impl StackSession {
         requires { Fits command }
         ensures { IfOk result (λ reply. (self.new.stacks, lines_of reply) ≡ step self.old.stacks command) }
     {
-        let commands = alone(self.alloc, &mut self.commands, command)?;
-        let played = replay_stacks(self.alloc, &mut self.stacks, commands);
-        self.commands = played.rest;
-        last_reply(played.replies)
+        self.stacks.run(self.alloc, &command)
     }
 }
 

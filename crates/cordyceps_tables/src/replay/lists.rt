@@ -194,8 +194,18 @@ impl Lists {
         }
     }
 
-    /// Runs a command.
-    fn run(&mut self, alloc: Global, command: &ListCommand) -> Result<Reply, AllocError>
+    /// Runs a command, and returns its reply. Requires that the command names the lists 0 to 15, and that in a block an
+    /// `End` comes only last.
+    ///
+    /// # Errors
+    /// If memory for the reply or for nodes is refused, it returns `AllocError`, and has changed nothing. A block is
+    /// one command.
+    ///
+    /// # Complexity
+    /// The time of the command's calls: O(1) at the ends of a list, for `Len` and `Append`, and for each line of a
+    /// block other than `RemoveFirst`; the others walk along the list. `Show` and `Block` take amortized O(1) more for
+    /// each item and line.
+    pub fn run(&mut self, alloc: Global, command: &ListCommand) -> Result<Reply, AllocError>
         requires { Fits command.now }
         ensures ok { IfOk result (λ reply. (self.new, lines_of reply) ≡ step self.old command.now) }
         ensures err { OnErr result (self.new ≡ self.old) }

@@ -301,8 +301,16 @@ impl<F: Fn(&Item, &Item) -> Ordering + Copy> Sorteds<F> {
         }
     }
 
-    /// Runs a command.
-    fn run(&mut self, alloc: Global, command: &SortedCommand) -> Result<Reply, AllocError>
+    /// Runs a command, and returns its reply. Requires that the command names the lists 0 to 15, and that the function
+    /// can be called on any two items and is a total preorder.
+    ///
+    /// # Errors
+    /// If memory for the reply or for nodes is refused, it returns `AllocError`, and has changed nothing.
+    ///
+    /// # Complexity
+    /// O(1) for `PopFront`, and for `Insert` if the item is not less than the last. Otherwise `Insert` is O(n), for n
+    /// items of the list, and so is `Show`. `FromStack` inserts each of its items.
+    pub fn run(&mut self, alloc: Global, command: &SortedCommand) -> Result<Reply, AllocError>
         requires fits { Fits command.now }
         requires callable { F.IsAlwaysCallable self.old.1 }
         requires total { (cmp : Item → Item → Ordering) × Computes F.Fn self.old.1 cmp }

@@ -107,8 +107,14 @@ impl Stacks {
         done()
     }
 
-    /// Runs a command.
-    fn run(&mut self, alloc: Global, command: &StackCommand) -> Result<Reply, AllocError>
+    /// Runs a command, and returns its reply. Requires that the command names the stacks 0 to 15.
+    ///
+    /// # Errors
+    /// If memory for the reply or for a node is refused, it returns `AllocError`, and has changed nothing.
+    ///
+    /// # Complexity
+    /// O(1) for each command other than `Drain`, which is O(n), for n items.
+    pub fn run(&mut self, alloc: Global, command: &StackCommand) -> Result<Reply, AllocError>
         requires { Fits command.now }
         ensures ok { IfOk result (λ reply. (self.new, lines_of reply) ≡ step self.old command.now) }
         ensures err { OnErr result (self.new ≡ self.old) }
