@@ -89,7 +89,7 @@ impl<E: Drop> Machine<E> {
     }
 
     /// Moves a party to another stage, and returns `answer`.
-    fn stand(&mut self, party: usize, stage: Stage, answer: QueueAnswer<E>) -> Answered<E>
+    fn set_stage(&mut self, party: usize, stage: Stage, answer: QueueAnswer<E>) -> Answered<E>
         requires { party < length self.old.parties }
         ensures { (self.new, result) ≡ set_stage self.old party stage answer }
     {
@@ -167,8 +167,8 @@ impl<E: Drop> Machine<E> {
         ensures { (self.new, result) ≡ read_stub self.old party (next_in (slice_get self.old.rooms 0)) }
     {
         match self.rooms.next(0) {
-            None => self.stand(party, Stage::StubNull, QueueAnswer::Done),
-            Some(next) => self.stand(party, Stage::Second(next), QueueAnswer::Done),
+            None => self.set_stage(party, Stage::StubNull, QueueAnswer::Done),
+            Some(next) => self.set_stage(party, Stage::Second(next), QueueAnswer::Done),
         }
     }
 
@@ -179,7 +179,7 @@ impl<E: Drop> Machine<E> {
         ensures { (self.new, result) ≡ read self.old party tail (next_in (slice_get self.old.rooms tail)) }
     {
         match self.rooms.next(tail) {
-            None => self.stand(party, Stage::Null(tail), QueueAnswer::Done),
+            None => self.set_stage(party, Stage::Null(tail), QueueAnswer::Done),
             Some(next) => self.hand_out(party, tail, next),
         }
     }
@@ -191,7 +191,7 @@ impl<E: Drop> Machine<E> {
         ensures { (self.new, result) ≡ read_again self.old party tail (next_in (slice_get self.old.rooms tail)) }
     {
         match self.rooms.next(tail) {
-            None => self.stand(party, Stage::Holding(tail), QueueAnswer::Inconsistent),
+            None => self.set_stage(party, Stage::Holding(tail), QueueAnswer::Inconsistent),
             Some(next) => self.hand_out(party, tail, next),
         }
     }
@@ -214,9 +214,9 @@ impl<E: Drop> Machine<E> {
         ensures { (self.new, result) ≡ head_stub self.old party (nat_eq self.old.head 0) }
     {
         if self.head == 0 {
-            self.stand(party, Stage::Holding(0), QueueAnswer::Empty)
+            self.set_stage(party, Stage::Holding(0), QueueAnswer::Empty)
         } else {
-            self.stand(party, Stage::Holding(0), QueueAnswer::Inconsistent)
+            self.set_stage(party, Stage::Holding(0), QueueAnswer::Inconsistent)
         }
     }
 
@@ -225,9 +225,9 @@ impl<E: Drop> Machine<E> {
         ensures { (self.new, result) ≡ head_tail self.old party tail (nat_eq self.old.head tail) }
     {
         if self.head == tail {
-            self.stand(party, Stage::PutClear(tail), QueueAnswer::Done)
+            self.set_stage(party, Stage::PutClear(tail), QueueAnswer::Done)
         } else {
-            self.stand(party, Stage::Holding(tail), QueueAnswer::Inconsistent)
+            self.set_stage(party, Stage::Holding(tail), QueueAnswer::Inconsistent)
         }
     }
 

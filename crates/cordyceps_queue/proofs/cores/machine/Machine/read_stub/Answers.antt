@@ -7,4 +7,4 @@ use Rattle.cordyceps_queue.proofs.cores.machine.Machine.read_stub.Goals as goal
 pub returns-in-None : goal.returns-in-None
 returns-in-None g c =
     let none : next_in (slice_get c.args.self.now.rooms 0) ≡ None = ap (λ (m : Machine g.row.E.Denot). next_in (slice_get m.rooms 0)) (sym c.self.view_is) ∙ (sym c.next.ensures ∙ c.in-None.is) in
-    rw none c.stand.ensures
+    rw none c.set_stage.ensures
