@@ -4,7 +4,7 @@ use Rattle.std.specs.Option.{option_map}
 use Rattle.replay_driver.specs.Script.{Machine}
 use Rattle.replay_lines.specs.CoreReplies.{CoreLine, core_text}
 
--- what a command leads to, and the text of its one reply line
+-- the core after a command, and the text of its one reply line
 abbrev pub with_core_text : {M : Type 0} → M × CoreLine → M × List (List ℕ)
 with_core_text next = (next.0, core_text next.1 ∷ [])
 

@@ -1,12 +1,12 @@
 //! Scripts in mode `queue`.
 ghost use Rattle.std.specs.Prelude.{◌≡◌, IfOk};
 ghost use Rattle.replay_lines.specs.CoreReplies.{line_of_reply};
-ghost use Rattle.replay_cores.specs.QueueMachine.{reply_to_step, reply_to_error, reply_to_try, takes_step, step, new_core};
+ghost use Rattle.replay_cores.specs.QueueMachine.{reply_to_step, reply_to_error, reply_to_try, takes_step, step};
 
+use crate::core_session::{CoreSession, ScriptedCore};
 use cordyceps_commands::Item;
 use cordyceps_queue::mpsc_queue::{QueueAnswer, QueueCore, QueueStep, StepError, TryDequeueError};
-use replay_driver::session::Session;
-use replay_lines::core_reply::{CoreReply, push_core_reply};
+use replay_lines::core_reply::CoreReply;
 use replay_lines::queue_command::{QueueCommand, read_command};
 use std::alloc::{AllocError, Global};
 
@@ -45,127 +45,102 @@ fn reply_of_found(found: Result<Item, TryDequeueError>) -> CoreReply
     }
 }
 
+fn add_party(core: &mut QueueCore<Item>) -> Result<CoreReply, AllocError>
+    ensures { IfOk result (λ reply.
+        (core.new, line_of_reply reply) ≡ step core.old QueueCommand.Party) }
+{
+    match core.add_party() {
+        Ok(party) => Ok(CoreReply::Party(party)),
+        Err(_) => Err(AllocError),
+    }
+}
+
+fn add_room(core: &mut QueueCore<Item>, party: usize) -> Result<CoreReply, AllocError>
+    ensures { IfOk result (λ reply.
+        (core.new, line_of_reply reply) ≡ step core.old (QueueCommand.Room party)) }
+{
+    match core.add_room(party) {
+        Ok(()) => Ok(CoreReply::Done),
+        Err(StepError::NotThere) => Ok(CoreReply::NotThere),
+        Err(StepError::Memory) => Err(AllocError),
+    }
+}
+
+fn take_step(core: &mut QueueCore<Item>, party: usize, step: QueueStep<Item>) -> CoreReply
+    ensures { (core.new, line_of_reply result) ≡ takes_step core.old party step }
+{
+    reply_of(core.step(party, step))
+}
+
+fn enqueue(core: &mut QueueCore<Item>, party: usize, item: Item) -> CoreReply
+    ensures { (core.new, line_of_reply result)
+        ≡ step core.old (QueueCommand.Enqueue party item) }
+{
+    match core.enqueue(party, item) {
+        Ok(()) => CoreReply::Done,
+        Err(_) => CoreReply::NotThere,
+    }
+}
+
+fn dequeue(core: &mut QueueCore<Item>, party: usize) -> CoreReply
+    ensures { (core.new, line_of_reply result)
+        ≡ step core.old (QueueCommand.Dequeue party) }
+{
+    match core.try_dequeue(party) {
+        Ok(found) => reply_of_found(found),
+        Err(_) => CoreReply::NotThere,
+    }
+}
+
+fn batch(core: &mut QueueCore<Item>, party: usize, max: usize) -> Result<CoreReply, AllocError>
+    ensures { IfOk result (λ reply.
+        (core.new, line_of_reply reply) ≡ step core.old (QueueCommand.Batch party max)) }
+{
+    match core.take_linked(party, max) {
+        Ok(Ok(batch)) => Ok(CoreReply::Show(batch)),
+        Ok(Err(error)) => Ok(reply_of_error(error)),
+        Err(StepError::NotThere) => Ok(CoreReply::NotThere),
+        Err(StepError::Memory) => Err(AllocError),
+    }
+}
+
 /// A session of a script in mode `queue`, with its core.
-#[derive(Drop)]
-pub struct QueueSession {
-    alloc: Global,
-    core: QueueCore<Item>,
-}
+pub type QueueSession = CoreSession<QueueCore<Item>>;
 
-impl QueueSession {
-    /// Creates a session with a core without parties, rooms and items. Allocates nothing.
-    ///
-    /// # Complexity
-    /// O(1).
-    pub fn new(alloc: Global) -> Self
-        ensures { result.core ≡ new_core }
-    {
-        QueueSession {
-            alloc,
-            core: QueueCore::new(alloc),
-        }
+impl ScriptedCore for QueueCore<Item> {
+    ghost use Rattle.replay_lines.specs.QueueScript.{command_of};
+    ghost use Rattle.replay_cores.specs.QueueMachine.{step, new_core};
+
+    type Command = QueueCommand;
+
+    ghost first = { new_core };
+
+    ghost command_of = { command_of };
+
+    ghost step = { step };
+
+    fn create(alloc: Global) -> Self {
+        QueueCore::new(alloc)
     }
 
-    fn add_party(&mut self) -> Result<CoreReply, AllocError>
-        ensures { IfOk result (λ reply.
-            (self.new.core, line_of_reply reply) ≡ step self.old.core QueueCommand.Party) }
-    {
-        match self.core.add_party() {
-            Ok(party) => Ok(CoreReply::Party(party)),
-            Err(_) => Err(AllocError),
-        }
+    fn read(line: &[u8]) -> Option<QueueCommand> {
+        read_command(line)
     }
 
-    fn add_room(&mut self, party: usize) -> Result<CoreReply, AllocError>
-        ensures { IfOk result (λ reply.
-            (self.new.core, line_of_reply reply) ≡ step self.old.core (QueueCommand.Room party)) }
-    {
-        match self.core.add_room(party) {
-            Ok(()) => Ok(CoreReply::Done),
-            Err(StepError::NotThere) => Ok(CoreReply::NotThere),
-            Err(StepError::Memory) => Err(AllocError),
-        }
-    }
-
-    fn step(&mut self, party: usize, step: QueueStep<Item>) -> CoreReply
-        ensures { (self.new.core, line_of_reply result) ≡ takes_step self.old.core party step }
-    {
-        reply_of(self.core.step(party, step))
-    }
-
-    fn enqueue(&mut self, party: usize, item: Item) -> CoreReply
-        ensures { (self.new.core, line_of_reply result)
-            ≡ step self.old.core (QueueCommand.Enqueue party item) }
-    {
-        match self.core.enqueue(party, item) {
-            Ok(()) => CoreReply::Done,
-            Err(_) => CoreReply::NotThere,
-        }
-    }
-
-    fn dequeue(&mut self, party: usize) -> CoreReply
-        ensures { (self.new.core, line_of_reply result)
-            ≡ step self.old.core (QueueCommand.Dequeue party) }
-    {
-        match self.core.try_dequeue(party) {
-            Ok(found) => reply_of_found(found),
-            Err(_) => CoreReply::NotThere,
-        }
-    }
-
-    fn batch(&mut self, party: usize, max: usize) -> Result<CoreReply, AllocError>
-        ensures { IfOk result (λ reply.
-            (self.new.core, line_of_reply reply) ≡ step self.old.core (QueueCommand.Batch party max)) }
-    {
-        match self.core.take_linked(party, max) {
-            Ok(Ok(batch)) => Ok(CoreReply::Show(batch)),
-            Ok(Err(error)) => Ok(reply_of_error(error)),
-            Err(StepError::NotThere) => Ok(CoreReply::NotThere),
-            Err(StepError::Memory) => Err(AllocError),
-        }
-    }
-
-    /// Runs a command.
-    fn play(&mut self, command: QueueCommand) -> Result<CoreReply, AllocError>
-        ensures { IfOk result (λ reply.
-            (self.new.core, line_of_reply reply) ≡ step self.old.core command) }
-    {
+    fn play(&mut self, command: QueueCommand) -> Result<CoreReply, AllocError> {
         match command {
-            QueueCommand::Party => self.add_party(),
-            QueueCommand::Room(party) => self.add_room(party),
-            QueueCommand::Clear(party, item) => Ok(self.step(party, QueueStep::Clear(item))),
-            QueueCommand::Swap(party) => Ok(self.step(party, QueueStep::Swap)),
-            QueueCommand::Link(party) => Ok(self.step(party, QueueStep::Link)),
-            QueueCommand::Take(party) => Ok(self.step(party, QueueStep::Take)),
-            QueueCommand::ReadNext(party) => Ok(self.step(party, QueueStep::ReadNext)),
-            QueueCommand::ReadHead(party) => Ok(self.step(party, QueueStep::ReadHead)),
-            QueueCommand::Give(party) => Ok(self.step(party, QueueStep::Give)),
-            QueueCommand::Enqueue(party, item) => Ok(self.enqueue(party, item)),
-            QueueCommand::Dequeue(party) => Ok(self.dequeue(party)),
-            QueueCommand::Batch(party, max) => self.batch(party, max),
+            QueueCommand::Party => add_party(self),
+            QueueCommand::Room(party) => add_room(self, party),
+            QueueCommand::Clear(party, item) => Ok(take_step(self, party, QueueStep::Clear(item))),
+            QueueCommand::Swap(party) => Ok(take_step(self, party, QueueStep::Swap)),
+            QueueCommand::Link(party) => Ok(take_step(self, party, QueueStep::Link)),
+            QueueCommand::Take(party) => Ok(take_step(self, party, QueueStep::Take)),
+            QueueCommand::ReadNext(party) => Ok(take_step(self, party, QueueStep::ReadNext)),
+            QueueCommand::ReadHead(party) => Ok(take_step(self, party, QueueStep::ReadHead)),
+            QueueCommand::Give(party) => Ok(take_step(self, party, QueueStep::Give)),
+            QueueCommand::Enqueue(party, item) => Ok(enqueue(self, party, item)),
+            QueueCommand::Dequeue(party) => Ok(dequeue(self, party)),
+            QueueCommand::Batch(party, max) => batch(self, party, max),
         }
-    }
-}
-
-impl Session for QueueSession {
-    ghost use Rattle.replay_cores.specs.QueueMachine.{Core, queue_machine};
-
-    ghost State = { Core };
-
-    ghost machine = { queue_machine };
-
-    ghost state = { λ session. session.core };
-
-    fn take(&mut self, line: &[u8], text: &mut Vec<u8>) -> Result<bool, AllocError> {
-        let Some(command) = read_command(line) else {
-            return Ok(false);
-        };
-        let reply = self.play(command)?;
-        push_core_reply(self.alloc, text, &reply)?;
-        Ok(true)
-    }
-
-    fn end(&mut self, _text: &mut Vec<u8>) -> Result<(), AllocError> {
-        Ok(())
     }
 }

@@ -31,7 +31,7 @@ rises (x ∷ xs) a = (at_least x xs (λ j below. a 0 (suc j) 0 (omega arith) (om
 pub rises_sorted : (xs : List ℕ) → IsSorted nat_cmp xs → Rises xs
 rises_sorted xs a = rises xs (IsNonDecreasingBy-from_sort (λ x. x) xs a)
 
--- how often a number stands in a list
+-- how often a number is in a list
 counts : (n : ℕ) (xs : List ℕ) → sum_by (λ x. one_if (eqb x n)) xs ≡ times n xs
 counts n [] = refl
 counts n (x ∷ xs) = sum_by-cons (λ x. one_if (eqb x n)) x xs ∙ ap (λ z. one_if (eqb x n) + z) (counts n xs)

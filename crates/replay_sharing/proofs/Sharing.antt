@@ -1,4 +1,4 @@
--- Two parties that were split off a whole one, and taken in again.
+-- Two parties that were split off a whole one, and absorbed again.
 use Rattle.std.proofs.Common.{◌≡◌, ℕ, zero, suc, List, [], ◌∷◌, ◌++◌, replicate, Bool, true, false, cond, ◌||◌, refl, sym, ap, ◌∙◌, subst, inl, inr, append_assoc, append-nil}
 use Rattle.cordyceps_shared.specs.Histories.{plain, own, AllOwn}
 use Rattle.cordyceps_shared.proofs.Adding.{plain_own}
@@ -36,7 +36,7 @@ module _ {P E : Type 0} (Mine : E → Type 0) where
   one_more (Push p e) true false xs ys zs a m n more = inl (pushes xs, refl, more m.1 n)
   one_more (Push p e) false true xs ys zs a m n more = inr (pushes ys, refl, more m n.1)
 
-  -- two parties saw beginnings of one history, each event of which is one's or the other's, and what the one pushed the
+  -- two parties saw prefixes of one history, each event of which is one's or the other's, and what the one pushed the
   -- other did not: what was pushed is what each pushed, in its order
   pub pushed_by_both : (xs ys : List (Bool × Event P E)) (rest : List (Event P E)) → AllOwn (merge_marks xs ys) → plain (merge_marks xs ys) ≡ plain ys ++ rest
       → Every Mine (pushes (own xs)) → Every (Other Mine) (pushes (own ys)) → Interleaves (pushes (own xs)) (pushes (own ys)) (pushes (plain (merge_marks xs ys)))

@@ -59,7 +59,7 @@ in_order events taken values both is same sorted =
     ((omega arith, (omega arith, (omega arith, _))), ((omega arith, (omega arith, _)), ((omega arith, _), (_, _))))
     (IsPermutation-map (λ (e : Element Item). e.value.value) all taken out) same sorted
 
--- ---- a whole party that was split in three, and took back both parts once each had worked
+-- ---- a whole party that was split in three, and absorbed both parts once each had worked
 module _ (u first second v w : Party) (one : Works (item 10) (item 11) (giving 2 u) first) (two : Works (item 20) (item 21) (giving 2 (keeping 2 u)) second)
     (x : Absorbs (λ h. Legal h) (keeping 2 (keeping 2 u)) first v) (y : Absorbs (λ h. Legal h) v second w) (all : u.share ≡ whole) (four : u.rooms ≡ 4) where
   -- what each worker saw since it was split off

@@ -1,4 +1,4 @@
--- What two workers that share a stack come to.
+-- What two workers that share a stack do.
 use Rattle.std.specs.Prelude.{◌≡◌, ℕ, List, [], ◌∷◌, ◌++◌, reverse, Result, Ok, Err, decimal}
 use Rattle.cordyceps_base.specs.Element.{Element}
 use Rattle.cordyceps_shared.specs.Interleaving.{Interleaves}
@@ -30,7 +30,7 @@ pub record Works (a b : Element Item) (u w : PartyOf (Element Item)) : Type 0 wh
   pub rooms : w.rooms ≡ 0
 
 -- A whole party has gained the pushes of 10, 11, 20 and 21, loads, and last the taking of the four, and no other event;
--- 10 came before 11, and 20 before 21. The answer is what was taken, in order.
+-- 10 came before 11, and 20 before 21. The result is what was taken, in order.
 pub record Shared (u w : PartyOf (Element Item)) (values : List ℕ) : Type 0 where
   pub events : List (Event Name (Element Item))
   pub adds : Adds u (events ++ Taken (name_of u) (reverse (pushes events)) ∷ []) w
@@ -45,7 +45,7 @@ line_of_numbers [] = 10 ∷ []
 line_of_numbers (v ∷ []) = decimal v ++ 10 ∷ []
 line_of_numbers (v ∷ w ∷ vs) = decimal v ++ 32 ∷ line_of_numbers (w ∷ vs)
 
--- What a run of mode share writes and answers.
+-- What a run of mode share writes and returns.
 abbrev pub Prints : (took : List ℕ → Type 0) (write_failed : Type 0) → Result (Unit {0}) Fault → Type 0
 Prints took write_failed (Ok _) = took (line_of_numbers (10 ∷ 11 ∷ 20 ∷ 21 ∷ []))
 Prints took write_failed (Err faults.Memory) = took []
