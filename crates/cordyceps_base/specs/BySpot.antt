@@ -5,11 +5,11 @@ use Rattle.cordyceps_base.specs.Element.{Element}
 use Rattle.cordyceps_base.specs.Nodes.{Nodes, spots}
 
 module _ {X : Type 0} where
-  -- a node lies at p
+  -- a node is at p
   abbrev pub HasSpot : Nodes X → Ptr → Type 0
   HasSpot c p = (k : ℕ) × (slice_get (spots c) k ≡ Some p)
 
-  -- the value w lies at p
+  -- the value w is at p
   abbrev pub HoldsAt : Nodes X → Ptr → X → Type 0
   HoldsAt c p w =
       (before : Nodes X) × (id : ℕ) × (after : Nodes X) × (c ≡ before ++ (p, record { id = id; value = w }) ∷ after)
@@ -18,13 +18,13 @@ module _ {X : Type 0} where
   abbrev pub IsTaken : Nodes X → Ptr → Element X → Nodes X → Type 0
   IsTaken c p e d = (before : Nodes X) × (after : Nodes X) × (c ≡ before ++ (p, e) ∷ after) × (d ≡ before ++ after)
 
-  -- the node e was put in before that at p, and lies at q
+  -- the node e was put in before that at p, and is at q
   abbrev pub IsPutBefore : Nodes X → Ptr → Ptr → Element X → Nodes X → Type 0
   IsPutBefore c p q e d =
       (before : Nodes X) × (o : Element X) × (after : Nodes X) × (c ≡ before ++ (p, o) ∷ after)
       × (d ≡ before ++ (q, e) ∷ (p, o) ∷ after)
 
-  -- the node e was put in after that at p, and lies at q
+  -- the node e was put in after that at p, and is at q
   abbrev pub IsPutAfter : Nodes X → Ptr → Ptr → Element X → Nodes X → Type 0
   IsPutAfter c p q e d =
       (before : Nodes X) × (o : Element X) × (after : Nodes X) × (c ≡ before ++ (p, o) ∷ after)
@@ -38,11 +38,11 @@ module _ {X : Type 0} where
   abbrev pub IsMovedBack : Nodes X → Ptr → Nodes X → Type 0
   IsMovedBack c p d = (e : Element X) × (rest : Nodes X) × IsTaken c p e rest × (d ≡ rest ++ (p, e) ∷ [])
 
-  -- the first node lies at p
+  -- the first node is at p
   abbrev pub IsFirst : Nodes X → Ptr → Type 0
   IsFirst c p = (e : Element X) × (after : Nodes X) × (c ≡ (p, e) ∷ after)
 
-  -- the last node lies at p
+  -- the last node is at p
   abbrev pub IsLast : Nodes X → Ptr → Type 0
   IsLast c p = (before : Nodes X) × (e : Element X) × (c ≡ before ++ (p, e) ∷ [])
 

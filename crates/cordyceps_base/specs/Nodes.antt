@@ -6,16 +6,16 @@ use Rattle.cordyceps_base.specs.declared.boxes.Address.{Address}
 use Rattle.cordyceps_base.specs.declared.node.Block.{Block}
 use Rattle.cordyceps_base.specs.Element.{Element, Elements}
 
--- nodes in order, each as the address where it lies and its element
+-- nodes in order, each as the address where it is and its element
 abbrev pub Nodes : Type 0 → Type 0
 Nodes X = List (Ptr × Element X)
 
 module _ {X : Type 0} where
-  -- where the nodes lie
+  -- where the nodes are
   abbrev pub spots : Nodes X → List Ptr
   spots = map (λ n. n.0)
 
-  -- node k lies at p
+  -- node k is at p
   abbrev pub IsAt : Nodes X → ℕ → Address → Type 0
   IsAt c k p = slice_get (spots c) k ≡ Some p.ptr
 

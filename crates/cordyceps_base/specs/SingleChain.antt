@@ -42,7 +42,7 @@ module _ {X : Type 0} where
   EndsAfter a [] t = t ≡ a
   EndsAfter a (n ∷ ns) t = EndsAfter n.0 ns t
 
-  -- the last node lies at t
+  -- the last node is at t
   abbrev pub EndsAt : List (OwnedNode X) → Ptr → Type 0
   EndsAt [] t = Unit {0}
   EndsAt (n ∷ ns) t = EndsAfter n.0 ns t

@@ -1,4 +1,4 @@
--- How requests and their tickets are kept: each knows where the other lies.
+-- How requests and their tickets are kept: each knows where the other is.
 use Rattle.std.specs.Prelude.{◌≡◌, ℕ, ◌≤◌, List, [], ◌∷◌, length, map, nat_lt, if◌then◌else◌, Option, Some, None}
 use Rattle.std.specs.List.{AllByRecursion}
 use denote.RawPtr.{Ptr, null_ptr}
@@ -42,7 +42,7 @@ module _ {P : Type 0} where
   ahead_of head [] = None
   ahead_of head (n ∷ c) = if nat_lt n.1.value.request.sector head then ahead_of head c else Some n.0
 
-  -- the ticket of a request that lies at q
+  -- the ticket of a request that is at q
   abbrev pub ticket_for : Ptr → Element (Waiting P) → Ticket
   ticket_for q e = record { deadline = e.value.request.deadline; request = Some q }
 

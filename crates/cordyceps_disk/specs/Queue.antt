@@ -8,7 +8,7 @@ use Rattle.cordyceps.specs.Spots.BySpot.{IsTaken}
 use Rattle.cordyceps_disk.specs.declared.request.Request.{Request}
 
 module _ {A : Type 0} where
-  -- one more, behind all whose key is not greater
+  -- one more, after all whose key is not greater
   abbrev pub put_by : (A → ℕ) → A → List A → List A
   put_by key x [] = x ∷ []
   put_by key x (y ∷ s) = if nat_lt (key x) (key y) then x ∷ y ∷ s else y ∷ put_by key x s
@@ -37,7 +37,7 @@ module _ {P : Type 0} where
   abbrev pub element : Request P → Element (Request P)
   element r = record { id = r.sector; value = r }
 
-  -- the queue with one more request, at p: in both orders behind its equals
+  -- the queue with one more request, at p: in both orders after its equals
   abbrev pub submitted : Ptr → Request P → Queue P → Queue P
   submitted p r q = record {
     waiting = put_by (λ n. n.1.value.sector) (p, element r) q.waiting;
@@ -57,7 +57,7 @@ module _ {P : Type 0} where
     pub first : (rest : List (ℕ × Ptr)) × (q.due ≡ (r.deadline, p) ∷ rest)
 
   -- the request r at p is the first at or above the head, or where there is none the first of all: those before it are
-  -- below the head, and those behind it not below it
+  -- below the head, and those after it not below it
   pub record IsUpwards (p : Ptr) (r : Request P) (q : Queue P) : Type 0 where
     pub before : Nodes (Request P)
     pub after : Nodes (Request P)

@@ -90,7 +90,7 @@ pub(crate) fn first_above<P: Drop>(requests: &Requests<P>, at: Spot) -> Option<S
     first
 }
 
-/// Puts a request in and a ticket for it, and answers the spot of the request. Where memory is refused it gives the
+/// Puts a request in and a ticket for it, and returns the spot of the request. Where memory is refused it gives the
 /// request back.
 pub(crate) fn link<P: Drop>(
     requests: &mut Requests<P>,

@@ -63,7 +63,7 @@ impl<P: Drop> DiskQueue<P> {
         self.len() == 0
     }
 
-    /// Puts a request in, in both orders behind its equals, and answers its spot. It takes memory for two nodes.
+    /// Puts a request in, in both orders after its equals, and returns its spot. It takes memory for two nodes.
     ///
     /// # Errors
     /// Where memory is refused, or `usize::MAX` requests wait, the request comes back, and the queue stays as it was.

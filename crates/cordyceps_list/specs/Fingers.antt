@@ -35,6 +35,6 @@ TakesOut k len old new =
 abbrev pub ChangesAfter : ℕ → ℕ → Finger → Finger → Type 0
 ChangesAfter kept len old new = (old.index < kept → new ≡ old) × (kept ≤ old.index → new.index ≡ len)
 
--- how many links lie between two places
+-- how many links are between two places
 abbrev pub moves_between : ℕ → ℕ → ℕ
 moves_between a b = (a - b) + (b - a)

@@ -10,7 +10,7 @@ pub record Position (X : Type 0) : Type 0 where
   pub elements : Elements X
   pub place : ℕ
 
--- a call of a cursor's `next` at s answers r and leaves t
+-- a call of a cursor's `next` at s returns r and leaves t
 abbrev pub GivesAndMoves : {X : Type 0} → Position X → Option (Bor X) → Position X → Type 0
 GivesAndMoves s r t =
     MatchOption r ((s.place ≡ length s.elements) × (t ≡ s)) (λ x. (slice_get (values s.elements) s.place ≡ Some x.now)

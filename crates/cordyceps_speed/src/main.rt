@@ -109,7 +109,7 @@ fn ask(rt: &HostRuntime) -> Result<Asked, Fault> {
     read(words.as_slice()).ok_or(Fault::Usage)
 }
 
-/// Measures and shows the collections that one thread owns. Answers a number over what was seen.
+/// Measures and shows the collections that one thread owns. Returns a number over what was seen.
 fn show_owned<R: Clock + Print>(rt: &R, alloc: Global, table: Table) -> Result<u64, Fault> {
     let ends = show_ends(rt, alloc, table, ELEMENTS)?;
     let walks = show_walks(rt, alloc, table, ELEMENTS)?;
@@ -134,7 +134,7 @@ fn timers(table: Table) -> usize {
     }
 }
 
-/// Measures and shows sorted lists with spots, and timers in them and in others. Answers a number over what was seen.
+/// Measures and shows sorted lists with spots, and timers in them and in others. Returns a number over what was seen.
 fn show_spots<R: Clock + Print>(rt: &R, alloc: Global, table: Table) -> Result<u64, Fault> {
     let inserts = show_inserts(rt, alloc, table, FEW)?;
     let by_spots = show_by_spots(rt, alloc, table, ELEMENTS)?;
@@ -142,7 +142,7 @@ fn show_spots<R: Clock + Print>(rt: &R, alloc: Global, table: Table) -> Result<u
     Ok(inserts.wrapping_add(by_spots).wrapping_add(timers))
 }
 
-/// Measures and shows the collections that threads share, each by one party that is alone. Answers a number over what
+/// Measures and shows the collections that threads share, each by one party that is alone. Returns a number over what
 /// was seen.
 fn show_shared<R: Clock + Print>(rt: &R, alloc: Global, table: Table) -> Result<u64, Fault> {
     let transfers = show_transfers(rt, alloc, table, ELEMENTS)?;

@@ -56,8 +56,8 @@ fn value_of(item: Option<&Item>) -> u64 {
     }
 }
 
-/// Splits the list behind the cursor, splices the rest in again, and looks at the cursor's value and those beside it,
-/// so often. Answers the sum of what it saw, modulo 2 to the 64.
+/// Splits the list after the cursor, splices the rest in again, and looks at the cursor's value and those beside it,
+/// so often. Returns the sum of what it saw, modulo 2 to the 64.
 fn splice_and_look(cursor: &mut CursorMut<'_, Item>, splices: usize) -> u64 {
     let mut sum: u64 = 0;
     for _ in 0..splices {
@@ -73,7 +73,7 @@ fn splice_and_look(cursor: &mut CursorMut<'_, Item>, splices: usize) -> u64 {
     sum
 }
 
-/// Measures splits and splices behind a cursor in the middle, with looks around there. Answers the sum of what they saw
+/// Measures splits and splices after a cursor in the middle, with looks around there. Returns the sum of what they saw
 /// too, modulo 2 to the 64.
 fn measure_splices(rt: &impl Clock, list: &mut List<Item>, rounds: u32) -> (Cost, u64) {
     let (mut cost, mut sum) = (Cost::none(), 0u64);
@@ -133,7 +133,7 @@ fn measure_drains(
     Ok(cost)
 }
 
-/// Measures edits, and shows them. Answers the sum of the values that were seen and of the numbers of what came out
+/// Measures edits, and shows them. Returns the sum of the values that were seen and of the numbers of what came out
 /// last.
 pub fn show_edits<R: Clock + Print>(
     rt: &R,

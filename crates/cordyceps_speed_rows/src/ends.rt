@@ -125,7 +125,7 @@ fn measure_rotations(rt: &impl Clock, list: &mut List<Item>, rounds: u32) -> Cos
     cost
 }
 
-/// Measures the ends of lists, and shows them. Answers the sum of the numbers of what came out last.
+/// Measures the ends of lists, and shows them. Returns the sum of the numbers of what came out last.
 pub fn show_ends<R: Clock + Print>(
     rt: &R,
     alloc: Global,

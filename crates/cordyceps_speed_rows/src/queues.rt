@@ -113,7 +113,7 @@ fn take_batches(
     Ok(())
 }
 
-/// Puts a batch's elements behind the others.
+/// Puts a batch's elements after the others.
 fn unpack(batch: Batch<Item>, nodes: &mut Vec<QueueNode>) -> Result<(), Fault>
     ensures { OnOk result (length nodes.new.items ≡ length nodes.old.items + length batch) }
 {
@@ -124,7 +124,7 @@ fn unpack(batch: Batch<Item>, nodes: &mut Vec<QueueNode>) -> Result<(), Fault>
     Ok(())
 }
 
-/// Puts the elements of all batches behind the others, and leaves no batch.
+/// Puts the elements of all batches after the others, and leaves no batch.
 fn unpack_all(batches: &mut Vec<Batch<Item>>, nodes: &mut Vec<QueueNode>) -> Result<(), Fault>
     ensures empty { OnOk result (batches.new.items ≡ []) }
     ensures length { OnOk result (length nodes.new.items ≡ length nodes.old.items + sum_by length batches.old.items) }
@@ -258,7 +258,7 @@ fn measure_batches(
     Ok(cost)
 }
 
-/// Measures calls one by one, with so many elements. Answers the sum of the numbers of what came out last too.
+/// Measures calls one by one, with so many elements. Returns the sum of the numbers of what came out last too.
 fn singles_of(
     rt: &impl Clock,
     alloc: Global,
@@ -272,7 +272,7 @@ fn singles_of(
     Ok((queues, sum_numbers(nodes.as_slice())))
 }
 
-/// Measures batches of at most so many, with so many elements. Answers the sum of the numbers of what came out last,
+/// Measures batches of at most so many, with so many elements. Returns the sum of the numbers of what came out last,
 /// too.
 fn batches_of(
     rt: &impl Clock,
@@ -289,7 +289,7 @@ fn batches_of(
     Ok((cost, sum_numbers(nodes.as_slice())))
 }
 
-/// Measures queues that threads share, and shows them. Answers the sum of the numbers of what came out last.
+/// Measures queues that threads share, and shows them. Returns the sum of the numbers of what came out last.
 pub fn show_queues<R: Clock + Print>(
     rt: &R,
     alloc: Global,

@@ -17,7 +17,7 @@ use std::time::Clock;
 /// Which value the element with a number has.
 #[derive(Clone, Copy)]
 pub enum Values {
-    /// That number: each goes behind all others.
+    /// That number: each goes after all others.
     Ascending,
     /// The less, the greater the number: each goes before all others.
     Descending,
@@ -94,7 +94,7 @@ fn measure_insertions(
     Ok(Insertions { cost, sum })
 }
 
-/// Measures insertions, and shows them. Answers a number over what the lists held.
+/// Measures insertions, and shows them. Returns a number over what the lists held.
 pub fn show_sorteds<R: Clock + Print>(
     rt: &R,
     alloc: Global,

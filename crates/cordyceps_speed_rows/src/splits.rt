@@ -103,7 +103,7 @@ fn measure_splits(
     cost
 }
 
-/// Measures joins and splits, and shows them. Answers the sum of the numbers of what was joined last.
+/// Measures joins and splits, and shows them. Returns the sum of the numbers of what was joined last.
 pub fn show_splits<R: Clock + Print>(
     rt: &R,
     alloc: Global,

@@ -25,7 +25,7 @@ fn insert_all(list: &mut StableSortedList<Item, Least>, nodes: &mut Vec<ListNode
     }
 }
 
-/// Takes all elements out, one after another. Answers a number over their values.
+/// Takes all elements out, one after another. Returns a number over their values.
 fn pop_all(
     list: &mut StableSortedList<Item, Least>,
     nodes: &mut Vec<ListNode>,
@@ -100,7 +100,7 @@ fn update_all(list: &mut Numbered, numbers: &[usize], values: Values, first: u64
     }
 }
 
-/// Measures removals of all elements by their spots. Answers the sum of the numbers of what came out last, too.
+/// Measures removals of all elements by their spots. Returns the sum of the numbers of what came out last, too.
 fn measure_removals(
     rt: &impl Clock,
     alloc: Global,
@@ -142,7 +142,7 @@ fn measure_updates(
     Ok(cost)
 }
 
-/// Measures insertions into sorted lists with spots, pops, and updates that walk, and shows them. Answers a number over
+/// Measures insertions into sorted lists with spots, pops, and updates that walk, and shows them. Returns a number over
 /// what the lists held.
 pub fn show_inserts<R: Clock + Print>(
     rt: &R,
@@ -182,7 +182,7 @@ pub fn show_inserts<R: Clock + Print>(
     Ok(up.sum.wrapping_add(down.sum).wrapping_add(any.sum))
 }
 
-/// Measures removals by spots, and updates to the last place, and shows them. Answers the sum of the numbers of what
+/// Measures removals by spots, and updates to the last place, and shows them. Returns the sum of the numbers of what
 /// was removed last.
 pub fn show_by_spots<R: Clock + Print>(
     rt: &R,

@@ -193,7 +193,7 @@ pub fn numbers_below(alloc: Global, count: usize) -> Result<Vec<usize>, Fault> {
     Ok(numbers)
 }
 
-/// Measures stable lists, and shows them. Answers the sum of the numbers of what came out last.
+/// Measures stable lists, and shows them. Returns the sum of the numbers of what came out last.
 pub fn show_stables<R: Clock + Print>(
     rt: &R,
     alloc: Global,

@@ -70,7 +70,7 @@ fn measure_moves(
     Ok(cost)
 }
 
-/// Measures stacks and vectors, and shows them. Answers the sum of the numbers of what came out last.
+/// Measures stacks and vectors, and shows them. Returns the sum of the numbers of what came out last.
 pub fn show_stacks<R: Clock + Print>(
     rt: &R,
     alloc: Global,

@@ -209,7 +209,7 @@ impl Plan {
         Ok(Plan { started, cancelled })
     }
 
-    /// Starts all of the timers, cancels those that are to be cancelled, and takes out the others. Answers a number
+    /// Starts all of the timers, cancels those that are to be cancelled, and takes out the others. Returns a number
     /// over these in their order.
     fn run<T: Timers>(&self, timers: &mut T) -> Result<u64, Fault> {
         for timer in &self.started {
@@ -228,7 +228,7 @@ impl Plan {
         Ok(sum)
     }
 
-    /// Measures rounds of them. Answers a number over those that came out last, too.
+    /// Measures rounds of them. Returns a number over those that came out last, too.
     fn measure<T: Timers>(
         &self,
         rt: &impl Clock,
@@ -245,7 +245,7 @@ impl Plan {
     }
 }
 
-/// Measures timers in a list. Answers a number over those that came out last, too.
+/// Measures timers in a list. Returns a number over those that came out last, too.
 fn in_list(rt: &impl Clock, alloc: Global, plan: &Plan, rounds: u32) -> Result<(Cost, u64), Fault> {
     let mut timers = InList::new(alloc, plan.started.len())?;
     plan.measure(rt, &mut timers, rounds)
@@ -257,7 +257,7 @@ fn in_heap(rt: &impl Clock, alloc: Global, plan: &Plan, rounds: u32) -> Result<(
     plan.measure(rt, &mut timers, rounds)
 }
 
-/// Measures timers in each of the collections, and shows them. Answers a number over those that came out last.
+/// Measures timers in each of the collections, and shows them. Returns a number over those that came out last.
 fn show_plan<R: Clock + Print>(
     rt: &R,
     alloc: Global,
@@ -278,7 +278,7 @@ fn show_plan<R: Clock + Print>(
     Ok(first.wrapping_add(second).wrapping_add(third))
 }
 
-/// Measures so many timers with these deadlines, and shows them. Answers a number over those that came out last.
+/// Measures so many timers with these deadlines, and shows them. Returns a number over those that came out last.
 fn show<R: Clock + Print>(
     rt: &R,
     alloc: Global,
@@ -294,7 +294,7 @@ fn show<R: Clock + Print>(
     show_plan(rt, alloc, table, &plan, what)
 }
 
-/// Measures so many timers with deadlines that mostly rise, and so few with any, and shows them. Answers a number over
+/// Measures so many timers with deadlines that mostly rise, and so few with any, and shows them. Returns a number over
 /// those that came out last.
 pub fn show_timers<R: Clock + Print>(
     rt: &R,

@@ -114,7 +114,7 @@ fn measure_transfers(
     Ok(transfers)
 }
 
-/// Measures stacks that threads share, and shows them. Answers the sum of the numbers of what came out last.
+/// Measures stacks that threads share, and shows them. Returns the sum of the numbers of what came out last.
 pub fn show_transfers<R: Clock + Print>(
     rt: &R,
     alloc: Global,

@@ -14,7 +14,7 @@ pub fn with_room<T>(alloc: Global, count: usize) -> Result<Vec<T>, Fault>
     }
 }
 
-/// Puts an item behind the others.
+/// Puts an item after the others.
 pub fn push<T: Drop>(items: &mut Vec<T>, item: T) -> Result<(), Fault>
     ensures { OnOk result (items.new.items ≡ items.old.items ++ item ∷ []) }
 {

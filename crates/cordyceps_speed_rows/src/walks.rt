@@ -90,7 +90,7 @@ fn scattered(rt: &impl Clock, alloc: Global, elements: usize, rounds: u32) -> Re
     Ok(measure_iterator(rt, &list_of(nodes), rounds))
 }
 
-/// Measures walks through nodes that lie in memory as in the list: by an iterator, with changes, and by a cursor.
+/// Measures walks through nodes that are in memory as in the list: by an iterator, with changes, and by a cursor.
 fn in_order(
     rt: &impl Clock,
     alloc: Global,
@@ -104,7 +104,7 @@ fn in_order(
     Ok((steps, changes, looks))
 }
 
-/// Measures walks, and shows them. Answers the sum of the values that were seen.
+/// Measures walks, and shows them. Returns the sum of the values that were seen.
 pub fn show_walks<R: Clock + Print>(
     rt: &R,
     alloc: Global,

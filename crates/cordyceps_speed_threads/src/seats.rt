@@ -88,7 +88,7 @@ pub trait Shared {
     /// Puts an element in.
     fn put<R: Wait>(&self, rt: &R, element: StackNode);
 
-    /// Takes out what one try gives, and puts it behind the others.
+    /// Takes out what one try gives, and puts it after the others.
     fn take<R: Wait>(&self, rt: &R, taken: &mut Vec<StackNode>);
 }
 

@@ -26,7 +26,7 @@ pub trait Seat {
     /// Puts an element in, where there is a room.
     fn put<R: Wait>(&mut self, rt: &R, element: StackNode);
 
-    /// Takes out what one try gives, and puts it behind the others.
+    /// Takes out what one try gives, and puts it after the others.
     fn take<R: Wait>(&mut self, rt: &R, taken: &mut Vec<StackNode>);
 }
 
@@ -86,7 +86,7 @@ struct Job<'q, S> {
 }
 
 impl<'q, S: Seat + Drop> Job<'q, S> {
-    /// Puts all of the elements in, the last first, or takes elements out. Answers how long it took since all began.
+    /// Puts all of the elements in, the last first, or takes elements out. Returns how long it took since all began.
     fn run<R: Wait + Clock>(mut self, rt: &R, start: &Start) -> Duration {
         start.meet(rt);
         let mut stopwatch = Stopwatch::start(rt);
@@ -169,7 +169,7 @@ fn jobs<'q, S: Seat + Drop>(
     Ok(jobs)
 }
 
-/// Runs each job on a thread of its own. Answers the longest time that one took. Where a thread cannot be made the
+/// Runs each job on a thread of its own. Returns the longest time that one took. Where a thread cannot be made the
 /// others wait for it forever.
 fn run_all<S, R>(rt: &R, jobs: Vec<Job<'_, S>>) -> Result<Duration, Fault>
 where

@@ -11,7 +11,7 @@ abbrev pub IsUpdated : (ℕ → Option Ptr) → ℕ → Option Ptr → (ℕ → 
 IsUpdated f k w g = (q : ℕ) → g q ≡ update nat_eq f k w q
 
 module _ {X : Type 0} where
-  -- the element e lies at q
+  -- the element e is at q
   abbrev pub HasElementAt : Nodes X → Ptr → Element X → Type 0
   HasElementAt c q e = (before : Nodes X) × (after : Nodes X) × (c ≡ before ++ (q, e) ∷ after)
 

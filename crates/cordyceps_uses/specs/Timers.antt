@@ -15,7 +15,7 @@ module _ {P : Type 0} where
   InOrder [] = Unit {0}
   InOrder (x ∷ s) = AllByRecursion (λ y. x.1.value.deadline ≤ y.1.value.deadline) s × InOrder s
 
-  -- one more, which lies at q, behind all whose deadline is not later
+  -- one more, which is at q, after all whose deadline is not later
   abbrev pub started : Ptr → Element (Timer P) → Nodes (Timer P) → Nodes (Timer P)
   started q t [] = (q, t) ∷ []
   started q t (x ∷ s) = if nat_lt t.value.deadline x.1.value.deadline then (q, t) ∷ x ∷ s else x ∷ started q t s

@@ -93,7 +93,7 @@ fn send_each<R: Threads + Sync>(
     Ok(back)
 }
 
-/// Puts what a try found behind what was received.
+/// Puts what a try found after what was received.
 fn note(received: &mut Vec<u64>, found: Result<Letter, TryDequeueError>) -> Result<(), AllocError>
     ensures { IfOk result (λ _. received.new.items ≡ received.old.items ++ got_by_try value_of found) }
 {

@@ -1,7 +1,7 @@
 //! A cache of bounded size that forgets what was used least recently.
 //!
 //! It keeps what is costly to make again, as rows that were read or names that were looked up, for as long as there is
-//! room. A map finds the spot where a key's node lies, so that no call walks along the entries.
+//! room. A map finds the spot where a key's node is, so that no call walks along the entries.
 ghost use Rattle.std.specs.Prelude.{ℕ, ◌≡◌, ◌-◌, ◌<◌, ◌≤◌, [], length, take, slice_get, nat_eq, option_map, is_some, None, IsSome, IsOk, IfOk, IfErr, OnOk, OnErr};
 ghost use Rattle.std.specs.HashMap.{get, spare};
 ghost use Rattle.cordyceps.specs.Spots.Agreeing.{Agrees};
@@ -107,7 +107,7 @@ impl<V: Drop> Cache<V> {
         Some(value)
     }
 
-    /// Gives a key a value, and answers the entry that went for it: that of the key, or the one used least recently.
+    /// Gives a key a value, and returns the entry that went for it: that of the key, or the one used least recently.
     ///
     /// A key that is there keeps its node. For another it takes memory, and where that is refused the value comes back.
     pub fn insert(
@@ -146,7 +146,7 @@ impl<V: Drop> Cache<V> {
         Ok(out)
     }
 
-    /// Takes a key out, and answers its value. `None` where it is not there.
+    /// Takes a key out, and returns its value. `None` where it is not there.
     pub fn remove(&mut self, key: u64) -> Option<V>
         ensures entries { self.new.entries ≡ others key self.old.entries }
         ensures capacity { self.new.capacity ≡ self.old.capacity }
@@ -157,7 +157,7 @@ impl<V: Drop> Cache<V> {
     }
 }
 
-/// Takes out the last entry of a full cache, and answers it.
+/// Takes out the last entry of a full cache, and returns it.
 fn make_room<V: Drop>(
     spots: &mut HashMap<u64, Spot>,
     list: &mut StableList<Entry<V>>,

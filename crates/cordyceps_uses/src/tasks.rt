@@ -83,7 +83,7 @@ pub fn schedule<R: Wait>(
     Ok(SortedList::from_stack_min(came))
 }
 
-/// Puts a task from a stack behind those of a list, which has room for one more. Its node becomes one of lists: it is
+/// Puts a task from a stack after those of a list, which has room for one more. Its node becomes one of lists: it is
 /// not freed, and no memory is taken.
 pub fn move_to_list(list: &mut List<Task>, node: Node<Task, Links<Task>>)
     requires { length list.old < usize.MAX }

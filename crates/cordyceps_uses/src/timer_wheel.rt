@@ -1,6 +1,6 @@
 //! A wheel of timers, as kernels have it: each timer is started, cancelled and expired at once, however many wait.
 //!
-//! Its slots stand for the ticks of one turn. A timer waits in the slot of its deadline, modulo their number.
+//! Its slots represent the ticks of one turn. A timer waits in the slot of its deadline, modulo their number.
 ghost use Rattle.std.specs.Prelude.{ℕ, ◌≡◌, ◌+◌, ◌%◌, ◌++◌, ◌<◌, ◌≤◌, [], ◌∷◌, length, replicate, IfOk, IfErr, IsOk, OnErr, All};
 ghost use Rattle.cordyceps.specs.Elements.Nodes.{Nodes, elements};
 ghost use Rattle.cordyceps.specs.Spots.BySpot.{IsTaken};
@@ -80,7 +80,7 @@ impl<P: Drop> TimerWheel<P> {
         })
     }
 
-    /// Starts a timer, which is due at the time that its node has for a number, and answers its ticket.
+    /// Starts a timer, which is due at the time that its node has for a number, and returns its ticket.
     ///
     /// It takes no memory. The timer comes back where its deadline is not in the turn that begins now, or where its
     /// slot holds the greatest number of timers.

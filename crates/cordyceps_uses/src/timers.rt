@@ -70,7 +70,7 @@ impl<P: Drop> Timers<P> {
         }
     }
 
-    /// Starts a timer behind all whose deadline is not later, and answers its spot. It takes memory for one node, whose
+    /// Starts a timer after all whose deadline is not later, and returns its spot. It takes memory for one node, whose
     /// number is the deadline.
     ///
     /// # Errors
@@ -100,7 +100,7 @@ impl<P: Drop> Timers<P> {
         }
     }
 
-    /// Starts a timer in the node that it has, behind all whose deadline is not later, and answers its spot. It takes
+    /// Starts a timer in the node that it has, after all whose deadline is not later, and returns its spot. It takes
     /// no memory.
     ///
     /// # Errors

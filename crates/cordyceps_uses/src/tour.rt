@@ -40,7 +40,7 @@ pub fn take_the_second(alloc: Global) -> Result<Option<ListJob>, Refused<Job>>
     Ok(cursor.remove_current())
 }
 
-/// Puts the first job behind all others.
+/// Puts the first job after all others.
 pub fn rotate(jobs: &mut List<Job>)
     requires { length jobs.old < usize.MAX }
     ensures { jobs.new ≡ drop 1 jobs.old ++ take 1 jobs.old }
@@ -70,7 +70,7 @@ pub fn take_least(jobs: &mut StableList<Job>) -> Option<ListJob>
     Some(jobs.remove(best))
 }
 
-/// Puts a job that came out of a queue behind those that wait in a list which threads share.
+/// Puts a job that came out of a queue after those that wait in a list which threads share.
 ///
 /// # Errors
 /// A list of `usize::MAX` jobs hands the job back.

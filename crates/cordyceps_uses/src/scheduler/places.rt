@@ -113,7 +113,7 @@ impl<L: Follow> Runnable<L> {
         self.tasks.len() < usize::MAX
     }
 
-    /// Puts a task behind those that wait, from the hands of a thread.
+    /// Puts a task after those that wait, from the hands of a thread.
     pub fn put(&mut self, mine: &mut Holding<L>, task: Node<Task, list::Links<Task>>)
         requires room { length self.old.tasks < usize.MAX }
         requires held { one_of L.number L.rounds task.value.payload ≤ mine.old.share.amount }
