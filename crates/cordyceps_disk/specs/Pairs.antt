@@ -52,7 +52,9 @@ module _ {P : Type 0} where
     pub distinct : AreDistinct (spots c)
     pub tickets_apart : AreDistinct (spots t)
     pub length : length t ≡ length c
-    pub ticket : (q : Ptr) (e : Element (Waiting P)) → HasElementAt c q e → (k : Element Ticket) × HasElementAt t e.value.ticket k
+    pub ticket : (q : Ptr) (e : Element (Waiting P)) → HasElementAt c q e
+        → (k : Element Ticket) × HasElementAt t e.value.ticket k
         × (k.value ≡ ticket_for q e)
-    pub request : (u : Ptr) (k : Element Ticket) → HasElementAt t u k → (q : Ptr) × (e : Element (Waiting P)) × HasElementAt c q e
+    pub request : (u : Ptr) (k : Element Ticket) → HasElementAt t u k
+        → (q : Ptr) × (e : Element (Waiting P)) × HasElementAt c q e
         × (e.value.ticket ≡ u) × (k.value ≡ ticket_for q e)

@@ -614,7 +614,8 @@ impl<T: Linked<Links<T>>> List<T> {
         requires inside { index ≤ length self.old }
         requires callable { MayAsk F.FnMut (drop index (values self.old)) predicate.old }
         ensures elements { self.new ≡ self.old }
-        ensures walks { Walks (CalledAt F.FnMut) predicate.old (drop index (values self.old)) (result - index) predicate.new }
+        ensures walks { Walks (CalledAt F.FnMut) predicate.old (drop index (values self.old)) (result - index)
+            predicate.new }
         ensures from { index ≤ result }
         ensures to { result ≤ length self.old }
     {

@@ -37,7 +37,8 @@ step_on s (commands.Back list) = (s, found_or_nothing (slice_get (values s) (len
 step_on s (commands.SetFront list value) = set_item s 0 (slice_get (values s) 0) value
 step_on s (commands.SetBack list value) = set_item s (length s - 1) (slice_get (values s) (length s - 1)) value
 step_on s (commands.Len list) = (s, len (length s) ∷ [])
-step_on s (commands.Remove list id) = (without_id id s, found_or_nothing (option_map (λ e. e.value) (first_with_id id s)) ∷ [])
+step_on s (commands.Remove list id) =
+    (without_id id s, found_or_nothing (option_map (λ e. e.value) (first_with_id id s)) ∷ [])
 step_on s (commands.Bump list by) = (bump_all by s, done ∷ [])
 step_on s (commands.Walk list turns) = (s, show (items_for turns.items (values s)) ∷ [])
 step_on s (commands.Into list turns) = ([], show (items_for turns.items (values s)) ∷ [])

@@ -35,5 +35,5 @@ module _ {P : Type 0} where
   -- each timer is in the slot of its deadline, which is ahead
   abbrev pub IsInPlace : Dial P → Type 0
   IsInPlace w =
-      (s : ℕ) (q : Ptr) (e : Element (Timer P)) → HasElementAt (slice_index_or w.slots s []) q e → (e.id % length w.slots ≡ s)
-      × Ahead e.id w
+      (s : ℕ) (q : Ptr) (e : Element (Timer P)) → HasElementAt (slice_index_or w.slots s []) q e
+      → (e.id % length w.slots ≡ s) × Ahead e.id w

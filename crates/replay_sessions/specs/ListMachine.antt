@@ -37,8 +37,10 @@ outside_with_text next = ((next.0, None), text_of next.1 ∷ [])
 -- what a line does outside of blocks; the first line of a block has no reply yet
 abbrev pub take_outside : Table → Meaning → State × List (List ℕ)
 take_outside table (plain command) = outside_with_text (step table command)
-take_outside table (walk list turns) = outside_with_text (on table list (λ s. (s, show (items_for turns (values s)) ∷ [])))
-take_outside table (into list turns) = outside_with_text (on table list (λ s. ([], show (items_for turns (values s)) ∷ [])))
+take_outside table (walk list turns) =
+    outside_with_text (on table list (λ s. (s, show (items_for turns (values s)) ∷ [])))
+take_outside table (into list turns) =
+    outside_with_text (on table list (λ s. ([], show (items_for turns (values s)) ∷ [])))
 take_outside table (cursor list end) = ((table, Some (list, end, [])), [])
 
 -- what a line does in a block: its end runs it, and any other line waits for that

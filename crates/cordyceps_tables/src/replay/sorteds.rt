@@ -232,7 +232,8 @@ impl<F: Fn(&Item, &Item) -> Ordering + Copy> OwnLists<F> {
             × ((cmp : Item → Item → Ordering)
             → Computes F.Fn by cmp
             → IsSortedBy (less cmp) (slice_index_or self.old index (empty_with by)).elements
-            → (new.elements, lines_of reply) ≡ step_on cmp (slice_index_or self.old index (empty_with by)).elements command.now)) }
+            → (new.elements, lines_of reply)
+            ≡ step_on cmp (slice_index_or self.old index (empty_with by)).elements command.now)) }
         ensures err { OnErr result (self.new ≡ self.old) }
         ensures order { All (λ l. l.order ≡ by) self.new }
     {
