@@ -31,11 +31,11 @@ inside s k p is = grind (arith, get_or_past s k None)
 module _ {X : Type 0} where
   -- the first element was taken out, and its place emptied
   pub popped_agrees : (f g : ℕ → Option Ptr) (c d : Nodes X) (p : Ptr) (e : Element X) → Agrees f c → IsUpdated f e.id None g → c ≡ (p, e) ∷ d → AreDistinct (spots d) → Agrees g d
-  popped_agrees f g c d p e was up is apart = taken_agrees f g c d p e was up (first_taken c d p e is) apart
+  popped_agrees f g c d p e was up is distinct = taken_agrees f g c d p e was up (first_taken c d p e is) distinct
 
   -- an element was given another value, and put elsewhere at the same spot
   pub updated_agrees : (f : ℕ → Option Ptr) (c d rest : Nodes X) (p : Ptr) (e w : Element X) → e.id ≡ w.id → Agrees f c → IsTaken c p e rest → IsTaken d p w rest → AreDistinct (spots d) → Agrees f d
-  updated_agrees f c d rest p e w same was from to apart = record { mapped = mapped; listed = listed; apart = apart } where
+  updated_agrees f c d rest p e w same was from to distinct = record { mapped = mapped; listed = listed; distinct = distinct } where
     mapped : (k : ℕ) (q : Ptr) → f k ≡ Some q → (o : Element X) × (o.id ≡ k) × HasElementAt d q o
     mapped k q at = let (o, key, lies) = was.mapped k q at in elim (taken_or_left c rest p q e o from lies) as (λ _. (x : Element X) × (x.id ≡ k) × HasElementAt d q x) [
       | inl here ↦ (w, sym same ∙ ap (λ (x : Element X). x.id) (sym here.1) ∙ key, subst (λ s. HasElementAt d s w) (sym here.0) (to.0, to.1, to.2))

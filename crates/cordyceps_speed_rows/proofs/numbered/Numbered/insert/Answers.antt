@@ -15,4 +15,4 @@ invariant_of-self c =
     let none : c.index.result.now ≡ None = search (rules, c.if-is_none.true, c.if-is_none.ensures, c.is_none.ensures) in
     let fresh = ap (λ n. spot_of table n) (sym c.id-number.ensures) ∙ read table number c.index.result.now inside c.index.ensures ∙ none in
     let up = subst (λ n. IsUpdated (spot_of table) n (Some spot) after) c.id-number.ensures (written table number (Some spot) inside) in
-    put_agrees (spot_of table) after c.self.inside.list.nodes c.insert-spot.new.self.nodes spot c.args.node c.self.invariant fresh up c.insert-spot.ensures.others c.insert-spot.ensures.apart
+    put_agrees (spot_of table) after c.self.inside.list.nodes c.insert-spot.new.self.nodes spot c.args.node c.self.invariant fresh up c.insert-spot.ensures.others c.insert-spot.ensures.distinct

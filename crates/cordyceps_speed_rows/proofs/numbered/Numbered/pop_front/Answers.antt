@@ -20,4 +20,4 @@ invariant_of-self-2 c =
     let after = spot_of (slice_set table number None) in
     let at : number < length table = inside table number spot (ap (λ n. spot_of table n) c.id-number.ensures ∙ c.self.invariant.listed spot c.in_ok-node.node ([], c.pop_front.new.self.nodes, is)) in
     let up = subst (λ n. IsUpdated (spot_of table) n None after) c.id-number.ensures (written table number None at) in
-    popped_agrees (spot_of table) after c.self.inside.list.nodes c.pop_front.new.self.nodes spot c.in_ok-node.node c.self.invariant up is c.pop_front.ensures.apart
+    popped_agrees (spot_of table) after c.self.inside.list.nodes c.pop_front.new.self.nodes spot c.in_ok-node.node c.self.invariant up is c.pop_front.ensures.distinct

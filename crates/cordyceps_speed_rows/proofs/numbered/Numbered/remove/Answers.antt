@@ -15,4 +15,4 @@ invariant_of-self c =
     let table = c.self.inside.spots.items in
     let inside : c.args.number < length table = omega (arith, c.if-number-len.true, c.len.ensures) in
     let at = read table c.args.number c.index.result.now inside c.index.ensures ∙ c.in_ok-spot.was in
-    removed_agrees (spot_of table) _ c.self.inside.list.nodes c.remove.new.self.nodes c.args.number c.in_ok-spot.spot c.remove.result c.self.invariant at (written table c.args.number None inside) c.remove.ensures.taken c.remove.ensures.apart
+    removed_agrees (spot_of table) _ c.self.inside.list.nodes c.remove.new.self.nodes c.args.number c.in_ok-spot.spot c.remove.result c.self.invariant at (written table c.args.number None inside) c.remove.ensures.taken c.remove.ensures.distinct

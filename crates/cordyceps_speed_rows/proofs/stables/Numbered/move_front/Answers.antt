@@ -12,4 +12,4 @@ move_to_front-requires c =
 
 pub invariant_of-self : goal.invariant_of-self
 invariant_of-self c =
-    moved_front_agrees (spot_of c.self.inside.spots.items) c.self.inside.list c.move_to_front.new.self c.in-Some.spot c.self.invariant c.move_to_front.ensures.moved c.move_to_front.ensures.apart
+    moved_front_agrees (spot_of c.self.inside.spots.items) c.self.inside.list c.move_to_front.new.self c.in-Some.spot c.self.invariant c.move_to_front.ensures.moved c.move_to_front.ensures.distinct

@@ -17,4 +17,4 @@ invariant_of-self c =
     let fresh = ap (λ n. spot_of table n) (sym c.id-number.ensures) ∙ read table number c.index.result.now inside c.index.ensures ∙ none in
     let up = subst (λ n. IsUpdated (spot_of table) n (Some spot) after) c.id-number.ensures (written table number (Some spot) inside) in
     let taken = last_taken c.push_back-spot.new.self c.self.inside.list spot c.args.node c.push_back-spot.ensures.holds in
-    put_agrees (spot_of table) after c.self.inside.list c.push_back-spot.new.self spot c.args.node c.self.invariant fresh up taken c.push_back-spot.ensures.apart
+    put_agrees (spot_of table) after c.self.inside.list c.push_back-spot.new.self spot c.args.node c.self.invariant fresh up taken c.push_back-spot.ensures.distinct
