@@ -66,20 +66,20 @@ vacant_at zero i a h = absurd (omega arith)
 vacant_at (suc n) zero a h = refl
 vacant_at (suc n) (suc i) a h = vacant_at n i a (omega arith)
 
-module _ {E : Type 0} where
+module _ {X : Type 0} where
   -- in a new table
-  pub empty_new : (n : ℕ) (rooms : List ℕ) → ((i r : ℕ) → ItemAt rooms i r → r < n) → EmptyAtHome {E = E} (map some (replicate n None)) rooms
+  pub empty_new : (n : ℕ) (rooms : List ℕ) → ((i r : ℕ) → ItemAt rooms i r → r < n) → EmptyAtHome {X = X} (map some (replicate n None)) rooms
   empty_new n rooms low i r a = vacant_at n r None (low i r a)
 
-  pub empty_drop : (homes : Homes E) (n : ℕ) (rooms : List ℕ) → EmptyAtHome homes rooms → EmptyAtHome homes (drop n rooms)
+  pub empty_drop : (homes : Homes X) (n : ℕ) (rooms : List ℕ) → EmptyAtHome homes rooms → EmptyAtHome homes (drop n rooms)
   empty_drop homes n rooms e i r a = let t = at_drop n rooms i r a in e t.0 r t.1
 
-  pub empty_take : (homes : Homes E) (n : ℕ) (rooms : List ℕ) → EmptyAtHome homes rooms → EmptyAtHome homes (take n rooms)
+  pub empty_take : (homes : Homes X) (n : ℕ) (rooms : List ℕ) → EmptyAtHome homes rooms → EmptyAtHome homes (take n rooms)
   empty_take homes n rooms e i r a = e i r (at_take n rooms i r a).0
 
-  pub empty_append : (homes : Homes E) (xs ys : List ℕ) → EmptyAtHome homes xs → EmptyAtHome homes ys → EmptyAtHome homes (xs ++ ys)
+  pub empty_append : (homes : Homes X) (xs ys : List ℕ) → EmptyAtHome homes xs → EmptyAtHome homes ys → EmptyAtHome homes (xs ++ ys)
   empty_append homes xs ys x y i r a = elim (at_either xs ys i r a) [ inl t ↦ x i r t | inr t ↦ y t.0 r t.1 ]
 
-  pub empty_cons : (homes : Homes E) (r : ℕ) (rs : List ℕ) → get_elem? homes r ≡ some (some None) → EmptyAtHome homes rs → EmptyAtHome homes (r ∷ rs)
+  pub empty_cons : (homes : Homes X) (r : ℕ) (rs : List ℕ) → get_elem? homes r ≡ some (some None) → EmptyAtHome homes rs → EmptyAtHome homes (r ∷ rs)
   empty_cons homes r rs here others zero x e = subst (λ z. get_elem? homes z ≡ some (some None)) (sym e) here
   empty_cons homes r rs here others (suc i) x a = others i x a

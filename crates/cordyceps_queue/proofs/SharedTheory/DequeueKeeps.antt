@@ -133,7 +133,7 @@ module _ {E : Type 0} (s : TableState E) (k : RuleHolds s) (id : ℕ) (v : View 
     abbrev next_chain : Chain
     next_chain = chain_after_out n k.chain (reverse before ++ out_events) M id (party v) there t r has nothing is_real linked e full
 
-    abbrev homes_out : Homes E
+    abbrev homes_out : Homes (Filled E)
     homes_out = set s.homes t none
 
     tail_at : ItemAt k.chain.rooms 0 t

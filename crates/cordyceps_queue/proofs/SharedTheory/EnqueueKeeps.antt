@@ -72,7 +72,7 @@ module _ {E : Type 0} (s : TableState E) (k : RuleHolds s) (id : ℕ) (v : View 
     abbrev words_clear : List ℕ
     words_clear = set s.words (LINKS + r) 0
 
-    abbrev homes_clear : Homes E
+    abbrev homes_clear : Homes (Filled E)
     homes_clear = set s.homes r none
 
     inside : r < length s.homes
@@ -117,7 +117,7 @@ module _ {E : Type 0} (s : TableState E) (k : RuleHolds s) (id : ℕ) (v : View 
     abbrev words_swap : List ℕ
     words_swap = set s.words HEAD r
 
-    abbrev homes_swap : Homes E
+    abbrev homes_swap : Homes (Filled E)
     homes_swap = set s.homes r (some (Some (full_slot r e)))
 
     known : AtStage m.head m.next m.cell k.chain.owner k.chain.keeper k.chain.rooms past id (name v) (Cleared r)
@@ -191,7 +191,7 @@ module _ {E : Type 0} where
             (ap (λ (l : List ℕ). Cleared (first_or 0 l)) p, ap Some q, ap rest_from p, sym bare, ap (λ (l : List ℕ). let y : Option (Filled E) = None in (first_or 0 l, y) ∷ me.1) p, subst (λ n. n < slots) (ap (first_or 0) p) near, c.1),
       )
 
-  pub swaps : (slots id : ℕ) (me : SeatState E) (r : ℕ) (e : E) (cs : Hand E) → me.0.stage ≡ Cleared r → me.0.item ≡ Some e → me.1 ≡ (r, Some (full_slot r e)) ∷ cs → r < slots → me.0.known.share ≢ []
+  pub swaps : (slots id : ℕ) (me : SeatState E) (r : ℕ) (e : E) (cs : Hand (Filled E)) → me.0.stage ≡ Cleared r → me.0.item ≡ Some e → me.1 ≡ (r, Some (full_slot r e)) ∷ cs → r < slots → me.0.known.share ≢ []
       → Allows RuleHolds slots id me HEAD (λ _. r) (play.after_swap (step slots HEAD r 0 none) me)
   swaps slots id me r e cs ready item hand near named s k deep at fits =
       let inside : r < length s.homes = omega arith in

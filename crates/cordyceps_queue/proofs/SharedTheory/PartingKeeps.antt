@@ -27,6 +27,7 @@ use Rattle.cordyceps_queue.specs.Cores.Meets.{Owner, Shared, Spare, Unmade, Owns
 use Rattle.cordyceps_queue.specs.Shared.Parting.{view_keeping, view_giving, view_absorbing, view_absorbed, view_without_told, after_learn}
 use Rattle.cordyceps_queue.specs.Past.{IsLegalReversed, IsSettled}
 use Rattle.cordyceps_queue.specs.Shared.Plays.{SeatState, LegalReversed}
+use Rattle.cordyceps_shared.specs.declared.slots.Filled.{Filled}
 use Rattle.cordyceps_shared.specs.Slots.{Homes, EmptyAtHome}
 use Rattle.cordyceps_queue.specs.Shared.Rule.{TableState, History, link_of, party, party_of, machine_of, RuleHolds}
 use Rattle.cordyceps_queue.specs.Shared.View.{View, knows, name, newcomer, down_from}
@@ -56,14 +57,14 @@ others_unmade zero l = absurd (omega arith)
 others_unmade (suc r) l = refl
 
 module _ (E : Type 0) where
-  vacant_empty : (rooms : ℕ) → let homes : Homes E = map some (replicate (rooms + 1) None) in EmptyAtHome homes (down_from rooms)
+  vacant_empty : (rooms : ℕ) → let homes : Homes (Filled E) = map some (replicate (rooms + 1) None) in EmptyAtHome homes (down_from rooms)
   vacant_empty rooms = empty_new (rooms + 1) (down_from rooms) (λ i r a. let t = at_down_from rooms i r a in let e = t.0 in omega arith)
 
   pub opens : (rooms : ℕ) (words : List ℕ) → length words ≡ LINKS + rooms + 1 → word.head words ≡ 0 → word.right words ≡ 1 → word.next words 0 ≡ 0 → RuleHolds {E = E} (opening words (replicate (rooms + 1) None) (newcomer rooms))
   opens rooms words wide head right link =
       let first : View E = newcomer rooms in
       let known = seats.opens actor knows first refl in
-      let homes : Homes E = map some (replicate (rooms + 1) None) in
+      let homes : Homes (Filled E) = map some (replicate (rooms + 1) None) in
       let deep : length homes ≡ rooms + 1 = length-map (replicate (rooms + 1) None) some ∙ length-replicate (rooms + 1) None in
       let owner : ℕ → Owner = deal 0 (down_from rooms) only_stub in record {
         history = [];

@@ -30,7 +30,7 @@ hand_of d [] = None
 hand_of d (x ∷ xs) = x.1
 
 module _ {E : Type 0} where
-  pub takes_by : (st : TableStep E) (m k : SeatState E) → IsResting st.slots m → (found : ℕ) → after_take st m found k → AsksRight st.slots found m k
+  pub takes_by : (st : TableStep (Filled E)) (m k : SeatState E) → IsResting st.slots m → (found : ℕ) → after_take st m found k → AsksRight st.slots found m k
   takes_by st m k q zero t =
       let b = (t q.0).0 refl in
       ((b.0, b.1, b.3, (λ e. q.3 (sym b.4.share ∙ e)), near_all st.slots m.0.back m.0.free k.0.free q.1 b.2 q.4), b)
@@ -134,7 +134,7 @@ module _ {E : Type 0} where
       )
 
   -- ---- the element is taken out of the slot in hand
-  same_full : (t : ℕ) (hand : Hand E) (e : E) (full : Filled E) → hand ≡ (t, Some (full_slot t e)) ∷ [] → hand ≡ (t, Some full) ∷ [] → full_slot t e ≡ full
+  same_full : (t : ℕ) (hand : Hand (Filled E)) (e : E) (full : Filled E) → hand ≡ (t, Some (full_slot t e)) ∷ [] → hand ≡ (t, Some full) ∷ [] → full_slot t e ≡ full
   same_full t hand e full a b = ap (some_or full) (ap (hand_of full) (sym a ∙ b))
 
   pub hands_taken : (slots t r : ℕ) (fs : List (Event Name E)) (m l o : SeatState E) (full : Filled E) → m.0.known.share ≢ [] → Near slots (m.0.back ++ m.0.free) → hands_out fs slots t r m l → l.1 ≡ (t, Some full) ∷ [] → o ≡ (l.0, (t, None) ∷ [])

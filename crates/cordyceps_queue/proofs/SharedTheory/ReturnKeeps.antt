@@ -27,7 +27,7 @@ use Rattle.cordyceps_queue.proofs.CoreTheory.ProducerSteps.{spare_shared}
 use Rattle.cordyceps_queue.proofs.SharedTheory.WordsAsMachine.{core, party_at, rooms_of}
 use Rattle.cordyceps_queue.proofs.SharedTheory.EnqueueKeeps.{views_put}
 
-abbrev homes_given : {E : Type 0} → Homes E → List ℕ → Homes E
+abbrev homes_given : {E : Type 0} → Homes (Filled E) → List ℕ → Homes (Filled E)
 homes_given homes [] = homes
 homes_given homes (b ∷ bs) = homes_given (set homes b (some None)) bs
 
@@ -48,7 +48,7 @@ put_again f k v e = fun_ext (λ j. elim (ℕ_discrete j k) [
 ])
 
 module _ {E : Type 0} where
-  give_homes : (bs : List ℕ) (hs : Homes E) → homes_after hs (carry bs) (give_all bs) ≡ homes_given hs bs
+  give_homes : (bs : List ℕ) (hs : Homes (Filled E)) → homes_after hs (carry bs) (give_all bs) ≡ homes_given hs bs
   give_homes [] hs = refl
   give_homes (b ∷ bs) hs = give_homes bs (set hs b (some None))
 
@@ -56,32 +56,32 @@ module _ {E : Type 0} where
   give_carried [] = refl
   give_carried (b ∷ bs) = give_carried bs
 
-  give_valid : (bs : List ℕ) (hs : Homes E) → Valid hs (carry bs) (give_all bs)
+  give_valid : (bs : List ℕ) (hs : Homes (Filled E)) → Valid hs (carry bs) (give_all bs)
   give_valid [] hs = tt
   give_valid (b ∷ bs) hs = (tt, give_valid bs (set hs b (some None)))
 
-  given_length : (bs : List ℕ) (hs : Homes E) → length (homes_given hs bs) ≡ length hs
+  given_length : (bs : List ℕ) (hs : Homes (Filled E)) → length (homes_given hs bs) ≡ length hs
   given_length [] hs = refl
   given_length (b ∷ bs) hs = given_length bs (set hs b (some None)) ∙ length-set hs b (some None)
 
-  given_else : (bs : List ℕ) (hs : Homes E) (x : ℕ) → ((i : ℕ) → ItemAt bs i x → ⊥) → get_elem? (homes_given hs bs) x ≡ get_elem? hs x
+  given_else : (bs : List ℕ) (hs : Homes (Filled E)) (x : ℕ) → ((i : ℕ) → ItemAt bs i x → ⊥) → get_elem? (homes_given hs bs) x ≡ get_elem? hs x
   given_else [] hs x away = refl
   given_else (b ∷ bs) hs x away = given_else bs (set hs b (some None)) x (λ i. away (suc i)) ∙ set_else hs b x (some None) (away 0)
 
   -- an empty slot at home stays so
-  given_still : (bs : List ℕ) (hs : Homes E) (x : ℕ) → get_elem? hs x ≡ some (some None) → get_elem? (homes_given hs bs) x ≡ some (some None)
+  given_still : (bs : List ℕ) (hs : Homes (Filled E)) (x : ℕ) → get_elem? hs x ≡ some (some None) → get_elem? (homes_given hs bs) x ≡ some (some None)
   given_still [] hs x e = e
   given_still (b ∷ bs) hs x e = given_still bs (set hs b (some None)) x (elim (ℕ_discrete x b) [
     | yes same ↦ subst (λ n. get_elem? (set hs b (some None)) n ≡ some (some None)) (sym same) (set_here hs b (some None) (let l = at_length hs x (some None) e in omega arith))
     | no ne ↦ set_else hs b x (some None) ne ∙ e
   ])
 
-  given_here : (bs : List ℕ) (hs : Homes E) (i x : ℕ) → ItemAt bs i x → x < length hs → get_elem? (homes_given hs bs) x ≡ some (some None)
+  given_here : (bs : List ℕ) (hs : Homes (Filled E)) (i x : ℕ) → ItemAt bs i x → x < length hs → get_elem? (homes_given hs bs) x ≡ some (some None)
   given_here [] hs i x a l = absurd a
   given_here (b ∷ bs) hs zero x a l = given_still bs (set hs b (some None)) x (subst (λ n. get_elem? (set hs b (some None)) n ≡ some (some None)) (sym a) (set_here hs b (some None) (omega arith)))
   given_here (b ∷ bs) hs (suc i) x a l = given_here bs (set hs b (some None)) i x a (let e = length-set hs b (some None) in omega arith)
 
-  given_all : (bs free : List ℕ) (hs : Homes E) → Near (length hs) bs → EmptyAtHome hs free → EmptyAtHome (homes_given hs bs) (bs ++ free)
+  given_all : (bs free : List ℕ) (hs : Homes (Filled E)) → Near (length hs) bs → EmptyAtHome hs free → EmptyAtHome (homes_given hs bs) (bs ++ free)
   given_all bs free hs near empty = both bs (λ i x a. given_here bs hs i x a (near i x a))
     where
       both : (cs : List ℕ) → ((i x : ℕ) → ItemAt cs i x → get_elem? (homes_given hs bs) x ≡ some (some None)) → (i x : ℕ) → ItemAt (cs ++ free) i x → get_elem? (homes_given hs bs) x ≡ some (some None)
@@ -145,8 +145,8 @@ module _ {E : Type 0} where
       let c = sym (give_carried bs) in (
         r.0,
         a,
-        subst (λ z. Valid homes z a) (sym hand) (give_valid bs homes, subst (λ (z : Homes E × Hand E). Valid z.0 z.1 r.1) (λ j. (h j, c j)) r.2),
+        subst (λ z. Valid homes z a) (sym hand) (give_valid bs homes, subst (λ (z : Homes (Filled E) × Hand (Filled E)). Valid z.0 z.1 r.1) (λ j. (h j, c j)) r.2),
         subst (λ z. RuleHolds record { words = set s.words i n; homes = homes_after homes z a; views = set s.views id r.0 }) (sym hand)
-            (subst (λ (z : Homes E × Hand E × List (View E)). RuleHolds record { words = set s.words i n; homes = homes_after z.0 z.1 r.1; views = z.2 }) (λ j. (h j, c j, set_twice s.views id (view_returned v) r.0 j)) r.3),
+            (subst (λ (z : Homes (Filled E) × Hand (Filled E) × List (View E)). RuleHolds record { words = set s.words i n; homes = homes_after z.0 z.1 r.1; views = z.2 }) (λ j. (h j, c j, set_twice s.views id (view_returned v) r.0 j)) r.3),
         subst (λ z. then (get_or s.words i 0) (r.0, carried_after z a)) (sym hand) (subst (λ z. then (get_or s.words i 0) (r.0, carried_after z r.1)) c r.4),
       )

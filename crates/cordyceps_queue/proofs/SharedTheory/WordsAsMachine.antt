@@ -65,7 +65,7 @@ module _ {E : Type 0} where
   ])
 
   -- the rule after a step at which the party sees all and adds these events, and what it tells
-  pub keeps_rule : (s : TableState E) (k : RuleHolds s) (id : ℕ) (es : List (Event Name E)) (v w : View E) (words : List ℕ) (homes : Homes E) (cell : ℕ → Option E) (chain : Chain) (m' : AbstractMachine Name E)
+  pub keeps_rule : (s : TableState E) (k : RuleHolds s) (id : ℕ) (es : List (Event Name E)) (v w : View E) (words : List ℕ) (homes : Homes (Filled E)) (cell : ℕ → Option E) (chain : Chain) (m' : AbstractMachine Name E)
       → get_elem? s.views id ≡ some v → v.known.share ≢ [] → Under actor (name v) es → w.known ≡ all_seen id (k.history ++ of_seat id es) v.known.share
       → m' ≡ machine_of cell words (set s.views id w) → Meets m' chain (reverse es ++ reverse (events k.history))
       → length words ≡ length s.words → length homes ≡ length s.homes → FullAtHome homes cell chain.rooms → AllEmptyAtHome homes (set s.views id w) → AllReady cell (set s.views id w)

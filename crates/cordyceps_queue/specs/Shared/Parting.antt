@@ -4,6 +4,7 @@ use Rattle.cordyceps_shared.specs.Histories.{plain}
 use Rattle.cordyceps_shared.specs.Knowing.{IsKnown}
 use Rattle.cordyceps_shared.specs.Knowing as knowing
 use Rattle.cordyceps_queue.specs.declared.cores.stage.Stage.TheVariants.{Rest}
+use Rattle.cordyceps_shared.specs.declared.slots.Filled.{Filled}
 use Rattle.cordyceps_shared.specs.Slots.{TableStep}
 use Rattle.cordyceps_queue.specs.Shared.Plays.{SeatState, LegalReversed, view, hand}
 use Rattle.cordyceps_queue.specs.Shared.Calls.{NonePending, NoneHolds}
@@ -14,7 +15,7 @@ module _ {E : Type 0} where
   abbrev pub view_without_told : View E → View E
   view_without_told v = record v { known = record v.known { had = []; told = [] } }
 
-  abbrev pub after_learn : TableStep E → SeatState E → ℕ → SeatState E → Type 0
+  abbrev pub after_learn : TableStep (Filled E) → SeatState E → ℕ → SeatState E → Type 0
   after_learn st m read k =
       (view k ≡ view_without_told (view m)) × (hand k ≡ hand m) × IsKnown (λ h. LegalReversed h) (view m).known
       × (length (view m).free ≤ st.slots)

@@ -23,7 +23,7 @@ module _ {E : Type 0} where
   abbrev pub view : SeatState E → View E
   view m = m.0
 
-  abbrev pub hand : SeatState E → Hand E
+  abbrev pub hand : SeatState E → Hand (Filled E)
   hand m = m.1
 
   abbrev pub LegalReversed : List (Event Name E) → Type 0
@@ -44,24 +44,24 @@ module _ {E : Type 0} where
       → ((view k).stage ≡ Cleared r) × ((view k).item ≡ Some e) × ((view k).free ≡ rs) × ((view k).back ≡ (view m).back)
       × (hand k ≡ (r, None) ∷ hand m) × (r < slots) × Sees (view m) [] (view k)
 
-  abbrev pub after_clear : Option E → TableStep E → SeatState E → ℕ → SeatState E → Type 0
+  abbrev pub after_clear : Option E → TableStep (Filled E) → SeatState E → ℕ → SeatState E → Type 0
   after_clear item st m found k = after_clear_for item st.slots m k
 
-  abbrev pub after_swap : TableStep E → SeatState E → ℕ → SeatState E → Type 0
+  abbrev pub after_swap : TableStep (Filled E) → SeatState E → ℕ → SeatState E → Type 0
   after_swap st m found k =
-      (r : ℕ) (e : E) (cs : Hand E) → (view m).stage ≡ Cleared r → (view m).item ≡ Some e
+      (r : ℕ) (e : E) (cs : Hand (Filled E)) → (view m).stage ≡ Cleared r → (view m).item ≡ Some e
       → hand m ≡ (r, Some (full_slot r e)) ∷ cs
       → ((view k).stage ≡ Swapped r found) × ((view k).free ≡ (view m).free) × ((view k).back ≡ (view m).back)
       × (hand k ≡ cs) × (found < st.slots)
       × Sees (view m) (Event.Swap (name (view m)) e ∷ []) (view k)
 
-  abbrev pub after_link : TableStep E → SeatState E → ℕ → SeatState E → Type 0
+  abbrev pub after_link : TableStep (Filled E) → SeatState E → ℕ → SeatState E → Type 0
   after_link st m n k = (r old : ℕ) → (view m).stage ≡ Swapped r old
       → ((view k).stage ≡ Rest) × ((view k).free ≡ (view m).free) × ((view k).back ≡ (view m).back) × (hand k ≡ hand m)
       × Sees (view m) (Event.Link (name (view m)) ∷ []) (view k)
 
   -- the slots in hand, of rooms that are to be given back
-  abbrev pub carry : List ℕ → Hand E
+  abbrev pub carry : List ℕ → Hand (Filled E)
   carry [] = []
   carry (b ∷ bs) = (b, None) ∷ carry bs
 
@@ -102,57 +102,57 @@ module _ {E : Type 0} where
       ((view m).stage ≡ stage) × (hand m ≡ carry (view m).back) × ((view m).known.share ≢ [])
       × Near slots ((view m).back ++ (view m).free)
 
-  abbrev pub after_take : TableStep E → SeatState E → ℕ → SeatState E → Type 0
+  abbrev pub after_take : TableStep (Filled E) → SeatState E → ℕ → SeatState E → Type 0
   after_take st m found k = (view m).stage ≡ Rest
       → (found ≡ 0 → moves_to (Event.Busy (name (view m)) ∷ []) Rest m k)
       × ((t : ℕ) → found ≡ suc t → moves_to (Event.Take (name (view m)) ∷ []) (Holding t) m k × (t < st.slots))
 
   -- the first read of a try, of the stub's link
-  abbrev pub after_look_stub : TableStep E → SeatState E → ℕ → SeatState E → Type 0
+  abbrev pub after_look_stub : TableStep (Filled E) → SeatState E → ℕ → SeatState E → Type 0
   after_look_stub st m found k = (view m).stage ≡ Holding 0
       → (found ≡ 0 → moves_to (Event.Look (name (view m)) ∷ []) StubNull m k)
       × ((r : ℕ) → found ≡ suc r → moves_to (Event.Look (name (view m)) ∷ []) (Second r) m k × (r < st.slots) × (r ≢ 0))
 
   -- the first read of a try, of another tail's link
-  abbrev pub after_look : TableStep E → SeatState E → ℕ → SeatState E → Type 0
+  abbrev pub after_look : TableStep (Filled E) → SeatState E → ℕ → SeatState E → Type 0
   after_look st m found k = (t : ℕ) → (view m).stage ≡ Holding t → t ≢ 0
       → (found ≡ 0 → moves_to (Event.Look (name (view m)) ∷ []) (Null t) m k)
       × ((r : ℕ) → found ≡ suc r → hands_out (Event.Look (name (view m)) ∷ []) st.slots t r m k)
 
   -- the read after the stub was passed
-  abbrev pub after_read : TableStep E → SeatState E → ℕ → SeatState E → Type 0
+  abbrev pub after_read : TableStep (Filled E) → SeatState E → ℕ → SeatState E → Type 0
   after_read st m found k = (t : ℕ) → (view m).stage ≡ Second t
       → (found ≡ 0 → moves_to [] (Null t) m k)
       × ((r : ℕ) → found ≡ suc r → hands_out [] st.slots t r m k)
 
   -- the read after the stub was put in
-  abbrev pub after_reread : TableStep E → SeatState E → ℕ → SeatState E → Type 0
+  abbrev pub after_reread : TableStep (Filled E) → SeatState E → ℕ → SeatState E → Type 0
   after_reread st m found k = (t : ℕ) → (view m).stage ≡ PutRead t
       → (found ≡ 0 → moves_to [] (Holding t) m k × Blocked (view k))
       × ((r : ℕ) → found ≡ suc r → hands_out [] st.slots t r m k)
 
   -- the read of head after a null link of the stub
-  abbrev pub after_head_stub : TableStep E → SeatState E → ℕ → SeatState E → Type 0
+  abbrev pub after_head_stub : TableStep (Filled E) → SeatState E → ℕ → SeatState E → Type 0
   after_head_stub st m found k = (view m).stage ≡ StubNull
       → (found ≡ 0 → moves_to (Event.Empty (name (view m)) ∷ []) (Holding 0) m k)
       × (found ≢ 0 → moves_to [] (Holding 0) m k × Blocked (view k))
 
   -- the read of head after a null link of another tail
-  abbrev pub after_head : TableStep E → SeatState E → ℕ → SeatState E → Type 0
+  abbrev pub after_head : TableStep (Filled E) → SeatState E → ℕ → SeatState E → Type 0
   after_head st m found k = (t : ℕ) → (view m).stage ≡ Null t
       → (found ≡ t → moves_to [] (PutClear t) m k)
       × (found ≢ t → moves_to [] (Holding t) m k × Blocked (view k))
 
   -- the stub is put in: its link becomes null, it becomes the head, and the old head is linked to it
-  abbrev pub after_clear_stub : TableStep E → SeatState E → ℕ → SeatState E → Type 0
+  abbrev pub after_clear_stub : TableStep (Filled E) → SeatState E → ℕ → SeatState E → Type 0
   after_clear_stub st m n k = (t : ℕ) → (view m).stage ≡ PutClear t → moves_to [] (PutSwap t) m k
 
-  abbrev pub after_swap_stub : TableStep E → SeatState E → ℕ → SeatState E → Type 0
+  abbrev pub after_swap_stub : TableStep (Filled E) → SeatState E → ℕ → SeatState E → Type 0
   after_swap_stub st m found k = (t : ℕ) → (view m).stage ≡ PutSwap t
       → moves_to [] (PutLink t found) m k × (found < st.slots)
 
-  abbrev pub after_link_stub : TableStep E → SeatState E → ℕ → SeatState E → Type 0
+  abbrev pub after_link_stub : TableStep (Filled E) → SeatState E → ℕ → SeatState E → Type 0
   after_link_stub st m n k = (t old : ℕ) → (view m).stage ≡ PutLink t old → moves_to [] (PutRead t) m k
 
-  abbrev pub after_give : TableStep E → SeatState E → ℕ → SeatState E → Type 0
+  abbrev pub after_give : TableStep (Filled E) → SeatState E → ℕ → SeatState E → Type 0
   after_give st m n k = (t : ℕ) → (view m).stage ≡ Holding t → moves_to (Event.Free (name (view m)) ∷ []) Rest m k

@@ -64,12 +64,12 @@ module _ {E : Type 0} where
   }
 
   -- the slots of the chain's rooms are at home, each with its element
-  abbrev pub FullAtHome : Homes E → (ℕ → Option E) → List ℕ → Type 0
+  abbrev pub FullAtHome : Homes (Filled E) → (ℕ → Option E) → List ℕ → Type 0
   FullAtHome homes cell rooms =
       (i r : ℕ) → ItemAt rooms i r → r ≢ 0 → get_elem? homes r ≡ some (some (slot_of r (cell r)))
 
   -- the slots of each party's free rooms are at home, with nothing in them
-  abbrev pub AllEmptyAtHome : Homes E → List (View E) → Type 0
+  abbrev pub AllEmptyAtHome : Homes (Filled E) → List (View E) → Type 0
   AllEmptyAtHome homes views =
       (j : ℕ) (v : View E) → get_elem? views j ≡ some v → v.known.share ≢ [] → EmptyAtHome homes v.free
 

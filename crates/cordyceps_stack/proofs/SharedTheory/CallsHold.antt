@@ -1,41 +1,58 @@
 -- What the calls of a shared transfer stack promise, from what their parts leave.
-use Rattle.std.proofs.Common.{◌≡◌, ◌+◌, ◌<◌, ℕ, suc, List, [], ◌∷◌, ◌++◌, reverse, length, replicate, take, drop, Bool, refl, sym, ap, ◌∙◌, subst, length-append}
-use Rattle.std.specs.Prelude.{IsTrue}
+use Rattle.std.proofs.Common.{◌≡◌, ◌+◌, ◌<◌, ℕ, zero, suc, List, [], ◌∷◌, ◌++◌, reverse, length, replicate, Bool, refl, sym, ap, ◌∙◌, subst, length-append}
+use Rattle.std.specs.Prelude.{IsTrue, Result, Ok, Err, MatchResult, is_ok, true}
 use Rattle.atomic_table.specs.Seated.{TableId}
 use Rattle.cordyceps_shared.specs.Counts.{below}
 use Rattle.cordyceps_shared.specs.Histories.{plain, AllOwn}
 use Rattle.cordyceps_shared.specs.Knowing.{Known, IsPrefixOf, IsKnown}
 use Rattle.cordyceps_shared.specs.Places.{ItemAt}
 use Rattle.cordyceps_shared.specs.Slots.{Near}
-use Rattle.cordyceps_shared.specs.Shares.{Name, whole, first_name, IsShare}
+use Rattle.cordyceps_shared.specs.Shares.{Name, whole, IsShare}
 use Rattle.cordyceps_shared.specs.Standings.{name_of, new_party, Absorbs}
+use Rattle.cordyceps_shared.proofs.Choices.{first_or, rest_from}
 use Rattle.cordyceps_shared.proofs.Adding.{keeps_not_whole, not_whole, plain_unmarked, merged_front, whole_adds}
 use Rattle.cordyceps_shared.proofs.Counting.{below_length}
 use Rattle.cordyceps_shared.proofs.Places.{at_below, near_drop, near_take, near_append}
 use Rattle.cordyceps_shared.proofs.Naming.{joined_some, joined_apart, keeps_some, gives_some}
 use Rattle.cordyceps_shared.proofs.Ordering.{whole_share, keeps_share, gives_share, joined_share}
-use Rattle.cordyceps_stack.specs.Shared.Parts.{HasPushed, HasMissed, TookAll, EmptiesHand, standing, IsSeated}
+use Rattle.cordyceps_stack.specs.Shared.Parts.{HasPushed, HasMissed, TookAll, EmptiesHand, HasAbsorbed, Tracks, standing, IsSeated}
+use Rattle.cordyceps_stack.specs.declared.shared.free.FreeRooms.{FreeRooms}
 use Rattle.cordyceps_stack.specs.History.{Event, Load, Push, Taken, held, Legal, actor}
 use Rattle.cordyceps_stack.specs.Cores.Stages.{room_elements}
 use Rattle.cordyceps_stack.specs.Shared.Plays.{SeatState, Sees, to_hand_out}
-use Rattle.cordyceps_stack.specs.Shared.Parting.{view_keeping, view_giving, view_absorbing, view_without_told}
+use Rattle.cordyceps_stack.specs.Shared.Parting.{view_keeping, view_giving, view_absorbing}
 use Rattle.cordyceps_stack.specs.Shared.Rule.{IsTable}
-use Rattle.cordyceps_stack.specs.Shared.Calls.{PartyOf, PushesAt, Misses, Takes, Looks, Adds, EndsPushed, EndsLooked}
-use Rattle.cordyceps_stack.specs.Shared.View.{View, newcomer, name}
+use Rattle.cordyceps_stack.specs.Shared.Calls.{PartyOf, PushesAt, Misses, Takes, Looks, Adds, EndsLooked}
+use Rattle.cordyceps_stack.specs.Shared.View.{View, FreeChain, newcomer, name}
 use Rattle.cordyceps_stack.proofs.SharedTheory.PartsJoin.{not_overtaken}
 use Rattle.cordyceps_stack.proofs.Histories.{legal_none}
 
+-- ---- the free rooms of a new stack
+below_first : (n r : ℕ) (rs : List ℕ) → below n ≡ r ∷ rs → n ≡ suc r
+below_first zero r rs e = absurd (cc)
+below_first (suc n) r rs e = ap suc (ap (first_or 0) e)
+
+below_last : (n : ℕ) (before : List ℕ) (r : ℕ) → below n ≡ before ++ r ∷ [] → 0 ≡ r
+below_last zero [] r e = absurd (cc)
+below_last zero (b ∷ before) r e = absurd (cc)
+below_last (suc zero) [] r e = (ap (first_or 0) e)
+below_last (suc (suc n)) [] r e = absurd (cc)
+below_last (suc n) (b ∷ before) r e = below_last n before r (ap rest_from e)
+
+tracks_new : (n : ℕ) → Tracks record { first = n; last = 0; count = n } record { rooms = below n; end = 0 }
+tracks_new n = record { count = sym (below_length n); first = below_first n; last = below_last n }
+
 module _ {E : Type 0} where
-  pub new_seated : (z table : TableId) (rooms : ℕ) (m : SeatState E) (tickets : List ℕ) → (z ≡ table) × IsTable table → table.slots ≡ rooms → m ≡ (newcomer rooms, []) → tickets ≡ below rooms → IsSeated z m tickets
-  new_seated z table rooms m tickets at wide is have = record {
+  pub new_seated : (z table : TableId) (rooms : ℕ) (m : SeatState E) (free : FreeRooms) → (z ≡ table) × IsTable table → table.slots ≡ rooms → m ≡ (newcomer rooms, []) → free ≡ record { first = rooms; last = 0; count = rooms } → IsSeated z m free
+  new_seated z table rooms m free at wide is have = record {
     table = subst (λ q. IsTable q) (sym at.0) at.1;
     rests = (
       ap (λ (q : SeatState E). q.0.doing) is,
       ap (λ (q : SeatState E). q.1) is,
       (λ e. let no : whole ≡ [] = sym (ap (λ (q : SeatState E). q.0.known.share) is) ∙ e in absurd (cc)),
-      λ i r a. subst (λ n. r < n) (sym (ap (λ (q : TableId). q.slots) at.0 ∙ wide)) (at_below rooms i r (subst (λ (q : SeatState E). ItemAt q.0.free i r) is a)),
+      λ i r a. subst (λ n. r < n) (sym (ap (λ (q : TableId). q.slots) at.0 ∙ wide)) (at_below rooms i r (subst (λ (q : SeatState E). ItemAt q.0.free.rooms i r) is a)),
     );
-    free = ap (λ (q : SeatState E). q.0.free) is ∙ sym have;
+    tracks = subst (λ (q : FreeRooms × SeatState E). Tracks q.0 q.1.0.free) (λ i. (sym have i, sym is i)) (tracks_new rooms);
     legal = subst (λ (q : SeatState E). Legal (plain q.0.known.seen)) (sym is) legal_none;
     alone = λ _. subst (λ (q : SeatState E). AllOwn q.0.known.seen) (sym is) tt;
     share = subst (λ (q : SeatState E). IsShare q.0.known.share) (sym is) whole_share;
@@ -44,79 +61,79 @@ module _ {E : Type 0} where
   pub new_standing : (z table : TableId) (rooms : ℕ) (m : SeatState E) → z ≡ table → m ≡ (newcomer rooms, []) → standing z m.0 ≡ new_party table rooms
   new_standing z table rooms m at is = (λ i. standing (at i) (is i).0) ∙ ap (λ n. let p : PartyOf E = new_party table n in p) (below_length rooms)
 
-  pub kept_seated : (z z' : TableId) (n : ℕ) (m k : SeatState E) (tickets left : List ℕ) → IsSeated z m tickets → z' ≡ z → k ≡ (view_keeping n m.0, []) → left ≡ drop n tickets → IsSeated z' k left
-  kept_seated z z' n m k tickets left s at is have = record {
+  pub kept_seated : (z z' : TableId) (n : ℕ) (m k : SeatState E) (free left : FreeRooms) → IsSeated z m free → z' ≡ z → k ≡ (view_keeping n m.0, []) → Tracks left k.0.free → IsSeated z' k left
+  kept_seated z z' n m k free left s at is have = record {
     table = subst (λ q. IsTable q) (sym at) s.table;
     rests = (
       ap (λ (q : SeatState E). q.0.doing) is ∙ s.rests.0,
       ap (λ (q : SeatState E). q.1) is,
       (λ e. keeps_some m.0.known.share s.rests.2 (sym (ap (λ (q : SeatState E). q.0.known.share) is) ∙ e)),
-      subst (λ (q : TableId × SeatState E). Near q.0.slots q.1.0.free) (λ i. (sym at i, sym is i)) (near_drop z.slots n m.0.free s.rests.3),
+      subst (λ (q : TableId × SeatState E). Near q.0.slots q.1.0.free.rooms) (λ i. (sym at i, sym is i)) (near_drop z.slots n m.0.free.rooms s.rests.3),
     );
-    free = ap (λ (q : SeatState E). q.0.free) is ∙ (ap (drop n) s.free ∙ sym have);
+    tracks = have;
     legal = subst (λ (q : SeatState E). Legal (plain q.0.known.seen)) (sym is) s.legal;
     alone = λ e. absurd (keeps_not_whole m.0.known.share (sym (ap (λ (q : SeatState E). q.0.known.share) is) ∙ e));
     share = subst (λ (q : SeatState E). IsShare q.0.known.share) (sym is) (keeps_share m.0.known.share s.share);
   }
 
-  pub given_seated : (z z' : TableId) (n : ℕ) (m k : SeatState E) (tickets some_of : List ℕ) → IsSeated z m tickets → z' ≡ z → k ≡ (view_giving n m.0, []) → some_of ≡ take n tickets → IsSeated z' k some_of
-  given_seated z z' n m k tickets some_of s at is have = record {
+  pub given_seated : (z z' : TableId) (n : ℕ) (m k : SeatState E) (free some_of : FreeRooms) → IsSeated z m free → z' ≡ z → k ≡ (view_giving n m.0, []) → Tracks some_of k.0.free → IsSeated z' k some_of
+  given_seated z z' n m k free some_of s at is have = record {
     table = subst (λ q. IsTable q) (sym at) s.table;
     rests = (
       ap (λ (q : SeatState E). q.0.doing) is,
       ap (λ (q : SeatState E). q.1) is,
       (λ e. gives_some m.0.known.share s.rests.2 (sym (ap (λ (q : SeatState E). q.0.known.share) is) ∙ e)),
-      subst (λ (q : TableId × SeatState E). Near q.0.slots q.1.0.free) (λ i. (sym at i, sym is i)) (near_take z.slots n m.0.free s.rests.3),
+      subst (λ (q : TableId × SeatState E). Near q.0.slots q.1.0.free.rooms) (λ i. (sym at i, sym is i)) (near_take z.slots n m.0.free.rooms s.rests.3),
     );
-    free = ap (λ (q : SeatState E). q.0.free) is ∙ (ap (take n) s.free ∙ sym have);
+    tracks = have;
     legal = subst (λ (q : SeatState E). Legal (plain q.0.known.seen)) (sym is) (subst (λ h. Legal h) (sym (plain_unmarked m.0.known.seen)) s.legal);
     alone = λ e. absurd (not_whole m.0.known.share (sym (ap (λ (q : SeatState E). q.0.known.share) is) ∙ e));
     share = subst (λ (q : SeatState E). IsShare q.0.known.share) (sym is) (gives_share m.0.known.share s.share);
   }
 
-  pub absorbed_seated : (z y z' : TableId) (m o k : SeatState E) (mine theirs all : List ℕ) → IsSeated z m mine → IsSeated y o theirs → y ≡ z → z' ≡ z → k ≡ (view_without_told (view_absorbing m.0 o.0), []) → IsKnown (λ h. Legal h) (view_absorbing m.0 o.0).known → all ≡ mine ++ theirs → IsSeated z' k all
+  pub absorbed_seated : (z y z' : TableId) (m o k : SeatState E) (mine theirs all : FreeRooms) → IsSeated z m mine → IsSeated y o theirs → y ≡ z → z' ≡ z → HasAbsorbed m o k → IsKnown (λ h. Legal h) (view_absorbing m.0 o.0).known → Tracks all k.0.free → IsSeated z' k all
   absorbed_seated z y z' m o k mine theirs all s other beside at is known have = record {
     table = subst (λ q. IsTable q) (sym at) s.table;
     rests = (
-      ap (λ (q : SeatState E). q.0.doing) is,
-      ap (λ (q : SeatState E). q.1) is,
-      (λ e. joined_some m.0.known.share o.0.known.share s.rests.2 (sym (ap (λ (q : SeatState E). q.0.known.share) is) ∙ e)),
-      subst (λ (q : TableId × SeatState E). Near q.0.slots q.1.0.free) (λ i. (sym at i, sym is i))
-          (near_append z.slots m.0.free o.0.free s.rests.3 (subst (λ (q : TableId). Near q.slots o.0.free) beside other.rests.3)),
+      is.doing,
+      is.hand,
+      (λ e. joined_some m.0.known.share o.0.known.share s.rests.2 (sym (ap (λ (q : Known (Event Name E)). q.share) is.known) ∙ e)),
+      subst (λ (q : TableId × List ℕ). Near q.0.slots q.1) (λ i. (sym at i, sym is.rooms i))
+          (near_append z.slots m.0.free.rooms o.0.free.rooms s.rests.3 (subst (λ (q : TableId). Near q.slots o.0.free.rooms) beside other.rests.3)),
     );
-    free = ap (λ (q : SeatState E). q.0.free) is ∙ ((λ i. s.free i ++ other.free i) ∙ sym have);
-    legal = subst (λ (q : SeatState E). Legal (plain q.0.known.seen)) (sym is) known.legal;
-    alone = λ e. subst (λ (q : SeatState E). AllOwn q.0.known.seen) (sym is) (known.alone (sym (ap (λ (q : SeatState E). q.0.known.share) is) ∙ e));
-    share = subst (λ (q : SeatState E). IsShare q.0.known.share) (sym is)
+    tracks = have;
+    legal = subst (λ (q : Known (Event Name E)). Legal (plain q.seen)) (sym is.known) known.legal;
+    alone = λ e. subst (λ (q : Known (Event Name E)). AllOwn q.seen) (sym is.known) (known.alone (sym (ap (λ (q : Known (Event Name E)). q.share) is.known) ∙ e));
+    share = subst (λ (q : Known (Event Name E)). IsShare q.share) (sym is.known)
         (joined_share m.0.known.share o.0.known.share (joined_apart known.long m.0.known.share o.0.known.share known.once) s.share other.share);
   }
 
-  pub absorbs : (z y z' : TableId) (m o k : SeatState E) → z' ≡ z → k ≡ (view_without_told (view_absorbing m.0 o.0), []) → IsKnown (λ h. Legal h) (view_absorbing m.0 o.0).known → Absorbs (λ h. Legal h) (standing z m.0) (standing y o.0) (standing z' k.0)
+  pub absorbs : (z y z' : TableId) (m o k : SeatState E) → z' ≡ z → HasAbsorbed m o k → IsKnown (λ h. Legal h) (view_absorbing m.0 o.0).known → Absorbs (λ h. Legal h) (standing z m.0) (standing y o.0) (standing z' k.0)
   absorbs z y z' m o k at is known = record {
     table = at;
-    seen = ap (λ (q : SeatState E). q.0.known.seen) is;
+    seen = ap (λ (q : Known (Event Name E)). q.seen) is.known;
     apart = known.apart;
     names = joined_apart known.long m.0.known.share o.0.known.share known.once;
-    mine = subst (λ (q : SeatState E). IsPrefixOf (plain m.0.known.seen) (plain q.0.known.seen)) (sym is) (merged_front m.0.known.seen o.0.known.seen);
-    theirs = subst (λ (q : SeatState E). IsPrefixOf (plain o.0.known.seen) (plain q.0.known.seen)) (sym is) known.told;
-    legal = subst (λ (q : SeatState E). Legal (plain q.0.known.seen)) (sym is) known.legal;
-    alone = λ e. subst (λ (q : SeatState E). AllOwn q.0.known.seen) (sym is) (known.alone (sym (ap (λ (q : SeatState E). q.0.known.share) is) ∙ e));
-    share = ap (λ (q : SeatState E). q.0.known.share) is;
-    rooms = ap (λ (q : SeatState E). length q.0.free) is ∙ length-append m.0.free o.0.free;
+    mine = subst (λ (q : Known (Event Name E)). IsPrefixOf (plain m.0.known.seen) (plain q.seen)) (sym is.known) (merged_front m.0.known.seen o.0.known.seen);
+    theirs = subst (λ (q : Known (Event Name E)). IsPrefixOf (plain o.0.known.seen) (plain q.seen)) (sym is.known) known.told;
+    legal = subst (λ (q : Known (Event Name E)). Legal (plain q.seen)) (sym is.known) known.legal;
+    alone = λ e. subst (λ (q : Known (Event Name E)). AllOwn q.seen) (sym is.known) (known.alone (sym (ap (λ (q : Known (Event Name E)). q.share) is.known) ∙ e));
+    share = ap (λ (q : Known (Event Name E)). q.share) is.known;
+    rooms = ap (λ (l : List ℕ). length l) is.rooms ∙ length-append m.0.free.rooms o.0.free.rooms;
   }
 
   -- ---- what a call added
   pub adds : (z z' : TableId) (v w : View E) (es : List (Event Name E)) → Sees v es w → z' ≡ z → Adds (standing z v) es (standing z' w)
   adds z z' v w es g at = (record { rest = g.rest; is = g.is; adds = g.adds; foreign = g.foreign; legal = g.legal; share = g.share; alone = g.alone }, at)
 
-  pub pushes_at : (z z' : TableId) (tries ticket : ℕ) (x : E) (first : Bool) (m k : SeatState E) → HasPushed tries ticket x first m k → z' ≡ z → PushesAt tries x first (standing z m.0) (standing z' k.0)
-  pushes_at z z' tries ticket x first m k h at = (adds z z' m.0 k.0 (replicate tries (Load (name m.0)) ++ Push (name m.0) x ∷ []) h.sees at, h.ends, ap (λ (ys : List ℕ). length ys) h.free)
+  pub pushes_at : (z z' : TableId) (tries : ℕ) (x : E) (first : Bool) (m k : SeatState E) → HasPushed tries x first m k → z' ≡ z → PushesAt tries x first (standing z m.0) (standing z' k.0)
+  pushes_at z z' tries x first m k h at = (adds z z' m.0 k.0 (replicate tries (Load (name m.0)) ++ Push (name m.0) x ∷ []) h.sees at, h.ends, h.free)
 
   pub misses_once : (z z' : TableId) (m k : SeatState E) → HasMissed m k → z' ≡ z → Misses (standing z m.0) (standing z' k.0)
-  misses_once z z' m k h at = (adds z z' m.0 k.0 (Load (name m.0) ∷ []) h.sees at, h.overtaken, ap (λ (ys : List ℕ). length ys) h.free)
+  misses_once z z' m k h at = (adds z z' m.0 k.0 (Load (name m.0) ∷ []) h.sees at, h.overtaken, ap (λ (ys : FreeChain). length ys.rooms) h.free)
 
   pub looks_once : (z z' : TableId) (none : Bool) (m k : SeatState E) → Sees m.0 (Load (name m.0) ∷ []) k.0 → EndsLooked (IsTrue none) (name m.0) k.0.known.seen → k.0.free ≡ m.0.free → z' ≡ z → Looks none (standing z m.0) (standing z' k.0)
-  looks_once z z' none m k g ends free at = (adds z z' m.0 k.0 (Load (name m.0) ∷ []) g at, ends, ap (λ (ys : List ℕ). length ys) free)
+  looks_once z z' none m k g ends free at = (adds z z' m.0 k.0 (Load (name m.0) ∷ []) g at, ends, ap (λ (ys : FreeChain). length ys.rooms) free)
 
   length_elements : (xs : List (ℕ × E)) → length (room_elements xs) ≡ length xs
   length_elements [] = refl
@@ -137,7 +154,7 @@ module _ {E : Type 0} where
           },
           at,
         ),
-        h.free ∙ ((λ i. length (t.free i) + length (to_hand_out mid.0.doing)) ∙ ap (λ n. length m.0.free + n) (sym (length_elements (to_hand_out mid.0.doing)))),
+        h.free ∙ ((λ i. length (t.free i).rooms + length (to_hand_out mid.0.doing)) ∙ ap (λ n. length m.0.free.rooms + n) (sym (length_elements (to_hand_out mid.0.doing)))),
       )
 
   -- a whole party's exchange does not fail
@@ -147,3 +164,13 @@ module _ {E : Type 0} where
   -- a whole party takes exactly what its history holds
   pub takes_held : (u w : PartyOf E) (batch : List E) → u.share ≡ whole → Takes batch u w → batch ≡ reverse (held (plain u.seen))
   takes_held u w batch is t = t.0.0.legal (plain u.seen) [] (name_of u) batch (whole_adds actor (λ h. Legal h) u w (Taken (name_of u) batch ∷ []) is t.0)
+
+  -- ---- a try to push
+  pub tries_once : (z z' : TableId) (r : Result Bool E) (x : E) (m k : SeatState E) → MatchResult r (λ first. HasPushed 1 x first m k) (λ back. (back ≡ x) × HasMissed m k) → z' ≡ z
+      → MatchResult r (λ first. PushesAt 1 x first (standing z m.0) (standing z' k.0)) (λ back. (back ≡ x) × Misses (standing z m.0) (standing z' k.0))
+  tries_once z z' (Ok first) x m k t at = pushes_at z z' 1 x first m k t at
+  tries_once z z' (Err back) x m k t at = (t.0, misses_once z z' m k t.1 at)
+
+  pub whole_pushes : (r : Result Bool E) (x : E) (m k : SeatState E) → MatchResult r (λ first. HasPushed 1 x first m k) (λ back. (back ≡ x) × HasMissed m k) → m.0.known.share ≡ whole → is_ok r ≡ true
+  whole_pushes (Ok first) x m k t is = refl
+  whole_pushes (Err back) x m k t is = absurd (whole_hits m k t.1 is)

@@ -1,5 +1,5 @@
 -- The rule of a transfer stack's table at the start, and where a party is split in two or takes another in.
-use Rattle.std.proofs.Common.{◌≡◌, ◌≢◌, ◌+◌, ℕ, List, [], ◌∷◌, ◌++◌, map, reverse, length, replicate, get_or, set, eqb, refl, sym, ap, ◌∙◌, subst, inl, inr, ⊎_elim, arith, append_assoc, None}
+use Rattle.std.proofs.Common.{◌≡◌, ◌≢◌, ◌+◌, ℕ, List, [], ◌∷◌, ◌++◌, map, reverse, replicate, set, eqb, refl, sym, ap, ◌∙◌, subst, inl, inr, ⊎_elim, arith, append_assoc, None}
 use mathlib.Core.Option.{some, none}
 use lib.ListN.{get_elem?, length-map, length-replicate}
 use Rattle.atomic_table.specs.Table.{opening, Splits, Joins, Allows, step, keeps}
@@ -16,11 +16,12 @@ use Rattle.cordyceps_shared.proofs.Standing as seats
 use Rattle.cordyceps_shared.proofs.Telling.{owned_same, fits_forgot}
 use Rattle.cordyceps_stack.specs.History.{Event, Load, Taken, held, Legal, actor, SomeChange}
 use Rattle.cordyceps_stack.specs.Shared.View.{Idle, View, knows, newcomer, at_work, count_with_party}
-use Rattle.cordyceps_stack.specs.Shared.Words.{History, Since, AtDoing}
+use Rattle.cordyceps_stack.specs.Shared.Words.{History, Links, Since, AtDoing, AreNew}
+use Rattle.cordyceps_stack.proofs.SharedTheory.FreeLinks.{links_below, links_drop, links_take, links_append}
 use Rattle.cordyceps_shared.specs.Slots.{Homes, EmptyAtHome}
 use Rattle.cordyceps_stack.specs.Shared.Rule.{RuleHolds}
 use Rattle.cordyceps_stack.specs.Shared.Plays.{SeatState}
-use Rattle.cordyceps_stack.specs.Shared.Parting.{view_keeping, view_giving, view_absorbing, view_absorbed, view_without_told, after_learn}
+use Rattle.cordyceps_stack.specs.Shared.Parting.{view_keeping, view_giving, view_absorbing, view_absorbed, view_without_told, after_learn, MayJoin}
 use Rattle.cordyceps_stack.proofs.Histories.{legal_none}
 use Rattle.cordyceps_stack.proofs.SharedTheory.WordsKeep.{does_frame, rests, forks}
 use Rattle.cordyceps_stack.proofs.SharedTheory.StepsKeep.{step_keeps, unwritten, few_rooms}
@@ -29,22 +30,23 @@ legal_front : {P E : Type 0} (xs ys : List (Event P E)) → Legal (xs ++ ys) →
 legal_front xs ys l before after p batch e = l before (after ++ ys) p batch (ap (λ z. z ++ ys) e ∙ append_assoc before (Taken p batch ∷ after) ys)
 
 module _ (E : Type 0) where
-  pub opens : (rooms : ℕ) (words : List ℕ) → length words ≡ LINKS + rooms → get_or words HEAD 0 ≡ 0 → RuleHolds {E = E} (opening words (replicate rooms None) (newcomer rooms))
-  opens rooms words wide zeros =
+  pub opens : (rooms : ℕ) (words : List ℕ) → AreNew words rooms → RuleHolds {E = E} (opening words (replicate rooms None) (newcomer rooms))
+  opens rooms words new =
       let first : View E = newcomer rooms in
       let known = seats.opens actor knows first refl in record {
         history = [];
         chain = [];
         meets = record {
           legal = legal_none;
-          spelled = zeros;
+          spelled = new.empty;
           holds = refl;
           apart = λ r. omega (arith, below_once rooms r);
           each = λ j v e. subst (λ (z : View E). AtDoing words [] j z.doing) (seats.only first v j e).1 tt;
+          linked = λ j v e. subst (λ (z : View E). Links words z.free.rooms z.free.end) (seats.only first v j e).1 (links_below words rooms new.linked);
         };
-        wide = wide ∙ ap (λ n. LINKS + n) (sym (length-map (replicate rooms None) some ∙ length-replicate rooms None));
+        wide = new.wide ∙ ap (λ n. LINKS + n) (sym (length-map (replicate rooms None) some ∙ length-replicate rooms None));
         full = tt;
-        empty = λ j v e. subst (λ (z : View E). let homes : Homes E = map some (replicate rooms None) in EmptyAtHome homes z.free) (seats.only first v j e).1 (empty_new rooms (below rooms) (at_below rooms));
+        empty = λ j v e. subst (λ (z : View E). let homes : Homes E = map some (replicate rooms None) in EmptyAtHome homes z.free.rooms) (seats.only first v j e).1 (empty_new rooms (below rooms) (at_below rooms));
         fits = known.1;
         owned = known.0;
       }
@@ -57,10 +59,11 @@ module _ {E : Type 0} where
       let right = view_giving n v in record {
         history = k.history;
         chain = k.chain;
-        meets = forks s.words k.chain s.views k.history id v left right k.meets at (λ r. let cut = tally_cut (λ q. one_if (eqb q r)) n v.free in omega arith) (k.meets.each id v at) (λ _. tt);
+        meets = forks s.words k.chain s.views k.history id v left right k.meets at (λ r. let cut = tally_cut (λ q. one_if (eqb q r)) n v.free.rooms in omega arith) (k.meets.each id v at) (λ _. tt)
+            (links_drop s.words v.free.rooms n v.free.end (k.meets.linked id v at)) (links_take s.words v.free.rooms n v.free.end (k.meets.linked id v at));
         wide = k.wide;
         full = k.full;
-        empty = set_more (λ _ u. EmptyAtHome s.homes u.free) s.views id left right (empty_drop s.homes n v.free (k.empty id v at)) (empty_take s.homes n v.free (k.empty id v at)) (λ i u _ e. k.empty i u e);
+        empty = set_more (λ _ u. EmptyAtHome s.homes u.free.rooms) s.views id left right (empty_drop s.homes n v.free.rooms (k.empty id v at)) (empty_take s.homes n v.free.rooms (k.empty id v at)) (λ i u _ e. k.empty i u e);
         fits = fits_cut actor knows s.views k.history id v left right at refl refl k.owned k.fits;
         owned = owned_cut knows s.views k.history id v left right at refl refl named k.owned;
       }
@@ -77,8 +80,8 @@ module _ {E : Type 0} where
         same = ⊎_elim (λ t. inl t) (λ c. inr (subst (λ z. SomeChange z) (sym (events_relabel a b s.later)) c)) s.same;
       }
 
-  pub joins : (id other : ℕ) (v w : View E) → v.doing ≡ Idle → w.doing ≡ Idle → v.known.share ≢ [] → Joins RuleHolds id v other w (view_absorbing v w) view_absorbed
-  joins id other v w idle idle_too named s k at apart there =
+  pub joins : (id other : ℕ) (v w : View E) → v.doing ≡ Idle → w.doing ≡ Idle → v.known.share ≢ [] → MayJoin v.free w.free → Joins RuleHolds id v other w (view_absorbing v w) view_absorbed
+  joins id other v w idle idle_too named may s k at apart there =
       let h = relabel id other k.history in
       let one = set s.views id (view_absorbing v w) in
       let m = k.meets in
@@ -93,12 +96,13 @@ module _ {E : Type 0} where
           apart = λ r.
               let pv = ap (at_work r) idle in
               let pw = ap (at_work r) idle_too in
-              omega (arith, m.apart r, tally_set (count_with_party r) s.views id v (view_absorbing v w) at, tally_set (count_with_party r) one other w view_absorbed there, tally_append (λ q. one_if (eqb q r)) v.free w.free);
+              omega (arith, m.apart r, tally_set (count_with_party r) s.views id v (view_absorbing v w) at, tally_set (count_with_party r) one other w view_absorbed there, tally_append (λ q. one_if (eqb q r)) v.free.rooms w.free.rooms);
           each = two_set (λ i u. AtDoing s.words h i u.doing) s.views id other (view_absorbing v w) view_absorbed tt tt (λ i u n o e. does_frame s.words s.words k.history h i u.doing (λ r _. refl) (λ read. since_relabel id other s.words k.history i read n o) (m.each i u e));
+          linked = two_set (λ _ u. Links s.words u.free.rooms u.free.end) s.views id other (view_absorbing v w) view_absorbed (links_append s.words v.free.rooms w.free.rooms v.free.end w.free.end may (m.linked id v at) (m.linked other w there_first)) tt (λ i u _ _ e. m.linked i u e);
         };
         wide = k.wide;
         full = k.full;
-        empty = two_set (λ _ u. EmptyAtHome s.homes u.free) s.views id other (view_absorbing v w) view_absorbed (empty_append s.homes v.free w.free (k.empty id v at) (k.empty other w there_first)) (λ i r a. absurd a) (λ i u _ _ e. k.empty i u e);
+        empty = two_set (λ _ u. EmptyAtHome s.homes u.free.rooms) s.views id other (view_absorbing v w) view_absorbed (empty_append s.homes v.free.rooms w.free.rooms (k.empty id v at) (k.empty other w there_first)) (λ i r a. absurd a) (λ i u _ _ e. k.empty i u e);
         fits = fits_join actor knows s.views k.history id other v w (view_absorbing v w) view_absorbed at apart there refl refl k.fits;
         owned = owned_join knows s.views k.history id other v w (view_absorbing v w) view_absorbed at apart there refl refl named k.owned;
       }
@@ -108,7 +112,7 @@ module _ {E : Type 0} where
       let v = me.0 in
       let w = view_without_told v in
       let few = few_rooms s k id v at in
-      let meets = rests s.words k.chain s.views k.history id v w k.meets at (λ r. omega arith) (k.meets.each id v at) in (
+      let meets = rests s.words k.chain s.views k.history id v w k.meets at (λ r. omega arith) (k.meets.each id v at) (k.meets.linked id v at) in (
         w,
         keeps,
         tt,

@@ -1,5 +1,5 @@
 -- What the parts of a call come to together.
-use Rattle.std.proofs.Common.{◌≡◌, ◌≢◌, ◌↔◌, ◌⊎◌, ℕ, suc, ◌-◌, ◌<◌, List, [], ◌∷◌, ◌++◌, replicate, Bool, true, cond, eqb, refl, sym, ap, ◌∙◌, subst, inl, inr, arith, append-nil, eq-eqb, Option, Some, None}
+use Rattle.std.proofs.Common.{◌≡◌, ◌↔◌, ◌⊎◌, ℕ, suc, ◌-◌, ◌<◌, ◌≤◌, List, [], ◌∷◌, ◌++◌, length, replicate, Bool, true, cond, eqb, refl, sym, ap, ◌∙◌, subst, inl, inr, arith, append-nil, eq-eqb, Option, Some, None}
 use Rattle.std.proofs.lemmas.Bool.{eqb-true}
 use Rattle.std.specs.Prelude.{IsTrue}
 use Rattle.cordyceps_shared.specs.Histories.{plain, own, AllOwn}
@@ -8,13 +8,13 @@ use Rattle.cordyceps_shared.specs.Places.{ItemAt}
 use Rattle.cordyceps_shared.specs.Shares.{Name, first_name}
 use Rattle.cordyceps_shared.proofs.Adding.{replicate_more, tail_own}
 use Rattle.cordyceps_shared.proofs.Telling.{grown_then}
-use Rattle.cordyceps_shared.specs.declared.slots.Filled.{Filled}
 use Rattle.cordyceps_stack.specs.History.{Event, Load, Push, Legal, SomeChange, actor}
 use Rattle.cordyceps_stack.specs.Shared.Plays.{SeatState, Sees, carry, NearChain, IsResting, IsReady, IsWalking, to_hand_out}
-use Rattle.cordyceps_shared.specs.Slots.{Near, full_slot}
-use Rattle.cordyceps_stack.specs.Shared.Parts.{IsFilled, HasMissed, HasPushed, SettlesAt}
+use Rattle.cordyceps_shared.specs.Slots.{Near}
+use Rattle.cordyceps_stack.specs.Shared.Parts.{IsFilled, HasMissed, HasPushed, SettlesAt, Tracks, Relinked}
+use Rattle.cordyceps_stack.specs.declared.shared.free.FreeRooms.{FreeRooms}
 use Rattle.cordyceps_stack.specs.Shared.Calls.{EndsPushed, EndsLooked, IsOvertaken}
-use Rattle.cordyceps_stack.specs.Shared.View.{Idle, Walking, View, name, walk_through}
+use Rattle.cordyceps_stack.specs.Shared.View.{Doing, Idle, Walking, View, FreeChain, name, leads, with_first, walk_through}
 use Rattle.cordyceps_stack.specs.Shared.Words.{start}
 
 pub is_zero : (n : ℕ) → (n ≡ 0) ↔ IsTrue (eqb n 0)
@@ -27,6 +27,16 @@ hand_of (x ∷ xs) = x.1
 
 pub first_near : (slots r : ℕ) (rs free : List ℕ) → free ≡ r ∷ rs → Near slots free → r < slots
 first_near slots r rs free is near = near 0 r (subst (λ l. ItemAt l 0 r) (sym is) refl)
+
+-- the first of some free rooms
+first_from : (free : FreeRooms) (chain : FreeChain) (rooms : List ℕ) → chain.rooms ≡ rooms → Tracks free chain → 0 < free.count → (rs : List ℕ) × (chain.rooms ≡ (free.first - 1) ∷ rs) × (1 ≤ free.first)
+first_from free chain [] is t some_of = let none = ap (λ (l : List ℕ). length l) is in let c = t.count in absurd (omega arith)
+first_from free chain (r ∷ rs) is t some_of =
+    let first = t.first r rs is in
+    let same : r ≡ free.first - 1 = omega arith in (rs, is ∙ ap (λ z. z ∷ rs) same, omega arith)
+
+pub first_room : (free : FreeRooms) (chain : FreeChain) → Tracks free chain → 0 < free.count → (rs : List ℕ) × (chain.rooms ≡ (free.first - 1) ∷ rs) × (1 ≤ free.first)
+first_room free chain t some_of = first_from free chain chain.rooms refl t some_of
 
 module _ {E : Type 0} where
   -- a party that loaded, and then did another step under the same name
@@ -83,7 +93,7 @@ module _ {E : Type 0} where
     doing ∙ r.0,
     hand ∙ r.1,
     (λ e. r.2 (sym (tried_share m.0 w.0 tried) ∙ e)),
-    subst (λ l. Near slots l) (sym free) r.3,
+    subst (λ l. Near slots l.rooms) (sym free) r.3,
     r.4,
   )
 
@@ -109,22 +119,32 @@ module _ {E : Type 0} where
       )
 
   -- ---- a whole push
-  pub pushed_from : (slots tries : ℕ) (full : Filled E) (first : Bool) (m f k : SeatState E) → IsFilled slots full m f → SettlesAt slots tries full.item first f k → HasPushed tries full.ticket full.item first m k
-  pushed_from slots tries full first m f k filled s = record {
-    free = filled.free ∙ ap (λ (l : List ℕ). full.ticket ∷ l) (sym s.free);
-    sees = subst (λ (p : Known (Event Name E)). Grown actor (λ h. Legal h) p (replicate tries (Load (first_name p.share)) ++ Push (first_name p.share) full.item ∷ []) k.0.known) filled.known s.sees;
-    ends = subst (λ (p : Known (Event Name E)). EndsPushed full.item (IsTrue first) (first_name p.share) k.0.known.seen) filled.known s.ends;
+  pub pushed_from : (slots tries room next : ℕ) (x : E) (first : Bool) (m f k : SeatState E) → IsFilled slots room next x m f → SettlesAt slots tries x first f k → HasPushed tries x first m k
+  pushed_from slots tries room next x first m f k filled s = record {
+    free = ap (λ (l : FreeChain). length l.rooms) filled.free ∙ ap (λ (l : FreeChain). suc (length l.rooms)) (sym s.free);
+    sees = subst (λ (p : Known (Event Name E)). Grown actor (λ h. Legal h) p (replicate tries (Load (first_name p.share)) ++ Push (first_name p.share) x ∷ []) k.0.known) filled.known s.sees;
+    ends = subst (λ (p : Known (Event Name E)). EndsPushed x (IsTrue first) (first_name p.share) k.0.known.seen) filled.known s.ends;
   }
 
-  pub missed_from : (slots room : ℕ) (full : Filled E) (m f k o : SeatState E) → IsResting slots m → IsFilled slots full m f → HasMissed f k → room ≡ full.ticket
-      → o ≡ (record k.0 { doing = Idle; free = room ∷ k.0.free }, []) → HasMissed m o
-  missed_from slots room full m f k o rests filled s same is = record {
+  pub missed_from : (slots room next : ℕ) (x : E) (m f k o : SeatState E) → IsResting slots m → IsFilled slots room next x m f → HasMissed f k
+      → o ≡ (record k.0 { doing = Idle; free = with_first room k.0.free }, []) → HasMissed m o
+  missed_from slots room next x m f k o rests filled s is = record {
     doing = ap (λ (q : SeatState E). q.0.doing) is ∙ sym rests.0;
     hand = ap (λ (q : SeatState E). q.1) is ∙ sym rests.1;
-    free = ap (λ (q : SeatState E). q.0.free) is ∙ ((λ i. same i ∷ s.free i) ∙ sym filled.free);
+    free = ap (λ (q : SeatState E). q.0.free) is ∙ (ap (with_first room) s.free ∙ sym filled.free);
     sees = subst (λ (p : Known (Event Name E) × Known (Event Name E)). Grown actor (λ h. Legal h) p.0 (Load (first_name p.0.share) ∷ []) p.1) (λ i. (filled.known i, sym (ap (λ (q : SeatState E). q.0.known) is) i)) s.sees;
     overtaken = subst (λ (p : Known (Event Name E)). IsOvertaken p.seen) (sym (ap (λ (q : SeatState E). q.0.known) is)) s.overtaken;
   }
+
+  -- what it has of its free rooms, with the first of them in use
+  pub tracks_after : (slots room next : ℕ) (x : E) (m f k : SeatState E) (free : FreeRooms) → IsFilled slots room next x m f → k.0.free ≡ f.0.free → Tracks free m.0.free → Tracks record free { first = next; count = free.count - 1 } k.0.free
+  tracks_after slots room next x m f k free filled same t =
+      let rooms : m.0.free.rooms ≡ room ∷ f.0.free.rooms = ap (λ (l : FreeChain). l.rooms) filled.free in
+      subst (λ c. Tracks record free { first = next; count = free.count - 1 } c) (sym same) record {
+        count = let long = ap (λ (l : List ℕ). length l) rooms in let c = t.count in omega arith;
+        first = λ r rs e. filled.next_is ∙ ap (λ l. leads l f.0.free.end) e;
+        last = λ before r e. t.last (room ∷ before) r (rooms ∙ ap (λ l. room ∷ l) e);
+      }
 
   -- a party whose events are all that it has seen was not overtaken
   no_change : (ys : List (Bool × Event Name E)) → AllOwn ys → own ys ≡ [] → SomeChange (plain ys) → ⊥
@@ -140,20 +160,29 @@ module _ {E : Type 0} where
   batch_walking (x ∷ xs) = refl
 
   -- the next room to be handed out
-  pub record Next (slots at : ℕ) (m : SeatState E) : Type 0 where
+  pub record Next (slots room : ℕ) (m : SeatState E) : Type 0 where
     pub here : ℕ × E
     pub others : List (ℕ × E)
     pub doing : m.0.doing ≡ Walking (here ∷ others)
-    pub hand : m.1 ≡ (here.0, Some (full_slot here.0 here.1)) ∷ carry others []
+    pub hand : m.1 ≡ (here.0, Some here.1) ∷ carry others []
     pub inside : here.0 < slots
     pub near : NearChain slots others
-    pub free : Near slots m.0.free
-    pub word : at ≡ suc here.0
-    pub index : at - 1 ≡ here.0
+    pub free : Near slots m.0.free.rooms
+    pub index : room ≡ here.0
 
-  next_from : (slots at : ℕ) (m : SeatState E) (xs : List (ℕ × E)) → IsWalking slots xs m → at ≡ start xs → at ≢ 0 → Next slots at m
-  next_from slots at m [] w e not = absurd (not e)
-  next_from slots at m (x ∷ xs) w e not = record { here = x; others = xs; doing = w.0; hand = w.1; inside = w.2.0; near = w.2.1; free = w.4; word = e; index = omega arith }
+  next_from : (slots room : ℕ) (m : SeatState E) (xs : List (ℕ × E)) → IsWalking slots xs m → suc room ≡ start xs → Next slots room m
+  next_from slots room m [] w e = absurd (omega arith)
+  next_from slots room m (x ∷ xs) w e = record { here = x; others = xs; doing = w.0; hand = w.1; inside = w.2.0; near = w.2.1; free = w.4; index = omega arith }
 
-  pub next_of : (slots at : ℕ) (m : SeatState E) → IsWalking slots (to_hand_out m.0.doing) m → at ≡ start (to_hand_out m.0.doing) → at ≢ 0 → Next slots at m
-  next_of slots at m w e not = next_from slots at m (to_hand_out m.0.doing) w e not
+  pub next_of : (slots room : ℕ) (m : SeatState E) → IsWalking slots (to_hand_out m.0.doing) m → suc room ≡ start (to_hand_out m.0.doing) → Next slots room m
+  next_of slots room m w e = next_from slots room m (to_hand_out m.0.doing) w e
+
+  pub walking_on : (slots : ℕ) (m k : SeatState E) → Relinked m k → IsWalking slots (to_hand_out m.0.doing) m → IsWalking slots (to_hand_out k.0.doing) k
+  walking_on slots m k r w =
+      let now : IsWalking slots (to_hand_out m.0.doing) k = (
+        r.doing ∙ w.0,
+        r.hand ∙ w.1,
+        w.2,
+        (λ e. w.3 (sym (ap (λ (p : Known (Event Name E)). p.share) r.known) ∙ e)),
+        subst (λ l. Near slots l) (sym r.rooms) w.4,
+      ) in subst (λ (d : Doing E). IsWalking slots (to_hand_out d) k) (sym r.doing) now

@@ -19,21 +19,23 @@ use Rattle.cordyceps_shared.specs.Words.{head}
 use Rattle.cordyceps_shared.specs.declared.layout.TheConstants.{HEAD, LINKS}
 use Rattle.cordyceps_shared.proofs.Choices.{some_or, first_or, rest_from}
 use Rattle.cordyceps_shared.proofs.Changing.{one_set}
-use Rattle.cordyceps_shared.proofs.Counting.{tally_one, tally_two, one_here, distinct_few}
-use Rattle.cordyceps_shared.proofs.Places.{times_some, times_at, empty_cons}
+use Rattle.cordyceps_shared.proofs.Counting.{tally_one, tally_two, tally_append, one_here, distinct_few}
+use Rattle.cordyceps_shared.proofs.Words.{next_set, next_beside_next, head_beside_next}
+use Rattle.cordyceps_shared.proofs.Places.{times_some, times_at, empty_cons, empty_append}
 use Rattle.cordyceps_shared.proofs.Seeing.{marked_append, plain_marked, own_without}
 use Rattle.cordyceps_shared.proofs.Telling.{at_length, owned_same, fits_same, tells}
-use Rattle.cordyceps_shared.specs.declared.slots.Filled.{Filled}
 use Rattle.cordyceps_stack.specs.History.{Event, Load, Push, Taken, held, Legal, actor, SomeChange}
 use Rattle.cordyceps_stack.specs.Cores.Stages.{room_elements}
-use Rattle.cordyceps_stack.specs.Shared.View.{Doing, Idle, Ready, Loaded, Set, Walking, View, knows, name, walk_through, in_chain, at_work, count_with_party}
-use Rattle.cordyceps_stack.specs.Shared.Words.{History, start, Since, AtDoing, WordsMeet}
-use Rattle.cordyceps_shared.specs.Slots.{Homes, Hand, TableStep, full_slot, EmptyAtHome}
+use Rattle.cordyceps_stack.specs.Shared.View.{Doing, Idle, Ready, Loaded, Set, Walking, View, FreeChain, knows, name, leads, with_first, with_last, IsTied, walk_through, in_chain, at_work}
+use Rattle.cordyceps_stack.specs.Shared.View.{count_with_party}
+use Rattle.cordyceps_stack.specs.Shared.Words.{History, start, Links, Since, AtDoing, WordsMeet}
+use Rattle.cordyceps_stack.proofs.SharedTheory.FreeLinks.{links_at, links_retied}
+use Rattle.cordyceps_shared.specs.Slots.{Homes, Hand, TableStep, EmptyAtHome}
 use Rattle.cordyceps_stack.specs.Shared.Rule.{TableState, FullAtHome, RuleHolds}
 use Rattle.cordyceps_stack.specs.Shared.Plays.{SeatState, Sees, carry, NearChain, to_hand_out}
 use Rattle.cordyceps_stack.specs.Shared.Calls.{EndsPushed, IsOvertaken}
 use Rattle.cordyceps_stack.specs.Shared.Plays as play
-use Rattle.cordyceps_stack.proofs.SharedTheory.WordsKeep.{spells_start, since_now, rests, loads, writes, pushes, takes_all, walks, rooms_differ}
+use Rattle.cordyceps_stack.proofs.SharedTheory.WordsKeep.{spells_start, since_now, since_words, does_frame, rests, loads, relinks, linked_else, writes, pushes, takes_all, walks, rooms_differ}
 
 -- where a party goes that has written its room's link
 abbrev set_of : {E : Type 0} → Doing E → Doing E
@@ -96,8 +98,8 @@ module _ {E : Type 0} where
   )
 
   pub step_keeps : (s : TableState E) (k : RuleHolds s) (j : ℕ) (v w : View E) (words : List ℕ) (homes : Homes E) (chain : List (ℕ × E)) (h : History E) → get_elem? s.views j ≡ some v
-      → WordsMeet words chain (set s.views j w) h → length words ≡ length s.words → length homes ≡ length s.homes → FullAtHome homes chain → EmptyAtHome homes w.free
-      → ((i : ℕ) (u : View E) (r : ℕ) → i ≢ j → get_elem? s.views i ≡ some u → 1 ≤ times r u.free → get_elem? homes r ≡ get_elem? s.homes r)
+      → WordsMeet words chain (set s.views j w) h → length words ≡ length s.words → length homes ≡ length s.homes → FullAtHome homes chain → EmptyAtHome homes w.free.rooms
+      → ((i : ℕ) (u : View E) (r : ℕ) → i ≢ j → get_elem? s.views i ≡ some u → 1 ≤ times r u.free.rooms → get_elem? homes r ≡ get_elem? s.homes r)
       → AllAgree actor knows (set s.views j w) h → SharesDisjoint knows (set s.views j w) h
       → RuleHolds record { words = words; homes = homes; views = set s.views j w }
   step_keeps s k j v w words homes chain h at meets wide deep full empty same fits owned = record {
@@ -106,7 +108,7 @@ module _ {E : Type 0} where
     meets = meets;
     wide = wide ∙ (k.wide ∙ ap (λ n. LINKS + n) (sym deep));
     full = full;
-    empty = one_set (λ _ u. EmptyAtHome homes u.free) s.views j w empty (λ i u ne e. empty_frame s.homes homes u.free (λ r m. same i u r ne e m) (k.empty i u e));
+    empty = one_set (λ _ u. EmptyAtHome homes u.free.rooms) s.views j w empty (λ i u ne e. empty_frame s.homes homes u.free.rooms (λ r m. same i u r ne e m) (k.empty i u e));
     fits = fits;
     owned = owned;
   }
@@ -125,23 +127,23 @@ module _ {E : Type 0} where
   once s k j v r at = let few = k.meets.apart r in let mine = tally_one (count_with_party r) s.views j v at in omega arith
 
   -- a party has at most as many free rooms as there are slots
-  pub few_rooms : (s : TableState E) (k : RuleHolds s) (j : ℕ) (v : View E) → get_elem? s.views j ≡ some v → length v.free ≤ length s.homes
-  few_rooms s k j v at = distinct_few (length s.homes) v.free (λ r. let o = once s k j v r at in omega arith) (λ r m. let t = times_at r v.free m in at_length s.homes r (some None) (k.empty j v at t.0 r t.1))
+  pub few_rooms : (s : TableState E) (k : RuleHolds s) (j : ℕ) (v : View E) → get_elem? s.views j ≡ some v → length v.free.rooms ≤ length s.homes
+  few_rooms s k j v at = distinct_few (length s.homes) v.free.rooms (λ r. let o = once s k j v r at in omega arith) (λ r m. let t = times_at r v.free.rooms m in at_length s.homes r (some None) (k.empty j v at t.0 r t.1))
 
   -- the slot of a room that the party j has changes
-  slot_moves : (s : TableState E) (k : RuleHolds s) (j : ℕ) (v : View E) (r : ℕ) (y : maybe.Option (Option (Filled E))) → get_elem? s.views j ≡ some v → 1 ≤ count_with_party r v
-      → FullAtHome (set s.homes r y) k.chain × ((i : ℕ) (u : View E) (q : ℕ) → i ≢ j → get_elem? s.views i ≡ some u → 1 ≤ times q u.free → get_elem? (set s.homes r y) q ≡ get_elem? s.homes q)
+  slot_moves : (s : TableState E) (k : RuleHolds s) (j : ℕ) (v : View E) (r : ℕ) (y : maybe.Option (Option E)) → get_elem? s.views j ≡ some v → 1 ≤ count_with_party r v
+      → FullAtHome (set s.homes r y) k.chain × ((i : ℕ) (u : View E) (q : ℕ) → i ≢ j → get_elem? s.views i ≡ some u → 1 ≤ times q u.free.rooms → get_elem? (set s.homes r y) q ≡ get_elem? s.homes q)
   slot_moves s k j v r y at one = (
     full_frame s.homes (set s.homes r y) k.chain (λ q m. set_else s.homes r q y (rooms_differ (λ z. in_chain z k.chain) r q (alone s k j v r at one) m)) k.full,
     λ i u q other there m. set_else s.homes r q y (rooms_differ (λ z. count_with_party z u) r q (alone_of s k j i v u r at other there one) (omega arith)),
   )
 
   -- the slot of a room that is none of these
-  empty_else : (homes : Homes E) (r : ℕ) (y : maybe.Option (Option (Filled E))) (free : List ℕ) → times r free ≡ 0 → EmptyAtHome homes free → EmptyAtHome (set homes r y) free
+  empty_else : (homes : Homes E) (r : ℕ) (y : maybe.Option (Option E)) (free : List ℕ) → times r free ≡ 0 → EmptyAtHome homes free → EmptyAtHome (set homes r y) free
   empty_else homes r y free none_of e = empty_frame homes (set homes r y) free (λ q m. set_else homes r q y (rooms_differ (λ z. times z free) r q none_of m)) e
 
   -- the view after a step at which the party saw all
-  abbrev view_after : View E → ℕ → History E → List ℕ → Doing E → View E
+  abbrev view_after : View E → ℕ → History E → FreeChain → Doing E → View E
   view_after v j h free doing = record { known = all_seen j h v.known.share; free = free; doing = doing }
 
   -- ---- looking
@@ -151,7 +153,7 @@ module _ {E : Type 0} where
       let x : Event Name E = Load (name v) in
       let h = k.history ++ (id, x) ∷ [] in
       let w = view_after v id h v.free Idle in
-      let meets = loads s.words k.chain s.views k.history id v w (name v) k.meets at (λ q. let c = ap (at_work q) idle in omega arith) tt in
+      let meets = loads s.words k.chain s.views k.history id v w (name v) k.meets at (λ q. let c = ap (at_work q) idle in omega arith) tt refl in
       let t = told s k id (x ∷ []) v w h at named (refl, tt) refl refl meets.legal in (
         w,
         keeps,
@@ -171,17 +173,18 @@ module _ {E : Type 0} where
       )
 
   -- ---- pushing
-  pub readies : (slots id i : ℕ) (me : SeatState E) (r : ℕ) (rs : List ℕ) → i ≡ LINKS + r → me.0.doing ≡ Idle → me.0.free ≡ r ∷ rs → Allows RuleHolds slots id me i (λ n. n) (play.after_ready (step slots i 0 0 none) me)
+  pub readies : (slots id i : ℕ) (me : SeatState E) (r : ℕ) (rs : List ℕ) → i ≡ LINKS + r → me.0.doing ≡ Idle → me.0.free.rooms ≡ r ∷ rs → Allows RuleHolds slots id me i (λ n. n) (play.after_ready (step slots i 0 0 none) me)
   readies slots id i me r rs is idle free s k deep at fits =
       let v = me.0 in
-      let w : View E = record v { doing = Ready r; free = rs } in
+      let w : View E = record v { doing = Ready r; free = record v.free { rooms = rs } } in
       let was : (q : ℕ) → count_with_party q v ≡ one_if (eqb r q) + times q rs + 0 = λ q. ap (λ l. times q l + at_work q v.doing) free ∙ ap (λ p. one_if (eqb r q) + times q rs + at_work q p) idle in
       let here = one_here r in
       let mine : 1 ≤ count_with_party r v = let e = was r in omega arith in
       let alone_in : times r rs ≡ 0 = let e = was r in let o = once s k id v r at in omega arith in
       let empty : EmptyAtHome s.homes (r ∷ rs) = subst (EmptyAtHome s.homes) free (k.empty id v at) in
+      let linked : Links s.words (r ∷ rs) v.free.end = subst (λ l. Links s.words l v.free.end) free (k.meets.linked id v at) in
       let moves = slot_moves s k id v r none at mine in
-      let meets = rests s.words k.chain s.views k.history id v w k.meets at (λ q. let e = was q in omega arith) tt in
+      let meets = rests s.words k.chain s.views k.history id v w k.meets at (λ q. let e = was q in omega arith) tt linked.1 in
       let t = untold s k id v w at refl in (
         w,
         takes r None,
@@ -193,9 +196,10 @@ module _ {E : Type 0} where
             let first = ap (first_or 0) same in
             let others = ap rest_from same in (
               is ∙ ap (λ q. LINKS + q) first,
-              (λ j. let u : View E = record v { doing = Ready (first j); free = others j } in u),
-              ap (λ q. (q, let y : Option (Filled E) = None in y) ∷ me.1) first,
+              (λ j. let u : View E = record v { doing = Ready (first j); free = record v.free { rooms = others j } } in u),
+              ap (λ q. (q, let y : Option E = None in y) ∷ me.1) first,
               subst (λ q. q < slots) first (omega arith),
+              ap (λ n. get_or s.words n 0) is ∙ (linked.0 ∙ ap (λ l. leads l v.free.end) others),
             ),
       )
 
@@ -206,7 +210,7 @@ module _ {E : Type 0} where
       let h = k.history ++ (id, x) ∷ [] in
       let read = head s.words in
       let w = view_after v id h v.free (Loaded r read) in
-      let meets = loads s.words k.chain s.views k.history id v w (name v) k.meets at (λ q. let c = ap (at_work q) ready in omega arith) (since_now s.words k.history id (name v)) in
+      let meets = loads s.words k.chain s.views k.history id v w (name v) k.meets at (λ q. let c = ap (at_work q) ready in omega arith) (since_now s.words k.history id (name v)) refl in
       let t = told s k id (x ∷ []) v w h at named (refl, tt) refl refl meets.legal in (
         w,
         keeps,
@@ -245,29 +249,29 @@ module _ {E : Type 0} where
   -- what a party does, and what it has in hand, at an exchange
   pub record Poised (me : SeatState E) (r read : ℕ) (x : E) (cs : Hand E) : Type 0 where
     pub doing : me.0.doing ≡ Set r read
-    pub hand : me.1 ≡ (r, Some (full_slot r x)) ∷ cs
+    pub hand : me.1 ≡ (r, Some x) ∷ cs
     pub named : me.0.known.share ≢ []
 
   hits : (slots id : ℕ) (me : SeatState E) (r read : ℕ) (x : E) (cs : Hand E) → Poised me r read x cs → r < slots → (s : TableState E) (k : RuleHolds s) → length s.homes ≡ slots → get_elem? s.views id ≡ some me.0
       → head s.words ≡ read
-      → (w : View E) × (a : Act (Option (Filled E))) × Valid s.homes me.1 a × RuleHolds (stepped s HEAD (suc r) id me.1 w a) × (w.doing ≡ Idle) × (w.free ≡ me.0.free) × (carried_after me.1 a ≡ cs)
+      → (w : View E) × (a : Act (Option E)) × Valid s.homes me.1 a × RuleHolds (stepped s HEAD (suc r) id me.1 w a) × (w.doing ≡ Idle) × (w.free ≡ me.0.free) × (carried_after me.1 a ≡ cs)
       × Sees me.0 (Push (name me.0) x ∷ []) w × EndsPushed x (head s.words ≡ 0) (name me.0) w.known.seen
   hits slots id me r read x cs poised inside s k deep at top =
       let v = me.0 in
       let e : Event Name E = Push (name v) x in
       let h = k.history ++ (id, e) ∷ [] in
       let w = view_after v id h v.free Idle in
-      let y : maybe.Option (Option (Filled E)) = some (Some (full_slot r x)) in
+      let y : maybe.Option (Option E) = some (Some x) in
       let here = one_here r in
-      let was : count_with_party r v ≡ times r v.free + one_if (eqb r r) = ap (λ d. times r v.free + at_work r d) poised.doing in
+      let was : count_with_party r v ≡ times r v.free.rooms + one_if (eqb r r) = ap (λ d. times r v.free.rooms + at_work r d) poised.doing in
       let mine : 1 ≤ count_with_party r v = omega arith in
-      let none_free : times r v.free ≡ 0 = let o = once s k id v r at in omega arith in
+      let none_free : times r v.free.rooms ≡ 0 = let o = once s k id v r at in omega arith in
       let wide = k.wide in
       let meets = pushes s.words k.chain s.views k.history id v w r read (name v) x k.meets at poised.doing refl refl top (omega arith) in
       let moves = slot_moves s k id v r y at mine in
       let t = told s k id (e ∷ []) v w h at poised.named (refl, tt) refl refl meets.legal in
       let kept = step_keeps s k id v w (set s.words HEAD (suc r)) (set s.homes r y) ((r, x) ∷ k.chain) h at meets (length-set s.words HEAD (suc r)) (length-set s.homes r y)
-      (set_here s.homes r y (omega arith), moves.0) (empty_else s.homes r y v.free none_free (k.empty id v at)) moves.1 t.1 t.0 in (
+      (set_here s.homes r y (omega arith), moves.0) (empty_else s.homes r y v.free.rooms none_free (k.empty id v at)) moves.1 t.1 t.0 in (
         w,
         gives,
         tt,
@@ -284,14 +288,14 @@ module _ {E : Type 0} where
       )
 
   passes : (slots id : ℕ) (me : SeatState E) (r read : ℕ) (x : E) (cs : Hand E) → Poised me r read x cs → (s : TableState E) (k : RuleHolds s) → get_elem? s.views id ≡ some me.0 → head s.words ≢ read
-      → (w : View E) × (a : Act (Option (Filled E))) × Valid s.homes me.1 a × RuleHolds (stepped s HEAD (head s.words) id me.1 w a) × (w.doing ≡ Ready r) × (w.free ≡ me.0.free) × (carried_after me.1 a ≡ me.1)
+      → (w : View E) × (a : Act (Option E)) × Valid s.homes me.1 a × RuleHolds (stepped s HEAD (head s.words) id me.1 w a) × (w.doing ≡ Ready r) × (w.free ≡ me.0.free) × (carried_after me.1 a ≡ me.1)
       × Sees me.0 [] w × IsOvertaken w.known.seen
   passes slots id me r read x cs poised s k at miss =
       let v = me.0 in
       let h = k.history in
       let w = view_after v id h v.free (Ready r) in
       let known : AtDoing s.words h id (Set r read) = subst (λ (d : Doing E). AtDoing s.words h id d) poised.doing (k.meets.each id v at) in
-      let meets = rests s.words k.chain s.views h id v w k.meets at (λ q. let c = ap (at_work q) poised.doing in omega arith) tt in
+      let meets = rests s.words k.chain s.views h id v w k.meets at (λ q. let c = ap (at_work q) poised.doing in omega arith) tt (k.meets.linked id v at) in
       let t = told s k id [] v w h at poised.named tt (sym (append-nil h)) refl meets.legal in (
         w,
         keeps,
@@ -305,17 +309,17 @@ module _ {E : Type 0} where
       )
 
   -- what the exchange tells, with what was known before it put in
-  Tells : (me k : SeatState E) (found : ℕ) → ℕ × ℕ × Filled E × Hand E → Type 0
+  Tells : (me k : SeatState E) (found : ℕ) → ℕ × ℕ × E × Hand E → Type 0
   Tells me k found z =
-      (found ≡ z.1 → (k.0.doing ≡ Idle) × (k.0.free ≡ me.0.free) × (k.1 ≡ z.3) × Sees me.0 (Push (name me.0) z.2.item ∷ []) k.0 × EndsPushed z.2.item (found ≡ 0) (name me.0) k.0.known.seen)
+      (found ≡ z.1 → (k.0.doing ≡ Idle) × (k.0.free ≡ me.0.free) × (k.1 ≡ z.3) × Sees me.0 (Push (name me.0) z.2 ∷ []) k.0 × EndsPushed z.2 (found ≡ 0) (name me.0) k.0.known.seen)
       × (found ≢ z.1 → (k.0.doing ≡ Ready z.0) × (k.0.free ≡ me.0.free) × (k.1 ≡ me.1) × Sees me.0 [] k.0 × IsOvertaken k.0.known.seen)
 
-  says : (st : TableStep E) (me k : SeatState E) (r read found : ℕ) (x : E) (cs : Hand E) → Poised me r read x cs → Tells me k found (r, read, full_slot r x, cs) → play.after_exchange st me found k
+  says : (st : TableStep E) (me k : SeatState E) (r read found : ℕ) (x : E) (cs : Hand E) → Poised me r read x cs → Tells me k found (r, read, x, cs) → play.after_exchange st me found k
   unfolding Tells
   says st me k r read found x cs poised t r' read' x' cs' doing hand =
       let p = sym poised.doing ∙ doing in
       let q = sym poised.hand ∙ hand in
-      subst (Tells me k found) (λ i. (ap room_of p i, ap read_of p i, ap (slot_or (full_slot r x)) q i, ap rest q i)) t
+      subst (Tells me k found) (λ i. (ap room_of p i, ap read_of p i, ap (slot_or x) q i, ap rest q i)) t
 
   pub exchanges : (slots id new : ℕ) (me : SeatState E) (r read : ℕ) (x : E) (cs : Hand E) → new ≡ suc r → Poised me r read x cs → r < slots
       → Allows RuleHolds slots id me HEAD (λ n. either (eqb n read) new n) (play.after_exchange (step slots HEAD read new none) me)
@@ -338,34 +342,73 @@ module _ {E : Type 0} where
         says (step slots HEAD read new none) me (d.0, carried_after me.1 d.1) r read n x cs poised ((λ e. absurd (miss e)), λ _. (d.4, d.5, d.6, d.7, d.8)),
       ))
 
-  pub returns : (slots id i : ℕ) (me : SeatState E) (r : ℕ) (cs : Hand E) → i ≡ LINKS + r → me.0.doing ≡ Ready r → me.1 ≡ (r, None) ∷ cs → r < slots
-      → Allows RuleHolds slots id me i (λ n. n) (play.after_return (step slots i 0 0 none) me)
-  returns slots id i me r cs is doing hand inside s k deep at fits =
+  pub returns : (slots id i n : ℕ) (me : SeatState E) (r : ℕ) (cs : Hand E) → i ≡ LINKS + r → me.0.doing ≡ Ready r → me.1 ≡ (r, None) ∷ cs → r < slots → n ≡ leads me.0.free.rooms me.0.free.end
+      → Allows RuleHolds slots id me i (λ _. n) (λ _. play.after_return (step slots i n 0 none) me n)
+  returns slots id i n me r cs is doing hand inside leads_is s k deep at fits =
       let v = me.0 in
-      let w : View E = record v { doing = Idle; free = r ∷ v.free } in
-      let y : maybe.Option (Option (Filled E)) = some None in
+      let w : View E = record v { doing = Idle; free = with_first r v.free } in
+      let y : maybe.Option (Option E) = some None in
       let here = one_here r in
-      let was : (q : ℕ) → count_with_party q v ≡ times q v.free + one_if (eqb r q) = λ q. ap (λ d. times q v.free + at_work q d) doing in
+      let wide = k.wide in
+      let was : (q : ℕ) → count_with_party q v ≡ times q v.free.rooms + one_if (eqb r q) = λ q. ap (λ d. times q v.free.rooms + at_work q d) doing in
       let mine : 1 ≤ count_with_party r v = let c = was r in omega arith in
-      let none_free : times r v.free ≡ 0 = let c = was r in let o = once s k id v r at in omega arith in
-      let meets = rests s.words k.chain s.views k.history id v w k.meets at (λ q. let c = was q in omega arith) tt in
+      let none_free : times r v.free.rooms ≡ 0 = let c = was r in let o = once s k id v r at in omega arith in
+      let words = set s.words (LINKS + r) n in
+      let linked : Links words (r ∷ v.free.rooms) v.free.end = (next_set s.words r n (omega arith) ∙ leads_is, linked_else s.words v.free.rooms v.free.end r n none_free (k.meets.linked id v at)) in
+      let meets = relinks s.words k.chain s.views k.history id v w r n k.meets at mine (λ q. let c = was q in omega arith) tt linked in
       let moves = slot_moves s k id v r y at mine in
       let t = untold s k id v w at refl in
-      let kept = step_keeps s k id v w s.words (set s.homes r y) k.chain k.history at meets refl (length-set s.homes r y) moves.0
-      (empty_cons (set s.homes r y) r v.free (set_here s.homes r y (omega arith)) (empty_else s.homes r y v.free none_free (k.empty id v at))) moves.1 t.1 t.0 in (
+      let kept = step_keeps s k id v w words (set s.homes r y) k.chain k.history at meets (length-set s.words (LINKS + r) n) (length-set s.homes r y) moves.0
+      (empty_cons (set s.homes r y) r v.free.rooms (set_here s.homes r y (omega arith)) (empty_else s.homes r y v.free.rooms none_free (k.empty id v at))) moves.1 t.1 t.0 in (
         w,
         gives,
         tt,
-        subst (λ c. RuleHolds record { words = set s.words i (get_or s.words i 0); homes = homes_after s.homes c gives; views = set s.views id w }) (sym hand) (unwritten s i (set s.homes r y) (set s.views id w) kept),
+        subst (λ q. RuleHolds record { words = set s.words q n; homes = homes_after s.homes me.1 gives; views = set s.views id w }) (sym is) (subst (λ c. RuleHolds record { words = words; homes = homes_after s.homes c gives; views = set s.views id w }) (sym hand) kept),
         λ r' cs' doing' hand'.
             let same = sym doing ∙ doing' in
-            (is ∙ ap (λ p. LINKS + room_of p) same, ap (λ p. let z : View E = record v { doing = Idle; free = room_of p ∷ v.free } in z) same, ap rest hand'),
+            (is ∙ ap (λ p. LINKS + room_of p) same, ap (λ p. let z : View E = record v { doing = Idle; free = with_first (room_of p) v.free } in z) same, ap rest hand'),
+      )
+
+  -- ---- free rooms
+  pub ties : (slots id i n : ℕ) (me : SeatState E) (before : List ℕ) (r : ℕ) → i ≡ LINKS + r → me.0.free.rooms ≡ before ++ r ∷ [] → r < slots → Allows RuleHolds slots id me i (λ _. n) (λ _. play.after_tie (step slots i n 0 none) me n)
+  ties slots id i n me before r is free inside s k deep at fits =
+      let v = me.0 in
+      let w : View E = record v { free = record v.free { end = n } } in
+      let here = one_here r in
+      let wide = k.wide in
+      let count : times r v.free.rooms ≡ times r before + 1 = ap (times r) free ∙ (tally_append (λ z. one_if (eqb z r)) before (r ∷ []) ∙ ap (λ q. times r before + (q + 0)) here) in
+      let mine : 1 ≤ count_with_party r v = omega arith in
+      let none_before : times r before ≡ 0 = let o = once s k id v r at in omega arith in
+      let words = set s.words (LINKS + r) n in
+      let linked : Links words v.free.rooms n = subst (λ l. Links words l n) (sym free) (links_retied s.words before r v.free.end n none_before (omega arith) (subst (λ l. Links s.words l v.free.end) free (k.meets.linked id v at))) in
+      let none_work : at_work r v.doing ≡ 0 = let o = once s k id v r at in omega arith in
+      let does : AtDoing words k.history id v.doing = does_frame s.words words k.history k.history id v.doing (λ q m. next_beside_next s.words r q n (rooms_differ (λ z. at_work z v.doing) r q none_work m)) (λ read. since_words s.words words k.history id read (head_beside_next s.words r n)) (k.meets.each id v at) in
+      let meets = relinks s.words k.chain s.views k.history id v w r n k.meets at mine (λ q. omega arith) does linked in
+      let t = untold s k id v w at refl in (
+        w,
+        keeps,
+        tt,
+        subst (λ q. RuleHolds record { words = set s.words q n; homes = s.homes; views = set s.views id w }) (sym is)
+            (step_keeps s k id v w words s.homes k.chain k.history at meets (length-set s.words (LINKS + r) n) refl k.full (k.empty id v at) (λ _ _ _ _ _ _. refl) t.1 t.0),
+        (refl, refl),
+      )
+
+  pub skips : (slots id i : ℕ) (me : SeatState E) → Allows RuleHolds slots id me i (λ n. n) (play.after_skip (step slots i 0 0 none) me)
+  skips slots id i me s k deep at fits =
+      let v = me.0 in
+      let meets = rests s.words k.chain s.views k.history id v v k.meets at (λ q. omega arith) (k.meets.each id v at) (k.meets.linked id v at) in
+      let t = untold s k id v v at refl in (
+        v,
+        keeps,
+        tt,
+        unwritten s i s.homes (set s.views id v) (step_keeps s k id v v s.words s.homes k.chain k.history at meets refl refl k.full (k.empty id v at) (λ _ _ _ _ _ _. refl) t.1 t.0),
+        λ before after r free is. (refl, ap (λ n. get_or s.words n 0) is ∙ links_at s.words before after r v.free.end (subst (λ l. Links s.words l v.free.end) free (k.meets.linked id v at))),
       )
 
   -- ---- taking
-  all_of : List (ℕ × E) → Act (Option (Filled E))
+  all_of : List (ℕ × E) → Act (Option E)
   all_of [] = keeps
-  all_of (x ∷ xs) = table.chain (all_of xs) (takes x.0 (Some (full_slot x.0 x.1)))
+  all_of (x ∷ xs) = table.chain (all_of xs) (takes x.0 (Some x.1))
 
   homes_else : (xs : List (ℕ × E)) (hs : Homes E) (cs : Hand E) (r : ℕ) → in_chain r xs ≡ 0 → get_elem? (homes_after hs cs (all_of xs)) r ≡ get_elem? hs r
   unfolding all_of
@@ -389,11 +432,11 @@ module _ {E : Type 0} where
   carried_all : (xs : List (ℕ × E)) (cs : Hand E) → carried_after cs (all_of xs) ≡ carry xs cs
   unfolding all_of
   carried_all [] cs = refl
-  carried_all (x ∷ xs) cs = ap (λ z. (x.0, Some (full_slot x.0 x.1)) ∷ z) (carried_all xs cs)
+  carried_all (x ∷ xs) cs = ap (λ z. (x.0, Some x.1) ∷ z) (carried_all xs cs)
 
   near_all : (homes : Homes E) (xs : List (ℕ × E)) → FullAtHome homes xs → NearChain (length homes) xs
   near_all homes [] full = tt
-  near_all homes (x ∷ xs) full = (at_length homes x.0 (some (Some (full_slot x.0 x.1))) full.0, near_all homes xs full.1)
+  near_all homes (x ∷ xs) full = (at_length homes x.0 (some (Some x.1)) full.0, near_all homes xs full.1)
 
   pub takes_whole : (slots id : ℕ) (me : SeatState E) → me.0.doing ≡ Idle → me.0.known.share ≢ [] → Allows RuleHolds slots id me HEAD (λ _. 0) (play.after_take (step slots HEAD 0 0 none) me)
   takes_whole slots id me idle named s k deep at fits =
@@ -406,34 +449,34 @@ module _ {E : Type 0} where
       let meets = takes_all s.words xs s.views k.history id v w (name v) k.meets at idle refl refl (omega arith) in
       let t = told s k id (e ∷ []) v w h at named (refl, tt) refl refl meets.legal in
       let homes = homes_after s.homes me.1 (all_of xs) in
-      let stays : (u : View E) (i q : ℕ) → get_elem? s.views i ≡ some u → 1 ≤ times q u.free → get_elem? homes q ≡ get_elem? s.homes q =
+      let stays : (u : View E) (i q : ℕ) → get_elem? s.views i ≡ some u → 1 ≤ times q u.free.rooms → get_elem? homes q ≡ get_elem? s.homes q =
       λ u i q there m. homes_else xs s.homes me.1 q (alone s k i u q there (omega arith)) in (
         w,
         all_of xs,
         valid_all xs s.homes me.1 k.full (λ r. let a = k.meets.apart r in omega arith),
         step_keeps s k id v w (set s.words HEAD 0) homes [] h at meets (length-set s.words HEAD 0) (homes_long xs s.homes me.1) tt
-            (empty_frame s.homes homes v.free (λ q m. stays v id q at m) (k.empty id v at)) (λ i u q other there m. stays u i q there m) t.1 t.0,
+            (empty_frame s.homes homes v.free.rooms (λ q m. stays v id q at m) (k.empty id v at)) (λ i u q other there m. stays u i q there m) t.1 t.0,
         λ _. (xs, spells_start s.words (head s.words) xs k.meets.spelled, refl, refl, carried_all xs me.1, subst (λ n. NearChain n xs) deep (near_all s.homes xs k.full), t.2),
       )
 
-  pub walks_one : (slots id i : ℕ) (me : SeatState E) (x : ℕ × E) (xs : List (ℕ × E)) (cs : Hand E) → i ≡ LINKS + x.0 → me.0.doing ≡ Walking (x ∷ xs) → me.1 ≡ (x.0, None) ∷ cs → x.0 < slots
+  pub walks_one : (slots id i : ℕ) (me : SeatState E) (x : ℕ × E) (xs : List (ℕ × E)) (cs : Hand E) → i ≡ LINKS + x.0 → me.0.doing ≡ Walking (x ∷ xs) → me.1 ≡ (x.0, None) ∷ cs → x.0 < slots → IsTied me.0.free (suc x.0)
       → Allows RuleHolds slots id me i (λ n. n) (play.after_walk (step slots i 0 0 none) me)
-  walks_one slots id i me x xs cs is doing hand inside s k deep at fits =
+  walks_one slots id i me x xs cs is doing hand inside tied s k deep at fits =
       let v = me.0 in
       let r = x.0 in
-      let w : View E = record v { doing = walk_through xs; free = r ∷ v.free } in
-      let y : maybe.Option (Option (Filled E)) = some None in
+      let w : View E = record v { doing = walk_through xs; free = with_last r (start xs) v.free } in
+      let y : maybe.Option (Option E) = some None in
       let here = one_here r in
-      let was : count_with_party r v ≡ times r v.free + (one_if (eqb r r) + in_chain r xs) = ap (λ d. times r v.free + at_work r d) doing in
+      let was : count_with_party r v ≡ times r v.free.rooms + (one_if (eqb r r) + in_chain r xs) = ap (λ d. times r v.free.rooms + at_work r d) doing in
       let mine : 1 ≤ count_with_party r v = omega arith in
-      let none_free : times r v.free ≡ 0 = let o = once s k id v r at in omega arith in
-      let walked = walks s.words k.chain s.views k.history id v w x xs k.meets at doing refl refl in
+      let none_free : times r v.free.rooms ≡ 0 = let o = once s k id v r at in omega arith in
+      let walked = walks s.words k.chain s.views k.history id v w x xs k.meets at doing refl refl tied in
       let moves = slot_moves s k id v r y at mine in
       let t = untold s k id v w at refl in
       let homes = set s.homes r y in
       let long = length-set s.homes r y in
       let kept = step_keeps s k id v w s.words homes k.chain k.history at walked.1 refl long moves.0
-      (empty_cons (set s.homes r y) r v.free (set_here s.homes r y (omega arith)) (empty_else s.homes r y v.free none_free (k.empty id v at))) moves.1 t.1 t.0 in
+      (empty_append (set s.homes r y) v.free.rooms (r ∷ []) (empty_else s.homes r y v.free.rooms none_free (k.empty id v at)) (empty_cons (set s.homes r y) r [] (set_here s.homes r y (omega arith)) (λ i q a. absurd a))) moves.1 t.1 t.0 in
       let few = few_rooms record { words = s.words; homes = homes; views = set s.views id w } kept id w (set_here s.views id w (at_length s.views id v at)) in (
         w,
         gives,
@@ -443,7 +486,7 @@ module _ {E : Type 0} where
             let same = ap to_hand_out (sym doing ∙ doing') in
             let z : (x ≡ x') × (xs ≡ xs') = (ap (first_or x) same, ap rest_from same) in (
               ap (λ n. get_or s.words n 0) is ∙ (walked.0 ∙ ap start z.1),
-              (λ j. let u : View E = record v { doing = walk_through (z.1 j); free = (z.0 j).0 ∷ v.free } in u),
+              (λ j. let u : View E = record v { doing = walk_through (z.1 j); free = with_last (z.0 j).0 (start (z.1 j)) v.free } in u),
               ap rest hand',
               omega arith,
             ),

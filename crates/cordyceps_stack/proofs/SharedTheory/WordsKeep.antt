@@ -10,13 +10,14 @@ use Rattle.cordyceps_shared.specs.Shares.{Name}
 use Rattle.cordyceps_shared.specs.Words.{head, next}
 use Rattle.cordyceps_shared.specs.declared.layout.TheConstants.{HEAD, LINKS}
 use Rattle.cordyceps_shared.proofs.Changing.{one_set}
-use Rattle.cordyceps_shared.proofs.Counting.{tally_set, tally_one, tally_two, tally_snoc, one_here}
+use Rattle.cordyceps_shared.proofs.Counting.{tally_set, tally_one, tally_two, tally_snoc, tally_append, one_here}
 use Rattle.cordyceps_shared.proofs.Seeing.{events_more, without_more}
 use Rattle.cordyceps_shared.proofs.Words.{head_set, next_set, head_beside_next, next_beside_next, next_beside_head}
 use Rattle.cordyceps_stack.specs.History.{Event, Load, Push, Taken, held, held_after, Legal, IsChange, SomeChange}
 use Rattle.cordyceps_stack.specs.Cores.Stages.{room_elements}
-use Rattle.cordyceps_stack.specs.Shared.View.{Doing, Idle, Ready, Loaded, Set, Walking, View, walk_through, in_chain, at_work, count_with_party}
-use Rattle.cordyceps_stack.specs.Shared.Words.{History, start, Spells, Since, AtDoing, WordsMeet}
+use Rattle.cordyceps_stack.specs.Shared.View.{Doing, Idle, Ready, Loaded, Set, Walking, View, with_last, IsTied, walk_through, in_chain, at_work, count_with_party}
+use Rattle.cordyceps_stack.specs.Shared.Words.{History, start, Spells, Links, Since, AtDoing, WordsMeet}
+use Rattle.cordyceps_stack.proofs.SharedTheory.FreeLinks.{links_frame, links_last}
 use Rattle.cordyceps_stack.proofs.Histories.{MayFollow, held_more, legal_more, change_more, change_last}
 
 module _ {E : Type 0} where
@@ -31,7 +32,7 @@ module _ {E : Type 0} where
   spells_start ws h (x ∷ xs) s = s.0
 
   -- what a party has loaded stays loaded while others step
-  since_words : (ws ws' : List ℕ) (h : History E) (j read : ℕ) → head ws' ≡ head ws → Since ws h j read → Since ws' h j read
+  pub since_words : (ws ws' : List ℕ) (h : History E) (j read : ℕ) → head ws' ≡ head ws → Since ws h j read → Since ws' h j read
   since_words ws ws' h j read e s = record {
     before = s.before;
     name = s.name;
@@ -75,6 +76,10 @@ module _ {E : Type 0} where
 pub rooms_differ : (count : ℕ → ℕ) (r s : ℕ) → count r ≡ 0 → 1 ≤ count s → s ≢ r
 rooms_differ count r s none here e = let same : count s ≡ count r = ap count e in omega arith
 
+-- the links of the party's free rooms, where the room is none of them
+pub linked_else : (ws rooms : List ℕ) (end r n : ℕ) → times r rooms ≡ 0 → Links ws rooms end → Links (set ws (LINKS + r) n) rooms end
+linked_else ws rooms end r n none = links_frame ws (set ws (LINKS + r) n) rooms end (λ s k. next_beside_next ws r s n (rooms_differ (λ z. times z rooms) r s none k))
+
 module _ {E : Type 0} where
   at_work_walking : (r : ℕ) (xs : List (ℕ × E)) → at_work r (walk_through xs) ≡ in_chain r xs
   at_work_walking r [] = refl
@@ -96,46 +101,70 @@ module _ {E : Type 0} where
   pub advance : (ws ws' : List ℕ) (chain chain' : List (ℕ × E)) (views : List (View E)) (h h' : History E) (j : ℕ) (v w : View E) → WordsMeet ws chain views h → get_elem? views j ≡ some v
       → Legal (events h') → Spells ws' (head ws') chain' → room_elements chain' ≡ reverse (held (events h'))
       → ((r : ℕ) → in_chain r chain' + count_with_party r w ≤ in_chain r chain + count_with_party r v)
-      → AtDoing ws' h' j w.doing
+      → AtDoing ws' h' j w.doing → Links ws' w.free.rooms w.free.end
       → ((i : ℕ) (u : View E) → i ≢ j → get_elem? views i ≡ some u → AtDoing ws h i u.doing → AtDoing ws' h' i u.doing)
+      → ((i r : ℕ) (u : View E) → i ≢ j → get_elem? views i ≡ some u → 1 ≤ times r u.free.rooms → next ws' r ≡ next ws r)
       → WordsMeet ws' chain' (set views j w) h'
-  advance ws ws' chain chain' views h h' j v w m at legal spelled holds few mine others = record {
+  advance ws ws' chain chain' views h h' j v w m at legal spelled holds few mine linked others same = record {
     legal = legal;
     spelled = spelled;
     holds = holds;
     apart = λ r. omega (arith, m.apart r, few r, tally_set (count_with_party r) views j v w at);
     each = one_set (λ i u. AtDoing ws' h' i u.doing) views j w mine (λ i u ne e. others i u ne e (m.each i u e));
+    linked = one_set (λ _ u. Links ws' u.free.rooms u.free.end) views j w linked (λ i u ne e. links_frame ws ws' u.free.rooms u.free.end (λ r. same i r u ne e) (m.linked i u e));
   }
 
   -- the party's own step changes neither words nor history
   pub rests : (ws : List ℕ) (chain : List (ℕ × E)) (views : List (View E)) (h : History E) (j : ℕ) (v w : View E) → WordsMeet ws chain views h → get_elem? views j ≡ some v
-      → ((r : ℕ) → count_with_party r w ≤ count_with_party r v) → AtDoing ws h j w.doing → WordsMeet ws chain (set views j w) h
-  rests ws chain views h j v w m at few mine = advance ws ws chain chain views h h j v w m at m.legal m.spelled m.holds (λ r. omega (arith, few r)) mine (λ i u other e k. k)
+      → ((r : ℕ) → count_with_party r w ≤ count_with_party r v) → AtDoing ws h j w.doing → Links ws w.free.rooms w.free.end → WordsMeet ws chain (set views j w) h
+  rests ws chain views h j v w m at few mine linked = advance ws ws chain chain views h h j v w m at m.legal m.spelled m.holds (λ r. omega (arith, few r)) mine linked (λ i u other e k. k) (λ _ _ _ _ _ _. refl)
+
+  same_linked : (ws : List ℕ) (views : List (View E)) (j : ℕ) (v w : View E) → get_elem? views j ≡ some v → w.free ≡ v.free → {chain : List (ℕ × E)} {h : History E} → WordsMeet ws chain views h → Links ws w.free.rooms w.free.end
+  same_linked ws views j v w at free m = subst (λ z. Links ws z.rooms z.end) (sym free) (m.linked j v at)
 
   pub loads : (ws : List ℕ) (chain : List (ℕ × E)) (views : List (View E)) (h : History E) (j : ℕ) (v w : View E) (n : Name) → WordsMeet ws chain views h → get_elem? views j ≡ some v
-      → ((r : ℕ) → count_with_party r w ≤ count_with_party r v) → AtDoing ws (h ++ (j, Load n) ∷ []) j w.doing → WordsMeet ws chain (set views j w) (h ++ (j, Load n) ∷ [])
-  loads ws chain views h j v w n m at few mine =
+      → ((r : ℕ) → count_with_party r w ≤ count_with_party r v) → AtDoing ws (h ++ (j, Load n) ∷ []) j w.doing → w.free ≡ v.free → WordsMeet ws chain (set views j w) (h ++ (j, Load n) ∷ [])
+  loads ws chain views h j v w n m at few mine free =
       let h' = h ++ (j, Load n) ∷ [] in
-      advance ws ws chain chain views h h' j v w m at (legal_event h j (Load n) m.legal tt) m.spelled (m.holds ∙ ap (λ es. reverse es) (sym (held_event h j (Load n)))) (λ r. omega (arith, few r)) mine
-      (λ i u other e. does_frame ws ws h h' i u.doing (λ r _. refl) (λ read. since_event ws ws h i read j (Load n) (λ z. other (sym z)) (inl refl)))
+      advance ws ws chain chain views h h' j v w m at (legal_event h j (Load n) m.legal tt) m.spelled (m.holds ∙ ap (λ es. reverse es) (sym (held_event h j (Load n)))) (λ r. omega (arith, few r)) mine (same_linked ws views j v w at free m)
+      (λ i u other e. does_frame ws ws h h' i u.doing (λ r _. refl) (λ read. since_event ws ws h i read j (Load n) (λ z. other (sym z)) (inl refl))) (λ _ _ _ _ _ _. refl)
+
+  -- a store to the link of a room that the party has
+  pub relinks : (ws : List ℕ) (chain : List (ℕ × E)) (views : List (View E)) (h : History E) (j : ℕ) (v w : View E) (r n : ℕ) → WordsMeet ws chain views h → get_elem? views j ≡ some v
+      → 1 ≤ count_with_party r v → ((s : ℕ) → count_with_party s w ≤ count_with_party s v) → AtDoing (set ws (LINKS + r) n) h j w.doing → Links (set ws (LINKS + r) n) w.free.rooms w.free.end
+      → WordsMeet (set ws (LINKS + r) n) chain (set views j w) h
+  relinks ws chain views h j v w r n m at has few mine linked =
+      let ws' = set ws (LINKS + r) n in
+      let alone = tally_one (count_with_party r) views j v at in
+      let apart = m.apart r in
+      let top = head_beside_next ws r n in
+      advance ws ws' chain chain views h h j v w m at m.legal
+      (subst (λ k. Spells ws' k chain) (sym top) (spells_frame ws ws' (head ws) chain (λ s k. next_beside_next ws r s n (rooms_differ (λ z. in_chain z chain) r s (omega arith) k)) m.spelled))
+      m.holds
+      (λ s. omega (arith, few s))
+      mine
+      linked
+      (λ i u other e. let both = tally_two (count_with_party r) views i j u v other e at in
+      does_frame ws ws' h h i u.doing (λ s k. next_beside_next ws r s n (rooms_differ (λ z. at_work z u.doing) r s (omega arith) k)) (λ k. since_words ws ws' h i k top))
+      (λ i s u other e k. let both = tally_two (count_with_party r) views i j u v other e at in
+      next_beside_next ws r s n (rooms_differ (λ z. times z u.free.rooms) r s (omega arith) k))
 
   pub writes : (ws : List ℕ) (chain : List (ℕ × E)) (views : List (View E)) (h : History E) (j : ℕ) (v w : View E) (r read : ℕ) → WordsMeet ws chain views h → get_elem? views j ≡ some v
       → v.doing ≡ Loaded r read → w.doing ≡ Set r read → w.free ≡ v.free → LINKS + r < length ws
       → WordsMeet (set ws (LINKS + r) read) chain (set views j w) h
   writes ws chain views h j v w r read m at was now free inside =
       let ws' = set ws (LINKS + r) read in
-      let mine : count_with_party r v ≡ times r v.free + 1 = ap (λ d. times r v.free + at_work r d) was ∙ ap (λ n. times r v.free + n) (one_here r) in
+      let mine : count_with_party r v ≡ times r v.free.rooms + 1 = ap (λ d. times r v.free.rooms + at_work r d) was ∙ ap (λ n. times r v.free.rooms + n) (one_here r) in
       let alone = tally_one (count_with_party r) views j v at in
       let apart = m.apart r in
       let known : AtDoing ws h j (Loaded r read) = subst (λ (d : Doing E). AtDoing ws h j d) was (m.each j v at) in
-      let top = head_beside_next ws r read in
-      advance ws ws' chain chain views h h j v w m at m.legal
-      (subst (λ n. Spells ws' n chain) (sym top) (spells_frame ws ws' (head ws) chain (λ s k. next_beside_next ws r s read (rooms_differ (λ z. in_chain z chain) r s (omega arith) k)) m.spelled))
-      m.holds
-      (λ s. let a : count_with_party s w ≡ times s v.free + one_if (eqb r s) = (λ i. times s (free i) + at_work s (now i)) in let b : count_with_party s v ≡ times s v.free + one_if (eqb r s) = ap (λ d. times s v.free + at_work s d) was in omega arith)
-      (subst (λ (d : Doing E). AtDoing ws' h j d) (sym now) (next_set ws r read inside, since_words ws ws' h j read top known))
-      (λ i u other e. let both = tally_two (count_with_party r) views i j u v other e at in
-      does_frame ws ws' h h i u.doing (λ s k. next_beside_next ws r s read (rooms_differ (λ z. at_work z u.doing) r s (omega arith) k)) (λ n. since_words ws ws' h i n top))
+      relinks ws chain views h j v w r read m at (omega arith)
+      (λ s. let a : count_with_party s w ≡ times s v.free.rooms + one_if (eqb r s) = (λ i. times s (free i).rooms + at_work s (now i)) in let b : count_with_party s v ≡ times s v.free.rooms + one_if (eqb r s) = ap (λ d. times s v.free.rooms + at_work s d) was in omega arith)
+      (subst (λ (d : Doing E). AtDoing ws' h j d) (sym now) (next_set ws r read inside, since_words ws ws' h j read (head_beside_next ws r read) known))
+      (subst (λ z. Links ws' z.rooms z.end) (sym free) (linked_else ws v.free.rooms v.free.end r read (omega arith) (m.linked j v at)))
+
+  links_beside_head : (ws : List ℕ) (views : List (View E)) (j : ℕ) (v w : View E) (n : ℕ) → get_elem? views j ≡ some v → w.free ≡ v.free → {chain : List (ℕ × E)} {h : History E} → WordsMeet ws chain views h → Links (set ws HEAD n) w.free.rooms w.free.end
+  links_beside_head ws views j v w n at free m = links_frame ws (set ws HEAD n) w.free.rooms w.free.end (λ s _. next_beside_head ws s n) (same_linked ws views j v w at free m)
 
   pub pushes : (ws : List ℕ) (chain : List (ℕ × E)) (views : List (View E)) (h : History E) (j : ℕ) (v w : View E) (r read : ℕ) (n : Name) (x : E) → WordsMeet ws chain views h → get_elem? views j ≡ some v
       → v.doing ≡ Set r read → w.doing ≡ Idle → w.free ≡ v.free → head ws ≡ read → HEAD < length ws
@@ -148,9 +177,11 @@ module _ {E : Type 0} where
       advance ws ws' chain ((r, x) ∷ chain) views h h' j v w m at (legal_event h j (Push n x) m.legal tt)
       (head_set ws (suc r) inside, subst (λ k. Spells ws' k chain) (sym below) (spells_frame ws ws' (head ws) chain (λ s k. next_beside_head ws s (suc r)) m.spelled))
       (ap (λ (l : List E). x ∷ l) m.holds ∙ (sym (reverse-append (held (events h)) (x ∷ [])) ∙ ap (λ es. reverse es) (sym (held_event h j (Push n x)))))
-      (λ s. let a : count_with_party s w ≡ times s v.free + 0 = (λ i. times s (free i) + at_work s (now i)) in let b : count_with_party s v ≡ times s v.free + one_if (eqb r s) = ap (λ d. times s v.free + at_work s d) was in omega arith)
+      (λ s. let a : count_with_party s w ≡ times s v.free.rooms + 0 = (λ i. times s (free i).rooms + at_work s (now i)) in let b : count_with_party s v ≡ times s v.free.rooms + one_if (eqb r s) = ap (λ d. times s v.free.rooms + at_work s d) was in omega arith)
       (subst (λ (d : Doing E). AtDoing ws' h' j d) (sym now) tt)
+      (links_beside_head ws views j v w (suc r) at free m)
       (λ i u other e. does_frame ws ws' h h' i u.doing (λ s k. next_beside_head ws s (suc r)) (λ k. since_event ws ws' h i k j (Push n x) (λ z. other (sym z)) (inr tt)))
+      (λ _ s _ _ _ _. next_beside_head ws s (suc r))
 
   pub takes_all : (ws : List ℕ) (chain : List (ℕ × E)) (views : List (View E)) (h : History E) (j : ℕ) (v w : View E) (n : Name) → WordsMeet ws chain views h → get_elem? views j ≡ some v
       → v.doing ≡ Idle → w.doing ≡ walk_through chain → w.free ≡ v.free → HEAD < length ws
@@ -161,33 +192,38 @@ module _ {E : Type 0} where
       let h' = h ++ (j, x) ∷ [] in
       let empty = head_set ws 0 inside in
       advance ws ws' chain [] views h h' j v w m at (legal_event h j x m.legal m.holds) empty (ap (λ es. reverse es) (sym (held_event h j x)))
-      (λ s. let a : count_with_party s w ≡ times s v.free + in_chain s chain = (λ i. times s (free i) + at_work s (now i)) ∙ ap (λ k. times s v.free + k) (at_work_walking s chain) in
-      let b : count_with_party s v ≡ times s v.free + 0 = ap (λ d. times s v.free + at_work s d) was in omega arith)
+      (λ s. let a : count_with_party s w ≡ times s v.free.rooms + in_chain s chain = (λ i. times s (free i).rooms + at_work s (now i)) ∙ ap (λ k. times s v.free.rooms + k) (at_work_walking s chain) in
+      let b : count_with_party s v ≡ times s v.free.rooms + 0 = ap (λ d. times s v.free.rooms + at_work s d) was in omega arith)
       (subst (λ (d : Doing E). AtDoing ws' h' j d) (sym now) (walks_on ws ws' h' j chain (λ s. next_beside_head ws s 0) m.spelled))
+      (links_beside_head ws views j v w 0 at free m)
       (λ i u other e. does_frame ws ws' h h' i u.doing (λ s k. next_beside_head ws s 0) (λ k. since_event ws ws' h i k j x (λ z. other (sym z)) (emptied ws ws' n chain empty m.spelled)))
+      (λ _ s _ _ _ _. next_beside_head ws s 0)
 
   pub walks : (ws : List ℕ) (chain : List (ℕ × E)) (views : List (View E)) (h : History E) (j : ℕ) (v w : View E) (x : ℕ × E) (xs : List (ℕ × E)) → WordsMeet ws chain views h → get_elem? views j ≡ some v
-      → v.doing ≡ Walking (x ∷ xs) → w.doing ≡ walk_through xs → w.free ≡ x.0 ∷ v.free
+      → v.doing ≡ Walking (x ∷ xs) → w.doing ≡ walk_through xs → w.free ≡ with_last x.0 (start xs) v.free → IsTied v.free (suc x.0)
       → (next ws x.0 ≡ start xs) × WordsMeet ws chain (set views j w) h
-  walks ws chain views h j v w x xs m at was now free =
+  walks ws chain views h j v w x xs m at was now free tied =
       let known : AtDoing ws h j (Walking (x ∷ xs)) = subst (λ (d : Doing E). AtDoing ws h j d) was (m.each j v at) in
       let below = spells_start ws (next ws x.0) xs known.1 in (
         below,
         rests ws chain views h j v w m at
-            (λ s. let a : count_with_party s w ≡ one_if (eqb x.0 s) + times s v.free + in_chain s xs = (λ i. times s (free i) + at_work s (now i)) ∙ ap (λ k. one_if (eqb x.0 s) + times s v.free + k) (at_work_walking s xs) in
-            let b : count_with_party s v ≡ times s v.free + (one_if (eqb x.0 s) + in_chain s xs) = ap (λ d. times s v.free + at_work s d) was in omega arith)
-            (subst (λ (d : Doing E). AtDoing ws h j d) (sym now) (walks_rest ws h j xs (subst (λ n. Spells ws n xs) below known.1))),
+            (λ s. let a : count_with_party s w ≡ times s (v.free.rooms ++ x.0 ∷ []) + in_chain s xs = (λ i. times s (free i).rooms + at_work s (now i)) ∙ ap (λ k. times s (v.free.rooms ++ x.0 ∷ []) + k) (at_work_walking s xs) in
+            let b : count_with_party s v ≡ times s v.free.rooms + (one_if (eqb x.0 s) + in_chain s xs) = ap (λ d. times s v.free.rooms + at_work s d) was in
+            let more = tally_append (λ z. one_if (eqb z s)) v.free.rooms (x.0 ∷ []) in omega arith)
+            (subst (λ (d : Doing E). AtDoing ws h j d) (sym now) (walks_rest ws h j xs (subst (λ n. Spells ws n xs) below known.1)))
+            (subst (λ z. Links ws z.rooms z.end) (sym free) (links_last ws v.free.rooms v.free.end x.0 (start xs) tied below (m.linked j v at))),
       )
 
   -- a party is cut in two
   pub forks : (ws : List ℕ) (chain : List (ℕ × E)) (views : List (View E)) (h : History E) (j : ℕ) (v left right : View E) → WordsMeet ws chain views h → get_elem? views j ≡ some v
-      → ((r : ℕ) → count_with_party r left + count_with_party r right ≤ count_with_party r v) → AtDoing ws h j left.doing → ((i : ℕ) → AtDoing ws h i right.doing)
+      → ((r : ℕ) → count_with_party r left + count_with_party r right ≤ count_with_party r v) → AtDoing ws h j left.doing → ((i : ℕ) → AtDoing ws h i right.doing) → Links ws left.free.rooms left.free.end → Links ws right.free.rooms right.free.end
       → WordsMeet ws chain (set views j left ++ right ∷ []) h
-  forks ws chain views h j v left right m at few here there =
-      let one = rests ws chain views h j v left m at (λ r. let f = few r in omega arith) here in record {
+  forks ws chain views h j v left right m at few here there keeps gives =
+      let one = rests ws chain views h j v left m at (λ r. let f = few r in omega arith) here keeps in record {
         legal = m.legal;
         spelled = m.spelled;
         holds = m.holds;
         apart = λ r. omega (arith, m.apart r, few r, tally_set (count_with_party r) views j v left at, tally_snoc (count_with_party r) (set views j left) right);
         each = λ i u e. ⊎_elim (one.each i u) (λ (t : right ≡ u). subst (λ (z : View E). AtDoing ws h i z.doing) t (there i)) (at_snoc (set views j left) right u i e);
+        linked = λ i u e. ⊎_elim (one.linked i u) (λ (t : right ≡ u). subst (λ (z : View E). Links ws z.free.rooms z.free.end) t gives) (at_snoc (set views j left) right u i e);
       }

@@ -1,16 +1,18 @@
 -- What the parts of a call on a shared transfer stack leave: of the party's seat m before, and of its seat k after.
-use Rattle.std.specs.Prelude.{◌≡◌, ℕ, ◌+◌, ◌<◌, ◌≤◌, List, [], ◌∷◌, ◌++◌, length, replicate, Some, Bool, true, false}
+use Rattle.std.specs.Prelude.{◌≡◌, ◌≢◌, ℕ, suc, ◌+◌, ◌≤◌, List, [], ◌∷◌, ◌++◌, length, replicate, Bool, true, false}
 use Rattle.std.specs.Prelude.{IsTrue}
 use Rattle.atomic_table.specs.Seated.{TableId}
 use Rattle.cordyceps_shared.specs.Histories.{plain, AllOwn}
 use Rattle.cordyceps_shared.specs.Shares.{whole, IsShare}
-use Rattle.cordyceps_shared.specs.declared.slots.Filled.{Filled}
+use Rattle.cordyceps_stack.specs.declared.shared.free.FreeRooms.{FreeRooms}
 use Rattle.cordyceps_stack.specs.History.{Load, Push, Taken, Legal}
 use Rattle.cordyceps_stack.specs.Cores.Stages.{room_elements}
+use Rattle.cordyceps_stack.specs.Shared.Parting.{view_absorbing, view_without_told}
 use Rattle.cordyceps_stack.specs.Shared.Plays.{SeatState, Sees, IsResting, IsReady, IsWalking, to_hand_out}
 use Rattle.cordyceps_stack.specs.Shared.Rule.{IsTable}
 use Rattle.cordyceps_stack.specs.Shared.Calls.{PartyOf, EndsPushed, IsOvertaken}
-use Rattle.cordyceps_stack.specs.Shared.View.{Idle, Ready, Loaded, Set, View, name}
+use Rattle.cordyceps_stack.specs.Shared.View.{Idle, Ready, Loaded, View, FreeChain, name, leads, with_first}
+use Rattle.cordyceps_stack.specs.Shared.View.{with_last, IsTied}
 use Rattle.cordyceps_stack.specs.Shared.Words.{start}
 use Rattle.cordyceps_shared.specs.Slots.{view, hand}
 
@@ -18,11 +20,36 @@ use Rattle.cordyceps_shared.specs.Slots.{view, hand}
 abbrev pub IsSeatOf : TableId → TableId → Type 0
 IsSeatOf seat table = (seat ≡ table) × IsTable table
 
+-- what a party has of its free rooms: their number, and the first and the last if there is one
+pub record Tracks (free : FreeRooms) (chain : FreeChain) : Type 0 where
+  pub count : free.count ≡ length chain.rooms
+  pub first : (r : ℕ) (rs : List ℕ) → chain.rooms ≡ r ∷ rs → free.first ≡ suc r
+  pub last : (before : List ℕ) (r : ℕ) → chain.rooms ≡ before ++ r ∷ [] → free.last ≡ r
+
 module _ {E : Type 0} where
-  -- a push has begun: the slot of the first free room is in hand, and filled
-  pub record IsFilled (slots : ℕ) (full : Filled E) (m k : SeatState E) : Type 0 where
-    pub ready : IsReady slots full.ticket full.item k
-    pub free : (view m).free ≡ full.ticket ∷ (view k).free
+  -- the last free room has another link, if any, and all else is as before
+  pub record Relinked (m k : SeatState E) : Type 0 where
+    pub known : (view k).known ≡ (view m).known
+    pub doing : (view k).doing ≡ (view m).doing
+    pub rooms : (view k).free.rooms ≡ (view m).free.rooms
+    pub hand : hand k ≡ hand m
+
+  -- and it leads to the room at this word, if any
+  abbrev pub Ties : ℕ → SeatState E → SeatState E → Type 0
+  Ties at m k = Relinked m k × (at ≢ 0 → IsTied (view k).free at)
+
+  -- it has absorbed another seat, and has seen what the two had seen
+  pub record HasAbsorbed (m other k : SeatState E) : Type 0 where
+    pub known : (view k).known ≡ (view_without_told (view_absorbing (view m) (view other))).known
+    pub doing : (view k).doing ≡ Idle
+    pub rooms : (view k).free.rooms ≡ (view m).free.rooms ++ (view other).free.rooms
+    pub hand : hand k ≡ []
+
+  -- a push has begun: the slot of the first free room is in hand, and filled, and this word leads to the next
+  pub record IsFilled (slots room next : ℕ) (x : E) (m k : SeatState E) : Type 0 where
+    pub ready : IsReady slots room x k
+    pub free : (view m).free ≡ with_first room (view k).free
+    pub next_is : next ≡ leads (view k).free.rooms (view k).free.end
     pub known : (view k).known ≡ (view m).known
 
   -- it read head
@@ -58,8 +85,8 @@ module _ {E : Type 0} where
     pub ends : EndsPushed x (IsTrue first) (name (view m)) (view k).known.seen
 
   -- a party that rested has pushed, at the last of so many tries
-  pub record HasPushed (tries ticket : ℕ) (x : E) (first : Bool) (m k : SeatState E) : Type 0 where
-    pub free : (view m).free ≡ ticket ∷ (view k).free
+  pub record HasPushed (tries : ℕ) (x : E) (first : Bool) (m k : SeatState E) : Type 0 where
+    pub free : length (view m).free.rooms ≡ suc (length (view k).free.rooms)
     pub sees : Sees (view m) (replicate tries (Load (name (view m))) ++ Push (name (view m)) x ∷ []) (view k)
     pub ends : EndsPushed x (IsTrue first) (name (view m)) (view k).known.seen
 
@@ -71,31 +98,31 @@ module _ {E : Type 0} where
     pub sees : Sees (view m) (Taken (name (view m)) (room_elements (to_hand_out (view k).doing)) ∷ []) (view k)
 
   -- it has handed out one more, and this word leads to the next
-  pub record Walked (slots : ℕ) (full : Filled E) (below : ℕ) (m k : SeatState E) : Type 0 where
-    pub batch : to_hand_out (view m).doing ≡ (full.ticket, full.item) ∷ to_hand_out (view k).doing
+  pub record Walked (slots room : ℕ) (x : E) (below : ℕ) (m k : SeatState E) : Type 0 where
+    pub batch : to_hand_out (view m).doing ≡ (room, x) ∷ to_hand_out (view k).doing
     pub walking : IsWalking slots (to_hand_out (view k).doing) k
     pub below_is : below ≡ start (to_hand_out (view k).doing)
-    pub free : (view k).free ≡ full.ticket ∷ (view m).free
+    pub free : (view k).free ≡ with_last room below (view m).free
     pub known : (view k).known ≡ (view m).known
-    pub few : length (view k).free ≤ slots
+    pub few : length (view k).free.rooms ≤ slots
 
   -- all that it had in hand is handed out
   pub record EmptiesHand (slots : ℕ) (m k : SeatState E) : Type 0 where
     pub rests : IsResting slots k
     pub known : (view k).known ≡ (view m).known
-    pub free : length (view k).free ≡ length (view m).free + length (to_hand_out (view m).doing)
+    pub free : length (view k).free.rooms ≡ length (view m).free.rooms + length (to_hand_out (view m).doing)
 
   -- ---- parties
   -- what a contract sees of a party with this seat
   abbrev pub standing : TableId → View E → PartyOf E
-  standing z v = record { table = z; seen = v.known.seen; share = v.known.share; rooms = length v.free }
+  standing z v = record { table = z; seen = v.known.seen; share = v.known.share; rooms = length v.free.rooms }
 
-  -- the party is between two calls, has the tickets of its free rooms, and has seen a legal history, a whole party with
-  -- no event of another; and its names are a share
-  pub record IsSeated (z : TableId) (m : SeatState E) (tickets : List ℕ) : Type 0 where
+  -- the party is between two calls, has its free rooms, and has seen a legal history, a whole party with no event of
+  -- another; and its names are a share
+  pub record IsSeated (z : TableId) (m : SeatState E) (free : FreeRooms) : Type 0 where
     pub table : IsTable z
     pub rests : IsResting z.slots m
-    pub free : (view m).free ≡ tickets
+    pub tracks : Tracks free (view m).free
     pub legal : Legal (plain (view m).known.seen)
     pub alone : (view m).known.share ≡ whole → AllOwn (view m).known.seen
     pub share : IsShare (view m).known.share

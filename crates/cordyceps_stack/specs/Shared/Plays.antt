@@ -1,16 +1,16 @@
 -- What each atomic step tells a party of a transfer stack: of its seat m before, of the word that it found, and of its
 -- seat k after. A seat has a view, and the slots in hand, the last taken first.
-use Rattle.std.specs.Prelude.{◌≡◌, ◌≢◌, ℕ, ◌+◌, ◌<◌, ◌≤◌, List, [], ◌∷◌, length, Option, Some, None}
+use Rattle.std.specs.Prelude.{◌≡◌, ◌≢◌, ℕ, ◌+◌, ◌<◌, ◌≤◌, List, [], ◌∷◌, ◌++◌, length, Some, None}
 use Rattle.cordyceps_shared.specs.Knowing.{Grown}
 use Rattle.cordyceps_shared.specs.Shares.{Name}
 use Rattle.cordyceps_shared.specs.declared.layout.TheConstants.{LINKS}
-use Rattle.cordyceps_shared.specs.declared.slots.Filled.{Filled}
 use Rattle.cordyceps_stack.specs.History.{Event, Load, Push, Taken, Legal, actor}
 use Rattle.cordyceps_stack.specs.Cores.Stages.{room_elements}
 use Rattle.cordyceps_stack.specs.Shared.Calls.{EndsPushed, EndsLooked, IsOvertaken}
 use Rattle.cordyceps_stack.specs.Shared.View.{Doing, Idle, Ready, Loaded, Set, Walking, View, name, walk_through}
+use Rattle.cordyceps_stack.specs.Shared.View.{leads, with_first, with_last}
 use Rattle.cordyceps_stack.specs.Shared.Words.{start}
-use Rattle.cordyceps_shared.specs.Slots.{Hand, Near, TableStep, SeatWith, view, hand, full_slot}
+use Rattle.cordyceps_shared.specs.Slots.{Hand, Near, TableStep, SeatWith, view, hand}
 
 abbrev pub SeatState : Type 0 → Type 0
 SeatState E = SeatWith E (View E)
@@ -23,7 +23,7 @@ module _ {E : Type 0} where
   -- the filled slots of these rooms, before others in hand
   abbrev pub carry : List (ℕ × E) → Hand E → Hand E
   carry [] cs = cs
-  carry (x ∷ xs) cs = (x.0, Some (full_slot x.0 x.1)) ∷ carry xs cs
+  carry (x ∷ xs) cs = (x.0, Some x.1) ∷ carry xs cs
 
   -- the chain's rooms are of a table with that many slots
   abbrev pub NearChain : ℕ → List (ℕ × E) → Type 0
@@ -46,12 +46,14 @@ module _ {E : Type 0} where
       × Sees (view m) (Load (name (view m)) ∷ []) (view k)
       × EndsLooked (read ≡ 0) (name (view m)) (view k).known.seen
 
-  -- a read of the link of its first free room by a party that begins to push: the room's slot is in hand
+  -- a read of the link of its first free room by a party that begins to push: it finds the word that leads to the next,
+  -- and the room's slot is in hand
   abbrev pub after_ready : TableStep E → SeatState E → ℕ → SeatState E → Type 0
-  after_ready st m found k = (r : ℕ) (rs : List ℕ) → (view m).free ≡ r ∷ rs
-      → (st.word ≡ LINKS + r) × (view k ≡ record (view m) { doing = Ready r; free = rs })
+  after_ready st m found k = (r : ℕ) (rs : List ℕ) → (view m).free.rooms ≡ r ∷ rs
+      → (st.word ≡ LINKS + r) × (view k ≡ record (view m) { doing = Ready r; free = record (view m).free { rooms = rs } })
       × (hand k ≡ (r, None) ∷ hand m)
       × (r < st.slots)
+      × (found ≡ leads rs (view m).free.end)
 
   -- a load of head by a party that pushes
   abbrev pub after_load : TableStep E → SeatState E → ℕ → SeatState E → Type 0
@@ -66,19 +68,20 @@ module _ {E : Type 0} where
 
   -- a compare-exchange of head
   abbrev pub after_exchange : TableStep E → SeatState E → ℕ → SeatState E → Type 0
-  after_exchange st m found k = (r read : ℕ) (x : Filled E) (cs : Hand E) → (view m).doing ≡ Set r read
+  after_exchange st m found k = (r read : ℕ) (x : E) (cs : Hand E) → (view m).doing ≡ Set r read
       → hand m ≡ (r, Some x) ∷ cs
       → (found ≡ read → ((view k).doing ≡ Idle) × ((view k).free ≡ (view m).free) × (hand k ≡ cs)
-      × Sees (view m) (Push (name (view m)) x.item ∷ []) (view k)
-      × EndsPushed x.item (found ≡ 0) (name (view m)) (view k).known.seen)
+      × Sees (view m) (Push (name (view m)) x ∷ []) (view k)
+      × EndsPushed x (found ≡ 0) (name (view m)) (view k).known.seen)
       × (found ≢ read → ((view k).doing ≡ Ready r) × ((view k).free ≡ (view m).free) × (hand k ≡ hand m)
       × Sees (view m) [] (view k)
       × IsOvertaken (view k).known.seen)
 
-  -- a read of the link of a room that is not pushed: its slot goes back
+  -- a store that links a room that is not pushed to the first free room: its slot goes back
   abbrev pub after_return : TableStep E → SeatState E → ℕ → SeatState E → Type 0
-  after_return st m found k = (r : ℕ) (cs : Hand E) → (view m).doing ≡ Ready r → hand m ≡ (r, None) ∷ cs
-      → (st.word ≡ LINKS + r) × (view k ≡ record (view m) { doing = Idle; free = r ∷ (view m).free }) × (hand k ≡ cs)
+  after_return st m n k = (r : ℕ) (cs : Hand E) → (view m).doing ≡ Ready r → hand m ≡ (r, None) ∷ cs
+      → (st.word ≡ LINKS + r) × (view k ≡ record (view m) { doing = Idle; free = with_first r (view m).free })
+      × (hand k ≡ cs)
 
   -- a swap of head: the slots of all that was held are in hand
   abbrev pub after_take : TableStep E → SeatState E → ℕ → SeatState E → Type 0
@@ -88,27 +91,39 @@ module _ {E : Type 0} where
       × (hand k ≡ carry chain (hand m)) × NearChain st.slots chain
       × Sees (view m) (Taken (name (view m)) (room_elements chain) ∷ []) (view k)
 
-  -- a read of the link of the next room to be handed out: its slot goes back
+  -- a store that links the last free room to what will be after it
+  abbrev pub after_tie : TableStep E → SeatState E → ℕ → SeatState E → Type 0
+  after_tie st m n k =
+      (view k ≡ record (view m) { free = record (view m).free { end = n } }) × (hand k ≡ hand m)
+
+  -- a read of the link of a free room
+  abbrev pub after_skip : TableStep E → SeatState E → ℕ → SeatState E → Type 0
+  after_skip st m found k = (before after : List ℕ) (r : ℕ) → (view m).free.rooms ≡ before ++ r ∷ after
+      → st.word ≡ LINKS + r
+      → (k ≡ m) × (found ≡ leads after (view m).free.end)
+
+  -- a read of the link of the next room to be handed out: its slot goes back, and it is the last free room
   abbrev pub after_walk : TableStep E → SeatState E → ℕ → SeatState E → Type 0
   after_walk st m found k =
       (x : ℕ × E) (xs : List (ℕ × E)) (cs : Hand E) → (view m).doing ≡ Walking (x ∷ xs) → hand m ≡ (x.0, None) ∷ cs
-      → (found ≡ start xs) × (view k ≡ record (view m) { doing = walk_through xs; free = x.0 ∷ (view m).free })
+      → (found ≡ start xs)
+      × (view k ≡ record (view m) { doing = walk_through xs; free = with_last x.0 (start xs) (view m).free })
       × (hand k ≡ cs)
-      × (length (view k).free ≤ st.slots)
+      × (length (view k).free.rooms ≤ st.slots)
 
   -- ---- between the steps
   -- the party is between two calls
   abbrev pub IsResting : ℕ → SeatState E → Type 0
-  IsResting slots m = ((view m).doing ≡ Idle) × (hand m ≡ []) × ((view m).known.share ≢ []) × Near slots (view m).free
+  IsResting slots m = ((view m).doing ≡ Idle) × (hand m ≡ []) × ((view m).known.share ≢ []) × Near slots (view m).free.rooms
 
   -- the party pushes what is in the slot in hand, which is this room's
   abbrev pub IsReady : ℕ → ℕ → E → SeatState E → Type 0
   IsReady slots room x m =
-      ((view m).doing ≡ Ready room) × (hand m ≡ (room, Some (full_slot room x)) ∷ []) × ((view m).known.share ≢ [])
-      × Near slots (view m).free × (room < slots)
+      ((view m).doing ≡ Ready room) × (hand m ≡ (room, Some x) ∷ []) × ((view m).known.share ≢ [])
+      × Near slots (view m).free.rooms × (room < slots)
 
   -- the party has these rooms to hand out, and their slots in hand
   abbrev pub IsWalking : ℕ → List (ℕ × E) → SeatState E → Type 0
   IsWalking slots xs m =
       ((view m).doing ≡ walk_through xs) × (hand m ≡ carry xs []) × NearChain slots xs × ((view m).known.share ≢ [])
-      × Near slots (view m).free
+      × Near slots (view m).free.rooms

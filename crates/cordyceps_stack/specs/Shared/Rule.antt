@@ -6,21 +6,20 @@ use Rattle.atomic_table.specs.Table.{State}
 use Rattle.atomic_table.specs.Seated.{TableId}
 use Rattle.cordyceps_base.specs.declared.shared.TheConstants.{MAX_ROOMS}
 use Rattle.cordyceps_shared.specs.Knowing.{SharesDisjoint, AllAgree}
-use Rattle.cordyceps_shared.specs.Slots.{Homes, full_slot, EmptyAtHome}
+use Rattle.cordyceps_shared.specs.Slots.{Homes, EmptyAtHome}
 use Rattle.cordyceps_shared.specs.declared.layout.TheConstants.{LINKS}
-use Rattle.cordyceps_shared.specs.declared.slots.Filled.{Filled}
 use Rattle.cordyceps_stack.specs.History.{actor}
 use Rattle.cordyceps_stack.specs.Shared.View.{View, knows}
 use Rattle.cordyceps_stack.specs.Shared.Words.{History, WordsMeet}
 
 abbrev pub TableState : Type 0 → Type 0
-TableState E = State (Option (Filled E)) (View E)
+TableState E = State (Option E) (View E)
 
 module _ {E : Type 0} where
   -- the slots of the chain's rooms are at home, each with its element
   abbrev pub FullAtHome : Homes E → List (ℕ × E) → Type 0
   FullAtHome homes [] = Unit {0}
-  FullAtHome homes (x ∷ xs) = (get_elem? homes x.0 ≡ some (some (Some (full_slot x.0 x.1)))) × FullAtHome homes xs
+  FullAtHome homes (x ∷ xs) = (get_elem? homes x.0 ≡ some (some (Some x.1))) × FullAtHome homes xs
 
   -- there is one history, which the words, the slots and the parties meet, and of which each party has seen a prefix
   pub record RuleHolds (s : TableState E) : Type 0 where
@@ -29,7 +28,7 @@ module _ {E : Type 0} where
     pub meets : WordsMeet s.words chain s.views history
     pub wide : length s.words ≡ LINKS + length s.homes
     pub full : FullAtHome s.homes chain
-    pub empty : (j : ℕ) (v : View E) → get_elem? s.views j ≡ some v → EmptyAtHome s.homes v.free
+    pub empty : (j : ℕ) (v : View E) → get_elem? s.views j ≡ some v → EmptyAtHome s.homes v.free.rooms
     pub fits : AllAgree actor knows s.views history
     pub owned : SharesDisjoint knows s.views history
 

@@ -1,5 +1,5 @@
 -- What a party of a shared transfer stack knows and does, as the rule of the stack's table sees it.
-use Rattle.std.specs.Prelude.{ℕ, List, [], ◌∷◌, nat_eq, ◌+◌}
+use Rattle.std.specs.Prelude.{◌≡◌, ◌⊎◌, ℕ, suc, List, [], ◌∷◌, ◌++◌, nat_eq, ◌+◌}
 use Rattle.cordyceps_shared.specs.Counts.{tally, one_if, times, below}
 use Rattle.cordyceps_shared.specs.Knowing.{Known}
 use Rattle.cordyceps_shared.specs.Knowing as knowing
@@ -18,10 +18,30 @@ pub data Doing (E : Type 0) : Type 0 where
   -- it has these rooms yet to hand out, with their elements
   Walking : List (ℕ × E) → Doing E
 
+-- free rooms in the order in which they are used, whose links lead from each to the next; and the last one's link
+pub record FreeChain : Type 0 where
+  pub rooms : List ℕ
+  pub end : ℕ
+
+-- the word that leads to the first of these rooms, and to what is after them if there is none
+abbrev pub leads : List ℕ → ℕ → ℕ
+leads [] end = end
+leads (r ∷ rs) end = suc r
+
+abbrev pub with_first : ℕ → FreeChain → FreeChain
+with_first r chain = record { rooms = r ∷ chain.rooms; end = chain.end }
+
+abbrev pub with_last : ℕ → ℕ → FreeChain → FreeChain
+with_last r end chain = record { rooms = chain.rooms ++ r ∷ []; end = end }
+
+-- there is no free room, or the last one's link is this word
+abbrev pub IsTied : FreeChain → ℕ → Type 0
+IsTied chain at = (chain.rooms ≡ []) ⊎ (chain.end ≡ at)
+
 -- what the party knows of the history, its free rooms, and what it does
 pub record View (E : Type 0) : Type 0 where
   pub known : Known (Event Name E)
-  pub free : List ℕ
+  pub free : FreeChain
   pub doing : Doing E
 
 module _ {E : Type 0} where
@@ -30,7 +50,7 @@ module _ {E : Type 0} where
 
   -- the party of a new stack
   abbrev pub newcomer : ℕ → View E
-  newcomer rooms = record { known = knowing.newcomer; free = below rooms; doing = Idle }
+  newcomer rooms = record { known = knowing.newcomer; free = record { rooms = below rooms; end = 0 }; doing = Idle }
 
   -- the name under which the party acts
   abbrev pub name : View E → Name
@@ -53,4 +73,4 @@ module _ {E : Type 0} where
   at_work r (Walking xs) = in_chain r xs
 
   abbrev pub count_with_party : ℕ → View E → ℕ
-  count_with_party r v = times r v.free + at_work r v.doing
+  count_with_party r v = times r v.free.rooms + at_work r v.doing

@@ -1,16 +1,17 @@
 -- The words of a shared transfer stack, and what they and its parties have to do with the history.
 -- Each word is 0 for null, or 1 more than a room.
-use Rattle.std.specs.Prelude.{◌≡◌, ◌⊎◌, ℕ, suc, ◌+◌, ◌≤◌, List, [], ◌∷◌, ◌++◌, reverse}
+use Rattle.std.specs.Prelude.{◌≡◌, ◌⊎◌, ℕ, suc, ◌+◌, ◌<◌, ◌≤◌, List, [], ◌∷◌, ◌++◌, length, reverse}
 use mathlib.Core.Option.{some}
 use lib.ListN.{get_elem?}
 use Rattle.cordyceps_shared.specs.Counts.{tally}
 use Rattle.cordyceps_shared.specs.Histories.{events, NoneOf}
 use Rattle.cordyceps_shared.specs.Shares.{Name}
 use Rattle.cordyceps_shared.specs.Words.{head, next}
+use Rattle.cordyceps_shared.specs.declared.layout.TheConstants.{LINKS}
 use Rattle.cordyceps_stack.specs.History.{Event, Load, held, Legal, SomeChange}
 use Rattle.cordyceps_stack.specs.Cores.Stages.{room_elements}
 use Rattle.cordyceps_stack.specs.Shared.View.{Doing, Idle, Ready, Loaded, Set, Walking, View, in_chain}
-use Rattle.cordyceps_stack.specs.Shared.View.{count_with_party}
+use Rattle.cordyceps_stack.specs.Shared.View.{count_with_party, leads}
 
 -- each event with the seat of its party
 abbrev pub History : Type 0 → Type 0
@@ -25,6 +26,17 @@ start (x ∷ xs) = suc x.0
 abbrev pub Spells : {E : Type 0} → List ℕ → ℕ → List (ℕ × E) → Type 0
 Spells words h [] = h ≡ 0
 Spells words h (x ∷ xs) = (h ≡ suc x.0) × Spells words (next words x.0) xs
+
+-- the links lead from each of these rooms to the next, and the last one's is this word
+abbrev pub Links : List ℕ → List ℕ → ℕ → Type 0
+Links words [] end = Unit {0}
+Links words (r ∷ rs) end = (next words r ≡ leads rs end) × Links words rs end
+
+-- the words of a new stack, all of whose rooms are free
+pub record AreNew (words : List ℕ) (rooms : ℕ) : Type 0 where
+  pub wide : length words ≡ LINKS + rooms
+  pub empty : head words ≡ 0
+  pub linked : (r : ℕ) → r < rooms → next words r ≡ r
 
 module _ {E : Type 0} where
   -- the last event of seat j is a load, at which it read this; and where head is another now, it was changed since
@@ -44,8 +56,8 @@ module _ {E : Type 0} where
   AtDoing words history j (Set r read) = (next words r ≡ read) × Since words history j read
   AtDoing words history j (Walking xs) = Spells words (start xs) xs
 
-  -- the history is legal, what it holds is in the chain, no room is in two places, and each party does what its events
-  -- led it to
+  -- the history is legal, what it holds is in the chain, no room is in two places, each party does what its events led it
+  -- to, and its free rooms are linked
   pub record WordsMeet (words : List ℕ) (chain : List (ℕ × E)) (views : List (View E))
       (history : History E) : Type 0 where
     pub legal : Legal (events history)
@@ -53,3 +65,4 @@ module _ {E : Type 0} where
     pub holds : room_elements chain ≡ reverse (held (events history))
     pub apart : (r : ℕ) → in_chain r chain + tally (count_with_party r) views ≤ 1
     pub each : (j : ℕ) (v : View E) → get_elem? views j ≡ some v → AtDoing words history j v.doing
+    pub linked : (j : ℕ) (v : View E) → get_elem? views j ≡ some v → Links words v.free.rooms v.free.end

@@ -7,13 +7,12 @@ ghost use Rattle.cordyceps_stack.specs.History.{held, Legal};
 ghost use Rattle.cordyceps_stack.specs.Shared.Calls.{PushesAt, Misses, Takes, Looks};
 
 use crate::shared::batch::hand_out;
+use crate::shared::free::FreeRooms;
 use crate::shared::table::{OwnedTable, PartySeat};
 use crate::shared::{parting, steps};
 use cordyceps_base::linked::Linked;
 use cordyceps_base::shared::MAX_ROOMS;
 use cordyceps_base::stack::Links;
-use cordyceps_shared::slots::Filled;
-use cordyceps_shared::tickets::Tickets;
 use cordyceps_single::stack::Stack;
 use std::alloc::{AllocError, Global};
 use std::marker::Model;
@@ -73,7 +72,7 @@ impl<T: Linked<Links<T>>> Model for TransferStack<T> {
 /// If a party is dropped, its rooms are lost for good, and no party is whole afterwards.
 ///
 /// # Complexity
-/// Dropping a party is O(r), for r rooms that it has.
+/// Dropping a party is O(1).
 ///
 /// # Examples
 /// From `tour::hand_over` of `cordyceps_uses`:
@@ -89,7 +88,7 @@ impl<T: Linked<Links<T>>> Model for TransferStack<T> {
 #[derive(Drop)]
 pub struct Party<T: Linked<Links<T>>> {
     pub(crate) seat: PartySeat<T::Handle>,
-    pub(crate) tickets: Tickets,
+    pub(crate) free: FreeRooms,
 }
 
 impl<T: Linked<Links<T>>> Model for Party<T> {
@@ -100,7 +99,7 @@ impl<T: Linked<Links<T>>> Model for Party<T> {
 
     ghost view = { λ p. standing p.seat.table_id p.seat.me.0 };
 
-    ghost invariant = { λ p. IsSeated p.seat.table_id p.seat.me p.tickets };
+    ghost invariant = { λ p. IsSeated p.seat.table_id p.seat.me p.free };
 }
 
 impl<T: Linked<Links<T>>> Party<T> {
@@ -115,7 +114,7 @@ impl<T: Linked<Links<T>>> Party<T> {
         ensures count { result ≡ self.now.rooms }
         ensures knows { Knows (λ h. Legal h) self.now }
     {
-        self.tickets.len()
+        self.free.count
     }
 }
 
@@ -127,14 +126,18 @@ impl<T: Linked<Links<T>>> TransferStack<T> {
     /// If memory is refused, it returns `AllocError`, and nothing is kept.
     ///
     /// # Complexity
-    /// O(`rooms`), with an allocation for each room and four more.
+    /// O(`rooms`), with four allocations.
     pub fn new(alloc: Global, rooms: usize) -> Result<(TransferStack<T>, Party<T>), AllocError>
         requires { rooms ≤ MAX_ROOMS }
         ensures { IfOk result (λ made. made.1 ≡ new_party made.0 rooms) }
     {
-        let tickets = Tickets::new(alloc, rooms)?;
+        let free = FreeRooms {
+            first: rooms as u64,
+            last: 0,
+            count: rooms,
+        };
         let (rooms, seat) = parting::open(alloc, rooms)?;
-        Ok((TransferStack { rooms }, Party { seat, tickets }))
+        Ok((TransferStack { rooms }, Party { seat, free }))
     }
 
     /// Tries once to push an element. Requires that the party has a room, which the element then uses. Returns `true`
@@ -157,14 +160,7 @@ impl<T: Linked<Links<T>>> TransferStack<T> {
             (λ back. (back ≡ handle) × Misses party.old party.new) }
         ensures whole { party.old.share ≡ whole → is_ok result ≡ true }
     {
-        let ticket = party.tickets.take();
-        match steps::try_push(&self.rooms.shared, &mut party.seat, ticket, handle) {
-            Ok(first) => Ok(first),
-            Err(Filled { ticket, item }) => {
-                party.tickets.put(ticket);
-                Err(item)
-            }
-        }
+        steps::try_push(&self.rooms.shared, &mut party.seat, &mut party.free, handle)
     }
 
     /// Returns `true` if the stack has no element. Other parties may change this at any time.
@@ -194,7 +190,7 @@ impl<T: Linked<Links<T>>> TransferStack<T> {
     {
         let words = &self.rooms.shared;
         let at = steps::take(words, &mut party.seat);
-        hand_out(words, &mut party.seat, &mut party.tickets, at)
+        hand_out(words, &mut party.seat, &mut party.free, at)
     }
 
     /// Splits a new party off `party`, which gives it `rooms` of its rooms and a part of its share. The new party has
@@ -210,9 +206,13 @@ impl<T: Linked<Links<T>>> TransferStack<T> {
         requires rooms { rooms ≤ party.old.rooms }
         ensures { (party.new ≡ keeping rooms party.old) × (result ≡ giving rooms party.old) }
     {
-        let seat = parting::split(&self.rooms.shared, &mut party.seat, rooms);
-        let tickets = party.tickets.split_off(rooms);
-        Party { seat, tickets }
+        let (seat, free) = parting::split(
+            &self.rooms.shared,
+            &mut party.seat,
+            &mut party.free,
+            rooms,
+        );
+        Party { seat, free }
     }
 
     /// Absorbs another party: `party` has its rooms, its names and its events, and has seen what the two had seen.
@@ -226,9 +226,14 @@ impl<T: Linked<Links<T>>> TransferStack<T> {
         requires { (party.old.table ≡ self.now) × (other.table ≡ self.now) }
         ensures { Absorbs (λ h. Legal h) party.old other party.new }
     {
-        let Party { seat, tickets } = other;
-        parting::absorb(&self.rooms.shared, &mut party.seat, seat);
-        party.tickets.append(tickets);
+        let Party { seat, free } = other;
+        parting::absorb(
+            &self.rooms.shared,
+            &mut party.seat,
+            &mut party.free,
+            seat,
+            free,
+        );
     }
 
     /// Closes the stack and returns all its elements, the last pushed first. Requires the whole party; the result is

@@ -1,14 +1,17 @@
 //! How a shared stack is created, and how its parties are split and absorbed.
-ghost use Rattle.std.specs.Prelude.{◌≡◌, ◌≤◌, [], length, IfOk};
+ghost use Rattle.std.specs.Prelude.{◌≡◌, ◌≤◌, ◌+◌, ℕ, suc, List, [], ◌∷◌, ◌++◌, take, drop, IfOk};
 ghost use Rattle.cordyceps_shared.specs.Knowing.{IsKnown};
 ghost use Rattle.cordyceps_stack.specs.History.{Legal};
-ghost use Rattle.cordyceps_stack.specs.Shared.Parting.{view_keeping, view_giving, view_absorbing, view_without_told};
-ghost use Rattle.cordyceps_stack.specs.Shared.Parts.{IsSeatOf};
+ghost use Rattle.cordyceps_stack.specs.Shared.Parting.{view_keeping, view_giving, view_absorbing};
+ghost use Rattle.cordyceps_stack.specs.Shared.Parting.{joined, MayJoin};
+ghost use Rattle.cordyceps_stack.specs.Shared.Parts.{IsSeatOf, Tracks, Ties, Relinked, HasAbsorbed};
+ghost use Rattle.cordyceps_stack.specs.Shared.Words.{AreNew};
 ghost use Rattle.cordyceps_stack.specs.Shared.Plays.{IsResting};
 ghost use Rattle.cordyceps_stack.specs.Shared.View.{newcomer};
-ghost use Rattle.cordyceps_shared.specs.Slots.{view};
+ghost use Rattle.cordyceps_shared.specs.Slots.{Near, view};
 
-use crate::shared::plays::{Cut, Learn, Merge};
+use crate::shared::free::FreeRooms;
+use crate::shared::plays::{Cut, Learn, Merge, Skip, Tie};
 use crate::shared::table::{OwnedTable, PartySeat, Words};
 use atomic_table::Table;
 use cordyceps_base::shared::MAX_ROOMS;
@@ -16,6 +19,18 @@ use cordyceps_shared::layout::{HEAD, LINKS};
 use cordyceps_shared::slots::Count;
 use std::alloc::{AllocError, Global};
 use std::marker::Brand;
+
+/// Creates the words of an empty stack with `rooms` rooms. The link of each room leads to the room before it.
+fn links(alloc: Global, rooms: usize) -> Result<Vec<u64>, AllocError>
+    requires { rooms ≤ MAX_ROOMS }
+    ensures { IfOk result (λ words. AreNew words.items rooms) }
+{
+    let mut words = vec![in alloc; 0; LINKS + rooms]?;
+    for room in 0..rooms {
+        words[LINKS + room] = room as u64;
+    }
+    Ok(words)
+}
 
 /// Creates the words and slots of an empty stack with `rooms` rooms, and the seat of the party that has them all.
 pub(crate) fn open<E: Drop>(
@@ -26,7 +41,7 @@ pub(crate) fn open<E: Drop>(
     ensures { IfOk result (λ r. IsSeatOf r.1.table_id r.0.shared.table_id × (r.0.shared.table_id.slots ≡ rooms)
         × (r.1.me ≡ (newcomer rooms, []))) }
 {
-    let words = vec![in alloc; 0; LINKS + rooms]?;
+    let words = links(alloc, rooms)?;
     Table::vacant(alloc, words.as_slice(), rooms, &rooms)
 }
 
@@ -40,30 +55,114 @@ fn cut<E: Drop, B: Count>(words: &Words<E>, seat: &mut PartySeat<E>, rooms: usiz
     words.split_seat::<Cut<B>>(seat)
 }
 
+/// Returns the word that leads to the free room after the first `rooms`, and the last of these.
+fn pass<E: Drop>(
+    words: &Words<E>,
+    seat: &mut PartySeat<E>,
+    free: &FreeRooms,
+    rooms: usize,
+) -> (u64, usize)
+    requires table { IsSeatOf seat.old.table_id words.now.table_id }
+    requires rest { IsResting words.now.table_id.slots seat.old.me }
+    requires rooms { Tracks free.now (view seat.old.me).free × (rooms ≤ free.now.count) }
+    ensures seat { (seat.new.table_id ≡ seat.old.table_id) × (seat.new.me ≡ seat.old.me) }
+    ensures first { (r : ℕ) → (rs : List ℕ) → drop rooms (view seat.old.me).free.rooms ≡ r ∷ rs → result.0 ≡ suc r }
+    ensures last { (before : List ℕ) → (r : ℕ) → take rooms (view seat.old.me).free.rooms ≡ before ++ r ∷ []
+        → result.1 ≡ r }
+{
+    let mut at = free.first;
+    let mut last = 0;
+    for _room in 0..rooms {
+        last = at as usize - 1;
+        at = words.load::<Skip>(seat, LINKS + last);
+    }
+    (at, last)
+}
+
 /// Splits a seat, which has half of the first name and the first rooms of another, off that.
 pub(crate) fn split<E: Drop>(
     words: &Words<E>,
     seat: &mut PartySeat<E>,
+    free: &mut FreeRooms,
     rooms: usize,
-) -> PartySeat<E>
+) -> (PartySeat<E>, FreeRooms)
     requires table { IsSeatOf seat.old.table_id words.now.table_id }
     requires rest { IsResting words.now.table_id.slots seat.old.me }
-    ensures table { (seat.new.table_id ≡ seat.old.table_id) × (result.table_id ≡ seat.old.table_id) }
+    requires rooms { Tracks free.old (view seat.old.me).free × (rooms ≤ free.old.count) }
+    ensures table { (seat.new.table_id ≡ seat.old.table_id) × (result.0.table_id ≡ seat.old.table_id) }
     ensures views { (seat.new.me ≡ (view_keeping rooms (view seat.old.me), []))
-        × (result.me ≡ (view_giving rooms (view seat.old.me), [])) }
+        × (result.0.me ≡ (view_giving rooms (view seat.old.me), [])) }
+    ensures tracks { Tracks free.new (view seat.new.me).free × Tracks result.1 (view result.0.me).free }
 {
-    cut::<E, Brand>(words, seat, rooms)
+    let (after, last) = pass(words, seat, free, rooms);
+    let given = FreeRooms {
+        first: free.first,
+        last,
+        count: rooms,
+    };
+    free.first = after;
+    free.count -= rooms;
+    (cut::<E, Brand>(words, seat, rooms), given)
+}
+
+/// Links the last free room to the room that `at` leads to, which is about to follow it. If there is no free room, that
+/// becomes the first.
+pub(crate) fn tie<E: Drop>(words: &Words<E>, seat: &mut PartySeat<E>, free: &mut FreeRooms, at: u64)
+    requires table { IsSeatOf seat.old.table_id words.now.table_id }
+    requires tracks { Tracks free.old (view seat.old.me).free × Near words.now.table_id.slots (view seat.old.me).free.rooms }
+    ensures table { seat.new.table_id ≡ seat.old.table_id }
+    ensures ties { Ties at seat.old.me seat.new.me }
+    ensures tracks { Tracks free.new (view seat.new.me).free × (free.new.count ≡ free.old.count) }
+    ensures first { (view seat.new.me).free.rooms ≡ [] → free.new.first ≡ at }
+{
+    if free.count == 0 {
+        free.first = at;
+    } else if at != 0 {
+        words.store::<Tie>(seat, LINKS + free.last, at);
+    }
+}
+
+/// Links the free rooms of another seat, which are about to follow those of this one.
+fn append<E: Drop>(
+    words: &Words<E>,
+    seat: &mut PartySeat<E>,
+    free: &mut FreeRooms,
+    other: FreeRooms,
+    _seat: &PartySeat<E>,
+)
+    requires table { IsSeatOf seat.old.table_id words.now.table_id }
+    requires rest { IsResting words.now.table_id.slots seat.old.me }
+    requires tracks { Tracks free.old (view seat.old.me).free × Tracks other (view _seat.now.me).free }
+    ensures table { seat.new.table_id ≡ seat.old.table_id }
+    ensures same { Relinked seat.old.me seat.new.me }
+    ensures joins { MayJoin (view seat.new.me).free (view _seat.now.me).free }
+    ensures tracks { Tracks (record free.new { count = free.new.count + other.count })
+        (joined (view seat.new.me).free (view _seat.now.me).free) }
+{
+    if other.count > 0 {
+        tie(words, seat, free, other.first);
+        free.last = other.last;
+    }
 }
 
 /// Absorbs another seat. What one of the two had seen is a prefix of what the other had.
-pub(crate) fn absorb<E: Drop>(words: &Words<E>, seat: &mut PartySeat<E>, other: PartySeat<E>)
+pub(crate) fn absorb<E: Drop>(
+    words: &Words<E>,
+    seat: &mut PartySeat<E>,
+    free: &mut FreeRooms,
+    other: PartySeat<E>,
+    rooms: FreeRooms,
+)
     requires table { IsSeatOf seat.old.table_id words.now.table_id × IsSeatOf other.table_id words.now.table_id }
     requires rest { IsResting words.now.table_id.slots seat.old.me × IsResting words.now.table_id.slots other.me }
+    requires tracks { Tracks free.old (view seat.old.me).free × Tracks rooms (view other.me).free }
     ensures table { seat.new.table_id ≡ seat.old.table_id }
-    ensures views { seat.new.me ≡ (view_without_told (view_absorbing (view seat.old.me) (view other.me)), []) }
+    ensures absorbed { HasAbsorbed seat.old.me other.me seat.new.me }
     ensures known { IsKnown (λ h. Legal h) (view_absorbing (view seat.old.me) (view other.me)).known }
-    ensures few { length (view seat.new.me).free ≤ words.now.table_id.slots }
+    ensures tracks { Tracks free.new (view seat.new.me).free }
 {
+    append(words, seat, free, rooms, &other);
     words.join_seat::<Merge>(seat, other);
     words.load::<Learn>(seat, HEAD);
+    free.count += rooms.count;
 }

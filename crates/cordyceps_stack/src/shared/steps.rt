@@ -1,36 +1,36 @@
 //! The atomic steps of a shared stack. Each function is a part of a call.
 ghost use Rattle.std.specs.Prelude.{◌≡◌, ◌≢◌, ◌<◌, ℕ, suc, List, [], ◌∷◌, Some, None, MatchResult, MatchOption, IsTrue};
-ghost use Rattle.cordyceps_stack.specs.Shared.Parts.{IsSeatOf, IsFilled, IsLoaded, Settled, HasMissed, HasPushed, SettlesAt, TookAll, Walked};
+ghost use Rattle.cordyceps_stack.specs.Shared.Parts.{IsSeatOf, IsFilled, IsLoaded, Settled, HasMissed, HasPushed, SettlesAt};
+ghost use Rattle.cordyceps_stack.specs.Shared.Parts.{TookAll, Walked, Tracks};
 ghost use Rattle.cordyceps_stack.specs.History as event;
 ghost use Rattle.cordyceps_stack.specs.Shared.Plays.{Sees, IsResting, IsReady, IsWalking, to_hand_out};
-ghost use Rattle.cordyceps_shared.specs.Slots.{full_slot, view, hand};
+ghost use Rattle.cordyceps_shared.specs.Slots.{view, hand};
 ghost use Rattle.cordyceps_stack.specs.Shared.Calls.{EndsLooked};
-ghost use Rattle.cordyceps_stack.specs.Shared.View.{Idle, name};
+ghost use Rattle.cordyceps_stack.specs.Shared.View.{Idle, leads, with_first, IsTied, name};
 ghost use Rattle.cordyceps_stack.specs.Shared.View as doing;
 ghost use Rattle.cordyceps_shared.specs.Shares.{whole};
 ghost use Rattle.cordyceps_stack.specs.Shared.Words.{start};
 
+use crate::shared::free::FreeRooms;
 use crate::shared::plays::{Exchange, Load, Look, Ready, Return, Take, Walk, Write};
 use crate::shared::table::{PartySeat, Words};
 use cordyceps_shared::layout::{HEAD, LINKS};
-use cordyceps_shared::slots::Filled;
-use cordyceps_shared::tickets::Ticket;
 use crossbeam_utils::Backoff;
 use std::sync::Wait;
 
-/// Takes the slot of the first free room, whose ticket is given, and fills it.
-fn fill<E: Drop>(words: &Words<E>, seat: &mut PartySeat<E>, full: Filled<E>)
+/// Takes the slot of the first free room and fills it. Returns the room's link, which leads to the next free room.
+fn fill<E: Drop>(words: &Words<E>, seat: &mut PartySeat<E>, room: usize, item: E) -> u64
     requires table { IsSeatOf seat.old.table_id words.now.table_id }
     requires rest { IsResting words.now.table_id.slots seat.old.me }
-    requires room { (rs : List ℕ) × ((view seat.old.me).free ≡ full.ticket ∷ rs) }
+    requires room { (rs : List ℕ) × ((view seat.old.me).free.rooms ≡ room ∷ rs) }
     ensures table { seat.new.table_id ≡ seat.old.table_id }
-    ensures filled { IsFilled words.now.table_id.slots full seat.old.me seat.new.me }
+    ensures filled { IsFilled words.now.table_id.slots room result item seat.old.me seat.new.me }
 {
-    let room = full.ticket.room();
-    words.load::<Ready>(seat, LINKS + room);
-    let None = words.exchange(seat, room, Some(full)) else {
+    let next = words.load::<Ready>(seat, LINKS + room);
+    let None = words.exchange(seat, room, Some(item)) else {
         unreachable!()
     };
+    next
 }
 
 /// Reads the head.
@@ -56,11 +56,11 @@ fn link<E: Drop>(words: &Words<E>, seat: &mut PartySeat<E>, room: usize, read: u
 /// Exchanges the head with the room if it is still what was read, and returns `true` if it was.
 fn settle<E: Drop>(words: &Words<E>, seat: &mut PartySeat<E>, room: usize, read: u64) -> bool
     requires table { IsSeatOf seat.old.table_id words.now.table_id }
-    requires set { (x : E) × (hand seat.old.me ≡ (room, Some (full_slot room x)) ∷ []) }
+    requires set { (x : E) × (hand seat.old.me ≡ (room, Some x) ∷ []) }
     requires stage { ((view seat.old.me).doing ≡ doing.Set room read) × ((view seat.old.me).known.share ≢ [])
         × (room < words.now.table_id.slots) }
     ensures table { seat.new.table_id ≡ seat.old.table_id }
-    ensures settled { (x : E) → hand seat.old.me ≡ (room, Some (full_slot room x)) ∷ []
+    ensures settled { (x : E) → hand seat.old.me ≡ (room, Some x) ∷ []
         → Settled room read x result seat.old.me seat.new.me }
 {
     words.compare_exchange::<Exchange>(seat, HEAD, read, room as u64 + 1) == read
@@ -85,42 +85,49 @@ fn attempt<E: Drop>(words: &Words<E>, seat: &mut PartySeat<E>, room: usize) -> O
     }
 }
 
-/// Empties the slot that the party took, and returns it.
-fn back_out<E: Drop>(words: &Words<E>, seat: &mut PartySeat<E>, room: usize) -> Filled<E>
+/// Empties the slot that the party took and returns it. The room is the first free one again, and `next` leads to the one
+/// after it.
+fn back_out<E: Drop>(words: &Words<E>, seat: &mut PartySeat<E>, room: usize, next: u64) -> E
     requires table { IsSeatOf seat.old.table_id words.now.table_id }
     requires ready { (x : E) × IsReady words.now.table_id.slots room x seat.old.me }
+    requires next { next ≡ leads (view seat.old.me).free.rooms (view seat.old.me).free.end }
     ensures table { seat.new.table_id ≡ seat.old.table_id }
     ensures element { hand seat.old.me ≡ (room, Some result) ∷ [] }
     ensures seat { let old = view seat.old.me in
-        seat.new.me ≡ (record old { doing = Idle; free = room ∷ old.free }, []) }
+        seat.new.me ≡ (record old { doing = Idle; free = with_first room old.free }, []) }
 {
-    let full = words.exchange(seat, room, None);
-    words.load::<Return>(seat, LINKS + room);
-    let Some(full) = full else { unreachable!() };
-    full
+    let item = words.exchange(seat, room, None);
+    words.store::<Return>(seat, LINKS + room, next);
+    let Some(item) = item else { unreachable!() };
+    item
 }
 
-/// Tries once to push into the first free room, whose ticket is given.
+/// Tries once to push into the first free room.
 pub(crate) fn try_push<E: Drop>(
     words: &Words<E>,
     seat: &mut PartySeat<E>,
-    ticket: Ticket,
+    free: &mut FreeRooms,
     item: E,
-) -> Result<bool, Filled<E>>
+) -> Result<bool, E>
     requires table { IsSeatOf seat.old.table_id words.now.table_id }
     requires rest { IsResting words.now.table_id.slots seat.old.me }
-    requires room { (rs : List ℕ) × ((view seat.old.me).free ≡ ticket ∷ rs) }
+    requires rooms { Tracks free.old (view seat.old.me).free × (0 < free.old.count) }
     ensures table { seat.new.table_id ≡ seat.old.table_id }
     ensures rest { IsResting words.now.table_id.slots seat.new.me }
+    ensures tracks { Tracks free.new (view seat.new.me).free }
     ensures answer { MatchResult result
-        (λ first. HasPushed 1 ticket item first seat.old.me seat.new.me)
-        (λ back. (back ≡ full_slot ticket item) × HasMissed seat.old.me seat.new.me) }
+        (λ first. HasPushed 1 item first seat.old.me seat.new.me)
+        (λ back. (back ≡ item) × HasMissed seat.old.me seat.new.me) }
 {
-    let room = ticket.room();
-    fill(words, seat, Filled { ticket, item });
+    let room = free.first as usize - 1;
+    let next = fill(words, seat, room, item);
     match attempt(words, seat, room) {
-        Some(first) => Ok(first),
-        None => Err(back_out(words, seat, room)),
+        Some(first) => {
+            free.first = next;
+            free.count -= 1;
+            Ok(first)
+        }
+        None => Err(back_out(words, seat, room, next)),
     }
 }
 
@@ -158,25 +165,27 @@ fn settle_at_last<E: Drop, R: Wait>(
     unreachable!()
 }
 
-/// Pushes into the first free room, whose ticket is given, by as many tries as it needs, and returns whether the stack
-/// was empty. The slot stays filled from try to try.
+/// Pushes into the first free room, by as many tries as it needs, and returns whether the stack was empty. The slot stays
+/// filled from try to try.
 pub(crate) fn push<E: Drop, R: Wait>(
     rt: &R,
     words: &Words<E>,
     seat: &mut PartySeat<E>,
-    ticket: Ticket,
+    free: &mut FreeRooms,
     item: E,
 ) -> bool
     requires table { IsSeatOf seat.old.table_id words.now.table_id }
     requires rest { IsResting words.now.table_id.slots seat.old.me }
-    requires room { (rs : List ℕ) × ((view seat.old.me).free ≡ ticket ∷ rs) }
+    requires rooms { Tracks free.old (view seat.old.me).free × (0 < free.old.count) }
     ensures table { seat.new.table_id ≡ seat.old.table_id }
     ensures rest { IsResting words.now.table_id.slots seat.new.me }
-    ensures pushed { (tries : ℕ) × HasPushed (suc tries) ticket item result seat.old.me seat.new.me }
-    ensures whole { (view seat.old.me).known.share ≡ whole → HasPushed 1 ticket item result seat.old.me seat.new.me }
+    ensures tracks { Tracks free.new (view seat.new.me).free }
+    ensures pushed { (tries : ℕ) × HasPushed (suc tries) item result seat.old.me seat.new.me }
+    ensures whole { (view seat.old.me).known.share ≡ whole → HasPushed 1 item result seat.old.me seat.new.me }
 {
-    let room = ticket.room();
-    fill(words, seat, Filled { ticket, item });
+    let room = free.first as usize - 1;
+    free.first = fill(words, seat, room, item);
+    free.count -= 1;
     settle_at_last(rt, words, seat, room)
 }
 
@@ -203,17 +212,18 @@ pub(crate) fn take<E: Drop>(words: &Words<E>, seat: &mut PartySeat<E>) -> u64
     words.swap::<Take>(seat, HEAD, 0)
 }
 
-/// Returns the newest element of what was taken, which `at` leads to, and the word that leads to the next.
-pub(crate) fn walk<E: Drop>(words: &Words<E>, seat: &mut PartySeat<E>, at: u64) -> (Filled<E>, u64)
+/// Returns the newest element of what was taken, which is in this room, and the word that leads to the next. The room
+/// becomes the last free one.
+pub(crate) fn walk<E: Drop>(words: &Words<E>, seat: &mut PartySeat<E>, room: usize) -> (E, u64)
     requires table { IsSeatOf seat.old.table_id words.now.table_id }
     requires batch { let batch = to_hand_out (view seat.old.me).doing in
-        IsWalking words.now.table_id.slots batch seat.old.me × (at ≡ start batch) × (at ≢ 0) }
+        IsWalking words.now.table_id.slots batch seat.old.me × (suc room ≡ start batch) }
+    requires tied { IsTied (view seat.old.me).free (suc room) }
     ensures table { seat.new.table_id ≡ seat.old.table_id }
-    ensures walked { Walked words.now.table_id.slots result.0 result.1 seat.old.me seat.new.me }
+    ensures walked { Walked words.now.table_id.slots room result.0 result.1 seat.old.me seat.new.me }
 {
-    let room = at as usize - 1;
-    let full = words.exchange(seat, room, None);
+    let item = words.exchange(seat, room, None);
     let below = words.load::<Walk>(seat, LINKS + room);
-    let Some(full) = full else { unreachable!() };
-    (full, below)
+    let Some(item) = item else { unreachable!() };
+    (item, below)
 }

@@ -2,7 +2,6 @@
 ghost use Rattle.cordyceps_stack.specs.Shared.View.{View, newcomer};
 
 use atomic_table::{Seat, Shared, Table, TableRule};
-use cordyceps_shared::slots::Filled;
 use std::alloc::Global;
 use std::marker::{Model, PhantomData};
 
@@ -20,7 +19,7 @@ impl<E> Model for SeatView<E> {
 /// The invariant of the table, which each step keeps. Its key is the number of rooms.
 pub(crate) struct Rule;
 
-impl<E> TableRule<Option<Filled<E>>, SeatView<E>, usize> for Rule {
+impl<E> TableRule<Option<E>, SeatView<E>, usize> for Rule {
     ghost use Rattle.cordyceps_stack.specs.Shared.Rule.{RuleHolds};
 
     ghost holds = { λ _. RuleHolds };
@@ -30,12 +29,13 @@ impl<E> TableRule<Option<Filled<E>>, SeatView<E>, usize> for Rule {
 
 /// The words and slots of the table.
 ///
-/// The word `HEAD` is 0, or 1 more than the room that was pushed last. The word `LINKS + r` is the link of room `r`,
-/// which leads to the room below, and slot `r` has its ticket and element. The other words are not used.
-pub(crate) type Words<E> = Shared<Option<Filled<E>>, SeatView<E>, usize, Rule>;
+/// The word `HEAD` is 0, or 1 more than the room that was pushed last. The word `LINKS + r` is the link of room `r`. If
+/// the room is in use, it leads to the room below, and slot `r` has its element. If it is free, it leads to the party's
+/// next free room. The other words are not used.
+pub(crate) type Words<E> = Shared<Option<E>, SeatView<E>, usize, Rule>;
 
 /// The table, which owns its memory.
-pub(crate) type OwnedTable<E> = Table<Option<Filled<E>>, SeatView<E>, usize, Rule, Global>;
+pub(crate) type OwnedTable<E> = Table<Option<E>, SeatView<E>, usize, Rule, Global>;
 
 /// The seat of a party: the token by which it acts on the table.
-pub(crate) type PartySeat<E> = Seat<Option<Filled<E>>, SeatView<E>>;
+pub(crate) type PartySeat<E> = Seat<Option<E>, SeatView<E>>;

@@ -40,7 +40,12 @@ impl<T: Linked<Links<T>>> TransferStack<T> {
         ensures pushed { (tries : ℕ) × PushesAt (suc tries) handle result party.old party.new }
         ensures whole { party.old.share ≡ whole → PushesAt 1 handle result party.old party.new }
     {
-        let ticket = party.tickets.take();
-        steps::push(rt, &self.rooms.shared, &mut party.seat, ticket, handle)
+        steps::push(
+            rt,
+            &self.rooms.shared,
+            &mut party.seat,
+            &mut party.free,
+            handle,
+        )
     }
 }

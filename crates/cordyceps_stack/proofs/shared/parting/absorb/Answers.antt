@@ -1,9 +1,12 @@
-use Rattle.std.proofs.Common.{rules, ap}
+use Rattle.std.proofs.Common.{rules, sym, ap, ◌∙◌}
 use Rattle.cordyceps_stack.proofs.SharedTheory.PartingKeeps.{joins, learns}
 use Rattle.cordyceps_stack.proofs.shared.parting.absorb.Goals as goal
 
 pub join_seat-requires : goal.join_seat-requires
-join_seat-requires g c = let r = c.requires.rest in (search rules, search rules, search rules, search rules, joins _ _ _ _ r.0.0 r.1.0 r.0.2)
+join_seat-requires g c =
+    let r = c.requires.rest in
+    let same = c.append.ensures.same in
+    (search rules, search rules, search rules, search rules, joins _ _ _ _ (same.doing ∙ r.0.0) r.1.0 (λ e. r.0.2 (ap (λ p. p.share) (sym same.known) ∙ e)) c.append.ensures.joins)
 
 pub load-requires : goal.load-requires
 load-requires g c = let j = c.join_seat.ensures.2 in (search rules, search rules, learns _ _ _ (ap (λ m. m.0.doing) j))

@@ -25,7 +25,7 @@ returns-then-settle-clause-answer g c x ready =
         hit.0,
         hit.2,
         (λ z. ready.2 (sym (hit.3.share ∙ (ap (λ m. m.0.known.share) set ∙ loaded.sees.share)) ∙ z)),
-        subst (λ l. Near c.args.words.now.table_id.slots l) (sym free) ready.3,
+        subst (λ l. Near c.args.words.now.table_id.slots l.rooms) (sym free) ready.3,
       );
       free = free;
       sees = then_pushed m.0 c.load-read.new.seat.me.0 c.link.new.seat.me.0 c.settle.new.seat.me.0 x loaded.sees same hit.3;

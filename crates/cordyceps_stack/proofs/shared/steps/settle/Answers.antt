@@ -2,7 +2,6 @@ use Rattle.std.proofs.Common.{◌≡◌, [], sym, subst, rules, add-one, eq-eqb,
 use mathlib.Core.Logic.{dite}
 use native.Mathlib.Decide.{ℕ_discrete}
 use Rattle.cordyceps_stack.specs.Shared.Parts.{Settled}
-use Rattle.cordyceps_shared.specs.Slots.{full_slot}
 use Rattle.cordyceps_stack.specs.Shared.Calls.{EndsPushed}
 use Rattle.cordyceps_stack.specs.Shared.View.{name}
 use Rattle.cordyceps_stack.proofs.SharedTheory.StepsKeep.{exchanges}
@@ -21,7 +20,7 @@ returns-clause-settled g c x hand =
     let k = c.compare_exchange.new.seat.me in
     let found = c.compare_exchange.result in
     let read = c.args.read in
-    let t = c.compare_exchange.ensures.2 c.args.room read (full_slot c.args.room x) [] c.requires.stage.0 hand in
+    let t = c.compare_exchange.ensures.2 c.args.room read x [] c.requires.stage.0 hand in
     dite (ℕ_discrete found read)
     (λ e. let hit = t.0 e in
     subst (λ b. Settled c.args.room read x b m k) (sym (eq-eqb found read e)) (hit.0, hit.1, hit.2, hit.3, subst (λ n. EndsPushed x (n ≡ 0) (name m.0) k.0.known.seen) e hit.4))
