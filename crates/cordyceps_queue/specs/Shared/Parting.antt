@@ -5,8 +5,8 @@ use Rattle.cordyceps_shared.specs.Knowing.{IsKnown}
 use Rattle.cordyceps_shared.specs.Knowing as knowing
 use Rattle.cordyceps_queue.specs.declared.cores.stage.Stage.TheVariants.{Rest}
 use Rattle.cordyceps_shared.specs.declared.slots.Filled.{Filled}
-use Rattle.cordyceps_shared.specs.Slots.{TableStep}
-use Rattle.cordyceps_queue.specs.Shared.Plays.{SeatState, LegalReversed, view, hand}
+use Rattle.cordyceps_shared.specs.Slots.{TableStep, view, hand}
+use Rattle.cordyceps_queue.specs.Shared.Plays.{SeatState, LegalReversed}
 use Rattle.cordyceps_queue.specs.Shared.Calls.{NonePending, NoneHolds}
 use Rattle.cordyceps_queue.specs.Shared.View.{View}
 

@@ -7,7 +7,8 @@ use Rattle.cordyceps_queue.specs.declared.cores.stage.Stage.TheVariants.{Rest, C
 use Rattle.cordyceps_queue.specs.declared.shared.table.Tried.{Tried}
 use Rattle.cordyceps_queue.specs.declared.shared.table.Tried.TheVariants.{Out, Empty, Inconsistent}
 use Rattle.cordyceps_queue.specs.History.{Event, holder}
-use Rattle.cordyceps_queue.specs.Shared.Plays.{SeatState, view, hand, Sees, IsResting, IsHolding, HandsOneOut, moves_to}
+use Rattle.cordyceps_shared.specs.Slots.{view, hand}
+use Rattle.cordyceps_queue.specs.Shared.Plays.{SeatState, Sees, IsResting, IsHolding, HandsOneOut, moves_to}
 use Rattle.cordyceps_queue.specs.Shared.Plays.{Blocked}
 use Rattle.cordyceps_queue.specs.Shared.Rule.{IsTable}
 use Rattle.cordyceps_queue.specs.Shared.Calls.{PartyOf, Legal, NonePending, NoneHolds}

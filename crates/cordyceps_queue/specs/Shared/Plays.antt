@@ -1,7 +1,6 @@
 -- What each atomic step tells a party of a queue: of its seat m before, of the word that it found, and of its seat k
 -- after. A seat has a view, and the slots in hand, the last taken first.
 use Rattle.std.specs.Prelude.{◌≡◌, ◌≢◌, ℕ, suc, ◌<◌, ◌≤◌, List, [], ◌∷◌, ◌++◌, reverse, length, Option, Some, None}
-use Rattle.atomic_table.specs.Table.{Me}
 use Rattle.cordyceps_shared.specs.Histories.{plain}
 use Rattle.cordyceps_shared.specs.Knowing.{Grown}
 use Rattle.cordyceps_shared.specs.Shares.{Name}
@@ -12,20 +11,13 @@ use Rattle.cordyceps_queue.specs.declared.cores.stage.Stage.TheVariants.{PutRead
 use Rattle.cordyceps_shared.specs.declared.slots.Filled.{Filled}
 use Rattle.cordyceps_queue.specs.History.{Event, actor}
 use Rattle.cordyceps_queue.specs.Past.{IsLegalReversed, WasBlockedReversed}
-use Rattle.cordyceps_shared.specs.Slots.{Hand, Near, TableStep, full_slot}
+use Rattle.cordyceps_shared.specs.Slots.{Hand, Near, TableStep, SeatWith, view, hand, full_slot}
 use Rattle.cordyceps_queue.specs.Shared.View.{View, name}
 
 abbrev pub SeatState : Type 0 → Type 0
-SeatState E = Me (Option (Filled E)) (View E)
+SeatState E = SeatWith (Filled E) (View E)
 
 module _ {E : Type 0} where
-  -- the view of a seat, and the slots that it has in hand, the last taken first
-  abbrev pub view : SeatState E → View E
-  view m = m.0
-
-  abbrev pub hand : SeatState E → Hand (Filled E)
-  hand m = m.1
-
   abbrev pub LegalReversed : List (Event Name E) → Type 0
   LegalReversed es = IsLegalReversed (reverse es)
 

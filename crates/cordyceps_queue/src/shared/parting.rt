@@ -4,7 +4,8 @@ ghost use Rattle.cordyceps_shared.specs.Histories.{plain};
 ghost use Rattle.cordyceps_shared.specs.Knowing.{IsKnown};
 ghost use Rattle.cordyceps_queue.specs.Shared.Calls.{NonePending, NoneHolds};
 ghost use Rattle.cordyceps_queue.specs.Shared.Parting.{view_keeping, view_giving, view_absorbing, view_without_told};
-ghost use Rattle.cordyceps_queue.specs.Shared.Plays.{IsResting, LegalReversed, view};
+ghost use Rattle.cordyceps_shared.specs.Slots.{view};
+ghost use Rattle.cordyceps_queue.specs.Shared.Plays.{IsResting, LegalReversed};
 ghost use Rattle.cordyceps_queue.specs.Shared.Parts.{IsSeatOf};
 ghost use Rattle.cordyceps_queue.specs.Shared.View.{newcomer};
 

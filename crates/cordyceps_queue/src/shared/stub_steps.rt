@@ -1,8 +1,8 @@
 //! The atomic steps of a try to dequeue at the stub, and of putting the stub in. Each function is a part of a call.
 ghost use Rattle.std.specs.Prelude.{◌≡◌, ◌≢◌, ◌<◌, ℕ, suc, [], ◌∷◌, true, false, Some, None};
 ghost use Rattle.cordyceps_queue.specs.History.{Event};
-ghost use Rattle.cordyceps_queue.specs.Shared.Plays.{IsHolding, IsAtStage, Blocked, hands_out, moves_to, view, hand};
-ghost use Rattle.cordyceps_shared.specs.Slots.{full_slot};
+ghost use Rattle.cordyceps_queue.specs.Shared.Plays.{IsHolding, IsAtStage, Blocked, hands_out, moves_to};
+ghost use Rattle.cordyceps_shared.specs.Slots.{full_slot, view, hand};
 ghost use Rattle.cordyceps_queue.specs.Shared.Parts.{IsSeatOf};
 ghost use Rattle.cordyceps_queue.specs.Shared.View.{name};
 ghost use Rattle.cordyceps_queue.specs.declared.cores.stage.Stage.TheVariants.{Holding, StubNull, Second, Null, PutClear, PutSwap, PutLink, PutRead};

@@ -50,7 +50,8 @@ module _ {E : Type 0} where
   -- and the room's slot is in hand
   abbrev pub after_ready : TableStep E → SeatState E → ℕ → SeatState E → Type 0
   after_ready st m found k = (r : ℕ) (rs : List ℕ) → (view m).free.rooms ≡ r ∷ rs
-      → (st.word ≡ LINKS + r) × (view k ≡ record (view m) { doing = Ready r; free = record (view m).free { rooms = rs } })
+      → (st.word ≡ LINKS + r)
+      × (view k ≡ record (view m) { doing = Ready r; free = record (view m).free { rooms = rs } })
       × (hand k ≡ (r, None) ∷ hand m)
       × (r < st.slots)
       × (found ≡ leads rs (view m).free.end)
@@ -114,7 +115,8 @@ module _ {E : Type 0} where
   -- ---- between the steps
   -- the party is between two calls
   abbrev pub IsResting : ℕ → SeatState E → Type 0
-  IsResting slots m = ((view m).doing ≡ Idle) × (hand m ≡ []) × ((view m).known.share ≢ []) × Near slots (view m).free.rooms
+  IsResting slots m =
+      ((view m).doing ≡ Idle) × (hand m ≡ []) × ((view m).known.share ≢ []) × Near slots (view m).free.rooms
 
   -- the party pushes what is in the slot in hand, which is this room's
   abbrev pub IsReady : ℕ → ℕ → E → SeatState E → Type 0

@@ -56,8 +56,8 @@ module _ {E : Type 0} where
   AtDoing words history j (Set r read) = (next words r ≡ read) × Since words history j read
   AtDoing words history j (Walking xs) = Spells words (start xs) xs
 
-  -- the history is legal, what it holds is in the chain, no room is in two places, each party does what its events led it
-  -- to, and its free rooms are linked
+  -- the history is legal, what it holds is in the chain, no room is in two places, each party does what its events led
+  -- it to, and its free rooms are linked
   pub record WordsMeet (words : List ℕ) (chain : List (ℕ × E)) (views : List (View E))
       (history : History E) : Type 0 where
     pub legal : Legal (events history)

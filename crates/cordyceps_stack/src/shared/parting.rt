@@ -109,7 +109,8 @@ pub(crate) fn split<E: Drop>(
 /// becomes the first.
 pub(crate) fn tie<E: Drop>(words: &Words<E>, seat: &mut PartySeat<E>, free: &mut FreeRooms, at: u64)
     requires table { IsSeatOf seat.old.table_id words.now.table_id }
-    requires tracks { Tracks free.old (view seat.old.me).free × Near words.now.table_id.slots (view seat.old.me).free.rooms }
+    requires tracks { Tracks free.old (view seat.old.me).free }
+    requires near { Near words.now.table_id.slots (view seat.old.me).free.rooms }
     ensures table { seat.new.table_id ≡ seat.old.table_id }
     ensures ties { Ties at seat.old.me seat.new.me }
     ensures tracks { Tracks free.new (view seat.new.me).free × (free.new.count ≡ free.old.count) }

@@ -1,6 +1,7 @@
 //! The steps of a shared stack, for contracts. Values of these types are not used when the program runs.
 ghost use Rattle.cordyceps_stack.specs.Shared.Plays.{after_look, after_ready, after_load, after_write};
-ghost use Rattle.cordyceps_stack.specs.Shared.Plays.{after_exchange, after_return, after_take, after_tie, after_skip, after_walk};
+ghost use Rattle.cordyceps_stack.specs.Shared.Plays.{after_exchange, after_return, after_take, after_walk};
+ghost use Rattle.cordyceps_stack.specs.Shared.Plays.{after_tie, after_skip};
 ghost use Rattle.cordyceps_stack.specs.Shared.Parting.{after_learn, view_keeping, view_giving};
 ghost use Rattle.cordyceps_stack.specs.Shared.Parting.{view_absorbing, view_absorbed};
 

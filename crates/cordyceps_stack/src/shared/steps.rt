@@ -1,7 +1,7 @@
 //! The atomic steps of a shared stack. Each function is a part of a call.
 ghost use Rattle.std.specs.Prelude.{◌≡◌, ◌≢◌, ◌<◌, ℕ, suc, List, [], ◌∷◌, Some, None, MatchResult, MatchOption, IsTrue};
-ghost use Rattle.cordyceps_stack.specs.Shared.Parts.{IsSeatOf, IsFilled, IsLoaded, Settled, HasMissed, HasPushed, SettlesAt};
-ghost use Rattle.cordyceps_stack.specs.Shared.Parts.{TookAll, Walked, Tracks};
+ghost use Rattle.cordyceps_stack.specs.Shared.Parts.{IsSeatOf, IsFilled, IsLoaded, Settled, HasMissed, HasPushed};
+ghost use Rattle.cordyceps_stack.specs.Shared.Parts.{SettlesAt, TookAll, Walked, Tracks};
 ghost use Rattle.cordyceps_stack.specs.History as event;
 ghost use Rattle.cordyceps_stack.specs.Shared.Plays.{Sees, IsResting, IsReady, IsWalking, to_hand_out};
 ghost use Rattle.cordyceps_shared.specs.Slots.{view, hand};
@@ -85,8 +85,8 @@ fn attempt<E: Drop>(words: &Words<E>, seat: &mut PartySeat<E>, room: usize) -> O
     }
 }
 
-/// Empties the slot that the party took and returns it. The room is the first free one again, and `next` leads to the one
-/// after it.
+/// Empties the slot that the party took and returns it. The room is the first free one again, and `next` leads to the
+/// one after it.
 fn back_out<E: Drop>(words: &Words<E>, seat: &mut PartySeat<E>, room: usize, next: u64) -> E
     requires table { IsSeatOf seat.old.table_id words.now.table_id }
     requires ready { (x : E) × IsReady words.now.table_id.slots room x seat.old.me }
@@ -165,8 +165,8 @@ fn settle_at_last<E: Drop, R: Wait>(
     unreachable!()
 }
 
-/// Pushes into the first free room, by as many tries as it needs, and returns whether the stack was empty. The slot stays
-/// filled from try to try.
+/// Pushes into the first free room, by as many tries as it needs, and returns whether the stack was empty. The slot
+/// stays filled from try to try.
 pub(crate) fn push<E: Drop, R: Wait>(
     rt: &R,
     words: &Words<E>,
