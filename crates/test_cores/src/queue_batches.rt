@@ -1,4 +1,4 @@
-//! Batches out of a queue's core.
+//! Batches of a queue's core.
 use crate::compared::same;
 use cordyceps_queue::mpsc_queue::{QueueAnswer, QueueCore, QueueStep, StepError, TryDequeueError};
 use std::alloc::Global;
@@ -6,7 +6,7 @@ use std::process::Abort;
 use std::test::*;
 use test_support::counted::{Counted, Drops};
 
-/// A core with three parties, of which the first has two rooms, and the second one.
+/// Returns a core with three parties, of which the first has two rooms, and the second one.
 fn three(alloc: Global) -> Result<QueueCore<u64>, StepError> {
     let mut core = QueueCore::new(alloc);
     for _ in 0..3usize {
@@ -18,24 +18,24 @@ fn three(alloc: Global) -> Result<QueueCore<u64>, StepError> {
     Ok(core)
 }
 
-/// An element that comes in.
-fn takes(rt: &impl Abort, core: &mut QueueCore<u64>, party: usize, element: u64) {
+/// Enqueues an element, and asserts that it is taken.
+fn enqueues(rt: &impl Abort, core: &mut QueueCore<u64>, party: usize, element: u64) {
     same(rt, core.enqueue(party, element), Ok(()));
 }
 
-/// A step that is taken, with what it answers.
-fn answers(
+/// Runs a step, and asserts what it returns.
+fn returns(
     rt: &impl Abort,
     core: &mut QueueCore<u64>,
     party: usize,
     step: QueueStep<u64>,
-    answer: QueueAnswer<u64>,
+    wanted: QueueAnswer<u64>,
 ) {
-    same(rt, core.step(party, step), Ok(answer));
+    same(rt, core.step(party, step), Ok(wanted));
 }
 
-/// A batch that comes out.
-fn gives(
+/// Takes a batch, and asserts its elements.
+fn takes_batch(
     rt: &impl Abort,
     core: &mut QueueCore<u64>,
     party: usize,
@@ -49,8 +49,8 @@ fn gives(
     Ok(())
 }
 
-/// A call that gets no element.
-fn gives_none(
+/// Asserts that no batch can be taken, and the error.
+fn takes_none(
     rt: &impl Abort,
     core: &mut QueueCore<u64>,
     party: usize,
@@ -66,21 +66,21 @@ fn gives_none(
 #[test]
 fn a_batch_ends_where_an_element_is_not_linked(rt: HostRuntime) -> Result<(), Fail> {
     let mut core = three(rt.alloc())?;
-    takes(&rt, &mut core, 0, 1);
-    takes(&rt, &mut core, 0, 2);
-    answers(
+    enqueues(&rt, &mut core, 0, 1);
+    enqueues(&rt, &mut core, 0, 2);
+    returns(
         &rt,
         &mut core,
         1,
         QueueStep::Clear(Some(3)),
         QueueAnswer::Done,
     );
-    answers(&rt, &mut core, 1, QueueStep::Swap, QueueAnswer::Done);
-    gives(&rt, &mut core, 2, 9, &[1])?;
-    gives_none(&rt, &mut core, 2, TryDequeueError::Inconsistent)?;
-    answers(&rt, &mut core, 1, QueueStep::Link, QueueAnswer::Done);
-    gives(&rt, &mut core, 2, 9, &[2, 3])?;
-    gives_none(&rt, &mut core, 2, TryDequeueError::Empty)?;
+    returns(&rt, &mut core, 1, QueueStep::Swap, QueueAnswer::Done);
+    takes_batch(&rt, &mut core, 2, 9, &[1])?;
+    takes_none(&rt, &mut core, 2, TryDequeueError::Inconsistent)?;
+    returns(&rt, &mut core, 1, QueueStep::Link, QueueAnswer::Done);
+    takes_batch(&rt, &mut core, 2, 9, &[2, 3])?;
+    takes_none(&rt, &mut core, 2, TryDequeueError::Empty)?;
     assert!(&rt; matches!(core.take_linked(2, 0), Err(StepError::NotThere)));
     assert!(&rt; matches!(core.take_linked(3, 9), Err(StepError::NotThere)));
     Ok(())
@@ -89,29 +89,29 @@ fn a_batch_ends_where_an_element_is_not_linked(rt: HostRuntime) -> Result<(), Fa
 #[test]
 fn a_batch_has_no_more_than_was_asked_for(rt: HostRuntime) -> Result<(), Fail> {
     let mut core = three(rt.alloc())?;
-    takes(&rt, &mut core, 0, 1);
-    takes(&rt, &mut core, 0, 2);
-    takes(&rt, &mut core, 1, 3);
-    gives(&rt, &mut core, 2, 2, &[1, 2])?;
-    gives(&rt, &mut core, 2, 2, &[3])?;
-    gives_none(&rt, &mut core, 2, TryDequeueError::Empty)?;
-    takes(&rt, &mut core, 2, 4);
-    gives(&rt, &mut core, 0, 1, &[4])?;
+    enqueues(&rt, &mut core, 0, 1);
+    enqueues(&rt, &mut core, 0, 2);
+    enqueues(&rt, &mut core, 1, 3);
+    takes_batch(&rt, &mut core, 2, 2, &[1, 2])?;
+    takes_batch(&rt, &mut core, 2, 2, &[3])?;
+    takes_none(&rt, &mut core, 2, TryDequeueError::Empty)?;
+    enqueues(&rt, &mut core, 2, 4);
+    takes_batch(&rt, &mut core, 0, 1, &[4])?;
     Ok(())
 }
 
 #[test]
 fn a_holder_keeps_the_right(rt: HostRuntime) -> Result<(), Fail> {
     let mut core = three(rt.alloc())?;
-    takes(&rt, &mut core, 0, 1);
-    takes(&rt, &mut core, 1, 2);
-    answers(&rt, &mut core, 2, QueueStep::Take, QueueAnswer::Taken);
-    gives_none(&rt, &mut core, 0, TryDequeueError::Busy)?;
-    gives(&rt, &mut core, 2, 9, &[1, 2])?;
-    gives_none(&rt, &mut core, 0, TryDequeueError::Busy)?;
-    gives_none(&rt, &mut core, 2, TryDequeueError::Empty)?;
-    answers(&rt, &mut core, 2, QueueStep::Give, QueueAnswer::Done);
-    gives_none(&rt, &mut core, 0, TryDequeueError::Empty)?;
+    enqueues(&rt, &mut core, 0, 1);
+    enqueues(&rt, &mut core, 1, 2);
+    returns(&rt, &mut core, 2, QueueStep::Take, QueueAnswer::Taken);
+    takes_none(&rt, &mut core, 0, TryDequeueError::Busy)?;
+    takes_batch(&rt, &mut core, 2, 9, &[1, 2])?;
+    takes_none(&rt, &mut core, 0, TryDequeueError::Busy)?;
+    takes_none(&rt, &mut core, 2, TryDequeueError::Empty)?;
+    returns(&rt, &mut core, 2, QueueStep::Give, QueueAnswer::Done);
+    takes_none(&rt, &mut core, 0, TryDequeueError::Empty)?;
     Ok(())
 }
 

@@ -10,7 +10,7 @@ use std::process::Abort;
 use std::test::*;
 use test_support::counted::{Counted, Drops};
 
-/// Adds so many parties.
+/// Adds this many parties.
 fn add_parties<E: Drop>(core: &mut QueueCore<E>, parties: usize) -> Result<(), StepError> {
     for _ in 0..parties {
         core.add_party()?;
@@ -26,7 +26,7 @@ fn add_rooms<E: Drop>(core: &mut QueueCore<E>, rooms: &[usize]) -> Result<(), St
     Ok(())
 }
 
-/// A core with so many parties, and with a room for each of the parties that are named.
+/// Returns a core with this many parties, and with a room for each of the parties that are named.
 fn core_with<E: Drop>(
     alloc: Global,
     parties: usize,
@@ -51,7 +51,7 @@ enum NumberStep {
 }
 
 impl NumberStep {
-    /// The core's own.
+    /// Returns the core's step.
     fn of_core(self) -> QueueStep<u64> {
         match self {
             NumberStep::Clear(element) => QueueStep::Clear(element),
@@ -65,35 +65,35 @@ impl NumberStep {
     }
 }
 
-/// A call of a core, and what it has to answer.
+/// A call of a core, and what it must return.
 #[derive(Clone, Copy)]
 enum Call {
     /// A step that is taken, with more to do.
     Done(NumberStep),
-    /// A step that is not there, with the element that it brings back.
+    /// A step that is not there, with the element that it returns.
     NotThere(NumberStep, Option<u64>),
     /// The step that takes the right, and gets it.
     Taken,
     /// The step that takes the right, which another party has.
     Busy,
-    /// The step that has an element come out.
+    /// The step that removes an element.
     Out(u64),
-    /// The step that finds an element put in and not linked.
+    /// The step that finds an element that is enqueued but not linked.
     Unlinked,
-    /// An element that comes in.
+    /// A call that enqueues an element.
     Enqueue(u64),
-    /// An element that comes back, where its party is not there or has no free room.
-    GivesBack(u64),
-    /// An element that comes out.
-    Gives(u64),
-    /// A try that gets no element.
-    GivesNone(TryDequeueError),
+    /// A call that returns its element, since its party is not there or has no free room.
+    HandsBack(u64),
+    /// A try that dequeues an element.
+    Dequeue(u64),
+    /// A try that dequeues nothing.
+    Finds(TryDequeueError),
     /// A try that is not there.
     NoTry,
 }
 
-/// Compares what a step answers with what is wanted.
-fn answers(
+/// Asserts what a step returns.
+fn returns(
     rt: &impl Abort,
     core: &mut QueueCore<u64>,
     party: usize,
@@ -103,7 +103,7 @@ fn answers(
     same(rt, core.step(party, step.of_core()), Ok(wanted));
 }
 
-/// Compares what a step answers that is not there with what is wanted.
+/// Asserts what a step that is not there returns.
 fn not_there(
     rt: &impl Abort,
     core: &mut QueueCore<u64>,
@@ -115,21 +115,21 @@ fn not_there(
     same(rt, core.step(party, step.of_core()), wanted);
 }
 
-/// Compares what a step, or a call of several, answers with what is wanted.
+/// Asserts what a step, or a call of several, returns.
 fn does(rt: &impl Abort, core: &mut QueueCore<u64>, party: usize, call: Call) {
     match call {
-        Call::Done(step) => answers(rt, core, party, step, QueueAnswer::Done),
+        Call::Done(step) => returns(rt, core, party, step, QueueAnswer::Done),
         Call::NotThere(step, back) => not_there(rt, core, party, step, back),
-        Call::Taken => answers(rt, core, party, NumberStep::Take, QueueAnswer::Taken),
-        Call::Busy => answers(rt, core, party, NumberStep::Take, QueueAnswer::Busy),
-        Call::Out(element) => answers(
+        Call::Taken => returns(rt, core, party, NumberStep::Take, QueueAnswer::Taken),
+        Call::Busy => returns(rt, core, party, NumberStep::Take, QueueAnswer::Busy),
+        Call::Out(element) => returns(
             rt,
             core,
             party,
             NumberStep::ReadNext,
             QueueAnswer::Out(element),
         ),
-        Call::Unlinked => answers(
+        Call::Unlinked => returns(
             rt,
             core,
             party,
@@ -137,17 +137,17 @@ fn does(rt: &impl Abort, core: &mut QueueCore<u64>, party: usize, call: Call) {
             QueueAnswer::Inconsistent,
         ),
         Call::Enqueue(element) => same(rt, core.enqueue(party, element), Ok(())),
-        Call::GivesBack(element) => {
+        Call::HandsBack(element) => {
             let wanted = Err((StepError::NotThere, element));
             same(rt, core.enqueue(party, element), wanted);
         }
-        Call::Gives(element) => same(rt, core.try_dequeue(party), Ok(Ok(element))),
-        Call::GivesNone(error) => same(rt, core.try_dequeue(party), Ok(Err(error))),
+        Call::Dequeue(element) => same(rt, core.try_dequeue(party), Ok(Ok(element))),
+        Call::Finds(error) => same(rt, core.try_dequeue(party), Ok(Err(error))),
         Call::NoTry => same(rt, core.try_dequeue(party), Err(StepError::NotThere)),
     }
 }
 
-/// Has a core answer these calls of its parties, one after the other.
+/// Makes these calls of a core's parties, one after the other, and asserts what they return.
 fn calls(rt: &impl Abort, core: &mut QueueCore<u64>, calls: &[(usize, Call)]) {
     for (party, wanted) in calls {
         does(rt, core, *party, *wanted);
@@ -164,11 +164,11 @@ fn a_swap_without_its_link_is_inconsistent(rt: HostRuntime) -> Result<(), Fail> 
             (0, Call::Done(NumberStep::Clear(Some(1)))),
             (0, Call::Done(NumberStep::Swap)),
             (1, Call::Enqueue(2)),
-            (2, Call::GivesNone(TryDequeueError::Inconsistent)),
+            (2, Call::Finds(TryDequeueError::Inconsistent)),
             (0, Call::Done(NumberStep::Link)),
-            (2, Call::Gives(1)),
-            (2, Call::Gives(2)),
-            (2, Call::GivesNone(TryDequeueError::Empty)),
+            (2, Call::Dequeue(1)),
+            (2, Call::Dequeue(2)),
+            (2, Call::Finds(TryDequeueError::Empty)),
         ],
     );
     Ok(())
@@ -193,9 +193,9 @@ fn a_producer_overtakes_the_stub(rt: HostRuntime) -> Result<(), Fail> {
             (2, Call::Done(NumberStep::Link)),
             (2, Call::Unlinked),
             (1, Call::Done(NumberStep::Link)),
-            (2, Call::Gives(1)),
-            (2, Call::Gives(2)),
-            (2, Call::GivesNone(TryDequeueError::Empty)),
+            (2, Call::Dequeue(1)),
+            (2, Call::Dequeue(2)),
+            (2, Call::Finds(TryDequeueError::Empty)),
             (2, Call::Done(NumberStep::Give)),
         ],
     );
@@ -211,10 +211,10 @@ fn a_party_alone_without_rooms(rt: HostRuntime) -> Result<(), Fail> {
         &[
             (0, Call::NotThere(NumberStep::Swap, None)),
             (0, Call::NotThere(NumberStep::Clear(Some(1)), Some(1))),
-            (0, Call::GivesNone(TryDequeueError::Empty)),
+            (0, Call::Finds(TryDequeueError::Empty)),
             (5, Call::NoTry),
-            (0, Call::GivesBack(7)),
-            (5, Call::GivesBack(7)),
+            (0, Call::HandsBack(7)),
+            (5, Call::HandsBack(7)),
         ],
     );
     same(&rt, core.add_room(5), Err(StepError::NotThere));
@@ -231,13 +231,13 @@ fn the_right_is_with_one_party(rt: HostRuntime) -> Result<(), Fail> {
         &[
             (0, Call::Enqueue(1)),
             (0, Call::Taken),
-            (1, Call::GivesNone(TryDequeueError::Busy)),
+            (1, Call::Finds(TryDequeueError::Busy)),
             (1, Call::Busy),
-            (0, Call::Gives(1)),
-            (0, Call::GivesNone(TryDequeueError::Empty)),
+            (0, Call::Dequeue(1)),
+            (0, Call::Finds(TryDequeueError::Empty)),
             (0, Call::Done(NumberStep::Give)),
             (0, Call::NotThere(NumberStep::Give, None)),
-            (1, Call::GivesNone(TryDequeueError::Empty)),
+            (1, Call::Finds(TryDequeueError::Empty)),
         ],
     );
     Ok(())
@@ -251,12 +251,12 @@ fn one_room_is_used_again_at_once(rt: HostRuntime) -> Result<(), Fail> {
         &mut core,
         &[
             (0, Call::Enqueue(1)),
-            (1, Call::Gives(1)),
-            (0, Call::GivesBack(2)),
+            (1, Call::Dequeue(1)),
+            (0, Call::HandsBack(2)),
             (1, Call::Enqueue(3)),
-            (0, Call::Gives(3)),
+            (0, Call::Dequeue(3)),
             (0, Call::Enqueue(4)),
-            (1, Call::Gives(4)),
+            (1, Call::Dequeue(4)),
         ],
     );
     Ok(())
@@ -272,12 +272,12 @@ fn the_tail_passes_between_holders(rt: HostRuntime) -> Result<(), Fail> {
             (0, Call::Enqueue(1)),
             (1, Call::Done(NumberStep::Clear(Some(2)))),
             (1, Call::Done(NumberStep::Swap)),
-            (2, Call::GivesNone(TryDequeueError::Inconsistent)),
-            (0, Call::GivesNone(TryDequeueError::Inconsistent)),
+            (2, Call::Finds(TryDequeueError::Inconsistent)),
+            (0, Call::Finds(TryDequeueError::Inconsistent)),
             (1, Call::Done(NumberStep::Link)),
-            (0, Call::Gives(1)),
-            (2, Call::Gives(2)),
-            (2, Call::GivesNone(TryDequeueError::Empty)),
+            (0, Call::Dequeue(1)),
+            (2, Call::Dequeue(2)),
+            (2, Call::Finds(TryDequeueError::Empty)),
         ],
     );
     Ok(())
@@ -307,7 +307,7 @@ fn calls_while_the_stub_is_put_in(rt: HostRuntime) -> Result<(), Fail> {
     Ok(())
 }
 
-/// Steps of two parties, of which one links late.
+/// Returns steps of two parties, of which one links late.
 fn late_link(alloc: Global) -> Result<VecDeque<(usize, QueueStep<u64>)>, AllocError> {
     let steps = [
         (0, QueueStep::Clear(Some(1))),
@@ -322,8 +322,8 @@ fn late_link(alloc: Global) -> Result<VecDeque<(usize, QueueStep<u64>)>, AllocEr
     script_of(alloc, steps)
 }
 
-/// What these steps answer.
-const ANSWERS: [Result<QueueAnswer<u64>, (StepError, Option<u64>)>; 8] = [
+/// What these steps return.
+const REPLIES: [Result<QueueAnswer<u64>, (StepError, Option<u64>)>; 8] = [
     Ok(QueueAnswer::Done),
     Ok(QueueAnswer::Done),
     Ok(QueueAnswer::Taken),
@@ -334,9 +334,9 @@ const ANSWERS: [Result<QueueAnswer<u64>, (StepError, Option<u64>)>; 8] = [
     Err((StepError::NotThere, None)),
 ];
 
-/// Asserts what a replay of these steps says, which was not stopped.
+/// Asserts what a replay of these steps returned, which was not stopped.
 fn says_all(rt: &impl Abort, replayed: &Replay<u64>) {
-    same(rt, replayed.replies.as_slice(), ANSWERS.as_slice());
+    same(rt, replayed.replies.as_slice(), REPLIES.as_slice());
     same(rt, replayed.rest.len(), 0);
     same(rt, replayed.back, None);
     same(rt, replayed.stopped, false);
@@ -349,41 +349,41 @@ fn replays_a_late_link(rt: HostRuntime) -> Result<(), Fail> {
     says_all(&rt, &replayed);
     let mut core = replayed.core;
     let last = [
-        (1, Call::Gives(1)),
-        (1, Call::GivesNone(TryDequeueError::Empty)),
+        (1, Call::Dequeue(1)),
+        (1, Call::Finds(TryDequeueError::Empty)),
     ];
     calls(&rt, &mut core, &last);
     Ok(())
 }
 
-/// Whether a new element comes in.
-fn comes_in(core: &mut QueueCore<Counted>, drops: &Drops) -> Result<bool, AllocError> {
+/// Enqueues a new element, and returns whether it was taken.
+fn enqueues(core: &mut QueueCore<Counted>, drops: &Drops) -> Result<bool, AllocError> {
     Ok(core.enqueue(0, Counted::new(1, drops)?).is_ok())
 }
 
-/// Whether a new element is laid into a room.
+/// Puts a new element into a room, and returns whether it was taken.
 fn is_laid(core: &mut QueueCore<Counted>, drops: &Drops) -> Result<bool, AllocError> {
     let element = Counted::new(1, drops)?;
     Ok(core.step(0, QueueStep::Clear(Some(element))).is_ok())
 }
 
-/// Whether an element comes out.
-fn comes_out(core: &mut QueueCore<Counted>) -> bool {
+/// Dequeues an element, and returns whether there was one.
+fn dequeues(core: &mut QueueCore<Counted>) -> bool {
     matches!(core.try_dequeue(0), Ok(Ok(_)))
 }
 
-/// Three elements come in or are laid into a room, of which one comes out, and one more comes back.
+/// Puts three elements into rooms, two of which are enqueued and one dequeued, and has one more returned.
 fn moves_elements(
     rt: &impl Abort,
     core: &mut QueueCore<Counted>,
     drops: &Drops,
 ) -> Result<(), AllocError> {
-    same(rt, comes_in(core, drops)?, true);
-    same(rt, comes_in(core, drops)?, true);
-    same(rt, comes_out(core), true);
+    same(rt, enqueues(core, drops)?, true);
+    same(rt, enqueues(core, drops)?, true);
+    same(rt, dequeues(core), true);
     same(rt, drops.count(), 1);
     same(rt, is_laid(core, drops)?, true);
-    same(rt, comes_in(core, drops)?, false);
+    same(rt, enqueues(core, drops)?, false);
     same(rt, drops.count(), 2);
     Ok(())
 }

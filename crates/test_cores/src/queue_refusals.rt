@@ -1,4 +1,4 @@
-//! What a queue's core answers after memory was refused. These tests say more where an allocation is made to fail, as
+//! What a queue's core returns after memory was refused. These tests say more where an allocation is made to fail, as
 //! `tools/refusals` does.
 use crate::compared::same;
 use crate::scripts::script_of;
@@ -15,7 +15,7 @@ use test_support::counted::{Counted, Drops};
 fn add_party<E: Drop>(core: &mut QueueCore<E>) -> Result<usize, StepError> {
     match core.add_party() {
         Err(StepError::Memory) => core.add_party(),
-        answer => answer,
+        other => other,
     }
 }
 
@@ -23,29 +23,29 @@ fn add_party<E: Drop>(core: &mut QueueCore<E>) -> Result<usize, StepError> {
 fn add_room<E: Drop>(core: &mut QueueCore<E>, party: usize) -> Result<(), StepError> {
     match core.add_room(party) {
         Err(StepError::Memory) => core.add_room(party),
-        answer => answer,
+        other => other,
     }
 }
 
-/// An element comes in, or comes back with an error.
+/// Enqueues an element, and asserts that it is taken, or returned with an error.
 fn enqueues(
     rt: &impl Abort,
     core: &mut QueueCore<u64>,
     party: usize,
     element: u64,
-    answer: Result<(), (StepError, u64)>,
+    wanted: Result<(), (StepError, u64)>,
 ) {
-    same(rt, core.enqueue(party, element), answer);
+    same(rt, core.enqueue(party, element), wanted);
 }
 
-/// An element comes out, or none.
+/// Dequeues an element, and asserts it, or the error.
 fn dequeues(
     rt: &impl Abort,
     core: &mut QueueCore<u64>,
     party: usize,
-    answer: Result<u64, TryDequeueError>,
+    wanted: Result<u64, TryDequeueError>,
 ) {
-    same(rt, core.try_dequeue(party), Ok(answer));
+    same(rt, core.try_dequeue(party), Ok(wanted));
 }
 
 #[test]
@@ -68,7 +68,7 @@ fn parties_and_rooms_come_at_the_second_call(rt: HostRuntime) {
     dequeues(&rt, &mut core, 8, Err(TryDequeueError::Empty));
 }
 
-/// A batch that comes out, by a second call where the first was refused memory.
+/// Takes a batch, by a second call where the first was refused memory.
 fn take_linked(
     core: &mut QueueCore<Counted>,
     party: usize,
@@ -76,14 +76,14 @@ fn take_linked(
 ) -> Result<Result<Vec<Counted>, TryDequeueError>, StepError> {
     match core.take_linked(party, max) {
         Err(StepError::Memory) => core.take_linked(party, max),
-        answer => answer,
+        other => other,
     }
 }
 
-/// A batch of these values comes out, and is dropped.
+/// Takes a batch, asserts its values, and drops it.
 fn batches(rt: &impl Abort, core: &mut QueueCore<Counted>, max: usize, values: &[u64]) {
     let Ok(Ok(batch)) = take_linked(core, 0, max) else {
-        panic!(rt; "no batch came out");
+        panic!(rt; "no batch was returned");
     };
     same(rt, batch.len(), values.len());
     for (element, value) in batch.iter().zip(values) {
@@ -109,7 +109,7 @@ fn a_batch_comes_at_the_second_call(rt: HostRuntime) -> Result<(), Fail> {
     Ok(())
 }
 
-/// Two parties, the first with two rooms.
+/// Returns two parties, the first with two rooms.
 fn two<E: Drop>(alloc: Global) -> Result<QueueCore<E>, StepError> {
     let mut core = QueueCore::new(alloc);
     core.add_party()?;
@@ -119,7 +119,7 @@ fn two<E: Drop>(alloc: Global) -> Result<QueueCore<E>, StepError> {
     Ok(core)
 }
 
-/// An element that comes in and goes out, with steps that are not there.
+/// Returns the steps by which an element is enqueued and dequeued, with steps that are not there.
 fn script(alloc: Global) -> Result<VecDeque<(usize, QueueStep<u64>)>, AllocError> {
     let steps = [
         (0, QueueStep::Clear(Some(1))),
@@ -142,8 +142,8 @@ fn script(alloc: Global) -> Result<VecDeque<(usize, QueueStep<u64>)>, AllocError
     script_of(alloc, steps)
 }
 
-/// What the script's steps answer.
-const ANSWERS: [Result<QueueAnswer<u64>, (StepError, Option<u64>)>; 16] = [
+/// What the script's steps return.
+const REPLIES: [Result<QueueAnswer<u64>, (StepError, Option<u64>)>; 16] = [
     Ok(QueueAnswer::Done),
     Ok(QueueAnswer::Done),
     Ok(QueueAnswer::Taken),
@@ -162,20 +162,20 @@ const ANSWERS: [Result<QueueAnswer<u64>, (StepError, Option<u64>)>; 16] = [
     Ok(QueueAnswer::Done),
 ];
 
-/// Asserts what a replay of the script from its first step says, to its end or to where memory was refused.
+/// Asserts what a replay of the script from its first step returned, to its end or to where memory was refused.
 fn begins(rt: &impl Abort, first: &Replay<u64>) {
     let taken = first.replies.len();
-    assert!(rt; taken <= ANSWERS.len());
-    same(rt, first.replies.as_slice(), &ANSWERS[..taken]);
-    same(rt, first.rest.len(), ANSWERS.len() - taken);
-    same(rt, first.stopped, taken < ANSWERS.len());
+    assert!(rt; taken <= REPLIES.len());
+    same(rt, first.replies.as_slice(), &REPLIES[..taken]);
+    same(rt, first.rest.len(), REPLIES.len() - taken);
+    same(rt, first.stopped, taken < REPLIES.len());
     same(rt, first.back, None);
 }
 
-/// Asserts what a replay of the rest says, which comes to its end.
+/// Asserts what a replay of the rest returned, which reached its end.
 fn goes_on(rt: &impl Abort, second: &Replay<u64>, taken: usize) {
-    assert!(rt; taken <= ANSWERS.len());
-    same(rt, second.replies.as_slice(), &ANSWERS[taken..]);
+    assert!(rt; taken <= REPLIES.len());
+    same(rt, second.replies.as_slice(), &REPLIES[taken..]);
     same(rt, second.rest.len(), 0);
     same(rt, second.back, None);
     same(rt, second.stopped, false);
@@ -191,7 +191,7 @@ fn a_replay_goes_on_from_its_rest(rt: HostRuntime) -> Result<(), Fail> {
     Ok(())
 }
 
-/// An element that comes in and goes out, one that is let go where it stands, and one that comes back.
+/// Returns steps with three elements: one is enqueued and dequeued, one left in the core, and one returned.
 fn counted_script(
     alloc: Global,
     drops: &Drops,

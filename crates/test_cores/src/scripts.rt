@@ -2,7 +2,7 @@
 use std::alloc::{AllocError, Global};
 use std::collections::VecDeque;
 
-/// A script of the parties' steps.
+/// Returns a script of the parties' steps.
 pub fn script_of<S: Drop, const N: usize>(
     alloc: Global,
     steps: [(usize, S); N],

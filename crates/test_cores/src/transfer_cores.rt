@@ -11,7 +11,7 @@ use std::process::Abort;
 use std::test::Fail;
 use test_support::counted::{Counted, Drops};
 
-/// Adds so many parties.
+/// Adds this many parties.
 fn add_parties<E: Drop>(core: &mut TransferCore<E>, parties: usize) -> Result<(), StepError> {
     for _ in 0..parties {
         core.add_party()?;
@@ -27,7 +27,7 @@ fn add_rooms<E: Drop>(core: &mut TransferCore<E>, rooms: &[usize]) -> Result<(),
     Ok(())
 }
 
-/// A core with so many parties, and with a room for each of the parties that are named.
+/// Returns a core with this many parties, and with a room for each of the parties that are named.
 fn core_with<E: Drop>(
     alloc: Global,
     parties: usize,
@@ -39,7 +39,7 @@ fn core_with<E: Drop>(
     Ok(core)
 }
 
-/// Three parties, the first two with a room.
+/// Returns three parties, the first two with a room.
 fn three(alloc: Global) -> Result<TransferCore<u64>, StepError> {
     core_with(alloc, 3, &[0, 1])
 }
@@ -55,7 +55,7 @@ enum NumberStep {
 }
 
 impl NumberStep {
-    /// The core's own.
+    /// Returns the core's step.
     fn of_core(self) -> TransferStep<u64> {
         match self {
             NumberStep::Load(element) => TransferStep::Load(element),
@@ -67,37 +67,37 @@ impl NumberStep {
     }
 }
 
-/// A call of a core, and what it has to answer.
+/// A call of a core, and what it must return.
 #[derive(Clone, Copy)]
 enum Call<'a> {
-    /// The party comes in, under its number.
+    /// The party is added, under its number.
     Comes,
     /// The party gets a room, or the error.
     Room(Result<(), StepError>),
     /// A step that is taken, with more to do.
     Done(NumberStep),
-    /// A step that is not there, and brings no element.
+    /// A step that is not there, and returns no element.
     NotThere(NumberStep),
     /// The step that ends a push, and whether the stack was empty.
     Pushed(bool),
-    /// The step that fails a push, which gives its element back.
+    /// The step that fails a push, which returns its element.
     Failed(u64),
     /// The step that takes what is held.
     Taken,
     /// The step that takes, where nothing is held.
     Nothing,
-    /// The step that hands the last element out.
+    /// The step that returns the last element.
     Last(u64),
     /// A push, and whether the stack was empty.
     Push(u64, bool),
-    /// A push that is not there, and gives its element back.
-    GivesBack(u64),
+    /// A push that is not there, and returns its element.
+    HandsBack(u64),
     /// All that is held.
     Takes(&'a [u64]),
 }
 
-/// Compares what a step answers with what is wanted.
-fn answers(
+/// Asserts what a step returns.
+fn returns(
     rt: &impl Abort,
     core: &mut TransferCore<u64>,
     party: usize,
@@ -107,19 +107,19 @@ fn answers(
     same(rt, core.step(party, step.of_core()), Ok(wanted));
 }
 
-/// Compares what a step that is not there answers with what is wanted.
+/// Asserts what a step that is not there returns.
 fn not_there(rt: &impl Abort, core: &mut TransferCore<u64>, party: usize, step: NumberStep) {
     let wanted = Err((StepError::NotThere, None));
     same(rt, core.step(party, step.of_core()), wanted);
 }
 
-/// Compares what a push that is not there answers with what is wanted.
-fn gives_back(rt: &impl Abort, core: &mut TransferCore<u64>, party: usize, element: u64) {
+/// Asserts what a push that is not there returns.
+fn hands_back(rt: &impl Abort, core: &mut TransferCore<u64>, party: usize, element: u64) {
     let wanted = Err((StepError::NotThere, element));
     same(rt, core.push_was_empty(party, element), wanted);
 }
 
-/// A push that is taken, and whether the stack was empty.
+/// Pushes an element, and asserts whether the stack was empty.
 fn pushes(
     rt: &impl Abort,
     core: &mut TransferCore<u64>,
@@ -130,7 +130,7 @@ fn pushes(
     same(rt, core.push_was_empty(party, element), Ok(was_empty));
 }
 
-/// A batch that is taken.
+/// Takes a batch, and asserts its elements.
 fn takes(
     rt: &impl Abort,
     core: &mut TransferCore<u64>,
@@ -141,7 +141,7 @@ fn takes(
     Ok(())
 }
 
-/// Compares what a step, or a call of several, answers with what is wanted.
+/// Asserts what a step, or a call of several, returns.
 fn does(
     rt: &impl Abort,
     core: &mut TransferCore<u64>,
@@ -150,20 +150,20 @@ fn does(
 ) -> Result<(), StepError> {
     match call {
         Call::Comes => same(rt, core.add_party(), Ok(party)),
-        Call::Room(answer) => same(rt, core.add_room(party), answer),
-        Call::Done(step) => answers(rt, core, party, step, TransferAnswer::Done),
+        Call::Room(wanted) => same(rt, core.add_room(party), wanted),
+        Call::Done(step) => returns(rt, core, party, step, TransferAnswer::Done),
         Call::NotThere(step) => not_there(rt, core, party, step),
         Call::Pushed(first) => {
             let wanted = TransferAnswer::Pushed(first);
-            answers(rt, core, party, NumberStep::Exchange, wanted);
+            returns(rt, core, party, NumberStep::Exchange, wanted);
         }
         Call::Failed(element) => {
             let wanted = TransferAnswer::Failed(element);
-            answers(rt, core, party, NumberStep::Exchange, wanted);
+            returns(rt, core, party, NumberStep::Exchange, wanted);
         }
-        Call::Taken => answers(rt, core, party, NumberStep::Take, TransferAnswer::Taken),
-        Call::Nothing => answers(rt, core, party, NumberStep::Take, TransferAnswer::Nothing),
-        Call::Last(element) => answers(
+        Call::Taken => returns(rt, core, party, NumberStep::Take, TransferAnswer::Taken),
+        Call::Nothing => returns(rt, core, party, NumberStep::Take, TransferAnswer::Nothing),
+        Call::Last(element) => returns(
             rt,
             core,
             party,
@@ -171,13 +171,13 @@ fn does(
             TransferAnswer::Last(element),
         ),
         Call::Push(element, first) => pushes(rt, core, party, element, first),
-        Call::GivesBack(element) => gives_back(rt, core, party, element),
+        Call::HandsBack(element) => hands_back(rt, core, party, element),
         Call::Takes(batch) => takes(rt, core, party, batch)?,
     }
     Ok(())
 }
 
-/// Has a core answer these calls of its parties, one after the other.
+/// Makes these calls of a core's parties, one after the other, and asserts what they return.
 fn calls(
     rt: &impl Abort,
     core: &mut TransferCore<u64>,
@@ -201,8 +201,8 @@ fn parties_and_rooms_are_there(rt: HostRuntime) -> Result<(), Fail> {
             (1, Call::Comes),
             (1, Call::Room(Ok(()))),
             (2, Call::Room(Err(StepError::NotThere))),
-            (0, Call::GivesBack(7)),
-            (2, Call::GivesBack(7)),
+            (0, Call::HandsBack(7)),
+            (2, Call::HandsBack(7)),
             (1, Call::Push(7, true)),
             (2, Call::NotThere(NumberStep::Take)),
         ],
@@ -258,9 +258,9 @@ fn rooms_come_back_by_a_walk(rt: HostRuntime) -> Result<(), Fail> {
             (0, Call::Comes),
             (0, Call::Room(Ok(()))),
             (0, Call::Push(1, true)),
-            (0, Call::GivesBack(2)),
+            (0, Call::HandsBack(2)),
             (0, Call::Taken),
-            (0, Call::GivesBack(3)),
+            (0, Call::HandsBack(3)),
             (0, Call::Last(1)),
             (0, Call::Push(3, true)),
             (0, Call::Takes(&[3])),
@@ -294,7 +294,7 @@ fn the_same_room_is_at_the_head_again(rt: HostRuntime) -> Result<(), Fail> {
     Ok(())
 }
 
-/// Steps of three parties, some of which are refused.
+/// Returns steps of three parties, some of which are refused.
 fn script(alloc: Global) -> Result<VecDeque<(usize, TransferStep<u64>)>, AllocError> {
     let steps = [
         (0, TransferStep::Load(1)),
@@ -317,8 +317,8 @@ fn script(alloc: Global) -> Result<VecDeque<(usize, TransferStep<u64>)>, AllocEr
     script_of(alloc, steps)
 }
 
-/// What the script's steps answer.
-const ANSWERS: [Result<TransferAnswer<u64>, (StepError, Option<u64>)>; 16] = [
+/// What the script's steps return.
+const REPLIES: [Result<TransferAnswer<u64>, (StepError, Option<u64>)>; 16] = [
     Ok(TransferAnswer::Done),
     Ok(TransferAnswer::Done),
     Err((StepError::NotThere, None)),
@@ -337,9 +337,9 @@ const ANSWERS: [Result<TransferAnswer<u64>, (StepError, Option<u64>)>; 16] = [
     Err((StepError::NotThere, None)),
 ];
 
-/// Asserts what a replay of the script says, which was not stopped.
+/// Asserts what a replay of the script returned, which was not stopped.
 fn says_all(rt: &impl Abort, replayed: &Replay<u64>) {
-    same(rt, replayed.replies.as_slice(), ANSWERS.as_slice());
+    same(rt, replayed.replies.as_slice(), REPLIES.as_slice());
     same(rt, replayed.rest.len(), 0);
     same(rt, replayed.back, None);
     same(rt, replayed.stopped, false);
@@ -359,20 +359,20 @@ fn replays_a_script(rt: HostRuntime) -> Result<(), Fail> {
     Ok(())
 }
 
-/// Asserts what a replay of the script from its first step says, to its end or to where memory was refused.
+/// Asserts what a replay of the script from its first step returned, to its end or to where memory was refused.
 fn begins(rt: &impl Abort, first: &Replay<u64>) {
     let taken = first.replies.len();
-    assert!(rt; taken <= ANSWERS.len());
-    same(rt, first.replies.as_slice(), &ANSWERS[..taken]);
-    same(rt, first.rest.len(), ANSWERS.len() - taken);
-    same(rt, first.stopped, taken < ANSWERS.len());
+    assert!(rt; taken <= REPLIES.len());
+    same(rt, first.replies.as_slice(), &REPLIES[..taken]);
+    same(rt, first.rest.len(), REPLIES.len() - taken);
+    same(rt, first.stopped, taken < REPLIES.len());
     same(rt, first.back, None);
 }
 
-/// Asserts what a replay of the rest says, which comes to its end.
+/// Asserts what a replay of the rest returned, which reached its end.
 fn goes_on(rt: &impl Abort, second: &Replay<u64>, taken: usize) {
-    assert!(rt; taken <= ANSWERS.len());
-    same(rt, second.replies.as_slice(), &ANSWERS[taken..]);
+    assert!(rt; taken <= REPLIES.len());
+    same(rt, second.replies.as_slice(), &REPLIES[taken..]);
     same(rt, second.rest.len(), 0);
     same(rt, second.back, None);
     same(rt, second.stopped, false);
@@ -393,7 +393,7 @@ fn finishes_from_the_rest(rt: HostRuntime) -> Result<(), Fail> {
 fn add_party<E: Drop>(core: &mut TransferCore<E>) -> Result<usize, StepError> {
     match core.add_party() {
         Err(StepError::Memory) => core.add_party(),
-        answer => answer,
+        other => other,
     }
 }
 
@@ -401,7 +401,7 @@ fn add_party<E: Drop>(core: &mut TransferCore<E>) -> Result<usize, StepError> {
 fn add_room<E: Drop>(core: &mut TransferCore<E>, party: usize) -> Result<(), StepError> {
     match core.add_room(party) {
         Err(StepError::Memory) => core.add_room(party),
-        answer => answer,
+        other => other,
     }
 }
 
@@ -409,11 +409,11 @@ fn add_room<E: Drop>(core: &mut TransferCore<E>, party: usize) -> Result<(), Ste
 fn take_all<E: Drop>(core: &mut TransferCore<E>, party: usize) -> Result<Vec<E>, StepError> {
     match core.take_all(party) {
         Err(StepError::Memory) => core.take_all(party),
-        answer => answer,
+        other => other,
     }
 }
 
-/// A value comes in and goes out alone.
+/// Pushes a value alone and takes it.
 fn passes(
     rt: &impl Abort,
     core: &mut TransferCore<Counted>,
@@ -447,24 +447,24 @@ fn goes_on_after_refused_memory(rt: HostRuntime) -> Result<(), Fail> {
     Ok(())
 }
 
-/// A value that is counted when it is made and when it is dropped.
+/// Returns a value that is counted when it is made and when it is dropped.
 fn counted(drops: &Drops, made: &Cell<u64>) -> Result<Counted, AllocError> {
     let value = Counted::new(made.get(), drops)?;
     made.set(made.get().wrapping_add(1));
     Ok(value)
 }
 
-/// Takes a step, and lets go what it answers.
+/// Takes a step, and drops what it returns.
 fn step(core: &mut TransferCore<Counted>, party: usize, step: TransferStep<Counted>) {
     let _ = core.step(party, step);
 }
 
-/// Pushes a value, and lets go what the push gives back.
+/// Pushes a value, and drops what the push returns.
 fn push(core: &mut TransferCore<Counted>, party: usize, value: Counted) {
     let _ = core.push_was_empty(party, value);
 }
 
-/// Steps with elements that are loaded, refused and exchanged.
+/// Returns steps with elements that are loaded, refused and exchanged.
 fn last_steps(
     alloc: Global,
     drops: &Drops,
@@ -483,7 +483,7 @@ fn last_steps(
     script_of(alloc, steps)
 }
 
-/// One party pushes two elements, and another's push of a third is overtaken.
+/// Pushes two elements by one party, which overtakes another's push of a third.
 fn overtakes(
     core: &mut TransferCore<Counted>,
     drops: &Drops,
@@ -497,7 +497,7 @@ fn overtakes(
     Ok(())
 }
 
-/// A party that can push nothing begins to take, and two more elements come while it does.
+/// Begins to take by a party that can push nothing, and pushes two more elements meanwhile.
 fn walks_on(
     core: &mut TransferCore<Counted>,
     drops: &Drops,
@@ -512,7 +512,7 @@ fn walks_on(
     Ok(())
 }
 
-/// Elements that are held, in hand, on a walk, refused, given back, handed out, taken, and in the rest of a replay.
+/// Makes elements that are held, in hand, on a walk, refused, returned, taken, and in the rest of a replay.
 fn elements_everywhere(alloc: Global, drops: &Drops, made: &Cell<u64>) -> Result<(), AllocError> {
     let Ok(mut core) = core_with(alloc, 3, &[0, 1, 0, 0]) else {
         return Err(AllocError);

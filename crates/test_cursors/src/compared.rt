@@ -1,10 +1,10 @@
-//! Comparisons of what came with what was wanted.
+//! Comparisons of values with those that are wanted.
 ghost use Rattle.std.specs.Prelude.{◌≤◌};
 
 use std::fmt::Debug;
 use std::process::Abort;
 
-/// Asserts that what came is what was wanted. Where they differ, it says both.
+/// Asserts that a value is the one that is wanted, and prints both where they differ.
 pub fn same<T: PartialEq + Debug + Drop>(rt: &impl Abort, came: T, wanted: T) {
     assert_eq!(rt; came, wanted);
 }

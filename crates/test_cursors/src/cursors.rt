@@ -1,7 +1,7 @@
 //! Cursors: moves, what they see, and what they change.
 use crate::compared::{at_most, same};
 use crate::items::{
-    Sight, after, back, before, comes_out, forth, holds, list_of, push_back, reads, shows,
+    Sight, after, back, before, forth, has_number, holds, list_of, push_back, reads, shows,
     shows_mut, splice_after, splice_before,
 };
 use cordyceps_list::cursor::Cursor;
@@ -131,7 +131,7 @@ fn removes_around_the_ends(rt: &impl Abort, list: &mut List<Item>) {
     .as_slice()
     {
         go(&mut cursor, *moves);
-        comes_out(rt, cursor.remove_current(), *wanted);
+        has_number(rt, cursor.remove_current(), *wanted);
     }
 }
 
@@ -148,19 +148,24 @@ fn inserts_around_the_ends(rt: HostRuntime) -> Result<(), Fail> {
 }
 
 /// Splices two lists in around the front.
-fn splices_around(rt: &impl Abort, list: &mut List<Item>, behind: List<Item>, ahead: List<Item>) {
+fn splices_around(
+    rt: &impl Abort,
+    list: &mut List<Item>,
+    following: List<Item>,
+    preceding: List<Item>,
+) {
     let mut cursor = list.cursor_front_mut();
-    splice_after(rt, &mut cursor, behind);
-    splice_before(rt, &mut cursor, ahead);
+    splice_after(rt, &mut cursor, following);
+    splice_before(rt, &mut cursor, preceding);
     same(rt, cursor.index(), Some(4));
 }
 
 #[test]
 fn splices_lists_in(rt: HostRuntime) -> Result<(), Fail> {
     let mut list = list_of(&rt, rt.alloc(), &[1, 2, 3, 4, 5, 6])?;
-    let behind = list_of(&rt, rt.alloc(), &[100, 101, 102, 103])?;
-    let ahead = list_of(&rt, rt.alloc(), &[200, 201, 202, 203])?;
-    splices_around(&rt, &mut list, behind, ahead);
+    let following = list_of(&rt, rt.alloc(), &[100, 101, 102, 103])?;
+    let preceding = list_of(&rt, rt.alloc(), &[200, 201, 202, 203])?;
+    splices_around(&rt, &mut list, following, preceding);
     holds(
         &rt,
         &list,
@@ -172,14 +177,14 @@ fn splices_lists_in(rt: HostRuntime) -> Result<(), Fail> {
     Ok(())
 }
 
-/// Splits a list before the place that is so many moves behind its front, and gives its first part.
+/// Splits a list before the place at this distance from its front, and returns the first part.
 fn split_before(list: &mut List<Item>, moves: usize) -> List<Item> {
     let mut cursor = list.cursor_front_mut();
     forth(&mut cursor, moves);
     cursor.split_before()
 }
 
-/// Splits a list behind the place that is so many moves behind its front, and gives its last part.
+/// Splits a list after the place at this distance from its front, and returns the last part.
 fn split_after(list: &mut List<Item>, moves: usize) -> List<Item> {
     let mut cursor = list.cursor_front_mut();
     forth(&mut cursor, moves);
@@ -198,8 +203,8 @@ fn splits_before_each_place(rt: &impl Abort, alloc: Global) -> Result<(), AllocE
     Ok(())
 }
 
-/// Splits a list behind each of its places, and over its ends.
-fn splits_behind_each_place(rt: &impl Abort, alloc: Global) -> Result<(), AllocError> {
+/// Splits a list after each of its places, and over its ends.
+fn splits_after_each_place(rt: &impl Abort, alloc: Global) -> Result<(), AllocError> {
     let all = [1u64, 2, 3, 4, 5];
     for moves in 0..5usize {
         let mut list = list_of(rt, alloc, &all)?;
@@ -217,7 +222,7 @@ fn splits_behind_each_place(rt: &impl Abort, alloc: Global) -> Result<(), AllocE
 #[test]
 fn splits_at_each_place(rt: HostRuntime) -> Result<(), Fail> {
     splits_before_each_place(&rt, rt.alloc())?;
-    splits_behind_each_place(&rt, rt.alloc())?;
+    splits_after_each_place(&rt, rt.alloc())?;
     Ok(())
 }
 
@@ -232,7 +237,7 @@ fn writes(item: Option<&mut Item>, value: u64) {
 fn removes_three(rt: &impl Abort, cursor: &mut CursorMut<'_, Item>) {
     same(rt, (cursor.len(), cursor.is_empty()), (3, false));
     let removed = cursor.remove_first(|item: &Item| item.value == 3);
-    comes_out(rt, removed, Some(3));
+    has_number(rt, removed, Some(3));
     same(rt, cursor.index(), None);
 }
 
@@ -319,7 +324,7 @@ fn turns_over(rt: &impl Abort, cursor: &mut CursorMut<'_, Item>) {
     }
 }
 
-/// Puts the items from one up to before another last.
+/// Appends the items from one number up to another, without the latter.
 fn put_many(
     rt: &impl Abort,
     alloc: Global,
@@ -333,7 +338,7 @@ fn put_many(
     Ok(())
 }
 
-/// Takes as many items from either end of a list of `MANY`.
+/// Removes as many items from either end of a list of `MANY`.
 fn takes_from_both_ends(rt: &impl Abort, list: &mut List<Item>) {
     let mut left = list.iter_mut();
     for _ in 0..MANY / 2 {
@@ -356,12 +361,12 @@ fn steps_take_few_moves(rt: HostRuntime) -> Result<(), Fail> {
     Ok(())
 }
 
-/// How often the next test looks around behind a splice, halfway between the ends of a list of twice as many items: if a
+/// How often the next test looks around after a splice, halfway between the ends of a list of twice as many items: if a
 /// look took as many moves as were spliced in, the test would not end in its time.
 const LOOKS: u64 = 100_000;
 
-/// Splices a list in behind the cursor, and looks around there.
-fn looks_behind(
+/// Splices a list in after the cursor, and looks around there.
+fn looks_around(
     rt: &impl Abort,
     cursor: &mut CursorMut<'_, Item>,
     more: List<Item>,
@@ -374,17 +379,17 @@ fn looks_behind(
 }
 
 #[test]
-fn looks_behind_a_splice_take_few_moves(rt: HostRuntime) -> Result<(), Fail> {
+fn looks_after_a_splice_take_few_moves(rt: HostRuntime) -> Result<(), Fail> {
     let alloc = rt.alloc();
     let (mut list, mut more) = (List::new(), List::new());
     put_many(&rt, alloc, &mut list, 0, 100_001)?;
     put_many(&rt, alloc, &mut more, 100_001, 200_000)?;
     let halfway = (Some(100_000), Some(100_001), Some(99_999), Some(100_000));
-    looks_behind(&rt, &mut list.cursor_back_mut(), more, halfway);
+    looks_around(&rt, &mut list.cursor_back_mut(), more, halfway);
     let first = list_of(&rt, alloc, &[7])?;
     let mut cursor = list.cursor_front_mut();
     cursor.move_prev();
     let null = (None, Some(7), Some(199_999), None);
-    looks_behind(&rt, &mut cursor, first, null);
+    looks_around(&rt, &mut cursor, first, null);
     Ok(())
 }

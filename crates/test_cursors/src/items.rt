@@ -14,7 +14,7 @@ pub fn shows(rt: &impl Abort, item: Option<&Item>, wanted: Option<u64>) {
     same(rt, value(item), wanted);
 }
 
-/// The value of an item that is lent to be written.
+/// Returns the value of an item that is lent to be written.
 fn value_mut(item: Option<&mut Item>) -> Option<u64> {
     match item {
         Some(item) => Some(item.value),
@@ -27,12 +27,12 @@ pub fn shows_mut(rt: &impl Abort, item: Option<&mut Item>, wanted: Option<u64>) 
     same(rt, value_mut(item), wanted);
 }
 
-/// Asserts the number of a node that came out, or that there is none.
-pub fn comes_out(rt: &impl Abort, node: Option<Handle>, wanted: Option<u64>) {
+/// Asserts the number of a node that was removed, or that there is none.
+pub fn has_number(rt: &impl Abort, node: Option<Handle>, wanted: Option<u64>) {
     same(rt, number(node), wanted);
 }
 
-/// Puts the item `v` behind those of the list.
+/// Appends the item `v` to the list.
 pub fn push_back(
     rt: &impl Abort,
     alloc: Global,
@@ -44,7 +44,7 @@ pub fn push_back(
     Ok(())
 }
 
-/// A list of the items.
+/// Returns a list of the items.
 pub fn list_of(rt: &impl Abort, alloc: Global, items: &[u64]) -> Result<List<Item>, AllocError> {
     let mut list = List::new();
     for v in items {
@@ -75,7 +75,7 @@ pub fn reads(rt: &impl Abort, reader: &Cursor<'_, Item>, wanted: Sight) {
     same(rt, reader.index(), index);
 }
 
-/// Puts the item `v` in before the cursor.
+/// Inserts the item `v` before the cursor.
 pub fn before(
     rt: &impl Abort,
     alloc: Global,
@@ -87,7 +87,7 @@ pub fn before(
     Ok(())
 }
 
-/// Puts the item `v` in behind the cursor.
+/// Inserts the item `v` after the cursor.
 pub fn after(
     rt: &impl Abort,
     alloc: Global,
@@ -106,21 +106,21 @@ pub fn splice_before(rt: &impl Abort, cursor: &mut CursorMut<'_, Item>, more: Li
     cursor.splice_before(more);
 }
 
-/// Splices a list in behind the cursor.
+/// Splices a list in after the cursor.
 pub fn splice_after(rt: &impl Abort, cursor: &mut CursorMut<'_, Item>, more: List<Item>) {
     at_most(rt, cursor.len(), 1_000_000);
     at_most(rt, more.len(), 1_000_000);
     cursor.splice_after(more);
 }
 
-/// Moves a cursor forth so often.
+/// Moves a cursor this many places forward.
 pub fn forth(cursor: &mut CursorMut<'_, Item>, moves: usize) {
     for _ in 0..moves {
         cursor.move_next();
     }
 }
 
-/// Moves a cursor back so often.
+/// Moves a cursor this many places back.
 pub fn back(cursor: &mut CursorMut<'_, Item>, moves: usize) {
     for _ in 0..moves {
         cursor.move_prev();

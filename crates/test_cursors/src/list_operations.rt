@@ -1,6 +1,6 @@
 //! Runs of many operations on a list, beside a queue that should hold the same.
 use crate::compared::{at_most, same};
-use crate::items::{after, back, before, comes_out, forth, push_back, shows};
+use crate::items::{after, back, before, forth, has_number, push_back, shows};
 use cordyceps_list::cursor_mut::CursorMut;
 use cordyceps_list::list::List;
 use std::alloc::{AllocError, Global};
@@ -80,7 +80,7 @@ impl Both {
         same(rt, last, self.queue.pop_back());
     }
 
-    /// Puts what the other two hold behind what these hold.
+    /// Appends what the other two hold to what these hold.
     fn join(&mut self, rt: &impl Abort, more: &mut Both) -> Result<(), AllocError> {
         at_most(rt, self.list.len(), 1_000_000);
         at_most(rt, more.list.len(), 1_000_000);
@@ -110,7 +110,7 @@ impl Both {
         Ok(())
     }
 
-    /// What stands from a place on, split off.
+    /// Splits both off at a place, and returns the part from there on.
     fn split_off(&mut self, rt: &impl Abort, at: usize) -> Result<Both, AllocError> {
         at_most(rt, at, self.list.len());
         at_most(rt, at, self.queue.len());
@@ -144,7 +144,7 @@ impl Both {
             Some(at) => self.queue.remove(at),
             None => None,
         };
-        comes_out(rt, self.list.remove(v), wanted);
+        has_number(rt, self.list.remove(v), wanted);
     }
 
     /// Moves a cursor to a drawn place, and inserts there or removes.
@@ -160,17 +160,17 @@ impl Both {
         let kind = draws.below(3);
         let mut cursor = moved(rt, &mut self.list, at, draws);
         sees(rt, &cursor, &self.queue, at);
-        let stands = match kind {
+        let place = match kind {
             0 => insert_before(rt, alloc, &mut cursor, &mut self.queue, at, v)?,
             1 => insert_after(rt, alloc, &mut cursor, &mut self.queue, at, v)?,
             _ => remove_current(rt, &mut cursor, &mut self.queue, at),
         };
-        sees(rt, &cursor, &self.queue, stands);
+        sees(rt, &cursor, &self.queue, place);
         Ok(())
     }
 }
 
-/// A cursor that went to a place over the front or over the back, from either end.
+/// Returns a cursor that went to a place over the front or over the back, from either end.
 fn moved<'a>(
     rt: &impl Abort,
     list: &'a mut List<Item>,
@@ -216,7 +216,7 @@ fn sees(rt: &impl Abort, cursor: &CursorMut<'_, Item>, queue: &VecDeque<u64>, at
     shows(rt, cursor.peek_prev(), queue.get(prev).copied());
 }
 
-/// Inserts before the cursor at a place, and answers the place where it stands then.
+/// Inserts before the cursor at a place, and returns the cursor's new place.
 fn insert_before(
     rt: &impl Abort,
     alloc: Global,
@@ -232,7 +232,7 @@ fn insert_before(
     Ok(at + 1)
 }
 
-/// Inserts behind the cursor at a place, and answers the place where it stands then.
+/// Inserts after the cursor at a place, and returns the cursor's new place.
 fn insert_after(
     rt: &impl Abort,
     alloc: Global,
@@ -253,7 +253,7 @@ fn insert_after(
     }
 }
 
-/// Removes what the cursor at a place is at, and answers the place where it stands then.
+/// Removes the item that the cursor is at, and returns the cursor's new place.
 fn remove_current(
     rt: &impl Abort,
     cursor: &mut CursorMut<'_, Item>,
@@ -261,7 +261,7 @@ fn remove_current(
     at: usize,
 ) -> usize {
     let wanted = queue.remove(at);
-    comes_out(rt, cursor.remove_current(), wanted);
+    has_number(rt, cursor.remove_current(), wanted);
     at
 }
 

@@ -1,7 +1,7 @@
 //! Walks over lists by iterators and cursors, and lists that are split and spliced.
 use crate::compared::{at_most, same};
 use crate::items::{
-    after, back, before, comes_out, forth, holds, list_of, push_back, reads, shows, shows_mut,
+    after, back, before, forth, has_number, holds, list_of, push_back, reads, shows, shows_mut,
     splice_after, splice_before,
 };
 use cordyceps_list::cursor_mut::CursorMut;
@@ -11,14 +11,14 @@ use std::process::Abort;
 use std::test::Fail;
 use test_support::items::{Item, plain};
 
-/// Adds one to the value, and answers it.
+/// Adds one to the value, and returns it.
 fn raised(item: Option<&mut Item>) -> Option<u64> {
     let item = item?;
     item.value = item.value.wrapping_add(1);
     Some(item.value)
 }
 
-/// Adds one to the value, and asserts what it is then.
+/// Adds one to the value, and asserts the result.
 fn raises(rt: &impl Abort, item: Option<&mut Item>, wanted: Option<u64>) {
     same(rt, raised(item), wanted);
 }
@@ -70,10 +70,10 @@ fn is_over(rt: &impl Abort, list: &List<Item>) {
 fn serves_back(rt: &impl Abort, alloc: Global, list: &mut List<Item>) -> Result<(), AllocError> {
     for v in [5u64, 7].as_slice() {
         pushes_front(rt, alloc, list, *v)?;
-        comes_out(rt, list.pop_back(), Some(*v));
+        has_number(rt, list.pop_back(), Some(*v));
         is_over(rt, list);
     }
-    comes_out(rt, list.pop_back(), None);
+    has_number(rt, list.pop_back(), None);
     Ok(())
 }
 
@@ -81,10 +81,10 @@ fn serves_back(rt: &impl Abort, alloc: Global, list: &mut List<Item>) -> Result<
 fn serves_front(rt: &impl Abort, alloc: Global, list: &mut List<Item>) -> Result<(), AllocError> {
     for v in [9u64, 11].as_slice() {
         pushes_back(rt, alloc, list, *v)?;
-        comes_out(rt, list.pop_front(), Some(*v));
+        has_number(rt, list.pop_front(), Some(*v));
         is_over(rt, list);
     }
-    comes_out(rt, list.pop_front(), None);
+    has_number(rt, list.pop_front(), None);
     Ok(())
 }
 
@@ -265,29 +265,29 @@ fn a_reader_goes_back_while_its_cursor_stays(rt: HostRuntime) -> Result<(), Fail
     Ok(())
 }
 
-/// Asserts what a list gives from the front, to its end.
-fn gives(rt: &impl Abort, list: &mut List<Item>, items: &[u64]) {
+/// Pops all of a list from the front, and asserts its items.
+fn pops(rt: &impl Abort, list: &mut List<Item>, items: &[u64]) {
     same(rt, list.len(), items.len());
     ends(rt, list, items.first().copied(), items.last().copied());
     for v in items {
-        comes_out(rt, list.pop_front(), Some(*v));
+        has_number(rt, list.pop_front(), Some(*v));
     }
-    comes_out(rt, list.pop_front(), None);
+    has_number(rt, list.pop_front(), None);
     same(rt, list.is_empty(), true);
 }
 
-/// Asserts what a list gives from the back, to its front.
-fn gives_back(rt: &impl Abort, list: &mut List<Item>, items: &[u64]) {
+/// Pops all of a list from the back, and asserts its items.
+fn pops_back(rt: &impl Abort, list: &mut List<Item>, items: &[u64]) {
     same(rt, list.len(), items.len());
     ends(rt, list, items.first().copied(), items.last().copied());
     for v in items.iter().rev() {
-        comes_out(rt, list.pop_back(), Some(*v));
+        has_number(rt, list.pop_back(), Some(*v));
     }
-    comes_out(rt, list.pop_back(), None);
+    has_number(rt, list.pop_back(), None);
     same(rt, list.is_empty(), true);
 }
 
-/// Asserts that both parts of a list of the items, split at a place, give theirs from either end.
+/// Splits a list of the items at a place, and asserts the items of both parts from either end.
 fn splits(rt: &impl Abort, alloc: Global, items: &[u64], at: usize) -> Result<(), AllocError> {
     for from_front in [true, false] {
         let mut list = list_of(rt, alloc, items)?;
@@ -295,11 +295,11 @@ fn splits(rt: &impl Abort, alloc: Global, items: &[u64], at: usize) -> Result<()
         at_most(rt, at, items.len());
         let mut rest = list.split_off(at);
         if from_front {
-            gives(rt, &mut list, &items[..at]);
-            gives(rt, &mut rest, &items[at..]);
+            pops(rt, &mut list, &items[..at]);
+            pops(rt, &mut rest, &items[at..]);
         } else {
-            gives_back(rt, &mut rest, &items[at..]);
-            gives_back(rt, &mut list, &items[..at]);
+            pops_back(rt, &mut rest, &items[at..]);
+            pops_back(rt, &mut list, &items[..at]);
         }
     }
     Ok(())
@@ -318,7 +318,7 @@ fn both_parts_of_a_split_are_whole(rt: HostRuntime) -> Result<(), Fail> {
     Ok(())
 }
 
-/// Drains what stands from a place on, and puts it back.
+/// Drains the items from a place on, and appends them again.
 fn drains_from(rt: &impl Abort, list: &mut List<Item>, at: usize) {
     at_most(rt, at, list.len());
     let mut rest = list.split_off(at);
@@ -341,14 +341,14 @@ fn a_drained_part_comes_back(rt: HostRuntime) -> Result<(), Fail> {
     Ok(())
 }
 
-/// Asserts that a cursor of an empty list gives nothing by a split.
+/// Asserts that splits at a cursor of an empty list return empty lists.
 fn has_nothing(rt: &impl Abort, cursor: &mut CursorMut<'_, Item>) {
     same(rt, (cursor.len(), cursor.index()), (0, None));
     same(rt, cursor.split_before().is_empty(), true);
     same(rt, cursor.split_after().is_empty(), true);
 }
 
-/// Takes all items before the place over both ends, and puts 9 into the list.
+/// Splits off all items before the null place, and inserts 9 into the list.
 fn takes_before(
     rt: &impl Abort,
     alloc: Global,
@@ -363,8 +363,8 @@ fn takes_before(
     Ok(all)
 }
 
-/// Takes all items behind the place over both ends, and puts 8 into the list.
-fn takes_behind(
+/// Splits off all items after the null place, and inserts 8 into the list.
+fn takes_after(
     rt: &impl Abort,
     alloc: Global,
     list: &mut List<Item>,
@@ -385,13 +385,13 @@ fn splits_at_the_null_place(rt: HostRuntime) -> Result<(), Fail> {
     let mut all = takes_before(&rt, rt.alloc(), &mut list)?;
     holds(&rt, &list, &[9]);
     holds(&rt, &all, &[1, 2, 3]);
-    let rest = takes_behind(&rt, rt.alloc(), &mut all)?;
+    let rest = takes_after(&rt, rt.alloc(), &mut all)?;
     holds(&rt, &all, &[8]);
     holds(&rt, &rest, &[1, 2, 3]);
     Ok(())
 }
 
-/// Splices lists in before and behind a cursor at the null place, which stays there.
+/// Splices lists in before and after a cursor at the null place, which stays there.
 fn splices(rt: &impl Abort, cursor: &mut CursorMut<'_, Item>, last: List<Item>, first: List<Item>) {
     splice_before(rt, cursor, last);
     same(rt, cursor.index(), None);
@@ -417,25 +417,25 @@ fn splices_at_the_null_place(rt: HostRuntime) -> Result<(), Fail> {
     Ok(())
 }
 
-/// Takes all of the items 1 to 5 out from the third on, and then those before it.
-fn takes_all_out(rt: &impl Abort, list: &mut List<Item>) {
+/// Removes the items 1 to 5 from the third on, and then those before it.
+fn removes_all(rt: &impl Abort, list: &mut List<Item>) {
     let mut cursor = list.cursor_front_mut();
     forth(&mut cursor, 2);
     for wanted in [Some(3u64), Some(4), Some(5), None].as_slice() {
-        comes_out(rt, cursor.remove_current(), *wanted);
+        has_number(rt, cursor.remove_current(), *wanted);
     }
     same(rt, cursor.index(), None);
     for wanted in [Some(2u64), Some(1), None].as_slice() {
         cursor.move_prev();
-        comes_out(rt, cursor.remove_current(), *wanted);
+        has_number(rt, cursor.remove_current(), *wanted);
     }
     same(rt, cursor.is_empty(), true);
 }
 
 #[test]
-fn takes_all_out_from_where_it_is(rt: HostRuntime) -> Result<(), Fail> {
+fn removes_all_from_where_it_is(rt: HostRuntime) -> Result<(), Fail> {
     let mut list = list_of(&rt, rt.alloc(), &[1, 2, 3, 4, 5])?;
-    takes_all_out(&rt, &mut list);
+    removes_all(&rt, &mut list);
     ends(&rt, &list, None, None);
     Ok(())
 }

@@ -78,7 +78,7 @@ fn links_one_way(rt: HostRuntime) -> Result<(), Fail> {
 }
 
 #[test]
-fn a_cursor_puts_nodes_in(rt: HostRuntime) -> Result<(), Fail> {
+fn a_cursor_inserts_nodes(rt: HostRuntime) -> Result<(), Fail> {
     let alloc = rt.alloc();
     let mut chain = SingleChain::empty();
     chain.link_back(node_of(alloc, 1, 10)?);
@@ -95,7 +95,7 @@ fn a_cursor_puts_nodes_in(rt: HostRuntime) -> Result<(), Fail> {
     Ok(())
 }
 
-/// A value that puts its digit behind those of the values dropped before it.
+/// A value whose drop appends its digit to those of the values dropped before it.
 struct Noted {
     digit: u64,
     order: Rc<Cell<u64>, Global>,
@@ -108,7 +108,7 @@ impl Drop for Noted {
     }
 }
 
-/// A chain of the digits 1, 2 and 3.
+/// Returns a chain of the digits 1, 2 and 3.
 fn noted_chain(
     alloc: Global,
     order: &Rc<Cell<u64>, Global>,

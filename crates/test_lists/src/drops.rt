@@ -47,7 +47,7 @@ impl Linked<Links<Turn>> for Turn {
     }
 }
 
-/// A list of the turns below 6, in order.
+/// Returns a list of the turns below 6, in order.
 fn six_turns(
     rt: &impl Abort,
     alloc: Global,

@@ -4,7 +4,7 @@ ghost use Rattle.std.specs.List.{All};
 ghost use Rattle.cordyceps_base.specs.Element.{values};
 
 use crate::compared::{at_most, same};
-use crate::items::{comes_out, holds, list_of, shows};
+use crate::items::{has_number, holds, list_of, shows};
 use cordyceps_list::iter::Iter;
 use cordyceps_list::list::List;
 use std::alloc::{AllocError, Global};
@@ -33,8 +33,8 @@ impl Asks {
         Ok(Rc::new(alloc, asks)?)
     }
 
-    /// Counts a call of an item, and answers what is to be said at that call.
-    fn answer(&self, item: &Item, says: &[bool; 6]) -> bool {
+    /// Counts a call of an item, and returns what is to be said at that call.
+    fn reply_to(&self, item: &Item, says: &[bool; 6]) -> bool {
         let count = self.count.get().wrapping_add(1);
         self.count.set(count);
         self.in_turn.set(self.in_turn.get() && item.value == count);
@@ -51,7 +51,7 @@ struct Filtering {
     says: [bool; 6],
     /// How often it was asked after 0 to 7 calls of `next`.
     asked: [u64; 8],
-    /// What these calls answer.
+    /// What these calls return.
     removed: [Option<u64>; 7],
 }
 
@@ -84,7 +84,7 @@ const FILTERINGS: [Filtering; 5] = [
     },
 ];
 
-/// Whether the item `v` was removed.
+/// Returns whether the item `v` was removed.
 fn was_removed(removed: &[Option<u64>], v: u64) -> bool {
     for item in removed {
         if *item == Some(v) {
@@ -110,7 +110,7 @@ fn keeps(rt: &impl Abort, list: &List<Item>, removed: &[Option<u64>]) {
     same(rt, left.next().is_none(), true);
 }
 
-/// Calls `next` so often, drops the filter, and asserts what was asked, what was removed and what was kept.
+/// Calls `next` this many times, drops the filter, and asserts what was asked, what was removed and what was kept.
 fn drops_after(
     rt: &impl Abort,
     alloc: Global,
@@ -121,7 +121,7 @@ fn drops_after(
     let shared = asks.clone()?;
     let says = filtering.says;
     let mut list = list_of(rt, alloc, &[1, 2, 3, 4, 5, 6])?;
-    let mut filter = list.drain_filter(move |item: &Item| shared.answer(item, &says));
+    let mut filter = list.drain_filter(move |item: &Item| shared.reply_to(item, &says));
     for call in 0..calls {
         let removed = number(filter.next());
         same(
@@ -154,7 +154,7 @@ fn a_filter_asks_each_item_once_up_to_its_drop(rt: HostRuntime) -> Result<(), Fa
     Ok(())
 }
 
-/// A list of the items 5, 4 and 6, none of which is zero.
+/// Returns a list of the items 5, 4 and 6, none of which is zero.
 fn divisors(alloc: Global) -> Result<List<Item>, AllocError>
     ensures { IfOk result (λ list. All (λ item. 0 < item.value) (values list)) }
 {
@@ -165,7 +165,7 @@ fn divisors(alloc: Global) -> Result<List<Item>, AllocError>
     Ok(list)
 }
 
-/// Takes the first item that divides 12 out of a list, by a predicate that may not be called on zero.
+/// Removes the first item that divides 12 from a list, by a predicate that may not be called on zero.
 fn takes_a_divisor(rt: &impl Abort, list: &mut List<Item>, wanted: Option<u64>)
     requires { All (λ item. 0 < item.value) (values list.old) }
 {
@@ -174,7 +174,7 @@ fn takes_a_divisor(rt: &impl Abort, list: &mut List<Item>, wanted: Option<u64>)
             requires { 0 < item.now.value }
         { 12 % item.value == 0 },
     );
-    comes_out(rt, filter.next(), wanted);
+    has_number(rt, filter.next(), wanted);
 }
 
 #[test]

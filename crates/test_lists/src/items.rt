@@ -12,12 +12,12 @@ pub fn shows(rt: &impl Abort, item: Option<&Item>, wanted: Option<u64>) {
     same(rt, value(item), wanted);
 }
 
-/// Asserts the number of a node that came out, or that there is none.
-pub fn comes_out(rt: &impl Abort, node: Option<Handle>, wanted: Option<u64>) {
+/// Asserts the number of a node that was removed, or that there is none.
+pub fn has_number(rt: &impl Abort, node: Option<Handle>, wanted: Option<u64>) {
     same(rt, number(node), wanted);
 }
 
-/// Puts the items behind those of the list.
+/// Appends the items to the list.
 pub fn fill(
     rt: &impl Abort,
     alloc: Global,
@@ -31,7 +31,7 @@ pub fn fill(
     Ok(())
 }
 
-/// A list of the items.
+/// Returns a list of the items.
 pub fn list_of(rt: &impl Abort, alloc: Global, items: &[u64]) -> Result<List<Item>, AllocError> {
     let mut list = List::new();
     fill(rt, alloc, &mut list, items)?;

@@ -22,7 +22,7 @@ fn push_front(
     Ok(())
 }
 
-/// A list of the elements 1, 2 and 3, each pushed to the back.
+/// Returns a list of the elements 1, 2 and 3, each pushed to the back.
 fn one_to_three(
     rt: &impl Abort,
     alloc: Global,
@@ -36,8 +36,8 @@ fn one_to_three(
     Ok(list)
 }
 
-/// Asserts that the list gives these numbers from its front, and then nothing.
-fn gives(rt: &impl Abort, list: &mut List<Counted>, wanted: &[u64]) {
+/// Asserts that the list pops these numbers from its front, and then nothing.
+fn pops(rt: &impl Abort, list: &mut List<Counted>, wanted: &[u64]) {
     for want in wanted {
         same(rt, number(list.pop_front()), Some(*want));
     }
@@ -51,7 +51,7 @@ fn is_a_stack_at_the_front(rt: HostRuntime) -> Result<(), Fail> {
     same(&rt, list.is_empty(), true);
     push_front(&rt, rt.alloc(), &mut list, &[5, 7, 9], &drops)?;
     same(&rt, list.len(), 3);
-    gives(&rt, &mut list, &[9, 7, 5]);
+    pops(&rt, &mut list, &[9, 7, 5]);
     same(&rt, drops.count(), 3);
     Ok(())
 }
@@ -65,7 +65,7 @@ fn tries_to_push_at_both_ends(rt: HostRuntime) -> Result<(), Fail> {
     let last = counted_node(rt.alloc(), 8, 80, &drops)?;
     assert!(rt; list.try_push_back(last).is_ok());
     same(&rt, drops.count(), 0);
-    gives(&rt, &mut list, &[7, 1, 2, 3, 8]);
+    pops(&rt, &mut list, &[7, 1, 2, 3, 8]);
     same(&rt, drops.count(), 5);
     Ok(())
 }
@@ -95,7 +95,7 @@ fn a_drop_frees_each_element_once(rt: HostRuntime) -> Result<(), Fail> {
     Ok(())
 }
 
-/// Puts values that count their drops elsewhere to both ends of a list.
+/// Writes values that count their drops elsewhere to both ends of a list.
 fn set_ends(list: &mut List<Counted>, first: &Drops, last: &Drops) -> Result<(), AllocError> {
     if let Some(value) = list.front_mut() {
         *value = Counted::new(0, first)?;

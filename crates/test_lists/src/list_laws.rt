@@ -1,6 +1,6 @@
-//! What the laws' functions show, and elements taken from both ends in turn.
+//! What the laws' functions show, and elements removed from both ends in turn.
 use crate::compared::same;
-use crate::items::{comes_out, holds, list_of};
+use crate::items::{has_number, holds, list_of};
 use cordyceps_list::laws::{
     append_split_off, pop_pushed_back, pop_pushed_front, take_from_both_ends,
 };
@@ -18,10 +18,10 @@ fn takes_each_element_once(rt: HostRuntime) -> Result<(), Fail> {
         (5, &[1, 2], 0, &[3, 4]),
     ] {
         let list = list_of(&rt, rt.alloc(), &[1, 2, 3, 4])?;
-        let (before, rest, behind) = take_from_both_ends(list, &turns[..count]);
+        let (before, rest, after) = take_from_both_ends(list, &turns[..count]);
         holds(&rt, &before, firsts);
         same(&rt, rest.len(), left);
-        holds(&rt, &behind, lasts);
+        holds(&rt, &after, lasts);
     }
     Ok(())
 }
@@ -37,10 +37,10 @@ fn shows_the_list_between_two_calls(rt: HostRuntime) -> Result<(), Fail> {
         |list: &List<Item>| value(list.front()),
     );
     same(&rt, front, Some(8));
-    comes_out(&rt, popped, Some(8));
+    has_number(&rt, popped, Some(8));
     let (back, popped) = pop_pushed_back(&mut list, last, |list: &List<Item>| value(list.back()));
     same(&rt, back, Some(9));
-    comes_out(&rt, popped, Some(9));
+    has_number(&rt, popped, Some(9));
     let lens = append_split_off(&mut list, 1, |kept: &List<Item>, rest: &List<Item>| {
         (kept.len(), rest.len())
     });

@@ -46,8 +46,8 @@ fn becomes_a_node_of_each_kind(rt: HostRuntime) -> Result<(), Fail> {
     Ok(())
 }
 
-/// A node of the number 7 and of a value that counts its drop. Where memory is refused the value comes back, and goes
-/// into the next call.
+/// Returns a node of the number 7 and of a value that counts its drop. Where memory is refused the value is returned,
+/// and passed to the next call.
 fn seventh<L: Kind>(
     rt: &impl Abort,
     alloc: Global,
@@ -75,8 +75,7 @@ fn comes_and_goes<L: Kind>(rt: &impl Abort, alloc: Global) -> Result<(), AllocEr
     Ok(())
 }
 
-// It says more where an allocation is made to fail, as `tools/refusals` does: the value then comes back from
-// `Node::new`.
+// It says more where an allocation is made to fail, as `tools/refusals` does: `Node::new` then returns the value.
 #[test]
 fn makes_a_node_of_the_value_handed_back(rt: HostRuntime) -> Result<(), Fail> {
     comes_and_goes::<list::Links<Counted>>(&rt, rt.alloc())?;

@@ -2,7 +2,7 @@
 //!
 //! A generic function says for every type of value what can be sent and shared: it is refused where that is not so.
 use crate::compared::same;
-use crate::items::{comes_out, holds, list_of};
+use crate::items::{has_number, holds, list_of};
 use cordyceps_base::node::Node;
 use cordyceps_base::{list, mpsc_queue, stack};
 use cordyceps_list::cursor::Cursor;
@@ -96,7 +96,7 @@ fn readers_travel_where_their_values_are_shared<'a, T: Sync>(
     (sent(iter), sent(cursor))
 }
 
-/// The sum of a list's values.
+/// Returns the sum of a list's values.
 fn sum(list: &List<Item>) -> u64 {
     let mut sum: u64 = 0;
     for item in list.iter() {
@@ -128,7 +128,7 @@ fn a_thread_changes_a_list_that_it_was_sent(rt: HostRuntime) -> Result<(), Fail>
     );
     same(&rt, front, 7);
     holds(&rt, &list, &[2, 3]);
-    comes_out(&rt, list.pop_back(), Some(3));
+    has_number(&rt, list.pop_back(), Some(3));
     Ok(())
 }
 
@@ -142,7 +142,7 @@ fn what_is_made_of_a_list_goes_on_where_it_was_sent(rt: HostRuntime) -> Result<(
     same(&rt, iter.count(), 3);
     same(&rt, cursor.index(), Some(0));
     holds(&rt, &list, &[1, 2, 3]);
-    comes_out(&rt, list.pop_front(), Some(1));
+    has_number(&rt, list.pop_front(), Some(1));
     Ok(())
 }
 
@@ -161,7 +161,7 @@ fn what_takes_or_changes_elements_is_sent_and_shared(rt: HostRuntime) -> Result<
     owners_are_shared_where_their_values_are(&into_iter, &iter_mut, &cursor_mut, &filter);
     same(&rt, (into_iter.len(), iter_mut.len()), (3, 2));
     same(&rt, cursor_mut.index(), Some(0));
-    comes_out(&rt, filter.next(), Some(8));
+    has_number(&rt, filter.next(), Some(8));
     Ok(())
 }
 

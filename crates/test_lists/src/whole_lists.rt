@@ -1,6 +1,6 @@
 //! Whole lists: iterators, splits, appends, removals and filters.
 use crate::compared::{at_most, has_place, same};
-use crate::items::{comes_out, holds, list_of, shows};
+use crate::items::{has_number, holds, list_of, shows};
 use cordyceps_base::steps::Steps;
 use cordyceps_list::list::List;
 use std::alloc::{AllocError, Global};
@@ -66,13 +66,13 @@ fn changes_values_from_both_ends(rt: HostRuntime) -> Result<(), Fail> {
 fn hands_out_its_nodes(rt: HostRuntime) -> Result<(), Fail> {
     let list = list_of(&rt, rt.alloc(), &[1, 2, 3, 4])?;
     let mut nodes = list.into_iter();
-    comes_out(&rt, nodes.next(), Some(1));
-    comes_out(&rt, nodes.next_back(), Some(4));
+    has_number(&rt, nodes.next(), Some(1));
+    has_number(&rt, nodes.next_back(), Some(4));
     same(&rt, nodes.len(), 2);
     Ok(())
 }
 
-/// Splits a list of the items 1 to 5 at a place, in so many moves, and appends what was split off.
+/// Splits a list of the items 1 to 5 at a place, in this many moves, and appends what was split off.
 fn splits_and_appends(
     rt: &impl Abort,
     alloc: Global,
@@ -126,7 +126,7 @@ fn splits_everywhere(rt: HostRuntime) -> Result<(), Fail> {
     Ok(())
 }
 
-/// The value that a node holds.
+/// Returns the value that a node holds.
 fn held(node: Option<Handle>) -> Option<u64> {
     match node {
         Some(node) => Some(node.get().value),
@@ -134,7 +134,7 @@ fn held(node: Option<Handle>) -> Option<u64> {
     }
 }
 
-/// Puts an item with a number of its own behind those of the list.
+/// Appends an item with a number of its own to the list.
 fn push(
     rt: &impl Abort,
     alloc: Global,
@@ -160,7 +160,7 @@ fn removes_by_number(rt: HostRuntime) -> Result<(), Fail> {
     Ok(())
 }
 
-/// Appends a list to another, and puts 9 into what is left of it.
+/// Appends a list to another, and pushes 9 to what is left of it.
 fn appends(
     rt: &impl Abort,
     alloc: Global,
@@ -199,12 +199,12 @@ fn a_filter_dropped_early_keeps_the_rest(rt: HostRuntime) -> Result<(), Fail> {
     let mut list = list_of(&rt, rt.alloc(), &[1, 2, 3, 4])?;
     let mut even = list.drain_filter(|item: &Item| item.value % 2 == 0);
     same(&rt, even.size_hint(), (0, Some(4)));
-    comes_out(&rt, even.next(), Some(2));
+    has_number(&rt, even.next(), Some(2));
     drop(even);
     holds(&rt, &list, &[1, 3, 4]);
     let mut all = list.drain_filter(|_item: &Item| true);
     for want in [Some(1u64), Some(3), Some(4), None, None] {
-        comes_out(&rt, all.next(), want);
+        has_number(&rt, all.next(), want);
     }
     drop(all);
     same(&rt, list.is_empty(), true);

@@ -5,7 +5,7 @@ use std::alloc::{AllocError, Global};
 use std::process::Abort;
 use test_support::counted::{Counted, Drops};
 
-/// Gives a key a value, and compares the entry that goes for it with the one that is wanted.
+/// Sets a key's value, and asserts the entry that is removed for it.
 fn insert(
     rt: &impl Abort,
     cache: &mut Cache<u64>,

@@ -8,7 +8,7 @@ use std::process::Abort;
 use test_support::counted::{Counted, Drops};
 use test_support::draws::Draws;
 
-/// Puts a request with a number in.
+/// Submits a request with a number.
 fn submit(
     queue: &mut DiskQueue<Counted>,
     alloc: Global,
@@ -27,7 +27,7 @@ fn submit(
     }
 }
 
-/// Puts several in.
+/// Submits several.
 fn submit_all(
     queue: &mut DiskQueue<Counted>,
     alloc: Global,
@@ -122,7 +122,7 @@ fn a_cancelled_request_comes_back(rt: HostRuntime) -> Result<(), AllocError> {
     Ok(())
 }
 
-/// A request for a sector, whose payload is its number.
+/// Returns a request for a sector, whose payload is its number.
 fn request(number: u64, sector: u64, deadline: u64) -> Request<u64> {
     Request {
         sector,
@@ -131,7 +131,7 @@ fn request(number: u64, sector: u64, deadline: u64) -> Request<u64> {
     }
 }
 
-/// Puts a request in, and asks again where memory was refused once.
+/// Submits a request, and asks again where memory was refused once.
 fn submit_again(
     queue: &mut DiskQueue<u64>,
     alloc: Global,
@@ -158,7 +158,7 @@ fn a_request_that_was_refused_memory_is_put_in_again(rt: HostRuntime) -> Result<
     Ok(())
 }
 
-/// The steps that put these requests in, and then serve at these times.
+/// Returns the steps that submit these requests, and then serve at these times.
 fn steps(
     alloc: Global,
     requests: &[(u64, u64, u64)],
@@ -200,7 +200,7 @@ struct Both {
     made: u64,
 }
 
-/// The place of the first with the least key of those that pass. `None` where none passes.
+/// Returns the place of the first with the least key of those that pass. `None` where none passes.
 fn least<P: Fn(&(u64, u64, u64)) -> bool, K: Fn(&(u64, u64, u64)) -> u64>(
     plain: &[(u64, u64, u64)],
     passes: P,
@@ -228,7 +228,7 @@ fn least<P: Fn(&(u64, u64, u64)) -> bool, K: Fn(&(u64, u64, u64)) -> u64>(
 }
 
 impl Both {
-    /// Puts a drawn request into both.
+    /// Submits a drawn request to both.
     fn submit(&mut self, alloc: Global, draws: &mut Draws) -> Result<(), AllocError> {
         let (sector, deadline, number) = (draws.below(24), draws.below(48), self.made);
         self.made = number.wrapping_add(1);
@@ -239,7 +239,7 @@ impl Both {
         }
     }
 
-    /// Takes the one out of the vector that should be next.
+    /// Removes the one that should be next from the vector, and returns it.
     fn wanted(&mut self, now: u64) -> Option<(u64, u64, u64)> {
         let head = self.head;
         let overdue = least(&self.plain, |r| r.1 < now, |r| r.1);
@@ -252,7 +252,7 @@ impl Both {
         None
     }
 
-    /// Takes the next one out of both.
+    /// Removes the next one from both.
     fn next(&mut self, rt: &impl Abort, now: u64) {
         let wanted = self.wanted(now);
         let came = self.queue.next(now);
@@ -292,7 +292,7 @@ impl Both {
     }
 }
 
-/// The sector, the deadline and the number of a request, if there is one.
+/// Returns the sector, the deadline and the number of a request, if there is one.
 fn parts(request: Option<Request<u64>>) -> Option<(u64, u64, u64)> {
     let Request {
         sector,

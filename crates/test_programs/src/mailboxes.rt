@@ -10,7 +10,7 @@ use std::alloc::{AllocError, Global};
 /// How often the threads run.
 const ROUNDS: u64 = 20;
 
-/// Three messages of one sender.
+/// Returns three messages of one sender.
 fn three(alloc: Global, first: u64, second: u64, third: u64) -> Result<Vec<u64>, AllocError>
     ensures { IfOk result (λ list. length list.items ≡ 3) }
 {
@@ -21,7 +21,7 @@ fn three(alloc: Global, first: u64, second: u64, third: u64) -> Result<Vec<u64>,
     Ok(list)
 }
 
-/// Three messages of each of four senders.
+/// Returns three messages of each of four senders.
 fn four_lists(alloc: Global) -> Result<Vec<Vec<u64>>, AllocError>
     ensures { IfOk result (λ lists. how_many (contents lists.items) ≡ 12) }
 {
@@ -33,7 +33,7 @@ fn four_lists(alloc: Global) -> Result<Vec<Vec<u64>>, AllocError>
     Ok(lists)
 }
 
-/// The messages of each sender as they came, one sender after the other.
+/// Returns the messages of each sender as they came, one sender after the other.
 fn by_sender(alloc: Global, all: &[u64]) -> Result<Vec<u64>, AllocError> {
     let mut sorted = Vec::new(alloc);
     for sender in 1..5u64 {

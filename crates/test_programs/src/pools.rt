@@ -9,7 +9,7 @@ use test_support::nodes::node_of;
 /// How often the threads run.
 const ROUNDS: u64 = 20;
 
-/// Blocks of the numbers from the first to the one before the end.
+/// Returns blocks of the numbers from the first to the one before the end.
 fn blocks(alloc: Global, first: u64, end: u64) -> Result<Stack<Block>, AllocError> {
     let mut made = Stack::new();
     for number in first..end {
@@ -26,7 +26,7 @@ fn count(numbers: &mut Vec<u64>, blocks: Stack<Block>) -> Result<(), AllocError>
     Ok(())
 }
 
-/// The numbers of the blocks of three stacks, the least first.
+/// Returns the numbers of the blocks of three stacks, the least first.
 fn numbers_of(
     alloc: Global,
     stacks: (Stack<Block>, Stack<Block>, Stack<Block>),

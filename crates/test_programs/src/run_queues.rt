@@ -11,12 +11,12 @@ use test_support::nodes::node_of;
 /// How often the threads run.
 const ROUNDS: u64 = 20;
 
-/// A job that was not run.
+/// Returns a job that was not run.
 fn job(alloc: Global, number: u32) -> Result<Node<Job, Links<Job>>, AllocError> {
     node_of(alloc, 0, Job { number, square: 0 })
 }
 
-/// The jobs of the numbers 1 to 4.
+/// Returns the jobs of the numbers 1 to 4.
 fn four_jobs(alloc: Global) -> Result<Stack<Job>, AllocError>
     ensures { IfOk result (λ jobs. length jobs ≡ 4) }
 {
@@ -28,7 +28,7 @@ fn four_jobs(alloc: Global) -> Result<Stack<Job>, AllocError>
     Ok(jobs)
 }
 
-/// The squares of jobs, the least first.
+/// Returns the squares of jobs, the least first.
 fn squares(alloc: Global, jobs: Stack<Job>) -> Result<Vec<u64>, AllocError> {
     let mut all = Vec::new(alloc);
     for job in jobs {

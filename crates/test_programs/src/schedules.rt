@@ -30,7 +30,7 @@ fn task(
     node_of(alloc, number as u64, again)
 }
 
-/// Tasks with the numbers below `count`, each of so many rounds. Their pauses are below `pauses`.
+/// Returns tasks with the numbers below `count`, each of this many rounds. Their pauses are below `pauses`.
 fn tasks(alloc: Global, count: u32, rounds: u32, pauses: u32) -> Result<List<Task>, AllocError>
     requires { 0 < pauses }
     ensures { IfOk result (λ tasks. length tasks ≤ count) }
@@ -53,7 +53,7 @@ struct Counts {
     wrong: u64,
 }
 
-/// Where tasks are that are all done, so many of them.
+/// Returns the counts where all tasks are done, this many of them.
 fn all_done(done: u64) -> Counts {
     Counts {
         asleep: 0,
@@ -64,7 +64,7 @@ fn all_done(done: u64) -> Counts {
     }
 }
 
-/// Adds those that are done, and marks their numbers. Each should have run so many rounds.
+/// Adds those that are done, and marks their numbers. Each should have run this many rounds.
 fn note(counts: &mut Counts, seen: &mut [bool], done: Stack<Task>, rounds: u32) {
     for task in done {
         let work = &task.get().payload;
@@ -105,8 +105,8 @@ fn count(seen: &mut [bool], outcome: Outcome, rounds: u32) -> Counts {
     counts
 }
 
-/// Makes eight tasks of three rounds each, and runs them on a queue of so many rooms, for so many turns. Where memory
-/// for the queue was refused it asks again, with the tasks that came back.
+/// Makes eight tasks of three rounds each, and runs them on a queue of this many rooms, for this many turns. Where
+/// memory for the queue was refused it asks again, with the tasks that were returned.
 fn eight<R: Threads + Wait + Sync>(
     rt: &R,
     alloc: Global,

@@ -6,7 +6,7 @@ use cordyceps_uses::tasks::{Task, move_to_list, schedule};
 use std::alloc::{AllocError, Global};
 use test_support::nodes::node_of;
 
-/// A task for stacks.
+/// Returns a task for stacks.
 fn task(alloc: Global, rank: u64, number: u64) -> Result<Node<Task, Links<Task>>, AllocError> {
     node_of(alloc, number, Task { rank, number })
 }

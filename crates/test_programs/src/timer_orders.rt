@@ -11,7 +11,7 @@ use std::alloc::{AllocError, Global};
 use std::process::Abort;
 use test_support::counted::{Counted, Drops};
 
-/// Starts a timer with this number, and answers its spot.
+/// Starts a timer with this number, and returns its spot.
 fn start(
     timers: &mut Timers<Counted>,
     alloc: Global,

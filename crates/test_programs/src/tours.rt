@@ -1,4 +1,4 @@
-//! A few lines with each collection, and what they answer.
+//! A few lines with each collection, and what they return.
 ghost use Rattle.std.specs.Prelude.{IfOk};
 ghost use Rattle.cordyceps.specs.Elements.Nodes.{spots};
 ghost use Rattle.cordyceps.specs.Spots.Spots.{AreDistinct};
@@ -18,14 +18,14 @@ use std::process::Abort;
 use std::sync::{Mutex, Wait};
 use test_support::nodes::{node_of, number};
 
-/// A job for stacks, whose rank is ten times its number.
+/// Returns a job for stacks, whose rank is ten times its number.
 fn stack_job(alloc: Global, number: u32) -> Result<StackJob, AllocError> {
     let rank = number.wrapping_mul(10);
     let node: Node<Job, StackLinks<Job>> = node_of(alloc, number as u64, Job { rank })?;
     Ok(node)
 }
 
-/// A job for queues.
+/// Returns a job for queues.
 fn queue_job(alloc: Global, number: u32) -> Result<QueueJob, AllocError> {
     let node: Node<Job, QueueLinks<Job>> = node_of(alloc, number as u64, Job { rank: number })?;
     Ok(node)
@@ -57,7 +57,7 @@ fn lists(rt: HostRuntime) -> Result<(), AllocError> {
     Ok(())
 }
 
-/// A stable list of jobs with these ranks, which are numbered from 1 on.
+/// Returns a stable list of jobs with these ranks, which are numbered from 1 on.
 fn ranked(alloc: Global, ranks: &[u32]) -> Result<StableList<Job>, AllocError>
     ensures { IfOk result (λ jobs. AreDistinct (spots jobs)) }
 {
@@ -81,7 +81,7 @@ fn takes(rt: &impl Abort, jobs: &mut StableList<Job>, wanted: Option<u64>)
     same(rt, number(take_least(jobs)), wanted);
 }
 
-/// Takes all jobs out of a list, and compares their numbers with those that are wanted.
+/// Removes all jobs from a list, and compares their numbers with those that are wanted.
 fn takes_all(
     rt: &impl Abort,
     alloc: Global,
@@ -157,7 +157,7 @@ fn give_one_back(alloc: Global, numbers: &mut Vec<u64>) -> Result<(), AllocError
     Ok(())
 }
 
-/// The least rank of two jobs.
+/// Returns the least rank of two jobs.
 fn least_of_two(alloc: Global) -> Result<Option<u32>, AllocError> {
     let first = stack_job(alloc, 2)?;
     let second = stack_job(alloc, 1)?;

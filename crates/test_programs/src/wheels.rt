@@ -5,7 +5,7 @@ use std::alloc::{AllocError, Global};
 use std::process::Abort;
 use test_support::counted::{Counted, Drops};
 
-/// The node of a timer with a deadline and a number.
+/// Returns the node of a timer with a deadline and a number.
 fn timer(
     alloc: Global,
     deadline: u64,

@@ -6,24 +6,24 @@ use cordyceps_queue::mpsc_queue::{Links, TryDequeueError};
 use std::alloc::{AllocError, Global};
 use test_support::counted::{Counted, Drops, counted_node};
 
-/// What goes into a queue, and comes out.
+/// What a queue takes and returns.
 pub type Handle = Node<Counted, Links<Counted>>;
 
-/// An element of this number, with ten times as much as its value.
+/// Returns an element of this number, with ten times as much as its value.
 pub fn element(alloc: Global, number: u64, drops: &Drops) -> Result<Handle, AllocError>
     ensures { IfOk result (λ node. node.id ≡ number) }
 {
     counted_node(alloc, number, number.wrapping_mul(10), drops)
 }
 
-/// Two elements, of this number and the next.
+/// Returns two elements, with this number and the next.
 pub fn pair(alloc: Global, first: u64, drops: &Drops) -> Result<(Handle, Handle), AllocError> {
     let one = element(alloc, first, drops)?;
     let two = element(alloc, first.wrapping_add(1), drops)?;
     Ok((one, two))
 }
 
-/// So many elements, of this number and the next ones.
+/// Returns this many elements, with this number and the next ones.
 pub fn elements(
     alloc: Global,
     first: u64,
@@ -37,7 +37,7 @@ pub fn elements(
     Ok(all)
 }
 
-/// The number of what one try gave, which is dropped, or why it gave nothing.
+/// Drops what one try returned, and returns its number, or the error.
 pub fn found(tried: Result<Handle, TryDequeueError>) -> Result<u64, TryDequeueError>
     ensures { MatchResult tried (λ node. result ≡ Ok node.id) (λ why. result ≡ Err why) }
 {

@@ -14,21 +14,21 @@ pub struct Seated<'q> {
 }
 
 impl<'q> Seated<'q> {
-    /// A party of this queue.
+    /// Returns a party of this queue.
     pub fn at(queue: &'q MpscQueue<Counted>, party: Party<Counted>) -> Seated<'q>
         requires { party.table ≡ queue.now.table }
     {
         Seated { queue, party }
     }
 
-    /// How many rooms the party has.
+    /// Returns how many rooms the party has.
     pub fn rooms(&self) -> usize
         ensures { result ≡ self.now.party.rooms }
     {
         self.party.rooms()
     }
 
-    /// Gives so many of the rooms to a new party, or all where there are fewer.
+    /// Gives this many of the rooms to a new party, or all where there are fewer.
     pub fn split(&mut self, rooms: usize) -> Seated<'q> {
         let rooms = rooms.min(self.party.rooms());
         Seated {
@@ -37,7 +37,7 @@ impl<'q> Seated<'q> {
         }
     }
 
-    /// Puts an element in, or hands it back where the party has no room.
+    /// Enqueues an element, or returns it where the party has no room.
     pub fn put(&mut self, handle: Handle) -> Result<(), Handle> {
         if self.party.rooms() == 0 {
             return Err(handle);
@@ -46,12 +46,12 @@ impl<'q> Seated<'q> {
         Ok(())
     }
 
-    /// What one try gives.
+    /// Tries once to dequeue an element.
     pub fn try_take(&mut self) -> Result<Handle, TryDequeueError> {
         self.queue.try_dequeue(&mut self.party)
     }
 
-    /// The consumer, or the party where another has the right.
+    /// Returns the consumer, or the party where another has the right.
     pub fn try_consume(self) -> Result<Consumer<'q, Counted>, Seated<'q>> {
         let Seated { queue, party } = self;
         match queue.try_consume(party) {

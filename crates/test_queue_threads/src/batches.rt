@@ -1,8 +1,8 @@
-//! Batches that consumers take at once: alone, and while threads put elements in.
+//! Batches that consumers take at once: alone, and while threads enqueue elements.
 ghost use Rattle.std.specs.Prelude.{◌≤◌};
 
 use crate::compared::same;
-use crate::items::{dropped, gives, number};
+use crate::items::{dropped, number, yields};
 use crate::seats::{Seated, consumer_of, three_queued};
 use cordyceps_queue::mpsc_queue::{Batch, Consumer, MpscQueue, OwnedConsumer, TryDequeueError};
 use std::alloc::{AllocError, Global};
@@ -16,21 +16,21 @@ use test_support::counted::{Counted, Drops};
 /// How often the consumer tries at most, before it fails.
 const TRIES: u64 = 10_000_000;
 
-/// How many elements a producer puts in.
+/// How many elements a producer enqueues.
 const EACH: u64 = 1000;
 
 /// How often each test's threads run.
 const ROUNDS: u64 = 10;
 
-/// Compares the numbers that one call gave with those that are wanted. It has to give some.
+/// Asserts the numbers that one call returned. It must return some.
 fn takes(rt: &impl Abort, came: Result<Batch<Counted>, TryDequeueError>, wanted: &[u64]) {
     match came {
-        Ok(batch) => gives(rt, batch, wanted),
+        Ok(batch) => yields(rt, batch, wanted),
         Err(_) => panic!(rt; "elements are held"),
     }
 }
 
-/// Compares why one call gave nothing with what is wanted.
+/// Asserts the error of one call.
 fn is_refused(
     rt: &impl Abort,
     came: Result<Batch<Counted>, TryDequeueError>,
@@ -59,7 +59,7 @@ fn a_batch_has_all_that_is_held(rt: HostRuntime) -> Result<(), AllocError> {
     Ok(())
 }
 
-/// The first of two parties puts a pair of elements in, and the second one more.
+/// Enqueues a pair of elements by the first of two parties, and one more by the second.
 fn two_put_three(
     rt: &impl Abort,
     seats: (Seated<'_>, Seated<'_>),
@@ -149,14 +149,14 @@ fn an_owned_consumer_takes_batches(rt: HostRuntime) -> Result<(), AllocError> {
     Ok(())
 }
 
-/// Puts all in, the first of them first.
+/// Enqueues all, the first of them first.
 fn produce(rt: &impl Abort, mut seat: Seated<'_>, elements: Vec<Handle>) {
     for node in elements {
         seat.put(rt, node);
     }
 }
 
-/// What two producers put in, each from one of their parties.
+/// What two producers enqueue, each from one of their parties.
 #[derive(Drop)]
 struct Rows<'q> {
     seats: (Seated<'q>, Seated<'q>),
@@ -164,7 +164,7 @@ struct Rows<'q> {
 }
 
 impl<'q> Rows<'q> {
-    /// Elements from this number on for the one, and from a thousand more for the other.
+    /// Returns elements from this number on for the one, and from a thousand more for the other.
     fn new(
         rt: &impl Abort,
         alloc: Global,
@@ -204,15 +204,15 @@ fn add_numbers(
     Ok(())
 }
 
-/// How many elements a batch has at most. To the proof of a call it is any such number: at a numeral as great as this the
-/// call's clauses are many steps long.
+/// Returns how many elements a batch has at most. To the proof of a call it is any such number: at a numeral as great
+/// as this the call's clauses are many steps long.
 fn most() -> usize
     ensures { 1 ≤ result }
 {
     64
 }
 
-/// The numbers of the elements that come in batches, until they are so many.
+/// Takes batches until their elements are this many, and returns the numbers.
 fn drain(
     rt: &impl Abort,
     alloc: Global,
@@ -232,7 +232,7 @@ fn drain(
     panic!(rt; "the elements have not come out");
 }
 
-/// The numbers that a consumer drains while four producers put their elements in.
+/// Returns the numbers that a consumer drains while four producers enqueue their elements.
 fn produce_and_drain<R: Threads + Abort + Sync>(
     rt: &R,
     alloc: Global,
@@ -246,7 +246,7 @@ fn produce_and_drain<R: Threads + Abort + Sync>(
     thread::join(rt, produce_all, move || drain(rt, alloc, consumer, 4000)).1
 }
 
-/// Compares a producer's numbers among these with those that it put in, in this order.
+/// Compares a producer's numbers among these with those that it enqueued, in this order.
 fn in_order(rt: &impl Abort, numbers: &[u64], first: u64) {
     let end = first.wrapping_add(EACH);
     let mut next = first;

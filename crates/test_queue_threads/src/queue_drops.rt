@@ -24,7 +24,7 @@ fn has_left(rt: &impl Abort, elements: &Batch<Counted>, wanted: usize) {
 }
 
 #[test]
-fn a_batch_gives_the_oldest_first(rt: HostRuntime) -> Result<(), AllocError> {
+fn a_batch_yields_the_oldest_first(rt: HostRuntime) -> Result<(), AllocError> {
     let drops = Drops::new(rt.alloc())?;
     let (queue, party) = three_queued(&rt, rt.alloc(), &drops)?;
     let Closed {
@@ -88,7 +88,7 @@ fn a_dropped_consumer_drops_no_element(rt: HostRuntime) -> Result<(), AllocError
     Ok(())
 }
 
-/// Has a consumer take so many of the elements 1, 2 and 3, and drops it. The others then come out in order.
+/// Takes this many of the elements 1, 2 and 3 by a consumer, and drops it. The others are then dequeued in order.
 fn leaves_the_others(rt: &impl Abort, mut seat: Seated<'_>, taken: u64) {
     let mut consumer = seat.split(rt, 0).consumer(rt);
     for before in 0..taken {
@@ -112,8 +112,8 @@ fn a_dropped_consumer_leaves_what_is_held(rt: HostRuntime) -> Result<(), AllocEr
     Ok(())
 }
 
-// It says more where an allocation is made to fail, as `tools/refusals` does: `new` then answers `Err`,
-// and the next call, which meets none, makes a queue.
+// It says more where an allocation is made to fail, as `tools/refusals` does: `new` then returns `Err`, and the next
+// call, which meets none, makes a queue.
 #[test]
 fn makes_a_queue_after_refused_memory(rt: HostRuntime) -> Result<(), AllocError> {
     let (queue, party) = match MpscQueue::<Counted>::new(rt.alloc(), 2) {
@@ -125,7 +125,7 @@ fn makes_a_queue_after_refused_memory(rt: HostRuntime) -> Result<(), AllocError>
     Ok(())
 }
 
-// The same, where `new_with_stub` hands the stub back.
+// The same, where `new_with_stub` returns the stub.
 #[test]
 fn makes_a_queue_of_the_stub_handed_back(rt: HostRuntime) -> Result<(), AllocError> {
     let drops = Drops::new(rt.alloc())?;

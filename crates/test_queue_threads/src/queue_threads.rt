@@ -1,4 +1,4 @@
-//! Threads that put elements into a queue, and one that takes them out.
+//! Threads that enqueue elements, and one that dequeues them.
 ghost use Rattle.std.specs.Arc.{arc_value};
 ghost use Rattle.std.specs.Prelude.{◌≡◌};
 
@@ -23,20 +23,20 @@ type Shared = Arc<MpscQueue<Counted>, Global>;
 /// One for each of two producers.
 type Pair<T> = (T, T);
 
-/// How many elements a producer puts in.
+/// How many elements a producer enqueues.
 const EACH: u64 = 250;
 
 /// How often each test's threads run.
 const ROUNDS: u64 = 10;
 
-/// What two producers put in: elements from this number on, and from a thousand more.
+/// Returns what two producers enqueue: elements from this number on, and from a thousand more.
 fn two_rows(alloc: Global, first: u64, drops: &Drops) -> Result<Pair<Vec<Handle>>, AllocError> {
     let one = elements(alloc, first, EACH, drops)?;
     let two = elements(alloc, first.wrapping_add(1000), EACH, drops)?;
     Ok((one, two))
 }
 
-/// Puts all in, the first of them first.
+/// Enqueues all, the first of them first.
 fn produce(rt: &impl Abort, mut seat: Seated<'_>, elements: Vec<Handle>) {
     for node in elements {
         seat.put(rt, node);
@@ -58,7 +58,7 @@ fn produce_two<R: Threads + Abort + Sync>(
     );
 }
 
-/// The numbers that come out, until they are so many. The only party that dequeues meets no `Busy`.
+/// Dequeues until there were this many, and returns the numbers. The only party that dequeues meets no `Busy`.
 fn consume(
     rt: &impl Abort,
     alloc: Global,
@@ -79,7 +79,7 @@ fn consume(
     panic!(rt; "the elements have not come out");
 }
 
-/// Compares a producer's numbers among these with those that it put in, in this order.
+/// Compares a producer's numbers among these with those that it enqueued, in this order.
 fn in_order(rt: &impl Abort, numbers: &[u64], first: u64) {
     let end = first.wrapping_add(EACH);
     let mut next = first;
@@ -92,12 +92,12 @@ fn in_order(rt: &impl Abort, numbers: &[u64], first: u64) {
     same(rt, next, end);
 }
 
-/// Two parties with 250 rooms each.
+/// Returns two parties with 250 rooms each.
 fn two_seats<'q>(rt: &impl Abort, seat: &mut Seated<'q>) -> Pair<Seated<'q>> {
     (seat.split(rt, 250), seat.split(rt, 250))
 }
 
-/// The numbers that one party takes while four put their elements in.
+/// Returns the numbers that one party dequeues while four enqueue their elements.
 fn produce_four<R: Threads + Abort + Sync>(
     rt: &R,
     alloc: Global,
@@ -132,7 +132,7 @@ fn four_producers_keep_their_order(rt: HostRuntime) -> Result<(), AllocError> {
     Ok(())
 }
 
-/// Puts each element that a consumer gives into another queue, and tries that one alone, until there were so many.
+/// Enqueues each element of a consumer in another queue, and tries that one alone, until there were this many.
 fn cross(rt: &impl Abort, mut consumer: Consumer<'_, Counted>, mut seat: Seated<'_>, wanted: u64) {
     let mut crossed = 0u64;
     for _ in 0..TRIES {
@@ -152,7 +152,7 @@ fn cross(rt: &impl Abort, mut consumer: Consumer<'_, Counted>, mut seat: Seated<
     panic!(rt; "the elements have not come out");
 }
 
-/// One thread puts all in, and the other has them cross to another queue.
+/// Enqueues all by one thread, while the other has them cross to another queue.
 fn produce_and_cross<R: Threads + Abort + Sync>(
     rt: &R,
     producer: Seated<'_>,
@@ -184,7 +184,7 @@ fn crosses_queues(rt: HostRuntime) -> Result<(), AllocError> {
     Ok(())
 }
 
-/// Gives back what was handed in for an owned consumer, since another has the right.
+/// Asserts that no owned consumer is made, since another has the right, and returns what was passed in.
 fn no_owned(rt: &impl Abort, queue: Shared, party: Party<Counted>) -> (Shared, Party<Counted>)
     requires { party.table ≡ (arc_value queue).table }
     ensures queue { arc_value result.0 ≡ arc_value queue }
@@ -196,7 +196,7 @@ fn no_owned(rt: &impl Abort, queue: Shared, party: Party<Counted>) -> (Shared, P
     }
 }
 
-/// The owned consumer of a queue that nobody else dequeues from.
+/// Returns the owned consumer of a queue that nobody else dequeues from.
 fn owned_of(rt: &impl Abort, queue: Shared, party: Party<Counted>) -> OwnedConsumer<Counted>
     requires { party.table ≡ (arc_value queue).table }
     ensures { result.queue ≡ arc_value queue }

@@ -3,7 +3,7 @@ ghost use Rattle.std.specs.Prelude.{◌≡◌};
 ghost use Rattle.cordyceps_shared.specs.Shares.{whole};
 
 use crate::compared::same;
-use crate::items::{dropped, gives, has_number};
+use crate::items::{dropped, has_number, yields};
 use crate::seats::{Seated, consumes, put, takes, with_stub};
 use cordyceps_queue::mpsc_queue::{Closed, Consumer, MpscQueue, Party, TryDequeueError};
 use std::alloc::AllocError;
@@ -11,7 +11,7 @@ use std::process::Abort;
 use test_queue_support::items::{Handle, element, elements, pair};
 use test_support::counted::{Counted, Drops};
 
-/// What a consumer and another party get, which puts one element in, while the consumer has the right.
+/// Asserts what a consumer and another party get, which enqueues one element, while the consumer has the right.
 fn keeps_out(
     rt: &impl Abort,
     consumer: &mut Consumer<'_, Counted>,
@@ -43,7 +43,7 @@ fn a_consumer_keeps_others_out(rt: HostRuntime) -> Result<(), AllocError> {
 }
 
 #[test]
-fn a_dropped_consumer_gives_the_right_back(rt: HostRuntime) -> Result<(), AllocError> {
+fn a_dropped_consumer_releases_the_right(rt: HostRuntime) -> Result<(), AllocError> {
     let drops = Drops::new(rt.alloc())?;
     let handle = element(rt.alloc(), 1, &drops)?;
     let (queue, party) = MpscQueue::new(rt.alloc(), 1)?;
@@ -58,7 +58,7 @@ fn a_dropped_consumer_gives_the_right_back(rt: HostRuntime) -> Result<(), AllocE
 }
 
 #[test]
-fn one_party_gets_what_it_puts_in(rt: HostRuntime) -> Result<(), AllocError> {
+fn one_party_dequeues_what_it_enqueues(rt: HostRuntime) -> Result<(), AllocError> {
     let drops = Drops::new(rt.alloc())?;
     let handle = element(rt.alloc(), 1, &drops)?;
     let (queue, party) = MpscQueue::new(rt.alloc(), 1)?;
@@ -72,7 +72,7 @@ fn one_party_gets_what_it_puts_in(rt: HostRuntime) -> Result<(), AllocError> {
 }
 
 #[test]
-fn a_close_gives_what_is_held(rt: HostRuntime) -> Result<(), AllocError> {
+fn a_close_returns_what_is_held(rt: HostRuntime) -> Result<(), AllocError> {
     let drops = Drops::new(rt.alloc())?;
     let (one, two) = pair(rt.alloc(), 1, &drops)?;
     let (queue, mut party) = MpscQueue::new(rt.alloc(), 2)?;
@@ -81,12 +81,12 @@ fn a_close_gives_what_is_held(rt: HostRuntime) -> Result<(), AllocError> {
     takes(&rt, &queue, &mut party, Ok(1));
     let Closed { elements, stub } = queue.close(party);
     same(&rt, stub.is_none(), true);
-    gives(&rt, elements, &[2]);
+    yields(&rt, elements, &[2]);
     Ok(())
 }
 
 #[test]
-fn a_close_gives_the_stub_back(rt: HostRuntime) -> Result<(), AllocError> {
+fn a_close_returns_the_stub(rt: HostRuntime) -> Result<(), AllocError> {
     let drops = Drops::new(rt.alloc())?;
     let stub = element(rt.alloc(), 7, &drops)?;
     let (one, two) = pair(rt.alloc(), 1, &drops)?;
@@ -98,12 +98,12 @@ fn a_close_gives_the_stub_back(rt: HostRuntime) -> Result<(), AllocError> {
     takes(&rt, &queue, &mut party, Ok(1));
     put(&rt, &queue, &mut party, three);
     let Closed { elements, stub } = queue.close(party);
-    gives(&rt, elements, &[2, 3]);
+    yields(&rt, elements, &[2, 3]);
     has_number(&rt, stub, Some(7));
     Ok(())
 }
 
-/// A party of three rooms has two elements in, and one more at each turn, which gives the oldest.
+/// Enqueues two elements by a party of three rooms, and at each turn enqueues one more and dequeues the oldest.
 fn pass_through(rt: &impl Abort, mut seat: Seated<'_>, pair: (Handle, Handle), more: Vec<Handle>) {
     let (zero, one) = pair;
     seat.put(rt, zero);
@@ -122,7 +122,7 @@ fn pass_through(rt: &impl Abort, mut seat: Seated<'_>, pair: (Handle, Handle), m
 }
 
 #[test]
-fn elements_come_out_in_order(rt: HostRuntime) -> Result<(), AllocError> {
+fn elements_leave_in_order(rt: HostRuntime) -> Result<(), AllocError> {
     let drops = Drops::new(rt.alloc())?;
     let pair = pair(rt.alloc(), 0, &drops)?;
     let more = elements(rt.alloc(), 2, 20, &drops)?;
@@ -147,18 +147,13 @@ fn rooms_are_split_and_absorbed(rt: HostRuntime) -> Result<(), AllocError> {
     queue.absorb(&mut party, other);
     same(&rt, party.rooms(), 4);
     let Closed { elements, stub: _ } = queue.close(party);
-    gives(&rt, elements, &[2]);
+    yields(&rt, elements, &[2]);
     Ok(())
 }
 
 /// Splits no room off a queue that has none and takes it back, finds nothing held, and closes the queue, which has a
 /// stub of this number, if any.
-fn gives_nothing(
-    rt: &impl Abort,
-    queue: MpscQueue<Counted>,
-    party: Party<Counted>,
-    stub: Option<u64>,
-)
+fn stays_empty(rt: &impl Abort, queue: MpscQueue<Counted>, party: Party<Counted>, stub: Option<u64>)
     requires { (party.table ≡ queue.table) × (party.share ≡ whole) }
 {
     let mut party = party;
@@ -169,14 +164,14 @@ fn gives_nothing(
     takes(rt, &queue, &mut party, Err(TryDequeueError::Empty));
     same(rt, party.rooms(), 0);
     let closed = queue.close(party);
-    gives(rt, closed.elements, &[]);
+    yields(rt, closed.elements, &[]);
     has_number(rt, closed.stub, stub);
 }
 
 #[test]
-fn a_queue_without_rooms_gives_nothing(rt: HostRuntime) -> Result<(), AllocError> {
+fn a_queue_without_rooms_returns_nothing(rt: HostRuntime) -> Result<(), AllocError> {
     let (queue, party) = MpscQueue::new(rt.alloc(), 0)?;
-    gives_nothing(&rt, queue, party, None);
+    stays_empty(&rt, queue, party, None);
     Ok(())
 }
 
@@ -185,6 +180,6 @@ fn a_queue_without_rooms_keeps_its_stub(rt: HostRuntime) -> Result<(), AllocErro
     let drops = Drops::new(rt.alloc())?;
     let stub = element(rt.alloc(), 7, &drops)?;
     let (queue, party) = with_stub(rt.alloc(), stub, 0)?;
-    gives_nothing(&rt, queue, party, Some(7));
+    stays_empty(&rt, queue, party, Some(7));
     Ok(())
 }

@@ -1,4 +1,4 @@
-//! Parties at their queue, and what their calls give.
+//! Parties at their queue, and what their calls return.
 ghost use Rattle.std.specs.Prelude.{◌≡◌, ◌≤◌, IfOk};
 ghost use Rattle.cordyceps_shared.specs.Shares.{whole};
 
@@ -11,7 +11,7 @@ use std::process::Abort;
 use test_queue_support::items::{Handle, element, pair};
 use test_support::counted::{Counted, Drops};
 
-/// Puts an element into a room that has to be there.
+/// Enqueues an element into a room that must be there.
 pub fn put(rt: &impl Abort, queue: &MpscQueue<Counted>, party: &mut Party<Counted>, handle: Handle)
     requires { party.old.table ≡ queue.now.table }
     ensures table { party.new.table ≡ queue.now.table }
@@ -21,7 +21,7 @@ pub fn put(rt: &impl Abort, queue: &MpscQueue<Counted>, party: &mut Party<Counte
     queue.enqueue(party, handle);
 }
 
-/// Compares the number of what one try gave, or why it gave nothing, with what is wanted.
+/// Asserts the number of what one try returned, or the error.
 pub fn takes(
     rt: &impl Abort,
     queue: &MpscQueue<Counted>,
@@ -35,7 +35,7 @@ pub fn takes(
     same(rt, found(rt, queue.try_dequeue(party)), wanted);
 }
 
-/// The number of what one try gave.
+/// Returns the number of what one try returned.
 pub fn found(
     rt: &impl Abort,
     tried: Result<Handle, TryDequeueError>,
@@ -46,7 +46,7 @@ pub fn found(
     }
 }
 
-/// Compares the number of what one try of a consumer gave, or why it gave nothing, with what is wanted.
+/// Asserts the number of what one try of a consumer returned, or the error.
 pub fn consumes(
     rt: &impl Abort,
     consumer: &mut Consumer<'_, Counted>,
@@ -55,7 +55,7 @@ pub fn consumes(
     same(rt, found(rt, consumer.try_dequeue()), wanted);
 }
 
-/// The consumer of a queue that nobody else dequeues from.
+/// Returns the consumer of a queue that nobody else dequeues from.
 pub fn consumer_of<'q>(
     rt: &impl Abort,
     queue: &'q MpscQueue<Counted>,
@@ -70,7 +70,7 @@ pub fn consumer_of<'q>(
     }
 }
 
-/// A queue with this stub, and its whole party.
+/// Returns a queue with this stub, and its whole party.
 pub fn with_stub(
     alloc: Global,
     stub: Handle,
@@ -86,7 +86,7 @@ pub fn with_stub(
     }
 }
 
-/// A queue of 3 rooms with a stub that holds the elements 1, 2 and 3, and its whole party.
+/// Returns a queue of 3 rooms with a stub that holds the elements 1, 2 and 3, and its whole party.
 pub fn three_queued(
     rt: &impl Abort,
     alloc: Global,
@@ -114,14 +114,14 @@ pub struct Seated<'q> {
 }
 
 impl<'q> Seated<'q> {
-    /// A party of this queue.
+    /// Returns a party of this queue.
     pub fn at(queue: &'q MpscQueue<Counted>, party: Party<Counted>) -> Seated<'q>
         requires { party.table ≡ queue.now.table }
     {
         Seated { queue, party }
     }
 
-    /// Gives some of the rooms, which have to be there, to a new party.
+    /// Gives some of the rooms, which must be there, to a new party.
     pub fn split(&mut self, rt: &impl Abort, rooms: usize) -> Seated<'q> {
         assert!(rt; self.party.rooms() >= rooms);
         Seated {
@@ -135,22 +135,22 @@ impl<'q> Seated<'q> {
         same(rt, self.party.rooms(), wanted);
     }
 
-    /// Puts an element into a room that has to be there.
+    /// Enqueues an element into a room that must be there.
     pub fn put(&mut self, rt: &impl Abort, handle: Handle) {
         put(rt, self.queue, &mut self.party, handle);
     }
 
-    /// The number of what one try gave.
+    /// Returns the number of what one try returned.
     pub fn take(&mut self, rt: &impl Abort) -> Result<u64, TryDequeueError> {
         found(rt, self.queue.try_dequeue(&mut self.party))
     }
 
-    /// Compares the number of what one try gave, or why it gave nothing, with what is wanted.
+    /// Asserts the number of what one try returned, or the error.
     pub fn takes(&mut self, rt: &impl Abort, wanted: Result<u64, TryDequeueError>) {
         same(rt, self.take(rt), wanted);
     }
 
-    /// The consumer of a queue that nobody else dequeues from.
+    /// Returns the consumer of a queue that nobody else dequeues from.
     pub fn consumer(self, rt: &impl Abort) -> Consumer<'q, Counted> {
         let Seated { queue, party } = self;
         consumer_of(rt, queue, party)

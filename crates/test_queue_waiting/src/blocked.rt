@@ -1,4 +1,4 @@
-//! Calls that wait beside four producers, whose elements are put in before they are linked.
+//! Calls that wait beside four producers, whose elements are enqueued before they are linked.
 ghost use Rattle.std.specs.Arc.{arc_value};
 ghost use Rattle.std.specs.Prelude.{◌≡◌};
 
@@ -25,7 +25,7 @@ const TRIES: u64 = 100_000_000;
 /// How often each test's threads run.
 const ROUNDS: u64 = 10;
 
-/// What four producers put in: a thousand elements each, of which the first one's are made.
+/// Returns what four producers enqueue: a thousand elements each, of which the first one's are made.
 fn four_rows(
     alloc: Global,
     row: Vec<Handle>,
@@ -37,12 +37,12 @@ fn four_rows(
     Ok(((row, second), (third, fourth)))
 }
 
-/// Two parties with a thousand rooms each.
+/// Returns two parties with a thousand rooms each.
 fn two_seats<'q>(seat: &mut Seated<'q>) -> Pair<Seated<'q>> {
     (seat.split(1000), seat.split(1000))
 }
 
-/// By whose calls elements come out: a party's, a consumer's, or those of one that owns the queue with others.
+/// Whose calls dequeue: a party's, a consumer's, or those of one that owns the queue with others.
 #[derive(Clone, Copy)]
 enum By {
     Party,
@@ -58,7 +58,7 @@ enum Taker<'q> {
     Owned(OwnedConsumer<Counted>),
 }
 
-/// Who takes by such calls, as this party.
+/// Returns a taker that makes such calls as this party.
 fn taker_of<'q>(
     rt: &impl Abort,
     by: By,
@@ -77,7 +77,7 @@ fn taker_of<'q>(
     }
 }
 
-/// The number of what a call gives that waits, or none where nothing was held.
+/// Returns the number of what a call that waits returns, or none where nothing was held.
 fn take<R: Wait + Abort>(rt: &R, taker: &mut Taker<'_>) -> Option<u64> {
     match taker {
         Taker::Party(seat) => dequeue(rt, seat),
@@ -103,7 +103,7 @@ fn take_all<R: Wait + Abort>(rt: &R, mut taker: Taker<'_>, done: &AtomicBool) {
     done.store(true, Ordering::SeqCst);
 }
 
-/// Four producers and a thread that takes what they put in, joined once its flag is set.
+/// Runs four producers and a thread that takes what they enqueue, joined once its flag is set.
 fn meet<R: Threads + Wait + Abort + Sync>(
     rt: &R,
     taker: Taker<'_>,

@@ -12,22 +12,22 @@ use test_queue_support::items::{Handle, found};
 use test_queue_support::seats::Seated;
 use test_support::counted::Counted;
 
-/// Puts an element into a room that has to be there.
+/// Enqueues an element into a room that must be there.
 pub fn puts(rt: &impl Abort, seat: &mut Seated<'_>, handle: Handle) {
     same(rt, seat.put(handle).is_ok(), true);
 }
 
-/// Compares the number of what one try gave, or why it gave nothing, with what is wanted.
+/// Asserts the number of what one try returned, or the error.
 pub fn takes(rt: &impl Abort, seat: &mut Seated<'_>, wanted: Result<u64, TryDequeueError>) {
     same(rt, found(seat.try_take()), wanted);
 }
 
-/// The number of what comes out at last, or none where nothing was held.
+/// Dequeues by a call that may wait, and returns the number, or none where nothing was held.
 pub fn dequeue<R: Wait + Abort>(rt: &R, seat: &mut Seated<'_>) -> Option<u64> {
     number_of(rt, seat.queue.dequeue(rt, &mut seat.party))
 }
 
-/// The consumer of a queue that nobody else dequeues from.
+/// Returns the consumer of a queue that nobody else dequeues from.
 pub fn consumer_of<'q>(rt: &impl Abort, seat: Seated<'q>) -> Consumer<'q, Counted> {
     match seat.try_consume() {
         Ok(consumer) => consumer,
@@ -35,7 +35,7 @@ pub fn consumer_of<'q>(rt: &impl Abort, seat: Seated<'q>) -> Consumer<'q, Counte
     }
 }
 
-/// The party that is handed back, since another has the right.
+/// Asserts that a try to consume returns the party, since another has the right, and returns it.
 pub fn handed_back<'q>(rt: &impl Abort, seat: Seated<'q>) -> Seated<'q> {
     match seat.try_consume() {
         Ok(_) => panic!(rt; "another has the right"),
@@ -43,7 +43,7 @@ pub fn handed_back<'q>(rt: &impl Abort, seat: Seated<'q>) -> Seated<'q> {
     }
 }
 
-/// The consumer that owns a queue with others, from which nobody else dequeues.
+/// Returns the consumer that owns a queue with others, from which nobody else dequeues.
 pub fn owned_of(
     rt: &impl Abort,
     queue: Arc<MpscQueue<Counted>, Global>,
@@ -57,13 +57,13 @@ pub fn owned_of(
     }
 }
 
-/// The consumer, once nobody else dequeues.
+/// Waits until nobody else dequeues, and returns the consumer.
 pub fn consume<'q, R: Wait>(rt: &R, seat: Seated<'q>) -> Consumer<'q, Counted> {
     let Seated { queue, party } = seat;
     queue.consume(rt, party)
 }
 
-/// Compares the number of what one try of a consumer gave, or why it gave nothing, with what is wanted.
+/// Asserts the number of what one try of a consumer returned, or the error.
 pub fn consumes(
     rt: &impl Abort,
     consumer: &mut Consumer<'_, Counted>,

@@ -4,7 +4,7 @@ ghost use Rattle.std.specs.Prelude.{◌<◌};
 use std::fmt::Debug;
 use std::process::Abort;
 
-/// Fails where what came is not what was wanted, and says both.
+/// Asserts that a value is the one that is wanted, and prints both where they differ.
 pub fn same<T: PartialEq + Debug + Drop>(rt: &impl Abort, came: T, wanted: T) {
     assert_eq!(rt; came, wanted);
 }

@@ -40,14 +40,14 @@ struct Owner {
 }
 
 impl Owner {
-    /// The only owner of a new queue with three rooms.
+    /// Returns the only owner of a new queue with three rooms.
     fn new(alloc: Global) -> Result<Owner, AllocError> {
         let (queue, party) = MpscQueue::new(alloc, 3)?;
         let queue = Arc::new(alloc, queue)?;
         Ok(Owner { queue, party })
     }
 
-    /// The only owner of a new queue with three rooms, and with so many elements in, of the number 1 and the next ones.
+    /// Returns the only owner of a new queue with three rooms and this many elements, numbered from 1 on.
     fn holding(
         rt: &impl Abort,
         alloc: Global,
@@ -61,25 +61,25 @@ impl Owner {
         Ok(owner)
     }
 
-    /// Another owner, with no room.
+    /// Returns another owner, with no room.
     fn share(&mut self) -> Result<Owner, AllocError> {
         let queue = Arc::try_clone(&self.queue)?;
         let party = self.queue.split(&mut self.party, 0);
         Ok(Owner { queue, party })
     }
 
-    /// Puts an element into a room that has to be there.
+    /// Enqueues an element into a room that must be there.
     fn put(&mut self, rt: &impl Abort, handle: Handle) {
         has_room(rt, self.party.rooms());
         self.queue.enqueue(&mut self.party, handle);
     }
 
-    /// Compares the number of what one try gave, or why it gave nothing, with what is wanted.
+    /// Asserts the number of what one try returned, or the error.
     fn takes(&mut self, rt: &impl Abort, wanted: Result<u64, TryDequeueError>) {
         same(rt, found(self.queue.try_dequeue(&mut self.party)), wanted);
     }
 
-    /// The consumer, where nobody else dequeues.
+    /// Returns the consumer, where nobody else dequeues.
     fn consumer(self, rt: &impl Abort) -> OwnedConsumer<Counted> {
         owned_of(rt, self.queue, self.party)
     }
@@ -92,7 +92,7 @@ impl Owner {
     }
 }
 
-/// The consumer that a thread of its own made, joined once its flag is set.
+/// Makes a consumer in a thread of its own, joined once its flag is set, and returns it.
 fn watch_consume<R: Threads + Wait + Abort + Sync>(rt: &R, owner: Owner) -> OwnedConsumer<Counted> {
     let flag = AtomicBool::new(false);
     let done = &flag;
@@ -147,8 +147,8 @@ fn the_last_owner_frees_the_queue(rt: HostRuntime) -> Result<(), AllocError> {
     Ok(())
 }
 
-/// Has an owner's consumer take so many of the elements 1, 2 and 3, and drops it. The other owner then gets those that
-/// are left, in order.
+/// Takes this many of the elements 1, 2 and 3 by an owner's consumer, and drops it. The other owner then gets those
+/// that are left, in order.
 fn leaves_the_others(rt: &impl Abort, owner: Owner, other: Owner, taken: u64) {
     let (mut owned, mut other) = (owner.consumer(rt), other);
     for before in 0..taken {
@@ -180,7 +180,7 @@ fn consume_and_tell<R: Wait + Abort>(rt: &R, owner: Owner, (here, done): Flags<'
     same(rt, found(owned.try_dequeue()), Ok(1));
 }
 
-/// Holds the right for a while once another is about to wait, which does not get it then, and gives it back.
+/// Holds the right for a while once another is about to wait, which does not get it then, and releases it.
 fn hold_right(rt: &impl Abort, owned: OwnedConsumer<Counted>, (here, done): Flags<'_>) {
     await_flag(rt, here);
     for _ in 0..PAUSES {
@@ -191,7 +191,7 @@ fn hold_right(rt: &impl Abort, owned: OwnedConsumer<Counted>, (here, done): Flag
     await_flag(rt, done);
 }
 
-/// One thread waits for the right, while another holds it for a while.
+/// Waits for the right in one thread, while another holds it for a while.
 fn wait_and_hold<R: Threads + Wait + Abort + Sync>(
     rt: &R,
     waiting: Owner,

@@ -1,4 +1,4 @@
-//! Crowds at a queue: threads that put elements in, and threads that take them out meanwhile.
+//! Crowds at a queue: threads that enqueue elements, and threads that dequeue them meanwhile.
 use crate::calls::puts;
 use crate::compared::same;
 use crate::items::dropped;
@@ -18,7 +18,7 @@ const TRIES: u64 = 10_000_000;
 /// How often each crowd runs.
 const ROUNDS: u64 = 10;
 
-/// What a thread took out.
+/// What a thread dequeued.
 #[derive(Drop)]
 struct Taken {
     /// The numbers, in the order in which they came.
@@ -27,7 +27,7 @@ struct Taken {
     busy: u64,
 }
 
-/// A thread that puts elements in.
+/// A thread that enqueues elements.
 #[derive(Drop)]
 struct Producer<'q> {
     seat: Seated<'q>,
@@ -35,7 +35,7 @@ struct Producer<'q> {
 }
 
 impl<'q> Producer<'q> {
-    /// Puts all in, the first of them first.
+    /// Enqueues all, the first of them first.
     fn produce(self, rt: &impl Abort) {
         let Producer { mut seat, elements } = self;
         for node in elements {
@@ -44,7 +44,7 @@ impl<'q> Producer<'q> {
     }
 }
 
-/// A thread that takes elements out.
+/// A thread that dequeues elements.
 #[derive(Drop)]
 struct Taker<'q> {
     seat: Seated<'q>,
@@ -52,7 +52,7 @@ struct Taker<'q> {
 }
 
 impl<'q> Taker<'q> {
-    /// A thread that has taken nothing yet.
+    /// Returns a thread that has taken nothing yet.
     fn new(alloc: Global, seat: Seated<'q>) -> Taker<'q> {
         let taken = Taken {
             numbers: Vec::new(alloc),
@@ -61,7 +61,7 @@ impl<'q> Taker<'q> {
         Taker { seat, taken }
     }
 
-    /// Takes out by one try, and counts it where it gave an element.
+    /// Dequeues by one try, and counts it where it returned an element.
     fn turn(&mut self, out: &AtomicU64) -> Result<(), AllocError> {
         match self.seat.try_take() {
             Ok(node) => {
@@ -77,7 +77,7 @@ impl<'q> Taker<'q> {
         Ok(())
     }
 
-    /// Takes out, until so many are out together.
+    /// Dequeues, until all threads together have dequeued this many.
     fn take(self, rt: &impl Abort, out: &AtomicU64, all: u64) -> Result<Taken, AllocError> {
         let mut taker = self;
         for _ in 0..TRIES {
@@ -90,7 +90,7 @@ impl<'q> Taker<'q> {
     }
 }
 
-/// How many threads put elements in, how many each, and how many threads take them out.
+/// How many threads enqueue elements, how many each, and how many threads dequeue them.
 #[derive(Clone, Copy)]
 struct Crowd {
     producers: u64,
@@ -99,12 +99,12 @@ struct Crowd {
 }
 
 impl Crowd {
-    /// How many elements are put in.
+    /// Returns how many elements are enqueued.
     fn all(self) -> u64 {
         self.producers.wrapping_mul(self.each)
     }
 
-    /// Those that put in: the first the numbers from 0 on, and each other those that follow.
+    /// Returns those that enqueue: the first the numbers from 0 on, and each other those that follow.
     fn producers<'q>(
         self,
         alloc: Global,
@@ -122,7 +122,7 @@ impl Crowd {
         Ok(producers)
     }
 
-    /// Those that take out.
+    /// Returns those that dequeue.
     fn takers<'q>(
         self,
         alloc: Global,
@@ -135,7 +135,7 @@ impl Crowd {
         Ok(takers)
     }
 
-    /// What each of those that take out got.
+    /// Runs all, and returns what each of those that dequeue got.
     fn run<R: Threads + Abort + Sync>(
         self,
         rt: &R,
@@ -166,7 +166,7 @@ impl Crowd {
         Ok(each)
     }
 
-    /// Compares that each producer's numbers among these rise.
+    /// Asserts that each producer's numbers among these rise.
     fn in_order(self, rt: &impl Abort, numbers: &[u64]) {
         for producer in 0..self.producers {
             let first = producer.wrapping_mul(self.each);
@@ -181,7 +181,7 @@ impl Crowd {
         }
     }
 
-    /// Compares how often each number came out, of all that did, with once.
+    /// Asserts that each number was dequeued once.
     fn each_once(self, rt: &impl Abort, alloc: Global, taken: &[Taken]) -> Result<(), AllocError> {
         let mut times = Vec::new(alloc);
         for _ in 0..self.all() {
@@ -201,8 +201,8 @@ impl Crowd {
         Ok(())
     }
 
-    /// Has a new queue with a room for each element, compares what came out with what was put in, and gives how often a
-    /// try found that another party had the right.
+    /// Runs all on a new queue with a room for each element, compares what was dequeued with what was enqueued, and
+    /// returns how often a try found that another party had the right.
     fn round<R: Threads + Abort + Sync>(self, rt: &R, alloc: Global) -> Result<u64, AllocError> {
         let drops = Drops::new(alloc)?;
         let rooms = self.all() as usize;

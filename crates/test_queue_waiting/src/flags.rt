@@ -13,7 +13,7 @@ pub fn await_flag(rt: &impl Abort, flag: &AtomicBool) {
     assert!(rt; is_set_in_time(flag), "a thread's calls have not returned");
 }
 
-/// What a call gives in a thread of its own, which is joined once it has set the flag.
+/// Makes a call in a thread of its own, joined once it has set the flag, and returns what it returned.
 pub fn watched<R: Threads + Abort + Sync, W: FnOnce() -> T + Send, T: Send + Drop>(
     rt: &R,
     done: &AtomicBool,

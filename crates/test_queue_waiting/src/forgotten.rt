@@ -20,7 +20,7 @@ struct Counts {
 }
 
 impl Counts {
-    /// No drops of any.
+    /// Returns counts of no drops.
     fn new(alloc: Global) -> Result<Counts, AllocError> {
         Ok(Counts {
             one: Drops::new(alloc)?,
@@ -36,14 +36,14 @@ impl Counts {
     }
 }
 
-/// Another consumer takes the element 1, and is forgotten.
+/// Takes the element 1 by another consumer, and forgets it.
 fn take_and_forget(rt: &impl Abort, seat: Seated<'_>) {
     let mut consumer = consumer_of(rt, seat);
     same(rt, found(consumer.try_dequeue()), Ok(1));
     mem::forget(consumer);
 }
 
-/// What a party meets after another has forgotten its consumer: a queue that takes elements, and gives none.
+/// Asserts what a party meets after another has forgotten its consumer: a queue that takes elements, and returns none.
 fn go_on_without(rt: &impl Abort, mut seat: Seated<'_>, handle: Handle) {
     takes(rt, &mut seat, Err(TryDequeueError::Busy));
     let mut back = handed_back(rt, seat);
@@ -69,14 +69,14 @@ fn a_forgotten_consumer_keeps_the_right(rt: HostRuntime) -> Result<(), AllocErro
     Ok(())
 }
 
-/// A party of two rooms puts an element in, and is dropped with a room.
+/// Enqueues an element by a party of two rooms, and drops it with a room.
 fn put_and_leave(rt: &impl Abort, mut seat: Seated<'_>, handle: Handle) {
     puts(rt, &mut seat, handle);
     same(rt, seat.rooms(), 1);
     drop(seat);
 }
 
-/// Two parties that are left get the elements 1, 2 and 3, the last two of which the first puts in, and their rooms.
+/// Dequeues 1, 2 and 3 by the two parties that are left, the last two of which the first enqueues, and their rooms.
 fn get_all(rt: &impl Abort, mut seat: Seated<'_>, mut other: Seated<'_>, pair: (Handle, Handle)) {
     let (two, three) = pair;
     puts(rt, &mut seat, two);

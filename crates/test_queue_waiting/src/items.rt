@@ -4,13 +4,13 @@ use std::process::Abort;
 use test_queue_support::items::Handle;
 use test_support::counted::Drops;
 
-/// The number of an element that was made so. Its value has to be ten times as much.
+/// Returns the number of an element that was made so. Its value has to be ten times as much.
 pub fn number(rt: &impl Abort, node: &Handle) -> u64 {
     same(rt, node.get().value, node.id().wrapping_mul(10));
     node.id()
 }
 
-/// The number of an element that may have come, which is dropped.
+/// Drops an element, if there is one, and returns its number.
 pub fn number_of(rt: &impl Abort, node: Option<Handle>) -> Option<u64> {
     match node {
         Some(node) => Some(number(rt, &node)),
@@ -18,7 +18,7 @@ pub fn number_of(rt: &impl Abort, node: Option<Handle>) -> Option<u64> {
     }
 }
 
-/// Compares how many drops were counted with what is wanted.
+/// Asserts how many drops were counted.
 pub fn dropped(rt: &impl Abort, drops: &Drops, wanted: u64) {
     same(rt, drops.count(), wanted);
 }

@@ -1,5 +1,5 @@
-//! Tests of the queue that threads share, through its public names: of its calls that may wait, of consumers that own it
-//! with others or are forgotten, of parties that are dropped, and of many that put in and take out.
+//! Tests of the queue that threads share, through its public names: of its calls that may wait, of consumers that own
+//! it with others or are forgotten, of parties that are dropped, and of many that enqueue and dequeue.
 #![tactic(auto)]
 
 #[cfg(test)]

@@ -1,4 +1,4 @@
-//! A queue with its party, and elements to put in.
+//! A queue with its party, and elements to enqueue.
 ghost use Rattle.std.specs.Prelude.{◌≡◌, ◌≤◌};
 
 use cordyceps_queue::mpsc_queue::{MAX_ROOMS, MpscQueue, Party};
@@ -6,7 +6,7 @@ use std::alloc::{AllocError, Global};
 use test_queue_support::items::{Handle, elements};
 use test_support::counted::{Counted, Drops};
 
-/// An empty queue, the party that has all of its rooms, and elements to put in, whose drops are counted.
+/// An empty queue, the party that has all of its rooms, and elements to enqueue, whose drops are counted.
 #[derive(Drop)]
 pub struct Made {
     pub drops: Drops,
@@ -17,7 +17,7 @@ pub struct Made {
 }
 
 impl Made {
-    /// A queue of so many rooms, and so many elements, of this number and the next ones.
+    /// Returns a queue of this many rooms, and this many elements, numbered from this number on.
     pub fn new(alloc: Global, rooms: usize, first: u64, count: u64) -> Result<Made, AllocError>
         requires { rooms ≤ MAX_ROOMS }
     {

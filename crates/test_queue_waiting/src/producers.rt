@@ -1,4 +1,4 @@
-//! Threads that put elements in.
+//! Threads that enqueue elements.
 
 use crate::calls::puts;
 use std::process::Abort;
@@ -10,14 +10,14 @@ use test_queue_support::seats::Seated;
 /// One for each of two producers.
 pub type Pair<T> = (T, T);
 
-/// Puts all in, into rooms that have to be there.
+/// Enqueues all into rooms that must be there.
 pub fn puts_all(rt: &impl Abort, seat: &mut Seated<'_>, row: Vec<Handle>) {
     for node in row {
         puts(rt, seat, node);
     }
 }
 
-/// Puts all in, and yields behind each, so that who takes comes to the end again and again.
+/// Enqueues all, and yields after each, so that who takes comes to the end again and again.
 fn produce(rt: &impl Abort, mut seat: Seated<'_>, row: Vec<Handle>) {
     for node in row {
         puts(rt, &mut seat, node);

@@ -35,7 +35,7 @@ fn enqueue_dequeue(rt: HostRuntime) -> Result<(), AllocError> {
     Ok(())
 }
 
-/// The numbers of what comes out until nothing is held.
+/// Dequeues until nothing is held, and returns the numbers.
 fn drain<R: Wait + Abort>(rt: &R, alloc: Global, mut seat: Seated<'_>) -> Numbers {
     let mut numbers = Vec::new(alloc);
     for _ in 0..PAUSES {
@@ -47,7 +47,7 @@ fn drain<R: Wait + Abort>(rt: &R, alloc: Global, mut seat: Seated<'_>) -> Number
     panic!(rt; "more came out than was put in");
 }
 
-/// Gives them, and then sets the flag.
+/// Returns them, once it has set the flag.
 fn drain_and_tell<R: Wait + Abort>(
     rt: &R,
     alloc: Global,
@@ -59,7 +59,7 @@ fn drain_and_tell<R: Wait + Abort>(
     numbers
 }
 
-/// What two threads get, joined once both flags are set.
+/// Returns what two threads get, joined once both flags are set.
 fn drain_both<R: Threads + Wait + Abort + Sync>(
     rt: &R,
     alloc: Global,
@@ -78,7 +78,7 @@ fn drain_both<R: Threads + Wait + Abort + Sync>(
     thread::join(rt, work, watch).0
 }
 
-/// The numbers of both, the least first.
+/// Returns the numbers of both, the least first.
 fn sorted(first: Vec<u64>, second: Vec<u64>) -> Numbers {
     let (mut all, mut more) = (first, second);
     all.append(&mut more)?;
@@ -142,7 +142,7 @@ fn take_one<R: Wait + Abort>(rt: &R, seat: Seated<'_>, by: By, (here, done): Fla
     }
 }
 
-/// Holds the right for a while once another is about to wait, which does not get it then, and gives it back.
+/// Holds the right for a while once another is about to wait, which does not get it then, and releases it.
 fn hold_right(rt: &impl Abort, consumer: Consumer<'_, Counted>, (here, done): Flags<'_>) {
     await_flag(rt, here);
     for _ in 0..PAUSES {
@@ -153,7 +153,7 @@ fn hold_right(rt: &impl Abort, consumer: Consumer<'_, Counted>, (here, done): Fl
     await_flag(rt, done);
 }
 
-/// One thread waits, while another holds the right for a while.
+/// Waits in one thread, while another holds the right for a while.
 fn wait_and_hold<R: Threads + Wait + Abort + Sync>(
     rt: &R,
     waiting: Seated<'_>,
@@ -166,7 +166,7 @@ fn wait_and_hold<R: Threads + Wait + Abort + Sync>(
     thread::join(rt, wait, move || hold_right(rt, holding, told));
 }
 
-/// Puts the element 1 in, and has a thread wait for a consumer to give the right back.
+/// Enqueues the element 1, and has a thread wait for a consumer to release the right.
 fn wait_for_a_release<R: Threads + Wait + Abort + Sync>(
     rt: &R,
     alloc: Global,

@@ -42,7 +42,7 @@ fn take_twice<R: Wait + Abort>(rt: &R, seat: Seated<'_>, by: By, done: &AtomicBo
     done.store(true, Ordering::SeqCst);
 }
 
-/// Puts the element 1 in, and has a thread of its own take twice.
+/// Enqueues the element 1, and has a thread of its own take twice.
 pub fn pass_one<R: Threads + Wait + Abort + Sync>(
     rt: &R,
     alloc: Global,

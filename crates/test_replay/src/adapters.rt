@@ -1,4 +1,4 @@
-//! What a sink hands to its writer, and a script that stands in memory.
+//! What a sink passes to its writer, and a script in memory.
 ghost use Rattle.std.specs.Prelude.{◌∷◌, [], Some};
 
 use crate::compared::same;
@@ -10,7 +10,7 @@ use std::alloc::AllocError;
 use std::io::{self, Write};
 use std::test::Fail;
 
-/// A writer that takes at most so many bytes at once, and keeps what each call handed it, with a bar behind.
+/// A writer that takes at most this many bytes at once, and keeps what each call passed to it, with a bar after it.
 #[derive(Drop)]
 struct Calls {
     handed: Vec<u8>,
@@ -29,7 +29,7 @@ impl Write for Calls {
     }
 }
 
-// A sink may write a front of the bytes, but this one leaves it to the writer which.
+// A sink may write a prefix of the bytes, but this one leaves it to the writer which.
 #[test]
 fn a_write_hands_on_all_bytes(rt: HostRuntime) -> Result<(), Fail> {
     for (at_once, count) in [(1, 1), (3, 3), (9, 3)] {
@@ -44,7 +44,7 @@ fn a_write_hands_on_all_bytes(rt: HostRuntime) -> Result<(), Fail> {
     Ok(())
 }
 
-/// A session that answers each line with an empty one.
+/// A session that replies to each line with an empty one.
 #[derive(Clone, Copy, Debug)]
 struct Blank;
 

@@ -1,7 +1,7 @@
 //! The examples of the replay language, over readers and writers that fail after each number of bytes.
 
 use crate::stored::{REPLIES, STORED};
-use crate::streams::{Paper, Script, gives, outcome_in, outcome_on, whole};
+use crate::streams::{Paper, Script, has_outcome, outcome_in, outcome_on, whole};
 use replay_driver::fault::Fault;
 use replay_sessions::modes::Choice;
 use std::alloc::{AllocError, Global};
@@ -27,7 +27,7 @@ const EXAMPLES: [(Choice, &[u8], &[u8]); 4] = [
     ),
 ];
 
-/// How many lines are complete.
+/// Returns how many lines are complete.
 fn count_lines(text: &[u8]) -> usize {
     let mut count = 0usize;
     for byte in text {
@@ -38,7 +38,7 @@ fn count_lines(text: &[u8]) -> usize {
     count
 }
 
-/// So many of the text's lines.
+/// Returns this many of the text's lines.
 fn first_lines(alloc: Global, text: &[u8], count: usize) -> Result<Vec<u8>, AllocError> {
     let mut lines = Vec::new(alloc);
     let mut left = count;
@@ -68,7 +68,7 @@ fn failed_reads(rt: HostRuntime) -> Result<(), Fail> {
                     fails: true,
                 };
                 let came = outcome_in(rt.alloc(), choice, input);
-                gives(&rt, rest, came, Err(Fault::Read), &wanted);
+                has_outcome(&rt, rest, came, Err(Fault::Read), &wanted);
             }
         }
     }
@@ -91,7 +91,7 @@ fn failed_writes(rt: HostRuntime) -> Result<(), Fail> {
                     fails,
                 };
                 let (end, paper) = outcome_on(rt.alloc(), choice, whole(script), paper);
-                gives(&rt, script, (end, paper.written), wanted, &replies[..room]);
+                has_outcome(&rt, script, (end, paper.written), wanted, &replies[..room]);
             }
         }
     }

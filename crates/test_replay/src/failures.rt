@@ -1,7 +1,7 @@
-//! Streams that fail or give little at once, and long lines.
+//! Streams that fail or return little at once, and long lines.
 
 use crate::stored::{REPLIES, STORED};
-use crate::streams::{Script, gives, outcome};
+use crate::streams::{Script, has_outcome, outcome};
 use replay_driver::fault::Fault;
 use std::test::Fail;
 
@@ -21,7 +21,7 @@ fn long_lines(rt: HostRuntime) -> Result<(), Fail> {
                 at_once,
                 fails,
             };
-            gives(&rt, rest, outcome(rt.alloc(), input), expected, b"");
+            has_outcome(&rt, rest, outcome(rt.alloc(), input), expected, b"");
         }
     }
     Ok(())
@@ -35,7 +35,7 @@ fn short_reads(rt: HostRuntime) -> Result<(), Fail> {
             at_once,
             fails: false,
         };
-        gives(&rt, STORED, outcome(rt.alloc(), input), Ok(()), REPLIES);
+        has_outcome(&rt, STORED, outcome(rt.alloc(), input), Ok(()), REPLIES);
     }
     Ok(())
 }
@@ -48,6 +48,6 @@ fn a_bad_line_before_a_failed_read(rt: HostRuntime) -> Result<(), Fail> {
         fails: true,
     };
     let came = outcome(rt.alloc(), input);
-    gives(&rt, b"len 16", came, Err(Fault::BadLine(2)), b"len 0\n");
+    has_outcome(&rt, b"len 16", came, Err(Fault::BadLine(2)), b"len 0\n");
     Ok(())
 }

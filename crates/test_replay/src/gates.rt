@@ -1,4 +1,4 @@
-//! A gate that takes what the stack holds, in front of each push of a worker.
+//! A gate that takes what the stack holds, before each push of a worker.
 ghost use Rattle.std.specs.Prelude.{◌≡◌};
 
 use crate::compared::same;
@@ -20,7 +20,7 @@ struct Looker<'a> {
 }
 
 impl Looker<'_> {
-    /// Takes all that is held, and counts it.
+    /// Takes all that is held, and returns how many there are.
     fn count(&mut self) -> u64 {
         let mut count = 0u64;
         for _node in self.stack.take_all(&mut self.party) {
@@ -47,7 +47,7 @@ impl Gate for Counting<'_> {
     }
 }
 
-/// A node of an item with this number and value.
+/// Returns a node of an item with this number and value.
 fn node(alloc: Global, number: u64) -> Result<Node<Item, Links<Item>>, AllocError> {
     let value = Item {
         value: number,

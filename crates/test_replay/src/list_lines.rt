@@ -7,7 +7,7 @@ use replay_lines::list_command::{Entry, read_entry};
 use std::alloc::{AllocError, Global};
 use std::test::Fail;
 
-/// Whether a line is read outside of blocks, and within them.
+/// Returns whether a line is read outside of blocks, and within them.
 fn reads(alloc: Global, line: &str) -> Result<(bool, bool), AllocError> {
     let outside = read_entry(alloc, line.as_bytes())?.is_some();
     Ok((outside, read_cursor_command(line.as_bytes()).is_some()))

@@ -1,7 +1,7 @@
 //! Scripts in mode `list`: whole lists, and cursor blocks.
 
 use crate::compared::same;
-use crate::streams::{Row, Script, compare, gives, outcome, whole};
+use crate::streams::{Row, Script, compare, has_outcome, outcome, whole};
 use replay_driver::fault::Fault;
 use replay_sessions::modes::Choice;
 use std::test::Fail;
@@ -70,7 +70,7 @@ fn a_block_before_a_failed_read(rt: HostRuntime) -> Result<(), Fail> {
         fails: true,
     };
     let came = outcome(rt.alloc(), input);
-    gives(&rt, b"ne", came, Err(Fault::Read), b"ok\nok\nsome 1 1\n");
+    has_outcome(&rt, b"ne", came, Err(Fault::Read), b"ok\nok\nsome 1 1\n");
     Ok(())
 }
 
@@ -97,7 +97,7 @@ fn lines_in_the_wrong_place(rt: HostRuntime) -> Result<(), Fail> {
     let outside: [&[u8]; 6] = [b"next", b"end", b"cur", b"len", b"cursor 0", b"walk 0 nx"];
     for line in outside {
         let came = outcome(rt.alloc(), whole(line));
-        gives(&rt, line, came, Err(Fault::BadLine(1)), b"");
+        has_outcome(&rt, line, came, Err(Fault::BadLine(1)), b"");
     }
     let inside: [&[u8]; 6] = [
         b"len 0",
@@ -113,7 +113,7 @@ fn lines_in_the_wrong_place(rt: HostRuntime) -> Result<(), Fail> {
         lines.extend_from_slice(line)?;
         lines.extend_from_slice(b"\n")?;
         let came = outcome(rt.alloc(), whole(&lines));
-        gives(&rt, &lines, came, Err(Fault::BadLine(3)), b"ok\nlen 0\n");
+        has_outcome(&rt, &lines, came, Err(Fault::BadLine(3)), b"ok\nlen 0\n");
     }
     Ok(())
 }

@@ -1,7 +1,7 @@
 //! Scripts over lists, stacks and sorted lists, and lines that are bad.
 
 use crate::stored::{REPLIES, STORED};
-use crate::streams::{Row, compare, gives, outcome_in, refuse, whole};
+use crate::streams::{Row, compare, has_outcome, outcome_in, refuse, whole};
 use replay_driver::fault::Fault;
 use replay_sessions::modes::Choice;
 use std::test::Fail;
@@ -113,7 +113,7 @@ fn long_pairs(rt: HostRuntime) -> Result<(), Fail> {
         }
         line.extend_from_slice(last)?;
         let came = outcome_in(rt.alloc(), Choice::Sorted, whole(&line));
-        gives(&rt, &line, came, ending, expected);
+        has_outcome(&rt, &line, came, ending, expected);
     }
     Ok(())
 }
@@ -133,7 +133,7 @@ fn bad_pairs(rt: HostRuntime) -> Result<(), Fail> {
     ];
     for line in table {
         let came = outcome_in(rt.alloc(), Choice::Sorted, whole(line));
-        gives(&rt, line, came, Err(Fault::BadLine(1)), b"");
+        has_outcome(&rt, line, came, Err(Fault::BadLine(1)), b"");
     }
     Ok(())
 }

@@ -2,7 +2,7 @@
 
 use crate::compared::same;
 use crate::flags::await_flag;
-use crate::streams::{Paper, gives};
+use crate::streams::{Paper, has_outcome};
 use cordyceps::TransferStack;
 use replay_driver::fault::Fault;
 use replay_driver::sink::ToWrite;
@@ -48,7 +48,7 @@ impl Visit {
         passed.fetch_add(1, Ordering::SeqCst);
     }
 
-    /// Whether it passed once before each of the two pushes, and no more.
+    /// Returns whether it passed once before each of the two pushes, and no more.
     fn is_complete(&self) -> bool {
         self.passed.0.load(Ordering::SeqCst) == 1
             && self.passed.1.load(Ordering::SeqCst) == 1
@@ -106,7 +106,7 @@ impl Gate for Meeting {
     }
 }
 
-/// Shares a new stack through the gate, and asserts the answer, and that the party has its rooms again.
+/// Shares a new stack through the gate, and asserts the result, and that the party has its rooms again.
 fn shares<R: Threads + Wait + Abort + Sync, G: Gate>(rt: &R, alloc: Global, gate: &G) {
     let Ok((stack, mut party)) = TransferStack::new(alloc, 4) else {
         panic!(rt; "no memory for a stack");
@@ -206,7 +206,7 @@ fn a_shared_run_writes_its_line(rt: HostRuntime) -> Result<(), Fail> {
             } else {
                 Ok(())
             };
-            gives(&rt, b"", came, expected, &line[..room]);
+            has_outcome(&rt, b"", came, expected, &line[..room]);
         }
     }
     Ok(())

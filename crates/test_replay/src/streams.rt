@@ -1,4 +1,4 @@
-//! Streams in memory, runs of scripts over them, and what they give.
+//! Streams in memory, runs of scripts over them, and how they end.
 
 use crate::compared::same;
 use replay_driver::fault::Fault;
@@ -30,7 +30,7 @@ impl Read for Script<'_> {
     }
 }
 
-/// A writer that takes so many bytes. Then it fails, or takes nothing.
+/// A writer that takes this many bytes. Then it fails, or takes nothing.
 #[derive(Drop)]
 pub struct Paper {
     pub written: Vec<u8>,
@@ -57,7 +57,7 @@ impl Write for Paper {
 /// How a run ends, and what it writes.
 pub type Outcome = (Result<(), Fault>, Vec<u8>);
 
-/// How a script ends over a writer, and the writer.
+/// Runs a script over a writer, and returns how it ends, and the writer.
 pub fn outcome_on<W: Write>(
     alloc: Global,
     choice: Choice,
@@ -79,17 +79,17 @@ pub fn outcome_on<W: Write>(
     (end, output.into_inner())
 }
 
-/// How a script ends, and what it writes.
+/// Runs a script, and returns how it ends and what it writes.
 pub fn outcome_in(alloc: Global, choice: Choice, script: Script) -> Outcome {
     outcome_on(alloc, choice, script, Vec::new(alloc))
 }
 
-/// How a script in mode `list` ends, and what it writes.
+/// Runs a script in mode `list`, and returns how it ends and what it writes.
 pub fn outcome(alloc: Global, script: Script) -> Outcome {
     outcome_in(alloc, Choice::List, script)
 }
 
-/// A script that is read at once.
+/// Returns a script that is read at once.
 pub fn whole(bytes: &[u8]) -> Script<'_> {
     Script {
         rest: bytes,
@@ -98,8 +98,14 @@ pub fn whole(bytes: &[u8]) -> Script<'_> {
     }
 }
 
-/// Compares what a run of these lines gave with how it has to end and what it has to write.
-pub fn gives(rt: &impl Abort, lines: &[u8], came: Outcome, end: Result<(), Fault>, text: &[u8]) {
+/// Asserts how a run of these lines ended, and what it wrote.
+pub fn has_outcome(
+    rt: &impl Abort,
+    lines: &[u8],
+    came: Outcome,
+    end: Result<(), Fault>,
+    text: &[u8],
+) {
     let (ended, written) = came;
     same(rt, (lines, ended, written.as_slice()), (lines, end, text));
 }
@@ -107,10 +113,10 @@ pub fn gives(rt: &impl Abort, lines: &[u8], came: Outcome, end: Result<(), Fault
 /// A script, its replies, and how it ends.
 pub type Row<'a> = (&'a [u8], &'a [u8], Result<(), Fault>);
 
-/// Runs each script, and compares what it gives.
+/// Runs each script, and asserts its outcome.
 pub fn compare(rt: &impl Abort, alloc: Global, choice: Choice, rows: &[Row]) {
     for (lines, text, end) in rows {
-        gives(
+        has_outcome(
             rt,
             lines,
             outcome_in(alloc, choice, whole(lines)),
@@ -120,7 +126,7 @@ pub fn compare(rt: &impl Abort, alloc: Global, choice: Choice, rows: &[Row]) {
     }
 }
 
-/// Puts each line between a good one with a reply and another, and looks that it is bad.
+/// Runs each line between a good one with a reply and another, and asserts that it is bad.
 pub fn refuse(
     rt: &impl Abort,
     alloc: Global,
@@ -136,7 +142,7 @@ pub fn refuse(
         lines.extend_from_slice(b"\n")?;
         lines.extend_from_slice(first)?;
         let came = outcome_in(alloc, choice, whole(&lines));
-        gives(rt, &lines, came, Err(Fault::BadLine(2)), reply);
+        has_outcome(rt, &lines, came, Err(Fault::BadLine(2)), reply);
     }
     Ok(())
 }

@@ -7,7 +7,7 @@ use std::process::Abort;
 use std::test::Fail;
 use test_support::items::Item;
 
-/// The value that a cursor is at.
+/// Returns the value that a cursor is at.
 fn item(cursor: &SpotCursor<'_, Item>) -> Option<u64> {
     match cursor.current() {
         Some(item) => Some(item.value),
@@ -15,7 +15,7 @@ fn item(cursor: &SpotCursor<'_, Item>) -> Option<u64> {
     }
 }
 
-/// The key that a cursor is at.
+/// Returns the key that a cursor is at.
 fn value(cursor: &SpotCursor<'_, Key>) -> Option<u64> {
     match cursor.current() {
         Some(key) => Some(key.value),

@@ -1,4 +1,4 @@
-//! How often a stable list drops what it holds, and what came out of it.
+//! How often a stable list drops what it holds, and what was removed from it.
 use crate::compared::{at_most, has_place, same};
 use crate::items::spot_at;
 use cordyceps_stable::stable_list::StableList;
@@ -7,7 +7,7 @@ use std::process::Abort;
 use std::test::Fail;
 use test_support::counted::{Counted, Drops, counted_node};
 
-/// A list of the elements from 1 on, so many.
+/// Returns a list of this many elements, from 1 on.
 fn counted(
     rt: &impl Abort,
     alloc: Global,
@@ -23,7 +23,7 @@ fn counted(
     Ok(list)
 }
 
-/// Takes the element out that is so many moves behind the first, and drops it once.
+/// Removes the element at this distance from the first, and asserts that it is dropped once.
 fn drops_one(
     rt: &impl Abort,
     list: &mut StableList<Counted>,

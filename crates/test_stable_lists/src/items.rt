@@ -10,7 +10,7 @@ use std::alloc::{AllocError, Global};
 use std::process::Abort;
 use test_support::items::{Item, plain};
 
-/// A stable list of the items.
+/// Returns a stable list of the items.
 pub fn list_of(
     rt: &impl Abort,
     alloc: Global,
@@ -35,7 +35,7 @@ pub fn holds(rt: &impl Abort, list: &StableList<Item>, items: &[u64]) {
     same(rt, left.next().is_none(), true);
 }
 
-/// The spot that is so many moves behind the first, if there is one.
+/// Returns the spot at this distance from the first, if there is one.
 #[tactic(auto, using(cordyceps_stable::proofs::Reached::first_has, cordyceps_stable::proofs::Reached::next_reached))]
 pub fn spot_at<T: Linked<Links<T>>>(list: &StableList<T>, moves: usize) -> Option<Spot>
     ensures { IfSome result (λ p. HasSpot list.now p) }
@@ -47,7 +47,7 @@ pub fn spot_at<T: Linked<Links<T>>>(list: &StableList<T>, moves: usize) -> Optio
     Some(spot)
 }
 
-/// The value at a spot, if there is a spot.
+/// Returns the value at a spot, if there is a spot.
 pub fn value_at(list: &StableList<Item>, spot: Option<Spot>) -> Option<u64>
     requires { IfSome spot (λ p. HasSpot list.now p) }
 {
@@ -57,7 +57,7 @@ pub fn value_at(list: &StableList<Item>, spot: Option<Spot>) -> Option<u64>
     }
 }
 
-/// The values before a spot, at it and behind it.
+/// Returns the values before a spot, at it and after it.
 pub fn around(list: &StableList<Item>, spot: Spot) -> [Option<u64>; 3]
     requires { HasSpot list.now spot }
 {

@@ -1,5 +1,5 @@
-//! Tests of stable lists, and of those that an order keeps sorted: each call, walks by spots, drops, and many operations
-//! beside a queue or a sorted vector.
+//! Tests of stable lists, and of those that an order keeps sorted: each call, walks by spots, drops, and many
+//! operations beside a queue or a sorted vector.
 #![tactic(auto)]
 
 #[cfg(test)]

@@ -16,12 +16,12 @@ use test_support::nodes::node_of;
 /// The values are below this, so that a list mostly has some of them twice.
 const VALUES: u64 = 24;
 
-/// The name and the value of a node, which is dropped.
+/// Drops a node, and returns its name and its value.
 fn parts(node: Handle) -> (u64, u64) {
     (node.id(), node.into_value().value)
 }
 
-/// The name and the value of a node that came out, if one did.
+/// Returns the name and the value of a node that was removed, if one was.
 fn came(node: Option<Handle>) -> Option<(u64, u64)> {
     Some(parts(node?))
 }
@@ -44,7 +44,7 @@ impl Both {
         }
     }
 
-    /// An element with a new name and a drawn value, and both of them.
+    /// Makes an element with a new name and a drawn value, and returns it with both of them.
     fn make(
         &mut self,
         alloc: Global,
@@ -56,7 +56,7 @@ impl Both {
         Ok((node_of(alloc, name, Item { value })?, (name, value)))
     }
 
-    /// A drawn place and its spot. `None` where the place behind the last is drawn.
+    /// Returns a drawn place and its spot. `None` where the place after the last is drawn.
     fn drawn(&self, rt: &impl Abort, draws: &mut Draws) -> Option<(usize, Spot)>
         ensures { IfSome result (λ drawn. HasSpot self.now.list drawn.1) }
     {
@@ -68,13 +68,13 @@ impl Both {
         Some((at, spot?))
     }
 
-    /// The value that should lie at a place, if there is one.
+    /// Returns the value that should be at a place, if there is one.
     fn wanted(&self, at: usize) -> Option<u64> {
         Some(self.queue.get(at)?.1)
     }
 
-    /// Asserts what lies before a spot, at it and behind it, which is that of a place.
-    fn lies(&self, rt: &impl Abort, spot: Spot, at: usize)
+    /// Asserts the values before a spot, at it and after it, which are those around a place.
+    fn is_at(&self, rt: &impl Abort, spot: Spot, at: usize)
         requires { HasSpot self.now.list spot }
     {
         let wanted = [
@@ -111,7 +111,7 @@ impl Both {
         has_place(rt, self.list.len());
         self.queue.push_front(pair)?;
         let spot = self.list.push_front(node);
-        self.lies(rt, spot, 0);
+        self.is_at(rt, spot, 0);
         Ok(())
     }
 
@@ -126,7 +126,7 @@ impl Both {
         let last = self.queue.len();
         self.queue.push_back(pair)?;
         let spot = self.list.push_back(node);
-        self.lies(rt, spot, last);
+        self.is_at(rt, spot, last);
         Ok(())
     }
 
@@ -142,12 +142,12 @@ impl Both {
             assert!(rt; self.list.len() < usize::MAX && at < self.queue.len());
             self.queue.insert(at, pair)?;
             let new = self.list.insert_before(spot, node);
-            self.lies(rt, new, at);
+            self.is_at(rt, new, at);
         }
         Ok(())
     }
 
-    /// Inserts an element behind one at a drawn place.
+    /// Inserts an element after one at a drawn place.
     fn insert_after(
         &mut self,
         rt: &impl Abort,
@@ -159,7 +159,7 @@ impl Both {
             assert!(rt; self.list.len() < usize::MAX && at < self.queue.len());
             self.queue.insert(at + 1, pair)?;
             let new = self.list.insert_after(spot, node);
-            self.lies(rt, new, at + 1);
+            self.is_at(rt, new, at + 1);
         }
         Ok(())
     }
@@ -172,7 +172,7 @@ impl Both {
         same(rt, came(self.list.pop_back()), self.queue.pop_back());
     }
 
-    /// Takes the element out at a drawn place.
+    /// Removes the element at a drawn place.
     fn remove(&mut self, rt: &impl Abort, draws: &mut Draws) {
         if let Some((at, spot)) = self.drawn(rt, draws) {
             let node = self.list.remove(spot);
@@ -186,7 +186,7 @@ impl Both {
             self.list.move_to_front(spot);
             let pair = self.queue.remove(at).expect(rt, "the place has an element");
             self.queue.push_front(pair)?;
-            self.lies(rt, spot, 0);
+            self.is_at(rt, spot, 0);
         }
         Ok(())
     }
@@ -198,7 +198,7 @@ impl Both {
             let pair = self.queue.remove(at).expect(rt, "the place has an element");
             let last = self.queue.len();
             self.queue.push_back(pair)?;
-            self.lies(rt, spot, last);
+            self.is_at(rt, spot, last);
         }
         Ok(())
     }
@@ -206,7 +206,7 @@ impl Both {
     /// Reads the value at a drawn place and those beside it, and writes another over it.
     fn write(&mut self, rt: &impl Abort, draws: &mut Draws) {
         if let Some((at, spot)) = self.drawn(rt, draws) {
-            self.lies(rt, spot, at);
+            self.is_at(rt, spot, at);
             let value = draws.below(VALUES);
             self.list.get_mut(spot).value = value;
             let pair = self
@@ -217,7 +217,7 @@ impl Both {
         }
     }
 
-    /// Takes all elements out, from both ends by turns.
+    /// Removes all elements, from both ends by turns.
     fn empty_out(&mut self, rt: &impl Abort) {
         for turn in 0..self.queue.len() {
             if turn % 2 == 0 {
@@ -253,12 +253,12 @@ impl Both {
     }
 }
 
-/// The second of two numbers, if they are there.
+/// Returns the second of two numbers, if they are there.
 fn second(pair: Option<&(u64, u64)>) -> Option<u64> {
     Some(pair?.1)
 }
 
-/// Does 500 drawn operations on both, which agree after each, and then takes all elements out.
+/// Does 500 drawn operations on both, which agree after each, and then removes all elements.
 fn operate_on(
     rt: &impl Abort,
     alloc: Global,

@@ -1,4 +1,4 @@
-//! Each call of a stable list, and what it answers.
+//! Each call of a stable list, and what it returns.
 use crate::compared::same;
 use crate::items::{around, holds, list_of, spot_at, value_at};
 use cordyceps_list::list::List;
@@ -23,7 +23,7 @@ fn an_empty_list_has_no_ends(rt: HostRuntime) -> Result<(), Fail> {
 
 #[test]
 #[tactic(auto, using(cordyceps_stable::proofs::Reached::last_has))]
-fn pushes_answer_their_spots(rt: HostRuntime) -> Result<(), Fail> {
+fn pushes_return_their_spots(rt: HostRuntime) -> Result<(), Fail> {
     let mut list: StableList<Item> = StableList::new();
     let second = list.push_back(plain(rt.alloc(), 2)?);
     same(&rt, around(&list, second), [None, Some(2), None]);
@@ -43,7 +43,7 @@ fn pushes_answer_their_spots(rt: HostRuntime) -> Result<(), Fail> {
 
 #[test]
 #[tactic(auto, using(cordyceps_stable::proofs::Reached::last_has))]
-fn tries_of_a_push_answer_their_spots(rt: HostRuntime) -> Result<(), Fail> {
+fn tries_of_a_push_return_their_spots(rt: HostRuntime) -> Result<(), Fail> {
     let mut list: StableList<Item> = StableList::new();
     match list.try_push_back(plain(rt.alloc(), 2)?) {
         Ok(spot) => same(&rt, around(&list, spot), [None, Some(2), None]),
@@ -61,8 +61,8 @@ fn tries_of_a_push_answer_their_spots(rt: HostRuntime) -> Result<(), Fail> {
     Ok(())
 }
 
-/// Puts 9 in before the item that is so many moves behind the first of 1, 2 and 3.
-fn puts_before(
+/// Inserts 9 before the item at this distance from the first of 1, 2 and 3.
+fn inserts_before(
     rt: &impl Abort,
     alloc: Global,
     moves: usize,
@@ -80,8 +80,8 @@ fn puts_before(
     Ok(())
 }
 
-/// Puts 9 in behind the item that is so many moves behind the first of 1, 2 and 3.
-fn puts_behind(
+/// Inserts 9 after the item at this distance from the first of 1, 2 and 3.
+fn inserts_after(
     rt: &impl Abort,
     alloc: Global,
     moves: usize,
@@ -100,25 +100,25 @@ fn puts_behind(
 }
 
 #[test]
-fn puts_in_beside_a_spot(rt: HostRuntime) -> Result<(), Fail> {
+fn inserts_beside_a_spot(rt: HostRuntime) -> Result<(), Fail> {
     for (moves, before, after, all) in [
         (0usize, None, Some(1u64), [9u64, 1, 2, 3]),
         (1, Some(1u64), Some(2), [1, 9, 2, 3]),
         (2, Some(2), Some(3), [1, 2, 9, 3]),
     ] {
-        puts_before(&rt, rt.alloc(), moves, [before, Some(9), after], &all)?;
+        inserts_before(&rt, rt.alloc(), moves, [before, Some(9), after], &all)?;
     }
     for (moves, before, after, all) in [
         (0usize, Some(1u64), Some(2u64), [1u64, 9, 2, 3]),
         (1, Some(2), Some(3), [1, 2, 9, 3]),
         (2, Some(3), None, [1, 2, 3, 9]),
     ] {
-        puts_behind(&rt, rt.alloc(), moves, [before, Some(9), after], &all)?;
+        inserts_after(&rt, rt.alloc(), moves, [before, Some(9), after], &all)?;
     }
     Ok(())
 }
 
-/// Takes an item out, which is so many moves behind the first.
+/// Removes the item at this distance from the first.
 fn removes(
     rt: &impl Abort,
     alloc: Global,

@@ -1,4 +1,4 @@
-//! Each call of a sorted list with spots, and what it answers.
+//! Each call of a sorted list with spots, and what it returns.
 ghost use Rattle.std.specs.Prelude.{◌≡◌, ◌/◌};
 ghost use Rattle.std.specs.Ordering.{nat_cmp};
 
@@ -49,7 +49,7 @@ fn the_greatest_comes_first_and_equals_by_arrival(rt: HostRuntime) -> Result<(),
     Ok(())
 }
 
-/// The order of the tens in the keys.
+/// Compares the tens of the keys.
 fn by_tens(first: &Key, second: &Key) -> Ordering
     ensures { result ≡ nat_cmp (first.now.value / 10) (second.now.value / 10) }
 {
@@ -86,7 +86,7 @@ fn a_function_orders_the_list(rt: HostRuntime) -> Result<(), Fail> {
     Ok(())
 }
 
-/// Asserts how many comparisons there were once this key was inserted, and where it lies.
+/// Asserts how many comparisons there were once this key was inserted, and where it is.
 fn counts(
     rt: &impl Abort,
     alloc: Global,
@@ -119,7 +119,7 @@ fn counts_what_it_asks(rt: HostRuntime) -> Result<(), Fail> {
     Ok(())
 }
 
-/// Takes a key out, which is so many moves behind the first.
+/// Removes the key at this distance from the first.
 fn removes(
     rt: &impl Abort,
     alloc: Global,
@@ -151,7 +151,7 @@ fn removes_at_a_spot(rt: HostRuntime) -> Result<(), Fail> {
     Ok(())
 }
 
-/// Gives the key that is so many moves behind the first of 2, 4, 4 and 6 another value.
+/// Changes the value of the key at this distance from the first of 2, 4, 4 and 6.
 fn updates(
     rt: &impl Abort,
     alloc: Global,
@@ -176,7 +176,7 @@ fn updates(
 }
 
 #[test]
-fn an_update_puts_the_element_behind_its_equals(rt: HostRuntime) -> Result<(), Fail> {
+fn an_update_puts_the_element_after_its_equals(rt: HostRuntime) -> Result<(), Fail> {
     for (moves, value, wanted, pairs) in [
         (
             0usize,
@@ -209,7 +209,7 @@ fn an_update_puts_the_element_behind_its_equals(rt: HostRuntime) -> Result<(), F
 }
 
 #[test]
-fn the_only_element_is_updated_where_it_lies(rt: HostRuntime) -> Result<(), Fail> {
+fn the_only_element_is_updated_in_place(rt: HostRuntime) -> Result<(), Fail> {
     let mut list = keys_of(&rt, rt.alloc(), &[3])?;
     let spot = list.front();
     same(&rt, spot.is_some(), true);
@@ -220,7 +220,7 @@ fn the_only_element_is_updated_where_it_lies(rt: HostRuntime) -> Result<(), Fail
     Ok(())
 }
 
-/// Appends a list to another, which pops these numbers and keys then.
+/// Appends a list to another, and asserts the numbers and keys that it then pops.
 fn appends(
     rt: &impl Abort,
     alloc: Global,
@@ -274,7 +274,7 @@ fn becomes_a_stable_list_with_its_spots(rt: HostRuntime) -> Result<(), Fail> {
     Ok(())
 }
 
-/// The value of a key.
+/// Returns the value of a key.
 fn value(key: Option<&Key>) -> Option<u64> {
     match key {
         Some(key) => Some(key.value),

@@ -1,4 +1,4 @@
-//! How often a sorted list with spots drops what it holds, and what came out of it, in an order of its own.
+//! How often a sorted list with spots drops what it holds, and what was removed from it, in an order of its own.
 ghost use Rattle.std.specs.Prelude.{◌≡◌, refl, IfOk, ⊤};
 ghost use Rattle.std.specs.Ordering.{nat_cmp};
 ghost use Rattle.std.proofs.Common.{subst, sym};
@@ -31,7 +31,7 @@ impl Order<Counted> for ByValue {
     }
 }
 
-/// A list of the elements with these values.
+/// Returns a list of the elements with these values.
 fn counted(
     rt: &impl Abort,
     alloc: Global,
@@ -46,7 +46,7 @@ fn counted(
     Ok(list)
 }
 
-/// Takes the element out that is so many moves behind the first, and drops it once.
+/// Removes the element at this distance from the first, and asserts that it is dropped once.
 fn drops_one(
     rt: &impl Abort,
     list: &mut StableSortedList<Counted, ByValue>,

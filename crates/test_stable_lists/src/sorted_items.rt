@@ -1,4 +1,4 @@
-//! Sorted lists with spots, of keys. Keys are equal where their values are, and the number of a node tells them apart.
+//! Sorted lists with spots, of keys. Keys are equal where their values are, and only their nodes' numbers are distinct.
 ghost use Rattle.std.specs.Prelude.{◌≡◌, IfOk, IfSome};
 ghost use Rattle.cordyceps_base.specs.BySpot.{HasSpot};
 
@@ -19,7 +19,7 @@ pub struct Key {
     pub value: u64,
 }
 
-/// What goes into a list, and comes out.
+/// What a list takes and returns.
 pub type Handle = Node<Key, Links<Key>>;
 
 /// A list with the least key first.
@@ -41,18 +41,18 @@ impl Linked<Links<Key>> for Key {
     }
 }
 
-/// A node with this number and key.
+/// Returns a node with this number and key.
 pub fn make(alloc: Global, id: u64, value: u64) -> Result<Handle, AllocError> {
     node_of(alloc, id, Key { value })
 }
 
-/// The number and the key of a node, which is dropped.
+/// Drops a node, and returns its number and its key.
 pub fn parts(node: Option<Handle>) -> Option<(u64, u64)> {
     let node = node?;
     Some((node.id(), node.into_value().value))
 }
 
-/// A list of these keys. Their numbers are 1, 2 and so on, as they arrive.
+/// Returns a list of these keys. Their numbers are 1, 2 and so on, as they arrive.
 pub fn keys_of(rt: &impl Abort, alloc: Global, keys: &[u64]) -> Result<Keys, AllocError> {
     let mut list = StableSortedList::new_min();
     let mut id = 0u64;
@@ -75,7 +75,7 @@ pub fn shows<O: Order<Key>>(rt: &impl Abort, list: &StableSortedList<Key, O>, ke
     same(rt, left.next().is_none(), true);
 }
 
-/// Asserts which numbers and keys come out of a list from the front, and that no more do.
+/// Asserts which numbers and keys a list pops from the front, and that it pops no more.
 pub fn pops<O: Order<Key>>(
     rt: &impl Abort,
     list: &mut StableSortedList<Key, O>,
@@ -87,7 +87,7 @@ pub fn pops<O: Order<Key>>(
     same(rt, parts(list.pop_front()), None);
 }
 
-/// The spot that is so many moves behind the first, if there is one.
+/// Returns the spot at this distance from the first, if there is one.
 pub fn spot_at<T: Linked<Links<T>>, O: Order<T>>(
     list: &StableSortedList<T, O>,
     moves: usize,
@@ -102,7 +102,7 @@ pub fn spot_at<T: Linked<Links<T>>, O: Order<T>>(
     cursor.spot()
 }
 
-/// The key at a spot, if there is a spot.
+/// Returns the key at a spot, if there is a spot.
 pub fn key_at(list: &Keys, spot: Option<Spot>) -> Option<u64>
     requires { IfSome spot (λ p. HasSpot list.now.nodes p) }
 {
@@ -112,7 +112,7 @@ pub fn key_at(list: &Keys, spot: Option<Spot>) -> Option<u64>
     }
 }
 
-/// The keys before a spot, at it and behind it.
+/// Returns the keys before a spot, at it and after it.
 pub fn around(list: &Keys, spot: Spot) -> [Option<u64>; 3]
     requires { HasSpot list.now.nodes spot }
 {

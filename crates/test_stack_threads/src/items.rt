@@ -1,4 +1,4 @@
-//! Elements of a shared stack, which count how often they were taken, and what a stack gives.
+//! Elements of a shared stack, which count how often they were taken, and what a stack pops.
 use crate::compared::same;
 use cordyceps_base::node::Node;
 use cordyceps_stack::stack::{Links, Stack};
@@ -7,22 +7,22 @@ use std::process::Abort;
 use test_support::counted::{Counted, Drops, counted_node};
 use test_support::nodes::number;
 
-/// What goes into a stack, and comes out. Its value says how often it was taken.
+/// What a stack takes and returns. Its value says how often it was taken.
 pub type Handle = Node<Counted, Links<Counted>>;
 
-/// An element of this number, which was never taken.
+/// Returns an element of this number, which was never taken.
 pub fn element(alloc: Global, number: u64, drops: &Drops) -> Result<Handle, AllocError> {
     counted_node(alloc, number, 0, drops)
 }
 
-/// Two elements, of this number and the next.
+/// Returns two elements, of this number and the next.
 pub fn pair(alloc: Global, first: u64, drops: &Drops) -> Result<(Handle, Handle), AllocError> {
     let one = element(alloc, first, drops)?;
     let two = element(alloc, first.wrapping_add(1), drops)?;
     Ok((one, two))
 }
 
-/// The elements 10 and 11, and 20 and 21.
+/// Returns the elements 10 and 11, and 20 and 21.
 pub fn two_pairs(
     alloc: Global,
     drops: &Drops,
@@ -31,13 +31,13 @@ pub fn two_pairs(
     Ok((tens, pair(alloc, 20, drops)?))
 }
 
-/// Compares how many drops were counted with what is wanted.
+/// Asserts how many drops were counted.
 pub fn dropped(rt: &impl Abort, drops: &Drops, wanted: u64) {
     same(rt, drops.count(), wanted);
 }
 
-/// Compares the numbers that a stack gives with those that are wanted, and has it give no more.
-pub fn gives(rt: &impl Abort, stack: Stack<Counted>, wanted: &[u64]) {
+/// Asserts the numbers that a stack pops, and that it pops no more.
+pub fn pops(rt: &impl Abort, stack: Stack<Counted>, wanted: &[u64]) {
     let mut left = stack;
     for wanted in wanted {
         same(rt, number(left.pop()), Some(*wanted));

@@ -59,7 +59,7 @@ struct Pusher<'s> {
 }
 
 impl<'s> Pusher<'s> {
-    /// A thread that has nothing to push.
+    /// Returns a thread that has nothing to push.
     fn new(seat: Seated<'s>) -> Pusher<'s> {
         Pusher {
             seat,
@@ -70,7 +70,7 @@ impl<'s> Pusher<'s> {
         }
     }
 
-    /// A thread that has two elements to push.
+    /// Returns a thread that has two elements to push.
     fn with_pair(seat: Seated<'s>, pair: (Handle, Handle)) -> Pusher<'s> {
         let mut pusher = Pusher::new(seat);
         let (first, second) = pair;
@@ -197,7 +197,7 @@ impl<'s> Pusher<'s> {
         }
     }
 
-    /// What the first of two threads does, which then sets its flag.
+    /// Does what the first of two threads does, and then sets its flag.
     fn lead<R: Wait + Abort>(
         self,
         rt: &R,
@@ -211,7 +211,7 @@ impl<'s> Pusher<'s> {
         }
     }
 
-    /// What the second does.
+    /// Does what the second thread does.
     fn follow<R: Wait + Abort>(
         self,
         rt: &R,
@@ -235,7 +235,7 @@ impl<'s> Pusher<'s> {
         }
     }
 
-    /// Each take of something follows one push that found nothing held.
+    /// Asserts that each take of something follows one push that found nothing held.
     fn is_counted(&self, rt: &impl Abort) {
         same(rt, self.first <= self.takes, true);
         same(rt, self.takes <= self.first.wrapping_add(self.untold), true);
@@ -268,8 +268,8 @@ fn run_both<'s, R: Threads + Wait + Abort + Sync>(
     both
 }
 
-/// Runs two threads, each with two of four rooms and a pair of elements, and gives what they have at last, with what is
-/// held.
+/// Runs two threads, each with two of four rooms and a pair of elements, and returns what they have at last, with what
+/// is held.
 fn play<R: Threads + Wait + Abort + Sync>(
     rt: &R,
     plan: (Course, Way),

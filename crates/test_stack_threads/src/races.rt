@@ -10,7 +10,7 @@ use std::thread;
 use std::thread::Threads;
 use test_support::counted::Counted;
 
-/// How often a taking thread takes at most. What is then left is the test's own to take.
+/// How often a thread takes at most. The test itself takes what is left then.
 const TURNS: u64 = 1000;
 
 /// A race of four threads: two push two elements each, and two take, and push on what was not taken often enough.
@@ -18,14 +18,14 @@ const TURNS: u64 = 1000;
 pub struct Race {
     /// How often each element is to be taken.
     takings: u64,
-    /// How many elements were taken so often.
+    /// How many elements were taken that often.
     arrived: AtomicU64,
     pushed: (AtomicBool, AtomicBool),
     took: (AtomicBool, AtomicBool),
 }
 
 impl Race {
-    /// A race that has not begun.
+    /// Returns a race that has not begun.
     pub fn new(takings: u64) -> Race {
         Race {
             takings,
@@ -48,7 +48,8 @@ impl Race {
         done.store(true, Ordering::SeqCst);
     }
 
-    /// Takes all that is held, and pushes it on into the rooms that came with it, or gives what was taken often enough.
+    /// Takes all that is held, and pushes it again into the rooms that came with it, or adds to `ended` what was taken
+    /// often enough.
     pub fn turn<R: Wait + Abort>(&self, rt: &R, seat: &mut Seated<'_>, ended: &mut Stack<Counted>) {
         for mut node in seat.take_all() {
             let taken = node.get().value.wrapping_add(1);

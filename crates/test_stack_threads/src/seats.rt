@@ -1,9 +1,9 @@
-//! Parties at their stack, and what their calls give.
+//! Parties at their stack, and what their calls return.
 ghost use Rattle.std.specs.Prelude.{◌≡◌, IfOk};
 ghost use Rattle.cordyceps_shared.specs.Shares.{whole};
 
 use crate::compared::{at_most, has_room, same};
-use crate::items::{Handle, element, gives, pair};
+use crate::items::{Handle, element, pair, pops};
 use cordyceps_stack::stack::{Party, Stack, TransferStack};
 use std::alloc::{AllocError, Global};
 use std::process::Abort;
@@ -30,7 +30,7 @@ pub fn pushes(
     }
 }
 
-/// A stack of 3 rooms that holds the elements 1, 2 and 3, and its whole party.
+/// Returns a stack of 3 rooms that holds the elements 1, 2 and 3, and its whole party.
 pub fn three_held(
     rt: &impl Abort,
     alloc: Global,
@@ -57,14 +57,14 @@ pub struct Seated<'s> {
 }
 
 impl<'s> Seated<'s> {
-    /// A party of this stack.
+    /// Returns a party of this stack.
     pub fn at(stack: &'s TransferStack<Counted>, party: Party<Counted>) -> Seated<'s>
         requires { party.table ≡ stack.now }
     {
         Seated { stack, party }
     }
 
-    /// Gives some of the rooms, which have to be there, to a new party.
+    /// Gives some of the rooms, which must be there, to a new party.
     pub fn split(&mut self, rt: &impl Abort, rooms: usize) -> Seated<'s> {
         at_most(rt, rooms, self.party.rooms());
         Seated {
@@ -90,7 +90,7 @@ impl<'s> Seated<'s> {
 
     /// Takes all that is held, and compares its numbers with those that are wanted.
     pub fn takes(&mut self, rt: &impl Abort, wanted: &[u64]) {
-        gives(rt, self.take_all(), wanted);
+        pops(rt, self.take_all(), wanted);
     }
 
     /// Takes all that is held.
@@ -98,19 +98,19 @@ impl<'s> Seated<'s> {
         self.stack.take_all(&mut self.party)
     }
 
-    /// Pushes into a room that has to be there, by one try, and tells whether nothing was held before.
+    /// Pushes into a room that must be there, by one try, and tells whether nothing was held before.
     pub fn try_push(&mut self, rt: &impl Abort, handle: Handle) -> Result<bool, Handle> {
         has_room(rt, self.party.rooms());
         self.stack.try_push(&mut self.party, handle)
     }
 
-    /// Pushes into a room that has to be there, and tells whether nothing was held before.
+    /// Pushes into a room that must be there, and tells whether nothing was held before.
     pub fn push_was_empty<R: Wait + Abort>(&mut self, rt: &R, handle: Handle) -> bool {
         has_room(rt, self.party.rooms());
         self.stack.push_was_empty(rt, &mut self.party, handle)
     }
 
-    /// Pushes into a room that has to be there.
+    /// Pushes into a room that must be there.
     pub fn push<R: Wait + Abort>(&mut self, rt: &R, handle: Handle) {
         has_room(rt, self.party.rooms());
         self.stack.push(rt, &mut self.party, handle);

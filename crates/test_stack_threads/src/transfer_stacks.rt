@@ -1,14 +1,14 @@
 //! Calls of a transfer stack, one after the other.
 
 use crate::compared::same;
-use crate::items::{Handle, dropped, element, gives, pair};
+use crate::items::{Handle, dropped, element, pair, pops};
 use crate::seats::{Seated, pushes, three_held};
 use cordyceps_stack::stack::TransferStack;
 use std::alloc::AllocError;
 use std::process::Abort;
 use test_support::counted::{Counted, Drops};
 
-/// Nothing is held until an element is pushed, and once all are taken.
+/// Asserts that nothing is held until an element is pushed, and once all are taken.
 fn fill_and_empty(rt: &impl Abort, mut seat: Seated<'_>, pair: (Handle, Handle)) {
     let (one, two) = pair;
     seat.is_empty(rt, true);
@@ -29,7 +29,7 @@ fn transfer_stack_is_empty(rt: HostRuntime) -> Result<(), AllocError> {
     Ok(())
 }
 
-/// A party pushes two elements and takes both, takes nothing, and pushes and takes a third.
+/// Pushes two elements by a party and takes both, takes nothing, and pushes and takes a third.
 fn push_and_take(rt: &impl Abort, mut seat: Seated<'_>, pair: (Handle, Handle), third: Handle) {
     let (one, two) = pair;
     seat.has_rooms(rt, 3);
@@ -65,32 +65,32 @@ fn rooms_are_split_and_absorbed(rt: HostRuntime) -> Result<(), AllocError> {
     same(&rt, (party.rooms(), other.rooms()), (2, 1));
     stack.absorb(&mut party, other);
     same(&rt, party.rooms(), 3);
-    gives(&rt, stack.close(party), &[2, 1]);
+    pops(&rt, stack.close(party), &[2, 1]);
     Ok(())
 }
 
 #[test]
-fn a_stack_without_rooms_gives_nothing(rt: HostRuntime) -> Result<(), AllocError> {
+fn a_stack_without_rooms_returns_nothing(rt: HostRuntime) -> Result<(), AllocError> {
     let (stack, mut party) = TransferStack::<Counted>::new(rt.alloc(), 0)?;
     let mut other = stack.split(&mut party, 0);
     same(&rt, (party.rooms(), other.rooms()), (0, 0));
-    gives(&rt, stack.take_all(&mut other), &[]);
+    pops(&rt, stack.take_all(&mut other), &[]);
     stack.absorb(&mut party, other);
     same(&rt, stack.is_empty(&mut party), true);
-    gives(&rt, stack.take_all(&mut party), &[]);
+    pops(&rt, stack.take_all(&mut party), &[]);
     same(&rt, party.rooms(), 0);
-    gives(&rt, stack.close(party), &[]);
+    pops(&rt, stack.close(party), &[]);
     Ok(())
 }
 
-/// A party pushes an element, and is dropped with a room.
+/// Pushes an element by a party, and drops it with a room.
 fn push_and_leave(rt: &impl Abort, mut seat: Seated<'_>, handle: Handle) {
     seat.pushes(rt, handle, true);
     seat.has_rooms(rt, 1);
     drop(seat);
 }
 
-/// What is left of four rooms, and of the element 1, to the party that gave two rooms to one that was dropped.
+/// Asserts what is left of four rooms, and the element 1, to a party that gave two rooms to one that was dropped.
 fn go_on(rt: &impl Abort, mut seat: Seated<'_>, second: Handle, third: Handle) {
     seat.is_empty(rt, false);
     seat.pushes(rt, second, false);
@@ -168,7 +168,7 @@ fn what_was_half_popped_drops_once(rt: HostRuntime) -> Result<(), AllocError> {
 }
 
 #[test]
-fn what_a_close_gave_drops_once(rt: HostRuntime) -> Result<(), AllocError> {
+fn what_a_close_returned_drops_once(rt: HostRuntime) -> Result<(), AllocError> {
     let drops = Drops::new(rt.alloc())?;
     let (stack, party) = three_held(&rt, rt.alloc(), &drops)?;
     let held = stack.close(party);
@@ -178,8 +178,8 @@ fn what_a_close_gave_drops_once(rt: HostRuntime) -> Result<(), AllocError> {
     Ok(())
 }
 
-// It says more where an allocation is made to fail, as `tools/refusals` does: `new` then answers `Err`,
-// and the next call, which meets none, makes a stack.
+// It says more where an allocation is made to fail, as `tools/refusals` does: `new` then returns `Err`, and the next
+// call, which meets none, makes a stack.
 #[test]
 fn makes_a_stack_after_refused_memory(rt: HostRuntime) -> Result<(), AllocError> {
     let (stack, party) = match TransferStack::<Counted>::new(rt.alloc(), 2) {

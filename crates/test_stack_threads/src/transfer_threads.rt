@@ -108,7 +108,7 @@ fn watch_two<R: Threads + Wait + Abort + Sync>(
     thread::join(rt, push, watch).0
 }
 
-/// Two threads push two elements each.
+/// Pushes two elements by each of two threads.
 fn both_push<R: Threads + Wait + Abort + Sync>(
     rt: &R,
     stack: &TransferStack<Counted>,
@@ -165,7 +165,7 @@ fn multithreaded_push(rt: HostRuntime) -> Result<(), AllocError> {
     Ok(())
 }
 
-/// Runs a race at a stack of four rooms, takes what its threads left to the test, and gives all that was taken so often.
+/// Runs a race at a stack of four rooms, takes what its threads left to the test, and returns all elements.
 fn race_out<R: Threads + Wait + Abort + Sync>(
     rt: &R,
     takings: u64,

@@ -27,7 +27,7 @@ fn start_both<R: Threads + Wait + Sync>(
     )
 }
 
-/// The four numbers, in order.
+/// Returns the four numbers, in order.
 fn numbers(alloc: Global) -> Result<Vec<u64>, AllocError> {
     let mut numbers = Vec::new(alloc);
     for number in [10u64, 20, 11, 21] {

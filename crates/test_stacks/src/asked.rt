@@ -53,7 +53,7 @@ impl Linked<Links<Asked>> for Asked {
     }
 }
 
-/// The order of the numbers, which counts that it was asked.
+/// Compares the numbers, and counts the comparison.
 pub fn by_number(first: &Asked, second: &Asked) -> Ordering
     ensures { result ≡ nat_cmp first.now.value second.now.value }
 {
@@ -62,14 +62,14 @@ pub fn by_number(first: &Asked, second: &Asked) -> Ordering
     first.value.cmp(&second.value)
 }
 
-/// The order of the tens in the numbers.
+/// Compares the tens of the numbers.
 pub fn by_tens(first: &Asked, second: &Asked) -> Ordering
     ensures { result ≡ nat_cmp (first.now.value / 10) (second.now.value / 10) }
 {
     (first.value / 10).cmp(&(second.value / 10))
 }
 
-/// A node with a value of its number.
+/// Returns a node with a value of its number.
 pub fn node(
     alloc: Global,
     value: u64,
@@ -79,7 +79,7 @@ pub fn node(
     node_of(alloc, value, Asked { value, counts })
 }
 
-/// New counts, of nothing.
+/// Returns new counts, of nothing.
 pub fn no_counts(alloc: Global) -> Result<Rc<Counts, Global>, AllocError> {
     Ok(Rc::new(
         alloc,

@@ -7,22 +7,22 @@ use std::process::Abort;
 use test_support::counted::{Counted, Drops, counted_node};
 use test_support::nodes::number;
 
-/// What a free list hands out, and takes back.
+/// What a free list returns, and takes back.
 pub type Handle = Node<Counted, Links<Counted>>;
 
-/// A block of this number.
+/// Returns a block of this number.
 pub fn block(alloc: Global, number: u64, drops: &Drops) -> Result<Handle, AllocError> {
     counted_node(alloc, number, 0, drops)
 }
 
-/// Two blocks, of this number and the next.
+/// Returns two blocks, of this number and the next.
 pub fn pair(alloc: Global, first: u64, drops: &Drops) -> Result<(Handle, Handle), AllocError> {
     let one = block(alloc, first, drops)?;
     let two = block(alloc, first.wrapping_add(1), drops)?;
     Ok((one, two))
 }
 
-/// Blocks of the numbers from the first to the one before the end.
+/// Returns blocks of the numbers from the first to the one before the end.
 pub fn blocks(
     alloc: Global,
     first: u64,
@@ -36,13 +36,13 @@ pub fn blocks(
     Ok(made)
 }
 
-/// Compares how many drops were counted with what is wanted.
+/// Asserts how many drops were counted.
 pub fn dropped(rt: &impl Abort, drops: &Drops, wanted: u64) {
     same(rt, drops.count(), wanted);
 }
 
-/// Compares the numbers that a stack gives with those that are wanted, and has it give no more.
-pub fn gives(rt: &impl Abort, stack: Stack<Counted>, wanted: &[u64]) {
+/// Asserts the numbers that a stack pops, and that it pops no more.
+pub fn pops(rt: &impl Abort, stack: Stack<Counted>, wanted: &[u64]) {
     let mut left = stack;
     for wanted in wanted {
         same(rt, number(left.pop()), Some(*wanted));
@@ -50,7 +50,7 @@ pub fn gives(rt: &impl Abort, stack: Stack<Counted>, wanted: &[u64]) {
     same(rt, left.is_empty(), true);
 }
 
-/// The numbers of these blocks, the least first.
+/// Returns the numbers of these blocks, the least first.
 fn sorted(alloc: Global, blocks: Stack<Counted>) -> Result<Vec<u64>, AllocError> {
     let mut numbers = Vec::new(alloc);
     for block in blocks {

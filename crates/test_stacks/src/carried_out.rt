@@ -1,5 +1,5 @@
 //! Lists of commands, and where the blocks are afterwards.
-use crate::blocks::{dropped, gives, pair};
+use crate::blocks::{dropped, pair, pops};
 use crate::compared::at_most;
 use freelist::Stack;
 use freelist::laws::{Command, Turn, run_both};
@@ -7,7 +7,7 @@ use std::alloc::{AllocError, Global};
 use std::process::Abort;
 use test_support::counted::{Counted, Drops};
 
-/// The blocks 1 and 2, with 1 on top.
+/// Returns the blocks 1 and 2, with 1 on top.
 fn two_blocks(alloc: Global, drops: &Drops) -> Result<Stack<Counted>, AllocError> {
     let (one, two) = pair(alloc, 1, drops)?;
     let mut blocks = Stack::new();
@@ -35,9 +35,9 @@ fn ends_with(
     }
     let (with_user, none, left) = run_both(alloc, rooms, hands, &turns)?;
     dropped(rt, &drops, 0);
-    gives(rt, with_user, hand);
-    gives(rt, none, &[]);
-    gives(rt, left, shared);
+    pops(rt, with_user, hand);
+    pops(rt, none, &[]);
+    pops(rt, left, shared);
     dropped(rt, &drops, 2);
     Ok(())
 }
@@ -112,9 +112,9 @@ fn a_user_gets_what_another_put_back(rt: HostRuntime) -> Result<(), AllocError> 
         Turn::Second(Command::PutRemote),
     ];
     let (none, all, shared) = run_both(rt.alloc(), 2, hands, &turns)?;
-    gives(&rt, none, &[]);
-    gives(&rt, all, &[1]);
-    gives(&rt, shared, &[2]);
+    pops(&rt, none, &[]);
+    pops(&rt, all, &[1]);
+    pops(&rt, shared, &[2]);
     dropped(&rt, &drops, 2);
     Ok(())
 }

@@ -9,7 +9,7 @@ use std::process::Abort;
 use std::test::*;
 use test_support::nodes::number;
 
-/// A stack of two numbers.
+/// Returns a stack of two numbers.
 fn two(alloc: Global, first: u64, second: u64) -> Result<Stack<Number>, AllocError> {
     let mut stack = Stack::new();
     stack.push(make(alloc, first)?);
@@ -17,7 +17,7 @@ fn two(alloc: Global, first: u64, second: u64) -> Result<Stack<Number>, AllocErr
     Ok(stack)
 }
 
-/// Numbers that come in.
+/// Numbers to insert.
 const NUMBERS: [u64; 8] = [20, 10, 30, 25, 35, 1, 2, 3];
 
 /// The numbers from the least.
@@ -26,7 +26,7 @@ const RISING: [u64; 8] = [1, 2, 3, 10, 20, 25, 30, 35];
 /// The numbers from the greatest.
 const FALLING: [u64; 8] = [35, 30, 25, 20, 10, 3, 2, 1];
 
-/// A list of the numbers that has its least first.
+/// Returns a list of the numbers that has its least first.
 fn least(alloc: Global) -> Result<SortedList<Number, Least>, AllocError> {
     let mut list: SortedList<Number, Least> = SortedList::new_min();
     for value in NUMBERS {
@@ -35,7 +35,7 @@ fn least(alloc: Global) -> Result<SortedList<Number, Least>, AllocError> {
     Ok(list)
 }
 
-/// A list of the numbers that has its greatest first.
+/// Returns a list of the numbers that has its greatest first.
 fn greatest(alloc: Global) -> Result<SortedList<Number, Greatest>, AllocError> {
     let mut list: SortedList<Number, Greatest> = SortedList::new_max();
     for value in NUMBERS {
@@ -73,7 +73,7 @@ fn pops_the_greatest(rt: HostRuntime) -> Result<(), Fail> {
     Ok(())
 }
 
-/// Numbers that come in, and how often each asks the order: at least, and at most.
+/// Numbers to insert, and how often each asks the order: at least, and at most.
 const ASKING: [(u64, u64, u64); 6] = [
     (10, 0, 0),
     (20, 1, 1),
@@ -96,7 +96,7 @@ fn counts_what_insertions_ask(rt: HostRuntime) -> Result<(), Fail> {
     Ok(())
 }
 
-/// The value that is shown.
+/// Returns the value that is shown.
 fn shown(number: Option<&Number>) -> Option<u64> {
     match number {
         Some(number) => Some(number.value),

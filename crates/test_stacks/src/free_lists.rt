@@ -1,5 +1,5 @@
 //! Calls of a free list, one after the other.
-use crate::blocks::{Handle, block, dropped, gives, pair};
+use crate::blocks::{Handle, block, dropped, pair, pops};
 use crate::compared::same;
 use crate::users::{Remote, finishes, gets, puts};
 use freelist::{FreeList, Local};
@@ -39,7 +39,7 @@ fn local_blocks_come_before_shared_ones(rt: HostRuntime) -> Result<(), AllocErro
 }
 
 #[test]
-fn a_close_gives_what_is_shared(rt: HostRuntime) -> Result<(), AllocError> {
+fn a_close_returns_what_is_shared(rt: HostRuntime) -> Result<(), AllocError> {
     let drops = Drops::new(rt.alloc())?;
     let (one, two) = pair(rt.alloc(), 1, &drops)?;
     let (list, mut party) = FreeList::new(rt.alloc(), 5)?;
@@ -50,7 +50,7 @@ fn a_close_gives_what_is_shared(rt: HostRuntime) -> Result<(), AllocError> {
     same(&rt, (party.rooms(), other.rooms()), (2, 1));
     list.absorb(&mut party, other);
     same(&rt, party.rooms(), 3);
-    gives(&rt, list.close(party), &[2, 1]);
+    pops(&rt, list.close(party), &[2, 1]);
     Ok(())
 }
 
@@ -62,10 +62,10 @@ fn a_free_list_without_rooms_shares_nothing(rt: HostRuntime) -> Result<(), Alloc
     let mut local = list.local(other);
     same(&rt, number(local.get()), None);
     let (blocks, other) = local.finish();
-    gives(&rt, blocks, &[]);
+    pops(&rt, blocks, &[]);
     list.absorb(&mut party, other);
     same(&rt, party.rooms(), 0);
-    gives(&rt, list.close(party), &[]);
+    pops(&rt, list.close(party), &[]);
     Ok(())
 }
 
@@ -81,8 +81,8 @@ fn put_and_get_one(
     finishes(rt, local, 2);
 }
 
-// It says more where an allocation is made to fail, as `tools/refusals` does: `new` then answers `Err`,
-// and the next call, which meets none, makes a free list.
+// It says more where an allocation is made to fail, as `tools/refusals` does: `new` then returns `Err`, and the next
+// call, which meets none, makes a free list.
 #[test]
 fn makes_a_free_list_after_refused_memory(rt: HostRuntime) -> Result<(), AllocError> {
     let (list, mut party) = match FreeList::<Counted>::new(rt.alloc(), 2) {

@@ -29,7 +29,7 @@ impl Linked<Links<Number>> for Number {
     }
 }
 
-/// A node with a value of its number.
+/// Returns a node with a value of its number.
 pub fn make(alloc: Global, value: u64) -> Result<Node<Number, Links<Number>>, AllocError> {
     node_of(alloc, value, Number { value })
 }

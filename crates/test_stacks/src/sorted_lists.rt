@@ -1,4 +1,4 @@
-//! Sorted lists in an order that the caller gives.
+//! Sorted lists in the caller's order.
 ghost use Rattle.std.specs.Prelude.{◌≡◌, ◌≤◌, length};
 
 use crate::asked::{Asked, Counts, by_number, by_tens, no_counts, node};
@@ -51,7 +51,7 @@ fn pops<O: Order<Asked>>(rt: &impl Abort, list: &mut SortedList<Asked, O>, numbe
     same(rt, number_of(list.pop_front()), None);
 }
 
-/// The number of an element that is shown.
+/// Returns the number of an element that is shown.
 fn shown(element: Option<&Asked>) -> Option<u64> {
     match element {
         Some(element) => Some(element.value),
@@ -86,7 +86,7 @@ fn sorts<O: Order<Asked>>(
     Ok(())
 }
 
-/// Inserts elements with these numbers into an empty list, by one count. Answers that count behind each, and how many
+/// Inserts elements with these numbers into an empty list, by one count. Returns that count after each, and how many
 /// comparisons there were so far.
 fn counts_of<O: Order<Asked>>(
     list: &mut SortedList<Asked, O>,
@@ -108,7 +108,7 @@ fn counts_of<O: Order<Asked>>(
     Ok(seen)
 }
 
-/// Inserts elements with these numbers, by `insert`. Answers how many comparisons there were so far behind each.
+/// Inserts elements with these numbers, by `insert`. Returns how many comparisons there were so far after each.
 fn asked_by_insert<O: Order<Asked>>(
     list: &mut SortedList<Asked, O>,
     alloc: Global,
@@ -145,8 +145,8 @@ fn keeps_equals_by_arrival(rt: HostRuntime) -> Result<(), Fail> {
     Ok(())
 }
 
-// 10 asks nothing. 20, 20 again and 30 ask the last alone. 15 asks 20, which is last, and then 10 and 20; 5 asks 30 and 10;
-// 25 asks 30, and then all six from 5 on. `insert` asks as often, in the list that was popped empty.
+// 10 asks nothing. 20, 20 again and 30 ask the last alone. 15 asks 20, which is last, and then 10 and 20; 5 asks 30 and
+// 10; 25 asks 30, and then all six from 5 on. `insert` asks as often, in the list that was popped empty.
 #[test]
 fn counts_what_it_asks(rt: HostRuntime) -> Result<(), Fail> {
     let counts = no_counts(rt.alloc())?;
@@ -165,7 +165,7 @@ fn counts_what_it_asks(rt: HostRuntime) -> Result<(), Fail> {
     Ok(())
 }
 
-/// Numbers that come in.
+/// Numbers to insert.
 const NUMBERS: [u64; 8] = [20, 10, 30, 25, 35, 1, 2, 3];
 
 /// The numbers in their order.
@@ -188,7 +188,7 @@ fn shows_and_pops<O: Order<Asked>>(
     Ok(())
 }
 
-/// Asserts that an empty list takes back what it gave, also the second before the first.
+/// Asserts that an empty list takes again what it popped, also the second before the first.
 fn takes_back<O: Order<Asked>>(
     rt: &impl Abort,
     list: &mut SortedList<Asked, O>,
@@ -218,7 +218,7 @@ fn slist_basic(rt: HostRuntime) -> Result<(), Fail> {
     Ok(())
 }
 
-// 10 and 20 come out. The drop frees 25, 30 and 35, in this order.
+// 10 and 20 are popped. The drop frees 25, 30 and 35, in this order.
 #[test]
 fn a_drop_frees_what_is_left(rt: HostRuntime) -> Result<(), Fail> {
     let counts = no_counts(rt.alloc())?;

@@ -1,4 +1,4 @@
-//! Stacks: the order in which they give what they hold, and drops.
+//! Stacks: the order in which they pop what they hold, and drops.
 use crate::compared::same;
 use cordyceps_stack::stack::Stack;
 use std::alloc::{AllocError, Global};
@@ -29,7 +29,7 @@ fn pushes_three(
     Ok(())
 }
 
-/// Pushes an element for each that was taken, with a number by 10 more.
+/// Pushes an element for each that was taken, with a number greater by 10.
 fn push_again(
     alloc: Global,
     stack: &mut Stack<Counted>,
@@ -42,8 +42,8 @@ fn push_again(
     Ok(())
 }
 
-/// Asserts that what was taken gives these numbers, and then nothing, twice.
-fn gives(rt: &impl Abort, taken: &mut Stack<Counted>, wanted: &[u64]) {
+/// Asserts that what was taken pops these numbers, and then nothing, twice.
+fn pops(rt: &impl Abort, taken: &mut Stack<Counted>, wanted: &[u64]) {
     for want in wanted {
         same(rt, number(taken.next()), Some(*want));
     }
@@ -61,7 +61,7 @@ fn takes_all_while_more_comes(rt: HostRuntime) -> Result<(), Fail> {
     push_again(rt.alloc(), &mut stack, taken, &drops)?;
     same(&rt, drops.count(), 3);
     let mut taken = stack.take_all();
-    gives(&rt, &mut taken, &[11, 12, 13]);
+    pops(&rt, &mut taken, &[11, 12, 13]);
     same(&rt, stack.pop().is_none(), true);
     same(&rt, drops.count(), 6);
     Ok(())
@@ -91,8 +91,8 @@ fn a_drop_frees_each_element_once(rt: HostRuntime) -> Result<(), Fail> {
     Ok(())
 }
 
-/// Asserts that these numbers are given, and pushes an element for each, with a number by 10 more.
-fn gives_and_pushes(
+/// Asserts that these numbers are popped, and pushes an element for each, with a number greater by 10.
+fn pops_and_pushes(
     rt: &impl Abort,
     alloc: Global,
     stack: &mut Stack<Counted>,
@@ -123,7 +123,7 @@ fn unsync(rt: HostRuntime) -> Result<(), Fail> {
     let mut stack: Stack<Counted> = Stack::new();
     push_from(rt.alloc(), &mut stack, 1, 4, &drops)?;
     let mut taken = stack.take_all();
-    gives_and_pushes(&rt, rt.alloc(), &mut stack, &mut taken, &drops)?;
+    pops_and_pushes(&rt, rt.alloc(), &mut stack, &mut taken, &drops)?;
     walks(&rt, stack.take_all());
     same(&rt, stack.is_empty(), true);
     Ok(())

@@ -13,7 +13,7 @@ use test_support::counted::{Counted, Drops};
 /// How often each test's threads run.
 const ROUNDS: u64 = 10;
 
-/// Two threads put the blocks back, each some, while a third gets so many.
+/// Puts the blocks back by two threads, while a third gets this many.
 fn put_and_get<R: Threads + Abort + Sync>(
     rt: &R,
     local: Local<'_, Counted>,
@@ -30,7 +30,7 @@ fn put_and_get<R: Threads + Abort + Sync>(
     thread::join(rt, put, get).1
 }
 
-/// The blocks with numbers below 64, in two halves.
+/// Returns the blocks with numbers below 64, in two halves.
 fn two_halves(
     alloc: Global,
     drops: &Drops,
@@ -40,7 +40,7 @@ fn two_halves(
     Ok((low, high))
 }
 
-/// What comes back to the owner, where two others have the 64 rooms and put a half back each.
+/// Returns what the owner gets back, where two others have the 64 rooms and put a half back each.
 fn come_back<R: Threads + Abort + Sync>(
     rt: &R,
     list: &FreeList<Counted>,

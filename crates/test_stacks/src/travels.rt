@@ -43,7 +43,7 @@ fn a_reader_travels_where_its_values_are_shared<T: Sync>(
     sent(iter)
 }
 
-/// The sum of a sorted list's values.
+/// Returns the sum of a sorted list's values.
 fn sum(list: &SortedList<Number, Least>) -> u64 {
     let mut sum: u64 = 0;
     for number in a_reader_travels_where_its_values_are_shared(list.iter()) {

@@ -32,7 +32,7 @@ pub fn puts(
     }
 }
 
-/// Compares the numbers of the blocks that come out one after the other with those that are wanted.
+/// Asserts the numbers of the blocks that are got one after the other.
 pub fn gets(rt: &impl Abort, local: &mut Local<'_, Counted>, wanted: &[Option<u64>]) {
     for wanted in wanted {
         same(rt, number(local.get()), *wanted);
@@ -46,7 +46,7 @@ pub fn finishes(rt: &impl Abort, local: Local<'_, Counted>, rooms: usize) {
     same(rt, party.rooms(), rooms);
 }
 
-/// Gets so many blocks, turn after turn.
+/// Gets this many blocks, turn after turn.
 pub fn get_all(rt: &impl Abort, mut local: Local<'_, Counted>, wanted: usize) -> Stack<Counted> {
     let mut all = Stack::new();
     let mut left = wanted;
@@ -74,7 +74,7 @@ pub struct Remote<'f> {
 }
 
 impl<'f> Remote<'f> {
-    /// A party of this free list.
+    /// Returns a party of this free list.
     pub fn at(list: &'f FreeList<Counted>, party: Party<Counted>) -> Remote<'f>
         requires { party.table ≡ list.now }
     {
@@ -86,7 +86,7 @@ impl<'f> Remote<'f> {
         puts(rt, self.list, &mut self.party, handle, first);
     }
 
-    /// Puts a block back into a room that has to be there, try after try.
+    /// Puts a block back into a room that must be there, try after try.
     fn put(&mut self, rt: &impl Abort, handle: Handle) {
         let mut block = handle;
         for _ in 0..TURNS {
@@ -107,7 +107,7 @@ impl<'f> Remote<'f> {
         }
     }
 
-    /// A local part with this party.
+    /// Returns a local part with this party.
     pub fn local(self) -> Local<'f, Counted> {
         let Remote { list, party } = self;
         list.local(party)

@@ -15,14 +15,14 @@ pub struct Drops {
 }
 
 impl Drops {
-    /// A count of no drops.
+    /// Returns a count of no drops.
     pub fn new(alloc: Global) -> Result<Drops, AllocError> {
         Ok(Drops {
             count: Arc::new(alloc, AtomicU64::new(0))?,
         })
     }
 
-    /// How many drops were counted.
+    /// Returns how many drops were counted.
     pub fn count(&self) -> u64 {
         self.count.load(Ordering::SeqCst)
     }
@@ -42,7 +42,7 @@ impl Drop for Counted {
 }
 
 impl Counted {
-    /// A value that adds its drop to a count.
+    /// Returns a value that adds its drop to a count.
     pub fn new(value: u64, drops: &Drops) -> Result<Counted, AllocError>
         ensures { IfOk result (λ made. made.value ≡ value) }
     {
@@ -69,7 +69,7 @@ impl<L: Kind> Linked<L> for Counted {
     }
 }
 
-/// A node with this number, and with a value that counts its drop.
+/// Returns a node with this number, and with a value that counts its drop.
 pub fn counted_node<L: Kind>(
     alloc: Global,
     id: u64,

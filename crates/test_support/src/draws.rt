@@ -8,12 +8,12 @@ pub struct Draws {
 }
 
 impl Draws {
-    /// The numbers from this start on.
+    /// Returns the numbers from this start on.
     pub fn new(start: u64) -> Draws {
         Draws { state: start }
     }
 
-    /// A number below the bound.
+    /// Returns a number below the bound.
     pub fn below(&mut self, bound: u64) -> u64
         requires { 0 < bound }
         ensures { result < bound }
@@ -25,7 +25,7 @@ impl Draws {
         (self.state >> 33) % bound
     }
 
-    /// A place from 0 to the length.
+    /// Returns a place from 0 to the length.
     pub fn place(&mut self, len: usize) -> usize
         requires { len < usize.MAX }
         ensures { result ≤ len }

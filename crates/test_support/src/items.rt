@@ -13,7 +13,7 @@ pub struct Item {
     pub value: u64,
 }
 
-/// What goes into a list, and comes out.
+/// What a list takes and returns.
 pub type Handle = Node<Item, Links<Item>>;
 
 impl Linked<Links<Item>> for Item {
@@ -32,12 +32,12 @@ impl Linked<Links<Item>> for Item {
     }
 }
 
-/// A node of the item `v`.
+/// Returns a node of the item `v`.
 pub fn plain(alloc: Global, v: u64) -> Result<Handle, AllocError> {
     node_of(alloc, v, Item { value: v })
 }
 
-/// The value of an item.
+/// Returns the value of an item.
 pub fn value(item: Option<&Item>) -> Option<u64> {
     match item {
         Some(item) => Some(item.value),

@@ -4,7 +4,7 @@ ghost use Rattle.std.specs.Prelude.{◌≡◌, IfOk, IfSome, IsNone};
 use cordyceps_base::node::{Kind, Node, Refused};
 use std::alloc::{AllocError, Global};
 
-/// A node with this number and value.
+/// Returns a node with this number and value.
 pub fn node_of<T: Drop, L: Kind>(alloc: Global, id: u64, value: T) -> Result<Node<T, L>, AllocError>
     ensures { IfOk result (λ node. node ≡ record { id = id; value = value }) }
 {
@@ -14,7 +14,7 @@ pub fn node_of<T: Drop, L: Kind>(alloc: Global, id: u64, value: T) -> Result<Nod
     }
 }
 
-/// The number of a node, which is dropped.
+/// Drops a node, and returns its number.
 pub fn number<T: Drop, L: Kind>(node: Option<Node<T, L>>) -> Option<u64>
     ensures some { IfSome node (λ some. result ≡ Some some.id) }
     ensures none { IsNone node → IsNone result }

@@ -3,14 +3,14 @@ ghost use Rattle.std.specs.Prelude.{◌≡◌};
 
 use std::marker::{Send, Sync};
 
-/// Takes what can be sent to a thread, and hands it back.
+/// Takes what can be sent to a thread, and returns it.
 pub fn sent<T: Send>(value: T) -> T
     ensures { result ≡ value }
 {
     value
 }
 
-/// Takes what threads can share, and hands it back.
+/// Takes what threads can share, and returns it.
 pub fn shared<T: Sync>(value: &T) -> &T
     ensures { result.now ≡ value.now }
 {

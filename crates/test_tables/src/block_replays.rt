@@ -225,7 +225,7 @@ const AT_THE_NULL_PLACE: [Want<'static>; 17] = [
 ];
 
 /// What the list holds after it.
-const PUT_IN: [Item; 5] = [FOUR, ONE, TWO, THREE, FIVE];
+const INSERTED: [Item; 5] = [FOUR, ONE, TWO, THREE, FIVE];
 
 #[test]
 fn inserts_and_splices_at_the_null_place(rt: HostRuntime) -> Result<(), Fail> {
@@ -247,7 +247,7 @@ fn inserts_and_splices_at_the_null_place(rt: HostRuntime) -> Result<(), Fail> {
         CursorCommand::Current,
         CursorCommand::End,
     ]?;
-    block_replies(&rt, rt.alloc(), lines, &AT_THE_NULL_PLACE, &PUT_IN, &[])?;
+    block_replies(&rt, rt.alloc(), lines, &AT_THE_NULL_PLACE, &INSERTED, &[])?;
     Ok(())
 }
 
@@ -300,7 +300,7 @@ const SET_AND_SPLICED: [Want<'static>; 11] = [
 const LEFT: [Item; 2] = [Item { value: 10, id: 1 }, THREE];
 
 #[test]
-fn sets_steps_and_splices_behind(rt: HostRuntime) -> Result<(), Fail> {
+fn sets_steps_and_splices_after(rt: HostRuntime) -> Result<(), Fail> {
     let lines = vec![in rt.alloc();
         CursorCommand::Set(10),
         CursorCommand::SetNext(20),

@@ -16,7 +16,7 @@ struct Numbers {
 }
 
 impl Numbers {
-    /// A number below so many.
+    /// Returns the next number, below the count.
     fn below(&mut self, count: u64) -> u64
         requires { 0 < count }
         ensures { result < count }
@@ -29,7 +29,7 @@ impl Numbers {
     }
 }
 
-/// Two of four lists, which may be one, and a command on the first or on both.
+/// Draws two of four lists, which may be one, and a command on the first or on both.
 fn any_command(numbers: &mut Numbers) -> (u8, u8, ListCommand)
     ensures { Fits result.2 }
 {
@@ -54,7 +54,7 @@ fn any_command(numbers: &mut Numbers) -> (u8, u8, ListCommand)
     (list, other, command)
 }
 
-/// The item, if there is one.
+/// Returns the reply for an item, if there is one.
 fn found(item: Option<Item>) -> Reply {
     match item {
         Some(item) => Reply::Found(item),
@@ -62,18 +62,18 @@ fn found(item: Option<Item>) -> Reply {
     }
 }
 
-/// The place of the first item with this number.
+/// Returns the place of the first item with this number.
 fn place_of(held: &VecDeque<Item>, id: u64) -> Option<usize> {
     held.iter().position(|item| item.id == id)
 }
 
-/// Moves what the second holds behind what the first holds.
+/// Appends what the second holds to the first.
 fn append(held: &mut VecDeque<Item>, other: &mut VecDeque<Item>) -> Result<Reply, AllocError> {
     held.append(other)?;
     Ok(Reply::Done)
 }
 
-/// Keeps so many items, and moves the others to the second, if that is empty.
+/// Keeps this many items, and moves the others to the second, if that is empty.
 fn split(
     held: &mut VecDeque<Item>,
     at: u64,
@@ -89,7 +89,7 @@ fn split(
     Ok(Reply::Done)
 }
 
-/// What a command does to one list, and its reply.
+/// Runs a command on one list, and returns its reply.
 fn on_one(
     alloc: Global,
     held: &mut VecDeque<Item>,
@@ -138,19 +138,19 @@ struct Model {
 }
 
 impl Model {
-    /// Four empty lists.
+    /// Returns four empty lists.
     fn new(alloc: Global) -> Self {
         Model {
             lists: std::array::from_fn(|_| VecDeque::new(alloc)),
         }
     }
 
-    /// What a list holds.
+    /// Returns what a list holds.
     fn held(&mut self, list: u8) -> &mut VecDeque<Item> {
         &mut self.lists[list as usize % 4]
     }
 
-    /// What a command does, and its reply.
+    /// Runs a command, and returns its reply.
     fn run(
         &mut self,
         alloc: Global,
@@ -176,7 +176,7 @@ impl Model {
     }
 }
 
-/// So many commands, and one that shows each list, with the model's replies.
+/// Returns this many commands, and one that shows each list, with the model's replies.
 fn commands_and_replies(
     alloc: Global,
     count: usize,

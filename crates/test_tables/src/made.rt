@@ -22,7 +22,7 @@ pub const FOUR: Item = Item { value: 4, id: 4 };
 /// The item whose number and value are 5.
 pub const FIVE: Item = Item { value: 5, id: 5 };
 
-/// A queue of the commands.
+/// Returns a queue of the commands.
 pub fn queue_of<C: Drop, const N: usize>(
     alloc: Global,
     commands: [C; N],
@@ -32,7 +32,7 @@ pub fn queue_of<C: Drop, const N: usize>(
     Ok(VecDeque::from_array(alloc, commands)?)
 }
 
-/// A reply that is wanted. It takes no memory, so that it can stand in a table.
+/// A reply that is wanted. It takes no memory, so that a table can have it.
 #[derive(Clone, Copy)]
 pub enum Want<'a> {
     /// The command was run.
@@ -43,7 +43,7 @@ pub enum Want<'a> {
     NotThere,
     /// This item was found.
     Found(Item),
-    /// There are so many items.
+    /// There are this many items.
     Len(u64),
     /// A cursor is at this index.
     Index(u64),
@@ -57,7 +57,7 @@ pub enum Want<'a> {
     Block(&'a [Want<'a>]),
 }
 
-/// The reply of a line of a block.
+/// Returns the reply of a line of a block.
 fn line_of(rt: &impl Abort, want: Want<'_>) -> Reply {
     match want {
         Want::Done => Reply::Done,
@@ -71,7 +71,7 @@ fn line_of(rt: &impl Abort, want: Want<'_>) -> Reply {
     }
 }
 
-/// The replies of the lines of a block.
+/// Returns the replies of the lines of a block.
 fn lines_of(rt: &impl Abort, alloc: Global, wants: &[Want<'_>]) -> Result<Vec<Reply>, AllocError> {
     let mut replies = Vec::new(alloc);
     for want in wants {
@@ -80,7 +80,7 @@ fn lines_of(rt: &impl Abort, alloc: Global, wants: &[Want<'_>]) -> Result<Vec<Re
     Ok(replies)
 }
 
-/// Items that are shown.
+/// Returns items that are shown.
 fn shown(alloc: Global, items: &[Item]) -> Result<Vec<Option<Item>>, AllocError> {
     let mut shown = Vec::new(alloc);
     for item in items {
@@ -89,7 +89,7 @@ fn shown(alloc: Global, items: &[Item]) -> Result<Vec<Option<Item>>, AllocError>
     Ok(shown)
 }
 
-/// The reply that is wanted.
+/// Returns the reply that is wanted.
 fn reply_of(rt: &impl Abort, alloc: Global, want: Want<'_>) -> Result<Reply, AllocError> {
     match want {
         Want::Items(items) => Ok(Reply::Show(shown(alloc, items)?)),
@@ -99,7 +99,7 @@ fn reply_of(rt: &impl Abort, alloc: Global, want: Want<'_>) -> Result<Reply, All
     }
 }
 
-/// The replies that are wanted.
+/// Returns the replies that are wanted.
 fn replies_of(
     rt: &impl Abort,
     alloc: Global,

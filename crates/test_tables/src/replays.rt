@@ -96,7 +96,7 @@ fn holds<L>(rt: &impl Abort, node: &Node<Item, L>, id: u64, item: Item) {
     same(rt, *node.get(), item);
 }
 
-/// An item goes into a handle of a list's node, and comes out.
+/// Makes a handle of a list's node of an item, and asserts the item that it returns.
 fn in_list(rt: &impl Abort, alloc: Global, item: Item) -> Result<(), AllocError> {
     let node: Node<Item, list::Links<Item>> = node_of(alloc, item.id, item)?;
     let node: Node<Item, list::Links<Item>> = Item::into_ptr(Item::from_ptr(node));
@@ -104,7 +104,7 @@ fn in_list(rt: &impl Abort, alloc: Global, item: Item) -> Result<(), AllocError>
     Ok(())
 }
 
-/// An item goes into a handle of a stack's node, and comes out.
+/// Makes a handle of a stack's node of an item, and asserts the item that it returns.
 fn in_stack(rt: &impl Abort, alloc: Global, item: Item) -> Result<(), AllocError> {
     let node: Node<Item, stack::Links<Item>> = node_of(alloc, item.id, item)?;
     let node: Node<Item, stack::Links<Item>> = Item::into_ptr(Item::from_ptr(node));
@@ -112,7 +112,7 @@ fn in_stack(rt: &impl Abort, alloc: Global, item: Item) -> Result<(), AllocError
     Ok(())
 }
 
-/// An item goes into a handle of a queue's node, and comes out.
+/// Makes a handle of a queue's node of an item, and asserts the item that it returns.
 fn in_queue(rt: &impl Abort, alloc: Global, item: Item) -> Result<(), AllocError> {
     let node: Node<Item, mpsc_queue::Links<Item>> = node_of(alloc, item.id, item)?;
     let node: Node<Item, mpsc_queue::Links<Item>> = Item::into_ptr(Item::from_ptr(node));

@@ -11,7 +11,7 @@ use std::collections::VecDeque;
 use std::process::Abort;
 use std::test::Fail;
 
-/// The order of the tens in the values.
+/// Compares the tens of the values.
 fn by_tens(first: &Item, second: &Item) -> Ordering
     ensures { result ≡ nat_cmp (first.now.value / 10) (second.now.value / 10) }
 {
@@ -55,7 +55,7 @@ const IN_ORDER: [Item; 4] = [
     Item { value: 21, id: 1 },
 ];
 
-/// The items in their order, where one came for the first.
+/// The items in their order, where one replaced the first.
 const THEN: [Item; 4] = [
     Item { value: 11, id: 2 },
     Item { value: 13, id: 6 },
@@ -92,7 +92,7 @@ fn keeps_equals_by_arrival(rt: HostRuntime) -> Result<(), Fail> {
     Ok(())
 }
 
-/// Commands that insert these values into a list, twice, and pop them all each time, and once more.
+/// Returns commands that insert these values into a list, twice, and pop them all each time, and once more.
 fn inserts_and_pops(
     alloc: Global,
     list: u8,
@@ -120,7 +120,7 @@ fn inserts_and_pops(
     Ok(commands)
 }
 
-/// Puts the replies to these commands behind what is wanted, where the values come out in this order.
+/// Appends the replies to these commands to those that are wanted, where the values are popped in this order.
 fn want_popped(wants: &mut Vec<Want<'_>>, order: &[u64]) -> Result<(), AllocError> {
     for _time in 0..2u8 {
         for _insert in order {
