@@ -1,5 +1,5 @@
-//! What the collections that threads share have in common: tickets for their rooms, the rooms of their cores, what is
-//! in slots, and the theory of the parties that act on them: names, shares and histories.
+//! What the collections that threads share have in common: the rooms of their cores, the layout of their words, and the
+//! theory of the parties that act on them: names, shares and histories. It also has the tickets of a queue's rooms.
 #![tactic(auto)]
 
 pub mod layout;

@@ -3,7 +3,7 @@
 use crate::tickets::Ticket;
 use std::marker::Brand;
 
-/// The content of the slot of a room in use.
+/// The content of the slot of a queue's room in use.
 #[derive(Drop)]
 pub struct Filled<E> {
     /// The room's ticket.

@@ -1,4 +1,4 @@
-//! Tickets: the tokens by which parties use the rooms of a shared collection.
+//! Tickets: the tokens by which parties use the rooms of a queue.
 ghost use Rattle.std.specs.Prelude.{◌≡◌, ◌+◌, ◌<◌, ◌≤◌, ◌^◌, [], ◌∷◌, ◌++◌, length, take, drop, slice_get, Some, IfOk};
 ghost use Rattle.cordyceps_shared.specs.Counts.{below};
 
@@ -8,7 +8,7 @@ use cordyceps_base::stack::Links;
 use std::alloc::{AllocError, Global};
 use std::marker::Model;
 
-/// The token for one room of a shared collection: who has it can use the room. A contract sees the room's number.
+/// The token for one room of a queue: who has it can use the room. A contract sees the room's number.
 ///
 /// It owns one block of memory, which dropping it frees, and has the size of a pointer.
 #[derive(Drop)]
