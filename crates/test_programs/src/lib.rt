@@ -8,6 +8,8 @@ mod compared;
 #[cfg(test)]
 mod disks;
 #[cfg(test)]
+mod examples;
+#[cfg(test)]
 mod mailboxes;
 #[cfg(test)]
 mod pools;

@@ -1,0 +1,152 @@
+//! A few lines with cursors, filters, owned consumers, cores and counts of steps.
+ghost use Rattle.std.specs.Prelude.{◌≡◌, ◌+◌, ◌<◌, ◌≤◌, [], ◌∷◌, ◌++◌, length, map, slice_get, nat_lt, not, Some, Ok, Err, IfOk, IfErr, MatchOption};
+ghost use Rattle.std.specs.List.{filter};
+ghost use Rattle.std.specs.List.Sorted.{IsSortedBy};
+ghost use Rattle.std.specs.Ordering.{nat_cmp};
+ghost use Rattle.cordyceps.specs.Elements.Element.{values};
+ghost use Rattle.cordyceps.specs.Orders.Arrangement.{less, put};
+ghost use Rattle.cordyceps.specs.Orders.Place.{comparisons};
+ghost use Rattle.cordyceps.specs.QueueCores.{FindsInconsistent};
+
+use crate::job::Job;
+use crate::tour::{QueueJob, StackJob};
+use cordyceps::mpsc_queue::{Batch, OwnedConsumer, QueueCore, QueueStep, TryDequeueError};
+use cordyceps::sorted_list::Least;
+use cordyceps::stack::{StepError, TransferAnswer, TransferCore, TransferStep};
+use cordyceps::{List, MpscQueue, SortedList, Steps};
+use std::alloc::{AllocError, Global};
+use std::sync::Arc;
+
+/// Returns the ranks of the first two jobs, or `None` if there are fewer. The list is only read.
+///
+/// # Complexity
+/// O(1).
+pub fn first_two_ranks(jobs: &List<Job>) -> Option<(u32, u32)>
+    ensures { MatchOption result (length jobs.now < 2)
+        (λ ranks. (slice_get (map (λ n. n.value.rank) jobs.now) 0 ≡ Some ranks.0)
+        × (slice_get (map (λ n. n.value.rank) jobs.now) 1 ≡ Some ranks.1)) }
+{
+    let mut cursor = jobs.cursor_front();
+    let first = cursor.current()?;
+    // behind the last job is the null place, where `current` returns `None`
+    cursor.move_next();
+    let second = cursor.current()?;
+    Some((first.rank, second.rank))
+}
+
+/// Moves the jobs whose rank is at most `most` behind those of another list. All keep their order.
+///
+/// # Complexity
+/// O(n), for n jobs. Allocates nothing.
+pub fn move_urgent(jobs: &mut List<Job>, most: u32, urgent: &mut List<Job>)
+    requires { length jobs.old + length urgent.old ≤ usize.MAX }
+    ensures moved { urgent.new ≡ urgent.old ++ filter (λ n. not (nat_lt most n.value.rank)) jobs.old }
+    ensures kept { jobs.new ≡ filter (λ n. nat_lt most n.value.rank) jobs.old }
+{
+    for job in jobs.drain_filter(|job: &Job| job.rank <= most) {
+        urgent.push_back(job);
+    }
+}
+
+/// A worker that dequeues the jobs that are sent to it. It borrows nothing.
+#[derive(Drop)]
+pub struct Worker {
+    pub jobs: OwnedConsumer<Job>,
+}
+
+/// Sends two jobs to a worker, and returns what it finds, the oldest first. It is `None` if the worker cannot begin.
+///
+/// # Errors
+/// If memory for the queue is refused, that is returned, and the jobs are dropped.
+///
+/// # Complexity
+/// O(1), with a fixed number of allocations.
+pub fn send_to_worker(
+    alloc: Global,
+    first: QueueJob,
+    second: QueueJob,
+) -> Result<Option<Batch<Job>>, AllocError>
+    ensures { IfOk result (λ came. came ≡ Some (first ∷ second ∷ [])) }
+{
+    let (queue, mut party) = MpscQueue::<Job>::new(alloc, 8)?;
+    queue.enqueue(&mut party, first);
+    queue.enqueue(&mut party, second);
+    let queue = Arc::new(alloc, queue)?;
+    // the consumer owns the queue with others and borrows nothing, so a struct can keep it
+    let Ok(jobs) = MpscQueue::try_consume_owned(queue, party) else {
+        return Ok(None);
+    };
+    let mut worker = Worker { jobs };
+    Ok(worker.jobs.take_linked(16).ok())
+}
+
+/// Pushes two jobs to a core, where the second push comes between the steps of the first, and takes both. The one that
+/// was pushed last comes first.
+///
+/// # Errors
+/// If memory is refused, it returns `Memory`.
+///
+/// # Complexity
+/// O(1), with a fixed number of allocations.
+pub fn push_meanwhile(alloc: Global, early: Job, late: Job) -> Result<Vec<Job>, StepError>
+    ensures ok { IfOk result (λ taken. taken.items ≡ early ∷ late ∷ []) }
+    ensures err { IfErr result (λ e. e ≡ StepError.Memory) }
+{
+    let mut core: TransferCore<Job> = TransferCore::new(alloc);
+    let first = core.add_party()?;
+    let second = core.add_party()?;
+    core.add_room(first)?;
+    core.add_room(second)?;
+    let _ = core.step(first, TransferStep::Load(early));
+    let _ = core.step(first, TransferStep::SetNext);
+    // the other party's push, all its steps
+    let _ = core.push_was_empty(second, late);
+    // the head has changed, so this push fails, and is tried again
+    if let Ok(TransferAnswer::Failed(back)) = core.step(first, TransferStep::Exchange) {
+        let _ = core.push_was_empty(first, back);
+    }
+    core.take_all(second)
+}
+
+/// Sends a job by the steps of a core, and returns what another party finds before the last step and after it.
+///
+/// # Errors
+/// If memory is refused, it returns `Memory`.
+///
+/// # Complexity
+/// O(1), with a fixed number of allocations.
+pub fn dequeue_around_link(
+    alloc: Global,
+    job: Job,
+) -> Result<(Result<Job, TryDequeueError>, Result<Job, TryDequeueError>), StepError>
+    ensures ok { IfOk result (λ found. (found.0 ≡ Err FindsInconsistent) × (found.1 ≡ Ok job)) }
+    ensures err { IfErr result (λ e. e ≡ StepError.Memory) }
+{
+    let mut core: QueueCore<Job> = QueueCore::new(alloc);
+    let sender = core.add_party()?;
+    let receiver = core.add_party()?;
+    core.add_room(sender)?;
+    let _ = core.step(sender, QueueStep::Clear(Some(job)));
+    let _ = core.step(sender, QueueStep::Swap);
+    // the job is in, but nothing leads to it yet: `Inconsistent`
+    let before = core.try_dequeue(receiver)?;
+    let _ = core.step(sender, QueueStep::Link);
+    let after = core.try_dequeue(receiver)?;
+    Ok((before, after))
+}
+
+/// Inserts a job into a sorted list, and returns how many comparisons that took.
+///
+/// # Complexity
+/// As `insert`: O(1) if the rank is not less than the last one, and otherwise O(k), for k jobs up to its place.
+pub fn insert_counted(jobs: &mut SortedList<Job, Least>, job: StackJob) -> u64
+    requires { length jobs.old.elements < usize.MAX }
+    ensures count { result ≡ comparisons (λ x y. nat_cmp x.rank y.rank) job.value (values jobs.old.elements) }
+    ensures inserted { IsSortedBy (less (λ x y. nat_cmp x.rank y.rank)) jobs.old.elements
+        → jobs.new.elements ≡ put (λ x y. nat_cmp x.rank y.rank) jobs.old.elements job }
+    ensures len { length jobs.new.elements ≡ length jobs.old.elements + 1 }
+{
+    let mut steps = Steps::new();
+    jobs.insert_in(job, &mut steps);
+    steps.count()
+}
