@@ -5,6 +5,14 @@ use std::marker::Model;
 
 /// A count of steps: moves along a link, or comparisons. Calls that take it add the steps that they make. A contract
 /// sees the number.
+///
+/// # Examples
+/// From `examples::insert_counted` of `cordyceps_uses`:
+/// ```
+/// let mut steps = Steps::new();
+/// jobs.insert_in(job, &mut steps);
+/// steps.count()
+/// ```
 #[derive(Drop, Debug)]
 pub struct Steps {
     count: u64,

@@ -16,6 +16,17 @@ use std::marker::Model;
 ///
 /// A place is an index from 0 to the length. The length is the null place, which has no element: it is after the last
 /// element and before the first. A list can have several such cursors at a time.
+///
+/// # Examples
+/// From `examples::first_two_ranks` of `cordyceps_uses`:
+/// ```
+/// let mut cursor = jobs.cursor_front();
+/// let first = cursor.current()?;
+/// // behind the last job is the null place, where `current` returns `None`
+/// cursor.move_next();
+/// let second = cursor.current()?;
+/// Some((first.rank, second.rank))
+/// ```
 #[derive(Drop)]
 pub struct Cursor<'a, T> {
     chain: &'a DoubleChain<T>,

@@ -13,6 +13,14 @@ use cordyceps_base::linked::Linked;
 ///
 /// # Complexity
 /// Each `next` is O(k), for k values that the predicate is called on. Dropping is O(1).
+///
+/// # Examples
+/// From `examples::move_urgent` of `cordyceps_uses`:
+/// ```
+/// for job in jobs.drain_filter(|job: &Job| job.rank <= most) {
+///     urgent.push_back(job);
+/// }
+/// ```
 pub struct DrainFilter<'a, T, F> {
     list: &'a mut List<T>,
     index: usize,

@@ -18,6 +18,22 @@ use std::marker::Model;
 ///
 /// A contract sees its machine: the head, the right to dequeue, the rooms, and at which stage each party is. For each
 /// history that the core met before a call it says which one it meets afterwards. Such a history is legal.
+///
+/// # Examples
+/// From `examples::dequeue_around_link` of `cordyceps_uses`:
+/// ```
+/// let mut core: QueueCore<Job> = QueueCore::new(alloc);
+/// let sender = core.add_party()?;
+/// let receiver = core.add_party()?;
+/// core.add_room(sender)?;
+/// let _ = core.step(sender, QueueStep::Clear(Some(job)));
+/// let _ = core.step(sender, QueueStep::Swap);
+/// // the job is in, but nothing leads to it yet: `Inconsistent`
+/// let before = core.try_dequeue(receiver)?;
+/// let _ = core.step(sender, QueueStep::Link);
+/// let after = core.try_dequeue(receiver)?;
+/// Ok((before, after))
+/// ```
 #[derive(Drop)]
 pub struct QueueCore<E> {
     alloc: Global,

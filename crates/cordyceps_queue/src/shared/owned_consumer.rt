@@ -27,6 +27,18 @@ use std::sync::Arc;
 ///
 /// # Complexity
 /// Dropping a consumer is O(r), for r rooms that its party has, and dropping the queue if its reference is the last.
+///
+/// # Examples
+/// From `examples::send_to_worker` of `cordyceps_uses`:
+/// ```
+/// let queue = Arc::new(alloc, queue)?;
+/// // the consumer owns the queue with others and borrows nothing, so a struct can keep it
+/// let Ok(jobs) = MpscQueue::try_consume_owned(queue, party) else {
+///     return Ok(None);
+/// };
+/// let mut worker = Worker { jobs };
+/// Ok(worker.jobs.take_linked(16).ok())
+/// ```
 pub struct OwnedConsumer<T: Linked<Links<T>>> {
     queue: Arc<MpscQueue<T>, Global>,
     right: Right<T::Handle>,

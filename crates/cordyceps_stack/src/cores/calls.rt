@@ -26,6 +26,25 @@ type Answered<E> = Result<TransferAnswer<E>, (StepError, Option<E>)>;
 /// It takes all elements by `Take` and one `Walk` for each of them, whose rooms become its free ones. Steps of other
 /// parties may come between. A contract sees the core as a machine: the head, the rooms, and at which stage each party
 /// is.
+///
+/// # Examples
+/// From `examples::push_meanwhile` of `cordyceps_uses`:
+/// ```
+/// let mut core: TransferCore<Job> = TransferCore::new(alloc);
+/// let first = core.add_party()?;
+/// let second = core.add_party()?;
+/// core.add_room(first)?;
+/// core.add_room(second)?;
+/// let _ = core.step(first, TransferStep::Load(early));
+/// let _ = core.step(first, TransferStep::SetNext);
+/// // the other party's push, all its steps
+/// let _ = core.push_was_empty(second, late);
+/// // the head has changed, so this push fails, and is tried again
+/// if let Ok(TransferAnswer::Failed(back)) = core.step(first, TransferStep::Exchange) {
+///     let _ = core.push_was_empty(first, back);
+/// }
+/// core.take_all(second)
+/// ```
 #[derive(Drop)]
 pub struct TransferCore<E> {
     alloc: Global,
