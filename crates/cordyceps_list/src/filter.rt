@@ -17,7 +17,9 @@ use cordyceps_base::linked::Linked;
 /// # Examples
 /// From `examples::move_urgent` of `cordyceps_uses`:
 /// ```
-/// for job in jobs.drain_filter(|job: &Job| job.rank <= most) {
+/// let mut out = jobs.drain_filter(move |job: &Job| job.rank <= most);
+/// // the next job that goes, past those that stay
+/// while let Some(job) = out.next() {
 ///     urgent.push_back(job);
 /// }
 /// ```

@@ -1,5 +1,5 @@
 //! A few lines with cursors, filters, owned consumers, cores and counts of steps.
-ghost use Rattle.std.specs.Prelude.{◌≡◌, ◌+◌, ◌<◌, ◌≤◌, [], ◌∷◌, ◌++◌, length, map, slice_get, nat_lt, not, Some, Ok, Err, IfOk, IfErr, MatchOption};
+ghost use Rattle.std.specs.Prelude.{◌≡◌, ◌+◌, ◌<◌, ◌≤◌, [], ◌∷◌, ◌++◌, length, map, slice_get, nat_le, not, Some, Ok, Err, IfOk, IfErr, MatchOption};
 ghost use Rattle.std.specs.List.{filter};
 ghost use Rattle.std.specs.List.Sorted.{IsSortedBy};
 ghost use Rattle.std.specs.Ordering.{nat_cmp};
@@ -40,10 +40,12 @@ pub fn first_two_ranks(jobs: &List<Job>) -> Option<(u32, u32)>
 /// O(n), for n jobs. Allocates nothing.
 pub fn move_urgent(jobs: &mut List<Job>, most: u32, urgent: &mut List<Job>)
     requires { length jobs.old + length urgent.old ≤ usize.MAX }
-    ensures moved { urgent.new ≡ urgent.old ++ filter (λ n. not (nat_lt most n.value.rank)) jobs.old }
-    ensures kept { jobs.new ≡ filter (λ n. nat_lt most n.value.rank) jobs.old }
+    ensures moved { urgent.new ≡ urgent.old ++ filter (λ n. nat_le n.value.rank most) jobs.old }
+    ensures kept { jobs.new ≡ filter (λ n. not (nat_le n.value.rank most)) jobs.old }
 {
-    for job in jobs.drain_filter(|job: &Job| job.rank <= most) {
+    let mut out = jobs.drain_filter(move |job: &Job| job.rank <= most);
+    // the next job that goes, past those that stay
+    while let Some(job) = out.next() {
         urgent.push_back(job);
     }
 }
