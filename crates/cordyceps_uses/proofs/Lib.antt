@@ -1,5 +1,7 @@
+mod Arriving
 mod Best
 mod Deadlines
+mod Draining
 mod Entries
 mod Scheduling
 pub mod Sharing

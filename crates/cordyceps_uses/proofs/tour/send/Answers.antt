@@ -1,6 +1,4 @@
-use Rattle.std.proofs.Common.{◌≡◌, List, [], ◌∷◌, ◌++◌, map, take, refl, ap, sym, ◌∙◌, subst, inl, arith, Some}
-use Rattle.std.specs.Prelude.{Result, Ok, Err, MatchResult}
-use Rattle.std.specs.Result.{result_ok}
+use Rattle.std.proofs.Common.{◌≡◌, List, [], ◌∷◌, ◌++◌, map, refl, ap, sym, ◌∙◌, subst, inl, arith}
 use Rattle.std.proofs.lemmas.List.{map-id}
 use Rattle.cordyceps.specs.Parties.Seated.{TableId}
 use Rattle.cordyceps.specs.Elements.Element.{Element}
@@ -10,22 +8,13 @@ use Rattle.cordyceps.specs.Parties.Standings.{new_party, keeping, giving, Absorb
 use Rattle.cordyceps.proofs.Parties.Interleaving.{only_right}
 use Rattle.cordyceps.proofs.Parties.Ordering.{whole_share}
 use Rattle.cordyceps.proofs.Parties.Moving.{moves_none, moves_then, moves_both, moves_whole}
-use Rattle.cordyceps.specs.Queues.TryDequeueError.{TryDequeueError}
-use Rattle.cordyceps.specs.Queues.TryDequeueError.TheVariants as error
 use Rattle.cordyceps.specs.Queues.History.{held}
-use Rattle.cordyceps.specs.Queues.Batches.{TakesLinked}
-use Rattle.cordyceps.specs.Queues.Calls.{PartyOf, Legal, Consumes, Enqueues, IsCertain, TakesRight, same_name}
+use Rattle.cordyceps.specs.Queues.Calls.{Legal, Enqueues, TakesRight, same_name}
 use Rattle.cordyceps.specs.Queues.Moves.{put_by, got_by, Moves}
-use Rattle.cordyceps.proofs.Queues.CloseTakesAll.{gives_none}
 use Rattle.cordyceps.proofs.Queues.PartyMoves.{all_kept, moves_enqueue, moves_right}
 use Rattle.cordyceps_uses.specs.declared.job.Job.{Job}
+use Rattle.cordyceps_uses.proofs.Arriving.{Seat, it, taken}
 use Rattle.cordyceps_uses.proofs.tour.send.Goals as goal
-
-abbrev Seat : Type 0
-Seat = PartyOf (Element Job)
-
-abbrev it : Element Job → Element Job
-it e = e
 
 -- one party sent both, and was taken in by the other, which is alone then, and took the right
 came : (id : TableId) (v o p q w x : Seat) (a b : Element Job) → v ≡ keeping 4 (new_party id 8) → o ≡ giving 4 (new_party id 8) → Enqueues a o p → Enqueues b p q
@@ -47,17 +36,6 @@ came id v o p q w x a b kept given one two met =
           let got = only_right [] both.1 both.3 in
           (is, sym (map-id (held (plain x.seen))) ∙ (ap (λ z. (z ++ []) ++ left) (sym got) ∙ (sym all ∙ ap (λ z. z ++ []) sent))),
     )
-
--- who is alone takes all that is held
-taken : (r : Result (List (Element Job)) TryDequeueError) (x y : Seat) (a b : Element Job) → x.share ≡ whole → held (plain x.seen) ≡ a ∷ b ∷ []
-    → MatchResult r (λ batch. batch ≡ map it (take 16 (held (plain x.seen)))) (λ why. why ≡ error.Empty)
-    → MatchResult r (λ batch. (es : List (Element Job)) × (batch ≡ map it es) × TakesLinked 16 es x y) (λ why. Consumes (Err why) x y)
-    → result_ok r ≡ Some (a ∷ b ∷ [])
-taken (Ok batch) x y a b is holds all how = ap (λ z. Some z) (all ∙ ap (λ z. map it (take 16 z)) holds)
-taken (Err why) x y a b is holds all how =
-    let none = (gives_none x y why is how (subst (λ z. IsCertain {E = Element Job} (Err z)) (sym all) tt)).1 in
-    let no : ⊥ = cc in
-    absurd no
 
 pub returns : goal.returns
 returns c =
