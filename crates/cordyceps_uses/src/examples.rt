@@ -50,13 +50,14 @@ pub fn move_urgent(jobs: &mut List<Job>, most: u32, urgent: &mut List<Job>)
     }
 }
 
-/// A worker that dequeues the jobs that are sent to it. It borrows nothing.
+/// A worker that dequeues the jobs that are sent to it. It owns its consumer, and borrows nothing.
 #[derive(Drop)]
 pub struct Worker {
     pub jobs: OwnedConsumer<Job>,
 }
 
-/// Sends two jobs to a worker, and returns what it finds, the oldest first. It is `None` if the worker cannot begin.
+/// Sends two jobs to a worker, and returns what it takes, the oldest first. It never returns `None`, since nobody else
+/// has the right to dequeue.
 ///
 /// # Errors
 /// If memory for the queue is refused, that is returned, and the jobs are dropped.

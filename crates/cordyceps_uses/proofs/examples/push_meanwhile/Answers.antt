@@ -1,6 +1,7 @@
-use Rattle.std.proofs.Common.{◌≡◌, ℕ, Bool, true, true≢false, length, refl, sym, ap, ◌∙◌}
+use Rattle.std.proofs.Common.{rules, ◌≡◌, ℕ, Bool, true, true≢false, [], ◌∷◌, length, refl, sym, ap, ◌∙◌}
 use Rattle.std.specs.Prelude.{Result, Ok, Err, IfOk, IfErr, is_ok, is_none}
-use Rattle.cordyceps.specs.TransferCores.{Machine, after, core_step, after_step, new_machine, with_party, with_room, push_steps, is_ready, is_at_rest, Load, SetNext, Exchange}
+use Rattle.cordyceps.specs.TransferCores.{Machine, after, core_step, after_step, new_machine, with_party, with_room, push_steps, held_in, is_ready, is_at_rest, Load, SetNext, Exchange, Failed}
+use Rattle.std.proofs.lemmas.Result.{IfOk-weaker}
 use Rattle.cordyceps.specs.declared.stack.StepError.{StepError}
 use Rattle.cordyceps.specs.declared.stack.StepError.TheVariants.{NotThere, Memory}
 use Rattle.cordyceps_uses.specs.declared.job.Job.{Job}
@@ -63,6 +64,9 @@ module _ (a b : ℕ) (early late : Job) where
   misses m7 m8 led h8 =
       record { first = led.first; second = led.second; is = h8 ∙ ap (λ (m : Machine Job). (after_step m a Exchange).0) led.is ∙ ap (λ (p : ℕ). (after_step (between early late) p Exchange).0) led.first }
 
+  tells : (m7 : Machine Job) → Led a b m7 (between early late) → (after_step m7 a Exchange).1 ≡ Ok (Failed early)
+  tells m7 led = ap (λ (m : Machine Job). (after_step m a Exchange).1) led.is ∙ ap (λ (p : ℕ). (after_step (between early late) p Exchange).1) led.first
+
   rests : (m now : Machine Job) → Led a b m now → is_at_rest m b ≡ is_at_rest now 1
   rests m now led = ap (λ (k : Machine Job). is_at_rest k b) led.is ∙ ap (λ (p : ℕ). is_at_rest now p) led.second
 
@@ -94,3 +98,26 @@ returns-clause-err c =
       | in-Err-1 w ↦ ap (λ (m : Machine Job). is_at_rest m b) w.core-is ∙ still
     ] in
     only_memory c.take_all.result (λ is. true≢false (sym at_rest ∙ c.take_all.ensures.not_there.0 is))
+
+pub returns-clause-ok : goal.returns-clause-ok
+returns-clause-ok c =
+    let a = c.in_ok-first.first in
+    let b = c.in_ok-second.second in
+    let early = c.args.early in
+    let late = c.args.late in
+    let led4 = laid_out a b early late c.new-core.result c.add_party.new.self c.add_party-2.new.self c.add_room.new.self c.add_room-2.new.self c.new-core.ensures.machine c.in_ok-first.ensures.ok.0 c.in_ok-first.ensures.ok.1 c.in_ok-second.ensures.ok.0 c.in_ok-second.ensures.ok.1 c.in_ok-add_room.ensures.ok c.in_ok-add_room-2.ensures.ok in
+    let led7 = pushed a b early late c.push_was_empty.result c.add_room-2.new.self c.step.new.self c.step-2.new.self c.push_was_empty.new.self led4 c.step.ensures.machine c.step-2.ensures.machine c.push_was_empty.ensures.accepted c.push_was_empty.ensures.ok in
+    let led8 = misses a b early late c.push_was_empty.new.self c.step-3.new.self led7 c.step-3.ensures.machine in
+    let told : c.step-3.result ≡ Ok (Failed early) = c.step-3.ensures.answer ∙ tells a b early late c.push_was_empty.new.self led7 in
+    let holds : held_in c.match-step.core ≡ early ∷ late ∷ [] =
+    elim c.match-step.branch [
+      | in-Ok-Failed w ↦
+          let back = w.in-Ok-Failed.back in
+          let p = w.push_was_empty-in-Ok-Failed in
+          let led9 = again a b early late p.result back c.step-3.new.self p.new.self led8 p.ensures.accepted p.ensures.ok in
+          let same : early ≡ back = search (rules, told) in
+          ap (λ (m : Machine Job). held_in m) (w.core-is ∙ led9.is) ∙ ap (λ (j : Job). j ∷ late ∷ []) (sym same)
+      | in-Ok+in-Done-1 w ↦ search (rules, told)
+      | in-Err-1 w ↦ search (rules, told)
+    ] in
+    IfOk-weaker c.take_all.result (λ batch. batch.items ≡ held_in c.match-step.core) (λ batch. batch.items ≡ early ∷ late ∷ []) (λ batch is. is ∙ holds) c.take_all.ensures.batch
