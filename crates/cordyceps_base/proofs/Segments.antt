@@ -35,17 +35,17 @@ module _ {Z B : Type 0} where
     | false ↦ λ other. let on = found ns p k e in (on.0, on.1, ap (λ (b : Bool). drop (if b then zero else suc (index_of p (box_addresses ns))) (n ∷ ns)) other ∙ on.2, on.3)
   ]) refl
 
-  pub tested_front : (xs ys : List (Ptr × Z × B)) → AreNullComparable (box_addresses (xs ++ ys)) → AreNullComparable (box_addresses xs)
-  tested_front [] ys a = tt
-  tested_front (x ∷ xs) ys a = (a.0, a.1, tested_front xs ys a.2)
+  pub comparable_front : (xs ys : List (Ptr × Z × B)) → AreNullComparable (box_addresses (xs ++ ys)) → AreNullComparable (box_addresses xs)
+  comparable_front [] ys a = tt
+  comparable_front (x ∷ xs) ys a = (a.0, a.1, comparable_front xs ys a.2)
 
-  pub tested_upto : (xs : List (Ptr × Z × B)) (n : Ptr × Z × B) (ys : List (Ptr × Z × B)) → AreNullComparable (box_addresses (xs ++ n ∷ ys)) → AreNullComparable (box_addresses (xs ++ n ∷ []))
-  tested_upto [] n ys a = (a.0, a.1, tt)
-  tested_upto (x ∷ xs) n ys a = (a.0, a.1, tested_upto xs n ys a.2)
+  pub comparable_upto : (xs : List (Ptr × Z × B)) (n : Ptr × Z × B) (ys : List (Ptr × Z × B)) → AreNullComparable (box_addresses (xs ++ n ∷ ys)) → AreNullComparable (box_addresses (xs ++ n ∷ []))
+  comparable_upto [] n ys a = (a.0, a.1, tt)
+  comparable_upto (x ∷ xs) n ys a = (a.0, a.1, comparable_upto xs n ys a.2)
 
-  pub tested_back : (xs ys : List (Ptr × Z × B)) → AreNullComparable (box_addresses (xs ++ ys)) → AreNullComparable (box_addresses ys)
-  tested_back [] ys a = a
-  tested_back (x ∷ xs) ys a = tested_back xs ys a.2
+  pub comparable_back : (xs ys : List (Ptr × Z × B)) → AreNullComparable (box_addresses (xs ++ ys)) → AreNullComparable (box_addresses ys)
+  comparable_back [] ys a = a
+  comparable_back (x ∷ xs) ys a = comparable_back xs ys a.2
 
 abbrev pub Row : Type 0 → Type 0
 Row X = List (OwnedNode X)
@@ -171,11 +171,11 @@ module _ {X : Type 0} where
     rest_linked b rest e f = (u.node.0, subst (λ (s : Block X × Row X). Segment u.node.0 (next_of s.0) s.1 t null_ptr) (λ i. (node_is b e i, sym (rest_is rest f) i)) u.second)
 
     pub front_comparable : AreNullComparable (box_addresses ns) → AreNullComparable (box_addresses front)
-    front_comparable a = tested_front front (u.node ∷ u.after) (subst (λ ls. AreNullComparable (box_addresses ls)) u.whole a)
+    front_comparable a = comparable_front front (u.node ∷ u.after) (subst (λ ls. AreNullComparable (box_addresses ls)) u.whole a)
 
-    pub rest_tested : (rest : Row X) → rest ≡ drop 1 back → AreNullComparable (box_addresses ns) → AreNullComparable (box_addresses rest)
-    rest_tested rest f a =
-        let all : AreNullComparable (box_addresses (u.node ∷ u.after)) = tested_back front (u.node ∷ u.after) (subst (λ ls. AreNullComparable (box_addresses ls)) u.whole a) in
+    pub rest_comparable : (rest : Row X) → rest ≡ drop 1 back → AreNullComparable (box_addresses ns) → AreNullComparable (box_addresses rest)
+    rest_comparable rest f a =
+        let all : AreNullComparable (box_addresses (u.node ∷ u.after)) = comparable_back front (u.node ∷ u.after) (subst (λ ls. AreNullComparable (box_addresses ls)) u.whole a) in
         subst (λ ls. AreNullComparable (box_addresses ls)) (sym (rest_is rest f)) all.2
 
     lengths : length ns ≡ length front + suc (length u.after)
@@ -218,8 +218,8 @@ module _ {X : Type 0} where
     pub back_linked : (q : Ptr) × Segment q p back t null_ptr
     back_linked = (prev_of u.node.2, subst (λ ls. Segment (prev_of u.node.2) p ls t null_ptr) (sym u.here) (sym u.lies, refl, u.second))
 
-    pub all_tested : AreNullComparable (box_addresses ns) → AreNullComparable (box_addresses back)
-    all_tested a = subst (λ ls. AreNullComparable (box_addresses ls)) (sym u.here) (tested_back front (u.node ∷ u.after) (subst (λ ls. AreNullComparable (box_addresses ls)) u.whole a))
+    pub all_comparable : AreNullComparable (box_addresses ns) → AreNullComparable (box_addresses back)
+    all_comparable a = subst (λ ls. AreNullComparable (box_addresses ls)) (sym u.here) (comparable_back front (u.node ∷ u.after) (subst (λ ls. AreNullComparable (box_addresses ls)) u.whole a))
 
     pub back_shown : (s : Nodes X) (n : Ptr × Element X) → s ≡ nodes_of front ++ n ∷ nodes_of back → s ≡ nodes_of front ++ n ∷ (p, block_element u.node.2) ∷ nodes_of u.after
     back_shown s n e = e ∙ (λ i. nodes_of front ++ n ∷ nodes_of (u.here i)) ∙ (λ i. nodes_of front ++ n ∷ (u.lies i, block_element u.node.2) ∷ nodes_of u.after)
@@ -240,7 +240,7 @@ module _ {X : Type 0} where
       )
 
       pub upto_tested : AreNullComparable (box_addresses ns) → AreNullComparable (box_addresses f)
-      upto_tested a = subst (λ ls. AreNullComparable (box_addresses ls)) (sym upto_is) (tested_upto front u.node u.after (subst (λ ls. AreNullComparable (box_addresses ls)) u.whole a))
+      upto_tested a = subst (λ ls. AreNullComparable (box_addresses ls)) (sym upto_is) (comparable_upto front u.node u.after (subst (λ ls. AreNullComparable (box_addresses ls)) u.whole a))
 
       pub upto_shown : (s : Nodes X) (n : Ptr × Element X) → s ≡ nodes_of f ++ n ∷ nodes_of r → s ≡ nodes_of front ++ (p, block_element u.node.2) ∷ n ∷ nodes_of u.after
       upto_shown s n e =
@@ -285,11 +285,11 @@ module _ {X : Type 0} where
     same : u.node.2 ≡ b
     same = node_is u b e
 
-    after_tested : AreNullComparable (box_addresses u.after)
-    after_tested = rest_tested u u.after (sym (ap (drop 1) u.here)) z
+    after_comparable : AreNullComparable (box_addresses u.after)
+    after_comparable = rest_comparable u u.after (sym (ap (drop 1) u.here)) z
 
     pub next_testable : Testable (next_of b)
-    next_testable = subst (λ (x : Block X). Testable (next_of x)) same (first_testable u.node.0 (next_of u.node.2) u.after t u.second after_tested)
+    next_testable = subst (λ (x : Block X). Testable (next_of x)) same (first_testable u.node.0 (next_of u.node.2) u.after t u.second after_comparable)
 
     pub prev_testable : Testable (prev_of b)
     prev_testable = subst (λ (x : Block X). Testable (prev_of x)) same (last_testable null_ptr h front (prev_of u.node.2) u.node.0 u.first (front_comparable u z) null_Testable)
@@ -301,7 +301,7 @@ module _ {X : Type 0} where
 
     pub next_none : next_of b ≡ null_ptr → IsLast v p
     next_none i =
-        let none = none_first u.node.0 (next_of u.node.2) u.after t u.second after_tested (ap (λ (x : Block X). next_of x) same ∙ i) in
+        let none = none_first u.node.0 (next_of u.node.2) u.after t u.second after_comparable (ap (λ (x : Block X). next_of x) same ∙ i) in
         (nodes_of front, block_element u.node.2, here_is ∙ (λ j. nodes_of front ++ (p, block_element u.node.2) ∷ none j))
 
     pub prev_there : InBlock (prev_of b) → AreNext v (prev_of b) p

@@ -21,9 +21,9 @@ is_not_none None e = λ _. cc
 is_not_none (Some p) e = λ n. cc
 
 -- ---- the word that leads to the node after
-pub leads_nowhere : (p : Ptr) → p ≡ null_ptr → unless_null (record { ptr = p }) ≡ None
-leads_nowhere null_ptr e = refl
-leads_nowhere (block_ptr b o) e = cc
+pub leads_to_null : (p : Ptr) → p ≡ null_ptr → unless_null (record { ptr = p }) ≡ None
+leads_to_null null_ptr e = refl
+leads_to_null (block_ptr b o) e = cc
 
 pub leads_there : (p : Ptr) → InBlock p → unless_null (record { ptr = p }) ≡ Some (record { ptr = p })
 leads_there null_ptr i = absurd i

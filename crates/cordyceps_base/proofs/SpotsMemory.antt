@@ -115,32 +115,32 @@ module _ {M : Type 1} {𝓤 : Ura M} (𝓛 : Logic 𝓤) (𝓜 : Model 𝓤 𝓛
             knows ! (same_ptr p n.0 ≡ false) (differ p n.0 x n.2) (λ here. move ! (0 ∷ 3 ∷ []) $ knows ! (IsNew p (box_addresses ns)) (new_in p x ns) (λ rest.
             by ! (fact_i 𝓤 (IsNew p (box_addresses (n ∷ ns))) _ (here, rest))))
 
-        row_apart : (ns : List (Ptr × Z × Y.Denot)) → ent 𝓤 (sem 𝓛 (Own ns)) (fact 𝓤 (AreDistinct (box_addresses ns)))
-        row_apart [] = fact_i 𝓤 (AreDistinct []) _ tt
-        row_apart (n ∷ ns) = qed 𝓛 (‵ (Own (n ∷ ns)) ∷ []) ∵ fsplit ! $ fsplit ! $ move ! (0 ∷ 2 ∷ []) $
-            knows ! (IsNew n.0 (box_addresses ns)) (new_in n.0 n.2 ns) (λ here. move ! (1 ∷ []) $ learns ! (AreDistinct (box_addresses ns)) (row_apart ns) (λ rest.
+        row_distinct : (ns : List (Ptr × Z × Y.Denot)) → ent 𝓤 (sem 𝓛 (Own ns)) (fact 𝓤 (AreDistinct (box_addresses ns)))
+        row_distinct [] = fact_i 𝓤 (AreDistinct []) _ tt
+        row_distinct (n ∷ ns) = qed 𝓛 (‵ (Own (n ∷ ns)) ∷ []) ∵ fsplit ! $ fsplit ! $ move ! (0 ∷ 2 ∷ []) $
+            knows ! (IsNew n.0 (box_addresses ns)) (new_in n.0 n.2 ns) (λ here. move ! (1 ∷ []) $ learns ! (AreDistinct (box_addresses ns)) (row_distinct ns) (λ rest.
             by ! (fact_i 𝓤 (AreDistinct (box_addresses (n ∷ ns))) _ (here, rest))))
 
     sized : {Z : Type 0} (holds : Z → Ty → Ptr → Fml) (ns : List (Ptr × Z × Y.Denot)) (s : ℕ) → s ≡ size (lone Y.mir) → ent 𝓤 (sem 𝓛 (boxes_own holds Y ns)) (fact 𝓤 (0 < s → AreDistinct (box_addresses ns)))
     sized holds ns zero e = fact_i 𝓤 (0 < 0 → AreDistinct (box_addresses ns)) _ (λ p. absurd (omega arith))
-    sized holds ns (suc s) e = via 𝓤 (fact 𝓤 (AreDistinct (box_addresses ns))) (row_apart (omega arith) holds ns) (fact_mono 𝓤 _ _ (λ a _. a))
+    sized holds ns (suc s) e = via 𝓤 (fact 𝓤 (AreDistinct (box_addresses ns))) (row_distinct (omega arith) holds ns) (fact_mono 𝓤 _ _ (λ a _. a))
 
-    pub apart_if_sized : {Z : Type 0} (holds : Z → Ty → Ptr → Fml) (ns : List (Ptr × Z × Y.Denot)) → ent 𝓤 (sem 𝓛 (boxes_own holds Y ns)) (fact 𝓤 (0 < size (lone Y.mir) → AreDistinct (box_addresses ns)))
-    apart_if_sized holds ns = sized holds ns (size (lone Y.mir)) refl
+    pub distinct_if_sized : {Z : Type 0} (holds : Z → Ty → Ptr → Fml) (ns : List (Ptr × Z × Y.Denot)) → ent 𝓤 (sem 𝓛 (boxes_own holds Y ns)) (fact 𝓤 (0 < size (lone Y.mir) → AreDistinct (box_addresses ns)))
+    distinct_if_sized holds ns = sized holds ns (size (lone Y.mir)) refl
 
 -- what `Global` may free is a block's start
 module _ {M : Type 1} {𝓤 : Ura M} (𝓛 : Logic 𝓤) (R : RattleType) where
   abbrev pub HeapRow : List (Ptr × Global × R.Denot) → Fml
   HeapRow = boxes_own heap_ghosts.dealloc_token R
 
-  pub row_tested : (ns : List (Ptr × Global × R.Denot)) → ent 𝓤 (sem 𝓛 (HeapRow ns)) (fact 𝓤 (AreNullComparable (box_addresses ns)))
-  row_tested [] = fact_i 𝓤 (AreNullComparable []) _ tt
-  row_tested (n ∷ ns) =
+  pub row_comparable : (ns : List (Ptr × Global × R.Denot)) → ent 𝓤 (sem 𝓛 (HeapRow ns)) (fact 𝓤 (AreNullComparable (box_addresses ns)))
+  row_comparable [] = fact_i 𝓤 (AreNullComparable []) _ tt
+  row_comparable (n ∷ ns) =
       let own : Fml = points_to R n.0 n.2 in let may : Fml = heap_ghosts.dealloc_token n.1 (bare (lone R.mir)) n.0 in
       qed 𝓛 (‵ (HeapRow (n ∷ ns)) ∷ []) ∵ fsplit ! $
       learns ! (InBlock n.0) (via 𝓤 (sem 𝓛 own) (fst∗ 𝓤 (sem 𝓛 own) (sem 𝓛 may)) (lies_in_block 𝓛 R full_share n.0 n.2)) (λ block.
       learns ! (Testable n.0) (via 𝓤 (sem 𝓛 may) (snd∗ 𝓤 (sem 𝓛 own) (sem 𝓛 may)) (dealloc_token-Testable 𝓛 n.1 (bare (lone R.mir)) n.0)) (λ test.
-      move ! (1 ∷ []) $ learns ! (AreNullComparable (box_addresses ns)) (row_tested ns) (λ rest. by ! (fact_i 𝓤 (AreNullComparable (box_addresses (n ∷ ns))) _ (block, test, rest)))))
+      move ! (1 ∷ []) $ learns ! (AreNullComparable (box_addresses ns)) (row_comparable ns) (λ rest. by ! (fact_i 𝓤 (AreNullComparable (box_addresses (n ∷ ns))) _ (block, test, rest)))))
 
   abbrev pub HeapBoxes : RattleType
   HeapBoxes = boxes.the_row R heap.the_row heap_ghosts

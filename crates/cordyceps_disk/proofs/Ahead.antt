@@ -9,7 +9,7 @@ use Rattle.cordyceps.specs.Spots.BySpot.{HasSpot, HoldsAt, IsTaken, IsFirst, IsL
 use Rattle.cordyceps.specs.Spots.Spots.{AreDistinct}
 use Rattle.cordyceps.proofs.Orders.Preorder.{by_test}
 use Rattle.cordyceps.proofs.Spots.Classes.{all_weaker}
-use Rattle.cordyceps.proofs.Spots.Holding.{lies_spot, unique}
+use Rattle.cordyceps.proofs.Spots.Holding.{spot_is_at, unique}
 use Rattle.cordyceps_disk.specs.declared.request.Waiting.{Waiting}
 use Rattle.cordyceps_disk.specs.Pairs.{Rises, ahead_of, sector_of}
 use Rattle.cordyceps_disk.specs.Queue.{put_by}
@@ -81,7 +81,7 @@ module _ {P : Type 0} where
       let at : n.0 ≡ p = cc in ([], n.1, c, (λ i. (at i, n.1) ∷ c), tt, above))
 
   pub found_spot : (h : ℕ) (c : Nodes (Waiting P)) (p : Ptr) → ahead_of h c ≡ Some p → HasSpot c p
-  found_spot h c p is = let (b, e, a, at, _, _) = found h c p is in lies_spot c p e (b, a, at)
+  found_spot h c p is = let (b, e, a, at, _, _) = found h c p is in spot_is_at c p e (b, a, at)
 
   -- none at or above
   pub none_found : (h : ℕ) (c : Nodes (Waiting P)) → ahead_of h c ≡ None → AllByRecursion (λ n. sector_of n < h) c
@@ -198,7 +198,7 @@ module _ {P : Type 0} where
 
   module _ (h : ℕ) (c : Nodes (Waiting P)) (at place : Ptr) (r : Option Ptr) (distinct : AreDistinct (spots c)) (rises : Rises sector_of c) (w : Walked h c at place r) where
     pub walk_there : HasSpot c place
-    walk_there = lies_spot c place w.here (w.front, w.behind, w.splits)
+    walk_there = spot_is_at c place w.here (w.front, w.behind, w.splits)
 
     -- the one before is at the sector too
     pub walk_goes : (q : Ptr) (v : Waiting P) → AreNext c q place → HoldsAt c q v → h ≤ v.request.sector → Walked h c at q (Some q)

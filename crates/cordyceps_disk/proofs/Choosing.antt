@@ -13,7 +13,7 @@ use Rattle.cordyceps_disk.specs.Pairs.{Paired, Rises, ahead_of, deadline_of, sec
 use Rattle.cordyceps_disk.specs.Queue.{Each, Any, IsNext, IsUrgent, element}
 use Rattle.cordyceps_disk.proofs.Ahead.{found, holds_value, none_found}
 use Rattle.cordyceps_disk.proofs.Ordered.{high}
-use Rattle.cordyceps_disk.proofs.Pairing.{join_waiting, lies_waiting}
+use Rattle.cordyceps_disk.proofs.Pairing.{join_waiting, waiting_is_at}
 
 abbrev head_or : {A : Type 0} → A → List A → A
 head_or z [] = z
@@ -62,7 +62,7 @@ module _ {P : Type 0} where
     t_is = first.2
 
     value_is : w ≡ k.value
-    value_is = holds_value t [] first.1 u k w was.tickets_apart t_is holds
+    value_is = holds_value t [] first.1 u k w was.tickets_distinct t_is holds
 
     -- the request of the first ticket
     owner : (q : Ptr) × (e : Element (Waiting P)) × HasElementAt c q e × (e.value.ticket ≡ u) × (k.value ≡ ticket_for q e)
@@ -86,7 +86,7 @@ module _ {P : Type 0} where
         let all : w ≡ ticket_for q e = value_is ∙ says in
         let dated : w.deadline ≡ e.value.request.deadline = ap (λ (x : Ticket). x.deadline) all in
         let r = e.value.request in
-        let there = lies_waiting c q e lies in
+        let there = waiting_is_at c q e lies in
         subst (λ o. MatchOption o (waiting_of c ≡ []) (λ p. (r : Request P) × IsNext now p r (seen c t h))) (sym (ap (λ (x : Ticket). x.request) all)) (
           r,
           record {
@@ -110,7 +110,7 @@ module _ {P : Type 0} where
           let r = e.value.request in (
             r,
             record {
-              lies = lies_waiting c p e (b, a, is);
+              lies = waiting_is_at c p e (b, a, is);
               urgent = not_late;
               upwards = λ each. record {
                 before = waiting_of b;
@@ -127,7 +127,7 @@ module _ {P : Type 0} where
           let r = e.value.request in (
             r,
             record {
-              lies = lies_waiting c p e ([], a, is);
+              lies = waiting_is_at c p e ([], a, is);
               urgent = not_late;
               upwards = λ each. record {
                 before = [];

@@ -7,7 +7,7 @@ use Rattle.cordyceps.specs.Elements.Nodes.{Nodes, spots}
 use Rattle.cordyceps.specs.Spots.Agreeing.{HasElementAt}
 use Rattle.cordyceps.specs.Spots.BySpot.{HasSpot, IsTaken}
 use Rattle.cordyceps.specs.Spots.Spots.{AreDistinct}
-use Rattle.cordyceps.proofs.Spots.Holding.{lies_spot}
+use Rattle.cordyceps.proofs.Spots.Holding.{spot_is_at}
 use Rattle.cordyceps_disk.specs.declared.request.Request.{Request}
 use Rattle.cordyceps_disk.specs.declared.request.Ticket.{Ticket}
 use Rattle.cordyceps_disk.specs.declared.request.Waiting.{Waiting}
@@ -15,14 +15,14 @@ use Rattle.cordyceps_disk.specs.Pairs.{Rises, due_of, sector_of, seen, waiting_o
 use Rattle.cordyceps_disk.specs.Queue.{HasLeft, IsNext, IsOut, Queue, element, put_by, submitted}
 use Rattle.cordyceps_disk.proofs.Ahead.{same_split}
 use Rattle.cordyceps_disk.proofs.Ordered.{put_taken}
-use Rattle.cordyceps_disk.proofs.Pairing.{apart_waiting, has_waiting, put_waiting, taken_waiting}
+use Rattle.cordyceps_disk.proofs.Pairing.{waiting_distinct, has_waiting, put_waiting, taken_waiting}
 
 module _ {P : Type 0} (q : Queue P) (c : Nodes (Waiting P)) (t : Nodes Ticket) (h : ℕ) (view : seen c t h ≡ q) where
   pub seen_spot : (p : Ptr) → HasSpot q.waiting p → HasSpot c p
   seen_spot p there = has_waiting c p (subst (λ (w : Queue P). HasSpot w.waiting p) (sym view) there)
 
-  pub seen_apart : AreDistinct (spots c) → AreDistinct (spots q.waiting)
-  seen_apart distinct = subst (λ (w : Queue P). AreDistinct (spots w.waiting)) view (apart_waiting c distinct)
+  pub seen_distinct : AreDistinct (spots c) → AreDistinct (spots q.waiting)
+  seen_distinct distinct = subst (λ (w : Queue P). AreDistinct (spots w.waiting)) view (waiting_distinct c distinct)
 
   -- one came in
   module _ (d : Nodes (Waiting P)) (s : Nodes Ticket) (p : Ptr) (r : Request P) (put : (e : Element (Waiting P)) × (e.value.request ≡ r) × (d ≡ put_by sector_of (p, e) c)) where
@@ -54,10 +54,10 @@ module _ {P : Type 0} (q : Queue P) (c : Nodes (Waiting P)) (t : Nodes Ticket) (
     seen_next now o distinct next =
         let (b, a, is) = next.lies in
         let (f, z, was) = subst (λ (w : Queue P). HasElementAt w.waiting p (element r)) view (gone.0, gone.1, gone.2) in
-        let same = same_split q.waiting b a f z p (element o) (element r) (seen_apart distinct) is was in
+        let same = same_split q.waiting b a f z p (element o) (element r) (seen_distinct distinct) is was in
         subst (λ x. IsNext now p x q) (ap (λ (e : Element (Request P)). e.value) same.1) next
 
 -- a request that is next waits
 pub next_there : {P : Type 0} (now : ℕ) (q : Queue P) (o : Option Ptr) → MatchOption o (q.waiting ≡ []) (λ p. (r : Request P) × IsNext now p r q) → IfSome o (λ p. HasSpot q.waiting p)
 next_there now q None none = tt
-next_there now q (Some p) (r, next) = lies_spot q.waiting p (element r) next.lies
+next_there now q (Some p) (r, next) = spot_is_at q.waiting p (element r) next.lies

@@ -50,7 +50,7 @@ module _ {P : Type 0} where
     pub by_sector : Rises sector_of c
     pub by_deadline : Rises deadline_of t
     pub distinct : AreDistinct (spots c)
-    pub tickets_apart : AreDistinct (spots t)
+    pub tickets_distinct : AreDistinct (spots t)
     pub length : length t ≡ length c
     pub ticket : (q : Ptr) (e : Element (Waiting P)) → HasElementAt c q e
         → (k : Element Ticket) × HasElementAt t e.value.ticket k

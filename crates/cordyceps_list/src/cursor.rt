@@ -22,7 +22,7 @@ use std::marker::Model;
 /// ```
 /// let mut cursor = jobs.cursor_front();
 /// let first = cursor.current()?;
-/// // behind the last job is the null place, where `current` returns `None`
+/// // after the last job is the null place, where `current` returns `None`
 /// cursor.move_next();
 /// let second = cursor.current()?;
 /// Some((first.rank, second.rank))

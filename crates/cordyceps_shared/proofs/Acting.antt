@@ -19,9 +19,9 @@ module _ {X : Type 0} where
   merged_since [] ys zs = refl
   merged_since (x ∷ xs) ys zs = λ i. (or_false x.0 i, x.1) ∷ merged_since xs ys zs i
 
-  apart_since : (xs ys zs : List (Bool × X)) → AreDisjoint (xs ++ ys) (without_marks xs ++ zs) → AreDisjoint ys zs
-  apart_since [] ys zs a = a
-  apart_since (x ∷ xs) ys zs a = apart_since xs ys zs a.1
+  disjoint_since : (xs ys zs : List (Bool × X)) → AreDisjoint (xs ++ ys) (without_marks xs ++ zs) → AreDisjoint ys zs
+  disjoint_since [] ys zs a = a
+  disjoint_since (x ∷ xs) ys zs a = disjoint_since xs ys zs a.1
 
   prefix_since : (xs ys zs : List (Bool × X)) → IsPrefixOf (plain (without_marks xs ++ ys)) (plain (xs ++ zs)) → IsPrefixOf (plain ys) (plain zs)
   prefix_since [] ys zs b = b
@@ -60,7 +60,7 @@ module _ {X : Type 0} (Legal : List X → Type 0) where
       let mine = a.rest in
       let theirs = b.rest in
       let both : merge_marks v.seen o.seen ≡ u.seen ++ merge_marks mine theirs = (λ i. merge_marks (a.is i) (b.is i)) ∙ merged_since u.seen mine theirs in
-      let apart = apart_since u.seen mine theirs (subst (λ (z : List (Bool × X) × List (Bool × X)). AreDisjoint z.0 z.1) (λ i. (a.is i, b.is i)) m.apart) in
+      let apart = disjoint_since u.seen mine theirs (subst (λ (z : List (Bool × X) × List (Bool × X)). AreDisjoint z.0 z.1) (λ i. (a.is i, b.is i)) m.apart) in
       let begun = prefix_since u.seen theirs (merge_marks mine theirs)
       (subst (λ (z : List (Bool × X) × List (Bool × X)). IsPrefixOf (plain z.0) (plain z.1)) (λ i. (b.is i, (m.seen ∙ both) i)) m.theirs) in
       let all = own (merge_marks mine theirs) in (

@@ -31,14 +31,14 @@ module _ {X : Type 0} where
   plain_unmarked (x ∷ xs) = ap (λ z. x.1 ∷ z) (plain_unmarked xs)
 
   -- what a party saw is a prefix of what it sees with another
-  pub merged_front : (xs ys : List (Bool × X)) → IsPrefixOf (plain xs) (plain (merge_marks xs ys))
-  merged_front [] ys = (plain ys, refl)
-  merged_front (x ∷ xs) [] = ([], sym (ap (λ z. x.1 ∷ z) (append_none (plain xs))))
+  pub merged_prefix : (xs ys : List (Bool × X)) → IsPrefixOf (plain xs) (plain (merge_marks xs ys))
+  merged_prefix [] ys = (plain ys, refl)
+  merged_prefix (x ∷ xs) [] = ([], sym (ap (λ z. x.1 ∷ z) (append_none (plain xs))))
     where
       append_none : (zs : List X) → zs ++ [] ≡ zs
       append_none [] = refl
       append_none (z ∷ zs) = ap (λ y. z ∷ y) (append_none zs)
-  merged_front (x ∷ xs) (y ∷ ys) = let t = merged_front xs ys in (t.0, ap (λ z. x.1 ∷ z) t.1)
+  merged_prefix (x ∷ xs) (y ∷ ys) = let t = merged_prefix xs ys in (t.0, ap (λ z. x.1 ∷ z) t.1)
 
   pub tail_own : (xs ys : List (Bool × X)) → AllOwn (xs ++ ys) → AllOwn ys
   tail_own [] ys a = a

@@ -24,10 +24,10 @@ module _ {X : Type 0} where
   fits_gone actor h a b apart = record { before = []; later = relabel a b h; is = refl; seen = refl; none = without_gone a b h apart; foreign = foreign_none actor (events (relabel a b h)); told = (events (relabel a b h), refl); short = omega arith; apart = tt }
 
   -- no event of one history is marked by two seats
-  marked_apart : (a b : ℕ) (xs us ys vs : List (ℕ × X)) → b ≢ a → xs ++ us ≡ ys ++ vs → AreDisjoint (with_marks a xs) (with_marks b ys)
-  marked_apart a b [] us ys vs n e = tt
-  marked_apart a b (x ∷ xs) us [] vs n e = tt
-  marked_apart a b (x ∷ xs) us (y ∷ ys) vs n e = (not_both, marked_apart a b xs us ys vs n (cc))
+  marked_disjoint : (a b : ℕ) (xs us ys vs : List (ℕ × X)) → b ≢ a → xs ++ us ≡ ys ++ vs → AreDisjoint (with_marks a xs) (with_marks b ys)
+  marked_disjoint a b [] us ys vs n e = tt
+  marked_disjoint a b (x ∷ xs) us [] vs n e = tt
+  marked_disjoint a b (x ∷ xs) us (y ∷ ys) vs n e = (not_both, marked_disjoint a b xs us ys vs n (cc))
     where
       same : x.0 ≡ y.0
       same = ap (λ (z : ℕ × X). z.0) (same_first x y (xs ++ us) (ys ++ vs) e)
@@ -54,7 +54,7 @@ module _ {X : Type 0} where
             (foreign_later actor k.share t.first.0 t.later fk.later t.first.1 fk.foreign) (foreign_later actor l.share t.second.0 t.later fl.later t.second.1 fl.foreign));
         told = (events fl.later, events_relabel a b h ∙ (ap events fl.is ∙ (events_append fl.before fl.later ∙ ap (λ z. z ++ events fl.later) (sym (ap plain fl.seen ∙ plain_marked b fl.before)))));
         short = omega (arith, t.long, ap (λ (z : List (Bool × X)). length z) fl.seen, ap (λ (z : List (Bool × X)). length z) seen, length_marked b fl.before, length_marked a (relabel a b t.before), length_relabel a b t.before);
-        apart = subst (λ (z : List (Bool × X) × List (Bool × X)). AreDisjoint z.0 z.1) (λ c. (sym fk.seen c, sym fl.seen c)) (marked_apart a b fk.before fk.later fl.before fl.later other (sym fk.is ∙ fl.is));
+        apart = subst (λ (z : List (Bool × X) × List (Bool × X)). AreDisjoint z.0 z.1) (λ c. (sym fk.seen c, sym fl.seen c)) (marked_disjoint a b fk.before fk.later fl.before fl.later other (sym fk.is ∙ fl.is));
       }
 
   fits_others : (actor : X → Name) (h : List (ℕ × X)) (a b i : ℕ) (k : Known X) → i ≢ a → i ≢ b → Agrees actor h i k → Agrees actor (relabel a b h) i k

@@ -157,10 +157,10 @@ module _ (long : ℕ) where
   clear_of n [] few = tt
   clear_of n (m ∷ ms) few = (not_prefix n m (λ x l. omega (arith, few x l)), not_prefix m n (λ x l. omega (arith, few x l)), clear_of n ms (λ x l. omega (arith, few x l)))
 
-  names_apart : (ns ms : List Name) → ((x : Name) → long ≤ length x → covers x ns + covers x ms ≤ 1) → NamesDisjoint ns ms
-  names_apart [] ms few = tt
-  names_apart (n ∷ ns) ms few = (clear_of n ms (λ x l. omega (arith, few x l)), names_apart ns ms (λ x l. omega (arith, few x l)))
+  names_distinct : (ns ms : List Name) → ((x : Name) → long ≤ length x → covers x ns + covers x ms ≤ 1) → NamesDisjoint ns ms
+  names_distinct [] ms few = tt
+  names_distinct (n ∷ ns) ms few = (clear_of n ms (λ x l. omega (arith, few x l)), names_distinct ns ms (λ x l. omega (arith, few x l)))
 
 -- shares had no name in common where what they became covers no long name twice
-pub joined_apart : (long : ℕ) (ns ms : List Name) → ((x : Name) → long ≤ length x → covers x (join_shares ns ms) ≤ 1) → NamesDisjoint ns ms
-joined_apart long ns ms once = names_apart (long + (letters ns + letters ms)) ns ms (λ x l. omega (arith, once x (omega arith), join_covers x ns ms (omega arith)))
+pub joined_disjoint : (long : ℕ) (ns ms : List Name) → ((x : Name) → long ≤ length x → covers x (join_shares ns ms) ≤ 1) → NamesDisjoint ns ms
+joined_disjoint long ns ms once = names_distinct (long + (letters ns + letters ms)) ns ms (λ x l. omega (arith, once x (omega arith), join_covers x ns ms (omega arith)))

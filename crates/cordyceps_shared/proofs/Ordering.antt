@@ -71,8 +71,8 @@ not_prefix_of_shorter (false ∷ bs) (true ∷ us) t e = refl
 abbrev AreDisjoint : Name → Name → Type 0
 AreDisjoint x n = (is_prefix x n ≡ false) × (is_prefix n x ≡ false)
 
-parent_apart : (x n m : Name) → is_pair n m ≡ true → AreDisjoint x n → AreDisjoint x m → AreDisjoint x (parent n)
-parent_apart x n m pair a b =
+parent_distinct : (x n m : Name) → is_pair n m ≡ true → AreDisjoint x n → AreDisjoint x m → AreDisjoint x (parent n)
+parent_distinct x n m pair a b =
     let t = pair_halves n m pair in
     let first : AreDisjoint x (parent n ++ false ∷ []) = subst (λ z. AreDisjoint x z) t.0 a in
     let second : AreDisjoint x (parent n ++ true ∷ []) = subst (λ z. AreDisjoint x z) t.1 b in
@@ -80,7 +80,7 @@ parent_apart x n m pair a b =
 
 placed_clear : (x n : Name) (ms : List Name) → AreDisjoint x n → Clear x ms → Clear x (combine_first n ms)
 placed_clear x n [] a c = (a.0, a.1, tt)
-placed_clear x n (m ∷ ms) a c = at_pair (is_pair n m) (λ e. placed_clear x (parent n) ms (parent_apart x n m e a (c.0, c.1)) c.2)
+placed_clear x n (m ∷ ms) a c = at_pair (is_pair n m) (λ e. placed_clear x (parent n) ms (parent_distinct x n m e a (c.0, c.1)) c.2)
   where
     at_pair : (b : Bool) → (b ≡ true → Clear x (combine_first (parent n) ms)) → Clear x (cond b (combine_first (parent n) ms) (n ∷ m ∷ ms))
     at_pair true more = more refl
@@ -184,7 +184,7 @@ parent_front p (m ∷ ms) c f = (sym (earlier_longer p m (false ∷ []) c.0) ∙
 
 parent_clear : (n m : Name) (ms : List Name) → is_pair n m ≡ true → Clear n ms → Clear m ms → Clear (parent n) ms
 parent_clear n m [] e c d = tt
-parent_clear n m (k ∷ ks) e c d = let t = parent_apart k n m e (c.1, c.0) (d.1, d.0) in (t.1, t.0, parent_clear n m ks e c.2 d.2)
+parent_clear n m (k ∷ ks) e c d = let t = parent_distinct k n m e (c.1, c.0) (d.1, d.0) in (t.1, t.0, parent_clear n m ks e c.2 d.2)
 
 placed_order : (n : Name) (ms : List Name) → InOrder (n ∷ ms) → InOrder (combine_first n ms)
 placed_order n [] o = o
@@ -199,7 +199,7 @@ placed_order n (m ∷ ms) o = at_pair (is_pair n m) (λ e.
 placed_front : (x n : Name) (ms : List Name) → AreDisjoint x n → Clear x ms → earlier x n ≡ true → IsBefore x ms → IsBefore x (combine_first n ms)
 placed_front x n [] a c e f = (e, tt)
 placed_front x n (m ∷ ms) a c e f = at_pair (is_pair n m) (λ pair.
-    let up = parent_apart x n m pair a (c.0, c.1) in
+    let up = parent_distinct x n m pair a (c.0, c.1) in
     placed_front x (parent n) ms up c.2 (earlier_shorter x (parent n) (false ∷ []) up.0 up.1 (subst (λ z. earlier x z ≡ true) (pair_halves n m pair).0 e)) f.1)
   where
     earlier_shorter : (x p t : Name) → is_prefix x p ≡ false → is_prefix p x ≡ false → earlier x (p ++ t) ≡ true → earlier x p ≡ true

@@ -41,9 +41,9 @@ module _ {X : Type 0} where
   all_own j [] others = tt
   all_own j (x ∷ xs) others = (dite (ℕ_discrete x.0 j) (λ e. eq-eqb x.0 j e) (λ n. absurd ((others x.0 n).0 refl)), all_own j xs (λ i n. (others i n).1))
 
-  apart_none : (xs : List (Bool × X)) → AreDisjoint xs []
-  apart_none [] = tt
-  apart_none (x ∷ xs) = tt
+  disjoint_none : (xs : List (Bool × X)) → AreDisjoint xs []
+  disjoint_none [] = tt
+  disjoint_none (x ∷ xs) = tt
 
 module _ {X : Type 0} (actor : X → Name) where
   -- ---- events that carry no name of a share
@@ -147,7 +147,7 @@ module _ {X V : Type 0} (actor : X → Name) (knows : V → Known X) where
   fits_forgot views h j v w at share seen told fits =
       let f = fits j v at in
       let b = ap (λ (z : List (Bool × X)). length z) told in
-      fits_set views h j w record { before = f.before; later = f.later; is = f.is; seen = seen ∙ f.seen; none = f.none; foreign = subst (λ z. Foreign actor z (events f.later)) (sym share) f.foreign; told = (events h, ap (λ z. plain z ++ events h) (sym told)); short = omega arith; apart = subst (λ z. AreDisjoint (knows w).had z) (sym told) (apart_none (knows w).had) } (λ i u _. fits i u)
+      fits_set views h j w record { before = f.before; later = f.later; is = f.is; seen = seen ∙ f.seen; none = f.none; foreign = subst (λ z. Foreign actor z (events f.later)) (sym share) f.foreign; told = (events h, ap (λ z. plain z ++ events h) (sym told)); short = omega arith; apart = subst (λ z. AreDisjoint (knows w).had z) (sym told) (disjoint_none (knows w).had) } (λ i u _. fits i u)
 
 module _ {X V : Type 0} (knows : V → Known X) where
   pub owned_more : (views : List V) (h : List (ℕ × X)) (j : ℕ) (es : List X) (v w : V) → get_elem? views j ≡ some v → (knows w).share ≡ (knows v).share → (knows v).share ≢ [] → SharesDisjoint knows views h → SharesDisjoint knows (set views j w) (h ++ of_seat j es)

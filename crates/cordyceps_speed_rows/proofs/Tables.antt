@@ -10,7 +10,7 @@ use Rattle.cordyceps_base.specs.Nodes.{Nodes, spots}
 use Rattle.cordyceps_base.specs.Spots.{AreDistinct}
 use Rattle.cordyceps_stable.specs.Agreeing.{HasElementAt, Agrees, IsUpdated}
 use Rattle.cordyceps_stable.proofs.Agreeing.{taken_agrees}
-use Rattle.cordyceps_stable.proofs.Holding.{first_taken, left_lies, taken_or_left}
+use Rattle.cordyceps_stable.proofs.Holding.{first_taken, left_is_at, taken_or_left}
 use Rattle.cordyceps_speed_rows.specs.Tables.{spot_of}
 
 -- a place was written
@@ -39,11 +39,11 @@ module _ {X : Type 0} where
     mapped : (k : ℕ) (q : Ptr) → f k ≡ Some q → (o : Element X) × (o.id ≡ k) × HasElementAt d q o
     mapped k q at = let (o, key, lies) = was.mapped k q at in elim (taken_or_left c rest p q e o from lies) as (λ _. (x : Element X) × (x.id ≡ k) × HasElementAt d q x) [
       | inl here ↦ (w, sym same ∙ ap (λ (x : Element X). x.id) (sym here.1) ∙ key, subst (λ s. HasElementAt d s w) (sym here.0) (to.0, to.1, to.2))
-      | inr on ↦ (o, key, left_lies d rest p q w o to on)
+      | inr on ↦ (o, key, left_is_at d rest p q w o to on)
     ]
 
     listed : (q : Ptr) (o : Element X) → HasElementAt d q o → f o.id ≡ Some q
     listed q o lies = elim (taken_or_left d rest p q w o to lies) as (λ _. f o.id ≡ Some q) [
       | inl here ↦ ap (λ (x : Element X). f x.id) here.1 ∙ ap f (sym same) ∙ was.listed p e (from.0, from.1, from.2) ∙ ap Some (sym here.0)
-      | inr on ↦ was.listed q o (left_lies c rest p q e o from on)
+      | inr on ↦ was.listed q o (left_is_at c rest p q e o from on)
     ]

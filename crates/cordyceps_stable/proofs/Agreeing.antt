@@ -10,7 +10,7 @@ use Rattle.cordyceps_base.specs.Nodes.{Nodes, spots, with_item}
 use Rattle.cordyceps_base.specs.Spots.{AreDistinct}
 use Rattle.cordyceps_base.proofs.Places.{spots-with_item}
 use Rattle.cordyceps_stable.specs.Agreeing.{HasElementAt, Agrees, IsUpdated}
-use Rattle.cordyceps_stable.proofs.Holding.{lies_spot, unique, taken_gone, left_lies, taken_or_left, first_taken, last_taken, moved_lies, joined_lies, front_lies, back_lies, written_lies, written_lay}
+use Rattle.cordyceps_stable.proofs.Holding.{spot_is_at, unique, taken_gone, left_is_at, taken_or_left, first_taken, last_taken, moved_is_at, joined_is_at, front_is_at, back_is_at, written_lies, written_lay}
 
 abbrev spot_or : Ptr → Option Ptr → Ptr
 spot_or q None = q
@@ -29,7 +29,7 @@ either_way f g k w up q = (elim (eqb k q) as (λ b. eqb k q ≡ b → g q ≡ co
 module _ {X : Type 0} where
   -- the map's answer may be handed to `remove`
   pub answer_spot : (f : ℕ → Option Ptr) (c : Nodes X) → Agrees f c → (k : ℕ) (p : Ptr) → f k ≡ Some p → HasSpot c p
-  answer_spot f c g k p e = let (x, _, lies) = g.mapped k p e in lies_spot c p x lies
+  answer_spot f c g k p e = let (x, _, lies) = g.mapped k p e in spot_is_at c p x lies
 
   -- what `remove` answers at the map's spot for k is the element with the number k
   pub removes_key : (f : ℕ → Option Ptr) (c : Nodes X) → Agrees f c → (k : ℕ) (p : Ptr) → f k ≡ Some p → (e : Element X) (d : Nodes X) → IsTaken c p e d → e.id ≡ k
@@ -47,12 +47,12 @@ module _ {X : Type 0} where
   empty_agrees f c none is =
       record {
         mapped = λ k p at. absurd (none_some (f k) p (none k) at);
-        listed = λ q e lies. absurd (no_lies lies.0 lies.1 q e (sym is ∙ lies.2));
+        listed = λ q e lies. absurd (none_is_at lies.0 lies.1 q e (sym is ∙ lies.2));
         distinct = subst (λ s. AreDistinct (spots s)) (sym is) tt;
       } where
-        no_lies : (b a : Nodes X) (q : Ptr) (e : Element X) → [] ≡ b ++ (q, e) ∷ a → ⊥
-        no_lies [] a q e is = cc
-        no_lies (x ∷ b) a q e is = cc
+        none_is_at : (b a : Nodes X) (q : Ptr) (e : Element X) → [] ≡ b ++ (q, e) ∷ a → ⊥
+        none_is_at [] a q e is = cc
+        none_is_at (x ∷ b) a q e is = cc
 
   -- an element was put in, of a number that the map did not know: `first_taken` and its like tell which
   pub put_agrees : (f g : ℕ → Option Ptr) (c d : Nodes X) (p : Ptr) (e : Element X) → Agrees f c → f e.id ≡ None → IsUpdated f e.id (Some p) g → IsTaken d p e c → AreDistinct (spots d) → Agrees g d
@@ -60,7 +60,7 @@ module _ {X : Type 0} where
     mapped : (k : ℕ) (q : Ptr) → g k ≡ Some q → (o : Element X) × (o.id ≡ k) × HasElementAt d q o
     mapped k q at = elim (either_way f g e.id (Some p) up k) as (λ _. (o : Element X) × (o.id ≡ k) × HasElementAt d q o) [
       | inl here ↦ let same : p ≡ q = ap (spot_or p) (sym here.1 ∙ at) in (e, sym here.0, (t.0, t.1, t.2 ∙ ap (λ s. t.0 ++ (s, e) ∷ t.1) same))
-      | inr other ↦ let (o, key, lies) = was.mapped k q (sym other.1 ∙ at) in (o, key, left_lies d c p q e o t lies)
+      | inr other ↦ let (o, key, lies) = was.mapped k q (sym other.1 ∙ at) in (o, key, left_is_at d c p q e o t lies)
     ]
 
     listed : (q : Ptr) (o : Element X) → HasElementAt d q o → g o.id ≡ Some q
@@ -85,10 +85,10 @@ module _ {X : Type 0} where
     ]
 
     listed : (q : Ptr) (o : Element X) → HasElementAt d q o → g o.id ≡ Some q
-    listed q o lies = let before = left_lies c d p q e o t lies in elim (either_way f g e.id None up o.id) as (λ _. g o.id ≡ Some q) [
+    listed q o lies = let before = left_is_at c d p q e o t lies in elim (either_way f g e.id None up o.id) as (λ _. g o.id ≡ Some q) [
       | inl here ↦
           let same : q ≡ p = keys_differ f c was q p o e before (t.0, t.1, t.2) here.0 in
-          absurd (taken_gone c d p e was.distinct t (lies_spot d p o (subst (λ s. HasElementAt d s o) same lies)))
+          absurd (taken_gone c d p e was.distinct t (spot_is_at d p o (subst (λ s. HasElementAt d s o) same lies)))
       | inr other ↦ other.1 ∙ was.listed q o before
     ]
 
@@ -100,8 +100,8 @@ module _ {X : Type 0} where
   kept_agrees : (f : ℕ → Option Ptr) (c d rest : Nodes X) (p : Ptr) (e : Element X) → Agrees f c → IsTaken c p e rest → IsTaken d p e rest → AreDistinct (spots d) → Agrees f d
   kept_agrees f c d rest p e was from to distinct =
       record {
-        mapped = λ k q at. let (o, key, lies) = was.mapped k q at in (o, key, moved_lies c d rest p q e o from to lies);
-        listed = λ q o lies. was.listed q o (moved_lies d c rest p q e o to from lies);
+        mapped = λ k q at. let (o, key, lies) = was.mapped k q at in (o, key, moved_is_at c d rest p q e o from to lies);
+        listed = λ q o lies. was.listed q o (moved_is_at d c rest p q e o to from lies);
         distinct = distinct;
       }
 
@@ -125,12 +125,12 @@ module _ {X : Type 0} where
   joined_agrees f g h c d one two disjoint both distinct = record { mapped = mapped; listed = listed; distinct = distinct } where
     mapped : (k : ℕ) (q : Ptr) → h k ≡ Some q → (o : Element X) × (o.id ≡ k) × HasElementAt (c ++ d) q o
     mapped k q at = (elim (f k) as (λ w. f k ≡ w → h k ≡ option_or w (g k) → (o : Element X) × (o.id ≡ k) × HasElementAt (c ++ d) q o) [
-      | None ↦ λ none is. let (o, key, lies) = two.mapped k q (sym is ∙ at) in (o, key, back_lies c d q o lies)
-      | Some p ↦ λ some is. let (o, key, lies) = one.mapped k q (some ∙ sym is ∙ at) in (o, key, front_lies c d q o lies)
+      | None ↦ λ none is. let (o, key, lies) = two.mapped k q (sym is ∙ at) in (o, key, back_is_at c d q o lies)
+      | Some p ↦ λ some is. let (o, key, lies) = one.mapped k q (some ∙ sym is ∙ at) in (o, key, front_is_at c d q o lies)
     ]) refl (both k)
 
     listed : (q : Ptr) (o : Element X) → HasElementAt (c ++ d) q o → h o.id ≡ Some q
-    listed q o lies = elim (joined_lies c d q o lies) as (λ _. h o.id ≡ Some q) [
+    listed q o lies = elim (joined_is_at c d q o lies) as (λ _. h o.id ≡ Some q) [
       | inl on ↦ both o.id ∙ ap (λ w. option_or w (g o.id)) (one.listed q o on)
       | inr on ↦ let known = two.listed q o on in elim (disjoint o.id) as (λ _. h o.id ≡ Some q) [
         | inl none ↦ both o.id ∙ ap (λ w. option_or w (g o.id)) none ∙ known

@@ -27,8 +27,8 @@ module _ {X : Type 0} where
   spot_at [] a q e = refl
   spot_at (x ∷ b) a q e = spot_at b a q e
 
-  pub lies_spot : (c : Nodes X) (p : Ptr) (e : Element X) → HasElementAt c p e → HasSpot c p
-  lies_spot c p e (b, a, is) = (length b, subst (λ d. slice_get (spots d) (length b) ≡ Some p) (sym is) (spot_at b a p e))
+  pub spot_is_at : (c : Nodes X) (p : Ptr) (e : Element X) → HasElementAt c p e → HasSpot c p
+  spot_is_at c p e (b, a, is) = (length b, subst (λ d. slice_get (spots d) (length b) ≡ Some p) (sym is) (spot_at b a p e))
 
   not_new : (p : Ptr) (b a : Nodes X) (e : Element X) → IsNew p (spots (b ++ (p, e) ∷ a)) → ⊥
   not_new p [] a e n = let no = n.0 in let yes = same_ptr_refl p in cc
@@ -65,8 +65,8 @@ module _ {X : Type 0} where
   taken_gone c d p e distinct (b, a, is, left) (k, at) = new_part p b a e (subst (λ s. AreDistinct (spots s)) is distinct) k (subst (λ s. slice_get (spots s) k ≡ Some p) left at)
 
   -- what lies in the list without an element lies there with it
-  pub left_lies : (c d : Nodes X) (p q : Ptr) (e o : Element X) → IsTaken c p e d → HasElementAt d q o → HasElementAt c q o
-  left_lies c d p q e o (b, a, is, left) (b', a', lies) = let on = go b a b' a' (sym left ∙ lies) in (on.0, on.1, is ∙ on.2) where
+  pub left_is_at : (c d : Nodes X) (p q : Ptr) (e o : Element X) → IsTaken c p e d → HasElementAt d q o → HasElementAt c q o
+  left_is_at c d p q e o (b, a, is, left) (b', a', lies) = let on = go b a b' a' (sym left ∙ lies) in (on.0, on.1, is ∙ on.2) where
     go : (b a b' a' : Nodes X) → b ++ a ≡ b' ++ (q, o) ∷ a' → HasElementAt (b ++ (p, e) ∷ a) q o
     go [] a b' a' is = ((p, e) ∷ b', a', ap (λ s. (p, e) ∷ s) is)
     go (x ∷ b) a [] a' is = ([], b ++ (p, e) ∷ a, ap (λ s. head_or x s ∷ b ++ (p, e) ∷ a) is)
@@ -85,33 +85,33 @@ module _ {X : Type 0} where
     ]
 
   -- after a removal all others lie where they lay
-  pub others_lie : (c d : Nodes X) (p q : Ptr) (e o : Element X) → IsTaken c p e d → HasElementAt c q o → (q ≡ p → ⊥) → HasElementAt d q o
-  others_lie c d p q e o t lies other = elim (taken_or_left c d p q e o t lies) as (λ _. HasElementAt d q o) [
+  pub others_are_at : (c d : Nodes X) (p q : Ptr) (e o : Element X) → IsTaken c p e d → HasElementAt c q o → (q ≡ p → ⊥) → HasElementAt d q o
+  others_are_at c d p q e o t lies other = elim (taken_or_left c d p q e o t lies) as (λ _. HasElementAt d q o) [
     | inl same ↦ absurd (other same.0)
     | inr on ↦ on
   ]
 
   -- two lists that are the same without the element at a spot hold the same, as before and after a move
-  pub moved_lies : (c d rest : Nodes X) (p q : Ptr) (e o : Element X) → IsTaken c p e rest → IsTaken d p e rest → HasElementAt c q o → HasElementAt d q o
-  moved_lies c d rest p q e o was is lies = elim (taken_or_left c rest p q e o was lies) as (λ _. HasElementAt d q o) [
+  pub moved_is_at : (c d rest : Nodes X) (p q : Ptr) (e o : Element X) → IsTaken c p e rest → IsTaken d p e rest → HasElementAt c q o → HasElementAt d q o
+  moved_is_at c d rest p q e o was is lies = elim (taken_or_left c rest p q e o was lies) as (λ _. HasElementAt d q o) [
     | inl same ↦ let at = sym same.0 in let of = sym same.1 in (is.0, is.1, is.2 ∙ (λ i. is.0 ++ (at i, of i) ∷ is.1))
-    | inr on ↦ left_lies d rest p q e o is on
+    | inr on ↦ left_is_at d rest p q e o is on
   ]
 
   -- what lies in two lists that were joined lies in one of them
-  pub joined_lies : (c d : Nodes X) (q : Ptr) (o : Element X) → HasElementAt (c ++ d) q o → HasElementAt c q o ⊎ HasElementAt d q o
-  joined_lies [] d q o lies = inr lies
-  joined_lies (x ∷ c) d q o ([], a, is) = inl ([], c, ap (λ s. head_or x s ∷ c) is)
-  joined_lies (x ∷ c) d q o (y ∷ b, a, is) = elim (joined_lies c d q o (b, a, ap rest_of is)) as (λ _. HasElementAt (x ∷ c) q o ⊎ HasElementAt d q o) [
+  pub joined_is_at : (c d : Nodes X) (q : Ptr) (o : Element X) → HasElementAt (c ++ d) q o → HasElementAt c q o ⊎ HasElementAt d q o
+  joined_is_at [] d q o lies = inr lies
+  joined_is_at (x ∷ c) d q o ([], a, is) = inl ([], c, ap (λ s. head_or x s ∷ c) is)
+  joined_is_at (x ∷ c) d q o (y ∷ b, a, is) = elim (joined_is_at c d q o (b, a, ap rest_of is)) as (λ _. HasElementAt (x ∷ c) q o ⊎ HasElementAt d q o) [
     | inl on ↦ inl (x ∷ on.0, on.1, ap (λ s. x ∷ s) on.2)
     | inr on ↦ inr on
   ]
 
-  pub front_lies : (c d : Nodes X) (q : Ptr) (o : Element X) → HasElementAt c q o → HasElementAt (c ++ d) q o
-  front_lies c d q o (b, a, is) = (b, a ++ d, ap (λ s. s ++ d) is ∙ append_assoc b ((q, o) ∷ a) d)
+  pub front_is_at : (c d : Nodes X) (q : Ptr) (o : Element X) → HasElementAt c q o → HasElementAt (c ++ d) q o
+  front_is_at c d q o (b, a, is) = (b, a ++ d, ap (λ s. s ++ d) is ∙ append_assoc b ((q, o) ∷ a) d)
 
-  pub back_lies : (c d : Nodes X) (q : Ptr) (o : Element X) → HasElementAt d q o → HasElementAt (c ++ d) q o
-  back_lies c d q o (b, a, is) = (c ++ b, a, ap (λ s. c ++ s) is ∙ sym (append_assoc c b ((q, o) ∷ a)))
+  pub back_is_at : (c d : Nodes X) (q : Ptr) (o : Element X) → HasElementAt d q o → HasElementAt (c ++ d) q o
+  back_is_at c d q o (b, a, is) = (c ++ b, a, ap (λ s. c ++ s) is ∙ sym (append_assoc c b ((q, o) ∷ a)))
 
   -- a value that was written changes no number and no spot
   pub written_lies : (c : Nodes X) (k : ℕ) (w : X) (q : Ptr) (e : Element X) → HasElementAt c q e → (o : Element X) × (o.id ≡ e.id) × HasElementAt (with_item c k w) q o

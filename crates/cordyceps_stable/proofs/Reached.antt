@@ -6,24 +6,24 @@ use Rattle.cordyceps_base.specs.BySpot.{HasSpot, IsTaken, IsPutBefore, IsPutAfte
 use Rattle.cordyceps_base.specs.Nodes.{Nodes}
 use Rattle.cordyceps_base.specs.Element.{Element}
 use Rattle.cordyceps_stable.specs.Walk.{IsOn, IsBack}
-use Rattle.cordyceps_stable.proofs.Holding.{lies_spot, before_taken, after_taken}
+use Rattle.cordyceps_stable.proofs.Holding.{spot_is_at, before_taken, after_taken}
 
 module _ {X : Type 0} where
   pub first_has : (c : Nodes X) (p : Ptr) → IsFirst c p → HasSpot c p
-  first_has c p (e, after, is) = lies_spot c p e ([], after, is)
+  first_has c p (e, after, is) = spot_is_at c p e ([], after, is)
 
   pub last_has : (c : Nodes X) (p : Ptr) → IsLast c p → HasSpot c p
-  last_has c p (before, e, is) = lies_spot c p e (before, [], is)
+  last_has c p (before, e, is) = spot_is_at c p e (before, [], is)
 
   pub next_has : (c : Nodes X) (p q : Ptr) → AreNext c p q → HasSpot c q
-  next_has c p q (b, e, o, a, is) = lies_spot c q o (b ++ (p, e) ∷ [], a, is ∙ sym (append_assoc b ((p, e) ∷ []) ((q, o) ∷ a)))
+  next_has c p q (b, e, o, a, is) = spot_is_at c q o (b ++ (p, e) ∷ [], a, is ∙ sym (append_assoc b ((p, e) ∷ []) ((q, o) ∷ a)))
 
   pub prev_has : (c : Nodes X) (p q : Ptr) → AreNext c p q → HasSpot c p
-  prev_has c p q (b, e, o, a, is) = lies_spot c p e (b, (q, o) ∷ a, is)
+  prev_has c p q (b, e, o, a, is) = spot_is_at c p e (b, (q, o) ∷ a, is)
 
   -- the first spot of a list whose elements were put after those of another
   pub joined_first : (c d n : Nodes X) (p : Ptr) → n ≡ c ++ d → IsFirst d p → HasSpot n p
-  joined_first c d n p joined (e, after, is) = lies_spot n p e (c, after, joined ∙ ap (λ s. c ++ s) is)
+  joined_first c d n p joined (e, after, is) = spot_is_at n p e (c, after, joined ∙ ap (λ s. c ++ s) is)
 
   pub joined_spot : (c d n : Nodes X) (o : Option Ptr) → n ≡ c ++ d → MatchOption o (d ≡ []) (λ p. IsFirst d p) → IfSome o (λ p. HasSpot n p)
   joined_spot c d n None joined h = tt
@@ -43,17 +43,17 @@ module _ {X : Type 0} where
 
   -- where an element was inserted, as what `others` of a sorted list says
   pub taken_has : (c d : Nodes X) (p : Ptr) (e : Element X) → IsTaken c p e d → HasSpot c p
-  taken_has c d p e (before, after, is, _) = lies_spot c p e (before, after, is)
+  taken_has c d p e (before, after, is, _) = spot_is_at c p e (before, after, is)
 
   -- where an element was put in, or moved to
   pub put_before_has : (c d : Nodes X) (p q : Ptr) (e : Element X) → IsPutBefore c p q e d → HasSpot d q
-  put_before_has c d p q e put = let t = before_taken d c p q e put in lies_spot d q e (t.0, t.1, t.2)
+  put_before_has c d p q e put = let t = before_taken d c p q e put in spot_is_at d q e (t.0, t.1, t.2)
 
   pub put_after_has : (c d : Nodes X) (p q : Ptr) (e : Element X) → IsPutAfter c p q e d → HasSpot d q
-  put_after_has c d p q e put = let t = after_taken d c p q e put in lies_spot d q e (t.0, t.1, t.2)
+  put_after_has c d p q e put = let t = after_taken d c p q e put in spot_is_at d q e (t.0, t.1, t.2)
 
   pub moved_back_has : (c d : Nodes X) (p : Ptr) → IsMovedBack c p d → HasSpot d p
-  moved_back_has c d p (e, rest, taken, is) = lies_spot d p e (rest, [], is)
+  moved_back_has c d p (e, rest, taken, is) = spot_is_at d p e (rest, [], is)
 
   -- where a cursor comes to
   pub on_has : (c : Nodes X) (o r : Option Ptr) → IsOn c o r → IfSome r (λ q. HasSpot c q)

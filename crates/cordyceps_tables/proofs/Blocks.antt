@@ -57,12 +57,12 @@ pub record Cuts (old new : CursorMut Item) (gone : Elements Item) (cut : Spot ×
   pub stands : Stands old new cut.0.0 cut.0.1
   pub cut_off : gone ≡ cut.1
 
-pub cuts_behind : (old new : CursorMut Item) (gone : Elements Item) → place old ≤ length (elements old) →
+pub cuts_after : (old new : CursorMut Item) (gone : Elements Item) → place old ≤ length (elements old) →
     (place old < length (elements old) → gone ≡ drop (place old + 1) (elements old)) →
     (place old < length (elements old) → Stands old new (take (place old + 1) (elements old)) (place old)) →
     (place old ≡ length (elements old) → gone ≡ elements old) → (place old ≡ length (elements old) → Stands old new [] 0) →
     Cuts old new gone (cut_after (elements old) (place old))
-cuts_behind old new gone within inside inside_stands null null_stands = elim (cases_lt (place old) (length (elements old))) [
+cuts_after old new gone within inside inside_stands null null_stands = elim (cases_lt (place old) (length (elements old))) [
   | inl lt ↦
       let is : nat_lt (place old) (length (elements old)) ≡ true = grind (arith, nat_tests) in
       rw is (record { stands = inside_stands lt; cut_off = inside lt })
@@ -72,11 +72,11 @@ cuts_behind old new gone within inside inside_stands null null_stands = elim (ca
       rw is (record { stands = null_stands at_end; cut_off = null at_end })
 ]
 
-pub stands_behind : (old new : CursorMut Item) (more : Elements Item) → place old ≤ length (elements old) →
+pub is_after : (old new : CursorMut Item) (more : Elements Item) → place old ≤ length (elements old) →
     (place old < length (elements old) → Stands old new (take (place old + 1) (elements old) ++ more ++ drop (place old + 1) (elements old)) (place old)) →
     (place old ≡ length (elements old) → Stands old new (more ++ elements old) (length (elements old) + length more)) →
     Stands old new (put_after (elements old) (place old) more).0 (put_after (elements old) (place old) more).1
-stands_behind old new more within inside null = elim (cases_lt (place old) (length (elements old))) [
+is_after old new more within inside null = elim (cases_lt (place old) (length (elements old))) [
   | inl lt ↦
       let is : nat_lt (place old) (length (elements old)) ≡ true = grind (arith, nat_tests) in
       rw is (inside lt)

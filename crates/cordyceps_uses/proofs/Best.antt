@@ -11,7 +11,7 @@ use Rattle.cordyceps.specs.Spots.BySpot.{HasSpot, HoldsAt, IsTaken, IsFirst}
 use Rattle.cordyceps.specs.Spots.Spots.{AreDistinct}
 use Rattle.cordyceps.specs.Spots.Walk.{IsOn}
 use Rattle.cordyceps.proofs.Spots.Classes.{all_append, all_weaker}
-use Rattle.cordyceps.proofs.Spots.Holding.{lies_spot, unique}
+use Rattle.cordyceps.proofs.Spots.Holding.{spot_is_at, unique}
 
 module _ {X : Type 0} (rank : X → ℕ) where
   abbrev pub AllAbove : ℕ → Nodes X → Type 0
@@ -141,7 +141,7 @@ module _ {X : Type 0} (rank : X → ℕ) where
       }
 
   pub best_has : (c : Nodes X) (at : Option Ptr) (best : Ptr) → IsBest c at best → HasSpot c best
-  best_has c at best b = lies_spot c best b.found (b.front, b.passed ++ b.left, b.parts)
+  best_has c at best b = spot_is_at c best b.found (b.front, b.passed ++ b.left, b.parts)
 
   pub here_has : (c : Nodes X) (p best : Ptr) → IsBest c (Some p) best → HasSpot c p
-  here_has c p best b = let at = there c p best b in lies_spot c p at.0 (b.front ++ (best, b.found) ∷ b.passed, at.1, at.2 ∙ before_it b.front b.passed at.1 (best, b.found) (p, at.0))
+  here_has c p best b = let at = there c p best b in spot_is_at c p at.0 (b.front ++ (best, b.found) ∷ b.passed, at.1, at.2 ∙ before_it b.front b.passed at.1 (best, b.found) (p, at.0))

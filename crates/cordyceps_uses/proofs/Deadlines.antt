@@ -66,9 +66,9 @@ module _ {P : Type 0} where
   keeps_order s a h = in_order s (ascends_from_sorted (precedes by_deadline) (ranks lawful (λ n. n.1.value)) s h.in_order)
 
   -- ---- where one more is put
-  low_behind : (v : Timer P) (x : Ptr × Element (Timer P)) (front : Nodes (Timer P)) → is_lt (by_deadline v x.1.value) ≡ false → LastNotGreater by_deadline v front → LastNotGreater by_deadline v (x ∷ front)
-  low_behind v x [] f low = f
-  low_behind v x (y ∷ front) f low = low
+  low_after : (v : Timer P) (x : Ptr × Element (Timer P)) (front : Nodes (Timer P)) → is_lt (by_deadline v x.1.value) ≡ false → LastNotGreater by_deadline v front → LastNotGreater by_deadline v (x ∷ front)
+  low_after v x [] f low = f
+  low_after v x (y ∷ front) f low = low
 
   all_greater : (v : Timer P) (x : Ptr × Element (Timer P)) (s : Nodes (Timer P)) → v.deadline < x.1.value.deadline → InOrder (x ∷ s) → AllGreater by_deadline v (x ∷ s)
   all_greater v x s less h = (
@@ -90,7 +90,7 @@ module _ {P : Type 0} where
       (λ y. ([], x ∷ s, refl, ap put y, tt, all_greater t.value x s (ltb-true t.value.deadline x.1.value.deadline y) h))
       (λ n.
       let on = split q t s h.1 in
-      (x ∷ on.0, on.1, ap (λ l. x ∷ l) on.2, ap put n ∙ ap (λ l. x ∷ l) on.3, low_behind t.value x on.0 (lt_is t.value.deadline x.1.value.deadline ∙ n) on.4, on.5))
+      (x ∷ on.0, on.1, ap (λ l. x ∷ l) on.2, ap put n ∙ ap (λ l. x ∷ l) on.3, low_after t.value x on.0 (lt_is t.value.deadline x.1.value.deadline ∙ n) on.4, on.5))
 
   -- what stands for timers in order and one more is that started
   pub is_started : (s n : Nodes (Timer P)) (q : Ptr) (t : Element (Timer P)) → InOrder s → Arranges by_deadline n (s ++ (q, t) ∷ []) → n ≡ started q t s

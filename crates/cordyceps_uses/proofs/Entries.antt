@@ -10,7 +10,7 @@ use Rattle.cordyceps.specs.Spots.Spots.{index_of}
 use Rattle.cordyceps.proofs.Spots.{same_ptr_refl}
 use Rattle.cordyceps.specs.Spots.Agreeing.{HasElementAt, Agrees, IsUpdated}
 use Rattle.cordyceps.proofs.Spots.Agreeing.{removes_key, keys_differ}
-use Rattle.cordyceps.proofs.Spots.Holding.{lies_spot, front_lies, taken_gone}
+use Rattle.cordyceps.proofs.Spots.Holding.{spot_is_at, front_is_at, taken_gone}
 use Rattle.cordyceps_uses.specs.declared.recency.Entry.{Entry}
 use Rattle.cordyceps_uses.specs.Recency.{pairs, find, others, used, stored, displaced}
 
@@ -40,22 +40,22 @@ module _ {V : Type 0} where
   others_none k (n ∷ c) none =
       ap (λ t. cond t (pairs c) (pair n.1 ∷ others k (pairs c))) (lacks_first k n c none) ∙ ap (λ s. pair n.1 ∷ s) (others_none k c (lacks_rest k n c none))
 
-  find_behind : (k : ℕ) (b a : Nodes (Entry V)) (p : Ptr) (e : Element (Entry V)) → Lacks k b → e.id ≡ k → find k (pairs (b ++ (p, e) ∷ a)) ≡ Some (pair e)
-  find_behind k [] a p e none key = ap (λ t. cond t (Some (pair e)) (find k (pairs a))) (eq-eqb e.id k key)
-  find_behind k (n ∷ b) a p e none key =
-      ap (λ t. cond t (Some (pair n.1)) (find k (pairs (b ++ (p, e) ∷ a)))) (lacks_first k n b none) ∙ find_behind k b a p e (lacks_rest k n b none) key
+  find_after : (k : ℕ) (b a : Nodes (Entry V)) (p : Ptr) (e : Element (Entry V)) → Lacks k b → e.id ≡ k → find k (pairs (b ++ (p, e) ∷ a)) ≡ Some (pair e)
+  find_after k [] a p e none key = ap (λ t. cond t (Some (pair e)) (find k (pairs a))) (eq-eqb e.id k key)
+  find_after k (n ∷ b) a p e none key =
+      ap (λ t. cond t (Some (pair n.1)) (find k (pairs (b ++ (p, e) ∷ a)))) (lacks_first k n b none) ∙ find_after k b a p e (lacks_rest k n b none) key
 
-  others_behind : (k : ℕ) (b a : Nodes (Entry V)) (p : Ptr) (e : Element (Entry V)) → Lacks k b → e.id ≡ k → others k (pairs (b ++ (p, e) ∷ a)) ≡ pairs (b ++ a)
-  others_behind k [] a p e none key = ap (λ t. cond t (pairs a) (pair e ∷ others k (pairs a))) (eq-eqb e.id k key)
-  others_behind k (n ∷ b) a p e none key =
+  others_after : (k : ℕ) (b a : Nodes (Entry V)) (p : Ptr) (e : Element (Entry V)) → Lacks k b → e.id ≡ k → others k (pairs (b ++ (p, e) ∷ a)) ≡ pairs (b ++ a)
+  others_after k [] a p e none key = ap (λ t. cond t (pairs a) (pair e ∷ others k (pairs a))) (eq-eqb e.id k key)
+  others_after k (n ∷ b) a p e none key =
       let all = pairs (b ++ (p, e) ∷ a) in
-      ap (λ t. cond t all (pair n.1 ∷ others k all)) (lacks_first k n b none) ∙ ap (λ s. pair n.1 ∷ s) (others_behind k b a p e (lacks_rest k n b none) key)
+      ap (λ t. cond t all (pair n.1 ∷ others k all)) (lacks_first k n b none) ∙ ap (λ s. pair n.1 ∷ s) (others_after k b a p e (lacks_rest k n b none) key)
 
   -- no element before another has its number
   lacks_before : (f : ℕ → Option Ptr) (k : ℕ) (b a : Nodes (Entry V)) (p : Ptr) (e : Element (Entry V)) → Agrees f (b ++ (p, e) ∷ a) → e.id ≡ k → Lacks k b
   lacks_before f k b a p e was key q o lies same =
-      let at : q ≡ p = keys_differ f (b ++ (p, e) ∷ a) was q p o e (front_lies b ((p, e) ∷ a) q o lies) (b, a, refl) (same ∙ sym key) in
-      taken_gone (b ++ (p, e) ∷ a) (b ++ a) p e was.distinct (b, a, refl, refl) (lies_spot (b ++ a) p o (subst (λ s. HasElementAt (b ++ a) s o) at (front_lies b a q o lies)))
+      let at : q ≡ p = keys_differ f (b ++ (p, e) ∷ a) was q p o e (front_is_at b ((p, e) ∷ a) q o lies) (b, a, refl) (same ∙ sym key) in
+      taken_gone (b ++ (p, e) ∷ a) (b ++ a) p e was.distinct (b, a, refl, refl) (spot_is_at (b ++ a) p o (subst (λ s. HasElementAt (b ++ a) s o) at (front_is_at b a q o lies)))
 
 -- ---- a key that the map finds nowhere
 module _ {V : Type 0} (f : ℕ → Option Ptr) (k : ℕ) (c : Nodes (Entry V)) (was : Agrees f c) (none : f k ≡ None) where
@@ -101,10 +101,10 @@ module _ {V : Type 0} (f : ℕ → Option Ptr) (k : ℕ) (c d : Nodes (Entry V))
   before_lacks = lacks_before f k t.0 t.1 p e (subst (λ s. Agrees f s) t.2 was) key_of
 
   pub present_find : find k (pairs c) ≡ Some (k, e.value.value)
-  present_find = ap (λ s. find k (pairs s)) t.2 ∙ find_behind k t.0 t.1 p e before_lacks key_of ∙ ap (λ n. Some (n, e.value.value)) key_of
+  present_find = ap (λ s. find k (pairs s)) t.2 ∙ find_after k t.0 t.1 p e before_lacks key_of ∙ ap (λ n. Some (n, e.value.value)) key_of
 
   pub present_others : others k (pairs c) ≡ pairs d
-  present_others = ap (λ s. others k (pairs s)) t.2 ∙ others_behind k t.0 t.1 p e before_lacks key_of ∙ ap (λ s. pairs s) (sym t.3)
+  present_others = ap (λ s. others k (pairs s)) t.2 ∙ others_after k t.0 t.1 p e before_lacks key_of ∙ ap (λ s. pairs s) (sym t.3)
 
   pub present_displaced : (capacity : ℕ) → displaced capacity k (pairs c) ≡ Some (k, e.value.value)
   present_displaced capacity = let after : Option (ℕ × V) → Option (ℕ × V) = λ o. elim o [ Some x ↦ Some x | None ↦ slice_get (pairs c) (capacity - 1) ] in ap after present_find

@@ -10,7 +10,7 @@ use denote.RawPtr.{Ptr}
 use Rattle.cordyceps.specs.Elements.Element.{Element}
 use Rattle.cordyceps.specs.Elements.Nodes.{Nodes, elements, spots}
 use Rattle.cordyceps.specs.Spots.Agreeing.{HasElementAt}
-use Rattle.cordyceps.proofs.Spots.Holding.{lies_spot}
+use Rattle.cordyceps.proofs.Spots.Holding.{spot_is_at}
 use Rattle.cordyceps_uses.specs.declared.timer_wheel.Timer.{Timer}
 use Rattle.cordyceps_uses.specs.TimerWheel.{Dial, dial, waiting, with_waiting, Ahead, IsGood, IsInPlace}
 
@@ -108,10 +108,10 @@ tick_in_place t slot slots is was = (
 pub put_seen : {P : Type 0} (w : Dial P) (t slot d : ℕ) (slots : List (Nodes (Timer P))) (c : Nodes (Timer P)) → slot ≡ d % length slots → dial t slots ≡ w → dial t (set slots slot c) ≡ with_waiting d c w
 put_seen w t slot d slots c is seen = ap (λ k. dial t (set slots k c)) is ∙ ap (with_waiting d c) seen
 
-pub only_lies : {X : Type 0} (p q : Ptr) (o e : Element X) → HasElementAt ((p, o) ∷ []) q e → e ≡ o
-only_lies {X} p q o e ([], a, is) = sym (ap (λ (s : Nodes X). (get_or s 0 (p, o)).1) is)
-only_lies p q o e (x ∷ [], a, is) = cc
-only_lies p q o e (x ∷ y ∷ b, a, is) = cc
+pub only_is_at : {X : Type 0} (p q : Ptr) (o e : Element X) → HasElementAt ((p, o) ∷ []) q e → e ≡ o
+only_is_at {X} p q o e ([], a, is) = sym (ap (λ (s : Nodes X). (get_or s 0 (p, o)).1) is)
+only_is_at p q o e (x ∷ [], a, is) = cc
+only_is_at p q o e (x ∷ y ∷ b, a, is) = cc
 
 -- the timers in the slot of a deadline, as the code reads them
 pub at_slot : {P : Type 0} (t slot d : ℕ) (slots : List (Nodes (Timer P))) (c : Nodes (Timer P)) → slot ≡ d % length slots → 0 < length slots → c ≡ get_or slots slot c → waiting d (dial t slots) ≡ c
@@ -119,10 +119,10 @@ at_slot t slot d slots c is some at =
     let within : slot < length slots = subst (λ k. k < length slots) (sym is) (mod_below d (length slots) some) in
     ap (λ k. get_or slots k []) (sym is) ∙ get_or_default slots slot [] c within ∙ sym at
 
-lies_at : {X : Type 0} (c : Nodes X) (k : ℕ) (d : Ptr × Element X) → k < length c → HasElementAt c (get_or c k d).0 (get_or c k d).1
-lies_at [] k d within = absurd (omega (arith, within))
-lies_at (x ∷ c) zero d within = ([], c, refl)
-lies_at (x ∷ c) (suc k) d within = let (b, a, is) = lies_at c k d (omega (arith, within)) in (x ∷ b, a, ap (λ s. x ∷ s) is)
+is_at_place : {X : Type 0} (c : Nodes X) (k : ℕ) (d : Ptr × Element X) → k < length c → HasElementAt c (get_or c k d).0 (get_or c k d).1
+is_at_place [] k d within = absurd (omega (arith, within))
+is_at_place (x ∷ c) zero d within = ([], c, refl)
+is_at_place (x ∷ c) (suc k) d within = let (b, a, is) = is_at_place c k d (omega (arith, within)) in (x ∷ b, a, ap (λ s. x ∷ s) is)
 
 -- all that are in the slot of the time are due
 pub all_due : {P : Type 0} (t : ℕ) (slots : List (Nodes (Timer P))) → IsInPlace (dial t slots) → All (λ e. e.id ≡ t) (elements (waiting t (dial t slots)))
@@ -130,7 +130,7 @@ all_due t slots was =
     let c = waiting t (dial t slots) in
     All-map (λ e. e.id ≡ t) (λ n. n.1) c (λ k d within.
     let e = (get_or c k d).1 in
-    let on = was (t % length slots) (get_or c k d).0 e (lies_at c k d within) in same_tick (length slots) t e.id on.1.0 on.1.1 on.0)
+    let on = was (t % length slots) (get_or c k d).0 e (is_at_place c k d within) in same_tick (length slots) t e.id on.1.0 on.1.1 on.0)
 
 -- a timer that was started waits
 pub started_good : {P : Type 0} (w : Dial P) (d : ℕ) (q : Ptr) (e : Element (Timer P)) → 0 < length w.slots → IsGood d q (with_waiting d (waiting d w ++ (q, e) ∷ []) w)
@@ -138,7 +138,7 @@ started_good w d q e some =
     let slot = d % length w.slots in
     let c = waiting d w ++ (q, e) ∷ [] in
     let at = ap (λ n. get_or (set w.slots slot c) (d % n) []) (length-set w.slots slot c) ∙ get_or-set_same w.slots slot c [] (mod_below d (length w.slots) some) in
-    lies_spot (waiting d (with_waiting d c w)) q e (waiting d w, [], at)
+    spot_is_at (waiting d (with_waiting d c w)) q e (waiting d w, [], at)
 
 spot_front : {X : Type 0} (c m : Nodes X) (k : ℕ) (p : Ptr) → slice_get (spots c) k ≡ Some p → slice_get (spots (c ++ m)) k ≡ Some p
 spot_front [] m k p at = cc

@@ -28,13 +28,13 @@ pub fn first_two_ranks(jobs: &List<Job>) -> Option<(u32, u32)>
 {
     let mut cursor = jobs.cursor_front();
     let first = cursor.current()?;
-    // behind the last job is the null place, where `current` returns `None`
+    // after the last job is the null place, where `current` returns `None`
     cursor.move_next();
     let second = cursor.current()?;
     Some((first.rank, second.rank))
 }
 
-/// Moves the jobs whose rank is at most `most` behind those of another list. All keep their order.
+/// Moves the jobs whose rank is at most `most` to the end of another list. All keep their order.
 ///
 /// # Complexity
 /// O(n), for n jobs. Allocates nothing.

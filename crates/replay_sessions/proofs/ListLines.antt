@@ -72,14 +72,14 @@ closed table held line command all new before after is end more (now, added) = (
   added ∙ ap (λ (t : List ℕ). before ++ t) (sym (append-nil (text_of (run_block table (held.0, held.1, all)).1))),
 )
 
-no_end_behind : (line : CursorCommand) (rest : List CursorCommand) → IsNoEnd line → EndsBlock line rest
-no_end_behind lines.End rest goes_on = absurd goes_on
-no_end_behind line rest goes_on = tt
+no_end_after : (line : CursorCommand) (rest : List CursorCommand) → IsNoEnd line → EndsBlock line rest
+no_end_after lines.End rest goes_on = absurd goes_on
+no_end_after line rest goes_on = tt
 
 -- a block whose end has not come may be run
 pub can_run : (lines : List CursorCommand) → AreOpen lines → BlockFits lines
 can_run [] held = tt
-can_run (line ∷ rest) (fits, goes_on, held) = (fits, no_end_behind line rest goes_on, can_run rest held)
+can_run (line ∷ rest) (fits, goes_on, held) = (fits, no_end_after line rest goes_on, can_run rest held)
 
 pub may_run : (block : Option Block) → IsOpen block → CanRun block
 may_run None ready = tt
@@ -92,7 +92,7 @@ ends_last line = tt
 -- with one more line, which may be its end
 pub can_run_to : (lines : List CursorCommand) (line : CursorCommand) → AreOpen lines → OtherFits line → BlockFits (lines ++ line ∷ [])
 can_run_to [] line held fits = (fits, ends_last line, tt)
-can_run_to (first ∷ rest) line (first_fits, goes_on, held) fits = (first_fits, no_end_behind first (rest ++ line ∷ []) goes_on, can_run_to rest line held fits)
+can_run_to (first ∷ rest) line (first_fits, goes_on, held) fits = (first_fits, no_end_after first (rest ++ line ∷ []) goes_on, can_run_to rest line held fits)
 
 -- and it stays open where that is not its end
 pub stays_open : (lines : List CursorCommand) (line : CursorCommand) → AreOpen lines → OtherFits line → IsNoEnd line → AreOpen (lines ++ line ∷ [])

@@ -40,8 +40,8 @@ module _ {E : Type 0} where
       ((b.0, b.3 ∙ ap (λ (l : List ℕ). carry l) (sym b.1), (λ e. q.3 (sym b.4.share ∙ e)), subst (λ l. Near st.slots (l ++ k.0.free)) (sym b.1) (near_all st.slots m.0.back m.0.free k.0.free q.1 b.2 q.4), h.1), b)
 
   -- one step after another, where no slot is in hand between them
-  pub stands_then : (es fs : List (Event Name E)) (p q : Stage) (m k l : SeatState E) → moves_to es p m k → moves_to fs q k l → moves_to (es ++ fs) q m l
-  stands_then es fs p q m k l a b = (b.0, b.1, b.2 ∙ (ap (λ xs. xs ++ k.0.free) a.1 ∙ a.2), b.3, grown_then actor LegalReversed m.0.known k.0.known l.0.known es fs a.4 b.4)
+  pub moves_in_turn : (es fs : List (Event Name E)) (p q : Stage) (m k l : SeatState E) → moves_to es p m k → moves_to fs q k l → moves_to (es ++ fs) q m l
+  moves_in_turn es fs p q m k l a b = (b.0, b.1, b.2 ∙ (ap (λ xs. xs ++ k.0.free) a.1 ∙ a.2), b.3, grown_then actor LegalReversed m.0.known k.0.known l.0.known es fs a.4 b.4)
 
   -- what the next step asks
   pub record Free (slots : ℕ) (k : SeatState E) : Type 0 where
@@ -70,8 +70,8 @@ module _ {E : Type 0} where
       (h.0, h.1, h.2 ∙ (ap (λ xs. xs ++ k.0.free) a.1 ∙ a.2), subst (λ xs. Grown actor LegalReversed m.0.known xs l.0.known) (sym (append_assoc es fs out)) (grown_then actor LegalReversed m.0.known k.0.known l.0.known es (fs ++ out) a.4 rename), h.4)
   tries_then slots es fs p m k l t Empty a T =
       let end : Name → List (Event Name E) = λ n. Event.Empty n ∷ [] in
-      (T.0, subst (λ xs. moves_to xs (Holding t) m l) (sym (append_assoc es fs (end (name k.0))) ∙ ap (λ n. (es ++ fs) ++ end n) (ap first_name a.4.share)) (stands_then es (fs ++ end (name k.0)) p (Holding t) m k l a T.1))
-  tries_then slots es fs p m k l t Inconsistent a T = (T.0, stands_then es fs p (Holding t) m k l a T.1, T.2)
+      (T.0, subst (λ xs. moves_to xs (Holding t) m l) (sym (append_assoc es fs (end (name k.0))) ∙ ap (λ n. (es ++ fs) ++ end n) (ap first_name a.4.share)) (moves_in_turn es (fs ++ end (name k.0)) p (Holding t) m k l a T.1))
+  tries_then slots es fs p m k l t Inconsistent a T = (T.0, moves_in_turn es fs p (Holding t) m k l a T.1, T.2)
 
   -- the stage of a party after a step
   pub at_stage : (slots : ℕ) (es : List (Event Name E)) (p : Stage) (m k : SeatState E) → m.0.known.share ≢ [] → Near slots (m.0.back ++ m.0.free) → moves_to es p m k → IsAtStage slots p k

@@ -6,8 +6,8 @@ use Rattle.cordyceps_shared.specs.Counts.{below}
 use Rattle.cordyceps_shared.specs.Histories.{plain}
 use Rattle.cordyceps_shared.specs.Knowing.{IsKnown}
 use Rattle.cordyceps_shared.specs.Standings.{new_party, Absorbs}
-use Rattle.cordyceps_shared.proofs.Adding.{keeps_not_whole, not_whole, plain_unmarked, merged_front}
-use Rattle.cordyceps_shared.proofs.Naming.{joined_some, joined_apart, keeps_some, gives_some}
+use Rattle.cordyceps_shared.proofs.Adding.{keeps_not_whole, not_whole, plain_unmarked, merged_prefix}
+use Rattle.cordyceps_shared.proofs.Naming.{joined_some, joined_disjoint, keeps_some, gives_some}
 use Rattle.cordyceps_shared.proofs.Ordering.{whole_share, keeps_share, gives_share, joined_share}
 use Rattle.cordyceps_shared.proofs.Tracing.{of_kept, of_given}
 use Rattle.cordyceps_queue.specs.Shared.Parts.{standing, IsSeated}
@@ -92,7 +92,7 @@ module _ {E : Type 0} where
     free = (λ i. s.free i ++ other.free i) ∙ sym have;
     legal = told_legal same_name (plain (view_absorbing m.0 o.0).known.seen) known.legal;
     alone = known.alone;
-    share = joined_share m.0.known.share o.0.known.share (joined_apart known.long m.0.known.share o.0.known.share known.once) s.share other.share;
+    share = joined_share m.0.known.share o.0.known.share (joined_disjoint known.long m.0.known.share o.0.known.share known.once) s.share other.share;
     linked = linked;
     unheld = unheld;
   }
@@ -102,8 +102,8 @@ module _ {E : Type 0} where
     table = refl;
     seen = refl;
     apart = known.apart;
-    names = joined_apart known.long m.0.known.share o.0.known.share known.once;
-    mine = merged_front m.0.known.seen o.0.known.seen;
+    names = joined_disjoint known.long m.0.known.share o.0.known.share known.once;
+    mine = merged_prefix m.0.known.seen o.0.known.seen;
     theirs = known.told;
     legal = told_legal same_name (plain (view_absorbing m.0 o.0).known.seen) known.legal;
     alone = known.alone;

@@ -10,10 +10,10 @@ use Rattle.cordyceps_shared.specs.Slots.{Near}
 use Rattle.cordyceps_shared.specs.Shares.{Name, whole, IsShare}
 use Rattle.cordyceps_shared.specs.Standings.{name_of, new_party, Absorbs}
 use Rattle.cordyceps_shared.proofs.Choices.{first_or, rest_from}
-use Rattle.cordyceps_shared.proofs.Adding.{keeps_not_whole, not_whole, plain_unmarked, merged_front, whole_adds}
+use Rattle.cordyceps_shared.proofs.Adding.{keeps_not_whole, not_whole, plain_unmarked, merged_prefix, whole_adds}
 use Rattle.cordyceps_shared.proofs.Counting.{below_length}
 use Rattle.cordyceps_shared.proofs.Places.{at_below, near_drop, near_take, near_append}
-use Rattle.cordyceps_shared.proofs.Naming.{joined_some, joined_apart, keeps_some, gives_some}
+use Rattle.cordyceps_shared.proofs.Naming.{joined_some, joined_disjoint, keeps_some, gives_some}
 use Rattle.cordyceps_shared.proofs.Ordering.{whole_share, keeps_share, gives_share, joined_share}
 use Rattle.cordyceps_stack.specs.Shared.Parts.{HasPushed, HasMissed, TookAll, EmptiesHand, HasAbsorbed, Tracks, standing, IsSeated}
 use Rattle.cordyceps_stack.specs.declared.shared.free.FreeRooms.{FreeRooms}
@@ -105,7 +105,7 @@ module _ {E : Type 0} where
     legal = subst (λ (q : Known (Event Name E)). Legal (plain q.seen)) (sym is.known) known.legal;
     alone = λ e. subst (λ (q : Known (Event Name E)). AllOwn q.seen) (sym is.known) (known.alone (sym (ap (λ (q : Known (Event Name E)). q.share) is.known) ∙ e));
     share = subst (λ (q : Known (Event Name E)). IsShare q.share) (sym is.known)
-        (joined_share m.0.known.share o.0.known.share (joined_apart known.long m.0.known.share o.0.known.share known.once) s.share other.share);
+        (joined_share m.0.known.share o.0.known.share (joined_disjoint known.long m.0.known.share o.0.known.share known.once) s.share other.share);
   }
 
   pub absorbs : (z y z' : TableId) (m o k : SeatState E) → z' ≡ z → HasAbsorbed m o k → IsKnown (λ h. Legal h) (view_absorbing m.0 o.0).known → Absorbs (λ h. Legal h) (standing z m.0) (standing y o.0) (standing z' k.0)
@@ -113,8 +113,8 @@ module _ {E : Type 0} where
     table = at;
     seen = ap (λ (q : Known (Event Name E)). q.seen) is.known;
     apart = known.apart;
-    names = joined_apart known.long m.0.known.share o.0.known.share known.once;
-    mine = subst (λ (q : Known (Event Name E)). IsPrefixOf (plain m.0.known.seen) (plain q.seen)) (sym is.known) (merged_front m.0.known.seen o.0.known.seen);
+    names = joined_disjoint known.long m.0.known.share o.0.known.share known.once;
+    mine = subst (λ (q : Known (Event Name E)). IsPrefixOf (plain m.0.known.seen) (plain q.seen)) (sym is.known) (merged_prefix m.0.known.seen o.0.known.seen);
     theirs = subst (λ (q : Known (Event Name E)). IsPrefixOf (plain o.0.known.seen) (plain q.seen)) (sym is.known) known.told;
     legal = subst (λ (q : Known (Event Name E)). Legal (plain q.seen)) (sym is.known) known.legal;
     alone = λ e. subst (λ (q : Known (Event Name E)). AllOwn q.seen) (sym is.known) (known.alone (sym (ap (λ (q : Known (Event Name E)). q.share) is.known) ∙ e));

@@ -1,11 +1,11 @@
 use Rattle.std.proofs.Common.{[], ◌∷◌, ◌++◌, sym, ◌∙◌, ap, arith}
-use Rattle.cordyceps_stable.proofs.Parts.{end_lies, end_cut, end_alone, taken_is}
+use Rattle.cordyceps_stable.proofs.Parts.{end_is_at, end_cut, end_alone, taken_is}
 use Rattle.cordyceps_stable.proofs.renewing.part_at.Goals as goal
 
 pub cut-requires : goal.cut-requires
 cut-requires g c =
     let (e, rest, taken, is) = c.move_back.ensures in
-    (omega (arith, c.if-last-eq0.false), end_lies c.move_back.new.self rest c.args.at.ptr e c.len-last.result is c.len-last.ensures)
+    (omega (arith, c.if-last-eq0.false), end_is_at c.move_back.new.self rest c.args.at.ptr e c.len-last.result is c.len-last.ensures)
 
 pub returns-then-last-eq0-clause-parts : goal.returns-then-last-eq0-clause-parts
 returns-then-last-eq0-clause-parts g c =

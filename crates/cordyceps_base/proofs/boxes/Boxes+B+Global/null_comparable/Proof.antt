@@ -21,7 +21,7 @@ use Rattle.std.proofs.raw_atomic.Walks.{proved_at, leaves}
 use mir.Syntax.{a_type}
 use denote.Param.{param, layouts}
 use Rattle.cordyceps_base.proofs.Memory.{mark}
-use Rattle.cordyceps_base.proofs.SpotsMemory.{learns, row_tested, HeapBoxes, heap_boxes_had, heap_boxes_made}
+use Rattle.cordyceps_base.proofs.SpotsMemory.{learns, row_comparable, HeapBoxes, heap_boxes_had, heap_boxes_made}
 use Rattle.cordyceps_base.specs.Boxes.{box_addresses}
 use Rattle.cordyceps_base.specs.Spots.{AreNullComparable}
 use Rattle.cordyceps_base.specs.contracts.boxes.Boxes+B+Global.null_comparable.{ended, clauses}
@@ -39,7 +39,7 @@ null_comparable_spec 𝓤 𝓛 𝓜 𝓡 wired T L =
     let toks = ‵ (flft κs.0 qs.0) ⊛ ‵ ftrue in let asked = raw ((c κs z.0.3).requires z.1) in
     let Tested : Type 0 = AreNullComparable (box_addresses x.blocks) in
     let new : B.Denot = record { mark = x.mark; blocks = x.blocks } in
-    qed 𝓛 ((toks ⊛ ‵ (owns (types_at En.signature.params κs) z.0.3 z.0.4)) ∷ asked ∷ []) ∵ split ! $ move ! (1 ∷ []) $ fsplit ! $ heap_boxes_had ! R x z.0.4.0 (λ e0. learns ! Tested (row_tested 𝓛 R x.blocks) (λ null_comparable.
+    qed 𝓛 ((toks ⊛ ‵ (owns (types_at En.signature.params κs) z.0.3 z.0.4)) ∷ asked ∷ []) ∵ split ! $ move ! (1 ∷ []) $ fsplit ! $ heap_boxes_had ! R x z.0.4.0 (λ e0. learns ! Tested (row_comparable 𝓛 R x.blocks) (λ null_comparable.
     -- [the row; nothing; the tokens; what is asked]
     suffices ! (Run (mark ∷ [])) (subst (λ (us : List Val). ent 𝓤 (Run (mark ∷ [])) (Run us)) (sym (λ i. e0 i ++ [])) (id⊢ 𝓤 (Run (mark ∷ [])))) $
     enter ! 𝓣.C 𝓣.Λ fn (mark ∷ []) Post $ alloc_all ! (λ l. pass_all ! refl ((tt, (tt, tt)), tt) $

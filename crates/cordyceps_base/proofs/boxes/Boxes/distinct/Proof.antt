@@ -20,7 +20,7 @@ use Rattle.core.proofs.alloc.Calls.{Goes-blank}
 use Rattle.std_alloc.proofs.BoxSteps.Form.{Bx, args, R}
 use Rattle.std.proofs.raw_atomic.Walks.{proved_at, leaves}
 use Rattle.cordyceps_base.proofs.Memory.{Br, mark, boxes_had, boxes_made}
-use Rattle.cordyceps_base.proofs.SpotsMemory.{learns, apart_if_sized}
+use Rattle.cordyceps_base.proofs.SpotsMemory.{learns, distinct_if_sized}
 use Rattle.cordyceps_base.specs.Boxes.{box_addresses}
 use Rattle.cordyceps_base.specs.Spots.{AreDistinct}
 use denote.Memory.{lone}
@@ -41,7 +41,7 @@ distinct_spec 𝓤 𝓛 𝓜 𝓡 wired T A L LA g d dd allocator glued =
     let toks = ‵ (flft κs.0 qs.0) ⊛ ‵ (flft κs.1.0 qs.1.0) ⊛ ‵ ftrue in let asked = raw ((c κs z.0.3).requires z.1) in
     let AreDisjoint : Type 0 = 0 < size (lone (R E).mir) → AreDistinct (box_addresses x.blocks) in
     let new : B.Denot = record { mark = x.mark; blocks = x.blocks } in
-    qed 𝓛 ((toks ⊛ ‵ (owns (types_at En.signature.params κs) z.0.3 z.0.4)) ∷ asked ∷ []) ∵ split ! $ move ! (1 ∷ []) $ fsplit ! $ boxes_had ! E x z.0.4.0 (λ e0. learns ! AreDisjoint (apart_if_sized 𝓛 𝓜 (R E) (token E.al) x.blocks) (λ distinct.
+    qed 𝓛 ((toks ⊛ ‵ (owns (types_at En.signature.params κs) z.0.3 z.0.4)) ∷ asked ∷ []) ∵ split ! $ move ! (1 ∷ []) $ fsplit ! $ boxes_had ! E x z.0.4.0 (λ e0. learns ! AreDisjoint (distinct_if_sized 𝓛 𝓜 (R E) (token E.al) x.blocks) (λ distinct.
     -- [the row; nothing; the tokens; what is asked]
     suffices ! (Run (mark ∷ [])) (subst (λ (us : List Val). ent 𝓤 (Run (mark ∷ [])) (Run us)) (sym (λ i. e0 i ++ [])) (id⊢ 𝓤 (Run (mark ∷ [])))) $
     enter ! 𝓣.C 𝓣.Λ fn (mark ∷ []) Post $ alloc_all ! (λ l. pass_all ! refl ((tt, (tt, tt)), tt) $

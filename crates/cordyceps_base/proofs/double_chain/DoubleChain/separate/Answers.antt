@@ -6,7 +6,7 @@ use Rattle.cordyceps_base.specs.Nodes.{nodes_of}
 use Rattle.cordyceps_base.specs.Spots.{AreNullComparable}
 use Rattle.cordyceps_base.proofs.DoubleChain.{segment_join}
 use Rattle.cordyceps_base.proofs.Nodes.{length-nodes_of, length_is}
-use Rattle.cordyceps_base.proofs.Segments.{cut, one_is, front_linked, rest_linked, front_comparable, rest_tested, some, left_length, taken_is, left_is}
+use Rattle.cordyceps_base.proofs.Segments.{cut, one_is, front_linked, rest_linked, front_comparable, rest_comparable, some, left_length, taken_is, left_is}
 use Rattle.cordyceps_base.proofs.double_chain.DoubleChain.separate.Goals as goal
 
 pub get-requires : goal.get-requires
@@ -37,7 +37,7 @@ preceded_by-rest-requires-clause-linked g c =
 pub preceded_by-rest-requires-clause-null_comparable : goal.preceded_by-rest-requires-clause-null_comparable
 preceded_by-rest-requires-clause-null_comparable g c =
     let u = cut c.self.view_is c.requires c.self.invariant c.cut_at-front.ensures in
-    rest_tested u c.cut-one.result.1.blocks c.cut-one.ensures.1 c.self.invariant.1
+    rest_comparable u c.cut-one.result.1.blocks c.cut-one.ensures.1 c.self.invariant.1
 
 pub overflow_sub-left : goal.overflow_sub-left
 overflow_sub-left g c =

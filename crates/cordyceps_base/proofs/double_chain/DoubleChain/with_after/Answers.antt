@@ -1,6 +1,6 @@
 use Rattle.std.proofs.Common.{◌∙◌, refl}
 use Rattle.cordyceps_base.specs.Nodes.{nodes_of, block_element}
-use Rattle.cordyceps_base.proofs.Segments.{cut, rest_linked, rest_tested, taken_is, upto_linked, upto_tested, upto_shown, upto_lengths}
+use Rattle.cordyceps_base.proofs.Segments.{cut, rest_linked, rest_comparable, taken_is, upto_linked, upto_tested, upto_shown, upto_lengths}
 use Rattle.cordyceps_base.proofs.double_chain.DoubleChain.with_after.Goals as goal
 
 pub get-requires : goal.get-requires
@@ -26,7 +26,7 @@ of_parts-requires-clause-front_comparable g c =
 pub of_parts-requires-clause-back_comparable : goal.of_parts-requires-clause-back_comparable
 of_parts-requires-clause-back_comparable g c =
     let u = cut c.self.view_is c.requires.there c.self.invariant c.cut_at-front.ensures in
-    rest_tested u c.cut-one.result.1.blocks c.cut-one.ensures.1 c.self.invariant.1
+    rest_comparable u c.cut-one.result.1.blocks c.cut-one.ensures.1 c.self.invariant.1
 
 pub of_parts-requires-clause-len : goal.of_parts-requires-clause-len
 of_parts-requires-clause-len g c =

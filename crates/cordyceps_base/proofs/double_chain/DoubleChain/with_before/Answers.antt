@@ -1,6 +1,6 @@
 use Rattle.std.proofs.Common.{◌∙◌, refl}
 use Rattle.cordyceps_base.specs.Nodes.{nodes_of, block_element}
-use Rattle.cordyceps_base.proofs.Segments.{cut, front_linked, back_linked, front_comparable, all_tested, both_lengths, taken_is, back_shown}
+use Rattle.cordyceps_base.proofs.Segments.{cut, front_linked, back_linked, front_comparable, all_comparable, both_lengths, taken_is, back_shown}
 use Rattle.cordyceps_base.proofs.double_chain.DoubleChain.with_before.Goals as goal
 
 pub get-requires : goal.get-requires
@@ -26,7 +26,7 @@ of_parts-requires-clause-front_comparable g c =
 pub of_parts-requires-clause-back_comparable : goal.of_parts-requires-clause-back_comparable
 of_parts-requires-clause-back_comparable g c =
     let u = cut c.self.view_is c.requires.there c.self.invariant c.cut_at-front.ensures in
-    all_tested u c.self.invariant.1
+    all_comparable u c.self.invariant.1
 
 pub of_parts-requires-clause-len : goal.of_parts-requires-clause-len
 of_parts-requires-clause-len g c =

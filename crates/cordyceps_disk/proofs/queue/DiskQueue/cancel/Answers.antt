@@ -1,4 +1,4 @@
-use Rattle.cordyceps_disk.proofs.Pairing.{apart_waiting}
+use Rattle.cordyceps_disk.proofs.Pairing.{waiting_distinct}
 use Rattle.cordyceps_disk.proofs.Seeing.{seen_left, seen_spot}
 use Rattle.cordyceps_disk.proofs.queue.DiskQueue.cancel.Goals as goal
 
@@ -16,4 +16,4 @@ returns-clause-left g c =
     seen_left c.args.self.now c.self.inside.requests.nodes c.self.inside.tickets.nodes c.self.inside.head c.self.view_is c.unlink.new.requests.nodes c.unlink.new.tickets.nodes c.self.inside.head c.args.at c.unlink.result c.unlink.ensures.taken c.unlink.ensures.due
 
 pub returns-clause-distinct : goal.returns-clause-distinct
-returns-clause-distinct g c = apart_waiting c.unlink.new.requests.nodes c.unlink.ensures.paired.distinct
+returns-clause-distinct g c = waiting_distinct c.unlink.new.requests.nodes c.unlink.ensures.paired.distinct

@@ -1,5 +1,5 @@
 use Rattle.std.proofs.Common.{refl}
-use Rattle.cordyceps_disk.proofs.Pairing.{apart_waiting}
+use Rattle.cordyceps_disk.proofs.Pairing.{waiting_distinct}
 use Rattle.cordyceps_disk.proofs.Seeing.{seen_left, seen_next, seen_spot}
 use Rattle.cordyceps_disk.proofs.queue.DiskQueue.next.Goals as goal
 
@@ -21,4 +21,4 @@ returns-clause-served g c =
     (at, in_queue, left, refl)
 
 pub returns-clause-distinct : goal.returns-clause-distinct
-returns-clause-distinct g c = apart_waiting c.unlink-request.new.requests.nodes c.unlink-request.ensures.paired.distinct
+returns-clause-distinct g c = waiting_distinct c.unlink-request.new.requests.nodes c.unlink-request.ensures.paired.distinct

@@ -5,16 +5,16 @@ use Rattle.cordyceps.specs.Spots.Spots.{AreDistinct}
 use Rattle.cordyceps.proofs.Spots.Reached.{taken_has}
 use Rattle.cordyceps_disk.specs.Pairs.{seen}
 use Rattle.cordyceps_disk.specs.Queue.{Queue, element}
-use Rattle.cordyceps_disk.proofs.Pairing.{apart_waiting}
-use Rattle.cordyceps_disk.proofs.Seeing.{seen_apart, seen_others, seen_submitted}
+use Rattle.cordyceps_disk.proofs.Pairing.{waiting_distinct}
+use Rattle.cordyceps_disk.proofs.Seeing.{seen_distinct, seen_others, seen_submitted}
 use Rattle.cordyceps_disk.proofs.queue.DiskQueue.submit.Goals as goal
 use Rattle.cordyceps_disk.proofs.queue.DiskQueue.submit.Goals.{then-is_next, else-is_next}
 
 pub returns-then-len-clause-distinct : goal.returns-then-len-clause-distinct
-returns-then-len-clause-distinct g c = seen_apart c.args.self.now c.self.inside.requests.nodes c.self.inside.tickets.nodes c.self.inside.head c.self.view_is c.self.invariant.0.distinct
+returns-then-len-clause-distinct g c = seen_distinct c.args.self.now c.self.inside.requests.nodes c.self.inside.tickets.nodes c.self.inside.head c.self.view_is c.self.invariant.0.distinct
 
 pub returns-in_err-at-clause-distinct : goal.returns-in_err-at-clause-distinct
-returns-in_err-at-clause-distinct g c = apart_waiting c.link.new.requests.nodes c.link.ensures.paired.distinct
+returns-in_err-at-clause-distinct g c = waiting_distinct c.link.new.requests.nodes c.link.ensures.paired.distinct
 
 pub returns-clause-submitted : goal.returns-clause-submitted
 returns-clause-submitted g c =
@@ -39,4 +39,4 @@ returns-clause-distinct g c =
     let d = c.link.new.requests.nodes in
     let s = c.link.new.tickets.nodes in
     let is : c.if-is_next.self ≡ seen d s c.self.inside.head = elim c.if-is_next.branch as (λ _. c.if-is_next.self ≡ seen d s c.self.inside.head) [ then-is_next w ↦ w.self-is | else-is_next w ↦ w.self-is ] in
-    subst (λ (q : Queue _). AreDistinct (spots q.waiting)) (sym is) (apart_waiting d c.link.ensures.paired.distinct)
+    subst (λ (q : Queue _). AreDistinct (spots q.waiting)) (sym is) (waiting_distinct d c.link.ensures.paired.distinct)

@@ -1,6 +1,6 @@
 use Rattle.std.proofs.Common.{[]}
 use Rattle.cordyceps_queue.specs.declared.cores.stage.Stage.TheVariants.{PutClear, PutRead}
-use Rattle.cordyceps_queue.proofs.SharedTheory.PartsJoin.{at_stage, stands_then, tries_then, tries_blocked}
+use Rattle.cordyceps_queue.proofs.SharedTheory.PartsJoin.{at_stage, moves_in_turn, tries_then, tries_blocked}
 use Rattle.cordyceps_queue.proofs.shared.tries.at_end.Goals as goal
 
 pub returns-then-not-is_head-clause-answer : goal.returns-then-not-is_head-clause-answer
@@ -16,10 +16,10 @@ put_stub-requires-clause-stage g c =
 pub after_tail-requires-clause-stage : goal.after_tail-requires-clause-stage
 after_tail-requires-clause-stage g c =
     let q = c.requires.stage in
-    let put = stands_then [] [] (PutClear c.args.tail) (PutRead c.args.tail) c.args.seat.now.me c.is_head.new.seat.me c.put_stub.new.seat.me (c.is_head.ensures.alone c.if-not-is_head.false) c.put_stub.ensures.answer in
+    let put = moves_in_turn [] [] (PutClear c.args.tail) (PutRead c.args.tail) c.args.seat.now.me c.is_head.new.seat.me c.put_stub.new.seat.me (c.is_head.ensures.alone c.if-not-is_head.false) c.put_stub.ensures.answer in
     (at_stage c.args.words.now.table_id.slots [] (PutRead c.args.tail) c.args.seat.now.me c.put_stub.new.seat.me q.0.2 q.0.3 put, q.1)
 
 pub returns-clause-answer : goal.returns-clause-answer
 returns-clause-answer g c =
-    let put = stands_then [] [] (PutClear c.args.tail) (PutRead c.args.tail) c.args.seat.now.me c.is_head.new.seat.me c.put_stub.new.seat.me (c.is_head.ensures.alone c.if-not-is_head.false) c.put_stub.ensures.answer in
+    let put = moves_in_turn [] [] (PutClear c.args.tail) (PutRead c.args.tail) c.args.seat.now.me c.is_head.new.seat.me c.put_stub.new.seat.me (c.is_head.ensures.alone c.if-not-is_head.false) c.put_stub.ensures.answer in
     tries_then c.args.words.now.table_id.slots [] [] (PutRead c.args.tail) c.args.seat.now.me c.put_stub.new.seat.me c.after_tail.new.seat.me _ _ put c.after_tail.ensures.answer
