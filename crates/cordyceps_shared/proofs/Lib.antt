@@ -4,6 +4,7 @@ pub mod Changing
 pub mod Choices
 pub mod Counting
 pub mod Cutting
+pub mod FreeLinks
 pub mod Halving
 pub mod Interleaving
 pub mod Joining
@@ -21,4 +22,5 @@ pub mod Standing
 pub mod Summing
 pub mod Telling
 pub mod Tracing
+pub mod TrackRooms
 pub mod Words

@@ -1,5 +1,6 @@
 pub mod Acting
 pub mod Counts
+pub mod FreeChains
 pub mod Histories
 pub mod Interleaving
 pub mod Knowing

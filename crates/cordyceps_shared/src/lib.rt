@@ -2,6 +2,7 @@
 //! theory of the parties that act on them: names, shares and histories. It also has the tickets of a queue's rooms.
 #![tactic(auto)]
 
+pub mod free;
 pub mod layout;
 pub mod room;
 pub mod slots;

@@ -1,7 +1,6 @@
 //! What is in the slots of a shared table.
 
 use crate::tickets::Ticket;
-use std::marker::Brand;
 
 /// The content of the slot of a queue's room in use.
 #[derive(Drop)]
@@ -10,15 +9,4 @@ pub struct Filled<E> {
     pub ticket: Ticket,
     /// The element.
     pub item: E,
-}
-
-/// The number of rooms that a party gives up. Each call that splits a party chooses it.
-pub trait Count {
-    ghost use Rattle.std.specs.Prelude.{ℕ};
-
-    ghost rooms: { ℕ };
-}
-
-impl Count for Brand {
-    ghost rooms = { 0 };
 }

@@ -1,10 +1,8 @@
 -- Lemmas on what threads share.
 pub mod CallsHold
-pub mod FreeLinks
 pub mod PartingKeeps
 pub mod PartsJoin
 pub mod PartyMoves
 pub mod Sending
 pub mod StepsKeep
-pub mod TrackRooms
 pub mod WordsKeep

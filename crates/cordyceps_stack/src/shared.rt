@@ -2,7 +2,6 @@
 
 pub(crate) mod batch;
 pub(crate) mod calls;
-pub(crate) mod free;
 pub(crate) mod parting;
 pub(crate) mod plays;
 pub(crate) mod steps;

@@ -13,8 +13,8 @@ use crate::shared::plays::{Cut, Learn, Merge};
 use crate::shared::table::{OwnedTable, PartySeat, Words};
 use atomic_table::Table;
 use cordyceps_base::shared::MAX_ROOMS;
+use cordyceps_shared::free::Count;
 use cordyceps_shared::layout::{HEAD, LINKS, RIGHT};
-use cordyceps_shared::slots::Count;
 use std::alloc::{AllocError, Global};
 use std::marker::Brand;
 

@@ -4,7 +4,8 @@ ghost use Rattle.cordyceps_queue.specs.Shared.Parting.{after_learn, view_keeping
 
 use crate::shared::table::{Chosen, SeatView};
 use atomic_table::{Join, Play, Split};
-use cordyceps_shared::slots::{Count, Filled};
+use cordyceps_shared::free::Count;
+use cordyceps_shared::slots::Filled;
 use std::marker::PhantomData;
 
 /// A store that makes a room's link null, by which an enqueue takes the room's slot.

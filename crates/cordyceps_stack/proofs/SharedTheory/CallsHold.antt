@@ -2,6 +2,7 @@
 use Rattle.std.proofs.Common.{◌≡◌, ◌+◌, ◌<◌, ℕ, zero, suc, List, [], ◌∷◌, ◌++◌, reverse, length, replicate, Bool, refl, sym, ap, ◌∙◌, subst, length-append}
 use Rattle.std.specs.Prelude.{IsTrue, Result, Ok, Err, MatchResult, is_ok, true}
 use Rattle.atomic_table.specs.Seated.{TableId}
+use Rattle.cordyceps_shared.specs.FreeChains.{Tracks, FreeChain}
 use Rattle.cordyceps_shared.specs.Counts.{below}
 use Rattle.cordyceps_shared.specs.Histories.{plain, AllOwn}
 use Rattle.cordyceps_shared.specs.Knowing.{Known, IsPrefixOf, IsKnown}
@@ -15,15 +16,15 @@ use Rattle.cordyceps_shared.proofs.Counting.{below_length}
 use Rattle.cordyceps_shared.proofs.Places.{at_below, near_drop, near_take, near_append}
 use Rattle.cordyceps_shared.proofs.Naming.{joined_some, joined_disjoint, keeps_some, gives_some}
 use Rattle.cordyceps_shared.proofs.Ordering.{whole_share, keeps_share, gives_share, joined_share}
-use Rattle.cordyceps_stack.specs.Shared.Parts.{HasPushed, HasMissed, TookAll, EmptiesHand, HasAbsorbed, Tracks, standing, IsSeated}
-use Rattle.cordyceps_stack.specs.declared.shared.free.FreeRooms.{FreeRooms}
+use Rattle.cordyceps_stack.specs.Shared.Parts.{HasPushed, HasMissed, TookAll, EmptiesHand, HasAbsorbed, standing, IsSeated}
+use Rattle.cordyceps_shared.specs.declared.free.FreeRooms.{FreeRooms}
 use Rattle.cordyceps_stack.specs.History.{Event, Load, Push, Taken, held, Legal, actor}
 use Rattle.cordyceps_stack.specs.Cores.Stages.{room_elements}
 use Rattle.cordyceps_stack.specs.Shared.Plays.{SeatState, Sees, to_hand_out}
 use Rattle.cordyceps_stack.specs.Shared.Parting.{view_keeping, view_giving, view_absorbing}
 use Rattle.cordyceps_stack.specs.Shared.Rule.{IsTable}
 use Rattle.cordyceps_stack.specs.Shared.Calls.{PartyOf, PushesAt, Misses, Takes, Looks, Adds, EndsLooked}
-use Rattle.cordyceps_stack.specs.Shared.View.{View, FreeChain, newcomer, name}
+use Rattle.cordyceps_stack.specs.Shared.View.{View, newcomer, name}
 use Rattle.cordyceps_stack.proofs.SharedTheory.PartsJoin.{not_overtaken}
 use Rattle.cordyceps_stack.proofs.Histories.{legal_none}
 

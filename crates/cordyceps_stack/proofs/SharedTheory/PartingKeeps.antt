@@ -3,6 +3,7 @@ use Rattle.std.proofs.Common.{◌≡◌, ◌≢◌, ◌+◌, ℕ, List, [], ◌�
 use mathlib.Core.Option.{some, none}
 use lib.ListN.{get_elem?, length-map, length-replicate}
 use Rattle.atomic_table.specs.Table.{opening, Splits, Joins, Allows, step, keeps}
+use Rattle.cordyceps_shared.specs.FreeChains.{Links, MayJoin}
 use Rattle.cordyceps_shared.specs.Counts.{one_if, below}
 use Rattle.cordyceps_shared.specs.Shares.{Name}
 use Rattle.cordyceps_shared.specs.declared.layout.TheConstants.{HEAD, LINKS}
@@ -16,12 +17,12 @@ use Rattle.cordyceps_shared.proofs.Standing as seats
 use Rattle.cordyceps_shared.proofs.Telling.{owned_same, fits_forgot}
 use Rattle.cordyceps_stack.specs.History.{Event, Load, Taken, held, Legal, actor, SomeChange}
 use Rattle.cordyceps_stack.specs.Shared.View.{Idle, View, knows, newcomer, at_work, count_with_party}
-use Rattle.cordyceps_stack.specs.Shared.Words.{History, Links, Since, AtDoing, AreNew}
-use Rattle.cordyceps_stack.proofs.SharedTheory.FreeLinks.{links_below, links_drop, links_take, links_append}
+use Rattle.cordyceps_stack.specs.Shared.Words.{History, Since, AtDoing, AreNew}
+use Rattle.cordyceps_shared.proofs.FreeLinks.{links_below, links_drop, links_take, links_append}
 use Rattle.cordyceps_shared.specs.Slots.{Homes, EmptyAtHome}
 use Rattle.cordyceps_stack.specs.Shared.Rule.{RuleHolds}
 use Rattle.cordyceps_stack.specs.Shared.Plays.{SeatState}
-use Rattle.cordyceps_stack.specs.Shared.Parting.{view_keeping, view_giving, view_absorbing, view_absorbed, view_without_told, after_learn, MayJoin}
+use Rattle.cordyceps_stack.specs.Shared.Parting.{view_keeping, view_giving, view_absorbing, view_absorbed, view_without_told, after_learn}
 use Rattle.cordyceps_stack.proofs.Histories.{legal_none}
 use Rattle.cordyceps_stack.proofs.SharedTheory.WordsKeep.{does_frame, rests, forks}
 use Rattle.cordyceps_stack.proofs.SharedTheory.StepsKeep.{step_keeps, unwritten, few_rooms}

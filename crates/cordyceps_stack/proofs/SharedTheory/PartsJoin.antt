@@ -2,6 +2,7 @@
 use Rattle.std.proofs.Common.{◌≡◌, ◌↔◌, ◌⊎◌, ℕ, suc, ◌-◌, ◌<◌, ◌≤◌, List, [], ◌∷◌, ◌++◌, length, replicate, Bool, true, cond, eqb, refl, sym, ap, ◌∙◌, subst, inl, inr, arith, append-nil, eq-eqb, Option, Some, None}
 use Rattle.std.proofs.lemmas.Bool.{eqb-true}
 use Rattle.std.specs.Prelude.{IsTrue}
+use Rattle.cordyceps_shared.specs.FreeChains.{Tracks, FreeChain, leads, with_first}
 use Rattle.cordyceps_shared.specs.Histories.{plain, own, AllOwn}
 use Rattle.cordyceps_shared.specs.Knowing.{Known, Grown}
 use Rattle.cordyceps_shared.specs.Places.{ItemAt}
@@ -11,10 +12,10 @@ use Rattle.cordyceps_shared.proofs.Telling.{grown_then}
 use Rattle.cordyceps_stack.specs.History.{Event, Load, Push, Legal, SomeChange, actor}
 use Rattle.cordyceps_stack.specs.Shared.Plays.{SeatState, Sees, carry, NearChain, IsResting, IsReady, IsWalking, to_hand_out}
 use Rattle.cordyceps_shared.specs.Slots.{Near}
-use Rattle.cordyceps_stack.specs.Shared.Parts.{IsFilled, HasMissed, HasPushed, SettlesAt, Tracks, Relinked}
-use Rattle.cordyceps_stack.specs.declared.shared.free.FreeRooms.{FreeRooms}
+use Rattle.cordyceps_stack.specs.Shared.Parts.{IsFilled, HasMissed, HasPushed, SettlesAt, Relinked}
+use Rattle.cordyceps_shared.specs.declared.free.FreeRooms.{FreeRooms}
 use Rattle.cordyceps_stack.specs.Shared.Calls.{EndsPushed, EndsLooked, IsOvertaken}
-use Rattle.cordyceps_stack.specs.Shared.View.{Doing, Idle, Walking, View, FreeChain, name, leads, with_first, walk_through}
+use Rattle.cordyceps_stack.specs.Shared.View.{Doing, Idle, Walking, View, name, walk_through}
 use Rattle.cordyceps_stack.specs.Shared.Words.{start}
 
 pub is_zero : (n : ℕ) → (n ≡ 0) ↔ IsTrue (eqb n 0)
@@ -27,16 +28,6 @@ hand_of (x ∷ xs) = x.1
 
 pub first_near : (slots r : ℕ) (rs free : List ℕ) → free ≡ r ∷ rs → Near slots free → r < slots
 first_near slots r rs free is near = near 0 r (subst (λ l. ItemAt l 0 r) (sym is) refl)
-
--- the first of some free rooms
-first_from : (free : FreeRooms) (chain : FreeChain) (rooms : List ℕ) → chain.rooms ≡ rooms → Tracks free chain → 0 < free.count → (rs : List ℕ) × (chain.rooms ≡ (free.first - 1) ∷ rs) × (1 ≤ free.first)
-first_from free chain [] is t some_of = let none = ap (λ (l : List ℕ). length l) is in let c = t.count in absurd (omega arith)
-first_from free chain (r ∷ rs) is t some_of =
-    let first = t.first r rs is in
-    let same : r ≡ free.first - 1 = omega arith in (rs, is ∙ ap (λ z. z ∷ rs) same, omega arith)
-
-pub first_room : (free : FreeRooms) (chain : FreeChain) → Tracks free chain → 0 < free.count → (rs : List ℕ) × (chain.rooms ≡ (free.first - 1) ∷ rs) × (1 ≤ free.first)
-first_room free chain t some_of = first_from free chain chain.rooms refl t some_of
 
 module _ {E : Type 0} where
   -- a party that loaded, and then did another step under the same name

@@ -11,6 +11,7 @@ use prog.Atomic.{either}
 use Rattle.atomic_table.specs.Table.{State, step, Act, keeps, takes, gives, stepped, homes_after, carried_after, Valid, rest, Allows}
 use Rattle.atomic_table.specs.Table as table
 use Rattle.atomic_table.proofs.Lists.{set_here, set_else}
+use Rattle.cordyceps_shared.specs.FreeChains.{FreeChain, leads, with_first, with_last, IsTied, Links}
 use Rattle.cordyceps_shared.specs.Counts.{one_if, times}
 use Rattle.cordyceps_shared.specs.Histories.{events, with_marks, plain, of_seat}
 use Rattle.cordyceps_shared.specs.Knowing.{Known, Under, SharesDisjoint, AllAgree, all_seen}
@@ -26,10 +27,10 @@ use Rattle.cordyceps_shared.proofs.Seeing.{marked_append, plain_marked, own_with
 use Rattle.cordyceps_shared.proofs.Telling.{at_length, owned_same, fits_same, tells}
 use Rattle.cordyceps_stack.specs.History.{Event, Load, Push, Taken, held, Legal, actor, SomeChange}
 use Rattle.cordyceps_stack.specs.Cores.Stages.{room_elements}
-use Rattle.cordyceps_stack.specs.Shared.View.{Doing, Idle, Ready, Loaded, Set, Walking, View, FreeChain, knows, name, leads, with_first, with_last, IsTied, walk_through, in_chain, at_work}
+use Rattle.cordyceps_stack.specs.Shared.View.{Doing, Idle, Ready, Loaded, Set, Walking, View, knows, name, walk_through, in_chain, at_work}
 use Rattle.cordyceps_stack.specs.Shared.View.{count_with_party}
-use Rattle.cordyceps_stack.specs.Shared.Words.{History, start, Links, Since, AtDoing, WordsMeet}
-use Rattle.cordyceps_stack.proofs.SharedTheory.FreeLinks.{links_at, links_retied}
+use Rattle.cordyceps_stack.specs.Shared.Words.{History, start, Since, AtDoing, WordsMeet}
+use Rattle.cordyceps_shared.proofs.FreeLinks.{links_at, links_retied}
 use Rattle.cordyceps_shared.specs.Slots.{Homes, Hand, TableStep, EmptyAtHome}
 use Rattle.cordyceps_stack.specs.Shared.Rule.{TableState, FullAtHome, RuleHolds}
 use Rattle.cordyceps_stack.specs.Shared.Plays.{SeatState, Sees, carry, NearChain, to_hand_out}

@@ -4,6 +4,7 @@ use Rattle.std.proofs.lemmas.List.{reverse-append}
 use mathlib.Core.Option.{some}
 use lib.ListN.{get_elem?}
 use Rattle.atomic_table.proofs.Lists.{at_snoc}
+use Rattle.cordyceps_shared.specs.FreeChains.{with_last, IsTied, Links}
 use Rattle.cordyceps_shared.specs.Counts.{one_if, times}
 use Rattle.cordyceps_shared.specs.Histories.{events}
 use Rattle.cordyceps_shared.specs.Shares.{Name}
@@ -15,9 +16,9 @@ use Rattle.cordyceps_shared.proofs.Seeing.{events_more, without_more}
 use Rattle.cordyceps_shared.proofs.Words.{head_set, next_set, head_beside_next, next_beside_next, next_beside_head}
 use Rattle.cordyceps_stack.specs.History.{Event, Load, Push, Taken, held, held_after, Legal, IsChange, SomeChange}
 use Rattle.cordyceps_stack.specs.Cores.Stages.{room_elements}
-use Rattle.cordyceps_stack.specs.Shared.View.{Doing, Idle, Ready, Loaded, Set, Walking, View, with_last, IsTied, walk_through, in_chain, at_work, count_with_party}
-use Rattle.cordyceps_stack.specs.Shared.Words.{History, start, Spells, Links, Since, AtDoing, WordsMeet}
-use Rattle.cordyceps_stack.proofs.SharedTheory.FreeLinks.{links_frame, links_last}
+use Rattle.cordyceps_stack.specs.Shared.View.{Doing, Idle, Ready, Loaded, Set, Walking, View, walk_through, in_chain, at_work, count_with_party}
+use Rattle.cordyceps_stack.specs.Shared.Words.{History, start, Spells, Since, AtDoing, WordsMeet}
+use Rattle.cordyceps_shared.proofs.FreeLinks.{links_frame, links_last}
 use Rattle.cordyceps_stack.proofs.Histories.{MayFollow, held_more, legal_more, change_more, change_last}
 
 module _ {E : Type 0} where

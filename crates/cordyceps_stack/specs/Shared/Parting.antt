@@ -1,29 +1,12 @@
 -- How a party of a transfer stack is split in two, takes another in, and learns what it then knows.
-use Rattle.std.specs.Prelude.{◌≡◌, ◌⊎◌, ℕ, ◌≤◌, List, [], ◌∷◌, ◌++◌, length, take, drop}
+use Rattle.std.specs.Prelude.{◌≡◌, ℕ, ◌≤◌, [], length}
+use Rattle.cordyceps_shared.specs.FreeChains.{first_rooms, joined, rest_rooms}
 use Rattle.cordyceps_shared.specs.Knowing.{IsKnown}
 use Rattle.cordyceps_shared.specs.Knowing as knowing
 use Rattle.cordyceps_stack.specs.History.{Legal}
 use Rattle.cordyceps_shared.specs.Slots.{TableStep, view, hand}
 use Rattle.cordyceps_stack.specs.Shared.Plays.{SeatState}
-use Rattle.cordyceps_stack.specs.Shared.View.{Idle, View, FreeChain, leads}
-
--- the free rooms without the first n, these n, and those of two chains, of which the first leads to the second
-abbrev pub rest_rooms : ℕ → FreeChain → FreeChain
-rest_rooms n free = record { rooms = drop n free.rooms; end = free.end }
-
-abbrev pub first_rooms : ℕ → FreeChain → FreeChain
-first_rooms n free = record { rooms = take n free.rooms; end = leads (drop n free.rooms) free.end }
-
-abbrev pub end_after : ℕ → List ℕ → ℕ → ℕ
-end_after end [] other = end
-end_after end (r ∷ rs) other = other
-
-abbrev pub joined : FreeChain → FreeChain → FreeChain
-joined free other = record { rooms = free.rooms ++ other.rooms; end = end_after free.end other.rooms other.end }
-
--- they may be joined
-abbrev pub MayJoin : FreeChain → FreeChain → Type 0
-MayJoin free other = (free.rooms ≡ []) ⊎ ((other.rooms ≡ []) ⊎ (free.end ≡ leads other.rooms other.end))
+use Rattle.cordyceps_stack.specs.Shared.View.{Idle, View}
 
 module _ {E : Type 0} where
   -- a load of head by a party that took another in

@@ -1,30 +1,24 @@
 -- What the parts of a call on a shared transfer stack leave: of the party's seat m before, and of its seat k after.
-use Rattle.std.specs.Prelude.{◌≡◌, ◌≢◌, ℕ, suc, ◌+◌, ◌≤◌, List, [], ◌∷◌, ◌++◌, length, replicate, Bool, true, false}
+use Rattle.std.specs.Prelude.{◌≡◌, ◌≢◌, ℕ, suc, ◌+◌, ◌≤◌, [], ◌∷◌, ◌++◌, length, replicate, Bool, true, false}
 use Rattle.std.specs.Prelude.{IsTrue}
 use Rattle.atomic_table.specs.Seated.{TableId}
+use Rattle.cordyceps_shared.specs.FreeChains.{leads, with_first, with_last, IsTied, Tracks}
 use Rattle.cordyceps_shared.specs.Histories.{plain, AllOwn}
 use Rattle.cordyceps_shared.specs.Shares.{whole, IsShare}
-use Rattle.cordyceps_stack.specs.declared.shared.free.FreeRooms.{FreeRooms}
+use Rattle.cordyceps_shared.specs.declared.free.FreeRooms.{FreeRooms}
 use Rattle.cordyceps_stack.specs.History.{Load, Push, Taken, Legal}
 use Rattle.cordyceps_stack.specs.Cores.Stages.{room_elements}
 use Rattle.cordyceps_stack.specs.Shared.Parting.{view_absorbing, view_without_told}
 use Rattle.cordyceps_stack.specs.Shared.Plays.{SeatState, Sees, IsResting, IsReady, IsWalking, to_hand_out}
 use Rattle.cordyceps_stack.specs.Shared.Rule.{IsTable}
 use Rattle.cordyceps_stack.specs.Shared.Calls.{PartyOf, EndsPushed, IsOvertaken}
-use Rattle.cordyceps_stack.specs.Shared.View.{Idle, Ready, Loaded, View, FreeChain, name, leads, with_first}
-use Rattle.cordyceps_stack.specs.Shared.View.{with_last, IsTied}
+use Rattle.cordyceps_stack.specs.Shared.View.{Idle, Ready, Loaded, View, name}
 use Rattle.cordyceps_stack.specs.Shared.Words.{start}
 use Rattle.cordyceps_shared.specs.Slots.{view, hand}
 
 -- a seat of this table, which is a stack's
 abbrev pub IsSeatOf : TableId → TableId → Type 0
 IsSeatOf seat table = (seat ≡ table) × IsTable table
-
--- what a party has of its free rooms: their number, and the first and the last if there is one
-pub record Tracks (free : FreeRooms) (chain : FreeChain) : Type 0 where
-  pub count : free.count ≡ length chain.rooms
-  pub first : (r : ℕ) (rs : List ℕ) → chain.rooms ≡ r ∷ rs → free.first ≡ suc r
-  pub last : (before : List ℕ) (r : ℕ) → chain.rooms ≡ before ++ r ∷ [] → free.last ≡ r
 
 module _ {E : Type 0} where
   -- the last free room has another link, if any, and all else is as before

@@ -1,6 +1,7 @@
 -- What each atomic step tells a party of a transfer stack: of its seat m before, of the word that it found, and of its
 -- seat k after. A seat has a view, and the slots in hand, the last taken first.
 use Rattle.std.specs.Prelude.{◌≡◌, ◌≢◌, ℕ, ◌+◌, ◌<◌, ◌≤◌, List, [], ◌∷◌, ◌++◌, length, Some, None}
+use Rattle.cordyceps_shared.specs.FreeChains.{leads, with_first, with_last}
 use Rattle.cordyceps_shared.specs.Knowing.{Grown}
 use Rattle.cordyceps_shared.specs.Shares.{Name}
 use Rattle.cordyceps_shared.specs.declared.layout.TheConstants.{LINKS}
@@ -8,7 +9,6 @@ use Rattle.cordyceps_stack.specs.History.{Event, Load, Push, Taken, Legal, actor
 use Rattle.cordyceps_stack.specs.Cores.Stages.{room_elements}
 use Rattle.cordyceps_stack.specs.Shared.Calls.{EndsPushed, EndsLooked, IsOvertaken}
 use Rattle.cordyceps_stack.specs.Shared.View.{Doing, Idle, Ready, Loaded, Set, Walking, View, name, walk_through}
-use Rattle.cordyceps_stack.specs.Shared.View.{leads, with_first, with_last}
 use Rattle.cordyceps_stack.specs.Shared.Words.{start}
 use Rattle.cordyceps_shared.specs.Slots.{Hand, Near, TableStep, SeatWith, view, hand}
 

@@ -1,5 +1,6 @@
 -- What a party of a shared transfer stack knows and does, as the rule of the stack's table sees it.
-use Rattle.std.specs.Prelude.{◌≡◌, ◌⊎◌, ℕ, suc, List, [], ◌∷◌, ◌++◌, nat_eq, ◌+◌}
+use Rattle.std.specs.Prelude.{ℕ, List, [], ◌∷◌, nat_eq, ◌+◌}
+use Rattle.cordyceps_shared.specs.FreeChains.{FreeChain}
 use Rattle.cordyceps_shared.specs.Counts.{tally, one_if, times, below}
 use Rattle.cordyceps_shared.specs.Knowing.{Known}
 use Rattle.cordyceps_shared.specs.Knowing as knowing
@@ -17,26 +18,6 @@ pub data Doing (E : Type 0) : Type 0 where
   Set : ℕ → ℕ → Doing E
   -- it has these rooms yet to hand out, with their elements
   Walking : List (ℕ × E) → Doing E
-
--- free rooms in the order in which they are used, whose links lead from each to the next; and the last one's link
-pub record FreeChain : Type 0 where
-  pub rooms : List ℕ
-  pub end : ℕ
-
--- the word that leads to the first of these rooms, and to what is after them if there is none
-abbrev pub leads : List ℕ → ℕ → ℕ
-leads [] end = end
-leads (r ∷ rs) end = suc r
-
-abbrev pub with_first : ℕ → FreeChain → FreeChain
-with_first r chain = record { rooms = r ∷ chain.rooms; end = chain.end }
-
-abbrev pub with_last : ℕ → ℕ → FreeChain → FreeChain
-with_last r end chain = record { rooms = chain.rooms ++ r ∷ []; end = end }
-
--- there is no free room, or the last one's link is this word
-abbrev pub IsTied : FreeChain → ℕ → Type 0
-IsTied chain at = (chain.rooms ≡ []) ⊎ (chain.end ≡ at)
 
 -- what the party knows of the history, its free rooms, and what it does
 pub record View (E : Type 0) : Type 0 where

@@ -3,6 +3,7 @@
 use Rattle.std.specs.Prelude.{◌≡◌, ◌⊎◌, ℕ, suc, ◌+◌, ◌<◌, ◌≤◌, List, [], ◌∷◌, ◌++◌, length, reverse}
 use mathlib.Core.Option.{some}
 use lib.ListN.{get_elem?}
+use Rattle.cordyceps_shared.specs.FreeChains.{Links}
 use Rattle.cordyceps_shared.specs.Counts.{tally}
 use Rattle.cordyceps_shared.specs.Histories.{events, NoneOf}
 use Rattle.cordyceps_shared.specs.Shares.{Name}
@@ -11,7 +12,7 @@ use Rattle.cordyceps_shared.specs.declared.layout.TheConstants.{LINKS}
 use Rattle.cordyceps_stack.specs.History.{Event, Load, held, Legal, SomeChange}
 use Rattle.cordyceps_stack.specs.Cores.Stages.{room_elements}
 use Rattle.cordyceps_stack.specs.Shared.View.{Doing, Idle, Ready, Loaded, Set, Walking, View, in_chain}
-use Rattle.cordyceps_stack.specs.Shared.View.{count_with_party, leads}
+use Rattle.cordyceps_stack.specs.Shared.View.{count_with_party}
 
 -- each event with the seat of its party
 abbrev pub History : Type 0 → Type 0
@@ -26,11 +27,6 @@ start (x ∷ xs) = suc x.0
 abbrev pub Spells : {E : Type 0} → List ℕ → ℕ → List (ℕ × E) → Type 0
 Spells words h [] = h ≡ 0
 Spells words h (x ∷ xs) = (h ≡ suc x.0) × Spells words (next words x.0) xs
-
--- the links lead from each of these rooms to the next, and the last one's is this word
-abbrev pub Links : List ℕ → List ℕ → ℕ → Type 0
-Links words [] end = Unit {0}
-Links words (r ∷ rs) end = (next words r ≡ leads rs end) × Links words rs end
 
 -- the words of a new stack, all of whose rooms are free
 pub record AreNew (words : List ℕ) (rooms : ℕ) : Type 0 where

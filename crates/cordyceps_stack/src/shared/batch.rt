@@ -1,17 +1,18 @@
 //! How what a party took from a shared stack becomes a plain stack.
 ghost use Rattle.std.specs.Prelude.{◌≡◌, map};
-ghost use Rattle.cordyceps_stack.specs.Shared.Parts.{IsSeatOf, EmptiesHand, Tracks};
+ghost use Rattle.cordyceps_shared.specs.FreeChains.{Tracks};
+ghost use Rattle.cordyceps_stack.specs.Shared.Parts.{IsSeatOf, EmptiesHand};
 ghost use Rattle.cordyceps_stack.specs.Cores.Stages.{room_elements};
 ghost use Rattle.cordyceps_stack.specs.Shared.Plays.{IsWalking, to_hand_out};
 ghost use Rattle.cordyceps_stack.specs.Shared.Words.{start};
 ghost use Rattle.cordyceps_shared.specs.Slots.{view};
 
-use crate::shared::free::FreeRooms;
 use crate::shared::parting::tie;
 use crate::shared::steps::walk;
 use crate::shared::table::{PartySeat, Words};
 use cordyceps_base::linked::Linked;
 use cordyceps_base::stack::Links;
+use cordyceps_shared::free::FreeRooms;
 use cordyceps_single::stack::{Stack, put_last};
 
 /// Moves the elements that the party took out of their slots, from the room that `at` leads to on. Their rooms, which

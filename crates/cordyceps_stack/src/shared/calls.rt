@@ -7,12 +7,12 @@ ghost use Rattle.cordyceps_stack.specs.History.{held, Legal};
 ghost use Rattle.cordyceps_stack.specs.Shared.Calls.{PushesAt, Misses, Takes, Looks};
 
 use crate::shared::batch::hand_out;
-use crate::shared::free::FreeRooms;
 use crate::shared::table::{OwnedTable, PartySeat};
 use crate::shared::{parting, steps};
 use cordyceps_base::linked::Linked;
 use cordyceps_base::shared::MAX_ROOMS;
 use cordyceps_base::stack::Links;
+use cordyceps_shared::free::FreeRooms;
 use cordyceps_single::stack::Stack;
 use std::alloc::{AllocError, Global};
 use std::marker::Model;

@@ -1,22 +1,21 @@
 //! How a shared stack is created, and how its parties are split and absorbed.
 ghost use Rattle.std.specs.Prelude.{◌≡◌, ◌≤◌, ◌+◌, ℕ, suc, List, [], ◌∷◌, ◌++◌, take, drop, IfOk};
+ghost use Rattle.cordyceps_shared.specs.FreeChains.{joined, MayJoin, Tracks};
 ghost use Rattle.cordyceps_shared.specs.Knowing.{IsKnown};
 ghost use Rattle.cordyceps_stack.specs.History.{Legal};
 ghost use Rattle.cordyceps_stack.specs.Shared.Parting.{view_keeping, view_giving, view_absorbing};
-ghost use Rattle.cordyceps_stack.specs.Shared.Parting.{joined, MayJoin};
-ghost use Rattle.cordyceps_stack.specs.Shared.Parts.{IsSeatOf, Tracks, Ties, Relinked, HasAbsorbed};
+ghost use Rattle.cordyceps_stack.specs.Shared.Parts.{IsSeatOf, Ties, Relinked, HasAbsorbed};
 ghost use Rattle.cordyceps_stack.specs.Shared.Words.{AreNew};
 ghost use Rattle.cordyceps_stack.specs.Shared.Plays.{IsResting};
 ghost use Rattle.cordyceps_stack.specs.Shared.View.{newcomer};
 ghost use Rattle.cordyceps_shared.specs.Slots.{Near, view};
 
-use crate::shared::free::FreeRooms;
 use crate::shared::plays::{Cut, Learn, Merge, Skip, Tie};
 use crate::shared::table::{OwnedTable, PartySeat, Words};
 use atomic_table::Table;
 use cordyceps_base::shared::MAX_ROOMS;
+use cordyceps_shared::free::{Count, FreeRooms};
 use cordyceps_shared::layout::{HEAD, LINKS};
-use cordyceps_shared::slots::Count;
 use std::alloc::{AllocError, Global};
 use std::marker::Brand;
 

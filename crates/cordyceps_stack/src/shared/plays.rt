@@ -7,7 +7,7 @@ ghost use Rattle.cordyceps_stack.specs.Shared.Parting.{view_absorbing, view_abso
 
 use crate::shared::table::SeatView;
 use atomic_table::{Join, Play, Split};
-use cordyceps_shared::slots::Count;
+use cordyceps_shared::free::Count;
 use std::marker::PhantomData;
 
 /// A load of the head by `is_empty`.

@@ -1,19 +1,20 @@
 //! The atomic steps of a shared stack. Each function is a part of a call.
 ghost use Rattle.std.specs.Prelude.{◌≡◌, ◌≢◌, ◌<◌, ℕ, suc, List, [], ◌∷◌, Some, None, MatchResult, MatchOption, IsTrue};
+ghost use Rattle.cordyceps_shared.specs.FreeChains.{Tracks, leads, with_first, IsTied};
 ghost use Rattle.cordyceps_stack.specs.Shared.Parts.{IsSeatOf, IsFilled, IsLoaded, Settled, HasMissed, HasPushed};
-ghost use Rattle.cordyceps_stack.specs.Shared.Parts.{SettlesAt, TookAll, Walked, Tracks};
+ghost use Rattle.cordyceps_stack.specs.Shared.Parts.{SettlesAt, TookAll, Walked};
 ghost use Rattle.cordyceps_stack.specs.History as event;
 ghost use Rattle.cordyceps_stack.specs.Shared.Plays.{Sees, IsResting, IsReady, IsWalking, to_hand_out};
 ghost use Rattle.cordyceps_shared.specs.Slots.{view, hand};
 ghost use Rattle.cordyceps_stack.specs.Shared.Calls.{EndsLooked};
-ghost use Rattle.cordyceps_stack.specs.Shared.View.{Idle, leads, with_first, IsTied, name};
+ghost use Rattle.cordyceps_stack.specs.Shared.View.{Idle, name};
 ghost use Rattle.cordyceps_stack.specs.Shared.View as doing;
 ghost use Rattle.cordyceps_shared.specs.Shares.{whole};
 ghost use Rattle.cordyceps_stack.specs.Shared.Words.{start};
 
-use crate::shared::free::FreeRooms;
 use crate::shared::plays::{Exchange, Load, Look, Ready, Return, Take, Walk, Write};
 use crate::shared::table::{PartySeat, Words};
+use cordyceps_shared::free::FreeRooms;
 use cordyceps_shared::layout::{HEAD, LINKS};
 use crossbeam_utils::Backoff;
 use std::sync::Wait;

@@ -1,8 +1,8 @@
 use Rattle.std.proofs.Common.{◌≡◌, ◌+◌, ◌-◌, suc, inr, sym, ap, ◌∙◌, subst, arith, rules}
 use Rattle.std.proofs.lemmas.Grind.{common_steps}
-use Rattle.cordyceps_stack.specs.Shared.Parts.{Tracks}
-use Rattle.cordyceps_stack.specs.declared.shared.free.FreeRooms.{FreeRooms}
-use Rattle.cordyceps_stack.proofs.SharedTheory.TrackRooms.{tracks_more, more_than_none}
+use Rattle.cordyceps_shared.specs.FreeChains.{Tracks}
+use Rattle.cordyceps_shared.specs.declared.free.FreeRooms.{FreeRooms}
+use Rattle.cordyceps_shared.proofs.TrackRooms.{tracks_more, more_than_none}
 use Rattle.cordyceps_stack.proofs.shared.batch.hand_out.Goals as goal
 
 pub loop-at-preserved : goal.loop-at-preserved

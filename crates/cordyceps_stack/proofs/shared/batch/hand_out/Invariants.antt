@@ -1,8 +1,7 @@
 use Rattle.std.proofs.Common.{◌≡◌, ◌≢◌, ◌+◌, [], ◌++◌, map, length}
+use Rattle.cordyceps_shared.specs.FreeChains.{Tracks, IsTied}
 use Rattle.cordyceps_stack.specs.Cores.Stages.{room_elements}
-use Rattle.cordyceps_stack.specs.Shared.Parts.{Tracks}
 use Rattle.cordyceps_stack.specs.Shared.Plays.{IsWalking, to_hand_out}
-use Rattle.cordyceps_stack.specs.Shared.View.{IsTied}
 use Rattle.cordyceps_stack.specs.Shared.Words.{start}
 use Rattle.cordyceps_stack.proofs.shared.batch.hand_out.Given as goal
 

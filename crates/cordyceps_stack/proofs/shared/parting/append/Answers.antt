@@ -1,5 +1,5 @@
 use Rattle.std.proofs.Common.{rules}
-use Rattle.cordyceps_stack.proofs.SharedTheory.TrackRooms.{tracks_joined}
+use Rattle.cordyceps_shared.proofs.TrackRooms.{tracks_joined}
 use Rattle.cordyceps_stack.proofs.shared.parting.append.Goals as goal
 
 pub returns-then-other-gt0-clause-tracks : goal.returns-then-other-gt0-clause-tracks

@@ -1,10 +1,10 @@
 use Rattle.std.proofs.Common.{◌≡◌, ◌+◌, ◌-◌, ◌<◌, length, take, drop, sym, ap, ◌∙◌, rules, arith, add-one}
+use Rattle.cordyceps_shared.specs.FreeChains.{leads}
 use Rattle.cordyceps_shared.proofs.Places.{near_drop}
 use Rattle.cordyceps_shared.specs.declared.layout.TheConstants.{LINKS}
-use Rattle.cordyceps_stack.specs.Shared.View.{leads}
 use Rattle.cordyceps_stack.proofs.SharedTheory.StepsKeep.{skips}
 use Rattle.cordyceps_stack.proofs.SharedTheory.PartsJoin.{first_near}
-use Rattle.cordyceps_stack.proofs.SharedTheory.TrackRooms.{room_at, last_same}
+use Rattle.cordyceps_shared.proofs.TrackRooms.{room_at, last_same}
 use Rattle.cordyceps_stack.proofs.shared.parting.pass.Goals as goal
 
 pub overflow_sub-last : goal.overflow_sub-last

@@ -1,9 +1,7 @@
 use Rattle.std.proofs.Common.{◌-◌, sym, ap, subst}
-use Rattle.cordyceps_stack.specs.Shared.Parts.{Tracks}
-use Rattle.cordyceps_stack.specs.Shared.Parting.{first_rooms, rest_rooms}
-use Rattle.cordyceps_stack.specs.Shared.View.{FreeChain}
-use Rattle.cordyceps_stack.specs.declared.shared.free.FreeRooms.{FreeRooms}
-use Rattle.cordyceps_stack.proofs.SharedTheory.TrackRooms.{tracks_keeping, tracks_giving}
+use Rattle.cordyceps_shared.specs.FreeChains.{Tracks, first_rooms, rest_rooms, FreeChain}
+use Rattle.cordyceps_shared.specs.declared.free.FreeRooms.{FreeRooms}
+use Rattle.cordyceps_shared.proofs.TrackRooms.{tracks_keeping, tracks_giving}
 use Rattle.cordyceps_stack.proofs.shared.parting.split.Goals as goal
 
 pub returns-clause-tracks : goal.returns-clause-tracks

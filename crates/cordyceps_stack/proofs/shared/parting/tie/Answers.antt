@@ -1,6 +1,6 @@
 use Rattle.std.proofs.Common.{refl, rules}
 use Rattle.cordyceps_stack.proofs.SharedTheory.StepsKeep.{ties}
-use Rattle.cordyceps_stack.proofs.SharedTheory.TrackRooms.{last_room}
+use Rattle.cordyceps_shared.proofs.TrackRooms.{last_room}
 use Rattle.cordyceps_stack.proofs.shared.parting.tie.Goals as goal
 
 pub overflow_add-free : goal.overflow_add-free

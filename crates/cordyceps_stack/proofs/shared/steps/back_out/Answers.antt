@@ -1,6 +1,6 @@
 use Rattle.std.proofs.Common.{[], ◌∷◌, Option, Some, None, refl, sym, ap, ◌∙◌, rules}
 use Rattle.atomic_table.specs.Table.{rest}
-use Rattle.cordyceps_stack.specs.Shared.View.{leads}
+use Rattle.cordyceps_shared.specs.FreeChains.{leads}
 use Rattle.cordyceps_stack.proofs.SharedTheory.StepsKeep.{returns}
 use Rattle.cordyceps_stack.proofs.shared.steps.back_out.Goals as goal
 

@@ -1,7 +1,7 @@
 use Rattle.std.proofs.Common.{◌∷◌, Option, Some, None, suc, refl, sym, ap, ◌∙◌, subst, rules}
 use Rattle.atomic_table.specs.Table.{rest}
+use Rattle.cordyceps_shared.specs.FreeChains.{FreeChain, leads, with_first}
 use Rattle.cordyceps_shared.specs.Places.{ItemAt}
-use Rattle.cordyceps_stack.specs.Shared.View.{FreeChain, leads, with_first}
 use Rattle.cordyceps_stack.proofs.SharedTheory.StepsKeep.{readies}
 use Rattle.cordyceps_stack.proofs.SharedTheory.PartsJoin.{first_near, hand_of}
 use Rattle.cordyceps_stack.proofs.shared.steps.fill.Goals as goal

@@ -1,5 +1,6 @@
 use Rattle.std.proofs.Common.{suc, ap, ◌∙◌, rules}
-use Rattle.cordyceps_stack.proofs.SharedTheory.PartsJoin.{first_room, pushed_from, tracks_after}
+use Rattle.cordyceps_stack.proofs.SharedTheory.PartsJoin.{pushed_from, tracks_after}
+use Rattle.cordyceps_shared.proofs.TrackRooms.{first_room}
 use Rattle.cordyceps_stack.proofs.shared.steps.push.Goals as goal
 
 pub overflow_sub-room : goal.overflow_sub-room

@@ -1,8 +1,8 @@
 use Rattle.std.proofs.Common.{sym, ap, ◌∙◌, subst, rules}
+use Rattle.cordyceps_shared.specs.FreeChains.{Tracks, leads}
 use Rattle.cordyceps_shared.proofs.Choices.{some_or}
-use Rattle.cordyceps_stack.specs.Shared.Parts.{Tracks}
-use Rattle.cordyceps_stack.specs.Shared.View.{leads}
-use Rattle.cordyceps_stack.proofs.SharedTheory.PartsJoin.{hand_of, first_room, pushed_from, missed_from, tracks_after}
+use Rattle.cordyceps_stack.proofs.SharedTheory.PartsJoin.{hand_of, pushed_from, missed_from, tracks_after}
+use Rattle.cordyceps_shared.proofs.TrackRooms.{first_room}
 use Rattle.cordyceps_stack.proofs.shared.steps.try_push.Goals as goal
 
 pub overflow_sub-room : goal.overflow_sub-room

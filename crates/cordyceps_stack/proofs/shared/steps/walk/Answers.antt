@@ -1,9 +1,9 @@
 use Rattle.std.proofs.Common.{◌≡◌, ◌+◌, suc, [], ◌∷◌, Option, Some, None, sym, ap, ◌∙◌, subst, rules}
 use Rattle.atomic_table.specs.Table.{rest}
+use Rattle.cordyceps_shared.specs.FreeChains.{with_last, IsTied}
 use Rattle.cordyceps_shared.specs.Slots.{Near}
 use Rattle.cordyceps_shared.specs.declared.layout.TheConstants.{LINKS}
 use Rattle.cordyceps_stack.specs.Shared.Plays.{to_hand_out, carry, IsWalking}
-use Rattle.cordyceps_stack.specs.Shared.View.{with_last, IsTied}
 use Rattle.cordyceps_stack.specs.Shared.Words.{start}
 use Rattle.cordyceps_stack.proofs.SharedTheory.PartsJoin.{hand_of, next_of, batch_walking}
 use Rattle.cordyceps_shared.proofs.Choices.{some_or}

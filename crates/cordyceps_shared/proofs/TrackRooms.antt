@@ -1,13 +1,11 @@
 -- What a party has of its free rooms: their first, their last and their number.
 use Rattle.std.proofs.Common.{◌≡◌, ℕ, zero, suc, ◌+◌, ◌-◌, ◌<◌, ◌≤◌, List, [], ◌∷◌, ◌++◌, length, reverse, take, drop, refl, sym, ap, ◌∙◌, subst, arith, append-nil, append_assoc, take-append-drop, length-append, length-drop}
 use Rattle.std.proofs.lemmas.List.{reverse-append, length-take-le}
+use Rattle.cordyceps_shared.specs.FreeChains.{FreeChain, with_last, first_rooms, rest_rooms, joined, Tracks}
 use Rattle.cordyceps_shared.specs.Places.{ItemAt}
 use Rattle.cordyceps_shared.specs.Slots.{Near}
 use Rattle.cordyceps_shared.proofs.Choices.{first_or}
-use Rattle.cordyceps_stack.specs.declared.shared.free.FreeRooms.{FreeRooms}
-use Rattle.cordyceps_stack.specs.Shared.View.{FreeChain, with_last}
-use Rattle.cordyceps_stack.specs.Shared.Parting.{first_rooms, rest_rooms, joined}
-use Rattle.cordyceps_stack.specs.Shared.Parts.{Tracks}
+use Rattle.cordyceps_shared.specs.declared.free.FreeRooms.{FreeRooms}
 
 pub last_same : (xs ys : List ℕ) (x y : ℕ) → xs ++ x ∷ [] ≡ ys ++ y ∷ [] → x ≡ y
 last_same xs ys x y e = ap (first_or 0) (sym (reverse-append xs (x ∷ [])) ∙ (ap (λ z. reverse z) e ∙ reverse-append ys (y ∷ [])))
@@ -102,3 +100,13 @@ tracks_alone free other chain after t u none =
       first = λ r rs e. t.first r rs (sym same ∙ e);
       last = λ before r e. t.last before r (sym same ∙ e);
     }
+
+-- the first of some free rooms
+first_from : (free : FreeRooms) (chain : FreeChain) (rooms : List ℕ) → chain.rooms ≡ rooms → Tracks free chain → 0 < free.count → (rs : List ℕ) × (chain.rooms ≡ (free.first - 1) ∷ rs) × (1 ≤ free.first)
+first_from free chain [] is t some_of = let none = ap (λ (l : List ℕ). length l) is in let c = t.count in absurd (omega arith)
+first_from free chain (r ∷ rs) is t some_of =
+    let first = t.first r rs is in
+    let same : r ≡ free.first - 1 = omega arith in (rs, is ∙ ap (λ z. z ∷ rs) same, omega arith)
+
+pub first_room : (free : FreeRooms) (chain : FreeChain) → Tracks free chain → 0 < free.count → (rs : List ℕ) × (chain.rooms ≡ (free.first - 1) ∷ rs) × (1 ≤ free.first)
+first_room free chain t some_of = first_from free chain chain.rooms refl t some_of

@@ -1,13 +1,11 @@
 -- The links of free rooms: what a store leaves of them, and how they are cut and joined.
 use Rattle.std.proofs.Common.{◌≡◌, ◌⊎◌, ℕ, zero, suc, ◌+◌, ◌≤◌, ◌<◌, List, [], ◌∷◌, ◌++◌, length, set, take, drop, refl, sym, ap, ◌∙◌, subst, inl, inr, ⊎_elim, arith, append-nil, eqb}
+use Rattle.cordyceps_shared.specs.FreeChains.{leads, Links, end_after}
 use Rattle.cordyceps_shared.specs.Counts.{one_if, times, below}
 use Rattle.cordyceps_shared.specs.Words.{next}
 use Rattle.cordyceps_shared.specs.declared.layout.TheConstants.{LINKS}
 use Rattle.cordyceps_shared.proofs.Counting.{one_here}
 use Rattle.cordyceps_shared.proofs.Words.{next_set, next_beside_next}
-use Rattle.cordyceps_stack.specs.Shared.View.{leads}
-use Rattle.cordyceps_stack.specs.Shared.Words.{Links}
-use Rattle.cordyceps_stack.specs.Shared.Parting.{end_after}
 
 pub links_frame : (ws ws' rooms : List ℕ) (end : ℕ) → ((r : ℕ) → 1 ≤ times r rooms → next ws' r ≡ next ws r) → Links ws rooms end → Links ws' rooms end
 links_frame ws ws' [] end same k = tt
