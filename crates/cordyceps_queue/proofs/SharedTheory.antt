@@ -17,6 +17,8 @@ pub mod ReturnKeeps
 pub mod RightHolds
 pub mod SeatNames
 pub mod Sending
+pub mod SpareKeeps
+pub mod SpareRooms
 pub mod StubKeeps
 pub mod TriesInTurn
 pub mod WaitingTries

@@ -3,9 +3,11 @@
 pub(crate) mod batch;
 pub(crate) mod calls;
 pub(crate) mod consumer;
+pub(crate) mod linking;
 pub(crate) mod owned_consumer;
 pub(crate) mod parting;
 pub(crate) mod plays;
+pub(crate) mod spare;
 pub(crate) mod steps;
 pub(crate) mod stub_steps;
 pub(crate) mod table;

@@ -5,7 +5,6 @@ use mathlib.Core.Option as maybe
 use lib.ListN.{get_elem?}
 use Rattle.atomic_table.specs.Table.{Step, Me}
 use Rattle.cordyceps_shared.specs.Places.{ItemAt}
-use Rattle.cordyceps_shared.specs.declared.slots.Filled.{Filled}
 
 -- the slots: what is in each that is at home, which is with the table, and not with a seat
 abbrev pub Homes : Type 0 → Type 0
@@ -33,10 +32,6 @@ Near slots rooms = (i r : ℕ) → ItemAt rooms i r → r < slots
 -- what a step on the table does
 abbrev pub TableStep : Type 0 → Type 0
 TableStep X = Step (Option X)
-
--- what is in the slot of a queue's room in use: its ticket and its element
-abbrev pub full_slot : {E : Type 0} → ℕ → E → Filled E
-full_slot r e = record { ticket = r; item = e }
 
 module _ {X : Type 0} where
   -- the slots of these rooms are at home, with nothing in them

@@ -1,6 +1,6 @@
 -- The steps of a party that dequeues keep the rule of a queue's table. Each is proved where no slot is in hand; `returning`
 -- adds that one is given back first.
-use Rattle.std.proofs.Common.{◌≡◌, ◌≢◌, ℕ, zero, suc, ◌+◌, ◌-◌, List, [], ◌∷◌, ◌++◌, drop, length, reverse, set, get_or, Option, Some, None, refl, sym, ap, ◌∙◌, subst, arith, length-set}
+use Rattle.std.proofs.Common.{◌≡◌, ◌≢◌, ℕ, zero, suc, ◌+◌, ◌-◌, List, [], ◌∷◌, ◌++◌, drop, length, reverse, set, get_or, append-nil, Option, Some, None, refl, sym, ap, ◌∙◌, subst, inl, inr, arith, length-set}
 use Rattle.std.proofs.lemmas.List.{reverse-append}
 use mathlib.Core.Option.{some, none}
 use mathlib.Core.Path.{fun_ext}
@@ -19,24 +19,24 @@ use Rattle.cordyceps_shared.proofs.Telling.{under_append}
 use Rattle.cordyceps_shared.proofs.Seeing.{events_more, plain_marked}
 use Rattle.cordyceps_queue.specs.declared.cores.stage.Stage.{Stage}
 use Rattle.cordyceps_queue.specs.declared.cores.stage.Stage.TheVariants.{Cleared, Holding, Null}
-use Rattle.cordyceps_shared.specs.declared.slots.Filled.{Filled}
+use Rattle.cordyceps_shared.specs.FreeChains.{end_after}
 use Rattle.cordyceps_queue.specs.History.{Event, actor}
 use Rattle.cordyceps_shared.specs.Places.{ItemAt}
-use Rattle.cordyceps_queue.specs.Cores.Meets.{Spare, Shared, OwnsRooms, Chain, Owes, tail_of, AtStage, Meets}
+use Rattle.cordyceps_queue.specs.Cores.Meets.{Owner, Spare, Shared, OwnsRooms, Chain, Owes, tail_of, AtStage, Meets}
 use Rattle.cordyceps_queue.specs.Past.{HasLooked, WasBlockedReversed}
 use Rattle.cordyceps_queue.specs.Shared.Plays.{SeatState, Sees, moves_to, hands_out, Blocked}
-use Rattle.cordyceps_shared.specs.Slots.{Homes, full_slot, EmptyAtHome}
-use Rattle.cordyceps_queue.specs.Shared.Rule.{TableState, link_of, slot_of, party, machine_of, FullAtHome, RuleHolds}
+use Rattle.cordyceps_shared.specs.Slots.{Homes, EmptyAtHome}
+use Rattle.cordyceps_queue.specs.Shared.Rule.{TableState, link_of, party, machine_of, FullAtHome, RuleHolds}
 use Rattle.cordyceps_queue.specs.Shared.View.{View, name}
 use Rattle.cordyceps_queue.specs.Cores.Abstract.{AbstractParty, AbstractMachine, update, insert_room, set_stage, set_right, hand_out}
-use Rattle.cordyceps_queue.proofs.CoreTheory.Basics.{zero_suc, suc_zero, suc_inj, put_same, put_other, put_all}
+use Rattle.cordyceps_queue.proofs.CoreTheory.Basics.{zero_suc, suc_zero, suc_inj, some_inj, at_split, put_same, put_other, put_all}
 use Rattle.cordyceps_queue.proofs.CoreTheory.DequeueSteps.{out_keeps, chain_after_out}
 use Rattle.cordyceps_queue.proofs.CoreTheory.HolderSteps.{was_now, keeping, right_with, stage_keeps, open_blocks}
 use Rattle.cordyceps_queue.proofs.CoreTheory.OtherParties.{joined_put, names_put, strange}
 use Rattle.cordyceps_queue.proofs.CoreTheory.ProducerSteps.{spare_shared, ready_shared}
 use Rattle.cordyceps_queue.proofs.CoreTheory.ChainShrinks.{at_down, tail_full, tail_away, second}
 use Rattle.cordyceps_queue.proofs.SharedTheory.SeatNames.{few_rooms}
-use Rattle.cordyceps_queue.proofs.SharedTheory.WordsAsMachine.{links_same, keeps_rule, rooms_of, empties, empties_same, readies, readies_same, chain_near}
+use Rattle.cordyceps_queue.proofs.SharedTheory.WordsAsMachine.{links_same, keeps_rule, rooms_of, empties, empties_same, readies, readies_same, linkeds_low, linkeds_same, chain_near}
 use Rattle.cordyceps_queue.proofs.SharedTheory.EnqueueKeeps.{m, past, here, view_after, views_put, wide_words}
 
 -- the order of the free rooms of a party with the right does not matter
@@ -66,6 +66,24 @@ put_twice f k v w = fun_ext (λ j. elim (ℕ_discrete j k) [
   | no ne ↦ put_other (update f k v) k w j ne ∙ (put_other f k v j ne ∙ sym (put_other f k w j ne))
 ])
 
+-- one room more behind those of a party
+owns_last : (owner : ℕ → Owner) (k : ℕ) (rooms : List ℕ) (t : ℕ) → ((i x : ℕ) → ItemAt rooms i x → owner x ≡ Spare k) → ((i j x : ℕ) → ItemAt rooms i x → ItemAt rooms j x → i ≡ j) → ((i : ℕ) → ItemAt rooms i t → ⊥) → owner t ≡ Spare k → OwnsRooms owner k (rooms ++ t ∷ [])
+owns_last owner k rooms t own once apart last = record { own = owns; once = distinct }
+  where
+    owns : (i x : ℕ) → ItemAt (rooms ++ t ∷ []) i x → owner x ≡ Spare k
+    owns i x a = elim (at_split rooms t i x a) [ inl b ↦ own i x b | inr b ↦ ap owner b.1 ∙ last ]
+
+    distinct : (i j x : ℕ) → ItemAt (rooms ++ t ∷ []) i x → ItemAt (rooms ++ t ∷ []) j x → i ≡ j
+    distinct i j x a b = elim (at_split rooms t i x a) [
+      | inl c ↦ elim (at_split rooms t j x b) [ inl d ↦ once i j x c d | inr d ↦ absurd (apart i (subst (ItemAt rooms i) d.1 c)) ]
+      | inr c ↦ elim (at_split rooms t j x b) [ inl d ↦ absurd (apart j (subst (ItemAt rooms j) c.1 d)) | inr d ↦ c.0 ∙ sym d.0 ]
+    ]
+
+-- what a word is whose link is a room
+linked_word : (n r : ℕ) → link_of n ≡ Some r → n ≡ suc r
+linked_word zero r e = absurd (cc)
+linked_word (suc n) r e = ap suc (some_inj e)
+
 module _ {E : Type 0} (s : TableState E) (k : RuleHolds s) (id : ℕ) (v : View E) (at : get_elem? s.views id ≡ some v) (named : v.known.share ≢ []) (bare : v.back ≡ []) where
   abbrev pub n : AbstractMachine Name E
   n = m s k id v at named
@@ -76,8 +94,8 @@ module _ {E : Type 0} (s : TableState E) (k : RuleHolds s) (id : ℕ) (v : View 
   pub there : n.party id ≡ Some (party v)
   there = here s k id v at named
 
-  abbrev pub sees : List (Event Name E) → List ℕ → List ℕ → Stage → View E
-  sees es free back stage = view_after s k id v at named es free back stage None
+  abbrev pub sees : List (Event Name E) → List ℕ → ℕ → List ℕ → ℕ → Stage → View E
+  sees es free end back to stage = view_after s k id v at named es free end back to stage None
 
   -- the rooms of one chain are rooms of another
   abbrev pub Among : List ℕ → List ℕ → Type 0
@@ -88,38 +106,38 @@ module _ {E : Type 0} (s : TableState E) (k : RuleHolds s) (id : ℕ) (v : View 
 
   -- a step that changes no word and no slot
   pub reads : (es : List (Event Name E)) → Under actor (name v) es → (stage : Stage) (chain : Chain) → Meets (set_stage n id (party v) stage) chain (reverse es ++ out_events) → Among chain.rooms k.chain.rooms → ((q : ℕ) → stage ≡ Cleared q → ⊥) → (i : ℕ)
-      → RuleHolds record { words = set s.words i (get_or s.words i 0); homes = s.homes; views = set s.views id (sees es v.free v.back stage) } × Sees v es (sees es v.free v.back stage)
+      → RuleHolds record { words = set s.words i (get_or s.words i 0); homes = s.homes; views = set s.views id (sees es v.free v.end v.back v.to stage) } × Sees v es (sees es v.free v.end v.back v.to stage)
   reads es under stage chain met among away i =
-      let w = sees es v.free v.back stage in
+      let w = sees es v.free v.end v.back v.to stage in
       let same : set_stage n id (party v) stage ≡ machine_of k.cell s.words (set s.views id w) = spelled w in
-      let r = keeps_rule s k id es v w s.words s.homes k.cell chain (set_stage n id (party v) stage) at named under refl same met refl refl (full_among chain.rooms among) (empties_same s k id w (k.empty id v at named)) (readies_same s k id w away) in
+      let r = keeps_rule s k id es v w s.words s.homes k.cell chain (set_stage n id (party v) stage) at named under refl same met refl refl (full_among chain.rooms among) (empties_same s k id w (k.empty id v at named)) (readies_same s k id w away) (linkeds_same s k id w (k.linked id v at named)) in
       (subst (λ (ws : List ℕ). RuleHolds record { words = ws; homes = s.homes; views = set s.views id w }) (sym (set-get_or s.words i 0)) r.0, r.1)
     where
-      spelled : (w : View E) → set_stage n id (party v) stage ≡ machine_of k.cell s.words (set s.views id (sees es v.free v.back stage))
+      spelled : (w : View E) → set_stage n id (party v) stage ≡ machine_of k.cell s.words (set s.views id (sees es v.free v.end v.back v.to stage))
       spelled w j = record {
         head = word.head s.words;
         right = word.right s.words;
         count = length s.words - LINKS;
         next = λ r. link_of (word.next s.words r);
         cell = k.cell;
-        party = views_put s k id v at named (sees es v.free v.back stage) named j;
+        party = views_put s k id v at named (sees es v.free v.end v.back v.to stage) named j;
       }
 
   -- the right changes
   pub rights : (es : List (Event Name E)) → Under actor (name v) es → (stage : Stage) (chain : Chain) (right : ℕ) → Meets (set_right n id (party v) right stage) chain (reverse es ++ out_events) → Among chain.rooms k.chain.rooms → ((q : ℕ) → stage ≡ Cleared q → ⊥)
-      → RuleHolds record { words = set s.words RIGHT right; homes = s.homes; views = set s.views id (sees es v.free v.back stage) } × Sees v es (sees es v.free v.back stage)
+      → RuleHolds record { words = set s.words RIGHT right; homes = s.homes; views = set s.views id (sees es v.free v.end v.back v.to stage) } × Sees v es (sees es v.free v.end v.back v.to stage)
   rights es under stage chain right met among away =
-      let w = sees es v.free v.back stage in
-      keeps_rule s k id es v w (set s.words RIGHT right) s.homes k.cell chain (set_right n id (party v) right stage) at named under refl spelled met (length-set s.words RIGHT right) refl (full_among chain.rooms among) (empties_same s k id w (k.empty id v at named)) (readies_same s k id w away)
+      let w = sees es v.free v.end v.back v.to stage in
+      keeps_rule s k id es v w (set s.words RIGHT right) s.homes k.cell chain (set_right n id (party v) right stage) at named under refl spelled met (length-set s.words RIGHT right) refl (full_among chain.rooms among) (empties_same s k id w (k.empty id v at named)) (readies_same s k id w away) (linkeds_low s k id RIGHT right w (omega arith) (k.linked id v at named))
     where
-      spelled : set_right n id (party v) right stage ≡ machine_of k.cell (set s.words RIGHT right) (set s.views id (sees es v.free v.back stage))
+      spelled : set_right n id (party v) right stage ≡ machine_of k.cell (set s.words RIGHT right) (set s.views id (sees es v.free v.end v.back v.to stage))
       spelled j = record {
         head = sym (head_beside_right s.words right) j;
         right = sym (right_set s.words right (let w = wide_words s k id v at named in omega arith)) j;
         count = ap (λ l. l - LINKS) (sym (length-set s.words RIGHT right)) j;
         next = sym (links_same s.words RIGHT right (omega arith)) j;
         cell = k.cell;
-        party = views_put s k id v at named (sees es v.free v.back stage) named j;
+        party = views_put s k id v at named (sees es v.free v.end v.back v.to stage) named j;
       }
 
   -- the tail's element is handed out, after these events
@@ -128,12 +146,12 @@ module _ {E : Type 0} (s : TableState E) (k : RuleHolds s) (id : ℕ) (v : View 
     all = before ++ Event.Out (name v) e ∷ []
 
     abbrev pub out_view : View E
-    out_view = sees all v.free (t ∷ []) (Holding r)
+    out_view = sees all v.free v.end (t ∷ []) (suc r) (Holding r)
 
     abbrev next_chain : Chain
     next_chain = chain_after_out n k.chain (reverse before ++ out_events) M id (party v) there t r has nothing is_real linked e full
 
-    abbrev homes_out : Homes (Filled E)
+    abbrev homes_out : Homes E
     homes_out = set s.homes t none
 
     tail_at : ItemAt k.chain.rooms 0 t
@@ -143,36 +161,26 @@ module _ {E : Type 0} (s : TableState E) (k : RuleHolds s) (id : ℕ) (v : View 
     tail_shared = M.shared 0 t tail_at
 
     free_rooms : OwnsRooms k.chain.owner id v.free
-    free_rooms = subst (λ l. OwnsRooms k.chain.owner id (l ++ v.free)) bare (rooms_of s k id v at named)
+    free_rooms = subst (OwnsRooms k.chain.owner id) (ap (λ l. v.free ++ l) bare ∙ append-nil v.free) (rooms_of s k id v at named)
 
-    new_rooms : OwnsRooms next_chain.owner id (t ∷ v.free)
-    new_rooms = record { own = owns; once = distinct }
+    new_rooms : OwnsRooms next_chain.owner id (v.free ++ t ∷ [])
+    new_rooms = owns_last next_chain.owner id v.free t (λ i x a. put_other k.chain.owner t (Spare id) x (λ same. apart i (subst (ItemAt v.free i) same a)) ∙ free_rooms.own i x a) free_rooms.once apart (put_same k.chain.owner t (Spare id))
       where
         apart : (i : ℕ) → ItemAt v.free i t → ⊥
         apart i a = spare_shared (free_rooms.own i t a) tail_shared
-
-        owns : (i x : ℕ) → ItemAt (t ∷ v.free) i x → next_chain.owner x ≡ Spare id
-        owns zero x a = ap next_chain.owner a ∙ put_same k.chain.owner t (Spare id)
-        owns (suc i) x a = put_other k.chain.owner t (Spare id) x (λ same. apart i (subst (ItemAt v.free i) same a)) ∙ free_rooms.own i x a
-
-        distinct : (i j x : ℕ) → ItemAt (t ∷ v.free) i x → ItemAt (t ∷ v.free) j x → i ≡ j
-        distinct zero zero x a b = refl
-        distinct zero (suc j) x a b = absurd (apart j (subst (ItemAt v.free j) a b))
-        distinct (suc i) zero x a b = absurd (apart i (subst (ItemAt v.free i) b a))
-        distinct (suc i) (suc j) x a b = ap suc (free_rooms.once i j x a b)
 
     abbrev handed_machine : AbstractMachine Name E
     handed_machine = hand_out n id (party v) t r
 
     abbrev handed_party : AbstractParty Name
-    handed_party = record { name = name v; stage = Holding r; spare = insert_room t (v.back ++ v.free) }
+    handed_party = record { name = name v; stage = Holding r; spare = insert_room t (v.free ++ v.back) }
 
     abbrev freed_machine : AbstractMachine Name E
     freed_machine = record handed_machine { party = update handed_machine.party id (Some (party out_view)) }
 
     met : Meets freed_machine next_chain (Event.Out (name v) e ∷ (reverse before ++ out_events))
     met = respare handed_machine next_chain (Event.Out (name v) e ∷ (reverse before ++ out_events)) (out_keeps n k.chain (reverse before ++ out_events) M id (party v) there t r has nothing is_real linked e full)
-        id handed_party (put_same n.party id (Some handed_party)) r refl (t ∷ v.free) new_rooms
+        id handed_party (put_same n.party id (Some handed_party)) r refl (v.free ++ t ∷ []) new_rooms
 
     spelled_out : freed_machine ≡ machine_of (update k.cell t None) s.words (set s.views id out_view)
     spelled_out j = record {
@@ -187,7 +195,7 @@ module _ {E : Type 0} (s : TableState E) (k : RuleHolds s) (id : ℕ) (v : View 
     out_full : FullAtHome homes_out (update k.cell t None) next_chain.rooms
     out_full i x ix ne =
         let away : x ≢ t = λ same. tail_away n k.chain (reverse before ++ out_events) M t r tail_at linked i (subst (ItemAt next_chain.rooms i) same ix) in
-        set_else s.homes t x none away ∙ (k.full (suc i) x (at_down k.chain.rooms i x ix) ne ∙ ap (λ o. some (some (slot_of x o))) (sym (put_other k.cell t None x away)))
+        set_else s.homes t x none away ∙ (k.full (suc i) x (at_down k.chain.rooms i x ix) ne ∙ ap (λ o. some (some o)) (sym (put_other k.cell t None x away)))
 
     out_empty : EmptyAtHome homes_out v.free
     out_empty i x ix = set_else s.homes t x none (λ same. spare_shared (free_rooms.own i x ix) (ap k.chain.owner same ∙ tail_shared)) ∙ k.empty id v at named i x ix
@@ -197,14 +205,14 @@ module _ {E : Type 0} (s : TableState E) (k : RuleHolds s) (id : ℕ) (v : View 
         let h = ap (λ l. l ++ out_events) (reverse-append before (Event.Out (name v) e ∷ [])) in
         let kept = keeps_rule s k id all v out_view s.words homes_out (update k.cell t None) next_chain freed_machine at named (under_append actor (name v) before (Event.Out (name v) e ∷ []) under (refl, tt)) refl spelled_out (subst (Meets freed_machine next_chain) (sym h) met) refl (length-set s.homes t none) out_full
         (empties s k id t none out_view out_empty (λ j ne mine. spare_shared mine tail_shared))
-        (readies s k id t None out_view (λ q is. cc) (λ j ne mine. ready_shared mine tail_shared)) in
+        (readies s k id t None out_view (λ q is. cc) (λ j ne mine. ready_shared mine tail_shared)) (linkeds_same s k id out_view ((k.linked id v at named).0, (linked_word (word.next s.words t) r linked, tt))) in
         (subst (λ (ws : List ℕ). RuleHolds record { words = ws; homes = homes_out; views = set s.views id out_view }) (sym (set-get_or s.words i 0)) kept.0, kept.1)
 
   -- ---- what the steps tell
-  pub stood : (es : List (Event Name E)) (stage : Stage) → Sees v es (sees es v.free v.back stage) → moves_to es stage (v, []) (sees es v.free v.back stage, [])
-  stood es stage adds = (refl, bare, ap (λ l. l ++ v.free) (sym bare), refl, adds)
+  pub stood : (es : List (Event Name E)) (stage : Stage) → Sees v es (sees es v.free v.end v.back v.to stage) → moves_to es stage (v, []) (sees es v.free v.end v.back v.to stage, [])
+  stood es stage adds = (refl, bare, sym (ap (λ l. v.free ++ l) bare ∙ append-nil v.free), refl, adds, sym (ap (λ l. end_after v.end l v.to) bare))
 
-  pub blocked : (es : List (Event Name E)) (stage : Stage) → WasBlockedReversed (name v) (reverse es ++ out_events) → Blocked (sees es v.free v.back stage)
+  pub blocked : (es : List (Event Name E)) (stage : Stage) → WasBlockedReversed (name v) (reverse es ++ out_events) → Blocked (sees es v.free v.end v.back v.to stage)
   blocked es stage was = subst (WasBlockedReversed (name v)) (sym (ap (λ z. reverse z) (plain_marked id (k.history ++ of_seat id es)) ∙ (ap (λ z. reverse z) (events_more k.history id es) ∙ reverse-append (events k.history) es))) was
 
   pub same_rooms : Among k.chain.rooms k.chain.rooms
@@ -215,7 +223,7 @@ module _ {E : Type 0} (s : TableState E) (k : RuleHolds s) (id : ℕ) (v : View 
 
   -- what a step comes to
   abbrev pub Comes : ℕ → ℕ → (ℕ → SeatState E → Type 0) → Type 0
-  Comes i new then = (w : View E) × (a : Act (Option (Filled E))) × Valid s.homes [] a × RuleHolds (stepped s i new id [] w a) × then (get_or s.words i 0) (w, carried_after [] a)
+  Comes i new then = (w : View E) × (a : Act (Option E)) × Valid s.homes [] a × RuleHolds (stepped s i new id [] w a) × then (get_or s.words i 0) (w, carried_after [] a)
 
   -- with the tail's link a room: the element is handed out
   pub hands : (before : List (Event Name E)) (under : Under actor (name v) before) (M : Meets n k.chain (reverse before ++ out_events)) (t r i : ℕ) (has : tail_of v.stage ≡ Some t) (nothing : (a b : ℕ) → Owes v.stage a b → ⊥) (is_real : t ≢ 0) (linked : n.next t ≡ Some r) (slots : ℕ) → length s.homes ≡ slots
@@ -228,10 +236,10 @@ module _ {E : Type 0} (s : TableState E) (k : RuleHolds s) (id : ℕ) (v : View 
       let near_r = chain_near s k 1 r (second n k.chain (reverse before ++ out_events) M t r first linked) in
       let o = out_kept before under M t r has nothing is_real linked e f.3 i in (
         out_view before under M t r has nothing is_real linked e f.3,
-        takes t (Some (full_slot t e)),
-        k.full 0 t first is_real ∙ ap (λ x. some (some (slot_of t x))) f.3,
+        takes t (Some e),
+        k.full 0 t first is_real ∙ ap (λ x. some (some x)) f.3,
         o.0,
-        (e, refl, refl, ap (λ l. l ++ v.free) (sym bare), refl, omega arith, omega arith, o.1, let few = few_rooms s k id v at named in omega arith),
+        (e, refl, refl, sym (ap (λ l. v.free ++ l) bare ∙ append-nil v.free), refl, omega arith, omega arith, o.1, (let few = few_rooms s k id v at named in omega arith), sym (ap (λ l. end_after v.end l v.to) bare), refl),
       )
 
   -- with the tail's link null
@@ -244,7 +252,7 @@ module _ {E : Type 0} (s : TableState E) (k : RuleHolds s) (id : ℕ) (v : View 
         (λ far. was_now (name v) h looked (open_blocks n k.chain h M id (party v) there t has nothing open_link far)),
       ) in
       let r = reads before under (Null t) k.chain met same_rooms (λ q is. cc) i in
-      (sees before v.free v.back (Null t), keeps, tt, r.0, stood before (Null t) r.1)
+      (sees before v.free v.end v.back v.to (Null t), keeps, tt, r.0, stood before (Null t) r.1)
 
   -- the read of a tail's link that is no stub
   abbrev pub ReadsTail : List (Event Name E) → ℕ → ℕ → ℕ → SeatState E → Type 0

@@ -1,5 +1,5 @@
 -- The steps of `enqueue` keep the rule of a queue's table.
-use Rattle.std.proofs.Common.{◌≡◌, ◌≢◌, ℕ, suc, ◌+◌, ◌-◌, ◌<◌, List, [], ◌∷◌, ◌++◌, length, reverse, set, Option, Some, None, refl, sym, ap, ◌∙◌, subst, inl, inr, arith, length-set}
+use Rattle.std.proofs.Common.{◌≡◌, ◌≢◌, ℕ, suc, ◌+◌, ◌-◌, ◌<◌, List, [], ◌∷◌, ◌++◌, length, reverse, set, get_or, append-nil, Option, Some, None, refl, sym, ap, ◌∙◌, subst, inl, inr, arith, length-set}
 use mathlib.Core.Option.{some, none}
 use lib.ListN.{get_elem?}
 use Rattle.atomic_table.specs.Table.{keeps, takes, gives, homes_after, rest, step, Allows}
@@ -14,19 +14,19 @@ use Rattle.cordyceps_shared.proofs.Choices.{first_or, rest_from}
 use Rattle.cordyceps_shared.proofs.Telling.{at_length, grown_then}
 use Rattle.cordyceps_queue.specs.declared.cores.stage.Stage.{Stage}
 use Rattle.cordyceps_queue.specs.declared.cores.stage.Stage.TheVariants.{Rest, Cleared, Swapped}
-use Rattle.cordyceps_shared.specs.declared.slots.Filled.{Filled}
+use Rattle.cordyceps_shared.specs.FreeChains.{Links, leads}
 use Rattle.cordyceps_queue.specs.History.{Event, actor}
 use Rattle.cordyceps_shared.specs.Places.{ItemAt}
-use Rattle.cordyceps_queue.specs.Cores.Meets.{Owner, Spare, OwnsRooms, AtStage}
+use Rattle.cordyceps_queue.specs.Cores.Meets.{Owner, Spare, Shared, OwnsRooms, AtStage}
 use Rattle.cordyceps_queue.specs.Shared.Plays.{SeatState, LegalReversed, Sees}
 use Rattle.cordyceps_queue.specs.Shared.Plays as play
-use Rattle.cordyceps_shared.specs.Slots.{Homes, full_slot, EmptyAtHome, Hand}
-use Rattle.cordyceps_queue.specs.Shared.Rule.{TableState, slot_of, party, party_of, machine_of, FullAtHome, RuleHolds}
+use Rattle.cordyceps_shared.specs.Slots.{Homes, EmptyAtHome, Hand}
+use Rattle.cordyceps_queue.specs.Shared.Rule.{TableState, party, party_of, machine_of, FullAtHome, RuleHolds}
 use Rattle.cordyceps_queue.specs.Shared.View.{View, name}
 use Rattle.cordyceps_queue.specs.Cores.Abstract.{AbstractMachine, update, clear_room, swap_head, link_next}
 use Rattle.cordyceps_queue.proofs.CoreTheory.Basics.{some_inj, put_same, put_other, at_split}
 use Rattle.cordyceps_queue.proofs.CoreTheory.ProducerSteps.{spare_shared, ready_spare, clear_keeps, chain_after_clear, swap_keeps, chain_after_swap, was, fresh, link_keeps}
-use Rattle.cordyceps_queue.proofs.SharedTheory.WordsAsMachine.{links_put, links_same, parties_put, keeps_rule, core, party_at, rooms_of, free_spare, empties, empties_same, readies, readies_same, head_near}
+use Rattle.cordyceps_queue.proofs.SharedTheory.WordsAsMachine.{links_put, links_same, parties_put, keeps_rule, core, party_at, rooms_of, free_spare, empties, empties_same, readies, readies_same, head_near, linked_else, own_links, linkeds, linkeds_low}
 
 abbrev room_of : Stage → ℕ
 room_of (Cleared r) = r
@@ -46,8 +46,8 @@ module _ {E : Type 0} (s : TableState E) (k : RuleHolds s) (id : ℕ) (v : View 
   here = party_at s k id v at named
 
   -- the view after a step that adds these events
-  abbrev pub view_after : List (Event Name E) → List ℕ → List ℕ → Stage → Option E → View E
-  view_after es free back stage item = record { known = all_seen id (k.history ++ of_seat id es) v.known.share; free = free; back = back; stage = stage; item = item }
+  abbrev pub view_after : List (Event Name E) → List ℕ → ℕ → List ℕ → ℕ → Stage → Option E → View E
+  view_after es free end back to stage item = record { known = all_seen id (k.history ++ of_seat id es) v.known.share; free = free; end = end; back = back; to = to; stage = stage; item = item }
 
   pub views_put : (w : View E) → w.known.share ≢ [] → update m.party id (Some (party w)) ≡ (λ j. party_of (get_elem? (set s.views id w) j))
   views_put w some_name = sym (parties_put s.views id w (at_length s.views id v at) some_name)
@@ -57,8 +57,8 @@ module _ {E : Type 0} (s : TableState E) (k : RuleHolds s) (id : ℕ) (v : View 
 
   -- ---- the store of null
   module _ (r : ℕ) (rs : List ℕ) (e : E) (idle : v.stage ≡ Rest) (bare : v.back ≡ []) (free : v.free ≡ r ∷ rs) where
-    spare : v.back ++ v.free ≡ r ∷ rs
-    spare = ap (λ l. l ++ v.free) bare ∙ free
+    spare : v.free ++ v.back ≡ r ∷ rs
+    spare = (λ i. free i ++ bare i) ∙ append-nil (r ∷ rs)
 
     rooms : OwnsRooms k.chain.owner id (r ∷ rs)
     rooms = subst (OwnsRooms k.chain.owner id) spare (rooms_of s k id v at named)
@@ -67,12 +67,12 @@ module _ {E : Type 0} (s : TableState E) (k : RuleHolds s) (id : ℕ) (v : View 
     empty = subst (EmptyAtHome s.homes) free (k.empty id v at named)
 
     abbrev pub clear_view : View E
-    clear_view = view_after [] rs [] (Cleared r) (Some e)
+    clear_view = view_after [] rs v.end [] v.to (Cleared r) (Some e)
 
     abbrev words_clear : List ℕ
     words_clear = set s.words (LINKS + r) 0
 
-    abbrev homes_clear : Homes (Filled E)
+    abbrev homes_clear : Homes E
     homes_clear = set s.homes r none
 
     inside : r < length s.homes
@@ -85,16 +85,22 @@ module _ {E : Type 0} (s : TableState E) (k : RuleHolds s) (id : ℕ) (v : View 
       count = ap (λ n. n - LINKS) (sym (length-set s.words (LINKS + r) 0)) i;
       next = sym (links_put s.words r 0 (let w = wide_words in let l = inside in omega arith)) i;
       cell = update k.cell r (Some e);
-      party = views_put clear_view named i;
+      party = (ap (λ (l : List ℕ). update m.party id (Some record { name = name v; stage = Cleared r; spare = l })) (sym (append-nil rs)) ∙ views_put clear_view named) i;
     }
 
     clear_full : FullAtHome homes_clear (update k.cell r (Some e)) k.chain.rooms
     clear_full i x ix ne =
         let away : x ≢ r = λ same. spare_shared (rooms.own 0 r refl) (ap k.chain.owner (sym same) ∙ k.meets.shared i x ix) in
-        set_else s.homes r x none away ∙ k.full i x ix ne ∙ ap (λ o. some (some (slot_of x o))) (sym (put_other k.cell r (Some e) x away))
+        set_else s.homes r x none away ∙ k.full i x ix ne ∙ ap (λ o. some (some o)) (sym (put_other k.cell r (Some e) x away))
 
     clear_empty : EmptyAtHome homes_clear rs
     clear_empty i x ix = set_else s.homes r x none (λ same. absurd (let z = rooms.once (suc i) 0 r (subst (ItemAt rs i) same ix) refl in omega arith)) ∙ empty (suc i) x ix
+
+    pub was_linked : Links s.words (r ∷ rs) v.end
+    was_linked = subst (λ l. Links s.words l v.end) free (k.linked id v at named).0
+
+    clear_linked : Links words_clear rs v.end
+    clear_linked = linked_else s k s.words rs v.end r 0 (λ i ix. let z = rooms.once (suc i) 0 r ix refl in absurd (omega arith)) was_linked.1
 
     clear_kept : RuleHolds record { words = words_clear; homes = homes_clear; views = set s.views id clear_view } × Sees v [] clear_view
     clear_kept = keeps_rule s k id [] v clear_view words_clear homes_clear (update k.cell r (Some e)) (chain_after_clear m k.chain past k.meets id (party v) here idle r rs spare e) (clear_room m id (party v) r rs e)
@@ -102,6 +108,7 @@ module _ {E : Type 0} (s : TableState E) (k : RuleHolds s) (id : ℕ) (v : View 
         (length-set s.words (LINKS + r) 0) (length-set s.homes r none) clear_full
         (empties s k id r none clear_view clear_empty (λ j ne mine. ne (spare_one mine (rooms.own 0 r refl))))
         (readies s k id r (Some e) clear_view (λ q is. ap (λ z. update k.cell r (Some e) z) (sym (ap room_of is)) ∙ put_same k.cell r (Some e)) (λ j ne mine. ready_spare mine (rooms.own 0 r refl)))
+        (linkeds s k id r 0 clear_view (clear_linked, tt) (λ j ne mine. ne (spare_one mine (rooms.own 0 r refl))))
 
   -- ---- the swap of head
   module _ (r : ℕ) (e : E) (ready : v.stage ≡ Cleared r) (item : v.item ≡ Some e) (inside : r < length s.homes) where
@@ -112,13 +119,13 @@ module _ {E : Type 0} (s : TableState E) (k : RuleHolds s) (id : ℕ) (v : View 
     found_word = word.head s.words
 
     abbrev pub swap_view : View E
-    swap_view = view_after (Event.Swap (name v) e ∷ []) v.free v.back (Swapped r found_word) None
+    swap_view = view_after (Event.Swap (name v) e ∷ []) v.free v.end v.back v.to (Swapped r found_word) None
 
     abbrev words_swap : List ℕ
     words_swap = set s.words HEAD r
 
-    abbrev homes_swap : Homes (Filled E)
-    homes_swap = set s.homes r (some (Some (full_slot r e)))
+    abbrev homes_swap : Homes E
+    homes_swap = set s.homes r (some (Some e))
 
     known : AtStage m.head m.next m.cell k.chain.owner k.chain.keeper k.chain.rooms past id (name v) (Cleared r)
     known = was m k.chain past k.meets id (party v) here r e ready has
@@ -135,24 +142,24 @@ module _ {E : Type 0} (s : TableState E) (k : RuleHolds s) (id : ℕ) (v : View 
 
     swap_full : FullAtHome homes_swap k.cell (k.chain.rooms ++ r ∷ [])
     swap_full i x ix ne = elim (at_split k.chain.rooms r i x ix) [
-      | inl a ↦ set_else s.homes r x (some (Some (full_slot r e))) (λ same. fresh m k.chain past k.meets id (party v) here r e ready has i (subst (ItemAt k.chain.rooms i) same a)) ∙ k.full i x a ne
-      | inr a ↦ ap (get_elem? homes_swap) a.1 ∙ set_here s.homes r (some (Some (full_slot r e))) inside ∙ ap (λ o. some (some (slot_of r o))) (sym has) ∙ ap (λ n. some (some (slot_of n (k.cell n)))) (sym a.1)
+      | inl a ↦ set_else s.homes r x (some (Some e)) (λ same. fresh m k.chain past k.meets id (party v) here r e ready has i (subst (ItemAt k.chain.rooms i) same a)) ∙ k.full i x a ne
+      | inr a ↦ ap (get_elem? homes_swap) a.1 ∙ set_here s.homes r (some (Some e)) inside ∙ ap (λ o. some (some o)) (sym has) ∙ ap (λ n. some (some (k.cell n))) (sym a.1)
     ]
 
     swap_empty : EmptyAtHome homes_swap v.free
-    swap_empty i x ix = set_else s.homes r x (some (Some (full_slot r e))) (λ same. ready_spare known.1 (ap k.chain.owner (sym same) ∙ free_spare s k id v i x at named ix)) ∙ k.empty id v at named i x ix
+    swap_empty i x ix = set_else s.homes r x (some (Some e)) (λ same. ready_spare known.1 (ap k.chain.owner (sym same) ∙ free_spare s k id v i x at named ix)) ∙ k.empty id v at named i x ix
 
     swap_kept : RuleHolds record { words = words_swap; homes = homes_swap; views = set s.views id swap_view } × Sees v (Event.Swap (name v) e ∷ []) swap_view
     swap_kept = keeps_rule s k id (Event.Swap (name v) e ∷ []) v swap_view words_swap homes_swap k.cell (chain_after_swap m k.chain past k.meets id (party v) here r e ready has) (swap_head m id (party v) r (Swapped r found_word))
         at named (refl, tt) refl swap_machine (swap_keeps m k.chain past k.meets id (party v) here r e ready has)
-        (length-set s.words HEAD r) (length-set s.homes r (some (Some (full_slot r e)))) swap_full
-        (empties s k id r (some (Some (full_slot r e))) swap_view swap_empty (λ j ne mine. ready_spare known.1 mine))
-        (readies_same s k id swap_view (λ q is. cc))
+        (length-set s.words HEAD r) (length-set s.homes r (some (Some e))) swap_full
+        (empties s k id r (some (Some e)) swap_view swap_empty (λ j ne mine. ready_spare known.1 mine))
+        (readies_same s k id swap_view (λ q is. cc)) (linkeds_low s k id HEAD r swap_view (omega arith) (k.linked id v at named))
 
   -- ---- the store of the link
   module _ (r old : ℕ) (waits : v.stage ≡ Swapped r old) (inside : old < length s.homes) where
     abbrev pub link_view : View E
-    link_view = view_after (Event.Link (name v) ∷ []) v.free v.back Rest None
+    link_view = view_after (Event.Link (name v) ∷ []) v.free v.end v.back v.to Rest None
 
     abbrev words_link : List ℕ
     words_link = set s.words (LINKS + old) (suc r)
@@ -167,19 +174,24 @@ module _ {E : Type 0} (s : TableState E) (k : RuleHolds s) (id : ℕ) (v : View 
       party = views_put link_view named i;
     }
 
+    old_shared : k.chain.owner old ≡ Shared
+    old_shared = let f = subst (AtStage m.head m.next m.cell k.chain.owner k.chain.keeper k.chain.rooms past id (name v)) waits (k.meets.fits id (party v) here) in k.meets.shared f.0 old f.1
+
     link_kept : RuleHolds record { words = words_link; homes = s.homes; views = set s.views id link_view } × Sees v (Event.Link (name v) ∷ []) link_view
     link_kept = keeps_rule s k id (Event.Link (name v) ∷ []) v link_view words_link s.homes k.cell k.chain (link_next m id (party v) old r Rest)
         at named (refl, tt) refl link_machine (link_keeps m k.chain past k.meets id (party v) here r old waits)
         (length-set s.words (LINKS + old) (suc r)) refl k.full (empties_same s k id link_view (k.empty id v at named)) (readies_same s k id link_view (λ q is. cc))
+        (linkeds s k id old (suc r) link_view (own_links s k id old (suc r) v at named (λ mine. spare_shared mine old_shared)) (λ j ne mine. spare_shared mine old_shared))
 
 module _ {E : Type 0} where
   pub clears : (slots id i : ℕ) (me : SeatState E) (r : ℕ) (rs : List ℕ) (item : Option E) (e : E) → i ≡ LINKS + r → item ≡ Some e → me.0.stage ≡ Rest → me.0.back ≡ [] → me.0.free ≡ r ∷ rs → me.0.known.share ≢ []
-      → Allows RuleHolds slots id me i (λ _. 0) (λ _. play.after_clear item (step slots i 0 0 none) me 0)
+      → Allows RuleHolds slots id me i (λ _. 0) (play.after_clear item (step slots i 0 0 none) me)
   clears slots id i me r rs item e is chosen idle bare free named s k deep at fits =
       let c = clear_kept s k id me.0 at named r rs e idle bare free in
       let same : LINKS + r ≡ i = omega arith in
       let there = empty s k id me.0 at named r rs e idle bare free 0 r refl in
       let near : r < slots = let l = at_length s.homes r (some None) there in omega arith in
+      let linked = was_linked s k id me.0 at named r rs e idle bare free in
       let w = clear_view s k id me.0 at named r rs e idle bare free in (
         w,
         takes r None,
@@ -188,10 +200,10 @@ module _ {E : Type 0} where
         λ r' rs' e' free' item'.
             let p : r ∷ rs ≡ r' ∷ rs' = sym free ∙ free' in
             let q : e ≡ e' = some_inj (sym chosen ∙ item') in
-            (ap (λ (l : List ℕ). Cleared (first_or 0 l)) p, ap Some q, ap rest_from p, sym bare, ap (λ (l : List ℕ). let y : Option (Filled E) = None in (first_or 0 l, y) ∷ me.1) p, subst (λ n. n < slots) (ap (first_or 0) p) near, c.1),
+            (ap (λ (l : List ℕ). Cleared (first_or 0 l)) p, ap Some q, ap rest_from p, sym bare, ap (λ (l : List ℕ). let y : Option E = None in (first_or 0 l, y) ∷ me.1) p, subst (λ n. n < slots) (ap (first_or 0) p) near, c.1, refl, ap (λ n. get_or s.words n 0) is ∙ (linked.0 ∙ ap (λ l. leads l me.0.end) (ap rest_from p))),
       )
 
-  pub swaps : (slots id : ℕ) (me : SeatState E) (r : ℕ) (e : E) (cs : Hand (Filled E)) → me.0.stage ≡ Cleared r → me.0.item ≡ Some e → me.1 ≡ (r, Some (full_slot r e)) ∷ cs → r < slots → me.0.known.share ≢ []
+  pub swaps : (slots id : ℕ) (me : SeatState E) (r : ℕ) (e : E) (cs : Hand E) → me.0.stage ≡ Cleared r → me.0.item ≡ Some e → me.1 ≡ (r, Some e) ∷ cs → r < slots → me.0.known.share ≢ []
       → Allows RuleHolds slots id me HEAD (λ _. r) (play.after_swap (step slots HEAD r 0 none) me)
   swaps slots id me r e cs ready item hand near named s k deep at fits =
       let inside : r < length s.homes = omega arith in
@@ -205,7 +217,7 @@ module _ {E : Type 0} where
             let p : Cleared r ≡ Cleared r' = sym ready ∙ ready' in
             let q : e ≡ e' = some_inj (sym item ∙ item') in
             let h = head_near s k in
-            (ap (λ l. Swapped (room_of l) (word.head s.words)) p, refl, refl, ap rest hand', omega arith, subst (λ x. Sees me.0 (Event.Swap (name me.0) x ∷ []) w) q c.1),
+            (ap (λ l. Swapped (room_of l) (word.head s.words)) p, refl, refl, ap rest hand', omega arith, subst (λ x. Sees me.0 (Event.Swap (name me.0) x ∷ []) w) q c.1, refl),
       )
 
   pub links_on : (slots id i n : ℕ) (me : SeatState E) (r old : ℕ) → i ≡ LINKS + old → n ≡ r + 1 → me.0.stage ≡ Swapped r old → old < slots → me.0.known.share ≢ []
@@ -220,7 +232,7 @@ module _ {E : Type 0} where
         keeps,
         tt,
         subst (λ (q : ℕ × ℕ). RuleHolds record { words = set s.words q.0 q.1; homes = s.homes; views = set s.views id w }) (λ j. (same j, same_n j)) c.0,
-        λ _ _ _. (refl, refl, refl, refl, c.1),
+        λ _ _ _. (refl, refl, refl, refl, c.1, refl),
       )
 
   -- the three steps in one

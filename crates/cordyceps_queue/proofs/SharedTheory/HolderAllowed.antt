@@ -8,20 +8,21 @@ use Rattle.cordyceps_shared.specs.Words as word
 use Rattle.cordyceps_shared.specs.declared.layout.TheConstants.{RIGHT, LINKS}
 use Rattle.cordyceps_shared.specs.Shares.{Name}
 use Rattle.cordyceps_queue.specs.declared.cores.stage.Stage.{Stage}
-use Rattle.cordyceps_queue.specs.declared.cores.stage.Stage.TheVariants.{Rest, Holding, Second}
+use Rattle.cordyceps_queue.specs.declared.cores.stage.Stage.TheVariants.{Rest, Holding, Second, Null}
 use Rattle.cordyceps_queue.specs.History.{Event}
 use Rattle.cordyceps_queue.specs.Cores.Meets.{Owes, tail_of, AtStage, Real, Meets}
 use Rattle.cordyceps_queue.specs.Shared.Plays.{SeatState, carry, moves_to, hands_out}
 use Rattle.cordyceps_queue.specs.Shared.Plays as play
 use Rattle.cordyceps_queue.specs.Shared.Rule.{TableState, link_of, party, RuleHolds}
-use Rattle.cordyceps_queue.specs.Shared.View.{View, name}
+use Rattle.cordyceps_shared.specs.FreeChains.{MayJoin}
+use Rattle.cordyceps_queue.specs.Shared.View.{View, name, free_chain, back_chain}
 use Rattle.cordyceps_queue.specs.Cores.Abstract.{AbstractParty, AbstractMachine, update, set_right}
 use Rattle.cordyceps_queue.proofs.CoreTheory.Basics.{some_inj, zero_suc, suc_zero, suc_inj}
 use Rattle.cordyceps_queue.proofs.CoreTheory.DequeueSteps.{free_right, take_keeps, chain_after_take, give_keeps, chain_after_give}
 use Rattle.cordyceps_queue.proofs.CoreTheory.HolderSteps.{keeping, tell_keeps}
 use Rattle.cordyceps_queue.proofs.CoreTheory.ProducerSteps.{busy_keeps}
 use Rattle.cordyceps_queue.proofs.SharedTheory.WordsAsMachine.{chain_near}
-use Rattle.cordyceps_queue.proofs.SharedTheory.ReturnKeeps.{put_again, view_returned, returning}
+use Rattle.cordyceps_queue.proofs.SharedTheory.ReturnKeeps.{put_again, view_returned, returning, moved_on, handed_on}
 use Rattle.cordyceps_queue.proofs.SharedTheory.DequeueKeeps.{n, out_events, there, sees, rights, stood, same_rooms, Comes, ReadsTail, reading}
 
 module _ {E : Type 0} (s : TableState E) (k : RuleHolds s) (id : ℕ) (v : View E) (at : get_elem? s.views id ≡ some v) (named : v.known.share ≢ []) (bare : v.back ≡ []) where
@@ -43,7 +44,7 @@ module _ {E : Type 0} (s : TableState E) (k : RuleHolds s) (id : ℕ) (v : View 
       count = length s.words - LINKS;
       next = λ r. link_of (word.next s.words r);
       cell = k.cell;
-      party = (ap (λ (p : AbstractParty Name). update core.party id (Some p)) (λ i. record { name = name v; stage = sym rest i; spare = v.back ++ v.free }) ∙ put_again core.party id (party v) is_there) j;
+      party = (ap (λ (p : AbstractParty Name). update core.party id (Some p)) (λ i. record { name = name v; stage = sym rest i; spare = v.free ++ v.back }) ∙ put_again core.party id (party v) is_there) j;
     }
 
     takes_bare : (slots : ℕ) → length s.homes ≡ slots → (x : ℕ) → word.right s.words ≡ x → Comes s k id v at named bare RIGHT 0 (play.after_take (step slots RIGHT 0 0 none) (v, []))
@@ -51,14 +52,14 @@ module _ {E : Type 0} (s : TableState E) (k : RuleHolds s) (id : ℕ) (v : View 
         let x : Event Name E = Event.Busy (name v) in
         let met = subst (λ q. Meets q k.chain (x ∷ gone_by)) (sym (unmoved e)) (busy_keeps core k.chain gone_by k.meets id (party v) is_there rest e) in
         let r = rights s k id v at named bare (x ∷ []) (refl, tt) Rest k.chain 0 met (same_rooms s k id v at named bare) (λ q is. cc) in
-        (sees s k id v at named bare (x ∷ []) v.free v.back Rest, keeps, tt, r.0, λ _. ((λ _. stood s k id v at named bare (x ∷ []) Rest r.1), λ t f. absurd (zero_suc (sym e ∙ f))))
+        (sees s k id v at named bare (x ∷ []) v.free v.end v.back v.to Rest, keeps, tt, r.0, λ _. ((λ _. stood s k id v at named bare (x ∷ []) Rest r.1), λ t f. absurd (zero_suc (sym e ∙ f))))
     takes_bare slots deep (suc t) e =
         let x : Event Name E = Event.Take (name v) in
         let r = rights s k id v at named bare (x ∷ []) (refl, tt) (Holding t) (chain_after_take core k.chain gone_by k.meets id (party v) is_there t rest e) 0
         (take_keeps core k.chain gone_by k.meets id (party v) is_there t rest e) (same_rooms s k id v at named bare) (λ q is. cc) in
         let first = free_right core.right core.party k.chain.rooms gone_by k.chain.keeper t e k.meets.right in
         let near = chain_near s k 0 t first.2 in
-        let w = sees s k id v at named bare (x ∷ []) v.free v.back (Holding t) in (
+        let w = sees s k id v at named bare (x ∷ []) v.free v.end v.back v.to (Holding t) in (
           w,
           keeps,
           tt,
@@ -83,7 +84,7 @@ module _ {E : Type 0} (s : TableState E) (k : RuleHolds s) (id : ℕ) (v : View 
         let r = rights s k id v at named bare (x ∷ []) (refl, tt) Rest (chain_after_give core k.chain gone_by k.meets id (party v) is_there t holding) (suc t)
         (give_keeps core k.chain gone_by k.meets id (party v) is_there t holding) (same_rooms s k id v at named bare) (λ q is. cc) in
         let same : suc t ≡ n' = omega arith in
-        let w = sees s k id v at named bare (x ∷ []) v.free v.back Rest in
+        let w = sees s k id v at named bare (x ∷ []) v.free v.end v.back v.to Rest in
         (w, keeps, tt, subst (λ q. RuleHolds record { words = set s.words RIGHT q; homes = s.homes; views = set s.views id w }) same r.0, stood s k id v at named bare (x ∷ []) Rest r.1)
 
     looks_bare : t ≢ 0 → (i : ℕ) → i ≡ LINKS + t → (slots : ℕ) → length s.homes ≡ slots → Comes s k id v at named bare i (get_or s.words i 0) (ReadsTail s k id v at named bare (Event.Look (name v) ∷ []) slots t)
@@ -103,23 +104,42 @@ same_tail a b = some_inj (ap tail_of (sym a ∙ b))
 same_second : {p : Stage} {t u : ℕ} → p ≡ Second t → p ≡ Second u → t ≡ u
 same_second a b = some_inj (ap tail_of (sym a ∙ b))
 
-module _ {E : Type 0} (slots id : ℕ) (me : SeatState E) (hand : me.1 ≡ carry me.0.back) (near : Near slots me.0.back) (named : me.0.known.share ≢ []) where
+module _ {E : Type 0} (slots id : ℕ) (me : SeatState E) (hand : me.1 ≡ carry me.0.back) (near : Near slots me.0.back) (named : me.0.known.share ≢ []) (may : MayJoin (free_chain me.0) (back_chain me.0)) where
   pub takes_right : me.0.stage ≡ Rest → Allows RuleHolds slots id me RIGHT (λ _. 0) (play.after_take (step slots RIGHT 0 0 none) me)
-  takes_right rest = returning slots id RIGHT me (λ _. 0) (play.after_take (step slots RIGHT 0 0 none) me) hand near named
-      (λ s k deep at fits. takes_bare s k id (view_returned me.0) at named refl rest slots deep (word.right s.words) refl)
+  takes_right rest = returning slots id RIGHT me (λ _. 0) (play.after_take (step slots RIGHT 0 0 none) me) hand near named may
+      (λ s k deep at fits.
+      let c = takes_bare s k id (view_returned me.0) at named refl rest slots deep (word.right s.words) refl in
+      let z : SeatState E = (c.0, carried_after [] c.1) in
+      (c.0, c.1, c.2, c.3, λ stage. let t = c.4 stage in ((λ e. moved_on me z (Event.Busy (name me.0) ∷ []) Rest (t.0 e)), λ u e. let h = t.1 u e in (moved_on me z (Event.Take (name me.0) ∷ []) (Holding u) h.0, h.1))))
 
   pub gives_right : (t n' : ℕ) → n' ≡ t + 1 → me.0.stage ≡ Holding t → Allows RuleHolds slots id me RIGHT (λ _. n') (λ _. play.after_give (step slots RIGHT n' 0 none) me n')
-  gives_right t n' is holding = returning slots id RIGHT me (λ _. n') (λ _. play.after_give (step slots RIGHT n' 0 none) me n') hand near named
-      (λ s k deep at fits. let c = gives_bare s k id (view_returned me.0) at named refl t holding n' is in (c.0, c.1, c.2, c.3, λ _ _. c.4))
+  gives_right t n' is holding = returning slots id RIGHT me (λ _. n') (λ _. play.after_give (step slots RIGHT n' 0 none) me n') hand near named may
+      (λ s k deep at fits. let c = gives_bare s k id (view_returned me.0) at named refl t holding n' is in (c.0, c.1, c.2, c.3, λ _ _. moved_on me (c.0, carried_after [] c.1) (Event.Free (name me.0) ∷ []) Rest c.4))
 
   pub looks : (t i : ℕ) → i ≡ LINKS + t → me.0.stage ≡ Holding t → t ≢ 0 → Allows RuleHolds slots id me i (λ x. x) (play.after_look (step slots i 0 0 none) me)
-  looks t i is holding is_real = returning slots id i me (λ x. x) (play.after_look (step slots i 0 0 none) me) hand near named
+  looks t i is holding is_real = returning slots id i me (λ x. x) (play.after_look (step slots i 0 0 none) me) hand near named may
       (λ s k deep at fits.
-      let c = looks_bare s k id (view_returned me.0) at named refl t holding is_real i is slots deep in
-      (c.0, c.1, c.2, c.3, λ u stage ne. subst (λ q. ReadsTail s k id (view_returned me.0) at named refl (Event.Look (name me.0) ∷ []) slots q (get_or s.words i 0) (c.0, carried_after [] c.1)) (same_tail holding stage) c.4))
+      let c = looks_bare s k id (view_returned me.0) at named refl t holding is_real i is slots deep in (
+        c.0,
+        c.1,
+        c.2,
+        c.3,
+        λ u stage ne.
+            let z : SeatState E = (c.0, carried_after [] c.1) in
+            let t = subst (λ q. ReadsTail s k id (view_returned me.0) at named refl (Event.Look (name me.0) ∷ []) slots q (get_or s.words i 0) z) (same_tail holding stage) c.4 in
+            ((λ e. moved_on me z (Event.Look (name me.0) ∷ []) (Null u) (t.0 e)), λ r e. handed_on me z (Event.Look (name me.0) ∷ []) slots u r (t.1 r e)),
+      ))
 
   pub reads_after : (t i : ℕ) → i ≡ LINKS + t → me.0.stage ≡ Second t → Allows RuleHolds slots id me i (λ x. x) (play.after_read (step slots i 0 0 none) me)
-  reads_after t i is at_second = returning slots id i me (λ x. x) (play.after_read (step slots i 0 0 none) me) hand near named
+  reads_after t i is at_second = returning slots id i me (λ x. x) (play.after_read (step slots i 0 0 none) me) hand near named may
       (λ s k deep at fits.
-      let c = reads_bare s k id (view_returned me.0) at named refl t at_second i is slots deep in
-      (c.0, c.1, c.2, c.3, λ u stage. subst (λ q. ReadsTail s k id (view_returned me.0) at named refl [] slots q (get_or s.words i 0) (c.0, carried_after [] c.1)) (same_second at_second stage) c.4))
+      let c = reads_bare s k id (view_returned me.0) at named refl t at_second i is slots deep in (
+        c.0,
+        c.1,
+        c.2,
+        c.3,
+        λ u stage.
+            let z : SeatState E = (c.0, carried_after [] c.1) in
+            let t = subst (λ q. ReadsTail s k id (view_returned me.0) at named refl [] slots q (get_or s.words i 0) z) (same_second at_second stage) c.4 in
+            ((λ e. moved_on me z [] (Null u) (t.0 e)), λ r e. handed_on me z [] slots u r (t.1 r e)),
+      ))

@@ -1,5 +1,5 @@
 -- The rule of a queue's table at the start, and where a party is split in two or takes another in.
-use Rattle.std.proofs.Common.{◌≡◌, ◌≢◌, ◌⊎◌, ℕ, zero, suc, ◌+◌, ◌-◌, ◌≤◌, List, [], ◌∷◌, ◌++◌, map, reverse, length, replicate, set, take, drop, Option, Some, None, refl, sym, ap, ◌∙◌, subst, inl, inr, ⊎_elim, arith, length-set}
+use Rattle.std.proofs.Common.{◌≡◌, ◌≢◌, ◌⊎◌, ℕ, zero, suc, ◌+◌, ◌-◌, ◌≤◌, List, [], ◌∷◌, ◌++◌, map, reverse, length, replicate, set, take, drop, Option, Some, None, refl, sym, ap, ◌∙◌, subst, inl, inr, ⊎_elim, arith, length-set, append-nil}
 use Rattle.std.proofs.lemmas.List.{reverse-append}
 use mathlib.Core.Option.{some, none}
 use native.Mathlib.Decide.{ℕ_discrete}
@@ -27,10 +27,12 @@ use Rattle.cordyceps_queue.specs.Cores.Meets.{Owner, Shared, Spare, Unmade, Owns
 use Rattle.cordyceps_queue.specs.Shared.Parting.{view_keeping, view_giving, view_absorbing, view_absorbed, view_without_told, after_learn}
 use Rattle.cordyceps_queue.specs.Past.{IsLegalReversed, IsSettled}
 use Rattle.cordyceps_queue.specs.Shared.Plays.{SeatState, LegalReversed}
-use Rattle.cordyceps_shared.specs.declared.slots.Filled.{Filled}
+use Rattle.cordyceps_shared.specs.FreeChains.{Links, MayJoin, leads}
+use Rattle.cordyceps_shared.proofs.FreeLinks.{links_drop, links_take, links_append}
+use Rattle.cordyceps_queue.specs.Shared.Parts.{AreNew}
 use Rattle.cordyceps_shared.specs.Slots.{Homes, EmptyAtHome}
 use Rattle.cordyceps_queue.specs.Shared.Rule.{TableState, History, link_of, party, party_of, machine_of, RuleHolds}
-use Rattle.cordyceps_queue.specs.Shared.View.{View, knows, name, newcomer, down_from}
+use Rattle.cordyceps_queue.specs.Shared.View.{View, knows, name, newcomer, down_from, free_chain}
 use Rattle.cordyceps_queue.specs.Cores.Abstract.{AbstractParty}
 use Rattle.cordyceps_queue.proofs.CoreTheory.Basics.{some_inj}
 use Rattle.cordyceps_queue.proofs.SharedTheory.SeatNames.{party_was, name_known, names_differ, few_rooms, rest_linked, rest_unheld}
@@ -56,15 +58,27 @@ others_unmade : (r : ℕ) → 1 ≤ r → only_stub r ≡ Unmade
 others_unmade zero l = absurd (omega arith)
 others_unmade (suc r) l = refl
 
+links_down : (words : List ℕ) (n : ℕ) → ((r : ℕ) → r ≤ n → word.next words r ≡ r) → Links words (down_from n) 1
+links_down words zero linked = tt
+links_down words (suc n) linked = (linked (suc n) (omega arith) ∙ leads_down n, links_down words n (λ r l. linked r (omega arith)))
+  where
+    leads_down : (n : ℕ) → suc n ≡ leads (down_from n) 1
+    leads_down zero = refl
+    leads_down (suc n) = refl
+
 module _ (E : Type 0) where
-  vacant_empty : (rooms : ℕ) → let homes : Homes (Filled E) = map some (replicate (rooms + 1) None) in EmptyAtHome homes (down_from rooms)
+  vacant_empty : (rooms : ℕ) → let homes : Homes E = map some (replicate (rooms + 1) None) in EmptyAtHome homes (down_from rooms)
   vacant_empty rooms = empty_new (rooms + 1) (down_from rooms) (λ i r a. let t = at_down_from rooms i r a in let e = t.0 in omega arith)
 
-  pub opens : (rooms : ℕ) (words : List ℕ) → length words ≡ LINKS + rooms + 1 → word.head words ≡ 0 → word.right words ≡ 1 → word.next words 0 ≡ 0 → RuleHolds {E = E} (opening words (replicate (rooms + 1) None) (newcomer rooms))
-  opens rooms words wide head right link =
+  pub opens : (rooms : ℕ) (words : List ℕ) → AreNew words rooms → RuleHolds {E = E} (opening words (replicate (rooms + 1) None) (newcomer rooms))
+  opens rooms words new =
+      let wide = new.wide in
+      let head = new.head in
+      let right = new.right in
+      let link = new.linked 0 (omega arith) in
       let first : View E = newcomer rooms in
       let known = seats.opens actor knows first refl in
-      let homes : Homes (Filled E) = map some (replicate (rooms + 1) None) in
+      let homes : Homes E = map some (replicate (rooms + 1) None) in
       let deep : length homes ≡ rooms + 1 = length-map (replicate (rooms + 1) None) some ∙ length-replicate (rooms + 1) None in
       let owner : ℕ → Owner = deal 0 (down_from rooms) only_stub in record {
         history = [];
@@ -82,7 +96,7 @@ module _ (E : Type 0) where
           holds = refl;
           right = (refl, 0, right, refl);
           fits = λ k p e. subst (λ (q : AbstractParty Name). AtStage (word.head words) (λ r. link_of (word.next words r)) (λ (_ : ℕ). let x : Option E = None in x) owner None (0 ∷ []) [] k q.name q.stage) (is_first rooms k p e).1 tt;
-          rooms = λ k p e. let t = is_first rooms k p e in subst (λ (z : ℕ × AbstractParty Name). OwnsRooms owner z.0 z.1.spare) (λ c. (sym t.0 c, t.1 c)) (mine rooms);
+          rooms = λ k p e. let t = is_first rooms k p e in subst (λ (z : ℕ × AbstractParty Name). OwnsRooms owner z.0 z.1.spare) (λ c. (sym t.0 c, t.1 c)) (subst (λ z. OwnsRooms owner 0 z) (sym (append-nil (down_from rooms))) (mine rooms));
           names = λ j k p q ej ek same. (is_first rooms j p ej).0 ∙ sym (is_first rooms k q ek).0;
           strangers = λ q away. tt;
         };
@@ -91,6 +105,7 @@ module _ (E : Type 0) where
         full = λ i r ir ne. absurd (ne (only_at 0 r i ir).1);
         empty = λ j v e some_name. subst (λ (z : View E). EmptyAtHome homes z.free) (seats.only first v j e).1 (vacant_empty rooms);
         ready = λ j v r e some_name is. absurd (let c = ap (λ (z : View E). z.stage) (seats.only first v j e).1 ∙ is in cc);
+        linked = λ j v e some_name. subst (λ (z : View E). Links words z.free z.end × Links words z.back z.to) (seats.only first v j e).1 (links_down words rooms (λ r l. new.linked r (omega arith)), tt);
         fits = known.1;
         owned = known.0;
       }
@@ -141,7 +156,7 @@ module _ {E : Type 0} (s : TableState E) (k : RuleHolds s) (id n : ℕ) (v : Vie
   was_here q e = some_inj (sym (party_at s k id v at named) ∙ e)
 
   free_rooms : OwnsRooms k.chain.owner id v.free
-  free_rooms = subst (λ l. OwnsRooms k.chain.owner id (l ++ v.free)) bare (rooms_of s k id v at named)
+  free_rooms = subst (OwnsRooms k.chain.owner id) (ap (λ l. v.free ++ l) bare ∙ append-nil v.free) (rooms_of s k id v at named)
 
   taken : (i r : ℕ) → ItemAt (take n v.free) i r → k.chain.owner r ≡ Spare id
   taken i r a = free_rooms.own i r (at_take n v.free i r a).0
@@ -175,9 +190,9 @@ module _ {E : Type 0} (s : TableState E) (k : RuleHolds s) (id n : ℕ) (v : Vie
     rooms = λ i p e.
         let w = party_was (get_elem? cut_views i) p e in
         subst (λ (q : AbstractParty Name). OwnsRooms owner_cut i q.spare) w.3 (set_more (λ j u. u.known.share ≢ [] → OwnsRooms owner_cut j (party u).spare) s.views id left_view right
-        (λ _. subst (λ l. OwnsRooms owner_cut id (l ++ drop n v.free)) (sym bare) (deal_kept k.chain.owner id v.free free_rooms n far))
-        (λ _. deal_given k.chain.owner id v.free free_rooms n far)
-        (λ j u ne there some_name. deal_others k.chain.owner id far (take n v.free) taken j (u.back ++ u.free) ne (rooms_of s k j u there some_name))
+        (λ _. subst (OwnsRooms owner_cut id) (sym (ap (λ l. drop n v.free ++ l) bare ∙ append-nil (drop n v.free))) (deal_kept k.chain.owner id v.free free_rooms n far))
+        (λ _. subst (OwnsRooms owner_cut far) (sym (append-nil (take n v.free))) (deal_given k.chain.owner id v.free free_rooms n far))
+        (λ j u ne there some_name. deal_others k.chain.owner id far (take n v.free) taken j (u.free ++ u.back) ne (rooms_of s k j u there some_name))
         i w.0 w.1 w.2);
     names = names_differ cut_views k.history cut_owned;
   }
@@ -200,6 +215,10 @@ module _ {E : Type 0} (s : TableState E) (k : RuleHolds s) (id n : ℕ) (v : Vie
         (λ _ is. absurd (cc))
         (λ i z ne there some_name. k.ready i z r there some_name)
         j u;
+    linked = set_more (λ _ u. u.known.share ≢ [] → Links s.words u.free u.end × Links s.words u.back u.to) s.views id left_view right
+        (λ _. let l = k.linked id v at named in (links_drop s.words v.free n v.end l.0, l.1))
+        (λ _. (links_take s.words v.free n v.end (k.linked id v at named).0, tt))
+        (λ j u ne there some_name. k.linked j u there some_name);
     fits = fits_cut actor knows s.views k.history id v left_view right at refl refl k.owned k.fits;
     owned = cut_owned;
   }
@@ -208,7 +227,7 @@ pub splits : {E : Type 0} (id n : ℕ) (v : View E) → v.known.share ≢ [] →
 splits id n v named rest bare s k at = cut_kept s k id n v named rest bare at
 
 -- ---- a party takes another in
-module _ {E : Type 0} (s : TableState E) (k : RuleHolds s) (id other : ℕ) (v w : View E) (rest : v.stage ≡ Rest) (rest_too : w.stage ≡ Rest) (bare : v.back ≡ []) (bare_too : w.back ≡ []) (named : v.known.share ≢ []) (named_too : w.known.share ≢ [])
+module _ {E : Type 0} (s : TableState E) (k : RuleHolds s) (id other : ℕ) (v w : View E) (rest : v.stage ≡ Rest) (rest_too : w.stage ≡ Rest) (bare : v.back ≡ []) (bare_too : w.back ≡ []) (named : v.known.share ≢ []) (named_too : w.known.share ≢ []) (may : MayJoin (free_chain v) (free_chain w))
     (at : get_elem? s.views id ≡ some v) (apart : other ≢ id) (there : get_elem? (set s.views id (view_absorbing v w)) other ≡ some w) where
   abbrev joint : List (View E)
   joint = set (set s.views id (view_absorbing v w)) other view_absorbed
@@ -238,10 +257,10 @@ module _ {E : Type 0} (s : TableState E) (k : RuleHolds s) (id other : ℕ) (v w
   second_was q e = some_inj (sym (party_at s k other w there_first named_too) ∙ e)
 
   first_rooms : OwnsRooms k.chain.owner id v.free
-  first_rooms = subst (λ l. OwnsRooms k.chain.owner id (l ++ v.free)) bare (rooms_of s k id v at named)
+  first_rooms = subst (OwnsRooms k.chain.owner id) (ap (λ l. v.free ++ l) bare ∙ append-nil v.free) (rooms_of s k id v at named)
 
   second_rooms : OwnsRooms k.chain.owner other w.free
-  second_rooms = subst (λ l. OwnsRooms k.chain.owner other (l ++ w.free)) bare_too (rooms_of s k other w there_first named_too)
+  second_rooms = subst (OwnsRooms k.chain.owner other) (ap (λ l. w.free ++ l) bare_too ∙ append-nil w.free) (rooms_of s k other w there_first named_too)
 
   joint_owned : SharesDisjoint knows joint relabelled_history
   joint_owned = owned_join knows s.views k.history id other v w (view_absorbing v w) view_absorbed at apart there refl refl named k.owned
@@ -284,9 +303,9 @@ module _ {E : Type 0} (s : TableState E) (k : RuleHolds s) (id other : ℕ) (v w
     rooms = λ i p e.
         let t = party_was (get_elem? joint i) p e in
         subst (λ (q : AbstractParty Name). OwnsRooms owner_join i q.spare) t.3 (two_set (λ j u. u.known.share ≢ [] → OwnsRooms owner_join j (party u).spare) s.views id other (view_absorbing v w) view_absorbed
-        (λ _. deal_both k.chain.owner id other v.free w.free (λ e. apart (sym e)) first_rooms second_rooms)
+        (λ _. subst (OwnsRooms owner_join id) (sym (append-nil (v.free ++ w.free))) (deal_both k.chain.owner id other v.free w.free (λ e. apart (sym e)) first_rooms second_rooms))
         (λ some_name. absurd (some_name refl))
-        (λ j u ne no_other at some_name. deal_others k.chain.owner other id w.free second_rooms.own j (u.back ++ u.free) no_other (rooms_of s k j u at some_name))
+        (λ j u ne no_other at some_name. deal_others k.chain.owner other id w.free second_rooms.own j (u.free ++ u.back) no_other (rooms_of s k j u at some_name))
         i t.0 t.1 t.2);
     names = names_differ joint relabelled_history joint_owned;
   }
@@ -310,6 +329,10 @@ module _ {E : Type 0} (s : TableState E) (k : RuleHolds s) (id other : ℕ) (v w
         (λ _ is. absurd (cc))
         (λ i z ne no_other e some_name. k.ready i z r e some_name)
         j u;
+    linked = two_set (λ _ u. u.known.share ≢ [] → Links s.words u.free u.end × Links s.words u.back u.to) s.views id other (view_absorbing v w) view_absorbed
+        (λ _. (links_append s.words v.free w.free v.end w.end may (k.linked id v at named).0 (k.linked other w there_first named_too).0, tt))
+        (λ some_name. absurd (some_name refl))
+        (λ j u ne no_other e some_name. k.linked j u e some_name);
     fits = fits_join actor knows s.views k.history id other v w (view_absorbing v w) view_absorbed at apart there refl refl k.fits;
     owned = joint_owned;
   }
@@ -334,6 +357,7 @@ module _ {E : Type 0} (s : TableState E) (k : RuleHolds s) (id : ℕ) (v : View 
     full = k.full;
     empty = one_set (λ _ u. u.known.share ≢ [] → EmptyAtHome s.homes u.free) s.views id (view_without_told v) (λ _. k.empty id v at named) (λ j u _ e some_name. k.empty j u e some_name);
     ready = λ j u r. one_set (λ _ z. z.known.share ≢ [] → z.stage ≡ Cleared r → k.cell r ≡ z.item) s.views id (view_without_told v) (λ _ is. k.ready id v r at named is) (λ i z _ e some_name is. k.ready i z r e some_name is) j u;
+    linked = one_set (λ _ u. u.known.share ≢ [] → Links s.words u.free u.end × Links s.words u.back u.to) s.views id (view_without_told v) (λ _. k.linked id v at named) (λ j u _ e some_name. k.linked j u e some_name);
     fits = fits_forgot actor knows s.views k.history id v (view_without_told v) at refl refl refl k.fits;
     owned = owned_same knows s.views k.history id v (view_without_told v) at refl k.owned;
   }
@@ -349,8 +373,8 @@ module _ {E : Type 0} (s : TableState E) (k : RuleHolds s) (id : ℕ) (v : View 
       }
 
 module _ {E : Type 0} where
-  pub joins : (id other : ℕ) (v w : View E) → v.stage ≡ Rest → w.stage ≡ Rest → v.back ≡ [] → w.back ≡ [] → v.known.share ≢ [] → w.known.share ≢ [] → Joins RuleHolds id v other w (view_absorbing v w) view_absorbed
-  joins id other v w rest rest_too bare bare_too named named_too s k at apart there = joint_kept s k id other v w rest rest_too bare bare_too named named_too at apart there
+  pub joins : (id other : ℕ) (v w : View E) → v.stage ≡ Rest → w.stage ≡ Rest → v.back ≡ [] → w.back ≡ [] → v.known.share ≢ [] → w.known.share ≢ [] → MayJoin (free_chain v) (free_chain w) → Joins RuleHolds id v other w (view_absorbing v w) view_absorbed
+  joins id other v w rest rest_too bare bare_too named named_too may s k at apart there = joint_kept s k id other v w rest rest_too bare bare_too named named_too may at apart there
 
   pub learns : (slots id : ℕ) (me : SeatState E) (v w : View E) → me.0 ≡ view_absorbing v w → v.known.share ≢ [] → Allows RuleHolds slots id me HEAD (λ n. n) (after_learn (step slots HEAD 0 0 none) me)
   learns slots id me v w is named s k deep at fits =

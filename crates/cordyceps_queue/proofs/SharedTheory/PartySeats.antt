@@ -1,36 +1,40 @@
 -- What a party of a shared queue is when it is new, split off, or has taken another in.
-use Rattle.std.proofs.Common.{◌≡◌, ◌≢◌, Some, ℕ, zero, suc, ◌+◌, List, [], ◌∷◌, ◌++◌, length, take, drop, refl, sym, ap, ◌∙◌, subst, arith, length-append}
+use Rattle.std.proofs.Common.{◌≡◌, ◌≢◌, Some, ℕ, zero, suc, ◌+◌, List, [], ◌∷◌, ◌++◌, length, refl, sym, ap, ◌∙◌, subst, arith, length-append, add-one}
 use Rattle.atomic_table.specs.Seated.{TableId}
 use Rattle.cordyceps_shared.specs.Slots.{Near}
-use Rattle.cordyceps_shared.specs.Counts.{below}
-use Rattle.cordyceps_shared.specs.Histories.{plain}
-use Rattle.cordyceps_shared.specs.Knowing.{IsKnown}
+use Rattle.cordyceps_shared.specs.Histories.{plain, AllOwn}
+use Rattle.cordyceps_shared.specs.Knowing.{Known, IsPrefixOf, IsKnown}
+use Rattle.cordyceps_shared.specs.Shares.{Name, IsShare}
 use Rattle.cordyceps_shared.specs.Standings.{new_party, Absorbs}
+use Rattle.cordyceps_shared.proofs.Choices.{first_or, rest_from}
 use Rattle.cordyceps_shared.proofs.Adding.{keeps_not_whole, not_whole, plain_unmarked, merged_prefix}
 use Rattle.cordyceps_shared.proofs.Naming.{joined_some, joined_disjoint, keeps_some, gives_some}
 use Rattle.cordyceps_shared.proofs.Ordering.{whole_share, keeps_share, gives_share, joined_share}
 use Rattle.cordyceps_shared.proofs.Tracing.{of_kept, of_given}
-use Rattle.cordyceps_queue.specs.Shared.Parts.{standing, IsSeated}
-use Rattle.cordyceps_queue.specs.Shared.Parting.{view_keeping, view_giving, view_absorbing, view_without_told}
+use Rattle.cordyceps_queue.specs.Shared.Parts.{standing, IsSeated, HasAbsorbed, TracksEnd}
+use Rattle.cordyceps_queue.specs.declared.shared.spare.Spare.{Spare}
+use Rattle.cordyceps_queue.specs.Shared.Parting.{view_keeping, view_giving, view_absorbing}
 use Rattle.cordyceps_queue.specs.Shared.Plays.{SeatState, IsResting}
 use Rattle.cordyceps_queue.specs.Shared.Plays as seen
 use Rattle.cordyceps_queue.specs.Shared.Rule.{IsTable}
 use Rattle.cordyceps_queue.specs.Shared.Calls.{same_name, Legal, NonePending, NoneHolds}
-use Rattle.cordyceps_queue.specs.History.{holder, IsPending}
-use Rattle.cordyceps_queue.specs.Shared.View.{View, newcomer, down_from}
+use Rattle.cordyceps_queue.specs.History.{Event, holder, IsPending}
+use Rattle.cordyceps_queue.specs.Shared.View.{View, newcomer, down_from, free_chain}
 use Rattle.cordyceps_queue.proofs.Legality.{told_legal}
 use Rattle.cordyceps_shared.proofs.Places.{near_drop, near_take, near_append}
 use Rattle.cordyceps_queue.proofs.SharedTheory.PartingKeeps.{at_down_from}
 
 -- ---- a new party
-pub taken_below : (rooms : ℕ) → take rooms (below (rooms + 1)) ≡ down_from rooms
-taken_below rooms =
-    let more : suc rooms ≡ rooms + 1 = omega arith in
-    subst (λ n. take rooms (below n) ≡ down_from rooms) more (by rooms)
-  where
-    by : (n : ℕ) → take n (below (suc n)) ≡ down_from n
-    by zero = refl
-    by (suc n) = ap (λ xs. suc n ∷ xs) (by n)
+down_first : (n r : ℕ) (rs : List ℕ) → down_from n ≡ r ∷ rs → n + 1 ≡ suc r
+down_first zero r rs e = absurd (cc)
+down_first (suc n) r rs e = add-one (suc n) ∙ ap (λ l. suc (first_or 0 l)) e
+
+down_last : (n : ℕ) (before : List ℕ) (r : ℕ) → down_from n ≡ before ++ r ∷ [] → 1 ≡ r
+down_last zero [] r e = absurd (cc)
+down_last zero (b ∷ before) r e = absurd (cc)
+down_last (suc zero) [] r e = ap (first_or 0) e
+down_last (suc (suc n)) [] r e = absurd (cc)
+down_last (suc n) (b ∷ before) r e = down_last n before r (ap rest_from e)
 
 length_down_from : (n : ℕ) → length (down_from n) ≡ n
 length_down_from zero = refl
@@ -39,15 +43,18 @@ length_down_from (suc n) = ap suc (length_down_from n)
 near_down_from : (slots rooms : ℕ) → slots ≡ rooms + 1 → Near slots (down_from rooms)
 near_down_from slots rooms is i r a = let t = at_down_from rooms i r a in let e = t.0 in omega arith
 
+tracks_new : (n : ℕ) → TracksEnd record { rooms = record { first = n + 1; last = 1; count = n }; end = 1 } record { rooms = down_from n; end = 1 }
+tracks_new n = record { tracks = record { count = sym (length_down_from n); first = down_first n; last = down_last n }; end = λ _. refl }
+
 module _ {E : Type 0} where
   new_rests : (slots rooms : ℕ) → slots ≡ rooms + 1 → let first : View E = newcomer rooms in IsResting slots (first, [])
   new_rests slots rooms is = (refl, refl, refl, (λ e. absurd (cc)), near_down_from slots rooms is)
 
-  pub new_seated : (z table : TableId) (rooms : ℕ) (m : SeatState E) (tickets : List ℕ) → z ≡ table → IsTable table → table.slots ≡ rooms + 1 → m ≡ (newcomer rooms, []) → tickets ≡ down_from rooms → IsSeated z m tickets
-  new_seated z table rooms m tickets at is wide new have = subst (λ (q : TableId × SeatState E). IsSeated q.0 q.1 tickets) (λ i. (sym at i, sym new i)) record {
+  pub new_seated : (z table : TableId) (rooms : ℕ) (m : SeatState E) (spare : Spare) → z ≡ table → IsTable table → table.slots ≡ rooms + 1 → m ≡ (newcomer rooms, []) → spare ≡ record { rooms = record { first = rooms + 1; last = 1; count = rooms }; end = 1 } → IsSeated z m spare
+  new_seated z table rooms m spare at is wide new have = subst (λ (q : TableId × SeatState E). IsSeated q.0 q.1 spare) (λ i. (sym at i, sym new i)) record {
     table = is;
     rests = new_rests table.slots rooms wide;
-    free = sym have;
+    tracks = subst (λ q. TracksEnd q record { rooms = down_from rooms; end = 1 }) (sym have) (tracks_new rooms);
     legal = told_legal same_name [] tt;
     alone = λ _. tt;
     share = whole_share;
@@ -59,11 +66,11 @@ module _ {E : Type 0} where
   new_standing z table rooms m at is = (λ i. standing (at i) (is i).0) ∙ ap (λ n. new_party table n) (length_down_from rooms)
 
   -- ---- a party that was split
-  pub kept_seated : (z z' : TableId) (n : ℕ) (m k : SeatState E) (tickets left : List ℕ) → IsSeated z m tickets → z' ≡ z → k ≡ (view_keeping n m.0, []) → left ≡ drop n tickets → IsSeated z' k left
-  kept_seated z z' n m k tickets left s at is have = subst (λ (q : TableId × SeatState E). IsSeated q.0 q.1 left) (λ i. (sym at i, sym is i)) record {
+  pub kept_seated : (z z' : TableId) (n : ℕ) (m k : SeatState E) (spare left : Spare) → IsSeated z m spare → z' ≡ z → k ≡ (view_keeping n m.0, []) → TracksEnd left (free_chain k.0) → IsSeated z' k left
+  kept_seated z z' n m k spare left s at is have = subst (λ (q : TableId × SeatState E). IsSeated q.0 q.1 left) (λ i. (sym at i, sym is i)) record {
     table = s.table;
     rests = (s.rests.0, s.rests.1, refl, keeps_some m.0.known.share s.rests.3, near_drop z.slots n m.0.free s.rests.4);
-    free = ap (drop n) s.free ∙ sym have;
+    tracks = subst (λ (q : SeatState E). TracksEnd left (free_chain q.0)) is have;
     legal = s.legal;
     alone = λ e. absurd (keeps_not_whole m.0.known.share e);
     share = keeps_share m.0.known.share s.share;
@@ -71,11 +78,11 @@ module _ {E : Type 0} where
     unheld = λ q of. s.unheld q (of_kept m.0.known.share q of);
   }
 
-  pub given_seated : (z z' : TableId) (n : ℕ) (m k : SeatState E) (tickets some_of : List ℕ) → IsSeated z m tickets → z' ≡ z → k ≡ (view_giving n m.0, []) → some_of ≡ take n tickets → IsSeated z' k some_of
-  given_seated z z' n m k tickets some_of s at is have = subst (λ (q : TableId × SeatState E). IsSeated q.0 q.1 some_of) (λ i. (sym at i, sym is i)) record {
+  pub given_seated : (z z' : TableId) (n : ℕ) (m k : SeatState E) (spare some_of : Spare) → IsSeated z m spare → z' ≡ z → k ≡ (view_giving n m.0, []) → TracksEnd some_of (free_chain k.0) → IsSeated z' k some_of
+  given_seated z z' n m k spare some_of s at is have = subst (λ (q : TableId × SeatState E). IsSeated q.0 q.1 some_of) (λ i. (sym at i, sym is i)) record {
     table = s.table;
     rests = (refl, refl, refl, gives_some m.0.known.share s.rests.3, near_take z.slots n m.0.free s.rests.4);
-    free = ap (take n) s.free ∙ sym have;
+    tracks = subst (λ (q : SeatState E). TracksEnd some_of (free_chain q.0)) is have;
     legal = subst (λ h. Legal h) (sym (plain_unmarked m.0.known.seen)) s.legal;
     alone = λ e. absurd (not_whole m.0.known.share e);
     share = gives_share m.0.known.share s.share;
@@ -84,29 +91,39 @@ module _ {E : Type 0} where
   }
 
   -- ---- a party that took another in
-  pub absorbed_seated : (z y z' : TableId) (m o k : SeatState E) (mine theirs all : List ℕ) → IsSeated z m mine → IsSeated y o theirs → y ≡ z → z' ≡ z → k ≡ (view_without_told (view_absorbing m.0 o.0), [])
-      → IsKnown (λ h. seen.LegalReversed h) (view_absorbing m.0 o.0).known → NonePending (view_absorbing m.0 o.0).known.share (plain (view_absorbing m.0 o.0).known.seen) → NoneHolds (view_absorbing m.0 o.0).known.share (plain (view_absorbing m.0 o.0).known.seen) → all ≡ mine ++ theirs → IsSeated z' k all
-  absorbed_seated z y z' m o k mine theirs all s other same at is known linked unheld have = subst (λ (q : TableId × SeatState E). IsSeated q.0 q.1 all) (λ i. (sym at i, sym is i)) record {
-    table = s.table;
-    rests = (refl, refl, refl, joined_some m.0.known.share o.0.known.share s.rests.3, near_append z.slots m.0.free o.0.free s.rests.4 (subst (λ (q : TableId). Near q.slots o.0.free) same other.rests.4));
-    free = (λ i. s.free i ++ other.free i) ∙ sym have;
-    legal = told_legal same_name (plain (view_absorbing m.0 o.0).known.seen) known.legal;
-    alone = known.alone;
-    share = joined_share m.0.known.share o.0.known.share (joined_disjoint known.long m.0.known.share o.0.known.share known.once) s.share other.share;
-    linked = linked;
-    unheld = unheld;
-  }
+  pub absorbed_seated : (z y z' : TableId) (m o k : SeatState E) (mine theirs all : Spare) → IsSeated z m mine → IsSeated y o theirs → y ≡ z → z' ≡ z → HasAbsorbed m o k
+      → IsKnown (λ h. seen.LegalReversed h) (view_absorbing m.0 o.0).known → NonePending (view_absorbing m.0 o.0).known.share (plain (view_absorbing m.0 o.0).known.seen) → NoneHolds (view_absorbing m.0 o.0).known.share (plain (view_absorbing m.0 o.0).known.seen) → TracksEnd all (free_chain k.0) → IsSeated z' k all
+  absorbed_seated z y z' m o k mine theirs all s other same at is known linked unheld have =
+      let now = view_absorbing m.0 o.0 in
+      let back = sym is.known in record {
+        table = subst (λ q. IsTable q) (sym at) s.table;
+        rests = (
+          is.stage,
+          is.back,
+          is.hand,
+          (λ e. joined_some m.0.known.share o.0.known.share s.rests.3 (sym (ap (λ (q : Known (Event Name E)). q.share) is.known) ∙ e)),
+          subst (λ (q : TableId × List ℕ). Near q.0.slots q.1) (λ i. (sym at i, sym is.free i)) (near_append z.slots m.0.free o.0.free s.rests.4 (subst (λ (q : TableId). Near q.slots o.0.free) same other.rests.4)),
+        );
+        tracks = have;
+        legal = subst (λ (q : Known (Event Name E)). Legal (plain q.seen)) back (told_legal same_name (plain now.known.seen) known.legal);
+        alone = λ e. subst (λ (q : Known (Event Name E)). AllOwn q.seen) back (known.alone (sym (ap (λ (q : Known (Event Name E)). q.share) is.known) ∙ e));
+        share = subst (λ (q : Known (Event Name E)). IsShare q.share) back (joined_share m.0.known.share o.0.known.share (joined_disjoint known.long m.0.known.share o.0.known.share known.once) s.share other.share);
+        linked = subst (λ (q : Known (Event Name E)). NonePending q.share (plain q.seen)) back linked;
+        unheld = subst (λ (q : Known (Event Name E)). NoneHolds q.share (plain q.seen)) back unheld;
+      }
 
-  pub absorbs : (z y z' : TableId) (m o k : SeatState E) → m.0.back ≡ [] → o.0.back ≡ [] → z' ≡ z → k ≡ (view_without_told (view_absorbing m.0 o.0), []) → IsKnown (λ h. seen.LegalReversed h) (view_absorbing m.0 o.0).known → Absorbs (λ h. Legal h) (standing z m.0) (standing y o.0) (standing z' k.0)
-  absorbs z y z' m o k bare bare_too at is known = subst (λ (q : TableId × SeatState E). Absorbs (λ h. Legal h) (standing z m.0) (standing y o.0) (standing q.0 q.1.0)) (λ i. (sym at i, sym is i)) record {
-    table = refl;
-    seen = refl;
-    apart = known.apart;
-    names = joined_disjoint known.long m.0.known.share o.0.known.share known.once;
-    mine = merged_prefix m.0.known.seen o.0.known.seen;
-    theirs = known.told;
-    legal = told_legal same_name (plain (view_absorbing m.0 o.0).known.seen) known.legal;
-    alone = known.alone;
-    share = refl;
-    rooms = length-append m.0.free o.0.free ∙ (λ i. length (sym bare i ++ m.0.free) + length (sym bare_too i ++ o.0.free));
-  }
+  pub absorbs : (z y z' : TableId) (m o k : SeatState E) → m.0.back ≡ [] → o.0.back ≡ [] → z' ≡ z → HasAbsorbed m o k → IsKnown (λ h. seen.LegalReversed h) (view_absorbing m.0 o.0).known → Absorbs (λ h. Legal h) (standing z m.0) (standing y o.0) (standing z' k.0)
+  absorbs z y z' m o k bare bare_too at is known =
+      let now = view_absorbing m.0 o.0 in
+      let back = sym is.known in record {
+        table = at;
+        seen = ap (λ (q : Known (Event Name E)). q.seen) is.known;
+        apart = known.apart;
+        names = joined_disjoint known.long m.0.known.share o.0.known.share known.once;
+        mine = subst (λ (q : Known (Event Name E)). IsPrefixOf (plain m.0.known.seen) (plain q.seen)) back (merged_prefix m.0.known.seen o.0.known.seen);
+        theirs = subst (λ (q : Known (Event Name E)). IsPrefixOf (plain o.0.known.seen) (plain q.seen)) back known.told;
+        legal = subst (λ (q : Known (Event Name E)). Legal (plain q.seen)) back (told_legal same_name (plain now.known.seen) known.legal);
+        alone = λ e. subst (λ (q : Known (Event Name E)). AllOwn q.seen) back (known.alone (sym (ap (λ (q : Known (Event Name E)). q.share) is.known) ∙ e));
+        share = ap (λ (q : Known (Event Name E)). q.share) is.known;
+        rooms = (λ i. length (is.back i ++ is.free i)) ∙ (length-append m.0.free o.0.free ∙ (λ i. length (sym bare i ++ m.0.free) + length (sym bare_too i ++ o.0.free)));
+      }

@@ -1,5 +1,5 @@
 -- A step of a queue's party may first give back the slots in hand.
-use Rattle.std.proofs.Common.{◌≡◌, ◌≢◌, ℕ, zero, suc, ◌-◌, ◌<◌, List, [], ◌∷◌, ◌++◌, length, reverse, set, get_or, Option, Some, None, refl, sym, ap, ◌∙◌, subst, arith, length-set}
+use Rattle.std.proofs.Common.{◌≡◌, ◌≢◌, ℕ, zero, suc, ◌-◌, ◌<◌, List, [], ◌∷◌, ◌++◌, length, reverse, set, get_or, append-nil, Option, Some, None, refl, sym, ap, ◌∙◌, subst, arith, length-set}
 use mathlib.Core.Option.{some}
 use mathlib.Core.Path.{fun_ext}
 use native.Mathlib.Decide.{ℕ_discrete}
@@ -12,22 +12,26 @@ use Rattle.cordyceps_shared.specs.declared.layout.TheConstants.{LINKS}
 use Rattle.cordyceps_shared.specs.Histories.{events}
 use Rattle.cordyceps_shared.proofs.Changing.{one_set}
 use Rattle.cordyceps_shared.proofs.Telling.{at_length, owned_same, fits_same}
-use Rattle.cordyceps_shared.specs.declared.slots.Filled.{Filled}
+use Rattle.cordyceps_shared.specs.FreeChains.{end_after, MayJoin}
+use Rattle.cordyceps_shared.proofs.FreeLinks.{links_append}
+use Rattle.cordyceps_shared.proofs.Places.{empty_append}
 use Rattle.cordyceps_shared.specs.Places.{ItemAt}
-use Rattle.cordyceps_queue.specs.History.{actor}
+use Rattle.cordyceps_queue.specs.History.{Event, actor}
+use Rattle.cordyceps_shared.specs.Shares.{Name}
+use Rattle.cordyceps_queue.specs.declared.cores.stage.Stage.{Stage}
 use Rattle.cordyceps_queue.specs.declared.cores.stage.Stage.TheVariants.{Cleared}
 use Rattle.cordyceps_queue.specs.Cores.Meets.{Spare, Meets}
-use Rattle.cordyceps_queue.specs.Shared.Plays.{SeatState, carry}
+use Rattle.cordyceps_queue.specs.Shared.Plays.{SeatState, carry, moves_to, hands_out}
 use Rattle.cordyceps_shared.specs.Slots.{Near, Homes, EmptyAtHome, Hand}
 use Rattle.cordyceps_queue.specs.Shared.Rule.{TableState, link_of, party, machine_of, RuleHolds}
-use Rattle.cordyceps_queue.specs.Shared.View.{View, knows}
+use Rattle.cordyceps_queue.specs.Shared.View.{View, knows, name, free_chain, back_chain}
 use Rattle.cordyceps_queue.specs.Cores.Abstract.{update}
-use Rattle.cordyceps_queue.proofs.CoreTheory.Basics.{at_more, put_same, put_other}
+use Rattle.cordyceps_queue.proofs.CoreTheory.Basics.{put_same, put_other}
 use Rattle.cordyceps_queue.proofs.CoreTheory.ProducerSteps.{spare_shared}
-use Rattle.cordyceps_queue.proofs.SharedTheory.WordsAsMachine.{core, party_at, rooms_of}
+use Rattle.cordyceps_queue.proofs.SharedTheory.WordsAsMachine.{core, party_at, back_spare, linkeds_same}
 use Rattle.cordyceps_queue.proofs.SharedTheory.EnqueueKeeps.{views_put}
 
-abbrev homes_given : {E : Type 0} → Homes (Filled E) → List ℕ → Homes (Filled E)
+abbrev homes_given : {E : Type 0} → Homes E → List ℕ → Homes E
 homes_given homes [] = homes
 homes_given homes (b ∷ bs) = homes_given (set homes b (some None)) bs
 
@@ -37,7 +41,7 @@ set_twice (x ∷ xs) zero a b = refl
 set_twice (x ∷ xs) (suc i) a b = ap (λ l. x ∷ l) (set_twice xs i a b)
 
 -- the act that gives back as many slots
-abbrev give_all : {E : Type 0} → List ℕ → Act (Option (Filled E))
+abbrev give_all : {E : Type 0} → List ℕ → Act (Option E)
 give_all [] = keeps
 give_all (b ∷ bs) = table.chain gives (give_all bs)
 
@@ -48,7 +52,7 @@ put_again f k v e = fun_ext (λ j. elim (ℕ_discrete j k) [
 ])
 
 module _ {E : Type 0} where
-  give_homes : (bs : List ℕ) (hs : Homes (Filled E)) → homes_after hs (carry bs) (give_all bs) ≡ homes_given hs bs
+  give_homes : (bs : List ℕ) (hs : Homes E) → homes_after hs (carry bs) (give_all bs) ≡ homes_given hs bs
   give_homes [] hs = refl
   give_homes (b ∷ bs) hs = give_homes bs (set hs b (some None))
 
@@ -56,56 +60,50 @@ module _ {E : Type 0} where
   give_carried [] = refl
   give_carried (b ∷ bs) = give_carried bs
 
-  give_valid : (bs : List ℕ) (hs : Homes (Filled E)) → Valid hs (carry bs) (give_all bs)
+  give_valid : (bs : List ℕ) (hs : Homes E) → Valid hs (carry bs) (give_all bs)
   give_valid [] hs = tt
   give_valid (b ∷ bs) hs = (tt, give_valid bs (set hs b (some None)))
 
-  given_length : (bs : List ℕ) (hs : Homes (Filled E)) → length (homes_given hs bs) ≡ length hs
+  given_length : (bs : List ℕ) (hs : Homes E) → length (homes_given hs bs) ≡ length hs
   given_length [] hs = refl
   given_length (b ∷ bs) hs = given_length bs (set hs b (some None)) ∙ length-set hs b (some None)
 
-  given_else : (bs : List ℕ) (hs : Homes (Filled E)) (x : ℕ) → ((i : ℕ) → ItemAt bs i x → ⊥) → get_elem? (homes_given hs bs) x ≡ get_elem? hs x
+  given_else : (bs : List ℕ) (hs : Homes E) (x : ℕ) → ((i : ℕ) → ItemAt bs i x → ⊥) → get_elem? (homes_given hs bs) x ≡ get_elem? hs x
   given_else [] hs x away = refl
   given_else (b ∷ bs) hs x away = given_else bs (set hs b (some None)) x (λ i. away (suc i)) ∙ set_else hs b x (some None) (away 0)
 
   -- an empty slot at home stays so
-  given_still : (bs : List ℕ) (hs : Homes (Filled E)) (x : ℕ) → get_elem? hs x ≡ some (some None) → get_elem? (homes_given hs bs) x ≡ some (some None)
+  given_still : (bs : List ℕ) (hs : Homes E) (x : ℕ) → get_elem? hs x ≡ some (some None) → get_elem? (homes_given hs bs) x ≡ some (some None)
   given_still [] hs x e = e
   given_still (b ∷ bs) hs x e = given_still bs (set hs b (some None)) x (elim (ℕ_discrete x b) [
     | yes same ↦ subst (λ n. get_elem? (set hs b (some None)) n ≡ some (some None)) (sym same) (set_here hs b (some None) (let l = at_length hs x (some None) e in omega arith))
     | no ne ↦ set_else hs b x (some None) ne ∙ e
   ])
 
-  given_here : (bs : List ℕ) (hs : Homes (Filled E)) (i x : ℕ) → ItemAt bs i x → x < length hs → get_elem? (homes_given hs bs) x ≡ some (some None)
+  given_here : (bs : List ℕ) (hs : Homes E) (i x : ℕ) → ItemAt bs i x → x < length hs → get_elem? (homes_given hs bs) x ≡ some (some None)
   given_here [] hs i x a l = absurd a
   given_here (b ∷ bs) hs zero x a l = given_still bs (set hs b (some None)) x (subst (λ n. get_elem? (set hs b (some None)) n ≡ some (some None)) (sym a) (set_here hs b (some None) (omega arith)))
   given_here (b ∷ bs) hs (suc i) x a l = given_here bs (set hs b (some None)) i x a (let e = length-set hs b (some None) in omega arith)
 
-  given_all : (bs free : List ℕ) (hs : Homes (Filled E)) → Near (length hs) bs → EmptyAtHome hs free → EmptyAtHome (homes_given hs bs) (bs ++ free)
-  given_all bs free hs near empty = both bs (λ i x a. given_here bs hs i x a (near i x a))
-    where
-      both : (cs : List ℕ) → ((i x : ℕ) → ItemAt cs i x → get_elem? (homes_given hs bs) x ≡ some (some None)) → (i x : ℕ) → ItemAt (cs ++ free) i x → get_elem? (homes_given hs bs) x ≡ some (some None)
-      both [] all i x a = given_still bs hs x (empty i x a)
-      both (c ∷ cs) all zero x a = all 0 x a
-      both (c ∷ cs) all (suc i) x a = both cs (λ j. all (suc j)) i x a
+  given_all : (bs free : List ℕ) (hs : Homes E) → Near (length hs) bs → EmptyAtHome hs free → EmptyAtHome (homes_given hs bs) (free ++ bs)
+  given_all bs free hs near empty = empty_append (homes_given hs bs) free bs (λ i x a. given_still bs hs x (empty i x a)) (λ i x a. given_here bs hs i x a (near i x a))
 
   -- the view of a party whose slots are all at home
   abbrev pub view_returned : View E → View E
-  view_returned v = record v { free = v.back ++ v.free; back = [] }
+  view_returned v = record v { free = v.free ++ v.back; end = end_after v.end v.back v.to; back = [] }
 
   abbrev pub table_returned : TableState E → ℕ → View E → TableState E
   table_returned s id v = record { words = s.words; homes = homes_given s.homes v.back; views = set s.views id (view_returned v) }
 
-  settles : (s : TableState E) (k : RuleHolds s) (id : ℕ) (v : View E) → get_elem? s.views id ≡ some v → v.known.share ≢ [] → Near (length s.homes) v.back → RuleHolds (table_returned s id v)
-  settles s k id v at named near =
+  settles : (s : TableState E) (k : RuleHolds s) (id : ℕ) (v : View E) → get_elem? s.views id ≡ some v → v.known.share ≢ [] → Near (length s.homes) v.back → MayJoin (free_chain v) (back_chain v) → RuleHolds (table_returned s id v)
+  settles s k id v at named near may =
       let w = view_returned v in
-      let rooms = rooms_of s k id v at named in
       let lt = at_length s.views id v at in
       let same : machine_of k.cell s.words s.views ≡ machine_of k.cell s.words (set s.views id w) = unchanged in
       let was_wide = k.wide in
       let was_stub = k.stub in
       let deep = given_length v.back s.homes in
-      let mine : (x i : ℕ) → ItemAt v.back i x → k.chain.owner x ≡ Spare id = λ x i a. rooms.own i x (at_more v.back v.free i x a) in record {
+      let mine : (x i : ℕ) → ItemAt v.back i x → k.chain.owner x ≡ Spare id = λ x i a. back_spare s k id v i x at named a in record {
         history = k.history;
         cell = k.cell;
         chain = k.chain;
@@ -117,6 +115,7 @@ module _ {E : Type 0} where
             (λ _. given_all v.back v.free s.homes near (k.empty id v at named))
             (λ j u _ e some_name i x ix. given_still v.back s.homes x (k.empty j u e some_name i x ix));
         ready = λ j u r. one_set (λ _ z. z.known.share ≢ [] → z.stage ≡ Cleared r → k.cell r ≡ z.item) s.views id w (λ _ is. k.ready id v r at named is) (λ i z _ e some_name is. k.ready i z r e some_name is) j u;
+        linked = linkeds_same s k id w (let l = k.linked id v at named in links_append s.words v.free v.back v.end v.to may l.0 l.1, tt);
         fits = fits_same actor knows s.views k.history id v w at refl refl refl refl k.fits;
         owned = owned_same knows s.views k.history id v w at refl k.owned;
       }
@@ -128,25 +127,32 @@ module _ {E : Type 0} where
         count = length s.words - LINKS;
         next = λ r. link_of (word.next s.words r);
         cell = k.cell;
-        party = (sym (put_again (core s k).party id (party v) (party_at s k id v at named)) ∙ views_put s k id v at named (view_returned v) named) i;
+        party = (sym (put_again (core s k).party id (party v) (party_at s k id v at named)) ∙ (ap (λ (l : List ℕ). update (core s k).party id (Some record { name = name v; stage = v.stage; spare = l })) (sym (append-nil (v.free ++ v.back))) ∙ views_put s k id v at named (view_returned v) named)) i;
       }
 
   -- a step from there is a step that gives back first
-  pub returning : (slots id i : ℕ) (me : SeatState E) (f : ℕ → ℕ) (then : ℕ → SeatState E → Type 0) → me.1 ≡ carry me.0.back → Near slots me.0.back → me.0.known.share ≢ []
+  pub returning : (slots id i : ℕ) (me : SeatState E) (f : ℕ → ℕ) (then : ℕ → SeatState E → Type 0) → me.1 ≡ carry me.0.back → Near slots me.0.back → me.0.known.share ≢ [] → MayJoin (free_chain me.0) (back_chain me.0)
       → Allows RuleHolds slots id (view_returned me.0, []) i f then → Allows RuleHolds slots id me i f then
-  returning slots id i me f then hand near named inner s k deep at fits =
+  returning slots id i me f then hand near named may inner s k deep at fits =
       let v = me.0 in
       let bs = v.back in
       let homes = s.homes in
-      let r = inner (table_returned s id v) (settles s k id v at named (λ j x a. let l = near j x a in omega arith)) (given_length bs homes ∙ deep) (set_here s.views id (view_returned v) (at_length s.views id v at)) fits in
+      let r = inner (table_returned s id v) (settles s k id v at named (λ j x a. let l = near j x a in omega arith) may) (given_length bs homes ∙ deep) (set_here s.views id (view_returned v) (at_length s.views id v at)) fits in
       let a = table.chain (give_all bs) r.1 in
       let n = f (get_or s.words i 0) in
       let h = sym (give_homes bs homes) in
       let c = sym (give_carried bs) in (
         r.0,
         a,
-        subst (λ z. Valid homes z a) (sym hand) (give_valid bs homes, subst (λ (z : Homes (Filled E) × Hand (Filled E)). Valid z.0 z.1 r.1) (λ j. (h j, c j)) r.2),
+        subst (λ z. Valid homes z a) (sym hand) (give_valid bs homes, subst (λ (z : Homes E × Hand E). Valid z.0 z.1 r.1) (λ j. (h j, c j)) r.2),
         subst (λ z. RuleHolds record { words = set s.words i n; homes = homes_after homes z a; views = set s.views id r.0 }) (sym hand)
-            (subst (λ (z : Homes (Filled E) × Hand (Filled E) × List (View E)). RuleHolds record { words = set s.words i n; homes = homes_after z.0 z.1 r.1; views = z.2 }) (λ j. (h j, c j, set_twice s.views id (view_returned v) r.0 j)) r.3),
+            (subst (λ (z : Homes E × Hand E × List (View E)). RuleHolds record { words = set s.words i n; homes = homes_after z.0 z.1 r.1; views = z.2 }) (λ j. (h j, c j, set_twice s.views id (view_returned v) r.0 j)) r.3),
         subst (λ z. then (get_or s.words i 0) (r.0, carried_after z a)) (sym hand) (subst (λ z. then (get_or s.words i 0) (r.0, carried_after z r.1)) c r.4),
       )
+
+  -- what a step comes to from there is what it comes to from here
+  pub moved_on : (me k : SeatState E) (es : List (Event Name E)) (p : Stage) → moves_to es p (view_returned me.0, []) k → moves_to es p me k
+  moved_on me k es p a = (a.0, a.1, a.2 ∙ append-nil (me.0.free ++ me.0.back), a.3, a.4, a.5)
+
+  pub handed_on : (me k : SeatState E) (es : List (Event Name E)) (slots t r : ℕ) → hands_out es slots t r (view_returned me.0, []) k → hands_out es slots t r me k
+  handed_on me k es slots t r h = (h.0, h.1, h.2, h.3 ∙ append-nil (me.0.free ++ me.0.back), h.4, h.5, h.6, h.7, h.8, h.9, h.10)

@@ -1,5 +1,5 @@
 -- Whose names and rooms the parties of a queue's table have.
-use Rattle.std.proofs.Common.{◌≡◌, ◌≢◌, ℕ, ◌+◌, ◌≤◌, List, [], ◌∷◌, ◌++◌, reverse, length, replicate, false, Option, Some, None, refl, sym, ap, ◌∙◌, subst, arith, length-append}
+use Rattle.std.proofs.Common.{◌≡◌, ◌≢◌, ℕ, ◌≤◌, List, [], ◌∷◌, ◌++◌, reverse, length, replicate, false, Option, Some, None, refl, sym, ap, ◌∙◌, subst, arith, length-append}
 use Rattle.std.proofs.lemmas.List.{reverse-append}
 use mathlib.Core.Bool.{Bool-discrete}
 use mathlib.Core.List.{List-discrete}
@@ -23,12 +23,12 @@ use Rattle.cordyceps_queue.specs.Past.{holder_reversed, IsSettled, IsLegalRevers
 use Rattle.cordyceps_queue.specs.Shared.Rule.{TableState, History, party, party_if, party_of, RuleHolds}
 use Rattle.cordyceps_queue.specs.Shared.View.{View, knows, name}
 use Rattle.cordyceps_queue.specs.Cores.Abstract.{AbstractParty}
-use Rattle.cordyceps_queue.proofs.CoreTheory.Basics.{some_inj, none_some, times_once}
+use Rattle.cordyceps_queue.proofs.CoreTheory.Basics.{some_inj, none_some, times_once, at_more}
 use Rattle.cordyceps_queue.proofs.HistoryEnds.{links_by-append, swaps_by-append, links_by-reverse, swaps_by-reverse}
 use Rattle.cordyceps_queue.proofs.Legality.{told_legal, front_legal, counts, holder_of}
 use Rattle.cordyceps_queue.proofs.PartyOrder.{takes_append, frees_append}
 use Rattle.cordyceps_queue.proofs.SharedTheory.OwnNames.{links_other, swaps_other, takes_other, frees_other, even_frees, not_holder}
-use Rattle.cordyceps_queue.proofs.SharedTheory.WordsAsMachine.{at_after, core, party_at, rooms_of}
+use Rattle.cordyceps_queue.proofs.SharedTheory.WordsAsMachine.{core, party_at, rooms_of}
 use Rattle.cordyceps_shared.proofs.Telling.{at_length, first_clear}
 use Rattle.cordyceps_shared.proofs.Tracing.{foreign_counts}
 
@@ -80,7 +80,7 @@ module _ {E : Type 0} (s : TableState E) (k : RuleHolds s) (id : ℕ) (v : View 
   few_rooms =
       let R = rooms_of s k id v at named in
       distinct_few (length s.homes) v.free
-      (λ r. times_once r v.free (λ i j a b. let e = R.once (length v.back + i) (length v.back + j) r (at_after v.back v.free i r a) (at_after v.back v.free j r b) in omega arith))
+      (λ r. times_once r v.free (λ i j a b. R.once i j r (at_more v.free v.back i r a) (at_more v.free v.back j r b)))
       (λ r l. let t = times_at r v.free l in at_length s.homes r (some None) (k.empty id v at named t.0 r t.1))
 
 -- ---- a party between two calls: none of its names is pending, and none has the right

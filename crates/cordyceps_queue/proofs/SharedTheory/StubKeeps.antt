@@ -17,17 +17,19 @@ use Rattle.cordyceps_queue.specs.Cores.Meets.{Owes, tail_of, Chain, AtStage, Mee
 use Rattle.cordyceps_queue.specs.Past.{WasBlockedReversed}
 use Rattle.cordyceps_queue.specs.Shared.Plays.{SeatState, Sees, carry, moves_to, hands_out, Blocked}
 use Rattle.cordyceps_queue.specs.Shared.Plays as play
-use Rattle.cordyceps_queue.specs.Shared.Rule.{TableState, link_of, machine_of, FullAtHome, party, RuleHolds}
-use Rattle.cordyceps_queue.specs.Shared.View.{View, name}
+use Rattle.cordyceps_queue.specs.Shared.Rule.{TableState, link_of, machine_of, FullAtHome, AreLinked, party, RuleHolds}
+use Rattle.cordyceps_shared.specs.FreeChains.{MayJoin}
+use Rattle.cordyceps_queue.specs.Shared.View.{View, name, free_chain, back_chain}
 use Rattle.cordyceps_queue.specs.Cores.Abstract.{AbstractMachine, set_stage, clear_stub, swap_head, link_next}
 use Rattle.cordyceps_queue.proofs.CoreTheory.Basics.{some_inj, zero_suc, suc_zero, suc_inj, put_same, at_split}
 use Rattle.cordyceps_queue.proofs.CoreTheory.DequeueSteps.{pass_keeps, chain_after_pass}
 use Rattle.cordyceps_queue.proofs.CoreTheory.HolderSteps.{was_now, keeping, stage_keeps, tell_keeps, open_blocks, none_held, stub_out}
 use Rattle.cordyceps_queue.proofs.CoreTheory.ChainShrinks.{second}
 use Rattle.cordyceps_queue.proofs.CoreTheory.StubSteps.{clear_stub_keeps, swap_stub_keeps, chain_after_stub, link_stub_keeps}
-use Rattle.cordyceps_queue.proofs.SharedTheory.WordsAsMachine.{links_put, links_same, keeps_rule, empties_same, readies_same, chain_near, head_near}
+use Rattle.cordyceps_queue.proofs.SharedTheory.WordsAsMachine.{links_put, links_same, keeps_rule, empties_same, readies_same, chain_near, head_near, linkeds, linkeds_low, own_links}
+use Rattle.cordyceps_queue.proofs.CoreTheory.ProducerSteps.{spare_shared}
 use Rattle.cordyceps_queue.proofs.SharedTheory.EnqueueKeeps.{views_put, wide_words}
-use Rattle.cordyceps_queue.proofs.SharedTheory.ReturnKeeps.{view_returned, returning}
+use Rattle.cordyceps_queue.proofs.SharedTheory.ReturnKeeps.{view_returned, returning, moved_on, handed_on}
 use Rattle.cordyceps_queue.proofs.SharedTheory.DequeueKeeps.{n, out_events, there, sees, reads, stood, blocked, same_rooms, less_rooms, hands, Comes}
 use Rattle.cordyceps_queue.proofs.SharedTheory.HolderAllowed.{looked_on}
 
@@ -42,7 +44,7 @@ module _ {E : Type 0} (s : TableState E) (k : RuleHolds s) (id : ℕ) (v : View 
   is_there = there s k id v at named bare
 
   abbrev view : List (Event Name E) → Stage → View E
-  view es stage = sees s k id v at named bare es v.free v.back stage
+  view es stage = sees s k id v at named bare es v.free v.end v.back v.to stage
 
   fits_at : (stage : Stage) → v.stage ≡ stage → AtStage core.head core.next core.cell k.chain.owner k.chain.keeper k.chain.rooms past id (name v) stage
   fits_at stage e = subst (AtStage core.head core.next core.cell k.chain.owner k.chain.keeper k.chain.rooms past id (name v)) e (k.meets.fits id (party v) is_there)
@@ -126,14 +128,14 @@ module _ {E : Type 0} (s : TableState E) (k : RuleHolds s) (id : ℕ) (v : View 
 
   -- ---- the stub is put in
   -- a step that changes one word and no slot
-  stores : (stage : Stage) (chain : Chain) (next : AbstractMachine Name E) (i x : ℕ) → next ≡ machine_of k.cell (set s.words i x) (set s.views id (view [] stage)) → Meets next chain past → FullAtHome s.homes k.cell chain.rooms → ((q : ℕ) → stage ≡ Cleared q → ⊥)
+  stores : (stage : Stage) (chain : Chain) (next : AbstractMachine Name E) (i x : ℕ) → AreLinked (set s.words i x) (set s.views id (view [] stage)) → next ≡ machine_of k.cell (set s.words i x) (set s.views id (view [] stage)) → Meets next chain past → FullAtHome s.homes k.cell chain.rooms → ((q : ℕ) → stage ≡ Cleared q → ⊥)
       → RuleHolds record { words = set s.words i x; homes = s.homes; views = set s.views id (view [] stage) } × Sees v [] (view [] stage)
-  stores stage chain next i x same met full away =
-      keeps_rule s k id [] v (view [] stage) (set s.words i x) s.homes k.cell chain next at named tt refl same met (length-set s.words i x) refl full (empties_same s k id (view [] stage) (k.empty id v at named)) (readies_same s k id (view [] stage) away)
+  stores stage chain next i x linked same met full away =
+      keeps_rule s k id [] v (view [] stage) (set s.words i x) s.homes k.cell chain next at named tt refl same met (length-set s.words i x) refl full (empties_same s k id (view [] stage) (k.empty id v at named)) (readies_same s k id (view [] stage) away) linked
 
   clears_stub_bare : (t : ℕ) → v.stage ≡ PutClear t → Comes s k id v at named bare LINKS 0 (λ _. moves_to [] (PutSwap t) (v, []))
   clears_stub_bare t l =
-      let r = stores (PutSwap t) k.chain (clear_stub core id (party v) t) LINKS 0 spelled (clear_stub_keeps core k.chain past k.meets id (party v) is_there t l) k.full (λ q is. cc) in
+      let r = stores (PutSwap t) k.chain (clear_stub core id (party v) t) LINKS 0 (linkeds s k id 0 0 (view [] (PutSwap t)) (own_links s k id 0 0 v at named (λ mine. spare_shared mine k.meets.stub)) (λ j ne mine. spare_shared mine k.meets.stub)) spelled (clear_stub_keeps core k.chain past k.meets id (party v) is_there t l) k.full (λ q is. cc) in
       (view [] (PutSwap t), keeps, tt, r.0, stood s k id v at named bare [] (PutSwap t) r.1)
     where
       spelled : clear_stub core id (party v) t ≡ machine_of k.cell (set s.words LINKS 0) (set s.views id (view [] (PutSwap t)))
@@ -149,7 +151,7 @@ module _ {E : Type 0} (s : TableState E) (k : RuleHolds s) (id : ℕ) (v : View 
   swaps_stub_bare : (t : ℕ) → v.stage ≡ PutSwap t → Comes s k id v at named bare HEAD 0 (λ found. moves_to [] (PutLink t found) (v, []))
   swaps_stub_bare t l =
       let old = word.head s.words in
-      let r = stores (PutLink t old) (chain_after_stub core k.chain past k.meets id (party v) is_there t l) (swap_head core id (party v) 0 (PutLink t old)) HEAD 0 spelled
+      let r = stores (PutLink t old) (chain_after_stub core k.chain past k.meets id (party v) is_there t l) (swap_head core id (party v) 0 (PutLink t old)) HEAD 0 (linkeds_low s k id HEAD 0 (view [] (PutLink t old)) (omega arith) (k.linked id v at named)) spelled
       (swap_stub_keeps core k.chain past k.meets id (party v) is_there t l) full (λ q is. cc) in
       (view [] (PutLink t old), keeps, tt, r.0, stood s k id v at named bare [] (PutLink t old) r.1)
     where
@@ -168,7 +170,9 @@ module _ {E : Type 0} (s : TableState E) (k : RuleHolds s) (id : ℕ) (v : View 
 
   links_stub_bare : (t old : ℕ) → v.stage ≡ PutLink t old → old < length s.homes → Comes s k id v at named bare (LINKS + old) 1 (λ _. moves_to [] (PutRead t) (v, []))
   links_stub_bare t old l inside =
-      let r = stores (PutRead t) k.chain (link_next core id (party v) old 0 (PutRead t)) (LINKS + old) 1 spelled (link_stub_keeps core k.chain past k.meets id (party v) is_there t old l) k.full (λ q is. cc) in
+      let f = fits_at (PutLink t old) l in
+      let shared = k.meets.shared f.1.0 old f.1.1 in
+      let r = stores (PutRead t) k.chain (link_next core id (party v) old 0 (PutRead t)) (LINKS + old) 1 (linkeds s k id old 1 (view [] (PutRead t)) (own_links s k id old 1 v at named (λ mine. spare_shared mine shared)) (λ j ne mine. spare_shared mine shared)) spelled (link_stub_keeps core k.chain past k.meets id (party v) is_there t old l) k.full (λ q is. cc) in
       (view [] (PutRead t), keeps, tt, r.0, stood s k id v at named bare [] (PutRead t) r.1)
     where
       spelled : link_next core id (party v) old 0 (PutRead t) ≡ machine_of k.cell (set s.words (LINKS + old) 1) (set s.views id (view [] (PutRead t)))
@@ -217,14 +221,21 @@ same_swap a b = some_inj (ap tail_of (sym a ∙ b))
 same_link : {p : Stage} {t u a b : ℕ} → p ≡ PutLink t a → p ≡ PutLink u b → t ≡ u
 same_link a b = some_inj (ap tail_of (sym a ∙ b))
 
-module _ {E : Type 0} (slots id : ℕ) (me : SeatState E) (hand : me.1 ≡ carry me.0.back) (near : Near slots me.0.back) (named : me.0.known.share ≢ []) where
+module _ {E : Type 0} (slots id : ℕ) (me : SeatState E) (hand : me.1 ≡ carry me.0.back) (near : Near slots me.0.back) (named : me.0.known.share ≢ []) (may : MayJoin (free_chain me.0) (back_chain me.0)) where
   pub looks_stub : me.0.stage ≡ Holding 0 → Allows RuleHolds slots id me LINKS (λ x. x) (play.after_look_stub (step slots LINKS 0 0 none) me)
-  looks_stub holding = returning slots id LINKS me (λ x. x) (play.after_look_stub (step slots LINKS 0 0 none) me) hand near named
-      (λ s k deep at fits. looks_stub_bare s k id (view_returned me.0) at named refl holding slots deep (word.next s.words 0) refl)
+  looks_stub holding = returning slots id LINKS me (λ x. x) (play.after_look_stub (step slots LINKS 0 0 none) me) hand near named may
+      (λ s k deep at fits.
+      let c = looks_stub_bare s k id (view_returned me.0) at named refl holding slots deep (word.next s.words 0) refl in
+      let z : SeatState E = (c.0, carried_after [] c.1) in
+      let es : List (Event Name E) = Event.Look (name me.0) ∷ [] in
+      (c.0, c.1, c.2, c.3, λ stage. let t = c.4 stage in ((λ e. moved_on me z es StubNull (t.0 e)), λ r e. let h = t.1 r e in (moved_on me z es (Second r) h.0, h.1, h.2))))
 
   pub heads_stub : me.0.stage ≡ StubNull → Allows RuleHolds slots id me HEAD (λ x. x) (play.after_head_stub (step slots HEAD 0 0 none) me)
-  heads_stub at_null = returning slots id HEAD me (λ x. x) (play.after_head_stub (step slots HEAD 0 0 none) me) hand near named
-      (λ s k deep at fits. heads_stub_bare s k id (view_returned me.0) at named refl at_null slots (ℕ_discrete (word.head s.words) 0))
+  heads_stub at_null = returning slots id HEAD me (λ x. x) (play.after_head_stub (step slots HEAD 0 0 none) me) hand near named may
+      (λ s k deep at fits.
+      let c = heads_stub_bare s k id (view_returned me.0) at named refl at_null slots (ℕ_discrete (word.head s.words) 0) in
+      let z : SeatState E = (c.0, carried_after [] c.1) in
+      (c.0, c.1, c.2, c.3, λ stage. let t = c.4 stage in ((λ e. moved_on me z (Event.Empty (name me.0) ∷ []) (Holding 0) (t.0 e)), λ e. let h = t.1 e in (moved_on me z [] (Holding 0) h.0, h.1))))
 
   HeadFacts : ℕ → ℕ → SeatState E → Type 0
   HeadFacts t found z = (found ≡ t → moves_to [] (PutClear t) me z) × (found ≢ t → moves_to [] (Holding t) me z × Blocked z.0)
@@ -234,34 +245,48 @@ module _ {E : Type 0} (slots id : ℕ) (me : SeatState E) (hand : me.1 ≡ carry
 
   pub heads : (t : ℕ) → me.0.stage ≡ Null t → Allows RuleHolds slots id me HEAD (λ x. x) (play.after_head (step slots HEAD 0 0 none) me)
   unfolding HeadTells HeadFacts
-  heads t at_null = returning slots id HEAD me (λ x. x) (play.after_head (step slots HEAD 0 0 none) me) hand near named
+  heads t at_null = returning slots id HEAD me (λ x. x) (play.after_head (step slots HEAD 0 0 none) me) hand near named may
       (λ s k deep at fits.
-      let c = heads_bare s k id (view_returned me.0) at named refl t at_null (ℕ_discrete (word.head s.words) t) in
-      (c.0, c.1, c.2, c.3, λ u stage. subst (λ q. HeadFacts q (word.head s.words) (c.0, carried_after [] c.1)) (same_null at_null stage) c.4))
+      let c = heads_bare s k id (view_returned me.0) at named refl t at_null (ℕ_discrete (word.head s.words) t) in (
+        c.0,
+        c.1,
+        c.2,
+        c.3,
+        λ u stage.
+            let z : SeatState E = (c.0, carried_after [] c.1) in
+            subst (λ q. HeadFacts q (word.head s.words) z) (same_null at_null stage) ((λ e. moved_on me z [] (PutClear t) (c.4.0 e)), λ e. let h = c.4.1 e in (moved_on me z [] (Holding t) h.0, h.1)),
+      ))
 
   pub rereads : (t i : ℕ) → i ≡ LINKS + t → me.0.stage ≡ PutRead t → Allows RuleHolds slots id me i (λ x. x) (play.after_reread (step slots i 0 0 none) me)
   unfolding RereadTells RereadFacts
-  rereads t i is at_put = returning slots id i me (λ x. x) (play.after_reread (step slots i 0 0 none) me) hand near named
+  rereads t i is at_put = returning slots id i me (λ x. x) (play.after_reread (step slots i 0 0 none) me) hand near named may
       (λ s k deep at fits.
-      let c = rereads_bare s k id (view_returned me.0) at named refl t at_put slots deep i is (get_or s.words i 0) refl in
-      (c.0, c.1, c.2, c.3, λ u stage. subst (λ q. RereadFacts q (get_or s.words i 0) (c.0, carried_after [] c.1)) (same_put at_put stage) c.4))
+      let c = rereads_bare s k id (view_returned me.0) at named refl t at_put slots deep i is (get_or s.words i 0) refl in (
+        c.0,
+        c.1,
+        c.2,
+        c.3,
+        λ u stage.
+            let z : SeatState E = (c.0, carried_after [] c.1) in
+            subst (λ q. RereadFacts q (get_or s.words i 0) z) (same_put at_put stage) ((λ e. let h = c.4.0 e in (moved_on me z [] (Holding t) h.0, h.1)), λ r e. handed_on me z [] slots t r (c.4.1 r e)),
+      ))
 
   pub clears_stub : (t : ℕ) → me.0.stage ≡ PutClear t → Allows RuleHolds slots id me LINKS (λ _. 0) (λ _. play.after_clear_stub (step slots LINKS 0 0 none) me 0)
-  clears_stub t l = returning slots id LINKS me (λ _. 0) (λ _. play.after_clear_stub (step slots LINKS 0 0 none) me 0) hand near named
+  clears_stub t l = returning slots id LINKS me (λ _. 0) (λ _. play.after_clear_stub (step slots LINKS 0 0 none) me 0) hand near named may
       (λ s k deep at fits.
       let c = clears_stub_bare s k id (view_returned me.0) at named refl t l in
-      (c.0, c.1, c.2, c.3, λ u stage. subst (λ q. moves_to [] (PutSwap q) me (c.0, carried_after [] c.1)) (same_clear l stage) c.4))
+      (c.0, c.1, c.2, c.3, λ u stage. subst (λ q. moves_to [] (PutSwap q) me (c.0, carried_after [] c.1)) (same_clear l stage) (moved_on me (c.0, carried_after [] c.1) [] (PutSwap t) c.4)))
 
   pub swaps_stub : (t : ℕ) → me.0.stage ≡ PutSwap t → Allows RuleHolds slots id me HEAD (λ _. 0) (play.after_swap_stub (step slots HEAD 0 0 none) me)
-  swaps_stub t l = returning slots id HEAD me (λ _. 0) (play.after_swap_stub (step slots HEAD 0 0 none) me) hand near named
+  swaps_stub t l = returning slots id HEAD me (λ _. 0) (play.after_swap_stub (step slots HEAD 0 0 none) me) hand near named may
       (λ s k deep at fits.
       let c = swaps_stub_bare s k id (view_returned me.0) at named refl t l in
       let h = head_near s k in
-      (c.0, c.1, c.2, c.3, λ u stage. (subst (λ q. moves_to [] (PutLink q (word.head s.words)) me (c.0, carried_after [] c.1)) (same_swap l stage) c.4, omega arith)))
+      (c.0, c.1, c.2, c.3, λ u stage. (subst (λ q. moves_to [] (PutLink q (word.head s.words)) me (c.0, carried_after [] c.1)) (same_swap l stage) (moved_on me (c.0, carried_after [] c.1) [] (PutLink t (word.head s.words)) c.4), omega arith)))
 
   pub links_stub : (t old i : ℕ) → i ≡ LINKS + old → old < slots → me.0.stage ≡ PutLink t old → Allows RuleHolds slots id me i (λ _. 1) (λ _. play.after_link_stub (step slots i 1 0 none) me 1)
-  links_stub t old i is inside l = returning slots id i me (λ _. 1) (λ _. play.after_link_stub (step slots i 1 0 none) me 1) hand near named
+  links_stub t old i is inside l = returning slots id i me (λ _. 1) (λ _. play.after_link_stub (step slots i 1 0 none) me 1) hand near named may
       (λ s k deep at fits.
       let c = links_stub_bare s k id (view_returned me.0) at named refl t old l (omega arith) in
       let sum : LINKS + old ≡ i = omega arith in
-      (c.0, c.1, c.2, subst (λ (q : ℕ). RuleHolds (stepped s q 1 id [] c.0 c.1)) sum c.3, λ u o stage. subst (λ q. moves_to [] (PutRead q) me (c.0, carried_after [] c.1)) (same_link l stage) c.4))
+      (c.0, c.1, c.2, subst (λ (q : ℕ). RuleHolds (stepped s q 1 id [] c.0 c.1)) sum c.3, λ u o stage. subst (λ q. moves_to [] (PutRead q) me (c.0, carried_after [] c.1)) (same_link l stage) (moved_on me (c.0, carried_after [] c.1) [] (PutRead t) c.4)))

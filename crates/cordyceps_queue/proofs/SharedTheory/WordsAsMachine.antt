@@ -10,6 +10,9 @@ use Rattle.atomic_table.proofs.Lists.{set_here, set_else}
 use Rattle.cordyceps_shared.specs.Words as word
 use Rattle.cordyceps_shared.specs.declared.layout.TheConstants.{LINKS}
 use Rattle.cordyceps_shared.proofs.Words.{next_set, next_beside_next}
+use Rattle.cordyceps_shared.specs.FreeChains.{Links}
+use Rattle.cordyceps_shared.proofs.FreeLinks.{links_frame}
+use Rattle.cordyceps_shared.proofs.Places.{times_at}
 use Rattle.cordyceps_shared.specs.Histories.{events, of_seat}
 use Rattle.cordyceps_shared.specs.Knowing.{Under, all_seen}
 use Rattle.cordyceps_shared.specs.Shares.{Name}
@@ -17,16 +20,15 @@ use Rattle.cordyceps_shared.proofs.Changing.{one_set}
 use Rattle.cordyceps_shared.proofs.Seeing.{events_more}
 use Rattle.cordyceps_shared.proofs.Telling.{at_length, tells}
 use Rattle.cordyceps_queue.specs.declared.cores.stage.Stage.TheVariants.{Cleared}
-use Rattle.cordyceps_shared.specs.declared.slots.Filled.{Filled}
 use Rattle.cordyceps_queue.specs.History.{Event, actor}
 use Rattle.cordyceps_shared.specs.Places.{ItemAt}
 use Rattle.cordyceps_queue.specs.Cores.Meets.{Spare, Ready, Chain, AtStage, OwnsRooms, Meets}
 use Rattle.cordyceps_queue.specs.Shared.Plays.{LegalReversed, Sees}
 use Rattle.cordyceps_shared.specs.Slots.{Homes, EmptyAtHome}
-use Rattle.cordyceps_queue.specs.Shared.Rule.{TableState, link_of, party, party_if, party_of, machine_of, slot_of, FullAtHome, AllEmptyAtHome, AllReady, RuleHolds}
+use Rattle.cordyceps_queue.specs.Shared.Rule.{TableState, link_of, party, party_if, party_of, machine_of, FullAtHome, AllEmptyAtHome, AllReady, AreLinked, RuleHolds}
 use Rattle.cordyceps_queue.specs.Shared.View.{View, knows, name}
 use Rattle.cordyceps_queue.specs.Cores.Abstract.{AbstractParty, AbstractMachine, update}
-use Rattle.cordyceps_queue.proofs.CoreTheory.Basics.{put_same, put_other}
+use Rattle.cordyceps_queue.proofs.CoreTheory.Basics.{put_same, put_other, at_more}
 
 pub at_after : {A : Type 0} (xs ys : List A) (i : ℕ) (a : A) → ItemAt ys i a → ItemAt (xs ++ ys) (length xs + i) a
 at_after [] ys i a p = let e : i ≡ 0 + i = omega arith in subst (λ n. ItemAt ys n a) e p
@@ -65,12 +67,12 @@ module _ {E : Type 0} where
   ])
 
   -- the rule after a step at which the party sees all and adds these events, and what it tells
-  pub keeps_rule : (s : TableState E) (k : RuleHolds s) (id : ℕ) (es : List (Event Name E)) (v w : View E) (words : List ℕ) (homes : Homes (Filled E)) (cell : ℕ → Option E) (chain : Chain) (m' : AbstractMachine Name E)
+  pub keeps_rule : (s : TableState E) (k : RuleHolds s) (id : ℕ) (es : List (Event Name E)) (v w : View E) (words : List ℕ) (homes : Homes E) (cell : ℕ → Option E) (chain : Chain) (m' : AbstractMachine Name E)
       → get_elem? s.views id ≡ some v → v.known.share ≢ [] → Under actor (name v) es → w.known ≡ all_seen id (k.history ++ of_seat id es) v.known.share
       → m' ≡ machine_of cell words (set s.views id w) → Meets m' chain (reverse es ++ reverse (events k.history))
-      → length words ≡ length s.words → length homes ≡ length s.homes → FullAtHome homes cell chain.rooms → AllEmptyAtHome homes (set s.views id w) → AllReady cell (set s.views id w)
+      → length words ≡ length s.words → length homes ≡ length s.homes → FullAtHome homes cell chain.rooms → AllEmptyAtHome homes (set s.views id w) → AllReady cell (set s.views id w) → AreLinked words (set s.views id w)
       → RuleHolds record { words = words; homes = homes; views = set s.views id w } × Sees v es w
-  keeps_rule s k id es v w words homes cell chain m' at some_name under sees same met wide deep full empty ready =
+  keeps_rule s k id es v w words homes cell chain m' at some_name under sees same met wide deep full empty ready linked =
       let h = k.history ++ of_seat id es in
       let recent : reverse (events h) ≡ reverse es ++ reverse (events k.history) = ap (λ z. reverse z) (events_more k.history id es) ∙ reverse-append (events k.history) es in
       let meets : Meets (machine_of cell words (set s.views id w)) chain (reverse (events h)) =
@@ -88,6 +90,7 @@ module _ {E : Type 0} where
           full = full;
           empty = empty;
           ready = ready;
+          linked = linked;
           fits = t.fits;
           owned = t.owned;
         },
@@ -101,14 +104,44 @@ module _ {E : Type 0} where
     pub party_at : (j : ℕ) (u : View E) → get_elem? s.views j ≡ some u → u.known.share ≢ [] → core.party j ≡ Some (party u)
     party_at j u at some_name = ap party_of at ∙ named_party u.known.share (party u) some_name
 
-    pub rooms_of : (j : ℕ) (u : View E) → get_elem? s.views j ≡ some u → u.known.share ≢ [] → OwnsRooms k.chain.owner j (u.back ++ u.free)
+    pub rooms_of : (j : ℕ) (u : View E) → get_elem? s.views j ≡ some u → u.known.share ≢ [] → OwnsRooms k.chain.owner j (u.free ++ u.back)
     rooms_of j u at some_name = k.meets.rooms j (party u) (party_at j u at some_name)
 
     pub free_spare : (j : ℕ) (u : View E) (i r : ℕ) → get_elem? s.views j ≡ some u → u.known.share ≢ [] → ItemAt u.free i r → k.chain.owner r ≡ Spare j
-    free_spare j u i r at some_name ir = (rooms_of j u at some_name).own (length u.back + i) r (at_after u.back u.free i r ir)
+    free_spare j u i r at some_name ir = (rooms_of j u at some_name).own i r (at_more u.free u.back i r ir)
+
+    pub back_spare : (j : ℕ) (u : View E) (i r : ℕ) → get_elem? s.views j ≡ some u → u.known.share ≢ [] → ItemAt u.back i r → k.chain.owner r ≡ Spare j
+    back_spare j u i r at some_name ir = (rooms_of j u at some_name).own (length u.free + i) r (at_after u.free u.back i r ir)
+
+    -- a store to the link of a room that is none of these leaves them linked
+    pub linked_else : (words rooms : List ℕ) (end x n : ℕ) → ((i : ℕ) → ItemAt rooms i x → ⊥) → Links words rooms end → Links (set words (LINKS + x) n) rooms end
+    linked_else words rooms end x n away = links_frame words (set words (LINKS + x) n) rooms end (λ r m. let t = times_at r rooms m in next_beside_next words x r n (λ same. away t.0 (subst (ItemAt rooms t.0) same t.1)))
+
+    -- the party's own links, after a store to that of a room that is not its own
+    pub own_links : (id x n : ℕ) (v : View E) → get_elem? s.views id ≡ some v → v.known.share ≢ [] → (k.chain.owner x ≡ Spare id → ⊥) → Links (set s.words (LINKS + x) n) v.free v.end × Links (set s.words (LINKS + x) n) v.back v.to
+    own_links id x n v at some_name away = let l = k.linked id v at some_name in (
+      linked_else s.words v.free v.end x n (λ i a. away (free_spare id v i x at some_name a)) l.0,
+      linked_else s.words v.back v.to x n (λ i a. away (back_spare id v i x at some_name a)) l.1,
+    )
+
+    -- a store to the link of a room that is no free room of another party
+    pub linkeds : (id x n : ℕ) (w : View E) → Links (set s.words (LINKS + x) n) w.free w.end × Links (set s.words (LINKS + x) n) w.back w.to → ((j : ℕ) → j ≢ id → k.chain.owner x ≡ Spare j → ⊥) → AreLinked (set s.words (LINKS + x) n) (set s.views id w)
+    linkeds id x n w mine apart = one_set (λ _ u. u.known.share ≢ [] → Links (set s.words (LINKS + x) n) u.free u.end × Links (set s.words (LINKS + x) n) u.back u.to) s.views id w (λ _. mine)
+        (λ j u ne e some_name. own_links j x n u e some_name (apart j ne))
+
+    -- a store to another word, or none
+    low_links : (words rooms : List ℕ) (end i n : ℕ) → i < LINKS → Links words rooms end → Links (set words i n) rooms end
+    low_links words rooms end i n low = links_frame words (set words i n) rooms end (λ r _. get_or-set_other words i (LINKS + r) n 0 (λ e. absurd (omega arith)))
+
+    pub linkeds_low : (id i n : ℕ) (w : View E) → i < LINKS → Links s.words w.free w.end × Links s.words w.back w.to → AreLinked (set s.words i n) (set s.views id w)
+    linkeds_low id i n w low mine = one_set (λ _ u. u.known.share ≢ [] → Links (set s.words i n) u.free u.end × Links (set s.words i n) u.back u.to) s.views id w (λ _. (low_links s.words w.free w.end i n low mine.0, low_links s.words w.back w.to i n low mine.1))
+        (λ j u ne e some_name. let l = k.linked j u e some_name in (low_links s.words u.free u.end i n low l.0, low_links s.words u.back u.to i n low l.1))
+
+    pub linkeds_same : (id : ℕ) (w : View E) → Links s.words w.free w.end × Links s.words w.back w.to → AreLinked s.words (set s.views id w)
+    linkeds_same id w mine = one_set (λ _ u. u.known.share ≢ [] → Links s.words u.free u.end × Links s.words u.back u.to) s.views id w (λ _. mine) (λ j u ne e some_name. k.linked j u e some_name)
 
     -- one slot changes, which is of no free room of another party
-    pub empties : (id r : ℕ) (y : maybe.Option (Option (Filled E))) (w : View E) → EmptyAtHome (set s.homes r y) w.free → ((j : ℕ) → j ≢ id → k.chain.owner r ≡ Spare j → ⊥) → AllEmptyAtHome (set s.homes r y) (set s.views id w)
+    pub empties : (id r : ℕ) (y : maybe.Option (Option E)) (w : View E) → EmptyAtHome (set s.homes r y) w.free → ((j : ℕ) → j ≢ id → k.chain.owner r ≡ Spare j → ⊥) → AllEmptyAtHome (set s.homes r y) (set s.views id w)
     empties id r y w mine apart = one_set (λ _ u. u.known.share ≢ [] → EmptyAtHome (set s.homes r y) u.free) s.views id w (λ _. mine)
         (λ j u ne e some_name i x ix. set_else s.homes r x y (λ same. apart j ne (ap k.chain.owner (sym same) ∙ free_spare j u i x e some_name ix)) ∙ k.empty j u e some_name i x ix)
 
@@ -120,7 +153,7 @@ module _ {E : Type 0} where
     pub chain_near : (i r : ℕ) → ItemAt k.chain.rooms i r → r < length s.homes
     chain_near i r ir = elim (ℕ_discrete r 0) [
       | yes e ↦ let l = k.stub in omega arith
-      | no ne ↦ at_length s.homes r (some (slot_of r (k.cell r))) (k.full i r ir ne)
+      | no ne ↦ at_length s.homes r (some (k.cell r)) (k.full i r ir ne)
     ]
 
     pub head_near : word.head s.words < length s.homes

@@ -1,10 +1,10 @@
 -- How a party of a queue is split in two, takes another in, and learns what it then knows.
 use Rattle.std.specs.Prelude.{◌≡◌, ℕ, ◌≤◌, [], ◌++◌, length, take, drop, None}
+use Rattle.cordyceps_shared.specs.FreeChains.{leads, end_after}
 use Rattle.cordyceps_shared.specs.Histories.{plain}
 use Rattle.cordyceps_shared.specs.Knowing.{IsKnown}
 use Rattle.cordyceps_shared.specs.Knowing as knowing
 use Rattle.cordyceps_queue.specs.declared.cores.stage.Stage.TheVariants.{Rest}
-use Rattle.cordyceps_shared.specs.declared.slots.Filled.{Filled}
 use Rattle.cordyceps_shared.specs.Slots.{TableStep, view, hand}
 use Rattle.cordyceps_queue.specs.Shared.Plays.{SeatState, LegalReversed}
 use Rattle.cordyceps_queue.specs.Shared.Calls.{NonePending, NoneHolds}
@@ -15,7 +15,7 @@ module _ {E : Type 0} where
   abbrev pub view_without_told : View E → View E
   view_without_told v = record v { known = record v.known { had = []; told = [] } }
 
-  abbrev pub after_learn : TableStep (Filled E) → SeatState E → ℕ → SeatState E → Type 0
+  abbrev pub after_learn : TableStep E → SeatState E → ℕ → SeatState E → Type 0
   after_learn st m read k =
       (view k ≡ view_without_told (view m)) × (hand k ≡ hand m) × IsKnown (λ h. LegalReversed h) (view m).known
       × (length (view m).free ≤ st.slots)
@@ -28,7 +28,15 @@ module _ {E : Type 0} where
 
   abbrev pub view_giving : ℕ → View E → View E
   view_giving n v =
-      record { known = knowing.known_giving v.known; free = take n v.free; back = []; stage = Rest; item = None }
+      record {
+        known = knowing.known_giving v.known;
+        free = take n v.free;
+        end = leads (drop n v.free) v.end;
+        back = [];
+        to = 0;
+        stage = Rest;
+        item = None;
+      }
 
   -- what a party has that took another in, and what is left of the other
   abbrev pub view_absorbing : View E → View E → View E
@@ -36,10 +44,21 @@ module _ {E : Type 0} where
       record {
         known = knowing.known_absorbing v.known w.known;
         free = v.free ++ w.free;
+        end = end_after v.end w.free w.end;
         back = [];
+        to = 0;
         stage = Rest;
         item = None;
       }
 
   abbrev pub view_absorbed : View E
-  view_absorbed = record { known = knowing.known_absorbed; free = []; back = []; stage = Rest; item = None }
+  view_absorbed =
+      record {
+        known = knowing.known_absorbed;
+        free = [];
+        end = 0;
+        back = [];
+        to = 0;
+        stage = Rest;
+        item = None;
+      }

@@ -1,8 +1,12 @@
 -- What the parts of a call on a shared queue leave: of the party's seat m before, and of its seat k after.
-use Rattle.std.specs.Prelude.{◌≡◌, ℕ, zero, suc, ◌<◌, ◌≤◌, List, [], ◌∷◌, ◌++◌, length, Option, Some, None}
+use Rattle.std.specs.Prelude.{◌≡◌, ◌≢◌, ℕ, zero, suc, ◌+◌, ◌<◌, ◌≤◌, List, [], ◌∷◌, ◌++◌, length, Option, Some, None}
 use Rattle.atomic_table.specs.Seated.{TableId}
+use Rattle.cordyceps_shared.specs.FreeChains.{FreeChain, Tracks, leads}
 use Rattle.cordyceps_shared.specs.Histories.{plain, AllOwn}
 use Rattle.cordyceps_shared.specs.Shares.{Name, whole, IsShare}
+use Rattle.cordyceps_shared.specs.Words as word
+use Rattle.cordyceps_shared.specs.declared.layout.TheConstants.{LINKS}
+use Rattle.cordyceps_queue.specs.Shared.Parting.{view_absorbing, view_without_told}
 use Rattle.cordyceps_queue.specs.declared.cores.stage.Stage.TheVariants.{Rest, Cleared, Swapped, Holding}
 use Rattle.cordyceps_queue.specs.declared.shared.table.Tried.{Tried}
 use Rattle.cordyceps_queue.specs.declared.shared.table.Tried.TheVariants.{Out, Empty, Inconsistent}
@@ -12,18 +16,33 @@ use Rattle.cordyceps_queue.specs.Shared.Plays.{SeatState, Sees, IsResting, IsHol
 use Rattle.cordyceps_queue.specs.Shared.Plays.{Blocked}
 use Rattle.cordyceps_queue.specs.Shared.Rule.{IsTable}
 use Rattle.cordyceps_queue.specs.Shared.Calls.{PartyOf, Legal, NonePending, NoneHolds}
-use Rattle.cordyceps_queue.specs.Shared.View.{View, name}
+use Rattle.cordyceps_queue.specs.declared.shared.spare.Spare.{Spare}
+use Rattle.cordyceps_queue.specs.Shared.View.{View, name, free_chain, all_rooms}
 
 -- a seat of this table, which is a queue's
 abbrev pub IsSeatOf : TableId → TableId → Type 0
 IsSeatOf seat table = (seat ≡ table) × IsTable table
 
+-- the words of a new queue, all of whose rooms are free
+pub record AreNew (words : List ℕ) (rooms : ℕ) : Type 0 where
+  pub wide : length words ≡ LINKS + rooms + 1
+  pub head : word.head words ≡ 0
+  pub right : word.right words ≡ 1
+  pub linked : (r : ℕ) → r ≤ rooms → word.next words r ≡ r
+
+-- what a party has of its free rooms, and the last one's link
+pub record TracksEnd (spare : Spare) (chain : FreeChain) : Type 0 where
+  pub tracks : Tracks spare.rooms chain
+  pub end : chain.rooms ≢ [] → spare.end ≡ chain.end
+
 module _ {E : Type 0} where
   -- a party that rested has cleared its first free room for this element, and has the room's slot in hand
-  pub record IsCleared (slots room : ℕ) (e : E) (m k : SeatState E) : Type 0 where
+  pub record IsCleared (slots room next : ℕ) (e : E) (m k : SeatState E) : Type 0 where
     pub stage : (view k).stage ≡ Cleared room
     pub item : (view k).item ≡ Some e
     pub free : (view m).free ≡ room ∷ (view k).free
+    pub end : (view k).end ≡ (view m).end
+    pub next_is : next ≡ leads (view k).free (view k).end
     pub back : (view k).back ≡ []
     pub hand : hand k ≡ (room, None) ∷ []
     pub near : room < slots
@@ -33,6 +52,7 @@ module _ {E : Type 0} where
   pub record IsSwapped (slots room old : ℕ) (e : E) (m k : SeatState E) : Type 0 where
     pub stage : (view k).stage ≡ Swapped room old
     pub free : (view k).free ≡ (view m).free
+    pub end : (view k).end ≡ (view m).end
     pub back : (view k).back ≡ []
     pub hand : hand k ≡ []
     pub near : old < slots
@@ -40,7 +60,7 @@ module _ {E : Type 0} where
 
   -- what a try came to, after these events, and the tail after it
   abbrev pub Tries : List (Event Name E) → ℕ → SeatState E → SeatState E → ℕ → Tried E → Type 0
-  Tries before slots m k t (Out full) = HandsOneOut before slots full.ticket t full.item m k
+  Tries before slots m k t (Out room e) = HandsOneOut before slots room t e m k
   Tries before slots m k t Empty =
       IsHolding slots t k × moves_to (before ++ Event.Empty (name (view m)) ∷ []) (Holding t) m k
   Tries before slots m k t Inconsistent = IsHolding slots t k × moves_to before (Holding t) m k × Blocked (view k)
@@ -50,12 +70,25 @@ module _ {E : Type 0} where
   AsksRight slots zero m k = IsResting slots k × moves_to (Event.Busy (name (view m)) ∷ []) Rest m k
   AsksRight slots (suc t) m k = IsHolding slots t k × moves_to (Event.Take (name (view m)) ∷ []) (Holding t) m k
 
+  -- the last free room has another link, if any, and all else is as before
+  pub record Relinked (m k : SeatState E) : Type 0 where
+    pub view : view k ≡ record (view m) { end = (view k).end }
+    pub hand : hand k ≡ hand m
+
+  -- it has absorbed another seat, and has seen what the two had seen
+  pub record HasAbsorbed (m other k : SeatState E) : Type 0 where
+    pub known : (view k).known ≡ (view_without_told (view_absorbing (view m) (view other))).known
+    pub stage : (view k).stage ≡ Rest
+    pub free : (view k).free ≡ (view m).free ++ (view other).free
+    pub back : (view k).back ≡ []
+    pub hand : hand k ≡ []
+
   -- a whole try of a party that rested: `None` beside another holder
   abbrev pub Dequeued : ℕ → SeatState E → SeatState E → Option (Tried E) → Type 0
   Dequeued slots m k None = ((view k).free ≡ (view m).free) × Sees (view m) (Event.Busy (name (view m)) ∷ []) (view k)
-  Dequeued slots m k (Some (Out full)) =
-      ((view k).free ≡ full.ticket ∷ (view m).free)
-      × Sees (view m) (Event.Take (name (view m)) ∷ Event.Look (name (view m)) ∷ Event.Out (name (view m)) full.item
+  Dequeued slots m k (Some (Out room e)) =
+      ((view k).free ≡ (view m).free ++ room ∷ [])
+      × Sees (view m) (Event.Take (name (view m)) ∷ Event.Look (name (view m)) ∷ Event.Out (name (view m)) e
       ∷ Event.Free (name (view m)) ∷ []) (view k)
       × (length (view m).free ≤ slots)
   Dequeued slots m k (Some Empty) =
@@ -72,24 +105,24 @@ module _ {E : Type 0} where
   abbrev pub standing : TableId → View E → PartyOf E
   standing z v = record { table = z; seen = v.known.seen; share = v.known.share; rooms = length (v.back ++ v.free) }
 
-  -- the party is between two calls, has the tickets of its free rooms, and has seen a legal history, a whole party with
-  -- no event of another; its names are a share, of which none is pending, and none has the right
-  pub record IsSeated (z : TableId) (m : SeatState E) (tickets : List ℕ) : Type 0 where
+  -- the party is between two calls, has its free rooms, and has seen a legal history, a whole party with no event of
+  -- another; its names are a share, of which none is pending, and none has the right
+  pub record IsSeated (z : TableId) (m : SeatState E) (spare : Spare) : Type 0 where
     pub table : IsTable z
     pub rests : IsResting z.slots m
-    pub free : (view m).free ≡ tickets
+    pub tracks : TracksEnd spare (free_chain (view m))
     pub legal : Legal (plain (view m).known.seen)
     pub alone : (view m).known.share ≡ whole → AllOwn (view m).known.seen
     pub share : IsShare (view m).known.share
     pub linked : NonePending (view m).known.share (plain (view m).known.seen)
     pub unheld : NoneHolds (view m).known.share (plain (view m).known.seen)
 
-  -- the party has the right, its tail is t, and it has the tickets of its rooms; it has seen a legal history, a whole
-  -- party with no event of another; its names are a share, of which none is pending, and the first has the right
-  pub record IsConsuming (z : TableId) (t : ℕ) (m : SeatState E) (tickets : List ℕ) : Type 0 where
+  -- the party has the right, its tail is t, and it has its rooms; it has seen a legal history, a whole party with no
+  -- event of another; its names are a share, of which none is pending, and the first has the right
+  pub record IsConsuming (z : TableId) (t : ℕ) (m : SeatState E) (spare : Spare) : Type 0 where
     pub table : IsTable z
     pub holds : IsHolding z.slots t m
-    pub rooms : (view m).back ++ (view m).free ≡ tickets
+    pub tracks : TracksEnd spare (all_rooms (view m))
     pub legal : Legal (plain (view m).known.seen)
     pub alone : (view m).known.share ≡ whole → AllOwn (view m).known.seen
     pub share : IsShare (view m).known.share

@@ -1,21 +1,22 @@
 -- What each atomic step tells a party of a queue: of its seat m before, of the word that it found, and of its seat k
 -- after. A seat has a view, and the slots in hand, the last taken first.
-use Rattle.std.specs.Prelude.{◌≡◌, ◌≢◌, ℕ, suc, ◌<◌, ◌≤◌, List, [], ◌∷◌, ◌++◌, reverse, length, Option, Some, None}
+use Rattle.std.specs.Prelude.{◌≡◌, ◌≢◌, ℕ, suc, ◌+◌, ◌<◌, ◌≤◌, List, [], ◌∷◌, ◌++◌, reverse, length, Option, Some, None}
+use Rattle.cordyceps_shared.specs.FreeChains.{leads, end_after, MayJoin}
 use Rattle.cordyceps_shared.specs.Histories.{plain}
 use Rattle.cordyceps_shared.specs.Knowing.{Grown}
 use Rattle.cordyceps_shared.specs.Shares.{Name}
+use Rattle.cordyceps_shared.specs.declared.layout.TheConstants.{LINKS}
 use Rattle.cordyceps_queue.specs.declared.cores.stage.Stage.{Stage}
 use Rattle.cordyceps_queue.specs.declared.cores.stage.Stage.TheVariants.{Rest, Cleared, Swapped, Holding, StubNull}
 use Rattle.cordyceps_queue.specs.declared.cores.stage.Stage.TheVariants.{Second, Null, PutClear, PutSwap, PutLink}
 use Rattle.cordyceps_queue.specs.declared.cores.stage.Stage.TheVariants.{PutRead}
-use Rattle.cordyceps_shared.specs.declared.slots.Filled.{Filled}
 use Rattle.cordyceps_queue.specs.History.{Event, actor}
 use Rattle.cordyceps_queue.specs.Past.{IsLegalReversed, WasBlockedReversed}
-use Rattle.cordyceps_shared.specs.Slots.{Hand, Near, TableStep, SeatWith, view, hand, full_slot}
-use Rattle.cordyceps_queue.specs.Shared.View.{View, name}
+use Rattle.cordyceps_shared.specs.Slots.{Hand, Near, TableStep, SeatWith, view, hand}
+use Rattle.cordyceps_queue.specs.Shared.View.{View, name, free_chain, back_chain}
 
 abbrev pub SeatState : Type 0 → Type 0
-SeatState E = SeatWith (Filled E) (View E)
+SeatState E = SeatWith E (View E)
 
 module _ {E : Type 0} where
   abbrev pub LegalReversed : List (Event Name E) → Type 0
@@ -31,29 +32,30 @@ module _ {E : Type 0} where
       ((view m).stage ≡ Rest) × ((view m).back ≡ []) × (hand m ≡ []) × ((view m).known.share ≢ [])
       × Near slots (view m).free
 
-  abbrev pub after_clear_for : Option E → ℕ → SeatState E → SeatState E → Type 0
-  after_clear_for item slots m k = (r : ℕ) (rs : List ℕ) (e : E) → (view m).free ≡ r ∷ rs → item ≡ Some e
+  abbrev pub after_clear_for : Option E → ℕ → SeatState E → ℕ → SeatState E → Type 0
+  after_clear_for item slots m found k = (r : ℕ) (rs : List ℕ) (e : E) → (view m).free ≡ r ∷ rs → item ≡ Some e
       → ((view k).stage ≡ Cleared r) × ((view k).item ≡ Some e) × ((view k).free ≡ rs) × ((view k).back ≡ (view m).back)
-      × (hand k ≡ (r, None) ∷ hand m) × (r < slots) × Sees (view m) [] (view k)
+      × (hand k ≡ (r, None) ∷ hand m) × (r < slots) × Sees (view m) [] (view k) × ((view k).end ≡ (view m).end)
+      × (found ≡ leads rs (view m).end)
 
-  abbrev pub after_clear : Option E → TableStep (Filled E) → SeatState E → ℕ → SeatState E → Type 0
-  after_clear item st m found k = after_clear_for item st.slots m k
+  abbrev pub after_clear : Option E → TableStep E → SeatState E → ℕ → SeatState E → Type 0
+  after_clear item st m found k = after_clear_for item st.slots m found k
 
-  abbrev pub after_swap : TableStep (Filled E) → SeatState E → ℕ → SeatState E → Type 0
+  abbrev pub after_swap : TableStep E → SeatState E → ℕ → SeatState E → Type 0
   after_swap st m found k =
-      (r : ℕ) (e : E) (cs : Hand (Filled E)) → (view m).stage ≡ Cleared r → (view m).item ≡ Some e
-      → hand m ≡ (r, Some (full_slot r e)) ∷ cs
+      (r : ℕ) (e : E) (cs : Hand E) → (view m).stage ≡ Cleared r → (view m).item ≡ Some e
+      → hand m ≡ (r, Some e) ∷ cs
       → ((view k).stage ≡ Swapped r found) × ((view k).free ≡ (view m).free) × ((view k).back ≡ (view m).back)
       × (hand k ≡ cs) × (found < st.slots)
-      × Sees (view m) (Event.Swap (name (view m)) e ∷ []) (view k)
+      × Sees (view m) (Event.Swap (name (view m)) e ∷ []) (view k) × ((view k).end ≡ (view m).end)
 
-  abbrev pub after_link : TableStep (Filled E) → SeatState E → ℕ → SeatState E → Type 0
+  abbrev pub after_link : TableStep E → SeatState E → ℕ → SeatState E → Type 0
   after_link st m n k = (r old : ℕ) → (view m).stage ≡ Swapped r old
       → ((view k).stage ≡ Rest) × ((view k).free ≡ (view m).free) × ((view k).back ≡ (view m).back) × (hand k ≡ hand m)
-      × Sees (view m) (Event.Link (name (view m)) ∷ []) (view k)
+      × Sees (view m) (Event.Link (name (view m)) ∷ []) (view k) × ((view k).end ≡ (view m).end)
 
   -- the slots in hand, of rooms that are to be given back
-  abbrev pub carry : List ℕ → Hand (Filled E)
+  abbrev pub carry : List ℕ → Hand E
   carry [] = []
   carry (b ∷ bs) = (b, None) ∷ carry bs
 
@@ -61,90 +63,109 @@ module _ {E : Type 0} where
   abbrev pub IsHolding : ℕ → ℕ → SeatState E → Type 0
   IsHolding slots t m =
       ((view m).stage ≡ Holding t) × (hand m ≡ carry (view m).back) × ((view m).known.share ≢ [])
-      × Near slots ((view m).back ++ (view m).free)
+      × Near slots ((view m).free ++ (view m).back)
+      × (t < slots) × MayJoin (free_chain (view m)) (back_chain (view m))
+
+  -- the same, but the last free room may not be linked to the room in hand yet
+  abbrev pub Holds : ℕ → ℕ → SeatState E → Type 0
+  Holds slots t m =
+      ((view m).stage ≡ Holding t) × (hand m ≡ carry (view m).back) × ((view m).known.share ≢ [])
+      × Near slots ((view m).free ++ (view m).back)
       × (t < slots)
 
   -- the slot is given back, and the party is at this stage
   abbrev pub moves_to : List (Event Name E) → Stage → SeatState E → SeatState E → Type 0
   moves_to es stage m k =
-      ((view k).stage ≡ stage) × ((view k).back ≡ []) × ((view k).free ≡ (view m).back ++ (view m).free) × (hand k ≡ [])
-      × Sees (view m) es (view k)
+      ((view k).stage ≡ stage) × ((view k).back ≡ []) × ((view k).free ≡ (view m).free ++ (view m).back) × (hand k ≡ [])
+      × Sees (view m) es (view k) × ((view k).end ≡ end_after (view m).end (view m).back (view m).to)
 
   -- the tail's element is handed out
   abbrev pub hands_out : List (Event Name E) → ℕ → ℕ → ℕ → SeatState E → SeatState E → Type 0
   hands_out before slots t r m k =
       (e : E) × ((view k).stage ≡ Holding r) × ((view k).back ≡ t ∷ [])
-      × ((view k).free ≡ (view m).back ++ (view m).free) × (hand k ≡ (t, Some (full_slot t e)) ∷ [])
+      × ((view k).free ≡ (view m).free ++ (view m).back) × (hand k ≡ (t, Some e) ∷ [])
       × (t < slots) × (r < slots) × Sees (view m) (before ++ Event.Out (name (view m)) e ∷ []) (view k)
-      × (length (view k).free ≤ slots)
+      × (length (view k).free ≤ slots) × ((view k).end ≡ end_after (view m).end (view m).back (view m).to)
+      × ((view k).to ≡ suc r)
 
   -- the same, and the party holds on with the emptied slot in hand
   abbrev pub HandsOneOut : List (Event Name E) → ℕ → ℕ → ℕ → E → SeatState E → SeatState E → Type 0
   HandsOneOut before slots t r e m k =
-      IsHolding slots r k × ((view k).back ≡ t ∷ []) × ((view k).free ≡ (view m).back ++ (view m).free)
+      Holds slots r k × ((view k).back ≡ t ∷ []) × ((view k).free ≡ (view m).free ++ (view m).back)
       × Sees (view m) (before ++ Event.Out (name (view m)) e ∷ []) (view k) × (length (view k).free ≤ slots)
+      × ((view k).to ≡ suc r)
 
   -- some prefix that contains the party's last look is blocked
   abbrev pub Blocked : View E → Type 0
   Blocked v = WasBlockedReversed (name v) (reverse (plain v.known.seen))
 
-  -- the party is at this stage, with at most one slot in hand
+  -- the party is at this stage, with no slot in hand
   abbrev pub IsAtStage : ℕ → Stage → SeatState E → Type 0
   IsAtStage slots stage m =
-      ((view m).stage ≡ stage) × (hand m ≡ carry (view m).back) × ((view m).known.share ≢ [])
-      × Near slots ((view m).back ++ (view m).free)
+      ((view m).stage ≡ stage) × ((view m).back ≡ []) × (hand m ≡ []) × ((view m).known.share ≢ [])
+      × Near slots (view m).free
 
-  abbrev pub after_take : TableStep (Filled E) → SeatState E → ℕ → SeatState E → Type 0
+  -- a store that links the last free room to the room in hand
+  abbrev pub after_tie : TableStep E → SeatState E → ℕ → SeatState E → Type 0
+  after_tie st m n k = (view k ≡ record (view m) { end = n }) × (hand k ≡ hand m)
+
+  -- a read of the link of a free room
+  abbrev pub after_skip : TableStep E → SeatState E → ℕ → SeatState E → Type 0
+  after_skip st m found k = (before after : List ℕ) (r : ℕ) → (view m).free ≡ before ++ r ∷ after
+      → st.word ≡ LINKS + r
+      → (k ≡ m) × (found ≡ leads after (view m).end)
+
+  abbrev pub after_take : TableStep E → SeatState E → ℕ → SeatState E → Type 0
   after_take st m found k = (view m).stage ≡ Rest
       → (found ≡ 0 → moves_to (Event.Busy (name (view m)) ∷ []) Rest m k)
       × ((t : ℕ) → found ≡ suc t → moves_to (Event.Take (name (view m)) ∷ []) (Holding t) m k × (t < st.slots))
 
   -- the first read of a try, of the stub's link
-  abbrev pub after_look_stub : TableStep (Filled E) → SeatState E → ℕ → SeatState E → Type 0
+  abbrev pub after_look_stub : TableStep E → SeatState E → ℕ → SeatState E → Type 0
   after_look_stub st m found k = (view m).stage ≡ Holding 0
       → (found ≡ 0 → moves_to (Event.Look (name (view m)) ∷ []) StubNull m k)
       × ((r : ℕ) → found ≡ suc r → moves_to (Event.Look (name (view m)) ∷ []) (Second r) m k × (r < st.slots) × (r ≢ 0))
 
   -- the first read of a try, of another tail's link
-  abbrev pub after_look : TableStep (Filled E) → SeatState E → ℕ → SeatState E → Type 0
+  abbrev pub after_look : TableStep E → SeatState E → ℕ → SeatState E → Type 0
   after_look st m found k = (t : ℕ) → (view m).stage ≡ Holding t → t ≢ 0
       → (found ≡ 0 → moves_to (Event.Look (name (view m)) ∷ []) (Null t) m k)
       × ((r : ℕ) → found ≡ suc r → hands_out (Event.Look (name (view m)) ∷ []) st.slots t r m k)
 
   -- the read after the stub was passed
-  abbrev pub after_read : TableStep (Filled E) → SeatState E → ℕ → SeatState E → Type 0
+  abbrev pub after_read : TableStep E → SeatState E → ℕ → SeatState E → Type 0
   after_read st m found k = (t : ℕ) → (view m).stage ≡ Second t
       → (found ≡ 0 → moves_to [] (Null t) m k)
       × ((r : ℕ) → found ≡ suc r → hands_out [] st.slots t r m k)
 
   -- the read after the stub was put in
-  abbrev pub after_reread : TableStep (Filled E) → SeatState E → ℕ → SeatState E → Type 0
+  abbrev pub after_reread : TableStep E → SeatState E → ℕ → SeatState E → Type 0
   after_reread st m found k = (t : ℕ) → (view m).stage ≡ PutRead t
       → (found ≡ 0 → moves_to [] (Holding t) m k × Blocked (view k))
       × ((r : ℕ) → found ≡ suc r → hands_out [] st.slots t r m k)
 
   -- the read of head after a null link of the stub
-  abbrev pub after_head_stub : TableStep (Filled E) → SeatState E → ℕ → SeatState E → Type 0
+  abbrev pub after_head_stub : TableStep E → SeatState E → ℕ → SeatState E → Type 0
   after_head_stub st m found k = (view m).stage ≡ StubNull
       → (found ≡ 0 → moves_to (Event.Empty (name (view m)) ∷ []) (Holding 0) m k)
       × (found ≢ 0 → moves_to [] (Holding 0) m k × Blocked (view k))
 
   -- the read of head after a null link of another tail
-  abbrev pub after_head : TableStep (Filled E) → SeatState E → ℕ → SeatState E → Type 0
+  abbrev pub after_head : TableStep E → SeatState E → ℕ → SeatState E → Type 0
   after_head st m found k = (t : ℕ) → (view m).stage ≡ Null t
       → (found ≡ t → moves_to [] (PutClear t) m k)
       × (found ≢ t → moves_to [] (Holding t) m k × Blocked (view k))
 
   -- the stub is put in: its link becomes null, it becomes the head, and the old head is linked to it
-  abbrev pub after_clear_stub : TableStep (Filled E) → SeatState E → ℕ → SeatState E → Type 0
+  abbrev pub after_clear_stub : TableStep E → SeatState E → ℕ → SeatState E → Type 0
   after_clear_stub st m n k = (t : ℕ) → (view m).stage ≡ PutClear t → moves_to [] (PutSwap t) m k
 
-  abbrev pub after_swap_stub : TableStep (Filled E) → SeatState E → ℕ → SeatState E → Type 0
+  abbrev pub after_swap_stub : TableStep E → SeatState E → ℕ → SeatState E → Type 0
   after_swap_stub st m found k = (t : ℕ) → (view m).stage ≡ PutSwap t
       → moves_to [] (PutLink t found) m k × (found < st.slots)
 
-  abbrev pub after_link_stub : TableStep (Filled E) → SeatState E → ℕ → SeatState E → Type 0
+  abbrev pub after_link_stub : TableStep E → SeatState E → ℕ → SeatState E → Type 0
   after_link_stub st m n k = (t old : ℕ) → (view m).stage ≡ PutLink t old → moves_to [] (PutRead t) m k
 
-  abbrev pub after_give : TableStep (Filled E) → SeatState E → ℕ → SeatState E → Type 0
+  abbrev pub after_give : TableStep E → SeatState E → ℕ → SeatState E → Type 0
   after_give st m n k = (t : ℕ) → (view m).stage ≡ Holding t → moves_to (Event.Free (name (view m)) ∷ []) Rest m k

@@ -7,14 +7,14 @@ use lib.ListN.{get_elem?}
 use Rattle.atomic_table.specs.Table.{State}
 use Rattle.atomic_table.specs.Seated.{TableId}
 use Rattle.cordyceps_base.specs.declared.shared.TheConstants.{MAX_ROOMS}
+use Rattle.cordyceps_shared.specs.FreeChains.{Links}
 use Rattle.cordyceps_shared.specs.Histories.{events}
 use Rattle.cordyceps_shared.specs.Knowing.{SharesDisjoint, AllAgree}
 use Rattle.cordyceps_shared.specs.Shares.{Name}
 use Rattle.cordyceps_shared.specs.Words as word
 use Rattle.cordyceps_shared.specs.declared.layout.TheConstants.{LINKS}
 use Rattle.cordyceps_queue.specs.declared.cores.stage.Stage.TheVariants.{Cleared}
-use Rattle.cordyceps_shared.specs.Slots.{Homes, full_slot, EmptyAtHome}
-use Rattle.cordyceps_shared.specs.declared.slots.Filled.{Filled}
+use Rattle.cordyceps_shared.specs.Slots.{Homes, EmptyAtHome}
 use Rattle.cordyceps_queue.specs.History.{Event, actor}
 use Rattle.cordyceps_shared.specs.Places.{ItemAt}
 use Rattle.cordyceps_queue.specs.Cores.Meets.{Chain, Meets}
@@ -22,7 +22,7 @@ use Rattle.cordyceps_queue.specs.Shared.View.{View, knows, name}
 use Rattle.cordyceps_queue.specs.Cores.Abstract.{AbstractParty, AbstractMachine}
 
 abbrev pub TableState : Type 0 → Type 0
-TableState E = State (Option (Filled E)) (View E)
+TableState E = State (Option E) (View E)
 
 -- each event with the seat of its party, the oldest first
 abbrev pub History : Type 0 → Type 0
@@ -39,13 +39,9 @@ party_if [] p = None
 party_if (n ∷ ns) p = Some p
 
 module _ {E : Type 0} where
-  abbrev pub slot_of : ℕ → Option E → Option (Filled E)
-  slot_of r None = None
-  slot_of r (Some e) = Some (full_slot r e)
-
   -- the party as the core's machine has it: a room whose slot has yet to be given back is free already
   abbrev pub party : View E → AbstractParty Name
-  party v = record { name = name v; stage = v.stage; spare = v.back ++ v.free }
+  party v = record { name = name v; stage = v.stage; spare = v.free ++ v.back }
 
   abbrev pub party_of : maybe.Option (View E) → Option (AbstractParty Name)
   party_of none = None
@@ -64,14 +60,20 @@ module _ {E : Type 0} where
   }
 
   -- the slots of the chain's rooms are at home, each with its element
-  abbrev pub FullAtHome : Homes (Filled E) → (ℕ → Option E) → List ℕ → Type 0
+  abbrev pub FullAtHome : Homes E → (ℕ → Option E) → List ℕ → Type 0
   FullAtHome homes cell rooms =
-      (i r : ℕ) → ItemAt rooms i r → r ≢ 0 → get_elem? homes r ≡ some (some (slot_of r (cell r)))
+      (i r : ℕ) → ItemAt rooms i r → r ≢ 0 → get_elem? homes r ≡ some (some (cell r))
 
   -- the slots of each party's free rooms are at home, with nothing in them
-  abbrev pub AllEmptyAtHome : Homes (Filled E) → List (View E) → Type 0
+  abbrev pub AllEmptyAtHome : Homes E → List (View E) → Type 0
   AllEmptyAtHome homes views =
       (j : ℕ) (v : View E) → get_elem? views j ≡ some v → v.known.share ≢ [] → EmptyAtHome homes v.free
+
+  -- the free rooms of each party are linked, and so are those whose slots it has yet to give back
+  abbrev pub AreLinked : List ℕ → List (View E) → Type 0
+  AreLinked words views =
+      (j : ℕ) (v : View E) → get_elem? views j ≡ some v → v.known.share ≢ []
+      → Links words v.free v.end × Links words v.back v.to
 
   -- a cleared room has the element that it was cleared for
   abbrev pub AllReady : (ℕ → Option E) → List (View E) → Type 0
@@ -90,6 +92,7 @@ module _ {E : Type 0} where
     pub full : FullAtHome s.homes cell chain.rooms
     pub empty : AllEmptyAtHome s.homes s.views
     pub ready : AllReady cell s.views
+    pub linked : AreLinked s.words s.views
     pub fits : AllAgree actor knows s.views history
     pub owned : SharesDisjoint knows s.views history
 

@@ -1,5 +1,6 @@
 -- What a party of a shared queue knows and does, as the rule of the queue's table sees it.
 use Rattle.std.specs.Prelude.{ℕ, zero, suc, List, [], ◌∷◌, Option, None}
+use Rattle.cordyceps_shared.specs.FreeChains.{FreeChain, joined}
 use Rattle.cordyceps_shared.specs.Knowing.{Known}
 use Rattle.cordyceps_shared.specs.Knowing as knowing
 use Rattle.cordyceps_shared.specs.Shares.{Name, first_name}
@@ -7,12 +8,15 @@ use Rattle.cordyceps_queue.specs.declared.cores.stage.Stage.{Stage}
 use Rattle.cordyceps_queue.specs.declared.cores.stage.Stage.TheVariants.{Rest}
 use Rattle.cordyceps_queue.specs.History.{Event}
 
--- what the party knows of the history; its free rooms; its rooms whose slot it has yet to give back; where it is within
--- a call; and the element that it cleared a room for
+-- what the party knows of the history; its free rooms, whose links lead from each to the next, and the last one's link;
+-- its rooms whose slot it has yet to give back, and their last link; where it is within a call; and the element that it
+-- cleared a room for
 pub record View (E : Type 0) : Type 0 where
   pub known : Known (Event Name E)
   pub free : List ℕ
+  pub end : ℕ
   pub back : List ℕ
+  pub to : ℕ
   pub stage : Stage
   pub item : Option E
 
@@ -27,7 +31,25 @@ module _ {E : Type 0} where
 
   -- the party of a new queue; room 0 is the stub's
   abbrev pub newcomer : ℕ → View E
-  newcomer rooms = record { known = knowing.newcomer; free = down_from rooms; back = []; stage = Rest; item = None }
+  newcomer rooms = record {
+    known = knowing.newcomer;
+    free = down_from rooms;
+    end = 1;
+    back = [];
+    to = 0;
+    stage = Rest;
+    item = None;
+  }
+
+  -- its free rooms, and those whose slot it has yet to give back
+  abbrev pub free_chain : View E → FreeChain
+  free_chain v = record { rooms = v.free; end = v.end }
+
+  abbrev pub back_chain : View E → FreeChain
+  back_chain v = record { rooms = v.back; end = v.to }
+
+  abbrev pub all_rooms : View E → FreeChain
+  all_rooms v = joined (free_chain v) (back_chain v)
 
   -- the name under which the party acts
   abbrev pub name : View E → Name

@@ -5,10 +5,10 @@ ghost use Rattle.cordyceps_shared.specs.Shares.{whole};
 ghost use Rattle.cordyceps_shared.specs.Standings.{new_party, keeping, giving, Knows, Absorbs};
 ghost use Rattle.cordyceps_queue.specs.History.{held};
 ghost use Rattle.cordyceps_queue.specs.Shared.Calls.{Legal, NonePending, NoneHolds, Enqueues, Dequeues, IsCertain};
-ghost use Rattle.cordyceps_queue.specs.Shared.View.{down_from};
 
 use crate::cores::steps::TryDequeueError;
 use crate::shared::batch::Batch;
+use crate::shared::spare::Spare;
 use crate::shared::table::{OwnedTable, PartySeat, Tried};
 use crate::shared::vault::Vault;
 use crate::shared::{parting, steps, tries};
@@ -16,8 +16,7 @@ use cordyceps_base::linked::Linked;
 use cordyceps_base::mpsc_queue::Links;
 use cordyceps_base::node::Refused;
 use cordyceps_base::shared::MAX_ROOMS;
-use cordyceps_shared::slots::Filled;
-use cordyceps_shared::tickets::Tickets;
+use cordyceps_shared::free::FreeRooms;
 use std::alloc::{AllocError, AllocFailed, Global};
 use std::marker::Model;
 
@@ -83,7 +82,7 @@ impl<T: Linked<Links<T>>> Model for MpscQueue<T> {
 /// If a party is dropped, its rooms are lost for good, and no party is whole afterwards.
 ///
 /// # Complexity
-/// Dropping a party is O(r), for r rooms that it has.
+/// Dropping a party is O(1).
 ///
 /// # Examples
 /// From `tour::send` of `cordyceps_uses`:
@@ -97,7 +96,7 @@ impl<T: Linked<Links<T>>> Model for MpscQueue<T> {
 #[derive(Drop)]
 pub struct Party<T: Linked<Links<T>>> {
     pub(crate) seat: PartySeat<T::Handle>,
-    pub(crate) tickets: Tickets,
+    pub(crate) spare: Spare,
 }
 
 impl<T: Linked<Links<T>>> Model for Party<T> {
@@ -108,7 +107,7 @@ impl<T: Linked<Links<T>>> Model for Party<T> {
 
     ghost view = { λ p. standing p.seat.table_id p.seat.me.0 };
 
-    ghost invariant = { λ p. IsSeated p.seat.table_id p.seat.me p.tickets };
+    ghost invariant = { λ p. IsSeated p.seat.table_id p.seat.me p.spare };
 }
 
 impl<T: Linked<Links<T>>> Party<T> {
@@ -126,17 +125,8 @@ impl<T: Linked<Links<T>>> Party<T> {
         ensures linked { NonePending self.now.share (plain self.now.seen) }
         ensures unheld { NoneHolds self.now.share (plain self.now.seen) }
     {
-        self.tickets.len()
+        self.spare.rooms.count
     }
-}
-
-/// Creates a ticket for each room except the stub's.
-fn tickets_of(alloc: Global, rooms: usize) -> Result<Tickets, AllocError>
-    requires { rooms ≤ MAX_ROOMS }
-    ensures { IfOk result (λ t. t ≡ down_from rooms) }
-{
-    let mut tickets = Tickets::new(alloc, rooms + 1)?;
-    Ok(tickets.split_off(rooms))
 }
 
 impl<T: Linked<Links<T>>> MpscQueue<T> {
@@ -147,14 +137,21 @@ impl<T: Linked<Links<T>>> MpscQueue<T> {
     /// If memory is refused, it returns `AllocError`, and nothing is kept.
     ///
     /// # Complexity
-    /// O(`rooms`), with an allocation for each room and five more.
+    /// O(`rooms`), with four allocations.
     pub fn new(alloc: Global, rooms: usize) -> Result<(MpscQueue<T>, Party<T>), AllocError>
         requires { rooms ≤ MAX_ROOMS }
         ensures { IfOk result (λ made. (made.0.stub ≡ None) × (made.1 ≡ new_party made.0.table rooms)) }
     {
-        let tickets = tickets_of(alloc, rooms)?;
+        let spare = Spare {
+            rooms: FreeRooms {
+                first: rooms as u64 + 1,
+                last: 1,
+                count: rooms,
+            },
+            end: 1,
+        };
         let (rooms, seat) = parting::open(alloc, rooms)?;
-        Ok((MpscQueue { rooms, stub: None }, Party { seat, tickets }))
+        Ok((MpscQueue { rooms, stub: None }, Party { seat, spare }))
     }
 
     /// Creates an empty queue as `new` does, with a stub that the caller provides and that `close` returns.
@@ -202,8 +199,12 @@ impl<T: Linked<Links<T>>> MpscQueue<T> {
         requires room { 0 < party.old.rooms }
         ensures { Enqueues handle party.old party.new }
     {
-        let ticket = party.tickets.take();
-        steps::enqueue(&self.rooms.shared, &mut party.seat, ticket, handle);
+        steps::enqueue(
+            &self.rooms.shared,
+            &mut party.seat,
+            &mut party.spare,
+            handle,
+        );
     }
 
     /// Tries once to remove the oldest element and returns it: it takes the right to dequeue, tries, and gives the
@@ -224,11 +225,8 @@ impl<T: Linked<Links<T>>> MpscQueue<T> {
         ensures answer { Dequeues result party.old party.new }
         ensures whole { party.old.share ≡ whole → IsCertain result }
     {
-        match tries::try_dequeue(&self.rooms.shared, &mut party.seat) {
-            Some(Tried::Out(Filled { ticket, item })) => {
-                party.tickets.put(ticket);
-                Ok(item)
-            }
+        match tries::try_dequeue(&self.rooms.shared, &mut party.seat, &mut party.spare) {
+            Some(Tried::Out(_room, item)) => Ok(item),
             Some(Tried::Empty) => Err(TryDequeueError::Empty),
             Some(Tried::Inconsistent) => Err(TryDequeueError::Inconsistent),
             None => Err(TryDequeueError::Busy),
@@ -248,9 +246,13 @@ impl<T: Linked<Links<T>>> MpscQueue<T> {
         requires rooms { rooms ≤ party.old.rooms }
         ensures { (party.new ≡ keeping rooms party.old) × (result ≡ giving rooms party.old) }
     {
-        let seat = parting::split(&self.rooms.shared, &mut party.seat, rooms);
-        let tickets = party.tickets.split_off(rooms);
-        Party { seat, tickets }
+        let (seat, spare) = parting::split(
+            &self.rooms.shared,
+            &mut party.seat,
+            &mut party.spare,
+            rooms,
+        );
+        Party { seat, spare }
     }
 
     /// Absorbs another party: `party` has its rooms, its names and its events, and has seen what the two had seen.
@@ -264,9 +266,14 @@ impl<T: Linked<Links<T>>> MpscQueue<T> {
         requires { (party.old.table ≡ self.now.table) × (other.table ≡ self.now.table) }
         ensures { Absorbs (λ h. Legal h) party.old other party.new }
     {
-        let Party { seat, tickets } = other;
-        parting::absorb(&self.rooms.shared, &mut party.seat, seat);
-        party.tickets.append(tickets);
+        let Party { seat, spare } = other;
+        parting::absorb(
+            &self.rooms.shared,
+            &mut party.seat,
+            &mut party.spare,
+            seat,
+            spare,
+        );
     }
 
     /// Closes the queue and returns all its elements, the oldest first, and the stub that `new_with_stub` took.

@@ -11,19 +11,18 @@ ghost use Rattle.cordyceps_queue.specs.Shared.Calls.{Legal, NonePending, Consume
 use crate::cores::steps::TryDequeueError;
 use crate::shared::batch::Batch;
 use crate::shared::calls::{MpscQueue, Party};
+use crate::shared::spare::Spare;
 use crate::shared::table::{PartySeat, Tried, Words};
 use crate::shared::{steps, tries};
 use cordyceps_base::linked::Linked;
 use cordyceps_base::mpsc_queue::Links;
-use cordyceps_shared::slots::Filled;
-use cordyceps_shared::tickets::Tickets;
 use std::marker::Model;
 
 /// A party that has the right to dequeue, and the tail's room. It cannot be dropped, so that each consumer gives the
 /// right back.
 pub(crate) struct Right<E: Drop> {
     seat: PartySeat<E>,
-    tickets: Tickets,
+    spare: Spare,
     tail: u64,
 }
 
@@ -35,7 +34,7 @@ impl<E: Drop> Model for Right<E> {
 
     ghost view = { λ r. standing r.seat.table_id r.seat.me.0 };
 
-    ghost invariant = { λ r. IsConsuming r.seat.table_id r.tail r.seat.me r.tickets };
+    ghost invariant = { λ r. IsConsuming r.seat.table_id r.tail r.seat.me r.spare };
 }
 
 /// Takes the right to dequeue. If another party has it, returns the party.
@@ -47,14 +46,14 @@ pub(crate) fn take_right<T: Linked<Links<T>>>(
     ensures answer { MatchResult result (λ right. TakesRight party right) (λ back. FindsBusy party back) }
     ensures whole { party.share ≡ whole → is_ok result ≡ true }
 {
-    let Party { mut seat, tickets } = party;
+    let Party { mut seat, spare } = party;
     let tail = steps::take(words, &mut seat);
     if tail == 0 {
-        return Err(Party { seat, tickets });
+        return Err(Party { seat, spare });
     }
     Ok(Right {
         seat,
-        tickets,
+        spare,
         tail: tail - 1,
     })
 }
@@ -98,11 +97,11 @@ pub(crate) fn give_right<T: Linked<Links<T>>>(
 {
     let Right {
         mut seat,
-        tickets,
+        spare,
         tail,
     } = right;
     steps::give(words, &mut seat, tail as usize);
-    Party { seat, tickets }
+    Party { seat, spare }
 }
 
 impl<E: Drop> Right<E> {
@@ -114,7 +113,7 @@ impl<E: Drop> Right<E> {
         ensures linked { NonePending self.now.share (plain self.now.seen) }
         ensures held { holder (plain self.now.seen) ≡ Some (name_of self.now) }
     {
-        self.tickets.len()
+        self.spare.rooms.count
     }
 
     /// Tries once to remove the oldest element.
@@ -123,13 +122,15 @@ impl<E: Drop> Right<E> {
         ensures answer { Consumes result self.old self.new }
         ensures whole { self.old.share ≡ whole → IsCertain result }
     {
-        let (tail, tried) = tries::advance(words, &mut self.seat, self.tail as usize);
+        let (tail, tried) = tries::advance(
+            words,
+            &mut self.seat,
+            &mut self.spare,
+            self.tail as usize,
+        );
         self.tail = tail;
         match tried {
-            Tried::Out(Filled { ticket, item }) => {
-                self.tickets.put(ticket);
-                Ok(item)
-            }
+            Tried::Out(_room, item) => Ok(item),
             Tried::Empty => Err(TryDequeueError::Empty),
             Tried::Inconsistent => Err(TryDequeueError::Inconsistent),
         }
@@ -143,7 +144,7 @@ impl<E: Drop> Right<E> {
 /// for good; `release` returns it.
 ///
 /// # Complexity
-/// Dropping a consumer is O(r), for r rooms that its party has.
+/// Dropping a consumer is O(1).
 ///
 /// # Examples
 /// From `tour::send` of `cordyceps_uses`:
@@ -174,7 +175,7 @@ impl<'a, T: Linked<Links<T>>> Drop for Consumer<'a, T> {
     /// Gives the right to dequeue back by one store, and drops the party.
     ///
     /// # Complexity
-    /// O(r), for r rooms that the party has.
+    /// O(1).
     fn drop(self) {
         drop(self.release());
     }

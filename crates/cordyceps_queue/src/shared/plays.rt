@@ -1,117 +1,134 @@
 //! The steps of a shared queue, for contracts. Values of these types are not used when the program runs.
-ghost use Rattle.cordyceps_queue.specs.Shared.Plays.{after_clear, after_swap, after_link, after_take, after_look, after_look_stub, after_read, after_head, after_head_stub, after_clear_stub, after_swap_stub, after_link_stub, after_give, after_reread};
-ghost use Rattle.cordyceps_queue.specs.Shared.Parting.{after_learn, view_keeping, view_giving, view_absorbing, view_absorbed};
+ghost use Rattle.cordyceps_queue.specs.Shared.Plays.{after_clear, after_swap, after_link, after_take, after_look};
+ghost use Rattle.cordyceps_queue.specs.Shared.Plays.{after_look_stub, after_read, after_head, after_head_stub};
+ghost use Rattle.cordyceps_queue.specs.Shared.Plays.{after_clear_stub, after_swap_stub, after_link_stub, after_give};
+ghost use Rattle.cordyceps_queue.specs.Shared.Plays.{after_reread, after_tie, after_skip};
+ghost use Rattle.cordyceps_queue.specs.Shared.Parting.{after_learn, view_keeping, view_giving};
+ghost use Rattle.cordyceps_queue.specs.Shared.Parting.{view_absorbing, view_absorbed};
 
 use crate::shared::table::{Chosen, SeatView};
 use atomic_table::{Join, Play, Split};
 use cordyceps_shared::free::Count;
-use cordyceps_shared::slots::Filled;
 use std::marker::PhantomData;
 
-/// A store that makes a room's link null, by which an enqueue takes the room's slot.
+/// A swap that makes a room's link null, by which an enqueue takes the room's slot and learns the next free room.
 pub(crate) struct Clear<B> {
     item: PhantomData<B>,
 }
 
-impl<E, B: Chosen<E>> Play<Option<Filled<E>>, SeatView<E>> for Clear<B> {
+impl<E, B: Chosen<E>> Play<Option<E>, SeatView<E>> for Clear<B> {
     ghost then = { after_clear B.item };
 }
 
 /// A swap of the head, which puts an element in.
 pub(crate) struct Swap;
 
-impl<E> Play<Option<Filled<E>>, SeatView<E>> for Swap {
+impl<E> Play<Option<E>, SeatView<E>> for Swap {
     ghost then = { after_swap };
 }
 
 /// A store to the old head's link, which links the element.
 pub(crate) struct Link;
 
-impl<E> Play<Option<Filled<E>>, SeatView<E>> for Link {
+impl<E> Play<Option<E>, SeatView<E>> for Link {
     ghost then = { after_link };
 }
 
 /// A swap of the right to dequeue, which takes it if it is free.
 pub(crate) struct Take;
 
-impl<E> Play<Option<Filled<E>>, SeatView<E>> for Take {
+impl<E> Play<Option<E>, SeatView<E>> for Take {
     ghost then = { after_take };
 }
 
 /// A store that gives the right to dequeue back.
 pub(crate) struct Give;
 
-impl<E> Play<Option<Filled<E>>, SeatView<E>> for Give {
+impl<E> Play<Option<E>, SeatView<E>> for Give {
     ghost then = { after_give };
 }
 
 /// A load of the tail's link after the stub was put in.
 pub(crate) struct Reread;
 
-impl<E> Play<Option<Filled<E>>, SeatView<E>> for Reread {
+impl<E> Play<Option<E>, SeatView<E>> for Reread {
     ghost then = { after_reread };
 }
 
 /// A load of the link of a tail that is not the stub, which begins a try.
 pub(crate) struct Look;
 
-impl<E> Play<Option<Filled<E>>, SeatView<E>> for Look {
+impl<E> Play<Option<E>, SeatView<E>> for Look {
     ghost then = { after_look };
 }
 
 /// A load of the stub's link when the stub is the tail, which begins a try.
 pub(crate) struct LookStub;
 
-impl<E> Play<Option<Filled<E>>, SeatView<E>> for LookStub {
+impl<E> Play<Option<E>, SeatView<E>> for LookStub {
     ghost then = { after_look_stub };
 }
 
 /// A load of the link of the room after the stub.
 pub(crate) struct Read;
 
-impl<E> Play<Option<Filled<E>>, SeatView<E>> for Read {
+impl<E> Play<Option<E>, SeatView<E>> for Read {
     ghost then = { after_read };
 }
 
 /// A load of the head after the tail's link was null.
 pub(crate) struct Head;
 
-impl<E> Play<Option<Filled<E>>, SeatView<E>> for Head {
+impl<E> Play<Option<E>, SeatView<E>> for Head {
     ghost then = { after_head };
 }
 
 /// A load of the head after the stub's link was null.
 pub(crate) struct HeadStub;
 
-impl<E> Play<Option<Filled<E>>, SeatView<E>> for HeadStub {
+impl<E> Play<Option<E>, SeatView<E>> for HeadStub {
     ghost then = { after_head_stub };
 }
 
 /// A store that makes the stub's link null.
 pub(crate) struct ClearStub;
 
-impl<E> Play<Option<Filled<E>>, SeatView<E>> for ClearStub {
+impl<E> Play<Option<E>, SeatView<E>> for ClearStub {
     ghost then = { after_clear_stub };
 }
 
 /// A swap of the head, which puts the stub in.
 pub(crate) struct SwapStub;
 
-impl<E> Play<Option<Filled<E>>, SeatView<E>> for SwapStub {
+impl<E> Play<Option<E>, SeatView<E>> for SwapStub {
     ghost then = { after_swap_stub };
 }
 
 /// A store to the old head's link, which links the stub.
 pub(crate) struct LinkStub;
 
-impl<E> Play<Option<Filled<E>>, SeatView<E>> for LinkStub {
+impl<E> Play<Option<E>, SeatView<E>> for LinkStub {
     ghost then = { after_link_stub };
+}
+
+/// A store to the link of the last free room.
+pub(crate) struct Tie;
+
+impl<E> Play<Option<E>, SeatView<E>> for Tie {
+    ghost then = { after_tie };
+}
+
+/// A load of a free room's link, which leads to the next.
+pub(crate) struct Skip;
+
+impl<E> Play<Option<E>, SeatView<E>> for Skip {
+    ghost then = { after_skip };
 }
 
 /// A load of the head after an absorb.
 pub(crate) struct Learn;
 
-impl<E> Play<Option<Filled<E>>, SeatView<E>> for Learn {
+impl<E> Play<Option<E>, SeatView<E>> for Learn {
     ghost then = { after_learn };
 }
 

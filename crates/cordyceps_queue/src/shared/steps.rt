@@ -1,43 +1,47 @@
 //! The atomic steps of a shared queue. Each function is a part of a call.
-ghost use Rattle.std.specs.Prelude.{◌≡◌, ◌≢◌, ◌≤◌, ◌<◌, ℕ, suc, List, [], ◌∷◌, Some, None, MatchOption};
-ghost use Rattle.cordyceps_queue.specs.Shared.Parts.{IsSeatOf, IsCleared, IsSwapped, AsksRight};
+ghost use Rattle.std.specs.Prelude.{◌≡◌, ◌≢◌, ◌≤◌, ◌<◌, ℕ, suc, List, [], ◌∷◌, length, Some, None, MatchOption};
+ghost use Rattle.cordyceps_queue.specs.Shared.Parts.{IsSeatOf, IsCleared, IsSwapped, AsksRight, TracksEnd};
 ghost use Rattle.cordyceps_queue.specs.History.{Event};
 ghost use Rattle.cordyceps_shared.specs.Slots.{view, hand};
 ghost use Rattle.cordyceps_queue.specs.Shared.Plays.{Sees, IsResting, IsHolding, IsAtStage, Blocked, HandsOneOut, moves_to, hands_out};
-ghost use Rattle.cordyceps_queue.specs.Shared.View.{name};
+ghost use Rattle.cordyceps_queue.specs.Shared.View.{name, free_chain, all_rooms};
 ghost use Rattle.cordyceps_queue.specs.declared.cores.stage.Stage.TheVariants.{Cleared, Swapped, Rest, Holding, Null, PutRead};
 
 use crate::shared::plays::{Clear, Give, Link, Look, Reread, Swap, Take};
+use crate::shared::spare::Spare;
 use crate::shared::table::{Chosen, PartySeat, Words};
 use cordyceps_shared::layout::{HEAD, LINKS, RIGHT};
-use cordyceps_shared::slots::Filled;
-use cordyceps_shared::tickets::Ticket;
 use std::marker::Brand;
 
-/// Makes a free room's link null and takes the room's slot, before this element is put in.
-fn clear<E: Drop, B: Chosen<E>>(words: &Words<E>, seat: &mut PartySeat<E>, room: usize, _item: &E)
+/// Makes a free room's link null and takes the room's slot, before this element is put in. Returns what the link was,
+/// which leads to the next free room.
+fn clear<E: Drop, B: Chosen<E>>(
+    words: &Words<E>,
+    seat: &mut PartySeat<E>,
+    room: usize,
+    _item: &E,
+) -> u64
     requires table { IsSeatOf seat.old.table_id words.now.table_id }
     requires rest { IsResting words.now.table_id.slots seat.old.me }
     requires room { (rs : List ℕ) × ((view seat.old.me).free ≡ room ∷ rs) }
     requires item { B.item ≡ Some _item.now }
     ensures table { seat.new.table_id ≡ seat.old.table_id }
-    ensures cleared { IsCleared words.now.table_id.slots room _item.now seat.old.me seat.new.me }
+    ensures cleared { IsCleared words.now.table_id.slots room result _item.now seat.old.me seat.new.me }
 {
-    words.store::<Clear<B>>(seat, LINKS + room, 0);
+    words.swap::<Clear<B>>(seat, LINKS + room, 0)
 }
 
 /// Puts the element into the slot, makes its room the head, and returns the old head.
-fn swap_in<E: Drop>(words: &Words<E>, seat: &mut PartySeat<E>, full: Filled<E>) -> u64
+fn swap_in<E: Drop>(words: &Words<E>, seat: &mut PartySeat<E>, room: usize, item: E) -> u64
     requires table { IsSeatOf seat.old.table_id words.now.table_id }
-    requires stage { ((view seat.old.me).stage ≡ Cleared full.ticket) × ((view seat.old.me).item ≡ Some full.item)
+    requires stage { ((view seat.old.me).stage ≡ Cleared room) × ((view seat.old.me).item ≡ Some item)
         × ((view seat.old.me).back ≡ []) }
-    requires hand { hand seat.old.me ≡ (full.ticket, None) ∷ [] }
-    requires near { (full.ticket < words.now.table_id.slots) × ((view seat.old.me).known.share ≢ []) }
+    requires hand { hand seat.old.me ≡ (room, None) ∷ [] }
+    requires near { (room < words.now.table_id.slots) × ((view seat.old.me).known.share ≢ []) }
     ensures table { seat.new.table_id ≡ seat.old.table_id }
-    ensures swapped { IsSwapped words.now.table_id.slots full.ticket result full.item seat.old.me seat.new.me }
+    ensures swapped { IsSwapped words.now.table_id.slots room result item seat.old.me seat.new.me }
 {
-    let room = full.ticket.room();
-    let None = words.exchange(seat, room, Some(full)) else {
+    let None = words.exchange(seat, room, Some(item)) else {
         unreachable!()
     };
     words.swap::<Swap>(seat, HEAD, room as u64)
@@ -52,26 +56,34 @@ fn link<E: Drop>(words: &Words<E>, seat: &mut PartySeat<E>, room: usize, old: us
         × ((view seat.old.me).known.share ≢ []) }
     ensures table { seat.new.table_id ≡ seat.old.table_id }
     ensures rest { ((view seat.new.me).stage ≡ Rest) × ((view seat.new.me).back ≡ []) × (hand seat.new.me ≡ []) }
-    ensures free { (view seat.new.me).free ≡ (view seat.old.me).free }
+    ensures free { ((view seat.new.me).free ≡ (view seat.old.me).free)
+        × ((view seat.new.me).end ≡ (view seat.old.me).end) }
     ensures sees { Sees (view seat.old.me) (Event.Link (name (view seat.old.me)) ∷ []) (view seat.new.me) }
 {
     words.store::<Link>(seat, LINKS + old, room as u64 + 1);
 }
 
-/// Puts an element into a free room, whose ticket is given, makes the room the head, and links it.
-pub(crate) fn enqueue<E: Drop>(words: &Words<E>, seat: &mut PartySeat<E>, ticket: Ticket, item: E)
+/// Puts an element into the first free room, makes the room the head, and links it.
+pub(crate) fn enqueue<E: Drop>(
+    words: &Words<E>,
+    seat: &mut PartySeat<E>,
+    spare: &mut Spare,
+    item: E,
+)
     requires table { IsSeatOf seat.old.table_id words.now.table_id }
     requires rest { IsResting words.now.table_id.slots seat.old.me }
-    requires room { (rs : List ℕ) × ((view seat.old.me).free ≡ ticket ∷ rs) }
+    requires rooms { TracksEnd spare.old (free_chain (view seat.old.me)) × (0 < spare.old.rooms.count) }
     ensures table { seat.new.table_id ≡ seat.old.table_id }
     ensures rest { IsResting words.now.table_id.slots seat.new.me }
-    ensures free { (view seat.old.me).free ≡ ticket ∷ (view seat.new.me).free }
+    ensures tracks { TracksEnd spare.new (free_chain (view seat.new.me)) }
+    ensures free { length (view seat.old.me).free ≡ suc (length (view seat.new.me).free) }
     ensures sees { Sees (view seat.old.me)
         (Event.Swap (name (view seat.old.me)) item ∷ Event.Link (name (view seat.old.me)) ∷ []) (view seat.new.me) }
 {
-    let room = ticket.room();
-    clear::<E, Brand>(words, seat, room, &item);
-    let old = swap_in(words, seat, Filled { ticket, item });
+    let room = spare.rooms.first as usize - 1;
+    spare.rooms.first = clear::<E, Brand>(words, seat, room, &item);
+    spare.rooms.count -= 1;
+    let old = swap_in(words, seat, room, item);
     link(words, seat, room, old as usize);
 }
 
@@ -113,22 +125,22 @@ pub(crate) fn look<E: Drop>(
     words: &Words<E>,
     seat: &mut PartySeat<E>,
     tail: usize,
-) -> Option<(u64, Filled<E>)>
+) -> Option<(u64, E)>
     requires table { IsSeatOf seat.old.table_id words.now.table_id }
     requires holding { IsHolding words.now.table_id.slots tail seat.old.me }
     requires real { tail ≢ 0 }
     ensures table { seat.new.table_id ≡ seat.old.table_id }
     ensures answer { MatchOption result
         (moves_to (Event.Look (name (view seat.old.me)) ∷ []) (Null tail) seat.old.me seat.new.me)
-        (λ r. (r.1.ticket ≡ tail)
-        × HandsOneOut (Event.Look (name (view seat.old.me)) ∷ []) words.now.table_id.slots tail r.0 r.1.item seat.old.me
+        (λ r. HandsOneOut (Event.Look (name (view seat.old.me)) ∷ []) words.now.table_id.slots tail r.0 r.1 seat.old.me
         seat.new.me) }
+    ensures rooms { free_chain (view seat.new.me) ≡ all_rooms (view seat.old.me) }
 {
     let next = words.load::<Look>(seat, LINKS + tail);
     if next == 0 {
         return None;
     }
-    let full = words.exchange(seat, tail, None);
-    let Some(full) = full else { unreachable!() };
-    Some((next - 1, full))
+    let item = words.exchange(seat, tail, None);
+    let Some(item) = item else { unreachable!() };
+    Some((next - 1, item))
 }

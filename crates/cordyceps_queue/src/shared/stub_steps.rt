@@ -2,7 +2,7 @@
 ghost use Rattle.std.specs.Prelude.{◌≡◌, ◌≢◌, ◌<◌, ℕ, suc, [], ◌∷◌, true, false, Some, None};
 ghost use Rattle.cordyceps_queue.specs.History.{Event};
 ghost use Rattle.cordyceps_queue.specs.Shared.Plays.{IsHolding, IsAtStage, Blocked, hands_out, moves_to};
-ghost use Rattle.cordyceps_shared.specs.Slots.{full_slot, view, hand};
+ghost use Rattle.cordyceps_shared.specs.Slots.{view, hand};
 ghost use Rattle.cordyceps_queue.specs.Shared.Parts.{IsSeatOf};
 ghost use Rattle.cordyceps_queue.specs.Shared.View.{name};
 ghost use Rattle.cordyceps_queue.specs.declared.cores.stage.Stage.TheVariants.{Holding, StubNull, Second, Null, PutClear, PutSwap, PutLink, PutRead};
@@ -10,7 +10,6 @@ ghost use Rattle.cordyceps_queue.specs.declared.cores.stage.Stage.TheVariants.{H
 use crate::shared::plays::{ClearStub, Head, HeadStub, LinkStub, LookStub, Read, SwapStub};
 use crate::shared::table::{PartySeat, Words};
 use cordyceps_shared::layout::{HEAD, LINKS};
-use cordyceps_shared::slots::Filled;
 
 /// Reads the stub's link, when the stub is the tail.
 pub(crate) fn look_first<E: Drop>(words: &Words<E>, seat: &mut PartySeat<E>) -> u64
@@ -102,14 +101,14 @@ pub(crate) fn put_stub<E: Drop>(words: &Words<E>, seat: &mut PartySeat<E>, tail:
 }
 
 /// Takes the tail's element out of its slot, which the party has.
-pub(crate) fn take_out<E: Drop>(words: &Words<E>, seat: &mut PartySeat<E>, tail: usize) -> Filled<E>
+pub(crate) fn take_out<E: Drop>(words: &Words<E>, seat: &mut PartySeat<E>, tail: usize) -> E
     requires table { (seat.old.table_id ≡ words.now.table_id) × (tail < words.now.table_id.slots) }
-    requires full { (e : E) × (hand seat.old.me ≡ (tail, Some (full_slot tail e)) ∷ []) }
+    requires full { (e : E) × (hand seat.old.me ≡ (tail, Some e) ∷ []) }
     ensures table { seat.new.table_id ≡ seat.old.table_id }
     ensures element { hand seat.old.me ≡ (tail, Some result) ∷ [] }
     ensures seat { seat.new.me ≡ (view seat.old.me, (tail, None) ∷ []) }
 {
-    let full = words.exchange(seat, tail, None);
-    let Some(full) = full else { unreachable!() };
-    full
+    let item = words.exchange(seat, tail, None);
+    let Some(item) = item else { unreachable!() };
+    item
 }

@@ -2,7 +2,6 @@
 ghost use Rattle.cordyceps_queue.specs.Shared.View.{View, newcomer};
 
 use atomic_table::{Seat, Shared, Table, TableRule};
-use cordyceps_shared::slots::Filled;
 use std::alloc::Global;
 use std::marker::{Brand, Model, PhantomData};
 
@@ -20,7 +19,7 @@ impl<E> Model for SeatView<E> {
 /// The invariant of the table, which each step keeps. Its key is the number of rooms.
 pub(crate) struct Rule;
 
-impl<E> TableRule<Option<Filled<E>>, SeatView<E>, usize> for Rule {
+impl<E> TableRule<Option<E>, SeatView<E>, usize> for Rule {
     ghost use Rattle.cordyceps_queue.specs.Shared.Rule.{RuleHolds};
 
     ghost holds = { λ _. RuleHolds };
@@ -32,14 +31,15 @@ impl<E> TableRule<Option<Filled<E>>, SeatView<E>, usize> for Rule {
 ///
 /// The word `HEAD` is the head's room. The word `RIGHT` is 0 while a party has the right to dequeue, and else 1 more
 /// than the tail's room. The word `LINKS + r` is the link of room `r`: 0 for null, and else 1 more than the room after
-/// it. The other words are not used. Slot `r` has the ticket and the element of room `r`, and room 0 is the stub's.
-pub(crate) type Words<E> = Shared<Option<Filled<E>>, SeatView<E>, usize, Rule>;
+/// it. The link of a free room leads to the party's next free room. The other words are not used. Slot `r` has the
+/// element of room `r`, and room 0 is the stub's.
+pub(crate) type Words<E> = Shared<Option<E>, SeatView<E>, usize, Rule>;
 
 /// The table, which owns its memory.
-pub(crate) type OwnedTable<E> = Table<Option<Filled<E>>, SeatView<E>, usize, Rule, Global>;
+pub(crate) type OwnedTable<E> = Table<Option<E>, SeatView<E>, usize, Rule, Global>;
 
 /// The seat of a party: the token by which it acts on the table.
-pub(crate) type PartySeat<E> = Seat<Option<Filled<E>>, SeatView<E>>;
+pub(crate) type PartySeat<E> = Seat<Option<E>, SeatView<E>>;
 
 /// The element that a room is cleared for. Each call that clears a room chooses it.
 pub(crate) trait Chosen<E> {
@@ -57,8 +57,8 @@ impl<E> Chosen<E> for Brand {
 /// The outcome of a try to dequeue.
 #[derive(Drop)]
 pub(crate) enum Tried<E> {
-    /// The oldest element came out, with the ticket of its room.
-    Out(Filled<E>),
+    /// The oldest element came out of this room.
+    Out(usize, E),
     /// The queue had no element.
     Empty,
     /// The oldest element or the one after it is not linked yet.

@@ -2,13 +2,15 @@
 //!
 //! A try is inlined into its caller, so that its outcome stays in registers. Only `put_stub` is called.
 ghost use Rattle.std.specs.Prelude.{◌≡◌, ◌<◌, [], ◌∷◌};
-ghost use Rattle.cordyceps_queue.specs.Shared.Parts.{IsSeatOf, Tries, Dequeued};
+ghost use Rattle.cordyceps_queue.specs.Shared.Parts.{IsSeatOf, Tries, Dequeued, TracksEnd};
 ghost use Rattle.cordyceps_queue.specs.History.{Event};
 ghost use Rattle.cordyceps_shared.specs.Slots.{view};
 ghost use Rattle.cordyceps_queue.specs.Shared.Plays.{IsResting, IsHolding, IsAtStage};
-ghost use Rattle.cordyceps_queue.specs.Shared.View.{name};
+ghost use Rattle.cordyceps_queue.specs.Shared.View.{name, free_chain, all_rooms};
 ghost use Rattle.cordyceps_queue.specs.declared.cores.stage.Stage.TheVariants.{Second, Null, PutRead};
 
+use crate::shared::linking::add_room;
+use crate::shared::spare::Spare;
 use crate::shared::steps::{give, look, reread, take};
 use crate::shared::stub_steps::{
     head_of_stub, is_head, look_first, put_stub, read_second, take_out,
@@ -22,12 +24,13 @@ fn after_tail<E: Drop>(words: &Words<E>, seat: &mut PartySeat<E>, tail: usize) -
     requires stage { IsAtStage words.now.table_id.slots (PutRead tail) seat.old.me × (tail < words.now.table_id.slots) }
     ensures table { seat.new.table_id ≡ seat.old.table_id }
     ensures answer { Tries [] words.now.table_id.slots seat.old.me seat.new.me result.0 result.1 }
+    ensures rooms { free_chain (view seat.new.me) ≡ all_rooms (view seat.old.me) }
 {
     let next = reread(words, seat, tail);
     if next == 0 {
         return (tail as u64, Tried::Inconsistent);
     }
-    (next - 1, Tried::Out(take_out(words, seat, tail)))
+    (next - 1, Tried::Out(tail, take_out(words, seat, tail)))
 }
 
 /// Continues a try at a null link of a tail that is not the stub.
@@ -37,6 +40,7 @@ fn at_end<E: Drop>(words: &Words<E>, seat: &mut PartySeat<E>, tail: usize) -> (u
     requires stage { IsAtStage words.now.table_id.slots (Null tail) seat.old.me × (tail < words.now.table_id.slots) }
     ensures table { seat.new.table_id ≡ seat.old.table_id }
     ensures answer { Tries [] words.now.table_id.slots seat.old.me seat.new.me result.0 result.1 }
+    ensures rooms { free_chain (view seat.new.me) ≡ all_rooms (view seat.old.me) }
 {
     if !is_head(words, seat, tail) {
         return (tail as u64, Tried::Inconsistent);
@@ -52,12 +56,13 @@ fn after_stub<E: Drop>(words: &Words<E>, seat: &mut PartySeat<E>, tail: usize) -
     requires stage { IsAtStage words.now.table_id.slots (Second tail) seat.old.me × (tail < words.now.table_id.slots) }
     ensures table { seat.new.table_id ≡ seat.old.table_id }
     ensures answer { Tries [] words.now.table_id.slots seat.old.me seat.new.me result.0 result.1 }
+    ensures rooms { free_chain (view seat.new.me) ≡ all_rooms (view seat.old.me) }
 {
     let next = read_second(words, seat, tail);
     if next == 0 {
         return at_end(words, seat, tail);
     }
-    (next - 1, Tried::Out(take_out(words, seat, tail)))
+    (next - 1, Tried::Out(tail, take_out(words, seat, tail)))
 }
 
 /// Tries once when the tail is the stub.
@@ -68,6 +73,7 @@ fn look_stub<E: Drop>(words: &Words<E>, seat: &mut PartySeat<E>) -> (u64, Tried<
     ensures table { seat.new.table_id ≡ seat.old.table_id }
     ensures answer { Tries (Event.Look (name (view seat.old.me)) ∷ []) words.now.table_id.slots seat.old.me seat.new.me
         result.0 result.1 }
+    ensures rooms { free_chain (view seat.new.me) ≡ all_rooms (view seat.old.me) }
 {
     let next = look_first(words, seat);
     if next != 0 {
@@ -79,41 +85,73 @@ fn look_stub<E: Drop>(words: &Words<E>, seat: &mut PartySeat<E>) -> (u64, Tried<
     (0, Tried::Inconsistent)
 }
 
-/// Tries once, as the party that has the right, and returns the tail after the try and the outcome.
+/// Tries once, and leaves the room of an element that comes out unlinked to the free rooms.
 #[inline(always)]
-pub(crate) fn advance<E: Drop>(
-    words: &Words<E>,
-    seat: &mut PartySeat<E>,
-    tail: usize,
-) -> (u64, Tried<E>)
+fn attempt<E: Drop>(words: &Words<E>, seat: &mut PartySeat<E>, tail: usize) -> (u64, Tried<E>)
     requires table { IsSeatOf seat.old.table_id words.now.table_id }
     requires holding { IsHolding words.now.table_id.slots tail seat.old.me }
     ensures table { seat.new.table_id ≡ seat.old.table_id }
     ensures answer { Tries (Event.Look (name (view seat.old.me)) ∷ []) words.now.table_id.slots seat.old.me seat.new.me
         result.0 result.1 }
+    ensures rooms { free_chain (view seat.new.me) ≡ all_rooms (view seat.old.me) }
 {
     if tail == 0 {
         return look_stub(words, seat);
     }
     match look(words, seat, tail) {
-        Some((next, full)) => (next, Tried::Out(full)),
+        Some((next, item)) => (next, Tried::Out(tail, item)),
         None => at_end(words, seat, tail),
     }
 }
 
+/// Tries once, as the party that has the right, and returns the tail after the try and the outcome. The room of an
+/// element that comes out follows the party's free rooms.
+#[inline(always)]
+pub(crate) fn advance<E: Drop>(
+    words: &Words<E>,
+    seat: &mut PartySeat<E>,
+    spare: &mut Spare,
+    tail: usize,
+) -> (u64, Tried<E>)
+    requires table { IsSeatOf seat.old.table_id words.now.table_id }
+    requires holding { IsHolding words.now.table_id.slots tail seat.old.me }
+    requires tracks { TracksEnd spare.old (all_rooms (view seat.old.me)) }
+    ensures table { seat.new.table_id ≡ seat.old.table_id }
+    ensures holding { IsHolding words.now.table_id.slots result.0 seat.new.me }
+    ensures tracks { TracksEnd spare.new (all_rooms (view seat.new.me)) }
+    ensures answer { Tries (Event.Look (name (view seat.old.me)) ∷ []) words.now.table_id.slots seat.old.me seat.new.me
+        result.0 result.1 }
+{
+    let (next, tried) = attempt(words, seat, tail);
+    match tried {
+        Tried::Out(room, item) => {
+            add_room(words, seat, spare, room, next);
+            (next, Tried::Out(room, item))
+        }
+        Tried::Empty => (next, Tried::Empty),
+        Tried::Inconsistent => (next, Tried::Inconsistent),
+    }
+}
+
 /// Takes the right, tries once, and gives the right back. Returns `None` if another party has the right.
-pub(crate) fn try_dequeue<E: Drop>(words: &Words<E>, seat: &mut PartySeat<E>) -> Option<Tried<E>>
+pub(crate) fn try_dequeue<E: Drop>(
+    words: &Words<E>,
+    seat: &mut PartySeat<E>,
+    spare: &mut Spare,
+) -> Option<Tried<E>>
     requires table { IsSeatOf seat.old.table_id words.now.table_id }
     requires rest { IsResting words.now.table_id.slots seat.old.me }
+    requires tracks { TracksEnd spare.old (free_chain (view seat.old.me)) }
     ensures table { seat.new.table_id ≡ seat.old.table_id }
     ensures rest { IsResting words.now.table_id.slots seat.new.me }
+    ensures tracks { TracksEnd spare.new (free_chain (view seat.new.me)) }
     ensures answer { Dequeued words.now.table_id.slots seat.old.me seat.new.me result }
 {
     let right = take(words, seat);
     if right == 0 {
         return None;
     }
-    let (tail, tried) = advance(words, seat, right as usize - 1);
+    let (tail, tried) = advance(words, seat, spare, right as usize - 1);
     give(words, seat, tail as usize);
     Some(tried)
 }

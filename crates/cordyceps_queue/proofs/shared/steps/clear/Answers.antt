@@ -1,5 +1,5 @@
 use Rattle.std.proofs.Common.{◌∷◌, Option, None, refl, sym, ap, ◌∙◌, subst, rules}
-use Rattle.cordyceps_shared.specs.declared.slots.Filled.{Filled}
+use Rattle.cordyceps_shared.specs.FreeChains.{leads}
 use Rattle.cordyceps_shared.specs.Places.{ItemAt}
 use Rattle.cordyceps_queue.proofs.SharedTheory.EnqueueKeeps.{clears}
 use Rattle.cordyceps_queue.proofs.shared.steps.clear.Goals as goal
@@ -10,8 +10,8 @@ overflow_add-room g c =
     let near = c.requires.rest.4 0 c.args.room (subst (λ l. ItemAt l 0 c.args.room) (sym r.1) refl) in
     let t = c.requires.table in search rules
 
-pub store-requires : goal.store-requires
-store-requires g c =
+pub swap-requires : goal.swap-requires
+swap-requires g c =
     let r = c.requires.room in
     let i = c.requires.item in
     let q = c.requires.rest in
@@ -21,11 +21,13 @@ store-requires g c =
 pub returns-clause-cleared : goal.returns-clause-cleared
 returns-clause-cleared g c =
     let r = c.requires.room in
-    let l = c.store.ensures.2 c.args.room r.0 c.args._item.now r.1 c.requires.item in
-    let none : Option (Filled g.row.E.Denot) = None in record {
+    let l = c.swap.ensures.2 c.args.room r.0 c.args._item.now r.1 c.requires.item in
+    let none : Option g.row.E.Denot = None in record {
       stage = l.0;
       item = l.1;
       free = r.1 ∙ ap (λ z. c.args.room ∷ z) (sym l.2);
+      end = l.7;
+      next_is = l.8 ∙ (λ i. leads (sym l.2 i) (sym l.7 i));
       back = l.3 ∙ c.requires.rest.1;
       hand = l.4 ∙ ap (λ z. (c.args.room, none) ∷ z) c.requires.rest.2;
       near = l.5;

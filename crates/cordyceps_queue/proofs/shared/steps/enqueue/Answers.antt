@@ -1,13 +1,24 @@
-use Rattle.std.proofs.Common.{suc, sym, refl, ◌∙◌, subst}
+use Rattle.std.proofs.Common.{suc, length, sym, refl, ap, ◌∙◌, subst, rules}
+use Rattle.cordyceps_shared.specs.FreeChains.{FreeChain}
 use Rattle.cordyceps_shared.specs.Places.{ItemAt}
+use Rattle.cordyceps_shared.proofs.TrackRooms.{first_room}
+use Rattle.cordyceps_queue.specs.Shared.Parts.{TracksEnd}
+use Rattle.cordyceps_queue.specs.Shared.View.{free_chain}
 use Rattle.cordyceps_queue.proofs.SharedTheory.EnqueueKeeps.{enqueued}
+use Rattle.cordyceps_queue.proofs.SharedTheory.SpareRooms.{tracks_after}
 use Rattle.cordyceps_queue.proofs.shared.steps.enqueue.Goals as goal
+
+pub overflow_sub-room : goal.overflow_sub-room
+overflow_sub-room g c = let f = first_room c.args.spare.now.rooms (free_chain c.args.seat.now.me.0) c.requires.rooms.0.tracks c.requires.rooms.1 in let some_of = f.2 in search rules
+
+pub clear-spare-requires-clause-room : goal.clear-spare-requires-clause-room
+clear-spare-requires-clause-room g c = let f = first_room c.args.spare.now.rooms (free_chain c.args.seat.now.me.0) c.requires.rooms.0.tracks c.requires.rooms.1 in (f.0, f.1)
 
 pub returns-clause-rest : goal.returns-clause-rest
 returns-clause-rest g c =
-    let cleared = c.clear.ensures.cleared in
+    let cleared = c.clear-spare.ensures.cleared in
     let swapped = c.swap_in-old.ensures.swapped in
-    let free = c.link.ensures.free ∙ swapped.free in
+    let free = c.link.ensures.free.0 ∙ swapped.free in
     let q = c.requires.rest in (
       c.link.ensures.rest.0,
       c.link.ensures.rest.1,
@@ -16,8 +27,24 @@ returns-clause-rest g c =
       λ i r ir. q.4 (suc i) r (subst (λ l. ItemAt l (suc i) r) (sym cleared.free) (subst (λ l. ItemAt l i r) free ir)),
     )
 
+pub returns-clause-tracks : goal.returns-clause-tracks
+returns-clause-tracks g c =
+    let cleared = c.clear-spare.ensures.cleared in
+    let swapped = c.swap_in-old.ensures.swapped in
+    let free = c.link.ensures.free.0 ∙ swapped.free in
+    let end = c.link.ensures.free.1 ∙ swapped.end in
+    subst (TracksEnd _) (λ i. let chain : FreeChain = record { rooms = sym free i; end = sym end i } in chain)
+    (tracks_after c.args.spare.now (free_chain c.args.seat.now.me.0) (free_chain c.clear-spare.new.seat.me.0) _ c.clear-spare.result cleared.free (sym cleared.end) cleared.next_is c.requires.rooms.0)
+
+pub returns-clause-free : goal.returns-clause-free
+returns-clause-free g c =
+    let cleared = c.clear-spare.ensures.cleared in
+    let swapped = c.swap_in-old.ensures.swapped in
+    let free = c.link.ensures.free.0 ∙ swapped.free in
+    ap length cleared.free ∙ ap (λ l. suc (length l)) (sym free)
+
 pub returns-clause-sees : goal.returns-clause-sees
 returns-clause-sees g c =
-    let cleared = c.clear.ensures.cleared in
+    let cleared = c.clear-spare.ensures.cleared in
     let swapped = c.swap_in-old.ensures.swapped in
-    enqueued c.args.seat.now.me.0 c.clear.new.seat.me.0 c.clear.new.seat.me.0 c.swap_in-old.new.seat.me.0 c.link.new.seat.me.0 c.args.item cleared.sees refl swapped.sees c.link.ensures.sees
+    enqueued c.args.seat.now.me.0 c.clear-spare.new.seat.me.0 c.clear-spare.new.seat.me.0 c.swap_in-old.new.seat.me.0 c.link.new.seat.me.0 c.args.item cleared.sees refl swapped.sees c.link.ensures.sees

@@ -1,6 +1,6 @@
 use Rattle.std.proofs.Common.{sym, refl, ◌∙◌, subst, rules}
 use Rattle.cordyceps_shared.specs.Places.{ItemAt}
-use Rattle.cordyceps_queue.proofs.CoreTheory.Basics.{at_more}
+use Rattle.cordyceps_queue.proofs.SharedTheory.WordsAsMachine.{at_after}
 use Rattle.cordyceps_queue.proofs.SharedTheory.HolderAllowed.{gives_right}
 use Rattle.cordyceps_queue.proofs.shared.steps.give.Goals as goal
 
@@ -14,7 +14,7 @@ pub store-requires : goal.store-requires
 store-requires g c =
     let q = c.requires.holding in
     let near = q.4 in
-    let t = c.requires.table in (search rules, search rules, gives_right _ _ _ q.1 (λ i r a. q.3 i r (at_more _ _ i r a)) q.2 c.args.tail _ refl q.0)
+    let t = c.requires.table in (search rules, search rules, gives_right _ _ _ q.1 (λ i r a. q.3 _ r (at_after _ _ i r a)) q.2 q.5 c.args.tail _ refl q.0)
 
 pub returns-clause-rest : goal.returns-clause-rest
 returns-clause-rest g c =

@@ -1,11 +1,10 @@
-use Rattle.std.proofs.Common.{ℕ, List, sym, ap, ◌∙◌, subst, rules}
+use Rattle.std.proofs.Common.{ℕ, List, sym, ap, ◌∙◌, rules}
 use mathlib.Core.Option.{none}
 use Rattle.atomic_table.specs.Table.{step}
-use Rattle.cordyceps_shared.specs.Places.{ItemAt}
 use Rattle.cordyceps_shared.specs.declared.layout.TheConstants.{RIGHT}
 use Rattle.cordyceps_queue.specs.Shared.Plays.{carry}
 use Rattle.cordyceps_queue.proofs.SharedTheory.HolderAllowed.{takes_right}
-use Rattle.cordyceps_queue.proofs.SharedTheory.PartsJoin.{takes_by}
+use Rattle.cordyceps_queue.proofs.SharedTheory.PartsJoin.{takes_by, none_near, may_join}
 use Rattle.cordyceps_queue.proofs.shared.steps.take.Goals as goal
 
 pub swap-requires : goal.swap-requires
@@ -14,7 +13,7 @@ swap-requires g c =
     let t = c.requires.table in (
       search rules,
       search rules,
-      takes_right _ _ _ (q.2 ∙ ap (λ (l : List ℕ). carry l) (sym q.1)) (λ i r a. absurd (subst (λ l. ItemAt l i r) q.1 a)) q.3 q.0,
+      takes_right _ _ _ (q.2 ∙ ap (λ (l : List ℕ). carry l) (sym q.1)) (none_near _ _ q.1) q.3 (may_join c.args.seat.now.me.0 q.1) q.0,
     )
 
 pub returns-clause-took : goal.returns-clause-took

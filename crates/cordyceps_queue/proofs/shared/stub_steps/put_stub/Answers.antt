@@ -1,19 +1,19 @@
 use Rattle.std.proofs.Common.{[]}
 use Rattle.cordyceps_queue.specs.declared.cores.stage.Stage.TheVariants.{PutSwap, PutLink, PutRead}
-use Rattle.cordyceps_queue.proofs.SharedTheory.PartsJoin.{at_stage, moves_in_turn}
+use Rattle.cordyceps_queue.proofs.SharedTheory.PartsJoin.{at_stage, stage_near, moves_in_turn}
 use Rattle.cordyceps_queue.proofs.shared.stub_steps.put_stub.Goals as goal
 
 pub swap_stub-old-requires-clause-stage : goal.swap_stub-old-requires-clause-stage
 swap_stub-old-requires-clause-stage g c =
     let q = c.requires.stage in
-    at_stage c.args.words.now.table_id.slots [] (PutSwap c.args.tail) c.args.seat.now.me c.clear_stub.new.seat.me q.2 q.3 c.clear_stub.ensures.answer
+    at_stage c.args.words.now.table_id.slots [] (PutSwap c.args.tail) c.args.seat.now.me c.clear_stub.new.seat.me q.3 (stage_near _ _ c.args.seat.now.me q) c.clear_stub.ensures.answer
 
 pub link_stub-requires-clause-stage : goal.link_stub-requires-clause-stage
 link_stub-requires-clause-stage g c =
     let q = c.requires.stage in
     let cleared = c.clear_stub.ensures.answer in
     let swapped = moves_in_turn [] [] (PutSwap c.args.tail) (PutLink c.args.tail c.swap_stub-old.result) c.args.seat.now.me c.clear_stub.new.seat.me c.swap_stub-old.new.seat.me cleared c.swap_stub-old.ensures.answer in
-    (at_stage c.args.words.now.table_id.slots [] (PutLink c.args.tail c.swap_stub-old.result) c.args.seat.now.me c.swap_stub-old.new.seat.me q.2 q.3 swapped, c.swap_stub-old.ensures.near)
+    (at_stage c.args.words.now.table_id.slots [] (PutLink c.args.tail c.swap_stub-old.result) c.args.seat.now.me c.swap_stub-old.new.seat.me q.3 (stage_near _ _ c.args.seat.now.me q) swapped, c.swap_stub-old.ensures.near)
 
 pub returns-clause-answer : goal.returns-clause-answer
 returns-clause-answer g c =

@@ -1,9 +1,9 @@
 use Rattle.std.proofs.Common.{rules}
-use Rattle.cordyceps_queue.proofs.CoreTheory.Basics.{at_more}
+use Rattle.cordyceps_queue.proofs.SharedTheory.PartsJoin.{stage_hand, none_near, may_join}
 use Rattle.cordyceps_queue.proofs.SharedTheory.StubKeeps.{swaps_stub}
 use Rattle.cordyceps_queue.proofs.shared.stub_steps.swap_stub.Goals as goal
 
 pub swap-requires : goal.swap-requires
 swap-requires g c =
     let q = c.requires.stage in
-    let t = c.requires.table in (search rules, search rules, swaps_stub _ _ _ q.1 (λ i r a. q.3 i r (at_more _ _ i r a)) q.2 c.args._tail q.0)
+    let t = c.requires.table in (search rules, search rules, swaps_stub _ _ _ (stage_hand _ _ c.args.seat.now.me q) (none_near _ _ q.1) q.3 (may_join c.args.seat.now.me.0 q.1) c.args._tail q.0)

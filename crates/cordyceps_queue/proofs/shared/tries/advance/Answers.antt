@@ -1,27 +1,20 @@
-use Rattle.std.proofs.Common.{[], ◌∷◌, sym, subst}
+use Rattle.std.proofs.Common.{[], ◌∷◌, refl, sym, subst}
+use Rattle.cordyceps_shared.specs.Places.{ItemAt}
 use Rattle.cordyceps_queue.specs.History.{Event}
-use Rattle.cordyceps_queue.specs.Shared.Plays.{HandsOneOut}
+use Rattle.cordyceps_queue.specs.Shared.Parts.{Tries}
 use Rattle.cordyceps_queue.specs.Shared.View.{name}
-use Rattle.cordyceps_queue.specs.declared.cores.stage.Stage.TheVariants.{Null}
-use Rattle.cordyceps_queue.proofs.SharedTheory.PartsJoin.{at_stage, tries_then}
+use Rattle.cordyceps_queue.proofs.CoreTheory.Basics.{at_more}
+use Rattle.cordyceps_queue.proofs.SharedTheory.WordsAsMachine.{at_after}
 use Rattle.cordyceps_queue.proofs.shared.tries.advance.Goals as goal
 
-pub returns-in-Some-clause-answer : goal.returns-in-Some-clause-answer
-returns-in-Some-clause-answer g c =
+pub add_room-requires-clause-near : goal.add_room-requires-clause-near
+add_room-requires-clause-near g c =
     let E = g.row.E.Denot in
-    let look : Event _ E = Event.Look (name c.args.seat.now.me.0) in
-    let a = c.in-Some.ensures.answer in
-    subst (λ q. HandsOneOut (look ∷ []) c.args.words.now.table_id.slots q c.in-Some.next c.in-Some.full.item c.args.seat.now.me c.look.new.seat.me) (sym a.0) a.1
-
-pub at_end-requires-clause-stage : goal.at_end-requires-clause-stage
-at_end-requires-clause-stage g c =
-    let E = g.row.E.Denot in
-    let q = c.requires.holding in
-    let look : Event _ E = Event.Look (name c.args.seat.now.me.0) in
-    (at_stage c.args.words.now.table_id.slots (look ∷ []) (Null c.args.tail) c.args.seat.now.me c.look.new.seat.me q.2 q.3 c.in-None.ensures.answer, q.4)
-
-pub returns-in-None-clause-answer : goal.returns-in-None-clause-answer
-returns-in-None-clause-answer g c =
-    let E = g.row.E.Denot in
-    let look : Event _ E = Event.Look (name c.args.seat.now.me.0) in
-    tries_then c.args.words.now.table_id.slots (look ∷ []) [] (Null c.args.tail) c.args.seat.now.me c.look.new.seat.me c.at_end.new.seat.me _ _ c.in-None.ensures.answer c.at_end.ensures.answer
+    let m = c.args.seat.now.me in
+    let k = c.attempt-next.new.seat.me in
+    let look : Event _ E = Event.Look (name m.0) in
+    let h = subst (λ r. Tries (look ∷ []) c.args.words.now.table_id.slots m k c.attempt-next.result.0 r) c.in-Out.is c.attempt-next.ensures.answer in (
+      (λ i r a. h.0.3 i r (at_more k.0.free k.0.back i r a)),
+      h.0.3 _ c.in-Out.room (at_after k.0.free k.0.back 0 c.in-Out.room (subst (λ l. ItemAt l 0 c.in-Out.room) (sym h.1) refl)),
+      h.0.4,
+    )

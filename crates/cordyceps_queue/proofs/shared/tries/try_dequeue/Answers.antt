@@ -1,8 +1,9 @@
-use Rattle.std.proofs.Common.{[], ◌∷◌, ◌++◌, ap, ◌∙◌, subst}
-use Rattle.cordyceps_queue.specs.Shared.Parts.{AsksRight}
+use Rattle.std.proofs.Common.{[], ◌∷◌, ◌++◌, ◌-◌, sym, ap, ◌∙◌, subst, append-nil}
+use Rattle.cordyceps_queue.specs.Shared.Parts.{AsksRight, TracksEnd}
+use Rattle.cordyceps_queue.specs.declared.cores.stage.Stage.TheVariants.{Rest, Holding}
 use Rattle.cordyceps_queue.specs.History.{Event}
 use Rattle.cordyceps_queue.specs.Shared.View.{name}
-use Rattle.cordyceps_queue.proofs.SharedTheory.PartsJoin.{pred_suc, tries_holding, whole_try}
+use Rattle.cordyceps_queue.proofs.SharedTheory.PartsJoin.{pred_suc, moved_rooms, bare_rooms, whole_try}
 use Rattle.cordyceps_queue.proofs.shared.tries.try_dequeue.Goals as goal
 
 pub take-right-requires-clause-table : goal.take-right-requires-clause-table
@@ -21,7 +22,7 @@ returns-then-right-eq0-clause-rest g c =
 pub returns-then-right-eq0-clause-answer : goal.returns-then-right-eq0-clause-answer
 returns-then-right-eq0-clause-answer g c =
     let took = subst (λ n. AsksRight c.args.words.now.table_id.slots n c.args.seat.now.me c.take-right.new.seat.me) c.if-right-eq0.true c.take-right.ensures.took in
-    (took.1.2 ∙ ap (λ l. l ++ c.args.seat.now.me.0.free) c.requires.rest.1, took.1.4)
+    (took.1.2 ∙ (ap (λ l. c.args.seat.now.me.0.free ++ l) c.requires.rest.1 ∙ append-nil c.args.seat.now.me.0.free), took.1.4)
 
 pub advance-tail-requires-clause-table : goal.advance-tail-requires-clause-table
 advance-tail-requires-clause-table g c = (c.take-right.ensures.table ∙ c.requires.table.0, c.requires.table.1)
@@ -34,8 +35,26 @@ pub give-requires-clause-table : goal.give-requires-clause-table
 give-requires-clause-table g c = (c.advance-tail.ensures.table ∙ (c.take-right.ensures.table ∙ c.requires.table.0), c.requires.table.1)
 
 pub give-requires-clause-holding : goal.give-requires-clause-holding
-give-requires-clause-holding g c =
-    tries_holding _ (Event.Look (name c.take-right.new.seat.me.0) ∷ []) c.take-right.new.seat.me c.advance-tail.new.seat.me _ _ c.advance-tail.ensures.answer
+give-requires-clause-holding g c = c.advance-tail.ensures.holding
+
+pub returns-then-right-eq0-clause-tracks : goal.returns-then-right-eq0-clause-tracks
+returns-then-right-eq0-clause-tracks g c =
+    let m = c.args.seat.now.me in
+    let k = c.take-right.new.seat.me in
+    let took = subst (λ n. AsksRight c.args.words.now.table_id.slots n m k) c.if-right-eq0.true c.take-right.ensures.took in
+    subst (TracksEnd c.args.spare.now) (sym (moved_rooms (Event.Busy (name m.0) ∷ []) Rest m k took.1 ∙ bare_rooms m.0 c.requires.rest.1)) c.requires.tracks
+
+pub advance-tail-requires-clause-tracks : goal.advance-tail-requires-clause-tracks
+advance-tail-requires-clause-tracks g c =
+    let m = c.args.seat.now.me in
+    let k = c.take-right.new.seat.me in
+    let took = subst (λ n. AsksRight c.args.words.now.table_id.slots n m k) (pred_suc c.take-right.result c.if-right-eq0.false) c.take-right.ensures.took in
+    subst (TracksEnd c.args.spare.now) (sym (bare_rooms k.0 took.1.1 ∙ (moved_rooms (Event.Take (name m.0) ∷ []) (Holding (c.take-right.result - 1)) m k took.1 ∙ bare_rooms m.0 c.requires.rest.1))) c.requires.tracks
+
+pub returns-clause-tracks : goal.returns-clause-tracks
+returns-clause-tracks g c =
+    let l = c.advance-tail.new.seat.me in
+    subst (TracksEnd c.advance-tail.new.spare) (sym (moved_rooms (Event.Free (name l.0) ∷ []) Rest l c.give.new.seat.me c.give.ensures.answer)) c.advance-tail.ensures.tracks
 
 pub returns-clause-table : goal.returns-clause-table
 returns-clause-table g c = c.give.ensures.table ∙ (c.advance-tail.ensures.table ∙ c.take-right.ensures.table)

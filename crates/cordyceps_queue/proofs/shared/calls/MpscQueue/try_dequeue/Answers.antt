@@ -1,76 +1,58 @@
 use Rattle.std.proofs.Common.{◌≡◌, ap, ◌∙◌, subst, rules}
 use Rattle.std.specs.Prelude.{Some, Ok, Err}
-use Rattle.cordyceps_shared.specs.declared.slots.Filled.{Filled}
-use Rattle.cordyceps_queue.specs.declared.shared.table.Tried.TheVariants.{Out}
 use Rattle.cordyceps_queue.specs.declared.cores.steps.TryDequeueError.TheVariants as error
 use Rattle.cordyceps_queue.specs.Shared.Parts.{standing, Dequeued}
 use Rattle.cordyceps_queue.specs.Shared.Calls.{Dequeues}
-use Rattle.cordyceps_queue.proofs.SharedTheory.CallsHold.{one_seated, empty_seated, blocked_seated, busy_seated, finds_one, finds_empty, finds_blocked, finds_busy, whole_right, whole_clear}
+use Rattle.cordyceps_queue.proofs.SharedTheory.CallsHold.{seated_then, finds_one, finds_empty, finds_blocked, finds_busy, whole_right, whole_clear}
+use Rattle.cordyceps_queue.proofs.shared.calls.MpscQueue.try_dequeue.Goals.{in-Some-Out, in-Some-Empty, in-Some-Inconsistent, in-None}
 use Rattle.cordyceps_queue.proofs.shared.calls.MpscQueue.try_dequeue.Goals as goal
 
 pub invariant_of-party : goal.invariant_of-party
 invariant_of-party g c =
-    let e = c.in-Some-Out.ensures in
-    let d = subst (λ r. Dequeued c.self.inside.rooms.shared.table_id.slots c.party.inside.seat.me c.try_dequeue.new.seat.me (Some r)) (c.in-Some-Out.field-0-is ∙ ap Out c.in-Some-Out.field-0-0-is) e.answer in
-    let full : Filled g.row.T-Handle.Denot = c.in-Some-Out.field-0-0 in
+    let e = c.try_dequeue.ensures in
     let there : c.party.inside.seat.table_id ≡ c.self.inside.rooms.shared.table_id = search rules in
-    one_seated c.party.inside.seat.table_id c.try_dequeue.new.seat.table_id c.self.inside.rooms.shared.table_id c.self.inside.rooms.shared.table_id.slots c.party.inside.seat.me c.try_dequeue.new.seat.me _ _ full c.party.invariant e.table there e.rest d c.put.ensures
+    seated_then c.party.inside.seat.table_id c.try_dequeue.new.seat.table_id c.self.inside.rooms.shared.table_id c.party.inside.seat.me c.try_dequeue.new.seat.me _ _ c.try_dequeue.result c.party.invariant e.table there e.rest e.answer e.tracks
 
-pub invariant_of-party-in-Some-Empty : goal.invariant_of-party-in-Some-Empty
-invariant_of-party-in-Some-Empty g c =
-    let e = c.in-Some-Empty.ensures in
-    let d = subst (λ r. Dequeued c.self.inside.rooms.shared.table_id.slots c.party.inside.seat.me c.try_dequeue.new.seat.me (Some r)) c.in-Some-Empty.field-0-is e.answer in
-    let there : c.party.inside.seat.table_id ≡ c.self.inside.rooms.shared.table_id = search rules in
-    empty_seated c.party.inside.seat.table_id c.try_dequeue.new.seat.table_id c.self.inside.rooms.shared.table_id c.self.inside.rooms.shared.table_id.slots c.party.inside.seat.me c.try_dequeue.new.seat.me _ c.party.invariant e.table there e.rest d
+pub returns-clause-answer : goal.returns-clause-answer
+returns-clause-answer g c =
+    let e = c.try_dequeue.ensures in
+    let z = c.party.inside.seat.table_id in
+    let m = c.party.inside.seat.me in
+    let z' = c.try_dequeue.new.seat.table_id in
+    let k = c.try_dequeue.new.seat.me in
+    let slots = c.self.inside.rooms.shared.table_id.slots in
+    let bare = c.party.invariant.rests.1 in
+    elim c.match-try_dequeue.branch [
+      | in-Some-Out w ↦
+          let d = subst (λ r. Dequeued slots m k r) (w.in-Some-Out.is ∙ ap Some w.in-Some-Out.field-0-is) e.answer in
+          rw w.result-is (subst (λ u. Dequeues (Ok w.in-Some-Out.item) u (standing z' k.0)) c.party.view_is (finds_one z z' slots _ m k _ bare e.rest.1 e.table d))
+      | in-Some-Empty w ↦
+          let d = subst (λ r. Dequeued slots m k r) (w.in-Some-Empty.is ∙ ap Some w.in-Some-Empty.field-0-is) e.answer in
+          rw w.result-is (subst (λ u. Dequeues (Err error.Empty) u (standing z' k.0)) c.party.view_is (finds_empty z z' slots m k bare e.rest.1 e.table d))
+      | in-Some-Inconsistent w ↦
+          let d = subst (λ r. Dequeued slots m k r) (w.in-Some-Inconsistent.is ∙ ap Some w.in-Some-Inconsistent.field-0-is) e.answer in
+          rw w.result-is (subst (λ u. Dequeues (Err error.Inconsistent) u (standing z' k.0)) c.party.view_is (finds_blocked z z' slots m k bare e.rest.1 e.table d))
+      | in-None w ↦
+          let d = subst (λ r. Dequeued slots m k r) w.in-None.is e.answer in
+          rw w.result-is (subst (λ u. Dequeues (Err error.Busy) u (standing z' k.0)) c.party.view_is (finds_busy z z' slots m k bare e.rest.1 e.table d))
+    ]
 
-pub invariant_of-party-in-Some-Inconsistent : goal.invariant_of-party-in-Some-Inconsistent
-invariant_of-party-in-Some-Inconsistent g c =
-    let e = c.in-Some-Inconsistent.ensures in
-    let d = subst (λ r. Dequeued c.self.inside.rooms.shared.table_id.slots c.party.inside.seat.me c.try_dequeue.new.seat.me (Some r)) c.in-Some-Inconsistent.field-0-is e.answer in
-    let there : c.party.inside.seat.table_id ≡ c.self.inside.rooms.shared.table_id = search rules in
-    blocked_seated c.party.inside.seat.table_id c.try_dequeue.new.seat.table_id c.self.inside.rooms.shared.table_id c.self.inside.rooms.shared.table_id.slots c.party.inside.seat.me c.try_dequeue.new.seat.me _ c.party.invariant e.table there e.rest d
-
-pub invariant_of-party-in-None : goal.invariant_of-party-in-None
-invariant_of-party-in-None g c =
-    let e = c.in-None.ensures in
-    let there : c.party.inside.seat.table_id ≡ c.self.inside.rooms.shared.table_id = search rules in
-    busy_seated c.party.inside.seat.table_id c.try_dequeue.new.seat.table_id c.self.inside.rooms.shared.table_id c.self.inside.rooms.shared.table_id.slots c.party.inside.seat.me c.try_dequeue.new.seat.me _ c.party.invariant e.table there e.rest e.answer
-
-pub returns-in-Some-Out-clause-answer : goal.returns-in-Some-Out-clause-answer
-returns-in-Some-Out-clause-answer g c =
-    let e = c.in-Some-Out.ensures in
-    let d = subst (λ r. Dequeued c.self.inside.rooms.shared.table_id.slots c.party.inside.seat.me c.try_dequeue.new.seat.me (Some r)) (c.in-Some-Out.field-0-is ∙ ap Out c.in-Some-Out.field-0-0-is) e.answer in
-    let full : Filled g.row.T-Handle.Denot = c.in-Some-Out.field-0-0 in
-    let t = finds_one c.party.inside.seat.table_id c.try_dequeue.new.seat.table_id c.self.inside.rooms.shared.table_id.slots c.party.inside.seat.me c.try_dequeue.new.seat.me full c.party.invariant.rests.1 e.rest.1 e.table d in
-    subst (λ u. Dequeues (Ok full.item) u (standing c.try_dequeue.new.seat.table_id c.try_dequeue.new.seat.me.0)) c.party.view_is t
-
-pub returns-in-Some-Empty-clause-answer : goal.returns-in-Some-Empty-clause-answer
-returns-in-Some-Empty-clause-answer g c =
-    let e = c.in-Some-Empty.ensures in
-    let d = subst (λ r. Dequeued c.self.inside.rooms.shared.table_id.slots c.party.inside.seat.me c.try_dequeue.new.seat.me (Some r)) c.in-Some-Empty.field-0-is e.answer in
-    let t = finds_empty c.party.inside.seat.table_id c.try_dequeue.new.seat.table_id c.self.inside.rooms.shared.table_id.slots c.party.inside.seat.me c.try_dequeue.new.seat.me c.party.invariant.rests.1 e.rest.1 e.table d in
-    subst (λ u. Dequeues (Err error.Empty) u (standing c.try_dequeue.new.seat.table_id c.try_dequeue.new.seat.me.0)) c.party.view_is t
-
-pub returns-in-Some-Inconsistent-clause-answer : goal.returns-in-Some-Inconsistent-clause-answer
-returns-in-Some-Inconsistent-clause-answer g c =
-    let e = c.in-Some-Inconsistent.ensures in
-    let d = subst (λ r. Dequeued c.self.inside.rooms.shared.table_id.slots c.party.inside.seat.me c.try_dequeue.new.seat.me (Some r)) c.in-Some-Inconsistent.field-0-is e.answer in
-    let t = finds_blocked c.party.inside.seat.table_id c.try_dequeue.new.seat.table_id c.self.inside.rooms.shared.table_id.slots c.party.inside.seat.me c.try_dequeue.new.seat.me c.party.invariant.rests.1 e.rest.1 e.table d in
-    subst (λ u. Dequeues (Err error.Inconsistent) u (standing c.try_dequeue.new.seat.table_id c.try_dequeue.new.seat.me.0)) c.party.view_is t
-
-pub returns-in-None-clause-answer : goal.returns-in-None-clause-answer
-returns-in-None-clause-answer g c =
-    let e = c.in-None.ensures in
-    let t = finds_busy c.party.inside.seat.table_id c.try_dequeue.new.seat.table_id c.self.inside.rooms.shared.table_id.slots c.party.inside.seat.me c.try_dequeue.new.seat.me c.party.invariant.rests.1 e.rest.1 e.table e.answer in
-    subst (λ u. Dequeues (Err error.Busy) u (standing c.try_dequeue.new.seat.table_id c.try_dequeue.new.seat.me.0)) c.party.view_is t
-
-pub returns-in-Some-Inconsistent-clause-whole : goal.returns-in-Some-Inconsistent-clause-whole
-returns-in-Some-Inconsistent-clause-whole g c is =
-    let e = c.in-Some-Inconsistent.ensures in
-    let d = subst (λ r. Dequeued c.self.inside.rooms.shared.table_id.slots c.party.inside.seat.me c.try_dequeue.new.seat.me (Some r)) c.in-Some-Inconsistent.field-0-is e.answer in
-    absurd (whole_clear c.party.inside.seat.table_id c.try_dequeue.new.seat.table_id c.self.inside.rooms.shared.table_id.slots c.party.inside.seat.me c.try_dequeue.new.seat.me _ c.party.invariant e.table c.party.invariant.rests.1 e.rest.1 d (ap (λ u. u.share) c.party.view_is ∙ is))
-
-pub returns-in-None-clause-whole : goal.returns-in-None-clause-whole
-returns-in-None-clause-whole g c is =
-    let e = c.in-None.ensures in
-    absurd (whole_right c.party.inside.seat.table_id c.try_dequeue.new.seat.table_id c.self.inside.rooms.shared.table_id.slots c.party.inside.seat.me c.try_dequeue.new.seat.me _ c.party.invariant e.table e.answer (ap (λ u. u.share) c.party.view_is ∙ is))
+pub returns-clause-whole : goal.returns-clause-whole
+returns-clause-whole g c is =
+    let e = c.try_dequeue.ensures in
+    let z = c.party.inside.seat.table_id in
+    let m = c.party.inside.seat.me in
+    let z' = c.try_dequeue.new.seat.table_id in
+    let k = c.try_dequeue.new.seat.me in
+    let slots = c.self.inside.rooms.shared.table_id.slots in
+    let all = ap (λ u. u.share) c.party.view_is ∙ is in
+    elim c.match-try_dequeue.branch [
+      | in-Some-Out w ↦ rw w.result-is tt
+      | in-Some-Empty w ↦ rw w.result-is tt
+      | in-Some-Inconsistent w ↦
+          let d = subst (λ r. Dequeued slots m k r) (w.in-Some-Inconsistent.is ∙ ap Some w.in-Some-Inconsistent.field-0-is) e.answer in
+          absurd (whole_clear z z' slots m k _ c.party.invariant e.table c.party.invariant.rests.1 e.rest.1 d all)
+      | in-None w ↦
+          let d = subst (λ r. Dequeued slots m k r) w.in-None.is e.answer in
+          absurd (whole_right z z' slots m k _ c.party.invariant e.table d all)
+    ]

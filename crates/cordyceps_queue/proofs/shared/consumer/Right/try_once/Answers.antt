@@ -1,7 +1,5 @@
 use Rattle.std.proofs.Common.{◌≡◌, [], ◌∷◌, ap, ◌∙◌, subst}
 use Rattle.std.specs.Prelude.{Ok, Err}
-use Rattle.cordyceps_shared.specs.declared.slots.Filled.{Filled}
-use Rattle.cordyceps_queue.specs.declared.shared.table.Tried.TheVariants.{Out}
 use Rattle.cordyceps_queue.specs.declared.cores.steps.TryDequeueError.TheVariants as error
 use Rattle.cordyceps_queue.specs.Shared.Parts.{standing, Tries}
 use Rattle.cordyceps_queue.specs.History.{Look}
@@ -9,7 +7,8 @@ use Rattle.cordyceps_queue.specs.Shared.Plays.{IsHolding}
 use Rattle.cordyceps_queue.specs.Shared.Rule.{IsTable}
 use Rattle.cordyceps_queue.specs.Shared.Calls.{Consumes}
 use Rattle.cordyceps_queue.specs.Shared.View.{name}
-use Rattle.cordyceps_queue.proofs.SharedTheory.RightHolds.{one_consuming, empty_consuming, blocked_consuming, consumes_one, consumes_empty, consumes_blocked, consuming_clear}
+use Rattle.cordyceps_queue.proofs.SharedTheory.RightHolds.{consuming_then, consumes_one, consumes_empty, consumes_blocked, consuming_clear}
+use Rattle.cordyceps_queue.proofs.shared.consumer.Right.try_once.Goals.{in-Out, in-Empty, in-Inconsistent}
 use Rattle.cordyceps_queue.proofs.shared.consumer.Right.try_once.Goals as goal
 
 pub advance-tail-requires-clause-table : goal.advance-tail-requires-clause-table
@@ -25,55 +24,41 @@ advance-tail-requires-clause-holding g c =
 pub invariant_of-self : goal.invariant_of-self
 invariant_of-self g c =
     let e = c.advance-tail.ensures in
-    let full : Filled g.row.E.Denot = c.in-Out.field-0 in
-    let a = subst (λ r. Tries (Look (name c.self.inside.seat.me.0) ∷ []) c.args.words.now.table_id.slots c.self.inside.seat.me c.advance-tail.new.seat.me c.advance-tail.result.0 r) (c.in-Out.is ∙ ap Out c.in-Out.field-0-is) e.answer in
     let there : c.self.inside.seat.table_id ≡ c.args.words.now.table_id = ap (λ u. u.table) c.self.view_is ∙ c.requires in
-    one_consuming c.self.inside.seat.table_id c.advance-tail.new.seat.table_id c.args.words.now.table_id _ c.advance-tail.result.0 c.self.inside.seat.me c.advance-tail.new.seat.me _ _ full c.self.invariant e.table there a c.put.ensures
+    consuming_then c.self.inside.seat.table_id c.advance-tail.new.seat.table_id c.args.words.now.table_id _ c.advance-tail.result.0 c.self.inside.seat.me c.advance-tail.new.seat.me _ _ c.advance-tail.result.1 c.self.invariant e.table there e.holding e.answer e.tracks
 
-pub invariant_of-self-in-Empty : goal.invariant_of-self-in-Empty
-invariant_of-self-in-Empty g c =
+pub returns-clause-answer : goal.returns-clause-answer
+returns-clause-answer g c =
     let e = c.advance-tail.ensures in
-    let a = subst (λ r. Tries (Look (name c.self.inside.seat.me.0) ∷ []) c.args.words.now.table_id.slots c.self.inside.seat.me c.advance-tail.new.seat.me c.advance-tail.result.0 r) c.in-Empty.is e.answer in
-    let there : c.self.inside.seat.table_id ≡ c.args.words.now.table_id = ap (λ u. u.table) c.self.view_is ∙ c.requires in
-    empty_consuming c.self.inside.seat.table_id c.advance-tail.new.seat.table_id c.args.words.now.table_id _ c.advance-tail.result.0 c.self.inside.seat.me c.advance-tail.new.seat.me _ c.self.invariant e.table there a
+    let z = c.self.inside.seat.table_id in
+    let m = c.self.inside.seat.me in
+    let z' = c.advance-tail.new.seat.table_id in
+    let k = c.advance-tail.new.seat.me in
+    let slots = c.args.words.now.table_id.slots in
+    let t = c.advance-tail.result.0 in
+    elim c.match-tried.branch [
+      | in-Out w ↦
+          let a = subst (λ r. Tries (Look (name m.0) ∷ []) slots m k t r) w.in-Out.is e.answer in
+          rw w.result-is (subst (λ u. Consumes (Ok w.in-Out.item) u (standing z' k.0)) c.self.view_is (consumes_one z z' slots t _ m k _ e.table a))
+      | in-Empty w ↦
+          let a = subst (λ r. Tries (Look (name m.0) ∷ []) slots m k t r) w.in-Empty.is e.answer in
+          rw w.result-is (subst (λ u. Consumes (Err error.Empty) u (standing z' k.0)) c.self.view_is (consumes_empty z z' slots t m k e.table a))
+      | in-Inconsistent w ↦
+          let a = subst (λ r. Tries (Look (name m.0) ∷ []) slots m k t r) w.in-Inconsistent.is e.answer in
+          rw w.result-is (subst (λ u. Consumes (Err error.Inconsistent) u (standing z' k.0)) c.self.view_is (consumes_blocked z z' slots t m k e.table a))
+    ]
 
-pub invariant_of-self-in-Inconsistent : goal.invariant_of-self-in-Inconsistent
-invariant_of-self-in-Inconsistent g c =
+pub returns-clause-whole : goal.returns-clause-whole
+returns-clause-whole g c is =
     let e = c.advance-tail.ensures in
-    let a = subst (λ r. Tries (Look (name c.self.inside.seat.me.0) ∷ []) c.args.words.now.table_id.slots c.self.inside.seat.me c.advance-tail.new.seat.me c.advance-tail.result.0 r) c.in-Inconsistent.is e.answer in
-    let there : c.self.inside.seat.table_id ≡ c.args.words.now.table_id = ap (λ u. u.table) c.self.view_is ∙ c.requires in
-    blocked_consuming c.self.inside.seat.table_id c.advance-tail.new.seat.table_id c.args.words.now.table_id _ c.advance-tail.result.0 c.self.inside.seat.me c.advance-tail.new.seat.me _ c.self.invariant e.table there a
-
-pub returns-in-Out-clause-answer : goal.returns-in-Out-clause-answer
-returns-in-Out-clause-answer g c =
-    let e = c.advance-tail.ensures in
-    let full : Filled g.row.E.Denot = c.in-Out.field-0 in
-    let a = subst (λ r. Tries (Look (name c.self.inside.seat.me.0) ∷ []) c.args.words.now.table_id.slots c.self.inside.seat.me c.advance-tail.new.seat.me c.advance-tail.result.0 r) (c.in-Out.is ∙ ap Out c.in-Out.field-0-is) e.answer in
-    let t = consumes_one c.self.inside.seat.table_id c.advance-tail.new.seat.table_id c.args.words.now.table_id.slots c.advance-tail.result.0 c.self.inside.seat.me c.advance-tail.new.seat.me full e.table a in
-    subst (λ u. Consumes (Ok full.item) u (standing c.advance-tail.new.seat.table_id c.advance-tail.new.seat.me.0)) c.self.view_is t
-
-pub returns-in-Empty-clause-answer : goal.returns-in-Empty-clause-answer
-returns-in-Empty-clause-answer g c =
-    let e = c.advance-tail.ensures in
-    let a = subst (λ r. Tries (Look (name c.self.inside.seat.me.0) ∷ []) c.args.words.now.table_id.slots c.self.inside.seat.me c.advance-tail.new.seat.me c.advance-tail.result.0 r) c.in-Empty.is e.answer in
-    let t = consumes_empty c.self.inside.seat.table_id c.advance-tail.new.seat.table_id c.args.words.now.table_id.slots c.advance-tail.result.0 c.self.inside.seat.me c.advance-tail.new.seat.me e.table a in
-    subst (λ u. Consumes (Err error.Empty) u (standing c.advance-tail.new.seat.table_id c.advance-tail.new.seat.me.0)) c.self.view_is t
-
-pub returns-in-Inconsistent-clause-answer : goal.returns-in-Inconsistent-clause-answer
-returns-in-Inconsistent-clause-answer g c =
-    let e = c.advance-tail.ensures in
-    let a = subst (λ r. Tries (Look (name c.self.inside.seat.me.0) ∷ []) c.args.words.now.table_id.slots c.self.inside.seat.me c.advance-tail.new.seat.me c.advance-tail.result.0 r) c.in-Inconsistent.is e.answer in
-    let t = consumes_blocked c.self.inside.seat.table_id c.advance-tail.new.seat.table_id c.args.words.now.table_id.slots c.advance-tail.result.0 c.self.inside.seat.me c.advance-tail.new.seat.me e.table a in
-    subst (λ u. Consumes (Err error.Inconsistent) u (standing c.advance-tail.new.seat.table_id c.advance-tail.new.seat.me.0)) c.self.view_is t
-
-pub returns-in-Inconsistent-clause-whole : goal.returns-in-Inconsistent-clause-whole
-returns-in-Inconsistent-clause-whole g c is =
-    let e = c.advance-tail.ensures in
-    let a = subst (λ r. Tries (Look (name c.self.inside.seat.me.0) ∷ []) c.args.words.now.table_id.slots c.self.inside.seat.me c.advance-tail.new.seat.me c.advance-tail.result.0 r) c.in-Inconsistent.is e.answer in
-    absurd (consuming_clear c.self.inside.seat.table_id c.advance-tail.new.seat.table_id c.args.words.now.table_id.slots _ c.advance-tail.result.0 c.self.inside.seat.me c.advance-tail.new.seat.me _ c.self.invariant e.table a (ap (λ u. u.share) c.self.view_is ∙ is))
-
-pub returns-in-Out-clause-whole : goal.returns-in-Out-clause-whole
-returns-in-Out-clause-whole g c _ = tt
-
-pub returns-in-Empty-clause-whole : goal.returns-in-Empty-clause-whole
-returns-in-Empty-clause-whole g c _ = tt
+    let m = c.self.inside.seat.me in
+    let k = c.advance-tail.new.seat.me in
+    let slots = c.args.words.now.table_id.slots in
+    let t = c.advance-tail.result.0 in
+    elim c.match-tried.branch [
+      | in-Out w ↦ rw w.result-is tt
+      | in-Empty w ↦ rw w.result-is tt
+      | in-Inconsistent w ↦
+          let a = subst (λ r. Tries (Look (name m.0) ∷ []) slots m k t r) w.in-Inconsistent.is e.answer in
+          absurd (consuming_clear c.self.inside.seat.table_id c.advance-tail.new.seat.table_id slots _ t m k _ c.self.invariant e.table a (ap (λ u. u.share) c.self.view_is ∙ is))
+    ]

@@ -1,0 +1,196 @@
+-- A store to the link of a party's last free room, and a read of a free room's link, keep the rule of a queue's table.
+use Rattle.std.proofs.Common.{◌≡◌, ◌≢◌, ◌⊎◌, ℕ, zero, suc, ◌+◌, ◌-◌, ◌<◌, List, [], ◌∷◌, ◌++◌, length, reverse, set, get_or, Option, Some, None, refl, sym, ap, ◌∙◌, subst, arith, length-set}
+use mathlib.Core.Option.{some, none}
+use native.Mathlib.Decide.{ℕ_discrete}
+use lib.ListN.{get_elem?}
+use lib.Seq.{set-get_or}
+use Rattle.atomic_table.specs.Table.{keeps, step, Allows}
+use Rattle.cordyceps_shared.specs.Counts.{times}
+use Rattle.cordyceps_shared.specs.FreeChains.{Links}
+use Rattle.cordyceps_shared.specs.Histories.{events}
+use Rattle.cordyceps_shared.specs.Places.{ItemAt}
+use Rattle.cordyceps_shared.specs.Slots.{Near}
+use Rattle.cordyceps_shared.specs.Words as word
+use Rattle.cordyceps_shared.specs.declared.layout.TheConstants.{LINKS}
+use Rattle.cordyceps_shared.proofs.Changing.{one_set}
+use Rattle.cordyceps_shared.proofs.FreeLinks.{links_at, links_retied}
+use Rattle.cordyceps_shared.proofs.Places.{times_at}
+use Rattle.cordyceps_shared.proofs.Telling.{at_length, owned_same, fits_same}
+use Rattle.cordyceps_shared.proofs.Words.{head_beside_next, right_beside_next}
+use Rattle.cordyceps_queue.specs.declared.cores.stage.Stage.{Stage}
+use Rattle.cordyceps_queue.specs.declared.cores.stage.Stage.TheVariants.{Rest, Cleared, Swapped, Holding, StubNull, Second, Null, PutClear, PutSwap, PutLink, PutRead}
+use Rattle.cordyceps_queue.specs.History.{Event, actor}
+use Rattle.cordyceps_queue.specs.Cores.Meets.{Spare, Shared, Owed, Chain, AtStage, OwnsRooms, Meets}
+use Rattle.cordyceps_queue.specs.Cores.Abstract.{AbstractMachine, update}
+use Rattle.cordyceps_queue.specs.Shared.Plays.{SeatState}
+use Rattle.cordyceps_queue.specs.Shared.Plays as play
+use Rattle.cordyceps_queue.specs.Shared.Rule.{TableState, link_of, party, party_of, machine_of, AreLinked, RuleHolds}
+use Rattle.cordyceps_queue.specs.Shared.View.{View, knows}
+use Rattle.cordyceps_queue.proofs.CoreTheory.Basics.{put_other, at_more}
+use Rattle.cordyceps_queue.proofs.CoreTheory.ProducerSteps.{spare_shared, ready_spare}
+use Rattle.cordyceps_queue.proofs.SharedTheory.WordsAsMachine.{at_after, links_put, parties_put, core, party_at, rooms_of, free_spare, empties_same, linked_else, linkeds, linkeds_same}
+use Rattle.cordyceps_queue.proofs.SharedTheory.EnqueueKeeps.{spare_one}
+use Rattle.cordyceps_queue.proofs.SharedTheory.ReturnKeeps.{put_again}
+
+pub first_near : (slots r : ℕ) (rs free : List ℕ) → free ≡ r ∷ rs → Near slots free → r < slots
+first_near slots r rs free is near = near 0 r (subst (λ l. ItemAt l 0 r) (sym is) refl)
+
+at_low : (xs : List ℕ) (i x : ℕ) → ItemAt xs i x → i < length xs
+at_low [] i x a = absurd a
+at_low (y ∷ ys) zero x a = omega arith
+at_low (y ∷ ys) (suc i) x a = let l = at_low ys i x a in omega arith
+
+at_end : (before : List ℕ) (r : ℕ) → ItemAt (before ++ r ∷ []) (length before) r
+at_end [] r = refl
+at_end (x ∷ before) r = at_end before r
+
+-- ---- the link of a free room does not matter to the machine
+module _ {P E : Type 0} (m : AbstractMachine P E) (c : Chain) (h : List (Event P E)) (M : Meets m c h) (k r : ℕ) (o : Option ℕ) (mine : c.owner r ≡ Spare k) where
+  away : (x : ℕ) → c.owner x ≡ Shared → x ≢ r
+  away x shared e = spare_shared mine (ap c.owner (sym e) ∙ shared)
+
+  still : (x : ℕ) → x ≢ r → m.next x ≡ None → update m.next r o x ≡ None
+  still x ne e = put_other m.next r o x ne ∙ e
+
+  others : (j : ℕ) (name : P) (stage : Stage) → AtStage m.head m.next m.cell c.owner c.keeper c.rooms h j name stage → AtStage m.head (update m.next r o) m.cell c.owner c.keeper c.rooms h j name stage
+  others j name Rest f = f
+  others j name (Cleared x) f = (f.0, f.1, f.2, still x (λ e. ready_spare f.1 (ap c.owner e ∙ mine)) f.3, f.4, f.5)
+  others j name (Swapped x old) f = (f.0, f.1, f.2, f.3, still old (away old (M.shared f.0 old f.1)) f.4, f.5)
+  others j name (Holding t) f = f
+  others j name StubNull f = f
+  others j name (Second t) f = f
+  others j name (Null t) f = f
+  others j name (PutClear t) f = f
+  others j name (PutSwap t) f = (f.0, f.1, still 0 (away 0 M.stub) f.2)
+  others j name (PutLink t old) f = (f.0, (f.1.0, f.1.1, f.1.2, still old (away old (M.shared f.1.0 old f.1.1)) f.1.3))
+  others j name (PutRead t) f = f
+
+  relink_keeps : Meets (record m { next = update m.next r o }) c h
+  relink_keeps = record {
+    legal = M.legal;
+    last = M.last;
+    ends = still m.head (away m.head (M.shared M.last.0 m.head M.last.2)) M.ends;
+    joined = λ i a b ia ib. subst (λ n. (n ≡ Some b) ⊎ ((n ≡ None) × Owed m.party a b)) (sym (put_other m.next r o a (away a (M.shared i a ia)))) (M.joined i a b ia ib);
+    once = M.once;
+    shared = M.shared;
+    stub = M.stub;
+    unmade = M.unmade;
+    holds = M.holds;
+    right = M.right;
+    fits = λ j p e. others j p.name p.stage (M.fits j p e);
+    rooms = M.rooms;
+    names = M.names;
+    strangers = M.strangers;
+  }
+
+module _ {E : Type 0} (s : TableState E) (k : RuleHolds s) (id : ℕ) (v : View E) (at : get_elem? s.views id ≡ some v) (named : v.known.share ≢ []) where
+  -- the last free room's link changes
+  ended : (words : List ℕ) (end : ℕ) → let w : View E = record v { end = end } in Meets (machine_of k.cell words (set s.views id w)) k.chain (reverse (events k.history)) → length words ≡ length s.words → AreLinked words (set s.views id w)
+      → RuleHolds record { words = words; homes = s.homes; views = set s.views id w }
+  ended words end meets wide linked =
+      let w : View E = record v { end = end } in
+      let was_wide = k.wide in record {
+        history = k.history;
+        cell = k.cell;
+        chain = k.chain;
+        meets = meets;
+        wide = omega arith;
+        stub = k.stub;
+        full = k.full;
+        empty = empties_same s k id w (k.empty id v at named);
+        ready = λ j u r. one_set (λ _ z. z.known.share ≢ [] → z.stage ≡ Cleared r → k.cell r ≡ z.item) s.views id w (λ _ is. k.ready id v r at named is) (λ i z _ e some_name is. k.ready i z r e some_name is) j u;
+        linked = linked;
+        fits = fits_same actor knows s.views k.history id v w at refl refl refl refl k.fits;
+        owned = owned_same knows s.views k.history id v w at refl k.owned;
+      }
+
+  same_parties : (end : ℕ) → let w : View E = record v { end = end } in (core s k).party ≡ (λ j. party_of (get_elem? (set s.views id w) j))
+  same_parties end =
+      let w : View E = record v { end = end } in
+      sym (put_again (core s k).party id (party v) (party_at s k id v at named)) ∙ sym (parties_put s.views id w (at_length s.views id v at) named)
+
+  module _ (before : List ℕ) (r n : ℕ) (free : v.free ≡ before ++ r ∷ []) (inside : r < length s.homes) where
+    here : ItemAt v.free (length before) r
+    here = subst (λ l. ItemAt l (length before) r) (sym free) (at_end before r)
+
+    rooms : OwnsRooms k.chain.owner id (v.free ++ v.back)
+    rooms = rooms_of s k id v at named
+
+    mine : k.chain.owner r ≡ Spare id
+    mine = free_spare s k id v (length before) r at named here
+
+    none_before : times r before ≡ 0
+    none_before = elim (ℕ_discrete (times r before) 0) [
+      | yes e ↦ e
+      | no ne ↦
+          let t = times_at r before (omega arith) in
+          let low = at_low before t.0 r t.1 in
+          let same = rooms.once t.0 (length before) r (at_more v.free v.back t.0 r (subst (λ l. ItemAt l t.0 r) (sym free) (at_more before (r ∷ []) t.0 r t.1))) (at_more v.free v.back (length before) r here) in
+          absurd (omega arith)
+    ]
+
+    not_back : (i : ℕ) → ItemAt v.back i r → ⊥
+    not_back i a =
+        let same = rooms.once (length before) (length v.free + i) r (at_more v.free v.back (length before) r here) (at_after v.free v.back i r a) in
+        let low = at_low v.free (length before) r here in
+        absurd (omega arith)
+
+    abbrev tied_words : List ℕ
+    tied_words = set s.words (LINKS + r) n
+
+    wide : LINKS + r < length s.words
+    wide = let w = k.wide in omega arith
+
+    tied_machine : (let w : View E = record v { end = n } in record (core s k) { next = update (core s k).next r (link_of n) } ≡ machine_of k.cell tied_words (set s.views id w))
+    tied_machine i = record {
+      head = sym (head_beside_next s.words r n) i;
+      right = sym (right_beside_next s.words r n) i;
+      count = ap (λ l. l - LINKS) (sym (length-set s.words (LINKS + r) n)) i;
+      next = sym (links_put s.words r n wide) i;
+      cell = k.cell;
+      party = same_parties n i;
+    }
+
+    tied_kept : RuleHolds record { words = tied_words; homes = s.homes; views = set s.views id record v { end = n } }
+    tied_kept =
+        let l = k.linked id v at named in
+        let w : View E = record v { end = n } in
+        ended tied_words n (subst (λ q. Meets q k.chain (reverse (events k.history))) tied_machine (relink_keeps (core s k) k.chain (reverse (events k.history)) k.meets id r (link_of n) mine)) (length-set s.words (LINKS + r) n)
+        (linkeds s k id r n w
+        (subst (λ z. Links tied_words z n) (sym free) (links_retied s.words before r v.end n none_before wide (subst (λ z. Links s.words z v.end) free l.0)), linked_else s k s.words v.back v.to r n not_back l.1)
+        (λ j ne theirs. ne (spare_one theirs mine)))
+
+  skip_kept : RuleHolds record { words = s.words; homes = s.homes; views = set s.views id v }
+  skip_kept = ended s.words v.end (subst (λ q. Meets q k.chain (reverse (events k.history))) same_machine k.meets) refl (linkeds_same s k id v (k.linked id v at named))
+    where
+      same_machine : core s k ≡ machine_of k.cell s.words (set s.views id v)
+      same_machine i = record {
+        head = word.head s.words;
+        right = word.right s.words;
+        count = length s.words - LINKS;
+        next = λ r. link_of (word.next s.words r);
+        cell = k.cell;
+        party = same_parties v.end i;
+      }
+
+module _ {E : Type 0} where
+  pub ties : (slots id i n : ℕ) (me : SeatState E) (before : List ℕ) (r : ℕ) → i ≡ LINKS + r → me.0.free ≡ before ++ r ∷ [] → r < slots → me.0.known.share ≢ [] → Allows RuleHolds slots id me i (λ _. n) (λ _. play.after_tie (step slots i n 0 none) me n)
+  ties slots id i n me before r is free inside named s k deep at fits =
+      let same : LINKS + r ≡ i = omega arith in
+      let w : View E = record me.0 { end = n } in
+      let near : r < length s.homes = omega arith in (
+        w,
+        keeps,
+        tt,
+        subst (λ q. RuleHolds record { words = set s.words q n; homes = s.homes; views = set s.views id w }) same (tied_kept s k id me.0 at named before r n free near),
+        (refl, refl),
+      )
+
+  pub skips : (slots id i : ℕ) (me : SeatState E) → me.0.known.share ≢ [] → Allows RuleHolds slots id me i (λ n. n) (play.after_skip (step slots i 0 0 none) me)
+  skips slots id i me named s k deep at fits = (
+    me.0,
+    keeps,
+    tt,
+    subst (λ ws. RuleHolds record { words = ws; homes = s.homes; views = set s.views id me.0 }) (sym (set-get_or s.words i 0)) (skip_kept s k id me.0 at named),
+    λ before after r free is. (refl, ap (λ n. get_or s.words n 0) is ∙ links_at s.words before after r me.0.end (subst (λ l. Links s.words l me.0.end) free (k.linked id me.0 at named).0)),
+  )
