@@ -26,12 +26,6 @@ exchange-requires g c =
     let none : Option g.row.E.Denot = None in
     (search rules, (none, z.2 ∙ ap (λ l. (c.args.room, none) ∷ rest l) (sym z.2)))
 
-pub unreachable-requires : goal.unreachable-requires
-unreachable-requires g c =
-    let r = c.requires.room in
-    let z = c.load-next.ensures.2 c.args.room r.0 r.1 in
-    c.in_default.not-None (ap hand_of (sym c.exchange.ensures.2 ∙ z.2))
-
 pub returns-clause-filled : goal.returns-clause-filled
 returns-clause-filled g c =
     let room = c.args.room in
