@@ -12,6 +12,7 @@ use crate::shared::spare::Spare;
 use crate::shared::table::{Chosen, PartySeat, Words};
 use cordyceps_shared::layout::{HEAD, LINKS, RIGHT};
 use std::marker::Brand;
+use std::mem;
 
 /// Makes a free room's link null and takes the room's slot, before this element is put in. Returns what the link was,
 /// which leads to the next free room.
@@ -31,7 +32,8 @@ fn clear<E: Drop, B: Chosen<E>>(
     words.swap::<Clear<B>>(seat, LINKS + room, 0)
 }
 
-/// Puts the element into the slot, makes its room the head, and returns the old head.
+/// Puts the element into the slot, makes its room the head, and returns the old head. The slot was empty, so nothing has
+/// to be dropped, and it is not read.
 fn swap_in<E: Drop>(words: &Words<E>, seat: &mut PartySeat<E>, room: usize, item: E) -> u64
     requires table { IsSeatOf seat.old.table_id words.now.table_id }
     requires stage { ((view seat.old.me).stage ≡ Cleared room) × ((view seat.old.me).item ≡ Some item)
@@ -41,9 +43,7 @@ fn swap_in<E: Drop>(words: &Words<E>, seat: &mut PartySeat<E>, room: usize, item
     ensures table { seat.new.table_id ≡ seat.old.table_id }
     ensures swapped { IsSwapped words.now.table_id.slots room result item seat.old.me seat.new.me }
 {
-    let None = words.exchange(seat, room, Some(item)) else {
-        unreachable!()
-    };
+    mem::forget(words.exchange(seat, room, Some(item)));
     words.swap::<Swap>(seat, HEAD, room as u64)
 }
 

@@ -21,7 +21,7 @@ use std::mem;
 use std::sync::Wait;
 
 /// Takes the slot of the first free room and fills it. Returns the room's link, which leads to the next free room. The
-/// slot was empty, so nothing has to be dropped, and what it had is not even read: another processor may have it still.
+/// slot was empty, so nothing has to be dropped, and it is not read.
 fn fill<E: Drop>(words: &Words<E>, seat: &mut PartySeat<E>, room: usize, item: E) -> u64
     requires table { IsSeatOf seat.old.table_id words.now.table_id }
     requires rest { IsResting words.now.table_id.slots seat.old.me }
