@@ -21,3 +21,9 @@ store-requires g c =
     let table = c.requires.table in
     let near = l.2 in
     (search rules, search rules, ties _ _ _ _ _ l.0 c.args.spare.now.rooms.last refl l.1 l.2 t.named)
+
+pub returns-then-spare-eq0-clause-first : goal.returns-then-spare-eq0-clause-first
+returns-then-spare-eq0-clause-first g c = search rules
+
+pub returns-else-spare-at-clause-tied : goal.returns-else-spare-at-clause-tied
+returns-else-spare-at-clause-tied g c = search rules

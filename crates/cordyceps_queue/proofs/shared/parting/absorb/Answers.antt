@@ -13,3 +13,6 @@ load-requires g c =
     let view = c.append.ensures.relinked.view in
     let t = c.requires.table in
     (search rules, search rules, learns _ _ _ c.append.new.seat.me.0 c.args.other.me.0 (ap (λ m. m.0) c.join_seat.ensures.2) (λ e. c.requires.rest.0.3 (ap (λ v. v.known.share) (sym view) ∙ e)))
+
+pub returns-clause-tracks : goal.returns-clause-tracks
+returns-clause-tracks g c = search rules
