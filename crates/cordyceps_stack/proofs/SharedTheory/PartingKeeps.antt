@@ -16,7 +16,7 @@ use Rattle.cordyceps_shared.proofs.Renaming.{renamed_else, relabel, events_relab
 use Rattle.cordyceps_shared.proofs.Standing as seats
 use Rattle.cordyceps_shared.proofs.Telling.{owned_same, fits_forgot}
 use Rattle.cordyceps_stack.specs.History.{Event, Load, Taken, held, Legal, actor, SomeChange}
-use Rattle.cordyceps_stack.specs.Shared.View.{Idle, View, knows, newcomer, at_work, count_with_party}
+use Rattle.cordyceps_stack.specs.Shared.View.{Idle, View, knows, newcomer, kept_rooms, at_work, count_with_party}
 use Rattle.cordyceps_stack.specs.Shared.Words.{History, Since, AtDoing, AreNew}
 use Rattle.cordyceps_shared.proofs.FreeLinks.{links_below, links_drop, links_take, links_append}
 use Rattle.cordyceps_shared.specs.Slots.{Homes, EmptyAtHome}
@@ -48,6 +48,7 @@ module _ (E : Type 0) where
         wide = new.wide ∙ ap (λ n. LINKS + n) (sym (length-map (replicate rooms None) some ∙ length-replicate rooms None));
         full = tt;
         empty = λ j v e. subst (λ (z : View E). let homes : Homes E = map some (replicate rooms None) in EmptyAtHome homes z.free.rooms) (seats.only first v j e).1 (empty_new rooms (below rooms) (at_below rooms));
+        kept = λ j v e. subst (λ (z : View E). let homes : Homes E = map some (replicate rooms None) in EmptyAtHome homes (kept_rooms z.doing)) (seats.only first v j e).1 (λ i r a. absurd a);
         fits = known.1;
         owned = known.0;
       }
@@ -65,6 +66,7 @@ module _ {E : Type 0} where
         wide = k.wide;
         full = k.full;
         empty = set_more (λ _ u. EmptyAtHome s.homes u.free.rooms) s.views id left right (empty_drop s.homes n v.free.rooms (k.empty id v at)) (empty_take s.homes n v.free.rooms (k.empty id v at)) (λ i u _ e. k.empty i u e);
+        kept = set_more (λ _ u. EmptyAtHome s.homes (kept_rooms u.doing)) s.views id left right (k.kept id v at) (λ i r a. absurd a) (λ i u _ e. k.kept i u e);
         fits = fits_cut actor knows s.views k.history id v left right at refl refl k.owned k.fits;
         owned = owned_cut knows s.views k.history id v left right at refl refl named k.owned;
       }
@@ -104,6 +106,7 @@ module _ {E : Type 0} where
         wide = k.wide;
         full = k.full;
         empty = two_set (λ _ u. EmptyAtHome s.homes u.free.rooms) s.views id other (view_absorbing v w) view_absorbed (empty_append s.homes v.free.rooms w.free.rooms (k.empty id v at) (k.empty other w there_first)) (λ i r a. absurd a) (λ i u _ _ e. k.empty i u e);
+        kept = two_set (λ _ u. EmptyAtHome s.homes (kept_rooms u.doing)) s.views id other (view_absorbing v w) view_absorbed (λ i r a. absurd a) (λ i r a. absurd a) (λ i u _ _ e. k.kept i u e);
         fits = fits_join actor knows s.views k.history id other v w (view_absorbing v w) view_absorbed at apart there refl refl k.fits;
         owned = owned_join knows s.views k.history id other v w (view_absorbing v w) view_absorbed at apart there refl refl named k.owned;
       }
@@ -118,7 +121,7 @@ module _ {E : Type 0} where
         keeps,
         tt,
         unwritten s HEAD s.homes (set s.views id w)
-            (step_keeps s k id v w s.words s.homes k.chain k.history at meets refl refl k.full (k.empty id v at) (λ _ _ _ _ _ _. refl)
+            (step_keeps s k id v w s.words s.homes k.chain k.history at meets refl refl k.full (k.empty id v at) (k.kept id v at) (λ _ _ _ _ _ _. refl)
             (fits_forgot actor knows s.views k.history id v w at refl refl refl k.fits) (owned_same knows s.views k.history id v w at refl k.owned)),
         (refl, refl, seats.is_known actor knows (λ z. Legal z) legal_front s.views k.history id v k.owned k.fits at k.meets.legal, omega arith),
       )

@@ -1,21 +1,25 @@
 -- What the parts of a call come to together.
-use Rattle.std.proofs.Common.{◌≡◌, ◌↔◌, ◌⊎◌, ℕ, suc, ◌-◌, ◌<◌, ◌≤◌, List, [], ◌∷◌, ◌++◌, length, replicate, Bool, true, cond, eqb, refl, sym, ap, ◌∙◌, subst, inl, inr, arith, append-nil, eq-eqb, Option, Some, None}
+use Rattle.std.proofs.Common.{◌≡◌, ◌≢◌, ◌↔◌, ◌⊎◌, ℕ, suc, ◌+◌, ◌-◌, ◌<◌, ◌≤◌, List, [], ◌∷◌, ◌++◌, length, replicate, Bool, true, cond, eqb, refl, sym, ap, ◌∙◌, subst, inl, inr, arith, append-nil, length-append, eq-eqb, Option, Some, None}
 use Rattle.std.proofs.lemmas.Bool.{eqb-true}
 use Rattle.std.specs.Prelude.{IsTrue}
-use Rattle.cordyceps_shared.specs.FreeChains.{Tracks, FreeChain, leads, with_first}
+use Rattle.cordyceps_shared.specs.FreeChains.{Tracks, FreeChain, leads, with_first, joined}
 use Rattle.cordyceps_shared.specs.Histories.{plain, own, AllOwn}
 use Rattle.cordyceps_shared.specs.Knowing.{Known, Grown}
 use Rattle.cordyceps_shared.specs.Places.{ItemAt}
 use Rattle.cordyceps_shared.specs.Shares.{Name, first_name}
 use Rattle.cordyceps_shared.proofs.Adding.{replicate_more, tail_own}
+use Rattle.cordyceps_shared.proofs.Places.{near_append}
 use Rattle.cordyceps_shared.proofs.Telling.{grown_then}
-use Rattle.cordyceps_stack.specs.History.{Event, Load, Push, Legal, SomeChange, actor}
+use Rattle.cordyceps_shared.proofs.TrackRooms.{more_than_none}
+use Rattle.cordyceps_stack.specs.History.{Event, Load, Push, Taken, Legal, SomeChange, actor}
+use Rattle.cordyceps_stack.specs.Cores.Stages.{room_elements}
 use Rattle.cordyceps_stack.specs.Shared.Plays.{SeatState, Sees, carry, NearChain, IsResting, IsReady, IsWalking, to_hand_out}
 use Rattle.cordyceps_shared.specs.Slots.{Near}
-use Rattle.cordyceps_stack.specs.Shared.Parts.{IsFilled, HasMissed, HasPushed, SettlesAt, Relinked}
+use Rattle.cordyceps_stack.specs.Shared.Parts.{IsFilled, HasMissed, HasPushed, SettlesAt, HasTaken, TookAll, Followed, EmptiesHand}
 use Rattle.cordyceps_shared.specs.declared.free.FreeRooms.{FreeRooms}
 use Rattle.cordyceps_stack.specs.Shared.Calls.{EndsPushed, EndsLooked, IsOvertaken}
-use Rattle.cordyceps_stack.specs.Shared.View.{Doing, Idle, Walking, View, name, walk_through}
+use Rattle.cordyceps_stack.specs.Shared.View.{Doing, Idle, Walking, View, name, walked_through, walk_through}
+use Rattle.cordyceps_stack.specs.Shared.View.{taking, free_taking, had_free}
 use Rattle.cordyceps_stack.specs.Shared.Words.{start}
 
 pub is_zero : (n : ℕ) → (n ≡ 0) ↔ IsTrue (eqb n 0)
@@ -145,35 +149,134 @@ module _ {E : Type 0} where
   pub not_overtaken : (seen : List (Bool × Event Name E)) → AllOwn seen → IsOvertaken seen → ⊥
   not_overtaken seen a m = no_change m.later (tail_own m.before ((true, Load m.load) ∷ m.later) (subst (λ z. AllOwn z) m.is a)).1 m.others m.changed
 
+module _ (E : Type 0) where
+  -- what a party does that has handed out all
+  batch_walked : (rooms : List ℕ) (end : ℕ) → (let d : Doing E = walked_through rooms end in to_hand_out d) ≡ []
+  batch_walked [] end = refl
+  batch_walked (r ∷ rooms) end = refl
+
+  none_else : (rooms : List ℕ) (end : ℕ) → rooms ≡ [] → (let d : Doing E = walked_through rooms end in d) ≡ Idle
+  none_else [] end e = refl
+  none_else (r ∷ rooms) end e = absurd (cc)
+
+  some_else : (rooms : List ℕ) (end : ℕ) → 0 < length rooms → (let d : Doing E = walked_through rooms end in d) ≡ Walking record { rooms = rooms; end = end } []
+  some_else [] end e = absurd (omega arith)
+  some_else (r ∷ rooms) end e = refl
+
+module _ {E : Type 0} where
   -- ---- handing out
-  pub batch_walking : (xs : List (ℕ × E)) → to_hand_out (walk_through xs) ≡ xs
-  batch_walking [] = refl
-  batch_walking (x ∷ xs) = refl
+  pub batch_walking : (kept : FreeChain) (xs : List (ℕ × E)) → to_hand_out (walk_through kept xs) ≡ xs
+  batch_walking kept [] = batch_walked E kept.rooms kept.end
+  batch_walking kept (x ∷ xs) = refl
+
+  pub batch_taking : (had : FreeChain) (xs : List (ℕ × E)) → to_hand_out (taking had xs) ≡ xs
+  batch_taking had [] = refl
+  batch_taking had (x ∷ xs) = refl
+
+  pub had_taking : (had : FreeChain) (xs : List (ℕ × E)) → had_free (taking had xs) (free_taking had xs) ≡ had
+  had_taking had [] = refl
+  had_taking had (x ∷ xs) = refl
+
+  had_walking : (kept free : FreeChain) (xs : List (ℕ × E)) → start xs ≢ 0 → had_free (walk_through kept xs) free ≡ kept
+  had_walking kept free [] more = absurd (more refl)
+  had_walking kept free (x ∷ xs) more = refl
 
   -- the next room to be handed out
-  pub record Next (slots room : ℕ) (m : SeatState E) : Type 0 where
+  pub record Next (slots : ℕ) (kept : FreeChain) (room : ℕ) (m : SeatState E) : Type 0 where
     pub here : ℕ × E
     pub others : List (ℕ × E)
-    pub doing : m.0.doing ≡ Walking (here ∷ others)
+    pub doing : m.0.doing ≡ Walking kept (here ∷ others)
     pub hand : m.1 ≡ (here.0, Some here.1) ∷ carry others []
     pub inside : here.0 < slots
     pub near : NearChain slots others
     pub free : Near slots m.0.free.rooms
+    pub aside : Near slots kept.rooms
     pub index : room ≡ here.0
 
-  next_from : (slots room : ℕ) (m : SeatState E) (xs : List (ℕ × E)) → IsWalking slots xs m → suc room ≡ start xs → Next slots room m
-  next_from slots room m [] w e = absurd (omega arith)
-  next_from slots room m (x ∷ xs) w e = record { here = x; others = xs; doing = w.0; hand = w.1; inside = w.2.0; near = w.2.1; free = w.4; index = omega arith }
+  next_from : (slots : ℕ) (kept : FreeChain) (room : ℕ) (m : SeatState E) (xs : List (ℕ × E)) → IsWalking slots kept xs m → suc room ≡ start xs → Next slots kept room m
+  next_from slots kept room m [] w e = absurd (omega arith)
+  next_from slots kept room m (x ∷ xs) w e = record { here = x; others = xs; doing = w.0; hand = w.1; inside = w.2.0; near = w.2.1; free = w.4; aside = w.5; index = omega arith }
 
-  pub next_of : (slots room : ℕ) (m : SeatState E) → IsWalking slots (to_hand_out m.0.doing) m → suc room ≡ start (to_hand_out m.0.doing) → Next slots room m
-  next_of slots room m w e = next_from slots room m (to_hand_out m.0.doing) w e
+  pub next_of : (slots : ℕ) (kept : FreeChain) (room : ℕ) (m : SeatState E) → IsWalking slots kept (to_hand_out m.0.doing) m → suc room ≡ start (to_hand_out m.0.doing) → Next slots kept room m
+  next_of slots kept room m w e = next_from slots kept room m (to_hand_out m.0.doing) w e
 
-  pub walking_on : (slots : ℕ) (m k : SeatState E) → Relinked m k → IsWalking slots (to_hand_out m.0.doing) m → IsWalking slots (to_hand_out k.0.doing) k
-  walking_on slots m k r w =
-      let now : IsWalking slots (to_hand_out m.0.doing) k = (
-        r.doing ∙ w.0,
-        r.hand ∙ w.1,
-        w.2,
-        (λ e. w.3 (sym (ap (λ (p : Known (Event Name E)). p.share) r.known) ∙ e)),
-        subst (λ l. Near slots l) (sym r.rooms) w.4,
-      ) in subst (λ (d : Doing E). IsWalking slots (to_hand_out d) k) (sym r.doing) now
+  -- ---- after the walk
+  -- where no room was kept aside, the party rests
+  pub followed_none : (slots : ℕ) (kept : FreeChain) (m : SeatState E) → IsWalking slots kept [] m → kept.rooms ≡ [] → Followed slots kept m m
+  followed_none slots kept m w none = record {
+    rests = (w.0 ∙ none_else E kept.rooms kept.end none, w.1, w.3, w.4);
+    known = refl;
+    rooms = ap (λ l. l ++ m.0.free.rooms) (sym none);
+  }
+
+  -- otherwise it has yet to tie them
+  pub to_tie : (slots : ℕ) (kept : FreeChain) (m : SeatState E) → IsWalking slots kept [] m → 0 < length kept.rooms → m.0.doing ≡ Walking kept []
+  to_tie slots kept m w some_of = w.0 ∙ some_else E kept.rooms kept.end some_of
+
+  pub followed_some : (slots n : ℕ) (kept : FreeChain) (m k : SeatState E) → IsWalking slots kept [] m → k.0 ≡ record m.0 { doing = Idle; free = joined (record kept { end = n }) m.0.free } → k.1 ≡ m.1 → Followed slots kept m k
+  followed_some slots n kept m k w view hand =
+      let rooms = ap (λ v. v.free.rooms) view in record {
+        rests = (
+          ap (λ v. v.doing) view,
+          hand ∙ w.1,
+          (λ e. w.3 (sym (ap (λ v. v.known.share) view) ∙ e)),
+          subst (λ l. Near slots l) (sym rooms) (near_append slots kept.rooms m.0.free.rooms w.5 w.4),
+        );
+        known = ap (λ v. v.known) view;
+        rooms = rooms;
+      }
+
+  -- ---- taking all
+  taken_by : (slots found : ℕ) (m k : SeatState E) (chain : List (ℕ × E)) → IsResting slots m → found ≡ start chain → k.0.doing ≡ taking m.0.free chain → k.0.free ≡ free_taking m.0.free chain → k.1 ≡ carry chain [] → NearChain slots chain → k.0.known.share ≢ []
+      → HasTaken slots found k
+  taken_by slots found m k [] rests is doing free hand near named = record {
+    at_is = is ∙ ap (λ d. start (to_hand_out d)) (sym doing);
+    none = λ _. (doing, hand, named, subst (λ l. Near slots l.rooms) (sym free) rests.3);
+    some_of = λ other. absurd (other is);
+  }
+  taken_by slots found m k (x ∷ xs) rests is doing free hand near named = record {
+    at_is = is ∙ ap (λ d. start (to_hand_out d)) (sym doing);
+    none = λ e. absurd (omega arith);
+    some_of = λ _.
+        let rooms = ap (λ l. l.rooms) free in
+        let now : IsWalking slots m.0.free (x ∷ xs) k = (doing, hand, near, named, subst (λ l. Near slots l) (sym rooms) (λ _ _ a. absurd a), rests.3) in
+        (subst (λ (d : Doing E). IsWalking slots (had_free d k.0.free) (to_hand_out d) k) (sym doing) now, rooms);
+  }
+
+  pub took_all : (slots found : ℕ) (m k : SeatState E) (chain : List (ℕ × E)) → IsResting slots m → found ≡ start chain → k.0.doing ≡ taking m.0.free chain → k.0.free ≡ free_taking m.0.free chain → k.1 ≡ carry chain m.1 → NearChain slots chain
+      → Sees m.0 (Taken (name m.0) (room_elements chain) ∷ []) k.0 → TookAll slots found m k
+  took_all slots found m k chain rests is doing free hand near sees =
+      let batch : to_hand_out k.0.doing ≡ chain = ap to_hand_out doing ∙ batch_taking m.0.free chain in record {
+        taken = taken_by slots found m k chain rests is doing free (hand ∙ ap (λ cs. carry chain cs) rests.1) near (λ e. rests.2 (sym sees.share ∙ e));
+        free = (λ i. had_free (doing i) (free i)) ∙ had_taking m.0.free chain;
+        sees = subst (λ (xs : List (ℕ × E)). Sees m.0 (Taken (name m.0) (room_elements xs) ∷ []) k.0) (sym batch) sees;
+      }
+
+  -- ---- handing out all
+  -- what a party kept aside that has more to hand out
+  pub had_kept : (kept : FreeChain) (m : SeatState E) → m.0.doing ≡ walk_through kept (to_hand_out m.0.doing) → start (to_hand_out m.0.doing) ≢ 0 → had_free m.0.doing m.0.free ≡ kept
+  had_kept kept m is more = ap (λ (d : Doing E). had_free d m.0.free) is ∙ had_walking kept m.0.free (to_hand_out m.0.doing) more
+
+  pub starts_nowhere : (xs : List (ℕ × E)) → start xs ≡ 0 → xs ≡ []
+  starts_nowhere [] e = refl
+  starts_nowhere (x ∷ xs) e = absurd (omega arith)
+
+  -- the walk is over
+  pub walk_over : (slots slots' : ℕ) (kept : FreeChain) (m : SeatState E) → IsWalking slots kept (to_hand_out m.0.doing) m → start (to_hand_out m.0.doing) ≡ 0 → slots ≡ slots' → IsWalking slots' kept [] m
+  walk_over slots slots' kept m w e same = subst (λ (p : ℕ × List (ℕ × E)). IsWalking p.0 kept p.1 m) (λ i. (same i, starts_nowhere (to_hand_out m.0.doing) e i)) w
+
+  pub handed_out : (slots : ℕ) (m w k : SeatState E) → Followed slots (had_free m.0.doing m.0.free) w k → w.0.known ≡ m.0.known → length w.0.free.rooms ≡ length (to_hand_out m.0.doing) → EmptiesHand slots m k
+  handed_out slots m w k f known long =
+      let kept = had_free m.0.doing m.0.free in record {
+        rests = f.rests;
+        known = f.known ∙ known;
+        free = ap (λ (l : List ℕ). length l) f.rooms ∙ (length-append kept.rooms w.0.free.rooms ∙ ap (λ n. length kept.rooms + n) long);
+      }
+
+-- what it has of no rooms
+pub tracks_none : (first last : ℕ) (free : FreeChain) → free.rooms ≡ [] → Tracks record { first = first; last = last; count = 0 } free
+tracks_none first last free none = record {
+  count = ap (λ (l : List ℕ). length l) (sym none);
+  first = λ r rs e. let no = sym none ∙ e in absurd (cc);
+  last = λ before r e. absurd (more_than_none before r (sym e ∙ none));
+}

@@ -1,5 +1,5 @@
 -- Each step of a party keeps the rule of a transfer stack's table.
-use Rattle.std.proofs.Common.{◌≡◌, ◌≢◌, ◌↔◌, ℕ, suc, ◌+◌, ◌≤◌, ◌<◌, List, [], ◌∷◌, ◌++◌, reverse, length, set, get_or, eqb, refl, sym, ap, ◌∙◌, subst, ⊎_elim, arith, append-nil, eq-eqb, ne_eqb, length-set, Option, Some, None}
+use Rattle.std.proofs.Common.{◌≡◌, ◌≢◌, ◌↔◌, ℕ, suc, ◌+◌, ◌≤◌, ◌<◌, List, [], ◌∷◌, ◌++◌, reverse, length, set, get_or, eqb, refl, sym, ap, ◌∙◌, subst, inr, ⊎_elim, arith, append-nil, eq-eqb, ne_eqb, length-set, Option, Some, None}
 use Rattle.std.proofs.lemmas.List.{reverse-reverse}
 use mathlib.Core.Option.{some, none}
 use mathlib.Core.Option as maybe
@@ -11,7 +11,7 @@ use prog.Atomic.{either}
 use Rattle.atomic_table.specs.Table.{State, step, Act, keeps, takes, gives, stepped, homes_after, carried_after, Valid, rest, Allows}
 use Rattle.atomic_table.specs.Table as table
 use Rattle.atomic_table.proofs.Lists.{set_here, set_else}
-use Rattle.cordyceps_shared.specs.FreeChains.{FreeChain, leads, with_first, with_last, IsTied, Links}
+use Rattle.cordyceps_shared.specs.FreeChains.{FreeChain, leads, with_first, with_last, joined, IsTied, Links}
 use Rattle.cordyceps_shared.specs.Counts.{one_if, times}
 use Rattle.cordyceps_shared.specs.Histories.{events, with_marks, plain, of_seat}
 use Rattle.cordyceps_shared.specs.Knowing.{Known, Under, SharesDisjoint, AllAgree, all_seen}
@@ -27,10 +27,11 @@ use Rattle.cordyceps_shared.proofs.Seeing.{marked_append, plain_marked, own_with
 use Rattle.cordyceps_shared.proofs.Telling.{at_length, owned_same, fits_same, tells}
 use Rattle.cordyceps_stack.specs.History.{Event, Load, Push, Taken, held, Legal, actor, SomeChange}
 use Rattle.cordyceps_stack.specs.Cores.Stages.{room_elements}
-use Rattle.cordyceps_stack.specs.Shared.View.{Doing, Idle, Ready, Loaded, Set, Walking, View, knows, name, walk_through, in_chain, at_work}
+use Rattle.cordyceps_stack.specs.Shared.View.{Doing, Idle, Ready, Loaded, Set, Walking, View, knows, name, walk_through, walked_through}
+use Rattle.cordyceps_stack.specs.Shared.View.{taking, free_taking, kept_rooms, had_free, in_chain, at_work}
 use Rattle.cordyceps_stack.specs.Shared.View.{count_with_party}
 use Rattle.cordyceps_stack.specs.Shared.Words.{History, start, Since, AtDoing, WordsMeet}
-use Rattle.cordyceps_shared.proofs.FreeLinks.{links_at, links_retied}
+use Rattle.cordyceps_shared.proofs.FreeLinks.{links_at, links_retied, links_append}
 use Rattle.cordyceps_shared.specs.Slots.{Homes, Hand, TableStep, EmptyAtHome}
 use Rattle.cordyceps_stack.specs.Shared.Rule.{TableState, FullAtHome, RuleHolds}
 use Rattle.cordyceps_stack.specs.Shared.Plays.{SeatState, Sees, carry, NearChain, to_hand_out}
@@ -83,6 +84,14 @@ module _ {E : Type 0} where
   pub empty_frame : (homes homes' : Homes E) (free : List ℕ) → ((r : ℕ) → 1 ≤ times r free → get_elem? homes' r ≡ get_elem? homes r) → EmptyAtHome homes free → EmptyAtHome homes' free
   empty_frame homes homes' free same f i r a = same r (times_some r free i a) ∙ f i r a
 
+  -- a room that is kept aside is one that the party works with
+  kept_counted : (r : ℕ) (d : Doing E) → times r (kept_rooms d) ≤ at_work r d
+  kept_counted r Idle = omega arith
+  kept_counted r (Ready s) = omega arith
+  kept_counted r (Loaded s read) = omega arith
+  kept_counted r (Set s read) = omega arith
+  kept_counted r (Walking kept xs) = omega arith
+
   -- ---- what a step keeps
   -- the party j sees all, and adds these events
   told : (s : TableState E) (k : RuleHolds s) (j : ℕ) (es : List (Event Name E)) (v w : View E) (h : History E) → get_elem? s.views j ≡ some v → v.known.share ≢ [] → Under actor (name v) es → h ≡ k.history ++ of_seat j es
@@ -99,17 +108,18 @@ module _ {E : Type 0} where
   )
 
   pub step_keeps : (s : TableState E) (k : RuleHolds s) (j : ℕ) (v w : View E) (words : List ℕ) (homes : Homes E) (chain : List (ℕ × E)) (h : History E) → get_elem? s.views j ≡ some v
-      → WordsMeet words chain (set s.views j w) h → length words ≡ length s.words → length homes ≡ length s.homes → FullAtHome homes chain → EmptyAtHome homes w.free.rooms
-      → ((i : ℕ) (u : View E) (r : ℕ) → i ≢ j → get_elem? s.views i ≡ some u → 1 ≤ times r u.free.rooms → get_elem? homes r ≡ get_elem? s.homes r)
+      → WordsMeet words chain (set s.views j w) h → length words ≡ length s.words → length homes ≡ length s.homes → FullAtHome homes chain → EmptyAtHome homes w.free.rooms → EmptyAtHome homes (kept_rooms w.doing)
+      → ((i : ℕ) (u : View E) (r : ℕ) → i ≢ j → get_elem? s.views i ≡ some u → 1 ≤ count_with_party r u → get_elem? homes r ≡ get_elem? s.homes r)
       → AllAgree actor knows (set s.views j w) h → SharesDisjoint knows (set s.views j w) h
       → RuleHolds record { words = words; homes = homes; views = set s.views j w }
-  step_keeps s k j v w words homes chain h at meets wide deep full empty same fits owned = record {
+  step_keeps s k j v w words homes chain h at meets wide deep full empty kept same fits owned = record {
     history = h;
     chain = chain;
     meets = meets;
     wide = wide ∙ (k.wide ∙ ap (λ n. LINKS + n) (sym deep));
     full = full;
-    empty = one_set (λ _ u. EmptyAtHome homes u.free.rooms) s.views j w empty (λ i u ne e. empty_frame s.homes homes u.free.rooms (λ r m. same i u r ne e m) (k.empty i u e));
+    empty = one_set (λ _ u. EmptyAtHome homes u.free.rooms) s.views j w empty (λ i u ne e. empty_frame s.homes homes u.free.rooms (λ r m. same i u r ne e (omega arith)) (k.empty i u e));
+    kept = one_set (λ _ u. EmptyAtHome homes (kept_rooms u.doing)) s.views j w kept (λ i u ne e. empty_frame s.homes homes (kept_rooms u.doing) (λ r m. same i u r ne e (omega (arith, kept_counted r u.doing))) (k.kept i u e));
     fits = fits;
     owned = owned;
   }
@@ -133,10 +143,10 @@ module _ {E : Type 0} where
 
   -- the slot of a room that the party j has changes
   slot_moves : (s : TableState E) (k : RuleHolds s) (j : ℕ) (v : View E) (r : ℕ) (y : maybe.Option (Option E)) → get_elem? s.views j ≡ some v → 1 ≤ count_with_party r v
-      → FullAtHome (set s.homes r y) k.chain × ((i : ℕ) (u : View E) (q : ℕ) → i ≢ j → get_elem? s.views i ≡ some u → 1 ≤ times q u.free.rooms → get_elem? (set s.homes r y) q ≡ get_elem? s.homes q)
+      → FullAtHome (set s.homes r y) k.chain × ((i : ℕ) (u : View E) (q : ℕ) → i ≢ j → get_elem? s.views i ≡ some u → 1 ≤ count_with_party q u → get_elem? (set s.homes r y) q ≡ get_elem? s.homes q)
   slot_moves s k j v r y at one = (
     full_frame s.homes (set s.homes r y) k.chain (λ q m. set_else s.homes r q y (rooms_differ (λ z. in_chain z k.chain) r q (alone s k j v r at one) m)) k.full,
-    λ i u q other there m. set_else s.homes r q y (rooms_differ (λ z. count_with_party z u) r q (alone_of s k j i v u r at other there one) (omega arith)),
+    λ i u q other there m. set_else s.homes r q y (rooms_differ (λ z. count_with_party z u) r q (alone_of s k j i v u r at other there one) m),
   )
 
   -- the slot of a room that is none of these
@@ -159,7 +169,7 @@ module _ {E : Type 0} where
         w,
         keeps,
         tt,
-        unwritten s HEAD s.homes (set s.views id w) (step_keeps s k id v w s.words s.homes k.chain h at meets refl refl k.full (k.empty id v at) (λ _ _ _ _ _ _. refl) t.1 t.0),
+        unwritten s HEAD s.homes (set s.views id w) (step_keeps s k id v w s.words s.homes k.chain h at meets refl refl k.full (k.empty id v at) (λ _ _ a. absurd a) (λ _ _ _ _ _ _. refl) t.1 t.0),
         (
           sym idle,
           refl,
@@ -191,7 +201,7 @@ module _ {E : Type 0} where
         takes r None,
         empty 0 r refl,
         unwritten s i (set s.homes r none) (set s.views id w)
-            (step_keeps s k id v w s.words (set s.homes r none) k.chain k.history at meets refl (length-set s.homes r none) moves.0 (empty_else s.homes r none rs alone_in (λ i. empty (suc i))) moves.1 t.1 t.0),
+            (step_keeps s k id v w s.words (set s.homes r none) k.chain k.history at meets refl (length-set s.homes r none) moves.0 (empty_else s.homes r none rs alone_in (λ i. empty (suc i))) (λ _ _ a. absurd a) moves.1 t.1 t.0),
         λ r' rs' free'. let same = sym free ∙ free' in
             let inside = at_length s.homes r (some None) (empty 0 r refl) in
             let first = ap (first_or 0) same in
@@ -216,7 +226,7 @@ module _ {E : Type 0} where
         w,
         keeps,
         tt,
-        unwritten s HEAD s.homes (set s.views id w) (step_keeps s k id v w s.words s.homes k.chain h at meets refl refl k.full (k.empty id v at) (λ _ _ _ _ _ _. refl) t.1 t.0),
+        unwritten s HEAD s.homes (set s.views id w) (step_keeps s k id v w s.words s.homes k.chain h at meets refl refl k.full (k.empty id v at) (λ _ _ a. absurd a) (λ _ _ _ _ _ _. refl) t.1 t.0),
         λ r' ready'. (ap (λ p. let d : Doing E = Loaded (room_of p) read in d) (sym ready ∙ ready'), refl, refl, t.2),
       )
 
@@ -231,7 +241,7 @@ module _ {E : Type 0} where
         keeps,
         tt,
         subst (λ (q : ℕ). RuleHolds record { words = set s.words q read; homes = s.homes; views = set s.views id w }) (sym is)
-            (step_keeps s k id v w (set s.words (LINKS + r) read) s.homes k.chain k.history at meets (length-set s.words (LINKS + r) read) refl k.full (k.empty id v at) (λ _ _ _ _ _ _. refl) t.1 t.0),
+            (step_keeps s k id v w (set s.words (LINKS + r) read) s.homes k.chain k.history at meets (length-set s.words (LINKS + r) read) refl k.full (k.empty id v at) (λ _ _ a. absurd a) (λ _ _ _ _ _ _. refl) t.1 t.0),
         λ r' read' doing'. let same = sym doing ∙ doing' in (ap (λ p. let z : View E = record v { doing = set_of p } in z) same, refl),
       )
 
@@ -272,7 +282,7 @@ module _ {E : Type 0} where
       let moves = slot_moves s k id v r y at mine in
       let t = told s k id (e ∷ []) v w h at poised.named (refl, tt) refl refl meets.legal in
       let kept = step_keeps s k id v w (set s.words HEAD (suc r)) (set s.homes r y) ((r, x) ∷ k.chain) h at meets (length-set s.words HEAD (suc r)) (length-set s.homes r y)
-      (set_here s.homes r y (omega arith), moves.0) (empty_else s.homes r y v.free.rooms none_free (k.empty id v at)) moves.1 t.1 t.0 in (
+      (set_here s.homes r y (omega arith), moves.0) (empty_else s.homes r y v.free.rooms none_free (k.empty id v at)) (λ _ _ a. absurd a) moves.1 t.1 t.0 in (
         w,
         gives,
         tt,
@@ -301,7 +311,7 @@ module _ {E : Type 0} where
         w,
         keeps,
         tt,
-        unwritten s HEAD s.homes (set s.views id w) (step_keeps s k id v w s.words s.homes k.chain h at meets refl refl k.full (k.empty id v at) (λ _ _ _ _ _ _. refl) t.1 t.0),
+        unwritten s HEAD s.homes (set s.views id w) (step_keeps s k id v w s.words s.homes k.chain h at meets refl refl k.full (k.empty id v at) (λ _ _ a. absurd a) (λ _ _ _ _ _ _. refl) t.1 t.0),
         refl,
         refl,
         refl,
@@ -360,7 +370,7 @@ module _ {E : Type 0} where
       let moves = slot_moves s k id v r y at mine in
       let t = untold s k id v w at refl in
       let kept = step_keeps s k id v w words (set s.homes r y) k.chain k.history at meets (length-set s.words (LINKS + r) n) (length-set s.homes r y) moves.0
-      (empty_cons (set s.homes r y) r v.free.rooms (set_here s.homes r y (omega arith)) (empty_else s.homes r y v.free.rooms none_free (k.empty id v at))) moves.1 t.1 t.0 in (
+      (empty_cons (set s.homes r y) r v.free.rooms (set_here s.homes r y (omega arith)) (empty_else s.homes r y v.free.rooms none_free (k.empty id v at))) (λ _ _ a. absurd a) moves.1 t.1 t.0 in (
         w,
         gives,
         tt,
@@ -390,8 +400,38 @@ module _ {E : Type 0} where
         keeps,
         tt,
         subst (λ q. RuleHolds record { words = set s.words q n; homes = s.homes; views = set s.views id w }) (sym is)
-            (step_keeps s k id v w words s.homes k.chain k.history at meets (length-set s.words (LINKS + r) n) refl k.full (k.empty id v at) (λ _ _ _ _ _ _. refl) t.1 t.0),
+            (step_keeps s k id v w words s.homes k.chain k.history at meets (length-set s.words (LINKS + r) n) refl k.full (k.empty id v at) (k.kept id v at) (λ _ _ _ _ _ _. refl) t.1 t.0),
         (refl, refl),
+      )
+
+  pub follows : (slots id i n : ℕ) (me : SeatState E) (kept : FreeChain) (before : List ℕ) (r : ℕ) → i ≡ LINKS + r → me.0.doing ≡ Walking kept [] → kept.rooms ≡ before ++ r ∷ [] → n ≡ leads me.0.free.rooms me.0.free.end
+      → r < slots → Allows RuleHolds slots id me i (λ _. n) (λ _. play.after_follow (step slots i n 0 none) me n)
+  follows slots id i n me kept before r is doing rooms leads_is inside s k deep at fits =
+      let v = me.0 in
+      let chain : FreeChain = record kept { end = n } in
+      let w : View E = record v { doing = Idle; free = joined chain v.free } in
+      let here = one_here r in
+      let wide = k.wide in
+      let was : (q : ℕ) → count_with_party q v ≡ times q v.free.rooms + (times q kept.rooms + 0) = λ q. ap (λ d. times q v.free.rooms + at_work q d) doing in
+      let count : times r kept.rooms ≡ times r before + 1 = ap (times r) rooms ∙ (tally_append (λ z. one_if (eqb z r)) before (r ∷ []) ∙ ap (λ q. times r before + (q + 0)) here) in
+      let mine : 1 ≤ count_with_party r v = let c = was r in omega arith in
+      let none_before : times r before ≡ 0 = let c = was r in let o = once s k id v r at in omega arith in
+      let none_free : times r v.free.rooms ≡ 0 = let c = was r in let o = once s k id v r at in omega arith in
+      let words = set s.words (LINKS + r) n in
+      let known : AtDoing s.words k.history id (Walking kept []) = subst (λ (d : Doing E). AtDoing s.words k.history id d) doing (k.meets.each id v at) in
+      let retied : Links words kept.rooms n = subst (λ l. Links words l n) (sym rooms) (links_retied s.words before r kept.end n none_before (omega arith) (subst (λ l. Links s.words l kept.end) rooms known.1)) in
+      let linked = links_append words kept.rooms v.free.rooms n v.free.end (inr (inr leads_is)) retied (linked_else s.words v.free.rooms v.free.end r n none_free (k.meets.linked id v at)) in
+      let meets = relinks s.words k.chain s.views k.history id v w r n k.meets at mine (λ q. let c = was q in let more = tally_append (λ z. one_if (eqb z q)) kept.rooms v.free.rooms in omega arith) tt linked in
+      let t = untold s k id v w at refl in
+      let empty = empty_append s.homes kept.rooms v.free.rooms (subst (λ (d : Doing E). EmptyAtHome s.homes (kept_rooms d)) doing (k.kept id v at)) (k.empty id v at) in
+      let holds = step_keeps s k id v w words s.homes k.chain k.history at meets (length-set s.words (LINKS + r) n) refl k.full empty (λ _ _ a. absurd a) (λ _ _ _ _ _ _. refl) t.1 t.0 in
+      let few = few_rooms record { words = words; homes = s.homes; views = set s.views id w } holds id w (set_here s.views id w (at_length s.views id v at)) in (
+        w,
+        keeps,
+        tt,
+        subst (λ q. RuleHolds record { words = set s.words q n; homes = s.homes; views = set s.views id w }) (sym is) holds,
+        λ kept' doing'. let same = ap (λ d. had_free d v.free) (sym doing ∙ doing') in
+            ((λ j. let u : View E = record v { doing = Idle; free = joined (record (same j) { end = n }) v.free } in u), refl, omega arith),
       )
 
   pub skips : (slots id i : ℕ) (me : SeatState E) → Allows RuleHolds slots id me i (λ n. n) (play.after_skip (step slots i 0 0 none) me)
@@ -402,7 +442,7 @@ module _ {E : Type 0} where
         v,
         keeps,
         tt,
-        unwritten s i s.homes (set s.views id v) (step_keeps s k id v v s.words s.homes k.chain k.history at meets refl refl k.full (k.empty id v at) (λ _ _ _ _ _ _. refl) t.1 t.0),
+        unwritten s i s.homes (set s.views id v) (step_keeps s k id v v s.words s.homes k.chain k.history at meets refl refl k.full (k.empty id v at) (k.kept id v at) (λ _ _ _ _ _ _. refl) t.1 t.0),
         λ before after r free is. (refl, ap (λ n. get_or s.words n 0) is ∙ links_at s.words before after r v.free.end (subst (λ l. Links s.words l v.free.end) free (k.meets.linked id v at))),
       )
 
@@ -439,55 +479,71 @@ module _ {E : Type 0} where
   near_all homes [] full = tt
   near_all homes (x ∷ xs) full = (at_length homes x.0 (some (Some x.1)) full.0, near_all homes xs full.1)
 
+  empty_taking : (homes : Homes E) (had : FreeChain) (xs : List (ℕ × E)) → EmptyAtHome homes had.rooms → EmptyAtHome homes (free_taking had xs).rooms × EmptyAtHome homes (kept_rooms (taking had xs))
+  empty_taking homes had [] e = (e, λ _ _ a. absurd a)
+  empty_taking homes had (x ∷ xs) e = ((λ _ _ a. absurd a), e)
+
+  empty_walked : (homes : Homes E) (rooms : List ℕ) (end : ℕ) → EmptyAtHome homes rooms → let d : Doing E = walked_through rooms end in EmptyAtHome homes (kept_rooms d)
+  empty_walked homes [] end e = λ _ _ a. absurd a
+  empty_walked homes (r ∷ rooms) end e = e
+
+  empty_walking : (homes : Homes E) (kept : FreeChain) (xs : List (ℕ × E)) → EmptyAtHome homes kept.rooms → EmptyAtHome homes (kept_rooms (walk_through kept xs))
+  empty_walking homes kept [] e = empty_walked homes kept.rooms kept.end e
+  empty_walking homes kept (x ∷ xs) e = e
+
   pub takes_whole : (slots id : ℕ) (me : SeatState E) → me.0.doing ≡ Idle → me.0.known.share ≢ [] → Allows RuleHolds slots id me HEAD (λ _. 0) (play.after_take (step slots HEAD 0 0 none) me)
   takes_whole slots id me idle named s k deep at fits =
       let v = me.0 in
       let xs = k.chain in
       let e : Event Name E = Taken (name v) (room_elements xs) in
       let h = k.history ++ (id, e) ∷ [] in
-      let w = view_after v id h v.free (walk_through xs) in
+      let w = view_after v id h (free_taking v.free xs) (taking v.free xs) in
       let wide = k.wide in
       let meets = takes_all s.words xs s.views k.history id v w (name v) k.meets at idle refl refl (omega arith) in
       let t = told s k id (e ∷ []) v w h at named (refl, tt) refl refl meets.legal in
       let homes = homes_after s.homes me.1 (all_of xs) in
-      let stays : (u : View E) (i q : ℕ) → get_elem? s.views i ≡ some u → 1 ≤ times q u.free.rooms → get_elem? homes q ≡ get_elem? s.homes q =
-      λ u i q there m. homes_else xs s.homes me.1 q (alone s k i u q there (omega arith)) in (
+      let stays : (u : View E) (i q : ℕ) → get_elem? s.views i ≡ some u → 1 ≤ count_with_party q u → get_elem? homes q ≡ get_elem? s.homes q =
+      λ u i q there m. homes_else xs s.homes me.1 q (alone s k i u q there m) in
+      let empty = empty_taking homes v.free xs (empty_frame s.homes homes v.free.rooms (λ q m. stays v id q at (omega arith)) (k.empty id v at)) in (
         w,
         all_of xs,
         valid_all xs s.homes me.1 k.full (λ r. let a = k.meets.apart r in omega arith),
         step_keeps s k id v w (set s.words HEAD 0) homes [] h at meets (length-set s.words HEAD 0) (homes_long xs s.homes me.1) tt
-            (empty_frame s.homes homes v.free.rooms (λ q m. stays v id q at m) (k.empty id v at)) (λ i u q other there m. stays u i q there m) t.1 t.0,
+            empty.0 empty.1 (λ i u q other there m. stays u i q there m) t.1 t.0,
         λ _. (xs, spells_start s.words (head s.words) xs k.meets.spelled, refl, refl, carried_all xs me.1, subst (λ n. NearChain n xs) deep (near_all s.homes xs k.full), t.2),
       )
 
-  pub walks_one : (slots id i : ℕ) (me : SeatState E) (x : ℕ × E) (xs : List (ℕ × E)) (cs : Hand E) → i ≡ LINKS + x.0 → me.0.doing ≡ Walking (x ∷ xs) → me.1 ≡ (x.0, None) ∷ cs → x.0 < slots → IsTied me.0.free (suc x.0)
+  pub walks_one : (slots id i : ℕ) (me : SeatState E) (kept : FreeChain) (x : ℕ × E) (xs : List (ℕ × E)) (cs : Hand E) → i ≡ LINKS + x.0 → me.0.doing ≡ Walking kept (x ∷ xs) → me.1 ≡ (x.0, None) ∷ cs → x.0 < slots → IsTied me.0.free (suc x.0)
       → Allows RuleHolds slots id me i (λ n. n) (play.after_walk (step slots i 0 0 none) me)
-  walks_one slots id i me x xs cs is doing hand inside tied s k deep at fits =
+  walks_one slots id i me kept x xs cs is doing hand inside tied s k deep at fits =
       let v = me.0 in
       let r = x.0 in
-      let w : View E = record v { doing = walk_through xs; free = with_last r (start xs) v.free } in
+      let w : View E = record v { doing = walk_through kept xs; free = with_last r (start xs) v.free } in
       let y : maybe.Option (Option E) = some None in
       let here = one_here r in
-      let was : count_with_party r v ≡ times r v.free.rooms + (one_if (eqb r r) + in_chain r xs) = ap (λ d. times r v.free.rooms + at_work r d) doing in
+      let was : count_with_party r v ≡ times r v.free.rooms + (times r kept.rooms + (one_if (eqb r r) + in_chain r xs)) = ap (λ d. times r v.free.rooms + at_work r d) doing in
       let mine : 1 ≤ count_with_party r v = omega arith in
       let none_free : times r v.free.rooms ≡ 0 = let o = once s k id v r at in omega arith in
-      let walked = walks s.words k.chain s.views k.history id v w x xs k.meets at doing refl refl tied in
+      let none_aside : times r kept.rooms ≡ 0 = let o = once s k id v r at in omega arith in
+      let walked = walks s.words k.chain s.views k.history id v w kept x xs k.meets at doing refl refl tied in
       let moves = slot_moves s k id v r y at mine in
       let t = untold s k id v w at refl in
       let homes = set s.homes r y in
       let long = length-set s.homes r y in
       let kept = step_keeps s k id v w s.words homes k.chain k.history at walked.1 refl long moves.0
-      (empty_append (set s.homes r y) v.free.rooms (r ∷ []) (empty_else s.homes r y v.free.rooms none_free (k.empty id v at)) (empty_cons (set s.homes r y) r [] (set_here s.homes r y (omega arith)) (λ i q a. absurd a))) moves.1 t.1 t.0 in
+      (empty_append (set s.homes r y) v.free.rooms (r ∷ []) (empty_else s.homes r y v.free.rooms none_free (k.empty id v at)) (empty_cons (set s.homes r y) r [] (set_here s.homes r y (omega arith)) (λ _ _ a. absurd a)))
+      (empty_walking homes kept xs (empty_else s.homes r y kept.rooms none_aside (subst (λ (d : Doing E). EmptyAtHome s.homes (kept_rooms d)) doing (k.kept id v at)))) moves.1 t.1 t.0 in
       let few = few_rooms record { words = s.words; homes = homes; views = set s.views id w } kept id w (set_here s.views id w (at_length s.views id v at)) in (
         w,
         gives,
         tt,
         subst (λ c. RuleHolds record { words = set s.words i (get_or s.words i 0); homes = homes_after s.homes c gives; views = set s.views id w }) (sym hand) (unwritten s i homes (set s.views id w) kept),
-        λ x' xs' cs' doing' hand'.
+        λ kept' x' xs' cs' doing' hand'.
+            let aside = ap (λ d. had_free d v.free) (sym doing ∙ doing') in
             let same = ap to_hand_out (sym doing ∙ doing') in
             let z : (x ≡ x') × (xs ≡ xs') = (ap (first_or x) same, ap rest_from same) in (
               ap (λ n. get_or s.words n 0) is ∙ (walked.0 ∙ ap start z.1),
-              (λ j. let u : View E = record v { doing = walk_through (z.1 j); free = with_last (z.0 j).0 (start (z.1 j)) v.free } in u),
+              (λ j. let u : View E = record v { doing = walk_through (aside j) (z.1 j); free = with_last (z.0 j).0 (start (z.1 j)) v.free } in u),
               ap rest hand',
               omega arith,
             ),

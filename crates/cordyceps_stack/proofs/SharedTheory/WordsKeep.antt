@@ -4,7 +4,7 @@ use Rattle.std.proofs.lemmas.List.{reverse-append}
 use mathlib.Core.Option.{some}
 use lib.ListN.{get_elem?}
 use Rattle.atomic_table.proofs.Lists.{at_snoc}
-use Rattle.cordyceps_shared.specs.FreeChains.{with_last, IsTied, Links}
+use Rattle.cordyceps_shared.specs.FreeChains.{FreeChain, with_last, IsTied, Links}
 use Rattle.cordyceps_shared.specs.Counts.{one_if, times}
 use Rattle.cordyceps_shared.specs.Histories.{events}
 use Rattle.cordyceps_shared.specs.Shares.{Name}
@@ -16,7 +16,8 @@ use Rattle.cordyceps_shared.proofs.Seeing.{events_more, without_more}
 use Rattle.cordyceps_shared.proofs.Words.{head_set, next_set, head_beside_next, next_beside_next, next_beside_head}
 use Rattle.cordyceps_stack.specs.History.{Event, Load, Push, Taken, held, held_after, Legal, IsChange, SomeChange}
 use Rattle.cordyceps_stack.specs.Cores.Stages.{room_elements}
-use Rattle.cordyceps_stack.specs.Shared.View.{Doing, Idle, Ready, Loaded, Set, Walking, View, walk_through, in_chain, at_work, count_with_party}
+use Rattle.cordyceps_stack.specs.Shared.View.{Doing, Idle, Ready, Loaded, Set, Walking, View, walked_through, walk_through, taking, free_taking, in_chain}
+use Rattle.cordyceps_stack.specs.Shared.View.{at_work, count_with_party}
 use Rattle.cordyceps_stack.specs.Shared.Words.{History, start, Spells, Since, AtDoing, WordsMeet}
 use Rattle.cordyceps_shared.proofs.FreeLinks.{links_frame, links_last}
 use Rattle.cordyceps_stack.proofs.Histories.{MayFollow, held_more, legal_more, change_more, change_last}
@@ -65,7 +66,7 @@ module _ {E : Type 0} where
   does_frame ws ws' h h' j (Ready r) same since k = tt
   does_frame ws ws' h h' j (Loaded r read) same since k = since read k
   does_frame ws ws' h h' j (Set r read) same since k = let here = one_here r in (same r (omega arith) ∙ k.0, since read k.1)
-  does_frame ws ws' h h' j (Walking xs) same since k = spells_frame ws ws' (start xs) xs same k
+  does_frame ws ws' h h' j (Walking kept xs) same since k = (spells_frame ws ws' (start xs) xs (λ r m. same r (omega arith)) k.0, links_frame ws ws' kept.rooms kept.end (λ r m. same r (omega arith)) k.1)
 
   pub held_event : (h : History E) (j : ℕ) (x : Event Name E) → held (events (h ++ (j, x) ∷ [])) ≡ held_after (held (events h)) x
   held_event h j x = ap (λ z. held z) (events_more h j (x ∷ [])) ∙ held_more (events h) x
@@ -81,18 +82,35 @@ rooms_differ count r s none here e = let same : count s ≡ count r = ap count e
 pub linked_else : (ws rooms : List ℕ) (end r n : ℕ) → times r rooms ≡ 0 → Links ws rooms end → Links (set ws (LINKS + r) n) rooms end
 linked_else ws rooms end r n none = links_frame ws (set ws (LINKS + r) n) rooms end (λ s k. next_beside_next ws r s n (rooms_differ (λ z. times z rooms) r s none k))
 
+module _ (E : Type 0) where
+  at_work_walked : (r : ℕ) (rooms : List ℕ) (end : ℕ) → (let d : Doing E = walked_through rooms end in at_work r d) ≡ times r rooms + 0
+  at_work_walked r [] end = refl
+  at_work_walked r (s ∷ rooms) end = refl
+
 module _ {E : Type 0} where
-  at_work_walking : (r : ℕ) (xs : List (ℕ × E)) → at_work r (walk_through xs) ≡ in_chain r xs
-  at_work_walking r [] = refl
-  at_work_walking r (x ∷ xs) = refl
+  at_work_walking : (r : ℕ) (kept : FreeChain) (xs : List (ℕ × E)) → at_work r (walk_through kept xs) ≡ times r kept.rooms + in_chain r xs
+  at_work_walking r kept [] = at_work_walked E r kept.rooms kept.end
+  at_work_walking r kept (x ∷ xs) = refl
 
-  walks_on : (ws ws' : List ℕ) (h : History E) (j : ℕ) (chain : List (ℕ × E)) → ((r : ℕ) → next ws' r ≡ next ws r) → Spells ws (head ws) chain → AtDoing ws' h j (walk_through chain)
-  walks_on ws ws' h j [] same s = tt
-  walks_on ws ws' h j (x ∷ xs) same s = spells_frame ws ws' (suc x.0) (x ∷ xs) (λ r _. same r) (refl, s.1)
+  count_taking : (r : ℕ) (had : FreeChain) (chain : List (ℕ × E)) → times r (free_taking had chain).rooms + at_work r (taking had chain) ≡ times r had.rooms + in_chain r chain
+  count_taking r had [] = refl
+  count_taking r had (x ∷ xs) = omega arith
 
-  walks_rest : (ws : List ℕ) (h : History E) (j : ℕ) (xs : List (ℕ × E)) → Spells ws (start xs) xs → AtDoing ws h j (walk_through xs)
-  walks_rest ws h j [] s = tt
-  walks_rest ws h j (x ∷ xs) s = s
+  links_taking : (ws : List ℕ) (had : FreeChain) (chain : List (ℕ × E)) → Links ws had.rooms had.end → Links ws (free_taking had chain).rooms (free_taking had chain).end
+  links_taking ws had [] k = k
+  links_taking ws had (x ∷ xs) k = tt
+
+  walks_on : (ws ws' : List ℕ) (h : History E) (j : ℕ) (had : FreeChain) (chain : List (ℕ × E)) → ((r : ℕ) → next ws' r ≡ next ws r) → Spells ws (head ws) chain → Links ws' had.rooms had.end → AtDoing ws' h j (taking had chain)
+  walks_on ws ws' h j had [] same s k = tt
+  walks_on ws ws' h j had (x ∷ xs) same s k = (spells_frame ws ws' (suc x.0) (x ∷ xs) (λ r _. same r) (refl, s.1), k)
+
+  walks_end : (ws : List ℕ) (h : History E) (j : ℕ) (rooms : List ℕ) (end : ℕ) → Links ws rooms end → AtDoing ws h j (walked_through rooms end)
+  walks_end ws h j [] end k = tt
+  walks_end ws h j (r ∷ rooms) end k = (refl, k)
+
+  walks_rest : (ws : List ℕ) (h : History E) (j : ℕ) (kept : FreeChain) (xs : List (ℕ × E)) → Spells ws (start xs) xs → Links ws kept.rooms kept.end → AtDoing ws h j (walk_through kept xs)
+  walks_rest ws h j kept [] s k = walks_end ws h j kept.rooms kept.end k
+  walks_rest ws h j kept (x ∷ xs) s k = (s, k)
 
   emptied : (ws ws' : List ℕ) (n : Name) (chain : List (ℕ × E)) → head ws' ≡ 0 → Spells ws (head ws) chain → (head ws' ≡ head ws) ⊎ IsChange (Taken n (room_elements chain))
   emptied ws ws' n [] e s = inl (e ∙ sym s)
@@ -185,33 +203,34 @@ module _ {E : Type 0} where
       (λ _ s _ _ _ _. next_beside_head ws s (suc r))
 
   pub takes_all : (ws : List ℕ) (chain : List (ℕ × E)) (views : List (View E)) (h : History E) (j : ℕ) (v w : View E) (n : Name) → WordsMeet ws chain views h → get_elem? views j ≡ some v
-      → v.doing ≡ Idle → w.doing ≡ walk_through chain → w.free ≡ v.free → HEAD < length ws
+      → v.doing ≡ Idle → w.doing ≡ taking v.free chain → w.free ≡ free_taking v.free chain → HEAD < length ws
       → WordsMeet (set ws HEAD 0) [] (set views j w) (h ++ (j, Taken n (room_elements chain)) ∷ [])
   takes_all ws chain views h j v w n m at was now free inside =
       let ws' = set ws HEAD 0 in
       let x = Taken n (room_elements chain) in
       let h' = h ++ (j, x) ∷ [] in
       let empty = head_set ws 0 inside in
+      let linked = links_beside_head ws views j v v 0 at refl m in
       advance ws ws' chain [] views h h' j v w m at (legal_event h j x m.legal m.holds) empty (ap (λ es. reverse es) (sym (held_event h j x)))
-      (λ s. let a : count_with_party s w ≡ times s v.free.rooms + in_chain s chain = (λ i. times s (free i).rooms + at_work s (now i)) ∙ ap (λ k. times s v.free.rooms + k) (at_work_walking s chain) in
+      (λ s. let a : count_with_party s w ≡ times s v.free.rooms + in_chain s chain = (λ i. times s (free i).rooms + at_work s (now i)) ∙ count_taking s v.free chain in
       let b : count_with_party s v ≡ times s v.free.rooms + 0 = ap (λ d. times s v.free.rooms + at_work s d) was in omega arith)
-      (subst (λ (d : Doing E). AtDoing ws' h' j d) (sym now) (walks_on ws ws' h' j chain (λ s. next_beside_head ws s 0) m.spelled))
-      (links_beside_head ws views j v w 0 at free m)
+      (subst (λ (d : Doing E). AtDoing ws' h' j d) (sym now) (walks_on ws ws' h' j v.free chain (λ s. next_beside_head ws s 0) m.spelled linked))
+      (subst (λ z. Links ws' z.rooms z.end) (sym free) (links_taking ws' v.free chain linked))
       (λ i u other e. does_frame ws ws' h h' i u.doing (λ s k. next_beside_head ws s 0) (λ k. since_event ws ws' h i k j x (λ z. other (sym z)) (emptied ws ws' n chain empty m.spelled)))
       (λ _ s _ _ _ _. next_beside_head ws s 0)
 
-  pub walks : (ws : List ℕ) (chain : List (ℕ × E)) (views : List (View E)) (h : History E) (j : ℕ) (v w : View E) (x : ℕ × E) (xs : List (ℕ × E)) → WordsMeet ws chain views h → get_elem? views j ≡ some v
-      → v.doing ≡ Walking (x ∷ xs) → w.doing ≡ walk_through xs → w.free ≡ with_last x.0 (start xs) v.free → IsTied v.free (suc x.0)
+  pub walks : (ws : List ℕ) (chain : List (ℕ × E)) (views : List (View E)) (h : History E) (j : ℕ) (v w : View E) (kept : FreeChain) (x : ℕ × E) (xs : List (ℕ × E)) → WordsMeet ws chain views h → get_elem? views j ≡ some v
+      → v.doing ≡ Walking kept (x ∷ xs) → w.doing ≡ walk_through kept xs → w.free ≡ with_last x.0 (start xs) v.free → IsTied v.free (suc x.0)
       → (next ws x.0 ≡ start xs) × WordsMeet ws chain (set views j w) h
-  walks ws chain views h j v w x xs m at was now free tied =
-      let known : AtDoing ws h j (Walking (x ∷ xs)) = subst (λ (d : Doing E). AtDoing ws h j d) was (m.each j v at) in
-      let below = spells_start ws (next ws x.0) xs known.1 in (
+  walks ws chain views h j v w kept x xs m at was now free tied =
+      let known : AtDoing ws h j (Walking kept (x ∷ xs)) = subst (λ (d : Doing E). AtDoing ws h j d) was (m.each j v at) in
+      let below = spells_start ws (next ws x.0) xs known.0.1 in (
         below,
         rests ws chain views h j v w m at
-            (λ s. let a : count_with_party s w ≡ times s (v.free.rooms ++ x.0 ∷ []) + in_chain s xs = (λ i. times s (free i).rooms + at_work s (now i)) ∙ ap (λ k. times s (v.free.rooms ++ x.0 ∷ []) + k) (at_work_walking s xs) in
-            let b : count_with_party s v ≡ times s v.free.rooms + (one_if (eqb x.0 s) + in_chain s xs) = ap (λ d. times s v.free.rooms + at_work s d) was in
+            (λ s. let a : count_with_party s w ≡ times s (v.free.rooms ++ x.0 ∷ []) + (times s kept.rooms + in_chain s xs) = (λ i. times s (free i).rooms + at_work s (now i)) ∙ ap (λ k. times s (v.free.rooms ++ x.0 ∷ []) + k) (at_work_walking s kept xs) in
+            let b : count_with_party s v ≡ times s v.free.rooms + (times s kept.rooms + (one_if (eqb x.0 s) + in_chain s xs)) = ap (λ d. times s v.free.rooms + at_work s d) was in
             let more = tally_append (λ z. one_if (eqb z s)) v.free.rooms (x.0 ∷ []) in omega arith)
-            (subst (λ (d : Doing E). AtDoing ws h j d) (sym now) (walks_rest ws h j xs (subst (λ n. Spells ws n xs) below known.1)))
+            (subst (λ (d : Doing E). AtDoing ws h j d) (sym now) (walks_rest ws h j kept xs (subst (λ n. Spells ws n xs) below known.0.1) known.1))
             (subst (λ z. Links ws z.rooms z.end) (sym free) (links_last ws v.free.rooms v.free.end x.0 (start xs) tied below (m.linked j v at))),
       )
 

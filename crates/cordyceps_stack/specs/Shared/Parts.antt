@@ -2,7 +2,7 @@
 use Rattle.std.specs.Prelude.{◌≡◌, ◌≢◌, ℕ, suc, ◌+◌, ◌≤◌, [], ◌∷◌, ◌++◌, length, replicate, Bool, true, false}
 use Rattle.std.specs.Prelude.{IsTrue}
 use Rattle.atomic_table.specs.Seated.{TableId}
-use Rattle.cordyceps_shared.specs.FreeChains.{leads, with_first, with_last, IsTied, Tracks}
+use Rattle.cordyceps_shared.specs.FreeChains.{FreeChain, leads, with_first, with_last, IsTied, Tracks}
 use Rattle.cordyceps_shared.specs.Histories.{plain, AllOwn}
 use Rattle.cordyceps_shared.specs.Shares.{whole, IsShare}
 use Rattle.cordyceps_shared.specs.declared.free.FreeRooms.{FreeRooms}
@@ -12,7 +12,7 @@ use Rattle.cordyceps_stack.specs.Shared.Parting.{view_absorbing, view_without_to
 use Rattle.cordyceps_stack.specs.Shared.Plays.{SeatState, Sees, IsResting, IsReady, IsWalking, to_hand_out}
 use Rattle.cordyceps_stack.specs.Shared.Rule.{IsTable}
 use Rattle.cordyceps_stack.specs.Shared.Calls.{PartyOf, EndsPushed, IsOvertaken}
-use Rattle.cordyceps_stack.specs.Shared.View.{Idle, Ready, Loaded, View, name}
+use Rattle.cordyceps_stack.specs.Shared.View.{Idle, Ready, Loaded, View, name, had_free}
 use Rattle.cordyceps_stack.specs.Shared.Words.{start}
 use Rattle.cordyceps_shared.specs.Slots.{view, hand}
 
@@ -84,17 +84,24 @@ module _ {E : Type 0} where
     pub sees : Sees (view m) (replicate tries (Load (name (view m))) ++ Push (name (view m)) x ∷ []) (view k)
     pub ends : EndsPushed x (IsTrue first) (name (view m)) (view k).known.seen
 
-  -- the party has these rooms to hand out, which it took with one swap
+  -- the party has a batch to hand out, to which this word leads; where it is not empty, the free rooms are kept aside
+  pub record HasTaken (slots at : ℕ) (m : SeatState E) : Type 0 where
+    pub at_is : at ≡ start (to_hand_out (view m).doing)
+    pub none : at ≡ 0 → IsResting slots m
+    pub some_of : at ≢ 0
+        → IsWalking slots (had_free (view m).doing (view m).free) (to_hand_out (view m).doing) m
+        × ((view m).free.rooms ≡ [])
+
+  -- it took it with one swap
   pub record TookAll (slots found : ℕ) (m k : SeatState E) : Type 0 where
-    pub walking : IsWalking slots (to_hand_out (view k).doing) k
-    pub found_is : found ≡ start (to_hand_out (view k).doing)
-    pub free : (view k).free ≡ (view m).free
+    pub taken : HasTaken slots found k
+    pub free : had_free (view k).doing (view k).free ≡ (view m).free
     pub sees : Sees (view m) (Taken (name (view m)) (room_elements (to_hand_out (view k).doing)) ∷ []) (view k)
 
   -- it has handed out one more, and this word leads to the next
-  pub record Walked (slots room : ℕ) (x : E) (below : ℕ) (m k : SeatState E) : Type 0 where
+  pub record Walked (slots : ℕ) (kept : FreeChain) (room : ℕ) (x : E) (below : ℕ) (m k : SeatState E) : Type 0 where
     pub batch : to_hand_out (view m).doing ≡ (room, x) ∷ to_hand_out (view k).doing
-    pub walking : IsWalking slots (to_hand_out (view k).doing) k
+    pub walking : IsWalking slots kept (to_hand_out (view k).doing) k
     pub below_is : below ≡ start (to_hand_out (view k).doing)
     pub free : (view k).free ≡ with_last room below (view m).free
     pub known : (view k).known ≡ (view m).known
@@ -104,7 +111,14 @@ module _ {E : Type 0} where
   pub record EmptiesHand (slots : ℕ) (m k : SeatState E) : Type 0 where
     pub rests : IsResting slots k
     pub known : (view k).known ≡ (view m).known
-    pub free : length (view k).free.rooms ≡ length (view m).free.rooms + length (to_hand_out (view m).doing)
+    pub free : length (view k).free.rooms
+        ≡ length (had_free (view m).doing (view m).free).rooms + length (to_hand_out (view m).doing)
+
+  -- what it handed out follows the rooms that it kept aside, and it rests
+  pub record Followed (slots : ℕ) (kept : FreeChain) (m k : SeatState E) : Type 0 where
+    pub rests : IsResting slots k
+    pub known : (view k).known ≡ (view m).known
+    pub rooms : (view k).free.rooms ≡ kept.rooms ++ (view m).free.rooms
 
   -- ---- parties
   -- what a contract sees of a party with this seat

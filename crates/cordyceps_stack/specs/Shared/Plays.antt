@@ -1,7 +1,7 @@
 -- What each atomic step tells a party of a transfer stack: of its seat m before, of the word that it found, and of its
 -- seat k after. A seat has a view, and the slots in hand, the last taken first.
 use Rattle.std.specs.Prelude.{◌≡◌, ◌≢◌, ℕ, ◌+◌, ◌<◌, ◌≤◌, List, [], ◌∷◌, ◌++◌, length, Some, None}
-use Rattle.cordyceps_shared.specs.FreeChains.{leads, with_first, with_last}
+use Rattle.cordyceps_shared.specs.FreeChains.{FreeChain, leads, with_first, with_last, joined}
 use Rattle.cordyceps_shared.specs.Knowing.{Grown}
 use Rattle.cordyceps_shared.specs.Shares.{Name}
 use Rattle.cordyceps_shared.specs.declared.layout.TheConstants.{LINKS}
@@ -9,6 +9,7 @@ use Rattle.cordyceps_stack.specs.History.{Event, Load, Push, Taken, Legal, actor
 use Rattle.cordyceps_stack.specs.Cores.Stages.{room_elements}
 use Rattle.cordyceps_stack.specs.Shared.Calls.{EndsPushed, EndsLooked, IsOvertaken}
 use Rattle.cordyceps_stack.specs.Shared.View.{Doing, Idle, Ready, Loaded, Set, Walking, View, name, walk_through}
+use Rattle.cordyceps_stack.specs.Shared.View.{taking, free_taking}
 use Rattle.cordyceps_stack.specs.Shared.Words.{start}
 use Rattle.cordyceps_shared.specs.Slots.{Hand, Near, TableStep, SeatWith, view, hand}
 
@@ -36,7 +37,7 @@ module _ {E : Type 0} where
   to_hand_out (Ready r) = []
   to_hand_out (Loaded r read) = []
   to_hand_out (Set r read) = []
-  to_hand_out (Walking xs) = xs
+  to_hand_out (Walking kept xs) = xs
 
   -- ---- the steps
   -- a load of head by a party that looks whether nothing is held
@@ -84,11 +85,11 @@ module _ {E : Type 0} where
       → (st.word ≡ LINKS + r) × (view k ≡ record (view m) { doing = Idle; free = with_first r (view m).free })
       × (hand k ≡ cs)
 
-  -- a swap of head: the slots of all that was held are in hand
+  -- a swap of head: the slots of all that was held are in hand, and where something was, the free rooms are kept aside
   abbrev pub after_take : TableStep E → SeatState E → ℕ → SeatState E → Type 0
   after_take st m found k = (view m).doing ≡ Idle
-      → (chain : List (ℕ × E)) × (found ≡ start chain) × ((view k).doing ≡ walk_through chain)
-      × ((view k).free ≡ (view m).free)
+      → (chain : List (ℕ × E)) × (found ≡ start chain) × ((view k).doing ≡ taking (view m).free chain)
+      × ((view k).free ≡ free_taking (view m).free chain)
       × (hand k ≡ carry chain (hand m)) × NearChain st.slots chain
       × Sees (view m) (Taken (name (view m)) (room_elements chain) ∷ []) (view k)
 
@@ -96,6 +97,13 @@ module _ {E : Type 0} where
   abbrev pub after_tie : TableStep E → SeatState E → ℕ → SeatState E → Type 0
   after_tie st m n k =
       (view k ≡ record (view m) { free = record (view m).free { end = n } }) × (hand k ≡ hand m)
+
+  -- a store that links the last of the rooms kept aside to the first that was handed out: all are free
+  abbrev pub after_follow : TableStep E → SeatState E → ℕ → SeatState E → Type 0
+  after_follow st m n k = (kept : FreeChain) → (view m).doing ≡ Walking kept []
+      → (view k ≡ record (view m) { doing = Idle; free = joined (record kept { end = n }) (view m).free })
+      × (hand k ≡ hand m)
+      × (length (view k).free.rooms ≤ st.slots)
 
   -- a read of the link of a free room
   abbrev pub after_skip : TableStep E → SeatState E → ℕ → SeatState E → Type 0
@@ -106,9 +114,10 @@ module _ {E : Type 0} where
   -- a read of the link of the next room to be handed out: its slot goes back, and it is the last free room
   abbrev pub after_walk : TableStep E → SeatState E → ℕ → SeatState E → Type 0
   after_walk st m found k =
-      (x : ℕ × E) (xs : List (ℕ × E)) (cs : Hand E) → (view m).doing ≡ Walking (x ∷ xs) → hand m ≡ (x.0, None) ∷ cs
+      (kept : FreeChain) (x : ℕ × E) (xs : List (ℕ × E)) (cs : Hand E) → (view m).doing ≡ Walking kept (x ∷ xs)
+      → hand m ≡ (x.0, None) ∷ cs
       → (found ≡ start xs)
-      × (view k ≡ record (view m) { doing = walk_through xs; free = with_last x.0 (start xs) (view m).free })
+      × (view k ≡ record (view m) { doing = walk_through kept xs; free = with_last x.0 (start xs) (view m).free })
       × (hand k ≡ cs)
       × (length (view k).free.rooms ≤ st.slots)
 
@@ -124,8 +133,8 @@ module _ {E : Type 0} where
       ((view m).doing ≡ Ready room) × (hand m ≡ (room, Some x) ∷ []) × ((view m).known.share ≢ [])
       × Near slots (view m).free.rooms × (room < slots)
 
-  -- the party has these rooms to hand out, and their slots in hand
-  abbrev pub IsWalking : ℕ → List (ℕ × E) → SeatState E → Type 0
-  IsWalking slots xs m =
-      ((view m).doing ≡ walk_through xs) × (hand m ≡ carry xs []) × NearChain slots xs × ((view m).known.share ≢ [])
-      × Near slots (view m).free.rooms
+  -- the party keeps a chain aside, and has these rooms to hand out, and their slots in hand
+  abbrev pub IsWalking : ℕ → FreeChain → List (ℕ × E) → SeatState E → Type 0
+  IsWalking slots kept xs m =
+      ((view m).doing ≡ walk_through kept xs) × (hand m ≡ carry xs []) × NearChain slots xs
+      × ((view m).known.share ≢ []) × Near slots (view m).free.rooms × Near slots kept.rooms

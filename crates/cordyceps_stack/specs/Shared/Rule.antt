@@ -9,7 +9,7 @@ use Rattle.cordyceps_shared.specs.Knowing.{SharesDisjoint, AllAgree}
 use Rattle.cordyceps_shared.specs.Slots.{Homes, EmptyAtHome}
 use Rattle.cordyceps_shared.specs.declared.layout.TheConstants.{LINKS}
 use Rattle.cordyceps_stack.specs.History.{actor}
-use Rattle.cordyceps_stack.specs.Shared.View.{View, knows}
+use Rattle.cordyceps_stack.specs.Shared.View.{View, knows, kept_rooms}
 use Rattle.cordyceps_stack.specs.Shared.Words.{History, WordsMeet}
 
 abbrev pub TableState : Type 0 → Type 0
@@ -29,6 +29,7 @@ module _ {E : Type 0} where
     pub wide : length s.words ≡ LINKS + length s.homes
     pub full : FullAtHome s.homes chain
     pub empty : (j : ℕ) (v : View E) → get_elem? s.views j ≡ some v → EmptyAtHome s.homes v.free.rooms
+    pub kept : (j : ℕ) (v : View E) → get_elem? s.views j ≡ some v → EmptyAtHome s.homes (kept_rooms v.doing)
     pub fits : AllAgree actor knows s.views history
     pub owned : SharesDisjoint knows s.views history
 

@@ -16,8 +16,8 @@ pub data Doing (E : Type 0) : Type 0 where
   Loaded : ℕ → ℕ → Doing E
   -- and it wrote that word into the room's link
   Set : ℕ → ℕ → Doing E
-  -- it has these rooms yet to hand out, with their elements
-  Walking : List (ℕ × E) → Doing E
+  -- it keeps these rooms aside, which were free before it took all, and has those yet to hand out, with their elements
+  Walking : FreeChain → List (ℕ × E) → Doing E
 
 -- what the party knows of the history, its free rooms, and what it does
 pub record View (E : Type 0) : Type 0 where
@@ -37,10 +37,40 @@ module _ {E : Type 0} where
   abbrev pub name : View E → Name
   name v = first_name v.known.share
 
-  -- what a party does that has these rooms yet to hand out
-  abbrev pub walk_through : List (ℕ × E) → Doing E
-  walk_through [] = Idle
-  walk_through (x ∷ xs) = Walking (x ∷ xs)
+  -- what a party does that took these rooms, and had that chain free; and which rooms are then free
+  abbrev pub taking : FreeChain → List (ℕ × E) → Doing E
+  taking had [] = Idle
+  taking had (x ∷ xs) = Walking had (x ∷ xs)
+
+  abbrev pub free_taking : FreeChain → List (ℕ × E) → FreeChain
+  free_taking had [] = had
+  free_taking had (x ∷ xs) = record { rooms = []; end = 0 }
+
+  -- what a party does that keeps a chain aside, and has handed out all: where it keeps rooms, it has yet to tie them
+  abbrev pub walked_through : List ℕ → ℕ → Doing E
+  walked_through [] end = Idle
+  walked_through (r ∷ rs) end = Walking record { rooms = r ∷ rs; end = end } []
+
+  -- and where it has these rooms yet to hand out
+  abbrev pub walk_through : FreeChain → List (ℕ × E) → Doing E
+  walk_through kept [] = walked_through kept.rooms kept.end
+  walk_through kept (x ∷ xs) = Walking kept (x ∷ xs)
+
+  -- the rooms that it keeps aside
+  abbrev pub kept_rooms : Doing E → List ℕ
+  kept_rooms Idle = []
+  kept_rooms (Ready s) = []
+  kept_rooms (Loaded s read) = []
+  kept_rooms (Set s read) = []
+  kept_rooms (Walking kept xs) = kept.rooms
+
+  -- its free rooms, or those that it keeps aside where it took all
+  abbrev pub had_free : Doing E → FreeChain → FreeChain
+  had_free Idle free = free
+  had_free (Ready s) free = free
+  had_free (Loaded s read) free = free
+  had_free (Set s read) free = free
+  had_free (Walking kept xs) free = kept
 
   -- how often the room r is in a chain, and among the rooms that a party works with
   abbrev pub in_chain : ℕ → List (ℕ × E) → ℕ
@@ -51,7 +81,7 @@ module _ {E : Type 0} where
   at_work r (Ready s) = one_if (nat_eq s r)
   at_work r (Loaded s read) = one_if (nat_eq s r)
   at_work r (Set s read) = one_if (nat_eq s r)
-  at_work r (Walking xs) = in_chain r xs
+  at_work r (Walking kept xs) = times r kept.rooms + in_chain r xs
 
   abbrev pub count_with_party : ℕ → View E → ℕ
   count_with_party r v = times r v.free.rooms + at_work r v.doing

@@ -50,7 +50,7 @@ module _ {E : Type 0} where
   AtDoing words history j (Ready r) = Unit {0}
   AtDoing words history j (Loaded r read) = Since words history j read
   AtDoing words history j (Set r read) = (next words r ≡ read) × Since words history j read
-  AtDoing words history j (Walking xs) = Spells words (start xs) xs
+  AtDoing words history j (Walking kept xs) = Spells words (start xs) xs × Links words kept.rooms kept.end
 
   -- the history is legal, what it holds is in the chain, no room is in two places, each party does what its events led
   -- it to, and its free rooms are linked

@@ -106,7 +106,7 @@ pub(crate) fn split<E: Drop>(
 
 /// Links the last free room to the room that `at` leads to, which is about to follow it. If there is no free room, that
 /// becomes the first.
-pub(crate) fn tie<E: Drop>(words: &Words<E>, seat: &mut PartySeat<E>, free: &mut FreeRooms, at: u64)
+fn tie<E: Drop>(words: &Words<E>, seat: &mut PartySeat<E>, free: &mut FreeRooms, at: u64)
     requires table { IsSeatOf seat.old.table_id words.now.table_id }
     requires tracks { Tracks free.old (view seat.old.me).free }
     requires near { Near words.now.table_id.slots (view seat.old.me).free.rooms }

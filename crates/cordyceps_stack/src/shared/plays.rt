@@ -1,7 +1,7 @@
 //! The steps of a shared stack, for contracts. Values of these types are not used when the program runs.
 ghost use Rattle.cordyceps_stack.specs.Shared.Plays.{after_look, after_ready, after_load, after_write};
 ghost use Rattle.cordyceps_stack.specs.Shared.Plays.{after_exchange, after_return, after_take, after_walk};
-ghost use Rattle.cordyceps_stack.specs.Shared.Plays.{after_tie, after_skip};
+ghost use Rattle.cordyceps_stack.specs.Shared.Plays.{after_tie, after_follow, after_skip};
 ghost use Rattle.cordyceps_stack.specs.Shared.Parting.{after_learn, view_keeping, view_giving};
 ghost use Rattle.cordyceps_stack.specs.Shared.Parting.{view_absorbing, view_absorbed};
 
@@ -64,6 +64,13 @@ pub(crate) struct Tie;
 
 impl<E> Play<Option<E>, SeatView<E>> for Tie {
     ghost then = { after_tie };
+}
+
+/// A store to the link of the last room that a take kept aside.
+pub(crate) struct Follow;
+
+impl<E> Play<Option<E>, SeatView<E>> for Follow {
+    ghost then = { after_follow };
 }
 
 /// A load of a free room's link, which leads to the next.

@@ -7,7 +7,7 @@ ghost use Rattle.cordyceps_stack.specs.History as event;
 ghost use Rattle.cordyceps_stack.specs.Shared.Plays.{Sees, IsResting, IsReady, IsWalking, to_hand_out};
 ghost use Rattle.cordyceps_shared.specs.Slots.{view, hand};
 ghost use Rattle.cordyceps_stack.specs.Shared.Calls.{EndsLooked};
-ghost use Rattle.cordyceps_stack.specs.Shared.View.{Idle, name};
+ghost use Rattle.cordyceps_stack.specs.Shared.View.{Idle, name, had_free};
 ghost use Rattle.cordyceps_stack.specs.Shared.View as doing;
 ghost use Rattle.cordyceps_shared.specs.Shares.{whole};
 ghost use Rattle.cordyceps_stack.specs.Shared.Words.{start};
@@ -203,7 +203,8 @@ pub(crate) fn is_empty<E: Drop>(words: &Words<E>, seat: &mut PartySeat<E>) -> bo
     words.load::<Look>(seat, HEAD) == 0
 }
 
-/// Takes all elements, for `walk` to return them, and returns the word that leads to the first.
+/// Takes all elements, for `walk` to return them, and returns the word that leads to the first. If there is one, the
+/// party's free rooms are kept aside.
 pub(crate) fn take<E: Drop>(words: &Words<E>, seat: &mut PartySeat<E>) -> u64
     requires table { IsSeatOf seat.old.table_id words.now.table_id }
     requires rest { IsResting words.now.table_id.slots seat.old.me }
@@ -214,14 +215,16 @@ pub(crate) fn take<E: Drop>(words: &Words<E>, seat: &mut PartySeat<E>) -> u64
 }
 
 /// Returns the newest element of what was taken, which is in this room, and the word that leads to the next. The room
-/// becomes the last free one.
+/// becomes the last free one, beside those that are kept aside.
 pub(crate) fn walk<E: Drop>(words: &Words<E>, seat: &mut PartySeat<E>, room: usize) -> (E, u64)
     requires table { IsSeatOf seat.old.table_id words.now.table_id }
     requires batch { let batch = to_hand_out (view seat.old.me).doing in
-        IsWalking words.now.table_id.slots batch seat.old.me × (suc room ≡ start batch) }
+        let kept = had_free (view seat.old.me).doing (view seat.old.me).free in
+        IsWalking words.now.table_id.slots kept batch seat.old.me × (suc room ≡ start batch) }
     requires tied { IsTied (view seat.old.me).free (suc room) }
     ensures table { seat.new.table_id ≡ seat.old.table_id }
-    ensures walked { Walked words.now.table_id.slots room result.0 result.1 seat.old.me seat.new.me }
+    ensures walked { let kept = had_free (view seat.old.me).doing (view seat.old.me).free in
+        Walked words.now.table_id.slots kept room result.0 result.1 seat.old.me seat.new.me }
 {
     let item = words.exchange(seat, room, None);
     let below = words.load::<Walk>(seat, LINKS + room);
