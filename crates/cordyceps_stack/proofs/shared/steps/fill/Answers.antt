@@ -3,7 +3,7 @@ use Rattle.atomic_table.specs.Table.{rest}
 use Rattle.cordyceps_shared.specs.FreeChains.{FreeChain, leads, with_first}
 use Rattle.cordyceps_shared.specs.Places.{ItemAt}
 use Rattle.cordyceps_stack.proofs.SharedTheory.StepsKeep.{readies}
-use Rattle.cordyceps_stack.proofs.SharedTheory.PartsJoin.{first_near, hand_of}
+use Rattle.cordyceps_stack.proofs.SharedTheory.PartsJoin.{first_near}
 use Rattle.cordyceps_stack.proofs.shared.steps.fill.Goals as goal
 
 pub overflow_add-room : goal.overflow_add-room
