@@ -26,6 +26,10 @@ module _ {A : Type 0} where
   at_either (z ∷ zs) ys zero x a = inl a
   at_either (z ∷ zs) ys (suc i) x a = elim (at_either zs ys i x a) [ inl t ↦ inl t | inr t ↦ let l = t.2 in inr (t.0, t.1, omega arith) ]
 
+  pub at_end : (xs : List A) (x : A) → ItemAt (xs ++ x ∷ []) (length xs) x
+  at_end [] x = refl
+  at_end (y ∷ ys) x = at_end ys x
+
 -- how often a number is in a list that has it at a place
 pub times_some : (r : ℕ) (xs : List ℕ) (i : ℕ) → ItemAt xs i r → 1 ≤ times r xs
 times_some r [] i a = absurd a
@@ -51,6 +55,9 @@ near_cons slots t xs ys first near same i r ir = by i (subst (λ l. ItemAt l i r
     by : (j : ℕ) → ItemAt (t ∷ ys) j r → r < slots
     by zero a = subst (λ n. n < slots) (sym a) first
     by (suc j) a = near j r a
+
+pub near_first : (slots r : ℕ) (rs xs : List ℕ) → xs ≡ r ∷ rs → Near slots xs → r < slots
+near_first slots r rs xs is near = near 0 r (subst (λ l. ItemAt l 0 r) (sym is) refl)
 
 pub near_drop : (slots n : ℕ) (xs : List ℕ) → Near slots xs → Near slots (drop n xs)
 near_drop slots n xs near i r a = let t = at_drop n xs i r a in near t.0 r t.1

@@ -5,6 +5,7 @@ use Rattle.cordyceps_shared.specs.FreeChains.{FreeChain, with_last, first_rooms,
 use Rattle.cordyceps_shared.specs.Places.{ItemAt}
 use Rattle.cordyceps_shared.specs.Slots.{Near}
 use Rattle.cordyceps_shared.proofs.Choices.{first_or}
+use Rattle.cordyceps_shared.proofs.Places.{at_end}
 use Rattle.cordyceps_shared.specs.declared.free.FreeRooms.{FreeRooms}
 
 pub last_same : (xs ys : List ℕ) (x y : ℕ) → xs ++ x ∷ [] ≡ ys ++ y ∷ [] → x ≡ y
@@ -15,10 +16,6 @@ with_its_last [] some_of = absurd (omega arith)
 with_its_last (x ∷ []) some_of = ([], x, refl)
 with_its_last (x ∷ y ∷ ys) some_of = let t = with_its_last (y ∷ ys) (omega arith) in (x ∷ t.0, t.1, ap (λ z. x ∷ z) t.2)
 
-at_last : (before : List ℕ) (r : ℕ) → ItemAt (before ++ r ∷ []) (length before) r
-at_last [] r = refl
-at_last (x ∷ before) r = at_last before r
-
 -- the last of some free rooms
 pub last_room : (slots : ℕ) (free : FreeRooms) (chain : FreeChain) → Tracks free chain → 0 < free.count → Near slots chain.rooms → (before : List ℕ) × (chain.rooms ≡ before ++ free.last ∷ []) × (free.last < slots)
 last_room slots free chain t some_of near =
@@ -27,7 +24,7 @@ last_room slots free chain t some_of near =
     let same = t.last d.0 d.1 d.2 in (
       d.0,
       d.2 ∙ ap (λ z. d.0 ++ z ∷ []) (sym same),
-      subst (λ z. z < slots) (sym same) (near (length d.0) d.1 (subst (λ z. ItemAt z (length d.0) d.1) (sym d.2) (at_last d.0 d.1))),
+      subst (λ z. z < slots) (sym same) (near (length d.0) d.1 (subst (λ z. ItemAt z (length d.0) d.1) (sym d.2) (at_end d.0 d.1))),
     )
 
 -- the room at a place, and those before and after it

@@ -73,10 +73,6 @@ at_more [] ys i a p = absurd p
 at_more (x ∷ xs) ys zero a p = p
 at_more (x ∷ xs) ys (suc i) a p = at_more xs ys i a p
 
-pub at_end : {A : Type 0} (xs : List A) (a : A) → ItemAt (xs ++ a ∷ []) (length xs) a
-at_end [] a = refl
-at_end (x ∷ xs) a = at_end xs a
-
 pub at_split : {A : Type 0} (xs : List A) (x : A) (i : ℕ) (a : A) → ItemAt (xs ++ x ∷ []) i a → ItemAt xs i a ⊎ ((i ≡ length xs) × (a ≡ x))
 at_split [] x zero a p = inr (refl, p)
 at_split [] x (suc i) a p = absurd p

@@ -5,7 +5,8 @@ use Rattle.cordyceps_queue.specs.Past.{held_reversed, holder_reversed}
 use Rattle.cordyceps_queue.specs.Cores.Abstract.{update, AbstractParty, AbstractMachine}
 use Rattle.cordyceps_shared.specs.Places.{ItemAt}
 use Rattle.cordyceps_queue.specs.Cores.Meets.{real, Owes, Chain, Joined, RightIs, Meets}
-use Rattle.cordyceps_queue.proofs.CoreTheory.Basics.{put_same, at_one, at_within, at_more, at_end, at_split, length_map}
+use Rattle.cordyceps_shared.proofs.Places.{at_end}
+use Rattle.cordyceps_queue.proofs.CoreTheory.Basics.{put_same, at_one, at_within, at_more, at_split, length_map}
 use Rattle.cordyceps_queue.proofs.CoreTheory.OtherParties.{joined_put}
 
 pub real_one : (r : ℕ) → r ≢ 0 → real (r ∷ []) ≡ r ∷ []

@@ -9,7 +9,8 @@ use Rattle.cordyceps_queue.specs.declared.cores.stage.Stage.TheVariants.{Rest, C
 use Rattle.cordyceps_queue.specs.Cores.Abstract.{update, AbstractParty, AbstractMachine, clear_room, swap_head, link_next}
 use Rattle.cordyceps_shared.specs.Places.{ItemAt}
 use Rattle.cordyceps_queue.specs.Cores.Meets.{real, rank, Owner, Shared, Spare, Ready, Unmade, Owes, tail_of, Chain, IsOut, OwnsRooms, Owed, Joined, Keeps, Real, AtStage, RightIs, Meets}
-use Rattle.cordyceps_queue.proofs.CoreTheory.Basics.{some_inj, some_none, suc_zero, put_same, put_other, put_all, put_none, at_one, at_within, at_more, at_end, at_split, rank_more, rank_all, real_more, map_put, pending_one, open_from}
+use Rattle.cordyceps_shared.proofs.Places.{at_end}
+use Rattle.cordyceps_queue.proofs.CoreTheory.Basics.{some_inj, some_none, suc_zero, put_same, put_other, put_all, put_none, at_one, at_within, at_more, at_split, rank_more, rank_all, real_more, map_put, pending_one, open_from}
 use Rattle.cordyceps_queue.proofs.CoreTheory.ChainGrows.{real_one, held_length, alone, last_more, once_more, joined_more, right_more, right_same}
 use Rattle.cordyceps_queue.proofs.CoreTheory.OtherParties.{joined_put, names_put, strange, right_put}
 

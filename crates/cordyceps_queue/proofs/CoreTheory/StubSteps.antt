@@ -8,7 +8,8 @@ use Rattle.cordyceps_queue.specs.declared.cores.stage.Stage.TheVariants.{Rest, C
 use Rattle.cordyceps_queue.specs.Cores.Abstract.{update, AbstractParty, AbstractMachine, clear_stub, swap_head, link_next}
 use Rattle.cordyceps_shared.specs.Places.{ItemAt}
 use Rattle.cordyceps_queue.specs.Cores.Meets.{real, Owner, Owes, tail_of, Chain, IsOut, OwnsRooms, Owed, Joined, Real, AtStage, Meets}
-use Rattle.cordyceps_queue.proofs.CoreTheory.Basics.{some_none, put_same, put_other, put_all, put_none, at_one, at_within, at_more, at_end, at_split, rank_more, real_more}
+use Rattle.cordyceps_shared.proofs.Places.{at_end}
+use Rattle.cordyceps_queue.proofs.CoreTheory.Basics.{some_none, put_same, put_other, put_all, put_none, at_one, at_within, at_more, at_split, rank_more, real_more}
 use Rattle.cordyceps_queue.proofs.CoreTheory.ChainGrows.{last_more, once_more, joined_more}
 use Rattle.cordyceps_queue.proofs.CoreTheory.OtherParties.{joined_put, names_put, strange}
 use Rattle.cordyceps_queue.proofs.CoreTheory.ProducerSteps.{ready_shared}

@@ -11,7 +11,7 @@ use Rattle.cordyceps_queue.specs.declared.cores.stage.Stage.{Stage}
 use Rattle.cordyceps_queue.specs.declared.cores.stage.Stage.TheVariants.{Rest, Holding}
 use Rattle.cordyceps_queue.specs.declared.shared.table.Tried.{Tried}
 use Rattle.cordyceps_queue.specs.declared.shared.table.Tried.TheVariants.{Out, Empty, Inconsistent}
-use Rattle.cordyceps_queue.specs.Shared.Parts.{AsksRight, Tries, Dequeued, Relinked}
+use Rattle.cordyceps_queue.specs.Shared.Parts.{AsksRight, Tries, Dequeued}
 use Rattle.cordyceps_queue.specs.History.{Event, actor}
 use Rattle.cordyceps_shared.specs.Places.{ItemAt}
 use Rattle.cordyceps_shared.specs.Slots.{Near, TableStep, Hand}
@@ -119,28 +119,6 @@ module _ {E : Type 0} where
           ap (λ (v : View E). v.to) view ∙ h.10,
         ),
         (λ i. let c : FreeChain = record { rooms = frees i; end = ends i } in c),
-      )
-
-  pub tries_holding : (slots : ℕ) (es : List (Event Name E)) (k l : SeatState E) (t : ℕ) → Tries es slots k l t Empty → IsHolding slots t l
-  tries_holding slots es k l t T = T.0
-
-  -- the last free room was linked to the one in hand
-  pub hands_linked : (slots t r : ℕ) (fs : List (Event Name E)) (m k l : SeatState E) (e : E) → HandsOneOut fs slots t r e m k → Relinked k l → HandsOneOut fs slots t r e m l
-  hands_linked slots t r fs m k l e h b =
-      let view = b.view in
-      let same = ap (λ (v : View E). v.known) view in (
-        (
-          ap (λ (v : View E). v.stage) view ∙ h.0.0,
-          b.hand ∙ (h.0.1 ∙ ap (λ (v : View E). carry v.back) (sym view)),
-          (λ x. h.0.2 (sym (ap (λ (v : View E). v.known.share) view) ∙ x)),
-          subst (λ (v : View E). Near slots (v.free ++ v.back)) (sym view) h.0.3,
-          h.0.4,
-        ),
-        ap (λ (v : View E). v.back) view ∙ h.1,
-        ap (λ (v : View E). v.free) view ∙ h.2,
-        subst (λ (v : View E). Grown actor LegalReversed m.0.known (fs ++ Event.Out (name m.0) e ∷ []) v.known) (sym view) h.3,
-        subst (λ (v : View E). length v.free ≤ slots) (sym view) h.4,
-        ap (λ (v : View E). v.to) view ∙ h.5,
       )
 
   still : (m k : SeatState E) → m.0.back ≡ [] → k.0.back ≡ [] → k.0.free ≡ m.0.free ++ m.0.back → k.0.free ++ k.0.back ≡ m.0.free

@@ -1,5 +1,5 @@
 -- A store to the link of a party's last free room, and a read of a free room's link, keep the rule of a queue's table.
-use Rattle.std.proofs.Common.{◌≡◌, ◌≢◌, ◌⊎◌, ℕ, zero, suc, ◌+◌, ◌-◌, ◌<◌, List, [], ◌∷◌, ◌++◌, length, reverse, set, get_or, Option, Some, None, refl, sym, ap, ◌∙◌, subst, arith, length-set}
+use Rattle.std.proofs.Common.{◌≡◌, ◌≢◌, ◌⊎◌, ℕ, ◌+◌, ◌-◌, ◌<◌, List, [], ◌∷◌, ◌++◌, length, reverse, set, get_or, Option, Some, None, refl, sym, ap, ◌∙◌, subst, arith, length-set}
 use mathlib.Core.Option.{some, none}
 use native.Mathlib.Decide.{ℕ_discrete}
 use lib.ListN.{get_elem?}
@@ -9,12 +9,11 @@ use Rattle.cordyceps_shared.specs.Counts.{times}
 use Rattle.cordyceps_shared.specs.FreeChains.{Links}
 use Rattle.cordyceps_shared.specs.Histories.{events}
 use Rattle.cordyceps_shared.specs.Places.{ItemAt}
-use Rattle.cordyceps_shared.specs.Slots.{Near}
 use Rattle.cordyceps_shared.specs.Words as word
 use Rattle.cordyceps_shared.specs.declared.layout.TheConstants.{LINKS}
 use Rattle.cordyceps_shared.proofs.Changing.{one_set}
 use Rattle.cordyceps_shared.proofs.FreeLinks.{links_at, links_retied}
-use Rattle.cordyceps_shared.proofs.Places.{times_at}
+use Rattle.cordyceps_shared.proofs.Places.{at_end, times_at}
 use Rattle.cordyceps_shared.proofs.Telling.{at_length, owned_same, fits_same}
 use Rattle.cordyceps_shared.proofs.Words.{head_beside_next, right_beside_next}
 use Rattle.cordyceps_queue.specs.declared.cores.stage.Stage.{Stage}
@@ -26,23 +25,11 @@ use Rattle.cordyceps_queue.specs.Shared.Plays.{SeatState}
 use Rattle.cordyceps_queue.specs.Shared.Plays as play
 use Rattle.cordyceps_queue.specs.Shared.Rule.{TableState, link_of, party, party_of, machine_of, AreLinked, RuleHolds}
 use Rattle.cordyceps_queue.specs.Shared.View.{View, knows}
-use Rattle.cordyceps_queue.proofs.CoreTheory.Basics.{put_other, at_more}
+use Rattle.cordyceps_queue.proofs.CoreTheory.Basics.{put_other, at_within, at_more}
 use Rattle.cordyceps_queue.proofs.CoreTheory.ProducerSteps.{spare_shared, ready_spare}
 use Rattle.cordyceps_queue.proofs.SharedTheory.WordsAsMachine.{at_after, links_put, parties_put, core, party_at, rooms_of, free_spare, empties_same, linked_else, linkeds, linkeds_same}
 use Rattle.cordyceps_queue.proofs.SharedTheory.EnqueueKeeps.{spare_one}
 use Rattle.cordyceps_queue.proofs.SharedTheory.ReturnKeeps.{put_again}
-
-pub first_near : (slots r : ℕ) (rs free : List ℕ) → free ≡ r ∷ rs → Near slots free → r < slots
-first_near slots r rs free is near = near 0 r (subst (λ l. ItemAt l 0 r) (sym is) refl)
-
-at_low : (xs : List ℕ) (i x : ℕ) → ItemAt xs i x → i < length xs
-at_low [] i x a = absurd a
-at_low (y ∷ ys) zero x a = omega arith
-at_low (y ∷ ys) (suc i) x a = let l = at_low ys i x a in omega arith
-
-at_end : (before : List ℕ) (r : ℕ) → ItemAt (before ++ r ∷ []) (length before) r
-at_end [] r = refl
-at_end (x ∷ before) r = at_end before r
 
 -- ---- the link of a free room does not matter to the machine
 module _ {P E : Type 0} (m : AbstractMachine P E) (c : Chain) (h : List (Event P E)) (M : Meets m c h) (k r : ℕ) (o : Option ℕ) (mine : c.owner r ≡ Spare k) where
@@ -124,7 +111,7 @@ module _ {E : Type 0} (s : TableState E) (k : RuleHolds s) (id : ℕ) (v : View 
       | yes e ↦ e
       | no ne ↦
           let t = times_at r before (omega arith) in
-          let low = at_low before t.0 r t.1 in
+          let low = at_within before t.0 r t.1 in
           let same = rooms.once t.0 (length before) r (at_more v.free v.back t.0 r (subst (λ l. ItemAt l t.0 r) (sym free) (at_more before (r ∷ []) t.0 r t.1))) (at_more v.free v.back (length before) r here) in
           absurd (omega arith)
     ]
@@ -132,7 +119,7 @@ module _ {E : Type 0} (s : TableState E) (k : RuleHolds s) (id : ℕ) (v : View 
     not_back : (i : ℕ) → ItemAt v.back i r → ⊥
     not_back i a =
         let same = rooms.once (length before) (length v.free + i) r (at_more v.free v.back (length before) r here) (at_after v.free v.back i r a) in
-        let low = at_low v.free (length before) r here in
+        let low = at_within v.free (length before) r here in
         absurd (omega arith)
 
     abbrev tied_words : List ℕ

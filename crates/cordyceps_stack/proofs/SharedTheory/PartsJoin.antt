@@ -5,7 +5,6 @@ use Rattle.std.specs.Prelude.{IsTrue}
 use Rattle.cordyceps_shared.specs.FreeChains.{Tracks, FreeChain, leads, with_first, joined}
 use Rattle.cordyceps_shared.specs.Histories.{plain, own, AllOwn}
 use Rattle.cordyceps_shared.specs.Knowing.{Known, Grown}
-use Rattle.cordyceps_shared.specs.Places.{ItemAt}
 use Rattle.cordyceps_shared.specs.Shares.{Name, first_name}
 use Rattle.cordyceps_shared.proofs.Adding.{replicate_more, tail_own}
 use Rattle.cordyceps_shared.proofs.Places.{near_append}
@@ -29,9 +28,6 @@ is_zero n = (λ e. eq-eqb n 0 e, λ e. eqb-true n 0 e)
 abbrev pub hand_of : {A : Type 0} → List (ℕ × Option A) → Option A
 hand_of [] = None
 hand_of (x ∷ xs) = x.1
-
-pub first_near : (slots r : ℕ) (rs free : List ℕ) → free ≡ r ∷ rs → Near slots free → r < slots
-first_near slots r rs free is near = near 0 r (subst (λ l. ItemAt l 0 r) (sym is) refl)
 
 module _ {E : Type 0} where
   -- a party that loaded, and then did another step under the same name

@@ -1,9 +1,8 @@
 use Rattle.std.proofs.Common.{◌≡◌, ◌+◌, ◌-◌, ◌<◌, length, take, drop, sym, ap, ◌∙◌, rules, arith, add-one}
 use Rattle.cordyceps_shared.specs.FreeChains.{leads}
-use Rattle.cordyceps_shared.proofs.Places.{near_drop}
+use Rattle.cordyceps_shared.proofs.Places.{near_first, near_drop}
 use Rattle.cordyceps_shared.specs.declared.layout.TheConstants.{LINKS}
 use Rattle.cordyceps_stack.proofs.SharedTheory.StepsKeep.{skips}
-use Rattle.cordyceps_stack.proofs.SharedTheory.PartsJoin.{first_near}
 use Rattle.cordyceps_shared.proofs.TrackRooms.{room_at, last_same}
 use Rattle.cordyceps_stack.proofs.shared.parting.pass.Goals as goal
 
@@ -27,7 +26,7 @@ overflow_add-last g c =
     let low : c.loop-room._room < length rooms = omega arith in
     let t = room_at rooms c.loop-room._room low in
     let at = c.loop-room.invariant.2 t.0 t.1 t.2 in
-    let near = first_near c.args.words.now.table_id.slots t.0 t.1 (drop c.loop-room._room rooms) t.2 (near_drop c.args.words.now.table_id.slots c.loop-room._room rooms c.requires.rest.3) in
+    let near = near_first c.args.words.now.table_id.slots t.0 t.1 (drop c.loop-room._room rooms) t.2 (near_drop c.args.words.now.table_id.slots c.loop-room._room rooms c.requires.rest.3) in
     let table = c.requires.table in
     search rules
 
@@ -40,7 +39,7 @@ load-at-requires g c =
     let low : c.loop-room._room < length rooms = omega arith in
     let t = room_at rooms c.loop-room._room low in
     let at = c.loop-room.invariant.2 t.0 t.1 t.2 in
-    let near = first_near c.args.words.now.table_id.slots t.0 t.1 (drop c.loop-room._room rooms) t.2 (near_drop c.args.words.now.table_id.slots c.loop-room._room rooms c.requires.rest.3) in
+    let near = near_first c.args.words.now.table_id.slots t.0 t.1 (drop c.loop-room._room rooms) t.2 (near_drop c.args.words.now.table_id.slots c.loop-room._room rooms c.requires.rest.3) in
     let table = c.requires.table in
     (search rules, search rules, skips _ _ _ _)
 

@@ -2,21 +2,21 @@ use Rattle.std.proofs.Common.{◌∷◌, Option, Some, None, suc, refl, sym, ap,
 use Rattle.atomic_table.specs.Table.{rest}
 use Rattle.cordyceps_shared.specs.FreeChains.{FreeChain, leads, with_first}
 use Rattle.cordyceps_shared.specs.Places.{ItemAt}
+use Rattle.cordyceps_shared.proofs.Places.{near_first}
 use Rattle.cordyceps_stack.proofs.SharedTheory.StepsKeep.{readies}
-use Rattle.cordyceps_stack.proofs.SharedTheory.PartsJoin.{first_near}
 use Rattle.cordyceps_stack.proofs.shared.steps.fill.Goals as goal
 
 pub overflow_add-room : goal.overflow_add-room
 overflow_add-room g c =
     let r = c.requires.room in
-    let near = first_near _ c.args.room r.0 c.args.seat.now.me.0.free.rooms r.1 c.requires.rest.3 in
+    let near = near_first _ c.args.room r.0 c.args.seat.now.me.0.free.rooms r.1 c.requires.rest.3 in
     let table = c.requires.table in
     search rules
 
 pub load-next-requires : goal.load-next-requires
 load-next-requires g c =
     let r = c.requires.room in
-    let near = first_near _ c.args.room r.0 c.args.seat.now.me.0.free.rooms r.1 c.requires.rest.3 in
+    let near = near_first _ c.args.room r.0 c.args.seat.now.me.0.free.rooms r.1 c.requires.rest.3 in
     (search rules, search rules, readies _ _ _ _ c.args.room r.0 refl c.requires.rest.0 r.1)
 
 pub exchange-requires : goal.exchange-requires
