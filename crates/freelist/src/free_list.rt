@@ -98,7 +98,7 @@ impl<T: Linked<Links<T>>> FreeList<T> {
     /// seen the same history, in which no event is its own. Requires that the party has as many rooms.
     ///
     /// # Complexity
-    /// O(`rooms`).
+    /// O(`rooms`), or O(1) if the party gives all its rooms.
     ///
     /// # Waits
     /// Never.

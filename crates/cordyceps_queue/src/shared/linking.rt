@@ -61,22 +61,26 @@ pub(crate) fn add_room<E: Drop>(
     spare.end = next + 1;
 }
 
-/// Returns the word that leads to the free room after the first `rooms`, and the last of these.
+/// Returns the word that leads to the free room after the first `rooms`, and the last of these. Where these are all, no
+/// link is read.
 pub(crate) fn pass<E: Drop>(
     words: &Words<E>,
     seat: &mut PartySeat<E>,
-    free: &FreeRooms,
+    spare: &Spare,
     rooms: usize,
 ) -> (u64, usize)
     requires table { IsSeatOf seat.old.table_id words.now.table_id }
     requires rest { IsResting words.now.table_id.slots seat.old.me }
-    requires rooms { Tracks free.now (free_chain (view seat.old.me)) × (rooms ≤ free.now.count) }
+    requires rooms { TracksEnd spare.now (free_chain (view seat.old.me)) × (rooms ≤ spare.now.rooms.count) }
     ensures seat { (seat.new.table_id ≡ seat.old.table_id) × (seat.new.me ≡ seat.old.me) }
     ensures first { (r : ℕ) → (rs : List ℕ) → drop rooms (view seat.old.me).free ≡ r ∷ rs → result.0 ≡ suc r }
     ensures last { (before : List ℕ) → (r : ℕ) → take rooms (view seat.old.me).free ≡ before ++ r ∷ [] → result.1 ≡ r }
     ensures end { 0 < rooms → result.0 ≡ leads (drop rooms (view seat.old.me).free) (view seat.old.me).end }
 {
-    let mut at = free.first;
+    if rooms == spare.rooms.count {
+        return (spare.end, spare.rooms.last);
+    }
+    let mut at = spare.rooms.first;
     let mut last = 0;
     for _room in 0..rooms {
         last = at as usize - 1;

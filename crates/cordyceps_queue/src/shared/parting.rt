@@ -75,7 +75,7 @@ pub(crate) fn split<E: Drop>(
     ensures tracks { TracksEnd spare.new (free_chain (view seat.new.me))
         × TracksEnd result.1 (free_chain (view result.0.me)) }
 {
-    let (after, last) = pass(words, seat, &spare.rooms, rooms);
+    let (after, last) = pass(words, seat, spare, rooms);
     let given = Spare {
         rooms: FreeRooms {
             first: spare.rooms.first,

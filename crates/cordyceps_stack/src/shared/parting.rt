@@ -54,7 +54,8 @@ fn cut<E: Drop, B: Count>(words: &Words<E>, seat: &mut PartySeat<E>, rooms: usiz
     words.split_seat::<Cut<B>>(seat)
 }
 
-/// Returns the word that leads to the free room after the first `rooms`, and the last of these.
+/// Returns the word that leads to the free room after the first `rooms`, and the last of these. Where these are all, no
+/// link is read.
 fn pass<E: Drop>(
     words: &Words<E>,
     seat: &mut PartySeat<E>,
@@ -69,6 +70,9 @@ fn pass<E: Drop>(
     ensures last { (before : List ℕ) → (r : ℕ) → take rooms (view seat.old.me).free.rooms ≡ before ++ r ∷ []
         → result.1 ≡ r }
 {
+    if rooms == free.count {
+        return (0, free.last);
+    }
     let mut at = free.first;
     let mut last = 0;
     for _room in 0..rooms {

@@ -9,7 +9,7 @@ use Rattle.cordyceps_queue.proofs.shared.linking.pass.Goals as goal
 pub overflow_sub-last : goal.overflow_sub-last
 overflow_sub-last g c =
     let rooms = c.args.seat.now.me.0.free in
-    let count = c.requires.rooms.0.count in
+    let count = c.requires.rooms.0.tracks.count in
     let few = c.requires.rooms.1 in
     let more = c.loop-room-test.true in
     let low : c.loop-room._room < length rooms = omega arith in
@@ -20,7 +20,7 @@ overflow_sub-last g c =
 pub overflow_add-last : goal.overflow_add-last
 overflow_add-last g c =
     let rooms = c.args.seat.now.me.0.free in
-    let count = c.requires.rooms.0.count in
+    let count = c.requires.rooms.0.tracks.count in
     let few = c.requires.rooms.1 in
     let more = c.loop-room-test.true in
     let low : c.loop-room._room < length rooms = omega arith in
@@ -33,7 +33,7 @@ overflow_add-last g c =
 pub load-at-requires : goal.load-at-requires
 load-at-requires g c =
     let rooms = c.args.seat.now.me.0.free in
-    let count = c.requires.rooms.0.count in
+    let count = c.requires.rooms.0.tracks.count in
     let few = c.requires.rooms.1 in
     let more = c.loop-room-test.true in
     let low : c.loop-room._room < length rooms = omega arith in
@@ -47,7 +47,7 @@ pub loop-room-preserved : goal.loop-room-preserved
 loop-room-preserved g c =
     let rooms = c.args.seat.now.me.0.free in
     let n = c.loop-room._room in
-    let count = c.requires.rooms.0.count in
+    let count = c.requires.rooms.0.tracks.count in
     let few = c.requires.rooms.1 in
     let more = c.loop-room-test.true in
     let low : n < length rooms = omega arith in
