@@ -132,6 +132,17 @@ pub(crate) fn try_push<E: Drop>(
     }
 }
 
+/// How many calls of `Backoff::spin` make a pause. Each gives twice as many spin-loop hints as the last, up to 64.
+const SPINS: usize = 4;
+
+/// Pauses for 15 spin-loop hints, the second time for 176, and from then on for 256. Meanwhile other parties push
+/// several elements: a try takes longer the more parties try at a time.
+fn pause(backoff: &Backoff) {
+    for _ in 0..SPINS {
+        backoff.spin();
+    }
+}
+
 /// Pushes what is in the slot that the party took, by as many tries as it needs, and returns whether the stack was
 /// empty. It pauses from the second failure on: a pause takes longer than the step of another party that made the first
 /// one fail.
@@ -157,7 +168,7 @@ fn settle_at_last<E: Drop, R: Wait>(
             Some(first) => return first,
             None => {
                 if missed {
-                    backoff.spin();
+                    pause(&backoff);
                 }
                 missed = true;
             }
