@@ -54,7 +54,7 @@ pub one_else : (x r : ℕ) → x ≢ r → one_if (eqb x r) ≡ 0
 one_else x r n = ap one_if (ne_eqb x r n)
 
 -- ---- numbers that differ
-at_most_one : (b : Bool) → one_if b ≤ 1
+pub at_most_one : (b : Bool) → one_if b ≤ 1
 at_most_one true = omega arith
 at_most_one false = omega arith
 
@@ -87,7 +87,3 @@ below_once zero r = omega arith
 below_once (suc n) r = dite (ℕ_discrete n r)
     (λ e. omega (arith, at_most_one (eqb n r), below_none n r (omega arith)))
     (λ c. omega (arith, one_else n r c, below_once n r))
-
-pub below_length : (n : ℕ) → length (below n) ≡ n
-below_length zero = refl
-below_length (suc n) = ap suc (below_length n)

@@ -1,7 +1,7 @@
 -- The links of free rooms: what a store leaves of them, and how they are cut and joined.
 use Rattle.std.proofs.Common.{◌≡◌, ◌⊎◌, ℕ, zero, suc, ◌+◌, ◌≤◌, ◌<◌, List, [], ◌∷◌, ◌++◌, length, set, take, drop, refl, sym, ap, ◌∙◌, subst, inl, inr, ⊎_elim, arith, append-nil, eqb}
 use Rattle.cordyceps_shared.specs.FreeChains.{leads, Links, end_after}
-use Rattle.cordyceps_shared.specs.Counts.{one_if, times, below}
+use Rattle.cordyceps_shared.specs.Counts.{one_if, times}
 use Rattle.cordyceps_shared.specs.Words.{next}
 use Rattle.cordyceps_shared.specs.declared.layout.TheConstants.{LINKS}
 use Rattle.cordyceps_shared.proofs.Counting.{one_here}
@@ -59,12 +59,3 @@ links_onto ws (x ∷ y ∷ ys) others o end other may k l = (k.0, links_onto ws 
 pub links_append : (ws rooms others : List ℕ) (end other : ℕ) → (rooms ≡ []) ⊎ ((others ≡ []) ⊎ (end ≡ leads others other)) → Links ws rooms end → Links ws others other → Links ws (rooms ++ others) (end_after end others other)
 links_append ws rooms [] end other may k l = subst (λ z. Links ws z end) (sym (append-nil rooms)) k
 links_append ws rooms (o ∷ others) end other may k l = links_onto ws rooms others o end other (⊎_elim (λ e. inl e) (λ m. ⊎_elim (λ no. absurd (cc)) (λ e. inr e) m) may) k l
-
--- ---- those of a new stack
-leads_below : (n : ℕ) → leads (below n) 0 ≡ n
-leads_below zero = refl
-leads_below (suc n) = refl
-
-pub links_below : (ws : List ℕ) (n : ℕ) → ((r : ℕ) → r < n → next ws r ≡ r) → Links ws (below n) 0
-links_below ws zero linked = tt
-links_below ws (suc n) linked = (linked n (omega arith) ∙ sym (leads_below n), links_below ws n (λ r low. linked r (omega arith)))

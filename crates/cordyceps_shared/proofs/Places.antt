@@ -4,7 +4,7 @@ use mathlib.Core.Option.{some}
 use mathlib.Core.Logic.{dite}
 use native.Mathlib.Decide.{ℕ_discrete}
 use lib.ListN.{get_elem?}
-use Rattle.cordyceps_shared.specs.Counts.{times, below}
+use Rattle.cordyceps_shared.specs.Counts.{times}
 use Rattle.cordyceps_shared.specs.Places.{ItemAt}
 use Rattle.cordyceps_shared.specs.Slots.{Homes, Near, EmptyAtHome}
 use Rattle.cordyceps_shared.proofs.Counting.{one_here, one_else}
@@ -41,12 +41,6 @@ times_at r [] l = absurd (omega arith)
 times_at r (x ∷ xs) l = dite (ℕ_discrete x r)
     (λ e. (0, sym e))
     (λ n. let none = one_else x r n in let t = times_at r xs (omega arith) in (suc t.0, t.1))
-
--- a number below n is one
-pub at_below : (n i r : ℕ) → ItemAt (below n) i r → r < n
-at_below zero i r a = absurd a
-at_below (suc n) zero r a = omega arith
-at_below (suc n) (suc i) r a = omega (arith, at_below n i r a)
 
 -- ---- rooms of a table
 pub near_cons : (slots t : ℕ) (xs ys : List ℕ) → t < slots → Near slots ys → xs ≡ t ∷ ys → Near slots xs

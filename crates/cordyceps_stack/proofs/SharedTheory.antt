@@ -1,5 +1,6 @@
 -- Lemmas on what threads share.
 pub mod CallsHold
+pub mod OrderHolds
 pub mod PartingKeeps
 pub mod PartsJoin
 pub mod PartyMoves

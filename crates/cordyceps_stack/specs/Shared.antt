@@ -1,6 +1,7 @@
 -- Definitions of what threads share.
 pub mod Calls
 pub mod Moves
+pub mod Order
 pub mod Parting
 pub mod Parts
 pub mod Plays

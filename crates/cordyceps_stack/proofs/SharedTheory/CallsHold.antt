@@ -1,19 +1,16 @@
 -- What the calls of a shared transfer stack promise, from what their parts leave.
-use Rattle.std.proofs.Common.{◌≡◌, ◌+◌, ◌<◌, ℕ, zero, suc, List, [], ◌∷◌, ◌++◌, reverse, length, replicate, Bool, refl, sym, ap, ◌∙◌, subst, length-append}
+use Rattle.std.proofs.Common.{◌≡◌, ◌+◌, ◌<◌, ℕ, suc, List, [], ◌∷◌, ◌++◌, reverse, length, replicate, Bool, refl, sym, ap, ◌∙◌, subst, arith, length-append}
 use Rattle.std.specs.Prelude.{IsTrue, Result, Ok, Err, MatchResult, is_ok, true}
 use Rattle.atomic_table.specs.Seated.{TableId}
 use Rattle.cordyceps_shared.specs.FreeChains.{Tracks, FreeChain}
-use Rattle.cordyceps_shared.specs.Counts.{below}
 use Rattle.cordyceps_shared.specs.Histories.{plain, AllOwn}
 use Rattle.cordyceps_shared.specs.Knowing.{Known, IsPrefixOf, IsKnown}
 use Rattle.cordyceps_shared.specs.Places.{ItemAt}
 use Rattle.cordyceps_shared.specs.Slots.{Near}
 use Rattle.cordyceps_shared.specs.Shares.{Name, whole, IsShare}
 use Rattle.cordyceps_shared.specs.Standings.{name_of, new_party, Absorbs}
-use Rattle.cordyceps_shared.proofs.Choices.{first_or, rest_from}
 use Rattle.cordyceps_shared.proofs.Adding.{keeps_not_whole, not_whole, plain_unmarked, merged_prefix, whole_adds}
-use Rattle.cordyceps_shared.proofs.Counting.{below_length}
-use Rattle.cordyceps_shared.proofs.Places.{at_below, near_drop, near_take, near_append}
+use Rattle.cordyceps_shared.proofs.Places.{near_drop, near_take, near_append}
 use Rattle.cordyceps_shared.proofs.Naming.{joined_some, joined_disjoint, keeps_some, gives_some}
 use Rattle.cordyceps_shared.proofs.Ordering.{whole_share, keeps_share, gives_share, joined_share}
 use Rattle.cordyceps_stack.specs.Shared.Parts.{HasPushed, HasMissed, TookAll, EmptiesHand, HasAbsorbed, standing, IsSeated}
@@ -25,23 +22,10 @@ use Rattle.cordyceps_stack.specs.Shared.Parting.{view_keeping, view_giving, view
 use Rattle.cordyceps_stack.specs.Shared.Rule.{IsTable}
 use Rattle.cordyceps_stack.specs.Shared.Calls.{PartyOf, PushesAt, Misses, Takes, Looks, Adds, EndsLooked}
 use Rattle.cordyceps_stack.specs.Shared.View.{View, newcomer, name}
+use Rattle.cordyceps_stack.specs.Shared.Order.{crosswise}
+use Rattle.cordyceps_stack.proofs.SharedTheory.OrderHolds.{order_length, order_at, tracks_new}
 use Rattle.cordyceps_stack.proofs.SharedTheory.PartsJoin.{not_overtaken}
 use Rattle.cordyceps_stack.proofs.Histories.{legal_none}
-
--- ---- the free rooms of a new stack
-below_first : (n r : ℕ) (rs : List ℕ) → below n ≡ r ∷ rs → n ≡ suc r
-below_first zero r rs e = absurd (cc)
-below_first (suc n) r rs e = ap suc (ap (first_or 0) e)
-
-below_last : (n : ℕ) (before : List ℕ) (r : ℕ) → below n ≡ before ++ r ∷ [] → 0 ≡ r
-below_last zero [] r e = absurd (cc)
-below_last zero (b ∷ before) r e = absurd (cc)
-below_last (suc zero) [] r e = (ap (first_or 0) e)
-below_last (suc (suc n)) [] r e = absurd (cc)
-below_last (suc n) (b ∷ before) r e = below_last n before r (ap rest_from e)
-
-tracks_new : (n : ℕ) → Tracks record { first = n; last = 0; count = n } record { rooms = below n; end = 0 }
-tracks_new n = record { count = sym (below_length n); first = below_first n; last = below_last n }
 
 module _ {E : Type 0} where
   pub new_seated : (z table : TableId) (rooms : ℕ) (m : SeatState E) (free : FreeRooms) → (z ≡ table) × IsTable table → table.slots ≡ rooms → m ≡ (newcomer rooms, []) → free ≡ record { first = rooms; last = 0; count = rooms } → IsSeated z m free
@@ -51,7 +35,7 @@ module _ {E : Type 0} where
       ap (λ (q : SeatState E). q.0.doing) is,
       ap (λ (q : SeatState E). q.1) is,
       (λ e. let no : whole ≡ [] = sym (ap (λ (q : SeatState E). q.0.known.share) is) ∙ e in absurd (cc)),
-      λ i r a. subst (λ n. r < n) (sym (ap (λ (q : TableId). q.slots) at.0 ∙ wide)) (at_below rooms i r (subst (λ (q : SeatState E). ItemAt q.0.free.rooms i r) is a)),
+      λ i r a. subst (λ n. r < n) (sym (ap (λ (q : TableId). q.slots) at.0 ∙ wide)) (order_at rooms rooms i r (omega arith) (subst (λ (q : SeatState E). ItemAt q.0.free.rooms i r) is a)),
     );
     tracks = subst (λ (q : FreeRooms × SeatState E). Tracks q.0 q.1.0.free) (λ i. (sym have i, sym is i)) (tracks_new rooms);
     legal = subst (λ (q : SeatState E). Legal (plain q.0.known.seen)) (sym is) legal_none;
@@ -60,7 +44,7 @@ module _ {E : Type 0} where
   }
 
   pub new_standing : (z table : TableId) (rooms : ℕ) (m : SeatState E) → z ≡ table → m ≡ (newcomer rooms, []) → standing z m.0 ≡ new_party table rooms
-  new_standing z table rooms m at is = (λ i. standing (at i) (is i).0) ∙ ap (λ n. let p : PartyOf E = new_party table n in p) (below_length rooms)
+  new_standing z table rooms m at is = (λ i. standing (at i) (is i).0) ∙ ap (λ n. let p : PartyOf E = new_party table n in p) (order_length (crosswise rooms) rooms)
 
   pub kept_seated : (z z' : TableId) (n : ℕ) (m k : SeatState E) (free left : FreeRooms) → IsSeated z m free → z' ≡ z → k ≡ (view_keeping n m.0, []) → Tracks left k.0.free → IsSeated z' k left
   kept_seated z z' n m k free left s at is have = record {

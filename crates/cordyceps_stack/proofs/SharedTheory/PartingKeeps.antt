@@ -4,26 +4,28 @@ use mathlib.Core.Option.{some, none}
 use lib.ListN.{get_elem?, length-map, length-replicate}
 use Rattle.atomic_table.specs.Table.{opening, Splits, Joins, Allows, step, keeps}
 use Rattle.cordyceps_shared.specs.FreeChains.{Links, MayJoin}
-use Rattle.cordyceps_shared.specs.Counts.{one_if, below}
+use Rattle.cordyceps_shared.specs.Counts.{one_if}
 use Rattle.cordyceps_shared.specs.Shares.{Name}
 use Rattle.cordyceps_shared.specs.declared.layout.TheConstants.{HEAD, LINKS}
-use Rattle.cordyceps_shared.proofs.Counting.{tally_set, tally_append, tally_cut, below_once}
+use Rattle.cordyceps_shared.proofs.Counting.{tally_set, tally_append, tally_cut}
 use Rattle.cordyceps_shared.proofs.Changing.{two_set, set_more, was_there}
 use Rattle.cordyceps_shared.proofs.Cutting.{owned_cut, fits_cut}
 use Rattle.cordyceps_shared.proofs.Joining.{owned_join, fits_join}
-use Rattle.cordyceps_shared.proofs.Places.{at_below, empty_new, empty_drop, empty_take, empty_append}
+use Rattle.cordyceps_shared.proofs.Places.{empty_new, empty_drop, empty_take, empty_append}
 use Rattle.cordyceps_shared.proofs.Renaming.{renamed_else, relabel, events_relabel, relabel_append, without_relabel}
 use Rattle.cordyceps_shared.proofs.Standing as seats
 use Rattle.cordyceps_shared.proofs.Telling.{owned_same, fits_forgot}
 use Rattle.cordyceps_stack.specs.History.{Event, Load, Taken, held, Legal, actor, SomeChange}
 use Rattle.cordyceps_stack.specs.Shared.View.{Idle, View, knows, newcomer, kept_rooms, at_work, count_with_party}
 use Rattle.cordyceps_stack.specs.Shared.Words.{History, Since, AtDoing, AreNew}
-use Rattle.cordyceps_shared.proofs.FreeLinks.{links_below, links_drop, links_take, links_append}
+use Rattle.cordyceps_shared.proofs.FreeLinks.{links_drop, links_take, links_append}
 use Rattle.cordyceps_shared.specs.Slots.{Homes, EmptyAtHome}
 use Rattle.cordyceps_stack.specs.Shared.Rule.{RuleHolds}
 use Rattle.cordyceps_stack.specs.Shared.Plays.{SeatState}
 use Rattle.cordyceps_stack.specs.Shared.Parting.{view_keeping, view_giving, view_absorbing, view_absorbed, view_without_told, after_learn}
+use Rattle.cordyceps_stack.specs.Shared.Order.{in_order}
 use Rattle.cordyceps_stack.proofs.Histories.{legal_none}
+use Rattle.cordyceps_stack.proofs.SharedTheory.OrderHolds.{order_at, order_once, order_links}
 use Rattle.cordyceps_stack.proofs.SharedTheory.WordsKeep.{does_frame, rests, forks}
 use Rattle.cordyceps_stack.proofs.SharedTheory.StepsKeep.{step_keeps, unwritten, few_rooms}
 
@@ -41,13 +43,13 @@ module _ (E : Type 0) where
           legal = legal_none;
           spelled = new.empty;
           holds = refl;
-          apart = λ r. omega (arith, below_once rooms r);
+          apart = λ r. omega (arith, order_once rooms r);
           each = λ j v e. subst (λ (z : View E). AtDoing words [] j z.doing) (seats.only first v j e).1 tt;
-          linked = λ j v e. subst (λ (z : View E). Links words z.free.rooms z.free.end) (seats.only first v j e).1 (links_below words rooms new.linked);
+          linked = λ j v e. subst (λ (z : View E). Links words z.free.rooms z.free.end) (seats.only first v j e).1 (order_links words rooms rooms (omega arith) new.linked);
         };
         wide = new.wide ∙ ap (λ n. LINKS + n) (sym (length-map (replicate rooms None) some ∙ length-replicate rooms None));
         full = tt;
-        empty = λ j v e. subst (λ (z : View E). let homes : Homes E = map some (replicate rooms None) in EmptyAtHome homes z.free.rooms) (seats.only first v j e).1 (empty_new rooms (below rooms) (at_below rooms));
+        empty = λ j v e. subst (λ (z : View E). let homes : Homes E = map some (replicate rooms None) in EmptyAtHome homes z.free.rooms) (seats.only first v j e).1 (empty_new rooms (in_order rooms) (λ i r. order_at rooms rooms i r (omega arith)));
         kept = λ j v e. subst (λ (z : View E). let homes : Homes E = map some (replicate rooms None) in EmptyAtHome homes (kept_rooms z.doing)) (seats.only first v j e).1 (λ i r a. absurd a);
         fits = known.1;
         owned = known.0;

@@ -1,11 +1,12 @@
 -- What a party of a shared transfer stack knows and does, as the rule of the stack's table sees it.
 use Rattle.std.specs.Prelude.{ℕ, List, [], ◌∷◌, nat_eq, ◌+◌}
 use Rattle.cordyceps_shared.specs.FreeChains.{FreeChain}
-use Rattle.cordyceps_shared.specs.Counts.{tally, one_if, times, below}
+use Rattle.cordyceps_shared.specs.Counts.{tally, one_if, times}
 use Rattle.cordyceps_shared.specs.Knowing.{Known}
 use Rattle.cordyceps_shared.specs.Knowing as knowing
 use Rattle.cordyceps_shared.specs.Shares.{Name, first_name}
 use Rattle.cordyceps_stack.specs.History.{Event}
+use Rattle.cordyceps_stack.specs.Shared.Order.{in_order}
 
 -- where a party is within a call
 pub data Doing (E : Type 0) : Type 0 where
@@ -31,7 +32,7 @@ module _ {E : Type 0} where
 
   -- the party of a new stack
   abbrev pub newcomer : ℕ → View E
-  newcomer rooms = record { known = knowing.newcomer; free = record { rooms = below rooms; end = 0 }; doing = Idle }
+  newcomer rooms = record { known = knowing.newcomer; free = record { rooms = in_order rooms; end = 0 }; doing = Idle }
 
   -- the name under which the party acts
   abbrev pub name : View E → Name

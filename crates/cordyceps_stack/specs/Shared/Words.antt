@@ -11,6 +11,7 @@ use Rattle.cordyceps_shared.specs.Words.{head, next}
 use Rattle.cordyceps_shared.specs.declared.layout.TheConstants.{LINKS}
 use Rattle.cordyceps_stack.specs.History.{Event, Load, held, Legal, SomeChange}
 use Rattle.cordyceps_stack.specs.Cores.Stages.{room_elements}
+use Rattle.cordyceps_stack.specs.Shared.Order.{crosswise, leads_before}
 use Rattle.cordyceps_stack.specs.Shared.View.{Doing, Idle, Ready, Loaded, Set, Walking, View, in_chain}
 use Rattle.cordyceps_stack.specs.Shared.View.{count_with_party}
 
@@ -28,11 +29,11 @@ abbrev pub Spells : {E : Type 0} → List ℕ → ℕ → List (ℕ × E) → Ty
 Spells words h [] = h ≡ 0
 Spells words h (x ∷ xs) = (h ≡ suc x.0) × Spells words (next words x.0) xs
 
--- the words of a new stack, all of whose rooms are free
+-- the words of a new stack, all of whose rooms are free, in order
 pub record AreNew (words : List ℕ) (rooms : ℕ) : Type 0 where
   pub wide : length words ≡ LINKS + rooms
   pub empty : head words ≡ 0
-  pub linked : (r : ℕ) → r < rooms → next words r ≡ r
+  pub linked : (r : ℕ) → r < rooms → next words r ≡ leads_before rooms (crosswise rooms r)
 
 module _ {E : Type 0} where
   -- the last event of seat j is a load, at which it read this; and where head is another now, it was changed since

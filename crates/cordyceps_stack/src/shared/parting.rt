@@ -1,10 +1,12 @@
 //! How a shared stack is created, and how its parties are split and absorbed.
-ghost use Rattle.std.specs.Prelude.{◌≡◌, ◌≤◌, ◌+◌, ℕ, suc, List, [], ◌∷◌, ◌++◌, take, drop, IfOk};
+ghost use Rattle.std.specs.Prelude.{◌≡◌, ◌<◌, ◌≤◌, ◌+◌, ℕ, suc, List, [], ◌∷◌, ◌++◌, take, drop, IfOk};
 ghost use Rattle.cordyceps_shared.specs.FreeChains.{joined, MayJoin, Tracks};
 ghost use Rattle.cordyceps_shared.specs.Knowing.{IsKnown};
 ghost use Rattle.cordyceps_stack.specs.History.{Legal};
 ghost use Rattle.cordyceps_stack.specs.Shared.Parting.{view_keeping, view_giving, view_absorbing};
 ghost use Rattle.cordyceps_stack.specs.Shared.Parts.{IsSeatOf, Ties, Relinked, HasAbsorbed};
+ghost use Rattle.cordyceps_stack.specs.Shared.Order as spec;
+ghost use Rattle.cordyceps_stack.specs.Shared.Order.{leads_before};
 ghost use Rattle.cordyceps_stack.specs.Shared.Words.{AreNew};
 ghost use Rattle.cordyceps_stack.specs.Shared.Plays.{IsResting};
 ghost use Rattle.cordyceps_stack.specs.Shared.View.{newcomer};
@@ -19,14 +21,53 @@ use cordyceps_shared::layout::{HEAD, LINKS};
 use std::alloc::{AllocError, Global};
 use std::marker::Brand;
 
-/// Creates the words of an empty stack with `rooms` rooms. The link of each room leads to the room before it.
+/// The rows of a block, and its columns.
+const SIDE: usize = 32;
+
+/// The rooms of a block.
+const BLOCK: usize = SIDE * SIDE;
+
+/// How many rooms a stack has at most whose rooms are free in an order that is not their own.
+const FEW: usize = 1 << 18;
+
+/// Returns the room at a place of the order in which a new stack's rooms are free. It is also the place of the room with
+/// that number.
+///
+/// Rooms that are used one after another lie in different cache lines, 32 rooms apart. Otherwise a party that pushes
+/// would write the lines that a party reads and writes which has just taken all. The order is by blocks, whose rows
+/// become columns. In more rooms than the caches hold, one thread alone takes longer in it than it is worth.
+fn crosswise(rooms: usize, place: usize) -> usize
+    requires { (place < rooms) × (rooms ≤ MAX_ROOMS) }
+    ensures { result ≡ spec.crosswise rooms place }
+{
+    let block = place / BLOCK * BLOCK;
+    if rooms <= FEW && block + BLOCK <= rooms {
+        block + place % BLOCK % SIDE * SIDE + place % BLOCK / SIDE
+    } else {
+        place
+    }
+}
+
+/// Returns the link of a room of a new stack, which leads to the room at the place before.
+fn first_link(rooms: usize, room: usize) -> u64
+    requires { (room < rooms) × (rooms ≤ MAX_ROOMS) }
+    ensures { result ≡ leads_before rooms (spec.crosswise rooms room) }
+{
+    let place = crosswise(rooms, room);
+    if place == 0 {
+        return 0;
+    }
+    crosswise(rooms, place - 1) as u64 + 1
+}
+
+/// Creates the words of an empty stack with `rooms` rooms. The link of each leads to the room at the place before.
 fn links(alloc: Global, rooms: usize) -> Result<Vec<u64>, AllocError>
     requires { rooms ≤ MAX_ROOMS }
     ensures { IfOk result (λ words. AreNew words.items rooms) }
 {
     let mut words = vec![in alloc; 0; LINKS + rooms]?;
     for room in 0..rooms {
-        words[LINKS + room] = room as u64;
+        words[LINKS + room] = first_link(rooms, room);
     }
     Ok(words)
 }

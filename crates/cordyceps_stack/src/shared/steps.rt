@@ -133,9 +133,9 @@ pub(crate) fn try_push<E: Drop>(
 }
 
 /// How many calls of `Backoff::spin` make a pause. Each gives twice as many spin-loop hints as the last, up to 64.
-const SPINS: usize = 4;
+const SPINS: usize = 5;
 
-/// Pauses for 15 spin-loop hints, the second time for 176, and from then on for 256. Meanwhile other parties push
+/// Pauses for 31 spin-loop hints, the second time for 288, and from then on for 320. Meanwhile other parties push
 /// several elements: a try takes longer the more parties try at a time.
 fn pause(backoff: &Backoff) {
     for _ in 0..SPINS {

@@ -16,8 +16,8 @@ impl<T: Linked<Links<T>>> TransferStack<T> {
     /// O(t), for t tries, each as that of `try_push`.
     ///
     /// # Waits
-    /// While other parties push or take between its steps it tries again, and pauses from the second failure on, for 15
-    /// to 256 spin-loop hints. If they do so without end, it never returns. A whole party succeeds at its first try.
+    /// While other parties push or take between its steps it tries again, and pauses from the second failure on, for 31
+    /// to 320 spin-loop hints. If they do so without end, it never returns. A whole party succeeds at its first try.
     pub fn push<R: Wait>(&self, rt: &R, party: &mut Party<T>, handle: T::Handle)
         requires table { party.old.table ≡ self.now }
         requires room { 0 < party.old.rooms }
