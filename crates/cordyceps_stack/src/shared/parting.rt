@@ -21,27 +21,27 @@ use cordyceps_shared::layout::{HEAD, LINKS};
 use std::alloc::{AllocError, Global};
 use std::marker::Brand;
 
-/// The rows of a block, and its columns.
+/// The number of rows of a block, and of its columns.
 const SIDE: usize = 32;
 
-/// The rooms of a block.
+/// The number of rooms of a block.
 const BLOCK: usize = SIDE * SIDE;
 
-/// How many rooms a stack has at most whose rooms are free in an order that is not their own.
-const FEW: usize = 1 << 18;
+/// The greatest number of rooms of a stack whose rooms are in crosswise order.
+const MAX_CROSSWISE: usize = 1 << 18;
 
-/// Returns the room at a place of the order in which a new stack's rooms are free. It is also the place of the room with
-/// that number.
+/// Returns the room at a place of the order in which a new stack's rooms are used, the last place first. The function is
+/// its own inverse: it also returns the place of a room.
 ///
-/// Rooms that are used one after another lie in different cache lines, 32 rooms apart. Otherwise a party that pushes
-/// would write the lines that a party reads and writes which has just taken all. The order is by blocks, whose rows
-/// become columns. In more rooms than the caches hold, one thread alone takes longer in it than it is worth.
+/// The order is by blocks of rooms, whose rows become columns. So rooms that are used one after another are 32 rooms
+/// apart, and in different cache lines. Next to each other, a push and the walk of a taker would take the same line from
+/// each other at each element. In a stack of more rooms the order costs one thread more than it is worth.
 fn crosswise(rooms: usize, place: usize) -> usize
     requires { (place < rooms) × (rooms ≤ MAX_ROOMS) }
     ensures { result ≡ spec.crosswise rooms place }
 {
     let block = place / BLOCK * BLOCK;
-    if rooms <= FEW && block + BLOCK <= rooms {
+    if rooms <= MAX_CROSSWISE && block + BLOCK <= rooms {
         block + place % BLOCK % SIDE * SIDE + place % BLOCK / SIDE
     } else {
         place
