@@ -1,16 +1,23 @@
 """What the scripts of tools/ share: where the repository and its toolchain are, what --help says, and how they end."""
 
 import argparse
+import hashlib
+import importlib.machinery
+import importlib.util
 import os
 import re
 import shutil
+import signal
 import subprocess
 import sys
+import tempfile
 
 TOP = os.path.dirname(os.path.dirname(os.path.realpath(__file__)))
 NAME = os.path.basename(os.path.realpath(sys.argv[0]))
 # The toolchain's compiler and linker, in its folder.
 TOOLS = ("toolchain/bin/clang", "toolchain/bin/ld.lld")
+# The parts of a function's proof. They belong to it alone: what calls it reads its contract.
+OWN_PROOF = ("Answers.antt", "Invariants.antt", "Proof.antt")
 MISSING = "it was called in another way than this, or lacks something that it needs: a line says what"
 
 
@@ -50,6 +57,45 @@ def text_of(path):
         return it.read()
 
 
+def write(path, text):
+    """Writes a file in one step, so that no reader meets half of it."""
+    os.makedirs(os.path.dirname(path), exist_ok=True)
+    with tempfile.NamedTemporaryFile("w", dir=os.path.dirname(path), delete=False, encoding="utf-8") as it:
+        it.write(text)
+    os.replace(it.name, path)
+
+
+def files_in(*folders):
+    """The files of these folders, in order."""
+    return sorted(f"{at}/{name}" for folder in folders for at, _, names in os.walk(folder) for name in names)
+
+
+def sum_of(files, *more):
+    """A sum of the toolchain, of these files of the repository with their paths, and of more values."""
+    found = hashlib.sha256(repr(more).encode())
+    for file in (f"{kit('KIT-ID')}/KIT-ID", *files):
+        with open(file, "rb") as it:
+            found.update(repr((os.path.relpath(file, TOP), it.read())).encode())
+    return found.hexdigest()
+
+
+def script(name):
+    """A script of tools/ as a module, for what another one takes of it."""
+    sys.dont_write_bytecode = True
+    path = os.path.join(os.path.dirname(os.path.realpath(__file__)), name)
+    spec = importlib.util.spec_from_loader(name, importlib.machinery.SourceFileLoader(name, path))
+    module = importlib.util.module_from_spec(spec)
+    spec.loader.exec_module(module)
+    return module
+
+
+def lanes(memory=0):
+    """How many processes to run side by side: one for each processor, as far as each has so many KB of free memory."""
+    count = len(os.sched_getaffinity(0))
+    free = int(re.search(r"^MemAvailable: +(\d+)", text_of("/proc/meminfo"), re.M)[1])
+    return max(min(count, free // memory if memory else count), 1)
+
+
 def kit(*paths):
     """The folder of the toolchain, which has these files."""
     rt = shutil.which("rt")
@@ -66,6 +112,25 @@ def rtlib():
     """The toolchain's own words for a check, as a module."""
     sys.path.insert(0, f"{kit('bin/rtlib.py')}/bin")
     return __import__("rtlib")
+
+
+# The mode in which the program runs each script of scripts/. Mode share reads none.
+MODES = {
+    "list": "list",
+    "blocks": "list",
+    "greatest_numbers": "list",
+    "stack": "stack",
+    "sorted": "sorted",
+    "transfer": "transfer",
+    "taken_between": "transfer",
+    "overtaken": "transfer",
+    "queue": "queue",
+    "swapped_not_linked": "queue",
+    "stub_put_in": "queue",
+    "not_there": "queue",
+    "batches": "queue",
+    "share": "share",
+}
 
 
 def build_libraries(crate):
@@ -85,6 +150,8 @@ def verdict(passed, failed):
 
 def run(main, *arguments):
     """Runs a script, and ends with its status, or with 130 where it was interrupted."""
+    # (a job in the background ignores interrupts, and what it starts would too)
+    signal.signal(signal.SIGINT, signal.default_int_handler)
     try:
         sys.exit(main(*arguments))
     except KeyboardInterrupt:

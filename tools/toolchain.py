@@ -1,0 +1,38 @@
+"""A copy of the toolchain that is made of links, in which single tools are replaced by scripts."""
+
+import os
+import shutil
+
+# What the copy has as folders and files of its own. The scripts find the toolchain by the folder that they lie in.
+FOLDERS = ("bin", "toolchain", "toolchain/bin")
+SCRIPTS = ("bin/rt", "bin/rtlib.py")
+# `rt try` starts a check beside the build, for a hint alone. It would take a processor, so a copy can have a check that
+# does nothing.
+NO_CHECK = "#!/bin/sh\n"
+
+
+def link(kit, copy):
+    """Makes the copy: links, but for its own folders and the scripts."""
+    for folder in ("", *FOLDERS):
+        os.makedirs(os.path.join(copy, folder), exist_ok=True)
+        for name in os.listdir(os.path.join(kit, folder)):
+            path = os.path.join(folder, name)
+            if path in SCRIPTS:
+                shutil.copy(f"{kit}/{path}", f"{copy}/{path}")
+            elif path not in FOLDERS:
+                os.symlink(f"{kit}/{path}", f"{copy}/{path}")
+
+
+def replace(path, text):
+    """Writes a script in the place of a link."""
+    os.remove(path)
+    with open(path, "w", encoding="utf-8") as it:
+        it.write(text)
+    os.chmod(path, 0o755)
+
+
+def without_hints(kit, copy):
+    """Makes a copy whose `rt try` starts no check beside the build, and answers its rt."""
+    link(kit, copy)
+    replace(f"{copy}/bin/rattle", NO_CHECK)
+    return f"{copy}/bin/rt"
