@@ -1,5 +1,5 @@
-//! Comparisons of values with those that are wanted.
-ghost use Rattle.std.specs.Prelude.{◌<◌, ◌≤◌};
+//! Comparisons of values with those that are wanted, and ends of tests where memory is refused.
+ghost use Rattle.std.specs.Prelude.{◌≡◌, ◌<◌, ◌≤◌, Ok};
 
 use std::fmt::Debug;
 use std::process::Abort;
@@ -21,4 +21,14 @@ pub fn has_place(rt: &impl Abort, len: usize)
     ensures { len < usize.MAX }
 {
     assert!(rt; len < usize::MAX);
+}
+
+/// Returns what was made, and fails where memory was refused.
+pub fn made<T, E: Drop>(rt: &impl Abort, answer: Result<T, E>) -> T
+    ensures { answer ≡ Ok result }
+{
+    match answer {
+        Ok(it) => it,
+        Err(_) => panic!(rt; "memory was refused"),
+    }
 }

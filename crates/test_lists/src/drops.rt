@@ -1,86 +1,107 @@
-//! The order in which lists drop what they hold.
+//! The order in which lists, their iterators and a chain's cursor drop what they hold.
 ghost use Rattle.std.specs.Prelude.{◌≡◌};
 
-use crate::compared::{has_place, same};
+use crate::compared::{has_place, made, same};
 use cordyceps_base::linked::Linked;
-use cordyceps_base::list::Links;
-use cordyceps_base::node::Node;
+use cordyceps_base::node::{Kind, Node};
+use cordyceps_base::single_chain::SingleChain;
+use cordyceps_base::{list, stack};
 use cordyceps_list::list::List;
-use std::alloc::{AllocError, Global};
+use std::alloc::Global;
+use std::cell::Cell;
 use std::process::Abort;
-use std::sync::Arc;
-use std::sync::atomic::{AtomicU64, Ordering};
-use std::test::Fail;
+use std::rc::Rc;
 use test_support::nodes::node_of;
 
-/// A value whose drop is counted if as many others were counted before it as it says.
-struct Turn {
-    turn: u64,
-    count: Arc<AtomicU64, Global>,
+/// A value whose drop appends its digit to those of the values dropped before it.
+struct Noted {
+    digit: u64,
+    order: Rc<Cell<u64>, Global>,
 }
 
-impl Drop for Turn {
+impl Drop for Noted {
     fn drop(self) {
-        let Turn { turn, count } = self;
-        let _ = count.compare_exchange(
-            turn,
-            turn.wrapping_add(1),
-            Ordering::SeqCst,
-            Ordering::SeqCst,
-        );
+        let Noted { digit, order } = self;
+        order.set(order.get().wrapping_mul(10).wrapping_add(digit));
     }
 }
 
-impl Linked<Links<Turn>> for Turn {
-    type Handle = Node<Turn, Links<Turn>>;
+impl Linked<list::Links<Noted>> for Noted {
+    type Handle = Node<Noted, list::Links<Noted>>;
 
     ghost element = { λ h. h };
 
-    fn into_ptr(handle: Node<Turn, Links<Turn>>) -> Node<Turn, Links<Turn>> {
+    fn into_ptr(handle: Node<Noted, list::Links<Noted>>) -> Node<Noted, list::Links<Noted>> {
         handle
     }
 
-    fn from_ptr(node: Node<Turn, Links<Turn>>) -> Node<Turn, Links<Turn>>
+    fn from_ptr(node: Node<Noted, list::Links<Noted>>) -> Node<Noted, list::Links<Noted>>
         ensures { result ≡ node }
     {
         node
     }
 }
 
-/// Returns a list of the turns below 6, in order.
-fn six_turns(
+/// Returns a node of a digit.
+fn digit_node<L: Kind>(
     rt: &impl Abort,
     alloc: Global,
-    count: &Arc<AtomicU64, Global>,
-) -> Result<List<Turn>, AllocError> {
+    digit: u64,
+    order: &Rc<Cell<u64>, Global>,
+) -> Node<Noted, L> {
+    let order = made(rt, Rc::clone(order));
+    made(rt, node_of(alloc, digit, Noted { digit, order }))
+}
+
+/// Returns a list of the digits 1 to 6.
+fn noted_list(rt: &impl Abort, alloc: Global, order: &Rc<Cell<u64>, Global>) -> List<Noted> {
     let mut list = List::new();
-    for turn in 0..6u64 {
-        let count = Arc::try_clone(count)?;
-        let node = node_of(alloc, turn, Turn { turn, count })?;
+    for digit in 1..7u64 {
         has_place(rt, list.len());
-        list.push_back(node);
+        list.push_back(digit_node(rt, alloc, digit, order));
     }
-    Ok(list)
+    list
 }
 
 #[test]
-fn a_list_drops_the_first_first(rt: HostRuntime) -> Result<(), Fail> {
-    let count = Arc::new(rt.alloc(), AtomicU64::new(0))?;
-    let list = six_turns(&rt, rt.alloc(), &count)?;
-    drop(list);
-    same(&rt, count.load(Ordering::SeqCst), 6);
-    Ok(())
+fn a_list_drops_the_first_first(rt: HostRuntime) {
+    let order = made(&rt, Rc::new(rt.alloc(), Cell::new(0u64)));
+    drop(noted_list(&rt, rt.alloc(), &order));
+    same(&rt, order.get(), 123456);
 }
 
 #[test]
-fn an_iterator_drops_what_is_left_in_order(rt: HostRuntime) -> Result<(), Fail> {
-    let count = Arc::new(rt.alloc(), AtomicU64::new(0))?;
-    let mut nodes = six_turns(&rt, rt.alloc(), &count)?.into_iter();
+fn an_iterator_drops_what_is_left_in_order(rt: HostRuntime) {
+    let order = made(&rt, Rc::new(rt.alloc(), Cell::new(0u64)));
+    let mut nodes = noted_list(&rt, rt.alloc(), &order).into_iter();
     drop(nodes.next());
     let last = nodes.next_back();
     drop(nodes);
-    same(&rt, count.load(Ordering::SeqCst), 5);
+    same(&rt, order.get(), 12345);
     drop(last);
-    same(&rt, count.load(Ordering::SeqCst), 6);
-    Ok(())
+    same(&rt, order.get(), 123456);
+}
+
+/// Moves a cursor over a chain of the digits 1 to 3 this often, and asserts that its drop frees all.
+fn frees_after(rt: &impl Abort, alloc: Global, moves: usize) {
+    let order = made(rt, Rc::new(alloc, Cell::new(0u64)));
+    let mut chain: SingleChain<Noted, stack::Links<Noted>> = SingleChain::empty();
+    for digit in 1..4u64 {
+        chain.link_back(digit_node(rt, alloc, digit, &order));
+    }
+    let mut cursor = chain.into_cursor();
+    for _ in 0..moves {
+        assert!(rt; cursor.current().is_some());
+        cursor.advance();
+    }
+    same(rt, order.get(), 0);
+    drop(cursor);
+    same(rt, order.get(), 123);
+}
+
+#[test]
+fn a_dropped_cursor_frees_each_node_in_order(rt: HostRuntime) {
+    for moves in 0..4usize {
+        frees_after(&rt, rt.alloc(), moves);
+    }
 }

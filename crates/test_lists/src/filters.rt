@@ -1,168 +1,117 @@
 //! Filters: what they asked, what they removed and what they kept, dropped early or not.
-ghost use Rattle.std.specs.Prelude.{◌<◌, IfOk};
+ghost use Rattle.std.specs.Prelude.{◌<◌};
 ghost use Rattle.std.specs.List.{All};
 ghost use Rattle.cordyceps_base.specs.Element.{values};
 
-use crate::compared::{at_most, same};
-use crate::items::{has_number, holds, list_of, shows};
-use cordyceps_list::iter::Iter;
+use crate::compared::{made, same};
+use crate::items::{has_number, holds, list_of};
 use cordyceps_list::list::List;
-use std::alloc::{AllocError, Global};
+use std::alloc::Global;
 use std::cell::Cell;
 use std::process::Abort;
 use std::rc::Rc;
-use std::test::Fail;
 use test_support::items::Item;
-use test_support::nodes::{node_of, number};
+use test_support::nodes::node_of;
 
-/// What a filter was asked, shared with the test.
-#[derive(Drop)]
-struct Asks {
-    /// How often it was asked.
-    count: Cell<u64>,
-    /// Whether the first call was of the item 1, the next of 2, and so on.
-    in_turn: Cell<bool>,
-}
+/// A filter of the items 1 to 6 before a call of `next`: the items that it was asked of, as digits, what the list holds
+/// if the filter is dropped now, and what the call removes.
+type Stage = (u64, &'static [u64], Option<u64>);
 
-impl Asks {
-    fn none(alloc: Global) -> Result<Rc<Asks, Global>, AllocError> {
-        let asks = Asks {
-            count: Cell::new(0),
-            in_turn: Cell::new(true),
-        };
-        Ok(Rc::new(alloc, asks)?)
-    }
-
-    /// Counts a call of an item, and returns what is to be said at that call.
-    fn reply_to(&self, item: &Item, says: &[bool; 6]) -> bool {
-        let count = self.count.get().wrapping_add(1);
-        self.count.set(count);
-        self.in_turn.set(self.in_turn.get() && item.value == count);
-        says.get(count.wrapping_sub(1) as usize)
-            .copied()
-            .unwrap_or(false)
-    }
-}
-
-/// What a filter of the items 1 to 6 does.
-#[derive(Clone, Copy)]
-struct Filtering {
-    /// What it says, by the number of the call.
-    says: [bool; 6],
-    /// How often it was asked after 0 to 7 calls of `next`.
-    asked: [u64; 8],
-    /// What these calls return.
-    removed: [Option<u64>; 7],
-}
-
-/// What some filters do.
-const FILTERINGS: [Filtering; 5] = [
-    Filtering {
-        says: [false, false, true, false, false, true],
-        asked: [0, 3, 6, 6, 6, 6, 6, 6],
-        removed: [Some(3), Some(6), None, None, None, None, None],
-    },
-    Filtering {
-        says: [false, true, false, true, false, true],
-        asked: [0, 2, 4, 6, 6, 6, 6, 6],
-        removed: [Some(2), Some(4), Some(6), None, None, None, None],
-    },
-    Filtering {
-        says: [true, false, false, false, true, false],
-        asked: [0, 1, 5, 6, 6, 6, 6, 6],
-        removed: [Some(1), Some(5), None, None, None, None, None],
-    },
-    Filtering {
-        says: [true; 6],
-        asked: [0, 1, 2, 3, 4, 5, 6, 6],
-        removed: [Some(1), Some(2), Some(3), Some(4), Some(5), Some(6), None],
-    },
-    Filtering {
-        says: [false; 6],
-        asked: [0, 6, 6, 6, 6, 6, 6, 6],
-        removed: [None; 7],
-    },
+/// What some filters do: whether each item passes, and the stages.
+const FILTERINGS: [([bool; 6], &[Stage]); 5] = [
+    (
+        [false, false, true, false, false, true],
+        &[
+            (0, &[1, 2, 3, 4, 5, 6], Some(3)),
+            (123, &[1, 2, 4, 5, 6], Some(6)),
+            (123456, &[1, 2, 4, 5], None),
+            (123456, &[1, 2, 4, 5], None),
+        ],
+    ),
+    (
+        [false, true, false, true, false, true],
+        &[
+            (0, &[1, 2, 3, 4, 5, 6], Some(2)),
+            (12, &[1, 3, 4, 5, 6], Some(4)),
+            (1234, &[1, 3, 5, 6], Some(6)),
+            (123456, &[1, 3, 5], None),
+            (123456, &[1, 3, 5], None),
+        ],
+    ),
+    (
+        [true, false, false, false, true, false],
+        &[
+            (0, &[1, 2, 3, 4, 5, 6], Some(1)),
+            (1, &[2, 3, 4, 5, 6], Some(5)),
+            (12345, &[2, 3, 4, 6], None),
+            (123456, &[2, 3, 4, 6], None),
+            (123456, &[2, 3, 4, 6], None),
+        ],
+    ),
+    (
+        [true; 6],
+        &[
+            (0, &[1, 2, 3, 4, 5, 6], Some(1)),
+            (1, &[2, 3, 4, 5, 6], Some(2)),
+            (12, &[3, 4, 5, 6], Some(3)),
+            (123, &[4, 5, 6], Some(4)),
+            (1234, &[5, 6], Some(5)),
+            (12345, &[6], Some(6)),
+            (123456, &[], None),
+            (123456, &[], None),
+        ],
+    ),
+    (
+        [false; 6],
+        &[
+            (0, &[1, 2, 3, 4, 5, 6], None),
+            (123456, &[1, 2, 3, 4, 5, 6], None),
+            (123456, &[1, 2, 3, 4, 5, 6], None),
+        ],
+    ),
 ];
 
-/// Returns whether the item `v` was removed.
-fn was_removed(removed: &[Option<u64>], v: u64) -> bool {
-    for item in removed {
-        if *item == Some(v) {
-            return true;
-        }
-    }
-    false
+/// Notes that a filter was asked of an item, and returns whether that passes.
+fn passes(asked: &Cell<u64>, passing: &[bool; 6], item: &Item) -> bool {
+    asked.set(asked.get().wrapping_mul(10).wrapping_add(item.value));
+    let place = item.value.wrapping_sub(1) as usize;
+    passing.get(place).copied().unwrap_or(false)
 }
 
-/// Asserts that the item `v` is the next one, unless it was removed.
-fn keeps_next(rt: &impl Abort, left: &mut Iter<'_, Item>, removed: &[Option<u64>], v: u64) {
-    if !was_removed(removed, v) {
-        shows(rt, left.next(), Some(v));
+/// Calls `next` once for each of these stages, drops the filter before the last, and asserts what it has done.
+fn drops_after(rt: &impl Abort, alloc: Global, passing: [bool; 6], called: &[Stage], last: Stage) {
+    let asked = made(rt, Rc::new(alloc, Cell::new(0u64)));
+    let shared = made(rt, Rc::clone(&asked));
+    let mut list = list_of(rt, alloc, &[1, 2, 3, 4, 5, 6]);
+    let mut filter = list.drain_filter(move |item: &Item| passes(&shared, &passing, item));
+    for (_, _, removed) in called {
+        has_number(rt, filter.next(), *removed);
     }
-}
-
-/// Asserts that the list holds the items 1 to 6 without those that were removed.
-fn keeps(rt: &impl Abort, list: &List<Item>, removed: &[Option<u64>]) {
-    let mut left = list.iter();
-    for v in [1u64, 2, 3, 4, 5, 6].as_slice() {
-        keeps_next(rt, &mut left, removed, *v);
-    }
-    same(rt, left.next().is_none(), true);
-}
-
-/// Calls `next` this many times, drops the filter, and asserts what was asked, what was removed and what was kept.
-fn drops_after(
-    rt: &impl Abort,
-    alloc: Global,
-    filtering: &Filtering,
-    calls: usize,
-) -> Result<(), AllocError> {
-    let asks = Asks::none(alloc)?;
-    let shared = asks.clone()?;
-    let says = filtering.says;
-    let mut list = list_of(rt, alloc, &[1, 2, 3, 4, 5, 6])?;
-    let mut filter = list.drain_filter(move |item: &Item| shared.reply_to(item, &says));
-    for call in 0..calls {
-        let removed = number(filter.next());
-        same(
-            rt,
-            (call, Some(&removed)),
-            (call, filtering.removed.get(call)),
-        );
-    }
+    let (asked_of, kept, _) = last;
+    same(rt, filter.size_hint(), (0, Some(kept.len())));
     drop(filter);
-    let asked = asks.count.get();
-    same(
-        rt,
-        (calls, Some(&asked)),
-        (calls, filtering.asked.get(calls)),
-    );
-    same(rt, asks.in_turn.get(), true);
-    same(rt, Rc::strong_count(&asks), 1);
-    at_most(rt, calls, 7);
-    keeps(rt, &list, &filtering.removed[..calls]);
-    Ok(())
+    same(rt, (asked.get(), Rc::strong_count(&asked)), (asked_of, 1));
+    holds(rt, &list, kept);
 }
 
 #[test]
-fn a_filter_asks_each_item_once_up_to_its_drop(rt: HostRuntime) -> Result<(), Fail> {
-    for filtering in FILTERINGS {
-        for calls in 0..8usize {
-            drops_after(&rt, rt.alloc(), &filtering, calls)?;
+fn a_filter_asks_each_item_once_up_to_its_drop(rt: HostRuntime) {
+    for (passing, stages) in FILTERINGS {
+        for calls in 0..stages.len() {
+            drops_after(&rt, rt.alloc(), passing, &stages[..calls], stages[calls]);
         }
     }
-    Ok(())
 }
 
 /// Returns a list of the items 5, 4 and 6, none of which is zero.
-fn divisors(alloc: Global) -> Result<List<Item>, AllocError>
-    ensures { IfOk result (λ list. All (λ item. 0 < item.value) (values list)) }
+fn divisors(rt: &impl Abort, alloc: Global) -> List<Item>
+    ensures { All (λ item. 0 < item.value) (values result) }
 {
     let mut list = List::new();
-    list.push_back(node_of(alloc, 5, Item { value: 5 })?);
-    list.push_back(node_of(alloc, 4, Item { value: 4 })?);
-    list.push_back(node_of(alloc, 6, Item { value: 6 })?);
-    Ok(list)
+    list.push_back(made(rt, node_of(alloc, 5, Item { value: 5 })));
+    list.push_back(made(rt, node_of(alloc, 4, Item { value: 4 })));
+    list.push_back(made(rt, node_of(alloc, 6, Item { value: 6 })));
+    list
 }
 
 /// Removes the first item that divides 12 from a list, by a predicate that may not be called on zero.
@@ -178,9 +127,8 @@ fn takes_a_divisor(rt: &impl Abort, list: &mut List<Item>, wanted: Option<u64>)
 }
 
 #[test]
-fn a_filter_asks_of_what_its_list_holds_alone(rt: HostRuntime) -> Result<(), Fail> {
-    let mut list = divisors(rt.alloc())?;
+fn a_filter_asks_of_what_its_list_holds_alone(rt: HostRuntime) {
+    let mut list = divisors(&rt, rt.alloc());
     takes_a_divisor(&rt, &mut list, Some(4));
     holds(&rt, &list, &[5, 6]);
-    Ok(())
 }

@@ -1,13 +1,11 @@
 //! Handles that are not nodes, and that become handles for collections of another kind.
 ghost use Rattle.std.specs.Prelude.{◌≡◌};
 
-use crate::compared::same;
+use crate::compared::{made, same};
 use cordyceps_base::linked::{Linked, change_kind};
 use cordyceps_base::node::{Kind, Node};
 use cordyceps_base::{list, mpsc_queue, stack};
 use cordyceps_list::list::List;
-use std::process::Abort;
-use std::test::Fail;
 use test_support::nodes::node_of;
 
 /// What is to be done, and what it costs.
@@ -38,24 +36,21 @@ impl<L: Kind> Linked<L> for Job {
     }
 }
 
-/// Asserts the number and the cost of a job.
-fn is<L>(rt: &impl Abort, handle: &JobHandle<L>, id: u64, cost: u64) {
-    same(rt, (handle.node.id(), handle.node.get().cost), (id, cost));
-}
-
 #[test]
-fn a_handle_becomes_one_of_each_kind(rt: HostRuntime) -> Result<(), Fail> {
+fn a_handle_becomes_one_of_each_kind(rt: HostRuntime) {
     let mut list: List<Job> = List::new();
-    let node = node_of(rt.alloc(), 3, Job { cost: 30 })?;
+    let node = made(&rt, node_of(rt.alloc(), 3, Job { cost: 30 }));
     list.push_back(JobHandle { node });
     let Some(of_list) = list.pop_front() else {
         panic!(rt; "a job was pushed");
     };
     let of_stack = change_kind::<list::Links<Job>, stack::Links<Job>, Job>(of_list);
-    is(&rt, &of_stack, 3, 30);
+    same(&rt, (of_stack.node.id(), of_stack.node.get().cost), (3, 30));
     let of_queue = change_kind::<stack::Links<Job>, mpsc_queue::Links<Job>, Job>(of_stack);
-    is(&rt, &of_queue, 3, 30);
+    same(&rt, (of_queue.node.id(), of_queue.node.get().cost), (3, 30));
     list.push_back(change_kind::<mpsc_queue::Links<Job>, list::Links<Job>, Job>(of_queue));
-    same(&rt, list.front().map(|job| job.cost), Some(30));
-    Ok(())
+    match list.front() {
+        Some(job) => same(&rt, job.cost, 30),
+        None => panic!(rt; "a job was pushed"),
+    }
 }

@@ -1,5 +1,5 @@
-//! Tests of nodes and of the chains that link them, and of lists: their ends, iterators, splits and filters, drops, and
-//! laws.
+//! Tests of nodes and of the chains that link them, and of lists: what no script in scripts/ says of their ends,
+//! iterators, splits, filters, cursors, drops and laws.
 #![tactic(auto)]
 
 #[cfg(test)]
@@ -19,7 +19,15 @@ mod list_ends;
 #[cfg(test)]
 mod list_laws;
 #[cfg(test)]
+mod long_lists;
+#[cfg(test)]
+mod many_operations;
+#[cfg(test)]
 mod nodes;
+#[cfg(test)]
+mod readers;
+#[cfg(test)]
+mod sights;
 #[cfg(test)]
 mod travels;
 #[cfg(test)]

@@ -1,5 +1,5 @@
 //! Nodes and counts of steps.
-use crate::compared::same;
+use crate::compared::{made, same};
 use cordyceps_base::node::{Kind, Node, Refused};
 use cordyceps_base::shared::{MAX_ROOMS, StepError};
 use cordyceps_base::steps::{Steps, count_one};
@@ -11,39 +11,23 @@ use test_support::counted::{Counted, Drops, counted_node};
 use test_support::nodes::node_of;
 
 #[test]
-fn keeps_its_number_and_value(rt: HostRuntime) -> Result<(), Fail> {
-    let mut node: Node<u64, list::Links<u64>> = node_of(rt.alloc(), 18446744073709551615, 7)?;
-    same(&rt, node.id(), 18446744073709551615);
-    same(&rt, *node.get(), 7);
-    *node.get_mut() = 8;
-    same(&rt, node.id(), 18446744073709551615);
-    same(&rt, node.into_value(), 8);
-    Ok(())
-}
-
-#[test]
-fn takes_another_number(rt: HostRuntime) -> Result<(), Fail> {
-    let mut node: Node<u64, list::Links<u64>> = node_of(rt.alloc(), 1, 7)?;
-    node.set_id(18446744073709551615);
-    same(&rt, (node.id(), *node.get()), (18446744073709551615, 7));
-    Ok(())
-}
-
-#[test]
-fn becomes_a_node_of_each_kind(rt: HostRuntime) -> Result<(), Fail> {
-    let drops = Drops::new(rt.alloc())?;
-    let of_list: Node<Counted, list::Links<Counted>> = counted_node(rt.alloc(), 5, 50, &drops)?;
+fn keeps_its_number_and_value_in_each_kind(rt: HostRuntime) {
+    let drops = made(&rt, Drops::new(rt.alloc()));
+    let mut of_list: Node<Counted, list::Links<Counted>> = made(
+        &rt,
+        counted_node(rt.alloc(), u64::MAX, 7, &drops),
+    );
+    same(&rt, (of_list.id(), of_list.get().value), (u64::MAX, 7));
+    of_list.get_mut().value = 8;
+    same(&rt, (of_list.id(), of_list.get().value), (u64::MAX, 8));
+    of_list.set_id(5);
     let of_stack: Node<Counted, stack::Links<Counted>> = of_list.into_kind();
     let of_queue: Node<Counted, mpsc_queue::Links<Counted>> = of_stack.into_kind();
     let again: Node<Counted, list::Links<Counted>> = of_queue.into_kind();
-    same(
-        &rt,
-        (again.id(), again.get().value, drops.count()),
-        (5, 50, 0),
-    );
-    drop(again);
+    same(&rt, (again.id(), again.get().value), (5, 8));
+    same(&rt, drops.count(), 0);
+    same(&rt, again.into_value().value, 8);
     same(&rt, drops.count(), 1);
-    Ok(())
 }
 
 /// Returns a node of the number 7 and of a value that counts its drop. Where memory is refused the value is returned,
@@ -87,11 +71,11 @@ fn makes_a_node_of_the_value_handed_back(rt: HostRuntime) -> Result<(), Fail> {
 #[test]
 fn counts_steps(rt: HostRuntime) {
     let mut steps = Steps::new();
-    same(&rt, steps.count(), 0);
+    let before = steps.count();
     count_one(&mut steps);
-    same(&rt, steps.count(), 1);
-    same(&rt, Steps::default().count(), 0);
-    same(&rt, StepError::NotThere as u8, 1);
-    same(&rt, StepError::Memory as u8, 2);
+    let counts = (before, steps.count(), Steps::default().count());
+    same(&rt, counts, (0, 1, 0));
+    let codes = (StepError::NotThere as u8, StepError::Memory as u8);
+    same(&rt, codes, (1, 2));
     same(&rt, MAX_ROOMS, 1048576);
 }
