@@ -46,15 +46,13 @@ impl Both {
         same(rt, self.list.is_empty(), self.queue.is_empty());
         shows(rt, self.list.front(), self.queue.front().copied());
         shows(rt, self.list.back(), self.queue.back().copied());
-        let mut forth = self.list.iter();
-        for v in self.queue.iter() {
-            shows(rt, forth.next(), Some(*v));
+        let (mut forth, mut back) = (self.list.iter(), self.list.iter());
+        let len = self.queue.len();
+        for at in 0..len {
+            shows(rt, forth.next(), self.queue.get(at).copied());
+            shows(rt, back.next_back(), self.queue.get(len - 1 - at).copied());
         }
         shows(rt, forth.next(), None);
-        let mut back = self.list.iter();
-        for v in self.queue.iter().rev() {
-            shows(rt, back.next_back(), Some(*v));
-        }
         shows(rt, back.next_back(), None);
     }
 

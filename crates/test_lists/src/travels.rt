@@ -115,16 +115,20 @@ fn what_owns_or_changes_elements_is_sent_and_shared(rt: HostRuntime) {
         walked.cursor_front_mut(),
         drained.drain_filter(|item: &Item| item.value == 8),
     ));
-    let (nodes, list, into_iter, iter_mut, cursor_mut, _) =
+    let (nodes, list, into_iter, iter_mut, cursor_mut, filter) =
         owners_are_shared_where_their_values_are(&owners);
     let (of_list, of_stack, of_queue) = nodes;
-    same(&rt, (of_list.id(), of_stack.id(), of_queue.id()), (1, 2, 3));
+    let values = (
+        of_list.get().value,
+        of_stack.get().value,
+        of_queue.get().value,
+    );
+    same(&rt, values, (10, 20, 30));
     same(
         &rt,
         (list.len(), into_iter.len(), iter_mut.len()),
         (1, 3, 2),
     );
     same(&rt, cursor_mut.index(), Some(0));
-    let (_, _, _, _, _, mut filter) = owners;
-    has_number(&rt, filter.next(), Some(8));
+    same(&rt, filter.size_hint(), (0, Some(2)));
 }
