@@ -7,17 +7,20 @@ use cordyceps_list::laws::{
 use cordyceps_list::list::List;
 use test_support::items::{Item, value};
 
+/// Turns of an iterator over the items 1 to 4, those taken from the front, how many are left, and those taken from the
+/// back.
+const TAKEN: [(&[bool], &[u64], usize, &[u64]); 4] = [
+    (&[], &[], 4, &[]),
+    (&[true], &[1], 3, &[]),
+    (&[true, false, false], &[1], 1, &[3, 4]),
+    (&[true, false, false, true, true], &[1, 2], 0, &[3, 4]),
+];
+
 #[test]
 fn takes_each_element_once(rt: HostRuntime) {
-    let turns = [true, false, false, true, true];
-    for (count, firsts, left, lasts) in [
-        (0usize, [].as_slice(), 4, [].as_slice()),
-        (1, &[1], 3, &[]),
-        (3, &[1], 1, &[3, 4]),
-        (5, &[1, 2], 0, &[3, 4]),
-    ] {
+    for (turns, firsts, left, lasts) in TAKEN {
         let list = list_of(&rt, rt.alloc(), &[1, 2, 3, 4]);
-        let (before, rest, after) = take_from_both_ends(list, &turns[..count]);
+        let (before, rest, after) = take_from_both_ends(list, turns);
         holds(&rt, &before, firsts);
         same(&rt, rest.len(), left);
         holds(&rt, &after, lasts);

@@ -1,10 +1,22 @@
 //! Cursors that only read.
 use crate::compared::same;
 use crate::items::{list_of, shows};
-use crate::sights::{reads, sees};
+use crate::sights::{Sight, reads, sees};
 use cordyceps_list::list::List;
 use std::process::Abort;
 use test_support::items::Item;
+
+/// How often a reader of the items 1 to 6 moves forth from the second, and then back, and what it sees then.
+const WAY: [(usize, usize, Sight); 8] = [
+    (0, 0, (Some(2), Some(3), Some(1), Some(1))),
+    (1, 0, (Some(3), Some(4), Some(2), Some(2))),
+    (4, 0, (None, Some(1), Some(6), None)),
+    (1, 0, (Some(1), Some(2), None, Some(0))),
+    (0, 1, (None, Some(1), Some(6), None)),
+    (0, 1, (Some(6), None, Some(5), Some(5))),
+    (0, 2, (Some(4), Some(5), Some(3), Some(3))),
+    (0, 4, (None, Some(1), Some(6), None)),
+];
 
 #[test]
 fn a_reader_moves_while_its_cursor_stays(rt: HostRuntime) {
@@ -13,16 +25,7 @@ fn a_reader_moves_while_its_cursor_stays(rt: HostRuntime) {
     cursor.go_back(1);
     cursor.go_on(2);
     let mut reader = cursor.as_cursor();
-    for (forth, back, sight) in [
-        (0usize, 0usize, (Some(2), Some(3), Some(1), Some(1usize))),
-        (1, 0, (Some(3), Some(4), Some(2), Some(2))),
-        (4, 0, (None, Some(1), Some(6), None)),
-        (1, 0, (Some(1), Some(2), None, Some(0))),
-        (0, 1, (None, Some(1), Some(6), None)),
-        (0, 1, (Some(6), None, Some(5), Some(5))),
-        (0, 2, (Some(4), Some(5), Some(3), Some(3))),
-        (0, 4, (None, Some(1), Some(6), None)),
-    ] {
+    for (forth, back, sight) in WAY {
         reader.go_on(forth);
         reader.go_back(back);
         reads(&rt, &reader, sight);

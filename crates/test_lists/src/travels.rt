@@ -11,7 +11,9 @@ use cordyceps_list::filter::DrainFilter;
 use cordyceps_list::iter::{IntoIter, Iter};
 use cordyceps_list::iter_mut::IterMut;
 use cordyceps_list::list::List;
+use std::alloc::Global;
 use std::marker::{Send, Sync};
+use std::process::Abort;
 use std::thread;
 use test_support::items::Item;
 use test_support::nodes::node_of;
@@ -95,40 +97,42 @@ fn what_reads_a_list_goes_on_where_it_was_sent(rt: HostRuntime) {
     );
 }
 
+/// Returns a node of each kind.
+fn three_nodes(rt: &impl Abort, alloc: Global) -> Nodes<Item> {
+    (
+        made(rt, node_of(alloc, 1, Item { value: 10 })),
+        made(rt, node_of(alloc, 2, Item { value: 20 })),
+        made(rt, node_of(alloc, 3, Item { value: 30 })),
+    )
+}
+
+/// Asserts what is left of those below.
+fn are_whole<F: FnMut(&Item) -> bool + Drop>(rt: &impl Abort, owners: &Owners<'_, Item, F>) {
+    let ((of_list, of_stack, of_queue), list, into_iter, iter_mut, cursor_mut, filter) = owners;
+    same(rt, of_list.get().value, 10);
+    same(rt, of_stack.get().value, 20);
+    same(rt, of_queue.get().value, 30);
+    same(rt, list.len(), 1);
+    same(rt, into_iter.len(), 3);
+    same(rt, iter_mut.len(), 2);
+    same(rt, cursor_mut.index(), Some(0));
+    same(rt, filter.size_hint(), (0, Some(2)));
+}
+
 #[test]
 fn what_owns_or_changes_elements_is_sent_and_shared(rt: HostRuntime) {
     let alloc = rt.alloc();
-    let nodes = (
-        made(&rt, node_of(alloc, 1, Item { value: 10 })),
-        made(&rt, node_of(alloc, 2, Item { value: 20 })),
-        made(&rt, node_of(alloc, 3, Item { value: 30 })),
-    );
     let owned = list_of(&rt, alloc, &[1, 2, 3]);
     let mut lent = list_of(&rt, alloc, &[4, 5]);
     let mut walked = list_of(&rt, alloc, &[6]);
     let mut drained = list_of(&rt, alloc, &[7, 8]);
     let owners = owners_travel_where_their_values_do((
-        nodes,
+        three_nodes(&rt, alloc),
         list_of(&rt, alloc, &[9]),
         owned.into_iter(),
         lent.iter_mut(),
         walked.cursor_front_mut(),
         drained.drain_filter(|item: &Item| item.value == 8),
     ));
-    let (nodes, list, into_iter, iter_mut, cursor_mut, filter) =
-        owners_are_shared_where_their_values_are(&owners);
-    let (of_list, of_stack, of_queue) = nodes;
-    let values = (
-        of_list.get().value,
-        of_stack.get().value,
-        of_queue.get().value,
-    );
-    same(&rt, values, (10, 20, 30));
-    same(
-        &rt,
-        (list.len(), into_iter.len(), iter_mut.len()),
-        (1, 3, 2),
-    );
-    same(&rt, cursor_mut.index(), Some(0));
-    same(&rt, filter.size_hint(), (0, Some(2)));
+    are_whole(&rt, owners_are_shared_where_their_values_are(&owners));
 }

@@ -57,26 +57,28 @@ fn each_walk_sees_what_the_last_one_wrote(rt: HostRuntime) {
     holds(&rt, &list, &[61, 62, 63, 64]);
 }
 
+/// The items of the lists that the next function splits.
+const ALL: [u64; 5] = [1, 2, 3, 4, 5];
+
 /// Splits a list of the items 1 to 5 at a place, in this many moves, and makes one of both parts again.
 fn splits_and_extends(rt: &impl Abort, alloc: Global, at: usize, moves: u64) {
-    let all = [1u64, 2, 3, 4, 5];
-    at_most(rt, at, all.len());
-    let mut list = list_of(rt, alloc, &all);
+    at_most(rt, at, 5);
+    let mut list = list_of(rt, alloc, &ALL);
     at_most(rt, list.len(), 5);
     let mut steps = Steps::new();
     let Some(rest) = list.try_split_off_in(at, &mut steps) else {
         panic!(rt; "{at} is at most the length");
     };
     same(rt, (at, steps.count()), (at, moves));
-    holds(rt, &list, &all[..at]);
-    holds(rt, &rest, &all[at..]);
+    holds(rt, &list, &ALL[..at]);
+    holds(rt, &rest, &ALL[at..]);
     at_most(rt, list.len(), 5);
     at_most(rt, rest.len(), 5);
     list.extend(rest.into_iter());
-    holds(rt, &list, &all);
+    holds(rt, &list, &ALL);
     at_most(rt, list.len(), 5);
     let copy = List::from_iter(list.into_iter());
-    holds(rt, &copy, &all);
+    holds(rt, &copy, &ALL);
 }
 
 #[test]
