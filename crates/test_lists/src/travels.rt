@@ -106,7 +106,7 @@ fn three_nodes(rt: &impl Abort, alloc: Global) -> Nodes<Item> {
     )
 }
 
-/// Asserts what is left of those below.
+/// Asserts that what the next test sends has come whole.
 fn are_whole<F: FnMut(&Item) -> bool + Drop>(rt: &impl Abort, owners: &Owners<'_, Item, F>) {
     let ((of_list, of_stack, of_queue), list, into_iter, iter_mut, cursor_mut, filter) = owners;
     same(rt, of_list.get().value, 10);
