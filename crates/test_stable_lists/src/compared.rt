@@ -1,5 +1,5 @@
-//! Comparisons of values with those that are wanted.
-ghost use Rattle.std.specs.Prelude.{◌<◌, ◌≤◌};
+//! Comparisons of values with those that are wanted, and what ends a test.
+ghost use Rattle.std.specs.Prelude.{◌≤◌};
 
 use std::fmt::Debug;
 use std::process::Abort;
@@ -16,9 +16,7 @@ pub fn at_most(rt: &impl Abort, number: usize, bound: usize)
     assert!(rt; number <= bound);
 }
 
-/// Fails where a list of this length has no place for one more.
-pub fn has_place(rt: &impl Abort, len: usize)
-    ensures { len < usize.MAX }
-{
-    assert!(rt; len < usize::MAX);
+/// Returns what was made. The test fails where memory was refused.
+pub fn made<T, E: Debug>(rt: &impl Abort, made: Result<T, E>) -> T {
+    made.expect(rt, "memory is there")
 }

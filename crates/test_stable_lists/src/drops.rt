@@ -1,78 +1,101 @@
-//! How often a stable list drops what it holds, and what was removed from it.
-use crate::compared::{at_most, has_place, same};
-use crate::items::spot_at;
+//! How often lists drop what they hold, and what was removed from them. Sorted lists have an order of the caller's.
+ghost use Rattle.std.specs.Prelude.{◌≡◌, refl, ⊤};
+ghost use Rattle.std.specs.Ordering.{nat_cmp};
+ghost use Rattle.std.proofs.Common.{subst, sym};
+ghost use Rattle.test_stable_lists.specs.ByValue.{by_value_lawful};
+ghost use Rattle.cordyceps_single.specs.Preorder.{IsPreorder};
+
+use crate::compared::{at_most, made, same};
+use crate::keys::spot_at;
+use cordyceps_base::node::Node;
+use cordyceps_list::list::Links;
+use cordyceps_single::sorted_list::Order;
 use cordyceps_stable::stable_list::StableList;
-use std::alloc::{AllocError, Global};
+use cordyceps_stable::stable_sorted_list::StableSortedList;
+use std::alloc::Global;
+use std::cmp::Ordering;
 use std::process::Abort;
-use std::test::Fail;
 use test_support::counted::{Counted, Drops, counted_node};
 
-/// Returns a list of this many elements, from 1 on.
+/// The order of the values.
+#[derive(Drop)]
+struct ByValue;
+
+impl Order<Counted> for ByValue {
+    ghost compares_by = { λ _ cmp. cmp ≡ (λ x y. nat_cmp x.value y.value) };
+
+    ghost computes = { λ _ _. ((λ x y. nat_cmp x.value y.value), refl) };
+
+    ghost lawful = { λ _ cmp e. subst IsPreorder (sym e) by_value_lawful };
+
+    fn compare(&self, first: &Counted, second: &Counted) -> Ordering {
+        first.value.cmp(&second.value)
+    }
+}
+
+/// Returns a sorted list of the elements with these values, which are their numbers too.
 fn counted(
     rt: &impl Abort,
     alloc: Global,
-    many: u64,
+    values: &[u64],
     drops: &Drops,
-) -> Result<StableList<Counted>, AllocError> {
-    let mut list: StableList<Counted> = StableList::new();
-    for before in 0..many {
-        has_place(rt, list.len());
-        let id = before.wrapping_add(1);
-        list.push_back(counted_node(alloc, id, id, drops)?);
+) -> StableSortedList<Counted, ByValue> {
+    let mut list = StableSortedList::new_with_order(ByValue);
+    for value in values {
+        at_most(rt, list.len(), 100);
+        list.insert(made(rt, counted_node(alloc, *value, *value, drops)));
     }
-    Ok(list)
+    list
 }
 
-/// Removes the element at this distance from the first, and asserts that it is dropped once.
-fn drops_one(
-    rt: &impl Abort,
-    list: &mut StableList<Counted>,
-    moves: usize,
-    wanted: u64,
-    drops: &Drops,
-) {
+/// Asserts that an element with this number is dropped once.
+fn drops_one(rt: &impl Abort, node: Node<Counted, Links<Counted>>, number: u64, drops: &Drops) {
     let before = drops.count();
-    let spot = spot_at(list, moves);
-    same(rt, spot.is_some(), true);
-    if let Some(spot) = spot {
-        let node = list.remove(spot);
-        same(rt, (node.id(), drops.count()), (wanted, before));
-        drop(node);
-        same(rt, drops.count(), before.wrapping_add(1));
-    }
+    same(rt, node.id(), number);
+    drop(node);
+    same(rt, drops.count(), before.wrapping_add(1));
 }
 
 #[test]
-fn drops_each_element_once(rt: HostRuntime) -> Result<(), Fail> {
-    let drops = Drops::new(rt.alloc())?;
-    let mut list = counted(&rt, rt.alloc(), 6, &drops)?;
-    drops_one(&rt, &mut list, 0, 1, &drops);
-    drops_one(&rt, &mut list, 2, 4, &drops);
-    drops_one(&rt, &mut list, 3, 6, &drops);
-    same(&rt, (list.len(), drops.count()), (3, 3));
-    drop(list);
-    same(&rt, drops.count(), 6);
-    Ok(())
-}
-
-#[test]
-#[tactic(auto, using(cordyceps_stable::proofs::Reached::last_has))]
-fn moved_elements_are_dropped_once(rt: HostRuntime) -> Result<(), Fail> {
-    let drops = Drops::new(rt.alloc())?;
-    let mut list = counted(&rt, rt.alloc(), 2, &drops)?;
-    let mut other = counted(&rt, rt.alloc(), 3, &drops)?;
-    let last = other.back();
-    same(&rt, last.is_some(), true);
-    if let Some(spot) = last {
-        other.move_to_front(spot);
+fn a_sorted_list_drops_each_element_once(rt: HostRuntime) {
+    let drops = made(&rt, Drops::new(rt.alloc()));
+    let mut list = counted(&rt, rt.alloc(), &[6, 2, 4, 1, 3, 5], &drops);
+    for (place, number) in [(0usize, 1u64), (2, 4), (3, 6)] {
+        let spot = spot_at(&rt, list.cursor_front(), place);
+        drops_one(&rt, list.remove(spot), number, &drops);
     }
-    same(&rt, (list.len(), other.len()), (2, 3));
-    at_most(&rt, list.len(), 2);
+    let mut other = counted(&rt, rt.alloc(), &[2, 1, 4], &drops);
+    let spot = spot_at(&rt, other.cursor_front(), 0);
+    other.update(spot, |counted| counted.value = 9);
+    same(&rt, (list.len(), other.len(), drops.count()), (3, 3, 3));
+    at_most(&rt, list.len(), 3);
     at_most(&rt, other.len(), 3);
     list.append(&mut other);
     drop(other);
-    same(&rt, drops.count(), 0);
-    drop(StableList::from_list(list.into_list()));
+    same(&rt, (list.len(), drops.count()), (6, 3));
+    drop(list);
+    same(&rt, drops.count(), 9);
+}
+
+#[test]
+fn a_stable_list_drops_each_element_once(rt: HostRuntime) {
+    let drops = made(&rt, Drops::new(rt.alloc()));
+    let sorted = counted(&rt, rt.alloc(), &[3, 1, 2], &drops);
+    let second = spot_at(&rt, sorted.cursor_front(), 1);
+    let mut list = sorted.into_stable_list();
+    same(&rt, list.get(second).value, 2);
+    list.move_to_front(second);
+    let mut other = counted(&rt, rt.alloc(), &[5, 4], &drops).into_stable_list();
+    at_most(&rt, list.len(), 3);
+    at_most(&rt, other.len(), 2);
+    list.append(&mut other);
+    drop(other);
+    let fourth = spot_at(&rt, list.cursor_front(), 3);
+    drops_one(&rt, list.remove(fourth), 4, &drops);
+    let mut list = list.into_list();
+    let first = list.pop_front().expect(&rt, "four elements are left");
+    drops_one(&rt, first, 2, &drops);
+    same(&rt, (list.len(), drops.count()), (3, 2));
+    drop(StableList::from_list(list));
     same(&rt, drops.count(), 5);
-    Ok(())
 }

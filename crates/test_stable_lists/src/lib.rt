@@ -1,5 +1,5 @@
-//! Tests of stable lists, and of those that an order keeps sorted: each call, walks by spots, drops, and many
-//! operations beside a queue or a sorted vector.
+//! Tests of stable lists, and of those that an order keeps sorted: each call by tables, cursors by spots, drops, and
+//! many calls beside a vector.
 #![tactic(auto)]
 
 #[cfg(test)]
@@ -9,20 +9,18 @@ mod cursors;
 #[cfg(test)]
 mod drops;
 #[cfg(test)]
-mod items;
-#[cfg(test)]
-mod many_operations;
-#[cfg(test)]
-mod single_calls;
+mod keys;
 #[cfg(test)]
 mod sorted_calls;
 #[cfg(test)]
-mod sorted_drops;
-#[cfg(test)]
-mod sorted_items;
+mod sorted_lists;
 #[cfg(test)]
 mod sorted_operations;
 #[cfg(test)]
-mod travels;
+mod stable_calls;
 #[cfg(test)]
-mod walks;
+mod stable_lists;
+#[cfg(test)]
+mod stable_operations;
+#[cfg(test)]
+mod travels;

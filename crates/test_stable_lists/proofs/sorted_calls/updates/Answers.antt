@@ -1,5 +1,0 @@
-use Rattle.cordyceps_stable.proofs.Reached.{taken_has}
-use Rattle.test_stable_lists.proofs.sorted_calls.updates.Goals as goal
-
-pub around-requires : goal.around-requires
-around-requires g c = let (e, w, rest, gave, was, is, stands) = c.update-old.ensures.changed in taken_has _ _ _ _ is

@@ -1,0 +1,156 @@
+//! Calls of a stable list, and what they reply.
+ghost use Rattle.std.specs.Prelude.{◌<◌, length, IfSome};
+ghost use Rattle.cordyceps_base.specs.BySpot.{HasSpot};
+
+use crate::compared::{at_most, same};
+use crate::keys::{Key, Pair, Reply, make, parts, reads, spot_at};
+use cordyceps_list::list::List;
+use cordyceps_stable::stable_list::{Spot, StableList};
+use std::alloc::Global;
+use std::process::Abort;
+
+/// No list of a test is longer.
+const LONGEST: usize = 10_000;
+
+/// A call of a stable list. It names an element by its place, from 0 on.
+#[derive(Drop)]
+pub enum Call {
+    PushFront(Pair),
+    PushBack(Pair),
+    TryPushFront(Pair),
+    TryPushBack(Pair),
+    /// Appends a list of these elements.
+    Append(&'static [Pair]),
+    PopFront,
+    PopBack,
+    Front,
+    Back,
+    Remove(usize),
+    /// A call by the spot of the element at this place.
+    By(usize, BySpot),
+}
+
+/// A call by a spot.
+#[derive(Drop)]
+pub enum BySpot {
+    InsertBefore(Pair),
+    InsertAfter(Pair),
+    /// Writes a key.
+    Write(u64),
+    MoveToFront,
+    MoveToBack,
+    /// Reads the keys around the spot.
+    Read,
+}
+
+/// Returns a stable list of these elements.
+pub fn list_of(rt: &impl Abort, alloc: Global, pairs: &[Pair]) -> StableList<Key> {
+    let mut list = List::new();
+    for pair in pairs {
+        at_most(rt, list.len(), LONGEST);
+        list.push_back(make(rt, alloc, *pair));
+    }
+    StableList::from_list(list)
+}
+
+/// Asserts the keys that a list holds.
+pub fn holds(rt: &impl Abort, list: &StableList<Key>, pairs: &[Pair]) {
+    let wanted = (pairs.len(), pairs.is_empty());
+    same(rt, (list.len(), list.is_empty()), wanted);
+    reads(rt, list.iter(), list.iter(), pairs);
+}
+
+/// Returns the keys before a spot, at it and after it.
+pub fn around(list: &StableList<Key>, spot: Spot) -> [Option<u64>; 3]
+    requires { HasSpot list.now spot }
+{
+    let mut keys = [None, Some(list.get(spot).value), None];
+    if let Some(before) = list.prev(spot) {
+        keys[0] = Some(list.get(before).value);
+    }
+    if let Some(after) = list.next(spot) {
+        keys[2] = Some(list.get(after).value);
+    }
+    keys
+}
+
+/// Makes a call by a spot, and returns the spot of the new element, or else the same spot.
+fn by_spot(
+    rt: &impl Abort,
+    alloc: Global,
+    list: &mut StableList<Key>,
+    spot: Spot,
+    call: &BySpot,
+) -> Spot
+    requires there { HasSpot list.old spot }
+    requires fits { length list.old < usize.MAX }
+    ensures { HasSpot list.new result }
+{
+    match call {
+        BySpot::InsertBefore(pair) => list.insert_before(spot, make(rt, alloc, *pair)),
+        BySpot::InsertAfter(pair) => list.insert_after(spot, make(rt, alloc, *pair)),
+        BySpot::Write(key) => {
+            list.get_mut(spot).value = *key;
+            spot
+        }
+        BySpot::MoveToFront => {
+            list.move_to_front(spot);
+            spot
+        }
+        BySpot::MoveToBack => {
+            list.move_to_back(spot);
+            spot
+        }
+        BySpot::Read => spot,
+    }
+}
+
+/// Makes a call, and returns the spot that it is at afterwards, if it is at one.
+#[tactic(auto, using(cordyceps_stable::proofs::Reached::first_has, cordyceps_stable::proofs::Reached::last_has))]
+fn spot_after(
+    rt: &impl Abort,
+    alloc: Global,
+    list: &mut StableList<Key>,
+    call: &Call,
+) -> Option<Spot>
+    ensures { IfSome result (λ p. HasSpot list.new p) }
+{
+    at_most(rt, list.len(), LONGEST);
+    match call {
+        Call::PushFront(pair) => Some(list.push_front(make(rt, alloc, *pair))),
+        Call::PushBack(pair) => Some(list.push_back(make(rt, alloc, *pair))),
+        Call::TryPushFront(pair) => list.try_push_front(make(rt, alloc, *pair)).ok(),
+        Call::TryPushBack(pair) => list.try_push_back(make(rt, alloc, *pair)).ok(),
+        Call::Append(pairs) => {
+            let mut other = list_of(rt, alloc, pairs);
+            at_most(rt, other.len(), LONGEST);
+            let first = other.front();
+            list.append(&mut other);
+            holds(rt, &other, &[]);
+            first
+        }
+        Call::Front => list.front(),
+        Call::Back => list.back(),
+        Call::By(at, call) => {
+            let spot = spot_at(rt, list.cursor_front(), *at);
+            Some(by_spot(rt, alloc, list, spot, call))
+        }
+        Call::PopFront | Call::PopBack | Call::Remove(_) => None,
+    }
+}
+
+/// Makes a call, and returns its reply.
+pub fn reply(rt: &impl Abort, alloc: Global, list: &mut StableList<Key>, call: &Call) -> Reply {
+    match call {
+        Call::PopFront => Reply::Out(parts(list.pop_front())),
+        Call::PopBack => Reply::Out(parts(list.pop_back())),
+        Call::Remove(at) => {
+            let spot = spot_at(rt, list.cursor_front(), *at);
+            Reply::Out(parts(Some(list.remove(spot))))
+        }
+        _ => match spot_after(rt, alloc, list, call) {
+            Some(spot) => Reply::At(around(list, spot)),
+            None => Reply::Nothing,
+        },
+    }
+}
