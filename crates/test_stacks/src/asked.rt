@@ -1,30 +1,37 @@
-//! Numbers that count how often they are compared, and how often they are dropped, and in which order.
-ghost use Rattle.std.specs.Prelude.{◌≡◌, ◌/◌};
+//! Sorted lists of numbers that count how often they are compared, and how often they are dropped, and in which order.
+ghost use Rattle.std.specs.Prelude.{◌≡◌, refl, ⊤};
 ghost use Rattle.std.specs.Ordering.{nat_cmp};
+ghost use Rattle.std.proofs.Common.{subst, sym};
+ghost use Rattle.test_stacks.specs.ByNumber.{by_number_lawful};
+ghost use Rattle.cordyceps_single.specs.Preorder.{IsPreorder};
 
+use crate::compared::{made, same};
 use cordyceps_base::linked::Linked;
 use cordyceps_base::node::Node;
+use cordyceps_base::steps::Steps;
+use cordyceps_stack::sorted_list::{Order, SortedList};
 use cordyceps_stack::stack::Links;
-use std::alloc::{AllocError, Global};
+use std::alloc::Global;
 use std::cell::Cell;
 use std::cmp::Ordering;
+use std::process::Abort;
 use std::rc::Rc;
 use test_support::nodes::node_of;
 
 /// The counts that values share.
 #[derive(Drop)]
-pub struct Counts {
+struct Counts {
     /// How often two values were compared.
-    pub compared: Cell<u64>,
+    compared: Cell<u64>,
     /// How many values were dropped.
-    pub dropped: Cell<u64>,
+    dropped: Cell<u64>,
     /// Their numbers, of two digits each, in the order of the drops.
-    pub order: Cell<u64>,
+    order: Cell<u64>,
 }
 
 /// A number whose comparisons and whose drop are counted.
-pub struct Asked {
-    pub value: u64,
+struct Asked {
+    value: u64,
     counts: Rc<Counts, Global>,
 }
 
@@ -53,40 +60,86 @@ impl Linked<Links<Asked>> for Asked {
     }
 }
 
-/// Compares the numbers, and counts the comparison.
-pub fn by_number(first: &Asked, second: &Asked) -> Ordering
-    ensures { result ≡ nat_cmp first.now.value second.now.value }
-{
-    let compared = &first.counts.compared;
-    compared.set(compared.get().wrapping_add(1));
-    first.value.cmp(&second.value)
-}
+/// The order of the numbers, which counts each comparison.
+#[derive(Drop)]
+struct ByNumber;
 
-/// Compares the tens of the numbers.
-pub fn by_tens(first: &Asked, second: &Asked) -> Ordering
-    ensures { result ≡ nat_cmp (first.now.value / 10) (second.now.value / 10) }
-{
-    (first.value / 10).cmp(&(second.value / 10))
+impl Order<Asked> for ByNumber {
+    ghost compares_by = { λ _ cmp. cmp ≡ (λ x y. nat_cmp x.value y.value) };
+
+    ghost computes = { λ _ _. ((λ x y. nat_cmp x.value y.value), refl) };
+
+    ghost lawful = { λ _ cmp e. subst IsPreorder (sym e) by_number_lawful };
+
+    fn compare(&self, first: &Asked, second: &Asked) -> Ordering {
+        let compared = &first.counts.compared;
+        compared.set(compared.get().wrapping_add(1));
+        first.value.cmp(&second.value)
+    }
 }
 
 /// Returns a node with a value of its number.
-pub fn node(
+fn node(
+    rt: &impl Abort,
     alloc: Global,
     value: u64,
     counts: &Rc<Counts, Global>,
-) -> Result<Node<Asked, Links<Asked>>, AllocError> {
-    let counts = counts.clone()?;
-    node_of(alloc, value, Asked { value, counts })
+) -> Node<Asked, Links<Asked>> {
+    let counts = made(rt, counts.clone());
+    made(rt, node_of(alloc, value, Asked { value, counts }))
 }
 
 /// Returns new counts, of nothing.
-pub fn no_counts(alloc: Global) -> Result<Rc<Counts, Global>, AllocError> {
-    Ok(Rc::new(
-        alloc,
-        Counts {
-            compared: Cell::new(0),
-            dropped: Cell::new(0),
-            order: Cell::new(0),
-        },
-    )?)
+fn no_counts(rt: &impl Abort, alloc: Global) -> Rc<Counts, Global> {
+    let counts = Counts {
+        compared: Cell::new(0),
+        dropped: Cell::new(0),
+        order: Cell::new(0),
+    };
+    made(rt, Rc::new(alloc, counts))
+}
+
+/// Numbers to insert, how many comparisons each takes, and how many there were by then.
+///
+/// 10 asks nothing. 20, 20 again and 30 ask the last alone. 15 asks 20, which is last, and then 10 and 20; 5 asks 30
+/// and 10; 25 asks 30, and then all six from 5 on.
+const COMPARISONS: [(u64, u64, u64); 7] = [
+    (10, 0, 0),
+    (20, 1, 1),
+    (20, 1, 2),
+    (15, 3, 5),
+    (30, 1, 6),
+    (5, 2, 8),
+    (25, 7, 15),
+];
+
+#[test]
+fn counts_what_it_asks(rt: HostRuntime) {
+    let counts = no_counts(&rt, rt.alloc());
+    let others = no_counts(&rt, rt.alloc());
+    let mut list = SortedList::new_with_order(ByNumber);
+    let mut other = SortedList::new_with_order(ByNumber);
+    for (number, own, all) in &COMPARISONS {
+        let mut steps = Steps::new();
+        list.insert_in(node(&rt, rt.alloc(), *number, &counts), &mut steps);
+        other.insert(node(&rt, rt.alloc(), *number, &others));
+        let asked = (steps.count(), counts.compared.get(), others.compared.get());
+        same(&rt, asked, (*own, *all, *all));
+    }
+}
+
+// 10 and 20 are popped. The drop frees 25, 30 and 35, in this order.
+#[test]
+fn a_drop_frees_what_is_left(rt: HostRuntime) {
+    let counts = no_counts(&rt, rt.alloc());
+    let mut list = SortedList::new_with_order(ByNumber);
+    for number in [20, 10, 30, 25, 35] {
+        list.insert(node(&rt, rt.alloc(), number, &counts));
+    }
+    drop(list.pop_front());
+    drop(list.pop_front());
+    same(&rt, counts.dropped.get(), 2);
+    drop(list);
+    let freed = (counts.dropped.get(), counts.order.get());
+    same(&rt, freed, (5, 1_020_253_035));
 }

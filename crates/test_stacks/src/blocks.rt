@@ -1,5 +1,5 @@
 //! Numbered blocks, which count their drops.
-use crate::compared::same;
+use crate::compared::{made, same};
 use cordyceps_base::node::Node;
 use freelist::{Links, Stack};
 use std::alloc::{AllocError, Global};
@@ -10,30 +10,36 @@ use test_support::nodes::number;
 /// What a free list returns, and takes back.
 pub type Handle = Node<Counted, Links<Counted>>;
 
+/// Returns a count of no drops.
+pub fn no_drops(rt: &impl Abort, alloc: Global) -> Drops {
+    made(rt, Drops::new(alloc))
+}
+
 /// Returns a block of this number.
 pub fn block(alloc: Global, number: u64, drops: &Drops) -> Result<Handle, AllocError> {
     counted_node(alloc, number, 0, drops)
 }
 
 /// Returns two blocks, of this number and the next.
-pub fn pair(alloc: Global, first: u64, drops: &Drops) -> Result<(Handle, Handle), AllocError> {
-    let one = block(alloc, first, drops)?;
-    let two = block(alloc, first.wrapping_add(1), drops)?;
-    Ok((one, two))
+pub fn pair(rt: &impl Abort, alloc: Global, first: u64, drops: &Drops) -> (Handle, Handle) {
+    let one = made(rt, block(alloc, first, drops));
+    let two = made(rt, block(alloc, first.wrapping_add(1), drops));
+    (one, two)
 }
 
 /// Returns blocks of the numbers from the first to the one before the end.
 pub fn blocks(
+    rt: &impl Abort,
     alloc: Global,
     first: u64,
     end: u64,
     drops: &Drops,
-) -> Result<Stack<Counted>, AllocError> {
-    let mut made = Stack::new();
+) -> Stack<Counted> {
+    let mut blocks = Stack::new();
     for number in first..end {
-        made.push(block(alloc, number, drops)?);
+        blocks.push(made(rt, block(alloc, number, drops)));
     }
-    Ok(made)
+    blocks
 }
 
 /// Asserts how many drops were counted.
@@ -50,27 +56,15 @@ pub fn pops(rt: &impl Abort, stack: Stack<Counted>, wanted: &[u64]) {
     same(rt, left.is_empty(), true);
 }
 
-/// Returns the numbers of these blocks, the least first.
-fn sorted(alloc: Global, blocks: Stack<Counted>) -> Result<Vec<u64>, AllocError> {
+/// Compares the numbers of these blocks with those below an end, each of which is to be there once.
+pub fn each_once(rt: &impl Abort, alloc: Global, blocks: Stack<Counted>, end: u64) {
     let mut numbers = Vec::new(alloc);
     for block in blocks {
-        numbers.push(block.id())?;
+        made(rt, numbers.push(block.id()));
     }
-    numbers.sort()?;
-    Ok(numbers)
-}
-
-/// Compares the numbers of these blocks with those below an end, each of which is to be there once.
-pub fn each_once(
-    rt: &impl Abort,
-    alloc: Global,
-    blocks: Stack<Counted>,
-    end: u64,
-) -> Result<(), AllocError> {
-    let numbers = sorted(alloc, blocks)?;
+    made(rt, numbers.sort());
     same(rt, numbers.len() as u64, end);
     for (place, number) in numbers.iter().enumerate() {
         same(rt, *number, place as u64);
     }
-    Ok(())
 }

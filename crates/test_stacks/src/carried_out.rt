@@ -1,120 +1,94 @@
 //! Lists of commands, and where the blocks are afterwards.
-use crate::blocks::{dropped, pair, pops};
-use crate::compared::at_most;
+use crate::blocks::{dropped, no_drops, pair, pops};
+use crate::compared::{at_most, made};
 use freelist::Stack;
 use freelist::laws::{Command, Turn, run_both};
-use std::alloc::{AllocError, Global};
-use std::process::Abort;
-use test_support::counted::{Counted, Drops};
 
-/// Returns the blocks 1 and 2, with 1 on top.
-fn two_blocks(alloc: Global, drops: &Drops) -> Result<Stack<Counted>, AllocError> {
-    let (one, two) = pair(alloc, 1, drops)?;
-    let mut blocks = Stack::new();
-    blocks.push(two);
-    blocks.push(one);
-    Ok(blocks)
-}
+/// A get that fetches what was put back.
+const FETCHES: &[Turn] = &[
+    Turn::First(Command::Split(0)),
+    Turn::First(Command::Open),
+    Turn::First(Command::PutRemote),
+    Turn::First(Command::Put),
+    Turn::First(Command::Get),
+    Turn::First(Command::Get),
+    Turn::First(Command::Get),
+];
 
-/// Carries commands out for a user who has 2 and, on top of that, 1, and compares what the user has in the end, and
-/// what is shared, with what is wanted.
-fn ends_with(
-    rt: &impl Abort,
-    alloc: Global,
-    rooms: usize,
-    commands: &[Command],
-    hand: &[u64],
-    shared: &[u64],
-) -> Result<(), AllocError> {
-    at_most(rt, rooms, 9);
-    let drops = Drops::new(alloc)?;
-    let hands = (two_blocks(alloc, &drops)?, Stack::new());
-    let mut turns = Vec::new(alloc);
-    for command in commands {
-        turns.push(Turn::First(*command))?;
+/// A user with no block idles.
+const NO_BLOCK: &[Turn] = &[
+    Turn::First(Command::Split(0)),
+    Turn::First(Command::Open),
+    Turn::First(Command::Get),
+    Turn::First(Command::Put),
+    Turn::First(Command::PutRemote),
+    Turn::First(Command::Get),
+    Turn::First(Command::PutRemote),
+    Turn::First(Command::Get),
+    Turn::First(Command::Put),
+    Turn::First(Command::Put),
+    Turn::First(Command::PutRemote),
+];
+
+/// A user without parts or rooms idles.
+const NO_PARTS: &[Turn] = &[
+    Turn::First(Command::Get),
+    Turn::First(Command::Put),
+    Turn::First(Command::Finish),
+    Turn::First(Command::Absorb),
+    Turn::First(Command::Open),
+    Turn::First(Command::Split(4)),
+    Turn::First(Command::PutRemote),
+    Turn::First(Command::Split(2)),
+    Turn::First(Command::PutRemote),
+    Turn::First(Command::Split(0)),
+    Turn::First(Command::Open),
+    Turn::First(Command::Open),
+    Turn::First(Command::Get),
+    Turn::First(Command::Finish),
+    Turn::First(Command::Finish),
+    Turn::First(Command::Absorb),
+    Turn::First(Command::PutRemote),
+];
+
+/// A user gets what another put back.
+const BETWEEN_USERS: &[Turn] = &[
+    Turn::Second(Command::Split(0)),
+    Turn::First(Command::PutRemote),
+    Turn::Second(Command::Open),
+    Turn::First(Command::PutRemote),
+    Turn::Second(Command::Get),
+    Turn::First(Command::PutRemote),
+    Turn::Second(Command::PutRemote),
+];
+
+/// How many rooms each user has, what the users do, and what the first and the second then have, and what is shared.
+type Case = (usize, &'static [Turn], [&'static [u64]; 3]);
+
+/// At first the first user has the blocks 2 and, on top of that, 1.
+const CASES: [Case; 4] = [
+    (5, FETCHES, [&[1, 2], &[], &[]]),
+    (9, NO_BLOCK, [&[2, 1], &[], &[]]),
+    (3, NO_PARTS, [&[2], &[], &[1]]),
+    (2, BETWEEN_USERS, [&[], &[1], &[2]]),
+];
+
+#[test]
+fn blocks_are_where_commands_put_them(rt: HostRuntime) {
+    for (rooms, turns, [first, second, shared]) in CASES {
+        at_most(&rt, rooms, 9);
+        let drops = no_drops(&rt, rt.alloc());
+        let (one, two) = pair(&rt, rt.alloc(), 1, &drops);
+        let mut hand = Stack::new();
+        hand.push(two);
+        hand.push(one);
+        let hands = (hand, Stack::new());
+        let given = made(&rt, run_both(rt.alloc(), rooms, hands, turns));
+        dropped(&rt, &drops, 0);
+        let (with_first, with_second, left) = given;
+        pops(&rt, with_first, first);
+        pops(&rt, with_second, second);
+        pops(&rt, left, shared);
+        dropped(&rt, &drops, 2);
     }
-    let (with_user, none, left) = run_both(alloc, rooms, hands, &turns)?;
-    dropped(rt, &drops, 0);
-    pops(rt, with_user, hand);
-    pops(rt, none, &[]);
-    pops(rt, left, shared);
-    dropped(rt, &drops, 2);
-    Ok(())
-}
-
-#[test]
-fn a_get_fetches_what_was_put_back(rt: HostRuntime) -> Result<(), AllocError> {
-    let commands = [
-        Command::Split(0),
-        Command::Open,
-        Command::PutRemote,
-        Command::Put,
-        Command::Get,
-        Command::Get,
-        Command::Get,
-    ];
-    ends_with(&rt, rt.alloc(), 5, &commands, &[1, 2], &[])
-}
-
-#[test]
-fn a_user_with_no_block_idles(rt: HostRuntime) -> Result<(), AllocError> {
-    let commands = [
-        Command::Split(0),
-        Command::Open,
-        Command::Get,
-        Command::Put,
-        Command::PutRemote,
-        Command::Get,
-        Command::PutRemote,
-        Command::Get,
-        Command::Put,
-        Command::Put,
-        Command::PutRemote,
-    ];
-    ends_with(&rt, rt.alloc(), 9, &commands, &[2, 1], &[])
-}
-
-#[test]
-fn a_user_without_parts_or_rooms_idles(rt: HostRuntime) -> Result<(), AllocError> {
-    let commands = [
-        Command::Get,
-        Command::Put,
-        Command::Finish,
-        Command::Absorb,
-        Command::Open,
-        Command::Split(4),
-        Command::PutRemote,
-        Command::Split(2),
-        Command::PutRemote,
-        Command::Split(0),
-        Command::Open,
-        Command::Open,
-        Command::Get,
-        Command::Finish,
-        Command::Finish,
-        Command::Absorb,
-        Command::PutRemote,
-    ];
-    ends_with(&rt, rt.alloc(), 3, &commands, &[2], &[1])
-}
-
-#[test]
-fn a_user_gets_what_another_put_back(rt: HostRuntime) -> Result<(), AllocError> {
-    let drops = Drops::new(rt.alloc())?;
-    let hands = (two_blocks(rt.alloc(), &drops)?, Stack::new());
-    let turns = [
-        Turn::Second(Command::Split(0)),
-        Turn::First(Command::PutRemote),
-        Turn::Second(Command::Open),
-        Turn::First(Command::PutRemote),
-        Turn::Second(Command::Get),
-        Turn::First(Command::PutRemote),
-        Turn::Second(Command::PutRemote),
-    ];
-    let (none, all, shared) = run_both(rt.alloc(), 2, hands, &turns)?;
-    pops(&rt, none, &[]);
-    pops(&rt, all, &[1]);
-    pops(&rt, shared, &[2]);
-    dropped(&rt, &drops, 2);
-    Ok(())
 }

@@ -1,5 +1,5 @@
-//! Comparisons of values with those that are wanted.
-ghost use Rattle.std.specs.Prelude.{◌<◌, ◌≤◌};
+//! Comparisons of values with those that are wanted, and what ends a test.
+ghost use Rattle.std.specs.Prelude.{◌≡◌, ◌<◌, ◌≤◌, Ok};
 
 use std::fmt::Debug;
 use std::process::Abort;
@@ -21,4 +21,11 @@ pub fn has_room(rt: &impl Abort, rooms: usize)
     ensures { 0 < rooms }
 {
     assert!(rt; rooms > 0);
+}
+
+/// Returns what was made. The test fails where memory was refused.
+pub fn made<T, E: Debug>(rt: &impl Abort, outcome: Result<T, E>) -> T
+    ensures { outcome ≡ Ok result }
+{
+    outcome.expect(rt, "memory is there")
 }

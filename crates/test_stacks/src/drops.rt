@@ -1,8 +1,8 @@
 //! How often blocks are dropped, wherever they are.
-use crate::blocks::{Handle, block, dropped, pair};
+use crate::blocks::{Handle, block, dropped, no_drops, pair};
+use crate::compared::made;
 use crate::users::{Remote, gets};
 use freelist::{FreeList, Local};
-use std::alloc::AllocError;
 use std::process::Abort;
 use test_support::counted::{Counted, Drops};
 
@@ -15,18 +15,17 @@ fn put_and_drop(mut local: Local<'_, Counted>, own: (Handle, Handle)) {
 }
 
 #[test]
-fn a_dropped_local_part_drops_its_own_blocks(rt: HostRuntime) -> Result<(), AllocError> {
-    let drops = Drops::new(rt.alloc())?;
-    let own = pair(rt.alloc(), 1, &drops)?;
-    let three = block(rt.alloc(), 3, &drops)?;
-    let (list, mut party) = FreeList::new(rt.alloc(), 2)?;
+fn a_dropped_local_part_drops_its_own_blocks(rt: HostRuntime) {
+    let drops = no_drops(&rt, rt.alloc());
+    let own = pair(&rt, rt.alloc(), 1, &drops);
+    let three = made(&rt, block(rt.alloc(), 3, &drops));
+    let (list, mut party) = made(&rt, FreeList::new(rt.alloc(), 2));
     let mut remote = Remote::at(&list, list.split(&mut party, 1));
     remote.puts(&rt, three, true);
     put_and_drop(list.local(party), own);
     dropped(&rt, &drops, 2);
     gets(&rt, &mut remote.local(), &[Some(3), None]);
     dropped(&rt, &drops, 3);
-    Ok(())
 }
 
 /// Drops a local part with two blocks, while others are shared and with a user.
@@ -47,17 +46,16 @@ fn drop_parts(
 }
 
 #[test]
-fn each_block_drops_once(rt: HostRuntime) -> Result<(), AllocError> {
-    let drops = Drops::new(rt.alloc())?;
-    let own = pair(rt.alloc(), 1, &drops)?;
-    let shared = block(rt.alloc(), 3, &drops)?;
-    let with_user = pair(rt.alloc(), 4, &drops)?;
-    let (list, mut party) = FreeList::new(rt.alloc(), 1)?;
+fn each_block_drops_once(rt: HostRuntime) {
+    let drops = no_drops(&rt, rt.alloc());
+    let own = pair(&rt, rt.alloc(), 1, &drops);
+    let shared = made(&rt, block(rt.alloc(), 3, &drops));
+    let with_user = pair(&rt, rt.alloc(), 4, &drops);
+    let (list, mut party) = made(&rt, FreeList::new(rt.alloc(), 1));
     let remote = Remote::at(&list, list.split(&mut party, 1));
     drop_parts(&rt, &drops, list.local(party), own, remote, shared);
     drop(list);
     dropped(&rt, &drops, 3);
     drop(with_user);
     dropped(&rt, &drops, 5);
-    Ok(())
 }

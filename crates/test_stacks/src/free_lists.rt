@@ -1,6 +1,6 @@
 //! Calls of a free list, one after the other.
-use crate::blocks::{Handle, block, dropped, pair, pops};
-use crate::compared::same;
+use crate::blocks::{Handle, block, dropped, no_drops, pair, pops};
+use crate::compared::{made, same};
 use crate::users::{Remote, finishes, gets, puts};
 use freelist::{FreeList, Local};
 use std::alloc::AllocError;
@@ -27,22 +27,21 @@ fn put_and_get(
 }
 
 #[test]
-fn local_blocks_come_before_shared_ones(rt: HostRuntime) -> Result<(), AllocError> {
-    let drops = Drops::new(rt.alloc())?;
-    let own = pair(rt.alloc(), 1, &drops)?;
-    let others = pair(rt.alloc(), 3, &drops)?;
-    let (list, mut party) = FreeList::new(rt.alloc(), 3)?;
+fn local_blocks_come_before_shared_ones(rt: HostRuntime) {
+    let drops = no_drops(&rt, rt.alloc());
+    let own = pair(&rt, rt.alloc(), 1, &drops);
+    let others = pair(&rt, rt.alloc(), 3, &drops);
+    let (list, mut party) = made(&rt, FreeList::new(rt.alloc(), 3));
     let remote = Remote::at(&list, list.split(&mut party, 2));
     put_and_get(&rt, list.local(party), remote, own, others);
     dropped(&rt, &drops, 4);
-    Ok(())
 }
 
 #[test]
-fn a_close_returns_what_is_shared(rt: HostRuntime) -> Result<(), AllocError> {
-    let drops = Drops::new(rt.alloc())?;
-    let (one, two) = pair(rt.alloc(), 1, &drops)?;
-    let (list, mut party) = FreeList::new(rt.alloc(), 5)?;
+fn a_close_returns_what_is_shared(rt: HostRuntime) {
+    let drops = no_drops(&rt, rt.alloc());
+    let (one, two) = pair(&rt, rt.alloc(), 1, &drops);
+    let (list, mut party) = made(&rt, FreeList::new(rt.alloc(), 5));
     let mut other = list.split(&mut party, 2);
     same(&rt, (party.rooms(), other.rooms()), (3, 2));
     puts(&rt, &list, &mut other, one, true);
@@ -51,12 +50,11 @@ fn a_close_returns_what_is_shared(rt: HostRuntime) -> Result<(), AllocError> {
     list.absorb(&mut party, other);
     same(&rt, party.rooms(), 3);
     pops(&rt, list.close(party), &[2, 1]);
-    Ok(())
 }
 
 #[test]
-fn a_free_list_without_rooms_shares_nothing(rt: HostRuntime) -> Result<(), AllocError> {
-    let (list, mut party) = FreeList::<Counted>::new(rt.alloc(), 0)?;
+fn a_free_list_without_rooms_shares_nothing(rt: HostRuntime) {
+    let (list, mut party) = made(&rt, FreeList::<Counted>::new(rt.alloc(), 0));
     let other = list.split(&mut party, 0);
     same(&rt, (party.rooms(), other.rooms()), (0, 0));
     let mut local = list.local(other);
@@ -66,7 +64,6 @@ fn a_free_list_without_rooms_shares_nothing(rt: HostRuntime) -> Result<(), Alloc
     list.absorb(&mut party, other);
     same(&rt, party.rooms(), 0);
     pops(&rt, list.close(party), &[]);
-    Ok(())
 }
 
 /// Puts a block back for all and gets it.

@@ -12,8 +12,6 @@ mod compared;
 #[cfg(test)]
 mod drops;
 #[cfg(test)]
-mod ends;
-#[cfg(test)]
 mod free_lists;
 #[cfg(test)]
 mod number;

@@ -1,10 +1,14 @@
 //! Elements that are plain numbers.
 ghost use Rattle.std.specs.Prelude.{◌≡◌};
+ghost use Rattle.std.specs.Ordering.{nat_cmp};
 
+use crate::compared::made;
 use cordyceps_base::linked::Linked;
 use cordyceps_base::node::Node;
 use cordyceps_stack::stack::Links;
-use std::alloc::{AllocError, Global};
+use std::alloc::Global;
+use std::cmp::Ordering;
+use std::process::Abort;
 use test_support::nodes::node_of;
 
 /// A number.
@@ -29,7 +33,14 @@ impl Linked<Links<Number>> for Number {
     }
 }
 
+/// Compares the numbers.
+pub fn by_number(first: &Number, second: &Number) -> Ordering
+    ensures { result ≡ nat_cmp first.now.value second.now.value }
+{
+    first.value.cmp(&second.value)
+}
+
 /// Returns a node with a value of its number.
-pub fn make(alloc: Global, value: u64) -> Result<Node<Number, Links<Number>>, AllocError> {
-    node_of(alloc, value, Number { value })
+pub fn make(rt: &impl Abort, alloc: Global, value: u64) -> Node<Number, Links<Number>> {
+    made(rt, node_of(alloc, value, Number { value }))
 }

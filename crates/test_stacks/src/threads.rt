@@ -1,10 +1,11 @@
 //! Threads that put blocks back, while their owner gets them.
 ghost use Rattle.std.specs.Prelude.{◌≡◌};
 
-use crate::blocks::{blocks, dropped, each_once};
+use crate::blocks::{blocks, dropped, each_once, no_drops};
+use crate::compared::made;
 use crate::users::{Remote, get_all};
 use freelist::{FreeList, Local, Party, Stack};
-use std::alloc::{AllocError, Global};
+use std::alloc::Global;
 use std::process::Abort;
 use std::thread;
 use std::thread::Threads;
@@ -31,13 +32,10 @@ fn put_and_get<R: Threads + Abort + Sync>(
 }
 
 /// Returns the blocks with numbers below 64, in two halves.
-fn two_halves(
-    alloc: Global,
-    drops: &Drops,
-) -> Result<(Stack<Counted>, Stack<Counted>), AllocError> {
-    let low = blocks(alloc, 0, 32, drops)?;
-    let high = blocks(alloc, 32, 64, drops)?;
-    Ok((low, high))
+fn two_halves(rt: &impl Abort, alloc: Global, drops: &Drops) -> (Stack<Counted>, Stack<Counted>) {
+    let low = blocks(rt, alloc, 0, 32, drops);
+    let high = blocks(rt, alloc, 32, 64, drops);
+    (low, high)
 }
 
 /// Returns what the owner gets back, where two others have the 64 rooms and put a half back each.
@@ -55,15 +53,14 @@ fn come_back<R: Threads + Abort + Sync>(
 }
 
 #[test]
-fn what_threads_put_back_comes_once(rt: HostRuntime) -> Result<(), AllocError> {
+fn what_threads_put_back_comes_once(rt: HostRuntime) {
     for _ in 0..ROUNDS {
-        let drops = Drops::new(rt.alloc())?;
-        let halves = two_halves(rt.alloc(), &drops)?;
-        let (list, party) = FreeList::new(rt.alloc(), 64)?;
+        let drops = no_drops(&rt, rt.alloc());
+        let halves = two_halves(&rt, rt.alloc(), &drops);
+        let (list, party) = made(&rt, FreeList::new(rt.alloc(), 64));
         let all = come_back(&rt, &list, party, halves);
         dropped(&rt, &drops, 0);
-        each_once(&rt, rt.alloc(), all, 64)?;
+        each_once(&rt, rt.alloc(), all, 64);
         dropped(&rt, &drops, 64);
     }
-    Ok(())
 }

@@ -6,32 +6,24 @@ use crate::number::{Number, make};
 use cordyceps_stack::sorted_list::{Least, SortedList, SortedListIter};
 use cordyceps_stack::stack::Stack;
 use std::marker::{Send, Sync};
-use std::test::Fail;
 use std::thread;
 use test_support::nodes::number;
 use test_support::travels::{sent, shared};
 
-/// A stack can be sent where its values can.
-fn a_stack_travels_where_its_values_do<T: Send>(stack: Stack<T>) -> Stack<T> {
-    sent(stack)
-}
-
-/// A stack can be shared where its values can.
-fn a_stack_is_shared_where_its_values_are<T: Sync>(stack: &Stack<T>) -> &Stack<T> {
-    shared(stack)
-}
-
-/// A sorted list can be sent where its values and its order can.
-fn a_sorted_list_travels_where_its_values_do<T: Send, O: Send>(
+/// A stack can be sent where its values can, and a sorted list where its values and its order can.
+fn travel<T: Send, O: Send>(
+    stack: Stack<T>,
     list: SortedList<T, O>,
-) -> SortedList<T, O> {
-    sent(list)
+) -> (Stack<T>, SortedList<T, O>) {
+    (sent(stack), sent(list))
 }
 
-/// A sorted list can be shared where its values and its order can.
-fn a_sorted_list_is_shared_where_its_values_are<T: Sync, O: Sync>(
-    list: &SortedList<T, O>,
-) -> &SortedList<T, O> {
+/// A stack can be shared where its values can, and a sorted list where its values and its order can.
+fn are_shared<'a, T: Sync, O: Sync>(
+    stack: &Stack<T>,
+    list: &'a SortedList<T, O>,
+) -> &'a SortedList<T, O> {
+    let _ = shared(stack);
     shared(list)
 }
 
@@ -52,38 +44,30 @@ fn sum(list: &SortedList<Number, Least>) -> u64 {
     sum
 }
 
-#[test]
-fn two_threads_read_one_sorted_list(rt: HostRuntime) -> Result<(), Fail> {
-    let mut list: SortedList<Number, Least> = SortedList::new_min();
-    list.insert(make(rt.alloc(), 300)?);
-    list.insert(make(rt.alloc(), 1)?);
-    list.insert(make(rt.alloc(), 20)?);
-    let read = a_sorted_list_is_shared_where_its_values_are(&list);
-    let sums = thread::join(&rt, || sum(read), || sum(read));
-    same(&rt, sums, (321, 321));
-    let mut list = a_sorted_list_travels_where_its_values_do(list);
-    same(&rt, number(list.pop_front()), Some(1));
-    Ok(())
+/// Pops an element, and returns the stack.
+fn popped(mut stack: Stack<Number>) -> Stack<Number> {
+    drop(stack.pop());
+    stack
 }
 
 #[test]
-fn a_thread_pops_from_a_stack_that_it_was_sent(rt: HostRuntime) -> Result<(), Fail> {
+fn threads_read_one_sorted_list_and_pop_from_a_stack_that_was_sent(rt: HostRuntime) {
     let mut stack = Stack::new();
-    stack.push(make(rt.alloc(), 1)?);
-    stack.push(make(rt.alloc(), 2)?);
-    let _ = a_stack_is_shared_where_its_values_are(&stack);
-    let stack = a_stack_travels_where_its_values_do(stack);
-    let (other, mut stack) = thread::join(
+    let mut list: SortedList<Number, Least> = SortedList::new_min();
+    for value in [300, 1, 20] {
+        stack.push(make(&rt, rt.alloc(), value));
+        list.insert(make(&rt, rt.alloc(), value));
+    }
+    let (stack, mut list) = travel(stack, list);
+    let read = are_shared(&stack, &list);
+    let (first, (second, mut stack)) = thread::join(
         &rt,
-        || 7u64,
-        || -> Stack<Number> {
-            let mut stack = stack;
-            drop(stack.pop());
-            stack
-        },
+        || sum(read),
+        || (sum(read), popped(stack)),
     );
-    same(&rt, other, 7);
-    same(&rt, number(stack.pop()), Some(1));
-    same(&rt, number(stack.pop()), None);
-    Ok(())
+    same(&rt, (first, second), (321, 321));
+    same(&rt, number(list.pop_front()), Some(1));
+    for left in [Some(1), Some(300), None] {
+        same(&rt, number(stack.pop()), left);
+    }
 }

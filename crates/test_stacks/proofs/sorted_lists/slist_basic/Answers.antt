@@ -1,30 +1,18 @@
-use Rattle.std.proofs.Common.{rules, sym, ◌∙◌}
+use Rattle.std.proofs.Common.{rules}
 use Rattle.std.specs.Ordering.{nat_cmp}
 use Rattle.std.specs.Cmp.{on_total}
 use Rattle.std.proofs.lemmas.Cmp.{nat_cmp_total}
 use Rattle.cordyceps_single.specs.Preorder.{preorder_from_total}
-use Rattle.test_stacks.specs.declared.asked.Asked.{Asked}
+use Rattle.test_stacks.specs.declared.number.Number.{Number}
 use Rattle.test_stacks.proofs.sorted_lists.slist_basic.Goals as goal
 
 pub new_with_cmp-list-requires-clause-total : goal.new_with_cmp-list-requires-clause-total
 new_with_cmp-list-requires-clause-total g c = (
   (λ x y. nat_cmp x.value y.value),
   record {
-    lawful = preorder_from_total (on_total (λ (x : Asked). x.value) nat_cmp_total);
+    lawful = preorder_from_total (on_total (λ (x : Number). x.value) nat_cmp_total);
     answers = λ x y r h. rw (← h.shows.0, ← h.shows.1) (search rules);
   },
-)
-
-pub shows_and_pops-requires : goal.shows_and_pops-requires
-shows_and_pops-requires g c = (
-  search rules,
-  (
-    (λ x y. nat_cmp x.value y.value),
-    record {
-      lawful = preorder_from_total (on_total (λ (x : Asked). x.value) nat_cmp_total);
-      answers = λ x y r h. rw (← h.shows.0, ← h.shows.1) (search rules);
-    },
-  ),
 )
 
 pub takes_back-requires : goal.takes_back-requires
@@ -33,7 +21,7 @@ takes_back-requires g c = (
   (
     (λ x y. nat_cmp x.value y.value),
     record {
-      lawful = preorder_from_total (on_total (λ (x : Asked). x.value) nat_cmp_total);
+      lawful = preorder_from_total (on_total (λ (x : Number). x.value) nat_cmp_total);
       answers = λ x y r h. rw (← h.shows.0, ← h.shows.1) (search rules);
     },
   ),
