@@ -24,6 +24,9 @@ pub type Handle = Node<Key, Links<Key>>;
 /// The number and the key of an element.
 pub type Pair = (u64, u64);
 
+/// The key before a spot, the one at it, and the one after it.
+pub type Sight = (Option<u64>, Option<u64>, Option<u64>);
+
 /// An element that tables of calls name.
 pub const ONE: Pair = (1, 10);
 
@@ -53,14 +56,14 @@ impl Linked<Links<Key>> for Key {
 }
 
 /// What a call replies.
-#[derive(Drop, Debug, PartialEq)]
+#[derive(Clone, Copy, Debug, PartialEq)]
 pub enum Reply {
     /// This element came out, or none.
     Out(Option<Pair>),
-    /// The keys before the spot that the call returned or took, at it and after it.
-    At([Option<u64>; 3]),
+    /// The keys around the spot that the call returned or took.
+    At(Sight),
     /// The key that was changed, and then the same.
-    Changed(u64, [Option<u64>; 3]),
+    Changed(u64, Sight),
     /// There is no spot.
     Nothing,
 }
@@ -120,12 +123,12 @@ pub fn reply_at(pairs: &[Pair], at: usize) -> Reply {
 }
 
 /// Returns the keys before a place of a vector, at it and after it.
-pub fn keys_around(pairs: &[Pair], at: usize) -> [Option<u64>; 3] {
-    [
+pub fn keys_around(pairs: &[Pair], at: usize) -> Sight {
+    (
         key_at(pairs, at.wrapping_sub(1)),
         key_at(pairs, at),
         key_at(pairs, at.wrapping_add(1)),
-    ]
+    )
 }
 
 /// Inserts a pair at a place of a vector, and returns the place.

@@ -3,7 +3,7 @@ ghost use Rattle.std.specs.Prelude.{◌≡◌, IfSome};
 ghost use Rattle.cordyceps_base.specs.BySpot.{HasSpot};
 
 use crate::compared::{at_most, same};
-use crate::keys::{Key, Pair, Reply, make, parts, reads, spot_at};
+use crate::keys::{Key, Pair, Reply, Sight, make, parts, reads, spot_at};
 use cordyceps_single::sorted_list::{Least, Order};
 use cordyceps_stable::stable_list::Spot;
 use cordyceps_stable::stable_sorted_list::StableSortedList;
@@ -75,15 +75,15 @@ where
 }
 
 /// Returns the keys before a spot, at it and after it.
-pub fn around(list: &Keys, spot: Spot) -> [Option<u64>; 3]
+pub fn around(list: &Keys, spot: Spot) -> Sight
     requires { HasSpot list.now.nodes spot }
 {
-    let mut keys = [None, Some(list.get(spot).value), None];
+    let mut keys = (None, Some(list.get(spot).value), None);
     if let Some(before) = list.prev(spot) {
-        keys[0] = Some(list.get(before).value);
+        keys.0 = Some(list.get(before).value);
     }
     if let Some(after) = list.next(spot) {
-        keys[2] = Some(list.get(after).value);
+        keys.2 = Some(list.get(after).value);
     }
     keys
 }

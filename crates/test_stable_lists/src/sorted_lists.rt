@@ -3,8 +3,9 @@ ghost use Rattle.std.specs.Prelude.{◌≡◌, ◌/◌};
 ghost use Rattle.std.specs.Ordering.{nat_cmp};
 
 use crate::compared::{at_most, same};
-use crate::keys::{Key, Pair, Reply, make};
-use crate::sorted_calls::{Call, Keys, LONGEST, around, holds, insert_all, keys_of, pops, reply};
+use crate::keys::{Key, Pair, Reply, Sight, make};
+use crate::sorted_calls::{Call, Keys, LONGEST, around, holds, insert_all, pops};
+use crate::sorted_operations::agree;
 use cordyceps_base::steps::Steps;
 use cordyceps_single::sorted_list::{Least, Order};
 use cordyceps_stable::stable_sorted_list::StableSortedList;
@@ -12,166 +13,106 @@ use std::alloc::Global;
 use std::cmp::Ordering;
 use std::process::Abort;
 
-/// What is inserted one after the other, a call, its reply, and what the list then holds.
-type Case = (&'static [Pair], Call, Reply, &'static [Pair]);
-
-/// Elements with keys of which some are equal.
-const EQUALS: &[Pair] = &[(1, 5), (2, 3), (3, 5), (4, 1), (5, 3)];
-
-/// These in order.
-const IN_ORDER: &[Pair] = &[(4, 1), (2, 3), (5, 3), (1, 5), (3, 5)];
-
-/// Elements with different keys.
-const EVEN: &[Pair] = &[(1, 8), (2, 2), (3, 6), (4, 4)];
-
-/// Elements in order, two of them with equal keys.
-const RISING: &[Pair] = &[(1, 2), (2, 4), (3, 4), (4, 6)];
-
-/// Calls at the ends, and by spots.
-const CALLS: [Case; 20] = [
-    (&[], Call::Front, Reply::Nothing, &[]),
-    (&[], Call::Back, Reply::Nothing, &[]),
-    (&[], Call::PopFront, Reply::Out(None), &[]),
+/// Calls of a list that is empty at first, and what they reply. A number of several elements says in which order they
+/// arrived.
+const CALLS: &[(Call, Reply)] = &[
+    (Call::Front, Reply::Nothing),
+    (Call::Back, Reply::Nothing),
+    (Call::PopFront, Reply::Out(None)),
+    // equals by arrival
+    (Call::Insert((1, 5)), Reply::At((None, Some(5), None))),
+    (Call::Insert((2, 3)), Reply::At((None, Some(3), Some(5)))),
+    (Call::Insert((3, 5)), Reply::At((Some(5), Some(5), None))),
+    (Call::Insert((4, 1)), Reply::At((None, Some(1), Some(3)))),
+    (Call::Insert((5, 3)), Reply::At((Some(3), Some(3), Some(5)))),
+    (Call::Front, Reply::At((None, Some(1), Some(3)))),
+    (Call::Back, Reply::At((Some(5), Some(5), None))),
+    (Call::Read(2), Reply::At((Some(3), Some(3), Some(5)))),
+    (Call::PopFront, Reply::Out(Some((4, 1)))),
+    (Call::PopFront, Reply::Out(Some((2, 3)))),
+    (Call::PopFront, Reply::Out(Some((5, 3)))),
+    (Call::PopFront, Reply::Out(Some((1, 5)))),
+    (Call::PopFront, Reply::Out(Some((3, 5)))),
+    (Call::PopFront, Reply::Out(None)),
+    // 2 4 6 8, of which each is removed
     (
-        EQUALS,
-        Call::Front,
-        Reply::At([None, Some(1), Some(3)]),
-        IN_ORDER,
+        Call::Append(&[(1, 8), (2, 2), (3, 6), (4, 4)]),
+        Reply::Nothing,
+    ),
+    (Call::Remove(1), Reply::Out(Some((4, 4)))),
+    (Call::Remove(2), Reply::Out(Some((1, 8)))),
+    (Call::Remove(0), Reply::Out(Some((2, 2)))),
+    (Call::Remove(0), Reply::Out(Some((3, 6)))),
+    // 2 4 4 6, of which keys are changed, and changed back
+    (
+        Call::Append(&[(1, 2), (2, 4), (3, 4), (4, 6)]),
+        Reply::Nothing,
     ),
     (
-        EQUALS,
-        Call::Back,
-        Reply::At([Some(5), Some(5), None]),
-        IN_ORDER,
-    ),
-    (
-        EQUALS,
-        Call::Read(2),
-        Reply::At([Some(3), Some(3), Some(5)]),
-        IN_ORDER,
-    ),
-    (
-        EQUALS,
-        Call::PopFront,
-        Reply::Out(Some((4, 1))),
-        &[(2, 3), (5, 3), (1, 5), (3, 5)],
-    ),
-    (
-        &[],
-        Call::Insert((1, 5)),
-        Reply::At([None, Some(5), None]),
-        &[(1, 5)],
-    ),
-    (
-        &[(1, 5), (2, 7)],
-        Call::Insert((3, 7)),
-        Reply::At([Some(7), Some(7), None]),
-        &[(1, 5), (2, 7), (3, 7)],
-    ),
-    (
-        &[(1, 5), (2, 7)],
-        Call::Insert((3, 6)),
-        Reply::At([Some(5), Some(6), Some(7)]),
-        &[(1, 5), (3, 6), (2, 7)],
-    ),
-    (
-        EVEN,
-        Call::Remove(0),
-        Reply::Out(Some((2, 2))),
-        &[(4, 4), (3, 6), (1, 8)],
-    ),
-    (
-        EVEN,
-        Call::Remove(1),
-        Reply::Out(Some((4, 4))),
-        &[(2, 2), (3, 6), (1, 8)],
-    ),
-    (
-        EVEN,
-        Call::Remove(2),
-        Reply::Out(Some((3, 6))),
-        &[(2, 2), (4, 4), (1, 8)],
-    ),
-    (
-        EVEN,
-        Call::Remove(3),
-        Reply::Out(Some((1, 8))),
-        &[(2, 2), (4, 4), (3, 6)],
-    ),
-    (&[(1, 7)], Call::Remove(0), Reply::Out(Some((1, 7))), &[]),
-    (
-        RISING,
         Call::Update(0, 4),
-        Reply::Changed(2, [Some(4), Some(4), Some(6)]),
-        &[(2, 4), (3, 4), (1, 4), (4, 6)],
+        Reply::Changed(2, (Some(4), Some(4), Some(6))),
     ),
     (
-        RISING,
+        Call::Update(2, 2),
+        Reply::Changed(4, (None, Some(2), Some(4))),
+    ),
+    (
         Call::Update(1, 4),
-        Reply::Changed(4, [Some(4), Some(4), Some(6)]),
-        &[(1, 2), (3, 4), (2, 4), (4, 6)],
+        Reply::Changed(4, (Some(4), Some(4), Some(6))),
     ),
     (
-        RISING,
+        Call::Update(1, 4),
+        Reply::Changed(4, (Some(4), Some(4), Some(6))),
+    ),
+    (
         Call::Update(3, 1),
-        Reply::Changed(6, [None, Some(1), Some(2)]),
-        &[(4, 1), (1, 2), (2, 4), (3, 4)],
+        Reply::Changed(6, (None, Some(1), Some(2))),
     ),
     (
-        RISING,
+        Call::Update(0, 6),
+        Reply::Changed(1, (Some(4), Some(6), None)),
+    ),
+    (
         Call::Update(1, 9),
-        Reply::Changed(4, [Some(6), Some(9), None]),
-        &[(1, 2), (3, 4), (4, 6), (2, 9)],
+        Reply::Changed(4, (Some(6), Some(9), None)),
     ),
-    (
-        &[(1, 3)],
-        Call::Update(0, 8),
-        Reply::Changed(3, [None, Some(8), None]),
-        &[(1, 8)],
-    ),
+    (Call::PopFront, Reply::Out(Some((1, 2)))),
+    (Call::PopFront, Reply::Out(Some((3, 4)))),
+    (Call::PopFront, Reply::Out(Some((4, 6)))),
+    // the only element
+    (Call::Update(0, 8), Reply::Changed(9, (None, Some(8), None))),
+    (Call::Append(&[]), Reply::Nothing),
+    (Call::PopFront, Reply::Out(Some((2, 8)))),
+    (Call::Append(&[]), Reply::Nothing),
+    // merges
+    (Call::Append(&[(1, 3), (2, 4)]), Reply::Nothing),
+    (Call::Append(&[(3, 1), (4, 2)]), Reply::Nothing),
+    (Call::Append(&[(5, 5), (6, 6)]), Reply::Nothing),
+    (Call::PopFront, Reply::Out(Some((3, 1)))),
+    (Call::PopFront, Reply::Out(Some((4, 2)))),
+    (Call::PopFront, Reply::Out(Some((1, 3)))),
+    (Call::PopFront, Reply::Out(Some((2, 4)))),
+    (Call::PopFront, Reply::Out(Some((5, 5)))),
+    (Call::PopFront, Reply::Out(Some((6, 6)))),
+    (Call::Append(&[(1, 5), (2, 5), (3, 7)]), Reply::Nothing),
+    (Call::Append(&[(4, 5), (5, 6), (6, 5)]), Reply::Nothing),
+    (Call::PopFront, Reply::Out(Some((1, 5)))),
+    (Call::PopFront, Reply::Out(Some((2, 5)))),
+    (Call::PopFront, Reply::Out(Some((4, 5)))),
+    (Call::PopFront, Reply::Out(Some((6, 5)))),
+    (Call::PopFront, Reply::Out(Some((5, 6)))),
+    (Call::PopFront, Reply::Out(Some((3, 7)))),
 ];
-
-/// What is inserted, the elements of a list that is appended, and what the list then holds.
-const MERGES: [(&[Pair], &[Pair], &[Pair]); 6] = [
-    (&[], &[], &[]),
-    (&[(1, 4), (2, 2)], &[], &[(2, 2), (1, 4)]),
-    (&[], &[(1, 4), (2, 2)], &[(2, 2), (1, 4)]),
-    (
-        &[(1, 1), (2, 2)],
-        &[(1, 3), (2, 4)],
-        &[(1, 1), (2, 2), (1, 3), (2, 4)],
-    ),
-    (
-        &[(1, 3), (2, 4)],
-        &[(1, 1), (2, 2)],
-        &[(1, 1), (2, 2), (1, 3), (2, 4)],
-    ),
-    (
-        &[(1, 5), (2, 5), (3, 7)],
-        &[(1, 5), (2, 6), (3, 5)],
-        &[(1, 5), (2, 5), (1, 5), (3, 5), (2, 6), (3, 7)],
-    ),
-];
-
-/// Makes a call of a list, and asserts its reply and what the list then holds.
-fn replies(rt: &impl Abort, alloc: Global, case: Case) {
-    let (before, call, wanted, after) = case;
-    let mut list = keys_of(rt, alloc, before);
-    same(rt, reply(rt, alloc, &mut list, &call), wanted);
-    holds(rt, &list, after);
-    pops(rt, list, after);
-}
 
 #[test]
 fn calls_reply(rt: HostRuntime) {
-    for case in CALLS {
-        replies(&rt, rt.alloc(), case);
-    }
-    for (before, more, after) in MERGES {
-        replies(
+    let mut list = StableSortedList::new_min();
+    let mut pairs = Vec::new(rt.alloc());
+    for (call, wanted) in CALLS {
+        same(
             &rt,
-            rt.alloc(),
-            (before, Call::Append(more), Reply::Nothing, after),
+            agree(&rt, rt.alloc(), &mut list, &mut pairs, call),
+            *wanted,
         );
     }
 }
@@ -200,11 +141,13 @@ fn sorts<O: Order<Key> + Drop>(
 
 #[test]
 fn equals_come_by_arrival(rt: HostRuntime) {
+    let pairs = [(1, 5), (2, 3), (3, 5), (4, 1), (5, 3)];
     let least = StableSortedList::new_with_order(Least);
-    sorts(&rt, rt.alloc(), least, EQUALS, IN_ORDER);
+    let rising = [(4, 1), (2, 3), (5, 3), (1, 5), (3, 5)];
+    sorts(&rt, rt.alloc(), least, &pairs, &rising);
     let greatest = StableSortedList::new_max();
     let falling = [(1, 5), (3, 5), (2, 3), (5, 3), (4, 1)];
-    sorts(&rt, rt.alloc(), greatest, EQUALS, &falling);
+    sorts(&rt, rt.alloc(), greatest, &pairs, &falling);
     let tens = StableSortedList::new_with_cmp(by_tens);
     let pairs = [(1, 21), (2, 11), (3, 12), (4, 20)];
     let rising = [(2, 11), (3, 12), (1, 21), (4, 20)];
@@ -212,13 +155,13 @@ fn equals_come_by_arrival(rt: HostRuntime) {
 }
 
 /// Keys to insert, how many comparisons there were by then, and the keys around the spot.
-const COUNTS: [(u64, u64, [Option<u64>; 3]); 6] = [
-    (5, 0, [None, Some(5), None]),
-    (7, 1, [Some(5), Some(7), None]),
-    (7, 2, [Some(7), Some(7), None]),
-    (6, 5, [Some(5), Some(6), Some(7)]),
-    (1, 7, [None, Some(1), Some(5)]),
-    (5, 12, [Some(5), Some(5), Some(6)]),
+const COUNTS: [(u64, u64, Sight); 6] = [
+    (5, 0, (None, Some(5), None)),
+    (7, 1, (Some(5), Some(7), None)),
+    (7, 2, (Some(7), Some(7), None)),
+    (6, 5, (Some(5), Some(6), Some(7))),
+    (1, 7, (None, Some(1), Some(5))),
+    (5, 12, (Some(5), Some(5), Some(6))),
 ];
 
 #[test]

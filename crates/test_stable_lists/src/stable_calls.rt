@@ -3,7 +3,7 @@ ghost use Rattle.std.specs.Prelude.{◌<◌, length, IfSome};
 ghost use Rattle.cordyceps_base.specs.BySpot.{HasSpot};
 
 use crate::compared::{at_most, same};
-use crate::keys::{Key, Pair, Reply, make, parts, reads, spot_at};
+use crate::keys::{Key, Pair, Reply, Sight, make, parts, reads, spot_at};
 use cordyceps_list::list::List;
 use cordyceps_stable::stable_list::{Spot, StableList};
 use std::alloc::Global;
@@ -61,15 +61,15 @@ pub fn holds(rt: &impl Abort, list: &StableList<Key>, pairs: &[Pair]) {
 }
 
 /// Returns the keys before a spot, at it and after it.
-pub fn around(list: &StableList<Key>, spot: Spot) -> [Option<u64>; 3]
+pub fn around(list: &StableList<Key>, spot: Spot) -> Sight
     requires { HasSpot list.now spot }
 {
-    let mut keys = [None, Some(list.get(spot).value), None];
+    let mut keys = (None, Some(list.get(spot).value), None);
     if let Some(before) = list.prev(spot) {
-        keys[0] = Some(list.get(before).value);
+        keys.0 = Some(list.get(before).value);
     }
     if let Some(after) = list.next(spot) {
-        keys[2] = Some(list.get(after).value);
+        keys.2 = Some(list.get(after).value);
     }
     keys
 }
@@ -106,7 +106,6 @@ fn by_spot(
 }
 
 /// Makes a call, and returns the spot that it is at afterwards, if it is at one.
-#[tactic(auto, using(cordyceps_stable::proofs::Reached::first_has, cordyceps_stable::proofs::Reached::last_has))]
 fn spot_after(
     rt: &impl Abort,
     alloc: Global,

@@ -1,268 +1,157 @@
-//! Each call of a stable list, and what it replies.
+//! Calls of a stable list one after the other, and what they reply.
 use crate::compared::same;
 use crate::keys::{FOUR, ONE, Pair, Reply, THREE, TWO};
-use crate::stable_calls::{BySpot, Call, holds, list_of, reply};
-use std::alloc::Global;
-use std::process::Abort;
-
-/// What a list holds at first, a call, its reply, and what the list then holds.
-type Case = (&'static [Pair], Call, Reply, &'static [Pair]);
+use crate::stable_calls::{BySpot, Call};
+use crate::stable_operations::agree;
+use cordyceps_stable::stable_list::StableList;
 
 /// Another element.
 const NINE: Pair = (9, 90);
 
-/// Calls that put elements in.
-const PUSHES: [Case; 10] = [
+/// Calls of a list that is empty at first, and then has the elements 1 to 3, and what the calls reply.
+const CALLS: &[(Call, Reply)] = &[
+    (Call::Front, Reply::Nothing),
+    (Call::Back, Reply::Nothing),
+    (Call::PopFront, Reply::Out(None)),
+    (Call::PopBack, Reply::Out(None)),
+    (Call::PushBack(TWO), Reply::At((None, Some(20), None))),
+    (Call::PushFront(ONE), Reply::At((None, Some(10), Some(20)))),
+    (Call::PushBack(THREE), Reply::At((Some(20), Some(30), None))),
+    (Call::Front, Reply::At((None, Some(10), Some(20)))),
+    (Call::Back, Reply::At((Some(20), Some(30), None))),
+    // walks forth, and back
     (
-        &[],
-        Call::PushBack(TWO),
-        Reply::At([None, Some(20), None]),
-        &[TWO],
+        Call::By(0, BySpot::Read),
+        Reply::At((None, Some(10), Some(20))),
     ),
     (
-        &[TWO],
-        Call::PushFront(ONE),
-        Reply::At([None, Some(10), Some(20)]),
-        &[ONE, TWO],
+        Call::By(1, BySpot::Read),
+        Reply::At((Some(10), Some(20), Some(30))),
     ),
     (
-        &[ONE, TWO],
-        Call::PushBack(THREE),
-        Reply::At([Some(20), Some(30), None]),
-        &[ONE, TWO, THREE],
+        Call::By(2, BySpot::Read),
+        Reply::At((Some(20), Some(30), None)),
+    ),
+    // inserts beside each element
+    (
+        Call::By(0, BySpot::InsertBefore(NINE)),
+        Reply::At((None, Some(90), Some(10))),
+    ),
+    (Call::Remove(0), Reply::Out(Some(NINE))),
+    (
+        Call::By(1, BySpot::InsertBefore(NINE)),
+        Reply::At((Some(10), Some(90), Some(20))),
+    ),
+    (Call::Remove(1), Reply::Out(Some(NINE))),
+    (
+        Call::By(2, BySpot::InsertBefore(NINE)),
+        Reply::At((Some(20), Some(90), Some(30))),
+    ),
+    (Call::Remove(2), Reply::Out(Some(NINE))),
+    (
+        Call::By(0, BySpot::InsertAfter(NINE)),
+        Reply::At((Some(10), Some(90), Some(20))),
+    ),
+    (Call::Remove(1), Reply::Out(Some(NINE))),
+    (
+        Call::By(1, BySpot::InsertAfter(NINE)),
+        Reply::At((Some(20), Some(90), Some(30))),
+    ),
+    (Call::Remove(2), Reply::Out(Some(NINE))),
+    (
+        Call::By(2, BySpot::InsertAfter(NINE)),
+        Reply::At((Some(30), Some(90), None)),
+    ),
+    (Call::Remove(3), Reply::Out(Some(NINE))),
+    // moves each element: 1 2 3, then 2 1 3, 1 2 3, 3 1 2, and 1 2 3 again
+    (
+        Call::By(0, BySpot::MoveToFront),
+        Reply::At((None, Some(10), Some(20))),
     ),
     (
-        &[],
-        Call::TryPushBack(TWO),
-        Reply::At([None, Some(20), None]),
-        &[TWO],
+        Call::By(1, BySpot::MoveToFront),
+        Reply::At((None, Some(20), Some(10))),
     ),
     (
-        &[TWO],
+        Call::By(1, BySpot::MoveToFront),
+        Reply::At((None, Some(10), Some(20))),
+    ),
+    (
+        Call::By(2, BySpot::MoveToFront),
+        Reply::At((None, Some(30), Some(10))),
+    ),
+    (
+        Call::By(0, BySpot::MoveToBack),
+        Reply::At((Some(20), Some(30), None)),
+    ),
+    // 1 3 2, then 1 2 3, and again
+    (
+        Call::By(1, BySpot::MoveToBack),
+        Reply::At((Some(30), Some(20), None)),
+    ),
+    (
+        Call::By(1, BySpot::MoveToBack),
+        Reply::At((Some(20), Some(30), None)),
+    ),
+    (
+        Call::By(2, BySpot::MoveToBack),
+        Reply::At((Some(20), Some(30), None)),
+    ),
+    // writes
+    (
+        Call::By(0, BySpot::Write(91)),
+        Reply::At((None, Some(91), Some(20))),
+    ),
+    (
+        Call::By(1, BySpot::Write(92)),
+        Reply::At((Some(91), Some(92), Some(30))),
+    ),
+    (
+        Call::By(2, BySpot::Write(93)),
+        Reply::At((Some(92), Some(93), None)),
+    ),
+    (Call::PopFront, Reply::Out(Some((1, 91)))),
+    (Call::PopBack, Reply::Out(Some((3, 93)))),
+    (Call::PopBack, Reply::Out(Some((2, 92)))),
+    (Call::PopFront, Reply::Out(None)),
+    (Call::PopBack, Reply::Out(None)),
+    // tries
+    (Call::TryPushBack(TWO), Reply::At((None, Some(20), None))),
+    (
         Call::TryPushFront(ONE),
-        Reply::At([None, Some(10), Some(20)]),
-        &[ONE, TWO],
+        Reply::At((None, Some(10), Some(20))),
     ),
     (
-        &[ONE, TWO],
         Call::TryPushBack(THREE),
-        Reply::At([Some(20), Some(30), None]),
-        &[ONE, TWO, THREE],
+        Reply::At((Some(20), Some(30), None)),
     ),
-    (&[], Call::Append(&[]), Reply::Nothing, &[]),
-    (&[ONE, TWO], Call::Append(&[]), Reply::Nothing, &[ONE, TWO]),
+    (Call::Remove(1), Reply::Out(Some(TWO))),
+    (Call::Remove(1), Reply::Out(Some(THREE))),
+    // appends to and from nothing
+    (Call::Append(&[]), Reply::Nothing),
+    (Call::Remove(0), Reply::Out(Some(ONE))),
+    (Call::Append(&[]), Reply::Nothing),
     (
-        &[],
-        Call::Append(&[THREE]),
-        Reply::At([None, Some(30), None]),
-        &[THREE],
+        Call::Append(&[ONE, TWO]),
+        Reply::At((None, Some(10), Some(20))),
     ),
     (
-        &[ONE, TWO],
         Call::Append(&[THREE, FOUR]),
-        Reply::At([Some(20), Some(30), Some(40)]),
-        &[ONE, TWO, THREE, FOUR],
+        Reply::At((Some(20), Some(30), Some(40))),
     ),
+    (Call::PopFront, Reply::Out(Some(ONE))),
+    (Call::PopBack, Reply::Out(Some(FOUR))),
 ];
-
-/// Calls that take elements out, or read at the ends.
-const ENDS: [Case; 15] = [
-    (&[], Call::Front, Reply::Nothing, &[]),
-    (&[], Call::Back, Reply::Nothing, &[]),
-    (&[], Call::PopFront, Reply::Out(None), &[]),
-    (&[], Call::PopBack, Reply::Out(None), &[]),
-    (
-        &[ONE, TWO, THREE],
-        Call::Front,
-        Reply::At([None, Some(10), Some(20)]),
-        &[ONE, TWO, THREE],
-    ),
-    (
-        &[ONE, TWO, THREE],
-        Call::Back,
-        Reply::At([Some(20), Some(30), None]),
-        &[ONE, TWO, THREE],
-    ),
-    (
-        &[ONE, TWO, THREE, FOUR],
-        Call::PopFront,
-        Reply::Out(Some(ONE)),
-        &[TWO, THREE, FOUR],
-    ),
-    (
-        &[TWO, THREE, FOUR],
-        Call::PopBack,
-        Reply::Out(Some(FOUR)),
-        &[TWO, THREE],
-    ),
-    (
-        &[TWO, THREE],
-        Call::PopBack,
-        Reply::Out(Some(THREE)),
-        &[TWO],
-    ),
-    (&[TWO], Call::PopFront, Reply::Out(Some(TWO)), &[]),
-    (
-        &[ONE, TWO, THREE, FOUR],
-        Call::Remove(0),
-        Reply::Out(Some(ONE)),
-        &[TWO, THREE, FOUR],
-    ),
-    (
-        &[ONE, TWO, THREE, FOUR],
-        Call::Remove(1),
-        Reply::Out(Some(TWO)),
-        &[ONE, THREE, FOUR],
-    ),
-    (
-        &[ONE, TWO, THREE, FOUR],
-        Call::Remove(2),
-        Reply::Out(Some(THREE)),
-        &[ONE, TWO, FOUR],
-    ),
-    (
-        &[ONE, TWO, THREE, FOUR],
-        Call::Remove(3),
-        Reply::Out(Some(FOUR)),
-        &[ONE, TWO, THREE],
-    ),
-    (&[NINE], Call::Remove(0), Reply::Out(Some(NINE)), &[]),
-];
-
-/// Calls by spots of a list of three elements, with the place, the keys around the spot that the call returned or
-/// took, and what the list then holds.
-const BY_SPOTS: [(usize, BySpot, [Option<u64>; 3], &[Pair]); 18] = [
-    (
-        0,
-        BySpot::InsertBefore(NINE),
-        [None, Some(90), Some(10)],
-        &[NINE, ONE, TWO, THREE],
-    ),
-    (
-        1,
-        BySpot::InsertBefore(NINE),
-        [Some(10), Some(90), Some(20)],
-        &[ONE, NINE, TWO, THREE],
-    ),
-    (
-        2,
-        BySpot::InsertBefore(NINE),
-        [Some(20), Some(90), Some(30)],
-        &[ONE, TWO, NINE, THREE],
-    ),
-    (
-        0,
-        BySpot::InsertAfter(NINE),
-        [Some(10), Some(90), Some(20)],
-        &[ONE, NINE, TWO, THREE],
-    ),
-    (
-        1,
-        BySpot::InsertAfter(NINE),
-        [Some(20), Some(90), Some(30)],
-        &[ONE, TWO, NINE, THREE],
-    ),
-    (
-        2,
-        BySpot::InsertAfter(NINE),
-        [Some(30), Some(90), None],
-        &[ONE, TWO, THREE, NINE],
-    ),
-    (
-        0,
-        BySpot::Write(90),
-        [None, Some(90), Some(20)],
-        &[(1, 90), TWO, THREE],
-    ),
-    (
-        1,
-        BySpot::Write(90),
-        [Some(10), Some(90), Some(30)],
-        &[ONE, (2, 90), THREE],
-    ),
-    (
-        2,
-        BySpot::Write(90),
-        [Some(20), Some(90), None],
-        &[ONE, TWO, (3, 90)],
-    ),
-    (
-        0,
-        BySpot::MoveToFront,
-        [None, Some(10), Some(20)],
-        &[ONE, TWO, THREE],
-    ),
-    (
-        1,
-        BySpot::MoveToFront,
-        [None, Some(20), Some(10)],
-        &[TWO, ONE, THREE],
-    ),
-    (
-        2,
-        BySpot::MoveToFront,
-        [None, Some(30), Some(10)],
-        &[THREE, ONE, TWO],
-    ),
-    (
-        0,
-        BySpot::MoveToBack,
-        [Some(30), Some(10), None],
-        &[TWO, THREE, ONE],
-    ),
-    (
-        1,
-        BySpot::MoveToBack,
-        [Some(30), Some(20), None],
-        &[ONE, THREE, TWO],
-    ),
-    (
-        2,
-        BySpot::MoveToBack,
-        [Some(20), Some(30), None],
-        &[ONE, TWO, THREE],
-    ),
-    (
-        0,
-        BySpot::Read,
-        [None, Some(10), Some(20)],
-        &[ONE, TWO, THREE],
-    ),
-    (
-        1,
-        BySpot::Read,
-        [Some(10), Some(20), Some(30)],
-        &[ONE, TWO, THREE],
-    ),
-    (
-        2,
-        BySpot::Read,
-        [Some(20), Some(30), None],
-        &[ONE, TWO, THREE],
-    ),
-];
-
-/// The elements of the list of these calls.
-const THREE_ELEMENTS: &[Pair] = &[ONE, TWO, THREE];
-
-/// Makes a call of a list, and asserts its reply and what the list then holds.
-fn replies(rt: &impl Abort, alloc: Global, case: Case) {
-    let (before, call, wanted, after) = case;
-    let mut list = list_of(rt, alloc, before);
-    same(rt, reply(rt, alloc, &mut list, &call), wanted);
-    holds(rt, &list, after);
-}
 
 #[test]
 fn calls_reply(rt: HostRuntime) {
-    for case in PUSHES {
-        replies(&rt, rt.alloc(), case);
-    }
-    for case in ENDS {
-        replies(&rt, rt.alloc(), case);
-    }
-    for (at, call, keys, after) in BY_SPOTS {
-        let case = (THREE_ELEMENTS, Call::By(at, call), Reply::At(keys), after);
-        replies(&rt, rt.alloc(), case);
+    let mut list = StableList::new();
+    let mut pairs = Vec::new(rt.alloc());
+    for (call, wanted) in CALLS {
+        same(
+            &rt,
+            agree(&rt, rt.alloc(), &mut list, &mut pairs, call),
+            *wanted,
+        );
     }
 }

@@ -68,17 +68,20 @@ fn wanted(rt: &impl Abort, pairs: &mut Vec<Pair>, call: &Call) -> Reply {
     reply_at(pairs, at)
 }
 
-/// Makes a call of a list and does the same to a vector, and asserts that both reply and hold the same.
-fn agree(
+/// Makes a call of a list and does the same to a vector. Asserts that both reply and hold the same, and returns the
+/// reply.
+pub fn agree(
     rt: &impl Abort,
     alloc: Global,
     list: &mut StableList<Key>,
     pairs: &mut Vec<Pair>,
     call: &Call,
-) {
+) -> Reply {
     let wanted = wanted(rt, pairs, call);
-    same(rt, reply(rt, alloc, list, call), wanted);
+    let came = reply(rt, alloc, list, call);
+    same(rt, came, wanted);
     holds(rt, list, pairs.as_slice());
+    came
 }
 
 #[test]

@@ -48,6 +48,6 @@ fn lists_are_sent_with_their_spots(rt: HostRuntime) {
     let cursor = lists_are_shared(&list, &sorted, sorted.cursor_front());
     same(&rt, value(cursor.current()), Some(10));
     let second = spots_travel(spot_at(&rt, list.cursor_front(), 1));
-    same(&rt, around(&list, second), [Some(10), Some(20), Some(30)]);
+    same(&rt, around(&list, second), (Some(10), Some(20), Some(30)));
     pops(&rt, sorted, &[ONE, TWO, THREE]);
 }

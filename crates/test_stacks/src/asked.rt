@@ -65,11 +65,13 @@ impl Linked<Links<Asked>> for Asked {
 struct ByNumber;
 
 impl Order<Asked> for ByNumber {
+    ghost use Rattle.test_stacks.specs.declared.asked.Asked.{Asked};
+
     ghost compares_by = { λ _ cmp. cmp ≡ (λ x y. nat_cmp x.value y.value) };
 
     ghost computes = { λ _ _. ((λ x y. nat_cmp x.value y.value), refl) };
 
-    ghost lawful = { λ _ cmp e. subst IsPreorder (sym e) by_number_lawful };
+    ghost lawful = { λ _ cmp e. subst IsPreorder (sym e) (by_number_lawful (λ (x : Asked). x.value)) };
 
     fn compare(&self, first: &Asked, second: &Asked) -> Ordering {
         let compared = &first.counts.compared;

@@ -3,7 +3,6 @@ use crate::blocks::{Handle, block, dropped, no_drops, pair};
 use crate::compared::made;
 use crate::users::{Remote, gets};
 use freelist::{FreeList, Local};
-use std::process::Abort;
 use test_support::counted::{Counted, Drops};
 
 /// Puts two blocks into a local part, and drops that.
@@ -28,23 +27,6 @@ fn a_dropped_local_part_drops_its_own_blocks(rt: HostRuntime) {
     dropped(&rt, &drops, 3);
 }
 
-/// Drops a local part with two blocks, while others are shared and with a user.
-fn drop_parts(
-    rt: &impl Abort,
-    drops: &Drops,
-    local: Local<'_, Counted>,
-    own: (Handle, Handle),
-    mut remote: Remote<'_>,
-    shared: Handle,
-) {
-    remote.puts(rt, shared, true);
-    dropped(rt, drops, 0);
-    put_and_drop(local, own);
-    dropped(rt, drops, 2);
-    drop(remote);
-    dropped(rt, drops, 2);
-}
-
 #[test]
 fn each_block_drops_once(rt: HostRuntime) {
     let drops = no_drops(&rt, rt.alloc());
@@ -52,8 +34,12 @@ fn each_block_drops_once(rt: HostRuntime) {
     let shared = made(&rt, block(rt.alloc(), 3, &drops));
     let with_user = pair(&rt, rt.alloc(), 4, &drops);
     let (list, mut party) = made(&rt, FreeList::new(rt.alloc(), 1));
-    let remote = Remote::at(&list, list.split(&mut party, 1));
-    drop_parts(&rt, &drops, list.local(party), own, remote, shared);
+    let mut remote = Remote::at(&list, list.split(&mut party, 1));
+    remote.puts(&rt, shared, true);
+    dropped(&rt, &drops, 0);
+    put_and_drop(list.local(party), own);
+    drop(remote);
+    dropped(&rt, &drops, 2);
     drop(list);
     dropped(&rt, &drops, 3);
     drop(with_user);

@@ -8,32 +8,21 @@ use std::process::Abort;
 use test_support::counted::{Counted, Drops};
 use test_support::nodes::number;
 
-/// Puts 1 and 2 into a local part, has 3 and 4 put back for all, and gets all four.
-fn put_and_get(
-    rt: &impl Abort,
-    mut local: Local<'_, Counted>,
-    mut remote: Remote<'_>,
-    own: (Handle, Handle),
-    others: (Handle, Handle),
-) {
-    let (one, two) = own;
-    let (three, four) = others;
-    local.put(one);
-    local.put(two);
-    remote.puts(rt, three, true);
-    remote.puts(rt, four, false);
-    gets(rt, &mut local, &[Some(2), Some(1), Some(4), Some(3), None]);
-    finishes(rt, local, 3);
-}
-
 #[test]
 fn local_blocks_come_before_shared_ones(rt: HostRuntime) {
     let drops = no_drops(&rt, rt.alloc());
-    let own = pair(&rt, rt.alloc(), 1, &drops);
-    let others = pair(&rt, rt.alloc(), 3, &drops);
+    let (one, two) = pair(&rt, rt.alloc(), 1, &drops);
+    let (three, four) = pair(&rt, rt.alloc(), 3, &drops);
     let (list, mut party) = made(&rt, FreeList::new(rt.alloc(), 3));
-    let remote = Remote::at(&list, list.split(&mut party, 2));
-    put_and_get(&rt, list.local(party), remote, own, others);
+    let mut remote = Remote::at(&list, list.split(&mut party, 2));
+    let mut local = list.local(party);
+    local.put(one);
+    local.put(two);
+    remote.puts(&rt, three, true);
+    remote.puts(&rt, four, false);
+    let wanted = [Some(2), Some(1), Some(4), Some(3), None];
+    gets(&rt, &mut local, &wanted);
+    finishes(&rt, local, 3);
     dropped(&rt, &drops, 4);
 }
 

@@ -5,11 +5,10 @@ use crate::blocks::{blocks, dropped, each_once, no_drops};
 use crate::compared::made;
 use crate::users::{Remote, get_all};
 use freelist::{FreeList, Local, Party, Stack};
-use std::alloc::Global;
 use std::process::Abort;
 use std::thread;
 use std::thread::Threads;
-use test_support::counted::{Counted, Drops};
+use test_support::counted::Counted;
 
 /// How often each test's threads run.
 const ROUNDS: u64 = 10;
@@ -31,13 +30,6 @@ fn put_and_get<R: Threads + Abort + Sync>(
     thread::join(rt, put, get).1
 }
 
-/// Returns the blocks with numbers below 64, in two halves.
-fn two_halves(rt: &impl Abort, alloc: Global, drops: &Drops) -> (Stack<Counted>, Stack<Counted>) {
-    let low = blocks(rt, alloc, 0, 32, drops);
-    let high = blocks(rt, alloc, 32, 64, drops);
-    (low, high)
-}
-
 /// Returns what the owner gets back, where two others have the 64 rooms and put a half back each.
 fn come_back<R: Threads + Abort + Sync>(
     rt: &R,
@@ -56,9 +48,10 @@ fn come_back<R: Threads + Abort + Sync>(
 fn what_threads_put_back_comes_once(rt: HostRuntime) {
     for _ in 0..ROUNDS {
         let drops = no_drops(&rt, rt.alloc());
-        let halves = two_halves(&rt, rt.alloc(), &drops);
+        let low = blocks(&rt, rt.alloc(), 0, 32, &drops);
+        let high = blocks(&rt, rt.alloc(), 32, 64, &drops);
         let (list, party) = made(&rt, FreeList::new(rt.alloc(), 64));
-        let all = come_back(&rt, &list, party, halves);
+        let all = come_back(&rt, &list, party, (low, high));
         dropped(&rt, &drops, 0);
         each_once(&rt, rt.alloc(), all, 64);
         dropped(&rt, &drops, 64);
