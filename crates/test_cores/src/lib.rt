@@ -1,10 +1,9 @@
-//! Tests of the cores of the transfer stack and of the queue.
+//! Tests of the cores of the transfer stack and of the queue: replays, refused memory and drops. What their steps and
+//! calls return is also compared by the scripts of the modes `transfer` and `queue`.
 #![tactic(auto)]
 
 #[cfg(test)]
 mod compared;
-#[cfg(test)]
-mod queue_batches;
 #[cfg(test)]
 mod queue_cores;
 #[cfg(test)]
