@@ -1,4 +1,4 @@
-//! Comparisons that say both values where they differ.
+//! Comparisons that say both values where they differ, and results that have to be there.
 ghost use Rattle.std.specs.Prelude.{◌<◌, ◌≤◌};
 
 use std::fmt::Debug;
@@ -21,4 +21,12 @@ pub fn at_most(rt: &impl Abort, number: usize, bound: usize)
     ensures { number ≤ bound }
 {
     assert!(rt; number <= bound);
+}
+
+/// Returns what was made, and fails where memory was refused.
+pub fn made<T, E: Drop>(rt: &impl Abort, made: Result<T, E>) -> T {
+    match made {
+        Ok(value) => value,
+        Err(_) => panic!(rt; "memory was refused"),
+    }
 }

@@ -1,8 +1,8 @@
 //! Elements of a shared stack, which count how often they were taken, and what a stack pops.
-use crate::compared::same;
+use crate::compared::{made, same};
 use cordyceps_base::node::Node;
 use cordyceps_stack::stack::{Links, Stack};
-use std::alloc::{AllocError, Global};
+use std::alloc::Global;
 use std::process::Abort;
 use test_support::counted::{Counted, Drops, counted_node};
 use test_support::nodes::number;
@@ -10,25 +10,28 @@ use test_support::nodes::number;
 /// What a stack takes and returns. Its value says how often it was taken.
 pub type Handle = Node<Counted, Links<Counted>>;
 
+/// Returns a count of no drops.
+pub fn no_drops(rt: &impl Abort, alloc: Global) -> Drops {
+    made(rt, Drops::new(alloc))
+}
+
 /// Returns an element of this number, which was never taken.
-pub fn element(alloc: Global, number: u64, drops: &Drops) -> Result<Handle, AllocError> {
-    counted_node(alloc, number, 0, drops)
+pub fn element(rt: &impl Abort, alloc: Global, number: u64, drops: &Drops) -> Handle {
+    made(rt, counted_node(alloc, number, 0, drops))
 }
 
-/// Returns two elements, of this number and the next.
-pub fn pair(alloc: Global, first: u64, drops: &Drops) -> Result<(Handle, Handle), AllocError> {
-    let one = element(alloc, first, drops)?;
-    let two = element(alloc, first.wrapping_add(1), drops)?;
-    Ok((one, two))
-}
-
-/// Returns the elements 10 and 11, and 20 and 21.
-pub fn two_pairs(
+/// Returns so many elements, whose numbers begin with this one, which pops first.
+pub fn stock(
+    rt: &impl Abort,
     alloc: Global,
+    (first, count): (u64, u64),
     drops: &Drops,
-) -> Result<((Handle, Handle), (Handle, Handle)), AllocError> {
-    let tens = pair(alloc, 10, drops)?;
-    Ok((tens, pair(alloc, 20, drops)?))
+) -> Stack<Counted> {
+    let mut stock = Stack::new();
+    for number in (first..first.wrapping_add(count)).rev() {
+        stock.push(element(rt, alloc, number, drops));
+    }
+    stock
 }
 
 /// Asserts how many drops were counted.
@@ -52,13 +55,12 @@ pub fn taken(
     elements: Stack<Counted>,
     takings: u64,
     wanted: &[u64],
-) -> Result<(), AllocError> {
+) {
     let mut all = Vec::new(alloc);
     for node in elements {
         same(rt, node.get().value, takings);
-        all.push(node.id())?;
+        made(rt, all.push(node.id()));
     }
-    all.sort()?;
+    made(rt, all.sort());
     same(rt, all.as_slice(), wanted);
-    Ok(())
 }

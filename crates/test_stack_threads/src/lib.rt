@@ -4,18 +4,16 @@
 #[cfg(test)]
 mod compared;
 #[cfg(test)]
-mod flags;
-#[cfg(test)]
 mod items;
 #[cfg(test)]
-mod misses;
-#[cfg(test)]
-mod races;
-#[cfg(test)]
 mod seats;
+#[cfg(test)]
+mod transfer_drops;
 #[cfg(test)]
 mod transfer_stacks;
 #[cfg(test)]
 mod transfer_threads;
 #[cfg(test)]
 mod without_nodes;
+#[cfg(test)]
+mod workers;

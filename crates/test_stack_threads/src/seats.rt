@@ -1,14 +1,30 @@
 //! Parties at their stack, and what their calls return.
-ghost use Rattle.std.specs.Prelude.{◌≡◌, IfOk};
+ghost use Rattle.std.specs.Prelude.{◌≡◌, ◌≤◌};
 ghost use Rattle.cordyceps_shared.specs.Shares.{whole};
+ghost use Rattle.cordyceps_shared.specs.Standings.{new_party};
 
 use crate::compared::{at_most, has_room, same};
-use crate::items::{Handle, element, pair, pops};
-use cordyceps_stack::stack::{Party, Stack, TransferStack};
-use std::alloc::{AllocError, Global};
+use crate::items::{Handle, element, pops};
+use cordyceps_stack::stack::{MAX_ROOMS, Party, Stack, TransferStack};
+use std::alloc::Global;
 use std::process::Abort;
 use std::sync::Wait;
 use test_support::counted::{Counted, Drops};
+
+/// Returns a stack with this many rooms, and its whole party.
+pub fn new_stack(
+    rt: &impl Abort,
+    alloc: Global,
+    rooms: usize,
+) -> (TransferStack<Counted>, Party<Counted>)
+    ensures { result.1 ≡ new_party result.0 rooms }
+{
+    at_most(rt, rooms, MAX_ROOMS);
+    match TransferStack::new(alloc, rooms) {
+        Ok(made) => made,
+        Err(_) => panic!(rt; "memory was refused"),
+    }
+}
 
 /// Pushes an element by one try, which nobody overtakes, and compares whether nothing was held before with what is
 /// wanted.
@@ -35,17 +51,28 @@ pub fn three_held(
     rt: &impl Abort,
     alloc: Global,
     drops: &Drops,
-) -> Result<(TransferStack<Counted>, Party<Counted>), AllocError>
-    ensures table { IfOk result (λ made. made.1.table ≡ made.0) }
-    ensures share { IfOk result (λ made. made.1.share ≡ whole) }
+) -> (TransferStack<Counted>, Party<Counted>)
+    ensures table { result.1.table ≡ result.0 }
+    ensures share { result.1.share ≡ whole }
 {
-    let (one, two) = pair(alloc, 1, drops)?;
-    let three = element(alloc, 3, drops)?;
-    let (stack, mut party) = TransferStack::new(alloc, 3)?;
-    pushes(rt, &stack, &mut party, one, true);
-    pushes(rt, &stack, &mut party, two, false);
-    pushes(rt, &stack, &mut party, three, false);
-    Ok((stack, party))
+    let (stack, mut party) = new_stack(rt, alloc, 3);
+    pushes(rt, &stack, &mut party, element(rt, alloc, 1, drops), true);
+    pushes(rt, &stack, &mut party, element(rt, alloc, 2, drops), false);
+    pushes(rt, &stack, &mut party, element(rt, alloc, 3, drops), false);
+    (stack, party)
+}
+
+/// A call of a party beside which no other acts, and what it must return.
+#[derive(Clone, Copy)]
+pub enum Call<'a> {
+    /// How many rooms the party has.
+    Rooms(usize),
+    /// Whether nothing is held.
+    IsEmpty(bool),
+    /// A push by one try, and whether nothing was held before.
+    Push(bool),
+    /// The numbers of all that is held.
+    Take(&'a [u64]),
 }
 
 /// A party at its stack.
@@ -73,24 +100,21 @@ impl<'s> Seated<'s> {
         }
     }
 
-    /// Compares how many rooms the party has with what is wanted.
-    pub fn has_rooms(&self, rt: &impl Abort, wanted: usize) {
-        same(rt, self.party.rooms(), wanted);
-    }
-
-    /// Compares whether nothing is held with what is wanted.
-    pub fn is_empty(&mut self, rt: &impl Abort, wanted: bool) {
-        same(rt, self.stack.is_empty(&mut self.party), wanted);
-    }
-
-    /// Pushes an element by one try, and compares whether nothing was held before with what is wanted.
-    pub fn pushes(&mut self, rt: &impl Abort, handle: Handle, first: bool) {
-        pushes(rt, self.stack, &mut self.party, handle, first);
-    }
-
-    /// Takes all that is held, and compares its numbers with those that are wanted.
-    pub fn takes(&mut self, rt: &impl Abort, wanted: &[u64]) {
-        pops(rt, self.take_all(), wanted);
+    /// Makes these calls, one after the other, and asserts what they return. They push what the stock pops.
+    pub fn calls(&mut self, rt: &impl Abort, stock: &mut Stack<Counted>, calls: &[Call<'_>]) {
+        for call in calls {
+            match *call {
+                Call::Rooms(wanted) => same(rt, self.party.rooms(), wanted),
+                Call::IsEmpty(wanted) => {
+                    same(rt, self.stack.is_empty(&mut self.party), wanted);
+                }
+                Call::Push(first) => match stock.pop() {
+                    Some(handle) => pushes(rt, self.stack, &mut self.party, handle, first),
+                    None => panic!(rt; "the stock has no element left"),
+                },
+                Call::Take(wanted) => pops(rt, self.take_all(), wanted),
+            }
+        }
     }
 
     /// Takes all that is held.

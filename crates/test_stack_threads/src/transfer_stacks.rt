@@ -1,77 +1,96 @@
 //! Calls of a transfer stack, one after the other.
 
 use crate::compared::same;
-use crate::items::{Handle, dropped, element, pair, pops};
-use crate::seats::{Seated, pushes, three_held};
-use cordyceps_stack::stack::TransferStack;
-use std::alloc::AllocError;
+use crate::items::{dropped, element, no_drops, pops, stock};
+use crate::seats::{Call, Seated, new_stack, pushes};
+use cordyceps_stack::stack::{Stack, TransferStack};
+use std::alloc::{AllocError, Global};
 use std::process::Abort;
-use test_support::counted::{Counted, Drops};
+use test_support::counted::Counted;
 
-/// Asserts that nothing is held until an element is pushed, and once all are taken.
-fn fill_and_empty(rt: &impl Abort, mut seat: Seated<'_>, pair: (Handle, Handle)) {
-    let (one, two) = pair;
-    seat.is_empty(rt, true);
-    seat.pushes(rt, one, true);
-    seat.is_empty(rt, false);
-    seat.pushes(rt, two, false);
-    seat.is_empty(rt, false);
-    seat.takes(rt, &[2, 1]);
-    seat.is_empty(rt, true);
+/// Makes calls of the elements 1, 2 and 3 at a new stack: first those of a party that gets some of the rooms and is
+/// dropped then, and then those of the party that is left, and asserts how many elements they have dropped.
+fn calls_return(
+    rt: &impl Abort,
+    alloc: Global,
+    rooms: usize,
+    (given, others): (usize, &[Call<'_>]),
+    calls: &[Call<'_>],
+    drops: u64,
+) {
+    let count = no_drops(rt, alloc);
+    let mut stock = stock(rt, alloc, (1, 3), &count);
+    let (stack, party) = new_stack(rt, alloc, rooms);
+    let mut seat = Seated::at(&stack, party);
+    seat.split(rt, given).calls(rt, &mut stock, others);
+    seat.calls(rt, &mut stock, calls);
+    dropped(rt, &count, drops);
 }
 
 #[test]
-fn transfer_stack_is_empty(rt: HostRuntime) -> Result<(), AllocError> {
-    let drops = Drops::new(rt.alloc())?;
-    let pair = pair(rt.alloc(), 1, &drops)?;
-    let (stack, party) = TransferStack::new(rt.alloc(), 2)?;
-    fill_and_empty(&rt, Seated::at(&stack, party), pair);
-    Ok(())
-}
-
-/// Pushes two elements by a party and takes both, takes nothing, and pushes and takes a third.
-fn push_and_take(rt: &impl Abort, mut seat: Seated<'_>, pair: (Handle, Handle), third: Handle) {
-    let (one, two) = pair;
-    seat.has_rooms(rt, 3);
-    seat.pushes(rt, one, true);
-    seat.pushes(rt, two, false);
-    seat.has_rooms(rt, 1);
-    seat.takes(rt, &[2, 1]);
-    seat.has_rooms(rt, 3);
-    seat.takes(rt, &[]);
-    seat.pushes(rt, third, true);
-    seat.takes(rt, &[3]);
+fn transfer_stack_is_empty(rt: HostRuntime) {
+    let calls = [
+        Call::IsEmpty(true),
+        Call::Push(true),
+        Call::IsEmpty(false),
+        Call::Push(false),
+        Call::IsEmpty(false),
+        Call::Take(&[2, 1]),
+        Call::IsEmpty(true),
+    ];
+    calls_return(&rt, rt.alloc(), 2, (0, &[]), &calls, 2);
 }
 
 #[test]
-fn one_party_pushes_and_takes(rt: HostRuntime) -> Result<(), AllocError> {
-    let drops = Drops::new(rt.alloc())?;
-    let pair = pair(rt.alloc(), 1, &drops)?;
-    let third = element(rt.alloc(), 3, &drops)?;
-    let (stack, party) = TransferStack::new(rt.alloc(), 3)?;
-    push_and_take(&rt, Seated::at(&stack, party), pair, third);
-    Ok(())
+fn one_party_pushes_and_takes(rt: HostRuntime) {
+    let calls = [
+        Call::Rooms(3),
+        Call::Push(true),
+        Call::Push(false),
+        Call::Rooms(1),
+        Call::Take(&[2, 1]),
+        Call::Rooms(3),
+        Call::Take(&[]),
+        Call::Push(true),
+        Call::Take(&[3]),
+    ];
+    calls_return(&rt, rt.alloc(), 3, (0, &[]), &calls, 3);
 }
 
 #[test]
-fn rooms_are_split_and_absorbed(rt: HostRuntime) -> Result<(), AllocError> {
-    let drops = Drops::new(rt.alloc())?;
-    let (one, two) = pair(rt.alloc(), 1, &drops)?;
-    let (stack, mut party) = TransferStack::new(rt.alloc(), 5)?;
+fn a_dropped_party_leaves_the_others(rt: HostRuntime) {
+    let others = [Call::Push(true), Call::Rooms(1)];
+    let calls = [
+        Call::IsEmpty(false),
+        Call::Push(false),
+        Call::Rooms(1),
+        Call::Take(&[2, 1]),
+        Call::Rooms(3),
+        Call::IsEmpty(true),
+        Call::Push(true),
+    ];
+    calls_return(&rt, rt.alloc(), 4, (2, &others), &calls, 2);
+}
+
+#[test]
+fn rooms_are_split_and_absorbed(rt: HostRuntime) {
+    let drops = no_drops(&rt, rt.alloc());
+    let (stack, mut party) = new_stack(&rt, rt.alloc(), 5);
     let mut other = stack.split(&mut party, 2);
     same(&rt, (party.rooms(), other.rooms()), (3, 2));
+    let one = element(&rt, rt.alloc(), 1, &drops);
     pushes(&rt, &stack, &mut other, one, true);
+    let two = element(&rt, rt.alloc(), 2, &drops);
     pushes(&rt, &stack, &mut party, two, false);
     same(&rt, (party.rooms(), other.rooms()), (2, 1));
     stack.absorb(&mut party, other);
     same(&rt, party.rooms(), 3);
     pops(&rt, stack.close(party), &[2, 1]);
-    Ok(())
 }
 
 #[test]
-fn a_stack_without_rooms_returns_nothing(rt: HostRuntime) -> Result<(), AllocError> {
-    let (stack, mut party) = TransferStack::<Counted>::new(rt.alloc(), 0)?;
+fn a_stack_without_rooms_returns_nothing(rt: HostRuntime) {
+    let (stack, mut party) = new_stack(&rt, rt.alloc(), 0);
     let mut other = stack.split(&mut party, 0);
     same(&rt, (party.rooms(), other.rooms()), (0, 0));
     pops(&rt, stack.take_all(&mut other), &[]);
@@ -80,102 +99,6 @@ fn a_stack_without_rooms_returns_nothing(rt: HostRuntime) -> Result<(), AllocErr
     pops(&rt, stack.take_all(&mut party), &[]);
     same(&rt, party.rooms(), 0);
     pops(&rt, stack.close(party), &[]);
-    Ok(())
-}
-
-/// Pushes an element by a party, and drops it with a room.
-fn push_and_leave(rt: &impl Abort, mut seat: Seated<'_>, handle: Handle) {
-    seat.pushes(rt, handle, true);
-    seat.has_rooms(rt, 1);
-    drop(seat);
-}
-
-/// Asserts what is left of four rooms, and the element 1, to a party that gave two rooms to one that was dropped.
-fn go_on(rt: &impl Abort, mut seat: Seated<'_>, second: Handle, third: Handle) {
-    seat.is_empty(rt, false);
-    seat.pushes(rt, second, false);
-    seat.has_rooms(rt, 1);
-    seat.takes(rt, &[2, 1]);
-    seat.has_rooms(rt, 3);
-    seat.is_empty(rt, true);
-    seat.pushes(rt, third, true);
-}
-
-#[test]
-fn a_dropped_party_leaves_the_others(rt: HostRuntime) -> Result<(), AllocError> {
-    let drops = Drops::new(rt.alloc())?;
-    let (one, two) = pair(rt.alloc(), 1, &drops)?;
-    let third = element(rt.alloc(), 3, &drops)?;
-    let (stack, party) = TransferStack::new(rt.alloc(), 4)?;
-    let mut seat = Seated::at(&stack, party);
-    push_and_leave(&rt, seat.split(&rt, 2), one);
-    go_on(&rt, seat, two, third);
-    dropped(&rt, &drops, 2);
-    Ok(())
-}
-
-#[test]
-fn a_dropped_stack_drops_what_it_holds(rt: HostRuntime) -> Result<(), AllocError> {
-    let drops = Drops::new(rt.alloc())?;
-    let (stack, party) = three_held(&rt, rt.alloc(), &drops)?;
-    dropped(&rt, &drops, 0);
-    drop(stack);
-    dropped(&rt, &drops, 3);
-    drop(party);
-    dropped(&rt, &drops, 3);
-    Ok(())
-}
-
-#[test]
-fn a_dropped_party_drops_no_element(rt: HostRuntime) -> Result<(), AllocError> {
-    let drops = Drops::new(rt.alloc())?;
-    let (stack, party) = three_held(&rt, rt.alloc(), &drops)?;
-    drop(party);
-    dropped(&rt, &drops, 0);
-    drop(stack);
-    dropped(&rt, &drops, 3);
-    Ok(())
-}
-
-#[test]
-fn what_was_taken_drops_once(rt: HostRuntime) -> Result<(), AllocError> {
-    let drops = Drops::new(rt.alloc())?;
-    let (stack, mut party) = three_held(&rt, rt.alloc(), &drops)?;
-    let taken = stack.take_all(&mut party);
-    dropped(&rt, &drops, 0);
-    drop(taken);
-    dropped(&rt, &drops, 3);
-    drop(stack);
-    dropped(&rt, &drops, 3);
-    Ok(())
-}
-
-#[test]
-fn what_was_half_popped_drops_once(rt: HostRuntime) -> Result<(), AllocError> {
-    let drops = Drops::new(rt.alloc())?;
-    let (stack, mut party) = three_held(&rt, rt.alloc(), &drops)?;
-    let mut taken = stack.take_all(&mut party);
-    let first = taken.pop();
-    same(&rt, first.is_some(), true);
-    dropped(&rt, &drops, 0);
-    drop(first);
-    dropped(&rt, &drops, 1);
-    drop(taken);
-    dropped(&rt, &drops, 3);
-    drop(stack);
-    dropped(&rt, &drops, 3);
-    Ok(())
-}
-
-#[test]
-fn what_a_close_returned_drops_once(rt: HostRuntime) -> Result<(), AllocError> {
-    let drops = Drops::new(rt.alloc())?;
-    let (stack, party) = three_held(&rt, rt.alloc(), &drops)?;
-    let held = stack.close(party);
-    dropped(&rt, &drops, 0);
-    drop(held);
-    dropped(&rt, &drops, 3);
-    Ok(())
 }
 
 // It says more where an allocation is made to fail, as `tools/refusals` does: `new` then returns `Err`, and the next
@@ -186,8 +109,7 @@ fn makes_a_stack_after_refused_memory(rt: HostRuntime) -> Result<(), AllocError>
         Ok(made) => made,
         Err(AllocError) => TransferStack::new(rt.alloc(), 2)?,
     };
-    let mut seat = Seated::at(&stack, party);
-    seat.has_rooms(&rt, 2);
-    seat.is_empty(&rt, true);
+    let calls = [Call::Rooms(2), Call::IsEmpty(true)];
+    Seated::at(&stack, party).calls(&rt, &mut Stack::new(), &calls);
     Ok(())
 }

@@ -1,17 +1,15 @@
 //! Threads that push to a transfer stack, and take all that it holds.
 ghost use Rattle.std.specs.Prelude.{◌≡◌};
-ghost use Rattle.std.specs.Thread.{IsSync};
 
 use crate::compared::same;
-use crate::flags::{await_flag, watched};
-use crate::items::{Handle, dropped, element, pair, taken, two_pairs};
-use crate::races::Race;
-use crate::seats::Seated;
+use crate::items::{Handle, dropped, element, no_drops, taken};
+use crate::seats::{Call, Seated, new_stack};
+use crate::workers::{Meeting, Part, Task, Way, Worker};
 use cordyceps_stack::stack::{Party, Stack, TransferStack};
-use std::alloc::{AllocError, Global};
+use std::alloc::Global;
 use std::process::Abort;
 use std::sync::Wait;
-use std::sync::atomic::{AtomicBool, Ordering};
+use std::sync::atomic::Ordering;
 use std::thread;
 use std::thread::Threads;
 use test_support::counted::{Counted, Drops};
@@ -22,60 +20,57 @@ const RACES: u64 = 50;
 /// How often the threads of each other test run.
 const ROUNDS: u64 = 10;
 
-/// The numbers of the elements that two threads push.
+/// How often a thread pushes, while another disturbs it.
+const PUSHES: u64 = 10_000;
+
+/// The numbers of the elements that threads push.
 const FOUR: [u64; 4] = [10, 11, 20, 21];
 
-/// Pushes an element by each call that may wait, compares whether nothing was held before, and then sets the flag.
-fn push_each_way<R: Wait + Abort>(
+/// Pushes an element from a thread of its own, and returns how many pushes told that nothing was held before.
+fn push_one<R: Threads + Wait + Abort + Sync>(
     rt: &R,
-    mut seat: Seated<'_>,
-    first: Handle,
-    pair: (Handle, Handle),
-    done: &AtomicBool,
-) {
-    same(rt, seat.push_was_empty(rt, first), true);
-    let (second, third) = pair;
-    seat.push(rt, second);
-    same(rt, seat.push_was_empty(rt, third), false);
-    done.store(true, Ordering::SeqCst);
+    alloc: Global,
+    seat: Seated<'_>,
+    part: Part,
+    drops: &Drops,
+) -> u64 {
+    let mut pusher = Worker::new(seat, Task::Watch);
+    pusher.start(rt, alloc, &[part], &Meeting::new(1, 0), drops);
+    pusher.first
 }
 
-/// Does so in a thread of its own, and joins it once its flag is set.
-fn watch_each_way<R: Threads + Wait + Abort + Sync>(
-    rt: &R,
-    seat: Seated<'_>,
-    first: Handle,
-    pair: (Handle, Handle),
-) {
-    let flag = AtomicBool::new(false);
-    let done = &flag;
-    watched(rt, done, move || push_each_way(rt, seat, first, pair, done));
+/// Pushes three elements by each call that may wait, each from a thread of its own, and takes them.
+fn push_each_way<R: Threads + Wait + Abort + Sync>(rt: &R, alloc: Global) {
+    let drops = no_drops(rt, alloc);
+    let (stack, party) = new_stack(rt, alloc, 3);
+    let mut seat = Seated::at(&stack, party);
+    let parts = [
+        ((Task::Push(Way::PushWasEmpty, 1), 1, 1), 1),
+        ((Task::Push(Way::Push, 1), 2, 1), 0),
+        ((Task::Push(Way::PushWasEmpty, 1), 3, 1), 0),
+    ];
+    for (part, first) in parts {
+        let other = seat.split(rt, 1);
+        same(rt, push_one(rt, alloc, other, part, &drops), first);
+    }
+    let calls = [Call::Rooms(0), Call::Take(&[3, 2, 1]), Call::Rooms(3)];
+    seat.calls(rt, &mut Stack::new(), &calls);
 }
 
 #[test]
-fn pushes_return(rt: HostRuntime) -> Result<(), AllocError> {
+fn pushes_return(rt: HostRuntime) {
     for _ in 0..ROUNDS {
-        let drops = Drops::new(rt.alloc())?;
-        let first = element(rt.alloc(), 1, &drops)?;
-        let pair = pair(rt.alloc(), 2, &drops)?;
-        let (stack, party) = TransferStack::new(rt.alloc(), 3)?;
-        let mut seat = Seated::at(&stack, party);
-        let other = seat.split(&rt, 3);
-        seat.has_rooms(&rt, 0);
-        watch_each_way(&rt, other, first, pair);
-        seat.takes(&rt, &[3, 2, 1]);
-        seat.has_rooms(&rt, 3);
+        push_each_way(&rt, rt.alloc());
     }
-    Ok(())
 }
 
-/// Pushes two elements, and then sets the flag.
-fn push_two<R: Wait>(
+/// Pushes two elements, and looks until another thread has done so too.
+fn push_two<R: Wait + Abort>(
     rt: &R,
     stack: &TransferStack<Counted>,
     mut party: Party<Counted>,
     pair: (Handle, Handle),
-    done: &AtomicBool,
+    meeting: &Meeting,
 ) -> Party<Counted>
     requires { (party.table ≡ stack.now) × (party.rooms ≡ 2) }
     ensures { result.table ≡ stack.now }
@@ -83,52 +78,9 @@ fn push_two<R: Wait>(
     let (first, second) = pair;
     stack.push(rt, &mut party, first);
     stack.push(rt, &mut party, second);
-    done.store(true, Ordering::SeqCst);
+    meeting.end();
+    meeting.await_all(rt);
     party
-}
-
-/// Does so in a thread of its own, and joins it once its flag and another are set.
-fn watch_two<R: Threads + Wait + Abort + Sync>(
-    rt: &R,
-    stack: &TransferStack<Counted>,
-    party: Party<Counted>,
-    pair: (Handle, Handle),
-    other: &AtomicBool,
-) -> Party<Counted>
-    requires { (party.table ≡ stack.now) × (party.rooms ≡ 2) }
-    ensures { result.table ≡ stack.now }
-{
-    let flag = AtomicBool::new(false);
-    let done = &flag;
-    let push = move || push_two(rt, stack, party, pair, done);
-    let watch = || {
-        await_flag(rt, done);
-        await_flag(rt, other);
-    };
-    thread::join(rt, push, watch).0
-}
-
-/// Pushes two elements by each of two threads.
-fn both_push<R: Threads + Wait + Abort + Sync>(
-    rt: &R,
-    stack: &TransferStack<Counted>,
-    parties: (Party<Counted>, Party<Counted>),
-    tens: (Handle, Handle),
-    twenties: (Handle, Handle),
-) -> (Party<Counted>, Party<Counted>)
-    requires first { (parties.0.table ≡ stack.now) × (parties.0.rooms ≡ 2) }
-    requires second { (parties.1.table ≡ stack.now) × (parties.1.rooms ≡ 2) }
-    ensures { (result.0.table ≡ stack.now) × (result.1.table ≡ stack.now) }
-{
-    let flag = AtomicBool::new(false);
-    let done = &flag;
-    let (first, second) = parties;
-    let push = move || push_two(rt, stack, first, tens, done);
-    let watch = move || -> Party<Counted>
-        requires { IsSync R.row × (second.table ≡ stack.now) × (second.rooms ≡ 2) }
-        ensures { result.table ≡ stack.entry.now }
-    { watch_two(rt, stack, second, twenties, done) };
-    thread::join(rt, push, watch)
 }
 
 /// Splits four rooms between two threads that push, takes them back, and then takes all that was pushed.
@@ -141,79 +93,126 @@ fn push_and_take_back<R: Threads + Wait + Abort + Sync>(
 ) -> Stack<Counted>
     requires { (party.table ≡ stack.now) × (party.rooms ≡ 4) }
 {
-    let parties = (stack.split(&mut party, 2), stack.split(&mut party, 2));
-    let (first, second) = both_push(rt, stack, parties, tens, twenties);
+    let two = Meeting::new(2, 0);
+    let meeting = &two;
+    let first = stack.split(&mut party, 2);
+    let second = stack.split(&mut party, 2);
+    let (first, second) = thread::join(
+        rt,
+        move || push_two(rt, stack, first, tens, meeting),
+        move || push_two(rt, stack, second, twenties, meeting),
+    );
     stack.absorb(&mut party, first);
     stack.absorb(&mut party, second);
-    let mut seat = Seated::at(stack, party);
-    seat.has_rooms(rt, 0);
-    let all = seat.take_all();
-    seat.has_rooms(rt, 4);
+    same(rt, party.rooms(), 0);
+    let all = stack.take_all(&mut party);
+    same(rt, party.rooms(), 4);
     all
 }
 
 #[test]
-fn multithreaded_push(rt: HostRuntime) -> Result<(), AllocError> {
+fn multithreaded_push(rt: HostRuntime) {
     for _ in 0..ROUNDS {
-        let drops = Drops::new(rt.alloc())?;
-        let (stack, party) = TransferStack::new(rt.alloc(), 4)?;
-        let (tens, twenties) = two_pairs(rt.alloc(), &drops)?;
+        let drops = no_drops(&rt, rt.alloc());
+        let (stack, party) = new_stack(&rt, rt.alloc(), 4);
+        let tens = (
+            element(&rt, rt.alloc(), 10, &drops),
+            element(&rt, rt.alloc(), 11, &drops),
+        );
+        let twenties = (
+            element(&rt, rt.alloc(), 20, &drops),
+            element(&rt, rt.alloc(), 21, &drops),
+        );
         let all = push_and_take_back(&rt, &stack, party, tens, twenties);
-        taken(&rt, rt.alloc(), all, 0, &FOUR)?;
+        taken(&rt, rt.alloc(), all, 0, &FOUR);
         dropped(&rt, &drops, 4);
     }
-    Ok(())
 }
 
-/// Runs a race at a stack of four rooms, takes what its threads left to the test, and returns all elements.
-fn race_out<R: Threads + Wait + Abort + Sync>(
-    rt: &R,
+/// What threads do at a stack of four rooms: how often they meet, the part of each, how often each element is to be
+/// taken by those that push on, and how many have a try that misses.
+#[derive(Drop)]
+struct Plan<'a> {
+    rounds: u64,
+    parts: &'a [Part],
     takings: u64,
-    mut seat: Seated<'_>,
-    pairs: ((Handle, Handle), (Handle, Handle)),
-) -> Stack<Counted> {
-    let race = Race::new(takings);
-    let pushing = (seat.split(rt, 2), seat.split(rt, 2));
-    let taking = (seat.split(rt, 0), seat.split(rt, 0));
-    let (mut all, others) = race.run(rt, pushing, pairs, taking);
-    for node in others {
-        all.push(node);
-    }
-    for _ in 0..takings {
-        race.turn(rt, &mut seat, &mut all);
-    }
-    seat.takes(rt, &[]);
-    all
+    missed: u64,
 }
 
-/// Compares what was taken in a race with what was pushed.
-fn run_race<R: Threads + Wait + Abort + Sync>(
-    rt: &R,
-    alloc: Global,
-    takings: u64,
-) -> Result<(), AllocError> {
-    let drops = Drops::new(alloc)?;
-    let (stack, party) = TransferStack::new(alloc, 4)?;
-    let pairs = two_pairs(alloc, &drops)?;
-    let all = race_out(rt, takings, Seated::at(&stack, party), pairs);
-    dropped(rt, &drops, 0);
-    taken(rt, alloc, all, takings, &FOUR)?;
-    dropped(rt, &drops, 4);
-    Ok(())
+impl Plan<'_> {
+    /// Compares what the threads have at last, with what is held, with what they had at first.
+    fn round<R: Threads + Wait + Abort + Sync>(&self, rt: &R, alloc: Global) {
+        let drops = no_drops(rt, alloc);
+        let (stack, party) = new_stack(rt, alloc, 4);
+        let meeting = Meeting::new(self.parts.len() as u64, self.takings);
+        let mut all = Worker::new(Seated::at(&stack, party), Task::Watch);
+        all.start(rt, alloc, self.parts, &meeting, &drops);
+        all.take();
+        all.is_counted(rt);
+        same(rt, meeting.missed.load(Ordering::SeqCst), self.missed);
+        dropped(rt, &drops, 0);
+        taken(rt, alloc, all.left, self.takings, &FOUR);
+        dropped(rt, &drops, 4);
+    }
+
+    /// Lets the threads meet.
+    fn run<R: Threads + Wait + Abort + Sync>(&self, rt: &R, alloc: Global) {
+        for _ in 0..self.rounds {
+            self.round(rt, alloc);
+        }
+    }
+}
+
+/// Two threads push, and two take, and push on what was not taken often enough.
+fn race<R: Threads + Wait + Abort + Sync>(rt: &R, alloc: Global, takings: u64) {
+    let plan = Plan {
+        rounds: RACES,
+        parts: &[
+            (Task::Push(Way::Push, 2), 10, 2),
+            (Task::Push(Way::Push, 2), 20, 2),
+            (Task::Take, 0, 0),
+            (Task::Take, 0, 0),
+        ],
+        takings,
+        missed: 0,
+    };
+    plan.run(rt, alloc);
 }
 
 #[test]
-fn multithreaded_pop(rt: HostRuntime) -> Result<(), AllocError> {
-    for _ in 0..RACES {
-        run_race(&rt, rt.alloc(), 1)?;
-    }
-    Ok(())
+fn multithreaded_pop(rt: HostRuntime) {
+    race(&rt, rt.alloc(), 1);
 }
 
 #[test]
-fn each_element_is_taken_three_times(rt: HostRuntime) -> Result<(), AllocError> {
-    for _ in 0..RACES {
-        run_race(&rt, rt.alloc(), 3)?;
+fn each_element_is_taken_three_times(rt: HostRuntime) {
+    race(&rt, rt.alloc(), 3);
+}
+
+// Each of two threads pushes by one try, and by the call that waits where that missed.
+#[test]
+fn pushes_after_a_miss(rt: HostRuntime) {
+    for way in [Way::Push, Way::PushWasEmpty] {
+        let plan = Plan {
+            rounds: ROUNDS,
+            parts: &[(Task::Miss(way), 10, 2), (Task::Miss(way), 20, 2)],
+            takings: 0,
+            missed: 2,
+        };
+        plan.run(&rt, rt.alloc());
     }
-    Ok(())
+}
+
+// One of two threads pushes by the call that waits, while the other pushes by one try.
+#[test]
+fn pushes_beside_a_thread_that_disturbs(rt: HostRuntime) {
+    for way in [Way::Push, Way::PushWasEmpty] {
+        let plan = Plan {
+            rounds: 1,
+            parts: &[(Task::Push(way, PUSHES), 10, 2), (Task::Disturb, 20, 2)],
+            takings: 0,
+            missed: 0,
+        };
+        plan.run(&rt, rt.alloc());
+    }
 }
