@@ -1,14 +1,13 @@
-//! Parties at their stack, and what their calls return.
+//! Stacks with their parties, and what the calls of one party return.
 ghost use Rattle.std.specs.Prelude.{◌≡◌, ◌≤◌};
 ghost use Rattle.cordyceps_shared.specs.Shares.{whole};
 ghost use Rattle.cordyceps_shared.specs.Standings.{new_party};
 
 use crate::compared::{at_most, has_room, same};
-use crate::items::{Handle, element, pops};
-use cordyceps_stack::stack::{MAX_ROOMS, Party, Stack, TransferStack};
+use crate::items::{Handle, element};
+use cordyceps_stack::stack::{MAX_ROOMS, Party, TransferStack};
 use std::alloc::Global;
 use std::process::Abort;
-use std::sync::Wait;
 use test_support::counted::{Counted, Drops};
 
 /// Returns a stack with this many rooms, and its whole party.
@@ -73,70 +72,4 @@ pub enum Call<'a> {
     Push(bool),
     /// The numbers of all that is held.
     Take(&'a [u64]),
-}
-
-/// A party at its stack.
-#[derive(Drop)]
-pub struct Seated<'s> {
-    stack: &'s TransferStack<Counted>,
-    party: Party<Counted>,
-    ghost seated: { party.table ≡ stack.now },
-}
-
-impl<'s> Seated<'s> {
-    /// Returns a party of this stack.
-    pub fn at(stack: &'s TransferStack<Counted>, party: Party<Counted>) -> Seated<'s>
-        requires { party.table ≡ stack.now }
-    {
-        Seated { stack, party }
-    }
-
-    /// Gives some of the rooms, which must be there, to a new party.
-    pub fn split(&mut self, rt: &impl Abort, rooms: usize) -> Seated<'s> {
-        at_most(rt, rooms, self.party.rooms());
-        Seated {
-            stack: self.stack,
-            party: self.stack.split(&mut self.party, rooms),
-        }
-    }
-
-    /// Makes these calls, one after the other, and asserts what they return. They push what the stock pops.
-    pub fn calls(&mut self, rt: &impl Abort, stock: &mut Stack<Counted>, calls: &[Call<'_>]) {
-        for call in calls {
-            match *call {
-                Call::Rooms(wanted) => same(rt, self.party.rooms(), wanted),
-                Call::IsEmpty(wanted) => {
-                    same(rt, self.stack.is_empty(&mut self.party), wanted);
-                }
-                Call::Push(first) => match stock.pop() {
-                    Some(handle) => pushes(rt, self.stack, &mut self.party, handle, first),
-                    None => panic!(rt; "the stock has no element left"),
-                },
-                Call::Take(wanted) => pops(rt, self.take_all(), wanted),
-            }
-        }
-    }
-
-    /// Takes all that is held.
-    pub fn take_all(&mut self) -> Stack<Counted> {
-        self.stack.take_all(&mut self.party)
-    }
-
-    /// Pushes into a room that must be there, by one try, and tells whether nothing was held before.
-    pub fn try_push(&mut self, rt: &impl Abort, handle: Handle) -> Result<bool, Handle> {
-        has_room(rt, self.party.rooms());
-        self.stack.try_push(&mut self.party, handle)
-    }
-
-    /// Pushes into a room that must be there, and tells whether nothing was held before.
-    pub fn push_was_empty<R: Wait + Abort>(&mut self, rt: &R, handle: Handle) -> bool {
-        has_room(rt, self.party.rooms());
-        self.stack.push_was_empty(rt, &mut self.party, handle)
-    }
-
-    /// Pushes into a room that must be there.
-    pub fn push<R: Wait + Abort>(&mut self, rt: &R, handle: Handle) {
-        has_room(rt, self.party.rooms());
-        self.stack.push(rt, &mut self.party, handle);
-    }
 }

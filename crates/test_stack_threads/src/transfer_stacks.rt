@@ -2,7 +2,8 @@
 
 use crate::compared::same;
 use crate::items::{dropped, element, no_drops, pops, stock};
-use crate::seats::{Call, Seated, new_stack, pushes};
+use crate::seats::{Call, new_stack, pushes};
+use crate::workers::Worker;
 use cordyceps_stack::stack::{Stack, TransferStack};
 use std::alloc::{AllocError, Global};
 use std::process::Abort;
@@ -21,7 +22,7 @@ fn calls_return(
     let count = no_drops(rt, alloc);
     let mut stock = stock(rt, alloc, (1, 3), &count);
     let (stack, party) = new_stack(rt, alloc, rooms);
-    let mut seat = Seated::at(&stack, party);
+    let mut seat = Worker::at(&stack, party);
     seat.split(rt, given).calls(rt, &mut stock, others);
     seat.calls(rt, &mut stock, calls);
     dropped(rt, &count, drops);
@@ -95,21 +96,20 @@ fn a_stack_without_rooms_returns_nothing(rt: HostRuntime) {
     same(&rt, (party.rooms(), other.rooms()), (0, 0));
     pops(&rt, stack.take_all(&mut other), &[]);
     stack.absorb(&mut party, other);
-    same(&rt, stack.is_empty(&mut party), true);
     pops(&rt, stack.take_all(&mut party), &[]);
-    same(&rt, party.rooms(), 0);
+    let is_empty = stack.is_empty(&mut party);
+    same(&rt, (is_empty, party.rooms()), (true, 0));
     pops(&rt, stack.close(party), &[]);
 }
 
 // It says more where an allocation is made to fail, as `tools/refusals` does: `new` then returns `Err`, and the next
 // call, which meets none, makes a stack.
 #[test]
-fn makes_a_stack_after_refused_memory(rt: HostRuntime) -> Result<(), AllocError> {
+fn makes_a_stack_after_refused_memory(rt: HostRuntime) {
     let (stack, party) = match TransferStack::<Counted>::new(rt.alloc(), 2) {
         Ok(made) => made,
-        Err(AllocError) => TransferStack::new(rt.alloc(), 2)?,
+        Err(AllocError) => new_stack(&rt, rt.alloc(), 2),
     };
     let calls = [Call::Rooms(2), Call::IsEmpty(true)];
-    Seated::at(&stack, party).calls(&rt, &mut Stack::new(), &calls);
-    Ok(())
+    Worker::at(&stack, party).calls(&rt, &mut Stack::new(), &calls);
 }

@@ -3,7 +3,7 @@ ghost use Rattle.std.specs.Prelude.{◌≡◌};
 
 use crate::compared::same;
 use crate::items::{Handle, dropped, element, no_drops, taken};
-use crate::seats::{Call, Seated, new_stack};
+use crate::seats::{Call, new_stack};
 use crate::workers::{Meeting, Part, Task, Way, Worker};
 use cordyceps_stack::stack::{Party, Stack, TransferStack};
 use std::alloc::Global;
@@ -12,7 +12,7 @@ use std::sync::Wait;
 use std::sync::atomic::Ordering;
 use std::thread;
 use std::thread::Threads;
-use test_support::counted::{Counted, Drops};
+use test_support::counted::Counted;
 
 /// How often the threads race.
 const RACES: u64 = 50;
@@ -26,35 +26,23 @@ const PUSHES: u64 = 10_000;
 /// The numbers of the elements that threads push.
 const FOUR: [u64; 4] = [10, 11, 20, 21];
 
-/// Pushes an element from a thread of its own, and returns how many pushes told that nothing was held before.
-fn push_one<R: Threads + Wait + Abort + Sync>(
-    rt: &R,
-    alloc: Global,
-    seat: Seated<'_>,
-    part: Part,
-    drops: &Drops,
-) -> u64 {
-    let mut pusher = Worker::new(seat, Task::Watch);
-    pusher.start(rt, alloc, &[part], &Meeting::new(1, 0), drops);
-    pusher.first
-}
-
 /// Pushes three elements by each call that may wait, each from a thread of its own, and takes them.
 fn push_each_way<R: Threads + Wait + Abort + Sync>(rt: &R, alloc: Global) {
     let drops = no_drops(rt, alloc);
     let (stack, party) = new_stack(rt, alloc, 3);
-    let mut seat = Seated::at(&stack, party);
+    let mut all = Worker::at(&stack, party);
     let parts = [
-        ((Task::Push(Way::PushWasEmpty, 1), 1, 1), 1),
-        ((Task::Push(Way::Push, 1), 2, 1), 0),
-        ((Task::Push(Way::PushWasEmpty, 1), 3, 1), 0),
+        (Task::Push(Way::PushWasEmpty, 1), 1, 1),
+        (Task::Push(Way::Push, 1), 2, 1),
+        (Task::Push(Way::PushWasEmpty, 1), 3, 1),
     ];
-    for (part, first) in parts {
-        let other = seat.split(rt, 1);
-        same(rt, push_one(rt, alloc, other, part, &drops), first);
+    for part in parts {
+        all.start(rt, alloc, &[part], &Meeting::new(1, 0), &drops);
+        // (only the first has told that nothing was held before)
+        same(rt, all.first, 1);
     }
     let calls = [Call::Rooms(0), Call::Take(&[3, 2, 1]), Call::Rooms(3)];
-    seat.calls(rt, &mut Stack::new(), &calls);
+    all.calls(rt, &mut Stack::new(), &calls);
 }
 
 #[test]
@@ -145,7 +133,7 @@ impl Plan<'_> {
         let drops = no_drops(rt, alloc);
         let (stack, party) = new_stack(rt, alloc, 4);
         let meeting = Meeting::new(self.parts.len() as u64, self.takings);
-        let mut all = Worker::new(Seated::at(&stack, party), Task::Watch);
+        let mut all = Worker::at(&stack, party);
         all.start(rt, alloc, self.parts, &meeting, &drops);
         all.take();
         all.is_counted(rt);
@@ -163,30 +151,23 @@ impl Plan<'_> {
     }
 }
 
-/// Two threads push, and two take, and push on what was not taken often enough.
-fn race<R: Threads + Wait + Abort + Sync>(rt: &R, alloc: Global, takings: u64) {
-    let plan = Plan {
-        rounds: RACES,
-        parts: &[
-            (Task::Push(Way::Push, 2), 10, 2),
-            (Task::Push(Way::Push, 2), 20, 2),
-            (Task::Take, 0, 0),
-            (Task::Take, 0, 0),
-        ],
-        takings,
-        missed: 0,
-    };
-    plan.run(rt, alloc);
-}
-
+// Two threads push, and two take, and push on what was not taken often enough.
 #[test]
 fn multithreaded_pop(rt: HostRuntime) {
-    race(&rt, rt.alloc(), 1);
-}
-
-#[test]
-fn each_element_is_taken_three_times(rt: HostRuntime) {
-    race(&rt, rt.alloc(), 3);
+    for takings in [1, 3] {
+        let plan = Plan {
+            rounds: RACES,
+            parts: &[
+                (Task::Push(Way::Push, 2), 10, 2),
+                (Task::Push(Way::Push, 2), 20, 2),
+                (Task::Take, 0, 0),
+                (Task::Take, 0, 0),
+            ],
+            takings,
+            missed: 0,
+        };
+        plan.run(&rt, rt.alloc());
+    }
 }
 
 // Each of two threads pushes by one try, and by the call that waits where that missed.

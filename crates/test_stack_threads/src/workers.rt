@@ -1,8 +1,11 @@
-//! Threads at a stack: what each does, turn by turn, and how they are started and watched.
-use crate::compared::{made, same};
-use crate::items::{Handle, stock};
-use crate::seats::Seated;
-use cordyceps_stack::stack::Stack;
+//! Parties at their stack, and threads that act through them: what each does, turn by turn, and how they are started
+//! and watched.
+ghost use Rattle.std.specs.Prelude.{◌≡◌};
+
+use crate::compared::{at_most, has_room, made, same};
+use crate::items::{Handle, pops, stock};
+use crate::seats::{Call, pushes};
+use cordyceps_stack::stack::{Party, Stack, TransferStack};
 use std::alloc::Global;
 use std::process::Abort;
 use std::sync::Wait;
@@ -33,7 +36,7 @@ pub enum Task {
     Disturb,
     /// Takes what is held, and pushes on what was not taken often enough, until all four elements were.
     Take,
-    /// Looks whether the others have ended.
+    /// Only looks whether the others have ended.
     Watch,
 }
 
@@ -85,10 +88,11 @@ impl Meeting {
     }
 }
 
-/// A thread at its stack.
+/// A party at its stack, and the thread that acts through it.
 #[derive(Drop)]
 pub struct Worker<'s> {
-    seat: Seated<'s>,
+    stack: &'s TransferStack<Counted>,
+    party: Party<Counted>,
     task: Task,
     /// What it has to push, or has taken often enough.
     pub left: Stack<Counted>,
@@ -100,19 +104,47 @@ pub struct Worker<'s> {
     untold: u64,
     /// How often it took something.
     takes: u64,
+    ghost seated: { party.table ≡ stack.now },
 }
 
 impl<'s> Worker<'s> {
-    /// Returns a thread that has nothing to push.
-    pub fn new(seat: Seated<'s>, task: Task) -> Worker<'s> {
+    /// Returns a party of this stack, which has nothing to push.
+    pub fn at(stack: &'s TransferStack<Counted>, party: Party<Counted>) -> Worker<'s>
+        requires { party.table ≡ stack.now }
+    {
         Worker {
-            seat,
-            task,
+            stack,
+            party,
+            task: Task::Watch,
             left: Stack::new(),
             pushed: 0,
             first: 0,
             untold: 0,
             takes: 0,
+        }
+    }
+
+    /// Gives some of the rooms, which must be there, to a new party.
+    pub fn split(&mut self, rt: &impl Abort, rooms: usize) -> Worker<'s> {
+        at_most(rt, rooms, self.party.rooms());
+        let party = self.stack.split(&mut self.party, rooms);
+        Worker::at(self.stack, party)
+    }
+
+    /// Makes these calls, one after the other, and asserts what they return. They push what the stock pops.
+    pub fn calls(&mut self, rt: &impl Abort, stock: &mut Stack<Counted>, calls: &[Call<'_>]) {
+        for call in calls {
+            match *call {
+                Call::Rooms(wanted) => same(rt, self.party.rooms(), wanted),
+                Call::IsEmpty(wanted) => {
+                    same(rt, self.stack.is_empty(&mut self.party), wanted);
+                }
+                Call::Push(first) => match stock.pop() {
+                    Some(handle) => pushes(rt, self.stack, &mut self.party, handle, first),
+                    None => panic!(rt; "the stock has no element left"),
+                },
+                Call::Take(wanted) => pops(rt, self.stack.take_all(&mut self.party), wanted),
+            }
         }
     }
 
@@ -126,13 +158,14 @@ impl<'s> Worker<'s> {
     /// Pushes an element by a call that may wait.
     fn push<R: Wait + Abort>(&mut self, rt: &R, way: Way, node: Handle) {
         self.pushed = self.pushed.wrapping_add(1);
+        has_room(rt, self.party.rooms());
         match way {
             Way::Push => {
-                self.seat.push(rt, node);
+                self.stack.push(rt, &mut self.party, node);
                 self.untold = self.untold.wrapping_add(1);
             }
             Way::PushWasEmpty => {
-                let first = self.seat.push_was_empty(rt, node);
+                let first = self.stack.push_was_empty(rt, &mut self.party, node);
                 self.told(first);
             }
         }
@@ -140,7 +173,7 @@ impl<'s> Worker<'s> {
 
     /// Takes all that is held.
     fn take_held(&mut self) -> Stack<Counted> {
-        let held = self.seat.take_all();
+        let held = self.stack.take_all(&mut self.party);
         if !held.is_empty() {
             self.takes = self.takes.wrapping_add(1);
         }
@@ -171,7 +204,8 @@ impl<'s> Worker<'s> {
 
     /// Pushes an element by one try. Where that missed, it pushes by a call that may wait, or keeps it.
     fn try_push<R: Wait + Abort>(&mut self, rt: &R, node: Handle, meeting: &Meeting) {
-        let back = match self.seat.try_push(rt, node) {
+        has_room(rt, self.party.rooms());
+        let back = match self.stack.try_push(&mut self.party, node) {
             Ok(first) => return self.told(first),
             Err(back) => back,
         };
@@ -262,12 +296,12 @@ impl<'s> Worker<'s> {
     ) {
         let mut workers = Vec::new(alloc);
         for (task, first, count) in parts {
-            let mut worker = Worker::new(self.seat.split(rt, *count as usize), *task);
+            let mut worker = self.split(rt, *count as usize);
+            worker.task = *task;
             worker.left = stock(rt, alloc, (*first, *count), drops);
             made(rt, workers.push(worker));
         }
-        let watch = Worker::new(self.seat.split(rt, 0), Task::Watch);
-        made(rt, workers.push(watch));
+        made(rt, workers.push(self.split(rt, 0)));
         let ended = thread::map_vec(rt, workers, &|worker: Worker<'_>| worker.run(rt, meeting));
         for worker in made(rt, ended) {
             self.add(worker);
