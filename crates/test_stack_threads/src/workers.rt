@@ -93,6 +93,8 @@ impl Meeting {
 pub struct Worker<'s> {
     stack: &'s TransferStack<Counted>,
     party: Party<Counted>,
+    /// A party that makes no call until the thread has ended.
+    spare: Party<Counted>,
     task: Task,
     /// What it has to push, or has taken often enough.
     pub left: Stack<Counted>,
@@ -104,23 +106,28 @@ pub struct Worker<'s> {
     untold: u64,
     /// How often it took something.
     takes: u64,
-    ghost seated: { party.table ≡ stack.now },
+    /// How many rooms the parties had whose threads have ended.
+    pub rooms: usize,
+    ghost seated: { (party.table ≡ stack.now) × (spare.table ≡ stack.now) },
 }
 
 impl<'s> Worker<'s> {
     /// Returns a party of this stack, which has nothing to push.
-    pub fn at(stack: &'s TransferStack<Counted>, party: Party<Counted>) -> Worker<'s>
+    pub fn at(stack: &'s TransferStack<Counted>, mut party: Party<Counted>) -> Worker<'s>
         requires { party.table ≡ stack.now }
     {
+        let spare = stack.split(&mut party, 0);
         Worker {
             stack,
             party,
+            spare,
             task: Task::Watch,
             left: Stack::new(),
             pushed: 0,
             first: 0,
             untold: 0,
             takes: 0,
+            rooms: 0,
         }
     }
 
@@ -181,7 +188,7 @@ impl<'s> Worker<'s> {
     }
 
     /// Takes all that is held, to push it again.
-    pub fn take(&mut self) {
+    fn take(&mut self) {
         for node in self.take_held() {
             self.left.push(node);
         }
@@ -274,12 +281,30 @@ impl<'s> Worker<'s> {
         self
     }
 
-    /// Takes in what another thread has left, and what it counted.
-    fn add(&mut self, other: Worker<'s>) {
-        self.first = self.first.wrapping_add(other.first);
-        self.untold = self.untold.wrapping_add(other.untold);
-        self.takes = self.takes.wrapping_add(other.takes);
-        for node in other.left {
+    /// Takes in what a thread has left and counted that has ended: its spare party absorbs the other, and takes what is
+    /// held.
+    fn add(&mut self, ended: Worker<'s>) {
+        let Worker {
+            stack,
+            party,
+            mut spare,
+            left,
+            first,
+            untold,
+            takes,
+            ..
+        } = ended;
+        stack.absorb(&mut spare, party);
+        let held = stack.take_all(&mut spare);
+        let taken = if held.is_empty() { 0 } else { 1 };
+        self.first = self.first.wrapping_add(first);
+        self.untold = self.untold.wrapping_add(untold);
+        self.takes = self.takes.wrapping_add(takes).wrapping_add(taken);
+        self.rooms = self.rooms.wrapping_add(spare.rooms());
+        for node in held {
+            self.left.push(node);
+        }
+        for node in left {
             self.left.push(node);
         }
     }
