@@ -1,9 +1,10 @@
-//! Comparisons of values with those that are wanted, and values that have to be there.
-ghost use Rattle.std.specs.Prelude.{◌≤◌};
+//! What ends a test: a value that is not the one wanted, a number beyond its bound, memory that was refused.
+//!
+//! Each crate of tests has this very file. A library cannot have it for them, since tests alone may end the process.
+ghost use Rattle.std.specs.Prelude.{◌≡◌, ◌≤◌, Ok};
 
 use std::fmt::Debug;
 use std::process::Abort;
-use test_support::counted::{Counted, Drops};
 
 /// Asserts that a value is the one that is wanted, and prints both where they differ.
 pub fn same<T: PartialEq + Debug + Drop>(rt: &impl Abort, came: T, wanted: T) {
@@ -17,10 +18,12 @@ pub fn at_most(rt: &impl Abort, number: usize, bound: usize)
     assert!(rt; number <= bound);
 }
 
-/// Returns a value that adds its drop to a count.
-pub fn counted(rt: &impl Abort, value: u64, drops: &Drops) -> Counted {
-    match Counted::new(value, drops) {
-        Ok(counted) => counted,
-        Err(_) => panic!(rt; "too many values share the count"),
+/// Returns what was made, and fails where memory was refused.
+pub fn made<T, E: Drop>(rt: &impl Abort, answer: Result<T, E>) -> T
+    ensures { answer ≡ Ok result }
+{
+    match answer {
+        Ok(it) => it,
+        Err(_) => panic!(rt; "memory was refused"),
     }
 }

@@ -5,6 +5,8 @@
 #[cfg(test)]
 mod compared;
 #[cfg(test)]
+mod elements;
+#[cfg(test)]
 mod queue_cores;
 #[cfg(test)]
 mod queue_refusals;

@@ -1,5 +1,6 @@
 //! Drops of a queue's core.
-use crate::compared::{counted, same};
+use crate::compared::same;
+use crate::elements::counted;
 use cordyceps_queue::mpsc_queue::{QueueCore, QueueStep, StepError};
 use std::alloc::Global;
 use std::process::Abort;

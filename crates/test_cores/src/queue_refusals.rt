@@ -1,6 +1,7 @@
 //! What a queue's core returns after memory was refused. These tests say more where an allocation is made to fail, as
 //! `tools/refusals` does.
-use crate::compared::{at_most, counted, same};
+use crate::compared::{at_most, same};
+use crate::elements::counted;
 use crate::queue_cores::two;
 use crate::scripts::script_of;
 use cordyceps_queue::mpsc_queue::{

@@ -1,5 +1,6 @@
 //! Replays of a transfer stack's core, its calls where memory is refused, and its drops.
-use crate::compared::{at_most, counted, same};
+use crate::compared::{at_most, same};
+use crate::elements::counted;
 use crate::scripts::script_of;
 use cordyceps_stack::stack::{
     Replay, StepError, TransferAnswer, TransferCore, TransferStep, replay,

@@ -1,5 +1,7 @@
-//! Comparisons of values with those that are wanted, and ends of tests where memory is refused.
-ghost use Rattle.std.specs.Prelude.{◌≡◌, ◌<◌, ◌≤◌, Ok};
+//! What ends a test: a value that is not the one wanted, a number beyond its bound, memory that was refused.
+//!
+//! Each crate of tests has this very file. A library cannot have it for them, since tests alone may end the process.
+ghost use Rattle.std.specs.Prelude.{◌≡◌, ◌≤◌, Ok};
 
 use std::fmt::Debug;
 use std::process::Abort;
@@ -14,13 +16,6 @@ pub fn at_most(rt: &impl Abort, number: usize, bound: usize)
     ensures { number ≤ bound }
 {
     assert!(rt; number <= bound);
-}
-
-/// Fails where a list of this length has no place for one more.
-pub fn has_place(rt: &impl Abort, len: usize)
-    ensures { len < usize.MAX }
-{
-    assert!(rt; len < usize::MAX);
 }
 
 /// Returns what was made, and fails where memory was refused.

@@ -1,7 +1,8 @@
 //! The order in which lists, their iterators and a chain's cursor drop what they hold.
 ghost use Rattle.std.specs.Prelude.{◌≡◌};
 
-use crate::compared::{has_place, made, same};
+use crate::compared::{made, same};
+use crate::items::has_place;
 use cordyceps_base::linked::Linked;
 use cordyceps_base::node::{Kind, Node};
 use cordyceps_base::single_chain::SingleChain;

@@ -1,6 +1,7 @@
 //! Lists of items whose number and value are the same.
+ghost use Rattle.std.specs.Prelude.{◌<◌};
 
-use crate::compared::{has_place, made, same};
+use crate::compared::{made, same};
 use cordyceps_list::list::List;
 use std::alloc::Global;
 use std::process::Abort;
@@ -57,4 +58,11 @@ pub fn holds(rt: &impl Abort, list: &List<Item>, items: &[u64]) {
         shows(rt, left.next(), Some(*v));
     }
     shows(rt, left.next(), None);
+}
+
+/// Fails where a list of this length has no place for one more.
+pub fn has_place(rt: &impl Abort, len: usize)
+    ensures { len < usize.MAX }
+{
+    assert!(rt; len < usize::MAX);
 }

@@ -1,5 +1,6 @@
 //! Pushes that may be refused, values written at the ends of lists, and drops.
-use crate::compared::{has_place, made, same};
+use crate::compared::{made, same};
+use crate::items::has_place;
 use cordyceps_list::list::List;
 use std::alloc::Global;
 use std::process::Abort;

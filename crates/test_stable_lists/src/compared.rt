@@ -1,5 +1,7 @@
-//! Comparisons of values with those that are wanted, and what ends a test.
-ghost use Rattle.std.specs.Prelude.{◌≤◌};
+//! What ends a test: a value that is not the one wanted, a number beyond its bound, memory that was refused.
+//!
+//! Each crate of tests has this very file. A library cannot have it for them, since tests alone may end the process.
+ghost use Rattle.std.specs.Prelude.{◌≡◌, ◌≤◌, Ok};
 
 use std::fmt::Debug;
 use std::process::Abort;
@@ -16,7 +18,12 @@ pub fn at_most(rt: &impl Abort, number: usize, bound: usize)
     assert!(rt; number <= bound);
 }
 
-/// Returns what was made. The test fails where memory was refused.
-pub fn made<T, E: Debug>(rt: &impl Abort, made: Result<T, E>) -> T {
-    made.expect(rt, "memory is there")
+/// Returns what was made, and fails where memory was refused.
+pub fn made<T, E: Drop>(rt: &impl Abort, answer: Result<T, E>) -> T
+    ensures { answer ≡ Ok result }
+{
+    match answer {
+        Ok(it) => it,
+        Err(_) => panic!(rt; "memory was refused"),
+    }
 }

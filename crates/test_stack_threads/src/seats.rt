@@ -1,9 +1,9 @@
 //! Stacks with their parties, and what the calls of one party return.
-ghost use Rattle.std.specs.Prelude.{◌≡◌, ◌≤◌};
+ghost use Rattle.std.specs.Prelude.{◌≡◌, ◌<◌, ◌≤◌};
 ghost use Rattle.cordyceps_shared.specs.Shares.{whole};
 ghost use Rattle.cordyceps_shared.specs.Standings.{new_party};
 
-use crate::compared::{at_most, has_room, same};
+use crate::compared::{at_most, same};
 use crate::items::{Handle, element};
 use cordyceps_stack::stack::{MAX_ROOMS, Party, TransferStack};
 use std::alloc::Global;
@@ -72,4 +72,11 @@ pub enum Call<'a> {
     Push(bool),
     /// The numbers of all that is held.
     Take(&'a [u64]),
+}
+
+/// Fails where there is no room.
+pub fn has_room(rt: &impl Abort, rooms: usize)
+    ensures { 0 < rooms }
+{
+    assert!(rt; rooms > 0);
 }

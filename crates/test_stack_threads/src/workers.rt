@@ -2,9 +2,9 @@
 //! and watched.
 ghost use Rattle.std.specs.Prelude.{◌≡◌};
 
-use crate::compared::{at_most, has_room, made, same};
+use crate::compared::{at_most, made, same};
 use crate::items::{Handle, pops, stock};
-use crate::seats::{Call, pushes};
+use crate::seats::{Call, has_room, pushes};
 use cordyceps_stack::stack::{Party, Stack, TransferStack};
 use std::alloc::Global;
 use std::process::Abort;

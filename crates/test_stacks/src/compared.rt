@@ -1,5 +1,7 @@
-//! Comparisons of values with those that are wanted, and what ends a test.
-ghost use Rattle.std.specs.Prelude.{◌≡◌, ◌<◌, ◌≤◌, Ok};
+//! What ends a test: a value that is not the one wanted, a number beyond its bound, memory that was refused.
+//!
+//! Each crate of tests has this very file. A library cannot have it for them, since tests alone may end the process.
+ghost use Rattle.std.specs.Prelude.{◌≡◌, ◌≤◌, Ok};
 
 use std::fmt::Debug;
 use std::process::Abort;
@@ -16,16 +18,12 @@ pub fn at_most(rt: &impl Abort, number: usize, bound: usize)
     assert!(rt; number <= bound);
 }
 
-/// Fails where there is no room.
-pub fn has_room(rt: &impl Abort, rooms: usize)
-    ensures { 0 < rooms }
+/// Returns what was made, and fails where memory was refused.
+pub fn made<T, E: Drop>(rt: &impl Abort, answer: Result<T, E>) -> T
+    ensures { answer ≡ Ok result }
 {
-    assert!(rt; rooms > 0);
-}
-
-/// Returns what was made. The test fails where memory was refused.
-pub fn made<T, E: Debug>(rt: &impl Abort, outcome: Result<T, E>) -> T
-    ensures { outcome ≡ Ok result }
-{
-    outcome.expect(rt, "memory is there")
+    match answer {
+        Ok(it) => it,
+        Err(_) => panic!(rt; "memory was refused"),
+    }
 }

@@ -1,8 +1,8 @@
 //! Users of a free list: parties that put blocks back for all, and owners of a local part.
-ghost use Rattle.std.specs.Prelude.{◌≡◌};
+ghost use Rattle.std.specs.Prelude.{◌≡◌, ◌<◌};
 
 use crate::blocks::Handle;
-use crate::compared::{has_room, same};
+use crate::compared::same;
 use freelist::{FreeList, Local, Party, Stack};
 use std::process::Abort;
 use std::thread;
@@ -112,4 +112,11 @@ impl<'f> Remote<'f> {
         let Remote { list, party } = self;
         list.local(party)
     }
+}
+
+/// Fails where there is no room.
+fn has_room(rt: &impl Abort, rooms: usize)
+    ensures { 0 < rooms }
+{
+    assert!(rt; rooms > 0);
 }
