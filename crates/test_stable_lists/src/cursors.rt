@@ -33,4 +33,6 @@ fn cursors_go_round(rt: HostRuntime) {
     reads(&rt, sorted.cursor_at(last), &over_the_end);
     let none = list_of(&rt, rt.alloc(), &[]);
     reads(&rt, none.cursor_front(), &[None, None]);
+    let none = keys_of(&rt, rt.alloc(), &[]);
+    reads(&rt, none.cursor_front(), &[None, None]);
 }

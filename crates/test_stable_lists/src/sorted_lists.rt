@@ -13,8 +13,7 @@ use std::alloc::Global;
 use std::cmp::Ordering;
 use std::process::Abort;
 
-/// Calls of a list that is empty at first, and what they reply. A number of several elements says in which order they
-/// arrived.
+/// Calls of a list that is empty at first, and what they reply. Numbers tell elements with equal keys apart.
 const CALLS: &[(Call, Reply)] = &[
     (Call::Front, Reply::Nothing),
     (Call::Back, Reply::Nothing),
