@@ -1,66 +1,72 @@
 //! Caches that forget what was used least recently.
 use crate::compared::same;
+use crate::made::{counted, no_drops};
 use cordyceps_uses::recency::Cache;
-use std::alloc::{AllocError, Global};
+use std::alloc::Global;
 use std::process::Abort;
-use test_support::counted::{Counted, Drops};
+use test_support::counted::Counted;
 
-/// Sets a key's value, and asserts the entry that is removed for it.
-fn insert(
-    rt: &impl Abort,
-    cache: &mut Cache<u64>,
-    alloc: Global,
-    key: u64,
-    value: u64,
-    wanted: Option<(u64, u64)>,
-) -> Result<(), AllocError> {
-    match cache.insert(alloc, key, value) {
-        Ok(out) => {
-            same(rt, out, wanted);
-            Ok(())
-        }
-        Err(_) => Err(AllocError),
+/// A call of a cache, and what it returns.
+#[derive(Clone, Copy)]
+enum Call {
+    /// Inserts a key and a value, and returns the entry that is removed for it.
+    Insert(u64, u64, Option<(u64, u64)>),
+    /// Returns the value of a key.
+    Get(u64, Option<u64>),
+    /// Returns whether a key is there.
+    Touch(u64, bool),
+    /// Removes a key, and returns its value.
+    Remove(u64, Option<u64>),
+    /// Returns how many entries there are.
+    Len(usize),
+}
+
+/// Makes a call, and compares what it returns with what is wanted.
+fn returns(rt: &impl Abort, alloc: Global, cache: &mut Cache<u64>, call: Call) {
+    match call {
+        Call::Insert(key, value, out) => same(rt, cache.insert(alloc, key, value).ok(), Some(out)),
+        Call::Get(key, value) => same(rt, cache.get(key), value),
+        Call::Touch(key, was_there) => same(rt, cache.touch(key), was_there),
+        Call::Remove(key, value) => same(rt, cache.remove(key), value),
+        Call::Len(len) => same(rt, cache.len(), len),
+    }
+}
+
+/// Calls of a cache of three entries.
+const CALLS: [Call; 17] = [
+    Call::Insert(1, 10, None),
+    Call::Insert(2, 20, None),
+    Call::Insert(3, 30, None),
+    Call::Get(1, Some(10)),
+    Call::Touch(2, true),
+    Call::Touch(9, false),
+    Call::Insert(4, 40, Some((3, 30))),
+    Call::Insert(1, 11, Some((1, 10))),
+    Call::Insert(5, 50, Some((2, 20))),
+    Call::Remove(4, Some(40)),
+    Call::Remove(4, None),
+    Call::Len(2),
+    Call::Insert(6, 60, None),
+    Call::Insert(7, 70, Some((1, 11))),
+    Call::Get(5, Some(50)),
+    Call::Get(1, None),
+    Call::Len(3),
+];
+
+#[test]
+fn forgets_what_was_used_least_recently(rt: HostRuntime) {
+    let mut cache: Cache<u64> = Cache::new(rt.alloc(), 3);
+    for call in CALLS {
+        returns(&rt, rt.alloc(), &mut cache, call);
     }
 }
 
 #[test]
-fn forgets_what_was_used_least_recently(rt: HostRuntime) -> Result<(), AllocError> {
-    let alloc = rt.alloc();
-    let mut cache: Cache<u64> = Cache::new(alloc, 3);
+fn frees_each_value_once(rt: HostRuntime) {
+    let drops = no_drops(&rt, rt.alloc());
+    let mut cache: Cache<Counted> = Cache::new(rt.alloc(), 2);
     for key in [1, 2, 3] {
-        insert(&rt, &mut cache, alloc, key, key * 10, None)?;
-    }
-    same(
-        &rt,
-        (cache.get(1), cache.touch(2), cache.touch(9)),
-        (Some(10), true, false),
-    );
-    insert(&rt, &mut cache, alloc, 4, 40, Some((3, 30)))?;
-    insert(&rt, &mut cache, alloc, 1, 11, Some((1, 10)))?;
-    insert(&rt, &mut cache, alloc, 5, 50, Some((2, 20)))?;
-    same(
-        &rt,
-        (cache.remove(4), cache.remove(4), cache.len()),
-        (Some(40), None, 2),
-    );
-    insert(&rt, &mut cache, alloc, 6, 60, None)?;
-    insert(&rt, &mut cache, alloc, 7, 70, Some((1, 11)))?;
-    same(
-        &rt,
-        (cache.get(5), cache.get(1), cache.len()),
-        (Some(50), None, 3),
-    );
-    Ok(())
-}
-
-#[test]
-fn frees_each_value_once(rt: HostRuntime) -> Result<(), AllocError> {
-    let alloc = rt.alloc();
-    let drops = Drops::new(alloc)?;
-    let mut cache: Cache<Counted> = Cache::new(alloc, 2);
-    for key in [1, 2, 3] {
-        let value = Counted::new(key, &drops)?;
-        let put = cache.insert(alloc, key, value);
+        let put = cache.insert(rt.alloc(), key, counted(&rt, key, &drops));
         same(&rt, put.is_ok(), true);
     }
     same(&rt, drops.count(), 1);
@@ -70,7 +76,6 @@ fn frees_each_value_once(rt: HostRuntime) -> Result<(), AllocError> {
     same(&rt, drops.count(), 2);
     drop(cache);
     same(&rt, drops.count(), 3);
-    Ok(())
 }
 
 /// How many keys the long test has, and a number without a factor in common with that.
@@ -80,22 +85,17 @@ const STRIDE: u64 = 123_457;
 
 /// A walk to each entry would take hours.
 #[test]
-fn removes_hundreds_of_thousands_in_scattered_order(rt: HostRuntime) -> Result<(), AllocError> {
-    let alloc = rt.alloc();
-    let mut cache: Cache<u64> = Cache::new(alloc, KEYS as usize);
+fn removes_hundreds_of_thousands_in_scattered_order(rt: HostRuntime) {
+    let mut cache: Cache<u64> = Cache::new(rt.alloc(), KEYS as usize);
     for key in 0..KEYS {
-        if cache.insert(alloc, key, key).is_err() {
-            return Err(AllocError);
-        }
+        let put = cache.insert(rt.alloc(), key, key);
+        same(&rt, put.is_ok(), true);
     }
     let mut sum: u64 = 0;
     for turn in 0..KEYS {
         let key = turn.wrapping_mul(STRIDE) % KEYS;
-        match cache.remove(key) {
-            Some(value) => sum = sum.wrapping_add(value),
-            None => return Err(AllocError),
-        }
+        same(&rt, cache.remove(key), Some(key));
+        sum = sum.wrapping_add(key);
     }
     same(&rt, (cache.len(), sum), (0, 79_999_800_000));
-    Ok(())
 }

@@ -10,6 +10,8 @@ mod disks;
 #[cfg(test)]
 mod examples;
 #[cfg(test)]
+mod made;
+#[cfg(test)]
 mod mailboxes;
 #[cfg(test)]
 mod pools;

@@ -1,51 +1,75 @@
 //! Jobs that threads run.
-ghost use Rattle.std.specs.Prelude.{◌≡◌, length, IfOk};
+ghost use Rattle.std.specs.Prelude.{◌≡◌, length};
 
 use crate::compared::same;
-use cordyceps::stack::Links;
-use cordyceps::{Node, Stack};
+use crate::made::node;
+use cordyceps::Stack;
 use cordyceps_uses::run_queue::{Job, run_all};
-use std::alloc::{AllocError, Global};
-use test_support::nodes::node_of;
+use std::alloc::Global;
+use std::process::Abort;
 
 /// How often the threads run.
 const ROUNDS: u64 = 20;
 
-/// Returns a job that was not run.
-fn job(alloc: Global, number: u32) -> Result<Node<Job, Links<Job>>, AllocError> {
-    node_of(alloc, 0, Job { number, square: 0 })
-}
-
-/// Returns the jobs of the numbers 1 to 4.
-fn four_jobs(alloc: Global) -> Result<Stack<Job>, AllocError>
-    ensures { IfOk result (λ jobs. length jobs ≡ 4) }
+/// Returns jobs of the numbers 1 to 4 that were not run.
+fn four_jobs(rt: &impl Abort, alloc: Global) -> Stack<Job>
+    ensures { length result ≡ 4 }
 {
     let mut jobs = Stack::new();
-    jobs.push(job(alloc, 1)?);
-    jobs.push(job(alloc, 2)?);
-    jobs.push(job(alloc, 3)?);
-    jobs.push(job(alloc, 4)?);
-    Ok(jobs)
-}
-
-/// Returns the squares of jobs, the least first.
-fn squares(alloc: Global, jobs: Stack<Job>) -> Result<Vec<u64>, AllocError> {
-    let mut all = Vec::new(alloc);
-    for job in jobs {
-        all.push(job.get().square)?;
-    }
-    all.sort()?;
-    Ok(all)
+    jobs.push(node(
+        rt,
+        alloc,
+        0,
+        Job {
+            number: 1,
+            square: 0,
+        },
+    ));
+    jobs.push(node(
+        rt,
+        alloc,
+        0,
+        Job {
+            number: 2,
+            square: 0,
+        },
+    ));
+    jobs.push(node(
+        rt,
+        alloc,
+        0,
+        Job {
+            number: 3,
+            square: 0,
+        },
+    ));
+    jobs.push(node(
+        rt,
+        alloc,
+        0,
+        Job {
+            number: 4,
+            square: 0,
+        },
+    ));
+    jobs
 }
 
 #[test]
-fn each_job_is_run_once(rt: HostRuntime) -> Result<(), AllocError> {
+fn each_job_is_run_once(rt: HostRuntime) {
     for round in 0..ROUNDS {
-        let Ok(done) = run_all(&rt, rt.alloc(), four_jobs(rt.alloc())?, 4, round) else {
-            return Err(AllocError);
+        let jobs = four_jobs(&rt, rt.alloc());
+        let Ok(done) = run_all(&rt, rt.alloc(), jobs, 4, round) else {
+            panic!(rt; "no memory for a stack");
         };
-        let came = squares(rt.alloc(), done)?;
-        same(&rt, came.as_slice(), &[1, 4, 9, 16]);
+        // the sum of the squares of each number
+        let mut squares = [0u64; 5];
+        for job in done {
+            let job = job.get();
+            if let Some(square) = squares.get_mut(job.number as usize) {
+                *square = square.wrapping_add(job.square);
+            }
+        }
+        same(&rt, squares, [0, 1, 4, 9, 16]);
     }
-    Ok(())
 }

@@ -1,7 +1,8 @@
 //! Tasks that threads schedule.
-ghost use Rattle.std.specs.Prelude.{◌≤◌, ◌<◌, length, IfOk};
+ghost use Rattle.std.specs.Prelude.{◌≤◌, ◌<◌, length};
 
 use crate::compared::same;
+use crate::made::node;
 use cordyceps::list::Links;
 use cordyceps::mpsc_queue::MAX_ROOMS;
 use cordyceps::{List, Node, Stack};
@@ -9,42 +10,42 @@ use cordyceps_uses::scheduler::holding::Followed;
 use cordyceps_uses::scheduler::places::Task;
 use cordyceps_uses::scheduler::{Outcome, birth, run};
 use std::alloc::{AllocError, Global};
+use std::process::Abort;
 use std::sync::Wait;
 use std::thread::Threads;
-use test_support::nodes::node_of;
 
 /// How often the threads look for something to do, at most.
 const TURNS: u64 = 1_000_000_000;
 
 /// Makes a task, and asks again where memory was refused.
 fn task(
+    rt: &impl Abort,
     alloc: Global,
     number: u32,
     rounds: u32,
     pause: u32,
-) -> Result<Node<Task, Links<Task>>, AllocError> {
-    let again = match birth(alloc, number, rounds, pause) {
-        Ok(task) => return Ok(task),
-        Err(refused) => refused.value,
-    };
-    node_of(alloc, number as u64, again)
+) -> Node<Task, Links<Task>> {
+    match birth(alloc, number, rounds, pause) {
+        Ok(task) => task,
+        Err(refused) => node(rt, alloc, number as u64, refused.value),
+    }
 }
 
 /// Returns tasks with the numbers below `count`, each of this many rounds. Their pauses are below `pauses`.
-fn tasks(alloc: Global, count: u32, rounds: u32, pauses: u32) -> Result<List<Task>, AllocError>
+fn tasks(rt: &impl Abort, alloc: Global, count: u32, rounds: u32, pauses: u32) -> List<Task>
     requires { 0 < pauses }
-    ensures { IfOk result (λ tasks. length tasks ≤ count) }
+    ensures { length result ≤ count }
 {
     let mut tasks = List::new();
     for number in 0..count {
-        tasks.push_back(task(alloc, number, rounds, number % pauses)?);
+        tasks.push_back(task(rt, alloc, number, rounds, number % pauses));
     }
-    Ok(tasks)
+    tasks
 }
 
 /// How many tasks are in each place. Of those that are done, how many came before, have another number than those that
 /// were submitted, or did not run as they should.
-#[derive(Debug, PartialEq, Eq, Clone, Copy)]
+#[derive(Debug, PartialEq, Clone, Copy)]
 struct Counts {
     asleep: u64,
     on_way: usize,
@@ -105,70 +106,71 @@ fn count(seen: &mut [bool], outcome: Outcome, rounds: u32) -> Counts {
     counts
 }
 
-/// Makes eight tasks of three rounds each, and runs them on a queue of this many rooms, for this many turns. Where
-/// memory for the queue was refused it asks again, with the tasks that were returned.
-fn eight<R: Threads + Wait + Sync>(
+/// Runs tasks on a queue of this many rooms, for this many turns, and counts where they are in the end. Each should run
+/// this many rounds. Where memory for the queue was refused it asks again, with the tasks that were returned.
+fn counted<R: Threads + Wait + Abort + Sync>(
     rt: &R,
     alloc: Global,
+    tasks: List<Task>,
     rooms: usize,
     turns: u64,
-) -> Result<Counts, AllocError>
-    requires { (8 ≤ rooms) × (rooms ≤ MAX_ROOMS) }
+    seen: &mut [bool],
+    rounds: u32,
+) -> Counts
+    requires { (length tasks ≤ rooms) × (rooms ≤ MAX_ROOMS) }
 {
-    let again = match run(
-        rt,
-        alloc,
-        tasks(alloc, 8, 3, 4)?,
-        rooms,
-        turns,
-        Followed::new(1, 5),
-    ) {
-        Ok(outcome) => return Ok(count(&mut [false; 8], outcome, 3)),
+    let again = match run(rt, alloc, tasks, rooms, turns, Followed::new(1, 5)) {
+        Ok(outcome) => return count(seen, outcome, rounds),
         Err(back) => back,
     };
     match run(rt, alloc, again, rooms, turns, Followed::new(1, 5)) {
-        Ok(outcome) => Ok(count(&mut [false; 8], outcome, 3)),
-        Err(_) => Err(AllocError),
+        Ok(outcome) => count(seen, outcome, rounds),
+        Err(_) => panic!(rt; "memory was refused twice"),
     }
 }
 
 #[test]
 fn each_task_is_done_once(rt: HostRuntime) -> Result<(), AllocError> {
-    let alloc = rt.alloc();
-    let tasks = tasks(alloc, 10_000, 5, 1)?;
-    let mut seen = Vec::from_elem(alloc, false, 10_000)?;
-    let Ok(outcome) = run(&rt, alloc, tasks, 50_000, TURNS, Followed::new(1, 5)) else {
-        return Err(AllocError);
-    };
-    same(&rt, count(&mut seen, outcome, 5), all_done(10_000));
+    let mut seen = Vec::from_elem(rt.alloc(), false, 10_000)?;
+    let tasks = tasks(&rt, rt.alloc(), 10_000, 5, 1);
+    let counts = counted(&rt, rt.alloc(), tasks, 50_000, TURNS, &mut seen, 5);
+    same(&rt, counts, all_done(10_000));
     Ok(())
 }
 
-#[test]
-fn tasks_come_back_where_memory_is_refused(rt: HostRuntime) -> Result<(), AllocError> {
-    same(&rt, eight(&rt, rt.alloc(), 24, TURNS)?, all_done(8));
-    Ok(())
+/// Makes eight tasks of three rounds each, runs them on a queue of this many rooms, for this many turns, and asserts
+/// where they are in the end.
+fn eight<R: Threads + Wait + Abort + Sync>(
+    rt: &R,
+    alloc: Global,
+    rooms: usize,
+    turns: u64,
+    wanted: Counts,
+)
+    requires { (8 ≤ rooms) × (rooms ≤ MAX_ROOMS) }
+{
+    let tasks = tasks(rt, alloc, 8, 3, 4);
+    let counts = counted(rt, alloc, tasks, rooms, turns, &mut [false; 8], 3);
+    same(rt, counts, wanted);
 }
 
 #[test]
-fn tasks_that_are_not_woken_sleep(rt: HostRuntime) -> Result<(), AllocError> {
+fn tasks_come_back_where_memory_is_refused(rt: HostRuntime) {
+    eight(&rt, rt.alloc(), 24, TURNS, all_done(8));
+}
+
+#[test]
+fn tasks_sleep_or_stay_on_their_way(rt: HostRuntime) {
     // the queue has no room for a second round
-    let counts = eight(&rt, rt.alloc(), 8, 100_000)?;
     let asleep = Counts {
         asleep: 8,
         ..all_done(0)
     };
-    same(&rt, counts, asleep);
-    Ok(())
-}
-
-#[test]
-fn tasks_that_nobody_takes_stay_on_their_way(rt: HostRuntime) -> Result<(), AllocError> {
-    let counts = eight(&rt, rt.alloc(), 24, 0)?;
+    eight(&rt, rt.alloc(), 8, 100_000, asleep);
+    // nobody takes a task
     let on_way = Counts {
         on_way: 8,
         ..all_done(0)
     };
-    same(&rt, counts, on_way);
-    Ok(())
+    eight(&rt, rt.alloc(), 24, 0, on_way);
 }

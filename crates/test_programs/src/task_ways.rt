@@ -1,54 +1,48 @@
 //! Tasks on their way through collections.
 use crate::compared::same;
+use crate::made::{at_most, node};
 use cordyceps::stack::Links;
 use cordyceps::{List, Node, Stack};
 use cordyceps_uses::tasks::{Task, move_to_list, schedule};
-use std::alloc::{AllocError, Global};
-use test_support::nodes::node_of;
+use std::alloc::Global;
+use std::process::Abort;
 
 /// Returns a task for stacks.
-fn task(alloc: Global, rank: u64, number: u64) -> Result<Node<Task, Links<Task>>, AllocError> {
-    node_of(alloc, number, Task { rank, number })
+fn task(rt: &impl Abort, alloc: Global, rank: u64, number: u64) -> Node<Task, Links<Task>> {
+    node(rt, alloc, number, Task { rank, number })
 }
 
 #[test]
-fn urgent_tasks_come_first(rt: HostRuntime) -> Result<(), AllocError> {
-    let alloc = rt.alloc();
+fn urgent_tasks_come_first(rt: HostRuntime) {
     let mut tasks = Stack::new();
-    tasks.push(task(alloc, 2, 1)?);
-    tasks.push(task(alloc, 1, 2)?);
-    tasks.push(task(alloc, 2, 3)?);
-    tasks.push(task(alloc, 1, 4)?);
-    let Ok(mut ordered) = schedule(&rt, alloc, tasks, 4) else {
-        return Err(AllocError);
+    tasks.push(task(&rt, rt.alloc(), 2, 1));
+    tasks.push(task(&rt, rt.alloc(), 1, 2));
+    tasks.push(task(&rt, rt.alloc(), 2, 3));
+    tasks.push(task(&rt, rt.alloc(), 1, 4));
+    let Ok(mut ordered) = schedule(&rt, rt.alloc(), tasks, 4) else {
+        panic!(rt; "no memory for a stack");
     };
-    for wanted in [2, 4, 1, 3] {
-        let number = match ordered.pop_front() {
+    for wanted in [Some((2, 2)), Some((4, 4)), Some((1, 1)), Some((3, 3)), None] {
+        let came = match ordered.pop_front() {
             Some(node) => Some((node.id(), node.get().number)),
             None => None,
         };
-        same(&rt, number, Some((wanted, wanted)));
+        same(&rt, came, wanted);
     }
-    same(&rt, ordered.pop_front().is_none(), true);
-    Ok(())
 }
 
 #[test]
-fn a_task_goes_into_a_list(rt: HostRuntime) -> Result<(), AllocError> {
-    let alloc = rt.alloc();
+fn a_task_goes_into_a_list(rt: HostRuntime) {
     let mut list: List<Task> = List::new();
     for number in [7, 8] {
-        let node = task(alloc, 5, number)?;
-        assert!(rt; list.len() < 2);
-        move_to_list(&mut list, node);
+        at_most(&rt, list.len() as u64, 1);
+        move_to_list(&mut list, task(&rt, rt.alloc(), 5, number));
     }
-    for wanted in [7, 8] {
-        let number = match list.pop_front() {
+    for wanted in [Some((7, 5, 7)), Some((8, 5, 8)), None] {
+        let came = match list.pop_front() {
             Some(node) => Some((node.id(), node.get().rank, node.get().number)),
             None => None,
         };
-        same(&rt, number, Some((wanted, 5, wanted)));
+        same(&rt, came, wanted);
     }
-    same(&rt, list.len(), 0);
-    Ok(())
 }

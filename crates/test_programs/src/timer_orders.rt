@@ -1,57 +1,63 @@
 //! Timers that come when they are due, and timers that are cancelled.
-ghost use Rattle.std.specs.Prelude.{IfOk};
 ghost use Rattle.cordyceps.specs.Elements.Element.{Element};
 ghost use Rattle.cordyceps.specs.Spots.BySpot.{IsTaken};
 ghost use Rattle.cordyceps_uses.specs.declared.timers.Timer.{Timer};
 
 use crate::compared::same;
+use crate::made::{counted, no_drops};
 use cordyceps::Spot;
 use cordyceps_uses::timers::Timers;
-use std::alloc::{AllocError, Global};
+use std::alloc::Global;
 use std::process::Abort;
 use test_support::counted::{Counted, Drops};
 
 /// Starts a timer with this number, and returns its spot.
 fn start(
+    rt: &impl Abort,
     timers: &mut Timers<Counted>,
     alloc: Global,
     deadline: u64,
     number: u64,
     drops: &Drops,
-) -> Result<Spot, AllocError>
-    ensures { IfOk result (λ spot. (timer : Element (Timer Counted)) × IsTaken timers.new spot timer timers.old) }
+) -> Spot
+    ensures { (timer : Element (Timer Counted)) × IsTaken timers.new result timer timers.old }
 {
-    match timers.start(alloc, deadline, Counted::new(number, drops)?) {
-        Ok(spot) => Ok(spot),
-        Err(_) => Err(AllocError),
+    match timers.start(alloc, deadline, counted(rt, number, drops)) {
+        Ok(spot) => spot,
+        Err(_) => panic!(rt; "no memory for a timer"),
     }
 }
 
-/// Compares the number of the timer that comes at a time with the one that is wanted.
-fn comes(rt: &impl Abort, timers: &mut Timers<Counted>, now: u64, wanted: Option<u64>) {
-    let came = match timers.pop_due(now) {
-        Some(timer) => Some(timer.payload.value),
-        None => None,
-    };
-    same(rt, came, wanted);
+/// Compares the numbers of the timers that come at some times with those that are wanted.
+fn come(rt: &impl Abort, timers: &mut Timers<Counted>, wanted: &[(u64, Option<u64>)]) {
+    for (now, wanted) in wanted {
+        let came = match timers.pop_due(*now) {
+            Some(timer) => Some(timer.payload.value),
+            None => None,
+        };
+        same(rt, (*now, came), (*now, *wanted));
+    }
 }
 
 #[test]
-fn due_timers_come_in_order(rt: HostRuntime) -> Result<(), AllocError> {
-    let drops = Drops::new(rt.alloc())?;
+fn due_timers_come_in_order(rt: HostRuntime) {
+    let drops = no_drops(&rt, rt.alloc());
     let mut timers = Timers::new();
     for (deadline, number) in [(30, 1), (10, 2), (20, 3), (10, 4), (20, 5)] {
-        start(&mut timers, rt.alloc(), deadline, number, &drops)?;
+        start(&rt, &mut timers, rt.alloc(), deadline, number, &drops);
     }
-    comes(&rt, &mut timers, 9, None);
-    for (now, wanted) in [(10, 2), (10, 4), (25, 3), (29, 5)] {
-        comes(&rt, &mut timers, now, Some(wanted));
-    }
-    comes(&rt, &mut timers, 29, None);
+    let wanted = [
+        (9, None),
+        (10, Some(2)),
+        (10, Some(4)),
+        (25, Some(3)),
+        (29, Some(5)),
+        (29, None),
+    ];
+    come(&rt, &mut timers, &wanted);
     same(&rt, drops.count(), 4);
     drop(timers);
     same(&rt, drops.count(), 5);
-    Ok(())
 }
 
 /// Starts three timers, which are numbered from 1 on, and cancels one. It compares which others are left, in the order
@@ -61,13 +67,13 @@ fn cancels(
     alloc: Global,
     deadlines: (u64, u64, u64),
     number: u64,
-    left: &[u64],
-) -> Result<(), AllocError> {
-    let drops = Drops::new(alloc)?;
+    (next, last): (u64, u64),
+) {
+    let drops = no_drops(rt, alloc);
     let mut timers = Timers::new();
-    let first = start(&mut timers, alloc, deadlines.0, 1, &drops)?;
-    let second = start(&mut timers, alloc, deadlines.1, 2, &drops)?;
-    let third = start(&mut timers, alloc, deadlines.2, 3, &drops)?;
+    let first = start(rt, &mut timers, alloc, deadlines.0, 1, &drops);
+    let second = start(rt, &mut timers, alloc, deadlines.1, 2, &drops);
+    let third = start(rt, &mut timers, alloc, deadlines.2, 3, &drops);
     let cancelled = match number {
         1 => timers.cancel(first),
         2 => timers.cancel(second),
@@ -78,42 +84,40 @@ fn cancels(
         (cancelled.get().payload.value, drops.count()),
         (number, 0),
     );
-    for wanted in left {
-        comes(rt, &mut timers, u64::MAX, Some(*wanted));
-    }
-    comes(rt, &mut timers, u64::MAX, None);
+    let wanted = [
+        (u64::MAX, Some(next)),
+        (u64::MAX, Some(last)),
+        (u64::MAX, None),
+    ];
+    come(rt, &mut timers, &wanted);
     same(rt, drops.count(), 2);
     drop(cancelled);
     same(rt, drops.count(), 3);
-    Ok(())
 }
 
 #[test]
-fn a_cancelled_timer_leaves_the_others_in_order(rt: HostRuntime) -> Result<(), AllocError> {
+fn a_cancelled_timer_leaves_the_others_in_order(rt: HostRuntime) {
     for (deadlines, number, left) in [
-        ((30, 10, 20), 1, [2, 3]),
-        ((30, 10, 20), 2, [3, 1]),
-        ((30, 10, 20), 3, [2, 1]),
-        ((10, 10, 10), 2, [1, 3]),
+        ((30, 10, 20), 1, (2, 3)),
+        ((30, 10, 20), 2, (3, 1)),
+        ((30, 10, 20), 3, (2, 1)),
+        ((10, 10, 10), 2, (1, 3)),
     ] {
-        cancels(&rt, rt.alloc(), deadlines, number, &left)?;
+        cancels(&rt, rt.alloc(), deadlines, number, left);
     }
-    Ok(())
 }
 
 #[test]
-fn a_cancelled_timer_is_started_again(rt: HostRuntime) -> Result<(), AllocError> {
-    let drops = Drops::new(rt.alloc())?;
+fn a_cancelled_timer_is_started_again(rt: HostRuntime) {
+    let drops = no_drops(&rt, rt.alloc());
     let mut timers = Timers::new();
-    start(&mut timers, rt.alloc(), 20, 1, &drops)?;
-    let spot = start(&mut timers, rt.alloc(), 10, 2, &drops)?;
+    start(&rt, &mut timers, rt.alloc(), 20, 1, &drops);
+    let spot = start(&rt, &mut timers, rt.alloc(), 10, 2, &drops);
     let mut cancelled = timers.cancel(spot);
-    comes(&rt, &mut timers, 19, None);
+    come(&rt, &mut timers, &[(19, None)]);
     cancelled.get_mut().deadline = 30;
     same(&rt, timers.restart(cancelled).is_ok(), true);
-    for (now, wanted) in [(29, Some(1)), (29, None), (30, Some(2)), (30, None)] {
-        comes(&rt, &mut timers, now, wanted);
-    }
+    let wanted = [(29, Some(1)), (29, None), (30, Some(2)), (30, None)];
+    come(&rt, &mut timers, &wanted);
     same(&rt, drops.count(), 2);
-    Ok(())
 }

@@ -4,10 +4,10 @@ use Rattle.test_programs.proofs.timer_orders.cancels.Goals as goal
 
 pub cancel-cancelled-requires : goal.cancel-cancelled-requires
 cancel-cancelled-requires g c =
-    left_has _ _ _ _ _ c.in_ok-third.ensures.1 (left_has _ _ _ _ _ c.in_ok-second.ensures.1 (taken_has _ _ _ _ c.in_ok-first.ensures.1))
+    left_has _ _ _ _ _ c.start-third.ensures.1 (left_has _ _ _ _ _ c.start-second.ensures.1 (taken_has _ _ _ _ c.start-first.ensures.1))
 
 pub cancel-cancelled-requires-in-2 : goal.cancel-cancelled-requires-in-2
-cancel-cancelled-requires-in-2 g c = left_has _ _ _ _ _ c.in_ok-third.ensures.1 (taken_has _ _ _ _ c.in_ok-second.ensures.1)
+cancel-cancelled-requires-in-2 g c = left_has _ _ _ _ _ c.start-third.ensures.1 (taken_has _ _ _ _ c.start-second.ensures.1)
 
 pub cancel-cancelled-requires-in_default : goal.cancel-cancelled-requires-in_default
-cancel-cancelled-requires-in_default g c = taken_has _ _ _ _ c.in_ok-third.ensures.1
+cancel-cancelled-requires-in_default g c = taken_has _ _ _ _ c.start-third.ensures.1

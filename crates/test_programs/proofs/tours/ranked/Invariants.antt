@@ -3,4 +3,4 @@ use Rattle.cordyceps.specs.Spots.Spots.{AreDistinct}
 use Rattle.test_programs.proofs.tours.ranked.Given as goal
 
 abbrev pub invariant-loop-rank : goal.invariant-loop-rank
-invariant-loop-rank l = AreDistinct (spots l.jobs)
+invariant-loop-rank g l = AreDistinct (spots l.jobs)
