@@ -1,18 +1,20 @@
-//! The examples of the replay language, over readers and writers that fail after each number of bytes.
+//! Scripts over readers and writers that fail after each number of bytes, or take little at once.
 
-use crate::stored::{REPLIES, STORED};
-use crate::streams::{Paper, Script, has_outcome, outcome_in, outcome_on, whole};
+use crate::streams::{Script, blank, ends, has_outcome, outcome, whole};
 use replay_driver::fault::Fault;
 use replay_sessions::modes::Choice;
-use std::alloc::{AllocError, Global};
-use std::test::Fail;
 
 /// Scripts of which each line is good, and their replies, of which each is a line.
 const EXAMPLES: [(Choice, &[u8], &[u8]); 4] = [
-    (Choice::List, STORED, REPLIES),
     (
         Choice::List,
-        b"pushb 0 1 1\npushb 0 2 2\npushb 0 3 3\ncursor 0 front\nprev\nindex\nprev\ncur\nindex\nsplitb 1\nindex\nend\nshow 0\nshow 1\n",
+        b"pushb 0 1 1\npushb 0 2 2\npushf 0 3 3\npopf 0\npopb 0\nlen 0\npopf 1\n",
+        b"ok\nok\nok\nsome 3 3\nsome 2 2\nlen 1\nnone\n",
+    ),
+    (
+        Choice::List,
+        b"pushb 0 1 1\npushb 0 2 2\npushb 0 3 3\ncursor 0 front\nprev\nindex\nprev\ncur\nindex\n\
+          splitb 1\nindex\nend\nshow 0\nshow 1\n",
         b"ok\nok\nok\nok\nok\nnone\nok\nsome 3 3\nindex 2\nok\nindex 0\nok\nshow 3:3\nshow 1:1 2:2\n",
     ),
     (
@@ -27,73 +29,92 @@ const EXAMPLES: [(Choice, &[u8], &[u8]); 4] = [
     ),
 ];
 
-/// Returns how many lines are complete.
-fn count_lines(text: &[u8]) -> usize {
-    let mut count = 0usize;
-    for byte in text {
+/// Returns the replies to those lines of a script that are complete.
+fn replies_to<'a>(script: &[u8], replies: &'a [u8]) -> &'a [u8] {
+    let mut left = 0u64;
+    for byte in script {
         if *byte == b'\n' {
-            count = count.wrapping_add(1);
+            left = left.wrapping_add(1);
         }
     }
-    count
-}
-
-/// Returns this many of the text's lines.
-fn first_lines(alloc: Global, text: &[u8], count: usize) -> Result<Vec<u8>, AllocError> {
-    let mut lines = Vec::new(alloc);
-    let mut left = count;
-    for byte in text {
+    for at in 0..replies.len() {
         if left == 0 {
-            break;
+            return &replies[..at];
         }
-        lines.push(*byte)?;
-        if *byte == b'\n' {
+        if replies[at] == b'\n' {
             left -= 1;
         }
     }
-    Ok(lines)
+    replies
 }
 
 // A block that is open when the read fails is run, so that each complete line has its reply.
 #[test]
-fn failed_reads(rt: HostRuntime) -> Result<(), Fail> {
+fn failed_and_short_reads(rt: HostRuntime) {
     for (choice, script, replies) in EXAMPLES {
         for given in 0..=script.len() {
             let rest = &script[..given];
-            let wanted = first_lines(rt.alloc(), replies, count_lines(rest))?;
+            let text = replies_to(rest, replies);
             for at_once in [1, 64] {
                 let input = Script {
                     rest,
                     at_once,
                     fails: true,
                 };
-                let came = outcome_in(rt.alloc(), choice, input);
-                has_outcome(&rt, rest, came, Err(Fault::Read), &wanted);
+                ends(&rt, rt.alloc(), choice, input, Err(Fault::Read), text);
             }
+            // the whole script, so many bytes and one at once
+            let input = Script {
+                rest: script,
+                at_once: given.wrapping_add(1),
+                fails: false,
+            };
+            ends(&rt, rt.alloc(), choice, input, Ok(()), replies);
         }
     }
-    Ok(())
 }
 
 #[test]
-fn failed_writes(rt: HostRuntime) -> Result<(), Fail> {
+fn bad_lines_before_failed_reads(rt: HostRuntime) {
+    let line = [b'7'; 121];
+    let table: [(&[u8], bool, Result<(), Fault>, &[u8]); 5] = [
+        (&line[..120], true, Err(Fault::Read), b""),
+        (&line[..120], false, Err(Fault::BadLine(1)), b""),
+        (&line, true, Err(Fault::BadLine(1)), b""),
+        (&line, false, Err(Fault::BadLine(1)), b""),
+        (
+            b"len 0\nlen 16\nle",
+            true,
+            Err(Fault::BadLine(2)),
+            b"len 0\n",
+        ),
+    ];
+    for (rest, fails, end, text) in table {
+        for at_once in [1, 64, 121] {
+            let input = Script {
+                rest,
+                at_once,
+                fails,
+            };
+            ends(&rt, rt.alloc(), Choice::List, input, end, text);
+        }
+    }
+}
+
+#[test]
+fn failed_writes(rt: HostRuntime) {
     for (choice, script, replies) in EXAMPLES {
         for room in 0..=replies.len() {
-            let wanted = if room < replies.len() {
+            let end = if room < replies.len() {
                 Err(Fault::Write)
             } else {
                 Ok(())
             };
             for fails in [true, false] {
-                let paper = Paper {
-                    written: Vec::new(rt.alloc()),
-                    room,
-                    fails,
-                };
-                let (end, paper) = outcome_on(rt.alloc(), choice, whole(script), paper);
-                has_outcome(&rt, script, (end, paper.written), wanted, &replies[..room]);
+                let paper = blank(rt.alloc(), room, fails);
+                let came = outcome(rt.alloc(), choice, whole(script), paper);
+                has_outcome(&rt, script, came, end, &replies[..room]);
             }
         }
     }
-    Ok(())
 }

@@ -1,15 +1,15 @@
-//! A gate that takes what the stack holds, before each push of a worker.
+//! A gate that looks whether the stack is empty, before each push of a worker.
 ghost use Rattle.std.specs.Prelude.{◌≡◌};
 
 use crate::compared::same;
+use cordyceps::TransferStack;
 use cordyceps::replay::Item;
-use cordyceps::stack::{Links, Party};
-use cordyceps::{Node, TransferStack};
+use cordyceps::stack::Party;
 use replay_sharing::share::{Gate, work};
-use std::alloc::{AllocError, Global};
 use std::sync::Mutex;
 use std::sync::atomic::{AtomicU64, Ordering};
 use std::test::Fail;
+use test_support::nodes::node_of;
 
 /// A stack, and a party of its own to look at it.
 #[derive(Drop)]
@@ -19,64 +19,41 @@ struct Looker<'a> {
     ghost own: { party.table ≡ stack.now },
 }
 
-impl Looker<'_> {
-    /// Takes all that is held, and returns how many there are.
-    fn count(&mut self) -> u64 {
-        let mut count = 0u64;
-        for _node in self.stack.take_all(&mut self.party) {
-            count = count.wrapping_add(1);
-        }
-        count
-    }
-}
-
-/// A gate that takes all that is held, and adds its number to the digits that it has written.
+/// A gate that looks at the stack, and adds a digit to those that it has written: 1 where nothing is held, or 2.
 #[derive(Drop)]
-struct Counting<'a> {
+struct Looking<'a> {
     looker: Mutex<Looker<'a>>,
     digits: AtomicU64,
 }
 
-impl Gate for Counting<'_> {
+impl Gate for Looking<'_> {
     fn pass(&self, _worker: u64, _push: u64) {
         if let Some(mut looker) = self.looker.try_lock() {
+            let Looker { stack, party } = &mut *looker;
+            let digit = if stack.is_empty(party) { 1 } else { 2 };
             let digits = self.digits.load(Ordering::SeqCst);
-            let longer = digits.wrapping_mul(10).wrapping_add(looker.count());
+            let longer = digits.wrapping_mul(10).wrapping_add(digit);
             self.digits.store(longer, Ordering::SeqCst);
         }
     }
 }
 
-/// Returns a node of an item with this number and value.
-fn node(alloc: Global, number: u64) -> Result<Node<Item, Links<Item>>, AllocError> {
-    let value = Item {
-        value: number,
-        id: number,
-    };
-    match Node::new(alloc, number, value) {
-        Ok(node) => Ok(node),
-        Err(_) => Err(AllocError),
-    }
-}
-
 #[test]
 fn a_worker_passes_before_each_push(rt: HostRuntime) -> Result<(), Fail> {
-    let Ok((stack, mut party)) = TransferStack::new(rt.alloc(), 2) else {
-        panic!(rt; "no memory for a stack");
-    };
-    let handles = (node(rt.alloc(), 10)?, node(rt.alloc(), 11)?);
+    let item = Item { value: 7, id: 8 };
+    let handles = (node_of(rt.alloc(), 8, item)?, node_of(rt.alloc(), 8, item)?);
+    let (stack, mut party) = TransferStack::new(rt.alloc(), 2)?;
     let worker = stack.split(&mut party, 2);
     let looker = Looker {
         stack: &stack,
         party,
     };
-    let gate = Counting {
+    let gate = Looking {
         looker: Mutex::new(looker),
-        // so that each pass leaves a digit
-        digits: AtomicU64::new(9),
+        digits: AtomicU64::new(0),
     };
     let _worker = work(&rt, &gate, 0, &stack, worker, handles);
-    // nothing was held before the first push, and one element before the second
-    same(&rt, gate.digits.load(Ordering::SeqCst), 901);
+    // nothing was held before the first push, and something before the second
+    same(&rt, gate.digits.load(Ordering::SeqCst), 12);
     Ok(())
 }

@@ -1,31 +1,33 @@
-//! Tests of the program: whole scripts and their replies, streams that fail, lines, words, and two threads that share.
+//! Tests of the program, how its scripts end and what streams that fail make of them, of words and two threads that
+//! share, and of replays of commands on tables. The whole scripts and their replies are in `scripts`. Some replays say
+//! more where an allocation is made to fail, as `tools/refusals` does with those of its table: the rest is then run on.
 #![tactic(auto)]
 
 #[cfg(test)]
 mod adapters;
 #[cfg(test)]
+mod block_replays;
+#[cfg(test)]
 mod broken_streams;
 #[cfg(test)]
 mod compared;
 #[cfg(test)]
-mod core_scripts;
-#[cfg(test)]
-mod failures;
-#[cfg(test)]
-mod flags;
+mod ends;
 #[cfg(test)]
 mod gates;
 #[cfg(test)]
-mod list_lines;
+mod long_replays;
 #[cfg(test)]
-mod list_scripts;
-#[cfg(test)]
-mod scripts;
+mod replays;
 #[cfg(test)]
 mod shares;
 #[cfg(test)]
-mod stored;
+mod sorted_replays;
+#[cfg(test)]
+mod stack_replays;
 #[cfg(test)]
 mod streams;
+#[cfg(test)]
+mod wanted;
 #[cfg(test)]
 mod words;

@@ -1,8 +1,7 @@
 //! Two threads that share a stack, and what mode `share` writes.
 
 use crate::compared::same;
-use crate::flags::await_flag;
-use crate::streams::{Paper, has_outcome};
+use crate::streams::{Paper, blank, has_outcome};
 use cordyceps::TransferStack;
 use replay_driver::fault::Fault;
 use replay_driver::sink::ToWrite;
@@ -11,14 +10,14 @@ use std::alloc::Global;
 use std::process::Abort;
 use std::sync::Wait;
 use std::sync::atomic::{AtomicBool, AtomicU64, Ordering};
-use std::test::Fail;
 use std::thread;
 use std::thread::Threads;
+use test_support::flags::is_set_in_time;
 
 /// How often a worker looks for the other one.
 const TURNS: u64 = 10_000_000;
 
-/// How often each test's threads run.
+/// How often the workers meet.
 const ROUNDS: u64 = 10;
 
 /// What one worker did at the gate.
@@ -26,33 +25,26 @@ const ROUNDS: u64 = 10;
 struct Visit {
     /// It has come to its first push.
     came: AtomicBool,
-    /// How often it passed before each push, and with any other number.
-    passed: (AtomicU64, AtomicU64, AtomicU64),
+    /// How often it passed before its first push, before its second, and before any other.
+    passed: [AtomicU64; 3],
 }
 
 impl Visit {
     fn none() -> Visit {
         Visit {
             came: AtomicBool::new(false),
-            passed: (AtomicU64::new(0), AtomicU64::new(0), AtomicU64::new(0)),
+            passed: [AtomicU64::new(0), AtomicU64::new(0), AtomicU64::new(0)],
         }
     }
 
-    fn count(&self, push: u64) {
-        let (first, second, other) = (&self.passed.0, &self.passed.1, &self.passed.2);
-        let passed = match push {
-            0 => first,
-            1 => second,
-            _ => other,
-        };
-        passed.fetch_add(1, Ordering::SeqCst);
-    }
-
-    /// Returns whether it passed once before each of the two pushes, and no more.
-    fn is_complete(&self) -> bool {
-        self.passed.0.load(Ordering::SeqCst) == 1
-            && self.passed.1.load(Ordering::SeqCst) == 1
-            && self.passed.2.load(Ordering::SeqCst) == 0
+    /// Returns how often it passed, by the number of the push.
+    fn passed(&self) -> [u64; 3] {
+        let [first, second, other] = &self.passed;
+        [
+            first.load(Ordering::SeqCst),
+            second.load(Ordering::SeqCst),
+            other.load(Ordering::SeqCst),
+        ]
     }
 }
 
@@ -85,23 +77,19 @@ impl Meeting {
         }
         self.alone.store(true, Ordering::SeqCst);
     }
-
-    fn visit(&self, own: &Visit, other: &Visit, push: u64) {
-        own.count(push);
-        if push == 0 {
-            own.came.store(true, Ordering::SeqCst);
-            self.await_other(other);
-        }
-    }
 }
 
 impl Gate for Meeting {
     fn pass(&self, worker: u64, push: u64) {
-        let (first, second) = (&self.workers.0, &self.workers.1);
-        match worker {
-            0 => self.visit(first, second, push),
-            1 => self.visit(second, first, push),
-            _ => self.strange.store(true, Ordering::SeqCst),
+        let (own, other) = match worker {
+            0 => (&self.workers.0, &self.workers.1),
+            1 => (&self.workers.1, &self.workers.0),
+            _ => return self.strange.store(true, Ordering::SeqCst),
+        };
+        own.passed[push.min(2) as usize].fetch_add(1, Ordering::SeqCst);
+        if push == 0 {
+            own.came.store(true, Ordering::SeqCst);
+            self.await_other(other);
         }
     }
 }
@@ -111,103 +99,85 @@ fn shares<R: Threads + Wait + Abort + Sync, G: Gate>(rt: &R, alloc: Global, gate
     let Ok((stack, mut party)) = TransferStack::new(alloc, 4) else {
         panic!(rt; "no memory for a stack");
     };
-    match share(rt, alloc, gate, &stack, &mut party) {
-        Ok(values) => same(rt, values.as_slice(), [10, 11, 20, 21].as_slice()),
-        Err(_) => panic!(rt; "no memory"),
-    }
+    let Ok(values) = share(rt, alloc, gate, &stack, &mut party) else {
+        panic!(rt; "no memory");
+    };
+    same(rt, values.as_slice(), [10, 11, 20, 21].as_slice());
     same(rt, (party.rooms(), stack.is_empty(&mut party)), (4, true));
 }
 
-/// Shares in a thread of its own, and joins it once its flag is set.
-fn watch_shares<R: Threads + Wait + Abort + Sync, G: Gate>(rt: &R, alloc: Global, gate: &G) {
-    let flag = AtomicBool::new(false);
-    let done = &flag;
-    let work = move || share_and_tell(rt, alloc, gate, done);
-    thread::join(rt, work, || await_flag(rt, done));
+/// What is done in a thread that is watched.
+#[derive(Drop)]
+enum Work<'a> {
+    /// A stack is shared through a gate at which the workers meet.
+    Meets(&'a Meeting),
+    /// A stack is shared through an open gate.
+    Shares,
+    /// Mode `share` is run on a paper, and ends so, with this written.
+    Writes(Paper, Result<(), Fault>, &'a [u8]),
 }
 
-/// Shares, and sets the flag.
-fn share_and_tell<R: Threads + Wait + Abort + Sync, G: Gate>(
+/// Does the work, and sets the flag.
+fn work_and_tell<R: Threads + Wait + Abort + Sync>(
     rt: &R,
     alloc: Global,
-    gate: &G,
+    work: Work,
     done: &AtomicBool,
 ) {
-    shares(rt, alloc, gate);
+    match work {
+        Work::Meets(gate) => shares(rt, alloc, gate),
+        Work::Shares => shares(rt, alloc, &OpenGate),
+        Work::Writes(paper, wanted, text) => {
+            let mut output = ToWrite::new(paper);
+            let end = run_share(rt, alloc, &mut output);
+            has_outcome(rt, b"", (end, output.into_inner().written), wanted, text);
+        }
+    }
     done.store(true, Ordering::SeqCst);
 }
 
+/// Does the work in a thread of its own, and joins it once its flag is set. It fails where that never comes.
+fn watched<R: Threads + Wait + Abort + Sync>(rt: &R, alloc: Global, work: Work) {
+    let flag = AtomicBool::new(false);
+    let done = &flag;
+    let work = move || work_and_tell(rt, alloc, work, done);
+    let look = || same(rt, is_set_in_time(done), true);
+    thread::join(rt, work, look);
+}
+
 #[test]
-fn share_workers_meet(rt: HostRuntime) -> Result<(), Fail> {
+fn share_workers_meet(rt: HostRuntime) {
     for _ in 0..ROUNDS {
         let meeting = Meeting::new();
-        watch_shares(&rt, rt.alloc(), &meeting);
+        watched(&rt, rt.alloc(), Work::Meets(&meeting));
         // none waited for the other in vain, none but the two came, and each passed once before each of its pushes
         let alone = meeting.alone.load(Ordering::SeqCst);
         let strange = meeting.strange.load(Ordering::SeqCst);
-        let complete = (
-            meeting.workers.0.is_complete(),
-            meeting.workers.1.is_complete(),
-        );
-        same(
-            &rt,
-            (alone, strange, complete),
-            (false, false, (true, true)),
-        );
+        let passed = [meeting.workers.0.passed(), meeting.workers.1.passed()];
+        same(&rt, (alone, strange), (false, false));
+        same(&rt, passed, [[1, 1, 0], [1, 1, 0]]);
     }
-    Ok(())
 }
 
 #[test]
-fn shares_often(rt: HostRuntime) -> Result<(), Fail> {
+fn shares_often(rt: HostRuntime) {
     for _ in 0..50u8 {
-        watch_shares(&rt, rt.alloc(), &OpenGate);
+        watched(&rt, rt.alloc(), Work::Shares);
     }
-    Ok(())
-}
-
-/// What a shared run ends with, and what it wrote.
-type Line = (Result<(), Fault>, Vec<u8>);
-
-/// Runs mode `share` on a paper, and sets the flag.
-fn line_and_tell<R: Threads + Wait + Abort + Sync>(
-    rt: &R,
-    alloc: Global,
-    paper: Paper,
-    done: &AtomicBool,
-) -> Line {
-    let mut output = ToWrite::new(paper);
-    let end = run_share(rt, alloc, &mut output);
-    done.store(true, Ordering::SeqCst);
-    (end, output.into_inner().written)
-}
-
-/// Does so in a thread of its own, and joins it once its flag is set.
-fn watch_line<R: Threads + Wait + Abort + Sync>(rt: &R, alloc: Global, paper: Paper) -> Line {
-    let flag = AtomicBool::new(false);
-    let done = &flag;
-    let work = move || line_and_tell(rt, alloc, paper, done);
-    thread::join(rt, work, || await_flag(rt, done)).0
 }
 
 #[test]
-fn a_shared_run_writes_its_line(rt: HostRuntime) -> Result<(), Fail> {
+fn a_shared_run_writes_its_line(rt: HostRuntime) {
     let line = b"10 11 20 21\n";
     for room in 0..line.len() + 1 {
+        let end = if room < line.len() {
+            Err(Fault::Write)
+        } else {
+            Ok(())
+        };
         for fails in [true, false] {
-            let paper = Paper {
-                written: Vec::new(rt.alloc()),
-                room,
-                fails,
-            };
-            let came = watch_line(&rt, rt.alloc(), paper);
-            let expected = if room < line.len() {
-                Err(Fault::Write)
-            } else {
-                Ok(())
-            };
-            has_outcome(&rt, b"", came, expected, &line[..room]);
+            let paper = blank(rt.alloc(), room, fails);
+            watched(&rt, rt.alloc(), Work::Writes(paper, end, &line[..room]));
         }
     }
-    Ok(())
 }

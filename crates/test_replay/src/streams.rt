@@ -5,7 +5,7 @@ use replay_driver::fault::Fault;
 use replay_driver::sink::ToWrite;
 use replay_driver::source::FromRead;
 use replay_sessions::modes::{Choice, Mode, compare_tens, run};
-use std::alloc::{AllocError, Global};
+use std::alloc::Global;
 use std::io::{self, ErrorKind, Read, Write};
 use std::process::Abort;
 
@@ -34,12 +34,15 @@ impl Read for Script<'_> {
 #[derive(Drop)]
 pub struct Paper {
     pub written: Vec<u8>,
+    /// How many bytes were passed to it, written or not.
+    pub offered: usize,
     pub room: usize,
     pub fails: bool,
 }
 
 impl Write for Paper {
     fn write(&mut self, bytes: &[u8]) -> io::Result<usize> {
+        self.offered = self.offered.wrapping_add(bytes.len());
         if self.room == 0 && self.fails {
             return Err(io::Error::from(ErrorKind::Other));
         }
@@ -54,18 +57,32 @@ impl Write for Paper {
     }
 }
 
+/// Returns a script that is read at once.
+pub fn whole(rest: &[u8]) -> Script<'_> {
+    Script {
+        rest,
+        at_once: usize::MAX,
+        fails: false,
+    }
+}
+
+/// Returns a paper with this room, on which nothing is written.
+pub fn blank(alloc: Global, room: usize, fails: bool) -> Paper {
+    Paper {
+        written: Vec::new(alloc),
+        offered: 0,
+        room,
+        fails,
+    }
+}
+
 /// How a run ends, and what it writes.
 pub type Outcome = (Result<(), Fault>, Vec<u8>);
 
-/// Runs a script over a writer, and returns how it ends, and the writer.
-pub fn outcome_on<W: Write>(
-    alloc: Global,
-    choice: Choice,
-    script: Script,
-    writer: W,
-) -> (Result<(), Fault>, W) {
+/// Runs a script on a paper, and returns how it ends and what it writes.
+pub fn outcome(alloc: Global, choice: Choice, script: Script, paper: Paper) -> Outcome {
     let mut input = FromRead::new(script);
-    let mut output = ToWrite::new(writer);
+    let mut output = ToWrite::new(paper);
     let mode = match choice {
         Choice::List => Mode::List,
         Choice::Stack => Mode::Stack,
@@ -73,29 +90,10 @@ pub fn outcome_on<W: Write>(
         Choice::Transfer => Mode::Transfer,
         Choice::Queue => Mode::Queue,
         // it has no scripts
-        Choice::Share => return (Ok(()), output.into_inner()),
+        Choice::Share => return (Err(Fault::Read), output.into_inner().written),
     };
     let end = run(alloc, mode, &mut input, &mut output);
-    (end, output.into_inner())
-}
-
-/// Runs a script, and returns how it ends and what it writes.
-pub fn outcome_in(alloc: Global, choice: Choice, script: Script) -> Outcome {
-    outcome_on(alloc, choice, script, Vec::new(alloc))
-}
-
-/// Runs a script in mode `list`, and returns how it ends and what it writes.
-pub fn outcome(alloc: Global, script: Script) -> Outcome {
-    outcome_in(alloc, Choice::List, script)
-}
-
-/// Returns a script that is read at once.
-pub fn whole(bytes: &[u8]) -> Script<'_> {
-    Script {
-        rest: bytes,
-        at_once: usize::MAX,
-        fails: false,
-    }
+    (end, output.into_inner().written)
 }
 
 /// Asserts how a run of these lines ended, and what it wrote.
@@ -110,39 +108,16 @@ pub fn has_outcome(
     same(rt, (lines, ended, written.as_slice()), (lines, end, text));
 }
 
-/// A script, its replies, and how it ends.
-pub type Row<'a> = (&'a [u8], &'a [u8], Result<(), Fault>);
-
-/// Runs each script, and asserts its outcome.
-pub fn compare(rt: &impl Abort, alloc: Global, choice: Choice, rows: &[Row]) {
-    for (lines, text, end) in rows {
-        has_outcome(
-            rt,
-            lines,
-            outcome_in(alloc, choice, whole(lines)),
-            *end,
-            text,
-        );
-    }
-}
-
-/// Runs each line between a good one with a reply and another, and asserts that it is bad.
-pub fn refuse(
+/// Runs a script on a paper with room for all replies, and asserts how it ends and what it writes.
+pub fn ends(
     rt: &impl Abort,
     alloc: Global,
     choice: Choice,
-    good: (&[u8], &[u8]),
-    bad: &[&[u8]],
-) -> Result<(), AllocError> {
-    let (first, reply) = good;
-    for line in bad {
-        let mut lines = Vec::new(alloc);
-        lines.extend_from_slice(first)?;
-        lines.extend_from_slice(line)?;
-        lines.extend_from_slice(b"\n")?;
-        lines.extend_from_slice(first)?;
-        let came = outcome_in(alloc, choice, whole(&lines));
-        has_outcome(rt, &lines, came, Err(Fault::BadLine(2)), reply);
-    }
-    Ok(())
+    script: Script,
+    end: Result<(), Fault>,
+    text: &[u8],
+) {
+    let rest = script.rest;
+    let came = outcome(alloc, choice, script, blank(alloc, usize::MAX, false));
+    has_outcome(rt, rest, came, end, text);
 }

@@ -6,7 +6,7 @@ use replay_sessions::modes::{Choice, USAGE, choose};
 use std::test::Fail;
 
 #[test]
-fn choices(rt: HostRuntime) -> Result<(), Fail> {
+fn choices(rt: HostRuntime) {
     let table: [(&[&str], Option<Choice>); 12] = [
         (&[], None),
         (&["list"], Some(Choice::List)),
@@ -21,19 +21,19 @@ fn choices(rt: HostRuntime) -> Result<(), Fail> {
         (&["list", "list"], None),
         (&["list", ""], None),
     ];
-    for (texts, expected) in table {
+    for (texts, wanted) in table {
         let mut words = Vec::new(rt.alloc());
         for text in texts {
-            words.push(String::from_str(rt.alloc(), text)?)?;
+            let word = String::from_str(rt.alloc(), text).expect(&rt, "memory was refused");
+            words.push(word).expect(&rt, "memory was refused");
         }
-        same(&rt, choose(&words), expected);
+        same(&rt, choose(&words), wanted);
     }
     same(
         &rt,
         USAGE,
         "usage: cordyceps_replay list|stack|sorted|transfer|queue|share",
     );
-    Ok(())
 }
 
 #[test]

@@ -1,8 +1,0 @@
-//! Comparisons of values with those that are wanted.
-use std::fmt::Debug;
-use std::process::Abort;
-
-/// Asserts that a value is the one that is wanted, and prints both where they differ.
-pub fn same<T: PartialEq + Debug + Drop>(rt: &impl Abort, came: T, wanted: T) {
-    assert_eq!(rt; came, wanted);
-}
