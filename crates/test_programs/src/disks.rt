@@ -1,6 +1,6 @@
 //! Queues of disk requests: which one comes next, what is dropped, and runs of many operations beside a plain vector.
 use crate::compared::same;
-use crate::made::{counted, no_drops};
+use crate::made::{MEMORY, counted, no_drops};
 use cordyceps_disk::laws::{Step, carry_out};
 use cordyceps_disk::queue::DiskQueue;
 use cordyceps_disk::request::Request;
@@ -181,8 +181,8 @@ fn a_request_that_was_refused_memory_is_put_in_again(rt: HostRuntime) -> Result<
 }
 
 #[test]
-fn steps_are_carried_out_in_turn(rt: HostRuntime) -> Result<(), AllocError> {
-    let steps = vec![in rt.alloc();
+fn steps_are_carried_out_in_turn(rt: HostRuntime) {
+    let steps = [
         Step::Submit(request(1, 5, 50)),
         Step::Submit(request(2, 3, 60)),
         Step::Submit(request(3, 9, 10)),
@@ -191,15 +191,15 @@ fn steps_are_carried_out_in_turn(rt: HostRuntime) -> Result<(), AllocError> {
         Step::Serve(0),
         Step::Serve(20),
         Step::Serve(20),
-    ]?;
+    ];
+    let steps = Vec::from_array(rt.alloc(), steps).expect(&rt, MEMORY);
     let mut queue = DiskQueue::new();
     let mut wanted = [4, 3, 2].iter();
-    for request in carry_out(rt.alloc(), &mut queue, steps)? {
+    for request in carry_out(rt.alloc(), &mut queue, steps).expect(&rt, MEMORY) {
         same(&rt, Some(&request.payload), wanted.next());
     }
     same(&rt, wanted.next(), None);
     next(&rt, &mut queue, 20, Some((5, 50, 1)));
-    Ok(())
 }
 
 /// A queue, and a vector that should hold the same requests, as sector, deadline and number, in the order in which

@@ -1,6 +1,6 @@
 //! A few lines with cursors, filters, owned consumers, cores and counts of steps, and what they answer.
 use crate::compared::same;
-use crate::made::{at_most, node};
+use crate::made::{MEMORY, at_most, node};
 use cordyceps::mpsc_queue::TryDequeueError;
 use cordyceps::sorted_list::Least;
 use cordyceps::{List, SortedList};
@@ -9,8 +9,7 @@ use cordyceps_uses::examples::{
     send_to_worker,
 };
 use cordyceps_uses::job::Job;
-use cordyceps_uses::tour::StackJob;
-use std::alloc::{AllocError, Global};
+use std::alloc::Global;
 use std::process::Abort;
 
 /// A list of jobs with these ranks, which are numbered from 1 on.
@@ -59,32 +58,26 @@ fn urgent_jobs_are_moved(rt: HostRuntime) {
 }
 
 #[test]
-fn a_worker_gets_its_jobs(rt: HostRuntime) -> Result<(), AllocError> {
+fn a_worker_gets_its_jobs(rt: HostRuntime) {
     let first = node(&rt, rt.alloc(), 3, Job { rank: 1 });
     let second = node(&rt, rt.alloc(), 4, Job { rank: 0 });
     let mut numbers = [3, 4].iter();
-    if let Some(batch) = send_to_worker(rt.alloc(), first, second)? {
+    if let Some(batch) = send_to_worker(rt.alloc(), first, second).expect(&rt, MEMORY) {
         for job in batch {
             same(&rt, Some(&job.id()), numbers.next());
         }
     }
     same(&rt, numbers.next(), None);
-    Ok(())
 }
 
 #[test]
 fn cores_take_steps_of_two_parties(rt: HostRuntime) {
     let (early, late) = (Job { rank: 1 }, Job { rank: 2 });
-    let taken = push_meanwhile(rt.alloc(), early, late).expect(&rt, "memory was refused");
+    let taken = push_meanwhile(rt.alloc(), early, late).expect(&rt, MEMORY);
     same(&rt, taken.as_slice(), &[early, late]);
     let found = dequeue_around_link(rt.alloc(), early).ok();
     let wanted = (Err(TryDequeueError::Inconsistent), Ok(early));
     same(&rt, found, Some(wanted));
-}
-
-/// Returns a job for sorted lists, with this rank.
-fn stack_job(rt: &impl Abort, alloc: Global, rank: u32) -> StackJob {
-    node(rt, alloc, 0, Job { rank })
 }
 
 #[test]
@@ -92,10 +85,10 @@ fn comparisons_are_counted(rt: HostRuntime) {
     let alloc = rt.alloc();
     let mut jobs: SortedList<Job, Least> = SortedList::new_min();
     let counts = [
-        insert_counted(&mut jobs, stack_job(&rt, alloc, 5)),
-        insert_counted(&mut jobs, stack_job(&rt, alloc, 3)),
-        insert_counted(&mut jobs, stack_job(&rt, alloc, 5)),
-        insert_counted(&mut jobs, stack_job(&rt, alloc, 4)),
+        insert_counted(&mut jobs, node(&rt, alloc, 0, Job { rank: 5 })),
+        insert_counted(&mut jobs, node(&rt, alloc, 0, Job { rank: 3 })),
+        insert_counted(&mut jobs, node(&rt, alloc, 0, Job { rank: 5 })),
+        insert_counted(&mut jobs, node(&rt, alloc, 0, Job { rank: 4 })),
     ];
     same(&rt, counts, [0, 2, 1, 3]);
 }

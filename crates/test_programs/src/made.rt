@@ -8,7 +8,7 @@ use test_support::counted::{Counted, Drops};
 use test_support::nodes::node_of;
 
 /// What a test says that was refused memory.
-const MEMORY: &str = "memory was refused";
+pub const MEMORY: &str = "memory was refused";
 
 /// Returns a node with this number and value.
 pub fn node<T: Drop, L: Kind>(rt: &impl Abort, alloc: Global, id: u64, value: T) -> Node<T, L>

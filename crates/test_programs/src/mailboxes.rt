@@ -1,31 +1,33 @@
 //! Messages that threads send and one receives.
-ghost use Rattle.std.specs.Prelude.{◌≡◌, IfOk};
+ghost use Rattle.std.specs.Prelude.{◌≡◌};
 ghost use Rattle.cordyceps.specs.Parties.Sending.{how_many};
 ghost use Rattle.cordyceps_uses.specs.Mailbox.{contents};
 
 use crate::compared::same;
+use crate::made::MEMORY;
 use cordyceps_uses::mailbox::deliver;
-use std::alloc::{AllocError, Global};
+use std::alloc::Global;
+use std::process::Abort;
 
 /// How often the threads run.
 const ROUNDS: u64 = 20;
 
 /// Returns three messages of each of four senders.
-fn four_lists(alloc: Global) -> Result<Vec<Vec<u64>>, AllocError>
-    ensures { IfOk result (λ lists. how_many (contents lists.items) ≡ 12) }
+fn four_lists(rt: &impl Abort, alloc: Global) -> Vec<Vec<u64>>
+    ensures { how_many (contents result.items) ≡ 12 }
 {
-    let first = Vec::from_array(alloc, [10, 11, 12])?;
-    let second = Vec::from_array(alloc, [22, 21, 20])?;
-    let third = Vec::from_array(alloc, [30, 30, 30])?;
-    let fourth = Vec::from_array(alloc, [40, 42, 41])?;
-    Ok(Vec::from_array(alloc, [first, second, third, fourth])?)
+    let first = Vec::from_array(alloc, [10, 11, 12]).expect(rt, MEMORY);
+    let second = Vec::from_array(alloc, [22, 21, 20]).expect(rt, MEMORY);
+    let third = Vec::from_array(alloc, [30, 30, 30]).expect(rt, MEMORY);
+    let fourth = Vec::from_array(alloc, [40, 42, 41]).expect(rt, MEMORY);
+    Vec::from_array(alloc, [first, second, third, fourth]).expect(rt, MEMORY)
 }
 
 #[test]
-fn each_senders_messages_come_in_order(rt: HostRuntime) -> Result<(), AllocError> {
+fn each_senders_messages_come_in_order(rt: HostRuntime) {
     for turns in 0..ROUNDS {
-        let lists = four_lists(rt.alloc())?;
-        let all = deliver(&rt, rt.alloc(), lists.as_slice(), 12, turns)?;
+        let lists = four_lists(&rt, rt.alloc());
+        let all = deliver(&rt, rt.alloc(), lists.as_slice(), 12, turns).expect(&rt, MEMORY);
         same(&rt, all.len(), 12);
         for list in lists.iter() {
             let mut left = list.iter();
@@ -37,5 +39,4 @@ fn each_senders_messages_come_in_order(rt: HostRuntime) -> Result<(), AllocError
             same(&rt, left.next(), None);
         }
     }
-    Ok(())
 }

@@ -1,10 +1,10 @@
 //! Blocks in a pool that threads share.
 use crate::compared::same;
-use crate::made::node;
+use crate::made::{MEMORY, node};
 use cordyceps_uses::pool::{Block, share};
 use freelist::Stack;
 use freelist::laws::Command;
-use std::alloc::{AllocError, Global};
+use std::alloc::Global;
 use std::process::Abort;
 
 /// How often the threads run.
@@ -29,7 +29,7 @@ fn count(counts: &mut [u64; 6], blocks: Stack<Block>) {
 }
 
 #[test]
-fn each_block_is_in_one_place(rt: HostRuntime) -> Result<(), AllocError> {
+fn each_block_is_in_one_place(rt: HostRuntime) {
     let taker = [
         Command::Split(0),
         Command::Open,
@@ -41,12 +41,12 @@ fn each_block_is_in_one_place(rt: HostRuntime) -> Result<(), AllocError> {
     let giver = [Command::PutRemote, Command::PutRemote, Command::PutRemote];
     for _ in 0..ROUNDS {
         let all = (blocks(&rt, rt.alloc(), 1, 3), blocks(&rt, rt.alloc(), 3, 6));
-        let (mine, yours, left) = share(&rt, rt.alloc(), 3, all, &taker, &giver)?;
+        let given = share(&rt, rt.alloc(), 3, all, &taker, &giver);
+        let (mine, yours, left) = given.expect(&rt, MEMORY);
         let mut counts = [0; 6];
         count(&mut counts, mine);
         count(&mut counts, yours);
         count(&mut counts, left);
         same(&rt, counts, [0, 1, 1, 1, 1, 1]);
     }
-    Ok(())
 }

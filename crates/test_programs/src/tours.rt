@@ -3,44 +3,27 @@ ghost use Rattle.cordyceps.specs.Elements.Nodes.{spots};
 ghost use Rattle.cordyceps.specs.Spots.Spots.{AreDistinct};
 
 use crate::compared::same;
-use crate::made::node;
+use crate::made::{MEMORY, node};
 use cordyceps::{List, StableList};
 use cordyceps_uses::job::Job;
 use cordyceps_uses::tour::{
-    ListJob, QueueJob, StackJob, give_back, hand_over, least_rank, next_job, rotate, send, submit,
-    take_least, take_the_second,
+    give_back, hand_over, least_rank, next_job, rotate, send, submit, take_least, take_the_second,
 };
-use std::alloc::{AllocError, Global};
+use std::alloc::Global;
 use std::process::Abort;
 use std::sync::Mutex;
 use test_support::nodes::number;
 
-/// Returns a job for stacks, whose rank is ten times its number.
-fn stack_job(rt: &impl Abort, alloc: Global, number: u32) -> StackJob {
-    let rank = number.wrapping_mul(10);
-    node(rt, alloc, number as u64, Job { rank })
-}
-
-/// Returns a job for queues.
-fn queue_job(rt: &impl Abort, alloc: Global, number: u32) -> QueueJob {
-    node(rt, alloc, number as u64, Job { rank: number })
-}
-
-/// Returns a job for lists.
-fn list_job(rt: &impl Abort, alloc: Global, number: u64, rank: u32) -> ListJob {
-    node(rt, alloc, number, Job { rank })
-}
-
 #[test]
 fn lists(rt: HostRuntime) {
-    let second = take_the_second(rt.alloc()).expect(&rt, "memory was refused");
+    let second = take_the_second(rt.alloc()).expect(&rt, MEMORY);
     let second = match second {
         Some(job) => Some((job.id(), job.get().rank)),
         None => None,
     };
     let mut jobs: List<Job> = List::new();
-    jobs.push_back(list_job(&rt, rt.alloc(), 1, 0));
-    jobs.push_back(list_job(&rt, rt.alloc(), 2, 0));
+    jobs.push_back(node(&rt, rt.alloc(), 1, Job { rank: 0 }));
+    jobs.push_back(node(&rt, rt.alloc(), 2, Job { rank: 0 }));
     rotate(&mut jobs);
     let first = number(jobs.pop_front());
     same(&rt, (second, first, jobs.len()), (Some((2, 3)), Some(2), 1));
@@ -55,7 +38,7 @@ fn ranked(rt: &impl Abort, alloc: Global, ranks: &[u32]) -> StableList<Job>
     for rank in ranks {
         number = number.wrapping_add(1);
         if jobs
-            .try_push_back(list_job(rt, alloc, number, *rank))
+            .try_push_back(node(rt, alloc, number, Job { rank: *rank }))
             .is_err()
         {
             panic!(rt; "the list is full");
@@ -90,7 +73,11 @@ fn the_least_job_comes_first(rt: HostRuntime) {
 fn a_list_behind_a_lock(rt: HostRuntime) {
     let waiting: Mutex<List<Job>> = Mutex::new(List::new());
     for number in [1, 2] {
-        let put = submit(&rt, &waiting, queue_job(&rt, rt.alloc(), number));
+        let put = submit(
+            &rt,
+            &waiting,
+            node(&rt, rt.alloc(), number, Job { rank: 0 }),
+        );
         same(&rt, put.is_ok(), true);
     }
     for wanted in [Some(1), Some(2), None] {
@@ -99,29 +86,26 @@ fn a_list_behind_a_lock(rt: HostRuntime) {
 }
 
 #[test]
-fn stacks_and_queues(rt: HostRuntime) -> Result<(), AllocError> {
-    let alloc = rt.alloc();
-    let least = least_rank(stack_job(&rt, alloc, 2), stack_job(&rt, alloc, 1));
-    same(&rt, least, Some(10));
-    let mut came = hand_over(
-        &rt,
-        alloc,
-        stack_job(&rt, alloc, 3),
-        stack_job(&rt, alloc, 4),
-    )?;
-    same(
-        &rt,
-        [number(came.pop()), number(came.pop()), number(came.pop())],
-        [Some(4), Some(3), None],
+fn stacks_and_queues(rt: HostRuntime) {
+    let (alloc, job) = (rt.alloc(), Job { rank: 10 });
+    let (first, second) = (
+        node(&rt, alloc, 2, Job { rank: 20 }),
+        node(&rt, alloc, 1, job),
     );
-    let mut numbers = [5, 6].iter();
-    if let Some(batch) = send(alloc, queue_job(&rt, alloc, 5), queue_job(&rt, alloc, 6))? {
+    same(&rt, least_rank(first, second), Some(10));
+    let (first, second) = (node(&rt, alloc, 3, job), node(&rt, alloc, 4, job));
+    let mut numbers = [4, 3, 5, 6].iter();
+    for job in hand_over(&rt, alloc, first, second).expect(&rt, MEMORY) {
+        same(&rt, Some(&job.id()), numbers.next());
+    }
+    let (first, second) = (node(&rt, alloc, 5, job), node(&rt, alloc, 6, job));
+    if let Some(batch) = send(alloc, first, second).expect(&rt, MEMORY) {
         for job in batch {
             same(&rt, Some(&job.id()), numbers.next());
         }
     }
     same(&rt, numbers.next(), None);
-    let back = give_back(alloc, stack_job(&rt, alloc, 7), stack_job(&rt, alloc, 8))?;
+    let (near, far) = (node(&rt, alloc, 7, job), node(&rt, alloc, 8, job));
+    let back = give_back(alloc, near, far).expect(&rt, MEMORY);
     same(&rt, number(back), Some(7));
-    Ok(())
 }

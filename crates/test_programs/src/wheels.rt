@@ -1,6 +1,6 @@
 //! Wheels of timers that are started, cancelled and due.
 use crate::compared::same;
-use crate::made::{counted, no_drops};
+use crate::made::{counted, no_drops, node};
 use cordyceps_uses::timer_wheel::{Timer, TimerNode, TimerWheel};
 use std::alloc::{AllocError, Global};
 use std::process::Abort;
@@ -15,10 +15,7 @@ fn timer(
     drops: &Drops,
 ) -> TimerNode<Counted> {
     let payload = counted(rt, number, drops);
-    match TimerNode::new(alloc, deadline, Timer { payload }) {
-        Ok(node) => node,
-        Err(_) => panic!(rt; "no memory for a timer"),
-    }
+    node(rt, alloc, deadline, Timer { payload })
 }
 
 /// Ends a tick, and compares the numbers of the timers that were due with those that are wanted.
