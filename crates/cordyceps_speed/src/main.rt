@@ -13,13 +13,11 @@
 //! cost.
 #![tactic(auto)]
 
-use cordyceps_speed_rows::edits::show_edits;
-use cordyceps_speed_rows::ends::show_ends;
 use cordyceps_speed_rows::fault::Fault;
 use cordyceps_speed_rows::free_lists::show_free_lists;
+use cordyceps_speed_rows::lists::show_lists;
 use cordyceps_speed_rows::queues::show_queues;
 use cordyceps_speed_rows::sorteds::show_sorteds;
-use cordyceps_speed_rows::splits::show_splits;
 use cordyceps_speed_rows::stable_sorteds::{show_by_spots, show_inserts};
 use cordyceps_speed_rows::stables::show_stables;
 use cordyceps_speed_rows::stacks::show_stacks;
@@ -27,7 +25,6 @@ use cordyceps_speed_rows::table::{Shown, Table};
 use cordyceps_speed_rows::timers::show_timers;
 use cordyceps_speed_rows::transfers::show_transfers;
 use cordyceps_speed_rows::vectors::push;
-use cordyceps_speed_rows::walks::show_walks;
 use cordyceps_speed_threads::meetings::show_meetings;
 use std::alloc::Global;
 use std::env;
@@ -111,17 +108,10 @@ fn ask(rt: &HostRuntime) -> Result<Asked, Fault> {
 
 /// Measures and shows the collections that one thread owns. Returns a number over what was seen.
 fn show_owned<R: Clock + Print>(rt: &R, alloc: Global, table: Table) -> Result<u64, Fault> {
-    let ends = show_ends(rt, alloc, table, ELEMENTS)?;
-    let walks = show_walks(rt, alloc, table, ELEMENTS)?;
-    let edits = show_edits(rt, alloc, table, ELEMENTS)?;
-    let splits = show_splits(rt, alloc, table, ELEMENTS)?;
+    let lists = show_lists(rt, alloc, table, ELEMENTS)?;
     let stables = show_stables(rt, alloc, table, ELEMENTS)?;
     let stacks = show_stacks(rt, alloc, table, ELEMENTS)?;
     let sorteds = show_sorteds(rt, alloc, table, FEW)?;
-    let lists = ends
-        .wrapping_add(walks)
-        .wrapping_add(edits)
-        .wrapping_add(splits);
     let others = stables.wrapping_add(stacks).wrapping_add(sorteds);
     Ok(lists.wrapping_add(others))
 }

@@ -1,14 +1,13 @@
 //! Blocks that go into a free list and come out, by one party that is alone: of its local part, and of what is shared.
-ghost use Rattle.std.specs.Prelude.{◌≡◌, ◌+◌, ◌<◌, ◌≤◌, suc, [], length, IfOk};
+ghost use Rattle.std.specs.Prelude.{◌≡◌, ◌+◌, ◌<◌, ◌≤◌, [], length};
 ghost use Rattle.cordyceps_shared.specs.Shares.{whole};
 
-use crate::cost::Cost;
 use crate::fault::Fault;
 use crate::nodes::{make_nodes, sum_numbers};
 use crate::stacks::{StackNode, pop_all};
 use crate::stopwatch::Stopwatch;
-use crate::table::Table;
-use crate::vectors::push;
+use crate::table::{Bench, Entry, Round, Table};
+use crate::vectors::keep;
 use cordyceps_commands::Item;
 use cordyceps_single::stack::Stack;
 use cordyceps_stack::stack::{MAX_ROOMS, Party};
@@ -16,186 +15,197 @@ use freelist::{FreeList, Local};
 use std::alloc::Global;
 use std::time::Clock;
 
-/// A free list, and the party that has all of its rooms.
-#[derive(Drop)]
-struct Alone {
-    list: FreeList<Item>,
-    party: Party<Item>,
-    ghost seated: { party.table ≡ list },
-    ghost alone: { party.share ≡ whole },
+/// Kinds of call on a free list.
+#[derive(Clone, Copy)]
+enum Calls {
+    /// A block is put back.
+    Put,
+    /// A block comes out, or its share of a call that takes all.
+    Get,
 }
 
-impl Alone {
-    /// A free list with nothing in it and so many rooms.
-    fn new(alloc: Global, rooms: usize) -> Result<Alone, Fault>
-        requires { rooms ≤ MAX_ROOMS }
-        ensures { IfOk result (λ a. a.party.rooms ≡ rooms) }
+/// At a local part.
+const OWN: [Entry<Calls>; 2] = [
+    (
+        "FreeList: put",
+        Calls::Put,
+        "by the owner, of its own blocks",
+    ),
+    (
+        "FreeList: get",
+        Calls::Get,
+        "by the owner, of its own blocks",
+    ),
+];
+
+/// At what is shared.
+const SHARED: [Entry<Calls>; 2] = [
+    ("FreeList: put_remote", Calls::Put, "by another's party"),
+    (
+        "FreeList: get, of shared blocks",
+        Calls::Get,
+        "a block's share of one that fetches all",
+    ),
+];
+
+/// A free list, the party that has all of its rooms, and blocks, for each of which there is a room.
+#[derive(Drop)]
+struct Shared {
+    count: usize,
+    list: FreeList<Item>,
+    party: Party<Item>,
+    nodes: Vec<StackNode>,
+    ghost seated: { party.table ≡ list },
+    ghost alone: { party.share ≡ whole },
+    ghost enough: { length nodes.items ≤ party.rooms },
+}
+
+impl Shared {
+    /// A free list with nothing in it and so many rooms, and as many blocks.
+    fn new(alloc: Global, count: usize) -> Result<Shared, Fault>
+        requires { count ≤ MAX_ROOMS }
     {
-        match FreeList::new(alloc, rooms) {
-            Ok((list, party)) => Ok(Alone { list, party }),
+        let nodes = make_nodes(alloc, count)?;
+        match FreeList::new(alloc, count) {
+            Ok((list, party)) => Ok(Shared {
+                count,
+                list,
+                party,
+                nodes,
+            }),
             Err(_) => Err(Fault::Memory),
         }
     }
 
-    /// Puts a block back for all. Nobody comes between.
-    fn put_remote(&mut self, node: StackNode)
-        requires { 0 < self.old.party.rooms }
-        ensures { self.old.party.rooms ≡ suc self.new.party.rooms }
+    /// Puts all of the blocks back for all, the last first. Nobody comes between.
+    fn put_all(&mut self)
+        ensures { self.new.nodes.items ≡ [] }
     {
-        if self.list.put_remote(&mut self.party, node).is_err() {
-            unreachable!()
+        while let Some(node) = self.nodes.pop() {
+            if self.list.put_remote(&mut self.party, node).is_err() {
+                unreachable!()
+            }
         }
-    }
-
-    /// Puts all of the blocks back for all, the last first.
-    fn put_all(&mut self, nodes: &mut Vec<StackNode>)
-        requires { length nodes.old.items ≤ self.old.party.rooms }
-        ensures { nodes.new.items ≡ [] }
-    {
-        while let Some(node) = nodes.pop() {
-            self.put_remote(node);
-        }
-    }
-
-    /// Has a local part get a block, which has none, and so takes all that is shared. Gives all of that.
-    fn fetch(self) -> (Alone, Stack<Item>)
-        ensures { result.0.party.rooms ≡ self.party.rooms + length result.1 }
-    {
-        let Alone { list, party } = self;
-        let mut local = list.local(party);
-        let first = local.get();
-        let (mut blocks, party) = local.finish();
-        if let Some(block) = first {
-            blocks.push(block);
-        }
-        (Alone { list, party }, blocks)
     }
 }
 
-/// What was measured of what is shared.
-#[derive(Clone, Copy)]
-struct Shared {
-    /// A `put_remote`.
-    put_remote: Cost,
-    /// A block's share of a `get` that takes all that is shared, with the making and the end of the local part.
-    fetch: Cost,
-}
-
-impl Shared {
-    /// Puts all of the blocks back for all, and gets them.
-    fn round(
-        &mut self,
-        rt: &impl Clock,
-        mut alone: Alone,
-        nodes: &mut Vec<StackNode>,
-    ) -> Result<Alone, Fault>
-        requires { length nodes.old.items ≤ alone.party.rooms }
-        ensures { IfOk result (λ a. length nodes.new.items ≤ a.party.rooms) }
-    {
-        let count = nodes.len();
-        let mut stopwatch = Stopwatch::start(rt);
-        alone.put_all(nodes);
-        self.put_remote.add(count, stopwatch.look(rt));
-        let (alone, mut blocks) = alone.fetch();
-        self.fetch.add(count, stopwatch.look(rt));
-        pop_all(&mut blocks, nodes)?;
-        Ok(alone)
-    }
-}
-
-/// Measures so many rounds of what is shared.
-fn measure_shared(
-    rt: &impl Clock,
-    alloc: Global,
-    nodes: &mut Vec<StackNode>,
-    rounds: u32,
-) -> Result<Shared, Fault>
-    requires { length nodes.old.items ≤ MAX_ROOMS }
+/// Has a local part get a block, which has none, and so takes all that is shared. Gives all of that.
+fn fetch(list: &FreeList<Item>, party: Party<Item>) -> (Party<Item>, Stack<Item>)
+    requires { party.table ≡ list.now }
+    ensures seat { (result.0.table ≡ party.table) × (result.0.share ≡ party.share) }
+    ensures rooms { result.0.rooms ≡ party.rooms + length result.1 }
 {
-    let mut alone = Alone::new(alloc, nodes.len())?;
-    let mut shared = Shared {
-        put_remote: Cost::none(),
-        fetch: Cost::none(),
-    };
-    for _ in 0..rounds {
-        alone = shared.round(rt, alone, nodes)?;
+    let mut local = list.local(party);
+    let first = local.get();
+    let (mut blocks, party) = local.finish();
+    if let Some(block) = first {
+        blocks.push(block);
     }
-    Ok(shared)
+    (party, blocks)
 }
 
-/// What was measured of a local part.
-#[derive(Clone, Copy)]
-struct Own {
-    /// A `put`.
-    put: Cost,
-    /// A `get`.
-    get: Cost,
-}
-
-impl Own {
-    /// Puts all of the blocks into a local part, and gets them.
-    fn round(
-        &mut self,
-        rt: &impl Clock,
-        local: &mut Local<'_, Item>,
-        nodes: &mut Vec<StackNode>,
-    ) -> Result<(), Fault> {
-        let count = nodes.len();
+impl Bench<Calls> for Shared {
+    /// A get has the making and the end of the local part with it.
+    fn round(self, rt: &impl Clock, calls: Calls) -> Result<(Shared, Round), Fault> {
+        let mut shared = self;
+        let among = shared.nodes.len();
         let mut stopwatch = Stopwatch::start(rt);
-        put_all(local, nodes);
-        self.put.add(count, stopwatch.look(rt));
-        get_all(local, nodes, count)?;
-        self.get.add(count, stopwatch.look(rt));
-        Ok(())
+        shared.put_all();
+        let put = stopwatch.look(rt);
+        let Shared {
+            count,
+            list,
+            party,
+            mut nodes,
+        } = shared;
+        let (party, mut blocks) = fetch(&list, party);
+        let got = stopwatch.look(rt);
+        pop_all(&mut blocks, &mut nodes);
+        let time = match calls {
+            Calls::Put => put,
+            Calls::Get => got,
+        };
+        let shared = Shared {
+            count,
+            list,
+            party,
+            nodes,
+        };
+        Ok((shared, (among, time)))
+    }
+
+    fn seen(&mut self, calls: Calls) -> Result<u64, Fault> {
+        match calls {
+            Calls::Put => Ok(0),
+            Calls::Get => sum_numbers(self.nodes.as_slice(), self.count),
+        }
     }
 }
 
-/// Puts all of the blocks into a local part, the last first.
-fn put_all(local: &mut Local<'_, Item>, nodes: &mut Vec<StackNode>)
-    ensures { nodes.new.items ≡ [] }
-{
-    while let Some(node) = nodes.pop() {
-        local.put(node);
-    }
-}
-
-/// Gets so many blocks out of a local part.
-fn get_all(
-    local: &mut Local<'_, Item>,
-    nodes: &mut Vec<StackNode>,
+/// A local part, and blocks.
+#[derive(Drop)]
+struct Own<'a> {
     count: usize,
-) -> Result<(), Fault> {
-    for _ in 0..count {
-        if let Some(node) = local.get() {
-            push(nodes, node)?;
-        }
-    }
-    Ok(())
+    local: Local<'a, Item>,
+    nodes: Vec<StackNode>,
 }
 
-/// Measures so many rounds of a local part.
-fn measure_local(
-    rt: &impl Clock,
+impl<'a> Bench<Calls> for Own<'a> {
+    fn round(self, rt: &impl Clock, calls: Calls) -> Result<(Own<'a>, Round), Fault> {
+        let mut own = self;
+        let count = own.nodes.len();
+        let mut stopwatch = Stopwatch::start(rt);
+        while let Some(node) = own.nodes.pop() {
+            own.local.put(node);
+        }
+        let put = stopwatch.look(rt);
+        for _ in 0..count {
+            if let Some(node) = own.local.get() {
+                keep(&mut own.nodes, node);
+            }
+        }
+        let got = stopwatch.look(rt);
+        let time = match calls {
+            Calls::Put => put,
+            Calls::Get => got,
+        };
+        Ok((own, (count, time)))
+    }
+
+    fn seen(&mut self, calls: Calls) -> Result<u64, Fault> {
+        match calls {
+            Calls::Put => Ok(0),
+            Calls::Get => sum_numbers(self.nodes.as_slice(), self.count),
+        }
+    }
+}
+
+/// Measures a local part with so many blocks.
+fn show_own<R: Clock + Print>(
+    rt: &R,
     alloc: Global,
-    nodes: &mut Vec<StackNode>,
-    rounds: u32,
-) -> Result<Own, Fault> {
+    table: Table,
+    count: usize,
+) -> Result<u64, Fault> {
+    let nodes = make_nodes(alloc, count)?;
     let Ok((list, party)) = FreeList::new(alloc, 0) else {
         return Err(Fault::Memory);
     };
-    let mut local = list.local(party);
-    let mut own = Own {
-        put: Cost::none(),
-        get: Cost::none(),
-    };
-    for _ in 0..rounds {
-        own.round(rt, &mut local, nodes)?;
-    }
-    Ok(own)
+    let local = list.local(party);
+    table.measure(
+        rt,
+        Own {
+            count,
+            local,
+            nodes,
+        },
+        count,
+        &OWN,
+    )
 }
 
 /// Measures free lists, and shows them: a local part with so many blocks, and what is shared, with so many others.
-/// Answers the sum of the numbers of what came out last.
+/// Returns the sum of the numbers of what came out last.
 pub fn show_free_lists<R: Clock + Print>(
     rt: &R,
     alloc: Global,
@@ -205,29 +215,8 @@ pub fn show_free_lists<R: Clock + Print>(
 ) -> Result<u64, Fault>
     requires { shared ≤ MAX_ROOMS }
 {
-    let mut nodes = make_nodes(alloc, local)?;
-    let own = measure_local(rt, alloc, &mut nodes, table.rounds)?;
-    let mut blocks = make_nodes(alloc, shared)?;
-    let others = measure_shared(rt, alloc, &mut blocks, table.rounds)?;
-    let what = "by the owner, of its own blocks";
-    let rows = [
-        ("FreeList: put", own.put, what),
-        ("FreeList: get", own.get, what),
-    ];
-    table.rows(rt, local, &rows)?;
-    let rows = [
-        (
-            "FreeList: put_remote",
-            others.put_remote,
-            "by another's party",
-        ),
-        (
-            "FreeList: get, of shared blocks",
-            others.fetch,
-            "a block's share of one that fetches all",
-        ),
-    ];
-    table.rows(rt, shared, &rows)?;
-    let sum = sum_numbers(nodes.as_slice());
-    Ok(sum.wrapping_add(sum_numbers(blocks.as_slice())))
+    let own = show_own(rt, alloc, table, local)?;
+    let others = Shared::new(alloc, shared)?;
+    let others = table.measure(rt, others, shared, &SHARED)?;
+    Ok(own.wrapping_add(others))
 }

@@ -7,6 +7,7 @@ pub mod edits;
 pub mod ends;
 pub mod fault;
 pub mod free_lists;
+pub mod lists;
 pub mod nodes;
 pub mod numbered;
 pub mod queues;

@@ -1,8 +1,8 @@
 //! The nodes that are measured, which are made beforehand, and the order in which they are met.
-ghost use Rattle.std.specs.Prelude.{◌≡◌, ◌+◌, [], length, IfOk, OnOk};
+ghost use Rattle.std.specs.Prelude.{◌≡◌, ◌+◌, [], length, IfOk};
 
 use crate::fault::Fault;
-use crate::vectors::{push, with_room};
+use crate::vectors::{keep, push, with_room};
 use cordyceps_base::list::Links;
 use cordyceps_base::node::{Kind, Node};
 use cordyceps_commands::Item;
@@ -40,27 +40,24 @@ pub fn make_nodes<L: Kind>(alloc: Global, count: usize) -> Result<Vec<Node<Item,
     Ok(nodes)
 }
 
-/// The sum of the nodes' numbers, modulo 2 to the 64.
-pub fn sum_numbers<L: Kind>(nodes: &[Node<Item, L>]) -> u64 {
+/// The sum of the numbers of so many nodes, modulo 2 to the 64. Fails where one is missing: it was dropped, since
+/// memory was refused.
+pub fn sum_numbers<L: Kind>(nodes: &[Node<Item, L>], count: usize) -> Result<u64, Fault> {
+    if nodes.len() != count {
+        return Err(Fault::Memory);
+    }
     let mut sum: u64 = 0;
     for node in nodes {
         sum = sum.wrapping_add(node.id());
     }
-    sum
+    Ok(sum)
 }
 
 /// Moves all nodes to the end of another vector, the last first.
-pub fn move_all<L: Kind>(
-    from: &mut Vec<Node<Item, L>>,
-    to: &mut Vec<Node<Item, L>>,
-) -> Result<(), Fault>
-    ensures { OnOk result ((from.new.items ≡ [])
-        × (length to.new.items ≡ length to.old.items + length from.old.items)) }
-{
+pub fn move_all<L: Kind>(from: &mut Vec<Node<Item, L>>, to: &mut Vec<Node<Item, L>>) {
     while let Some(node) = from.pop() {
-        push(to, node)?;
+        keep(to, node);
     }
-    Ok(())
 }
 
 /// Puts the items into another order, the same each time.

@@ -1,66 +1,80 @@
 //! Elements that go into a queue that threads share, and come out alone or in batches, by one party that is alone.
-ghost use Rattle.std.specs.Prelude.{◌≡◌, ◌+◌, ◌<◌, ◌≤◌, [], length, sum_by, IfOk, OnOk};
+ghost use Rattle.std.specs.Prelude.{◌≡◌, ◌+◌, ◌<◌, ◌≤◌, [], length, sum_by};
 ghost use Rattle.cordyceps_shared.specs.Shares.{whole};
 
-use crate::cost::Cost;
 use crate::fault::Fault;
 use crate::nodes::{make_nodes, sum_numbers};
 use crate::stopwatch::Stopwatch;
-use crate::table::Table;
-use crate::vectors::{push, with_room};
+use crate::table::{Bench, Entry, Round, Table};
+use crate::vectors::{keep, with_room};
 use cordyceps_base::mpsc_queue::Links;
 use cordyceps_base::node::Node;
 use cordyceps_commands::Item;
 use cordyceps_queue::mpsc_queue::{Batch, Consumer, MAX_ROOMS, MpscQueue, Party};
 use std::alloc::Global;
-use std::time::Clock;
+use std::time::{Clock, Duration};
 
 /// What goes into the queue, and comes out.
 type QueueNode = Node<Item, Links<Item>>;
 
-/// A queue that threads share, and the party that has all of its rooms.
-#[derive(Drop)]
-struct Alone {
-    queue: MpscQueue<Item>,
-    party: Party<Item>,
-    ghost seated: { party.table ≡ queue.table },
-    ghost alone: { party.share ≡ whole },
+/// Kinds of call on a queue that threads share.
+#[derive(Clone, Copy)]
+enum Calls {
+    /// An `enqueue`.
+    Enqueue,
+    /// A `try_dequeue` of the queue, which takes the right to dequeue and gives it back.
+    Dequeue,
+    /// A `try_dequeue` of a consumer.
+    Consume,
+    /// Batches of at most 64.
+    TakeFew,
+    /// Batches of at most 1024.
+    TakeMany,
 }
 
-impl Alone {
-    /// An empty queue with so many rooms.
-    fn new(alloc: Global, rooms: usize) -> Result<Alone, Fault>
-        requires { rooms ≤ MAX_ROOMS }
-        ensures { IfOk result (λ a. a.party.rooms ≡ rooms) }
-    {
-        match MpscQueue::new(alloc, rooms) {
-            Ok((queue, party)) => Ok(Alone { queue, party }),
-            Err(_) => Err(Fault::Memory),
-        }
-    }
+/// One element at a time.
+const SINGLES: [Entry<Calls>; 3] = [
+    ("MpscQueue: enqueue", Calls::Enqueue, "by a party"),
+    (
+        "MpscQueue: try_dequeue",
+        Calls::Dequeue,
+        "by a party; the right taken and given back",
+    ),
+    (
+        "Consumer: try_dequeue",
+        Calls::Consume,
+        "with the right in hand",
+    ),
+];
 
-    /// Puts all of the elements in, the last first.
-    fn enqueue_all(&mut self, nodes: &mut Vec<QueueNode>)
-        requires { length nodes.old.items ≤ self.old.party.rooms }
-        ensures { nodes.new.items ≡ [] }
-    {
-        while let Some(node) = nodes.pop() {
-            self.queue.enqueue(&mut self.party, node);
-        }
-    }
+/// In batches.
+const FEW: [Entry<Calls>; 1] = [(
+    "Consumer: take_linked(64)",
+    Calls::TakeFew,
+    "an element's share, the batch not gone through",
+)];
 
-    /// Tries so many times to take an element out, by a call of the queue each.
-    fn dequeue_all(&mut self, nodes: &mut Vec<QueueNode>, tries: usize) -> Result<(), Fault>
-        requires { length nodes.old.items ≤ self.old.party.rooms }
-        ensures { OnOk result (length nodes.new.items ≤ self.new.party.rooms) }
-    {
-        for _ in 0..tries {
-            if let Ok(node) = self.queue.try_dequeue(&mut self.party) {
-                push(nodes, node)?;
-            }
-        }
-        Ok(())
-    }
+/// In one batch.
+const MANY: [Entry<Calls>; 1] = [(
+    "Consumer: take_linked(1024)",
+    Calls::TakeMany,
+    "an element's share, the batch not gone through",
+)];
+
+/// What is measured with a queue of its own.
+const GROUPS: [&[Entry<Calls>]; 3] = [&SINGLES, &FEW, &MANY];
+
+/// A queue that threads share, the party that has all of its rooms, and elements, for each of which there is a room.
+#[derive(Drop)]
+struct Queues {
+    alloc: Global,
+    count: usize,
+    queue: MpscQueue<Item>,
+    party: Party<Item>,
+    nodes: Vec<QueueNode>,
+    ghost seated: { party.table ≡ queue.table },
+    ghost alone: { party.share ≡ whole },
+    ghost enough: { length nodes.items ≤ party.rooms },
 }
 
 /// The consumer of a queue from which nobody else dequeues.
@@ -76,21 +90,16 @@ fn consumer_of(queue: &MpscQueue<Item>, party: Party<Item>) -> Consumer<'_, Item
 }
 
 /// Tries so many times to take an element out, by a call of the consumer each.
-fn consume_all(
-    consumer: &mut Consumer<'_, Item>,
-    nodes: &mut Vec<QueueNode>,
-    tries: usize,
-) -> Result<(), Fault>
+fn consume_all(consumer: &mut Consumer<'_, Item>, nodes: &mut Vec<QueueNode>, tries: usize)
     requires { length nodes.old.items ≤ consumer.old.rooms }
     ensures seat { (consumer.new.table ≡ consumer.old.table) × (consumer.new.share ≡ consumer.old.share) }
-    ensures rooms { OnOk result (length nodes.new.items ≤ consumer.new.rooms) }
+    ensures rooms { length nodes.new.items ≤ consumer.new.rooms }
 {
     for _ in 0..tries {
         if let Ok(node) = consumer.try_dequeue() {
-            push(nodes, node)?;
+            keep(nodes, node);
         }
     }
-    Ok(())
 }
 
 /// Takes so many batches out, of at most so many elements each.
@@ -99,194 +108,171 @@ fn take_batches(
     batches: &mut Vec<Batch<Item>>,
     count: usize,
     most: usize,
-) -> Result<(), Fault>
+)
     requires rooms { sum_by length batches.old.items ≤ consumer.old.rooms }
     requires some { 1 ≤ most }
     ensures seat { (consumer.new.table ≡ consumer.old.table) × (consumer.new.share ≡ consumer.old.share) }
-    ensures rooms { OnOk result (sum_by length batches.new.items ≤ consumer.new.rooms) }
+    ensures rooms { sum_by length batches.new.items ≤ consumer.new.rooms }
 {
     for _ in 0..count {
         if let Ok(batch) = consumer.take_linked(most) {
-            push(batches, batch)?;
+            drop(batches.push(batch));
         }
     }
-    Ok(())
 }
 
 /// Puts a batch's elements after the others.
-fn unpack(batch: Batch<Item>, nodes: &mut Vec<QueueNode>) -> Result<(), Fault>
-    ensures { OnOk result (length nodes.new.items ≡ length nodes.old.items + length batch) }
+fn unpack(batch: Batch<Item>, nodes: &mut Vec<QueueNode>)
+    ensures { length nodes.new.items ≤ length nodes.old.items + length batch }
 {
     let mut batch = batch;
     while let Some(node) = batch.next() {
-        push(nodes, node)?;
+        keep(nodes, node);
     }
-    Ok(())
 }
 
-/// Puts the elements of all batches after the others, and leaves no batch.
-fn unpack_all(batches: &mut Vec<Batch<Item>>, nodes: &mut Vec<QueueNode>) -> Result<(), Fault>
-    ensures empty { OnOk result (batches.new.items ≡ []) }
-    ensures length { OnOk result (length nodes.new.items ≡ length nodes.old.items + sum_by length batches.old.items) }
+/// Puts the elements of all batches after the others.
+fn unpack_all(mut batches: Vec<Batch<Item>>, nodes: &mut Vec<QueueNode>)
+    ensures { length nodes.new.items ≤ length nodes.old.items + sum_by length batches.items }
 {
     while let Some(batch) = batches.pop() {
-        unpack(batch, nodes)?;
+        unpack(batch, nodes);
     }
-    Ok(())
-}
-
-/// What was measured of a queue that threads share.
-#[derive(Clone, Copy)]
-struct Queues {
-    /// An `enqueue`.
-    enqueue: Cost,
-    /// A `try_dequeue` of the queue, which takes the right to dequeue and gives it back.
-    dequeue: Cost,
-    /// A `try_dequeue` of a consumer.
-    consume: Cost,
 }
 
 impl Queues {
-    /// Puts all of the elements in and takes them out, by calls of the queue.
-    fn queue_round(
-        &mut self,
-        rt: &impl Clock,
-        alone: &mut Alone,
-        nodes: &mut Vec<QueueNode>,
-    ) -> Result<(), Fault>
-        requires { length nodes.old.items ≤ alone.old.party.rooms }
-        ensures { OnOk result (length nodes.new.items ≤ alone.new.party.rooms) }
+    /// An empty queue with so many rooms, and as many elements.
+    fn new(alloc: Global, count: usize) -> Result<Queues, Fault>
+        requires { count ≤ MAX_ROOMS }
     {
-        let count = nodes.len();
-        let mut stopwatch = Stopwatch::start(rt);
-        alone.enqueue_all(nodes);
-        self.enqueue.add(count, stopwatch.look(rt));
-        alone.dequeue_all(nodes, count)?;
-        self.dequeue.add(count, stopwatch.look(rt));
-        Ok(())
+        let nodes = make_nodes(alloc, count)?;
+        match MpscQueue::new(alloc, count) {
+            Ok((queue, party)) => Ok(Queues {
+                alloc,
+                count,
+                queue,
+                party,
+                nodes,
+            }),
+            Err(_) => Err(Fault::Memory),
+        }
     }
 
-    /// Puts all of the elements in, and takes them out by a consumer. Only the tries are measured.
-    fn consumer_round(
-        &mut self,
-        rt: &impl Clock,
-        mut alone: Alone,
-        nodes: &mut Vec<QueueNode>,
-    ) -> Result<Alone, Fault>
-        requires { length nodes.old.items ≤ alone.party.rooms }
-        ensures { IfOk result (λ a. length nodes.new.items ≤ a.party.rooms) }
+    /// Puts all of the elements in, the last first.
+    fn enqueue_all(&mut self)
+        ensures { self.new.nodes.items ≡ [] }
     {
-        let count = nodes.len();
-        alone.enqueue_all(nodes);
-        let Alone { queue, party } = alone;
+        while let Some(node) = self.nodes.pop() {
+            self.queue.enqueue(&mut self.party, node);
+        }
+    }
+
+    /// Tries so many times to take an element out, by a call of the queue each.
+    fn dequeue_all(&mut self, tries: usize) {
+        for _ in 0..tries {
+            if let Ok(node) = self.queue.try_dequeue(&mut self.party) {
+                keep(&mut self.nodes, node);
+            }
+        }
+    }
+
+    /// Takes all elements out by a consumer, one by one. Only the tries are measured.
+    fn consume(self, rt: &impl Clock, tries: usize) -> (Queues, Duration) {
+        let Queues {
+            alloc,
+            count,
+            queue,
+            party,
+            mut nodes,
+        } = self;
         let mut consumer = consumer_of(&queue, party);
         let mut stopwatch = Stopwatch::start(rt);
-        consume_all(&mut consumer, nodes, count)?;
-        self.consume.add(count, stopwatch.look(rt));
+        consume_all(&mut consumer, &mut nodes, tries);
+        let time = stopwatch.look(rt);
         let party = consumer.release();
-        Ok(Alone { queue, party })
+        (
+            Queues {
+                alloc,
+                count,
+                queue,
+                party,
+                nodes,
+            },
+            time,
+        )
+    }
+
+    /// Takes elements out in batches of at most so many, where none wait. Only the takings are measured.
+    fn take(self, rt: &impl Clock, tries: usize, most: usize) -> Result<(Queues, Duration), Fault>
+        requires empty { self.nodes.items ≡ [] }
+        requires some { 1 ≤ most }
+    {
+        let Queues {
+            alloc,
+            count,
+            queue,
+            party,
+            mut nodes,
+        } = self;
+        let tries = tries.div_ceil(most);
+        let mut batches = with_room(alloc, tries)?;
+        let mut consumer = consumer_of(&queue, party);
+        let mut stopwatch = Stopwatch::start(rt);
+        take_batches(&mut consumer, &mut batches, tries, most);
+        let time = stopwatch.look(rt);
+        let party = consumer.release();
+        unpack_all(batches, &mut nodes);
+        Ok((
+            Queues {
+                alloc,
+                count,
+                queue,
+                party,
+                nodes,
+            },
+            time,
+        ))
     }
 }
 
-/// Measures so many rounds of elements that come out one by one.
-fn measure_singles(
-    rt: &impl Clock,
-    alloc: Global,
-    nodes: &mut Vec<QueueNode>,
-    rounds: u32,
-) -> Result<Queues, Fault>
-    requires { length nodes.old.items ≤ MAX_ROOMS }
-{
-    let mut alone = Alone::new(alloc, nodes.len())?;
-    let mut queues = Queues {
-        enqueue: Cost::none(),
-        dequeue: Cost::none(),
-        consume: Cost::none(),
-    };
-    for _ in 0..rounds {
-        queues.queue_round(rt, &mut alone, nodes)?;
-        alone = queues.consumer_round(rt, alone, nodes)?;
+impl Bench<Calls> for Queues {
+    fn round(self, rt: &impl Clock, calls: Calls) -> Result<(Queues, Round), Fault> {
+        let mut queues = self;
+        let count = queues.nodes.len();
+        let mut stopwatch = Stopwatch::start(rt);
+        queues.enqueue_all();
+        let enqueued = stopwatch.look(rt);
+        match calls {
+            Calls::Consume => {
+                let (queues, time) = queues.consume(rt, count);
+                Ok((queues, (count, time)))
+            }
+            Calls::TakeFew => {
+                let (queues, time) = queues.take(rt, count, 64)?;
+                Ok((queues, (count, time)))
+            }
+            Calls::TakeMany => {
+                let (queues, time) = queues.take(rt, count, 1024)?;
+                Ok((queues, (count, time)))
+            }
+            Calls::Enqueue => {
+                queues.dequeue_all(count);
+                Ok((queues, (count, enqueued)))
+            }
+            Calls::Dequeue => {
+                stopwatch.look(rt);
+                queues.dequeue_all(count);
+                Ok((queues, (count, stopwatch.look(rt))))
+            }
+        }
     }
-    Ok(queues)
-}
 
-/// Puts all of the elements in, and takes them out in batches of at most so many. Only the takings are measured.
-fn batch_round(
-    rt: &impl Clock,
-    mut alone: Alone,
-    nodes: &mut Vec<QueueNode>,
-    batches: &mut Vec<Batch<Item>>,
-    most: usize,
-    cost: &mut Cost,
-) -> Result<Alone, Fault>
-    requires rooms { length nodes.old.items ≤ alone.party.rooms }
-    requires empty { batches.old.items ≡ [] }
-    requires some { 1 ≤ most }
-    ensures rooms { IfOk result (λ a. length nodes.new.items ≤ a.party.rooms) }
-    ensures empty { OnOk result (batches.new.items ≡ []) }
-{
-    let count = nodes.len();
-    alone.enqueue_all(nodes);
-    let Alone { queue, party } = alone;
-    let mut consumer = consumer_of(&queue, party);
-    let mut stopwatch = Stopwatch::start(rt);
-    take_batches(&mut consumer, batches, count.div_ceil(most), most)?;
-    cost.add(count, stopwatch.look(rt));
-    let party = consumer.release();
-    unpack_all(batches, nodes)?;
-    Ok(Alone { queue, party })
-}
-
-/// Measures so many rounds of elements that come out in batches of at most so many.
-fn measure_batches(
-    rt: &impl Clock,
-    alloc: Global,
-    nodes: &mut Vec<QueueNode>,
-    most: usize,
-    rounds: u32,
-) -> Result<Cost, Fault>
-    requires rooms { length nodes.old.items ≤ MAX_ROOMS }
-    requires some { 1 ≤ most }
-{
-    let mut alone = Alone::new(alloc, nodes.len())?;
-    let count = nodes.len().div_ceil(most);
-    let mut batches = with_room(alloc, count)?;
-    let mut cost = Cost::none();
-    for _ in 0..rounds {
-        alone = batch_round(rt, alone, nodes, &mut batches, most, &mut cost)?;
+    fn seen(&mut self, calls: Calls) -> Result<u64, Fault> {
+        match calls {
+            Calls::Consume | Calls::TakeMany => sum_numbers(self.nodes.as_slice(), self.count),
+            _ => Ok(0),
+        }
     }
-    Ok(cost)
-}
-
-/// Measures calls one by one, with so many elements. Returns the sum of the numbers of what came out last too.
-fn singles_of(
-    rt: &impl Clock,
-    alloc: Global,
-    elements: usize,
-    rounds: u32,
-) -> Result<(Queues, u64), Fault>
-    requires { elements ≤ MAX_ROOMS }
-{
-    let mut nodes = make_nodes(alloc, elements)?;
-    let queues = measure_singles(rt, alloc, &mut nodes, rounds)?;
-    Ok((queues, sum_numbers(nodes.as_slice())))
-}
-
-/// Measures batches of at most so many, with so many elements. Returns the sum of the numbers of what came out last,
-/// too.
-fn batches_of(
-    rt: &impl Clock,
-    alloc: Global,
-    elements: usize,
-    most: usize,
-    rounds: u32,
-) -> Result<(Cost, u64), Fault>
-    requires rooms { elements ≤ MAX_ROOMS }
-    requires some { 1 ≤ most }
-{
-    let mut nodes = make_nodes(alloc, elements)?;
-    let cost = measure_batches(rt, alloc, &mut nodes, most, rounds)?;
-    Ok((cost, sum_numbers(nodes.as_slice())))
 }
 
 /// Measures queues that threads share, and shows them. Returns the sum of the numbers of what came out last.
@@ -298,25 +284,10 @@ pub fn show_queues<R: Clock + Print>(
 ) -> Result<u64, Fault>
     requires { elements ≤ MAX_ROOMS }
 {
-    let (singles, sum) = singles_of(rt, alloc, elements, table.rounds)?;
-    let (few, _) = batches_of(rt, alloc, elements, 64, table.rounds)?;
-    let (many, last) = batches_of(rt, alloc, elements, 1024, table.rounds)?;
-    let share = "an element's share, the batch not gone through";
-    let rows = [
-        ("MpscQueue: enqueue", singles.enqueue, "by a party"),
-        (
-            "MpscQueue: try_dequeue",
-            singles.dequeue,
-            "by a party; the right taken and given back",
-        ),
-        (
-            "Consumer: try_dequeue",
-            singles.consume,
-            "with the right in hand",
-        ),
-        ("Consumer: take_linked(64)", few, share),
-        ("Consumer: take_linked(1024)", many, share),
-    ];
-    table.rows(rt, elements, &rows)?;
-    Ok(sum.wrapping_add(last))
+    let mut sum: u64 = 0;
+    for kinds in GROUPS {
+        let queues = Queues::new(alloc, elements)?;
+        sum = sum.wrapping_add(table.measure(rt, queues, elements, kinds)?);
+    }
+    Ok(sum)
 }

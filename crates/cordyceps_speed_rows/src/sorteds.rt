@@ -1,13 +1,10 @@
 //! Insertions into sorted lists.
-ghost use Rattle.std.specs.Prelude.{◌≡◌, ◌+◌, ◌≤◌, [], length};
 
-use crate::cost::Cost;
 use crate::fault::Fault;
 use crate::nodes::{make_node, mix};
-use crate::stacks::StackNode;
 use crate::stopwatch::Stopwatch;
-use crate::table::Table;
-use crate::vectors::{push, with_room};
+use crate::table::{Bench, Entry, Round, Table};
+use crate::vectors::{keep, with_room};
 use cordyceps_base::node::{Kind, Node};
 use cordyceps_commands::Item;
 use cordyceps_single::sorted_list::{Least, SortedList};
@@ -46,52 +43,59 @@ pub fn elements_of<L: Kind>(
     for number in (0..count).rev() {
         let id = number as u64;
         let node = make_node(alloc, id, values.of(count, id))?;
-        push(&mut nodes, node)?;
+        keep(&mut nodes, node);
     }
     Ok(nodes)
 }
 
-/// Inserts all of the elements, the last first.
-fn insert_all(list: &mut SortedList<Item, Least>, nodes: &mut Vec<StackNode>) {
-    while let Some(node) = nodes.pop() {
-        list.insert(node);
-    }
-}
+/// What is measured.
+const KINDS: [Entry<Values>; 3] = [
+    (
+        "SortedList: insert, ascending",
+        Values::Ascending,
+        "each goes last",
+    ),
+    (
+        "SortedList: insert, descending",
+        Values::Descending,
+        "each goes first",
+    ),
+    (
+        "SortedList: insert, random",
+        Values::Random,
+        "each walks to its place",
+    ),
+];
 
-/// A number over the values in their order. They are dropped.
-fn folded(mut list: SortedList<Item, Least>) -> u64 {
-    let mut sum: u64 = 0;
-    while let Some(node) = list.pop_front() {
-        sum = sum.rotate_left(5) ^ node.get().value;
-    }
-    sum
-}
-
-/// What was measured of insertions, and a number over what the list held last.
-#[derive(Clone, Copy)]
-struct Insertions {
-    cost: Cost,
-    sum: u64,
-}
-
-/// Measures insertions of so many elements, one after another.
-fn measure_insertions(
-    rt: &impl Clock,
+/// How many elements go into a sorted list.
+#[derive(Drop)]
+struct Sorteds {
     alloc: Global,
     count: usize,
-    values: Values,
-    rounds: u32,
-) -> Result<Insertions, Fault> {
-    let (mut cost, mut sum) = (Cost::none(), 0u64);
-    for _ in 0..rounds {
+    /// A number over the values of the last list, in their order.
+    seen: u64,
+}
+
+impl Bench<Values> for Sorteds {
+    fn round(self, rt: &impl Clock, values: Values) -> Result<(Sorteds, Round), Fault> {
+        let Sorteds { alloc, count, .. } = self;
         let mut nodes = elements_of(alloc, count, values)?;
-        let mut list = SortedList::new_min();
+        let mut list: SortedList<Item, Least> = SortedList::new_min();
         let mut stopwatch = Stopwatch::start(rt);
-        insert_all(&mut list, &mut nodes);
-        cost.add(count, stopwatch.look(rt));
-        sum = folded(list);
+        while let Some(node) = nodes.pop() {
+            list.insert(node);
+        }
+        let time = stopwatch.look(rt);
+        let mut seen: u64 = 0;
+        while let Some(node) = list.pop_front() {
+            seen = seen.rotate_left(5) ^ node.get().value;
+        }
+        Ok((Sorteds { alloc, count, seen }, (count, time)))
     }
-    Ok(Insertions { cost, sum })
+
+    fn seen(&mut self, _values: Values) -> Result<u64, Fault> {
+        Ok(self.seen)
+    }
 }
 
 /// Measures insertions, and shows them. Returns a number over what the lists held.
@@ -101,22 +105,10 @@ pub fn show_sorteds<R: Clock + Print>(
     table: Table,
     elements: usize,
 ) -> Result<u64, Fault> {
-    let up = measure_insertions(rt, alloc, elements, Values::Ascending, table.rounds)?;
-    let down = measure_insertions(rt, alloc, elements, Values::Descending, table.rounds)?;
-    let any = measure_insertions(rt, alloc, elements, Values::Random, table.rounds)?;
-    let rows = [
-        ("SortedList: insert, ascending", up.cost, "each goes last"),
-        (
-            "SortedList: insert, descending",
-            down.cost,
-            "each goes first",
-        ),
-        (
-            "SortedList: insert, random",
-            any.cost,
-            "each walks to its place",
-        ),
-    ];
-    table.rows(rt, elements, &rows)?;
-    Ok(up.sum.wrapping_add(down.sum).wrapping_add(any.sum))
+    let sorteds = Sorteds {
+        alloc,
+        count: elements,
+        seen: 0,
+    };
+    table.measure(rt, sorteds, elements, &KINDS)
 }

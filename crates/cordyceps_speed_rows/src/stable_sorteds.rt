@@ -1,70 +1,85 @@
 //! Sorted lists with spots: insertions and pops, and elements that are met by their spots in an order of no kind.
 ghost use Rattle.std.specs.Prelude.{◌≡◌, ◌+◌, ◌<◌, ◌≤◌, [], length};
 
-use crate::cost::Cost;
 use crate::fault::Fault;
 use crate::nodes::{ListNode, shuffle, sum_numbers};
 use crate::numbered::Numbered;
 use crate::sorteds::{Values, elements_of};
 use crate::stables::numbers_below;
 use crate::stopwatch::Stopwatch;
-use crate::table::Table;
-use crate::vectors::{push, with_room};
+use crate::table::{Bench, Entry, Round, Table};
+use crate::vectors::{keep, with_room};
 use cordyceps_commands::Item;
 use cordyceps_single::sorted_list::Least;
 use cordyceps_stable::stable_sorted_list::StableSortedList;
 use std::alloc::Global;
-use std::time::Clock;
+use std::time::{Clock, Duration};
 
-/// Inserts all of the elements, the last first.
-fn insert_all(list: &mut StableSortedList<Item, Least>, nodes: &mut Vec<ListNode>) {
-    while let Some(node) = nodes.pop() {
-        if list.len() < usize::MAX {
-            list.insert(node);
-        }
-    }
-}
-
-/// Takes all elements out, one after another. Returns a number over their values.
-fn pop_all(
-    list: &mut StableSortedList<Item, Least>,
-    nodes: &mut Vec<ListNode>,
-) -> Result<u64, Fault> {
-    let mut sum: u64 = 0;
-    while let Some(node) = list.pop_front() {
-        sum = sum.rotate_left(5) ^ node.get().value;
-        push(nodes, node)?;
-    }
-    Ok(sum)
-}
-
-/// What was measured of insertions and of pops, and a number over what the list held last.
+/// Kinds of call on a sorted list with spots.
 #[derive(Clone, Copy)]
-struct Insertions {
-    insert: Cost,
-    pop: Cost,
-    sum: u64,
+enum Calls {
+    /// Insertions of elements with such values.
+    Insert(Values),
+    /// Pops, where the values are as good as drawn.
+    Pop,
+    /// Updates by spots, to the values of numbers that rise.
+    Update,
+    /// Removals by spots.
+    Remove,
 }
 
-/// Measures insertions of so many elements, one after another, and their pops.
-fn measure_insertions(
-    rt: &impl Clock,
+/// Where insertions walk to their places.
+const INSERTS: [Entry<Calls>; 5] = [
+    (
+        "StableSortedList: insert, ascending",
+        Calls::Insert(Values::Ascending),
+        "each goes last",
+    ),
+    (
+        "StableSortedList: insert, descending",
+        Calls::Insert(Values::Descending),
+        "each walks past all",
+    ),
+    (
+        "StableSortedList: insert, random",
+        Calls::Insert(Values::Random),
+        "each walks to its place, from the back",
+    ),
+    (
+        "StableSortedList: update, random",
+        Calls::Update,
+        "the same; the spots, in a Vec, in no order",
+    ),
+    ("StableSortedList: pop_front", Calls::Pop, "a pop"),
+];
+
+/// By spots, without a walk.
+const BY_SPOTS: [Entry<Calls>; 2] = [
+    (
+        "StableSortedList: remove",
+        Calls::Remove,
+        "a removal; the spots, in a Vec, in no order",
+    ),
+    (
+        "StableSortedList: update, to the end",
+        Calls::Update,
+        "each goes last; the spots as for remove",
+    ),
+];
+
+/// A list whose elements are updated.
+#[derive(Drop)]
+struct StableSorteds {
     alloc: Global,
-    count: usize,
+    list: Numbered,
+    /// Which values updates give.
     values: Values,
-    rounds: u32,
-) -> Result<Insertions, Fault> {
-    let (mut insert, mut pop, mut sum) = (Cost::none(), Cost::none(), 0u64);
-    for _ in 0..rounds {
-        let mut nodes = elements_of(alloc, count, values)?;
-        let mut list = StableSortedList::new_min();
-        let mut stopwatch = Stopwatch::start(rt);
-        insert_all(&mut list, &mut nodes);
-        insert.add(count, stopwatch.look(rt));
-        sum = pop_all(&mut list, &mut nodes)?;
-        pop.add(count, stopwatch.look(rt));
-    }
-    Ok(Insertions { insert, pop, sum })
+    /// The number whose value the next update gives.
+    next: u64,
+    /// In which order the elements are met by their spots.
+    order: Vec<usize>,
+    /// A number over what came out last.
+    seen: u64,
 }
 
 /// A list of so many elements, whose values rise with their numbers.
@@ -77,69 +92,107 @@ fn ascending(alloc: Global, count: usize) -> Result<Numbered, Fault> {
     Ok(list)
 }
 
-/// Takes the elements with these numbers out, in this order.
-fn remove_all(
-    list: &mut Numbered,
-    numbers: &[usize],
-    nodes: &mut Vec<ListNode>,
-) -> Result<(), Fault> {
-    for number in numbers {
-        if let Some(node) = list.remove(*number) {
-            push(nodes, node)?;
+/// What insertions of elements one after another take, what their pops take, and a number over what the list held.
+fn insertions(rt: &impl Clock, mut nodes: Vec<ListNode>) -> (Duration, Duration, u64) {
+    let mut list: StableSortedList<Item, Least> = StableSortedList::new_min();
+    let mut stopwatch = Stopwatch::start(rt);
+    while let Some(node) = nodes.pop() {
+        if list.len() < usize::MAX {
+            list.insert(node);
         }
     }
-    Ok(())
-}
-
-/// Gives the elements with these numbers, in this order, the values of the numbers from `first` on.
-fn update_all(list: &mut Numbered, numbers: &[usize], values: Values, first: u64) {
-    let mut next = first;
-    for number in numbers {
-        list.update(*number, values.of(0, next));
-        next = next.wrapping_add(1);
+    let inserted = stopwatch.look(rt);
+    let mut sum: u64 = 0;
+    while let Some(node) = list.pop_front() {
+        sum = sum.rotate_left(5) ^ node.get().value;
+        keep(&mut nodes, node);
     }
+    (inserted, stopwatch.look(rt), sum)
 }
 
-/// Measures removals of all elements by their spots. Returns the sum of the numbers of what came out last, too.
-fn measure_removals(
-    rt: &impl Clock,
-    alloc: Global,
-    order: &mut Vec<usize>,
-    rounds: u32,
-) -> Result<(Cost, u64), Fault> {
-    let (mut cost, mut sum) = (Cost::none(), 0u64);
-    for _ in 0..rounds {
-        shuffle(order);
-        let mut list = ascending(alloc, order.len())?;
-        let mut nodes = with_room(alloc, order.len())?;
+impl StableSorteds {
+    /// Gives the elements the values of the numbers from the next on, in the order in which they are met.
+    fn update_all(&mut self) {
+        let mut next = self.next;
+        for number in &self.order {
+            self.list.update(*number, self.values.of(0, next));
+            next = next.wrapping_add(1);
+        }
+        self.next = next;
+    }
+
+    /// Measures removals of all elements from a list.
+    fn remove_all(&mut self, rt: &impl Clock) -> Result<Duration, Fault> {
+        let count = self.order.len();
+        let mut list = ascending(self.alloc, count)?;
+        let mut nodes = with_room(self.alloc, count)?;
         let mut stopwatch = Stopwatch::start(rt);
-        remove_all(&mut list, order.as_slice(), &mut nodes)?;
-        cost.add(order.len(), stopwatch.look(rt));
-        sum = sum_numbers(nodes.as_slice());
+        for number in &self.order {
+            if let Some(node) = list.remove(*number) {
+                keep(&mut nodes, node);
+            }
+        }
+        let time = stopwatch.look(rt);
+        self.seen = sum_numbers(nodes.as_slice(), count)?;
+        Ok(time)
     }
-    Ok((cost, sum))
 }
 
-/// Measures updates of all elements by their spots, in a list in which all were updated before.
-fn measure_updates(
-    rt: &impl Clock,
+impl Bench<Calls> for StableSorteds {
+    fn round(self, rt: &impl Clock, calls: Calls) -> Result<(StableSorteds, Round), Fault> {
+        let mut sorteds = self;
+        let count = sorteds.order.len();
+        let time = match calls {
+            Calls::Insert(values) => {
+                let (time, _, seen) = insertions(rt, elements_of(sorteds.alloc, count, values)?);
+                sorteds.seen = seen;
+                time
+            }
+            Calls::Pop => {
+                let nodes = elements_of(sorteds.alloc, count, Values::Random)?;
+                let (_, time, _) = insertions(rt, nodes);
+                time
+            }
+            Calls::Update => {
+                shuffle(&mut sorteds.order);
+                let mut stopwatch = Stopwatch::start(rt);
+                sorteds.update_all();
+                stopwatch.look(rt)
+            }
+            Calls::Remove => {
+                shuffle(&mut sorteds.order);
+                sorteds.remove_all(rt)?
+            }
+        };
+        Ok((sorteds, (count, time)))
+    }
+
+    fn seen(&mut self, _calls: Calls) -> Result<u64, Fault> {
+        let seen = self.seen;
+        self.seen = 0;
+        Ok(seen)
+    }
+}
+
+/// Measures kinds of call with so many elements and such values, and shows them.
+fn show<R: Clock + Print>(
+    rt: &R,
     alloc: Global,
-    order: &mut Vec<usize>,
+    table: Table,
+    elements: usize,
     values: Values,
-    rounds: u32,
-) -> Result<Cost, Fault> {
-    let mut list = ascending(alloc, order.len())?;
-    let mut cost = Cost::none();
-    let mut first = order.len() as u64;
-    update_all(&mut list, order.as_slice(), values, first);
-    for _ in 0..rounds {
-        first = first.wrapping_add(order.len() as u64);
-        shuffle(order);
-        let mut stopwatch = Stopwatch::start(rt);
-        update_all(&mut list, order.as_slice(), values, first);
-        cost.add(order.len(), stopwatch.look(rt));
-    }
-    Ok(cost)
+    kinds: &[Entry<Calls>],
+) -> Result<u64, Fault> {
+    let mut sorteds = StableSorteds {
+        alloc,
+        list: ascending(alloc, elements)?,
+        values,
+        next: elements as u64,
+        order: numbers_below(alloc, elements)?,
+        seen: 0,
+    };
+    sorteds.update_all();
+    table.measure(rt, sorteds, elements, kinds)
 }
 
 /// Measures insertions into sorted lists with spots, pops, and updates that walk, and shows them. Returns a number over
@@ -150,36 +203,7 @@ pub fn show_inserts<R: Clock + Print>(
     table: Table,
     elements: usize,
 ) -> Result<u64, Fault> {
-    let up = measure_insertions(rt, alloc, elements, Values::Ascending, table.rounds)?;
-    let down = measure_insertions(rt, alloc, elements, Values::Descending, table.rounds)?;
-    let any = measure_insertions(rt, alloc, elements, Values::Random, table.rounds)?;
-    let mut order = numbers_below(alloc, elements)?;
-    let moves = measure_updates(rt, alloc, &mut order, Values::Random, table.rounds)?;
-    let rows = [
-        (
-            "StableSortedList: insert, ascending",
-            up.insert,
-            "each goes last",
-        ),
-        (
-            "StableSortedList: insert, descending",
-            down.insert,
-            "each walks past all",
-        ),
-        (
-            "StableSortedList: insert, random",
-            any.insert,
-            "each walks to its place, from the back",
-        ),
-        (
-            "StableSortedList: update, random",
-            moves,
-            "the same; the spots, in a Vec, in no order",
-        ),
-        ("StableSortedList: pop_front", any.pop, "a pop"),
-    ];
-    table.rows(rt, elements, &rows)?;
-    Ok(up.sum.wrapping_add(down.sum).wrapping_add(any.sum))
+    show(rt, alloc, table, elements, Values::Random, &INSERTS)
 }
 
 /// Measures removals by spots, and updates to the last place, and shows them. Returns the sum of the numbers of what
@@ -190,21 +214,5 @@ pub fn show_by_spots<R: Clock + Print>(
     table: Table,
     elements: usize,
 ) -> Result<u64, Fault> {
-    let mut order = numbers_below(alloc, elements)?;
-    let (removals, sum) = measure_removals(rt, alloc, &mut order, table.rounds)?;
-    let moves = measure_updates(rt, alloc, &mut order, Values::Ascending, table.rounds)?;
-    let rows = [
-        (
-            "StableSortedList: remove",
-            removals,
-            "a removal; the spots, in a Vec, in no order",
-        ),
-        (
-            "StableSortedList: update, to the end",
-            moves,
-            "each goes last; the spots as for remove",
-        ),
-    ];
-    table.rows(rt, elements, &rows)?;
-    Ok(sum)
+    show(rt, alloc, table, elements, Values::Ascending, &BY_SPOTS)
 }

@@ -5,48 +5,16 @@
 ghost use Rattle.std.specs.Prelude.{ℕ, ◌≡◌, ◌+◌, ◌<◌, ◌≤◌, [], length, None, IfOk};
 ghost use Rattle.cordyceps_speed_rows.specs.Tables.{spot_of};
 
-use crate::cost::Cost;
 use crate::fault::Fault;
 use crate::nodes::{ListNode, make_nodes, shuffle, sum_numbers};
 use crate::stopwatch::Stopwatch;
-use crate::table::Table;
-use crate::vectors::{push, with_room};
+use crate::table::{Bench, Entry, Round, Table};
+use crate::vectors::{keep, push, with_room};
 use cordyceps_commands::Item;
 use cordyceps_stable::stable_list::{Spot, StableList};
 use std::alloc::Global;
 use std::marker::Model;
-use std::time::Clock;
-
-/// Puts all of the elements last, the last first.
-fn push_all(list: &mut StableList<Item>, nodes: &mut Vec<ListNode>)
-    requires { length list.old + length nodes.old.items ≤ usize.MAX }
-{
-    while let Some(node) = nodes.pop() {
-        list.push_back(node);
-    }
-}
-
-/// Takes all elements out, one after another.
-fn pop_all(list: &mut StableList<Item>, nodes: &mut Vec<ListNode>) -> Result<(), Fault> {
-    while let Some(node) = list.pop_front() {
-        push(nodes, node)?;
-    }
-    Ok(())
-}
-
-/// Measures pushes of all elements.
-fn measure_pushes(rt: &impl Clock, nodes: &mut Vec<ListNode>, rounds: u32) -> Result<Cost, Fault> {
-    let mut cost = Cost::none();
-    for _ in 0..rounds {
-        let mut list = StableList::new();
-        let calls = nodes.len();
-        let mut stopwatch = Stopwatch::start(rt);
-        push_all(&mut list, nodes);
-        cost.add(calls, stopwatch.look(rt));
-        pop_all(&mut list, nodes)?;
-    }
-    Ok(cost)
-}
+use std::time::{Clock, Duration};
 
 /// A stable list, and the table of its spots.
 #[derive(Drop)]
@@ -115,13 +83,12 @@ impl Numbered {
     }
 
     /// Takes the elements with these numbers out, in this order.
-    fn remove_all(&mut self, numbers: &[usize], nodes: &mut Vec<ListNode>) -> Result<(), Fault> {
+    fn remove_all(&mut self, numbers: &[usize], nodes: &mut Vec<ListNode>) {
         for number in numbers {
             if let Some(node) = self.remove(*number) {
-                push(nodes, node)?;
+                keep(nodes, node);
             }
         }
-        Ok(())
     }
 
     /// Puts the elements with these numbers first, one after another.
@@ -143,54 +110,106 @@ pub fn empty_table(alloc: Global, count: usize) -> Result<Vec<Option<Spot>>, Fau
     Ok(spots)
 }
 
-/// Measures removals of all elements by their spots, in an order of no kind.
-fn measure_removals(
-    rt: &impl Clock,
-    alloc: Global,
-    nodes: &mut Vec<ListNode>,
-    order: &mut Vec<usize>,
-    rounds: u32,
-) -> Result<Cost, Fault> {
-    let mut cost = Cost::none();
-    let mut list = Numbered::new(alloc, nodes.len())?;
-    for _ in 0..rounds {
-        list.put_all(nodes);
-        shuffle(order);
-        let mut stopwatch = Stopwatch::start(rt);
-        list.remove_all(order.as_slice(), nodes)?;
-        cost.add(order.len(), stopwatch.look(rt));
-    }
-    Ok(cost)
-}
-
-/// Measures moves of all elements to the front by their spots, in an order of no kind.
-fn measure_moves(
-    rt: &impl Clock,
-    alloc: Global,
-    nodes: &mut Vec<ListNode>,
-    order: &mut Vec<usize>,
-    rounds: u32,
-) -> Result<Cost, Fault> {
-    let mut cost = Cost::none();
-    let mut list = Numbered::new(alloc, nodes.len())?;
-    list.put_all(nodes);
-    for _ in 0..rounds {
-        shuffle(order);
-        let mut stopwatch = Stopwatch::start(rt);
-        list.move_all_front(order.as_slice());
-        cost.add(order.len(), stopwatch.look(rt));
-    }
-    list.remove_all(order.as_slice(), nodes)?;
-    Ok(cost)
-}
-
 /// The numbers below this one, in their order.
 pub fn numbers_below(alloc: Global, count: usize) -> Result<Vec<usize>, Fault> {
     let mut numbers = with_room(alloc, count)?;
     for number in 0..count {
-        push(&mut numbers, number)?;
+        keep(&mut numbers, number);
     }
     Ok(numbers)
+}
+
+/// Kinds of call on a stable list.
+#[derive(Clone, Copy)]
+enum Calls {
+    /// Pushes.
+    Push,
+    /// Removals by spots.
+    Remove,
+    /// Moves to the front by spots.
+    Move,
+}
+
+/// What is measured.
+const KINDS: [Entry<Calls>; 3] = [
+    (
+        "StableList: push_back",
+        Calls::Push,
+        "a push, its spot forgotten",
+    ),
+    (
+        "StableList: remove",
+        Calls::Remove,
+        "a removal; the spots, in a Vec, in no order",
+    ),
+    (
+        "StableList: move_to_front",
+        Calls::Move,
+        "a move; the spots as for remove",
+    ),
+];
+
+/// Elements that are in a list, or wait in a vector.
+#[derive(Drop)]
+struct Stables {
+    count: usize,
+    list: Numbered,
+    nodes: Vec<ListNode>,
+    /// In which order they are met.
+    order: Vec<usize>,
+}
+
+/// Measures pushes of all elements, which then come out again.
+fn measure_pushes(rt: &impl Clock, nodes: &mut Vec<ListNode>) -> Duration {
+    let mut list: StableList<Item> = StableList::new();
+    let mut stopwatch = Stopwatch::start(rt);
+    while let Some(node) = nodes.pop() {
+        list.push_back(node);
+    }
+    let time = stopwatch.look(rt);
+    while let Some(node) = list.pop_front() {
+        keep(nodes, node);
+    }
+    time
+}
+
+impl Bench<Calls> for Stables {
+    fn round(self, rt: &impl Clock, calls: Calls) -> Result<(Stables, Round), Fault> {
+        let mut stables = self;
+        let Stables {
+            list,
+            nodes,
+            order,
+            ..
+        } = &mut stables;
+        let time = match calls {
+            Calls::Push => measure_pushes(rt, nodes),
+            Calls::Remove => {
+                list.put_all(nodes);
+                shuffle(order);
+                let mut stopwatch = Stopwatch::start(rt);
+                list.remove_all(order.as_slice(), nodes);
+                stopwatch.look(rt)
+            }
+            Calls::Move => {
+                list.put_all(nodes);
+                shuffle(order);
+                let mut stopwatch = Stopwatch::start(rt);
+                list.move_all_front(order.as_slice());
+                stopwatch.look(rt)
+            }
+        };
+        let count = stables.count;
+        Ok((stables, (count, time)))
+    }
+
+    fn seen(&mut self, calls: Calls) -> Result<u64, Fault> {
+        if let Calls::Push = calls {
+            return Ok(0);
+        }
+        self.list.remove_all(self.order.as_slice(), &mut self.nodes);
+        sum_numbers(self.nodes.as_slice(), self.count)
+    }
 }
 
 /// Measures stable lists, and shows them. Returns the sum of the numbers of what came out last.
@@ -200,29 +219,11 @@ pub fn show_stables<R: Clock + Print>(
     table: Table,
     elements: usize,
 ) -> Result<u64, Fault> {
-    let mut nodes = make_nodes(alloc, elements)?;
-    let mut order = numbers_below(alloc, elements)?;
-    let pushes = measure_pushes(rt, &mut nodes, table.rounds)?;
-    let removals = measure_removals(rt, alloc, &mut nodes, &mut order, table.rounds)?;
-    let sum = sum_numbers(nodes.as_slice());
-    let moves = measure_moves(rt, alloc, &mut nodes, &mut order, table.rounds)?;
-    let rows = [
-        (
-            "StableList: push_back",
-            pushes,
-            "a push, its spot forgotten",
-        ),
-        (
-            "StableList: remove",
-            removals,
-            "a removal; the spots, in a Vec, in no order",
-        ),
-        (
-            "StableList: move_to_front",
-            moves,
-            "a move; the spots as for remove",
-        ),
-    ];
-    table.rows(rt, elements, &rows)?;
-    Ok(sum.wrapping_add(sum_numbers(nodes.as_slice())))
+    let stables = Stables {
+        count: elements,
+        nodes: make_nodes(alloc, elements)?,
+        order: numbers_below(alloc, elements)?,
+        list: Numbered::new(alloc, elements)?,
+    };
+    table.measure(rt, stables, elements, &KINDS)
 }

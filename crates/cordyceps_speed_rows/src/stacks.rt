@@ -1,12 +1,11 @@
 //! Pushes and pops of stacks and, to compare, of vectors.
-ghost use Rattle.std.specs.Prelude.{◌≡◌, ◌+◌, ◌≤◌, [], length, OnOk};
+ghost use Rattle.std.specs.Prelude.{◌≡◌, ◌+◌, ◌≤◌, [], length};
 
-use crate::cost::Cost;
 use crate::fault::Fault;
 use crate::nodes::{make_nodes, move_all, sum_numbers};
 use crate::stopwatch::Stopwatch;
-use crate::table::Table;
-use crate::vectors::{push, with_room};
+use crate::table::{Bench, Entry, Round, Table};
+use crate::vectors::{keep, with_room};
 use cordyceps_base::node::Node;
 use cordyceps_base::stack::Links;
 use cordyceps_commands::Item;
@@ -17,57 +16,77 @@ use std::time::Clock;
 /// What goes into a stack, and comes out.
 pub type StackNode = Node<Item, Links<Item>>;
 
-/// Pushes all of the elements, the last first.
-fn push_all(stack: &mut Stack<Item>, nodes: &mut Vec<StackNode>)
-    ensures empty { nodes.new.items ≡ [] }
-    ensures length { length stack.new ≡ length stack.old + length nodes.old.items }
-{
-    while let Some(node) = nodes.pop() {
-        stack.push(node);
-    }
-}
-
 /// Takes all elements out of a stack, one after another.
-pub fn pop_all(stack: &mut Stack<Item>, nodes: &mut Vec<StackNode>) -> Result<(), Fault>
-    ensures { OnOk result (length nodes.new.items ≡ length nodes.old.items + length stack.old) }
+pub fn pop_all(stack: &mut Stack<Item>, nodes: &mut Vec<StackNode>)
+    ensures { length nodes.new.items ≤ length nodes.old.items + length stack.old }
 {
     while let Some(node) = stack.pop() {
-        push(nodes, node)?;
+        keep(nodes, node);
     }
-    Ok(())
 }
 
-/// Measures pushes of all elements and their pops.
-fn measure_stack(rt: &impl Clock, nodes: &mut Vec<StackNode>, rounds: u32) -> Result<Cost, Fault> {
-    let mut cost = Cost::none();
-    for _ in 0..rounds {
-        let mut stack = Stack::new();
-        let calls = nodes.len().saturating_mul(2);
-        let mut stopwatch = Stopwatch::start(rt);
-        push_all(&mut stack, nodes);
-        pop_all(&mut stack, nodes)?;
-        cost.add(calls, stopwatch.look(rt));
-    }
-    Ok(cost)
+/// What takes elements in and gives them back.
+#[derive(Clone, Copy)]
+enum Calls {
+    /// A stack.
+    Stack,
+    /// Another vector, which then gives them to the first.
+    Vector,
 }
 
-/// Measures moves of all elements from one vector into another, and back: a pop and a push each.
-fn measure_moves(
-    rt: &impl Clock,
-    alloc: Global,
-    nodes: &mut Vec<StackNode>,
-    rounds: u32,
-) -> Result<Cost, Fault> {
-    let mut cost = Cost::none();
-    let count = nodes.len();
-    let mut others = with_room(alloc, count)?;
-    for _ in 0..rounds {
-        let mut stopwatch = Stopwatch::start(rt);
-        move_all(nodes, &mut others)?;
-        move_all(&mut others, nodes)?;
-        cost.add(count.saturating_mul(2), stopwatch.look(rt));
+/// What is measured.
+const KINDS: [Entry<Calls>; 2] = [
+    (
+        "Stack: push, pop",
+        Calls::Stack,
+        "either; all in, then all out",
+    ),
+    (
+        "Vec: pop and push",
+        Calls::Vector,
+        "both; each push and pop has one of the two in it",
+    ),
+];
+
+/// Elements, and room for them in another vector.
+#[derive(Drop)]
+struct Stacks {
+    count: usize,
+    nodes: Vec<StackNode>,
+    others: Vec<StackNode>,
+}
+
+impl Bench<Calls> for Stacks {
+    fn round(self, rt: &impl Clock, calls: Calls) -> Result<(Stacks, Round), Fault> {
+        let mut stacks = self;
+        let nodes = &mut stacks.nodes;
+        let count = nodes.len().saturating_mul(2);
+        let time = match calls {
+            Calls::Stack => {
+                let mut stack = Stack::new();
+                let mut stopwatch = Stopwatch::start(rt);
+                while let Some(node) = nodes.pop() {
+                    stack.push(node);
+                }
+                pop_all(&mut stack, nodes);
+                stopwatch.look(rt)
+            }
+            Calls::Vector => {
+                let mut stopwatch = Stopwatch::start(rt);
+                move_all(nodes, &mut stacks.others);
+                move_all(&mut stacks.others, nodes);
+                stopwatch.look(rt)
+            }
+        };
+        Ok((stacks, (count, time)))
     }
-    Ok(cost)
+
+    fn seen(&mut self, calls: Calls) -> Result<u64, Fault> {
+        match calls {
+            Calls::Stack => Ok(0),
+            Calls::Vector => sum_numbers(self.nodes.as_slice(), self.count),
+        }
+    }
 }
 
 /// Measures stacks and vectors, and shows them. Returns the sum of the numbers of what came out last.
@@ -77,17 +96,10 @@ pub fn show_stacks<R: Clock + Print>(
     table: Table,
     elements: usize,
 ) -> Result<u64, Fault> {
-    let mut nodes = make_nodes(alloc, elements)?;
-    let calls = measure_stack(rt, &mut nodes, table.rounds)?;
-    let moves = measure_moves(rt, alloc, &mut nodes, table.rounds)?;
-    let rows = [
-        ("Stack: push, pop", calls, "either; all in, then all out"),
-        (
-            "Vec: pop and push",
-            moves,
-            "both; each push and pop has one of the two in it",
-        ),
-    ];
-    table.rows(rt, elements, &rows)?;
-    Ok(sum_numbers(nodes.as_slice()))
+    let stacks = Stacks {
+        count: elements,
+        nodes: make_nodes(alloc, elements)?,
+        others: with_room(alloc, elements)?,
+    };
+    table.measure(rt, stacks, elements, &KINDS)
 }

@@ -1,7 +1,8 @@
-//! The table that is printed: a row for each kind of call.
+//! The table that is printed: a row for each kind of call, which is measured in rounds.
 
 use crate::cost::Cost;
 use crate::fault::Fault;
+use std::time::{Clock, Duration};
 
 /// What is shown of each kind of call.
 #[derive(Clone, Copy)]
@@ -14,6 +15,22 @@ pub enum Shown {
 
 /// One kind of call: its name, what it costs, and what is counted as one.
 pub type Row<'a> = (&'a str, Cost, &'a str);
+
+/// A kind of call that is to be measured: its name, which it is, and what is counted as one.
+pub type Entry<C> = (&'static str, C, &'static str);
+
+/// What a round measured: how many calls, and how long they took.
+pub type Round = (usize, Duration);
+
+/// Elements and the collections that they go into, at which kinds of call are measured.
+pub trait Bench<C>: Drop {
+    /// Measures one round of a kind of call. Only its loops over the elements are measured, not what prepares them.
+    fn round(self, rt: &impl Clock, calls: C) -> Result<(Self, Round), Fault>;
+
+    /// A number over what the rounds of a kind of call saw, or over what came out last. Fails where an element is
+    /// missing: it was dropped, since memory was refused.
+    fn seen(&mut self, calls: C) -> Result<u64, Fault>;
+}
 
 /// How many rounds are measured of each kind of call, and what is shown of them.
 #[derive(Clone, Copy)]
@@ -71,5 +88,29 @@ impl Table {
             self.row(rt, name, elements, cost, what)?;
         }
         Ok(())
+    }
+
+    /// Measures kinds of call one after another, each with this many elements in the collection, and writes their rows.
+    /// Returns a number over what was seen.
+    pub fn measure<R: Clock + Print, C: Copy, B: Bench<C>>(
+        self,
+        rt: &R,
+        bench: B,
+        elements: usize,
+        kinds: &[Entry<C>],
+    ) -> Result<u64, Fault> {
+        let mut bench = bench;
+        let mut sum: u64 = 0;
+        for (name, calls, what) in kinds {
+            let mut cost = Cost::none();
+            for _ in 0..self.rounds {
+                let (next, (count, time)) = bench.round(rt, *calls)?;
+                bench = next;
+                cost.add(count, time);
+            }
+            sum = sum.wrapping_add(bench.seen(*calls)?);
+            self.row(rt, name, elements, &cost, what)?;
+        }
+        Ok(sum)
     }
 }

@@ -1,23 +1,22 @@
 //! Timers that are started, of which nine in ten are cancelled, and the others come out in order: in a sorted list with
 //! spots, in a map, and in a heap, in which the cancelled ones stay until they come out.
 
-use crate::cost::Cost;
 use crate::fault::Fault;
 use crate::nodes::{ListNode, make_nodes, mix, shuffle};
 use crate::numbered::Numbered;
 use crate::stopwatch::Stopwatch;
-use crate::table::Table;
-use crate::vectors::{push, with_room};
+use crate::table::{Bench, Entry, Round, Table};
+use crate::vectors::{keep, with_room};
 use cordyceps_commands::Item;
 use std::alloc::Global;
 use std::cmp::Reverse;
 use std::collections::{BTreeMap, BinaryHeap};
-use std::time::Clock;
+use std::time::{Clock, Duration};
 
 /// Timers that run. One has a deadline, which is its value, and a number.
 trait Timers {
-    /// Starts a timer.
-    fn start(&mut self, timer: Item) -> Result<(), Fault>;
+    /// Starts a timer. Returns whether there was memory for it.
+    fn start(&mut self, timer: Item) -> bool;
 
     /// Cancels a timer.
     fn cancel(&mut self, timer: Item);
@@ -44,59 +43,42 @@ impl InList {
 }
 
 impl Timers for InList {
-    fn start(&mut self, timer: Item) -> Result<(), Fault> {
+    fn start(&mut self, timer: Item) -> bool {
         let Some(mut node) = self.idle.pop() else {
-            return Err(Fault::Memory);
+            return false;
         };
         node.set_id(timer.id);
         *node.get_mut() = timer;
         self.running.insert(node);
-        Ok(())
+        true
     }
 
     fn cancel(&mut self, timer: Item) {
         if let Some(node) = self.running.remove(timer.id as usize) {
-            drop(self.idle.push(node));
+            keep(&mut self.idle, node);
         }
     }
 
     fn pop(&mut self) -> Option<Item> {
         let node = self.running.pop_front()?;
         let timer = *node.get();
-        drop(self.idle.push(node));
+        keep(&mut self.idle, node);
         Some(timer)
     }
 }
 
 /// Timers in a map.
-#[derive(Drop)]
-struct InMap {
-    running: BTreeMap<Item, ()>,
-}
-
-impl InMap {
-    /// No timers.
-    fn new(alloc: Global) -> InMap {
-        InMap {
-            running: BTreeMap::new(alloc),
-        }
-    }
-}
-
-impl Timers for InMap {
-    fn start(&mut self, timer: Item) -> Result<(), Fault> {
-        match self.running.insert(timer, ()) {
-            Ok(_) => Ok(()),
-            Err(_) => Err(Fault::Memory),
-        }
+impl Timers for BTreeMap<Item, ()> {
+    fn start(&mut self, timer: Item) -> bool {
+        self.insert(timer, ()).is_ok()
     }
 
     fn cancel(&mut self, timer: Item) {
-        let _ = self.running.remove(&timer);
+        let _ = self.remove(&timer);
     }
 
     fn pop(&mut self) -> Option<Item> {
-        let (timer, ()) = self.running.pop_first()?;
+        let (timer, ()) = self.pop_first()?;
         Some(timer)
     }
 }
@@ -116,31 +98,25 @@ impl InHeap {
             return Err(Fault::Memory);
         };
         let mut cancelled = with_room(alloc, count)?;
-        for _ in 0..count {
-            push(&mut cancelled, false)?;
+        if cancelled.resize(count, false).is_err() {
+            return Err(Fault::Memory);
         }
         Ok(InHeap { running, cancelled })
-    }
-
-    /// Notes of a timer whether it is cancelled.
-    fn note(&mut self, timer: Item, is_cancelled: bool) {
-        if let Some(noted) = self.cancelled.get_mut(timer.id as usize) {
-            *noted = is_cancelled;
-        }
     }
 }
 
 impl Timers for InHeap {
-    fn start(&mut self, timer: Item) -> Result<(), Fault> {
-        self.note(timer, false);
-        match self.running.push(Reverse(timer)) {
-            Ok(()) => Ok(()),
-            Err(_) => Err(Fault::Memory),
+    fn start(&mut self, timer: Item) -> bool {
+        if let Some(noted) = self.cancelled.get_mut(timer.id as usize) {
+            *noted = false;
         }
+        self.running.push(Reverse(timer)).is_ok()
     }
 
     fn cancel(&mut self, timer: Item) {
-        self.note(timer, true);
+        if let Some(noted) = self.cancelled.get_mut(timer.id as usize) {
+            *noted = true;
+        }
     }
 
     fn pop(&mut self) -> Option<Item> {
@@ -181,22 +157,22 @@ impl Deadlines {
     }
 }
 
-/// Timers to start, and those of them that are cancelled, nine in ten, in an order of no kind.
-#[derive(Drop)]
-struct Plan {
-    started: Vec<Item>,
-    cancelled: Vec<Item>,
-}
-
 /// So many timers.
 fn timers_of(alloc: Global, count: usize, deadlines: Deadlines) -> Result<Vec<Item>, Fault> {
     let mut timers = with_room(alloc, count)?;
     for number in 0..count {
         let id = number as u64;
         let value = deadlines.of(id);
-        push(&mut timers, Item { value, id })?;
+        keep(&mut timers, Item { value, id });
     }
     Ok(timers)
+}
+
+/// Timers to start, and those of them that are cancelled, nine in ten, in an order of no kind.
+#[derive(Drop)]
+struct Plan {
+    started: Vec<Item>,
+    cancelled: Vec<Item>,
 }
 
 impl Plan {
@@ -209,11 +185,14 @@ impl Plan {
         Ok(Plan { started, cancelled })
     }
 
-    /// Starts all of the timers, cancels those that are to be cancelled, and takes out the others. Returns a number
-    /// over these in their order.
-    fn run<T: Timers>(&self, timers: &mut T) -> Result<u64, Fault> {
+    /// Measures that all of the timers are started, those that are to be cancelled are cancelled, and the others taken
+    /// out. Returns a number over these in their order, too.
+    fn run<T: Timers>(&self, rt: &impl Clock, timers: &mut T) -> Result<(u64, Duration), Fault> {
+        let mut stopwatch = Stopwatch::start(rt);
         for timer in &self.started {
-            timers.start(*timer)?;
+            if !timers.start(*timer) {
+                return Err(Fault::Memory);
+            }
         }
         for timer in &self.cancelled {
             timers.cancel(*timer);
@@ -221,61 +200,87 @@ impl Plan {
         let mut sum: u64 = 0;
         for _ in &self.started {
             let Some(timer) = timers.pop() else {
-                return Ok(sum);
+                break;
             };
             sum = sum.rotate_left(5) ^ timer.id;
         }
-        Ok(sum)
-    }
-
-    /// Measures rounds of them. Returns a number over those that came out last, too.
-    fn measure<T: Timers>(
-        &self,
-        rt: &impl Clock,
-        timers: &mut T,
-        rounds: u32,
-    ) -> Result<(Cost, u64), Fault> {
-        let (mut cost, mut sum) = (Cost::none(), 0u64);
-        for _ in 0..rounds {
-            let mut stopwatch = Stopwatch::start(rt);
-            sum = self.run(timers)?;
-            cost.add(self.started.len(), stopwatch.look(rt));
-        }
-        Ok((cost, sum))
+        Ok((sum, stopwatch.look(rt)))
     }
 }
 
-/// Measures timers in a list. Returns a number over those that came out last, too.
-fn in_list(rt: &impl Clock, alloc: Global, plan: &Plan, rounds: u32) -> Result<(Cost, u64), Fault> {
-    let mut timers = InList::new(alloc, plan.started.len())?;
-    plan.measure(rt, &mut timers, rounds)
+/// What the timers are in.
+#[derive(Clone, Copy)]
+enum Calls {
+    /// A sorted list with spots.
+    List,
+    /// A map.
+    Map,
+    /// A heap.
+    Heap,
 }
 
-/// The same in a heap.
-fn in_heap(rt: &impl Clock, alloc: Global, plan: &Plan, rounds: u32) -> Result<(Cost, u64), Fault> {
-    let mut timers = InHeap::new(alloc, plan.started.len())?;
-    plan.measure(rt, &mut timers, rounds)
+/// With deadlines that mostly rise.
+const RISING: [Entry<Calls>; 3] = [
+    (
+        "Timers: StableSortedList",
+        Calls::List,
+        "a timer, due after one of four timeouts",
+    ),
+    (
+        "Timers: BTreeMap",
+        Calls::Map,
+        "a timer, due after one of four timeouts",
+    ),
+    (
+        "Timers: BinaryHeap",
+        Calls::Heap,
+        "a timer, due after one of four timeouts",
+    ),
+];
+
+/// With any deadlines.
+const RANDOM: [Entry<Calls>; 3] = [
+    (
+        "Timers: StableSortedList",
+        Calls::List,
+        "a timer, due at any time",
+    ),
+    ("Timers: BTreeMap", Calls::Map, "a timer, due at any time"),
+    (
+        "Timers: BinaryHeap",
+        Calls::Heap,
+        "a timer, due at any time",
+    ),
+];
+
+/// Timers to start, and the collections that they go into.
+#[derive(Drop)]
+struct Planned {
+    plan: Plan,
+    list: InList,
+    map: BTreeMap<Item, ()>,
+    heap: InHeap,
+    /// A number over the timers that came out last.
+    seen: u64,
 }
 
-/// Measures timers in each of the collections, and shows them. Returns a number over those that came out last.
-fn show_plan<R: Clock + Print>(
-    rt: &R,
-    alloc: Global,
-    table: Table,
-    plan: &Plan,
-    what: &str,
-) -> Result<u64, Fault> {
-    let rounds = table.rounds.div_ceil(10);
-    let (list, first) = in_list(rt, alloc, plan, rounds)?;
-    let (map, second) = plan.measure(rt, &mut InMap::new(alloc), rounds)?;
-    let (heap, third) = in_heap(rt, alloc, plan, rounds)?;
-    let rows = [
-        ("Timers: StableSortedList", list, what),
-        ("Timers: BTreeMap", map, what),
-        ("Timers: BinaryHeap", heap, what),
-    ];
-    table.rows(rt, plan.started.len(), &rows)?;
-    Ok(first.wrapping_add(second).wrapping_add(third))
+impl Bench<Calls> for Planned {
+    fn round(self, rt: &impl Clock, calls: Calls) -> Result<(Planned, Round), Fault> {
+        let mut planned = self;
+        let count = planned.plan.started.len();
+        let ran = match calls {
+            Calls::List => planned.plan.run(rt, &mut planned.list),
+            Calls::Map => planned.plan.run(rt, &mut planned.map),
+            Calls::Heap => planned.plan.run(rt, &mut planned.heap),
+        };
+        let (seen, time) = ran?;
+        planned.seen = seen;
+        Ok((planned, (count, time)))
+    }
+
+    fn seen(&mut self, _calls: Calls) -> Result<u64, Fault> {
+        Ok(self.seen)
+    }
 }
 
 /// Measures so many timers with these deadlines, and shows them. Returns a number over those that came out last.
@@ -286,12 +291,22 @@ fn show<R: Clock + Print>(
     count: usize,
     deadlines: Deadlines,
 ) -> Result<u64, Fault> {
-    let plan = Plan::new(alloc, count, deadlines)?;
-    let what = match deadlines {
-        Deadlines::Timeouts => "a timer, due after one of four timeouts",
-        Deadlines::Random => "a timer, due at any time",
+    let planned = Planned {
+        plan: Plan::new(alloc, count, deadlines)?,
+        list: InList::new(alloc, count)?,
+        map: BTreeMap::new(alloc),
+        heap: InHeap::new(alloc, count)?,
+        seen: 0,
     };
-    show_plan(rt, alloc, table, &plan, what)
+    let kinds = match deadlines {
+        Deadlines::Timeouts => &RISING,
+        Deadlines::Random => &RANDOM,
+    };
+    let table = Table {
+        rounds: table.rounds.div_ceil(10),
+        shown: table.shown,
+    };
+    table.measure(rt, planned, count, kinds)
 }
 
 /// Measures so many timers with deadlines that mostly rise, and so few with any, and shows them. Returns a number over

@@ -1,117 +1,107 @@
 //! Pushes to a stack that threads share, and takings, by one party that is alone.
-ghost use Rattle.std.specs.Prelude.{◌≡◌, ◌+◌, ◌<◌, ◌≤◌, suc, [], length, IfOk, OnOk};
+ghost use Rattle.std.specs.Prelude.{◌≡◌, ◌+◌, ◌<◌, ◌≤◌, [], length};
 ghost use Rattle.cordyceps_shared.specs.Shares.{whole};
 
-use crate::cost::Cost;
 use crate::fault::Fault;
 use crate::nodes::{make_nodes, sum_numbers};
 use crate::stacks::{StackNode, pop_all};
 use crate::stopwatch::Stopwatch;
-use crate::table::Table;
+use crate::table::{Bench, Entry, Round, Table};
 use cordyceps_commands::Item;
-use cordyceps_single::stack::Stack;
 use cordyceps_stack::stack::{MAX_ROOMS, Party, TransferStack};
 use std::alloc::Global;
 use std::time::Clock;
 
-/// A stack that threads share, and the party that has all of its rooms.
-#[derive(Drop)]
-struct Alone {
-    stack: TransferStack<Item>,
-    party: Party<Item>,
-    ghost seated: { party.table ≡ stack },
-    ghost alone: { party.share ≡ whole },
+/// Kinds of call on a stack that threads share.
+#[derive(Clone, Copy)]
+enum Calls {
+    /// Pushes.
+    Push,
+    /// A taking of all, and pops out of what was taken.
+    Take,
 }
 
-impl Alone {
-    /// An empty stack with so many rooms.
-    fn new(alloc: Global, rooms: usize) -> Result<Alone, Fault>
-        requires { rooms ≤ MAX_ROOMS }
-        ensures { IfOk result (λ a. a.party.rooms ≡ rooms) }
+/// What is measured.
+const KINDS: [Entry<Calls>; 2] = [
+    ("TransferStack: try_push", Calls::Push, "a push by a party"),
+    (
+        "TransferStack: take_all",
+        Calls::Take,
+        "an element's share, and its pop",
+    ),
+];
+
+/// A stack that threads share, the party that has all of its rooms, and elements, for each of which there is a room.
+#[derive(Drop)]
+struct Transfers {
+    count: usize,
+    stack: TransferStack<Item>,
+    party: Party<Item>,
+    nodes: Vec<StackNode>,
+    ghost seated: { party.table ≡ stack },
+    ghost alone: { party.share ≡ whole },
+    ghost enough: { length nodes.items ≤ party.rooms },
+}
+
+impl Transfers {
+    /// An empty stack with so many rooms, and as many elements.
+    fn new(alloc: Global, count: usize) -> Result<Transfers, Fault>
+        requires { count ≤ MAX_ROOMS }
     {
-        match TransferStack::new(alloc, rooms) {
-            Ok((stack, party)) => Ok(Alone { stack, party }),
+        let nodes = make_nodes(alloc, count)?;
+        match TransferStack::new(alloc, count) {
+            Ok((stack, party)) => Ok(Transfers {
+                count,
+                stack,
+                party,
+                nodes,
+            }),
             Err(_) => Err(Fault::Memory),
         }
     }
 
-    /// Pushes an element. Nobody comes between.
-    fn push(&mut self, node: StackNode)
-        requires { 0 < self.old.party.rooms }
-        ensures { self.old.party.rooms ≡ suc self.new.party.rooms }
+    /// Pushes all of the elements, the last first. Nobody comes between.
+    fn push_all(&mut self)
+        ensures { self.new.nodes.items ≡ [] }
     {
-        if self.stack.try_push(&mut self.party, node).is_err() {
-            unreachable!()
+        while let Some(node) = self.nodes.pop() {
+            if self.stack.try_push(&mut self.party, node).is_err() {
+                unreachable!()
+            }
         }
     }
 
-    /// Pushes all of the elements, the last first.
-    fn push_all(&mut self, nodes: &mut Vec<StackNode>)
-        requires { length nodes.old.items ≤ self.old.party.rooms }
-        ensures { nodes.new.items ≡ [] }
+    /// Takes all elements, and pops them out of what was taken.
+    fn take_all(&mut self)
+        requires { self.old.nodes.items ≡ [] }
     {
-        while let Some(node) = nodes.pop() {
-            self.push(node);
-        }
-    }
-
-    /// Takes all elements, and their rooms.
-    fn take_all(&mut self) -> Stack<Item>
-        ensures { self.new.party.rooms ≡ self.old.party.rooms + length result }
-    {
-        self.stack.take_all(&mut self.party)
+        let mut taken = self.stack.take_all(&mut self.party);
+        pop_all(&mut taken, &mut self.nodes);
     }
 }
 
-/// What was measured of a stack that threads share.
-#[derive(Clone, Copy)]
-struct Transfers {
-    /// A push.
-    push: Cost,
-    /// An element's share of a taking of all, with its pop out of what was taken.
-    take: Cost,
-}
-
-impl Transfers {
-    /// Pushes all of the elements, takes all, and pops them out of what was taken.
-    fn round(
-        &mut self,
-        rt: &impl Clock,
-        alone: &mut Alone,
-        nodes: &mut Vec<StackNode>,
-    ) -> Result<(), Fault>
-        requires { length nodes.old.items ≤ alone.old.party.rooms }
-        ensures { OnOk result (length nodes.new.items ≤ alone.new.party.rooms) }
-    {
-        let count = nodes.len();
+impl Bench<Calls> for Transfers {
+    fn round(self, rt: &impl Clock, calls: Calls) -> Result<(Transfers, Round), Fault> {
+        let mut transfers = self;
+        let count = transfers.nodes.len();
         let mut stopwatch = Stopwatch::start(rt);
-        alone.push_all(nodes);
-        self.push.add(count, stopwatch.look(rt));
-        let mut taken = alone.take_all();
-        pop_all(&mut taken, nodes)?;
-        self.take.add(count, stopwatch.look(rt));
-        Ok(())
+        transfers.push_all();
+        let pushed = stopwatch.look(rt);
+        transfers.take_all();
+        let taken = stopwatch.look(rt);
+        let time = match calls {
+            Calls::Push => pushed,
+            Calls::Take => taken,
+        };
+        Ok((transfers, (count, time)))
     }
-}
 
-/// Measures so many rounds with these elements.
-fn measure_transfers(
-    rt: &impl Clock,
-    alloc: Global,
-    nodes: &mut Vec<StackNode>,
-    rounds: u32,
-) -> Result<Transfers, Fault>
-    requires { length nodes.old.items ≤ MAX_ROOMS }
-{
-    let mut alone = Alone::new(alloc, nodes.len())?;
-    let mut transfers = Transfers {
-        push: Cost::none(),
-        take: Cost::none(),
-    };
-    for _ in 0..rounds {
-        transfers.round(rt, &mut alone, nodes)?;
+    fn seen(&mut self, calls: Calls) -> Result<u64, Fault> {
+        match calls {
+            Calls::Push => Ok(0),
+            Calls::Take => sum_numbers(self.nodes.as_slice(), self.count),
+        }
     }
-    Ok(transfers)
 }
 
 /// Measures stacks that threads share, and shows them. Returns the sum of the numbers of what came out last.
@@ -123,20 +113,6 @@ pub fn show_transfers<R: Clock + Print>(
 ) -> Result<u64, Fault>
     requires { elements ≤ MAX_ROOMS }
 {
-    let mut nodes = make_nodes(alloc, elements)?;
-    let transfers = measure_transfers(rt, alloc, &mut nodes, table.rounds)?;
-    let rows = [
-        (
-            "TransferStack: try_push",
-            transfers.push,
-            "a push by a party",
-        ),
-        (
-            "TransferStack: take_all",
-            transfers.take,
-            "an element's share, and its pop",
-        ),
-    ];
-    table.rows(rt, elements, &rows)?;
-    Ok(sum_numbers(nodes.as_slice()))
+    let transfers = Transfers::new(alloc, elements)?;
+    table.measure(rt, transfers, elements, &KINDS)
 }

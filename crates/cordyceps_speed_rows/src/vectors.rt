@@ -1,5 +1,5 @@
 //! Vectors, whose memory may be refused.
-ghost use Rattle.std.specs.Prelude.{◌≡◌, [], ◌∷◌, ◌++◌, IfOk, OnOk};
+ghost use Rattle.std.specs.Prelude.{◌≡◌, ◌+◌, ◌≤◌, [], ◌∷◌, ◌++◌, length, IfOk, OnOk};
 
 use crate::fault::Fault;
 use std::alloc::Global;
@@ -22,4 +22,11 @@ pub fn push<T: Drop>(items: &mut Vec<T>, item: T) -> Result<(), Fault>
         Ok(()) => Ok(()),
         Err(_) => Err(Fault::Memory),
     }
+}
+
+/// Puts an item after the others. Where memory is refused it is dropped, and so it is missing at the end.
+pub fn keep<T: Drop>(items: &mut Vec<T>, item: T)
+    ensures { length items.new.items ≤ length items.old.items + 1 }
+{
+    drop(items.push(item));
 }
