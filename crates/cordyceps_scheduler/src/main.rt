@@ -1,4 +1,5 @@
-//! Runs ten thousand tasks, five rounds of each, on the scheduler of `cordyceps_uses`, and prints where they are then.
+//! Runs ten thousand tasks, five rounds of each, on the scheduler of `cordyceps_shared_uses`, and prints where they are
+//! then.
 //!
 //! It prints the same whatever the order in which the threads run: how many tasks were submitted, how many of them
 //! sleep, are on their way to a worker, wait for one and are done, and how many rounds those that are done ran.
@@ -7,9 +8,9 @@
 ghost use Rattle.std.specs.Prelude.{◌≤◌, length, IfSome};
 
 use cordyceps::{List, Stack};
-use cordyceps_uses::scheduler::holding::Followed;
-use cordyceps_uses::scheduler::places::Task;
-use cordyceps_uses::scheduler::{Outcome, birth, run};
+use cordyceps_shared_uses::scheduler::holding::Followed;
+use cordyceps_shared_uses::scheduler::places::Task;
+use cordyceps_shared_uses::scheduler::{Outcome, birth, run};
 use std::alloc::Global;
 use std::io;
 use std::process::ExitCode;

@@ -1,10 +1,4 @@
-pub mod Mailbox
-pub mod Pool
 pub mod Ranks
 pub mod Recency
-pub mod RunQueue
-pub mod Scheduler
 pub mod Tasks
 pub mod TimerWheel
-pub mod Timers
-pub mod Ways

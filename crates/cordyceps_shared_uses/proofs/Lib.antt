@@ -1,0 +1,5 @@
+mod Deadlines
+mod Scheduling
+pub mod Sharing
+pub mod Started
+mod Working

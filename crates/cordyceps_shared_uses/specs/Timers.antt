@@ -1,0 +1,26 @@
+-- Timers, each with its spot: the earliest deadline first, equals as they were started.
+use Rattle.std.specs.Prelude.{ℕ, ◌≤◌, [], ◌∷◌, nat_lt, if◌then◌else◌}
+use Rattle.std.specs.List.{AllByRecursion}
+use denote.RawPtr.{Ptr}
+use Rattle.cordyceps.specs.Elements.Element.{Element}
+use Rattle.cordyceps.specs.Elements.Nodes.{Nodes}
+use Rattle.cordyceps_shared_uses.specs.declared.timers.Timer.{Timer}
+
+module _ {P : Type 0} where
+  -- a new timer, whose number is its deadline
+  abbrev pub new_timer : ℕ → P → Element (Timer P)
+  new_timer d p = record { id = d; value = record { deadline = d; payload = p } }
+
+  abbrev pub InOrder : Nodes (Timer P) → Type 0
+  InOrder [] = Unit {0}
+  InOrder (x ∷ s) = AllByRecursion (λ y. x.1.value.deadline ≤ y.1.value.deadline) s × InOrder s
+
+  -- one more, which is at q, after all whose deadline is not later
+  abbrev pub started : Ptr → Element (Timer P) → Nodes (Timer P) → Nodes (Timer P)
+  started q t [] = (q, t) ∷ []
+  started q t (x ∷ s) = if nat_lt t.value.deadline x.1.value.deadline then (q, t) ∷ x ∷ s else x ∷ started q t s
+
+  -- those that are due
+  abbrev pub due : ℕ → Nodes (Timer P) → Nodes (Timer P)
+  due now [] = []
+  due now (x ∷ s) = if nat_lt now x.1.value.deadline then due now s else x ∷ due now s

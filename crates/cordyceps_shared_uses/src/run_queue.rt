@@ -1,0 +1,188 @@
+//! Jobs that one thread submits, and that workers run.
+ghost use Rattle.std.specs.Prelude.{◌≡◌, ◌≤◌, ◌*◌, [], ◌++◌, length, map, reverse, IfOk, IfErr};
+ghost use Rattle.std.specs.Thread.{IsSync};
+ghost use Rattle.cordyceps.specs.Parties.Counts.{Same};
+ghost use Rattle.cordyceps.specs.Transfers.Moves.{Moves};
+ghost use Rattle.cordyceps_shared_uses.specs.RunQueue.{ran, Worked};
+
+use cordyceps::stack::{Links, MAX_ROOMS, Party};
+use cordyceps::{Linked, Node, Stack, TransferStack};
+use std::alloc::Global;
+use std::sync::Wait;
+use std::thread;
+use std::thread::Threads;
+
+/// What is to be done: a number, of which the square is wanted.
+#[derive(Drop)]
+pub struct Job {
+    pub number: u32,
+    pub square: u64,
+}
+
+type Handle = Node<Job, Links<Job>>;
+
+impl Linked<Links<Job>> for Job {
+    type Handle = Handle;
+
+    ghost element = { λ h. h };
+
+    fn into_ptr(handle: Handle) -> Handle {
+        handle
+    }
+
+    fn from_ptr(node: Handle) -> Handle
+        ensures { result ≡ node }
+    {
+        node
+    }
+}
+
+impl Job {
+    fn run(&mut self)
+        ensures number { self.new.number ≡ self.old.number }
+        ensures square { self.new.square ≡ self.old.number * self.old.number }
+    {
+        self.square = self.number as u64 * self.number as u64;
+    }
+}
+
+/// Submits jobs, one after the other.
+fn submit_all<R: Wait>(
+    rt: &R,
+    queue: &TransferStack<Job>,
+    mut party: Party<Job>,
+    jobs: Stack<Job>,
+) -> Party<Job>
+    requires { (party.table ≡ queue.now) × (length jobs ≤ party.rooms) }
+    ensures { Moves ran (map ran jobs) [] party result }
+{
+    for job in jobs {
+        queue.push(rt, &mut party, job);
+    }
+    party
+}
+
+/// Runs jobs, and puts them on those that are done.
+fn run_each(mut jobs: Stack<Job>, done: &mut Stack<Job>)
+    ensures { done.new ≡ reverse (map ran jobs) ++ done.old }
+{
+    while let Some(mut job) = jobs.pop() {
+        job.get_mut().run();
+        done.push(job);
+    }
+}
+
+/// Takes jobs out of the queue so often, and runs them.
+fn work(queue: &TransferStack<Job>, mut party: Party<Job>, turns: u64) -> (Party<Job>, Stack<Job>)
+    requires { party.table ≡ queue.now }
+    ensures { Worked result.1 party result.0 }
+{
+    let mut done = Stack::new();
+    for _turn in 0..turns {
+        run_each(queue.take_all(&mut party), &mut done);
+    }
+    (party, done)
+}
+
+/// Two workers, each on a thread.
+fn work_both<R: Threads>(
+    rt: &R,
+    queue: &TransferStack<Job>,
+    parties: (Party<Job>, Party<Job>),
+    turns: u64,
+) -> ((Party<Job>, Stack<Job>), (Party<Job>, Stack<Job>))
+    requires { (parties.0.table ≡ queue.now) × (parties.1.table ≡ queue.now) }
+    ensures { Worked result.0.1 parties.0 result.0.0 × Worked result.1.1 parties.1 result.1.0 }
+{
+    let (one, two) = parties;
+    thread::join(
+        rt,
+        || -> (Party<Job>, Stack<Job>)
+            requires { one.table ≡ queue.now }
+            ensures { Worked result.1 one result.0 }
+        { work(queue, one, turns) },
+        || -> (Party<Job>, Stack<Job>)
+            requires { two.table ≡ queue.now }
+            ensures { Worked result.1 two result.0 }
+        { work(queue, two, turns) },
+    )
+}
+
+/// A submitter and two workers, each on a thread.
+fn run_threads<R: Threads + Wait + Sync>(
+    rt: &R,
+    queue: &TransferStack<Job>,
+    submitter: Party<Job>,
+    workers: (Party<Job>, Party<Job>),
+    jobs: Stack<Job>,
+    turns: u64,
+) -> (
+    Party<Job>,
+    ((Party<Job>, Stack<Job>), (Party<Job>, Stack<Job>)),
+)
+    requires submitter { (submitter.table ≡ queue.now) × (length jobs ≤ submitter.rooms) }
+    requires workers { (workers.0.table ≡ queue.now) × (workers.1.table ≡ queue.now) }
+    ensures submitted { Moves ran (map ran jobs) [] submitter result.0 }
+    ensures worked { Worked result.1.0.1 workers.0 result.1.0.0 × Worked result.1.1.1 workers.1 result.1.1.0 }
+{
+    thread::join(
+        rt,
+        || -> Party<Job>
+            requires { IsSync R.row × (submitter.table ≡ queue.now) × (length jobs ≤ submitter.rooms) }
+            ensures { Moves ran (map ran jobs) [] submitter result }
+        { submit_all(rt, queue, submitter, jobs) },
+        || -> ((Party<Job>, Stack<Job>), (Party<Job>, Stack<Job>))
+            requires { IsSync R.row × (workers.0.table ≡ queue.now) × (workers.1.table ≡ queue.now) }
+            ensures { Worked result.0.1 workers.0 result.0.0 × Worked result.1.1 workers.1 result.1.0 }
+        { work_both(rt, queue, workers, turns) },
+    )
+}
+
+/// Puts jobs on those that are done.
+fn add_all(done: &mut Stack<Job>, mut more: Stack<Job>)
+    ensures { done.new ≡ reverse more ++ done.old }
+{
+    while let Some(job) = more.pop() {
+        done.push(job);
+    }
+}
+
+/// Runs all jobs: one thread submits them, two workers take what is there, each so many times, and what they leave is
+/// run in the end. Each job is run once, and none is lost.
+///
+/// The queue needs a room for each job, at most `MAX_ROOMS`. Where memory for it is refused, `Err` gives the jobs back,
+/// none of which was run.
+pub fn run_all<R: Threads + Wait + Sync>(
+    rt: &R,
+    alloc: Global,
+    jobs: Stack<Job>,
+    rooms: usize,
+    turns: u64,
+) -> Result<Stack<Job>, Stack<Job>>
+    requires room { length jobs ≤ rooms }
+    requires few { rooms ≤ MAX_ROOMS }
+    ensures each_once { IfOk result (λ done. Same (map ran jobs) done) }
+    ensures back { IfErr result (λ back. back ≡ jobs) }
+{
+    let Ok((queue, mut party)) = TransferStack::new(alloc, rooms) else {
+        return Err(jobs);
+    };
+    let submitter = queue.split(&mut party, rooms);
+    let other = queue.split(&mut party, 0);
+    let (submitter, (first, second)) = run_threads(
+        rt,
+        &queue,
+        submitter,
+        (party, other),
+        jobs,
+        turns,
+    );
+    let (mut party, mut done) = first;
+    let (other, more) = second;
+    queue.absorb(&mut party, other);
+    queue.absorb(&mut party, submitter);
+    let rest = queue.close(party);
+    run_each(rest, &mut done);
+    add_all(&mut done, more);
+    Ok(done)
+}

@@ -1,8 +1,0 @@
-use Rattle.std.proofs.Common.{length, ◌+◌, ◌*◌}
-use Rattle.cordyceps_uses.proofs.mailbox.+fn-send_each-join+arg3+send_each.Given as goal
-
-abbrev pub decreases-join+arg3 : goal.decreases-join+arg3
-decreases-join+arg3 g l = 2 * length l.rest.now + 1
-
-abbrev pub decreases-send_each : goal.decreases-send_each
-decreases-send_each g l = 2 * length l.lists.now

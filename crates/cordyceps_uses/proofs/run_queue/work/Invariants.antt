@@ -1,5 +1,0 @@
-use Rattle.cordyceps_uses.specs.RunQueue.{Worked}
-use Rattle.cordyceps_uses.proofs.run_queue.work.Given as goal
-
-abbrev pub invariant-loop-turn : goal.invariant-loop-turn
-invariant-loop-turn l = Worked l.done l.fn.party l.party

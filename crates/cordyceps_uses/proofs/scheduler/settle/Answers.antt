@@ -1,5 +1,0 @@
-use Rattle.std.proofs.Common.{rules}
-use Rattle.cordyceps_uses.proofs.scheduler.settle.Goals as goal
-
-pub returns-clause-all : goal.returns-clause-all
-returns-clause-all g c = search rules

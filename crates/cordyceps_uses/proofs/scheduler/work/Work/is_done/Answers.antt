@@ -1,5 +1,0 @@
-use Rattle.std.proofs.Common.{rules}
-use Rattle.cordyceps_uses.proofs.scheduler.work.Work.is_done.Goals as goal
-
-pub returns : goal.returns
-returns c = search rules
