@@ -1,11 +1,11 @@
 //! Messages that threads send and one receives.
 ghost use Rattle.std.specs.Prelude.{◌≡◌};
 ghost use Rattle.cordyceps.specs.Parties.Sending.{how_many};
-ghost use Rattle.cordyceps_uses.specs.Mailbox.{contents};
+ghost use Rattle.cordyceps_shared_uses.specs.Mailbox.{contents};
 
 use crate::compared::same;
 use crate::made::MEMORY;
-use cordyceps_uses::mailbox::deliver;
+use cordyceps_shared_uses::mailbox::deliver;
 use std::alloc::Global;
 use std::process::Abort;
 

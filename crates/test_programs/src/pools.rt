@@ -1,7 +1,7 @@
 //! Blocks in a pool that threads share.
 use crate::compared::same;
 use crate::made::{MEMORY, node};
-use cordyceps_uses::pool::{Block, share};
+use cordyceps_shared_uses::pool::{Block, share};
 use freelist::Stack;
 use freelist::laws::Command;
 use std::alloc::Global;

@@ -4,7 +4,7 @@ ghost use Rattle.std.specs.Prelude.{◌≡◌, length};
 use crate::compared::same;
 use crate::made::node;
 use cordyceps::Stack;
-use cordyceps_uses::run_queue::{Job, run_all};
+use cordyceps_shared_uses::run_queue::{Job, run_all};
 use std::alloc::Global;
 use std::process::Abort;
 

@@ -1,12 +1,12 @@
 //! Timers that come when they are due, and timers that are cancelled.
 ghost use Rattle.cordyceps.specs.Elements.Element.{Element};
 ghost use Rattle.cordyceps.specs.Spots.BySpot.{IsTaken};
-ghost use Rattle.cordyceps_uses.specs.declared.timers.Timer.{Timer};
+ghost use Rattle.cordyceps_shared_uses.specs.declared.timers.Timer.{Timer};
 
 use crate::compared::same;
 use crate::made::{counted, no_drops};
 use cordyceps::Spot;
-use cordyceps_uses::timers::Timers;
+use cordyceps_shared_uses::timers::Timers;
 use std::alloc::Global;
 use std::process::Abort;
 use test_support::counted::{Counted, Drops};

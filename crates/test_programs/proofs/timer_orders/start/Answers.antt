@@ -2,9 +2,9 @@ use Rattle.std.proofs.Common.{sym, subst}
 use Rattle.cordyceps.specs.Elements.Element.{Element}
 use Rattle.cordyceps.specs.Spots.BySpot.{IsTaken}
 use Rattle.test_support.specs.declared.counted.Counted.{Counted}
-use Rattle.cordyceps_uses.specs.declared.timers.Timer.{Timer}
-use Rattle.cordyceps_uses.specs.Timers.{new_timer}
-use Rattle.cordyceps_uses.proofs.Started.{started_taken}
+use Rattle.cordyceps_shared_uses.specs.declared.timers.Timer.{Timer}
+use Rattle.cordyceps_shared_uses.specs.Timers.{new_timer}
+use Rattle.cordyceps_shared_uses.proofs.Started.{started_taken}
 use Rattle.test_programs.proofs.timer_orders.start.Goals as goal
 
 pub returns : goal.returns
