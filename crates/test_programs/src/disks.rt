@@ -1,6 +1,6 @@
 //! Queues of disk requests: which one comes next, what is dropped, and runs of many operations beside a plain vector.
-use crate::compared::same;
-use crate::made::{MEMORY, counted, no_drops};
+use crate::compared::{made, same};
+use crate::made::{counted, no_drops};
 use cordyceps_disk::laws::{Step, carry_out};
 use cordyceps_disk::queue::DiskQueue;
 use cordyceps_disk::request::Request;
@@ -192,10 +192,10 @@ fn steps_are_carried_out_in_turn(rt: HostRuntime) {
         Step::Serve(20),
         Step::Serve(20),
     ];
-    let steps = Vec::from_array(rt.alloc(), steps).expect(&rt, MEMORY);
+    let steps = made(&rt, Vec::from_array(rt.alloc(), steps));
     let mut queue = DiskQueue::new();
     let mut wanted = [4, 3, 2].iter();
-    for request in carry_out(rt.alloc(), &mut queue, steps).expect(&rt, MEMORY) {
+    for request in made(&rt, carry_out(rt.alloc(), &mut queue, steps)) {
         same(&rt, Some(&request.payload), wanted.next());
     }
     same(&rt, wanted.next(), None);

@@ -1,6 +1,6 @@
 //! A few lines with cursors, filters, owned consumers, cores and counts of steps, and what they answer.
-use crate::compared::same;
-use crate::made::{MEMORY, at_most, node};
+use crate::compared::{made, same};
+use crate::made::{at_most, node};
 use cordyceps::mpsc_queue::TryDequeueError;
 use cordyceps::sorted_list::Least;
 use cordyceps::{List, SortedList};
@@ -62,7 +62,7 @@ fn a_worker_gets_its_jobs(rt: HostRuntime) {
     let first = node(&rt, rt.alloc(), 3, Job { rank: 1 });
     let second = node(&rt, rt.alloc(), 4, Job { rank: 0 });
     let mut numbers = [3, 4].iter();
-    if let Some(batch) = send_to_worker(rt.alloc(), first, second).expect(&rt, MEMORY) {
+    if let Some(batch) = made(&rt, send_to_worker(rt.alloc(), first, second)) {
         for job in batch {
             same(&rt, Some(&job.id()), numbers.next());
         }
@@ -73,7 +73,7 @@ fn a_worker_gets_its_jobs(rt: HostRuntime) {
 #[test]
 fn cores_take_steps_of_two_parties(rt: HostRuntime) {
     let (early, late) = (Job { rank: 1 }, Job { rank: 2 });
-    let taken = push_meanwhile(rt.alloc(), early, late).expect(&rt, MEMORY);
+    let taken = made(&rt, push_meanwhile(rt.alloc(), early, late));
     same(&rt, taken.as_slice(), &[early, late]);
     let found = dequeue_around_link(rt.alloc(), early).ok();
     let wanted = (Err(TryDequeueError::Inconsistent), Ok(early));

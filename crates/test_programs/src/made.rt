@@ -1,32 +1,30 @@
 //! What tests make. They end where memory is refused.
 ghost use Rattle.std.specs.Prelude.{◌≡◌, ◌≤◌};
 
+use crate::compared::made;
 use cordyceps::{Kind, Node};
 use std::alloc::Global;
 use std::process::Abort;
 use test_support::counted::{Counted, Drops};
 use test_support::nodes::node_of;
 
-/// What a test says that was refused memory.
-pub const MEMORY: &str = "memory was refused";
-
 /// Returns a node with this number and value.
 pub fn node<T: Drop, L: Kind>(rt: &impl Abort, alloc: Global, id: u64, value: T) -> Node<T, L>
     ensures { result ≡ record { id = id; value = value } }
 {
-    node_of(alloc, id, value).expect(rt, MEMORY)
+    made(rt, node_of(alloc, id, value))
 }
 
 /// Returns a count of no drops.
 pub fn no_drops(rt: &impl Abort, alloc: Global) -> Drops {
-    Drops::new(alloc).expect(rt, MEMORY)
+    made(rt, Drops::new(alloc))
 }
 
 /// Returns a value that adds its drop to a count.
 pub fn counted(rt: &impl Abort, value: u64, drops: &Drops) -> Counted
     ensures { result.value ≡ value }
 {
-    Counted::new(value, drops).expect(rt, MEMORY)
+    made(rt, Counted::new(value, drops))
 }
 
 /// Asserts that a number is at most another.

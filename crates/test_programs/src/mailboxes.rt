@@ -3,8 +3,7 @@ ghost use Rattle.std.specs.Prelude.{◌≡◌};
 ghost use Rattle.cordyceps.specs.Parties.Sending.{how_many};
 ghost use Rattle.cordyceps_shared_uses.specs.Mailbox.{contents};
 
-use crate::compared::same;
-use crate::made::MEMORY;
+use crate::compared::{made, same};
 use cordyceps_shared_uses::mailbox::deliver;
 use std::alloc::Global;
 use std::process::Abort;
@@ -16,18 +15,18 @@ const ROUNDS: u64 = 20;
 fn four_lists(rt: &impl Abort, alloc: Global) -> Vec<Vec<u64>>
     ensures { how_many (contents result.items) ≡ 12 }
 {
-    let first = Vec::from_array(alloc, [10, 11, 12]).expect(rt, MEMORY);
-    let second = Vec::from_array(alloc, [22, 21, 20]).expect(rt, MEMORY);
-    let third = Vec::from_array(alloc, [30, 30, 30]).expect(rt, MEMORY);
-    let fourth = Vec::from_array(alloc, [40, 42, 41]).expect(rt, MEMORY);
-    Vec::from_array(alloc, [first, second, third, fourth]).expect(rt, MEMORY)
+    let first = made(rt, Vec::from_array(alloc, [10, 11, 12]));
+    let second = made(rt, Vec::from_array(alloc, [22, 21, 20]));
+    let third = made(rt, Vec::from_array(alloc, [30, 30, 30]));
+    let fourth = made(rt, Vec::from_array(alloc, [40, 42, 41]));
+    made(rt, Vec::from_array(alloc, [first, second, third, fourth]))
 }
 
 #[test]
 fn each_senders_messages_come_in_order(rt: HostRuntime) {
     for turns in 0..ROUNDS {
         let lists = four_lists(&rt, rt.alloc());
-        let all = deliver(&rt, rt.alloc(), lists.as_slice(), 12, turns).expect(&rt, MEMORY);
+        let all = made(&rt, deliver(&rt, rt.alloc(), lists.as_slice(), 12, turns));
         same(&rt, all.len(), 12);
         for list in lists.iter() {
             let mut left = list.iter();

@@ -1,6 +1,6 @@
 //! Blocks in a pool that threads share.
-use crate::compared::same;
-use crate::made::{MEMORY, node};
+use crate::compared::{made, same};
+use crate::made::node;
 use cordyceps_shared_uses::pool::{Block, share};
 use freelist::Stack;
 use freelist::laws::Command;
@@ -42,7 +42,7 @@ fn each_block_is_in_one_place(rt: HostRuntime) {
     for _ in 0..ROUNDS {
         let all = (blocks(&rt, rt.alloc(), 1, 3), blocks(&rt, rt.alloc(), 3, 6));
         let given = share(&rt, rt.alloc(), 3, all, &taker, &giver);
-        let (mine, yours, left) = given.expect(&rt, MEMORY);
+        let (mine, yours, left) = made(&rt, given);
         let mut counts = [0; 6];
         count(&mut counts, mine);
         count(&mut counts, yours);

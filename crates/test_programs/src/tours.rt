@@ -2,8 +2,8 @@
 ghost use Rattle.cordyceps.specs.Elements.Nodes.{spots};
 ghost use Rattle.cordyceps.specs.Spots.Spots.{AreDistinct};
 
-use crate::compared::same;
-use crate::made::{MEMORY, node};
+use crate::compared::{made, same};
+use crate::made::node;
 use cordyceps::{List, StableList};
 use cordyceps_uses::job::Job;
 use cordyceps_uses::tour::{
@@ -16,7 +16,7 @@ use test_support::nodes::number;
 
 #[test]
 fn lists(rt: HostRuntime) {
-    let second = take_the_second(rt.alloc()).expect(&rt, MEMORY);
+    let second = made(&rt, take_the_second(rt.alloc()));
     let second = match second {
         Some(job) => Some((job.id(), job.get().rank)),
         None => None,
@@ -95,17 +95,17 @@ fn stacks_and_queues(rt: HostRuntime) {
     same(&rt, least_rank(first, second), Some(10));
     let (first, second) = (node(&rt, alloc, 3, job), node(&rt, alloc, 4, job));
     let mut numbers = [4, 3, 5, 6].iter();
-    for job in hand_over(&rt, alloc, first, second).expect(&rt, MEMORY) {
+    for job in made(&rt, hand_over(&rt, alloc, first, second)) {
         same(&rt, Some(&job.id()), numbers.next());
     }
     let (first, second) = (node(&rt, alloc, 5, job), node(&rt, alloc, 6, job));
-    if let Some(batch) = send(alloc, first, second).expect(&rt, MEMORY) {
+    if let Some(batch) = made(&rt, send(alloc, first, second)) {
         for job in batch {
             same(&rt, Some(&job.id()), numbers.next());
         }
     }
     same(&rt, numbers.next(), None);
     let (near, far) = (node(&rt, alloc, 7, job), node(&rt, alloc, 8, job));
-    let back = give_back(alloc, near, far).expect(&rt, MEMORY);
+    let back = made(&rt, give_back(alloc, near, far));
     same(&rt, number(back), Some(7));
 }

@@ -2,7 +2,7 @@
 ghost use Rattle.std.specs.Prelude.{All, IfOk};
 ghost use Rattle.cordyceps.specs.Lists.{Fits};
 
-use crate::compared::same;
+use crate::compared::{made, same};
 use cordyceps::replay::{Item, ListCommand, Lists, Reply, replay_lists};
 use std::alloc::{AllocError, Global};
 use std::collections::VecDeque;
@@ -112,7 +112,7 @@ fn on_two(
         ListCommand::Split(_, _, _) if !other.is_empty() => Reply::NotThere,
         ListCommand::Split(_, at, _) if *at > held.len() as u64 => Reply::Nothing,
         ListCommand::Split(_, at, _) => {
-            *other = held.split_off(*at as usize).expect(rt, "no memory");
+            *other = made(rt, held.split_off(*at as usize));
             Reply::Done
         }
         _ => done(rt, held.append(other).is_ok()),

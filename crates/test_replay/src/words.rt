@@ -1,6 +1,6 @@
 //! The words of the command line, and those on standard error.
 
-use crate::compared::same;
+use crate::compared::{made, same};
 use replay_driver::fault::Fault;
 use replay_sessions::modes::{Choice, USAGE, choose};
 use std::test::Fail;
@@ -24,8 +24,8 @@ fn choices(rt: HostRuntime) {
     for (texts, wanted) in table {
         let mut words = Vec::new(rt.alloc());
         for text in texts {
-            let word = String::from_str(rt.alloc(), text).expect(&rt, "memory was refused");
-            words.push(word).expect(&rt, "memory was refused");
+            let word = made(&rt, String::from_str(rt.alloc(), text));
+            made(&rt, words.push(word));
         }
         same(&rt, choose(&words), wanted);
     }
