@@ -1,9 +1,40 @@
-//! The numbers of elements, how many were dropped, and what a queue returns.
-use crate::compared::same;
-use cordyceps_queue::mpsc_queue::Batch;
+//! Elements of a shared queue, which count how many of them were dropped, and what batches of them hold.
+use crate::compared::{append, made, same};
+use cordyceps_base::node::Node;
+use cordyceps_queue::mpsc_queue::{Batch, Links};
+use std::alloc::Global;
 use std::process::Abort;
-use test_queue_support::items::Handle;
-use test_support::counted::{Counted, Drops};
+use test_support::counted::{Counted, Drops, counted_node};
+
+/// What a queue takes and returns.
+pub type Handle = Node<Counted, Links<Counted>>;
+
+/// Returns an element of this number, with ten times as much as its value.
+pub fn element(rt: &impl Abort, alloc: Global, number: u64, drops: &Drops) -> Handle {
+    made(
+        rt,
+        counted_node(alloc, number, number.wrapping_mul(10), drops),
+    )
+}
+
+/// Returns this many elements, with this number and the next ones.
+pub fn elements(
+    rt: &impl Abort,
+    alloc: Global,
+    first: u64,
+    count: u64,
+    drops: &Drops,
+) -> Vec<Handle> {
+    let mut all = Vec::new(alloc);
+    for index in 0..count {
+        append(
+            rt,
+            &mut all,
+            element(rt, alloc, first.wrapping_add(index), drops),
+        );
+    }
+    all
+}
 
 /// Returns the number of an element that was made so. Its value has to be ten times as much.
 pub fn number(rt: &impl Abort, node: &Handle) -> u64 {
@@ -19,21 +50,33 @@ pub fn number_of(rt: &impl Abort, node: Option<Handle>) -> Option<u64> {
     }
 }
 
-/// Drops an element, if there is one, and asserts its number.
-pub fn has_number(rt: &impl Abort, node: Option<Handle>, wanted: Option<u64>) {
-    same(rt, number_of(rt, node), wanted);
+/// Compares how many elements a batch says that it has left with what is wanted.
+fn has_left(rt: &impl Abort, elements: &Batch<Counted>, wanted: usize) {
+    same(rt, elements.len(), wanted);
+    same(rt, elements.size_hint(), (wanted, Some(wanted)));
+    same(rt, elements.is_empty(), wanted == 0);
 }
 
-/// Asserts how many drops were counted.
-pub fn dropped(rt: &impl Abort, drops: &Drops, wanted: u64) {
-    same(rt, drops.count(), wanted);
-}
-
-/// Asserts the numbers that a batch yields, the oldest first, and that it yields no more.
-pub fn yields(rt: &impl Abort, elements: Batch<Counted>, wanted: &[u64]) {
+/// Returns the number of a batch's first element, and how many it has. Each has to have the number after that of the
+/// one before.
+pub fn numbers(rt: &impl Abort, elements: Batch<Counted>) -> (u64, usize) {
     let mut left = elements;
-    for wanted in wanted {
-        has_number(rt, left.next(), Some(*wanted));
+    let (count, mut first) = (left.len(), 0u64);
+    for taken in 0..count {
+        has_left(rt, &left, count - taken);
+        let Some(node) = left.next() else {
+            panic!(rt; "an element is left");
+        };
+        if taken == 0 {
+            first = node.id();
+        }
+        same(rt, number(rt, &node), first.wrapping_add(taken as u64));
     }
-    same(rt, left.is_empty(), true);
+    has_left(rt, &left, 0);
+    same(
+        rt,
+        (left.next().is_none(), left.next().is_none()),
+        (true, true),
+    );
+    (first, count)
 }

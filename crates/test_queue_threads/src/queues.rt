@@ -1,185 +1,244 @@
-//! Calls of a queue, one after the other.
-ghost use Rattle.std.specs.Prelude.{◌≡◌};
-ghost use Rattle.cordyceps_shared.specs.Shares.{whole};
-
+//! Calls of a queue's parties, one after the other.
+use crate::calls::{Call, Line, Reply};
 use crate::compared::same;
-use crate::items::{dropped, has_number, yields};
-use crate::seats::{Seated, consumes, put, takes, with_stub};
-use cordyceps_queue::mpsc_queue::{Closed, Consumer, MpscQueue, Party, TryDequeueError};
-use std::alloc::AllocError;
-use std::process::Abort;
-use test_queue_support::items::{Handle, element, elements, pair};
-use test_support::counted::{Counted, Drops};
+use crate::scenes::alone;
+use crate::seats::Claim;
+use cordyceps_queue::mpsc_queue::TryDequeueError;
 
-/// Asserts what a consumer and another party get, which enqueues one element, while the consumer has the right.
-fn keeps_out(
-    rt: &impl Abort,
-    consumer: &mut Consumer<'_, Counted>,
-    other: &mut Seated<'_>,
-    handle: Handle,
-) {
-    consumes(rt, consumer, Err(TryDequeueError::Empty));
-    other.put(rt, handle);
-    other.takes(rt, Err(TryDequeueError::Busy));
-    consumes(rt, consumer, Ok(1));
-    other.takes(rt, Err(TryDequeueError::Busy));
-    consumes(rt, consumer, Err(TryDequeueError::Empty));
-}
+const BUSY: Reply = Reply::Fails(TryDequeueError::Busy);
+
+const EMPTY: Reply = Reply::Fails(TryDequeueError::Empty);
 
 #[test]
-fn a_consumer_keeps_others_out(rt: HostRuntime) -> Result<(), AllocError> {
-    let drops = Drops::new(rt.alloc())?;
-    let handle = element(rt.alloc(), 1, &drops)?;
-    let (queue, party) = MpscQueue::new(rt.alloc(), 1)?;
-    let mut seat = Seated::at(&queue, party);
-    let first = seat.split(&rt, 0);
-    let mut second = seat.split(&rt, 1);
-    let mut consumer = first.consumer(&rt);
-    keeps_out(&rt, &mut consumer, &mut second, handle);
-    let first = consumer.release();
-    same(&rt, first.rooms(), 1);
-    second.takes(&rt, Err(TryDequeueError::Empty));
-    Ok(())
+fn errors_have_the_numbers_1_to_3(rt: HostRuntime) {
+    let numbers = [
+        TryDequeueError::Empty as usize,
+        TryDequeueError::Inconsistent as usize,
+        TryDequeueError::Busy as usize,
+    ];
+    same(&rt, numbers, [1, 2, 3]);
 }
+
+/// An element's own party takes it.
+const ONE_PARTY: [Line; 6] = [
+    (0, Call::Rooms, Reply::Rooms(1)),
+    (0, Call::Put(1), Reply::Rooms(0)),
+    (0, Call::Drops, Reply::Drops(0)),
+    (0, Call::Try, Reply::Element(1)),
+    (0, Call::Drops, Reply::Drops(1)),
+    (0, Call::Try, EMPTY),
+];
+
+/// Two elements are held, in two of three rooms.
+const TWO_HELD: [Line; 2] = [
+    (0, Call::Put(1), Reply::Rooms(2)),
+    (0, Call::Put(2), Reply::Rooms(1)),
+];
+
+/// Three more go through the rooms, which are all in use again and again. The numbers of what is held are as before.
+const THREE_TURNS: [Line; 6] = [
+    (0, Call::Put(3), Reply::Rooms(0)),
+    (0, Call::Try, Reply::Element(1)),
+    (0, Call::Put(1), Reply::Rooms(0)),
+    (0, Call::Try, Reply::Element(2)),
+    (0, Call::Put(2), Reply::Rooms(0)),
+    (0, Call::Try, Reply::Element(3)),
+];
+
+/// The two that are held come out.
+const TWO_LEFT: [Line; 4] = [
+    (0, Call::Try, Reply::Element(1)),
+    (0, Call::Try, Reply::Element(2)),
+    (0, Call::Try, EMPTY),
+    (0, Call::Rooms, Reply::Rooms(3)),
+];
+
+/// A party is dropped with a room and after it has enqueued, and the others get all that is held.
+const A_DROPPED_PARTY: [Line; 14] = [
+    (0, Call::Split(2), Reply::Rooms(2)),
+    (1, Call::Put(1), Reply::Rooms(1)),
+    (1, Call::Leave, Reply::Done),
+    (0, Call::Split(0), Reply::Rooms(2)),
+    (0, Call::Put(2), Reply::Rooms(1)),
+    (2, Call::Try, Reply::Element(1)),
+    (0, Call::Put(3), Reply::Rooms(0)),
+    (0, Call::Try, Reply::Element(2)),
+    (2, Call::Try, Reply::Element(3)),
+    (0, Call::Try, EMPTY),
+    (0, Call::Rooms, Reply::Rooms(1)),
+    (2, Call::Rooms, Reply::Rooms(2)),
+    (0, Call::Drops, Reply::Drops(3)),
+    (2, Call::Leave, Reply::Done),
+];
+
+/// A consumer that was forgotten keeps the right. The queue takes elements, and returns none.
+const A_FORGOTTEN_CONSUMER: [Line; 11] = [
+    (0, Call::Put(1), Reply::Rooms(2)),
+    (0, Call::Put(2), Reply::Rooms(1)),
+    (0, Call::Split(0), Reply::Rooms(1)),
+    (1, Call::Consume(Claim::Try), Reply::Rooms(0)),
+    (1, Call::Try, Reply::Element(1)),
+    (1, Call::Forget, Reply::Done),
+    (0, Call::Try, BUSY),
+    (0, Call::Consume(Claim::Try), BUSY),
+    (0, Call::Put(3), Reply::Rooms(0)),
+    (0, Call::Try, BUSY),
+    (0, Call::Drops, Reply::Drops(1)),
+];
 
 #[test]
-fn a_dropped_consumer_releases_the_right(rt: HostRuntime) -> Result<(), AllocError> {
-    let drops = Drops::new(rt.alloc())?;
-    let handle = element(rt.alloc(), 1, &drops)?;
-    let (queue, party) = MpscQueue::new(rt.alloc(), 1)?;
-    let mut seat = Seated::at(&queue, party);
-    let first = seat.split(&rt, 0);
-    let mut second = seat.split(&rt, 1);
-    let mut consumer = first.consumer(&rt);
-    keeps_out(&rt, &mut consumer, &mut second, handle);
-    drop(consumer);
-    second.takes(&rt, Err(TryDequeueError::Empty));
-    Ok(())
+fn parties_come_and_go(rt: HostRuntime) {
+    alone(&rt, rt.alloc(), 1, 1, &[&ONE_PARTY]);
+    alone(&rt, rt.alloc(), 4, 3, &[&A_DROPPED_PARTY]);
+    alone(&rt, rt.alloc(), 3, 3, &[&A_FORGOTTEN_CONSUMER]);
+    let mut tables = [THREE_TURNS.as_slice(); 9];
+    tables[0] = &TWO_HELD;
+    tables[8] = &TWO_LEFT;
+    alone(&rt, rt.alloc(), 3, 23, &tables);
 }
+
+/// A consumer keeps another party out, which also tries to become one, until it is released.
+const KEEPS_OUT: [Line; 12] = [
+    (1, Call::Try, EMPTY),
+    (0, Call::Put(1), Reply::Rooms(1)),
+    (0, Call::Try, BUSY),
+    (0, Call::Consume(Claim::Try), BUSY),
+    (0, Call::Consume(Claim::TryOwned), BUSY),
+    (0, Call::Rooms, Reply::Rooms(1)),
+    (1, Call::Try, Reply::Element(1)),
+    (0, Call::Try, BUSY),
+    (1, Call::Try, EMPTY),
+    (1, Call::Release, Reply::Rooms(1)),
+    (0, Call::Try, EMPTY),
+    (1, Call::Try, EMPTY),
+];
 
 #[test]
-fn one_party_dequeues_what_it_enqueues(rt: HostRuntime) -> Result<(), AllocError> {
-    let drops = Drops::new(rt.alloc())?;
-    let handle = element(rt.alloc(), 1, &drops)?;
-    let (queue, party) = MpscQueue::new(rt.alloc(), 1)?;
-    let mut seat = Seated::at(&queue, party);
-    seat.put(&rt, handle);
-    dropped(&rt, &drops, 0);
-    seat.takes(&rt, Ok(1));
-    dropped(&rt, &drops, 1);
-    seat.takes(&rt, Err(TryDequeueError::Empty));
-    Ok(())
-}
-
-#[test]
-fn a_close_returns_what_is_held(rt: HostRuntime) -> Result<(), AllocError> {
-    let drops = Drops::new(rt.alloc())?;
-    let (one, two) = pair(rt.alloc(), 1, &drops)?;
-    let (queue, mut party) = MpscQueue::new(rt.alloc(), 2)?;
-    put(&rt, &queue, &mut party, one);
-    put(&rt, &queue, &mut party, two);
-    takes(&rt, &queue, &mut party, Ok(1));
-    let Closed { elements, stub } = queue.close(party);
-    same(&rt, stub.is_none(), true);
-    yields(&rt, elements, &[2]);
-    Ok(())
-}
-
-#[test]
-fn a_close_returns_the_stub(rt: HostRuntime) -> Result<(), AllocError> {
-    let drops = Drops::new(rt.alloc())?;
-    let stub = element(rt.alloc(), 7, &drops)?;
-    let (one, two) = pair(rt.alloc(), 1, &drops)?;
-    let three = element(rt.alloc(), 3, &drops)?;
-    let (queue, mut party) = with_stub(rt.alloc(), stub, 2)?;
-    same(&rt, party.rooms(), 2);
-    put(&rt, &queue, &mut party, one);
-    put(&rt, &queue, &mut party, two);
-    takes(&rt, &queue, &mut party, Ok(1));
-    put(&rt, &queue, &mut party, three);
-    let Closed { elements, stub } = queue.close(party);
-    yields(&rt, elements, &[2, 3]);
-    has_number(&rt, stub, Some(7));
-    Ok(())
-}
-
-/// Enqueues two elements by a party of three rooms, and at each turn enqueues one more and dequeues the oldest.
-fn pass_through(rt: &impl Abort, mut seat: Seated<'_>, pair: (Handle, Handle), more: Vec<Handle>) {
-    let (zero, one) = pair;
-    seat.put(rt, zero);
-    seat.put(rt, one);
-    let mut oldest = 0u64;
-    for node in more {
-        seat.put(rt, node);
-        seat.has_rooms(rt, 0);
-        seat.takes(rt, Ok(oldest));
-        oldest = oldest.wrapping_add(1);
+fn a_consumer_keeps_others_out(rt: HostRuntime) {
+    for (claim, other) in [(Claim::Try, Claim::TryOwned), (Claim::TryOwned, Claim::Try)] {
+        let first = [
+            (0, Call::Split(0), Reply::Rooms(2)),
+            (1, Call::Consume(claim), Reply::Rooms(0)),
+        ];
+        let then = [
+            (0, Call::Consume(other), Reply::Rooms(1)),
+            (1, Call::Try, BUSY),
+            (0, Call::Release, Reply::Rooms(1)),
+            (1, Call::Consume(claim), Reply::Rooms(1)),
+            (0, Call::Try, BUSY),
+            (1, Call::Leave, Reply::Done),
+            (0, Call::Try, EMPTY),
+        ];
+        alone(&rt, rt.alloc(), 2, 1, &[&first, &KEEPS_OUT, &then]);
     }
-    seat.takes(rt, Ok(20));
-    seat.takes(rt, Ok(21));
-    seat.takes(rt, Err(TryDequeueError::Empty));
-    seat.has_rooms(rt, 3);
 }
+
+/// Enqueues three elements, and splits a party off.
+const THREE_HELD: [Line; 4] = [
+    (0, Call::Put(1), Reply::Rooms(2)),
+    (0, Call::Put(2), Reply::Rooms(1)),
+    (0, Call::Put(3), Reply::Rooms(0)),
+    (0, Call::Split(0), Reply::Rooms(0)),
+];
+
+/// Takes the three by the party that was split off.
+const TAKEN: [Line; 3] = [
+    (1, Call::Try, Reply::Element(1)),
+    (1, Call::Try, Reply::Element(2)),
+    (1, Call::Try, Reply::Element(3)),
+];
+
+/// Takes them by the other.
+const LEFT: [Line; 3] = [
+    (0, Call::Try, Reply::Element(1)),
+    (0, Call::Try, Reply::Element(2)),
+    (0, Call::Try, Reply::Element(3)),
+];
 
 #[test]
-fn elements_leave_in_order(rt: HostRuntime) -> Result<(), AllocError> {
-    let drops = Drops::new(rt.alloc())?;
-    let pair = pair(rt.alloc(), 0, &drops)?;
-    let more = elements(rt.alloc(), 2, 20, &drops)?;
-    let (queue, party) = MpscQueue::new(rt.alloc(), 3)?;
-    pass_through(&rt, Seated::at(&queue, party), pair, more);
-    Ok(())
+fn a_dropped_consumer_leaves_what_is_held(rt: HostRuntime) {
+    for claim in [Claim::Try, Claim::TryOwned] {
+        for taken in 0..4 {
+            let consume = [(1, Call::Consume(claim), Reply::Rooms(0))];
+            let leave = [
+                (1, Call::Leave, Reply::Done),
+                (0, Call::Drops, Reply::Drops(taken as u64)),
+            ];
+            let empty = [(0, Call::Try, EMPTY)];
+            alone(
+                &rt,
+                rt.alloc(),
+                3,
+                3,
+                &[
+                    &THREE_HELD,
+                    &consume,
+                    &TAKEN[..taken],
+                    &leave,
+                    &LEFT[taken..],
+                    &empty,
+                ],
+            );
+        }
+    }
 }
+
+/// Takes all that is held at once, and then finds nothing.
+const ALL_AT_ONCE: [Line; 4] = [
+    (1, Call::Batch(9), Reply::Elements(1, 3)),
+    (1, Call::Rooms, Reply::Rooms(3)),
+    (1, Call::Batch(9), EMPTY),
+    (1, Call::Drops, Reply::Drops(3)),
+];
+
+/// Takes no more than is asked for, and then what is left.
+const TWO_AT_ONCE: [Line; 3] = [
+    (1, Call::Batch(2), Reply::Elements(1, 2)),
+    (1, Call::Batch(2), Reply::Elements(3, 1)),
+    (1, Call::Batch(2), EMPTY),
+];
+
+/// Takes a batch of two, and drops it with one of them left.
+const ONE_OF_TWO: [Line; 3] = [
+    (1, Call::FirstOf(2), Reply::Element(1)),
+    (1, Call::Drops, Reply::Drops(2)),
+    (1, Call::Rooms, Reply::Rooms(2)),
+];
+
+/// Two parties enqueue, and a third splits off.
+const BY_TWO_PARTIES: [Line; 5] = [
+    (0, Call::Split(0), Reply::Rooms(3)),
+    (0, Call::Split(2), Reply::Rooms(1)),
+    (2, Call::Put(1), Reply::Rooms(1)),
+    (2, Call::Put(2), Reply::Rooms(0)),
+    (0, Call::Put(3), Reply::Rooms(0)),
+];
 
 #[test]
-fn rooms_are_split_and_absorbed(rt: HostRuntime) -> Result<(), AllocError> {
-    let drops = Drops::new(rt.alloc())?;
-    let (one, two) = pair(rt.alloc(), 1, &drops)?;
-    let (queue, mut party) = MpscQueue::new(rt.alloc(), 5)?;
-    same(&rt, party.rooms(), 5);
-    let mut other = queue.split(&mut party, 2);
-    same(&rt, (party.rooms(), other.rooms()), (3, 2));
-    put(&rt, &queue, &mut other, one);
-    put(&rt, &queue, &mut party, two);
-    same(&rt, (party.rooms(), other.rooms()), (2, 1));
-    takes(&rt, &queue, &mut party, Ok(1));
-    same(&rt, (party.rooms(), other.rooms()), (3, 1));
-    queue.absorb(&mut party, other);
-    same(&rt, party.rooms(), 4);
-    let Closed { elements, stub: _ } = queue.close(party);
-    yields(&rt, elements, &[2]);
-    Ok(())
-}
-
-/// Splits no room off a queue that has none and takes it back, finds nothing held, and closes the queue, which has a
-/// stub of this number, if any.
-fn stays_empty(rt: &impl Abort, queue: MpscQueue<Counted>, party: Party<Counted>, stub: Option<u64>)
-    requires { (party.table ≡ queue.table) × (party.share ≡ whole) }
-{
-    let mut party = party;
-    let mut other = queue.split(&mut party, 0);
-    same(rt, (party.rooms(), other.rooms()), (0, 0));
-    takes(rt, &queue, &mut other, Err(TryDequeueError::Empty));
-    queue.absorb(&mut party, other);
-    takes(rt, &queue, &mut party, Err(TryDequeueError::Empty));
-    same(rt, party.rooms(), 0);
-    let closed = queue.close(party);
-    yields(rt, closed.elements, &[]);
-    has_number(rt, closed.stub, stub);
-}
-
-#[test]
-fn a_queue_without_rooms_returns_nothing(rt: HostRuntime) -> Result<(), AllocError> {
-    let (queue, party) = MpscQueue::new(rt.alloc(), 0)?;
-    stays_empty(&rt, queue, party, None);
-    Ok(())
-}
-
-#[test]
-fn a_queue_without_rooms_keeps_its_stub(rt: HostRuntime) -> Result<(), AllocError> {
-    let drops = Drops::new(rt.alloc())?;
-    let stub = element(rt.alloc(), 7, &drops)?;
-    let (queue, party) = with_stub(rt.alloc(), stub, 0)?;
-    stays_empty(&rt, queue, party, Some(7));
-    Ok(())
+fn a_consumer_takes_batches(rt: HostRuntime) {
+    for claim in [Claim::Try, Claim::TryOwned] {
+        let consume = [(1, Call::Consume(claim), Reply::Rooms(0))];
+        alone(
+            &rt,
+            rt.alloc(),
+            3,
+            3,
+            &[&THREE_HELD, &consume, &ALL_AT_ONCE],
+        );
+        alone(
+            &rt,
+            rt.alloc(),
+            3,
+            3,
+            &[&THREE_HELD, &consume, &TWO_AT_ONCE],
+        );
+        alone(&rt, rt.alloc(), 3, 3, &[&THREE_HELD, &consume, &ONE_OF_TWO]);
+        alone(
+            &rt,
+            rt.alloc(),
+            3,
+            3,
+            &[&BY_TWO_PARTIES, &consume, &ALL_AT_ONCE],
+        );
+    }
 }

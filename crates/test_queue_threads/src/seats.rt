@@ -1,158 +1,217 @@
-//! Parties at their queue, and what their calls return.
-ghost use Rattle.std.specs.Prelude.{◌≡◌, ◌≤◌, IfOk};
-ghost use Rattle.cordyceps_shared.specs.Shares.{whole};
+//! Parties at their queue, and the consumers that they become.
+ghost use Rattle.std.specs.Arc.{arc_value};
+ghost use Rattle.std.specs.Prelude.{◌≡◌};
+ghost use Rattle.cordyceps_shared.specs.Standings.{new_party};
 
-use crate::compared::same;
-use crate::items::number;
-use cordyceps_base::node::Refused;
-use cordyceps_queue::mpsc_queue::{Consumer, MAX_ROOMS, MpscQueue, Party, TryDequeueError};
-use std::alloc::{AllocError, Global};
+use crate::compared::{at_most, made};
+use crate::items::Handle;
+use cordyceps_queue::mpsc_queue::{
+    Batch, Consumer, MAX_ROOMS, MpscQueue, OwnedConsumer, Party, TryDequeueError,
+};
+use std::alloc::{AllocFailed, Global};
 use std::process::Abort;
-use test_queue_support::items::{Handle, element, pair};
-use test_support::counted::{Counted, Drops};
+use std::sync::{Arc, Wait};
+use test_support::counted::Counted;
 
-/// Enqueues an element into a room that must be there.
-pub fn put(rt: &impl Abort, queue: &MpscQueue<Counted>, party: &mut Party<Counted>, handle: Handle)
-    requires { party.old.table ≡ queue.now.table }
-    ensures table { party.new.table ≡ queue.now.table }
-    ensures share { party.new.share ≡ party.old.share }
-{
-    assert!(rt; party.rooms() > 0);
-    queue.enqueue(party, handle);
-}
+/// A queue that has several owners.
+pub type Shared = Arc<MpscQueue<Counted>, Global>;
 
-/// Asserts the number of what one try returned, or the error.
-pub fn takes(
-    rt: &impl Abort,
-    queue: &MpscQueue<Counted>,
-    party: &mut Party<Counted>,
-    wanted: Result<u64, TryDequeueError>,
-)
-    requires { party.old.table ≡ queue.now.table }
-    ensures table { party.new.table ≡ queue.now.table }
-    ensures share { party.new.share ≡ party.old.share }
-{
-    same(rt, found(rt, queue.try_dequeue(party)), wanted);
-}
-
-/// Returns the number of what one try returned.
-pub fn found(
-    rt: &impl Abort,
-    tried: Result<Handle, TryDequeueError>,
-) -> Result<u64, TryDequeueError> {
-    match tried {
-        Ok(node) => Ok(number(rt, &node)),
-        Err(error) => Err(error),
-    }
-}
-
-/// Asserts the number of what one try of a consumer returned, or the error.
-pub fn consumes(
-    rt: &impl Abort,
-    consumer: &mut Consumer<'_, Counted>,
-    wanted: Result<u64, TryDequeueError>,
-) {
-    same(rt, found(rt, consumer.try_dequeue()), wanted);
-}
-
-/// Returns the consumer of a queue that nobody else dequeues from.
-pub fn consumer_of<'q>(
-    rt: &impl Abort,
-    queue: &'q MpscQueue<Counted>,
-    party: Party<Counted>,
-) -> Consumer<'q, Counted>
-    requires { party.table ≡ queue.now.table }
-    ensures { result.table ≡ queue.entry.now.table }
-{
-    match queue.try_consume(party) {
-        Ok(consumer) => consumer,
-        Err(_) => panic!(rt; "nobody else has the right"),
-    }
-}
-
-/// Returns a queue with this stub, and its whole party.
-pub fn with_stub(
-    alloc: Global,
-    stub: Handle,
-    rooms: usize,
-) -> Result<(MpscQueue<Counted>, Party<Counted>), AllocError>
-    requires { rooms ≤ MAX_ROOMS }
-    ensures table { IfOk result (λ made. made.1.table ≡ made.0.table) }
-    ensures share { IfOk result (λ made. made.1.share ≡ whole) }
-{
-    match MpscQueue::new_with_stub(alloc, stub, rooms) {
-        Ok(made) => Ok(made),
-        Err(Refused { value: _ }) => Err(AllocError),
-    }
-}
-
-/// Returns a queue of 3 rooms with a stub that holds the elements 1, 2 and 3, and its whole party.
-pub fn three_queued(
-    rt: &impl Abort,
-    alloc: Global,
-    drops: &Drops,
-) -> Result<(MpscQueue<Counted>, Party<Counted>), AllocError>
-    ensures table { IfOk result (λ made. made.1.table ≡ made.0.table) }
-    ensures share { IfOk result (λ made. made.1.share ≡ whole) }
-{
-    let stub = element(alloc, 7, drops)?;
-    let (one, two) = pair(alloc, 1, drops)?;
-    let three = element(alloc, 3, drops)?;
-    let (queue, mut party) = with_stub(alloc, stub, 3)?;
-    put(rt, &queue, &mut party, one);
-    put(rt, &queue, &mut party, two);
-    put(rt, &queue, &mut party, three);
-    Ok((queue, party))
+/// By which call a party takes the right to dequeue.
+#[derive(Clone, Copy)]
+pub enum Claim {
+    Try,
+    Wait,
+    TryOwned,
+    WaitOwned,
 }
 
 /// A party at its queue.
 #[derive(Drop)]
 pub struct Seated<'q> {
-    queue: &'q MpscQueue<Counted>,
+    queue: &'q Shared,
     party: Party<Counted>,
-    ghost seated: { party.table ≡ queue.now.table },
+    ghost seated: { party.table ≡ (arc_value queue.now).table },
+}
+
+/// A consumer of its queue.
+#[derive(Drop)]
+pub struct Consuming<'q> {
+    queue: &'q Shared,
+    consumer: Consumer<'q, Counted>,
+    ghost seated: { consumer.table ≡ (arc_value queue.now).table },
+}
+
+/// A consumer that owns its queue with others.
+#[derive(Drop)]
+pub struct Owning<'q> {
+    queue: &'q Shared,
+    consumer: OwnedConsumer<Counted>,
+    ghost seated: { consumer.queue ≡ arc_value queue.now },
+}
+
+/// A party, or what it has become.
+#[derive(Drop)]
+pub enum Seat<'q> {
+    Party(Seated<'q>),
+    Consumer(Consuming<'q>),
+    Owned(Owning<'q>),
+    Left,
+}
+
+/// Returns a new queue, with this stub if any, and its whole party.
+pub fn queue_of(
+    rt: &impl Abort,
+    alloc: Global,
+    stub: Option<Handle>,
+    rooms: usize,
+) -> (MpscQueue<Counted>, Party<Counted>)
+    ensures { result.1 ≡ new_party result.0.table rooms }
+{
+    at_most(rt, rooms, MAX_ROOMS);
+    let Some(stub) = stub else {
+        return made(rt, MpscQueue::new(alloc, rooms));
+    };
+    match MpscQueue::new_with_stub(alloc, stub, rooms) {
+        Ok(both) => both,
+        Err(_) => panic!(rt; "memory was refused"),
+    }
+}
+
+/// Returns the same, with a queue that can have several owners.
+pub fn shared_of(
+    rt: &impl Abort,
+    alloc: Global,
+    stub: Option<Handle>,
+    rooms: usize,
+) -> (Shared, Party<Counted>)
+    ensures { result.1.table ≡ (arc_value result.0).table }
+{
+    let (queue, party) = queue_of(rt, alloc, stub, rooms);
+    match Arc::new(alloc, queue) {
+        Ok(shared) => (shared, party),
+        Err(AllocFailed { value: _ }) => panic!(rt; "memory was refused"),
+    }
 }
 
 impl<'q> Seated<'q> {
-    /// Returns a party of this queue.
-    pub fn at(queue: &'q MpscQueue<Counted>, party: Party<Counted>) -> Seated<'q>
-        requires { party.table ≡ queue.now.table }
-    {
-        Seated { queue, party }
-    }
-
-    /// Gives some of the rooms, which must be there, to a new party.
-    pub fn split(&mut self, rt: &impl Abort, rooms: usize) -> Seated<'q> {
-        assert!(rt; self.party.rooms() >= rooms);
-        Seated {
-            queue: self.queue,
-            party: self.queue.split(&mut self.party, rooms),
+    /// Returns the consumer that this party becomes, or the party where another has the right.
+    fn consume<R: Wait>(self, rt: &R, waits: bool) -> Seat<'q> {
+        let Seated { queue, party } = self;
+        if waits {
+            let consumer = queue.consume(rt, party);
+            return Seat::Consumer(Consuming { queue, consumer });
+        }
+        match queue.try_consume(party) {
+            Ok(consumer) => Seat::Consumer(Consuming { queue, consumer }),
+            Err(party) => Seat::Party(Seated { queue, party }),
         }
     }
 
-    /// Compares how many rooms the party has with what is wanted.
-    pub fn has_rooms(&self, rt: &impl Abort, wanted: usize) {
-        same(rt, self.party.rooms(), wanted);
+    /// The same with a consumer that owns the queue with others.
+    fn consume_owned<R: Wait + Abort>(self, rt: &R, waits: bool) -> Seat<'q> {
+        let Seated { queue, party } = self;
+        let share = made(rt, Arc::try_clone(queue));
+        if waits {
+            let consumer = MpscQueue::consume_owned(rt, share, party);
+            return Seat::Owned(Owning { queue, consumer });
+        }
+        match MpscQueue::try_consume_owned(share, party) {
+            Ok(consumer) => Seat::Owned(Owning { queue, consumer }),
+            Err((_, party)) => Seat::Party(Seated { queue, party }),
+        }
+    }
+}
+
+impl<'q> Seat<'q> {
+    /// Returns a party of this queue.
+    pub fn new(queue: &'q Shared, party: Party<Counted>) -> Seat<'q>
+        requires { party.table ≡ (arc_value queue.now).table }
+    {
+        Seat::Party(Seated { queue, party })
+    }
+
+    /// Returns how many rooms the party has.
+    pub fn rooms(&self, rt: &impl Abort) -> usize {
+        match self {
+            Seat::Party(it) => it.party.rooms(),
+            Seat::Consumer(it) => it.consumer.rooms(),
+            Seat::Owned(it) => it.consumer.rooms(),
+            Seat::Left => panic!(rt; "the party has left"),
+        }
+    }
+
+    /// Gives some of the rooms, which must be there, to a new party.
+    pub fn split(&mut self, rt: &impl Abort, rooms: usize) -> Seat<'q> {
+        let Seat::Party(it) = self else {
+            panic!(rt; "only a party is split");
+        };
+        at_most(rt, rooms, it.party.rooms());
+        let party = it.queue.split(&mut it.party, rooms);
+        Seat::new(it.queue, party)
     }
 
     /// Enqueues an element into a room that must be there.
     pub fn put(&mut self, rt: &impl Abort, handle: Handle) {
-        put(rt, self.queue, &mut self.party, handle);
+        let Seat::Party(it) = self else {
+            panic!(rt; "only a party enqueues");
+        };
+        at_most(rt, 1, it.party.rooms());
+        it.queue.enqueue(&mut it.party, handle);
     }
 
-    /// Returns the number of what one try returned.
-    pub fn take(&mut self, rt: &impl Abort) -> Result<u64, TryDequeueError> {
-        found(rt, self.queue.try_dequeue(&mut self.party))
+    /// Tries once to dequeue an element.
+    pub fn try_take(&mut self, rt: &impl Abort) -> Result<Handle, TryDequeueError> {
+        match self {
+            Seat::Party(it) => it.queue.try_dequeue(&mut it.party),
+            Seat::Consumer(it) => it.consumer.try_dequeue(),
+            Seat::Owned(it) => it.consumer.try_dequeue(),
+            Seat::Left => panic!(rt; "the party has left"),
+        }
     }
 
-    /// Asserts the number of what one try returned, or the error.
-    pub fn takes(&mut self, rt: &impl Abort, wanted: Result<u64, TryDequeueError>) {
-        same(rt, self.take(rt), wanted);
+    /// Dequeues an element by a call that may wait.
+    pub fn take<R: Wait + Abort>(&mut self, rt: &R) -> Option<Handle> {
+        match self {
+            Seat::Party(it) => it.queue.dequeue(rt, &mut it.party),
+            Seat::Consumer(it) => it.consumer.dequeue(rt),
+            Seat::Owned(it) => it.consumer.dequeue(rt),
+            Seat::Left => panic!(rt; "the party has left"),
+        }
     }
 
-    /// Returns the consumer of a queue that nobody else dequeues from.
-    pub fn consumer(self, rt: &impl Abort) -> Consumer<'q, Counted> {
-        let Seated { queue, party } = self;
-        consumer_of(rt, queue, party)
+    /// Takes a batch of at most this many elements, and of one at least.
+    pub fn take_linked(
+        &mut self,
+        rt: &impl Abort,
+        most: usize,
+    ) -> Result<Batch<Counted>, TryDequeueError> {
+        at_most(rt, 1, most);
+        match self {
+            Seat::Consumer(it) => it.consumer.take_linked(most),
+            Seat::Owned(it) => it.consumer.take_linked(most),
+            _ => panic!(rt; "only a consumer takes batches"),
+        }
+    }
+
+    /// Takes the right to dequeue, if another party does not have it.
+    pub fn consume<R: Wait + Abort>(self, rt: &R, claim: Claim) -> Seat<'q> {
+        let Seat::Party(party) = self else {
+            panic!(rt; "only a party takes the right");
+        };
+        match claim {
+            Claim::Try => party.consume(rt, false),
+            Claim::Wait => party.consume(rt, true),
+            Claim::TryOwned => party.consume_owned(rt, false),
+            Claim::WaitOwned => party.consume_owned(rt, true),
+        }
+    }
+
+    /// Gives the right to dequeue back.
+    pub fn release(self, rt: &impl Abort) -> Seat<'q> {
+        match self {
+            Seat::Consumer(Consuming { queue, consumer }) => Seat::new(queue, consumer.release()),
+            Seat::Owned(Owning { queue, consumer }) => Seat::new(queue, consumer.release().1),
+            _ => panic!(rt; "only a consumer has the right"),
+        }
     }
 }

@@ -1,0 +1,122 @@
+//! Calls that may wait, each on a thread of its own, beside one that watches it.
+use crate::calls::{Call, Reply};
+use crate::scenes::Scene;
+use crate::seats::Claim;
+use cordyceps_queue::mpsc_queue::TryDequeueError;
+
+/// How often each test's threads run.
+const ROUNDS: u64 = 10;
+
+#[test]
+fn enqueue_dequeue(rt: HostRuntime) {
+    for first in [
+        Call::Rooms,
+        Call::Consume(Claim::Wait),
+        Call::Consume(Claim::WaitOwned),
+    ] {
+        let scene = Scene {
+            rooms: 1,
+            elements: 1,
+            before: &[&[
+                (0, Call::Put(1), Reply::Rooms(0)),
+                (0, Call::Split(0), Reply::Rooms(0)),
+            ]],
+            parts: &[
+                (
+                    0,
+                    &[
+                        (0, first, Reply::Rooms(0)),
+                        (0, Call::Take, Reply::Element(1)),
+                        (0, Call::Take, Reply::Nothing),
+                        (0, Call::Tell, Reply::Done),
+                    ],
+                ),
+                (1, &[(0, Call::Await(1), Reply::Done)]),
+            ],
+            after: &[],
+        };
+        scene.play(&rt, rt.alloc(), ROUNDS);
+    }
+}
+
+#[test]
+fn a_consumer_is_sent_to_a_thread(rt: HostRuntime) {
+    for claim in [Claim::Try, Claim::TryOwned] {
+        let scene = Scene {
+            rooms: 2,
+            elements: 2,
+            before: &[&[
+                (0, Call::Put(1), Reply::Rooms(1)),
+                (0, Call::Put(2), Reply::Rooms(0)),
+                (0, Call::Split(0), Reply::Rooms(0)),
+                (0, Call::Split(0), Reply::Rooms(0)),
+                (0, Call::Consume(claim), Reply::Rooms(0)),
+                (1, Call::Try, Reply::Fails(TryDequeueError::Busy)),
+            ]],
+            parts: &[
+                (
+                    0,
+                    &[
+                        (0, Call::Take, Reply::Element(1)),
+                        (0, Call::Take, Reply::Element(2)),
+                        (0, Call::Take, Reply::Nothing),
+                        (0, Call::Leave, Reply::Done),
+                        (0, Call::Tell, Reply::Done),
+                    ],
+                ),
+                (2, &[(0, Call::Await(1), Reply::Done)]),
+            ],
+            after: &[(1, Call::Try, Reply::Fails(TryDequeueError::Empty))],
+        };
+        scene.play(&rt, rt.alloc(), ROUNDS);
+    }
+}
+
+#[test]
+fn calls_wait_for_a_release(rt: HostRuntime) {
+    let take = (Call::Take, Reply::Element(1));
+    let consume = (Call::Consume(Claim::Wait), Reply::Rooms(0));
+    let consume_owned = (Call::Consume(Claim::WaitOwned), Reply::Rooms(0));
+    let element = (Call::Try, Reply::Element(1));
+    let empty = (Call::Try, Reply::Fails(TryDequeueError::Empty));
+    let release = (Call::Release, Reply::Rooms(0));
+    let leave = (Call::Leave, Reply::Done);
+    for (wait, next, claim, end) in [
+        (take, empty, Claim::Try, release),
+        (consume, element, Claim::Try, release),
+        (consume_owned, element, Claim::TryOwned, leave),
+    ] {
+        let scene = Scene {
+            rooms: 1,
+            elements: 1,
+            before: &[&[
+                (0, Call::Put(1), Reply::Rooms(0)),
+                (0, Call::Split(0), Reply::Rooms(0)),
+                (0, Call::Split(0), Reply::Rooms(0)),
+                (1, Call::Consume(claim), Reply::Rooms(0)),
+            ]],
+            parts: &[
+                (
+                    1,
+                    &[
+                        (0, Call::Await(1), Reply::Done),
+                        (0, Call::Stays(1), Reply::Done),
+                        (0, end.0, end.1),
+                        (0, Call::Await(2), Reply::Done),
+                    ],
+                ),
+                (
+                    2,
+                    &[
+                        (0, Call::Tell, Reply::Done),
+                        (0, wait.0, wait.1),
+                        (0, Call::Tell, Reply::Done),
+                        (0, next.0, next.1),
+                    ],
+                ),
+            ],
+            after: &[],
+        };
+        scene.play(&rt, rt.alloc(), ROUNDS);
+    }
+}
