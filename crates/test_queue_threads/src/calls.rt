@@ -155,11 +155,12 @@ impl<'q> Actor<'q> {
         Actor { stage, seats }
     }
 
-    /// Makes these calls, and compares what they reply.
+    /// Makes these calls, and compares what they reply. A failure prints the line, the first of which is 0.
     pub fn run<R: Wait + Abort>(&mut self, rt: &R, lines: &[Line]) {
-        for (place, call, wanted) in lines {
-            let came = self.call(rt, *place, *call);
-            same(rt, came, *wanted);
+        for line in 0..lines.len() {
+            let (place, call, wanted) = lines[line];
+            let came = self.call(rt, place, call);
+            same(rt, (line, came), (line, wanted));
         }
     }
 

@@ -1,7 +1,7 @@
 //! Crowds at a queue: many that enqueue elements, and one or more that dequeue them.
 use crate::compared::{append, made, same};
 use crate::items::elements;
-use crate::seats::{Claim, Seat, shared_of};
+use crate::seats::{Claim, Seat, queue_of, shared};
 use crate::tasks::{Task, run_all};
 use crate::workers::{Crowd, Meeting, Producer, Taker, Way};
 use std::alloc::Global;
@@ -38,9 +38,10 @@ impl Crowd {
         first: u64,
         drops: &Drops,
     ) -> Producer<'q> {
+        let elements = elements(rt, alloc, first, self.each, drops);
         Producer {
             seat: seat.split(rt, self.each as usize),
-            elements: elements(rt, alloc, first, self.each, drops),
+            elements,
             yields: self.yields,
         }
     }
@@ -87,8 +88,9 @@ impl Crowd {
     fn round<R: Threads + Wait + Abort + Sync>(self, rt: &R, alloc: Global) {
         let drops = made(rt, Drops::new(alloc));
         let meeting = self.meeting(rt, alloc);
-        let (queue, party) = shared_of(rt, alloc, None, self.all() as usize);
-        let (second, other) = shared_of(rt, alloc, None, self.takers as usize);
+        let (queue, party) = queue_of(rt, alloc, None, self.all() as usize);
+        let (second, other) = queue_of(rt, alloc, None, self.takers as usize);
+        let (queue, second) = (shared(rt, alloc, queue), shared(rt, alloc, second));
         let seats = (Seat::new(&queue, party), Seat::new(&second, other));
         self.run(rt, alloc, &meeting, seats, &drops);
         for times in &meeting.times {

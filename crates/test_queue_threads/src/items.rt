@@ -52,9 +52,8 @@ pub fn number_of(rt: &impl Abort, node: Option<Handle>) -> Option<u64> {
 
 /// Compares how many elements a batch says that it has left with what is wanted.
 fn has_left(rt: &impl Abort, elements: &Batch<Counted>, wanted: usize) {
-    same(rt, elements.len(), wanted);
-    same(rt, elements.size_hint(), (wanted, Some(wanted)));
-    same(rt, elements.is_empty(), wanted == 0);
+    let says = (elements.len(), elements.size_hint(), elements.is_empty());
+    same(rt, says, (wanted, (wanted, Some(wanted)), wanted == 0));
 }
 
 /// Returns the number of a batch's first element, and how many it has. Each has to have the number after that of the

@@ -5,8 +5,8 @@ ghost use Rattle.std.specs.Prelude.{◌≡◌};
 use crate::calls::{Reply, tried};
 use crate::closings::Whole;
 use crate::compared::{made, same};
-use crate::items::{elements, number, number_of};
-use crate::seats::{Seat, Shared, shared_of};
+use crate::items::{number, number_of};
+use crate::seats::{Shared, shared};
 use cordyceps_base::node::Refused;
 use cordyceps_queue::mpsc_queue::{Closed, MpscQueue, OwnedConsumer, Party, TryDequeueError};
 use std::alloc::AllocError;
@@ -59,31 +59,24 @@ fn owned_of(rt: &impl Abort, queue: Shared, party: Party<Counted>) -> OwnedConsu
 #[test]
 fn the_last_owner_frees_the_queue(rt: HostRuntime) {
     let drops = made(&rt, Drops::new(rt.alloc()));
-    let (queue, mut party) = shared_of(&rt, rt.alloc(), None, 3);
-    let mut other = queue.split(&mut party, 0);
-    let mut seat = Seat::new(&queue, party);
-    for node in elements(&rt, rt.alloc(), 1, 3, &drops) {
-        seat.put(&rt, node);
-    }
-    drop(seat);
+    let Whole { queue, mut party } = Whole::three_held(&rt, rt.alloc(), &drops);
+    let other = queue.split(&mut party, 0);
+    let queue = shared(&rt, rt.alloc(), queue);
     let share = made(&rt, Arc::try_clone(&queue));
-    let mut owned = owned_of(&rt, share, queue.split(&mut other, 0));
+    let mut owned = owned_of(&rt, share, other);
     same(&rt, tried(&rt, owned.try_dequeue()), Reply::Element(1));
-    same(
-        &rt,
-        tried(&rt, queue.try_dequeue(&mut other)),
-        Reply::Fails(TryDequeueError::Busy),
-    );
+    let busy = Reply::Fails(TryDequeueError::Busy);
+    same(&rt, tried(&rt, queue.try_dequeue(&mut party)), busy);
     drop(owned);
     dropped(&rt, &drops, 1);
     same(
         &rt,
-        tried(&rt, queue.try_dequeue(&mut other)),
+        tried(&rt, queue.try_dequeue(&mut party)),
         Reply::Element(2),
     );
     dropped(&rt, &drops, 2);
-    drop(owned_of(&rt, queue, other));
-    dropped(&rt, &drops, 3);
+    drop(owned_of(&rt, queue, party));
+    dropped(&rt, &drops, 4);
 }
 
 // It says more where an allocation is made to fail, as `tools/refusals` does: `new` then returns `Err`, and the next

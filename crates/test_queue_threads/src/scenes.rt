@@ -2,7 +2,7 @@
 use crate::calls::{Actor, Line, Stage};
 use crate::compared::{append, made, same};
 use crate::items::element;
-use crate::seats::{Seat, shared_of};
+use crate::seats::{Seat, queue_of, shared};
 use crate::tasks::{Task, run_all};
 use std::alloc::Global;
 use std::process::Abort;
@@ -46,7 +46,8 @@ impl Scene<'_> {
             told: AtomicU64::new(0),
         };
         let stub = element(rt, alloc, STUB, &stage.drops);
-        let (queue, party) = shared_of(rt, alloc, Some(stub), self.rooms);
+        let (queue, party) = queue_of(rt, alloc, Some(stub), self.rooms);
+        let queue = shared(rt, alloc, queue);
         self.act(rt, &stage, Seat::new(&queue, party));
         drop(queue);
         same(rt, stage.drops.count(), self.elements.wrapping_add(1));

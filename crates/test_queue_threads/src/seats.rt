@@ -77,18 +77,12 @@ pub fn queue_of(
     }
 }
 
-/// Returns the same, with a queue that can have several owners.
-pub fn shared_of(
-    rt: &impl Abort,
-    alloc: Global,
-    stub: Option<Handle>,
-    rooms: usize,
-) -> (Shared, Party<Counted>)
-    ensures { result.1.table ≡ (arc_value result.0).table }
+/// Returns a queue that can have several owners.
+pub fn shared(rt: &impl Abort, alloc: Global, queue: MpscQueue<Counted>) -> Shared
+    ensures { arc_value result ≡ queue }
 {
-    let (queue, party) = queue_of(rt, alloc, stub, rooms);
     match Arc::new(alloc, queue) {
-        Ok(shared) => (shared, party),
+        Ok(shared) => shared,
         Err(AllocFailed { value: _ }) => panic!(rt; "memory was refused"),
     }
 }

@@ -31,8 +31,8 @@ fn run_task<R: Wait + Abort>(rt: &R, task: Task<'_>) {
     }
 }
 
-/// Runs each task on a thread of its own.
-pub fn run_all<'q, R: Threads + Wait + Abort + Sync>(rt: &R, tasks: Vec<Task<'q>>) {
+/// Runs each task on a thread of its own. The clauses say nothing of what a task does, which keeps its proof short.
+pub fn run_all<R: Threads + Wait + Abort + Sync>(rt: &R, tasks: Vec<Task<'_>>) {
     let ran = thread::map_vec(
         rt,
         tasks,
