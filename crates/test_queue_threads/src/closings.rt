@@ -121,46 +121,38 @@ fn closes(
     same(rt, number_of(rt, back), stub);
 }
 
+const EMPTY: Reply = Reply::Fails(TryDequeueError::Empty);
+
+/// Steps on a queue without rooms, which stays empty.
+const WITHOUT_ROOMS: [(Step, Reply); 3] = [
+    (Step::TryByOther, EMPTY),
+    (Step::Try, EMPTY),
+    (Step::Rooms, Reply::Rooms(0)),
+];
+
+/// Steps after which the elements 2 and 3 are held.
+const TWO_ROOMS: [(Step, Reply); 4] = [
+    (Step::Put(1), Reply::Rooms(1)),
+    (Step::Put(2), Reply::Rooms(0)),
+    (Step::Try, Reply::Element(1)),
+    (Step::Put(3), Reply::Rooms(0)),
+];
+
+/// Steps after which the element 3 is held.
+const FIVE_ROOMS: [(Step, Reply); 6] = [
+    (Step::PutByOther(1, 2), Reply::Rooms(4)),
+    (Step::Put(2), Reply::Rooms(3)),
+    (Step::Try, Reply::Element(1)),
+    (Step::PutByOther(3, 4), Reply::Rooms(3)),
+    (Step::TryByOther, Reply::Element(2)),
+    (Step::Rooms, Reply::Rooms(4)),
+];
+
 #[test]
 fn a_close_returns_what_is_held(rt: HostRuntime) {
-    let empty = Reply::Fails(TryDequeueError::Empty);
     for stub in [None, Some(7u64)] {
-        closes(
-            &rt,
-            rt.alloc(),
-            (0, stub),
-            &[
-                (Step::TryByOther, empty),
-                (Step::Try, empty),
-                (Step::Rooms, Reply::Rooms(0)),
-            ],
-            (0, 0),
-        );
-        closes(
-            &rt,
-            rt.alloc(),
-            (2, stub),
-            &[
-                (Step::Put(1), Reply::Rooms(1)),
-                (Step::Put(2), Reply::Rooms(0)),
-                (Step::Try, Reply::Element(1)),
-                (Step::Put(3), Reply::Rooms(0)),
-            ],
-            (2, 2),
-        );
-        closes(
-            &rt,
-            rt.alloc(),
-            (5, stub),
-            &[
-                (Step::PutByOther(1, 2), Reply::Rooms(4)),
-                (Step::Put(2), Reply::Rooms(3)),
-                (Step::Try, Reply::Element(1)),
-                (Step::PutByOther(3, 4), Reply::Rooms(3)),
-                (Step::TryByOther, Reply::Element(2)),
-                (Step::Rooms, Reply::Rooms(4)),
-            ],
-            (3, 1),
-        );
+        closes(&rt, rt.alloc(), (0, stub), &WITHOUT_ROOMS, (0, 0));
+        closes(&rt, rt.alloc(), (2, stub), &TWO_ROOMS, (2, 2));
+        closes(&rt, rt.alloc(), (5, stub), &FIVE_ROOMS, (3, 1));
     }
 }

@@ -53,7 +53,7 @@ impl Scene<'_> {
         same(rt, stage.drops.count(), self.elements.wrapping_add(1));
     }
 
-    /// Makes the calls of all three parts.
+    /// Makes the calls, those of parts on threads of their own.
     fn act<'q, R: Threads + Wait + Abort + Sync>(&self, rt: &R, stage: &'q Stage, seat: Seat<'q>) {
         let mut actor = Actor::new(rt, stage, seat);
         for lines in self.before {
@@ -69,7 +69,8 @@ impl Scene<'_> {
     }
 }
 
-/// Makes these calls on one thread, of a new queue that is dropped at last, and compares how many elements were dropped.
+/// Makes these calls on one thread, of a new queue that is dropped at last, and compares how many elements were
+/// dropped.
 pub fn alone<R: Threads + Wait + Abort + Sync>(
     rt: &R,
     alloc: Global,

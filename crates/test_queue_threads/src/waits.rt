@@ -1,5 +1,5 @@
 //! Calls that may wait, each on a thread of its own, beside one that watches it.
-use crate::calls::{Call, Reply};
+use crate::calls::{Call, Line, Reply};
 use crate::scenes::Scene;
 use crate::seats::Claim;
 use cordyceps_queue::mpsc_queue::TryDequeueError;
@@ -72,49 +72,49 @@ fn a_consumer_is_sent_to_a_thread(rt: HostRuntime) {
     }
 }
 
+/// An element is held, and two parties are split off.
+const ONE_HELD: [Line; 3] = [
+    (0, Call::Put(1), Reply::Rooms(0)),
+    (0, Call::Split(0), Reply::Rooms(0)),
+    (0, Call::Split(0), Reply::Rooms(0)),
+];
+
+const TELL: Line = (0, Call::Tell, Reply::Done);
+
 #[test]
 fn calls_wait_for_a_release(rt: HostRuntime) {
-    let take = (Call::Take, Reply::Element(1));
-    let consume = (Call::Consume(Claim::Wait), Reply::Rooms(0));
-    let consume_owned = (Call::Consume(Claim::WaitOwned), Reply::Rooms(0));
     let element = (Call::Try, Reply::Element(1));
     let empty = (Call::Try, Reply::Fails(TryDequeueError::Empty));
-    let release = (Call::Release, Reply::Rooms(0));
+    let right = Reply::Rooms(0);
+    let release = (Call::Release, right);
     let leave = (Call::Leave, Reply::Done);
     for (wait, next, claim, end) in [
-        (take, empty, Claim::Try, release),
-        (consume, element, Claim::Try, release),
-        (consume_owned, element, Claim::TryOwned, leave),
+        ((Call::Take, element.1), empty, Claim::Try, release),
+        (
+            (Call::Consume(Claim::Wait), right),
+            element,
+            Claim::Try,
+            release,
+        ),
+        (
+            (Call::Consume(Claim::WaitOwned), right),
+            element,
+            Claim::TryOwned,
+            leave,
+        ),
     ] {
+        let holds = [
+            (0, Call::Await(1), Reply::Done),
+            (0, Call::Stays(1), Reply::Done),
+            (0, end.0, end.1),
+            (0, Call::Await(2), Reply::Done),
+        ];
+        let waits = [TELL, (0, wait.0, wait.1), TELL, (0, next.0, next.1)];
         let scene = Scene {
             rooms: 1,
             elements: 1,
-            before: &[&[
-                (0, Call::Put(1), Reply::Rooms(0)),
-                (0, Call::Split(0), Reply::Rooms(0)),
-                (0, Call::Split(0), Reply::Rooms(0)),
-                (1, Call::Consume(claim), Reply::Rooms(0)),
-            ]],
-            parts: &[
-                (
-                    1,
-                    &[
-                        (0, Call::Await(1), Reply::Done),
-                        (0, Call::Stays(1), Reply::Done),
-                        (0, end.0, end.1),
-                        (0, Call::Await(2), Reply::Done),
-                    ],
-                ),
-                (
-                    2,
-                    &[
-                        (0, Call::Tell, Reply::Done),
-                        (0, wait.0, wait.1),
-                        (0, Call::Tell, Reply::Done),
-                        (0, next.0, next.1),
-                    ],
-                ),
-            ],
+            before: &[&ONE_HELD, &[(1, Call::Consume(claim), right)]],
+            parts: &[(1, &holds), (2, &waits)],
             after: &[],
         };
         scene.play(&rt, rt.alloc(), ROUNDS);
