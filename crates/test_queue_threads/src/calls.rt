@@ -1,6 +1,6 @@
 //! Calls of the parties at a queue, and what they reply.
-use crate::compared::{append, same};
-use crate::items::{Handle, element, number, numbers};
+use crate::compared::same;
+use crate::items::{Handle, append, element, number, numbers};
 use crate::seats::{Claim, Seat};
 use cordyceps_queue::mpsc_queue::TryDequeueError;
 use std::alloc::Global;

@@ -1,7 +1,8 @@
-//! Comparisons that say both values where they differ, and calls that end the test where memory is refused.
+//! What ends a test: a value that is not the one wanted, a number beyond its bound, memory that was refused.
+//!
+//! Each crate of tests has this very file. A library cannot have it for them, since tests alone may end the process.
 ghost use Rattle.std.specs.Prelude.{◌≡◌, ◌≤◌, Ok};
 
-use std::alloc::AllocError;
 use std::fmt::Debug;
 use std::process::Abort;
 
@@ -17,17 +18,12 @@ pub fn at_most(rt: &impl Abort, number: usize, bound: usize)
     assert!(rt; number <= bound);
 }
 
-/// Returns what was made, and ends the test where memory was refused.
-pub fn made<T: Drop>(rt: &impl Abort, came: Result<T, AllocError>) -> T
-    ensures { came ≡ Ok result }
+/// Returns what was made, and fails where memory was refused.
+pub fn made<T, E: Drop>(rt: &impl Abort, answer: Result<T, E>) -> T
+    ensures { answer ≡ Ok result }
 {
-    match came {
+    match answer {
         Ok(it) => it,
-        Err(AllocError) => panic!(rt; "memory was refused"),
+        Err(_) => panic!(rt; "memory was refused"),
     }
-}
-
-/// Appends a value, and ends the test where memory is refused.
-pub fn append<T: Drop>(rt: &impl Abort, values: &mut Vec<T>, value: T) {
-    same(rt, values.push(value).is_ok(), true);
 }

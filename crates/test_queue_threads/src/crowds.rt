@@ -1,6 +1,6 @@
 //! Crowds at a queue: many that enqueue elements, and one or more that dequeue them.
-use crate::compared::{append, made, same};
-use crate::items::elements;
+use crate::compared::{made, same};
+use crate::items::{append, elements};
 use crate::seats::{Claim, Seat, queue_of, shared};
 use crate::tasks::{Task, run_all};
 use crate::workers::{Crowd, Meeting, Producer, Taker, Way};

@@ -1,5 +1,5 @@
 //! Elements of a shared queue, which count how many of them were dropped, and what batches of them hold.
-use crate::compared::{append, made, same};
+use crate::compared::{made, same};
 use cordyceps_base::node::Node;
 use cordyceps_queue::mpsc_queue::{Batch, Links};
 use std::alloc::Global;
@@ -78,4 +78,9 @@ pub fn numbers(rt: &impl Abort, elements: Batch<Counted>) -> (u64, usize) {
         (true, true),
     );
     (first, count)
+}
+
+/// Appends a value, and ends the test where memory is refused.
+pub fn append<T: Drop>(rt: &impl Abort, values: &mut Vec<T>, value: T) {
+    made(rt, values.push(value));
 }

@@ -1,7 +1,7 @@
 //! What the parties of a queue do, alone and on threads.
 use crate::calls::{Actor, Line, Stage};
-use crate::compared::{append, made, same};
-use crate::items::element;
+use crate::compared::{made, same};
+use crate::items::{append, element};
 use crate::seats::{Seat, queue_of, shared};
 use crate::tasks::{Task, run_all};
 use std::alloc::Global;

@@ -1,8 +1,8 @@
 //! Threads that enqueue elements, and threads that dequeue them meanwhile.
 ghost use Rattle.std.specs.Prelude.{◌≤◌};
 
-use crate::compared::{append, same};
-use crate::items::{Handle, number};
+use crate::compared::same;
+use crate::items::{Handle, append, number};
 use crate::seats::{Claim, Seat};
 use cordyceps_queue::mpsc_queue::TryDequeueError;
 use std::process::Abort;
