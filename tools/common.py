@@ -114,23 +114,17 @@ def rtlib():
     return __import__("rtlib")
 
 
-# The mode in which the program runs each script of scripts/. Mode share reads none.
-MODES = {
-    "list": "list",
-    "blocks": "list",
-    "greatest_numbers": "list",
-    "stack": "stack",
-    "sorted": "sorted",
-    "transfer": "transfer",
-    "taken_between": "transfer",
-    "overtaken": "transfer",
-    "queue": "queue",
-    "swapped_not_linked": "queue",
-    "stub_put_in": "queue",
-    "not_there": "queue",
-    "batches": "queue",
+# The modes of the program, each with the scripts of scripts/ that it runs. Mode share reads none.
+SCRIPTS = {
+    "list": "list blocks greatest_numbers ends walks splits cursors cursor_calls splices whole_lists",
+    "stack": "stack stack_moves pushed_again",
+    "sorted": "sorted sorted_orders popped_in_order",
+    "transfer": "transfer taken_between overtaken rooms_come_back transfer_parties",
+    "queue": "queue swapped_not_linked stub_put_in not_there batches rooms_used_again one_holder linked_late"
+    " queue_batches queue_parties",
     "share": "share",
 }
+MODES = {name: mode for mode, names in SCRIPTS.items() for name in names.split()}
 
 
 def build_libraries(crate):
