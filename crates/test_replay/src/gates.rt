@@ -8,7 +8,6 @@ use cordyceps::stack::Party;
 use replay_sharing::share::{Gate, work};
 use std::sync::Mutex;
 use std::sync::atomic::{AtomicU64, Ordering};
-use std::test::Fail;
 use test_support::nodes::node_of;
 
 /// A stack, and a party of its own to look at it.
@@ -39,10 +38,13 @@ impl Gate for Looking<'_> {
 }
 
 #[test]
-fn a_worker_passes_before_each_push(rt: HostRuntime) -> Result<(), Fail> {
+fn a_worker_passes_before_each_push(rt: HostRuntime) {
     let item = Item { value: 7, id: 8 };
-    let handles = (node_of(rt.alloc(), 8, item)?, node_of(rt.alloc(), 8, item)?);
-    let (stack, mut party) = TransferStack::new(rt.alloc(), 2)?;
+    let first = node_of(rt.alloc(), 8, item).expect(&rt, "memory was refused");
+    let second = node_of(rt.alloc(), 8, item).expect(&rt, "memory was refused");
+    let Ok((stack, mut party)) = TransferStack::new(rt.alloc(), 2) else {
+        panic!(rt; "no memory for a stack");
+    };
     let worker = stack.split(&mut party, 2);
     let looker = Looker {
         stack: &stack,
@@ -52,8 +54,7 @@ fn a_worker_passes_before_each_push(rt: HostRuntime) -> Result<(), Fail> {
         looker: Mutex::new(looker),
         digits: AtomicU64::new(0),
     };
-    let _worker = work(&rt, &gate, 0, &stack, worker, handles);
+    let _worker = work(&rt, &gate, 0, &stack, worker, (first, second));
     // nothing was held before the first push, and something before the second
     same(&rt, gate.digits.load(Ordering::SeqCst), 12);
-    Ok(())
 }
