@@ -1,7 +1,7 @@
 //! A gate that looks whether the stack is empty, before each push of a worker.
 ghost use Rattle.std.specs.Prelude.{◌≡◌};
 
-use crate::compared::same;
+use crate::compared::{made, same};
 use cordyceps::TransferStack;
 use cordyceps::replay::Item;
 use cordyceps::stack::Party;
@@ -40,8 +40,8 @@ impl Gate for Looking<'_> {
 #[test]
 fn a_worker_passes_before_each_push(rt: HostRuntime) {
     let item = Item { value: 7, id: 8 };
-    let first = node_of(rt.alloc(), 8, item).expect(&rt, "memory was refused");
-    let second = node_of(rt.alloc(), 8, item).expect(&rt, "memory was refused");
+    let first = made(&rt, node_of(rt.alloc(), 8, item));
+    let second = made(&rt, node_of(rt.alloc(), 8, item));
     let Ok((stack, mut party)) = TransferStack::new(rt.alloc(), 2) else {
         panic!(rt; "no memory for a stack");
     };
