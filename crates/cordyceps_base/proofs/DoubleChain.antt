@@ -42,6 +42,16 @@ module _ {X : Type 0} where
   prev_on p h (n ∷ m ∷ ns) t q zero b f e = let same : m.2 ≡ b = cc in ap Some (sym f.2.1 ∙ ap (λ (x : Block X). prev_of x) same)
   prev_on p h (n ∷ m ∷ ns) t q (suc k) b f e = prev_on n.0 (next_of n.2) (m ∷ ns) t q k b f.2 e
 
+  next_off : (p h : Ptr) (ns : List (OwnedNode X)) (t q : Ptr) (k : ℕ) (b : Block X) → Segment p h ns t q → slice_get (box_values ns) k ≡ Some b → k + 1 ≡ length ns → next_of b ≡ q
+  next_off p h [] t q k b f e l = cc
+  next_off p h (n ∷ []) t q zero b f e l = let same : n.2 ≡ b = cc in ap (λ (x : Block X). next_of x) (sym same) ∙ f.2.0
+  next_off p h (n ∷ m ∷ ns) t q zero b f e l = absurd (omega (arith, l))
+  next_off p h (n ∷ ns) t q (suc k) b f e l = next_off n.0 (next_of n.2) ns t q k b f.2 e (omega (arith, l))
+
+  prev_off : (p h : Ptr) (ns : List (OwnedNode X)) (t q : Ptr) (b : Block X) → Segment p h ns t q → slice_get (box_values ns) 0 ≡ Some b → prev_of b ≡ p
+  prev_off p h [] t q b f e = cc
+  prev_off p h (n ∷ ns) t q b f e = let same : n.2 ≡ b = cc in ap (λ (x : Block X). prev_of x) (sym same) ∙ f.1
+
   module _ (h t : Ptr) (len : ℕ) (ns : List (OwnedNode X)) (v : Nodes X) (seen : nodes_of ns ≡ v) (linked : IsLinked h t len ns) where
     pub next_place : (k : ℕ) (b : Block X) → slice_get (box_values ns) k ≡ Some b → k + 1 < length v → slice_get (spots v) (k + 1) ≡ Some b.links.next.ptr
     next_place k b e p =
@@ -52,6 +62,12 @@ module _ {X : Type 0} where
     prev_place k b e p =
         let on : k ≡ suc (k - 1) = omega (arith, p) in
         seen_at ns v seen (k - 1) b.links.prev.ptr (prev_on null_ptr h ns t null_ptr (k - 1) b linked.2 (subst (λ j. slice_get (box_values ns) j ≡ Some b) on e))
+
+    pub next_end : (k : ℕ) (b : Block X) → slice_get (box_values ns) k ≡ Some b → k + 1 ≡ length v → b.links.next.ptr ≡ null_ptr
+    next_end k b e p = let long = length_is ns v seen in next_off null_ptr h ns t null_ptr k b linked.2 e (omega (arith, p, long))
+
+    pub prev_end : (k : ℕ) (b : Block X) → slice_get (box_values ns) k ≡ Some b → k ≡ 0 → b.links.prev.ptr ≡ null_ptr
+    prev_end k b e p = prev_off null_ptr h ns t null_ptr b linked.2 (subst (λ j. slice_get (box_values ns) j ≡ Some b) p e)
 
     pub head_place : 0 < length v → slice_get (spots v) 0 ≡ Some h
     head_place p = let long = length_is ns v seen in seen_at ns v seen 0 h (first_on null_ptr h ns t null_ptr linked.2 (omega (arith, p, long)))

@@ -1,7 +1,7 @@
 //! A doubly linked chain of nodes, from which collections are built.
 ghost use Rattle.std.specs.Prelude.{◌≡◌, ℕ, ◌+◌, ◌-◌, ◌^◌, ◌<◌, ◌≤◌, [], ◌∷◌, ◌++◌, length, take, drop, slice_get, Some};
 ghost use Rattle.std.specs.Borrow.{sem};
-ghost use denote.RawPtr.{Ptr};
+ghost use denote.RawPtr.{Ptr, null_ptr};
 ghost use Rattle.cordyceps_base.specs.Element.{ids, values};
 ghost use Rattle.cordyceps_base.specs.Nodes.{elements, nodes_of, spots, IsAt};
 ghost use Rattle.cordyceps_base.specs.Spots.{AreDistinct};
@@ -167,7 +167,8 @@ impl<T> DoubleChain<T> {
     /// Returns the address of the node after node `k`, which is at `at`. For the last node the address is null.
     pub fn next(&self, at: Address, k: usize) -> Address
         requires { IsAt self.now k at }
-        ensures { k + 1 < length self.now → IsAt self.now (k + 1) result }
+        ensures on { k + 1 < length self.now → IsAt self.now (k + 1) result }
+        ensures end { k + 1 ≡ length self.now → result.ptr ≡ null_ptr }
     {
         self.boxes.get(at, k).links.next
     }
@@ -175,7 +176,8 @@ impl<T> DoubleChain<T> {
     /// Returns the address of the node before node `k`, which is at `at`. For the first node the address is null.
     pub fn prev(&self, at: Address, k: usize) -> Address
         requires { IsAt self.now k at }
-        ensures { 0 < k → IsAt self.now (k - 1) result }
+        ensures on { 0 < k → IsAt self.now (k - 1) result }
+        ensures end { k ≡ 0 → result.ptr ≡ null_ptr }
     {
         self.boxes.get(at, k).links.prev
     }

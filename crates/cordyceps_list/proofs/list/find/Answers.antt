@@ -18,4 +18,4 @@ returns-then-id-clause-others g c = (found_at c.args.id (elements c.args.chain.n
 pub loop-index-preserved : goal.loop-index-preserved
 loop-index-preserved g c =
     let t : eqb c.id.result c.args.id ≡ false = grind (arith, nat_tests, c.if-id.false) in
-    record { on = c.next-address.ensures; unmet = unmet_more c.args.id (elements c.args.chain.now) c.loop-index.index c.id.result c.id.ensures t c.loop-index.invariant.unmet }
+    record { on = c.next-address.ensures.on; unmet = unmet_more c.args.id (elements c.args.chain.now) c.loop-index.index c.id.result c.id.ensures t c.loop-index.invariant.unmet }

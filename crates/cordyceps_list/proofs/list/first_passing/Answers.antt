@@ -27,7 +27,7 @@ loop-finger-preserved g c =
     let call : R c.loop-finger.predicate c.get.result.now false next = subst (λ (b : Bool). R c.loop-finger.predicate c.get.result.now b next) c.if-predicate.false (record { shown = c.get.result; shows = refl; called = c.predicate.ensures }) in
     record {
       callable = may_ask_on g.F.FnMut xs p c.get.result.now c.loop-finger.predicate next c.get.ensures call c.loop-finger.invariant.callable;
-      fits = record { within = omega arith; on = c.next-finger.ensures };
+      fits = record { within = omega arith; on = c.next-finger.ensures.on };
       from = omega arith;
       walks = λ n last w. subst (λ (m : ℕ). Walks R c.args.predicate.now (drop c.args.from.index xs) m last) (omega arith) (c.loop-finger.invariant.walks (n + 1) last (walk_step R xs p n c.get.result.now c.loop-finger.predicate next last c.get.ensures call w));
     }

@@ -11,7 +11,7 @@ invariant_of-self g c =
     let index = c.args.index in
     let inside : index < length nodes = omega (arith, c.requires, ap length c.self.view_is, length-map nodes (λ n. n.1)) in
     let long : c.len.result - 1 ≡ length c.unlink.new.self = omega (arith, c.len.ensures, inside, ap length c.unlink.ensures.others, length-append (take index nodes) (drop (index + 1) nodes), length-take index nodes, length-drop (index + 1) nodes) in
-    fit_removed nodes c.unlink.new.self c.seek-address.new.self.back (record { front = record { address = c.next.result; index = index }; back = c.after_unlink.result }) index _ c.seek-address.ensures.fit.back inside c.unlink.ensures.others long refl c.next.ensures c.after_unlink.ensures
+    fit_removed nodes c.unlink.new.self c.seek-address.new.self.back (record { front = record { address = c.next.result; index = index }; back = c.after_unlink.result }) index _ c.seek-address.ensures.fit.back inside c.unlink.ensures.others long refl c.next.ensures.on c.after_unlink.ensures
 
 pub returns-clause-value : goal.returns-clause-value
 returns-clause-value g c =

@@ -12,7 +12,7 @@ invariant_of-self-lent g c =
     let nodes = c.self.inside.chain in
     let k = c.args.index in
     let passed : Finger = record { address = c.next.result; index = k + 1 } in
-    let fits : FingerFits nodes passed = record { within = omega (arith, c.requires.inside, ap length c.self.view_is, length-map nodes (λ n. n.1)); on = c.next.ensures } in
+    let fits : FingerFits nodes passed = record { within = omega (arith, c.requires.inside, ap length c.self.view_is, length-map nodes (λ n. n.1)); on = c.next.ensures.on } in
     λ w. fit_written nodes k w (record { front = passed; back = c.seek-address.new.self.back }) (record { front = fits; back = c.seek-address.ensures.fit.back })
 
 pub returns : goal.returns
