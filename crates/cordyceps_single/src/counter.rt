@@ -1,5 +1,5 @@
 //! What an insertion counts its comparisons with.
-ghost use Rattle.std.specs.Prelude.{◌≡◌, ◌+◌, ◌<◌, ◌^◌, ℕ, ⊤};
+ghost use Rattle.std.specs.Prelude.{◌≡◌, ◌+◌, min, ℕ, ⊤};
 
 use cordyceps_base::steps::{Steps, count_one};
 
@@ -11,9 +11,9 @@ pub trait Counter {
     // The number of comparisons that it has counted.
     ghost counted: { Self → ℕ };
 
-    /// Counts one comparison, if the counter counts and has not reached its maximum.
+    /// Counts one comparison, if the counter counts. A count of `u64::MAX` stays.
     fn count_comparison(&mut self)
-        ensures { counts → counted self.old + 1 < 2 ^ 64 → counted self.new ≡ counted self.old + 1 };
+        ensures { counts → counted self.new ≡ min (counted self.old + 1) u64.MAX };
 }
 
 impl Counter for Steps {
@@ -21,7 +21,7 @@ impl Counter for Steps {
 
     ghost counted = { λ steps. steps };
 
-    /// Adds one, unless the count is `u64::MAX`.
+    /// Adds one. A count of `u64::MAX` stays.
     fn count_comparison(&mut self) {
         if self.count() < u64::MAX {
             count_one(self);
