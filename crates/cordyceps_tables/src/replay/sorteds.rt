@@ -302,16 +302,8 @@ impl<F: Fn(&Item, &Item) -> Ordering + Copy> Sorteds<F> {
         }
     }
 
-    /// Runs a command, and returns its reply. Requires that the command names the lists 0 to 15, and that the function
-    /// can be called on any two items and is a total preorder.
-    ///
-    /// # Errors
-    /// If memory for the reply or for nodes is refused, it returns `AllocError`, and has changed nothing.
-    ///
-    /// # Complexity
-    /// O(1) for `PopFront`, and for `Insert` if the item is not less than the last. Otherwise `Insert` is O(n), for n
-    /// items of the list, and so is `Show`. `FromStack` inserts each of its items.
-    pub fn run(&mut self, alloc: Global, command: &SortedCommand) -> Result<Reply, AllocError>
+    /// Runs a command on the list that it names, and returns its reply.
+    fn run_named(&mut self, alloc: Global, command: &SortedCommand) -> Result<Reply, AllocError>
         requires fits { Fits command.now }
         requires callable { F.IsAlwaysCallable self.old.1 }
         requires total { (cmp : Item → Item → Ordering) × Computes F.Fn self.old.1 cmp }
@@ -331,6 +323,33 @@ impl<F: Fn(&Item, &Item) -> Ordering + Copy> Sorteds<F> {
             let by = self.by;
             self.own.run(alloc, list - 11, by, command)
         }
+    }
+
+    /// Runs a command, and returns its reply. Requires that the command names the lists 0 to 15, and that the function
+    /// can be called on any two items and is a total preorder.
+    ///
+    /// # Errors
+    /// If memory for the reply or for nodes is refused, it returns `AllocError`, and has changed nothing.
+    ///
+    /// # Complexity
+    /// O(1) for `PopFront`, and for `Insert` if the item is not less than the last. Otherwise `Insert` is O(n), for n
+    /// items of the list, and so is `Show`. `FromStack` inserts each of its items.
+    pub fn run(&mut self, alloc: Global, command: &SortedCommand) -> Result<Reply, AllocError>
+        requires fits { Fits command.now }
+        requires callable { F.IsAlwaysCallable self.old.1 }
+        requires total { (cmp : Item → Item → Ordering) × Computes F.Fn self.old.1 cmp }
+        ensures ok { IfOk result (λ reply. (cmp : Item → Item → Ordering)
+            → Computes F.Fn self.old.1 cmp
+            → AreInOrder (order_of ⟦<Item as Ord>⟧.cmp cmp) self.old.0
+            → (self.new.0, lines_of reply) ≡ step (order_of ⟦<Item as Ord>⟧.cmp cmp) self.old.0 command.now) }
+        ensures in_order { (cmp : Item → Item → Ordering)
+            → Computes F.Fn self.old.1 cmp
+            → AreInOrder (order_of ⟦<Item as Ord>⟧.cmp cmp) self.old.0
+            → AreInOrder (order_of ⟦<Item as Ord>⟧.cmp cmp) self.new.0 }
+        ensures err { OnErr result (self.new ≡ self.old) }
+        ensures function { self.new.1 ≡ self.old.1 }
+    {
+        self.run_named(alloc, command)
     }
 }
 
