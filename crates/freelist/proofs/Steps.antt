@@ -157,7 +157,7 @@ module _ {T H : Type 0} (element : H → Element T) where
     carries = refl;
     runs = (
       whereabouts_after element (with t hand (Some (record { blocks = b ∷ bs; party = q })) p o) [],
-      (refl, record { before = []; after = hand; old_is = refl; new_is = refl }, refl),
+      (refl, refl, refl),
       refl,
     );
     looked = refl;
@@ -190,7 +190,7 @@ module _ {T H : Type 0} (element : H → Element T) where
         carries = refl;
         runs = (
           whereabouts_after element (with t hand l p2 o) es,
-          (pushed.2, record { before = []; after = hand; old_is = refl; new_is = refl }, refl),
+          (pushed.2, refl, refl),
           refl,
         );
         looked = refl;

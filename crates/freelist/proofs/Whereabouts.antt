@@ -28,9 +28,9 @@ module _ {B : Type 0} (f : B → ℕ) where
       let more : tally f t.fetched ≡ tally f (s.fetched ++ reverse batch) = ap (λ z. tally f z.fetched) d.5 in
       omega (arith, user, back, more, ap (tally f) d.2, ap (tally f) d.3, tally_prepend first t.local, tally_prepend first s.with_user, tally_append f s.fetched (reverse batch), tally_reverse f batch)
   call_keeps (Puts b) s t d =
-      omega (arith, tally_without b s.with_user t.with_user d.1, ap (λ z. tally f z.local) d.2, ap (λ z. tally f z.put_back) d.2, ap (λ z. tally f z.fetched) d.2)
+      omega (arith, ap (tally f) d.1, ap (λ z. tally f z.local) d.2, ap (λ z. tally f z.put_back) d.2, ap (λ z. tally f z.fetched) d.2)
   call_keeps (PutsRemote b) s t d =
-      omega (arith, tally_without b s.with_user t.with_user d.1, ap (λ z. tally f z.local) d.2, ap (λ z. tally f z.put_back) d.2, ap (λ z. tally f z.fetched) d.2, tally_append f s.put_back (b ∷ []))
+      omega (arith, ap (tally f) d.1, ap (λ z. tally f z.local) d.2, ap (λ z. tally f z.put_back) d.2, ap (λ z. tally f z.fetched) d.2, tally_append f s.put_back (b ∷ []))
   call_keeps HandsBack s t d = omega (arith, ap at d.2, ap (λ z. tally f z.fetched) d.2)
   call_keeps Opens s t d = omega (arith, ap at d.3, ap (λ z. tally f z.fetched) d.3)
   call_keeps Finishes s t d =

@@ -25,11 +25,11 @@ pub data Call (B : Type 0) : Type 0 where
   -- `get`, which found no local block, took this batch of what is shared, the newest first, and returned its first
   -- block
   Fetches : List B → Option B → Call B
-  -- `put`
+  -- `put`, of the block that the user came by last
   Puts : B → Call B
-  -- `put_remote`, which returned `Ok`
+  -- `put_remote` of that block, which returned `Ok`
   PutsRemote : B → Call B
-  -- `put_remote`, which returned the block
+  -- `put_remote` of that block, which returned it
   HandsBack : Call B
   -- `local`, with the spare party
   Opens : Call B
@@ -87,11 +87,11 @@ module _ {B : Type 0} where
       })
   Does (Puts b) s t =
       IsSome s.local_rooms
-      × Without b s.with_user t.with_user
+      × (s.with_user ≡ b ∷ t.with_user)
       × (t ≡ record s { with_user = t.with_user; local = b ∷ s.local })
   Does (PutsRemote b) s t =
       (s.rooms ≡ suc t.rooms)
-      × Without b s.with_user t.with_user
+      × (s.with_user ≡ b ∷ t.with_user)
       × (t ≡ record s { with_user = t.with_user; put_back = s.put_back ++ b ∷ []; rooms = t.rooms })
   Does HandsBack s t = (0 < s.rooms) × (s.with_user ≢ []) × (t ≡ s)
   Does Opens s t =

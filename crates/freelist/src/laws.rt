@@ -40,7 +40,7 @@ pub enum Command {
 /// a spare party or none. A contract sees these and the table of its free list.
 ///
 /// # Complexity
-/// Dropping it frees the blocks and drops the parties: O(n + r), for n blocks and r rooms of its parties.
+/// Dropping it frees each block that is with it or in its local part once: O(n), for n blocks.
 #[derive(Drop)]
 pub struct User<'a, T: Linked<Links<T>>> {
     list: &'a FreeList<T>,
@@ -230,7 +230,7 @@ pub fn close_all<T: Linked<Links<T>>>(list: FreeList<T>, party: Party<T>) -> Sta
     list.close(party)
 }
 
-/// Which of two users does what next.
+/// Which of two users carries out which command.
 #[derive(Clone, Copy, PartialEq, Eq, Debug)]
 pub enum Turn {
     /// The first user carries out a command.
@@ -248,7 +248,11 @@ fn take_turn<T: Linked<Links<T>>>(first: &mut User<'_, T>, second: &mut User<'_,
     }
 }
 
-/// Carries out the commands of two users in turn.
+/// Carries out the commands of two users, one after the other in the order of the turns.
+///
+/// Its contract states of each user alone that it carried out its own commands, in their order. It states nothing of
+/// how the calls of the two lie to each other, since users whose parties have not met have seen no history in common:
+/// by it, a get may miss what the other user put back at an earlier turn.
 ///
 /// # Complexity
 /// That of the commands.
@@ -264,9 +268,13 @@ pub fn take_turns<T: Linked<Links<T>>>(
     }
 }
 
-/// Creates a free list with two users, each with its blocks and `rooms` rooms, carries out their commands in turn, and
-/// ends the users and the list. Returns the blocks that are then with the first, with the second, and shared: together
-/// they are the blocks that both had. Requires that `rooms` is at most half of `MAX_ROOMS`.
+/// Creates a free list with two users, each with its blocks and `rooms` rooms, carries out their commands as
+/// [`take_turns`] does, and ends the users and the list. Returns the blocks that are then with the first, with the
+/// second, and shared: together they are the blocks that both had. Requires that `rooms` is at most half of
+/// `MAX_ROOMS`.
+///
+/// In the end the parties of the two meet, and what both did is one legal history, each user's calls in their order. How
+/// the calls of one lie among those of the other its contract does not state.
 ///
 /// # Errors
 /// If memory is refused, it returns `AllocError`, and the blocks are dropped.

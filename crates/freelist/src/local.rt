@@ -13,7 +13,7 @@ use std::marker::Model;
 /// Dropping it drops the party, whose rooms are then lost for good; `finish` returns it.
 ///
 /// # Complexity
-/// Dropping it frees each block once: O(n + r), for n blocks and r rooms of its party.
+/// Dropping it frees each block once: O(n), for n blocks.
 ///
 /// # Examples
 /// From `tour::give_back` of `cordyceps_uses`:

@@ -62,15 +62,25 @@ const BETWEEN_USERS: &[Turn] = &[
     Turn::Second(Command::PutRemote),
 ];
 
+/// A user gets what another put back before, and not what it puts back after.
+const AT_ITS_TURN: &[Turn] = &[
+    Turn::Second(Command::Split(0)),
+    Turn::Second(Command::Open),
+    Turn::First(Command::PutRemote),
+    Turn::Second(Command::Get),
+    Turn::First(Command::PutRemote),
+];
+
 /// How many rooms each user has, what the users do, and what the first and the second then have, and what is shared.
 type Case = (usize, &'static [Turn], [&'static [u64]; 3]);
 
 /// At first the first user has the blocks 2 and, on top of that, 1.
-const CASES: [Case; 4] = [
+const CASES: [Case; 5] = [
     (5, FETCHES, [&[1, 2], &[], &[]]),
     (9, NO_BLOCK, [&[2, 1], &[], &[]]),
     (3, NO_PARTS, [&[2], &[], &[1]]),
     (2, BETWEEN_USERS, [&[], &[1], &[2]]),
+    (2, AT_ITS_TURN, [&[], &[1], &[2]]),
 ];
 
 #[test]
