@@ -26,7 +26,7 @@ use std::sync::Arc;
 /// queue, and drops the party, whose rooms are then lost for good; `release` returns both.
 ///
 /// # Complexity
-/// Dropping a consumer is O(r), for r rooms that its party has, and dropping the queue if its reference is the last.
+/// Dropping a consumer is O(1), unless its reference is the last: then the queue is dropped too.
 ///
 /// # Examples
 /// From `examples::send_to_worker` of `cordyceps_uses`:
@@ -60,7 +60,7 @@ impl<T: Linked<Links<T>>> Drop for OwnedConsumer<T> {
     /// Gives the right to dequeue back by one store, and drops the queue's reference and the party.
     ///
     /// # Complexity
-    /// O(r), for r rooms that the party has, and what dropping the queue takes if its reference is the last.
+    /// O(1), and that of dropping the queue if its reference is the last.
     fn drop(self) {
         drop(self.release());
     }
