@@ -23,6 +23,8 @@ pub enum Call {
     Split(usize),
     /// Enqueues an element of this number.
     Put(u64),
+    /// Enqueues elements from this number on, and how many.
+    PutMany(u64, u64),
     /// Tries once to dequeue.
     Try,
     /// Dequeues, and may wait.
@@ -103,6 +105,13 @@ fn stays(rt: &impl Abort, count: &AtomicU64, wanted: u64) {
     for _ in 0..PAUSES {
         same(rt, count.load(Ordering::SeqCst), wanted);
         thread::yield_now();
+    }
+}
+
+/// Enqueues elements from a number on, and how many.
+fn put_many(rt: &impl Abort, stage: &Stage, seat: &mut Seat<'_>, (first, count): (u64, u64)) {
+    for number in first..first.wrapping_add(count) {
+        seat.put(rt, element(rt, stage.alloc, number, &stage.drops));
     }
 }
 
@@ -202,6 +211,7 @@ impl<'q> Actor<'q> {
             Call::Put(number) => {
                 seat.put(rt, element(rt, self.stage.alloc, number, &self.stage.drops));
             }
+            Call::PutMany(first, count) => put_many(rt, self.stage, seat, (first, count)),
             Call::Release => {
                 let consumer = mem::replace(seat, Seat::Left);
                 *seat = consumer.release(rt);

@@ -13,6 +13,8 @@ mod crowds;
 #[cfg(test)]
 mod items;
 #[cfg(test)]
+mod large_queues;
+#[cfg(test)]
 mod queue_drops;
 #[cfg(test)]
 mod queues;

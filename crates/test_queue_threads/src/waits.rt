@@ -1,11 +1,32 @@
-//! Calls that may wait, each on a thread of its own, beside one that watches it.
+//! Calls that may wait, of a party that is alone, and each on a thread of its own, beside one that watches it.
 use crate::calls::{Call, Line, Reply};
-use crate::scenes::Scene;
+use crate::scenes::{Scene, alone};
 use crate::seats::Claim;
 use cordyceps_queue::mpsc_queue::TryDequeueError;
 
 /// How often each test's threads run.
 const ROUNDS: u64 = 10;
+
+/// Calls that may wait, of a party that is alone.
+const BY_ONE_PARTY: [Line; 12] = [
+    (0, Call::Put(1), Reply::Rooms(1)),
+    (0, Call::Put(2), Reply::Rooms(0)),
+    (0, Call::Take, Reply::Element(1)),
+    (0, Call::Consume(Claim::Wait), Reply::Rooms(1)),
+    (0, Call::Take, Reply::Element(2)),
+    (0, Call::Take, Reply::Nothing),
+    (0, Call::Release, Reply::Rooms(2)),
+    (0, Call::Put(3), Reply::Rooms(1)),
+    (0, Call::Consume(Claim::WaitOwned), Reply::Rooms(1)),
+    (0, Call::Take, Reply::Element(3)),
+    (0, Call::Take, Reply::Nothing),
+    (0, Call::Release, Reply::Rooms(2)),
+];
+
+#[test]
+fn calls_return_alone(rt: HostRuntime) {
+    alone(&rt, rt.alloc(), 2, 3, &[&BY_ONE_PARTY]);
+}
 
 #[test]
 fn enqueue_dequeue(rt: HostRuntime) {

@@ -1,0 +1,23 @@
+//! A queue of as many rooms as it can have.
+use crate::calls::{Call, Line, Reply};
+use crate::scenes::alone;
+use crate::seats::Claim;
+use cordyceps_queue::mpsc_queue::{MAX_ROOMS, TryDequeueError};
+
+/// The rooms are split between three parties, each of which enqueues, and one of which takes all elements at once.
+const CALLS: [Line; 9] = [
+    (0, Call::Split(349_525), Reply::Rooms(699_051)),
+    (0, Call::Split(349_525), Reply::Rooms(349_526)),
+    (1, Call::PutMany(0, 4_000), Reply::Rooms(345_525)),
+    (2, Call::PutMany(4_000, 4_000), Reply::Rooms(345_525)),
+    (0, Call::PutMany(8_000, 4_000), Reply::Rooms(345_526)),
+    (2, Call::Consume(Claim::Try), Reply::Rooms(345_525)),
+    (2, Call::Batch(MAX_ROOMS), Reply::Elements(0, 12_000)),
+    (2, Call::Try, Reply::Fails(TryDequeueError::Empty)),
+    (2, Call::Rooms, Reply::Rooms(357_525)),
+];
+
+#[test]
+fn many_rooms_hold_elements(rt: HostRuntime) {
+    alone(&rt, rt.alloc(), MAX_ROOMS, 12_000, &[&CALLS]);
+}
