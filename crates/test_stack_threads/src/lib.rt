@@ -6,6 +6,8 @@ mod compared;
 #[cfg(test)]
 mod items;
 #[cfg(test)]
+mod large_stacks;
+#[cfg(test)]
 mod seats;
 #[cfg(test)]
 mod transfer_drops;

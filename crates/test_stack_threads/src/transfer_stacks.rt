@@ -90,6 +90,16 @@ fn rooms_are_split_and_absorbed(rt: HostRuntime) {
 }
 
 #[test]
+fn calls_that_may_wait_return_alone(rt: HostRuntime) {
+    let drops = no_drops(&rt, rt.alloc());
+    let (stack, mut party) = new_stack(&rt, rt.alloc(), 2);
+    stack.push(&rt, &mut party, element(&rt, rt.alloc(), 1, &drops));
+    let two = element(&rt, rt.alloc(), 2, &drops);
+    same(&rt, stack.push_was_empty(&rt, &mut party, two), false);
+    pops(&rt, stack.take_all(&mut party), &[2, 1]);
+}
+
+#[test]
 fn a_stack_without_rooms_returns_nothing(rt: HostRuntime) {
     let (stack, mut party) = new_stack(&rt, rt.alloc(), 0);
     let mut other = stack.split(&mut party, 0);

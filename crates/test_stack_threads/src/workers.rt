@@ -3,7 +3,7 @@
 ghost use Rattle.std.specs.Prelude.{◌≡◌};
 
 use crate::compared::{at_most, made, same};
-use crate::items::{Handle, pops, stock};
+use crate::items::{Handle, element, pops, stock};
 use crate::seats::{Call, has_room, pushes};
 use cordyceps_stack::stack::{Party, Stack, TransferStack};
 use std::alloc::Global;
@@ -13,6 +13,7 @@ use std::sync::atomic::{AtomicU64, Ordering};
 use std::thread;
 use std::thread::Threads;
 use test_support::counted::{Counted, Drops};
+use test_support::nodes::number;
 
 /// How many turns a thread has at most.
 const TURNS: u64 = 20_000_000;
@@ -136,6 +137,34 @@ impl<'s> Worker<'s> {
         at_most(rt, rooms, self.party.rooms());
         let party = self.stack.split(&mut self.party, rooms);
         Worker::at(self.stack, party)
+    }
+
+    /// Pushes elements into the rooms of its party, at most this many, each by one try, which nobody overtakes. Their
+    /// numbers rise from the first. Returns the number after the last. Only before the number 0 nothing is held.
+    pub fn fill(
+        &mut self,
+        rt: &impl Abort,
+        alloc: Global,
+        (first, most): (u64, u64),
+        drops: &Drops,
+    ) -> u64 {
+        let end = first.wrapping_add(most.min(self.party.rooms() as u64));
+        for number in first..end {
+            let handle = element(rt, alloc, number, drops);
+            pushes(rt, self.stack, &mut self.party, handle, number == 0);
+        }
+        end
+    }
+
+    /// Takes all that is held at once: this many elements, whose numbers fall to 0, and whose rooms its party gets.
+    pub fn take_down(&mut self, rt: &impl Abort, count: u64) {
+        let rooms = self.party.rooms();
+        let mut held = self.stack.take_all(&mut self.party);
+        for wanted in (0..count).rev() {
+            same(rt, number(held.pop()), Some(wanted));
+        }
+        same(rt, held.is_empty(), true);
+        same(rt, self.party.rooms(), rooms.wrapping_add(count as usize));
     }
 
     /// Makes these calls, one after the other, and asserts what they return. They push what the stock pops.
