@@ -2,6 +2,7 @@
 #![tactic(auto)]
 
 pub use replay_driver::fault::{Failed, Fault};
+pub use replay_driver::memory::FromSlice;
 pub use replay_driver::script::{run_bytes, run_script};
 pub use replay_driver::session::Session;
 pub use replay_driver::sink::{Sink, ToWrite};

@@ -2,7 +2,7 @@
 use Rattle.std.proofs.Common.{◌≡◌, ℕ, List, [], ◌∷◌, ◌++◌, Some, Result, Ok, Err, OnOk, refl, sym, ◌∙◌, ap, inl, inr}
 use Rattle.std.proofs.lemmas.List.{append-nil}
 use Rattle.replay_driver.specs.Script.{Machine, AreLines, Answers, Runs, parts, last_line, lines_of, without_empty_last, AnswersAll}
-use Rattle.replay_driver.specs.Known.{IsReadOut, Gives}
+use Rattle.replay_driver.specs.Known.{Gives}
 use Rattle.replay_driver.specs.declared.fault.Fault.{Fault}
 use Rattle.replay_driver.specs.declared.fault.Fault.TheVariants as faults
 
@@ -12,8 +12,8 @@ whole_lines (line ∷ []) unfinished = refl
 whole_lines (line ∷ next ∷ rest) unfinished = ap (λ (lines : List (List ℕ)). line ∷ lines) (whole_lines (next ∷ rest) unfinished)
 
 -- what was read up to the end of known bytes is all of them
-pub gave_all : (script left bytes : List ℕ) (ended ended' : Type 0) → Gives (Some script) (Some left) ended ended' bytes → IsReadOut (Some left) → bytes ≡ script
-gave_all script left bytes ended ended' gave none = sym (gave.0 ∙ ap (λ (rest : List ℕ). bytes ++ rest) (none left refl) ∙ append-nil bytes)
+pub gave_all : (script left bytes : List ℕ) (ended ended' : Type 0) → Gives (Some script) (Some left) ended ended' bytes → left ≡ [] → bytes ≡ script
+gave_all script left bytes ended ended' gave none = sym (gave.0 ∙ ap (λ (rest : List ℕ). bytes ++ rest) none ∙ append-nil bytes)
 
 pub ran_whole : {S : Type 0} {machine : Machine S} {state : S} {gave : List ℕ → Type 0} {ended read_failed : Type 0} {took : List ℕ → Type 0} {write_failed : Type 0}
     (script : List ℕ) (result : Result (Unit {0}) Fault) → Runs machine state gave ended read_failed took write_failed result → ((bytes : List ℕ) → gave bytes → ended → bytes ≡ script) →

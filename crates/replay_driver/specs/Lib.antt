@@ -1,3 +1,4 @@
+pub mod Asked
 pub mod Known
 pub mod Script
 pub mod Steps

@@ -1,6 +1,6 @@
 -- What a script's lines are, and what a mode replies to them.
 use Rattle.std.specs.Prelude.{◌≡◌, ℕ, suc, ◌<◌, ◌≤◌, List, [], ◌∷◌, ◌++◌, length, take, Option, None, Some, Result, Ok}
-use Rattle.std.specs.Prelude.{Err, if◌then◌else◌, nat_lt, nat_eq, ◌⊎◌, Bool, IsTrue}
+use Rattle.std.specs.Prelude.{Err, if◌then◌else◌, nat_lt, nat_eq, ◌⊎◌}
 use Rattle.std.specs.Option.{option_map, unwrap_or}
 use Rattle.std.specs.List.{slice_split, concat}
 use Rattle.replay_driver.specs.declared.fault.Fault.{Fault}
@@ -128,9 +128,8 @@ pub record Runs {S : Type 0} (machine : Machine S) (state : S) (gave : List ℕ 
   pub wrote : took written
   pub answers : Answers machine state ended read_failed write_failed complete unfinished lines written result
 
--- What a run of a script that is in memory reads, writes and returns: a prefix of it was read.
+-- What a run of a script that is in memory reads, writes and returns: a prefix of it was read, and no read failed.
 abbrev pub RunsOver : {S : Type 0} → Machine S → S →
     (script : List ℕ) (took : List ℕ → Type 0) (write_failed : Type 0) → Result (Unit {0}) Fault → Type 0
 RunsOver machine state script took write_failed result =
-    (rest : List ℕ) × (read_failed : Bool) × Runs machine state (λ bytes. script ≡ bytes ++ rest) (rest
-    ≡ []) (IsTrue read_failed) took write_failed result
+    (rest : List ℕ) × Runs machine state (λ bytes. script ≡ bytes ++ rest) (rest ≡ []) ⊥ took write_failed result

@@ -2,7 +2,9 @@
 //! a sink.
 #![tactic(auto)]
 
+mod asked;
 pub mod fault;
+pub mod memory;
 pub mod script;
 pub mod session;
 pub mod sink;

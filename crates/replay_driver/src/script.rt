@@ -6,9 +6,10 @@ ghost use Rattle.replay_driver.specs.Script.{Runs, AnswersAll, RunsOver};
 ghost use Rattle.replay_driver.specs.declared.fault.Fault.{Fault};
 
 use crate::fault::{Failed, Fault};
+use crate::memory::FromSlice;
 use crate::session::{Session, Stop};
 use crate::sink::Sink;
-use crate::source::{FromRead, Source};
+use crate::source::Source;
 use crate::text::flush;
 use memchr::memchr;
 use std::alloc::Global;
@@ -248,11 +249,11 @@ pub fn run_script<S: Session, I: Source, O: Sink>(
     }
 }
 
-/// Runs a script that is in memory, as `run_script` does. After `Ok`, each line of the script was taken, and the
-/// replies to all of them are written.
+/// Runs a script that is in memory. After `Ok`, each line of the script was taken, and the replies to all of them are
+/// written.
 ///
 /// # Errors
-/// Those of `run_script`.
+/// It returns `BadLine`, `Write` or `Memory` as `run_script` does, and never `Read`.
 ///
 /// # Complexity
 /// That of `run_script`.
@@ -268,6 +269,6 @@ pub fn run_bytes<S: Session, O: Sink>(
     ensures runs { RunsOver S.machine (S.state session.old) script.now
         (O.takes output.old output.new) (O.has_failed output.new) result }
 {
-    let mut input = FromRead::new(script);
+    let mut input = FromSlice::new(script);
     run_script(alloc, session, &mut input, output)
 }

@@ -3,6 +3,7 @@ ghost use Rattle.std.specs.Prelude.{◌≡◌, ◌++◌, ℕ, ◌<◌, ◌≤◌
 ghost use Rattle.std.specs.Io.KnownBytes.{Appends};
 ghost use Rattle.replay_driver.specs.Known.{Appends-nothing, Appends-more};
 
+use crate::asked::AskedWriter;
 use crate::fault::Failed;
 use std::io::Write;
 
@@ -39,8 +40,7 @@ pub trait Sink {
 /// is not flushed: use one without a buffer, or flush what `into_inner` returns.
 #[derive(Drop)]
 pub struct ToWrite<W> {
-    writer: W,
-    failed: bool,
+    writer: AskedWriter<W>,
 }
 
 impl<W: Write> ToWrite<W> {
@@ -56,8 +56,7 @@ impl<W: Write> ToWrite<W> {
         ensures sound { ⟦<ToWrite<W> as Sink>⟧.has_failed result → ⊥ }
     {
         ToWrite {
-            writer,
-            failed: false,
+            writer: AskedWriter::new(writer),
         }
     }
 }
@@ -73,30 +72,29 @@ impl<W> ToWrite<W> {
     pub fn into_inner(self) -> W
         ensures { result ≡ writer_of self }
     {
-        let ToWrite { writer, failed: _ } = self;
-        writer
+        self.writer.into_inner()
     }
 }
 
 impl<W: Write> Sink for ToWrite<W> {
-    ghost takes = { λ s t bytes. Appends (W.contents s.writer) (W.contents t.writer) bytes };
+    ghost use Rattle.replay_driver.specs.Streams.{writer_of, HasFailedToWrite};
 
-    ghost has_failed = { λ s. IsTrue s.failed };
+    ghost takes = { λ s t bytes. Appends (W.contents (writer_of s)) (W.contents (writer_of t)) bytes };
 
-    ghost takes_nothing = { λ s. Appends-nothing (W.contents s.writer) };
+    ghost has_failed = { λ s. HasFailedToWrite s };
 
-    ghost takes_more = { λ s t u. Appends-more (W.contents s.writer) (W.contents t.writer) (W.contents u.writer) };
+    ghost takes_nothing = { λ s. Appends-nothing (W.contents (writer_of s)) };
+
+    ghost takes_more = { λ s t u. Appends-more (W.contents (writer_of s)) (W.contents (writer_of t))
+        (W.contents (writer_of u)) };
 
     fn write(&mut self, bytes: &[u8]) -> Result<usize, Failed> {
-        if self.failed {
+        if self.writer.has_failed() {
             return Err(Failed);
         }
         match self.writer.write(bytes) {
             Ok(count) if count > 0 || bytes.is_empty() => Ok(count),
-            _ => {
-                self.failed = true;
-                Err(Failed)
-            }
+            _ => Err(Failed),
         }
     }
 }

@@ -1,7 +1,9 @@
 //! Where a script is read from.
 ghost use Rattle.std.specs.Prelude.{◌≡◌, ◌++◌, ℕ, ◌+◌, ◌<◌, ◌≤◌, ◌^◌, List, [], length, take, IsTrue, IsErr, IfOk, OnOk, OnErr, ◌⊎◌};
+ghost use Rattle.replay_driver.specs.Asked.{reader_in};
 ghost use Rattle.replay_driver.specs.Known.{IsReadOut, Gives, gives-nothing, gives-more};
 
+use crate::asked::AskedReader;
 use crate::fault::Failed;
 use std::io::Read;
 
@@ -56,15 +58,16 @@ pub trait Source {
 
 /// A reader as a source.
 ///
-/// A read fails if the reader's does, even if it was interrupted, or after 2^63 bytes.
+/// A read fails if the reader's does, even if it was interrupted, or after 2^63 bytes. Then each further one fails.
 #[derive(Drop)]
 pub struct FromRead<R: Read> {
-    reader: R,
+    reader: AskedReader<R>,
     left: u64,
-    failed: bool,
+    asked_for_more: bool,
     ended: bool,
     ghost few: { left ≤ 2 ^ 63 },
-    ghost read_out: { IsTrue ended → IsReadOut (R.remaining reader) },
+    ghost none_left: { IsTrue asked_for_more → left ≡ 0 },
+    ghost read_out: { IsTrue ended → IsReadOut (R.remaining (reader_in reader)) },
 }
 
 impl<R: Read> FromRead<R> {
@@ -82,34 +85,37 @@ impl<R: Read> FromRead<R> {
         ensures room { ⟦<FromRead<R> as Source>⟧.room result ≡ 2 ^ 63 }
     {
         FromRead {
-            reader,
+            reader: AskedReader::new(reader),
             left: MOST_BYTES,
-            failed: false,
+            asked_for_more: false,
             ended: false,
         }
     }
 }
 
 impl<R: Read> Source for FromRead<R> {
-    ghost gives = { λ s t. Gives (R.remaining s.reader) (R.remaining t.reader) (IsTrue s.ended) (IsTrue t.ended) };
+    ghost use Rattle.replay_driver.specs.Streams.{reader_of, HasFailedToRead};
+
+    ghost gives = { λ s t. Gives (R.remaining (reader_of s)) (R.remaining (reader_of t)) (IsTrue s.ended)
+        (IsTrue t.ended) };
 
     ghost room = { λ s. s.left };
 
-    ghost at_end = { λ s. IsTrue s.ended × IsReadOut (R.remaining s.reader) };
+    ghost at_end = { λ s. IsTrue s.ended × IsReadOut (R.remaining (reader_of s)) };
 
-    ghost has_failed = { λ s. IsTrue s.failed };
+    ghost has_failed = { λ s. HasFailedToRead s };
 
-    ghost gives_nothing = { λ s. gives-nothing (R.remaining s.reader) (IsTrue s.ended) };
+    ghost gives_nothing = { λ s. gives-nothing (R.remaining (reader_of s)) (IsTrue s.ended) };
 
-    ghost gives_more = { λ s t u. gives-more (R.remaining s.reader) (R.remaining t.reader) (R.remaining u.reader)
-        (IsTrue s.ended) (IsTrue t.ended) (IsTrue u.ended) };
+    ghost gives_more = { λ s t u. gives-more (R.remaining (reader_of s)) (R.remaining (reader_of t))
+        (R.remaining (reader_of u)) (IsTrue s.ended) (IsTrue t.ended) (IsTrue u.ended) };
 
     ghost nothing_after_end = { λ s t bytes ended gave. (gave.1 ended.0).0 };
 
     ghost few = { λ s. s.few };
 
     fn read(&mut self, buffer: &mut [u8]) -> Result<usize, Failed> {
-        if self.failed {
+        if self.asked_for_more || self.reader.has_failed() {
             return Err(Failed);
         }
         if self.ended {
@@ -117,11 +123,10 @@ impl<R: Read> Source for FromRead<R> {
         }
         let room = buffer.len().min(self.left as usize);
         if room == 0 && !buffer.is_empty() {
-            self.failed = true;
+            self.asked_for_more = true;
             return Err(Failed);
         }
         let Ok(count) = self.reader.read(&mut buffer[..room]) else {
-            self.failed = true;
             return Err(Failed);
         };
         self.left -= count as u64;

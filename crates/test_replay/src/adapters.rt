@@ -1,6 +1,6 @@
-//! What a sink passes to its writer, and a script in memory.
+//! What a sink passes to its writer, and scripts in memory.
 
-use crate::compared::same;
+use crate::compared::{made, same};
 use crate::streams::{blank, has_outcome};
 use replay_cores::queue_session::QueueSession;
 use replay_driver::fault::Fault;
@@ -33,4 +33,25 @@ fn a_script_in_memory(rt: HostRuntime) {
         let came = (end, output.into_inner().written);
         has_outcome(&rt, script, came, wanted, text);
     }
+}
+
+// The script is longer than two of the blocks that are read at once.
+#[test]
+fn a_long_script_in_memory(rt: HostRuntime) {
+    let mut script = Vec::new(rt.alloc());
+    let mut text = Vec::new(rt.alloc());
+    made(&rt, script.extend_from_slice(b"party\n"));
+    made(&rt, text.extend_from_slice(b"party 0\n"));
+    for _ in 0..20_000 {
+        made(&rt, script.extend_from_slice(b"room 0\n"));
+        made(&rt, text.extend_from_slice(b"ok\n"));
+    }
+    let mut session = QueueSession::new(rt.alloc());
+    let mut output = ToWrite::new(blank(rt.alloc(), usize::MAX, false));
+    let end = run_bytes(rt.alloc(), &mut session, &script, &mut output);
+    same(
+        &rt,
+        (end, output.into_inner().written == text),
+        (Ok(()), true),
+    );
 }
