@@ -39,8 +39,8 @@ impl Model for Spot {
 /// each with its spot.
 ///
 /// An element is reached, removed and moved by its spot. The spot stays the same while the element is in the list, and
-/// also when all elements are moved to another list. After each call that changes the list, its spots are distinct.
-/// Linking allocates nothing and cannot be refused.
+/// also when all elements are moved to another list. No two elements are at one spot. Linking allocates nothing and
+/// cannot be refused.
 ///
 /// # Complexity
 /// Dropping the list frees each node once: O(n), for n elements.
@@ -64,11 +64,14 @@ pub struct StableList<T> {
 }
 
 impl<T> Model for StableList<T> {
-    ghost use Rattle.cordyceps_base.specs.Nodes.{Nodes};
+    ghost use Rattle.cordyceps_base.specs.Nodes.{Nodes, spots};
+    ghost use Rattle.cordyceps_base.specs.Spots.{AreDistinct};
 
     ghost Value = { Nodes T };
 
     ghost view = { λ l. l.chain };
+
+    ghost invariant = { λ l. AreDistinct (spots l.chain) };
 }
 
 impl<T: Linked<Links<T>>> Default for StableList<T> {
@@ -174,6 +177,16 @@ impl<T: Linked<Links<T>>> StableList<T> {
         ensures { result ≡ (length self.now == 0) }
     {
         self.len() == 0
+    }
+
+    /// Does nothing when the program runs. Its contract states that no two elements are at one spot.
+    ///
+    /// # Complexity
+    /// O(1).
+    pub fn spots_are_distinct(&self)
+        ensures { AreDistinct (spots self.now) }
+    {
+        let _chain = &self.chain;
     }
 
     /// Prepends an element to the list and returns its spot. Requires a length below `usize::MAX`.
