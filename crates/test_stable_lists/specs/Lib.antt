@@ -1,1 +1,1 @@
-pub mod ByValue
+pub mod ByNumber

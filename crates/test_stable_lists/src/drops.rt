@@ -2,7 +2,7 @@
 ghost use Rattle.std.specs.Prelude.{◌≡◌, refl, ⊤};
 ghost use Rattle.std.specs.Ordering.{nat_cmp};
 ghost use Rattle.std.proofs.Common.{subst, sym};
-ghost use Rattle.test_stable_lists.specs.ByValue.{by_value_lawful};
+ghost use Rattle.test_stable_lists.specs.ByNumber.{by_number_lawful};
 ghost use Rattle.cordyceps_single.specs.Preorder.{IsPreorder};
 
 use crate::compared::{at_most, made, same};
@@ -22,11 +22,13 @@ use test_support::counted::{Counted, Drops, counted_node};
 struct ByValue;
 
 impl Order<Counted> for ByValue {
+    ghost use Rattle.test_support.specs.declared.counted.Counted.{Counted};
+
     ghost compares_by = { λ _ cmp. cmp ≡ (λ x y. nat_cmp x.value y.value) };
 
     ghost computes = { λ _ _. ((λ x y. nat_cmp x.value y.value), refl) };
 
-    ghost lawful = { λ _ cmp e. subst IsPreorder (sym e) by_value_lawful };
+    ghost lawful = { λ _ cmp e. subst IsPreorder (sym e) (by_number_lawful (λ (x : Counted). x.value)) };
 
     fn compare(&self, first: &Counted, second: &Counted) -> Ordering {
         first.value.cmp(&second.value)

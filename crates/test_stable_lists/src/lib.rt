@@ -1,7 +1,9 @@
-//! Tests of stable lists, and of those that an order keeps sorted: each call by tables, cursors by spots, drops, and
-//! many calls beside a vector.
+//! Tests of stable lists, and of those that an order keeps sorted: each call by tables, cursors by spots, drops, how
+//! often the order is asked, and many calls beside a vector.
 #![tactic(auto)]
 
+#[cfg(test)]
+mod asked;
 #[cfg(test)]
 mod compared;
 #[cfg(test)]

@@ -74,6 +74,16 @@ where
     same(rt, parts(list.pop_front()), None);
 }
 
+/// Changes the key at a spot, and returns the old one.
+pub fn change<O: Order<Key>>(list: &mut StableSortedList<Key, O>, spot: Spot, key: u64) -> u64
+    requires order { O.can_compare list.old.order }
+    requires there { HasSpot list.old.nodes spot }
+    ensures there { HasSpot list.new.nodes spot }
+    ensures order { list.new.order ≡ list.old.order }
+{
+    list.update(spot, |element| mem::replace(&mut element.value, key))
+}
+
 /// Returns the keys before a spot, at it and after it.
 pub fn around(list: &Keys, spot: Spot) -> Sight
     requires { HasSpot list.now.nodes spot }
@@ -123,7 +133,7 @@ pub fn reply(rt: &impl Abort, alloc: Global, list: &mut Keys, call: &Call) -> Re
         }
         Call::Update(at, key) => {
             let spot = spot_at(rt, list.cursor_front(), *at);
-            let old = list.update(spot, |element| mem::replace(&mut element.value, *key));
+            let old = change(list, spot, *key);
             Reply::Changed(old, around(list, spot))
         }
         Call::Read(at) => {

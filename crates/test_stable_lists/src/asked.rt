@@ -1,0 +1,150 @@
+//! How often a sorted list with spots asks its order, which counts in a cell.
+ghost use Rattle.std.specs.Prelude.{◌≡◌, refl, ⊤};
+ghost use Rattle.std.specs.Ordering.{nat_cmp};
+ghost use Rattle.std.proofs.Common.{subst, sym};
+ghost use Rattle.test_stable_lists.specs.ByNumber.{by_number_lawful};
+ghost use Rattle.cordyceps_single.specs.Preorder.{IsPreorder};
+
+use crate::compared::{at_most, made, same};
+use crate::keys::{Key, Pair, make, spot_at};
+use crate::sorted_calls::{LONGEST, change, insert_all};
+use cordyceps_base::steps::Steps;
+use cordyceps_single::sorted_list::Order;
+use cordyceps_stable::stable_sorted_list::StableSortedList;
+use std::alloc::Global;
+use std::cell::Cell;
+use std::cmp::Ordering;
+use std::process::Abort;
+use std::rc::Rc;
+
+/// How often an order was asked.
+type Asked = Rc<Cell<u64>, Global>;
+
+/// The order of the keys, which counts each comparison.
+#[derive(Drop)]
+struct ByKey {
+    asked: Asked,
+}
+
+impl Order<Key> for ByKey {
+    ghost use Rattle.test_stable_lists.specs.declared.keys.Key.{Key};
+
+    ghost compares_by = { λ _ cmp. cmp ≡ (λ x y. nat_cmp x.value y.value) };
+
+    ghost computes = { λ _ _. ((λ x y. nat_cmp x.value y.value), refl) };
+
+    ghost lawful = { λ _ cmp e. subst IsPreorder (sym e) (by_number_lawful (λ (x : Key). x.value)) };
+
+    fn compare(&self, first: &Key, second: &Key) -> Ordering {
+        self.asked.set(self.asked.get().wrapping_add(1));
+        first.value.cmp(&second.value)
+    }
+}
+
+/// A call that asks the order. It names an element by its place, from 0 on.
+#[derive(Drop)]
+enum Asking {
+    Insert(u64),
+    /// Inserts, and counts in `Steps` too.
+    InsertIn(u64),
+    /// Changes a key.
+    Update(usize, u64),
+    /// Appends a list of these elements, which were inserted in their order.
+    Append(&'static [Pair]),
+}
+
+/// Returns an order that was not asked, and its count.
+fn not_asked(rt: &impl Abort, alloc: Global) -> (ByKey, Asked) {
+    let asked = made(rt, Rc::new(alloc, Cell::new(0)));
+    let order = ByKey {
+        asked: made(rt, asked.clone()),
+    };
+    (order, asked)
+}
+
+/// Makes a call, and returns the comparisons that it counts in `Steps`, if it does.
+fn ask(
+    rt: &impl Abort,
+    alloc: Global,
+    list: &mut StableSortedList<Key, ByKey>,
+    call: &Asking,
+) -> Option<u64> {
+    at_most(rt, list.len(), LONGEST);
+    match call {
+        Asking::Insert(key) => {
+            list.insert(make(rt, alloc, (0, *key)));
+        }
+        Asking::InsertIn(key) => {
+            let mut steps = Steps::new();
+            list.insert_in(make(rt, alloc, (0, *key)), &mut steps);
+            return Some(steps.count());
+        }
+        Asking::Update(at, key) => {
+            let spot = spot_at(rt, list.cursor_front(), *at);
+            change(list, spot, *key);
+        }
+        Asking::Append(pairs) => {
+            let (order, _) = not_asked(rt, alloc);
+            let mut other = StableSortedList::new_with_order(order);
+            insert_all(rt, alloc, &mut other, pairs);
+            at_most(rt, other.len(), LONGEST);
+            list.append(&mut other);
+        }
+    }
+    None
+}
+
+/// Calls of a list that is empty at first, and how often each asks its order. The keys after a call are those before
+/// the next.
+///
+/// A key that goes among others is compared with the last, if there is one; if that is greater and not the first, with
+/// the first; if that is not greater, with each other that is greater and, if there is another, with one more. A merge
+/// compares once for each element that goes before one list is used up.
+const CALLS: [(Asking, u64); 17] = [
+    (Asking::Append(&[]), 0),
+    (Asking::Append(&[(0, 20)]), 0),
+    // 20
+    (Asking::Update(0, 21), 0),
+    // 21
+    (Asking::Insert(10), 1),
+    // 10 21
+    (Asking::InsertIn(30), 1),
+    // 10 21 30
+    (Asking::Insert(5), 2),
+    // 5 10 21 30
+    (Asking::InsertIn(25), 3),
+    // 5 10 21 25 30
+    (Asking::Insert(7), 5),
+    // 5 7 10 21 25 30
+    (Asking::InsertIn(22), 4),
+    // 5 7 10 21 22 25 30
+    (Asking::Update(0, 40), 1),
+    // 7 10 21 22 25 30 40
+    (Asking::Update(6, 1), 2),
+    // 1 7 10 21 22 25 30
+    (Asking::Update(0, 23), 4),
+    // 7 10 21 22 23 25 30
+    (Asking::Update(4, 23), 4),
+    // 7 10 21 22 23 25 30
+    (Asking::Update(6, 8), 6),
+    // 7 8 10 21 22 23 25
+    (Asking::Append(&[(0, 8), (0, 9), (0, 50)]), 9),
+    // 7 8 8 9 10 21 22 23 25 50
+    (Asking::Append(&[]), 0),
+    (Asking::Append(&[(0, 60)]), 10),
+];
+
+#[test]
+fn asks_as_often_as_it_says(rt: HostRuntime) {
+    let (order, asked) = not_asked(&rt, rt.alloc());
+    let mut list = StableSortedList::new_with_order(order);
+    for (call, wanted) in &CALLS {
+        asked.set(0);
+        let counted = ask(&rt, rt.alloc(), &mut list, call);
+        same(
+            &rt,
+            (asked.get(), counted.unwrap_or(*wanted)),
+            (*wanted, *wanted),
+        );
+    }
+}
