@@ -1,4 +1,4 @@
-use Rattle.std.proofs.Common.{[], ◌∷◌, Some, ap, ◌∙◌, refl, sym, subst}
+use Rattle.std.proofs.Common.{[], ◌∷◌, ap, ◌∙◌, refl, sym, subst}
 use Rattle.cordyceps_base.specs.Boxes.{box_addresses}
 use Rattle.cordyceps_base.specs.Nodes.{block_element, nodes_of}
 use Rattle.cordyceps_base.specs.SingleChain.{IsLed, EndsAt, unless_null}
