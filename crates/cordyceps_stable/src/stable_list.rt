@@ -307,7 +307,6 @@ impl<T: Linked<Links<T>>> StableList<T> {
         ensures distinct { AreDistinct (spots self.new) }
     {
         if self.chain.len() == 0 {
-            self.chain.keep_distinct();
             return None;
         }
         let node = self.chain.unlink_front();
@@ -325,7 +324,6 @@ impl<T: Linked<Links<T>>> StableList<T> {
         ensures distinct { AreDistinct (spots self.new) }
     {
         if self.chain.len() == 0 {
-            self.chain.keep_distinct();
             return None;
         }
         let node = self.chain.unlink_back();
