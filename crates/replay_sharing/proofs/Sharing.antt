@@ -78,7 +78,7 @@ module _ {P E : Type 0} where
   held_pushed es (Push p e ∷ h) n = held_pushed (es ++ e ∷ []) h n ∙ append_assoc es (e ∷ []) (pushes h)
   held_pushed es (Taken p b ∷ h) n = absurd n
 
-  held_append : (es : List E) (h k : List (Event P E)) → held_from es (h ++ k) ≡ held_from (held_from es h) k
+  pub held_append : (es : List E) (h k : List (Event P E)) → held_from es (h ++ k) ≡ held_from (held_from es h) k
   held_append es [] k = refl
   held_append es (v ∷ h) k = held_append (held_after es v) h k
 

@@ -1,11 +1,12 @@
 -- What two workers that share a stack do.
 use Rattle.std.specs.Prelude.{◌≡◌, ℕ, List, [], ◌∷◌, ◌++◌, reverse, Result, Ok, Err, decimal}
 use Rattle.cordyceps_base.specs.Element.{Element}
+use Rattle.cordyceps_shared.specs.Histories.{plain}
 use Rattle.cordyceps_shared.specs.Interleaving.{Interleaves}
-use Rattle.cordyceps_shared.specs.Shares.{Name}
+use Rattle.cordyceps_shared.specs.Shares.{Name, whole}
 use Rattle.cordyceps_shared.specs.Standings.{name_of}
 use Rattle.cordyceps_commands.specs.declared.item.Item.{Item}
-use Rattle.cordyceps_stack.specs.History.{Event, Load, Push, Taken, pushes}
+use Rattle.cordyceps_stack.specs.History.{Event, Load, Push, Taken, pushes, held}
 use Rattle.cordyceps_stack.specs.Shared.Calls.{PartyOf, Adds}
 use Rattle.replay_driver.specs.declared.fault.Fault.{Fault}
 use Rattle.replay_driver.specs.declared.fault.Fault.TheVariants as faults
@@ -28,6 +29,17 @@ pub record Works (a b : Element Item) (u w : PartyOf (Element Item)) : Type 0 wh
   pub none : NoBatch events
   pub pushed : pushes events ≡ a ∷ b ∷ []
   pub rooms : w.rooms ≡ 0
+
+-- a worker did so, or it was called off, and its party is as it was
+abbrev pub Leaves : (a b : Element Item) → PartyOf (Element Item) → Result (PartyOf (Element Item)) (PartyOf (Element Item)) → Type 0
+Leaves a b u (Ok w) = Works a b u w
+Leaves a b u (Err w) = w ≡ u
+
+-- a whole party with four rooms, whose stack is empty
+pub record IsReady (u : PartyOf (Element Item)) : Type 0 where
+  pub whole : u.share ≡ whole
+  pub rooms : u.rooms ≡ 4
+  pub empty : held (plain u.seen) ≡ []
 
 -- A whole party has gained the pushes of 10, 11, 20 and 21, loads, and last the taking of the four, and no other event;
 -- 10 came before 11, and 20 before 21. The result is what was taken, in order.

@@ -1,12 +1,9 @@
 //! Two threads that push to one stack, whose elements are all taken in the end.
-ghost use Rattle.std.specs.Prelude.{◌≡◌, [], length, map, IfOk, IfErr};
+ghost use Rattle.std.specs.Prelude.{◌≡◌, ◌&&◌, length, map, is_ok, MatchResult, IfOk, IfErr};
 ghost use Rattle.std.specs.Ordering.{nat_cmp};
 ghost use Rattle.std.specs.List.Sorted.{IsPermutation, IsSorted};
 ghost use Rattle.std.specs.Thread.{IsSync};
-ghost use Rattle.cordyceps_shared.specs.Histories.{plain};
-ghost use Rattle.cordyceps_shared.specs.Shares.{whole};
-ghost use Rattle.cordyceps_stack.specs.History.{held};
-ghost use Rattle.replay_sharing.specs.Sharing.{item, Works, Shared, line_of_numbers, Prints};
+ghost use Rattle.replay_sharing.specs.Sharing.{item, Works, Leaves, Shared, IsReady, line_of_numbers, Prints};
 ghost use Rattle.replay_driver.specs.declared.fault.Fault.TheVariants.{Memory};
 
 use cordyceps_base::node::Node;
@@ -19,11 +16,15 @@ use replay_driver::text::flush;
 use std::alloc::{AllocError, Global};
 use std::snapshot::Snapshot;
 use std::sync::Wait;
+use std::sync::atomic::{AtomicBool, Ordering};
 use std::thread;
-use std::thread::{Promise, Threads};
+use std::thread::{Promise, SpawnError, Threads};
 
 /// The handle of an item of the stack.
 type Handle = Node<Item, Links<Item>>;
+
+/// What a worker returns: its party, after its work, or as it was, if the worker was called off.
+type Back = Result<Party<Item>, Party<Item>>;
 
 /// What a worker of [`share`] passes before it pushes.
 pub trait Gate: Sync {
@@ -72,8 +73,8 @@ impl Task {
     }
 }
 
-impl Promise<Party<Item>> for Task {
-    ghost kept_by = { λ task back. Works task.handles.value.0 task.handles.value.1 task.party.value back };
+impl Promise<Back> for Task {
+    ghost kept_by = { λ task back. Leaves task.handles.value.0 task.handles.value.1 task.party.value back };
 }
 
 /// Does what each worker of [`share`] does: passes the gate and pushes, twice, and returns the party. Requires that the
@@ -103,8 +104,36 @@ pub fn work<R: Wait, G: Gate>(
     party
 }
 
-/// Runs both workers, each in its own thread. If a thread cannot be started, it returns `AllocError`, and the other
-/// thread has ended.
+/// Works as [`work`] does, unless it was called off before it began.
+fn work_unless<R: Wait, G: Gate>(
+    rt: &R,
+    called_off: &AtomicBool,
+    gate: &G,
+    worker: u64,
+    stack: &TransferStack<Item>,
+    party: Party<Item>,
+    handles: (Handle, Handle),
+) -> Back
+    requires { (party.table ≡ stack.now) × (party.rooms ≡ 2) }
+    ensures { Leaves handles.0 handles.1 party result }
+{
+    if called_off.load(Ordering::SeqCst) {
+        return Err(party);
+    }
+    Ok(work(rt, gate, worker, stack, party, handles))
+}
+
+/// Calls the workers off, and returns what one leaves for which no thread could be started.
+fn call_off<F: FnOnce() -> Back>(called_off: &AtomicBool, refused: SpawnError<F>) -> Back
+    requires { F.pre refused.value }
+    ensures { F.post refused.value result }
+{
+    called_off.store(true, Ordering::SeqCst);
+    (refused.value)()
+}
+
+/// Runs both workers, each in its own thread. If a thread cannot be started, it calls both off, and returns what they
+/// leave once a thread that was started has ended.
 fn work_both<R: Threads + Wait + Sync, G: Gate>(
     rt: &R,
     gate: &G,
@@ -112,37 +141,44 @@ fn work_both<R: Threads + Wait + Sync, G: Gate>(
     parties: (Party<Item>, Party<Item>),
     tens: (Handle, Handle),
     twenties: (Handle, Handle),
-) -> Result<(Party<Item>, Party<Item>), AllocError>
+) -> (Back, Back)
     requires first { (parties.0.table ≡ stack.now) × (parties.0.rooms ≡ 2) }
     requires second { (parties.1.table ≡ stack.now) × (parties.1.rooms ≡ 2) }
-    ensures { IfOk result (λ back. Works tens.0 tens.1 parties.0 back.0
-        × Works twenties.0 twenties.1 parties.1 back.1) }
+    ensures first { Leaves tens.0 tens.1 parties.0 result.0 }
+    ensures second { Leaves twenties.0 twenties.1 parties.1 result.1 }
 {
     let (first, second) = parties;
+    let flag = AtomicBool::new(false);
+    let called_off = &flag;
     thread::scope(
         thread::scope_env(),
         rt,
-        move |scope| -> Result<(Party<Item>, Party<Item>), AllocError>
+        move |scope| -> (Back, Back)
             requires { IsSync R.row × IsSync G.row × (first.table ≡ stack.now) × (first.rooms ≡ 2)
                 × (second.table ≡ stack.now) × (second.rooms ≡ 2) }
-            ensures { IfOk result (λ back. Works tens.0 tens.1 first back.0
-                × Works twenties.0 twenties.1 second back.1) }
+            ensures { Leaves tens.0 tens.1 first result.0 × Leaves twenties.0 twenties.1 second result.1 }
         {
             let task = Task::of(&first, &tens);
-            let work_on = move || -> Party<Item>
+            let work_on = move || -> Back
                 requires { IsSync R.row × IsSync G.row × (first.table ≡ stack.now) × (first.rooms ≡ 2) }
-                ensures { Works tens.0 tens.1 first result }
-            { work(rt, gate, 0, stack, first, tens) };
-            let one = scope.spawn_with(task, work_on)?;
+                ensures { Leaves tens.0 tens.1 first result }
+            { work_unless(rt, called_off, gate, 0, stack, first, tens) };
+            let one = match scope.spawn_with(task, work_on) {
+                Ok(one) => one,
+                Err(refused) => return (call_off(called_off, refused), Err(second)),
+            };
             let task = Task::of(&second, &twenties);
-            let work_on = move || -> Party<Item>
+            let work_on = move || -> Back
                 requires { IsSync R.row × IsSync G.row × (second.table ≡ stack.now) × (second.rooms ≡ 2) }
-                ensures { Works twenties.0 twenties.1 second result }
-            { work(rt, gate, 1, stack, second, twenties) };
-            let two = scope.spawn_with(task, work_on);
-            // (joined in any case, so that nothing of it is left)
-            let back = one.join(rt);
-            Ok((back, two?.join(rt)))
+                ensures { Leaves twenties.0 twenties.1 second result }
+            { work_unless(rt, called_off, gate, 1, stack, second, twenties) };
+            match scope.spawn_with(task, work_on) {
+                Ok(two) => (one.join(rt), two.join(rt)),
+                Err(refused) => {
+                    let back = call_off(called_off, refused);
+                    (one.join(rt), back)
+                }
+            }
         },
     )
 }
@@ -160,6 +196,23 @@ fn values_in_order(alloc: Global, items: Stack<Item>) -> Result<Vec<u64>, AllocE
     Ok(values)
 }
 
+/// Returns a worker's party.
+fn party_of(back: Back) -> Party<Item>
+    ensures { MatchResult back (λ party. result ≡ party) (λ party. result ≡ party) }
+{
+    match back {
+        Ok(party) => party,
+        Err(party) => party,
+    }
+}
+
+/// Returns whether both workers have worked.
+fn have_worked(first: &Back, second: &Back) -> bool
+    ensures { result ≡ (is_ok first.now && is_ok second.now) }
+{
+    first.is_ok() && second.is_ok()
+}
+
 /// Does what `share` does.
 fn run_workers<R: Threads + Wait + Sync, G: Gate>(
     rt: &R,
@@ -169,17 +222,22 @@ fn run_workers<R: Threads + Wait + Sync, G: Gate>(
     party: &mut Party<Item>,
 ) -> Result<Vec<u64>, AllocError>
     requires table { party.old.table ≡ stack.now }
-    requires whole { (party.old.share ≡ whole) × (party.old.rooms ≡ 4) }
-    requires empty { held (plain party.old.seen) ≡ [] }
-    ensures { IfOk result (λ values. Shared party.old party.new values.items) }
+    requires ready { IsReady party.old }
+    ensures values { IfOk result (λ values. Shared party.old party.new values.items) }
+    ensures ready { (party.new.table ≡ stack.now) × IsReady party.new }
 {
     let tens = (node(alloc, 10)?, node(alloc, 11)?);
     let twenties = (node(alloc, 20)?, node(alloc, 21)?);
     let parties = (stack.split(party, 2), stack.split(party, 2));
-    let (first, second) = work_both(rt, gate, stack, parties, tens, twenties)?;
-    stack.absorb(party, first);
-    stack.absorb(party, second);
-    values_in_order(alloc, stack.take_all(party))
+    let (first, second) = work_both(rt, gate, stack, parties, tens, twenties);
+    let both = have_worked(&first, &second);
+    stack.absorb(party, party_of(first));
+    stack.absorb(party, party_of(second));
+    let items = stack.take_all(party);
+    if !both {
+        return Err(AllocError);
+    }
+    values_in_order(alloc, items)
 }
 
 /// Lets two threads push to a stack, one 10 and then 11, and the other 20 and then 21, each item with its value as its
@@ -189,14 +247,15 @@ fn run_workers<R: Threads + Wait + Sync, G: Gate>(
 /// party with two of its rooms, which it absorbs in the end.
 ///
 /// # Errors
-/// If memory for the items or the values is refused or a thread cannot be started, it returns `Memory`. The other
-/// thread has ended then, and the party may not be whole.
+/// If memory for the items or the values is refused or a thread cannot be started, it returns `Memory`, and the party
+/// is as it has to be for another call: whole, with 4 rooms, and its stack is empty. The other thread has ended then,
+/// and items that were pushed are dropped.
 ///
 /// # Complexity
 /// That of the two calls of `work`, and O(1) more.
 ///
 /// # Waits
-/// For both threads.
+/// For both threads. If the second cannot be started, the first may still pass the gate, alone.
 pub fn share<R: Threads + Wait + Sync, G: Gate>(
     rt: &R,
     alloc: Global,
@@ -205,10 +264,10 @@ pub fn share<R: Threads + Wait + Sync, G: Gate>(
     party: &mut Party<Item>,
 ) -> Result<Vec<u64>, Fault>
     requires table { party.old.table ≡ stack.now }
-    requires whole { (party.old.share ≡ whole) × (party.old.rooms ≡ 4) }
-    requires empty { held (plain party.old.seen) ≡ [] }
+    requires ready { IsReady party.old }
     ensures ok { IfOk result (λ values. Shared party.old party.new values.items) }
     ensures err { IfErr result (λ fault. fault ≡ Memory) }
+    ensures ready { (party.new.table ≡ stack.now) × IsReady party.new }
 {
     match run_workers(rt, alloc, gate, stack, party) {
         Ok(values) => Ok(values),
