@@ -14,6 +14,8 @@ mod drops;
 #[cfg(test)]
 mod free_lists;
 #[cfg(test)]
+mod large_free_lists;
+#[cfg(test)]
 mod number;
 #[cfg(test)]
 mod sorted_lists;

@@ -122,3 +122,24 @@ fn slist_basic(rt: HostRuntime) {
     let list = SortedList::new_with_cmp(by_number);
     takes_back(&rt, rt.alloc(), list);
 }
+
+/// Returns a stack of these numbers, the last of which is popped first.
+fn stack_of(rt: &impl Abort, alloc: Global, numbers: &[u64]) -> Stack<Number> {
+    let mut stack = Stack::new();
+    for place in 0..numbers.len() {
+        let node = make(rt, alloc, numbers[place]);
+        same(rt, stack.push_was_empty(node), place == 0);
+    }
+    stack
+}
+
+#[test]
+fn sorts_what_a_stack_holds(rt: HostRuntime) {
+    let mut least = SortedList::from_stack_min(stack_of(&rt, rt.alloc(), &NUMBERS));
+    pops(&rt, &mut least, &RISING);
+    let mut greatest = SortedList::from_stack_max(stack_of(&rt, rt.alloc(), &NUMBERS));
+    pops(&rt, &mut greatest, &FALLING);
+    let stack = stack_of(&rt, rt.alloc(), &NUMBERS);
+    let mut by_function = SortedList::from_stack_with_cmp(stack, by_number);
+    pops(&rt, &mut by_function, &RISING);
+}

@@ -1,12 +1,13 @@
 //! Users of a free list: parties that put blocks back for all, and owners of a local part.
 ghost use Rattle.std.specs.Prelude.{◌≡◌, ◌<◌};
 
-use crate::blocks::Handle;
-use crate::compared::same;
+use crate::blocks::{Handle, block};
+use crate::compared::{made, same};
 use freelist::{FreeList, Local, Party, Stack};
+use std::alloc::Global;
 use std::process::Abort;
 use std::thread;
-use test_support::counted::Counted;
+use test_support::counted::{Counted, Drops};
 use test_support::nodes::number;
 
 /// How often a thread tries a call at most, before the test fails.
@@ -98,6 +99,22 @@ impl<'f> Remote<'f> {
             thread::yield_now();
         }
         panic!(rt; "a block was not put back");
+    }
+
+    /// Puts blocks back into the rooms of its party, at most this many, each by one try. Their numbers rise from the
+    /// first. Returns the number after the last. Only before the number 0 nothing is shared.
+    pub fn fill(
+        &mut self,
+        rt: &impl Abort,
+        alloc: Global,
+        (first, most): (u64, u64),
+        drops: &Drops,
+    ) -> u64 {
+        let end = first.wrapping_add(most.min(self.party.rooms() as u64));
+        for number in first..end {
+            self.puts(rt, made(rt, block(alloc, number, drops)), number == 0);
+        }
+        end
     }
 
     /// Puts all of these blocks back.
