@@ -7,6 +7,8 @@ mod chains;
 #[cfg(test)]
 mod compared;
 #[cfg(test)]
+mod cursor_edits;
+#[cfg(test)]
 mod drops;
 #[cfg(test)]
 mod filters;
