@@ -1,8 +1,9 @@
 -- Runs of steps on a queue.
-use Rattle.std.specs.Prelude.{◌≡◌, List, [], ◌∷◌, ◌⊎◌}
+use Rattle.std.specs.Prelude.{◌≡◌, List, [], ◌∷◌, ◌++◌, ◌⊎◌}
 use denote.RawPtr.{Ptr}
 use Rattle.cordyceps.specs.Elements.Element.{values}
 use Rattle.cordyceps.specs.Elements.Nodes.{elements}
+use Rattle.cordyceps.specs.Parties.Counts.{Same}
 use Rattle.cordyceps_disk.specs.declared.laws.Step.{Step}
 use Rattle.cordyceps_disk.specs.declared.laws.Step.TheVariants.{Submit, Serve}
 use Rattle.cordyceps_disk.specs.declared.request.Request.{Request}
@@ -28,3 +29,13 @@ module _ {P : Type 0} where
       ((q.waiting ≡ []) × Ran s q served w)
       ⊎ ((p : Ptr) × (r : Request P) × (rest : List (Request P)) × (left : Queue P) × (served ≡ r ∷ rest)
       × IsNext now p r q × HasLeft p r q left × (left.head ≡ r.sector) × Ran s left rest w)
+
+  -- The first of these steps ran, some or all, and left w. Each request that waited or was put in by one of them was
+  -- served once, or waits.
+  pub record Stopped (steps : List (Step P)) (q w : Queue P) : Type 0 where
+    pub some : List (Step P)
+    pub others : List (Step P)
+    pub split : steps ≡ some ++ others
+    pub served : List (Request P)
+    pub ran : Ran some q served w
+    pub each_once : Same (served ++ in_queue w) (put_in some ++ in_queue q)

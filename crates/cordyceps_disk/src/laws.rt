@@ -1,7 +1,7 @@
 //! What holds of each run of steps on a queue.
-ghost use Rattle.std.specs.Prelude.{◌++◌, IfOk};
+ghost use Rattle.std.specs.Prelude.{◌++◌, IfOk, OnErr};
 ghost use Rattle.cordyceps.specs.Parties.Counts.{Same};
-ghost use Rattle.cordyceps_disk.specs.Runs.{Ran, in_queue, put_in};
+ghost use Rattle.cordyceps_disk.specs.Runs.{Ran, Stopped, in_queue, put_in};
 
 use crate::queue::DiskQueue;
 use crate::request::Request;
@@ -18,7 +18,8 @@ pub enum Step<P> {
 /// waited or was put in was served once, or waits.
 ///
 /// # Errors
-/// Where memory is refused, the requests that were served and those of the steps that are left are dropped.
+/// Where memory is refused, the requests that were served and those of the steps that are left are dropped. All others
+/// wait.
 pub fn carry_out<P: Drop>(
     alloc: Global,
     queue: &mut DiskQueue<P>,
@@ -27,6 +28,7 @@ pub fn carry_out<P: Drop>(
     ensures ran { IfOk result (λ served. Ran steps.items queue.old served.items queue.new) }
     ensures each_once { IfOk result (λ served.
         Same (served.items ++ in_queue queue.new) (put_in steps.items ++ in_queue queue.old)) }
+    ensures stopped { OnErr result (Stopped steps.items queue.old queue.new) }
 {
     let mut served = Vec::new(alloc);
     for step in steps {

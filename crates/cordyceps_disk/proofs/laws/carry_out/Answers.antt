@@ -1,11 +1,12 @@
-use Rattle.std.proofs.Common.{◌+◌, length, ap, sym, ◌∙◌, arith}
+use Rattle.std.proofs.Common.{◌+◌, ◌∷◌, ◌++◌, [], length, ap, sym, ◌∙◌, arith, refl}
 use Rattle.std.proofs.lemmas.Grind.{common_steps}
+use Rattle.std.proofs.lemmas.Result.{err_from_is_err_and}
 use Rattle.std.specs.Vec.Iter.{into_iter_items}
 use Rattle.cordyceps.specs.Parties.Counts.{tally}
 use Rattle.cordyceps.proofs.Parties.Counting.{tally_append}
 use Rattle.cordyceps_disk.specs.Runs.{in_queue, put_in}
 use Rattle.cordyceps_disk.proofs.Counting.{idle_counts, nothing_left, serve_counts, submit_counts}
-use Rattle.cordyceps_disk.proofs.Running.{run_ends, run_serves, run_serves_none, run_starts, run_submits}
+use Rattle.cordyceps_disk.proofs.Running.{run_ends, run_serves, run_serves_none, run_starts, run_submits, stops}
 use Rattle.cordyceps_disk.proofs.laws.carry_out.Goals as goal
 
 pub loop-step-init : goal.loop-step-init
@@ -56,6 +57,28 @@ loop-step-preserved g c =
       run_serves_none c.args.steps.items s left c.args.queue.now at.queue c.next-in-Serve.new.self at.served.items was.0 c.in-Some.step steps.0 c.in-Serve.now c.in-Serve.is none same,
       idle_counts at.queue c.next-in-Serve.new.self s left at.served.items (λ f. tally f (put_in c.args.steps.items) + tally f (in_queue c.args.queue.now)) was.1 c.in-Some.step steps.0 c.in-Serve.now c.in-Serve.is same,
       omega (arith, was.2, steps.1, ap length steps.0),
+    )
+
+pub returns-in-Err-clause-stopped : goal.returns-in-Err-clause-stopped
+returns-in-Err-clause-stopped g c =
+    let at = c.loop-step in
+    rw c.in-Err.ensures.kept (stops c.args.steps.items (into_iter_items at.step-iterator) c.args.queue.now at.queue at.served.items at.invariant.0 at.invariant.1)
+
+pub returns-in_err-push-in-Some-next-clause-stopped : goal.returns-in_err-push-in-Some-next-clause-stopped
+returns-in_err-push-in-Some-next-clause-stopped g c =
+    let e = err_from_is_err_and c.from_residual.result c.from_residual.ensures.1 in
+    let at = c.loop-step in
+    let was = at.invariant in
+    let steps = c.in-Some.ensures.steps in
+    let left = into_iter_items c.next.new.self in
+    let s = into_iter_items at.step-iterator in
+    let (p, next, gone, head) = c.in-Some-next.ensures.served in
+    let r = c.in-Some-next.request in
+    let on = at.served.items ++ r ∷ [] in
+    rw e.1 (
+    stops c.args.steps.items left c.args.queue.now c.next-in-Serve.new.self on
+    (run_serves c.args.steps.items s left c.args.queue.now at.queue c.next-in-Serve.new.self at.served.items was.0 c.in-Some.step steps.0 c.in-Serve.now p r on c.in-Serve.is next gone head refl)
+    (serve_counts at.queue c.next-in-Serve.new.self s left at.served.items (λ f. tally f (put_in c.args.steps.items) + tally f (in_queue c.args.queue.now)) was.1 c.in-Some.step steps.0 p r c.in-Serve.now on c.in-Serve.is gone.waiting refl)
     )
 
 pub returns-clause-ran : goal.returns-clause-ran
