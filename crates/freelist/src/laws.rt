@@ -250,9 +250,9 @@ fn take_turn<T: Linked<Links<T>>>(first: &mut User<'_, T>, second: &mut User<'_,
 
 /// Carries out the commands of two users, one after the other in the order of the turns.
 ///
-/// Its contract states of each user alone that it carried out its own commands, in their order. It states nothing of
-/// how the calls of the two lie to each other, since users whose parties have not met have seen no history in common:
-/// by it, a get may miss what the other user put back at an earlier turn.
+/// Its contract states of each user alone that it carried out its own commands, in their order. It does not state how
+/// the calls of the two are interleaved, since users whose parties have not met have no history in common: by the
+/// contract, a get may miss a block that the other user put back at an earlier turn.
 ///
 /// # Complexity
 /// That of the commands.
@@ -273,8 +273,8 @@ pub fn take_turns<T: Linked<Links<T>>>(
 /// second, and shared: together they are the blocks that both had. Requires that `rooms` is at most half of
 /// `MAX_ROOMS`.
 ///
-/// In the end the parties of the two meet, and what both did is one legal history, each user's calls in their order. How
-/// the calls of one lie among those of the other its contract does not state.
+/// In the end the parties of the two meet, and what both did is one legal history, in which each user's calls are in
+/// order. The contract does not state how the calls of the two are interleaved there.
 ///
 /// # Errors
 /// If memory is refused, it returns `AllocError`, and the blocks are dropped.
