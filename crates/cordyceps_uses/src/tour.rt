@@ -52,11 +52,12 @@ pub fn rotate(jobs: &mut List<Job>)
 
 /// Takes the job with the least rank out, and of equals the first. The others stay.
 pub fn take_least(jobs: &mut StableList<Job>) -> Option<ListJob>
-    requires { AreDistinct (spots jobs.old) }
     ensures least { MatchOption result ((jobs.old ≡ []) × (jobs.new ≡ []))
         (λ job. (spot : Ptr) × IsEarliestLeast comes_before jobs.old (spot, job) jobs.new) }
     ensures distinct { AreDistinct (spots jobs.new) }
 {
+    // no two jobs are at one spot, as the proof uses
+    jobs.spots_are_distinct();
     let mut cursor = jobs.cursor_front();
     // the spot of the best job that the cursor has passed
     let mut best = cursor.spot()?;

@@ -20,7 +20,7 @@ loop-at-init c =
     let first = subst (λ (o : Option Ptr). MatchOption o (jobs ≡ []) (λ p. IsFirst jobs p)) (sym at) c.cursor_front-cursor.ensures.spot in
     let same = c.cursor_front-cursor.ensures.nodes in
     let on = on_from rank jobs cursor.nodes cursor.spot c.move_next.new.self.spot best same at c.move_next.ensures.moved in
-    (c.move_next.ensures.nodes ∙ same, best_first rank jobs best c.move_next.new.self.spot c.requires first on)
+    (c.move_next.ensures.nodes ∙ same, best_first rank jobs best c.move_next.new.self.spot c.spots_are_distinct.ensures first on)
 
 pub get-requires-in-Some : goal.get-requires-in-Some
 get-requires-in-Some c = best_has rank c.args.jobs.now c.loop-at.cursor.spot c.loop-at.best c.loop-at.invariant.1
@@ -33,7 +33,7 @@ loop-at-smaller c =
     let r = c.move_next-in-Some.new.self.spot in
     let best = subst (λ (o : Option Ptr). IsBest rank jobs o c.loop-at.best) (sym is) c.loop-at.invariant.1 in
     let on = on_from rank jobs c.loop-at.cursor.nodes c.loop-at.cursor.spot r at c.loop-at.invariant.0 is c.move_next-in-Some.ensures.moved in
-    subst (λ (o : Option Ptr). nodes_from jobs r < nodes_from jobs o) is (next_nearer jobs at r c.requires (here_has rank jobs at c.loop-at.best best) on)
+    subst (λ (o : Option Ptr). nodes_from jobs r < nodes_from jobs o) is (next_nearer jobs at r c.spots_are_distinct.ensures (here_has rank jobs at c.loop-at.best best) on)
 
 pub loop-at-preserved : goal.loop-at-preserved
 loop-at-preserved c =
@@ -48,9 +48,9 @@ loop-at-preserved c =
       c.move_next-in-Some.ensures.nodes ∙ c.loop-at.invariant.0,
       elim c.if-get.branch [
         | then-get y ↦
-            subst (λ (p : Ptr). IsBest rank jobs r p) (sym y.best-is) (best_changes rank jobs at c.loop-at.best r v w c.requires best c.get.ensures c.get-in-Some.ensures y.if-get.true on)
+            subst (λ (p : Ptr). IsBest rank jobs r p) (sym y.best-is) (best_changes rank jobs at c.loop-at.best r v w c.spots_are_distinct.ensures best c.get.ensures c.get-in-Some.ensures y.if-get.true on)
         | else-get n ↦
-            subst (λ (p : Ptr). IsBest rank jobs r p) (sym n.best-is) (best_stays rank jobs at c.loop-at.best r v w c.requires best c.get.ensures c.get-in-Some.ensures n.if-get.false on)
+            subst (λ (p : Ptr). IsBest rank jobs r p) (sym n.best-is) (best_stays rank jobs at c.loop-at.best r v w c.spots_are_distinct.ensures best c.get.ensures c.get-in-Some.ensures n.if-get.false on)
       ],
     )
 
@@ -61,4 +61,4 @@ pub returns-clause-least : goal.returns-clause-least
 returns-clause-least c =
     let jobs = c.args.jobs.now in
     let best = subst (λ (o : Option Ptr). IsBest rank jobs o c.loop-at.best) (sym c.in_default.ensures.spot) c.loop-at.invariant.1 in
-    (c.loop-at.best, best_taken rank jobs c.remove.new.self c.loop-at.best c.remove.result c.requires best c.remove.ensures.taken)
+    (c.loop-at.best, best_taken rank jobs c.remove.new.self c.loop-at.best c.remove.result c.spots_are_distinct.ensures best c.remove.ensures.taken)
