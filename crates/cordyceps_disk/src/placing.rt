@@ -2,9 +2,8 @@
 ghost use Rattle.std.specs.Prelude.{◌≡◌, ◌<◌, length, if◌then◌else◌, Some, IfErr, IfOk, OnErr};
 ghost use denote.RawPtr.{Ptr};
 ghost use Rattle.cordyceps.specs.Elements.Element.{Element};
-ghost use Rattle.cordyceps.specs.Elements.Nodes.{Nodes, spots};
+ghost use Rattle.cordyceps.specs.Elements.Nodes.{Nodes};
 ghost use Rattle.cordyceps.specs.Spots.BySpot.{HasSpot, IsTaken};
-ghost use Rattle.cordyceps.specs.Spots.Spots.{AreDistinct};
 ghost use Rattle.cordyceps_disk.specs.Pairs.{Paired, Rises, ahead_of, sector_of, due_of};
 ghost use Rattle.cordyceps_disk.specs.Queue.{IsOut, put_by};
 
@@ -25,12 +24,12 @@ pub(crate) fn leads<P: Drop>(
     head: u64,
     sector: u64,
 ) -> bool
-    requires distinct { AreDistinct (spots requests.now.nodes) }
     requires ahead { ahead ≡ ahead_of head requests.now.nodes }
     ensures { (n : Ptr × Element (Waiting P))
         → sector_of n ≡ sector
         → ahead_of head (put_by sector_of n requests.now.nodes) ≡ (if result then Some n.0 else ahead) }
 {
+    requests.spots_are_distinct();
     if sector < head {
         return false;
     }
@@ -48,13 +47,13 @@ pub(crate) fn left_ahead<P: Drop>(
     at: Spot,
 ) -> Option<Spot>
     requires there { HasSpot requests.now.nodes at }
-    requires distinct { AreDistinct (spots requests.now.nodes) }
     requires order { Rises sector_of requests.now.nodes }
     requires ahead { ahead ≡ ahead_of head requests.now.nodes }
     ensures { (e : Element (Waiting P)) (rest : Nodes (Waiting P))
         → IsTaken requests.now.nodes at e rest
         → result ≡ ahead_of head rest }
 {
+    requests.spots_are_distinct();
     if requests.get(at).request.sector < head {
         return ahead;
     }
@@ -71,12 +70,12 @@ pub(crate) fn left_ahead<P: Drop>(
 /// It walks back over the requests at the same sector.
 pub(crate) fn first_above<P: Drop>(requests: &Requests<P>, at: Spot) -> Option<Spot>
     requires there { HasSpot requests.now.nodes at }
-    requires distinct { AreDistinct (spots requests.now.nodes) }
     requires order { Rises sector_of requests.now.nodes }
     ensures { (e : Element (Waiting P)) (rest : Nodes (Waiting P))
         → IsTaken requests.now.nodes at e rest
         → result ≡ ahead_of e.value.request.sector rest }
 {
+    requests.spots_are_distinct();
     let sector = requests.get(at).request.sector;
     let mut first = requests.next(at);
     let mut place = at;

@@ -10,7 +10,7 @@ get-requires g c = found_spot c.args.head c.args.requests.now.nodes c.in-Some.fi
 
 pub returns-in-Some : goal.returns-in-Some
 returns-in-Some g c n same =
-    let is = leads_some c.args.head c.args.sector c.args.requests.now.nodes c.in-Some.first c.get.result.now (nat_lt c.args.sector c.get.result.now.request.sector) c.requires.distinct (sym c.requires.ahead ∙ c.in-Some.is) c.get.ensures refl (omega (arith, c.if-sector-head.false)) n same in
+    let is = leads_some c.args.head c.args.sector c.args.requests.now.nodes c.in-Some.first c.get.result.now (nat_lt c.args.sector c.get.result.now.request.sector) c.spots_are_distinct.ensures (sym c.requires.ahead ∙ c.in-Some.is) c.get.ensures refl (omega (arith, c.if-sector-head.false)) n same in
     is ∙ ap (λ o. cond (nat_lt c.args.sector c.get.result.now.request.sector) (Some n.0) o) (sym c.in-Some.is)
 
 pub returns-in-None : goal.returns-in-None
