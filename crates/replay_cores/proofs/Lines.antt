@@ -10,3 +10,7 @@ module _ {M C : Type 0} (command_of : List ℕ → Option C) (step : M → C →
   pub core_taken_as : (state new : M) (line : List ℕ) (command : C) (reply : CoreLine) → Some command ≡ command_of line → (new, reply) ≡ step state command →
       (core_commands_machine command_of step).step state line ≡ Some (new, core_text reply ∷ [])
   core_taken_as state new line command reply is done = core_taken state line command is ∙ ap (λ (r : M × CoreLine). Some (with_core_text r)) (sym done)
+
+-- the core after a command that was run
+pub core_ran : {M : Type 0} (next : M × CoreLine) (new : M) (reply : CoreLine) → (new, reply) ≡ next → new ≡ next.0
+core_ran next new reply is = ap (λ (r : _ × CoreLine). r.0) is

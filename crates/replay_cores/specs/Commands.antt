@@ -14,4 +14,5 @@ core_commands_machine command_of step =
     record {
       step = λ state line. option_map (λ command. with_core_text (step state command)) (command_of line);
       ending = λ state. [];
+      last = λ state. state;
     }

@@ -1,5 +1,5 @@
 //! Sessions of scripts in which each line is a command on a core.
-ghost use Rattle.std.specs.Prelude.{◌≡◌, ℕ, List, Option, IfOk};
+ghost use Rattle.std.specs.Prelude.{◌≡◌, ℕ, List, Option, IfOk, OnErr};
 ghost use Rattle.replay_lines.specs.CoreReplies.{CoreLine, line_of_reply};
 
 use replay_driver::session::Session;
@@ -37,12 +37,13 @@ pub trait ScriptedCore {
     /// Runs a command, and returns its reply.
     ///
     /// # Errors
-    /// If memory for it is refused, it returns `AllocError`.
+    /// If memory for it is refused, it returns `AllocError`, and has changed nothing.
     ///
     /// # Complexity
     /// That of the core's call.
     fn play(&mut self, command: Self::Command) -> Result<CoreReply, AllocError>
-        ensures { IfOk result (λ reply. (self.new, line_of_reply reply) ≡ step self.old command) };
+        ensures ok { IfOk result (λ reply. (self.new, line_of_reply reply) ≡ step self.old command) }
+        ensures err { OnErr result (self.new ≡ self.old) };
 }
 
 /// A session of a script, with its core.

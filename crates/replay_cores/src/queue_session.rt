@@ -1,5 +1,5 @@
 //! Scripts in mode `queue`.
-ghost use Rattle.std.specs.Prelude.{◌≡◌, IfOk};
+ghost use Rattle.std.specs.Prelude.{◌≡◌, IfOk, OnErr};
 ghost use Rattle.replay_lines.specs.CoreReplies.{line_of_reply};
 ghost use Rattle.replay_cores.specs.QueueMachine.{reply_to_step, reply_to_error, reply_to_try, takes_step, step};
 
@@ -46,8 +46,9 @@ fn reply_of_found(found: Result<Item, TryDequeueError>) -> CoreReply
 }
 
 fn add_party(core: &mut QueueCore<Item>) -> Result<CoreReply, AllocError>
-    ensures { IfOk result (λ reply.
+    ensures ok { IfOk result (λ reply.
         (core.new, line_of_reply reply) ≡ step core.old QueueCommand.Party) }
+    ensures err { OnErr result (core.new ≡ core.old) }
 {
     match core.add_party() {
         Ok(party) => Ok(CoreReply::Party(party)),
@@ -56,8 +57,9 @@ fn add_party(core: &mut QueueCore<Item>) -> Result<CoreReply, AllocError>
 }
 
 fn add_room(core: &mut QueueCore<Item>, party: usize) -> Result<CoreReply, AllocError>
-    ensures { IfOk result (λ reply.
+    ensures ok { IfOk result (λ reply.
         (core.new, line_of_reply reply) ≡ step core.old (QueueCommand.Room party)) }
+    ensures err { OnErr result (core.new ≡ core.old) }
 {
     match core.add_room(party) {
         Ok(()) => Ok(CoreReply::Done),
@@ -93,8 +95,9 @@ fn dequeue(core: &mut QueueCore<Item>, party: usize) -> CoreReply
 }
 
 fn batch(core: &mut QueueCore<Item>, party: usize, max: usize) -> Result<CoreReply, AllocError>
-    ensures { IfOk result (λ reply.
+    ensures ok { IfOk result (λ reply.
         (core.new, line_of_reply reply) ≡ step core.old (QueueCommand.Batch party max)) }
+    ensures err { OnErr result (core.new ≡ core.old) }
 {
     match core.take_linked(party, max) {
         Ok(Ok(batch)) => Ok(CoreReply::Show(batch)),

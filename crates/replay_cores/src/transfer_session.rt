@@ -1,5 +1,5 @@
 //! Scripts in mode `transfer`.
-ghost use Rattle.std.specs.Prelude.{◌≡◌, IfOk};
+ghost use Rattle.std.specs.Prelude.{◌≡◌, IfOk, OnErr};
 ghost use Rattle.replay_lines.specs.CoreReplies.{line_of_reply};
 ghost use Rattle.replay_cores.specs.TransferMachine.{reply_to_step, takes_step, step};
 
@@ -27,8 +27,9 @@ fn reply_of(answer: Result<TransferAnswer<Item>, (StepError, Option<Item>)>) -> 
 }
 
 fn add_party(core: &mut TransferCore<Item>) -> Result<CoreReply, AllocError>
-    ensures { IfOk result (λ reply.
+    ensures ok { IfOk result (λ reply.
         (core.new, line_of_reply reply) ≡ step core.old TransferCommand.Party) }
+    ensures err { OnErr result (core.new ≡ core.old) }
 {
     match core.add_party() {
         Ok(party) => Ok(CoreReply::Party(party)),
@@ -37,8 +38,9 @@ fn add_party(core: &mut TransferCore<Item>) -> Result<CoreReply, AllocError>
 }
 
 fn add_room(core: &mut TransferCore<Item>, party: usize) -> Result<CoreReply, AllocError>
-    ensures { IfOk result (λ reply.
+    ensures ok { IfOk result (λ reply.
         (core.new, line_of_reply reply) ≡ step core.old (TransferCommand.Room party)) }
+    ensures err { OnErr result (core.new ≡ core.old) }
 {
     match core.add_room(party) {
         Ok(()) => Ok(CoreReply::Done),
@@ -64,8 +66,9 @@ fn push(core: &mut TransferCore<Item>, party: usize, item: Item) -> CoreReply
 }
 
 fn take_all(core: &mut TransferCore<Item>, party: usize) -> Result<CoreReply, AllocError>
-    ensures { IfOk result (λ reply.
+    ensures ok { IfOk result (λ reply.
         (core.new, line_of_reply reply) ≡ step core.old (TransferCommand.TakeAll party)) }
+    ensures err { OnErr result (core.new ≡ core.old) }
 {
     match core.take_all(party) {
         Ok(batch) => Ok(CoreReply::Show(batch)),

@@ -55,9 +55,9 @@ stopped machine takes more old new mid block line passed rest n failed stops.Bad
     let step = rw is at step_passed in
     let wrote : Writes takes old.run.sink old.run.text new.run.sink new.run.text (concat so_far.texts) = rw append-nil at (writes_more takes more old.run.sink mid.sink new.run.sink old.run.text mid.text new.run.text (concat so_far.texts) [] so_far.writes writes) in
     (so_far.lines, so_far.texts, line, rest, rw same so_far.leads, clean, rw same step, counted ∙ ap (λ k. old.count + k) so_far.counted, wrote)
-stopped machine takes more old new mid block line passed rest n failed stops.Memory so_far counted clean is (last, added, front, step_passed, among, writes) =
+stopped machine takes more old new mid block line passed rest n failed stops.Memory so_far counted clean is (next, added, front, step_passed, among, writes, moved) =
     let step = rw is at step_passed in
-    (so_far.lines, so_far.texts, line, rest, mid.state, last, added, front, so_far.leads, clean, step, among, writes_more takes more old.run.sink mid.sink new.run.sink old.run.text mid.text new.run.text _ _ so_far.writes writes)
+    (so_far.lines, so_far.texts, line, rest, mid.state, next, added, front, so_far.leads, clean, step, among, writes_more takes more old.run.sink mid.sink new.run.sink old.run.text mid.text new.run.text _ _ so_far.writes writes, moved)
 stopped machine takes more old new mid block line passed rest n failed stops.Write so_far counted clean is (added, waiting, step_passed, writes, did_fail) =
     let step = rw is at step_passed in (
       so_far.lines ++ line ∷ [],

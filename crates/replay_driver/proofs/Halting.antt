@@ -146,7 +146,12 @@ halts_unwritten {machine = machine} {takes = takes} more {old = old} {new = new}
   texts = so_far.texts;
   more = machine.ending new.state;
   all = ap (replies machine old.state) (sym (append-nil so_far.lines)) ∙ replies-steps machine old.state new.state so_far.lines [] so_far.texts so_far.leads.steps;
-  halted = (did_fail, waiting, rw append-nil at (writes_more takes more _ _ _ _ _ _ (concat so_far.texts) [] so_far.writes writes));
+  halted = (
+    did_fail,
+    (so_far.lines, [], sym (append-nil so_far.lines), so_far.leads.steps),
+    waiting,
+    rw append-nil at (writes_more takes more _ _ _ _ _ _ (concat so_far.texts) [] so_far.writes writes),
+  );
 }
 
 long_bad : {S : Type 0} (machine : Machine S) (state : S) (line : List ℕ) → 120 < length line → step_of machine state line ≡ None
@@ -203,7 +208,7 @@ halts_last {machine = machine} {takes = takes} more {old = old} {mid = mid} {new
         rw append-nil at (writes_more takes more _ _ _ _ _ _ (concat so_far.texts) [] so_far.writes writes),
       );
     }
-halts_last {machine = machine} {takes = takes} more {old = old} {mid = mid} {new = new} {bytes = bytes} {rest = rest} stops.Memory so_far gave_them clean at_end (some, (last, added, front, step, among, writes)) =
+halts_last {machine = machine} {takes = takes} more {old = old} {mid = mid} {new = new} {bytes = bytes} {rest = rest} stops.Memory so_far gave_them clean at_end (some, (next, added, front, step, among, writes, moved)) =
     let one : last_line rest ≡ rest ∷ [] = some_line rest some in
     record {
       complete = so_far.lines;
@@ -218,7 +223,7 @@ halts_last {machine = machine} {takes = takes} more {old = old} {mid = mid} {new
       all = replies-steps machine old.state mid.state so_far.lines (last_line rest) so_far.texts so_far.leads.steps;
       halted = (
         concat so_far.texts ++ front,
-        (so_far.lines, last_line rest, mid.state, so_far.texts, front, refl, so_far.leads.steps, inl (rest, [], last, added, one, step, among), refl),
+        (so_far.lines, last_line rest, mid.state, so_far.texts, front, refl, so_far.leads.steps, inl (rest, [], next, added, one, step, among, moved), refl),
         writes_more takes more _ _ _ _ _ _ _ _ so_far.writes writes,
       );
     }
@@ -238,7 +243,7 @@ halts_last {machine = machine} {takes = takes} more {old = old} {mid = mid} {new
       texts = texts;
       more = machine.ending new.state;
       all = ap (replies machine old.state) (sym (append-nil lines)) ∙ replies-steps machine old.state new.state lines [] texts whole;
-      halted = (did_fail, waiting, rw concat-append (writes_more takes more _ _ _ _ _ _ _ _ so_far.writes writes));
+      halted = (did_fail, (lines, [], sym (append-nil lines), whole), waiting, rw concat-append (writes_more takes more _ _ _ _ _ _ _ _ so_far.writes writes));
     }
 
 -- A line of a block stops the script.
@@ -269,7 +274,7 @@ halts_stopped {machine = machine} {takes = takes} more {old = old} {mid = mid} {
         rw concat-append (writes_more takes more _ _ _ _ _ _ _ _ so_far.writes writes),
       );
     }
-halts_stopped {machine = machine} {takes = takes} more {old = old} {mid = mid} {bytes = bytes} new stops.Memory so_far gave_them (lines2, texts2, line, rest2, here, after, added, front, leads2, clean, step, among, writes) =
+halts_stopped {machine = machine} {takes = takes} more {old = old} {mid = mid} {bytes = bytes} new stops.Memory so_far gave_them (lines2, texts2, line, rest2, here, after, added, front, leads2, clean, step, among, writes, moved) =
     let lines = so_far.lines ++ lines2 in
     let texts = so_far.texts ++ texts2 in
     let leads : Leads machine old.state bytes lines (line ++ 10 ∷ rest2) here texts = leads_joined so_far.leads leads2 in
@@ -287,7 +292,7 @@ halts_stopped {machine = machine} {takes = takes} more {old = old} {mid = mid} {
       all = replies-steps machine old.state here lines (line ∷ others) texts leads.steps;
       halted = (
         concat texts ++ front,
-        (lines, line ∷ others, here, texts, front, refl, leads.steps, inl (line, others, after, added, refl, step, among), refl),
+        (lines, line ∷ others, here, texts, front, refl, leads.steps, inl (line, others, after, added, refl, step, among, moved), refl),
         rw (concat-append, append_assoc) (writes_more takes more _ _ _ _ _ _ _ _ so_far.writes writes),
       );
     }
@@ -307,7 +312,7 @@ halts_stopped {machine = machine} {takes = takes} more {old = old} {mid = mid} {
       texts = texts;
       more = replies machine new.run.state front;
       all = replies-steps machine old.state new.run.state lines front texts leads.steps;
-      halted = (did_fail, waiting, rw concat-append (writes_more takes more _ _ _ _ _ _ _ _ so_far.writes writes));
+      halted = (did_fail, (lines, front, refl, leads.steps), waiting, rw concat-append (writes_more takes more _ _ _ _ _ _ _ _ so_far.writes writes));
     }
 
 nil_end : (xs more : List ℕ) → length more ≡ 0 → xs ++ more ≡ xs

@@ -4,7 +4,7 @@ use Rattle.std.proofs.lemmas.Bool.Decides.{nat_tests}
 use Rattle.std.proofs.lemmas.List.{append-nil}
 use Rattle.std.proofs.lemmas.List.Concat.{flat_map-append}
 use Rattle.std.specs.List.{concat, AllByRecursion}
-use Rattle.replay_driver.specs.Script.{Machine, step_of, Steps, replies, first_bad}
+use Rattle.replay_driver.specs.Script.{Machine, step_of, Steps, replies, first_bad, state_after}
 use Rattle.replay_driver.specs.Steps.{with_line_feed, HasNoFeed, Writes, Leads}
 
 pub concat-append : (xs ys : List (List ℕ)) → concat (xs ++ ys) ≡ concat xs ++ concat ys
@@ -27,6 +27,12 @@ pub replies-steps : {S : Type 0} (machine : Machine S) (old new : S) (lines more
 replies-steps machine old new [] more texts (same, none) = rw (same, none) refl
 replies-steps machine old new (line ∷ lines) more texts (next, first, others, step, steps, joined) =
     rw (step, replies-steps machine next new lines more others steps, joined, append_assoc) refl
+
+pub state_after-steps : {S : Type 0} (machine : Machine S) (old new : S) (lines more : List (List ℕ)) (texts : List (List ℕ)) →
+    Steps machine old lines new texts → state_after machine old (lines ++ more) ≡ state_after machine new more
+state_after-steps machine old new [] more texts (same, none) = rw same refl
+state_after-steps machine old new (line ∷ lines) more texts (next, first, others, step, steps, joined) =
+    rw step (state_after-steps machine next new lines more others steps)
 
 pub first_bad-steps : {S : Type 0} (machine : Machine S) (old new : S) (lines : List (List ℕ)) (texts : List (List ℕ)) →
     Steps machine old lines new texts → first_bad machine old lines ≡ None

@@ -15,13 +15,13 @@ whole_lines (line ∷ next ∷ rest) unfinished = ap (λ (lines : List (List ℕ
 pub gave_all : (script left bytes : List ℕ) (ended ended' : Type 0) → Gives (Some script) (Some left) ended ended' bytes → left ≡ [] → bytes ≡ script
 gave_all script left bytes ended ended' gave none = sym (gave.0 ∙ ap (λ (rest : List ℕ). bytes ++ rest) none ∙ append-nil bytes)
 
-pub ran_whole : {S : Type 0} {machine : Machine S} {state : S} {gave : List ℕ → Type 0} {ended read_failed : Type 0} {took : List ℕ → Type 0} {write_failed : Type 0}
-    (script : List ℕ) (result : Result (Unit {0}) Fault) → Runs machine state gave ended read_failed took write_failed result → ((bytes : List ℕ) → gave bytes → ended → bytes ≡ script) →
-    OnOk result (AnswersAll machine state script took)
+pub ran_whole : {S : Type 0} {machine : Machine S} {state new : S} {gave : List ℕ → Type 0} {ended read_failed : Type 0} {took : List ℕ → Type 0} {write_failed : Type 0}
+    (script : List ℕ) (result : Result (Unit {0}) Fault) → Runs machine state new gave ended read_failed took write_failed result → ((bytes : List ℕ) → gave bytes → ended → bytes ≡ script) →
+    OnOk result (AnswersAll machine state new script took)
 ran_whole {machine = machine} {state = state} {took = took} script (Ok done) h all =
-    let (at_end, are, good, said) = h.answers in
+    let (at_end, are, good, said, moved) = h.answers in
     let is : h.lines ≡ lines_of script = are ∙ sym (whole_lines h.complete h.unfinished) ∙ ap without_empty_last (sym h.cut ∙ ap parts (all h.bytes h.read at_end)) in
-    (rw is at good, rw (said, is) at h.wrote)
+    (rw is at good, rw (said, is) at h.wrote, rw is at moved)
 ran_whole script (Err fault) h all = tt
 
 lines_over : (ended ended' : Type 0) (complete : List (List ℕ)) (unfinished : List ℕ) (lines : List (List ℕ)) → (ended → ended') → AreLines ended complete unfinished lines → AreLines ended' complete unfinished lines
@@ -29,17 +29,17 @@ lines_over ended ended' complete unfinished lines ends (inl are) = inl are
 lines_over ended ended' complete unfinished lines ends (inr (inl at_end, are)) = inr (inl (ends at_end), are)
 lines_over ended ended' complete unfinished lines ends (inr (inr long, are)) = inr (inr long, are)
 
-answers_over : {S : Type 0} (machine : Machine S) (state : S) (ended ended' read_failed write_failed : Type 0) (complete : List (List ℕ)) (unfinished : List ℕ) (lines : List (List ℕ)) (written : List ℕ) (result : Result (Unit {0}) Fault) →
-    (ended → ended') → Answers machine state ended read_failed write_failed complete unfinished lines written result → Answers machine state ended' read_failed write_failed complete unfinished lines written result
-answers_over machine state ended ended' read_failed write_failed complete unfinished lines written (Ok done) ends (at_end, are, good, said) = (ends at_end, are, good, said)
-answers_over machine state ended ended' read_failed write_failed complete unfinished lines written (Err (faults.BadLine n)) ends h = h
-answers_over machine state ended ended' read_failed write_failed complete unfinished lines written (Err faults.Read) ends h = h
-answers_over machine state ended ended' read_failed write_failed complete unfinished lines written (Err faults.Write) ends h = h
-answers_over machine state ended ended' read_failed write_failed complete unfinished lines written (Err faults.Memory) ends h = h
+answers_over : {S : Type 0} (machine : Machine S) (state new : S) (ended ended' read_failed write_failed : Type 0) (complete : List (List ℕ)) (unfinished : List ℕ) (lines : List (List ℕ)) (written : List ℕ) (result : Result (Unit {0}) Fault) →
+    (ended → ended') → Answers machine state new ended read_failed write_failed complete unfinished lines written result → Answers machine state new ended' read_failed write_failed complete unfinished lines written result
+answers_over machine state new ended ended' read_failed write_failed complete unfinished lines written (Ok done) ends (at_end, are, good, said, moved) = (ends at_end, are, good, said, moved)
+answers_over machine state new ended ended' read_failed write_failed complete unfinished lines written (Err (faults.BadLine n)) ends h = h
+answers_over machine state new ended ended' read_failed write_failed complete unfinished lines written (Err faults.Read) ends h = h
+answers_over machine state new ended ended' read_failed write_failed complete unfinished lines written (Err faults.Write) ends h = h
+answers_over machine state new ended ended' read_failed write_failed complete unfinished lines written (Err faults.Memory) ends h = h
 
-pub ran_over : {S : Type 0} {machine : Machine S} {state : S} {gave gave' : List ℕ → Type 0} {ended ended' read_failed : Type 0} {took : List ℕ → Type 0} {write_failed : Type 0} (result : Result (Unit {0}) Fault) →
-    Runs machine state gave ended read_failed took write_failed result → ((bytes : List ℕ) → gave bytes → gave' bytes) → (ended → ended') → Runs machine state gave' ended' read_failed took write_failed result
-ran_over {machine = machine} {state = state} result h gives ends = record {
+pub ran_over : {S : Type 0} {machine : Machine S} {state new : S} {gave gave' : List ℕ → Type 0} {ended ended' read_failed : Type 0} {took : List ℕ → Type 0} {write_failed : Type 0} (result : Result (Unit {0}) Fault) →
+    Runs machine state new gave ended read_failed took write_failed result → ((bytes : List ℕ) → gave bytes → gave' bytes) → (ended → ended') → Runs machine state new gave' ended' read_failed took write_failed result
+ran_over {machine = machine} {state = state} {new = new} result h gives ends = record {
   complete = h.complete;
   unfinished = h.unfinished;
   bytes = h.bytes;
@@ -49,5 +49,5 @@ ran_over {machine = machine} {state = state} result h gives ends = record {
   are_lines = lines_over _ _ h.complete h.unfinished h.lines ends h.are_lines;
   written = h.written;
   wrote = h.wrote;
-  answers = answers_over machine state _ _ _ _ h.complete h.unfinished h.lines h.written result ends h.answers;
+  answers = answers_over machine state new _ _ _ _ h.complete h.unfinished h.lines h.written result ends h.answers;
 }

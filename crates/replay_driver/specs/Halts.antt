@@ -1,7 +1,7 @@
 -- How the reading of a script halts, before the session is told of the end and the last text is written.
 use Rattle.std.specs.Prelude.{◌≡◌, ℕ, ◌≤◌, List, [], ◌∷◌, ◌++◌, length, None, Some, Result, Ok, Err, ◌⊎◌}
 use Rattle.std.specs.List.{concat}
-use Rattle.replay_driver.specs.Script.{Machine, Steps, replies, first_bad, IsOver, Stops, parts, last_line, AreLines}
+use Rattle.replay_driver.specs.Script.{Machine, Steps, replies, first_bad, IsOver, SomeLead, Stops, parts, last_line, AreLines}
 use Rattle.replay_driver.specs.Steps.{Writes, EndStops, RunState}
 use Rattle.replay_driver.specs.declared.fault.Fault.{Fault}
 use Rattle.replay_driver.specs.declared.fault.Fault.TheVariants as faults
@@ -26,9 +26,10 @@ Halted machine ended read_failed takes write_failed old new complete unfinished 
     read_failed × (lines ≡ complete) × (length unfinished ≤ 120) × (first_bad machine old.state lines ≡ None)
     × Taken machine old.state lines new.state texts × Writes takes old.sink old.text new.sink new.text (concat texts)
 Halted machine ended read_failed takes write_failed old new complete unfinished lines texts (Err faults.Write) =
-    write_failed × (waiting : List ℕ) × Writes takes old.sink old.text new.sink waiting (concat texts)
+    write_failed × SomeLead machine old.state lines new.state texts × (waiting : List ℕ)
+    × Writes takes old.sink old.text new.sink waiting (concat texts)
 Halted machine ended read_failed takes write_failed old new complete unfinished lines texts (Err faults.Memory) =
-    (front : List ℕ) × Stops machine old.state lines front × Writes takes old.sink old.text new.sink new.text front
+    (front : List ℕ) × Stops machine old.state new.state lines front × Writes takes old.sink old.text new.sink new.text front
 
 pub record Halts {S O : Type 0} (machine : Machine S) (gave : List ℕ → Type 0) (ended read_failed : Type 0)
     (takes : O → O → List ℕ → Type 0) (write_failed : Type 0) (old new : RunState S O)
@@ -46,10 +47,12 @@ pub record Halts {S O : Type 0} (machine : Machine S) (gave : List ℕ → Type 
   pub halted : Halted machine ended read_failed takes write_failed old new complete unfinished lines texts result
 
 -- The session was told of the end, unless writing or memory had failed.
-abbrev pub EndsLines : {S : Type 0} → Machine S → S → List ℕ → List ℕ → Result (Unit {0}) Fault →
-    Result (Unit {0}) Fault → Type 0
-EndsLines machine state text text' (Err faults.Memory) result = (result ≡ Err faults.Memory) × (text' ≡ text)
-EndsLines machine state text text' (Err faults.Write) result = (result ≡ Err faults.Write) × (text' ≡ text)
-EndsLines machine state text text' halt result =
-    ((result ≡ halt) × (text' ≡ text ++ concat (machine.ending state)))
-    ⊎ ((result ≡ Err faults.Memory) × EndStops machine state text text')
+abbrev pub EndsLines : {S : Type 0} → Machine S → (state state' : S) → (text text' : List ℕ) →
+    (halt result : Result (Unit {0}) Fault) → Type 0
+EndsLines machine state state' text text' (Err faults.Memory) result =
+    (result ≡ Err faults.Memory) × (text' ≡ text) × (state' ≡ state)
+EndsLines machine state state' text text' (Err faults.Write) result =
+    (result ≡ Err faults.Write) × (text' ≡ text) × (state' ≡ state)
+EndsLines machine state state' text text' halt result =
+    ((result ≡ halt) × (text' ≡ text ++ concat (machine.ending state)) × (state' ≡ machine.last state))
+    ⊎ ((result ≡ Err faults.Memory) × EndStops machine state state' text text')

@@ -8,10 +8,11 @@ use Rattle.replay_driver.specs.declared.fault.Fault.TheVariants as faults
 
 -- What a mode does, as a machine over lines. A line leads to a state, and to the texts of the replies to the commands
 -- that it completes, a text for each; a bad line has no step. The end of the lines completes the commands that are
--- still open.
+-- still open, and leads to a last state.
 pub record Machine (S : Type 0) : Type 0 where
   pub step : S → List ℕ → Option (S × List (List ℕ))
   pub ending : S → List (List ℕ)
+  pub last : S → S
 
 -- the same, where a line of more than 120 bytes is bad
 abbrev pub step_of : {S : Type 0} → Machine S → S → List ℕ → Option (S × List (List ℕ))
@@ -37,6 +38,22 @@ first_bad machine state [] = None
 first_bad machine state (line ∷ lines) =
     unwrap_or (option_map (λ next.
     option_map suc (first_bad machine next.0 lines)) (step_of machine state line)) (Some 1)
+
+-- the state after the lines, up to the first bad one, and after the end
+abbrev pub state_after : {S : Type 0} → Machine S → S → List (List ℕ) → S
+state_after machine state [] = machine.last state
+state_after machine state (line ∷ lines) =
+    unwrap_or (option_map (λ next. state_after machine next.0 lines) (step_of machine state line)) (machine.last state)
+
+-- the first of these lines, some or all, led to this state, with these texts
+abbrev pub SomeLead : {S : Type 0} → Machine S → S → List (List ℕ) → S → List (List ℕ) → Type 0
+SomeLead machine state lines new texts =
+    (some : List (List ℕ)) × (others : List (List ℕ)) × (lines ≡ some ++ others) × Steps machine state some new texts
+
+-- the first of these lines led to this state, or all up to the first bad one, and the end
+abbrev pub LeadTo : {S : Type 0} → Machine S → S → List (List ℕ) → S → Type 0
+LeadTo machine state lines new =
+    ((texts : List (List ℕ)) × SomeLead machine state lines new texts) ⊎ (new ≡ state_after machine state lines)
 
 -- the text of a script: its reply lines, one after the other
 abbrev pub text : {S : Type 0} → Machine S → S → List (List ℕ) → List ℕ
@@ -77,46 +94,55 @@ abbrev pub IsOver : {S : Type 0} → Machine S → S → List (List ℕ) → Typ
 IsOver machine state [] = Unit {0}
 IsOver machine state (line ∷ lines) = step_of machine state line ≡ None
 
+-- Where memory was refused to a command, it was not run, or was, and its reply was lost.
+abbrev pub RanOrNot : {S : Type 0} → (state next new : S) → Type 0
+RanOrNot state next new = (new ≡ state) ⊎ (new ≡ next)
+
 -- Memory was refused at a command of the next line, or where that is over, at one that the end completes.
-abbrev pub StopsNext : {S : Type 0} → Machine S → S → List (List ℕ) → List ℕ → Type 0
-StopsNext {S} machine state lines front =
-    ((line : List ℕ) × (after : List (List ℕ)) × (last : S) × (texts : List (List ℕ)) × (lines ≡ line ∷ after)
-    × (step_of machine state line ≡ Some (last, texts)) × StopsAmong texts front)
-    ⊎ (IsOver machine state lines × (0 < length (machine.ending state)) × StopsAmong (machine.ending state) front)
+abbrev pub StopsNext : {S : Type 0} → Machine S → (state new : S) → List (List ℕ) → List ℕ → Type 0
+StopsNext {S} machine state new lines front =
+    ((line : List ℕ) × (after : List (List ℕ)) × (next : S) × (texts : List (List ℕ)) × (lines ≡ line ∷ after)
+    × (step_of machine state line ≡ Some (next, texts)) × StopsAmong texts front × RanOrNot state next new)
+    ⊎ (IsOver machine state lines × (0 < length (machine.ending state)) × StopsAmong (machine.ending state) front
+    × RanOrNot state (machine.last state) new)
 
 -- Memory was refused at a command. The lines before its own are good, and what was written is the text of all of them,
 -- and of the commands before it.
-abbrev pub Stops : {S : Type 0} → Machine S → S → List (List ℕ) → List ℕ → Type 0
-Stops {S} machine state lines written =
+abbrev pub Stops : {S : Type 0} → Machine S → (state new : S) → List (List ℕ) → List ℕ → Type 0
+Stops {S} machine state new lines written =
     (before : List (List ℕ)) × (others : List (List ℕ)) × (mid : S) × (texts : List (List ℕ)) × (front : List ℕ)
-    × (lines ≡ before ++ others) × Steps machine state before mid texts × StopsNext machine mid others front
+    × (lines ≡ before ++ others) × Steps machine state before mid texts × StopsNext machine mid new others front
     × (written ≡ concat texts ++ front)
 
 -- What a run of a script may return, where these lines were read and these bytes were written.
-abbrev pub Answers : {S : Type 0} → Machine S → S → (ended read_failed write_failed : Type 0) →
+abbrev pub Answers : {S : Type 0} → Machine S → (state new : S) → (ended read_failed write_failed : Type 0) →
     (complete : List (List ℕ)) (unfinished : List ℕ) (lines : List (List ℕ)) (written : List ℕ) →
     Result (Unit {0}) Fault → Type 0
-Answers machine state ended read_failed write_failed complete unfinished lines written (Ok _) =
+Answers machine state new ended read_failed write_failed complete unfinished lines written (Ok _) =
     ended × (lines ≡ complete ++ last_line unfinished) × (first_bad machine state lines ≡ None)
-    × (written ≡ text machine state lines)
-Answers machine state ended read_failed write_failed complete unfinished lines written (Err (faults.BadLine n)) =
+    × (written ≡ text machine state lines) × (new ≡ state_after machine state lines)
+Answers machine state new ended read_failed write_failed complete unfinished lines written (Err (faults.BadLine n)) =
     (first_bad machine state lines ≡ Some n) × (written ≡ text machine state lines)
-Answers machine state ended read_failed write_failed complete unfinished lines written (Err faults.Read) =
+    × (new ≡ state_after machine state lines)
+Answers machine state new ended read_failed write_failed complete unfinished lines written (Err faults.Read) =
     read_failed × (lines ≡ complete) × (length unfinished ≤ 120) × (first_bad machine state lines ≡ None)
-    × (written ≡ text machine state lines)
-Answers machine state ended read_failed write_failed complete unfinished lines written (Err faults.Write) =
-    write_failed × (rest : List ℕ) × (text machine state lines ≡ written ++ rest)
-Answers machine state ended read_failed write_failed complete unfinished lines written (Err faults.Memory) =
-    ((complete ≡ []) × (unfinished ≡ []) × (written ≡ [])) ⊎ Stops machine state lines written
+    × (written ≡ text machine state lines) × (new ≡ state_after machine state lines)
+Answers machine state new ended read_failed write_failed complete unfinished lines written (Err faults.Write) =
+    write_failed × LeadTo machine state lines new × (rest : List ℕ) × (text machine state lines ≡ written ++ rest)
+Answers machine state new ended read_failed write_failed complete unfinished lines written (Err faults.Memory) =
+    ((complete ≡ []) × (unfinished ≡ []) × (written ≡ []) × (new ≡ state)) ⊎ Stops machine state new lines written
 
--- Each line of a script is good, and the text of all was written.
-abbrev pub AnswersAll : {S : Type 0} → Machine S → S → (script : List ℕ) (took : List ℕ → Type 0) → Type 0
-AnswersAll machine state script took =
+-- Each line of a script is good, all and the end were taken, and the text of all was written.
+abbrev pub AnswersAll : {S : Type 0} → Machine S → (state new : S) → (script : List ℕ) (took : List ℕ → Type 0) →
+    Type 0
+AnswersAll machine state new script took =
     (first_bad machine state (lines_of script) ≡ None) × took (text machine state (lines_of script))
+    × (new ≡ state_after machine state (lines_of script))
 
--- What a run of a script reads, writes and returns.
-pub record Runs {S : Type 0} (machine : Machine S) (state : S) (gave : List ℕ → Type 0) (ended read_failed : Type 0)
-    (took : List ℕ → Type 0) (write_failed : Type 0) (result : Result (Unit {0}) Fault) : Type 0 where
+-- What a run of a script reads, writes and returns, and the state that it leaves.
+pub record Runs {S : Type 0} (machine : Machine S) (state new : S) (gave : List ℕ → Type 0)
+    (ended read_failed : Type 0) (took : List ℕ → Type 0) (write_failed : Type 0)
+    (result : Result (Unit {0}) Fault) : Type 0 where
   pub complete : List (List ℕ)
   pub unfinished : List ℕ
   pub bytes : List ℕ
@@ -126,10 +152,10 @@ pub record Runs {S : Type 0} (machine : Machine S) (state : S) (gave : List ℕ 
   pub are_lines : AreLines ended complete unfinished lines
   pub written : List ℕ
   pub wrote : took written
-  pub answers : Answers machine state ended read_failed write_failed complete unfinished lines written result
+  pub answers : Answers machine state new ended read_failed write_failed complete unfinished lines written result
 
--- What a run of a script that is in memory reads, writes and returns: a prefix of it was read, and no read failed.
-abbrev pub RunsOver : {S : Type 0} → Machine S → S →
+-- The same of a script that is in memory: a prefix of it was read, and no read failed.
+abbrev pub RunsOver : {S : Type 0} → Machine S → (state new : S) →
     (script : List ℕ) (took : List ℕ → Type 0) (write_failed : Type 0) → Result (Unit {0}) Fault → Type 0
-RunsOver machine state script took write_failed result =
-    (rest : List ℕ) × Runs machine state (λ bytes. script ≡ bytes ++ rest) (rest ≡ []) ⊥ took write_failed result
+RunsOver machine state new script took write_failed result =
+    (rest : List ℕ) × Runs machine state new (λ bytes. script ≡ bytes ++ rest) (rest ≡ []) ⊥ took write_failed result

@@ -2,7 +2,7 @@
 use Rattle.std.specs.Prelude.{◌≡◌, ℕ, ◌+◌, ◌<◌, ◌≤◌, Bool, true, false, List, [], ◌∷◌, ◌++◌, length, drop, None, Some}
 use Rattle.std.specs.Prelude.{Result, Ok, Err, nat_eq}
 use Rattle.std.specs.List.{concat, flat_map, All, AllByRecursion}
-use Rattle.replay_driver.specs.Script.{Machine, step_of, Steps, StopsAmong, last_line}
+use Rattle.replay_driver.specs.Script.{Machine, step_of, Steps, StopsAmong, RanOrNot, last_line}
 use Rattle.replay_driver.specs.declared.fault.Fault.{Fault}
 use Rattle.replay_driver.specs.declared.fault.Fault.TheVariants as faults
 use Rattle.replay_driver.specs.declared.session.Stop.{Stop}
@@ -25,19 +25,19 @@ TakesLine machine old line new text after (Ok true) =
     (texts : List (List ℕ)) × (machine.step old line ≡ Some (new, texts)) × (after ≡ text ++ concat texts)
 TakesLine machine old line new text after (Ok false) = (machine.step old line ≡ None) × (new ≡ old) × (after ≡ text)
 TakesLine {S} machine old line new text after (Err e) =
-    (last : S) × (texts : List (List ℕ)) × (front : List ℕ) × (machine.step old line ≡ Some (last, texts))
-    × StopsAmong texts front × (after ≡ text ++ front)
+    (next : S) × (texts : List (List ℕ)) × (front : List ℕ) × (machine.step old line ≡ Some (next, texts))
+    × StopsAmong texts front × (after ≡ text ++ front) × RanOrNot old next new
 
 -- memory was refused at a command that the end completes, and the texts of those before it were added
-abbrev pub EndStops : {S : Type 0} → Machine S → S → List ℕ → List ℕ → Type 0
-EndStops machine old text after =
+abbrev pub EndStops : {S : Type 0} → Machine S → (old new : S) → List ℕ → List ℕ → Type 0
+EndStops machine old new text after =
     (front : List ℕ) × (0 < length (machine.ending old)) × StopsAmong (machine.ending old) front
-    × (after ≡ text ++ front)
+    × (after ≡ text ++ front) × RanOrNot old (machine.last old) new
 
 -- a session's last replies were added to the text
-abbrev pub Ends : {S E : Type 0} → Machine S → S → List ℕ → List ℕ → Result (Unit {0}) E → Type 0
-Ends machine old text after (Ok _) = after ≡ text ++ concat (machine.ending old)
-Ends machine old text after (Err e) = EndStops machine old text after
+abbrev pub Ends : {S E : Type 0} → Machine S → (old new : S) → List ℕ → List ℕ → Result (Unit {0}) E → Type 0
+Ends machine old new text after (Ok _) = (new ≡ machine.last old) × (after ≡ text ++ concat (machine.ending old))
+Ends machine old new text after (Err e) = EndStops machine old new text after
 
 -- A run of a script between two steps: the machine's state, the sink, and the text that waits to be written.
 pub record RunState (S O : Type 0) : Type 0 where
@@ -55,8 +55,8 @@ TakesOne machine takes failed line old new (Err stops.Bad) =
     (step_of machine old.state line ≡ None) × (new.state ≡ old.state)
     × Writes takes old.sink old.text new.sink new.text []
 TakesOne {S} machine takes failed line old new (Err stops.Memory) =
-    (last : S) × (texts : List (List ℕ)) × (front : List ℕ) × (step_of machine old.state line ≡ Some (last, texts))
-    × StopsAmong texts front × Writes takes old.sink old.text new.sink new.text front
+    (next : S) × (texts : List (List ℕ)) × (front : List ℕ) × (step_of machine old.state line ≡ Some (next, texts))
+    × StopsAmong texts front × Writes takes old.sink old.text new.sink new.text front × RanOrNot old.state next new.state
 TakesOne machine takes failed line old new (Err stops.Write) =
     (texts : List (List ℕ)) × (waiting : List ℕ) × (step_of machine old.state line ≡ Some (new.state, texts))
     × Writes takes old.sink old.text new.sink waiting (concat texts) × failed
@@ -87,11 +87,12 @@ TakesLines machine takes failed block old new (Err stops.Bad) =
     × HasNoFeed line × (step_of machine new.run.state line ≡ None) × (new.count ≡ old.count + length lines)
     × Writes takes old.run.sink old.run.text new.run.sink new.run.text (concat texts)
 TakesLines {S} machine takes failed block old new (Err stops.Memory) =
-    (lines : List (List ℕ)) × (texts : List (List ℕ)) × (line : List ℕ) × (rest : List ℕ) × (mid : S) × (last : S)
+    (lines : List (List ℕ)) × (texts : List (List ℕ)) × (line : List ℕ) × (rest : List ℕ) × (mid : S) × (next : S)
     × (added : List (List ℕ)) × (front : List ℕ)
     × Leads machine old.run.state block lines (line ++ 10 ∷ rest) mid texts × HasNoFeed line
-    × (step_of machine mid line ≡ Some (last, added)) × StopsAmong added front
+    × (step_of machine mid line ≡ Some (next, added)) × StopsAmong added front
     × Writes takes old.run.sink old.run.text new.run.sink new.run.text (concat texts ++ front)
+    × RanOrNot mid next new.run.state
 TakesLines machine takes failed block old new (Err stops.Write) =
     (lines : List (List ℕ)) × (texts : List (List ℕ)) × (rest : List ℕ) × (waiting : List ℕ)
     × Leads machine old.run.state block lines rest new.run.state texts

@@ -111,9 +111,16 @@ fn take_last<S: Session, O: Sink>(
     take_line(session, line, text, output)
 }
 
-/// Reads into the block after the `held` bytes at its front, and returns where the bytes end now.
-fn read_more<I: Source>(input: &mut I, block: &mut [u8], held: usize) -> Result<usize, Failed>
-    requires { held < length block.old }
+/// Reads into the block after the `held` bytes at its front, and returns where the bytes end now. No text may wait to
+/// be written: whoever gives the bytes may wait for the replies to those before.
+fn read_more<I: Source>(
+    input: &mut I,
+    block: &mut [u8],
+    held: usize,
+    _text: &Vec<u8>,
+) -> Result<usize, Failed>
+    requires held { held < length block.old }
+    requires written { _text.now.items ≡ [] }
     ensures len { length block.new ≡ length block.old }
     ensures within { IfOk result (λ end. (held ≤ end) × (end ≤ length block.new)) }
     ensures read { IfOk result (λ end. Reads I.gives input.old input.new (take held block.old) (take end block.new)) }
@@ -146,6 +153,7 @@ fn read_lines<S: Session, I: Source, O: Sink>(
 ) -> Result<(), Fault>
     requires ready { S.is_ready session.old }
     requires block { 120 < length block.old }
+    requires written { text.old.items ≡ [] }
     ensures ready { S.is_ready session.new }
     ensures halts { Halts S.machine
         (I.gives input.old input.new) (I.at_end input.new) (I.has_failed input.new)
@@ -156,7 +164,7 @@ fn read_lines<S: Session, I: Source, O: Sink>(
     let mut count = 0u64;
     let mut held = 0usize;
     loop {
-        let Ok(end) = read_more(input, block, held) else {
+        let Ok(end) = read_more(input, block, held, text) else {
             return Err(Fault::Read);
         };
         if end == held {
@@ -190,7 +198,9 @@ fn end_lines<S: Session>(
     halt: Result<(), Fault>,
 ) -> Result<(), Fault>
     requires { S.is_ready session.old }
-    ensures { EndsLines S.machine (S.state session.old) text.old.items text.new.items halt result }
+    ensures ended { EndsLines S.machine (S.state session.old) (S.state session.new) text.old.items text.new.items halt
+        result }
+    ensures ready { S.is_ready session.new }
 {
     match halt {
         Err(Fault::Memory) => Err(Fault::Memory),
@@ -213,16 +223,21 @@ fn has_stopped_writing(halt: Result<(), Fault>) -> bool
 ///
 /// The lines go to the session, up to the first bad one or to the end of the input. Then the session is told of the
 /// end, unless writing or memory failed. The source and the sink may be in any state, and the session in any state in
-/// which it takes lines.
+/// which it takes lines. Before it reads again, it writes the replies to all complete lines, so whoever gives the lines
+/// may wait for a reply before the next one.
 ///
 /// # Errors
 /// It returns `BadLine` with the number of the first line that is bad or has more than 120 bytes without its line feed,
 /// `Read` or `Write` if the source or the sink failed, and `Memory` if memory was refused. The replies to all commands
 /// before that are written, except after `Write`: then a prefix of the replies is.
 ///
+/// In any case the session is ready for another script. After `Ok`, `BadLine` and `Read` its state is that after the
+/// lines before, and after their end. After `Memory` it is that after the lines before the refused command, which may
+/// have been run, with its reply lost. After `Write` it is that after some of the lines, or after all and their end.
+///
 /// # Complexity
 /// O(b), for b bytes of the script, and what the session takes. It allocates a block of 65,536 bytes, and keeps about
-/// as many bytes of replies before it writes them.
+/// as many bytes of replies.
 pub fn run_script<S: Session, I: Source, O: Sink>(
     alloc: Global,
     session: &mut S,
@@ -230,7 +245,8 @@ pub fn run_script<S: Session, I: Source, O: Sink>(
     output: &mut O,
 ) -> Result<(), Fault>
     requires { S.is_ready session.old }
-    ensures { Runs S.machine (S.state session.old)
+    ensures ready { S.is_ready session.new }
+    ensures runs { Runs S.machine (S.state session.old) (S.state session.new)
         (I.gives input.old input.new) (I.at_end input.new) (I.has_failed input.new)
         (O.takes output.old output.new) (O.has_failed output.new) result }
 {
@@ -264,9 +280,10 @@ pub fn run_bytes<S: Session, O: Sink>(
     output: &mut O,
 ) -> Result<(), Fault>
     requires { S.is_ready session.old }
-    ensures all { OnOk result
-        (AnswersAll S.machine (S.state session.old) script.now (O.takes output.old output.new)) }
-    ensures runs { RunsOver S.machine (S.state session.old) script.now
+    ensures ready { S.is_ready session.new }
+    ensures all { OnOk result (AnswersAll S.machine (S.state session.old) (S.state session.new) script.now
+        (O.takes output.old output.new)) }
+    ensures runs { RunsOver S.machine (S.state session.old) (S.state session.new) script.now
         (O.takes output.old output.new) (O.has_failed output.new) result }
 {
     let mut input = FromSlice::new(script);

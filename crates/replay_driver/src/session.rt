@@ -26,7 +26,7 @@ pub trait Session {
     ///
     /// # Errors
     /// If memory for one of the commands is refused, it returns `AllocError`. The texts of those before it were
-    /// appended, and the session takes no further line.
+    /// appended. The session is as if the line had not come, or as if it had been taken whole.
     ///
     /// # Complexity
     /// That of the commands and their texts.
@@ -36,16 +36,18 @@ pub trait Session {
             text.old.items text.new.items result }
         ensures ready { is_ready self.new };
 
-    /// Appends the texts of the commands that the end of the lines completes.
+    /// Appends the texts of the commands that the end of the lines completes. Further lines may then come.
     ///
     /// # Errors
-    /// If memory for one of them is refused, it returns `AllocError`. The texts of those before it were appended.
+    /// If memory for one of them is refused, it returns `AllocError`. The texts of those before it were appended. The
+    /// session is as if the end had not come, or as if it had been taken whole.
     ///
     /// # Complexity
     /// That of the commands and their texts.
     fn end(&mut self, text: &mut Vec<u8>) -> Result<(), AllocError>
         requires { is_ready self.old }
-        ensures { Ends machine (state self.old) text.old.items text.new.items result };
+        ensures ended { Ends machine (state self.old) (state self.new) text.old.items text.new.items result }
+        ensures ready { is_ready self.new };
 }
 
 /// Why no further line is taken.

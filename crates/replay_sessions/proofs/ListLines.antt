@@ -1,9 +1,9 @@
 -- What the lines of mode list do to a session's state.
-use Rattle.std.proofs.Common.{◌≡◌, ℕ, List, [], ◌∷◌, ◌++◌, Option, Some, None, true, Result, Ok, Err, OnOk, OnErr, refl, sym, ◌∙◌, ap, arith, inl}
-use Rattle.std.specs.Prelude.{is_some, IsSome}
+use Rattle.std.proofs.Common.{◌≡◌, ℕ, List, [], ◌∷◌, ◌++◌, Option, Some, None, true, Ok, Err, length, take, refl, sym, ◌∙◌, ap, arith, inl, inr}
+use Rattle.std.specs.Prelude.{is_some}
 use Rattle.std.specs.Option.{option_map}
 use Rattle.std.specs.List.{concat}
-use Rattle.std.proofs.lemmas.List.{append-nil}
+use Rattle.std.proofs.lemmas.List.{append-nil, take_at}
 use Rattle.cordyceps_commands.specs.declared.list_command.CursorCommand.{CursorCommand}
 use Rattle.cordyceps_commands.specs.declared.list_command.CursorCommand.TheVariants as lines
 use Rattle.cordyceps_commands.specs.declared.list_command.ListCommand.{ListCommand}
@@ -18,9 +18,10 @@ use Rattle.replay_lines.specs.declared.list_command.Entry.TheVariants as entries
 use Rattle.replay_lines.specs.ReplyText.{text_of}
 use Rattle.replay_lines.specs.ListScript.{Meaning, meaning_of_command, meaning_of_entry, meaning_of}
 use Rattle.replay_lines.specs.CursorScript.{cursor_command_of}
-use Rattle.replay_driver.specs.Steps.{Ends}
+use Rattle.replay_driver.specs.Script.{RanOrNot}
+use Rattle.replay_driver.specs.Steps.{TakesLine, Ends}
 use Rattle.replay_sessions.specs.ListMachine.{list_machine, Open, State, run_block, longer, outside_with_text, take_outside, take_inside, take_line}
-use Rattle.replay_sessions.specs.OpenBlocks.{open_of, IsNoEnd, AreOpen, IsOpen, CanRun, Closes}
+use Rattle.replay_sessions.specs.OpenBlocks.{open_as, open_of, IsNoEnd, AreOpen, IsOpen, CanRun, Closes, CameBackOrRan}
 
 pub some_meaning : (meaning : Option Meaning) → is_some meaning ≡ true → (m : Meaning) × (Some m ≡ meaning)
 some_meaning (Some m) is = (m, refl)
@@ -63,14 +64,29 @@ pub kept : (table : Table) (held : Open) (line : List ℕ) (command : CursorComm
 kept table held line command more is goes_on same = rw same (inside table held line command is ∙ ap Some (waits table held command goes_on))
 
 -- an end runs the block
-pub closed : (table : Table) (held : Open) (line : List ℕ) (command : CursorCommand) (all : List CursorCommand) (new : State) (before after : List ℕ) → Some command ≡ cursor_command_of line → command ≡ lines.End →
-    all ≡ held.2 ++ command ∷ [] → Closes (table, Some (held.0, held.1, all)) new before after →
-    (texts : List (List ℕ)) × (take_line (table, Some held) line ≡ Some (new, texts)) × (after ≡ before ++ concat texts)
-closed table held line command all new before after is end more (now, added) = (
+pub closed : (table new : Table) (held : Open) (line : List ℕ) (command : CursorCommand) (all : List CursorCommand) (before after : List ℕ) → Some command ≡ cursor_command_of line → command ≡ lines.End →
+    all ≡ held.2 ++ command ∷ [] → Closes table (held.0, held.1, all) new before after →
+    (texts : List (List ℕ)) × (take_line (table, Some held) line ≡ Some ((new, None), texts)) × (after ≡ before ++ concat texts)
+closed table new held line command all before after is end more (now, added) = (
   text_of (run_block table (held.0, held.1, all)).1 ∷ [],
   rw (← is, now, more, end) refl,
   added ∙ ap (λ (t : List ℕ). before ++ t) (sym (append-nil (text_of (run_block table (held.0, held.1, all)).1))),
 )
+
+-- where memory for that was refused, the block is open as it was, or was run
+pub refused : {E : Type 0} (error : E) (table : Table) (held : Open) (line : List ℕ) (command : CursorCommand) (all : List CursorCommand) (new : State) (before after : List ℕ) → Some command ≡ cursor_command_of line → command ≡ lines.End →
+    all ≡ held.2 ++ command ∷ [] → RanOrNot (table, Some held) ((run_block table (held.0, held.1, all)).0, None) new → after ≡ before → TakesLine list_machine (table, Some held) line new before after (Err error)
+refused error table held line command all new before after is end more (inl stays) same =
+    (_, _, [], inside table held line command is, (0, inl refl, refl), same ∙ sym (append-nil before), inl stays)
+refused error table held line command all new before after is end more (inr ran) same =
+    (_, _, [], inside table held line command is, (0, inl refl, refl), same ∙ sym (append-nil before), inr (ran ∙ rw (more, end) refl))
+
+-- the block without its end, which came back
+pub reopened : (table new : Table) (block full back : Block) (command : CursorCommand) (cut : List CursorCommand) (held : ℕ) → CameBackOrRan table full (Some back) new → full.list ≡ block.list → full.end ≡ block.end →
+    full.lines.items ≡ block.lines.items ++ command ∷ [] → held ≡ length block.lines.items → cut ≡ take held back.lines.items → ◌≡◌ {A = State} (new, Some (back.list, back.end, cut)) (table, Some (open_as block))
+reopened table new block full back command cut held (same, stays) list end more size is =
+    let front : cut ≡ block.lines.items = is ∙ ap (λ (b : Block). take held b.lines.items) same ∙ ap (take held) more ∙ take_at block.lines.items (command ∷ []) held (sym size) in
+    rw (front, stays, same, list, end) refl
 
 no_end_after : (line : CursorCommand) (rest : List CursorCommand) → IsNoEnd line → EndsBlock line rest
 no_end_after lines.End rest goes_on = absurd goes_on
@@ -99,10 +115,23 @@ pub stays_open : (lines : List CursorCommand) (line : CursorCommand) → AreOpen
 stays_open [] line held fits goes_on = (fits, goes_on, tt)
 stays_open (first ∷ rest) line (first_fits, first_goes_on, held) fits goes_on = (first_fits, first_goes_on, stays_open rest line held fits goes_on)
 
--- what the end completes: the open block, unless memory for it was refused
-pub ended : {E : Type 0} (table : Table) (block : Option Block) (new : State) (before after : List ℕ) (result : Result (Unit {0}) E) →
-    OnOk result (Closes (table, open_of block) new before after) → OnErr result (after ≡ before) → OnErr result (IsSome block) → Ends list_machine (table, open_of block) before after result
-ended table None new before after (Ok done) (is, same) kept some = same ∙ sym (append-nil before)
-ended table (Some block) new before after (Ok done) (is, added) kept some = added ∙ ap (λ (t : List ℕ). before ++ t) (sym (append-nil _))
-ended table None new before after (Err e) closes kept some = cc
-ended table (Some block) new before after (Err e) closes kept some = ([], omega arith, (0, inl refl, refl), kept ∙ sym (append-nil before))
+-- a block that came back, or was run
+pub came_back : (table new : Table) (block : Block) (back : Option Block) → CameBackOrRan table block back new → RanOrNot {S = State} (table, Some (open_as block)) ((run_block table (open_as block)).0, None) (new, open_of back)
+came_back table new block (Some back) (same, stays) = inl (rw (same, stays) refl)
+came_back table new block None is = inr (rw is refl)
+
+pub back_ready : (table new : Table) (block : Block) (back : Option Block) → CameBackOrRan table block back new → IsOpen (Some block) → IsOpen back
+back_ready table new block (Some back) (same, stays) ready = rw same ready
+back_ready table new block None is ready = tt
+
+-- what the end completes: the open block
+pub ended : (E : Type 0) (table new : Table) (block : Block) (before after : List ℕ) → Closes table (open_as block) new before after → Ends {E = E} list_machine (table, Some (open_as block)) (new, None) before after (Ok tt)
+ended E table new block before after (is, added) = (rw is refl, added ∙ ap (λ (t : List ℕ). before ++ t) (sym (append-nil _)))
+
+-- unless memory for it was refused
+pub not_ended : {E : Type 0} (error : E) (table new : Table) (block : Block) (back : Option Block) (before after : List ℕ) → CameBackOrRan table block back new → after ≡ before → Ends list_machine (table, Some (open_as block)) (new, open_of back) before after (Err error)
+not_ended error table new block back before after moved same = ([], omega arith, (0, inl refl, refl), same ∙ sym (append-nil before), came_back table new block back moved)
+
+-- the state after a command that was run
+pub ran_outside : (table new : Table) (left : Option Block) (command : ListCommand) (replies : List Line) → left ≡ None → (new, replies) ≡ step table command → (new, open_of left) ≡ (outside_with_text (step table command)).0
+ran_outside table new left command replies none is = rw (none, ← is) refl

@@ -15,4 +15,5 @@ commands_machine command_of step =
     record {
       step = λ state line. option_map (λ command. with_text (step state command)) (command_of line);
       ending = λ state. [];
+      last = λ state. state;
     }

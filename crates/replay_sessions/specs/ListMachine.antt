@@ -57,6 +57,10 @@ abbrev pub last_replies : State → List (List ℕ)
 last_replies (table, None) = []
 last_replies (table, Some held) = text_of (run_block table held).1 ∷ []
 
+abbrev pub last_state : State → State
+last_state (table, None) = (table, None)
+last_state (table, Some held) = ((run_block table held).0, None)
+
 -- each good line is a command, or a part of one that is a block
 abbrev pub list_machine : Machine State
-list_machine = record { step = take_line; ending = last_replies }
+list_machine = record { step = take_line; ending = last_replies; last = last_state }

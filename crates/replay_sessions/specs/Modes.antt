@@ -3,12 +3,12 @@ use Rattle.std.specs.Prelude.{ℕ, List, None, Result}
 use Rattle.std.specs.declared.cmp.Ordering.{Ordering}
 use Rattle.cordyceps_commands.specs.declared.item.Item.{Item}
 use Rattle.cordyceps_tables.specs.Sorteds.{order_of}
-use Rattle.cordyceps_tables.specs.Tables.{empty_table}
+use Rattle.cordyceps_tables.specs.Tables.{Table, empty_table}
 use Rattle.replay_sessions.specs.declared.modes.Mode.{Mode}
 use Rattle.replay_sessions.specs.declared.modes.Mode.TheVariants as modes
 use Rattle.replay_driver.specs.declared.fault.Fault.{Fault}
 use Rattle.replay_driver.specs.Script.{Runs}
-use Rattle.replay_sessions.specs.ListMachine.{list_machine}
+use Rattle.replay_sessions.specs.ListMachine.{State, list_machine}
 use Rattle.replay_sessions.specs.StackMachine.{stack_machine}
 use Rattle.replay_sessions.specs.SortedMachine.{sorted_machine}
 use Rattle.replay_cores.specs.TransferMachine as transfers
@@ -29,12 +29,15 @@ module _ {F : Type 0} where
       (ended read_failed : Type 0) → (took : List ℕ → Type 0) → (write_failed : Type 0) → Result (Unit {0}) Fault →
       Type 0
   RunsIn own modes.List gave ended read_failed took write_failed result =
-      Runs list_machine (empty_table 16, None) gave ended read_failed took write_failed result
+      (left : State) × Runs list_machine (empty_table 16, None) left gave ended read_failed took write_failed result
   RunsIn own modes.Stack gave ended read_failed took write_failed result =
-      Runs stack_machine (empty_table 16) gave ended read_failed took write_failed result
+      (left : Table) × Runs stack_machine (empty_table 16) left gave ended read_failed took write_failed result
   RunsIn own (modes.Sorted by) gave ended read_failed took write_failed result =
-      Runs (sorted_machine (order_of own by_tens)) (empty_table 16) gave ended read_failed took write_failed result
+      (left : Table) × Runs (sorted_machine (order_of own by_tens)) (empty_table 16) left gave ended read_failed took
+      write_failed result
   RunsIn own modes.Transfer gave ended read_failed took write_failed result =
-      Runs transfers.transfer_machine transfers.new_core gave ended read_failed took write_failed result
+      (left : transfers.Core) × Runs transfers.transfer_machine transfers.new_core left gave ended read_failed took
+      write_failed result
   RunsIn own modes.Queue gave ended read_failed took write_failed result =
-      Runs queues.queue_machine queues.new_core gave ended read_failed took write_failed result
+      (left : queues.Core) × Runs queues.queue_machine queues.new_core left gave ended read_failed took write_failed
+      result

@@ -3,13 +3,17 @@ use Rattle.std.specs.Prelude.{◌≡◌, ℕ, ◌<◌, List, [], ◌∷◌, ◌+
 use Rattle.cordyceps_commands.specs.declared.list_command.CursorCommand.{CursorCommand}
 use Rattle.cordyceps_commands.specs.declared.list_command.CursorCommand.TheVariants as lines
 use Rattle.cordyceps_tables.specs.Blocks.{OtherFits, BlockFits}
+use Rattle.cordyceps_tables.specs.Tables.{Table}
 use Rattle.replay_sessions.specs.declared.block.Block.{Block}
-use Rattle.replay_sessions.specs.ListMachine.{Open, State, run_block}
+use Rattle.replay_sessions.specs.ListMachine.{Open, run_block}
 use Rattle.replay_lines.specs.ReplyText.{text_of}
+
+abbrev pub open_as : Block → Open
+open_as block = (block.list, block.end, block.lines.items)
 
 abbrev pub open_of : Option Block → Option Open
 open_of None = None
-open_of (Some block) = Some (block.list, block.end, block.lines.items)
+open_of (Some block) = Some (open_as block)
 
 abbrev pub IsNoEnd : CursorCommand → Type 0
 IsNoEnd lines.End = ⊥
@@ -30,8 +34,12 @@ abbrev pub CanRun : Option Block → Type 0
 CanRun None = Unit {0}
 CanRun (Some block) = (block.list < 16) × BlockFits block.lines.items
 
--- the open block, where there is one, was run, and its replies were added to the text
-abbrev pub Closes : State → State → List ℕ → List ℕ → Type 0
-Closes (table, None) new before after = (new ≡ (table, None)) × (after ≡ before)
-Closes (table, Some held) new before after =
-    (new ≡ ((run_block table held).0, None)) × (after ≡ before ++ text_of (run_block table held).1)
+-- a block was run, and its replies were added to the text
+abbrev pub Closes : Table → Open → Table → List ℕ → List ℕ → Type 0
+Closes table held new before after =
+    (new ≡ (run_block table held).0) × (after ≡ before ++ text_of (run_block table held).1)
+
+-- where memory was refused, a block came back, and the lists stayed as they were, or it was run
+abbrev pub CameBackOrRan : Table → Block → Option Block → Table → Type 0
+CameBackOrRan table block (Some back) new = (back ≡ block) × (new ≡ table)
+CameBackOrRan table block None new = new ≡ (run_block table (open_as block)).0

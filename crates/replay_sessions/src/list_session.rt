@@ -1,11 +1,12 @@
 //! Scripts in mode `list`.
-ghost use Rattle.std.specs.Prelude.{◌≡◌, Some, None, IsSome, IfOk, OnOk, OnErr};
+ghost use Rattle.std.specs.Prelude.{◌≡◌, Some, None, IfOk, IfErr, OnOk, OnErr};
 ghost use Rattle.cordyceps_tables.specs.Lists.{step, Fits};
 ghost use Rattle.cordyceps_commands.specs.Replies.{lines_of};
 ghost use Rattle.cordyceps_tables.specs.Tables.{empty_table};
 ghost use Rattle.replay_sessions.specs.ListMachine.{list_machine};
-ghost use Rattle.replay_sessions.specs.OpenBlocks.{open_of, IsOpen, CanRun, Closes};
+ghost use Rattle.replay_sessions.specs.OpenBlocks.{open_as, open_of, IsOpen, CanRun, Closes, CameBackOrRan};
 ghost use Rattle.replay_driver.specs.Steps.{TakesLine};
+ghost use Rattle.replay_sessions.specs.declared.block.Block.{Block};
 
 use crate::block::Block;
 use cordyceps_commands::{CursorCommand, ListCommand, Reply};
@@ -22,6 +23,16 @@ pub struct ListSession {
     alloc: Global,
     lists: Lists,
     block: Option<Block>,
+}
+
+/// Returns the block that a command runs.
+fn block_of(command: ListCommand) -> Option<Block>
+    ensures { (block : Block) → command ≡ ListCommand.Cursor block.list block.end block.lines → result ≡ Some block }
+{
+    match command {
+        ListCommand::Cursor(list, end, lines) => Some(Block { list, end, lines }),
+        _other => None,
+    }
 }
 
 impl ListSession {
@@ -44,27 +55,31 @@ impl ListSession {
     fn play(&mut self, command: ListCommand) -> Result<Reply, AllocError>
         requires { Fits command }
         ensures reply { IfOk result (λ reply. (self.new.lists, lines_of reply) ≡ step self.old.lists command) }
+        ensures err { OnErr result (self.new.lists ≡ self.old.lists) }
         ensures block { self.new.block ≡ self.old.block }
     {
         self.lists.run(self.alloc, &command)
     }
 
-    /// Runs the block that is open, and appends its text. If memory is refused, it appends nothing.
-    fn close(&mut self, text: &mut Vec<u8>) -> Result<(), AllocError>
-        requires { CanRun self.old.block }
+    /// Runs a block, and appends its text. If memory is refused, it appends nothing, and returns the block unless that
+    /// was run.
+    fn run_block(&mut self, block: Block, text: &mut Vec<u8>) -> Result<(), Option<Block>>
+        requires { CanRun (Some block) }
         ensures ok { OnOk result
-            (Closes (self.old.lists, open_of self.old.block) (self.new.lists, open_of self.new.block) text.old.items
-            text.new.items) }
+            (Closes self.old.lists (open_as block) self.new.lists text.old.items text.new.items) }
         ensures err { OnErr result (text.new.items ≡ text.old.items) }
-        ensures open { OnErr result (IsSome self.old.block) }
-        ensures block { self.new.block ≡ None }
+        ensures back { IfErr result (λ back. CameBackOrRan self.old.lists block back self.new.lists) }
+        ensures block { self.new.block ≡ self.old.block }
     {
-        let Some(block) = self.block.take() else {
-            return Ok(());
-        };
         let Block { list, end, lines } = block;
-        let reply = self.play(ListCommand::Cursor(list, end, lines))?;
-        push_reply(self.alloc, text, &reply)
+        let command = ListCommand::Cursor(list, end, lines);
+        let Ok(reply) = self.lists.run(self.alloc, &command) else {
+            return Err(block_of(command));
+        };
+        match push_reply(self.alloc, text, &reply) {
+            Ok(()) => Ok(()),
+            Err(_) => Err(None),
+        }
     }
 
     /// Takes a line outside of blocks.
@@ -109,12 +124,24 @@ impl ListSession {
             self.block = Some(block);
             return Ok(false);
         };
-        block.lines.push(command)?;
-        self.block = Some(block);
-        if let CursorCommand::End = command {
-            self.close(text)?;
+        let held = block.lines.len();
+        let Ok(()) = block.lines.push(command) else {
+            self.block = Some(block);
+            return Err(AllocError);
+        };
+        let CursorCommand::End = command else {
+            self.block = Some(block);
+            return Ok(true);
+        };
+        match self.run_block(block, text) {
+            Ok(()) => Ok(true),
+            Err(Some(mut back)) => {
+                back.lines.truncate(held);
+                self.block = Some(back);
+                Err(AllocError)
+            }
+            Err(None) => Err(AllocError),
         }
-        Ok(true)
     }
 }
 
@@ -138,6 +165,15 @@ impl Session for ListSession {
     }
 
     fn end(&mut self, text: &mut Vec<u8>) -> Result<(), AllocError> {
-        self.close(text)
+        let Some(block) = self.block.take() else {
+            return Ok(());
+        };
+        match self.run_block(block, text) {
+            Ok(()) => Ok(()),
+            Err(back) => {
+                self.block = back;
+                Err(AllocError)
+            }
+        }
     }
 }

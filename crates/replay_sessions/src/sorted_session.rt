@@ -1,5 +1,5 @@
 //! Scripts in mode `sorted`.
-ghost use Rattle.std.specs.Prelude.{◌≡◌, ℕ, IfOk};
+ghost use Rattle.std.specs.Prelude.{◌≡◌, ℕ, IfOk, OnErr};
 ghost use Rattle.std.specs.declared.cmp.Ordering.{Ordering};
 ghost use Rattle.cordyceps_commands.specs.Replies.{lines_of};
 ghost use Rattle.cordyceps_tables.specs.Sorteds.{step, order_of, Fits, AreInOrder};
@@ -49,6 +49,7 @@ impl<F: Fn(&Item, &Item) -> Ordering + Copy> SortedSession<F> {
         ensures reply { IfOk result
             (λ reply. (self.new.sorteds.0, lines_of reply)
             ≡ step (order_of ⟦<Item as Ord>⟧.cmp by_tens) self.old.sorteds.0 command) }
+        ensures err { OnErr result (self.new.sorteds.0 ≡ self.old.sorteds.0) }
         ensures in_order { AreInOrder (order_of ⟦<Item as Ord>⟧.cmp by_tens) self.new.sorteds.0 }
         ensures function { self.new.sorteds.1 ≡ self.old.sorteds.1 }
     {

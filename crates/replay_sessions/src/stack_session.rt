@@ -1,5 +1,5 @@
 //! Scripts in mode `stack`.
-ghost use Rattle.std.specs.Prelude.{◌≡◌, IfOk};
+ghost use Rattle.std.specs.Prelude.{◌≡◌, IfOk, OnErr};
 ghost use Rattle.cordyceps_commands.specs.Replies.{lines_of};
 ghost use Rattle.cordyceps_tables.specs.Stacks.{step, Fits};
 ghost use Rattle.cordyceps_tables.specs.Tables.{empty_table};
@@ -35,7 +35,8 @@ impl StackSession {
     /// Runs one command, and returns its reply.
     fn play(&mut self, command: StackCommand) -> Result<Reply, AllocError>
         requires { Fits command }
-        ensures { IfOk result (λ reply. (self.new.stacks, lines_of reply) ≡ step self.old.stacks command) }
+        ensures reply { IfOk result (λ reply. (self.new.stacks, lines_of reply) ≡ step self.old.stacks command) }
+        ensures err { OnErr result (self.new.stacks ≡ self.old.stacks) }
     {
         self.stacks.run(self.alloc, &command)
     }

@@ -10,6 +10,7 @@ loop-end-init g c = record {
   ready = c.requires.ready;
   room = c.requires.block;
   short = omega arith;
+  written = c.requires.written;
   clean = λ k d lt. absurd (omega arith);
   so_far = (
     [],
@@ -158,6 +159,7 @@ loop-end-preserved g c =
       ready = c.in-Ok-take_lines.ensures.ready;
       room = omega (arith, c.loop-end.invariant.room, c.keep.ensures.len, c.read_more.ensures.len);
       short = omega (arith, c.if-held-gt-LONGEST_LINE.false);
+      written = c.in-Ok-flush.ensures.empty;
       clean = rw c.keep.ensures.kept c.in-Ok-take_lines.ensures.taken.4;
       so_far = (bytes ++ more, gave_them, all.0, rw (c.keep.ensures.kept, c.in-Ok-flush.ensures.empty) written);
     }

@@ -4,6 +4,6 @@ use Rattle.replay_driver.proofs.script.take_line.Goals as goal
 
 pub returns-in-Err-clause-taken : goal.returns-in-Err-clause-taken
 returns-in-Err-clause-taken g c =
-    let (last, texts, front, step, among, after) = c.in-Err.ensures.taken in
+    let (next, texts, front, step, among, after, moved) = c.in-Err.ensures.taken in
     let short = short_line g.S.Session.machine (g.S.Session.state c.args.session.now) c.args.line.now (omega arith) in
-    (last, texts, front, short ∙ step, among, ([], g.met.O.Sink.takes_nothing c.args.output.now, sym after))
+    (next, texts, front, short ∙ step, among, ([], g.met.O.Sink.takes_nothing c.args.output.now, sym after), moved)

@@ -8,3 +8,6 @@ run_script-requires-in-Sorted g c =
     let callable = rw c.in-Sorted.is at c.requires.callable in
     let tens = rw c.in-Sorted.is at c.requires.tens in
     rw c.new-session-in-Sorted.ensures.function (callable, tens, c.new-session-in-Sorted.ensures.in_order (order_of own by_tens))
+
+pub returns-in-Sorted : goal.returns-in-Sorted
+returns-in-Sorted g c = rw c.in-Sorted.is (c.run_script-in-Sorted.new.session.sorteds.0, rw c.new-session-in-Sorted.ensures.table at c.run_script-in-Sorted.ensures.runs)

@@ -1,44 +1,27 @@
-use Rattle.std.proofs.Common.{[], refl, sym, ◌∙◌, inl}
+use Rattle.std.proofs.Common.{ℕ, [], refl, sym, inl, inr, arith}
 use Rattle.std.proofs.lemmas.List.{append-nil}
-use Rattle.std.proofs.lemmas.Result.{err_from_is_err_and}
-use Rattle.replay_sessions.proofs.ListLines.{inside, kept, closed, no_end, can_run_to, stays_open}
+use Rattle.replay_sessions.specs.OpenBlocks.{open_as}
+use Rattle.replay_sessions.proofs.ListLines.{inside, kept, closed, refused, reopened, no_end, can_run_to, stays_open}
 use Rattle.replay_sessions.proofs.list_session.ListSession.take_inside.Goals as goal
 
-pub returns-in_err-push-clause-taken : goal.returns-in_err-push-clause-taken
-returns-in_err-push-clause-taken c =
-    let p = err_from_is_err_and c.from_residual.result c.from_residual.ensures.1 in
-    let block = c.args.block in
-    rw p.1 (
+pub returns-in_default-push-clause-taken : goal.returns-in_default-push-clause-taken
+returns-in_default-push-clause-taken c =
+    let block = c.args.block in (
       _,
       _,
       [],
-      inside c.args.self.now.lists (block.list, block.end, block.lines.items) c.args.line.now c.in-Some.command c.in-Some.ensures.value,
+      inside c.args.self.now.lists (open_as block) c.args.line.now c.in-Some.command c.in-Some.ensures.value,
       (0, inl refl, refl),
       sym (append-nil c.args.text.now.items),
+      inl (rw c.in_default-push.ensures.items refl),
     )
 
-pub close-requires : goal.close-requires
-close-requires c =
-    (c.requires.open.0, rw c.in_ok-push.ensures.items (can_run_to c.args.block.lines.items c.in-Some.command c.requires.open.1 c.in-Some.ensures.fits))
+pub returns-in_default-push-clause-ready : goal.returns-in_default-push-clause-ready
+returns-in_default-push-clause-ready c = rw c.in_default-push.ensures.items c.requires.open
 
-pub returns-in_err-close-clause-taken : goal.returns-in_err-close-clause-taken
-returns-in_err-close-clause-taken c =
-    let p = err_from_is_err_and c.from_residual-in_err-close.result c.from_residual-in_err-close.ensures.1 in
-    let block = c.args.block in
-    rw p.1 (
-      _,
-      _,
-      [],
-      inside c.args.self.now.lists (block.list, block.end, block.lines.items) c.args.line.now c.in-Some.command c.in-Some.ensures.value,
-      (0, inl refl, refl),
-      c.in_err-close.ensures.err ∙ sym (append-nil c.args.text.now.items),
-    )
-
-pub returns-in_ok-close-clause-taken : goal.returns-in_ok-close-clause-taken
-returns-in_ok-close-clause-taken c =
-    let block = c.args.block in
-    closed c.args.self.now.lists (block.list, block.end, block.lines.items) c.args.line.now c.in-Some.command c.push.new.self.items
-    (c.close.new.self.lists, _) c.args.text.now.items c.close.new.text.items c.in-Some.ensures.value c.in-End.is c.in_ok-push.ensures.items c.in_ok-close.ensures.ok
+pub run_block-requires : goal.run_block-requires
+run_block-requires c =
+    (c.requires.open.0, rw c.in-Ok.ensures.items (can_run_to c.args.block.lines.items c.in-Some.command c.requires.open.1 c.in-Some.ensures.fits))
 
 pub returns-in_default-command : goal.returns-in_default-command
 returns-in_default-command c =
@@ -48,8 +31,32 @@ returns-in_default-command c =
     record {
       taken = (
         [],
-        kept c.args.self.now.lists (block.list, block.end, block.lines.items) c.args.line.now command c.push.new.self.items c.in-Some.ensures.value goes_on c.in_ok-push.ensures.items,
+        kept c.args.self.now.lists (open_as block) c.args.line.now command c.push.new.self.items c.in-Some.ensures.value goes_on c.in-Ok.ensures.items,
         sym (append-nil c.args.text.now.items),
       );
-      ready = (c.requires.open.0, rw c.in_ok-push.ensures.items (stays_open block.lines.items command c.requires.open.1 c.in-Some.ensures.fits goes_on));
+      ready = (c.requires.open.0, rw c.in-Ok.ensures.items (stays_open block.lines.items command c.requires.open.1 c.in-Some.ensures.fits goes_on));
     }
+
+pub returns-in-Ok-run_block-clause-taken : goal.returns-in-Ok-run_block-clause-taken
+returns-in-Ok-run_block-clause-taken c =
+    rw (c.in-Ok-run_block.ensures.block, c.requires.block) (
+    closed c.args.self.now.lists c.run_block.new.self.lists (open_as c.args.block) c.args.line.now c.in-Some.command c.push.new.self.items c.args.text.now.items c.run_block.new.text.items
+    c.in-Some.ensures.value c.in-End.is c.in-Ok.ensures.items c.in-Ok-run_block.ensures.ok
+    )
+
+pub returns-in-Err-Some-clause-taken : goal.returns-in-Err-Some-clause-taken
+returns-in-Err-Some-clause-taken c =
+    let block = c.args.block in
+    let table = c.args.self.now.lists in
+    let new = c.run_block.new.self.lists in
+    let came = rw c.in-Err-Some.field-0-is at c.in-Err-Some.ensures.back in
+    let same = reopened table new block (record { list = block.list; end = block.end; lines = c.push.new.self }) c.in-Err-Some.back c.in-Some.command c.truncate.new.self.items c.len-held.result came refl refl
+    c.in-Ok.ensures.items (omega (arith, c.len-held.ensures, c.args.block.lines.ok)) c.truncate.ensures.items in
+    refused {E = ℕ} 0 table (open_as block) c.args.line.now c.in-Some.command c.push.new.self.items (new, _) c.args.text.now.items c.run_block.new.text.items c.in-Some.ensures.value c.in-End.is c.in-Ok.ensures.items
+    (inl same) c.in-Err-Some.ensures.err
+
+pub returns-in-Err-None-clause-taken : goal.returns-in-Err-None-clause-taken
+returns-in-Err-None-clause-taken c =
+    let ran = rw c.in-Err-None.field-0-is at c.in-Err-None.ensures.back in
+    refused {E = ℕ} 0 c.args.self.now.lists (open_as c.args.block) c.args.line.now c.in-Some.command c.push.new.self.items (c.run_block.new.self.lists, _) c.args.text.now.items c.run_block.new.text.items
+    c.in-Some.ensures.value c.in-End.is c.in-Ok.ensures.items (inr (rw (c.in-Err-None.ensures.block, c.requires.block, ran) refl)) c.in-Err-None.ensures.err
