@@ -69,7 +69,7 @@ impl<T> Block<T> {
 /// From `tour::submit` of `cordyceps_uses`:
 /// ```
 /// // the same node, for lists: it takes no memory
-/// waiting.lock(rt).try_push_back(job.into_kind())
+/// waiting.lock(rt).put(mine, job.into_kind())
 /// ```
 #[derive(Drop)]
 pub struct Node<T, L> {

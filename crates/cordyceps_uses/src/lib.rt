@@ -7,3 +7,4 @@ pub mod recency;
 pub mod tasks;
 pub mod timer_wheel;
 pub mod tour;
+pub mod waiting;

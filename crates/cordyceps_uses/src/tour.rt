@@ -1,5 +1,5 @@
 //! A few lines with each collection.
-ghost use Rattle.std.specs.Prelude.{◌≡◌, ◌+◌, ◌<◌, [], ◌∷◌, ◌++◌, take, drop, length, min, option_map, Some, IfOk, IfErr, MatchOption};
+ghost use Rattle.std.specs.Prelude.{◌≡◌, ◌+◌, ◌<◌, [], ◌∷◌, ◌++◌, take, drop, length, min, option_map, Some, IfOk, IfErr, OnOk, OnErr, MatchOption};
 ghost use denote.RawPtr.{Ptr};
 ghost use Rattle.cordyceps.specs.Elements.Nodes.{spots};
 ghost use Rattle.cordyceps.specs.Orders.Arrangement.{IsEarliestLeast};
@@ -7,6 +7,7 @@ ghost use Rattle.cordyceps.specs.Spots.Spots.{AreDistinct};
 ghost use Rattle.cordyceps_uses.specs.Ranks.{comes_before};
 
 use crate::job::Job;
+use crate::waiting::Waiting;
 use cordyceps::mpsc_queue::Batch;
 use cordyceps::sorted_list::Least;
 use cordyceps::{
@@ -15,6 +16,7 @@ use cordyceps::{
 };
 use freelist::FreeList;
 use std::alloc::{AllocError, Global};
+use std::sync::ledger::{Ledger, Share};
 use std::sync::{Mutex, Wait};
 
 /// A job that can be put into a list.
@@ -71,20 +73,46 @@ pub fn take_least(jobs: &mut StableList<Job>) -> Option<ListJob>
     Some(jobs.remove(best))
 }
 
-/// Puts a job that came out of a queue after those that wait in a list which threads share.
+/// Puts a job that came out of a queue into a list which threads share, and a ticket for it into the thread's share.
 ///
 /// # Errors
 /// A list of `usize::MAX` jobs hands the job back.
-pub fn submit<R: Wait>(rt: &R, waiting: &Mutex<List<Job>>, job: QueueJob) -> Result<(), ListJob>
-    ensures { IfErr result (λ back. back ≡ job) }
+///
+/// # Waits
+/// For the lock.
+pub fn submit<L: Ledger, R: Wait>(
+    rt: &R,
+    waiting: &Mutex<Waiting<L>>,
+    mine: &mut Share<L>,
+    job: QueueJob,
+) -> Result<(), ListJob>
+    requires { 0 < mine.old.parts }
+    ensures ok { OnOk result (mine.new.amount ≡ mine.old.amount + 1) }
+    ensures err { OnErr result (mine.new.amount ≡ mine.old.amount) }
+    ensures back { IfErr result (λ back. back ≡ job) }
+    ensures parts { mine.new.parts ≡ mine.old.parts }
 {
     // the same node, for lists: it takes no memory
-    waiting.lock(rt).try_push_back(job.into_kind())
+    waiting.lock(rt).put(mine, job.into_kind())
 }
 
-/// Takes the job that waits longest out of a list which threads share. `None` where none waits.
-pub fn next_job<R: Wait>(rt: &R, waiting: &Mutex<List<Job>>) -> Option<ListJob> {
-    waiting.lock(rt).pop_front()
+/// Takes a job out of a list which threads share, for a ticket: there is one for each that the share has.
+///
+/// It is the job that waits longest when the lock is taken, as [`Waiting::take`] promises. The contract here does not
+/// state which one: no clause can name what is under a lock.
+///
+/// # Waits
+/// For the lock.
+pub fn next_job<L: Ledger, R: Wait>(
+    rt: &R,
+    waiting: &Mutex<Waiting<L>>,
+    mine: &mut Share<L>,
+) -> ListJob
+    requires { 0 < mine.old.amount }
+    ensures ticket { mine.new.amount + 1 ≡ mine.old.amount }
+    ensures parts { mine.new.parts ≡ mine.old.parts }
+{
+    waiting.lock(rt).take(mine)
 }
 
 /// The least rank of two jobs.

@@ -1,4 +1,5 @@
 //! A few lines with each collection, and what they return.
+ghost use Rattle.std.specs.Prelude.{◌≡◌, ◌+◌, ◌<◌};
 ghost use Rattle.cordyceps.specs.Elements.Nodes.{spots};
 ghost use Rattle.cordyceps.specs.Spots.Spots.{AreDistinct};
 
@@ -9,9 +10,12 @@ use cordyceps_uses::job::Job;
 use cordyceps_uses::tour::{
     give_back, hand_over, least_rank, next_job, rotate, send, submit, take_least, take_the_second,
 };
+use cordyceps_uses::waiting::Waiting;
 use std::alloc::Global;
+use std::marker::Brand;
 use std::process::Abort;
-use std::sync::Mutex;
+use std::sync::ledger::{Blank, Ledger, Share};
+use std::sync::{Mutex, Wait};
 use test_support::nodes::number;
 
 #[test]
@@ -69,20 +73,44 @@ fn the_least_job_comes_first(rt: HostRuntime) {
     }
 }
 
+/// Submits a job with this number, which is not refused.
+fn submits<L: Ledger>(
+    rt: &(impl Abort + Wait),
+    alloc: Global,
+    waiting: &Mutex<Waiting<L>>,
+    mine: &mut Share<L>,
+    number: u64,
+)
+    requires { 0 < mine.old.parts }
+    ensures ticket { mine.new.amount ≡ mine.old.amount + 1 }
+    ensures parts { mine.new.parts ≡ mine.old.parts }
+{
+    let job = node(rt, alloc, number, Job { rank: 0 });
+    match submit(rt, waiting, mine, job) {
+        Ok(()) => {}
+        Err(_) => panic!(rt; "the list is full"),
+    }
+}
+
+/// Submits three jobs, takes two for their tickets, and finds the third left, of a new ledger.
+fn submits_and_takes<L: Ledger>(rt: &(impl Abort + Wait), alloc: Global, blank: Blank)
+    requires { (blank.name ≡ L.name) × (blank.parts ≡ L.parts) × (L.parts ≡ 1) }
+{
+    let (book, mut mine) = blank.open::<L>();
+    let waiting = Mutex::new(Waiting::new(book));
+    submits(rt, alloc, &waiting, &mut mine, 1);
+    submits(rt, alloc, &waiting, &mut mine, 2);
+    submits(rt, alloc, &waiting, &mut mine, 3);
+    let first = next_job(rt, &waiting, &mut mine).id();
+    let second = next_job(rt, &waiting, &mut mine).id();
+    let mut left = waiting.into_inner().into_jobs(&mut mine);
+    same(rt, (first, second, left.len()), (1, 2, 1));
+    same(rt, number(left.pop_front()), Some(3));
+}
+
 #[test]
 fn a_list_behind_a_lock(rt: HostRuntime) {
-    let waiting: Mutex<List<Job>> = Mutex::new(List::new());
-    for number in [1, 2] {
-        let put = submit(
-            &rt,
-            &waiting,
-            node(&rt, rt.alloc(), number, Job { rank: 0 }),
-        );
-        same(&rt, put.is_ok(), true);
-    }
-    for wanted in [Some(1), Some(2), None] {
-        same(&rt, number(next_job(&rt, &waiting)), wanted);
-    }
+    submits_and_takes::<Brand>(&rt, rt.alloc(), Blank::new(1));
 }
 
 #[test]
