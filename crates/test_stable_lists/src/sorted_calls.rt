@@ -85,7 +85,7 @@ pub fn change<O: Order<Key>>(list: &mut StableSortedList<Key, O>, spot: Spot, ke
 }
 
 /// Returns the keys before a spot, at it and after it.
-pub fn around(list: &Keys, spot: Spot) -> Sight
+fn around(list: &Keys, spot: Spot) -> Sight
     requires { HasSpot list.now.nodes spot }
 {
     let mut keys = (None, Some(list.get(spot).value), None);

@@ -2,11 +2,10 @@
 ghost use Rattle.std.specs.Prelude.{◌≡◌, ◌/◌};
 ghost use Rattle.std.specs.Ordering.{nat_cmp};
 
-use crate::compared::{at_most, same};
-use crate::keys::{Key, Pair, Reply, Sight, make};
-use crate::sorted_calls::{Call, Keys, LONGEST, around, holds, insert_all, pops};
+use crate::compared::same;
+use crate::keys::{Key, Pair, Reply};
+use crate::sorted_calls::{Call, holds, insert_all, pops};
 use crate::sorted_operations::agree;
-use cordyceps_base::steps::Steps;
 use cordyceps_single::sorted_list::{Least, Order};
 use cordyceps_stable::stable_sorted_list::StableSortedList;
 use std::alloc::Global;
@@ -151,26 +150,4 @@ fn equals_come_by_arrival(rt: HostRuntime) {
     let pairs = [(1, 21), (2, 11), (3, 12), (4, 20)];
     let rising = [(2, 11), (3, 12), (1, 21), (4, 20)];
     sorts(&rt, rt.alloc(), tens, &pairs, &rising);
-}
-
-/// Keys to insert, how many comparisons there were by then, and the keys around the spot.
-const COUNTS: [(u64, u64, Sight); 6] = [
-    (5, 0, (None, Some(5), None)),
-    (7, 1, (Some(5), Some(7), None)),
-    (7, 2, (Some(7), Some(7), None)),
-    (6, 5, (Some(5), Some(6), Some(7))),
-    (1, 7, (None, Some(1), Some(5))),
-    (5, 12, (Some(5), Some(5), Some(6))),
-];
-
-#[test]
-fn counts_what_it_asks(rt: HostRuntime) {
-    let mut list: Keys = StableSortedList::new_min();
-    let mut steps = Steps::new();
-    for (key, count, keys) in COUNTS {
-        at_most(&rt, list.len(), LONGEST);
-        at_most(&rt, steps.count() as usize, LONGEST);
-        let spot = list.insert_in(make(&rt, rt.alloc(), (0, key)), &mut steps);
-        same(&rt, (steps.count(), around(&list, spot)), (count, keys));
-    }
 }
