@@ -18,6 +18,8 @@ mod gates;
 #[cfg(test)]
 mod long_replays;
 #[cfg(test)]
+mod prompt_replies;
+#[cfg(test)]
 mod replays;
 #[cfg(test)]
 mod shares;
