@@ -14,9 +14,17 @@ use test_support::draws::Draws;
 /// How many commands are drawn. As many as there are lists follow, of which each shows one.
 const DRAWN: usize = 4000;
 
-/// Returns two of four lists, which may be one, and the command with this number, on the first or on both.
-fn command(draws: &mut Draws, number: usize) -> (usize, usize, ListCommand)
-    ensures { Fits result.2 }
+/// A command on one of four lists, or on two.
+#[derive(Drop)]
+struct Drawn {
+    list: usize,
+    other: usize,
+    command: ListCommand,
+}
+
+/// Returns the command with this number.
+fn draw(draws: &mut Draws, number: usize) -> Drawn
+    ensures { Fits result.command }
 {
     let list = draws.below(4) as u8;
     let other = draws.below(4) as u8;
@@ -24,7 +32,11 @@ fn command(draws: &mut Draws, number: usize) -> (usize, usize, ListCommand)
     let id = draws.below(10);
     if number >= DRAWN {
         let shown = number % 4;
-        return (shown, shown, ListCommand::Show(shown as u8));
+        return Drawn {
+            list: shown,
+            other: shown,
+            command: ListCommand::Show(shown as u8),
+        };
     }
     let command = match draws.below(16) {
         0 | 1 | 2 => ListCommand::PushFront(list, Item { value, id }),
@@ -40,7 +52,11 @@ fn command(draws: &mut Draws, number: usize) -> (usize, usize, ListCommand)
         14 => ListCommand::Len(list),
         _ => ListCommand::Show(list),
     };
-    (list as usize, other as usize, command)
+    Drawn {
+        list: list as usize,
+        other: other as usize,
+        command,
+    }
 }
 
 /// Asserts that memory was there for a command, and returns its reply.
@@ -120,13 +136,9 @@ fn on_two(
 }
 
 /// Runs a command on one or two of the lists, and returns its reply.
-fn run(
-    rt: &impl Abort,
-    alloc: Global,
-    lists: &mut [VecDeque<Item>; 4],
-    (list, other, command): (usize, usize, &ListCommand),
-) -> Reply {
-    let (list, other) = (list % 4, other % 4);
+fn run(rt: &impl Abort, alloc: Global, lists: &mut [VecDeque<Item>; 4], drawn: &Drawn) -> Reply {
+    let (list, other) = (drawn.list % 4, drawn.other % 4);
+    let command = &drawn.command;
     match command {
         ListCommand::Append(_, _) | ListCommand::Split(_, _, _) if list == other => Reply::NotThere,
         ListCommand::Append(_, _) | ListCommand::Split(_, _, _) => {
@@ -156,10 +168,10 @@ fn commands_and_replies(
     let mut commands = VecDeque::new(alloc);
     let mut replies = Vec::new(alloc);
     for number in 0..DRAWN + 4 {
-        let (list, other, command) = command(&mut draws, number);
-        let reply = run(rt, alloc, &mut lists, (list, other, &command));
+        let next = draw(&mut draws, number);
+        let reply = run(rt, alloc, &mut lists, &next);
         done(rt, replies.push(reply).is_ok());
-        commands.push_back(command)?;
+        commands.push_back(next.command)?;
     }
     Ok((commands, replies))
 }
