@@ -223,8 +223,8 @@ fn has_stopped_writing(halt: Result<(), Fault>) -> bool
 ///
 /// The lines go to the session, up to the first bad one or to the end of the input. Then the session is told of the
 /// end, unless writing or memory failed. The source and the sink may be in any state, and the session in any state in
-/// which it takes lines. Before it reads again, it writes the replies to all complete lines, so whoever gives the lines
-/// may wait for a reply before the next one.
+/// which it takes lines. Before the source is read again, the replies to all complete lines are written. So whoever
+/// gives the lines may wait for a reply before the next one.
 ///
 /// # Errors
 /// It returns `BadLine` with the number of the first line that is bad or has more than 120 bytes without its line feed,
@@ -233,7 +233,7 @@ fn has_stopped_writing(halt: Result<(), Fault>) -> bool
 ///
 /// In any case the session is ready for another script. After `Ok`, `BadLine` and `Read` its state is that after the
 /// lines before, and after their end. After `Memory` it is that after the lines before the refused command, which may
-/// have been run, with its reply lost. After `Write` it is that after some of the lines, or after all and their end.
+/// have been run, with its reply lost. After `Write` it is that after the first lines, or after all and their end.
 ///
 /// # Complexity
 /// O(b), for b bytes of the script, and what the session takes. It allocates a block of 65,536 bytes, and keeps about
