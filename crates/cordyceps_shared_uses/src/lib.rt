@@ -7,3 +7,4 @@ pub mod pool;
 pub mod run_queue;
 pub mod scheduler;
 pub mod timers;
+pub mod tries;

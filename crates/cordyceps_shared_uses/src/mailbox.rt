@@ -6,6 +6,7 @@ ghost use Rattle.cordyceps.specs.Queues.Moves.{Moves, got_by_try};
 ghost use Rattle.cordyceps.specs.Queues.Sending.{Sends};
 ghost use Rattle.cordyceps_shared_uses.specs.Mailbox.{contents, value_of};
 
+use crate::tries::Tries;
 use cordyceps::mpsc_queue::{Links, MAX_ROOMS, Party, TryDequeueError};
 use cordyceps::{Linked, MpscQueue, Node, Refused};
 use std::alloc::{AllocError, Global};
@@ -104,25 +105,46 @@ fn note(received: &mut Vec<u64>, found: Result<Letter, TryDequeueError>) -> Resu
     Ok(())
 }
 
-/// Receives what comes in so many turns.
+/// What the receiver is left with: its party, what it received, and how often it tried.
+#[derive(Drop)]
+struct Inbox {
+    party: Party<Message>,
+    received: Vec<u64>,
+    tries: Tries,
+}
+
+/// Receives what comes in so many turns, in each of which it tries once.
 fn receive(
     alloc: Global,
     queue: &MpscQueue<Message>,
     mut party: Party<Message>,
     turns: u64,
-) -> Result<(Party<Message>, Vec<u64>), AllocError>
+) -> Result<Inbox, AllocError>
     requires { party.table ≡ queue.now.table }
-    ensures { IfOk result (λ back. Moves value_of [] back.1.items party back.0) }
+    ensures moves { IfOk result (λ back. Moves value_of [] back.received.items party back.party) }
+    ensures tries { IfOk result (λ back. back.tries ≡ turns) }
 {
     let mut received = Vec::new(alloc);
+    let mut tries = Tries::new();
     for _turn in 0..turns {
-        note(&mut received, queue.try_dequeue(&mut party))?;
+        note(&mut received, tries.try_dequeue(queue, &mut party))?;
     }
-    Ok((party, received))
+    Ok(Inbox {
+        party,
+        received,
+        tries,
+    })
 }
 
-/// Delivers messages: each list is sent by a thread of its own, and one thread receives, in so many turns; what is left
-/// is received in the end. It waits for nobody but the threads that it starts.
+/// What was delivered, and how often the receiver tried while messages were sent.
+#[derive(Drop)]
+pub struct Delivered {
+    pub messages: Vec<u64>,
+    pub tries: Tries,
+}
+
+/// Delivers messages: each list is sent by a thread of its own, and one thread receives, with a try in each of so many
+/// turns; what is left is received in the end. It waits for nobody but the threads that it starts.
 ///
 /// The mailbox needs a room for each message, at most `MAX_ROOMS`. It is an error where memory is refused, and then all
 /// is dropped.
@@ -132,28 +154,34 @@ pub fn deliver<R: Threads + Sync>(
     lists: &[Vec<u64>],
     rooms: usize,
     turns: u64,
-) -> Result<Vec<u64>, AllocError>
+) -> Result<Delivered, AllocError>
     requires room { how_many (contents lists.now) ≤ rooms }
     requires few { rooms ≤ MAX_ROOMS }
-    ensures { IfOk result (λ all. Delivers (contents lists.now) all.items) }
+    ensures delivers { IfOk result (λ all. Delivers (contents lists.now) all.messages.items) }
+    ensures tries { IfOk result (λ all. all.tries ≡ turns) }
 {
     let (queue, mut receiver) = MpscQueue::new(alloc, rooms)?;
     let sender = queue.split(&mut receiver, rooms);
     let (got, sent) = thread::join(
         rt,
-        || -> Result<(Party<Message>, Vec<u64>), AllocError>
+        || -> Result<Inbox, AllocError>
             requires { receiver.table ≡ queue.table }
-            ensures { IfOk result (λ back. Moves value_of [] back.1.items receiver back.0) }
+            ensures { IfOk result (λ back. Moves value_of [] back.received.items receiver back.party
+                × (back.tries ≡ turns)) }
         { receive(alloc, &queue, receiver, turns) },
         || -> Result<Party<Message>, AllocError>
             requires { IsSync R.row × MaySend (contents lists.now) queue.table sender }
             ensures { IfOk result (λ back. Sends value_of (contents lists.entry.now) sender back) }
         { send_each(rt, alloc, &queue, sender, lists) },
     );
-    let (mut party, mut received) = got?;
+    let inbox = got?;
+    let (mut party, mut received) = (inbox.party, inbox.received);
     queue.absorb(&mut party, sent?);
     for letter in queue.close(party).elements {
         received.push(letter.get().value)?;
     }
-    Ok(received)
+    Ok(Delivered {
+        messages: received,
+        tries: inbox.tries,
+    })
 }

@@ -5,6 +5,7 @@ ghost use Rattle.cordyceps.specs.Parties.Counts.{Same};
 ghost use Rattle.cordyceps.specs.Transfers.Moves.{Moves};
 ghost use Rattle.cordyceps_shared_uses.specs.RunQueue.{ran, Worked};
 
+use crate::tries::Tries;
 use cordyceps::stack::{Links, MAX_ROOMS, Party};
 use cordyceps::{Linked, Node, Stack, TransferStack};
 use std::alloc::Global;
@@ -72,16 +73,26 @@ fn run_each(mut jobs: Stack<Job>, done: &mut Stack<Job>)
     }
 }
 
+/// What a worker is left with: its party, what it did, and how often it tried.
+#[derive(Drop)]
+struct Shift {
+    party: Party<Job>,
+    done: Stack<Job>,
+    tries: Tries,
+}
+
 /// Takes jobs out of the queue so often, and runs them.
-fn work(queue: &TransferStack<Job>, mut party: Party<Job>, turns: u64) -> (Party<Job>, Stack<Job>)
+fn work(queue: &TransferStack<Job>, mut party: Party<Job>, turns: u64) -> Shift
     requires { party.table ≡ queue.now }
-    ensures { Worked result.1 party result.0 }
+    ensures worked { Worked result.done party result.party }
+    ensures tries { result.tries ≡ turns }
 {
     let mut done = Stack::new();
+    let mut tries = Tries::new();
     for _turn in 0..turns {
-        run_each(queue.take_all(&mut party), &mut done);
+        run_each(tries.take_all(queue, &mut party), &mut done);
     }
-    (party, done)
+    Shift { party, done, tries }
 }
 
 /// Two workers, each on a thread.
@@ -90,20 +101,21 @@ fn work_both<R: Threads>(
     queue: &TransferStack<Job>,
     parties: (Party<Job>, Party<Job>),
     turns: u64,
-) -> ((Party<Job>, Stack<Job>), (Party<Job>, Stack<Job>))
+) -> (Shift, Shift)
     requires { (parties.0.table ≡ queue.now) × (parties.1.table ≡ queue.now) }
-    ensures { Worked result.0.1 parties.0 result.0.0 × Worked result.1.1 parties.1 result.1.0 }
+    ensures worked { Worked result.0.done parties.0 result.0.party × Worked result.1.done parties.1 result.1.party }
+    ensures tries { (result.0.tries ≡ turns) × (result.1.tries ≡ turns) }
 {
     let (one, two) = parties;
     thread::join(
         rt,
-        || -> (Party<Job>, Stack<Job>)
+        || -> Shift
             requires { one.table ≡ queue.now }
-            ensures { Worked result.1 one result.0 }
+            ensures { Worked result.done one result.party × (result.tries ≡ turns) }
         { work(queue, one, turns) },
-        || -> (Party<Job>, Stack<Job>)
+        || -> Shift
             requires { two.table ≡ queue.now }
-            ensures { Worked result.1 two result.0 }
+            ensures { Worked result.done two result.party × (result.tries ≡ turns) }
         { work(queue, two, turns) },
     )
 }
@@ -116,14 +128,13 @@ fn run_threads<R: Threads + Wait + Sync>(
     workers: (Party<Job>, Party<Job>),
     jobs: Stack<Job>,
     turns: u64,
-) -> (
-    Party<Job>,
-    ((Party<Job>, Stack<Job>), (Party<Job>, Stack<Job>)),
-)
+) -> (Party<Job>, (Shift, Shift))
     requires submitter { (submitter.table ≡ queue.now) × (length jobs ≤ submitter.rooms) }
     requires workers { (workers.0.table ≡ queue.now) × (workers.1.table ≡ queue.now) }
     ensures submitted { Moves ran (map ran jobs) [] submitter result.0 }
-    ensures worked { Worked result.1.0.1 workers.0 result.1.0.0 × Worked result.1.1.1 workers.1 result.1.1.0 }
+    ensures worked { Worked result.1.0.done workers.0 result.1.0.party
+        × Worked result.1.1.done workers.1 result.1.1.party }
+    ensures tries { (result.1.0.tries ≡ turns) × (result.1.1.tries ≡ turns) }
 {
     thread::join(
         rt,
@@ -131,9 +142,10 @@ fn run_threads<R: Threads + Wait + Sync>(
             requires { IsSync R.row × (submitter.table ≡ queue.now) × (length jobs ≤ submitter.rooms) }
             ensures { Moves ran (map ran jobs) [] submitter result }
         { submit_all(rt, queue, submitter, jobs) },
-        || -> ((Party<Job>, Stack<Job>), (Party<Job>, Stack<Job>))
+        || -> (Shift, Shift)
             requires { IsSync R.row × (workers.0.table ≡ queue.now) × (workers.1.table ≡ queue.now) }
-            ensures { Worked result.0.1 workers.0 result.0.0 × Worked result.1.1 workers.1 result.1.0 }
+            ensures { Worked result.0.done workers.0 result.0.party × Worked result.1.done workers.1 result.1.party
+                × (result.0.tries ≡ turns) × (result.1.tries ≡ turns) }
         { work_both(rt, queue, workers, turns) },
     )
 }
@@ -147,6 +159,13 @@ fn add_all(done: &mut Stack<Job>, mut more: Stack<Job>)
     }
 }
 
+/// Jobs that were run, and how often each of the two workers tried to take some.
+#[derive(Drop)]
+pub struct Done {
+    pub jobs: Stack<Job>,
+    pub tries: (Tries, Tries),
+}
+
 /// Runs all jobs: one thread submits them, two workers take what is there, each so many times, and what they leave is
 /// run in the end. Each job is run once, and none is lost.
 ///
@@ -158,10 +177,11 @@ pub fn run_all<R: Threads + Wait + Sync>(
     jobs: Stack<Job>,
     rooms: usize,
     turns: u64,
-) -> Result<Stack<Job>, Stack<Job>>
+) -> Result<Done, Stack<Job>>
     requires room { length jobs ≤ rooms }
     requires few { rooms ≤ MAX_ROOMS }
-    ensures each_once { IfOk result (λ done. Same (map ran jobs) done) }
+    ensures each_once { IfOk result (λ done. Same (map ran jobs) done.jobs) }
+    ensures tries { IfOk result (λ done. (done.tries.0 ≡ turns) × (done.tries.1 ≡ turns)) }
     ensures back { IfErr result (λ back. back ≡ jobs) }
 {
     let Ok((queue, mut party)) = TransferStack::new(alloc, rooms) else {
@@ -177,12 +197,14 @@ pub fn run_all<R: Threads + Wait + Sync>(
         jobs,
         turns,
     );
-    let (mut party, mut done) = first;
-    let (other, more) = second;
-    queue.absorb(&mut party, other);
+    let (mut party, mut done) = (first.party, first.done);
+    queue.absorb(&mut party, second.party);
     queue.absorb(&mut party, submitter);
     let rest = queue.close(party);
     run_each(rest, &mut done);
-    add_all(&mut done, more);
-    Ok(done)
+    add_all(&mut done, second.done);
+    Ok(Done {
+        jobs: done,
+        tries: (first.tries, second.tries),
+    })
 }

@@ -26,7 +26,9 @@ fn four_lists(rt: &impl Abort, alloc: Global) -> Vec<Vec<u64>>
 fn each_senders_messages_come_in_order(rt: HostRuntime) {
     for turns in 0..ROUNDS {
         let lists = four_lists(&rt, rt.alloc());
-        let all = made(&rt, deliver(&rt, rt.alloc(), lists.as_slice(), 12, turns));
+        let delivered = made(&rt, deliver(&rt, rt.alloc(), lists.as_slice(), 12, turns));
+        same(&rt, delivered.tries.count(), turns);
+        let all = delivered.messages;
         same(&rt, all.len(), 12);
         for list in lists.iter() {
             let mut left = list.iter();

@@ -64,7 +64,12 @@ fn each_job_is_run_once(rt: HostRuntime) {
         };
         // the sum of the squares of each number
         let mut squares = [0u64; 5];
-        for job in done {
+        same(
+            &rt,
+            (done.tries.0.count(), done.tries.1.count()),
+            (round, round),
+        );
+        for job in done.jobs {
             let job = job.get();
             if let Some(square) = squares.get_mut(job.number as usize) {
                 *square = square.wrapping_add(job.square);

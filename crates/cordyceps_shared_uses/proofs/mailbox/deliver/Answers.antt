@@ -17,9 +17,9 @@ join-got-requires-after_bounds g c κs within =
 
 pub loop-letter-init : goal.loop-letter-init
 loop-letter-init g c =
-    let all = delivered value_of c.in_ok-queue.ensures.1 (omega arith) c.split-sender.ensures (IfOk-at_ok _ c.in_ok-party.was c.join-got.ensures.first)
+    let all = delivered value_of c.in_ok-queue.ensures.1 (omega arith) c.split-sender.ensures (IfOk-at_ok _ c.in_ok-inbox.was c.join-got.ensures.first).0
     (IfOk-at_ok _ c.in_ok-sent.was c.join-got.ensures.second) c.absorb.ensures in
-    subst (λ z. Delivers (contents c.args.lists.now) (c.in_ok-party.received.items ++ map value_of z))
+    subst (λ z. Delivers (contents c.args.lists.now) (c.in_ok-inbox.inbox.received.items ++ map value_of z))
     (sym (c.into_iter-letter-iterator.ensures.into_iter_gives ∙ (c.close-letter-items.ensures.elements ∙ map-id (held (plain c.absorb.new.party.seen)))))
     all.2
 
@@ -32,7 +32,7 @@ loop-letter-preserved g c =
     ∙ (sym (append_assoc before (c.get.result.now.value ∷ []) rest) ∙ ap (λ z. z ++ rest) (sym c.in_ok-push.ensures.items))))
     c.loop-letter.invariant
 
-pub returns : goal.returns
-returns g c =
+pub returns-clause-delivers : goal.returns-clause-delivers
+returns-clause-delivers g c =
     let all = c.loop-letter.received.items in
     subst (Delivers (contents c.args.lists.now)) (ap (λ z. all ++ map value_of z) c.in-None.ensures.steps.0 ∙ append-nil all) c.loop-letter.invariant

@@ -9,14 +9,14 @@ use Rattle.cordyceps_shared_uses.specs.declared.run_queue.Job.{Job}
 use Rattle.cordyceps_shared_uses.proofs.Working.{all_done}
 use Rattle.cordyceps_shared_uses.proofs.run_queue.run_all.Goals as goal
 
-pub returns : goal.returns
-returns g c =
+pub returns-clause-each_once : goal.returns-clause-each_once
+returns-clause-each_once g c =
     let back = c.run_threads-submitter.result in
     let last = c.absorb-2.new.party in
-    let all = all_done c.in-Ok.queue c.args.rooms c.args.jobs back.1.0.1 back.1.1.1 c.in-Ok.party c.split-submitter.new.party c.split-submitter.result
-    c.split-other.new.party c.split-other.result back.1.0.0 back.1.1.0 back.0 c.absorb.new.party last c.in-Ok.ensures c.split-submitter.ensures c.split-other.ensures
+    let all = all_done c.in-Ok.queue c.args.rooms c.args.jobs back.1.0.done back.1.1.done c.in-Ok.party c.split-submitter.new.party c.split-submitter.result
+    c.split-other.new.party c.split-other.result back.1.0.party back.1.1.party back.0 c.absorb.new.party last c.in-Ok.ensures c.split-submitter.ensures c.split-other.ensures
     c.run_threads-submitter.ensures.submitted c.run_threads-submitter.ensures.worked.0 c.run_threads-submitter.ensures.worked.1 c.absorb.ensures c.absorb-2.ensures in
     let left = c.close-rest.ensures ∙ map-id (reverse (held (plain last.seen))) in
-    let done = c.add_all.ensures ∙ ap (λ (z : List (Element Job)). reverse back.1.1.1 ++ z)
-    (c.run_each.ensures ∙ ap (λ (z : List (Element Job)). reverse (map ran z) ++ back.1.0.1) left) in
-    record { each_once = subst (λ (z : List (Element Job)). Same (map ran c.args.jobs) z) (sym done) all.2; back = tt }
+    let done = c.add_all.ensures ∙ ap (λ (z : List (Element Job)). reverse back.1.1.done ++ z)
+    (c.run_each.ensures ∙ ap (λ (z : List (Element Job)). reverse (map ran z) ++ back.1.0.done) left) in
+    subst (λ (z : List (Element Job)). Same (map ran c.args.jobs) z) (sym done) all.2
