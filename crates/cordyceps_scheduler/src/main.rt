@@ -8,7 +8,6 @@
 ghost use Rattle.std.specs.Prelude.{◌≤◌, length, IfSome};
 
 use cordyceps::{List, Stack};
-use cordyceps_shared_uses::scheduler::holding::Followed;
 use cordyceps_shared_uses::scheduler::places::Task;
 use cordyceps_shared_uses::scheduler::{Outcome, birth, run};
 use std::alloc::Global;
@@ -81,8 +80,7 @@ fn main(rt: HostRuntime) -> ExitCode {
         return out_of_memory(&rt);
     };
     let submitted = tasks.len();
-    let followed = Followed::new(0, ROUNDS);
-    let Ok(outcome) = run(&rt, rt.alloc(), tasks, ROOMS, TURNS, followed) else {
+    let Ok(outcome) = run(&rt, rt.alloc(), tasks, ROOMS, TURNS) else {
         return out_of_memory(&rt);
     };
     let shown = match println!(rt; "submitted {submitted}") {

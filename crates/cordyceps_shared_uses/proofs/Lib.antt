@@ -1,3 +1,4 @@
+mod Accounting
 mod Deadlines
 mod Scheduling
 pub mod Sharing

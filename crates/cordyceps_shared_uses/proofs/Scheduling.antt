@@ -1,10 +1,10 @@
--- How often the followed task is in a place, after a task went in or out, and that all are found again in the end.
-use Rattle.std.proofs.Common.{◌≡◌, ℕ, ◌+◌, ◌*◌, Bool, ◌&&◌, true, false, cond, nat_lt, List, [], ◌∷◌, ◌++◌, map, refl, ap, ◌∙◌, eq-eqb, arith}
-use Rattle.std.specs.Prelude.{Result, nat_eq}
-use Rattle.std.proofs.lemmas.Bool.{eqb-true}
+-- What accounts of a scheduler hold after a task went in or out, and that all tasks are found again in the end.
+use Rattle.std.proofs.Common.{◌≡◌, ℕ, ◌+◌, ◌*◌, Bool, ◌&&◌, true, false, cond, nat_lt, List, [], ◌∷◌, ◌++◌, map, refl, sym, ap, ◌∙◌, subst, eq-eqb, arith}
+use Rattle.std.specs.Prelude.{Result, Ok, Err, nat_eq}
 use denote.RawPtr.{Ptr}
 use Rattle.cordyceps.specs.Elements.Element.{Element, Elements}
 use Rattle.cordyceps.specs.Elements.Nodes.{Nodes}
+use Rattle.cordyceps.specs.Parties.Counts.{tally, Same}
 use Rattle.cordyceps.specs.Parties.Histories.{plain}
 use Rattle.cordyceps.specs.Parties.Seated.{TableId}
 use Rattle.cordyceps.specs.Parties.Sending.{Splits}
@@ -20,77 +20,177 @@ use Rattle.cordyceps.specs.Queues.TryDequeueError.{TryDequeueError}
 use Rattle.cordyceps.proofs.Queues.PartyMoves.{all_kept, moves_dequeue}
 use Rattle.cordyceps.proofs.Queues.Sending.{then_enqueues}
 use Rattle.cordyceps_shared_uses.specs.declared.timers.Timer.{Timer}
+use Rattle.cordyceps_shared_uses.specs.declared.scheduler.name.Name.{Name}
 use Rattle.cordyceps_shared_uses.specs.declared.scheduler.work.Work.{Work}
-use Rattle.cordyceps_shared_uses.specs.Scheduler.{one_of, times, works, asleep, all_done}
+use Rattle.cordyceps_shared_uses.specs.Accounts.{Entries, Moved, Holds, IsOpen, after_getting, after_giving, joined}
+use Rattle.cordyceps_shared_uses.specs.Names.{name_of, names, asleep}
+use Rattle.cordyceps_shared_uses.specs.Scheduler.{all_done}
 use Rattle.cordyceps_shared_uses.specs.Timers.{started}
-use Rattle.cordyceps_shared_uses.specs.Ways.{Seat, work_of, Sent, Woken, Came}
+use Rattle.cordyceps_shared_uses.specs.Ways.{Seat, Sent, SentAll, Woken, Came, Settles}
 
-module _ (n r : ℕ) where
-  started_by : (b : Bool) (x y : Ptr × Element (Timer Work)) (s t : Nodes (Timer Work)) → times n r (asleep t) ≡ one_of n r y.1.value.payload + times n r (asleep s)
-      → times n r (asleep (cond b (y ∷ x ∷ s) (x ∷ t))) ≡ one_of n r y.1.value.payload + times n r (asleep (x ∷ s))
+-- ---- what is in a place
+module _ (f : Name → ℕ) where
+  started_by : (b : Bool) (x y : Ptr × Element (Timer Work)) (s t : Nodes (Timer Work)) → tally f (asleep t) ≡ f (name_of y.1) + tally f (asleep s)
+      → tally f (asleep (cond b (y ∷ x ∷ s) (x ∷ t))) ≡ f (name_of y.1) + tally f (asleep (x ∷ s))
   started_by true x y s t is = refl
   started_by false x y s t is = omega arith
 
   -- one more sleeps
-  times_started : (q : Ptr) (t : Element (Timer Work)) (s : Nodes (Timer Work)) → times n r (asleep (started q t s)) ≡ one_of n r t.value.payload + times n r (asleep s)
-  times_started q t [] = refl
-  times_started q t (x ∷ s) = started_by (nat_lt t.value.deadline x.1.value.deadline) x (q, t) s (started q t s) (times_started q t s)
-
-  pub times_restarted : (q : Ptr) (t : Element (Timer Work)) (s u : Nodes (Timer Work)) → u ≡ started q t s → times n r (asleep u) ≡ one_of n r t.value.payload + times n r (asleep s)
-  times_restarted q t s u is = ap (λ z. times n r (asleep z)) is ∙ times_started q t s
+  tally_started : (q : Ptr) (t : Element (Timer Work)) (s : Nodes (Timer Work)) → tally f (asleep (started q t s)) ≡ f (name_of t) + tally f (asleep s)
+  tally_started q t [] = refl
+  tally_started q t (x ∷ s) = started_by (nat_lt t.value.deadline x.1.value.deadline) x (q, t) s (started q t s) (tally_started q t s)
 
   -- one more waits
-  pub times_put : (s : Elements (Timer Work)) (e : Element (Timer Work)) → times n r (works (s ++ e ∷ [])) ≡ times n r (works s) + one_of n r e.value.payload
-  times_put [] e = omega arith
-  times_put (x ∷ s) e = omega (arith, times_put s e)
+  tally_put : (s : Elements (Timer Work)) (e : Element (Timer Work)) → tally f (names (s ++ e ∷ [])) ≡ f (name_of e) + tally f (names s)
+  tally_put [] e = omega arith
+  tally_put (x ∷ s) e = omega (arith, tally_put s e)
 
-  -- ---- what a party sent, which came to its hands before
-  pub woken_none : (a : ℕ) (u : Seat) → Woken n r a a u u
-  woken_none a u = record { tasks = []; sent = moves_none (put_by work_of) (got_by work_of) u; held = omega arith }
+-- ---- accounts
+pub open_got : {z : TableId} {x : Name} {a b : Entries} → IsOpen z a → b ≡ after_getting x a → IsOpen z b
+open_got {z = z} o e = subst (IsOpen z) (sym e) (o.0, o.1)
 
-  pub woken_more : {a b : ℕ} {u v : Seat} (e : Element (Timer Work)) (c : ℕ) (w : Seat) → Woken n r a b u v → c ≡ b + one_of n r e.value.payload → Enqueues e v w
-      → Woken n r a c u w
-  woken_more e c w is more at = record {
-    tasks = is.tasks ++ work_of e ∷ [];
-    sent = then_enqueues work_of e w is.sent at;
-    held = omega (arith, is.held, more, tally_append (one_of n r) is.tasks (work_of e ∷ []));
-  }
+pub open_moved : {z : TableId} {gs vs : List Name} {a b : Entries} → IsOpen z a → Moved gs vs a b → IsOpen z b
+open_moved o m = (m.table ∙ o.0, m.parts ∙ o.1)
 
-  -- after it sent others
-  pub woken_after : {a b c : ℕ} {u v w : Seat} (ws : List Work) → Sent ws u v → b ≡ a + times n r ws → Woken n r b c v w → Woken n r a c u w
-  woken_after {u = u} {v = v} {w = w} ws sent first is = record {
-    tasks = ws ++ is.tasks;
-    sent = moves_then (put_by work_of) (got_by work_of) ws [] is.tasks [] u v w sent is.sent;
-    held = omega (arith, first, is.held, tally_append (one_of n r) ws is.tasks);
-  }
+holds_got : {x : Name} {a b : Entries} (xs ys : List Name) → Holds a xs → b ≡ after_getting x a → ((f : Name → ℕ) → tally f ys ≡ f x + tally f xs) → Holds b ys
+holds_got xs ys h e more f = omega (arith, h f, more f, ap (λ (z : Entries). tally f z.got) e, ap (λ (z : Entries). tally f z.gave) e)
 
-  -- ---- what a party received, and gave away
-  pub came_none : (a : ℕ) (u : Seat) → Came n r a a u u
-  came_none a u = record { tasks = []; took = moves_none (put_by work_of) (got_by work_of) u; given = omega arith }
+-- a task went to sleep; its deadline may be another than before
+pub holds_slept : {x : Name} {a b : Entries} (q : Ptr) (t : Element (Timer Work)) (s u : Nodes (Timer Work)) → Holds a (asleep s) → b ≡ after_getting x a → x ≡ name_of t
+    → u ≡ started q t s → Holds b (asleep u)
+holds_slept q t s u h e same is = holds_got (asleep s) (asleep u) h e (λ f. ap (λ z. tally f (asleep z)) is ∙ (tally_started f q t s ∙ ap (λ y. f y + tally f (asleep s)) (sym same)))
 
-  pub came_then : {a b c : ℕ} {u v w : Seat} → Came n r a b u v → Came n r b c v w → Came n r a c u w
-  came_then {u = u} {v = v} {w = w} is next = record {
-    tasks = is.tasks ++ next.tasks;
-    took = moves_then (put_by work_of) (got_by work_of) [] is.tasks [] next.tasks u v w is.took next.took;
-    given = omega (arith, is.given, next.given, tally_append (one_of n r) is.tasks next.tasks);
-  }
+pub holds_put : {x : Name} {a b : Entries} (t : Element (Timer Work)) (s u : Elements (Timer Work)) → Holds a (names s) → b ≡ after_getting x a → x ≡ name_of t
+    → u ≡ s ++ t ∷ [] → Holds b (names u)
+holds_put t s u h e same is = holds_got (names s) (names u) h e (λ f. ap (λ z. tally f (names z)) is ∙ (tally_put f s t ∙ ap (λ y. f y + tally f (names s)) (sym same)))
 
-  pub came_try : (a c : ℕ) (t : Result (Element (Timer Work)) TryDequeueError) (u w : Seat) → c + times n r (got_by_try work_of t) ≡ a → Dequeues t u w → Came n r a c u w
-  came_try a c t u w is at = record {
-    tasks = got_by_try work_of t;
-    took = moves_dequeue work_of t u w at;
-    given = is;
-  }
+moved_none : (a : Entries) → Moved [] [] a a
+moved_none a = record { table = refl; parts = refl; got = λ f. omega arith; gave = λ f. omega arith }
 
--- the dispatcher is whole again, and what it received, and then what is left, is what was sent
-pub found : {k : ℕ} {id : TableId} {u kept other v o w : Seat} {got sent : List Work} → u ≡ new_party id k → Splits k u kept other
-    → Moves work_of [] got kept v → Moves work_of sent [] other o → Absorbs (λ h. Legal h) v o w
-    → (w.table ≡ id) × (w.share ≡ whole) × (sent ≡ got ++ map work_of (held (plain w.seen)))
-found new split mine theirs m =
-    exchanged (λ h. map work_of (held h)) (λ h legal. all_kept work_of same_name h legal) new (omega arith) split mine theirs m
+-- ---- what a party sent, which came to its account before
+pub woken_none : (a : Entries) (u : Seat) → Woken a a u u
+woken_none a u = record { tasks = []; sent = moves_none (put_by name_of) (got_by name_of) u; moved = moved_none a }
+
+pub woken_more : {a b : Entries} {u v : Seat} (e : Element (Timer Work)) (c : Entries) (w : Seat) → Woken a b u v → c ≡ after_getting (name_of e) b → Enqueues e v w → Woken a c u w
+woken_more e c w is more at = record {
+  tasks = is.tasks ++ name_of e ∷ [];
+  sent = then_enqueues name_of e w is.sent at;
+  moved = record {
+    table = ap (λ (z : Entries). z.table) more ∙ is.moved.table;
+    parts = ap (λ (z : Entries). z.parts) more ∙ is.moved.parts;
+    got = λ f. omega (arith, is.moved.got f, ap (λ (z : Entries). tally f z.got) more, tally_append f is.tasks (name_of e ∷ []));
+    gave = λ f. omega (arith, is.moved.gave f, ap (λ (z : Entries). tally f z.gave) more);
+  };
+}
+
+-- after it sent others
+pub woken_after : {a b : Entries} {u v w : Seat} (xs : List Name) → Sent xs u v → Woken a b v w → SentAll xs a b u w
+woken_after {u = u} {v = v} {w = w} xs sent is = record {
+  woken = is.tasks;
+  sent = moves_then (put_by name_of) (got_by name_of) xs [] is.tasks [] u v w sent is.sent;
+  moved = is.moved;
+}
+
+-- ---- what a party received, and gave away
+pub came_none : (a : Entries) (u : Seat) → Came a a u u
+came_none a u = record { tasks = []; took = moves_none (put_by name_of) (got_by name_of) u; moved = moved_none a }
+
+pub came_then : {a b c : Entries} {u v w : Seat} → Came a b u v → Came b c v w → Came a c u w
+came_then {u = u} {v = v} {w = w} is next = record {
+  tasks = is.tasks ++ next.tasks;
+  took = moves_then (put_by name_of) (got_by name_of) [] is.tasks [] next.tasks u v w is.took next.took;
+  moved = record {
+    table = next.moved.table ∙ is.moved.table;
+    parts = next.moved.parts ∙ is.moved.parts;
+    got = λ f. omega (arith, is.moved.got f, next.moved.got f);
+    gave = λ f. omega (arith, is.moved.gave f, next.moved.gave f, tally_append f is.tasks next.tasks);
+  };
+}
+
+pub came_try : (a c : Entries) (t : Result (Element (Timer Work)) TryDequeueError) (u w : Seat) → Moved [] (got_by_try name_of t) a c → Dequeues t u w → Came a c u w
+came_try a c t u w is at = record { tasks = got_by_try name_of t; took = moves_dequeue name_of t u w at; moved = is }
+
+-- it found none
+pub came_nothing : (a : Entries) (e : TryDequeueError) (u w : Seat) → Dequeues (Err e) u w → Came a a u w
+came_nothing a e u w at = came_try a a (Err e) u w (moved_none a) at
+
+-- it gave what it took away
+pub came_one : (a c : Entries) (t : Element (Timer Work)) (u w : Seat) → c ≡ after_giving (name_of t) a → Dequeues (Ok t) u w → Came a c u w
+came_one a c t u w e at =
+    came_try a c (Ok t) u w
+    (record {
+      table = ap (λ (z : Entries). z.table) e;
+      parts = ap (λ (z : Entries). z.parts) e;
+      got = λ f. omega (arith, ap (λ (z : Entries). tally f z.got) e);
+      gave = λ f. omega (arith, ap (λ (z : Entries). tally f z.gave) e);
+    })
+    at
+
+-- ---- what a worker did
+-- t is done, maybe as the task e, which has its name
+pub settles_done : (t e : Element (Timer Work)) (a b : Entries) (before after : Elements (Timer Work)) → b ≡ a → name_of e ≡ name_of t → after ≡ e ∷ before → Settles t a b before after
+settles_done t e a b before after none same is = record {
+  table = ap (λ (z : Entries). z.table) none;
+  parts = ap (λ (z : Entries). z.parts) none;
+  got = ap (λ (z : Entries). z.got) none;
+  gave = λ f. omega (arith, ap (λ (z : Entries). tally f z.gave) none, ap (λ z. tally f (names z)) is, ap f same);
+}
+
+pub holds_settled : {x : Name} {a b c : Entries} (t : Element (Timer Work)) (before after : Elements (Timer Work)) → Holds a (names before) → b ≡ after_getting x a
+    → name_of t ≡ x → Settles t b c before after → Holds c (names after)
+holds_settled t before after h e same s f =
+    omega (arith, h f, ap (λ (z : Entries). tally f z.got) e, ap (λ (z : Entries). tally f z.gave) e, ap f same, ap (tally f) s.got, s.gave f)
 
 -- one more is done, since its sum is always that of the rounds that it ran
-pub done_more : (w : Work) (ws : List Work) → nat_eq w.ran w.rounds ≡ true → all_done ws ≡ true → all_done (w ∷ ws) ≡ true
-done_more w ws ran all =
-    let same : w.sum ≡ w.rounds * w.number = w.worked ∙ ap (λ k. k * w.number) (eqb-true w.ran w.rounds ran) in
-    ap (λ b. (b && nat_eq w.sum (w.rounds * w.number)) && all_done ws) ran ∙ (ap (λ b. b && all_done ws) (eq-eqb w.sum (w.rounds * w.number) same) ∙ all)
+pub done_more : (t : Element (Timer Work)) (s u : Elements (Timer Work)) → t.value.payload.ran ≡ t.value.payload.rounds → u ≡ t ∷ s → all_done s ≡ true → all_done u ≡ true
+done_more t s u ran is all =
+    let w = t.value.payload in
+    let same : w.sum ≡ w.rounds * w.number = w.worked ∙ ap (λ k. k * w.number) ran in
+    ap all_done is ∙ (ap (λ b. (b && nat_eq w.sum (w.rounds * w.number)) && all_done s) (eq-eqb w.ran w.rounds ran) ∙ (ap (λ b. b && all_done s) (eq-eqb w.sum (w.rounds * w.number) same) ∙ all))
+
+-- ---- in the end
+-- what six accounts got in all is what they gave
+pub six_even : (s r t u v w all : Entries) (ss rs vs ws : List Name) → all ≡ joined (joined (joined (joined (joined s r) t) u) v) w → Same all.got all.gave
+    → Holds s ss → Holds r rs → Holds v vs → Holds w ws
+    → (f : Name → ℕ) → tally f t.got + tally f u.got + tally f ss + tally f rs + tally f vs + tally f ws ≡ tally f t.gave + tally f u.gave
+six_even s r t u v w all ss rs vs ws is even a b c d f =
+    omega (
+      arith,
+      even f,
+      ap (λ (z : Entries). tally f z.got) is,
+      ap (λ (z : Entries). tally f z.gave) is,
+      a f,
+      b f,
+      c f,
+      d f,
+      five f s.got r.got t.got u.got v.got w.got,
+      five f s.gave r.gave t.gave u.gave v.gave w.gave,
+    )
+  where
+    five : (f : Name → ℕ) (a b c d e g : List Name) → tally f (((((a ++ b) ++ c) ++ d) ++ e) ++ g) ≡ tally f a + tally f b + tally f c + tally f d + tally f e + tally f g
+    five f a b c d e g =
+        omega (arith, tally_append f ((((a ++ b) ++ c) ++ d) ++ e) g, tally_append f (((a ++ b) ++ c) ++ d) e, tally_append f ((a ++ b) ++ c) d, tally_append f (a ++ b) c, tally_append f a b)
+
+-- the dispatcher is whole again, and what it received, and then what is left, is what was sent
+pub found : {k : ℕ} {id : TableId} {u kept other v o w : Seat} {got sent : List Name} → u ≡ new_party id k → Splits k u kept other
+    → Moves name_of [] got kept v → Moves name_of sent [] other o → Absorbs (λ h. Legal h) v o w
+    → (w.table ≡ id) × (w.share ≡ whole) × (sent ≡ got ++ map name_of (held (plain w.seen)))
+found new split mine theirs m =
+    exchanged (λ h. map name_of (held h)) (λ h legal. all_kept name_of same_name h legal) new (omega arith) split mine theirs m
+
+-- those that are somewhere are those that were given
+pub all_found : (tasks woken came on_way sleeping waiting first second : List Name) → tasks ++ woken ≡ came ++ on_way
+    → ((f : Name → ℕ) → tally f woken + tally f sleeping + tally f waiting + tally f first + tally f second ≡ tally f came)
+    → Same tasks (sleeping ++ (on_way ++ (waiting ++ (first ++ second))))
+all_found tasks woken came on_way sleeping waiting first second sent even f =
+    omega (
+      arith,
+      ap (tally f) sent,
+      even f,
+      tally_append f tasks woken,
+      tally_append f came on_way,
+      tally_append f sleeping (on_way ++ (waiting ++ (first ++ second))),
+      tally_append f on_way (waiting ++ (first ++ second)),
+      tally_append f waiting (first ++ second),
+      tally_append f first second,
+    )

@@ -1,4 +1,7 @@
+pub mod Accounts
 pub mod Mailbox
+pub mod Names
+pub mod Outcomes
 pub mod Pool
 pub mod RunQueue
 pub mod Scheduler

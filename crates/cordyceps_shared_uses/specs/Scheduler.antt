@@ -1,40 +1,29 @@
--- Tasks of a scheduler, and how often one of them stands in a place.
-use Rattle.std.specs.Prelude.{◌≡◌, ℕ, ◌*◌, List, [], ◌∷◌, map, Bool, true, cond, nat_eq, ◌&&◌}
-use Rattle.cordyceps.specs.Elements.Element.{Elements}
-use Rattle.cordyceps.specs.Elements.Nodes.{Nodes}
-use Rattle.cordyceps.specs.Parties.Counts.{tally}
+-- Tasks of a scheduler, and what their rounds make of them.
+use Rattle.std.specs.Prelude.{◌≡◌, ℕ, ◌+◌, ◌-◌, ◌*◌, ◌^◌, [], ◌∷◌, Bool, true, min, nat_eq, ◌&&◌}
+use Rattle.cordyceps.specs.Elements.Element.{Element, Elements}
 use Rattle.cordyceps_shared_uses.specs.declared.timers.Timer.{Timer}
 use Rattle.cordyceps_shared_uses.specs.declared.scheduler.work.Work.{Work}
-
--- which task is followed: one with this number, and so many rounds
-pub record Name : Type 0 where
-  pub number : ℕ
-  pub rounds : ℕ
-
--- one for a task with the number n and r rounds, and none for another
-abbrev pub one_of : ℕ → ℕ → Work → ℕ
-one_of n r w = cond (nat_eq w.number n && nat_eq w.rounds r) 1 0
 
 -- it has this number, so many rounds, none of which it ran, and sleeps so long between them
 abbrev pub IsNew : ℕ → ℕ → ℕ → Work → Type 0
 IsNew n r p w = (w.number ≡ n) × (w.rounds ≡ r) × (w.pause ≡ p) × (w.ran ≡ 0)
 
--- how often a task with the number n and r rounds is among these
-abbrev pub times : ℕ → ℕ → List Work → ℕ
-times n r ws = tally (one_of n r) ws
+-- from before to after it ran so many rounds, and nothing else of it changed but the sum
+pub record Ran (n : ℕ) (before after : Work) : Type 0 where
+  pub number : after.number ≡ before.number
+  pub rounds : after.rounds ≡ before.rounds
+  pub pause : after.pause ≡ before.pause
+  pub ran : after.ran ≡ before.ran + n
+  pub sum : after.sum ≡ before.sum + n * before.number
 
--- the tasks of a collection
-abbrev pub works : Elements (Timer Work) → List Work
-works s = map (λ e. e.value.payload) s
-
--- those that sleep until their deadlines, each at its spot
-abbrev pub asleep : Nodes (Timer Work) → List Work
-asleep s = map (λ n. n.1.value.payload) s
+-- the task as it sleeps from the time now on: until its pause is over
+abbrev pub paused : ℕ → Element (Timer Work) → Element (Timer Work)
+paused now t = record { id = t.id; value = record { deadline = min (now + t.value.payload.pause) (2 ^ 64 - 1); payload = t.value.payload } }
 
 -- each ran all its rounds, and its sum is that of all
 abbrev pub is_done : Work → Bool
 is_done w = nat_eq w.ran w.rounds && nat_eq w.sum (w.rounds * w.number)
 
-abbrev pub all_done : List Work → Bool
+abbrev pub all_done : Elements (Timer Work) → Bool
 all_done [] = true
-all_done (w ∷ ws) = is_done w && all_done ws
+all_done (e ∷ s) = is_done e.value.payload && all_done s

@@ -1,5 +1,5 @@
 -- Timers, each with its spot: the earliest deadline first, equals as they were started.
-use Rattle.std.specs.Prelude.{ℕ, ◌≤◌, [], ◌∷◌, nat_lt, if◌then◌else◌}
+use Rattle.std.specs.Prelude.{ℕ, ◌≤◌, [], ◌∷◌, nat_lt, if◌then◌else◌, Option, None, Some}
 use Rattle.std.specs.List.{AllByRecursion}
 use denote.RawPtr.{Ptr}
 use Rattle.cordyceps.specs.Elements.Element.{Element}
@@ -19,6 +19,16 @@ module _ {P : Type 0} where
   abbrev pub started : Ptr → Element (Timer P) → Nodes (Timer P) → Nodes (Timer P)
   started q t [] = (q, t) ∷ []
   started q t (x ∷ s) = if nat_lt t.value.deadline x.1.value.deadline then (q, t) ∷ x ∷ s else x ∷ started q t s
+
+  -- the time goes on to the earliest deadline, where a timer runs
+  abbrev pub until_first : ℕ → Nodes (Timer P) → ℕ
+  until_first now [] = now
+  until_first now (x ∷ s) = x.1.value.deadline
+
+  -- the earliest deadline
+  abbrev pub first_deadline : Nodes (Timer P) → Option ℕ
+  first_deadline [] = None
+  first_deadline (x ∷ s) = Some x.1.value.deadline
 
   -- those that are due
   abbrev pub due : ℕ → Nodes (Timer P) → Nodes (Timer P)

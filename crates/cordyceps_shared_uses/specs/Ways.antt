@@ -1,33 +1,44 @@
--- What a party of the scheduler sent and received, and how often the followed task was among that.
-use Rattle.std.specs.Prelude.{◌≡◌, ℕ, ◌+◌, List, []}
-use Rattle.cordyceps.specs.Elements.Element.{Element}
+-- What a party of the scheduler sent and received, and what its thread's account got and gave.
+use Rattle.std.specs.Prelude.{◌≡◌, ℕ, ◌+◌, List, [], ◌++◌}
+use Rattle.cordyceps.specs.Elements.Element.{Element, Elements}
+use Rattle.cordyceps.specs.Parties.Counts.{tally}
 use Rattle.cordyceps.specs.Queues.Calls.{PartyOf}
 use Rattle.cordyceps.specs.Queues.Moves.{Moves}
-use Rattle.cordyceps_shared_uses.specs.declared.timers.Timer.{Timer}
+use Rattle.cordyceps_shared_uses.specs.Accounts.{Entries, Moved}
+use Rattle.cordyceps_shared_uses.specs.Names.{name_of, names}
+use Rattle.cordyceps_shared_uses.specs.declared.scheduler.name.Name.{Name}
 use Rattle.cordyceps_shared_uses.specs.declared.scheduler.work.Work.{Work}
-use Rattle.cordyceps_shared_uses.specs.Scheduler.{times}
-
--- what an element has to do
-abbrev pub work_of : Element (Timer Work) → Work
-work_of e = e.value.payload
+use Rattle.cordyceps_shared_uses.specs.declared.timers.Timer.{Timer}
 
 -- what is seen of a party
 abbrev pub Seat : Type 0
 Seat = PartyOf (Element (Timer Work))
 
 -- from u to w a party sent these tasks, and received none
-abbrev pub Sent : List Work → Seat → Seat → Type 0
-Sent ws u w = Moves work_of ws [] u w
+abbrev pub Sent : List Name → Seat → Seat → Type 0
+Sent xs u w = Moves name_of xs [] u w
 
--- n and r: the number and the rounds of the task that is followed. From u to w a party sent some tasks, which came to
--- its hands before, and so it holds as many more: b after a
-pub record Woken (n r a b : ℕ) (u w : Seat) : Type 0 where
-  pub tasks : List Work
+-- from u to w a party sent some tasks, which the account got before, from a to b
+pub record Woken (a b : Entries) (u w : Seat) : Type 0 where
+  pub tasks : List Name
   pub sent : Sent tasks u w
-  pub held : b ≡ a + times n r tasks
+  pub moved : Moved tasks [] a b
 
--- from u to w a party received some tasks, which it gave away, and so it holds as many less
-pub record Came (n r a b : ℕ) (u w : Seat) : Type 0 where
-  pub tasks : List Work
-  pub took : Moves work_of [] tasks u w
-  pub given : b + times n r tasks ≡ a
+-- from u to w a party sent these tasks, and then some that it woke
+pub record SentAll (xs : List Name) (a b : Entries) (u w : Seat) : Type 0 where
+  pub woken : List Name
+  pub sent : Sent (xs ++ woken) u w
+  pub moved : Moved woken [] a b
+
+-- from u to w a party received some tasks, which the account gave away, from a to b
+pub record Came (a b : Entries) (u w : Seat) : Type 0 where
+  pub tasks : List Name
+  pub took : Moves name_of [] tasks u w
+  pub moved : Moved [] tasks a b
+
+-- a worker, whose account goes from a to b, put t to sleep, or on those that are done
+pub record Settles (t : Element (Timer Work)) (a b : Entries) (before after : Elements (Timer Work)) : Type 0 where
+  pub table : b.table ≡ a.table
+  pub parts : b.parts ≡ a.parts
+  pub got : b.got ≡ a.got
+  pub gave : (f : Name → ℕ) → tally f b.gave + tally f (names after) ≡ f (name_of t) + (tally f a.gave + tally f (names before))

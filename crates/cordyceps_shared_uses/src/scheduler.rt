@@ -1,17 +1,23 @@
 //! A scheduler: tasks sleep until they are due, wait for a worker, run, and sleep again until they are done, on four
 //! threads. Each keeps the node that it was made in, which goes from a sorted list to a queue, to a list, to a stack.
-ghost use Rattle.std.specs.Prelude.{◌≡◌, ◌+◌, ◌≤◌, length, true, IfErr, IfOk};
+ghost use Rattle.std.specs.Prelude.{◌≡◌, ℕ, ◌+◌, ◌≤◌, [], length, true, IfErr, IfOk};
 ghost use Rattle.std.specs.Thread.{IsSync};
-ghost use Rattle.cordyceps_shared_uses.specs.Scheduler.{all_done, asleep, times, works, IsNew};
-ghost use Rattle.cordyceps_shared_uses.specs.Ways.{Came, Woken};
+ghost use Rattle.cordyceps.specs.Parties.Counts.{tally, Same};
+ghost use Rattle.cordyceps_shared_uses.specs.Accounts.{Holds, IsOpen, opened};
+ghost use Rattle.cordyceps_shared_uses.specs.Names.{asleep, names};
+ghost use Rattle.cordyceps_shared_uses.specs.Outcomes.{everywhere};
+ghost use Rattle.cordyceps_shared_uses.specs.Scheduler.{all_done, IsNew};
+ghost use Rattle.cordyceps_shared_uses.specs.Ways.{Came, SentAll};
+ghost use Rattle.cordyceps_shared_uses.specs.declared.scheduler.name.Name.{Name};
 
-pub mod holding;
+pub mod accounts;
+pub mod name;
 pub mod places;
 pub mod threads;
 pub mod work;
 
-use crate::scheduler::holding::{Follow, Followed, Holding};
-use crate::scheduler::places::{Runnable, Sleepers, Task};
+use crate::scheduler::accounts::{Account, Accounts};
+use crate::scheduler::places::{Run, Runnable, Sleepers, Task};
 use crate::scheduler::threads::{Shared, Worked, dispatch, submit, wake, work};
 use crate::scheduler::work::Work;
 use crate::timers::{Timer, Timers};
@@ -21,7 +27,6 @@ use cordyceps::{List, MpscQueue, Node, Refused, Stack};
 use std::alloc::Global;
 use std::marker::Brand;
 use std::sync::atomic::AtomicU64;
-use std::sync::ledger::{Blank, Book, Share};
 use std::sync::{Mutex, Wait};
 use std::thread;
 use std::thread::Threads;
@@ -51,6 +56,7 @@ pub fn birth(
     pause: u32,
 ) -> Result<Node<Task, Links<Task>>, Refused<Task>>
     ensures made { IfOk result (λ t. IsNew number rounds pause t.value.payload) }
+    ensures id { IfOk result (λ t. t.id ≡ number) }
     ensures returned { IfErr result (λ e. IsNew number rounds pause e.value.payload) }
 {
     let task = Timer {
@@ -60,231 +66,198 @@ pub fn birth(
     Node::new(alloc, number as u64, task)
 }
 
-/// The holdings of the two places and of the four threads.
+/// The accounts of the two places and of the four threads.
 #[derive(Drop)]
-struct Holdings<L: Follow> {
-    sleepers: Holding<L>,
-    runnable: Holding<L>,
-    submitter: Holding<L>,
-    dispatcher: Holding<L>,
-    workers: (Holding<L>, Holding<L>),
+struct Opened {
+    sleepers: Account,
+    runnable: Account,
+    submitter: Account,
+    dispatcher: Account,
+    workers: (Account, Account),
 }
 
-/// Cuts the whole share. The dispatcher has an advance of one for each of so many turns, and the others hold nothing.
-fn cut<L: Follow>(
-    book: &mut Book<L>,
-    share: Share<L>,
-    followed: Followed,
-    turns: u64,
-) -> Holdings<L>
-    requires parts { share.parts ≡ 6 }
-    requires none { share.amount ≡ 0 }
-    requires followed { (followed.number ≡ L.number) × (followed.rounds ≡ L.rounds) }
-    ensures places { (result.sleepers.share.amount ≡ 0) × (result.runnable.share.amount ≡ 0) }
-    ensures submitter { result.submitter.share.amount ≡ 0 }
-    ensures dispatcher { result.dispatcher.share.amount ≡ turns }
-    ensures workers { (result.workers.0.share.amount ≡ 0) × (result.workers.1.share.amount ≡ 0) }
-    ensures book { book.new.total ≡ book.old.total + turns }
+/// Cuts an account of six parts into six, which got and gave nothing yet.
+fn cut(accounts: &Accounts, account: Account) -> Opened
+    requires { account ≡ opened accounts.now.table 6 }
+    ensures places { (result.sleepers ≡ opened accounts.now.table 1) × (result.runnable ≡ opened accounts.now.table 1) }
+    ensures submitter { result.submitter ≡ opened accounts.now.table 1 }
+    ensures dispatcher { result.dispatcher ≡ opened accounts.now.table 1 }
+    ensures workers { (result.workers.0 ≡ opened accounts.now.table 1)
+        × (result.workers.1 ≡ opened accounts.now.table 1) }
 {
-    let mut share = share;
-    let sleepers = Holding::new(followed, share.split_off(1, 0));
-    let runnable = Holding::new(followed, share.split_off(1, 0));
-    let submitter = Holding::new(followed, share.split_off(1, 0));
-    let first = Holding::new(followed, share.split_off(1, 0));
-    let second = Holding::new(followed, share.split_off(1, 0));
-    book.add(&mut share, turns);
-    Holdings {
+    let mut account = account;
+    let sleepers = accounts.split(&mut account, 1);
+    let runnable = accounts.split(&mut account, 1);
+    let submitter = accounts.split(&mut account, 1);
+    let first = accounts.split(&mut account, 1);
+    let second = accounts.split(&mut account, 1);
+    Opened {
         sleepers,
         runnable,
         submitter,
-        dispatcher: Holding::new(followed, share),
+        dispatcher: account,
         workers: (first, second),
     }
 }
 
-/// What the submitter is left with: its party, its holding, and the book of all.
+/// What the submitter or the dispatcher has, and is left with: its party and its account.
 #[derive(Drop)]
-struct Submitted<L: Follow> {
+struct Actor {
     party: Party<Task>,
-    holding: Holding<L>,
-    book: Book<L>,
-}
-
-/// What the dispatcher is left with: its party and its holding.
-#[derive(Drop)]
-struct Dispatched<L: Follow> {
-    party: Party<Task>,
-    holding: Holding<L>,
+    account: Account,
 }
 
 /// Sends all tasks, and then wakes those that are due.
-fn submit_and_wake<L: Follow, R: Wait>(
+fn submit_and_wake<L: Run, R: Wait>(
     rt: &R,
     queue: &MpscQueue<Task>,
-    mut from: Submitted<L>,
+    mut from: Actor,
     shared: &Shared<L>,
     tasks: List<Task>,
     turns: u64,
-) -> Submitted<L>
+) -> Actor
     requires table { from.party.table ≡ queue.now.table }
     requires room { length tasks ≤ from.party.rooms }
-    ensures sent { Woken L.number L.rounds
-        from.holding.share.amount result.holding.share.amount
-        from.party result.party }
-    ensures all { result.book.total ≡ from.book.total + times L.number L.rounds (works tasks) }
+    requires of { IsOpen L.accounts from.account }
+    ensures { SentAll (names tasks) from.account result.account from.party result.party }
 {
-    submit(
-        queue,
-        &mut from.party,
-        tasks,
-        &mut from.holding,
-        &mut from.book,
-    );
-    wake(rt, queue, &mut from.party, shared, &mut from.holding, turns);
+    submit(queue, &mut from.party, tasks);
+    wake(rt, queue, &mut from.party, shared, &mut from.account, turns);
     from
 }
 
 /// Dispatches, as the dispatcher's thread does.
-fn dispatch_all<L: Follow, R: Wait>(
+fn dispatch_all<L: Run, R: Wait>(
     rt: &R,
     queue: &MpscQueue<Task>,
-    mut from: Dispatched<L>,
+    mut from: Actor,
     shared: &Shared<L>,
     turns: u64,
-) -> Dispatched<L>
+) -> Actor
     requires table { from.party.table ≡ queue.now.table }
-    requires advance { turns ≤ from.holding.share.amount }
-    ensures { Came L.number L.rounds from.holding.share.amount result.holding.share.amount from.party result.party }
+    requires of { IsOpen L.accounts from.account }
+    ensures { Came from.account result.account from.party result.party }
 {
-    dispatch(rt, queue, &mut from.party, shared, &mut from.holding, turns);
+    dispatch(rt, queue, &mut from.party, shared, &mut from.account, turns);
     from
 }
 
 /// Two workers, each on a thread.
-fn work_both<L: Follow + Sync, R: Threads + Wait + Sync>(
+fn work_both<L: Run + Send + Sync, R: Threads + Wait + Sync>(
     rt: &R,
     shared: &Shared<L>,
-    workers: (Holding<L>, Holding<L>),
+    workers: (Account, Account),
     turns: u64,
 ) -> (Worked<L>, Worked<L>)
-    requires { (workers.0.share.amount ≡ 0) × (workers.1.share.amount ≡ 0) }
+    requires of { IsOpen L.accounts workers.0 × IsOpen L.accounts workers.1 }
+    requires none { Holds workers.0 [] × Holds workers.1 [] }
 {
     let (first, second) = workers;
     thread::join(
         rt,
         || -> Worked<L>
-            requires { IsSync R.row × (first.share.amount ≡ 0) }
+            requires { IsSync R.row × IsOpen L.accounts first × Holds first [] }
         { work(rt, shared, first, turns) },
         || -> Worked<L>
-            requires { IsSync R.row × (second.share.amount ≡ 0) }
+            requires { IsSync R.row × IsOpen L.accounts second × Holds second [] }
         { work(rt, shared, second, turns) },
     )
 }
 
 /// A dispatcher and two workers, each on a thread.
-fn run_three<L: Follow + Sync, R: Threads + Wait + Sync>(
+fn run_three<L: Run + Send + Sync, R: Threads + Wait + Sync>(
     rt: &R,
     queue: &MpscQueue<Task>,
-    dispatcher: Dispatched<L>,
+    dispatcher: Actor,
     shared: &Shared<L>,
-    workers: (Holding<L>, Holding<L>),
+    workers: (Account, Account),
     turns: u64,
-) -> (Dispatched<L>, (Worked<L>, Worked<L>))
-    requires table { dispatcher.party.table ≡ queue.now.table }
-    requires advance { turns ≤ dispatcher.holding.share.amount }
-    requires workers { (workers.0.share.amount ≡ 0) × (workers.1.share.amount ≡ 0) }
-    ensures { Came L.number L.rounds
-        dispatcher.holding.share.amount result.0.holding.share.amount
-        dispatcher.party result.0.party }
+) -> (Actor, (Worked<L>, Worked<L>))
+    requires dispatcher { (dispatcher.party.table ≡ queue.now.table) × IsOpen L.accounts dispatcher.account }
+    requires of { IsOpen L.accounts workers.0 × IsOpen L.accounts workers.1 }
+    requires none { Holds workers.0 [] × Holds workers.1 [] }
+    ensures { Came dispatcher.account result.0.account dispatcher.party result.0.party }
 {
     thread::join(
         rt,
-        || -> Dispatched<L>
+        || -> Actor
             requires { IsSync R.row × (dispatcher.party.table ≡ queue.now.table)
-                × (turns ≤ dispatcher.holding.share.amount) }
-            ensures { Came L.number L.rounds
-                dispatcher.holding.share.amount result.holding.share.amount
-                dispatcher.party result.party }
+                × IsOpen L.accounts dispatcher.account }
+            ensures { Came dispatcher.account result.account dispatcher.party result.party }
         { dispatch_all(rt, queue, dispatcher, shared, turns) },
         || -> (Worked<L>, Worked<L>)
-            requires { IsSync R.row × (workers.0.share.amount ≡ 0) × (workers.1.share.amount ≡ 0) }
+            requires { IsSync R.row × IsOpen L.accounts workers.0 × IsOpen L.accounts workers.1
+                × Holds workers.0 [] × Holds workers.1 [] }
         { work_both(rt, shared, workers, turns) },
     )
 }
 
 /// All four threads.
-fn run_four<L: Follow + Sync, R: Threads + Wait + Sync>(
+fn run_four<L: Run + Send + Sync, R: Threads + Wait + Sync>(
     rt: &R,
     queue: &MpscQueue<Task>,
-    submitter: Submitted<L>,
+    submitter: Actor,
     tasks: List<Task>,
-    dispatcher: Dispatched<L>,
+    dispatcher: Actor,
     shared: &Shared<L>,
-    workers: (Holding<L>, Holding<L>),
+    workers: (Account, Account),
     turns: u64,
-) -> (Submitted<L>, (Dispatched<L>, (Worked<L>, Worked<L>)))
-    requires submitter { (submitter.party.table ≡ queue.now.table) × (length tasks ≤ submitter.party.rooms) }
-    requires dispatcher { (dispatcher.party.table ≡ queue.now.table) × (turns ≤ dispatcher.holding.share.amount) }
-    requires workers { (workers.0.share.amount ≡ 0) × (workers.1.share.amount ≡ 0) }
-    ensures sent { Woken L.number L.rounds
-        submitter.holding.share.amount result.0.holding.share.amount
-        submitter.party result.0.party }
-    ensures all { result.0.book.total ≡ submitter.book.total + times L.number L.rounds (works tasks) }
-    ensures came { Came L.number L.rounds
-        dispatcher.holding.share.amount result.1.0.holding.share.amount
-        dispatcher.party result.1.0.party }
+) -> (Actor, (Actor, (Worked<L>, Worked<L>)))
+    requires submitter { (submitter.party.table ≡ queue.now.table) × IsOpen L.accounts submitter.account }
+    requires room { length tasks ≤ submitter.party.rooms }
+    requires dispatcher { (dispatcher.party.table ≡ queue.now.table) × IsOpen L.accounts dispatcher.account }
+    requires of { IsOpen L.accounts workers.0 × IsOpen L.accounts workers.1 }
+    requires none { Holds workers.0 [] × Holds workers.1 [] }
+    ensures sent { SentAll (names tasks) submitter.account result.0.account submitter.party result.0.party }
+    ensures came { Came dispatcher.account result.1.0.account dispatcher.party result.1.0.party }
 {
     thread::join(
         rt,
-        || -> Submitted<L>
+        || -> Actor
             requires { IsSync R.row × (submitter.party.table ≡ queue.now.table)
-                × (length tasks ≤ submitter.party.rooms) }
-            ensures sent { Woken L.number L.rounds
-                submitter.holding.share.amount result.holding.share.amount
-                submitter.party result.party }
-            ensures all { result.book.total ≡ submitter.book.total + times L.number L.rounds (works tasks) }
+                × IsOpen L.accounts submitter.account × (length tasks ≤ submitter.party.rooms) }
+            ensures { SentAll (names tasks) submitter.account result.account submitter.party result.party }
         { submit_and_wake(rt, queue, submitter, shared, tasks, turns) },
-        || -> (Dispatched<L>, (Worked<L>, Worked<L>))
+        || -> (Actor, (Worked<L>, Worked<L>))
             requires { IsSync R.row × (dispatcher.party.table ≡ queue.now.table)
-                × (turns ≤ dispatcher.holding.share.amount)
-                × (workers.0.share.amount ≡ 0) × (workers.1.share.amount ≡ 0) }
-            ensures { Came L.number L.rounds
-                dispatcher.holding.share.amount result.0.holding.share.amount
-                dispatcher.party result.0.party }
+                × IsOpen L.accounts dispatcher.account
+                × IsOpen L.accounts workers.0 × IsOpen L.accounts workers.1
+                × Holds workers.0 [] × Holds workers.1 [] }
+            ensures { Came dispatcher.account result.0.account dispatcher.party result.0.party }
         { run_three(rt, queue, dispatcher, shared, workers, turns) },
     )
 }
 
-/// Puts all holdings together, which hold what the book has, and tells where all tasks are.
-fn settle<L: Follow>(
+/// Puts all accounts together, in which all that was got was given, and tells where all tasks are.
+fn settle<L: Run>(
     shared: Shared<L>,
     on_way: Batch<Task>,
-    book: Book<L>,
-    threads: (Holding<L>, Holding<L>),
+    threads: (Account, Account),
     workers: (Worked<L>, Worked<L>),
 ) -> Outcome
-    requires { L.parts ≡ 6 }
-    ensures all { times L.number L.rounds (asleep result.asleep) + times L.number L.rounds (works result.runnable)
-        + times L.number L.rounds (works result.done.0) + times L.number L.rounds (works result.done.1)
-        + threads.0.share.amount + threads.1.share.amount ≡ book.total }
+    requires { IsOpen L.accounts threads.0 × IsOpen L.accounts threads.1 }
+    ensures even { (f : Name → ℕ) → tally f threads.0.got + tally f threads.1.got
+        + tally f (asleep result.asleep) + tally f (names result.runnable)
+        + tally f (names result.done.0) + tally f (names result.done.1)
+        ≡ tally f threads.0.gave + tally f threads.1.gave }
     ensures on_way { result.on_way ≡ on_way }
-    ensures done { (all_done (works result.done.0) ≡ true) × (all_done (works result.done.1) ≡ true) }
+    ensures done { (all_done result.done.0 ≡ true) × (all_done result.done.1 ≡ true) }
 {
     let Shared {
         sleepers,
         runnable,
+        accounts,
         unfinished: _,
     } = shared;
-    let (asleep, mut share) = sleepers.into_inner().into_tasks();
+    let (asleep, mut account) = sleepers.into_inner().into_tasks();
     let (runnable, other) = runnable.into_inner().into_tasks();
-    share.merge(other);
-    share.merge(threads.0.into_share());
-    share.merge(threads.1.into_share());
     let (first, second) = workers;
-    share.merge(first.holding.into_share());
-    share.merge(second.holding.into_share());
-    let mut book = book;
-    book.audit(&mut share);
+    accounts.absorb(&mut account, other);
+    accounts.absorb(&mut account, threads.0);
+    accounts.absorb(&mut account, threads.1);
+    accounts.absorb(&mut account, first.account);
+    accounts.absorb(&mut account, second.account);
+    accounts.audit(&mut account);
     Outcome {
         asleep,
         on_way,
@@ -294,58 +267,54 @@ fn settle<L: Follow>(
 }
 
 /// The two places, with no tasks in them.
-fn open<L: Follow>(sleepers: Holding<L>, runnable: Holding<L>, tasks: usize) -> Shared<L>
-    requires { (sleepers.share.amount ≡ 0) × (runnable.share.amount ≡ 0) }
+fn open<L: Run>(accounts: Accounts, sleepers: Account, runnable: Account, tasks: usize) -> Shared<L>
+    requires accounts { (accounts.table ≡ L.accounts) × (accounts.parts ≡ 6) }
+    requires places { (sleepers ≡ opened accounts.table 1) × (runnable ≡ opened accounts.table 1) }
 {
     Shared {
-        sleepers: Mutex::new(Sleepers::new(sleepers)),
-        runnable: Mutex::new(Runnable::new(runnable)),
+        sleepers: Mutex::new(Sleepers::<L>::new(sleepers)),
+        runnable: Mutex::new(Runnable::<L>::new(runnable)),
+        accounts,
         unfinished: AtomicU64::new(tasks as u64),
     }
 }
 
-/// Runs tasks, where a new ledger follows one.
-fn run_followed<L: Follow + Sync, R: Threads + Wait + Sync>(
+/// Runs tasks, with new accounts.
+fn run_in<L: Run + Send + Sync, R: Threads + Wait + Sync>(
     rt: &R,
     alloc: Global,
-    blank: Blank,
-    followed: Followed,
+    accounts: Accounts,
+    account: Account,
     tasks: List<Task>,
     rooms: usize,
     turns: u64,
 ) -> Result<Outcome, List<Task>>
-    requires ledger { (blank.name ≡ L.name) × (blank.parts ≡ L.parts) × (L.parts ≡ 6) }
-    requires followed { (followed.number ≡ L.number) × (followed.rounds ≡ L.rounds) }
+    requires accounts { (accounts.table ≡ L.accounts) × (accounts.parts ≡ 6) }
+    requires account { account ≡ opened accounts.table 6 }
     requires room { length tasks ≤ rooms }
     requires few { rooms ≤ MAX_ROOMS }
-    ensures each_once { IfOk result (λ o. times L.number L.rounds (works tasks)
-        ≡ times L.number L.rounds (asleep o.asleep) + times L.number L.rounds (works o.on_way)
-        + times L.number L.rounds (works o.runnable)
-        + times L.number L.rounds (works o.done.0) + times L.number L.rounds (works o.done.1)) }
-    ensures done { IfOk result (λ o. (all_done (works o.done.0) ≡ true) × (all_done (works o.done.1) ≡ true)) }
+    ensures each_once { IfOk result (λ o. Same (names tasks) (everywhere o)) }
+    ensures done { IfOk result (λ o. (all_done o.done.0 ≡ true) × (all_done o.done.1 ≡ true)) }
     ensures back { IfErr result (λ back. back ≡ tasks) }
 {
-    let Ok((queue, mut party)) = MpscQueue::new(alloc, rooms) else {
+    let Ok((queue, mut party)) = MpscQueue::<Task>::new(alloc, rooms) else {
         return Err(tasks);
     };
-    let (mut book, share) = blank.open::<L>();
-    let Holdings {
+    let Opened {
         sleepers,
         runnable,
         submitter,
         dispatcher,
         workers,
-    } = cut(&mut book, share, followed, turns);
-    let shared = open(sleepers, runnable, tasks.len());
-    let sender = queue.split(&mut party, rooms);
-    let submitter = Submitted {
-        party: sender,
-        holding: submitter,
-        book,
+    } = cut(&accounts, account);
+    let shared = open::<L>(accounts, sleepers, runnable, tasks.len());
+    let submitter = Actor {
+        party: queue.split(&mut party, rooms),
+        account: submitter,
     };
-    let dispatcher = Dispatched {
+    let dispatcher = Actor {
         party,
-        holding: dispatcher,
+        account: dispatcher,
     };
     let (sent, (came, done)) = run_four(
         rt, &queue, submitter, tasks, dispatcher, &shared, workers, turns,
@@ -353,26 +322,20 @@ fn run_followed<L: Follow + Sync, R: Threads + Wait + Sync>(
     let mut party = came.party;
     queue.absorb(&mut party, sent.party);
     let on_way = queue.close(party).elements;
-    Ok(settle(
-        shared,
-        on_way,
-        sent.book,
-        (sent.holding, came.holding),
-        done,
-    ))
+    Ok(settle(shared, on_way, (sent.account, came.account), done))
 }
 
 /// Runs tasks on four threads: one sends them to a dispatcher, and again when they are due after a sleep, the
 /// dispatcher hands them to two workers, and these run a round of each, until all are done. Each task is in one place
-/// in the end: whichever is followed, it is as often among those that sleep, are on their way, wait or are done as it
-/// is among those that were given. Those that are done ran all their rounds. Only `holding` sees which is followed.
+/// in the end: those that sleep, are on their way, wait or are done are those that were given, each once. Those that
+/// are done ran all their rounds.
 ///
 /// Each thread ends when all tasks are done, or after so many turns; the submitter also when it has no room left in the
 /// queue. The queue has so many rooms, at most `MAX_ROOMS`, and a task needs one for each of its rounds.
 ///
 /// # Errors
-/// Where memory for the queue is refused, `Err` gives the tasks back, none of which was run. No other call takes
-/// memory.
+/// Where memory for the accounts or the queue is refused, `Err` gives the tasks back, none of which was run. No other
+/// call takes memory.
 ///
 /// # Waits
 /// For the two locks, each of which is held for one call, and for the threads that it starts.
@@ -382,18 +345,15 @@ pub fn run<R: Threads + Wait + Sync>(
     tasks: List<Task>,
     rooms: usize,
     turns: u64,
-    followed: Followed,
 ) -> Result<Outcome, List<Task>>
     requires room { length tasks ≤ rooms }
     requires few { rooms ≤ MAX_ROOMS }
-    ensures each_once { IfOk result (λ o. times followed.number followed.rounds (works tasks)
-        ≡ times followed.number followed.rounds (asleep o.asleep)
-        + times followed.number followed.rounds (works o.on_way)
-        + times followed.number followed.rounds (works o.runnable)
-        + times followed.number followed.rounds (works o.done.0)
-        + times followed.number followed.rounds (works o.done.1)) }
-    ensures done { IfOk result (λ o. (all_done (works o.done.0) ≡ true) × (all_done (works o.done.1) ≡ true)) }
+    ensures each_once { IfOk result (λ o. Same (names tasks) (everywhere o)) }
+    ensures done { IfOk result (λ o. (all_done o.done.0 ≡ true) × (all_done o.done.1 ≡ true)) }
     ensures back { IfErr result (λ back. back ≡ tasks) }
 {
-    run_followed::<Brand, R>(rt, alloc, Blank::new(6), followed, tasks, rooms, turns)
+    let Ok((accounts, account)) = Accounts::new(alloc, 6) else {
+        return Err(tasks);
+    };
+    run_in::<Brand, R>(rt, alloc, accounts, account, tasks, rooms, turns)
 }

@@ -4,7 +4,7 @@ ghost use denote.RawPtr.{Ptr};
 ghost use Rattle.cordyceps.specs.Elements.Nodes.{spots};
 ghost use Rattle.cordyceps.specs.Spots.BySpot.{HasSpot, IsTaken};
 ghost use Rattle.cordyceps.specs.Spots.Spots.{AreDistinct};
-ghost use Rattle.cordyceps_shared_uses.specs.Timers.{started, new_timer, due};
+ghost use Rattle.cordyceps_shared_uses.specs.Timers.{started, new_timer, due, first_deadline};
 
 use cordyceps::list::Links;
 use cordyceps::sorted_list::Least;
@@ -128,6 +128,17 @@ impl<P: Drop> Timers<P> {
         ensures distinct { AreDistinct (spots self.new) }
     {
         self.list.remove(spot)
+    }
+
+    /// Returns the earliest deadline. `None` where no timer runs.
+    ///
+    /// # Complexity
+    /// O(1).
+    pub fn first_deadline(&self) -> Option<u64>
+        ensures { result ≡ first_deadline self.now }
+    {
+        let first = self.list.iter().next()?;
+        Some(first.deadline)
     }
 
     /// Takes the earliest timer out in its node, if it is due at the time `now`. `None` where none is due; all stay

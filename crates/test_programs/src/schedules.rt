@@ -1,15 +1,17 @@
 //! Tasks that threads schedule.
-ghost use Rattle.std.specs.Prelude.{◌≤◌, ◌<◌, length};
+ghost use Rattle.std.specs.Prelude.{◌≡◌, ◌≤◌, ◌<◌, [], length};
+ghost use Rattle.cordyceps_shared_uses.specs.Accounts.{Holds, IsOpen};
 
-use crate::compared::same;
+use crate::compared::{made, same};
 use crate::made::node;
 use cordyceps::list::Links;
 use cordyceps::mpsc_queue::MAX_ROOMS;
 use cordyceps::{List, Node, Stack};
-use cordyceps_shared_uses::scheduler::holding::Followed;
-use cordyceps_shared_uses::scheduler::places::Task;
+use cordyceps_shared_uses::scheduler::accounts::{Account, Accounts};
+use cordyceps_shared_uses::scheduler::places::{Run, Runnable, Sleepers, Task};
 use cordyceps_shared_uses::scheduler::{Outcome, birth, run};
 use std::alloc::{AllocError, Global};
+use std::marker::Brand;
 use std::process::Abort;
 use std::sync::Wait;
 use std::thread::Threads;
@@ -119,11 +121,11 @@ fn counted<R: Threads + Wait + Abort + Sync>(
 ) -> Counts
     requires { (length tasks ≤ rooms) × (rooms ≤ MAX_ROOMS) }
 {
-    let again = match run(rt, alloc, tasks, rooms, turns, Followed::new(1, 5)) {
+    let again = match run(rt, alloc, tasks, rooms, turns) {
         Ok(outcome) => return count(seen, outcome, rounds),
         Err(back) => back,
     };
-    match run(rt, alloc, again, rooms, turns, Followed::new(1, 5)) {
+    match run(rt, alloc, again, rooms, turns) {
         Ok(outcome) => count(seen, outcome, rounds),
         Err(_) => panic!(rt; "memory was refused twice"),
     }
@@ -173,4 +175,108 @@ fn tasks_sleep_or_stay_on_their_way(rt: HostRuntime) {
         ..all_done(0)
     };
     eight(&rt, rt.alloc(), 24, 0, on_way);
+}
+
+/// What one thread has that runs tasks alone: the two places, its account, and the numbers of those that are done, in
+/// turn.
+#[derive(Drop)]
+struct Alone<L: Run> {
+    sleepers: Sleepers<L>,
+    runnable: Runnable<L>,
+    mine: Account,
+    done: Vec<u32>,
+    ghost open: { IsOpen L.accounts mine },
+}
+
+impl<L: Run> Alone<L> {
+    /// Makes a task runnable.
+    fn put(&mut self, accounts: &Accounts, task: Node<Task, Links<Task>>)
+        requires { accounts.now.table ≡ L.accounts }
+    {
+        if self.runnable.has_room() {
+            self.runnable.put(accounts, &mut self.mine, task);
+        }
+    }
+
+    /// Runs a round of a task, and puts it to sleep or notes that it is done.
+    fn run(&mut self, rt: &impl Abort, accounts: &Accounts, mut task: Node<Task, Links<Task>>)
+        requires { accounts.now.table ≡ L.accounts }
+    {
+        let work = &mut task.get_mut().payload;
+        if !work.is_done() {
+            work.run();
+        }
+        if task.get().payload.is_done() {
+            made(rt, self.done.push(task.get().payload.number));
+        } else {
+            let _ = self.sleepers.sleep(accounts, &mut self.mine, task);
+        }
+    }
+
+    /// Runs a task that waits. Where none does, it wakes one that is due.
+    fn turn(&mut self, rt: &impl Abort, accounts: &Accounts)
+        requires { accounts.now.table ≡ L.accounts }
+    {
+        match self.runnable.take(accounts, &mut self.mine) {
+            Some(task) => self.run(rt, accounts, task),
+            None => {
+                if let Some(task) = self.sleepers.wake(accounts, &mut self.mine) {
+                    self.put(accounts, task);
+                }
+            }
+        }
+    }
+}
+
+/// Runs two tasks of two rounds, with the numbers 1 and 2 and these pauses, on one thread. It compares in which order
+/// they are done.
+fn run_alone<L: Run, R: Abort>(
+    rt: &R,
+    alloc: Global,
+    accounts: &Accounts,
+    places: (Account, Account),
+    mine: Account,
+    pauses: (u32, u32),
+    wanted: &[u32],
+)
+    requires places { IsOpen L.accounts places.0 × Holds places.0 [] × IsOpen L.accounts places.1 × Holds places.1 [] }
+    requires mine { (accounts.now.table ≡ L.accounts) × IsOpen L.accounts mine }
+{
+    let (sleepers, runnable) = places;
+    let mut alone = Alone::<L> {
+        sleepers: Sleepers::new(sleepers),
+        runnable: Runnable::new(runnable),
+        mine,
+        done: Vec::new(alloc),
+    };
+    alone.put(accounts, task(rt, alloc, 1, 2, pauses.0));
+    alone.put(accounts, task(rt, alloc, 2, 2, pauses.1));
+    for _turn in 0..16 {
+        alone.turn(rt, accounts);
+    }
+    same(rt, alone.done.as_slice(), wanted);
+}
+
+#[test]
+fn the_shorter_pause_ends_first(rt: HostRuntime) {
+    let wanted = [
+        ((5, 1), [2, 1]),
+        ((1, 5), [1, 2]),
+        ((3, 3), [1, 2]),
+        ((0, 0), [1, 2]),
+    ];
+    for (pauses, wanted) in wanted {
+        let (accounts, mut account) = made(&rt, Accounts::new(rt.alloc(), 3));
+        let sleepers = accounts.split(&mut account, 1);
+        let runnable = accounts.split(&mut account, 1);
+        run_alone::<Brand, HostRuntime>(
+            &rt,
+            rt.alloc(),
+            &accounts,
+            (sleepers, runnable),
+            account,
+            pauses,
+            &wanted,
+        );
+    }
 }

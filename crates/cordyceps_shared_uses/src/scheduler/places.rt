@@ -1,108 +1,179 @@
 //! The two places of the scheduler that stand under locks: where tasks sleep, and where they wait for a worker.
-ghost use Rattle.std.specs.Prelude.{◌≡◌, ◌+◌, ◌≤◌, ◌<◌, length, true, IfErr, MatchOption, OnErr, OnOk};
-ghost use Rattle.cordyceps_shared_uses.specs.Scheduler.{one_of, times, works, asleep};
+ghost use Rattle.std.specs.Prelude.{
+  ◌≡◌,
+  ◌≤◌,
+  ◌<◌,
+  [],
+  ◌∷◌,
+  ◌++◌,
+  length,
+  true,
+  IfErr,
+  IsOk,
+  MatchOption,
+  MatchResult,
+  OnErr,
+  OnOk,
+};
+ghost use denote.RawPtr.{Ptr};
+ghost use Rattle.cordyceps_shared_uses.specs.Accounts.{Holds, IsOpen, after_getting, after_giving};
+ghost use Rattle.cordyceps_shared_uses.specs.Names.{asleep, name_of, names};
+ghost use Rattle.cordyceps_shared_uses.specs.Scheduler.{paused};
+ghost use Rattle.cordyceps_shared_uses.specs.Timers.{started, due, until_first};
 
-use crate::scheduler::holding::{Follow, Holding};
+use crate::scheduler::accounts::{Account, Accounts};
+use crate::scheduler::name::Name;
 use crate::scheduler::work::Work;
 use crate::timers::{Stopped, Timer, Timers};
 use cordyceps::{List, Node, list};
-use std::sync::ledger::Share;
+use std::marker::{Brand, PhantomData};
 
 /// A task: its work, and when it has to be woken. Its node is made once, and goes through all collections.
 pub type Task = Timer<Work>;
 
-/// Tasks that sleep, the earliest deadline first, and the time.
-#[derive(Drop)]
-pub struct Sleepers<L: Follow> {
-    pub time: u64,
-    pub timers: Timers<Work>,
-    pub holding: Holding<L>,
-    ghost counted: { holding.share.amount ≡ times L.number L.rounds (asleep timers) },
+/// A run of the scheduler: which accounts it has.
+pub trait Run {
+    ghost use Rattle.cordyceps.specs.Parties.Seated.{TableId};
+
+    ghost accounts: { TableId };
 }
 
-impl<L: Follow> Sleepers<L> {
+impl Run for Brand {
+    ghost use Rattle.std.specs.Prelude.{[]};
+
+    ghost accounts = { record {
+      words = 0;
+      slots = 0;
+      views_name = 0;
+      atom = 0;
+      block = 0;
+      offset = 0;
+      slot_names = [];
+    } };
+}
+
+/// Tasks that sleep, the earliest deadline first, and the time.
+#[derive(Drop)]
+pub struct Sleepers<L: Run> {
+    pub time: u64,
+    pub timers: Timers<Work>,
+    pub account: Account,
+    run: PhantomData<L>,
+    ghost of: { IsOpen L.accounts account },
+    ghost counted: { Holds account (asleep timers) },
+}
+
+impl<L: Run> Sleepers<L> {
     /// No tasks, at the time 0.
-    pub fn new(holding: Holding<L>) -> Sleepers<L>
-        requires { holding.share.amount ≡ 0 }
+    pub fn new(account: Account) -> Sleepers<L>
+        requires of { IsOpen L.accounts account }
+        requires none { Holds account [] }
     {
         Sleepers {
             time: 0,
             timers: Timers::new(),
-            holding,
+            account,
+            run: PhantomData,
         }
     }
 
-    /// Puts a task to sleep, from the hands of a thread, until its pause is over.
+    /// Puts a task to sleep, from the hands of a thread, until its pause from now on is over.
     ///
     /// # Errors
     /// The task comes back where `usize::MAX` tasks sleep.
     ///
     /// # Complexity
     /// O(k + 1), where k sleepers have a later deadline; O(1) where all have.
-    pub fn sleep(&mut self, mine: &mut Holding<L>, task: Stopped<Work>) -> Result<(), Stopped<Work>>
-        requires { one_of L.number L.rounds task.value.payload ≤ mine.old.share.amount }
-        ensures slept { OnOk result
-            (mine.new.share.amount + one_of L.number L.rounds task.value.payload ≡ mine.old.share.amount) }
-        ensures kept { OnErr result (mine.new.share.amount ≡ mine.old.share.amount) }
-        ensures returned { IfErr result (λ back. back.value.payload ≡ task.value.payload) }
+    pub fn sleep(
+        &mut self,
+        accounts: &Accounts,
+        mine: &mut Account,
+        task: Stopped<Work>,
+    ) -> Result<(), Stopped<Work>>
+        requires { (accounts.now.table ≡ L.accounts) × IsOpen L.accounts mine.old }
+        ensures mine { MatchResult result
+            (λ _. mine.new ≡ after_giving (name_of task) mine.old)
+            (λ _. mine.new ≡ mine.old) }
+        ensures sleeps { OnOk result
+            ((spot : Ptr) × (self.new.timers ≡ started spot (paused self.old.time task) self.old.timers)) }
+        ensures time { self.new.time ≡ self.old.time }
+        ensures succeeds { length self.old.timers < usize.MAX → IsOk result }
+        ensures kept { OnErr result (self.new.timers ≡ self.old.timers) }
+        ensures returned { IfErr result (λ back. back ≡ paused self.old.time task) }
     {
         let mut task = task;
-        mine.give(&mut self.holding, &task.get().payload);
+        let name = Name::of(&task);
         let pause = task.get().payload.pause as u64;
         task.get_mut().deadline = self.time.saturating_add(pause);
         match self.timers.restart(task) {
-            Ok(_) => Ok(()),
-            Err(task) => {
-                self.holding.give(mine, &task.get().payload);
-                Err(task)
+            Ok(_) => {
+                accounts.give(mine, &mut self.account, name);
+                Ok(())
             }
+            Err(task) => Err(task),
         }
     }
 
-    /// Wakes a task that is due, into the hands of a thread. Where none is due, time goes on by one.
-    pub fn wake(&mut self, mine: &mut Holding<L>) -> Option<Stopped<Work>>
-        ensures { MatchOption result
-            (mine.new.share.amount ≡ mine.old.share.amount)
-            (λ task. mine.new.share.amount ≡ mine.old.share.amount + one_of L.number L.rounds task.value.payload) }
+    /// Wakes the task with the earliest deadline, if it is due, into the hands of a thread. Where none is due, the time
+    /// goes on to the next deadline, if any task sleeps.
+    pub fn wake(&mut self, accounts: &Accounts, mine: &mut Account) -> Option<Stopped<Work>>
+        requires { (accounts.now.table ≡ L.accounts) × IsOpen L.accounts mine.old }
+        ensures mine { MatchOption result
+            (mine.new ≡ mine.old)
+            (λ task. mine.new ≡ after_getting (name_of task) mine.old) }
+        ensures woken { MatchOption result
+            ((self.new.timers ≡ self.old.timers) × (due self.old.time self.old.timers ≡ []))
+            (λ task. (spot : Ptr) × (self.old.timers ≡ (spot, task) ∷ self.new.timers)
+            × (task.value.deadline ≤ self.old.time)) }
+        ensures time { MatchOption result
+            (self.new.time ≡ until_first self.old.time self.old.timers)
+            (λ _. self.new.time ≡ self.old.time) }
     {
         let Some(task) = self.timers.stop_due(self.time) else {
-            self.time = self.time.saturating_add(1);
+            if let Some(deadline) = self.timers.first_deadline() {
+                self.time = deadline;
+            }
             return None;
         };
-        self.holding.give(mine, &task.get().payload);
+        accounts.give(&mut self.account, mine, Name::of(&task));
         Some(task)
     }
 
     /// The tasks that still sleep.
-    pub fn into_tasks(self) -> (Timers<Work>, Share<L>)
-        ensures part { result.1.parts ≡ 1 }
-        ensures held { result.1.amount ≡ times L.number L.rounds (asleep result.0) }
+    pub fn into_tasks(self) -> (Timers<Work>, Account)
+        ensures of { IsOpen L.accounts result.1 }
+        ensures held { Holds result.1 (asleep result.0) }
     {
         let Sleepers {
             time: _,
             timers,
-            holding,
+            account,
+            run: _,
         } = self;
-        (timers, holding.into_share())
+        (timers, account)
     }
 }
 
 /// Tasks that wait for a worker, in the order in which they came.
 #[derive(Drop)]
-pub struct Runnable<L: Follow> {
+pub struct Runnable<L: Run> {
     pub tasks: List<Task>,
-    pub holding: Holding<L>,
-    ghost counted: { holding.share.amount ≡ times L.number L.rounds (works tasks) },
+    pub account: Account,
+    run: PhantomData<L>,
+    ghost of: { IsOpen L.accounts account },
+    ghost counted: { Holds account (names tasks) },
 }
 
-impl<L: Follow> Runnable<L> {
+impl<L: Run> Runnable<L> {
     /// No tasks.
-    pub fn new(holding: Holding<L>) -> Runnable<L>
-        requires { holding.share.amount ≡ 0 }
+    pub fn new(account: Account) -> Runnable<L>
+        requires of { IsOpen L.accounts account }
+        requires none { Holds account [] }
     {
         Runnable {
             tasks: List::new(),
-            holding,
+            account,
+            run: PhantomData,
         }
     }
 
@@ -114,32 +185,50 @@ impl<L: Follow> Runnable<L> {
     }
 
     /// Puts a task after those that wait, from the hands of a thread.
-    pub fn put(&mut self, mine: &mut Holding<L>, task: Node<Task, list::Links<Task>>)
+    pub fn put(
+        &mut self,
+        accounts: &Accounts,
+        mine: &mut Account,
+        task: Node<Task, list::Links<Task>>,
+    )
+        requires of { (accounts.now.table ≡ L.accounts) × IsOpen L.accounts mine.old }
         requires room { length self.old.tasks < usize.MAX }
-        requires held { one_of L.number L.rounds task.value.payload ≤ mine.old.share.amount }
-        ensures { mine.new.share.amount + one_of L.number L.rounds task.value.payload ≡ mine.old.share.amount }
+        ensures mine { mine.new ≡ after_giving (name_of task) mine.old }
+        ensures last { self.new.tasks ≡ self.old.tasks ++ task ∷ [] }
     {
-        mine.give(&mut self.holding, &task.get().payload);
+        accounts.give(mine, &mut self.account, Name::of(&task));
         self.tasks.push_back(task);
     }
 
     /// Takes the task that waits longest, into the hands of a thread. `None` where none waits.
-    pub fn take(&mut self, mine: &mut Holding<L>) -> Option<Node<Task, list::Links<Task>>>
-        ensures { MatchOption result
-            (mine.new.share.amount ≡ mine.old.share.amount)
-            (λ next. mine.new.share.amount ≡ mine.old.share.amount + one_of L.number L.rounds next.value.payload) }
+    pub fn take(
+        &mut self,
+        accounts: &Accounts,
+        mine: &mut Account,
+    ) -> Option<Node<Task, list::Links<Task>>>
+        requires { (accounts.now.table ≡ L.accounts) × IsOpen L.accounts mine.old }
+        ensures mine { MatchOption result
+            (mine.new ≡ mine.old)
+            (λ next. mine.new ≡ after_getting (name_of next) mine.old) }
+        ensures oldest { MatchOption result
+            ((self.old.tasks ≡ []) × (self.new.tasks ≡ []))
+            (λ next. self.old.tasks ≡ next ∷ self.new.tasks) }
     {
         let next = self.tasks.pop_front()?;
-        self.holding.give(mine, &next.get().payload);
+        accounts.give(&mut self.account, mine, Name::of(&next));
         Some(next)
     }
 
     /// The tasks that still wait.
-    pub fn into_tasks(self) -> (List<Task>, Share<L>)
-        ensures part { result.1.parts ≡ 1 }
-        ensures held { result.1.amount ≡ times L.number L.rounds (works result.0) }
+    pub fn into_tasks(self) -> (List<Task>, Account)
+        ensures of { IsOpen L.accounts result.1 }
+        ensures held { Holds result.1 (names result.0) }
     {
-        let Runnable { tasks, holding } = self;
-        (tasks, holding.into_share())
+        let Runnable {
+            tasks,
+            account,
+            run: _,
+        } = self;
+        (tasks, account)
     }
 }

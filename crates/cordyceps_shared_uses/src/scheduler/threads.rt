@@ -1,26 +1,34 @@
 //! What the four threads of the scheduler do: one sends tasks and wakes them, one dispatches them, and two run them.
-ghost use Rattle.std.specs.Prelude.{◌≡◌, ◌+◌, ◌≤◌, length, true};
-ghost use Rattle.cordyceps_shared_uses.specs.Scheduler.{all_done, one_of, times, works};
-ghost use Rattle.cordyceps_shared_uses.specs.Ways.{Sent, Came, Woken};
+ghost use Rattle.std.specs.Prelude.{◌≡◌, ◌≤◌, ◌<◌, [], ◌∷◌, length, true};
+ghost use Rattle.cordyceps.specs.Elements.Element.{Element};
+ghost use Rattle.cordyceps_shared_uses.specs.Accounts.{Holds, IsOpen};
+ghost use Rattle.cordyceps_shared_uses.specs.Names.{names, name_of};
+ghost use Rattle.cordyceps_shared_uses.specs.Scheduler.{all_done, Ran};
+ghost use Rattle.cordyceps_shared_uses.specs.Ways.{Sent, Came, Settles, Woken};
+ghost use Rattle.cordyceps_shared_uses.specs.declared.scheduler.work.Work.{Work};
+ghost use Rattle.cordyceps_shared_uses.specs.declared.timers.Timer.{Timer};
 
-use crate::scheduler::holding::{Follow, Holding};
-use crate::scheduler::places::{Runnable, Sleepers, Task};
+use crate::scheduler::accounts::{Account, Accounts};
+use crate::scheduler::places::{Run, Runnable, Sleepers, Task};
 use cordyceps::mpsc_queue::Party;
 use cordyceps::{List, MpscQueue, Node, Stack, list};
+use std::marker::PhantomData;
 use std::sync::atomic::{AtomicU64, Ordering};
-use std::sync::ledger::Book;
 use std::sync::{Mutex, Wait};
 use std::thread;
 
-/// What the threads share beside the queue: the two places, and how many tasks are not done.
+/// What the threads share beside the queue: the two places, the accounts, and how many tasks are not done.
 #[derive(Drop)]
-pub struct Shared<L: Follow> {
+pub struct Shared<L: Run> {
     pub sleepers: Mutex<Sleepers<L>>,
     pub runnable: Mutex<Runnable<L>>,
+    pub accounts: Accounts,
     pub unfinished: AtomicU64,
+    ghost of: { accounts.table ≡ L.accounts },
+    ghost six: { accounts.parts ≡ 6 },
 }
 
-impl<L: Follow> Shared<L> {
+impl<L: Run> Shared<L> {
     /// Whether all tasks are done.
     fn is_over(&self) -> bool {
         self.unfinished.load(Ordering::SeqCst) == 0
@@ -29,51 +37,45 @@ impl<L: Follow> Shared<L> {
 
 /// What a worker is left with: the tasks that are done, each with all its rounds.
 #[derive(Drop)]
-pub struct Worked<L: Follow> {
+pub struct Worked<L: Run> {
     pub done: Stack<Task>,
-    pub holding: Holding<L>,
-    ghost counted: { holding.share.amount ≡ times L.number L.rounds (works done) },
-    ghost finished: { all_done (works done) ≡ true },
+    pub account: Account,
+    pub run: PhantomData<L>,
+    ghost of: { IsOpen L.accounts account },
+    ghost counted: { Holds account (names done) },
+    ghost finished: { all_done done ≡ true },
 }
 
-/// Sends new tasks to the dispatcher, in order. The book adds each to all.
-pub fn submit<L: Follow>(
-    queue: &MpscQueue<Task>,
-    party: &mut Party<Task>,
-    mut tasks: List<Task>,
-    mine: &mut Holding<L>,
-    book: &mut Book<L>,
-)
+/// Sends new tasks to the dispatcher, in order.
+pub fn submit(queue: &MpscQueue<Task>, party: &mut Party<Task>, mut tasks: List<Task>)
     requires table { party.old.table ≡ queue.now.table }
     requires room { length tasks ≤ party.old.rooms }
-    ensures sent { Sent (works tasks) party.old party.new }
-    ensures held { mine.new.share.amount ≡ mine.old.share.amount + times L.number L.rounds (works tasks) }
-    ensures all { book.new.total ≡ book.old.total + times L.number L.rounds (works tasks) }
+    ensures { Sent (names tasks) party.old party.new }
 {
     while let Some(task) = tasks.pop_front() {
-        mine.born(book, &task.get().payload);
         queue.enqueue(party, task.into_kind());
     }
 }
 
 /// Wakes tasks that are due, one at each turn, and sends them to the dispatcher. It ends when all tasks are done, when
 /// the turns are, or when the party has no room left.
-pub fn wake<L: Follow, R: Wait>(
+pub fn wake<L: Run, R: Wait>(
     rt: &R,
     queue: &MpscQueue<Task>,
     party: &mut Party<Task>,
     shared: &Shared<L>,
-    mine: &mut Holding<L>,
+    mine: &mut Account,
     turns: u64,
 )
-    requires { party.old.table ≡ queue.now.table }
-    ensures { Woken L.number L.rounds mine.old.share.amount mine.new.share.amount party.old party.new }
+    requires table { party.old.table ≡ queue.now.table }
+    requires of { IsOpen L.accounts mine.old }
+    ensures { Woken mine.old mine.new party.old party.new }
 {
     for _turn in 0..turns {
         if shared.is_over() || party.rooms() == 0 {
             break;
         }
-        let woken = shared.sleepers.lock(rt).wake(mine);
+        let woken = shared.sleepers.lock(rt).wake(&shared.accounts, mine);
         match woken {
             Some(task) => queue.enqueue(party, task.into_kind()),
             None => thread::yield_now(),
@@ -82,17 +84,16 @@ pub fn wake<L: Follow, R: Wait>(
 }
 
 /// Takes a task out of the queue, and puts it among those that wait for a worker. `false` where there was none to take.
-fn dispatch_one<L: Follow, R: Wait>(
+fn dispatch_one<L: Run, R: Wait>(
     rt: &R,
     queue: &MpscQueue<Task>,
     party: &mut Party<Task>,
     shared: &Shared<L>,
-    mine: &mut Holding<L>,
+    mine: &mut Account,
 ) -> bool
     requires table { party.old.table ≡ queue.now.table }
-    requires advance { 1 ≤ mine.old.share.amount }
-    ensures came { Came L.number L.rounds mine.old.share.amount mine.new.share.amount party.old party.new }
-    ensures one { mine.old.share.amount ≤ mine.new.share.amount + 1 }
+    requires of { IsOpen L.accounts mine.old }
+    ensures { Came mine.old mine.new party.old party.new }
 {
     let mut runnable = shared.runnable.lock(rt);
     if !runnable.has_room() {
@@ -101,24 +102,22 @@ fn dispatch_one<L: Follow, R: Wait>(
     let Ok(task) = queue.try_dequeue(party) else {
         return false;
     };
-    runnable.put(mine, task.into_kind());
+    runnable.put(&shared.accounts, mine, task.into_kind());
     true
 }
 
 /// Dispatches tasks, one at each turn. It ends when all tasks are done, or when the turns are.
-///
-/// To a contract the thread has an advance of the followed task, of one for each turn.
-pub fn dispatch<L: Follow, R: Wait>(
+pub fn dispatch<L: Run, R: Wait>(
     rt: &R,
     queue: &MpscQueue<Task>,
     party: &mut Party<Task>,
     shared: &Shared<L>,
-    mine: &mut Holding<L>,
+    mine: &mut Account,
     turns: u64,
 )
     requires table { party.old.table ≡ queue.now.table }
-    requires advance { turns ≤ mine.old.share.amount }
-    ensures { Came L.number L.rounds mine.old.share.amount mine.new.share.amount party.old party.new }
+    requires of { IsOpen L.accounts mine.old }
+    ensures { Came mine.old mine.new party.old party.new }
 {
     for _turn in 0..turns {
         if shared.is_over() {
@@ -132,8 +131,10 @@ pub fn dispatch<L: Follow, R: Wait>(
 
 /// Runs one round of a task, where one is left.
 fn run_round(task: &mut Node<Task, list::Links<Task>>)
-    ensures number { task.new.value.payload.number ≡ task.old.value.payload.number }
-    ensures rounds { task.new.value.payload.rounds ≡ task.old.value.payload.rounds }
+    ensures name { name_of task.new ≡ name_of task.old }
+    ensures one { task.old.value.payload.ran < task.old.value.payload.rounds
+        → Ran 1 task.old.value.payload task.new.value.payload }
+    ensures none { task.old.value.payload.ran ≡ task.old.value.payload.rounds → task.new ≡ task.old }
 {
     let work = &mut task.get_mut().payload;
     if !work.is_done() {
@@ -141,59 +142,97 @@ fn run_round(task: &mut Node<Task, list::Links<Task>>)
     }
 }
 
-/// Keeps a task that is done, and puts another to sleep. Where no more can sleep, it runs its other rounds at once.
-fn settle<L: Follow, R: Wait>(
-    rt: &R,
-    shared: &Shared<L>,
-    mine: &mut Holding<L>,
-    done: &mut Stack<Task>,
-    task: Node<Task, list::Links<Task>>,
-)
-    requires { one_of L.number L.rounds task.value.payload ≤ mine.old.share.amount }
-    ensures held { mine.new.share.amount + one_of L.number L.rounds task.value.payload
-        + times L.number L.rounds (works done.old)
-        ≡ mine.old.share.amount + times L.number L.rounds (works done.new) }
-    ensures finished { all_done (works done.old) ≡ true → all_done (works done.new) ≡ true }
+/// Runs the rounds of a task that are left.
+fn run_rest(task: &mut Node<Task, list::Links<Task>>)
+    ensures name { name_of task.new ≡ name_of task.old }
+    ensures ran { task.new.value.payload.ran ≡ task.new.value.payload.rounds }
 {
-    let mut task = task;
-    if !task.get().payload.is_done() {
-        let slept = shared.sleepers.lock(rt).sleep(mine, task);
-        let Err(awake) = slept else {
-            return;
-        };
-        task = awake;
-        task.get_mut().payload.finish();
-    }
+    task.get_mut().payload.finish();
+}
+
+/// Puts a task on those that are done.
+fn retire<L: Run>(shared: &Shared<L>, done: &mut Stack<Task>, task: Node<Task, list::Links<Task>>)
+    ensures { done.new ≡ task ∷ done.old }
+{
     done.push(task.into_kind());
     shared.unfinished.fetch_sub(1, Ordering::SeqCst);
 }
 
-/// Runs tasks, a round of one at each turn, and keeps those that are done. The others sleep until their next round. It
-/// ends when all tasks are done, or when the turns are.
-pub fn work<L: Follow, R: Wait>(
+/// Runs the rounds of a task that are left, and retires it.
+fn run_out<L: Run>(shared: &Shared<L>, done: &mut Stack<Task>, task: Node<Task, list::Links<Task>>)
+    ensures { (e : Element (Timer Work)) × (done.new ≡ e ∷ done.old) × (name_of e ≡ name_of task)
+        × (e.value.payload.ran ≡ e.value.payload.rounds) }
+{
+    let mut task = task;
+    run_rest(&mut task);
+    retire(shared, done, task);
+}
+
+/// Keeps a task that is done, and puts another to sleep. Where no more can sleep, it runs its other rounds at once.
+fn settle<L: Run, R: Wait>(
     rt: &R,
     shared: &Shared<L>,
-    mut mine: Holding<L>,
-    turns: u64,
-) -> Worked<L>
-    requires { mine.share.amount ≡ 0 }
+    mine: &mut Account,
+    done: &mut Stack<Task>,
+    task: Node<Task, list::Links<Task>>,
+)
+    requires { IsOpen L.accounts mine.old }
+    ensures settles { Settles task mine.old mine.new done.old done.new }
+    ensures kept { task.value.payload.ran ≡ task.value.payload.rounds → done.new ≡ task ∷ done.old }
+    ensures finished { all_done done.old ≡ true → all_done done.new ≡ true }
 {
+    if task.get().payload.is_done() {
+        retire(shared, done, task);
+        return;
+    }
+    let slept = shared.sleepers.lock(rt).sleep(&shared.accounts, mine, task);
+    let Err(awake) = slept else {
+        return;
+    };
+    run_out(shared, done, awake);
+}
+
+/// Takes a task that waits, runs a round of it, and settles it. `false` where none waited.
+fn work_one<L: Run, R: Wait>(
+    rt: &R,
+    shared: &Shared<L>,
+    mine: &mut Account,
+    done: &mut Stack<Task>,
+) -> bool
+    requires { IsOpen L.accounts mine.old }
+    ensures of { IsOpen L.accounts mine.new }
+    ensures held { Holds mine.old (names done.old) → Holds mine.new (names done.new) }
+    ensures finished { all_done done.old ≡ true → all_done done.new ≡ true }
+{
+    let next = shared.runnable.lock(rt).take(&shared.accounts, mine);
+    let Some(task) = next else {
+        return false;
+    };
+    let mut task = task;
+    run_round(&mut task);
+    settle(rt, shared, mine, done, task);
+    true
+}
+
+/// Runs tasks, a round of one at each turn, and keeps those that are done. The others sleep until their next round. It
+/// ends when all tasks are done, or when the turns are.
+pub fn work<L: Run, R: Wait>(rt: &R, shared: &Shared<L>, mine: Account, turns: u64) -> Worked<L>
+    requires of { IsOpen L.accounts mine }
+    requires none { Holds mine [] }
+{
+    let mut mine = mine;
     let mut done = Stack::new();
     for _turn in 0..turns {
         if shared.is_over() {
             break;
         }
-        let next = shared.runnable.lock(rt).take(&mut mine);
-        match next {
-            Some(mut task) => {
-                run_round(&mut task);
-                settle(rt, shared, &mut mine, &mut done, task);
-            }
-            None => thread::yield_now(),
+        if !work_one(rt, shared, &mut mine, &mut done) {
+            thread::yield_now();
         }
     }
     Worked {
         done,
-        holding: mine,
+        account: mine,
+        run: PhantomData,
     }
 }

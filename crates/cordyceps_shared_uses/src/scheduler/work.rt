@@ -52,6 +52,7 @@ impl Work {
         ensures rounds { self.new.rounds ≡ self.old.rounds }
         ensures pause { self.new.pause ≡ self.old.pause }
         ensures ran { self.new.ran ≡ self.old.ran + 1 }
+        ensures sum { self.new.sum ≡ self.old.sum + self.old.number }
     {
         let Work {
             number,

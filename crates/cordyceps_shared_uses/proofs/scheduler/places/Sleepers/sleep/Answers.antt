@@ -1,21 +1,15 @@
-use Rattle.std.proofs.Common.{ap, arith}
+use Rattle.std.proofs.Common.{ap, sym, ◌∙◌}
 use Rattle.cordyceps_shared_uses.specs.declared.timers.Timer.{Timer}
 use Rattle.cordyceps_shared_uses.specs.declared.scheduler.work.Work.{Work}
-use Rattle.cordyceps_shared_uses.specs.Scheduler.{one_of}
-use Rattle.cordyceps_shared_uses.proofs.Scheduling.{times_restarted}
+use Rattle.cordyceps_shared_uses.specs.Names.{name_of}
+use Rattle.cordyceps_shared_uses.proofs.Scheduling.{open_got, holds_slept}
 use Rattle.cordyceps_shared_uses.proofs.scheduler.places.Sleepers.sleep.Goals as goal
 
 pub invariant_of-self : goal.invariant_of-self
 invariant_of-self g c =
-    let n = g.L.Follow.number in
-    let r = g.L.Follow.rounds in
+    let was = c.args.self.now in
+    let same = c.of-name.ensures ∙ sym (ap (λ (v : Timer Work). name_of (record { id = c.args.task.id; value = v })) c.get_mut.ensures.value) in
     record {
-      counted = omega (
-        arith,
-        c.give.ensures.taken,
-        ap (λ (v : Timer Work). one_of n r v.payload) c.get.ensures,
-        ap (λ (v : Timer Work). one_of n r v.payload) c.get_mut.ensures.value,
-        c.args.self.now.counted,
-        times_restarted n r c.in-Ok.field-0 _ c.args.self.now.timers c.restart.new.self c.in-Ok.ensures.started,
-      );
+      of = open_got was.of c.give.ensures.got;
+      counted = holds_slept c.in-Ok.field-0 _ was.timers c.restart.new.self was.counted c.give.ensures.got same c.in-Ok.ensures.started;
     }
