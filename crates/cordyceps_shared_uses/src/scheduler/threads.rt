@@ -163,9 +163,9 @@ fn run_out<L: Run>(shared: &Shared<L>, done: &mut Stack<Task>, task: Node<Task, 
     ensures { (e : Element (Timer Work)) × (done.new ≡ e ∷ done.old) × (name_of e ≡ name_of task)
         × (e.value.payload.ran ≡ e.value.payload.rounds) }
 {
-    let mut task = task;
-    run_rest(&mut task);
-    retire(shared, done, task);
+    let mut awake = task;
+    run_rest(&mut awake);
+    retire(shared, done, awake);
 }
 
 /// Keeps a task that is done, and puts another to sleep. Where no more can sleep, it runs its other rounds at once.
