@@ -52,14 +52,14 @@ def kind_of(goal):
 
 
 def put_under(goal, answers):
-    """The ways to put a goal's name, or those of its clauses, on answers to goals that ask for the same on another path:
+    """The ways to put a goal's name, or those of its clauses, on answers to goals that ask for the same on other paths:
     each as pairs of an answer's name and its new one.
 
     >>> put_under("returns-then-len-gt1", ["returns-then-len-eq0", "get-requires"])
     [[('returns-then-len-eq0', 'returns-then-len-gt1')]]
-    >>> put_under("returns-then-len-gt1", ["returns-clause-len", "returns-clause-first"])
-    [[('returns-clause-len', 'returns-then-len-gt1-clause-len'), ('returns-clause-first', 'returns-then-len-gt1-clause-first')]]
-    >>> put_under("returns-then-c-clause-len", ["returns-clause-len", "returns-clause-first", "returns-then-c-clause-len"])
+    >>> put_under("returns-then-c", ["returns-clause-len", "returns-clause-first"])
+    [[('returns-clause-len', 'returns-then-c-clause-len'), ('returns-clause-first', 'returns-then-c-clause-first')]]
+    >>> put_under("returns-then-c-clause-len", ["returns-clause-len", "returns-clause-first"])
     [[('returns-clause-len', 'returns-then-c-clause-len')]]
     """
     path, clause = parts_of(goal)
@@ -92,7 +92,7 @@ def renamed(text, pairs):
 
 
 def with_answers(text, ways, without):
-    """The text of an Answers.antt with answers under new names as well, and without those of goals that are not there."""
+    """The text of an Answers.antt with answers under new names as well, and without those to goals that are gone."""
     head, answers = answers_of(text)
     more = [renamed(answers[old], pairs) for pairs in ways for old, _ in pairs]
     return head + "".join([*(it for name, it in answers.items() if name not in without), "\n", *more])
@@ -101,7 +101,7 @@ def with_answers(text, ways, without):
 def goals_in(lines):
     """The goals that these lines of a check name as open.
 
-    >>> goals_in(["note: src/a.rt:3:5: it is not proved that what the function ensures holds when it returns (`returns`)"])
+    >>> goals_in(["note: src/a.rt:3:5: it is not proved that the function ensures its clauses (`returns`)"])
     ['returns']
     >>> goals_in(["`search` did not prove `get-requires`, `returns`; it calls `f`, which is not proved"])
     ['get-requires', 'returns']
@@ -129,7 +129,8 @@ class Suspect:
         return bool(self.right) and any(parts_of(it)[0] in self.right for it in self.open)
 
     def looks_at(self, lines, errors):
-        """Looks at an open goal that these lines of a check name; whether each of them may be answered under its name."""
+        """Looks at an open goal that these lines of a check name. Returns whether each of them may have an answer under
+        another name."""
         self.open = goals_in(lines)
         self.gone |= {it[1] for it in map(GONE.search, errors) if it}
         names = [*answers_of(self.text)[1]]
@@ -148,7 +149,7 @@ class Suspect:
         return with_answers(self.text, [*self.held, self.ways[0]], self.gone)
 
     def takes(self, good, errors):
-        """Takes what a check said of that way: the lines that show that a goal refuses the body, and all. Answers whether
+        """Takes what a check said of that way: the lines that show that a goal refuses the body, and all. Returns whether
         the body is refused, or None where that is still open."""
         self.tries += 1
         path = parts_of(self.goal)[0]
