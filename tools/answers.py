@@ -149,8 +149,8 @@ class Suspect:
         return with_answers(self.text, [*self.held, self.ways[0]], self.gone)
 
     def takes(self, good, errors):
-        """Takes what a check said of that way: the lines that show that a goal refuses the body, and all. Returns whether
-        the body is refused, or None where that is still open."""
+        """Takes what a check said of that way: the lines that show that a goal refuses the body, and all. Returns
+        whether the body is refused, or None where that is still open."""
         self.tries += 1
         path = parts_of(self.goal)[0]
         about = [it for it in errors if any(parts_of(of)[0] == path for of in named_in(it))]
