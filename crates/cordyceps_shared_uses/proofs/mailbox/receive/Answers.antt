@@ -1,4 +1,4 @@
-use Rattle.std.proofs.Common.{[], sym, subst, arith}
+use Rattle.std.proofs.Common.{rules, [], sym, subst, arith}
 use Rattle.cordyceps.proofs.Parties.Moving.{moves_none}
 use Rattle.cordyceps.specs.Queues.Moves.{put_by, got_by, Moves}
 use Rattle.cordyceps.proofs.Queues.Sending.{then_dequeues}
@@ -17,3 +17,6 @@ loop-turn-preserved c = (
       (then_dequeues value_of c.try_dequeue.result c.try_dequeue.new.party c.loop-turn.invariant.0 c.try_dequeue.ensures.answer),
   omega (arith, c.try_dequeue.ensures.counted, c.loop-turn.invariant.1),
 )
+
+pub returns-clause-tries : goal.returns-clause-tries
+returns-clause-tries c = search rules

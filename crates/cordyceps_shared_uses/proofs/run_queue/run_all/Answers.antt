@@ -1,4 +1,4 @@
-use Rattle.std.proofs.Common.{List, ◌++◌, map, reverse, ap, sym, ◌∙◌, subst}
+use Rattle.std.proofs.Common.{rules, List, ◌++◌, map, reverse, ap, sym, ◌∙◌, subst}
 use Rattle.std.proofs.lemmas.List.{map-id}
 use Rattle.cordyceps.specs.Elements.Element.{Element}
 use Rattle.cordyceps.specs.Parties.Counts.{Same}
@@ -20,3 +20,6 @@ returns-clause-each_once g c =
     let done = c.add_all.ensures ∙ ap (λ (z : List (Element Job)). reverse back.1.1.done ++ z)
     (c.run_each.ensures ∙ ap (λ (z : List (Element Job)). reverse (map ran z) ++ back.1.0.done) left) in
     subst (λ (z : List (Element Job)). Same (map ran c.args.jobs) z) (sym done) all.2
+
+pub returns-clause-tries : goal.returns-clause-tries
+returns-clause-tries g c = search rules

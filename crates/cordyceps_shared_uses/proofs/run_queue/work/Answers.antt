@@ -1,4 +1,4 @@
-use Rattle.std.proofs.Common.{List, ◌++◌, map, reverse, ap, sym, ◌∙◌, subst, arith}
+use Rattle.std.proofs.Common.{rules, List, ◌++◌, map, reverse, ap, sym, ◌∙◌, subst, arith}
 use Rattle.std.proofs.lemmas.List.{map-id}
 use Rattle.cordyceps.specs.Elements.Element.{Element}
 use Rattle.cordyceps_shared_uses.specs.RunQueue.{ran, Worked}
@@ -17,3 +17,6 @@ loop-turn-preserved c =
           (worked_turn c.loop-turn.done batch c.args.party c.loop-turn.party c.take_all.new.party c.loop-turn.invariant.0 c.take_all.ensures.taken.2),
       omega (arith, c.take_all.ensures.counted, c.loop-turn.invariant.1),
     )
+
+pub returns-clause-tries : goal.returns-clause-tries
+returns-clause-tries c = search rules

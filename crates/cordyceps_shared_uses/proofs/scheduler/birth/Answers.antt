@@ -6,3 +6,6 @@ returns-clause-made c = search rules
 
 pub returns-clause-returned : goal.returns-clause-returned
 returns-clause-returned c = search rules
+
+pub returns-clause-id : goal.returns-clause-id
+returns-clause-id c = search rules

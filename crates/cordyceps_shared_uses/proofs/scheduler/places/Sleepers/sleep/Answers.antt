@@ -1,4 +1,4 @@
-use Rattle.std.proofs.Common.{ap, sym, ◌∙◌}
+use Rattle.std.proofs.Common.{rules, ap, sym, ◌∙◌}
 use Rattle.cordyceps_shared_uses.specs.declared.timers.Timer.{Timer}
 use Rattle.cordyceps_shared_uses.specs.declared.scheduler.work.Work.{Work}
 use Rattle.cordyceps_shared_uses.specs.Names.{name_of}
@@ -13,3 +13,6 @@ invariant_of-self g c =
       of = open_got was.of c.give.ensures.got;
       counted = holds_slept c.in-Ok.field-0 _ was.timers c.restart.new.self was.counted c.give.ensures.got same c.in-Ok.ensures.started;
     }
+
+pub returns-in-Ok-clause-sleeps : goal.returns-in-Ok-clause-sleeps
+returns-in-Ok-clause-sleeps g c = search rules

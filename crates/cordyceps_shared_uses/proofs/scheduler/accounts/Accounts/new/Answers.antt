@@ -1,0 +1,5 @@
+use Rattle.std.proofs.Common.{rules}
+use Rattle.cordyceps_shared_uses.proofs.scheduler.accounts.Accounts.new.Goals as goal
+
+pub returns : goal.returns
+returns c = search rules
