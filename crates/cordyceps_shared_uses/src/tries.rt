@@ -33,7 +33,8 @@ impl Tries {
     pub fn count(&self) -> u64
         ensures { result ≡ self.now }
     {
-        self.count
+        let Tries { count } = self;
+        *count
     }
 
     /// Tries once to take the oldest element out of a queue.
