@@ -16,12 +16,6 @@ pub links_at : (ws before after : List ℕ) (r end : ℕ) → Links ws (before +
 links_at ws [] after r end k = k.0
 links_at ws (x ∷ before) after r end k = links_at ws before after r end k.1
 
--- one more room behind them
-pub links_last : (ws rooms : List ℕ) (end r to : ℕ) → (rooms ≡ []) ⊎ (end ≡ suc r) → next ws r ≡ to → Links ws rooms end → Links ws (rooms ++ r ∷ []) to
-links_last ws [] end r to tied is k = (is, tt)
-links_last ws (x ∷ []) end r to tied is k = (k.0 ∙ ⊎_elim (λ no. absurd (cc)) (λ e. e) tied, (is, tt))
-links_last ws (x ∷ y ∷ ys) end r to tied is k = (k.0, links_last ws (y ∷ ys) end r to (inr (⊎_elim (λ no. absurd (cc)) (λ e. e) tied)) is k.1)
-
 -- a store to the link of the last
 leads_last : (before : List ℕ) (r end to : ℕ) → leads (before ++ r ∷ []) end ≡ leads (before ++ r ∷ []) to
 leads_last [] r end to = refl

@@ -80,7 +80,3 @@ module _ {X : Type 0} where
 
   pub empty_append : (homes : Homes X) (xs ys : List ℕ) → EmptyAtHome homes xs → EmptyAtHome homes ys → EmptyAtHome homes (xs ++ ys)
   empty_append homes xs ys x y i r a = elim (at_either xs ys i r a) [ inl t ↦ x i r t | inr t ↦ y t.0 r t.1 ]
-
-  pub empty_cons : (homes : Homes X) (r : ℕ) (rs : List ℕ) → get_elem? homes r ≡ some (some None) → EmptyAtHome homes rs → EmptyAtHome homes (r ∷ rs)
-  empty_cons homes r rs here others zero x e = subst (λ z. get_elem? homes z ≡ some (some None)) (sym e) here
-  empty_cons homes r rs here others (suc i) x a = others i x a

@@ -10,9 +10,6 @@ head_set words n inside = get_or-set_same words HEAD n 0 inside
 pub right_beside_head : (words : List ℕ) (n : ℕ) → right (set words HEAD n) ≡ right words
 right_beside_head words n = get_or-set_other words HEAD RIGHT n 0 (λ e. omega arith)
 
-pub next_beside_head : (words : List ℕ) (r n : ℕ) → next (set words HEAD n) r ≡ next words r
-next_beside_head words r n = get_or-set_other words HEAD (LINKS + r) n 0 (λ e. omega arith)
-
 -- ---- a store to the right
 pub right_set : (words : List ℕ) (n : ℕ) → RIGHT < length words → right (set words RIGHT n) ≡ n
 right_set words n inside = get_or-set_same words RIGHT n 0 inside

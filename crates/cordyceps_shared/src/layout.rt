@@ -1,5 +1,7 @@
 //! The layout of the words of a shared table.
 //!
+//! A stack's table ends before `LINKS`, since its links lie in its slots, and no step writes its word at `RIGHT`.
+//!
 //! `HEAD` and `RIGHT` have 128 bytes each of their own. These are two cache lines, since a processor may fetch lines in
 //! pairs. So a step on one of them takes neither the other nor a link away from another processor.
 

@@ -5,5 +5,6 @@ pub mod PartingKeeps
 pub mod PartsJoin
 pub mod PartyMoves
 pub mod Sending
+pub mod SlotMoves
 pub mod StepsKeep
 pub mod WordsKeep

@@ -6,5 +6,6 @@ pub mod Parting
 pub mod Parts
 pub mod Plays
 pub mod Rule
+pub mod Slots
 pub mod View
 pub mod Words

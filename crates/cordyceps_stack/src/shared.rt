@@ -4,6 +4,7 @@ pub(crate) mod batch;
 pub(crate) mod calls;
 pub(crate) mod parting;
 pub(crate) mod plays;
+pub(crate) mod slot;
 pub(crate) mod steps;
 pub(crate) mod table;
 pub(crate) mod waiting;

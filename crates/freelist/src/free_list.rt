@@ -62,7 +62,7 @@ impl<T: Linked<Links<T>>> FreeList<T> {
     /// If memory is refused, it returns `AllocError`, and nothing is kept.
     ///
     /// # Complexity
-    /// O(`rooms`), with four allocations.
+    /// O(`rooms`), with three allocations, of which it frees one.
     pub fn new(alloc: Global, rooms: usize) -> Result<(FreeList<T>, Party<T>), AllocError>
         requires { rooms ≤ MAX_ROOMS }
         ensures { IfOk result (λ made. made.1 ≡ new_party made.0 rooms) }

@@ -1,5 +1,5 @@
 -- What the calls of a shared transfer stack promise, from what their parts leave.
-use Rattle.std.proofs.Common.{◌≡◌, ◌+◌, ◌<◌, ℕ, suc, List, [], ◌∷◌, ◌++◌, reverse, length, replicate, Bool, refl, sym, ap, ◌∙◌, subst, arith, length-append}
+use Rattle.std.proofs.Common.{◌≡◌, ◌+◌, ◌<◌, ℕ, suc, List, [], ◌∷◌, ◌++◌, reverse, length, replicate, Bool, refl, sym, ap, ◌∙◌, subst, arith, length-append, None}
 use Rattle.std.specs.Prelude.{IsTrue, Result, Ok, Err, MatchResult, is_ok, true}
 use Rattle.atomic_table.specs.Seated.{TableId}
 use Rattle.cordyceps_shared.specs.FreeChains.{Tracks, FreeChain}
@@ -13,7 +13,7 @@ use Rattle.cordyceps_shared.proofs.Adding.{keeps_not_whole, not_whole, plain_unm
 use Rattle.cordyceps_shared.proofs.Places.{near_drop, near_take, near_append}
 use Rattle.cordyceps_shared.proofs.Naming.{joined_some, joined_disjoint, keeps_some, gives_some}
 use Rattle.cordyceps_shared.proofs.Ordering.{whole_share, keeps_share, gives_share, joined_share}
-use Rattle.cordyceps_stack.specs.Shared.Parts.{HasPushed, HasMissed, TookAll, EmptiesHand, HasAbsorbed, standing, IsSeated}
+use Rattle.cordyceps_stack.specs.Shared.Parts.{HasTried, HasPushed, HasMissed, TookAll, EmptiesHand, HasAbsorbed, standing, IsSeated}
 use Rattle.cordyceps_shared.specs.declared.free.FreeRooms.{FreeRooms}
 use Rattle.cordyceps_stack.specs.History.{Event, Load, Push, Taken, held, Legal, actor}
 use Rattle.cordyceps_stack.specs.Cores.Stages.{room_elements}
@@ -31,12 +31,12 @@ module _ {E : Type 0} where
   pub new_seated : (z table : TableId) (rooms : ℕ) (m : SeatState E) (free : FreeRooms) → (z ≡ table) × IsTable table → table.slots ≡ rooms → m ≡ (newcomer rooms, []) → free ≡ record { first = rooms; last = 0; count = rooms } → IsSeated z m free
   new_seated z table rooms m free at wide is have = record {
     table = subst (λ q. IsTable q) (sym at.0) at.1;
-    rests = (
-      ap (λ (q : SeatState E). q.0.doing) is,
-      ap (λ (q : SeatState E). q.1) is,
-      (λ e. let no : whole ≡ [] = sym (ap (λ (q : SeatState E). q.0.known.share) is) ∙ e in absurd (cc)),
-      λ i r a. subst (λ n. r < n) (sym (ap (λ (q : TableId). q.slots) at.0 ∙ wide)) (order_at rooms rooms i r (omega arith) (subst (λ (q : SeatState E). ItemAt q.0.free.rooms i r) is a)),
-    );
+    rests = record {
+      idle = ap (λ (q : SeatState E). q.0.doing) is;
+      empty = ap (λ (q : SeatState E). q.1) is;
+      named = λ e. let no : whole ≡ [] = sym (ap (λ (q : SeatState E). q.0.known.share) is) ∙ e in absurd (cc);
+      near = λ i r a. subst (λ n. r < n) (sym (ap (λ (q : TableId). q.slots) at.0 ∙ wide)) (order_at rooms rooms i r (omega arith) (subst (λ (q : SeatState E). ItemAt q.0.free.rooms i r) is a));
+    };
     tracks = subst (λ (q : FreeRooms × SeatState E). Tracks q.0 q.1.0.free) (λ i. (sym have i, sym is i)) (tracks_new rooms);
     legal = subst (λ (q : SeatState E). Legal (plain q.0.known.seen)) (sym is) legal_none;
     alone = λ _. subst (λ (q : SeatState E). AllOwn q.0.known.seen) (sym is) tt;
@@ -49,12 +49,12 @@ module _ {E : Type 0} where
   pub kept_seated : (z z' : TableId) (n : ℕ) (m k : SeatState E) (free left : FreeRooms) → IsSeated z m free → z' ≡ z → k ≡ (view_keeping n m.0, []) → Tracks left k.0.free → IsSeated z' k left
   kept_seated z z' n m k free left s at is have = record {
     table = subst (λ q. IsTable q) (sym at) s.table;
-    rests = (
-      ap (λ (q : SeatState E). q.0.doing) is ∙ s.rests.0,
-      ap (λ (q : SeatState E). q.1) is,
-      (λ e. keeps_some m.0.known.share s.rests.2 (sym (ap (λ (q : SeatState E). q.0.known.share) is) ∙ e)),
-      subst (λ (q : TableId × SeatState E). Near q.0.slots q.1.0.free.rooms) (λ i. (sym at i, sym is i)) (near_drop z.slots n m.0.free.rooms s.rests.3),
-    );
+    rests = record {
+      idle = ap (λ (q : SeatState E). q.0.doing) is ∙ s.rests.idle;
+      empty = ap (λ (q : SeatState E). q.1) is;
+      named = λ e. keeps_some m.0.known.share s.rests.named (sym (ap (λ (q : SeatState E). q.0.known.share) is) ∙ e);
+      near = subst (λ (q : TableId × SeatState E). Near q.0.slots q.1.0.free.rooms) (λ i. (sym at i, sym is i)) (near_drop z.slots n m.0.free.rooms s.rests.near);
+    };
     tracks = have;
     legal = subst (λ (q : SeatState E). Legal (plain q.0.known.seen)) (sym is) s.legal;
     alone = λ e. absurd (keeps_not_whole m.0.known.share (sym (ap (λ (q : SeatState E). q.0.known.share) is) ∙ e));
@@ -64,12 +64,12 @@ module _ {E : Type 0} where
   pub given_seated : (z z' : TableId) (n : ℕ) (m k : SeatState E) (free some_of : FreeRooms) → IsSeated z m free → z' ≡ z → k ≡ (view_giving n m.0, []) → Tracks some_of k.0.free → IsSeated z' k some_of
   given_seated z z' n m k free some_of s at is have = record {
     table = subst (λ q. IsTable q) (sym at) s.table;
-    rests = (
-      ap (λ (q : SeatState E). q.0.doing) is,
-      ap (λ (q : SeatState E). q.1) is,
-      (λ e. gives_some m.0.known.share s.rests.2 (sym (ap (λ (q : SeatState E). q.0.known.share) is) ∙ e)),
-      subst (λ (q : TableId × SeatState E). Near q.0.slots q.1.0.free.rooms) (λ i. (sym at i, sym is i)) (near_take z.slots n m.0.free.rooms s.rests.3),
-    );
+    rests = record {
+      idle = ap (λ (q : SeatState E). q.0.doing) is;
+      empty = ap (λ (q : SeatState E). q.1) is;
+      named = λ e. gives_some m.0.known.share s.rests.named (sym (ap (λ (q : SeatState E). q.0.known.share) is) ∙ e);
+      near = subst (λ (q : TableId × SeatState E). Near q.0.slots q.1.0.free.rooms) (λ i. (sym at i, sym is i)) (near_take z.slots n m.0.free.rooms s.rests.near);
+    };
     tracks = have;
     legal = subst (λ (q : SeatState E). Legal (plain q.0.known.seen)) (sym is) (subst (λ h. Legal h) (sym (plain_unmarked m.0.known.seen)) s.legal);
     alone = λ e. absurd (not_whole m.0.known.share (sym (ap (λ (q : SeatState E). q.0.known.share) is) ∙ e));
@@ -79,13 +79,13 @@ module _ {E : Type 0} where
   pub absorbed_seated : (z y z' : TableId) (m o k : SeatState E) (mine theirs all : FreeRooms) → IsSeated z m mine → IsSeated y o theirs → y ≡ z → z' ≡ z → HasAbsorbed m o k → IsKnown (λ h. Legal h) (view_absorbing m.0 o.0).known → Tracks all k.0.free → IsSeated z' k all
   absorbed_seated z y z' m o k mine theirs all s other beside at is known have = record {
     table = subst (λ q. IsTable q) (sym at) s.table;
-    rests = (
-      is.doing,
-      is.hand,
-      (λ e. joined_some m.0.known.share o.0.known.share s.rests.2 (sym (ap (λ (q : Known (Event Name E)). q.share) is.known) ∙ e)),
-      subst (λ (q : TableId × List ℕ). Near q.0.slots q.1) (λ i. (sym at i, sym is.rooms i))
-          (near_append z.slots m.0.free.rooms o.0.free.rooms s.rests.3 (subst (λ (q : TableId). Near q.slots o.0.free.rooms) beside other.rests.3)),
-    );
+    rests = record {
+      idle = is.doing;
+      empty = is.hand;
+      named = λ e. joined_some m.0.known.share o.0.known.share s.rests.named (sym (ap (λ (q : Known (Event Name E)). q.share) is.known) ∙ e);
+      near = subst (λ (q : TableId × List ℕ). Near q.0.slots q.1) (λ i. (sym at i, sym is.rooms i))
+          (near_append z.slots m.0.free.rooms o.0.free.rooms s.rests.near (subst (λ (q : TableId). Near q.slots o.0.free.rooms) beside other.rests.near));
+    };
     tracks = have;
     legal = subst (λ (q : Known (Event Name E)). Legal (plain q.seen)) (sym is.known) known.legal;
     alone = λ e. subst (λ (q : Known (Event Name E)). AllOwn q.seen) (sym is.known) (known.alone (sym (ap (λ (q : Known (Event Name E)). q.share) is.known) ∙ e));
@@ -145,6 +145,9 @@ module _ {E : Type 0} where
   -- a whole party's exchange does not fail
   pub whole_hits : (m k : SeatState E) → HasMissed m k → m.0.known.share ≡ whole → ⊥
   whole_hits m k h is = not_overtaken k.0.known.seen (h.sees.alone (h.sees.share ∙ is)) h.overtaken
+
+  pub whole_tries : (slots room next : ℕ) (x : E) (m f : SeatState E) → HasTried slots room x next None m f → m.0.known.share ≡ whole → ⊥
+  whole_tries slots room next x m f tried is = let missed = tried.answer in not_overtaken f.0.known.seen (missed.sees.alone (missed.sees.share ∙ is)) missed.overtaken
 
   -- a whole party takes exactly what its history holds
   pub takes_held : (u w : PartyOf E) (batch : List E) → u.share ≡ whole → Takes batch u w → batch ≡ reverse (held (plain u.seen))

@@ -1,14 +1,18 @@
 -- The order of a new stack's free rooms has each room once.
-use Rattle.std.proofs.Common.{◌≡◌, ℕ, zero, suc, ◌+◌, ◌*◌, ◌/◌, ◌≤◌, ◌<◌, ◌&&◌, nat_le, true, cond, List, [], ◌∷◌, ◌++◌, map, length, eqb, refl, sym, ap, ◌∙◌, subst, arith}
+use Rattle.std.proofs.Common.{◌≡◌, ℕ, zero, suc, ◌+◌, ◌*◌, ◌/◌, ◌≤◌, ◌<◌, ◌&&◌, nat_le, true, cond, List, [], ◌∷◌, ◌++◌, map, length, eqb, refl, sym, ap, ◌∙◌, subst, arith, length-append}
 use Rattle.std.proofs.lemmas.Bool.{cond_both, leb-true, and_parts}
 use mathlib.Core.Logic.{dite}
+use mathlib.Core.Option.{some}
+use lib.ListN.{get_elem?}
+use Rattle.atomic_table.proofs.Lists.{at_map, at_last, at_longer}
 use native.Mathlib.Decide.{ℕ_discrete}
 use Rattle.cordyceps_shared.specs.Counts.{one_if, times, below}
-use Rattle.cordyceps_shared.specs.FreeChains.{Tracks, leads, Links}
+use Rattle.cordyceps_shared.specs.FreeChains.{Tracks, leads}
 use Rattle.cordyceps_shared.specs.Places.{ItemAt}
-use Rattle.cordyceps_shared.specs.Words.{next}
 use Rattle.cordyceps_shared.proofs.Choices.{first_or, rest_from}
 use Rattle.cordyceps_shared.proofs.Counting.{one_here, one_else, at_most_one, below_once}
+use Rattle.cordyceps_stack.specs.declared.shared.slot.Slot.{Slot}
+use Rattle.cordyceps_stack.specs.Shared.Slots.{vacant, all_vacant, AtHome}
 use Rattle.cordyceps_stack.specs.Shared.Order.{in_block, across, crosswise, in_order, leads_before}
 
 same_block : (r : ℕ) → across r / 1024 ≡ r / 1024
@@ -63,11 +67,23 @@ before_leads : (rooms k : ℕ) → leads_before rooms k ≡ leads (map (crosswis
 before_leads rooms zero = refl
 before_leads rooms (suc k) = refl
 
-pub order_links : (ws : List ℕ) (rooms k : ℕ) → k ≤ rooms → ((r : ℕ) → r < rooms → next ws r ≡ leads_before rooms (crosswise rooms r)) → Links ws (map (crosswise rooms) (below k)) 0
-order_links ws rooms zero few new = tt
-order_links ws rooms (suc k) few new = (
-  new (crosswise rooms k) (crosswise_inside rooms k (omega arith)) ∙ (ap (leads_before rooms) (crosswise_twice rooms k) ∙ before_leads rooms k),
-  order_links ws rooms k (omega arith) new,
+-- a list whose items are those of f, with one more
+pub one_more : {A : Type 0} (xs : List A) (f : ℕ → A) (n : ℕ) (x : A) → length xs ≡ n → ((r : ℕ) → r < n → get_elem? xs r ≡ some (f r)) → x ≡ f n
+    → (length (xs ++ x ∷ []) ≡ n + 1) × ((r : ℕ) → r < n + 1 → get_elem? (xs ++ x ∷ []) r ≡ some (f r))
+one_more xs f n x long items is = (
+  length-append xs (x ∷ []) ∙ ap (λ k. k + 1) long,
+  λ r low. dite (ℕ_discrete r n)
+      (λ e. subst (λ k. get_elem? (xs ++ x ∷ []) k ≡ some (f k)) (sym e) (at_last xs x n long ∙ ap some is))
+      (λ other. at_longer xs (x ∷ []) r (f r) (items r (omega arith))),
+)
+
+-- the slots of a new stack lead through all rooms in order
+pub order_home : {E : Type 0} (slots : List (Slot E)) (rooms k : ℕ) → k ≤ rooms → ((r : ℕ) → r < rooms → get_elem? slots r ≡ some (vacant (leads_before rooms (crosswise rooms r)))) → AtHome (map some slots) (all_vacant (map (crosswise rooms) (below k)) 0)
+order_home slots rooms zero few new = tt
+order_home slots rooms (suc k) few new = (
+  at_map some slots (crosswise rooms k) (vacant (leads (map (crosswise rooms) (below k)) 0))
+      (new (crosswise rooms k) (crosswise_inside rooms k (omega arith)) ∙ ap (λ n. some (vacant n)) (ap (leads_before rooms) (crosswise_twice rooms k) ∙ before_leads rooms k)),
+  order_home slots rooms k (omega arith) new,
 )
 
 order_first : (n r : ℕ) (rs : List ℕ) → in_order n ≡ r ∷ rs → n ≡ suc r

@@ -1,56 +1,54 @@
 -- The rule of a transfer stack's table at the start, and where a party is split in two or takes another in.
-use Rattle.std.proofs.Common.{◌≡◌, ◌≢◌, ◌+◌, ℕ, List, [], ◌∷◌, ◌++◌, map, reverse, replicate, set, eqb, refl, sym, ap, ◌∙◌, subst, inl, inr, ⊎_elim, arith, append_assoc, None}
+use Rattle.std.proofs.Common.{◌≡◌, ◌≢◌, ℕ, List, [], ◌∷◌, ◌++◌, map, length, reverse, set, eqb, refl, sym, ap, ◌∙◌, subst, inl, inr, ⊎_elim, arith, append_assoc}
 use mathlib.Core.Option.{some, none}
-use lib.ListN.{get_elem?, length-map, length-replicate}
+use lib.ListN.{get_elem?}
 use Rattle.atomic_table.specs.Table.{opening, Splits, Joins, Allows, step, keeps}
-use Rattle.cordyceps_shared.specs.FreeChains.{Links, MayJoin}
-use Rattle.cordyceps_shared.specs.Counts.{one_if}
+use Rattle.cordyceps_shared.specs.FreeChains.{MayJoin}
+use Rattle.cordyceps_shared.specs.Counts.{one_if, times}
 use Rattle.cordyceps_shared.specs.Shares.{Name}
+use Rattle.cordyceps_shared.specs.Words.{head}
 use Rattle.cordyceps_shared.specs.declared.layout.TheConstants.{HEAD, LINKS}
 use Rattle.cordyceps_shared.proofs.Counting.{tally_set, tally_append, tally_cut}
 use Rattle.cordyceps_shared.proofs.Changing.{two_set, set_more, was_there}
 use Rattle.cordyceps_shared.proofs.Cutting.{owned_cut, fits_cut}
 use Rattle.cordyceps_shared.proofs.Joining.{owned_join, fits_join}
-use Rattle.cordyceps_shared.proofs.Places.{empty_new, empty_drop, empty_take, empty_append}
 use Rattle.cordyceps_shared.proofs.Renaming.{renamed_else, relabel, events_relabel, relabel_append, without_relabel}
 use Rattle.cordyceps_shared.proofs.Standing as seats
 use Rattle.cordyceps_shared.proofs.Telling.{owned_same, fits_forgot}
 use Rattle.cordyceps_stack.specs.History.{Event, Load, Taken, held, Legal, actor, SomeChange}
-use Rattle.cordyceps_stack.specs.Shared.View.{Idle, View, knows, newcomer, kept_rooms, at_work, count_with_party}
-use Rattle.cordyceps_stack.specs.Shared.Words.{History, Since, AtDoing, AreNew}
-use Rattle.cordyceps_shared.proofs.FreeLinks.{links_drop, links_take, links_append}
-use Rattle.cordyceps_shared.specs.Slots.{Homes, EmptyAtHome}
+use Rattle.cordyceps_stack.specs.Shared.View.{Idle, View, knows, newcomer, held_rooms, count_with_party}
+use Rattle.cordyceps_stack.specs.Shared.Words.{History, Since, AtDoing}
+use Rattle.cordyceps_stack.specs.Shared.Slots.{Hand, all_vacant, AtHome, AreNew}
+use Rattle.cordyceps_stack.specs.declared.shared.slot.Slot.{Slot}
 use Rattle.cordyceps_stack.specs.Shared.Rule.{RuleHolds}
 use Rattle.cordyceps_stack.specs.Shared.Plays.{SeatState}
 use Rattle.cordyceps_stack.specs.Shared.Parting.{view_keeping, view_giving, view_absorbing, view_absorbed, view_without_told, after_learn}
-use Rattle.cordyceps_stack.specs.Shared.Order.{in_order}
 use Rattle.cordyceps_stack.proofs.Histories.{legal_none}
-use Rattle.cordyceps_stack.proofs.SharedTheory.OrderHolds.{order_at, order_once, order_links}
+use Rattle.cordyceps_stack.proofs.SharedTheory.OrderHolds.{order_once, order_home}
+use Rattle.cordyceps_stack.proofs.SharedTheory.SlotMoves.{vacant_cut, vacant_joined, home_append, home_front, home_back}
 use Rattle.cordyceps_stack.proofs.SharedTheory.WordsKeep.{does_frame, rests, forks}
 use Rattle.cordyceps_stack.proofs.SharedTheory.StepsKeep.{step_keeps, unwritten, few_rooms}
 
 legal_front : {P E : Type 0} (xs ys : List (Event P E)) → Legal (xs ++ ys) → Legal xs
 legal_front xs ys l before after p batch e = l before (after ++ ys) p batch (ap (λ z. z ++ ys) e ∙ append_assoc before (Taken p batch ∷ after) ys)
 
-module _ (E : Type 0) where
-  pub opens : (rooms : ℕ) (words : List ℕ) → AreNew words rooms → RuleHolds {E = E} (opening words (replicate rooms None) (newcomer rooms))
-  opens rooms words new =
+module _ {E : Type 0} where
+  pub opens : (rooms : ℕ) (words : List ℕ) (slots : List (Slot E)) → length words ≡ LINKS → head words ≡ 0 → AreNew slots rooms → RuleHolds (opening words slots (newcomer rooms))
+  opens rooms words slots wide top new =
       let first : View E = newcomer rooms in
       let known = seats.opens actor knows first refl in record {
         history = [];
         chain = [];
         meets = record {
           legal = legal_none;
-          spelled = new.empty;
+          top = top;
           holds = refl;
           apart = λ r. omega (arith, order_once rooms r);
           each = λ j v e. subst (λ (z : View E). AtDoing words [] j z.doing) (seats.only first v j e).1 tt;
-          linked = λ j v e. subst (λ (z : View E). Links words z.free.rooms z.free.end) (seats.only first v j e).1 (order_links words rooms rooms (omega arith) new.linked);
         };
-        wide = new.wide ∙ ap (λ n. LINKS + n) (sym (length-map (replicate rooms None) some ∙ length-replicate rooms None));
+        wide = wide;
         full = tt;
-        empty = λ j v e. subst (λ (z : View E). let homes : Homes E = map some (replicate rooms None) in EmptyAtHome homes z.free.rooms) (seats.only first v j e).1 (empty_new rooms (in_order rooms) (λ i r. order_at rooms rooms i r (omega arith)));
-        kept = λ j v e. subst (λ (z : View E). let homes : Homes E = map some (replicate rooms None) in EmptyAtHome homes (kept_rooms z.doing)) (seats.only first v j e).1 (λ i r a. absurd a);
+        free = λ j v e. subst (λ (z : View E). AtHome (map some slots) (all_vacant z.free.rooms z.free.end)) (seats.only first v j e).1 (order_home slots rooms rooms (omega arith) new.linked);
         fits = known.1;
         owned = known.0;
       }
@@ -60,15 +58,16 @@ module _ {E : Type 0} where
   pub splits : (id n : ℕ) (v : View E) → v.known.share ≢ [] → Splits RuleHolds id v (view_keeping n v) (view_giving n v)
   splits id n v named s k at =
       let left = view_keeping n v in
-      let right = view_giving n v in record {
+      let right = view_giving n v in
+      let kept : Hand E = all_vacant left.free.rooms left.free.end in
+      let given : Hand E = all_vacant right.free.rooms right.free.end in
+      let home : AtHome s.homes (given ++ kept) = subst (AtHome s.homes) (vacant_cut E n v.free) (k.free id v at) in record {
         history = k.history;
         chain = k.chain;
-        meets = forks s.words k.chain s.views k.history id v left right k.meets at (λ r. let cut = tally_cut (λ q. one_if (eqb q r)) n v.free.rooms in omega arith) (k.meets.each id v at) (λ _. tt)
-            (links_drop s.words v.free.rooms n v.free.end (k.meets.linked id v at)) (links_take s.words v.free.rooms n v.free.end (k.meets.linked id v at));
+        meets = forks s.words k.chain s.views k.history id v left right k.meets at (λ r. let cut = tally_cut (λ q. one_if (eqb q r)) n v.free.rooms in omega arith) (k.meets.each id v at) (λ _. tt);
         wide = k.wide;
         full = k.full;
-        empty = set_more (λ _ u. EmptyAtHome s.homes u.free.rooms) s.views id left right (empty_drop s.homes n v.free.rooms (k.empty id v at)) (empty_take s.homes n v.free.rooms (k.empty id v at)) (λ i u _ e. k.empty i u e);
-        kept = set_more (λ _ u. EmptyAtHome s.homes (kept_rooms u.doing)) s.views id left right (k.kept id v at) (λ i r a. absurd a) (λ i u _ e. k.kept i u e);
+        free = set_more (λ _ u. AtHome s.homes (all_vacant u.free.rooms u.free.end)) s.views id left right (home_back s.homes given kept home) (home_front s.homes given kept home) (λ i u _ e. k.free i u e);
         fits = fits_cut actor knows s.views k.history id v left right at refl refl k.owned k.fits;
         owned = owned_cut knows s.views k.history id v left right at refl refl named k.owned;
       }
@@ -96,19 +95,18 @@ module _ {E : Type 0} where
         chain = k.chain;
         meets = record {
           legal = subst (λ z. Legal z) (sym same) m.legal;
-          spelled = m.spelled;
+          top = m.top;
           holds = m.holds ∙ ap (λ z. reverse (held z)) (sym same);
           apart = λ r.
-              let pv = ap (at_work r) idle in
-              let pw = ap (at_work r) idle_too in
+              let pv = ap (λ d. times r (held_rooms d)) idle in
+              let pw = ap (λ d. times r (held_rooms d)) idle_too in
               omega (arith, m.apart r, tally_set (count_with_party r) s.views id v (view_absorbing v w) at, tally_set (count_with_party r) one other w view_absorbed there, tally_append (λ q. one_if (eqb q r)) v.free.rooms w.free.rooms);
-          each = two_set (λ i u. AtDoing s.words h i u.doing) s.views id other (view_absorbing v w) view_absorbed tt tt (λ i u n o e. does_frame s.words s.words k.history h i u.doing (λ r _. refl) (λ read. since_relabel id other s.words k.history i read n o) (m.each i u e));
-          linked = two_set (λ _ u. Links s.words u.free.rooms u.free.end) s.views id other (view_absorbing v w) view_absorbed (links_append s.words v.free.rooms w.free.rooms v.free.end w.free.end may (m.linked id v at) (m.linked other w there_first)) tt (λ i u _ _ e. m.linked i u e);
+          each = two_set (λ i u. AtDoing s.words h i u.doing) s.views id other (view_absorbing v w) view_absorbed tt tt (λ i u n o e. does_frame s.words s.words k.history h i u.doing (λ read. since_relabel id other s.words k.history i read n o) (m.each i u e));
         };
         wide = k.wide;
         full = k.full;
-        empty = two_set (λ _ u. EmptyAtHome s.homes u.free.rooms) s.views id other (view_absorbing v w) view_absorbed (empty_append s.homes v.free.rooms w.free.rooms (k.empty id v at) (k.empty other w there_first)) (λ i r a. absurd a) (λ i u _ _ e. k.empty i u e);
-        kept = two_set (λ _ u. EmptyAtHome s.homes (kept_rooms u.doing)) s.views id other (view_absorbing v w) view_absorbed (λ i r a. absurd a) (λ i r a. absurd a) (λ i u _ _ e. k.kept i u e);
+        free = two_set (λ _ u. AtHome s.homes (all_vacant u.free.rooms u.free.end)) s.views id other (view_absorbing v w) view_absorbed
+            (subst (AtHome s.homes) (sym (vacant_joined E v.free w.free may)) (home_append s.homes (all_vacant v.free.rooms v.free.end) (all_vacant w.free.rooms w.free.end) (k.free id v at) (k.free other w there_first))) tt (λ i u _ _ e. k.free i u e);
         fits = fits_join actor knows s.views k.history id other v w (view_absorbing v w) view_absorbed at apart there refl refl k.fits;
         owned = owned_join knows s.views k.history id other v w (view_absorbing v w) view_absorbed at apart there refl refl named k.owned;
       }
@@ -118,12 +116,12 @@ module _ {E : Type 0} where
       let v = me.0 in
       let w = view_without_told v in
       let few = few_rooms s k id v at in
-      let meets = rests s.words k.chain s.views k.history id v w k.meets at (λ r. omega arith) (k.meets.each id v at) (k.meets.linked id v at) in (
+      let meets = rests s.words k.chain s.views k.history id v w k.meets at (λ r. omega arith) (k.meets.each id v at) in (
         w,
         keeps,
         tt,
         unwritten s HEAD s.homes (set s.views id w)
-            (step_keeps s k id v w s.words s.homes k.chain k.history at meets refl refl k.full (k.empty id v at) (k.kept id v at) (λ _ _ _ _ _ _. refl)
+            (step_keeps s k id v w s.words s.homes k.chain k.history meets refl k.full (k.free id v at) (λ _ _ _ _ _ _. refl)
             (fits_forgot actor knows s.views k.history id v w at refl refl refl k.fits) (owned_same knows s.views k.history id v w at refl k.owned)),
         (refl, refl, seats.is_known actor knows (λ z. Legal z) legal_front s.views k.history id v k.owned k.fits at k.meets.legal, omega arith),
       )

@@ -1,44 +1,48 @@
 -- What the parts of a call come to together.
-use Rattle.std.proofs.Common.{◌≡◌, ◌≢◌, ◌↔◌, ◌⊎◌, ℕ, suc, ◌+◌, ◌-◌, ◌<◌, List, [], ◌∷◌, ◌++◌, length, replicate, Bool, true, cond, eqb, refl, sym, ap, ◌∙◌, subst, inl, inr, arith, append-nil, length-append, eq-eqb, Option, Some, None}
+use Rattle.std.proofs.Common.{◌≡◌, ◌≢◌, ◌↔◌, ◌⊎◌, ℕ, zero, suc, ◌+◌, ◌-◌, ◌≤◌, ◌<◌, List, [], ◌∷◌, ◌++◌, length, replicate, take, drop, take-append-drop, Bool, true, cond, eqb, refl, sym, ap, ◌∙◌, subst, inl, inr, ⊎_elim, arith, append-nil, append_assoc, length-append, eq-eqb, Option, Some, None}
 use Rattle.std.proofs.lemmas.Bool.{eqb-true}
-use Rattle.std.specs.Prelude.{IsTrue}
-use Rattle.cordyceps_shared.specs.FreeChains.{Tracks, FreeChain, leads, with_first, joined}
+use Rattle.std.proofs.lemmas.List.{map-append, length-map, reverse-append, length-take-le}
+use Rattle.std.specs.Prelude.{IsTrue, reverse}
+use Rattle.cordyceps_shared.specs.FreeChains.{Tracks, FreeChain, leads, end_after, with_first, with_last, first_rooms, rest_rooms, joined, IsTied, MayJoin}
 use Rattle.cordyceps_shared.specs.Histories.{plain, own, AllOwn}
 use Rattle.cordyceps_shared.specs.Knowing.{Known, Grown}
+use Rattle.cordyceps_shared.specs.Places.{ItemAt}
 use Rattle.cordyceps_shared.specs.Shares.{Name, first_name}
+use Rattle.cordyceps_shared.specs.Slots.{Near}
+use Rattle.cordyceps_shared.specs.declared.free.FreeRooms.{FreeRooms}
 use Rattle.cordyceps_shared.proofs.Adding.{replicate_more, tail_own}
-use Rattle.cordyceps_shared.proofs.Places.{near_append}
+use Rattle.cordyceps_shared.proofs.Choices.{first_or}
+use Rattle.cordyceps_shared.proofs.Places.{near_cons, near_append}
 use Rattle.cordyceps_shared.proofs.Telling.{grown_then}
-use Rattle.cordyceps_shared.proofs.TrackRooms.{more_than_none}
+use Rattle.cordyceps_shared.proofs.TrackRooms.{first_room, more_than_none, tracks_joined, tracks_alone}
 use Rattle.cordyceps_stack.specs.History.{Event, Load, Push, Taken, Legal, SomeChange, actor}
 use Rattle.cordyceps_stack.specs.Cores.Stages.{room_elements}
-use Rattle.cordyceps_stack.specs.Shared.Plays.{SeatState, Sees, carry, NearChain, IsResting, IsReady, IsWalking, to_hand_out}
-use Rattle.cordyceps_shared.specs.Slots.{Near}
-use Rattle.cordyceps_stack.specs.Shared.Parts.{IsFilled, HasMissed, HasPushed, SettlesAt, HasTaken, TookAll, Followed, EmptiesHand}
-use Rattle.cordyceps_shared.specs.declared.free.FreeRooms.{FreeRooms}
 use Rattle.cordyceps_stack.specs.Shared.Calls.{EndsPushed, EndsLooked, IsOvertaken}
-use Rattle.cordyceps_stack.specs.Shared.View.{Doing, Idle, Walking, View, name, walked_through, walk_through}
-use Rattle.cordyceps_stack.specs.Shared.View.{taking, free_taking, had_free}
-use Rattle.cordyceps_stack.specs.Shared.Words.{start}
+use Rattle.cordyceps_stack.specs.Shared.Parts.{HoldsFirst, Relinked, HasMissed, HasPushed, HasTried, SettlesAt, HasTaken, TookAll, EmptiesHand}
+use Rattle.cordyceps_stack.specs.Shared.Plays.{SeatState, Sees, IsBegun, HasHit, HasFailed, HasSwapped, IsResting, IsReady, IsWalking, to_hand_out, chain_in_hand}
+use Rattle.cordyceps_stack.specs.Shared.Slots.{Hand, start, rooms_of, link_or, filled, vacant, in_use, all_vacant, last_link}
+use Rattle.cordyceps_stack.specs.Shared.View.{Idle, Holding, View, name, taking, held_rooms}
+use Rattle.cordyceps_stack.proofs.SharedTheory.SlotMoves.{vacant_append, last_vacant, leads_append}
+use Rattle.cordyceps_stack.proofs.SharedTheory.WordsKeep.{rooms_taking}
+
+none_there : (xs : List ℕ) → length xs ≡ 0 → xs ≡ []
+none_there [] e = refl
+none_there (x ∷ xs) e = absurd (omega arith)
+
+-- the last items of two lists
+end_same : {A : Type 0} (d : A) (xs ys : List A) (x y : A) → xs ++ x ∷ [] ≡ ys ++ y ∷ [] → x ≡ y
+end_same d xs ys x y e = ap (first_or d) (sym (reverse-append xs (x ∷ [])) ∙ (ap (λ z. reverse z) e ∙ reverse-append ys (y ∷ [])))
 
 pub is_zero : (n : ℕ) → (n ≡ 0) ↔ IsTrue (eqb n 0)
 is_zero n = (λ e. eq-eqb n 0 e, λ e. eqb-true n 0 e)
 
--- what is in the slot in hand
-abbrev pub hand_of : {A : Type 0} → List (ℕ × Option A) → Option A
-hand_of [] = None
-hand_of (x ∷ xs) = x.1
-
 module _ {E : Type 0} where
   -- a party that loaded, and then did another step under the same name
-  pub then_pushed : (v w u k : View E) (x : E) → Sees v (Load (name v) ∷ []) w → u.known ≡ w.known → Sees u (Push (name u) x ∷ []) k → Sees v (Load (name v) ∷ Push (name v) x ∷ []) k
-  then_pushed v w u k x a same b =
-      let n : name u ≡ name v = ap (λ (z : Known (Event Name E)). first_name z.share) same ∙ ap first_name a.share in
-      grown_then actor (λ h. Legal h) v.known w.known k.known (Load (name v) ∷ []) (Push (name v) x ∷ []) a
-      (subst (λ (p : Known (Event Name E) × Name). Grown actor (λ h. Legal h) p.0 (Push p.1 x ∷ []) k.known) (λ i. (same i, n i)) b)
+  then_pushed : (v w k : View E) (x : E) → Sees v (Load (name v) ∷ []) w → Sees w (Push (name w) x ∷ []) k → Sees v (Load (name v) ∷ Push (name v) x ∷ []) k
+  then_pushed v w k x a b = grown_then actor (λ h. Legal h) v.known w.known k.known (Load (name v) ∷ []) (Push (name v) x ∷ []) a (subst (λ n. Sees w (Push n x ∷ []) k) (ap first_name a.share) b)
 
-  pub then_missed : (v w u k : View E) → Sees v (Load (name v) ∷ []) w → u.known ≡ w.known → Sees u [] k → Sees v (Load (name v) ∷ []) k
-  then_missed v w u k a same b = grown_then actor (λ h. Legal h) v.known w.known k.known (Load (name v) ∷ []) [] a (subst (λ (p : Known (Event Name E)). Grown actor (λ h. Legal h) p [] k.known) same b)
+  then_missed : (v w k : View E) → Sees v (Load (name v) ∷ []) w → Sees w [] k → Sees v (Load (name v) ∷ []) k
+  then_missed v w k a b = grown_then actor (λ h. Legal h) v.known w.known k.known (Load (name v) ∷ []) [] a b
 
   -- ---- tries
   -- as yet no try, or so many that failed
@@ -66,9 +70,6 @@ module _ {E : Type 0} where
   tried_pushed v w k x (inl e) s = (0, subst (λ (p : Known (Event Name E)). Grown actor (λ h. Legal h) p (Load (first_name p.share) ∷ Push (first_name p.share) x ∷ []) k.known) e s)
   tried_pushed v w k x (inr t) s = (suc t.0, loads_then v w k (suc t.0) (λ n. Push n x ∷ []) t.1 s)
 
-  pub same_name : (v w u : View E) (es : List (Event Name E)) → Sees v es w → u.known ≡ w.known → name u ≡ name v
-  same_name v w u es a same = ap (λ (z : Known (Event Name E)). first_name z.share) same ∙ ap first_name a.share
-
   pub ends_as : (e : E) (A B : Type 0) (n m : Name) (seen : List (Bool × Event Name E)) → n ≡ m → A ↔ B → EndsPushed e A n seen → EndsPushed e B m seen
   ends_as e A B n m seen same both p = record {
     before = p.before;
@@ -78,24 +79,6 @@ module _ {E : Type 0} where
 
   pub looked_as : (A B : Type 0) (n : Name) (seen : List (Bool × Event Name E)) → A ↔ B → EndsLooked A n seen → EndsLooked B n seen
   looked_as A B n seen both p = record { before = p.before; is = p.is; none = (λ b. p.none.0 (both.1 b), λ h. both.0 (p.none.1 h)) }
-
-  pub tried_ready : (slots room : ℕ) (x : E) (m w : SeatState E) → w.0.doing ≡ m.0.doing → w.1 ≡ m.1 → w.0.free ≡ m.0.free → Tried m.0 w.0 → IsReady slots room x m → IsReady slots room x w
-  tried_ready slots room x m w doing hand free tried r = (
-    doing ∙ r.0,
-    hand ∙ r.1,
-    (λ e. r.2 (sym (tried_share m.0 w.0 tried) ∙ e)),
-    subst (λ l. Near slots l.rooms) (sym free) r.3,
-    r.4,
-  )
-
-  -- what was known before a try is what was known before that
-  pub settles_from : (slots tries : ℕ) (x : E) (first : Bool) (m w k : SeatState E) → w.0.known ≡ m.0.known → w.0.free ≡ m.0.free → SettlesAt slots tries x first w k → SettlesAt slots tries x first m k
-  settles_from slots tries x first m w k same free s = record {
-    rests = s.rests;
-    free = s.free ∙ free;
-    sees = subst (λ (p : Known (Event Name E)). Grown actor (λ h. Legal h) p (replicate tries (Load (first_name p.share)) ++ Push (first_name p.share) x ∷ []) k.0.known) same s.sees;
-    ends = subst (λ (p : Known (Event Name E)). EndsPushed x (IsTrue first) (first_name p.share) k.0.known.seen) same s.ends;
-  }
 
   pub settles_at : (slots : ℕ) (x : E) (first : Bool) (m w k : SeatState E) → Tried m.0 w.0 → w.0.free ≡ m.0.free → SettlesAt slots 1 x first w k → (tries : ℕ) × SettlesAt slots (suc tries) x first m k
   settles_at slots x first m w k tried free s =
@@ -109,31 +92,114 @@ module _ {E : Type 0} where
         },
       )
 
-  -- ---- a whole push
-  pub pushed_from : (slots tries room next : ℕ) (x : E) (first : Bool) (m f k : SeatState E) → IsFilled slots room next x m f → SettlesAt slots tries x first f k → HasPushed tries x first m k
-  pushed_from slots tries room next x first m f k filled s = record {
-    free = ap (λ (l : FreeChain). length l.rooms) filled.free ∙ ap (λ (l : FreeChain). suc (length l.rooms)) (sym s.free);
-    sees = subst (λ (p : Known (Event Name E)). Grown actor (λ h. Legal h) p (replicate tries (Load (first_name p.share)) ++ Push (first_name p.share) x ∷ []) k.0.known) filled.known s.sees;
-    ends = subst (λ (p : Known (Event Name E)). EndsPushed x (IsTrue first) (first_name p.share) k.0.known.seen) filled.known s.ends;
+  -- ---- a try of a party that was ready, from what it loaded on
+  pub settles_once : (slots room read : ℕ) (x : E) (hand : Hand E) (m l k : SeatState E) → IsReady slots room x m → l.0.free ≡ m.0.free → Sees m.0 (Load (name m.0) ∷ []) l.0 → HasHit x read (l.0, hand) k → SettlesAt slots 1 x (eqb read 0) m k
+  settles_once slots room read x hand m l k ready free sees hit = record {
+    rests = record {
+      idle = hit.doing;
+      empty = hit.hand;
+      named = λ e. ready.named (sym (hit.sees.share ∙ sees.share) ∙ e);
+      near = subst (λ l. Near slots l.rooms) (sym (hit.free ∙ free)) ready.near;
+    };
+    free = hit.free ∙ free;
+    sees = then_pushed m.0 l.0 k.0 x sees hit.sees;
+    ends = ends_as x (read ≡ 0) (IsTrue (eqb read 0)) (name l.0) (name m.0) k.0.known.seen (ap first_name sees.share) (is_zero read) hit.ends;
   }
 
-  pub missed_from : (slots room next : ℕ) (x : E) (m f k o : SeatState E) → IsResting slots m → IsFilled slots room next x m f → HasMissed f k
-      → o ≡ (record k.0 { doing = Idle; free = with_first room k.0.free }, []) → HasMissed m o
-  missed_from slots room next x m f k o rests filled s is = record {
-    doing = ap (λ (q : SeatState E). q.0.doing) is ∙ sym rests.0;
-    hand = ap (λ (q : SeatState E). q.1) is ∙ sym rests.1;
-    free = ap (λ (q : SeatState E). q.0.free) is ∙ (ap (with_first room) s.free ∙ sym filled.free);
-    sees = subst (λ (p : Known (Event Name E) × Known (Event Name E)). Grown actor (λ h. Legal h) p.0 (Load (first_name p.0.share) ∷ []) p.1) (λ i. (filled.known i, sym (ap (λ (q : SeatState E). q.0.known) is) i)) s.sees;
-    overtaken = subst (λ (p : Known (Event Name E)). IsOvertaken p.seen) (sym (ap (λ (q : SeatState E). q.0.known) is)) s.overtaken;
+  pub fails_once : (slots room read : ℕ) (x : E) (m l k : SeatState E) → IsReady slots room x m → l.0.free ≡ m.0.free → Sees m.0 (Load (name m.0) ∷ []) l.0 → HasFailed room (l.0, (room, filled x read) ∷ []) k → IsReady slots room x k × HasMissed m k
+  fails_once slots room read x m l k ready free sees failed = (
+    record {
+      doing = failed.doing;
+      link = read;
+      hand = failed.hand;
+      named = λ e. ready.named (sym (failed.sees.share ∙ sees.share) ∙ e);
+      near = subst (λ l. Near slots l.rooms) (sym (failed.free ∙ free)) ready.near;
+      inside = ready.inside;
+    },
+    record { free = failed.free ∙ free; sees = then_missed m.0 l.0 k.0 sees failed.sees; overtaken = failed.overtaken },
+  )
+
+  -- ---- the first try of a party that rested
+  -- what it then has of its free rooms
+  begun_free : (slots room read : ℕ) (rs : List ℕ) (m l k : SeatState E) → m.0.free.rooms ≡ room ∷ rs → IsBegun slots room rs read m l → k.0.free ≡ l.0.free → m.0.free ≡ with_first room k.0.free
+  begun_free slots room read rs m l k rooms begun free =
+      (λ j. let chain : FreeChain = record { rooms = rooms j; end = m.0.free.end } in chain) ∙ ap (with_first room) (sym (free ∙ begun.free))
+
+  begun_next : (slots room read next : ℕ) (rs : List ℕ) (m l k : SeatState E) → IsBegun slots room rs read m l → l.1 ≡ (room, vacant next) ∷ [] → k.0.free ≡ l.0.free → next ≡ leads k.0.free.rooms k.0.free.end
+  begun_next slots room read next rs m l k begun had free =
+      ap (λ (h : Hand E). last_link (take 1 h)) (sym had ∙ begun.hand) ∙ ap (λ (c : FreeChain). leads c.rooms c.end) (sym (free ∙ begun.free))
+
+  begun_near : (slots room read : ℕ) (rs : List ℕ) (m l k : SeatState E) → IsResting slots m → m.0.free.rooms ≡ room ∷ rs → IsBegun slots room rs read m l → k.0.free ≡ l.0.free → Near slots k.0.free.rooms
+  begun_near slots room read rs m l k rests rooms begun free i q a =
+      rests.near (suc i) q (subst (λ l. ItemAt l (suc i) q) (sym rooms) (subst (λ (c : FreeChain). ItemAt c.rooms i q) (free ∙ begun.free) a))
+
+  pub tried_hit : (slots room read next : ℕ) (rs : List ℕ) (x : E) (hand : Hand E) (m l k : SeatState E) → IsResting slots m → m.0.free.rooms ≡ room ∷ rs → IsBegun slots room rs read m l → l.1 ≡ (room, vacant next) ∷ [] → HasHit x read (l.0, hand) k
+      → HasTried slots room x next (Some (eqb read 0)) m k
+  tried_hit slots room read next rs x hand m l k rests rooms begun had hit = record {
+    free = begun_free slots room read rs m l k rooms begun hit.free;
+    next_is = begun_next slots room read next rs m l k begun had hit.free;
+    answer = record {
+      rests = record {
+        idle = hit.doing;
+        empty = hit.hand;
+        named = λ e. rests.named (sym (hit.sees.share ∙ begun.sees.share) ∙ e);
+        near = begun_near slots room read rs m l k rests rooms begun hit.free;
+      };
+      sees = then_pushed m.0 l.0 k.0 x begun.sees hit.sees;
+      ends = ends_as x (read ≡ 0) (IsTrue (eqb read 0)) (name l.0) (name m.0) k.0.known.seen (ap first_name begun.sees.share) (is_zero read) hit.ends;
+    };
   }
+
+  pub tried_failed : (slots room read next : ℕ) (rs : List ℕ) (x : E) (m l k : SeatState E) → IsResting slots m → m.0.free.rooms ≡ room ∷ rs → IsBegun slots room rs read m l → l.1 ≡ (room, vacant next) ∷ [] → HasFailed room (l.0, (room, filled x read) ∷ []) k
+      → HasTried slots room x next None m k
+  tried_failed slots room read next rs x m l k rests rooms begun had failed = record {
+    free = begun_free slots room read rs m l k rooms begun failed.free;
+    next_is = begun_next slots room read next rs m l k begun had failed.free;
+    answer = record {
+      ready = record {
+        doing = failed.doing;
+        link = read;
+        hand = failed.hand;
+        named = λ e. rests.named (sym (failed.sees.share ∙ begun.sees.share) ∙ e);
+        near = begun_near slots room read rs m l k rests rooms begun failed.free;
+        inside = begun.inside;
+      };
+      sees = then_missed m.0 l.0 k.0 begun.sees failed.sees;
+      overtaken = failed.overtaken;
+    };
+  }
+
+  -- ---- a whole push
+  one_fewer : (slots room next : ℕ) (x : E) (first : Option Bool) (m f k : SeatState E) → HasTried slots room x next first m f → k.0.free ≡ f.0.free → length m.0.free.rooms ≡ suc (length k.0.free.rooms)
+  one_fewer slots room next x first m f k tried same = ap (λ (l : FreeChain). length l.rooms) tried.free ∙ ap (λ (l : FreeChain). suc (length l.rooms)) (sym same)
+
+  pub pushed_later : (slots room next tries : ℕ) (x : E) (first : Bool) (m f k : SeatState E) → HasTried slots room x next None m f → SettlesAt slots (suc tries) x first f k → HasPushed (suc (suc tries)) x first m k
+  pushed_later slots room next tries x first m f k tried s = record {
+    free = one_fewer slots room next x None m f k tried s.free;
+    sees = loads_then m.0 f.0 k.0 1 (λ n. replicate tries (Load n) ++ Push n x ∷ []) tried.answer.sees s.sees;
+    ends = subst (λ n. EndsPushed x (IsTrue first) n k.0.known.seen) (ap first_name tried.answer.sees.share) s.ends;
+  }
+
+  -- ---- a slot in hand goes back, emptied
+  pub one_back : (room link : ℕ) (m : SeatState E) → m.0.doing ≡ Holding (room ∷ []) → m.1 ≡ (room, vacant link) ∷ [] → m.1 ≡ all_vacant (held_rooms m.0.doing) (last_link m.1)
+  one_back room link m doing hand = hand ∙ (λ i. all_vacant (held_rooms (sym doing i)) (last_link (sym hand i)))
+
+  -- a party that gives the slot back after its first try failed
+  pub missed_first : (slots room next : ℕ) (x : E) (m f o : SeatState E) → HasTried slots room x next None m f → o ≡ (record f.0 { doing = Idle; free = with_first room f.0.free }, []) → HasMissed m o
+  missed_first slots room next x m f o tried is =
+      let known = ap (λ (q : SeatState E). q.0.known) is in record {
+        free = ap (λ (q : SeatState E). q.0.free) is ∙ sym tried.free;
+        sees = subst (λ (p : Known (Event Name E)). Grown actor (λ h. Legal h) m.0.known (Load (name m.0) ∷ []) p) (sym known) tried.answer.sees;
+        overtaken = subst (λ (p : Known (Event Name E)). IsOvertaken p.seen) (sym known) tried.answer.overtaken;
+      }
 
   -- what it has of its free rooms, with the first of them in use
-  pub tracks_after : (slots room next : ℕ) (x : E) (m f k : SeatState E) (free : FreeRooms) → IsFilled slots room next x m f → k.0.free ≡ f.0.free → Tracks free m.0.free → Tracks record free { first = next; count = free.count - 1 } k.0.free
-  tracks_after slots room next x m f k free filled same t =
-      let rooms : m.0.free.rooms ≡ room ∷ f.0.free.rooms = ap (λ (l : FreeChain). l.rooms) filled.free in
+  pub tracks_after : (slots room next : ℕ) (x : E) (first : Option Bool) (m f k : SeatState E) (free : FreeRooms) → HasTried slots room x next first m f → k.0.free ≡ f.0.free → Tracks free m.0.free → Tracks record free { first = next; count = free.count - 1 } k.0.free
+  tracks_after slots room next x first m f k free tried same t =
+      let rooms : m.0.free.rooms ≡ room ∷ f.0.free.rooms = ap (λ (l : FreeChain). l.rooms) tried.free in
       subst (λ c. Tracks record free { first = next; count = free.count - 1 } c) (sym same) record {
         count = let long = ap (λ (l : List ℕ). length l) rooms in let c = t.count in omega arith;
-        first = λ r rs e. filled.next_is ∙ ap (λ l. leads l f.0.free.end) e;
+        first = λ r rs e. tried.next_is ∙ ap (λ l. leads l f.0.free.end) e;
         last = λ before r e. t.last (room ∷ before) r (rooms ∙ ap (λ l. room ∷ l) e);
       }
 
@@ -145,134 +211,312 @@ module _ {E : Type 0} where
   pub not_overtaken : (seen : List (Bool × Event Name E)) → AllOwn seen → IsOvertaken seen → ⊥
   not_overtaken seen a m = no_change m.later (tail_own m.before ((true, Load m.load) ∷ m.later) (subst (λ z. AllOwn z) m.is a)).1 m.others m.changed
 
-module _ (E : Type 0) where
-  -- what a party does that has handed out all
-  batch_walked : (rooms : List ℕ) (end : ℕ) → (let d : Doing E = walked_through rooms end in to_hand_out d) ≡ []
-  batch_walked [] end = refl
-  batch_walked (r ∷ rooms) end = refl
+pub tracks_rooms : (free : FreeRooms) (chain after : FreeChain) → after.rooms ≡ chain.rooms → Tracks free chain → Tracks free after
+tracks_rooms free chain after same t = record {
+  count = t.count ∙ ap (λ (l : List ℕ). length l) (sym same);
+  first = λ r rs e. t.first r rs (sym same ∙ e);
+  last = λ before r e. t.last before r (sym same ∙ e);
+}
 
-  none_else : (rooms : List ℕ) (end : ℕ) → rooms ≡ [] → (let d : Doing E = walked_through rooms end in d) ≡ Idle
-  none_else [] end e = refl
-  none_else (r ∷ rooms) end e = absurd (cc)
+pub first_or_none : (free : FreeRooms) (chain : FreeChain) → Tracks free chain → (chain.rooms ≡ []) ⊎ (free.first ≡ leads chain.rooms chain.end)
+first_or_none free chain t = by chain.rooms refl
+  where
+    by : (rooms : List ℕ) → chain.rooms ≡ rooms → (chain.rooms ≡ []) ⊎ (free.first ≡ leads chain.rooms chain.end)
+    by [] is = inl is
+    by (r ∷ rs) is = inr (t.first r rs is ∙ ap (λ l. leads l chain.end) (sym is))
 
-  some_else : (rooms : List ℕ) (end : ℕ) → 0 < length rooms → (let d : Doing E = walked_through rooms end in d) ≡ Walking record { rooms = rooms; end = end } []
-  some_else [] end e = absurd (omega arith)
-  some_else (r ∷ rooms) end e = refl
+pub leads_first : (free : FreeRooms) (chain : FreeChain) (n : ℕ) → Tracks free chain → 0 < free.count → free.first ≡ leads (first_rooms n chain).rooms (first_rooms n chain).end
+leads_first free chain n t some_of =
+    let f = first_room free chain t some_of in
+    let low = f.2 in
+    let first : free.first ≡ leads chain.rooms chain.end = (let suc_of : free.first ≡ suc (free.first - 1) = omega arith in suc_of) ∙ ap (λ l. leads l chain.end) (sym f.1) in
+    first ∙ (ap (λ l. leads l chain.end) (sym (take-append-drop n chain.rooms)) ∙ leads_append (take n chain.rooms) (drop n chain.rooms) chain.end)
+
+-- the free room that is next
+pub record NextFree (at : ℕ) (left : List ℕ) (end : ℕ) : Type 0 where
+  pub here : ℕ
+  pub others : List ℕ
+  pub is : left ≡ here ∷ others
+  pub at_is : at ≡ suc here
+
+next_free_of : (at : ℕ) (left : List ℕ) (end : ℕ) → at ≡ leads left end → 0 < length left → NextFree at left end
+next_free_of at [] end is some_of = absurd (omega arith)
+next_free_of at (r ∷ rs) end is some_of = record { here = r; others = rs; is = refl; at_is = is }
 
 module _ {E : Type 0} where
-  -- ---- handing out
-  pub batch_walking : (kept : FreeChain) (xs : List (ℕ × E)) → to_hand_out (walk_through kept xs) ≡ xs
-  batch_walking kept [] = batch_walked E kept.rooms kept.end
-  batch_walking kept (x ∷ xs) = refl
+  -- ---- slots of free rooms in hand
+  pub held_first : (n slots : ℕ) (m k : SeatState E) → IsResting slots m → k.0 ≡ record m.0 { doing = Holding (first_rooms n m.0.free).rooms; free = rest_rooms n m.0.free }
+      → k.1 ≡ all_vacant (first_rooms n m.0.free).rooms (first_rooms n m.0.free).end ++ m.1 → HoldsFirst n m k
+  held_first n slots m k rests view hand =
+      let first = first_rooms n m.0.free in
+      record { view_is = view; hand = hand ∙ (ap (λ l. all_vacant first.rooms first.end ++ l) rests.empty ∙ append-nil (all_vacant first.rooms first.end)) }
 
-  pub batch_taking : (had : FreeChain) (xs : List (ℕ × E)) → to_hand_out (taking had xs) ≡ xs
-  batch_taking had [] = refl
-  batch_taking had (x ∷ xs) = refl
+  -- the last free room was tied
+  pub relinked : (slots : ℕ) (before : List ℕ) (r at : ℕ) (m l y k : SeatState E) → IsResting slots m → m.0.free.rooms ≡ before ++ r ∷ []
+      → l.0 ≡ record m.0 { doing = Holding (r ∷ []); free = record { rooms = before; end = suc r } } → y ≡ (l.0, (r, vacant at) ∷ [])
+      → k.0 ≡ record y.0 { doing = Idle; free = with_last r at y.0.free } → k.1 ≡ [] → Relinked m k × IsTied k.0.free at
+  relinked slots before r at m l y k rests rooms held tied view hand =
+      let now : k.0 ≡ record m.0 { doing = Idle; free = with_last r at record { rooms = before; end = suc r } } =
+      view ∙ ((λ i. let v : View E = record (tied i).0 { doing = Idle; free = with_last r at (tied i).0.free } in v)
+      ∙ (λ i. let v : View E = record (held i) { doing = Idle; free = with_last r at (held i).free } in v)) in (
+        record {
+          known = ap (λ v. v.known) now;
+          doing = ap (λ v. v.doing) now ∙ sym rests.idle;
+          rooms = ap (λ v. v.free.rooms) now ∙ sym rooms;
+          hand = hand ∙ sym rests.empty;
+        },
+        inr (ap (λ v. v.free.end) now),
+      )
 
-  pub had_taking : (had : FreeChain) (xs : List (ℕ × E)) → had_free (taking had xs) (free_taking had xs) ≡ had
-  had_taking had [] = refl
-  had_taking had (x ∷ xs) = refl
+  -- slots of free rooms go back
+  pub vacant_back : (rooms : List ℕ) (end : ℕ) (h : Hand E) → h ≡ all_vacant rooms end → h ≡ all_vacant rooms (last_link h)
+  vacant_back [] end h is = is
+  vacant_back (r ∷ rs) end h is = is ∙ ap (all_vacant (r ∷ rs)) (sym (ap (λ l. last_link l) is ∙ last_vacant E r rs end))
 
-  had_walking : (kept free : FreeChain) (xs : List (ℕ × E)) → start xs ≢ 0 → had_free (walk_through kept xs) free ≡ kept
-  had_walking kept free [] more = absurd (more refl)
-  had_walking kept free (x ∷ xs) more = refl
+  pub back_joins : (rooms : List ℕ) (end : ℕ) (h : Hand E) (free : FreeChain) → h ≡ all_vacant rooms end → (free.rooms ≡ []) ⊎ (end ≡ leads free.rooms free.end) → MayJoin record { rooms = rooms; end = last_link h } free
+  back_joins [] end h free is to = inl refl
+  back_joins (r ∷ rs) end h free is to = inr (⊎_elim (λ none. inl none) (λ e. inr (ap (λ l. last_link l) is ∙ (last_vacant E r rs end ∙ e))) to)
 
-  -- the next room to be handed out
-  pub record Next (slots : ℕ) (kept : FreeChain) (room : ℕ) (m : SeatState E) : Type 0 where
-    pub here : ℕ × E
-    pub others : List (ℕ × E)
-    pub doing : m.0.doing ≡ Walking kept (here ∷ others)
-    pub hand : m.1 ≡ (here.0, Some here.1) ∷ carry others []
-    pub inside : here.0 < slots
-    pub near : NearChain slots others
-    pub free : Near slots m.0.free.rooms
-    pub aside : Near slots kept.rooms
-    pub index : room ≡ here.0
+  -- in the midst of following their links: which rooms are done, and which are left
+  pub record Follows (at last count : ℕ) (rooms : List ℕ) (end : ℕ) (w : SeatState E) : Type 0 where
+    pub done : List ℕ
+    pub left : List ℕ
+    pub split : done ++ left ≡ rooms
+    pub hand : w.1 ≡ all_vacant left end ++ all_vacant done (leads left end)
+    pub at_is : at ≡ leads left end
+    pub count_is : count ≡ length done
+    pub last_is : (before : List ℕ) (r : ℕ) → done ≡ before ++ r ∷ [] → last ≡ r
 
-  next_from : (slots : ℕ) (kept : FreeChain) (room : ℕ) (m : SeatState E) (xs : List (ℕ × E)) → IsWalking slots kept xs m → suc room ≡ start xs → Next slots kept room m
-  next_from slots kept room m [] w e = absurd (omega arith)
-  next_from slots kept room m (x ∷ xs) w e = record { here = x; others = xs; doing = w.0; hand = w.1; inside = w.2.0; near = w.2.1; free = w.4; aside = w.5; index = omega arith }
-
-  pub next_of : (slots : ℕ) (kept : FreeChain) (room : ℕ) (m : SeatState E) → IsWalking slots kept (to_hand_out m.0.doing) m → suc room ≡ start (to_hand_out m.0.doing) → Next slots kept room m
-  next_of slots kept room m w e = next_from slots kept room m (to_hand_out m.0.doing) w e
-
-  -- ---- after the walk
-  -- where no room was kept aside, the party rests
-  pub followed_none : (slots : ℕ) (kept : FreeChain) (m : SeatState E) → IsWalking slots kept [] m → kept.rooms ≡ [] → Followed slots kept m m
-  followed_none slots kept m w none = record {
-    rests = (w.0 ∙ none_else E kept.rooms kept.end none, w.1, w.3, w.4);
-    known = refl;
-    rooms = ap (λ l. l ++ m.0.free.rooms) (sym none);
+  pub follows_first : (at last : ℕ) (rooms : List ℕ) (end : ℕ) (w : SeatState E) → w.1 ≡ all_vacant rooms end → at ≡ leads rooms end → Follows at last 0 rooms end w
+  follows_first at last rooms end w hand at_is = record {
+    done = [];
+    left = rooms;
+    split = refl;
+    hand = hand ∙ sym (append-nil (all_vacant rooms end));
+    at_is = at_is;
+    count_is = refl;
+    last_is = λ before r e. absurd (more_than_none before r (sym e));
   }
 
-  -- otherwise it has yet to tie them
-  pub to_tie : (slots : ℕ) (kept : FreeChain) (m : SeatState E) → IsWalking slots kept [] m → 0 < length kept.rooms → m.0.doing ≡ Walking kept []
-  to_tie slots kept m w some_of = w.0 ∙ some_else E kept.rooms kept.end some_of
+  pub next_free : (at last count : ℕ) (rooms : List ℕ) (end : ℕ) (w : SeatState E) (f : Follows at last count rooms end w) → count < length rooms → NextFree at f.left end
+  next_free at last count rooms end w f low =
+      let long = ap (λ (l : List ℕ). length l) (sym f.split) ∙ length-append f.done f.left in
+      let c = f.count_is in next_free_of at f.left end f.at_is (omega arith)
 
-  pub followed_some : (slots n : ℕ) (kept : FreeChain) (m k : SeatState E) → IsWalking slots kept [] m → k.0 ≡ record m.0 { doing = Idle; free = joined (record kept { end = n }) m.0.free } → k.1 ≡ m.1 → Followed slots kept m k
-  followed_some slots n kept m k w view hand =
-      let rooms = ap (λ v. v.free.rooms) view in record {
-        rests = (
-          ap (λ v. v.doing) view,
-          hand ∙ w.1,
-          (λ e. w.3 (sym (ap (λ v. v.known.share) view) ∙ e)),
-          subst (λ l. Near slots l) (sym rooms) (near_append slots kept.rooms m.0.free.rooms w.5 w.4),
-        );
-        known = ap (λ v. v.known) view;
-        rooms = rooms;
+  pub next_vacant : (at last count : ℕ) (rooms : List ℕ) (end : ℕ) (w : SeatState E) (f : Follows at last count rooms end w) (n : NextFree at f.left end)
+      → w.1 ≡ (n.here, vacant (leads n.others end)) ∷ (all_vacant n.others end ++ all_vacant f.done (suc n.here))
+  next_vacant at last count rooms end w f n = f.hand ∙ ap (λ l. all_vacant l end ++ all_vacant f.done (leads l end)) n.is
+
+  pub follows_next : (at last count : ℕ) (rooms : List ℕ) (end : ℕ) (w k : SeatState E) (f : Follows at last count rooms end w) (n : NextFree at f.left end)
+      → k.1 ≡ (all_vacant n.others end ++ all_vacant f.done (suc n.here)) ++ (n.here, vacant (leads n.others end)) ∷ []
+      → (room more to : ℕ) → room ≡ n.here → more ≡ suc count → to ≡ leads n.others end → Follows to room more rooms end k
+  follows_next at last count rooms end w k f n hand room more to here more_is to_is =
+      let lead = leads n.others end in record {
+        done = f.done ++ n.here ∷ [];
+        left = n.others;
+        split = append_assoc f.done (n.here ∷ []) n.others ∙ (ap (λ l. f.done ++ l) (sym n.is) ∙ f.split);
+        hand = hand
+            ∙ (append_assoc (all_vacant n.others end) (all_vacant f.done (suc n.here)) ((n.here, vacant lead) ∷ [])
+            ∙ ap (λ l. all_vacant n.others end ++ l) (sym (vacant_append E f.done (n.here ∷ []) lead)));
+        at_is = to_is;
+        count_is = let long = length-append f.done (n.here ∷ []) in let c = f.count_is in omega arith;
+        last_is = λ before r e. here ∙ end_same n.here f.done before n.here r e;
       }
+
+  -- all are done
+  pub follows_all : (at last count : ℕ) (rooms : List ℕ) (end : ℕ) (w : SeatState E) → Follows at last count rooms end w → length rooms ≤ count
+      → (w.1 ≡ all_vacant rooms end) × (at ≡ end) × ((before : List ℕ) (r : ℕ) → rooms ≡ before ++ r ∷ [] → last ≡ r)
+  follows_all at last count rooms end w f all =
+      let long = ap (λ (l : List ℕ). length l) (sym f.split) ∙ length-append f.done f.left in
+      let c = f.count_is in
+      let none = none_there f.left (omega arith) in
+      let whole : f.done ≡ rooms = sym (append-nil f.done) ∙ (ap (λ l. f.done ++ l) (sym none) ∙ f.split) in (
+        f.hand ∙ (λ i. all_vacant (none i) end ++ all_vacant (whole i) (leads (none i) end)),
+        f.at_is ∙ ap (λ l. leads l end) none,
+        λ before r e. f.last_is before r (whole ∙ e),
+      )
+
+  -- the slots were only looked at, and all is as before
+  pub passes_first : (n at : ℕ) (m k : SeatState E) → HoldsFirst n m k → at ≡ leads (first_rooms n m.0.free).rooms (first_rooms n m.0.free).end → Follows at 0 0 (held_rooms k.0.doing) (leads k.0.free.rooms k.0.free.end) k
+  passes_first n at m k holds is =
+      subst (λ (v : View E). Follows at 0 0 (held_rooms v.doing) (leads v.free.rooms v.free.end) k) (sym holds.view_is)
+      (follows_first at 0 (first_rooms n m.0.free).rooms (first_rooms n m.0.free).end k holds.hand is)
+
+  pub held_long : (n : ℕ) (m k : SeatState E) → HoldsFirst n m k → n ≤ length m.0.free.rooms → length (held_rooms k.0.doing) ≡ n
+  held_long n m k holds low = ap (λ (v : View E). length (held_rooms v.doing)) holds.view_is ∙ length-take-le n m.0.free.rooms low
 
   -- ---- taking all
-  taken_by : (slots found : ℕ) (m k : SeatState E) (chain : List (ℕ × E)) → IsResting slots m → found ≡ start chain → k.0.doing ≡ taking m.0.free chain → k.0.free ≡ free_taking m.0.free chain → k.1 ≡ carry chain [] → NearChain slots chain → k.0.known.share ≢ []
-      → HasTaken slots found k
-  taken_by slots found m k [] rests is doing free hand near named = record {
-    at_is = is ∙ ap (λ d. start (to_hand_out d)) (sym doing);
-    none = λ _. (doing, hand, named, subst (λ l. Near slots l.rooms) (sym free) rests.3);
-    some_of = λ other. absurd (other is);
-  }
-  taken_by slots found m k (x ∷ xs) rests is doing free hand near named = record {
-    at_is = is ∙ ap (λ d. start (to_hand_out d)) (sym doing);
-    none = λ e. absurd (omega arith);
-    some_of = λ _.
-        let rooms = ap (λ l. l.rooms) free in
-        let now : IsWalking slots m.0.free (x ∷ xs) k = (doing, hand, near, named, subst (λ l. Near slots l) (sym rooms) (λ _ _ a. absurd a), rests.3) in
-        (subst (λ (d : Doing E). IsWalking slots (had_free d k.0.free) (to_hand_out d) k) (sym doing) now, rooms);
-  }
+  batch_taking : (xs : List (ℕ × E)) → to_hand_out (taking xs) ≡ xs
+  batch_taking [] = refl
+  batch_taking (x ∷ xs) = refl
 
-  pub took_all : (slots found : ℕ) (m k : SeatState E) (chain : List (ℕ × E)) → IsResting slots m → found ≡ start chain → k.0.doing ≡ taking m.0.free chain → k.0.free ≡ free_taking m.0.free chain → k.1 ≡ carry chain m.1 → NearChain slots chain
-      → Sees m.0 (Taken (name m.0) (room_elements chain) ∷ []) k.0 → TookAll slots found m k
-  took_all slots found m k chain rests is doing free hand near sees =
-      let batch : to_hand_out k.0.doing ≡ chain = ap to_hand_out doing ∙ batch_taking m.0.free chain in record {
-        taken = taken_by slots found m k chain rests is doing free (hand ∙ ap (λ cs. carry chain cs) rests.1) near (λ e. rests.2 (sym sees.share ∙ e));
-        free = (λ i. had_free (doing i) (free i)) ∙ had_taking m.0.free chain;
-        sees = subst (λ (xs : List (ℕ × E)). Sees m.0 (Taken (name m.0) (room_elements xs) ∷ []) k.0) (sym batch) sees;
+  pub took_all : (slots found : ℕ) (m k : SeatState E) → IsResting slots m → HasSwapped slots found m k → TookAll slots found m k
+  took_all slots found m k rests s =
+      let batch : to_hand_out k.0.doing ≡ s.chain = ap to_hand_out s.doing ∙ batch_taking s.chain in record {
+        taken = record {
+          at_is = s.found_is ∙ ap start (sym batch);
+          walks = subst (λ xs. IsWalking slots xs k) (sym batch) record {
+            doing = s.doing;
+            hand = s.hand ∙ (ap (λ l. in_use s.chain ++ l) rests.empty ∙ append-nil (in_use s.chain));
+            chain = s.near;
+            few = s.few;
+            named = λ e. rests.named (sym s.sees.share ∙ e);
+            near = subst (λ l. Near slots l.rooms) (sym s.free) rests.near;
+          };
+        };
+        free = s.free;
+        sees = subst (λ (xs : List (ℕ × E)). Sees m.0 (Taken (name m.0) (room_elements xs) ∷ []) k.0) (sym batch) s.sees;
       }
 
-  -- ---- handing out all
-  -- what a party kept aside that has more to hand out
-  pub had_kept : (kept : FreeChain) (m : SeatState E) → m.0.doing ≡ walk_through kept (to_hand_out m.0.doing) → start (to_hand_out m.0.doing) ≢ 0 → had_free m.0.doing m.0.free ≡ kept
-  had_kept kept m is more = ap (λ (d : Doing E). had_free d m.0.free) is ∙ had_walking kept m.0.free (to_hand_out m.0.doing) more
-
-  pub starts_nowhere : (xs : List (ℕ × E)) → start xs ≡ 0 → xs ≡ []
+  starts_nowhere : (xs : List (ℕ × E)) → start xs ≡ 0 → xs ≡ []
   starts_nowhere [] e = refl
   starts_nowhere (x ∷ xs) e = absurd (omega arith)
 
-  -- the walk is over
-  pub walk_over : (slots slots' : ℕ) (kept : FreeChain) (m : SeatState E) → IsWalking slots kept (to_hand_out m.0.doing) m → start (to_hand_out m.0.doing) ≡ 0 → slots ≡ slots' → IsWalking slots' kept [] m
-  walk_over slots slots' kept m w e same = subst (λ (p : ℕ × List (ℕ × E)). IsWalking p.0 kept p.1 m) (λ i. (same i, starts_nowhere (to_hand_out m.0.doing) e i)) w
+  -- ---- handing out
+  -- in the midst of it: which rooms are done, and which are left; the last one's link is this word in place of null
+  pub record HandsOut (at after last count : ℕ) (all : List (ℕ × E)) (m w : SeatState E) : Type 0 where
+    pub done : List (ℕ × E)
+    pub left : List (ℕ × E)
+    pub split : done ++ left ≡ all
+    pub view_is : w.0 ≡ m.0
+    pub hand : w.1 ≡ in_use left ++ all_vacant (rooms_of done) (leads (rooms_of left) after)
+    pub at_is : at ≡ start left
+    pub count_is : count ≡ length done
+    pub last_is : (before : List ℕ) (r : ℕ) → rooms_of done ≡ before ++ r ∷ [] → last ≡ r
 
-  pub handed_out : (slots : ℕ) (m w k : SeatState E) → Followed slots (had_free m.0.doing m.0.free) w k → w.0.known ≡ m.0.known → length w.0.free.rooms ≡ length (to_hand_out m.0.doing) → EmptiesHand slots m k
-  handed_out slots m w k f known long =
-      let kept = had_free m.0.doing m.0.free in record {
-        rests = f.rests;
-        known = f.known ∙ known;
-        free = ap (λ (l : List ℕ). length l) f.rooms ∙ (length-append kept.rooms w.0.free.rooms ∙ ap (λ n. length kept.rooms + n) long);
+  pub hands_first : (slots at after last : ℕ) (m : SeatState E) → HasTaken slots at m → (h : HandsOut at after last 0 (to_hand_out m.0.doing) m m) × (h.left ≡ to_hand_out m.0.doing)
+  hands_first slots at after last m taken = (
+    record {
+      done = [];
+      left = to_hand_out m.0.doing;
+      split = refl;
+      view_is = refl;
+      hand = taken.walks.hand ∙ sym (append-nil (in_use (to_hand_out m.0.doing)));
+      at_is = taken.at_is;
+      count_is = refl;
+      last_is = λ before r e. absurd (more_than_none before r (sym e));
+    },
+    refl,
+  )
+
+  -- the room that is next
+  pub record Next (at after : ℕ) (left : List (ℕ × E)) : Type 0 where
+    pub here : ℕ × E
+    pub others : List (ℕ × E)
+    pub is : left ≡ here ∷ others
+    pub at_is : at ≡ suc here.0
+    pub below : link_or (start others) after ≡ leads (rooms_of others) after
+
+  pub next_of : (at after : ℕ) (left : List (ℕ × E)) → at ≡ start left → at ≢ 0 → Next at after left
+  next_of at after [] is more = absurd (more is)
+  next_of at after (x ∷ xs) is more = record { here = x; others = xs; is = refl; at_is = is; below = by xs }
+    where
+      by : (ys : List (ℕ × E)) → link_or (start ys) after ≡ leads (rooms_of ys) after
+      by [] = refl
+      by (y ∷ ys) = refl
+
+  -- its slot is the first in hand
+  pub next_hand : (at after last count : ℕ) (all : List (ℕ × E)) (m w : SeatState E) (h : HandsOut at after last count all m w) (n : Next at after h.left)
+      → w.1 ≡ (n.here.0, filled n.here.1 (start n.others)) ∷ (in_use n.others ++ all_vacant (rooms_of h.done) (suc n.here.0))
+  next_hand at after last count all m w h n = h.hand ∙ ap (λ (l : List (ℕ × E)). in_use l ++ all_vacant (rooms_of h.done) (leads (rooms_of l) after)) n.is
+
+  pub hands_next : (at after last count : ℕ) (all : List (ℕ × E)) (m w k : SeatState E) (h : HandsOut at after last count all m w) (n : Next at after h.left)
+      → k ≡ (w.0, (in_use n.others ++ all_vacant (rooms_of h.done) (suc n.here.0)) ++ (n.here.0, vacant (link_or (start n.others) after)) ∷ [])
+      → (room more at' : ℕ) → room ≡ n.here.0 → more ≡ suc count → at' ≡ start n.others → (t : HandsOut at' after room more all m k) × (t.left ≡ n.others)
+  hands_next at after last count all m w k h n is room more at' here more_is at_is =
+      let to = leads (rooms_of n.others) after in
+      let rooms : rooms_of (h.done ++ n.here ∷ []) ≡ rooms_of h.done ++ n.here.0 ∷ [] = map-append (λ x. x.0) h.done (n.here ∷ []) in (
+        record {
+          done = h.done ++ n.here ∷ [];
+          left = n.others;
+          split = append_assoc h.done (n.here ∷ []) n.others ∙ (ap (λ l. h.done ++ l) (sym n.is) ∙ h.split);
+          view_is = ap (λ (q : SeatState E). q.0) is ∙ h.view_is;
+          hand = ap (λ (q : SeatState E). q.1) is
+              ∙ (append_assoc (in_use n.others) (all_vacant (rooms_of h.done) (suc n.here.0)) ((n.here.0, vacant (link_or (start n.others) after)) ∷ [])
+              ∙ ap (λ l. in_use n.others ++ l)
+              (ap (λ q. all_vacant (rooms_of h.done) (suc n.here.0) ++ (n.here.0, vacant q) ∷ []) n.below ∙ (sym (vacant_append E (rooms_of h.done) (n.here.0 ∷ []) to) ∙ ap (λ l. all_vacant l to) (sym rooms))));
+          at_is = at_is;
+          count_is = let long = length-append h.done (n.here ∷ []) in let c = h.count_is in omega arith;
+          last_is = λ before r e. here ∙ end_same n.here.0 (rooms_of h.done) before n.here.0 r (sym rooms ∙ e);
+        },
+        refl,
+      )
+
+  -- all is handed out
+  pub record HandedOut (after last count : ℕ) (all : List (ℕ × E)) (m w : SeatState E) : Type 0 where
+    pub view_is : w.0 ≡ m.0
+    pub hand : w.1 ≡ all_vacant (rooms_of all) after
+    pub count_is : count ≡ length all
+    pub last_is : (before : List ℕ) (r : ℕ) → rooms_of all ≡ before ++ r ∷ [] → last ≡ r
+
+  pub handed_out : (at after last count : ℕ) (all : List (ℕ × E)) (m w : SeatState E) → HandsOut at after last count all m w → at ≡ 0 → HandedOut after last count all m w
+  handed_out at after last count all m w h none =
+      let no = starts_nowhere h.left (sym h.at_is ∙ none) in
+      let whole : h.done ≡ all = sym (append-nil h.done) ∙ (ap (λ l. h.done ++ l) (sym no) ∙ h.split) in record {
+        view_is = h.view_is;
+        hand = h.hand ∙ (λ i. in_use (no i) ++ all_vacant (rooms_of (whole i)) (leads (rooms_of (no i)) after));
+        count_is = h.count_is ∙ ap (λ (l : List (ℕ × E)). length l) whole;
+        last_is = λ before r e. h.last_is before r (ap (λ (l : List (ℕ × E)). rooms_of l) whole ∙ e);
       }
 
--- what it has of no rooms
-pub tracks_none : (first last : ℕ) (free : FreeChain) → free.rooms ≡ [] → Tracks record { first = first; last = last; count = 0 } free
-tracks_none first last free none = record {
-  count = ap (λ (l : List ℕ). length l) (sym none);
-  first = λ r rs e. let no = sym none ∙ e in absurd (cc);
-  last = λ before r e. absurd (more_than_none before r (sym e ∙ none));
-}
+  -- ---- the slots of what was handed out go back
+  pub handed_rooms : (slots at after last count : ℕ) (m w : SeatState E) → HasTaken slots at m → HandedOut after last count (to_hand_out m.0.doing) m w → held_rooms w.0.doing ≡ rooms_of (to_hand_out m.0.doing)
+  handed_rooms slots at after last count m w taken h = ap (λ (v : View E). held_rooms v.doing) h.view_is ∙ (ap (λ d. held_rooms d) taken.walks.doing ∙ rooms_taking (to_hand_out m.0.doing))
+
+  -- the free rooms that it then has
+  back_rooms : (slots at after last count : ℕ) (m w k : SeatState E) → HasTaken slots at m → HandedOut after last count (to_hand_out m.0.doing) m w → k.0 ≡ record w.0 { doing = Idle; free = joined (chain_in_hand w) w.0.free }
+      → k.0.free.rooms ≡ rooms_of (to_hand_out m.0.doing) ++ m.0.free.rooms
+  back_rooms slots at after last count m w k taken h view = ap (λ v. v.free.rooms) view ∙ (λ i. handed_rooms slots at after last count m w taken h i ++ (h.view_is i).free.rooms)
+
+  pub handed_back : (slots at after last count : ℕ) (m w k : SeatState E) → HasTaken slots at m → HandedOut after last count (to_hand_out m.0.doing) m w → k.0 ≡ record w.0 { doing = Idle; free = joined (chain_in_hand w) w.0.free } → k.1 ≡ []
+      → EmptiesHand slots m k
+  handed_back slots at after last count m w k taken h view hand =
+      let all = to_hand_out m.0.doing in
+      let known = ap (λ v. v.known) view ∙ ap (λ v. v.known) h.view_is in
+      let rooms = back_rooms slots at after last count m w k taken h view in record {
+        rests = record {
+          idle = ap (λ v. v.doing) view;
+          empty = hand;
+          named = λ e. taken.walks.named (sym (ap (λ (p : Known (Event Name E)). p.share) known) ∙ e);
+          near = subst (Near slots) (sym rooms) (near_append slots (rooms_of all) m.0.free.rooms taken.walks.chain taken.walks.near);
+        };
+        known = known;
+        free =
+            let a = ap (λ (l : List ℕ). length l) rooms in
+            let b = length-append (rooms_of all) m.0.free.rooms in
+            let c = length-map all (λ (x : ℕ × E). x.0) in omega arith;
+      }
+
+  -- what it has of them, where it had some and where it had none
+  back_mine : (at last count after : ℕ) (all : List (ℕ × E)) (m w : SeatState E) → at ≡ start all → HandedOut after last count all m w → Tracks record { first = at; last = last; count = count } record { rooms = rooms_of all; end = after }
+  back_mine at last count after all m w is h = record {
+    count = h.count_is ∙ sym (length-map all (λ (x : ℕ × E). x.0));
+    first = λ r rs e. is ∙ by all r rs e;
+    last = h.last_is;
+  }
+    where
+      by : (xs : List (ℕ × E)) (r : ℕ) (rs : List ℕ) → rooms_of xs ≡ r ∷ rs → start xs ≡ suc r
+      by [] r rs e = absurd (cc)
+      by (x ∷ xs) r rs e = ap (λ l. suc (first_or 0 l)) e
+
+  pub tracks_back : (slots at after last count : ℕ) (m w k : SeatState E) (free : FreeRooms) → HasTaken slots at m → at ≢ 0 → HandedOut after last count (to_hand_out m.0.doing) m w → k.0 ≡ record w.0 { doing = Idle; free = joined (chain_in_hand w) w.0.free }
+      → Tracks free m.0.free → (all_last : ℕ) → (free.count ≡ 0 → all_last ≡ last) → (0 < free.count → all_last ≡ free.last) → Tracks record { first = at; last = all_last; count = free.count + count } k.0.free
+  tracks_back slots at after last count m w k free taken some_of h view t all_last none more =
+      let all = to_hand_out m.0.doing in
+      let mine = back_mine at last count after all m w taken.at_is h in
+      let chain : FreeChain = record { rooms = rooms_of all; end = after } in
+      let rooms = back_rooms slots at after last count m w k taken h view in
+      tracks_rooms record { first = at; last = all_last; count = free.count + count } (joined chain m.0.free) k.0.free rooms (by free.count refl mine)
+    where
+      by : (n : ℕ) → free.count ≡ n → Tracks record { first = at; last = last; count = count } record { rooms = rooms_of (to_hand_out m.0.doing); end = after }
+          → Tracks record { first = at; last = all_last; count = free.count + count } (joined record { rooms = rooms_of (to_hand_out m.0.doing); end = after } m.0.free)
+      by zero is mine = subst (λ (p : ℕ × ℕ). Tracks record { first = at; last = p.0; count = p.1 } (joined record { rooms = rooms_of (to_hand_out m.0.doing); end = after } m.0.free))
+          (λ i. (sym (none is) i, (let sum : count + free.count ≡ free.count + count = omega arith in sum) i))
+          (tracks_alone record { first = at; last = last; count = count } free record { rooms = rooms_of (to_hand_out m.0.doing); end = after } m.0.free mine t is)
+      by (suc n) is mine = subst (λ (p : ℕ × ℕ). Tracks record { first = at; last = p.0; count = p.1 } (joined record { rooms = rooms_of (to_hand_out m.0.doing); end = after } m.0.free))
+          (λ i. (sym (more (omega arith)) i, (let sum : count + free.count ≡ free.count + count = omega arith in sum) i))
+          (tracks_joined record { first = at; last = last; count = count } free record { rooms = rooms_of (to_hand_out m.0.doing); end = after } m.0.free mine t (omega arith) (λ e. absurd (some_of (taken.at_is ∙ nowhere (to_hand_out m.0.doing) e))))
+        where
+          nowhere : (xs : List (ℕ × E)) → rooms_of xs ≡ [] → start xs ≡ 0
+          nowhere [] e = refl
+          nowhere (x ∷ xs) e = absurd (cc)

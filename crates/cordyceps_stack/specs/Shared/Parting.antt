@@ -4,8 +4,8 @@ use Rattle.cordyceps_shared.specs.FreeChains.{first_rooms, joined, rest_rooms}
 use Rattle.cordyceps_shared.specs.Knowing.{IsKnown}
 use Rattle.cordyceps_shared.specs.Knowing as knowing
 use Rattle.cordyceps_stack.specs.History.{Legal}
-use Rattle.cordyceps_shared.specs.Slots.{TableStep, view, hand}
 use Rattle.cordyceps_stack.specs.Shared.Plays.{SeatState}
+use Rattle.cordyceps_stack.specs.Shared.Slots.{TableStep, view, hand}
 use Rattle.cordyceps_stack.specs.Shared.View.{Idle, View}
 
 module _ {E : Type 0} where

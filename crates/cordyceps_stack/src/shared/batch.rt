@@ -1,48 +1,44 @@
 //! How what a party took from a shared stack becomes a plain stack.
-ghost use Rattle.std.specs.Prelude.{◌≡◌, ◌<◌, [], map};
-ghost use Rattle.cordyceps_shared.specs.FreeChains.{FreeChain, Tracks};
-ghost use Rattle.cordyceps_stack.specs.Shared.Parts.{IsSeatOf, HasTaken, Followed, EmptiesHand};
+ghost use Rattle.std.specs.Prelude.{◌≡◌, ◌≢◌, ℕ, [], ◌∷◌, ◌++◌, map};
+ghost use Rattle.cordyceps_shared.specs.FreeChains.{Tracks};
+ghost use Rattle.cordyceps_stack.specs.Shared.Parts.{IsSeatOf, HasTaken, EmptiesHand};
 ghost use Rattle.cordyceps_stack.specs.Cores.Stages.{room_elements};
-ghost use Rattle.cordyceps_stack.specs.Shared.Plays.{IsWalking, to_hand_out};
-ghost use Rattle.cordyceps_stack.specs.Shared.View.{had_free};
-ghost use Rattle.cordyceps_shared.specs.Slots.{view};
+ghost use Rattle.cordyceps_stack.specs.Shared.Plays.{to_hand_out};
+ghost use Rattle.cordyceps_stack.specs.Shared.Slots.{Hand, view, hand, filled, vacant, link_or};
 
-use crate::shared::plays::Follow;
-use crate::shared::steps::walk;
-use crate::shared::table::{PartySeat, Words};
+use crate::shared::plays::Return;
+use crate::shared::table::{PartySeat, QUIET, Words};
 use cordyceps_base::linked::Linked;
 use cordyceps_base::stack::Links;
 use cordyceps_shared::free::FreeRooms;
-use cordyceps_shared::layout::LINKS;
 use cordyceps_single::stack::{Stack, put_last};
 
-/// Ties the party's free rooms from before it took to those that it handed out since, which follow them.
-fn follow<E: Drop>(
-    words: &Words<E>,
-    seat: &mut PartySeat<E>,
-    free: &mut FreeRooms,
-    fresh: FreeRooms,
-)
+/// Takes the element out of the first slot in hand, which is this room's, and turns to the next slot. Returns the
+/// element, and the link that the room had. If it led to no room, it leads to `after` now.
+fn empty<E: Drop>(words: &Words<E>, seat: &mut PartySeat<E>, room: usize, after: u64) -> (E, u64)
     requires table { IsSeatOf seat.old.table_id words.now.table_id }
-    requires kept { (kept : FreeChain) × IsWalking words.now.table_id.slots kept [] seat.old.me
-        × Tracks free.old kept }
-    requires fresh { Tracks fresh (view seat.old.me).free × (0 < fresh.count) }
+    requires filled { (x : E) × (link : ℕ) × (others : Hand E)
+        × (hand seat.old.me ≡ (room, filled x link) ∷ others) }
     ensures table { seat.new.table_id ≡ seat.old.table_id }
-    ensures followed { (kept : FreeChain) → IsWalking words.now.table_id.slots kept [] seat.old.me
-        → Tracks free.old kept → Followed words.now.table_id.slots kept seat.old.me seat.new.me }
-    ensures tracks { Tracks free.new (view seat.new.me).free }
+    ensures emptied { (x : E) → (link : ℕ) → (others : Hand E)
+        → hand seat.old.me ≡ (room, filled x link) ∷ others
+        → (result ≡ (x, link))
+        × (seat.new.me ≡ (view seat.old.me, others ++ (room, vacant (link_or link after)) ∷ [])) }
 {
-    if free.count == 0 {
-        *free = fresh;
-    } else {
-        words.store::<Follow>(seat, LINKS + free.last, fresh.first);
-        free.last = fresh.last;
-        free.count += fresh.count;
+    let slot = seat.slot_mut(words, room);
+    let link = slot.link;
+    if link == 0 {
+        slot.link = after;
     }
+    let item = slot.item.take();
+    seat.turn();
+    let Some(item) = item else { unreachable!() };
+    (item, link)
 }
 
-/// Moves the elements that the party took out of their slots, from the room that `at` leads to on. Their rooms, which
-/// stay linked, follow the party's other free rooms: the last of these is tied to the first of them after the walk.
+/// Moves the elements that the party took out of their slots, from the room that `at` leads to on, and returns the
+/// slots. Their rooms, which stay linked, become the first free ones: the last of them leads to the party's other free
+/// rooms.
 pub(crate) fn hand_out<T: Linked<Links<T>>>(
     words: &Words<T::Handle>,
     seat: &mut PartySeat<T::Handle>,
@@ -51,7 +47,7 @@ pub(crate) fn hand_out<T: Linked<Links<T>>>(
 ) -> Stack<T>
     requires table { IsSeatOf seat.old.table_id words.now.table_id }
     requires taken { HasTaken words.now.table_id.slots at seat.old.me }
-    requires tracks { Tracks free.old (had_free (view seat.old.me).doing (view seat.old.me).free) }
+    requires tracks { Tracks free.old (view seat.old.me).free }
     ensures table { seat.new.table_id ≡ seat.old.table_id }
     ensures stack { result ≡ map T.element (room_elements (to_hand_out (view seat.old.me).doing)) }
     ensures seat { EmptiesHand words.now.table_id.slots seat.old.me seat.new.me }
@@ -61,20 +57,22 @@ pub(crate) fn hand_out<T: Linked<Links<T>>>(
     if at == 0 {
         return batch;
     }
-    let mut fresh = FreeRooms {
-        first: at,
-        last: 0,
-        count: 0,
-    };
+    let first = at;
+    let mut last = 0;
+    let mut count = 0;
     let mut at = at;
     while at != 0 {
-        let room = at as usize - 1;
-        let (item, below) = walk(words, seat, room);
-        fresh.last = room;
-        fresh.count += 1;
+        last = at as usize - 1;
+        let (item, below) = empty(words, seat, last, free.first);
         put_last(&mut batch, item);
+        count += 1;
         at = below;
     }
-    follow(words, seat, free, fresh);
+    words.load::<Return>(seat, QUIET);
+    if free.count == 0 {
+        free.last = last;
+    }
+    free.first = first;
+    free.count += count;
     batch
 }

@@ -126,7 +126,7 @@ impl<T: Linked<Links<T>>> TransferStack<T> {
     /// If memory is refused, it returns `AllocError`, and nothing is kept.
     ///
     /// # Complexity
-    /// O(`rooms`), with four allocations.
+    /// O(`rooms`), with three allocations, of which it frees one.
     pub fn new(alloc: Global, rooms: usize) -> Result<(TransferStack<T>, Party<T>), AllocError>
         requires { rooms ≤ MAX_ROOMS }
         ensures { IfOk result (λ made. made.1 ≡ new_party made.0 rooms) }
@@ -148,7 +148,7 @@ impl<T: Linked<Links<T>>> TransferStack<T> {
     /// keeps its room. To a whole party this never happens.
     ///
     /// # Complexity
-    /// O(1): one load and one compare-exchange of the head, and steps on the room.
+    /// O(1): one load and one compare-exchange of the head, and one load of another word if the handle is returned.
     ///
     /// # Waits
     /// Never.

@@ -1,23 +1,23 @@
 //! How a shared stack is created, and how its parties are split and absorbed.
 ghost use Rattle.std.specs.Prelude.{◌≡◌, ◌<◌, ◌≤◌, ◌+◌, ℕ, suc, List, [], ◌∷◌, ◌++◌, take, drop, IfOk};
-ghost use Rattle.cordyceps_shared.specs.FreeChains.{joined, MayJoin, Tracks};
+ghost use Rattle.cordyceps_shared.specs.FreeChains.{joined, IsTied, MayJoin, Tracks};
 ghost use Rattle.cordyceps_shared.specs.Knowing.{IsKnown};
 ghost use Rattle.cordyceps_stack.specs.History.{Legal};
 ghost use Rattle.cordyceps_stack.specs.Shared.Parting.{view_keeping, view_giving, view_absorbing};
-ghost use Rattle.cordyceps_stack.specs.Shared.Parts.{IsSeatOf, Ties, Relinked, HasAbsorbed};
+ghost use Rattle.cordyceps_stack.specs.Shared.Parts.{IsSeatOf, HoldsFirst, Relinked, HasAbsorbed};
 ghost use Rattle.cordyceps_stack.specs.Shared.Order as spec;
 ghost use Rattle.cordyceps_stack.specs.Shared.Order.{leads_before};
-ghost use Rattle.cordyceps_stack.specs.Shared.Words.{AreNew};
+ghost use Rattle.cordyceps_stack.specs.Shared.Slots.{Hand, view, hand, vacant, AreNew};
 ghost use Rattle.cordyceps_stack.specs.Shared.Plays.{IsResting};
 ghost use Rattle.cordyceps_stack.specs.Shared.View.{newcomer};
-ghost use Rattle.cordyceps_shared.specs.Slots.{Near, view};
 
-use crate::shared::plays::{Cut, Learn, Merge, Skip, Tie};
-use crate::shared::table::{OwnedTable, PartySeat, Words};
-use atomic_table::Table;
+use crate::shared::plays::{Append, Cut, Hold, HoldLast, Learn, Merge, Return};
+use crate::shared::slot::Slot;
+use crate::shared::table::{OwnedTable, PartySeat, QUIET, WORDS, Words};
+use atomic_table::{Refused, Table};
 use cordyceps_base::shared::MAX_ROOMS;
 use cordyceps_shared::free::{Count, FreeRooms};
-use cordyceps_shared::layout::{HEAD, LINKS};
+use cordyceps_shared::layout::HEAD;
 use std::alloc::{AllocError, Global};
 use std::marker::Brand;
 
@@ -60,16 +60,19 @@ fn first_link(rooms: usize, room: usize) -> u64
     crosswise(rooms, place - 1) as u64 + 1
 }
 
-/// Creates the words of an empty stack with `rooms` rooms. The link of each leads to the room at the place before.
-fn links(alloc: Global, rooms: usize) -> Result<Vec<u64>, AllocError>
+/// Creates the slots of an empty stack with `rooms` rooms. The link of each leads to the room at the place before.
+fn slots<E>(alloc: Global, rooms: usize) -> Result<Vec<Slot<E>>, AllocError>
     requires { rooms ≤ MAX_ROOMS }
-    ensures { IfOk result (λ words. AreNew words.items rooms) }
+    ensures { IfOk result (λ slots. AreNew slots.items rooms) }
 {
-    let mut words = vec![in alloc; 0; LINKS + rooms]?;
+    let mut slots = Vec::with_capacity(alloc, rooms)?;
     for room in 0..rooms {
-        words[LINKS + room] = first_link(rooms, room);
+        slots.push_reserved(Slot {
+            link: first_link(rooms, room),
+            item: None,
+        });
     }
-    Ok(words)
+    Ok(slots)
 }
 
 /// Creates the words and slots of an empty stack with `rooms` rooms, and the seat of the party that has them all.
@@ -81,8 +84,11 @@ pub(crate) fn open<E: Drop>(
     ensures { IfOk result (λ r. IsSeatOf r.1.table_id r.0.shared.table_id × (r.0.shared.table_id.slots ≡ rooms)
         × (r.1.me ≡ (newcomer rooms, []))) }
 {
-    let words = links(alloc, rooms)?;
-    Table::vacant(alloc, words.as_slice(), rooms, &rooms)
+    let slots = slots(alloc, rooms)?;
+    match Table::new(alloc, &[0; WORDS], slots, &rooms) {
+        Ok(made) => Ok(made),
+        Err(Refused { .. }) => Err(AllocError),
+    }
 }
 
 fn cut<E: Drop, B: Count>(words: &Words<E>, seat: &mut PartySeat<E>, rooms: usize) -> PartySeat<E>
@@ -93,6 +99,29 @@ fn cut<E: Drop, B: Count>(words: &Words<E>, seat: &mut PartySeat<E>, rooms: usiz
         × (result.me ≡ (view_giving rooms (view seat.old.me), [])) }
 {
     words.split_seat::<Cut<B>>(seat)
+}
+
+/// Takes the slots of the first `rooms` free rooms.
+fn hold<E: Drop, B: Count>(words: &Words<E>, seat: &mut PartySeat<E>, rooms: usize)
+    requires table { IsSeatOf seat.old.table_id words.now.table_id }
+    requires rest { IsResting words.now.table_id.slots seat.old.me × (B.rooms ≡ rooms) }
+    ensures table { seat.new.table_id ≡ seat.old.table_id }
+    ensures holds { HoldsFirst rooms seat.old.me seat.new.me }
+{
+    words.load::<Hold<B>>(seat, QUIET);
+}
+
+/// Returns the link in the first slot in hand, which is this room's, and turns to the next slot.
+fn next<E: Drop>(words: &Words<E>, seat: &mut PartySeat<E>, room: usize) -> u64
+    requires table { IsSeatOf seat.old.table_id words.now.table_id }
+    requires vacant { (link : ℕ) × (others : Hand E) × (hand seat.old.me ≡ (room, vacant link) ∷ others) }
+    ensures table { seat.new.table_id ≡ seat.old.table_id }
+    ensures turned { (link : ℕ) → (others : Hand E) → hand seat.old.me ≡ (room, vacant link) ∷ others
+        → (result ≡ link) × (seat.new.me ≡ (view seat.old.me, others ++ (room, vacant link) ∷ [])) }
+{
+    let link = seat.slot_mut(words, room).link;
+    seat.turn();
+    link
 }
 
 /// Returns the word that leads to the free room after the first `rooms`, and the last of these. Where these are all, no
@@ -114,12 +143,14 @@ fn pass<E: Drop>(
     if rooms == free.count {
         return (0, free.last);
     }
+    hold::<E, Brand>(words, seat, rooms);
     let mut at = free.first;
     let mut last = 0;
     for _room in 0..rooms {
         last = at as usize - 1;
-        at = words.load::<Skip>(seat, LINKS + last);
+        at = next(words, seat, last);
     }
+    words.load::<Return>(seat, QUIET);
     (at, last)
 }
 
@@ -149,21 +180,34 @@ pub(crate) fn split<E: Drop>(
     (cut::<E, Brand>(words, seat, rooms), given)
 }
 
+/// Links a free room, whose slot is in hand, to the room that `at` leads to.
+fn lead<E: Drop>(words: &Words<E>, seat: &mut PartySeat<E>, room: usize, at: u64)
+    requires table { IsSeatOf seat.old.table_id words.now.table_id }
+    requires vacant { (link : ℕ) × (hand seat.old.me ≡ (room, vacant link) ∷ []) }
+    ensures table { seat.new.table_id ≡ seat.old.table_id }
+    ensures leads { (link : ℕ) → hand seat.old.me ≡ (room, vacant link) ∷ []
+        → seat.new.me ≡ (view seat.old.me, (room, vacant at) ∷ []) }
+{
+    seat.slot_mut(words, room).link = at;
+}
+
 /// Links the last free room to the room that `at` leads to, which is about to follow it. If there is no free room, that
 /// becomes the first.
 fn tie<E: Drop>(words: &Words<E>, seat: &mut PartySeat<E>, free: &mut FreeRooms, at: u64)
     requires table { IsSeatOf seat.old.table_id words.now.table_id }
+    requires rest { IsResting words.now.table_id.slots seat.old.me }
     requires tracks { Tracks free.old (view seat.old.me).free }
-    requires near { Near words.now.table_id.slots (view seat.old.me).free.rooms }
     ensures table { seat.new.table_id ≡ seat.old.table_id }
-    ensures ties { Ties at seat.old.me seat.new.me }
+    ensures ties { Relinked seat.old.me seat.new.me × IsTied (view seat.new.me).free at }
     ensures tracks { Tracks free.new (view seat.new.me).free × (free.new.count ≡ free.old.count) }
     ensures first { (view seat.new.me).free.rooms ≡ [] → free.new.first ≡ at }
 {
     if free.count == 0 {
         free.first = at;
-    } else if at != 0 {
-        words.store::<Tie>(seat, LINKS + free.last, at);
+    } else {
+        words.load::<HoldLast>(seat, QUIET);
+        lead(words, seat, free.last, at);
+        words.load::<Append>(seat, QUIET);
     }
 }
 

@@ -1,10 +1,10 @@
 //! The steps of a shared stack, for contracts. Values of these types are not used when the program runs.
-ghost use Rattle.cordyceps_stack.specs.Shared.Plays.{after_look, after_ready, after_load, after_write};
-ghost use Rattle.cordyceps_stack.specs.Shared.Plays.{after_exchange, after_return, after_take, after_walk};
-ghost use Rattle.cordyceps_stack.specs.Shared.Plays.{after_tie, after_follow, after_skip};
+ghost use Rattle.cordyceps_stack.specs.Shared.Plays.{after_look, after_begin, after_load, after_exchange, after_take};
+ghost use Rattle.cordyceps_stack.specs.Shared.Plays.{after_hold, after_hold_last, after_return, after_append};
 ghost use Rattle.cordyceps_stack.specs.Shared.Parting.{after_learn, view_keeping, view_giving};
 ghost use Rattle.cordyceps_stack.specs.Shared.Parting.{view_absorbing, view_absorbed};
 
+use crate::shared::slot::Slot;
 use crate::shared::table::SeatView;
 use atomic_table::{Join, Play, Split};
 use cordyceps_shared::free::Count;
@@ -13,84 +13,72 @@ use std::marker::PhantomData;
 /// A load of the head by `is_empty`.
 pub(crate) struct Look;
 
-impl<E> Play<Option<E>, SeatView<E>> for Look {
+impl<E> Play<Slot<E>, SeatView<E>> for Look {
     ghost then = { after_look };
 }
 
-/// A load of a room's link, by which a push takes the room's slot.
-pub(crate) struct Ready;
+/// A load of the head, which begins a push and takes the slot of the first free room.
+pub(crate) struct Begin;
 
-impl<E> Play<Option<E>, SeatView<E>> for Ready {
-    ghost then = { after_ready };
+impl<E> Play<Slot<E>, SeatView<E>> for Begin {
+    ghost then = { after_begin };
 }
 
-/// A load of the head, which begins a try to push.
+/// A load of the head, which begins another try to push.
 pub(crate) struct Load;
 
-impl<E> Play<Option<E>, SeatView<E>> for Load {
+impl<E> Play<Slot<E>, SeatView<E>> for Load {
     ghost then = { after_load };
 }
 
-/// A store to a room's link.
-pub(crate) struct Write;
-
-impl<E> Play<Option<E>, SeatView<E>> for Write {
-    ghost then = { after_write };
-}
-
-/// A compare-exchange of the head, which ends a try to push.
+/// A compare-exchange of the head, which ends a try to push. If it succeeds, it returns the slot.
 pub(crate) struct Exchange;
 
-impl<E> Play<Option<E>, SeatView<E>> for Exchange {
+impl<E> Play<Slot<E>, SeatView<E>> for Exchange {
     ghost then = { after_exchange };
 }
 
-/// A store to a room's link, by which a push that failed returns the slot and links the room again.
-pub(crate) struct Return;
-
-impl<E> Play<Option<E>, SeatView<E>> for Return {
-    ghost then = { after_return };
-}
-
-/// A swap of the head, which takes all elements.
+/// A swap of the head, which takes all elements and their slots.
 pub(crate) struct Take;
 
-impl<E> Play<Option<E>, SeatView<E>> for Take {
+impl<E> Play<Slot<E>, SeatView<E>> for Take {
     ghost then = { after_take };
 }
 
-/// A store to the link of the last free room.
-pub(crate) struct Tie;
-
-impl<E> Play<Option<E>, SeatView<E>> for Tie {
-    ghost then = { after_tie };
+/// A load of the quiet word, which takes the slots of the first `B::rooms` free rooms.
+pub(crate) struct Hold<B> {
+    count: PhantomData<B>,
 }
 
-/// A store to the link of the last room that a take kept aside.
-pub(crate) struct Follow;
-
-impl<E> Play<Option<E>, SeatView<E>> for Follow {
-    ghost then = { after_follow };
+impl<E, B: Count> Play<Slot<E>, SeatView<E>> for Hold<B> {
+    ghost then = { after_hold B.rooms };
 }
 
-/// A load of a free room's link, which leads to the next.
-pub(crate) struct Skip;
+/// A load of the quiet word, which takes the slot of the last free room.
+pub(crate) struct HoldLast;
 
-impl<E> Play<Option<E>, SeatView<E>> for Skip {
-    ghost then = { after_skip };
+impl<E> Play<Slot<E>, SeatView<E>> for HoldLast {
+    ghost then = { after_hold_last };
 }
 
-/// A load of a room's link, by which a walk returns an emptied slot.
-pub(crate) struct Walk;
+/// A load of the quiet word, which returns all slots in hand. Their rooms become the first free ones.
+pub(crate) struct Return;
 
-impl<E> Play<Option<E>, SeatView<E>> for Walk {
-    ghost then = { after_walk };
+impl<E> Play<Slot<E>, SeatView<E>> for Return {
+    ghost then = { after_return };
+}
+
+/// A load of the quiet word, which returns the slot in hand. Its room becomes the last free one.
+pub(crate) struct Append;
+
+impl<E> Play<Slot<E>, SeatView<E>> for Append {
+    ghost then = { after_append };
 }
 
 /// A load of the head after an absorb.
 pub(crate) struct Learn;
 
-impl<E> Play<Option<E>, SeatView<E>> for Learn {
+impl<E> Play<Slot<E>, SeatView<E>> for Learn {
     ghost then = { after_learn };
 }
 

@@ -1,9 +1,18 @@
 //! The table of a shared stack, and what its seats know.
 ghost use Rattle.cordyceps_stack.specs.Shared.View.{View, newcomer};
 
+use crate::shared::slot::Slot;
 use atomic_table::{Seat, Shared, Table, TableRule};
+use cordyceps_shared::layout::{LINKS, RIGHT};
 use std::alloc::Global;
 use std::marker::{Model, PhantomData};
+
+/// The index of a word that no step writes. A step that only takes slots or returns them reads it. The word has 128
+/// bytes of its own, so a read of it never waits for another processor.
+pub(crate) const QUIET: usize = RIGHT;
+
+/// The number of words of the table. The links are in the slots.
+pub(crate) const WORDS: usize = LINKS;
 
 /// What a seat knows. No value of it is made: a contract sees a `View`.
 pub(crate) struct SeatView<E> {
@@ -19,7 +28,7 @@ impl<E> Model for SeatView<E> {
 /// The invariant of the table, which each step keeps. Its key is the number of rooms.
 pub(crate) struct Rule;
 
-impl<E> TableRule<Option<E>, SeatView<E>, usize> for Rule {
+impl<E> TableRule<Slot<E>, SeatView<E>, usize> for Rule {
     ghost use Rattle.cordyceps_stack.specs.Shared.Rule.{RuleHolds};
 
     ghost holds = { λ _. RuleHolds };
@@ -29,13 +38,12 @@ impl<E> TableRule<Option<E>, SeatView<E>, usize> for Rule {
 
 /// The words and slots of the table.
 ///
-/// The word `HEAD` is 0, or 1 more than the room that was pushed last. The word `LINKS + r` is the link of room `r`. If
-/// the room is in use, it leads to the room below, and slot `r` has its element. If it is free, it leads to the party's
-/// next free room. The other words are not used.
-pub(crate) type Words<E> = Shared<Option<E>, SeatView<E>, usize, Rule>;
+/// The word `HEAD` is 0, or 1 more than the room that was pushed last. Slot `r` has the link of room `r`, and its element
+/// if the room is in use. No other word is used.
+pub(crate) type Words<E> = Shared<Slot<E>, SeatView<E>, usize, Rule>;
 
 /// The table, which owns its memory.
-pub(crate) type OwnedTable<E> = Table<Option<E>, SeatView<E>, usize, Rule, Global>;
+pub(crate) type OwnedTable<E> = Table<Slot<E>, SeatView<E>, usize, Rule, Global>;
 
 /// The seat of a party: the token by which it acts on the table.
-pub(crate) type PartySeat<E> = Seat<Option<E>, SeatView<E>>;
+pub(crate) type PartySeat<E> = Seat<Slot<E>, SeatView<E>>;

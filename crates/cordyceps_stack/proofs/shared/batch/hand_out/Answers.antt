@@ -1,79 +1,98 @@
-use Rattle.std.proofs.Common.{◌≡◌, ℕ, ◌+◌, ◌-◌, suc, List, length, refl, inl, inr, sym, ap, ◌∙◌, subst, arith, rules}
-use Rattle.std.proofs.lemmas.Grind.{common_steps}
-use Rattle.atomic_table.specs.Seated.{TableId}
-use Rattle.cordyceps_shared.specs.FreeChains.{FreeChain, Tracks}
+use Rattle.std.proofs.Common.{◌≡◌, ◌+◌, ◌-◌, ◌∷◌, [], ◌++◌, map, suc, refl, sym, ap, ◌∙◌, subst, arith, rules, add-one, append_assoc}
+use Rattle.cordyceps_shared.specs.FreeChains.{Tracks, MayJoin}
 use Rattle.cordyceps_shared.specs.declared.free.FreeRooms.{FreeRooms}
-use Rattle.cordyceps_shared.proofs.TrackRooms.{tracks_more, more_than_none}
-use Rattle.cordyceps_stack.specs.Shared.Plays.{IsWalking, to_hand_out}
-use Rattle.cordyceps_stack.specs.Shared.View.{had_free}
-use Rattle.cordyceps_stack.proofs.SharedTheory.PartsJoin.{tracks_none, had_kept, starts_nowhere, walk_over, handed_out}
+use Rattle.cordyceps_shared.specs.Slots.{Near}
+use Rattle.cordyceps_stack.specs.Cores.Stages.{room_elements}
+use Rattle.cordyceps_stack.specs.Shared.Plays.{to_hand_out}
+use Rattle.cordyceps_stack.specs.Shared.Slots.{start, rooms_of, link_or, filled, vacant, in_use, all_vacant, last_link}
+use Rattle.cordyceps_stack.specs.Shared.View.{held_rooms}
+use Rattle.cordyceps_stack.proofs.SharedTheory.PartsJoin.{hands_first, next_of, next_hand, hands_next, handed_out, handed_rooms, handed_back, tracks_back, first_or_none, vacant_back, back_joins}
+use Rattle.cordyceps_stack.proofs.SharedTheory.StepsKeep.{returns}
+use Rattle.cordyceps_stack.proofs.shared.batch.hand_out.Goals.{then-free-eq0, else-free-eq0}
 use Rattle.cordyceps_stack.proofs.shared.batch.hand_out.Goals as goal
-
-pub walk-item-requires-clause-batch : goal.walk-item-requires-clause-batch
-walk-item-requires-clause-batch g c =
-    let i = c.loop-at.invariant in
-    let m = c.loop-at.seat.me in
-    let some_of = c.loop-at-test.true in
-    let table = c.requires.table in
-    let slots = ap (λ (z : TableId). z.slots) (i.0 ∙ table.0) in
-    let kept = had_kept _ m i.1.0 (λ e. some_of (i.2 ∙ e)) in
-    let here : suc (c.loop-at.at - 1) ≡ c.loop-at.at = omega arith in (
-      subst (λ (q : ℕ × FreeChain). IsWalking q.0 q.1 (to_hand_out m.0.doing) m) (λ j. (slots j, sym kept j)) i.1,
-      here ∙ i.2,
-    )
 
 pub loop-at-init : goal.loop-at-init
 loop-at-init g c =
-    let t = c.requires.taken in
-    let some_of = t.some_of c.if-at-eq0.false in
-    let none = some_of.1 in
-    let no_rooms = ap (λ (l : List ℕ). length l) none in (
-      refl,
-      subst (λ (n : ℕ). IsWalking n (had_free c.args.seat.now.me.0.doing c.args.seat.now.me.0.free) (to_hand_out c.args.seat.now.me.0.doing) c.args.seat.now.me) (ap (λ (z : TableId). z.slots) (sym c.requires.table.0)) some_of.0,
-      t.at_is,
-      tracks_none c.args.at 0 c.args.seat.now.me.0.free none,
-      (λ _. inl none),
-      (λ _. (refl, c.if-at-eq0.false)),
-      refl,
-      search rules,
-      omega arith,
-    )
+    let h = hands_first _ c.args.at c.args.free.now.first 0 c.args.seat.now.me c.requires.taken in
+    (refl, (h.0, ap (λ l. c.new-batch.result ++ map g.T.Linked.element (room_elements l)) h.1 ∙ ap (λ b. b ++ map g.T.Linked.element (room_elements (to_hand_out c.args.seat.now.me.0.doing))) c.new-batch.ensures))
+
+pub empty-item-requires-clause-filled : goal.empty-item-requires-clause-filled
+empty-item-requires-clause-filled g c =
+    let h = c.loop-at.invariant.1.0 in
+    let n = next_of c.loop-at.at c.args.free.now.first h.left h.at_is c.loop-at-test.true in
+    let at = n.at_is in
+    let here : n.here.0 ≡ c.loop-at.at - 1 = omega arith in
+    let rest = in_use n.others ++ all_vacant (rooms_of h.done) (suc n.here.0) in
+    (n.here.1, start n.others, rest, next_hand _ _ _ _ _ c.args.seat.now.me c.loop-at.seat.me h n ∙ ap (λ r. (r, filled n.here.1 (start n.others)) ∷ rest) here)
 
 pub loop-at-preserved : goal.loop-at-preserved
 loop-at-preserved g c =
     let i = c.loop-at.invariant in
-    let w = c.walk-item.ensures.walked in
-    let m = c.loop-at.seat.me in
-    let fresh = c.loop-at.fresh in
-    let room = c.loop-at.at - 1 in
-    let some_of = c.loop-at-test.true in
-    let here : c.loop-at.at ≡ suc room = omega arith in
-    let now : FreeRooms = record { first = fresh.first; last = room; count = fresh.count + 1 } in
-    let table = c.walk-item.ensures.table ∙ (i.0 ∙ c.requires.table.0) in
-    let slots = ap (λ (z : TableId). z.slots) (sym table) in
-    let kept = had_kept _ m i.1.0 (λ e. some_of (i.2 ∙ e)) in
-    let k = c.walk-item.new.seat.me in (
+    let h = i.1.0 in
+    let after = c.args.free.now.first in
+    let all = to_hand_out c.args.seat.now.me.0.doing in
+    let m = c.args.seat.now.me in
+    let w = c.loop-at.seat.me in
+    let k = c.empty-item.new.seat.me in
+    let n = next_of c.loop-at.at after h.left h.at_is c.loop-at-test.true in
+    let at = n.at_is in
+    let here : c.loop-at.at - 1 ≡ n.here.0 = omega arith in
+    let rest = in_use n.others ++ all_vacant (rooms_of h.done) (suc n.here.0) in
+    let slot = filled n.here.1 (start n.others) in
+    let e = c.empty-item.ensures.emptied n.here.1 (start n.others) rest (next_hand _ _ _ _ _ m w h n ∙ ap (λ r. (r, slot) ∷ rest) (sym here)) in
+    let t = hands_next c.loop-at.at after c.loop-at.last c.loop-at.count all m w k h n (e.1 ∙ ap (λ r. (w.0, rest ++ (r, vacant (link_or (start n.others) after)) ∷ [])) here)
+    (c.loop-at.at - 1) (c.loop-at.count + 1) c.empty-item.result.1 here (add-one c.loop-at.count) (ap (λ r. r.1) e.0) in
+    let item = ap (λ r. r.0) e.0 in
+    let f = g.T.Linked.element in (
       search rules,
-      subst (λ (q : ℕ × FreeChain). IsWalking q.0 q.1 (to_hand_out k.0.doing) k) (λ j. (slots j, kept j)) w.walking,
+      (
+        t.0,
+        ap (λ l. c.put_last.new.stack ++ map f (room_elements l)) t.1
+            ∙ (ap (λ b. b ++ map f (room_elements n.others)) c.put_last.ensures
+            ∙ (append_assoc c.loop-at.batch (f c.empty-item.result.0 ∷ []) (map f (room_elements n.others))
+            ∙ (ap (λ x. c.loop-at.batch ++ f x ∷ map f (room_elements n.others)) item
+            ∙ (ap (λ l. c.loop-at.batch ++ map f (room_elements l)) (sym n.is) ∙ i.1.1)))),
+      ),
+    )
+
+pub load-requires : goal.load-requires
+load-requires g c =
+    let taken = c.requires.taken in
+    let m = c.args.seat.now.me in
+    let w = c.loop-at.seat.me in
+    let slots = c.args.words.now.table_id.slots in
+    let all = to_hand_out m.0.doing in
+    let after = c.args.free.now.first in
+    let h = handed_out c.loop-at.at after c.loop-at.last c.loop-at.count all m w c.loop-at.invariant.1.0 c.loop-at-test.false in
+    let rooms = sym (handed_rooms slots c.args.at after c.loop-at.last c.loop-at.count m w taken h) in (
       search rules,
-      subst (Tracks now) (sym w.free) (tracks_more fresh m.0.free room _ i.3 (λ e. (i.5 e).0 ∙ here)),
-      (λ _. inr (ap (λ q. q.end) w.free)),
-      (λ e. absurd (more_than_none m.0.free.rooms room (sym (ap (λ q. q.rooms) w.free) ∙ e))),
       search rules,
-      grind (arith, common_steps),
-      grind (arith, common_steps),
+      returns _ _ _ w (subst (λ l. w.1 ≡ all_vacant l (last_link w.1)) rooms (vacant_back (rooms_of all) after w.1 h.hand)) (subst (Near slots) rooms taken.walks.chain)
+          (subst (λ v. MayJoin record { rooms = held_rooms w.0.doing; end = last_link w.1 } v.free) (sym h.view_is)
+          (subst (λ l. MayJoin record { rooms = l; end = last_link w.1 } m.0.free) rooms (back_joins (rooms_of all) after w.1 m.0.free h.hand (first_or_none c.args.free.now m.0.free c.requires.tracks)))),
     )
 
 pub returns-clause-seat : goal.returns-clause-seat
 returns-clause-seat g c =
-    let i = c.loop-at.invariant in
     let m = c.args.seat.now.me in
     let w = c.loop-at.seat.me in
-    let kept = had_free m.0.doing m.0.free in
-    let slots = c.args.words.now.table_id.slots in
-    let none = c.loop-at-test.false in
-    let over = walk_over _ slots kept w i.1 (sym i.2 ∙ none) (ap (λ (z : TableId). z.slots) (i.0 ∙ c.requires.table.0)) in
-    let ended = ap (λ l. length l) (starts_nowhere (to_hand_out w.0.doing) (sym i.2 ∙ none)) in
-    let all = i.8 in
-    let long : length w.0.free.rooms ≡ length (to_hand_out m.0.doing) = omega arith in
-    handed_out slots m w c.follow.new.seat.me (c.follow.ensures.followed kept over c.requires.tracks) i.6 long
+    let all = to_hand_out m.0.doing in
+    let h = handed_out c.loop-at.at c.args.free.now.first c.loop-at.last c.loop-at.count all m w c.loop-at.invariant.1.0 c.loop-at-test.false in
+    let l = c.load.ensures.2 in
+    handed_back c.args.words.now.table_id.slots c.args.at c.args.free.now.first c.loop-at.last c.loop-at.count m w c.load.new.seat.me c.requires.taken h l.0 l.1
+
+pub returns-clause-tracks : goal.returns-clause-tracks
+returns-clause-tracks g c =
+    let m = c.args.seat.now.me in
+    let w = c.loop-at.seat.me in
+    let k = c.load.new.seat.me in
+    let free = c.args.free.now in
+    let h = handed_out c.loop-at.at free.first c.loop-at.last c.loop-at.count (to_hand_out m.0.doing) m w c.loop-at.invariant.1.0 c.loop-at-test.false in
+    let back = tracks_back c.args.words.now.table_id.slots c.args.at free.first c.loop-at.last c.loop-at.count m w k free c.requires.taken c.if-at-eq0.false h c.load.ensures.2.0 c.requires.tracks in
+    elim c.if-free-eq0.branch [
+      | then-free-eq0 b ↦
+          let none = b.if-free-eq0.true in
+          subst (λ (z : FreeRooms). Tracks record { first = c.args.at; last = z.last; count = z.count + c.loop-at.count } k.0.free) (sym b.free-is) (back c.loop-at.last (λ _. refl) (λ more. absurd (omega arith)))
+      | else-free-eq0 b ↦
+          subst (λ (z : FreeRooms). Tracks record { first = c.args.at; last = z.last; count = z.count + c.loop-at.count } k.0.free) (sym b.free-is) (back free.last (λ e. absurd (b.if-free-eq0.false e)) (λ _. refl))
+    ]

@@ -6,7 +6,7 @@ pub join_seat-requires : goal.join_seat-requires
 join_seat-requires g c =
     let r = c.requires.rest in
     let same = c.append.ensures.same in
-    (search rules, search rules, search rules, search rules, joins _ _ _ _ (same.doing ∙ r.0.0) r.1.0 (λ e. r.0.2 (ap (λ p. p.share) (sym same.known) ∙ e)) c.append.ensures.joins)
+    (search rules, search rules, search rules, search rules, joins _ _ _ _ (same.doing ∙ r.0.idle) r.1.idle (λ e. r.0.named (ap (λ p. p.share) (sym same.known) ∙ e)) c.append.ensures.joins)
 
 pub load-requires : goal.load-requires
 load-requires g c = let j = c.join_seat.ensures.2 in (search rules, search rules, learns _ _ _ (ap (λ m. m.0.doing) j))

@@ -3,4 +3,4 @@ use Rattle.cordyceps_stack.proofs.SharedTheory.PartingKeeps.{splits}
 use Rattle.cordyceps_stack.proofs.shared.parting.cut.Goals as goal
 
 pub split_seat-requires : goal.split_seat-requires
-split_seat-requires g c = let r = c.requires.rest in (search rules, search rules, splits _ _ _ r.0.2)
+split_seat-requires g c = let r = c.requires.rest in (search rules, search rules, splits _ _ _ r.0.named)

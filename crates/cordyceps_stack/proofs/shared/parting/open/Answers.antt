@@ -1,7 +1,6 @@
-use Rattle.std.proofs.Common.{sym, subst}
-use Rattle.cordyceps_stack.specs.Shared.Words.{AreNew}
+use Rattle.std.proofs.Common.{refl}
 use Rattle.cordyceps_stack.proofs.SharedTheory.PartingKeeps.{opens}
 use Rattle.cordyceps_stack.proofs.shared.parting.open.Goals as goal
 
-pub vacant-requires : goal.vacant-requires
-vacant-requires g c = opens _ _ _ (subst (λ w. AreNew w c.args.rooms) (sym c.as_slice.ensures.value) c.in_ok-words.ensures)
+pub new-requires : goal.new-requires
+new-requires g c = opens c.args.rooms _ _ refl refl c.in_ok-slots.ensures

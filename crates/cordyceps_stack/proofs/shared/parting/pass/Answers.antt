@@ -1,64 +1,74 @@
-use Rattle.std.proofs.Common.{◌≡◌, ◌+◌, ◌-◌, ◌<◌, length, take, drop, sym, ap, ◌∙◌, rules, arith, add-one}
-use Rattle.cordyceps_shared.specs.FreeChains.{leads}
-use Rattle.cordyceps_shared.proofs.Places.{near_first, near_drop}
-use Rattle.cordyceps_shared.specs.declared.layout.TheConstants.{LINKS}
-use Rattle.cordyceps_stack.proofs.SharedTheory.StepsKeep.{skips}
-use Rattle.cordyceps_shared.proofs.TrackRooms.{room_at, last_same}
+use Rattle.std.proofs.Common.{◌≡◌, ◌+◌, ◌-◌, suc, [], ◌∷◌, ◌++◌, refl, inr, sym, ap, ◌∙◌, subst, arith, rules, add-one}
+use Rattle.cordyceps_shared.specs.FreeChains.{leads, MayJoin}
+use Rattle.cordyceps_shared.specs.Slots.{Near}
+use Rattle.cordyceps_shared.proofs.Places.{near_take}
+use Rattle.cordyceps_stack.specs.Shared.Slots.{vacant, all_vacant, last_link}
+use Rattle.cordyceps_stack.specs.Shared.View.{held_rooms}
+use Rattle.cordyceps_stack.proofs.SharedTheory.PartsJoin.{leads_first, passes_first, held_long, next_free, next_vacant, follows_next, follows_all, vacant_back, back_joins}
+use Rattle.cordyceps_stack.proofs.SharedTheory.StepsKeep.{returns}
 use Rattle.cordyceps_stack.proofs.shared.parting.pass.Goals as goal
 
-pub overflow_sub-last : goal.overflow_sub-last
-overflow_sub-last g c =
-    let rooms = c.args.seat.now.me.0.free.rooms in
-    let count = c.requires.rooms.0.count in
-    let few = c.requires.rooms.1 in
-    let more = c.loop-room-test.true in
-    let low : c.loop-room._room < length rooms = omega arith in
-    let t = room_at rooms c.loop-room._room low in
-    let at = c.loop-room.invariant.2 t.0 t.1 t.2 in
-    omega arith
+pub loop-room-init : goal.loop-room-init
+loop-room-init g c =
+    let t = c.requires.rooms in
+    let few = t.1 in
+    let other = c.if-rooms-free.false in
+    (refl, refl, passes_first c.args.rooms c.args.free.now.first c.args.seat.now.me c.hold.new.seat.me c.hold.ensures.holds (leads_first c.args.free.now c.args.seat.now.me.0.free c.args.rooms t.0 (omega arith)))
 
-pub overflow_add-last : goal.overflow_add-last
-overflow_add-last g c =
-    let rooms = c.args.seat.now.me.0.free.rooms in
-    let count = c.requires.rooms.0.count in
-    let few = c.requires.rooms.1 in
+pub next-at-requires-clause-vacant : goal.next-at-requires-clause-vacant
+next-at-requires-clause-vacant g c =
+    let t = c.requires.rooms in
+    let count = t.0.count in
+    let few = t.1 in
+    let f = c.loop-room.invariant.2 in
+    let held = c.hold.new.seat.me.0 in
+    let end = leads held.free.rooms held.free.end in
+    let long = held_long c.args.rooms c.args.seat.now.me c.hold.new.seat.me c.hold.ensures.holds (omega arith) in
     let more = c.loop-room-test.true in
-    let low : c.loop-room._room < length rooms = omega arith in
-    let t = room_at rooms c.loop-room._room low in
-    let at = c.loop-room.invariant.2 t.0 t.1 t.2 in
-    let near = near_first c.args.words.now.table_id.slots t.0 t.1 (drop c.loop-room._room rooms) t.2 (near_drop c.args.words.now.table_id.slots c.loop-room._room rooms c.requires.rest.3) in
-    let table = c.requires.table in
-    search rules
-
-pub load-at-requires : goal.load-at-requires
-load-at-requires g c =
-    let rooms = c.args.seat.now.me.0.free.rooms in
-    let count = c.requires.rooms.0.count in
-    let few = c.requires.rooms.1 in
-    let more = c.loop-room-test.true in
-    let low : c.loop-room._room < length rooms = omega arith in
-    let t = room_at rooms c.loop-room._room low in
-    let at = c.loop-room.invariant.2 t.0 t.1 t.2 in
-    let near = near_first c.args.words.now.table_id.slots t.0 t.1 (drop c.loop-room._room rooms) t.2 (near_drop c.args.words.now.table_id.slots c.loop-room._room rooms c.requires.rest.3) in
-    let table = c.requires.table in
-    (search rules, search rules, skips _ _ _ _)
+    let n = next_free c.loop-room.at c.loop-room.last c.loop-room._room (held_rooms held.doing) end c.loop-room.seat.me f (omega arith) in
+    let at = n.at_is in
+    let here : n.here ≡ c.loop-room.at - 1 = omega arith in
+    let rest = all_vacant n.others end ++ all_vacant f.done (suc n.here) in
+    (leads n.others end, rest, next_vacant _ _ _ _ end c.loop-room.seat.me f n ∙ ap (λ r. (r, vacant (leads n.others end)) ∷ rest) here)
 
 pub loop-room-preserved : goal.loop-room-preserved
 loop-room-preserved g c =
-    let rooms = c.args.seat.now.me.0.free.rooms in
-    let n = c.loop-room._room in
-    let count = c.requires.rooms.0.count in
-    let few = c.requires.rooms.1 in
-    let more = c.loop-room-test.true in
-    let low : n < length rooms = omega arith in
-    let t = room_at rooms n low in
+    let t = c.requires.rooms in
+    let count = t.0.count in
+    let few = t.1 in
     let i = c.loop-room.invariant in
-    let at = i.2 t.0 t.1 t.2 in
-    let here : c.loop-room.at - 1 ≡ t.0 = omega arith in
-    let same = i.1 in
-    let s = c.load-at.ensures.2 (take n rooms) t.1 t.0 (ap (λ m. m.0.free.rooms) same ∙ t.5) (ap (λ z. LINKS + z) here) in (
+    let f = i.2 in
+    let held = c.hold.new.seat.me.0 in
+    let end = leads held.free.rooms held.free.end in
+    let long = held_long c.args.rooms c.args.seat.now.me c.hold.new.seat.me c.hold.ensures.holds (omega arith) in
+    let more = c.loop-room-test.true in
+    let n = next_free c.loop-room.at c.loop-room.last c.loop-room._room (held_rooms held.doing) end c.loop-room.seat.me f (omega arith) in
+    let at = n.at_is in
+    let here : c.loop-room.at - 1 ≡ n.here = omega arith in
+    let rest = all_vacant n.others end ++ all_vacant f.done (suc n.here) in
+    let turned = c.next-at.ensures.turned (leads n.others end) rest (next_vacant _ _ _ _ end c.loop-room.seat.me f n ∙ ap (λ r. (r, vacant (leads n.others end)) ∷ rest) (sym here)) in (
       search rules,
-      s.0 ∙ same,
-      (λ r rs e. s.1 ∙ ap (λ l. leads l c.loop-room.seat.me.0.free.end) (sym t.3 ∙ (ap (λ z. drop z rooms) (sym (add-one n)) ∙ e))),
-      (λ before r e. here ∙ last_same (take n rooms) before t.0 r (sym t.4 ∙ (ap (λ z. take z rooms) (sym (add-one n)) ∙ e))),
+      ap (λ m. m.0) turned.1 ∙ i.1,
+      follows_next _ _ _ _ end c.loop-room.seat.me c.next-at.new.seat.me f n (ap (λ m. m.1) turned.1 ∙ ap (λ r. rest ++ (r, vacant (leads n.others end)) ∷ []) here) (c.loop-room.at - 1) (c.loop-room._room + 1) c.next-at.result here (add-one c.loop-room._room) turned.0,
+    )
+
+pub load-requires : goal.load-requires
+load-requires g c =
+    let t = c.requires.rooms in
+    let count = t.0.count in
+    let few = t.1 in
+    let i = c.loop-room.invariant in
+    let held = c.hold.new.seat.me.0 in
+    let slots = c.args.words.now.table_id.slots in
+    let end = leads held.free.rooms held.free.end in
+    let long = held_long c.args.rooms c.args.seat.now.me c.hold.new.seat.me c.hold.ensures.holds (omega arith) in
+    let done = c.loop-room-test.false in
+    let w = c.loop-room.seat.me in
+    let all = follows_all c.loop-room.at c.loop-room.last c.loop-room._room (held_rooms held.doing) end w i.2 (omega arith) in
+    let rooms = ap (λ v. held_rooms v.doing) (sym i.1) in
+    let near : Near slots (held_rooms held.doing) = subst (λ v. Near slots (held_rooms v.doing)) (sym c.hold.ensures.holds.view_is) (near_take slots c.args.rooms c.args.seat.now.me.0.free.rooms c.requires.rest.near) in (
+      search rules,
+      search rules,
+      returns _ _ _ w (subst (λ l. w.1 ≡ all_vacant l (last_link w.1)) rooms (vacant_back (held_rooms held.doing) end w.1 all.0)) (subst (Near slots) rooms near)
+          (subst (λ v. MayJoin record { rooms = held_rooms v.doing; end = last_link w.1 } v.free) (sym i.1) (back_joins (held_rooms held.doing) end w.1 held.free all.0 (inr refl))),
     )

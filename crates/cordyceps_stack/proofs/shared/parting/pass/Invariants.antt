@@ -1,9 +1,14 @@
-use Rattle.std.proofs.Common.{◌≡◌, ℕ, suc, List, [], ◌∷◌, ◌++◌, take, drop}
+use Rattle.std.proofs.Common.{◌≡◌}
+use Rattle.cordyceps_shared.specs.FreeChains.{leads}
+use Rattle.cordyceps_stack.specs.Shared.View.{held_rooms}
+use Rattle.cordyceps_stack.proofs.SharedTheory.PartsJoin.{Follows}
 use Rattle.cordyceps_stack.proofs.shared.parting.pass.Given as goal
+
+abbrev pub ghosts-hold : goal.ghosts-hold
+ghosts-hold g a = record { rooms = a.rooms }
 
 abbrev pub invariant-loop-room : goal.invariant-loop-room
 invariant-loop-room g l =
-    let rooms = l.initial.seat.me.0.free.rooms in
-    (l.seat.table_id ≡ l.initial.seat.table_id) × (l.seat.me ≡ l.initial.seat.me)
-    × ((r : ℕ) (rs : List ℕ) → drop l._room rooms ≡ r ∷ rs → l.at ≡ suc r)
-    × ((before : List ℕ) (r : ℕ) → take l._room rooms ≡ before ++ r ∷ [] → l.last ≡ r)
+    let held = l.initial.seat.me.0 in
+    (l.seat.table_id ≡ l.initial.seat.table_id) × (l.seat.me.0 ≡ held)
+    × Follows l.at l.last l._room (held_rooms held.doing) (leads held.free.rooms held.free.end) l.seat.me

@@ -1,29 +1,65 @@
-use Rattle.std.proofs.Common.{refl, inr, ap, rules}
-use Rattle.cordyceps_stack.proofs.SharedTheory.StepsKeep.{ties}
-use Rattle.cordyceps_shared.proofs.TrackRooms.{last_room}
+use Rattle.std.proofs.Common.{◌∷◌, refl, inr, sym, ap, ◌∙◌, rules}
+use Rattle.cordyceps_shared.proofs.TrackRooms.{last_room, more_than_none}
+use Rattle.cordyceps_stack.specs.Shared.Slots.{vacant}
+use Rattle.cordyceps_stack.proofs.SharedTheory.PartsJoin.{relinked, tracks_rooms}
+use Rattle.cordyceps_stack.proofs.SharedTheory.StepsKeep.{holds_last, appends}
 use Rattle.cordyceps_stack.proofs.shared.parting.tie.Goals as goal
 
-pub overflow_add-free : goal.overflow_add-free
-overflow_add-free g c =
-    let t = c.requires in
+pub load-requires : goal.load-requires
+load-requires g c =
     let some_of = c.if-free-eq0.false in
-    let l = last_room c.args.words.now.table_id.slots c.args.free.now c.args.seat.now.me.0.free t.tracks (search rules) t.near in
-    let table = c.requires.table in
-    let near = l.2 in
-    search rules
+    let l = last_room c.args.words.now.table_id.slots c.args.free.now c.args.seat.now.me.0.free c.requires.tracks (search rules) c.requires.rest.near in
+    (search rules, search rules, holds_last _ _ _ _ l.0 c.args.free.now.last c.requires.rest.idle l.1)
 
-pub store-requires : goal.store-requires
-store-requires g c =
-    let t = c.requires in
-    let l = last_room c.args.words.now.table_id.slots c.args.free.now c.args.seat.now.me.0.free t.tracks (search rules) t.near in
-    let table = c.requires.table in
-    let near = l.2 in
-    (search rules, search rules, ties _ _ _ _ _ l.0 c.args.free.now.last refl l.1 l.2)
+pub lead-requires-clause-vacant : goal.lead-requires-clause-vacant
+lead-requires-clause-vacant g c =
+    let some_of = c.if-free-eq0.false in
+    let m = c.args.seat.now.me in
+    let l = last_room c.args.words.now.table_id.slots c.args.free.now m.0.free c.requires.tracks (search rules) c.requires.rest.near in
+    let h = c.load.ensures.2 l.0 c.args.free.now.last l.1 in
+    (m.0.free.end, h.1 ∙ ap (λ z. (c.args.free.now.last, vacant m.0.free.end) ∷ z) c.requires.rest.empty)
 
-pub returns-then-at-ne0-clause-ties : goal.returns-then-at-ne0-clause-ties
-returns-then-at-ne0-clause-ties g c =
-    let s = c.store.ensures.2 in
-    (record { known = ap (λ v. v.known) s.0; doing = ap (λ v. v.doing) s.0; rooms = ap (λ v. v.free.rooms) s.0; hand = s.1 }, λ _. inr (ap (λ v. v.free.end) s.0))
+pub load-requires-else-free-eq0 : goal.load-requires-else-free-eq0
+load-requires-else-free-eq0 g c =
+    let some_of = c.if-free-eq0.false in
+    let m = c.args.seat.now.me in
+    let last = c.args.free.now.last in
+    let l = last_room c.args.words.now.table_id.slots c.args.free.now m.0.free c.requires.tracks (search rules) c.requires.rest.near in
+    let h = c.load.ensures.2 l.0 last l.1 in
+    let y = c.lead.ensures.leads m.0.free.end (h.1 ∙ ap (λ z. (last, vacant m.0.free.end) ∷ z) c.requires.rest.empty) in
+    (search rules, search rules, appends _ _ _ _ last c.args.at (ap (λ q. q.0.doing) y ∙ ap (λ v. v.doing) h.0) (ap (λ q. q.1) y) l.2 (inr (ap (λ q. q.0.free.end) y ∙ ap (λ v. v.free.end) h.0)))
 
-pub returns-then-free-eq0-clause-first : goal.returns-then-free-eq0-clause-first
-returns-then-free-eq0-clause-first g c = λ _. refl
+pub returns-else-free-eq0-clause-ties : goal.returns-else-free-eq0-clause-ties
+returns-else-free-eq0-clause-ties g c =
+    let some_of = c.if-free-eq0.false in
+    let m = c.args.seat.now.me in
+    let last = c.args.free.now.last in
+    let l = last_room c.args.words.now.table_id.slots c.args.free.now m.0.free c.requires.tracks (search rules) c.requires.rest.near in
+    let h = c.load.ensures.2 l.0 last l.1 in
+    let y = c.lead.ensures.leads m.0.free.end (h.1 ∙ ap (λ z. (last, vacant m.0.free.end) ∷ z) c.requires.rest.empty) in
+    let a = c.load-else-free-eq0.ensures.2 last c.args.at (ap (λ q. q.0.doing) y ∙ ap (λ v. v.doing) h.0) (ap (λ q. q.1) y) in
+    relinked _ l.0 last c.args.at m c.load.new.seat.me c.lead.new.seat.me c.load-else-free-eq0.new.seat.me c.requires.rest l.1 h.0 y a.0 a.1
+
+pub returns-else-free-eq0-clause-tracks : goal.returns-else-free-eq0-clause-tracks
+returns-else-free-eq0-clause-tracks g c =
+    let some_of = c.if-free-eq0.false in
+    let m = c.args.seat.now.me in
+    let last = c.args.free.now.last in
+    let l = last_room c.args.words.now.table_id.slots c.args.free.now m.0.free c.requires.tracks (search rules) c.requires.rest.near in
+    let h = c.load.ensures.2 l.0 last l.1 in
+    let y = c.lead.ensures.leads m.0.free.end (h.1 ∙ ap (λ z. (last, vacant m.0.free.end) ∷ z) c.requires.rest.empty) in
+    let a = c.load-else-free-eq0.ensures.2 last c.args.at (ap (λ q. q.0.doing) y ∙ ap (λ v. v.doing) h.0) (ap (λ q. q.1) y) in
+    let t = relinked _ l.0 last c.args.at m c.load.new.seat.me c.lead.new.seat.me c.load-else-free-eq0.new.seat.me c.requires.rest l.1 h.0 y a.0 a.1 in
+    (tracks_rooms c.args.free.now m.0.free c.load-else-free-eq0.new.seat.me.0.free t.0.rooms c.requires.tracks, refl)
+
+pub returns-else-free-eq0-clause-first : goal.returns-else-free-eq0-clause-first
+returns-else-free-eq0-clause-first g c none =
+    let some_of = c.if-free-eq0.false in
+    let m = c.args.seat.now.me in
+    let last = c.args.free.now.last in
+    let l = last_room c.args.words.now.table_id.slots c.args.free.now m.0.free c.requires.tracks (search rules) c.requires.rest.near in
+    let h = c.load.ensures.2 l.0 last l.1 in
+    let y = c.lead.ensures.leads m.0.free.end (h.1 ∙ ap (λ z. (last, vacant m.0.free.end) ∷ z) c.requires.rest.empty) in
+    let a = c.load-else-free-eq0.ensures.2 last c.args.at (ap (λ q. q.0.doing) y ∙ ap (λ v. v.doing) h.0) (ap (λ q. q.1) y) in
+    let t = relinked _ l.0 last c.args.at m c.load.new.seat.me c.lead.new.seat.me c.load-else-free-eq0.new.seat.me c.requires.rest l.1 h.0 y a.0 a.1 in
+    absurd (more_than_none l.0 last (sym (t.0.rooms ∙ l.1) ∙ none))

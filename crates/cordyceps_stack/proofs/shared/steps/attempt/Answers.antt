@@ -1,49 +1,52 @@
-use Rattle.std.proofs.Common.{◌≡◌, eqb, sym, ap, ◌∙◌, subst}
-use Rattle.std.specs.Prelude.{IsTrue}
-use Rattle.cordyceps_shared.specs.Slots.{Near}
+use Rattle.std.proofs.Common.{◌∷◌, [], sym, ap, ◌∙◌, subst}
 use Rattle.cordyceps_stack.specs.Shared.Parts.{Settled}
-use Rattle.cordyceps_stack.specs.Shared.View.{name}
-use Rattle.cordyceps_stack.proofs.SharedTheory.PartsJoin.{is_zero, then_pushed, then_missed, same_name, ends_as}
+use Rattle.cordyceps_stack.specs.Shared.Plays.{SeatState, HasHit, HasFailed}
+use Rattle.cordyceps_stack.specs.Shared.Slots.{filled}
+use Rattle.cordyceps_stack.proofs.SharedTheory.PartsJoin.{settles_once, fails_once}
 use Rattle.cordyceps_stack.proofs.shared.steps.attempt.Goals as goal
 
-pub load-read-requires-clause-ready : goal.load-read-requires-clause-ready
-load-read-requires-clause-ready g c = let r = c.requires.ready.1 in (r.0, r.2)
+pub relink-requires-clause-filled : goal.relink-requires-clause-filled
+relink-requires-clause-filled g c = let r = c.requires.ready in (r.0, r.1.link, c.load-read.ensures.same.1 ∙ r.1.hand)
 
-pub settle-requires-clause-set : goal.settle-requires-clause-set
-settle-requires-clause-set g c = let r = c.requires.ready in (r.0, ap (λ m. m.1) c.link.ensures.set ∙ (c.load-read.ensures.loaded.hand ∙ r.1.1))
+pub settle-requires-clause-filled : goal.settle-requires-clause-filled
+settle-requires-clause-filled g c =
+    let r = c.requires.ready in
+    (r.0, ap (λ m. m.1) (c.relink.ensures.links r.0 r.1.link (c.load-read.ensures.same.1 ∙ r.1.hand)))
+
+pub settle-requires-clause-loaded : goal.settle-requires-clause-loaded
+settle-requires-clause-loaded g c =
+    let r = c.requires.ready in
+    ap (λ m. m.0.doing) (c.relink.ensures.links r.0 r.1.link (c.load-read.ensures.same.1 ∙ r.1.hand)) ∙ c.load-read.ensures.doing
+
+pub settle-requires-clause-named : goal.settle-requires-clause-named
+settle-requires-clause-named g c =
+    let r = c.requires.ready in
+    let same = ap (λ m. m.0.known.share) (c.relink.ensures.links r.0 r.1.link (c.load-read.ensures.same.1 ∙ r.1.hand)) in
+    λ e. r.1.named (sym (same ∙ c.load-read.ensures.sees.share) ∙ e)
+
+pub settle-requires-clause-inside : goal.settle-requires-clause-inside
+settle-requires-clause-inside g c = c.requires.ready.1.inside
 
 pub returns-then-settle-clause-answer : goal.returns-then-settle-clause-answer
 returns-then-settle-clause-answer g c x ready =
+    let slots = c.args.words.now.table_id.slots in
     let m = c.args.seat.now.me in
-    let set = c.link.ensures.set in
-    let loaded = c.load-read.ensures.loaded in
-    let hand = ap (λ m. m.1) set ∙ (loaded.hand ∙ ready.1) in
-    let hit = subst (λ b. Settled c.args.room c.load-read.result x b c.link.new.seat.me c.settle.new.seat.me) c.if-settle.true (c.settle.ensures.settled x hand) in
-    let free = hit.1 ∙ (ap (λ m. m.0.free) set ∙ loaded.free) in
-    let same = ap (λ m. m.0.known) set in record {
-      rests = (
-        hit.0,
-        hit.2,
-        (λ z. ready.2 (sym (hit.3.share ∙ (ap (λ m. m.0.known.share) set ∙ loaded.sees.share)) ∙ z)),
-        subst (λ l. Near c.args.words.now.table_id.slots l.rooms) (sym free) ready.3,
-      );
-      free = free;
-      sees = then_pushed m.0 c.load-read.new.seat.me.0 c.link.new.seat.me.0 c.settle.new.seat.me.0 x loaded.sees same hit.3;
-      ends = ends_as x (c.load-read.result ≡ 0) (IsTrue (eqb c.load-read.result 0)) (name c.link.new.seat.me.0) (name m.0) c.settle.new.seat.me.0.known.seen
-          (same_name m.0 c.load-read.new.seat.me.0 c.link.new.seat.me.0 _ loaded.sees same) (is_zero c.load-read.result) hit.4;
-    }
+    let l = c.load-read.new.seat.me in
+    let k = c.settle.new.seat.me in
+    let read = c.load-read.result in
+    let e = c.load-read.ensures in
+    let linked = c.relink.ensures.links x ready.link (e.same.1 ∙ ready.hand) in
+    let hit = subst (λ b. Settled c.args.room read x b c.relink.new.seat.me k) c.if-settle.true (c.settle.ensures.settled x (ap (λ m. m.1) linked)) in
+    settles_once slots c.args.room read x ((c.args.room, filled x read) ∷ []) m l k ready e.same.0 e.sees (subst (λ (q : SeatState g.row.E.Denot). HasHit x read q k) linked hit)
 
 pub returns-else-settle-clause-answer : goal.returns-else-settle-clause-answer
 returns-else-settle-clause-answer g c x ready =
+    let slots = c.args.words.now.table_id.slots in
     let m = c.args.seat.now.me in
-    let set = c.link.ensures.set in
-    let loaded = c.load-read.ensures.loaded in
-    let hand = ap (λ m. m.1) set ∙ (loaded.hand ∙ ready.1) in
-    let miss = subst (λ b. Settled c.args.room c.load-read.result x b c.link.new.seat.me c.settle.new.seat.me) c.if-settle.false (c.settle.ensures.settled x hand) in
-    let same = ap (λ m. m.0.known) set in record {
-      doing = miss.0 ∙ sym ready.0;
-      hand = miss.2 ∙ (ap (λ m. m.1) set ∙ loaded.hand);
-      free = miss.1 ∙ (ap (λ m. m.0.free) set ∙ loaded.free);
-      sees = then_missed m.0 c.load-read.new.seat.me.0 c.link.new.seat.me.0 c.settle.new.seat.me.0 loaded.sees same miss.3;
-      overtaken = miss.4;
-    }
+    let l = c.load-read.new.seat.me in
+    let k = c.settle.new.seat.me in
+    let read = c.load-read.result in
+    let e = c.load-read.ensures in
+    let linked = c.relink.ensures.links x ready.link (e.same.1 ∙ ready.hand) in
+    let failed = subst (λ b. Settled c.args.room read x b c.relink.new.seat.me k) c.if-settle.false (c.settle.ensures.settled x (ap (λ m. m.1) linked)) in
+    fails_once slots c.args.room read x m l k ready e.same.0 e.sees (subst (λ (q : SeatState g.row.E.Denot). HasFailed c.args.room q k) linked failed)

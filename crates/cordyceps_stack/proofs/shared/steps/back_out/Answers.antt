@@ -1,21 +1,30 @@
-use Rattle.std.proofs.Common.{[], ◌∷◌, Option, Some, None, refl, sym, ap, ◌∙◌, rules}
+use Rattle.std.proofs.Common.{◌∷◌, sym, ap, ◌∙◌, subst, inr, rules}
 use Rattle.atomic_table.specs.Table.{rest}
 use Rattle.cordyceps_shared.specs.FreeChains.{leads}
-use Rattle.cordyceps_stack.proofs.SharedTheory.StepsKeep.{returns}
+use Rattle.cordyceps_shared.specs.Slots.{Near}
+use Rattle.cordyceps_stack.specs.Shared.Plays.{SeatState}
+use Rattle.cordyceps_stack.specs.Shared.Slots.{vacant, filled, last_link}
+use Rattle.cordyceps_stack.specs.Shared.View.{held_rooms}
+use Rattle.cordyceps_stack.proofs.SharedTheory.PartsJoin.{one_back}
+use Rattle.cordyceps_stack.proofs.SharedTheory.StepsKeep.{near_one, returns}
 use Rattle.cordyceps_stack.proofs.shared.steps.back_out.Goals as goal
 
 pub exchange-item-requires : goal.exchange-item-requires
 exchange-item-requires g c =
-    let h = c.requires.ready.1.1 in
-    (search rules, (_, h ∙ ap (λ z. (c.args.room, Some c.requires.ready.0) ∷ rest z) (sym h)))
+    let r = c.requires.ready in
+    let slot = filled r.0 r.1.link in
+    (search rules, (slot, r.1.hand ∙ ap (λ l. (c.args.room, slot) ∷ rest l) (sym r.1.hand)))
 
-pub store-requires : goal.store-requires
-store-requires g c =
-    let ready = c.requires.ready.1 in
+pub load-requires : goal.load-requires
+load-requires g c =
+    let r = c.requires.ready in
     let y = c.exchange-item.ensures.3 in
-    let none : Option g.row.E.Denot = None in
-    let missed = ap (λ m. m.0.doing) y ∙ ready.0 in
-    let empty = ap (λ m. m.1) y ∙ ap (λ z. (c.args.room, none) ∷ rest z) ready.1 in
-    let t = c.requires.table in
-    let near = ready.4 in
-    (search rules, search rules, returns _ _ _ _ _ c.args.room [] refl missed empty near (c.requires.next ∙ ap (λ m. leads m.0.free.rooms m.0.free.end) (sym y)))
+    let is = y ∙ ap (λ (l : SeatState g.row.E.Denot). (c.args.seat.now.me.0, (c.args.room, vacant c.args.next) ∷ rest l.1)) (λ i. (c.args.seat.now.me.0, r.1.hand i)) in
+    let doing = ap (λ m. m.0.doing) y ∙ r.1.doing in
+    let hand = ap (λ m. m.1) is in (
+      search rules,
+      search rules,
+      returns _ _ _ c.exchange-item.new.seat.me (one_back c.args.room c.args.next c.exchange-item.new.seat.me doing hand)
+          (subst (λ d. Near c.args.words.now.table_id.slots (held_rooms d)) (sym doing) (near_one _ c.args.room r.1.inside))
+          (inr (inr (ap (λ l. last_link l) hand ∙ (c.requires.next ∙ ap (λ m. leads m.0.free.rooms m.0.free.end) (sym y))))),
+    )

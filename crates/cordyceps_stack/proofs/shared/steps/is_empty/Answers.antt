@@ -4,7 +4,7 @@ use Rattle.cordyceps_stack.proofs.SharedTheory.StepsKeep.{looks}
 use Rattle.cordyceps_stack.proofs.shared.steps.is_empty.Goals as goal
 
 pub load-requires : goal.load-requires
-load-requires g c = (search rules, search rules, looks _ _ _ c.requires.rest.0 c.requires.rest.2)
+load-requires g c = (search rules, search rules, looks _ _ _ c.requires.rest.idle c.requires.rest.named)
 
 pub returns-clause-answer : goal.returns-clause-answer
 returns-clause-answer g c = looked_as _ _ _ _ (is_zero c.load.result) c.load.ensures.2.4
