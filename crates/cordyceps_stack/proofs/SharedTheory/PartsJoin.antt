@@ -3,7 +3,7 @@ use Rattle.std.proofs.Common.{◌≡◌, ◌≢◌, ◌↔◌, ◌⊎◌, ℕ, z
 use Rattle.std.proofs.lemmas.Bool.{eqb-true}
 use Rattle.std.proofs.lemmas.List.{map-append, length-map, reverse-append, length-take-le}
 use Rattle.std.specs.Prelude.{IsTrue, reverse}
-use Rattle.cordyceps_shared.specs.FreeChains.{Tracks, FreeChain, leads, end_after, with_first, with_last, first_rooms, rest_rooms, joined, IsTied, MayJoin}
+use Rattle.cordyceps_shared.specs.FreeChains.{Tracks, FreeChain, leads, with_first, with_last, first_rooms, rest_rooms, joined, IsTied, MayJoin}
 use Rattle.cordyceps_shared.specs.Histories.{plain, own, AllOwn}
 use Rattle.cordyceps_shared.specs.Knowing.{Known, Grown}
 use Rattle.cordyceps_shared.specs.Places.{ItemAt}
@@ -12,7 +12,7 @@ use Rattle.cordyceps_shared.specs.Slots.{Near}
 use Rattle.cordyceps_shared.specs.declared.free.FreeRooms.{FreeRooms}
 use Rattle.cordyceps_shared.proofs.Adding.{replicate_more, tail_own}
 use Rattle.cordyceps_shared.proofs.Choices.{first_or}
-use Rattle.cordyceps_shared.proofs.Places.{near_cons, near_append}
+use Rattle.cordyceps_shared.proofs.Places.{near_append}
 use Rattle.cordyceps_shared.proofs.Telling.{grown_then}
 use Rattle.cordyceps_shared.proofs.TrackRooms.{first_room, more_than_none, tracks_joined, tracks_alone}
 use Rattle.cordyceps_stack.specs.History.{Event, Load, Push, Taken, Legal, SomeChange, actor}
