@@ -41,7 +41,7 @@ def crates():
 def type_of(outer):
     """The name of the type of an `impl` or of a trait, and the trait that an `impl` is of, or an empty text."""
     header = sources.header_of(outer)
-    types = judge().types_of(header)
+    types = judge().bodies.types_of(header)
     # (a check puts a word before the name of a type that is borrowed)
     name = re.sub(r"^Ref(Mut)?", "", types[0]) if " for &" in header else types[0]
     return name, types[1].removeprefix(types[0]) if len(types) > 1 else ""

@@ -1,0 +1,123 @@
+"""The functions of a source file, and its text without their bodies."""
+
+import re
+from collections import namedtuple
+
+# A function in the sources: its file, its lines, what a check may call its type, if it has one, its name, and the
+# beginning of the `impl` or trait that it stands in, with the imports there.
+Function = namedtuple("Function", "path first last types name header")
+
+BEGINS = re.compile(r"^( *)(?:pub(?:\([a-z]+\))? )?(?:const |unsafe )*fn (\w+)", re.M)
+OF_TYPE = re.compile(r"^(?:unsafe )?(?:impl\b.*|(?:pub(?:\([a-z]+\))? )?trait .*)$", re.M)
+
+
+def functions_of(path, text):
+    """The functions of a file, in its order."""
+    found = list(BEGINS.finditer(text))
+    for begins, behind in zip(found, [*(it.start() for it in found[1:]), len(text)]):
+        indent = begins[1]
+        # (what a trait asks for has no body, and ends before the next function)
+        ends = re.compile(rf"^{indent}\}}$|^{indent}\S.*\}}$", re.M).search(text, begins.end(), behind)
+        headers = list(OF_TYPE.finditer(text, 0, begins.start())) if indent else []
+        first, last = text.count("\n", 0, begins.start()) + 1, text.count("\n", 0, ends.end() if ends else behind) + 1
+        header = ""
+        if headers:
+            opens = text.index("{\n", headers[-1].start()) + 2
+            imports = re.findall(r"^ *ghost use [^;]*;\n", text[opens : begins.start()], re.M)
+            header = text[headers[-1].start() : opens] + "".join(imports)
+        yield Function(path, first, last, types_of(headers[-1][0]) if headers else (), begins[2], header)
+
+
+def types_of(header):
+    """What a check may name the type of an `impl` or of a trait: with the trait's name behind it, and its arguments.
+
+    >>> types_of("impl<P> Order<Waiting<P>> for BySector {")
+    ('BySector', 'BySectorOrder', 'BySectorOrderWaiting')
+    >>> types_of("impl<'a, T> IntoIterator for &'a mut List<T> {")
+    ('RefMutList', 'RefMutListIntoIterator', 'RefMutListIntoIterator')
+    """
+    header = re.sub(r"\bwhere\b.*|\{.*", "", header)
+    if "trait " in header:
+        return (re.search(r"trait (\w+)", header)[1],)
+    bare = without_parameters(header)
+    trait, is_of_trait, of = bare.rpartition(" for ")
+    borrow = re.match(r"&(?:'\w+ )?(mut )?", of)
+    of = re.findall(r"\w+", re.sub(r"<.*", "", of.removeprefix("impl")))[-1]
+    of = f"Ref{'Mut' if borrow[1] else ''}{of}" if borrow else of
+    # (the parameters of the `impl` are no part of the name)
+    own = re.findall(r"[<,]\s*(\w+)\s*(?=[:,>])", header[: len(header) - len(bare) + len("impl")])
+    words = [it for it in re.findall(r"(?<!')\b[A-Za-z_]\w*", trait.removeprefix("impl")) if it not in own]
+    outer = re.findall(r"\w+", re.sub(r"<.*", "", trait.removeprefix("impl")))[-1:]
+    return (of, of + "".join(outer), of + "".join(it[0].upper() + it[1:] for it in words)) if is_of_trait else (of,)
+
+
+def without_parameters(header):
+    """An `impl` without the parameters that it declares."""
+    if not header.startswith("impl<"):
+        return header
+    depth = 0
+    for at, it in enumerate(header):
+        depth += (it == "<") - (it == ">" and header[at - 1] != "-")
+        if it == ">" and depth == 0:
+            return "impl" + header[at + 1 :]
+    return header
+
+
+def is_for_all(header):
+    """Whether an `impl` is one of a type itself, for all of its arguments.
+
+    >>> is_for_all("impl<T: Linked<Links<T>>, O: Order<T>> SortedList<T, O> {\\n")
+    True
+    >>> is_for_all("impl<T: Ord> SortedList<T, Least> {\\n")
+    False
+    >>> is_for_all("impl<'a, T> Iterator for Values<'a, T> {\\n")
+    False
+    """
+    of = re.match(r"impl\s+\w+(?:<([^<>]*)>)?\s*(?:where\b|\{)", without_parameters(header))
+    parameters = header[: len(header) - len(without_parameters(header)) + len("impl")]
+    named = [it.strip() for it in (of[1] or "").split(",") if it.strip()] if of else []
+    return bool(of) and all(re.search(rf"[<,]\s*{re.escape(it)}\s*[:,>]", parameters) for it in named)
+
+
+def module_of(path):
+    """The module of a file, as the names of its parts."""
+    inside = re.sub(r"(/mod)?\.rt$", "", path).split("/")[1:]
+    return [] if inside in (["lib"], ["main"]) else inside
+
+
+def body_of(function, lines):
+    """The lines of a function's body between its braces, as a slice, or None where they cannot be told. A constant
+    function has none, since others may compute with it.
+
+    >>> lines = ["fn f(x: u8) -> u8", "    ensures { result ≡ x }", "{", "    x", "}"]
+    >>> lines[body_of(Function("", 1, 5, (), "f", ""), lines)]
+    ['    x']
+    >>> lines = ["fn f() {", "    g()", "}"]
+    >>> lines[body_of(Function("", 1, 3, (), "f", ""), lines)]
+    ['    g()']
+    >>> lines = ["fn f(", "    x: u8,", ") -> u8 {", "    x", "}"]
+    >>> lines[body_of(Function("", 1, 5, (), "f", ""), lines)]
+    ['    x']
+    >>> body_of(Function("", 1, 4, (), "next", ""), ["    fn next();", "}", "impl B for A {", "    type Item = u8;"])
+    >>> body_of(Function("", 1, 3, (), "f", ""), ["    const fn f() {", "        1", "    }"])
+    """
+    own = lines[function.first - 1 : function.last]
+    indent = re.match(" *", own[0])[0]
+    # (behind a contract the brace has a line of its own)
+    opening = re.compile(rf"{indent}(?:|\).* |(?:\S.* )?fn .* )\{{")
+    opens = next((number for number, it in enumerate(own) if opening.fullmatch(it)), None)
+    if opens is None or own[-1] != f"{indent}}}" or re.search(r"\bconst\b.*\bfn\b", own[0]):
+        return None
+    inside = own[opens + 1 : -1]
+    is_inside = all(not it or it.startswith(f"{indent} ") for it in inside)
+    return slice(function.first + opens, function.last - 1) if is_inside else None
+
+
+def without_bodies(path, text):
+    """The lines of a source without the bodies of its functions and without comments."""
+    lines = text.split("\n")
+    for it in reversed([*functions_of(path, text)]):
+        body = body_of(it, lines)
+        if body:
+            lines[body] = []
+    return [it for it in lines if it.strip() and not it.lstrip().startswith("//")]
