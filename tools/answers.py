@@ -8,6 +8,9 @@ BEGINS = re.compile(r"^(?:abbrev )?pub (\S+) : goal\.\S+", re.M)
 OPEN = re.compile(r"it is not proved that .*\(`([^`]+)`\)|^`search` did not prove ((?:`[^`]+`(?:, | and )?)+)")
 FAILS = re.compile(r"\.antt:\d+:\d+: error: `([^`]+)`")
 GONE = re.compile(r"error: `[^`]+`: `goal\.([^`]+)`: module `[^`]+` has no")
+# The parts of a line, and those that steer: a path begins or ends there, or is named after what stands beside them.
+TOKEN = re.compile(r'"[^"]*"|\w+|=>|->|::|==|!=|<=|>=|&&|\|\||\S')
+STEERS = re.compile(r"=>|==|!=|<=|>=|&&|\|\||[<>!?|;{}]|if|else|match|while|for|in|loop|return|break|continue|move")
 # The word of a goal's name that tells what it asks of a call or of a loop.
 ASKS = re.compile(r"-(requires|init|preserved|smaller)(?:-|$)")
 
@@ -49,6 +52,50 @@ def kind_of(goal):
     path, _ = parts_of(goal)
     asks = ASKS.search(path)
     return path.split("-")[0], asks and asks[1]
+
+
+def calls_in(tokens):
+    """The names of the functions that a line calls, in its order. A variant is none."""
+    return [it for it, behind in zip(tokens, tokens[1:]) if behind == "(" and re.match(r"[a-z_]", it)]
+
+
+def keeps_paths(old, new):
+    """Whether a line that is replaced by another leaves the paths through its function as they are, with their names: it
+    changes a value that is returned or passed on, in no condition, and calls functions of the same names.
+
+    >>> keeps_paths("        _ => None,", "        _ => Some(Choice::List),")
+    True
+    >>> keeps_paths("    self.boxes.get(at, k).next", "    self.boxes.get(self.head, 0).prev")
+    True
+    >>> keeps_paths("    let mut it = QueueSession::new(alloc);", "    let mut it = TransferSession::new(alloc);")
+    True
+    >>> keeps_paths("    if x > 100 {", "    if x > 101 {")
+    False
+    >>> keeps_paths("        Some(why) if batch.is_empty() => Err(why),", "        Some(why) => Err(why),")
+    False
+    >>> keeps_paths("    let n = self.len;", "    let n = self.most;")
+    False
+    >>> keeps_paths("    self.list.first()", "    self.list.last()")
+    False
+    >>> keeps_paths("    let (tail, rest) = parts(all);", "    let (_, rest) = parts(all);")
+    False
+    >>> keeps_paths("    list.append(&mut rest);", "    rest.append(list); *list = rest;")
+    False
+    """
+    both = [TOKEN.findall(it) for it in (old, new)]
+    shorter = min(map(len, both))
+    first = next((at for at in range(shorter) if both[0][at] != both[1][at]), shorter)
+    behind = next((at for at in range(shorter - first) if both[0][-1 - at] != both[1][-1 - at]), shorter - first)
+    changed = [it for line in both for it in line[first : len(line) - behind]]
+    before, after = both[0][:first], both[0][len(both[0]) - behind :]
+    # (the arm or the statement that the change stands in)
+    before = before[max((at for at, it in enumerate(before, 1) if it in ("=>", ";", "{", "}")), default=0) :]
+    after = after[: next((at for at, it in enumerate(after) if it in (";", "{", "}")), len(after))]
+    # (a condition may be named after what a name or a field is set to, but not after what a call is passed)
+    is_set = "=" in before and before.count("(") == before.count(")") and after[:1] != ["::"]
+    is_set = is_set or "=" in [*changed, *after]
+    steers = any(STEERS.fullmatch(it) for it in [*changed, *before, *after])
+    return not is_set and not steers and calls_in(both[0]) == calls_in(both[1])
 
 
 def put_under(goal, answers):
