@@ -1,11 +1,14 @@
 //! Measures what calls of the library cost, by the program's own clock.
 //!
-//! Its one argument is a number of rounds, in each of which the elements go in and come out. It prints a table with a
+//! Its argument is a number of rounds, in each of which the elements go in and come out. It prints a table with a
 //! row for each kind of call, on one thread: how many elements the collection holds, the nanoseconds of one call, on
 //! the mean and in the quickest round, and what is counted as one. The last line is a number over what was seen.
 //! Without an argument it makes few rounds, and prints how many calls of each kind were measured in place of their
 //! times, so that it always prints the same. With the argument `threads` it measures collections at which threads meet,
-//! and nothing else.
+//! and nothing else, in so many rounds as a second argument says, or in 25.
+//!
+//! With three arguments it measures some rows alone: which ones, as `lists` or `stack`, how many elements the collection
+//! holds or how many threads put in, and the number of rounds.
 //!
 //! The nodes are made before the clock starts: no call of the library that is measured takes memory. The clock is read
 //! outside of the loops over the elements. Elements that are not in a collection wait in a vector, so the time of a
@@ -13,6 +16,7 @@
 //! cost.
 #![tactic(auto)]
 
+use cordyceps_base::shared::MAX_ROOMS;
 use cordyceps_speed_rows::fault::Fault;
 use cordyceps_speed_rows::free_lists::show_free_lists;
 use cordyceps_speed_rows::lists::show_lists;
@@ -25,7 +29,7 @@ use cordyceps_speed_rows::table::{Shown, Table};
 use cordyceps_speed_rows::timers::show_timers;
 use cordyceps_speed_rows::transfers::show_transfers;
 use cordyceps_speed_rows::vectors::push;
-use cordyceps_speed_threads::meetings::show_meetings;
+use cordyceps_speed_threads::meetings::{Meeting, show_meeting, show_meetings};
 use std::alloc::Global;
 use std::env;
 use std::io::ErrorKind;
@@ -55,25 +59,85 @@ const BATCHES: usize = 1_024;
 /// How many blocks a free list has that are shared.
 const SHARED: usize = 64;
 
+/// Rows that can be asked for alone.
+#[derive(Clone, Copy)]
+enum Rows {
+    Lists,
+    Stables,
+    Stacks,
+    Sorteds,
+    Transfers,
+    Queues,
+    /// Of one collection at which threads meet.
+    At(Meeting),
+}
+
+/// The words that ask for them.
+const ROWS: [(&str, Rows); 15] = [
+    ("lists", Rows::Lists),
+    ("stables", Rows::Stables),
+    ("stacks", Rows::Stacks),
+    ("sorteds", Rows::Sorteds),
+    ("transfers", Rows::Transfers),
+    ("queues", Rows::Queues),
+    ("stack", Rows::At(Meeting::Stack)),
+    ("stack_back", Rows::At(Meeting::StackBack)),
+    ("queue", Rows::At(Meeting::Queue)),
+    ("queue_back", Rows::At(Meeting::QueueBack)),
+    ("consumer", Rows::At(Meeting::Consumer)),
+    ("vector", Rows::At(Meeting::Vector)),
+    ("deque", Rows::At(Meeting::Deque)),
+    ("segments", Rows::At(Meeting::Segments)),
+    ("channel", Rows::At(Meeting::Channel)),
+];
+
 /// What the program is asked for.
 #[derive(Clone, Copy)]
 enum Asked {
     /// Calls on one thread.
     Calls(Table),
     /// Collections at which threads meet.
-    Meetings,
+    Meetings(Table),
+    /// Some rows alone, with so many elements or threads that put in.
+    Alone(Rows, usize, Table),
+}
+
+/// A table of times, over as many rounds as a word says, if it is a number.
+fn read_rounds(word: &str) -> Option<Table> {
+    match word.parse::<u32>() {
+        Ok(rounds) => Some(Table {
+            rounds,
+            shown: Shown::Times,
+        }),
+        Err(_) => None,
+    }
+}
+
+/// The rows that a word asks for, if it does.
+fn read_rows(word: &str) -> Option<Rows> {
+    for (name, rows) in ROWS {
+        if word == name {
+            return Some(rows);
+        }
+    }
+    None
 }
 
 /// What the word after the program's name asks for, if it is one.
 fn read_word(word: &str) -> Option<Asked> {
     if word == "threads" {
-        return Some(Asked::Meetings);
-    }
-    match word.parse::<u32>() {
-        Ok(rounds) => Some(Asked::Calls(Table {
-            rounds,
+        return Some(Asked::Meetings(Table {
+            rounds: MEETINGS,
             shown: Shown::Times,
-        })),
+        }));
+    }
+    Some(Asked::Calls(read_rounds(word)?))
+}
+
+/// What three words ask for, if they do: rows, a number of elements or threads, and a number of rounds.
+fn read_alone(rows: &str, count: &str, rounds: &str) -> Option<Asked> {
+    match count.parse::<usize>() {
+        Ok(count) => Some(Asked::Alone(read_rows(rows)?, count, read_rounds(rounds)?)),
         Err(_) => None,
     }
 }
@@ -86,6 +150,10 @@ fn read(words: &[String]) -> Option<Asked> {
             shown: Shown::Counts,
         })),
         [word] => read_word(word.as_str()),
+        [word, rounds] if word.as_str() == "threads" => {
+            Some(Asked::Meetings(read_rounds(rounds.as_str())?))
+        }
+        [rows, count, rounds] => read_alone(rows.as_str(), count.as_str(), rounds.as_str()),
         _ => None,
     }
 }
@@ -158,19 +226,43 @@ fn show_calls<R: Clock + Print>(rt: &R, alloc: Global, table: Table) -> Result<(
 fn show_threads<R: Clock + Print + Threads + Wait + Sync>(
     rt: &R,
     alloc: Global,
+    table: Table,
 ) -> Result<(), Fault> {
-    let table = Table {
-        rounds: MEETINGS,
-        shown: Shown::Times,
-    };
     table.head(rt)?;
     show_meetings(rt, alloc, table)
+}
+
+/// Measures and shows some rows alone, with so many elements or threads that put in. Of a collection with rooms there
+/// are at most as many elements as it may have rooms.
+fn show_alone<R: Clock + Print + Threads + Wait + Sync>(
+    rt: &R,
+    alloc: Global,
+    rows: Rows,
+    count: usize,
+    table: Table,
+) -> Result<(), Fault> {
+    table.head(rt)?;
+    let rooms = count.min(MAX_ROOMS);
+    let _seen = match rows {
+        Rows::Lists => show_lists(rt, alloc, table, count)?,
+        Rows::Stables => show_stables(rt, alloc, table, count)?,
+        Rows::Stacks => show_stacks(rt, alloc, table, count)?,
+        Rows::Sorteds => show_sorteds(rt, alloc, table, count)?,
+        Rows::Transfers => show_transfers(rt, alloc, table, rooms)?,
+        Rows::Queues => show_queues(rt, alloc, table, rooms)?,
+        Rows::At(meeting) => {
+            show_meeting(rt, alloc, table, meeting, count)?;
+            0
+        }
+    };
+    Ok(())
 }
 
 fn main(rt: HostRuntime) -> ExitCode {
     let shown = match ask(&rt) {
         Ok(Asked::Calls(table)) => show_calls(&rt, rt.alloc(), table),
-        Ok(Asked::Meetings) => show_threads(&rt, rt.alloc()),
+        Ok(Asked::Meetings(table)) => show_threads(&rt, rt.alloc(), table),
+        Ok(Asked::Alone(rows, count, table)) => show_alone(&rt, rt.alloc(), rows, count, table),
         Err(fault) => Err(fault),
     };
     match shown {

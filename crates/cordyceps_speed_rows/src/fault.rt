@@ -5,7 +5,7 @@ use std::fmt;
 /// Why the program measured no more. Its text is the line for standard error, without a line feed.
 #[derive(Clone, Copy)]
 pub enum Fault {
-    /// The arguments are not at most one number of rounds or the word `threads`.
+    /// The arguments ask for nothing that the program measures.
     Usage,
     /// The clock gave no time.
     Clock,
@@ -18,7 +18,12 @@ pub enum Fault {
 impl fmt::Display for Fault {
     fn fmt<W: fmt::Write>(&self, f: &mut fmt::Formatter<W>) -> fmt::Result {
         match self {
-            Fault::Usage => write!(f, "usage: cordyceps_speed [ROUNDS | threads]"),
+            Fault::Usage => {
+                write!(
+                    f,
+                    "usage: cordyceps_speed [ROUNDS | threads [ROUNDS] | ROWS COUNT ROUNDS]"
+                )
+            }
             Fault::Clock => write!(f, "no time from the clock"),
             Fault::Memory => write!(f, "out of memory"),
             Fault::Write => write!(f, "write failed"),

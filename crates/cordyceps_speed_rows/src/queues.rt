@@ -24,6 +24,8 @@ enum Calls {
     Enqueue,
     /// A `try_dequeue` of the queue, which takes the right to dequeue and gives it back.
     Dequeue,
+    /// An `enqueue` and a `try_dequeue` of the queue by turns.
+    Alternate,
     /// A `try_dequeue` of a consumer.
     Consume,
     /// Batches of at most 64.
@@ -33,12 +35,17 @@ enum Calls {
 }
 
 /// One element at a time.
-const SINGLES: [Entry<Calls>; 3] = [
+const SINGLES: [Entry<Calls>; 4] = [
     ("MpscQueue: enqueue", Calls::Enqueue, "by a party"),
     (
         "MpscQueue: try_dequeue",
         Calls::Dequeue,
         "by a party; the right taken and given back",
+    ),
+    (
+        "MpscQueue: one by one",
+        Calls::Alternate,
+        "either; an element in, and out again",
     ),
     (
         "Consumer: try_dequeue",
@@ -176,6 +183,18 @@ impl Queues {
         }
     }
 
+    /// Puts so many elements in, and takes each out before the next.
+    fn alternate(&mut self, turns: usize) {
+        for _ in 0..turns {
+            if let Some(node) = self.nodes.pop() {
+                self.queue.enqueue(&mut self.party, node);
+            }
+            if let Ok(node) = self.queue.try_dequeue(&mut self.party) {
+                keep(&mut self.nodes, node);
+            }
+        }
+    }
+
     /// Takes all elements out by a consumer, one by one. Only the tries are measured.
     fn consume(self, rt: &impl Clock, tries: usize) -> (Queues, Duration) {
         let Queues {
@@ -240,6 +259,10 @@ impl Bench<Calls> for Queues {
         let mut queues = self;
         let count = queues.nodes.len();
         let mut stopwatch = Stopwatch::start(rt);
+        if let Calls::Alternate = calls {
+            queues.alternate(count);
+            return Ok((queues, (count.saturating_mul(2), stopwatch.look(rt))));
+        }
         queues.enqueue_all();
         let enqueued = stopwatch.look(rt);
         match calls {
@@ -255,7 +278,7 @@ impl Bench<Calls> for Queues {
                 let (queues, time) = queues.take(rt, count, 1024)?;
                 Ok((queues, (count, time)))
             }
-            Calls::Enqueue => {
+            Calls::Enqueue | Calls::Alternate => {
                 queues.dequeue_all(count);
                 Ok((queues, (count, enqueued)))
             }

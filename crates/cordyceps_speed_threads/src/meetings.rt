@@ -1,12 +1,13 @@
 //! Collections at which threads meet: one takes what one to four others put in.
 
-use crate::seats::{At, AtQueue, AtStack, Channel};
+use crate::seats::{At, AtConsumer, AtQueue, AtStack, Channel};
 use crate::threads::{Plan, measure};
 use cordyceps_queue::mpsc_queue::MpscQueue;
 use cordyceps_speed_rows::cost::Cost;
 use cordyceps_speed_rows::fault::Fault;
 use cordyceps_speed_rows::stacks::StackNode;
 use cordyceps_speed_rows::table::Table;
+use cordyceps_speed_rows::vectors::{push, with_room};
 use cordyceps_stack::stack::{MAX_ROOMS, TransferStack};
 use crossbeam_channel::unbounded;
 use crossbeam_queue::SegQueue;
@@ -74,6 +75,21 @@ fn at_queue<R: Threads + Wait + Clock + Sync>(
     measure(rt, alloc, plan, AtQueue { queue, party })
 }
 
+/// Measures a queue whose taker keeps the right to dequeue.
+fn at_consumer<R: Threads + Wait + Clock + Sync>(
+    rt: &R,
+    alloc: Global,
+    plan: Plan,
+) -> Result<Duration, Fault> {
+    let rooms = plan.all_rooms().min(MAX_ROOMS);
+    let Ok((queue, party)) = MpscQueue::new(alloc, rooms) else {
+        return Err(Fault::Memory);
+    };
+    let queue = &queue;
+    let at = AtQueue { queue, party };
+    measure(rt, alloc, plan, AtConsumer { at, consumer: None })
+}
+
 /// Measures a vector behind a lock.
 fn at_vector<R: Threads + Wait + Clock + Sync>(
     rt: &R,
@@ -119,74 +135,113 @@ fn at_channel<R: Threads + Wait + Clock + Sync>(
     measure(rt, alloc, plan, At(&channel))
 }
 
-/// What was measured with so many threads that put in.
+/// A collection at which threads meet.
 #[derive(Clone, Copy)]
-struct Meetings {
-    stack: Cost,
-    stack_back: Cost,
-    queue: Cost,
-    queue_back: Cost,
-    vector: Cost,
-    deque: Cost,
-    segments: Cost,
-    channel: Cost,
+pub enum Meeting {
+    /// A transfer stack with a room for each element.
+    Stack,
+    /// A transfer stack whose rooms come back.
+    StackBack,
+    /// A queue with a room for each element.
+    Queue,
+    /// A queue whose rooms come back.
+    QueueBack,
+    /// A queue with a room for each element, whose taker keeps the right to dequeue.
+    Consumer,
+    /// A vector behind a lock.
+    Vector,
+    /// A deque behind a lock.
+    Deque,
+    /// The queue of segments.
+    Segments,
+    /// A channel.
+    Channel,
 }
 
-impl Meetings {
-    /// Measures each collection once.
-    fn round<R: Threads + Wait + Clock + Sync>(
-        &mut self,
+impl Meeting {
+    /// The name of its row.
+    fn name(self) -> &'static str {
+        match self {
+            Meeting::Stack => "TransferStack, fresh rooms",
+            Meeting::StackBack => "TransferStack, rooms that come back",
+            Meeting::Queue => "MpscQueue, fresh rooms",
+            Meeting::QueueBack => "MpscQueue, rooms that come back",
+            Meeting::Consumer => "MpscQueue, the right in hand",
+            Meeting::Vector => "Mutex<Vec>",
+            Meeting::Deque => "Mutex<VecDeque>",
+            Meeting::Segments => "SegQueue",
+            Meeting::Channel => "channel",
+        }
+    }
+
+    /// Measures it once, with so many threads that put in.
+    fn measure<R: Threads + Wait + Clock + Sync>(
+        self,
         rt: &R,
         alloc: Global,
-        fresh: Plan,
-        back: Plan,
-    ) -> Result<(), Fault> {
-        let count = fresh.count();
-        self.stack.add(count, at_stack(rt, alloc, fresh)?);
-        self.stack_back.add(count, at_stack(rt, alloc, back)?);
-        self.queue.add(count, at_queue(rt, alloc, fresh)?);
-        self.queue_back.add(count, at_queue(rt, alloc, back)?);
-        self.vector.add(count, at_vector(rt, alloc, fresh)?);
-        self.deque.add(count, at_deque(rt, alloc, fresh)?);
-        self.segments.add(count, at_segments(rt, alloc, fresh)?);
-        self.channel.add(count, at_channel(rt, alloc, fresh)?);
-        Ok(())
+        producers: usize,
+    ) -> Result<Duration, Fault> {
+        let plan = fresh(producers);
+        match self {
+            Meeting::Stack => at_stack(rt, alloc, plan),
+            Meeting::StackBack => at_stack(rt, alloc, coming_back(producers)),
+            Meeting::Queue => at_queue(rt, alloc, plan),
+            Meeting::QueueBack => at_queue(rt, alloc, coming_back(producers)),
+            Meeting::Consumer => at_consumer(rt, alloc, plan),
+            Meeting::Vector => at_vector(rt, alloc, plan),
+            Meeting::Deque => at_deque(rt, alloc, plan),
+            Meeting::Segments => at_segments(rt, alloc, plan),
+            Meeting::Channel => at_channel(rt, alloc, plan),
+        }
     }
 }
 
-/// Measures the collections by turns, with so many threads that put in, and shows them.
+/// The collections, in the order of their rows.
+const MEETINGS: [Meeting; 9] = [
+    Meeting::Stack,
+    Meeting::StackBack,
+    Meeting::Queue,
+    Meeting::QueueBack,
+    Meeting::Consumer,
+    Meeting::Vector,
+    Meeting::Deque,
+    Meeting::Segments,
+    Meeting::Channel,
+];
+
+/// What is counted as one, with so many threads that put in.
+fn counted(producers: usize) -> &'static str {
+    match producers {
+        1 => "an element, of 1 thread",
+        2 => "an element, of 2 threads",
+        3 => "an element, of 3 threads",
+        _ => "an element, of 4 threads",
+    }
+}
+
+/// Measures collections by turns, with so many threads that put in, and shows them.
 fn show<R: Threads + Wait + Clock + Sync + Print>(
     rt: &R,
     alloc: Global,
     table: Table,
+    meetings: &[Meeting],
     producers: usize,
-    what: &str,
 ) -> Result<(), Fault> {
-    let none = Cost::none();
-    let mut met = Meetings {
-        stack: none,
-        stack_back: none,
-        queue: none,
-        queue_back: none,
-        vector: none,
-        deque: none,
-        segments: none,
-        channel: none,
-    };
-    for _ in 0..table.rounds {
-        met.round(rt, alloc, fresh(producers), coming_back(producers))?;
+    let count = fresh(producers).count();
+    let mut costs = with_room(alloc, meetings.len())?;
+    for _ in meetings {
+        push(&mut costs, Cost::none())?;
     }
-    let rows = [
-        ("TransferStack, fresh rooms", met.stack, what),
-        ("TransferStack, rooms that come back", met.stack_back, what),
-        ("MpscQueue, fresh rooms", met.queue, what),
-        ("MpscQueue, rooms that come back", met.queue_back, what),
-        ("Mutex<Vec>", met.vector, what),
-        ("Mutex<VecDeque>", met.deque, what),
-        ("SegQueue", met.segments, what),
-        ("channel", met.channel, what),
-    ];
-    table.rows(rt, ELEMENTS, &rows)
+    for _ in 0..table.rounds {
+        for (meeting, cost) in meetings.iter().zip(costs.iter_mut()) {
+            cost.add(count, meeting.measure(rt, alloc, producers)?);
+        }
+    }
+    for (meeting, cost) in meetings.iter().zip(costs.iter()) {
+        let row = (meeting.name(), *cost, counted(producers));
+        table.rows(rt, ELEMENTS, &[row])?;
+    }
+    Ok(())
 }
 
 /// Measures the collections with one to four threads that put in, and shows them.
@@ -195,8 +250,19 @@ pub fn show_meetings<R: Threads + Wait + Clock + Sync + Print>(
     alloc: Global,
     table: Table,
 ) -> Result<(), Fault> {
-    show(rt, alloc, table, 1, "an element, of 1 thread")?;
-    show(rt, alloc, table, 2, "an element, of 2 threads")?;
-    show(rt, alloc, table, 3, "an element, of 3 threads")?;
-    show(rt, alloc, table, 4, "an element, of 4 threads")
+    for producers in 1..=4 {
+        show(rt, alloc, table, &MEETINGS, producers)?;
+    }
+    Ok(())
+}
+
+/// Measures one collection with so many threads that put in, at least one and at most four, and shows it.
+pub fn show_meeting<R: Threads + Wait + Clock + Sync + Print>(
+    rt: &R,
+    alloc: Global,
+    table: Table,
+    meeting: Meeting,
+    producers: usize,
+) -> Result<(), Fault> {
+    show(rt, alloc, table, &[meeting], producers.clamp(1, 4))
 }

@@ -4,7 +4,7 @@ ghost use Rattle.std.specs.Prelude.{◌≡◌};
 use crate::threads::Seat;
 use cordyceps_commands::Item;
 use cordyceps_queue::mpsc_queue;
-use cordyceps_queue::mpsc_queue::MpscQueue;
+use cordyceps_queue::mpsc_queue::{Consumer, MpscQueue};
 use cordyceps_speed_rows::stacks::StackNode;
 use cordyceps_stack::stack;
 use cordyceps_stack::stack::TransferStack;
@@ -33,6 +33,10 @@ impl<'a> Seat for AtStack<'a> {
             stack: self.stack,
             party,
         }
+    }
+
+    fn for_taker(self) -> AtStack<'a> {
+        self
     }
 
     fn put<R: Wait>(&mut self, rt: &R, element: StackNode) {
@@ -70,6 +74,10 @@ impl<'a> Seat for AtQueue<'a> {
         }
     }
 
+    fn for_taker(self) -> AtQueue<'a> {
+        self
+    }
+
     fn put<R: Wait>(&mut self, _rt: &R, element: StackNode) {
         if self.party.rooms() > 0 {
             self.queue.enqueue(&mut self.party, element.into_kind());
@@ -79,6 +87,49 @@ impl<'a> Seat for AtQueue<'a> {
     fn take<R: Wait>(&mut self, _rt: &R, taken: &mut Vec<StackNode>) {
         if let Ok(node) = self.queue.try_dequeue(&mut self.party) {
             drop(taken.push(node.into_kind()));
+        }
+    }
+}
+
+/// A party at its queue, and the consumer of the thread that takes out.
+#[derive(Drop)]
+pub struct AtConsumer<'a> {
+    pub at: AtQueue<'a>,
+    pub consumer: Option<Consumer<'a, Item>>,
+}
+
+impl<'a> Seat for AtConsumer<'a> {
+    fn rooms(&self) -> usize {
+        self.at.rooms()
+    }
+
+    fn split(&mut self, rooms: usize) -> AtConsumer<'a> {
+        AtConsumer {
+            at: self.at.split(rooms),
+            consumer: None,
+        }
+    }
+
+    fn for_taker(mut self) -> AtConsumer<'a> {
+        let AtQueue { queue, party } = self.at.split(0);
+        AtConsumer {
+            at: self.at,
+            consumer: queue.try_consume(party).ok(),
+        }
+    }
+
+    fn put<R: Wait>(&mut self, rt: &R, element: StackNode) {
+        self.at.put(rt, element);
+    }
+
+    fn take<R: Wait>(&mut self, rt: &R, taken: &mut Vec<StackNode>) {
+        match &mut self.consumer {
+            Some(consumer) => {
+                if let Ok(node) = consumer.try_dequeue() {
+                    drop(taken.push(node.into_kind()));
+                }
+            }
+            None => self.at.take(rt, taken),
         }
     }
 }
@@ -99,6 +150,10 @@ pub struct At<'a, C>(pub &'a C);
 impl<'a, C: Shared> Seat for At<'a, C> {
     fn split(&mut self, _rooms: usize) -> At<'a, C> {
         At(self.0)
+    }
+
+    fn for_taker(self) -> At<'a, C> {
+        self
     }
 
     fn put<R: Wait>(&mut self, rt: &R, element: StackNode) {

@@ -23,6 +23,9 @@ pub trait Seat {
     /// A place for another thread, with so many of the rooms, or all where there are fewer.
     fn split(&mut self, rooms: usize) -> Self;
 
+    /// The same place for the thread that takes out, which may keep the right to do so.
+    fn for_taker(self) -> Self;
+
     /// Puts an element in, where there is a room.
     fn put<R: Wait>(&mut self, rt: &R, element: StackNode);
 
@@ -159,7 +162,7 @@ fn jobs<'q, S: Seat + Drop>(
     }
     let elements = with_room(alloc, plan.count())?;
     let job = Job {
-        seat,
+        seat: seat.for_taker(),
         rooms,
         elements,
         takes: plan.count(),
