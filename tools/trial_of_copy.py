@@ -1,0 +1,88 @@
+"""What tools/first_run tries of tools/copy: a first copy, an upgrade, and what stands in the way of one."""
+
+import os
+import shutil
+
+from common import text_of, write
+
+BASE = "crates/cordyceps_base/src/lib.rt"
+START = "crates/cordyceps_start"
+GONE = "crates/cordyceps_list/src/gone.rt"
+
+
+def names_in(text):
+    """The crates that the lines of a crates.txt are of."""
+    return [it.split(":")[0].split()[0] for it in text.splitlines()]
+
+
+class Trial:
+    """Another repository, OTHER, into which a checkout is copied."""
+
+    def __init__(self, checkout, other):
+        self.checkout, self.top, self.other, self.faults = checkout, checkout.top, other, []
+        self.lines = text_of(f"{self.top}/crates.txt").splitlines()
+
+    def copied(self, status, line, *words):
+        """Calls tools/copy, which ends so and writes this line."""
+        ran = self.checkout.run(command=[f"{self.top}/tools/copy", self.other, *words])
+        if ran.status != status or ran.err or line not in ran.out.splitlines():
+            self.faults.append(f"tools/copy {' '.join(words)}: {ran}")
+
+    def same(self, *paths):
+        """These files are as in the checkout."""
+        texts = [(it, text_of(f"{self.top}/{it}"), text_of(f"{self.other}/{it}")) for it in paths]
+        self.faults += [f"{it} differs" for it, here, there in texts if here != there]
+
+    def absent(self, *paths):
+        self.faults += [f"{it} is there" for it in paths if os.path.exists(f"{self.other}/{it}")]
+
+    def crates(self, *names):
+        found = names_in(text_of(f"{self.other}/crates.txt"))
+        if sorted(found) != sorted(names):
+            self.faults.append(f"crates.txt has {found}")
+
+    def first(self):
+        """A first copy, into a repository with a crate of its own."""
+        write(f"{self.other}/crates.txt", "app: cordyceps_list\n")
+        write(f"{self.top}/{GONE}", "//! Gone in the next version.\n")
+        self.copied(0, "HANDLES: copied", "lists")
+        self.same(BASE, f"{START}/src/lib.rt", "HANDLES", ".gitignore", GONE)
+        self.crates("cordyceps_base", "cordyceps_list", "cordyceps_start", "app")
+
+    def upgrade(self):
+        """An upgrade: here a file has changed and another went, and cordyceps_start was renamed there."""
+        os.remove(f"{self.top}/{GONE}")
+        was = text_of(f"{self.top}/{BASE}")
+        write(f"{self.top}/{BASE}", f"{was}// newer\n")
+        os.rename(f"{self.other}/{START}", f"{self.other}/crates/mine")
+        lines = text_of(f"{self.other}/crates.txt")
+        write(f"{self.other}/crates.txt", lines.replace("cordyceps_start:", "mine:"))
+        self.copied(0, "crates/cordyceps_base: files changed 1")
+        self.same(BASE)
+        self.absent(GONE, START)
+        self.crates("cordyceps_base", "cordyceps_list", "mine", "app")
+        self.copied(0, "crates/cordyceps_base: as it was")
+        write(f"{self.top}/{BASE}", was)
+
+    def in_the_way(self):
+        """What was changed there is lost only where that is wanted, and HANDLES there has to serve."""
+        write(f"{self.other}/{BASE}", "//! Theirs.\n")
+        self.copied(1, f"{BASE} was changed there; --replace replaces it", "all")
+        write(f"{self.other}/HANDLES", "Handles allowed: none.\n")
+        self.copied(1, "HANDLES there has to allow Wait, since calls of cordyceps_queue may wait", "all", "--replace")
+        self.absent("crates/freelist")
+        write(f"{self.other}/HANDLES", "Handles allowed: Wait.\n")
+        self.copied(0, "HANDLES: as it was", "all", "--replace")
+        self.same(BASE, "crates/freelist/src/lib.rt")
+        all_of_them = {*names_in("\n".join(self.lines[:12])), "mine", "app"} - {"cordyceps_start"}
+        self.crates(*all_of_them)
+
+
+def faults(checkout, other):
+    """What is wrong with tools/copy of a checkout, which is left as it was."""
+    trial = Trial(checkout, other)
+    trial.first()
+    trial.upgrade()
+    trial.in_the_way()
+    shutil.rmtree(other)
+    return trial.faults
