@@ -4,4 +4,5 @@
 
 pub mod free;
 pub mod layout;
+pub mod required;
 pub mod room;

@@ -17,6 +17,7 @@ use cordyceps_base::mpsc_queue::Links;
 use cordyceps_base::node::Refused;
 use cordyceps_base::shared::MAX_ROOMS;
 use cordyceps_shared::free::FreeRooms;
+use cordyceps_shared::required;
 use std::alloc::{AllocError, AllocFailed, Global};
 use std::marker::Model;
 
@@ -142,6 +143,7 @@ impl<T: Linked<Links<T>>> MpscQueue<T> {
         requires { rooms ≤ MAX_ROOMS }
         ensures { IfOk result (λ made. (made.0.stub ≡ None) × (made.1 ≡ new_party made.0.table rooms)) }
     {
+        required::at_most_max_rooms(rooms);
         let spare = Spare {
             rooms: FreeRooms {
                 first: rooms as u64 + 1,
@@ -199,6 +201,7 @@ impl<T: Linked<Links<T>>> MpscQueue<T> {
         requires room { 0 < party.old.rooms }
         ensures { Enqueues handle party.old party.new }
     {
+        required::a_free_room(party.rooms());
         steps::enqueue(
             &self.rooms.shared,
             &mut party.seat,
@@ -246,6 +249,7 @@ impl<T: Linked<Links<T>>> MpscQueue<T> {
         requires rooms { rooms ≤ party.old.rooms }
         ensures { (party.new ≡ keeping rooms party.old) × (result ≡ giving rooms party.old) }
     {
+        required::as_many_rooms(rooms, party.rooms());
         let (seat, spare) = parting::split(
             &self.rooms.shared,
             &mut party.seat,

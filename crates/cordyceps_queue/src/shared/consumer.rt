@@ -16,6 +16,7 @@ use crate::shared::table::{PartySeat, Tried, Words};
 use crate::shared::{steps, tries};
 use cordyceps_base::linked::Linked;
 use cordyceps_base::mpsc_queue::Links;
+use cordyceps_shared::required;
 use std::marker::Model;
 
 /// A party that has the right to dequeue, and the tail's room. It cannot be dropped, so that each consumer gives the
@@ -73,6 +74,7 @@ pub(crate) fn take_batch<T: Linked<Links<T>>>(
         (λ batch. batch ≡ map T.element (take max (held (plain right.old.seen))))
         (λ why. why ≡ error.Empty) }
 {
+    required::a_batch_of_at_least_one(max);
     let mut batch = Batch::new();
     while batch.len() < max {
         match right.try_once(words) {
