@@ -9,6 +9,7 @@ ghost use Rattle.cordyceps_stack.specs.Shared.Calls.{PushesAt, Misses};
 use crate::local::Local;
 use cordyceps_base::linked::Linked;
 use cordyceps_base::stack::Links;
+use cordyceps_shared::required;
 use cordyceps_stack::stack::{MAX_ROOMS, Party, Stack, TransferStack};
 use std::alloc::{AllocError, Global};
 use std::marker::Model;
@@ -67,6 +68,7 @@ impl<T: Linked<Links<T>>> FreeList<T> {
         requires { rooms ≤ MAX_ROOMS }
         ensures { IfOk result (λ made. made.1 ≡ new_party made.0 rooms) }
     {
+        required::at_most_max_rooms(rooms);
         let (shared, party) = TransferStack::new(alloc, rooms)?;
         Ok((FreeList { shared }, party))
     }
@@ -91,6 +93,7 @@ impl<T: Linked<Links<T>>> FreeList<T> {
             (λ back. (back ≡ handle) × Misses party.old party.new) }
         ensures whole { party.old.share ≡ whole → is_ok result ≡ true }
     {
+        required::a_free_room(party.rooms());
         self.shared.try_push(party, handle)
     }
 
@@ -107,6 +110,7 @@ impl<T: Linked<Links<T>>> FreeList<T> {
         requires rooms { rooms ≤ party.old.rooms }
         ensures { (party.new ≡ keeping rooms party.old) × (result ≡ giving rooms party.old) }
     {
+        required::as_many_rooms(rooms, party.rooms());
         self.shared.split(party, rooms)
     }
 
