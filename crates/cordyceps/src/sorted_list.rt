@@ -1,5 +1,5 @@
 //! Sorted lists, their orders, and the kind of their nodes.
 
-pub use cordyceps_stack::sorted_list::{
-    ByFn, Greatest, Least, Links, Order, SortedList, SortedListIter,
+pub use cordyceps_single::sorted_list::{
+    ByFn, ByKey, Greatest, Least, Links, Order, SortedList, SortedListIter,
 };

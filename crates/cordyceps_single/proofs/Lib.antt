@@ -1,6 +1,7 @@
 pub mod Arrangement
 pub mod Elements
 pub mod Grown
+pub mod Keys
 pub mod Places
 pub mod Preorder
 pub mod Puts

@@ -2,6 +2,7 @@
 #![tactic(auto)]
 
 mod by_fn;
+mod by_key;
 pub mod counter;
 mod grow;
 mod iter;

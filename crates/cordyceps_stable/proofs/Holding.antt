@@ -1,5 +1,5 @@
 -- What a stable list holds after a call, and at which spots.
-use Rattle.std.proofs.Common.{append_assoc, append-nil, ◌≡◌, ℕ, zero, suc, [], ◌∷◌, ◌++◌, length, slice_get, Some, refl, sym, ap, ◌∙◌, subst, ◌⊎◌, inl, inr}
+use Rattle.std.proofs.Common.{append_assoc, append-nil, ◌≡◌, ℕ, zero, suc, [], ◌∷◌, ◌++◌, ◌+◌, length, length-append, slice_get, Some, refl, sym, ap, ◌∙◌, subst, ◌⊎◌, inl, inr, arith}
 use denote.RawPtr.{Ptr}
 use Rattle.cordyceps_base.specs.BySpot.{HasSpot, IsTaken, IsPutBefore, IsPutAfter}
 use Rattle.cordyceps_base.specs.Element.{Element}
@@ -21,6 +21,10 @@ module _ {X : Type 0} where
 
   pub after_taken : (c d : Nodes X) (p q : Ptr) (e : Element X) → IsPutAfter d p q e c → IsTaken c q e d
   after_taken c d p q e (b, o, a, was, is) = (b ++ (p, o) ∷ [], a, is ∙ sym (append_assoc b ((p, o) ∷ []) ((q, e) ∷ a)), was ∙ sym (append_assoc b ((p, o) ∷ []) a))
+
+  -- how many are left
+  pub taken_length : (c d : Nodes X) (p : Ptr) (e : Element X) → IsTaken c p e d → length c ≡ length d + 1
+  taken_length c d p e (b, a, is, left) = omega (arith, ap length is, ap length left, length-append b ((p, e) ∷ a), length-append b a)
 
   -- what lies in the list has its spot there: the condition of `remove` and `get`
   pub spot_at : (b a : Nodes X) (q : Ptr) (e : Element X) → slice_get (spots (b ++ (q, e) ∷ a)) (length b) ≡ Some q

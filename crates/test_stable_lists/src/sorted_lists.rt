@@ -122,6 +122,13 @@ fn by_tens(first: &Key, second: &Key) -> Ordering
     (first.value / 10).cmp(&(second.value / 10))
 }
 
+/// Returns the tens of a key.
+fn tens_of(key: &Key) -> u64
+    ensures { result ≡ key.now.value / 10 }
+{
+    key.value / 10
+}
+
 /// Asserts the order in which a list has elements that are inserted one after the other.
 fn sorts<O: Order<Key> + Drop>(
     rt: &impl Abort,
@@ -149,5 +156,7 @@ fn equals_come_by_arrival(rt: HostRuntime) {
     let tens = StableSortedList::new_with_cmp(by_tens);
     let pairs = [(1, 21), (2, 11), (3, 12), (4, 20)];
     let rising = [(2, 11), (3, 12), (1, 21), (4, 20)];
+    sorts(&rt, rt.alloc(), tens, &pairs, &rising);
+    let tens = StableSortedList::new_by_key(tens_of);
     sorts(&rt, rt.alloc(), tens, &pairs, &rising);
 }

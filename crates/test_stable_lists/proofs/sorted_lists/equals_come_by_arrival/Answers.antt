@@ -26,3 +26,9 @@ sorts-requires-3 g c = (
     },
   ),
 )
+
+pub new_by_key-tens-requires-clause-same : goal.new_by_key-tens-requires-clause-same
+new_by_key-tens-requires-clause-same g c = ((λ x. x.value / 10), λ x k h. rw (← h.shows) (search rules))
+
+pub sorts-requires-4 : goal.sorts-requires-4
+sorts-requires-4 g c = (search rules, ((λ x. x.value / 10), λ x k h. rw (← h.shows) (search rules)))
