@@ -1,5 +1,6 @@
 -- What a call of the chain says, said of the list and of its spots.
-use Rattle.std.proofs.Common.{◌≡◌, ℕ, zero, suc, [], ◌∷◌, length, slice_get, Option, Some, None, MatchOption, sym, ap, subst, arith}
+use Rattle.std.proofs.Common.{◌≡◌, ℕ, zero, suc, Bool, [], ◌∷◌, length, slice_get, Option, Some, None, MatchOption, sym, ap, subst, arith}
+use Rattle.std.specs.Bool.{Decides}
 use denote.RawPtr.{Ptr}
 use Rattle.cordyceps_base.specs.declared.boxes.Address.{Address}
 use Rattle.cordyceps_base.specs.Element.{Element}
@@ -29,6 +30,10 @@ module _ {X : Type 0} where
   pub step_said : (A : Nodes X → Ptr → Type 0) (B : Nodes X → Ptr → Ptr → Type 0) (o : Option Address) (r : Option Ptr) → MatchOption o (r ≡ None) (λ s. r ≡ Some s.ptr) → (c d : Nodes X) (p q : Ptr) → MatchOption o (A c p) (λ s. B c p s.ptr) → c ≡ d → p ≡ q → MatchOption r (A d q) (B d q)
   step_said A B o r same c d p q h view at =
       spot_matches o r same (A d q) (B d q) (subst (λ (l : Nodes X × Ptr). MatchOption o (A l.0 l.1) (λ s. B l.0 l.1 s.ptr)) (λ i. (view i, at i)) h)
+
+  -- whether an end is at a spot
+  pub end_told : (P : Nodes X → Ptr → Type 0) (b : Bool) (c d : Nodes X) (p q : Ptr) → Decides b (P c p) → c ≡ d → p ≡ q → Decides b (P d q)
+  end_told P b c d p q h view at = subst (λ (l : Nodes X × Ptr). Decides b (P l.0 l.1)) (λ i. (view i, at i)) h
 
   -- where an element was put in
   pub put_said : (P : Nodes X → Ptr → Ptr → Element X → Nodes X → Type 0) (c d : Nodes X) (p q r : Ptr) (e o : Element X) (n : Nodes X) → P c p r e n → c ≡ d → p ≡ q → e ≡ o → P d q r o n

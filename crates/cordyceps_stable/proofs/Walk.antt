@@ -1,5 +1,7 @@
 -- For loops of one's own: where a spot stands among those of a list, and that a walk comes to an end.
-use Rattle.std.proofs.Common.{◌≡◌, ℕ, zero, suc, ◌+◌, ◌<◌, true, false, List, [], ◌∷◌, ◌++◌, length, length-append, slice_get, cond, Option, Some, None, MatchOption, refl, ap, sym, ◌∙◌, subst, append_assoc, arith}
+use Rattle.std.proofs.Common.{◌≡◌, ℕ, zero, suc, ◌+◌, ◌<◌, Bool, true, false, not, List, [], ◌∷◌, ◌++◌, length, length-append, slice_get, cond, Option, Some, None, MatchOption, refl, ap, sym, ◌∙◌, subst, append_assoc, arith}
+use Rattle.std.specs.Bool.{Decides}
+use Rattle.std.specs.Option.{is_some}
 use denote.RawPtr.{Ptr}
 use Rattle.cordyceps_base.specs.BySpot.{HasSpot, IsFirst, IsLast, AreNext}
 use Rattle.cordyceps_base.specs.Element.{Element}
@@ -8,6 +10,7 @@ use Rattle.cordyceps_base.specs.Spots.{same_ptr, index_of, IsNew, AreDistinct}
 use Rattle.cordyceps_base.proofs.SpotsMemory.{same_ptr_eq, same_ptr_refl}
 use Rattle.cordyceps_single.proofs.Preorder.{by_test}
 use Rattle.cordyceps_stable.specs.Walk.{nodes_from}
+use Rattle.cordyceps_stable.proofs.Reached.{next_has}
 
 turned : (p q : Ptr) → same_ptr p q ≡ false → same_ptr q p ≡ false
 turned p q other = by_test (same_ptr q p) (λ t.
@@ -27,6 +30,10 @@ below (q ∷ ps) p zero at =
 below (q ∷ ps) p (suc k) at = by_test (same_ptr p q)
     (λ t. let first = at_head p q ps t in omega (arith, first))
     (λ f. let later = after_head p q ps f in let rest = below ps p k at in omega (arith, later, rest))
+
+no_other : (b : Bool) → false ≡ not b → b ≡ true
+no_other true tells = refl
+no_other false tells = absurd cc
 
 module _ {X : Type 0} where
   spots_long : (c : Nodes X) → length (spots c) ≡ length c
@@ -74,3 +81,18 @@ module _ {X : Type 0} where
   -- a loop that goes back by what `prev` answers comes to an end: the index falls
   pub prev_nearer : (c : Nodes X) (p q : Ptr) → AreDistinct (spots c) → AreNext c q p → index_of q (spots c) < index_of p (spots c)
   prev_nearer c p q distinct h = let on = next_index c q p distinct h in omega (arith, on)
+
+  -- which end is at a spot: the first has none before it, and the last none after it
+  pub first_told : {A : Type 0} (at : A → Ptr) (c : Nodes X) (p : Ptr) (o : Option A) (b : Bool) → AreDistinct (spots c) → is_some o ≡ not b → MatchOption o (IsFirst c p) (λ q. AreNext c (at q) p) → Decides b (IsFirst c p)
+  first_told at c p None b distinct tells h = (λ _. h, λ _. no_other b tells)
+  first_told at c p (Some q) b distinct tells h = (
+    λ yes. let no = tells ∙ ap not yes in absurd cc,
+    λ first. let low = prev_nearer c p (at q) distinct h in let zeroth = first_index c p first in absurd (omega (arith, low, zeroth)),
+  )
+
+  pub last_told : {A : Type 0} (at : A → Ptr) (c : Nodes X) (p : Ptr) (o : Option A) (b : Bool) → AreDistinct (spots c) → is_some o ≡ not b → MatchOption o (IsLast c p) (λ q. AreNext c p (at q)) → Decides b (IsLast c p)
+  last_told at c p None b distinct tells h = (λ _. h, λ _. no_other b tells)
+  last_told at c p (Some q) b distinct tells h = (
+    λ yes. let no = tells ∙ ap not yes in absurd cc,
+    λ last. let end = last_index c p distinct last in let on = next_index c p (at q) distinct h in let low = index_below c (at q) (next_has c p (at q) h) in absurd (omega (arith, end, on, low)),
+  )

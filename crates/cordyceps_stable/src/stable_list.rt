@@ -1,5 +1,6 @@
 //! A list whose elements are reached by their spots.
 ghost use Rattle.std.specs.Prelude.{◌≡◌, ◌+◌, ◌<◌, ◌≤◌, ◌==◌, [], ◌∷◌, ◌++◌, length, slice_get, MatchOption, MatchResult, Some, None};
+ghost use Rattle.std.specs.Bool.{Decides};
 ghost use Rattle.std.specs.Borrow.{sem};
 ghost use denote.RawPtr.{Ptr};
 ghost use Rattle.cordyceps_base.specs.BySpot.{HasSpot, HoldsAt, IsTaken, IsPutBefore, IsPutAfter, IsMovedFront, IsMovedBack, IsFirst, IsLast, AreNext};
@@ -19,9 +20,11 @@ use std::marker::Model;
 /// kept anywhere.
 ///
 /// It is valid for the list that has the element, as long as the list has it. Each call that takes a spot requires a
-/// valid one. Nothing checks this when the program runs.
+/// valid one. Nothing checks this when the program runs. Spots cannot be compared, and `Debug` prints no address.
 #[derive(Clone, Copy)]
+#[derive_where(Debug)]
 pub struct Spot {
+    #[derive_where(skip)]
     pub(crate) address: Address,
 }
 
@@ -118,6 +121,24 @@ pub(crate) fn last_spot<T>(chain: &DoubleChain<T>) -> Option<Spot>
     Some(Spot {
         address: chain.tail(),
     })
+}
+
+/// Returns `true` if the first node of the chain is at the address.
+pub(crate) fn is_first_at<T>(chain: &DoubleChain<T>, at: Address) -> bool
+    requires there { HasSpot chain.now at.ptr }
+    requires distinct { AreDistinct (spots chain.now) }
+    ensures { Decides result (IsFirst chain.now at.ptr) }
+{
+    chain.prev_at(at).is_none()
+}
+
+/// Returns `true` if the last node of the chain is at the address.
+pub(crate) fn is_last_at<T>(chain: &DoubleChain<T>, at: Address) -> bool
+    requires there { HasSpot chain.now at.ptr }
+    requires distinct { AreDistinct (spots chain.now) }
+    ensures { Decides result (IsLast chain.now at.ptr) }
+{
+    chain.next_at(at).is_none()
 }
 
 impl<T: Linked<Links<T>>> StableList<T> {
@@ -397,6 +418,28 @@ impl<T: Linked<Links<T>>> StableList<T> {
         spot_of(self.chain.prev_at(at.address))
     }
 
+    /// Returns `true` if the first element is at `at`. Requires that `at` is valid.
+    ///
+    /// # Complexity
+    /// O(1).
+    pub fn is_first(&self, at: Spot) -> bool
+        requires { HasSpot self.now at }
+        ensures { Decides result (IsFirst self.now at) }
+    {
+        is_first_at(&self.chain, at.address)
+    }
+
+    /// Returns `true` if the last element is at `at`. Requires that `at` is valid.
+    ///
+    /// # Complexity
+    /// O(1).
+    pub fn is_last(&self, at: Spot) -> bool
+        requires { HasSpot self.now at }
+        ensures { Decides result (IsLast self.now at) }
+    {
+        is_last_at(&self.chain, at.address)
+    }
+
     /// Moves the element at `at` to the front of the list. It keeps its spot, and the others their order. Requires that
     /// `at` is valid.
     ///
@@ -439,6 +482,16 @@ impl<T: Linked<Links<T>>> StableList<T> {
         let more = other.chain.take();
         let nodes = self.chain.take();
         self.chain.put(nodes.join(more).distinct());
+    }
+
+    /// Removes all elements and drops them.
+    ///
+    /// # Complexity
+    /// O(n), for n elements.
+    pub fn clear(&mut self)
+        ensures { self.new ≡ [] }
+    {
+        drop(self.chain.take());
     }
 
     /// Returns a cursor at the first element, or at the null place if the list is empty.

@@ -19,6 +19,8 @@ mod sorted_lists;
 #[cfg(test)]
 mod sorted_operations;
 #[cfg(test)]
+mod spots;
+#[cfg(test)]
 mod stable_calls;
 #[cfg(test)]
 mod stable_lists;
