@@ -13,6 +13,7 @@ use cordyceps_base::linked::Linked;
 use cordyceps_base::shared::MAX_ROOMS;
 use cordyceps_base::stack::Links;
 use cordyceps_shared::free::FreeRooms;
+use cordyceps_shared::required;
 use cordyceps_single::stack::Stack;
 use std::alloc::{AllocError, Global};
 use std::marker::Model;
@@ -131,6 +132,7 @@ impl<T: Linked<Links<T>>> TransferStack<T> {
         requires { rooms ≤ MAX_ROOMS }
         ensures { IfOk result (λ made. made.1 ≡ new_party made.0 rooms) }
     {
+        required::at_most_max_rooms(rooms);
         let free = FreeRooms {
             first: rooms as u64,
             last: 0,
@@ -160,6 +162,7 @@ impl<T: Linked<Links<T>>> TransferStack<T> {
             (λ back. (back ≡ handle) × Misses party.old party.new) }
         ensures whole { party.old.share ≡ whole → is_ok result ≡ true }
     {
+        required::a_free_room(party.rooms());
         steps::try_push(&self.rooms.shared, &mut party.seat, &mut party.free, handle)
     }
 
@@ -206,6 +209,7 @@ impl<T: Linked<Links<T>>> TransferStack<T> {
         requires rooms { rooms ≤ party.old.rooms }
         ensures { (party.new ≡ keeping rooms party.old) × (result ≡ giving rooms party.old) }
     {
+        required::as_many_rooms(rooms, party.rooms());
         let (seat, free) = parting::split(
             &self.rooms.shared,
             &mut party.seat,

@@ -7,6 +7,7 @@ use crate::shared::calls::{Party, TransferStack};
 use crate::shared::steps;
 use cordyceps_base::linked::Linked;
 use cordyceps_base::stack::Links;
+use cordyceps_shared::required;
 use std::sync::Wait;
 
 impl<T: Linked<Links<T>>> TransferStack<T> {
@@ -40,6 +41,7 @@ impl<T: Linked<Links<T>>> TransferStack<T> {
         ensures pushed { (tries : ℕ) × PushesAt (suc tries) handle result party.old party.new }
         ensures whole { party.old.share ≡ whole → PushesAt 1 handle result party.old party.new }
     {
+        required::a_free_room(party.rooms());
         steps::push(
             rt,
             &self.rooms.shared,
