@@ -86,8 +86,8 @@ def module_of(path):
 
 
 def body_of(function, lines):
-    """The lines of a function's body between its braces, as a slice, or None where they cannot be told. A constant
-    function has none, since others may compute with it.
+    """The lines of a function's body between its braces, as a slice, or None where they cannot be told, or where others
+    read them: they may compute with a constant function, and an `impl` that one returns is the type of what is there.
 
     >>> lines = ["fn f(x: u8) -> u8", "    ensures { result ≡ x }", "{", "    x", "}"]
     >>> lines[body_of(Function("", 1, 5, (), "f", ""), lines)]
@@ -100,13 +100,15 @@ def body_of(function, lines):
     ['    x']
     >>> body_of(Function("", 1, 4, (), "next", ""), ["    fn next();", "}", "impl B for A {", "    type Item = u8;"])
     >>> body_of(Function("", 1, 3, (), "f", ""), ["    const fn f() {", "        1", "    }"])
+    >>> body_of(Function("", 1, 3, (), "f", ""), ["fn f() -> impl Iterator {", "    empty()", "}"])
     """
     own = lines[function.first - 1 : function.last]
     indent = re.match(" *", own[0])[0]
     # (behind a contract the brace has a line of its own)
     opening = re.compile(rf"{indent}(?:|\).* |(?:\S.* )?fn .* )\{{")
     opens = next((number for number, it in enumerate(own) if opening.fullmatch(it)), None)
-    if opens is None or own[-1] != f"{indent}}}" or re.search(r"\bconst\b.*\bfn\b", own[0]):
+    head = " ".join(own[: (opens or 0) + 1])
+    if opens is None or own[-1] != f"{indent}}}" or re.search(r"\bconst\b.*\bfn\b|-> .*\bimpl\b", head):
         return None
     inside = own[opens + 1 : -1]
     is_inside = all(not it or it.startswith(f"{indent} ") for it in inside)
