@@ -389,11 +389,12 @@ impl<T: Drop> DoubleChain<T> {
             len,
             boxes: mut back,
         } = self;
-        let Node { mut block, kind: _ } = node;
-        block.links.prev = Address::null();
-        block.links.next = head;
-        let (at, _, new) = Boxes::one(RawBox::from_box(block));
+        let Node { block, kind: _ } = node;
+        let (at, _, mut new) = Boxes::one(RawBox::from_box(block));
+        // The neighbour is written first, so that no write to another node comes between those to the new one.
         back.get_mut(head, 0).links.prev = at;
+        new.get_mut(at, 0).links.next = head;
+        new.get_mut(at, 0).links.prev = Address::null();
         let whole = DoubleChain {
             head: at,
             tail,
@@ -415,11 +416,12 @@ impl<T: Drop> DoubleChain<T> {
             len,
             boxes: mut front,
         } = self;
-        let Node { mut block, kind: _ } = node;
-        block.links.prev = tail;
-        block.links.next = Address::null();
-        let (at, _, new) = Boxes::one(RawBox::from_box(block));
+        let Node { block, kind: _ } = node;
+        let (at, _, mut new) = Boxes::one(RawBox::from_box(block));
+        // As in `with_first`.
         front.get_mut(tail, len - 1).links.next = at;
+        new.get_mut(at, 0).links.next = Address::null();
+        new.get_mut(at, 0).links.prev = tail;
         let whole = DoubleChain {
             head,
             tail: at,
