@@ -1,12 +1,13 @@
 //! Fingers: nodes that a list remembers, so that places near them are found in few moves.
-ghost use Rattle.std.specs.Prelude.{◌≡◌, ◌+◌, ◌-◌, ◌^◌, ◌<◌, ◌⊎◌, length, IfSome};
+ghost use Rattle.std.specs.Prelude.{◌≡◌, ◌+◌, ◌-◌, ◌^◌, ◌<◌, ◌≤◌, ◌⊎◌, length, IfSome};
 ghost use Rattle.cordyceps_base.specs.Nodes.{IsAt};
 
 use cordyceps_base::boxes::Address;
 use cordyceps_base::double_chain::DoubleChain;
 use cordyceps_base::steps::{Steps, count_one};
 
-/// The address of a node and its index. At an index of the length it is on no node, and its address is not used.
+/// The address of a node and its index. At an index that is not below the length it is on no node, and its address is
+/// not used.
 #[derive(Clone, Copy)]
 pub(crate) struct Finger {
     pub(crate) address: Address,
@@ -14,24 +15,14 @@ pub(crate) struct Finger {
 }
 
 impl Finger {
-    ghost use Rattle.cordyceps_list.specs.Fingers.{IsOn, FingerFits, moves_between, PutsIn, TakesOut, ChangesAfter};
+    ghost use Rattle.cordyceps_list.specs.Fingers.{IsOn, FingerFits, moves_between};
 
     /// Returns a finger after the last of `len` nodes, on no node.
-    pub(crate) fn after_last(len: usize) -> Finger
+    fn after_last(len: usize) -> Finger
         ensures { result.index ≡ len }
     {
         Finger {
             address: Address::null(),
-            index: len,
-        }
-    }
-
-    /// Returns a finger on no node of a chain of `len` nodes. It keeps the address, which saves a write.
-    fn off(self, len: usize) -> Finger
-        ensures { result.index ≡ len }
-    {
-        Finger {
-            address: self.address,
             index: len,
         }
     }
@@ -147,51 +138,10 @@ impl Finger {
         }
         finger
     }
-
-    /// Returns the finger after `more` nodes were inserted at place `k`.
-    fn after_splice(self, k: usize, more: usize) -> Finger
-        requires { self.index + more < 2 ^ 64 }
-        ensures { PutsIn k more self result }
-    {
-        if self.index < k {
-            return self;
-        }
-        Finger {
-            address: self.address,
-            index: self.index + more,
-        }
-    }
-
-    /// Returns the finger after node `k` was removed from a chain, which has `len` nodes now.
-    pub(crate) fn after_unlink(self, k: usize, len: usize) -> Finger
-        ensures { TakesOut k len self result }
-    {
-        if self.index < k {
-            return self;
-        }
-        if self.index == k {
-            return self.off(len);
-        }
-        Finger {
-            address: self.address,
-            index: self.index - 1,
-        }
-    }
-
-    /// Returns the finger after a change of the nodes after the first `kept` of a chain, which has `len` nodes now.
-    fn after_change(self, kept: usize, len: usize) -> Finger
-        ensures { ChangesAfter kept len self result }
-    {
-        if self.index < kept {
-            self
-        } else {
-            self.off(len)
-        }
-    }
 }
 
 /// The two fingers of a list. The front one follows walks from the front, and the back one walks from the back, so that
-/// neither disturbs the other.
+/// neither disturbs the other. Where the front one is on no node, the back one is not used.
 #[derive(Clone, Copy)]
 pub(crate) struct Fingers {
     pub(crate) front: Finger,
@@ -199,7 +149,7 @@ pub(crate) struct Fingers {
 }
 
 impl Fingers {
-    ghost use Rattle.cordyceps_list.specs.Fingers.{FingersFit, PutsIn, TakesOut, ChangesAfter};
+    ghost use Rattle.cordyceps_list.specs.Fingers.{FingersFit};
 
     /// Returns two fingers on no node.
     pub(crate) fn after_last<T>(chain: &DoubleChain<T>) -> Fingers
@@ -225,11 +175,47 @@ impl Fingers {
         }
     }
 
+    /// Returns these fingers, or those on the ends if the front one is on no node.
+    fn or_ends<T>(self, chain: &DoubleChain<T>) -> Fingers
+        requires fit { FingersFit chain.now self }
+        requires some { 0 < length chain.now }
+        ensures fit { FingersFit chain.now result }
+        ensures on { result.front.index < length chain.now }
+    {
+        if self.front.index < chain.len() {
+            return self;
+        }
+        Fingers {
+            front: Finger::at_head(chain),
+            back: Finger::at_tail(chain),
+        }
+    }
+
+    /// Takes both fingers off every chain of at most `len` nodes, by one write at most. Only the contract needs `len`.
+    pub(crate) fn take_off(&mut self, len: usize)
+        ensures { len ≤ self.new.front.index }
+    {
+        if self.front.index != usize::MAX {
+            self.front.index = usize::MAX;
+        }
+    }
+
+    /// Puts the front finger on a node, and takes the back one off every chain of at most `len` nodes. Only the
+    /// contract needs `len`.
+    pub(crate) fn stand(&mut self, address: Address, index: usize, len: usize)
+        ensures front { self.new.front ≡ record { address = address; index = index } }
+        ensures back { len ≤ self.new.back.index }
+    {
+        self.front = Finger { address, index };
+        self.back.index = usize::MAX;
+    }
+
     /// Returns the address of a node if the front finger is on it or on the one before it, and moves the finger to it.
     fn seek_near<T>(&mut self, chain: &DoubleChain<T>, to: usize) -> Option<Address>
         requires fit { FingersFit chain.now self.old }
         requires inside { to < length chain.now }
         ensures fit { FingersFit chain.now self.new }
+        ensures on { IfSome result (λ _. self.new.front.index < length chain.now) }
         ensures address { IfSome result (λ address. IsAt chain.now to address) }
     {
         if self.front.index == to {
@@ -250,6 +236,7 @@ impl Fingers {
         requires fit { FingersFit chain.now self.old }
         requires inside { to < length chain.now }
         ensures fit { FingersFit chain.now self.new }
+        ensures on { self.new.front.index < length chain.now }
         ensures address { IsAt chain.now to result }
     {
         match self.seek_near(chain, to) {
@@ -264,17 +251,27 @@ impl Fingers {
         requires fit { FingersFit chain.now self.old }
         requires inside { to < length chain.now }
         ensures fit { FingersFit chain.now self.new }
+        ensures on { self.new.front.index < length chain.now }
         ensures address { IsAt chain.now to result }
     {
-        let front = self.front.or_end(chain, Finger::at_head(chain), to);
-        let back = self.back.or_end(chain, Finger::at_tail(chain), to);
-        if back.distance(to) < front.distance(to) {
-            self.back = back.walked(chain, to);
-            self.back.address
+        let fingers = self.or_ends(chain);
+        let front = fingers.front.or_end(chain, Finger::at_head(chain), to);
+        let back = fingers.back.or_end(chain, Finger::at_tail(chain), to);
+        let is_back = back.distance(to) < front.distance(to);
+        let from = if is_back { back } else { front };
+        let found = from.walked(chain, to);
+        *self = if is_back {
+            Fingers {
+                front: fingers.front,
+                back: found,
+            }
         } else {
-            self.front = front.walked(chain, to);
-            self.front.address
-        }
+            Fingers {
+                front: found,
+                back: fingers.back,
+            }
+        };
+        found.address
     }
 
     /// Returns the address of a node as `seek` does, or null if `to` is the place after the last node.
@@ -287,41 +284,6 @@ impl Fingers {
             self.seek(chain, to)
         } else {
             Address::null()
-        }
-    }
-
-    /// Returns the fingers after `more` nodes were inserted at place `k`.
-    pub(crate) fn after_splice(self, k: usize, more: usize) -> Fingers
-        requires front { self.front.index + more < 2 ^ 64 }
-        requires back { self.back.index + more < 2 ^ 64 }
-        ensures front { PutsIn k more self.front result.front }
-        ensures back { PutsIn k more self.back result.back }
-    {
-        Fingers {
-            front: self.front.after_splice(k, more),
-            back: self.back.after_splice(k, more),
-        }
-    }
-
-    /// Returns the fingers after node `k` was removed from a chain, which has `len` nodes now.
-    pub(crate) fn after_unlink(self, k: usize, len: usize) -> Fingers
-        ensures front { TakesOut k len self.front result.front }
-        ensures back { TakesOut k len self.back result.back }
-    {
-        Fingers {
-            front: self.front.after_unlink(k, len),
-            back: self.back.after_unlink(k, len),
-        }
-    }
-
-    /// Returns the fingers after a change of the nodes after the first `kept` of a chain, which has `len` nodes now.
-    pub(crate) fn after_change(self, kept: usize, len: usize) -> Fingers
-        ensures front { ChangesAfter kept len self.front result.front }
-        ensures back { ChangesAfter kept len self.back result.back }
-    {
-        Fingers {
-            front: self.front.after_change(kept, len),
-            back: self.back.after_change(kept, len),
         }
     }
 }

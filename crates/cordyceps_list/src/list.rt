@@ -139,7 +139,7 @@ impl<T: Linked<Links<T>>> List<T> {
         requires { length self.old < usize.MAX }
         ensures { self.new ≡ T.element handle ∷ self.old }
     {
-        self.fingers = self.fingers.after_splice(0, 1);
+        self.fingers.take_off(self.chain.len() + 1);
         self.chain.link_front(T::into_ptr(handle));
     }
 
@@ -151,7 +151,7 @@ impl<T: Linked<Links<T>>> List<T> {
         requires { length self.old < usize.MAX }
         ensures { self.new ≡ self.old ++ T.element handle ∷ [] }
     {
-        self.fingers = self.fingers.after_splice(self.chain.len(), 1);
+        self.fingers.take_off(self.chain.len() + 1);
         self.chain.link_back(T::into_ptr(handle));
     }
 
@@ -203,7 +203,7 @@ impl<T: Linked<Links<T>>> List<T> {
         if self.chain.len() == 0 {
             return None;
         }
-        self.fingers = self.fingers.after_unlink(0, self.chain.len() - 1);
+        self.fingers.take_off(self.chain.len());
         Some(T::from_ptr(self.chain.unlink_front()))
     }
 
@@ -218,8 +218,6 @@ impl<T: Linked<Links<T>>> List<T> {
         if self.chain.len() == 0 {
             return None;
         }
-        let last = self.chain.len() - 1;
-        self.fingers = self.fingers.after_unlink(last, last);
         Some(T::from_ptr(self.chain.unlink_back()))
     }
 
@@ -309,8 +307,8 @@ impl<T: Linked<Links<T>>> List<T> {
         ensures emptied { other.new ≡ [] }
     {
         let more = other.chain.take();
-        other.fingers = other.fingers.after_change(0, 0);
-        self.fingers = self.fingers.after_splice(self.chain.len(), more.len());
+        other.fingers.take_off(0);
+        self.fingers.take_off(self.chain.len() + more.len());
         let nodes = self.chain.take();
         self.chain.put(nodes.join(more));
     }
@@ -367,7 +365,6 @@ impl<T: Linked<Links<T>>> List<T> {
             return Some(List::new());
         }
         let before = node_before(&self.chain, index, steps);
-        self.fingers = self.fingers.after_change(index, index);
         let (front, rest) = self.chain.take().cut_after(before, index);
         self.chain.put(front);
         Some(List::from_chain(rest))
@@ -433,11 +430,13 @@ fn first_passing<T, F: FnMut(&T) -> bool>(
     predicate: &mut F,
 ) -> Finger
     requires fits { FingerFits chain.now from }
+    requires inside { from.index ≤ length chain.now }
     requires callable { MayAsk F.FnMut (drop from.index (values (elements chain.now))) predicate.old }
     ensures fits { FingerFits chain.now result }
     ensures walks { Walks (CalledAt F.FnMut) predicate.old (drop from.index (values (elements chain.now)))
         (result.index - from.index) predicate.new }
     ensures from { from.index ≤ result.index }
+    ensures to { result.index ≤ length chain.now }
 {
     let mut finger = from;
     while finger.index < chain.len() {
@@ -463,7 +462,8 @@ impl<T: Linked<Links<T>>> List<T> {
         ensures kept { self.new ≡ without_id id self.old }
     {
         let found = find(&self.chain, id)?;
-        self.fingers.front = found;
+        self.fingers
+            .stand(found.address, found.index, self.chain.len());
         Some(self.remove_at(found.index))
     }
 
@@ -509,13 +509,8 @@ impl<T: Linked<Links<T>>> List<T> {
         ensures kept { self.new ≡ take index self.old ++ drop (index + 1) self.old }
     {
         let address = self.fingers.seek(&self.chain, index);
-        self.fingers = Fingers {
-            front: Finger {
-                address: self.chain.next(address, index),
-                index,
-            },
-            back: self.fingers.back.after_unlink(index, self.chain.len() - 1),
-        };
+        let next = self.chain.next(address, index);
+        self.fingers.stand(next, index, self.chain.len());
         T::from_ptr(self.chain.unlink(address, index))
     }
 
@@ -541,7 +536,9 @@ impl<T: Linked<Links<T>>> List<T> {
     {
         let List { chain, fingers: _ } = other;
         let address = self.fingers.seek_within(&self.chain, index);
-        self.fingers = self.fingers.after_splice(index, chain.len());
+        let more = chain.len();
+        self.fingers
+            .stand(address, index + more, self.chain.len() + more);
         self.chain.splice(address, index, chain);
     }
 
@@ -555,7 +552,8 @@ impl<T: Linked<Links<T>>> List<T> {
         let List { chain, fingers: _ } = other;
         let address = self.fingers.seek(&self.chain, index);
         let next = self.chain.next(address, index);
-        self.fingers = self.fingers.after_splice(index + 1, chain.len());
+        self.fingers
+            .stand(address, index, self.chain.len() + chain.len());
         self.chain.splice(next, index + 1, chain);
     }
 
@@ -565,8 +563,12 @@ impl<T: Linked<Links<T>>> List<T> {
         requires fits { length self.old < usize.MAX }
         ensures { self.new ≡ take index self.old ++ T.element handle ∷ drop index self.old }
     {
-        let address = self.fingers.seek_within(&self.chain, index);
-        self.fingers = self.fingers.after_splice(index, 1);
+        if index == self.chain.len() {
+            self.push_back(handle);
+            return;
+        }
+        let address = self.fingers.seek(&self.chain, index);
+        self.fingers.stand(address, index + 1, self.chain.len() + 1);
         self.chain.link(address, index, T::into_ptr(handle));
     }
 
@@ -598,7 +600,6 @@ impl<T: Linked<Links<T>>> List<T> {
         ensures split { result ≡ drop index self.old }
     {
         let address = self.fingers.seek_within(&self.chain, index);
-        self.fingers = self.fingers.after_change(index, index);
         let (front, rest) = self.chain.take().split(address, index);
         self.chain.put(front);
         List::from_chain(rest)
@@ -624,7 +625,8 @@ impl<T: Linked<Links<T>>> List<T> {
             index,
         };
         let found = first_passing(&self.chain, from, predicate);
-        self.fingers.front = found;
+        self.fingers
+            .stand(found.address, found.index, self.chain.len());
         found.index
     }
 }

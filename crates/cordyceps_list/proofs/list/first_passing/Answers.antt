@@ -27,7 +27,8 @@ loop-finger-preserved g c =
     let call : R c.loop-finger.predicate c.get.result.now false next = subst (λ (b : Bool). R c.loop-finger.predicate c.get.result.now b next) c.if-predicate.false (record { shown = c.get.result; shows = refl; called = c.predicate.ensures }) in
     record {
       callable = may_ask_on g.F.FnMut xs p c.get.result.now c.loop-finger.predicate next c.get.ensures call c.loop-finger.invariant.callable;
-      fits = record { within = omega arith; on = c.next-finger.ensures.on };
+      fits = c.next-finger.ensures.on;
+      inside = omega arith;
       from = omega arith;
       walks = λ n last w. subst (λ (m : ℕ). Walks R c.args.predicate.now (drop c.args.from.index xs) m last) (omega arith) (c.loop-finger.invariant.walks (n + 1) last (walk_step R xs p n c.get.result.now c.loop-finger.predicate next last c.get.ensures call w));
     }
@@ -39,7 +40,7 @@ returns-clause-walks g c =
     let s = elements nodes in
     let xs = values s in
     let last = c.loop-finger.predicate in
-    let at_end : length xs ≡ c.loop-finger.finger.index = omega (arith, length-map s (λ e. e.value), length-map nodes (λ n. n.1), c.loop-finger.invariant.fits.within) in
+    let at_end : length xs ≡ c.loop-finger.finger.index = omega (arith, length-map s (λ e. e.value), length-map nodes (λ n. n.1), c.loop-finger.invariant.inside) in
     let w = c.loop-finger.invariant.walks 0 last (subst (λ (k : ℕ). Walks R last (drop k xs) 0 last) at_end (walk_end R xs last)) in
     subst (λ (n : ℕ). Walks R c.args.predicate.now (drop c.args.from.index xs) n last) (omega arith) w
 

@@ -1,8 +1,8 @@
-use Rattle.std.proofs.Common.{◌≤◌, [], ◌∷◌, length, refl, ap, ◌∙◌, arith}
-use Rattle.std.proofs.lemmas.List.{length-map}
+use Rattle.std.proofs.Common.{◌≤◌, ◌+◌, [], ◌∷◌, ◌++◌, length, take, drop, refl, ap, ◌∙◌, arith, length-append, length-drop}
+use Rattle.std.proofs.lemmas.List.{length-map, length-take}
 use Rattle.cordyceps_base.specs.Nodes.{elements}
 use Rattle.cordyceps_base.proofs.Places.{elements-linked}
-use Rattle.cordyceps_list.proofs.Places.{fit_splice}
+use Rattle.cordyceps_list.proofs.Places.{fits_pushed, fit_stand}
 use Rattle.cordyceps_list.proofs.list.List.insert_at.Goals as goal
 
 pub invariant_of-self : goal.invariant_of-self
@@ -11,7 +11,9 @@ invariant_of-self g c =
     let index = c.args.index in
     let within : index ≤ length nodes = omega (arith, c.requires.within, ap length c.self.view_is, length-map nodes (λ n. n.1)) in
     let (address, is) = c.link.ensures in
-    fit_splice nodes c.link.new.self ((address, c.into_ptr.result) ∷ []) c.seek_within-address.new.self c.after_splice-self-inside.result index 1 c.seek_within-address.ensures.fit within is refl c.after_splice-self-inside.ensures.front c.after_splice-self-inside.ensures.back
+    let many : length c.link.new.self ≤ c.stand.new.self.back.index = omega (arith, c.len-2.ensures, c.stand.ensures.back, within, ap length is, length-append (take index nodes) ((address, c.into_ptr.result) ∷ drop index nodes), length-take index nodes, length-drop index nodes) in
+    let there = fits_pushed nodes c.link.new.self ((address, c.into_ptr.result) ∷ []) (record { address = c.seek-address.result; index = index + 1 }) index is within refl (λ inside. c.seek-address.ensures.address) in
+    fit_stand c.link.new.self c.stand.new.self _ c.stand.ensures.front there many
 
 pub returns : goal.returns
 returns g c =

@@ -9,8 +9,8 @@ pub invariant_of-self : goal.invariant_of-self
 invariant_of-self g c =
     let nodes = c.self.inside.chain in
     let within : c.args.index ≤ length nodes = omega (arith, c.requires, ap length c.self.view_is, length-map nodes (λ n. n.1)) in
-    fit_front nodes c.put.new.self c.seek_within-address.new.self c.after_change-self-inside.result c.args.index c.seek_within-address.ensures.fit within
-    (c.put.ensures ∙ c.split-front.ensures.front ∙ ap (take c.args.index) c.take.ensures.0) c.after_change-self-inside.ensures.front c.after_change-self-inside.ensures.back
+    fit_front nodes c.put.new.self c.seek_within-address.new.self c.args.index c.seek_within-address.ensures.fit within
+    (c.put.ensures ∙ c.split-front.ensures.front ∙ ap (take c.args.index) c.take.ensures.0)
 
 pub returns-clause-kept : goal.returns-clause-kept
 returns-clause-kept g c =

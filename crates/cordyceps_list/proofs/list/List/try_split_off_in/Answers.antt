@@ -7,8 +7,8 @@ use Rattle.cordyceps_list.proofs.list.List.try_split_off_in.Goals as goal
 
 pub invariant_of-self : goal.invariant_of-self
 invariant_of-self g c =
-    fit_front c.self.inside.chain c.put.new.self c.self.inside.fingers c.after_change-self-inside.result c.args.index c.self.invariant (omega (arith, c.len-len.ensures))
-    (c.put.ensures ∙ c.cut_after-front.ensures.0 ∙ ap (take c.args.index) c.take.ensures.0) c.after_change-self-inside.ensures.front c.after_change-self-inside.ensures.back
+    fit_front c.self.inside.chain c.put.new.self c.self.inside.fingers c.args.index c.self.invariant (omega (arith, c.len-len.ensures))
+    (c.put.ensures ∙ c.cut_after-front.ensures.0 ∙ ap (take c.args.index) c.take.ensures.0)
 
 pub returns-clause-some : goal.returns-clause-some
 returns-clause-some g c =

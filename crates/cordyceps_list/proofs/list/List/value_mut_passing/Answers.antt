@@ -1,5 +1,4 @@
-use Rattle.std.proofs.Common.{◌+◌, length, refl, ap, ◌∙◌, arith}
-use Rattle.std.proofs.lemmas.List.{length-map}
+use Rattle.std.proofs.Common.{◌+◌, refl, ap, ◌∙◌}
 use Rattle.cordyceps_base.specs.Element.{with_value}
 use Rattle.cordyceps_base.proofs.Places.{elements-with_item}
 use Rattle.cordyceps_list.specs.declared.finger.Finger.{Finger}
@@ -12,8 +11,9 @@ invariant_of-self-lent g c =
     let nodes = c.self.inside.chain in
     let k = c.args.index in
     let passed : Finger = record { address = c.next.result; index = k + 1 } in
-    let fits : FingerFits nodes passed = record { within = omega (arith, c.requires.inside, ap length c.self.view_is, length-map nodes (λ n. n.1)); on = c.next.ensures.on } in
-    λ w. fit_written nodes k w (record { front = passed; back = c.seek-address.new.self.back }) (record { front = fits; back = c.seek-address.ensures.fit.back })
+    let fits : FingerFits nodes passed = c.next.ensures.on in
+    let sought = c.seek-address.ensures in
+    λ w. fit_written nodes k w (record { front = passed; back = c.seek-address.new.self.back }) (record { front = fits; back = λ on_front. sought.fit.back sought.on })
 
 pub returns : goal.returns
 returns g c =
