@@ -564,8 +564,7 @@ impl<T: Linked<Links<T>>> List<T> {
         ensures { self.new ≡ take index self.old ++ T.element handle ∷ drop index self.old }
     {
         if index == self.chain.len() {
-            self.push_back(handle);
-            return;
+            return self.push_back(handle);
         }
         let address = self.fingers.seek(&self.chain, index);
         self.fingers.stand(address, index + 1, self.chain.len() + 1);
