@@ -230,42 +230,62 @@ static Time one_by_one(size_t count, size_t rounds) {
 // How many elements all producers of a meeting put in together.
 static const size_t MET = 200000;
 
+// What threads share, in cache lines where nothing else lies.
+template <class Shared>
+struct alignas(128) Apart {
+  Shared it;
+  char after[128];
+
+  explicit Apart(size_t count) : it(count) {}
+};
+
+// Starts a thread for each part of the elements, which puts them in as soon as all threads have arrived.
+template <class Shared, class Arrive>
+static vector<std::thread> start(Shared &shared, vector<Elements<SharedElement>> &parts, Arrive arrive) {
+  vector<std::thread> threads;
+  for (auto &part : parts) {
+    threads.emplace_back([&shared, &part, arrive] {
+      Producer<Shared> producer(shared);
+      vector<SharedElement *> elements = std::move(part.waiting);
+      arrive();
+      for (SharedElement *it : elements) producer.put(it);
+      producer.flush();
+    });
+  }
+  return threads;
+}
+
 // One thread takes out what others put in: the time from their common start until it has all.
 template <class Shared>
 static Time meet(size_t producers, size_t rounds) {
   Time time;
   for (size_t round = 0; round < rounds; round++) {
     size_t each = MET / producers, count = each * producers;
-    Shared shared(count);
-    vector<Elements<SharedElement>> elements;
-    for (size_t number = 0; number < producers; number++) elements.emplace_back(each);
+    auto shared = std::make_unique<Apart<Shared>>(count);
+    vector<Elements<SharedElement>> parts;
+    for (size_t number = 0; number < producers; number++) parts.emplace_back(each);
     std::atomic<size_t> arrived{0};
-    auto arrive = [&] {
+    auto arrive = [&arrived, producers] {
       arrived++;
       while (arrived <= producers) {
       }
     };
-    vector<std::thread> threads;
-    for (auto &its : elements) {
-      threads.emplace_back([&] {
-        Producer<Shared> producer(shared);
-        arrive();
-        while (!its.waiting.empty()) producer.put(its.next());
-        producer.flush();
-      });
-    }
+    vector<std::thread> threads = start(shared->it, parts, arrive);
     vector<SharedElement *> taken;
     taken.reserve(count);
+    uint64_t sum = 0, expected = 0;
     arrive();
     time += timed(count, [&] {
       while (taken.size() < count) {
-        if (!shared.take([&](SharedElement *it) { taken.push_back(it); })) __builtin_ia32_pause();
+        bool is_some = shared->it.take([&](SharedElement *it) {
+          sum += it->value;
+          taken.push_back(it);
+        });
+        if (!is_some) __builtin_ia32_pause();
       }
     });
     for (std::thread &it : threads) it.join();
-    uint64_t sum = 0, expected = 0;
-    for (SharedElement *it : taken) sum += it->value;
-    for (auto &its : elements) expected += its.sum;
+    for (auto &part : parts) expected += part.sum;
     expect(sum, expected);
   }
   return time;
