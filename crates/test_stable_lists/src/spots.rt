@@ -20,7 +20,13 @@ fn a_spot_tells_the_ends(rt: HostRuntime) {
         (list.is_last(first), list.is_first(second)),
         (false, false),
     );
-    let text = made(&rt, format!(in rt.alloc(); "{first:?}"));
+}
+
+#[test]
+fn a_spot_prints_no_address(rt: HostRuntime) {
+    let mut list: StableList<Key> = StableList::new();
+    let spot = list.push_back(make(&rt, rt.alloc(), ONE));
+    let text = made(&rt, format!(in rt.alloc(); "{spot:?}"));
     same(&rt, text.as_str(), "Spot { .. }");
 }
 

@@ -40,6 +40,13 @@ pub fn by_number(first: &Number, second: &Number) -> Ordering
     first.value.cmp(&second.value)
 }
 
+/// Returns a number.
+pub fn number_of(number: &Number) -> u64
+    ensures { result ≡ number.now.value }
+{
+    number.value
+}
+
 /// Returns a node with a value of its number.
 pub fn make(rt: &impl Abort, alloc: Global, value: u64) -> Node<Number, Links<Number>> {
     made(rt, node_of(alloc, value, Number { value }))

@@ -2,7 +2,7 @@
 ghost use Rattle.std.specs.Prelude.{◌≡◌};
 
 use crate::compared::same;
-use crate::number::{Number, by_number, make};
+use crate::number::{Number, by_number, make, number_of};
 use cordyceps_stack::sorted_list::{Greatest, Least, Order, SortedList};
 use cordyceps_stack::stack::Stack;
 use std::alloc::Global;
@@ -120,6 +120,8 @@ fn takes_back<O: Order<Number> + Drop>(
 #[test]
 fn slist_basic(rt: HostRuntime) {
     let list = SortedList::new_with_cmp(by_number);
+    takes_back(&rt, rt.alloc(), list);
+    let list = SortedList::new_by_key(number_of);
     takes_back(&rt, rt.alloc(), list);
 }
 

@@ -26,3 +26,9 @@ takes_back-requires g c = (
     },
   ),
 )
+
+pub new_by_key-list-requires-clause-same : goal.new_by_key-list-requires-clause-same
+new_by_key-list-requires-clause-same g c = ((λ x. x.value), λ x k h. rw (← h.shows) (search rules))
+
+pub takes_back-requires-2 : goal.takes_back-requires-2
+takes_back-requires-2 g c = (search rules, ((λ x. x.value), λ x k h. rw (← h.shows) (search rules)))
