@@ -1,5 +1,5 @@
 -- A call after others of which it is known what they put in and took out, and what is received of what others send.
-use Rattle.std.proofs.Common.{◌≡◌, ℕ, ◌+◌, ◌<◌, ◌≤◌, List, [], ◌∷◌, ◌++◌, map, length, get_or, take, sym, ap, ◌∙◌, subst}
+use Rattle.std.proofs.Common.{◌≡◌, ℕ, ◌+◌, ◌<◌, ◌≤◌, List, [], ◌∷◌, ◌++◌, map, length, get_or, take, sym, ap, ◌∙◌, subst, arith, inl, inr}
 use Rattle.std.specs.Prelude.{Result}
 use Rattle.std.proofs.lemmas.List.{append-nil, take_more}
 use Rattle.atomic_table.specs.Seated.{TableId}
@@ -11,10 +11,20 @@ use Rattle.cordyceps_shared.proofs.Moving.{moves_then}
 use Rattle.cordyceps_shared.proofs.Sending as parties
 use Rattle.cordyceps_queue.specs.declared.cores.steps.TryDequeueError.{TryDequeueError}
 use Rattle.cordyceps_queue.specs.History.{held}
+use Rattle.cordyceps_queue.specs.Shared.Batches.{StopsAt, TakesLinked}
 use Rattle.cordyceps_queue.specs.Shared.Calls.{PartyOf, Legal, same_name, Enqueues, Dequeues}
 use Rattle.cordyceps_queue.specs.Shared.Moves.{put_by, got_by, Moves, got_by_try}
 use Rattle.cordyceps_queue.specs.Shared.Sending.{Sends}
-use Rattle.cordyceps_queue.proofs.SharedTheory.PartyMoves.{all_kept, moves_enqueue, moves_dequeue}
+use Rattle.cordyceps_queue.proofs.SharedTheory.PartyMoves.{all_kept, moves_enqueue, moves_dequeue, moves_linked}
+
+module _ {E : Type 0} where
+  -- a consumer takes no more than it was asked for
+  pub linked_at_most : (max : ℕ) (es : List E) (u w : PartyOf E) → TakesLinked max es u w → length es ≤ max
+  linked_at_most max es u w t = go t.stops where
+    go : StopsAt max es u w → length es ≤ max
+    go (inl s) = omega (arith, s.0)
+    go (inr (inl s)) = omega (arith, s.0)
+    go (inr (inr s)) = omega (arith, s.0)
 
 module _ {E A : Type 0} (f : E → A) where
   pub then_enqueues : {s g : List A} {u v : PartyOf E} (e : E) (w : PartyOf E) → Moves f s g u v → Enqueues e v w → Moves f (s ++ f e ∷ []) g u w
@@ -31,6 +41,11 @@ module _ {E A : Type 0} (f : E → A) where
       → Moves f s (g ++ got_by_try f r) u w
   then_dequeues {s} {g} {u} {v} r w before c = subst (λ z. Moves f z (g ++ got_by_try f r) u w) (append-nil s)
       (moves_then (put_by f) (got_by f) s g [] (got_by_try f r) u v w before (moves_dequeue f r v w c))
+
+  pub then_linked : {s g : List A} {u v : PartyOf E} (max : ℕ) (es : List E) (w : PartyOf E) → Moves f s g u v → TakesLinked max es v w
+      → Moves f s (g ++ map f es) u w
+  then_linked {s} {g} {u} {v} max es w before c = subst (λ z. Moves f z (g ++ map f es) u w) (append-nil s)
+      (moves_then (put_by f) (got_by f) s g [] (map f es) u v w before (moves_linked f max es v w c))
 
   -- the party of a new queue gave rooms to another, which sent lists, and received meanwhile. Taken in again, it is whole, and what
   -- it received, and then what is held, is what was sent
