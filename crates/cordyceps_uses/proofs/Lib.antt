@@ -2,4 +2,5 @@ mod Arriving
 mod Best
 mod Draining
 mod Entries
+mod Idlest
 pub mod Turning

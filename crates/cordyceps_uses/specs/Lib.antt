@@ -1,3 +1,4 @@
+pub mod Connections
 pub mod Ranks
 pub mod Recency
 pub mod Tasks

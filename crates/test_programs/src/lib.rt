@@ -6,6 +6,8 @@ mod caches;
 #[cfg(test)]
 mod compared;
 #[cfg(test)]
+mod connections;
+#[cfg(test)]
 mod examples;
 #[cfg(test)]
 mod made;

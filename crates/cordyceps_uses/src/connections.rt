@@ -1,0 +1,191 @@
+//! Connections of a server. Any is closed at once by its spot, and the one that was idle longest makes room in a full
+//! table.
+//!
+//! The list is sorted by the time of last activity. So nothing is searched: the connection to evict is the first, and
+//! one that is renewed mostly goes last, after one comparison.
+ghost use Rattle.std.specs.Prelude.{◌≡◌, ◌<◌, [], length, MatchOption};
+ghost use Rattle.cordyceps.specs.Elements.Nodes.{spots};
+ghost use Rattle.cordyceps.specs.Spots.BySpot.{HasSpot, IsFirst, IsTaken};
+ghost use Rattle.cordyceps.specs.Spots.Spots.{AreDistinct};
+ghost use Rattle.cordyceps_uses.specs.Connections.{AllActiveSince, Evicts, Renews, TakesIdlest};
+
+use cordyceps::list::Links;
+use cordyceps::sorted_list::Least;
+use cordyceps::{Kind, Linked, Node, Spot, StableSortedList};
+use std::marker::Model;
+
+/// A connection. Connections compare by the time of their last activity alone.
+#[derive(Clone, Copy, Drop)]
+#[derive_where(Debug, PartialEq, Eq, PartialOrd, Ord)]
+pub struct Connection {
+    /// When it was last active, in ticks of any clock.
+    pub last_active: u64,
+    /// The number of the peer.
+    #[derive_where(skip)]
+    pub peer: u32,
+}
+
+impl<L: Kind> Linked<L> for Connection {
+    type Handle = Node<Connection, L>;
+
+    ghost element = { λ node. node };
+
+    fn into_ptr(node: Node<Connection, L>) -> Node<Connection, L> {
+        node
+    }
+
+    fn from_ptr(node: Node<Connection, L>) -> Node<Connection, L>
+        ensures { result ≡ node }
+    {
+        node
+    }
+}
+
+/// A connection in a node, whose number is the connection's.
+pub type ConnectionNode = Node<Connection, Links<Connection>>;
+
+/// Open connections, up to a number. A contract sees each with its spot, the one that was idle longest first, and the
+/// capacity.
+#[derive(Drop)]
+pub struct Connections {
+    list: StableSortedList<Connection, Least>,
+    capacity: usize,
+}
+
+impl Model for Connections {
+    ghost use Rattle.cordyceps_uses.specs.Connections.{IsKept, OpenConnections};
+
+    ghost Value = { OpenConnections };
+
+    ghost view = { λ t. record { nodes = t.list.nodes; capacity = t.capacity } };
+
+    ghost invariant = { λ t. IsKept t.list.nodes t.capacity };
+}
+
+/// What `Connections::open` returns.
+#[derive(Drop)]
+pub struct Opened {
+    /// The spot of the new connection.
+    pub spot: Spot,
+    /// The connection that was closed to make room for it.
+    pub evicted: Option<ConnectionNode>,
+}
+
+impl Connections {
+    /// Creates a table without connections. Requires a capacity of at least 1. Allocates nothing.
+    ///
+    /// # Complexity
+    /// O(1).
+    pub fn new(capacity: usize) -> Connections
+        requires { 0 < capacity }
+        ensures nodes { result.nodes ≡ [] }
+        ensures capacity { result.capacity ≡ capacity }
+    {
+        Connections {
+            list: StableSortedList::new_min(),
+            capacity,
+        }
+    }
+
+    /// Returns the number of open connections.
+    ///
+    /// # Complexity
+    /// O(1).
+    pub fn len(&self) -> usize
+        ensures { result ≡ length self.now.nodes }
+    {
+        self.list.len()
+    }
+
+    /// Returns the spot of the connection that was idle longest, or `None` if none is open.
+    ///
+    /// # Complexity
+    /// O(1).
+    pub fn idlest(&self) -> Option<Spot>
+        ensures { MatchOption result (self.now.nodes ≡ []) (λ spot. IsFirst self.now.nodes spot) }
+    {
+        self.list.front()
+    }
+
+    /// Opens a connection and returns its spot. If the table is full, it closes the one that was idle longest and
+    /// returns that too.
+    ///
+    /// # Complexity
+    /// O(k + 1), where k is the number of connections that were active later.
+    pub fn open(&mut self, node: ConnectionNode) -> Opened
+        ensures opened { Evicts self.old self.new result.evicted result.spot node }
+        ensures distinct { AreDistinct (spots self.new.nodes) }
+    {
+        let evicted = self.make_room();
+        let spot = self.list.insert(node);
+        Opened { spot, evicted }
+    }
+
+    /// Closes the connection that was idle longest and returns it, if the table is full.
+    fn make_room(&mut self) -> Option<ConnectionNode>
+        ensures evicted { MatchOption result
+            ((self.new.nodes ≡ self.old.nodes) × (length self.old.nodes < self.old.capacity))
+            (λ out. TakesIdlest self.old.nodes out self.new.nodes × (length self.old.nodes ≡ self.old.capacity)) }
+        ensures room { length self.new.nodes < self.new.capacity }
+        ensures capacity { self.new.capacity ≡ self.old.capacity }
+    {
+        if self.list.len() < self.capacity {
+            return None;
+        }
+        self.list.pop_front()
+    }
+
+    /// Notes that the connection at `spot` was active at `now`. It keeps its number, its peer and its spot. Requires
+    /// that the spot is valid.
+    ///
+    /// # Complexity
+    /// O(k + 1), where k is the number of connections that were active later.
+    pub fn renew(&mut self, spot: Spot, now: u64)
+        requires { HasSpot self.old.nodes spot }
+        ensures renewed { Renews self.old.nodes spot now self.new.nodes }
+        ensures capacity { self.new.capacity ≡ self.old.capacity }
+        ensures distinct { AreDistinct (spots self.new.nodes) }
+    {
+        self.list.update(
+            spot,
+            move |connection: &mut Connection| -> ()
+                ensures last_active { connection.new.last_active ≡ now }
+                ensures peer { connection.new.peer ≡ connection.old.peer }
+            {
+                connection.last_active = now;
+            },
+        );
+    }
+
+    /// Closes the connection at `spot`, and no other, and returns it. Requires that the spot is valid.
+    ///
+    /// # Complexity
+    /// O(1).
+    pub fn close(&mut self, spot: Spot) -> ConnectionNode
+        requires { HasSpot self.old.nodes spot }
+        ensures closed { IsTaken self.old.nodes spot result self.new.nodes }
+        ensures capacity { self.new.capacity ≡ self.old.capacity }
+        ensures distinct { AreDistinct (spots self.new.nodes) }
+    {
+        self.list.remove(spot)
+    }
+
+    /// Closes the connection that was idle longest and returns it, if it was last active before `since`. Otherwise it
+    /// returns `None`, and all were active since.
+    ///
+    /// # Complexity
+    /// O(1).
+    pub fn expire(&mut self, since: u64) -> Option<ConnectionNode>
+        ensures expired { MatchOption result
+            ((self.new ≡ self.old) × AllActiveSince since self.old.nodes)
+            (λ out. TakesIdlest self.old.nodes out self.new.nodes × (out.value.last_active < since)) }
+        ensures capacity { self.new.capacity ≡ self.old.capacity }
+        ensures distinct { AreDistinct (spots self.new.nodes) }
+    {
+        let first = self.list.iter().next()?;
+        if first.last_active >= since {
+            return None;
+        }
+        self.list.pop_front()
+    }
+}
