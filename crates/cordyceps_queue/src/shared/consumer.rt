@@ -17,7 +17,62 @@ use crate::shared::{steps, tries};
 use cordyceps_base::linked::Linked;
 use cordyceps_base::mpsc_queue::Links;
 use cordyceps_shared::required;
+use crossbeam_utils::Backoff;
 use std::marker::Model;
+
+/// A pause makes at most so many calls of `Backoff::spin`. Each gives twice as many spin-loop hints as the last, up to 64.
+const LONGEST_PAUSE: u32 = 13;
+
+/// How a consumer keeps away from the producers.
+///
+/// One that is quicker than they are comes to the queue's end again and again. Each element would then be handed over
+/// alone, and what one writes would have to wait for what the other has just read. So after a try that came to the end
+/// it pauses, the longer the more often it has met an element that was not linked yet, and not at all if it has not.
+#[derive(Clone, Copy)]
+struct Pace {
+    /// How many calls of `Backoff::spin` a pause makes.
+    spins: u32,
+    /// Whether the last try came to the queue's end.
+    is_at_end: bool,
+}
+
+impl Pace {
+    /// That of a consumer that has not tried yet.
+    fn new() -> Pace {
+        Pace {
+            spins: 0,
+            is_at_end: false,
+        }
+    }
+
+    /// Pauses if the last try came to the queue's end.
+    fn pause(self) {
+        if self.is_at_end && self.spins > 0 {
+            let backoff = Backoff::new();
+            for _ in 0..self.spins {
+                backoff.spin();
+            }
+        }
+    }
+
+    /// The pace after a try, by which the tail became this one.
+    fn after<E: Drop>(self, tail: u64, tried: &Tried<E>) -> Pace {
+        match tried {
+            Tried::Out(_room, _item) => Pace {
+                spins: self.spins,
+                is_at_end: tail == 0,
+            },
+            Tried::Empty => Pace {
+                spins: self.spins.saturating_sub(1),
+                is_at_end: true,
+            },
+            Tried::Inconsistent => Pace {
+                spins: self.spins.saturating_add(1).min(LONGEST_PAUSE),
+                is_at_end: true,
+            },
+        }
+    }
+}
 
 /// A party that has the right to dequeue, and the tail's room. It cannot be dropped, so that each consumer gives the
 /// right back.
@@ -25,6 +80,7 @@ pub(crate) struct Right<E: Drop> {
     seat: PartySeat<E>,
     spare: Spare,
     tail: u64,
+    pace: Pace,
 }
 
 impl<E: Drop> Model for Right<E> {
@@ -56,6 +112,7 @@ pub(crate) fn take_right<T: Linked<Links<T>>>(
         seat,
         spare,
         tail: tail - 1,
+        pace: Pace::new(),
     })
 }
 
@@ -101,6 +158,7 @@ pub(crate) fn give_right<T: Linked<Links<T>>>(
         mut seat,
         spare,
         tail,
+        pace: _,
     } = right;
     steps::give(words, &mut seat, tail as usize);
     Party { seat, spare }
@@ -124,6 +182,7 @@ impl<E: Drop> Right<E> {
         ensures answer { Consumes result self.old self.new }
         ensures whole { self.old.share ≡ whole → IsCertain result }
     {
+        self.pace.pause();
         let (tail, tried) = tries::advance(
             words,
             &mut self.seat,
@@ -131,6 +190,7 @@ impl<E: Drop> Right<E> {
             self.tail as usize,
         );
         self.tail = tail;
+        self.pace = self.pace.after(tail, &tried);
         match tried {
             Tried::Out(_room, item) => Ok(item),
             Tried::Empty => Err(TryDequeueError::Empty),
@@ -218,7 +278,7 @@ impl<'a, T: Linked<Links<T>>> Consumer<'a, T> {
     /// O(1).
     ///
     /// # Waits
-    /// Never.
+    /// Never. After a try that came to the queue's end, the next one may pause for up to 511 spin-loop hints.
     pub fn try_dequeue(&mut self) -> Result<T::Handle, TryDequeueError>
         ensures answer { Consumes result self.old self.new }
         ensures whole { self.old.share ≡ whole → IsCertain result }
@@ -237,7 +297,7 @@ impl<'a, T: Linked<Links<T>>> Consumer<'a, T> {
     /// O(k + 1), for k elements that it returns.
     ///
     /// # Waits
-    /// Never.
+    /// Never. After a try that came to the queue's end, the next one may pause for up to 511 spin-loop hints.
     pub fn take_linked(&mut self, max: usize) -> Result<Batch<T>, TryDequeueError>
         requires { 1 ≤ max }
         ensures answer { MatchResult result

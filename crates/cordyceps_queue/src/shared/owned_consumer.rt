@@ -107,7 +107,7 @@ impl<T: Linked<Links<T>>> OwnedConsumer<T> {
     /// O(1).
     ///
     /// # Waits
-    /// Never.
+    /// Never. It may pause as a `Consumer` does.
     pub fn try_dequeue(&mut self) -> Result<T::Handle, TryDequeueError>
         ensures queue { self.new.queue ≡ self.old.queue }
         ensures answer { Consumes result self.old.party self.new.party }
@@ -127,7 +127,7 @@ impl<T: Linked<Links<T>>> OwnedConsumer<T> {
     /// O(k + 1), for k elements that it returns.
     ///
     /// # Waits
-    /// Never.
+    /// Never. It may pause as a `Consumer` does.
     pub fn take_linked(&mut self, max: usize) -> Result<Batch<T>, TryDequeueError>
         requires { 1 ≤ max }
         ensures queue { self.new.queue ≡ self.old.queue }
