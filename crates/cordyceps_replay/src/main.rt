@@ -7,6 +7,7 @@ pub use replay_driver::script::{run_bytes, run_script};
 pub use replay_driver::session::Session;
 pub use replay_driver::sink::{Sink, ToWrite};
 pub use replay_driver::source::{FromRead, Source};
+pub use replay_lines::reason::Reason;
 use replay_sessions::modes::compare_tens;
 pub use replay_sessions::modes::{Choice, Mode, USAGE, choose, run};
 pub use replay_sharing::share::{Gate, OpenGate, run_share, share};
@@ -23,17 +24,20 @@ fn arguments(rt: &HostRuntime) -> io::Result<Vec<String>> {
     Ok(words)
 }
 
-/// Writes a fault's text on standard error. Its status is the program's.
-fn report(rt: &HostRuntime, fault: Fault) -> ExitCode {
-    let _ = rt.eprintln(fault);
+/// Writes a fault's text on standard error, and why a line is bad. The fault's status is the program's.
+fn report(rt: &HostRuntime, fault: Fault, why: Option<Reason>) -> ExitCode {
+    let _ = match why {
+        Some(why) => eprintln!(rt; "{fault}: {why}"),
+        None => rt.eprintln(fault),
+    };
     ExitCode::from(fault.status())
 }
 
 /// How a run ends the program.
-fn exit_code(rt: &HostRuntime, end: Result<(), Fault>) -> ExitCode {
+fn exit_code(rt: &HostRuntime, end: Result<(), Fault>, why: Option<Reason>) -> ExitCode {
     match end {
         Ok(()) => ExitCode::SUCCESS,
-        Err(fault) => report(rt, fault),
+        Err(fault) => report(rt, fault, why),
     }
 }
 
@@ -42,7 +46,7 @@ fn main(rt: HostRuntime) -> ExitCode {
         Ok(words) => choose(&words),
         // an argument that is not text names no mode
         Err(error) if error.kind() == ErrorKind::InvalidData => None,
-        Err(_) => return report(&rt, Fault::Memory),
+        Err(_) => return report(&rt, Fault::Memory, None),
     };
     let mut output = ToWrite::new(io::writer(&rt));
     let mode = match choice {
@@ -51,12 +55,14 @@ fn main(rt: HostRuntime) -> ExitCode {
         Some(Choice::Sorted) => Mode::Sorted(compare_tens),
         Some(Choice::Transfer) => Mode::Transfer,
         Some(Choice::Queue) => Mode::Queue,
-        Some(Choice::Share) => return exit_code(&rt, run_share(&rt, rt.alloc(), &mut output)),
+        Some(Choice::Share) => return exit_code(&rt, run_share(&rt, rt.alloc(), &mut output), None),
         None => {
             let _ = rt.eprintln(USAGE);
             return ExitCode::from(1);
         }
     };
     let mut input = FromRead::new(rt.reader());
-    exit_code(&rt, run(rt.alloc(), mode, &mut input, &mut output))
+    let mut why = None;
+    let end = run(rt.alloc(), mode, &mut input, &mut output, &mut why);
+    exit_code(&rt, end, why)
 }

@@ -13,4 +13,5 @@ pub mod TransferSpelling
 pub mod QueueScript
 pub mod QueueSpelling
 pub mod Spelling
+pub mod Reasons
 pub mod CursorSpelling

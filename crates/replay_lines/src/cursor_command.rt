@@ -66,7 +66,7 @@ fn read_bare(word: &[u8]) -> Option<CursorCommand>
     }
 }
 
-fn read_verb(word: &[u8]) -> Option<CursorVerb>
+pub(crate) fn read_verb(word: &[u8]) -> Option<CursorVerb>
     ensures { result ≡ verb_of word.now }
 {
     if word == b"set".as_slice() {

@@ -7,6 +7,7 @@ mod line_words;
 pub mod list_command;
 mod list_words;
 pub mod queue_command;
+pub mod reason;
 pub mod reply;
 pub mod sorted_command;
 pub mod stack_command;

@@ -117,7 +117,7 @@ fn read_plain_verb(word: &[u8]) -> Option<PlainVerb>
     }
 }
 
-fn read_verb(word: &[u8]) -> Option<Verb>
+pub(crate) fn read_verb(word: &[u8]) -> Option<Verb>
     ensures { result ≡ verb_of word.now }
 {
     if word == b"walk".as_slice() {

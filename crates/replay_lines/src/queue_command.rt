@@ -85,7 +85,7 @@ fn read_call(word: &[u8]) -> Option<Verb>
     }
 }
 
-fn read_verb(word: &[u8]) -> Option<Verb>
+pub(crate) fn read_verb(word: &[u8]) -> Option<Verb>
     ensures { result ≡ verb_of word.now }
 {
     if word == b"clear".as_slice() {

@@ -24,7 +24,7 @@ pub enum Verb {
     From,
 }
 
-fn read_verb(word: &[u8]) -> Option<Verb>
+pub(crate) fn read_verb(word: &[u8]) -> Option<Verb>
     ensures { result ≡ verb_of word.now }
 {
     if word == b"insert".as_slice() {

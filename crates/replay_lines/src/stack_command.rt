@@ -22,7 +22,7 @@ pub enum Verb {
     Drain,
 }
 
-fn read_verb(word: &[u8]) -> Option<Verb>
+pub(crate) fn read_verb(word: &[u8]) -> Option<Verb>
     ensures { result ≡ verb_of word.now }
 {
     if word == b"push".as_slice() {

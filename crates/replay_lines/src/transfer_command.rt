@@ -54,7 +54,7 @@ pub enum Verb {
     TakeAll,
 }
 
-fn read_verb(word: &[u8]) -> Option<Verb>
+pub(crate) fn read_verb(word: &[u8]) -> Option<Verb>
     ensures { result ≡ verb_of word.now }
 {
     if word == b"party".as_slice() {

@@ -1,5 +1,5 @@
 -- What a run of a script in a mode reads, writes and returns.
-use Rattle.std.specs.Prelude.{ℕ, List, None, Result}
+use Rattle.std.specs.Prelude.{◌≡◌, ℕ, true, List, Option, None, Result, Ok, Err, is_some}
 use Rattle.std.specs.declared.cmp.Ordering.{Ordering}
 use Rattle.cordyceps_commands.specs.declared.item.Item.{Item}
 use Rattle.cordyceps_tables.specs.Sorteds.{order_of}
@@ -7,6 +7,7 @@ use Rattle.cordyceps_tables.specs.Tables.{Table, empty_table}
 use Rattle.replay_sessions.specs.declared.modes.Mode.{Mode}
 use Rattle.replay_sessions.specs.declared.modes.Mode.TheVariants as modes
 use Rattle.replay_driver.specs.declared.fault.Fault.{Fault}
+use Rattle.replay_driver.specs.declared.fault.Fault.TheVariants as faults
 use Rattle.replay_driver.specs.Script.{Runs}
 use Rattle.replay_sessions.specs.ListMachine.{State, list_machine}
 use Rattle.replay_sessions.specs.StackMachine.{stack_machine}
@@ -14,6 +15,14 @@ use Rattle.replay_sessions.specs.SortedMachine.{sorted_machine}
 use Rattle.replay_cores.specs.TransferMachine as transfers
 use Rattle.replay_cores.specs.QueueMachine as queues
 use Rattle.replay_sessions.specs.Tens.{by_tens}
+
+-- there is a reason exactly after a bad line
+abbrev pub TellsWhy : {R : Type 0} → Result (Unit {0}) Fault → Option R → Type 0
+TellsWhy (Err (faults.BadLine n)) why = is_some why ≡ true
+TellsWhy (Err faults.Read) why = why ≡ None
+TellsWhy (Err faults.Write) why = why ≡ None
+TellsWhy (Err faults.Memory) why = why ≡ None
+TellsWhy (Ok _) why = why ≡ None
 
 module _ {F : Type 0} where
   -- the function of mode sorted is one of these

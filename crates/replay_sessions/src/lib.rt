@@ -4,5 +4,6 @@
 mod block;
 mod list_session;
 pub mod modes;
+mod noting;
 mod sorted_session;
 mod stack_session;

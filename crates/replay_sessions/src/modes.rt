@@ -1,10 +1,12 @@
 //! What the program's arguments choose, and the run of a script in each mode.
 ghost use Rattle.std.specs.Prelude.{◌≡◌, map, string_bytes};
+ghost use Rattle.replay_driver.specs.Script.{Runs};
 ghost use Rattle.replay_sessions.specs.Arguments.{Chooses};
-ghost use Rattle.replay_sessions.specs.Modes.{IfSorted, RunsIn};
+ghost use Rattle.replay_sessions.specs.Modes.{IfSorted, RunsIn, TellsWhy};
 ghost use Rattle.replay_sessions.specs.Tens.{by_tens, ComparesTens};
 
 use crate::list_session::ListSession;
+use crate::noting::Noting;
 use crate::sorted_session::SortedSession;
 use crate::stack_session::StackSession;
 use cordyceps_commands::Item;
@@ -12,8 +14,10 @@ use replay_cores::queue_session::QueueSession;
 use replay_cores::transfer_session::TransferSession;
 use replay_driver::fault::Fault;
 use replay_driver::script::run_script;
+use replay_driver::session::Session;
 use replay_driver::sink::Sink;
 use replay_driver::source::Source;
+use replay_lines::reason::{Reason, Vocabulary};
 use std::alloc::Global;
 use std::cmp::Ordering;
 
@@ -72,6 +76,31 @@ pub fn choose(words: &[String]) -> Option<Choice>
     }
 }
 
+/// Runs a script in a session, as `run` does in a mode.
+fn run_session<S: Session + Drop, I: Source, O: Sink>(
+    alloc: Global,
+    session: S,
+    vocabulary: Vocabulary,
+    input: &mut I,
+    output: &mut O,
+    why: &mut Option<Reason>,
+) -> Result<(), Fault>
+    requires { S.is_ready session }
+    ensures runs { (left : S.State) × Runs S.machine (S.state session) left
+        (I.gives input.old input.new) (I.at_end input.new) (I.has_failed input.new)
+        (O.takes output.old output.new) (O.has_failed output.new) result }
+    ensures why { TellsWhy result why.new }
+{
+    let mut noting = Noting::new(session, vocabulary);
+    let end = run_script(alloc, &mut noting, input, output);
+    *why = match end {
+        // the session is given no line that is too long
+        Err(Fault::BadLine(_)) => Some(noting.why.unwrap_or(Reason::TooLong)),
+        Ok(()) | Err(_) => None,
+    };
+    end
+}
+
 /// Runs the script that the source provides, and writes its replies to the sink.
 ///
 /// A line ends with a line feed, which the last one may lack, and has at most 120 bytes without it. In mode `list` a
@@ -81,6 +110,8 @@ pub fn choose(words: &[String]) -> Option<Choice>
 /// It returns `BadLine` with the number of the first bad line, or `Read` if the source failed. The replies to the lines
 /// before it are then written. It returns `Write` if the sink failed. A prefix of the replies is then written. It
 /// returns `Memory` if memory was refused. The replies to the commands before the refused one are then written.
+///
+/// After `BadLine`, `why` is the reason why the line is bad; otherwise it is `None`.
 ///
 /// More of the source may have been read than the lines that were taken.
 ///
@@ -93,35 +124,37 @@ pub fn run<F: Fn(&Item, &Item) -> Ordering + Copy, I: Source, O: Sink>(
     mode: Mode<F>,
     input: &mut I,
     output: &mut O,
+    why: &mut Option<Reason>,
 ) -> Result<(), Fault>
     requires reading { I.has_failed input.old → ⊥ }
     requires writing { O.has_failed output.old → ⊥ }
     requires callable { IfSorted mode (λ by. F.IsAlwaysCallable by) }
     requires tens { IfSorted mode (λ by. ComparesTens F.Fn by) }
-    ensures { RunsIn ⟦<Item as Ord>⟧.cmp mode
+    ensures runs { RunsIn ⟦<Item as Ord>⟧.cmp mode
         (I.gives input.old input.new) (I.at_end input.new) (I.has_failed input.new)
         (O.takes output.old output.new) (O.has_failed output.new) result }
+    ensures why { TellsWhy result why.new }
 {
     match mode {
         Mode::List => {
-            let mut session = ListSession::new(alloc);
-            run_script(alloc, &mut session, input, output)
+            let session = ListSession::new(alloc);
+            run_session(alloc, session, Vocabulary::List, input, output, why)
         }
         Mode::Stack => {
-            let mut session = StackSession::new(alloc);
-            run_script(alloc, &mut session, input, output)
+            let session = StackSession::new(alloc);
+            run_session(alloc, session, Vocabulary::Stack, input, output, why)
         }
         Mode::Sorted(by) => {
-            let mut session = SortedSession::new(alloc, by);
-            run_script(alloc, &mut session, input, output)
+            let session = SortedSession::new(alloc, by);
+            run_session(alloc, session, Vocabulary::Sorted, input, output, why)
         }
         Mode::Transfer => {
-            let mut session = TransferSession::new(alloc);
-            run_script(alloc, &mut session, input, output)
+            let session = TransferSession::new(alloc);
+            run_session(alloc, session, Vocabulary::Transfer, input, output, why)
         }
         Mode::Queue => {
-            let mut session = QueueSession::new(alloc);
-            run_script(alloc, &mut session, input, output)
+            let session = QueueSession::new(alloc);
+            run_session(alloc, session, Vocabulary::Queue, input, output, why)
         }
     }
 }
