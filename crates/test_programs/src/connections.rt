@@ -56,7 +56,6 @@ fn open_and_close(
 }
 
 /// Makes a call, and compares what it returns with what is wanted.
-#[tactic(auto, using(cordyceps::proofs::Spots::Reached::first_has))]
 fn returns(rt: &impl Abort, alloc: Global, table: &mut Connections, call: Call) {
     match call {
         Call::Open(id, time, evicted) => same(rt, open(rt, alloc, table, id, time), evicted),

@@ -1,16 +1,16 @@
 use Rattle.std.proofs.Common.{◌≡◌, ℕ, ◌<◌, Bool, true, false, cond, min, List, [], ◌∷◌, refl, ap, sym, ◌∙◌, arith, Some}
 use Rattle.std.proofs.lemmas.Cmp.{by_ranked}
-use Rattle.std.specs.Cmp.{on_total, nat_cmp_total, ranked}
+use Rattle.std.specs.Cmp.{ranked}
 use Rattle.std.specs.Ordering.{is_gt, nat_cmp}
 use Rattle.cordyceps.specs.Elements.Element.{Element, Elements, values}
 use Rattle.cordyceps.specs.Orders.Arrangement.{Represents, put_all}
-use Rattle.cordyceps.specs.Orders.Preorder.{IsPreorder, preorder_from_total}
+use Rattle.cordyceps.specs.Orders.Preorder.{IsPreorder, by_number_lawful}
 use Rattle.cordyceps.proofs.Orders.Puts.{is_put_all}
 use Rattle.cordyceps_uses.specs.declared.job.Job.{Job}
 use Rattle.cordyceps_uses.proofs.tour.least_rank.Goals as goal
 
 by_rank : IsPreorder (λ (x y : Job). nat_cmp x.rank y.rank)
-by_rank = preorder_from_total (on_total (λ (j : Job). j.rank) nat_cmp_total)
+by_rank = by_number_lawful (λ (j : Job). j.rank)
 
 -- which of two ranks is in front
 lesser : (a b : ℕ) → cond (is_gt (nat_cmp b a)) a b ≡ min a b
