@@ -11,6 +11,7 @@ import signal
 import subprocess
 import sys
 import tempfile
+from collections import namedtuple
 
 TOP = os.path.dirname(os.path.dirname(os.path.realpath(__file__)))
 NAME = os.path.basename(os.path.realpath(sys.argv[0]))
@@ -18,7 +19,15 @@ NAME = os.path.basename(os.path.realpath(sys.argv[0]))
 TOOLS = ("toolchain/bin/clang", "toolchain/bin/ld.lld")
 # The parts of a function's proof. They belong to it alone: what calls it reads its contract.
 OWN_PROOF = ("Answers.antt", "Invariants.antt", "Proof.antt")
+# The line with which a check tells that it has ended with a function or a closure.
+CHECKED = re.compile(r"checked (\S+), \d+ of \d+$")
+TICKS = os.sysconf("SC_CLK_TCK")
 MISSING = "it was called in another way than this, or lacks something that it needs: a line says what"
+
+
+# What a check came to: its status, its lines, the processor seconds that it had used when it ended with each function, by
+# the function's name, those that it used in all, and its greatest memory in KB.
+Checked = namedtuple("Checked", "status lines after whole memory")
 
 
 class Arguments(argparse.ArgumentParser):
@@ -112,6 +121,45 @@ def rtlib():
     """The toolchain's own words for a check, as a module."""
     sys.path.insert(0, f"{kit('bin/rtlib.py')}/bin")
     return __import__("rtlib")
+
+
+def used(pid):
+    """The processor seconds that a running process and those that it started have used."""
+    seconds = 0.0
+    # (what it started runs in processes that count as its own once they have ended)
+    for each in (pid, *children_of(pid)):
+        try:
+            # (a name in parentheses stands before the fields)
+            fields = text_of(f"/proc/{each}/stat").rpartition(")")[2].split()
+        except OSError:
+            continue
+        seconds += sum(map(int, fields[11:15])) / TICKS
+    return seconds
+
+
+def children_of(pid):
+    found = []
+    for thread in os.listdir(f"/proc/{pid}/task"):
+        try:
+            found += text_of(f"/proc/{pid}/task/{thread}/children").split()
+        except OSError:
+            continue
+    return found
+
+
+def check(words, folder):
+    """Runs a check in a folder, and follows what it costs."""
+    lines, after = [], {}
+    how = {"stdin": subprocess.DEVNULL, "stdout": subprocess.PIPE, "stderr": subprocess.STDOUT, "text": True}
+    running = subprocess.Popen([*words, "--progress"], cwd=folder, errors="replace", **how)
+    for line in running.stdout:
+        lines.append(line.rstrip("\n"))
+        found = CHECKED.match(lines[-1])
+        if found:
+            after[found[1]] = used(running.pid)
+    _, status, usage = os.wait4(running.pid, 0)
+    running.returncode = os.waitstatus_to_exitcode(status)
+    return Checked(running.returncode, lines, after, usage.ru_utime + usage.ru_stime, usage.ru_maxrss)
 
 
 # The modes of the program, each with the scripts of scripts/ that it runs. Mode share reads none.
