@@ -198,9 +198,6 @@ module _ {X : Type 0} where
     pub left_is : (rest f r js : Row X) → rest ≡ drop 1 back → nodes_of f ≡ nodes_of front → nodes_of r ≡ nodes_of rest → js ≡ f ++ r → nodes_of js ≡ nodes_of front ++ nodes_of u.after
     left_is rest f r js e m o is = ap nodes_of is ∙ nodes_of-append f r ∙ (λ i. m i ++ (o ∙ ap nodes_of (rest_is rest e)) i)
 
-  pub sole : (p : Ptr) (a : Global) (x y : Block X) (one : Row X) → one ≡ (p, a, x) ∷ [] → one ≡ (p, a, y) ∷ [] → x ≡ y
-  sole p a x y one e f = let both : slice_get (box_values ((p, a, x) ∷ [])) 0 ≡ slice_get (box_values ((p, a, y) ∷ [])) 0 = ap (λ ls. slice_get (box_values ls) 0) (sym e ∙ f) in cc
-
   module _ (ns back : Row X) (v : Nodes X) (p : Ptr) (seen : nodes_of ns ≡ v) (at : (k : ℕ) × (slice_get (spots v) k ≡ Some p)) (e : back ≡ drop (index_of p (box_addresses ns)) ns) where
     on : Found p ns
     on = found ns p at.0 (at_place ns v seen at.0 p at.1)

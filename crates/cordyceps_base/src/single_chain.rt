@@ -2,7 +2,7 @@
 ghost use Rattle.std.specs.Prelude.{◌≡◌, ◌-◌, ◌<◌, ◌↔◌, [], ◌∷◌, ◌++◌, length, slice_get, Some, IsTrue, IfSome, IfNone};
 ghost use Rattle.std.specs.Iterator.{YieldsFirstRef, item_count};
 ghost use denote.RawPtr.{Ptr, InBlock, Testable};
-ghost use Rattle.cordyceps_base.specs.Element.{Element, ids, values};
+ghost use Rattle.cordyceps_base.specs.Element.{Element, values};
 ghost use Rattle.cordyceps_base.specs.Nodes.{elements};
 ghost use Rattle.cordyceps_base.specs.SingleChain.{EndsAt, with_next_of_last, unless_null};
 
@@ -176,17 +176,6 @@ impl<T, L> SingleChain<T, L> {
     {
         match not_null(self.head) {
             Some(at) => Some(&self.boxes.get(at, 0).value),
-            None => None,
-        }
-    }
-
-    /// Returns the number of the first node, or `None` if the chain is empty.
-    pub fn first_id(&self) -> Option<u64>
-        ensures some { IfSome result (λ n. slice_get (ids (elements self.now)) 0 ≡ Some n) }
-        ensures none { IfNone result (self.now ≡ []) }
-    {
-        match not_null(self.head) {
-            Some(at) => Some(self.boxes.get(at, 0).id),
             None => None,
         }
     }

@@ -142,7 +142,3 @@ module _ {P : Type 0} where
       pub next_front : (o : Option Ptr) → ahead_of h c ≡ None → MatchOption o (c ≡ []) (λ p. IsFirst c p) → MatchOption o (waiting_of c ≡ []) (λ p. (r : Request P) × IsNext now p r (seen c t h))
       next_front None none is = ap (λ s. waiting_of s) is
       next_front (Some p) none first = next_lowest p none first
-
-  -- no ticket, and so no request
-  pub none_wait : (c : Nodes (Waiting P)) (t : Nodes Ticket) → Paired c t → t ≡ [] → c ≡ []
-  none_wait c t was none = nothing c (sym was.length ∙ ap length none)

@@ -1,9 +1,9 @@
 -- What a party knows at the start, what it knows of the history so far, and what a party knows that has the whole share.
-use Rattle.std.proofs.Common.{◌≡◌, ◌≢◌, ℕ, zero, suc, ◌≤◌, List, [], ◌∷◌, ◌++◌, length, Bool, refl, sym, ap, ◌∙◌, subst, arith, append-nil}
+use Rattle.std.proofs.Common.{◌≡◌, ℕ, zero, suc, ◌≤◌, List, [], ◌∷◌, ◌++◌, length, Bool, refl, sym, ap, ◌∙◌, subst, arith}
 use mathlib.Core.Option.{some, some-injective, some-ne-none}
 use lib.ListN.{get_elem?}
 use Rattle.cordyceps_shared.specs.Shares.{Name, covers, whole}
-use Rattle.cordyceps_shared.specs.Histories.{events, with_marks, plain, NoneOf, AllOwn}
+use Rattle.cordyceps_shared.specs.Histories.{events, with_marks, plain, AllOwn}
 use Rattle.cordyceps_shared.specs.Knowing.{Known, Agrees, SharesDisjoint, AllAgree, IsPrefixOf, IsKnown, newcomer}
 use Rattle.cordyceps_shared.proofs.Counting.{tally_one}
 use Rattle.cordyceps_shared.proofs.Renaming.{same_first, events_append}
@@ -32,14 +32,6 @@ module _ {X : Type 0} where
   length_plain [] = refl
   length_plain (x ∷ xs) = ap suc (length_plain xs)
 
-  nothing_later : (j : ℕ) (xs : List (ℕ × X)) → NoneOf j xs → ((i : ℕ) → i ≢ j → NoneOf i xs) → xs ≡ []
-  nothing_later j [] mine others = refl
-  nothing_later j (x ∷ xs) mine others = absurd ((others x.0 mine.0).0 refl)
-
-  later_without : (i : ℕ) (xs ys : List (ℕ × X)) → NoneOf i (xs ++ ys) → NoneOf i ys
-  later_without i [] ys w = w
-  later_without i (x ∷ xs) ys w = later_without i xs ys w.1
-
   -- the history is what the party has seen, and more
   pub seen_front : (actor : X → Name) (h : List (ℕ × X)) (j : ℕ) (k : Known X) (f : Agrees actor h j k) → events h ≡ plain k.seen ++ events f.later
   seen_front actor h j k f = ap events f.is ∙ (events_append f.before f.later ∙ ap (λ z. z ++ events f.later) (sym (ap plain f.seen ∙ plain_marked j f.before)))
@@ -62,13 +54,6 @@ module _ {X V : Type 0} (actor : X → Name) (knows : V → Known X) where
         long = o.long;
         once = λ x l. omega (arith, o.apart x l, tally_one (λ (u : V). covers x (knows u).share) views j v at);
       }
-
-  -- a party that has the whole share has seen all
-  pub all_known : (views : List V) (h : List (ℕ × X)) (j : ℕ) (v : V) → SharesDisjoint knows views h → AllAgree actor knows views h → get_elem? views j ≡ some v → (knows v).share ≡ whole → plain (knows v).seen ≡ events h
-  all_known views h j v o fits at is =
-      let f = fits j v at in
-      let none = nothing_later j f.later f.none (λ i n. later_without i f.before f.later (subst (NoneOf i) f.is (whole_without knows views h j i v o at is n))) in
-      sym (seen_front actor h j (knows v) f ∙ (ap (λ z. plain (knows v).seen ++ events z) none ∙ append-nil (plain (knows v).seen)))
 
   pub opens : (v : V) → knows v ≡ newcomer → SharesDisjoint knows (v ∷ []) [] × AllAgree actor knows (v ∷ []) []
   opens v is = (

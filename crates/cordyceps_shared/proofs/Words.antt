@@ -17,9 +17,6 @@ right_set words n inside = get_or-set_same words RIGHT n 0 inside
 pub head_beside_right : (words : List ℕ) (n : ℕ) → head (set words RIGHT n) ≡ head words
 head_beside_right words n = get_or-set_other words RIGHT HEAD n 0 (λ e. omega arith)
 
-pub next_beside_right : (words : List ℕ) (r n : ℕ) → next (set words RIGHT n) r ≡ next words r
-next_beside_right words r n = get_or-set_other words RIGHT (LINKS + r) n 0 (λ e. omega arith)
-
 -- ---- a store to a link
 pub next_set : (words : List ℕ) (r n : ℕ) → LINKS + r < length words → next (set words (LINKS + r) n) r ≡ n
 next_set words r n inside = get_or-set_same words (LINKS + r) n 0 inside

@@ -45,9 +45,6 @@ module _ {X : Type 0} (p : X → Bool) where
     pub into : moved ++ filter (λ e. p e.value) left ≡ before ++ filter (λ e. p e.value) all
     pub others : stayed ++ filter (λ e. not (p e.value)) left ≡ filter (λ e. not (p e.value)) all
 
-  pub drains_none : (before all : Elements X) → Drains before all before all 0
-  drains_none before all = record { stayed = []; left = all; whole = refl; place = refl; into = refl; others = refl }
-
   pub few_moved : (before all moved s : Elements X) (k : ℕ) → Drains before all moved s k → length moved ≤ length before + length all
   few_moved before all moved s k d =
       omega (arith, ap length d.into, length-append moved (filter (λ e. p e.value) d.left), length-append before (filter (λ e. p e.value) all), no_longer (λ (e : Element X). p e.value) all)

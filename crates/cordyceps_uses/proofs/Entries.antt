@@ -106,9 +106,6 @@ module _ {V : Type 0} (f : ℕ → Option Ptr) (k : ℕ) (c d : Nodes (Entry V))
   pub present_others : others k (pairs c) ≡ pairs d
   present_others = ap (λ s. others k (pairs s)) t.2 ∙ others_after k t.0 t.1 p e before_lacks key_of ∙ ap (λ s. pairs s) (sym t.3)
 
-  pub present_displaced : (capacity : ℕ) → displaced capacity k (pairs c) ≡ Some (k, e.value.value)
-  present_displaced capacity = let after : Option (ℕ × V) → Option (ℕ × V) = λ o. elim o [ Some x ↦ Some x | None ↦ slice_get (pairs c) (capacity - 1) ] in ap after present_find
-
   pub present_used : used k (pairs c) ≡ (k, e.value.value) ∷ pairs d
   present_used =
       let after : Option (ℕ × V) → List (ℕ × V) → List (ℕ × V) = λ o r. elim o [ Some x ↦ x ∷ r | None ↦ pairs c ] in
@@ -183,14 +180,3 @@ last_goes {V} capacity c d p e all is =
     let whole : suc (length d) ≡ capacity = omega (arith, all, ap length is, length-append d ((p, e) ∷ [])) in
     let long : capacity - 1 ≡ length (pairs d) = omega (arith, whole, length-map d at) in
     (sym ((λ i. take (long i) (split i)) ∙ take_front (pairs d) (pair e ∷ [])), sym ((λ i. slice_get (split i) (long i)) ∙ get_behind (pairs d) (pair e)), whole)
-
-get_none : {A : Type 0} (xs : List A) (n : ℕ) → length xs ≤ n → slice_get xs n ≡ None
-get_none [] n h = refl
-get_none (x ∷ xs) zero h = absurd (omega (arith, h))
-get_none (x ∷ xs) (suc n) h = get_none xs n (omega (arith, h))
-
--- a list that was not full stays
-pub none_goes : {V : Type 0} (capacity : ℕ) (c : Nodes (Entry V)) → length c < capacity → (pairs c ≡ take (capacity - 1) (pairs c)) × (None ≡ slice_get (pairs c) (capacity - 1))
-none_goes {V} capacity c room =
-    let few : length (pairs c) ≤ capacity - 1 = omega (arith, room, length-map c (λ (n : Ptr × Element (Entry V)). pair n.1)) in
-    (sym (take_all (capacity - 1) (pairs c) few), sym (get_none (pairs c) (capacity - 1) few))
