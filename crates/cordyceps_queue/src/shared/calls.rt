@@ -37,6 +37,19 @@ use std::marker::Model;
 /// that of `MpscQueue` in the Rust crate `cordyceps`. Unlike these, it never returns `Empty` when an element was put in
 /// and is not linked yet.
 ///
+/// # Threads
+/// A call borrows its party mutably, so one thread at a time acts through a party. Calls through several parties may run
+/// at the same time:
+///
+/// | call | beside any call of another party | beside a call of its own row |
+/// |---|---|---|
+/// | `enqueue` | yes | both put their elements in, and neither waits |
+/// | `try_dequeue`, `try_consume` | yes | one gets the right to dequeue; the other returns `Busy`, or its party |
+/// | `dequeue`, `consume` | yes | one gets the right to dequeue; the other waits for it |
+/// | the calls of a consumer | yes | there is one consumer at a time |
+/// | `split`, `absorb` | yes | yes |
+/// | `close`, and the queue's drop | no: they take the queue, when no other thread has it | |
+///
 /// # Complexity
 /// Dropping the queue drops its elements and the stub: O(r), for r rooms.
 ///
