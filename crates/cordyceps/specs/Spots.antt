@@ -3,5 +3,6 @@ pub use Rattle.cordyceps_base.specs.BySpot
 pub use Rattle.cordyceps_base.specs.Spots
 pub use Rattle.cordyceps_stable.specs.Agreeing
 pub use Rattle.cordyceps_stable.specs.Arranged
+pub use Rattle.cordyceps_stable.specs.Replacing
 pub use Rattle.cordyceps_stable.specs.StableLending
 pub use Rattle.cordyceps_stable.specs.Walk

@@ -1,5 +1,5 @@
 //! Cursors that read a list.
-ghost use Rattle.std.specs.Prelude.{◌≡◌, ◌+◌, ◌-◌, ◌<◌, ◌≤◌, ◌==◌, length, slice_get, option_copied, IfSome, None};
+ghost use Rattle.std.specs.Prelude.{◌≡◌, ◌+◌, ◌-◌, ◌<◌, ◌≤◌, ◌==◌, length, slice_get, option_copied, IfSome, None, ⊤};
 ghost use Rattle.std.specs.Iterator.{at_most, UpTo};
 ghost use Rattle.std.specs.Iterator.SizeHint.{IsWithinCount};
 ghost use Rattle.cordyceps_base.specs.Element.{values};
@@ -10,6 +10,7 @@ use crate::list::{Links, List};
 use cordyceps_base::boxes::Address;
 use cordyceps_base::double_chain::DoubleChain;
 use cordyceps_base::linked::Linked;
+use std::alloc::AllocError;
 use std::marker::Model;
 
 /// A cursor that reads a list. A contract sees the elements and the cursor's place.
@@ -45,7 +46,36 @@ impl<'a, T> Model for Cursor<'a, T> {
     ghost invariant = { λ c. StandsAt c.chain.now c.address c.index };
 }
 
+impl<'a, T> Clone for Cursor<'a, T> {
+    ghost is_clone = { λ c again. again ≡ c };
+
+    ghost is_infallible = { λ _. ⊤ };
+
+    /// Returns a second cursor at the same place. It allocates nothing, and never returns an error.
+    ///
+    /// # Complexity
+    /// O(1).
+    fn clone(&self) -> Result<Cursor<'a, T>, AllocError> {
+        Ok(Cursor {
+            chain: self.chain,
+            address: self.address,
+            index: self.index,
+        })
+    }
+}
+
 impl<T: Linked<Links<T>>> List<T> {
+    /// Returns a cursor at the null place, from which `move_next` leads to the first element, and `move_prev` to the
+    /// last.
+    ///
+    /// # Complexity
+    /// O(1).
+    pub fn cursor(&self) -> Cursor<'_, T>
+        ensures { result ≡ record { elements = self.now; place = length self.now } }
+    {
+        Cursor::at_place(self, self.len())
+    }
+
     /// Returns a cursor at the first element, or at the null place if the list is empty.
     ///
     /// # Complexity

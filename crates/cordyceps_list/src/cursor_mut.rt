@@ -46,6 +46,20 @@ impl<T> Drop for CursorMut<'_, T> {
 impl<T: Linked<Links<T>>> List<T> {
     ghost use Rattle.cordyceps_list.specs.Cursor.{elements, place, lender};
 
+    /// Returns a cursor at the null place, from which `move_next` leads to the first element, and `move_prev` to the
+    /// last.
+    ///
+    /// # Complexity
+    /// O(1).
+    pub fn cursor_mut(&mut self) -> CursorMut<'_, T>
+        ensures same_reference { lender result ≡ self.entry.ghost_name }
+        ensures elements { elements result ≡ self.old }
+        ensures place { place result ≡ length self.old }
+    {
+        let index = self.len();
+        CursorMut { list: self, index }
+    }
+
     /// Returns a cursor at the first element, or at the null place if the list is empty.
     ///
     /// # Complexity

@@ -1,5 +1,5 @@
 //! Iterators over a list.
-ghost use Rattle.std.specs.Prelude.{◌≡◌, ◌+◌, ◌-◌, ◌<◌, length, IfSome, Some};
+ghost use Rattle.std.specs.Prelude.{◌≡◌, ◌+◌, ◌-◌, ◌<◌, length, IfSome, Some, ⊤};
 ghost use Rattle.std.specs.Iterator.{YieldsFirstRef, YieldsLastRef, YieldsFirstBy, YieldsLastBy, item_count, at_most, UpTo};
 ghost use Rattle.std.specs.Iterator.SizeHint.{IsWithinCount};
 ghost use Rattle.cordyceps_base.specs.Element.{values};
@@ -9,6 +9,7 @@ use crate::list::{Links, List};
 use cordyceps_base::boxes::Address;
 use cordyceps_base::double_chain::DoubleChain;
 use cordyceps_base::linked::Linked;
+use std::alloc::AllocError;
 use std::iter::{DoubleEndedIterator, ExactSizeIterator, FusedIterator};
 use std::marker::Model;
 
@@ -36,6 +37,26 @@ impl<'a, T> Model for Iter<'a, T> {
     ghost view = { λ i. values (take (i.back - i.front) (drop i.front (elements i.chain.now))) };
 
     ghost invariant = { λ i. KnowsEnds i.chain.now i.first i.last i.front i.back };
+}
+
+impl<'a, T> Clone for Iter<'a, T> {
+    ghost is_clone = { λ i again. again ≡ i };
+
+    ghost is_infallible = { λ _. ⊤ };
+
+    /// Returns a second iterator over the values that are left. It allocates nothing, and never returns an error.
+    ///
+    /// # Complexity
+    /// O(1).
+    fn clone(&self) -> Result<Iter<'a, T>, AllocError> {
+        Ok(Iter {
+            chain: self.chain,
+            first: self.first,
+            last: self.last,
+            front: self.front,
+            back: self.back,
+        })
+    }
 }
 
 /// Returns an iterator over the values of a chain, in order, for a collection that keeps its nodes in one.

@@ -1,12 +1,13 @@
 -- What a stable list holds after a call, and at which spots.
 use Rattle.std.proofs.Common.{append_assoc, append-nil, ◌≡◌, ℕ, zero, suc, [], ◌∷◌, ◌++◌, ◌+◌, length, length-append, slice_get, Some, refl, sym, ap, ◌∙◌, subst, ◌⊎◌, inl, inr, arith}
 use denote.RawPtr.{Ptr}
-use Rattle.cordyceps_base.specs.BySpot.{HasSpot, IsTaken, IsPutBefore, IsPutAfter}
+use Rattle.cordyceps_base.specs.BySpot.{HasSpot, IsTaken, IsPutBefore, IsPutAfter, IsLast, AreNext}
 use Rattle.cordyceps_base.specs.Element.{Element}
 use Rattle.cordyceps_base.specs.Nodes.{Nodes, spots, with_item}
 use Rattle.cordyceps_base.specs.Spots.{IsNew, AreDistinct}
 use Rattle.cordyceps_base.proofs.SpotsMemory.{same_ptr_refl}
 use Rattle.cordyceps_stable.specs.Agreeing.{HasElementAt}
+use Rattle.cordyceps_stable.specs.Replacing.{IsReplaced}
 
 module _ {X : Type 0} where
   -- c is d with the element e at p: so an element was taken out of c, which left d, or one was put into d, which made c
@@ -87,6 +88,35 @@ module _ {X : Type 0} where
       | inl same ↦ inl same
       | inr on ↦ inr (x ∷ on.0, on.1, ap (λ s. x ∷ s) on.2)
     ]
+
+  -- an element that was put in where another was taken out is in its place
+  pub replaced_last : (c d n : Nodes X) (p q : Ptr) (o e : Element X) → AreDistinct (spots c) → IsLast c p → IsTaken c p o d → n ≡ d ++ (q, e) ∷ [] → IsReplaced c p o q e n
+  replaced_last c d n p q o e distinct (b, x, is) (b', a', was, left) put =
+      let (_, _, none) = unique b [] b' a' p x o (sym is ∙ was) (subst (λ s. AreDistinct (spots s)) is distinct) in
+      let alone : d ≡ b' = left ∙ (ap (λ s. b' ++ s) (sym none) ∙ append-nil b') in
+      (b', a', was, put ∙ (ap (λ s. s ++ (q, e) ∷ []) alone ∙ ap (λ s. b' ++ (q, e) ∷ s) none))
+
+  -- the element after one that was taken out stays, and is where that was
+  next_left : (c d : Nodes X) (p r : Ptr) (o : Element X) → AreDistinct (spots c) → AreNext c p r → IsTaken c p o d
+      → (b : Nodes X) × (y : Element X) × (a : Nodes X) × (c ≡ b ++ (p, o) ∷ (r, y) ∷ a) × (d ≡ b ++ (r, y) ∷ a)
+  next_left c d p r o distinct (b, x, y, a, is) (b', a', was, left) =
+      let (_, _, rest) = unique b ((r, y) ∷ a) b' a' p x o (sym is ∙ was) (subst (λ s. AreDistinct (spots s)) is distinct) in
+      (b', y, a, was ∙ ap (λ s. b' ++ (p, o) ∷ s) (sym rest), left ∙ ap (λ s. b' ++ s) (sym rest))
+
+  pub next_stays : (c d : Nodes X) (p r : Ptr) (o : Element X) → AreDistinct (spots c) → AreNext c p r → IsTaken c p o d → HasSpot d r
+  next_stays c d p r o distinct next taken =
+      let (b, y, a, _, there) = next_left c d p r o distinct next taken in
+      spot_is_at d r y (b, a, there)
+
+  pub replaced_before : (c d n : Nodes X) (p r q : Ptr) (o e : Element X) → AreDistinct (spots c) → AreDistinct (spots d) → AreNext c p r → IsTaken c p o d → IsPutBefore d r q e n → IsReplaced c p o q e n
+  replaced_before c d n p r q o e distinct apart next taken (f, z, g, held, put) =
+      let (b, y, a, was, there) = next_left c d p r o distinct next taken in
+      let (same, value, after) = unique b a f g r y z (sym there ∙ held) (subst (λ s. AreDistinct (spots s)) there apart) in
+      (b, (r, y) ∷ a, was, put ∙ (λ i. sym same i ++ (q, e) ∷ (r, sym value i) ∷ sym after i))
+
+  -- a replacement is a removal and an insertion
+  pub replaced_taken : (c d : Nodes X) (p q : Ptr) (o e : Element X) → IsReplaced c p o q e d → (rest : Nodes X) × IsTaken c p o rest × IsTaken d q e rest
+  replaced_taken c d p q o e (b, a, was, is) = (b ++ a, (b, a, was, refl), (b, a, is, refl))
 
   -- after a removal all others lie where they lay
   pub others_are_at : (c d : Nodes X) (p q : Ptr) (e o : Element X) → IsTaken c p e d → HasElementAt c q o → (q ≡ p → ⊥) → HasElementAt d q o

@@ -5,6 +5,7 @@ use denote.RawPtr.{Ptr}
 use Rattle.cordyceps_base.specs.BySpot.{HasSpot, IsTaken, IsPutBefore, IsPutAfter, IsMovedBack, IsFirst, IsLast, AreNext}
 use Rattle.cordyceps_base.specs.Nodes.{Nodes}
 use Rattle.cordyceps_base.specs.Element.{Element}
+use Rattle.cordyceps_stable.specs.Replacing.{IsReplaced}
 use Rattle.cordyceps_stable.specs.Walk.{IsOn, IsBack}
 use Rattle.cordyceps_stable.proofs.Holding.{spot_is_at, before_taken, after_taken}
 
@@ -46,6 +47,9 @@ module _ {X : Type 0} where
   taken_has c d p e (before, after, is, _) = spot_is_at c p e (before, after, is)
 
   -- where an element was put in, or moved to
+  pub replaced_has : (c d : Nodes X) (p q : Ptr) (o e : Element X) → IsReplaced c p o q e d → HasSpot d q
+  replaced_has c d p q o e (before, after, was, is) = spot_is_at d q e (before, after, is)
+
   pub put_before_has : (c d : Nodes X) (p q : Ptr) (e : Element X) → IsPutBefore c p q e d → HasSpot d q
   put_before_has c d p q e put = let t = before_taken d c p q e put in spot_is_at d q e (t.0, t.1, t.2)
 

@@ -1,4 +1,5 @@
 pub mod Agreeing
 pub mod Arranged
+pub mod Replacing
 pub mod StableLending
 pub mod Walk

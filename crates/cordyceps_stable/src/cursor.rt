@@ -1,11 +1,12 @@
 //! Cursors that move from spot to spot.
-ghost use Rattle.std.specs.Prelude.{◌≡◌, IfSome, Some, None, MatchOption};
+ghost use Rattle.std.specs.Prelude.{◌≡◌, IfSome, Some, None, MatchOption, ⊤};
 ghost use denote.RawPtr.{Ptr};
 ghost use Rattle.cordyceps_base.specs.BySpot.{HasSpot, HoldsAt};
 ghost use Rattle.cordyceps_stable.specs.Walk.{IsOn, IsBack};
 
 use crate::stable_list::{Spot, first_spot, last_spot, spot_of};
 use cordyceps_base::double_chain::DoubleChain;
+use std::alloc::AllocError;
 use std::marker::Model;
 
 /// A cursor that reads a stable list or a stable sorted list. A contract sees the nodes and the spot that the cursor is
@@ -44,6 +45,23 @@ impl<'a, T> Model for SpotCursor<'a, T> {
     ghost view = { λ c. record { nodes = c.chain.now; spot = c.at } };
 
     ghost invariant = { λ c. IfSome c.at (λ p. HasSpot c.chain.now p) };
+}
+
+impl<'a, T> Clone for SpotCursor<'a, T> {
+    ghost is_clone = { λ c again. again ≡ c };
+
+    ghost is_infallible = { λ _. ⊤ };
+
+    /// Returns a second cursor at the same place. It allocates nothing, and never returns an error.
+    ///
+    /// # Complexity
+    /// O(1).
+    fn clone(&self) -> Result<SpotCursor<'a, T>, AllocError> {
+        Ok(SpotCursor {
+            chain: self.chain,
+            at: self.at,
+        })
+    }
 }
 
 impl<'a, T> SpotCursor<'a, T> {

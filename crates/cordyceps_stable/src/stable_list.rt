@@ -7,6 +7,7 @@ ghost use Rattle.cordyceps_base.specs.BySpot.{HasSpot, HoldsAt, IsTaken, IsPutBe
 ghost use Rattle.cordyceps_base.specs.Element.{values};
 ghost use Rattle.cordyceps_base.specs.Nodes.{elements, spots};
 ghost use Rattle.cordyceps_base.specs.Spots.{index_of, AreDistinct};
+ghost use Rattle.cordyceps_stable.specs.Replacing.{IsReplaced};
 
 pub use crate::cursor::SpotCursor;
 use cordyceps_base::boxes::Address;
@@ -316,6 +317,27 @@ impl<T: Linked<Links<T>>> StableList<T> {
         let node = self.chain.unlink_at(at.address);
         self.chain.keep_distinct();
         T::from_ptr(node)
+    }
+
+    /// Replaces the element at `at` by another in the same place, and returns the old element and the spot of the new
+    /// one. Requires that `at` is valid.
+    ///
+    /// # Complexity
+    /// O(1).
+    pub fn replace(&mut self, at: Spot, handle: T::Handle) -> (T::Handle, Spot)
+        requires { HasSpot self.old at }
+        ensures replaced { IsReplaced self.old at (T.element result.0) result.1 (T.element handle) self.new }
+        ensures distinct { AreDistinct (spots self.new) }
+    {
+        // both for the proof: no other element is at this spot, and there is room once one is out
+        self.spots_are_distinct();
+        let _len = self.len();
+        let next = self.next(at);
+        let old = self.remove(at);
+        match next {
+            Some(next) => (old, self.insert_before(next, handle)),
+            None => (old, self.push_back(handle)),
+        }
     }
 
     /// Removes the first element and returns it, or `None` if the list is empty.

@@ -1,5 +1,5 @@
 //! Cursors that only read.
-use crate::compared::same;
+use crate::compared::{made, same};
 use crate::items::{list_of, shows};
 use crate::sights::{Sight, reads, sees};
 use cordyceps_list::list::List;
@@ -62,5 +62,34 @@ fn reads_on_from_its_place(rt: HostRuntime) {
     for _ in 0..2u8 {
         reads_on(&rt, &list);
         reads_all(&rt, &list);
+    }
+}
+
+#[test]
+fn cursors_begin_at_the_null_place(rt: HostRuntime) {
+    let mut list = list_of(&rt, rt.alloc(), &[1, 2, 3]);
+    let null = (None, Some(1), Some(3), None);
+    reads(&rt, &list.cursor(), null);
+    sees(&rt, &list.cursor_mut(), null);
+    let none: List<Item> = List::new();
+    reads(&rt, &none.cursor(), (None, None, None, None));
+}
+
+#[test]
+fn a_second_reader_goes_its_own_way(rt: HostRuntime) {
+    let list = list_of(&rt, rt.alloc(), &[1, 2, 3]);
+    let mut cursor = list.cursor();
+    let stays = made(&rt, cursor.clone());
+    cursor.move_next();
+    reads(&rt, &stays, (None, Some(1), Some(3), None));
+    reads(&rt, &cursor, (Some(1), Some(2), None, Some(0)));
+    let mut items = list.iter();
+    shows(&rt, items.next(), Some(1));
+    let mut again = made(&rt, items.clone());
+    for wanted in [Some(2u64), Some(3), None] {
+        shows(&rt, items.next(), wanted);
+    }
+    for wanted in [Some(3u64), Some(2), None] {
+        shows(&rt, again.next_back(), wanted);
     }
 }

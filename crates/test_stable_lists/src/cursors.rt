@@ -1,13 +1,14 @@
 //! Cursors by spots, on both kinds of list.
-use crate::compared::same;
+use crate::compared::{made, same};
 use crate::keys::{Key, ONE, THREE, TWO, spot_at, value};
 use crate::sorted_calls::keys_of;
 use crate::stable_calls::list_of;
 use cordyceps_stable::stable_list::SpotCursor;
 use std::process::Abort;
 
-/// Asserts what a cursor reads forth, from where it is, and what it then reads back.
+/// Asserts what a cursor reads forth, from where it is, and what it then reads back. A second one stays meanwhile.
 fn reads(rt: &impl Abort, mut cursor: SpotCursor<'_, Key>, wanted: &[Option<u64>]) {
+    let stays = made(rt, cursor.clone());
     for want in wanted {
         same(rt, value(cursor.current()), *want);
         same(rt, cursor.spot().is_some(), want.is_some());
@@ -17,6 +18,7 @@ fn reads(rt: &impl Abort, mut cursor: SpotCursor<'_, Key>, wanted: &[Option<u64>
         cursor.move_prev();
         same(rt, value(cursor.current()), *want);
     }
+    same(rt, Some(&value(stays.current())), wanted.first());
 }
 
 #[test]

@@ -26,6 +26,8 @@ pub enum Call {
     Front,
     Back,
     Remove(usize),
+    /// Replaces the element at this place.
+    Replace(usize, Pair),
     /// A call by the spot of the element at this place.
     By(usize, BySpot),
 }
@@ -134,7 +136,7 @@ fn spot_after(
             let spot = spot_at(rt, list.cursor_front(), *at);
             Some(by_spot(rt, alloc, list, spot, call))
         }
-        Call::PopFront | Call::PopBack | Call::Remove(_) => None,
+        Call::PopFront | Call::PopBack | Call::Remove(_) | Call::Replace(_, _) => None,
     }
 }
 
@@ -146,6 +148,12 @@ pub fn reply(rt: &impl Abort, alloc: Global, list: &mut StableList<Key>, call: &
         Call::Remove(at) => {
             let spot = spot_at(rt, list.cursor_front(), *at);
             Reply::Out(parts(Some(list.remove(spot))))
+        }
+        Call::Replace(at, pair) => {
+            let spot = spot_at(rt, list.cursor_front(), *at);
+            let (old, new) = list.replace(spot, make(rt, alloc, *pair));
+            same(rt, list.get(new).value, pair.1);
+            Reply::Out(parts(Some(old)))
         }
         _ => match spot_after(rt, alloc, list, call) {
             Some(spot) => Reply::At(around(list, spot)),

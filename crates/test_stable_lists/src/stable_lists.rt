@@ -63,6 +63,13 @@ const CALLS: &[(Call, Reply)] = &[
         Reply::At((Some(30), Some(90), None)),
     ),
     (Call::Remove(3), Reply::Out(Some(NINE))),
+    // replaces each element, and puts it back
+    (Call::Replace(0, NINE), Reply::Out(Some(ONE))),
+    (Call::Replace(0, ONE), Reply::Out(Some(NINE))),
+    (Call::Replace(1, NINE), Reply::Out(Some(TWO))),
+    (Call::Replace(1, TWO), Reply::Out(Some(NINE))),
+    (Call::Replace(2, NINE), Reply::Out(Some(THREE))),
+    (Call::Replace(2, THREE), Reply::Out(Some(NINE))),
     // moves each element: 1 2 3, then 2 1 3, 1 2 3, 3 1 2, and 1 2 3 again
     (
         Call::By(0, BySpot::MoveToFront),

@@ -23,7 +23,8 @@ fn drawn(draws: &mut Draws, len: usize, number: u64) -> Call {
         _ if len == 0 => Call::TryPushFront(pair),
         5 => Call::By(at, BySpot::InsertBefore(pair)),
         6 => Call::By(at, BySpot::InsertAfter(pair)),
-        7 | 8 | 9 | 10 => Call::Remove(at),
+        7 | 8 | 9 => Call::Remove(at),
+        10 => Call::Replace(at, pair),
         11 => Call::By(at, BySpot::MoveToFront),
         12 => Call::By(at, BySpot::MoveToBack),
         13 => Call::By(at, BySpot::Read),
@@ -53,6 +54,11 @@ fn wanted(rt: &impl Abort, pairs: &mut Vec<Pair>, call: &Call) -> Reply {
         Call::Front => 0,
         Call::Back => last,
         Call::Remove(at) => return Reply::Out(taken(pairs, *at)),
+        Call::Replace(at, pair) => {
+            let old = taken(pairs, *at);
+            put(rt, pairs, *at, *pair);
+            return Reply::Out(old);
+        }
         Call::By(at, BySpot::InsertBefore(pair)) => put(rt, pairs, *at, *pair),
         Call::By(at, BySpot::InsertAfter(pair)) => put(rt, pairs, at.wrapping_add(1), *pair),
         Call::By(at, BySpot::Write(key)) => {
