@@ -2,6 +2,7 @@
 //! and says in words of its own subject what it promises.
 #![tactic(auto)]
 
+pub mod logger;
 pub mod mailbox;
 pub mod pool;
 pub mod run_queue;
