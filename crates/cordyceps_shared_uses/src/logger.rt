@@ -139,7 +139,7 @@ fn store_until_end<R: Wait>(
     let mut log = Vec::new(alloc);
     let mut consumer = queue.consume(rt, party);
     for _ in rt.forever() {
-        // asked before the queue is: after the end a queue that has nothing stays so
+        // asked before the take: if all senders have ended by now, nothing comes after what it finds
         let is_end = have_ended.load(Ordering::SeqCst);
         match consumer.take_linked(max) {
             Ok(batch) => store(&mut log, batch)?,
