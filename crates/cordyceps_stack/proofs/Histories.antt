@@ -1,5 +1,5 @@
 -- How a history goes on.
-use Rattle.std.proofs.Common.{◌≡◌, List, [], ◌∷◌, ◌++◌, reverse, refl, ap, sym, ◌∙◌, subst, inl, inr, ◌⊎◌, append_assoc}
+use Rattle.std.proofs.Common.{◌≡◌, List, [], ◌∷◌, ◌++◌, reverse, map, refl, ap, sym, ◌∙◌, subst, inl, inr, ◌⊎◌, append_assoc}
 use Rattle.cordyceps_stack.specs.History.{Event, Load, Push, Taken, held, held_from, held_after, Legal, NoLoad, NoTaken, IsByAnother, SomeByAnother, LastLoad, LastBatch, pushes, taken_elements, IsChange, SomeChange}
 use Rattle.std.proofs.lemmas.List.{append-nil, reverse-reverse}
 
@@ -120,6 +120,20 @@ module _ {P E : Type 0} where
   change_more [] k s = absurd s
   change_more (v ∷ h) k (inl s) = inl s
   change_more (v ∷ h) k (inr s) = inr (change_more h k s)
+
+  pub change_after : (h k : List (Event P E)) → SomeChange k → SomeChange (h ++ k)
+  change_after [] k s = s
+  change_after (v ∷ h) k s = inr (change_after h k s)
+
+  -- ---- several pushes one after another
+  pub held_pushes : (p : P) (es held : List E) → held_from held (map (Push p) es) ≡ held ++ es
+  held_pushes p [] held = sym (append-nil held)
+  held_pushes p (e ∷ es) held = held_pushes p es (held ++ e ∷ []) ∙ append_assoc held (e ∷ []) es
+
+  pub legal_pushes : (h : List (Event P E)) (p : P) (es : List E) → Legal h → Legal (h ++ map (Push p) es)
+  legal_pushes h p [] l = subst (λ k. Legal k) (sym (append-nil h)) l
+  legal_pushes h p (e ∷ es) l =
+      subst (λ k. Legal k) (append_assoc h (Push p e ∷ []) (map (Push p) es)) (legal_pushes (h ++ Push p e ∷ []) p es (legal_more h (Push p e) l tt))
 
   pub change_last : (h : List (Event P E)) (v : Event P E) → IsChange v → SomeChange (h ++ v ∷ [])
   change_last [] v s = inl s

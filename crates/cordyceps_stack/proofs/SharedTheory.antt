@@ -1,5 +1,7 @@
 -- Lemmas on what threads share.
 pub mod CallsHold
+pub mod ChainJoins
+pub mod ChainKeeps
 pub mod OrderHolds
 pub mod PartingKeeps
 pub mod PartsJoin

@@ -1,10 +1,10 @@
 //! The part of a free list that threads share.
-ghost use Rattle.std.specs.Prelude.{◌≡◌, ◌<◌, ◌≤◌, [], map, reverse, true, is_ok, MatchResult, IfOk};
+ghost use Rattle.std.specs.Prelude.{◌≡◌, ◌<◌, ◌≤◌, ℕ, suc, List, [], length, map, reverse, true, is_ok, MatchResult, IfOk};
 ghost use Rattle.cordyceps_shared.specs.Histories.{plain};
 ghost use Rattle.cordyceps_shared.specs.Shares.{whole};
 ghost use Rattle.cordyceps_shared.specs.Standings.{new_party, keeping, giving, Absorbs};
 ghost use Rattle.cordyceps_stack.specs.History.{held, Legal};
-ghost use Rattle.cordyceps_stack.specs.Shared.Calls.{PushesAt, Misses};
+ghost use Rattle.cordyceps_stack.specs.Shared.Calls.{PushesAt, PushesAllAt, Misses};
 
 use crate::local::Local;
 use cordyceps_base::linked::Linked;
@@ -13,6 +13,7 @@ use cordyceps_shared::required;
 use cordyceps_stack::stack::{MAX_ROOMS, Party, Stack, TransferStack};
 use std::alloc::{AllocError, Global};
 use std::marker::Model;
+use std::sync::Wait;
 
 /// A free list that threads share: they put blocks back, and their owner takes them. A handle owns a block. Each block
 /// is with a user, in a `Local` or shared, and in one of these only.
@@ -95,6 +96,28 @@ impl<T: Linked<Links<T>>> FreeList<T> {
     {
         required::a_free_room(party.rooms());
         self.shared.try_push(party, handle)
+    }
+
+    /// Puts all blocks of a stack back for all at one step, and returns `true` if no block was shared just before. The
+    /// owner gets them in their order: the block that `blocks` would pop first comes first. Requires that the party has
+    /// as many rooms, which the blocks then use. If there is no block, it only looks whether one is shared.
+    ///
+    /// # Complexity
+    /// O(n + t), for n blocks and t tries: a load of another word, a step on each of n rooms, and then for each try one
+    /// load and one compare-exchange of the head.
+    ///
+    /// # Waits
+    /// While other parties put blocks back, or take all, between its steps it tries again, and pauses from the second
+    /// failure on. If they do so without end, it never returns. A whole party succeeds at its first try.
+    pub fn put_remote_all<R: Wait>(&self, rt: &R, party: &mut Party<T>, blocks: Stack<T>) -> bool
+        requires table { party.old.table ≡ self.now }
+        requires rooms { length blocks ≤ party.old.rooms }
+        ensures shared { (shared : List T.Handle) × (blocks ≡ map T.element shared)
+            × ((tries : ℕ) × PushesAllAt (suc tries) shared result party.old party.new) }
+        ensures whole { party.old.share ≡ whole → (shared : List T.Handle) × (blocks ≡ map T.element shared)
+            × PushesAllAt 1 shared result party.old party.new }
+    {
+        self.shared.push_all(rt, party, blocks)
     }
 
     /// Splits a new party off `party`, which gives it `rooms` of its rooms and a part of its share. The new party has

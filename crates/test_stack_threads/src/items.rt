@@ -1,4 +1,6 @@
 //! Elements of a shared stack, which count how often they were taken, and what a stack pops.
+ghost use Rattle.std.specs.Prelude.{◌≡◌, length};
+
 use crate::compared::{made, same};
 use cordyceps_base::node::Node;
 use cordyceps_stack::stack::{Links, Stack};
@@ -32,6 +34,24 @@ pub fn stock(
         stock.push(element(rt, alloc, number, drops));
     }
     stock
+}
+
+/// Returns so many elements as `stock` does.
+pub fn batch(
+    rt: &impl Abort,
+    alloc: Global,
+    first: u64,
+    count: usize,
+    drops: &Drops,
+) -> Stack<Counted>
+    ensures { length result ≡ count }
+{
+    let mut batch = Stack::new();
+    for pushed in 0..count {
+        let number = first.wrapping_add((count - 1 - pushed) as u64);
+        batch.push(element(rt, alloc, number, drops));
+    }
+    batch
 }
 
 /// Asserts how many drops were counted.

@@ -13,14 +13,14 @@ use Rattle.cordyceps_shared.proofs.Adding.{keeps_not_whole, not_whole, plain_unm
 use Rattle.cordyceps_shared.proofs.Places.{near_drop, near_take, near_append}
 use Rattle.cordyceps_shared.proofs.Naming.{joined_some, joined_disjoint, keeps_some, gives_some}
 use Rattle.cordyceps_shared.proofs.Ordering.{whole_share, keeps_share, gives_share, joined_share}
-use Rattle.cordyceps_stack.specs.Shared.Parts.{HasTried, HasPushed, HasMissed, TookAll, EmptiesHand, HasAbsorbed, standing, IsSeated}
+use Rattle.cordyceps_stack.specs.Shared.Parts.{HasTried, HasPushed, HasPushedAll, HasMissed, TookAll, EmptiesHand, HasAbsorbed, standing, IsSeated}
 use Rattle.cordyceps_shared.specs.declared.free.FreeRooms.{FreeRooms}
 use Rattle.cordyceps_stack.specs.History.{Event, Load, Push, Taken, held, Legal, actor}
 use Rattle.cordyceps_stack.specs.Cores.Stages.{room_elements}
 use Rattle.cordyceps_stack.specs.Shared.Plays.{SeatState, Sees, to_hand_out}
 use Rattle.cordyceps_stack.specs.Shared.Parting.{view_keeping, view_giving, view_absorbing}
 use Rattle.cordyceps_stack.specs.Shared.Rule.{IsTable}
-use Rattle.cordyceps_stack.specs.Shared.Calls.{PartyOf, PushesAt, Misses, Takes, Looks, Adds, EndsLooked}
+use Rattle.cordyceps_stack.specs.Shared.Calls.{PartyOf, PushesAt, PushesAllAt, Misses, Takes, Looks, Adds, EndsLooked, pushes_of}
 use Rattle.cordyceps_stack.specs.Shared.View.{View, newcomer, name}
 use Rattle.cordyceps_stack.specs.Shared.Order.{crosswise}
 use Rattle.cordyceps_stack.proofs.SharedTheory.OrderHolds.{order_length, order_at, tracks_new}
@@ -113,6 +113,9 @@ module _ {E : Type 0} where
 
   pub pushes_at : (z z' : TableId) (tries : ℕ) (x : E) (first : Bool) (m k : SeatState E) → HasPushed tries x first m k → z' ≡ z → PushesAt tries x first (standing z m.0) (standing z' k.0)
   pushes_at z z' tries x first m k h at = (adds z z' m.0 k.0 (replicate tries (Load (name m.0)) ++ Push (name m.0) x ∷ []) h.sees at, h.ends, h.free)
+
+  pub pushes_all_at : (z z' : TableId) (tries : ℕ) (es : List E) (first : Bool) (m k : SeatState E) → HasPushedAll tries es first m k → z' ≡ z → PushesAllAt tries es first (standing z m.0) (standing z' k.0)
+  pushes_all_at z z' tries es first m k h at = (adds z z' m.0 k.0 (replicate tries (Load (name m.0)) ++ pushes_of (name m.0) es) h.sees at, h.ends, h.free)
 
   pub misses_once : (z z' : TableId) (m k : SeatState E) → HasMissed m k → z' ≡ z → Misses (standing z m.0) (standing z' k.0)
   misses_once z z' m k h at = (adds z z' m.0 k.0 (Load (name m.0) ∷ []) h.sees at, h.overtaken, ap (λ (ys : FreeChain). length ys.rooms) h.free)

@@ -25,7 +25,7 @@ use Rattle.cordyceps_stack.specs.Shared.View.{Idle, Holding, View, name, taking,
 use Rattle.cordyceps_stack.proofs.SharedTheory.SlotMoves.{vacant_append, last_vacant, leads_append}
 use Rattle.cordyceps_stack.proofs.SharedTheory.WordsKeep.{rooms_taking}
 
-none_there : (xs : List ℕ) → length xs ≡ 0 → xs ≡ []
+pub none_there : (xs : List ℕ) → length xs ≡ 0 → xs ≡ []
 none_there [] e = refl
 none_there (x ∷ xs) e = absurd (omega arith)
 
@@ -41,7 +41,7 @@ module _ {E : Type 0} where
   then_pushed : (v w k : View E) (x : E) → Sees v (Load (name v) ∷ []) w → Sees w (Push (name w) x ∷ []) k → Sees v (Load (name v) ∷ Push (name v) x ∷ []) k
   then_pushed v w k x a b = grown_then actor (λ h. Legal h) v.known w.known k.known (Load (name v) ∷ []) (Push (name v) x ∷ []) a (subst (λ n. Sees w (Push n x ∷ []) k) (ap first_name a.share) b)
 
-  then_missed : (v w k : View E) → Sees v (Load (name v) ∷ []) w → Sees w [] k → Sees v (Load (name v) ∷ []) k
+  pub then_missed : (v w k : View E) → Sees v (Load (name v) ∷ []) w → Sees w [] k → Sees v (Load (name v) ∷ []) k
   then_missed v w k a b = grown_then actor (λ h. Legal h) v.known w.known k.known (Load (name v) ∷ []) [] a b
 
   -- ---- tries
@@ -53,10 +53,10 @@ module _ {E : Type 0} where
   tried_share v w (inl e) = ap (λ (z : Known (Event Name E)). z.share) e
   tried_share v w (inr t) = t.1.share
 
-  tried_name : (v w : View E) → Tried v w → name w ≡ name v
+  pub tried_name : (v w : View E) → Tried v w → name w ≡ name v
   tried_name v w tried = ap first_name (tried_share v w tried)
 
-  loads_then : (v w k : View E) (tries : ℕ) (es : Name → List (Event Name E)) → Sees v (replicate tries (Load (name v))) w → Sees w (Load (name w) ∷ es (name w)) k
+  pub loads_then : (v w k : View E) (tries : ℕ) (es : Name → List (Event Name E)) → Sees v (replicate tries (Load (name v))) w → Sees w (Load (name w) ∷ es (name w)) k
       → Sees v (replicate (suc tries) (Load (name v)) ++ es (name v)) k
   loads_then v w k tries es a b =
       subst (λ xs. Sees v xs k) (replicate_more tries (Load (name v)) (es (name v)))
@@ -239,7 +239,7 @@ pub record NextFree (at : ℕ) (left : List ℕ) (end : ℕ) : Type 0 where
   pub is : left ≡ here ∷ others
   pub at_is : at ≡ suc here
 
-next_free_of : (at : ℕ) (left : List ℕ) (end : ℕ) → at ≡ leads left end → 0 < length left → NextFree at left end
+pub next_free_of : (at : ℕ) (left : List ℕ) (end : ℕ) → at ≡ leads left end → 0 < length left → NextFree at left end
 next_free_of at [] end is some_of = absurd (omega arith)
 next_free_of at (r ∷ rs) end is some_of = record { here = r; others = rs; is = refl; at_is = is }
 

@@ -12,13 +12,34 @@ use Rattle.cordyceps_shared.specs.FreeChains.{FreeChain, leads, end_after, first
 use Rattle.cordyceps_shared.proofs.Counting.{one_here, one_else}
 use Rattle.cordyceps_shared.proofs.Telling.{at_length}
 use Rattle.cordyceps_stack.specs.declared.shared.slot.Slot.{Slot}
-use Rattle.cordyceps_stack.specs.Shared.Slots.{Homes, Hand, rooms_of, vacant, in_use, all_vacant, AtHome, last_link}
+use Rattle.cordyceps_stack.specs.Shared.Slots.{Homes, Hand, start, rooms_of, filled, vacant, in_use, in_use_to, all_vacant, AtHome, last_link}
 
 -- ---- the rooms of slots
 module _ {E : Type 0} where
   pub rooms_in_use : (xs : List (ℕ × E)) → rooms_of (in_use xs) ≡ rooms_of xs
   rooms_in_use [] = refl
   rooms_in_use (x ∷ xs) = ap (λ rs. x.0 ∷ rs) (rooms_in_use xs)
+
+  pub rooms_to : (xs : List (ℕ × E)) (end : ℕ) → rooms_of (in_use_to xs end) ≡ rooms_of xs
+  rooms_to [] end = refl
+  rooms_to (x ∷ xs) end = ap (λ rs. x.0 ∷ rs) (rooms_to xs end)
+
+  -- ---- rooms in use above others
+  pub start_onto : (xs ys : List (ℕ × E)) → start (xs ++ ys) ≡ leads (rooms_of xs) (start ys)
+  start_onto [] ys = refl
+  start_onto (x ∷ xs) ys = refl
+
+  pub in_use_onto : (xs ys : List (ℕ × E)) → in_use (xs ++ ys) ≡ in_use_to xs (start ys) ++ in_use ys
+  in_use_onto [] ys = refl
+  in_use_onto (x ∷ xs) ys = λ i. (x.0, filled x.1 (start_onto xs ys i)) ∷ in_use_onto xs ys i
+
+  leads_last : (xs : List (ℕ × E)) (r end : ℕ) (x : E) → leads (rooms_of (xs ++ (r, x) ∷ [])) end ≡ leads (rooms_of xs) (suc r)
+  leads_last [] r end x = refl
+  leads_last (y ∷ ys) r end x = refl
+
+  pub in_use_last : (xs : List (ℕ × E)) (r end : ℕ) (x : E) → in_use_to (xs ++ (r, x) ∷ []) end ≡ in_use_to xs (suc r) ++ (r, filled x end) ∷ []
+  in_use_last [] r end x = refl
+  in_use_last (y ∷ ys) r end x = λ i. (y.0, filled y.1 (leads_last ys r end x i)) ∷ in_use_last ys r end x i
 
 pub leads_append : (xs ys : List ℕ) (end : ℕ) → leads (xs ++ ys) end ≡ leads xs (leads ys end)
 leads_append [] ys end = refl

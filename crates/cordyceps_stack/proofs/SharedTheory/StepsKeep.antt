@@ -47,7 +47,7 @@ read_of (Loaded r read) = read
 read_of d = 0
 
 -- what is in the first slot in hand
-abbrev slot_or : {A : Type 0} → A → List (ℕ × A) → A
+abbrev pub slot_or : {A : Type 0} → A → List (ℕ × A) → A
 slot_or d [] = d
 slot_or d (x ∷ xs) = x.1
 
@@ -78,13 +78,13 @@ module _ {E : Type 0} where
       let t = start_empty chain in
       (λ e. reverse_none es (sym holds ∙ t.0 (sym is ∙ e)), λ e. is ∙ t.1 (holds ∙ ap (λ z. reverse z) e))
 
-  head_marked : (s : TableState E) (k : RuleHolds s) (id : ℕ) → (head s.words ≡ 0) ↔ (held (plain (with_marks id k.history)) ≡ [])
+  pub head_marked : (s : TableState E) (k : RuleHolds s) (id : ℕ) → (head s.words ≡ 0) ↔ (held (plain (with_marks id k.history)) ≡ [])
   head_marked s k id = subst (λ (z : List (Event Name E)). (head s.words ≡ 0) ↔ (held z ≡ [])) (sym (plain_marked id k.history))
       (head_says k.chain (held (events k.history)) (head s.words) k.meets.top k.meets.holds)
 
   -- ---- what a step keeps
   -- the party j sees all, and adds these events
-  told : (s : TableState E) (k : RuleHolds s) (j : ℕ) (es : List (Event Name E)) (v w : View E) (h : History E) → get_elem? s.views j ≡ some v → v.known.share ≢ [] → Under actor (name v) es → h ≡ k.history ++ of_seat j es
+  pub told : (s : TableState E) (k : RuleHolds s) (j : ℕ) (es : List (Event Name E)) (v w : View E) (h : History E) → get_elem? s.views j ≡ some v → v.known.share ≢ [] → Under actor (name v) es → h ≡ k.history ++ of_seat j es
       → w.known ≡ all_seen j h v.known.share → Legal (events h) → SharesDisjoint knows (set s.views j w) h × AllAgree actor knows (set s.views j w) h × Sees v es w
   told s k j es v w h at named under is sees legal =
       let t = tells actor knows (λ z. Legal z) s.views k.history j es v w k.owned k.fits at named under (sees ∙ ap (λ z. all_seen j z v.known.share) is) (subst (λ z. Legal (events z)) is legal) in
@@ -119,7 +119,7 @@ module _ {E : Type 0} where
   alone_of : (s : TableState E) (k : RuleHolds s) (j i : ℕ) (v u : View E) (r : ℕ) → get_elem? s.views j ≡ some v → i ≢ j → get_elem? s.views i ≡ some u → 1 ≤ count_with_party r u → count_with_party r v ≡ 0
   alone_of s k j i v u r at other there one = let few = k.meets.apart r in let both = tally_two (count_with_party r) s.views i j u v other there at in omega arith
 
-  once : (s : TableState E) (k : RuleHolds s) (j : ℕ) (v : View E) (r : ℕ) → get_elem? s.views j ≡ some v → count_with_party r v ≤ 1
+  pub once : (s : TableState E) (k : RuleHolds s) (j : ℕ) (v : View E) (r : ℕ) → get_elem? s.views j ≡ some v → count_with_party r v ≤ 1
   once s k j v r at = let few = k.meets.apart r in let mine = tally_one (count_with_party r) s.views j v at in omega arith
 
   -- a party has at most as many free rooms as there are slots
@@ -128,11 +128,11 @@ module _ {E : Type 0} where
       (λ r m. home_near s.homes (all_vacant v.free.rooms v.free.end) (k.free j v at) r (subst (λ l. 1 ≤ times r l) (sym (rooms_vacant E v.free.rooms v.free.end)) m))
 
   -- where only slots of the party j change, the chain's stay, and those of the others
-  chain_stays : (s : TableState E) (k : RuleHolds s) (j : ℕ) (v : View E) (homes : Homes E) → get_elem? s.views j ≡ some v → ((r : ℕ) → count_with_party r v ≡ 0 → get_elem? homes r ≡ get_elem? s.homes r) → AtHome homes (in_use k.chain)
+  pub chain_stays : (s : TableState E) (k : RuleHolds s) (j : ℕ) (v : View E) (homes : Homes E) → get_elem? s.views j ≡ some v → ((r : ℕ) → count_with_party r v ≡ 0 → get_elem? homes r ≡ get_elem? s.homes r) → AtHome homes (in_use k.chain)
   chain_stays s k j v homes at same = home_frame s.homes homes (in_use k.chain)
       (λ r m. same r (let here = subst (λ l. 1 ≤ times r l) (rooms_in_use k.chain) m in let few = k.meets.apart r in let mine = tally_one (count_with_party r) s.views j v at in omega arith)) k.full
 
-  others_stay : (s : TableState E) (k : RuleHolds s) (j : ℕ) (v : View E) (homes : Homes E) → get_elem? s.views j ≡ some v → ((r : ℕ) → count_with_party r v ≡ 0 → get_elem? homes r ≡ get_elem? s.homes r)
+  pub others_stay : (s : TableState E) (k : RuleHolds s) (j : ℕ) (v : View E) (homes : Homes E) → get_elem? s.views j ≡ some v → ((r : ℕ) → count_with_party r v ≡ 0 → get_elem? homes r ≡ get_elem? s.homes r)
       → (i : ℕ) (u : View E) (r : ℕ) → i ≢ j → get_elem? s.views i ≡ some u → 1 ≤ times r u.free.rooms → get_elem? homes r ≡ get_elem? s.homes r
   others_stay s k j v homes at same i u r other there m = same r (alone_of s k j i v u r at other there (omega arith))
 
@@ -147,7 +147,7 @@ module _ {E : Type 0} where
       (owned_same knows s.views k.history j v w at (ap (λ (z : Known (Event Name E)). z.share) known) k.owned))
 
   -- the view after a step at which the party saw all
-  abbrev view_after : View E → ℕ → History E → FreeChain → Doing E → View E
+  abbrev pub view_after : View E → ℕ → History E → FreeChain → Doing E → View E
   view_after v j h free doing = record { known = all_seen j h v.known.share; free = free; doing = doing }
 
   -- ---- loads of head
@@ -231,7 +231,7 @@ module _ {E : Type 0} where
 
   -- ---- an exchange of head
   -- what a party saw that loaded another head
-  overtaken : (s : TableState E) (k : RuleHolds s) (id read : ℕ) → Since s.words k.history id read → head s.words ≢ read → IsOvertaken (with_marks id k.history)
+  pub overtaken : (s : TableState E) (k : RuleHolds s) (id read : ℕ) → Since s.words k.history id read → head s.words ≢ read → IsOvertaken (with_marks id k.history)
   overtaken s k id read since miss =
       let x : Event Name E = Load since.name in record {
         before = with_marks id since.before;
@@ -250,12 +250,12 @@ module _ {E : Type 0} where
     pub inside : r < slots
 
   -- a step that is allowed, after which the seat is k
-  record Passes (s : TableState E) (id i n : ℕ) (me : SeatState E) (After : SeatState E → Type 0) : Type 0 where
-    view : View E
-    act : Act (Slot E)
-    valid : Valid s.homes me.1 act
-    holds : RuleHolds (stepped s i n id me.1 view act)
-    after : After (view, carried_after me.1 act)
+  pub record Passes (s : TableState E) (id i n : ℕ) (me : SeatState E) (After : SeatState E → Type 0) : Type 0 where
+    pub view : View E
+    pub act : Act (Slot E)
+    pub valid : Valid s.homes me.1 act
+    pub holds : RuleHolds (stepped s i n id me.1 view act)
+    pub after : After (view, carried_after me.1 act)
 
   hits : (slots id : ℕ) (me : SeatState E) (r read : ℕ) (x : E) → Poised slots me r read x → (s : TableState E) (k : RuleHolds s) → length s.homes ≡ slots → get_elem? s.views id ≡ some me.0
       → head s.words ≡ read → Passes s id HEAD (suc r) me (HasHit x (head s.words) me)

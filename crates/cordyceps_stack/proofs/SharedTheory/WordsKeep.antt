@@ -1,24 +1,28 @@
 -- Each step of a party keeps the word head of a transfer stack beside its history.
-use Rattle.std.proofs.Common.{◌≡◌, ◌≢◌, ◌⊎◌, ℕ, suc, ◌+◌, ◌≤◌, ◌<◌, List, [], ◌∷◌, ◌++◌, reverse, length, set, eqb, refl, sym, ap, ◌∙◌, subst, inl, inr, ⊎_elim, arith, append_assoc}
-use Rattle.std.proofs.lemmas.List.{reverse-append}
+use Rattle.std.proofs.Common.{◌≡◌, ◌≢◌, ◌⊎◌, ℕ, suc, ◌+◌, ◌≤◌, ◌<◌, List, [], ◌∷◌, ◌++◌, map, reverse, length, set, eqb, refl, sym, ap, ◌∙◌, subst, inl, inr, ⊎_elim, arith, append_assoc}
+use Rattle.std.proofs.lemmas.List.{reverse-append, reverse-reverse, map-append}
 use mathlib.Core.Option.{some}
 use lib.ListN.{get_elem?}
 use Rattle.atomic_table.proofs.Lists.{at_snoc}
 use Rattle.cordyceps_shared.specs.Counts.{one_if, times}
-use Rattle.cordyceps_shared.specs.Histories.{events}
+use Rattle.cordyceps_shared.specs.FreeChains.{leads}
+use Rattle.cordyceps_shared.specs.Histories.{events, of_seat}
 use Rattle.cordyceps_shared.specs.Shares.{Name}
 use Rattle.cordyceps_shared.specs.Words.{head}
 use Rattle.cordyceps_shared.specs.declared.layout.TheConstants.{HEAD}
 use Rattle.cordyceps_shared.proofs.Changing.{one_set}
-use Rattle.cordyceps_shared.proofs.Counting.{tally_set, tally_snoc}
+use Rattle.cordyceps_shared.proofs.Counting.{tally_set, tally_snoc, tally_append}
 use Rattle.cordyceps_shared.proofs.Seeing.{events_more, without_more}
 use Rattle.cordyceps_shared.proofs.Words.{head_set}
 use Rattle.cordyceps_stack.specs.History.{Event, Load, Push, Taken, held, held_after, Legal, IsChange, SomeChange}
 use Rattle.cordyceps_stack.specs.Cores.Stages.{room_elements}
+use Rattle.cordyceps_stack.specs.Shared.Calls.{pushes_of}
+use Rattle.cordyceps_stack.specs.Shared.Plays.{rooms_then, elements_then}
 use Rattle.cordyceps_stack.specs.Shared.Slots.{start, rooms_of}
-use Rattle.cordyceps_stack.specs.Shared.View.{Doing, Idle, Loaded, Holding, Walking, View, taking, held_rooms, in_chain, count_with_party}
+use Rattle.cordyceps_stack.specs.Shared.View.{Doing, Idle, Loaded, LoadedAll, Holding, Walking, View, taking, held_rooms, in_chain, count_with_party}
 use Rattle.cordyceps_stack.specs.Shared.Words.{History, Since, AtDoing, WordsMeet}
-use Rattle.cordyceps_stack.proofs.Histories.{MayFollow, held_more, legal_more, change_more, change_last}
+use Rattle.cordyceps_stack.proofs.Histories.{MayFollow, held_more, held_from-append, legal_more, change_more, change_last, change_after, held_pushes, legal_pushes}
+use Rattle.cordyceps_stack.proofs.SharedTheory.SlotMoves.{start_onto}
 
 module _ {E : Type 0} where
   -- what a party has loaded stays loaded while others step
@@ -41,6 +45,7 @@ module _ {E : Type 0} where
   pub does_frame : (ws ws' : List ℕ) (h h' : History E) (j : ℕ) (doing : Doing E) → ((read : ℕ) → Since ws h j read → Since ws' h' j read) → AtDoing ws h j doing → AtDoing ws' h' j doing
   does_frame ws ws' h h' j Idle since k = tt
   does_frame ws ws' h h' j (Loaded r read) since k = since read k
+  does_frame ws ws' h h' j (LoadedAll rooms read) since k = since read k
   does_frame ws ws' h h' j (Holding rooms) since k = tt
   does_frame ws ws' h h' j (Walking xs) since k = tt
 
@@ -101,6 +106,47 @@ module _ {E : Type 0} where
       (λ s. let a : count_with_party s w ≡ times s v.free.rooms + 0 = (λ i. times s (free i).rooms + times s (held_rooms (now i))) in let b : count_with_party s v ≡ times s v.free.rooms + (one_if (eqb r s) + 0) = ap (λ l. times s v.free.rooms + times s l) was in omega arith)
       (subst (λ (d : Doing E). AtDoing ws' h' j d) (sym now) tt)
       (λ i read other. since_event ws ws' h i read j (Push n x) (λ z. other (sym z)) (inr tt))
+
+  -- several pushes of the party i
+  since_pushes : (ws ws' : List ℕ) (h : History E) (j read i : ℕ) (es : List (Event Name E)) → i ≢ j → SomeChange es → Since ws h j read → Since ws' (h ++ of_seat i es) j read
+  since_pushes ws ws' h j read i es other moved s = record {
+    before = s.before;
+    name = s.name;
+    later = s.later ++ of_seat i es;
+    is = ap (λ (z : History E). z ++ of_seat i es) s.is ∙ append_assoc s.before ((j, Load s.name) ∷ s.later) (of_seat i es);
+    none = without_more j s.later i es other s.none;
+    same = inr (subst (λ l. SomeChange l) (sym (events_more s.later i es)) (change_after (events s.later) es moved));
+  }
+
+  pub elements_onto : (xs ys : List (ℕ × E)) → room_elements (xs ++ ys) ≡ room_elements xs ++ room_elements ys
+  elements_onto [] ys = refl
+  elements_onto (x ∷ xs) ys = ap (λ l. x.1 ∷ l) (elements_onto xs ys)
+
+  some_push : (n : Name) (es : List E) (x : E) → SomeChange (pushes_of n (es ++ x ∷ []))
+  some_push n es x = subst (λ l. SomeChange (map (Push n) l)) (sym (reverse-append es (x ∷ []))) (inl tt)
+
+  pub pushes_all : (ws : List ℕ) (chain : List (ℕ × E)) (views : List (View E)) (h : History E) (j : ℕ) (v w : View E) (before : List (ℕ × E)) (r : ℕ) (n : Name) (x : E) → WordsMeet ws chain views h → get_elem? views j ≡ some v
+      → held_rooms v.doing ≡ rooms_then before r → w.doing ≡ Idle → w.free ≡ v.free → HEAD < length ws
+      → WordsMeet (set ws HEAD (leads (rooms_of before) (suc r))) (before ++ (r, x) ∷ chain) (set views j w) (h ++ of_seat j (pushes_of n (elements_then before x)))
+  pushes_all ws chain views h j v w before r n x m at was now free inside =
+      let first = leads (rooms_of before) (suc r) in
+      let ws' = set ws HEAD first in
+      let chain' = before ++ (r, x) ∷ chain in
+      let es = elements_then before x in
+      let h' = h ++ of_seat j (pushes_of n es) in
+      let more : events h' ≡ events h ++ pushes_of n es = events_more h j (pushes_of n es) in
+      let old = held (events h) in
+      let held_now : held (events h') ≡ old ++ reverse es = ap (λ z. held z) more ∙ (held_from-append [] (events h) (pushes_of n es) ∙ held_pushes n (reverse es) old) in
+      advance ws ws' chain chain' views h h' j v w m at (subst (λ z. Legal z) (sym more) (legal_pushes (events h) n (reverse es) m.legal))
+      (head_set ws first inside ∙ sym (start_onto before ((r, x) ∷ chain)))
+      (elements_onto before ((r, x) ∷ chain) ∙ (sym (append_assoc (room_elements before) (x ∷ []) (room_elements chain)) ∙ ((λ i. sym (reverse-reverse es) i ++ m.holds i) ∙ (sym (reverse-append old (reverse es)) ∙ ap (λ z. reverse z) (sym held_now)))))
+      (λ s.
+          let a : count_with_party s w ≡ times s v.free.rooms + 0 = (λ i. times s (free i).rooms + times s (held_rooms (now i))) in
+          let b : count_with_party s v ≡ times s v.free.rooms + times s (rooms_then before r) = ap (λ l. times s v.free.rooms + times s l) was in
+          let c : in_chain s chain' ≡ times s (rooms_of before ++ r ∷ rooms_of chain) = ap (times s) (map-append (λ (y : ℕ × E). y.0) before ((r, x) ∷ chain)) in
+          omega (arith, tally_append (λ p. one_if (eqb p s)) (rooms_of before) (r ∷ rooms_of chain), tally_append (λ p. one_if (eqb p s)) (rooms_of before) (r ∷ [])))
+      (subst (λ (d : Doing E). AtDoing ws' h' j d) (sym now) tt)
+      (λ i read other. since_pushes ws ws' h i read j (pushes_of n es) (λ z. other (sym z)) (some_push n (room_elements before) x))
 
   pub takes_chain : (ws : List ℕ) (chain : List (ℕ × E)) (views : List (View E)) (h : History E) (j : ℕ) (v w : View E) (n : Name) → WordsMeet ws chain views h → get_elem? views j ≡ some v
       → v.doing ≡ Idle → w.doing ≡ taking chain → w.free ≡ v.free → HEAD < length ws

@@ -1,5 +1,5 @@
 -- What the calls of a shared transfer stack promise: of the party u before, and of the party w after.
-use Rattle.std.specs.Prelude.{◌≡◌, ◌↔◌, ℕ, suc, ◌+◌, List, [], ◌∷◌, ◌++◌, length, replicate, Bool, true, IsTrue}
+use Rattle.std.specs.Prelude.{◌≡◌, ◌↔◌, ℕ, suc, ◌+◌, List, [], ◌∷◌, ◌++◌, length, replicate, Bool, true, IsTrue, map, reverse}
 use Rattle.cordyceps_shared.specs.Histories.{plain, own}
 use Rattle.cordyceps_shared.specs.Shares.{Name}
 use Rattle.cordyceps_shared.specs.Standings.{Standing, name_of}
@@ -15,6 +15,16 @@ module _ {E : Type 0} where
   pub record EndsPushed (e : E) (First : Type 0) (n : Name) (seen : List (Bool × Event Name E)) : Type 0 where
     pub before : List (Bool × Event Name E)
     pub is : seen ≡ before ++ (true, Push n e) ∷ []
+    pub first : First ↔ (held (plain before) ≡ [])
+
+  -- the events of a push of all these elements at one step: the last one first
+  abbrev pub pushes_of : Name → List E → List (Event Name E)
+  pushes_of n es = map (Push n) (reverse es)
+
+  -- what was seen ends with the pushes of all es, and First holds exactly where nothing was held just before them
+  pub record EndsPushedAll (es : List E) (First : Type 0) (n : Name) (seen : List (Bool × Event Name E)) : Type 0 where
+    pub before : List (Bool × Event Name E)
+    pub is : seen ≡ before ++ map (λ v. (true, v)) (pushes_of n es)
     pub first : First ↔ (held (plain before) ≡ [])
 
   -- what was seen ends with the party's load, and None holds exactly where nothing is held at it
@@ -41,6 +51,13 @@ module _ {E : Type 0} where
   PushesAt n e first u w =
       Adds u (replicate n (Load (name_of u)) ++ Push (name_of u) e ∷ []) w
       × EndsPushed e (IsTrue first) (name_of u) w.seen × (u.rooms ≡ suc w.rooms)
+
+  -- it pushed all es at its n-th try, which took a room each. The last was pushed first, so they are held in their order
+  -- above what was held before, and `first` tells whether that was nothing
+  abbrev pub PushesAllAt : ℕ → List E → Bool → PartyOf E → PartyOf E → Type 0
+  PushesAllAt n es first u w =
+      Adds u (replicate n (Load (name_of u)) ++ pushes_of (name_of u) es) w
+      × EndsPushedAll es (IsTrue first) (name_of u) w.seen × (u.rooms ≡ length es + w.rooms)
 
   -- it tried to push, and another came between
   abbrev pub Misses : PartyOf E → PartyOf E → Type 0

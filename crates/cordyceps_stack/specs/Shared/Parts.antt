@@ -1,5 +1,5 @@
 -- What the parts of a call on a shared transfer stack leave: of the party's seat m before, and of its seat k after.
-use Rattle.std.specs.Prelude.{◌≡◌, ℕ, suc, ◌+◌, [], ◌∷◌, ◌++◌, length, replicate, Bool, true, false, Option}
+use Rattle.std.specs.Prelude.{◌≡◌, ℕ, suc, ◌+◌, List, [], ◌∷◌, ◌++◌, length, replicate, Bool, true, false, Option}
 use Rattle.std.specs.Prelude.{IsTrue, MatchOption}
 use Rattle.atomic_table.specs.Seated.{TableId}
 use Rattle.cordyceps_shared.specs.FreeChains.{leads, with_first, first_rooms, rest_rooms, Tracks}
@@ -10,9 +10,9 @@ use Rattle.cordyceps_stack.specs.History.{Load, Push, Taken, Legal}
 use Rattle.cordyceps_stack.specs.Cores.Stages.{room_elements}
 use Rattle.cordyceps_stack.specs.Shared.Parting.{view_absorbing, view_without_told}
 use Rattle.cordyceps_stack.specs.Shared.Plays.{SeatState, Sees, HasHit, HasFailed, IsResting, IsReady, IsWalking}
-use Rattle.cordyceps_stack.specs.Shared.Plays.{to_hand_out}
+use Rattle.cordyceps_stack.specs.Shared.Plays.{IsReadyAll, elements_then, to_hand_out}
 use Rattle.cordyceps_stack.specs.Shared.Rule.{IsTable}
-use Rattle.cordyceps_stack.specs.Shared.Calls.{PartyOf, EndsPushed, IsOvertaken}
+use Rattle.cordyceps_stack.specs.Shared.Calls.{PartyOf, EndsPushed, EndsPushedAll, IsOvertaken, pushes_of}
 use Rattle.cordyceps_stack.specs.Shared.Slots.{view, hand, start, all_vacant}
 use Rattle.cordyceps_stack.specs.Shared.View.{Idle, Holding, View, name}
 
@@ -64,6 +64,25 @@ module _ {E : Type 0} where
     pub free : length (view m).free.rooms ≡ suc (length (view k).free.rooms)
     pub sees : Sees (view m) (replicate tries (Load (name (view m))) ++ Push (name (view m)) x ∷ []) (view k)
     pub ends : EndsPushed x (IsTrue first) (name (view m)) (view k).known.seen
+
+  -- a party that rested has put these elements into the slots of its first free rooms, and is ready to push them all
+  pub record HasFilled (slots first : ℕ) (before : List (ℕ × E)) (last : ℕ) (x : E) (m k : SeatState E) : Type 0 where
+    pub ready : IsReadyAll slots first before last x k
+    pub known : (view k).known ≡ (view m).known
+    pub rooms : length (view m).free.rooms ≡ length (elements_then before x) + length (view k).free.rooms
+
+  -- the last of so many tries of a party that was ready has pushed all, and the party rests
+  pub record SettlesAllAt (slots tries : ℕ) (es : List E) (first : Bool) (m k : SeatState E) : Type 0 where
+    pub rests : IsResting slots k
+    pub free : (view k).free ≡ (view m).free
+    pub sees : Sees (view m) (replicate tries (Load (name (view m))) ++ pushes_of (name (view m)) es) (view k)
+    pub ends : EndsPushedAll es (IsTrue first) (name (view m)) (view k).known.seen
+
+  -- a party that rested has pushed all, at the last of so many tries
+  pub record HasPushedAll (tries : ℕ) (es : List E) (first : Bool) (m k : SeatState E) : Type 0 where
+    pub free : length (view m).free.rooms ≡ length es + length (view k).free.rooms
+    pub sees : Sees (view m) (replicate tries (Load (name (view m))) ++ pushes_of (name (view m)) es) (view k)
+    pub ends : EndsPushedAll es (IsTrue first) (name (view m)) (view k).known.seen
 
   -- its first try failed, and the room's slot is in hand; or it pushed
   pub record FirstMissed (slots room : ℕ) (x : E) (m k : SeatState E) : Type 0 where

@@ -7,10 +7,11 @@ use Rattle.cordyceps_shared.specs.Shares.{Name}
 use Rattle.cordyceps_shared.specs.Slots.{Near}
 use Rattle.cordyceps_stack.specs.History.{Event, Load, Push, Taken, Legal, actor}
 use Rattle.cordyceps_stack.specs.Cores.Stages.{room_elements}
-use Rattle.cordyceps_stack.specs.Shared.Calls.{EndsPushed, EndsLooked, IsOvertaken}
-use Rattle.cordyceps_stack.specs.Shared.Slots.{TableStep, SeatWith, view, hand, start, filled, vacant, rooms_of}
-use Rattle.cordyceps_stack.specs.Shared.Slots.{in_use, all_vacant, last_link}
-use Rattle.cordyceps_stack.specs.Shared.View.{Doing, Idle, Loaded, Holding, Walking, View, name, taking, held_rooms}
+use Rattle.cordyceps_stack.specs.Shared.Calls.{EndsPushed, EndsPushedAll, EndsLooked, IsOvertaken, pushes_of}
+use Rattle.cordyceps_stack.specs.Shared.Slots.{Hand, TableStep, SeatWith, view, hand, start, filled, vacant, rooms_of}
+use Rattle.cordyceps_stack.specs.Shared.Slots.{in_use, in_use_to, all_vacant, last_link}
+use Rattle.cordyceps_stack.specs.Shared.View.{Doing, Idle, Loaded, LoadedAll, Holding, Walking, View, name, taking}
+use Rattle.cordyceps_stack.specs.Shared.View.{held_rooms}
 
 abbrev pub SeatState : Type 0 → Type 0
 SeatState E = SeatWith E (View E)
@@ -24,6 +25,7 @@ module _ {E : Type 0} where
   abbrev pub to_hand_out : Doing E → List (ℕ × E)
   to_hand_out Idle = []
   to_hand_out (Loaded r read) = []
+  to_hand_out (LoadedAll rooms read) = []
   to_hand_out (Holding rooms) = []
   to_hand_out (Walking xs) = xs
 
@@ -71,6 +73,44 @@ module _ {E : Type 0} where
   after_exchange st m found k = (r read : ℕ) (x : E) → (view m).doing ≡ Loaded r read
       → hand m ≡ (r, filled x read) ∷ []
       → (found ≡ read → HasHit x found m k) × (found ≢ read → HasFailed r m k)
+
+  -- a load by a party that has the slots of several rooms in hand, and pushes with all of them
+  abbrev pub after_load_all : TableStep E → SeatState E → ℕ → SeatState E → Type 0
+  after_load_all st m read k = (rooms : List ℕ) → (view m).doing ≡ Holding rooms
+      → ((view k).doing ≡ LoadedAll rooms read) × ((view k).free ≡ (view m).free) × (hand k ≡ hand m)
+      × Sees (view m) (Load (name (view m)) ∷ []) (view k)
+
+  -- rooms in use before one more room, and the elements in all of them
+  abbrev pub rooms_then : List (ℕ × E) → ℕ → List ℕ
+  rooms_then before r = rooms_of before ++ r ∷ []
+
+  abbrev pub elements_then : List (ℕ × E) → E → List E
+  elements_then before x = room_elements before ++ x ∷ []
+
+  -- the slots of these rooms and of the one more, which is the first in hand and has this link
+  abbrev pub chain_then : List (ℕ × E) → ℕ → E → ℕ → Hand E
+  chain_then before r x link = (r, filled x link) ∷ in_use_to before (suc r)
+
+  -- a compare-exchange: it pushed what is in the slots in hand, which go back, or another came between
+  pub record HasHitAll (es : List E) (found : ℕ) (m k : SeatState E) : Type 0 where
+    pub doing : (view k).doing ≡ Idle
+    pub free : (view k).free ≡ (view m).free
+    pub hand : hand k ≡ []
+    pub sees : Sees (view m) (pushes_of (name (view m)) es) (view k)
+    pub ends : EndsPushedAll es (found ≡ 0) (name (view m)) (view k).known.seen
+
+  pub record HasFailedAll (rooms : List ℕ) (m k : SeatState E) : Type 0 where
+    pub doing : (view k).doing ≡ Holding rooms
+    pub free : (view k).free ≡ (view m).free
+    pub hand : hand k ≡ hand m
+    pub sees : Sees (view m) [] (view k)
+    pub overtaken : IsOvertaken (view k).known.seen
+
+  abbrev pub after_exchange_all : TableStep E → SeatState E → ℕ → SeatState E → Type 0
+  after_exchange_all st m found k = (before : List (ℕ × E)) (r : ℕ) (x : E) (read : ℕ)
+      → (view m).doing ≡ LoadedAll (rooms_then before r) read → hand m ≡ chain_then before r x read
+      → (found ≡ read → HasHitAll (elements_then before x) found m k)
+      × (found ≢ read → HasFailedAll (rooms_then before r) m k)
 
   -- the chain's rooms are of a table with that many slots
   abbrev pub NearChain : ℕ → List (ℕ × E) → Type 0
@@ -135,6 +175,16 @@ module _ {E : Type 0} where
     pub named : (view m).known.share ≢ []
     pub near : Near slots (view m).free.rooms
     pub inside : room < slots
+
+  -- the party pushes what is in the slots in hand, which are those of these rooms. This word leads to the first
+  pub record IsReadyAll (slots first : ℕ) (before : List (ℕ × E)) (last : ℕ) (x : E) (m : SeatState E) : Type 0 where
+    pub doing : (view m).doing ≡ Holding (rooms_then before last)
+    pub link : ℕ
+    pub hand : hand m ≡ chain_then before last x link
+    pub first_is : first ≡ leads (rooms_of before) (suc last)
+    pub named : (view m).known.share ≢ []
+    pub near : Near slots (view m).free.rooms
+    pub inside : Near slots (rooms_then before last)
 
   -- the party has these rooms to hand out, and their slots in hand
   pub record IsWalking (slots : ℕ) (xs : List (ℕ × E)) (m : SeatState E) : Type 0 where

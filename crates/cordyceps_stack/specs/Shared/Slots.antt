@@ -59,6 +59,11 @@ module _ {E : Type 0} where
   in_use [] = []
   in_use (x ∷ xs) = (x.0, filled x.1 (start xs)) ∷ in_use xs
 
+  -- the slots of rooms in use, of which the last leads to this word
+  abbrev pub in_use_to : List (ℕ × E) → ℕ → Hand E
+  in_use_to [] end = []
+  in_use_to (x ∷ xs) end = (x.0, filled x.1 (leads (rooms_of xs) end)) ∷ in_use_to xs end
+
   -- the slots of a chain of free rooms, of which the last has the link `end`
   abbrev pub all_vacant : List ℕ → ℕ → Hand E
   all_vacant [] end = []

@@ -14,7 +14,9 @@ pub data Doing (E : Type 0) : Type 0 where
   Idle : Doing E
   -- it pushes with this room, whose slot it has in hand, and read this word at head
   Loaded : ℕ → ℕ → Doing E
-  -- it has the slots of these rooms in hand, and returns them or goes on to push with one
+  -- it pushes with all of these rooms, whose slots it has in hand, and read this word at head
+  LoadedAll : List ℕ → ℕ → Doing E
+  -- it has the slots of these rooms in hand, and returns them or goes on to push with them
   Holding : List ℕ → Doing E
   -- it took these rooms with their elements, and has their slots in hand
   Walking : List (ℕ × E) → Doing E
@@ -46,6 +48,7 @@ module _ {E : Type 0} where
   abbrev pub held_rooms : Doing E → List ℕ
   held_rooms Idle = []
   held_rooms (Loaded r read) = r ∷ []
+  held_rooms (LoadedAll rooms read) = rooms
   held_rooms (Holding rooms) = rooms
   held_rooms (Walking xs) = rooms_of xs
 

@@ -9,7 +9,7 @@ use Rattle.cordyceps_shared.specs.Words.{head}
 use Rattle.cordyceps_stack.specs.History.{Event, Load, held, Legal, SomeChange}
 use Rattle.cordyceps_stack.specs.Cores.Stages.{room_elements}
 use Rattle.cordyceps_stack.specs.Shared.Slots.{start}
-use Rattle.cordyceps_stack.specs.Shared.View.{Doing, Idle, Loaded, Holding, Walking, View, in_chain, count_with_party}
+use Rattle.cordyceps_stack.specs.Shared.View.{Doing, Idle, Loaded, LoadedAll, Holding, Walking, View, in_chain, count_with_party}
 
 -- each event with the seat of its party
 abbrev pub History : Type 0 → Type 0
@@ -29,6 +29,7 @@ module _ {E : Type 0} where
   abbrev pub AtDoing : List ℕ → History E → ℕ → Doing E → Type 0
   AtDoing words history j Idle = Unit {0}
   AtDoing words history j (Loaded r read) = Since words history j read
+  AtDoing words history j (LoadedAll rooms read) = Since words history j read
   AtDoing words history j (Holding rooms) = Unit {0}
   AtDoing words history j (Walking xs) = Unit {0}
 

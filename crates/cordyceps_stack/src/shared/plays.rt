@@ -1,5 +1,6 @@
 //! The steps of a shared stack, for contracts. Values of these types are not used when the program runs.
 ghost use Rattle.cordyceps_stack.specs.Shared.Plays.{after_look, after_begin, after_load, after_exchange, after_take};
+ghost use Rattle.cordyceps_stack.specs.Shared.Plays.{after_load_all, after_exchange_all};
 ghost use Rattle.cordyceps_stack.specs.Shared.Plays.{after_hold, after_hold_last, after_return, after_append};
 ghost use Rattle.cordyceps_stack.specs.Shared.Parting.{after_learn, view_keeping, view_giving};
 ghost use Rattle.cordyceps_stack.specs.Shared.Parting.{view_absorbing, view_absorbed};
@@ -36,6 +37,20 @@ pub(crate) struct Exchange;
 
 impl<E> Play<Slot<E>, SeatView<E>> for Exchange {
     ghost then = { after_exchange };
+}
+
+/// A load of the head, which begins a try to push all that is in the slots in hand.
+pub(crate) struct LoadAll;
+
+impl<E> Play<Slot<E>, SeatView<E>> for LoadAll {
+    ghost then = { after_load_all };
+}
+
+/// A compare-exchange of the head, which ends such a try. If it succeeds, it returns the slots.
+pub(crate) struct ExchangeAll;
+
+impl<E> Play<Slot<E>, SeatView<E>> for ExchangeAll {
+    ghost then = { after_exchange_all };
 }
 
 /// A swap of the head, which takes all elements and their slots.

@@ -5,7 +5,7 @@ ghost use Rattle.cordyceps_stack.specs.Shared.Parts.{IsSeatOf, Settled, HasMisse
 ghost use Rattle.cordyceps_stack.specs.Shared.Parts.{HasTried};
 ghost use Rattle.cordyceps_stack.specs.History as event;
 ghost use Rattle.cordyceps_stack.specs.Shared.Plays.{Sees, IsResting, IsReady, IsBegun};
-ghost use Rattle.cordyceps_stack.specs.Shared.Slots.{view, hand, filled, vacant};
+ghost use Rattle.cordyceps_stack.specs.Shared.Slots.{Hand, view, hand, filled, vacant};
 ghost use Rattle.cordyceps_stack.specs.Shared.Calls.{EndsLooked};
 ghost use Rattle.cordyceps_stack.specs.Shared.View.{Idle, name};
 ghost use Rattle.cordyceps_stack.specs.Shared.View as doing;
@@ -53,13 +53,14 @@ fn fill<E: Drop>(words: &Words<E>, seat: &mut PartySeat<E>, room: usize, read: u
     link
 }
 
-/// Links the room, whose slot is in hand, to what was read.
-fn relink<E: Drop>(words: &Words<E>, seat: &mut PartySeat<E>, room: usize, read: u64)
+/// Links the room, whose slot is the first in hand, to what was read.
+pub(crate) fn relink<E: Drop>(words: &Words<E>, seat: &mut PartySeat<E>, room: usize, read: u64)
     requires table { IsSeatOf seat.old.table_id words.now.table_id }
-    requires filled { (x : E) × (link : ℕ) × (hand seat.old.me ≡ (room, filled x link) ∷ []) }
+    requires filled { (x : E) × (link : ℕ) × (others : Hand E)
+        × (hand seat.old.me ≡ (room, filled x link) ∷ others) }
     ensures table { seat.new.table_id ≡ seat.old.table_id }
-    ensures links { (x : E) → (link : ℕ) → hand seat.old.me ≡ (room, filled x link) ∷ []
-        → seat.new.me ≡ (view seat.old.me, (room, filled x read) ∷ []) }
+    ensures links { (x : E) → (link : ℕ) → (others : Hand E) → hand seat.old.me ≡ (room, filled x link) ∷ others
+        → seat.new.me ≡ (view seat.old.me, (room, filled x read) ∷ others) }
 {
     seat.slot_mut(words, room).link = read;
 }
@@ -189,7 +190,7 @@ const SPINS: usize = 5;
 
 /// Pauses for 31 spin-loop hints, the second time for 288, and from then on for 320. Meanwhile other parties push
 /// several elements: a try takes longer the more parties try at a time.
-fn pause(backoff: &Backoff) {
+pub(crate) fn pause(backoff: &Backoff) {
     for _ in 0..SPINS {
         backoff.spin();
     }

@@ -1,13 +1,14 @@
 //! The calls of a shared stack that may wait.
-ghost use Rattle.std.specs.Prelude.{◌≡◌, ◌<◌, ℕ, suc, Bool};
+ghost use Rattle.std.specs.Prelude.{◌≡◌, ◌<◌, ◌≤◌, ℕ, suc, List, Bool, length, map};
 ghost use Rattle.cordyceps_shared.specs.Shares.{whole};
-ghost use Rattle.cordyceps_stack.specs.Shared.Calls.{PushesAt};
+ghost use Rattle.cordyceps_stack.specs.Shared.Calls.{PushesAt, PushesAllAt};
 
 use crate::shared::calls::{Party, TransferStack};
-use crate::shared::steps;
+use crate::shared::{chain, steps};
 use cordyceps_base::linked::Linked;
 use cordyceps_base::stack::Links;
 use cordyceps_shared::required;
+use cordyceps_single::stack::Stack;
 use std::sync::Wait;
 
 impl<T: Linked<Links<T>>> TransferStack<T> {
@@ -48,6 +49,34 @@ impl<T: Linked<Links<T>>> TransferStack<T> {
             &mut party.seat,
             &mut party.free,
             handle,
+        )
+    }
+
+    /// Pushes all elements of a stack at one step, and returns `true` if this stack was empty just before. They come out
+    /// in their order, before what was held: the element that `elements` would pop first comes out first. No element of
+    /// another party comes between them. Requires that the party has as many rooms, which they then use. If there is no
+    /// element, it only looks, as `is_empty` does.
+    ///
+    /// # Complexity
+    /// O(n + t), for n elements and t tries: a load of another word, a step on each of n rooms, and then for each try one
+    /// load and one compare-exchange of the head.
+    ///
+    /// # Waits
+    /// As `push`.
+    pub fn push_all<R: Wait>(&self, rt: &R, party: &mut Party<T>, elements: Stack<T>) -> bool
+        requires table { party.old.table ≡ self.now }
+        requires rooms { length elements ≤ party.old.rooms }
+        ensures pushed { (pushed : List T.Handle) × (elements ≡ map T.element pushed)
+            × ((tries : ℕ) × PushesAllAt (suc tries) pushed result party.old party.new) }
+        ensures whole { party.old.share ≡ whole → (pushed : List T.Handle) × (elements ≡ map T.element pushed)
+            × PushesAllAt 1 pushed result party.old party.new }
+    {
+        chain::push_all(
+            rt,
+            &self.rooms.shared,
+            &mut party.seat,
+            &mut party.free,
+            elements,
         )
     }
 }

@@ -6,22 +6,22 @@ use Rattle.cordyceps_stack.proofs.SharedTheory.PartsJoin.{settles_once, fails_on
 use Rattle.cordyceps_stack.proofs.shared.steps.attempt.Goals as goal
 
 pub relink-requires-clause-filled : goal.relink-requires-clause-filled
-relink-requires-clause-filled g c = let r = c.requires.ready in (r.0, r.1.link, c.load-read.ensures.same.1 ∙ r.1.hand)
+relink-requires-clause-filled g c = let r = c.requires.ready in (r.0, r.1.link, [], c.load-read.ensures.same.1 ∙ r.1.hand)
 
 pub settle-requires-clause-filled : goal.settle-requires-clause-filled
 settle-requires-clause-filled g c =
     let r = c.requires.ready in
-    (r.0, ap (λ m. m.1) (c.relink.ensures.links r.0 r.1.link (c.load-read.ensures.same.1 ∙ r.1.hand)))
+    (r.0, ap (λ m. m.1) (c.relink.ensures.links r.0 r.1.link [] (c.load-read.ensures.same.1 ∙ r.1.hand)))
 
 pub settle-requires-clause-loaded : goal.settle-requires-clause-loaded
 settle-requires-clause-loaded g c =
     let r = c.requires.ready in
-    ap (λ m. m.0.doing) (c.relink.ensures.links r.0 r.1.link (c.load-read.ensures.same.1 ∙ r.1.hand)) ∙ c.load-read.ensures.doing
+    ap (λ m. m.0.doing) (c.relink.ensures.links r.0 r.1.link [] (c.load-read.ensures.same.1 ∙ r.1.hand)) ∙ c.load-read.ensures.doing
 
 pub settle-requires-clause-named : goal.settle-requires-clause-named
 settle-requires-clause-named g c =
     let r = c.requires.ready in
-    let same = ap (λ m. m.0.known.share) (c.relink.ensures.links r.0 r.1.link (c.load-read.ensures.same.1 ∙ r.1.hand)) in
+    let same = ap (λ m. m.0.known.share) (c.relink.ensures.links r.0 r.1.link [] (c.load-read.ensures.same.1 ∙ r.1.hand)) in
     λ e. r.1.named (sym (same ∙ c.load-read.ensures.sees.share) ∙ e)
 
 pub settle-requires-clause-inside : goal.settle-requires-clause-inside
@@ -35,7 +35,7 @@ returns-then-settle-clause-answer g c x ready =
     let k = c.settle.new.seat.me in
     let read = c.load-read.result in
     let e = c.load-read.ensures in
-    let linked = c.relink.ensures.links x ready.link (e.same.1 ∙ ready.hand) in
+    let linked = c.relink.ensures.links x ready.link [] (e.same.1 ∙ ready.hand) in
     let hit = subst (λ b. Settled c.args.room read x b c.relink.new.seat.me k) c.if-settle.true (c.settle.ensures.settled x (ap (λ m. m.1) linked)) in
     settles_once slots c.args.room read x ((c.args.room, filled x read) ∷ []) m l k ready e.same.0 e.sees (subst (λ (q : SeatState g.row.E.Denot). HasHit x read q k) linked hit)
 
@@ -47,6 +47,6 @@ returns-else-settle-clause-answer g c x ready =
     let k = c.settle.new.seat.me in
     let read = c.load-read.result in
     let e = c.load-read.ensures in
-    let linked = c.relink.ensures.links x ready.link (e.same.1 ∙ ready.hand) in
+    let linked = c.relink.ensures.links x ready.link [] (e.same.1 ∙ ready.hand) in
     let failed = subst (λ b. Settled c.args.room read x b c.relink.new.seat.me k) c.if-settle.false (c.settle.ensures.settled x (ap (λ m. m.1) linked)) in
     fails_once slots c.args.room read x m l k ready e.same.0 e.sees (subst (λ (q : SeatState g.row.E.Denot). HasFailed c.args.room q k) linked failed)

@@ -7,4 +7,4 @@ pub slot_mut-requires : goal.slot_mut-requires
 slot_mut-requires g c =
     let f = c.requires.filled in
     let slot = filled f.0 f.1 in
-    (search rules, (slot, f.2 ∙ ap (λ l. (c.args.room, slot) ∷ rest l) (sym f.2)))
+    (search rules, (slot, f.3 ∙ ap (λ l. (c.args.room, slot) ∷ rest l) (sym f.3)))

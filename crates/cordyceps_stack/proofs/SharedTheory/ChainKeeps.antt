@@ -1,0 +1,180 @@
+-- A push of several elements at one step keeps the rule of a transfer stack's table.
+use Rattle.std.proofs.Common.{◌≡◌, ◌≢◌, ℕ, suc, ◌+◌, ◌≤◌, ◌<◌, List, [], ◌∷◌, ◌++◌, map, reverse, length, set, get_or, eqb, Bool, true, refl, sym, ap, ◌∙◌, subst, arith, append-nil, eq-eqb, ne_eqb, length-set}
+use mathlib.Core.Option.{some, none}
+use mathlib.Core.Logic.{dite}
+use native.Mathlib.Decide.{ℕ_discrete}
+use lib.ListN.{get_elem?}
+use prog.Atomic.{either}
+use Rattle.atomic_table.specs.Table.{step, keeps, stepped, homes_after, carried_after, Allows}
+use Rattle.cordyceps_shared.specs.FreeChains.{leads}
+use Rattle.cordyceps_shared.specs.Counts.{one_if, times}
+use Rattle.cordyceps_shared.specs.Histories.{with_marks, of_seat}
+use Rattle.cordyceps_shared.specs.Knowing.{Under}
+use Rattle.cordyceps_shared.specs.Shares.{Name}
+use Rattle.cordyceps_shared.specs.Slots.{Near}
+use Rattle.cordyceps_shared.specs.Words.{head}
+use Rattle.cordyceps_shared.specs.declared.layout.TheConstants.{HEAD}
+use Rattle.cordyceps_shared.proofs.Choices.{some_or, first_or, rest_from}
+use Rattle.cordyceps_shared.proofs.Counting.{tally_append}
+use Rattle.cordyceps_shared.proofs.Places.{times_at}
+use Rattle.cordyceps_shared.proofs.Seeing.{marked_append}
+use Rattle.cordyceps_stack.specs.declared.shared.slot.Slot.{Slot}
+use Rattle.cordyceps_stack.specs.History.{Event, Load, Push, actor}
+use Rattle.cordyceps_stack.specs.Cores.Stages.{room_elements}
+use Rattle.cordyceps_stack.specs.Shared.Calls.{pushes_of}
+use Rattle.cordyceps_stack.specs.Shared.Slots.{Hand, TableStep, start, filled, rooms_of, in_use, in_use_to, all_vacant, AtHome}
+use Rattle.cordyceps_stack.specs.Shared.View.{Doing, Idle, LoadedAll, Holding, View, name, held_rooms, count_with_party}
+use Rattle.cordyceps_stack.specs.Shared.Words.{AtDoing}
+use Rattle.cordyceps_stack.specs.Shared.Rule.{TableState, RuleHolds}
+use Rattle.cordyceps_stack.specs.Shared.Plays.{SeatState, HasHitAll, HasFailedAll, rooms_then, elements_then, chain_then}
+use Rattle.cordyceps_stack.specs.Shared.Plays as play
+use Rattle.cordyceps_stack.proofs.SharedTheory.SlotMoves.{rooms_to, rooms_vacant, in_use_onto, home_frame, home_append, give_all, ungiven, given_valid, given_carried, given_home}
+use Rattle.cordyceps_stack.proofs.SharedTheory.StepsKeep.{slot_or, view_after, Passes, head_marked, told, step_keeps, unwritten, once, chain_stays, others_stay, overtaken}
+use Rattle.cordyceps_stack.proofs.SharedTheory.WordsKeep.{since_now, rests, loads, pushes_all}
+
+module _ {E : Type 0} where
+  under_pushes : (n : Name) (es : List E) → Under (actor {E = E}) n (map (Push n) es)
+  under_pushes n [] = tt
+  under_pushes n (e ∷ es) = (refl, under_pushes n es)
+
+  marks_of : (j : ℕ) (es : List (Event Name E)) → with_marks j (of_seat j es) ≡ map (λ v. (true, v)) es
+  marks_of j [] = refl
+  marks_of j (e ∷ es) = λ i. (eq-eqb j j refl i, e) ∷ marks_of j es i
+
+  -- ---- a load of head
+  pub loads_all : (slots id : ℕ) (me : SeatState E) (rooms : List ℕ) → me.0.doing ≡ Holding rooms → me.0.known.share ≢ [] → Allows RuleHolds slots id me HEAD (λ n. n) (play.after_load_all (step slots HEAD 0 0 none) me)
+  loads_all slots id me rooms ready named s k deep at fits =
+      let v = me.0 in
+      let x : Event Name E = Load (name v) in
+      let h = k.history ++ (id, x) ∷ [] in
+      let read = head s.words in
+      let w = view_after v id h v.free (LoadedAll rooms read) in
+      let meets = loads s.words k.chain s.views k.history id v w (name v) k.meets at (λ q. let c = ap (λ d. times q (held_rooms d)) ready in omega arith) (since_now s.words k.history id (name v)) in
+      let t = told s k id (x ∷ []) v w h at named (refl, tt) refl refl meets.legal in (
+        w,
+        keeps,
+        tt,
+        unwritten s HEAD s.homes (set s.views id w) (step_keeps s k id v w s.words s.homes k.chain h meets refl k.full (k.free id v at) (λ _ _ _ _ _ _. refl) t.1 t.0),
+        λ rooms' ready'. (ap (λ p. let d : Doing E = LoadedAll (held_rooms p) read in d) (sym ready ∙ ready'), refl, refl, t.2),
+      )
+
+  -- ---- an exchange of head
+  -- what a party does, and what it has in hand, at an exchange
+  pub record PoisedAll (slots : ℕ) (me : SeatState E) (before : List (ℕ × E)) (r : ℕ) (x : E) (read : ℕ) : Type 0 where
+    pub doing : me.0.doing ≡ LoadedAll (rooms_then before r) read
+    pub hand : me.1 ≡ chain_then before r x read
+    pub named : me.0.known.share ≢ []
+    pub inside : Near slots (rooms_then before r)
+
+  hits_all : (slots id : ℕ) (me : SeatState E) (before : List (ℕ × E)) (r : ℕ) (x : E) (read : ℕ) → PoisedAll slots me before r x read → (s : TableState E) (k : RuleHolds s) → length s.homes ≡ slots → get_elem? s.views id ≡ some me.0
+      → head s.words ≡ read → Passes s id HEAD (leads (rooms_of before) (suc r)) me (HasHitAll (elements_then before x) (head s.words) me)
+  hits_all slots id me before r x read poised s k deep at top =
+      let v = me.0 in
+      let first = leads (rooms_of before) (suc r) in
+      let rooms = rooms_then before r in
+      let es : List (Event Name E) = pushes_of (name v) (elements_then before x) in
+      let h = k.history ++ of_seat id es in
+      let w = view_after v id h v.free Idle in
+      let all : Hand E = chain_then before r x read in
+      let homes = homes_after s.homes all (give_all all) in
+      let own : (q : ℕ) → times q (rooms_of all) ≡ times q rooms = λ q.
+          let a = tally_append (λ p. one_if (eqb p q)) (rooms_of before) (r ∷ []) in
+          let b = ap (times q) (rooms_to before (suc r)) in omega arith in
+      let was : (q : ℕ) → count_with_party q v ≡ times q v.free.rooms + times q rooms = λ q. ap (λ d. times q v.free.rooms + times q (held_rooms d)) poised.doing in
+      let same : (q : ℕ) → times q rooms ≡ 0 → get_elem? homes q ≡ get_elem? s.homes q = λ q none_of. ungiven all s.homes q (own q ∙ none_of) in
+      let given = given_home all s.homes (λ q. let o = once s k id v q at in let c = was q in let p = own q in omega arith)
+      (λ q m. let p = own q in let t = times_at q rooms (omega arith) in let low = poised.inside t.0 q t.1 in omega arith) in
+      let mine : (q : ℕ) → count_with_party q v ≡ 0 → get_elem? homes q ≡ get_elem? s.homes q = λ q none_of. same q (let c = was q in omega arith) in
+      let wide = k.wide in
+      let meets = pushes_all s.words k.chain s.views k.history id v w before r (name v) x k.meets at (ap (λ d. held_rooms d) poised.doing) refl refl (omega arith) in
+      let t = told s k id es v w h at poised.named (under_pushes (name v) (reverse (elements_then before x))) refl refl meets.legal in
+      let below : filled x read ≡ filled x (start k.chain) = ap (λ n. filled x n) (sym top ∙ k.meets.top) in
+      let full : AtHome homes (in_use (before ++ (r, x) ∷ k.chain)) = subst (AtHome homes) (sym (in_use_onto before ((r, x) ∷ k.chain)))
+      (home_append homes (in_use_to before (suc r)) (in_use ((r, x) ∷ k.chain)) given.1 (given.0 ∙ ap (λ z. some (some z)) below, chain_stays s k id v homes at mine)) in
+      let kept = step_keeps s k id v w (set s.words HEAD first) homes (before ++ (r, x) ∷ k.chain) h meets (length-set s.words HEAD first) full
+      (home_frame s.homes homes (all_vacant v.free.rooms v.free.end)
+      (λ q m. same q (let here = subst (λ l. 1 ≤ times q l) (rooms_vacant E v.free.rooms v.free.end) m in let o = once s k id v q at in let c = was q in omega arith)) (k.free id v at))
+      (others_stay s k id v homes at mine) t.1 t.0 in record {
+        view = w;
+        act = give_all me.1;
+        valid = given_valid me.1 s.homes;
+        holds = subst (λ c. RuleHolds record { words = set s.words HEAD first; homes = homes_after s.homes c (give_all c); views = set s.views id w }) (sym poised.hand) kept;
+        after = record {
+          doing = refl;
+          free = refl;
+          hand = given_carried me.1;
+          sees = t.2;
+          ends = record {
+            before = with_marks id k.history;
+            is = marked_append id k.history (of_seat id es) ∙ ap (λ z. with_marks id k.history ++ z) (marks_of id es);
+            first = head_marked s k id;
+          };
+        };
+      }
+
+  fails_all : (slots id : ℕ) (me : SeatState E) (before : List (ℕ × E)) (r : ℕ) (x : E) (read : ℕ) → PoisedAll slots me before r x read → (s : TableState E) (k : RuleHolds s) → get_elem? s.views id ≡ some me.0
+      → head s.words ≢ read → Passes s id HEAD (head s.words) me (HasFailedAll (rooms_then before r) me)
+  fails_all slots id me before r x read poised s k at miss =
+      let v = me.0 in
+      let rooms = rooms_then before r in
+      let w = view_after v id k.history v.free (Holding rooms) in
+      let known : AtDoing s.words k.history id (LoadedAll rooms read) = subst (λ (d : Doing E). AtDoing s.words k.history id d) poised.doing (k.meets.each id v at) in
+      let meets = rests s.words k.chain s.views k.history id v w k.meets at (λ q. let c = ap (λ d. times q (held_rooms d)) poised.doing in omega arith) tt in
+      let t = told s k id [] v w k.history at poised.named tt (sym (append-nil k.history)) refl meets.legal in record {
+        view = w;
+        act = keeps;
+        valid = tt;
+        holds = unwritten s HEAD s.homes (set s.views id w) (step_keeps s k id v w s.words s.homes k.chain k.history meets refl k.full (k.free id v at) (λ _ _ _ _ _ _. refl) t.1 t.0);
+        after = record {
+          doing = refl;
+          free = refl;
+          hand = refl;
+          sees = t.2;
+          overtaken = overtaken s k id read known miss;
+        };
+      }
+
+  -- the rooms of slots in hand, with their elements
+  used : E → Hand E → List (ℕ × E)
+  used d [] = []
+  used d (x ∷ xs) = (x.0, some_or d x.1.item) ∷ used d xs
+
+  used_to : (d : E) (xs : List (ℕ × E)) (end : ℕ) → used d (in_use_to xs end) ≡ xs
+  unfolding used
+  used_to d [] end = refl
+  used_to d (x ∷ xs) end = ap (λ l. x ∷ l) (used_to d xs end)
+
+  -- what the exchange tells of a party that was poised with these rooms and elements, and this word
+  TellsAll : (me k : SeatState E) (found : ℕ) → List (ℕ × E) × ℕ × E × ℕ → Type 0
+  TellsAll me k found z = (found ≡ z.3 → HasHitAll (elements_then z.0 z.2) found me k) × (found ≢ z.3 → HasFailedAll (rooms_then z.0 z.1) me k)
+
+  says_all : (st : TableStep E) (slots : ℕ) (me k : SeatState E) (before : List (ℕ × E)) (r : ℕ) (x : E) (read found : ℕ) → PoisedAll slots me before r x read → TellsAll me k found (before, r, x, read) → play.after_exchange_all st me found k
+  unfolding TellsAll
+  says_all st slots me k before r x read found poised t before' r' x' read' doing hand =
+      let q = sym poised.hand ∙ hand in
+      let rooms : before ≡ before' = sym (used_to x before (suc r)) ∙ (ap (λ l. used x (rest_from l)) q ∙ used_to x before' (suc r')) in
+      let slot = ap (λ l. slot_or (filled x read) l) q in
+      let room = ap (λ (l : Hand E). first_or 0 (rooms_of l)) q in
+      subst (TellsAll me k found) (λ i. (rooms i, room i, some_or x (slot i).item, (slot i).link)) t
+
+  pub exchanges_all : (slots id new : ℕ) (me : SeatState E) (before : List (ℕ × E)) (r : ℕ) (x : E) (read : ℕ) → new ≡ leads (rooms_of before) (suc r) → PoisedAll slots me before r x read
+      → Allows RuleHolds slots id me HEAD (λ n. either (eqb n read) new n) (play.after_exchange_all (step slots HEAD read new none) me)
+  unfolding TellsAll
+  exchanges_all slots id new me before r x read is poised s k deep at fits =
+      let n : ℕ = head s.words in
+      let st : TableStep E = step slots HEAD read new none in
+      dite (ℕ_discrete n read)
+      (λ hit. let d = hits_all slots id me before r x read poised s k deep at hit in (
+        d.view,
+        d.act,
+        d.valid,
+        subst (λ (m : ℕ). RuleHolds (stepped s HEAD m id me.1 d.view d.act)) (sym is ∙ sym (ap (λ b. either b new n) (eq-eqb n read hit))) d.holds,
+        says_all st slots me (d.view, carried_after me.1 d.act) before r x read n poised (λ _. d.after, λ miss. absurd (miss hit)),
+      ))
+      (λ miss. let d = fails_all slots id me before r x read poised s k at miss in (
+        d.view,
+        d.act,
+        d.valid,
+        subst (λ (m : ℕ). RuleHolds (stepped s HEAD m id me.1 d.view d.act)) (sym (ap (λ b. either b new n) (ne_eqb n read miss))) d.holds,
+        says_all st slots me (d.view, carried_after me.1 d.act) before r x read n poised (λ hit. absurd (miss hit), λ _. d.after),
+      ))

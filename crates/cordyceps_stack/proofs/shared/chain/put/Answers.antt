@@ -1,0 +1,10 @@
+use Rattle.std.proofs.Common.{◌∷◌, sym, ap, ◌∙◌, rules}
+use Rattle.atomic_table.specs.Table.{rest}
+use Rattle.cordyceps_stack.specs.Shared.Slots.{vacant}
+use Rattle.cordyceps_stack.proofs.shared.chain.put.Goals as goal
+
+pub slot_mut-slot-requires : goal.slot_mut-slot-requires
+slot_mut-slot-requires g c =
+    let v = c.requires.vacant in
+    let slot = vacant v.0 in
+    (search rules, (slot, v.2 ∙ ap (λ l. (c.args.room, slot) ∷ rest l) (sym v.2)))

@@ -1,0 +1,213 @@
+//! Elements that are pushed all at one step, alone and beside a thread that takes.
+ghost use Rattle.std.specs.Prelude.{◌≡◌, ◌≤◌, length};
+
+use crate::compared::{at_most, made, same};
+use crate::items::{batch, dropped, element, no_drops};
+use crate::seats::{new_stack, pushes};
+use crate::workers::Meeting;
+use cordyceps_stack::stack::{Party, Stack, TransferStack};
+use std::alloc::Global;
+use std::process::Abort;
+use std::sync::Wait;
+use std::thread;
+use std::thread::Threads;
+use test_support::counted::{Counted, Drops};
+use test_support::nodes::number;
+
+/// Pushes all elements of a batch, and compares whether nothing was held before with what is wanted.
+fn pushes_all<R: Wait + Abort>(
+    rt: &R,
+    stack: &TransferStack<Counted>,
+    party: &mut Party<Counted>,
+    batch: Stack<Counted>,
+    first: bool,
+)
+    requires table { party.old.table ≡ stack.now }
+    requires rooms { length batch ≤ party.old.rooms }
+    ensures { party.new.table ≡ stack.now }
+{
+    let was_empty = stack.push_all(rt, party, batch);
+    same(rt, was_empty, first);
+}
+
+/// Takes all that is held, and pushes it again into the rooms that came with it.
+fn turns_over<R: Wait + Abort>(rt: &R, stack: &TransferStack<Counted>, party: &mut Party<Counted>)
+    requires { party.old.table ≡ stack.now }
+    ensures { party.new.table ≡ stack.now }
+{
+    let taken = stack.take_all(party);
+    pushes_all(rt, stack, party, taken, true);
+}
+
+/// Pushes the elements below a number, each by one try, and then so many at one step. Takes all, pushes it again at one
+/// step, and asserts in which order it comes out.
+fn come_in_order<R: Wait + Abort>(rt: &R, alloc: Global, rooms: usize, below: u64, count: usize) {
+    let drops = no_drops(rt, alloc);
+    let (stack, mut party) = new_stack(rt, alloc, rooms);
+    for number in 0..below {
+        let handle = element(rt, alloc, number, &drops);
+        pushes(rt, &stack, &mut party, handle, number == 0);
+    }
+    let above = batch(rt, alloc, below, count, &drops);
+    at_most(rt, count, party.rooms());
+    pushes_all(rt, &stack, &mut party, above, below == 0);
+    let end = below.wrapping_add(count as u64);
+    same(rt, (party.rooms() as u64).wrapping_add(end), rooms as u64);
+    turns_over(rt, &stack, &mut party);
+    let mut held = stack.take_all(&mut party);
+    for wanted in below..end {
+        same(rt, number(held.pop()), Some(wanted));
+    }
+    for wanted in (0..below).rev() {
+        same(rt, number(held.pop()), Some(wanted));
+    }
+    same(rt, (held.is_empty(), party.rooms()), (true, rooms));
+    dropped(rt, &drops, end);
+}
+
+#[test]
+fn all_come_in_order_before_what_was_held(rt: HostRuntime) {
+    // rooms, elements below, and those that are pushed at one step
+    let rows: [(usize, u64, usize); 9] = [
+        (3, 0, 0),
+        (3, 3, 0),
+        (1, 0, 1),
+        (4, 3, 1),
+        (2, 0, 2),
+        (9, 3, 2),
+        (64, 0, 64),
+        (67, 3, 64),
+        (100, 3, 64),
+    ];
+    for (rooms, below, count) in rows {
+        come_in_order(&rt, rt.alloc(), rooms, below, count);
+    }
+}
+
+/// How many elements a thread pushes at one step.
+const BATCH: u64 = 8;
+
+/// How many batches a thread pushes.
+const BATCHES: u64 = 200;
+
+/// How many threads push.
+const PUSHERS: u64 = 3;
+
+/// How often the thread that takes looks at most.
+const TURNS: u64 = 20_000_000;
+
+/// A thread's party at its stack, and the numbers that it takes, or from which on those of its elements are.
+#[derive(Drop)]
+struct Seat<'s> {
+    stack: &'s TransferStack<Counted>,
+    party: Party<Counted>,
+    /// `None` if the thread takes.
+    first: Option<u64>,
+    taken: Vec<u64>,
+    ghost seated: { party.table ≡ stack.now },
+}
+
+impl<'s> Seat<'s> {
+    /// Returns a party of this stack, which has some of the rooms of another.
+    fn beside(
+        rt: &impl Abort,
+        alloc: Global,
+        stack: &'s TransferStack<Counted>,
+        party: &mut Party<Counted>,
+        first: Option<u64>,
+        rooms: u64,
+    ) -> Seat<'s>
+        requires { party.old.table ≡ stack.now }
+        ensures { party.new.table ≡ stack.now }
+    {
+        at_most(rt, rooms as usize, party.rooms());
+        Seat {
+            stack,
+            party: stack.split(party, rooms as usize),
+            first,
+            taken: Vec::new(alloc),
+        }
+    }
+
+    /// Pushes batches, each at one step.
+    fn push<R: Wait + Abort>(&mut self, rt: &R, alloc: Global, first: u64, drops: &Drops) {
+        for number in 0..BATCHES {
+            let first = first.wrapping_add(number.wrapping_mul(BATCH));
+            let batch = batch(rt, alloc, first, BATCH as usize, drops);
+            at_most(rt, BATCH as usize, self.party.rooms());
+            self.stack.push_all(rt, &mut self.party, batch);
+        }
+    }
+
+    /// Takes all that is held, and asserts that each batch is whole and in order.
+    fn take(&mut self, rt: &impl Abort) {
+        let mut next = 0;
+        for node in self.stack.take_all(&mut self.party) {
+            let number = node.id();
+            if next % BATCH == 0 {
+                next = number;
+                same(rt, number % BATCH, 0);
+            }
+            same(rt, number, next);
+            next = next.wrapping_add(1);
+            made(rt, self.taken.push(number));
+        }
+        same(rt, next % BATCH, 0);
+    }
+
+    /// Does what it has to do, and returns what it has then.
+    fn run<R: Wait + Abort>(
+        mut self,
+        rt: &R,
+        alloc: Global,
+        meeting: &Meeting,
+        drops: &Drops,
+    ) -> Seat<'s> {
+        if let Some(first) = self.first {
+            self.push(rt, alloc, first, drops);
+            meeting.end();
+            return self;
+        }
+        for _ in 0..TURNS {
+            self.take(rt);
+            if self.taken.len() as u64 == PUSHERS * BATCHES * BATCH {
+                break;
+            }
+            thread::yield_now();
+        }
+        self
+    }
+}
+
+/// Lets threads push batches while one takes, and asserts that each element came out once.
+fn batches_stay_together<R: Threads + Wait + Abort + Sync>(rt: &R, alloc: Global) {
+    let drops = no_drops(rt, alloc);
+    let all = PUSHERS * BATCHES * BATCH;
+    let (stack, mut party) = new_stack(rt, alloc, all as usize);
+    let meeting = Meeting::new(PUSHERS, 0);
+    let mut seats = Vec::new(alloc);
+    made(rt, seats.push(Seat::beside(rt, alloc, &stack, &mut party, None, 0)));
+    for pusher in 0..PUSHERS {
+        let first = pusher * BATCHES * BATCH;
+        let seat = Seat::beside(rt, alloc, &stack, &mut party, Some(first), BATCHES * BATCH);
+        made(rt, seats.push(seat));
+    }
+    let ended = thread::map_vec(rt, seats, &|seat: Seat<'_>| seat.run(rt, alloc, &meeting, &drops));
+    let mut taken = Vec::new(alloc);
+    for seat in made(rt, ended) {
+        for number in seat.taken {
+            made(rt, taken.push(number));
+        }
+    }
+    made(rt, taken.sort());
+    same(rt, taken.len() as u64, all);
+    for (place, number) in taken.iter().enumerate() {
+        same(rt, *number, place as u64);
+    }
+    dropped(rt, &drops, all);
+}
+
+#[test]
+fn batches_of_threads_stay_together(rt: HostRuntime) {
+    batches_stay_together(&rt, rt.alloc());
+}
