@@ -1,16 +1,18 @@
 //! Pushes to a stack that threads share, and takings, by one party that is alone.
-ghost use Rattle.std.specs.Prelude.{◌≡◌, ◌+◌, ◌<◌, ◌≤◌, [], length};
+ghost use Rattle.std.specs.Prelude.{◌≡◌, suc, ◌+◌, ◌<◌, ◌≤◌, [], length};
 ghost use Rattle.cordyceps_shared.specs.Shares.{whole};
 
+use crate::cost::Cost;
 use crate::fault::Fault;
 use crate::nodes::{make_nodes, sum_numbers};
 use crate::stacks::{StackNode, pop_all};
 use crate::stopwatch::Stopwatch;
 use crate::table::{Bench, Entry, Round, Table};
 use cordyceps_commands::Item;
-use cordyceps_stack::stack::{MAX_ROOMS, Party, TransferStack};
+use cordyceps_stack::stack::{MAX_ROOMS, Party, Stack, TransferStack};
 use std::alloc::Global;
-use std::time::Clock;
+use std::sync::Wait;
+use std::time::{Clock, Duration};
 
 /// Kinds of call on a stack that threads share.
 #[derive(Clone, Copy)]
@@ -31,6 +33,9 @@ const KINDS: [Entry<Calls>; 2] = [
     ),
 ];
 
+/// How many elements are pushed at one step.
+const BATCH: usize = 64;
+
 /// A stack that threads share, the party that has all of its rooms, and elements, for each of which there is a room.
 #[derive(Drop)]
 struct Transfers {
@@ -41,6 +46,21 @@ struct Transfers {
     ghost seated: { party.table ≡ stack },
     ghost alone: { party.share ≡ whole },
     ghost enough: { length nodes.items ≤ party.rooms },
+}
+
+/// A stack of an element and of those that a vector pops: 64 in all, if there are as many.
+fn gather(first: StackNode, nodes: &mut Vec<StackNode>) -> Stack<Item>
+    ensures { length result + length nodes.new.items ≡ suc (length nodes.old.items) }
+{
+    let mut batch = Stack::new();
+    batch.push(first);
+    for _place in 1..BATCH {
+        match nodes.pop() {
+            Some(node) => batch.push(node),
+            None => return batch,
+        }
+    }
+    batch
 }
 
 impl Transfers {
@@ -69,6 +89,22 @@ impl Transfers {
                 unreachable!()
             }
         }
+    }
+
+    /// Pushes all of the elements, 64 at one step, the last first. Returns how long these steps took: the pushes of the
+    /// elements onto plain stacks are not measured.
+    fn push_batches<R: Clock + Wait>(&mut self, rt: &R) -> Duration
+        ensures { self.new.nodes.items ≡ [] }
+    {
+        let mut time = Duration::ZERO;
+        let mut stopwatch = Stopwatch::start(rt);
+        while let Some(node) = self.nodes.pop() {
+            let batch = gather(node, &mut self.nodes);
+            stopwatch.look(rt);
+            self.stack.push_all(rt, &mut self.party, batch);
+            time = time.saturating_add(stopwatch.look(rt));
+        }
+        time
     }
 
     /// Takes all elements, and pops them out of what was taken.
@@ -104,8 +140,30 @@ impl Bench<Calls> for Transfers {
     }
 }
 
-/// Measures stacks that threads share, and shows them. Returns the sum of the numbers of what came out last.
-pub fn show_transfers<R: Clock + Print>(
+/// Measures pushes of 64 elements at one step, and shows them. Returns the sum of the numbers of what came out last.
+fn show_batches<R: Clock + Print + Wait>(
+    rt: &R,
+    alloc: Global,
+    table: Table,
+    elements: usize,
+) -> Result<u64, Fault>
+    requires { elements ≤ MAX_ROOMS }
+{
+    let mut transfers = Transfers::new(alloc, elements)?;
+    let mut cost = Cost::none();
+    for _ in 0..table.rounds {
+        let count = transfers.nodes.len();
+        let time = transfers.push_batches(rt);
+        transfers.take_all();
+        cost.add(count, time);
+    }
+    let row = ("TransferStack: push_all(64)", cost, "an element's share");
+    table.rows(rt, elements, &[row])?;
+    transfers.seen(Calls::Take)
+}
+
+/// Measures stacks that threads share, and shows them. Returns the sum of the numbers of what came out last of each.
+pub fn show_transfers<R: Clock + Print + Wait>(
     rt: &R,
     alloc: Global,
     table: Table,
@@ -114,5 +172,7 @@ pub fn show_transfers<R: Clock + Print>(
     requires { elements ≤ MAX_ROOMS }
 {
     let transfers = Transfers::new(alloc, elements)?;
-    table.measure(rt, transfers, elements, &KINDS)
+    let single = table.measure(rt, transfers, elements, &KINDS)?;
+    let batches = show_batches(rt, alloc, table, elements)?;
+    Ok(single.wrapping_add(batches))
 }

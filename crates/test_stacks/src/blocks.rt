@@ -1,4 +1,6 @@
 //! Numbered blocks, which count their drops.
+ghost use Rattle.std.specs.Prelude.{◌≡◌, length};
+
 use crate::compared::{made, same};
 use cordyceps_base::node::Node;
 use freelist::{Links, Stack};
@@ -25,6 +27,16 @@ pub fn pair(rt: &impl Abort, alloc: Global, first: u64, drops: &Drops) -> (Handl
     let one = made(rt, block(alloc, first, drops));
     let two = made(rt, block(alloc, first.wrapping_add(1), drops));
     (one, two)
+}
+
+/// Returns a stack of two blocks, of which the first pops first.
+pub fn two_of(first: Handle, second: Handle) -> Stack<Counted>
+    ensures { length result ≡ 2 }
+{
+    let mut blocks = Stack::new();
+    blocks.push(second);
+    blocks.push(first);
+    blocks
 }
 
 /// Returns blocks of the numbers from the first to the one before the end.

@@ -1,8 +1,8 @@
 //! Calls of a free list, one after the other.
-use crate::blocks::{Handle, block, dropped, no_drops, pair, pops};
-use crate::compared::{made, same};
+use crate::blocks::{Handle, block, dropped, no_drops, pair, pops, two_of};
+use crate::compared::{at_most, made, same};
 use crate::users::{Remote, finishes, gets, puts};
-use freelist::{FreeList, Local};
+use freelist::{FreeList, Local, Stack};
 use std::alloc::AllocError;
 use std::process::Abort;
 use test_support::counted::{Counted, Drops};
@@ -53,6 +53,28 @@ fn a_free_list_without_rooms_shares_nothing(rt: HostRuntime) {
     list.absorb(&mut party, other);
     same(&rt, party.rooms(), 0);
     pops(&rt, list.close(party), &[]);
+}
+
+#[test]
+fn blocks_of_a_stack_are_put_back_at_once(rt: HostRuntime) {
+    let drops = no_drops(&rt, rt.alloc());
+    let (one, two) = pair(&rt, rt.alloc(), 1, &drops);
+    let (three, four) = pair(&rt, rt.alloc(), 3, &drops);
+    let (list, mut party) = made(&rt, FreeList::new(rt.alloc(), 4));
+    let mut remote = list.split(&mut party, 4);
+    at_most(&rt, 2, remote.rooms());
+    let blocks = two_of(three, four);
+    same(&rt, list.put_remote_all(&rt, &mut remote, blocks), true);
+    at_most(&rt, 2, remote.rooms());
+    let blocks = two_of(one, two);
+    same(&rt, list.put_remote_all(&rt, &mut remote, blocks), false);
+    same(&rt, list.put_remote_all(&rt, &mut remote, Stack::new()), false);
+    same(&rt, remote.rooms(), 0);
+    let mut local = list.local(party);
+    let wanted = [Some(1), Some(2), Some(3), Some(4), None];
+    gets(&rt, &mut local, &wanted);
+    finishes(&rt, local, 4);
+    dropped(&rt, &drops, 4);
 }
 
 /// Puts a block back for all and gets it.

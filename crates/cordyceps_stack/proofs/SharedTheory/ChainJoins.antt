@@ -1,6 +1,6 @@
 -- What the parts of a push of several elements come to together.
-use Rattle.std.proofs.Common.{◌≡◌, ◌↔◌, ℕ, zero, suc, ◌+◌, ◌-◌, ◌≤◌, ◌<◌, List, [], ◌∷◌, ◌++◌, map, length, replicate, take, drop, Bool, true, eqb, refl, sym, ap, ◌∙◌, subst, inl, inr, arith, append-nil, append_assoc, length-append, length-drop, Option}
-use Rattle.std.proofs.lemmas.List.{map-append, length-map, length-take-le}
+use Rattle.std.proofs.Common.{◌≡◌, ◌↔◌, ℕ, suc, ◌+◌, ◌-◌, ◌≤◌, List, [], ◌∷◌, ◌++◌, map, length, replicate, take, Bool, true, eqb, refl, sym, ap, ◌∙◌, subst, inl, inr, arith, append-nil, append_assoc, length-drop}
+use Rattle.std.proofs.lemmas.List.{map-append, length-take-le}
 use Rattle.std.specs.Prelude.{IsTrue}
 use Rattle.atomic_table.specs.Table.{turned}
 use Rattle.cordyceps_shared.specs.FreeChains.{Tracks, FreeChain, leads, first_rooms, rest_rooms}
@@ -14,14 +14,13 @@ use Rattle.cordyceps_shared.proofs.Places.{near_take, near_drop}
 use Rattle.cordyceps_shared.proofs.Telling.{grown_then}
 use Rattle.cordyceps_shared.proofs.TrackRooms.{first_room, tracks_keeping}
 use Rattle.cordyceps_stack.specs.History.{Event, Load, held, Legal, actor}
-use Rattle.cordyceps_stack.specs.Cores.Stages.{room_elements}
 use Rattle.cordyceps_stack.specs.Shared.Calls.{EndsPushedAll, EndsLooked, pushes_of}
 use Rattle.cordyceps_stack.specs.Shared.Parts.{HoldsFirst, HasMissed, HasFilled, SettlesAllAt, HasPushedAll}
 use Rattle.cordyceps_stack.specs.Shared.Plays.{SeatState, Sees, HasHitAll, HasFailedAll, IsResting, IsReadyAll, rooms_then, elements_then, chain_then}
 use Rattle.cordyceps_stack.specs.Shared.Slots.{Hand, rooms_of, filled, vacant, in_use_to, all_vacant}
 use Rattle.cordyceps_stack.specs.Shared.View.{Doing, Holding, View, name, held_rooms}
 use Rattle.cordyceps_stack.proofs.Histories.{held_more}
-use Rattle.cordyceps_stack.proofs.SharedTheory.PartsJoin.{Tried, NextFree, next_free_of, is_zero, then_missed, loads_then, tried_name}
+use Rattle.cordyceps_stack.proofs.SharedTheory.PartsJoin.{Tried, NextFree, is_zero, then_missed, loads_then, tried_name}
 use Rattle.cordyceps_stack.proofs.SharedTheory.SlotMoves.{in_use_last}
 use Rattle.cordyceps_stack.proofs.SharedTheory.WordsKeep.{elements_onto}
 

@@ -1,5 +1,5 @@
 -- A push of several elements at one step keeps the rule of a transfer stack's table.
-use Rattle.std.proofs.Common.{◌≡◌, ◌≢◌, ℕ, suc, ◌+◌, ◌≤◌, ◌<◌, List, [], ◌∷◌, ◌++◌, map, reverse, length, set, get_or, eqb, Bool, true, refl, sym, ap, ◌∙◌, subst, arith, append-nil, eq-eqb, ne_eqb, length-set}
+use Rattle.std.proofs.Common.{◌≡◌, ◌≢◌, ℕ, suc, ◌+◌, ◌≤◌, List, [], ◌∷◌, ◌++◌, map, reverse, length, set, eqb, true, refl, sym, ap, ◌∙◌, subst, arith, append-nil, eq-eqb, ne_eqb, length-set}
 use mathlib.Core.Option.{some, none}
 use mathlib.Core.Logic.{dite}
 use native.Mathlib.Decide.{ℕ_discrete}
@@ -18,12 +18,10 @@ use Rattle.cordyceps_shared.proofs.Choices.{some_or, first_or, rest_from}
 use Rattle.cordyceps_shared.proofs.Counting.{tally_append}
 use Rattle.cordyceps_shared.proofs.Places.{times_at}
 use Rattle.cordyceps_shared.proofs.Seeing.{marked_append}
-use Rattle.cordyceps_stack.specs.declared.shared.slot.Slot.{Slot}
 use Rattle.cordyceps_stack.specs.History.{Event, Load, Push, actor}
-use Rattle.cordyceps_stack.specs.Cores.Stages.{room_elements}
 use Rattle.cordyceps_stack.specs.Shared.Calls.{pushes_of}
 use Rattle.cordyceps_stack.specs.Shared.Slots.{Hand, TableStep, start, filled, rooms_of, in_use, in_use_to, all_vacant, AtHome}
-use Rattle.cordyceps_stack.specs.Shared.View.{Doing, Idle, LoadedAll, Holding, View, name, held_rooms, count_with_party}
+use Rattle.cordyceps_stack.specs.Shared.View.{Doing, Idle, LoadedAll, Holding, name, held_rooms, count_with_party}
 use Rattle.cordyceps_stack.specs.Shared.Words.{AtDoing}
 use Rattle.cordyceps_stack.specs.Shared.Rule.{TableState, RuleHolds}
 use Rattle.cordyceps_stack.specs.Shared.Plays.{SeatState, HasHitAll, HasFailedAll, rooms_then, elements_then, chain_then}
@@ -78,8 +76,8 @@ module _ {E : Type 0} where
       let all : Hand E = chain_then before r x read in
       let homes = homes_after s.homes all (give_all all) in
       let own : (q : ℕ) → times q (rooms_of all) ≡ times q rooms = λ q.
-          let a = tally_append (λ p. one_if (eqb p q)) (rooms_of before) (r ∷ []) in
-          let b = ap (times q) (rooms_to before (suc r)) in omega arith in
+      let a = tally_append (λ p. one_if (eqb p q)) (rooms_of before) (r ∷ []) in
+      let b = ap (times q) (rooms_to before (suc r)) in omega arith in
       let was : (q : ℕ) → count_with_party q v ≡ times q v.free.rooms + times q rooms = λ q. ap (λ d. times q v.free.rooms + times q (held_rooms d)) poised.doing in
       let same : (q : ℕ) → times q rooms ≡ 0 → get_elem? homes q ≡ get_elem? s.homes q = λ q none_of. ungiven all s.homes q (own q ∙ none_of) in
       let given = given_home all s.homes (λ q. let o = once s k id v q at in let c = was q in let p = own q in omega arith)

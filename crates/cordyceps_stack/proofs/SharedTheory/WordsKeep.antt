@@ -141,10 +141,10 @@ module _ {E : Type 0} where
       (head_set ws first inside ∙ sym (start_onto before ((r, x) ∷ chain)))
       (elements_onto before ((r, x) ∷ chain) ∙ (sym (append_assoc (room_elements before) (x ∷ []) (room_elements chain)) ∙ ((λ i. sym (reverse-reverse es) i ++ m.holds i) ∙ (sym (reverse-append old (reverse es)) ∙ ap (λ z. reverse z) (sym held_now)))))
       (λ s.
-          let a : count_with_party s w ≡ times s v.free.rooms + 0 = (λ i. times s (free i).rooms + times s (held_rooms (now i))) in
-          let b : count_with_party s v ≡ times s v.free.rooms + times s (rooms_then before r) = ap (λ l. times s v.free.rooms + times s l) was in
-          let c : in_chain s chain' ≡ times s (rooms_of before ++ r ∷ rooms_of chain) = ap (times s) (map-append (λ (y : ℕ × E). y.0) before ((r, x) ∷ chain)) in
-          omega (arith, tally_append (λ p. one_if (eqb p s)) (rooms_of before) (r ∷ rooms_of chain), tally_append (λ p. one_if (eqb p s)) (rooms_of before) (r ∷ [])))
+      let a : count_with_party s w ≡ times s v.free.rooms + 0 = (λ i. times s (free i).rooms + times s (held_rooms (now i))) in
+      let b : count_with_party s v ≡ times s v.free.rooms + times s (rooms_then before r) = ap (λ l. times s v.free.rooms + times s l) was in
+      let c : in_chain s chain' ≡ times s (rooms_of before ++ r ∷ rooms_of chain) = ap (times s) (map-append (λ (y : ℕ × E). y.0) before ((r, x) ∷ chain)) in
+      omega (arith, tally_append (λ p. one_if (eqb p s)) (rooms_of before) (r ∷ rooms_of chain), tally_append (λ p. one_if (eqb p s)) (rooms_of before) (r ∷ [])))
       (subst (λ (d : Doing E). AtDoing ws' h' j d) (sym now) tt)
       (λ i read other. since_pushes ws ws' h i read j (pushes_of n es) (λ z. other (sym z)) (some_push n (room_elements before) x))
 

@@ -125,7 +125,7 @@ fn settle<E: Drop, R: Wait>(
     ensures answer { (before : List (ℕ × E)) → (x : E)
         → IsReadyAll words.now.table_id.slots first before last x seat.old.me
         → (tries : ℕ) × SettlesAllAt words.now.table_id.slots (suc tries) (elements_then before x) result
-            seat.old.me seat.new.me }
+        seat.old.me seat.new.me }
 {
     let backoff = Backoff::new();
     for _ in rt.forever() {
