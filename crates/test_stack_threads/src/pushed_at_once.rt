@@ -186,13 +186,20 @@ fn batches_stay_together<R: Threads + Wait + Abort + Sync>(rt: &R, alloc: Global
     let (stack, mut party) = new_stack(rt, alloc, all as usize);
     let meeting = Meeting::new(PUSHERS, 0);
     let mut seats = Vec::new(alloc);
-    made(rt, seats.push(Seat::beside(rt, alloc, &stack, &mut party, None, 0)));
+    made(
+        rt,
+        seats.push(Seat::beside(rt, alloc, &stack, &mut party, None, 0)),
+    );
     for pusher in 0..PUSHERS {
         let first = pusher * BATCHES * BATCH;
         let seat = Seat::beside(rt, alloc, &stack, &mut party, Some(first), BATCHES * BATCH);
         made(rt, seats.push(seat));
     }
-    let ended = thread::map_vec(rt, seats, &|seat: Seat<'_>| seat.run(rt, alloc, &meeting, &drops));
+    let ended = thread::map_vec(
+        rt,
+        seats,
+        &|seat: Seat<'_>| seat.run(rt, alloc, &meeting, &drops),
+    );
     let mut taken = Vec::new(alloc);
     for seat in made(rt, ended) {
         for number in seat.taken {

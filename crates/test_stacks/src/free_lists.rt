@@ -68,7 +68,11 @@ fn blocks_of_a_stack_are_put_back_at_once(rt: HostRuntime) {
     at_most(&rt, 2, remote.rooms());
     let blocks = two_of(one, two);
     same(&rt, list.put_remote_all(&rt, &mut remote, blocks), false);
-    same(&rt, list.put_remote_all(&rt, &mut remote, Stack::new()), false);
+    same(
+        &rt,
+        list.put_remote_all(&rt, &mut remote, Stack::new()),
+        false,
+    );
     same(&rt, remote.rooms(), 0);
     let mut local = list.local(party);
     let wanted = [Some(1), Some(2), Some(3), Some(4), None];
