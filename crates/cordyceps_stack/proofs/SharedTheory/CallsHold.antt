@@ -1,5 +1,5 @@
 -- What the calls of a shared transfer stack promise, from what their parts leave.
-use Rattle.std.proofs.Common.{◌≡◌, ◌+◌, ◌<◌, ℕ, suc, List, [], ◌∷◌, ◌++◌, reverse, length, replicate, Bool, refl, sym, ap, ◌∙◌, subst, arith, length-append, None}
+use Rattle.std.proofs.Common.{◌≡◌, ◌+◌, ◌<◌, ℕ, suc, List, [], ◌∷◌, ◌++◌, map, reverse, length, replicate, Bool, refl, sym, ap, ◌∙◌, subst, arith, length-append, None}
 use Rattle.std.specs.Prelude.{IsTrue, Result, Ok, Err, MatchResult, is_ok, true}
 use Rattle.atomic_table.specs.Seated.{TableId}
 use Rattle.cordyceps_shared.specs.FreeChains.{Tracks, FreeChain}
@@ -13,7 +13,7 @@ use Rattle.cordyceps_shared.proofs.Adding.{keeps_not_whole, not_whole, plain_unm
 use Rattle.cordyceps_shared.proofs.Places.{near_drop, near_take, near_append}
 use Rattle.cordyceps_shared.proofs.Naming.{joined_some, joined_disjoint, keeps_some, gives_some}
 use Rattle.cordyceps_shared.proofs.Ordering.{whole_share, keeps_share, gives_share, joined_share}
-use Rattle.cordyceps_stack.specs.Shared.Parts.{HasTried, HasPushed, HasPushedAll, HasMissed, TookAll, EmptiesHand, HasAbsorbed, standing, IsSeated}
+use Rattle.cordyceps_stack.specs.Shared.Parts.{HasTried, HasPushed, HasPushedAll, HasBacked, HasMissed, TookAll, EmptiesHand, HasAbsorbed, standing, IsSeated}
 use Rattle.cordyceps_shared.specs.declared.free.FreeRooms.{FreeRooms}
 use Rattle.cordyceps_stack.specs.History.{Event, Load, Push, Taken, held, Legal, actor}
 use Rattle.cordyceps_stack.specs.Cores.Stages.{room_elements}
@@ -161,6 +161,18 @@ module _ {E : Type 0} where
       → MatchResult r (λ first. PushesAt 1 x first (standing z m.0) (standing z' k.0)) (λ back. (back ≡ x) × Misses (standing z m.0) (standing z' k.0))
   tries_once z z' (Ok first) x m k t at = pushes_at z z' 1 x first m k t at
   tries_once z z' (Err back) x m k t at = (t.0, misses_once z z' m k t.1 at)
+
+  -- ---- a try to push all
+  pub tries_all : {A : Type 0} (el : E → A) (els : List A) (z z' : TableId) (r : Result Bool (List A)) (m k : SeatState E)
+      → MatchResult r (λ first. (pushed : List E) × (els ≡ map el pushed) × HasPushedAll 1 pushed first m k) (λ back. (back ≡ els) × HasBacked m k) → z' ≡ z
+      → MatchResult r (λ first. (pushed : List E) × (els ≡ map el pushed) × PushesAllAt 1 pushed first (standing z m.0) (standing z' k.0)) (λ back. (back ≡ els) × Misses (standing z m.0) (standing z' k.0))
+  tries_all el els z z' (Ok first) m k t at = (t.0, t.1, pushes_all_at z z' 1 t.0 first m k t.2 at)
+  tries_all el els z z' (Err back) m k t at = let h = t.1 in (t.0, (adds z z' m.0 k.0 (Load (name m.0) ∷ []) h.sees at, h.overtaken, h.free))
+
+  pub whole_pushes_all : {A : Type 0} (el : E → A) (els : List A) (r : Result Bool (List A)) (m k : SeatState E)
+      → MatchResult r (λ first. (pushed : List E) × (els ≡ map el pushed) × HasPushedAll 1 pushed first m k) (λ back. (back ≡ els) × HasBacked m k) → m.0.known.share ≡ whole → is_ok r ≡ true
+  whole_pushes_all el els (Ok first) m k t is = refl
+  whole_pushes_all el els (Err back) m k t is = let h = t.1 in absurd (not_overtaken k.0.known.seen (h.sees.alone (h.sees.share ∙ is)) h.overtaken)
 
   pub whole_pushes : (r : Result Bool E) (x : E) (m k : SeatState E) → MatchResult r (λ first. HasPushed 1 x first m k) (λ back. (back ≡ x) × HasMissed m k) → m.0.known.share ≡ whole → is_ok r ≡ true
   whole_pushes (Ok first) x m k t is = refl

@@ -1,5 +1,5 @@
 -- What the parts of a push of several elements come to together.
-use Rattle.std.proofs.Common.{◌≡◌, ◌↔◌, ℕ, suc, ◌+◌, ◌-◌, ◌≤◌, List, [], ◌∷◌, ◌++◌, map, length, replicate, take, Bool, true, eqb, refl, sym, ap, ◌∙◌, subst, inl, inr, arith, append-nil, append_assoc, length-drop}
+use Rattle.std.proofs.Common.{◌≡◌, ◌↔◌, ℕ, suc, ◌+◌, ◌-◌, ◌≤◌, List, [], ◌∷◌, ◌++◌, map, length, replicate, take, Bool, true, eqb, refl, sym, ap, ◌∙◌, subst, inl, inr, arith, append-nil, append_assoc, length-append, length-drop}
 use Rattle.std.proofs.lemmas.List.{map-append, length-take-le}
 use Rattle.std.specs.Prelude.{IsTrue}
 use Rattle.atomic_table.specs.Table.{turned}
@@ -14,14 +14,15 @@ use Rattle.cordyceps_shared.proofs.Places.{near_take, near_drop}
 use Rattle.cordyceps_shared.proofs.Telling.{grown_then}
 use Rattle.cordyceps_shared.proofs.TrackRooms.{first_room, tracks_keeping}
 use Rattle.cordyceps_stack.specs.History.{Event, Load, held, Legal, actor}
-use Rattle.cordyceps_stack.specs.Shared.Calls.{EndsPushedAll, EndsLooked, pushes_of}
-use Rattle.cordyceps_stack.specs.Shared.Parts.{HoldsFirst, HasMissed, HasFilled, SettlesAllAt, HasPushedAll}
-use Rattle.cordyceps_stack.specs.Shared.Plays.{SeatState, Sees, HasHitAll, HasFailedAll, IsResting, IsReadyAll, rooms_then, elements_then, chain_then}
-use Rattle.cordyceps_stack.specs.Shared.Slots.{Hand, rooms_of, filled, vacant, in_use_to, all_vacant}
-use Rattle.cordyceps_stack.specs.Shared.View.{Doing, Holding, View, name, held_rooms}
+use Rattle.cordyceps_stack.specs.Cores.Stages.{room_elements}
+use Rattle.cordyceps_stack.specs.Shared.Calls.{EndsPushedAll, EndsLooked, IsOvertaken, pushes_of}
+use Rattle.cordyceps_stack.specs.Shared.Parts.{HoldsFirst, HasMissed, HasFilled, HasKept, HasBacked, SettlesAllAt, HasPushedAll, HasTaken, EmptiesHand}
+use Rattle.cordyceps_stack.specs.Shared.Plays.{SeatState, Sees, HasHitAll, HasFailedAll, IsResting, IsReadyAll, IsWalking, to_hand_out, all_then, rooms_then, elements_then, chain_then}
+use Rattle.cordyceps_stack.specs.Shared.Slots.{Hand, start, rooms_of, filled, vacant, in_use, in_use_to, all_vacant}
+use Rattle.cordyceps_stack.specs.Shared.View.{Holding, Walking, View, name, taking, held_rooms}
 use Rattle.cordyceps_stack.proofs.Histories.{held_more}
 use Rattle.cordyceps_stack.proofs.SharedTheory.PartsJoin.{Tried, NextFree, is_zero, then_missed, loads_then, tried_name}
-use Rattle.cordyceps_stack.proofs.SharedTheory.SlotMoves.{in_use_last}
+use Rattle.cordyceps_stack.proofs.SharedTheory.SlotMoves.{in_use_last, start_onto}
 use Rattle.cordyceps_stack.proofs.SharedTheory.WordsKeep.{elements_onto}
 
 -- the first of n free rooms, and the others
@@ -124,7 +125,7 @@ module _ {E : Type 0} where
       let left = ap (λ (l : List ℕ). length l) free ∙ length-drop n m.0.free.rooms in
       record {
         ready = record {
-          doing = ap (λ v. v.doing) view ∙ ap (λ l. let d : Doing E = Holding l in d) rooms;
+          rooms = ap (λ v. held_rooms v.doing) view ∙ rooms;
           link = next;
           hand = all.1;
           first_is = (let up : first ≡ suc (first - 1) = omega arith in up) ∙ first_led f.done last (first - 1) of.others (sym rooms ∙ of.is);
@@ -170,16 +171,20 @@ module _ {E : Type 0} where
   }
 
   pub fails_all_once : (slots first last read : ℕ) (before : List (ℕ × E)) (x : E) (m l k : SeatState E) → IsReadyAll slots first before last x m → l.0.free ≡ m.0.free → Sees m.0 (Load (name m.0) ∷ []) l.0
-      → HasFailedAll (rooms_then before last) (l.0, chain_then before last x read) k → IsReadyAll slots first before last x k × HasMissed m k
+      → HasFailedAll slots (all_then before last x) (l.0, chain_then before last x read) k → HasKept slots first before last x k × HasMissed m k
   fails_all_once slots first last read before x m l k ready free sees failed = (
     record {
+      ready = record {
+        rooms = ap (λ d. held_rooms d) failed.doing ∙ map-append (λ (z : ℕ × E). z.0) before ((last, x) ∷ []);
+        link = read;
+        hand = failed.hand;
+        first_is = ready.first_is;
+        named = λ e. ready.named (sym (failed.sees.share ∙ sees.share) ∙ e);
+        near = subst (λ l. Near slots l.rooms) (sym (failed.free ∙ free)) ready.near;
+        inside = ready.inside;
+      };
       doing = failed.doing;
-      link = read;
-      hand = failed.hand;
-      first_is = ready.first_is;
-      named = λ e. ready.named (sym (failed.sees.share ∙ sees.share) ∙ e);
-      near = subst (λ l. Near slots l.rooms) (sym (failed.free ∙ free)) ready.near;
-      inside = ready.inside;
+      few = failed.few;
     },
     record { free = failed.free ∙ free; sees = then_missed m.0 l.0 k.0 sees failed.sees; overtaken = failed.overtaken },
   )
@@ -230,3 +235,59 @@ module _ {E : Type 0} where
           (λ b. still ∙ looked.none.0 b, λ e. looked.none.1 (sym still ∙ e));
     };
   }
+
+  -- ---- a failed try hands all back
+  in_use_null : (xs : List (ℕ × E)) → in_use_to xs 0 ≡ in_use xs
+  in_use_null [] = refl
+  in_use_null (x ∷ xs) = λ i. (x.0, filled x.1 (leads_null xs i)) ∷ in_use_null xs i
+    where
+      leads_null : (ys : List (ℕ × E)) → leads (rooms_of ys) 0 ≡ start ys
+      leads_null [] = refl
+      leads_null (y ∷ ys) = refl
+
+  taking_then : (before : List (ℕ × E)) (r : ℕ) (x : E) → taking (all_then before r x) ≡ Walking (all_then before r x)
+  taking_then [] r x = refl
+  taking_then (y ∷ ys) r x = refl
+
+  -- the last room leads to null, and its slot is the last in hand
+  pub kept_taken : (slots first last : ℕ) (before : List (ℕ × E)) (x : E) (a t : SeatState E) → HasKept slots first before last x a → t.0 ≡ a.0 → t.1 ≡ turned ((last, filled x 0) ∷ in_use_to before (suc last)) → HasTaken slots first t × (to_hand_out t.0.doing ≡ all_then before last x)
+  kept_taken slots first last before x a t kept same hand =
+      let all = all_then before last x in
+      let doing = ap (λ v. v.doing) same ∙ kept.doing in
+      let out : to_hand_out t.0.doing ≡ all = ap to_hand_out doing in (
+        record {
+          at_is = kept.ready.first_is ∙ (sym (start_onto before ((last, x) ∷ [])) ∙ ap start (sym out));
+          walks = subst (λ xs. IsWalking slots xs t) (sym out) record {
+            doing = doing ∙ sym (taking_then before last x);
+            hand = hand ∙ (sym (in_use_last before last 0 x) ∙ in_use_null all);
+            chain = subst (Near slots) (sym (map-append (λ (z : ℕ × E). z.0) before ((last, x) ∷ []))) kept.ready.inside;
+            few = kept.few;
+            named = λ e. kept.ready.named (sym (ap (λ v. v.known.share) same) ∙ e);
+            near = subst (λ v. Near slots v.free.rooms) (sym same) kept.ready.near;
+          };
+        },
+        out,
+      )
+
+  pub backed : (slots first last : ℕ) (before : List (ℕ × E)) (x : E) (m f a t k : SeatState E) → HasFilled slots first before last x m f → HasMissed f a → t.0 ≡ a.0 → to_hand_out t.0.doing ≡ all_then before last x → EmptiesHand slots t k → HasBacked m k
+  backed slots first last before x m f a t k had missed same out back =
+      let known : k.0.known ≡ a.0.known = back.known ∙ ap (λ v. v.known) same in
+      let free : t.0.free ≡ f.0.free = ap (λ v. v.free) same ∙ missed.free in record {
+        free =
+            let one = back.free in
+            let two = had.rooms in
+            let three = ap (λ (l : FreeChain). length l.rooms) free in
+            let four = ap (λ (l : List (ℕ × E)). length l) out in
+            let five = length-append before ((last, x) ∷ []) in
+            let six = length-append (room_elements before) (x ∷ []) in
+            let seven = length_elements before in omega arith;
+        sees = subst (λ (p : Known (Event Name E) × Known (Event Name E)). Grown actor (λ h. Legal h) p.0 (Load (first_name p.0.share) ∷ []) p.1) (λ i. (had.known i, sym known i)) missed.sees;
+        overtaken = subst (λ (p : Known (Event Name E)). IsOvertaken p.seen) (sym known) missed.overtaken;
+      }
+    where
+      length_elements : (xs : List (ℕ × E)) → length (room_elements xs) ≡ length xs
+      length_elements [] = refl
+      length_elements (y ∷ ys) = ap suc (length_elements ys)
+
+  pub elements_of_all : (before : List (ℕ × E)) (r : ℕ) (x : E) → room_elements (all_then before r x) ≡ elements_then before x
+  elements_of_all before r x = elements_onto before ((r, x) ∷ [])

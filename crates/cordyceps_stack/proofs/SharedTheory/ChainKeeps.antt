@@ -1,5 +1,6 @@
 -- A push of several elements at one step keeps the rule of a transfer stack's table.
 use Rattle.std.proofs.Common.{◌≡◌, ◌≢◌, ℕ, suc, ◌+◌, ◌≤◌, List, [], ◌∷◌, ◌++◌, map, reverse, length, set, eqb, true, refl, sym, ap, ◌∙◌, subst, arith, append-nil, eq-eqb, ne_eqb, length-set}
+use Rattle.std.proofs.lemmas.List.{map-append, length-map}
 use mathlib.Core.Option.{some, none}
 use mathlib.Core.Logic.{dite}
 use native.Mathlib.Decide.{ℕ_discrete}
@@ -15,16 +16,16 @@ use Rattle.cordyceps_shared.specs.Slots.{Near}
 use Rattle.cordyceps_shared.specs.Words.{head}
 use Rattle.cordyceps_shared.specs.declared.layout.TheConstants.{HEAD}
 use Rattle.cordyceps_shared.proofs.Choices.{some_or, first_or, rest_from}
-use Rattle.cordyceps_shared.proofs.Counting.{tally_append}
+use Rattle.cordyceps_shared.proofs.Counting.{tally_append, distinct_few}
 use Rattle.cordyceps_shared.proofs.Places.{times_at}
 use Rattle.cordyceps_shared.proofs.Seeing.{marked_append}
 use Rattle.cordyceps_stack.specs.History.{Event, Load, Push, actor}
 use Rattle.cordyceps_stack.specs.Shared.Calls.{pushes_of}
 use Rattle.cordyceps_stack.specs.Shared.Slots.{Hand, TableStep, start, filled, rooms_of, in_use, in_use_to, all_vacant, AtHome}
-use Rattle.cordyceps_stack.specs.Shared.View.{Doing, Idle, LoadedAll, Holding, name, held_rooms, count_with_party}
+use Rattle.cordyceps_stack.specs.Shared.View.{Doing, Idle, LoadedAll, Walking, name, held_rooms, count_with_party}
 use Rattle.cordyceps_stack.specs.Shared.Words.{AtDoing}
 use Rattle.cordyceps_stack.specs.Shared.Rule.{TableState, RuleHolds}
-use Rattle.cordyceps_stack.specs.Shared.Plays.{SeatState, HasHitAll, HasFailedAll, rooms_then, elements_then, chain_then}
+use Rattle.cordyceps_stack.specs.Shared.Plays.{SeatState, HasHitAll, HasFailedAll, all_then, rooms_then, elements_then, chain_then}
 use Rattle.cordyceps_stack.specs.Shared.Plays as play
 use Rattle.cordyceps_stack.proofs.SharedTheory.SlotMoves.{rooms_to, rooms_vacant, in_use_onto, home_frame, home_append, give_all, ungiven, given_valid, given_carried, given_home}
 use Rattle.cordyceps_stack.proofs.SharedTheory.StepsKeep.{slot_or, view_after, Passes, head_marked, told, step_keeps, unwritten, once, chain_stays, others_stay, overtaken}
@@ -40,20 +41,20 @@ module _ {E : Type 0} where
   marks_of j (e ∷ es) = λ i. (eq-eqb j j refl i, e) ∷ marks_of j es i
 
   -- ---- a load of head
-  pub loads_all : (slots id : ℕ) (me : SeatState E) (rooms : List ℕ) → me.0.doing ≡ Holding rooms → me.0.known.share ≢ [] → Allows RuleHolds slots id me HEAD (λ n. n) (play.after_load_all (step slots HEAD 0 0 none) me)
-  loads_all slots id me rooms ready named s k deep at fits =
+  pub loads_all : (slots id : ℕ) (me : SeatState E) → me.0.known.share ≢ [] → Allows RuleHolds slots id me HEAD (λ n. n) (play.after_load_all (step slots HEAD 0 0 none) me)
+  loads_all slots id me named s k deep at fits =
       let v = me.0 in
       let x : Event Name E = Load (name v) in
       let h = k.history ++ (id, x) ∷ [] in
       let read = head s.words in
-      let w = view_after v id h v.free (LoadedAll rooms read) in
-      let meets = loads s.words k.chain s.views k.history id v w (name v) k.meets at (λ q. let c = ap (λ d. times q (held_rooms d)) ready in omega arith) (since_now s.words k.history id (name v)) in
+      let w = view_after v id h v.free (LoadedAll (held_rooms v.doing) read) in
+      let meets = loads s.words k.chain s.views k.history id v w (name v) k.meets at (λ q. omega arith) (since_now s.words k.history id (name v)) in
       let t = told s k id (x ∷ []) v w h at named (refl, tt) refl refl meets.legal in (
         w,
         keeps,
         tt,
         unwritten s HEAD s.homes (set s.views id w) (step_keeps s k id v w s.words s.homes k.chain h meets refl k.full (k.free id v at) (λ _ _ _ _ _ _. refl) t.1 t.0),
-        λ rooms' ready'. (ap (λ p. let d : Doing E = LoadedAll (held_rooms p) read in d) (sym ready ∙ ready'), refl, refl, t.2),
+        (refl, refl, refl, t.2),
       )
 
   -- ---- an exchange of head
@@ -110,21 +111,28 @@ module _ {E : Type 0} where
         };
       }
 
-  fails_all : (slots id : ℕ) (me : SeatState E) (before : List (ℕ × E)) (r : ℕ) (x : E) (read : ℕ) → PoisedAll slots me before r x read → (s : TableState E) (k : RuleHolds s) → get_elem? s.views id ≡ some me.0
-      → head s.words ≢ read → Passes s id HEAD (head s.words) me (HasFailedAll (rooms_then before r) me)
-  fails_all slots id me before r x read poised s k at miss =
+  fails_all : (slots id : ℕ) (me : SeatState E) (before : List (ℕ × E)) (r : ℕ) (x : E) (read : ℕ) → PoisedAll slots me before r x read → (s : TableState E) (k : RuleHolds s) → length s.homes ≡ slots → get_elem? s.views id ≡ some me.0
+      → head s.words ≢ read → Passes s id HEAD (head s.words) me (HasFailedAll slots (all_then before r x) me)
+  fails_all slots id me before r x read poised s k deep at miss =
       let v = me.0 in
       let rooms = rooms_then before r in
-      let w = view_after v id k.history v.free (Holding rooms) in
+      let xs = all_then before r x in
+      let same : rooms_of xs ≡ rooms = map-append (λ (z : ℕ × E). z.0) before ((r, x) ∷ []) in
+      let w = view_after v id k.history v.free (Walking xs) in
+      let was : (q : ℕ) → count_with_party q v ≡ times q v.free.rooms + times q rooms = λ q. ap (λ d. times q v.free.rooms + times q (held_rooms d)) poised.doing in
       let known : AtDoing s.words k.history id (LoadedAll rooms read) = subst (λ (d : Doing E). AtDoing s.words k.history id d) poised.doing (k.meets.each id v at) in
-      let meets = rests s.words k.chain s.views k.history id v w k.meets at (λ q. let c = ap (λ d. times q (held_rooms d)) poised.doing in omega arith) tt in
-      let t = told s k id [] v w k.history at poised.named tt (sym (append-nil k.history)) refl meets.legal in record {
+      let meets = rests s.words k.chain s.views k.history id v w k.meets at (λ q. let c = was q in let d = ap (times q) same in omega arith) tt in
+      let t = told s k id [] v w k.history at poised.named tt (sym (append-nil k.history)) refl meets.legal in
+      let few = distinct_few slots rooms (λ q. let o = once s k id v q at in let c = was q in omega arith) (λ q m. let t = times_at q rooms m in poised.inside t.0 q t.1) in
+      let long = length-map xs (λ (z : ℕ × E). z.0) in
+      let size = ap (λ (l : List ℕ). length l) same in record {
         view = w;
         act = keeps;
         valid = tt;
         holds = unwritten s HEAD s.homes (set s.views id w) (step_keeps s k id v w s.words s.homes k.chain k.history meets refl k.full (k.free id v at) (λ _ _ _ _ _ _. refl) t.1 t.0);
         after = record {
           doing = refl;
+          few = omega arith;
           free = refl;
           hand = refl;
           sees = t.2;
@@ -143,17 +151,17 @@ module _ {E : Type 0} where
   used_to d (x ∷ xs) end = ap (λ l. x ∷ l) (used_to d xs end)
 
   -- what the exchange tells of a party that was poised with these rooms and elements, and this word
-  TellsAll : (me k : SeatState E) (found : ℕ) → List (ℕ × E) × ℕ × E × ℕ → Type 0
-  TellsAll me k found z = (found ≡ z.3 → HasHitAll (elements_then z.0 z.2) found me k) × (found ≢ z.3 → HasFailedAll (rooms_then z.0 z.1) me k)
+  TellsAll : (slots : ℕ) (me k : SeatState E) (found : ℕ) → List (ℕ × E) × ℕ × E × ℕ → Type 0
+  TellsAll slots me k found z = (found ≡ z.3 → HasHitAll (elements_then z.0 z.2) found me k) × (found ≢ z.3 → HasFailedAll slots (all_then z.0 z.1 z.2) me k)
 
-  says_all : (st : TableStep E) (slots : ℕ) (me k : SeatState E) (before : List (ℕ × E)) (r : ℕ) (x : E) (read found : ℕ) → PoisedAll slots me before r x read → TellsAll me k found (before, r, x, read) → play.after_exchange_all st me found k
+  says_all : (st : TableStep E) (slots : ℕ) (me k : SeatState E) (before : List (ℕ × E)) (r : ℕ) (x : E) (read found : ℕ) → PoisedAll slots me before r x read → TellsAll st.slots me k found (before, r, x, read) → play.after_exchange_all st me found k
   unfolding TellsAll
   says_all st slots me k before r x read found poised t before' r' x' read' doing hand =
       let q = sym poised.hand ∙ hand in
       let rooms : before ≡ before' = sym (used_to x before (suc r)) ∙ (ap (λ l. used x (rest_from l)) q ∙ used_to x before' (suc r')) in
       let slot = ap (λ l. slot_or (filled x read) l) q in
       let room = ap (λ (l : Hand E). first_or 0 (rooms_of l)) q in
-      subst (TellsAll me k found) (λ i. (rooms i, room i, some_or x (slot i).item, (slot i).link)) t
+      subst (TellsAll st.slots me k found) (λ i. (rooms i, room i, some_or x (slot i).item, (slot i).link)) t
 
   pub exchanges_all : (slots id new : ℕ) (me : SeatState E) (before : List (ℕ × E)) (r : ℕ) (x : E) (read : ℕ) → new ≡ leads (rooms_of before) (suc r) → PoisedAll slots me before r x read
       → Allows RuleHolds slots id me HEAD (λ n. either (eqb n read) new n) (play.after_exchange_all (step slots HEAD read new none) me)
@@ -169,7 +177,7 @@ module _ {E : Type 0} where
         subst (λ (m : ℕ). RuleHolds (stepped s HEAD m id me.1 d.view d.act)) (sym is ∙ sym (ap (λ b. either b new n) (eq-eqb n read hit))) d.holds,
         says_all st slots me (d.view, carried_after me.1 d.act) before r x read n poised (λ _. d.after, λ miss. absurd (miss hit)),
       ))
-      (λ miss. let d = fails_all slots id me before r x read poised s k at miss in (
+      (λ miss. let d = fails_all slots id me before r x read poised s k deep at miss in (
         d.view,
         d.act,
         d.valid,

@@ -1,5 +1,5 @@
 -- What the parts of a call on a shared transfer stack leave: of the party's seat m before, and of its seat k after.
-use Rattle.std.specs.Prelude.{◌≡◌, ℕ, suc, ◌+◌, List, [], ◌∷◌, ◌++◌, length, replicate, Bool, true, false, Option}
+use Rattle.std.specs.Prelude.{◌≡◌, ◌≤◌, ℕ, suc, ◌+◌, List, [], ◌∷◌, ◌++◌, length, replicate, Bool, true, false, Option}
 use Rattle.std.specs.Prelude.{IsTrue, MatchOption}
 use Rattle.atomic_table.specs.Seated.{TableId}
 use Rattle.cordyceps_shared.specs.FreeChains.{leads, with_first, first_rooms, rest_rooms, Tracks}
@@ -10,11 +10,11 @@ use Rattle.cordyceps_stack.specs.History.{Load, Push, Taken, Legal}
 use Rattle.cordyceps_stack.specs.Cores.Stages.{room_elements}
 use Rattle.cordyceps_stack.specs.Shared.Parting.{view_absorbing, view_without_told}
 use Rattle.cordyceps_stack.specs.Shared.Plays.{SeatState, Sees, HasHit, HasFailed, IsResting, IsReady, IsWalking}
-use Rattle.cordyceps_stack.specs.Shared.Plays.{IsReadyAll, elements_then, to_hand_out}
+use Rattle.cordyceps_stack.specs.Shared.Plays.{IsReadyAll, all_then, elements_then, to_hand_out}
 use Rattle.cordyceps_stack.specs.Shared.Rule.{IsTable}
 use Rattle.cordyceps_stack.specs.Shared.Calls.{PartyOf, EndsPushed, EndsPushedAll, IsOvertaken, pushes_of}
 use Rattle.cordyceps_stack.specs.Shared.Slots.{view, hand, start, all_vacant}
-use Rattle.cordyceps_stack.specs.Shared.View.{Idle, Holding, View, name}
+use Rattle.cordyceps_stack.specs.Shared.View.{Idle, Holding, Walking, View, name}
 
 -- a seat of this table, which is a stack's
 abbrev pub IsSeatOf : TableId → TableId → Type 0
@@ -70,6 +70,18 @@ module _ {E : Type 0} where
     pub ready : IsReadyAll slots first before last x k
     pub known : (view k).known ≡ (view m).known
     pub rooms : length (view m).free.rooms ≡ length (elements_then before x) + length (view k).free.rooms
+
+  -- another came between, and the party is still ready to push all
+  pub record HasKept (slots first : ℕ) (before : List (ℕ × E)) (last : ℕ) (x : E) (k : SeatState E) : Type 0 where
+    pub ready : IsReadyAll slots first before last x k
+    pub doing : (view k).doing ≡ Walking (all_then before last x)
+    pub few : length (all_then before last x) ≤ slots
+
+  -- another came between, and the party has its rooms again
+  pub record HasBacked (m k : SeatState E) : Type 0 where
+    pub free : length (view k).free.rooms ≡ length (view m).free.rooms
+    pub sees : Sees (view m) (Load (name (view m)) ∷ []) (view k)
+    pub overtaken : IsOvertaken (view k).known.seen
 
   -- the last of so many tries of a party that was ready has pushed all, and the party rests
   pub record SettlesAllAt (slots tries : ℕ) (es : List E) (first : Bool) (m k : SeatState E) : Type 0 where

@@ -76,11 +76,14 @@ module _ {E : Type 0} where
 
   -- a load by a party that has the slots of several rooms in hand, and pushes with all of them
   abbrev pub after_load_all : TableStep E → SeatState E → ℕ → SeatState E → Type 0
-  after_load_all st m read k = (rooms : List ℕ) → (view m).doing ≡ Holding rooms
-      → ((view k).doing ≡ LoadedAll rooms read) × ((view k).free ≡ (view m).free) × (hand k ≡ hand m)
-      × Sees (view m) (Load (name (view m)) ∷ []) (view k)
+  after_load_all st m read k =
+      ((view k).doing ≡ LoadedAll (held_rooms (view m).doing) read) × ((view k).free ≡ (view m).free)
+      × (hand k ≡ hand m) × Sees (view m) (Load (name (view m)) ∷ []) (view k)
 
-  -- rooms in use before one more room, and the elements in all of them
+  -- rooms in use before one more; all of these rooms; and the elements in them
+  abbrev pub all_then : List (ℕ × E) → ℕ → E → List (ℕ × E)
+  all_then before r x = before ++ (r, x) ∷ []
+
   abbrev pub rooms_then : List (ℕ × E) → ℕ → List ℕ
   rooms_then before r = rooms_of before ++ r ∷ []
 
@@ -99,8 +102,9 @@ module _ {E : Type 0} where
     pub sees : Sees (view m) (pushes_of (name (view m)) es) (view k)
     pub ends : EndsPushedAll es (found ≡ 0) (name (view m)) (view k).known.seen
 
-  pub record HasFailedAll (rooms : List ℕ) (m k : SeatState E) : Type 0 where
-    pub doing : (view k).doing ≡ Holding rooms
+  pub record HasFailedAll (slots : ℕ) (xs : List (ℕ × E)) (m k : SeatState E) : Type 0 where
+    pub doing : (view k).doing ≡ Walking xs
+    pub few : length xs ≤ slots
     pub free : (view k).free ≡ (view m).free
     pub hand : hand k ≡ hand m
     pub sees : Sees (view m) [] (view k)
@@ -110,7 +114,7 @@ module _ {E : Type 0} where
   after_exchange_all st m found k = (before : List (ℕ × E)) (r : ℕ) (x : E) (read : ℕ)
       → (view m).doing ≡ LoadedAll (rooms_then before r) read → hand m ≡ chain_then before r x read
       → (found ≡ read → HasHitAll (elements_then before x) found m k)
-      × (found ≢ read → HasFailedAll (rooms_then before r) m k)
+      × (found ≢ read → HasFailedAll st.slots (all_then before r x) m k)
 
   -- the chain's rooms are of a table with that many slots
   abbrev pub NearChain : ℕ → List (ℕ × E) → Type 0
@@ -178,7 +182,7 @@ module _ {E : Type 0} where
 
   -- the party pushes what is in the slots in hand, which are those of these rooms. This word leads to the first
   pub record IsReadyAll (slots first : ℕ) (before : List (ℕ × E)) (last : ℕ) (x : E) (m : SeatState E) : Type 0 where
-    pub doing : (view m).doing ≡ Holding (rooms_then before last)
+    pub rooms : held_rooms (view m).doing ≡ rooms_then before last
     pub link : ℕ
     pub hand : hand m ≡ chain_then before last x link
     pub first_is : first ≡ leads (rooms_of before) (suc last)

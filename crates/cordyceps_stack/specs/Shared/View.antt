@@ -18,7 +18,7 @@ pub data Doing (E : Type 0) : Type 0 where
   LoadedAll : List ℕ → ℕ → Doing E
   -- it has the slots of these rooms in hand, and returns them or goes on to push with them
   Holding : List ℕ → Doing E
-  -- it took these rooms with their elements, and has their slots in hand
+  -- it took these rooms with their elements, or could not push them, and has their slots in hand
   Walking : List (ℕ × E) → Doing E
 
 -- what the party knows of the history, its free rooms whose slots are at home, and what it does

@@ -1,14 +1,14 @@
 //! The stack that threads share.
-ghost use Rattle.std.specs.Prelude.{◌≡◌, ◌<◌, ◌≤◌, List, map, reverse, true, is_ok, MatchResult, IfOk};
+ghost use Rattle.std.specs.Prelude.{◌≡◌, ◌<◌, ◌≤◌, List, length, map, reverse, true, is_ok, MatchResult, IfOk};
 ghost use Rattle.cordyceps_shared.specs.Histories.{plain};
 ghost use Rattle.cordyceps_shared.specs.Shares.{whole};
 ghost use Rattle.cordyceps_shared.specs.Standings.{new_party, keeping, giving, Knows, Absorbs};
 ghost use Rattle.cordyceps_stack.specs.History.{held, Legal};
-ghost use Rattle.cordyceps_stack.specs.Shared.Calls.{PushesAt, Misses, Takes, Looks};
+ghost use Rattle.cordyceps_stack.specs.Shared.Calls.{PushesAt, PushesAllAt, Misses, Takes, Looks};
 
 use crate::shared::batch::hand_out;
 use crate::shared::table::{OwnedTable, PartySeat};
-use crate::shared::{parting, steps};
+use crate::shared::{chain, parting, steps};
 use cordyceps_base::linked::Linked;
 use cordyceps_base::shared::MAX_ROOMS;
 use cordyceps_base::stack::Links;
@@ -164,6 +164,36 @@ impl<T: Linked<Links<T>>> TransferStack<T> {
     {
         required::a_free_room(party.rooms());
         steps::try_push(&self.rooms.shared, &mut party.seat, &mut party.free, handle)
+    }
+
+    /// Tries once to push all elements of a stack at one step, as `push_all` does. Requires that the party has as many
+    /// rooms. Returns `true` if this stack was empty just before.
+    ///
+    /// # Errors
+    /// If another party pushed, or took what was held, between its two steps, all elements are returned in their order,
+    /// and the party keeps its rooms. To a whole party this never happens.
+    ///
+    /// # Complexity
+    /// O(n), for n elements: one load and one compare-exchange of the head, a load of another word, and a step on each of
+    /// n rooms; twice that on the rooms and the other word if the elements are returned.
+    ///
+    /// # Waits
+    /// Never.
+    pub fn try_push_all(&self, party: &mut Party<T>, elements: Stack<T>) -> Result<bool, Stack<T>>
+        requires table { party.old.table ≡ self.now }
+        requires rooms { length elements ≤ party.old.rooms }
+        ensures answer { MatchResult result
+            (λ first. (pushed : List T.Handle) × (elements ≡ map T.element pushed)
+            × PushesAllAt 1 pushed first party.old party.new)
+            (λ back. (back ≡ elements) × Misses party.old party.new) }
+        ensures whole { party.old.share ≡ whole → is_ok result ≡ true }
+    {
+        chain::try_push_all(
+            &self.rooms.shared,
+            &mut party.seat,
+            &mut party.free,
+            elements,
+        )
     }
 
     /// Returns `true` if the stack has no element. Other parties may change this at any time.

@@ -1,11 +1,13 @@
 //! How all elements of a plain stack are pushed at one step.
-ghost use Rattle.std.specs.Prelude.{◌≡◌, ◌≤◌, ℕ, suc, List, ◌∷◌, length, map, MatchOption};
+ghost use Rattle.std.specs.Prelude.{◌≡◌, ◌≤◌, ℕ, suc, List, ◌∷◌, length, map, MatchOption, MatchResult};
 ghost use Rattle.cordyceps_shared.specs.FreeChains.{Tracks};
 ghost use Rattle.cordyceps_shared.specs.Shares.{whole};
-ghost use Rattle.cordyceps_stack.specs.Shared.Parts.{IsSeatOf, HoldsFirst, HasMissed, HasFilled, SettlesAllAt, HasPushedAll};
+ghost use Rattle.cordyceps_stack.specs.Shared.Parts.{IsSeatOf, HoldsFirst, HasMissed, HasFilled, HasKept, HasBacked};
+ghost use Rattle.cordyceps_stack.specs.Shared.Parts.{SettlesAllAt, HasPushedAll};
 ghost use Rattle.cordyceps_stack.specs.Shared.Plays.{IsResting, IsReadyAll, elements_then};
 ghost use Rattle.cordyceps_stack.specs.Shared.Slots.{Hand, view, hand, filled, vacant};
 
+use crate::shared::batch::hand_out;
 use crate::shared::plays::{ExchangeAll, Hold, LoadAll};
 use crate::shared::steps::{is_empty, pause, relink};
 use crate::shared::table::{PartySeat, QUIET, Words};
@@ -97,7 +99,7 @@ fn attempt<E: Drop>(
     ensures table { seat.new.table_id ≡ seat.old.table_id }
     ensures answer { (before : List (ℕ × E)) → (x : E)
         → IsReadyAll words.now.table_id.slots first before last x seat.old.me → MatchOption result
-        (IsReadyAll words.now.table_id.slots first before last x seat.new.me × HasMissed seat.old.me seat.new.me)
+        (HasKept words.now.table_id.slots first before last x seat.new.me × HasMissed seat.old.me seat.new.me)
         (λ none. SettlesAllAt words.now.table_id.slots 1 (elements_then before x) none seat.old.me seat.new.me) }
 {
     let read = words.load::<LoadAll>(seat, HEAD);
@@ -135,6 +137,38 @@ fn settle<E: Drop, R: Wait>(
         }
     }
     unreachable!()
+}
+
+/// Tries once to push all elements into the first free rooms. If there is no element, it looks.
+pub(crate) fn try_push_all<T: Linked<Links<T>>>(
+    words: &Words<T::Handle>,
+    seat: &mut PartySeat<T::Handle>,
+    free: &mut FreeRooms,
+    elements: Stack<T>,
+) -> Result<bool, Stack<T>>
+    requires table { IsSeatOf seat.old.table_id words.now.table_id }
+    requires rest { IsResting words.now.table_id.slots seat.old.me }
+    requires rooms { Tracks free.old (view seat.old.me).free × (length elements ≤ free.old.count) }
+    ensures table { seat.new.table_id ≡ seat.old.table_id }
+    ensures rest { IsResting words.now.table_id.slots seat.new.me }
+    ensures tracks { Tracks free.new (view seat.new.me).free }
+    ensures answer { MatchResult result
+        (λ none. (pushed : List T.Handle) × (elements ≡ map T.element pushed)
+        × HasPushedAll 1 pushed none seat.old.me seat.new.me)
+        (λ back. (back ≡ elements) × HasBacked seat.old.me seat.new.me) }
+{
+    let mut others = elements;
+    let Some(handle) = others.pop() else {
+        return Ok(is_empty(words, seat));
+    };
+    let first = free.first;
+    let last = fill(words, seat, free, handle, others);
+    if let Some(none) = attempt(words, seat, first, last) {
+        return Ok(none);
+    }
+    relink(words, seat, last, 0);
+    seat.turn();
+    Err(hand_out(words, seat, free, first))
 }
 
 /// Pushes all elements into the first free rooms, by as many tries as it needs, and returns whether the stack was empty.

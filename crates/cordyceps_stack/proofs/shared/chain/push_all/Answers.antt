@@ -33,13 +33,13 @@ pub returns-in-None-clause-rest : goal.returns-in-None-clause-rest
 returns-in-None-clause-rest g c =
     let f = c.fill-last.ensures.filled in
     let miss = c.in-None.ensures.answer f.0 f.1 f.2.ready in
-    (c.settle.ensures.answer f.0 f.1 miss.0).1.rests
+    (c.settle.ensures.answer f.0 f.1 miss.0.ready).1.rests
 
 pub returns-in-None-clause-tracks : goal.returns-in-None-clause-tracks
 returns-in-None-clause-tracks g c =
     let f = c.fill-last.ensures.filled in
     let miss = c.in-None.ensures.answer f.0 f.1 f.2.ready in
-    let s = c.settle.ensures.answer f.0 f.1 miss.0 in
+    let s = c.settle.ensures.answer f.0 f.1 miss.0.ready in
     subst (λ l. Tracks c.fill-last.new.free l) (sym (s.1.free ∙ miss.1.free)) c.fill-last.ensures.tracks
 
 pub returns-in-None-clause-pushed : goal.returns-in-None-clause-pushed
@@ -50,7 +50,7 @@ returns-in-None-clause-pushed g c =
     let k = c.settle.new.seat.me in
     let f = c.fill-last.ensures.filled in
     let miss = c.in-None.ensures.answer f.0 f.1 f.2.ready in
-    let s = c.settle.ensures.answer f.0 f.1 miss.0 in
+    let s = c.settle.ensures.answer f.0 f.1 miss.0.ready in
     let es = elements_then f.0 f.1 in
     let later = pushed_later slots s.0 es c.settle.result filled c.attempt.new.seat.me k miss.1 s.1 in
     let all = pushed_all slots c.args.free.now.first (suc (suc s.0)) c.fill-last.result f.0 f.1 c.settle.result m filled k f.2 later in

@@ -16,7 +16,7 @@ loop-preserved g c =
     let miss = c.in-None-attempt.ensures.answer ready.0 ready.1 (i.2 ready.0 ready.1 ready.2) in (
       search rules,
       search rules,
-      (λ before x r. (c.in-None-attempt.ensures.answer before x (i.2 before x r)).0),
+      (λ before x r. (c.in-None-attempt.ensures.answer before x (i.2 before x r)).0.ready),
       miss.1.free ∙ i.3,
       tried_again c.args.seat.now.me.0 c.loop.seat.me.0 c.attempt.new.seat.me.0 i.4 miss.1.sees,
     )
