@@ -202,7 +202,7 @@ fn show_spots<R: Clock + Print>(rt: &R, alloc: Global, table: Table) -> Result<u
 
 /// Measures and shows the collections that threads share, each by one party that is alone. Returns a number over what
 /// was seen.
-fn show_shared<R: Clock + Print + Wait>(rt: &R, alloc: Global, table: Table) -> Result<u64, Fault> {
+fn show_shared<R: Clock + Print>(rt: &R, alloc: Global, table: Table) -> Result<u64, Fault> {
     let transfers = show_transfers(rt, alloc, table, ELEMENTS)?;
     let queues = show_queues(rt, alloc, table, BATCHES)?;
     let lists = show_free_lists(rt, alloc, table, BATCHES, SHARED)?;
@@ -210,7 +210,7 @@ fn show_shared<R: Clock + Print + Wait>(rt: &R, alloc: Global, table: Table) -> 
 }
 
 /// Measures and shows calls on one thread.
-fn show_calls<R: Clock + Print + Wait>(rt: &R, alloc: Global, table: Table) -> Result<(), Fault> {
+fn show_calls<R: Clock + Print>(rt: &R, alloc: Global, table: Table) -> Result<(), Fault> {
     table.head(rt)?;
     let owned = show_owned(rt, alloc, table)?;
     let spots = show_spots(rt, alloc, table)?;

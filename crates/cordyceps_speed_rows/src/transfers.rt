@@ -2,7 +2,6 @@
 ghost use Rattle.std.specs.Prelude.{◌≡◌, suc, ◌+◌, ◌<◌, ◌≤◌, [], length};
 ghost use Rattle.cordyceps_shared.specs.Shares.{whole};
 
-use crate::cost::Cost;
 use crate::fault::Fault;
 use crate::nodes::{make_nodes, sum_numbers};
 use crate::stacks::{StackNode, pop_all};
@@ -11,7 +10,6 @@ use crate::table::{Bench, Entry, Round, Table};
 use cordyceps_commands::Item;
 use cordyceps_stack::stack::{MAX_ROOMS, Party, Stack, TransferStack};
 use std::alloc::Global;
-use std::sync::Wait;
 use std::time::{Clock, Duration};
 
 /// Kinds of call on a stack that threads share.
@@ -21,15 +19,22 @@ enum Calls {
     Push,
     /// A taking of all, and pops out of what was taken.
     Take,
+    /// Pushes of 64 at one step.
+    PushAll,
 }
 
 /// What is measured.
-const KINDS: [Entry<Calls>; 2] = [
+const KINDS: [Entry<Calls>; 3] = [
     ("TransferStack: try_push", Calls::Push, "a push by a party"),
     (
         "TransferStack: take_all",
         Calls::Take,
         "an element's share, and its pop",
+    ),
+    (
+        "TransferStack: try_push_all(64)",
+        Calls::PushAll,
+        "an element's share",
     ),
 ];
 
@@ -91,9 +96,9 @@ impl Transfers {
         }
     }
 
-    /// Pushes all of the elements, 64 at one step, the last first. Returns how long these steps took: the pushes of the
-    /// elements onto plain stacks are not measured.
-    fn push_batches<R: Clock + Wait>(&mut self, rt: &R) -> Duration
+    /// Pushes all of the elements, 64 at one step, the last first. Nobody comes between. Returns how long these steps
+    /// took: the pushes of the elements onto plain stacks are not measured.
+    fn push_batches(&mut self, rt: &impl Clock) -> Duration
         ensures { self.new.nodes.items ≡ [] }
     {
         let mut time = Duration::ZERO;
@@ -101,7 +106,9 @@ impl Transfers {
         while let Some(node) = self.nodes.pop() {
             let batch = gather(node, &mut self.nodes);
             stopwatch.look(rt);
-            self.stack.push_all(rt, &mut self.party, batch);
+            if self.stack.try_push_all(&mut self.party, batch).is_err() {
+                unreachable!()
+            }
             time = time.saturating_add(stopwatch.look(rt));
         }
         time
@@ -120,50 +127,33 @@ impl Bench<Calls> for Transfers {
     fn round(self, rt: &impl Clock, calls: Calls) -> Result<(Transfers, Round), Fault> {
         let mut transfers = self;
         let count = transfers.nodes.len();
+        if let Calls::PushAll = calls {
+            let time = transfers.push_batches(rt);
+            transfers.take_all();
+            return Ok((transfers, (count, time)));
+        }
         let mut stopwatch = Stopwatch::start(rt);
         transfers.push_all();
         let pushed = stopwatch.look(rt);
         transfers.take_all();
         let taken = stopwatch.look(rt);
         let time = match calls {
-            Calls::Push => pushed,
             Calls::Take => taken,
+            _ => pushed,
         };
         Ok((transfers, (count, time)))
     }
 
     fn seen(&mut self, calls: Calls) -> Result<u64, Fault> {
         match calls {
-            Calls::Push => Ok(0),
+            Calls::Push | Calls::PushAll => Ok(0),
             Calls::Take => sum_numbers(self.nodes.as_slice(), self.count),
         }
     }
 }
 
-/// Measures pushes of 64 elements at one step, and shows them. Returns the sum of the numbers of what came out last.
-fn show_batches<R: Clock + Print + Wait>(
-    rt: &R,
-    alloc: Global,
-    table: Table,
-    elements: usize,
-) -> Result<u64, Fault>
-    requires { elements ≤ MAX_ROOMS }
-{
-    let mut transfers = Transfers::new(alloc, elements)?;
-    let mut cost = Cost::none();
-    for _ in 0..table.rounds {
-        let count = transfers.nodes.len();
-        let time = transfers.push_batches(rt);
-        transfers.take_all();
-        cost.add(count, time);
-    }
-    let row = ("TransferStack: push_all(64)", cost, "an element's share");
-    table.rows(rt, elements, &[row])?;
-    transfers.seen(Calls::Take)
-}
-
-/// Measures stacks that threads share, and shows them. Returns the sum of the numbers of what came out last of each.
-pub fn show_transfers<R: Clock + Print + Wait>(
+/// Measures stacks that threads share, and shows them. Returns the sum of the numbers of what came out last.
+pub fn show_transfers<R: Clock + Print>(
     rt: &R,
     alloc: Global,
     table: Table,
@@ -172,7 +162,5 @@ pub fn show_transfers<R: Clock + Print + Wait>(
     requires { elements ≤ MAX_ROOMS }
 {
     let transfers = Transfers::new(alloc, elements)?;
-    let single = table.measure(rt, transfers, elements, &KINDS)?;
-    let batches = show_batches(rt, alloc, table, elements)?;
-    Ok(single.wrapping_add(batches))
+    table.measure(rt, transfers, elements, &KINDS)
 }

@@ -1,5 +1,5 @@
 //! The part of a free list that threads share.
-ghost use Rattle.std.specs.Prelude.{◌≡◌, ◌<◌, ◌≤◌, ℕ, suc, List, [], length, map, reverse, true, is_ok, MatchResult, IfOk};
+ghost use Rattle.std.specs.Prelude.{◌≡◌, ◌<◌, ◌≤◌, List, [], length, map, reverse, true, is_ok, MatchResult, IfOk};
 ghost use Rattle.cordyceps_shared.specs.Histories.{plain};
 ghost use Rattle.cordyceps_shared.specs.Shares.{whole};
 ghost use Rattle.cordyceps_shared.specs.Standings.{new_party, keeping, giving, Absorbs};
@@ -13,7 +13,6 @@ use cordyceps_shared::required;
 use cordyceps_stack::stack::{MAX_ROOMS, Party, Stack, TransferStack};
 use std::alloc::{AllocError, Global};
 use std::marker::Model;
-use std::sync::Wait;
 
 /// A free list that threads share: they put blocks back, and their owner takes them. A handle owns a block. Each block
 /// is with a user, in a `Local` or shared, and in one of these only.
@@ -98,26 +97,29 @@ impl<T: Linked<Links<T>>> FreeList<T> {
         self.shared.try_push(party, handle)
     }
 
-    /// Puts all blocks of a stack back for all at one step, and returns `true` if no block was shared just before. The
-    /// owner gets them in their order: the block that `blocks` would pop first comes first. Requires that the party has
-    /// as many rooms, which the blocks then use. If there is no block, it only looks whether one is shared.
+    /// Tries once to put all blocks of a stack back for all at one step. The owner gets them in their order: the block
+    /// that `blocks` would pop first comes first. Requires that the party has as many rooms, which the blocks then use.
+    /// Returns `true` if no block was shared just before. If there is no block, it only looks whether one is shared.
+    ///
+    /// # Errors
+    /// If another party put a block back, or took all, between its two steps, all blocks are returned in their order, and
+    /// the party keeps its rooms. To a whole party this never happens.
     ///
     /// # Complexity
-    /// O(n + t), for n blocks and t tries: a load of another word, a step on each of n rooms, and then for each try one
-    /// load and one compare-exchange of the head.
+    /// O(n), for n blocks: one load and one compare-exchange of the head, and steps on n rooms.
     ///
     /// # Waits
-    /// While other parties put blocks back, or take all, between its steps it tries again, and pauses from the second
-    /// failure on. If they do so without end, it never returns. A whole party succeeds at its first try.
-    pub fn put_remote_all<R: Wait>(&self, rt: &R, party: &mut Party<T>, blocks: Stack<T>) -> bool
+    /// Never.
+    pub fn put_remote_all(&self, party: &mut Party<T>, blocks: Stack<T>) -> Result<bool, Stack<T>>
         requires table { party.old.table ≡ self.now }
         requires rooms { length blocks ≤ party.old.rooms }
-        ensures shared { (shared : List T.Handle) × (blocks ≡ map T.element shared)
-            × ((tries : ℕ) × PushesAllAt (suc tries) shared result party.old party.new) }
-        ensures whole { party.old.share ≡ whole → (shared : List T.Handle) × (blocks ≡ map T.element shared)
-            × PushesAllAt 1 shared result party.old party.new }
+        ensures answer { MatchResult result
+            (λ first. (shared : List T.Handle) × (blocks ≡ map T.element shared)
+            × PushesAllAt 1 shared first party.old party.new)
+            (λ back. (back ≡ blocks) × Misses party.old party.new) }
+        ensures whole { party.old.share ≡ whole → is_ok result ≡ true }
     {
-        self.shared.push_all(rt, party, blocks)
+        self.shared.try_push_all(party, blocks)
     }
 
     /// Splits a new party off `party`, which gives it `rooms` of its rooms and a part of its share. The new party has

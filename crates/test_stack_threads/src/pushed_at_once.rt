@@ -14,11 +14,20 @@ use std::thread::Threads;
 use test_support::counted::{Counted, Drops};
 use test_support::nodes::number;
 
-/// Pushes all elements of a batch, and compares whether nothing was held before with what is wanted.
+/// By which call all elements of a batch are pushed.
+#[derive(Clone, Copy)]
+enum Way {
+    PushAll,
+    TryPushAll,
+}
+
+/// Pushes all elements of a batch, which nobody overtakes, and compares whether nothing was held before with what is
+/// wanted.
 fn pushes_all<R: Wait + Abort>(
     rt: &R,
     stack: &TransferStack<Counted>,
     party: &mut Party<Counted>,
+    way: Way,
     batch: Stack<Counted>,
     first: bool,
 )
@@ -26,22 +35,36 @@ fn pushes_all<R: Wait + Abort>(
     requires rooms { length batch ≤ party.old.rooms }
     ensures { party.new.table ≡ stack.now }
 {
-    let was_empty = stack.push_all(rt, party, batch);
+    let was_empty = match way {
+        Way::PushAll => stack.push_all(rt, party, batch),
+        Way::TryPushAll => match stack.try_push_all(party, batch) {
+            Ok(was_empty) => was_empty,
+            Err(_) => panic!(rt; "nobody else pushes or takes"),
+        },
+    };
     same(rt, was_empty, first);
 }
 
 /// Takes all that is held, and pushes it again into the rooms that came with it.
-fn turns_over<R: Wait + Abort>(rt: &R, stack: &TransferStack<Counted>, party: &mut Party<Counted>)
+fn turns_over<R: Wait + Abort>(
+    rt: &R,
+    stack: &TransferStack<Counted>,
+    party: &mut Party<Counted>,
+    way: Way,
+)
     requires { party.old.table ≡ stack.now }
     ensures { party.new.table ≡ stack.now }
 {
     let taken = stack.take_all(party);
-    pushes_all(rt, stack, party, taken, true);
+    pushes_all(rt, stack, party, way, taken, true);
 }
 
-/// Pushes the elements below a number, each by one try, and then so many at one step. Takes all, pushes it again at one
-/// step, and asserts in which order it comes out.
-fn come_in_order<R: Wait + Abort>(rt: &R, alloc: Global, rooms: usize, below: u64, count: usize) {
+/// How many rooms a stack has, how many elements are pushed, each by one try, and how many then at one step.
+type Row = (usize, u64, usize);
+
+/// Pushes elements of a row. Takes all, pushes it again at one step, and asserts in which order it comes out.
+fn come_in_order<R: Wait + Abort>(rt: &R, alloc: Global, way: Way, row: Row) {
+    let (rooms, below, count) = row;
     let drops = no_drops(rt, alloc);
     let (stack, mut party) = new_stack(rt, alloc, rooms);
     for number in 0..below {
@@ -50,10 +73,10 @@ fn come_in_order<R: Wait + Abort>(rt: &R, alloc: Global, rooms: usize, below: u6
     }
     let above = batch(rt, alloc, below, count, &drops);
     at_most(rt, count, party.rooms());
-    pushes_all(rt, &stack, &mut party, above, below == 0);
+    pushes_all(rt, &stack, &mut party, way, above, below == 0);
     let end = below.wrapping_add(count as u64);
     same(rt, (party.rooms() as u64).wrapping_add(end), rooms as u64);
-    turns_over(rt, &stack, &mut party);
+    turns_over(rt, &stack, &mut party, way);
     let mut held = stack.take_all(&mut party);
     for wanted in below..end {
         same(rt, number(held.pop()), Some(wanted));
@@ -67,8 +90,7 @@ fn come_in_order<R: Wait + Abort>(rt: &R, alloc: Global, rooms: usize, below: u6
 
 #[test]
 fn all_come_in_order_before_what_was_held(rt: HostRuntime) {
-    // rooms, elements below, and those that are pushed at one step
-    let rows: [(usize, u64, usize); 9] = [
+    let rows: [Row; 9] = [
         (3, 0, 0),
         (3, 3, 0),
         (1, 0, 1),
@@ -79,8 +101,9 @@ fn all_come_in_order_before_what_was_held(rt: HostRuntime) {
         (67, 3, 64),
         (100, 3, 64),
     ];
-    for (rooms, below, count) in rows {
-        come_in_order(&rt, rt.alloc(), rooms, below, count);
+    for row in rows {
+        come_in_order(&rt, rt.alloc(), Way::PushAll, row);
+        come_in_order(&rt, rt.alloc(), Way::TryPushAll, row);
     }
 }
 
@@ -129,14 +152,28 @@ impl<'s> Seat<'s> {
         }
     }
 
-    /// Pushes batches, each at one step.
+    /// Pushes batches, each at one step, and every other one first by one try.
     fn push<R: Wait + Abort>(&mut self, rt: &R, alloc: Global, first: u64, drops: &Drops) {
         for number in 0..BATCHES {
             let first = first.wrapping_add(number.wrapping_mul(BATCH));
             let batch = batch(rt, alloc, first, BATCH as usize, drops);
             at_most(rt, BATCH as usize, self.party.rooms());
-            self.stack.push_all(rt, &mut self.party, batch);
+            self.push_batch(rt, batch, number % 2 == 0);
         }
+    }
+
+    /// Pushes a batch at one step, for which there are rooms, first by one try if that is asked for.
+    fn push_batch<R: Wait>(&mut self, rt: &R, batch: Stack<Counted>, tries: bool)
+        requires { length batch ≤ self.old.party.rooms }
+    {
+        let mut left = batch;
+        if tries {
+            match self.stack.try_push_all(&mut self.party, left) {
+                Ok(_) => return,
+                Err(back) => left = back,
+            }
+        }
+        self.stack.push_all(rt, &mut self.party, left);
     }
 
     /// Takes all that is held, and asserts that each batch is whole and in order.

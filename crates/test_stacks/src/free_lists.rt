@@ -1,7 +1,7 @@
 //! Calls of a free list, one after the other.
 use crate::blocks::{Handle, block, dropped, no_drops, pair, pops, two_of};
-use crate::compared::{at_most, made, same};
-use crate::users::{Remote, finishes, gets, puts};
+use crate::compared::{made, same};
+use crate::users::{Remote, finishes, gets, puts, puts_all};
 use freelist::{FreeList, Local, Stack};
 use std::alloc::AllocError;
 use std::process::Abort;
@@ -62,22 +62,14 @@ fn blocks_of_a_stack_are_put_back_at_once(rt: HostRuntime) {
     let (three, four) = pair(&rt, rt.alloc(), 3, &drops);
     let (list, mut party) = made(&rt, FreeList::new(rt.alloc(), 4));
     let mut remote = list.split(&mut party, 4);
-    at_most(&rt, 2, remote.rooms());
-    let blocks = two_of(three, four);
-    same(&rt, list.put_remote_all(&rt, &mut remote, blocks), true);
-    at_most(&rt, 2, remote.rooms());
-    let blocks = two_of(one, two);
-    same(&rt, list.put_remote_all(&rt, &mut remote, blocks), false);
-    same(
-        &rt,
-        list.put_remote_all(&rt, &mut remote, Stack::new()),
-        false,
-    );
+    puts_all(&rt, &list, &mut remote, 2, two_of(three, four), true);
+    puts_all(&rt, &list, &mut remote, 2, two_of(one, two), false);
     same(&rt, remote.rooms(), 0);
     let mut local = list.local(party);
     let wanted = [Some(1), Some(2), Some(3), Some(4), None];
     gets(&rt, &mut local, &wanted);
     finishes(&rt, local, 4);
+    puts_all(&rt, &list, &mut remote, 0, Stack::new(), true);
     dropped(&rt, &drops, 4);
 }
 

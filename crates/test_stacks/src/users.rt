@@ -1,8 +1,8 @@
 //! Users of a free list: parties that put blocks back for all, and owners of a local part.
-ghost use Rattle.std.specs.Prelude.{◌≡◌, ◌<◌};
+ghost use Rattle.std.specs.Prelude.{◌≡◌, ◌<◌, length};
 
 use crate::blocks::{Handle, block};
-use crate::compared::{made, same};
+use crate::compared::{at_most, made, same};
 use freelist::{FreeList, Local, Party, Stack};
 use std::alloc::Global;
 use std::process::Abort;
@@ -28,6 +28,27 @@ pub fn puts(
 {
     has_room(rt, party.rooms());
     match list.put_remote(party, handle) {
+        Ok(was_empty) => same(rt, was_empty, first),
+        Err(_) => panic!(rt; "nobody else puts a block back or takes"),
+    }
+}
+
+/// Puts so many blocks back by one try, which nobody overtakes, and compares whether nothing was shared before with what
+/// is wanted.
+pub fn puts_all(
+    rt: &impl Abort,
+    list: &FreeList<Counted>,
+    party: &mut Party<Counted>,
+    count: usize,
+    blocks: Stack<Counted>,
+    first: bool,
+)
+    requires table { party.old.table ≡ list.now }
+    requires count { length blocks ≡ count }
+    ensures { party.new.table ≡ list.now }
+{
+    at_most(rt, count, party.rooms());
+    match list.put_remote_all(party, blocks) {
         Ok(was_empty) => same(rt, was_empty, first),
         Err(_) => panic!(rt; "nobody else puts a block back or takes"),
     }
