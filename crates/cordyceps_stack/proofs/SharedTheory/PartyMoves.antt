@@ -5,7 +5,7 @@ use Rattle.cordyceps_shared.specs.Shares.{Name}
 use Rattle.cordyceps_shared.specs.Standings.{name_of}
 use Rattle.cordyceps_shared.proofs.Moving.{moves_by}
 use Rattle.cordyceps_stack.specs.History.{Event, Load, Push, Taken, pushes, taken_elements, held, Legal, actor}
-use Rattle.cordyceps_stack.specs.Shared.Calls.{PartyOf, Adds, PushesAt, Misses, Takes, Looks}
+use Rattle.cordyceps_stack.specs.Shared.Calls.{PartyOf, Adds, PushesAt, PushesAllAt, Misses, Takes, Looks, pushes_of}
 use Rattle.cordyceps_stack.specs.Shared.Moves.{put_by, got_by, Moves}
 use Rattle.cordyceps_stack.proofs.Histories.{nothing_lost}
 
@@ -37,6 +37,16 @@ module _ {P E A : Type 0} (f : E → A) where
   tries_got zero p e = refl
   tries_got (suc n) p e = tries_got n p e
 
+  pushes_put : (n : ℕ) (p : P) (es : List E) → flat_map (put_by f) (replicate n (Load p) ++ map (Push p) es) ≡ map f es
+  pushes_put zero p [] = refl
+  pushes_put zero p (e ∷ es) = ap (λ l. f e ∷ l) (pushes_put zero p es)
+  pushes_put (suc n) p es = pushes_put n p es
+
+  pushes_got : (n : ℕ) (p : P) (es : List E) → flat_map (got_by f) (replicate n (Load p) ++ map (Push p) es) ≡ []
+  pushes_got zero p [] = refl
+  pushes_got zero p (e ∷ es) = pushes_got zero p es
+  pushes_got (suc n) p es = pushes_got n p es
+
 module _ {E A : Type 0} (f : E → A) where
   moved : (u w : PartyOf E) (es : List (Event Name E)) (sent got : List A) → Adds u es w → flat_map (put_by f) es ≡ sent → flat_map (got_by f) es ≡ got
       → w.rooms + length sent ≡ u.rooms + length got → Moves f sent got u w
@@ -49,6 +59,12 @@ module _ {E A : Type 0} (f : E → A) where
   moves_push n e first u w a =
       let p = name_of u in
       moved u w (replicate n (Load p) ++ Push p e ∷ []) (f e ∷ []) [] a.0 (tries_put f n p e) (tries_got f n p e) (omega (arith, a.2))
+
+  pub moves_push_all : (n : ℕ) (es : List E) (first : Bool) (u w : PartyOf E) → PushesAllAt n es first u w → Moves f (map f (reverse es)) [] u w
+  moves_push_all n es first u w a =
+      let p = name_of u in
+      moved u w (replicate n (Load p) ++ pushes_of p es) (map f (reverse es)) [] a.0 (pushes_put f n p (reverse es)) (pushes_got f n p (reverse es))
+      (omega (arith, a.2, length-map (reverse es) f, length-reverse es))
 
   pub moves_miss : (u w : PartyOf E) → Misses u w → Moves f [] [] u w
   moves_miss u w a = moved u w (Load (name_of u) ∷ []) [] [] a.0 refl refl (omega (arith, a.2))
