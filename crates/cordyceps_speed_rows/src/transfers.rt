@@ -55,7 +55,8 @@ struct Transfers {
 
 /// A stack of an element and of those that a vector pops: 64 in all, if there are as many.
 fn gather(first: StackNode, nodes: &mut Vec<StackNode>) -> Stack<Item>
-    ensures { length result + length nodes.new.items ≡ suc (length nodes.old.items) }
+    ensures all { length result + length nodes.new.items ≡ suc (length nodes.old.items) }
+    ensures fewer { length nodes.new.items ≤ length nodes.old.items }
 {
     let mut batch = Stack::new();
     batch.push(first);
