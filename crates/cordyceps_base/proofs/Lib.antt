@@ -1,5 +1,13 @@
 pub mod Crosses
 pub mod DoubleChain
+pub mod DoubleLines
+pub mod LineEnds
+pub mod LineMarks
+pub mod LineNumbers
+pub mod LinePlaces
+pub mod LineReads
+pub mod LineSpots
+pub mod LineTables
 pub mod InnerNodes
 pub mod Memory
 pub mod Nodes

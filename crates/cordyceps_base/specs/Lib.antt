@@ -3,7 +3,9 @@ pub mod BoxesLends
 pub mod BySpot
 pub mod DoubleChain
 pub mod DoubleChainLends
+pub mod DoubleLines
 pub mod Element
+pub mod LineLends
 pub mod NodeLends
 pub mod Nodes
 pub mod Runs

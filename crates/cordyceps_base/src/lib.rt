@@ -7,6 +7,7 @@
 
 pub mod boxes;
 pub mod double_chain;
+pub mod double_lines;
 mod double_row;
 pub mod linked;
 pub mod list;

@@ -1,0 +1,93 @@
+-- Lines of a table: how their nodes point to one another, where each begins, and what is left without one node.
+use Rattle.std.specs.Prelude.{◌≡◌, ◌≤◌, ◌⊎◌, Bool, true, false, ℕ, zero, suc, List, [], ◌∷◌, ◌++◌, length, take, drop}
+use denote.RawPtr.{Ptr, block_ptr, null_ptr, Testable, InBlock}
+use Rattle.cordyceps_base.specs.declared.boxes.Address.{Address}
+use Rattle.cordyceps_base.specs.Boxes.{box_addresses}
+use Rattle.cordyceps_base.specs.DoubleChain.{Segment, prev_of}
+use Rattle.cordyceps_base.specs.Element.{Element}
+use Rattle.cordyceps_base.specs.Nodes.{Nodes, OwnedNode, spots}
+use Rattle.cordyceps_base.specs.Spots.{index_of, AreDistinct, AreNullComparable}
+
+-- the items of all lists, in order
+abbrev pub flat : {A : Type 0} → List (List A) → List A
+flat [] = []
+flat (l ∷ ls) = l ++ flat ls
+
+-- where the first line with a node begins among all nodes, and their number where there is none
+abbrev pub begins : List Address → List Ptr → ℕ
+begins [] ps = length ps
+begins (h ∷ hs) ps = elim h.ptr [ block_ptr b o ↦ index_of (block_ptr b o) ps | null_ptr ↦ begins hs ps ]
+
+module _ {X : Type 0} where
+  -- all nodes, cut where the lines begin
+  abbrev pub lines_in : List Address → Nodes X → List (Nodes X)
+  lines_in [] c = []
+  lines_in (h ∷ hs) c =
+      elim h.ptr [
+        | block_ptr b o ↦ take (begins hs (spots c)) c ∷ lines_in hs (drop (begins hs (spots c)) c)
+        | null_ptr ↦ [] ∷ lines_in hs c
+      ]
+
+  -- h leads to the first node, and both ends lead to nothing
+  abbrev pub IsDoubleLine : Ptr → List (OwnedNode X) → Type 0
+  IsDoubleLine h ns = AreNullComparable (box_addresses ns) × ((t : Ptr) × Segment null_ptr h ns t null_ptr)
+
+  -- the same, with the last node at t
+  abbrev pub IsGrowing : Ptr → Ptr → List (OwnedNode X) → Type 0
+  IsGrowing h t ns = AreNullComparable (box_addresses ns) × Segment null_ptr h ns t null_ptr
+
+  -- each address leads to the first node of a line
+  abbrev pub Lead : List Address → List (List (OwnedNode X)) → Type 0
+  Lead [] [] = Unit {0}
+  Lead [] (l ∷ ls) = ⊥
+  Lead (h ∷ hs) [] = ⊥
+  Lead (h ∷ hs) (l ∷ ls) = ((t : Ptr) × Segment null_ptr h.ptr l t null_ptr) × Lead hs ls
+
+  -- the nodes are lines, one after the other, with these first nodes
+  abbrev pub AreLines : List Address → List (OwnedNode X) → Type 0
+  AreLines hs ns =
+      AreNullComparable (box_addresses ns) × AreDistinct (box_addresses ns)
+      × ((ls : List (List (OwnedNode X))) × (ns ≡ flat ls) × Lead hs ls)
+
+  -- line k begins with a node whose `prev` is not null, and those before it with one whose `prev` is null, or have none
+  abbrev pub IsMarkedAt : List Address → List (List (OwnedNode X)) → ℕ → Type 0
+  IsMarkedAt [] ls k = ⊥
+  IsMarkedAt (h ∷ hs) [] k = ⊥
+  IsMarkedAt (h ∷ hs) ([] ∷ ls) zero = ⊥
+  IsMarkedAt (h ∷ hs) ((n ∷ l) ∷ ls) zero = (h.ptr ≡ n.0) × InBlock (prev_of n.2) × Testable (prev_of n.2)
+  IsMarkedAt (h ∷ hs) ([] ∷ ls) (suc k) = (h.ptr ≡ null_ptr) × IsMarkedAt hs ls k
+  IsMarkedAt (h ∷ hs) ((n ∷ l) ∷ ls) (suc k) = (h.ptr ≡ n.0) × (prev_of n.2 ≡ null_ptr) × IsMarkedAt hs ls k
+
+  -- h is null, or a node of the row is at h, whose `prev` may be compared with null
+  abbrev pub IsHead : Address → List (OwnedNode X) → Type 0
+  IsHead h ns =
+      AreDistinct (box_addresses ns) × Testable h.ptr
+      × ((h.ptr ≡ null_ptr)
+      ⊎ ((xs : List (OwnedNode X)) × (n : OwnedNode X) × (ys : List (OwnedNode X)) × (ns ≡ xs ++ n ∷ ys)
+      × (n.0 ≡ h.ptr) × InBlock n.0 × Testable (prev_of n.2)))
+
+  -- what tells whether that node is marked
+  abbrev pub IsHeadMarked : Bool → Address → List (OwnedNode X) → Type 0
+  IsHeadMarked true h ns =
+      (xs : List (OwnedNode X)) × (n : OwnedNode X) × (ys : List (OwnedNode X)) × (ns ≡ xs ++ n ∷ ys)
+      × (n.0 ≡ h.ptr) × InBlock (prev_of n.2)
+  IsHeadMarked false h ns =
+      (h.ptr ≡ null_ptr)
+      ⊎ ((xs : List (OwnedNode X)) × (n : OwnedNode X) × (ys : List (OwnedNode X)) × (ns ≡ xs ++ n ∷ ys)
+      × (n.0 ≡ h.ptr) × (prev_of n.2 ≡ null_ptr))
+
+  -- the same for the part of an array that is used
+  abbrev pub IsTable : List Address → ℕ → List (OwnedNode X) → Type 0
+  IsTable xs n ns = (length xs ≡ 64) × (n ≤ 64) × AreLines (take n xs) ns
+
+  -- the node e at p was taken out of its line
+  abbrev pub IsTakenOut : List (Nodes X) → Ptr → Element X → List (Nodes X) → Type 0
+  IsTakenOut c p e d =
+      (before : List (Nodes X)) × (after : List (Nodes X)) × (front : Nodes X) × (back : Nodes X)
+      × (c ≡ before ++ (front ++ (p, e) ∷ back) ∷ after) × (d ≡ before ++ (front ++ back) ∷ after)
+
+  -- the first node e of line k, at p, was taken out
+  abbrev pub IsFirstOut : List (Nodes X) → ℕ → Ptr → Element X → List (Nodes X) → Type 0
+  IsFirstOut c k p e d =
+      (before : List (Nodes X)) × (after : List (Nodes X)) × (back : Nodes X) × (length before ≡ k)
+      × (c ≡ before ++ ((p, e) ∷ back) ∷ after) × (d ≡ before ++ back ∷ after)

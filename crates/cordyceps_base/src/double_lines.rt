@@ -1,0 +1,532 @@
+//! Lines: nodes that are linked both ways, null at both ends, and reached by their first. A table has many lines. A
+//! node is taken out of it by its address, whichever line it is in.
+ghost use Rattle.std.specs.Prelude.{◌≡◌, ℕ, ◌+◌, ◌<◌, ◌≤◌, ◌==◌, List, [], ◌∷◌, ◌++◌, length, take, drop, slice_get, Some, MatchOption};
+ghost use Rattle.std.specs.Borrow.{sem};
+ghost use denote.RawPtr.{Ptr, null_ptr};
+ghost use Rattle.cordyceps_base.specs.Boxes.{box_addresses};
+ghost use Rattle.cordyceps_base.specs.DoubleChain.{Segment};
+ghost use Rattle.cordyceps_base.specs.Spots.{AreDistinct, AreNullComparable};
+ghost use Rattle.cordyceps_base.specs.BySpot.{HasSpot, HoldsAt};
+ghost use Rattle.cordyceps_base.specs.DoubleLines.{flat, Lead, IsTable, IsMarkedAt, IsHead, IsHeadMarked, IsTakenOut, IsFirstOut};
+ghost use Rattle.cordyceps_base.specs.Element.{Element, values};
+ghost use Rattle.cordyceps_base.specs.Nodes.{Nodes, OwnedNode, elements, nodes_of, spots};
+
+use crate::boxes::{Address, Boxes, RawBox};
+use crate::double_row::{Row, followed_by, node_of, preceded_by};
+use crate::list::Links;
+use crate::node::{Block, Node};
+use std::alloc::Global;
+use std::marker::Model;
+use std::mem;
+
+/// Nodes that are linked both ways, reached by the first. A contract sees a list of the nodes, each as its address and
+/// its element.
+///
+/// # Complexity
+/// Each call is O(1) and allocates nothing.
+pub struct Line<T> {
+    first: Address,
+    row: Row<T>,
+}
+
+impl<T> Model for Line<T> {
+    ghost use Rattle.cordyceps_base.specs.Nodes.{Nodes, nodes_of};
+    ghost use Rattle.cordyceps_base.specs.DoubleLines.{IsDoubleLine};
+
+    ghost Value = { Nodes T };
+
+    ghost view = { λ l. nodes_of l.row.blocks };
+
+    ghost invariant = { λ l. IsDoubleLine l.first.ptr l.row.blocks };
+}
+
+impl<T> Line<T> {
+    ghost use Rattle.cordyceps_base.specs.LineLends.{lends_first};
+
+    /// Creates a line of no node.
+    pub fn empty() -> Line<T>
+        ensures { result ≡ [] }
+    {
+        Line {
+            first: Address::null(),
+            row: Boxes::empty(),
+        }
+    }
+
+    /// Creates a line of one node, and returns its address too.
+    pub fn one(node: Node<T, Links<T>>) -> (Address, Line<T>)
+    where
+        T: Drop,
+        ensures { result.1 ≡ (result.0.ptr, node) ∷ [] }
+    {
+        let Node { block, kind: _ } = node;
+        let (first, _, row) = Boxes::one(RawBox::from_box(block));
+        (first, alone(first, row))
+    }
+
+    /// Returns `true` if the line has no node.
+    pub fn is_empty(&self) -> bool
+        ensures { result ≡ (length self.now == 0) }
+    {
+        !self.first.is_not_null()
+    }
+
+    /// Returns a reference to the value of the first node. Requires a node.
+    pub fn front(&self) -> &T
+        requires { 0 < length self.now }
+        ensures { slice_get (values (elements self.now)) 0 ≡ Some result.now }
+    {
+        &self.row.get(self.first, 0).value
+    }
+
+    /// Cuts the first node off, and returns a line of it, and that of the others. Requires a node.
+    pub fn cut_first(self) -> (Line<T>, Line<T>)
+        requires { 0 < length self }
+        ensures { (address : Ptr) × (e : Element T) × (result.0 ≡ (address, e) ∷ [])
+            × (self ≡ (address, e) ∷ result.1) }
+    {
+        let Line { first, row } = self;
+        let next = row.get(first, 0).links.next;
+        let (one, rest) = row.cut(1);
+        let left = Line {
+            first: next,
+            row: led_back(rest.null_comparable(), next, Address::null()).null_comparable(),
+        };
+        (alone(first, one), left)
+    }
+
+    /// Returns a mutable reference to the value of the first node. The element keeps its number. Requires a node.
+    pub fn front_mut(&mut self) -> &mut T
+        requires { 0 < length self.old }
+        ensures* writes_back { sem 𝓛 (lends_first T.row self.entry result) }
+        ensures value { slice_get (values (elements self.old)) 0 ≡ Some result.now }
+    {
+        let block = self.row.get_mut(self.first, 0);
+        &mut block.value
+    }
+
+    /// Returns the only node. Requires that there is one, and no other.
+    pub fn only(self) -> Node<T, Links<T>>
+    where
+        T: Drop,
+        requires { length self ≡ 1 }
+        ensures { (address : Ptr) × (self ≡ (address, result) ∷ []) }
+    {
+        let Line { first, row } = self;
+        node_of(first, row)
+    }
+
+    /// Ends a line. Requires that it has no node.
+    pub fn discard(self)
+        requires { self ≡ [] }
+    {
+        let Line { first: _, row } = self;
+        row.discard();
+    }
+}
+
+impl<T: Drop> Line<T> {
+    /// Frees all nodes.
+    ///
+    /// # Complexity
+    /// O(n), for n nodes.
+    pub fn free(self) {
+        let mut line = self;
+        while !line.is_empty() {
+            let (one, rest) = line.cut_first();
+            drop(one.only());
+            line = rest;
+        }
+        line.discard();
+    }
+}
+
+/// A line that grows at its end, which is known. A contract sees a list of the nodes.
+///
+/// # Complexity
+/// Each call is O(1) and allocates nothing.
+pub struct Growing<T> {
+    first: Address,
+    last: Address,
+    row: Row<T>,
+}
+
+impl<T> Model for Growing<T> {
+    ghost use Rattle.cordyceps_base.specs.Nodes.{Nodes, nodes_of};
+    ghost use Rattle.cordyceps_base.specs.DoubleLines.{IsGrowing};
+
+    ghost Value = { Nodes T };
+
+    ghost view = { λ l. nodes_of l.row.blocks };
+
+    ghost invariant = { λ l. IsGrowing l.first.ptr l.last.ptr l.row.blocks };
+}
+
+impl<T> Growing<T> {
+    /// Creates a line of no node.
+    pub fn empty() -> Growing<T>
+        ensures { result ≡ [] }
+    {
+        Growing {
+            first: Address::null(),
+            last: Address::null(),
+            row: Boxes::empty(),
+        }
+    }
+
+    /// Appends a line. Requires that it has one node.
+    pub fn with(self, one: Line<T>) -> Growing<T>
+        requires { length one ≡ 1 }
+        ensures { result ≡ self ++ one }
+    {
+        let Growing { first, last, row } = self;
+        let Line {
+            first: at,
+            row: new,
+        } = one;
+        let (first, row) = followed_by(row, first, last, at);
+        let (last, new) = preceded_by(new, at, at, last);
+        Growing {
+            first,
+            last,
+            row: row.join(new).null_comparable(),
+        }
+    }
+
+    /// Appends a line, and returns the whole.
+    pub fn ended(self, rest: Line<T>) -> Line<T>
+        ensures { result ≡ self ++ rest }
+    {
+        let Growing { first, last, row } = self;
+        let Line {
+            first: at,
+            row: more,
+        } = rest;
+        let (first, row) = followed_by(row, first, last, at);
+        let more = led_back(more, at, last);
+        Line {
+            first,
+            row: row.join(more).null_comparable(),
+        }
+    }
+}
+
+/// A table of at most 64 lines. A contract sees a list of the lines, in order. A line in it may have no node.
+///
+/// # Complexity
+/// Each call is O(1) and allocates nothing, but for `without` and `free`.
+pub struct Lines<T> {
+    firsts: [Address; 64],
+    count: usize,
+    row: Row<T>,
+}
+
+impl<T> Model for Lines<T> {
+    ghost use Rattle.std.specs.Prelude.{List, take};
+    ghost use Rattle.cordyceps_base.specs.Nodes.{Nodes, nodes_of};
+    ghost use Rattle.cordyceps_base.specs.DoubleLines.{IsTable, lines_in};
+
+    ghost Value = { List (Nodes T) };
+
+    ghost view = { λ l. lines_in (take l.count l.firsts) (nodes_of l.row.blocks) };
+
+    ghost invariant = { λ l. IsTable l.firsts l.count l.row.blocks };
+}
+
+impl<T> Lines<T> {
+    /// Creates a table of no lines.
+    pub fn new() -> Lines<T>
+        ensures { result ≡ [] }
+    {
+        Lines {
+            firsts: [Address::null(); 64],
+            count: 0,
+            row: Boxes::empty(),
+        }
+    }
+
+    /// Returns the number of lines.
+    pub fn count(&self) -> usize
+        ensures { result ≡ length self.now }
+    {
+        self.count
+    }
+
+    /// Takes all lines, and leaves a table of none.
+    pub fn take(&mut self) -> Lines<T>
+        ensures { (result ≡ self.old) × (self.new ≡ []) }
+    {
+        mem::replace(self, Lines::new())
+    }
+
+    /// Puts lines into a table. Requires that it has no line.
+    pub fn put(&mut self, lines: Lines<T>)
+        requires { self.old ≡ [] }
+        ensures { self.new ≡ lines }
+    {
+        let none = mem::replace(self, lines);
+        none.discard();
+    }
+
+    /// Ends a table. Requires that it has no line.
+    pub fn discard(self)
+        requires { self ≡ [] }
+    {
+        let Lines {
+            firsts: _,
+            count: _,
+            row,
+        } = self;
+        row.discard();
+    }
+
+    /// Does nothing when the program runs. Its contract states that the addresses of the nodes are distinct.
+    pub fn are_distinct(&self)
+        ensures { AreDistinct (spots (flat self.now)) }
+    {
+        let _count = self.count;
+    }
+
+    /// Adds a line, as the last. Requires less than 64 lines.
+    pub fn with(self, line: Line<T>) -> Lines<T>
+        requires { length self < 64 }
+        ensures { result ≡ self ++ line ∷ [] }
+    {
+        let Lines {
+            mut firsts,
+            count,
+            row,
+        } = self;
+        let Line { first, row: more } = line;
+        firsts[count] = first;
+        Lines {
+            firsts,
+            count: count + 1,
+            row: row.join(more).distinct().null_comparable(),
+        }
+    }
+
+    /// Takes the last line out, and returns the others and that. Requires a line.
+    pub fn without_last(self) -> (Lines<T>, Line<T>)
+        requires { 0 < length self }
+        ensures { self ≡ result.0 ++ result.1 ∷ [] }
+    {
+        let Lines { firsts, count, row } = self;
+        let first = firsts[count - 1];
+        let (row, more) = row.cut_at(first);
+        let others = Lines {
+            firsts,
+            count: count - 1,
+            row: row.distinct().null_comparable(),
+        };
+        let line = Line {
+            first,
+            row: more.null_comparable(),
+        };
+        (others, line)
+    }
+
+    /// Returns a reference to the first value of line `k`, or `None` if it has no node. Requires that there is a line
+    /// `k`.
+    pub fn front(&self, k: usize) -> Option<&T>
+        requires { k < length self.now }
+        ensures { (l : Nodes T) × (slice_get self.now k ≡ Some l)
+            × MatchOption result (l ≡ []) (λ v. slice_get (values (elements l)) 0 ≡ Some v.now) }
+    {
+        let _count = self.count;
+        let first = self.firsts[k];
+        if !first.is_not_null() {
+            return None;
+        }
+        Some(&self.row.from_address(first).get(first, 0).value)
+    }
+
+    /// Returns the address of the first node of line `k`. Requires that line `k` has a node.
+    pub fn first(&self, k: usize) -> Address
+        requires within { k < length self.now }
+        requires some { (n : Ptr × Element T) × (l : Nodes T) × (slice_get self.now k ≡ Some (n ∷ l)) }
+        ensures { (e : Element T) × (l : Nodes T) × (slice_get self.now k ≡ Some ((result.ptr, e) ∷ l)) }
+    {
+        let _count = self.count;
+        self.firsts[k]
+    }
+
+    /// Returns a reference to the value at an address. Requires that a node is there.
+    pub fn get_at(&self, at: Address) -> &T
+        requires { HasSpot (flat self.now) at.ptr }
+        ensures { HoldsAt (flat self.now) at.ptr result.now }
+    {
+        &self.row.from_address(at).get(at, 0).value
+    }
+
+    /// Cuts the first node of line `k` off, and returns it as a line, and the others. Requires that line `k` has a
+    /// node.
+    pub fn without_first(self, k: usize) -> (Line<T>, Lines<T>)
+        requires within { k < length self }
+        requires some { (n : Ptr × Element T) × (l : Nodes T) × (slice_get self k ≡ Some (n ∷ l)) }
+        ensures { (p : Ptr) × (e : Element T) × (result.0 ≡ (p, e) ∷ []) × IsFirstOut self k p e result.1 }
+    {
+        let Lines {
+            mut firsts,
+            count,
+            row,
+        } = self;
+        let first = firsts[k];
+        let (front, back) = row.cut_at(first);
+        let next = back.get(first, 0).links.next;
+        let (one, rest) = back.cut(1);
+        firsts[k] = next;
+        let rest = led_back(rest.null_comparable(), next, Address::null());
+        let left = Lines {
+            firsts,
+            count,
+            row: front.join(rest).distinct().null_comparable(),
+        };
+        (alone(first, one), left)
+    }
+
+    /// Cuts the node at an address off, and returns it as a line, and the others. Requires that a node is there.
+    ///
+    /// # Complexity
+    /// O(1), or one read for each line if it is the first of one.
+    pub fn without(self, at: Address) -> (Line<T>, Lines<T>)
+        requires { HasSpot (flat self) at.ptr }
+        ensures { (e : Element T) × (result.0 ≡ (at.ptr, e) ∷ []) × IsTakenOut self at.ptr e result.1 }
+    {
+        let Lines { firsts, count, row } = self;
+        let (front, back) = row.cut_at(at);
+        let next = back.get(at, 0).links.next;
+        let prev = back.get(at, 0).links.prev;
+        if !prev.is_not_null() {
+            let (k, row) = number_of(&firsts, count, front.join(back), at);
+            let same = Lines { firsts, count, row };
+            return same.without_first(k);
+        }
+        let (one, rest) = back.cut(1);
+        let front = led_on(front, prev, next);
+        let rest = led_back(rest.null_comparable(), next, prev);
+        let left = Lines {
+            firsts,
+            count,
+            row: front.join(rest).distinct().null_comparable(),
+        };
+        (alone(at, one), left)
+    }
+}
+
+impl<T: Drop> Lines<T> {
+    /// Frees all nodes.
+    ///
+    /// # Complexity
+    /// O(n), for n nodes.
+    pub fn free(self) {
+        let mut lines = self;
+        while lines.count() > 0 {
+            let (others, line) = lines.without_last();
+            lines = others;
+            line.free();
+        }
+        lines.discard();
+    }
+}
+
+/// Makes a line of the one node of a row.
+fn alone<T>(at: Address, row: Row<T>) -> Line<T>
+    requires { (a : Global) × (x : Block T) × (row.blocks ≡ (at.ptr, a, x) ∷ []) }
+    ensures { result ≡ nodes_of row.blocks }
+{
+    let mut row = row;
+    row.get_mut(at, 0).links.next = Address::null();
+    row.get_mut(at, 0).links.prev = Address::null();
+    Line {
+        first: at,
+        row: row.null_comparable(),
+    }
+}
+
+/// Makes the first node of a line lead back to `prev`, where the line is at the front of a row. It may have no node.
+fn led_back<T>(row: Row<T>, first: Address, prev: Address) -> Row<T>
+    requires linked { (l more : List (OwnedNode T)) × (row.blocks ≡ l ++ more)
+        × ((p t : Ptr) × Segment p first.ptr l t null_ptr) }
+    requires null_comparable { AreNullComparable (box_addresses row.blocks) }
+    ensures { (l more : List (OwnedNode T)) → row.blocks ≡ l ++ more
+        → ((p t : Ptr) × Segment p first.ptr l t null_ptr)
+        → ((m : List (OwnedNode T)) × (result.blocks ≡ m ++ more) × (nodes_of m ≡ nodes_of l)
+        × ((t : Ptr) × Segment prev.ptr first.ptr m t null_ptr)) }
+{
+    if !first.is_not_null() {
+        return row;
+    }
+    let mut row = row;
+    row.get_mut(first, 0).links.prev = prev;
+    row
+}
+
+/// Makes the last node of a row lead to `next`.
+fn led_on<T>(row: Row<T>, last: Address, next: Address) -> Row<T>
+    requires { (more l : List (OwnedNode T)) × (row.blocks ≡ more ++ l) × (0 < length l)
+        × ((p h q : Ptr) × Segment p h l last.ptr q) }
+    ensures { (more l : List (OwnedNode T)) (p h q : Ptr) → row.blocks ≡ more ++ l
+        → 0 < length l
+        → Segment p h l last.ptr q
+        → ((m : List (OwnedNode T)) × (result.blocks ≡ more ++ m) × (nodes_of m ≡ nodes_of l)
+        × Segment p h m last.ptr next.ptr) }
+{
+    let (front, mut end) = row.cut_last();
+    end.get_mut(last, 0).links.next = next;
+    front.join(end)
+}
+
+/// Returns the number of the line whose first node is at an address, and the same row. It marks the node, by a `prev`
+/// that is not null, and looks for the mark: two addresses cannot be compared.
+fn number_of<T>(firsts: &[Address; 64], count: usize, row: Row<T>, at: Address) -> (usize, Row<T>)
+    requires table { IsTable firsts.now count row.blocks }
+    requires first { (before after : List (List (OwnedNode T))) × (n : OwnedNode T) × (back : List (OwnedNode T))
+        × (row.blocks ≡ flat (before ++ (n ∷ back) ∷ after))
+        × Lead (take count firsts.now) (before ++ (n ∷ back) ∷ after) × (n.0 ≡ at.ptr) }
+    ensures same { result.1.blocks ≡ row.blocks }
+    ensures number { (h : Address) × (slice_get (take count firsts.now) result.0 ≡ Some h) × (h.ptr ≡ at.ptr) }
+{
+    let (front, mut back) = row.cut_at(at);
+    back.get_mut(at, 0).links.prev = at;
+    let row = front.join(back);
+    let k = marked(firsts, count, &row);
+    let (front, mut back) = row.cut_at(at);
+    back.get_mut(at, 0).links.prev = Address::null();
+    (k, front.join(back))
+}
+
+/// Returns the number of the first line whose first node has a mark: its `prev` is not null.
+fn marked<T>(firsts: &[Address; 64], count: usize, row: &Row<T>) -> usize
+    requires long { (length firsts.now ≡ 64) × (count ≤ 64) }
+    requires row { AreNullComparable (box_addresses row.now.blocks) × AreDistinct (box_addresses row.now.blocks) }
+    requires marked { (ls : List (List (OwnedNode T))) × (k : ℕ) × (row.now.blocks ≡ flat ls)
+        × IsMarkedAt (take count firsts.now) ls k }
+    ensures { (ls : List (List (OwnedNode T))) (k : ℕ) → row.now.blocks ≡ flat ls
+        → IsMarkedAt (take count firsts.now) ls k
+        → result ≡ k }
+{
+    let mut k = 0;
+    while k < count {
+        if is_marked(firsts[k], row) {
+            return k;
+        }
+        k += 1;
+    }
+    k
+}
+
+/// Returns `true` if there is a node at an address, and its `prev` is not null.
+fn is_marked<T>(first: Address, row: &Row<T>) -> bool
+    requires { IsHead first row.now.blocks }
+    ensures { IsHeadMarked result first row.now.blocks }
+{
+    if !first.is_not_null() {
+        return false;
+    }
+    row.from_address(first)
+        .get(first, 0)
+        .links
+        .prev
+        .is_not_null()
+}
