@@ -55,7 +55,7 @@ module _ {X : Type 0} where
   unique (x ∷ b) a (y ∷ d) z p e o is distinct =
       let first : x ≡ y = ap (head_or x) is in let rest : b ++ (p, e) ∷ a ≡ d ++ (p, o) ∷ z = ap rest_of is in let on = unique b a d z p e o rest distinct.1 in ((λ i. first i ∷ on.0 i), on.1, on.2)
 
-  has_split : (c : Nodes X) (k : ℕ) (p : Ptr) → slice_get (spots c) k ≡ Some p → (e : Element X) × HasElementAt c p e
+  pub has_split : (c : Nodes X) (k : ℕ) (p : Ptr) → slice_get (spots c) k ≡ Some p → (e : Element X) × HasElementAt c p e
   has_split [] k p at = cc
   has_split (x ∷ c) zero p at = let same : x.0 ≡ p = cc in (x.1, ([], c, λ i. (same i, x.1) ∷ c))
   has_split (x ∷ c) (suc k) p at = let on = has_split c k p at in (on.0, (x ∷ on.1.0, on.1.1, ap (λ s. x ∷ s) on.1.2))

@@ -1,6 +1,7 @@
 //! Lists whose elements are reached by stable pointers, their spots.
 #![tactic(auto)]
 
+pub mod addresses;
 mod asked;
 mod cursor;
 mod merging;

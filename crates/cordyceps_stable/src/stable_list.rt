@@ -17,10 +17,10 @@ use cordyceps_list::iter::{Iter, over};
 use cordyceps_list::list::{Links, List};
 use std::marker::Model;
 
-/// A stable pointer to an element of a `StableList` or a `StableSortedList`. It owns nothing, and can be copied and
-/// kept anywhere.
+/// A stable pointer to an element of a `StableList`, a `StableSortedList` or a `StableHeap`. It owns nothing, and can be
+/// copied and kept anywhere.
 ///
-/// It is valid for the list that has the element, as long as the list has it. Each call that takes a spot requires a
+/// It is valid for the collection that has the element, as long as that has it. Each call that takes a spot requires a
 /// valid one. Nothing checks this when the program runs. Spots cannot be compared, and `Debug` prints no address.
 #[derive(Clone, Copy)]
 #[derive_where(Debug)]
