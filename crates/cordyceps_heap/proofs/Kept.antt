@@ -1,0 +1,98 @@
+-- Which spots a heap has, and how it agrees with a map of spots, by what its calls say.
+use Rattle.std.proofs.Common.{◌≡◌, ℕ, zero, suc, List, [], ◌∷◌, ◌++◌, Option, Some, None, MatchOption, refl, sym, ap, ◌∙◌, subst, inl, inr, arith}
+use Rattle.std.proofs.lemmas.List.Sorted.{Contains-permutation, IsPermutation-sym}
+use Rattle.std.specs.List.{Contains}
+use Rattle.std.specs.List.Sorted.{IsPermutation}
+use Rattle.std.specs.Prelude.{IfSome}
+use denote.RawPtr.{Ptr}
+use Rattle.cordyceps_base.specs.BySpot.{HasSpot, IsTaken}
+use Rattle.cordyceps_base.specs.Element.{Element}
+use Rattle.cordyceps_base.specs.Nodes.{Nodes, spots}
+use Rattle.cordyceps_base.specs.Spots.{AreDistinct, IsNew}
+use Rattle.cordyceps_stable.specs.Agreeing.{HasElementAt, Agrees, IsUpdated}
+use Rattle.cordyceps_stable.proofs.Agreeing.{put_agrees}
+use Rattle.cordyceps_stable.proofs.Holding.{has_split, spot_is_at, left_is_at, taken_or_left, taken_gone, joined_is_at, front_is_at}
+
+none_some : (o : Option Ptr) (p : Ptr) → o ≡ None → o ≡ Some p → ⊥
+none_some o p none some = let no : None ≡ Some p = sym none ∙ some in cc
+
+module _ {X : Type 0} where
+  contains_at : (b a : List X) (x : X) → Contains (b ++ x ∷ a) x
+  contains_at [] a x = (0, omega arith, refl)
+  contains_at (y ∷ b) a x = let on = contains_at b a x in let within = on.1 in (suc on.0, omega (arith, within), on.2)
+
+  contained_at : (c : List X) (x : X) → Contains c x → (b : List X) × (a : List X) × (c ≡ b ++ x ∷ a)
+  contained_at [] x (k, within, at) = absurd (omega (arith, within))
+  contained_at (y ∷ c) x (zero, within, at) = ([], c, ap (λ z. z ∷ c) at)
+  contained_at (y ∷ c) x (suc k, within, at) = let on = contained_at c x (k, omega (arith, within), at) in (y ∷ on.0, on.1, ap (λ s. y ∷ s) on.2)
+
+module _ {X : Type 0} where
+  -- what lies in a heap lies there in any order of its nodes
+  pub permuted_is_at : (c d : Nodes X) (q : Ptr) (o : Element X) → IsPermutation c d → HasElementAt c q o → HasElementAt d q o
+  permuted_is_at c d q o p (b, a, is) =
+      contained_at d (q, o) (Contains-permutation c d (q, o) p (subst (λ s. Contains s (q, o)) (sym is) (contains_at b a (q, o))))
+
+  pub permuted_has : (c d : Nodes X) (q : Ptr) → IsPermutation c d → HasSpot c q → HasSpot d q
+  permuted_has c d q p (k, at) = let (e, lies) = has_split c k q at in spot_is_at d q e (permuted_is_at c d q e p lies)
+
+  -- what `push` returns, and spots from before
+  pub pushed_has : (c d : Nodes X) (p : Ptr) (e : Element X) → IsPermutation (c ++ (p, e) ∷ []) d → HasSpot d p
+  pushed_has c d p e kept = spot_is_at d p e (permuted_is_at (c ++ (p, e) ∷ []) d p e kept (c, [], refl))
+
+  pub joined_keeps : (c more d : Nodes X) (q : Ptr) → IsPermutation (c ++ more) d → HasSpot c q → HasSpot d q
+  joined_keeps c more d q kept (k, at) = let (e, lies) = has_split c k q at in spot_is_at d q e (permuted_is_at (c ++ more) d q e kept (front_is_at c more q e lies))
+
+  -- what `front` returns
+  pub front_has : (c : Nodes X) (o : Option Ptr) (P : Ptr → Element X → Type 0) → MatchOption o (c ≡ []) (λ p. (e : Element X) × HasElementAt c p e × P p e) → IfSome o (λ p. HasSpot c p)
+  front_has c None P h = tt
+  front_has c (Some p) P (e, lies, rest) = spot_is_at c p e lies
+
+  new_less : (q : Ptr) (b a : Nodes X) (n : Ptr × Element X) → IsNew q (spots (b ++ n ∷ a)) → IsNew q (spots (b ++ a))
+  new_less q [] a n h = h.1
+  new_less q (x ∷ b) a n h = (h.0, new_less q b a n h.1)
+
+  distinct_less : (b a : Nodes X) (n : Ptr × Element X) → AreDistinct (spots (b ++ n ∷ a)) → AreDistinct (spots (b ++ a))
+  distinct_less [] a n h = h.1
+  distinct_less (x ∷ b) a n h = (new_less x.0 b a n h.0, distinct_less b a n h.1)
+
+  only_at : (n : Ptr × Element X) (q : Ptr) (o : Element X) → HasElementAt (n ∷ []) q o → (q, o) ≡ n
+  only_at n q o ([], a, is) = let first : n ≡ (q, o) = cc in sym first
+  only_at n q o (y ∷ [], a, is) = absurd cc
+  only_at n q o (y ∷ z ∷ b, a, is) = absurd cc
+
+  -- an element was pushed, of a number that the map did not know
+  pub pushed_agrees : (f g : ℕ → Option Ptr) (c d : Nodes X) (p : Ptr) (e : Element X) → Agrees f c → f e.id ≡ None → IsUpdated f e.id (Some p) g → IsPermutation (c ++ (p, e) ∷ []) d → AreDistinct (spots d) → Agrees g d
+  pushed_agrees f g c d p e was fresh up kept distinct =
+      let n : Ptr × Element X = (p, e) in let (b, a, is) = permuted_is_at (c ++ n ∷ []) d p e kept (c, [], refl) in
+      let rest : Nodes X = b ++ a in let taken : IsTaken d p e rest = (b, a, is, refl) in
+      put_agrees f g rest d p e (record {
+        mapped = λ k q at. let (o, key, lies) = was.mapped k q at in (
+          o,
+          key,
+          elim (taken_or_left d rest p q e o taken (permuted_is_at (c ++ n ∷ []) d q o kept (front_is_at c (n ∷ []) q o lies))) as (λ _. HasElementAt rest q o) [
+            | inl same ↦ absurd (none_some (f e.id) q fresh (ap f (sym (ap (λ (x : Element X). x.id) same.1) ∙ key) ∙ at))
+            | inr on ↦ on
+          ],
+        );
+        listed = λ q o lies. elim (joined_is_at c (n ∷ []) q o (permuted_is_at d (c ++ n ∷ []) q o (IsPermutation-sym (c ++ n ∷ []) d kept) (left_is_at d rest p q e o taken lies))) as (λ _. f o.id ≡ Some q) [
+          | inl on ↦ was.listed q o on
+          | inr on ↦ absurd (taken_gone d rest p e distinct taken (spot_is_at rest p o (subst (λ s. HasElementAt rest s o) (ap (λ (x : Ptr × Element X). x.0) (only_at n q o on)) lies)))
+        ];
+        distinct = distinct_less b a n (subst (λ s. AreDistinct (spots s)) is distinct);
+      }) fresh up taken distinct
+
+  -- an element was changed by `update`
+  pub updated_agrees : (f : ℕ → Option Ptr) (c d rest : Nodes X) (p : Ptr) (e o : Element X) → Agrees f c → IsTaken c p e rest → o.id ≡ e.id → IsPermutation (rest ++ (p, o) ∷ []) d → AreDistinct (spots d) → Agrees f d
+  updated_agrees f c d rest p e o was taken same kept distinct =
+      let n : Ptr × Element X = (p, o) in
+      record {
+        mapped = λ k q at. let (x, key, lies) = was.mapped k q at in elim (taken_or_left c rest p q e x taken lies) as (λ _. (y : Element X) × (y.id ≡ k) × HasElementAt d q y) [
+          | inl is ↦ (o, same ∙ sym (ap (λ (y : Element X). y.id) is.1) ∙ key, subst (λ s. HasElementAt d s o) (sym is.0) (permuted_is_at (rest ++ n ∷ []) d p o kept (rest, [], refl)))
+          | inr on ↦ (x, key, permuted_is_at (rest ++ n ∷ []) d q x kept (front_is_at rest (n ∷ []) q x on))
+        ];
+        listed = λ q x lies. elim (joined_is_at rest (n ∷ []) q x (permuted_is_at d (rest ++ n ∷ []) q x (IsPermutation-sym (rest ++ n ∷ []) d kept) lies)) as (λ _. f x.id ≡ Some q) [
+          | inl on ↦ was.listed q x (left_is_at c rest p q e x taken on)
+          | inr on ↦ let is = only_at n q x on in ap (λ (y : Ptr × Element X). f y.1.id) is ∙ ap f same ∙ was.listed p e (taken.0, taken.1, taken.2) ∙ ap (λ (y : Ptr × Element X). Some y.0) (sym is)
+        ];
+        distinct = distinct;
+      }

@@ -1,0 +1,5 @@
+mod Held
+pub mod Kept
+mod Least
+mod Reading
+mod Said

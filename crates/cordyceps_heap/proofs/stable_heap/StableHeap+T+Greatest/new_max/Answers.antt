@@ -1,0 +1,4 @@
+use Rattle.cordyceps_heap.proofs.stable_heap.StableHeap+T+Greatest.new_max.Goals as goal
+
+pub returns-clause-arrivals : goal.returns-clause-arrivals
+returns-clause-arrivals g c = c.new_with_order.ensures.arrivals _
