@@ -1,5 +1,6 @@
--- Lemmas for users of stable lists, as the crates below prove them.
+-- Lemmas for users of stable lists and heaps, as the crates below prove them.
 pub use Rattle.cordyceps_base.proofs.SpotsMemory.{same_ptr_refl}
+pub use Rattle.cordyceps_heap.proofs.Kept
 pub use Rattle.cordyceps_stable.proofs.Agreeing
 pub use Rattle.cordyceps_stable.proofs.Arranged
 pub use Rattle.cordyceps_stable.proofs.Classes

@@ -1,6 +1,8 @@
--- What a contract sees of stable lists and their spots, as the crates below define it.
+-- What a contract sees of stable lists, heaps and their spots, as the crates below define it.
 pub use Rattle.cordyceps_base.specs.BySpot
+pub use Rattle.cordyceps_base.specs.DoubleLines
 pub use Rattle.cordyceps_base.specs.Spots
+pub use Rattle.cordyceps_heap.specs.Heap
 pub use Rattle.cordyceps_stable.specs.Agreeing
 pub use Rattle.cordyceps_stable.specs.Arranged
 pub use Rattle.cordyceps_stable.specs.Replacing

@@ -6,7 +6,8 @@
 //! and own the nodes in between. Linking a node allocates nothing.
 //!
 //! A [`StableList`] returns a [`Spot`] for each element: a stable pointer, by which the element is reached, removed and
-//! moved in O(1). A [`StableSortedList`] does so too, and an order keeps it sorted.
+//! moved in O(1). A [`StableSortedList`] does so too, and an order keeps it sorted. A [`StableHeap`] has the least first,
+//! and takes many elements.
 //!
 //! A [`TransferStack`] is shared by threads, without a lock: each pushes to it through a party of its own, and takes
 //! all its elements at once. An [`MpscQueue`] is shared in the same way: many put elements in, and one at a time takes
@@ -26,6 +27,7 @@ pub mod list;
 pub mod mpsc_queue;
 pub mod replay;
 pub mod sorted_list;
+pub mod stable_heap;
 pub mod stable_list;
 pub mod stable_sorted_list;
 pub mod stack;
@@ -33,6 +35,7 @@ pub mod stack;
 pub use cordyceps_base::linked::Linked;
 pub use cordyceps_base::node::{Kind, Node, Refused};
 pub use cordyceps_base::steps::Steps;
+pub use cordyceps_heap::stable_heap::StableHeap;
 pub use cordyceps_list::list::List;
 pub use cordyceps_queue::mpsc_queue::MpscQueue;
 pub use cordyceps_stable::stable_list::{Spot, StableList};
