@@ -1,1 +1,2 @@
 pub mod ByNumber
+pub mod Finding

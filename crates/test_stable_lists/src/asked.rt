@@ -1,4 +1,4 @@
-//! How often a sorted list with spots asks its order, which counts in a cell.
+//! How often a sorted list with spots and a heap ask their order, which counts in a cell.
 ghost use Rattle.std.specs.Prelude.{◌≡◌, refl, ⊤};
 ghost use Rattle.std.specs.Ordering.{nat_cmp};
 ghost use Rattle.std.proofs.Common.{subst, sym};
@@ -6,9 +6,11 @@ ghost use Rattle.test_stable_lists.specs.ByNumber.{by_number_lawful};
 ghost use Rattle.cordyceps_single.specs.Preorder.{IsPreorder};
 
 use crate::compared::{at_most, made, same};
+use crate::heap_calls::push_all;
 use crate::keys::{Key, Pair, make, spot_at};
 use crate::sorted_calls::{LONGEST, change, insert_all};
 use cordyceps_base::steps::Steps;
+use cordyceps_heap::stable_heap::StableHeap;
 use cordyceps_single::sorted_list::Order;
 use cordyceps_stable::stable_sorted_list::StableSortedList;
 use std::alloc::Global;
@@ -146,5 +148,86 @@ fn asks_as_often_as_it_says(rt: HostRuntime) {
             (asked.get(), counted.unwrap_or(*wanted)),
             (*wanted, *wanted),
         );
+    }
+}
+
+/// A call of a heap that asks the order.
+#[derive(Drop)]
+enum HeapAsking {
+    Push(u64),
+    Front,
+    PopFront,
+    /// Appends a heap of these elements, which were pushed in their order.
+    Append(&'static [Pair]),
+}
+
+/// Makes a call of a heap.
+fn ask_heap(rt: &impl Abort, alloc: Global, heap: &mut StableHeap<Key, ByKey>, call: &HeapAsking) {
+    at_most(rt, heap.len(), LONGEST);
+    match call {
+        HeapAsking::Push(key) => {
+            heap.push(make(rt, alloc, (0, *key)));
+        }
+        HeapAsking::Front => {
+            heap.front();
+        }
+        HeapAsking::PopFront => {
+            heap.pop_front();
+        }
+        HeapAsking::Append(pairs) => {
+            let (order, _) = not_asked(rt, alloc);
+            let mut other = StableHeap::new_with_order(order);
+            push_all(rt, alloc, &mut other, pairs);
+            at_most(rt, other.len(), LONGEST);
+            heap.append(&mut other);
+        }
+    }
+}
+
+/// Calls of a heap that is empty at first, and how often each asks its order. The lines after a call are those before
+/// the next, each with its rank.
+///
+/// A line of one element is merged with the last lines as long as their rank is not greater. A merge compares once for
+/// each element that goes before one line is used up. The first elements of the lines are compared with the least
+/// before them.
+const HEAP_CALLS: [(HeapAsking, u64); 16] = [
+    (HeapAsking::Front, 0),
+    (HeapAsking::Push(5), 0),
+    // 5: rank 0
+    (HeapAsking::Push(3), 1),
+    // 3 5: rank 1
+    (HeapAsking::Push(4), 0),
+    // 3 5: rank 1, 4: rank 0
+    (HeapAsking::Push(9), 4),
+    // 3 4 5 9: rank 2
+    (HeapAsking::Front, 0),
+    (HeapAsking::Push(1), 0),
+    // 3 4 5 9: rank 2, 1: rank 0
+    (HeapAsking::Front, 1),
+    (HeapAsking::PopFront, 1),
+    // 3 4 5 9: rank 2, an empty line: rank 0
+    (HeapAsking::PopFront, 0),
+    // 4 5 9: rank 2, an empty line: rank 0
+    (HeapAsking::Push(7), 0),
+    // 4 5 9: rank 2, 7: rank 1
+    (HeapAsking::Push(8), 0),
+    // 4 5 9: rank 2, 7: rank 1, 8: rank 0
+    (HeapAsking::PopFront, 2),
+    // 5 9: rank 2, 7: rank 1, 8: rank 0
+    (HeapAsking::Append(&[(0, 6), (0, 2)]), 10),
+    // 2 5 6 7 8 9: rank 4
+    (HeapAsking::Append(&[]), 0),
+    // 2 5 6 7 8 9: rank 4, an empty line: rank 0
+    (HeapAsking::PopFront, 0),
+];
+
+#[test]
+fn a_heap_asks_as_often_as_its_lines_need(rt: HostRuntime) {
+    let (order, asked) = not_asked(&rt, rt.alloc());
+    let mut heap = StableHeap::new_with_order(order);
+    for (call, wanted) in &HEAP_CALLS {
+        asked.set(0);
+        ask_heap(&rt, rt.alloc(), &mut heap, call);
+        same(&rt, asked.get(), *wanted);
     }
 }

@@ -1,4 +1,5 @@
-//! How often lists drop what they hold, and what was removed from them. Sorted lists have an order of the caller's.
+//! How often lists and heaps drop what they hold, and what was removed from them. Those that are sorted have an order
+//! of the caller's.
 ghost use Rattle.std.specs.Prelude.{◌≡◌, refl, ⊤};
 ghost use Rattle.std.specs.Ordering.{nat_cmp};
 ghost use Rattle.std.proofs.Common.{subst, sym};
@@ -8,6 +9,7 @@ ghost use Rattle.cordyceps_single.specs.Preorder.{IsPreorder};
 use crate::compared::{at_most, made, same};
 use crate::keys::spot_at;
 use cordyceps_base::node::Node;
+use cordyceps_heap::stable_heap::StableHeap;
 use cordyceps_list::list::Links;
 use cordyceps_single::sorted_list::Order;
 use cordyceps_stable::stable_list::StableList;
@@ -100,4 +102,47 @@ fn a_stable_list_drops_each_element_once(rt: HostRuntime) {
     same(&rt, (list.len(), drops.count()), (3, 2));
     drop(StableList::from_list(list));
     same(&rt, drops.count(), 5);
+}
+
+/// Returns a heap of the elements with these values, which are their numbers too.
+fn counted_heap(
+    rt: &impl Abort,
+    alloc: Global,
+    values: &[u64],
+    drops: &Drops,
+) -> StableHeap<Counted, ByValue> {
+    let mut heap = StableHeap::new_with_order(ByValue);
+    for value in values {
+        at_most(rt, heap.len(), 100);
+        heap.push(made(rt, counted_node(alloc, *value, *value, drops)));
+    }
+    heap
+}
+
+#[test]
+fn a_heap_drops_each_element_once(rt: HostRuntime) {
+    let drops = made(&rt, Drops::new(rt.alloc()));
+    let mut heap = counted_heap(&rt, rt.alloc(), &[6, 2, 4, 1, 3, 5], &drops);
+    let first = heap.pop_front().expect(&rt, "six elements are there");
+    drops_one(&rt, first, 1, &drops);
+    at_most(&rt, heap.len(), 5);
+    let spot = heap.push(made(&rt, counted_node(rt.alloc(), 9, 9, &drops)));
+    drops_one(&rt, heap.remove(spot), 9, &drops);
+    at_most(&rt, heap.len(), 5);
+    let spot = heap.push(made(&rt, counted_node(rt.alloc(), 8, 8, &drops)));
+    same(&rt, (heap.is_empty(), heap.get(spot).value), (false, 8));
+    heap.update(spot, |counted| counted.value = 0);
+    let last = made(&rt, counted_node(rt.alloc(), 7, 7, &drops));
+    made(&rt, heap.try_push(last));
+    let mut other = counted_heap(&rt, rt.alloc(), &[2, 1, 4], &drops);
+    same(&rt, (heap.len(), other.len(), drops.count()), (7, 3, 2));
+    at_most(&rt, heap.len(), 7);
+    at_most(&rt, other.len(), 3);
+    heap.append(&mut other);
+    drop(other);
+    same(&rt, (heap.len(), drops.count()), (10, 2));
+    let first = heap.pop_front().expect(&rt, "ten elements are there");
+    drops_one(&rt, first, 8, &drops);
+    drop(heap);
+    same(&rt, drops.count(), 12);
 }

@@ -1,5 +1,5 @@
-//! Tests of stable lists, and of those that an order keeps sorted: each call by tables, cursors by spots, drops, how
-//! often the order is asked, and many calls beside a vector.
+//! Tests of stable lists, of those that an order keeps sorted, and of heaps with spots: each call by tables, cursors by
+//! spots, drops, how often the order is asked, and many calls beside a vector.
 #![tactic(auto)]
 
 #[cfg(test)]
@@ -10,6 +10,12 @@ mod compared;
 mod cursors;
 #[cfg(test)]
 mod drops;
+#[cfg(test)]
+mod heap_calls;
+#[cfg(test)]
+mod heap_operations;
+#[cfg(test)]
+mod heaps;
 #[cfg(test)]
 mod keys;
 #[cfg(test)]

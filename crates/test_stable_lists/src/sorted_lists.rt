@@ -116,14 +116,14 @@ fn calls_reply(rt: HostRuntime) {
 }
 
 /// Compares the tens of the keys.
-fn by_tens(first: &Key, second: &Key) -> Ordering
+pub fn by_tens(first: &Key, second: &Key) -> Ordering
     ensures { result ≡ nat_cmp (first.now.value / 10) (second.now.value / 10) }
 {
     (first.value / 10).cmp(&(second.value / 10))
 }
 
 /// Returns the tens of a key.
-fn tens_of(key: &Key) -> u64
+pub fn tens_of(key: &Key) -> u64
     ensures { result ≡ key.now.value / 10 }
 {
     key.value / 10
