@@ -1,5 +1,5 @@
 //! A singly linked chain of nodes, from which collections are built, and the two ways to walk along it.
-ghost use Rattle.std.specs.Prelude.{◌≡◌, ◌-◌, ◌<◌, ◌↔◌, [], ◌∷◌, ◌++◌, length, slice_get, Some, IsTrue, IfSome, IfNone};
+ghost use Rattle.std.specs.Prelude.{◌≡◌, ◌-◌, ◌<◌, ◌↔◌, [], ◌∷◌, ◌++◌, length, slice_get, Some, IsTrue, IfSome, IfNone, ⊤};
 ghost use Rattle.std.specs.Iterator.{YieldsFirstRef, item_count};
 ghost use denote.RawPtr.{Ptr, InBlock, Testable};
 ghost use Rattle.cordyceps_base.specs.Element.{Element, values};
@@ -8,7 +8,7 @@ ghost use Rattle.cordyceps_base.specs.SingleChain.{EndsAt, with_next_of_last, un
 
 use crate::boxes::{Address, Boxes, RawBox};
 use crate::node::{Block, Node};
-use std::alloc::Global;
+use std::alloc::{AllocError, Global};
 use std::marker::{Model, PhantomData};
 use std::mem;
 
@@ -332,6 +332,23 @@ impl<'a, T> Model for Values<'a, T> {
     ghost view = { λ v. values_in v.rest.now.blocks };
 
     ghost invariant = { λ v. AreLed v.next v.rest.now.blocks };
+}
+
+impl<'a, T> Clone for Values<'a, T> {
+    ghost is_clone = { λ v again. again ≡ v };
+
+    ghost is_infallible = { λ _. ⊤ };
+
+    /// Returns a second iterator over the values that are left. It allocates nothing, and never returns an error.
+    ///
+    /// # Complexity
+    /// O(1).
+    fn clone(&self) -> Result<Values<'a, T>, AllocError> {
+        Ok(Values {
+            next: self.next,
+            rest: self.rest,
+        })
+    }
 }
 
 impl<'a, T> Iterator for Values<'a, T> {

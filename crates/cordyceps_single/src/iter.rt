@@ -1,11 +1,12 @@
 //! The iterator over a sorted list.
-ghost use Rattle.std.specs.Prelude.{◌≡◌};
+ghost use Rattle.std.specs.Prelude.{◌≡◌, ⊤};
 ghost use Rattle.std.specs.Iterator.{YieldsFirstRef, item_count};
 ghost use Rattle.cordyceps_base.specs.Element.{values};
 ghost use Rattle.cordyceps_base.specs.Nodes.{elements};
 
 use cordyceps_base::single_chain::{SingleChain, Values};
 use cordyceps_base::stack::Links;
+use std::alloc::AllocError;
 use std::marker::Model;
 
 /// An iterator over the values of a sorted list, from the first to the last. A contract sees the values that are left.
@@ -25,6 +26,22 @@ impl<'a, T> Model for SortedListIter<'a, T> {
     ghost Value = { List T };
 
     ghost view = { λ i. i.values };
+}
+
+impl<'a, T> Clone for SortedListIter<'a, T> {
+    ghost is_clone = { λ i again. again ≡ i };
+
+    ghost is_infallible = { λ _. ⊤ };
+
+    /// Returns a second iterator over the values that are left. It allocates nothing, and never returns an error.
+    ///
+    /// # Complexity
+    /// O(1).
+    fn clone(&self) -> Result<SortedListIter<'a, T>, AllocError> {
+        Ok(SortedListIter {
+            values: self.values.clone()?,
+        })
+    }
 }
 
 impl<'a, T> SortedListIter<'a, T> {

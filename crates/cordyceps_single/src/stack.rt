@@ -11,7 +11,8 @@ use std::marker::Model;
 /// pushed first.
 ///
 /// A handle that is pushed comes out as the same element. Linking allocates nothing and cannot be refused. The number
-/// of elements has no bound. The interface follows that of `Stack` in the Rust crate `cordyceps`.
+/// of elements has no bound, and the stack does not store it: a caller who needs it counts what goes in and comes out.
+/// The interface follows that of `Stack` in the Rust crate `cordyceps`.
 ///
 /// # Complexity
 /// Dropping the stack frees each node once: O(n), for n elements.

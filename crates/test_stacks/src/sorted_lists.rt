@@ -1,7 +1,7 @@
 //! Sorted lists of numbers, in their order, the other way round, and in the order of a function.
 ghost use Rattle.std.specs.Prelude.{◌≡◌};
 
-use crate::compared::same;
+use crate::compared::{made, same};
 use crate::number::{Number, by_number, make, number_of};
 use cordyceps_stack::sorted_list::{Greatest, Least, Order, SortedList};
 use cordyceps_stack::stack::Stack;
@@ -26,15 +26,20 @@ fn shown(number: Option<&Number>) -> Option<u64> {
     }
 }
 
-/// Asserts that the list shows these numbers, and no more, and that it looks at the first.
+/// Asserts that the list and a second iterator over it show these numbers, and no more, and that it looks at the first.
 fn shows<O: Order<Number>>(rt: &impl Abort, list: &SortedList<Number, O>, numbers: &[u64]) {
     let looks = (list.is_empty(), shown(list.front()));
     same(rt, looks, (numbers.is_empty(), numbers.first().copied()));
     let mut seen = list.iter();
+    let mut again = made(rt, seen.clone());
     for number in numbers {
         same(rt, shown(seen.next()), Some(*number));
     }
     same(rt, shown(seen.next()), None);
+    for number in numbers {
+        same(rt, shown(again.next()), Some(*number));
+    }
+    same(rt, shown(again.next()), None);
 }
 
 /// Asserts that the list pops these numbers, and then nothing.
