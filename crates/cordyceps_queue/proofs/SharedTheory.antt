@@ -21,5 +21,9 @@ pub mod SpareKeeps
 pub mod SpareRooms
 pub mod StubKeeps
 pub mod TriesInTurn
+pub mod UsesKeep
+pub mod UsesShare
+pub mod UsesSpell
+pub mod UsesWrite
 pub mod WaitingTries
 pub mod WordsAsMachine

@@ -1,5 +1,6 @@
 -- Definitions of what threads share.
 pub mod Batches
+pub mod Bits
 pub mod Calls
 pub mod OwnedConsumer
 pub mod Moves
@@ -8,5 +9,6 @@ pub mod Parts
 pub mod Plays
 pub mod Rule
 pub mod Sending
+pub mod Uses
 pub mod Vault
 pub mod View

@@ -12,5 +12,6 @@ pub(crate) mod steps;
 pub(crate) mod stub_steps;
 pub(crate) mod table;
 pub(crate) mod tries;
+pub(crate) mod uses;
 pub(crate) mod vault;
 pub(crate) mod waiting;

@@ -26,17 +26,17 @@ use Rattle.cordyceps_queue.specs.Cores.Meets.{Owner, Spare, Shared, OwnsRooms, C
 use Rattle.cordyceps_queue.specs.Past.{HasLooked, WasBlockedReversed}
 use Rattle.cordyceps_queue.specs.Shared.Plays.{SeatState, Sees, moves_to, hands_out, Blocked}
 use Rattle.cordyceps_shared.specs.Slots.{Homes, EmptyAtHome}
-use Rattle.cordyceps_queue.specs.Shared.Rule.{TableState, link_of, party, machine_of, FullAtHome, RuleHolds}
+use Rattle.cordyceps_queue.specs.Shared.Rule.{TableState, link_of, party, machine_of, FullAtHome, PlainHolds}
 use Rattle.cordyceps_queue.specs.Shared.View.{View, name}
 use Rattle.cordyceps_queue.specs.Cores.Abstract.{AbstractParty, AbstractMachine, update, insert_room, set_stage, set_right, hand_out}
-use Rattle.cordyceps_queue.proofs.CoreTheory.Basics.{zero_suc, suc_zero, suc_inj, some_inj, at_split, put_same, put_other, put_all}
+use Rattle.cordyceps_queue.proofs.CoreTheory.Basics.{zero_suc, suc_zero, suc_inj, some_inj, at_split, at_more, put_same, put_other, put_all}
 use Rattle.cordyceps_queue.proofs.CoreTheory.DequeueSteps.{out_keeps, chain_after_out}
 use Rattle.cordyceps_queue.proofs.CoreTheory.HolderSteps.{was_now, keeping, right_with, stage_keeps, open_blocks}
 use Rattle.cordyceps_queue.proofs.CoreTheory.OtherParties.{joined_put, names_put, strange}
 use Rattle.cordyceps_queue.proofs.CoreTheory.ProducerSteps.{spare_shared, ready_shared}
 use Rattle.cordyceps_queue.proofs.CoreTheory.ChainShrinks.{at_down, tail_full, tail_away, second}
 use Rattle.cordyceps_queue.proofs.SharedTheory.SeatNames.{few_rooms}
-use Rattle.cordyceps_queue.proofs.SharedTheory.WordsAsMachine.{links_same, keeps_rule, rooms_of, empties, empties_same, readies, readies_same, linkeds_low, linkeds_same, chain_near}
+use Rattle.cordyceps_queue.proofs.SharedTheory.WordsAsMachine.{links_same, keeps_rule, rooms_of, empties, empties_same, readies, readies_same, linkeds_low, linkeds_same, chain_near, Becomes, Comes as Keeping}
 use Rattle.cordyceps_queue.proofs.SharedTheory.EnqueueKeeps.{m, past, here, view_after, views_put, wide_words}
 
 -- the order of the free rooms of a party with the right does not matter
@@ -84,7 +84,7 @@ linked_word : (n r : ℕ) → link_of n ≡ Some r → n ≡ suc r
 linked_word zero r e = absurd (cc)
 linked_word (suc n) r e = ap suc (some_inj e)
 
-module _ {E : Type 0} (s : TableState E) (k : RuleHolds s) (id : ℕ) (v : View E) (at : get_elem? s.views id ≡ some v) (named : v.known.share ≢ []) (bare : v.back ≡ []) where
+module _ {E : Type 0} (s : TableState E) (k : PlainHolds s) (id : ℕ) (v : View E) (at : get_elem? s.views id ≡ some v) (named : v.known.share ≢ []) (bare : v.back ≡ []) where
   abbrev pub n : AbstractMachine Name E
   n = m s k id v at named
 
@@ -106,12 +106,12 @@ module _ {E : Type 0} (s : TableState E) (k : RuleHolds s) (id : ℕ) (v : View 
 
   -- a step that changes no word and no slot
   pub reads : (es : List (Event Name E)) → Under actor (name v) es → (stage : Stage) (chain : Chain) → Meets (set_stage n id (party v) stage) chain (reverse es ++ out_events) → Among chain.rooms k.chain.rooms → ((q : ℕ) → stage ≡ Cleared q → ⊥) → (i : ℕ)
-      → RuleHolds record { words = set s.words i (get_or s.words i 0); homes = s.homes; views = set s.views id (sees es v.free v.end v.back v.to stage) } × Sees v es (sees es v.free v.end v.back v.to stage)
+      → Becomes s k v (sees es v.free v.end v.back v.to stage) record { words = set s.words i (get_or s.words i 0); homes = s.homes; views = set s.views id (sees es v.free v.end v.back v.to stage) } × Sees v es (sees es v.free v.end v.back v.to stage)
   reads es under stage chain met among away i =
       let w = sees es v.free v.end v.back v.to stage in
       let same : set_stage n id (party v) stage ≡ machine_of k.cell s.words (set s.views id w) = spelled w in
-      let r = keeps_rule s k id es v w s.words s.homes k.cell chain (set_stage n id (party v) stage) at named under refl same met refl refl (full_among chain.rooms among) (empties_same s k id w (k.empty id v at named)) (readies_same s k id w away) (linkeds_same s k id w (k.linked id v at named)) in
-      (subst (λ (ws : List ℕ). RuleHolds record { words = ws; homes = s.homes; views = set s.views id w }) (sym (set-get_or s.words i 0)) r.0, r.1)
+      let r = keeps_rule s k id es v w s.words s.homes k.cell chain (set_stage n id (party v) stage) at named under refl same met refl refl (full_among chain.rooms among) (empties_same s k id w (k.empty id v at named)) (readies_same s k id w away) (linkeds_same s k id w (k.linked id v at named)) refl (λ j x jx. inr (among j x jx)) (λ j x jx. inl (j, jx)) in
+      (subst (λ (ws : List ℕ). Becomes s k v w record { words = ws; homes = s.homes; views = set s.views id w }) (sym (set-get_or s.words i 0)) r.0, r.1)
     where
       spelled : (w : View E) → set_stage n id (party v) stage ≡ machine_of k.cell s.words (set s.views id (sees es v.free v.end v.back v.to stage))
       spelled w j = record {
@@ -125,10 +125,10 @@ module _ {E : Type 0} (s : TableState E) (k : RuleHolds s) (id : ℕ) (v : View 
 
   -- the right changes
   pub rights : (es : List (Event Name E)) → Under actor (name v) es → (stage : Stage) (chain : Chain) (right : ℕ) → Meets (set_right n id (party v) right stage) chain (reverse es ++ out_events) → Among chain.rooms k.chain.rooms → ((q : ℕ) → stage ≡ Cleared q → ⊥)
-      → RuleHolds record { words = set s.words RIGHT right; homes = s.homes; views = set s.views id (sees es v.free v.end v.back v.to stage) } × Sees v es (sees es v.free v.end v.back v.to stage)
+      → Becomes s k v (sees es v.free v.end v.back v.to stage) record { words = set s.words RIGHT right; homes = s.homes; views = set s.views id (sees es v.free v.end v.back v.to stage) } × Sees v es (sees es v.free v.end v.back v.to stage)
   rights es under stage chain right met among away =
       let w = sees es v.free v.end v.back v.to stage in
-      keeps_rule s k id es v w (set s.words RIGHT right) s.homes k.cell chain (set_right n id (party v) right stage) at named under refl spelled met (length-set s.words RIGHT right) refl (full_among chain.rooms among) (empties_same s k id w (k.empty id v at named)) (readies_same s k id w away) (linkeds_low s k id RIGHT right w (omega arith) (k.linked id v at named))
+      keeps_rule s k id es v w (set s.words RIGHT right) s.homes k.cell chain (set_right n id (party v) right stage) at named under refl spelled met (length-set s.words RIGHT right) refl (full_among chain.rooms among) (empties_same s k id w (k.empty id v at named)) (readies_same s k id w away) (linkeds_low s k id RIGHT right w (omega arith) (k.linked id v at named)) refl (λ j x jx. inr (among j x jx)) (λ j x jx. inl (j, jx))
     where
       spelled : set_right n id (party v) right stage ≡ machine_of k.cell (set s.words RIGHT right) (set s.views id (sees es v.free v.end v.back v.to stage))
       spelled j = record {
@@ -200,13 +200,20 @@ module _ {E : Type 0} (s : TableState E) (k : RuleHolds s) (id : ℕ) (v : View 
     out_empty : EmptyAtHome homes_out v.free
     out_empty i x ix = set_else s.homes t x none (λ same. spare_shared (free_rooms.own i x ix) (ap k.chain.owner same ∙ tail_shared)) ∙ k.empty id v at named i x ix
 
-    out_kept : (i : ℕ) → RuleHolds record { words = set s.words i (get_or s.words i 0); homes = homes_out; views = set s.views id out_view } × Sees v all out_view
+    out_spare : Keeping s k v out_view
+    out_spare j x jx = elim (at_split v.free t j x jx) [
+      | inl a ↦ inl (j, at_more v.free v.back j x a)
+      | inr a ↦ inr ((0, subst (ItemAt k.chain.rooms 0) (sym a.1) tail_at), (r, subst (λ z. word.next s.words z ≡ suc r) (sym a.1) (linked_word (word.next s.words t) r linked)))
+    ]
+
+    out_kept : (i : ℕ) → Becomes s k v out_view record { words = set s.words i (get_or s.words i 0); homes = homes_out; views = set s.views id out_view } × Sees v all out_view
     out_kept i =
         let h = ap (λ l. l ++ out_events) (reverse-append before (Event.Out (name v) e ∷ [])) in
         let kept = keeps_rule s k id all v out_view s.words homes_out (update k.cell t None) next_chain freed_machine at named (under_append actor (name v) before (Event.Out (name v) e ∷ []) under (refl, tt)) refl spelled_out (subst (Meets freed_machine next_chain) (sym h) met) refl (length-set s.homes t none) out_full
         (empties s k id t none out_view out_empty (λ j ne mine. spare_shared mine tail_shared))
-        (readies s k id t None out_view (λ q is. cc) (λ j ne mine. ready_shared mine tail_shared)) (linkeds_same s k id out_view ((k.linked id v at named).0, (linked_word (word.next s.words t) r linked, tt))) in
-        (subst (λ (ws : List ℕ). RuleHolds record { words = ws; homes = homes_out; views = set s.views id out_view }) (sym (set-get_or s.words i 0)) kept.0, kept.1)
+        (readies s k id t None out_view (λ q is. cc) (λ j ne mine. ready_shared mine tail_shared)) (linkeds_same s k id out_view ((k.linked id v at named).0, (linked_word (word.next s.words t) r linked, tt)))
+        refl (λ j x jx. inr (suc j, at_down k.chain.rooms j x jx)) out_spare in
+        (subst (λ (ws : List ℕ). Becomes s k v out_view record { words = ws; homes = homes_out; views = set s.views id out_view }) (sym (set-get_or s.words i 0)) kept.0, kept.1)
 
   -- ---- what the steps tell
   pub stood : (es : List (Event Name E)) (stage : Stage) → Sees v es (sees es v.free v.end v.back v.to stage) → moves_to es stage (v, []) (sees es v.free v.end v.back v.to stage, [])
@@ -223,7 +230,7 @@ module _ {E : Type 0} (s : TableState E) (k : RuleHolds s) (id : ℕ) (v : View 
 
   -- what a step comes to
   abbrev pub Comes : ℕ → ℕ → (ℕ → SeatState E → Type 0) → Type 0
-  Comes i new then = (w : View E) × (a : Act (Option E)) × Valid s.homes [] a × RuleHolds (stepped s i new id [] w a) × then (get_or s.words i 0) (w, carried_after [] a)
+  Comes i new then = (w : View E) × (a : Act (Option E)) × Valid s.homes [] a × Becomes s k v w (stepped s i new id [] w a) × then (get_or s.words i 0) (w, carried_after [] a)
 
   -- with the tail's link a room: the element is handed out
   pub hands : (before : List (Event Name E)) (under : Under actor (name v) before) (M : Meets n k.chain (reverse before ++ out_events)) (t r i : ℕ) (has : tail_of v.stage ≡ Some t) (nothing : (a b : ℕ) → Owes v.stage a b → ⊥) (is_real : t ≢ 0) (linked : n.next t ≡ Some r) (slots : ℕ) → length s.homes ≡ slots

@@ -2,7 +2,7 @@
 use Rattle.std.proofs.Common.{◌≡◌, ◌≢◌, ℕ, suc, ◌+◌, ◌-◌, ◌<◌, List, [], ◌∷◌, ◌++◌, length, reverse, set, get_or, append-nil, Option, Some, None, refl, sym, ap, ◌∙◌, subst, inl, inr, arith, length-set}
 use mathlib.Core.Option.{some, none}
 use lib.ListN.{get_elem?}
-use Rattle.atomic_table.specs.Table.{keeps, takes, gives, homes_after, rest, step, Allows}
+use Rattle.atomic_table.specs.Table.{keeps, takes, gives, homes_after, rest, step}
 use Rattle.atomic_table.proofs.Lists.{set_here, set_else}
 use Rattle.cordyceps_shared.specs.Words as word
 use Rattle.cordyceps_shared.specs.declared.layout.TheConstants.{HEAD, LINKS}
@@ -21,12 +21,12 @@ use Rattle.cordyceps_queue.specs.Cores.Meets.{Owner, Spare, Shared, OwnsRooms, A
 use Rattle.cordyceps_queue.specs.Shared.Plays.{SeatState, LegalReversed, Sees}
 use Rattle.cordyceps_queue.specs.Shared.Plays as play
 use Rattle.cordyceps_shared.specs.Slots.{Homes, EmptyAtHome, Hand}
-use Rattle.cordyceps_queue.specs.Shared.Rule.{TableState, party, party_of, machine_of, FullAtHome, RuleHolds}
+use Rattle.cordyceps_queue.specs.Shared.Rule.{TableState, party, party_of, machine_of, FullAtHome, PlainHolds}
 use Rattle.cordyceps_queue.specs.Shared.View.{View, name}
 use Rattle.cordyceps_queue.specs.Cores.Abstract.{AbstractMachine, update, clear_room, swap_head, link_next}
 use Rattle.cordyceps_queue.proofs.CoreTheory.Basics.{some_inj, put_same, put_other, at_split}
 use Rattle.cordyceps_queue.proofs.CoreTheory.ProducerSteps.{spare_shared, ready_spare, clear_keeps, chain_after_clear, swap_keeps, chain_after_swap, was, fresh, link_keeps}
-use Rattle.cordyceps_queue.proofs.SharedTheory.WordsAsMachine.{links_put, links_same, parties_put, keeps_rule, core, party_at, rooms_of, free_spare, empties, empties_same, readies, readies_same, head_near, linked_else, own_links, linkeds, linkeds_low}
+use Rattle.cordyceps_queue.proofs.SharedTheory.WordsAsMachine.{links_put, links_same, parties_put, keeps_rule, core, party_at, rooms_of, free_spare, empties, empties_same, readies, readies_same, head_near, linked_else, own_links, linkeds, linkeds_low, Becomes, PlainAllows}
 
 abbrev room_of : Stage → ℕ
 room_of (Cleared r) = r
@@ -35,7 +35,7 @@ room_of p = 0
 pub spare_one : {o : Owner} {j k : ℕ} → o ≡ Spare j → o ≡ Spare k → j ≡ k
 spare_one a b = cc (a, b)
 
-module _ {E : Type 0} (s : TableState E) (k : RuleHolds s) (id : ℕ) (v : View E) (at : get_elem? s.views id ≡ some v) (named : v.known.share ≢ []) where
+module _ {E : Type 0} (s : TableState E) (k : PlainHolds s) (id : ℕ) (v : View E) (at : get_elem? s.views id ≡ some v) (named : v.known.share ≢ []) where
   abbrev pub m : AbstractMachine Name E
   m = core s k
 
@@ -47,7 +47,7 @@ module _ {E : Type 0} (s : TableState E) (k : RuleHolds s) (id : ℕ) (v : View 
 
   -- the view after a step that adds these events
   abbrev pub view_after : List (Event Name E) → List ℕ → ℕ → List ℕ → ℕ → Stage → Option E → View E
-  view_after es free end back to stage item = record { known = all_seen id (k.history ++ of_seat id es) v.known.share; free = free; end = end; back = back; to = to; stage = stage; item = item }
+  view_after es free end back to stage item = record { known = all_seen id (k.history ++ of_seat id es) v.known.share; free = free; end = end; back = back; to = to; stage = stage; item = item; bits = k.uses }
 
   pub views_put : (w : View E) → w.known.share ≢ [] → update m.party id (Some (party w)) ≡ (λ j. party_of (get_elem? (set s.views id w) j))
   views_put w some_name = sym (parties_put s.views id w (at_length s.views id v at) some_name)
@@ -102,13 +102,14 @@ module _ {E : Type 0} (s : TableState E) (k : RuleHolds s) (id : ℕ) (v : View 
     clear_linked : Links words_clear rs v.end
     clear_linked = linked_else s k s.words rs v.end r 0 (λ i ix. let z = rooms.once (suc i) 0 r ix refl in absurd (omega arith)) was_linked.1
 
-    clear_kept : RuleHolds record { words = words_clear; homes = homes_clear; views = set s.views id clear_view } × Sees v [] clear_view
+    clear_kept : Becomes s k v clear_view record { words = words_clear; homes = homes_clear; views = set s.views id clear_view } × Sees v [] clear_view
     clear_kept = keeps_rule s k id [] v clear_view words_clear homes_clear (update k.cell r (Some e)) (chain_after_clear m k.chain past k.meets id (party v) here idle r rs spare e) (clear_room m id (party v) r rs e)
         at named tt refl clear_machine (clear_keeps m k.chain past k.meets id (party v) here idle r rs spare e)
         (length-set s.words (LINKS + r) 0) (length-set s.homes r none) clear_full
         (empties s k id r none clear_view clear_empty (λ j ne mine. ne (spare_one mine (rooms.own 0 r refl))))
         (readies s k id r (Some e) clear_view (λ q is. ap (λ z. update k.cell r (Some e) z) (sym (ap room_of is)) ∙ put_same k.cell r (Some e)) (λ j ne mine. ready_spare mine (rooms.own 0 r refl)))
         (linkeds s k id r 0 clear_view (clear_linked, tt) (λ j ne mine. ne (spare_one mine (rooms.own 0 r refl))))
+        refl (λ i x ix. inr (i, ix)) (λ i x ix. inl (suc i, subst (λ l. ItemAt l (suc i) x) (sym spare) (subst (λ l. ItemAt l i x) (append-nil rs) ix)))
 
   -- ---- the swap of head
   module _ (r : ℕ) (e : E) (ready : v.stage ≡ Cleared r) (item : v.item ≡ Some e) (inside : r < length s.homes) where
@@ -149,12 +150,13 @@ module _ {E : Type 0} (s : TableState E) (k : RuleHolds s) (id : ℕ) (v : View 
     swap_empty : EmptyAtHome homes_swap v.free
     swap_empty i x ix = set_else s.homes r x (some (Some e)) (λ same. ready_spare known.1 (ap k.chain.owner (sym same) ∙ free_spare s k id v i x at named ix)) ∙ k.empty id v at named i x ix
 
-    swap_kept : RuleHolds record { words = words_swap; homes = homes_swap; views = set s.views id swap_view } × Sees v (Event.Swap (name v) e ∷ []) swap_view
+    swap_kept : Becomes s k v swap_view record { words = words_swap; homes = homes_swap; views = set s.views id swap_view } × Sees v (Event.Swap (name v) e ∷ []) swap_view
     swap_kept = keeps_rule s k id (Event.Swap (name v) e ∷ []) v swap_view words_swap homes_swap k.cell (chain_after_swap m k.chain past k.meets id (party v) here r e ready has) (swap_head m id (party v) r (Swapped r found_word))
         at named (refl, tt) refl swap_machine (swap_keeps m k.chain past k.meets id (party v) here r e ready has)
         (length-set s.words HEAD r) (length-set s.homes r (some (Some e))) swap_full
         (empties s k id r (some (Some e)) swap_view swap_empty (λ j ne mine. ready_spare known.1 mine))
         (readies_same s k id swap_view (λ q is. cc)) (linkeds_low s k id HEAD r swap_view (omega arith) (k.linked id v at named))
+        refl (λ i x ix. elim (at_split k.chain.rooms r i x ix) [ inl a ↦ inr (i, a) | inr a ↦ inl (a.1 ∙ sym (head_set s.words r (let w = wide_words in omega arith))) ]) (λ i x ix. inl (i, ix))
 
   -- ---- the store of the link
   module _ (r old : ℕ) (waits : v.stage ≡ Swapped r old) (inside : old < length s.homes) where
@@ -177,16 +179,17 @@ module _ {E : Type 0} (s : TableState E) (k : RuleHolds s) (id : ℕ) (v : View 
     old_shared : k.chain.owner old ≡ Shared
     old_shared = let f = subst (AtStage m.head m.next m.cell k.chain.owner k.chain.keeper k.chain.rooms past id (name v)) waits (k.meets.fits id (party v) here) in k.meets.shared f.0 old f.1
 
-    link_kept : RuleHolds record { words = words_link; homes = s.homes; views = set s.views id link_view } × Sees v (Event.Link (name v) ∷ []) link_view
+    link_kept : Becomes s k v link_view record { words = words_link; homes = s.homes; views = set s.views id link_view } × Sees v (Event.Link (name v) ∷ []) link_view
     link_kept = keeps_rule s k id (Event.Link (name v) ∷ []) v link_view words_link s.homes k.cell k.chain (link_next m id (party v) old r Rest)
         at named (refl, tt) refl link_machine (link_keeps m k.chain past k.meets id (party v) here r old waits)
         (length-set s.words (LINKS + old) (suc r)) refl k.full (empties_same s k id link_view (k.empty id v at named)) (readies_same s k id link_view (λ q is. cc))
         (linkeds s k id old (suc r) link_view (own_links s k id old (suc r) v at named (λ mine. spare_shared mine old_shared)) (λ j ne mine. spare_shared mine old_shared))
+        refl (λ i x ix. inr (i, ix)) (λ i x ix. inl (i, ix))
 
 module _ {E : Type 0} where
   pub clears : (slots id i : ℕ) (me : SeatState E) (r : ℕ) (rs : List ℕ) (item : Option E) (e : E) → i ≡ LINKS + r → item ≡ Some e → me.0.stage ≡ Rest → me.0.back ≡ [] → me.0.free ≡ r ∷ rs → me.0.known.share ≢ []
-      → Allows RuleHolds slots id me i (λ _. 0) (play.after_clear item (step slots i 0 0 none) me)
-  clears slots id i me r rs item e is chosen idle bare free named s k deep at fits =
+      → PlainAllows slots id me i (λ _. 0) (play.after_clear item (step slots i 0 0 none) me)
+  clears slots id i me r rs item e is chosen idle bare free named s k deep at =
       let c = clear_kept s k id me.0 at named r rs e idle bare free in
       let same : LINKS + r ≡ i = omega arith in
       let there = empty s k id me.0 at named r rs e idle bare free 0 r refl in
@@ -196,7 +199,7 @@ module _ {E : Type 0} where
         w,
         takes r None,
         there,
-        subst (λ (q : ℕ). RuleHolds record { words = set s.words q 0; homes = set s.homes r none; views = set s.views id w }) same c.0,
+        subst (λ (q : ℕ). Becomes s k me.0 w record { words = set s.words q 0; homes = set s.homes r none; views = set s.views id w }) same c.0,
         λ r' rs' e' free' item'.
             let p : r ∷ rs ≡ r' ∷ rs' = sym free ∙ free' in
             let q : e ≡ e' = some_inj (sym chosen ∙ item') in
@@ -204,15 +207,15 @@ module _ {E : Type 0} where
       )
 
   pub swaps : (slots id : ℕ) (me : SeatState E) (r : ℕ) (e : E) (cs : Hand E) → me.0.stage ≡ Cleared r → me.0.item ≡ Some e → me.1 ≡ (r, Some e) ∷ cs → r < slots → me.0.known.share ≢ []
-      → Allows RuleHolds slots id me HEAD (λ _. r) (play.after_swap (step slots HEAD r 0 none) me)
-  swaps slots id me r e cs ready item hand near named s k deep at fits =
+      → PlainAllows slots id me HEAD (λ _. r) (play.after_swap (step slots HEAD r 0 none) me)
+  swaps slots id me r e cs ready item hand near named s k deep at =
       let inside : r < length s.homes = omega arith in
       let c = swap_kept s k id me.0 at named r e ready item inside in
       let w = swap_view s k id me.0 at named r e ready item inside in (
         w,
         gives,
         tt,
-        subst (λ z. RuleHolds record { words = set s.words HEAD r; homes = homes_after s.homes z gives; views = set s.views id w }) (sym hand) c.0,
+        subst (λ z. Becomes s k me.0 w record { words = set s.words HEAD r; homes = homes_after s.homes z gives; views = set s.views id w }) (sym hand) c.0,
         λ r' e' cs' ready' item' hand'.
             let p : Cleared r ≡ Cleared r' = sym ready ∙ ready' in
             let q : e ≡ e' = some_inj (sym item ∙ item') in
@@ -221,8 +224,8 @@ module _ {E : Type 0} where
       )
 
   pub links_on : (slots id i n : ℕ) (me : SeatState E) (r old : ℕ) → i ≡ LINKS + old → n ≡ r + 1 → me.0.stage ≡ Swapped r old → old < slots → me.0.known.share ≢ []
-      → Allows RuleHolds slots id me i (λ _. n) (λ _. play.after_link (step slots i n 0 none) me n)
-  links_on slots id i n me r old is is_n waits near named s k deep at fits =
+      → PlainAllows slots id me i (λ _. n) (λ _. play.after_link (step slots i n 0 none) me n)
+  links_on slots id i n me r old is is_n waits near named s k deep at =
       let inside : old < length s.homes = omega arith in
       let c = link_kept s k id me.0 at named r old waits inside in
       let w = link_view s k id me.0 at named r old waits inside in
@@ -231,7 +234,7 @@ module _ {E : Type 0} where
         w,
         keeps,
         tt,
-        subst (λ (q : ℕ × ℕ). RuleHolds record { words = set s.words q.0 q.1; homes = s.homes; views = set s.views id w }) (λ j. (same j, same_n j)) c.0,
+        subst (λ (q : ℕ × ℕ). Becomes s k me.0 w record { words = set s.words q.0 q.1; homes = s.homes; views = set s.views id w }) (λ j. (same j, same_n j)) c.0,
         λ _ _ _. (refl, refl, refl, refl, c.1, refl),
       )
 

@@ -2,7 +2,7 @@
 use Rattle.std.proofs.Common.{◌≡◌, ◌≢◌, ℕ, zero, suc, ◌+◌, ◌-◌, ◌<◌, List, [], ◌∷◌, ◌++◌, length, set, get_or, Some, refl, sym, ap, ◌∙◌, subst, inl, arith}
 use mathlib.Core.Option.{some, none}
 use lib.ListN.{get_elem?}
-use Rattle.atomic_table.specs.Table.{keeps, carried_after, step, Allows}
+use Rattle.atomic_table.specs.Table.{keeps, carried_after, step}
 use Rattle.cordyceps_shared.specs.Slots.{Near}
 use Rattle.cordyceps_shared.specs.Words as word
 use Rattle.cordyceps_shared.specs.declared.layout.TheConstants.{RIGHT, LINKS}
@@ -13,7 +13,7 @@ use Rattle.cordyceps_queue.specs.History.{Event}
 use Rattle.cordyceps_queue.specs.Cores.Meets.{Owes, tail_of, AtStage, Real, Meets}
 use Rattle.cordyceps_queue.specs.Shared.Plays.{SeatState, carry, moves_to, hands_out}
 use Rattle.cordyceps_queue.specs.Shared.Plays as play
-use Rattle.cordyceps_queue.specs.Shared.Rule.{TableState, link_of, party, RuleHolds}
+use Rattle.cordyceps_queue.specs.Shared.Rule.{TableState, link_of, party, PlainHolds}
 use Rattle.cordyceps_shared.specs.FreeChains.{MayJoin}
 use Rattle.cordyceps_queue.specs.Shared.View.{View, name, free_chain, back_chain}
 use Rattle.cordyceps_queue.specs.Cores.Abstract.{AbstractParty, AbstractMachine, update, set_right}
@@ -21,11 +21,11 @@ use Rattle.cordyceps_queue.proofs.CoreTheory.Basics.{some_inj, zero_suc, suc_zer
 use Rattle.cordyceps_queue.proofs.CoreTheory.DequeueSteps.{free_right, take_keeps, chain_after_take, give_keeps, chain_after_give}
 use Rattle.cordyceps_queue.proofs.CoreTheory.HolderSteps.{keeping, tell_keeps}
 use Rattle.cordyceps_queue.proofs.CoreTheory.ProducerSteps.{busy_keeps}
-use Rattle.cordyceps_queue.proofs.SharedTheory.WordsAsMachine.{chain_near}
+use Rattle.cordyceps_queue.proofs.SharedTheory.WordsAsMachine.{chain_near, Becomes, PlainAllows}
 use Rattle.cordyceps_queue.proofs.SharedTheory.ReturnKeeps.{put_again, view_returned, returning, moved_on, handed_on}
 use Rattle.cordyceps_queue.proofs.SharedTheory.DequeueKeeps.{n, out_events, there, sees, rights, stood, same_rooms, Comes, ReadsTail, reading}
 
-module _ {E : Type 0} (s : TableState E) (k : RuleHolds s) (id : ℕ) (v : View E) (at : get_elem? s.views id ≡ some v) (named : v.known.share ≢ []) (bare : v.back ≡ []) where
+module _ {E : Type 0} (s : TableState E) (k : PlainHolds s) (id : ℕ) (v : View E) (at : get_elem? s.views id ≡ some v) (named : v.known.share ≢ []) (bare : v.back ≡ []) where
   abbrev core : AbstractMachine Name E
   core = n s k id v at named bare
 
@@ -85,7 +85,7 @@ module _ {E : Type 0} (s : TableState E) (k : RuleHolds s) (id : ℕ) (v : View 
         (give_keeps core k.chain gone_by k.meets id (party v) is_there t holding) (same_rooms s k id v at named bare) (λ q is. cc) in
         let same : suc t ≡ n' = omega arith in
         let w = sees s k id v at named bare (x ∷ []) v.free v.end v.back v.to Rest in
-        (w, keeps, tt, subst (λ q. RuleHolds record { words = set s.words RIGHT q; homes = s.homes; views = set s.views id w }) same r.0, stood s k id v at named bare (x ∷ []) Rest r.1)
+        (w, keeps, tt, subst (λ q. Becomes s k v w record { words = set s.words RIGHT q; homes = s.homes; views = set s.views id w }) same r.0, stood s k id v at named bare (x ∷ []) Rest r.1)
 
     looks_bare : t ≢ 0 → (i : ℕ) → i ≡ LINKS + t → (slots : ℕ) → length s.homes ≡ slots → Comes s k id v at named bare i (get_or s.words i 0) (ReadsTail s k id v at named bare (Event.Look (name v) ∷ []) slots t)
     looks_bare is_real i is slots deep = reading s k id v at named bare (Event.Look (name v) ∷ []) (refl, tt) looked_on t i has nothing is_real (inl refl) is slots deep (get_or s.words i 0) refl
@@ -105,20 +105,20 @@ same_second : {p : Stage} {t u : ℕ} → p ≡ Second t → p ≡ Second u → 
 same_second a b = some_inj (ap tail_of (sym a ∙ b))
 
 module _ {E : Type 0} (slots id : ℕ) (me : SeatState E) (hand : me.1 ≡ carry me.0.back) (near : Near slots me.0.back) (named : me.0.known.share ≢ []) (may : MayJoin (free_chain me.0) (back_chain me.0)) where
-  pub takes_right : me.0.stage ≡ Rest → Allows RuleHolds slots id me RIGHT (λ _. 0) (play.after_take (step slots RIGHT 0 0 none) me)
+  pub takes_right : me.0.stage ≡ Rest → PlainAllows slots id me RIGHT (λ _. 0) (play.after_take (step slots RIGHT 0 0 none) me)
   takes_right rest = returning slots id RIGHT me (λ _. 0) (play.after_take (step slots RIGHT 0 0 none) me) hand near named may
-      (λ s k deep at fits.
+      (λ s k deep at.
       let c = takes_bare s k id (view_returned me.0) at named refl rest slots deep (word.right s.words) refl in
       let z : SeatState E = (c.0, carried_after [] c.1) in
       (c.0, c.1, c.2, c.3, λ stage. let t = c.4 stage in ((λ e. moved_on me z (Event.Busy (name me.0) ∷ []) Rest (t.0 e)), λ u e. let h = t.1 u e in (moved_on me z (Event.Take (name me.0) ∷ []) (Holding u) h.0, h.1))))
 
-  pub gives_right : (t n' : ℕ) → n' ≡ t + 1 → me.0.stage ≡ Holding t → Allows RuleHolds slots id me RIGHT (λ _. n') (λ _. play.after_give (step slots RIGHT n' 0 none) me n')
+  pub gives_right : (t n' : ℕ) → n' ≡ t + 1 → me.0.stage ≡ Holding t → PlainAllows slots id me RIGHT (λ _. n') (λ _. play.after_give (step slots RIGHT n' 0 none) me n')
   gives_right t n' is holding = returning slots id RIGHT me (λ _. n') (λ _. play.after_give (step slots RIGHT n' 0 none) me n') hand near named may
-      (λ s k deep at fits. let c = gives_bare s k id (view_returned me.0) at named refl t holding n' is in (c.0, c.1, c.2, c.3, λ _ _. moved_on me (c.0, carried_after [] c.1) (Event.Free (name me.0) ∷ []) Rest c.4))
+      (λ s k deep at. let c = gives_bare s k id (view_returned me.0) at named refl t holding n' is in (c.0, c.1, c.2, c.3, λ _ _. moved_on me (c.0, carried_after [] c.1) (Event.Free (name me.0) ∷ []) Rest c.4))
 
-  pub looks : (t i : ℕ) → i ≡ LINKS + t → me.0.stage ≡ Holding t → t ≢ 0 → Allows RuleHolds slots id me i (λ x. x) (play.after_look (step slots i 0 0 none) me)
+  pub looks : (t i : ℕ) → i ≡ LINKS + t → me.0.stage ≡ Holding t → t ≢ 0 → PlainAllows slots id me i (λ x. x) (play.after_look (step slots i 0 0 none) me)
   looks t i is holding is_real = returning slots id i me (λ x. x) (play.after_look (step slots i 0 0 none) me) hand near named may
-      (λ s k deep at fits.
+      (λ s k deep at.
       let c = looks_bare s k id (view_returned me.0) at named refl t holding is_real i is slots deep in (
         c.0,
         c.1,
@@ -130,9 +130,9 @@ module _ {E : Type 0} (slots id : ℕ) (me : SeatState E) (hand : me.1 ≡ carry
             ((λ e. moved_on me z (Event.Look (name me.0) ∷ []) (Null u) (t.0 e)), λ r e. handed_on me z (Event.Look (name me.0) ∷ []) slots u r (t.1 r e)),
       ))
 
-  pub reads_after : (t i : ℕ) → i ≡ LINKS + t → me.0.stage ≡ Second t → Allows RuleHolds slots id me i (λ x. x) (play.after_read (step slots i 0 0 none) me)
+  pub reads_after : (t i : ℕ) → i ≡ LINKS + t → me.0.stage ≡ Second t → PlainAllows slots id me i (λ x. x) (play.after_read (step slots i 0 0 none) me)
   reads_after t i is at_second = returning slots id i me (λ x. x) (play.after_read (step slots i 0 0 none) me) hand near named may
-      (λ s k deep at fits.
+      (λ s k deep at.
       let c = reads_bare s k id (view_returned me.0) at named refl t at_second i is slots deep in (
         c.0,
         c.1,

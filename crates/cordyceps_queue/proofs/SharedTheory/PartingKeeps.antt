@@ -31,13 +31,13 @@ use Rattle.cordyceps_shared.specs.FreeChains.{Links, MayJoin, leads}
 use Rattle.cordyceps_shared.proofs.FreeLinks.{links_drop, links_take, links_append}
 use Rattle.cordyceps_queue.specs.Shared.Parts.{AreNew}
 use Rattle.cordyceps_shared.specs.Slots.{Homes, EmptyAtHome}
-use Rattle.cordyceps_queue.specs.Shared.Rule.{TableState, History, link_of, party, party_of, machine_of, RuleHolds}
+use Rattle.cordyceps_queue.specs.Shared.Rule.{TableState, History, link_of, party, party_of, machine_of, PlainHolds}
 use Rattle.cordyceps_queue.specs.Shared.View.{View, knows, name, newcomer, down_from, free_chain}
 use Rattle.cordyceps_queue.specs.Cores.Abstract.{AbstractParty}
 use Rattle.cordyceps_queue.proofs.CoreTheory.Basics.{some_inj}
 use Rattle.cordyceps_queue.proofs.SharedTheory.SeatNames.{party_was, name_known, names_differ, few_rooms, rest_linked, rest_unheld}
 use Rattle.cordyceps_queue.proofs.CoreTheory.SplitParties.{deal, deal_else, deal_here, deal_fixed, deal_others, deal_kept, deal_given, deal_both, Regroups, regroups_keep}
-use Rattle.cordyceps_queue.proofs.SharedTheory.WordsAsMachine.{core, party_at, rooms_of, parties_put}
+use Rattle.cordyceps_queue.proofs.SharedTheory.WordsAsMachine.{core, party_at, rooms_of, parties_put, Stays}
 use Rattle.cordyceps_queue.proofs.SharedTheory.ReturnKeeps.{put_again}
 
 only_at : {A : Type 0} (a b : A) (i : ℕ) → ItemAt (a ∷ []) i b → (i ≡ 0) × (b ≡ a)
@@ -70,7 +70,13 @@ module _ (E : Type 0) where
   vacant_empty : (rooms : ℕ) → let homes : Homes E = map some (replicate (rooms + 1) None) in EmptyAtHome homes (down_from rooms)
   vacant_empty rooms = empty_new (rooms + 1) (down_from rooms) (λ i r a. let t = at_down_from rooms i r a in let e = t.0 in omega arith)
 
-  pub opens : (rooms : ℕ) (words : List ℕ) → AreNew words rooms → RuleHolds {E = E} (opening words (replicate (rooms + 1) None) (newcomer rooms))
+  -- the plain rule, with no use begun, and the stub alone in the chain
+  pub record Opens (rooms : ℕ) (words : List ℕ) : Type 0 where
+    pub now : PlainHolds {E = E} (opening words (replicate (rooms + 1) None) (newcomer rooms))
+    pub uses : now.uses ≡ []
+    pub rooms_are : now.chain.rooms ≡ 0 ∷ []
+
+  pub opens : (rooms : ℕ) (words : List ℕ) → AreNew words rooms → Opens rooms words
   opens rooms words new =
       let wide = new.wide in
       let head = new.head in
@@ -81,33 +87,38 @@ module _ (E : Type 0) where
       let homes : Homes E = map some (replicate (rooms + 1) None) in
       let deep : length homes ≡ rooms + 1 = length-map (replicate (rooms + 1) None) some ∙ length-replicate (rooms + 1) None in
       let owner : ℕ → Owner = deal 0 (down_from rooms) only_stub in record {
-        history = [];
-        cell = λ _. None;
-        chain = record { rooms = 0 ∷ []; owner = owner; keeper = None };
-        meets = record {
-          legal = tt;
-          last = (0, refl, head);
-          ends = ap (λ n. link_of (word.next words n)) head ∙ ap link_of link;
-          joined = λ i a b ia ib. absurd ib;
-          once = λ i j r ir jr. (only_at 0 r i ir).0 ∙ sym (only_at 0 r j jr).0;
-          shared = λ i r ir. ap owner (only_at 0 r i ir).1 ∙ stub rooms;
-          stub = stub rooms;
-          unmade = λ r l. deal_else 0 (down_from rooms) only_stub r (λ i a. let t = at_down_from rooms i r a in let e = t.0 in absurd (omega arith)) ∙ others_unmade r (omega arith);
-          holds = refl;
-          right = (refl, 0, right, refl);
-          fits = λ k p e. subst (λ (q : AbstractParty Name). AtStage (word.head words) (λ r. link_of (word.next words r)) (λ (_ : ℕ). let x : Option E = None in x) owner None (0 ∷ []) [] k q.name q.stage) (is_first rooms k p e).1 tt;
-          rooms = λ k p e. let t = is_first rooms k p e in subst (λ (z : ℕ × AbstractParty Name). OwnsRooms owner z.0 z.1.spare) (λ c. (sym t.0 c, t.1 c)) (subst (λ z. OwnsRooms owner 0 z) (sym (append-nil (down_from rooms))) (mine rooms));
-          names = λ j k p q ej ek same. (is_first rooms j p ej).0 ∙ sym (is_first rooms k q ek).0;
-          strangers = λ q away. tt;
+        now = record {
+          uses = [];
+          history = [];
+          cell = λ _. None;
+          chain = record { rooms = 0 ∷ []; owner = owner; keeper = None };
+          meets = record {
+            legal = tt;
+            last = (0, refl, head);
+            ends = ap (λ n. link_of (word.next words n)) head ∙ ap link_of link;
+            joined = λ i a b ia ib. absurd ib;
+            once = λ i j r ir jr. (only_at 0 r i ir).0 ∙ sym (only_at 0 r j jr).0;
+            shared = λ i r ir. ap owner (only_at 0 r i ir).1 ∙ stub rooms;
+            stub = stub rooms;
+            unmade = λ r l. deal_else 0 (down_from rooms) only_stub r (λ i a. let t = at_down_from rooms i r a in let e = t.0 in absurd (omega arith)) ∙ others_unmade r (omega arith);
+            holds = refl;
+            right = (refl, 0, right, refl);
+            fits = λ k p e. subst (λ (q : AbstractParty Name). AtStage (word.head words) (λ r. link_of (word.next words r)) (λ (_ : ℕ). let x : Option E = None in x) owner None (0 ∷ []) [] k q.name q.stage) (is_first rooms k p e).1 tt;
+            rooms = λ k p e. let t = is_first rooms k p e in subst (λ (z : ℕ × AbstractParty Name). OwnsRooms owner z.0 z.1.spare) (λ c. (sym t.0 c, t.1 c)) (subst (λ z. OwnsRooms owner 0 z) (sym (append-nil (down_from rooms))) (mine rooms));
+            names = λ j k p q ej ek same. (is_first rooms j p ej).0 ∙ sym (is_first rooms k q ek).0;
+            strangers = λ q away. tt;
+          };
+          wide = omega arith;
+          stub = omega arith;
+          full = λ i r ir ne. absurd (ne (only_at 0 r i ir).1);
+          empty = λ j v e some_name. subst (λ (z : View E). EmptyAtHome homes z.free) (seats.only first v j e).1 (vacant_empty rooms);
+          ready = λ j v r e some_name is. absurd (let c = ap (λ (z : View E). z.stage) (seats.only first v j e).1 ∙ is in cc);
+          linked = λ j v e some_name. subst (λ (z : View E). Links words z.free z.end × Links words z.back z.to) (seats.only first v j e).1 (links_down words rooms (λ r l. new.linked r (omega arith)), tt);
+          fits = known.1;
+          owned = known.0;
         };
-        wide = omega arith;
-        stub = omega arith;
-        full = λ i r ir ne. absurd (ne (only_at 0 r i ir).1);
-        empty = λ j v e some_name. subst (λ (z : View E). EmptyAtHome homes z.free) (seats.only first v j e).1 (vacant_empty rooms);
-        ready = λ j v r e some_name is. absurd (let c = ap (λ (z : View E). z.stage) (seats.only first v j e).1 ∙ is in cc);
-        linked = λ j v e some_name. subst (λ (z : View E). Links words z.free z.end × Links words z.back z.to) (seats.only first v j e).1 (links_down words rooms (λ r l. new.linked r (omega arith)), tt);
-        fits = known.1;
-        owned = known.0;
+        uses = refl;
+        rooms_are = refl;
       }
     where
       is_first : (n k : ℕ) (p : AbstractParty Name) → (let first : View E = newcomer n in party_of (get_elem? (first ∷ []) k) ≡ Some p) → let first : View E = newcomer n in (k ≡ 0) × (party first ≡ p)
@@ -127,7 +138,7 @@ module _ (E : Type 0) where
       }
 
 -- ---- splitting
-module _ {E : Type 0} (s : TableState E) (k : RuleHolds s) (id n : ℕ) (v : View E) (named : v.known.share ≢ []) (rest : v.stage ≡ Rest) (bare : v.back ≡ []) (at : get_elem? s.views id ≡ some v) where
+module _ {E : Type 0} (s : TableState E) (k : PlainHolds s) (id n : ℕ) (v : View E) (named : v.known.share ≢ []) (rest : v.stage ≡ Rest) (bare : v.back ≡ []) (at : get_elem? s.views id ≡ some v) where
   abbrev left_view : View E
   left_view = view_keeping n v
 
@@ -197,37 +208,39 @@ module _ {E : Type 0} (s : TableState E) (k : RuleHolds s) (id n : ℕ) (v : Vie
     names = names_differ cut_views k.history cut_owned;
   }
 
-  cut_kept : RuleHolds record { words = s.words; homes = s.homes; views = cut_views }
+  pub cut_kept : Stays s k record { words = s.words; homes = s.homes; views = cut_views }
   cut_kept = record {
-    history = k.history;
-    cell = k.cell;
-    chain = record k.chain { owner = owner_cut };
-    meets = regroups_keep (core s k) k.chain (reverse (events k.history)) (λ j. party_of (get_elem? cut_views j)) owner_cut Gone_cut k.meets cut_groups;
-    wide = k.wide;
-    stub = k.stub;
-    full = k.full;
-    empty = set_more (λ _ u. u.known.share ≢ [] → EmptyAtHome s.homes u.free) s.views id left_view right
-        (λ _. empty_drop s.homes n v.free (k.empty id v at named))
-        (λ _. empty_take s.homes n v.free (k.empty id v at named))
-        (λ j u ne there some_name. k.empty j u there some_name);
-    ready = λ j u r. set_more (λ _ z. z.known.share ≢ [] → z.stage ≡ Cleared r → k.cell r ≡ z.item) s.views id left_view right
-        (λ _ is. absurd (cc))
-        (λ _ is. absurd (cc))
-        (λ i z ne there some_name. k.ready i z r there some_name)
-        j u;
-    linked = set_more (λ _ u. u.known.share ≢ [] → Links s.words u.free u.end × Links s.words u.back u.to) s.views id left_view right
-        (λ _. let l = k.linked id v at named in (links_drop s.words v.free n v.end l.0, l.1))
-        (λ _. (links_take s.words v.free n v.end (k.linked id v at named).0, tt))
-        (λ j u ne there some_name. k.linked j u there some_name);
-    fits = fits_cut actor knows s.views k.history id v left_view right at refl refl k.owned k.fits;
-    owned = cut_owned;
+    now = record {
+      uses = k.uses;
+      history = k.history;
+      cell = k.cell;
+      chain = record k.chain { owner = owner_cut };
+      meets = regroups_keep (core s k) k.chain (reverse (events k.history)) (λ j. party_of (get_elem? cut_views j)) owner_cut Gone_cut k.meets cut_groups;
+      wide = k.wide;
+      stub = k.stub;
+      full = k.full;
+      empty = set_more (λ _ u. u.known.share ≢ [] → EmptyAtHome s.homes u.free) s.views id left_view right
+          (λ _. empty_drop s.homes n v.free (k.empty id v at named))
+          (λ _. empty_take s.homes n v.free (k.empty id v at named))
+          (λ j u ne there some_name. k.empty j u there some_name);
+      ready = λ j u r. set_more (λ _ z. z.known.share ≢ [] → z.stage ≡ Cleared r → k.cell r ≡ z.item) s.views id left_view right
+          (λ _ is. absurd (cc))
+          (λ _ is. absurd (cc))
+          (λ i z ne there some_name. k.ready i z r there some_name)
+          j u;
+      linked = set_more (λ _ u. u.known.share ≢ [] → Links s.words u.free u.end × Links s.words u.back u.to) s.views id left_view right
+          (λ _. let l = k.linked id v at named in (links_drop s.words v.free n v.end l.0, l.1))
+          (λ _. (links_take s.words v.free n v.end (k.linked id v at named).0, tt))
+          (λ j u ne there some_name. k.linked j u there some_name);
+      fits = fits_cut actor knows s.views k.history id v left_view right at refl refl k.owned k.fits;
+      owned = cut_owned;
+    };
+    uses = refl;
+    rooms = refl;
   }
 
-pub splits : {E : Type 0} (id n : ℕ) (v : View E) → v.known.share ≢ [] → v.stage ≡ Rest → v.back ≡ [] → Splits RuleHolds id v (view_keeping n v) (view_giving n v)
-splits id n v named rest bare s k at = cut_kept s k id n v named rest bare at
-
 -- ---- a party takes another in
-module _ {E : Type 0} (s : TableState E) (k : RuleHolds s) (id other : ℕ) (v w : View E) (rest : v.stage ≡ Rest) (rest_too : w.stage ≡ Rest) (bare : v.back ≡ []) (bare_too : w.back ≡ []) (named : v.known.share ≢ []) (named_too : w.known.share ≢ []) (may : MayJoin (free_chain v) (free_chain w))
+module _ {E : Type 0} (s : TableState E) (k : PlainHolds s) (id other : ℕ) (v w : View E) (rest : v.stage ≡ Rest) (rest_too : w.stage ≡ Rest) (bare : v.back ≡ []) (bare_too : w.back ≡ []) (named : v.known.share ≢ []) (named_too : w.known.share ≢ []) (may : MayJoin (free_chain v) (free_chain w))
     (at : get_elem? s.views id ≡ some v) (apart : other ≢ id) (there : get_elem? (set s.views id (view_absorbing v w)) other ≡ some w) where
   abbrev joint : List (View E)
   joint = set (set s.views id (view_absorbing v w)) other view_absorbed
@@ -310,31 +323,36 @@ module _ {E : Type 0} (s : TableState E) (k : RuleHolds s) (id other : ℕ) (v w
     names = names_differ joint relabelled_history joint_owned;
   }
 
-  joint_kept : RuleHolds record { words = s.words; homes = s.homes; views = joint }
+  pub joint_kept : Stays s k record { words = s.words; homes = s.homes; views = joint }
   joint_kept = record {
-    history = relabelled_history;
-    cell = k.cell;
-    chain = record k.chain { owner = owner_join };
-    meets = subst (λ l. Meets (machine_of k.cell s.words joint) (record k.chain { owner = owner_join }) l) same_past
-        (regroups_keep (core s k) k.chain past (λ j. party_of (get_elem? joint j)) owner_join Gone_join k.meets join_groups);
-    wide = k.wide;
-    stub = k.stub;
-    full = k.full;
-    empty = two_set (λ _ u. u.known.share ≢ [] → EmptyAtHome s.homes u.free) s.views id other (view_absorbing v w) view_absorbed
-        (λ _. empty_append s.homes v.free w.free (k.empty id v at named) (k.empty other w there_first named_too))
-        (λ some_name. absurd (some_name refl))
-        (λ j u ne no_other e some_name. k.empty j u e some_name);
-    ready = λ j u r. two_set (λ _ z. z.known.share ≢ [] → z.stage ≡ Cleared r → k.cell r ≡ z.item) s.views id other (view_absorbing v w) view_absorbed
-        (λ _ is. absurd (cc))
-        (λ _ is. absurd (cc))
-        (λ i z ne no_other e some_name. k.ready i z r e some_name)
-        j u;
-    linked = two_set (λ _ u. u.known.share ≢ [] → Links s.words u.free u.end × Links s.words u.back u.to) s.views id other (view_absorbing v w) view_absorbed
-        (λ _. (links_append s.words v.free w.free v.end w.end may (k.linked id v at named).0 (k.linked other w there_first named_too).0, tt))
-        (λ some_name. absurd (some_name refl))
-        (λ j u ne no_other e some_name. k.linked j u e some_name);
-    fits = fits_join actor knows s.views k.history id other v w (view_absorbing v w) view_absorbed at apart there refl refl k.fits;
-    owned = joint_owned;
+    now = record {
+      uses = k.uses;
+      history = relabelled_history;
+      cell = k.cell;
+      chain = record k.chain { owner = owner_join };
+      meets = subst (λ l. Meets (machine_of k.cell s.words joint) (record k.chain { owner = owner_join }) l) same_past
+          (regroups_keep (core s k) k.chain past (λ j. party_of (get_elem? joint j)) owner_join Gone_join k.meets join_groups);
+      wide = k.wide;
+      stub = k.stub;
+      full = k.full;
+      empty = two_set (λ _ u. u.known.share ≢ [] → EmptyAtHome s.homes u.free) s.views id other (view_absorbing v w) view_absorbed
+          (λ _. empty_append s.homes v.free w.free (k.empty id v at named) (k.empty other w there_first named_too))
+          (λ some_name. absurd (some_name refl))
+          (λ j u ne no_other e some_name. k.empty j u e some_name);
+      ready = λ j u r. two_set (λ _ z. z.known.share ≢ [] → z.stage ≡ Cleared r → k.cell r ≡ z.item) s.views id other (view_absorbing v w) view_absorbed
+          (λ _ is. absurd (cc))
+          (λ _ is. absurd (cc))
+          (λ i z ne no_other e some_name. k.ready i z r e some_name)
+          j u;
+      linked = two_set (λ _ u. u.known.share ≢ [] → Links s.words u.free u.end × Links s.words u.back u.to) s.views id other (view_absorbing v w) view_absorbed
+          (λ _. (links_append s.words v.free w.free v.end w.end may (k.linked id v at named).0 (k.linked other w there_first named_too).0, tt))
+          (λ some_name. absurd (some_name refl))
+          (λ j u ne no_other e some_name. k.linked j u e some_name);
+      fits = fits_join actor knows s.views k.history id other v w (view_absorbing v w) view_absorbed at apart there refl refl k.fits;
+      owned = joint_owned;
+    };
+    uses = refl;
+    rooms = refl;
   }
 
 -- ---- what a party learns that took another in
@@ -342,24 +360,29 @@ legal_after : {P E : Type 0} (us vs : List (Event P E)) → IsLegalReversed (us 
 legal_after [] vs l = l
 legal_after (x ∷ us) vs l = legal_after us vs l.1
 
-legal_front : {E : Type 0} (xs ys : List (Event Name E)) → LegalReversed (xs ++ ys) → LegalReversed xs
+pub legal_front : {E : Type 0} (xs ys : List (Event Name E)) → LegalReversed (xs ++ ys) → LegalReversed xs
 legal_front xs ys l = legal_after (reverse ys) (reverse xs) (subst (λ z. IsLegalReversed z) (reverse-append xs ys) l)
 
-module _ {E : Type 0} (s : TableState E) (k : RuleHolds s) (id : ℕ) (v : View E) (at : get_elem? s.views id ≡ some v) (named : v.known.share ≢ []) where
-  forgot_kept : RuleHolds record { words = s.words; homes = s.homes; views = set s.views id (view_without_told v) }
+module _ {E : Type 0} (s : TableState E) (k : PlainHolds s) (id : ℕ) (v : View E) (at : get_elem? s.views id ≡ some v) (named : v.known.share ≢ []) where
+  pub forgot_kept : Stays s k record { words = s.words; homes = s.homes; views = set s.views id (view_without_told v) }
   forgot_kept = record {
-    history = k.history;
-    cell = k.cell;
-    chain = k.chain;
-    meets = subst (λ m. Meets m k.chain (reverse (events k.history))) unchanged k.meets;
-    wide = k.wide;
-    stub = k.stub;
-    full = k.full;
-    empty = one_set (λ _ u. u.known.share ≢ [] → EmptyAtHome s.homes u.free) s.views id (view_without_told v) (λ _. k.empty id v at named) (λ j u _ e some_name. k.empty j u e some_name);
-    ready = λ j u r. one_set (λ _ z. z.known.share ≢ [] → z.stage ≡ Cleared r → k.cell r ≡ z.item) s.views id (view_without_told v) (λ _ is. k.ready id v r at named is) (λ i z _ e some_name is. k.ready i z r e some_name is) j u;
-    linked = one_set (λ _ u. u.known.share ≢ [] → Links s.words u.free u.end × Links s.words u.back u.to) s.views id (view_without_told v) (λ _. k.linked id v at named) (λ j u _ e some_name. k.linked j u e some_name);
-    fits = fits_forgot actor knows s.views k.history id v (view_without_told v) at refl refl refl k.fits;
-    owned = owned_same knows s.views k.history id v (view_without_told v) at refl k.owned;
+    now = record {
+      uses = k.uses;
+      history = k.history;
+      cell = k.cell;
+      chain = k.chain;
+      meets = subst (λ m. Meets m k.chain (reverse (events k.history))) unchanged k.meets;
+      wide = k.wide;
+      stub = k.stub;
+      full = k.full;
+      empty = one_set (λ _ u. u.known.share ≢ [] → EmptyAtHome s.homes u.free) s.views id (view_without_told v) (λ _. k.empty id v at named) (λ j u _ e some_name. k.empty j u e some_name);
+      ready = λ j u r. one_set (λ _ z. z.known.share ≢ [] → z.stage ≡ Cleared r → k.cell r ≡ z.item) s.views id (view_without_told v) (λ _ is. k.ready id v r at named is) (λ i z _ e some_name is. k.ready i z r e some_name is) j u;
+      linked = one_set (λ _ u. u.known.share ≢ [] → Links s.words u.free u.end × Links s.words u.back u.to) s.views id (view_without_told v) (λ _. k.linked id v at named) (λ j u _ e some_name. k.linked j u e some_name);
+      fits = fits_forgot actor knows s.views k.history id v (view_without_told v) at refl refl refl k.fits;
+      owned = owned_same knows s.views k.history id v (view_without_told v) at refl k.owned;
+    };
+    uses = refl;
+    rooms = refl;
   }
     where
       unchanged : machine_of k.cell s.words s.views ≡ machine_of k.cell s.words (set s.views id (view_without_told v))
@@ -371,26 +394,3 @@ module _ {E : Type 0} (s : TableState E) (k : RuleHolds s) (id : ℕ) (v : View 
         cell = k.cell;
         party = (sym (put_again (core s k).party id (party v) (party_at s k id v at named)) ∙ sym (parties_put s.views id (view_without_told v) (at_length s.views id v at) named)) i;
       }
-
-module _ {E : Type 0} where
-  pub joins : (id other : ℕ) (v w : View E) → v.stage ≡ Rest → w.stage ≡ Rest → v.back ≡ [] → w.back ≡ [] → v.known.share ≢ [] → w.known.share ≢ [] → MayJoin (free_chain v) (free_chain w) → Joins RuleHolds id v other w (view_absorbing v w) view_absorbed
-  joins id other v w rest rest_too bare bare_too named named_too may s k at apart there = joint_kept s k id other v w rest rest_too bare bare_too named named_too may at apart there
-
-  pub learns : (slots id : ℕ) (me : SeatState E) (v w : View E) → me.0 ≡ view_absorbing v w → v.known.share ≢ [] → Allows RuleHolds slots id me HEAD (λ n. n) (after_learn (step slots HEAD 0 0 none) me)
-  learns slots id me v w is named s k deep at fits =
-      let u = me.0 in
-      let some_name : u.known.share ≢ [] = λ e. joined_some v.known.share w.known.share named (sym (ap (λ (z : View E). z.known.share) is) ∙ e) in
-      let few = few_rooms s k id u at some_name in (
-        view_without_told u,
-        keeps,
-        tt,
-        subst (λ (ws : List ℕ). RuleHolds record { words = ws; homes = s.homes; views = set s.views id (view_without_told u) }) (sym (set-get_or s.words HEAD 0)) (forgot_kept s k id u at some_name),
-        (
-          refl,
-          refl,
-          seats.is_known actor knows (λ z. LegalReversed z) legal_front s.views k.history id u k.owned k.fits at k.meets.legal,
-          omega arith,
-          rest_linked s k id u at some_name (ap (λ (z : View E). z.stage) is),
-          rest_unheld s k id u at some_name (ap (λ (z : View E). z.stage) is),
-        ),
-      )

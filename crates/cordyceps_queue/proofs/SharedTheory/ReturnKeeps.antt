@@ -1,10 +1,10 @@
 -- A step of a queue's party may first give back the slots in hand.
-use Rattle.std.proofs.Common.{◌≡◌, ◌≢◌, ℕ, zero, suc, ◌-◌, ◌<◌, List, [], ◌∷◌, ◌++◌, length, reverse, set, get_or, append-nil, Option, Some, None, refl, sym, ap, ◌∙◌, subst, arith, length-set}
+use Rattle.std.proofs.Common.{◌≡◌, ◌≢◌, ℕ, zero, suc, ◌-◌, ◌<◌, List, [], ◌∷◌, ◌++◌, length, reverse, set, get_or, append-nil, Option, Some, None, refl, sym, ap, ◌∙◌, subst, inl, inr, arith, length-set}
 use mathlib.Core.Option.{some}
 use mathlib.Core.Path.{fun_ext}
 use native.Mathlib.Decide.{ℕ_discrete}
 use lib.ListN.{get_elem?}
-use Rattle.atomic_table.specs.Table.{Act, keeps, gives, stepped, homes_after, carried_after, Valid, Allows}
+use Rattle.atomic_table.specs.Table.{Act, keeps, gives, stepped, homes_after, carried_after, Valid}
 use Rattle.atomic_table.specs.Table as table
 use Rattle.atomic_table.proofs.Lists.{set_here, set_else}
 use Rattle.cordyceps_shared.specs.Words as word
@@ -23,12 +23,12 @@ use Rattle.cordyceps_queue.specs.declared.cores.stage.Stage.TheVariants.{Cleared
 use Rattle.cordyceps_queue.specs.Cores.Meets.{Spare, Meets}
 use Rattle.cordyceps_queue.specs.Shared.Plays.{SeatState, carry, moves_to, hands_out}
 use Rattle.cordyceps_shared.specs.Slots.{Near, Homes, EmptyAtHome, Hand}
-use Rattle.cordyceps_queue.specs.Shared.Rule.{TableState, link_of, party, machine_of, RuleHolds}
+use Rattle.cordyceps_queue.specs.Shared.Rule.{TableState, link_of, party, machine_of, PlainHolds}
 use Rattle.cordyceps_queue.specs.Shared.View.{View, knows, name, free_chain, back_chain}
 use Rattle.cordyceps_queue.specs.Cores.Abstract.{update}
 use Rattle.cordyceps_queue.proofs.CoreTheory.Basics.{put_same, put_other}
 use Rattle.cordyceps_queue.proofs.CoreTheory.ProducerSteps.{spare_shared}
-use Rattle.cordyceps_queue.proofs.SharedTheory.WordsAsMachine.{core, party_at, back_spare, linkeds_same}
+use Rattle.cordyceps_queue.proofs.SharedTheory.WordsAsMachine.{core, party_at, back_spare, linkeds_same, Becomes, Stays, PlainAllows}
 use Rattle.cordyceps_queue.proofs.SharedTheory.EnqueueKeeps.{views_put}
 
 abbrev homes_given : {E : Type 0} → Homes E → List ℕ → Homes E
@@ -95,7 +95,7 @@ module _ {E : Type 0} where
   abbrev pub table_returned : TableState E → ℕ → View E → TableState E
   table_returned s id v = record { words = s.words; homes = homes_given s.homes v.back; views = set s.views id (view_returned v) }
 
-  settles : (s : TableState E) (k : RuleHolds s) (id : ℕ) (v : View E) → get_elem? s.views id ≡ some v → v.known.share ≢ [] → Near (length s.homes) v.back → MayJoin (free_chain v) (back_chain v) → RuleHolds (table_returned s id v)
+  settles : (s : TableState E) (k : PlainHolds s) (id : ℕ) (v : View E) → get_elem? s.views id ≡ some v → v.known.share ≢ [] → Near (length s.homes) v.back → MayJoin (free_chain v) (back_chain v) → Stays s k (table_returned s id v)
   settles s k id v at named near may =
       let w = view_returned v in
       let lt = at_length s.views id v at in
@@ -104,20 +104,25 @@ module _ {E : Type 0} where
       let was_stub = k.stub in
       let deep = given_length v.back s.homes in
       let mine : (x i : ℕ) → ItemAt v.back i x → k.chain.owner x ≡ Spare id = λ x i a. back_spare s k id v i x at named a in record {
-        history = k.history;
-        cell = k.cell;
-        chain = k.chain;
-        meets = subst (λ n. Meets n k.chain (reverse (events k.history))) same k.meets;
-        wide = omega arith;
-        stub = omega arith;
-        full = λ i x ix ne. given_else v.back s.homes x (λ j a. spare_shared (mine x j a) (k.meets.shared i x ix)) ∙ k.full i x ix ne;
-        empty = one_set (λ _ u. u.known.share ≢ [] → EmptyAtHome (homes_given s.homes v.back) u.free) s.views id w
-            (λ _. given_all v.back v.free s.homes near (k.empty id v at named))
-            (λ j u _ e some_name i x ix. given_still v.back s.homes x (k.empty j u e some_name i x ix));
-        ready = λ j u r. one_set (λ _ z. z.known.share ≢ [] → z.stage ≡ Cleared r → k.cell r ≡ z.item) s.views id w (λ _ is. k.ready id v r at named is) (λ i z _ e some_name is. k.ready i z r e some_name is) j u;
-        linked = linkeds_same s k id w (let l = k.linked id v at named in links_append s.words v.free v.back v.end v.to may l.0 l.1, tt);
-        fits = fits_same actor knows s.views k.history id v w at refl refl refl refl k.fits;
-        owned = owned_same knows s.views k.history id v w at refl k.owned;
+        now = record {
+          uses = k.uses;
+          history = k.history;
+          cell = k.cell;
+          chain = k.chain;
+          meets = subst (λ n. Meets n k.chain (reverse (events k.history))) same k.meets;
+          wide = omega arith;
+          stub = omega arith;
+          full = λ i x ix ne. given_else v.back s.homes x (λ j a. spare_shared (mine x j a) (k.meets.shared i x ix)) ∙ k.full i x ix ne;
+          empty = one_set (λ _ u. u.known.share ≢ [] → EmptyAtHome (homes_given s.homes v.back) u.free) s.views id w
+              (λ _. given_all v.back v.free s.homes near (k.empty id v at named))
+              (λ j u _ e some_name i x ix. given_still v.back s.homes x (k.empty j u e some_name i x ix));
+          ready = λ j u r. one_set (λ _ z. z.known.share ≢ [] → z.stage ≡ Cleared r → k.cell r ≡ z.item) s.views id w (λ _ is. k.ready id v r at named is) (λ i z _ e some_name is. k.ready i z r e some_name is) j u;
+          linked = linkeds_same s k id w (let l = k.linked id v at named in links_append s.words v.free v.back v.end v.to may l.0 l.1, tt);
+          fits = fits_same actor knows s.views k.history id v w at refl refl refl refl k.fits;
+          owned = owned_same knows s.views k.history id v w at refl k.owned;
+        };
+        uses = refl;
+        rooms = refl;
       }
     where
       unchanged : machine_of k.cell s.words s.views ≡ machine_of k.cell s.words (set s.views id (view_returned v))
@@ -130,14 +135,28 @@ module _ {E : Type 0} where
         party = (sym (put_again (core s k).party id (party v) (party_at s k id v at named)) ∙ (ap (λ (l : List ℕ). update (core s k).party id (Some record { name = name v; stage = v.stage; spare = l })) (sym (append-nil (v.free ++ v.back))) ∙ views_put s k id v at named (view_returned v) named)) i;
       }
 
+  -- what a step leads to from there is what it leads to from here
+  becomes_returned : (s : TableState E) (k : PlainHolds s) (id : ℕ) (v w : View E) (t : TableState E) (back : Stays s k (table_returned s id v)) → Becomes (table_returned s id v) back.now (view_returned v) w t → Becomes s k v w t
+  becomes_returned s k id v w t back b = record {
+    now = b.now;
+    uses = b.uses ∙ back.uses;
+    bits = b.bits ∙ back.uses;
+    rooms = λ i x ix. elim (b.rooms i x ix) [ inl h ↦ inl h | inr a ↦ inr (a.0, subst (λ l. ItemAt l a.0 x) back.rooms a.1) ];
+    spare = λ i x ix. elim (b.spare i x ix) [
+      | inl a ↦ inl (a.0, subst (λ l. ItemAt l a.0 x) (append-nil (v.free ++ v.back)) a.1)
+      | inr a ↦ inr ((a.0.0, subst (λ l. ItemAt l a.0.0 x) back.rooms a.0.1), a.1)
+    ];
+  }
+
   -- a step from there is a step that gives back first
   pub returning : (slots id i : ℕ) (me : SeatState E) (f : ℕ → ℕ) (then : ℕ → SeatState E → Type 0) → me.1 ≡ carry me.0.back → Near slots me.0.back → me.0.known.share ≢ [] → MayJoin (free_chain me.0) (back_chain me.0)
-      → Allows RuleHolds slots id (view_returned me.0, []) i f then → Allows RuleHolds slots id me i f then
-  returning slots id i me f then hand near named may inner s k deep at fits =
+      → PlainAllows slots id (view_returned me.0, []) i f then → PlainAllows slots id me i f then
+  returning slots id i me f then hand near named may inner s k deep at =
       let v = me.0 in
       let bs = v.back in
       let homes = s.homes in
-      let r = inner (table_returned s id v) (settles s k id v at named (λ j x a. let l = near j x a in omega arith) may) (given_length bs homes ∙ deep) (set_here s.views id (view_returned v) (at_length s.views id v at)) fits in
+      let back = settles s k id v at named (λ j x a. let l = near j x a in omega arith) may in
+      let r = inner (table_returned s id v) back.now (given_length bs homes ∙ deep) (set_here s.views id (view_returned v) (at_length s.views id v at)) in
       let a = table.chain (give_all bs) r.1 in
       let n = f (get_or s.words i 0) in
       let h = sym (give_homes bs homes) in
@@ -145,8 +164,9 @@ module _ {E : Type 0} where
         r.0,
         a,
         subst (λ z. Valid homes z a) (sym hand) (give_valid bs homes, subst (λ (z : Homes E × Hand E). Valid z.0 z.1 r.1) (λ j. (h j, c j)) r.2),
-        subst (λ z. RuleHolds record { words = set s.words i n; homes = homes_after homes z a; views = set s.views id r.0 }) (sym hand)
-            (subst (λ (z : Homes E × Hand E × List (View E)). RuleHolds record { words = set s.words i n; homes = homes_after z.0 z.1 r.1; views = z.2 }) (λ j. (h j, c j, set_twice s.views id (view_returned v) r.0 j)) r.3),
+        subst (λ z. Becomes s k v r.0 record { words = set s.words i n; homes = homes_after homes z a; views = set s.views id r.0 }) (sym hand)
+            (subst (λ (z : Homes E × Hand E × List (View E)). Becomes s k v r.0 record { words = set s.words i n; homes = homes_after z.0 z.1 r.1; views = z.2 }) (λ j. (h j, c j, set_twice s.views id (view_returned v) r.0 j))
+            (becomes_returned s k id v r.0 (stepped (table_returned s id v) i n id [] r.0 r.1) back r.3)),
         subst (λ z. then (get_or s.words i 0) (r.0, carried_after z a)) (sym hand) (subst (λ z. then (get_or s.words i 0) (r.0, carried_after z r.1)) c r.4),
       )
 

@@ -20,7 +20,7 @@ use Rattle.cordyceps_queue.specs.History.{Event, actor, links_by, swaps_by}
 use Rattle.cordyceps_queue.specs.Laws.{takes_by, frees_by}
 use Rattle.cordyceps_queue.specs.Shared.Calls.{same_name, Legal, NonePending, NoneHolds}
 use Rattle.cordyceps_queue.specs.Past.{holder_reversed, IsSettled, IsLegalReversed}
-use Rattle.cordyceps_queue.specs.Shared.Rule.{TableState, History, party, party_if, party_of, RuleHolds}
+use Rattle.cordyceps_queue.specs.Shared.Rule.{TableState, History, party, party_if, party_of, PlainHolds}
 use Rattle.cordyceps_queue.specs.Shared.View.{View, knows, name}
 use Rattle.cordyceps_queue.specs.Cores.Abstract.{AbstractParty}
 use Rattle.cordyceps_queue.proofs.CoreTheory.Basics.{some_inj, none_some, times_once, at_more}
@@ -74,7 +74,7 @@ module _ {E : Type 0} (views : List (View E)) (h : History E) (o : SharesDisjoin
       same_seat j k a.0 b.0 a.1 b.1 a.2 b.2 (ap by a.3 ∙ (same ∙ sym (ap by b.3)))
 
 -- ---- rooms
-module _ {E : Type 0} (s : TableState E) (k : RuleHolds s) (id : ℕ) (v : View E) (at : get_elem? s.views id ≡ some v) (named : v.known.share ≢ []) where
+module _ {E : Type 0} (s : TableState E) (k : PlainHolds s) (id : ℕ) (v : View E) (at : get_elem? s.views id ≡ some v) (named : v.known.share ≢ []) where
   -- a party has no more free rooms than there are slots
   pub few_rooms : length v.free ≤ length s.homes
   few_rooms =
@@ -84,7 +84,7 @@ module _ {E : Type 0} (s : TableState E) (k : RuleHolds s) (id : ℕ) (v : View 
       (λ r l. let t = times_at r v.free l in at_length s.homes r (some None) (k.empty id v at named t.0 r t.1))
 
 -- ---- a party between two calls: none of its names is pending, and none has the right
-module _ {E : Type 0} (s : TableState E) (k : RuleHolds s) (id : ℕ) (v : View E) (at : get_elem? s.views id ≡ some v) (named : v.known.share ≢ []) (rest : v.stage ≡ Rest) where
+module _ {E : Type 0} (s : TableState E) (k : PlainHolds s) (id : ℕ) (v : View E) (at : get_elem? s.views id ≡ some v) (named : v.known.share ≢ []) (rest : v.stage ≡ Rest) where
   past : List (Event Name E)
   past = reverse (events k.history)
 

@@ -4,7 +4,7 @@ use mathlib.Core.Option.{some, none}
 use native.Mathlib.Decide.{ℕ_discrete}
 use lib.ListN.{get_elem?}
 use lib.Seq.{set-get_or}
-use Rattle.atomic_table.specs.Table.{keeps, step, Allows}
+use Rattle.atomic_table.specs.Table.{keeps, step}
 use Rattle.cordyceps_shared.specs.Counts.{times}
 use Rattle.cordyceps_shared.specs.FreeChains.{Links}
 use Rattle.cordyceps_shared.specs.Histories.{events}
@@ -23,11 +23,11 @@ use Rattle.cordyceps_queue.specs.Cores.Meets.{Spare, Shared, Owed, Chain, AtStag
 use Rattle.cordyceps_queue.specs.Cores.Abstract.{AbstractMachine, update}
 use Rattle.cordyceps_queue.specs.Shared.Plays.{SeatState}
 use Rattle.cordyceps_queue.specs.Shared.Plays as play
-use Rattle.cordyceps_queue.specs.Shared.Rule.{TableState, link_of, party, party_of, machine_of, AreLinked, RuleHolds}
+use Rattle.cordyceps_queue.specs.Shared.Rule.{TableState, link_of, party, party_of, machine_of, AreLinked, PlainHolds}
 use Rattle.cordyceps_queue.specs.Shared.View.{View, knows}
 use Rattle.cordyceps_queue.proofs.CoreTheory.Basics.{put_other, at_within, at_more}
 use Rattle.cordyceps_queue.proofs.CoreTheory.ProducerSteps.{spare_shared, ready_spare}
-use Rattle.cordyceps_queue.proofs.SharedTheory.WordsAsMachine.{at_after, links_put, parties_put, core, party_at, rooms_of, free_spare, empties_same, linked_else, linkeds, linkeds_same}
+use Rattle.cordyceps_queue.proofs.SharedTheory.WordsAsMachine.{at_after, links_put, parties_put, core, party_at, rooms_of, free_spare, empties_same, linked_else, linkeds, linkeds_same, Stays}
 use Rattle.cordyceps_queue.proofs.SharedTheory.EnqueueKeeps.{spare_one}
 use Rattle.cordyceps_queue.proofs.SharedTheory.ReturnKeeps.{put_again}
 
@@ -70,25 +70,30 @@ module _ {P E : Type 0} (m : AbstractMachine P E) (c : Chain) (h : List (Event P
     strangers = M.strangers;
   }
 
-module _ {E : Type 0} (s : TableState E) (k : RuleHolds s) (id : ℕ) (v : View E) (at : get_elem? s.views id ≡ some v) (named : v.known.share ≢ []) where
+module _ {E : Type 0} (s : TableState E) (k : PlainHolds s) (id : ℕ) (v : View E) (at : get_elem? s.views id ≡ some v) (named : v.known.share ≢ []) where
   -- the last free room's link changes
   ended : (words : List ℕ) (end : ℕ) → let w : View E = record v { end = end } in Meets (machine_of k.cell words (set s.views id w)) k.chain (reverse (events k.history)) → length words ≡ length s.words → AreLinked words (set s.views id w)
-      → RuleHolds record { words = words; homes = s.homes; views = set s.views id w }
+      → Stays s k record { words = words; homes = s.homes; views = set s.views id w }
   ended words end meets wide linked =
       let w : View E = record v { end = end } in
       let was_wide = k.wide in record {
-        history = k.history;
-        cell = k.cell;
-        chain = k.chain;
-        meets = meets;
-        wide = omega arith;
-        stub = k.stub;
-        full = k.full;
-        empty = empties_same s k id w (k.empty id v at named);
-        ready = λ j u r. one_set (λ _ z. z.known.share ≢ [] → z.stage ≡ Cleared r → k.cell r ≡ z.item) s.views id w (λ _ is. k.ready id v r at named is) (λ i z _ e some_name is. k.ready i z r e some_name is) j u;
-        linked = linked;
-        fits = fits_same actor knows s.views k.history id v w at refl refl refl refl k.fits;
-        owned = owned_same knows s.views k.history id v w at refl k.owned;
+        now = record {
+          uses = k.uses;
+          history = k.history;
+          cell = k.cell;
+          chain = k.chain;
+          meets = meets;
+          wide = omega arith;
+          stub = k.stub;
+          full = k.full;
+          empty = empties_same s k id w (k.empty id v at named);
+          ready = λ j u r. one_set (λ _ z. z.known.share ≢ [] → z.stage ≡ Cleared r → k.cell r ≡ z.item) s.views id w (λ _ is. k.ready id v r at named is) (λ i z _ e some_name is. k.ready i z r e some_name is) j u;
+          linked = linked;
+          fits = fits_same actor knows s.views k.history id v w at refl refl refl refl k.fits;
+          owned = owned_same knows s.views k.history id v w at refl k.owned;
+        };
+        uses = refl;
+        rooms = refl;
       }
 
   same_parties : (end : ℕ) → let w : View E = record v { end = end } in (core s k).party ≡ (λ j. party_of (get_elem? (set s.views id w) j))
@@ -138,7 +143,7 @@ module _ {E : Type 0} (s : TableState E) (k : RuleHolds s) (id : ℕ) (v : View 
       party = same_parties n i;
     }
 
-    tied_kept : RuleHolds record { words = tied_words; homes = s.homes; views = set s.views id record v { end = n } }
+    pub tied_kept : Stays s k record { words = tied_words; homes = s.homes; views = set s.views id record v { end = n } }
     tied_kept =
         let l = k.linked id v at named in
         let w : View E = record v { end = n } in
@@ -147,7 +152,7 @@ module _ {E : Type 0} (s : TableState E) (k : RuleHolds s) (id : ℕ) (v : View 
         (subst (λ z. Links tied_words z n) (sym free) (links_retied s.words before r v.end n none_before wide (subst (λ z. Links s.words z v.end) free l.0)), linked_else s k s.words v.back v.to r n not_back l.1)
         (λ j ne theirs. ne (spare_one theirs mine)))
 
-  skip_kept : RuleHolds record { words = s.words; homes = s.homes; views = set s.views id v }
+  pub skip_kept : Stays s k record { words = s.words; homes = s.homes; views = set s.views id v }
   skip_kept = ended s.words v.end (subst (λ q. Meets q k.chain (reverse (events k.history))) same_machine k.meets) refl (linkeds_same s k id v (k.linked id v at named))
     where
       same_machine : core s k ≡ machine_of k.cell s.words (set s.views id v)
@@ -159,25 +164,3 @@ module _ {E : Type 0} (s : TableState E) (k : RuleHolds s) (id : ℕ) (v : View 
         cell = k.cell;
         party = same_parties v.end i;
       }
-
-module _ {E : Type 0} where
-  pub ties : (slots id i n : ℕ) (me : SeatState E) (before : List ℕ) (r : ℕ) → i ≡ LINKS + r → me.0.free ≡ before ++ r ∷ [] → r < slots → me.0.known.share ≢ [] → Allows RuleHolds slots id me i (λ _. n) (λ _. play.after_tie (step slots i n 0 none) me n)
-  ties slots id i n me before r is free inside named s k deep at fits =
-      let same : LINKS + r ≡ i = omega arith in
-      let w : View E = record me.0 { end = n } in
-      let near : r < length s.homes = omega arith in (
-        w,
-        keeps,
-        tt,
-        subst (λ q. RuleHolds record { words = set s.words q n; homes = s.homes; views = set s.views id w }) same (tied_kept s k id me.0 at named before r n free near),
-        (refl, refl),
-      )
-
-  pub skips : (slots id i : ℕ) (me : SeatState E) → me.0.known.share ≢ [] → Allows RuleHolds slots id me i (λ n. n) (play.after_skip (step slots i 0 0 none) me)
-  skips slots id i me named s k deep at fits = (
-    me.0,
-    keeps,
-    tt,
-    subst (λ ws. RuleHolds record { words = ws; homes = s.homes; views = set s.views id me.0 }) (sym (set-get_or s.words i 0)) (skip_kept s k id me.0 at named),
-    λ before after r free is. (refl, ap (λ n. get_or s.words n 0) is ∙ links_at s.words before after r me.0.end (subst (λ l. Links s.words l me.0.end) free (k.linked id me.0 at named).0)),
-  )

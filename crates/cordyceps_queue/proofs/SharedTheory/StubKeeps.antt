@@ -3,7 +3,7 @@ use Rattle.std.proofs.Common.{◌≡◌, ◌≢◌, ℕ, zero, suc, ◌+◌, ◌
 use mathlib.Core.Option.{some, none}
 use native.Mathlib.Decide.{ℕ_discrete}
 use lib.ListN.{get_elem?}
-use Rattle.atomic_table.specs.Table.{keeps, carried_after, stepped, step, Allows}
+use Rattle.atomic_table.specs.Table.{keeps, carried_after, stepped, step}
 use Rattle.cordyceps_shared.specs.Slots.{Near}
 use Rattle.cordyceps_shared.specs.Words as word
 use Rattle.cordyceps_shared.specs.declared.layout.TheConstants.{HEAD, LINKS}
@@ -17,7 +17,7 @@ use Rattle.cordyceps_queue.specs.Cores.Meets.{Owes, tail_of, Chain, AtStage, Mee
 use Rattle.cordyceps_queue.specs.Past.{WasBlockedReversed}
 use Rattle.cordyceps_queue.specs.Shared.Plays.{SeatState, Sees, carry, moves_to, hands_out, Blocked}
 use Rattle.cordyceps_queue.specs.Shared.Plays as play
-use Rattle.cordyceps_queue.specs.Shared.Rule.{TableState, link_of, machine_of, FullAtHome, AreLinked, party, RuleHolds}
+use Rattle.cordyceps_queue.specs.Shared.Rule.{TableState, link_of, machine_of, FullAtHome, AreLinked, party, PlainHolds}
 use Rattle.cordyceps_shared.specs.FreeChains.{MayJoin}
 use Rattle.cordyceps_queue.specs.Shared.View.{View, name, free_chain, back_chain}
 use Rattle.cordyceps_queue.specs.Cores.Abstract.{AbstractMachine, set_stage, clear_stub, swap_head, link_next}
@@ -26,14 +26,14 @@ use Rattle.cordyceps_queue.proofs.CoreTheory.DequeueSteps.{pass_keeps, chain_aft
 use Rattle.cordyceps_queue.proofs.CoreTheory.HolderSteps.{was_now, keeping, stage_keeps, tell_keeps, open_blocks, none_held, stub_out}
 use Rattle.cordyceps_queue.proofs.CoreTheory.ChainShrinks.{second}
 use Rattle.cordyceps_queue.proofs.CoreTheory.StubSteps.{clear_stub_keeps, swap_stub_keeps, chain_after_stub, link_stub_keeps}
-use Rattle.cordyceps_queue.proofs.SharedTheory.WordsAsMachine.{links_put, links_same, keeps_rule, empties_same, readies_same, chain_near, head_near, linkeds, linkeds_low, own_links}
+use Rattle.cordyceps_queue.proofs.SharedTheory.WordsAsMachine.{links_put, links_same, keeps_rule, empties_same, readies_same, chain_near, head_near, linkeds, linkeds_low, own_links, Among, Becomes, PlainAllows}
 use Rattle.cordyceps_queue.proofs.CoreTheory.ProducerSteps.{spare_shared}
 use Rattle.cordyceps_queue.proofs.SharedTheory.EnqueueKeeps.{views_put, wide_words}
 use Rattle.cordyceps_queue.proofs.SharedTheory.ReturnKeeps.{view_returned, returning, moved_on, handed_on}
 use Rattle.cordyceps_queue.proofs.SharedTheory.DequeueKeeps.{n, out_events, there, sees, reads, stood, blocked, same_rooms, less_rooms, hands, Comes}
 use Rattle.cordyceps_queue.proofs.SharedTheory.HolderAllowed.{looked_on}
 
-module _ {E : Type 0} (s : TableState E) (k : RuleHolds s) (id : ℕ) (v : View E) (at : get_elem? s.views id ≡ some v) (named : v.known.share ≢ []) (bare : v.back ≡ []) where
+module _ {E : Type 0} (s : TableState E) (k : PlainHolds s) (id : ℕ) (v : View E) (at : get_elem? s.views id ≡ some v) (named : v.known.share ≢ []) (bare : v.back ≡ []) where
   abbrev core : AbstractMachine Name E
   core = n s k id v at named bare
 
@@ -128,14 +128,14 @@ module _ {E : Type 0} (s : TableState E) (k : RuleHolds s) (id : ℕ) (v : View 
 
   -- ---- the stub is put in
   -- a step that changes one word and no slot
-  stores : (stage : Stage) (chain : Chain) (next : AbstractMachine Name E) (i x : ℕ) → AreLinked (set s.words i x) (set s.views id (view [] stage)) → next ≡ machine_of k.cell (set s.words i x) (set s.views id (view [] stage)) → Meets next chain past → FullAtHome s.homes k.cell chain.rooms → ((q : ℕ) → stage ≡ Cleared q → ⊥)
-      → RuleHolds record { words = set s.words i x; homes = s.homes; views = set s.views id (view [] stage) } × Sees v [] (view [] stage)
-  stores stage chain next i x linked same met full away =
-      keeps_rule s k id [] v (view [] stage) (set s.words i x) s.homes k.cell chain next at named tt refl same met (length-set s.words i x) refl full (empties_same s k id (view [] stage) (k.empty id v at named)) (readies_same s k id (view [] stage) away) linked
+  stores : (stage : Stage) (chain : Chain) (next : AbstractMachine Name E) (i x : ℕ) → AreLinked (set s.words i x) (set s.views id (view [] stage)) → next ≡ machine_of k.cell (set s.words i x) (set s.views id (view [] stage)) → Meets next chain past → FullAtHome s.homes k.cell chain.rooms → ((q : ℕ) → stage ≡ Cleared q → ⊥) → Among (set s.words i x) k.chain.rooms chain.rooms
+      → Becomes s k v (view [] stage) record { words = set s.words i x; homes = s.homes; views = set s.views id (view [] stage) } × Sees v [] (view [] stage)
+  stores stage chain next i x linked same met full away among =
+      keeps_rule s k id [] v (view [] stage) (set s.words i x) s.homes k.cell chain next at named tt refl same met (length-set s.words i x) refl full (empties_same s k id (view [] stage) (k.empty id v at named)) (readies_same s k id (view [] stage) away) linked refl among (λ j y jy. inl (j, jy))
 
   clears_stub_bare : (t : ℕ) → v.stage ≡ PutClear t → Comes s k id v at named bare LINKS 0 (λ _. moves_to [] (PutSwap t) (v, []))
   clears_stub_bare t l =
-      let r = stores (PutSwap t) k.chain (clear_stub core id (party v) t) LINKS 0 (linkeds s k id 0 0 (view [] (PutSwap t)) (own_links s k id 0 0 v at named (λ mine. spare_shared mine k.meets.stub)) (λ j ne mine. spare_shared mine k.meets.stub)) spelled (clear_stub_keeps core k.chain past k.meets id (party v) is_there t l) k.full (λ q is. cc) in
+      let r = stores (PutSwap t) k.chain (clear_stub core id (party v) t) LINKS 0 (linkeds s k id 0 0 (view [] (PutSwap t)) (own_links s k id 0 0 v at named (λ mine. spare_shared mine k.meets.stub)) (λ j ne mine. spare_shared mine k.meets.stub)) spelled (clear_stub_keeps core k.chain past k.meets id (party v) is_there t l) k.full (λ q is. cc) (λ j x jx. inr (j, jx)) in
       (view [] (PutSwap t), keeps, tt, r.0, stood s k id v at named bare [] (PutSwap t) r.1)
     where
       spelled : clear_stub core id (party v) t ≡ machine_of k.cell (set s.words LINKS 0) (set s.views id (view [] (PutSwap t)))
@@ -152,7 +152,7 @@ module _ {E : Type 0} (s : TableState E) (k : RuleHolds s) (id : ℕ) (v : View 
   swaps_stub_bare t l =
       let old = word.head s.words in
       let r = stores (PutLink t old) (chain_after_stub core k.chain past k.meets id (party v) is_there t l) (swap_head core id (party v) 0 (PutLink t old)) HEAD 0 (linkeds_low s k id HEAD 0 (view [] (PutLink t old)) (omega arith) (k.linked id v at named)) spelled
-      (swap_stub_keeps core k.chain past k.meets id (party v) is_there t l) full (λ q is. cc) in
+      (swap_stub_keeps core k.chain past k.meets id (party v) is_there t l) full (λ q is. cc) among in
       (view [] (PutLink t old), keeps, tt, r.0, stood s k id v at named bare [] (PutLink t old) r.1)
     where
       spelled : swap_head core id (party v) 0 (PutLink t (word.head s.words)) ≡ machine_of k.cell (set s.words HEAD 0) (set s.views id (view [] (PutLink t (word.head s.words))))
@@ -165,6 +165,9 @@ module _ {E : Type 0} (s : TableState E) (k : RuleHolds s) (id : ℕ) (v : View 
         party = views_put s k id v at named (view [] (PutLink t (word.head s.words))) named j;
       }
 
+      among : Among (set s.words HEAD 0) k.chain.rooms (k.chain.rooms ++ 0 ∷ [])
+      among i x ix = elim (at_split k.chain.rooms 0 i x ix) [ inl a ↦ inr (i, a) | inr a ↦ inl (a.1 ∙ sym (head_set s.words 0 (let w = wide_words s k id v at named in omega arith))) ]
+
       full : FullAtHome s.homes k.cell (k.chain.rooms ++ 0 ∷ [])
       full i x ix ne = elim (at_split k.chain.rooms 0 i x ix) [ inl a ↦ k.full i x a ne | inr a ↦ absurd (ne a.1) ]
 
@@ -172,7 +175,7 @@ module _ {E : Type 0} (s : TableState E) (k : RuleHolds s) (id : ℕ) (v : View 
   links_stub_bare t old l inside =
       let f = fits_at (PutLink t old) l in
       let shared = k.meets.shared f.1.0 old f.1.1 in
-      let r = stores (PutRead t) k.chain (link_next core id (party v) old 0 (PutRead t)) (LINKS + old) 1 (linkeds s k id old 1 (view [] (PutRead t)) (own_links s k id old 1 v at named (λ mine. spare_shared mine shared)) (λ j ne mine. spare_shared mine shared)) spelled (link_stub_keeps core k.chain past k.meets id (party v) is_there t old l) k.full (λ q is. cc) in
+      let r = stores (PutRead t) k.chain (link_next core id (party v) old 0 (PutRead t)) (LINKS + old) 1 (linkeds s k id old 1 (view [] (PutRead t)) (own_links s k id old 1 v at named (λ mine. spare_shared mine shared)) (λ j ne mine. spare_shared mine shared)) spelled (link_stub_keeps core k.chain past k.meets id (party v) is_there t old l) k.full (λ q is. cc) (λ j x jx. inr (j, jx)) in
       (view [] (PutRead t), keeps, tt, r.0, stood s k id v at named bare [] (PutRead t) r.1)
     where
       spelled : link_next core id (party v) old 0 (PutRead t) ≡ machine_of k.cell (set s.words (LINKS + old) 1) (set s.views id (view [] (PutRead t)))
@@ -222,17 +225,17 @@ same_link : {p : Stage} {t u a b : ℕ} → p ≡ PutLink t a → p ≡ PutLink 
 same_link a b = some_inj (ap tail_of (sym a ∙ b))
 
 module _ {E : Type 0} (slots id : ℕ) (me : SeatState E) (hand : me.1 ≡ carry me.0.back) (near : Near slots me.0.back) (named : me.0.known.share ≢ []) (may : MayJoin (free_chain me.0) (back_chain me.0)) where
-  pub looks_stub : me.0.stage ≡ Holding 0 → Allows RuleHolds slots id me LINKS (λ x. x) (play.after_look_stub (step slots LINKS 0 0 none) me)
+  pub looks_stub : me.0.stage ≡ Holding 0 → PlainAllows slots id me LINKS (λ x. x) (play.after_look_stub (step slots LINKS 0 0 none) me)
   looks_stub holding = returning slots id LINKS me (λ x. x) (play.after_look_stub (step slots LINKS 0 0 none) me) hand near named may
-      (λ s k deep at fits.
+      (λ s k deep at.
       let c = looks_stub_bare s k id (view_returned me.0) at named refl holding slots deep (word.next s.words 0) refl in
       let z : SeatState E = (c.0, carried_after [] c.1) in
       let es : List (Event Name E) = Event.Look (name me.0) ∷ [] in
       (c.0, c.1, c.2, c.3, λ stage. let t = c.4 stage in ((λ e. moved_on me z es StubNull (t.0 e)), λ r e. let h = t.1 r e in (moved_on me z es (Second r) h.0, h.1, h.2))))
 
-  pub heads_stub : me.0.stage ≡ StubNull → Allows RuleHolds slots id me HEAD (λ x. x) (play.after_head_stub (step slots HEAD 0 0 none) me)
+  pub heads_stub : me.0.stage ≡ StubNull → PlainAllows slots id me HEAD (λ x. x) (play.after_head_stub (step slots HEAD 0 0 none) me)
   heads_stub at_null = returning slots id HEAD me (λ x. x) (play.after_head_stub (step slots HEAD 0 0 none) me) hand near named may
-      (λ s k deep at fits.
+      (λ s k deep at.
       let c = heads_stub_bare s k id (view_returned me.0) at named refl at_null slots (ℕ_discrete (word.head s.words) 0) in
       let z : SeatState E = (c.0, carried_after [] c.1) in
       (c.0, c.1, c.2, c.3, λ stage. let t = c.4 stage in ((λ e. moved_on me z (Event.Empty (name me.0) ∷ []) (Holding 0) (t.0 e)), λ e. let h = t.1 e in (moved_on me z [] (Holding 0) h.0, h.1))))
@@ -243,10 +246,10 @@ module _ {E : Type 0} (slots id : ℕ) (me : SeatState E) (hand : me.1 ≡ carry
   RereadFacts : ℕ → ℕ → SeatState E → Type 0
   RereadFacts t found z = (found ≡ 0 → moves_to [] (Holding t) me z × Blocked z.0) × ((r : ℕ) → found ≡ suc r → hands_out [] slots t r me z)
 
-  pub heads : (t : ℕ) → me.0.stage ≡ Null t → Allows RuleHolds slots id me HEAD (λ x. x) (play.after_head (step slots HEAD 0 0 none) me)
+  pub heads : (t : ℕ) → me.0.stage ≡ Null t → PlainAllows slots id me HEAD (λ x. x) (play.after_head (step slots HEAD 0 0 none) me)
   unfolding HeadTells HeadFacts
   heads t at_null = returning slots id HEAD me (λ x. x) (play.after_head (step slots HEAD 0 0 none) me) hand near named may
-      (λ s k deep at fits.
+      (λ s k deep at.
       let c = heads_bare s k id (view_returned me.0) at named refl t at_null (ℕ_discrete (word.head s.words) t) in (
         c.0,
         c.1,
@@ -257,10 +260,10 @@ module _ {E : Type 0} (slots id : ℕ) (me : SeatState E) (hand : me.1 ≡ carry
             subst (λ q. HeadFacts q (word.head s.words) z) (same_null at_null stage) ((λ e. moved_on me z [] (PutClear t) (c.4.0 e)), λ e. let h = c.4.1 e in (moved_on me z [] (Holding t) h.0, h.1)),
       ))
 
-  pub rereads : (t i : ℕ) → i ≡ LINKS + t → me.0.stage ≡ PutRead t → Allows RuleHolds slots id me i (λ x. x) (play.after_reread (step slots i 0 0 none) me)
+  pub rereads : (t i : ℕ) → i ≡ LINKS + t → me.0.stage ≡ PutRead t → PlainAllows slots id me i (λ x. x) (play.after_reread (step slots i 0 0 none) me)
   unfolding RereadTells RereadFacts
   rereads t i is at_put = returning slots id i me (λ x. x) (play.after_reread (step slots i 0 0 none) me) hand near named may
-      (λ s k deep at fits.
+      (λ s k deep at.
       let c = rereads_bare s k id (view_returned me.0) at named refl t at_put slots deep i is (get_or s.words i 0) refl in (
         c.0,
         c.1,
@@ -271,22 +274,22 @@ module _ {E : Type 0} (slots id : ℕ) (me : SeatState E) (hand : me.1 ≡ carry
             subst (λ q. RereadFacts q (get_or s.words i 0) z) (same_put at_put stage) ((λ e. let h = c.4.0 e in (moved_on me z [] (Holding t) h.0, h.1)), λ r e. handed_on me z [] slots t r (c.4.1 r e)),
       ))
 
-  pub clears_stub : (t : ℕ) → me.0.stage ≡ PutClear t → Allows RuleHolds slots id me LINKS (λ _. 0) (λ _. play.after_clear_stub (step slots LINKS 0 0 none) me 0)
+  pub clears_stub : (t : ℕ) → me.0.stage ≡ PutClear t → PlainAllows slots id me LINKS (λ _. 0) (λ _. play.after_clear_stub (step slots LINKS 0 0 none) me 0)
   clears_stub t l = returning slots id LINKS me (λ _. 0) (λ _. play.after_clear_stub (step slots LINKS 0 0 none) me 0) hand near named may
-      (λ s k deep at fits.
+      (λ s k deep at.
       let c = clears_stub_bare s k id (view_returned me.0) at named refl t l in
       (c.0, c.1, c.2, c.3, λ u stage. subst (λ q. moves_to [] (PutSwap q) me (c.0, carried_after [] c.1)) (same_clear l stage) (moved_on me (c.0, carried_after [] c.1) [] (PutSwap t) c.4)))
 
-  pub swaps_stub : (t : ℕ) → me.0.stage ≡ PutSwap t → Allows RuleHolds slots id me HEAD (λ _. 0) (play.after_swap_stub (step slots HEAD 0 0 none) me)
+  pub swaps_stub : (t : ℕ) → me.0.stage ≡ PutSwap t → PlainAllows slots id me HEAD (λ _. 0) (play.after_swap_stub (step slots HEAD 0 0 none) me)
   swaps_stub t l = returning slots id HEAD me (λ _. 0) (play.after_swap_stub (step slots HEAD 0 0 none) me) hand near named may
-      (λ s k deep at fits.
+      (λ s k deep at.
       let c = swaps_stub_bare s k id (view_returned me.0) at named refl t l in
       let h = head_near s k in
       (c.0, c.1, c.2, c.3, λ u stage. (subst (λ q. moves_to [] (PutLink q (word.head s.words)) me (c.0, carried_after [] c.1)) (same_swap l stage) (moved_on me (c.0, carried_after [] c.1) [] (PutLink t (word.head s.words)) c.4), omega arith)))
 
-  pub links_stub : (t old i : ℕ) → i ≡ LINKS + old → old < slots → me.0.stage ≡ PutLink t old → Allows RuleHolds slots id me i (λ _. 1) (λ _. play.after_link_stub (step slots i 1 0 none) me 1)
+  pub links_stub : (t old i : ℕ) → i ≡ LINKS + old → old < slots → me.0.stage ≡ PutLink t old → PlainAllows slots id me i (λ _. 1) (λ _. play.after_link_stub (step slots i 1 0 none) me 1)
   links_stub t old i is inside l = returning slots id i me (λ _. 1) (λ _. play.after_link_stub (step slots i 1 0 none) me 1) hand near named may
-      (λ s k deep at fits.
+      (λ s k deep at.
       let c = links_stub_bare s k id (view_returned me.0) at named refl t old l (omega arith) in
       let sum : LINKS + old ≡ i = omega arith in
-      (c.0, c.1, c.2, subst (λ (q : ℕ). RuleHolds (stepped s q 1 id [] c.0 c.1)) sum c.3, λ u o stage. subst (λ q. moves_to [] (PutRead q) me (c.0, carried_after [] c.1)) (same_link l stage) (moved_on me (c.0, carried_after [] c.1) [] (PutRead t) c.4)))
+      (c.0, c.1, c.2, subst (λ (q : ℕ). Becomes s k (view_returned me.0) c.0 (stepped s q 1 id [] c.0 c.1)) sum c.3, λ u o stage. subst (λ q. moves_to [] (PutRead q) me (c.0, carried_after [] c.1)) (same_link l stage) (moved_on me (c.0, carried_after [] c.1) [] (PutRead t) c.4)))

@@ -1,5 +1,5 @@
 -- A change of a queue's words and views is a change of its machine.
-use Rattle.std.proofs.Common.{◌≡◌, ◌≢◌, ℕ, suc, ◌+◌, ◌<◌, List, [], ◌∷◌, ◌++◌, length, reverse, set, Option, Some, refl, sym, ap, ◌∙◌, subst, arith, get_or-set_other}
+use Rattle.std.proofs.Common.{◌≡◌, ◌≢◌, ℕ, suc, ◌+◌, ◌<◌, List, [], ◌∷◌, ◌++◌, length, reverse, set, Option, Some, refl, sym, ap, ◌∙◌, subst, arith, get_or-set_other, ◌⊎◌, get_or}
 use Rattle.std.proofs.lemmas.List.{reverse-append}
 use mathlib.Core.Option.{some, none}
 use mathlib.Core.Option as maybe
@@ -7,6 +7,7 @@ use mathlib.Core.Path.{fun_ext}
 use native.Mathlib.Decide.{ℕ_discrete}
 use lib.ListN.{get_elem?}
 use Rattle.atomic_table.proofs.Lists.{set_here, set_else}
+use Rattle.atomic_table.specs.Table.{Act, Valid, stepped, carried_after}
 use Rattle.cordyceps_shared.specs.Words as word
 use Rattle.cordyceps_shared.specs.declared.layout.TheConstants.{LINKS}
 use Rattle.cordyceps_shared.proofs.Words.{next_set, next_beside_next}
@@ -23,9 +24,9 @@ use Rattle.cordyceps_queue.specs.declared.cores.stage.Stage.TheVariants.{Cleared
 use Rattle.cordyceps_queue.specs.History.{Event, actor}
 use Rattle.cordyceps_shared.specs.Places.{ItemAt}
 use Rattle.cordyceps_queue.specs.Cores.Meets.{Spare, Ready, Chain, AtStage, OwnsRooms, Meets}
-use Rattle.cordyceps_queue.specs.Shared.Plays.{LegalReversed, Sees}
+use Rattle.cordyceps_queue.specs.Shared.Plays.{SeatState, LegalReversed, Sees}
 use Rattle.cordyceps_shared.specs.Slots.{Homes, EmptyAtHome}
-use Rattle.cordyceps_queue.specs.Shared.Rule.{TableState, link_of, party, party_if, party_of, machine_of, FullAtHome, AllEmptyAtHome, AllReady, AreLinked, RuleHolds}
+use Rattle.cordyceps_queue.specs.Shared.Rule.{TableState, link_of, party, party_if, party_of, machine_of, FullAtHome, AllEmptyAtHome, AllReady, AreLinked, PlainHolds}
 use Rattle.cordyceps_queue.specs.Shared.View.{View, knows, name}
 use Rattle.cordyceps_queue.specs.Cores.Abstract.{AbstractParty, AbstractMachine, update}
 use Rattle.cordyceps_queue.proofs.CoreTheory.Basics.{put_same, put_other, at_more}
@@ -55,7 +56,34 @@ named_party : (names : List Name) (p : AbstractParty Name) → names ≢ [] → 
 named_party [] p some_name = absurd (some_name refl)
 named_party (n ∷ ns) p some_name = refl
 
+-- these rooms are of the chain that was, or the head
+abbrev pub Among : List ℕ → List ℕ → List ℕ → Type 0
+Among words was rooms = (i x : ℕ) → ItemAt rooms i x → (x ≡ word.head words) ⊎ ((j : ℕ) × ItemAt was j x)
+
 module _ {E : Type 0} where
+  -- the rooms that a party has were its own, or one is the tail that it passed
+  abbrev pub Comes : (s : TableState E) → PlainHolds s → View E → View E → Type 0
+  Comes s k v w = (i x : ℕ) → ItemAt (w.free ++ w.back) i x → ((j : ℕ) × ItemAt (v.free ++ v.back) j x) ⊎ (((j : ℕ) × ItemAt k.chain.rooms j x) × ((r : ℕ) × (word.next s.words x ≡ suc r)))
+
+  -- the plain rule after a step of a party whose view was v and is w
+  pub record Becomes (s : TableState E) (k : PlainHolds s) (v w : View E) (t : TableState E) : Type 0 where
+    pub now : PlainHolds t
+    pub uses : now.uses ≡ k.uses
+    pub bits : w.bits ≡ k.uses
+    pub rooms : Among t.words k.chain.rooms now.chain.rooms
+    pub spare : Comes s k v w
+
+  -- the plain rule after a step that leaves the chain
+  pub record Stays (s : TableState E) (k : PlainHolds s) (t : TableState E) : Type 0 where
+    pub now : PlainHolds t
+    pub uses : now.uses ≡ k.uses
+    pub rooms : now.chain.rooms ≡ k.chain.rooms
+
+  -- what the plain rule allows a party, whatever the table is when the word i becomes f of what it was
+  abbrev pub PlainAllows : ℕ → ℕ → SeatState E → ℕ → (ℕ → ℕ) → (ℕ → SeatState E → Type 0) → Type 0
+  PlainAllows slots id me i f then = (s : TableState E) (k : PlainHolds s) → length s.homes ≡ slots → get_elem? s.views id ≡ some me.0
+      → (w : View E) × (a : Act (Option E)) × Valid s.homes me.1 a × Becomes s k me.0 w (stepped s i (f (get_or s.words i 0)) id me.1 w a) × then (get_or s.words i 0) (w, carried_after me.1 a)
+
   -- one view more or less is one party
   pub parties_put : (views : List (View E)) (id : ℕ) (w : View E) → id < length views → w.known.share ≢ [] → (λ k. party_of (get_elem? (set views id w) k)) ≡ update (λ k. party_of (get_elem? views k)) id (Some (party w))
   parties_put views id w lt some_name = fun_ext (λ j. elim (ℕ_discrete j id) [
@@ -67,12 +95,12 @@ module _ {E : Type 0} where
   ])
 
   -- the rule after a step at which the party sees all and adds these events, and what it tells
-  pub keeps_rule : (s : TableState E) (k : RuleHolds s) (id : ℕ) (es : List (Event Name E)) (v w : View E) (words : List ℕ) (homes : Homes E) (cell : ℕ → Option E) (chain : Chain) (m' : AbstractMachine Name E)
+  pub keeps_rule : (s : TableState E) (k : PlainHolds s) (id : ℕ) (es : List (Event Name E)) (v w : View E) (words : List ℕ) (homes : Homes E) (cell : ℕ → Option E) (chain : Chain) (m' : AbstractMachine Name E)
       → get_elem? s.views id ≡ some v → v.known.share ≢ [] → Under actor (name v) es → w.known ≡ all_seen id (k.history ++ of_seat id es) v.known.share
       → m' ≡ machine_of cell words (set s.views id w) → Meets m' chain (reverse es ++ reverse (events k.history))
       → length words ≡ length s.words → length homes ≡ length s.homes → FullAtHome homes cell chain.rooms → AllEmptyAtHome homes (set s.views id w) → AllReady cell (set s.views id w) → AreLinked words (set s.views id w)
-      → RuleHolds record { words = words; homes = homes; views = set s.views id w } × Sees v es w
-  keeps_rule s k id es v w words homes cell chain m' at some_name under sees same met wide deep full empty ready linked =
+      → w.bits ≡ k.uses → Among words k.chain.rooms chain.rooms → Comes s k v w → Becomes s k v w record { words = words; homes = homes; views = set s.views id w } × Sees v es w
+  keeps_rule s k id es v w words homes cell chain m' at some_name under sees same met wide deep full empty ready linked bits rooms spare =
       let h = k.history ++ of_seat id es in
       let recent : reverse (events h) ≡ reverse es ++ reverse (events k.history) = ap (λ z. reverse z) (events_more k.history id es) ∙ reverse-append (events k.history) es in
       let meets : Meets (machine_of cell words (set s.views id w)) chain (reverse (events h)) =
@@ -81,23 +109,30 @@ module _ {E : Type 0} where
       let was_wide = k.wide in
       let was_stub = k.stub in (
         record {
-          history = h;
-          cell = cell;
-          chain = chain;
-          meets = meets;
-          wide = omega arith;
-          stub = omega arith;
-          full = full;
-          empty = empty;
-          ready = ready;
-          linked = linked;
-          fits = t.fits;
-          owned = t.owned;
+          now = record {
+            uses = k.uses;
+            history = h;
+            cell = cell;
+            chain = chain;
+            meets = meets;
+            wide = omega arith;
+            stub = omega arith;
+            full = full;
+            empty = empty;
+            ready = ready;
+            linked = linked;
+            fits = t.fits;
+            owned = t.owned;
+          };
+          uses = refl;
+          bits = bits;
+          rooms = rooms;
+          spare = spare;
         },
         t.grown,
       )
 
-  module _ (s : TableState E) (k : RuleHolds s) where
+  module _ (s : TableState E) (k : PlainHolds s) where
     abbrev pub core : AbstractMachine Name E
     core = machine_of k.cell s.words s.views
 

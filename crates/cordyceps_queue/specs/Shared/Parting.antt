@@ -36,6 +36,7 @@ module _ {E : Type 0} where
         to = 0;
         stage = Rest;
         item = None;
+        bits = v.bits;
       }
 
   -- what a party has that took another in, and what is left of the other
@@ -49,6 +50,7 @@ module _ {E : Type 0} where
         to = 0;
         stage = Rest;
         item = None;
+        bits = v.bits;
       }
 
   abbrev pub view_absorbed : View E
@@ -61,4 +63,5 @@ module _ {E : Type 0} where
         to = 0;
         stage = Rest;
         item = None;
+        bits = [];
       }

@@ -1,5 +1,5 @@
 -- What the parts of a call on a shared queue leave: of the party's seat m before, and of its seat k after.
-use Rattle.std.specs.Prelude.{◌≡◌, ◌≢◌, ℕ, zero, suc, ◌+◌, ◌<◌, ◌≤◌, List, [], ◌∷◌, ◌++◌, length, Option, Some, None}
+use Rattle.std.specs.Prelude.{◌≡◌, ◌≢◌, ℕ, zero, suc, ◌+◌, ◌*◌, ◌<◌, ◌≤◌, List, [], ◌∷◌, ◌++◌, length, Option, Some, None}
 use Rattle.atomic_table.specs.Seated.{TableId}
 use Rattle.cordyceps_shared.specs.FreeChains.{FreeChain, Tracks, leads}
 use Rattle.cordyceps_shared.specs.Histories.{plain, AllOwn}
@@ -23,12 +23,20 @@ use Rattle.cordyceps_queue.specs.Shared.View.{View, name, free_chain, all_rooms}
 abbrev pub IsSeatOf : TableId → TableId → Type 0
 IsSeatOf seat table = (seat ≡ table) × IsTable table
 
--- the words of a new queue, all of whose rooms are free
+-- the plain words of a new queue, all of whose rooms are free
 pub record AreNew (words : List ℕ) (rooms : ℕ) : Type 0 where
   pub wide : length words ≡ LINKS + rooms + 1
   pub head : word.head words ≡ 0
   pub right : word.right words ≡ 1
   pub linked : (r : ℕ) → r ≤ rooms → word.next words r ≡ r
+
+-- its words, where each room's use has the bit 0, and the stub's link is of an earlier use
+pub record AreNewWords (words : List ℕ) (rooms : ℕ) : Type 0 where
+  pub wide : length words ≡ LINKS + rooms + 1
+  pub head : word.head words ≡ 0
+  pub right : word.right words ≡ 2
+  pub stub : word.next words 0 ≡ 1
+  pub linked : (r : ℕ) → 1 ≤ r → r ≤ rooms → word.next words r ≡ 4 * r
 
 -- what a party has of its free rooms, and the last one's link
 pub record TracksEnd (spare : Spare) (chain : FreeChain) : Type 0 where

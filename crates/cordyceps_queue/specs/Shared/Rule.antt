@@ -18,7 +18,8 @@ use Rattle.cordyceps_shared.specs.Slots.{Homes, EmptyAtHome}
 use Rattle.cordyceps_queue.specs.History.{Event, actor}
 use Rattle.cordyceps_shared.specs.Places.{ItemAt}
 use Rattle.cordyceps_queue.specs.Cores.Meets.{Chain, Meets}
-use Rattle.cordyceps_queue.specs.Shared.View.{View, knows, name}
+use Rattle.cordyceps_queue.specs.Shared.Bits.{SpellsWords}
+use Rattle.cordyceps_queue.specs.Shared.View.{View, knows, name, bit_of}
 use Rattle.cordyceps_queue.specs.Cores.Abstract.{AbstractParty, AbstractMachine}
 
 abbrev pub TableState : Type 0 → Type 0
@@ -47,7 +48,7 @@ module _ {E : Type 0} where
   party_of none = None
   party_of (some v) = party_if v.known.share (party v)
 
-  -- The machine that the words and the views spell, one of the four readings at the head of Cores/Machine. What the
+  -- The machine that the plain words and the views spell, one of the four readings at the head of Cores/Machine. What the
   -- rooms have is an argument, since a slot may be out with a seat.
   abbrev pub machine_of : (ℕ → Option E) → List ℕ → List (View E) → AbstractMachine Name E
   machine_of cell words views = record {
@@ -81,8 +82,10 @@ module _ {E : Type 0} where
       (j : ℕ) (v : View E) (r : ℕ) → get_elem? views j ≡ some v → v.known.share ≢ [] → v.stage ≡ Cleared r →
       cell r ≡ v.item
 
-  -- there is one history, which the machine meets, and of which each party has seen a prefix
-  pub record RuleHolds (s : TableState E) : Type 0 where
+  -- There is one history, which the machine meets, and of which each party has seen a prefix. The words are plain here:
+  -- those of the table have the bits of the uses, too
+  pub record PlainHolds (s : TableState E) : Type 0 where
+    pub uses : List (ℕ × ℕ)
     pub history : History E
     pub cell : ℕ → Option E
     pub chain : Chain
@@ -95,6 +98,12 @@ module _ {E : Type 0} where
     pub linked : AreLinked s.words s.views
     pub fits : AllAgree actor knows s.views history
     pub owned : SharesDisjoint knows s.views history
+
+  -- the rule of the table: its words spell plain ones, of which that holds
+  pub record RuleHolds (s : TableState E) : Type 0 where
+    pub words : List ℕ
+    pub plain : PlainHolds record { words = words; homes = s.homes; views = s.views }
+    pub spells : SpellsWords (bit_of plain.uses) plain.chain.rooms words s.words s.views
 
 -- a link for each slot, after the other words, and the stub's slot
 abbrev pub IsTable : TableId → Type 0

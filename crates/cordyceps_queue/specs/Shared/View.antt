@@ -1,5 +1,5 @@
 -- What a party of a shared queue knows and does, as the rule of the queue's table sees it.
-use Rattle.std.specs.Prelude.{ℕ, zero, suc, List, [], ◌∷◌, Option, None}
+use Rattle.std.specs.Prelude.{ℕ, zero, suc, List, [], ◌∷◌, Option, None, cond, eqb}
 use Rattle.cordyceps_shared.specs.FreeChains.{FreeChain, joined}
 use Rattle.cordyceps_shared.specs.Knowing.{Known}
 use Rattle.cordyceps_shared.specs.Knowing as knowing
@@ -9,8 +9,8 @@ use Rattle.cordyceps_queue.specs.declared.cores.stage.Stage.TheVariants.{Rest}
 use Rattle.cordyceps_queue.specs.History.{Event}
 
 -- what the party knows of the history; its free rooms, whose links lead from each to the next, and the last one's link;
--- its rooms whose slot it has yet to give back, and their last link; where it is within a call; and the element that it
--- cleared a room for
+-- its rooms whose slot it has yet to give back, and their last link; where it is within a call; the element that it
+-- cleared a room for; and the bits of the uses of rooms, of which it knows those of the rooms that its stage names
 pub record View (E : Type 0) : Type 0 where
   pub known : Known (Event Name E)
   pub free : List ℕ
@@ -19,6 +19,12 @@ pub record View (E : Type 0) : Type 0 where
   pub to : ℕ
   pub stage : Stage
   pub item : Option E
+  pub bits : List (ℕ × ℕ)
+
+-- the bit of a room's use, by the uses that began, each with its bit, the newest first
+abbrev pub bit_of : List (ℕ × ℕ) → ℕ → ℕ
+bit_of [] r = 0
+bit_of (x ∷ xs) r = cond (eqb r x.0) x.1 (bit_of xs r)
 
 -- the numbers from n down to 1
 abbrev pub down_from : ℕ → List ℕ
@@ -39,6 +45,7 @@ module _ {E : Type 0} where
     to = 0;
     stage = Rest;
     item = None;
+    bits = [];
   }
 
   -- its free rooms, and those whose slot it has yet to give back

@@ -13,6 +13,7 @@ use crate::shared::batch::Batch;
 use crate::shared::calls::{MpscQueue, Party};
 use crate::shared::spare::Spare;
 use crate::shared::table::{PartySeat, Tried, Words};
+use crate::shared::uses::RoomUse;
 use crate::shared::{steps, tries};
 use cordyceps_base::linked::Linked;
 use cordyceps_base::mpsc_queue::Links;
@@ -56,7 +57,7 @@ impl Pace {
     }
 
     /// The pace after a try, by which the tail became this one.
-    fn after<E: Drop>(self, tail: u64, tried: &Tried<E>) -> Pace {
+    fn after<E: Drop>(self, tail: usize, tried: &Tried<E>) -> Pace {
         match tried {
             Tried::Out(_room, _item) => Pace {
                 spins: self.spins,
@@ -79,19 +80,20 @@ impl Pace {
 pub(crate) struct Right<E: Drop> {
     seat: PartySeat<E>,
     spare: Spare,
-    tail: u64,
+    tail: RoomUse,
     pace: Pace,
 }
 
 impl<E: Drop> Model for Right<E> {
     ghost use Rattle.cordyceps_queue.specs.Shared.Parts.{IsConsuming, standing};
+    ghost use Rattle.cordyceps_queue.specs.Shared.Uses.{HasUse};
     ghost use Rattle.cordyceps_queue.specs.Shared.Calls.{PartyOf};
 
     ghost Value = { PartyOf E };
 
     ghost view = { λ r. standing r.seat.table_id r.seat.me.0 };
 
-    ghost invariant = { λ r. IsConsuming r.seat.table_id r.tail r.seat.me r.spare };
+    ghost invariant = { λ r. IsConsuming r.seat.table_id r.tail.room r.seat.me r.spare × HasUse r.seat.me r.tail };
 }
 
 /// Takes the right to dequeue. If another party has it, returns the party.
@@ -105,13 +107,16 @@ pub(crate) fn take_right<T: Linked<Links<T>>>(
 {
     let Party { mut seat, spare } = party;
     let tail = steps::take(words, &mut seat);
-    if tail == 0 {
+    if tail.room == 0 {
         return Err(Party { seat, spare });
     }
     Ok(Right {
         seat,
         spare,
-        tail: tail - 1,
+        tail: RoomUse {
+            room: tail.room - 1,
+            bit: tail.bit,
+        },
         pace: Pace::new(),
     })
 }
@@ -160,7 +165,7 @@ pub(crate) fn give_right<T: Linked<Links<T>>>(
         tail,
         pace: _,
     } = right;
-    steps::give(words, &mut seat, tail as usize);
+    steps::give(words, &mut seat, tail);
     Party { seat, spare }
 }
 
@@ -183,14 +188,9 @@ impl<E: Drop> Right<E> {
         ensures whole { self.old.share ≡ whole → IsCertain result }
     {
         self.pace.pause();
-        let (tail, tried) = tries::advance(
-            words,
-            &mut self.seat,
-            &mut self.spare,
-            self.tail as usize,
-        );
+        let (tail, tried) = tries::advance(words, &mut self.seat, &mut self.spare, self.tail);
         self.tail = tail;
-        self.pace = self.pace.after(tail, &tried);
+        self.pace = self.pace.after(tail.room, &tried);
         match tried {
             Tried::Out(_room, item) => Ok(item),
             Tried::Empty => Err(TryDequeueError::Empty),

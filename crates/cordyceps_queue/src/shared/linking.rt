@@ -9,6 +9,7 @@ ghost use Rattle.cordyceps_queue.specs.Shared.View.{free_chain, back_chain, all_
 use crate::shared::plays::{Skip, Tie};
 use crate::shared::spare::Spare;
 use crate::shared::table::{PartySeat, Words};
+use crate::shared::uses::free_link;
 use cordyceps_shared::free::FreeRooms;
 use cordyceps_shared::layout::LINKS;
 
@@ -20,6 +21,7 @@ pub(crate) fn tie<E: Drop>(words: &Words<E>, seat: &mut PartySeat<E>, spare: &mu
     requires tracks { TracksEnd spare.old (free_chain (view seat.old.me)) }
     requires near { Near words.now.table_id.slots (view seat.old.me).free }
     requires named { (view seat.old.me).known.share ≢ [] }
+    requires low { at ≤ words.now.table_id.slots }
     ensures table { seat.new.table_id ≡ seat.old.table_id }
     ensures relinked { Relinked seat.old.me seat.new.me }
     ensures tied { IsTied (free_chain (view seat.new.me)) at }
@@ -30,7 +32,7 @@ pub(crate) fn tie<E: Drop>(words: &Words<E>, seat: &mut PartySeat<E>, spare: &mu
     if spare.rooms.count == 0 {
         spare.rooms.first = at;
     } else if spare.end != at {
-        words.store::<Tie>(seat, LINKS + spare.rooms.last, at);
+        words.store::<Tie>(seat, LINKS + spare.rooms.last, 4 * at);
     }
 }
 
@@ -41,7 +43,7 @@ pub(crate) fn add_room<E: Drop>(
     seat: &mut PartySeat<E>,
     spare: &mut Spare,
     room: usize,
-    next: u64,
+    next: usize,
 )
     requires table { IsSeatOf seat.old.table_id words.now.table_id }
     requires tracks { TracksEnd spare.old (free_chain (view seat.old.me)) }
@@ -58,7 +60,7 @@ pub(crate) fn add_room<E: Drop>(
     tie(words, seat, spare, room as u64 + 1);
     spare.rooms.last = room;
     spare.rooms.count += 1;
-    spare.end = next + 1;
+    spare.end = next as u64 + 1;
 }
 
 /// Returns the word that leads to the free room after the first `rooms`, and the last of these. Where these are all, no
@@ -84,7 +86,7 @@ pub(crate) fn pass<E: Drop>(
     let mut last = 0;
     for _room in 0..rooms {
         last = at as usize - 1;
-        at = words.load::<Skip>(seat, LINKS + last);
+        at = free_link(words.load::<Skip>(seat, LINKS + last)).0;
     }
     (at, last)
 }

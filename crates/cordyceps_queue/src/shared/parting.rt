@@ -5,9 +5,9 @@ ghost use Rattle.cordyceps_shared.specs.Histories.{plain};
 ghost use Rattle.cordyceps_shared.specs.Knowing.{IsKnown};
 ghost use Rattle.cordyceps_queue.specs.Shared.Calls.{NonePending, NoneHolds};
 ghost use Rattle.cordyceps_queue.specs.Shared.Parting.{view_keeping, view_giving, view_absorbing};
-ghost use Rattle.cordyceps_shared.specs.Slots.{view};
+ghost use Rattle.cordyceps_shared.specs.Slots.{Near, view};
 ghost use Rattle.cordyceps_queue.specs.Shared.Plays.{IsResting, LegalReversed};
-ghost use Rattle.cordyceps_queue.specs.Shared.Parts.{IsSeatOf, AreNew, Relinked, HasAbsorbed, TracksEnd};
+ghost use Rattle.cordyceps_queue.specs.Shared.Parts.{IsSeatOf, AreNewWords, Relinked, HasAbsorbed, TracksEnd};
 ghost use Rattle.cordyceps_queue.specs.Shared.View.{newcomer, free_chain};
 
 use crate::shared::linking::{pass, tie};
@@ -22,16 +22,17 @@ use std::alloc::{AllocError, Global};
 use std::marker::Brand;
 
 /// Creates the words of an empty queue with `rooms` rooms beside the stub's. The link of each room leads to the room
-/// before it, and the stub's is null.
+/// before it, and the stub's is of an earlier use.
 fn links(alloc: Global, rooms: usize) -> Result<Vec<u64>, AllocError>
     requires { rooms ≤ MAX_ROOMS }
-    ensures { IfOk result (λ words. AreNew words.items rooms) }
+    ensures { IfOk result (λ words. AreNewWords words.items rooms) }
 {
     let mut words = vec![in alloc; 0; LINKS + rooms + 1]?;
-    words[RIGHT] = 1;
+    words[RIGHT] = 2;
     for room in 0..rooms + 1 {
-        words[LINKS + room] = room as u64;
+        words[LINKS + room] = 4 * room as u64;
     }
+    words[LINKS] = 1;
     Ok(words)
 }
 
@@ -101,6 +102,7 @@ fn append<E: Drop>(
     requires rest { IsResting words.now.table_id.slots seat.old.me }
     requires tracks { TracksEnd spare.old (free_chain (view seat.old.me))
         × TracksEnd other (free_chain (view _seat.now.me)) }
+    requires near { Near words.now.table_id.slots (view _seat.now.me).free }
     ensures table { seat.new.table_id ≡ seat.old.table_id }
     ensures relinked { Relinked seat.old.me seat.new.me }
     ensures joins { MayJoin (free_chain (view seat.new.me)) (free_chain (view _seat.now.me)) }

@@ -1,8 +1,8 @@
 //! The steps of a shared queue, for contracts. Values of these types are not used when the program runs.
-ghost use Rattle.cordyceps_queue.specs.Shared.Plays.{after_clear, after_swap, after_link, after_take, after_look};
-ghost use Rattle.cordyceps_queue.specs.Shared.Plays.{after_look_stub, after_read, after_head, after_head_stub};
-ghost use Rattle.cordyceps_queue.specs.Shared.Plays.{after_clear_stub, after_swap_stub, after_link_stub, after_give};
-ghost use Rattle.cordyceps_queue.specs.Shared.Plays.{after_reread, after_tie, after_skip};
+ghost use Rattle.cordyceps_queue.specs.Shared.Uses.{after_clear, after_swap, after_link, after_take, after_look};
+ghost use Rattle.cordyceps_queue.specs.Shared.Uses.{after_look_stub, after_read, after_head, after_head_stub};
+ghost use Rattle.cordyceps_queue.specs.Shared.Uses.{after_clear_stub, after_swap_stub, after_link_stub, after_give};
+ghost use Rattle.cordyceps_queue.specs.Shared.Uses.{after_reread, after_tie, after_skip};
 ghost use Rattle.cordyceps_queue.specs.Shared.Parting.{after_learn, view_keeping, view_giving};
 ghost use Rattle.cordyceps_queue.specs.Shared.Parting.{view_absorbing, view_absorbed};
 
@@ -11,7 +11,8 @@ use atomic_table::{Join, Play, Split};
 use cordyceps_shared::free::Count;
 use std::marker::PhantomData;
 
-/// A swap that makes a room's link null, by which an enqueue takes the room's slot and learns the next free room.
+/// A load of a free room's link, by which an enqueue begins a use of the room, takes its slot and learns the next free
+/// room.
 pub(crate) struct Clear<B> {
     item: PhantomData<B>,
 }
@@ -90,7 +91,7 @@ impl<E> Play<Option<E>, SeatView<E>> for HeadStub {
     ghost then = { after_head_stub };
 }
 
-/// A store that makes the stub's link null.
+/// A load of the stub's link, which begins a use of its room.
 pub(crate) struct ClearStub;
 
 impl<E> Play<Option<E>, SeatView<E>> for ClearStub {

@@ -2,6 +2,7 @@
 ghost use Rattle.std.specs.Prelude.{◌≡◌, ◌≢◌, ◌≤◌, ◌<◌, ℕ, suc, List, [], ◌∷◌, length, Some, None, MatchOption};
 ghost use Rattle.cordyceps_queue.specs.Shared.Parts.{IsSeatOf, IsCleared, IsSwapped, AsksRight, TracksEnd};
 ghost use Rattle.cordyceps_queue.specs.History.{Event};
+ghost use Rattle.cordyceps_queue.specs.Shared.Uses.{HasUse};
 ghost use Rattle.cordyceps_shared.specs.Slots.{view, hand};
 ghost use Rattle.cordyceps_queue.specs.Shared.Plays.{Sees, IsResting, IsHolding, IsAtStage, Blocked, HandsOneOut, moves_to, hands_out};
 ghost use Rattle.cordyceps_queue.specs.Shared.View.{name, free_chain, all_rooms};
@@ -10,49 +11,54 @@ ghost use Rattle.cordyceps_queue.specs.declared.cores.stage.Stage.TheVariants.{C
 use crate::shared::plays::{Clear, Give, Link, Look, Reread, Swap, Take};
 use crate::shared::spare::Spare;
 use crate::shared::table::{Chosen, PartySeat, Words};
+use crate::shared::uses::{RoomUse, free_link, leads_to, link_to, pointed, pointer};
 use cordyceps_shared::layout::{HEAD, LINKS, RIGHT};
 use std::marker::Brand;
 use std::mem;
 
-/// Makes a free room's link null and takes the room's slot, before this element is put in. Returns what the link was,
-/// which leads to the next free room.
+/// Begins a use of a free room, by which the room's link is null, and takes the room's slot, before this element is put
+/// in. Returns what the link leads to, which is the next free room, and the bit of the new use.
 fn clear<E: Drop, B: Chosen<E>>(
     words: &Words<E>,
     seat: &mut PartySeat<E>,
     room: usize,
     _item: &E,
-) -> u64
+) -> (u64, u64)
     requires table { IsSeatOf seat.old.table_id words.now.table_id }
     requires rest { IsResting words.now.table_id.slots seat.old.me }
     requires room { (rs : List ℕ) × ((view seat.old.me).free ≡ room ∷ rs) }
     requires item { B.item ≡ Some _item.now }
     ensures table { seat.new.table_id ≡ seat.old.table_id }
-    ensures cleared { IsCleared words.now.table_id.slots room result _item.now seat.old.me seat.new.me }
+    ensures cleared { IsCleared words.now.table_id.slots room result.0 _item.now seat.old.me seat.new.me }
+    ensures knows { HasUse seat.new.me record { room = room; bit = result.1 } }
 {
-    words.swap::<Clear<B>>(seat, LINKS + room, 0)
+    free_link(words.load::<Clear<B>>(seat, LINKS + room))
 }
 
 /// Puts the element into the slot, makes its room the head, and returns the old head. The slot was empty, so nothing has
 /// to be dropped, and it is not read.
-fn swap_in<E: Drop>(words: &Words<E>, seat: &mut PartySeat<E>, room: usize, item: E) -> u64
+fn swap_in<E: Drop>(words: &Words<E>, seat: &mut PartySeat<E>, to: RoomUse, item: E) -> RoomUse
     requires table { IsSeatOf seat.old.table_id words.now.table_id }
-    requires stage { ((view seat.old.me).stage ≡ Cleared room) × ((view seat.old.me).item ≡ Some item)
+    requires stage { ((view seat.old.me).stage ≡ Cleared to.room) × ((view seat.old.me).item ≡ Some item)
         × ((view seat.old.me).back ≡ []) }
-    requires hand { hand seat.old.me ≡ (room, None) ∷ [] }
-    requires near { (room < words.now.table_id.slots) × ((view seat.old.me).known.share ≢ []) }
+    requires hand { hand seat.old.me ≡ (to.room, None) ∷ [] }
+    requires knows { HasUse seat.old.me to }
+    requires near { (to.room < words.now.table_id.slots) × ((view seat.old.me).known.share ≢ []) }
     ensures table { seat.new.table_id ≡ seat.old.table_id }
-    ensures swapped { IsSwapped words.now.table_id.slots room result item seat.old.me seat.new.me }
+    ensures swapped { IsSwapped words.now.table_id.slots to.room result.room item seat.old.me seat.new.me }
+    ensures knows { HasUse seat.new.me to × HasUse seat.new.me result }
 {
-    mem::forget(words.exchange(seat, room, Some(item)));
-    words.swap::<Swap>(seat, HEAD, room as u64)
+    mem::forget(words.exchange(seat, to.room, Some(item)));
+    pointed(words.swap::<Swap>(seat, HEAD, pointer(to)))
 }
 
 /// Makes the old head lead to the room.
-fn link<E: Drop>(words: &Words<E>, seat: &mut PartySeat<E>, room: usize, old: usize)
+fn link<E: Drop>(words: &Words<E>, seat: &mut PartySeat<E>, to: RoomUse, old: RoomUse)
     requires table { IsSeatOf seat.old.table_id words.now.table_id }
-    requires stage { ((view seat.old.me).stage ≡ Swapped room old) × ((view seat.old.me).back ≡ [])
+    requires stage { ((view seat.old.me).stage ≡ Swapped to.room old.room) × ((view seat.old.me).back ≡ [])
         × (hand seat.old.me ≡ []) }
-    requires near { (old < words.now.table_id.slots) × (room < words.now.table_id.slots)
+    requires knows { HasUse seat.old.me to × HasUse seat.old.me old }
+    requires near { (old.room < words.now.table_id.slots) × (to.room < words.now.table_id.slots)
         × ((view seat.old.me).known.share ≢ []) }
     ensures table { seat.new.table_id ≡ seat.old.table_id }
     ensures rest { ((view seat.new.me).stage ≡ Rest) × ((view seat.new.me).back ≡ []) × (hand seat.new.me ≡ []) }
@@ -60,7 +66,7 @@ fn link<E: Drop>(words: &Words<E>, seat: &mut PartySeat<E>, room: usize, old: us
         × ((view seat.new.me).end ≡ (view seat.old.me).end) }
     ensures sees { Sees (view seat.old.me) (Event.Link (name (view seat.old.me)) ∷ []) (view seat.new.me) }
 {
-    words.store::<Link>(seat, LINKS + old, room as u64 + 1);
+    words.store::<Link>(seat, LINKS + old.room, link_to(to, old.bit));
 }
 
 /// Puts an element into the first free room, makes the room the head, and links it.
@@ -81,42 +87,54 @@ pub(crate) fn enqueue<E: Drop>(
         (Event.Swap (name (view seat.old.me)) item ∷ Event.Link (name (view seat.old.me)) ∷ []) (view seat.new.me) }
 {
     let room = spare.rooms.first as usize - 1;
-    spare.rooms.first = clear::<E, Brand>(words, seat, room, &item);
+    let (next, bit) = clear::<E, Brand>(words, seat, room, &item);
+    spare.rooms.first = next;
     spare.rooms.count -= 1;
-    let old = swap_in(words, seat, room, item);
-    link(words, seat, room, old as usize);
+    let to = RoomUse { room, bit };
+    let old = swap_in(words, seat, to, item);
+    link(words, seat, to, old);
 }
 
 /// Gives the right to dequeue back, and the slot that the party took.
-pub(crate) fn give<E: Drop>(words: &Words<E>, seat: &mut PartySeat<E>, tail: usize)
+pub(crate) fn give<E: Drop>(words: &Words<E>, seat: &mut PartySeat<E>, tail: RoomUse)
     requires table { IsSeatOf seat.old.table_id words.now.table_id }
-    requires holding { IsHolding words.now.table_id.slots tail seat.old.me }
+    requires holding { IsHolding words.now.table_id.slots tail.room seat.old.me }
+    requires knows { HasUse seat.old.me tail }
     ensures table { seat.new.table_id ≡ seat.old.table_id }
     ensures rest { IsResting words.now.table_id.slots seat.new.me }
     ensures answer { moves_to (Event.Free (name (view seat.old.me)) ∷ []) Rest seat.old.me seat.new.me }
 {
-    words.store::<Give>(seat, RIGHT, tail as u64 + 1);
+    words.store::<Give>(seat, RIGHT, pointer(tail) + 2);
 }
 
-/// Reads the tail's link again, after the stub was put in.
-pub(crate) fn reread<E: Drop>(words: &Words<E>, seat: &mut PartySeat<E>, tail: usize) -> u64
+/// Reads the tail's link again, after the stub was put in. If it leads on, returns the new tail.
+pub(crate) fn reread<E: Drop>(
+    words: &Words<E>,
+    seat: &mut PartySeat<E>,
+    tail: RoomUse,
+) -> Option<RoomUse>
     requires table { IsSeatOf seat.old.table_id words.now.table_id }
-    requires stage { IsAtStage words.now.table_id.slots (PutRead tail) seat.old.me × (tail < words.now.table_id.slots) }
+    requires stage { IsAtStage words.now.table_id.slots (PutRead tail.room) seat.old.me
+        × (tail.room < words.now.table_id.slots) }
+    requires knows { HasUse seat.old.me tail }
     ensures table { seat.new.table_id ≡ seat.old.table_id }
-    ensures null { result ≡ 0 → moves_to [] (Holding tail) seat.old.me seat.new.me × Blocked (view seat.new.me) }
-    ensures room { (r : ℕ) → result ≡ suc r → hands_out [] words.now.table_id.slots tail r seat.old.me seat.new.me }
+    ensures answer { MatchOption result
+        (moves_to [] (Holding tail.room) seat.old.me seat.new.me × Blocked (view seat.new.me) × HasUse seat.new.me tail)
+        (λ r. hands_out [] words.now.table_id.slots tail.room r.room seat.old.me seat.new.me × HasUse seat.new.me r) }
 {
-    words.load::<Reread>(seat, LINKS + tail)
+    leads_to(words.load::<Reread>(seat, LINKS + tail.room), tail.bit)
 }
 
-/// Takes the right to dequeue, and returns 1 more than the tail's room, or 0 if another party has the right.
-pub(crate) fn take<E: Drop>(words: &Words<E>, seat: &mut PartySeat<E>) -> u64
+/// Takes the right to dequeue. The room of what it returns is 1 more than the tail's, with the bit of the tail's use, or
+/// 0 if another party has the right.
+pub(crate) fn take<E: Drop>(words: &Words<E>, seat: &mut PartySeat<E>) -> RoomUse
     requires table { IsSeatOf seat.old.table_id words.now.table_id }
     requires rest { IsResting words.now.table_id.slots seat.old.me }
     ensures table { seat.new.table_id ≡ seat.old.table_id }
-    ensures took { AsksRight words.now.table_id.slots result seat.old.me seat.new.me }
+    ensures took { AsksRight words.now.table_id.slots result.room seat.old.me seat.new.me }
+    ensures knows { (t : ℕ) → result.room ≡ suc t → HasUse seat.new.me record { room = t; bit = result.bit } }
 {
-    words.swap::<Take>(seat, RIGHT, 0)
+    pointed(words.swap::<Take>(seat, RIGHT, 0))
 }
 
 /// Reads the link of a tail that is not the stub. If it leads on, returns the new tail and what was in the slot; if it
@@ -124,23 +142,26 @@ pub(crate) fn take<E: Drop>(words: &Words<E>, seat: &mut PartySeat<E>) -> u64
 pub(crate) fn look<E: Drop>(
     words: &Words<E>,
     seat: &mut PartySeat<E>,
-    tail: usize,
-) -> Option<(u64, E)>
+    tail: RoomUse,
+) -> Option<(RoomUse, E)>
     requires table { IsSeatOf seat.old.table_id words.now.table_id }
-    requires holding { IsHolding words.now.table_id.slots tail seat.old.me }
-    requires real { tail ≢ 0 }
+    requires holding { IsHolding words.now.table_id.slots tail.room seat.old.me }
+    requires knows { HasUse seat.old.me tail }
+    requires real { tail.room ≢ 0 }
     ensures table { seat.new.table_id ≡ seat.old.table_id }
     ensures answer { MatchOption result
-        (moves_to (Event.Look (name (view seat.old.me)) ∷ []) (Null tail) seat.old.me seat.new.me)
-        (λ r. HandsOneOut (Event.Look (name (view seat.old.me)) ∷ []) words.now.table_id.slots tail r.0 r.1 seat.old.me
-        seat.new.me) }
+        (moves_to (Event.Look (name (view seat.old.me)) ∷ []) (Null tail.room) seat.old.me seat.new.me)
+        (λ r. HandsOneOut (Event.Look (name (view seat.old.me)) ∷ []) words.now.table_id.slots tail.room r.0.room r.1
+        seat.old.me seat.new.me) }
+    ensures knows { MatchOption result (HasUse seat.new.me tail) (λ r. HasUse seat.new.me r.0) }
     ensures rooms { free_chain (view seat.new.me) ≡ all_rooms (view seat.old.me) }
 {
-    let next = words.load::<Look>(seat, LINKS + tail);
-    if next == 0 {
+    let link = words.load::<Look>(seat, LINKS + tail.room);
+    let Some(next) = leads_to(link, tail.bit) else {
         return None;
-    }
-    let item = words.exchange(seat, tail, None);
-    let Some(item) = item else { unreachable!() };
-    Some((next - 1, item))
+    };
+    let Some(item) = words.exchange(seat, tail.room, None) else {
+        unreachable!()
+    };
+    Some((next, item))
 }

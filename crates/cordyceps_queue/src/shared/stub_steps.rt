@@ -1,103 +1,147 @@
 //! The atomic steps of a try to dequeue at the stub, and of putting the stub in. Each function is a part of a call.
-ghost use Rattle.std.specs.Prelude.{◌≡◌, ◌≢◌, ◌<◌, ℕ, suc, [], ◌∷◌, true, false, Some, None};
+ghost use Rattle.std.specs.Prelude.{◌≡◌, ◌≢◌, ◌<◌, ℕ, suc, [], ◌∷◌, true, false, Some, None, MatchOption};
 ghost use Rattle.cordyceps_queue.specs.History.{Event};
 ghost use Rattle.cordyceps_queue.specs.Shared.Plays.{IsHolding, IsAtStage, Blocked, hands_out, moves_to};
+ghost use Rattle.cordyceps_queue.specs.Shared.Uses.{HasUse};
 ghost use Rattle.cordyceps_shared.specs.Slots.{view, hand};
 ghost use Rattle.cordyceps_queue.specs.Shared.Parts.{IsSeatOf};
-ghost use Rattle.cordyceps_queue.specs.Shared.View.{name};
+ghost use Rattle.cordyceps_queue.specs.Shared.View.{bit_of, name};
 ghost use Rattle.cordyceps_queue.specs.declared.cores.stage.Stage.TheVariants.{Holding, StubNull, Second, Null, PutClear, PutSwap, PutLink, PutRead};
 
 use crate::shared::plays::{ClearStub, Head, HeadStub, LinkStub, LookStub, Read, SwapStub};
 use crate::shared::table::{PartySeat, Words};
+use crate::shared::uses::{RoomUse, free_link, leads_to, link_to, pointed, pointer};
 use cordyceps_shared::layout::{HEAD, LINKS};
 
-/// Reads the stub's link, when the stub is the tail.
-pub(crate) fn look_first<E: Drop>(words: &Words<E>, seat: &mut PartySeat<E>) -> u64
+/// Reads the stub's link, when the stub is the tail, in the use with this bit. If it leads on, returns the room there.
+pub(crate) fn look_first<E: Drop>(
+    words: &Words<E>,
+    seat: &mut PartySeat<E>,
+    bit: u64,
+) -> Option<RoomUse>
     requires table { IsSeatOf seat.old.table_id words.now.table_id }
     requires holding { IsHolding words.now.table_id.slots 0 seat.old.me }
+    requires knows { HasUse seat.old.me record { room = 0; bit = bit } }
     ensures table { seat.new.table_id ≡ seat.old.table_id }
-    ensures null { result ≡ 0 → moves_to (Event.Look (name (view seat.old.me)) ∷ []) StubNull seat.old.me seat.new.me }
-    ensures room { (r : ℕ) → result ≡ suc r
-        → moves_to (Event.Look (name (view seat.old.me)) ∷ []) (Second r) seat.old.me seat.new.me
-        × (r < words.now.table_id.slots) × (r ≢ 0) }
+    ensures answer { MatchOption result
+        (moves_to (Event.Look (name (view seat.old.me)) ∷ []) StubNull seat.old.me seat.new.me)
+        (λ r. moves_to (Event.Look (name (view seat.old.me)) ∷ []) (Second r.room) seat.old.me seat.new.me
+        × (r.room < words.now.table_id.slots) × (r.room ≢ 0)) }
+    ensures knows { MatchOption result (HasUse seat.new.me record { room = 0; bit = bit })
+        (λ r. HasUse seat.new.me r) }
 {
-    words.load::<LookStub>(seat, LINKS)
+    leads_to(words.load::<LookStub>(seat, LINKS), bit)
 }
 
-/// Reads the head, after the stub's link was null.
-pub(crate) fn head_of_stub<E: Drop>(words: &Words<E>, seat: &mut PartySeat<E>) -> u64
+/// Reads the head, after the stub's link was null, and returns its room.
+pub(crate) fn head_of_stub<E: Drop>(words: &Words<E>, seat: &mut PartySeat<E>) -> usize
     requires table { IsSeatOf seat.old.table_id words.now.table_id }
     requires stage { IsAtStage words.now.table_id.slots StubNull seat.old.me }
     ensures table { seat.new.table_id ≡ seat.old.table_id }
     ensures stub { result ≡ 0
         → moves_to (Event.Empty (name (view seat.old.me)) ∷ []) (Holding 0) seat.old.me seat.new.me }
     ensures room { result ≢ 0 → moves_to [] (Holding 0) seat.old.me seat.new.me × Blocked (view seat.new.me) }
+    ensures bit { bit_of (view seat.new.me).bits 0 ≡ bit_of (view seat.old.me).bits 0 }
 {
-    words.load::<HeadStub>(seat, HEAD)
+    pointed(words.load::<HeadStub>(seat, HEAD)).room
 }
 
-/// Reads the link of the tail that was after the stub.
-pub(crate) fn read_second<E: Drop>(words: &Words<E>, seat: &mut PartySeat<E>, tail: usize) -> u64
+/// Reads the link of the tail that was after the stub. If it leads on, returns the new tail.
+pub(crate) fn read_second<E: Drop>(
+    words: &Words<E>,
+    seat: &mut PartySeat<E>,
+    tail: RoomUse,
+) -> Option<RoomUse>
     requires table { IsSeatOf seat.old.table_id words.now.table_id }
-    requires stage { IsAtStage words.now.table_id.slots (Second tail) seat.old.me × (tail < words.now.table_id.slots) }
+    requires stage { IsAtStage words.now.table_id.slots (Second tail.room) seat.old.me
+        × (tail.room < words.now.table_id.slots) }
+    requires knows { HasUse seat.old.me tail }
     ensures table { seat.new.table_id ≡ seat.old.table_id }
-    ensures null { result ≡ 0 → moves_to [] (Null tail) seat.old.me seat.new.me }
-    ensures room { (r : ℕ) → result ≡ suc r → hands_out [] words.now.table_id.slots tail r seat.old.me seat.new.me }
+    ensures answer { MatchOption result
+        (moves_to [] (Null tail.room) seat.old.me seat.new.me × HasUse seat.new.me tail)
+        (λ r. hands_out [] words.now.table_id.slots tail.room r.room seat.old.me seat.new.me × HasUse seat.new.me r) }
 {
-    words.load::<Read>(seat, LINKS + tail)
+    leads_to(words.load::<Read>(seat, LINKS + tail.room), tail.bit)
 }
 
 /// Returns `true` if the tail, whose link was null, is the head too.
-pub(crate) fn is_head<E: Drop>(words: &Words<E>, seat: &mut PartySeat<E>, tail: usize) -> bool
+pub(crate) fn is_head<E: Drop>(words: &Words<E>, seat: &mut PartySeat<E>, tail: RoomUse) -> bool
     requires table { IsSeatOf seat.old.table_id words.now.table_id }
-    requires stage { IsAtStage words.now.table_id.slots (Null tail) seat.old.me × (tail < words.now.table_id.slots) }
+    requires stage { IsAtStage words.now.table_id.slots (Null tail.room) seat.old.me
+        × (tail.room < words.now.table_id.slots) }
+    requires knows { HasUse seat.old.me tail }
     ensures table { seat.new.table_id ≡ seat.old.table_id }
-    ensures alone { result ≡ true → moves_to [] (PutClear tail) seat.old.me seat.new.me }
-    ensures passed { result ≡ false → moves_to [] (Holding tail) seat.old.me seat.new.me × Blocked (view seat.new.me) }
+    ensures alone { result ≡ true → moves_to [] (PutClear tail.room) seat.old.me seat.new.me }
+    ensures passed { result ≡ false
+        → moves_to [] (Holding tail.room) seat.old.me seat.new.me × Blocked (view seat.new.me) }
+    ensures knows { HasUse seat.new.me tail }
 {
-    words.load::<Head>(seat, HEAD) == tail as u64
+    words.load::<Head>(seat, HEAD) == pointer(tail)
 }
 
-fn clear_stub<E: Drop>(words: &Words<E>, seat: &mut PartySeat<E>, _tail: usize)
+/// Begins a use of the stub's room, by which its link is null, and returns it.
+fn clear_stub<E: Drop>(words: &Words<E>, seat: &mut PartySeat<E>, _tail: RoomUse) -> RoomUse
     requires table { IsSeatOf seat.old.table_id words.now.table_id }
-    requires stage { IsAtStage words.now.table_id.slots (PutClear _tail) seat.old.me }
+    requires stage { IsAtStage words.now.table_id.slots (PutClear _tail.room) seat.old.me }
+    requires knows { HasUse seat.old.me _tail }
     ensures table { seat.new.table_id ≡ seat.old.table_id }
-    ensures answer { moves_to [] (PutSwap _tail) seat.old.me seat.new.me }
+    ensures answer { moves_to [] (PutSwap _tail.room) seat.old.me seat.new.me }
+    ensures knows { HasUse seat.new.me _tail × HasUse seat.new.me result × (result.room ≡ 0) }
 {
-    words.store::<ClearStub>(seat, LINKS, 0);
+    RoomUse {
+        room: 0,
+        bit: free_link(words.load::<ClearStub>(seat, LINKS)).1,
+    }
 }
 
-fn swap_stub<E: Drop>(words: &Words<E>, seat: &mut PartySeat<E>, _tail: usize) -> u64
+fn swap_stub<E: Drop>(
+    words: &Words<E>,
+    seat: &mut PartySeat<E>,
+    _tail: RoomUse,
+    stub: RoomUse,
+) -> RoomUse
     requires table { IsSeatOf seat.old.table_id words.now.table_id }
-    requires stage { IsAtStage words.now.table_id.slots (PutSwap _tail) seat.old.me }
+    requires stage { IsAtStage words.now.table_id.slots (PutSwap _tail.room) seat.old.me }
+    requires knows { HasUse seat.old.me _tail × HasUse seat.old.me stub × (stub.room ≡ 0) }
     ensures table { seat.new.table_id ≡ seat.old.table_id }
-    ensures answer { moves_to [] (PutLink _tail result) seat.old.me seat.new.me }
-    ensures near { result < words.now.table_id.slots }
+    ensures answer { moves_to [] (PutLink _tail.room result.room) seat.old.me seat.new.me }
+    ensures knows { HasUse seat.new.me _tail × HasUse seat.new.me stub × HasUse seat.new.me result }
+    ensures near { result.room < words.now.table_id.slots }
 {
-    words.swap::<SwapStub>(seat, HEAD, 0)
+    pointed(words.swap::<SwapStub>(seat, HEAD, pointer(stub)))
 }
 
-fn link_stub<E: Drop>(words: &Words<E>, seat: &mut PartySeat<E>, _tail: usize, old: usize)
+fn link_stub<E: Drop>(
+    words: &Words<E>,
+    seat: &mut PartySeat<E>,
+    _tail: RoomUse,
+    stub: RoomUse,
+    old: RoomUse,
+)
     requires table { IsSeatOf seat.old.table_id words.now.table_id }
-    requires stage { IsAtStage words.now.table_id.slots (PutLink _tail old) seat.old.me
-        × (old < words.now.table_id.slots) }
+    requires stage { IsAtStage words.now.table_id.slots (PutLink _tail.room old.room) seat.old.me
+        × (old.room < words.now.table_id.slots) }
+    requires knows { HasUse seat.old.me _tail × HasUse seat.old.me stub × HasUse seat.old.me old × (stub.room ≡ 0) }
     ensures table { seat.new.table_id ≡ seat.old.table_id }
-    ensures answer { moves_to [] (PutRead _tail) seat.old.me seat.new.me }
+    ensures answer { moves_to [] (PutRead _tail.room) seat.old.me seat.new.me }
+    ensures knows { HasUse seat.new.me _tail }
 {
-    words.store::<LinkStub>(seat, LINKS + old, 1);
+    words.store::<LinkStub>(seat, LINKS + old.room, link_to(stub, old.bit));
 }
 
 /// Puts the stub in at the head, after the tail.
 #[inline(never)]
-pub(crate) fn put_stub<E: Drop>(words: &Words<E>, seat: &mut PartySeat<E>, tail: usize)
+pub(crate) fn put_stub<E: Drop>(words: &Words<E>, seat: &mut PartySeat<E>, tail: RoomUse)
     requires table { IsSeatOf seat.old.table_id words.now.table_id }
-    requires stage { IsAtStage words.now.table_id.slots (PutClear tail) seat.old.me }
+    requires stage { IsAtStage words.now.table_id.slots (PutClear tail.room) seat.old.me }
+    requires knows { HasUse seat.old.me tail }
     ensures table { seat.new.table_id ≡ seat.old.table_id }
-    ensures answer { moves_to [] (PutRead tail) seat.old.me seat.new.me }
+    ensures answer { moves_to [] (PutRead tail.room) seat.old.me seat.new.me }
+    ensures knows { HasUse seat.new.me tail }
 {
-    clear_stub(words, seat, tail);
-    let old = swap_stub(words, seat, tail);
-    link_stub(words, seat, tail, old as usize);
+    let stub = clear_stub(words, seat, tail);
+    let old = swap_stub(words, seat, tail, stub);
+    link_stub(words, seat, tail, stub, old);
 }
 
 /// Takes the tail's element out of its slot, which the party has.

@@ -4,6 +4,7 @@
 ghost use Rattle.std.specs.Prelude.{◌≡◌, ◌<◌, [], ◌∷◌};
 ghost use Rattle.cordyceps_queue.specs.Shared.Parts.{IsSeatOf, Tries, Dequeued, TracksEnd};
 ghost use Rattle.cordyceps_queue.specs.History.{Event};
+ghost use Rattle.cordyceps_queue.specs.Shared.Uses.{HasUse};
 ghost use Rattle.cordyceps_shared.specs.Slots.{view};
 ghost use Rattle.cordyceps_queue.specs.Shared.Plays.{IsResting, IsHolding, IsAtStage};
 ghost use Rattle.cordyceps_queue.specs.Shared.View.{name, free_chain, all_rooms};
@@ -16,34 +17,47 @@ use crate::shared::stub_steps::{
     head_of_stub, is_head, look_first, put_stub, read_second, take_out,
 };
 use crate::shared::table::{PartySeat, Tried, Words};
+use crate::shared::uses::RoomUse;
 
 /// Continues a try after the stub was put in after the tail.
 #[inline(always)]
-fn after_tail<E: Drop>(words: &Words<E>, seat: &mut PartySeat<E>, tail: usize) -> (u64, Tried<E>)
+fn after_tail<E: Drop>(
+    words: &Words<E>,
+    seat: &mut PartySeat<E>,
+    tail: RoomUse,
+) -> (RoomUse, Tried<E>)
     requires table { IsSeatOf seat.old.table_id words.now.table_id }
-    requires stage { IsAtStage words.now.table_id.slots (PutRead tail) seat.old.me × (tail < words.now.table_id.slots) }
+    requires stage { IsAtStage words.now.table_id.slots (PutRead tail.room) seat.old.me
+        × (tail.room < words.now.table_id.slots) }
+    requires knows { HasUse seat.old.me tail }
     ensures table { seat.new.table_id ≡ seat.old.table_id }
-    ensures answer { Tries [] words.now.table_id.slots seat.old.me seat.new.me result.0 result.1 }
+    ensures answer { Tries [] words.now.table_id.slots seat.old.me seat.new.me result.0.room result.1 }
+    ensures knows { HasUse seat.new.me result.0 }
     ensures rooms { free_chain (view seat.new.me) ≡ all_rooms (view seat.old.me) }
 {
-    let next = reread(words, seat, tail);
-    if next == 0 {
-        return (tail as u64, Tried::Inconsistent);
+    match reread(words, seat, tail) {
+        Some(next) => (
+            next,
+            Tried::Out(tail.room, take_out(words, seat, tail.room)),
+        ),
+        None => (tail, Tried::Inconsistent),
     }
-    (next - 1, Tried::Out(tail, take_out(words, seat, tail)))
 }
 
 /// Continues a try at a null link of a tail that is not the stub.
 #[inline(always)]
-fn at_end<E: Drop>(words: &Words<E>, seat: &mut PartySeat<E>, tail: usize) -> (u64, Tried<E>)
+fn at_end<E: Drop>(words: &Words<E>, seat: &mut PartySeat<E>, tail: RoomUse) -> (RoomUse, Tried<E>)
     requires table { IsSeatOf seat.old.table_id words.now.table_id }
-    requires stage { IsAtStage words.now.table_id.slots (Null tail) seat.old.me × (tail < words.now.table_id.slots) }
+    requires stage { IsAtStage words.now.table_id.slots (Null tail.room) seat.old.me
+        × (tail.room < words.now.table_id.slots) }
+    requires knows { HasUse seat.old.me tail }
     ensures table { seat.new.table_id ≡ seat.old.table_id }
-    ensures answer { Tries [] words.now.table_id.slots seat.old.me seat.new.me result.0 result.1 }
+    ensures answer { Tries [] words.now.table_id.slots seat.old.me seat.new.me result.0.room result.1 }
+    ensures knows { HasUse seat.new.me result.0 }
     ensures rooms { free_chain (view seat.new.me) ≡ all_rooms (view seat.old.me) }
 {
     if !is_head(words, seat, tail) {
-        return (tail as u64, Tried::Inconsistent);
+        return (tail, Tried::Inconsistent);
     }
     put_stub(words, seat, tail);
     after_tail(words, seat, tail)
@@ -51,55 +65,68 @@ fn at_end<E: Drop>(words: &Words<E>, seat: &mut PartySeat<E>, tail: usize) -> (u
 
 /// Continues a try after the stub was passed.
 #[inline(always)]
-fn after_stub<E: Drop>(words: &Words<E>, seat: &mut PartySeat<E>, tail: usize) -> (u64, Tried<E>)
+fn after_stub<E: Drop>(
+    words: &Words<E>,
+    seat: &mut PartySeat<E>,
+    tail: RoomUse,
+) -> (RoomUse, Tried<E>)
     requires table { IsSeatOf seat.old.table_id words.now.table_id }
-    requires stage { IsAtStage words.now.table_id.slots (Second tail) seat.old.me × (tail < words.now.table_id.slots) }
+    requires stage { IsAtStage words.now.table_id.slots (Second tail.room) seat.old.me
+        × (tail.room < words.now.table_id.slots) }
+    requires knows { HasUse seat.old.me tail }
     ensures table { seat.new.table_id ≡ seat.old.table_id }
-    ensures answer { Tries [] words.now.table_id.slots seat.old.me seat.new.me result.0 result.1 }
+    ensures answer { Tries [] words.now.table_id.slots seat.old.me seat.new.me result.0.room result.1 }
+    ensures knows { HasUse seat.new.me result.0 }
     ensures rooms { free_chain (view seat.new.me) ≡ all_rooms (view seat.old.me) }
 {
-    let next = read_second(words, seat, tail);
-    if next == 0 {
-        return at_end(words, seat, tail);
+    match read_second(words, seat, tail) {
+        Some(next) => (
+            next,
+            Tried::Out(tail.room, take_out(words, seat, tail.room)),
+        ),
+        None => at_end(words, seat, tail),
     }
-    (next - 1, Tried::Out(tail, take_out(words, seat, tail)))
 }
 
-/// Tries once when the tail is the stub.
+/// Tries once when the tail is the stub, in the use with this bit.
 #[inline(always)]
-fn look_stub<E: Drop>(words: &Words<E>, seat: &mut PartySeat<E>) -> (u64, Tried<E>)
+fn look_stub<E: Drop>(words: &Words<E>, seat: &mut PartySeat<E>, bit: u64) -> (RoomUse, Tried<E>)
     requires table { IsSeatOf seat.old.table_id words.now.table_id }
     requires holding { IsHolding words.now.table_id.slots 0 seat.old.me }
+    requires knows { HasUse seat.old.me record { room = 0; bit = bit } }
     ensures table { seat.new.table_id ≡ seat.old.table_id }
     ensures answer { Tries (Event.Look (name (view seat.old.me)) ∷ []) words.now.table_id.slots seat.old.me seat.new.me
-        result.0 result.1 }
+        result.0.room result.1 }
+    ensures knows { HasUse seat.new.me result.0 }
     ensures rooms { free_chain (view seat.new.me) ≡ all_rooms (view seat.old.me) }
 {
-    let next = look_first(words, seat);
-    if next != 0 {
-        return after_stub(words, seat, next as usize - 1);
+    if let Some(next) = look_first(words, seat, bit) {
+        return after_stub(words, seat, next);
     }
+    let stub = RoomUse { room: 0, bit };
     if head_of_stub(words, seat) == 0 {
-        return (0, Tried::Empty);
+        return (stub, Tried::Empty);
     }
-    (0, Tried::Inconsistent)
+    (stub, Tried::Inconsistent)
 }
 
 /// Tries once, and leaves the room of an element that comes out unlinked to the free rooms.
 #[inline(always)]
-fn attempt<E: Drop>(words: &Words<E>, seat: &mut PartySeat<E>, tail: usize) -> (u64, Tried<E>)
+fn attempt<E: Drop>(words: &Words<E>, seat: &mut PartySeat<E>, tail: RoomUse) -> (RoomUse, Tried<E>)
     requires table { IsSeatOf seat.old.table_id words.now.table_id }
-    requires holding { IsHolding words.now.table_id.slots tail seat.old.me }
+    requires holding { IsHolding words.now.table_id.slots tail.room seat.old.me }
+    requires knows { HasUse seat.old.me tail }
     ensures table { seat.new.table_id ≡ seat.old.table_id }
     ensures answer { Tries (Event.Look (name (view seat.old.me)) ∷ []) words.now.table_id.slots seat.old.me seat.new.me
-        result.0 result.1 }
+        result.0.room result.1 }
+    ensures knows { HasUse seat.new.me result.0 }
     ensures rooms { free_chain (view seat.new.me) ≡ all_rooms (view seat.old.me) }
 {
-    if tail == 0 {
-        return look_stub(words, seat);
+    if tail.room == 0 {
+        return look_stub(words, seat, tail.bit);
     }
     match look(words, seat, tail) {
-        Some((next, item)) => (next, Tried::Out(tail, item)),
+        Some((next, item)) => (next, Tried::Out(tail.room, item)),
         None => at_end(words, seat, tail),
     }
 }
@@ -111,21 +138,23 @@ pub(crate) fn advance<E: Drop>(
     words: &Words<E>,
     seat: &mut PartySeat<E>,
     spare: &mut Spare,
-    tail: usize,
-) -> (u64, Tried<E>)
+    tail: RoomUse,
+) -> (RoomUse, Tried<E>)
     requires table { IsSeatOf seat.old.table_id words.now.table_id }
-    requires holding { IsHolding words.now.table_id.slots tail seat.old.me }
+    requires holding { IsHolding words.now.table_id.slots tail.room seat.old.me }
+    requires knows { HasUse seat.old.me tail }
     requires tracks { TracksEnd spare.old (all_rooms (view seat.old.me)) }
     ensures table { seat.new.table_id ≡ seat.old.table_id }
-    ensures holding { IsHolding words.now.table_id.slots result.0 seat.new.me }
+    ensures holding { IsHolding words.now.table_id.slots result.0.room seat.new.me }
     ensures tracks { TracksEnd spare.new (all_rooms (view seat.new.me)) }
     ensures answer { Tries (Event.Look (name (view seat.old.me)) ∷ []) words.now.table_id.slots seat.old.me seat.new.me
-        result.0 result.1 }
+        result.0.room result.1 }
+    ensures knows { HasUse seat.new.me result.0 }
 {
     let (next, tried) = attempt(words, seat, tail);
     match tried {
         Tried::Out(room, item) => {
-            add_room(words, seat, spare, room, next);
+            add_room(words, seat, spare, room, next.room);
             (next, Tried::Out(room, item))
         }
         Tried::Empty => (next, Tried::Empty),
@@ -148,10 +177,14 @@ pub(crate) fn try_dequeue<E: Drop>(
     ensures answer { Dequeued words.now.table_id.slots seat.old.me seat.new.me result }
 {
     let right = take(words, seat);
-    if right == 0 {
+    if right.room == 0 {
         return None;
     }
-    let (tail, tried) = advance(words, seat, spare, right as usize - 1);
-    give(words, seat, tail as usize);
+    let tail = RoomUse {
+        room: right.room - 1,
+        bit: right.bit,
+    };
+    let (tail, tried) = advance(words, seat, spare, tail);
+    give(words, seat, tail);
     Some(tried)
 }

@@ -28,13 +28,13 @@ returns-then-tail-eq0-clause-whole g c is =
 pub invariant_of-result-2 : goal.invariant_of-result-2
 invariant_of-result-2 g c =
     let e = c.take-tail.ensures in
-    let a = subst (λ n. AsksRight c.args.words.now.table_id.slots n c.party.inside.seat.me c.take-tail.new.seat.me) (pred_suc c.take-tail.result c.if-tail-eq0.false) e.took in
+    let a = subst (λ n. AsksRight c.args.words.now.table_id.slots n c.party.inside.seat.me c.take-tail.new.seat.me) (pred_suc c.take-tail.result.room c.if-tail-eq0.false) e.took in
     let there : c.party.inside.seat.table_id ≡ c.args.words.now.table_id = search rules in
-    right_taken c.party.inside.seat.table_id c.take-tail.new.seat.table_id c.args.words.now.table_id _ c.party.inside.seat.me c.take-tail.new.seat.me _ c.party.invariant e.table there a
+    (right_taken c.party.inside.seat.table_id c.take-tail.new.seat.table_id c.args.words.now.table_id _ c.party.inside.seat.me c.take-tail.new.seat.me _ c.party.invariant e.table there a, e.knows _ (pred_suc c.take-tail.result.room c.if-tail-eq0.false))
 
 pub returns-clause-answer : goal.returns-clause-answer
 returns-clause-answer g c =
     let e = c.take-tail.ensures in
-    let a = subst (λ n. AsksRight c.args.words.now.table_id.slots n c.party.inside.seat.me c.take-tail.new.seat.me) (pred_suc c.take-tail.result c.if-tail-eq0.false) e.took in
+    let a = subst (λ n. AsksRight c.args.words.now.table_id.slots n c.party.inside.seat.me c.take-tail.new.seat.me) (pred_suc c.take-tail.result.room c.if-tail-eq0.false) e.took in
     let t = takes_right c.party.inside.seat.table_id c.take-tail.new.seat.table_id c.args.words.now.table_id.slots _ c.party.inside.seat.me c.take-tail.new.seat.me e.table a in
     subst (λ u. TakesRight u (standing c.take-tail.new.seat.table_id c.take-tail.new.seat.me.0)) c.party.view_is t

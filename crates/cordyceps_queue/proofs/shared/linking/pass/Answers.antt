@@ -2,7 +2,7 @@ use Rattle.std.proofs.Common.{◌≡◌, ◌+◌, ◌-◌, ◌<◌, length, take
 use Rattle.cordyceps_shared.specs.FreeChains.{leads}
 use Rattle.cordyceps_shared.proofs.Places.{near_first, near_drop}
 use Rattle.cordyceps_shared.specs.declared.layout.TheConstants.{LINKS}
-use Rattle.cordyceps_queue.proofs.SharedTheory.SpareKeeps.{skips}
+use Rattle.cordyceps_queue.proofs.SharedTheory.UsesShare.{skips}
 use Rattle.cordyceps_shared.proofs.TrackRooms.{room_at, last_same}
 use Rattle.cordyceps_queue.proofs.shared.linking.pass.Goals as goal
 
@@ -30,8 +30,8 @@ overflow_add-last g c =
     let table = c.requires.table in
     search rules
 
-pub load-at-requires : goal.load-at-requires
-load-at-requires g c =
+pub load-requires : goal.load-requires
+load-requires g c =
     let rooms = c.args.seat.now.me.0.free in
     let count = c.requires.rooms.0.tracks.count in
     let few = c.requires.rooms.1 in
@@ -56,10 +56,11 @@ loop-room-preserved g c =
     let at = i.2 t.0 t.1 t.2 in
     let here : c.loop-room.at - 1 ≡ t.0 = omega arith in
     let same = i.1 in
-    let s = c.load-at.ensures.2 (take n rooms) t.1 t.0 (ap (λ m. m.0.free) same ∙ t.5) (ap (λ z. LINKS + z) here) in (
+    let s = c.load.ensures.2 (take n rooms) t.1 t.0 (ap (λ m. m.0.free) same ∙ t.5) (ap (λ z. LINKS + z) here) in
+    let d = (c.free_link-at.ensures (leads t.1 c.loop-room.seat.me.0.end) s.1.0 s.1.1 s.1.2).0 in (
       search rules,
       s.0 ∙ same,
-      (λ r rs e. s.1 ∙ ap (λ l. leads l c.loop-room.seat.me.0.end) (sym t.3 ∙ (ap (λ z. drop z rooms) (sym (add-one n)) ∙ e))),
+      (λ r rs e. d ∙ ap (λ l. leads l c.loop-room.seat.me.0.end) (sym t.3 ∙ (ap (λ z. drop z rooms) (sym (add-one n)) ∙ e))),
       (λ before r e. here ∙ last_same (take n rooms) before t.0 r (sym t.4 ∙ (ap (λ z. take z rooms) (sym (add-one n)) ∙ e))),
-      (λ _. s.1 ∙ (λ i. leads ((sym t.3 ∙ ap (λ z. drop z rooms) (sym (add-one n))) i) (same i).0.end)),
+      (λ _. d ∙ (λ i. leads ((sym t.3 ∙ ap (λ z. drop z rooms) (sym (add-one n))) i) (same i).0.end)),
     )

@@ -1,5 +1,5 @@
 use Rattle.std.proofs.Common.{rules, sym, ap, ◌∙◌}
-use Rattle.cordyceps_queue.proofs.SharedTheory.PartingKeeps.{joins, learns}
+use Rattle.cordyceps_queue.proofs.SharedTheory.UsesShare.{joins, learns}
 use Rattle.cordyceps_queue.proofs.shared.parting.absorb.Goals as goal
 
 pub join_seat-requires : goal.join_seat-requires

@@ -1,5 +1,5 @@
 use Rattle.std.proofs.Common.{rules}
-use Rattle.cordyceps_queue.proofs.SharedTheory.PartingKeeps.{splits}
+use Rattle.cordyceps_queue.proofs.SharedTheory.UsesShare.{splits}
 use Rattle.cordyceps_queue.proofs.shared.parting.cut.Goals as goal
 
 pub split_seat-requires : goal.split_seat-requires

@@ -1,7 +1,7 @@
-use Rattle.std.proofs.Common.{◌∷◌, Option, None, refl, sym, ap, ◌∙◌, subst, rules}
+use Rattle.std.proofs.Common.{◌∷◌, ◌∙◌, ◌-◌, Option, None, refl, sym, ap, subst, rules}
 use Rattle.cordyceps_shared.specs.FreeChains.{leads}
 use Rattle.cordyceps_shared.specs.Places.{ItemAt}
-use Rattle.cordyceps_queue.proofs.SharedTheory.EnqueueKeeps.{clears}
+use Rattle.cordyceps_queue.proofs.SharedTheory.UsesKeep.{begins}
 use Rattle.cordyceps_queue.proofs.shared.steps.clear.Goals as goal
 
 pub overflow_add-room : goal.overflow_add-room
@@ -10,26 +10,35 @@ overflow_add-room g c =
     let near = c.requires.rest.4 0 c.args.room (subst (λ l. ItemAt l 0 c.args.room) (sym r.1) refl) in
     let t = c.requires.table in search rules
 
-pub swap-requires : goal.swap-requires
-swap-requires g c =
+pub load-requires : goal.load-requires
+load-requires g c =
     let r = c.requires.room in
     let i = c.requires.item in
     let q = c.requires.rest in
     let near = q.4 0 c.args.room (subst (λ l. ItemAt l 0 c.args.room) (sym r.1) refl) in
-    let t = c.requires.table in (search rules, search rules, clears _ _ _ _ c.args.room r.0 _ c.args._item.now refl i q.0 q.1 r.1 q.3)
+    let t = c.requires.table in (search rules, search rules, begins _ _ _ _ c.args.room r.0 _ c.args._item.now refl i q.0 q.1 r.1 q.3)
 
 pub returns-clause-cleared : goal.returns-clause-cleared
 returns-clause-cleared g c =
     let r = c.requires.room in
-    let l = c.swap.ensures.2 c.args.room r.0 c.args._item.now r.1 c.requires.item in
+    let u = c.load.ensures.2 in
+    let l = u.5 c.args.room r.0 c.args._item.now r.1 c.requires.item in
+    let d = c.free_link.ensures u.0 u.1 u.2 u.3 in
     let none : Option g.row.E.Denot = None in record {
       stage = l.0;
       item = l.1;
       free = r.1 ∙ ap (λ z. c.args.room ∷ z) (sym l.2);
       end = l.7;
-      next_is = l.8 ∙ (λ i. leads (sym l.2 i) (sym l.7 i));
+      next_is = d.0 ∙ (l.8 ∙ (λ i. leads (sym l.2 i) (sym l.7 i)));
       back = l.3 ∙ c.requires.rest.1;
       hand = l.4 ∙ ap (λ z. (c.args.room, none) ∷ z) c.requires.rest.2;
       near = l.5;
       sees = l.6;
     }
+
+pub returns-clause-knows : goal.returns-clause-knows
+returns-clause-knows g c =
+    let r = c.requires.room in
+    let u = c.load.ensures.2 in
+    let d = c.free_link.ensures u.0 u.1 u.2 u.3 in
+    (u.4 c.args.room r.0 r.1 ∙ sym d.1, d.2)

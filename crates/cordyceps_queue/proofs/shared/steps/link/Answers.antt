@@ -1,5 +1,5 @@
-use Rattle.std.proofs.Common.{refl, rules}
-use Rattle.cordyceps_queue.proofs.SharedTheory.EnqueueKeeps.{links_on}
+use Rattle.std.proofs.Common.{◌+◌, ◌*◌, suc, refl, sym, ◌∙◌, rules}
+use Rattle.cordyceps_queue.proofs.SharedTheory.UsesWrite.{links_to}
 use Rattle.cordyceps_queue.proofs.shared.steps.link.Goals as goal
 
 pub store-requires : goal.store-requires
@@ -7,4 +7,5 @@ store-requires g c =
     let t = c.requires.table in
     let p = c.requires.stage in
     let n = c.requires.near in
-    (search rules, search rules, links_on _ _ _ _ _ c.args.room c.args.old refl refl p.0 n.0 n.2)
+    let u = c.requires.knows in
+    (search rules, search rules, links_to _ _ _ _ _ c.args.to.room c.args.old.room refl (c.link_to.ensures ∙ (λ i. 4 * suc c.args.to.room + 2 * sym u.0.0 i + sym u.1.0 i)) p.0 n.0 n.2)

@@ -1,9 +1,11 @@
-use Rattle.std.proofs.Common.{◌∷◌, [], sym, ap, ◌∙◌, subst, rules}
+use Rattle.std.proofs.Common.{◌∷◌, [], ◌+◌, ◌*◌, sym, ap, refl, ◌∙◌, subst, rules}
 use Rattle.atomic_table.specs.Table.{rest}
 use Rattle.cordyceps_queue.specs.History.{Event}
+use Rattle.cordyceps_queue.specs.Shared.Bits.{Knows}
 use Rattle.cordyceps_queue.specs.Shared.Plays.{Sees}
-use Rattle.cordyceps_queue.specs.Shared.View.{View, name}
-use Rattle.cordyceps_queue.proofs.SharedTheory.EnqueueKeeps.{swaps}
+use Rattle.cordyceps_queue.specs.Shared.Uses.{HasUse}
+use Rattle.cordyceps_queue.specs.Shared.View.{View, name, bit_of}
+use Rattle.cordyceps_queue.proofs.SharedTheory.UsesWrite.{puts_in, finds_use, still_has}
 use Rattle.cordyceps_queue.proofs.shared.steps.swap_in.Goals as goal
 
 pub swap-requires : goal.swap-requires
@@ -14,7 +16,8 @@ swap-requires g c =
     let ready = ap (λ m. m.0.stage) x ∙ c.requires.stage.0 in
     let item = ap (λ m. m.0.item) x ∙ c.requires.stage.1 in
     let hand = ap (λ m. m.1) x in
-    (search rules, search rules, swaps _ _ _ c.args.room c.args.item cs ready item hand c.requires.near.0 (λ e. c.requires.near.1 (sym (ap (λ m. m.0.known.share) x) ∙ e)))
+    let n = c.pointer.ensures ∙ (ap (λ b. 2 * c.args.to.room + b) (sym c.requires.knows.0) ∙ ap (λ m. 2 * c.args.to.room + bit_of m.0.bits c.args.to.room) (sym x)) in
+    (search rules, search rules, puts_in _ _ _ _ c.args.to.room c.args.item cs n ready item hand c.requires.near.0 (λ e. c.requires.near.1 (sym (ap (λ m. m.0.known.share) x) ∙ e)))
 
 pub returns-clause-swapped : goal.returns-clause-swapped
 returns-clause-swapped g c =
@@ -22,7 +25,8 @@ returns-clause-swapped g c =
     let cs = rest c.args.seat.now.me.1 in
     let ready = ap (λ m. m.0.stage) x ∙ c.requires.stage.0 in
     let item = ap (λ m. m.0.item) x ∙ c.requires.stage.1 in
-    let s = c.swap.ensures.2 c.args.room c.args.item cs ready item (ap (λ m. m.1) x) in record {
+    let f = finds_use c.swap.new.seat.me c.swap.result c.pointed.result _ c.swap.ensures.2.1 c.pointed.ensures in
+    let s = f.1 c.args.to.room c.args.item cs ready item (ap (λ m. m.1) x) in record {
       stage = s.0;
       free = s.1 ∙ ap (λ m. m.0.free) x;
       end = s.6 ∙ ap (λ m. m.0.end) x;
@@ -31,3 +35,11 @@ returns-clause-swapped g c =
       near = s.4;
       sees = subst (λ (z : View g.row.E.Denot). Sees z (Event.Swap (name z) c.args.item ∷ []) c.swap.new.seat.me.0) (ap (λ m. m.0) x) s.5;
     }
+
+pub returns-clause-knows : goal.returns-clause-knows
+returns-clause-knows g c =
+    let x = c.exchange.ensures.3 in
+    let ready = ap (λ m. m.0.stage) x ∙ c.requires.stage.0 in
+    let f = finds_use c.swap.new.seat.me c.swap.result c.pointed.result _ c.swap.ensures.2.1 c.pointed.ensures in
+    let before : HasUse c.exchange.new.seat.me c.args.to = (ap (λ m. bit_of m.0.bits c.args.to.room) x ∙ c.requires.knows.0, c.requires.knows.1) in
+    (still_has c.exchange.new.seat.me c.swap.new.seat.me c.args.to c.swap.ensures.2.0 (subst (λ l. Knows l c.args.to.room) (sym ready) refl) before, f.0)

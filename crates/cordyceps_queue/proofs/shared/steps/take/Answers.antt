@@ -1,9 +1,11 @@
-use Rattle.std.proofs.Common.{ℕ, List, sym, ap, ◌∙◌, rules}
+use Rattle.std.proofs.Common.{ℕ, List, sym, ap, ◌∙◌, subst, rules}
 use mathlib.Core.Option.{none}
 use Rattle.atomic_table.specs.Table.{step}
 use Rattle.cordyceps_shared.specs.declared.layout.TheConstants.{RIGHT}
+use Rattle.cordyceps_queue.specs.Shared.Bits.{IsBit}
+use Rattle.cordyceps_queue.specs.Shared.Parts.{AsksRight}
 use Rattle.cordyceps_queue.specs.Shared.Plays.{carry}
-use Rattle.cordyceps_queue.proofs.SharedTheory.HolderAllowed.{takes_right}
+use Rattle.cordyceps_queue.proofs.SharedTheory.UsesWrite.{asks_right}
 use Rattle.cordyceps_queue.proofs.SharedTheory.PartsJoin.{takes_by, none_near, may_join}
 use Rattle.cordyceps_queue.proofs.shared.steps.take.Goals as goal
 
@@ -13,8 +15,17 @@ swap-requires g c =
     let t = c.requires.table in (
       search rules,
       search rules,
-      takes_right _ _ _ (q.2 ∙ ap (λ (l : List ℕ). carry l) (sym q.1)) (none_near _ _ q.1) q.3 (may_join c.args.seat.now.me.0 q.1) q.0,
+      asks_right _ _ _ (q.2 ∙ ap (λ (l : List ℕ). carry l) (sym q.1)) (none_near _ _ q.1) q.3 (may_join c.args.seat.now.me.0 q.1) q.0,
     )
 
 pub returns-clause-took : goal.returns-clause-took
-returns-clause-took g c = takes_by (step c.args.words.now.table_id.slots RIGHT 0 0 none) _ _ c.requires.rest _ c.swap.ensures.2
+returns-clause-took g c =
+    let u = c.swap.ensures.2 in
+    let e = c.pointed.ensures u.0 u.1 u.2 u.3 in
+    subst (λ n. AsksRight c.args.words.now.table_id.slots n c.args.seat.now.me c.swap.new.seat.me) (sym e.0) (takes_by (step c.args.words.now.table_id.slots RIGHT 0 0 none) _ _ c.requires.rest _ u.5)
+
+pub returns-clause-knows : goal.returns-clause-knows
+returns-clause-knows g c t is =
+    let u = c.swap.ensures.2 in
+    let e = c.pointed.ensures u.0 u.1 u.2 u.3 in
+    (u.4 t (sym e.0 ∙ is) ∙ sym e.1, subst IsBit (sym e.1) u.3)

@@ -24,18 +24,18 @@ returns-then-right-eq0-clause-answer g c =
     let took = subst (λ n. AsksRight c.args.words.now.table_id.slots n c.args.seat.now.me c.take-right.new.seat.me) c.if-right-eq0.true c.take-right.ensures.took in
     (took.1.2 ∙ (ap (λ l. c.args.seat.now.me.0.free ++ l) c.requires.rest.1 ∙ append-nil c.args.seat.now.me.0.free), took.1.4)
 
-pub advance-tail-requires-clause-table : goal.advance-tail-requires-clause-table
-advance-tail-requires-clause-table g c = (c.take-right.ensures.table ∙ c.requires.table.0, c.requires.table.1)
+pub advance-tried-requires-clause-table : goal.advance-tried-requires-clause-table
+advance-tried-requires-clause-table g c = (c.take-right.ensures.table ∙ c.requires.table.0, c.requires.table.1)
 
-pub advance-tail-requires-clause-holding : goal.advance-tail-requires-clause-holding
-advance-tail-requires-clause-holding g c =
-    let took = subst (λ n. AsksRight c.args.words.now.table_id.slots n c.args.seat.now.me c.take-right.new.seat.me) (pred_suc c.take-right.result c.if-right-eq0.false) c.take-right.ensures.took in took.0
+pub advance-tried-requires-clause-holding : goal.advance-tried-requires-clause-holding
+advance-tried-requires-clause-holding g c =
+    let took = subst (λ n. AsksRight c.args.words.now.table_id.slots n c.args.seat.now.me c.take-right.new.seat.me) (pred_suc c.take-right.result.room c.if-right-eq0.false) c.take-right.ensures.took in took.0
 
 pub give-requires-clause-table : goal.give-requires-clause-table
-give-requires-clause-table g c = (c.advance-tail.ensures.table ∙ (c.take-right.ensures.table ∙ c.requires.table.0), c.requires.table.1)
+give-requires-clause-table g c = (c.advance-tried.ensures.table ∙ (c.take-right.ensures.table ∙ c.requires.table.0), c.requires.table.1)
 
 pub give-requires-clause-holding : goal.give-requires-clause-holding
-give-requires-clause-holding g c = c.advance-tail.ensures.holding
+give-requires-clause-holding g c = c.advance-tried.ensures.holding
 
 pub returns-then-right-eq0-clause-tracks : goal.returns-then-right-eq0-clause-tracks
 returns-then-right-eq0-clause-tracks g c =
@@ -44,20 +44,20 @@ returns-then-right-eq0-clause-tracks g c =
     let took = subst (λ n. AsksRight c.args.words.now.table_id.slots n m k) c.if-right-eq0.true c.take-right.ensures.took in
     subst (TracksEnd c.args.spare.now) (sym (moved_rooms (Event.Busy (name m.0) ∷ []) Rest m k took.1 ∙ bare_rooms m.0 c.requires.rest.1)) c.requires.tracks
 
-pub advance-tail-requires-clause-tracks : goal.advance-tail-requires-clause-tracks
-advance-tail-requires-clause-tracks g c =
+pub advance-tried-requires-clause-tracks : goal.advance-tried-requires-clause-tracks
+advance-tried-requires-clause-tracks g c =
     let m = c.args.seat.now.me in
     let k = c.take-right.new.seat.me in
-    let took = subst (λ n. AsksRight c.args.words.now.table_id.slots n m k) (pred_suc c.take-right.result c.if-right-eq0.false) c.take-right.ensures.took in
-    subst (TracksEnd c.args.spare.now) (sym (bare_rooms k.0 took.1.1 ∙ (moved_rooms (Event.Take (name m.0) ∷ []) (Holding (c.take-right.result - 1)) m k took.1 ∙ bare_rooms m.0 c.requires.rest.1))) c.requires.tracks
+    let took = subst (λ n. AsksRight c.args.words.now.table_id.slots n m k) (pred_suc c.take-right.result.room c.if-right-eq0.false) c.take-right.ensures.took in
+    subst (TracksEnd c.args.spare.now) (sym (bare_rooms k.0 took.1.1 ∙ (moved_rooms (Event.Take (name m.0) ∷ []) (Holding (c.take-right.result.room - 1)) m k took.1 ∙ bare_rooms m.0 c.requires.rest.1))) c.requires.tracks
 
 pub returns-clause-tracks : goal.returns-clause-tracks
 returns-clause-tracks g c =
-    let l = c.advance-tail.new.seat.me in
-    subst (TracksEnd c.advance-tail.new.spare) (sym (moved_rooms (Event.Free (name l.0) ∷ []) Rest l c.give.new.seat.me c.give.ensures.answer)) c.advance-tail.ensures.tracks
+    let l = c.advance-tried.new.seat.me in
+    subst (TracksEnd c.advance-tried.new.spare) (sym (moved_rooms (Event.Free (name l.0) ∷ []) Rest l c.give.new.seat.me c.give.ensures.answer)) c.advance-tried.ensures.tracks
 
 pub returns-clause-table : goal.returns-clause-table
-returns-clause-table g c = c.give.ensures.table ∙ (c.advance-tail.ensures.table ∙ c.take-right.ensures.table)
+returns-clause-table g c = c.give.ensures.table ∙ (c.advance-tried.ensures.table ∙ c.take-right.ensures.table)
 
 pub returns-clause-rest : goal.returns-clause-rest
 returns-clause-rest g c = c.give.ensures.rest
@@ -65,5 +65,8 @@ returns-clause-rest g c = c.give.ensures.rest
 pub returns-clause-answer : goal.returns-clause-answer
 returns-clause-answer g c =
     let slots = c.args.words.now.table_id.slots in
-    let took = subst (λ n. AsksRight slots n c.args.seat.now.me c.take-right.new.seat.me) (pred_suc c.take-right.result c.if-right-eq0.false) c.take-right.ensures.took in
-    whole_try slots _ c.advance-tail.result.0 c.args.seat.now.me c.take-right.new.seat.me c.advance-tail.new.seat.me c.give.new.seat.me c.advance-tail.result.1 c.requires.rest took.1 c.advance-tail.ensures.answer c.give.ensures.answer
+    let took = subst (λ n. AsksRight slots n c.args.seat.now.me c.take-right.new.seat.me) (pred_suc c.take-right.result.room c.if-right-eq0.false) c.take-right.ensures.took in
+    whole_try slots _ c.advance-tried.result.0.room c.args.seat.now.me c.take-right.new.seat.me c.advance-tried.new.seat.me c.give.new.seat.me c.advance-tried.result.1 c.requires.rest took.1 c.advance-tried.ensures.answer c.give.ensures.answer
+
+pub advance-tried-requires-clause-knows : goal.advance-tried-requires-clause-knows
+advance-tried-requires-clause-knows g c = c.take-right.ensures.knows _ (pred_suc c.take-right.result.room c.if-right-eq0.false)

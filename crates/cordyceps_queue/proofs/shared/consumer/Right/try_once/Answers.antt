@@ -11,31 +11,31 @@ use Rattle.cordyceps_queue.proofs.SharedTheory.RightHolds.{consuming_then, consu
 use Rattle.cordyceps_queue.proofs.shared.consumer.Right.try_once.Goals.{in-Out, in-Empty, in-Inconsistent}
 use Rattle.cordyceps_queue.proofs.shared.consumer.Right.try_once.Goals as goal
 
-pub advance-tail-requires-clause-table : goal.advance-tail-requires-clause-table
-advance-tail-requires-clause-table g c =
+pub advance-tried-requires-clause-table : goal.advance-tried-requires-clause-table
+advance-tried-requires-clause-table g c =
     let there : c.self.inside.seat.table_id ≡ c.args.words.now.table_id = ap (λ u. u.table) c.self.view_is ∙ c.requires in
-    (there, subst (λ z. IsTable z) there c.self.invariant.table)
+    (there, subst (λ z. IsTable z) there c.self.invariant.0.table)
 
-pub advance-tail-requires-clause-holding : goal.advance-tail-requires-clause-holding
-advance-tail-requires-clause-holding g c =
+pub advance-tried-requires-clause-holding : goal.advance-tried-requires-clause-holding
+advance-tried-requires-clause-holding g c =
     let there : c.self.inside.seat.table_id ≡ c.args.words.now.table_id = ap (λ u. u.table) c.self.view_is ∙ c.requires in
-    subst (λ z. IsHolding z.slots c.self.inside.tail c.self.inside.seat.me) there c.self.invariant.holds
+    subst (λ z. IsHolding z.slots c.self.inside.tail.room c.self.inside.seat.me) there c.self.invariant.0.holds
 
 pub invariant_of-self : goal.invariant_of-self
 invariant_of-self g c =
-    let e = c.advance-tail.ensures in
+    let e = c.advance-tried.ensures in
     let there : c.self.inside.seat.table_id ≡ c.args.words.now.table_id = ap (λ u. u.table) c.self.view_is ∙ c.requires in
-    consuming_then c.self.inside.seat.table_id c.advance-tail.new.seat.table_id c.args.words.now.table_id _ c.advance-tail.result.0 c.self.inside.seat.me c.advance-tail.new.seat.me _ _ c.advance-tail.result.1 c.self.invariant e.table there e.holding e.answer e.tracks
+    (consuming_then c.self.inside.seat.table_id c.advance-tried.new.seat.table_id c.args.words.now.table_id _ c.advance-tried.result.0.room c.self.inside.seat.me c.advance-tried.new.seat.me _ _ c.advance-tried.result.1 c.self.invariant.0 e.table there e.holding e.answer e.tracks, e.knows)
 
 pub returns-clause-answer : goal.returns-clause-answer
 returns-clause-answer g c =
-    let e = c.advance-tail.ensures in
+    let e = c.advance-tried.ensures in
     let z = c.self.inside.seat.table_id in
     let m = c.self.inside.seat.me in
-    let z' = c.advance-tail.new.seat.table_id in
-    let k = c.advance-tail.new.seat.me in
+    let z' = c.advance-tried.new.seat.table_id in
+    let k = c.advance-tried.new.seat.me in
     let slots = c.args.words.now.table_id.slots in
-    let t = c.advance-tail.result.0 in
+    let t = c.advance-tried.result.0.room in
     elim c.match-tried.branch [
       | in-Out w ↦
           let a = subst (λ r. Tries (Look (name m.0) ∷ []) slots m k t r) w.in-Out.is e.answer in
@@ -50,15 +50,18 @@ returns-clause-answer g c =
 
 pub returns-clause-whole : goal.returns-clause-whole
 returns-clause-whole g c is =
-    let e = c.advance-tail.ensures in
+    let e = c.advance-tried.ensures in
     let m = c.self.inside.seat.me in
-    let k = c.advance-tail.new.seat.me in
+    let k = c.advance-tried.new.seat.me in
     let slots = c.args.words.now.table_id.slots in
-    let t = c.advance-tail.result.0 in
+    let t = c.advance-tried.result.0.room in
     elim c.match-tried.branch [
       | in-Out w ↦ rw w.result-is tt
       | in-Empty w ↦ rw w.result-is tt
       | in-Inconsistent w ↦
           let a = subst (λ r. Tries (Look (name m.0) ∷ []) slots m k t r) w.in-Inconsistent.is e.answer in
-          absurd (consuming_clear c.self.inside.seat.table_id c.advance-tail.new.seat.table_id slots _ t m k _ c.self.invariant e.table a (ap (λ u. u.share) c.self.view_is ∙ is))
+          absurd (consuming_clear c.self.inside.seat.table_id c.advance-tried.new.seat.table_id slots _ t m k _ c.self.invariant.0 e.table a (ap (λ u. u.share) c.self.view_is ∙ is))
     ]
+
+pub advance-tried-requires-clause-knows : goal.advance-tried-requires-clause-knows
+advance-tried-requires-clause-knows g c = c.self.invariant.1

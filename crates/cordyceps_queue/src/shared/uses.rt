@@ -1,0 +1,68 @@
+//! The uses of a room, and how the words of the table spell them.
+//!
+//! A room is used again and again. One bit says to which use of its room a word belongs: the next use of the room has
+//! the other bit. So a link that was written in an earlier use leads nowhere, and no step has to clear it.
+ghost use Rattle.std.specs.Prelude.{◌≡◌, ◌+◌, ◌*◌, ◌-◌, ◌<◌, ◌≤◌, ℕ, suc, MatchOption};
+ghost use Rattle.cordyceps_base.specs.declared.shared.TheConstants.{MAX_ROOMS};
+ghost use Rattle.cordyceps_queue.specs.Shared.Bits.{IsBit, IsLink, IsRead};
+
+/// A use of a room: the room, and the bit of the use.
+#[derive(Clone, Copy)]
+pub(crate) struct RoomUse {
+    pub(crate) room: usize,
+    pub(crate) bit: u64,
+}
+
+/// Returns the word that leads to a use of a room.
+#[inline(always)]
+pub(crate) fn pointer(to: RoomUse) -> u64
+    requires { (to.room ≤ MAX_ROOMS) × IsBit to.bit }
+    ensures { result ≡ 2 * to.room + to.bit }
+{
+    2 * to.room as u64 + to.bit
+}
+
+/// Returns the use of a room to which a word leads.
+#[inline(always)]
+pub(crate) fn pointed(word: u64) -> RoomUse
+    ensures { (room bit : ℕ) → word ≡ 2 * room + bit → IsBit bit → (result.room ≡ room) × (result.bit ≡ bit) }
+{
+    RoomUse {
+        room: (word / 2) as usize,
+        bit: word % 2,
+    }
+}
+
+/// Returns the link of a room in the use with this bit, which leads to a use of another room.
+#[inline(always)]
+pub(crate) fn link_to(to: RoomUse, bit: u64) -> u64
+    requires { (to.room ≤ MAX_ROOMS) × IsBit to.bit × IsBit bit }
+    ensures { result ≡ 4 * suc to.room + 2 * to.bit + bit }
+{
+    4 * (to.room as u64 + 1) + 2 * to.bit + bit
+}
+
+/// Returns what the link of a free room leads to, and the bit of the room's next use.
+#[inline(always)]
+pub(crate) fn free_link(link: u64) -> (u64, u64)
+    ensures { (next to bit : ℕ) → IsLink link next to bit → (result.0 ≡ next) × (result.1 ≡ 1 - bit) × IsBit result.1 }
+{
+    (link / 4, 1 - link % 2)
+}
+
+/// Returns the use of a room to which a link leads that was written in the use with this bit, and `None` if the link is
+/// of another use.
+#[inline(always)]
+pub(crate) fn leads_to(link: u64, bit: u64) -> Option<RoomUse>
+    requires { (next to : ℕ) × IsRead bit link next to }
+    ensures { (next to : ℕ) → IsRead bit link next to →
+        MatchOption result (next ≡ 0) (λ r. (next ≡ suc r.room) × (r.bit ≡ to)) }
+{
+    if link % 2 != bit {
+        return None;
+    }
+    Some(RoomUse {
+        room: (link / 4) as usize - 1,
+        bit: link / 2 % 2,
+    })
+}
