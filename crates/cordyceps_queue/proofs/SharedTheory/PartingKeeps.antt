@@ -1,21 +1,19 @@
 -- The rule of a queue's table at the start, and where a party is split in two or takes another in.
 use Rattle.std.proofs.Common.{◌≡◌, ◌≢◌, ◌⊎◌, ℕ, zero, suc, ◌+◌, ◌-◌, ◌≤◌, List, [], ◌∷◌, ◌++◌, map, reverse, length, replicate, set, take, drop, Option, Some, None, refl, sym, ap, ◌∙◌, subst, inl, inr, ⊎_elim, arith, length-set, append-nil}
 use Rattle.std.proofs.lemmas.List.{reverse-append}
-use mathlib.Core.Option.{some, none}
+use mathlib.Core.Option.{some}
 use native.Mathlib.Decide.{ℕ_discrete}
 use lib.ListN.{get_elem?, length-map, length-replicate}
-use lib.Seq.{set-get_or}
-use Rattle.atomic_table.specs.Table.{opening, Splits, Joins, Allows, step, keeps}
+use Rattle.atomic_table.specs.Table.{opening}
 use Rattle.atomic_table.proofs.Lists.{at_longer, set_else}
 use Rattle.cordyceps_shared.specs.Words as word
-use Rattle.cordyceps_shared.specs.declared.layout.TheConstants.{HEAD, LINKS}
+use Rattle.cordyceps_shared.specs.declared.layout.TheConstants.{LINKS}
 use Rattle.cordyceps_shared.specs.Histories.{events}
 use Rattle.cordyceps_shared.specs.Knowing.{SharesDisjoint}
 use Rattle.cordyceps_shared.specs.Shares.{Name}
 use Rattle.cordyceps_shared.proofs.Changing.{one_set, two_set, set_more, was_there}
 use Rattle.cordyceps_shared.proofs.Cutting.{owned_cut, fits_cut}
 use Rattle.cordyceps_shared.proofs.Joining.{owned_join, fits_join}
-use Rattle.cordyceps_shared.proofs.Naming.{joined_some}
 use Rattle.cordyceps_shared.proofs.Places.{at_take, empty_new, empty_drop, empty_take, empty_append}
 use Rattle.cordyceps_shared.proofs.Renaming.{relabel, events_relabel}
 use Rattle.cordyceps_shared.proofs.Standing as seats
@@ -24,9 +22,9 @@ use Rattle.cordyceps_queue.specs.declared.cores.stage.Stage.TheVariants.{Rest, C
 use Rattle.cordyceps_queue.specs.History.{Event, actor}
 use Rattle.cordyceps_shared.specs.Places.{ItemAt}
 use Rattle.cordyceps_queue.specs.Cores.Meets.{Owner, Shared, Spare, Unmade, OwnsRooms, AtStage, Meets}
-use Rattle.cordyceps_queue.specs.Shared.Parting.{view_keeping, view_giving, view_absorbing, view_absorbed, view_without_told, after_learn}
+use Rattle.cordyceps_queue.specs.Shared.Parting.{view_keeping, view_giving, view_absorbing, view_absorbed, view_without_told}
 use Rattle.cordyceps_queue.specs.Past.{IsLegalReversed, IsSettled}
-use Rattle.cordyceps_queue.specs.Shared.Plays.{SeatState, LegalReversed}
+use Rattle.cordyceps_queue.specs.Shared.Plays.{LegalReversed}
 use Rattle.cordyceps_shared.specs.FreeChains.{Links, MayJoin, leads}
 use Rattle.cordyceps_shared.proofs.FreeLinks.{links_drop, links_take, links_append}
 use Rattle.cordyceps_queue.specs.Shared.Parts.{AreNew}
@@ -35,7 +33,7 @@ use Rattle.cordyceps_queue.specs.Shared.Rule.{TableState, History, link_of, part
 use Rattle.cordyceps_queue.specs.Shared.View.{View, knows, name, newcomer, down_from, free_chain}
 use Rattle.cordyceps_queue.specs.Cores.Abstract.{AbstractParty}
 use Rattle.cordyceps_queue.proofs.CoreTheory.Basics.{some_inj}
-use Rattle.cordyceps_queue.proofs.SharedTheory.SeatNames.{party_was, name_known, names_differ, few_rooms, rest_linked, rest_unheld}
+use Rattle.cordyceps_queue.proofs.SharedTheory.SeatNames.{party_was, name_known, names_differ}
 use Rattle.cordyceps_queue.proofs.CoreTheory.SplitParties.{deal, deal_else, deal_here, deal_fixed, deal_others, deal_kept, deal_given, deal_both, Regroups, regroups_keep}
 use Rattle.cordyceps_queue.proofs.SharedTheory.WordsAsMachine.{core, party_at, rooms_of, parties_put, Stays}
 use Rattle.cordyceps_queue.proofs.SharedTheory.ReturnKeeps.{put_again}

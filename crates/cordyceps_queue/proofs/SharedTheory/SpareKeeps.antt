@@ -1,10 +1,8 @@
 -- A store to the link of a party's last free room, and a read of a free room's link, keep the rule of a queue's table.
-use Rattle.std.proofs.Common.{◌≡◌, ◌≢◌, ◌⊎◌, ℕ, ◌+◌, ◌-◌, ◌<◌, List, [], ◌∷◌, ◌++◌, length, reverse, set, get_or, Option, Some, None, refl, sym, ap, ◌∙◌, subst, arith, length-set}
-use mathlib.Core.Option.{some, none}
+use Rattle.std.proofs.Common.{◌≡◌, ◌≢◌, ◌⊎◌, ℕ, ◌+◌, ◌-◌, ◌<◌, List, [], ◌∷◌, ◌++◌, length, reverse, set, Option, Some, None, refl, sym, ap, ◌∙◌, subst, arith, length-set}
+use mathlib.Core.Option.{some}
 use native.Mathlib.Decide.{ℕ_discrete}
 use lib.ListN.{get_elem?}
-use lib.Seq.{set-get_or}
-use Rattle.atomic_table.specs.Table.{keeps, step}
 use Rattle.cordyceps_shared.specs.Counts.{times}
 use Rattle.cordyceps_shared.specs.FreeChains.{Links}
 use Rattle.cordyceps_shared.specs.Histories.{events}
@@ -12,7 +10,7 @@ use Rattle.cordyceps_shared.specs.Places.{ItemAt}
 use Rattle.cordyceps_shared.specs.Words as word
 use Rattle.cordyceps_shared.specs.declared.layout.TheConstants.{LINKS}
 use Rattle.cordyceps_shared.proofs.Changing.{one_set}
-use Rattle.cordyceps_shared.proofs.FreeLinks.{links_at, links_retied}
+use Rattle.cordyceps_shared.proofs.FreeLinks.{links_retied}
 use Rattle.cordyceps_shared.proofs.Places.{at_end, times_at}
 use Rattle.cordyceps_shared.proofs.Telling.{at_length, owned_same, fits_same}
 use Rattle.cordyceps_shared.proofs.Words.{head_beside_next, right_beside_next}
@@ -21,8 +19,6 @@ use Rattle.cordyceps_queue.specs.declared.cores.stage.Stage.TheVariants.{Rest, C
 use Rattle.cordyceps_queue.specs.History.{Event, actor}
 use Rattle.cordyceps_queue.specs.Cores.Meets.{Spare, Shared, Owed, Chain, AtStage, OwnsRooms, Meets}
 use Rattle.cordyceps_queue.specs.Cores.Abstract.{AbstractMachine, update}
-use Rattle.cordyceps_queue.specs.Shared.Plays.{SeatState}
-use Rattle.cordyceps_queue.specs.Shared.Plays as play
 use Rattle.cordyceps_queue.specs.Shared.Rule.{TableState, link_of, party, party_of, machine_of, AreLinked, PlainHolds}
 use Rattle.cordyceps_queue.specs.Shared.View.{View, knows}
 use Rattle.cordyceps_queue.proofs.CoreTheory.Basics.{put_other, at_within, at_more}

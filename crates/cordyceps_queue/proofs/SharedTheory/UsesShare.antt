@@ -1,12 +1,12 @@
 -- The rule of a queue's table at the start, and where free rooms are linked or read, or a party is split in two, takes
 -- another in or learns what it then knows.
-use Rattle.std.proofs.Common.{◌≡◌, ◌≢◌, ◌⊎◌, ℕ, zero, suc, ◌+◌, ◌*◌, ◌-◌, ◌<◌, ◌≤◌, List, [], ◌∷◌, ◌++◌, length, replicate, reverse, set, get_or, take, drop, append-nil, Option, Some, None, refl, sym, ap, ◌∙◌, subst, inl, inr, arith, length-append}
+use Rattle.std.proofs.Common.{◌≡◌, ◌≢◌, ◌⊎◌, ℕ, zero, suc, ◌+◌, ◌*◌, ◌<◌, List, [], ◌∷◌, ◌++◌, length, replicate, set, get_or, take, drop, append-nil, None, refl, sym, ap, ◌∙◌, subst, inl, inr, arith, length-append}
 use mathlib.Core.Option.{some, none}
 use native.Mathlib.Decide.{ℕ_discrete}
 use lib.ListN.{get_elem?}
 use lib.Seq.{set-get_or}
 use Rattle.atomic_table.specs.Table.{opening, keeps, step, Allows, Splits, Joins}
-use Rattle.cordyceps_shared.specs.FreeChains.{MayJoin, Links, leads}
+use Rattle.cordyceps_shared.specs.FreeChains.{MayJoin, Links}
 use Rattle.cordyceps_shared.specs.Places.{ItemAt}
 use Rattle.cordyceps_shared.specs.Words as word
 use Rattle.cordyceps_shared.specs.declared.layout.TheConstants.{HEAD, RIGHT, LINKS}
@@ -15,27 +15,25 @@ use Rattle.cordyceps_shared.proofs.FreeLinks.{links_at}
 use Rattle.cordyceps_shared.proofs.Naming.{joined_some}
 use Rattle.cordyceps_shared.proofs.Places.{at_end, at_take}
 use Rattle.cordyceps_shared.proofs.Standing as seats
-use Rattle.cordyceps_shared.proofs.Telling.{at_length}
 use Rattle.cordyceps_shared.proofs.Words.{next_set, next_beside_next}
 use Rattle.cordyceps_queue.specs.declared.cores.stage.Stage.TheVariants.{Rest}
-use Rattle.cordyceps_queue.specs.History.{Event, actor}
-use Rattle.cordyceps_queue.specs.Cores.Meets.{Shared, Spare}
-use Rattle.cordyceps_queue.specs.Shared.Bits.{IsBit, IsLink, IsOld, IsRight, Spells, Knows, Begun, KeepsUse, SpellsWords}
+use Rattle.cordyceps_queue.specs.History.{actor}
+use Rattle.cordyceps_queue.specs.Cores.Meets.{Spare}
+use Rattle.cordyceps_queue.specs.Shared.Bits.{IsLink, IsOld, IsRight, Spells, Knows, Begun, KeepsUse, SpellsWords}
 use Rattle.cordyceps_queue.specs.Shared.Parting.{view_keeping, view_giving, view_absorbing, view_absorbed, view_without_told, after_learn}
 use Rattle.cordyceps_queue.specs.Shared.Parts.{AreNew, AreNewWords}
 use Rattle.cordyceps_queue.specs.Shared.Plays.{SeatState, LegalReversed}
 use Rattle.cordyceps_queue.specs.Shared.Uses as play
-use Rattle.cordyceps_queue.specs.Shared.Rule.{TableState, PlainHolds, RuleHolds}
+use Rattle.cordyceps_queue.specs.Shared.Rule.{TableState, RuleHolds}
 use Rattle.cordyceps_queue.specs.Shared.View.{View, knows, newcomer, down_from, free_chain, bit_of}
-use Rattle.cordyceps_queue.proofs.CoreTheory.Basics.{at_more, at_split}
-use Rattle.cordyceps_queue.proofs.CoreTheory.ProducerSteps.{spare_shared}
-use Rattle.cordyceps_queue.proofs.SharedTheory.WordsAsMachine.{rooms_of, Stays, at_after}
+use Rattle.cordyceps_queue.proofs.CoreTheory.Basics.{at_more}
+use Rattle.cordyceps_queue.proofs.SharedTheory.WordsAsMachine.{rooms_of, Stays}
 use Rattle.cordyceps_queue.proofs.SharedTheory.EnqueueKeeps.{spare_one}
 use Rattle.cordyceps_queue.proofs.SharedTheory.SpareKeeps.{tied_kept, skip_kept}
-use Rattle.cordyceps_queue.proofs.SharedTheory.PartingKeeps.{Opens, opens, cut_kept, joint_kept, forgot_kept, legal_front, at_down_from}
+use Rattle.cordyceps_queue.proofs.SharedTheory.PartingKeeps.{opens, cut_kept, joint_kept, forgot_kept, legal_front, at_down_from}
 use Rattle.cordyceps_queue.proofs.SharedTheory.SeatNames.{few_rooms, rest_linked, rest_unheld}
 use Rattle.cordyceps_queue.proofs.SharedTheory.UsesKeep.{plain_table, mine}
-use Rattle.cordyceps_queue.proofs.SharedTheory.UsesSpell.{begun_not_spare, spare_not_in, spells_linked, use_linked}
+use Rattle.cordyceps_queue.proofs.SharedTheory.UsesSpell.{begun_not_spare, spare_not_in, spells_linked}
 
 module _ {E : Type 0} (s : TableState E) (k : RuleHolds s) where
   -- the words, where only views change

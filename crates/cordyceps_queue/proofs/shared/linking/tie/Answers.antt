@@ -1,4 +1,4 @@
-use Rattle.std.proofs.Common.{◌*◌, [], ◌∷◌, ◌++◌, length, refl, sym, ap, ◌∙◌, inr, arith, rules}
+use Rattle.std.proofs.Common.{length, refl, sym, ap, ◌∙◌, inr, arith, rules}
 use Rattle.cordyceps_shared.proofs.TrackRooms.{last_room}
 use Rattle.cordyceps_queue.specs.Shared.View.{free_chain}
 use Rattle.cordyceps_queue.proofs.SharedTheory.UsesShare.{ties}

@@ -1,4 +1,4 @@
-use Rattle.std.proofs.Common.{◌∷◌, ◌∙◌, ◌-◌, Option, None, refl, sym, ap, subst, rules}
+use Rattle.std.proofs.Common.{◌∷◌, ◌∙◌, Option, None, refl, sym, ap, subst, rules}
 use Rattle.cordyceps_shared.specs.FreeChains.{leads}
 use Rattle.cordyceps_shared.specs.Places.{ItemAt}
 use Rattle.cordyceps_queue.proofs.SharedTheory.UsesKeep.{begins}

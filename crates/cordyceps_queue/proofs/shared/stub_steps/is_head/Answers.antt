@@ -1,8 +1,8 @@
-use Rattle.std.proofs.Common.{◌≡◌, ◌≢◌, refl, sym, ap, ◌∙◌, subst, arith, rules}
+use Rattle.std.proofs.Common.{refl, sym, subst, rules}
 use Rattle.cordyceps_queue.specs.Shared.Bits.{Knows}
 use Rattle.cordyceps_queue.proofs.SharedTheory.PartsJoin.{stage_hand, none_near, may_join}
 use Rattle.cordyceps_queue.proofs.SharedTheory.UsesKeep.{heads_of}
-use Rattle.cordyceps_queue.proofs.SharedTheory.UsesWrite.{still_has, head_tells}
+use Rattle.cordyceps_queue.proofs.SharedTheory.UsesWrite.{still_has}
 use Rattle.cordyceps_queue.proofs.shared.stub_steps.is_head.Goals as goal
 
 pub load-requires : goal.load-requires

@@ -1,6 +1,5 @@
-use Rattle.std.proofs.Common.{◌+◌, ◌*◌, suc, refl, sym, ap, subst, inl, inr, ◌∙◌, rules}
+use Rattle.std.proofs.Common.{refl, sym, subst, inl, ◌∙◌, rules}
 use Rattle.cordyceps_queue.specs.Shared.Bits.{Knows}
-use Rattle.cordyceps_queue.specs.Shared.View.{bit_of}
 use Rattle.cordyceps_queue.proofs.SharedTheory.PartsJoin.{stage_hand, none_near, may_join}
 use Rattle.cordyceps_queue.proofs.SharedTheory.UsesWrite.{stub_linked, still_has, stub_link}
 use Rattle.cordyceps_queue.proofs.shared.stub_steps.link_stub.Goals as goal

@@ -1,4 +1,4 @@
-use Rattle.std.proofs.Common.{[], ◌∙◌}
+use Rattle.std.proofs.Common.{[]}
 use Rattle.cordyceps_queue.specs.declared.cores.stage.Stage.TheVariants.{Holding}
 use Rattle.cordyceps_queue.proofs.SharedTheory.PartsJoin.{stage_near, moved_rooms, hands_taken, tries_blocked}
 use Rattle.cordyceps_queue.proofs.shared.tries.after_tail.Goals as goal
