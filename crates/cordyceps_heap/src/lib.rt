@@ -4,4 +4,5 @@
 mod merging;
 mod ranked;
 mod renewing;
+pub mod sorting;
 pub mod stable_heap;
