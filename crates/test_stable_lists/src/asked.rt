@@ -1,4 +1,4 @@
-//! How often a sorted list with spots and a heap ask their order, which counts in a cell.
+//! How often a sorted list with spots, a heap and a sort ask their order, which counts in a cell.
 ghost use Rattle.std.specs.Prelude.{◌≡◌, refl, ⊤};
 ghost use Rattle.std.specs.Ordering.{nat_cmp};
 ghost use Rattle.std.proofs.Common.{subst, sym};
@@ -9,7 +9,9 @@ use crate::compared::{at_most, made, same};
 use crate::heap_calls::push_all;
 use crate::keys::{Key, Pair, make, spot_at};
 use crate::sorted_calls::{LONGEST, change, insert_all};
+use crate::sorting::drawn;
 use cordyceps_base::steps::Steps;
+use cordyceps_heap::sorting::sort_with_order;
 use cordyceps_heap::stable_heap::StableHeap;
 use cordyceps_single::sorted_list::Order;
 use cordyceps_stable::stable_sorted_list::StableSortedList;
@@ -230,4 +232,13 @@ fn a_heap_asks_as_often_as_its_lines_need(rt: HostRuntime) {
         ask_heap(&rt, rt.alloc(), &mut heap, call);
         same(&rt, asked.get(), *wanted);
     }
+}
+
+#[test]
+fn a_sort_asks_at_most_n_log_n_times(rt: HostRuntime) {
+    let (order, asked) = not_asked(&rt, rt.alloc());
+    let mut list = drawn(&rt, rt.alloc(), 1000);
+    sort_with_order(&mut list, &order);
+    // the base 2 logarithm of 1,000 is between 9.965 and 9.966
+    same(&rt, asked.get() <= 9965, true);
 }

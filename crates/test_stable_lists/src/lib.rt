@@ -1,4 +1,4 @@
-//! Tests of stable lists, of those that an order keeps sorted, and of heaps with spots: each call by tables, cursors by
+//! Tests of stable lists, of those that an order keeps sorted, and of heaps with spots, and of sorts: each call by tables, cursors by
 //! spots, drops, how often the order is asked, and many calls beside a vector.
 #![tactic(auto)]
 
@@ -24,6 +24,8 @@ mod sorted_calls;
 mod sorted_lists;
 #[cfg(test)]
 mod sorted_operations;
+#[cfg(test)]
+mod sorting;
 #[cfg(test)]
 mod spots;
 #[cfg(test)]
