@@ -27,6 +27,7 @@ pub mod list;
 pub mod mpsc_queue;
 pub mod replay;
 pub mod sorted_list;
+pub mod sorting;
 pub mod stable_heap;
 pub mod stable_list;
 pub mod stable_sorted_list;

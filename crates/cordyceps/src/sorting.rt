@@ -1,0 +1,3 @@
+//! Stable sorts of lists. The orders are those of `sorted_list`.
+
+pub use cordyceps_heap::sorting::{sort, sort_by, sort_by_key, sort_with_order};
