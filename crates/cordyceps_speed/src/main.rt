@@ -22,7 +22,7 @@ use cordyceps_speed_rows::free_lists::show_free_lists;
 use cordyceps_speed_rows::lists::show_lists;
 use cordyceps_speed_rows::queues::show_queues;
 use cordyceps_speed_rows::sorteds::show_sorteds;
-use cordyceps_speed_rows::stable_sorteds::{show_by_spots, show_inserts};
+use cordyceps_speed_rows::stable_sorteds::{show_by_spots, show_heaps, show_inserts};
 use cordyceps_speed_rows::stables::show_stables;
 use cordyceps_speed_rows::stacks::show_stacks;
 use cordyceps_speed_rows::table::{Shown, Table};
@@ -66,6 +66,7 @@ enum Rows {
     Stables,
     Stacks,
     Sorteds,
+    Heaps,
     Transfers,
     Queues,
     /// Of one collection at which threads meet.
@@ -73,11 +74,12 @@ enum Rows {
 }
 
 /// The words that ask for them.
-const ROWS: [(&str, Rows); 15] = [
+const ROWS: [(&str, Rows); 16] = [
     ("lists", Rows::Lists),
     ("stables", Rows::Stables),
     ("stacks", Rows::Stacks),
     ("sorteds", Rows::Sorteds),
+    ("heaps", Rows::Heaps),
     ("transfers", Rows::Transfers),
     ("queues", Rows::Queues),
     ("stack", Rows::At(Meeting::Stack)),
@@ -192,12 +194,17 @@ fn timers(table: Table) -> usize {
     }
 }
 
-/// Measures and shows sorted lists with spots, and timers in them and in others. Returns a number over what was seen.
+/// Measures and shows sorted lists and heaps with spots, and timers in them and in others. Returns a number over what was
+/// seen.
 fn show_spots<R: Clock + Print>(rt: &R, alloc: Global, table: Table) -> Result<u64, Fault> {
     let inserts = show_inserts(rt, alloc, table, FEW)?;
     let by_spots = show_by_spots(rt, alloc, table, ELEMENTS)?;
+    let few = show_heaps(rt, alloc, table, FEW)?;
+    let many = show_heaps(rt, alloc, table.tenth(), ELEMENTS)?;
     let timers = show_timers(rt, alloc, table, timers(table), FEW)?;
-    Ok(inserts.wrapping_add(by_spots).wrapping_add(timers))
+    let lists = inserts.wrapping_add(by_spots);
+    let heaps = few.wrapping_add(many);
+    Ok(lists.wrapping_add(heaps).wrapping_add(timers))
 }
 
 /// Measures and shows the collections that threads share, each by one party that is alone. Returns a number over what
@@ -248,6 +255,7 @@ fn show_alone<R: Clock + Print + Threads + Wait + Sync>(
         Rows::Stables => show_stables(rt, alloc, table, count)?,
         Rows::Stacks => show_stacks(rt, alloc, table, count)?,
         Rows::Sorteds => show_sorteds(rt, alloc, table, count)?,
+        Rows::Heaps => show_heaps(rt, alloc, table, count)?,
         Rows::Transfers => show_transfers(rt, alloc, table, rooms)?,
         Rows::Queues => show_queues(rt, alloc, table, rooms)?,
         Rows::At(meeting) => {

@@ -1,16 +1,41 @@
-//! A sorted list whose elements are found by their numbers.
+//! Collections with spots whose elements are found by their numbers; a sorted list.
 //!
 //! A table has the spot of each number's element. What leaves the list leaves its place in the table empty, so the two
 //! agree, and a spot of the table may be handed to the list.
 use crate::fault::Fault;
 use crate::nodes::ListNode;
 use crate::stables::empty_table;
+use crate::stopwatch::Stopwatch;
+use crate::vectors::keep;
 use cordyceps_commands::Item;
 use cordyceps_single::sorted_list::Least;
 use cordyceps_stable::stable_list::Spot;
 use cordyceps_stable::stable_sorted_list::StableSortedList;
 use std::alloc::Global;
 use std::marker::Model;
+use std::time::{Clock, Duration};
+
+/// A collection, the least value first, whose elements are found by their numbers.
+pub trait ByNumber: Drop {
+    /// Makes an empty one, and a table with so many places.
+    fn new(alloc: Global, count: usize) -> Result<Self, Fault>;
+
+    /// Inserts an element, where its number has a place in the table that is empty, and drops it elsewhere.
+    fn insert(&mut self, node: ListNode);
+
+    /// Takes the element with a number out, by its spot.
+    fn remove(&mut self, number: usize) -> Option<ListNode>;
+
+    /// Gives the element with a number another value, by its spot.
+    fn update(&mut self, number: usize, value: u64);
+
+    /// Takes the first element out.
+    fn pop_front(&mut self) -> Option<ListNode>;
+
+    /// Measures insertions of elements one after another, the last first, and then pops of all, without a table.
+    /// Returns what these took, and a number over the values in their order.
+    fn insertions(rt: &impl Clock, nodes: Vec<ListNode>) -> (Duration, Duration, u64);
+}
 
 /// A sorted list, the least value first, and the table of its spots.
 #[derive(Drop)]
@@ -30,16 +55,14 @@ impl Model for Numbered {
     ghost invariant = { λ n. Agrees (spot_of n.spots.items) n.list.nodes };
 }
 
-impl Numbered {
-    /// Makes an empty list, and a table with so many places.
-    pub fn new(alloc: Global, count: usize) -> Result<Numbered, Fault> {
+impl ByNumber for Numbered {
+    fn new(alloc: Global, count: usize) -> Result<Numbered, Fault> {
         let spots = empty_table(alloc, count)?;
         let list = StableSortedList::new_min();
         Ok(Numbered { spots, list })
     }
 
-    /// Inserts an element, where its number has a place in the table that is empty, and drops it elsewhere.
-    pub fn insert(&mut self, node: ListNode) {
+    fn insert(&mut self, node: ListNode) {
         let number = node.id() as usize;
         if number < self.spots.len()
             && self.spots[number].is_none()
@@ -50,8 +73,7 @@ impl Numbered {
         }
     }
 
-    /// Takes the element with a number out, by its spot.
-    pub fn remove(&mut self, number: usize) -> Option<ListNode> {
+    fn remove(&mut self, number: usize) -> Option<ListNode> {
         if number < self.spots.len() {
             let spot = self.spots[number]?;
             self.spots[number] = None;
@@ -60,8 +82,7 @@ impl Numbered {
         None
     }
 
-    /// Gives the element with a number another value, by its spot.
-    pub fn update(&mut self, number: usize, value: u64) {
+    fn update(&mut self, number: usize, value: u64) {
         if number >= self.spots.len() {
             return;
         }
@@ -71,11 +92,28 @@ impl Numbered {
         self.list.update(spot, |item| item.value = value);
     }
 
-    /// Takes the first element out.
-    pub fn pop_front(&mut self) -> Option<ListNode> {
+    fn pop_front(&mut self) -> Option<ListNode> {
         let node = self.list.pop_front()?;
         let number = node.id() as usize;
         self.spots[number] = None;
         Some(node)
+    }
+
+    fn insertions(rt: &impl Clock, nodes: Vec<ListNode>) -> (Duration, Duration, u64) {
+        let mut nodes = nodes;
+        let mut list: StableSortedList<Item, Least> = StableSortedList::new_min();
+        let mut stopwatch = Stopwatch::start(rt);
+        while let Some(node) = nodes.pop() {
+            if list.len() < usize::MAX {
+                list.insert(node);
+            }
+        }
+        let inserted = stopwatch.look(rt);
+        let mut sum: u64 = 0;
+        while let Some(node) = list.pop_front() {
+            sum = sum.rotate_left(5) ^ node.get().value;
+            keep(&mut nodes, node);
+        }
+        (inserted, stopwatch.look(rt), sum)
     }
 }

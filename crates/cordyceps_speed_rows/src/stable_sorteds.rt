@@ -1,21 +1,20 @@
-//! Sorted lists with spots: insertions and pops, and elements that are met by their spots in an order of no kind.
+//! Sorted lists and heaps with spots: insertions and pops, and elements that are met by their spots in an order of no
+//! kind.
 ghost use Rattle.std.specs.Prelude.{◌≡◌, ◌+◌, ◌<◌, ◌≤◌, [], length};
 
 use crate::fault::Fault;
-use crate::nodes::{ListNode, shuffle, sum_numbers};
-use crate::numbered::Numbered;
+use crate::nodes::{shuffle, sum_numbers};
+use crate::numbered::{ByNumber, Numbered};
+use crate::numbered_heap::NumberedHeap;
 use crate::sorteds::{Values, elements_of};
 use crate::stables::numbers_below;
 use crate::stopwatch::Stopwatch;
 use crate::table::{Bench, Entry, Round, Table};
 use crate::vectors::{keep, with_room};
-use cordyceps_commands::Item;
-use cordyceps_single::sorted_list::Least;
-use cordyceps_stable::stable_sorted_list::StableSortedList;
 use std::alloc::Global;
 use std::time::{Clock, Duration};
 
-/// Kinds of call on a sorted list with spots.
+/// Kinds of call on a sorted list or a heap with spots.
 #[derive(Clone, Copy)]
 enum Calls {
     /// Insertions of elements with such values.
@@ -67,11 +66,31 @@ const BY_SPOTS: [Entry<Calls>; 2] = [
     ),
 ];
 
-/// A list whose elements are updated.
+/// Of heaps, in which nothing walks.
+const HEAPS: [Entry<Calls>; 4] = [
+    (
+        "StableHeap: push, random",
+        Calls::Insert(Values::Random),
+        "a push",
+    ),
+    (
+        "StableHeap: update, random",
+        Calls::Update,
+        "an update; the spots, in a Vec, in no order",
+    ),
+    ("StableHeap: pop_front", Calls::Pop, "a pop"),
+    (
+        "StableHeap: remove",
+        Calls::Remove,
+        "a removal; the spots, in a Vec, in no order",
+    ),
+];
+
+/// A list or a heap whose elements are updated.
 #[derive(Drop)]
-struct StableSorteds {
+struct StableSorteds<C> {
     alloc: Global,
-    list: Numbered,
+    updated: C,
     /// Which values updates give.
     values: Values,
     /// The number whose value the next update gives.
@@ -82,53 +101,35 @@ struct StableSorteds {
     seen: u64,
 }
 
-/// A list of so many elements, whose values rise with their numbers.
-fn ascending(alloc: Global, count: usize) -> Result<Numbered, Fault> {
+/// A list or a heap of so many elements, whose values rise with their numbers.
+fn ascending<C: ByNumber>(alloc: Global, count: usize) -> Result<C, Fault> {
     let mut nodes = elements_of(alloc, count, Values::Ascending)?;
-    let mut list = Numbered::new(alloc, count)?;
+    let mut made = C::new(alloc, count)?;
     while let Some(node) = nodes.pop() {
-        list.insert(node);
+        made.insert(node);
     }
-    Ok(list)
+    Ok(made)
 }
 
-/// What insertions of elements one after another take, what their pops take, and a number over what the list held.
-fn insertions(rt: &impl Clock, mut nodes: Vec<ListNode>) -> (Duration, Duration, u64) {
-    let mut list: StableSortedList<Item, Least> = StableSortedList::new_min();
-    let mut stopwatch = Stopwatch::start(rt);
-    while let Some(node) = nodes.pop() {
-        if list.len() < usize::MAX {
-            list.insert(node);
-        }
-    }
-    let inserted = stopwatch.look(rt);
-    let mut sum: u64 = 0;
-    while let Some(node) = list.pop_front() {
-        sum = sum.rotate_left(5) ^ node.get().value;
-        keep(&mut nodes, node);
-    }
-    (inserted, stopwatch.look(rt), sum)
-}
-
-impl StableSorteds {
+impl<C: ByNumber> StableSorteds<C> {
     /// Gives the elements the values of the numbers from the next on, in the order in which they are met.
     fn update_all(&mut self) {
         let mut next = self.next;
         for number in &self.order {
-            self.list.update(*number, self.values.of(0, next));
+            self.updated.update(*number, self.values.of(0, next));
             next = next.wrapping_add(1);
         }
         self.next = next;
     }
 
-    /// Measures removals of all elements from a list.
+    /// Measures removals of all elements from a list or a heap.
     fn remove_all(&mut self, rt: &impl Clock) -> Result<Duration, Fault> {
         let count = self.order.len();
-        let mut list = ascending(self.alloc, count)?;
+        let mut from: C = ascending(self.alloc, count)?;
         let mut nodes = with_room(self.alloc, count)?;
         let mut stopwatch = Stopwatch::start(rt);
         for number in &self.order {
-            if let Some(node) = list.remove(*number) {
+            if let Some(node) = from.remove(*number) {
                 keep(&mut nodes, node);
             }
         }
@@ -138,19 +139,20 @@ impl StableSorteds {
     }
 }
 
-impl Bench<Calls> for StableSorteds {
-    fn round(self, rt: &impl Clock, calls: Calls) -> Result<(StableSorteds, Round), Fault> {
+impl<C: ByNumber> Bench<Calls> for StableSorteds<C> {
+    fn round(self, rt: &impl Clock, calls: Calls) -> Result<(StableSorteds<C>, Round), Fault> {
         let mut sorteds = self;
         let count = sorteds.order.len();
         let time = match calls {
             Calls::Insert(values) => {
-                let (time, _, seen) = insertions(rt, elements_of(sorteds.alloc, count, values)?);
+                let nodes = elements_of(sorteds.alloc, count, values)?;
+                let (time, _, seen) = C::insertions(rt, nodes);
                 sorteds.seen = seen;
                 time
             }
             Calls::Pop => {
                 let nodes = elements_of(sorteds.alloc, count, Values::Random)?;
-                let (_, time, _) = insertions(rt, nodes);
+                let (_, time, _) = C::insertions(rt, nodes);
                 time
             }
             Calls::Update => {
@@ -175,7 +177,7 @@ impl Bench<Calls> for StableSorteds {
 }
 
 /// Measures kinds of call with so many elements and such values, and shows them.
-fn show<R: Clock + Print>(
+fn show<R: Clock + Print, C: ByNumber>(
     rt: &R,
     alloc: Global,
     table: Table,
@@ -183,9 +185,9 @@ fn show<R: Clock + Print>(
     values: Values,
     kinds: &[Entry<Calls>],
 ) -> Result<u64, Fault> {
-    let mut sorteds = StableSorteds {
+    let mut sorteds: StableSorteds<C> = StableSorteds {
         alloc,
-        list: ascending(alloc, elements)?,
+        updated: ascending(alloc, elements)?,
         values,
         next: elements as u64,
         order: numbers_below(alloc, elements)?,
@@ -203,7 +205,7 @@ pub fn show_inserts<R: Clock + Print>(
     table: Table,
     elements: usize,
 ) -> Result<u64, Fault> {
-    show(rt, alloc, table, elements, Values::Random, &INSERTS)
+    show::<R, Numbered>(rt, alloc, table, elements, Values::Random, &INSERTS)
 }
 
 /// Measures removals by spots, and updates to the last place, and shows them. Returns the sum of the numbers of what
@@ -214,5 +216,15 @@ pub fn show_by_spots<R: Clock + Print>(
     table: Table,
     elements: usize,
 ) -> Result<u64, Fault> {
-    show(rt, alloc, table, elements, Values::Ascending, &BY_SPOTS)
+    show::<R, Numbered>(rt, alloc, table, elements, Values::Ascending, &BY_SPOTS)
+}
+
+/// Measures heaps with spots, and shows them. Returns a number over what they held last.
+pub fn show_heaps<R: Clock + Print>(
+    rt: &R,
+    alloc: Global,
+    table: Table,
+    elements: usize,
+) -> Result<u64, Fault> {
+    show::<R, NumberedHeap>(rt, alloc, table, elements, Values::Random, &HEAPS)
 }

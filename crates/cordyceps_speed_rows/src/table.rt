@@ -40,6 +40,14 @@ pub struct Table {
 }
 
 impl Table {
+    /// The same with a tenth of the rounds, for what takes long.
+    pub fn tenth(self) -> Table {
+        Table {
+            rounds: self.rounds.div_ceil(10),
+            shown: self.shown,
+        }
+    }
+
     /// Writes what the columns are.
     pub fn head(self, rt: &impl Print) -> Result<(), Fault> {
         let written = match self.shown {

@@ -1,9 +1,10 @@
-//! Timers that are started, of which nine in ten are cancelled, and the others come out in order: in a sorted list with
-//! spots, in a map, and in a heap, in which the cancelled ones stay until they come out.
+//! Timers that are started, of which nine in ten are cancelled, and the others come out in order: in a sorted list and a
+//! heap with spots, in a map, and in a binary heap, in which the cancelled ones stay until they come out.
 
 use crate::fault::Fault;
 use crate::nodes::{ListNode, make_nodes, mix, shuffle};
-use crate::numbered::Numbered;
+use crate::numbered::{ByNumber, Numbered};
+use crate::numbered_heap::NumberedHeap;
 use crate::stopwatch::Stopwatch;
 use crate::table::{Bench, Entry, Round, Table};
 use crate::vectors::{keep, with_room};
@@ -25,24 +26,24 @@ trait Timers {
     fn pop(&mut self) -> Option<Item>;
 }
 
-/// Timers in a sorted list with spots.
+/// Timers in a collection with spots.
 #[derive(Drop)]
-struct InList {
-    running: Numbered,
+struct WithSpots<C> {
+    running: C,
     /// The nodes of timers that do not run.
     idle: Vec<ListNode>,
 }
 
-impl InList {
+impl<C: ByNumber> WithSpots<C> {
     /// No timers, and nodes for so many.
-    fn new(alloc: Global, count: usize) -> Result<InList, Fault> {
-        let running = Numbered::new(alloc, count)?;
+    fn new(alloc: Global, count: usize) -> Result<WithSpots<C>, Fault> {
+        let running = C::new(alloc, count)?;
         let idle = make_nodes(alloc, count)?;
-        Ok(InList { running, idle })
+        Ok(WithSpots { running, idle })
     }
 }
 
-impl Timers for InList {
+impl<C: ByNumber> Timers for WithSpots<C> {
     fn start(&mut self, timer: Item) -> bool {
         let Some(mut node) = self.idle.pop() else {
             return false;
@@ -83,7 +84,7 @@ impl Timers for BTreeMap<Item, ()> {
     }
 }
 
-/// Timers in a heap.
+/// Timers in a binary heap.
 #[derive(Drop)]
 struct InHeap {
     running: BinaryHeap<Reverse<Item>>,
@@ -213,17 +214,24 @@ impl Plan {
 enum Calls {
     /// A sorted list with spots.
     List,
+    /// A heap with spots.
+    Heap,
     /// A map.
     Map,
-    /// A heap.
-    Heap,
+    /// A binary heap.
+    BinaryHeap,
 }
 
 /// With deadlines that mostly rise.
-const RISING: [Entry<Calls>; 3] = [
+const RISING: [Entry<Calls>; 4] = [
     (
         "Timers: StableSortedList",
         Calls::List,
+        "a timer, due after one of four timeouts",
+    ),
+    (
+        "Timers: StableHeap",
+        Calls::Heap,
         "a timer, due after one of four timeouts",
     ),
     (
@@ -233,22 +241,27 @@ const RISING: [Entry<Calls>; 3] = [
     ),
     (
         "Timers: BinaryHeap",
-        Calls::Heap,
+        Calls::BinaryHeap,
         "a timer, due after one of four timeouts",
     ),
 ];
 
 /// With any deadlines.
-const RANDOM: [Entry<Calls>; 3] = [
+const RANDOM: [Entry<Calls>; 4] = [
     (
         "Timers: StableSortedList",
         Calls::List,
         "a timer, due at any time",
     ),
+    (
+        "Timers: StableHeap",
+        Calls::Heap,
+        "a timer, due at any time",
+    ),
     ("Timers: BTreeMap", Calls::Map, "a timer, due at any time"),
     (
         "Timers: BinaryHeap",
-        Calls::Heap,
+        Calls::BinaryHeap,
         "a timer, due at any time",
     ),
 ];
@@ -257,9 +270,10 @@ const RANDOM: [Entry<Calls>; 3] = [
 #[derive(Drop)]
 struct Planned {
     plan: Plan,
-    list: InList,
+    list: WithSpots<Numbered>,
+    heap: WithSpots<NumberedHeap>,
     map: BTreeMap<Item, ()>,
-    heap: InHeap,
+    binary_heap: InHeap,
     /// A number over the timers that came out last.
     seen: u64,
 }
@@ -270,8 +284,9 @@ impl Bench<Calls> for Planned {
         let count = planned.plan.started.len();
         let ran = match calls {
             Calls::List => planned.plan.run(rt, &mut planned.list),
-            Calls::Map => planned.plan.run(rt, &mut planned.map),
             Calls::Heap => planned.plan.run(rt, &mut planned.heap),
+            Calls::Map => planned.plan.run(rt, &mut planned.map),
+            Calls::BinaryHeap => planned.plan.run(rt, &mut planned.binary_heap),
         };
         let (seen, time) = ran?;
         planned.seen = seen;
@@ -293,20 +308,17 @@ fn show<R: Clock + Print>(
 ) -> Result<u64, Fault> {
     let planned = Planned {
         plan: Plan::new(alloc, count, deadlines)?,
-        list: InList::new(alloc, count)?,
+        list: WithSpots::new(alloc, count)?,
+        heap: WithSpots::new(alloc, count)?,
         map: BTreeMap::new(alloc),
-        heap: InHeap::new(alloc, count)?,
+        binary_heap: InHeap::new(alloc, count)?,
         seen: 0,
     };
     let kinds = match deadlines {
         Deadlines::Timeouts => &RISING,
         Deadlines::Random => &RANDOM,
     };
-    let table = Table {
-        rounds: table.rounds.div_ceil(10),
-        shown: table.shown,
-    };
-    table.measure(rt, planned, count, kinds)
+    table.tenth().measure(rt, planned, count, kinds)
 }
 
 /// Measures so many timers with deadlines that mostly rise, and so few with any, and shows them. Returns a number over

@@ -2,7 +2,7 @@ use Rattle.std.proofs.Common.{◌<◌, [], length, slice_set, None, arith, ap, �
 use Rattle.cordyceps_stable.specs.Agreeing.{IsUpdated}
 use Rattle.cordyceps_speed_rows.specs.Tables.{spot_of}
 use Rattle.cordyceps_speed_rows.proofs.Tables.{inside, popped_agrees, written}
-use Rattle.cordyceps_speed_rows.proofs.numbered.Numbered.pop_front.Goals as goal
+use Rattle.cordyceps_speed_rows.proofs.numbered.NumberedByNumber.pop_front.Goals as goal
 
 pub index_mut-requires : goal.index_mut-requires
 index_mut-requires c =

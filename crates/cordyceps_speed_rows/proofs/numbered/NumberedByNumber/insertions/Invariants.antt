@@ -1,5 +1,5 @@
 use Rattle.std.proofs.Common.{length, vec_len}
-use Rattle.cordyceps_speed_rows.proofs.stable_sorteds.insertions.Given as goal
+use Rattle.cordyceps_speed_rows.proofs.numbered.NumberedByNumber.insertions.Given as goal
 
 abbrev pub decreases-loop-node : goal.decreases-loop-node
 decreases-loop-node g l = vec_len l.nodes

@@ -2,7 +2,7 @@ use Rattle.std.proofs.Common.{◌<◌, length, None, arith, ◌∙◌}
 use Rattle.cordyceps_stable.proofs.Agreeing.{answer_spot, removed_agrees}
 use Rattle.cordyceps_speed_rows.specs.Tables.{spot_of}
 use Rattle.cordyceps_speed_rows.proofs.Tables.{read, written}
-use Rattle.cordyceps_speed_rows.proofs.numbered.Numbered.remove.Goals as goal
+use Rattle.cordyceps_speed_rows.proofs.numbered.NumberedByNumber.remove.Goals as goal
 
 pub remove-requires : goal.remove-requires
 remove-requires c =

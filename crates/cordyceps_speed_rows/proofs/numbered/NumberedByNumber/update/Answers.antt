@@ -2,7 +2,7 @@ use Rattle.std.proofs.Common.{◌<◌, length, arith, ◌∙◌, refl}
 use Rattle.cordyceps_stable.proofs.Agreeing.{answer_spot}
 use Rattle.cordyceps_speed_rows.specs.Tables.{spot_of}
 use Rattle.cordyceps_speed_rows.proofs.Tables.{read, updated_agrees}
-use Rattle.cordyceps_speed_rows.proofs.numbered.Numbered.update.Goals as goal
+use Rattle.cordyceps_speed_rows.proofs.numbered.NumberedByNumber.update.Goals as goal
 
 pub update-requires-clause-there : goal.update-requires-clause-there
 update-requires-clause-there c =
