@@ -74,7 +74,9 @@ class Trial:
         write(f"{self.other}/HANDLES", "Handles allowed: Wait.\n")
         self.copied(0, "HANDLES: as it was", "all", "--replace")
         self.same(BASE, "crates/freelist/src/lib.rt")
-        all_of_them = {*names_in("\n".join(self.lines[:12])), "mine", "app"} - {"cordyceps_start"}
+        # (freelist and what cordyceps stands on come before it)
+        known = names_in("\n".join(self.lines))
+        all_of_them = {*known[: known.index("cordyceps") + 1], "mine", "app"} - {"cordyceps_start"}
         self.crates(*all_of_them)
 
 
