@@ -15,6 +15,7 @@ pub mod Naming
 pub mod Ordering
 pub mod Owning
 pub mod Places
+pub mod Pools
 pub mod Renaming
 pub mod Seeing
 pub mod Sending

@@ -160,7 +160,7 @@ module _ {X V : Type 0} (knows : V → Known X) where
   }
 
   -- beside a whole share there is no other
-  only_share : (views : List V) (h : List (ℕ × X)) (j i : ℕ) (v u : V) → SharesDisjoint knows views h → get_elem? views j ≡ some v → (knows v).share ≡ whole → i ≢ j → get_elem? views i ≡ some u → (names : List Name) → (knows u).share ≡ names → names ≡ []
+  pub only_share : (views : List V) (h : List (ℕ × X)) (j i : ℕ) (v u : V) → SharesDisjoint knows views h → get_elem? views j ≡ some v → (knows v).share ≡ whole → i ≢ j → get_elem? views i ≡ some u → (names : List Name) → (knows u).share ≡ names → names ≡ []
   only_share views h j i v u o at is other there [] e = refl
   only_share views h j i v u o at is other there (n ∷ ns) e =
       let x = n ++ replicate o.long false in

@@ -5,6 +5,7 @@ pub mod Histories
 pub mod Interleaving
 pub mod Knowing
 pub mod Places
+pub mod Pools
 pub mod Rooms
 pub mod Sending
 pub mod Shares

@@ -1,6 +1,9 @@
 -- The words of a table that threads share.
 use Rattle.std.specs.Prelude.{ℕ, ◌+◌, List, slice_index}
-use Rattle.cordyceps_shared.specs.declared.layout.TheConstants.{HEAD, RIGHT, LINKS}
+use Rattle.cordyceps_shared.specs.declared.layout.TheConstants.{POOL, HEAD, RIGHT, LINKS}
+
+abbrev pub pool : List ℕ → ℕ
+pool words = slice_index words POOL
 
 abbrev pub head : List ℕ → ℕ
 head words = slice_index words HEAD

@@ -2,8 +2,11 @@
 //!
 //! A stack's table ends before `LINKS`, since its links lie in its slots, and no step writes its word at `RIGHT`.
 //!
-//! `HEAD` and `RIGHT` have 128 bytes each of their own. These are two cache lines, since a processor may fetch lines in
-//! pairs. So a step on one of them takes neither the other nor a link away from another processor.
+//! `POOL`, `HEAD` and `RIGHT` have 128 bytes each of their own. These are two cache lines, since a processor may fetch
+//! lines in pairs. So a step on one of them takes neither another of them nor a link away from another processor.
+
+/// The index of the word that leads to the pool: the free rooms that no party has.
+pub const POOL: usize = 0;
 
 /// The index of the word that leads to the element that was put in last.
 pub const HEAD: usize = 16;

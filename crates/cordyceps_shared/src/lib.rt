@@ -4,5 +4,6 @@
 
 pub mod free;
 pub mod layout;
+pub mod pool;
 pub mod required;
 pub mod room;

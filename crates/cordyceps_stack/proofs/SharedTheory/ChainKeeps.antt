@@ -1,5 +1,5 @@
 -- A push of several elements at one step keeps the rule of a transfer stack's table.
-use Rattle.std.proofs.Common.{◌≡◌, ◌≢◌, ℕ, suc, ◌+◌, ◌≤◌, List, [], ◌∷◌, ◌++◌, map, reverse, length, set, eqb, true, refl, sym, ap, ◌∙◌, subst, arith, append-nil, eq-eqb, ne_eqb, length-set}
+use Rattle.std.proofs.Common.{◌≡◌, ◌≢◌, ℕ, suc, ◌+◌, ◌≤◌, List, [], ◌∷◌, ◌++◌, map, reverse, length, set, eqb, true, refl, sym, ap, ◌∙◌, subst, arith, append-nil, eq-eqb, ne_eqb, length-set, length-append}
 use Rattle.std.proofs.lemmas.List.{map-append, length-map}
 use mathlib.Core.Option.{some, none}
 use mathlib.Core.Logic.{dite}
@@ -19,6 +19,7 @@ use Rattle.cordyceps_shared.proofs.Choices.{some_or, first_or, rest_from}
 use Rattle.cordyceps_shared.proofs.Counting.{tally_append, distinct_few}
 use Rattle.cordyceps_shared.proofs.Places.{times_at}
 use Rattle.cordyceps_shared.proofs.Seeing.{marked_append}
+use Rattle.cordyceps_shared.proofs.Words.{pool_beside_head}
 use Rattle.cordyceps_stack.specs.History.{Event, Load, Push, actor}
 use Rattle.cordyceps_stack.specs.Shared.Calls.{pushes_of}
 use Rattle.cordyceps_stack.specs.Shared.Slots.{Hand, TableStep, start, filled, rooms_of, in_use, in_use_to, all_vacant, AtHome}
@@ -27,8 +28,8 @@ use Rattle.cordyceps_stack.specs.Shared.Words.{AtDoing}
 use Rattle.cordyceps_stack.specs.Shared.Rule.{TableState, RuleHolds}
 use Rattle.cordyceps_stack.specs.Shared.Plays.{SeatState, HasHitAll, HasFailedAll, all_then, rooms_then, elements_then, chain_then}
 use Rattle.cordyceps_stack.specs.Shared.Plays as play
-use Rattle.cordyceps_stack.proofs.SharedTheory.SlotMoves.{rooms_to, rooms_vacant, in_use_onto, home_frame, home_append, give_all, ungiven, given_valid, given_carried, given_home}
-use Rattle.cordyceps_stack.proofs.SharedTheory.StepsKeep.{slot_or, view_after, Passes, head_marked, told, step_keeps, unwritten, once, chain_stays, others_stay, overtaken}
+use Rattle.cordyceps_stack.proofs.SharedTheory.SlotMoves.{rooms_to, rooms_vacant, in_use_onto, home_frame, home_append, give_all, ungiven, given_valid, given_carried, given_home, given_long}
+use Rattle.cordyceps_stack.proofs.SharedTheory.StepsKeep.{slot_or, view_after, Passes, head_marked, told, step_keeps, untouched, unwritten, once, chain_stays, pool_stays, others_stay, overtaken}
 use Rattle.cordyceps_stack.proofs.SharedTheory.WordsKeep.{since_now, rests, loads, pushes_all}
 
 module _ {E : Type 0} where
@@ -48,12 +49,12 @@ module _ {E : Type 0} where
       let h = k.history ++ (id, x) ∷ [] in
       let read = head s.words in
       let w = view_after v id h v.free (LoadedAll (held_rooms v.doing) read) in
-      let meets = loads s.words k.chain s.views k.history id v w (name v) k.meets at (λ q. omega arith) (since_now s.words k.history id (name v)) in
+      let meets = loads k.pool.rooms s.words k.chain s.views k.history id v w (name v) k.meets at (λ q. omega arith) (since_now s.words k.history id (name v)) in
       let t = told s k id (x ∷ []) v w h at named (refl, tt) refl refl meets.legal in (
         w,
         keeps,
         tt,
-        unwritten s HEAD s.homes (set s.views id w) (step_keeps s k id v w s.words s.homes k.chain h meets refl k.full (k.free id v at) (λ _ _ _ _ _ _. refl) t.1 t.0),
+        unwritten s HEAD s.homes (set s.views id w) (step_keeps s k id v w s.words s.homes k.chain h (untouched s k id v w at refl (λ e. absurd (named e))) meets refl k.full (k.free id v at) (λ _ _ _ _ _ _. refl) t.1 t.0),
         (refl, refl, refl, t.2),
       )
 
@@ -85,12 +86,24 @@ module _ {E : Type 0} where
       (λ q m. let p = own q in let t = times_at q rooms (omega arith) in let low = poised.inside t.0 q t.1 in omega arith) in
       let mine : (q : ℕ) → count_with_party q v ≡ 0 → get_elem? homes q ≡ get_elem? s.homes q = λ q none_of. same q (let c = was q in omega arith) in
       let wide = k.wide in
-      let meets = pushes_all s.words k.chain s.views k.history id v w before r (name v) x k.meets at (ap (λ d. held_rooms d) poised.doing) refl refl (omega arith) in
+      let meets = pushes_all k.pool.rooms s.words k.chain s.views k.history id v w before r (name v) x k.meets at (ap (λ d. held_rooms d) poised.doing) refl refl (omega arith) in
       let t = told s k id es v w h at poised.named (under_pushes (name v) (reverse (elements_then before x))) refl refl meets.legal in
       let below : filled x read ≡ filled x (start k.chain) = ap (λ n. filled x n) (sym top ∙ k.meets.top) in
       let full : AtHome homes (in_use (before ++ (r, x) ∷ k.chain)) = subst (AtHome homes) (sym (in_use_onto before ((r, x) ∷ k.chain)))
       (home_append homes (in_use_to before (suc r)) (in_use ((r, x) ∷ k.chain)) given.1 (given.0 ∙ ap (λ z. some (some z)) below, chain_stays s k id v homes at mine)) in
-      let kept = step_keeps s k id v w (set s.words HEAD first) homes (before ++ (r, x) ∷ k.chain) h meets (length-set s.words HEAD first) full
+      let kept = step_keeps s k id v w (set s.words HEAD first) homes (before ++ (r, x) ∷ k.chain) h
+      record {
+        at = at;
+        word_is = pool_beside_head s.words first;
+        pooled = pool_stays s k id v homes at mine;
+        deep = given_long all s.homes;
+        even =
+            let a = ap (λ d. length v.free.rooms + length (held_rooms d)) poised.doing in
+            let b = length-append (rooms_of before) (r ∷ []) in
+            let c = length-append before ((r, x) ∷ k.chain) in
+            let d = length-map before (λ (z : ℕ × E). z.0) in omega arith;
+        spent = λ e. absurd (poised.named e);
+      } meets (length-set s.words HEAD first) full
       (home_frame s.homes homes (all_vacant v.free.rooms v.free.end)
       (λ q m. same q (let here = subst (λ l. 1 ≤ times q l) (rooms_vacant E v.free.rooms v.free.end) m in let o = once s k id v q at in let c = was q in omega arith)) (k.free id v at))
       (others_stay s k id v homes at mine) t.1 t.0 in record {
@@ -121,7 +134,7 @@ module _ {E : Type 0} where
       let w = view_after v id k.history v.free (Walking xs) in
       let was : (q : ℕ) → count_with_party q v ≡ times q v.free.rooms + times q rooms = λ q. ap (λ d. times q v.free.rooms + times q (held_rooms d)) poised.doing in
       let known : AtDoing s.words k.history id (LoadedAll rooms read) = subst (λ (d : Doing E). AtDoing s.words k.history id d) poised.doing (k.meets.each id v at) in
-      let meets = rests s.words k.chain s.views k.history id v w k.meets at (λ q. let c = was q in let d = ap (times q) same in omega arith) tt in
+      let meets = rests k.pool.rooms s.words k.chain s.views k.history id v w k.meets at (λ q. let c = was q in let d = ap (times q) same in omega arith) tt in
       let t = told s k id [] v w k.history at poised.named tt (sym (append-nil k.history)) refl meets.legal in
       let few = distinct_few slots rooms (λ q. let o = once s k id v q at in let c = was q in omega arith) (λ q m. let t = times_at q rooms m in poised.inside t.0 q t.1) in
       let long = length-map xs (λ (z : ℕ × E). z.0) in
@@ -129,7 +142,8 @@ module _ {E : Type 0} where
         view = w;
         act = keeps;
         valid = tt;
-        holds = unwritten s HEAD s.homes (set s.views id w) (step_keeps s k id v w s.words s.homes k.chain k.history meets refl k.full (k.free id v at) (λ _ _ _ _ _ _. refl) t.1 t.0);
+        holds = unwritten s HEAD s.homes (set s.views id w) (step_keeps s k id v w s.words s.homes k.chain k.history
+            (untouched s k id v w at (let a = ap (λ d. length v.free.rooms + length (held_rooms d)) poised.doing in let b = ap (λ (l : List ℕ). length l) same in omega arith) (λ e. absurd (poised.named e))) meets refl k.full (k.free id v at) (λ _ _ _ _ _ _. refl) t.1 t.0);
         after = record {
           doing = refl;
           few = omega arith;

@@ -131,6 +131,11 @@ module _ {E : Type 0} where
   taken_carried [] cs = refl
   taken_carried (x ∷ xs) cs = ap (λ z. (x.0, x.1) ∷ z) (taken_carried xs cs)
 
+  pub taken_long : (xs : Hand E) (hs : Homes E) (cs : Hand E) → length (homes_after hs cs (take_all xs)) ≡ length hs
+  unfolding take_all
+  taken_long [] hs cs = refl
+  taken_long (x ∷ xs) hs cs = length-set (homes_after hs cs (take_all xs)) x.0 none ∙ taken_long xs hs cs
+
   -- ---- slots are returned
   pub give_all : Hand E → Act (Slot E)
   give_all [] = keeps

@@ -1,5 +1,5 @@
 -- Each step of a party keeps the rule of a transfer stack's table.
-use Rattle.std.proofs.Common.{◌≡◌, ◌≢◌, ◌↔◌, ℕ, zero, suc, ◌+◌, ◌≤◌, ◌<◌, List, [], ◌∷◌, ◌++◌, reverse, length, set, get_or, eqb, refl, sym, ap, ◌∙◌, subst, ⊎_elim, arith, append-nil, eq-eqb, ne_eqb, length-set}
+use Rattle.std.proofs.Common.{◌≡◌, ◌≢◌, ◌↔◌, ℕ, zero, suc, ◌+◌, ◌≤◌, ◌<◌, List, [], ◌∷◌, ◌++◌, reverse, length, set, get_or, eqb, refl, sym, ap, ◌∙◌, subst, ⊎_elim, arith, append-nil, eq-eqb, ne_eqb, length-set, length-append, take, drop, take-append-drop}
 use Rattle.std.proofs.lemmas.List.{reverse-reverse}
 use mathlib.Core.Option.{some, none}
 use mathlib.Core.Logic.{dite}
@@ -14,29 +14,32 @@ use Rattle.cordyceps_shared.specs.Counts.{one_if, times}
 use Rattle.cordyceps_shared.specs.Histories.{events, with_marks, plain, of_seat}
 use Rattle.cordyceps_shared.specs.Knowing.{Known, Under, SharesDisjoint, AllAgree, all_seen}
 use Rattle.cordyceps_shared.specs.Shares.{Name}
+use Rattle.cordyceps_shared.specs.Pools.{LeadsTo}
 use Rattle.cordyceps_shared.specs.Slots.{Near}
 use Rattle.cordyceps_shared.specs.Words.{head}
+use Rattle.cordyceps_shared.specs.Words as word
 use Rattle.cordyceps_shared.specs.declared.layout.TheConstants.{HEAD}
 use Rattle.cordyceps_shared.proofs.Choices.{some_or, first_or, rest_from}
 use Rattle.cordyceps_shared.proofs.Changing.{one_set}
-use Rattle.cordyceps_shared.proofs.Counting.{tally_one, tally_two, tally_append, tally_cut, one_here, distinct_few}
+use Rattle.cordyceps_shared.proofs.Counting.{tally_set, tally_one, tally_two, tally_append, tally_cut, one_here, distinct_few}
 use Rattle.cordyceps_shared.proofs.Places.{times_some, times_at}
 use Rattle.cordyceps_shared.proofs.Seeing.{marked_append, plain_marked, own_without}
 use Rattle.cordyceps_shared.proofs.Telling.{at_length, owned_same, fits_same, tells}
+use Rattle.cordyceps_shared.proofs.Words.{pool_beside_head}
 use Rattle.cordyceps_shared.proofs.TrackRooms.{last_same}
 use Rattle.cordyceps_stack.specs.declared.shared.slot.Slot.{Slot}
 use Rattle.cordyceps_stack.specs.History.{Event, Load, Push, Taken, held, Legal, actor, SomeChange}
 use Rattle.cordyceps_stack.specs.Cores.Stages.{room_elements}
 use Rattle.cordyceps_stack.specs.Shared.Slots.{Homes, Hand, TableStep, start, filled, vacant, rooms_of, in_use, all_vacant, AtHome, last_link}
-use Rattle.cordyceps_stack.specs.Shared.View.{Doing, Idle, Loaded, Holding, View, knows, name, taking, held_rooms, in_chain, count_with_party}
+use Rattle.cordyceps_stack.specs.Shared.View.{Doing, Idle, Loaded, Holding, View, knows, name, taking, held_rooms, in_chain, count_with_party, room_count}
 use Rattle.cordyceps_stack.specs.Shared.Words.{History, Since, AtDoing, WordsMeet}
 use Rattle.cordyceps_stack.specs.Shared.Rule.{TableState, RuleHolds}
 use Rattle.cordyceps_stack.specs.Shared.Plays.{SeatState, Sees, IsBegun, HasHit, HasFailed, HasSwapped, chain_in_hand}
 use Rattle.cordyceps_stack.specs.Shared.Calls.{IsOvertaken}
 use Rattle.cordyceps_stack.specs.Shared.Plays as play
 use Rattle.cordyceps_stack.proofs.SharedTheory.SlotMoves.{rooms_in_use, rooms_vacant, vacant_append, vacant_cut, vacant_joined, vacant_last, home_frame, home_append, home_front, home_back, home_near}
-use Rattle.cordyceps_stack.proofs.SharedTheory.SlotMoves.{take_all, untaken, taken_valid, taken_carried, give_all, ungiven, given_valid, given_carried, given_home, given_long}
-use Rattle.cordyceps_stack.proofs.SharedTheory.WordsKeep.{since_now, rests, loads, pushes, takes_chain}
+use Rattle.cordyceps_stack.proofs.SharedTheory.SlotMoves.{take_all, untaken, taken_valid, taken_carried, taken_long, give_all, ungiven, given_valid, given_carried, given_home, given_long}
+use Rattle.cordyceps_stack.proofs.SharedTheory.WordsKeep.{since_now, rests, loads, pushes, takes_chain, rooms_taking}
 
 -- the room and the word of a party that pushes
 abbrev room_of : {E : Type 0} → Doing E → ℕ
@@ -90,23 +93,42 @@ module _ {E : Type 0} where
       let t = tells actor knows (λ z. Legal z) s.views k.history j es v w k.owned k.fits at named under (sees ∙ ap (λ z. all_seen j z v.known.share) is) (subst (λ z. Legal (events z)) is legal) in
       (subst (SharesDisjoint knows (set s.views j w)) (sym is) t.owned, subst (AllAgree actor knows (set s.views j w)) (sym is) t.fits, t.grown)
 
+  -- what a step of the party j leaves beside the parties' own: the pool, and the number of rooms
+  pub record LeavesPool (s : TableState E) (k : RuleHolds s) (j : ℕ) (v w : View E) (words : List ℕ) (homes : Homes E) (chain : List (ℕ × E)) : Type 0 where
+    pub at : get_elem? s.views j ≡ some v
+    pub word_is : word.pool words ≡ word.pool s.words
+    pub pooled : (r : ℕ) → 1 ≤ times r k.pool.rooms → get_elem? homes r ≡ get_elem? s.homes r
+    pub deep : length homes ≡ length s.homes
+    pub even : length chain + room_count w ≡ length k.chain + room_count v
+    pub spent : w.known.share ≡ [] → room_count w ≡ 0
+
   -- the rule's clauses after a step of the party j. The slots of the other parties' free rooms are as they were
   pub step_keeps : (s : TableState E) (k : RuleHolds s) (j : ℕ) (v w : View E) (words : List ℕ) (homes : Homes E) (chain : List (ℕ × E)) (h : History E)
-      → WordsMeet words chain (set s.views j w) h → length words ≡ length s.words → AtHome homes (in_use chain) → AtHome homes (all_vacant w.free.rooms w.free.end)
+      → LeavesPool s k j v w words homes chain
+      → WordsMeet words chain k.pool.rooms (set s.views j w) h → length words ≡ length s.words → AtHome homes (in_use chain) → AtHome homes (all_vacant w.free.rooms w.free.end)
       → ((i : ℕ) (u : View E) (r : ℕ) → i ≢ j → get_elem? s.views i ≡ some u → 1 ≤ times r u.free.rooms → get_elem? homes r ≡ get_elem? s.homes r)
       → AllAgree actor knows (set s.views j w) h → SharesDisjoint knows (set s.views j w) h
       → RuleHolds record { words = words; homes = homes; views = set s.views j w }
-  step_keeps s k j v w words homes chain h meets wide full free same fits owned = record {
+  step_keeps s k j v w words homes chain h beside meets wide full free same fits owned = record {
     history = h;
     chain = chain;
+    pool = k.pool;
     meets = meets;
     wide = wide ∙ k.wide;
     full = full;
     free = one_set (λ _ u. AtHome homes (all_vacant u.free.rooms u.free.end)) s.views j w free
         (λ i u ne e. home_frame s.homes homes (all_vacant u.free.rooms u.free.end) (λ r m. same i u r ne e (subst (λ l. 1 ≤ times r l) (rooms_vacant E u.free.rooms u.free.end) m)) (k.free i u e));
+    pooled = home_frame s.homes homes (all_vacant k.pool.rooms k.pool.end) (λ r m. beside.pooled r (subst (λ l. 1 ≤ times r l) (rooms_vacant E k.pool.rooms k.pool.end) m)) k.pooled;
+    word_is = subst (λ n. LeadsTo n k.pool) (sym beside.word_is) k.word_is;
+    all = let all = k.all in let even = beside.even in let deep = beside.deep in omega (arith, tally_set (room_count {E = E}) s.views j v w beside.at);
+    spent = one_set (λ _ u. u.known.share ≡ [] → room_count u ≡ 0) s.views j w beside.spent (λ i u _ e. k.spent i u e);
     fits = fits;
     owned = owned;
   }
+
+  -- a step that writes nothing, takes no slot and returns none
+  pub untouched : (s : TableState E) (k : RuleHolds s) (j : ℕ) (v w : View E) → get_elem? s.views j ≡ some v → room_count w ≡ room_count v → (w.known.share ≡ [] → room_count w ≡ 0) → LeavesPool s k j v w s.words s.homes k.chain
+  untouched s k j v w at even spent = record { at = at; word_is = refl; pooled = λ _ _. refl; deep = refl; even = ap (λ n. length k.chain + n) even; spent = spent }
 
   -- a step that only reads the word i
   pub unwritten : (s : TableState E) (i : ℕ) (homes : Homes E) (views : List (View E)) → RuleHolds record { words = s.words; homes = homes; views = views } → RuleHolds record { words = set s.words i (get_or s.words i 0); homes = homes; views = views }
@@ -132,17 +154,29 @@ module _ {E : Type 0} where
   chain_stays s k j v homes at same = home_frame s.homes homes (in_use k.chain)
       (λ r m. same r (let here = subst (λ l. 1 ≤ times r l) (rooms_in_use k.chain) m in let few = k.meets.apart r in let mine = tally_one (count_with_party r) s.views j v at in omega arith)) k.full
 
+  pub pool_stays : (s : TableState E) (k : RuleHolds s) (j : ℕ) (v : View E) (homes : Homes E) → get_elem? s.views j ≡ some v → ((r : ℕ) → count_with_party r v ≡ 0 → get_elem? homes r ≡ get_elem? s.homes r)
+      → (r : ℕ) → 1 ≤ times r k.pool.rooms → get_elem? homes r ≡ get_elem? s.homes r
+  pool_stays s k j v homes at same r m = same r (let few = k.meets.apart r in let mine = tally_one (count_with_party r) s.views j v at in omega arith)
+
   pub others_stay : (s : TableState E) (k : RuleHolds s) (j : ℕ) (v : View E) (homes : Homes E) → get_elem? s.views j ≡ some v → ((r : ℕ) → count_with_party r v ≡ 0 → get_elem? homes r ≡ get_elem? s.homes r)
       → (i : ℕ) (u : View E) (r : ℕ) → i ≢ j → get_elem? s.views i ≡ some u → 1 ≤ times r u.free.rooms → get_elem? homes r ≡ get_elem? s.homes r
   others_stay s k j v homes at same i u r other there m = same r (alone_of s k j i v u r at other there (omega arith))
 
   -- a step of the party j that only reads the word i, tells nothing, and takes or returns slots of its own
-  quiet : (s : TableState E) (k : RuleHolds s) (j i : ℕ) (v w : View E) (homes : Homes E) → get_elem? s.views j ≡ some v → w.known ≡ v.known → ((r : ℕ) → count_with_party r w ≤ count_with_party r v) → AtDoing s.words k.history j w.doing
+  quiet : (s : TableState E) (k : RuleHolds s) (j i : ℕ) (v w : View E) (homes : Homes E) → get_elem? s.views j ≡ some v → w.known ≡ v.known → ((r : ℕ) → count_with_party r w ≤ count_with_party r v) → room_count w ≡ room_count v → length homes ≡ length s.homes → AtDoing s.words k.history j w.doing
       → AtHome homes (all_vacant w.free.rooms w.free.end) → ((r : ℕ) → count_with_party r v ≡ 0 → get_elem? homes r ≡ get_elem? s.homes r)
       → RuleHolds record { words = set s.words i (get_or s.words i 0); homes = homes; views = set s.views j w }
-  quiet s k j i v w homes at known few does free same =
+  quiet s k j i v w homes at known few even deep does free same =
       unwritten s i homes (set s.views j w) (step_keeps s k j v w s.words homes k.chain k.history
-      (rests s.words k.chain s.views k.history j v w k.meets at few does) refl (chain_stays s k j v homes at same) free (others_stay s k j v homes at same)
+      record {
+        at = at;
+        word_is = refl;
+        pooled = pool_stays s k j v homes at same;
+        deep = deep;
+        even = ap (λ n. length k.chain + n) even;
+        spent = λ e. even ∙ k.spent j v at (sym (ap (λ (z : Known (Event Name E)). z.share) known) ∙ e);
+      }
+      (rests k.pool.rooms s.words k.chain s.views k.history j v w k.meets at few does) refl (chain_stays s k j v homes at same) free (others_stay s k j v homes at same)
       (fits_same actor knows s.views k.history j v w at (ap (λ (z : Known (Event Name E)). z.share) known) (ap (λ (z : Known (Event Name E)). z.seen) known) (ap (λ (z : Known (Event Name E)). z.had) known) (ap (λ (z : Known (Event Name E)). z.told) known) k.fits)
       (owned_same knows s.views k.history j v w at (ap (λ (z : Known (Event Name E)). z.share) known) k.owned))
 
@@ -157,12 +191,12 @@ module _ {E : Type 0} where
       let x : Event Name E = Load (name v) in
       let h = k.history ++ (id, x) ∷ [] in
       let w = view_after v id h v.free Idle in
-      let meets = loads s.words k.chain s.views k.history id v w (name v) k.meets at (λ q. let c = ap (λ d. times q (held_rooms d)) idle in omega arith) tt in
+      let meets = loads k.pool.rooms s.words k.chain s.views k.history id v w (name v) k.meets at (λ q. let c = ap (λ d. times q (held_rooms d)) idle in omega arith) tt in
       let t = told s k id (x ∷ []) v w h at named (refl, tt) refl refl meets.legal in (
         w,
         keeps,
         tt,
-        unwritten s HEAD s.homes (set s.views id w) (step_keeps s k id v w s.words s.homes k.chain h meets refl k.full (k.free id v at) (λ _ _ _ _ _ _. refl) t.1 t.0),
+        unwritten s HEAD s.homes (set s.views id w) (step_keeps s k id v w s.words s.homes k.chain h (untouched s k id v w at (ap (λ d. length v.free.rooms + length (held_rooms d)) (sym idle)) (λ e. absurd (named e))) meets refl k.full (k.free id v at) (λ _ _ _ _ _ _. refl) t.1 t.0),
         (
           sym idle,
           refl,
@@ -191,12 +225,20 @@ module _ {E : Type 0} where
       let home : AtHome s.homes ((r, slot) ∷ all_vacant rs v.free.end) = subst (λ l. AtHome s.homes (all_vacant l v.free.end)) free (k.free id v at) in
       let same : (q : ℕ) → q ≢ r → get_elem? homes q ≡ get_elem? s.homes q = λ q ne. set_else s.homes r q none ne in
       let mine : (q : ℕ) → count_with_party q v ≡ 0 → q ≢ r = λ q none_of e. let w = was r in let z : count_with_party r v ≡ 0 = subst (λ p. count_with_party p v ≡ 0) e none_of in omega arith in
-      let meets = loads s.words k.chain s.views k.history id v w (name v) k.meets at (λ q. let e = was q in omega arith) (since_now s.words k.history id (name v)) in
+      let meets = loads k.pool.rooms s.words k.chain s.views k.history id v w (name v) k.meets at (λ q. let e = was q in omega arith) (since_now s.words k.history id (name v)) in
       let t = told s k id (x ∷ []) v w h at named (refl, tt) refl refl meets.legal in (
         w,
         takes r slot,
         home.0,
-        unwritten s HEAD homes (set s.views id w) (step_keeps s k id v w s.words homes k.chain h meets refl
+        unwritten s HEAD homes (set s.views id w) (step_keeps s k id v w s.words homes k.chain h
+            record {
+              at = at;
+              word_is = refl;
+              pooled = pool_stays s k id v homes at (λ q none_of. same q (mine q none_of));
+              deep = length-set s.homes r none;
+              even = let long : room_count v ≡ suc (length rs) + 0 = (λ i. length (free i) + length (held_rooms (idle i))) in omega arith;
+              spent = λ e. absurd (named e);
+            } meets refl
             (chain_stays s k id v homes at (λ q none_of. same q (mine q none_of)))
             (home_frame s.homes homes (all_vacant rs v.free.end) (λ q m. same q (λ e. let here_too = subst (λ l. 1 ≤ times q l) (rooms_vacant E rs v.free.end) m in let z : times q rs ≡ times r rs = ap (λ p. times p rs) e in omega arith)) home.1)
             (others_stay s k id v homes at (λ q none_of. same q (mine q none_of))) t.1 t.0),
@@ -220,12 +262,12 @@ module _ {E : Type 0} where
       let h = k.history ++ (id, x) ∷ [] in
       let read = head s.words in
       let w = view_after v id h v.free (Loaded r read) in
-      let meets = loads s.words k.chain s.views k.history id v w (name v) k.meets at (λ q. let c = ap (λ d. times q (held_rooms d)) ready in omega arith) (since_now s.words k.history id (name v)) in
+      let meets = loads k.pool.rooms s.words k.chain s.views k.history id v w (name v) k.meets at (λ q. let c = ap (λ d. times q (held_rooms d)) ready in omega arith) (since_now s.words k.history id (name v)) in
       let t = told s k id (x ∷ []) v w h at named (refl, tt) refl refl meets.legal in (
         w,
         keeps,
         tt,
-        unwritten s HEAD s.homes (set s.views id w) (step_keeps s k id v w s.words s.homes k.chain h meets refl k.full (k.free id v at) (λ _ _ _ _ _ _. refl) t.1 t.0),
+        unwritten s HEAD s.homes (set s.views id w) (step_keeps s k id v w s.words s.homes k.chain h (untouched s k id v w at (ap (λ d. length v.free.rooms + length (held_rooms d)) (sym ready)) (λ e. absurd (named e))) meets refl k.full (k.free id v at) (λ _ _ _ _ _ _. refl) t.1 t.0),
         λ r' ready'. (ap (λ p. let d : Doing E = Loaded (room_of p) read in d) (sym ready ∙ ready'), refl, refl, t.2),
       )
 
@@ -273,10 +315,18 @@ module _ {E : Type 0} where
       let mine : (q : ℕ) → count_with_party q v ≡ 0 → q ≢ r = λ q none_of same. let c = was r in let z : count_with_party r v ≡ 0 = subst (λ p. count_with_party p v ≡ 0) same none_of in omega arith in
       let same : (q : ℕ) → q ≢ r → get_elem? homes q ≡ get_elem? s.homes q = λ q ne. set_else s.homes r q (some slot) ne in
       let wide = k.wide in
-      let meets = pushes s.words k.chain s.views k.history id v w r (name v) x k.meets at (ap (λ d. held_rooms d) poised.doing) refl refl (omega arith) in
+      let meets = pushes k.pool.rooms s.words k.chain s.views k.history id v w r (name v) x k.meets at (ap (λ d. held_rooms d) poised.doing) refl refl (omega arith) in
       let t = told s k id (e ∷ []) v w h at poised.named (refl, tt) refl refl meets.legal in
       let below : slot ≡ filled x (start k.chain) = ap (λ n. filled x n) (sym top ∙ k.meets.top) in
-      let kept = step_keeps s k id v w (set s.words HEAD (suc r)) homes ((r, x) ∷ k.chain) h meets (length-set s.words HEAD (suc r))
+      let kept = step_keeps s k id v w (set s.words HEAD (suc r)) homes ((r, x) ∷ k.chain) h
+      record {
+        at = at;
+        word_is = pool_beside_head s.words (suc r);
+        pooled = pool_stays s k id v homes at (λ q none_of. same q (mine q none_of));
+        deep = length-set s.homes r (some slot);
+        even = let long = ap (λ d. length v.free.rooms + length (held_rooms d)) poised.doing in omega arith;
+        spent = λ e. absurd (poised.named e);
+      } meets (length-set s.words HEAD (suc r))
       (set_here s.homes r (some slot) (omega arith) ∙ ap (λ z. some (some z)) below, chain_stays s k id v homes at (λ q none_of. same q (mine q none_of)))
       (home_frame s.homes homes (all_vacant v.free.rooms v.free.end) (λ q m. same q (λ e. let here_too = subst (λ l. 1 ≤ times q l) (rooms_vacant E v.free.rooms v.free.end) m in let z : times q v.free.rooms ≡ times r v.free.rooms = ap (λ p. times p v.free.rooms) e in omega arith)) (k.free id v at))
       (others_stay s k id v homes at (λ q none_of. same q (mine q none_of))) t.1 t.0 in record {
@@ -303,12 +353,12 @@ module _ {E : Type 0} where
       let v = me.0 in
       let w = view_after v id k.history v.free (Holding (r ∷ [])) in
       let known : AtDoing s.words k.history id (Loaded r read) = subst (λ (d : Doing E). AtDoing s.words k.history id d) poised.doing (k.meets.each id v at) in
-      let meets = rests s.words k.chain s.views k.history id v w k.meets at (λ q. let c = ap (λ d. times q (held_rooms d)) poised.doing in omega arith) tt in
+      let meets = rests k.pool.rooms s.words k.chain s.views k.history id v w k.meets at (λ q. let c = ap (λ d. times q (held_rooms d)) poised.doing in omega arith) tt in
       let t = told s k id [] v w k.history at poised.named tt (sym (append-nil k.history)) refl meets.legal in record {
         view = w;
         act = keeps;
         valid = tt;
-        holds = unwritten s HEAD s.homes (set s.views id w) (step_keeps s k id v w s.words s.homes k.chain k.history meets refl k.full (k.free id v at) (λ _ _ _ _ _ _. refl) t.1 t.0);
+        holds = unwritten s HEAD s.homes (set s.views id w) (step_keeps s k id v w s.words s.homes k.chain k.history (untouched s k id v w at (ap (λ d. length v.free.rooms + length (held_rooms d)) (sym poised.doing)) (λ e. absurd (poised.named e))) meets refl k.full (k.free id v at) (λ _ _ _ _ _ _. refl) t.1 t.0);
         after = record {
           doing = refl;
           free = refl;
@@ -368,14 +418,25 @@ module _ {E : Type 0} where
       let act = take_all (in_use xs) in
       let homes = homes_after s.homes me.1 act in
       let in_rooms : (r : ℕ) → times r (rooms_of (in_use xs)) ≡ in_chain r xs = λ r. ap (times r) (rooms_in_use xs) in
-      let meets = takes_chain s.words xs s.views k.history id v w (name v) k.meets at idle refl refl (omega arith) in
+      let meets = takes_chain k.pool.rooms s.words xs s.views k.history id v w (name v) k.meets at idle refl refl (omega arith) in
       let t = told s k id (e ∷ []) v w h at named (refl, tt) refl refl meets.legal in
       let stays : (u : View E) (i q : ℕ) → get_elem? s.views i ≡ some u → 1 ≤ times q u.free.rooms → get_elem? homes q ≡ get_elem? s.homes q =
       λ u i q there m. untaken (in_use xs) s.homes me.1 q (in_rooms q ∙ alone s k i u q there (omega arith)) in (
         w,
         act,
         taken_valid (in_use xs) s.homes me.1 k.full (λ r. let a = k.meets.apart r in let same = in_rooms r in omega arith),
-        step_keeps s k id v w (set s.words HEAD 0) homes [] h meets (length-set s.words HEAD 0) tt
+        step_keeps s k id v w (set s.words HEAD 0) homes [] h
+            record {
+              at = at;
+              word_is = pool_beside_head s.words 0;
+              pooled = λ q m. untaken (in_use xs) s.homes me.1 q (in_rooms q ∙ (let o = k.meets.apart q in omega arith));
+              deep = taken_long (in_use xs) s.homes me.1;
+              even =
+                  let a = ap (λ (l : List ℕ). length l) (rooms_taking xs) in
+                  let b = length-map xs (λ x. x.0) in
+                  let c = ap (λ d. length v.free.rooms + length (held_rooms d)) idle in omega arith;
+              spent = λ e. absurd (named e);
+            } meets (length-set s.words HEAD 0) tt
             (home_frame s.homes homes (all_vacant v.free.rooms v.free.end) (λ q m. stays v id q at (subst (λ l. 1 ≤ times q l) (rooms_vacant E v.free.rooms v.free.end) m)) (k.free id v at))
             (λ i u q other there m. stays u i q there m) t.1 t.0,
         λ _. record {
@@ -398,9 +459,10 @@ module _ {E : Type 0} where
   -- the slots of free rooms are taken, before those that stay
   holds : (s : TableState E) (k : RuleHolds s) (id i : ℕ) (me : SeatState E) (taken left : FreeChain) → get_elem? s.views id ≡ some me.0 → me.0.doing ≡ Idle
       → AtHome s.homes (all_vacant taken.rooms taken.end) → AtHome s.homes (all_vacant left.rooms left.end) → ((q : ℕ) → times q taken.rooms + times q left.rooms ≡ times q me.0.free.rooms)
+      → length taken.rooms + length left.rooms ≡ length me.0.free.rooms
       → Valid s.homes me.1 (take_all (all_vacant taken.rooms taken.end))
       × RuleHolds (stepped s i (get_or s.words i 0) id me.1 (record me.0 { doing = Holding taken.rooms; free = left }) (take_all (all_vacant taken.rooms taken.end)))
-  holds s k id i me taken left at idle home stay cut =
+  holds s k id i me taken left at idle home stay cut long =
       let v = me.0 in
       let w : View E = record v { doing = Holding taken.rooms; free = left } in
       let slots : Hand E = all_vacant taken.rooms taken.end in
@@ -408,7 +470,8 @@ module _ {E : Type 0} where
       let own : (q : ℕ) → times q (rooms_of slots) ≡ times q taken.rooms = λ q. ap (times q) (rooms_vacant E taken.rooms taken.end) in
       let same : (q : ℕ) → times q taken.rooms ≡ 0 → get_elem? homes q ≡ get_elem? s.homes q = λ q none_of. untaken slots s.homes me.1 q (own q ∙ none_of) in (
         taken_valid slots s.homes me.1 home (λ q. let o = once s k id v q at in let c = cut q in let f = free_alone v q idle in let p = own q in omega arith),
-        quiet s k id i v w homes at refl (λ q. let c = cut q in let f = free_alone v q idle in omega arith) tt
+        quiet s k id i v w homes at refl (λ q. let c = cut q in let f = free_alone v q idle in omega arith)
+            (let c = ap (λ d. length v.free.rooms + length (held_rooms d)) idle in omega arith) (taken_long slots s.homes me.1) tt
             (home_frame s.homes homes (all_vacant left.rooms left.end)
             (λ q m. same q (let here = subst (λ l. 1 ≤ times q l) (rooms_vacant E left.rooms left.end) m in let o = once s k id v q at in let c = cut q in let f = free_alone v q idle in omega arith)) stay)
             (λ q none_of. same q (let c = cut q in let f = free_alone v q idle in omega arith)),
@@ -422,7 +485,8 @@ module _ {E : Type 0} where
       let slots : Hand E = all_vacant first.rooms first.end in
       let home : AtHome s.homes (slots ++ all_vacant left.rooms left.end) = subst (AtHome s.homes) (vacant_cut E n v.free) (k.free id v at) in
       let t = holds s k id i me first left at idle (home_front s.homes slots (all_vacant left.rooms left.end) home) (home_back s.homes slots (all_vacant left.rooms left.end) home)
-      (λ q. let c = tally_cut (λ r. one_if (eqb r q)) n v.free.rooms in omega arith) in
+      (λ q. let c = tally_cut (λ r. one_if (eqb r q)) n v.free.rooms in omega arith)
+      (sym (length-append (take n v.free.rooms) (drop n v.free.rooms)) ∙ ap (λ (l : List ℕ). length l) (take-append-drop n v.free.rooms)) in
       (record v { doing = Holding first.rooms; free = left }, take_all slots, t.0, t.1, (refl, taken_carried slots me.1))
 
   pub holds_last : (slots id i : ℕ) (me : SeatState E) (before : List ℕ) (r : ℕ) → me.0.doing ≡ Idle → me.0.free.rooms ≡ before ++ r ∷ [] → Allows RuleHolds slots id me i (λ n. n) (play.after_hold_last (step slots i 0 0 none) me)
@@ -433,7 +497,8 @@ module _ {E : Type 0} where
       let slots : Hand E = all_vacant last.rooms last.end in
       let home : AtHome s.homes (all_vacant before (suc r) ++ slots) = subst (AtHome s.homes) (ap (λ l. all_vacant l v.free.end) rooms ∙ vacant_append E before (r ∷ []) v.free.end) (k.free id v at) in
       let t = holds s k id i me last left at idle (home_back s.homes (all_vacant before (suc r)) slots home) (home_front s.homes (all_vacant before (suc r)) slots home)
-      (λ q. let c = tally_append (λ p. one_if (eqb p q)) before (r ∷ []) in let e = ap (times q) rooms in omega arith) in (
+      (λ q. let c = tally_append (λ p. one_if (eqb p q)) before (r ∷ []) in let e = ap (times q) rooms in omega arith)
+      (let c = length-append before (r ∷ []) in let e = ap (λ (l : List ℕ). length l) rooms in omega arith) in (
         record v { doing = Holding (r ∷ []); free = left },
         take_all slots,
         t.0,
@@ -450,10 +515,10 @@ module _ {E : Type 0} where
   -- the slots in hand are returned, which are those of a free chain
   gives_back : (s : TableState E) (k : RuleHolds s) (id i slots : ℕ) (me : SeatState E) (chain : FreeChain) (rooms : List ℕ) (end : ℕ) → get_elem? s.views id ≡ some me.0 → length s.homes ≡ slots
       → held_rooms me.0.doing ≡ chain.rooms → me.1 ≡ all_vacant chain.rooms chain.end → Near slots chain.rooms
-      → ((q : ℕ) → times q rooms ≡ times q chain.rooms + times q me.0.free.rooms)
+      → ((q : ℕ) → times q rooms ≡ times q chain.rooms + times q me.0.free.rooms) → length rooms ≡ length chain.rooms + length me.0.free.rooms
       → ((homes : Homes E) → AtHome homes (all_vacant chain.rooms chain.end) → AtHome homes (all_vacant me.0.free.rooms me.0.free.end) → AtHome homes (all_vacant rooms end))
       → RuleHolds (stepped s i (get_or s.words i 0) id me.1 (record me.0 { doing = Idle; free = record { rooms = rooms; end = end } }) (give_all me.1))
-  gives_back s k id i slots me chain rooms end at deep held hand near sum home =
+  gives_back s k id i slots me chain rooms end at deep held hand near sum long home =
       let v = me.0 in
       let w : View E = record v { doing = Idle; free = record { rooms = rooms; end = end } } in
       let all : Hand E = all_vacant chain.rooms chain.end in
@@ -466,7 +531,8 @@ module _ {E : Type 0} where
       let left = home_frame s.homes homes (all_vacant v.free.rooms v.free.end)
       (λ q m. same q (let here = subst (λ l. 1 ≤ times q l) (rooms_vacant E v.free.rooms v.free.end) m in let o = once s k id v q at in let c = whole q in omega arith)) (k.free id v at) in
       subst (λ cs. RuleHolds (stepped s i (get_or s.words i 0) id cs w (give_all cs))) (sym hand)
-      (quiet s k id i v w homes at refl (λ q. let c = whole q in let m = sum q in omega arith) tt (home homes given left) (λ q none_of. same q (let c = whole q in omega arith)))
+      (quiet s k id i v w homes at refl (λ q. let c = whole q in let m = sum q in omega arith)
+      (let c = ap (λ (l : List ℕ). length v.free.rooms + length l) held in omega arith) (given_long all s.homes) tt (home homes given left) (λ q none_of. same q (let c = whole q in omega arith)))
 
   pub returns : (slots id i : ℕ) (me : SeatState E) → me.1 ≡ all_vacant (held_rooms me.0.doing) (last_link me.1) → Near slots (held_rooms me.0.doing) → MayJoin (chain_in_hand me) me.0.free
       → Allows RuleHolds slots id me i (λ n. n) (play.after_return (step slots i 0 0 none) me)
@@ -475,7 +541,7 @@ module _ {E : Type 0} where
       let chain = chain_in_hand me in
       let all = joined chain v.free in
       let w : View E = record v { doing = Idle; free = all } in
-      let kept = gives_back s k id i slots me chain all.rooms all.end at deep refl hand near (λ q. tally_append (λ p. one_if (eqb p q)) chain.rooms v.free.rooms)
+      let kept = gives_back s k id i slots me chain all.rooms all.end at deep refl hand near (λ q. tally_append (λ p. one_if (eqb p q)) chain.rooms v.free.rooms) (length-append chain.rooms v.free.rooms)
       (λ homes given left. subst (AtHome homes) (sym (vacant_joined E chain v.free may)) (home_append homes (all_vacant chain.rooms chain.end) (all_vacant v.free.rooms v.free.end) given left)) in
       let few = few_rooms (stepped s i (get_or s.words i 0) id me.1 w (give_all me.1)) kept id w (set_here s.views id w (at_length s.views id v at)) in (
         w,
@@ -493,7 +559,7 @@ module _ {E : Type 0} where
       let all = with_last r link v.free in
       let w : View E = record v { doing = Idle; free = all } in
       let kept = gives_back s k id i slots me chain all.rooms all.end at deep (ap (λ d. held_rooms d) doing) hand (near_one slots r inside)
-      (λ q. let t = tally_append (λ p. one_if (eqb p q)) v.free.rooms (r ∷ []) in omega arith)
+      (λ q. let t = tally_append (λ p. one_if (eqb p q)) v.free.rooms (r ∷ []) in omega arith) (let t = length-append v.free.rooms (r ∷ []) in omega arith)
       (λ homes given left. subst (AtHome homes) (sym (vacant_last E v.free r link tied)) (home_append homes (all_vacant v.free.rooms v.free.end) (all_vacant (r ∷ []) link) left given)) in (
         w,
         give_all me.1,

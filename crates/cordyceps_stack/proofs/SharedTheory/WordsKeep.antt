@@ -67,46 +67,6 @@ module _ {E : Type 0} where
   emptied ws ws' n [] e s = inl (e ∙ sym s)
   emptied ws ws' n (x ∷ xs) e s = inr (λ c. let no : ⊥ = cc in no)
 
-  -- one party goes from v to w. No room is in two places, and what the others have loaded stays loaded
-  advance : (ws ws' : List ℕ) (chain chain' : List (ℕ × E)) (views : List (View E)) (h h' : History E) (j : ℕ) (v w : View E) → WordsMeet ws chain views h → get_elem? views j ≡ some v
-      → Legal (events h') → head ws' ≡ start chain' → room_elements chain' ≡ reverse (held (events h'))
-      → ((r : ℕ) → in_chain r chain' + count_with_party r w ≤ in_chain r chain + count_with_party r v)
-      → AtDoing ws' h' j w.doing
-      → ((i read : ℕ) → i ≢ j → Since ws h i read → Since ws' h' i read)
-      → WordsMeet ws' chain' (set views j w) h'
-  advance ws ws' chain chain' views h h' j v w m at legal top holds few mine others = record {
-    legal = legal;
-    top = top;
-    holds = holds;
-    apart = λ r. omega (arith, m.apart r, few r, tally_set (count_with_party r) views j v w at);
-    each = one_set (λ i u. AtDoing ws' h' i u.doing) views j w mine (λ i u ne e. does_frame ws ws' h h' i u.doing (λ read. others i read ne) (m.each i u e));
-  }
-
-  -- the party's own step changes neither head nor history
-  pub rests : (ws : List ℕ) (chain : List (ℕ × E)) (views : List (View E)) (h : History E) (j : ℕ) (v w : View E) → WordsMeet ws chain views h → get_elem? views j ≡ some v
-      → ((r : ℕ) → count_with_party r w ≤ count_with_party r v) → AtDoing ws h j w.doing → WordsMeet ws chain (set views j w) h
-  rests ws chain views h j v w m at few mine = advance ws ws chain chain views h h j v w m at m.legal m.top m.holds (λ r. omega (arith, few r)) mine (λ i read other s. s)
-
-  pub loads : (ws : List ℕ) (chain : List (ℕ × E)) (views : List (View E)) (h : History E) (j : ℕ) (v w : View E) (n : Name) → WordsMeet ws chain views h → get_elem? views j ≡ some v
-      → ((r : ℕ) → count_with_party r w ≤ count_with_party r v) → AtDoing ws (h ++ (j, Load n) ∷ []) j w.doing → WordsMeet ws chain (set views j w) (h ++ (j, Load n) ∷ [])
-  loads ws chain views h j v w n m at few mine =
-      let h' = h ++ (j, Load n) ∷ [] in
-      advance ws ws chain chain views h h' j v w m at (legal_event h j (Load n) m.legal tt) m.top (m.holds ∙ ap (λ es. reverse es) (sym (held_event h j (Load n)))) (λ r. omega (arith, few r)) mine
-      (λ i read other. since_event ws ws h i read j (Load n) (λ z. other (sym z)) (inl refl))
-
-  pub pushes : (ws : List ℕ) (chain : List (ℕ × E)) (views : List (View E)) (h : History E) (j : ℕ) (v w : View E) (r : ℕ) (n : Name) (x : E) → WordsMeet ws chain views h → get_elem? views j ≡ some v
-      → held_rooms v.doing ≡ r ∷ [] → w.doing ≡ Idle → w.free ≡ v.free → HEAD < length ws
-      → WordsMeet (set ws HEAD (suc r)) ((r, x) ∷ chain) (set views j w) (h ++ (j, Push n x) ∷ [])
-  pushes ws chain views h j v w r n x m at was now free inside =
-      let ws' = set ws HEAD (suc r) in
-      let h' = h ++ (j, Push n x) ∷ [] in
-      advance ws ws' chain ((r, x) ∷ chain) views h h' j v w m at (legal_event h j (Push n x) m.legal tt)
-      (head_set ws (suc r) inside)
-      (ap (λ (l : List E). x ∷ l) m.holds ∙ (sym (reverse-append (held (events h)) (x ∷ [])) ∙ ap (λ es. reverse es) (sym (held_event h j (Push n x)))))
-      (λ s. let a : count_with_party s w ≡ times s v.free.rooms + 0 = (λ i. times s (free i).rooms + times s (held_rooms (now i))) in let b : count_with_party s v ≡ times s v.free.rooms + (one_if (eqb r s) + 0) = ap (λ l. times s v.free.rooms + times s l) was in omega arith)
-      (subst (λ (d : Doing E). AtDoing ws' h' j d) (sym now) tt)
-      (λ i read other. since_event ws ws' h i read j (Push n x) (λ z. other (sym z)) (inr tt))
-
   -- several pushes of the party i
   since_pushes : (ws ws' : List ℕ) (h : History E) (j read i : ℕ) (es : List (Event Name E)) → i ≢ j → SomeChange es → Since ws h j read → Since ws' (h ++ of_seat i es) j read
   since_pushes ws ws' h j read i es other moved s = record {
@@ -125,9 +85,51 @@ module _ {E : Type 0} where
   some_push : (n : Name) (es : List E) (x : E) → SomeChange (pushes_of n (es ++ x ∷ []))
   some_push n es x = subst (λ l. SomeChange (map (Push n) l)) (sym (reverse-append es (x ∷ []))) (inl tt)
 
-  pub pushes_all : (ws : List ℕ) (chain : List (ℕ × E)) (views : List (View E)) (h : History E) (j : ℕ) (v w : View E) (before : List (ℕ × E)) (r : ℕ) (n : Name) (x : E) → WordsMeet ws chain views h → get_elem? views j ≡ some v
+-- the pool has these rooms, which no step here changes
+module _ {E : Type 0} (pool : List ℕ) where
+  -- one party goes from v to w. No room is in two places, and what the others have loaded stays loaded
+  advance : (ws ws' : List ℕ) (chain chain' : List (ℕ × E)) (views : List (View E)) (h h' : History E) (j : ℕ) (v w : View E) → WordsMeet ws chain pool views h → get_elem? views j ≡ some v
+      → Legal (events h') → head ws' ≡ start chain' → room_elements chain' ≡ reverse (held (events h'))
+      → ((r : ℕ) → in_chain r chain' + count_with_party r w ≤ in_chain r chain + count_with_party r v)
+      → AtDoing ws' h' j w.doing
+      → ((i read : ℕ) → i ≢ j → Since ws h i read → Since ws' h' i read)
+      → WordsMeet ws' chain' pool (set views j w) h'
+  advance ws ws' chain chain' views h h' j v w m at legal top holds few mine others = record {
+    legal = legal;
+    top = top;
+    holds = holds;
+    apart = λ r. omega (arith, m.apart r, few r, tally_set (count_with_party r) views j v w at);
+    each = one_set (λ i u. AtDoing ws' h' i u.doing) views j w mine (λ i u ne e. does_frame ws ws' h h' i u.doing (λ read. others i read ne) (m.each i u e));
+  }
+
+  -- the party's own step changes neither head nor history
+  pub rests : (ws : List ℕ) (chain : List (ℕ × E)) (views : List (View E)) (h : History E) (j : ℕ) (v w : View E) → WordsMeet ws chain pool views h → get_elem? views j ≡ some v
+      → ((r : ℕ) → count_with_party r w ≤ count_with_party r v) → AtDoing ws h j w.doing → WordsMeet ws chain pool (set views j w) h
+  rests ws chain views h j v w m at few mine = advance ws ws chain chain views h h j v w m at m.legal m.top m.holds (λ r. omega (arith, few r)) mine (λ i read other s. s)
+
+  pub loads : (ws : List ℕ) (chain : List (ℕ × E)) (views : List (View E)) (h : History E) (j : ℕ) (v w : View E) (n : Name) → WordsMeet ws chain pool views h → get_elem? views j ≡ some v
+      → ((r : ℕ) → count_with_party r w ≤ count_with_party r v) → AtDoing ws (h ++ (j, Load n) ∷ []) j w.doing → WordsMeet ws chain pool (set views j w) (h ++ (j, Load n) ∷ [])
+  loads ws chain views h j v w n m at few mine =
+      let h' = h ++ (j, Load n) ∷ [] in
+      advance ws ws chain chain views h h' j v w m at (legal_event h j (Load n) m.legal tt) m.top (m.holds ∙ ap (λ es. reverse es) (sym (held_event h j (Load n)))) (λ r. omega (arith, few r)) mine
+      (λ i read other. since_event ws ws h i read j (Load n) (λ z. other (sym z)) (inl refl))
+
+  pub pushes : (ws : List ℕ) (chain : List (ℕ × E)) (views : List (View E)) (h : History E) (j : ℕ) (v w : View E) (r : ℕ) (n : Name) (x : E) → WordsMeet ws chain pool views h → get_elem? views j ≡ some v
+      → held_rooms v.doing ≡ r ∷ [] → w.doing ≡ Idle → w.free ≡ v.free → HEAD < length ws
+      → WordsMeet (set ws HEAD (suc r)) ((r, x) ∷ chain) pool (set views j w) (h ++ (j, Push n x) ∷ [])
+  pushes ws chain views h j v w r n x m at was now free inside =
+      let ws' = set ws HEAD (suc r) in
+      let h' = h ++ (j, Push n x) ∷ [] in
+      advance ws ws' chain ((r, x) ∷ chain) views h h' j v w m at (legal_event h j (Push n x) m.legal tt)
+      (head_set ws (suc r) inside)
+      (ap (λ (l : List E). x ∷ l) m.holds ∙ (sym (reverse-append (held (events h)) (x ∷ [])) ∙ ap (λ es. reverse es) (sym (held_event h j (Push n x)))))
+      (λ s. let a : count_with_party s w ≡ times s v.free.rooms + 0 = (λ i. times s (free i).rooms + times s (held_rooms (now i))) in let b : count_with_party s v ≡ times s v.free.rooms + (one_if (eqb r s) + 0) = ap (λ l. times s v.free.rooms + times s l) was in omega arith)
+      (subst (λ (d : Doing E). AtDoing ws' h' j d) (sym now) tt)
+      (λ i read other. since_event ws ws' h i read j (Push n x) (λ z. other (sym z)) (inr tt))
+
+  pub pushes_all : (ws : List ℕ) (chain : List (ℕ × E)) (views : List (View E)) (h : History E) (j : ℕ) (v w : View E) (before : List (ℕ × E)) (r : ℕ) (n : Name) (x : E) → WordsMeet ws chain pool views h → get_elem? views j ≡ some v
       → held_rooms v.doing ≡ rooms_then before r → w.doing ≡ Idle → w.free ≡ v.free → HEAD < length ws
-      → WordsMeet (set ws HEAD (leads (rooms_of before) (suc r))) (before ++ (r, x) ∷ chain) (set views j w) (h ++ of_seat j (pushes_of n (elements_then before x)))
+      → WordsMeet (set ws HEAD (leads (rooms_of before) (suc r))) (before ++ (r, x) ∷ chain) pool (set views j w) (h ++ of_seat j (pushes_of n (elements_then before x)))
   pushes_all ws chain views h j v w before r n x m at was now free inside =
       let first = leads (rooms_of before) (suc r) in
       let ws' = set ws HEAD first in
@@ -148,9 +150,9 @@ module _ {E : Type 0} where
       (subst (λ (d : Doing E). AtDoing ws' h' j d) (sym now) tt)
       (λ i read other. since_pushes ws ws' h i read j (pushes_of n es) (λ z. other (sym z)) (some_push n (room_elements before) x))
 
-  pub takes_chain : (ws : List ℕ) (chain : List (ℕ × E)) (views : List (View E)) (h : History E) (j : ℕ) (v w : View E) (n : Name) → WordsMeet ws chain views h → get_elem? views j ≡ some v
+  pub takes_chain : (ws : List ℕ) (chain : List (ℕ × E)) (views : List (View E)) (h : History E) (j : ℕ) (v w : View E) (n : Name) → WordsMeet ws chain pool views h → get_elem? views j ≡ some v
       → v.doing ≡ Idle → w.doing ≡ taking chain → w.free ≡ v.free → HEAD < length ws
-      → WordsMeet (set ws HEAD 0) [] (set views j w) (h ++ (j, Taken n (room_elements chain)) ∷ [])
+      → WordsMeet (set ws HEAD 0) [] pool (set views j w) (h ++ (j, Taken n (room_elements chain)) ∷ [])
   takes_chain ws chain views h j v w n m at was now free inside =
       let ws' = set ws HEAD 0 in
       let x = Taken n (room_elements chain) in
@@ -162,10 +164,25 @@ module _ {E : Type 0} where
       (subst (λ (d : Doing E). AtDoing ws' h' j d) (sym now) (does_taking ws' h' j chain))
       (λ i read other. since_event ws ws' h i read j x (λ z. other (sym z)) (emptied ws ws' n chain empty m.top))
 
+  -- rooms go from the pool to the party, or back; head is as it was
+  since_head : (ws ws' : List ℕ) (h : History E) (i read : ℕ) → head ws' ≡ head ws → Since ws h i read → Since ws' h i read
+  since_head ws ws' h i read same s = record { before = s.before; name = s.name; later = s.later; is = s.is; none = s.none; same = ⊎_elim (λ e. inl (same ∙ e)) (λ c. inr c) s.same }
+
+  pub deals : (ws ws' : List ℕ) (chain : List (ℕ × E)) (pool' : List ℕ) (views : List (View E)) (h : History E) (j : ℕ) (v w : View E) → WordsMeet ws chain pool views h → get_elem? views j ≡ some v
+      → head ws' ≡ head ws → ((r : ℕ) → times r pool' + count_with_party r w ≤ times r pool + count_with_party r v) → AtDoing ws' h j w.doing
+      → WordsMeet ws' chain pool' (set views j w) h
+  deals ws ws' chain pool' views h j v w m at same few mine = record {
+    legal = m.legal;
+    top = same ∙ m.top;
+    holds = m.holds;
+    apart = λ r. omega (arith, m.apart r, few r, tally_set (count_with_party r) views j v w at);
+    each = one_set (λ i u. AtDoing ws' h i u.doing) views j w mine (λ i u ne e. does_frame ws ws' h h i u.doing (λ read. since_head ws ws' h i read same) (m.each i u e));
+  }
+
   -- a party is cut in two
-  pub forks : (ws : List ℕ) (chain : List (ℕ × E)) (views : List (View E)) (h : History E) (j : ℕ) (v left right : View E) → WordsMeet ws chain views h → get_elem? views j ≡ some v
+  pub forks : (ws : List ℕ) (chain : List (ℕ × E)) (views : List (View E)) (h : History E) (j : ℕ) (v left right : View E) → WordsMeet ws chain pool views h → get_elem? views j ≡ some v
       → ((r : ℕ) → count_with_party r left + count_with_party r right ≤ count_with_party r v) → AtDoing ws h j left.doing → ((i : ℕ) → AtDoing ws h i right.doing)
-      → WordsMeet ws chain (set views j left ++ right ∷ []) h
+      → WordsMeet ws chain pool (set views j left ++ right ∷ []) h
   forks ws chain views h j v left right m at few here there =
       let one = rests ws chain views h j v left m at (λ r. let f = few r in omega arith) here in record {
         legal = m.legal;

@@ -1,5 +1,5 @@
 -- What a party of a shared transfer stack knows and does, as the rule of the stack's table sees it.
-use Rattle.std.specs.Prelude.{ℕ, List, [], ◌∷◌, ◌+◌}
+use Rattle.std.specs.Prelude.{ℕ, List, [], ◌∷◌, ◌+◌, length}
 use Rattle.cordyceps_shared.specs.FreeChains.{FreeChain}
 use Rattle.cordyceps_shared.specs.Counts.{times}
 use Rattle.cordyceps_shared.specs.Knowing.{Known}
@@ -58,3 +58,7 @@ module _ {E : Type 0} where
 
   abbrev pub count_with_party : ℕ → View E → ℕ
   count_with_party r v = times r v.free.rooms + times r (held_rooms v.doing)
+
+  -- how many rooms a party has, free or in hand
+  abbrev pub room_count : View E → ℕ
+  room_count v = length v.free.rooms + length (held_rooms v.doing)

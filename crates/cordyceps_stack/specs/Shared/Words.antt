@@ -2,7 +2,7 @@
 use Rattle.std.specs.Prelude.{◌≡◌, ◌⊎◌, ℕ, ◌+◌, ◌≤◌, List, ◌∷◌, ◌++◌, reverse}
 use mathlib.Core.Option.{some}
 use lib.ListN.{get_elem?}
-use Rattle.cordyceps_shared.specs.Counts.{tally}
+use Rattle.cordyceps_shared.specs.Counts.{tally, times}
 use Rattle.cordyceps_shared.specs.Histories.{events, NoneOf}
 use Rattle.cordyceps_shared.specs.Shares.{Name}
 use Rattle.cordyceps_shared.specs.Words.{head}
@@ -35,10 +35,10 @@ module _ {E : Type 0} where
 
   -- the history is legal, head leads to the chain of what it holds, no room is in two places, and what a party does is
   -- what its events led it to
-  pub record WordsMeet (words : List ℕ) (chain : List (ℕ × E)) (views : List (View E))
+  pub record WordsMeet (words : List ℕ) (chain : List (ℕ × E)) (pool : List ℕ) (views : List (View E))
       (history : History E) : Type 0 where
     pub legal : Legal (events history)
     pub top : head words ≡ start chain
     pub holds : room_elements chain ≡ reverse (held (events history))
-    pub apart : (r : ℕ) → in_chain r chain + tally (count_with_party r) views ≤ 1
+    pub apart : (r : ℕ) → in_chain r chain + times r pool + tally (count_with_party r) views ≤ 1
     pub each : (j : ℕ) (v : View E) → get_elem? views j ≡ some v → AtDoing words history j v.doing
