@@ -6,6 +6,8 @@ pub mod OrderHolds
 pub mod PartingKeeps
 pub mod PartsJoin
 pub mod PartyMoves
+pub mod PoolJoins
+pub mod PoolKeeps
 pub mod Sending
 pub mod SlotMoves
 pub mod StepsKeep

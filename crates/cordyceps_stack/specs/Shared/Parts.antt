@@ -6,7 +6,7 @@ use Rattle.cordyceps_shared.specs.FreeChains.{leads, with_first, first_rooms, re
 use Rattle.cordyceps_shared.specs.Histories.{plain, AllOwn}
 use Rattle.cordyceps_shared.specs.Shares.{whole, IsShare}
 use Rattle.cordyceps_shared.specs.declared.free.FreeRooms.{FreeRooms}
-use Rattle.cordyceps_stack.specs.History.{Load, Push, Taken, Legal}
+use Rattle.cordyceps_stack.specs.History.{Load, Push, Taken, held, Legal}
 use Rattle.cordyceps_stack.specs.Cores.Stages.{room_elements}
 use Rattle.cordyceps_stack.specs.Shared.Parting.{view_absorbing, view_without_told}
 use Rattle.cordyceps_stack.specs.Shared.Plays.{SeatState, Sees, HasHit, HasFailed, IsResting, IsReady, IsWalking}
@@ -130,6 +130,20 @@ module _ {E : Type 0} where
     pub known : (view k).known ≡ (view m).known
     pub free : length (view k).free.rooms
         ≡ length (view m).free.rooms + length (to_hand_out (view m).doing)
+
+  -- ---- the pool
+  -- it took the pool, in which so many rooms were, and sees all
+  pub record Refills (slots n : ℕ) (m k : SeatState E) : Type 0 where
+    pub rests : IsResting slots k
+    pub free : length (view k).free.rooms ≡ length (view m).free.rooms + n
+    pub sees : Sees (view m) [] (view k)
+    pub all : (view m).known.share ≡ whole
+        → length (held (plain (view k).known.seen)) + length (view k).free.rooms ≡ slots
+
+  -- it gave the first n of its free rooms to the pool, or did nothing
+  abbrev pub GivesBack : ℕ → Bool → SeatState E → SeatState E → Type 0
+  GivesBack n true m k = k ≡ (record (view m) { free = rest_rooms n (view m).free }, hand m)
+  GivesBack n false m k = k ≡ m
 
   -- ---- parties
   -- what a contract sees of a party with this seat

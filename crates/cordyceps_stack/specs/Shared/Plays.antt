@@ -1,17 +1,19 @@
 -- What each atomic step tells a party of a transfer stack: of its seat m before, of the word that it found, and of its
 -- seat k after. A seat has a view, and the slots in hand, the last taken first.
-use Rattle.std.specs.Prelude.{◌≡◌, ◌≢◌, ℕ, suc, ◌<◌, ◌≤◌, List, [], ◌∷◌, ◌++◌, length}
+use Rattle.std.specs.Prelude.{◌≡◌, ◌≢◌, ℕ, suc, ◌<◌, ◌≤◌, ◌+◌, List, [], ◌∷◌, ◌++◌, length}
 use Rattle.cordyceps_shared.specs.FreeChains.{FreeChain, leads, with_last, first_rooms, rest_rooms, joined}
+use Rattle.cordyceps_shared.specs.Histories.{plain}
 use Rattle.cordyceps_shared.specs.Knowing.{Grown}
-use Rattle.cordyceps_shared.specs.Shares.{Name}
+use Rattle.cordyceps_shared.specs.Pools.{Packs}
+use Rattle.cordyceps_shared.specs.Shares.{Name, whole}
 use Rattle.cordyceps_shared.specs.Slots.{Near}
-use Rattle.cordyceps_stack.specs.History.{Event, Load, Push, Taken, Legal, actor}
+use Rattle.cordyceps_stack.specs.History.{Event, Load, Push, Taken, held, Legal, actor}
 use Rattle.cordyceps_stack.specs.Cores.Stages.{room_elements}
 use Rattle.cordyceps_stack.specs.Shared.Calls.{EndsPushed, EndsPushedAll, EndsLooked, IsOvertaken, pushes_of}
 use Rattle.cordyceps_stack.specs.Shared.Slots.{Hand, TableStep, SeatWith, view, hand, start, filled, vacant, rooms_of}
 use Rattle.cordyceps_stack.specs.Shared.Slots.{in_use, in_use_to, all_vacant, last_link}
 use Rattle.cordyceps_stack.specs.Shared.View.{Doing, Idle, Loaded, LoadedAll, Holding, Walking, View, name, taking}
-use Rattle.cordyceps_stack.specs.Shared.View.{held_rooms}
+use Rattle.cordyceps_stack.specs.Shared.View.{held_rooms, room_count}
 
 abbrev pub SeatState : Type 0 → Type 0
 SeatState E = SeatWith E (View E)
@@ -162,6 +164,43 @@ module _ {E : Type 0} where
   abbrev pub after_append : TableStep E → SeatState E → ℕ → SeatState E → Type 0
   after_append st m found k = (r link : ℕ) → (view m).doing ≡ Holding (r ∷ []) → hand m ≡ (r, vacant link) ∷ []
       → (view k ≡ record (view m) { doing = Idle; free = with_last r link (view m).free }) × (hand k ≡ [])
+
+  -- ---- the steps on the pool's word
+  -- the slots of the rooms that were in the pool are in hand, the last one's first
+  pub record HasRefilled (slots found : ℕ) (m k : SeatState E) : Type 0 where
+    pub before : List ℕ
+    pub last : ℕ
+    pub end : ℕ
+    pub packs : Packs found record { rooms = before ++ last ∷ []; end = end }
+    pub doing : (view k).doing ≡ Holding (before ++ last ∷ [])
+    pub free : (view k).free ≡ (view m).free
+    pub hand : hand k ≡ (last, vacant end) ∷ all_vacant before (suc last) ++ hand m
+    pub near : Near slots (before ++ last ∷ [])
+
+  pub record HasFoundNone (m k : SeatState E) : Type 0 where
+    pub doing : (view k).doing ≡ Idle
+    pub free : (view k).free ≡ (view m).free
+    pub hand : hand k ≡ hand m
+
+  -- a swap: the party takes the pool, and sees all. Each room is then with a whole party, or holds an element
+  pub record FindsPool (slots found : ℕ) (m k : SeatState E) : Type 0 where
+    pub none : found ≡ 0 → HasFoundNone m k
+    pub some_of : found ≢ 0 → HasRefilled slots found m k
+    pub sees : Sees (view m) [] (view k)
+    pub all : (view m).known.share ≡ whole → length (held (plain (view k).known.seen)) + room_count (view k) ≡ slots
+
+  abbrev pub after_refill : TableStep E → SeatState E → ℕ → SeatState E → Type 0
+  after_refill st m found k = FindsPool st.slots found m k
+
+  -- a load: the party has at most as many rooms as there are
+  abbrev pub after_glance : TableStep E → SeatState E → ℕ → SeatState E → Type 0
+  after_glance st m found k = (k ≡ m) × (length (view m).free.rooms ≤ st.slots)
+
+  -- a compare-exchange: the first n free rooms are the pool, or other rooms are
+  abbrev pub after_give_back : ℕ → TableStep E → SeatState E → ℕ → SeatState E → Type 0
+  after_give_back n st m found k =
+      (found ≡ 0 → (view k ≡ record (view m) { free = rest_rooms n (view m).free }) × (hand k ≡ hand m))
+      × (found ≢ 0 → k ≡ m)
 
   -- ---- between the steps
   -- the party is between two calls

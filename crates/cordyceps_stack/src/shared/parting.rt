@@ -126,7 +126,7 @@ fn next<E: Drop>(words: &Words<E>, seat: &mut PartySeat<E>, room: usize) -> u64
 
 /// Returns the word that leads to the free room after the first `rooms`, and the last of these. Where these are all, no
 /// link is read.
-fn pass<E: Drop>(
+pub(crate) fn pass<E: Drop>(
     words: &Words<E>,
     seat: &mut PartySeat<E>,
     free: &FreeRooms,
@@ -180,13 +180,13 @@ pub(crate) fn split<E: Drop>(
     (cut::<E, Brand>(words, seat, rooms), given)
 }
 
-/// Links a free room, whose slot is in hand, to the room that `at` leads to.
-fn lead<E: Drop>(words: &Words<E>, seat: &mut PartySeat<E>, room: usize, at: u64)
+/// Links a free room, whose slot is the first in hand, to the room that `at` leads to.
+pub(crate) fn lead<E: Drop>(words: &Words<E>, seat: &mut PartySeat<E>, room: usize, at: u64)
     requires table { IsSeatOf seat.old.table_id words.now.table_id }
-    requires vacant { (link : ℕ) × (hand seat.old.me ≡ (room, vacant link) ∷ []) }
+    requires vacant { (link : ℕ) × (others : Hand E) × (hand seat.old.me ≡ (room, vacant link) ∷ others) }
     ensures table { seat.new.table_id ≡ seat.old.table_id }
-    ensures leads { (link : ℕ) → hand seat.old.me ≡ (room, vacant link) ∷ []
-        → seat.new.me ≡ (view seat.old.me, (room, vacant at) ∷ []) }
+    ensures leads { (link : ℕ) → (others : Hand E) → hand seat.old.me ≡ (room, vacant link) ∷ others
+        → seat.new.me ≡ (view seat.old.me, (room, vacant at) ∷ others) }
 {
     seat.slot_mut(words, room).link = at;
 }

@@ -2,6 +2,7 @@
 ghost use Rattle.cordyceps_stack.specs.Shared.Plays.{after_look, after_begin, after_load, after_exchange, after_take};
 ghost use Rattle.cordyceps_stack.specs.Shared.Plays.{after_load_all, after_exchange_all};
 ghost use Rattle.cordyceps_stack.specs.Shared.Plays.{after_hold, after_hold_last, after_return, after_append};
+ghost use Rattle.cordyceps_stack.specs.Shared.Plays.{after_refill, after_glance, after_give_back};
 ghost use Rattle.cordyceps_stack.specs.Shared.Parting.{after_learn, view_keeping, view_giving};
 ghost use Rattle.cordyceps_stack.specs.Shared.Parting.{view_absorbing, view_absorbed};
 
@@ -88,6 +89,29 @@ pub(crate) struct Append;
 
 impl<E> Play<Slot<E>, SeatView<E>> for Append {
     ghost then = { after_append };
+}
+
+/// A swap of the pool's word, which takes all rooms of the pool and their slots.
+pub(crate) struct Refill;
+
+impl<E> Play<Slot<E>, SeatView<E>> for Refill {
+    ghost then = { after_refill };
+}
+
+/// A load of the pool's word, before rooms are given back.
+pub(crate) struct Glance;
+
+impl<E> Play<Slot<E>, SeatView<E>> for Glance {
+    ghost then = { after_glance };
+}
+
+/// A compare-exchange of the pool's word. If the pool has no room, the first `B::rooms` free rooms go there.
+pub(crate) struct GiveBack<B> {
+    count: PhantomData<B>,
+}
+
+impl<E, B: Count> Play<Slot<E>, SeatView<E>> for GiveBack<B> {
+    ghost then = { after_give_back B.rooms };
 }
 
 /// A load of the head after an absorb.

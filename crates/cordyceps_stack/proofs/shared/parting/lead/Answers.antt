@@ -7,4 +7,4 @@ pub slot_mut-requires : goal.slot_mut-requires
 slot_mut-requires g c =
     let v = c.requires.vacant in
     let slot = vacant v.0 in
-    (search rules, (slot, v.1 ∙ ap (λ l. (c.args.room, slot) ∷ rest l) (sym v.1)))
+    (search rules, (slot, v.2 ∙ ap (λ l. (c.args.room, slot) ∷ rest l) (sym v.2)))

@@ -1,4 +1,4 @@
-use Rattle.std.proofs.Common.{◌∷◌, refl, inr, sym, ap, ◌∙◌, rules}
+use Rattle.std.proofs.Common.{[], ◌∷◌, refl, inr, sym, ap, ◌∙◌, rules}
 use Rattle.cordyceps_shared.proofs.TrackRooms.{last_room, more_than_none}
 use Rattle.cordyceps_stack.specs.Shared.Slots.{vacant}
 use Rattle.cordyceps_stack.proofs.SharedTheory.PartsJoin.{relinked, tracks_rooms}
@@ -17,7 +17,7 @@ lead-requires-clause-vacant g c =
     let m = c.args.seat.now.me in
     let l = last_room c.args.words.now.table_id.slots c.args.free.now m.0.free c.requires.tracks (search rules) c.requires.rest.near in
     let h = c.load.ensures.2 l.0 c.args.free.now.last l.1 in
-    (m.0.free.end, h.1 ∙ ap (λ z. (c.args.free.now.last, vacant m.0.free.end) ∷ z) c.requires.rest.empty)
+    (m.0.free.end, [], h.1 ∙ ap (λ z. (c.args.free.now.last, vacant m.0.free.end) ∷ z) c.requires.rest.empty)
 
 pub load-requires-else-free-eq0 : goal.load-requires-else-free-eq0
 load-requires-else-free-eq0 g c =
@@ -26,7 +26,7 @@ load-requires-else-free-eq0 g c =
     let last = c.args.free.now.last in
     let l = last_room c.args.words.now.table_id.slots c.args.free.now m.0.free c.requires.tracks (search rules) c.requires.rest.near in
     let h = c.load.ensures.2 l.0 last l.1 in
-    let y = c.lead.ensures.leads m.0.free.end (h.1 ∙ ap (λ z. (last, vacant m.0.free.end) ∷ z) c.requires.rest.empty) in
+    let y = c.lead.ensures.leads m.0.free.end [] (h.1 ∙ ap (λ z. (last, vacant m.0.free.end) ∷ z) c.requires.rest.empty) in
     (search rules, search rules, appends _ _ _ _ last c.args.at (ap (λ q. q.0.doing) y ∙ ap (λ v. v.doing) h.0) (ap (λ q. q.1) y) l.2 (inr (ap (λ q. q.0.free.end) y ∙ ap (λ v. v.free.end) h.0)))
 
 pub returns-else-free-eq0-clause-ties : goal.returns-else-free-eq0-clause-ties
@@ -36,7 +36,7 @@ returns-else-free-eq0-clause-ties g c =
     let last = c.args.free.now.last in
     let l = last_room c.args.words.now.table_id.slots c.args.free.now m.0.free c.requires.tracks (search rules) c.requires.rest.near in
     let h = c.load.ensures.2 l.0 last l.1 in
-    let y = c.lead.ensures.leads m.0.free.end (h.1 ∙ ap (λ z. (last, vacant m.0.free.end) ∷ z) c.requires.rest.empty) in
+    let y = c.lead.ensures.leads m.0.free.end [] (h.1 ∙ ap (λ z. (last, vacant m.0.free.end) ∷ z) c.requires.rest.empty) in
     let a = c.load-else-free-eq0.ensures.2 last c.args.at (ap (λ q. q.0.doing) y ∙ ap (λ v. v.doing) h.0) (ap (λ q. q.1) y) in
     relinked _ l.0 last c.args.at m c.load.new.seat.me c.lead.new.seat.me c.load-else-free-eq0.new.seat.me c.requires.rest l.1 h.0 y a.0 a.1
 
@@ -47,7 +47,7 @@ returns-else-free-eq0-clause-tracks g c =
     let last = c.args.free.now.last in
     let l = last_room c.args.words.now.table_id.slots c.args.free.now m.0.free c.requires.tracks (search rules) c.requires.rest.near in
     let h = c.load.ensures.2 l.0 last l.1 in
-    let y = c.lead.ensures.leads m.0.free.end (h.1 ∙ ap (λ z. (last, vacant m.0.free.end) ∷ z) c.requires.rest.empty) in
+    let y = c.lead.ensures.leads m.0.free.end [] (h.1 ∙ ap (λ z. (last, vacant m.0.free.end) ∷ z) c.requires.rest.empty) in
     let a = c.load-else-free-eq0.ensures.2 last c.args.at (ap (λ q. q.0.doing) y ∙ ap (λ v. v.doing) h.0) (ap (λ q. q.1) y) in
     let t = relinked _ l.0 last c.args.at m c.load.new.seat.me c.lead.new.seat.me c.load-else-free-eq0.new.seat.me c.requires.rest l.1 h.0 y a.0 a.1 in
     (tracks_rooms c.args.free.now m.0.free c.load-else-free-eq0.new.seat.me.0.free t.0.rooms c.requires.tracks, refl)
@@ -59,7 +59,7 @@ returns-else-free-eq0-clause-first g c none =
     let last = c.args.free.now.last in
     let l = last_room c.args.words.now.table_id.slots c.args.free.now m.0.free c.requires.tracks (search rules) c.requires.rest.near in
     let h = c.load.ensures.2 l.0 last l.1 in
-    let y = c.lead.ensures.leads m.0.free.end (h.1 ∙ ap (λ z. (last, vacant m.0.free.end) ∷ z) c.requires.rest.empty) in
+    let y = c.lead.ensures.leads m.0.free.end [] (h.1 ∙ ap (λ z. (last, vacant m.0.free.end) ∷ z) c.requires.rest.empty) in
     let a = c.load-else-free-eq0.ensures.2 last c.args.at (ap (λ q. q.0.doing) y ∙ ap (λ v. v.doing) h.0) (ap (λ q. q.1) y) in
     let t = relinked _ l.0 last c.args.at m c.load.new.seat.me c.lead.new.seat.me c.load-else-free-eq0.new.seat.me c.requires.rest l.1 h.0 y a.0 a.1 in
     absurd (more_than_none l.0 last (sym (t.0.rooms ∙ l.1) ∙ none))

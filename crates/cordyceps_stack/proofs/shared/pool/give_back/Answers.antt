@@ -1,0 +1,37 @@
+use Rattle.std.proofs.Common.{◌-◌, sym, ap, ◌∙◌, subst}
+use Rattle.cordyceps_shared.specs.FreeChains.{FreeChain, Tracks, rest_rooms}
+use Rattle.cordyceps_shared.specs.declared.free.FreeRooms.{FreeRooms}
+use Rattle.cordyceps_shared.proofs.TrackRooms.{tracks_keeping}
+use Rattle.cordyceps_stack.proofs.SharedTheory.PoolJoins.{fits_given, packs_given, given_last}
+use Rattle.cordyceps_stack.proofs.shared.pool.give_back.Goals as goal
+
+pub pack-requires : goal.pack-requires
+pack-requires g c =
+    let m = c.args.seat.now.me in
+    let n = c.args.rooms in
+    let last = c.pass-after.result.1 in
+    let e = c.is_empty.ensures in
+    let t = c.requires.rooms in
+    fits_given c.args.words.now.table_id n last c.args.free.now m c.requires.rest c.requires.table.1.1 e.few t.0 t.1 c.if-rooms-eq0.false (given_last n last m c.is_empty.new.seat.me e.same.1 c.pass-after.ensures.last)
+
+pub put-requires-clause-packs : goal.put-requires-clause-packs
+put-requires-clause-packs g c =
+    let m = c.args.seat.now.me in
+    let n = c.args.rooms in
+    let last = c.pass-after.result.1 in
+    let e = c.is_empty.ensures in
+    let t = c.requires.rooms in
+    packs_given c.args.words.now.table_id n last c.pack.result c.args.free.now m c.pass-after.new.seat.me c.requires.rest c.requires.table.1.1 e.few t.0 t.1 c.if-rooms-eq0.false (given_last n last m c.is_empty.new.seat.me e.same.1 c.pass-after.ensures.last) c.pack.ensures
+    (c.pass-after.ensures.seat.1 ∙ e.same.1)
+
+pub returns-clause-tracks : goal.returns-clause-tracks
+returns-clause-tracks g c =
+    let n = c.args.rooms in
+    let free = c.args.free.now in
+    let p = c.pass-after.ensures in
+    let q = c.is_empty.new.seat.me.0.free in
+    let same = ap (λ m. m.0.free) c.is_empty.ensures.same.1 in
+    let left : FreeRooms = record { first = c.pass-after.result.0; last = free.last; count = free.count - n } in
+    let gave = c.if-not-put.ensures in
+    subst (λ (z : FreeChain). Tracks left z) (sym (ap (λ m. m.0.free) gave.gives ∙ ap (λ m. rest_rooms n m.0.free) p.seat.1))
+    (tracks_keeping free q n c.pass-after.result.0 (subst (λ (z : FreeChain). Tracks free z) (sym same) c.requires.rooms.0) p.first)

@@ -1,0 +1,88 @@
+use Rattle.std.proofs.Common.{◌+◌, suc, refl, sym, ap, subst, rules, arith}
+use Rattle.cordyceps_shared.specs.FreeChains.{Tracks}
+use Rattle.cordyceps_shared.specs.declared.free.FreeRooms.{FreeRooms}
+use Rattle.cordyceps_stack.specs.Shared.Slots.{all_vacant}
+use Rattle.cordyceps_stack.proofs.SharedTheory.PoolJoins.{last_first, filled, filled_hand, filled_near, filled_joins, refilled, tracks_refilled, few_refilled}
+use Rattle.cordyceps_stack.proofs.SharedTheory.StepsKeep.{returns}
+use Rattle.cordyceps_stack.proofs.shared.pool.refill.Goals.{then-free-eq0, else-free-eq0}
+use Rattle.cordyceps_stack.proofs.shared.pool.refill.Goals as goal
+
+pub lead-requires-clause-vacant : goal.lead-requires-clause-vacant
+lead-requires-clause-vacant g c =
+    let h = c.take-found.ensures.finds.some_of c.if-found-eq0.false in
+    let u = c.unpack-taken.ensures in
+    (h.end, all_vacant h.before (suc h.last), last_first _ _ c.unpack-taken.result c.args.seat.now.me c.take-found.new.seat.me h u.0 u.1 c.requires.rest.empty)
+
+pub load-requires : goal.load-requires
+load-requires g c =
+    let d = c.take-found.ensures.finds in
+    let h = d.some_of c.if-found-eq0.false in
+    let u = c.unpack-taken.ensures in
+    let m = c.args.seat.now.me in
+    let p = c.take-found.new.seat.me in
+    let l = c.lead.new.seat.me in
+    let t = c.turn.new.self.me in
+    let slots = c.args.words.now.table_id.slots in
+    let free = c.args.free.now in
+    let taken = c.unpack-taken.result in
+    let led = c.lead.ensures.leads h.end (all_vacant h.before (suc h.last)) (last_first slots c.take-found.result taken m p h u.0 u.1 c.requires.rest.empty) in
+    let f = filled slots c.take-found.result free.first taken m p l t d h u.0 u.1 led c.turn.ensures.2 in (
+      search rules,
+      search rules,
+      returns _ _ _ t (filled_hand slots free.first taken m t f) (filled_near slots free.first taken m t f) (filled_joins slots free taken m t f c.requires.tracks),
+    )
+
+pub overflow_add-free : goal.overflow_add-free
+overflow_add-free g c =
+    let d = c.take-found.ensures.finds in
+    let h = d.some_of c.if-found-eq0.false in
+    let u = c.unpack-taken.ensures in
+    let m = c.args.seat.now.me in
+    let p = c.take-found.new.seat.me in
+    let slots = c.args.words.now.table_id.slots in
+    let free = c.args.free.now in
+    let taken = c.unpack-taken.result in
+    let led = c.lead.ensures.leads h.end (all_vacant h.before (suc h.last)) (last_first slots c.take-found.result taken m p h u.0 u.1 c.requires.rest.empty) in
+    let f = filled slots c.take-found.result free.first taken m p c.lead.new.seat.me c.turn.new.self.me d h u.0 u.1 led c.turn.ensures.2 in
+    let b = c.load.ensures.2 in
+    let few = few_refilled slots free taken m c.turn.new.self.me c.load.new.seat.me f b.0 c.requires.tracks b.2 in
+    let many = c.requires.table.1.1 in
+    elim c.if-free-eq0.branch [
+      | then-free-eq0 w ↦ let same = ap (λ (z : FreeRooms). z.count) w.free-is in omega arith
+      | else-free-eq0 w ↦ let same = ap (λ (z : FreeRooms). z.count) w.free-is in omega arith
+    ]
+
+pub returns-clause-refills : goal.returns-clause-refills
+returns-clause-refills g c =
+    let d = c.take-found.ensures.finds in
+    let h = d.some_of c.if-found-eq0.false in
+    let u = c.unpack-taken.ensures in
+    let m = c.args.seat.now.me in
+    let p = c.take-found.new.seat.me in
+    let slots = c.args.words.now.table_id.slots in
+    let taken = c.unpack-taken.result in
+    let led = c.lead.ensures.leads h.end (all_vacant h.before (suc h.last)) (last_first slots c.take-found.result taken m p h u.0 u.1 c.requires.rest.empty) in
+    let b = c.load.ensures.2 in
+    refilled slots c.take-found.result c.args.free.now.first taken m p c.lead.new.seat.me c.turn.new.self.me c.load.new.seat.me c.requires.rest d h u.0 u.1 led c.turn.ensures.2 b.0 b.1
+
+pub returns-clause-tracks : goal.returns-clause-tracks
+returns-clause-tracks g c =
+    let d = c.take-found.ensures.finds in
+    let h = d.some_of c.if-found-eq0.false in
+    let u = c.unpack-taken.ensures in
+    let m = c.args.seat.now.me in
+    let p = c.take-found.new.seat.me in
+    let k = c.load.new.seat.me in
+    let slots = c.args.words.now.table_id.slots in
+    let free = c.args.free.now in
+    let taken = c.unpack-taken.result in
+    let led = c.lead.ensures.leads h.end (all_vacant h.before (suc h.last)) (last_first slots c.take-found.result taken m p h u.0 u.1 c.requires.rest.empty) in
+    let f = filled slots c.take-found.result free.first taken m p c.lead.new.seat.me c.turn.new.self.me d h u.0 u.1 led c.turn.ensures.2 in
+    let all = tracks_refilled slots free taken m c.turn.new.self.me k f c.load.ensures.2.0 c.requires.tracks in
+    elim c.if-free-eq0.branch [
+      | then-free-eq0 w ↦
+          let none = w.if-free-eq0.true in
+          subst (λ (z : FreeRooms). Tracks record { first = taken.first; last = z.last; count = z.count + taken.count } k.0.free) (sym w.free-is) (all taken.last (λ _. refl) (λ more. absurd (more none)))
+      | else-free-eq0 w ↦
+          subst (λ (z : FreeRooms). Tracks record { first = taken.first; last = z.last; count = z.count + taken.count } k.0.free) (sym w.free-is) (all free.last (λ e. absurd (w.if-free-eq0.false e)) (λ _. refl))
+    ]

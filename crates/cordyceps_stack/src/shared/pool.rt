@@ -1,0 +1,115 @@
+//! How a party of a shared stack takes the rooms of the pool, and gives rooms back to it.
+ghost use Rattle.std.specs.Prelude.{◌≡◌, ◌≤◌, length};
+ghost use Rattle.cordyceps_shared.specs.FreeChains.{Tracks, first_rooms};
+ghost use Rattle.cordyceps_shared.specs.Pools.{Packs};
+ghost use Rattle.cordyceps_stack.specs.Shared.Parts.{IsSeatOf, Refills, GivesBack};
+ghost use Rattle.cordyceps_stack.specs.Shared.Plays.{IsResting, FindsPool};
+ghost use Rattle.cordyceps_stack.specs.Shared.Slots.{view};
+
+use crate::shared::parting::{lead, pass};
+use crate::shared::plays::{Glance, GiveBack, Refill, Return};
+use crate::shared::table::{PartySeat, QUIET, Words};
+use cordyceps_shared::free::{Count, FreeRooms};
+use cordyceps_shared::layout::POOL;
+use cordyceps_shared::pool::{pack, unpack};
+use std::marker::Brand;
+
+/// Takes the pool's rooms and their slots in hand, the last room's first. Returns the word that leads to these rooms.
+fn take<E: Drop>(words: &Words<E>, seat: &mut PartySeat<E>) -> u64
+    requires table { IsSeatOf seat.old.table_id words.now.table_id }
+    requires rest { IsResting words.now.table_id.slots seat.old.me }
+    ensures table { seat.new.table_id ≡ seat.old.table_id }
+    ensures finds { FindsPool words.now.table_id.slots result seat.old.me seat.new.me }
+{
+    words.swap::<Refill>(seat, POOL, 0)
+}
+
+/// Takes all rooms of the pool, which become the first free ones, and returns how many they are.
+pub(crate) fn refill<E: Drop>(
+    words: &Words<E>,
+    seat: &mut PartySeat<E>,
+    free: &mut FreeRooms,
+) -> usize
+    requires table { IsSeatOf seat.old.table_id words.now.table_id }
+    requires rest { IsResting words.now.table_id.slots seat.old.me }
+    requires tracks { Tracks free.old (view seat.old.me).free }
+    ensures table { seat.new.table_id ≡ seat.old.table_id }
+    ensures refills { Refills words.now.table_id.slots result seat.old.me seat.new.me }
+    ensures tracks { Tracks free.new (view seat.new.me).free }
+{
+    let found = take(words, seat);
+    if found == 0 {
+        return 0;
+    }
+    let taken = unpack(found);
+    lead(words, seat, taken.last, free.first);
+    seat.turn();
+    words.load::<Return>(seat, QUIET);
+    if free.count == 0 {
+        free.last = taken.last;
+    }
+    free.first = taken.first;
+    free.count += taken.count;
+    taken.count
+}
+
+/// Returns `true` if the pool has no room. Its contract also states that the party has no more rooms than the stack.
+fn is_empty<E: Drop>(words: &Words<E>, seat: &mut PartySeat<E>) -> bool
+    requires table { IsSeatOf seat.old.table_id words.now.table_id }
+    requires rest { IsResting words.now.table_id.slots seat.old.me }
+    ensures same { (seat.new.table_id ≡ seat.old.table_id) × (seat.new.me ≡ seat.old.me) }
+    ensures few { length (view seat.old.me).free.rooms ≤ words.now.table_id.slots }
+{
+    words.load::<Glance>(seat, POOL) == 0
+}
+
+/// Exchanges the pool's word with `word` if the pool has no room, and returns `true` if it had none.
+fn put<E: Drop, B: Count>(
+    words: &Words<E>,
+    seat: &mut PartySeat<E>,
+    rooms: usize,
+    word: u64,
+) -> bool
+    requires table { IsSeatOf seat.old.table_id words.now.table_id }
+    requires rest { IsResting words.now.table_id.slots seat.old.me × (B.rooms ≡ rooms) }
+    requires packs { Packs word (first_rooms rooms (view seat.old.me).free) }
+    ensures table { seat.new.table_id ≡ seat.old.table_id }
+    ensures gives { GivesBack rooms result seat.old.me seat.new.me }
+{
+    words.compare_exchange::<GiveBack<B>>(seat, POOL, 0, word) == 0
+}
+
+/// Gives the first `rooms` free rooms to the pool, and returns `true`. If other rooms are there, it returns `false`.
+pub(crate) fn give_back<E: Drop>(
+    words: &Words<E>,
+    seat: &mut PartySeat<E>,
+    free: &mut FreeRooms,
+    rooms: usize,
+) -> bool
+    requires table { IsSeatOf seat.old.table_id words.now.table_id }
+    requires rest { IsResting words.now.table_id.slots seat.old.me }
+    requires rooms { Tracks free.old (view seat.old.me).free × (rooms ≤ free.old.count) }
+    ensures table { seat.new.table_id ≡ seat.old.table_id }
+    ensures gives { GivesBack rooms result seat.old.me seat.new.me }
+    ensures tracks { Tracks free.new (view seat.new.me).free }
+{
+    if rooms == 0 {
+        return true;
+    }
+    // so that no link is read in vain
+    if !is_empty(words, seat) {
+        return false;
+    }
+    let (after, last) = pass(words, seat, free, rooms);
+    let given = FreeRooms {
+        first: free.first,
+        last,
+        count: rooms,
+    };
+    if !put::<E, Brand>(words, seat, rooms, pack(given)) {
+        return false;
+    }
+    free.first = after;
+    free.count -= rooms;
+    true
+}
