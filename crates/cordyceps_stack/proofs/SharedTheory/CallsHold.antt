@@ -1,6 +1,6 @@
 -- What the calls of a shared transfer stack promise, from what their parts leave.
-use Rattle.std.proofs.Common.{◌≡◌, ◌+◌, ◌<◌, ℕ, suc, List, [], ◌∷◌, ◌++◌, map, reverse, length, replicate, Bool, refl, sym, ap, ◌∙◌, subst, arith, length-append, None}
-use Rattle.std.specs.Prelude.{IsTrue, Result, Ok, Err, MatchResult, is_ok, true}
+use Rattle.std.proofs.Common.{◌≡◌, ◌+◌, ◌-◌, ◌<◌, ℕ, suc, List, [], ◌∷◌, ◌++◌, map, reverse, length, replicate, Bool, refl, sym, ap, ◌∙◌, subst, arith, length-append, length-drop, true, false, None}
+use Rattle.std.specs.Prelude.{IsTrue, Result, Ok, Err, MatchResult, is_ok}
 use Rattle.atomic_table.specs.Seated.{TableId}
 use Rattle.cordyceps_shared.specs.FreeChains.{Tracks, FreeChain}
 use Rattle.cordyceps_shared.specs.Histories.{plain, AllOwn}
@@ -13,14 +13,15 @@ use Rattle.cordyceps_shared.proofs.Adding.{keeps_not_whole, not_whole, plain_unm
 use Rattle.cordyceps_shared.proofs.Places.{near_drop, near_take, near_append}
 use Rattle.cordyceps_shared.proofs.Naming.{joined_some, joined_disjoint, keeps_some, gives_some}
 use Rattle.cordyceps_shared.proofs.Ordering.{whole_share, keeps_share, gives_share, joined_share}
+use Rattle.cordyceps_stack.specs.Shared.Parts as parts
 use Rattle.cordyceps_stack.specs.Shared.Parts.{HasTried, HasPushed, HasPushedAll, HasBacked, HasMissed, TookAll, EmptiesHand, HasAbsorbed, standing, IsSeated}
 use Rattle.cordyceps_shared.specs.declared.free.FreeRooms.{FreeRooms}
 use Rattle.cordyceps_stack.specs.History.{Event, Load, Push, Taken, held, Legal, actor}
 use Rattle.cordyceps_stack.specs.Cores.Stages.{room_elements}
-use Rattle.cordyceps_stack.specs.Shared.Plays.{SeatState, Sees, to_hand_out}
+use Rattle.cordyceps_stack.specs.Shared.Plays.{SeatState, Sees, IsResting, to_hand_out}
 use Rattle.cordyceps_stack.specs.Shared.Parting.{view_keeping, view_giving, view_absorbing}
 use Rattle.cordyceps_stack.specs.Shared.Rule.{IsTable}
-use Rattle.cordyceps_stack.specs.Shared.Calls.{PartyOf, PushesAt, PushesAllAt, Misses, Takes, Looks, Adds, EndsLooked, pushes_of}
+use Rattle.cordyceps_stack.specs.Shared.Calls.{PartyOf, PushesAt, PushesAllAt, Misses, Takes, Looks, Refills, GivesBack, Adds, EndsLooked, pushes_of}
 use Rattle.cordyceps_stack.specs.Shared.View.{View, newcomer, name}
 use Rattle.cordyceps_stack.specs.Shared.Order.{crosswise}
 use Rattle.cordyceps_stack.proofs.SharedTheory.OrderHolds.{order_length, order_at, tracks_new}
@@ -107,6 +108,39 @@ module _ {E : Type 0} where
     rooms = ap (λ (l : List ℕ). length l) is.rooms ∙ length-append m.0.free.rooms o.0.free.rooms;
   }
 
+  pub refilled_seated : (z z' : TableId) (n : ℕ) (m k : SeatState E) (free all : FreeRooms) → IsSeated z m free → z' ≡ z → parts.Refills z.slots n m k → Tracks all k.0.free → IsSeated z' k all
+  refilled_seated z z' n m k free all s at r have = record {
+    table = subst (λ q. IsTable q) (sym at) s.table;
+    rests = subst (λ (q : TableId). IsResting q.slots k) (sym at) r.rests;
+    tracks = have;
+    legal = r.sees.legal;
+    alone = r.sees.alone;
+    share = subst IsShare (sym r.sees.share) s.share;
+  }
+
+  pub gave_seated : (z z' : TableId) (n : ℕ) (gave : Bool) (m k : SeatState E) (free left : FreeRooms) → IsSeated z m free → z' ≡ z → parts.GivesBack n gave m k → Tracks left k.0.free → IsSeated z' k left
+  gave_seated z z' n true m k free left s at is have = record {
+    table = subst (λ q. IsTable q) (sym at) s.table;
+    rests = record {
+      idle = ap (λ (q : SeatState E). q.0.doing) is ∙ s.rests.idle;
+      empty = ap (λ (q : SeatState E). q.1) is ∙ s.rests.empty;
+      named = λ e. s.rests.named (sym (ap (λ (q : SeatState E). q.0.known.share) is) ∙ e);
+      near = subst (λ (q : TableId × SeatState E). Near q.0.slots q.1.0.free.rooms) (λ i. (sym at i, sym is i)) (near_drop z.slots n m.0.free.rooms s.rests.near);
+    };
+    tracks = have;
+    legal = subst (λ (q : SeatState E). Legal (plain q.0.known.seen)) (sym is) s.legal;
+    alone = λ e. subst (λ (q : SeatState E). AllOwn q.0.known.seen) (sym is) (s.alone (sym (ap (λ (q : SeatState E). q.0.known.share) is) ∙ e));
+    share = subst (λ (q : SeatState E). IsShare q.0.known.share) (sym is) s.share;
+  }
+  gave_seated z z' n false m k free left s at is have = record {
+    table = subst (λ q. IsTable q) (sym at) s.table;
+    rests = subst (λ (q : TableId × SeatState E). IsResting q.0.slots q.1) (λ i. (sym at i, sym is i)) s.rests;
+    tracks = have;
+    legal = subst (λ (q : SeatState E). Legal (plain q.0.known.seen)) (sym is) s.legal;
+    alone = λ e. subst (λ (q : SeatState E). AllOwn q.0.known.seen) (sym is) (s.alone (sym (ap (λ (q : SeatState E). q.0.known.share) is) ∙ e));
+    share = subst (λ (q : SeatState E). IsShare q.0.known.share) (sym is) s.share;
+  }
+
   -- ---- what a call added
   pub adds : (z z' : TableId) (v w : View E) (es : List (Event Name E)) → Sees v es w → z' ≡ z → Adds (standing z v) es (standing z' w)
   adds z z' v w es g at = (record { rest = g.rest; is = g.is; adds = g.adds; foreign = g.foreign; legal = g.legal; share = g.share; alone = g.alone }, at)
@@ -144,6 +178,15 @@ module _ {E : Type 0} where
         ),
         h.free ∙ ((λ i. length (t.free i).rooms + length (to_hand_out mid.0.doing)) ∙ ap (λ n. length m.0.free.rooms + n) (sym (length_elements (to_hand_out mid.0.doing)))),
       )
+
+  pub refills : (z z' : TableId) (n : ℕ) (m k : SeatState E) → parts.Refills z.slots n m k → z' ≡ z → Refills n (standing z m.0) (standing z' k.0)
+  refills z z' n m k r at = record { adds = adds z z' m.0 k.0 [] r.sees at; rooms = r.free; all = r.all }
+
+  pub gives_back : (z z' : TableId) (n : ℕ) (gave : Bool) (m k : SeatState E) → parts.GivesBack n gave m k → z' ≡ z → GivesBack n gave (standing z m.0) (standing z' k.0)
+  gives_back z z' n true m k is at = (λ i. standing (at i) (is i).0) ∙ ap (λ c. let p : PartyOf E = record { table = z; seen = m.0.known.seen; share = m.0.known.share; rooms = c } in p) (length-drop n m.0.free.rooms)
+  gives_back z z' n false m k is at =
+      let all : length m.0.free.rooms ≡ length m.0.free.rooms - 0 = omega arith in
+      (λ i. standing (at i) (is i).0) ∙ ap (λ c. let p : PartyOf E = record { table = z; seen = m.0.known.seen; share = m.0.known.share; rooms = c } in p) all
 
   -- a whole party's exchange does not fail
   pub whole_hits : (m k : SeatState E) → HasMissed m k → m.0.known.share ≡ whole → ⊥

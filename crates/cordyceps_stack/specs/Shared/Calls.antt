@@ -1,7 +1,7 @@
 -- What the calls of a shared transfer stack promise: of the party u before, and of the party w after.
-use Rattle.std.specs.Prelude.{◌≡◌, ◌↔◌, ℕ, suc, ◌+◌, List, [], ◌∷◌, ◌++◌, length, replicate, Bool, true, IsTrue, map, reverse}
+use Rattle.std.specs.Prelude.{◌≡◌, ◌↔◌, ℕ, suc, ◌+◌, ◌-◌, List, [], ◌∷◌, ◌++◌, length, replicate, Bool, true, cond, IsTrue, map, reverse}
 use Rattle.cordyceps_shared.specs.Histories.{plain, own}
-use Rattle.cordyceps_shared.specs.Shares.{Name}
+use Rattle.cordyceps_shared.specs.Shares.{Name, whole}
 use Rattle.cordyceps_shared.specs.Standings.{Standing, name_of}
 use Rattle.cordyceps_shared.specs.Standings as parties
 use Rattle.cordyceps_stack.specs.History.{Event, Load, Push, Taken, held, Legal, actor, SomeChange}
@@ -66,6 +66,16 @@ module _ {E : Type 0} where
   -- it took all that was held, and its rooms
   abbrev pub Takes : List E → PartyOf E → PartyOf E → Type 0
   Takes batch u w = Adds u (Taken (name_of u) batch ∷ []) w × (w.rooms ≡ u.rooms + length batch)
+
+  -- it took the pool, in which n rooms were, and has seen more. A whole party then has each room that holds no element
+  pub record Refills (n : ℕ) (u w : PartyOf E) : Type 0 where
+    pub adds : Adds u [] w
+    pub rooms : w.rooms ≡ u.rooms + n
+    pub all : u.share ≡ whole → length (held (plain w.seen)) + w.rooms ≡ u.table.slots
+
+  -- it gave n rooms to the pool, or is as it was
+  abbrev pub GivesBack : ℕ → Bool → PartyOf E → PartyOf E → Type 0
+  GivesBack n gave u w = w ≡ record u { rooms = u.rooms - cond gave n 0 }
 
   -- it looked, and `none` tells whether nothing was held
   abbrev pub Looks : Bool → PartyOf E → PartyOf E → Type 0

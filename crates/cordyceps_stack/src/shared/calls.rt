@@ -5,10 +5,11 @@ ghost use Rattle.cordyceps_shared.specs.Shares.{whole};
 ghost use Rattle.cordyceps_shared.specs.Standings.{new_party, keeping, giving, Knows, Absorbs};
 ghost use Rattle.cordyceps_stack.specs.History.{held, Legal};
 ghost use Rattle.cordyceps_stack.specs.Shared.Calls.{PushesAt, PushesAllAt, Misses, Takes, Looks};
+ghost use Rattle.cordyceps_stack.specs.Shared.Calls.{Refills, GivesBack};
 
 use crate::shared::batch::hand_out;
 use crate::shared::table::{OwnedTable, PartySeat};
-use crate::shared::{chain, parting, steps};
+use crate::shared::{chain, parting, pool, steps};
 use cordyceps_base::linked::Linked;
 use cordyceps_base::shared::MAX_ROOMS;
 use cordyceps_base::stack::Links;
@@ -130,7 +131,7 @@ impl<T: Linked<Links<T>>> TransferStack<T> {
     /// O(`rooms`), with three allocations, of which it frees one.
     pub fn new(alloc: Global, rooms: usize) -> Result<(TransferStack<T>, Party<T>), AllocError>
         requires { rooms ≤ MAX_ROOMS }
-        ensures { IfOk result (λ made. made.1 ≡ new_party made.0 rooms) }
+        ensures { IfOk result (λ made. (made.1 ≡ new_party made.0 rooms) × (made.0.slots ≡ rooms)) }
     {
         required::at_most_max_rooms(rooms);
         let free = FreeRooms {
@@ -224,6 +225,42 @@ impl<T: Linked<Links<T>>> TransferStack<T> {
         let words = &self.rooms.shared;
         let at = steps::take(words, &mut party.seat);
         hand_out(words, &mut party.seat, &mut party.free, at)
+    }
+
+    /// Takes all rooms that parties gave back, which become the party's, and returns their number.
+    ///
+    /// No room is lost: each is with a party, given back, or in use. So once a whole party has taken those that were
+    /// given back, its rooms and the elements that are held add up to the rooms of the stack.
+    ///
+    /// # Complexity
+    /// O(1): one swap of a word, and one load of another if there were rooms.
+    ///
+    /// # Waits
+    /// Never.
+    pub fn refill(&self, party: &mut Party<T>) -> usize
+        requires { party.old.table ≡ self.now }
+        ensures { Refills result party.old party.new }
+    {
+        pool::refill(&self.rooms.shared, &mut party.seat, &mut party.free)
+    }
+
+    /// Gives `rooms` of the party's rooms back, so that any party can take them by `refill`, and returns `true`. While
+    /// there are rooms that were given back before, it returns `false`, and the party is unchanged. Requires that the
+    /// party has as many rooms.
+    ///
+    /// # Complexity
+    /// O(`rooms`), or O(1) if the party gives all its rooms, or finds others there: one load and one compare-exchange of
+    /// a word, and a walk through the rooms.
+    ///
+    /// # Waits
+    /// Never.
+    pub fn give_back(&self, party: &mut Party<T>, rooms: usize) -> bool
+        requires table { party.old.table ≡ self.now }
+        requires rooms { rooms ≤ party.old.rooms }
+        ensures { GivesBack rooms result party.old party.new }
+    {
+        required::as_many_rooms(rooms, party.rooms());
+        pool::give_back(&self.rooms.shared, &mut party.seat, &mut party.free, rooms)
     }
 
     /// Splits a new party off `party`, which gives it `rooms` of its rooms and a part of its share. The new party has

@@ -7,7 +7,7 @@ ghost use Rattle.cordyceps_stack.specs.Shared.Plays.{IsResting, FindsPool};
 ghost use Rattle.cordyceps_stack.specs.Shared.Slots.{view};
 
 use crate::shared::parting::{lead, pass};
-use crate::shared::plays::{Glance, GiveBack, Refill, Return};
+use crate::shared::plays::{GiveBack, Glance, Refill, Return};
 use crate::shared::table::{PartySeat, QUIET, Words};
 use cordyceps_shared::free::{Count, FreeRooms};
 use cordyceps_shared::layout::POOL;

@@ -1,0 +1,16 @@
+use Rattle.std.proofs.Common.{subst}
+use Rattle.cordyceps_stack.specs.Shared.Calls.{GivesBack}
+use Rattle.cordyceps_stack.specs.Shared.Parts.{standing}
+use Rattle.cordyceps_stack.proofs.SharedTheory.CallsHold.{gave_seated, gives_back}
+use Rattle.cordyceps_stack.proofs.shared.calls.TransferStack.give_back.Goals as goal
+
+pub invariant_of-party : goal.invariant_of-party
+invariant_of-party g c =
+    let e = c.give_back.ensures in
+    gave_seated _ _ c.args.rooms c.give_back.result c.party.inside.seat.me c.give_back.new.seat.me _ _ c.party.invariant e.table e.gives e.tracks
+
+pub returns : goal.returns
+returns g c =
+    let e = c.give_back.ensures in
+    let t = gives_back c.party.inside.seat.table_id c.give_back.new.seat.table_id c.args.rooms c.give_back.result c.party.inside.seat.me c.give_back.new.seat.me e.gives e.table in
+    subst (λ u. GivesBack c.args.rooms c.give_back.result u (standing c.give_back.new.seat.table_id c.give_back.new.seat.me.0)) c.party.view_is t
