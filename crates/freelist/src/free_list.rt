@@ -4,7 +4,7 @@ ghost use Rattle.cordyceps_shared.specs.Histories.{plain};
 ghost use Rattle.cordyceps_shared.specs.Shares.{whole};
 ghost use Rattle.cordyceps_shared.specs.Standings.{new_party, keeping, giving, Absorbs};
 ghost use Rattle.cordyceps_stack.specs.History.{held, Legal};
-ghost use Rattle.cordyceps_stack.specs.Shared.Calls.{PushesAt, PushesAllAt, Misses};
+ghost use Rattle.cordyceps_stack.specs.Shared.Calls.{PushesAt, PushesAllAt, Misses, Refills, GivesBack};
 
 use crate::local::Local;
 use cordyceps_base::linked::Linked;
@@ -66,7 +66,7 @@ impl<T: Linked<Links<T>>> FreeList<T> {
     /// O(`rooms`), with three allocations, of which it frees one.
     pub fn new(alloc: Global, rooms: usize) -> Result<(FreeList<T>, Party<T>), AllocError>
         requires { rooms ≤ MAX_ROOMS }
-        ensures { IfOk result (λ made. made.1 ≡ new_party made.0 rooms) }
+        ensures { IfOk result (λ made. (made.1 ≡ new_party made.0 rooms) × (made.0.slots ≡ rooms)) }
     {
         required::at_most_max_rooms(rooms);
         let (shared, party) = TransferStack::new(alloc, rooms)?;
@@ -120,6 +120,39 @@ impl<T: Linked<Links<T>>> FreeList<T> {
         ensures whole { party.old.share ≡ whole → is_ok result ≡ true }
     {
         self.shared.try_push_all(party, blocks)
+    }
+
+    /// Takes all rooms that parties gave back, which become the party's, and returns their number. Once a whole party has
+    /// done so, its rooms and the shared blocks add up to the rooms of the free list.
+    ///
+    /// # Complexity
+    /// O(1).
+    ///
+    /// # Waits
+    /// Never.
+    pub fn refill(&self, party: &mut Party<T>) -> usize
+        requires { party.old.table ≡ self.now }
+        ensures { Refills result party.old party.new }
+    {
+        self.shared.refill(party)
+    }
+
+    /// Gives `rooms` of the party's rooms back, so that any party can take them by `refill`, and returns `true`. While
+    /// there are rooms that were given back before, it returns `false`, and the party is unchanged. Requires that the
+    /// party has as many rooms.
+    ///
+    /// # Complexity
+    /// O(`rooms`), or O(1) if the party gives all its rooms, or finds others there.
+    ///
+    /// # Waits
+    /// Never.
+    pub fn give_back(&self, party: &mut Party<T>, rooms: usize) -> bool
+        requires table { party.old.table ≡ self.now }
+        requires rooms { rooms ≤ party.old.rooms }
+        ensures { GivesBack rooms result party.old party.new }
+    {
+        required::as_many_rooms(rooms, party.rooms());
+        self.shared.give_back(party, rooms)
     }
 
     /// Splits a new party off `party`, which gives it `rooms` of its rooms and a part of its share. The new party has

@@ -1,5 +1,6 @@
 //! The part of a free list that one owner has.
 ghost use Rattle.std.specs.Prelude.{◌≡◌, [], ◌∷◌};
+ghost use Rattle.cordyceps_stack.specs.Shared.Calls.{GivesBack};
 ghost use Rattle.freelist.specs.Blocks.{GetsFrom};
 
 use cordyceps_base::linked::Linked;
@@ -10,7 +11,7 @@ use std::marker::Model;
 /// The local part of a free list: the blocks of one owner, who takes the shared ones when these run out. A contract
 /// sees the blocks, the last put back first, and the party.
 ///
-/// Dropping it drops the party, whose rooms are then lost for good; `finish` returns it.
+/// Dropping it drops the party, whose rooms are then lost for good: `give_back` lets them go, and `finish` returns it.
 ///
 /// # Complexity
 /// Dropping it frees each block once: O(n), for n blocks.
@@ -84,6 +85,23 @@ impl<'a, T: Linked<Links<T>>> Local<'a, T> {
         ensures party { self.new.party ≡ self.old.party }
     {
         self.blocks.push(handle);
+    }
+
+    /// Gives all rooms of the local part's party back, so that any party can take them by `refill`, and returns `true`.
+    /// While there are rooms that were given back before, it returns `false`, and the party is unchanged. The rooms are
+    /// those of the shared blocks that `get` took.
+    ///
+    /// # Complexity
+    /// O(1): one load and one compare-exchange of a word.
+    ///
+    /// # Waits
+    /// Never.
+    pub fn give_back(&mut self) -> bool
+        ensures blocks { self.new.blocks ≡ self.old.blocks }
+        ensures party { GivesBack self.old.party.rooms result self.old.party self.new.party }
+    {
+        let rooms = self.party.rooms();
+        self.shared.give_back(&mut self.party, rooms)
     }
 
     /// Ends the local part, and returns its blocks and its party.

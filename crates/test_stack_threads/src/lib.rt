@@ -8,6 +8,8 @@ mod items;
 #[cfg(test)]
 mod large_stacks;
 #[cfg(test)]
+mod pools;
+#[cfg(test)]
 mod pushed_at_once;
 #[cfg(test)]
 mod seats;

@@ -45,7 +45,7 @@ came id v o p q w x m n f g a b batch kept given one two met took =
 pub returns : goal.returns
 returns g c =
     let a = c.args in
-    let new = c.in_ok-shared.ensures in
+    let new = c.in_ok-shared.ensures.0 in
     let kept = c.split-pusher.ensures.0 ∙ ap (λ (z : Seat). keeping 4 z) new in
     let given = c.split-pusher.ensures.1 ∙ ap (λ (z : Seat). giving 4 z) new in
     let one = c.push.ensures.pushed in

@@ -1,0 +1,301 @@
+//! Rooms that a party gives back, and that any party takes.
+ghost use Rattle.std.specs.Prelude.{◌≡◌};
+
+use crate::compared::{at_most, made, same};
+use crate::items::{dropped, no_drops, pops, stock};
+use crate::seats::{has_room, new_stack, pushes};
+use cordyceps_stack::stack::{MAX_ROOMS, Party, Stack, TransferStack};
+use std::alloc::Global;
+use std::process::Abort;
+use std::sync::Wait;
+use std::thread;
+use std::thread::Threads;
+use test_support::counted::Counted;
+
+/// A call of one of two parties, and what it must return.
+#[derive(Clone, Copy)]
+enum Call<'a> {
+    /// How many rooms the party has.
+    Rooms(usize),
+    /// So many rooms are given back, if no others lie there.
+    GiveBack(usize, bool),
+    /// How many rooms the party takes that were given back.
+    Refill(usize),
+    /// A push by one try, and whether nothing was held before.
+    Push(bool),
+    /// The numbers of all that is held.
+    Take(&'a [u64]),
+}
+
+/// Which party makes a call.
+#[derive(Clone, Copy)]
+enum By {
+    First,
+    Second,
+}
+
+/// Makes a call, and asserts what it returns. It pushes what the stock pops.
+fn make(
+    rt: &impl Abort,
+    stack: &TransferStack<Counted>,
+    party: &mut Party<Counted>,
+    stock: &mut Stack<Counted>,
+    call: Call<'_>,
+)
+    requires { party.old.table ≡ stack.now }
+    ensures { party.new.table ≡ stack.now }
+{
+    match call {
+        Call::Rooms(wanted) => same(rt, party.rooms(), wanted),
+        Call::GiveBack(rooms, wanted) => {
+            at_most(rt, rooms, party.rooms());
+            same(rt, stack.give_back(party, rooms), wanted);
+        }
+        Call::Refill(wanted) => same(rt, stack.refill(party), wanted),
+        Call::Push(first) => match stock.pop() {
+            Some(handle) => pushes(rt, stack, party, handle, first),
+            None => panic!(rt; "the stock has no element left"),
+        },
+        Call::Take(wanted) => pops(rt, stack.take_all(party), wanted),
+    }
+}
+
+/// Two parties of a stack.
+#[derive(Drop)]
+struct Pair<'s> {
+    stack: &'s TransferStack<Counted>,
+    first: Party<Counted>,
+    second: Party<Counted>,
+    ghost seated: { (first.table ≡ stack.now) × (second.table ≡ stack.now) },
+}
+
+impl Pair<'_> {
+    /// Makes a call of one of the parties.
+    fn turn(&mut self, rt: &impl Abort, stock: &mut Stack<Counted>, by: By, call: Call<'_>) {
+        match by {
+            By::First => make(rt, self.stack, &mut self.first, stock, call),
+            By::Second => make(rt, self.stack, &mut self.second, stock, call),
+        }
+    }
+
+    /// Asserts that no room is lost, where nothing is held.
+    fn has_all(self, rt: &impl Abort, rooms: usize) {
+        let Pair {
+            stack,
+            mut first,
+            second,
+        } = self;
+        stack.absorb(&mut first, second);
+        stack.refill(&mut first);
+        pops(rt, stack.take_all(&mut first), &[]);
+        same(rt, first.rooms(), rooms);
+    }
+}
+
+/// Makes calls of two parties of a stack, of which the first has all rooms at first, and asserts in the end that no room
+/// is lost.
+fn calls_return(rt: &impl Abort, alloc: Global, rooms: usize, calls: &[(By, Call<'_>)]) {
+    let drops = no_drops(rt, alloc);
+    let mut stock = stock(rt, alloc, (1, 4), &drops);
+    let (stack, mut first) = new_stack(rt, alloc, rooms);
+    let second = stack.split(&mut first, 0);
+    let mut pair = Pair {
+        stack: &stack,
+        first,
+        second,
+    };
+    for (by, call) in calls {
+        pair.turn(rt, &mut stock, *by, *call);
+    }
+    pair.has_all(rt, rooms);
+}
+
+#[test]
+fn rooms_come_back(rt: HostRuntime) {
+    let calls = [
+        (By::First, Call::GiveBack(3, true)),
+        (By::First, Call::Rooms(1)),
+        (By::First, Call::GiveBack(1, false)),
+        (By::First, Call::Rooms(1)),
+        (By::Second, Call::Refill(3)),
+        (By::Second, Call::Refill(0)),
+        (By::Second, Call::Rooms(3)),
+        (By::Second, Call::Push(true)),
+        (By::First, Call::Push(false)),
+        (By::First, Call::Rooms(0)),
+        (By::Second, Call::GiveBack(1, true)),
+        (By::First, Call::Refill(1)),
+        (By::First, Call::Push(false)),
+        (By::First, Call::Take(&[3, 2, 1])),
+        (By::First, Call::Rooms(3)),
+        (By::First, Call::GiveBack(3, true)),
+        (By::Second, Call::Refill(3)),
+        (By::Second, Call::Rooms(4)),
+        (By::Second, Call::Push(true)),
+        (By::Second, Call::Take(&[4])),
+        (By::Second, Call::GiveBack(2, true)),
+    ];
+    calls_return(&rt, rt.alloc(), 4, &calls);
+}
+
+#[test]
+fn no_room_comes_back_as_none(rt: HostRuntime) {
+    let calls = [
+        (By::First, Call::GiveBack(0, true)),
+        (By::Second, Call::GiveBack(0, true)),
+        (By::Second, Call::Refill(0)),
+        (By::First, Call::Rooms(0)),
+    ];
+    calls_return(&rt, rt.alloc(), 0, &calls);
+}
+
+#[test]
+fn one_room_goes_to_and_fro(rt: HostRuntime) {
+    let calls = [
+        (By::First, Call::GiveBack(1, true)),
+        (By::Second, Call::Refill(1)),
+        (By::Second, Call::Push(true)),
+        (By::First, Call::Take(&[1])),
+        (By::First, Call::GiveBack(1, true)),
+        (By::First, Call::Refill(1)),
+        (By::First, Call::Push(true)),
+        (By::First, Call::Take(&[2])),
+        (By::First, Call::GiveBack(1, true)),
+    ];
+    calls_return(&rt, rt.alloc(), 1, &calls);
+}
+
+#[test]
+fn all_rooms_come_back_at_once(rt: HostRuntime) {
+    let calls = [
+        (By::First, Call::GiveBack(MAX_ROOMS, true)),
+        (By::First, Call::Rooms(0)),
+        (By::Second, Call::Refill(MAX_ROOMS)),
+        (By::Second, Call::Push(true)),
+        (By::First, Call::Take(&[1])),
+        (By::First, Call::GiveBack(1, true)),
+        (By::Second, Call::GiveBack(1, false)),
+    ];
+    calls_return(&rt, rt.alloc(), MAX_ROOMS, &calls);
+}
+
+/// How many elements each of two threads pushes, and how many rooms there are for them.
+const ELEMENTS: u64 = 2_000;
+
+const ROOMS: usize = 4;
+
+/// How many turns a thread has at most.
+const TURNS: u64 = 20_000_000;
+
+/// A thread's party at its stack, and what it has to push, or has taken.
+#[derive(Drop)]
+struct Member<'s> {
+    stack: &'s TransferStack<Counted>,
+    party: Party<Counted>,
+    elements: Stack<Counted>,
+    /// How many elements it has yet to take, if it takes.
+    takes: Option<u64>,
+    ghost seated: { party.table ≡ stack.now },
+}
+
+impl<'s> Member<'s> {
+    /// Splits off a member without rooms, with these elements.
+    fn split(&mut self, elements: Stack<Counted>, takes: Option<u64>) -> Member<'s> {
+        let Member { stack, party, .. } = self;
+        Member {
+            stack: *stack,
+            party: stack.split(party, 0),
+            elements,
+            takes,
+        }
+    }
+
+    /// Pushes an element, for which it takes a room that was given back if it has none.
+    fn push<R: Wait + Abort>(&mut self, rt: &R) {
+        if self.party.rooms() == 0 {
+            self.stack.refill(&mut self.party);
+        }
+        if self.party.rooms() == 0 {
+            thread::yield_now();
+            return;
+        }
+        if let Some(handle) = self.elements.pop() {
+            has_room(rt, self.party.rooms());
+            self.stack.push(rt, &mut self.party, handle);
+        }
+    }
+
+    /// Takes all that is held, and gives the rooms back. Returns how many elements are still to come.
+    fn take(&mut self, left: u64) -> u64 {
+        let mut left = left;
+        for node in self.stack.take_all(&mut self.party) {
+            self.elements.push(node);
+            left = left.wrapping_sub(1);
+        }
+        let rooms = self.party.rooms();
+        self.stack.give_back(&mut self.party, rooms);
+        thread::yield_now();
+        left
+    }
+
+    /// Takes turns until it has pushed or taken all.
+    fn work<R: Wait + Abort>(&mut self, rt: &R) {
+        for _ in 0..TURNS {
+            match self.takes {
+                Some(0) => return,
+                Some(left) => self.takes = Some(self.take(left)),
+                None if self.elements.is_empty() => return,
+                None => self.push(rt),
+            }
+        }
+        panic!(rt; "the rooms have not come back");
+    }
+
+    /// Does what it has to do, and returns what it has then.
+    fn run<R: Wait + Abort>(mut self, rt: &R) -> Member<'s> {
+        self.work(rt);
+        self
+    }
+}
+
+/// Two threads push 4,000 elements through four rooms, which a third gives back.
+fn pass_through<R: Threads + Wait + Abort + Sync>(rt: &R, alloc: Global) {
+    let drops = no_drops(rt, alloc);
+    let (stack, party) = new_stack(rt, alloc, ROOMS);
+    let mut all = Member {
+        stack: &stack,
+        party,
+        elements: Stack::new(),
+        takes: Some(0),
+    };
+    let mut members = Vec::new(alloc);
+    for (first, takes) in [(1, None), (ELEMENTS + 1, None), (0, Some(2 * ELEMENTS))] {
+        let count = if takes.is_none() { ELEMENTS } else { 0 };
+        let elements = stock(rt, alloc, (first, count), &drops);
+        made(rt, members.push(all.split(elements, takes)));
+    }
+    // (nothing is held yet, so it only gives all rooms back)
+    same(rt, all.take(0), 0);
+    let ended = thread::map_vec(rt, members, &|member: Member<'_>| member.run(rt));
+    let mut sum: u64 = 0;
+    let mut count: u64 = 0;
+    for member in made(rt, ended) {
+        for node in member.elements {
+            sum = sum.wrapping_add(node.id());
+            count = count.wrapping_add(1);
+        }
+    }
+    same(
+        rt,
+        (count, sum),
+        (2 * ELEMENTS, ELEMENTS * (2 * ELEMENTS + 1)),
+    );
+    dropped(rt, &drops, 2 * ELEMENTS);
+}
+
+#[test]
+fn many_pass_through_four_rooms(rt: HostRuntime) {
+    for _ in 0..10 {
+        pass_through(&rt, rt.alloc());
+    }
+}
