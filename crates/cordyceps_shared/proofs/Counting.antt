@@ -27,6 +27,20 @@ module _ {X : Type 0} (f : X → ℕ) where
   tally_two (x ∷ xs) (suc i) zero u v n a b = let same : f x ≡ f v = ap f (some-injective x v b) in omega (arith, tally_one xs i u a)
   tally_two (x ∷ xs) (suc i) (suc j) u v n a b = omega (arith, tally_two xs i j u v (λ e. n (ap suc e)) a b)
 
+  tally_none : (vs : List X) → ((i : ℕ) (u : X) → get_elem? vs i ≡ some u → f u ≡ 0) → tally f vs ≡ 0
+  tally_none [] none = refl
+  tally_none (x ∷ xs) none = let here = none 0 x refl in let there = tally_none xs (λ i u e. none (suc i) u e) in omega arith
+
+  -- all but one item count for nothing
+  pub tally_only : (vs : List X) (j : ℕ) (v : X) → get_elem? vs j ≡ some v → ((i : ℕ) (u : X) → i ≢ j → get_elem? vs i ≡ some u → f u ≡ 0) → tally f vs ≡ f v
+  tally_only [] j v e none = absurd (some-ne-none v (sym e))
+  tally_only (x ∷ xs) zero v e none =
+      let same : f x ≡ f v = ap f (some-injective x v e) in
+      let there = tally_none xs (λ i u a. none (suc i) u (λ z. absurd (omega arith)) a) in omega arith
+  tally_only (x ∷ xs) (suc j) v e none =
+      let here = none 0 x (λ z. absurd (omega arith)) refl in
+      let there = tally_only xs j v e (λ i u n a. none (suc i) u (λ z. n (omega arith)) a) in omega arith
+
   pub tally_snoc : (vs : List X) (w : X) → tally f (vs ++ w ∷ []) ≡ tally f vs + f w
   tally_snoc [] w = omega arith
   tally_snoc (x ∷ xs) w = omega (arith, tally_snoc xs w)
