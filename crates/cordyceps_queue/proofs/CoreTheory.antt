@@ -21,6 +21,7 @@ pub mod ProducerSteps
 pub mod Refusals
 pub mod RoomsAtStages
 pub mod Simulation
+pub mod SpareMoves
 pub mod SplitParties
 pub mod StubSteps
 pub mod TryGoesOn

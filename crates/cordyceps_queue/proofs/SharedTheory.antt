@@ -13,6 +13,9 @@ pub mod PartingKeeps
 pub mod PartsJoin
 pub mod PartyMoves
 pub mod PartySeats
+pub mod PoolCalls
+pub mod PoolJoins
+pub mod PoolKeeps
 pub mod ReturnKeeps
 pub mod RightHolds
 pub mod SeatNames

@@ -7,6 +7,7 @@ pub(crate) mod linking;
 pub(crate) mod owned_consumer;
 pub(crate) mod parting;
 pub(crate) mod plays;
+pub(crate) mod pool;
 pub(crate) mod spare;
 pub(crate) mod steps;
 pub(crate) mod stub_steps;

@@ -8,7 +8,7 @@ use Rattle.cordyceps_queue.specs.declared.cores.stage.Stage.{Stage}
 use Rattle.cordyceps_queue.specs.declared.cores.stage.Stage.TheVariants.{Rest, Cleared, Swapped, Holding, StubNull, Second, Null, PutClear, PutSwap, PutLink, PutRead}
 use Rattle.cordyceps_queue.specs.Cores.Abstract.{update, AbstractParty, AbstractMachine, clear_room, swap_head, link_next}
 use Rattle.cordyceps_shared.specs.Places.{ItemAt}
-use Rattle.cordyceps_queue.specs.Cores.Meets.{real, rank, Owner, Shared, Spare, Ready, Unmade, Owes, tail_of, Chain, IsOut, OwnsRooms, Owed, Joined, Keeps, Real, AtStage, RightIs, Meets}
+use Rattle.cordyceps_queue.specs.Cores.Meets.{real, rank, Owner, Shared, Spare, Ready, Pooled, Unmade, Owes, tail_of, Chain, IsOut, OwnsRooms, Owed, Joined, Keeps, Real, AtStage, RightIs, Meets}
 use Rattle.cordyceps_shared.proofs.Places.{at_end}
 use Rattle.cordyceps_queue.proofs.CoreTheory.Basics.{some_inj, some_none, suc_zero, put_same, put_other, put_all, put_none, at_one, at_within, at_more, at_split, rank_more, rank_all, real_more, map_put, pending_one, open_from}
 use Rattle.cordyceps_queue.proofs.CoreTheory.ChainGrows.{real_one, held_length, alone, last_more, once_more, joined_more, right_more, right_same}
@@ -22,6 +22,18 @@ ready_shared a b = cc (a, b)
 
 pub ready_spare : {o : Owner} {j k : ℕ} → o ≡ Ready j → o ≡ Spare k → ⊥
 ready_spare a b = cc (a, b)
+
+pub spare_pooled : {o : Owner} {k : ℕ} → o ≡ Spare k → o ≡ Pooled → ⊥
+spare_pooled a b = cc (a, b)
+
+pub ready_pooled : {o : Owner} {k : ℕ} → o ≡ Ready k → o ≡ Pooled → ⊥
+ready_pooled a b = cc (a, b)
+
+pub shared_pooled : {o : Owner} → o ≡ Shared → o ≡ Pooled → ⊥
+shared_pooled a b = cc (a, b)
+
+pub unmade_pooled : {o : Owner} → o ≡ Unmade → o ≡ Pooled → ⊥
+unmade_pooled a b = cc (a, b)
 
 pub spare_unmade : {o : Owner} {k : ℕ} → o ≡ Spare k → o ≡ Unmade → ⊥
 spare_unmade a b = cc (a, b)

@@ -13,39 +13,39 @@ use Rattle.cordyceps_queue.proofs.CoreTheory.Basics.{none_some, put_same, put_ot
 use Rattle.cordyceps_queue.proofs.CoreTheory.ProducerSteps.{spare_shared, ready_spare, spare_unmade}
 use Rattle.cordyceps_queue.proofs.SharedTheory.EnqueueKeeps.{spare_one}
 
--- ---- rooms that go to another party
-abbrev pub deal : ℕ → List ℕ → (ℕ → Owner) → ℕ → Owner
-deal j [] owner = owner
-deal j (r ∷ rs) owner = update (deal j rs owner) r (Spare j)
+-- ---- rooms that go to another owner
+abbrev pub deal : Owner → List ℕ → (ℕ → Owner) → ℕ → Owner
+deal to [] owner = owner
+deal to (r ∷ rs) owner = update (deal to rs owner) r to
 
-pub deal_else : (j : ℕ) (rs : List ℕ) (owner : ℕ → Owner) (x : ℕ) → ((i : ℕ) → ItemAt rs i x → ⊥) → deal j rs owner x ≡ owner x
-deal_else j [] owner x away = refl
-deal_else j (r ∷ rs) owner x away = put_other (deal j rs owner) r (Spare j) x (away 0) ∙ deal_else j rs owner x (λ i. away (suc i))
+pub deal_else : (to : Owner) (rs : List ℕ) (owner : ℕ → Owner) (x : ℕ) → ((i : ℕ) → ItemAt rs i x → ⊥) → deal to rs owner x ≡ owner x
+deal_else to [] owner x away = refl
+deal_else to (r ∷ rs) owner x away = put_other (deal to rs owner) r to x (away 0) ∙ deal_else to rs owner x (λ i. away (suc i))
 
-pub deal_here : (j : ℕ) (rs : List ℕ) (owner : ℕ → Owner) (i x : ℕ) → ItemAt rs i x → deal j rs owner x ≡ Spare j
-deal_here j [] owner i x a = absurd a
-deal_here j (r ∷ rs) owner zero x a = ap (update (deal j rs owner) r (Spare j)) a ∙ put_same (deal j rs owner) r (Spare j)
-deal_here j (r ∷ rs) owner (suc i) x a = elim (ℕ_discrete x r) [
-  | yes same ↦ ap (update (deal j rs owner) r (Spare j)) same ∙ put_same (deal j rs owner) r (Spare j)
-  | no ne ↦ put_other (deal j rs owner) r (Spare j) x ne ∙ deal_here j rs owner i x a
+pub deal_here : (to : Owner) (rs : List ℕ) (owner : ℕ → Owner) (i x : ℕ) → ItemAt rs i x → deal to rs owner x ≡ to
+deal_here to [] owner i x a = absurd a
+deal_here to (r ∷ rs) owner zero x a = ap (update (deal to rs owner) r to) a ∙ put_same (deal to rs owner) r to
+deal_here to (r ∷ rs) owner (suc i) x a = elim (ℕ_discrete x r) [
+  | yes same ↦ ap (update (deal to rs owner) r to) same ∙ put_same (deal to rs owner) r to
+  | no ne ↦ put_other (deal to rs owner) r to x ne ∙ deal_here to rs owner i x a
 ]
 
-module _ (owner : ℕ → Owner) (k j : ℕ) (rs : List ℕ) (mine : (i r : ℕ) → ItemAt rs i r → owner r ≡ Spare k) where
+module _ (owner : ℕ → Owner) (k : ℕ) (to : Owner) (rs : List ℕ) (mine : (i r : ℕ) → ItemAt rs i r → owner r ≡ Spare k) where
   -- rooms that were no party's stay so
-  pub deal_fixed : (r : ℕ) (o : Owner) → owner r ≡ o → ((b : ℕ) → o ≡ Spare b → ⊥) → deal j rs owner r ≡ o
-  deal_fixed r o e not = deal_else j rs owner r (λ i a. not k (sym e ∙ mine i r a)) ∙ e
+  pub deal_fixed : (r : ℕ) (o : Owner) → owner r ≡ o → ((b : ℕ) → o ≡ Spare b → ⊥) → deal to rs owner r ≡ o
+  deal_fixed r o e not = deal_else to rs owner r (λ i a. not k (sym e ∙ mine i r a)) ∙ e
 
   -- and so do those of other parties
-  pub deal_others : (b : ℕ) (spare : List ℕ) → b ≢ k → OwnsRooms owner b spare → OwnsRooms (deal j rs owner) b spare
-  deal_others b spare ne R = record { own = λ i r a. deal_else j rs owner r (λ n c. ne (spare_one (R.own i r a) (mine n r c))) ∙ R.own i r a; once = R.once }
+  pub deal_others : (b : ℕ) (spare : List ℕ) → b ≢ k → OwnsRooms owner b spare → OwnsRooms (deal to rs owner) b spare
+  deal_others b spare ne R = record { own = λ i r a. deal_else to rs owner r (λ n c. ne (spare_one (R.own i r a) (mine n r c))) ∙ R.own i r a; once = R.once }
 
-module _ (owner : ℕ → Owner) (k : ℕ) (free : List ℕ) (R : OwnsRooms owner k free) (n j : ℕ) where
-  pub deal_kept : OwnsRooms (deal j (take n free) owner) k (drop n free)
-  deal_kept = record {
+module _ (owner : ℕ → Owner) (k : ℕ) (free : List ℕ) (R : OwnsRooms owner k free) (n : ℕ) where
+  pub deal_kept : (to : Owner) → OwnsRooms (deal to (take n free) owner) k (drop n free)
+  deal_kept to = record {
     own = λ i r a.
         let t = at_drop n free i r a in
         let far = t.2 in
-        deal_else j (take n free) owner r (λ x b. let u = at_take n free x r b in let near = u.1 in let same = R.once t.0 x r t.1 u.0 in absurd (omega arith)) ∙ R.own t.0 r t.1;
+        deal_else to (take n free) owner r (λ x b. let u = at_take n free x r b in let near = u.1 in let same = R.once t.0 x r t.1 u.0 in absurd (omega arith)) ∙ R.own t.0 r t.1;
     once = λ i b r x y.
         let t = at_drop n free i r x in
         let u = at_drop n free b r y in
@@ -55,17 +55,17 @@ module _ (owner : ℕ → Owner) (k : ℕ) (free : List ℕ) (R : OwnsRooms owne
         omega arith;
   }
 
-  pub deal_given : OwnsRooms (deal j (take n free) owner) j (take n free)
-  deal_given = record {
-    own = λ i r a. deal_here j (take n free) owner i r a;
+  pub deal_given : (j : ℕ) → OwnsRooms (deal (Spare j) (take n free) owner) j (take n free)
+  deal_given j = record {
+    own = λ i r a. deal_here (Spare j) (take n free) owner i r a;
     once = λ i b r x y. R.once i b r (at_take n free i r x).0 (at_take n free b r y).0;
   }
 
-pub deal_both : (owner : ℕ → Owner) (a b : ℕ) (xs ys : List ℕ) → a ≢ b → OwnsRooms owner a xs → OwnsRooms owner b ys → OwnsRooms (deal a ys owner) a (xs ++ ys)
+pub deal_both : (owner : ℕ → Owner) (a b : ℕ) (xs ys : List ℕ) → a ≢ b → OwnsRooms owner a xs → OwnsRooms owner b ys → OwnsRooms (deal (Spare a) ys owner) a (xs ++ ys)
 deal_both owner a b xs ys ne R S = record {
   own = λ i r at. elim (at_either xs ys i r at) [
-    | inl t ↦ deal_else a ys owner r (λ n c. ne (spare_one (R.own i r t) (S.own n r c))) ∙ R.own i r t
-    | inr t ↦ deal_here a ys owner t.0 r t.1
+    | inl t ↦ deal_else (Spare a) ys owner r (λ n c. ne (spare_one (R.own i r t) (S.own n r c))) ∙ R.own i r t
+    | inr t ↦ deal_here (Spare a) ys owner t.0 r t.1
   ];
   once = λ i j r x y. both i j r (at_either xs ys i r x) (at_either xs ys j r y);
 }
@@ -75,6 +75,21 @@ deal_both owner a b xs ys ne R S = record {
     both i j r (inl x) (inr y) = absurd (ne (spare_one (R.own i r x) (S.own y.0 r y.1)))
     both i j r (inr x) (inl y) = absurd (ne (spare_one (R.own j r y) (S.own x.0 r x.1)))
     both i j r (inr x) (inr y) = let e = x.2 in let f = y.2 in let same = S.once x.0 y.0 r x.1 y.1 in omega arith
+
+-- what holds of a party at its stage, where the rooms that parties have cleared stay theirs
+module _ {P E : Type 0} (m : AbstractMachine P E) (c : Chain) (h : List (Event P E)) (owner : ℕ → Owner) (ready : (r j : ℕ) → c.owner r ≡ Ready j → owner r ≡ Ready j) where
+  pub fits_dealt : (j : ℕ) (q : P) (stage : Stage) → AtStage m.head m.next m.cell c.owner c.keeper c.rooms h j q stage → AtStage m.head m.next m.cell owner c.keeper c.rooms h j q stage
+  fits_dealt j q Rest f = f
+  fits_dealt j q (Cleared x) f = (f.0, ready x j f.1, f.2, f.3, f.4, f.5)
+  fits_dealt j q (Swapped x old) f = f
+  fits_dealt j q (Holding t) f = f
+  fits_dealt j q StubNull f = f
+  fits_dealt j q (Second t) f = f
+  fits_dealt j q (Null t) f = f
+  fits_dealt j q (PutClear t) f = f
+  fits_dealt j q (PutSwap t) f = f
+  fits_dealt j q (PutLink t old) f = f
+  fits_dealt j q (PutRead t) f = f
 
 -- ---- parties that come and go
 module _ {P E : Type 0} (m : AbstractMachine P E) (c : Chain) (h : List (Event P E)) (parties : ℕ → Option (AbstractParty P)) (owner : ℕ → Owner) (Gone : P → Type 0) where
@@ -101,17 +116,7 @@ module _ {P E : Type 0} (m : AbstractMachine P E) (c : Chain) (h : List (Event P
     right_still (Some j) R = (R.0, R.1, R.2, elim (G.stays j R.1 R.3) [ inl e ↦ e | inr g ↦ absurd (none_some (sym (ap tail_of g.1) ∙ R.4)) ], R.4, R.5)
 
     fits_still : (j : ℕ) (q : P) (stage : Stage) → AtStage m.head m.next m.cell c.owner c.keeper c.rooms h j q stage → AtStage m.head m.next m.cell owner c.keeper c.rooms h j q stage
-    fits_still j q Rest f = f
-    fits_still j q (Cleared x) f = (f.0, G.fixed x (Ready j) f.1 (λ b e. ready_spare refl e), f.2, f.3, f.4, f.5)
-    fits_still j q (Swapped x old) f = f
-    fits_still j q (Holding t) f = f
-    fits_still j q StubNull f = f
-    fits_still j q (Second t) f = f
-    fits_still j q (Null t) f = f
-    fits_still j q (PutClear t) f = f
-    fits_still j q (PutSwap t) f = f
-    fits_still j q (PutLink t old) f = f
-    fits_still j q (PutRead t) f = f
+    fits_still j q stage f = fits_dealt m c h owner (λ x i e. G.fixed x (Ready i) e (λ b o. ready_spare refl o)) j q stage f
 
     -- a party that comes had a name that was gone, or that no party had
     come_settled : (k : ℕ) (p : AbstractParty P) → parties k ≡ Some p → ((q : AbstractParty P) → m.party k ≡ Some q → Gone q.name) → IsSettled p.name h

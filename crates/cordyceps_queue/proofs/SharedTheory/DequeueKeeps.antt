@@ -22,21 +22,21 @@ use Rattle.cordyceps_queue.specs.declared.cores.stage.Stage.TheVariants.{Cleared
 use Rattle.cordyceps_shared.specs.FreeChains.{end_after}
 use Rattle.cordyceps_queue.specs.History.{Event, actor}
 use Rattle.cordyceps_shared.specs.Places.{ItemAt}
-use Rattle.cordyceps_queue.specs.Cores.Meets.{Owner, Spare, Shared, OwnsRooms, Chain, Owes, tail_of, AtStage, Meets}
+use Rattle.cordyceps_queue.specs.Cores.Meets.{Owner, Spare, Shared, Pooled, OwnsRooms, Chain, Owes, tail_of, AtStage, Meets, real}
 use Rattle.cordyceps_queue.specs.Past.{HasLooked, WasBlockedReversed}
 use Rattle.cordyceps_queue.specs.Shared.Plays.{SeatState, Sees, moves_to, hands_out, Blocked}
 use Rattle.cordyceps_shared.specs.Slots.{Homes, EmptyAtHome}
 use Rattle.cordyceps_queue.specs.Shared.Rule.{TableState, link_of, party, machine_of, FullAtHome, PlainHolds}
-use Rattle.cordyceps_queue.specs.Shared.View.{View, name}
+use Rattle.cordyceps_queue.specs.Shared.View.{View, name, cleared_count}
 use Rattle.cordyceps_queue.specs.Cores.Abstract.{AbstractParty, AbstractMachine, update, insert_room, set_stage, set_right, hand_out}
-use Rattle.cordyceps_queue.proofs.CoreTheory.Basics.{zero_suc, suc_zero, suc_inj, some_inj, at_split, at_more, put_same, put_other, put_all}
+use Rattle.cordyceps_queue.proofs.CoreTheory.Basics.{none_some, zero_suc, suc_zero, suc_inj, some_inj, at_split, at_more, put_same, put_other, put_all}
 use Rattle.cordyceps_queue.proofs.CoreTheory.DequeueSteps.{out_keeps, chain_after_out}
 use Rattle.cordyceps_queue.proofs.CoreTheory.HolderSteps.{was_now, keeping, right_with, stage_keeps, open_blocks}
 use Rattle.cordyceps_queue.proofs.CoreTheory.OtherParties.{joined_put, names_put, strange}
-use Rattle.cordyceps_queue.proofs.CoreTheory.ProducerSteps.{spare_shared, ready_shared}
-use Rattle.cordyceps_queue.proofs.CoreTheory.ChainShrinks.{at_down, tail_full, tail_away, second}
+use Rattle.cordyceps_queue.proofs.CoreTheory.ProducerSteps.{spare_shared, ready_shared, shared_pooled}
+use Rattle.cordyceps_queue.proofs.CoreTheory.ChainShrinks.{at_down, real_first, tail_full, tail_away, second}
 use Rattle.cordyceps_queue.proofs.SharedTheory.SeatNames.{few_rooms}
-use Rattle.cordyceps_queue.proofs.SharedTheory.WordsAsMachine.{links_same, keeps_rule, rooms_of, empties, empties_same, readies, readies_same, linkeds_low, linkeds_same, chain_near, Becomes, Comes as Keeping}
+use Rattle.cordyceps_queue.proofs.SharedTheory.WordsAsMachine.{links_same, next_low, none_cleared, keeps_rule, rooms_of, empties, empties_same, readies, readies_same, linkeds_low, linkeds_same, chain_near, LeavesPool, Becomes, Comes as Keeping}
 use Rattle.cordyceps_queue.proofs.SharedTheory.EnqueueKeeps.{m, past, here, view_after, views_put, wide_words}
 
 -- the order of the free rooms of a party with the right does not matter
@@ -104,13 +104,24 @@ module _ {E : Type 0} (s : TableState E) (k : PlainHolds s) (id : ℕ) (v : View
   full_among : (rooms : List ℕ) → Among rooms k.chain.rooms → FullAtHome s.homes k.cell rooms
   full_among rooms among i x ix ne = let a = among i x ix in k.full a.0 x a.1 ne
 
+  -- a step that leaves whose the rooms are and the slots, at a stage at which no room is cleared
+  pub leaves_rooms : (es : List (Event Name E)) (stage : Stage) (chain : Chain) (words : List ℕ) → ((q : ℕ) → stage ≡ Cleared q → ⊥) → cleared_count v.stage ≡ 0 → length (real chain.rooms) ≡ length (real k.chain.rooms)
+      → ((r : ℕ) → k.chain.owner r ≡ Pooled → chain.owner r ≡ Pooled) → ((r : ℕ) → k.chain.owner r ≡ Pooled → word.next words r ≡ word.next s.words r) → LeavesPool s k v (sees es v.free v.end v.back v.to stage) words s.homes chain
+  leaves_rooms es stage chain words away quiet even owners links =
+      let now = none_cleared stage away in record {
+        owners = owners;
+        links = links;
+        slots = λ r pooled. refl;
+        even = omega arith;
+      }
+
   -- a step that changes no word and no slot
-  pub reads : (es : List (Event Name E)) → Under actor (name v) es → (stage : Stage) (chain : Chain) → Meets (set_stage n id (party v) stage) chain (reverse es ++ out_events) → Among chain.rooms k.chain.rooms → ((q : ℕ) → stage ≡ Cleared q → ⊥) → (i : ℕ)
+  pub reads : (es : List (Event Name E)) → Under actor (name v) es → (stage : Stage) (chain : Chain) → Meets (set_stage n id (party v) stage) chain (reverse es ++ out_events) → Among chain.rooms k.chain.rooms → ((q : ℕ) → stage ≡ Cleared q → ⊥) → cleared_count v.stage ≡ 0 → length (real chain.rooms) ≡ length (real k.chain.rooms) → ((r : ℕ) → k.chain.owner r ≡ Pooled → chain.owner r ≡ Pooled) → (i : ℕ)
       → Becomes s k v (sees es v.free v.end v.back v.to stage) record { words = set s.words i (get_or s.words i 0); homes = s.homes; views = set s.views id (sees es v.free v.end v.back v.to stage) } × Sees v es (sees es v.free v.end v.back v.to stage)
-  reads es under stage chain met among away i =
+  reads es under stage chain met among away quiet even owners i =
       let w = sees es v.free v.end v.back v.to stage in
       let same : set_stage n id (party v) stage ≡ machine_of k.cell s.words (set s.views id w) = spelled w in
-      let r = keeps_rule s k id es v w s.words s.homes k.cell chain (set_stage n id (party v) stage) at named under refl same met refl refl (full_among chain.rooms among) (empties_same s k id w (k.empty id v at named)) (readies_same s k id w away) (linkeds_same s k id w (k.linked id v at named)) refl (λ j x jx. inr (among j x jx)) (λ j x jx. inl (j, jx)) in
+      let r = keeps_rule s k id es v w s.words s.homes k.cell chain (set_stage n id (party v) stage) at named under refl same met refl refl (full_among chain.rooms among) (empties_same s k id w (k.empty id v at named)) (readies_same s k id w away) (linkeds_same s k id w (k.linked id v at named)) refl (λ j x jx. inr (among j x jx)) (λ j x jx. inl (j, jx)) (leaves_rooms es stage chain s.words away quiet even owners (λ _ _. refl)) in
       (subst (λ (ws : List ℕ). Becomes s k v w record { words = ws; homes = s.homes; views = set s.views id w }) (sym (set-get_or s.words i 0)) r.0, r.1)
     where
       spelled : (w : View E) → set_stage n id (party v) stage ≡ machine_of k.cell s.words (set s.views id (sees es v.free v.end v.back v.to stage))
@@ -124,11 +135,11 @@ module _ {E : Type 0} (s : TableState E) (k : PlainHolds s) (id : ℕ) (v : View
       }
 
   -- the right changes
-  pub rights : (es : List (Event Name E)) → Under actor (name v) es → (stage : Stage) (chain : Chain) (right : ℕ) → Meets (set_right n id (party v) right stage) chain (reverse es ++ out_events) → Among chain.rooms k.chain.rooms → ((q : ℕ) → stage ≡ Cleared q → ⊥)
+  pub rights : (es : List (Event Name E)) → Under actor (name v) es → (stage : Stage) (chain : Chain) (right : ℕ) → Meets (set_right n id (party v) right stage) chain (reverse es ++ out_events) → Among chain.rooms k.chain.rooms → ((q : ℕ) → stage ≡ Cleared q → ⊥) → cleared_count v.stage ≡ 0 → length (real chain.rooms) ≡ length (real k.chain.rooms) → ((r : ℕ) → k.chain.owner r ≡ Pooled → chain.owner r ≡ Pooled)
       → Becomes s k v (sees es v.free v.end v.back v.to stage) record { words = set s.words RIGHT right; homes = s.homes; views = set s.views id (sees es v.free v.end v.back v.to stage) } × Sees v es (sees es v.free v.end v.back v.to stage)
-  rights es under stage chain right met among away =
+  rights es under stage chain right met among away quiet even owners =
       let w = sees es v.free v.end v.back v.to stage in
-      keeps_rule s k id es v w (set s.words RIGHT right) s.homes k.cell chain (set_right n id (party v) right stage) at named under refl spelled met (length-set s.words RIGHT right) refl (full_among chain.rooms among) (empties_same s k id w (k.empty id v at named)) (readies_same s k id w away) (linkeds_low s k id RIGHT right w (omega arith) (k.linked id v at named)) refl (λ j x jx. inr (among j x jx)) (λ j x jx. inl (j, jx))
+      keeps_rule s k id es v w (set s.words RIGHT right) s.homes k.cell chain (set_right n id (party v) right stage) at named under refl spelled met (length-set s.words RIGHT right) refl (full_among chain.rooms among) (empties_same s k id w (k.empty id v at named)) (readies_same s k id w away) (linkeds_low s k id RIGHT right w (omega arith) (k.linked id v at named)) refl (λ j x jx. inr (among j x jx)) (λ j x jx. inl (j, jx)) (leaves_rooms es stage chain (set s.words RIGHT right) away quiet even owners (λ r _. next_low s.words RIGHT right (omega arith) r))
     where
       spelled : set_right n id (party v) right stage ≡ machine_of k.cell (set s.words RIGHT right) (set s.views id (sees es v.free v.end v.back v.to stage))
       spelled j = record {
@@ -206,13 +217,27 @@ module _ {E : Type 0} (s : TableState E) (k : PlainHolds s) (id : ℕ) (v : View
       | inr a ↦ inr ((0, subst (ItemAt k.chain.rooms 0) (sym a.1) tail_at), (r, subst (λ z. word.next s.words z ≡ suc r) (sym a.1) (linked_word (word.next s.words t) r linked)))
     ]
 
+    out_leaves : LeavesPool s k v out_view s.words homes_out next_chain
+    out_leaves =
+        let first = ap (λ (l : List ℕ). length l) (real_first k.chain.rooms t is_real tail_at) in
+        let none_back = ap (λ (l : List ℕ). length l) bare in
+        let quiet = none_cleared v.stage (λ q e. none_some (sym (ap tail_of e) ∙ has)) in record {
+          owners = λ x pooled. put_other k.chain.owner t (Spare id) x (not_tail x pooled) ∙ pooled;
+          links = λ x pooled. refl;
+          slots = λ x pooled. set_else s.homes t x none (not_tail x pooled);
+          even = omega arith;
+        }
+      where
+        not_tail : (x : ℕ) → k.chain.owner x ≡ Pooled → x ≢ t
+        not_tail x pooled same = shared_pooled tail_shared (ap k.chain.owner (sym same) ∙ pooled)
+
     out_kept : (i : ℕ) → Becomes s k v out_view record { words = set s.words i (get_or s.words i 0); homes = homes_out; views = set s.views id out_view } × Sees v all out_view
     out_kept i =
         let h = ap (λ l. l ++ out_events) (reverse-append before (Event.Out (name v) e ∷ [])) in
         let kept = keeps_rule s k id all v out_view s.words homes_out (update k.cell t None) next_chain freed_machine at named (under_append actor (name v) before (Event.Out (name v) e ∷ []) under (refl, tt)) refl spelled_out (subst (Meets freed_machine next_chain) (sym h) met) refl (length-set s.homes t none) out_full
         (empties s k id t none out_view out_empty (λ j ne mine. spare_shared mine tail_shared))
         (readies s k id t None out_view (λ q is. cc) (λ j ne mine. ready_shared mine tail_shared)) (linkeds_same s k id out_view ((k.linked id v at named).0, (linked_word (word.next s.words t) r linked, tt)))
-        refl (λ j x jx. inr (suc j, at_down k.chain.rooms j x jx)) out_spare in
+        refl (λ j x jx. inr (suc j, at_down k.chain.rooms j x jx)) out_spare out_leaves in
         (subst (λ (ws : List ℕ). Becomes s k v out_view record { words = ws; homes = homes_out; views = set s.views id out_view }) (sym (set-get_or s.words i 0)) kept.0, kept.1)
 
   -- ---- what the steps tell
@@ -258,7 +283,7 @@ module _ {E : Type 0} (s : TableState E) (k : PlainHolds s) (id : ℕ) (v : View
         record { keeps = keeping n k.chain h M id (party v) there t has; is_real = is_real; looked = looked },
         (λ far. was_now (name v) h looked (open_blocks n k.chain h M id (party v) there t has nothing open_link far)),
       ) in
-      let r = reads before under (Null t) k.chain met same_rooms (λ q is. cc) i in
+      let r = reads before under (Null t) k.chain met same_rooms (λ q is. cc) (none_cleared v.stage (λ q e. none_some (sym (ap tail_of e) ∙ has))) refl (λ x pooled. pooled) i in
       (sees before v.free v.end v.back v.to (Null t), keeps, tt, r.0, stood before (Null t) r.1)
 
   -- the read of a tail's link that is no stub

@@ -1,12 +1,12 @@
 -- The steps of `enqueue` keep the rule of a queue's table.
-use Rattle.std.proofs.Common.{◌≡◌, ◌≢◌, ℕ, suc, ◌+◌, ◌-◌, ◌<◌, List, [], ◌∷◌, ◌++◌, length, reverse, set, get_or, append-nil, Option, Some, None, refl, sym, ap, ◌∙◌, subst, inl, inr, arith, length-set}
+use Rattle.std.proofs.Common.{◌≡◌, ◌≢◌, ℕ, suc, ◌+◌, ◌-◌, ◌<◌, List, [], ◌∷◌, ◌++◌, length, reverse, set, get_or, append-nil, Option, Some, None, refl, sym, ap, ◌∙◌, subst, inl, inr, arith, length-set, length-append}
 use mathlib.Core.Option.{some, none}
 use lib.ListN.{get_elem?}
 use Rattle.atomic_table.specs.Table.{keeps, takes, gives, homes_after, rest, step}
 use Rattle.atomic_table.proofs.Lists.{set_here, set_else}
 use Rattle.cordyceps_shared.specs.Words as word
 use Rattle.cordyceps_shared.specs.declared.layout.TheConstants.{HEAD, LINKS}
-use Rattle.cordyceps_shared.proofs.Words.{head_set, right_beside_head, head_beside_next, right_beside_next}
+use Rattle.cordyceps_shared.proofs.Words.{head_set, right_beside_head, head_beside_next, right_beside_next, next_beside_next}
 use Rattle.cordyceps_shared.specs.Histories.{events, of_seat}
 use Rattle.cordyceps_shared.specs.Knowing.{all_seen}
 use Rattle.cordyceps_shared.specs.Shares.{Name, first_name}
@@ -17,16 +17,17 @@ use Rattle.cordyceps_queue.specs.declared.cores.stage.Stage.TheVariants.{Rest, C
 use Rattle.cordyceps_shared.specs.FreeChains.{Links, leads}
 use Rattle.cordyceps_queue.specs.History.{Event, actor}
 use Rattle.cordyceps_shared.specs.Places.{ItemAt}
-use Rattle.cordyceps_queue.specs.Cores.Meets.{Owner, Spare, Shared, OwnsRooms, AtStage}
+use Rattle.cordyceps_queue.specs.Cores.Meets.{Owner, Spare, Shared, Ready, Pooled, OwnsRooms, AtStage, real}
 use Rattle.cordyceps_queue.specs.Shared.Plays.{SeatState, LegalReversed, Sees}
 use Rattle.cordyceps_queue.specs.Shared.Plays as play
 use Rattle.cordyceps_shared.specs.Slots.{Homes, EmptyAtHome, Hand}
 use Rattle.cordyceps_queue.specs.Shared.Rule.{TableState, party, party_of, machine_of, FullAtHome, PlainHolds}
-use Rattle.cordyceps_queue.specs.Shared.View.{View, name}
+use Rattle.cordyceps_queue.specs.Shared.View.{View, name, cleared_count}
 use Rattle.cordyceps_queue.specs.Cores.Abstract.{AbstractMachine, update, clear_room, swap_head, link_next}
-use Rattle.cordyceps_queue.proofs.CoreTheory.Basics.{some_inj, put_same, put_other, at_split}
-use Rattle.cordyceps_queue.proofs.CoreTheory.ProducerSteps.{spare_shared, ready_spare, clear_keeps, chain_after_clear, swap_keeps, chain_after_swap, was, fresh, link_keeps}
-use Rattle.cordyceps_queue.proofs.SharedTheory.WordsAsMachine.{links_put, links_same, parties_put, keeps_rule, core, party_at, rooms_of, free_spare, empties, empties_same, readies, readies_same, head_near, linked_else, own_links, linkeds, linkeds_low, Becomes, PlainAllows}
+use Rattle.cordyceps_queue.proofs.CoreTheory.Basics.{some_inj, put_same, put_other, at_split, real_more}
+use Rattle.cordyceps_queue.proofs.CoreTheory.ChainGrows.{real_one}
+use Rattle.cordyceps_queue.proofs.CoreTheory.ProducerSteps.{spare_shared, spare_pooled, ready_spare, ready_pooled, shared_pooled, clear_keeps, chain_after_clear, swap_keeps, chain_after_swap, was, fresh, link_keeps}
+use Rattle.cordyceps_queue.proofs.SharedTheory.WordsAsMachine.{links_put, links_same, next_low, parties_put, keeps_rule, core, party_at, rooms_of, free_spare, empties, empties_same, readies, readies_same, head_near, linked_else, own_links, linkeds, linkeds_low, Becomes, PlainAllows}
 
 abbrev room_of : Stage → ℕ
 room_of (Cleared r) = r
@@ -110,6 +111,15 @@ module _ {E : Type 0} (s : TableState E) (k : PlainHolds s) (id : ℕ) (v : View
         (readies s k id r (Some e) clear_view (λ q is. ap (λ z. update k.cell r (Some e) z) (sym (ap room_of is)) ∙ put_same k.cell r (Some e)) (λ j ne mine. ready_spare mine (rooms.own 0 r refl)))
         (linkeds s k id r 0 clear_view (clear_linked, tt) (λ j ne mine. ne (spare_one mine (rooms.own 0 r refl))))
         refl (λ i x ix. inr (i, ix)) (λ i x ix. inl (suc i, subst (λ l. ItemAt l (suc i) x) (sym spare) (subst (λ l. ItemAt l i x) (append-nil rs) ix)))
+        record {
+          owners = λ x pooled. put_other k.chain.owner r (Ready id) x (not_mine x pooled) ∙ pooled;
+          links = λ x pooled. next_beside_next s.words r x 0 (not_mine x pooled);
+          slots = λ x pooled. set_else s.homes r x none (not_mine x pooled);
+          even = let long = ap (λ (l : List ℕ). length l) free in let none_back = ap (λ (l : List ℕ). length l) bare in let not_cleared = ap cleared_count idle in omega arith;
+        }
+      where
+        not_mine : (x : ℕ) → k.chain.owner x ≡ Pooled → x ≢ r
+        not_mine x pooled same = spare_pooled (rooms.own 0 r refl) (ap k.chain.owner (sym same) ∙ pooled)
 
   -- ---- the swap of head
   module _ (r : ℕ) (e : E) (ready : v.stage ≡ Cleared r) (item : v.item ≡ Some e) (inside : r < length s.homes) where
@@ -157,6 +167,18 @@ module _ {E : Type 0} (s : TableState E) (k : PlainHolds s) (id : ℕ) (v : View
         (empties s k id r (some (Some e)) swap_view swap_empty (λ j ne mine. ready_spare known.1 mine))
         (readies_same s k id swap_view (λ q is. cc)) (linkeds_low s k id HEAD r swap_view (omega arith) (k.linked id v at named))
         refl (λ i x ix. elim (at_split k.chain.rooms r i x ix) [ inl a ↦ inr (i, a) | inr a ↦ inl (a.1 ∙ sym (head_set s.words r (let w = wide_words in omega arith))) ]) (λ i x ix. inl (i, ix))
+        record {
+          owners = λ x pooled. put_other k.chain.owner r Shared x (not_mine x pooled) ∙ pooled;
+          links = λ x pooled. next_low s.words HEAD r (omega arith) x;
+          slots = λ x pooled. set_else s.homes r x (some (Some e)) (not_mine x pooled);
+          even =
+              let one = ap (λ (l : List ℕ). length l) (real_more k.chain.rooms (r ∷ []) ∙ ap (λ l. real k.chain.rooms ++ l) (real_one r known.2)) in
+              let long = length-append (real k.chain.rooms) (r ∷ []) in
+              let cleared = ap cleared_count ready in omega arith;
+        }
+      where
+        not_mine : (x : ℕ) → k.chain.owner x ≡ Pooled → x ≢ r
+        not_mine x pooled same = ready_pooled known.1 (ap k.chain.owner (sym same) ∙ pooled)
 
   -- ---- the store of the link
   module _ (r old : ℕ) (waits : v.stage ≡ Swapped r old) (inside : old < length s.homes) where
@@ -185,6 +207,12 @@ module _ {E : Type 0} (s : TableState E) (k : PlainHolds s) (id : ℕ) (v : View
         (length-set s.words (LINKS + old) (suc r)) refl k.full (empties_same s k id link_view (k.empty id v at named)) (readies_same s k id link_view (λ q is. cc))
         (linkeds s k id old (suc r) link_view (own_links s k id old (suc r) v at named (λ mine. spare_shared mine old_shared)) (λ j ne mine. spare_shared mine old_shared))
         refl (λ i x ix. inr (i, ix)) (λ i x ix. inl (i, ix))
+        record {
+          owners = λ x pooled. pooled;
+          links = λ x pooled. next_beside_next s.words old x (suc r) (λ same. shared_pooled old_shared (ap k.chain.owner (sym same) ∙ pooled));
+          slots = λ x pooled. refl;
+          even = let not_cleared = ap cleared_count waits in omega arith;
+        }
 
 module _ {E : Type 0} where
   pub clears : (slots id i : ℕ) (me : SeatState E) (r : ℕ) (rs : List ℕ) (item : Option E) (e : E) → i ≡ LINKS + r → item ≡ Some e → me.0.stage ≡ Rest → me.0.back ≡ [] → me.0.free ≡ r ∷ rs → me.0.known.share ≢ []

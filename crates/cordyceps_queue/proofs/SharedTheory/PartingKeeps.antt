@@ -1,5 +1,5 @@
 -- The rule of a queue's table at the start, and where a party is split in two or takes another in.
-use Rattle.std.proofs.Common.{◌≡◌, ◌≢◌, ◌⊎◌, ℕ, zero, suc, ◌+◌, ◌-◌, ◌≤◌, List, [], ◌∷◌, ◌++◌, map, reverse, length, replicate, set, take, drop, Option, Some, None, refl, sym, ap, ◌∙◌, subst, inl, inr, ⊎_elim, arith, length-set, append-nil}
+use Rattle.std.proofs.Common.{◌≡◌, ◌≢◌, ◌⊎◌, ℕ, zero, suc, ◌+◌, ◌-◌, ◌≤◌, List, [], ◌∷◌, ◌++◌, map, reverse, length, replicate, set, take, drop, Option, Some, None, refl, sym, ap, ◌∙◌, subst, inl, inr, ⊎_elim, arith, length-set, length-append, append-nil, take-append-drop}
 use Rattle.std.proofs.lemmas.List.{reverse-append}
 use mathlib.Core.Option.{some}
 use native.Mathlib.Decide.{ℕ_discrete}
@@ -10,10 +10,12 @@ use Rattle.cordyceps_shared.specs.Words as word
 use Rattle.cordyceps_shared.specs.declared.layout.TheConstants.{LINKS}
 use Rattle.cordyceps_shared.specs.Histories.{events}
 use Rattle.cordyceps_shared.specs.Knowing.{SharesDisjoint}
-use Rattle.cordyceps_shared.specs.Shares.{Name}
+use Rattle.cordyceps_shared.specs.Shares.{Name, whole}
 use Rattle.cordyceps_shared.proofs.Changing.{one_set, two_set, set_more, was_there}
+use Rattle.cordyceps_shared.proofs.Counting.{tally_set, tally_snoc}
 use Rattle.cordyceps_shared.proofs.Cutting.{owned_cut, fits_cut}
 use Rattle.cordyceps_shared.proofs.Joining.{owned_join, fits_join}
+use Rattle.cordyceps_shared.proofs.Naming.{keeps_some, gives_some, joined_some}
 use Rattle.cordyceps_shared.proofs.Places.{at_take, empty_new, empty_drop, empty_take, empty_append}
 use Rattle.cordyceps_shared.proofs.Renaming.{relabel, events_relabel}
 use Rattle.cordyceps_shared.proofs.Standing as seats
@@ -21,7 +23,7 @@ use Rattle.cordyceps_shared.proofs.Telling.{at_length, owned_same, fits_forgot}
 use Rattle.cordyceps_queue.specs.declared.cores.stage.Stage.TheVariants.{Rest, Cleared}
 use Rattle.cordyceps_queue.specs.History.{Event, actor}
 use Rattle.cordyceps_shared.specs.Places.{ItemAt}
-use Rattle.cordyceps_queue.specs.Cores.Meets.{Owner, Shared, Spare, Unmade, OwnsRooms, AtStage, Meets}
+use Rattle.cordyceps_queue.specs.Cores.Meets.{Owner, Shared, Spare, Pooled, Unmade, OwnsRooms, AtStage, Meets}
 use Rattle.cordyceps_queue.specs.Shared.Parting.{view_keeping, view_giving, view_absorbing, view_absorbed, view_without_told}
 use Rattle.cordyceps_queue.specs.Past.{IsLegalReversed, IsSettled}
 use Rattle.cordyceps_queue.specs.Shared.Plays.{LegalReversed}
@@ -30,12 +32,13 @@ use Rattle.cordyceps_shared.proofs.FreeLinks.{links_drop, links_take, links_appe
 use Rattle.cordyceps_queue.specs.Shared.Parts.{AreNew}
 use Rattle.cordyceps_shared.specs.Slots.{Homes, EmptyAtHome}
 use Rattle.cordyceps_queue.specs.Shared.Rule.{TableState, History, link_of, party, party_of, machine_of, PlainHolds}
-use Rattle.cordyceps_queue.specs.Shared.View.{View, knows, name, newcomer, down_from, free_chain}
+use Rattle.cordyceps_queue.specs.Shared.View.{View, knows, name, newcomer, down_from, free_chain, cleared_count, room_count}
 use Rattle.cordyceps_queue.specs.Cores.Abstract.{AbstractParty}
 use Rattle.cordyceps_queue.proofs.CoreTheory.Basics.{some_inj}
+use Rattle.cordyceps_queue.proofs.CoreTheory.ProducerSteps.{spare_pooled}
 use Rattle.cordyceps_queue.proofs.SharedTheory.SeatNames.{party_was, name_known, names_differ}
 use Rattle.cordyceps_queue.proofs.CoreTheory.SplitParties.{deal, deal_else, deal_here, deal_fixed, deal_others, deal_kept, deal_given, deal_both, Regroups, regroups_keep}
-use Rattle.cordyceps_queue.proofs.SharedTheory.WordsAsMachine.{core, party_at, rooms_of, parties_put, Stays}
+use Rattle.cordyceps_queue.proofs.SharedTheory.WordsAsMachine.{core, party_at, rooms_of, parties_put, pool_stays, count_same, spent_else, Stays}
 use Rattle.cordyceps_queue.proofs.SharedTheory.ReturnKeeps.{put_again}
 
 only_at : {A : Type 0} (a b : A) (i : ℕ) → ItemAt (a ∷ []) i b → (i ≡ 0) × (b ≡ a)
@@ -46,6 +49,10 @@ pub at_down_from : (n i r : ℕ) → ItemAt (down_from n) i r → (i + r ≡ n) 
 at_down_from zero i r a = absurd a
 at_down_from (suc n) zero r a = (omega arith, omega arith)
 at_down_from (suc n) (suc i) r a = let t = at_down_from n i r a in let e = t.0 in (omega arith, t.1)
+
+pub length_down_from : (n : ℕ) → length (down_from n) ≡ n
+length_down_from zero = refl
+length_down_from (suc n) = ap suc (length_down_from n)
 
 -- whose the rooms are of a queue that has only the stub's
 abbrev only_stub : ℕ → Owner
@@ -73,6 +80,7 @@ module _ (E : Type 0) where
     pub now : PlainHolds {E = E} (opening words (replicate (rooms + 1) None) (newcomer rooms))
     pub uses : now.uses ≡ []
     pub rooms_are : now.chain.rooms ≡ 0 ∷ []
+    pub pool_is : now.pool ≡ record { rooms = []; end = 0 }
 
   pub opens : (rooms : ℕ) (words : List ℕ) → AreNew words rooms → Opens rooms words
   opens rooms words new =
@@ -84,12 +92,13 @@ module _ (E : Type 0) where
       let known = seats.opens actor knows first refl in
       let homes : Homes E = map some (replicate (rooms + 1) None) in
       let deep : length homes ≡ rooms + 1 = length-map (replicate (rooms + 1) None) some ∙ length-replicate (rooms + 1) None in
-      let owner : ℕ → Owner = deal 0 (down_from rooms) only_stub in record {
+      let owner : ℕ → Owner = deal (Spare 0) (down_from rooms) only_stub in record {
         now = record {
           uses = [];
           history = [];
           cell = λ _. None;
           chain = record { rooms = 0 ∷ []; owner = owner; keeper = None };
+          pool = record { rooms = []; end = 0 };
           meets = record {
             legal = tt;
             last = (0, refl, head);
@@ -98,7 +107,7 @@ module _ (E : Type 0) where
             once = λ i j r ir jr. (only_at 0 r i ir).0 ∙ sym (only_at 0 r j jr).0;
             shared = λ i r ir. ap owner (only_at 0 r i ir).1 ∙ stub rooms;
             stub = stub rooms;
-            unmade = λ r l. deal_else 0 (down_from rooms) only_stub r (λ i a. let t = at_down_from rooms i r a in let e = t.0 in absurd (omega arith)) ∙ others_unmade r (omega arith);
+            unmade = λ r l. deal_else (Spare 0) (down_from rooms) only_stub r (λ i a. let t = at_down_from rooms i r a in let e = t.0 in absurd (omega arith)) ∙ others_unmade r (omega arith);
             holds = refl;
             right = (refl, 0, right, refl);
             fits = λ k p e. subst (λ (q : AbstractParty Name). AtStage (word.head words) (λ r. link_of (word.next words r)) (λ (_ : ℕ). let x : Option E = None in x) owner None (0 ∷ []) [] k q.name q.stage) (is_first rooms k p e).1 tt;
@@ -112,11 +121,15 @@ module _ (E : Type 0) where
           empty = λ j v e some_name. subst (λ (z : View E). EmptyAtHome homes z.free) (seats.only first v j e).1 (vacant_empty rooms);
           ready = λ j v r e some_name is. absurd (let c = ap (λ (z : View E). z.stage) (seats.only first v j e).1 ∙ is in cc);
           linked = λ j v e some_name. subst (λ (z : View E). Links words z.free z.end × Links words z.back z.to) (seats.only first v j e).1 (links_down words rooms (λ r l. new.linked r (omega arith)), tt);
+          pooled = record { own = λ i r a. absurd a; once = λ i j r a b. absurd a; linked = tt; empty = λ i r a. absurd a };
+          all = let long = length_down_from rooms in omega arith;
+          spent = λ j v e none_of. let no : whole ≡ [] = ap (λ (z : View E). z.known.share) (seats.only first v j e).1 ∙ none_of in absurd (cc);
           fits = known.1;
           owned = known.0;
         };
         uses = refl;
         rooms_are = refl;
+        pool_is = refl;
       }
     where
       is_first : (n k : ℕ) (p : AbstractParty Name) → (let first : View E = newcomer n in party_of (get_elem? (first ∷ []) k) ≡ Some p) → let first : View E = newcomer n in (k ≡ 0) × (party first ≡ p)
@@ -126,12 +139,12 @@ module _ (E : Type 0) where
           let o = seats.only first w.0 k w.1 in
           (o.0, ap party o.1 ∙ w.3)
 
-      stub : (n : ℕ) → deal 0 (down_from n) only_stub 0 ≡ Shared
-      stub n = deal_else 0 (down_from n) only_stub 0 (λ i a. let t = at_down_from n i 0 a in let l = t.1 in absurd (omega arith))
+      stub : (n : ℕ) → deal (Spare 0) (down_from n) only_stub 0 ≡ Shared
+      stub n = deal_else (Spare 0) (down_from n) only_stub 0 (λ i a. let t = at_down_from n i 0 a in let l = t.1 in absurd (omega arith))
 
-      mine : (n : ℕ) → OwnsRooms (deal 0 (down_from n) only_stub) 0 (down_from n)
+      mine : (n : ℕ) → OwnsRooms (deal (Spare 0) (down_from n) only_stub) 0 (down_from n)
       mine n = record {
-        own = λ i r a. deal_here 0 (down_from n) only_stub i r a;
+        own = λ i r a. deal_here (Spare 0) (down_from n) only_stub i r a;
         once = λ i j r x y. let t = at_down_from n i r x in let u = at_down_from n j r y in let e = t.0 in let f = u.0 in omega arith;
       }
 
@@ -150,7 +163,7 @@ module _ {E : Type 0} (s : TableState E) (k : PlainHolds s) (id n : ℕ) (v : Vi
   cut_views = set s.views id left_view ++ right ∷ []
 
   abbrev owner_cut : ℕ → Owner
-  owner_cut = deal far (take n v.free) k.chain.owner
+  owner_cut = deal (Spare far) (take n v.free) k.chain.owner
 
   cut_still : (i : ℕ) (u : View E) → i ≢ id → get_elem? s.views i ≡ some u → get_elem? cut_views i ≡ some u
   cut_still i u ne e = at_longer (set s.views id left_view) (right ∷ []) i u (set_else s.views id i left_view ne ∙ e)
@@ -184,7 +197,7 @@ module _ {E : Type 0} (s : TableState E) (k : PlainHolds s) (id n : ℕ) (v : Vi
     known = λ q. name_known q (name v);
     settled = λ q e. subst (λ x. IsSettled x (reverse (events k.history))) (sym e)
         (subst (AtStage (core s k).head (core s k).next k.cell k.chain.owner k.chain.keeper k.chain.rooms (reverse (events k.history)) id (name v)) rest (k.meets.fits id (party v) (party_at s k id v at named)));
-    fixed = deal_fixed k.chain.owner id far (take n v.free) taken;
+    fixed = deal_fixed k.chain.owner id (Spare far) (take n v.free) taken;
     stays = λ i p e. elim (ℕ_discrete i id) [
       | yes same ↦ let is = was_here p (ap (core s k).party (sym same) ∙ e) in inr (ap (λ (x : AbstractParty Name). x.name) (sym is), ap (λ (x : AbstractParty Name). x.stage) (sym is) ∙ rest)
       | no ne ↦ let w = party_was (get_elem? s.views i) p e in inl (ap party_of (cut_still i w.0 ne w.1 ∙ sym w.1) ∙ e)
@@ -199,9 +212,9 @@ module _ {E : Type 0} (s : TableState E) (k : PlainHolds s) (id n : ℕ) (v : Vi
     rooms = λ i p e.
         let w = party_was (get_elem? cut_views i) p e in
         subst (λ (q : AbstractParty Name). OwnsRooms owner_cut i q.spare) w.3 (set_more (λ j u. u.known.share ≢ [] → OwnsRooms owner_cut j (party u).spare) s.views id left_view right
-        (λ _. subst (OwnsRooms owner_cut id) (sym (ap (λ l. drop n v.free ++ l) bare ∙ append-nil (drop n v.free))) (deal_kept k.chain.owner id v.free free_rooms n far))
+        (λ _. subst (OwnsRooms owner_cut id) (sym (ap (λ l. drop n v.free ++ l) bare ∙ append-nil (drop n v.free))) (deal_kept k.chain.owner id v.free free_rooms n (Spare far)))
         (λ _. subst (OwnsRooms owner_cut far) (sym (append-nil (take n v.free))) (deal_given k.chain.owner id v.free free_rooms n far))
-        (λ j u ne there some_name. deal_others k.chain.owner id far (take n v.free) taken j (u.free ++ u.back) ne (rooms_of s k j u there some_name))
+        (λ j u ne there some_name. deal_others k.chain.owner id (Spare far) (take n v.free) taken j (u.free ++ u.back) ne (rooms_of s k j u there some_name))
         i w.0 w.1 w.2);
     names = names_differ cut_views k.history cut_owned;
   }
@@ -213,6 +226,7 @@ module _ {E : Type 0} (s : TableState E) (k : PlainHolds s) (id n : ℕ) (v : Vi
       history = k.history;
       cell = k.cell;
       chain = record k.chain { owner = owner_cut };
+      pool = k.pool;
       meets = regroups_keep (core s k) k.chain (reverse (events k.history)) (λ j. party_of (get_elem? cut_views j)) owner_cut Gone_cut k.meets cut_groups;
       wide = k.wide;
       stub = k.stub;
@@ -230,10 +244,18 @@ module _ {E : Type 0} (s : TableState E) (k : PlainHolds s) (id n : ℕ) (v : Vi
           (λ _. let l = k.linked id v at named in (links_drop s.words v.free n v.end l.0, l.1))
           (λ _. (links_take s.words v.free n v.end (k.linked id v at named).0, tt))
           (λ j u ne there some_name. k.linked j u there some_name);
+      pooled = pool_stays s k owner_cut s.words s.homes (λ r pooled. deal_fixed k.chain.owner id (Spare far) (take n v.free) taken r Pooled pooled (λ j e. spare_pooled e refl)) (λ r pooled. refl) (λ r pooled. refl);
+      all =
+          let all = k.all in
+          let long = length-append (take n v.free) (drop n v.free) in
+          let same = ap (λ (l : List ℕ). length l) (take-append-drop n v.free) in
+          omega (arith, tally_set (room_count {E = E}) s.views id v left_view at, tally_snoc (room_count {E = E}) (set s.views id left_view) right);
+      spent = set_more (λ _ u. u.known.share ≡ [] → room_count u ≡ 0) s.views id left_view right (λ e. absurd (keeps_some v.known.share named e)) (λ e. absurd (gives_some v.known.share named e)) (λ j u _ e. k.spent j u e);
       fits = fits_cut actor knows s.views k.history id v left_view right at refl refl k.owned k.fits;
       owned = cut_owned;
     };
     uses = refl;
+    pool = refl;
     rooms = refl;
   }
 
@@ -244,7 +266,7 @@ module _ {E : Type 0} (s : TableState E) (k : PlainHolds s) (id other : ℕ) (v 
   joint = set (set s.views id (view_absorbing v w)) other view_absorbed
 
   abbrev owner_join : ℕ → Owner
-  owner_join = deal id w.free k.chain.owner
+  owner_join = deal (Spare id) w.free k.chain.owner
 
   abbrev relabelled_history : History E
   relabelled_history = relabel id other k.history
@@ -296,7 +318,7 @@ module _ {E : Type 0} (s : TableState E) (k : PlainHolds s) (id other : ℕ) (v 
         (λ (e : q ≡ name v). subst (λ x. IsSettled x past) (sym e) (rest_settled id v at named rest))
         (λ (e : q ≡ name w). subst (λ x. IsSettled x past) (sym e) (rest_settled other w there_first named_too rest_too))
         g;
-    fixed = deal_fixed k.chain.owner other id w.free second_rooms.own;
+    fixed = deal_fixed k.chain.owner other (Spare id) w.free second_rooms.own;
     stays = λ i p e. elim (ℕ_discrete i id) [
       | yes same ↦ let is = first_was p (ap (core s k).party (sym same) ∙ e) in inr (inl (ap (λ (x : AbstractParty Name). x.name) (sym is)), ap (λ (x : AbstractParty Name). x.stage) (sym is) ∙ rest)
       | no ne ↦ elim (ℕ_discrete i other) [
@@ -316,7 +338,7 @@ module _ {E : Type 0} (s : TableState E) (k : PlainHolds s) (id other : ℕ) (v 
         subst (λ (q : AbstractParty Name). OwnsRooms owner_join i q.spare) t.3 (two_set (λ j u. u.known.share ≢ [] → OwnsRooms owner_join j (party u).spare) s.views id other (view_absorbing v w) view_absorbed
         (λ _. subst (OwnsRooms owner_join id) (sym (append-nil (v.free ++ w.free))) (deal_both k.chain.owner id other v.free w.free (λ e. apart (sym e)) first_rooms second_rooms))
         (λ some_name. absurd (some_name refl))
-        (λ j u ne no_other at some_name. deal_others k.chain.owner other id w.free second_rooms.own j (u.free ++ u.back) no_other (rooms_of s k j u at some_name))
+        (λ j u ne no_other at some_name. deal_others k.chain.owner other (Spare id) w.free second_rooms.own j (u.free ++ u.back) no_other (rooms_of s k j u at some_name))
         i t.0 t.1 t.2);
     names = names_differ joint relabelled_history joint_owned;
   }
@@ -328,6 +350,7 @@ module _ {E : Type 0} (s : TableState E) (k : PlainHolds s) (id other : ℕ) (v 
       history = relabelled_history;
       cell = k.cell;
       chain = record k.chain { owner = owner_join };
+      pool = k.pool;
       meets = subst (λ l. Meets (machine_of k.cell s.words joint) (record k.chain { owner = owner_join }) l) same_past
           (regroups_keep (core s k) k.chain past (λ j. party_of (get_elem? joint j)) owner_join Gone_join k.meets join_groups);
       wide = k.wide;
@@ -346,10 +369,21 @@ module _ {E : Type 0} (s : TableState E) (k : PlainHolds s) (id other : ℕ) (v 
           (λ _. (links_append s.words v.free w.free v.end w.end may (k.linked id v at named).0 (k.linked other w there_first named_too).0, tt))
           (λ some_name. absurd (some_name refl))
           (λ j u ne no_other e some_name. k.linked j u e some_name);
+      pooled = pool_stays s k owner_join s.words s.homes (λ r pooled. deal_fixed k.chain.owner other (Spare id) w.free second_rooms.own r Pooled pooled (λ j e. spare_pooled e refl)) (λ r pooled. refl) (λ r pooled. refl);
+      all =
+          let all = k.all in
+          let none_back = ap (λ (l : List ℕ). length l) bare in
+          let none_too = ap (λ (l : List ℕ). length l) bare_too in
+          let quiet = ap cleared_count rest in
+          let quiet_too = ap cleared_count rest_too in
+          let long = length-append v.free w.free in
+          omega (arith, tally_set (room_count {E = E}) s.views id v (view_absorbing v w) at, tally_set (room_count {E = E}) (set s.views id (view_absorbing v w)) other w view_absorbed there);
+      spent = two_set (λ _ u. u.known.share ≡ [] → room_count u ≡ 0) s.views id other (view_absorbing v w) view_absorbed (λ e. absurd (joined_some v.known.share w.known.share named e)) (λ _. refl) (λ j u _ _ e. k.spent j u e);
       fits = fits_join actor knows s.views k.history id other v w (view_absorbing v w) view_absorbed at apart there refl refl k.fits;
       owned = joint_owned;
     };
     uses = refl;
+    pool = refl;
     rooms = refl;
   }
 
@@ -369,6 +403,7 @@ module _ {E : Type 0} (s : TableState E) (k : PlainHolds s) (id : ℕ) (v : View
       history = k.history;
       cell = k.cell;
       chain = k.chain;
+      pool = k.pool;
       meets = subst (λ m. Meets m k.chain (reverse (events k.history))) unchanged k.meets;
       wide = k.wide;
       stub = k.stub;
@@ -376,10 +411,14 @@ module _ {E : Type 0} (s : TableState E) (k : PlainHolds s) (id : ℕ) (v : View
       empty = one_set (λ _ u. u.known.share ≢ [] → EmptyAtHome s.homes u.free) s.views id (view_without_told v) (λ _. k.empty id v at named) (λ j u _ e some_name. k.empty j u e some_name);
       ready = λ j u r. one_set (λ _ z. z.known.share ≢ [] → z.stage ≡ Cleared r → k.cell r ≡ z.item) s.views id (view_without_told v) (λ _ is. k.ready id v r at named is) (λ i z _ e some_name is. k.ready i z r e some_name is) j u;
       linked = one_set (λ _ u. u.known.share ≢ [] → Links s.words u.free u.end × Links s.words u.back u.to) s.views id (view_without_told v) (λ _. k.linked id v at named) (λ j u _ e some_name. k.linked j u e some_name);
+      pooled = k.pooled;
+      all = let all = k.all in let same = count_same s.views id v (view_without_told v) at refl in omega arith;
+      spent = spent_else s k id (view_without_told v) named;
       fits = fits_forgot actor knows s.views k.history id v (view_without_told v) at refl refl refl k.fits;
       owned = owned_same knows s.views k.history id v (view_without_told v) at refl k.owned;
     };
     uses = refl;
+    pool = refl;
     rooms = refl;
   }
     where

@@ -22,7 +22,7 @@ use Rattle.cordyceps_queue.specs.Shared.View.{View, name, free_chain, back_chain
 near_all : (slots : ℕ) (free back now : List ℕ) → back ≡ [] → now ≡ free ++ back → Near slots free → Near slots now
 near_all slots free back now bare same near i r ir = near i r (subst (λ l. ItemAt l i r) (same ∙ (ap (λ l. free ++ l) bare ∙ append-nil free)) ir)
 
-near_parts : (slots : ℕ) (free now back : List ℕ) → now ≡ free → back ≡ [] → Near slots free → Near slots (now ++ back)
+pub near_parts : (slots : ℕ) (free now back : List ℕ) → now ≡ free → back ≡ [] → Near slots free → Near slots (now ++ back)
 near_parts slots free now back same bare near = subst (Near slots) (sym (ap (λ l. now ++ l) bare ∙ (append-nil now ∙ same))) near
 
 pub pred_suc : (n : ℕ) → n ≢ 0 → n ≡ suc (n - 1)

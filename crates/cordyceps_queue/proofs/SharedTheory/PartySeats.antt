@@ -17,12 +17,12 @@ use Rattle.cordyceps_queue.specs.Shared.Parting.{view_keeping, view_giving, view
 use Rattle.cordyceps_queue.specs.Shared.Plays.{SeatState, IsResting}
 use Rattle.cordyceps_queue.specs.Shared.Plays as seen
 use Rattle.cordyceps_queue.specs.Shared.Rule.{IsTable}
-use Rattle.cordyceps_queue.specs.Shared.Calls.{same_name, Legal, NonePending, NoneHolds}
+use Rattle.cordyceps_queue.specs.Shared.Calls.{same_name, capacity, Legal, NonePending, NoneHolds}
 use Rattle.cordyceps_queue.specs.History.{Event, holder, IsPending}
 use Rattle.cordyceps_queue.specs.Shared.View.{View, newcomer, down_from, free_chain}
 use Rattle.cordyceps_queue.proofs.Legality.{told_legal}
 use Rattle.cordyceps_shared.proofs.Places.{near_drop, near_take, near_append}
-use Rattle.cordyceps_queue.proofs.SharedTheory.PartingKeeps.{at_down_from}
+use Rattle.cordyceps_queue.proofs.SharedTheory.PartingKeeps.{at_down_from, length_down_from}
 
 -- ---- a new party
 down_first : (n r : ℕ) (rs : List ℕ) → down_from n ≡ r ∷ rs → n + 1 ≡ suc r
@@ -36,12 +36,11 @@ down_last (suc zero) [] r e = ap (first_or 0) e
 down_last (suc (suc n)) [] r e = absurd (cc)
 down_last (suc n) (b ∷ before) r e = down_last n before r (ap rest_from e)
 
-length_down_from : (n : ℕ) → length (down_from n) ≡ n
-length_down_from zero = refl
-length_down_from (suc n) = ap suc (length_down_from n)
-
 near_down_from : (slots rooms : ℕ) → slots ≡ rooms + 1 → Near slots (down_from rooms)
 near_down_from slots rooms is i r a = let t = at_down_from rooms i r a in let e = t.0 in omega arith
+
+pub capacity_is : (z : TableId) (rooms : ℕ) → z.slots ≡ rooms + 1 → capacity z ≡ rooms
+capacity_is z rooms wide = omega arith
 
 tracks_new : (n : ℕ) → TracksEnd record { rooms = record { first = n + 1; last = 1; count = n }; end = 1 } record { rooms = down_from n; end = 1 }
 tracks_new n = record { tracks = record { count = sym (length_down_from n); first = down_first n; last = down_last n }; end = λ _. refl }

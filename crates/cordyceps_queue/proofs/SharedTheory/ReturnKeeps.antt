@@ -1,5 +1,5 @@
 -- A step of a queue's party may first give back the slots in hand.
-use Rattle.std.proofs.Common.{◌≡◌, ◌≢◌, ℕ, zero, suc, ◌-◌, ◌<◌, List, [], ◌∷◌, ◌++◌, length, reverse, set, get_or, append-nil, Option, Some, None, refl, sym, ap, ◌∙◌, subst, inl, inr, arith, length-set}
+use Rattle.std.proofs.Common.{◌≡◌, ◌≢◌, ℕ, zero, suc, ◌-◌, ◌<◌, List, [], ◌∷◌, ◌++◌, length, reverse, set, get_or, append-nil, Option, Some, None, refl, sym, ap, ◌∙◌, subst, inl, inr, arith, length-set, length-append}
 use mathlib.Core.Option.{some}
 use mathlib.Core.Path.{fun_ext}
 use native.Mathlib.Decide.{ℕ_discrete}
@@ -12,7 +12,7 @@ use Rattle.cordyceps_shared.specs.declared.layout.TheConstants.{LINKS}
 use Rattle.cordyceps_shared.specs.Histories.{events}
 use Rattle.cordyceps_shared.proofs.Changing.{one_set}
 use Rattle.cordyceps_shared.proofs.Telling.{at_length, owned_same, fits_same}
-use Rattle.cordyceps_shared.specs.FreeChains.{end_after, MayJoin}
+use Rattle.cordyceps_shared.specs.FreeChains.{MayJoin}
 use Rattle.cordyceps_shared.proofs.FreeLinks.{links_append}
 use Rattle.cordyceps_shared.proofs.Places.{empty_append}
 use Rattle.cordyceps_shared.specs.Places.{ItemAt}
@@ -24,14 +24,14 @@ use Rattle.cordyceps_queue.specs.Cores.Meets.{Spare, Meets}
 use Rattle.cordyceps_queue.specs.Shared.Plays.{SeatState, carry, moves_to, hands_out}
 use Rattle.cordyceps_shared.specs.Slots.{Near, Homes, EmptyAtHome, Hand}
 use Rattle.cordyceps_queue.specs.Shared.Rule.{TableState, link_of, party, machine_of, PlainHolds}
-use Rattle.cordyceps_queue.specs.Shared.View.{View, knows, name, free_chain, back_chain}
+use Rattle.cordyceps_queue.specs.Shared.View.{View, knows, name, free_chain, back_chain, view_returned}
 use Rattle.cordyceps_queue.specs.Cores.Abstract.{update}
 use Rattle.cordyceps_queue.proofs.CoreTheory.Basics.{put_same, put_other}
-use Rattle.cordyceps_queue.proofs.CoreTheory.ProducerSteps.{spare_shared}
-use Rattle.cordyceps_queue.proofs.SharedTheory.WordsAsMachine.{core, party_at, back_spare, linkeds_same, Becomes, Stays, PlainAllows}
+use Rattle.cordyceps_queue.proofs.CoreTheory.ProducerSteps.{spare_shared, spare_pooled}
+use Rattle.cordyceps_queue.proofs.SharedTheory.WordsAsMachine.{core, party_at, back_spare, linkeds_same, pool_stays, count_same, spent_else, Becomes, Stays, PlainAllows}
 use Rattle.cordyceps_queue.proofs.SharedTheory.EnqueueKeeps.{views_put}
 
-abbrev homes_given : {E : Type 0} → Homes E → List ℕ → Homes E
+abbrev pub homes_given : {E : Type 0} → Homes E → List ℕ → Homes E
 homes_given homes [] = homes
 homes_given homes (b ∷ bs) = homes_given (set homes b (some None)) bs
 
@@ -41,7 +41,7 @@ set_twice (x ∷ xs) zero a b = refl
 set_twice (x ∷ xs) (suc i) a b = ap (λ l. x ∷ l) (set_twice xs i a b)
 
 -- the act that gives back as many slots
-abbrev give_all : {E : Type 0} → List ℕ → Act (Option E)
+abbrev pub give_all : {E : Type 0} → List ℕ → Act (Option E)
 give_all [] = keeps
 give_all (b ∷ bs) = table.chain gives (give_all bs)
 
@@ -52,15 +52,15 @@ put_again f k v e = fun_ext (λ j. elim (ℕ_discrete j k) [
 ])
 
 module _ {E : Type 0} where
-  give_homes : (bs : List ℕ) (hs : Homes E) → homes_after hs (carry bs) (give_all bs) ≡ homes_given hs bs
+  pub give_homes : (bs : List ℕ) (hs : Homes E) → homes_after hs (carry bs) (give_all bs) ≡ homes_given hs bs
   give_homes [] hs = refl
   give_homes (b ∷ bs) hs = give_homes bs (set hs b (some None))
 
-  give_carried : (bs : List ℕ) → carried_after (carry {E = E} bs) (give_all bs) ≡ []
+  pub give_carried : (bs : List ℕ) → carried_after (carry {E = E} bs) (give_all bs) ≡ []
   give_carried [] = refl
   give_carried (b ∷ bs) = give_carried bs
 
-  give_valid : (bs : List ℕ) (hs : Homes E) → Valid hs (carry bs) (give_all bs)
+  pub give_valid : (bs : List ℕ) (hs : Homes E) → Valid hs (carry bs) (give_all bs)
   give_valid [] hs = tt
   give_valid (b ∷ bs) hs = (tt, give_valid bs (set hs b (some None)))
 
@@ -88,14 +88,10 @@ module _ {E : Type 0} where
   given_all : (bs free : List ℕ) (hs : Homes E) → Near (length hs) bs → EmptyAtHome hs free → EmptyAtHome (homes_given hs bs) (free ++ bs)
   given_all bs free hs near empty = empty_append (homes_given hs bs) free bs (λ i x a. given_still bs hs x (empty i x a)) (λ i x a. given_here bs hs i x a (near i x a))
 
-  -- the view of a party whose slots are all at home
-  abbrev pub view_returned : View E → View E
-  view_returned v = record v { free = v.free ++ v.back; end = end_after v.end v.back v.to; back = [] }
-
   abbrev pub table_returned : TableState E → ℕ → View E → TableState E
   table_returned s id v = record { words = s.words; homes = homes_given s.homes v.back; views = set s.views id (view_returned v) }
 
-  settles : (s : TableState E) (k : PlainHolds s) (id : ℕ) (v : View E) → get_elem? s.views id ≡ some v → v.known.share ≢ [] → Near (length s.homes) v.back → MayJoin (free_chain v) (back_chain v) → Stays s k (table_returned s id v)
+  pub settles : (s : TableState E) (k : PlainHolds s) (id : ℕ) (v : View E) → get_elem? s.views id ≡ some v → v.known.share ≢ [] → Near (length s.homes) v.back → MayJoin (free_chain v) (back_chain v) → Stays s k (table_returned s id v)
   settles s k id v at named near may =
       let w = view_returned v in
       let lt = at_length s.views id v at in
@@ -109,6 +105,7 @@ module _ {E : Type 0} where
           history = k.history;
           cell = k.cell;
           chain = k.chain;
+          pool = k.pool;
           meets = subst (λ n. Meets n k.chain (reverse (events k.history))) same k.meets;
           wide = omega arith;
           stub = omega arith;
@@ -118,10 +115,14 @@ module _ {E : Type 0} where
               (λ j u _ e some_name i x ix. given_still v.back s.homes x (k.empty j u e some_name i x ix));
           ready = λ j u r. one_set (λ _ z. z.known.share ≢ [] → z.stage ≡ Cleared r → k.cell r ≡ z.item) s.views id w (λ _ is. k.ready id v r at named is) (λ i z _ e some_name is. k.ready i z r e some_name is) j u;
           linked = linkeds_same s k id w (let l = k.linked id v at named in links_append s.words v.free v.back v.end v.to may l.0 l.1, tt);
+          pooled = pool_stays s k k.chain.owner s.words (homes_given s.homes v.back) (λ r pooled. pooled) (λ r pooled. refl) (λ r pooled. given_else v.back s.homes r (λ j a. spare_pooled (mine r j a) pooled));
+          all = let all = k.all in let long = length-append v.free v.back in let same = count_same s.views id v w at (omega arith) in omega arith;
+          spent = spent_else s k id w named;
           fits = fits_same actor knows s.views k.history id v w at refl refl refl refl k.fits;
           owned = owned_same knows s.views k.history id v w at refl k.owned;
         };
         uses = refl;
+        pool = refl;
         rooms = refl;
       }
     where
@@ -140,6 +141,7 @@ module _ {E : Type 0} where
   becomes_returned s k id v w t back b = record {
     now = b.now;
     uses = b.uses ∙ back.uses;
+    pool = b.pool ∙ back.pool;
     bits = b.bits ∙ back.uses;
     rooms = λ i x ix. elim (b.rooms i x ix) [ inl h ↦ inl h | inr a ↦ inr (a.0, subst (λ l. ItemAt l a.0 x) back.rooms a.1) ];
     spare = λ i x ix. elim (b.spare i x ix) [

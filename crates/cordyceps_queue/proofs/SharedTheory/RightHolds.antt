@@ -26,7 +26,7 @@ use Rattle.cordyceps_queue.proofs.SharedTheory.CallsHold.{front_own, adds, seate
 use Rattle.cordyceps_queue.proofs.SharedTheory.OwnNames.{Neutral, even_links, linked_after, held_taken, held_after, unheld_given}
 use Rattle.cordyceps_queue.proofs.SharedTheory.BlockedLook.{looked_blocked}
 
-swapped : (xs ys : List ℕ) → length (xs ++ ys) ≡ length (ys ++ xs)
+pub swapped : (xs ys : List ℕ) → length (xs ++ ys) ≡ length (ys ++ xs)
 swapped xs ys = length-append xs ys ∙ (add_comm (length xs) (length ys) ∙ sym (length-append ys xs))
 
 module _ {E : Type 0} where

@@ -13,17 +13,17 @@ use Rattle.cordyceps_shared.proofs.Changing.{one_set}
 use Rattle.cordyceps_shared.proofs.FreeLinks.{links_retied}
 use Rattle.cordyceps_shared.proofs.Places.{at_end, times_at}
 use Rattle.cordyceps_shared.proofs.Telling.{at_length, owned_same, fits_same}
-use Rattle.cordyceps_shared.proofs.Words.{head_beside_next, right_beside_next}
+use Rattle.cordyceps_shared.proofs.Words.{head_beside_next, right_beside_next, next_beside_next}
 use Rattle.cordyceps_queue.specs.declared.cores.stage.Stage.{Stage}
 use Rattle.cordyceps_queue.specs.declared.cores.stage.Stage.TheVariants.{Rest, Cleared, Swapped, Holding, StubNull, Second, Null, PutClear, PutSwap, PutLink, PutRead}
 use Rattle.cordyceps_queue.specs.History.{Event, actor}
-use Rattle.cordyceps_queue.specs.Cores.Meets.{Spare, Shared, Owed, Chain, AtStage, OwnsRooms, Meets}
+use Rattle.cordyceps_queue.specs.Cores.Meets.{Spare, Shared, Pooled, Owed, Chain, AtStage, OwnsRooms, Meets}
 use Rattle.cordyceps_queue.specs.Cores.Abstract.{AbstractMachine, update}
 use Rattle.cordyceps_queue.specs.Shared.Rule.{TableState, link_of, party, party_of, machine_of, AreLinked, PlainHolds}
 use Rattle.cordyceps_queue.specs.Shared.View.{View, knows}
 use Rattle.cordyceps_queue.proofs.CoreTheory.Basics.{put_other, at_within, at_more}
-use Rattle.cordyceps_queue.proofs.CoreTheory.ProducerSteps.{spare_shared, ready_spare}
-use Rattle.cordyceps_queue.proofs.SharedTheory.WordsAsMachine.{at_after, links_put, parties_put, core, party_at, rooms_of, free_spare, empties_same, linked_else, linkeds, linkeds_same, Stays}
+use Rattle.cordyceps_queue.proofs.CoreTheory.ProducerSteps.{spare_shared, spare_pooled, ready_spare}
+use Rattle.cordyceps_queue.proofs.SharedTheory.WordsAsMachine.{at_after, links_put, parties_put, core, party_at, rooms_of, free_spare, empties_same, linked_else, linkeds, linkeds_same, pool_stays, count_same, spent_else, Stays}
 use Rattle.cordyceps_queue.proofs.SharedTheory.EnqueueKeeps.{spare_one}
 use Rattle.cordyceps_queue.proofs.SharedTheory.ReturnKeeps.{put_again}
 
@@ -68,9 +68,9 @@ module _ {P E : Type 0} (m : AbstractMachine P E) (c : Chain) (h : List (Event P
 
 module _ {E : Type 0} (s : TableState E) (k : PlainHolds s) (id : ℕ) (v : View E) (at : get_elem? s.views id ≡ some v) (named : v.known.share ≢ []) where
   -- the last free room's link changes
-  ended : (words : List ℕ) (end : ℕ) → let w : View E = record v { end = end } in Meets (machine_of k.cell words (set s.views id w)) k.chain (reverse (events k.history)) → length words ≡ length s.words → AreLinked words (set s.views id w)
+  ended : (words : List ℕ) (end : ℕ) → let w : View E = record v { end = end } in Meets (machine_of k.cell words (set s.views id w)) k.chain (reverse (events k.history)) → length words ≡ length s.words → AreLinked words (set s.views id w) → ((r : ℕ) → k.chain.owner r ≡ Pooled → word.next words r ≡ word.next s.words r)
       → Stays s k record { words = words; homes = s.homes; views = set s.views id w }
-  ended words end meets wide linked =
+  ended words end meets wide linked links =
       let w : View E = record v { end = end } in
       let was_wide = k.wide in record {
         now = record {
@@ -78,6 +78,7 @@ module _ {E : Type 0} (s : TableState E) (k : PlainHolds s) (id : ℕ) (v : View
           history = k.history;
           cell = k.cell;
           chain = k.chain;
+          pool = k.pool;
           meets = meets;
           wide = omega arith;
           stub = k.stub;
@@ -85,10 +86,14 @@ module _ {E : Type 0} (s : TableState E) (k : PlainHolds s) (id : ℕ) (v : View
           empty = empties_same s k id w (k.empty id v at named);
           ready = λ j u r. one_set (λ _ z. z.known.share ≢ [] → z.stage ≡ Cleared r → k.cell r ≡ z.item) s.views id w (λ _ is. k.ready id v r at named is) (λ i z _ e some_name is. k.ready i z r e some_name is) j u;
           linked = linked;
+          pooled = pool_stays s k k.chain.owner words s.homes (λ r pooled. pooled) links (λ r pooled. refl);
+          all = let all = k.all in let same = count_same s.views id v w at refl in omega arith;
+          spent = spent_else s k id w named;
           fits = fits_same actor knows s.views k.history id v w at refl refl refl refl k.fits;
           owned = owned_same knows s.views k.history id v w at refl k.owned;
         };
         uses = refl;
+        pool = refl;
         rooms = refl;
       }
 
@@ -147,9 +152,10 @@ module _ {E : Type 0} (s : TableState E) (k : PlainHolds s) (id : ℕ) (v : View
         (linkeds s k id r n w
         (subst (λ z. Links tied_words z n) (sym free) (links_retied s.words before r v.end n none_before wide (subst (λ z. Links s.words z v.end) free l.0)), linked_else s k s.words v.back v.to r n not_back l.1)
         (λ j ne theirs. ne (spare_one theirs mine)))
+        (λ x pooled. next_beside_next s.words r x n (λ same. spare_pooled mine (ap k.chain.owner (sym same) ∙ pooled)))
 
   pub skip_kept : Stays s k record { words = s.words; homes = s.homes; views = set s.views id v }
-  skip_kept = ended s.words v.end (subst (λ q. Meets q k.chain (reverse (events k.history))) same_machine k.meets) refl (linkeds_same s k id v (k.linked id v at named))
+  skip_kept = ended s.words v.end (subst (λ q. Meets q k.chain (reverse (events k.history))) same_machine k.meets) refl (linkeds_same s k id v (k.linked id v at named)) (λ r pooled. refl)
     where
       same_machine : core s k ≡ machine_of k.cell s.words (set s.views id v)
       same_machine i = record {

@@ -1,5 +1,5 @@
 -- The steps of a try to dequeue at the stub, and of putting it in, keep the rule of a queue's table.
-use Rattle.std.proofs.Common.{◌≡◌, ◌≢◌, ℕ, zero, suc, ◌+◌, ◌-◌, ◌<◌, List, [], ◌∷◌, ◌++◌, length, set, get_or, Some, None, refl, sym, ap, ◌∙◌, subst, inl, inr, arith, length-set}
+use Rattle.std.proofs.Common.{◌≡◌, ◌≢◌, ℕ, zero, suc, ◌+◌, ◌-◌, ◌<◌, List, [], ◌∷◌, ◌++◌, length, set, get_or, Some, None, refl, sym, ap, ◌∙◌, subst, inl, inr, arith, length-set, append-nil}
 use mathlib.Core.Option.{some, none}
 use native.Mathlib.Decide.{ℕ_discrete}
 use lib.ListN.{get_elem?}
@@ -7,30 +7,30 @@ use Rattle.atomic_table.specs.Table.{keeps, carried_after, stepped, step}
 use Rattle.cordyceps_shared.specs.Slots.{Near}
 use Rattle.cordyceps_shared.specs.Words as word
 use Rattle.cordyceps_shared.specs.declared.layout.TheConstants.{HEAD, LINKS}
-use Rattle.cordyceps_shared.proofs.Words.{head_set, right_beside_head, head_beside_next, right_beside_next}
+use Rattle.cordyceps_shared.proofs.Words.{head_set, right_beside_head, head_beside_next, right_beside_next, next_beside_next}
 use Rattle.cordyceps_shared.specs.Shares.{Name}
 use Rattle.cordyceps_queue.specs.declared.cores.stage.Stage.{Stage}
 use Rattle.cordyceps_queue.specs.declared.cores.stage.Stage.TheVariants.{Cleared, Holding, StubNull, Second, Null, PutClear, PutSwap, PutLink, PutRead}
 use Rattle.cordyceps_queue.specs.History.{Event}
 use Rattle.cordyceps_shared.specs.Places.{ItemAt}
-use Rattle.cordyceps_queue.specs.Cores.Meets.{Owes, tail_of, Chain, AtStage, Meets}
+use Rattle.cordyceps_queue.specs.Cores.Meets.{Pooled, Owes, tail_of, Chain, AtStage, Meets, real}
 use Rattle.cordyceps_queue.specs.Past.{WasBlockedReversed}
 use Rattle.cordyceps_queue.specs.Shared.Plays.{SeatState, Sees, carry, moves_to, hands_out, Blocked}
 use Rattle.cordyceps_queue.specs.Shared.Plays as play
 use Rattle.cordyceps_queue.specs.Shared.Rule.{TableState, link_of, machine_of, FullAtHome, AreLinked, party, PlainHolds}
 use Rattle.cordyceps_shared.specs.FreeChains.{MayJoin}
-use Rattle.cordyceps_queue.specs.Shared.View.{View, name, free_chain, back_chain}
+use Rattle.cordyceps_queue.specs.Shared.View.{View, name, free_chain, back_chain, view_returned, cleared_count}
 use Rattle.cordyceps_queue.specs.Cores.Abstract.{AbstractMachine, set_stage, clear_stub, swap_head, link_next}
-use Rattle.cordyceps_queue.proofs.CoreTheory.Basics.{some_inj, zero_suc, suc_zero, suc_inj, put_same, at_split}
+use Rattle.cordyceps_queue.proofs.CoreTheory.Basics.{some_inj, none_some, zero_suc, suc_zero, suc_inj, put_same, at_split, real_more}
 use Rattle.cordyceps_queue.proofs.CoreTheory.DequeueSteps.{pass_keeps, chain_after_pass}
 use Rattle.cordyceps_queue.proofs.CoreTheory.HolderSteps.{was_now, keeping, stage_keeps, tell_keeps, open_blocks, none_held, stub_out}
-use Rattle.cordyceps_queue.proofs.CoreTheory.ChainShrinks.{second}
+use Rattle.cordyceps_queue.proofs.CoreTheory.ChainShrinks.{real_stub, second}
 use Rattle.cordyceps_queue.proofs.CoreTheory.StubSteps.{clear_stub_keeps, swap_stub_keeps, chain_after_stub, link_stub_keeps}
-use Rattle.cordyceps_queue.proofs.SharedTheory.WordsAsMachine.{links_put, links_same, keeps_rule, empties_same, readies_same, chain_near, head_near, linkeds, linkeds_low, own_links, Among, Becomes, PlainAllows}
-use Rattle.cordyceps_queue.proofs.CoreTheory.ProducerSteps.{spare_shared}
+use Rattle.cordyceps_queue.proofs.SharedTheory.WordsAsMachine.{links_put, links_same, next_low, none_cleared, keeps_rule, empties_same, readies_same, chain_near, head_near, linkeds, linkeds_low, own_links, Among, Becomes, PlainAllows}
+use Rattle.cordyceps_queue.proofs.CoreTheory.ProducerSteps.{spare_shared, shared_pooled}
 use Rattle.cordyceps_queue.proofs.SharedTheory.EnqueueKeeps.{views_put, wide_words}
-use Rattle.cordyceps_queue.proofs.SharedTheory.ReturnKeeps.{view_returned, returning, moved_on, handed_on}
-use Rattle.cordyceps_queue.proofs.SharedTheory.DequeueKeeps.{n, out_events, there, sees, reads, stood, blocked, same_rooms, less_rooms, hands, Comes}
+use Rattle.cordyceps_queue.proofs.SharedTheory.ReturnKeeps.{returning, moved_on, handed_on}
+use Rattle.cordyceps_queue.proofs.SharedTheory.DequeueKeeps.{n, out_events, there, sees, reads, stood, blocked, same_rooms, less_rooms, leaves_rooms, hands, Comes}
 use Rattle.cordyceps_queue.proofs.SharedTheory.HolderAllowed.{looked_on}
 
 module _ {E : Type 0} (s : TableState E) (k : PlainHolds s) (id : ℕ) (v : View E) (at : get_elem? s.views id ≡ some v) (named : v.known.share ≢ []) (bare : v.back ≡ []) where
@@ -53,7 +53,7 @@ module _ {E : Type 0} (s : TableState E) (k : PlainHolds s) (id : ℕ) (v : View
   fails : (t i : ℕ) → tail_of v.stage ≡ Some t → ((a b : ℕ) → Owes v.stage a b → ⊥) → WasBlockedReversed (name v) past → Comes s k id v at named bare i (get_or s.words i 0) (λ _ z. moves_to [] (Holding t) (v, []) z × Blocked z.0)
   fails t i has nothing was =
       let met = stage_keeps core k.chain past k.meets id (party v) is_there t has (Holding t) refl (λ a b o. absurd (nothing a b o)) (keeping core k.chain past k.meets id (party v) is_there t has) in
-      let r = reads s k id v at named bare [] tt (Holding t) k.chain met (same_rooms s k id v at named bare) (λ q is. cc) i in
+      let r = reads s k id v at named bare [] tt (Holding t) k.chain met (same_rooms s k id v at named bare) (λ q is. cc) (none_cleared v.stage (λ q e. none_some (sym (ap tail_of e) ∙ has))) refl (λ x pooled. pooled) i in
       (view [] (Holding t), keeps, tt, r.0, (stood s k id v at named bare [] (Holding t) r.1, blocked s k id v at named bare [] (Holding t) was))
 
   -- ---- the first read, of the stub's link
@@ -76,12 +76,12 @@ module _ {E : Type 0} (s : TableState E) (k : PlainHolds s) (id : ℕ) (v : View
           inl refl,
           (λ far. inl (inl refl, open_blocks core k.chain (look ∷ past) looked id (party v) is_there 0 (ap tail_of holding) nothing open_link far)),
         ) in
-        let r = reads s k id v at named bare (look ∷ []) (refl, tt) StubNull k.chain met (same_rooms s k id v at named bare) (λ q is. cc) LINKS in
+        let r = reads s k id v at named bare (look ∷ []) (refl, tt) StubNull k.chain met (same_rooms s k id v at named bare) (λ q is. cc) (ap cleared_count holding) refl (λ x pooled. pooled) LINKS in
         (view (look ∷ []) StubNull, keeps, tt, r.0, λ _. ((λ _. stood s k id v at named bare (look ∷ []) StubNull r.1), λ r' f. absurd (zero_suc (sym e ∙ f))))
     looks_stub_bare slots deep (suc r) e =
         let linked : core.next 0 ≡ Some r = ap link_of e in
         let met = pass_keeps core k.chain (look ∷ past) looked id (party v) is_there r holding linked (inl refl) in
-        let o = reads s k id v at named bare (look ∷ []) (refl, tt) (Second r) (chain_after_pass core k.chain (look ∷ past) looked id (party v) is_there r holding linked (inl refl)) met (less_rooms s k id v at named bare) (λ q is. cc) LINKS in
+        let o = reads s k id v at named bare (look ∷ []) (refl, tt) (Second r) (chain_after_pass core k.chain (look ∷ past) looked id (party v) is_there r holding linked (inl refl)) met (less_rooms s k id v at named bare) (λ q is. cc) (ap cleared_count holding) (ap (λ (l : List ℕ). length l) (sym (real_stub k.chain.rooms tail_at))) (λ x pooled. pooled) LINKS in
         let at_second = second core k.chain past k.meets 0 r tail_at linked in
         let near = chain_near s k 1 r at_second in
         let ne : r ≢ 0 = λ z. zero_suc (k.meets.once 0 1 0 tail_at (subst (ItemAt k.chain.rooms 1) z at_second)) in
@@ -103,7 +103,7 @@ module _ {E : Type 0} (s : TableState E) (k : PlainHolds s) (id : ℕ) (v : View
         let held = record (party v) { stage = Holding 0 } in
         let back : Meets (set_stage core id (party v) (Holding 0)) k.chain past = stage_keeps core k.chain past k.meets id (party v) is_there 0 has (Holding 0) refl (λ a b o. absurd (subst (λ l. Owes l a b) at_null o)) mine in
         let met = tell_keeps (set_stage core id (party v) (Holding 0)) k.chain past back id held (put_same core.party id (Some held)) 0 refl x refl (mine.held_by, none_held core k.chain past k.meets id (party v) is_there 0 has refl e) refl refl (λ q s. s) (λ q n w. w) in
-        let r = reads s k id v at named bare (x ∷ []) (refl, tt) (Holding 0) k.chain met (same_rooms s k id v at named bare) (λ q is. cc) HEAD in
+        let r = reads s k id v at named bare (x ∷ []) (refl, tt) (Holding 0) k.chain met (same_rooms s k id v at named bare) (λ q is. cc) (ap cleared_count at_null) refl (λ x pooled. pooled) HEAD in
         (view (x ∷ []) (Holding 0), keeps, tt, r.0, λ _. ((λ _. stood s k id v at named bare (x ∷ []) (Holding 0) r.1), λ ne. absurd (ne e)))
     heads_stub_bare slots (no ne) =
         let c = fails 0 HEAD (ap tail_of at_null) (λ a b o. subst (λ l. Owes l a b) at_null o) ((fits_at StubNull at_null).2 ne) in
@@ -120,7 +120,7 @@ module _ {E : Type 0} (s : TableState E) (k : PlainHolds s) (id : ℕ) (v : View
         let f = fits_at (Null t) at_null in
         let met = stage_keeps core k.chain past k.meets id (party v) is_there t (ap tail_of at_null) (PutClear t) refl (λ a b o. absurd (subst (λ l. Owes l a b) at_null o))
         (f.0, stub_out core k.chain past k.meets id (party v) is_there t (ap tail_of at_null) f.0.is_real e) in
-        let r = reads s k id v at named bare [] tt (PutClear t) k.chain met (same_rooms s k id v at named bare) (λ q is. cc) HEAD in
+        let r = reads s k id v at named bare [] tt (PutClear t) k.chain met (same_rooms s k id v at named bare) (λ q is. cc) (ap cleared_count at_null) refl (λ x pooled. pooled) HEAD in
         (view [] (PutClear t), keeps, tt, r.0, ((λ _. stood s k id v at named bare [] (PutClear t) r.1), λ ne. absurd (ne e)))
     heads_bare (no ne) =
         let c = fails t HEAD (ap tail_of at_null) (λ a b o. subst (λ l. Owes l a b) at_null o) ((fits_at (Null t) at_null).1 ne) in
@@ -129,13 +129,15 @@ module _ {E : Type 0} (s : TableState E) (k : PlainHolds s) (id : ℕ) (v : View
   -- ---- the stub is put in
   -- a step that changes one word and no slot
   stores : (stage : Stage) (chain : Chain) (next : AbstractMachine Name E) (i x : ℕ) → AreLinked (set s.words i x) (set s.views id (view [] stage)) → next ≡ machine_of k.cell (set s.words i x) (set s.views id (view [] stage)) → Meets next chain past → FullAtHome s.homes k.cell chain.rooms → ((q : ℕ) → stage ≡ Cleared q → ⊥) → Among (set s.words i x) k.chain.rooms chain.rooms
+      → cleared_count v.stage ≡ 0 → length (real chain.rooms) ≡ length (real k.chain.rooms) → ((r : ℕ) → k.chain.owner r ≡ Pooled → chain.owner r ≡ Pooled) → ((r : ℕ) → k.chain.owner r ≡ Pooled → word.next (set s.words i x) r ≡ word.next s.words r)
       → Becomes s k v (view [] stage) record { words = set s.words i x; homes = s.homes; views = set s.views id (view [] stage) } × Sees v [] (view [] stage)
-  stores stage chain next i x linked same met full away among =
-      keeps_rule s k id [] v (view [] stage) (set s.words i x) s.homes k.cell chain next at named tt refl same met (length-set s.words i x) refl full (empties_same s k id (view [] stage) (k.empty id v at named)) (readies_same s k id (view [] stage) away) linked refl among (λ j y jy. inl (j, jy))
+  stores stage chain next i x linked same met full away among quiet even owners links =
+      keeps_rule s k id [] v (view [] stage) (set s.words i x) s.homes k.cell chain next at named tt refl same met (length-set s.words i x) refl full (empties_same s k id (view [] stage) (k.empty id v at named)) (readies_same s k id (view [] stage) away) linked refl among (λ j y jy. inl (j, jy)) (leaves_rooms s k id v at named bare [] stage chain (set s.words i x) away quiet even owners links)
 
   clears_stub_bare : (t : ℕ) → v.stage ≡ PutClear t → Comes s k id v at named bare LINKS 0 (λ _. moves_to [] (PutSwap t) (v, []))
   clears_stub_bare t l =
-      let r = stores (PutSwap t) k.chain (clear_stub core id (party v) t) LINKS 0 (linkeds s k id 0 0 (view [] (PutSwap t)) (own_links s k id 0 0 v at named (λ mine. spare_shared mine k.meets.stub)) (λ j ne mine. spare_shared mine k.meets.stub)) spelled (clear_stub_keeps core k.chain past k.meets id (party v) is_there t l) k.full (λ q is. cc) (λ j x jx. inr (j, jx)) in
+      let r = stores (PutSwap t) k.chain (clear_stub core id (party v) t) LINKS 0 (linkeds s k id 0 0 (view [] (PutSwap t)) (own_links s k id 0 0 v at named (λ mine. spare_shared mine k.meets.stub)) (λ j ne mine. spare_shared mine k.meets.stub)) spelled (clear_stub_keeps core k.chain past k.meets id (party v) is_there t l) k.full (λ q is. cc) (λ j x jx. inr (j, jx))
+      (ap cleared_count l) refl (λ x pooled. pooled) (λ x pooled. next_beside_next s.words 0 x 0 (λ same. shared_pooled k.meets.stub (ap k.chain.owner (sym same) ∙ pooled))) in
       (view [] (PutSwap t), keeps, tt, r.0, stood s k id v at named bare [] (PutSwap t) r.1)
     where
       spelled : clear_stub core id (party v) t ≡ machine_of k.cell (set s.words LINKS 0) (set s.views id (view [] (PutSwap t)))
@@ -152,7 +154,8 @@ module _ {E : Type 0} (s : TableState E) (k : PlainHolds s) (id : ℕ) (v : View
   swaps_stub_bare t l =
       let old = word.head s.words in
       let r = stores (PutLink t old) (chain_after_stub core k.chain past k.meets id (party v) is_there t l) (swap_head core id (party v) 0 (PutLink t old)) HEAD 0 (linkeds_low s k id HEAD 0 (view [] (PutLink t old)) (omega arith) (k.linked id v at named)) spelled
-      (swap_stub_keeps core k.chain past k.meets id (party v) is_there t l) full (λ q is. cc) among in
+      (swap_stub_keeps core k.chain past k.meets id (party v) is_there t l) full (λ q is. cc) among
+      (ap cleared_count l) (ap (λ (z : List ℕ). length z) (real_more k.chain.rooms (0 ∷ []) ∙ append-nil (real k.chain.rooms))) (λ x pooled. pooled) (λ x pooled. next_low s.words HEAD 0 (omega arith) x) in
       (view [] (PutLink t old), keeps, tt, r.0, stood s k id v at named bare [] (PutLink t old) r.1)
     where
       spelled : swap_head core id (party v) 0 (PutLink t (word.head s.words)) ≡ machine_of k.cell (set s.words HEAD 0) (set s.views id (view [] (PutLink t (word.head s.words))))
@@ -175,7 +178,8 @@ module _ {E : Type 0} (s : TableState E) (k : PlainHolds s) (id : ℕ) (v : View
   links_stub_bare t old l inside =
       let f = fits_at (PutLink t old) l in
       let shared = k.meets.shared f.1.0 old f.1.1 in
-      let r = stores (PutRead t) k.chain (link_next core id (party v) old 0 (PutRead t)) (LINKS + old) 1 (linkeds s k id old 1 (view [] (PutRead t)) (own_links s k id old 1 v at named (λ mine. spare_shared mine shared)) (λ j ne mine. spare_shared mine shared)) spelled (link_stub_keeps core k.chain past k.meets id (party v) is_there t old l) k.full (λ q is. cc) (λ j x jx. inr (j, jx)) in
+      let r = stores (PutRead t) k.chain (link_next core id (party v) old 0 (PutRead t)) (LINKS + old) 1 (linkeds s k id old 1 (view [] (PutRead t)) (own_links s k id old 1 v at named (λ mine. spare_shared mine shared)) (λ j ne mine. spare_shared mine shared)) spelled (link_stub_keeps core k.chain past k.meets id (party v) is_there t old l) k.full (λ q is. cc) (λ j x jx. inr (j, jx))
+      (ap cleared_count l) refl (λ x pooled. pooled) (λ x pooled. next_beside_next s.words old x 1 (λ same. shared_pooled shared (ap k.chain.owner (sym same) ∙ pooled))) in
       (view [] (PutRead t), keeps, tt, r.0, stood s k id v at named bare [] (PutRead t) r.1)
     where
       spelled : link_next core id (party v) old 0 (PutRead t) ≡ machine_of k.cell (set s.words (LINKS + old) 1) (set s.views id (view [] (PutRead t)))

@@ -29,10 +29,10 @@ use Rattle.cordyceps_queue.specs.Shared.Rule.{TableState, party, PlainHolds, Rul
 use Rattle.cordyceps_queue.specs.Shared.View.{View, name, bit_of, free_chain, back_chain}
 use Rattle.cordyceps_queue.proofs.CoreTheory.Basics.{some_inj, put_same}
 use Rattle.cordyceps_queue.proofs.CoreTheory.HolderSteps.{keeping}
-use Rattle.cordyceps_queue.proofs.CoreTheory.ProducerSteps.{spare_shared, ready_spare}
+use Rattle.cordyceps_queue.proofs.CoreTheory.ProducerSteps.{spare_shared, spare_pooled, ready_spare}
 use Rattle.cordyceps_queue.proofs.SharedTheory.WordsAsMachine.{core, party_at, rooms_of, Becomes}
 use Rattle.cordyceps_queue.proofs.SharedTheory.EnqueueKeeps.{spare_one, clears}
-use Rattle.cordyceps_queue.proofs.SharedTheory.UsesSpell.{place_of, begun_not_spare, spare_not_in, right_in, next_in, spells_begun, spells_low, spelt_read}
+use Rattle.cordyceps_queue.proofs.SharedTheory.UsesSpell.{place_of, begun_not_spare, spare_not_in, right_in, next_in, spells_begun, spells_low, pool_word, pool_links, spelt_read}
 use Rattle.cordyceps_queue.proofs.SharedTheory.HolderAllowed.{looks, reads_after}
 use Rattle.cordyceps_queue.proofs.SharedTheory.StubKeeps.{looks_stub, heads_stub, heads, rereads}
 
@@ -112,7 +112,18 @@ module _ {E : Type 0} where
         w,
         b.1,
         b.2,
-        record { words = set k.words i 0; plain = b.3.now; spells = spells },
+        record {
+          words = set k.words i 0;
+          plain = b.3.now;
+          spells = spells;
+          word_is = pool_word s.words (set s.words i (get_or s.words i 0)) p.pool b.3.now.pool (ap (λ ws. word.pool ws) (sym words_are)) b.3.pool k.word_is;
+          pooled = pool_links k.words s.words (set k.words i 0) (set s.words i (get_or s.words i 0)) p.pool b.3.now.pool b.3.pool
+              (λ j x a. (
+                ap (λ ws. word.next ws x) (sym words_are),
+                ap (λ n. word.next (set k.words n 0) x) is ∙ next_beside_next k.words r x 0 (λ e. spare_pooled owned (ap p.chain.owner (sym e) ∙ p.pooled.own j x a)),
+              ))
+              k.pooled;
+        },
         (
           word.next k.words r,
           f.0,
@@ -167,6 +178,9 @@ module _ {E : Type 0} (s : TableState E) (k : RuleHolds s) (id : ℕ) (v : View 
               | inr o ↦ inl o
             ])
             (λ _. use_after w record { words = set k.words i (get_or k.words i 0); homes = homes; views = set s.views id w } b calm) k.spells);
+        word_is = pool_word s.words (set s.words i (get_or s.words i 0)) k.plain.pool b.now.pool (ap (λ ws. word.pool ws) (sym words_are)) b.pool k.word_is;
+        pooled = pool_links k.words s.words (set k.words i (get_or k.words i 0)) (set s.words i (get_or s.words i 0)) k.plain.pool b.now.pool b.pool
+            (λ j x a. (ap (λ ws. word.next ws x) (sym words_are), ap (λ ws. word.next ws x) (sym plain_are))) k.pooled;
       }
 
   -- the tail is in the queue

@@ -6,8 +6,9 @@ use native.Mathlib.Decide.{ℕ_discrete}
 use lib.ListN.{get_elem?}
 use lib.Seq.{set-get_or}
 use Rattle.atomic_table.specs.Table.{opening, keeps, step, Allows, Splits, Joins}
-use Rattle.cordyceps_shared.specs.FreeChains.{MayJoin, Links}
+use Rattle.cordyceps_shared.specs.FreeChains.{FreeChain, MayJoin, Links}
 use Rattle.cordyceps_shared.specs.Places.{ItemAt}
+use Rattle.cordyceps_shared.specs.Pools.{LeadsTo}
 use Rattle.cordyceps_shared.specs.Words as word
 use Rattle.cordyceps_shared.specs.declared.layout.TheConstants.{HEAD, RIGHT, LINKS}
 use Rattle.cordyceps_shared.proofs.Changing.{one_set, two_set, set_more, was_there}
@@ -15,11 +16,11 @@ use Rattle.cordyceps_shared.proofs.FreeLinks.{links_at}
 use Rattle.cordyceps_shared.proofs.Naming.{joined_some}
 use Rattle.cordyceps_shared.proofs.Places.{at_end, at_take}
 use Rattle.cordyceps_shared.proofs.Standing as seats
-use Rattle.cordyceps_shared.proofs.Words.{next_set, next_beside_next}
+use Rattle.cordyceps_shared.proofs.Words.{next_set, next_beside_next, pool_beside_next}
 use Rattle.cordyceps_queue.specs.declared.cores.stage.Stage.TheVariants.{Rest}
 use Rattle.cordyceps_queue.specs.History.{actor}
 use Rattle.cordyceps_queue.specs.Cores.Meets.{Spare}
-use Rattle.cordyceps_queue.specs.Shared.Bits.{IsLink, IsOld, IsRight, Spells, Knows, Begun, KeepsUse, SpellsWords}
+use Rattle.cordyceps_queue.specs.Shared.Bits.{IsLink, IsOld, IsRight, Spells, SpellsFree, Knows, Begun, KeepsUse, SpellsWords}
 use Rattle.cordyceps_queue.specs.Shared.Parting.{view_keeping, view_giving, view_absorbing, view_absorbed, view_without_told, after_learn}
 use Rattle.cordyceps_queue.specs.Shared.Parts.{AreNew, AreNewWords}
 use Rattle.cordyceps_queue.specs.Shared.Plays.{SeatState, LegalReversed}
@@ -27,17 +28,18 @@ use Rattle.cordyceps_queue.specs.Shared.Uses as play
 use Rattle.cordyceps_queue.specs.Shared.Rule.{TableState, RuleHolds}
 use Rattle.cordyceps_queue.specs.Shared.View.{View, knows, newcomer, down_from, free_chain, bit_of}
 use Rattle.cordyceps_queue.proofs.CoreTheory.Basics.{at_more}
+use Rattle.cordyceps_queue.proofs.CoreTheory.ProducerSteps.{spare_pooled}
 use Rattle.cordyceps_queue.proofs.SharedTheory.WordsAsMachine.{rooms_of, Stays}
 use Rattle.cordyceps_queue.proofs.SharedTheory.EnqueueKeeps.{spare_one}
 use Rattle.cordyceps_queue.proofs.SharedTheory.SpareKeeps.{tied_kept, skip_kept}
 use Rattle.cordyceps_queue.proofs.SharedTheory.PartingKeeps.{opens, cut_kept, joint_kept, forgot_kept, legal_front, at_down_from}
 use Rattle.cordyceps_queue.proofs.SharedTheory.SeatNames.{few_rooms, rest_linked, rest_unheld}
 use Rattle.cordyceps_queue.proofs.SharedTheory.UsesKeep.{plain_table, mine}
-use Rattle.cordyceps_queue.proofs.SharedTheory.UsesSpell.{begun_not_spare, spare_not_in, spells_linked}
+use Rattle.cordyceps_queue.proofs.SharedTheory.UsesSpell.{begun_not_spare, spare_not_in, spells_linked, pool_word, pool_links}
 
 module _ {E : Type 0} (s : TableState E) (k : RuleHolds s) where
   -- the words, where only views change
-  same_words : (views : List (View E)) (homes : _) (b : Stays (plain_table s k) k.plain record { words = k.words; homes = homes; views = views })
+  pub same_words : (views : List (View E)) (homes : _) (b : Stays (plain_table s k) k.plain record { words = k.words; homes = homes; views = views })
       → ((j : ℕ) (v : View E) → get_elem? views j ≡ some v → v.known.share ≢ [] → KeepsUse (bit_of k.plain.uses) k.words s.words v) → RuleHolds record { words = s.words; homes = homes; views = views }
   same_words views homes b each = record {
     words = k.words;
@@ -50,6 +52,8 @@ module _ {E : Type 0} (s : TableState E) (k : RuleHolds s) where
       links = k.spells.links;
       each = each;
     };
+    word_is = subst (λ z. LeadsTo (word.pool s.words) z) (sym b.pool) k.word_is;
+    pooled = pool_links k.words s.words k.words s.words k.plain.pool b.now.pool b.pool (λ j x a. (refl, refl)) k.pooled;
   }
 
   -- a party with some of the free rooms of another, at rest
@@ -93,6 +97,11 @@ module _ {E : Type 0} where
         words = set k.words (LINKS + r) to;
         plain = b.now;
         spells = subst (λ (z : List (ℕ × ℕ) × List ℕ). SpellsWords (bit_of z.0) z.1 (set k.words (LINKS + r) to) (set s.words (LINKS + r) n) (set s.views id w)) (λ j. (sym b.uses j, sym b.rooms j)) spelt;
+        word_is = pool_word s.words (set s.words (LINKS + r) n) p.pool b.now.pool (pool_beside_next s.words r n) b.pool k.word_is;
+        pooled = pool_links k.words s.words (set k.words (LINKS + r) to) (set s.words (LINKS + r) n) p.pool b.now.pool b.pool
+            (λ j x a.
+            let ne : x ≢ r = λ e. spare_pooled owned (ap p.chain.owner (sym e) ∙ p.pooled.own j x a) in
+            (next_beside_next s.words r x n ne, next_beside_next k.words r x to ne)) k.pooled;
       } in (
         w,
         keeps,
@@ -219,6 +228,8 @@ module _ (E : Type 0) where
             knows = λ r o. absurd o;
           };
         };
+        word_is = subst (λ z. LeadsTo (word.pool words) z) (sym b.pool_is) (inl (is.pool, refl));
+        pooled = subst (λ (z : FreeChain). SpellsFree plain words z.rooms) (sym b.pool_is) (λ i r a. absurd a);
       }
     where
       stub_link : (i r : ℕ) → ItemAt (0 ∷ []) i r → Spells (λ _. 0) r (word.next plain r) (word.next words r)

@@ -3,8 +3,10 @@ use Rattle.std.proofs.Common.{◌≡◌, ◌≢◌, ◌⊎◌, ℕ, zero, suc, �
 use mathlib.Core.Option.{some}
 use native.Mathlib.Decide.{ℕ_discrete}
 use lib.ListN.{get_elem?}
+use Rattle.cordyceps_shared.specs.FreeChains.{FreeChain}
 use Rattle.cordyceps_shared.specs.Histories.{events}
 use Rattle.cordyceps_shared.specs.Places.{ItemAt}
+use Rattle.cordyceps_shared.specs.Pools.{LeadsTo}
 use Rattle.cordyceps_shared.specs.Shares.{Name}
 use Rattle.cordyceps_shared.specs.Words as word
 use Rattle.cordyceps_shared.specs.declared.layout.TheConstants.{LINKS}
@@ -15,7 +17,7 @@ use Rattle.cordyceps_queue.specs.declared.cores.stage.Stage.TheVariants.{Rest, C
 use Rattle.cordyceps_queue.specs.History.{Event}
 use Rattle.cordyceps_queue.specs.Cores.Abstract.{AbstractMachine, update}
 use Rattle.cordyceps_queue.specs.Cores.Meets.{Owner, Spare, Ready, Chain, Joined, IsOut, AtStage, Meets}
-use Rattle.cordyceps_queue.specs.Shared.Bits.{IsBit, IsLink, IsOld, IsRead, IsRight, Spells, Knows, Begun, KeepsUse, SpellsWords}
+use Rattle.cordyceps_queue.specs.Shared.Bits.{IsBit, IsLink, IsOld, IsRead, IsRight, Spells, SpellsFree, Knows, Begun, KeepsUse, SpellsWords}
 use Rattle.cordyceps_queue.specs.Shared.Rule.{TableState, link_of, party, PlainHolds}
 use Rattle.cordyceps_queue.specs.Shared.View.{View, name}
 use Rattle.cordyceps_queue.proofs.CoreTheory.Basics.{some_inj, none_some, some_none, suc_inj, zero_suc, at_within, put_same, put_other}
@@ -232,6 +234,15 @@ module _ {E : Type 0} where
         each = one_set (λ _ u. u.known.share ≢ [] → KeepsUse uses (set plain (LINKS + y) n) (set words (LINKS + y) m) u) views id w mine
             (λ j u ne at named. let o = others j u ne at named in use_linked uses y n m plain words u o.0 o.1 (k.each j u at named));
       }
+
+-- ---- the pool
+-- its word, and the links of its rooms, are as they were
+pub pool_word : (words words' : List ℕ) (pool pool' : FreeChain) → word.pool words' ≡ word.pool words → pool' ≡ pool → LeadsTo (word.pool words) pool → LeadsTo (word.pool words') pool'
+pool_word words words' pool pool' same is leads = subst (λ (z : ℕ × FreeChain). LeadsTo z.0 z.1) (λ i. (sym same i, sym is i)) leads
+
+pub pool_links : (plain words plain' words' : List ℕ) (pool pool' : FreeChain) → pool' ≡ pool → ((i r : ℕ) → ItemAt pool.rooms i r → (word.next words' r ≡ word.next words r) × (word.next plain' r ≡ word.next plain r)) → SpellsFree plain words pool.rooms → SpellsFree plain' words' pool'.rooms
+pool_links plain words plain' words' pool pool' is same free = subst (λ (z : FreeChain). SpellsFree plain' words' z.rooms) (sym is)
+    (λ i r a. let e = same i r a in let f = free i r a in (f.0, f.1, subst (λ (n : ℕ × ℕ). IsLink n.0 n.1 f.0 f.1) (λ j. (sym e.0 j, sym e.1 j)) f.2))
 
 -- ---- what a word tells
 pub spelt_read : (uses : ℕ → ℕ) (t n x : ℕ) → Spells uses t n x → (to : ℕ) × IsRead (uses t) x n to × ((r : ℕ) → n ≡ suc r → uses r ≡ to)

@@ -14,7 +14,7 @@ use Rattle.cordyceps_shared.specs.Slots.{Homes, Near, Hand}
 use Rattle.cordyceps_shared.specs.Words as word
 use Rattle.cordyceps_shared.specs.declared.layout.TheConstants.{HEAD, RIGHT, LINKS}
 use Rattle.cordyceps_shared.proofs.Telling.{at_length}
-use Rattle.cordyceps_shared.proofs.Words.{head_set, right_set, head_beside_right, right_beside_head}
+use Rattle.cordyceps_shared.proofs.Words.{pool_beside_head, pool_beside_right, pool_beside_next, head_set, right_set, head_beside_right, right_beside_head, next_beside_next}
 use Rattle.cordyceps_queue.specs.declared.cores.stage.Stage.TheVariants.{Rest, Cleared, Swapped, Holding, PutClear, PutSwap, PutLink}
 use Rattle.cordyceps_queue.specs.declared.shared.uses.RoomUse.{RoomUse}
 use Rattle.cordyceps_queue.specs.History.{Event}
@@ -26,20 +26,17 @@ use Rattle.cordyceps_queue.specs.Shared.Uses as play
 use Rattle.cordyceps_queue.specs.Shared.Rule.{TableState, RuleHolds}
 use Rattle.cordyceps_queue.specs.Shared.View.{View, name, bit_of, free_chain, back_chain}
 use Rattle.cordyceps_queue.proofs.CoreTheory.Basics.{some_inj, put_same, put_other}
-use Rattle.cordyceps_queue.proofs.CoreTheory.ProducerSteps.{spare_shared, ready_shared}
-use Rattle.cordyceps_queue.proofs.SharedTheory.WordsAsMachine.{core, rooms_of, Becomes}
+use Rattle.cordyceps_queue.proofs.CoreTheory.ProducerSteps.{spare_shared, ready_shared, shared_pooled}
+use Rattle.cordyceps_queue.proofs.SharedTheory.WordsAsMachine.{next_low, core, rooms_of, Becomes}
 use Rattle.cordyceps_queue.proofs.SharedTheory.EnqueueKeeps.{swaps, links_on}
 use Rattle.cordyceps_queue.proofs.SharedTheory.HolderAllowed.{takes_right, gives_right}
 use Rattle.cordyceps_queue.proofs.SharedTheory.StubKeeps.{clears_stub, swaps_stub, links_stub}
 use Rattle.cordyceps_queue.proofs.SharedTheory.UsesKeep.{plain_table, with_use, begun_mine, now_old, mine, bits_kept, use_after, calm_at, calm_moves}
-use Rattle.cordyceps_queue.proofs.SharedTheory.UsesSpell.{at_stage_of, place_of, begun_of, begun_not_in, spare_not_in, right_in, next_in, null_word, spells_begun, spells_low, use_linked, spells_linked, spelt_right}
+use Rattle.cordyceps_queue.proofs.SharedTheory.UsesSpell.{at_stage_of, place_of, begun_of, begun_not_in, spare_not_in, right_in, next_in, null_word, spells_begun, spells_low, use_linked, spells_linked, pool_word, pool_links, spelt_right}
 
 -- each number is a link of some use
 any_link : (n : ℕ) → (next to bit : ℕ) × IsLink n next to bit
 any_link n = (n / 4, n / 2 % 2, n % 2, (omega arith, omega arith, omega arith))
-
-next_low : (ws : List ℕ) (i n : ℕ) → i < LINKS → (r : ℕ) → word.next (set ws i n) r ≡ word.next ws r
-next_low ws i n low r = get_or-set_other ws i (LINKS + r) n 0 (λ e. absurd (omega arith))
 
 module _ {E : Type 0} (s : TableState E) (k : RuleHolds s) (id : ℕ) (v : View E) (at : get_elem? s.views id ≡ some v) (named : v.known.share ≢ []) where
   long_words : length s.words ≡ LINKS + length s.homes
@@ -70,6 +67,8 @@ module _ {E : Type 0} (s : TableState E) (k : RuleHolds s) (id : ℕ) (v : View 
               | inr o ↦ inl o
             ])
             (λ _. use_after s k id v at named w record { words = set k.words HEAD r; homes = homes; views = set s.views id w } b calm) k.spells);
+        word_is = pool_word s.words (set s.words HEAD n) k.plain.pool b.now.pool (pool_beside_head s.words n) b.pool k.word_is;
+        pooled = pool_links k.words s.words (set k.words HEAD r) (set s.words HEAD n) k.plain.pool b.now.pool b.pool (λ j x a. (next_low s.words HEAD n (omega arith) x, next_low k.words HEAD r (omega arith) x)) k.pooled;
       }
 
   -- the word of the right changes
@@ -90,6 +89,8 @@ module _ {E : Type 0} (s : TableState E) (k : RuleHolds s) (id : ℕ) (v : View 
               | inr o ↦ inl o
             ])
             (λ _. use_after s k id v at named w record { words = set k.words RIGHT r; homes = homes; views = set s.views id w } b calm) k.spells);
+        word_is = pool_word s.words (set s.words RIGHT n) k.plain.pool b.now.pool (pool_beside_right s.words n) b.pool k.word_is;
+        pooled = pool_links k.words s.words (set k.words RIGHT r) (set s.words RIGHT n) k.plain.pool b.now.pool b.pool (λ j x a. (next_low s.words RIGHT n (omega arith) x, next_low k.words RIGHT r (omega arith) x)) k.pooled;
       }
 
   -- the link of a room in the queue leads to another, of which the party knows the bits
@@ -118,6 +119,11 @@ module _ {E : Type 0} (s : TableState E) (k : RuleHolds s) (id : ℕ) (v : View 
             ))
             (λ _. use_linked (bit_of k.plain.uses) old (suc r) n k.words s.words w apart (λ o. calm old o) (use_after s k id v at named w t b calm))
             k.spells);
+        word_is = pool_word s.words (set s.words (LINKS + old) n) k.plain.pool b.now.pool (pool_beside_next s.words old n) b.pool k.word_is;
+        pooled = pool_links k.words s.words (set k.words (LINKS + old) (suc r)) (set s.words (LINKS + old) n) k.plain.pool b.now.pool b.pool
+            (λ j x a.
+            let ne : x ≢ old = λ e. shared_pooled shared (ap k.plain.chain.owner (sym e) ∙ k.plain.pooled.own j x a) in
+            (next_beside_next s.words old x n ne, next_beside_next k.words old x (suc r) ne)) k.pooled;
       }
     where
       head_still : word.head (set k.words (LINKS + old) (suc r)) ≡ word.head k.words
@@ -324,6 +330,9 @@ module _ {E : Type 0} (slots id : ℕ) (me : SeatState E) (hand : me.1 ≡ carry
           words = set k.words LINKS 0;
           plain = b.3.now;
           spells = subst (λ (y : List (ℕ × ℕ) × List ℕ). SpellsWords (bit_of y.0) b.3.now.chain.rooms (set k.words LINKS 0) y.1 (set s.views id w)) (λ j. (sym b.3.uses j, words_are j)) spelt;
+          word_is = pool_word s.words (set s.words LINKS (get_or s.words LINKS 0)) p.pool b.3.now.pool (ap (λ ws. word.pool ws) (sym words_are)) b.3.pool k.word_is;
+          pooled = pool_links k.words s.words (set k.words LINKS 0) (set s.words LINKS (get_or s.words LINKS 0)) p.pool b.3.now.pool b.3.pool
+              (λ j x a. (ap (λ ws. word.next ws x) (sym words_are), next_beside_next k.words 0 x 0 (λ e. shared_pooled p.meets.stub (ap p.chain.owner (sym e) ∙ p.pooled.own j x a)))) k.pooled;
         },
         (
           (λ r o. ap (λ y. bit_of y r) b.3.bits ∙ (put_other (bit_of p.uses) 0 c r (λ e. f.0.is_real (sym (subst (λ y. Knows y r) waits o) ∙ e)) ∙ sym (own.knows r o))),

@@ -11,23 +11,26 @@ use Rattle.atomic_table.specs.Table.{Act, Valid, stepped, carried_after}
 use Rattle.cordyceps_shared.specs.Words as word
 use Rattle.cordyceps_shared.specs.declared.layout.TheConstants.{LINKS}
 use Rattle.cordyceps_shared.proofs.Words.{next_set, next_beside_next}
+use Rattle.cordyceps_shared.specs.Counts.{tally}
 use Rattle.cordyceps_shared.specs.FreeChains.{Links}
 use Rattle.cordyceps_shared.proofs.FreeLinks.{links_frame}
 use Rattle.cordyceps_shared.proofs.Places.{times_at}
 use Rattle.cordyceps_shared.specs.Histories.{events, of_seat}
-use Rattle.cordyceps_shared.specs.Knowing.{Under, all_seen}
+use Rattle.cordyceps_shared.specs.Knowing.{Known, Under, all_seen}
 use Rattle.cordyceps_shared.specs.Shares.{Name}
 use Rattle.cordyceps_shared.proofs.Changing.{one_set}
+use Rattle.cordyceps_shared.proofs.Counting.{tally_set}
 use Rattle.cordyceps_shared.proofs.Seeing.{events_more}
 use Rattle.cordyceps_shared.proofs.Telling.{at_length, tells}
-use Rattle.cordyceps_queue.specs.declared.cores.stage.Stage.TheVariants.{Cleared}
+use Rattle.cordyceps_queue.specs.declared.cores.stage.Stage.{Stage}
+use Rattle.cordyceps_queue.specs.declared.cores.stage.Stage.TheVariants.{Rest, Cleared, Swapped, Holding, StubNull, Second, Null, PutClear, PutSwap, PutLink, PutRead}
 use Rattle.cordyceps_queue.specs.History.{Event, actor}
 use Rattle.cordyceps_shared.specs.Places.{ItemAt}
-use Rattle.cordyceps_queue.specs.Cores.Meets.{Spare, Ready, Chain, AtStage, OwnsRooms, Meets}
+use Rattle.cordyceps_queue.specs.Cores.Meets.{Owner, Spare, Ready, Pooled, Chain, AtStage, OwnsRooms, Meets, real}
 use Rattle.cordyceps_queue.specs.Shared.Plays.{SeatState, LegalReversed, Sees}
 use Rattle.cordyceps_shared.specs.Slots.{Homes, EmptyAtHome}
-use Rattle.cordyceps_queue.specs.Shared.Rule.{TableState, link_of, party, party_if, party_of, machine_of, FullAtHome, AllEmptyAtHome, AllReady, AreLinked, PlainHolds}
-use Rattle.cordyceps_queue.specs.Shared.View.{View, knows, name}
+use Rattle.cordyceps_queue.specs.Shared.Rule.{TableState, link_of, party, party_if, party_of, machine_of, FullAtHome, AllEmptyAtHome, AllReady, AreLinked, IsPool, PlainHolds}
+use Rattle.cordyceps_queue.specs.Shared.View.{View, knows, name, cleared_count, room_count}
 use Rattle.cordyceps_queue.specs.Cores.Abstract.{AbstractParty, AbstractMachine, update}
 use Rattle.cordyceps_queue.proofs.CoreTheory.Basics.{put_same, put_other, at_more}
 
@@ -48,13 +51,31 @@ links_put words r n lt = fun_ext (λ j. elim (ℕ_discrete j r) [
   | no ne ↦ ap link_of (next_beside_next words r j n ne) ∙ sym (put_other (links words) r (link_of n) j ne)
 ])
 
+-- a store to a word before the links leaves each
+pub next_low : (words : List ℕ) (i n : ℕ) → i < LINKS → (r : ℕ) → word.next (set words i n) r ≡ word.next words r
+next_low words i n low r = get_or-set_other words i (LINKS + r) n 0 (λ e. absurd (omega arith))
+
 -- a store to head or the right leaves the links
 pub links_same : (words : List ℕ) (i n : ℕ) → i < LINKS → links (set words i n) ≡ links words
-links_same words i n lt = fun_ext (λ j. ap link_of (get_or-set_other words i (LINKS + j) n 0 (λ e. absurd (omega arith))))
+links_same words i n lt = fun_ext (λ j. ap link_of (next_low words i n lt j))
 
 named_party : (names : List Name) (p : AbstractParty Name) → names ≢ [] → party_if names p ≡ Some p
 named_party [] p some_name = absurd (some_name refl)
 named_party (n ∷ ns) p some_name = refl
+
+-- a party at this stage has cleared no room
+pub none_cleared : (p : Stage) → ((q : ℕ) → p ≡ Cleared q → ⊥) → cleared_count p ≡ 0
+none_cleared Rest away = refl
+none_cleared (Cleared r) away = absurd (away r refl)
+none_cleared (Swapped r old) away = refl
+none_cleared (Holding t) away = refl
+none_cleared StubNull away = refl
+none_cleared (Second t) away = refl
+none_cleared (Null t) away = refl
+none_cleared (PutClear t) away = refl
+none_cleared (PutSwap t) away = refl
+none_cleared (PutLink t old) away = refl
+none_cleared (PutRead t) away = refl
 
 -- these rooms are of the chain that was, or the head
 abbrev pub Among : List ℕ → List ℕ → List ℕ → Type 0
@@ -65,10 +86,35 @@ module _ {E : Type 0} where
   abbrev pub Comes : (s : TableState E) → PlainHolds s → View E → View E → Type 0
   Comes s k v w = (i x : ℕ) → ItemAt (w.free ++ w.back) i x → ((j : ℕ) × ItemAt (v.free ++ v.back) j x) ⊎ (((j : ℕ) × ItemAt k.chain.rooms j x) × ((r : ℕ) × (word.next s.words x ≡ suc r)))
 
+  -- what a step of a party leaves beside the parties' own: the pool, and the number of rooms
+  pub record LeavesPool (s : TableState E) (k : PlainHolds s) (v w : View E) (words : List ℕ) (homes : Homes E) (chain : Chain) : Type 0 where
+    pub owners : (r : ℕ) → k.chain.owner r ≡ Pooled → chain.owner r ≡ Pooled
+    pub links : (r : ℕ) → k.chain.owner r ≡ Pooled → word.next words r ≡ word.next s.words r
+    pub slots : (r : ℕ) → k.chain.owner r ≡ Pooled → get_elem? homes r ≡ get_elem? s.homes r
+    pub even : length (real chain.rooms) + room_count w ≡ length (real k.chain.rooms) + room_count v
+
+  -- the pool, where its rooms stay in it, and their links and slots are as they were
+  pub pool_stays : (s : TableState E) (k : PlainHolds s) (owner : ℕ → Owner) (words : List ℕ) (homes : Homes E) → ((r : ℕ) → k.chain.owner r ≡ Pooled → owner r ≡ Pooled)
+      → ((r : ℕ) → k.chain.owner r ≡ Pooled → word.next words r ≡ word.next s.words r) → ((r : ℕ) → k.chain.owner r ≡ Pooled → get_elem? homes r ≡ get_elem? s.homes r) → IsPool owner words homes k.pool
+  pool_stays s k owner words homes owners links_stay slots = record {
+    own = λ i r a. owners r (k.pooled.own i r a);
+    once = k.pooled.once;
+    linked = links_frame s.words words k.pool.rooms k.pool.end (λ r m. let t = times_at r k.pool.rooms m in links_stay r (k.pooled.own t.0 r t.1)) k.pooled.linked;
+    empty = λ i r a. slots r (k.pooled.own i r a) ∙ k.pooled.empty i r a;
+  }
+
+  -- the number of rooms, and that a seat without a share has none, where a party keeps its number
+  pub count_same : (views : List (View E)) (id : ℕ) (v w : View E) → get_elem? views id ≡ some v → room_count w ≡ room_count v → tally room_count (set views id w) ≡ tally room_count views
+  count_same views id v w at same = omega (arith, tally_set (room_count {E = E}) views id v w at)
+
+  pub spent_else : (s : TableState E) (k : PlainHolds s) (id : ℕ) (w : View E) → w.known.share ≢ [] → (j : ℕ) (u : View E) → get_elem? (set s.views id w) j ≡ some u → u.known.share ≡ [] → room_count u ≡ 0
+  spent_else s k id w named = one_set (λ _ u. u.known.share ≡ [] → room_count u ≡ 0) s.views id w (λ none_of. absurd (named none_of)) (λ j u _ e. k.spent j u e)
+
   -- the plain rule after a step of a party whose view was v and is w
   pub record Becomes (s : TableState E) (k : PlainHolds s) (v w : View E) (t : TableState E) : Type 0 where
     pub now : PlainHolds t
     pub uses : now.uses ≡ k.uses
+    pub pool : now.pool ≡ k.pool
     pub bits : w.bits ≡ k.uses
     pub rooms : Among t.words k.chain.rooms now.chain.rooms
     pub spare : Comes s k v w
@@ -77,6 +123,7 @@ module _ {E : Type 0} where
   pub record Stays (s : TableState E) (k : PlainHolds s) (t : TableState E) : Type 0 where
     pub now : PlainHolds t
     pub uses : now.uses ≡ k.uses
+    pub pool : now.pool ≡ k.pool
     pub rooms : now.chain.rooms ≡ k.chain.rooms
 
   -- what the plain rule allows a party, whatever the table is when the word i becomes f of what it was
@@ -99,8 +146,8 @@ module _ {E : Type 0} where
       → get_elem? s.views id ≡ some v → v.known.share ≢ [] → Under actor (name v) es → w.known ≡ all_seen id (k.history ++ of_seat id es) v.known.share
       → m' ≡ machine_of cell words (set s.views id w) → Meets m' chain (reverse es ++ reverse (events k.history))
       → length words ≡ length s.words → length homes ≡ length s.homes → FullAtHome homes cell chain.rooms → AllEmptyAtHome homes (set s.views id w) → AllReady cell (set s.views id w) → AreLinked words (set s.views id w)
-      → w.bits ≡ k.uses → Among words k.chain.rooms chain.rooms → Comes s k v w → Becomes s k v w record { words = words; homes = homes; views = set s.views id w } × Sees v es w
-  keeps_rule s k id es v w words homes cell chain m' at some_name under sees same met wide deep full empty ready linked bits rooms spare =
+      → w.bits ≡ k.uses → Among words k.chain.rooms chain.rooms → Comes s k v w → LeavesPool s k v w words homes chain → Becomes s k v w record { words = words; homes = homes; views = set s.views id w } × Sees v es w
+  keeps_rule s k id es v w words homes cell chain m' at some_name under sees same met wide deep full empty ready linked bits rooms spare beside =
       let h = k.history ++ of_seat id es in
       let recent : reverse (events h) ≡ reverse es ++ reverse (events k.history) = ap (λ z. reverse z) (events_more k.history id es) ∙ reverse-append (events k.history) es in
       let meets : Meets (machine_of cell words (set s.views id w)) chain (reverse (events h)) =
@@ -114,6 +161,7 @@ module _ {E : Type 0} where
             history = h;
             cell = cell;
             chain = chain;
+            pool = k.pool;
             meets = meets;
             wide = omega arith;
             stub = omega arith;
@@ -121,10 +169,14 @@ module _ {E : Type 0} where
             empty = empty;
             ready = ready;
             linked = linked;
+            pooled = pool_stays s k chain.owner words homes beside.owners beside.links beside.slots;
+            all = let all = k.all in let even = beside.even in omega (arith, tally_set (room_count {E = E}) s.views id v w at);
+            spent = spent_else s k id w (λ none_of. some_name (sym (ap (λ (z : Known (Event Name E)). z.share) sees) ∙ none_of));
             fits = t.fits;
             owned = t.owned;
           };
           uses = refl;
+          pool = refl;
           bits = bits;
           rooms = rooms;
           spare = spare;
@@ -166,7 +218,7 @@ module _ {E : Type 0} where
 
     -- a store to another word, or none
     low_links : (words rooms : List ℕ) (end i n : ℕ) → i < LINKS → Links words rooms end → Links (set words i n) rooms end
-    low_links words rooms end i n low = links_frame words (set words i n) rooms end (λ r _. get_or-set_other words i (LINKS + r) n 0 (λ e. absurd (omega arith)))
+    low_links words rooms end i n low = links_frame words (set words i n) rooms end (λ r _. next_low words i n low r)
 
     pub linkeds_low : (id i n : ℕ) (w : View E) → i < LINKS → Links s.words w.free w.end × Links s.words w.back w.to → AreLinked (set s.words i n) (set s.views id w)
     linkeds_low id i n w low mine = one_set (λ _ u. u.known.share ≢ [] → Links (set s.words i n) u.free u.end × Links (set s.words i n) u.back u.to) s.views id w (λ _. (low_links s.words w.free w.end i n low mine.0, low_links s.words w.back w.to i n low mine.1))

@@ -23,11 +23,12 @@ rank [] (suc i) = 0
 rank (zero ∷ rs) (suc i) = rank rs i
 rank (suc r ∷ rs) (suc i) = suc (rank rs i)
 
--- Whose a room is: the structure's, free with a party, cleared by a party, or not made yet
+-- Whose a room is: the structure's, free with a party, cleared by a party, in the pool, or not made yet
 pub data Owner : Type 0 where
   Shared : Owner
   Spare : ℕ → Owner
   Ready : ℕ → Owner
+  Pooled : Owner
   Unmade : Owner
 
 -- the party at this stage still has to link a to b

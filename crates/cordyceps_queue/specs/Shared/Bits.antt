@@ -52,17 +52,21 @@ abbrev pub IsRight : (ℕ → ℕ) → ℕ → ℕ → Type 0
 IsRight uses zero x = x ≡ 0
 IsRight uses (suc t) x = x ≡ 2 * suc t + uses t
 
+-- the links of these rooms, which are free, lead where their plain links do, to whichever use
+abbrev pub SpellsFree : List ℕ → List ℕ → List ℕ → Type 0
+SpellsFree plain words rooms = (i r : ℕ) → ItemAt rooms i r →
+    (to bit : ℕ) × IsLink (word.next words r) (word.next plain r) to bit
+
 -- the link of a room in use: null, or it leads to a room in its present use
 abbrev pub Spells : (ℕ → ℕ) → ℕ → ℕ → ℕ → Type 0
 Spells uses r zero x = IsOld (uses r) x
 Spells uses r (suc s) x = IsLink x (suc s) (uses s) (uses r)
 
 module _ {E : Type 0} where
-  -- of the plain words and the words: the link of a free room leads to the same room, in whichever use; the link of a
-  -- room that it has begun to use is of an earlier use; and the party knows the bits of the rooms that it acts on
+  -- of the plain words and the words: the links of the party's free rooms; the link of a room that it has begun to use
+  -- is of an earlier use; and the party knows the bits of the rooms that it acts on
   pub record KeepsUse (uses : ℕ → ℕ) (plain words : List ℕ) (v : View E) : Type 0 where
-    pub free : (i r : ℕ) → ItemAt (v.free ++ v.back) i r →
-        (to bit : ℕ) × IsLink (word.next words r) (word.next plain r) to bit
+    pub free : SpellsFree plain words (v.free ++ v.back)
     pub begun : (r : ℕ) → Begun v.stage r → IsOld (uses r) (word.next words r)
     pub knows : (r : ℕ) → Knows v.stage r → bit_of v.bits r ≡ uses r
 

@@ -1,5 +1,6 @@
 -- What the calls of a shared queue promise: of the party u before, and of the party w after.
-use Rattle.std.specs.Prelude.{◌≡◌, ◌≢◌, ◌⊎◌, suc, List, [], ◌∷◌, ◌++◌, Bool, Option, Some, None, Result, Ok, Err}
+use Rattle.std.specs.Prelude.{◌≡◌, ◌≢◌, ◌⊎◌, ℕ, suc, ◌+◌, ◌-◌, ◌<◌, List, [], ◌∷◌, ◌++◌, length, Bool, true, false}
+use Rattle.std.specs.Prelude.{Option, Some, None, Result, Ok, Err}
 use mathlib.Core.Bool.{Bool-discrete}
 use mathlib.Core.List.{List-discrete}
 use Rattle.atomic_table.specs.Seated.{TableId}
@@ -9,13 +10,17 @@ use Rattle.cordyceps_shared.specs.Standings.{Standing, name_of}
 use Rattle.cordyceps_shared.specs.Standings as parties
 use Rattle.cordyceps_queue.specs.declared.cores.steps.TryDequeueError.{TryDequeueError}
 use Rattle.cordyceps_queue.specs.declared.cores.steps.TryDequeueError.TheVariants as error
-use Rattle.cordyceps_queue.specs.History.{Event, Swap, Link, Take, Busy, Look, Out, Empty, Free, actor, holder, IsLegal}
-use Rattle.cordyceps_queue.specs.History.{IsPending, IsBlocked}
+use Rattle.cordyceps_queue.specs.History.{Event, Swap, Link, Take, Busy, Look, Out, Empty, Free, actor, held, holder}
+use Rattle.cordyceps_queue.specs.History.{IsLegal, IsPending, IsBlocked}
 
 -- what a contract sees of a queue: its table, and the stub that its maker handed in
 pub record QueueOf (E : Type 0) : Type 0 where
   pub table : TableId
   pub stub : Option E
+
+-- how many rooms the queue with this table has: its slots without the stub's
+abbrev pub capacity : TableId → ℕ
+capacity table = table.slots - 1
 
 -- what a contract sees of a party
 abbrev pub PartyOf : Type 0 → Type 0
@@ -52,6 +57,29 @@ module _ {E : Type 0} where
   -- it put e in, which took a room
   abbrev pub Enqueues : E → PartyOf E → PartyOf E → Type 0
   Enqueues e u w = Adds u (Swap (name_of u) e ∷ Link (name_of u) ∷ []) w × (u.rooms ≡ suc w.rooms)
+
+  -- it took the n rooms that were in the pool
+  abbrev pub Refills : ℕ → PartyOf E → PartyOf E → Type 0
+  Refills n u w = Adds u [] w × (w.rooms ≡ u.rooms + n)
+
+  -- it gave n rooms to the pool, or others' rooms were there, and it is as before
+  abbrev pub GivesBack : ℕ → Bool → PartyOf E → PartyOf E → Type 0
+  GivesBack n true u w = w ≡ record u { rooms = u.rooms - n }
+  GivesBack n false u w = w ≡ u
+
+  -- each room is the party's, or has one of the elements that its history holds
+  abbrev pub HasAllRooms : PartyOf E → Type 0
+  HasAllRooms w = w.rooms + length (held (plain w.seen)) ≡ capacity w.table
+
+  -- it put e in, which took a room; if it had none, it took the n that were in the pool before
+  abbrev pub EnqueuesRefilled : E → PartyOf E → PartyOf E → Type 0
+  EnqueuesRefilled e u w =
+      Adds u (Swap (name_of u) e ∷ Link (name_of u) ∷ []) w
+      × ((n : ℕ) × (u.rooms + n ≡ suc w.rooms) × (0 < u.rooms → n ≡ 0))
+
+  -- it had no room, and there was none in the pool
+  abbrev pub FindsFull : PartyOf E → PartyOf E → Type 0
+  FindsFull u w = Refills 0 u w × (u.rooms ≡ 0)
 
   -- it took the right, tried, and gave the right back, or another party had the right
   abbrev pub Dequeues : Result E TryDequeueError → PartyOf E → PartyOf E → Type 0

@@ -1,7 +1,8 @@
 -- What the parts of a call on a shared queue leave: of the party's seat m before, and of its seat k after.
-use Rattle.std.specs.Prelude.{◌≡◌, ◌≢◌, ℕ, zero, suc, ◌+◌, ◌*◌, ◌<◌, ◌≤◌, List, [], ◌∷◌, ◌++◌, length, Option, Some, None}
+use Rattle.std.specs.Prelude.{◌≡◌, ◌≢◌, ℕ, zero, suc, ◌+◌, ◌*◌, ◌<◌, ◌≤◌, List, [], ◌∷◌, ◌++◌, length, drop, Bool, true, false}
+use Rattle.std.specs.Prelude.{Option, Some, None}
 use Rattle.atomic_table.specs.Seated.{TableId}
-use Rattle.cordyceps_shared.specs.FreeChains.{FreeChain, Tracks, leads}
+use Rattle.cordyceps_shared.specs.FreeChains.{FreeChain, Tracks, MayJoin, leads}
 use Rattle.cordyceps_shared.specs.Histories.{plain, AllOwn}
 use Rattle.cordyceps_shared.specs.Shares.{Name, whole, IsShare}
 use Rattle.cordyceps_shared.specs.Words as word
@@ -10,14 +11,14 @@ use Rattle.cordyceps_queue.specs.Shared.Parting.{view_absorbing, view_without_to
 use Rattle.cordyceps_queue.specs.declared.cores.stage.Stage.TheVariants.{Rest, Cleared, Swapped, Holding}
 use Rattle.cordyceps_queue.specs.declared.shared.table.Tried.{Tried}
 use Rattle.cordyceps_queue.specs.declared.shared.table.Tried.TheVariants.{Out, Empty, Inconsistent}
-use Rattle.cordyceps_queue.specs.History.{Event, holder}
-use Rattle.cordyceps_shared.specs.Slots.{view, hand}
-use Rattle.cordyceps_queue.specs.Shared.Plays.{SeatState, Sees, IsResting, IsHolding, HandsOneOut, moves_to}
+use Rattle.cordyceps_queue.specs.History.{Event, held, holder}
+use Rattle.cordyceps_shared.specs.Slots.{Near, view, hand}
+use Rattle.cordyceps_queue.specs.Shared.Plays.{SeatState, Sees, IsResting, IsHolding, HandsOneOut, carry, moves_to}
 use Rattle.cordyceps_queue.specs.Shared.Plays.{Blocked}
 use Rattle.cordyceps_queue.specs.Shared.Rule.{IsTable}
 use Rattle.cordyceps_queue.specs.Shared.Calls.{PartyOf, Legal, NonePending, NoneHolds}
 use Rattle.cordyceps_queue.specs.declared.shared.spare.Spare.{Spare}
-use Rattle.cordyceps_queue.specs.Shared.View.{View, name, free_chain, all_rooms}
+use Rattle.cordyceps_queue.specs.Shared.View.{View, name, free_chain, back_chain, all_rooms}
 
 -- a seat of this table, which is a queue's
 abbrev pub IsSeatOf : TableId → TableId → Type 0
@@ -33,6 +34,7 @@ pub record AreNew (words : List ℕ) (rooms : ℕ) : Type 0 where
 -- its words, where each room's use has the bit 0, and the stub's link is of an earlier use
 pub record AreNewWords (words : List ℕ) (rooms : ℕ) : Type 0 where
   pub wide : length words ≡ LINKS + rooms + 1
+  pub pool : word.pool words ≡ 0
   pub head : word.head words ≡ 0
   pub right : word.right words ≡ 2
   pub stub : word.next words 0 ≡ 1
@@ -78,6 +80,13 @@ module _ {E : Type 0} where
   AsksRight slots zero m k = IsResting slots k × moves_to (Event.Busy (name (view m)) ∷ []) Rest m k
   AsksRight slots (suc t) m k = IsHolding slots t k × moves_to (Event.Take (name (view m)) ∷ []) (Holding t) m k
 
+  -- the party has the slots in hand that it has yet to give back, and the last free room leads to their rooms
+  pub record MayReturn (slots : ℕ) (m : SeatState E) : Type 0 where
+    pub carries : hand m ≡ carry (view m).back
+    pub named : (view m).known.share ≢ []
+    pub near : Near slots ((view m).free ++ (view m).back)
+    pub joins : MayJoin (free_chain (view m)) (back_chain (view m))
+
   -- the last free room has another link, if any, and all else is as before
   pub record Relinked (m k : SeatState E) : Type 0 where
     pub view : view k ≡ record (view m) { end = (view k).end }
@@ -107,6 +116,20 @@ module _ {E : Type 0} where
       ((view k).free ≡ (view m).free)
       × ((v : View E) × Sees (view m) (Event.Take (name (view m)) ∷ Event.Look (name (view m)) ∷ []) v × Blocked v
       × Sees v (Event.Free (name (view m)) ∷ []) (view k))
+
+  -- ---- the pool
+  -- it took the pool, in which so many rooms were, and sees all
+  pub record Refills (slots n : ℕ) (m k : SeatState E) : Type 0 where
+    pub rests : IsResting slots k
+    pub free : length (view k).free ≡ length (view m).free + n
+    pub sees : Sees (view m) [] (view k)
+    pub all : (view m).known.share ≡ whole
+        → suc (length (held (plain (view k).known.seen)) + length (view k).free) ≡ slots
+
+  -- it gave the first n of its free rooms to the pool, or did nothing
+  abbrev pub GivesBack : ℕ → Bool → SeatState E → SeatState E → Type 0
+  GivesBack n true m k = k ≡ (record (view m) { free = drop n (view m).free }, hand m)
+  GivesBack n false m k = k ≡ m
 
   -- ---- parties
   -- what a contract sees of a party with this seat

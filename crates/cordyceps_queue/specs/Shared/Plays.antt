@@ -1,19 +1,21 @@
 -- What each atomic step tells a party of a queue: of its seat m before, of the word that it found, and of its seat k
 -- after. A seat has a view, and the slots in hand, the last taken first.
-use Rattle.std.specs.Prelude.{◌≡◌, ◌≢◌, ℕ, suc, ◌+◌, ◌<◌, ◌≤◌, List, [], ◌∷◌, ◌++◌, reverse, length, Option, Some, None}
+use Rattle.std.specs.Prelude.{◌≡◌, ◌≢◌, ℕ, suc, ◌+◌, ◌<◌, ◌≤◌, List, [], ◌∷◌, ◌++◌, reverse, length, drop, Option}
+use Rattle.std.specs.Prelude.{Some, None}
 use Rattle.cordyceps_shared.specs.FreeChains.{leads, end_after, MayJoin}
 use Rattle.cordyceps_shared.specs.Histories.{plain}
 use Rattle.cordyceps_shared.specs.Knowing.{Grown}
-use Rattle.cordyceps_shared.specs.Shares.{Name}
+use Rattle.cordyceps_shared.specs.Pools.{LeadsTo}
+use Rattle.cordyceps_shared.specs.Shares.{Name, whole}
 use Rattle.cordyceps_shared.specs.declared.layout.TheConstants.{LINKS}
 use Rattle.cordyceps_queue.specs.declared.cores.stage.Stage.{Stage}
 use Rattle.cordyceps_queue.specs.declared.cores.stage.Stage.TheVariants.{Rest, Cleared, Swapped, Holding, StubNull}
 use Rattle.cordyceps_queue.specs.declared.cores.stage.Stage.TheVariants.{Second, Null, PutClear, PutSwap, PutLink}
 use Rattle.cordyceps_queue.specs.declared.cores.stage.Stage.TheVariants.{PutRead}
-use Rattle.cordyceps_queue.specs.History.{Event, actor}
+use Rattle.cordyceps_queue.specs.History.{Event, held, actor}
 use Rattle.cordyceps_queue.specs.Past.{IsLegalReversed, WasBlockedReversed}
 use Rattle.cordyceps_shared.specs.Slots.{Hand, Near, TableStep, SeatWith, view, hand}
-use Rattle.cordyceps_queue.specs.Shared.View.{View, name, free_chain, back_chain}
+use Rattle.cordyceps_queue.specs.Shared.View.{View, name, free_chain, back_chain, view_returned, room_count}
 
 abbrev pub SeatState : Type 0 → Type 0
 SeatState E = SeatWith E (View E)
@@ -169,3 +171,31 @@ module _ {E : Type 0} where
 
   abbrev pub after_give : TableStep E → SeatState E → ℕ → SeatState E → Type 0
   after_give st m n k = (t : ℕ) → (view m).stage ≡ Holding t → moves_to (Event.Free (name (view m)) ∷ []) Rest m k
+
+  -- ---- the steps on the pool's word
+  -- a swap: the party takes the pool's rooms, whose slots are in hand, and sees all. Each room but the stub's is then with
+  -- a whole party, or has an element in it
+  pub record FindsPool (slots found : ℕ) (m k : SeatState E) : Type 0 where
+    pub leads : LeadsTo found (back_chain (view k))
+    pub stage : (view k).stage ≡ Rest
+    pub free : free_chain (view k) ≡ free_chain (view m)
+    pub hand : hand k ≡ carry (view k).back
+    pub near : Near slots (view k).back
+    pub few : length ((view k).free ++ (view k).back) ≤ slots
+    pub sees : Sees (view m) [] (view k)
+    pub all : (view m).known.share ≡ whole
+        → suc (length (held (plain (view k).known.seen)) + room_count (view k)) ≡ slots
+
+  abbrev pub after_refill : TableStep E → SeatState E → ℕ → SeatState E → Type 0
+  after_refill st m found k = FindsPool st.slots found m k
+
+  -- a load: all slots in hand are given back
+  abbrev pub after_glance : TableStep E → SeatState E → ℕ → SeatState E → Type 0
+  after_glance st m found k =
+      (view k ≡ view_returned (view m)) × (hand k ≡ []) × (length ((view m).free ++ (view m).back) ≤ st.slots)
+
+  -- a compare-exchange: the first n free rooms are the pool, or other rooms are
+  abbrev pub after_give_back : ℕ → TableStep E → SeatState E → ℕ → SeatState E → Type 0
+  after_give_back n st m found k =
+      (found ≡ 0 → (view k ≡ record (view m) { free = drop n (view m).free }) × (hand k ≡ hand m))
+      × (found ≢ 0 → k ≡ m)

@@ -7,9 +7,11 @@ use lib.ListN.{get_elem?}
 use Rattle.atomic_table.specs.Table.{State}
 use Rattle.atomic_table.specs.Seated.{TableId}
 use Rattle.cordyceps_base.specs.declared.shared.TheConstants.{MAX_ROOMS}
-use Rattle.cordyceps_shared.specs.FreeChains.{Links}
+use Rattle.cordyceps_shared.specs.Counts.{tally}
+use Rattle.cordyceps_shared.specs.FreeChains.{FreeChain, Links}
 use Rattle.cordyceps_shared.specs.Histories.{events}
 use Rattle.cordyceps_shared.specs.Knowing.{SharesDisjoint, AllAgree}
+use Rattle.cordyceps_shared.specs.Pools.{LeadsTo}
 use Rattle.cordyceps_shared.specs.Shares.{Name}
 use Rattle.cordyceps_shared.specs.Words as word
 use Rattle.cordyceps_shared.specs.declared.layout.TheConstants.{LINKS}
@@ -17,9 +19,9 @@ use Rattle.cordyceps_queue.specs.declared.cores.stage.Stage.TheVariants.{Cleared
 use Rattle.cordyceps_shared.specs.Slots.{Homes, EmptyAtHome}
 use Rattle.cordyceps_queue.specs.History.{Event, actor}
 use Rattle.cordyceps_shared.specs.Places.{ItemAt}
-use Rattle.cordyceps_queue.specs.Cores.Meets.{Chain, Meets}
-use Rattle.cordyceps_queue.specs.Shared.Bits.{SpellsWords}
-use Rattle.cordyceps_queue.specs.Shared.View.{View, knows, name, bit_of}
+use Rattle.cordyceps_queue.specs.Cores.Meets.{Owner, Pooled, Chain, Meets, real}
+use Rattle.cordyceps_queue.specs.Shared.Bits.{SpellsFree, SpellsWords}
+use Rattle.cordyceps_queue.specs.Shared.View.{View, knows, name, bit_of, room_count}
 use Rattle.cordyceps_queue.specs.Cores.Abstract.{AbstractParty, AbstractMachine}
 
 abbrev pub TableState : Type 0 → Type 0
@@ -82,13 +84,22 @@ module _ {E : Type 0} where
       (j : ℕ) (v : View E) (r : ℕ) → get_elem? views j ≡ some v → v.known.share ≢ [] → v.stage ≡ Cleared r →
       cell r ≡ v.item
 
-  -- There is one history, which the machine meets, and of which each party has seen a prefix. The words are plain here:
-  -- those of the table have the bits of the uses, too
+  -- the rooms of the pool are in it once each and are linked, and their slots are at home, with nothing in them
+  pub record IsPool (owner : ℕ → Owner) (words : List ℕ) (homes : Homes E) (pool : FreeChain) : Type 0 where
+    pub own : (i r : ℕ) → ItemAt pool.rooms i r → owner r ≡ Pooled
+    pub once : (i j r : ℕ) → ItemAt pool.rooms i r → ItemAt pool.rooms j r → i ≡ j
+    pub linked : Links words pool.rooms pool.end
+    pub empty : EmptyAtHome homes pool.rooms
+
+  -- There is one history, which the machine meets, and of which each party has seen a prefix. Each room but the stub's is
+  -- in the queue, in the pool, or with a party that has a share. The words are plain here: those of the table have the
+  -- bits of the uses, too
   pub record PlainHolds (s : TableState E) : Type 0 where
     pub uses : List (ℕ × ℕ)
     pub history : History E
     pub cell : ℕ → Option E
     pub chain : Chain
+    pub pool : FreeChain
     pub meets : Meets (machine_of cell s.words s.views) chain (reverse (events history))
     pub wide : length s.words ≡ LINKS + length s.homes
     pub stub : 1 ≤ length s.homes
@@ -96,14 +107,19 @@ module _ {E : Type 0} where
     pub empty : AllEmptyAtHome s.homes s.views
     pub ready : AllReady cell s.views
     pub linked : AreLinked s.words s.views
+    pub pooled : IsPool chain.owner s.words s.homes pool
+    pub all : suc (length (real chain.rooms) + length pool.rooms + tally room_count s.views) ≡ length s.homes
+    pub spent : (j : ℕ) (v : View E) → get_elem? s.views j ≡ some v → v.known.share ≡ [] → room_count v ≡ 0
     pub fits : AllAgree actor knows s.views history
     pub owned : SharesDisjoint knows s.views history
 
-  -- the rule of the table: its words spell plain ones, of which that holds
+  -- the rule of the table: its words spell plain ones, of which that holds, and one of them leads to the pool
   pub record RuleHolds (s : TableState E) : Type 0 where
     pub words : List ℕ
     pub plain : PlainHolds record { words = words; homes = s.homes; views = s.views }
     pub spells : SpellsWords (bit_of plain.uses) plain.chain.rooms words s.words s.views
+    pub word_is : LeadsTo (word.pool s.words) plain.pool
+    pub pooled : SpellsFree words s.words plain.pool.rooms
 
 -- a link for each slot, after the other words, and the stub's slot
 abbrev pub IsTable : TableId → Type 0

@@ -1,15 +1,15 @@
 -- What each atomic step tells a party of a queue, of the words with the bits of the uses: it tells of the plain word what
 -- Plays says, and the bits of the rooms that the party acts on.
-use Rattle.std.specs.Prelude.{◌≡◌, ◌≢◌, ℕ, suc, ◌+◌, ◌*◌, ◌-◌, List, ◌∷◌, ◌++◌, Option}
+use Rattle.std.specs.Prelude.{◌≡◌, ◌≢◌, ℕ, suc, ◌+◌, ◌*◌, ◌-◌, List, [], ◌∷◌, ◌++◌, Option}
 use Rattle.cordyceps_shared.specs.FreeChains.{leads}
-use Rattle.cordyceps_shared.specs.Slots.{TableStep, view}
+use Rattle.cordyceps_shared.specs.Slots.{TableStep, view, hand}
 use Rattle.cordyceps_shared.specs.declared.layout.TheConstants.{LINKS}
 use Rattle.cordyceps_queue.specs.declared.cores.stage.Stage.TheVariants.{Holding, Second, PutRead}
 use Rattle.cordyceps_queue.specs.declared.shared.uses.RoomUse.{RoomUse}
 use Rattle.cordyceps_queue.specs.Shared.Bits.{IsBit, IsLink, IsRead, Knows}
 use Rattle.cordyceps_queue.specs.Shared.Plays.{SeatState}
 use Rattle.cordyceps_queue.specs.Shared.Plays as plain
-use Rattle.cordyceps_queue.specs.Shared.View.{bit_of}
+use Rattle.cordyceps_queue.specs.Shared.View.{bit_of, view_returned}
 
 module _ {E : Type 0} where
   -- the party knows the bit of this use of a room
@@ -95,3 +95,19 @@ module _ {E : Type 0} where
 
   abbrev pub after_give : TableStep E → SeatState E → ℕ → SeatState E → Type 0
   after_give st m n k = plain.after_give st m n k
+
+  -- ---- the steps on the pool
+  -- a load of the link of the last room that the party took there: all slots in hand are given back
+  abbrev pub after_gather : TableStep E → SeatState E → ℕ → SeatState E → Type 0
+  after_gather st m found k = (before : List ℕ) (r : ℕ) → (view m).back ≡ before ++ r ∷ [] → st.word ≡ LINKS + r
+      → (view k ≡ view_returned (view m)) × (hand k ≡ [])
+      × ((to bit : ℕ) × IsLink found (view m).to to bit)
+
+  abbrev pub after_refill : TableStep E → SeatState E → ℕ → SeatState E → Type 0
+  after_refill st m found k = plain.after_refill st m found k
+
+  abbrev pub after_glance : TableStep E → SeatState E → ℕ → SeatState E → Type 0
+  after_glance st m found k = plain.after_glance st m found k
+
+  abbrev pub after_give_back : ℕ → TableStep E → SeatState E → ℕ → SeatState E → Type 0
+  after_give_back n st m found k = plain.after_give_back n st m found k

@@ -1,11 +1,11 @@
 -- What a party of a shared queue knows and does, as the rule of the queue's table sees it.
-use Rattle.std.specs.Prelude.{ℕ, zero, suc, List, [], ◌∷◌, Option, None, cond, eqb}
-use Rattle.cordyceps_shared.specs.FreeChains.{FreeChain, joined}
+use Rattle.std.specs.Prelude.{ℕ, zero, suc, ◌+◌, List, [], ◌∷◌, ◌++◌, length, Option, None, cond, eqb}
+use Rattle.cordyceps_shared.specs.FreeChains.{FreeChain, joined, end_after}
 use Rattle.cordyceps_shared.specs.Knowing.{Known}
 use Rattle.cordyceps_shared.specs.Knowing as knowing
 use Rattle.cordyceps_shared.specs.Shares.{Name, first_name}
 use Rattle.cordyceps_queue.specs.declared.cores.stage.Stage.{Stage}
-use Rattle.cordyceps_queue.specs.declared.cores.stage.Stage.TheVariants.{Rest}
+use Rattle.cordyceps_queue.specs.declared.cores.stage.Stage.TheVariants.{Rest, Cleared}
 use Rattle.cordyceps_queue.specs.History.{Event}
 
 -- what the party knows of the history; its free rooms, whose links lead from each to the next, and the last one's link;
@@ -25,6 +25,11 @@ pub record View (E : Type 0) : Type 0 where
 abbrev pub bit_of : List (ℕ × ℕ) → ℕ → ℕ
 bit_of [] r = 0
 bit_of (x ∷ xs) r = cond (eqb r x.0) x.1 (bit_of xs r)
+
+-- how many rooms a party at this stage has cleared
+abbrev pub cleared_count : Stage → ℕ
+cleared_count (Cleared r) = 1
+cleared_count _ = 0
 
 -- the numbers from n down to 1
 abbrev pub down_from : ℕ → List ℕ
@@ -57,6 +62,14 @@ module _ {E : Type 0} where
 
   abbrev pub all_rooms : View E → FreeChain
   all_rooms v = joined (free_chain v) (back_chain v)
+
+  -- the same party, once the slots are given back
+  abbrev pub view_returned : View E → View E
+  view_returned v = record v { free = v.free ++ v.back; end = end_after v.end v.back v.to; back = [] }
+
+  -- how many rooms it has, free, to be given back or cleared
+  abbrev pub room_count : View E → ℕ
+  room_count v = length v.free + length v.back + cleared_count v.stage
 
   -- the name under which the party acts
   abbrev pub name : View E → Name

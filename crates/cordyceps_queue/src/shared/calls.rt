@@ -1,17 +1,18 @@
 //! The queue that threads share.
-ghost use Rattle.std.specs.Prelude.{◌≡◌, ◌<◌, ◌≤◌, map, Option, Some, None, MatchResult, IfOk};
+ghost use Rattle.std.specs.Prelude.{◌≡◌, ◌<◌, ◌≤◌, map, Option, Some, None, MatchResult, IfOk, IfErr};
 ghost use Rattle.cordyceps_shared.specs.Histories.{plain};
 ghost use Rattle.cordyceps_shared.specs.Shares.{whole};
 ghost use Rattle.cordyceps_shared.specs.Standings.{new_party, keeping, giving, Knows, Absorbs};
 ghost use Rattle.cordyceps_queue.specs.History.{held};
 ghost use Rattle.cordyceps_queue.specs.Shared.Calls.{Legal, NonePending, NoneHolds, Enqueues, Dequeues, IsCertain};
+ghost use Rattle.cordyceps_queue.specs.Shared.Calls.{capacity, Refills, GivesBack, HasAllRooms, EnqueuesRefilled, FindsFull};
 
 use crate::cores::steps::TryDequeueError;
 use crate::shared::batch::Batch;
 use crate::shared::spare::Spare;
 use crate::shared::table::{OwnedTable, PartySeat, Tried};
 use crate::shared::vault::Vault;
-use crate::shared::{parting, steps, tries};
+use crate::shared::{parting, pool, steps, tries};
 use cordyceps_base::linked::Linked;
 use cordyceps_base::mpsc_queue::Links;
 use cordyceps_base::node::Refused;
@@ -44,6 +45,8 @@ use std::marker::Model;
 /// | call | beside any call of another party | beside a call of its own row |
 /// |---|---|---|
 /// | `enqueue` | yes | both put their elements in, and neither waits |
+/// | `refill`, `try_enqueue` | yes | one gets the rooms of the pool; the other finds none |
+/// | `give_back` | yes | one puts its rooms into the pool; the other returns `false` |
 /// | `try_dequeue`, `try_consume` | yes | one gets the right to dequeue; the other returns `Busy`, or its party |
 /// | `dequeue`, `consume` | yes | one gets the right to dequeue; the other waits for it |
 /// | the calls of a consumer | yes | there is one consumer at a time |
@@ -154,7 +157,8 @@ impl<T: Linked<Links<T>>> MpscQueue<T> {
     /// O(`rooms`), with four allocations.
     pub fn new(alloc: Global, rooms: usize) -> Result<(MpscQueue<T>, Party<T>), AllocError>
         requires { rooms ≤ MAX_ROOMS }
-        ensures { IfOk result (λ made. (made.0.stub ≡ None) × (made.1 ≡ new_party made.0.table rooms)) }
+        ensures { IfOk result (λ made. (made.0.stub ≡ None) × (made.1 ≡ new_party made.0.table rooms)
+            × (capacity made.0.table ≡ rooms)) }
     {
         required::at_most_max_rooms(rooms);
         let spare = Spare {
@@ -183,7 +187,8 @@ impl<T: Linked<Links<T>>> MpscQueue<T> {
     ) -> Result<(MpscQueue<T>, Party<T>), Refused<T::Handle>>
         requires { rooms ≤ MAX_ROOMS }
         ensures { MatchResult result
-            (λ made. (made.0.stub ≡ Some stub) × (made.1 ≡ new_party made.0.table rooms))
+            (λ made. (made.0.stub ≡ Some stub) × (made.1 ≡ new_party made.0.table rooms)
+            × (capacity made.0.table ≡ rooms))
             (λ refused. refused.value ≡ stub) }
     {
         let Ok((queue, party)) = MpscQueue::new(alloc, rooms) else {
@@ -223,6 +228,31 @@ impl<T: Linked<Links<T>>> MpscQueue<T> {
         );
     }
 
+    /// Appends an element to the queue. If the party has no room, it takes those of the pool first.
+    ///
+    /// # Errors
+    /// If the party has no room and the pool has none, the element is returned. Where a whole party finds that, each room
+    /// of the queue has an element.
+    ///
+    /// # Complexity
+    /// O(1): that of `enqueue`, and of `refill` if the party has no room.
+    ///
+    /// # Waits
+    /// Never.
+    pub fn try_enqueue(&self, party: &mut Party<T>, handle: T::Handle) -> Result<(), T::Handle>
+        requires { party.old.table ≡ self.now.table }
+        ensures answer { MatchResult result
+            (λ _. EnqueuesRefilled handle party.old party.new)
+            (λ back. (back ≡ handle) × FindsFull party.old party.new) }
+        ensures whole { party.old.share ≡ whole → IfErr result (λ _. HasAllRooms party.new) }
+    {
+        if party.rooms() == 0 && self.refill(party) == 0 {
+            return Err(handle);
+        }
+        self.enqueue(party, handle);
+        Ok(())
+    }
+
     /// Tries once to remove the oldest element and returns it: it takes the right to dequeue, tries, and gives the
     /// right back. The element's room becomes the party's.
     ///
@@ -247,6 +277,40 @@ impl<T: Linked<Links<T>>> MpscQueue<T> {
             Some(Tried::Inconsistent) => Err(TryDequeueError::Inconsistent),
             None => Err(TryDequeueError::Busy),
         }
+    }
+
+    /// Takes all rooms of the pool, which become the party's, and returns how many they are.
+    ///
+    /// A whole party then has each room of the queue that has no element in it.
+    ///
+    /// # Complexity
+    /// O(1): one swap, and a store and a load of links if there are rooms.
+    ///
+    /// # Waits
+    /// Never.
+    pub fn refill(&self, party: &mut Party<T>) -> usize
+        requires { party.old.table ≡ self.now.table }
+        ensures answer { Refills result party.old party.new }
+        ensures whole { party.old.share ≡ whole → HasAllRooms party.new }
+    {
+        pool::refill(&self.rooms.shared, &mut party.seat, &mut party.spare)
+    }
+
+    /// Gives `rooms` of the party's rooms to the pool, from where each party may take them, and returns `true`. If other
+    /// rooms are in the pool, it returns `false`, and the party has its rooms. Requires that the party has as many rooms.
+    ///
+    /// # Complexity
+    /// O(`rooms`), or O(1) if the party gives all its rooms or none.
+    ///
+    /// # Waits
+    /// Never.
+    pub fn give_back(&self, party: &mut Party<T>, rooms: usize) -> bool
+        requires table { party.old.table ≡ self.now.table }
+        requires rooms { rooms ≤ party.old.rooms }
+        ensures { GivesBack rooms result party.old party.new }
+    {
+        required::as_many_rooms(rooms, party.rooms());
+        pool::give_back(&self.rooms.shared, &mut party.seat, &mut party.spare, rooms)
     }
 
     /// Splits a new party off `party`, which gives it `rooms` of its rooms and a part of its share. The new party has

@@ -7,6 +7,7 @@ ghost use Rattle.cordyceps_queue.specs.Shared.Batches.{TakesLinked};
 ghost use Rattle.cordyceps_queue.specs.History.{held, holder};
 ghost use Rattle.cordyceps_queue.specs.declared.cores.steps.TryDequeueError.TheVariants as error;
 ghost use Rattle.cordyceps_queue.specs.Shared.Calls.{Legal, NonePending, Consumes, TakesRight, FindsBusy, GivesRight, IsCertain};
+ghost use Rattle.cordyceps_queue.specs.Shared.Calls.{GivesBack};
 
 use crate::cores::steps::TryDequeueError;
 use crate::shared::batch::Batch;
@@ -14,7 +15,7 @@ use crate::shared::calls::{MpscQueue, Party};
 use crate::shared::spare::Spare;
 use crate::shared::table::{PartySeat, Tried, Words};
 use crate::shared::uses::RoomUse;
-use crate::shared::{steps, tries};
+use crate::shared::{pool, steps, tries};
 use cordyceps_base::linked::Linked;
 use cordyceps_base::mpsc_queue::Links;
 use cordyceps_shared::required;
@@ -181,6 +182,16 @@ impl<E: Drop> Right<E> {
         self.spare.rooms.count
     }
 
+    /// Gives rooms to the pool.
+    pub fn give_back(&mut self, words: &Words<E>, rooms: usize) -> bool
+        requires table { self.old.table ≡ words.now.table_id }
+        requires rooms { rooms ≤ self.old.rooms }
+        ensures { GivesBack rooms result self.old self.new }
+    {
+        required::as_many_rooms(rooms, self.rooms());
+        pool::give_back(words, &mut self.seat, &mut self.spare, rooms)
+    }
+
     /// Tries once to remove the oldest element.
     pub fn try_once(&mut self, words: &Words<E>) -> Result<E, TryDequeueError>
         requires { self.old.table ≡ words.now.table_id }
@@ -323,6 +334,22 @@ impl<'a, T: Linked<Links<T>>> Consumer<'a, T> {
         ensures held { holder (plain self.now.seen) ≡ Some (name_of self.now) }
     {
         self.right.rooms()
+    }
+
+    /// Gives `rooms` of the party's rooms to the pool, from where each party may take them, and returns `true`. If other
+    /// rooms are in the pool, it returns `false`, and the party has its rooms. Requires that the party has as many rooms.
+    ///
+    /// # Complexity
+    /// O(`rooms`), or O(1) if the party gives all its rooms or none.
+    ///
+    /// # Waits
+    /// Never.
+    pub fn give_back(&mut self, rooms: usize) -> bool
+        requires { rooms ≤ self.old.rooms }
+        ensures { GivesBack rooms result self.old self.new }
+    {
+        let queue = self.queue;
+        self.right.give_back(&queue.rooms.shared, rooms)
     }
 
     /// Gives the right to dequeue back, and returns the party.

@@ -3,7 +3,6 @@ ghost use Rattle.std.specs.Prelude.{◌≡◌, ◌≢◌, ◌≤◌, ◌<◌, �
 ghost use Rattle.cordyceps_shared.specs.FreeChains.{IsTied, MayJoin, Tracks, leads};
 ghost use Rattle.cordyceps_shared.specs.Slots.{Near, view};
 ghost use Rattle.cordyceps_queue.specs.Shared.Parts.{IsSeatOf, Relinked, TracksEnd};
-ghost use Rattle.cordyceps_queue.specs.Shared.Plays.{IsResting};
 ghost use Rattle.cordyceps_queue.specs.Shared.View.{free_chain, back_chain, all_rooms};
 
 use crate::shared::plays::{Skip, Tie};
@@ -72,7 +71,8 @@ pub(crate) fn pass<E: Drop>(
     rooms: usize,
 ) -> (u64, usize)
     requires table { IsSeatOf seat.old.table_id words.now.table_id }
-    requires rest { IsResting words.now.table_id.slots seat.old.me }
+    requires near { Near words.now.table_id.slots (view seat.old.me).free }
+    requires named { (view seat.old.me).known.share ≢ [] }
     requires rooms { TracksEnd spare.now (free_chain (view seat.old.me)) × (rooms ≤ spare.now.rooms.count) }
     ensures seat { (seat.new.table_id ≡ seat.old.table_id) × (seat.new.me ≡ seat.old.me) }
     ensures first { (r : ℕ) → (rs : List ℕ) → drop rooms (view seat.old.me).free ≡ r ∷ rs → result.0 ≡ suc r }

@@ -8,6 +8,7 @@ ghost use Rattle.cordyceps_queue.specs.Shared.Batches.{TakesLinked};
 ghost use Rattle.cordyceps_queue.specs.History.{held, holder};
 ghost use Rattle.cordyceps_queue.specs.declared.cores.steps.TryDequeueError.TheVariants as error;
 ghost use Rattle.cordyceps_queue.specs.Shared.Calls.{Legal, NonePending, Consumes, TakesRight, FindsBusy, GivesRight, IsCertain};
+ghost use Rattle.cordyceps_queue.specs.Shared.Calls.{GivesBack};
 
 use crate::cores::steps::TryDequeueError;
 use crate::shared::batch::Batch;
@@ -155,6 +156,22 @@ impl<T: Linked<Links<T>>> OwnedConsumer<T> {
         ensures held { holder (plain self.now.party.seen) ≡ Some (name_of self.now.party) }
     {
         self.right.rooms()
+    }
+
+    /// Gives `rooms` of the party's rooms to the pool, as a `Consumer` does.
+    ///
+    /// # Complexity
+    /// O(`rooms`), or O(1) if the party gives all its rooms or none.
+    ///
+    /// # Waits
+    /// Never.
+    pub fn give_back(&mut self, rooms: usize) -> bool
+        requires { rooms ≤ self.old.party.rooms }
+        ensures queue { self.new.queue ≡ self.old.queue }
+        ensures answer { GivesBack rooms result self.old.party self.new.party }
+    {
+        let queue: &MpscQueue<T> = &self.queue;
+        self.right.give_back(&queue.rooms.shared, rooms)
     }
 
     /// Gives the right to dequeue back, and returns the queue and the party.

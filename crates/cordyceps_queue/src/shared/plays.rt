@@ -3,6 +3,7 @@ ghost use Rattle.cordyceps_queue.specs.Shared.Uses.{after_clear, after_swap, aft
 ghost use Rattle.cordyceps_queue.specs.Shared.Uses.{after_look_stub, after_read, after_head, after_head_stub};
 ghost use Rattle.cordyceps_queue.specs.Shared.Uses.{after_clear_stub, after_swap_stub, after_link_stub, after_give};
 ghost use Rattle.cordyceps_queue.specs.Shared.Uses.{after_reread, after_tie, after_skip};
+ghost use Rattle.cordyceps_queue.specs.Shared.Uses.{after_refill, after_gather, after_glance, after_give_back};
 ghost use Rattle.cordyceps_queue.specs.Shared.Parting.{after_learn, view_keeping, view_giving};
 ghost use Rattle.cordyceps_queue.specs.Shared.Parting.{view_absorbing, view_absorbed};
 
@@ -124,6 +125,36 @@ pub(crate) struct Skip;
 
 impl<E> Play<Option<E>, SeatView<E>> for Skip {
     ghost then = { after_skip };
+}
+
+/// A swap of the pool's word, which takes all rooms of the pool and their slots.
+pub(crate) struct Refill;
+
+impl<E> Play<Option<E>, SeatView<E>> for Refill {
+    ghost then = { after_refill };
+}
+
+/// A load of the link of the last of these rooms, at which their slots are given back.
+pub(crate) struct Gather;
+
+impl<E> Play<Option<E>, SeatView<E>> for Gather {
+    ghost then = { after_gather };
+}
+
+/// A load of the pool's word, at which the slots in hand are given back.
+pub(crate) struct Glance;
+
+impl<E> Play<Option<E>, SeatView<E>> for Glance {
+    ghost then = { after_glance };
+}
+
+/// A compare-exchange of the pool's word. If the pool has no room, the first `B::rooms` free rooms go there.
+pub(crate) struct GiveBack<B> {
+    count: PhantomData<B>,
+}
+
+impl<E, B: Count> Play<Option<E>, SeatView<E>> for GiveBack<B> {
+    ghost then = { after_give_back B.rooms };
 }
 
 /// A load of the head after an absorb.

@@ -26,7 +26,7 @@ overflow_add-last g c =
     let low : c.loop-room._room < length rooms = omega arith in
     let t = room_at rooms c.loop-room._room low in
     let at = c.loop-room.invariant.2 t.0 t.1 t.2 in
-    let near = near_first c.args.words.now.table_id.slots t.0 t.1 (drop c.loop-room._room rooms) t.2 (near_drop c.args.words.now.table_id.slots c.loop-room._room rooms c.requires.rest.4) in
+    let near = near_first c.args.words.now.table_id.slots t.0 t.1 (drop c.loop-room._room rooms) t.2 (near_drop c.args.words.now.table_id.slots c.loop-room._room rooms c.requires.near) in
     let table = c.requires.table in
     search rules
 
@@ -39,9 +39,9 @@ load-requires g c =
     let low : c.loop-room._room < length rooms = omega arith in
     let t = room_at rooms c.loop-room._room low in
     let at = c.loop-room.invariant.2 t.0 t.1 t.2 in
-    let near = near_first c.args.words.now.table_id.slots t.0 t.1 (drop c.loop-room._room rooms) t.2 (near_drop c.args.words.now.table_id.slots c.loop-room._room rooms c.requires.rest.4) in
+    let near = near_first c.args.words.now.table_id.slots t.0 t.1 (drop c.loop-room._room rooms) t.2 (near_drop c.args.words.now.table_id.slots c.loop-room._room rooms c.requires.near) in
     let table = c.requires.table in
-    (search rules, search rules, skips _ _ _ c.loop-room.seat.me (λ e. c.requires.rest.3 (ap (λ m. m.0.known.share) (sym c.loop-room.invariant.1) ∙ e)))
+    (search rules, search rules, skips _ _ _ c.loop-room.seat.me (λ e. c.requires.named (ap (λ m. m.0.known.share) (sym c.loop-room.invariant.1) ∙ e)))
 
 pub loop-room-preserved : goal.loop-room-preserved
 loop-room-preserved g c =

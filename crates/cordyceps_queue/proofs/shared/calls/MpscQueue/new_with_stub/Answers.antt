@@ -1,5 +1,6 @@
 use Rattle.std.proofs.Common.{Some, ap, sym, ◌∙◌}
 use Rattle.cordyceps_shared.specs.Standings.{new_party}
+use Rattle.cordyceps_queue.specs.Shared.Calls.{capacity}
 use Rattle.cordyceps_queue.proofs.shared.calls.MpscQueue.new_with_stub.Goals as goal
 
 pub returns : goal.returns
@@ -7,4 +8,4 @@ returns g c = c.in-Err.ensures.value_returned
 
 pub returns-in-Ok-new : goal.returns-in-Ok-new
 returns-in-Ok-new g c =
-    (ap (λ v. Some v) c.in-Ok-new.ensures.kept, c.in-Ok.ensures.1 ∙ sym (ap (λ q. new_party q.table c.args.rooms) c.queue.view_is))
+    (ap (λ v. Some v) c.in-Ok-new.ensures.kept, c.in-Ok.ensures.1 ∙ sym (ap (λ q. new_party q.table c.args.rooms) c.queue.view_is), ap (λ q. capacity q.table) c.queue.view_is ∙ c.in-Ok.ensures.2)

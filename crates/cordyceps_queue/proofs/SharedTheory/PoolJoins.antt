@@ -1,0 +1,152 @@
+-- What the parts of a refill come to together, and of giving rooms back to the pool.
+use Rattle.std.proofs.Common.{◌≡◌, ◌≢◌, ℕ, suc, ◌+◌, ◌-◌, ◌≤◌, ◌<◌, List, [], ◌∷◌, ◌++◌, length, take, refl, sym, ap, ◌∙◌, subst, inl, inr, ⊎_elim, arith, length-append}
+use Rattle.atomic_table.specs.Seated.{TableId}
+use Rattle.cordyceps_base.specs.declared.shared.TheConstants.{MAX_ROOMS}
+use Rattle.cordyceps_shared.specs.FreeChains.{FreeChain, Tracks, IsTied, MayJoin, leads, first_rooms}
+use Rattle.cordyceps_shared.specs.Histories.{plain}
+use Rattle.cordyceps_shared.specs.Knowing.{Known, Grown}
+use Rattle.cordyceps_shared.specs.Places.{ItemAt}
+use Rattle.cordyceps_shared.specs.Pools.{packed, Fits, Packs}
+use Rattle.cordyceps_shared.specs.Shares.{Name}
+use Rattle.cordyceps_shared.specs.Slots.{Near}
+use Rattle.cordyceps_shared.specs.declared.free.FreeRooms.{FreeRooms}
+use Rattle.cordyceps_shared.proofs.Places.{near_append, near_take}
+use Rattle.cordyceps_shared.proofs.Pools.{unpacked, some_in_pool}
+use Rattle.cordyceps_shared.proofs.TrackRooms.{first_room, last_room, tracks_giving}
+use Rattle.cordyceps_queue.specs.declared.cores.stage.Stage.TheVariants.{Rest}
+use Rattle.cordyceps_queue.specs.declared.shared.spare.Spare.{Spare}
+use Rattle.cordyceps_queue.specs.History.{Event, held, actor}
+use Rattle.cordyceps_queue.specs.Shared.Parts.{TracksEnd, MayReturn, Relinked, Refills}
+use Rattle.cordyceps_queue.specs.Shared.Plays.{SeatState, LegalReversed, IsResting, IsHolding, FindsPool, carry}
+use Rattle.cordyceps_queue.specs.Shared.View.{View, free_chain, back_chain, view_returned, cleared_count}
+use Rattle.cordyceps_queue.proofs.SharedTheory.PartsJoin.{near_parts, may_join}
+use Rattle.cordyceps_queue.proofs.SharedTheory.SpareRooms.{tracks_joined}
+use Rattle.cordyceps_queue.proofs.SharedTheory.WordsAsMachine.{at_after}
+
+-- the word that leads to the first of some rooms
+leads_first : (free : FreeRooms) (chain : FreeChain) → Tracks free chain → 0 < free.count → leads chain.rooms chain.end ≡ free.first
+leads_first free chain t some_of =
+    let f = first_room free chain t some_of in
+    let low = f.2 in
+    let e = ap (λ l. leads l chain.end) f.1 in omega arith
+
+-- ---- rooms are given back
+pub fits_given : (z : TableId) (n last : ℕ) (free : FreeRooms) (chain : FreeChain) → Near z.slots chain.rooms → z.slots ≤ suc MAX_ROOMS → length chain.rooms ≤ z.slots → Tracks free chain → n ≤ free.count → n ≢ 0
+    → ((before : List ℕ) (r : ℕ) → take n chain.rooms ≡ before ++ r ∷ [] → last ≡ r) → Fits record { first = free.first; last = last; count = n }
+fits_given z n last free chain near_all many few t low some_of is =
+    let given = tracks_giving free chain n last t low is in
+    let near = near_take z.slots n chain.rooms near_all in
+    let end = last_room z.slots record { first = free.first; last = last; count = n } (first_rooms n chain) given (omega arith) near in
+    let start = first_room record { first = free.first; last = last; count = n } (first_rooms n chain) given (omega arith) in
+    let inside = near 0 (free.first - 1) (subst (λ l. ItemAt l 0 (free.first - 1)) (sym start.1) refl) in
+    let count = t.count in
+    record { first = (let s = start.2 in omega arith); last = (let e = end.2 in omega arith); count = omega arith }
+
+pub packs_given : (n last word : ℕ) (free : FreeRooms) (chain : FreeChain) → word ≡ packed record { first = free.first; last = last; count = n } → Fits record { first = free.first; last = last; count = n } → Tracks free chain → n ≤ free.count → n ≢ 0
+    → ((before : List ℕ) (r : ℕ) → take n chain.rooms ≡ before ++ r ∷ [] → last ≡ r) → Packs word (first_rooms n chain)
+packs_given n last word free chain is fits t low some_of last_is = record {
+  rooms = record { first = free.first; last = last; count = n };
+  is = is;
+  fits = fits;
+  tracks = tracks_giving free chain n last t low last_is;
+  some_of = omega arith;
+}
+
+module _ {E : Type 0} where
+  -- ---- which slots a party may give back
+  pub near_back : (slots : ℕ) (m : SeatState E) → MayReturn slots m → Near slots m.0.back
+  near_back slots m r i x a = r.near (length m.0.free + i) x (at_after m.0.free m.0.back i x a)
+
+  pub rests_return : (slots : ℕ) (m : SeatState E) → IsResting slots m → MayReturn slots m
+  rests_return slots m q = record {
+    carries = q.2 ∙ ap (λ (l : List ℕ). carry l) (sym q.1);
+    named = q.3;
+    near = near_parts slots m.0.free m.0.free m.0.back refl q.1 q.4;
+    joins = may_join m.0 q.1;
+  }
+
+  pub holds_return : (slots t : ℕ) (m : SeatState E) → IsHolding slots t m → MayReturn slots m
+  holds_return slots t m q = record { carries = q.1; named = q.2; near = q.3; joins = q.5 }
+
+  -- ---- a refill
+  -- the party has the pool's rooms, to which its free ones lead; what was unpacked tracks them
+  pub record IsFilled (slots : ℕ) (taken : FreeRooms) (m p l : SeatState E) : Type 0 where
+    pub tracks : Tracks taken (back_chain l.0)
+    pub some_of : 0 < taken.count
+    pub near : Near slots l.0.back
+    pub carries : l.1 ≡ carry l.0.back
+    pub stage : l.0.stage ≡ Rest
+    pub free : l.0.free ≡ m.0.free
+    pub back : l.0.back ≡ p.0.back
+    pub known : l.0.known ≡ p.0.known
+    pub joins : MayJoin (free_chain l.0) (back_chain l.0)
+
+  pub unpacks : (slots found : ℕ) (taken : FreeRooms) (m p : SeatState E) → FindsPool slots found m p → found ≢ 0 → packed taken ≡ found → Fits taken → Tracks taken (back_chain p.0) × (0 < taken.count)
+  unpacks slots found taken m p d ne is fits = unpacked found (back_chain p.0) taken (some_in_pool found (back_chain p.0) d.leads ne) is fits
+
+  pub first_near : (slots found : ℕ) (taken : FreeRooms) (m p : SeatState E) → FindsPool slots found m p → found ≢ 0 → packed taken ≡ found → Fits taken → taken.first ≤ slots
+  first_near slots found taken m p d ne is fits =
+      let u = unpacks slots found taken m p d ne is fits in
+      let f = first_room taken (back_chain p.0) u.0 u.1 in
+      let low = d.near 0 (taken.first - 1) (subst (λ l. ItemAt l 0 (taken.first - 1)) (sym f.1) refl) in
+      omega arith
+
+  pub filled : (slots found : ℕ) (taken : FreeRooms) (m p l : SeatState E) → FindsPool slots found m p → found ≢ 0 → packed taken ≡ found → Fits taken → Relinked p l → IsTied (free_chain l.0) taken.first → IsFilled slots taken m p l
+  filled slots found taken m p l d ne is fits r tied =
+      let u = unpacks slots found taken m p d ne is fits in
+      let same : back_chain l.0 ≡ back_chain p.0 = ap (λ (v : View E). back_chain v) r.view in
+      let rooms : l.0.back ≡ p.0.back = ap (λ (c : FreeChain). c.rooms) same in
+      let tracks : Tracks taken (back_chain l.0) = subst (Tracks taken) (sym same) u.0 in record {
+        tracks = tracks;
+        some_of = u.1;
+        near = subst (Near slots) (sym rooms) d.near;
+        carries = r.hand ∙ (d.hand ∙ ap (λ (l : List ℕ). carry l) (sym rooms));
+        stage = ap (λ (v : View E). v.stage) r.view ∙ d.stage;
+        free = ap (λ (v : View E). v.free) r.view ∙ ap (λ (c : FreeChain). c.rooms) d.free;
+        back = rooms;
+        known = ap (λ (v : View E). v.known) r.view;
+        joins = ⊎_elim (λ e. inl e) (λ e. inr (inr (e ∙ sym (leads_first taken (back_chain l.0) tracks u.1)))) tied;
+      }
+
+  pub filled_returns : (slots found : ℕ) (taken : FreeRooms) (m p l : SeatState E) → IsResting slots m → FindsPool slots found m p → IsFilled slots taken m p l → MayReturn slots l
+  filled_returns slots found taken m p l q d f = record {
+    carries = f.carries;
+    named = λ e. q.3 (sym (ap (λ (z : Known (Event Name E)). z.share) f.known ∙ d.sees.share) ∙ e);
+    near = subst (λ z. Near slots (z ++ l.0.back)) (sym f.free) (near_append slots m.0.free l.0.back q.4 f.near);
+    joins = f.joins;
+  }
+
+  pub filled_last : (slots : ℕ) (taken : FreeRooms) (m p l : SeatState E) → IsFilled slots taken m p l → (before : List ℕ) × (l.0.back ≡ before ++ taken.last ∷ [])
+  filled_last slots taken m p l f = let t = last_room slots taken (back_chain l.0) f.tracks f.some_of f.near in (t.0, t.1)
+
+  pub refilled : (slots found : ℕ) (taken : FreeRooms) (m p l k : SeatState E) → IsResting slots m → FindsPool slots found m p → IsFilled slots taken m p l → k ≡ (view_returned l.0, []) → Refills slots taken.count m k
+  refilled slots found taken m p l k q d f g =
+      let v : k.0 ≡ view_returned l.0 = ap (λ (z : SeatState E). z.0) g in
+      let known : k.0.known ≡ p.0.known = ap (λ (z : View E). z.known) v ∙ f.known in
+      let free : k.0.free ≡ m.0.free ++ l.0.back = ap (λ (z : View E). z.free) v ∙ ap (λ z. z ++ l.0.back) f.free in
+      let long = ap (λ (z : List ℕ). length z) free in
+      let sum = length-append m.0.free l.0.back in
+      let count = f.tracks.count in record {
+        rests = (
+          ap (λ (z : View E). z.stage) v ∙ f.stage,
+          ap (λ (z : View E). z.back) v,
+          ap (λ (z : SeatState E). z.1) g,
+          (λ e. q.3 (sym (ap (λ (z : Known (Event Name E)). z.share) known ∙ d.sees.share) ∙ e)),
+          subst (Near slots) (sym free) (near_append slots m.0.free l.0.back q.4 f.near),
+        );
+        free = omega arith;
+        sees = subst (λ (z : Known (Event Name E)). Grown actor LegalReversed m.0.known [] z) (sym known) d.sees;
+        all = λ is_whole.
+            let all = d.all is_whole in
+            let seen = ap (λ (z : Known (Event Name E)). length (held (plain z.seen))) known in
+            let mine = ap (λ (c : FreeChain). length c.rooms) d.free in
+            let theirs = ap (λ (z : List ℕ). length z) f.back in
+            let quiet = ap cleared_count d.stage in omega arith;
+      }
+
+  pub tracks_refilled : (slots end : ℕ) (spare : FreeRooms) (taken : FreeRooms) (m p l k : SeatState E) → IsFilled slots taken m p l → k ≡ (view_returned l.0, []) → Tracks spare (free_chain l.0) → (l.0.free ≡ [] → spare.first ≡ taken.first) → end ≡ l.0.to
+      → TracksEnd record { rooms = record { first = spare.first; last = taken.last; count = spare.count + taken.count }; end = end } (free_chain k.0)
+  tracks_refilled slots end spare taken m p l k f g tracks first is =
+      let other : Spare = record { rooms = taken; end = end } in
+      subst (λ (c : FreeChain). TracksEnd record { rooms = record { first = spare.first; last = taken.last; count = spare.count + taken.count }; end = end } c) (sym (ap (λ (z : SeatState E). free_chain z.0) g))
+      (tracks_joined spare other (free_chain l.0) (back_chain l.0) tracks record { tracks = f.tracks; end = λ _. is } f.some_of first)

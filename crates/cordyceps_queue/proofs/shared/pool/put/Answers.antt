@@ -1,0 +1,25 @@
+use Rattle.std.proofs.Common.{◌≡◌, sym, subst, drop, rules, eq-eqb, ne_eqb}
+use mathlib.Core.Logic.{dite}
+use native.Mathlib.Decide.{ℕ_discrete}
+use Rattle.cordyceps_shared.specs.FreeChains.{first_rooms}
+use Rattle.cordyceps_shared.specs.Pools.{Packs}
+use Rattle.cordyceps_queue.specs.Shared.Parts.{GivesBack}
+use Rattle.cordyceps_queue.specs.Shared.View.{free_chain}
+use Rattle.cordyceps_queue.proofs.SharedTheory.PoolKeeps.{gives}
+use Rattle.cordyceps_queue.proofs.shared.pool.put.Goals as goal
+
+pub compare_exchange-requires : goal.compare_exchange-requires
+compare_exchange-requires g c =
+    let r = c.requires.bare in
+    let t = c.requires.table in
+    (search rules, search rules, gives _ _ g.B.Count.rooms c.args.word _ r.0 r.1 (subst (λ n. Packs c.args.word (first_rooms n (free_chain c.args.seat.now.me.0))) (sym c.requires.count) c.requires.packs))
+
+pub returns-clause-gives : goal.returns-clause-gives
+returns-clause-gives g c =
+    let m = c.args.seat.now.me in
+    let k = c.compare_exchange.new.seat.me in
+    let found = c.compare_exchange.result in
+    let t = c.compare_exchange.ensures.2 in
+    dite (ℕ_discrete found 0)
+    (λ e. subst (λ b. GivesBack c.args.rooms b m k) (sym (eq-eqb found 0 e)) (subst (λ n. k ≡ (record m.0 { free = drop n m.0.free }, m.1)) c.requires.count (λ i. ((t.0 e).0 i, (t.0 e).1 i))))
+    (λ n. subst (λ b. GivesBack c.args.rooms b m k) (sym (ne_eqb found 0 n)) (t.1 n))
