@@ -1,5 +1,5 @@
 -- Fingers on the nodes of a chain.
-use Rattle.std.specs.Prelude.{ℕ, ◌+◌, ◌-◌, ◌<◌, length}
+use Rattle.std.specs.Prelude.{◌<◌, length}
 use Rattle.cordyceps_base.specs.Nodes.{Nodes, IsAt}
 use Rattle.cordyceps_list.specs.declared.finger.Finger.{Finger}
 use Rattle.cordyceps_list.specs.declared.finger.Fingers.{Fingers}
@@ -17,7 +17,3 @@ module _ {X : Type 0} where
   pub record FingersFit (c : Nodes X) (fs : Fingers) : Type 0 where
     pub front : FingerFits c fs.front
     pub back : fs.front.index < length c → FingerFits c fs.back
-
--- how many links are between two places
-abbrev pub moves_between : ℕ → ℕ → ℕ
-moves_between a b = (a - b) + (b - a)

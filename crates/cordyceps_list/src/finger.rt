@@ -15,7 +15,7 @@ pub(crate) struct Finger {
 }
 
 impl Finger {
-    ghost use Rattle.cordyceps_list.specs.Fingers.{IsOn, FingerFits, moves_between};
+    ghost use Rattle.cordyceps_list.specs.Fingers.{IsOn, FingerFits};
 
     /// Returns a finger after the last of `len` nodes, on no node.
     fn after_last(len: usize) -> Finger
@@ -99,42 +99,49 @@ impl Finger {
         finger
     }
 
-    /// Moves along one link, towards the index `to`, and counts the move.
-    fn moved<T>(self, chain: &DoubleChain<T>, to: usize, steps: &mut Steps) -> Finger
+    /// Moves on to the index `to`, which is not before this one, and counts the moves.
+    pub(crate) fn walked_on_in<T>(
+        self,
+        chain: &DoubleChain<T>,
+        to: usize,
+        steps: &mut Steps,
+    ) -> Finger
         requires on { IsOn chain.now self }
         requires inside { to < length chain.now }
-        requires away { self.index ≡ to → ⊥ }
-        requires room { steps.old + 1 < 2 ^ 64 }
-        ensures on { IsOn chain.now result }
-        ensures nearer { moves_between result.index to + 1 ≡ moves_between self.index to }
-        ensures counted { steps.new ≡ steps.old + 1 }
-    {
-        count_one(steps);
-        if self.index < to {
-            Finger {
-                address: chain.next(self.address, self.index),
-                index: self.index + 1,
-            }
-        } else {
-            Finger {
-                address: chain.prev(self.address, self.index),
-                index: self.index - 1,
-            }
-        }
-    }
-
-    /// Moves to the index `to`, and counts the moves.
-    pub(crate) fn walked_in<T>(self, chain: &DoubleChain<T>, to: usize, steps: &mut Steps) -> Finger
-        requires on { IsOn chain.now self }
-        requires inside { to < length chain.now }
-        requires room { steps.old + moves_between self.index to < 2 ^ 64 }
+        requires ahead { self.index ≤ to }
+        requires room { steps.old + (to - self.index) < 2 ^ 64 }
         ensures on { IsOn chain.now result }
         ensures arrived { result.index ≡ to }
-        ensures counted { steps.new ≡ steps.old + moves_between self.index to }
+        ensures counted { steps.new ≡ steps.old + (to - self.index) }
     {
         let mut finger = self;
-        while finger.index != to {
-            finger = finger.moved(chain, to, steps);
+        while finger.index < to {
+            count_one(steps);
+            finger.address = chain.next(finger.address, finger.index);
+            finger.index += 1;
+        }
+        finger
+    }
+
+    /// Moves back to the index `to`, which is not after this one, and counts the moves.
+    pub(crate) fn walked_back_in<T>(
+        self,
+        chain: &DoubleChain<T>,
+        to: usize,
+        steps: &mut Steps,
+    ) -> Finger
+        requires on { IsOn chain.now self }
+        requires behind { to ≤ self.index }
+        requires room { steps.old + (self.index - to) < 2 ^ 64 }
+        ensures on { IsOn chain.now result }
+        ensures arrived { result.index ≡ to }
+        ensures counted { steps.new ≡ steps.old + (self.index - to) }
+    {
+        let mut finger = self;
+        while to < finger.index {
+            count_one(steps);
+            finger.address = chain.prev(finger.address, finger.index);
+            finger.index -= 1;
         }
         finger
     }

@@ -286,13 +286,12 @@ fn node_before<T>(chain: &DoubleChain<T>, index: usize, steps: &mut Steps) -> Ad
     ensures counted { steps.new ≡ steps.old + min (index - 1) (length chain.now - index) }
 {
     let before = index - 1;
-    let len = chain.len();
-    let end = if before <= len - index {
-        Finger::at_head(chain)
+    let finger = if before <= chain.len() - index {
+        Finger::at_head(chain).walked_on_in(chain, before, steps)
     } else {
-        Finger::at_tail(chain)
+        Finger::at_tail(chain).walked_back_in(chain, before, steps)
     };
-    end.walked_in(chain, before, steps).address
+    finger.address
 }
 
 impl<T: Linked<Links<T>>> List<T> {

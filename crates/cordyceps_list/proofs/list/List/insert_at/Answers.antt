@@ -1,4 +1,4 @@
-use Rattle.std.proofs.Common.{◌≤◌, ◌+◌, [], ◌∷◌, ◌++◌, length, take, drop, refl, ap, ◌∙◌, arith, length-append, length-drop}
+use Rattle.std.proofs.Common.{◌≤◌, ◌+◌, [], ◌∷◌, length, take, drop, refl, ap, ◌∙◌, arith, length-append, length-drop}
 use Rattle.std.proofs.lemmas.List.{length-map, length-take}
 use Rattle.cordyceps_base.specs.Nodes.{elements}
 use Rattle.cordyceps_base.proofs.Places.{elements-linked}
