@@ -38,6 +38,10 @@ module _ {X : Type 0} where
   abbrev pub IsMovedBack : Nodes X → Ptr → Nodes X → Type 0
   IsMovedBack c p d = (e : Element X) × (rest : Nodes X) × IsTaken c p e rest × (d ≡ rest ++ (p, e) ∷ [])
 
+  -- the node at p comes right after that at q, and keeps its spot; the others keep their order
+  abbrev pub IsMovedAfter : Nodes X → Ptr → Ptr → Nodes X → Type 0
+  IsMovedAfter c p q d = (e : Element X) × (rest : Nodes X) × IsTaken c p e rest × IsPutAfter rest q p e d
+
   -- the first node is at p
   abbrev pub IsFirst : Nodes X → Ptr → Type 0
   IsFirst c p = (e : Element X) × (after : Nodes X) × (c ≡ (p, e) ∷ after)

@@ -79,19 +79,26 @@ pub(crate) fn preceded_by<T>(
     }
 }
 
-/// Links a node between the front part of a chain and the back part. Returns its address and the whole.
-pub(crate) fn between<T: Drop>(
-    front: Part<T>,
-    node: Node<T, Links<T>>,
-    back: Part<T>,
-) -> (Address, Part<T>)
+/// Makes a row of one node, and returns its address too.
+pub(crate) fn row_of<T: Drop>(node: Node<T, Links<T>>) -> (Address, Row<T>)
+    ensures one { (a : Global) × (x : Block T) × (result.1.blocks ≡ (result.0.ptr, a, x) ∷ []) }
+    ensures holds { nodes_of result.1.blocks ≡ (result.0.ptr, node) ∷ [] }
+{
+    let Node { block, kind: _ } = node;
+    let (at, _, row) = Boxes::one(RawBox::from_box(block));
+    (at, row)
+}
+
+/// Links the one node of a row, which is at `at`, between the front part of a chain and the back part.
+pub(crate) fn between<T>(front: Part<T>, at: Address, one: Row<T>, back: Part<T>) -> Part<T>
+    requires one { (a : Global) × (x : Block T) × (one.blocks ≡ (at.ptr, a, x) ∷ []) }
     requires front { (q : Ptr) × Segment null_ptr front.first.ptr front.row.blocks front.last.ptr q }
     requires back { (p : Ptr) × Segment p back.first.ptr back.row.blocks back.last.ptr null_ptr }
     requires front_comparable { AreNullComparable (box_addresses front.row.blocks) }
     requires back_comparable { AreNullComparable (box_addresses back.row.blocks) }
-    ensures linked { Segment null_ptr result.1.first.ptr result.1.row.blocks result.1.last.ptr null_ptr }
-    ensures holds { nodes_of result.1.row.blocks
-        ≡ nodes_of front.row.blocks ++ (result.0.ptr, node) ∷ nodes_of back.row.blocks }
+    ensures linked { Segment null_ptr result.first.ptr result.row.blocks result.last.ptr null_ptr }
+    ensures holds { nodes_of result.row.blocks
+        ≡ nodes_of front.row.blocks ++ (nodes_of one.blocks ++ nodes_of back.row.blocks) }
 {
     let Part {
         first: head,
@@ -103,15 +110,13 @@ pub(crate) fn between<T: Drop>(
         last: tail,
         row: back,
     } = back;
-    let Node { block, kind: _ } = node;
-    let (at, _, one) = Boxes::one(RawBox::from_box(block));
     let mut one = one;
     one.get_mut(at, 0).links.next = next;
     one.get_mut(at, 0).links.prev = prev;
     let (first, front) = followed_by(front, head, prev, at);
     let (last, back) = preceded_by(back, next, tail, at);
     let row = front.join(one.join(back));
-    (at, Part { first, last, row })
+    Part { first, last, row }
 }
 
 /// Removes node `k`, which is at `at` and has a neighbour on either side. Returns the node and the row.

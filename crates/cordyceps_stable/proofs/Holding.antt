@@ -125,6 +125,9 @@ module _ {X : Type 0} where
     | inr on ↦ on
   ]
 
+  pub others_stay : (c d : Nodes X) (p q : Ptr) (e : Element X) → IsTaken c p e d → HasSpot c q → (p ≡ q → ⊥) → HasSpot d q
+  others_stay c d p q e t (k, at) other = let (o, lies) = has_split c k q at in spot_is_at d q o (others_are_at c d p q e o t lies (λ same. other (sym same)))
+
   -- two lists that are the same without the element at a spot hold the same, as before and after a move
   pub moved_is_at : (c d rest : Nodes X) (p q : Ptr) (e o : Element X) → IsTaken c p e rest → IsTaken d p e rest → HasElementAt c q o → HasElementAt d q o
   moved_is_at c d rest p q e o was is lies = elim (taken_or_left c rest p q e o was lies) as (λ _. HasElementAt d q o) [

@@ -1,9 +1,9 @@
 //! A list whose elements are reached by their spots.
-ghost use Rattle.std.specs.Prelude.{◌≡◌, ◌+◌, ◌<◌, ◌≤◌, ◌==◌, [], ◌∷◌, ◌++◌, length, slice_get, MatchOption, MatchResult, Some, None};
+ghost use Rattle.std.specs.Prelude.{◌≡◌, ◌≢◌, ◌+◌, ◌<◌, ◌≤◌, ◌==◌, [], ◌∷◌, ◌++◌, length, slice_get, MatchOption, MatchResult, Some, None};
 ghost use Rattle.std.specs.Bool.{Decides};
 ghost use Rattle.std.specs.Borrow.{sem};
 ghost use denote.RawPtr.{Ptr};
-ghost use Rattle.cordyceps_base.specs.BySpot.{HasSpot, HoldsAt, IsTaken, IsPutBefore, IsPutAfter, IsMovedFront, IsMovedBack, IsFirst, IsLast, AreNext};
+ghost use Rattle.cordyceps_base.specs.BySpot.{HasSpot, HoldsAt, IsTaken, IsPutBefore, IsPutAfter, IsMovedFront, IsMovedBack, IsMovedAfter, IsFirst, IsLast, AreNext};
 ghost use Rattle.cordyceps_base.specs.Element.{values};
 ghost use Rattle.cordyceps_base.specs.Nodes.{elements, spots};
 ghost use Rattle.cordyceps_base.specs.Spots.{index_of, AreDistinct};
@@ -487,6 +487,22 @@ impl<T: Linked<Links<T>>> StableList<T> {
         ensures distinct { AreDistinct (spots self.new) }
     {
         self.chain.move_back(at.address);
+        self.chain.keep_distinct();
+    }
+
+    /// Moves the element at `at` to right after the one at `to`. It keeps its spot, and the others their order. Requires
+    /// that both spots are valid, and that they are those of two elements.
+    ///
+    /// # Complexity
+    /// O(1).
+    pub fn move_after(&mut self, at: Spot, to: Spot)
+        requires there { HasSpot self.old at }
+        requires target { HasSpot self.old to }
+        requires other { at ≢ to }
+        ensures moved { IsMovedAfter self.old at to self.new }
+        ensures distinct { AreDistinct (spots self.new) }
+    {
+        self.chain.move_after(at.address, to.address);
         self.chain.keep_distinct();
     }
 

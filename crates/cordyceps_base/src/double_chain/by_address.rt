@@ -4,15 +4,15 @@ ghost use Rattle.std.specs.Prelude.{◌≡◌, ◌+◌, ◌^◌, ◌<◌, [], �
 ghost use Rattle.std.specs.Borrow.{sem};
 ghost use denote.RawPtr.{Ptr, null_ptr};
 ghost use Rattle.cordyceps_base.specs.Boxes.{box_addresses};
-ghost use Rattle.cordyceps_base.specs.BySpot.{HasSpot, HoldsAt, IsTaken, IsPutBefore, IsPutAfter, IsMovedFront, IsMovedBack, IsFirst, IsLast, AreNext};
+ghost use Rattle.cordyceps_base.specs.BySpot.{HasSpot, HoldsAt, IsTaken, IsPutBefore, IsPutAfter, IsMovedFront, IsMovedBack, IsMovedAfter, IsFirst, IsLast, AreNext};
 ghost use Rattle.cordyceps_base.specs.DoubleChain.{Segment};
-ghost use Rattle.cordyceps_base.specs.Element.{values};
-ghost use Rattle.cordyceps_base.specs.Nodes.{block_element, elements, nodes_of, spots};
+ghost use Rattle.cordyceps_base.specs.Element.{Element, values};
+ghost use Rattle.cordyceps_base.specs.Nodes.{Nodes, block_element, elements, nodes_of, spots};
 ghost use Rattle.cordyceps_base.specs.Spots.{index_of, AreDistinct, AreNullComparable};
 
 use super::DoubleChain;
 use crate::boxes::Address;
-use crate::double_row::{Part, Row, between, followed_by, node_of, preceded_by};
+use crate::double_row::{Part, Row, between, followed_by, node_of, preceded_by, row_of};
 use crate::list::Links;
 use crate::node::{Block, Node};
 use std::alloc::Global;
@@ -130,39 +130,35 @@ impl<T> DoubleChain<T> {
     }
 }
 
-impl<T: Drop> DoubleChain<T> {
-    /// Creates a chain of a front part, a node and a back part, and returns the address of the node too. The parts have
-    /// `len` nodes together.
-    fn of_parts(
-        front: Part<T>,
-        node: Node<T, Links<T>>,
-        back: Part<T>,
-        len: usize,
-    ) -> (DoubleChain<T>, Address)
+impl<T> DoubleChain<T> {
+    /// Creates a chain of a front part, the one node of a row, which is at `at`, and a back part. The parts have `len`
+    /// nodes together.
+    fn of_parts(front: Part<T>, at: Address, one: Row<T>, back: Part<T>, len: usize) -> DoubleChain<T>
+        requires one { (a : Global) × (x : Block T) × (one.blocks ≡ (at.ptr, a, x) ∷ []) }
         requires front { (q : Ptr) × Segment null_ptr front.first.ptr front.row.blocks front.last.ptr q }
         requires back { (p : Ptr) × Segment p back.first.ptr back.row.blocks back.last.ptr null_ptr }
         requires front_comparable { AreNullComparable (box_addresses front.row.blocks) }
         requires back_comparable { AreNullComparable (box_addresses back.row.blocks) }
         requires len { len ≡ length front.row.blocks + length back.row.blocks }
         requires fits { len + 1 < 2 ^ 64 }
-        ensures { result.0 ≡ nodes_of front.row.blocks ++ (result.1.ptr, node) ∷ nodes_of back.row.blocks }
+        ensures { result ≡ nodes_of front.row.blocks ++ (nodes_of one.blocks ++ nodes_of back.row.blocks) }
     {
-        let (new, whole) = between(front, node, back);
+        let whole = between(front, at, one, back);
         let Part { first, last, row } = whole;
-        let chain = DoubleChain {
+        DoubleChain {
             head: first,
             tail: last,
             len: len + 1,
             boxes: row.null_comparable(),
-        };
-        (chain, new)
+        }
     }
 
-    /// Inserts a node before the one at `at`, and returns its address too.
-    fn with_before(self, at: Address, node: Node<T, Links<T>>) -> (DoubleChain<T>, Address)
+    /// Inserts the one node of a row, which is at `new`, before the one at `at`.
+    fn with_before(self, at: Address, new: Address, one: Row<T>) -> DoubleChain<T>
         requires there { HasSpot self at.ptr }
+        requires one { (a : Global) × (x : Block T) × (one.blocks ≡ (new.ptr, a, x) ∷ []) }
         requires fits { length self + 1 < 2 ^ 64 }
-        ensures { IsPutBefore self at.ptr result.1.ptr node result.0 }
+        ensures { (e : Element T) → nodes_of one.blocks ≡ (new.ptr, e) ∷ [] → IsPutBefore self at.ptr new.ptr e result }
     {
         let DoubleChain {
             head,
@@ -181,14 +177,15 @@ impl<T: Drop> DoubleChain<T> {
             last: tail,
             row: back,
         };
-        DoubleChain::of_parts(before, node, rest, len)
+        DoubleChain::of_parts(before, new, one, rest, len)
     }
 
-    /// Inserts a node after the one at `at`, and returns its address too.
-    fn with_after(self, at: Address, node: Node<T, Links<T>>) -> (DoubleChain<T>, Address)
+    /// Inserts the one node of a row, which is at `new`, after the one at `at`.
+    fn with_after(self, at: Address, new: Address, one: Row<T>) -> DoubleChain<T>
         requires there { HasSpot self at.ptr }
+        requires one { (a : Global) × (x : Block T) × (one.blocks ≡ (new.ptr, a, x) ∷ []) }
         requires fits { length self + 1 < 2 ^ 64 }
-        ensures { IsPutAfter self at.ptr result.1.ptr node result.0 }
+        ensures { (e : Element T) → nodes_of one.blocks ≡ (new.ptr, e) ∷ [] → IsPutAfter self at.ptr new.ptr e result }
     {
         let DoubleChain {
             head,
@@ -198,20 +195,32 @@ impl<T: Drop> DoubleChain<T> {
         } = self;
         let (front, back) = boxes.cut_at(at);
         let next = back.get(at, 0).links.next;
-        let (one, rest) = back.cut(1);
+        let (same, rest) = back.cut(1);
         let before = Part {
             first: head,
             last: at,
-            row: front.join(one),
+            row: front.join(same),
         };
         let after = Part {
             first: next,
             last: tail,
             row: rest,
         };
-        DoubleChain::of_parts(before, node, after, len)
+        DoubleChain::of_parts(before, new, one, after, len)
     }
 
+    /// Moves the node at `at` to right after the one at `to`, which is another. It keeps its address.
+    pub fn move_after(&mut self, at: Address, to: Address)
+        requires there { HasSpot self.old at.ptr }
+        requires other { (e : Element T) (rest : Nodes T) → IsTaken self.old at.ptr e rest → HasSpot rest to.ptr }
+        ensures { IsMovedAfter self.old at.ptr to.ptr self.new }
+    {
+        let (rest, one) = self.take().separate(at);
+        self.put(rest.with_after(to, at, one));
+    }
+}
+
+impl<T: Drop> DoubleChain<T> {
     /// Inserts a node before the one at `at` and returns its address. Requires a length below `usize::MAX`.
     pub fn link_before(&mut self, at: Address, node: Node<T, Links<T>>) -> Address
         requires there { HasSpot self.old at.ptr }
@@ -219,7 +228,8 @@ impl<T: Drop> DoubleChain<T> {
         ensures holds { IsPutBefore self.old at.ptr result.ptr node self.new }
         ensures distinct { AreDistinct (spots self.new) }
     {
-        let (nodes, new) = self.take().with_before(at, node);
+        let (new, one) = row_of(node);
+        let nodes = self.take().with_before(at, new, one);
         self.put(nodes.distinct());
         new
     }
@@ -231,7 +241,8 @@ impl<T: Drop> DoubleChain<T> {
         ensures holds { IsPutAfter self.old at.ptr result.ptr node self.new }
         ensures distinct { AreDistinct (spots self.new) }
     {
-        let (nodes, new) = self.take().with_after(at, node);
+        let (new, one) = row_of(node);
+        let nodes = self.take().with_after(at, new, one);
         self.put(nodes.distinct());
         new
     }

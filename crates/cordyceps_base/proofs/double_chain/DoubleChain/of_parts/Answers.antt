@@ -1,4 +1,4 @@
-use Rattle.std.proofs.Common.{◌+◌, ap, ◌∙◌, sym, subst}
+use Rattle.std.proofs.Common.{◌+◌, ◌++◌, ap, ◌∙◌, sym, subst}
 use denote.RawPtr.{null_ptr}
 use Rattle.cordyceps_base.specs.Boxes.{box_addresses}
 use Rattle.cordyceps_base.specs.DoubleChain.{Segment}
@@ -7,10 +7,10 @@ use Rattle.cordyceps_base.specs.Spots.{AreNullComparable}
 use Rattle.cordyceps_base.proofs.Segments.{put_length}
 use Rattle.cordyceps_base.proofs.double_chain.DoubleChain.of_parts.Goals as goal
 
-pub invariant_of-chain : goal.invariant_of-chain
-invariant_of-chain g c =
-    let whole = c.between-whole.result.1 in (
-      ap (λ l. l + 1) c.requires.len ∙ put_length c.null_comparable.result.blocks c.args.front.row.blocks c.args.back.row.blocks _ (ap nodes_of c.null_comparable.ensures.0 ∙ c.between-whole.ensures.holds),
+pub invariant_of-result : goal.invariant_of-result
+invariant_of-result g c =
+    let whole = c.between-whole.result in let (a, x, one) = c.requires.one in let front = c.args.front.row.blocks in let back = c.args.back.row.blocks in (
+      ap (λ l. l + 1) c.requires.len ∙ put_length c.null_comparable.result.blocks front back _ (ap nodes_of c.null_comparable.ensures.0 ∙ c.between-whole.ensures.holds ∙ (λ i. nodes_of front ++ (nodes_of (one i) ++ nodes_of back))),
       subst (λ ls. AreNullComparable (box_addresses ls)) (sym c.null_comparable.ensures.0) c.null_comparable.ensures.1,
       subst (λ ls. Segment null_ptr whole.first.ptr ls whole.last.ptr null_ptr) (sym c.null_comparable.ensures.0) c.between-whole.ensures.linked,
     )

@@ -1,4 +1,4 @@
-use Rattle.std.proofs.Common.{◌∙◌, refl}
+use Rattle.std.proofs.Common.{◌++◌, ap, ◌∙◌, refl}
 use Rattle.cordyceps_base.specs.Nodes.{nodes_of, block_element}
 use Rattle.cordyceps_base.proofs.Segments.{cut, front_linked, back_linked, front_comparable, all_comparable, both_lengths, taken_is, back_shown}
 use Rattle.cordyceps_base.proofs.double_chain.DoubleChain.with_before.Goals as goal
@@ -34,6 +34,7 @@ of_parts-requires-clause-len g c =
     c.self.invariant.0 ∙ both_lengths u
 
 pub returns : goal.returns
-returns g c =
+returns g c e is =
     let u = cut c.self.view_is c.requires.there c.self.invariant c.cut_at-front.ensures in
-    (nodes_of c.cut_at-front.result.0.blocks, block_element u.node.2, nodes_of u.after, taken_is u c.args.self u.node.2 c.self.view_is refl, back_shown u _ _ c.of_parts.ensures)
+    let front = nodes_of c.cut_at-front.result.0.blocks in let back = nodes_of c.cut_at-front.result.1.blocks in
+    (front, block_element u.node.2, nodes_of u.after, taken_is u c.args.self u.node.2 c.self.view_is refl, back_shown u _ _ (c.of_parts.ensures ∙ ap (λ l. front ++ (l ++ back)) is))
