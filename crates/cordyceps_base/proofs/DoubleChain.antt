@@ -162,7 +162,7 @@ module _ {X : Type 0} where
         (ap (λ j. j - k) long ∙ same ∙ sym (ap length is ∙ length-set_value (drop k ns) 0 (with_prev b no')), a, subst (λ (s : List (OwnedNode X) × Ptr). Segment s.1 r s.0 t null_ptr) (λ i. (sym is i, null' i)) on)
 
   -- ---- a value is written
-  segment_keep : (p h : Ptr) (ns : List (OwnedNode X)) (t q : Ptr) (k : ℕ) (b : Block X) (w : X) → Segment p h ns t q → slice_get (box_values ns) k ≡ Some b → Segment p h (set_value ns k (with_content b w)) t q
+  pub segment_keep : (p h : Ptr) (ns : List (OwnedNode X)) (t q : Ptr) (k : ℕ) (b : Block X) (w : X) → Segment p h ns t q → slice_get (box_values ns) k ≡ Some b → Segment p h (set_value ns k (with_content b w)) t q
   segment_keep p h [] t q k b w f e = f
   segment_keep p h (n ∷ ns) t q zero b w f e = let same : n.2 ≡ b = cc in (f.0, ap (λ (x : Block X). prev_of x) (sym same) ∙ f.1, subst (λ (x : Block X). Segment n.0 (next_of x) ns t q) same f.2)
   segment_keep p h (n ∷ ns) t q (suc k) b w f e = (f.0, f.1, segment_keep n.0 (next_of n.2) ns t q k b w f.2 e)

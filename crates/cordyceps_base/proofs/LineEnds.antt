@@ -26,16 +26,16 @@ not_zero n = (elim (suc n == 0) as (λ z. (suc n == 0) ≡ z → (suc n == 0) �
 
 module _ {X : Type 0} where
   pub line_testable : (h : Ptr) (ns : Row X) → IsDoubleLine h ns → Testable h
-  line_testable h ns l = first_testable null_ptr h ns l.1.0 l.1.1 l.0
+  line_testable h ns l = first_testable l.prev h ns l.last l.linked l.comparable
 
   pub line_empty : (h : Ptr) (ns : Row X) (c : Nodes X) (r : Bool) → nodes_of ns ≡ c → IsDoubleLine h ns → MatchBool r (InBlock h) (h ≡ null_ptr) → not r ≡ (length c == 0)
-  line_empty h [] c true seen l m = absurd (subst InBlock l.1.1.0 m)
+  line_empty h [] c true seen l m = absurd (subst InBlock l.linked.0 m)
   line_empty h (n ∷ ns) c true seen l m = subst (λ (s : Nodes X). not true ≡ (length s == 0)) seen (sym (not_zero (length (nodes_of ns))))
   line_empty h [] c false seen l m = subst (λ (s : Nodes X). not false ≡ (length s == 0)) seen refl
-  line_empty h (n ∷ ns) c false seen l m = absurd (subst InBlock (sym l.1.1.0 ∙ m) l.0.0)
+  line_empty h (n ∷ ns) c false seen l m = absurd (subst InBlock (sym l.linked.0 ∙ m) l.comparable.0)
 
   pub line_first : (h : Ptr) (ns : Row X) (c : Nodes X) → nodes_of ns ≡ c → IsDoubleLine h ns → 0 < length c → slice_get (box_addresses ns) 0 ≡ Some h
-  line_first h ns c seen l some = let long = length_is ns c seen in first_on null_ptr h ns l.1.0 null_ptr l.1.1 (omega (arith, some, long))
+  line_first h ns c seen l some = let long = length_is ns c seen in first_on l.prev h ns l.last null_ptr l.linked (omega (arith, some, long))
 
   -- ---- the first of a line that is at the front of a row leads back to another
   pub led_there : (p h : Ptr) (l more : Row X) (t : Ptr) → Segment p h l t null_ptr → InBlock h → slice_get (box_addresses (l ++ more)) 0 ≡ Some h
@@ -111,25 +111,40 @@ module _ {X : Type 0} where
   rest_led h [] rest b l some e is = absurd (omega (arith, some))
   rest_led h (n ∷ ns) rest b l some e is =
       let same : n.2 ≡ b = cc in
-      (l.1.0, subst (λ (s : Ptr × Block X × Row X). Segment s.0 (next_of s.1) s.2 l.1.0 null_ptr) (λ i. (sym l.1.1.0 i, same i, sym is i)) l.1.1.2)
+      (l.last, subst (λ (s : Ptr × Block X × Row X). Segment s.0 (next_of s.1) s.2 l.last null_ptr) (λ i. (sym l.linked.0 i, same i, sym is i)) l.linked.2)
+
+  pub rest_line : (h : Ptr) (ns rest : Row X) (b : Block X) → IsDoubleLine h ns → 0 < length ns → slice_get (box_values ns) 0 ≡ Some b → rest ≡ drop 1 ns → AreNullComparable (box_addresses rest) → IsDoubleLine (next_of b) rest
+  rest_line h ns rest b l some e is a = let on = rest_led h ns rest b l some e is in record { comparable = a; prev = h; last = on.0; linked = on.1 }
 
   pub first_alone : (h : Ptr) (ns one : Row X) → IsDoubleLine h ns → 0 < length ns → one ≡ take 1 ns → (a : Global) × (x : Block X) × (one ≡ (h, a, x) ∷ [])
-  first_alone h ns one l some is = let (a, x, e) = first_one null_ptr h ns l.1.0 null_ptr some l.1.1 in (a, x, is ∙ e)
+  first_alone h ns one l some is = let (a, x, e) = first_one l.prev h ns l.last null_ptr some l.linked in (a, x, is ∙ e)
+
+  -- the first node, which is cut off and leads back to another
+  first_led : (h : Ptr) (ns : Row X) (b : Block X) → IsDoubleLine h ns → 0 < length ns → slice_get (box_values ns) 0 ≡ Some b → (p : Ptr) × Segment p h (take 1 ns) h (next_of b)
+  first_led h [] b l some e = absurd (omega (arith, some))
+  first_led h (n ∷ ns) b l some e = let same : n.2 ≡ b = cc in (l.prev, (l.linked.0, l.linked.1, (ap (λ (x : Block X). next_of x) same, l.linked.0)))
+
+  pub first_relinked : (h : Ptr) (ns one : Row X) (b c : Block X) (pr : Address) → IsDoubleLine h ns → 0 < length ns → slice_get (box_values ns) 0 ≡ Some b → one ≡ take 1 ns → slice_get (box_values one) 0 ≡ Some c
+      → Segment pr.ptr h (set_value one 0 (with_prev c pr)) h (next_of b)
+  first_relinked h ns one b c pr l some e is r =
+      let on = first_led h ns b l some e in relinked_first on.0 h one h (next_of b) pr c (subst (λ ls. Segment on.0 h ls h (next_of b)) (sym is) on.1) r
 
   -- the parts of what was cut off, as a contract sees them
   pub cut_shown : (h : Ptr) (ns one rest : Row X) (c d : Nodes X) → nodes_of ns ≡ c → IsDoubleLine h ns → 0 < length ns → one ≡ take 1 ns → rest ≡ drop 1 ns → nodes_of rest ≡ d → (e : Element X) × (nodes_of one ≡ (h, e) ∷ []) × (c ≡ (h, e) ∷ d)
   cut_shown h [] one rest c d seen l some f g left = absurd (omega (arith, some))
   cut_shown h (n ∷ ns) one rest c d seen l some f g left =
-      let e = block_element n.2 in let at : n.0 ≡ h = sym l.1.1.0 in
+      let e = block_element n.2 in let at : n.0 ≡ h = sym l.linked.0 in
       (e, ap nodes_of f ∙ (λ i. (at i, e) ∷ []), sym seen ∙ (λ i. (at i, e) ∷ nodes_of ns) ∙ ap (λ s. (h, e) ∷ s) (ap nodes_of (sym g) ∙ left))
 
   -- the only node of a line
   pub one_alone : (h : Ptr) (ns : Row X) (c : Nodes X) → nodes_of ns ≡ c → IsDoubleLine h ns → length c ≡ 1 → (a : Global) × (x : Block X) × (ns ≡ (h, a, x) ∷ [])
   one_alone h [] c seen l one = let long = length_is [] c seen in absurd (omega (arith, one, long))
-  one_alone h (n ∷ []) c seen l one = (n.1, n.2, λ i. (sym l.1.1.0 i, n.1, n.2) ∷ [])
+  one_alone h (n ∷ []) c seen l one = (n.1, n.2, λ i. (sym l.linked.0 i, n.1, n.2) ∷ [])
   one_alone h (n ∷ m ∷ ns) c seen l one = let long = length_is (n ∷ m ∷ ns) c seen in absurd (omega (arith, one, long))
 
-  pub one_linked : (h : Ptr) (ns : Row X) (c : Nodes X) → nodes_of ns ≡ c → IsDoubleLine h ns → length c ≡ 1 → Segment null_ptr h ns h null_ptr
-  one_linked h [] c seen l one = let long = length_is [] c seen in absurd (omega (arith, one, long))
-  one_linked h (n ∷ []) c seen l one = (l.1.1.0, l.1.1.1, (l.1.1.2.0, l.1.1.0))
-  one_linked h (n ∷ m ∷ ns) c seen l one = let long = length_is (n ∷ m ∷ ns) c seen in absurd (omega (arith, one, long))
+  -- a node that leads to nothing is a line
+  pub alone_led : (p : Ptr) (a : Global) (v : Block X) (nx : Address) (b : Block X) (one : Row X) → one ≡ (p, a, v) ∷ [] → slice_get (box_values one) 0 ≡ Some b
+      → set_value one 0 (with_next b nx) ≡ (p, a, with_next v nx) ∷ []
+  alone_led p a v nx b one e r =
+      let r' : slice_get (box_values ((p, a, v) ∷ [])) 0 ≡ Some b = subst (λ ls. slice_get (box_values ls) 0 ≡ Some b) e r in let is : v ≡ b = cc in
+      ap (λ ls. set_value ls 0 (with_next b nx)) e ∙ (λ i. (p, a, with_next (sym is i) nx) ∷ [])

@@ -32,14 +32,14 @@ module _ {X : Type 0} where
   seen_with (m ∷ ls) l = ap (λ s. nodes_of m ∷ s) (seen_with ls l)
 
   -- ---- a line more
-  pub lines_with : (hs : List Address) (ns more row : Row X) (h : Address) → AreLines hs ns → IsDoubleLine h.ptr more → row ≡ ns ++ more → AreNullComparable (box_addresses row) → AreDistinct (box_addresses row) → AreLines (hs ++ h ∷ []) row
+  pub lines_with : (hs : List Address) (ns more row : Row X) (h : Address) → AreLines hs ns → LineAt h.ptr more → row ≡ ns ++ more → AreNullComparable (box_addresses row) → AreDistinct (box_addresses row) → AreLines (hs ++ h ∷ []) row
   lines_with hs ns more row h (a, d, (ls, is, f)) l whole b e =
-      (b, e, (ls ++ more ∷ [], whole ∙ ap (λ s. s ++ more) is ∙ sym (flat_with ls more), lead_with hs ls h more f l.1))
+      (b, e, (ls ++ more ∷ [], whole ∙ ap (λ s. s ++ more) is ∙ sym (flat_with ls more), lead_with hs ls h more f l))
 
-  pub with_shown : (hs : List Address) (ns more row : Row X) (h : Address) (c : List (Nodes X)) (l : Nodes X) → AreLines hs ns → IsDoubleLine h.ptr more → row ≡ ns ++ more → AreNullComparable (box_addresses row) → AreDistinct (box_addresses row)
+  pub with_shown : (hs : List Address) (ns more row : Row X) (h : Address) (c : List (Nodes X)) (l : Nodes X) → AreLines hs ns → LineAt h.ptr more → row ≡ ns ++ more → AreNullComparable (box_addresses row) → AreDistinct (box_addresses row)
       → lines_in hs (nodes_of ns) ≡ c → nodes_of more ≡ l → lines_in (hs ++ h ∷ []) (nodes_of row) ≡ c ++ l ∷ []
   with_shown hs ns more row h c l (a, d, (ls, is, f)) w whole b e seen_c seen_l =
-      table_shows (hs ++ h ∷ []) row (ls ++ more ∷ []) (whole ∙ ap (λ s. s ++ more) is ∙ sym (flat_with ls more)) (lead_with hs ls h more f w.1) b e
+      table_shows (hs ++ h ∷ []) row (ls ++ more ∷ []) (whole ∙ ap (λ s. s ++ more) is ∙ sym (flat_with ls more)) (lead_with hs ls h more f w) b e
       ∙ seen_with ls more ∙ (λ i. (sym (table_shows hs ns ls is f a d) ∙ seen_c) i ++ seen_l i ∷ [])
 
   -- ---- a line less
@@ -64,6 +64,13 @@ module _ {X : Type 0} where
       let n : index_of h (box_addresses ns) ≡ length ns = ap (λ p. index_of p (box_addresses ns)) f.1.0 ∙ past_all ns a in
       (g ∙ ap (λ j. take j ns) n ∙ take_whole ns ∙ is ∙ append-nil xs, k ∙ ap (λ j. drop j ns) n ∙ drop_whole ns)
   line_cut ns xs (n ∷ l) front back h is f a d cut = cut_parts ns xs l front back n h is (sym f.1.0) d cut
+
+  -- a row that is taken out of a table, and cut
+  abbrev pub IsCut : Ptr → Row X → Row X → Row X → Type 0
+  IsCut p ns front back = (front ≡ take (index_of p (box_addresses ns)) ns) × (back ≡ drop (index_of p (box_addresses ns)) ns)
+
+  pub cut_of : (p : Ptr) (ns row front back : Row X) → row ≡ ns → IsCut p row front back → IsCut p ns front back
+  cut_of p ns row front back is cut = subst (λ ls. IsCut p ls front back) is cut
 
   -- what is left without the last line, and that line
   pub record Less (hs : List Address) (h : Address) (ns front back : Row X) : Type 0 where
@@ -117,7 +124,7 @@ module _ {X : Type 0} where
       let long = w.0 in let most = w.1 in
       sym (took xs n (omega (arith, long, most))) ∙ sym (lines_long (take n xs) (nodes_of ns)) ∙ ap length e
 
-  pub table_with : (xs : List Address) (n : ℕ) (ns more row : List (OwnedNode X)) (h : Address) → IsTable xs n ns → IsDoubleLine h.ptr more → n < 64 → row ≡ ns ++ more → AreNullComparable (box_addresses row) → AreDistinct (box_addresses row) → IsTable (set xs n h) (n + 1) row
+  pub table_with : (xs : List Address) (n : ℕ) (ns more row : List (OwnedNode X)) (h : Address) → IsTable xs n ns → LineAt h.ptr more → n < 64 → row ≡ ns ++ more → AreNullComparable (box_addresses row) → AreDistinct (box_addresses row) → IsTable (set xs n h) (n + 1) row
   table_with xs n ns more row h w l less is a d =
       let long = w.0 in (
         set_long xs n h ∙ long,
@@ -125,7 +132,7 @@ module _ {X : Type 0} where
         subst (λ hs. AreLines hs row) (sym (take_more_set xs n h (omega (arith, long, less)))) (lines_with (take n xs) ns more row h w.2 l is a d),
       )
 
-  pub table_with_shown : (xs : List Address) (n : ℕ) (ns more row : List (OwnedNode X)) (h : Address) (c : List (Nodes X)) (l : Nodes X) → IsTable xs n ns → IsDoubleLine h.ptr more → n < 64 → row ≡ ns ++ more → AreNullComparable (box_addresses row) → AreDistinct (box_addresses row)
+  pub table_with_shown : (xs : List Address) (n : ℕ) (ns more row : List (OwnedNode X)) (h : Address) (c : List (Nodes X)) (l : Nodes X) → IsTable xs n ns → LineAt h.ptr more → n < 64 → row ≡ ns ++ more → AreNullComparable (box_addresses row) → AreDistinct (box_addresses row)
       → lines_in (take n xs) (nodes_of ns) ≡ c → nodes_of more ≡ l → lines_in (take (n + 1) (set xs n h)) (nodes_of row) ≡ c ++ l ∷ []
   table_with_shown xs n ns more row h c l w m less is a d seen_c seen_l =
       let long = w.0 in
@@ -147,4 +154,5 @@ module _ {X : Type 0} where
   less_table xs n h ns front back row w u is a d = let most = w.1 in (w.0, omega (arith, most), (a, d, (u.lines, is ∙ u.first, u.led)))
 
   pub less_line : (xs : List Address) (n : ℕ) (h : Address) (ns front back row : List (OwnedNode X)) → Less (take (n - 1) xs) h ns front back → row ≡ back → AreNullComparable (box_addresses row) → IsDoubleLine h.ptr row
-  less_line xs n h ns front back row u is a = (a, subst (LineAt h.ptr) (sym (is ∙ u.second)) u.here)
+  less_line xs n h ns front back row u is a =
+      let on = subst (LineAt h.ptr) (sym (is ∙ u.second)) u.here in record { comparable = a; prev = null_ptr; last = on.0; linked = on.1 }

@@ -28,13 +28,18 @@ module _ {X : Type 0} where
         | null_ptr ↦ [] ∷ lines_in hs c
       ]
 
-  -- h leads to the first node, and both ends lead to nothing
-  abbrev pub IsDoubleLine : Ptr → List (OwnedNode X) → Type 0
-  IsDoubleLine h ns = AreNullComparable (box_addresses ns) × ((t : Ptr) × Segment null_ptr h ns t null_ptr)
+  -- h leads to the first node, and the last leads to nothing; where the first leads back to is not said
+  pub record IsDoubleLine (h : Ptr) (ns : List (OwnedNode X)) : Type 0 where
+    pub comparable : AreNullComparable (box_addresses ns)
+    pub prev : Ptr
+    pub last : Ptr
+    pub linked : Segment prev h ns last null_ptr
 
-  -- the same, with the last node at t
-  abbrev pub IsGrowing : Ptr → Ptr → List (OwnedNode X) → Type 0
-  IsGrowing h t ns = AreNullComparable (box_addresses ns) × Segment null_ptr h ns t null_ptr
+  -- h leads to the first node, which leads back to nothing, and the last is at t; where that leads to is not said
+  pub record IsGrowing (h t : Ptr) (ns : List (OwnedNode X)) : Type 0 where
+    pub comparable : AreNullComparable (box_addresses ns)
+    pub next : Ptr
+    pub linked : Segment null_ptr h ns t next
 
   -- each address leads to the first node of a line
   abbrev pub Lead : List Address → List (List (OwnedNode X)) → Type 0

@@ -12,7 +12,7 @@ ghost use Rattle.cordyceps_base.specs.Element.{Element, values};
 ghost use Rattle.cordyceps_base.specs.Nodes.{Nodes, OwnedNode, elements, nodes_of, spots};
 
 use crate::boxes::{Address, Boxes, RawBox};
-use crate::double_row::{Row, followed_by, node_of, preceded_by};
+use crate::double_row::{Row, followed_by, node_of};
 use crate::list::Links;
 use crate::node::{Block, Node};
 use std::alloc::Global;
@@ -90,7 +90,7 @@ impl<T> Line<T> {
         let (one, rest) = row.cut(1);
         let left = Line {
             first: next,
-            row: led_back(rest.null_comparable(), next, Address::null()).null_comparable(),
+            row: rest.null_comparable(),
         };
         (alone(first, one), left)
     }
@@ -174,23 +174,31 @@ impl<T> Growing<T> {
         }
     }
 
-    /// Appends a line. Requires that it has one node.
-    pub fn with(self, one: Line<T>) -> Growing<T>
-        requires { length one ≡ 1 }
-        ensures { result ≡ self ++ one }
+    /// Appends the first node of a line, and returns what is left of that, too. Requires that it has a node.
+    pub fn with_first(self, line: Line<T>) -> (Growing<T>, Line<T>)
+        requires { 0 < length line }
+        ensures { (address : Ptr) × (e : Element T) × (result.0 ≡ self ++ (address, e) ∷ [])
+            × (line ≡ (address, e) ∷ result.1) }
     {
         let Growing { first, last, row } = self;
         let Line {
             first: at,
-            row: new,
-        } = one;
+            row: more,
+        } = line;
+        let next = more.get(at, 0).links.next;
+        let (mut one, rest) = more.cut(1);
         let (first, row) = followed_by(row, first, last, at);
-        let (last, new) = preceded_by(new, at, at, last);
-        Growing {
+        one.get_mut(at, 0).links.prev = last;
+        let grown = Growing {
             first,
-            last,
-            row: row.join(new).null_comparable(),
-        }
+            last: at,
+            row: row.join(one).null_comparable(),
+        };
+        let left = Line {
+            first: next,
+            row: rest.null_comparable(),
+        };
+        (grown, left)
     }
 
     /// Appends a line, and returns the whole.
@@ -214,7 +222,7 @@ impl<T> Growing<T> {
 /// A table of at most 64 lines. A contract sees a list of the lines, in order. A line in it may have no node.
 ///
 /// # Complexity
-/// Each call is O(1) and allocates nothing, but for `without` and `free`.
+/// Each call is O(1) and allocates nothing, but for `take_at` and `free`.
 pub struct Lines<T> {
     firsts: [Address; 64],
     count: usize,
@@ -249,23 +257,8 @@ impl<T> Lines<T> {
     pub fn count(&self) -> usize
         ensures { result ≡ length self.now }
     {
-        self.count
-    }
-
-    /// Takes all lines, and leaves a table of none.
-    pub fn take(&mut self) -> Lines<T>
-        ensures { (result ≡ self.old) × (self.new ≡ []) }
-    {
-        mem::replace(self, Lines::new())
-    }
-
-    /// Puts lines into a table. Requires that it has no line.
-    pub fn put(&mut self, lines: Lines<T>)
-        requires { self.old ≡ [] }
-        ensures { self.new ≡ lines }
-    {
-        let none = mem::replace(self, lines);
-        none.discard();
+        let Lines { count, .. } = self;
+        *count
     }
 
     /// Ends a table. Requires that it has no line.
@@ -288,42 +281,31 @@ impl<T> Lines<T> {
     }
 
     /// Adds a line, as the last. Requires less than 64 lines.
-    pub fn with(self, line: Line<T>) -> Lines<T>
-        requires { length self < 64 }
-        ensures { result ≡ self ++ line ∷ [] }
+    pub fn push(&mut self, line: Line<T>)
+        requires { length self.old < 64 }
+        ensures { self.new ≡ self.old ++ line ∷ [] }
     {
-        let Lines {
-            mut firsts,
-            count,
-            row,
-        } = self;
         let Line { first, row: more } = line;
-        firsts[count] = first;
-        Lines {
-            firsts,
-            count: count + 1,
-            row: row.join(more).distinct().null_comparable(),
-        }
+        let more = led_back(more, first, Address::null());
+        self.firsts[self.count] = first;
+        self.count += 1;
+        let row = taken(&mut self.row).join(more);
+        put_back(&mut self.row, row.distinct().null_comparable());
     }
 
-    /// Takes the last line out, and returns the others and that. Requires a line.
-    pub fn without_last(self) -> (Lines<T>, Line<T>)
-        requires { 0 < length self }
-        ensures { self ≡ result.0 ++ result.1 ∷ [] }
+    /// Takes the last line out. Requires a line.
+    pub fn pop(&mut self) -> Line<T>
+        requires { 0 < length self.old }
+        ensures { self.old ≡ self.new ++ result ∷ [] }
     {
-        let Lines { firsts, count, row } = self;
-        let first = firsts[count - 1];
-        let (row, more) = row.cut_at(first);
-        let others = Lines {
-            firsts,
-            count: count - 1,
-            row: row.distinct().null_comparable(),
-        };
-        let line = Line {
+        let first = self.firsts[self.count - 1];
+        self.count -= 1;
+        let (row, more) = taken(&mut self.row).cut_at(first);
+        put_back(&mut self.row, row.distinct().null_comparable());
+        Line {
             first,
             row: more.null_comparable(),
-        };
-        (others, line)
+        }
     }
 
     /// Returns a reference to the first value of line `k`, or `None` if it has no node. Requires that there is a line
@@ -359,58 +341,45 @@ impl<T> Lines<T> {
         &self.row.from_address(at).get(at, 0).value
     }
 
-    /// Cuts the first node of line `k` off, and returns it as a line, and the others. Requires that line `k` has a
-    /// node.
-    pub fn without_first(self, k: usize) -> (Line<T>, Lines<T>)
-        requires within { k < length self }
-        requires some { (n : Ptr × Element T) × (l : Nodes T) × (slice_get self k ≡ Some (n ∷ l)) }
-        ensures { (p : Ptr) × (e : Element T) × (result.0 ≡ (p, e) ∷ []) × IsFirstOut self k p e result.1 }
+    /// Takes the first node of line `k` out, as a line. Requires that line `k` has a node.
+    pub fn take_first(&mut self, k: usize) -> Line<T>
+        requires within { k < length self.old }
+        requires some { (n : Ptr × Element T) × (l : Nodes T) × (slice_get self.old k ≡ Some (n ∷ l)) }
+        ensures { (p : Ptr) × (e : Element T) × (result ≡ (p, e) ∷ []) × IsFirstOut self.old k p e self.new }
     {
-        let Lines {
-            mut firsts,
-            count,
-            row,
-        } = self;
-        let first = firsts[k];
-        let (front, back) = row.cut_at(first);
-        let next = back.get(first, 0).links.next;
+        let _count = self.count;
+        let at = self.firsts[k];
+        let (front, back) = taken(&mut self.row).cut_at(at);
+        let next = back.get(at, 0).links.next;
         let (one, rest) = back.cut(1);
+        let firsts = &mut self.firsts;
         firsts[k] = next;
         let rest = led_back(rest.null_comparable(), next, Address::null());
-        let left = Lines {
-            firsts,
-            count,
-            row: front.join(rest).distinct().null_comparable(),
-        };
-        (alone(first, one), left)
+        put_back(&mut self.row, front.join(rest).distinct().null_comparable());
+        alone(at, one)
     }
 
-    /// Cuts the node at an address off, and returns it as a line, and the others. Requires that a node is there.
+    /// Takes the node at an address out, as a line. Requires that a node is there.
     ///
     /// # Complexity
     /// O(1), or one read for each line if it is the first of one.
-    pub fn without(self, at: Address) -> (Line<T>, Lines<T>)
-        requires { HasSpot (flat self) at.ptr }
-        ensures { (e : Element T) × (result.0 ≡ (at.ptr, e) ∷ []) × IsTakenOut self at.ptr e result.1 }
+    pub fn take_at(&mut self, at: Address) -> Line<T>
+        requires { HasSpot (flat self.old) at.ptr }
+        ensures { (e : Element T) × (result ≡ (at.ptr, e) ∷ []) × IsTakenOut self.old at.ptr e self.new }
     {
-        let Lines { firsts, count, row } = self;
-        let (front, back) = row.cut_at(at);
+        let (front, back) = taken(&mut self.row).cut_at(at);
         let next = back.get(at, 0).links.next;
         let prev = back.get(at, 0).links.prev;
         if !prev.is_not_null() {
-            let (k, row) = number_of(&firsts, count, front.join(back), at);
-            let same = Lines { firsts, count, row };
-            return same.without_first(k);
+            let (k, row) = number_of(&self.firsts, self.count, front.join(back), at);
+            put_back(&mut self.row, row);
+            return self.take_first(k);
         }
         let (one, rest) = back.cut(1);
         let front = led_on(front, prev, next);
         let rest = led_back(rest.null_comparable(), next, prev);
-        let left = Lines {
-            firsts,
-            count,
-            row: front.join(rest).distinct().null_comparable(),
-        };
-        (alone(at, one), left)
+        put_back(&mut self.row, front.join(rest).distinct().null_comparable());
+        alone(at, one)
     }
 }
 
@@ -422,12 +391,26 @@ impl<T: Drop> Lines<T> {
     pub fn free(self) {
         let mut lines = self;
         while lines.count() > 0 {
-            let (others, line) = lines.without_last();
-            lines = others;
-            line.free();
+            lines.pop().free();
         }
         lines.discard();
     }
+}
+
+/// Takes all nodes of a row out.
+fn taken<T>(row: &mut Row<T>) -> Row<T>
+    ensures { (result.blocks ≡ row.old.blocks) × (row.new.blocks ≡ []) }
+{
+    mem::replace(row, Boxes::empty())
+}
+
+/// Puts nodes into a row that has none.
+fn put_back<T>(row: &mut Row<T>, nodes: Row<T>)
+    requires { row.old.blocks ≡ [] }
+    ensures { row.new.blocks ≡ nodes.blocks }
+{
+    let none = mem::replace(row, nodes);
+    none.discard();
 }
 
 /// Makes a line of the one node of a row.
@@ -437,7 +420,6 @@ fn alone<T>(at: Address, row: Row<T>) -> Line<T>
 {
     let mut row = row;
     row.get_mut(at, 0).links.next = Address::null();
-    row.get_mut(at, 0).links.prev = Address::null();
     Line {
         first: at,
         row: row.null_comparable(),

@@ -211,15 +211,15 @@ const HEAP_CALLS: [(HeapAsking, u64); 16] = [
     (HeapAsking::PopFront, 0),
     // 4 5 9: rank 2, an empty line: rank 0
     (HeapAsking::Push(7), 0),
-    // 4 5 9: rank 2, 7: rank 1
-    (HeapAsking::Push(8), 0),
-    // 4 5 9: rank 2, 7: rank 1, 8: rank 0
-    (HeapAsking::PopFront, 2),
-    // 5 9: rank 2, 7: rank 1, 8: rank 0
-    (HeapAsking::Append(&[(0, 6), (0, 2)]), 10),
-    // 2 5 6 7 8 9: rank 4
+    // 4 5 9: rank 2, 7: rank 0, since the empty line was dropped
+    (HeapAsking::Push(8), 1),
+    // 4 5 9: rank 2, 7 8: rank 1
+    (HeapAsking::PopFront, 1),
+    // 5 9: rank 2, 7 8: rank 1
+    (HeapAsking::Append(&[(0, 6), (0, 2)]), 7),
+    // 2 5 6 7 8 9: rank 3
     (HeapAsking::Append(&[]), 0),
-    // 2 5 6 7 8 9: rank 4, an empty line: rank 0
+    // 2 5 6 7 8 9: rank 3, an empty line: rank 0
     (HeapAsking::PopFront, 0),
 ];
 

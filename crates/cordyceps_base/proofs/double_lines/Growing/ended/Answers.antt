@@ -10,29 +10,32 @@ use Rattle.cordyceps_base.proofs.Nodes.{nodes_of-append}
 use Rattle.cordyceps_base.proofs.double_lines.Growing.ended.Goals as goal
 
 pub followed_by-row-requires-clause-linked : goal.followed_by-row-requires-clause-linked
-followed_by-row-requires-clause-linked g c = (null_ptr, c.self.invariant.1)
+followed_by-row-requires-clause-linked g c = (c.self.invariant.next, c.self.invariant.linked)
 
 pub followed_by-row-requires-clause-null_comparable : goal.followed_by-row-requires-clause-null_comparable
-followed_by-row-requires-clause-null_comparable g c = c.self.invariant.0
+followed_by-row-requires-clause-null_comparable g c = c.self.invariant.comparable
 
 pub led_back-more-requires-clause-linked : goal.led_back-more-requires-clause-linked
-led_back-more-requires-clause-linked g c = let more = c.rest.inside.row.blocks in (more, [], sym (append-nil more), (null_ptr, c.rest.invariant.1.0, c.rest.invariant.1.1))
+led_back-more-requires-clause-linked g c = let more = c.rest.inside.row.blocks in (more, [], sym (append-nil more), (c.rest.invariant.prev, c.rest.invariant.last, c.rest.invariant.linked))
 
 pub led_back-more-requires-clause-null_comparable : goal.led_back-more-requires-clause-null_comparable
-led_back-more-requires-clause-null_comparable g c = c.rest.invariant.0
+led_back-more-requires-clause-null_comparable g c = c.rest.invariant.comparable
 
 pub invariant_of-result : goal.invariant_of-result
 invariant_of-result g c =
     let more = c.rest.inside.row.blocks in let h = c.followed_by-row.result.0.ptr in
-    let (m, is, same, (t, f)) = c.led_back-more.ensures more [] (sym (append-nil more)) (null_ptr, c.rest.invariant.1.0, c.rest.invariant.1.1) in
-    let all = c.null_comparable.ensures.0 ∙ c.join.ensures ∙ ap (λ s. c.followed_by-row.result.1.blocks ++ s) (is ∙ append-nil m) in (
-      subst (λ ls. AreNullComparable (box_addresses ls)) (sym c.null_comparable.ensures.0) c.null_comparable.ensures.1,
-      (t, subst (λ ls. Segment null_ptr h ls t null_ptr) (sym all) (segment_join null_ptr h c.followed_by-row.result.1.blocks c.self.inside.last.ptr c.rest.inside.first.ptr m t null_ptr c.followed_by-row.ensures.linked f)),
-    )
+    let (m, is, same, (t, f)) = c.led_back-more.ensures more [] (sym (append-nil more)) (c.rest.invariant.prev, c.rest.invariant.last, c.rest.invariant.linked) in
+    let all = c.null_comparable.ensures.0 ∙ c.join.ensures ∙ ap (λ s. c.followed_by-row.result.1.blocks ++ s) (is ∙ append-nil m) in
+    record {
+      comparable = subst (λ ls. AreNullComparable (box_addresses ls)) (sym c.null_comparable.ensures.0) c.null_comparable.ensures.1;
+      prev = null_ptr;
+      last = t;
+      linked = subst (λ ls. Segment null_ptr h ls t null_ptr) (sym all) (segment_join null_ptr h c.followed_by-row.result.1.blocks c.self.inside.last.ptr c.rest.inside.first.ptr m t null_ptr c.followed_by-row.ensures.linked f);
+    }
 
 pub returns : goal.returns
 returns g c =
     let more = c.rest.inside.row.blocks in
-    let (m, is, same, led) = c.led_back-more.ensures more [] (sym (append-nil more)) (null_ptr, c.rest.invariant.1.0, c.rest.invariant.1.1) in
+    let (m, is, same, led) = c.led_back-more.ensures more [] (sym (append-nil more)) (c.rest.invariant.prev, c.rest.invariant.last, c.rest.invariant.linked) in
     ap nodes_of (c.null_comparable.ensures.0 ∙ c.join.ensures) ∙ nodes_of-append c.followed_by-row.result.1.blocks c.led_back-more.result.blocks
     ∙ (λ i. (c.followed_by-row.ensures.same ∙ c.self.view_is) i ++ (ap nodes_of (is ∙ append-nil m) ∙ same ∙ c.rest.view_is) i)

@@ -5,7 +5,7 @@ use Rattle.cordyceps_base.specs.Nodes.{nodes_of}
 use Rattle.cordyceps_base.proofs.double_lines.Line.empty.Goals as goal
 
 pub invariant_of-result : goal.invariant_of-result
-invariant_of-result g c = subst (IsDoubleLine c.null.result.ptr) (sym c.empty.ensures) (tt, (null_ptr, (c.null.ensures, refl)))
+invariant_of-result g c = subst (IsDoubleLine c.null.result.ptr) (sym c.empty.ensures) (record { comparable = tt; prev = null_ptr; last = null_ptr; linked = (c.null.ensures, refl) })
 
 pub returns : goal.returns
 returns g c = ap nodes_of c.empty.ensures

@@ -1,10 +1,12 @@
-use Rattle.std.proofs.Common.{subst, refl, ap, ◌∙◌, length}
+use Rattle.std.proofs.Common.{subst, refl, sym, ap, ◌∙◌}
+use denote.RawPtr.{null_ptr}
+use Rattle.cordyceps_base.specs.Spots.{AreNullComparable}
 use Rattle.std.specs.Prelude.{◌≡◌, slice_get, Some}
 use Rattle.cordyceps_base.specs.Element.{values}
 use Rattle.cordyceps_base.specs.Nodes.{elements, with_item}
-use Rattle.cordyceps_base.proofs.DoubleChain.{linked_keep}
+use Rattle.cordyceps_base.proofs.DoubleChain.{segment_keep}
 use Rattle.cordyceps_base.proofs.LineEnds.{line_first}
-use Rattle.cordyceps_base.proofs.Nodes.{item_on, nodes_of-item}
+use Rattle.cordyceps_base.proofs.Nodes.{with_content, item_on, nodes_of-item, box_addresses-set}
 use Rattle.cordyceps_base.proofs.double_lines.Line.front_mut.Goals as goal
 
 pub get_mut-block-requires : goal.get_mut-block-requires
@@ -12,8 +14,13 @@ get_mut-block-requires g c = line_first c.self.inside.first.ptr c.self.inside.ro
 
 pub invariant_of-self-lent : goal.invariant_of-self-lent
 invariant_of-self-lent g c =
-    λ w. let i = c.self.inside in let l = c.self.invariant in
-    let on = linked_keep i.first.ptr l.1.0 (length i.row.blocks) i.row.blocks 0 c.get_mut-block.result.now w (refl, l.0, l.1.1) c.get_mut-block.ensures.value in (on.1, (l.1.0, on.2))
+    λ w. let i = c.self.inside in let l = c.self.invariant in let b = c.get_mut-block.result.now in
+    record {
+      comparable = subst AreNullComparable (sym (box_addresses-set i.row.blocks 0 (with_content b w))) l.comparable;
+      prev = l.prev;
+      last = l.last;
+      linked = segment_keep l.prev i.first.ptr i.row.blocks l.last null_ptr 0 b w l.linked c.get_mut-block.ensures.value;
+    }
 
 pub returns : goal.returns
 returns g c =

@@ -13,10 +13,8 @@ returns-clause-arrivals g c = λ cmp a by h.
     let asked = subst (λ (s : Heaped g.row.T.Denot g.row.O.Denot). g.O.Order.compares_by s.order cmp) (sym c.self.view_is) by in
     let x : Ptr × Element g.row.T.Denot = (c.spot_at.result, g.T.Linked.element c.args.handle) in
     let line : c.one-line.result.1 ≡ x ∷ [] = c.one-line.ensures ∙ (λ i. (sym c.spot_at.ensures i, c.into_ptr.ensures i) ∷ []) in
-    subst (λ s. Holds cmp s (a ++ x ∷ [])) (sym c.put.ensures)
-    (c.with_line-lines.ensures.arrivals cmp a (x ∷ []) asked (subst (λ s. Holds cmp s a) (sym (c.take.ensures.0 ∙ view)) h) (subst (λ l. Arranges cmp l (x ∷ [])) (sym line) (single cmp x)))
+    c.with_line.ensures.arrivals cmp a (x ∷ []) asked (subst (λ s. Holds cmp s a) (sym view) h) (subst (λ l. Arranges cmp l (x ∷ [])) (sym line) (single cmp x))
 
 pub invariant_of-self : goal.invariant_of-self
 invariant_of-self g c =
-    as_long (flat c.take.result) (flat c.with_line-lines.result) c.one-line.result.1 c.self.inside.len 1 c.with_line-lines.ensures.kept (c.self.invariant ∙ ap (λ ls. length (flat ls)) (sym c.take.ensures.0)) (sym (ap length c.one-line.ensures))
-    ∙ ap (λ ls. length (flat ls)) (sym c.put.ensures)
+    as_long (flat c.self.inside.lines) (flat c.with_line.new.lines) c.one-line.result.1 c.self.inside.len 1 c.with_line.ensures.kept c.self.invariant (sym (ap length c.one-line.ensures))
