@@ -4,7 +4,8 @@ ghost use Rattle.cordyceps_shared.specs.Histories.{plain};
 ghost use Rattle.cordyceps_shared.specs.Shares.{whole};
 ghost use Rattle.cordyceps_shared.specs.Standings.{new_party, keeping, giving, Absorbs};
 ghost use Rattle.cordyceps_stack.specs.History.{held, Legal};
-ghost use Rattle.cordyceps_stack.specs.Shared.Calls.{PushesAt, PushesAllAt, Misses, Refills, GivesBack};
+ghost use Rattle.cordyceps_stack.specs.Shared.Calls.{PushesAt, PushesAllAt, Misses};
+ghost use Rattle.cordyceps_stack.specs.Shared.Calls.{Refills, GivesBack, HasAllRooms};
 
 use crate::local::Local;
 use cordyceps_base::linked::Linked;
@@ -122,8 +123,8 @@ impl<T: Linked<Links<T>>> FreeList<T> {
         self.shared.try_push_all(party, blocks)
     }
 
-    /// Takes all rooms that parties gave back, which become the party's, and returns their number. Once a whole party has
-    /// done so, its rooms and the shared blocks add up to the rooms of the free list.
+    /// Takes all rooms of the pool, which become the party's, and returns how many they are. A whole party then has each
+    /// room of the free list that has no shared block in it.
     ///
     /// # Complexity
     /// O(1).
@@ -132,14 +133,14 @@ impl<T: Linked<Links<T>>> FreeList<T> {
     /// Never.
     pub fn refill(&self, party: &mut Party<T>) -> usize
         requires { party.old.table ≡ self.now }
-        ensures { Refills result party.old party.new }
+        ensures answer { Refills result party.old party.new }
+        ensures whole { party.old.share ≡ whole → HasAllRooms party.new }
     {
         self.shared.refill(party)
     }
 
-    /// Gives `rooms` of the party's rooms back, so that any party can take them by `refill`, and returns `true`. While
-    /// there are rooms that were given back before, it returns `false`, and the party is unchanged. Requires that the
-    /// party has as many rooms.
+    /// Gives `rooms` of the party's rooms to the pool, from where each party may take them, and returns `true`. If other
+    /// rooms are in the pool, it returns `false`, and the party has its rooms. Requires that the party has as many rooms.
     ///
     /// # Complexity
     /// O(`rooms`), or O(1) if the party gives all its rooms, or finds others there.

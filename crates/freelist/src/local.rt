@@ -87,12 +87,12 @@ impl<'a, T: Linked<Links<T>>> Local<'a, T> {
         self.blocks.push(handle);
     }
 
-    /// Gives all rooms of the local part's party back, so that any party can take them by `refill`, and returns `true`.
-    /// While there are rooms that were given back before, it returns `false`, and the party is unchanged. The rooms are
-    /// those of the shared blocks that `get` took.
+    /// Gives all rooms of the party to the pool, from where each party may take them, and returns `true`. If other rooms
+    /// are in the pool, it returns `false`, and the party has its rooms. These are the rooms of the blocks that `get`
+    /// took, besides those that the party had.
     ///
     /// # Complexity
-    /// O(1): one load and one compare-exchange of a word.
+    /// O(1): one load and one compare-exchange.
     ///
     /// # Waits
     /// Never.

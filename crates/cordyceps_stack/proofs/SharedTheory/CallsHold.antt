@@ -21,7 +21,7 @@ use Rattle.cordyceps_stack.specs.Cores.Stages.{room_elements}
 use Rattle.cordyceps_stack.specs.Shared.Plays.{SeatState, Sees, IsResting, to_hand_out}
 use Rattle.cordyceps_stack.specs.Shared.Parting.{view_keeping, view_giving, view_absorbing}
 use Rattle.cordyceps_stack.specs.Shared.Rule.{IsTable}
-use Rattle.cordyceps_stack.specs.Shared.Calls.{PartyOf, PushesAt, PushesAllAt, Misses, Takes, Looks, Refills, GivesBack, Adds, EndsLooked, pushes_of}
+use Rattle.cordyceps_stack.specs.Shared.Calls.{PartyOf, PushesAt, PushesAllAt, Misses, Takes, Looks, Refills, GivesBack, HasAllRooms, Adds, EndsLooked, pushes_of}
 use Rattle.cordyceps_stack.specs.Shared.View.{View, newcomer, name}
 use Rattle.cordyceps_stack.specs.Shared.Order.{crosswise}
 use Rattle.cordyceps_stack.proofs.SharedTheory.OrderHolds.{order_length, order_at, tracks_new}
@@ -180,13 +180,14 @@ module _ {E : Type 0} where
       )
 
   pub refills : (z z' : TableId) (n : ℕ) (m k : SeatState E) → parts.Refills z.slots n m k → z' ≡ z → Refills n (standing z m.0) (standing z' k.0)
-  refills z z' n m k r at = record { adds = adds z z' m.0 k.0 [] r.sees at; rooms = r.free; all = r.all }
+  refills z z' n m k r at = (adds z z' m.0 k.0 [] r.sees at, r.free)
+
+  pub refills_all : (z z' : TableId) (n : ℕ) (m k : SeatState E) → parts.Refills z.slots n m k → z' ≡ z → m.0.known.share ≡ whole → HasAllRooms (standing z' k.0)
+  refills_all z z' n m k r at is = let all = r.all is in let slots = ap (λ (q : TableId). q.slots) at in omega arith
 
   pub gives_back : (z z' : TableId) (n : ℕ) (gave : Bool) (m k : SeatState E) → parts.GivesBack n gave m k → z' ≡ z → GivesBack n gave (standing z m.0) (standing z' k.0)
   gives_back z z' n true m k is at = (λ i. standing (at i) (is i).0) ∙ ap (λ c. let p : PartyOf E = record { table = z; seen = m.0.known.seen; share = m.0.known.share; rooms = c } in p) (length-drop n m.0.free.rooms)
-  gives_back z z' n false m k is at =
-      let all : length m.0.free.rooms ≡ length m.0.free.rooms - 0 = omega arith in
-      (λ i. standing (at i) (is i).0) ∙ ap (λ c. let p : PartyOf E = record { table = z; seen = m.0.known.seen; share = m.0.known.share; rooms = c } in p) all
+  gives_back z z' n false m k is at = (λ i. standing (at i) (is i).0)
 
   -- a whole party's exchange does not fail
   pub whole_hits : (m k : SeatState E) → HasMissed m k → m.0.known.share ≡ whole → ⊥

@@ -1,7 +1,7 @@
 -- What the calls of a shared transfer stack promise: of the party u before, and of the party w after.
-use Rattle.std.specs.Prelude.{◌≡◌, ◌↔◌, ℕ, suc, ◌+◌, ◌-◌, List, [], ◌∷◌, ◌++◌, length, replicate, Bool, true, cond, IsTrue, map, reverse}
+use Rattle.std.specs.Prelude.{◌≡◌, ◌↔◌, ℕ, suc, ◌+◌, ◌-◌, List, [], ◌∷◌, ◌++◌, length, replicate, Bool, true, false, IsTrue, map, reverse}
 use Rattle.cordyceps_shared.specs.Histories.{plain, own}
-use Rattle.cordyceps_shared.specs.Shares.{Name, whole}
+use Rattle.cordyceps_shared.specs.Shares.{Name}
 use Rattle.cordyceps_shared.specs.Standings.{Standing, name_of}
 use Rattle.cordyceps_shared.specs.Standings as parties
 use Rattle.cordyceps_stack.specs.History.{Event, Load, Push, Taken, held, Legal, actor, SomeChange}
@@ -67,15 +67,18 @@ module _ {E : Type 0} where
   abbrev pub Takes : List E → PartyOf E → PartyOf E → Type 0
   Takes batch u w = Adds u (Taken (name_of u) batch ∷ []) w × (w.rooms ≡ u.rooms + length batch)
 
-  -- it took the pool, in which n rooms were, and has seen more. A whole party then has each room that holds no element
-  pub record Refills (n : ℕ) (u w : PartyOf E) : Type 0 where
-    pub adds : Adds u [] w
-    pub rooms : w.rooms ≡ u.rooms + n
-    pub all : u.share ≡ whole → length (held (plain w.seen)) + w.rooms ≡ u.table.slots
+  -- it took the n rooms that were in the pool
+  abbrev pub Refills : ℕ → PartyOf E → PartyOf E → Type 0
+  Refills n u w = Adds u [] w × (w.rooms ≡ u.rooms + n)
 
-  -- it gave n rooms to the pool, or is as it was
+  -- it gave n rooms to the pool, or others' rooms were there, and it is as before
   abbrev pub GivesBack : ℕ → Bool → PartyOf E → PartyOf E → Type 0
-  GivesBack n gave u w = w ≡ record u { rooms = u.rooms - cond gave n 0 }
+  GivesBack n true u w = w ≡ record u { rooms = u.rooms - n }
+  GivesBack n false u w = w ≡ u
+
+  -- each room is the party's, or has one of the elements that its history holds
+  abbrev pub HasAllRooms : PartyOf E → Type 0
+  HasAllRooms w = w.rooms + length (held (plain w.seen)) ≡ w.table.slots
 
   -- it looked, and `none` tells whether nothing was held
   abbrev pub Looks : Bool → PartyOf E → PartyOf E → Type 0

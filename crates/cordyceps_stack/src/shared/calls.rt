@@ -5,7 +5,7 @@ ghost use Rattle.cordyceps_shared.specs.Shares.{whole};
 ghost use Rattle.cordyceps_shared.specs.Standings.{new_party, keeping, giving, Knows, Absorbs};
 ghost use Rattle.cordyceps_stack.specs.History.{held, Legal};
 ghost use Rattle.cordyceps_stack.specs.Shared.Calls.{PushesAt, PushesAllAt, Misses, Takes, Looks};
-ghost use Rattle.cordyceps_stack.specs.Shared.Calls.{Refills, GivesBack};
+ghost use Rattle.cordyceps_stack.specs.Shared.Calls.{Refills, GivesBack, HasAllRooms};
 
 use crate::shared::batch::hand_out;
 use crate::shared::table::{OwnedTable, PartySeat};
@@ -227,30 +227,28 @@ impl<T: Linked<Links<T>>> TransferStack<T> {
         hand_out(words, &mut party.seat, &mut party.free, at)
     }
 
-    /// Takes all rooms that parties gave back, which become the party's, and returns their number.
+    /// Takes all rooms of the pool, which become the party's, and returns how many they are.
     ///
-    /// No room is lost: each is with a party, given back, or in use. So once a whole party has taken those that were
-    /// given back, its rooms and the elements that are held add up to the rooms of the stack.
+    /// A whole party then has each room of the stack that has no element in it.
     ///
     /// # Complexity
-    /// O(1): one swap of a word, and one load of another if there were rooms.
+    /// O(1): one swap, and one load of another word if there are rooms.
     ///
     /// # Waits
     /// Never.
     pub fn refill(&self, party: &mut Party<T>) -> usize
         requires { party.old.table ≡ self.now }
-        ensures { Refills result party.old party.new }
+        ensures answer { Refills result party.old party.new }
+        ensures whole { party.old.share ≡ whole → HasAllRooms party.new }
     {
         pool::refill(&self.rooms.shared, &mut party.seat, &mut party.free)
     }
 
-    /// Gives `rooms` of the party's rooms back, so that any party can take them by `refill`, and returns `true`. While
-    /// there are rooms that were given back before, it returns `false`, and the party is unchanged. Requires that the
-    /// party has as many rooms.
+    /// Gives `rooms` of the party's rooms to the pool, from where each party may take them, and returns `true`. If other
+    /// rooms are in the pool, it returns `false`, and the party has its rooms. Requires that the party has as many rooms.
     ///
     /// # Complexity
-    /// O(`rooms`), or O(1) if the party gives all its rooms, or finds others there: one load and one compare-exchange of
-    /// a word, and a walk through the rooms.
+    /// O(`rooms`), or O(1) if the party gives all its rooms, or finds others there.
     ///
     /// # Waits
     /// Never.
