@@ -1,7 +1,8 @@
 -- What the calls on the pool of a shared queue promise, from what their parts leave.
-use Rattle.std.proofs.Common.{◌≡◌, ℕ, ◌+◌, ◌-◌, List, [], ◌∷◌, ◌++◌, length, drop, Bool, true, false, refl, sym, ap, ◌∙◌, subst, arith, append-nil, length-drop}
+use Rattle.std.proofs.Common.{◌≡◌, ℕ, ◌+◌, ◌-◌, List, [], ◌∷◌, ◌++◌, length, drop, Bool, true, false, refl, sym, ap, ◌∙◌, subst, arith, append-nil, length-append, length-drop}
 use Rattle.atomic_table.specs.Seated.{TableId}
 use Rattle.cordyceps_shared.specs.FreeChains.{end_after}
+use Rattle.cordyceps_shared.specs.Histories.{plain}
 use Rattle.cordyceps_shared.specs.Shares.{whole, first_name}
 use Rattle.cordyceps_shared.specs.Standings.{known_of, name_of}
 use Rattle.cordyceps_shared.proofs.Telling.{grown_then}
@@ -9,10 +10,10 @@ use Rattle.cordyceps_shared.proofs.Places.{near_drop}
 use Rattle.cordyceps_shared.specs.Slots.{Near}
 use Rattle.cordyceps_queue.specs.declared.shared.spare.Spare.{Spare}
 use Rattle.cordyceps_queue.specs.declared.shared.uses.RoomUse.{RoomUse}
-use Rattle.cordyceps_queue.specs.History.{Swap, Link, actor}
+use Rattle.cordyceps_queue.specs.History.{held, Swap, Link, actor}
 use Rattle.cordyceps_queue.specs.Shared.Calls as call
 use Rattle.cordyceps_queue.specs.Shared.Parts.{standing, IsSeated, IsConsuming, TracksEnd, Refills, GivesBack}
-use Rattle.cordyceps_queue.specs.Shared.Plays.{SeatState, IsResting}
+use Rattle.cordyceps_queue.specs.Shared.Plays.{SeatState, LacksRooms, IsResting}
 use Rattle.cordyceps_queue.specs.Shared.Uses.{HasUse}
 use Rattle.cordyceps_queue.specs.Shared.View.{View, free_chain, view_returned, bit_of}
 use Rattle.cordyceps_queue.proofs.SharedTheory.CallsHold.{adds, seated_after}
@@ -60,6 +61,16 @@ module _ {E : Type 0} where
       ap (λ (q : SeatState E). standing z' q.0) g ∙ (λ i. record { table = at i; seen = m.0.known.seen; share = m.0.known.share; rooms = count i })
   gives_back z z' n false m k at g =
       ap (λ (q : SeatState E). standing z' q.0) g ∙ (λ i. record { table = at i; seen = m.0.known.seen; share = m.0.known.share; rooms = swapped m.0.free m.0.back i })
+
+  pub lacks_rooms : (z z' t : TableId) (n : ℕ) (b : Bool) (m k : SeatState E) → z' ≡ z → z ≡ t → GivesBack n b (view_returned m.0, []) k → b ≡ false → LacksRooms t.slots m → m.0.known.share ≡ whole → call.LacksRooms (standing z' k.0)
+  lacks_rooms z z' t n b m k at there g not lacks is =
+      let same = subst (λ c. GivesBack n c (view_returned m.0, []) k) not g in
+      let less = lacks is in
+      let slots = ap (λ (q : TableId). q.slots) (at ∙ there) in
+      let rooms = ap (λ (q : SeatState E). length (q.0.back ++ q.0.free)) same in
+      let seen = ap (λ (q : SeatState E). length (held (plain q.0.known.seen))) same in
+      let long = length-append m.0.free m.0.back in
+      omega arith
 
   -- with no slot in hand nothing is given back
   returned_same : (m : SeatState E) → m.0.back ≡ [] → m.1 ≡ [] → (view_returned m.0, []) ≡ m

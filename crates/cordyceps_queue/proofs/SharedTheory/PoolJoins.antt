@@ -1,5 +1,5 @@
 -- What the parts of a refill come to together, and of giving rooms back to the pool.
-use Rattle.std.proofs.Common.{◌≡◌, ◌≢◌, ℕ, suc, ◌+◌, ◌-◌, ◌≤◌, ◌<◌, List, [], ◌∷◌, ◌++◌, length, take, refl, sym, ap, ◌∙◌, subst, inl, inr, ⊎_elim, arith, length-append}
+use Rattle.std.proofs.Common.{◌≡◌, ◌≢◌, ℕ, suc, ◌+◌, ◌-◌, ◌≤◌, ◌<◌, List, [], ◌∷◌, ◌++◌, length, take, refl, sym, ap, ◌∙◌, subst, inl, inr, ⊎_elim, arith, length-append, eqb, eq-eqb, false}
 use Rattle.atomic_table.specs.Seated.{TableId}
 use Rattle.cordyceps_base.specs.declared.shared.TheConstants.{MAX_ROOMS}
 use Rattle.cordyceps_shared.specs.FreeChains.{FreeChain, Tracks, IsTied, MayJoin, leads, first_rooms}
@@ -17,7 +17,7 @@ use Rattle.cordyceps_queue.specs.declared.cores.stage.Stage.TheVariants.{Rest}
 use Rattle.cordyceps_queue.specs.declared.shared.spare.Spare.{Spare}
 use Rattle.cordyceps_queue.specs.History.{Event, held, actor}
 use Rattle.cordyceps_queue.specs.Shared.Parts.{TracksEnd, MayReturn, Relinked, Refills}
-use Rattle.cordyceps_queue.specs.Shared.Plays.{SeatState, LegalReversed, IsResting, IsHolding, FindsPool, carry}
+use Rattle.cordyceps_queue.specs.Shared.Plays.{SeatState, LegalReversed, IsResting, IsHolding, FindsPool, LacksRooms, carry}
 use Rattle.cordyceps_queue.specs.Shared.View.{View, free_chain, back_chain, view_returned, cleared_count}
 use Rattle.cordyceps_queue.proofs.SharedTheory.PartsJoin.{near_parts, may_join}
 use Rattle.cordyceps_queue.proofs.SharedTheory.SpareRooms.{tracks_joined}
@@ -52,7 +52,16 @@ packs_given n last word free chain is fits t low some_of last_is = record {
   some_of = omega arith;
 }
 
+pub not_zero : (n : ℕ) → eqb n 0 ≡ false → n ≢ 0
+not_zero n not e = cc (eq-eqb n 0 e, not)
+
 module _ {E : Type 0} where
+  -- what a whole party knows of the pool does not rest on which slots are in hand
+  pub lacks_returned : (slots : ℕ) (m p : SeatState E) → p ≡ (view_returned m.0, []) → LacksRooms slots p → LacksRooms slots m
+  lacks_returned slots m p is lacks whole_is =
+      let after = subst (λ (q : SeatState E). LacksRooms slots q) is lacks whole_is in
+      let long = length-append m.0.free m.0.back in omega arith
+
   -- ---- which slots a party may give back
   pub near_back : (slots : ℕ) (m : SeatState E) → MayReturn slots m → Near slots m.0.back
   near_back slots m r i x a = r.near (length m.0.free + i) x (at_after m.0.free m.0.back i x a)

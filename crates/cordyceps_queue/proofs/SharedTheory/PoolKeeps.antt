@@ -1,5 +1,5 @@
 -- The pool of a queue's table: a party takes it, and gives rooms back to it.
-use Rattle.std.proofs.Common.{◌≡◌, ◌≢◌, ℕ, suc, ◌+◌, ◌-◌, ◌≤◌, List, [], ◌∷◌, ◌++◌, reverse, length, set, get_or, take, drop, eqb, Option, Some, None, refl, sym, ap, ◌∙◌, subst, inl, inr, arith, append-nil, eq-eqb, ne_eqb, length-set, length-append, take-append-drop}
+use Rattle.std.proofs.Common.{◌≡◌, ◌<◌, ◌≢◌, ℕ, suc, ◌+◌, ◌-◌, ◌≤◌, List, [], ◌∷◌, ◌++◌, reverse, length, set, get_or, take, drop, eqb, Option, Some, None, refl, sym, ap, ◌∙◌, subst, inl, inr, arith, append-nil, eq-eqb, ne_eqb, length-set, length-append, take-append-drop}
 use mathlib.Core.Option.{some, none}
 use mathlib.Core.Logic.{dite}
 use native.Mathlib.Decide.{ℕ_discrete}
@@ -10,7 +10,7 @@ use Rattle.atomic_table.specs.Table.{Act, keeps, takes, step, stepped, homes_aft
 use Rattle.atomic_table.specs.Table as table
 use Rattle.atomic_table.proofs.Lists.{set_here, set_else}
 use Rattle.cordyceps_shared.specs.FreeChains.{FreeChain, Links, MayJoin, first_rooms}
-use Rattle.cordyceps_shared.specs.Histories.{events, plain}
+use Rattle.cordyceps_shared.specs.Histories.{NoneOf, events, plain}
 use Rattle.cordyceps_shared.specs.Knowing.{Known, SharesDisjoint, AllAgree, all_seen}
 use Rattle.cordyceps_shared.specs.Places.{ItemAt}
 use Rattle.cordyceps_shared.specs.Pools.{Packs, LeadsTo}
@@ -22,9 +22,9 @@ use Rattle.cordyceps_shared.proofs.Changing.{one_set}
 use Rattle.cordyceps_shared.proofs.Counting.{tally_set, tally_one, tally_only}
 use Rattle.cordyceps_shared.proofs.FreeLinks.{links_at, links_drop, links_take}
 use Rattle.cordyceps_shared.proofs.Places.{at_either, at_end, at_take, at_drop, empty_drop, empty_take}
-use Rattle.cordyceps_shared.proofs.Pools.{none_in_pool}
+use Rattle.cordyceps_shared.proofs.Pools.{none_in_pool, some_in_pool}
 use Rattle.cordyceps_shared.proofs.Seeing.{plain_marked}
-use Rattle.cordyceps_shared.proofs.Telling.{at_length, owned_same, fits_same, only_share, tells}
+use Rattle.cordyceps_shared.proofs.Telling.{at_length, owned_same, fits_same, only_share, whole_without, tells}
 use Rattle.cordyceps_shared.proofs.Words.{pool_set, head_beside_pool, right_beside_pool}
 use Rattle.cordyceps_queue.specs.History.{Event, held, actor}
 use Rattle.cordyceps_queue.specs.Cores.Abstract.{AbstractParty, update}
@@ -33,7 +33,7 @@ use Rattle.cordyceps_queue.specs.declared.cores.stage.Stage.TheVariants.{Rest, C
 use Rattle.cordyceps_queue.specs.Shared.Bits.{IsLink, IsRight, SpellsFree, KeepsUse, SpellsWords}
 use Rattle.cordyceps_queue.specs.Shared.Plays.{SeatState, LegalReversed, Sees, carry}
 use Rattle.cordyceps_queue.specs.Shared.Uses as play
-use Rattle.cordyceps_queue.specs.Shared.Rule.{TableState, link_of, party, machine_of, IsPool, PlainHolds, RuleHolds}
+use Rattle.cordyceps_queue.specs.Shared.Rule.{TableState, History, link_of, party, machine_of, IsPool, PlainHolds, RuleHolds}
 use Rattle.cordyceps_queue.specs.Shared.View.{View, knows, bit_of, free_chain, back_chain, view_returned, room_count}
 use Rattle.cordyceps_queue.proofs.Legality.{held_of}
 use Rattle.cordyceps_queue.proofs.CoreTheory.Basics.{at_more}
@@ -164,6 +164,39 @@ module _ {E : Type 0} (s : TableState E) (k : PlainHolds s) (id : ℕ) (v : View
     pool_is = refl;
   }
 
+-- ---- what a whole party knows of the pool
+not_last : {X : Type 0} (before : List (ℕ × X)) (x : ℕ × X) (xs : List (ℕ × X)) → NoneOf x.0 (before ++ x ∷ xs) → ⊥
+not_last [] x xs away = away.0 refl
+not_last (y ∷ before) x xs away = not_last before x xs away.1
+
+none_later : {X : Type 0} (id : ℕ) (before later : List (ℕ × X)) → NoneOf id later → ((i : ℕ) → i ≢ id → NoneOf i (before ++ later)) → later ≡ []
+none_later id before [] away others = refl
+none_later id before (x ∷ xs) away others = absurd (not_last before x xs (others x.0 away.0))
+
+module _ {E : Type 0} (s : TableState E) (k : PlainHolds s) (id : ℕ) (v : View E) (at : get_elem? s.views id ≡ some v) where
+  -- it has seen all
+  whole_saw : v.known.share ≡ whole → plain v.known.seen ≡ events k.history
+  whole_saw is =
+      let f = k.fits id v at in
+      let nothing = none_later id f.before f.later f.none (λ i ne. subst (NoneOf i) f.is (whole_without knows s.views k.history id i v k.owned at is ne)) in
+      let all : k.history ≡ f.before = f.is ∙ (ap (λ (l : History E). f.before ++ l) nothing ∙ append-nil f.before) in
+      ap (λ h. plain h) f.seen ∙ (plain_marked id f.before ∙ ap (λ (h : History E). events h) (sym all))
+
+  -- rooms that are in the pool are neither its own nor in use
+  pub lacks : k.pool.rooms ≢ [] → v.known.share ≡ whole → suc (length (held (plain v.known.seen)) + room_count v) < length s.homes
+  lacks some_of is =
+      let all = k.all in
+      let one = tally_one (room_count {E = E}) s.views id v at in
+      let long = held_length (core s k) k.chain (reverse (events k.history)) k.meets in
+      let seen = ap (λ (l : List (Event Name E)). length (held l)) (whole_saw is) in
+      let back = ap (λ (l : List E). length l) (held_of (events k.history) k.meets.legal) in
+      let more = some_length k.pool.rooms some_of in
+      omega arith
+    where
+      some_length : (xs : List ℕ) → xs ≢ [] → 0 < length xs
+      some_length [] some_of = absurd (some_of refl)
+      some_length (x ∷ xs) some_of = omega arith
+
 -- ---- and of the rule
 module _ {E : Type 0} (s : TableState E) (k : RuleHolds s) (id : ℕ) (w : View E) where
   pool_rule : (n : ℕ) (homes : Homes E) (pool : FreeChain) (now : PlainHolds record { words = k.words; homes = homes; views = set s.views id w }) → now.uses ≡ k.plain.uses → now.chain.rooms ≡ k.plain.chain.rooms → now.pool ≡ pool
@@ -281,6 +314,14 @@ module _ {E : Type 0} where
         },
       )
 
+  -- a word that is not 0 leads to some rooms
+  pool_some : (s : TableState E) (k : RuleHolds s) → word.pool s.words ≢ 0 → k.plain.pool.rooms ≢ []
+  pool_some s k ne nothing =
+      let p = some_in_pool (word.pool s.words) k.plain.pool k.word_is ne in
+      let c = p.tracks.count in
+      let some_of = p.some_of in
+      let long = ap (λ (l : List ℕ). length l) nothing in absurd (omega arith)
+
   -- ---- a step that changes no word, at which all slots in hand are given back
   returns_all : (s : TableState E) (k : RuleHolds s) (id slots : ℕ) (me : SeatState E) → me.1 ≡ carry me.0.back → Near slots me.0.back → me.0.known.share ≢ [] → MayJoin (free_chain me.0) (back_chain me.0) → length s.homes ≡ slots → get_elem? s.views id ≡ some me.0 → (i : ℕ)
       → Valid s.homes me.1 (give_all me.0.back) × RuleHolds (stepped s i (get_or s.words i 0) id me.1 (view_returned me.0) (give_all me.0.back)) × (carried_after me.1 (give_all me.0.back) ≡ [])
@@ -329,7 +370,7 @@ module _ {E : Type 0} where
       let one = tally_one (room_count {E = E}) s.views id v at in
       let all = k.plain.all in
       let long = length-append v.free v.back in
-      (w, give_all v.back, a.0, a.1, (refl, a.2, omega arith))
+      (w, give_all v.back, a.0, a.1, (refl, a.2, omega arith, λ ne is. subst (λ n. suc (length (held (plain v.known.seen)) + room_count v) < n) deep (lacks (plain_table s k) k.plain id v at (pool_some s k ne) is)))
 
   -- ---- a compare-exchange
   gives_all : (id n new : ℕ) (me : SeatState E) → me.0.back ≡ [] → me.0.known.share ≢ [] → Packs new (first_rooms n (free_chain me.0)) → (s : TableState E) (k : RuleHolds s) → get_elem? s.views id ≡ some me.0 → word.pool s.words ≡ 0
@@ -405,5 +446,5 @@ module _ {E : Type 0} where
         keeps,
         tt,
         subst (λ m. RuleHolds (stepped s POOL m id me.1 v keeps)) (sym (ap (λ b. either b new found) (ne_eqb found 0 some_of))) (unmoved id POOL me named s k at),
-        (λ e. absurd (some_of e), λ _. refl),
+        (λ e. absurd (some_of e), λ ne. (refl, λ is. subst (λ n. suc (length (held (plain v.known.seen)) + room_count v) < n) deep (lacks (plain_table s k) k.plain id v at (pool_some s k ne) is))),
       ))

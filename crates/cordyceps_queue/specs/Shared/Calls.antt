@@ -71,6 +71,10 @@ module _ {E : Type 0} where
   abbrev pub HasAllRooms : PartyOf E → Type 0
   HasAllRooms w = w.rooms + length (held (plain w.seen)) ≡ capacity w.table
 
+  -- some room is neither the party's nor has one of these elements: it is in the pool, or another party's
+  abbrev pub LacksRooms : PartyOf E → Type 0
+  LacksRooms w = w.rooms + length (held (plain w.seen)) < capacity w.table
+
   -- it put e in, which took a room; if it had none, it took the n that were in the pool before
   abbrev pub EnqueuesRefilled : E → PartyOf E → PartyOf E → Type 0
   EnqueuesRefilled e u w =

@@ -189,13 +189,19 @@ module _ {E : Type 0} where
   abbrev pub after_refill : TableStep E → SeatState E → ℕ → SeatState E → Type 0
   after_refill st m found k = FindsPool st.slots found m k
 
+  -- a whole party knows that some rooms are neither its own nor in use: they are in the pool
+  abbrev pub LacksRooms : ℕ → SeatState E → Type 0
+  LacksRooms slots m = (view m).known.share ≡ whole
+      → suc (length (held (plain (view m).known.seen)) + room_count (view m)) < slots
+
   -- a load: all slots in hand are given back
   abbrev pub after_glance : TableStep E → SeatState E → ℕ → SeatState E → Type 0
   after_glance st m found k =
       (view k ≡ view_returned (view m)) × (hand k ≡ []) × (length ((view m).free ++ (view m).back) ≤ st.slots)
+      × (found ≢ 0 → LacksRooms st.slots m)
 
   -- a compare-exchange: the first n free rooms are the pool, or other rooms are
   abbrev pub after_give_back : ℕ → TableStep E → SeatState E → ℕ → SeatState E → Type 0
   after_give_back n st m found k =
       (found ≡ 0 → (view k ≡ record (view m) { free = drop n (view m).free }) × (hand k ≡ hand m))
-      × (found ≢ 0 → k ≡ m)
+      × (found ≢ 0 → (k ≡ m) × LacksRooms st.slots m)

@@ -1,11 +1,12 @@
 //! The queue that threads share.
-ghost use Rattle.std.specs.Prelude.{◌≡◌, ◌<◌, ◌≤◌, map, Option, Some, None, MatchResult, IfOk, IfErr};
+ghost use Rattle.std.specs.Prelude.{◌≡◌, ◌<◌, ◌≤◌, map, false, Option, Some, None, MatchResult, IfOk, IfErr};
 ghost use Rattle.cordyceps_shared.specs.Histories.{plain};
 ghost use Rattle.cordyceps_shared.specs.Shares.{whole};
 ghost use Rattle.cordyceps_shared.specs.Standings.{new_party, keeping, giving, Knows, Absorbs};
 ghost use Rattle.cordyceps_queue.specs.History.{held};
 ghost use Rattle.cordyceps_queue.specs.Shared.Calls.{Legal, NonePending, NoneHolds, Enqueues, Dequeues, IsCertain};
-ghost use Rattle.cordyceps_queue.specs.Shared.Calls.{capacity, Refills, GivesBack, HasAllRooms, EnqueuesRefilled, FindsFull};
+ghost use Rattle.cordyceps_queue.specs.Shared.Calls.{capacity, Refills, GivesBack, HasAllRooms, LacksRooms};
+ghost use Rattle.cordyceps_queue.specs.Shared.Calls.{EnqueuesRefilled, FindsFull};
 
 use crate::cores::steps::TryDequeueError;
 use crate::shared::batch::Batch;
@@ -297,7 +298,8 @@ impl<T: Linked<Links<T>>> MpscQueue<T> {
     }
 
     /// Gives `rooms` of the party's rooms to the pool, from where each party may take them, and returns `true`. If other
-    /// rooms are in the pool, it returns `false`, and the party has its rooms. Requires that the party has as many rooms.
+    /// rooms are in the pool, it returns `false`, and the party has its rooms. So a whole party that has each room which
+    /// holds no element always gets `true`. Requires that the party has as many rooms.
     ///
     /// # Complexity
     /// O(`rooms`), or O(1) if the party gives all its rooms or none.
@@ -307,7 +309,8 @@ impl<T: Linked<Links<T>>> MpscQueue<T> {
     pub fn give_back(&self, party: &mut Party<T>, rooms: usize) -> bool
         requires table { party.old.table ≡ self.now.table }
         requires rooms { rooms ≤ party.old.rooms }
-        ensures { GivesBack rooms result party.old party.new }
+        ensures answer { GivesBack rooms result party.old party.new }
+        ensures whole { party.old.share ≡ whole → result ≡ false → LacksRooms party.new }
     {
         required::as_many_rooms(rooms, party.rooms());
         pool::give_back(&self.rooms.shared, &mut party.seat, &mut party.spare, rooms)

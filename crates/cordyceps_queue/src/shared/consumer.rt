@@ -1,5 +1,5 @@
 //! Consumers of a shared queue, which have the right to dequeue.
-ghost use Rattle.std.specs.Prelude.{◌≡◌, ◌≤◌, List, map, take, true, is_ok, Some, Err, MatchResult};
+ghost use Rattle.std.specs.Prelude.{◌≡◌, ◌≤◌, List, map, take, true, false, is_ok, Some, Err, MatchResult};
 ghost use Rattle.cordyceps_shared.specs.Histories.{plain};
 ghost use Rattle.cordyceps_shared.specs.Shares.{whole};
 ghost use Rattle.cordyceps_shared.specs.Standings.{Knows, name_of};
@@ -7,7 +7,7 @@ ghost use Rattle.cordyceps_queue.specs.Shared.Batches.{TakesLinked};
 ghost use Rattle.cordyceps_queue.specs.History.{held, holder};
 ghost use Rattle.cordyceps_queue.specs.declared.cores.steps.TryDequeueError.TheVariants as error;
 ghost use Rattle.cordyceps_queue.specs.Shared.Calls.{Legal, NonePending, Consumes, TakesRight, FindsBusy, GivesRight, IsCertain};
-ghost use Rattle.cordyceps_queue.specs.Shared.Calls.{GivesBack};
+ghost use Rattle.cordyceps_queue.specs.Shared.Calls.{GivesBack, LacksRooms};
 
 use crate::cores::steps::TryDequeueError;
 use crate::shared::batch::Batch;
@@ -186,7 +186,8 @@ impl<E: Drop> Right<E> {
     pub fn give_back(&mut self, words: &Words<E>, rooms: usize) -> bool
         requires table { self.old.table ≡ words.now.table_id }
         requires rooms { rooms ≤ self.old.rooms }
-        ensures { GivesBack rooms result self.old self.new }
+        ensures answer { GivesBack rooms result self.old self.new }
+        ensures whole { self.old.share ≡ whole → result ≡ false → LacksRooms self.new }
     {
         required::as_many_rooms(rooms, self.rooms());
         pool::give_back(words, &mut self.seat, &mut self.spare, rooms)
@@ -346,7 +347,8 @@ impl<'a, T: Linked<Links<T>>> Consumer<'a, T> {
     /// Never.
     pub fn give_back(&mut self, rooms: usize) -> bool
         requires { rooms ≤ self.old.rooms }
-        ensures { GivesBack rooms result self.old self.new }
+        ensures answer { GivesBack rooms result self.old self.new }
+        ensures whole { self.old.share ≡ whole → result ≡ false → LacksRooms self.new }
     {
         let queue = self.queue;
         self.right.give_back(&queue.rooms.shared, rooms)

@@ -1,6 +1,6 @@
 //! Consumers that share the ownership of their queue.
 ghost use Rattle.std.specs.Arc.{arc_value};
-ghost use Rattle.std.specs.Prelude.{◌≡◌, ◌≤◌, List, map, take, true, is_ok, Some, Err, MatchResult};
+ghost use Rattle.std.specs.Prelude.{◌≡◌, ◌≤◌, List, map, take, true, false, is_ok, Some, Err, MatchResult};
 ghost use Rattle.cordyceps_shared.specs.Histories.{plain};
 ghost use Rattle.cordyceps_shared.specs.Shares.{whole};
 ghost use Rattle.cordyceps_shared.specs.Standings.{Knows, name_of};
@@ -8,7 +8,7 @@ ghost use Rattle.cordyceps_queue.specs.Shared.Batches.{TakesLinked};
 ghost use Rattle.cordyceps_queue.specs.History.{held, holder};
 ghost use Rattle.cordyceps_queue.specs.declared.cores.steps.TryDequeueError.TheVariants as error;
 ghost use Rattle.cordyceps_queue.specs.Shared.Calls.{Legal, NonePending, Consumes, TakesRight, FindsBusy, GivesRight, IsCertain};
-ghost use Rattle.cordyceps_queue.specs.Shared.Calls.{GivesBack};
+ghost use Rattle.cordyceps_queue.specs.Shared.Calls.{GivesBack, LacksRooms};
 
 use crate::cores::steps::TryDequeueError;
 use crate::shared::batch::Batch;
@@ -169,6 +169,7 @@ impl<T: Linked<Links<T>>> OwnedConsumer<T> {
         requires { rooms ≤ self.old.party.rooms }
         ensures queue { self.new.queue ≡ self.old.queue }
         ensures answer { GivesBack rooms result self.old.party self.new.party }
+        ensures whole { self.old.party.share ≡ whole → result ≡ false → LacksRooms self.new.party }
     {
         let queue: &MpscQueue<T> = &self.queue;
         self.right.give_back(&queue.rooms.shared, rooms)

@@ -1,10 +1,10 @@
 //! How a party of a shared queue takes the rooms of the pool, and gives rooms back to it.
-ghost use Rattle.std.specs.Prelude.{◌≡◌, ◌≢◌, ◌≤◌, ◌∷◌, ◌++◌, ℕ, List, [], length};
+ghost use Rattle.std.specs.Prelude.{◌≡◌, ◌≢◌, ◌≤◌, ◌∷◌, ◌++◌, ℕ, List, [], length, false};
 ghost use Rattle.cordyceps_shared.specs.FreeChains.{first_rooms};
 ghost use Rattle.cordyceps_shared.specs.Pools.{Packs};
 ghost use Rattle.cordyceps_shared.specs.Slots.{Near, view, hand};
 ghost use Rattle.cordyceps_queue.specs.Shared.Parts.{IsSeatOf, MayReturn, Refills, GivesBack, TracksEnd};
-ghost use Rattle.cordyceps_queue.specs.Shared.Plays.{IsResting, FindsPool};
+ghost use Rattle.cordyceps_queue.specs.Shared.Plays.{IsResting, FindsPool, LacksRooms};
 ghost use Rattle.cordyceps_queue.specs.Shared.View.{free_chain, all_rooms, view_returned};
 
 use crate::shared::linking::{pass, tie};
@@ -69,6 +69,7 @@ fn is_empty<E: Drop>(words: &Words<E>, seat: &mut PartySeat<E>) -> bool
     ensures table { seat.new.table_id ≡ seat.old.table_id }
     ensures gathered { seat.new.me ≡ (view_returned (view seat.old.me), []) }
     ensures few { length (view seat.new.me).free ≤ words.now.table_id.slots }
+    ensures lacks { result ≡ false → LacksRooms words.now.table_id.slots seat.old.me }
 {
     words.load::<Glance>(seat, POOL) == 0
 }
@@ -86,6 +87,7 @@ fn put<E: Drop, B: Count>(
     requires packs { Packs word (first_rooms rooms (free_chain (view seat.old.me))) }
     ensures table { seat.new.table_id ≡ seat.old.table_id }
     ensures gives { GivesBack rooms result seat.old.me seat.new.me }
+    ensures lacks { result ≡ false → LacksRooms words.now.table_id.slots seat.old.me }
 {
     words.compare_exchange::<GiveBack<B>>(seat, POOL, 0, word) == 0
 }
@@ -103,6 +105,7 @@ pub(crate) fn give_back<E: Drop>(
     requires rooms { TracksEnd spare.old (all_rooms (view seat.old.me)) × (rooms ≤ spare.old.rooms.count) }
     ensures table { seat.new.table_id ≡ seat.old.table_id }
     ensures gives { GivesBack rooms result (view_returned (view seat.old.me), []) seat.new.me }
+    ensures lacks { result ≡ false → LacksRooms words.now.table_id.slots seat.old.me }
     ensures tracks { TracksEnd spare.new (free_chain (view seat.new.me)) }
 {
     // so that no link is read in vain

@@ -5,6 +5,7 @@ use Rattle.cordyceps_shared.specs.FreeChains.{first_rooms}
 use Rattle.cordyceps_shared.specs.Pools.{Packs}
 use Rattle.cordyceps_queue.specs.Shared.Parts.{GivesBack}
 use Rattle.cordyceps_queue.specs.Shared.View.{free_chain}
+use Rattle.cordyceps_queue.proofs.SharedTheory.PoolJoins.{not_zero}
 use Rattle.cordyceps_queue.proofs.SharedTheory.PoolKeeps.{gives}
 use Rattle.cordyceps_queue.proofs.shared.pool.put.Goals as goal
 
@@ -22,4 +23,7 @@ returns-clause-gives g c =
     let t = c.compare_exchange.ensures.2 in
     dite (ℕ_discrete found 0)
     (λ e. subst (λ b. GivesBack c.args.rooms b m k) (sym (eq-eqb found 0 e)) (subst (λ n. k ≡ (record m.0 { free = drop n m.0.free }, m.1)) c.requires.count (λ i. ((t.0 e).0 i, (t.0 e).1 i))))
-    (λ n. subst (λ b. GivesBack c.args.rooms b m k) (sym (ne_eqb found 0 n)) (t.1 n))
+    (λ n. subst (λ b. GivesBack c.args.rooms b m k) (sym (ne_eqb found 0 n)) (t.1 n).0)
+
+pub returns-clause-lacks : goal.returns-clause-lacks
+returns-clause-lacks g c not = (c.compare_exchange.ensures.2.1 (not_zero c.compare_exchange.result not)).1
