@@ -133,7 +133,13 @@ impl<T> DoubleChain<T> {
 impl<T> DoubleChain<T> {
     /// Creates a chain of a front part, the one node of a row, which is at `at`, and a back part. The parts have `len`
     /// nodes together.
-    fn of_parts(front: Part<T>, at: Address, one: Row<T>, back: Part<T>, len: usize) -> DoubleChain<T>
+    fn of_parts(
+        front: Part<T>,
+        at: Address,
+        one: Row<T>,
+        back: Part<T>,
+        len: usize,
+    ) -> DoubleChain<T>
         requires one { (a : Global) × (x : Block T) × (one.blocks ≡ (at.ptr, a, x) ∷ []) }
         requires front { (q : Ptr) × Segment null_ptr front.first.ptr front.row.blocks front.last.ptr q }
         requires back { (p : Ptr) × Segment p back.first.ptr back.row.blocks back.last.ptr null_ptr }
