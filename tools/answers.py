@@ -145,6 +145,31 @@ def with_answers(text, ways, without):
     return head + "".join([*(it for name, it in answers.items() if name not in without), "\n", *more])
 
 
+def asking(text, goals):
+    """The text of an Answers.antt with a hole for each of its answers, and one for each of these goals.
+
+    >>> print(asking("use a.{b}\\npub f-requires : goal.f-requires\\nf-requires c = b\\n", ["returns", "returns"]), end="")
+    use a.{b}
+    pub f-requires : goal.f-requires
+    f-requires = ?
+    pub returns : goal.returns
+    returns = ?
+    """
+    head, answers = answers_of(text)
+    return head + "".join(f"pub {it} : goal.{it}\n{it} = ?\n" for it in dict.fromkeys([*answers, *goals]))
+
+
+def holes_in(lines, folder):
+    """The goals of the function whose proof lies in a folder that these lines of a check tell to have holes as answers.
+
+    >>> lines = ["./proofs/a/f/Answers.antt:7:11: goal ? in `returns`", "./proofs/a/g/Answers.antt:7:7: goal ? in `x`"]
+    >>> holes_in(lines, "a/f")
+    ['returns']
+    """
+    hole = re.compile(rf"(?:\./)?proofs/{re.escape(folder)}/Answers\.antt:\d+:\d+: goal \? in `([^`]+)`")
+    return [it[1] for it in map(hole.match, lines) if it]
+
+
 def goals_in(lines):
     """The goals that these lines of a check name as open.
 

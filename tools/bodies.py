@@ -8,6 +8,8 @@ from collections import namedtuple
 Function = namedtuple("Function", "path first last types name header")
 
 BEGINS = re.compile(r"^( *)(?:pub(?:\([a-z]+\))? )?(?:const |unsafe )*fn (\w+)", re.M)
+# A line with which the front end refuses a crate.
+FAULT = re.compile(r"(?:\./)?(src/\S+?\.rt):(\d+):\d+: error\b")
 OF_TYPE = re.compile(r"^(?:unsafe )?(?:impl\b.*|(?:pub(?:\([a-z]+\))? )?trait .*)$", re.M)
 
 
@@ -26,6 +28,17 @@ def functions_of(path, text):
             imports = re.findall(r"^ *ghost use [^;]*;\n", text[opens : begins.start()], re.M)
             header = text[headers[-1].start() : opens] + "".join(imports)
         yield Function(path, first, last, types_of(headers[-1][0]) if headers else (), begins[2], header)
+
+
+def faults_in(lines):
+    """The places in the sources at which a front end found faults, as files and numbers of lines.
+
+    >>> faults_in(["src/a/b.rt:164:21: error[mismatched-types]: expected `u8`, found `bool`", "only=0 proved=0"])
+    [('src/a/b.rt', 164)]
+    >>> faults_in(["./proofs/f/Answers.antt:3:9: error: `returns`", "note: src/f.rt:39:5: it is not proved that .."])
+    []
+    """
+    return [(it[1], int(it[2])) for it in map(FAULT.match, lines) if it]
 
 
 def types_of(header):

@@ -147,11 +147,12 @@ def children_of(pid):
     return found
 
 
-def check(words, folder):
-    """Runs a check in a folder, and follows what it costs."""
+def check(words, folder, **environment):
+    """Runs a check in a folder, with these variables set, and follows what it costs."""
     lines, after = [], {}
+    environment = {**os.environ, **environment}
     how = {"stdin": subprocess.DEVNULL, "stdout": subprocess.PIPE, "stderr": subprocess.STDOUT, "text": True}
-    running = subprocess.Popen([*words, "--progress"], cwd=folder, errors="replace", **how)
+    running = subprocess.Popen([*words, "--progress"], cwd=folder, env=environment, errors="replace", **how)
     for line in running.stdout:
         lines.append(line.rstrip("\n"))
         found = CHECKED.match(lines[-1])
