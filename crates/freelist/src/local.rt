@@ -1,6 +1,7 @@
 //! The part of a free list that one owner has.
-ghost use Rattle.std.specs.Prelude.{◌≡◌, [], ◌∷◌};
-ghost use Rattle.cordyceps_stack.specs.Shared.Calls.{GivesBack};
+ghost use Rattle.std.specs.Prelude.{◌≡◌, [], ◌∷◌, false};
+ghost use Rattle.cordyceps_stack.specs.Shared.Calls.{GivesBack, LacksRooms};
+ghost use Rattle.cordyceps_shared.specs.Shares.{whole};
 ghost use Rattle.freelist.specs.Blocks.{GetsFrom};
 
 use cordyceps_base::linked::Linked;
@@ -99,6 +100,7 @@ impl<'a, T: Linked<Links<T>>> Local<'a, T> {
     pub fn give_back(&mut self) -> bool
         ensures blocks { self.new.blocks ≡ self.old.blocks }
         ensures party { GivesBack self.old.party.rooms result self.old.party self.new.party }
+        ensures whole { self.old.party.share ≡ whole → result ≡ false → LacksRooms self.new.party }
     {
         let rooms = self.party.rooms();
         self.shared.give_back(&mut self.party, rooms)

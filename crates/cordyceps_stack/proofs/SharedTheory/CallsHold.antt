@@ -14,6 +14,7 @@ use Rattle.cordyceps_shared.proofs.Places.{near_drop, near_take, near_append}
 use Rattle.cordyceps_shared.proofs.Naming.{joined_some, joined_disjoint, keeps_some, gives_some}
 use Rattle.cordyceps_shared.proofs.Ordering.{whole_share, keeps_share, gives_share, joined_share}
 use Rattle.cordyceps_stack.specs.Shared.Parts as parts
+use Rattle.cordyceps_stack.specs.Shared.Plays as plays
 use Rattle.cordyceps_stack.specs.Shared.Parts.{HasTried, HasPushed, HasPushedAll, HasBacked, HasMissed, TookAll, EmptiesHand, HasAbsorbed, standing, IsSeated}
 use Rattle.cordyceps_shared.specs.declared.free.FreeRooms.{FreeRooms}
 use Rattle.cordyceps_stack.specs.History.{Event, Load, Push, Taken, held, Legal, actor}
@@ -21,7 +22,7 @@ use Rattle.cordyceps_stack.specs.Cores.Stages.{room_elements}
 use Rattle.cordyceps_stack.specs.Shared.Plays.{SeatState, Sees, IsResting, to_hand_out}
 use Rattle.cordyceps_stack.specs.Shared.Parting.{view_keeping, view_giving, view_absorbing}
 use Rattle.cordyceps_stack.specs.Shared.Rule.{IsTable}
-use Rattle.cordyceps_stack.specs.Shared.Calls.{PartyOf, PushesAt, PushesAllAt, Misses, Takes, Looks, Refills, GivesBack, HasAllRooms, Adds, EndsLooked, pushes_of}
+use Rattle.cordyceps_stack.specs.Shared.Calls.{PartyOf, PushesAt, PushesAllAt, Misses, Takes, Looks, Refills, GivesBack, HasAllRooms, LacksRooms, Adds, EndsLooked, pushes_of}
 use Rattle.cordyceps_stack.specs.Shared.View.{View, newcomer, name}
 use Rattle.cordyceps_stack.specs.Shared.Order.{crosswise}
 use Rattle.cordyceps_stack.proofs.SharedTheory.OrderHolds.{order_length, order_at, tracks_new}
@@ -188,6 +189,15 @@ module _ {E : Type 0} where
   pub gives_back : (z z' : TableId) (n : ℕ) (gave : Bool) (m k : SeatState E) → parts.GivesBack n gave m k → z' ≡ z → GivesBack n gave (standing z m.0) (standing z' k.0)
   gives_back z z' n true m k is at = (λ i. standing (at i) (is i).0) ∙ ap (λ c. let p : PartyOf E = record { table = z; seen = m.0.known.seen; share = m.0.known.share; rooms = c } in p) (length-drop n m.0.free.rooms)
   gives_back z z' n false m k is at = (λ i. standing (at i) (is i).0)
+
+  pub lacks_rooms : (z z' t : TableId) (n : ℕ) (b : Bool) (m k : SeatState E) → z' ≡ z → z ≡ t → parts.GivesBack n b m k → b ≡ false → plays.LacksRooms t.slots m → m.0.known.share ≡ whole → LacksRooms (standing z' k.0)
+  lacks_rooms z z' t n b m k at there g not lacks is =
+      let same = subst (λ c. parts.GivesBack n c m k) not g in
+      let less = lacks is in
+      let slots = ap (λ (q : TableId). q.slots) (at ∙ there) in
+      let rooms = ap (λ (q : SeatState E). length q.0.free.rooms) same in
+      let seen = ap (λ (q : SeatState E). length (held (plain q.0.known.seen))) same in
+      omega arith
 
   -- a whole party's exchange does not fail
   pub whole_hits : (m k : SeatState E) → HasMissed m k → m.0.known.share ≡ whole → ⊥

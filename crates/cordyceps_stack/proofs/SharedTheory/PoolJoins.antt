@@ -1,5 +1,5 @@
 -- What the parts of a refill come to together, and of giving rooms back to the pool.
-use Rattle.std.proofs.Common.{◌≡◌, ◌≢◌, ◌⊎◌, ℕ, zero, suc, ◌+◌, ◌-◌, ◌*◌, ◌≤◌, ◌<◌, List, [], ◌∷◌, ◌++◌, length, take, drop, refl, sym, ap, ◌∙◌, subst, arith, append-nil, length-append}
+use Rattle.std.proofs.Common.{◌≡◌, ◌≢◌, ◌⊎◌, ℕ, zero, suc, ◌+◌, ◌-◌, ◌*◌, ◌≤◌, ◌<◌, List, [], ◌∷◌, ◌++◌, length, take, eqb, false, eq-eqb, refl, sym, ap, ◌∙◌, subst, arith, append-nil, length-append}
 use Rattle.atomic_table.specs.Table.{turned}
 use Rattle.atomic_table.specs.Seated.{TableId}
 use Rattle.cordyceps_shared.specs.FreeChains.{FreeChain, Tracks, first_rooms, rest_rooms, joined, MayJoin}
@@ -21,6 +21,9 @@ use Rattle.cordyceps_stack.specs.Shared.Slots.{Hand, vacant, all_vacant, last_li
 use Rattle.cordyceps_stack.specs.Shared.View.{Idle, Holding, View, held_rooms, room_count}
 use Rattle.cordyceps_stack.proofs.SharedTheory.PartsJoin.{vacant_back, back_joins, first_or_none, tracks_rooms}
 use Rattle.cordyceps_stack.proofs.SharedTheory.SlotMoves.{vacant_append}
+
+pub not_zero : (n : ℕ) → eqb n 0 ≡ false → n ≢ 0
+not_zero n not e = cc (eq-eqb n 0 e, not)
 
 module _ {E : Type 0} where
   -- the rooms of the pool, whose slots are in hand in order, and lead to this room; what was unpacked tracks them

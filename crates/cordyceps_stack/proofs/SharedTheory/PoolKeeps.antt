@@ -10,7 +10,7 @@ use Rattle.atomic_table.specs.Table.{step, keeps, stepped, homes_after, Allows}
 use Rattle.atomic_table.proofs.Lists.{set_here}
 use Rattle.cordyceps_shared.specs.FreeChains.{FreeChain, first_rooms, rest_rooms}
 use Rattle.cordyceps_shared.specs.Counts.{one_if, times}
-use Rattle.cordyceps_shared.specs.Histories.{events, with_marks, plain}
+use Rattle.cordyceps_shared.specs.Histories.{NoneOf, events, with_marks, plain}
 use Rattle.cordyceps_shared.specs.Knowing.{Known, SharesDisjoint, AllAgree}
 use Rattle.cordyceps_shared.specs.Pools.{Packs, LeadsTo}
 use Rattle.cordyceps_shared.specs.Shares.{whole}
@@ -19,16 +19,16 @@ use Rattle.cordyceps_shared.specs.declared.layout.TheConstants.{POOL, LINKS}
 use Rattle.cordyceps_shared.proofs.Changing.{one_set}
 use Rattle.cordyceps_shared.proofs.Counting.{tally_set, tally_only, tally_one, tally_append, tally_cut}
 use Rattle.cordyceps_shared.proofs.Places.{times_some}
-use Rattle.cordyceps_shared.proofs.Pools.{not_null, none_in_pool}
+use Rattle.cordyceps_shared.proofs.Pools.{not_null, none_in_pool, some_in_pool}
 use Rattle.cordyceps_shared.proofs.Seeing.{plain_marked}
-use Rattle.cordyceps_shared.proofs.Telling.{at_length, owned_same, fits_same, only_share}
+use Rattle.cordyceps_shared.proofs.Telling.{at_length, owned_same, fits_same, only_share, whole_without}
 use Rattle.cordyceps_shared.proofs.TrackRooms.{with_its_last}
 use Rattle.cordyceps_shared.proofs.Words.{pool_set, head_beside_pool}
 use Rattle.cordyceps_stack.specs.History.{Event, held, actor}
 use Rattle.cordyceps_stack.specs.Cores.Stages.{room_elements}
 use Rattle.cordyceps_stack.specs.Shared.Slots.{Homes, Hand, vacant, rooms_of, in_use, all_vacant, AtHome}
 use Rattle.cordyceps_stack.specs.Shared.View.{Doing, Idle, Holding, View, knows, held_rooms, count_with_party, room_count}
-use Rattle.cordyceps_stack.specs.Shared.Words.{AtDoing}
+use Rattle.cordyceps_stack.specs.Shared.Words.{History, AtDoing}
 use Rattle.cordyceps_stack.specs.Shared.Rule.{TableState, RuleHolds}
 use Rattle.cordyceps_stack.specs.Shared.Plays.{SeatState, HasRefilled, FindsPool}
 use Rattle.cordyceps_stack.specs.Shared.Plays as play
@@ -36,7 +36,38 @@ use Rattle.cordyceps_stack.proofs.SharedTheory.SlotMoves.{rooms_in_use, rooms_va
 use Rattle.cordyceps_stack.proofs.SharedTheory.StepsKeep.{Passes, view_after, told, few_rooms}
 use Rattle.cordyceps_stack.proofs.SharedTheory.WordsKeep.{deals}
 
+-- ---- what a whole party knows of the pool
+not_last : {X : Type 0} (before : List (ℕ × X)) (x : ℕ × X) (xs : List (ℕ × X)) → NoneOf x.0 (before ++ x ∷ xs) → ⊥
+not_last [] x xs away = away.0 refl
+not_last (y ∷ before) x xs away = not_last before x xs away.1
+
+none_later : {X : Type 0} (id : ℕ) (before later : List (ℕ × X)) → NoneOf id later → ((i : ℕ) → i ≢ id → NoneOf i (before ++ later)) → later ≡ []
+none_later id before [] away others = refl
+none_later id before (x ∷ xs) away others = absurd (not_last before x xs (others x.0 away.0))
+
 module _ {E : Type 0} where
+  -- it has seen all
+  whole_saw : (s : TableState E) (k : RuleHolds s) (id : ℕ) (v : View E) → get_elem? s.views id ≡ some v → v.known.share ≡ whole → plain v.known.seen ≡ events k.history
+  whole_saw s k id v at is =
+      let f = k.fits id v at in
+      let nothing = none_later id f.before f.later f.none (λ i ne. subst (NoneOf i) f.is (whole_without knows s.views k.history id i v k.owned at is ne)) in
+      let all : k.history ≡ f.before = f.is ∙ (ap (λ (l : History E). f.before ++ l) nothing ∙ append-nil f.before) in
+      ap (λ h. plain h) f.seen ∙ (plain_marked id f.before ∙ ap (λ (h : History E). events h) (sym all))
+
+  -- rooms that are in the pool are neither its own nor in use
+  lacks : (s : TableState E) (k : RuleHolds s) (id : ℕ) (v : View E) → get_elem? s.views id ≡ some v → word.pool s.words ≢ 0 → v.known.share ≡ whole → length (held (plain v.known.seen)) + room_count v < length s.homes
+  lacks s k id v at some_of is =
+      let all = k.all in
+      let one = tally_one (room_count {E = E}) s.views id v at in
+      let seen = ap (λ (l : List (Event _ E)). length (held l)) (whole_saw s k id v at is) in
+      let long = ap (λ (l : List E). length l) k.meets.holds in
+      let back = length-reverse (held (events k.history)) in
+      let elements = length-map k.chain (λ x. x.1) in
+      let p = some_in_pool (word.pool s.words) k.pool k.word_is some_of in
+      let count = p.tracks.count in
+      let more = p.some_of in
+      omega arith
+
   -- ---- what a step on the pool's word keeps
   pub record MovesRooms (s : TableState E) (k : RuleHolds s) (j : ℕ) (v w : View E) (homes : Homes E) (n : ℕ) (pool : FreeChain) : Type 0 where
     pub at : get_elem? s.views j ≡ some v
@@ -264,11 +295,12 @@ module _ {E : Type 0} where
         keeps,
         tt,
         subst (λ m. RuleHolds (stepped s POOL m id me.1 v keeps)) (sym (ap (λ b. either b new found) (ne_eqb found 0 some_of))) (gives_none id me idle named s k at),
-        (λ e. absurd (some_of e), λ _. refl),
+        (λ e. absurd (some_of e), λ _. (refl, λ is. subst (λ n. length (held (plain v.known.seen)) + room_count v < n) deep (lacks s k id v at some_of is))),
       ))
 
   -- ---- a load
   pub glances : (slots id : ℕ) (me : SeatState E) → me.0.doing ≡ Idle → me.0.known.share ≢ [] → Allows RuleHolds slots id me POOL (λ n. n) (play.after_glance (step slots POOL 0 0 none) me)
   glances slots id me idle named s k deep at fits =
       let few = few_rooms s k id me.0 at in
-      (me.0, keeps, tt, gives_none id me idle named s k at, (refl, omega arith))
+      let v = me.0 in
+      (me.0, keeps, tt, gives_none id me idle named s k at, record { same = refl; few = omega arith; lacks = λ some_of is. subst (λ n. length (held (plain v.known.seen)) + room_count v < n) deep (lacks s k id v at some_of is) })

@@ -1,5 +1,5 @@
 -- What the calls of a shared transfer stack promise: of the party u before, and of the party w after.
-use Rattle.std.specs.Prelude.{◌≡◌, ◌↔◌, ℕ, suc, ◌+◌, ◌-◌, List, [], ◌∷◌, ◌++◌, length, replicate, Bool, true, false, IsTrue, map, reverse}
+use Rattle.std.specs.Prelude.{◌≡◌, ◌↔◌, ℕ, suc, ◌+◌, ◌-◌, ◌<◌, List, [], ◌∷◌, ◌++◌, length, replicate, Bool, true, false, IsTrue, map, reverse}
 use Rattle.cordyceps_shared.specs.Histories.{plain, own}
 use Rattle.cordyceps_shared.specs.Shares.{Name}
 use Rattle.cordyceps_shared.specs.Standings.{Standing, name_of}
@@ -79,6 +79,10 @@ module _ {E : Type 0} where
   -- each room is the party's, or has one of the elements that its history holds
   abbrev pub HasAllRooms : PartyOf E → Type 0
   HasAllRooms w = w.rooms + length (held (plain w.seen)) ≡ w.table.slots
+
+  -- some room is neither the party's nor has one of these elements: it is in the pool, or another party's
+  abbrev pub LacksRooms : PartyOf E → Type 0
+  LacksRooms w = w.rooms + length (held (plain w.seen)) < w.table.slots
 
   -- it looked, and `none` tells whether nothing was held
   abbrev pub Looks : Bool → PartyOf E → PartyOf E → Type 0

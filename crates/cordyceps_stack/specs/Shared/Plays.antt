@@ -192,15 +192,24 @@ module _ {E : Type 0} where
   abbrev pub after_refill : TableStep E → SeatState E → ℕ → SeatState E → Type 0
   after_refill st m found k = FindsPool st.slots found m k
 
+  -- a whole party knows that some rooms are neither its own nor in use: they are in the pool
+  abbrev pub LacksRooms : ℕ → SeatState E → Type 0
+  LacksRooms slots m = (view m).known.share ≡ whole → length (held (plain (view m).known.seen)) + room_count (view m) < slots
+
   -- a load: the party has at most as many rooms as there are
+  pub record HasGlanced (slots found : ℕ) (m k : SeatState E) : Type 0 where
+    pub same : k ≡ m
+    pub few : length (view m).free.rooms ≤ slots
+    pub lacks : found ≢ 0 → LacksRooms slots m
+
   abbrev pub after_glance : TableStep E → SeatState E → ℕ → SeatState E → Type 0
-  after_glance st m found k = (k ≡ m) × (length (view m).free.rooms ≤ st.slots)
+  after_glance st m found k = HasGlanced st.slots found m k
 
   -- a compare-exchange: the first n free rooms are the pool, or other rooms are
   abbrev pub after_give_back : ℕ → TableStep E → SeatState E → ℕ → SeatState E → Type 0
   after_give_back n st m found k =
       (found ≡ 0 → (view k ≡ record (view m) { free = rest_rooms n (view m).free }) × (hand k ≡ hand m))
-      × (found ≢ 0 → k ≡ m)
+      × (found ≢ 0 → (k ≡ m) × LacksRooms st.slots m)
 
   -- ---- between the steps
   -- the party is between two calls

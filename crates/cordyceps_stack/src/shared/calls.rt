@@ -1,11 +1,11 @@
 //! The stack that threads share.
-ghost use Rattle.std.specs.Prelude.{◌≡◌, ◌<◌, ◌≤◌, List, length, map, reverse, true, is_ok, MatchResult, IfOk};
+ghost use Rattle.std.specs.Prelude.{◌≡◌, ◌<◌, ◌≤◌, List, length, map, reverse, true, false, is_ok, MatchResult, IfOk};
 ghost use Rattle.cordyceps_shared.specs.Histories.{plain};
 ghost use Rattle.cordyceps_shared.specs.Shares.{whole};
 ghost use Rattle.cordyceps_shared.specs.Standings.{new_party, keeping, giving, Knows, Absorbs};
 ghost use Rattle.cordyceps_stack.specs.History.{held, Legal};
 ghost use Rattle.cordyceps_stack.specs.Shared.Calls.{PushesAt, PushesAllAt, Misses, Takes, Looks};
-ghost use Rattle.cordyceps_stack.specs.Shared.Calls.{Refills, GivesBack, HasAllRooms};
+ghost use Rattle.cordyceps_stack.specs.Shared.Calls.{Refills, GivesBack, HasAllRooms, LacksRooms};
 
 use crate::shared::batch::hand_out;
 use crate::shared::table::{OwnedTable, PartySeat};
@@ -245,7 +245,8 @@ impl<T: Linked<Links<T>>> TransferStack<T> {
     }
 
     /// Gives `rooms` of the party's rooms to the pool, from where each party may take them, and returns `true`. If other
-    /// rooms are in the pool, it returns `false`, and the party has its rooms. Requires that the party has as many rooms.
+    /// rooms are in the pool, it returns `false`, and the party has its rooms. So a whole party that has each room which
+    /// holds no element always gets `true`. Requires that the party has as many rooms.
     ///
     /// # Complexity
     /// O(`rooms`), or O(1) if the party gives all its rooms, or finds others there.
@@ -255,7 +256,8 @@ impl<T: Linked<Links<T>>> TransferStack<T> {
     pub fn give_back(&self, party: &mut Party<T>, rooms: usize) -> bool
         requires table { party.old.table ≡ self.now }
         requires rooms { rooms ≤ party.old.rooms }
-        ensures { GivesBack rooms result party.old party.new }
+        ensures answer { GivesBack rooms result party.old party.new }
+        ensures whole { party.old.share ≡ whole → result ≡ false → LacksRooms party.new }
     {
         required::as_many_rooms(rooms, party.rooms());
         pool::give_back(&self.rooms.shared, &mut party.seat, &mut party.free, rooms)

@@ -1,9 +1,9 @@
 //! How a party of a shared stack takes the rooms of the pool, and gives rooms back to it.
-ghost use Rattle.std.specs.Prelude.{◌≡◌, ◌≤◌, length};
+ghost use Rattle.std.specs.Prelude.{◌≡◌, ◌≤◌, length, false};
 ghost use Rattle.cordyceps_shared.specs.FreeChains.{Tracks, first_rooms};
 ghost use Rattle.cordyceps_shared.specs.Pools.{Packs};
 ghost use Rattle.cordyceps_stack.specs.Shared.Parts.{IsSeatOf, Refills, GivesBack};
-ghost use Rattle.cordyceps_stack.specs.Shared.Plays.{IsResting, FindsPool};
+ghost use Rattle.cordyceps_stack.specs.Shared.Plays.{IsResting, FindsPool, LacksRooms};
 ghost use Rattle.cordyceps_stack.specs.Shared.Slots.{view};
 
 use crate::shared::parting::{lead, pass};
@@ -59,6 +59,7 @@ fn is_empty<E: Drop>(words: &Words<E>, seat: &mut PartySeat<E>) -> bool
     requires rest { IsResting words.now.table_id.slots seat.old.me }
     ensures same { (seat.new.table_id ≡ seat.old.table_id) × (seat.new.me ≡ seat.old.me) }
     ensures few { length (view seat.old.me).free.rooms ≤ words.now.table_id.slots }
+    ensures lacks { result ≡ false → LacksRooms words.now.table_id.slots seat.old.me }
 {
     words.load::<Glance>(seat, POOL) == 0
 }
@@ -75,6 +76,7 @@ fn put<E: Drop, B: Count>(
     requires packs { Packs word (first_rooms rooms (view seat.old.me).free) }
     ensures table { seat.new.table_id ≡ seat.old.table_id }
     ensures gives { GivesBack rooms result seat.old.me seat.new.me }
+    ensures lacks { result ≡ false → LacksRooms words.now.table_id.slots seat.old.me }
 {
     words.compare_exchange::<GiveBack<B>>(seat, POOL, 0, word) == 0
 }
@@ -91,6 +93,7 @@ pub(crate) fn give_back<E: Drop>(
     requires rooms { Tracks free.old (view seat.old.me).free × (rooms ≤ free.old.count) }
     ensures table { seat.new.table_id ≡ seat.old.table_id }
     ensures gives { GivesBack rooms result seat.old.me seat.new.me }
+    ensures lacks { result ≡ false → LacksRooms words.now.table_id.slots seat.old.me }
     ensures tracks { Tracks free.new (view seat.new.me).free }
 {
     if rooms == 0 {

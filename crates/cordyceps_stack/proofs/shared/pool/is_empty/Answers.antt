@@ -1,6 +1,10 @@
 use Rattle.std.proofs.Common.{rules}
+use Rattle.cordyceps_stack.proofs.SharedTheory.PoolJoins.{not_zero}
 use Rattle.cordyceps_stack.proofs.SharedTheory.PoolKeeps.{glances}
 use Rattle.cordyceps_stack.proofs.shared.pool.is_empty.Goals as goal
 
 pub load-requires : goal.load-requires
 load-requires g c = (search rules, search rules, glances _ _ _ c.requires.rest.idle c.requires.rest.named)
+
+pub returns-clause-lacks : goal.returns-clause-lacks
+returns-clause-lacks g c not = c.load.ensures.2.lacks (not_zero c.load.result not)

@@ -1,7 +1,7 @@
-use Rattle.std.proofs.Common.{subst}
+use Rattle.std.proofs.Common.{◌≡◌, ap, ◌∙◌, subst, rules}
 use Rattle.cordyceps_stack.specs.Shared.Calls.{GivesBack}
 use Rattle.cordyceps_stack.specs.Shared.Parts.{standing}
-use Rattle.cordyceps_stack.proofs.SharedTheory.CallsHold.{gave_seated, gives_back}
+use Rattle.cordyceps_stack.proofs.SharedTheory.CallsHold.{gave_seated, gives_back, lacks_rooms}
 use Rattle.cordyceps_stack.proofs.shared.calls.TransferStack.give_back.Goals as goal
 
 pub invariant_of-party : goal.invariant_of-party
@@ -9,8 +9,15 @@ invariant_of-party g c =
     let e = c.give_back.ensures in
     gave_seated _ _ c.args.rooms c.give_back.result c.party.inside.seat.me c.give_back.new.seat.me _ _ c.party.invariant e.table e.gives e.tracks
 
-pub returns : goal.returns
-returns g c =
+pub returns-clause-answer : goal.returns-clause-answer
+returns-clause-answer g c =
     let e = c.give_back.ensures in
     let t = gives_back c.party.inside.seat.table_id c.give_back.new.seat.table_id c.args.rooms c.give_back.result c.party.inside.seat.me c.give_back.new.seat.me e.gives e.table in
     subst (λ u. GivesBack c.args.rooms c.give_back.result u (standing c.give_back.new.seat.table_id c.give_back.new.seat.me.0)) c.party.view_is t
+
+pub returns-clause-whole : goal.returns-clause-whole
+returns-clause-whole g c is not =
+    let e = c.give_back.ensures in
+    let there : c.party.inside.seat.table_id ≡ c.self.inside.rooms.shared.table_id = search rules in
+    lacks_rooms c.party.inside.seat.table_id c.give_back.new.seat.table_id c.self.inside.rooms.shared.table_id c.args.rooms c.give_back.result c.party.inside.seat.me c.give_back.new.seat.me e.table there e.gives not (e.lacks not)
+    (ap (λ u. u.share) c.party.view_is ∙ is)
