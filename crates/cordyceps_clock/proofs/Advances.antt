@@ -1,0 +1,184 @@
+-- The least time becomes now: the first bucket is spread over those below, and the others stay.
+use Rattle.std.proofs.Common.{Bool, ◌≡◌, ℕ, suc, zero, ◌<◌, ◌≤◌, ◌^◌, List, [], ◌∷◌, ◌++◌, length, get_or, slice_set, Option, None, refl, sym, ap, ◌∙◌, subst, inl, inr, arith}
+use Rattle.std.specs.List.{AllByRecursion, filter}
+use Rattle.std.specs.List.Sorted.{IsPermutation, IsStableBy, ties}
+use Rattle.std.proofs.lemmas.Bool.{cases_eq, cases_lt}
+use Rattle.std.proofs.lemmas.List.{get_or-set_same, get_or-set_other}
+use Rattle.std.proofs.lemmas.List.Elements.{filter-append, All-from_recursion, recursion_from_All}
+use Rattle.std.proofs.lemmas.List.Sorted.{All-permutation, IsPermutation-sym, IsPermutation-append_left}
+use denote.RawPtr.{Ptr}
+use Rattle.cordyceps_base.specs.Element.{Element}
+use Rattle.cordyceps_base.specs.Nodes.{Nodes}
+use Rattle.cordyceps_single.specs.ByKey.{AscendsBy}
+use Rattle.cordyceps_stable.proofs.Classes.{all_append, all_front, all_back, all_weaker}
+use Rattle.cordyceps_clock.specs.Buckets.{bucket_of, last_spot, number_at, row, AreDue, IsKept, IsFirstBucket, IsSpreading, IsTimed}
+use Rattle.cordyceps_clock.proofs.Numbers.{now_itself, is_now, earlier, stays, falls}
+use Rattle.cordyceps_clock.proofs.Rows.{row_in, row_out, row_none, row_below, row_two}
+
+module _ {A : Type 0} where
+  both : (P Q : A → Type 0) (xs : List A) → AllByRecursion P xs → AllByRecursion Q xs → AllByRecursion (λ x. P x × Q x) xs
+  both P Q [] p q = tt
+  both P Q (x ∷ xs) p q = ((p.0, q.0), both P Q xs p.1 q.1)
+
+  permuted : (P : A → Type 0) (xs ys : List A) → IsPermutation xs ys → AllByRecursion P xs → AllByRecursion P ys
+  permuted P xs ys h p = recursion_from_All P ys (All-permutation P xs ys h (All-from_recursion P xs p))
+
+  ascends_back : (number : A → ℕ) (xs ys : List A) → AscendsBy number (xs ++ ys) → AscendsBy number ys
+  ascends_back number [] ys h = h
+  ascends_back number (x ∷ xs) ys h = ascends_back number xs ys h.1
+
+  at_place : (P : A → Type 0) (xs : List A) (y : A) (ys : List A) → AllByRecursion P (xs ++ y ∷ ys) → P y
+  at_place P xs y ys h = (all_back P xs (y ∷ ys) h).0
+
+module _ {Y : Type 0} (f g : Ptr × Y → ℕ) where
+  abbrev Ns : Type 0
+  Ns = List (Ptr × Y)
+
+  -- numbers that agree on all nodes
+  same_above : (n : ℕ) (c : Ns) → AllByRecursion (λ x. f x ≡ g x) c → AllByRecursion (λ x. n ≤ f x) c → AllByRecursion (λ x. n ≤ g x) c
+  same_above n [] h p = tt
+  same_above n (x ∷ c) h p = (omega (arith, h.0, p.0), same_above n c h.1 p.1)
+
+  same_ascends : (c : Ns) → AllByRecursion (λ x. f x ≡ g x) c → AscendsBy f c → AscendsBy g c
+  same_ascends [] h p = tt
+  same_ascends (x ∷ c) h p = (subst (λ n. AllByRecursion (λ y. n ≤ g y) c) h.0 (same_above (f x) c h.1 p.0), same_ascends c h.1 p.1)
+
+  same_row : (k : ℕ) (c : Ns) → AllByRecursion (λ x. f x ≡ g x) c → row f k c ≡ row g k c
+  same_row k [] h = refl
+  same_row k (x ∷ c) h = elim (cases_eq (f x) k) [
+    | inl is ↦ row_in f k x c is ∙ ap (λ l. x ∷ l) (same_row k c h.1) ∙ sym (row_in g k x c (sym h.0 ∙ is))
+    | inr other ↦ row_out f k x c other ∙ same_row k c h.1 ∙ sym (row_out g k x c (λ is. other (h.0 ∙ is)))
+  ]
+
+module _ {X : Type 0} (of : X → ℕ) (now j : ℕ) (ends new : List (Option Ptr)) (c : Nodes X) (least len : ℕ) (small : now < 2 ^ 64) (timed : IsTimed of now ends c) (b : IsFirstBucket of now (suc j) c least len) where
+  abbrev InTime : Ptr × Element X → Type 0
+  InTime n = (now ≤ of n.1.value) × (of n.1.value < 2 ^ 64)
+
+  times : AllByRecursion InTime (b.first ++ b.others)
+  times = subst (AllByRecursion InTime) b.parts timed.times
+
+  -- the node that is due at the least time
+  the_least : (n : Ptr × Element X) × InTime n × (number_at of now n ≡ suc j) × (of n.1.value ≡ least)
+  the_least =
+      let (before, n, after, is, due) = b.reached in
+      let inside = at_place (λ m. (number_at of now m ≡ suc j) × (least ≤ of m.1.value)) before n after (subst (AllByRecursion (λ m. (number_at of now m ≡ suc j) × (least ≤ of m.1.value))) is b.inside) in
+      let time = at_place InTime before n after (subst (AllByRecursion InTime) is (all_front InTime b.first b.others times)) in
+      (n, time, inside.0, due)
+
+  pub later : now ≤ least
+  later = let (n, time, at, due) = the_least in omega (arith, time.0, due)
+
+  fits : least < 2 ^ 64
+  fits = let (n, time, at, due) = the_least in omega (arith, time.1, due)
+
+  in_bucket : bucket_of now least ≡ suc j
+  in_bucket = let (n, time, at, due) = the_least in ap (bucket_of now) (sym due) ∙ at
+
+  -- the others stay in their buckets
+  outer : AllByRecursion (λ n. InTime n × (suc j < number_at of now n)) b.others
+  outer = both InTime (λ n. suc j < number_at of now n) b.others (all_back InTime b.first b.others times) b.outside
+
+  same : AllByRecursion (λ n. number_at of now n ≡ number_at of least n) b.others
+  same = all_weaker (λ n. InTime n × (suc j < number_at of now n)) (λ n. number_at of now n ≡ number_at of least n)
+      (λ n h. sym (stays now least (of n.1.value) small fits h.0.1 (omega (arith, in_bucket, h.1)))) b.others outer
+
+  inner : AllByRecursion (λ n. InTime n × ((number_at of now n ≡ suc j) × (least ≤ of n.1.value))) b.first
+  inner = both InTime (λ n. (number_at of now n ≡ suc j) × (least ≤ of n.1.value)) b.first (all_front InTime b.first b.others times) b.inside
+
+  pub opened : get_or new (suc j) None ≡ None → ((i : ℕ) → (i ≡ suc j → ⊥) → get_or new i None ≡ get_or ends i None) → IsSpreading (number_at of least) new c j [] b.first b.others
+  opened cleared stay = record {
+    parts = b.parts;
+    kept = record {
+      ascends = same_ascends (number_at of now) (number_at of least) b.others same (ascends_back (number_at of now) b.first b.others (subst (AscendsBy (number_at of now)) b.parts timed.kept.ascends));
+      last = λ i within. elim (cases_eq i (suc j)) [
+        | inl is ↦
+            ap (λ m. get_or new m None) is ∙ cleared
+            ∙ sym (ap last_spot (sym (same_row (number_at of now) (number_at of least) i b.others same) ∙ row_below (number_at of now) i b.others (subst (λ m. AllByRecursion (λ n. m < number_at of now n) b.others) (sym is) b.outside)))
+        | inr other ↦
+            stay i other ∙ timed.kept.last i within ∙ ap (λ l. last_spot (row (number_at of now) i l)) b.parts
+            ∙ ap last_spot (row_two (number_at of now) i b.first b.others ∙ ap (λ l. l ++ row (number_at of now) i b.others) (row_none (number_at of now) i b.first (all_weaker (λ n. (number_at of now n ≡ suc j) × (least ≤ of n.1.value)) (λ n. number_at of now n ≡ i → ⊥) (λ n h is. other (sym is ∙ h.0)) b.first b.inside)) ∙ same_row (number_at of now) (number_at of least) i b.others same)
+      ];
+    };
+    low = all_weaker (λ n. InTime n × ((number_at of now n ≡ suc j) × (least ≤ of n.1.value))) (λ n. number_at of least n ≤ j)
+        (λ n h. falls j now least (of n.1.value) small fits h.0.1 later h.1.1 in_bucket h.1.0) b.first inner;
+    high = all_weaker (λ n. InTime n × (suc j < number_at of now n)) (λ n. j < number_at of least n)
+        (λ n h. omega (arith, h.1, stays now least (of n.1.value) small fits h.0.1 (omega (arith, in_bucket, h.1)))) b.others outer;
+  }
+
+  abbrev InLater : Ptr × Element X → Type 0
+  InLater n = (least ≤ of n.1.value) × (of n.1.value < 2 ^ 64)
+
+  pub advanced : (last : List (Option Ptr)) (d done : Nodes X) → IsSpreading (number_at of least) last d j done [] b.others → IsPermutation b.first done → IsTimed of least last d
+  advanced last d done s moved = record {
+    kept = subst (IsKept (number_at of least) last) (sym s.parts) s.kept;
+    times = subst (AllByRecursion InLater) (sym s.parts) (all_append InLater done b.others
+        (permuted InLater b.first done moved (all_weaker (λ n. InTime n × ((number_at of now n ≡ suc j) × (least ≤ of n.1.value))) InLater (λ n h. (h.1.1, h.0.1)) b.first inner))
+        (all_weaker (λ n. InTime n × (suc j < number_at of now n)) InLater
+        (λ n h. (omega (arith, earlier now least (of n.1.value) small fits h.0.1 h.0.0 (omega (arith, in_bucket, h.1))), h.0.1)) b.others outer));
+  }
+
+  -- the first is due now
+  none_due : (d : Nodes X) (xs : Nodes X) → AllByRecursion (λ n. zero < number_at of least n) xs → IsPermutation b.first xs → ⊥
+  none_due d xs h moved =
+      let (before, n, after, is, due) = b.reached in
+      let all = permuted (λ m. zero < number_at of least m) xs b.first (IsPermutation-sym b.first xs moved) h in
+      let high = at_place (λ m. zero < number_at of least m) before n after (subst (AllByRecursion (λ m. zero < number_at of least m)) is all) in
+      let none = now_itself least fits in
+      omega (arith, high, ap (bucket_of least) due, none)
+
+  pub first_due : (last : List (Option Ptr)) (d done : Nodes X) → IsSpreading (number_at of least) last d j done [] b.others → IsPermutation b.first done
+      → (p : Ptr) × (e : Element X) × (after : Nodes X) × (d ≡ (p, e) ∷ after) × (of e.value ≡ least)
+  first_due last d [] s moved = absurd (none_due d [] tt moved)
+  first_due last d (n ∷ done) s moved =
+      let timed_too = advanced last d (n ∷ done) s moved in
+      let time = subst (AllByRecursion InLater) s.parts timed_too.times in
+      elim (cases_lt zero (number_at of least n)) [
+        | inl over ↦ absurd (none_due d (n ∷ done) (over, all_weaker (λ m. number_at of least n ≤ number_at of least m) (λ m. zero < number_at of least m) (λ m q. omega (arith, q, over)) done (all_front (λ m. number_at of least n ≤ number_at of least m) done b.others s.kept.ascends.0)) moved)
+        | inr none ↦ (n.0, n.1, done ++ b.others, s.parts, sym (is_now least (of n.1.value) fits time.0.1 (omega (arith, none))))
+      ]
+
+  pub still : (lt : Ptr × Element X → Ptr × Element X → Bool) (last : List (Option Ptr)) (d done : Nodes X) → IsSpreading (number_at of least) last d j done [] b.others → IsStableBy lt b.first done → IsStableBy lt c d
+  still lt last d done s stable = λ z. let t = ties lt z in
+      ap (filter t) s.parts ∙ filter-append t done b.others ∙ ap (λ l. l ++ filter t b.others) (stable z) ∙ sym (ap (filter t) b.parts ∙ filter-append t b.first b.others)
+
+  pub same_nodes : (last : List (Option Ptr)) (d done : Nodes X) → IsSpreading (number_at of least) last d j done [] b.others → IsPermutation b.first done → IsPermutation c d
+  same_nodes last d done s moved =
+      subst (λ (l : Nodes X × Nodes X). IsPermutation l.0 l.1) (λ i. (sym b.parts i, sym s.parts i)) (IsPermutation-append_left b.others b.first done moved)
+
+module _ {X : Type 0} (of : X → ℕ) (now : ℕ) (ends : List (Option Ptr)) (c : Nodes X) (small : now < 2 ^ 64) (timed : IsTimed of now ends c) where
+  -- the first is due now, if its bucket is that of now
+  pub due_already : (p : Ptr) (e : Element X) (after : Nodes X) (k : ℕ) → c ≡ (p, e) ∷ after → bucket_of now (of e.value) ≡ k → k ≡ 0 → of e.value ≡ now
+  due_already p e after k is at none =
+      let time = (subst (AllByRecursion (λ n. (now ≤ of n.1.value) × (of n.1.value < 2 ^ 64))) is timed.times).0 in
+      sym (is_now now (of e.value) small time.1 (at ∙ none))
+
+  -- the first bucket, whose end is taken away: it may be spread, and what comes of that
+  pub record Opened (k least len : ℕ) : Type 0 where
+    pub j : ℕ
+    pub first : Nodes X
+    pub others : Nodes X
+    pub long : length first ≡ len
+    pub due : AreDue of least first
+    pub spreading : IsSpreading (number_at of least) (slice_set ends k None) c j [] first others
+    pub later : now ≤ least
+    pub advanced : (last : List (Option Ptr)) (d done : Nodes X) → IsSpreading (number_at of least) last d j done [] others → IsPermutation first done → IsTimed of least last d
+    pub first_due : (last : List (Option Ptr)) (d done : Nodes X) → IsSpreading (number_at of least) last d j done [] others → IsPermutation first done → (p : Ptr) × (e : Element X) × (after : Nodes X) × (d ≡ (p, e) ∷ after) × (of e.value ≡ least)
+    pub still : (lt : Ptr × Element X → Ptr × Element X → Bool) (last : List (Option Ptr)) (d done : Nodes X) → IsSpreading (number_at of least) last d j done [] others → IsStableBy lt first done → IsStableBy lt c d
+    pub same_nodes : (last : List (Option Ptr)) (d done : Nodes X) → IsSpreading (number_at of least) last d j done [] others → IsPermutation first done → IsPermutation c d
+
+  pub opened_at : (k least len : ℕ) → (k ≡ 0 → ⊥) → k < 65 → length ends ≡ 65 → IsFirstBucket of now k c least len → Opened k least len
+  opened_at zero least len some within long b = absurd (some refl)
+  opened_at (suc j) least len some within long b =
+      let new = slice_set ends (suc j) None in record {
+        j = j;
+        first = b.first;
+        others = b.others;
+        long = b.long;
+        due = all_weaker (λ n. ((now ≤ of n.1.value) × (of n.1.value < 2 ^ 64)) × ((number_at of now n ≡ suc j) × (least ≤ of n.1.value))) (λ n. (least ≤ of n.1.value) × (of n.1.value < 2 ^ 64)) (λ n h. (h.1.1, h.0.1)) b.first (inner of now j ends new c least len small timed b);
+        spreading = opened of now j ends new c least len small timed b (get_or-set_same ends (suc j) None None (omega (arith, within, long))) (λ i other. get_or-set_other ends (suc j) i None None other);
+        later = later of now j ends new c least len small timed b;
+        advanced = advanced of now j ends new c least len small timed b;
+        first_due = first_due of now j ends new c least len small timed b;
+        still = still of now j ends new c least len small timed b;
+        same_nodes = same_nodes of now j ends new c least len small timed b;
+      }

@@ -1,0 +1,140 @@
+-- How the least time of the first bucket is found: the nodes that were seen, and those that are left.
+use Rattle.std.proofs.Common.{◌≡◌, ℕ, ◌+◌, ◌<◌, ◌≤◌, [], ◌∷◌, ◌++◌, length, length-append, MatchOption, Option, Some, None, min, refl, sym, ap, ◌∙◌, subst, inl, inr, arith}
+use Rattle.std.specs.List.{AllByRecursion}
+use Rattle.std.proofs.lemmas.Bool.{cases_lt}
+use Rattle.std.proofs.lemmas.List.{append_assoc}
+use denote.RawPtr.{Ptr}
+use Rattle.cordyceps_base.specs.BySpot.{HasSpot, HoldsAt, IsFirst, IsLast, AreNext}
+use Rattle.cordyceps_base.specs.Element.{Element}
+use Rattle.cordyceps_base.specs.Nodes.{Nodes, spots}
+use Rattle.cordyceps_base.specs.Spots.{AreDistinct}
+use Rattle.cordyceps_single.specs.ByKey.{AscendsBy}
+use Rattle.cordyceps_stable.proofs.Classes.{all_append, all_back, all_weaker}
+use Rattle.cordyceps_stable.proofs.Holding.{spot_is_at, unique}
+use Rattle.cordyceps_clock.specs.Buckets.{bucket_of, number_at, IsFirstBucket}
+use Rattle.cordyceps_clock.proofs.Ends.{held_is, value_is}
+use Rattle.cordyceps_clock.proofs.Rows.{from_it}
+
+module _ {X : Type 0} where
+  -- the seen nodes, and those that are left, of which the first is at a spot
+  pub record Seen (c : Nodes X) (len : ℕ) (at : Option Ptr) : Type 0 where
+    pub seen : Nodes X
+    pub left : Nodes X
+    pub parts : c ≡ seen ++ left
+    pub long : length seen ≡ len
+    pub next : MatchOption at (left ≡ []) (λ q. IsFirst left q)
+
+  -- and what is known of the seen ones
+  abbrev pub Counted : Nodes X → ℕ → Option Ptr → (Nodes X → Type 0) → Type 0
+  Counted c len at P = (s : Seen c len at) × P s.seen
+
+  -- the seen ones are of the bucket k, and least is the least of their times
+  pub record IsLeastOf (of : X → ℕ) (now k least : ℕ) (seen : Nodes X) : Type 0 where
+    pub inside : AllByRecursion (λ n. (number_at of now n ≡ k) × (least ≤ of n.1.value)) seen
+    pub reached : (before : Nodes X) × (n : Ptr × Element X) × (after : Nodes X) × (seen ≡ before ++ n ∷ after) × (of n.1.value ≡ least)
+
+  pub seen_has : (c : Nodes X) (len : ℕ) (q : Ptr) → Seen c len (Some q) → HasSpot c q
+  seen_has c len q s = let (e, after, is) = s.next in spot_is_at c q e (s.seen, after, s.parts ∙ ap (λ l. s.seen ++ l) is)
+
+  pub seen_below : (c : Nodes X) (len : ℕ) (q : Ptr) → Seen c len (Some q) → len < length c
+  seen_below c len q s =
+      let (e, after, is) = s.next in
+      omega (arith, s.long, ap length s.parts ∙ length-append s.seen s.left, ap length is)
+
+  pub next_of : (c front back : Nodes X) (p : Ptr) (e : Element X) (o : Option Ptr) → AreDistinct (spots c) → c ≡ front ++ (p, e) ∷ back → MatchOption o (IsLast c p) (λ q. AreNext c p q) → MatchOption o (back ≡ []) (λ q. IsFirst back q)
+  next_of c front back p e None distinct is (f, x, at) = (unique front back f [] p e x (sym is ∙ at) (subst (λ l. AreDistinct (spots l)) is distinct)).2
+  next_of c front back p e (Some q) distinct is (f, x, y, after, at) = (y, after, (unique front back f ((q, y) ∷ after) p e x (sym is ∙ at) (subst (λ l. AreDistinct (spots l)) is distinct)).2)
+
+  abbrev pub seen_first : (c : Nodes X) (p : Ptr) (o : Option Ptr) → AreDistinct (spots c) → IsFirst c p → MatchOption o (IsLast c p) (λ q. AreNext c p q) → Seen c 1 o
+  seen_first c p o distinct (e, after, is) on = record { seen = (p, e) ∷ []; left = after; parts = is; long = refl; next = next_of c [] after p e o distinct is on }
+
+  abbrev pub seen_more : (c : Nodes X) (len : ℕ) (q : Ptr) (o : Option Ptr) → AreDistinct (spots c) → Seen c len (Some q) → MatchOption o (IsLast c q) (λ r. AreNext c q r) → Seen c (len + 1) o
+  seen_more c len q o distinct s on =
+      let (e, after, is) = s.next in
+      let whole : c ≡ s.seen ++ (q, e) ∷ after = s.parts ∙ ap (λ l. s.seen ++ l) is in
+      record {
+        seen = s.seen ++ (q, e) ∷ [];
+        left = after;
+        parts = whole ∙ sym (append_assoc s.seen ((q, e) ∷ []) after);
+        long = omega (arith, s.long, length-append s.seen ((q, e) ∷ []));
+        next = next_of c s.seen after q e o distinct whole on;
+      }
+
+  module _ (of : X → ℕ) (now k : ℕ) where
+    abbrev Inside : ℕ → Ptr × Element X → Type 0
+    Inside least n = (number_at of now n ≡ k) × (least ≤ of n.1.value)
+
+    pub least_first : (n : Ptr × Element X) → number_at of now n ≡ k → IsLeastOf of now k (of n.1.value) (n ∷ [])
+    least_first n e = record { inside = ((e, omega arith), tt); reached = ([], n, [], refl, refl) }
+
+    pub least_begun : (c after front : Nodes X) (p : Ptr) (e o : Element X) (v : X) (time : ℕ) → AreDistinct (spots c) → c ≡ (p, o) ∷ front → c ≡ (p, e) ∷ after → HoldsAt c p v → time ≡ of v → bucket_of now (of e.value) ≡ k → IsLeastOf of now k time ((p, o) ∷ [])
+    least_begun c after front p e o v time distinct was is holds due at =
+        let both : (p, o) ∷ front ≡ (p, e) ∷ after = sym was ∙ is in let same : (p, o) ≡ (p, e) = cc in
+        let value = value_is of now k c [] front p o v distinct was holds in
+        subst (λ t. IsLeastOf of now k t ((p, o) ∷ [])) (sym (due ∙ ap of value)) (least_first (p, o) (ap (λ (n : Ptr × Element X). bucket_of now (of n.1.value)) same ∙ at))
+
+    pub least_more : (least : ℕ) (seen : Nodes X) (n : Ptr × Element X) → number_at of now n ≡ k → IsLeastOf of now k least seen → IsLeastOf of now k (min least (of n.1.value)) (seen ++ n ∷ [])
+    least_more least seen n e l =
+        let d = of n.1.value in
+        elim (cases_lt d least) [
+          | inl less ↦
+              let is : min least d ≡ d = omega (arith, less) in
+              record {
+                inside = all_append (Inside (min least d)) seen (n ∷ []) (all_weaker (Inside least) (Inside (min least d)) (λ m h. (h.0, omega (arith, h.1, less, is))) seen l.inside) ((e, omega (arith, is)), tt);
+                reached = (seen, n, [], refl, sym is);
+              }
+          | inr more ↦
+              let is : min least d ≡ least = omega (arith, more) in let (before, m, after, at, due) = l.reached in
+              record {
+                inside = all_append (Inside (min least d)) seen (n ∷ []) (all_weaker (Inside least) (Inside (min least d)) (λ m h. (h.0, omega (arith, h.1, is))) seen l.inside) ((e, omega (arith, more, is)), tt);
+                reached = (before, m, after ++ n ∷ [], ap (λ s. s ++ n ∷ []) at ∙ append_assoc before (m ∷ after) (n ∷ []), due ∙ sym is);
+              }
+        ]
+
+    -- where the bucket ends
+    pub first_none : (c : Nodes X) (least len : ℕ) (s : Seen c len None) → IsLeastOf of now k least s.seen → IsFirstBucket of now k c least len
+    first_none c least len s l = record { first = s.seen; others = s.left; parts = s.parts; long = s.long; inside = l.inside; reached = l.reached; outside = subst (AllByRecursion (λ n. k < number_at of now n)) (sym s.next) tt }
+
+    pub first_some : (c : Nodes X) (least len : ℕ) (q : Ptr) (v : X) (time b : ℕ) (s : Seen c len (Some q)) → AreDistinct (spots c) → AscendsBy (number_at of now) c → HoldsAt c q v → time ≡ of v → b ≡ bucket_of now time → (b ≡ k → ⊥) → IsLeastOf of now k least s.seen → IsFirstBucket of now k c least len
+    first_some c least len q v time b s distinct ascends holds due at other l =
+        let (e, after, is) = s.next in let N = number_at of now in
+        let whole : c ≡ s.seen ++ (q, e) ∷ after = s.parts ∙ ap (λ t. s.seen ++ t) is in
+        let number : N (q, e) ≡ b = held_is of now b c s.seen after q e v time distinct whole holds due at in
+        let (before, m, back, has, reach) = l.reached in
+        let inner = (all_back (Inside least) before (m ∷ back) (subst (AllByRecursion (Inside least)) has l.inside)).0 in
+        let shown : c ≡ before ++ m ∷ (back ++ (q, e) ∷ after) = whole ∙ ap (λ t. t ++ (q, e) ∷ after) has ∙ append_assoc before (m ∷ back) ((q, e) ∷ after) in
+        let from = from_it N before (back ++ (q, e) ∷ after) m (subst (AscendsBy N) shown ascends) in
+        let first : k < N (q, e) = omega (arith, (all_back (λ y. N m ≤ N y) back ((q, e) ∷ after) from).0, inner.0, number, other) in
+        let rest = from_it N s.seen after (q, e) (subst (AscendsBy N) whole ascends) in
+        record {
+          first = s.seen;
+          others = s.left;
+          parts = s.parts;
+          long = s.long;
+          inside = l.inside;
+          reached = l.reached;
+          outside = subst (AllByRecursion (λ n. k < N n)) (sym is) (first, all_weaker (λ y. N (q, e) ≤ N y) (λ y. k < N y) (λ y h. omega (arith, h, first)) after rest);
+        }
+
+module _ {X : Type 0} (K : (X → ℕ) → Type 0) (now k : ℕ) (c : Nodes X) (at : Ptr) (least : ℕ) where
+  abbrev Known : ℕ → Nodes X → Type 0
+  Known m seen = (of : X → ℕ) (e : Element X) (after : Nodes X) → K of → c ≡ (at, e) ∷ after → bucket_of now (of e.value) ≡ k → IsLeastOf of now k m seen
+
+  -- one more was seen, which is of the bucket
+  pub counted_more : (len : ℕ) (q : Ptr) (o : Option Ptr) (v : X) (due m b : ℕ) → AreDistinct (spots c) → HoldsAt c q v → ((of : X → ℕ) → K of → due ≡ of v) → m ≡ min least due → b ≡ bucket_of now due → b ≡ k
+      → MatchOption o (IsLast c q) (λ r. AreNext c q r) → Counted c len (Some q) (Known least) → Counted c (len + 1) o (Known m)
+  counted_more len q o v due m b distinct holds tells is at_b in_k on (s, known) =
+      let (x, left, first) = s.next in (
+        seen_more c len q o distinct s on,
+        λ of e after has begins bucket.
+            let whole : c ≡ s.seen ++ (q, x) ∷ left = s.parts ∙ ap (λ l. s.seen ++ l) first in
+            let value : v ≡ x.value = value_is of now k c s.seen left q x v distinct whole holds in
+            let time : due ≡ of x.value = tells of has ∙ ap of value in
+            let number : number_at of now (q, x) ≡ k = ap (bucket_of now) (sym time) ∙ sym at_b ∙ in_k in
+            subst (λ t. IsLeastOf of now k t (s.seen ++ (q, x) ∷ [])) (sym (is ∙ ap (min least) time)) (least_more of now k least s.seen (q, x) number (known of e after has begins bucket)),
+      )
+
+-- what is at no spot is none
+pub none_is : (o : Option Ptr) → ((p : Ptr) → o ≡ Some p → ⊥) → o ≡ None
+none_is None h = refl
+none_is (Some p) h = absurd (h p refl)

@@ -1,0 +1,61 @@
+-- A node that is put in after the nearest end, or moved there.
+use Rattle.std.proofs.Common.{true, ◌≡◌, ℕ, ◌+◌, ◌-◌, ◌<◌, ◌≤◌, length, MatchOption, slice_set, List, [], ◌∷◌, ◌++◌, get_or, Option, Some, None, sym, ap, ◌∙◌, subst, arith}
+use Rattle.std.specs.Option.{is_some}
+use Rattle.std.proofs.lemmas.List.{append_assoc, get_or_default, get_or-set_same, get_or-set_other}
+use denote.RawPtr.{Ptr}
+use Rattle.cordyceps_base.specs.BySpot.{HasSpot, IsPutAfter}
+use Rattle.cordyceps_base.specs.Element.{Element}
+use Rattle.cordyceps_base.specs.Nodes.{Nodes, spots}
+use Rattle.cordyceps_base.specs.Spots.{AreDistinct}
+use Rattle.cordyceps_stable.proofs.Holding.{spot_is_at, unique}
+use Rattle.cordyceps_clock.specs.Buckets.{IsKept, IsPutIn}
+use Rattle.cordyceps_clock.proofs.Rows.{IsNearest, parted, kept_put}
+
+-- what a call left is what is there
+module _ {X : Type 0} (P : Ptr → Nodes X → Type 0) where
+  pub shown_put : (c d : Nodes X) (p q : Ptr) → d ≡ c → q ≡ p → P p c → P q d
+  shown_put c d p q is at h = subst (λ (l : Ptr × Nodes X). P l.0 l.1) (λ i. (sym at i, sym is i)) h
+
+abbrev pub IsSet : List (Option Ptr) → List (Option Ptr) → ℕ → Ptr → Type 0
+IsSet ends new k spot = (get_or new k None ≡ Some spot) × ((i : ℕ) → (i ≡ k → ⊥) → get_or new i None ≡ get_or ends i None)
+
+-- an end that was written
+pub set_is : (ends : List (Option Ptr)) (k : ℕ) (spot : Ptr) → length ends ≡ 65 → k < 65 → IsSet ends (slice_set ends k (Some spot)) k spot
+set_is ends k spot long small = (get_or-set_same ends k (Some spot) None (omega (arith, long, small)), λ i other. get_or-set_other ends k i (Some spot) None other)
+
+-- the first end that is found is the nearest
+pub found_end : (ends : List (Option Ptr)) (k above : ℕ) (r : Option Ptr) → length ends ≡ 65 → k < 65 → 0 < above → above ≤ k + 1 → ((i : ℕ) → above ≤ i → i ≤ k → get_or ends i None ≡ None) → is_some (get_or ends (above - 1) r) ≡ true
+    → MatchOption (get_or ends (above - 1) r) ((i : ℕ) → i ≤ k → get_or ends i None ≡ None) (λ p. (j : ℕ) × (j ≤ k) × (get_or ends j None ≡ Some p) × ((i : ℕ) → j < i → i ≤ k → get_or ends i None ≡ None))
+found_end ends k above r long small some within none is = go (get_or ends (above - 1) r) (get_or_default ends (above - 1) None r (omega (arith, long, small, within))) is where
+  go : (o : Option Ptr) → get_or ends (above - 1) None ≡ o → is_some o ≡ true
+      → MatchOption o ((i : ℕ) → i ≤ k → get_or ends i None ≡ None) (λ p. (j : ℕ) × (j ≤ k) × (get_or ends j None ≡ Some p) × ((i : ℕ) → j < i → i ≤ k → get_or ends i None ≡ None))
+  go None at t = absurd cc
+  go (Some p) at t = (above - 1, omega (arith, within, some), at, λ i more upto. none i (omega (arith, more, some)) upto)
+
+module _ {X : Type 0} (number : Ptr × Element X → ℕ) where
+  -- the nearest end is where a node is
+  pub nearest_has : (ends : List (Option Ptr)) (c : Nodes X) (k : ℕ) (to : Ptr) → k < 65 → IsKept number ends c → IsNearest number ends k (Some to) → HasSpot c to
+  nearest_has ends c k to small kept near =
+      let p = parted number ends c k (Some to) small kept near in let (front, y, low) = p.end in
+      spot_is_at c to y (front, p.high, p.is ∙ ap (λ l. l ++ p.high) low ∙ append_assoc front ((to, y) ∷ []) p.high)
+
+  pub put_after : (ends new : List (Option Ptr)) (c d : Nodes X) (to spot : Ptr) (e : Element X) (k : ℕ) → k < 65 → AreDistinct (spots c) → IsKept number ends c → IsNearest number ends k (Some to) → IsPutAfter c to spot e d
+      → number (spot, e) ≡ k → IsSet ends new k spot → IsKept number new d × IsPutIn number k c spot e d
+  put_after ends new c d to spot e k small distinct kept near (before, o, after, was, is) numbered set =
+      let p = parted number ends c k (Some to) small kept near in let (front, y, low) = p.end in
+      let whole : c ≡ front ++ (to, y) ∷ p.high = p.is ∙ ap (λ l. l ++ p.high) low ∙ append_assoc front ((to, y) ∷ []) p.high in
+      let same = unique before after front p.high to o y (sym was ∙ whole) (subst (λ l. AreDistinct (spots l)) was distinct) in
+      let put : d ≡ p.low ++ (spot, e) ∷ p.high =
+      is ∙ (λ i. same.0 i ++ (to, same.1 i) ∷ (spot, e) ∷ same.2 i) ∙ sym (append_assoc front ((to, y) ∷ []) ((spot, e) ∷ p.high)) ∙ ap (λ l. l ++ (spot, e) ∷ p.high) (sym low) in (
+        subst (IsKept number new) (sym put) (kept_put number ends new p.low p.high (spot, e) k numbered p.upto p.above set.0 set.1 (subst (IsKept number ends) p.is kept)),
+        (p.low, p.high, p.is, put, p.above),
+      )
+
+  pub put_first : (ends new : List (Option Ptr)) (c d : Nodes X) (spot : Ptr) (e : Element X) (k : ℕ) → k < 65 → IsKept number ends c → IsNearest number ends k None → d ≡ (spot, e) ∷ c
+      → number (spot, e) ≡ k → IsSet ends new k spot → IsKept number new d × IsPutIn number k c spot e d
+  put_first ends new c d spot e k small kept near is numbered set =
+      let p = parted number ends c k None small kept near in
+      let put : d ≡ p.low ++ (spot, e) ∷ p.high = is ∙ ap (λ l. (spot, e) ∷ l) (p.is ∙ ap (λ l. l ++ p.high) p.end) ∙ ap (λ l. l ++ (spot, e) ∷ p.high) (sym p.end) in (
+        subst (IsKept number new) (sym put) (kept_put number ends new p.low p.high (spot, e) k numbered p.upto p.above set.0 set.1 (subst (IsKept number ends) p.is kept)),
+        (p.low, p.high, p.is, put, p.above),
+      )

@@ -1,0 +1,68 @@
+-- Buckets of times, and where each of them ends in a list.
+use Rattle.std.specs.Prelude.{◌≡◌, ℕ, ◌-◌, ◌<◌, ◌≤◌, ◌^◌, ◌==◌, List, [], ◌∷◌, ◌++◌, length, get_or, filter, bit_xor, Option, Some, None}
+use Rattle.std.specs.Int.Count.{count_leading_zeros}
+use Rattle.std.specs.List.{AllByRecursion}
+use denote.RawPtr.{Ptr}
+use Rattle.cordyceps_base.specs.Element.{Element}
+use Rattle.cordyceps_base.specs.Nodes.{Nodes}
+use Rattle.cordyceps_single.specs.ByKey.{AscendsBy}
+
+-- the bucket of a time: 0 for now, otherwise one more than the highest bit in which the two differ
+abbrev pub bucket_of : (now time : ℕ) → ℕ
+bucket_of now time = 64 - count_leading_zeros 64 (bit_xor now time)
+
+module _ {Y : Type 0} where
+  -- where the last of some nodes is, if there is one
+  abbrev pub last_spot : List (Ptr × Y) → Option Ptr
+  last_spot [] = None
+  last_spot (n ∷ []) = Some n.0
+  last_spot (n ∷ m ∷ c) = last_spot (m ∷ c)
+
+  module _ (number : Ptr × Y → ℕ) where
+    -- the nodes of one bucket
+    abbrev pub row : ℕ → List (Ptr × Y) → List (Ptr × Y)
+    row k c = filter (λ n. number n == k) c
+
+    -- the nodes are in the order of their buckets, and each bucket ends where its last node is
+    pub record IsKept (ends : List (Option Ptr)) (c : List (Ptr × Y)) : Type 0 where
+      pub ascends : AscendsBy number c
+      pub last : (k : ℕ) → k < 65 → get_or ends k None ≡ last_spot (row k c)
+
+module _ {X : Type 0} (of : X → ℕ) where
+  -- the bucket of a node
+  abbrev pub number_at : (now : ℕ) → Ptr × Element X → ℕ
+  number_at now n = bucket_of now (of n.1.value)
+
+  -- no node is due before now
+  abbrev pub AreDue : (now : ℕ) → Nodes X → Type 0
+  AreDue now c = AllByRecursion (λ n. (now ≤ of n.1.value) × (of n.1.value < 2 ^ 64)) c
+
+  -- no node is due before now, and the nodes lie in their buckets
+  pub record IsTimed (now : ℕ) (ends : List (Option Ptr)) (c : Nodes X) : Type 0 where
+    pub kept : IsKept (number_at now) ends c
+    pub times : AreDue now c
+
+module _ {X : Type 0} where
+  -- the node e at p was put in after all nodes of c but those of buckets above k
+  abbrev pub IsPutIn : (Ptr × Element X → ℕ) → ℕ → Nodes X → Ptr → Element X → Nodes X → Type 0
+  IsPutIn number k c p e d =
+      (low : Nodes X) × (high : Nodes X) × (c ≡ low ++ high) × (d ≡ low ++ (p, e) ∷ high)
+      × AllByRecursion (λ n. k < number n) high
+
+  -- the first nodes are those of the bucket k, least is the least of their times, and there are len of them
+  pub record IsFirstBucket (of : X → ℕ) (now k : ℕ) (c : Nodes X) (least len : ℕ) : Type 0 where
+    pub first : Nodes X
+    pub others : Nodes X
+    pub parts : c ≡ first ++ others
+    pub long : length first ≡ len
+    pub inside : AllByRecursion (λ n. (number_at of now n ≡ k) × (least ≤ of n.1.value)) first
+    pub reached : (before : Nodes X) × (n : Ptr × Element X) × (after : Nodes X) × (first ≡ before ++ n ∷ after) × (of n.1.value ≡ least)
+    pub outside : AllByRecursion (λ n. k < number_at of now n) others
+
+  -- The done nodes lie in buckets up to j, and the others in buckets above it. Those to do lie between them, and in no
+  -- bucket yet; they belong into buckets up to j.
+  pub record IsSpreading (number : Ptr × Element X → ℕ) (ends : List (Option Ptr)) (c : Nodes X) (j : ℕ) (done todo others : Nodes X) : Type 0 where
+    pub parts : c ≡ done ++ (todo ++ others)
+    pub kept : IsKept number ends (done ++ others)
+    pub low : AllByRecursion (λ n. number n ≤ j) todo
+    pub high : AllByRecursion (λ n. j < number n) others

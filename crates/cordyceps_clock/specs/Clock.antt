@@ -1,0 +1,17 @@
+-- What a queue of times stands for.
+use Rattle.std.specs.Prelude.{ℕ}
+use Rattle.std.specs.declared.cmp.Ordering.{Ordering}
+use Rattle.std.specs.List.Sorted.{IsStableBy}
+use Rattle.cordyceps_base.specs.Nodes.{Nodes}
+use Rattle.cordyceps_stable.specs.Arranged.{precedes}
+
+-- what a contract sees of a queue: its nodes, in an order of no meaning, the function that returns their times, and the
+-- time of the node that came out last
+pub record Clocked (X O : Type 0) : Type 0 where
+  pub nodes : Nodes X
+  pub time : O
+  pub clock : ℕ
+
+-- the nodes are the arrivals a, and equals are ordered as in a
+abbrev pub Holds : {X : Type 0} → (X → X → Ordering) → Nodes X → Nodes X → Type 0
+Holds cmp nodes a = IsStableBy (precedes cmp) a nodes

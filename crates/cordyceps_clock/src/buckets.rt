@@ -1,0 +1,166 @@
+//! Buckets of times, and where each of them ends in a list.
+ghost use Rattle.std.specs.Prelude.{◌≡◌, ℕ, ◌<◌, ◌≤◌, ◌==◌, get_or, length, false, IfSome, MatchOption, Some, None};
+ghost use denote.RawPtr.{Ptr};
+ghost use Rattle.cordyceps_base.specs.BySpot.{HasSpot, HoldsAt, IsTaken};
+ghost use Rattle.cordyceps_base.specs.Element.{Element};
+ghost use Rattle.cordyceps_base.specs.Nodes.{Nodes, spots};
+ghost use Rattle.cordyceps_base.specs.Spots.{AreDistinct};
+ghost use Rattle.cordyceps_clock.specs.Buckets.{bucket_of, last_spot, number_at, row, IsKept, IsPutIn};
+
+use crate::times::Times;
+use cordyceps_base::linked::Linked;
+use cordyceps_list::list::Links;
+use cordyceps_stable::stable_list::{Spot, StableList};
+
+/// The spot of the last element of each bucket that has one.
+pub(crate) type Ends = [Option<Spot>; 65];
+
+/// Returns the number of the bucket of a time: 0 for now, otherwise one more than the highest bit in which the two
+/// differ.
+pub(crate) fn bucket(now: u64, time: u64) -> usize
+    ensures is { result ≡ bucket_of now time }
+    ensures within { result ≤ 64 }
+{
+    64 - (now ^ time).leading_zeros() as usize
+}
+
+/// Returns the end of the bucket `k`, or where that has no element, of the nearest lower one that has.
+///
+/// # Complexity
+/// O(1): it reads at most 65 ends.
+pub(crate) fn nearest_end(ends: &Ends, k: usize) -> Option<Spot>
+    requires { k < 65 }
+    ensures { MatchOption result ((i : ℕ) → i ≤ k → get_or ends.now i None ≡ None)
+        (λ p. (j : ℕ) × (j ≤ k) × (get_or ends.now j None ≡ Some p)
+        × ((i : ℕ) → j < i → i ≤ k → get_or ends.now i None ≡ None)) }
+{
+    let mut above = k + 1;
+    while above > 0 {
+        let end = ends[above - 1];
+        if end.is_some() {
+            return end;
+        }
+        above -= 1;
+    }
+    None
+}
+
+/// Returns the time of the element at a spot.
+pub(crate) fn time_at<T: Linked<Links<T>>, O: Times<T>>(
+    list: &StableList<T>,
+    time: &O,
+    at: Spot,
+) -> u64
+    requires callable { O.can_compute time.now }
+    requires there { HasSpot list.now at }
+    ensures { (v : T) × HoldsAt list.now at v × ((of : T → ℕ) → O.computes_by time.now of → result ≡ of v) }
+{
+    time.time(list.get(at))
+}
+
+/// Puts an element after all of the buckets up to `k`, and returns its spot.
+///
+/// # Complexity
+/// O(1).
+pub(crate) fn put<T: Linked<Links<T>>>(
+    list: &mut StableList<T>,
+    ends: &mut Ends,
+    k: usize,
+    handle: T::Handle,
+) -> Spot
+    requires within { k < 65 }
+    requires fits { length list.old < usize.MAX }
+    requires kept { (number : Ptr × Element T → ℕ) × IsKept number ends.old list.old }
+    ensures put { (number : Ptr × Element T → ℕ)
+        → number (result, T.element handle) ≡ k
+        → IsKept number ends.old list.old
+        → IsKept number ends.new list.new × IsPutIn number k list.old result (T.element handle) list.new }
+    ensures distinct { AreDistinct (spots list.new) }
+{
+    list.spots_are_distinct();
+    let spot = match nearest_end(ends, k) {
+        Some(to) => list.insert_after(to, handle),
+        None => list.push_front(handle),
+    };
+    ends[k] = Some(spot);
+    spot
+}
+
+/// Returns `true` if there is an element at the spot, and its time is in the bucket `k`.
+fn is_in<T: Linked<Links<T>>, O: Times<T>>(
+    list: &StableList<T>,
+    time: &O,
+    now: u64,
+    k: usize,
+    at: Option<Spot>,
+) -> bool
+    requires callable { O.can_compute time.now }
+    requires there { IfSome at (λ p. HasSpot list.now p) }
+    ensures { (of : T → ℕ) → O.computes_by time.now of → MatchOption at (result ≡ false)
+        (λ p. (v : T) × HoldsAt list.now p v × (result ≡ (bucket_of now (of v) == k))) }
+{
+    match at {
+        Some(at) => bucket(now, time_at(list, time, at)) == k,
+        None => false,
+    }
+}
+
+/// Returns the end of the bucket `k` without the element at `at`, which is in it.
+fn end_without<T: Linked<Links<T>>, O: Times<T>>(
+    list: &StableList<T>,
+    ends: &Ends,
+    time: &O,
+    now: u64,
+    k: usize,
+    at: Spot,
+) -> Option<Spot>
+    requires callable { O.can_compute time.now }
+    requires within { k < 65 }
+    requires there { HasSpot list.now at }
+    requires distinct { AreDistinct (spots list.now) }
+    ensures { (of : T → ℕ) (e : Element T) (rest : Nodes T)
+        → O.computes_by time.now of
+        → IsKept (number_at of now) ends.now list.now
+        → IsTaken list.now at e rest
+        → bucket_of now (of e.value) ≡ k
+        → result ≡ last_spot (row (number_at of now) k rest) }
+{
+    if is_in(list, time, now, k, list.next(at)) {
+        return ends[k];
+    }
+    match list.prev(at) {
+        Some(before) => {
+            if is_in(list, time, now, k, Some(before)) {
+                return Some(before);
+            }
+            None
+        }
+        None => None,
+    }
+}
+
+/// Removes the element at `at` and returns it.
+///
+/// # Complexity
+/// O(1).
+pub(crate) fn take_out<T: Linked<Links<T>>, O: Times<T>>(
+    list: &mut StableList<T>,
+    ends: &mut Ends,
+    time: &O,
+    now: u64,
+    at: Spot,
+) -> T::Handle
+    requires callable { O.can_compute time.now }
+    requires there { HasSpot list.old at }
+    ensures taken { IsTaken list.old at (T.element result) list.new }
+    ensures kept { (of : T → ℕ)
+        → O.computes_by time.now of
+        → IsKept (number_at of now) ends.old list.old
+        → IsKept (number_at of now) ends.new list.new }
+    ensures distinct { AreDistinct (spots list.new) }
+{
+    list.spots_are_distinct();
+    let k = bucket(now, time_at(list, time, at));
+    ends[k] = end_without(list, ends, time, now, k, at);
+    list.remove(at)
+}

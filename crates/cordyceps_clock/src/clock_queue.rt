@@ -1,0 +1,240 @@
+//! A priority queue of times that never fall, whose elements are reached by their spots.
+ghost use Rattle.std.specs.Prelude.{◌≡◌, ℕ, ◌<◌, ◌≤◌, ◌==◌, [], ◌∷◌, ◌++◌, length, MatchOption, MatchResult, ◌⊎◌};
+ghost use Rattle.std.specs.List.Sorted.{IsPermutation};
+ghost use Rattle.std.specs.Ordering.{nat_cmp};
+ghost use Rattle.std.specs.declared.cmp.Ordering.{Ordering};
+ghost use denote.RawPtr.{Ptr};
+ghost use Rattle.cordyceps_base.specs.BySpot.{HasSpot, HoldsAt, IsTaken};
+ghost use Rattle.cordyceps_base.specs.Element.{Element};
+ghost use Rattle.cordyceps_base.specs.Nodes.{Nodes, spots};
+ghost use Rattle.cordyceps_base.specs.Spots.{AreDistinct};
+ghost use Rattle.cordyceps_single.specs.Arrangement.{IsEarliestLeast};
+ghost use Rattle.cordyceps_single.specs.ByKey.{by_key};
+ghost use Rattle.cordyceps_stable.specs.Arranged.{precedes};
+ghost use Rattle.cordyceps_clock.specs.Clock.{Holds};
+
+use crate::buckets::{Ends, bucket, put, take_out};
+use crate::spreading::advance;
+use crate::times::Times;
+use cordyceps_base::linked::Linked;
+use cordyceps_list::list::Links;
+use cordyceps_stable::stable_list::{Spot, StableList};
+use std::marker::Model;
+
+/// A priority queue of owned nodes that are due at times, which returns a spot for each element. A contract sees the
+/// elements, each with its spot, the function that returns their times, and the clock: the time of the element that came
+/// out last. It says which arrivals the elements are.
+///
+/// The element that is due first comes out first, and of those that are due at the same time the one that was pushed
+/// first. No element is pushed that is due before the one that came out last. An element is reached and removed by its
+/// spot. The spot stays the same while the element is in the queue. No two elements are at one spot. Linking allocates
+/// nothing and cannot be refused.
+///
+/// It is a radix heap. An element is in one of 65 buckets, by the highest bit in which its time differs from that of
+/// the element that came out last. Each time that it is moved, it comes into a lower bucket.
+///
+/// Each call that asks for a time requires that the function may be called.
+///
+/// # Complexity
+/// Dropping the queue frees each node once: O(n), for n elements.
+#[derive(Drop)]
+pub struct ClockQueue<T, O: Times<T>> {
+    list: StableList<T>,
+    ends: Ends,
+    clock: u64,
+    time: O,
+}
+
+impl<T, O: Times<T>> Model for ClockQueue<T, O> {
+    ghost use Rattle.std.specs.Prelude.{ℕ};
+    ghost use Rattle.cordyceps_clock.specs.Buckets.{IsTimed};
+    ghost use Rattle.cordyceps_clock.specs.Clock.{Clocked};
+
+    ghost Value = { Clocked T O };
+
+    ghost view = { λ q. record { nodes = q.list; time = q.time; clock = q.clock } };
+
+    ghost invariant = { λ q. (of : T → ℕ) → O.computes_by q.time of → IsTimed of q.clock q.ends q.list };
+}
+
+impl<T: Linked<Links<T>>, O: Times<T>> ClockQueue<T, O> {
+    /// Creates an empty queue at the time 0, whose elements are due at the times that `time` returns. Allocates nothing.
+    ///
+    /// # Complexity
+    /// O(1).
+    pub fn new_with_times(time: O) -> ClockQueue<T, O>
+        ensures nodes { result.nodes ≡ [] }
+        ensures now { result.clock ≡ 0 }
+        ensures time { result.time ≡ time }
+        ensures arrivals { (cmp : T → T → Ordering) → Holds cmp result.nodes [] }
+    {
+        ClockQueue {
+            list: StableList::new(),
+            ends: [None; 65],
+            clock: 0,
+            time,
+        }
+    }
+
+    /// Returns the time of the element that came out last, and 0 before the first.
+    ///
+    /// # Complexity
+    /// O(1).
+    pub fn now(&self) -> u64
+        ensures { result ≡ self.now.clock }
+    {
+        let ClockQueue { clock, .. } = self;
+        *clock
+    }
+
+    /// Returns the number of elements.
+    ///
+    /// # Complexity
+    /// O(1).
+    pub fn len(&self) -> usize
+        ensures { result ≡ length self.now.nodes }
+    {
+        self.list.len()
+    }
+
+    /// Returns `true` if the queue has no element.
+    ///
+    /// # Complexity
+    /// O(1).
+    pub fn is_empty(&self) -> bool
+        ensures { result ≡ (length self.now.nodes == 0) }
+    {
+        self.len() == 0
+    }
+
+    /// Does nothing when the program runs. Its contract states that no two elements are at one spot.
+    ///
+    /// # Complexity
+    /// O(1).
+    pub fn spots_are_distinct(&self)
+        ensures { AreDistinct (spots self.now.nodes) }
+    {
+        self.list.spots_are_distinct();
+    }
+
+    /// Inserts an element and returns its spot. It comes out after those that are due at the same time. Requires that
+    /// it is due at `now` or later, and a length below `usize::MAX`.
+    ///
+    /// # Complexity
+    /// O(1).
+    pub fn push(&mut self, handle: T::Handle) -> Spot
+        requires callable { O.can_compute self.old.time }
+        requires due { (of : T → ℕ) → O.computes_by self.old.time of → self.old.clock ≤ of (T.element handle).value }
+        requires fits { length self.old.nodes < usize.MAX }
+        ensures arrivals { (of : T → ℕ) (a : Nodes T)
+            → O.computes_by self.old.time of
+            → Holds (by_key nat_cmp of) self.old.nodes a
+            → Holds (by_key nat_cmp of) self.new.nodes (a ++ (result, T.element handle) ∷ []) }
+        ensures others { IsTaken self.new.nodes result (T.element handle) self.old.nodes }
+        ensures now { self.new.clock ≡ self.old.clock }
+        ensures time { self.new.time ≡ self.old.time }
+        ensures distinct { AreDistinct (spots self.new.nodes) }
+    {
+        let node = T::into_ptr(handle);
+        let due = self.time.time(node.get());
+        let k = bucket(self.clock, due);
+        put(&mut self.list, &mut self.ends, k, T::from_ptr(node))
+    }
+
+    /// Inserts an element as `push` does and returns its spot, if it is due at `now` or later and the length is below
+    /// `usize::MAX`.
+    ///
+    /// # Errors
+    /// If the element was due before `now`, or at a length of `usize::MAX`, the handle is returned, and the queue is
+    /// unchanged.
+    ///
+    /// # Complexity
+    /// That of `push`.
+    pub fn try_push(&mut self, handle: T::Handle) -> Result<Spot, T::Handle>
+        requires callable { O.can_compute self.old.time }
+        ensures pushed { MatchResult result
+            (λ spot. IsTaken self.new.nodes spot (T.element handle) self.old.nodes
+            × (self.new.clock ≡ self.old.clock)
+            × ((of : T → ℕ) → O.computes_by self.old.time of → (self.old.clock ≤ of (T.element handle).value)
+            × ((a : Nodes T)
+            → Holds (by_key nat_cmp of) self.old.nodes a
+            → Holds (by_key nat_cmp of) self.new.nodes (a ++ (spot, T.element handle) ∷ []))))
+            (λ back. (T.element back ≡ T.element handle) × (self.new ≡ self.old)
+            × ((length self.old.nodes ≡ usize.MAX)
+            ⊎ ((of : T → ℕ) → O.computes_by self.old.time of → of (T.element handle).value < self.old.clock))) }
+        ensures time { self.new.time ≡ self.old.time }
+        ensures distinct { AreDistinct (spots self.new.nodes) }
+    {
+        let node = T::into_ptr(handle);
+        let due = self.time.time(node.get());
+        let handle = T::from_ptr(node);
+        self.list.spots_are_distinct();
+        if self.list.len() == usize::MAX || due < self.clock {
+            return Err(handle);
+        }
+        Ok(self.push(handle))
+    }
+
+    /// Removes the element at `at` and returns it. Requires that `at` is valid.
+    ///
+    /// # Complexity
+    /// O(1).
+    pub fn remove(&mut self, at: Spot) -> T::Handle
+        requires callable { O.can_compute self.old.time }
+        requires there { HasSpot self.old.nodes at }
+        ensures taken { IsTaken self.old.nodes at (T.element result) self.new.nodes }
+        ensures arrivals { (of : T → ℕ) (a : Nodes T)
+            → O.computes_by self.old.time of
+            → Holds (by_key nat_cmp of) self.old.nodes a
+            → (rest : Nodes T) × (IsTaken a at (T.element result) rest × Holds (by_key nat_cmp of) self.new.nodes rest) }
+        ensures now { self.new.clock ≡ self.old.clock }
+        ensures time { self.new.time ≡ self.old.time }
+        ensures distinct { AreDistinct (spots self.new.nodes) }
+    {
+        take_out(&mut self.list, &mut self.ends, &self.time, self.clock, at)
+    }
+
+    /// Removes the element that is due first and returns it, or `None` if the queue is empty. Of those that are due at
+    /// the same time it is the one that was pushed first. Its time becomes `now`.
+    ///
+    /// # Complexity
+    /// O(1) amortized: over its time in the queue an element is moved at most 64 times. At worst O(n), for n elements.
+    pub fn pop_front(&mut self) -> Option<T::Handle>
+        requires callable { O.can_compute self.old.time }
+        ensures taken { MatchOption result ((self.old.nodes ≡ []) × (self.new ≡ self.old))
+            (λ h. (spot : Ptr) × ((of : T → ℕ)
+            → O.computes_by self.old.time of
+            → (self.new.clock ≡ of (T.element h).value)
+            × ((a : Nodes T)
+            → Holds (by_key nat_cmp of) self.old.nodes a
+            → (rest : Nodes T) × (IsEarliestLeast (precedes (by_key nat_cmp of)) a (spot, T.element h) rest
+            × Holds (by_key nat_cmp of) self.new.nodes rest)))
+            × IsPermutation ((spot, T.element h) ∷ self.new.nodes) self.old.nodes) }
+        ensures later { self.old.clock ≤ self.new.clock }
+        ensures time { self.new.time ≡ self.old.time }
+        ensures distinct { AreDistinct (spots self.new.nodes) }
+    {
+        self.list.spots_are_distinct();
+        let at = self.list.front()?;
+        self.clock = advance(&mut self.list, &mut self.ends, &self.time, self.clock, at);
+        let first = self.list.front()?;
+        Some(take_out(
+            &mut self.list,
+            &mut self.ends,
+            &self.time,
+            self.clock,
+            first,
+        ))
+    }
+
+    /// Returns a reference to the value at `at`. Requires that `at` is valid.
+    ///
+    /// # Complexity
+    /// O(1).
+    pub fn get(&self, at: Spot) -> &T
+        requires { HasSpot self.now.nodes at }
+        ensures { HoldsAt self.now.nodes at result.now }
+    {
+        self.list.get(at)
+    }
+}

@@ -1,0 +1,166 @@
+//! The lowest bucket, spread over the buckets below it.
+ghost use Rattle.std.specs.Prelude.{◌≡◌, ℕ, ◌<◌, ◌≤◌, [], ◌∷◌, length};
+ghost use Rattle.std.specs.List.Sorted.{IsPermutation, IsStableBy};
+ghost use Rattle.std.specs.Ordering.{nat_cmp};
+ghost use denote.RawPtr.{Ptr};
+ghost use Rattle.cordyceps_base.specs.BySpot.{IsFirst};
+ghost use Rattle.cordyceps_base.specs.Element.{Element};
+ghost use Rattle.cordyceps_base.specs.Nodes.{Nodes, spots};
+ghost use Rattle.cordyceps_base.specs.Spots.{AreDistinct};
+ghost use Rattle.cordyceps_single.specs.ByKey.{AscendsBy, by_key};
+ghost use Rattle.cordyceps_stable.specs.Arranged.{precedes};
+ghost use Rattle.cordyceps_clock.specs.Buckets.{bucket_of, number_at, AreDue, IsFirstBucket, IsPutIn, IsSpreading, IsTimed};
+
+use crate::buckets::{Ends, bucket, nearest_end, time_at};
+use crate::times::Times;
+use cordyceps_base::linked::Linked;
+use cordyceps_list::list::Links;
+use cordyceps_stable::stable_list::{Spot, StableList};
+
+/// The least time of the first bucket of a list, and the number of its elements.
+pub(crate) struct First {
+    pub(crate) least: u64,
+    pub(crate) len: usize,
+}
+
+/// Returns the least time of the bucket `k`, which comes first in the list, and the number of its elements. The first
+/// element is at `at`.
+///
+/// # Complexity
+/// O(n), for n elements of the bucket.
+pub(crate) fn first_bucket<T: Linked<Links<T>>, O: Times<T>>(
+    list: &StableList<T>,
+    time: &O,
+    now: u64,
+    k: usize,
+    at: Spot,
+) -> First
+    requires callable { O.can_compute time.now }
+    requires first { IsFirst list.now at }
+    ensures { (of : T → ℕ) (e : Element T) (after : Nodes T)
+        → O.computes_by time.now of
+        → AscendsBy (number_at of now) list.now
+        → list.now ≡ (at, e) ∷ after
+        → bucket_of now (of e.value) ≡ k
+        → IsFirstBucket of now k list.now result.least result.len }
+{
+    list.spots_are_distinct();
+    // for the proof: the number of its elements fits
+    let _len = list.len();
+    let mut first = First {
+        least: time_at(list, time, at),
+        len: 1,
+    };
+    let mut next = list.next(at);
+    while let Some(at) = next {
+        let due = time_at(list, time, at);
+        if bucket(now, due) != k {
+            break;
+        }
+        first.least = first.least.min(due);
+        first.len += 1;
+        next = list.next(at);
+    }
+    first
+}
+
+/// Moves the next of the nodes to do, which is at `at`, to the end of its bucket `k`.
+///
+/// # Complexity
+/// O(1).
+fn place<T: Linked<Links<T>>>(list: &mut StableList<T>, ends: &mut Ends, k: usize, at: Spot)
+    requires within { k < 65 }
+    requires ready { (number : Ptr × Element T → ℕ) × (j : ℕ) × (done : Nodes T) × (e : Element T) × (todo : Nodes T)
+        × (others : Nodes T) × (number (at, e) ≡ k)
+        × IsSpreading number ends.old list.old j done ((at, e) ∷ todo) others }
+    ensures placed { (number : Ptr × Element T → ℕ) (j : ℕ) (done : Nodes T) (e : Element T) (todo others : Nodes T)
+        → number (at, e) ≡ k
+        → IsSpreading number ends.old list.old j done ((at, e) ∷ todo) others
+        → (more : Nodes T) × IsSpreading number ends.new list.new j more todo others
+        × IsPutIn number k done at e more }
+    ensures distinct { AreDistinct (spots list.new) }
+{
+    list.spots_are_distinct();
+    match nearest_end(ends, k) {
+        Some(to) => list.move_after(at, to),
+        None => list.move_to_front(at),
+    }
+    ends[k] = Some(at);
+}
+
+/// Spreads the first `len` elements of a list, of which the first is at `at`, over the buckets in which they are at the
+/// time `now`.
+///
+/// # Complexity
+/// O(n), for n elements.
+pub(crate) fn spread<T: Linked<Links<T>>, O: Times<T>>(
+    list: &mut StableList<T>,
+    ends: &mut Ends,
+    time: &O,
+    now: u64,
+    at: Spot,
+    len: usize,
+)
+    requires callable { O.can_compute time.now }
+    requires first { IsFirst list.old at }
+    requires ready { (of : T → ℕ) × (j : ℕ) × (todo : Nodes T) × (others : Nodes T) × O.computes_by time.now of
+        × (length todo ≡ len) × AreDue of now todo
+        × IsSpreading (number_at of now) ends.old list.old j [] todo others }
+    ensures spread { (of : T → ℕ) (j : ℕ) (todo others : Nodes T)
+        → O.computes_by time.now of
+        → length todo ≡ len
+        → AreDue of now todo
+        → IsSpreading (number_at of now) ends.old list.old j [] todo others
+        → (done : Nodes T) × IsSpreading (number_at of now) ends.new list.new j done [] others
+        × IsStableBy (precedes (by_key nat_cmp of)) todo done × IsPermutation todo done }
+    ensures distinct { AreDistinct (spots list.new) }
+{
+    let mut next = Some(at);
+    let mut left = len;
+    while left > 0 {
+        list.spots_are_distinct();
+        let Some(at) = next else {
+            return;
+        };
+        next = list.next(at);
+        let k = bucket(now, time_at(list, time, at));
+        place(list, ends, k, at);
+        left -= 1;
+    }
+    list.spots_are_distinct();
+}
+
+/// Makes the least time now, if no element is due now, and spreads its bucket over those below. Returns the time. The
+/// first element is at `at`.
+///
+/// # Complexity
+/// O(n), for n elements of the lowest bucket, each of which comes into a lower one.
+pub(crate) fn advance<T: Linked<Links<T>>, O: Times<T>>(
+    list: &mut StableList<T>,
+    ends: &mut Ends,
+    time: &O,
+    now: u64,
+    at: Spot,
+) -> u64
+    requires callable { O.can_compute time.now }
+    requires first { IsFirst list.old at }
+    requires timed { (of : T → ℕ) → O.computes_by time.now of → IsTimed of now ends.old list.old }
+    ensures timed { (of : T → ℕ) → O.computes_by time.now of → IsTimed of result ends.new list.new }
+    ensures first { (of : T → ℕ) → O.computes_by time.now of
+        → (p : Ptr) × (e : Element T) × (after : Nodes T) × (list.new ≡ (p, e) ∷ after) × (of e.value ≡ result) }
+    ensures stable { (of : T → ℕ) → O.computes_by time.now of
+        → IsStableBy (precedes (by_key nat_cmp of)) list.old list.new }
+    ensures kept { IsPermutation list.old list.new }
+    ensures later { now ≤ result }
+    ensures distinct { AreDistinct (spots list.new) }
+{
+    list.spots_are_distinct();
+    let k = bucket(now, time_at(list, time, at));
+    if k == 0 {
+        return now;
+    }
+    let First { least, len } = first_bucket(list, time, now, k, at);
+    ends[k] = None;
+    spread(list, ends, time, least, at, len);
+    least
+}
