@@ -2,6 +2,7 @@
 pub use Rattle.cordyceps_base.specs.BySpot
 pub use Rattle.cordyceps_base.specs.DoubleLines
 pub use Rattle.cordyceps_base.specs.Spots
+pub use Rattle.cordyceps_clock.specs.Clock
 pub use Rattle.cordyceps_heap.specs.Heap
 pub use Rattle.cordyceps_stable.specs.Agreeing
 pub use Rattle.cordyceps_stable.specs.Arranged

@@ -7,7 +7,7 @@
 //!
 //! A [`StableList`] returns a [`Spot`] for each element: a stable pointer, by which the element is reached, removed and
 //! moved in O(1). A [`StableSortedList`] does so too, and an order keeps it sorted. A [`StableHeap`] has the least first,
-//! and takes many elements.
+//! and takes many elements. A [`ClockQueue`] is for times: it has the earliest first, and takes none that has passed.
 //!
 //! A [`TransferStack`] is shared by threads, without a lock: each pushes to it through a party of its own, and takes
 //! all its elements at once. An [`MpscQueue`] is shared in the same way: many put elements in, and one at a time takes
@@ -23,6 +23,7 @@
 //! that each reply, and what the structures hold afterwards, are what the commands mean.
 #![tactic(auto)]
 
+pub mod clock_queue;
 pub mod list;
 pub mod mpsc_queue;
 pub mod replay;
@@ -36,6 +37,7 @@ pub mod stack;
 pub use cordyceps_base::linked::Linked;
 pub use cordyceps_base::node::{Kind, Node, Refused};
 pub use cordyceps_base::steps::Steps;
+pub use cordyceps_clock::clock_queue::ClockQueue;
 pub use cordyceps_heap::stable_heap::StableHeap;
 pub use cordyceps_list::list::List;
 pub use cordyceps_queue::mpsc_queue::MpscQueue;
