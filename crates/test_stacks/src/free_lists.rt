@@ -1,6 +1,6 @@
 //! Calls of a free list, one after the other.
 use crate::blocks::{Handle, block, dropped, no_drops, pair, pops, two_of};
-use crate::compared::{made, same};
+use crate::compared::{at_most, made, same};
 use crate::users::{Remote, finishes, gets, puts, puts_all};
 use freelist::{FreeList, Local, Stack};
 use std::alloc::AllocError;
@@ -71,6 +71,33 @@ fn blocks_of_a_stack_are_put_back_at_once(rt: HostRuntime) {
     finishes(&rt, local, 4);
     puts_all(&rt, &list, &mut remote, 0, Stack::new(), true);
     dropped(&rt, &drops, 4);
+}
+
+// The owner gives back the rooms of the blocks that it took, and the other party puts blocks into them.
+#[test]
+fn rooms_of_taken_blocks_come_back(rt: HostRuntime) {
+    let drops = no_drops(&rt, rt.alloc());
+    let (one, two) = pair(&rt, rt.alloc(), 1, &drops);
+    let (list, mut party) = made(&rt, FreeList::new(rt.alloc(), 1));
+    let mut remote = list.split(&mut party, 1);
+    let mut local = list.local(party);
+    puts(&rt, &list, &mut remote, one, true);
+    gets(&rt, &mut local, &[Some(1)]);
+    same(
+        &rt,
+        (local.give_back(), list.refill(&mut remote)),
+        (true, 1),
+    );
+    puts(&rt, &list, &mut remote, two, true);
+    gets(&rt, &mut local, &[Some(2), None]);
+    same(&rt, (local.give_back(), local.give_back()), (true, true));
+    finishes(&rt, local, 0);
+    same(&rt, (list.refill(&mut remote), remote.rooms()), (1, 1));
+    same(&rt, list.refill(&mut remote), 0);
+    at_most(&rt, 1, remote.rooms());
+    same(&rt, list.give_back(&mut remote, 1), true);
+    same(&rt, remote.rooms(), 0);
+    dropped(&rt, &drops, 2);
 }
 
 /// Puts a block back for all and gets it.
