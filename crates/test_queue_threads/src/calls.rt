@@ -25,6 +25,12 @@ pub enum Call {
     Put(u64),
     /// Enqueues elements from this number on, and how many.
     PutMany(u64, u64),
+    /// Enqueues an element of this number, if there is a room, of the party or in the pool.
+    TryPut(u64),
+    /// Takes the rooms of the pool.
+    Refill,
+    /// Gives this many rooms to the pool.
+    GiveBack(usize),
     /// Tries once to dequeue.
     Try,
     /// Dequeues, and may wait.
@@ -65,6 +71,12 @@ pub enum Reply {
     Fails(TryDequeueError),
     /// The party has this many rooms.
     Rooms(usize),
+    /// There is no room, and the element came back.
+    Full,
+    /// This many rooms were in the pool, and the party has so many now.
+    Refilled(usize, usize),
+    /// Whether the pool has taken the rooms, and how many the party has now.
+    Gave(bool, usize),
     /// This many drops were counted.
     Drops(u64),
 }
@@ -212,6 +224,20 @@ impl<'q> Actor<'q> {
                 seat.put(rt, element(rt, self.stage.alloc, number, &self.stage.drops));
             }
             Call::PutMany(first, count) => put_many(rt, self.stage, seat, (first, count)),
+            Call::TryPut(number) => {
+                let node = element(rt, self.stage.alloc, number, &self.stage.drops);
+                if seat.try_put(rt, node).is_err() {
+                    return Reply::Full;
+                }
+            }
+            Call::Refill => {
+                let found = seat.refill(rt);
+                return Reply::Refilled(found, seat.rooms(rt));
+            }
+            Call::GiveBack(rooms) => {
+                let gave = seat.give_back(rt, rooms);
+                return Reply::Gave(gave, seat.rooms(rt));
+            }
             Call::Release => {
                 let consumer = mem::replace(seat, Seat::Left);
                 *seat = consumer.release(rt);

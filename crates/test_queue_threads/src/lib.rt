@@ -15,6 +15,8 @@ mod items;
 #[cfg(test)]
 mod large_queues;
 #[cfg(test)]
+mod pools;
+#[cfg(test)]
 mod queue_drops;
 #[cfg(test)]
 mod queues;

@@ -153,6 +153,41 @@ impl<'q> Seat<'q> {
         it.queue.enqueue(&mut it.party, handle);
     }
 
+    /// Enqueues an element into a room that is the party's or in the pool, and returns it if there is none.
+    pub fn try_put(&mut self, rt: &impl Abort, handle: Handle) -> Result<(), Handle> {
+        let Seat::Party(it) = self else {
+            panic!(rt; "only a party enqueues");
+        };
+        it.queue.try_enqueue(&mut it.party, handle)
+    }
+
+    /// Takes the rooms of the pool, and returns how many they are.
+    pub fn refill(&mut self, rt: &impl Abort) -> usize {
+        let Seat::Party(it) = self else {
+            panic!(rt; "only a party takes the rooms of the pool");
+        };
+        it.queue.refill(&mut it.party)
+    }
+
+    /// Gives some of the rooms, which must be there, to the pool, and returns whether it has taken them.
+    pub fn give_back(&mut self, rt: &impl Abort, rooms: usize) -> bool {
+        match self {
+            Seat::Party(it) => {
+                at_most(rt, rooms, it.party.rooms());
+                it.queue.give_back(&mut it.party, rooms)
+            }
+            Seat::Consumer(it) => {
+                at_most(rt, rooms, it.consumer.rooms());
+                it.consumer.give_back(rooms)
+            }
+            Seat::Owned(it) => {
+                at_most(rt, rooms, it.consumer.rooms());
+                it.consumer.give_back(rooms)
+            }
+            Seat::Left => panic!(rt; "the party has left"),
+        }
+    }
+
     /// Tries once to dequeue an element.
     pub fn try_take(&mut self, rt: &impl Abort) -> Result<Handle, TryDequeueError> {
         match self {

@@ -3,6 +3,7 @@ ghost use Rattle.std.specs.Prelude.{⊤};
 
 use crate::calls::{Actor, Line, await_count};
 use crate::compared::same;
+use crate::pools::{Drainer, Filler};
 use crate::workers::{Producer, Taker};
 use std::process::Abort;
 use std::sync::Wait;
@@ -17,6 +18,8 @@ pub enum Task<'q> {
     Calls(Actor<'q>, &'q [Line]),
     Put(Producer<'q>),
     Take(Taker<'q>),
+    Fill(Filler<'q>),
+    Drain(Drainer<'q>),
     /// It waits until a count is this.
     Watch(&'q AtomicU64, u64),
 }
@@ -27,6 +30,8 @@ fn run_task<R: Wait + Abort>(rt: &R, task: Task<'_>) {
         Task::Calls(mut actor, lines) => actor.run(rt, lines),
         Task::Put(producer) => producer.put_all(rt),
         Task::Take(taker) => taker.take_all(rt),
+        Task::Fill(filler) => filler.fill(rt),
+        Task::Drain(drainer) => drainer.drain(rt),
         Task::Watch(count, wanted) => await_count(rt, count, wanted),
     }
 }

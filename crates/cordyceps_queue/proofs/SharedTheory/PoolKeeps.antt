@@ -230,11 +230,16 @@ module _ {E : Type 0} (s : TableState E) (k : PlainHolds s) (id : ℕ) (v : View
   own_rooms : OwnsRooms k.chain.owner id v.free
   own_rooms = subst (OwnsRooms k.chain.owner id) (ap (λ l. v.free ++ l) bare ∙ append-nil v.free) (rooms_of s k id v at named)
 
-  refill_told : SharesDisjoint knows (set s.views id view_refilled) k.history × AllAgree actor knows (set s.views id view_refilled) k.history × Sees v [] view_refilled
+  pub record ToldAll : Type 0 where
+    pub owned : SharesDisjoint knows (set s.views id view_refilled) k.history
+    pub fits : AllAgree actor knows (set s.views id view_refilled) k.history
+    pub sees : Sees v [] view_refilled
+
+  pub refill_told : ToldAll
   refill_told =
       let same = append-nil k.history in
       let t = tells actor knows LegalReversed s.views k.history id [] v view_refilled k.owned k.fits at named tt (ap (λ h. all_seen id h v.known.share) (sym same)) (subst (λ h. LegalReversed (events h)) (sym same) k.meets.legal) in
-      (subst (SharesDisjoint knows (set s.views id view_refilled)) same t.owned, subst (AllAgree actor knows (set s.views id view_refilled)) same t.fits, t.grown)
+      record { owned = subst (SharesDisjoint knows (set s.views id view_refilled)) same t.owned; fits = subst (AllAgree actor knows (set s.views id view_refilled)) same t.fits; sees = t.grown }
 
   pub refilled : PoolMoved s k id v at named all_known refl v.free v.end k.pool.rooms k.pool.end (homes_taken s.homes k.pool.rooms) no_pool
   refilled = pool_moved s k id v at named all_known refl v.free v.end k.pool.rooms k.pool.end (deal (Spare id) k.pool.rooms k.chain.owner) (homes_taken s.homes k.pool.rooms) no_pool record {
@@ -249,8 +254,8 @@ module _ {E : Type 0} (s : TableState E) (k : PlainHolds s) (id : ℕ) (v : View
     linked = ((k.linked id v at named).0, k.pooled.linked);
     pooled = record { own = λ i r a. absurd a; once = λ i j r a b. absurd a; linked = tt; empty = λ i r a. absurd a };
     even = let none_back = ap (λ (l : List ℕ). length l) bare in omega arith;
-    fits = refill_told.1;
-    owned = refill_told.0;
+    fits = refill_told.fits;
+    owned = refill_told.owned;
   }
 
   -- then each room is with a whole party, or has an element in it
@@ -259,7 +264,7 @@ module _ {E : Type 0} (s : TableState E) (k : PlainHolds s) (id : ℕ) (v : View
       let b = refilled in
       let views = set s.views id view_refilled in
       let here = set_here s.views id view_refilled (at_length s.views id v at) in
-      let only = tally_only (room_count {E = E}) views id view_refilled here (λ i u ne e. b.now.spent i u e (only_share knows views k.history id i view_refilled u refill_told.0 here is ne e u.known.share refl)) in
+      let only = tally_only (room_count {E = E}) views id view_refilled here (λ i u ne e. b.now.spent i u e (only_share knows views k.history id i view_refilled u refill_told.owned here is ne e u.known.share refl)) in
       let all = b.now.all in
       let none_left = ap (λ (c : FreeChain). length c.rooms) b.pool_is in
       let chain = ap (λ (l : List ℕ). length (real l)) b.rooms in
@@ -309,7 +314,7 @@ module _ {E : Type 0} where
           hand = subst (λ z. carried_after z a ≡ carry rooms) (sym hand) (take_carried rooms);
           near = λ i r x. let l = at_length s.homes r (some None) (p.pooled.empty i r x) in omega arith;
           few = omega arith;
-          sees = (refill_told q p id v at named bare).2;
+          sees = (refill_told q p id v at named bare).sees;
           all = λ is. all_with q p id v at named bare is ∙ deep;
         },
       )
@@ -323,8 +328,13 @@ module _ {E : Type 0} where
       let long = ap (λ (l : List ℕ). length l) nothing in absurd (omega arith)
 
   -- ---- a step that changes no word, at which all slots in hand are given back
+  record GivesAll (s : TableState E) (id i : ℕ) (me : SeatState E) : Type 0 where
+    pub valid : Valid s.homes me.1 (give_all me.0.back)
+    pub holds : RuleHolds (stepped s i (get_or s.words i 0) id me.1 (view_returned me.0) (give_all me.0.back))
+    pub empty : carried_after me.1 (give_all me.0.back) ≡ []
+
   returns_all : (s : TableState E) (k : RuleHolds s) (id slots : ℕ) (me : SeatState E) → me.1 ≡ carry me.0.back → Near slots me.0.back → me.0.known.share ≢ [] → MayJoin (free_chain me.0) (back_chain me.0) → length s.homes ≡ slots → get_elem? s.views id ≡ some me.0 → (i : ℕ)
-      → Valid s.homes me.1 (give_all me.0.back) × RuleHolds (stepped s i (get_or s.words i 0) id me.1 (view_returned me.0) (give_all me.0.back)) × (carried_after me.1 (give_all me.0.back) ≡ [])
+      → GivesAll s id i me
   returns_all s k id slots me hand near named may deep at i =
       let v = me.0 in
       let q = plain_table s k in
@@ -335,12 +345,12 @@ module _ {E : Type 0} where
       let b = settles q k.plain id v at named (λ j x y. let l = near j x y in omega arith) may in
       let own_use : KeepsUse (bit_of k.plain.uses) k.words s.words w = record { free = λ j x y. own.free j x (subst (λ l. ItemAt l j x) (append-nil (v.free ++ bs)) y); begun = own.begun; knows = own.knows } in
       let kept = same_words s k (set s.views id w) (homes_given s.homes bs) b
-      (one_set (λ _ u. u.known.share ≢ [] → KeepsUse (bit_of k.plain.uses) k.words s.words u) s.views id w (λ _. own_use) (λ j u ne e some_name. k.spells.each j u e some_name)) in (
-        subst (λ z. Valid s.homes z a) (sym hand) (give_valid bs s.homes),
-        subst (λ z. RuleHolds record { words = set s.words i (get_or s.words i 0); homes = homes_after s.homes z a; views = set s.views id w }) (sym hand)
-            (subst (λ (z : List ℕ × Homes E). RuleHolds record { words = z.0; homes = z.1; views = set s.views id w }) (λ j. (sym (set-get_or s.words i 0) j, sym (give_homes bs s.homes) j)) kept),
-        subst (λ z. carried_after z a ≡ []) (sym hand) (give_carried bs),
-      )
+      (one_set (λ _ u. u.known.share ≢ [] → KeepsUse (bit_of k.plain.uses) k.words s.words u) s.views id w (λ _. own_use) (λ j u ne e some_name. k.spells.each j u e some_name)) in record {
+        valid = subst (λ z. Valid s.homes z a) (sym hand) (give_valid bs s.homes);
+        holds = subst (λ z. RuleHolds record { words = set s.words i (get_or s.words i 0); homes = homes_after s.homes z a; views = set s.views id w }) (sym hand)
+            (subst (λ (z : List ℕ × Homes E). RuleHolds record { words = z.0; homes = z.1; views = set s.views id w }) (λ j. (sym (set-get_or s.words i 0) j, sym (give_homes bs s.homes) j)) kept);
+        empty = subst (λ z. carried_after z a ≡ []) (sym hand) (give_carried bs);
+      }
 
   -- ---- a load of the link of the last room that the party took
   pub gathers : (slots id i : ℕ) (me : SeatState E) → me.1 ≡ carry me.0.back → Near slots me.0.back → me.0.known.share ≢ [] → MayJoin (free_chain me.0) (back_chain me.0) → Allows RuleHolds slots id me i (λ n. n) (play.after_gather (step slots i 0 0 none) me)
@@ -352,13 +362,13 @@ module _ {E : Type 0} where
       let a = returns_all s k id slots me hand near named may deep at i in (
         w,
         give_all v.back,
-        a.0,
-        a.1,
+        a.valid,
+        a.holds,
         λ before r back is.
             let here : ItemAt (v.free ++ v.back) (length v.free + length before) r = at_after v.free v.back (length before) r (subst (λ l. ItemAt l (length before) r) (sym back) (at_end before r)) in
             let f = own.free (length v.free + length before) r here in
             let lead = links_at k.words before [] r v.to (subst (λ l. Links k.words l v.to) back (k.plain.linked id v at named).1) in
-            (refl, a.2, (f.0, f.1, subst (λ (z : ℕ × ℕ). IsLink z.0 z.1 f.0 f.1) (λ j. (ap (λ n. get_or s.words n 0) (sym is) j, lead j)) f.2)),
+            record { view_is = refl; hand = a.empty; to = f.0; bit = f.1; is = subst (λ (z : ℕ × ℕ). IsLink z.0 z.1 f.0 f.1) (λ j. (ap (λ n. get_or s.words n 0) (sym is) j, lead j)) f.2 },
       )
 
   -- ---- a load of the pool's word
@@ -369,8 +379,18 @@ module _ {E : Type 0} where
       let a = returns_all s k id slots me hand near named may deep at POOL in
       let one = tally_one (room_count {E = E}) s.views id v at in
       let all = k.plain.all in
-      let long = length-append v.free v.back in
-      (w, give_all v.back, a.0, a.1, (refl, a.2, omega arith, λ ne is. subst (λ n. suc (length (held (plain v.known.seen)) + room_count v) < n) deep (lacks (plain_table s k) k.plain id v at (pool_some s k ne) is)))
+      let long = length-append v.free v.back in (
+        w,
+        give_all v.back,
+        a.valid,
+        a.holds,
+        record {
+          view_is = refl;
+          hand = a.empty;
+          few = omega arith;
+          lacks = λ ne is. subst (λ n. suc (length (held (plain v.known.seen)) + room_count v) < n) deep (lacks (plain_table s k) k.plain id v at (pool_some s k ne) is);
+        },
+      )
 
   -- ---- a compare-exchange
   gives_all : (id n new : ℕ) (me : SeatState E) → me.0.back ≡ [] → me.0.known.share ≢ [] → Packs new (first_rooms n (free_chain me.0)) → (s : TableState E) (k : RuleHolds s) → get_elem? s.views id ≡ some me.0 → word.pool s.words ≡ 0

@@ -195,10 +195,14 @@ module _ {E : Type 0} where
       → suc (length (held (plain (view m).known.seen)) + room_count (view m)) < slots
 
   -- a load: all slots in hand are given back
+  pub record HasGlanced (slots found : ℕ) (m k : SeatState E) : Type 0 where
+    pub view_is : view k ≡ view_returned (view m)
+    pub hand : hand k ≡ []
+    pub few : length ((view m).free ++ (view m).back) ≤ slots
+    pub lacks : found ≢ 0 → LacksRooms slots m
+
   abbrev pub after_glance : TableStep E → SeatState E → ℕ → SeatState E → Type 0
-  after_glance st m found k =
-      (view k ≡ view_returned (view m)) × (hand k ≡ []) × (length ((view m).free ++ (view m).back) ≤ st.slots)
-      × (found ≢ 0 → LacksRooms st.slots m)
+  after_glance st m found k = HasGlanced st.slots found m k
 
   -- a compare-exchange: the first n free rooms are the pool, or other rooms are
   abbrev pub after_give_back : ℕ → TableStep E → SeatState E → ℕ → SeatState E → Type 0

@@ -98,10 +98,16 @@ module _ {E : Type 0} where
 
   -- ---- the steps on the pool
   -- a load of the link of the last room that the party took there: all slots in hand are given back
+  pub record HasGathered (found : ℕ) (m k : SeatState E) : Type 0 where
+    pub view_is : view k ≡ view_returned (view m)
+    pub hand : hand k ≡ []
+    pub to : ℕ
+    pub bit : ℕ
+    pub is : IsLink found (view m).to to bit
+
   abbrev pub after_gather : TableStep E → SeatState E → ℕ → SeatState E → Type 0
   after_gather st m found k = (before : List ℕ) (r : ℕ) → (view m).back ≡ before ++ r ∷ [] → st.word ≡ LINKS + r
-      → (view k ≡ view_returned (view m)) × (hand k ≡ [])
-      × ((to bit : ℕ) × IsLink found (view m).to to bit)
+      → HasGathered found m k
 
   abbrev pub after_refill : TableStep E → SeatState E → ℕ → SeatState E → Type 0
   after_refill st m found k = plain.after_refill st m found k

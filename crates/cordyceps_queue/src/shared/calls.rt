@@ -26,9 +26,10 @@ use std::marker::Model;
 /// A queue that threads share without a lock: many put elements in, and one at a time takes them out.
 ///
 /// Its maker chooses the number of its rooms. A room is a unit of capacity: an enqueue uses one. Each call is made
-/// through a party of this queue, which has some of the rooms. Calls allocate nothing, except the constructors. A
-/// handle that is put in comes out as the same element, first in, first out. A party dequeues by the right to do so,
-/// which one party has at a time.
+/// through a party of this queue, which has some of the rooms. Rooms that no party has are in the pool: `give_back` puts
+/// them there, and `refill` and `try_enqueue` take them. Calls allocate nothing, except the constructors. A handle that
+/// is put in comes out as the same element, first in, first out. A party dequeues by the right to do so, which one party
+/// has at a time.
 ///
 /// A contract sees the queue's table, by which it knows the parties of this queue: their `table` is the same; and the
 /// stub. It sees no contents; what happened to the queue is told by what its parties have seen, their observed prefix
@@ -298,8 +299,8 @@ impl<T: Linked<Links<T>>> MpscQueue<T> {
     }
 
     /// Gives `rooms` of the party's rooms to the pool, from where each party may take them, and returns `true`. If other
-    /// rooms are in the pool, it returns `false`, and the party has its rooms. So a whole party that has each room which
-    /// holds no element always gets `true`. Requires that the party has as many rooms.
+    /// rooms are in the pool, it returns `false`, and the party has its rooms. To a whole party that has all rooms without
+    /// an element it always returns `true`. Requires that the party has as many rooms.
     ///
     /// # Complexity
     /// O(`rooms`), or O(1) if the party gives all its rooms or none.

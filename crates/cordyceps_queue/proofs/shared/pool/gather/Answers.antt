@@ -24,10 +24,10 @@ pub returns-clause-gathered : goal.returns-clause-gathered
 returns-clause-gathered g c =
     let l = c.requires.last in
     let t = c.load.ensures.2 l.0 c.args.last l.1 refl in
-    λ i. (t.0 i, t.1 i)
+    λ i. (t.view_is i, t.hand i)
 
 pub returns-clause-end : goal.returns-clause-end
 returns-clause-end g c =
     let l = c.requires.last in
     let t = c.load.ensures.2 l.0 c.args.last l.1 refl in
-    (c.free_link.ensures c.args.seat.now.me.0.to t.2.0 t.2.1 t.2.2).0
+    (c.free_link.ensures c.args.seat.now.me.0.to t.to t.bit t.is).0

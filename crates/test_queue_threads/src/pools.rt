@@ -1,0 +1,239 @@
+//! Rooms that come back by the pool: calls one after the other, and two threads that enqueue beside one that dequeues.
+use crate::calls::{Call, Line, Reply};
+use crate::compared::{made, same};
+use crate::items::{Handle, append, elements, number};
+use crate::scenes::alone;
+use crate::seats::{Claim, Seat, queue_of, shared};
+use crate::tasks::{Task, run_all};
+use std::alloc::Global;
+use std::process::Abort;
+use std::sync::Wait;
+use std::sync::atomic::{AtomicU64, Ordering};
+use std::thread;
+use std::thread::Threads;
+use test_support::counted::Drops;
+
+/// How often a thread tries at most, before it fails.
+const TRIES: u64 = 100_000_000;
+
+/// The number of rooms through which all elements go.
+const ROOMS: usize = 64;
+
+/// How many elements each thread enqueues.
+const EACH: u64 = 5000;
+
+/// How often the threads meet.
+const ROUNDS: u64 = 10;
+
+/// A queue without rooms has none in its pool.
+const NO_ROOM: [Line; 4] = [
+    (0, Call::Refill, Reply::Refilled(0, 0)),
+    (0, Call::GiveBack(0), Reply::Gave(true, 0)),
+    (0, Call::TryPut(1), Reply::Full),
+    (0, Call::Drops, Reply::Drops(1)),
+];
+
+/// The only room goes to the pool and comes back by an enqueue.
+const ONE_ROOM: [Line; 8] = [
+    (0, Call::GiveBack(1), Reply::Gave(true, 0)),
+    (0, Call::TryPut(1), Reply::Rooms(0)),
+    (0, Call::Refill, Reply::Refilled(0, 0)),
+    (0, Call::TryPut(2), Reply::Full),
+    (0, Call::Try, Reply::Element(1)),
+    (0, Call::TryPut(3), Reply::Rooms(0)),
+    (0, Call::Try, Reply::Element(3)),
+    (0, Call::Rooms, Reply::Rooms(1)),
+];
+
+/// All rooms go to the pool, where those of another party find no place, and all are taken at once.
+const ALL_ROOMS: [Line; 12] = [
+    (0, Call::Split(1), Reply::Rooms(2)),
+    (0, Call::GiveBack(2), Reply::Gave(true, 0)),
+    (1, Call::GiveBack(1), Reply::Gave(false, 1)),
+    (1, Call::GiveBack(0), Reply::Gave(true, 1)),
+    (1, Call::Refill, Reply::Refilled(2, 3)),
+    (1, Call::GiveBack(3), Reply::Gave(true, 0)),
+    (0, Call::Refill, Reply::Refilled(3, 3)),
+    (0, Call::PutMany(1, 3), Reply::Rooms(0)),
+    (1, Call::TryPut(4), Reply::Full),
+    (0, Call::Try, Reply::Element(1)),
+    (0, Call::Try, Reply::Element(2)),
+    (0, Call::Try, Reply::Element(3)),
+];
+
+/// Some of the rooms go to the pool and follow the others when they come back.
+const SOME_ROOMS: [Line; 12] = [
+    (0, Call::GiveBack(2), Reply::Gave(true, 2)),
+    (0, Call::Put(1), Reply::Rooms(1)),
+    (0, Call::Refill, Reply::Refilled(2, 3)),
+    (0, Call::GiveBack(1), Reply::Gave(true, 2)),
+    (0, Call::TryPut(2), Reply::Rooms(1)),
+    (0, Call::TryPut(3), Reply::Rooms(0)),
+    (0, Call::TryPut(4), Reply::Rooms(0)),
+    (0, Call::TryPut(5), Reply::Full),
+    (0, Call::Try, Reply::Element(1)),
+    (0, Call::Try, Reply::Element(2)),
+    (0, Call::GiveBack(2), Reply::Gave(true, 0)),
+    (0, Call::Refill, Reply::Refilled(2, 2)),
+];
+
+/// A consumer gives back the rooms of what it took, also the last, while it has the right to dequeue.
+fn by_a_consumer(claim: Claim) -> [Line; 10] {
+    [
+        (0, Call::Split(0), Reply::Rooms(2)),
+        (1, Call::Consume(claim), Reply::Rooms(0)),
+        (0, Call::PutMany(1, 2), Reply::Rooms(0)),
+        (1, Call::Try, Reply::Element(1)),
+        (1, Call::GiveBack(1), Reply::Gave(true, 0)),
+        (1, Call::Try, Reply::Element(2)),
+        (1, Call::GiveBack(1), Reply::Gave(false, 1)),
+        (0, Call::TryPut(3), Reply::Rooms(0)),
+        (1, Call::GiveBack(1), Reply::Gave(true, 0)),
+        (1, Call::Try, Reply::Element(3)),
+    ]
+}
+
+#[test]
+fn no_room_is_in_the_pool(rt: HostRuntime) {
+    alone(&rt, rt.alloc(), 0, 1, &[&NO_ROOM]);
+}
+
+#[test]
+fn one_room_comes_back(rt: HostRuntime) {
+    alone(&rt, rt.alloc(), 1, 3, &[&ONE_ROOM]);
+}
+
+#[test]
+fn all_rooms_come_back(rt: HostRuntime) {
+    alone(&rt, rt.alloc(), 3, 4, &[&ALL_ROOMS]);
+}
+
+#[test]
+fn some_rooms_come_back(rt: HostRuntime) {
+    alone(&rt, rt.alloc(), 4, 5, &[&SOME_ROOMS]);
+}
+
+#[test]
+fn a_consumer_gives_rooms_back(rt: HostRuntime) {
+    for claim in [Claim::Try, Claim::TryOwned] {
+        alone(&rt, rt.alloc(), 2, 3, &[&by_a_consumer(claim)]);
+    }
+}
+
+/// A thread that enqueues elements, for each of which it needs a room of the pool.
+#[derive(Drop)]
+pub struct Filler<'q> {
+    seat: Seat<'q>,
+    elements: Vec<Handle>,
+    /// How many rooms the threads have at last.
+    left: &'q AtomicU64,
+}
+
+/// Enqueues an element, as soon as there is a room.
+fn put(rt: &impl Abort, seat: &mut Seat<'_>, node: Handle) {
+    let mut node = node;
+    for _ in 0..TRIES {
+        match seat.try_put(rt, node) {
+            Ok(()) => return,
+            Err(back) => node = back,
+        }
+        thread::yield_now();
+    }
+    panic!(rt; "no room came back");
+}
+
+impl Filler<'_> {
+    /// Enqueues all, the first of them first.
+    pub fn fill(self, rt: &impl Abort) {
+        let Filler {
+            mut seat,
+            elements,
+            left,
+        } = self;
+        for node in elements {
+            put(rt, &mut seat, node);
+        }
+        left.fetch_add(seat.rooms(rt) as u64, Ordering::SeqCst);
+    }
+}
+
+/// A thread that dequeues the elements of two others, and gives each room to the pool.
+#[derive(Drop)]
+pub struct Drainer<'q> {
+    seat: Seat<'q>,
+    /// The next number of each thread that enqueues.
+    next: (u64, u64),
+    left: &'q AtomicU64,
+}
+
+impl Drainer<'_> {
+    /// Compares the number of an element that came out with the next one of its thread.
+    fn count(&mut self, rt: &impl Abort, node: &Handle) {
+        let number = number(rt, node);
+        if number < EACH {
+            same(rt, number, self.next.0);
+            self.next.0 = self.next.0.wrapping_add(1);
+        } else {
+            same(rt, number, self.next.1);
+            self.next.1 = self.next.1.wrapping_add(1);
+        }
+    }
+
+    /// Dequeues all.
+    pub fn drain(mut self, rt: &impl Abort) {
+        for _ in 0..TRIES {
+            match self.seat.try_take(rt) {
+                Ok(node) => self.count(rt, &node),
+                Err(_) => thread::yield_now(),
+            }
+            let rooms = self.seat.rooms(rt);
+            self.seat.give_back(rt, rooms);
+            if self.next == (EACH, 2 * EACH) {
+                break;
+            }
+        }
+        same(rt, self.next, (EACH, 2 * EACH));
+        self.left
+            .fetch_add(self.seat.rooms(rt) as u64, Ordering::SeqCst);
+    }
+}
+
+/// Lets the threads meet at a new queue, whose rooms are in its pool, and asserts that none is lost.
+fn meet<R: Threads + Wait + Abort + Sync>(rt: &R, alloc: Global) {
+    let drops = made(rt, Drops::new(alloc));
+    let left = AtomicU64::new(0);
+    let (queue, party) = queue_of(rt, alloc, None, ROOMS);
+    let queue = shared(rt, alloc, queue);
+    let mut seat = Seat::new(&queue, party);
+    same(rt, seat.give_back(rt, ROOMS), true);
+    let mut tasks = Vec::new(alloc);
+    for first in [0, EACH] {
+        let filler = Filler {
+            seat: seat.split(rt, 0),
+            elements: elements(rt, alloc, first, EACH, &drops),
+            left: &left,
+        };
+        append(rt, &mut tasks, Task::Fill(filler));
+    }
+    let drainer = Drainer {
+        seat: seat.split(rt, 0).consume(rt, Claim::Try),
+        next: (0, EACH),
+        left: &left,
+    };
+    append(rt, &mut tasks, Task::Drain(drainer));
+    run_all(rt, tasks);
+    let found = seat.refill(rt) as u64;
+    same(
+        rt,
+        found.wrapping_add(left.load(Ordering::SeqCst)),
+        ROOMS as u64,
+    );
+    same(rt, drops.count(), 2 * EACH);
+}
+
+#[test]
+fn many_elements_go_through_few_rooms(rt: HostRuntime) {
+    for _ in 0..ROUNDS {
+        meet(&rt, rt.alloc());
+    }
+}
