@@ -53,7 +53,7 @@ fn counted(
 }
 
 /// Asserts that an element with this number is dropped once.
-fn drops_one(rt: &impl Abort, node: Node<Counted, Links<Counted>>, number: u64, drops: &Drops) {
+pub fn drops_one(rt: &impl Abort, node: Node<Counted, Links<Counted>>, number: u64, drops: &Drops) {
     let before = drops.count();
     same(rt, node.id(), number);
     drop(node);

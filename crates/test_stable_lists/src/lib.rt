@@ -1,9 +1,11 @@
-//! Tests of stable lists, of those that an order keeps sorted, and of heaps with spots, and of sorts: each call by tables, cursors by
-//! spots, drops, how often the order is asked, and many calls beside a vector.
+//! Tests of stable lists, of those that an order keeps sorted, of heaps with spots, of queues of times, and of sorts:
+//! each call by tables, cursors by spots, drops, how often the order is asked, and many calls beside a vector.
 #![tactic(auto)]
 
 #[cfg(test)]
 mod asked;
+#[cfg(test)]
+mod clock_queues;
 #[cfg(test)]
 mod compared;
 #[cfg(test)]
