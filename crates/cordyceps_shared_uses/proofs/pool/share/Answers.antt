@@ -15,8 +15,8 @@ close_all-requires-clause-whole g c =
     let a = c.args in
     let t = c.in_ok-pool.pool in
     let r = c.use_both-left.result in
-    let mine = subst (λ (u : PartyOf (Element Block)). Uses t a.first.now a.blocks.0 u r.0.0 r.0.1) (c.split-other.ensures.0 ∙ ap (λ (u : PartyOf (Element Block)). keeping a.rooms u) c.in_ok-pool.ensures) c.use_both-left.ensures.uses.0 in
-    let yours = subst (λ (u : PartyOf (Element Block)). Uses t a.second.now a.blocks.1 u r.1.0 r.1.1) (c.split-other.ensures.1 ∙ ap (λ (u : PartyOf (Element Block)). giving a.rooms u) c.in_ok-pool.ensures) c.use_both-left.ensures.uses.1 in
+    let mine = subst (λ (u : PartyOf (Element Block)). Uses t a.first.now a.blocks.0 u r.0.0 r.0.1) (c.split-other.ensures.0 ∙ ap (λ (u : PartyOf (Element Block)). keeping a.rooms u) c.in_ok-pool.ensures.0) c.use_both-left.ensures.uses.0 in
+    let yours = subst (λ (u : PartyOf (Element Block)). Uses t a.second.now a.blocks.1 u r.1.0 r.1.1) (c.split-other.ensures.1 ∙ ap (λ (u : PartyOf (Element Block)). giving a.rooms u) c.in_ok-pool.ensures.0) c.use_both-left.ensures.uses.1 in
     both_whole (λ (h : Element Block). h) (a.first.now ++ closing) (a.second.now ++ closing) t a.rooms (2 * a.rooms) a.blocks.0 a.blocks.1 r.0.0 r.1.0 r.0.1 r.1.1 c.absorb.new.party mine yours c.absorb.ensures
 
 pub returns-clause-same : goal.returns-clause-same
@@ -24,8 +24,8 @@ returns-clause-same g c =
     let a = c.args in
     let t = c.in_ok-pool.pool in
     let r = c.use_both-left.result in
-    let mine = subst (λ (u : PartyOf (Element Block)). Uses t a.first.now a.blocks.0 u r.0.0 r.0.1) (c.split-other.ensures.0 ∙ ap (λ (u : PartyOf (Element Block)). keeping a.rooms u) c.in_ok-pool.ensures) c.use_both-left.ensures.uses.0 in
-    let yours = subst (λ (u : PartyOf (Element Block)). Uses t a.second.now a.blocks.1 u r.1.0 r.1.1) (c.split-other.ensures.1 ∙ ap (λ (u : PartyOf (Element Block)). giving a.rooms u) c.in_ok-pool.ensures) c.use_both-left.ensures.uses.1 in
+    let mine = subst (λ (u : PartyOf (Element Block)). Uses t a.first.now a.blocks.0 u r.0.0 r.0.1) (c.split-other.ensures.0 ∙ ap (λ (u : PartyOf (Element Block)). keeping a.rooms u) c.in_ok-pool.ensures.0) c.use_both-left.ensures.uses.0 in
+    let yours = subst (λ (u : PartyOf (Element Block)). Uses t a.second.now a.blocks.1 u r.1.0 r.1.1) (c.split-other.ensures.1 ∙ ap (λ (u : PartyOf (Element Block)). giving a.rooms u) c.in_ok-pool.ensures.0) c.use_both-left.ensures.uses.1 in
     both (λ (h : Element Block). h) (a.first.now ++ closing) (a.second.now ++ closing) t a.rooms (2 * a.rooms) a.blocks.0 a.blocks.1 r.0.0 r.1.0 c.close_all.result r.0.1 r.1.1 c.absorb.new.party mine yours c.absorb.ensures c.close_all.ensures.once
 
 pub returns-clause-runs : goal.returns-clause-runs
@@ -35,8 +35,8 @@ returns-clause-runs g c =
     let r = c.use_both-left.result in
     let el = λ (h : Element Block). h in
     let p = new_party t (2 * a.rooms) in
-    let mine = subst (λ (u : PartyOf (Element Block)). Uses t a.first.now a.blocks.0 u r.0.0 r.0.1) (c.split-other.ensures.0 ∙ ap (λ (u : PartyOf (Element Block)). keeping a.rooms u) c.in_ok-pool.ensures) c.use_both-left.ensures.uses.0 in
-    let yours = subst (λ (u : PartyOf (Element Block)). Uses t a.second.now a.blocks.1 u r.1.0 r.1.1) (c.split-other.ensures.1 ∙ ap (λ (u : PartyOf (Element Block)). giving a.rooms u) c.in_ok-pool.ensures) c.use_both-left.ensures.uses.1 in
+    let mine = subst (λ (u : PartyOf (Element Block)). Uses t a.first.now a.blocks.0 u r.0.0 r.0.1) (c.split-other.ensures.0 ∙ ap (λ (u : PartyOf (Element Block)). keeping a.rooms u) c.in_ok-pool.ensures.0) c.use_both-left.ensures.uses.0 in
+    let yours = subst (λ (u : PartyOf (Element Block)). Uses t a.second.now a.blocks.1 u r.1.0 r.1.1) (c.split-other.ensures.1 ∙ ap (λ (u : PartyOf (Element Block)). giving a.rooms u) c.in_ok-pool.ensures.0) c.use_both-left.ensures.uses.1 in
     let ks = firsts-in_turn a.first.now a.second.now in
     let ls = seconds-in_turn a.first.now a.second.now in (
       in_turn a.first.now a.second.now,

@@ -14,7 +14,7 @@ returns-clause-each_once g c =
     let back = c.run_threads-submitter.result in
     let last = c.absorb-2.new.party in
     let all = all_done c.in-Ok.queue c.args.rooms c.args.jobs back.1.0.done back.1.1.done c.in-Ok.party c.split-submitter.new.party c.split-submitter.result
-    c.split-other.new.party c.split-other.result back.1.0.party back.1.1.party back.0 c.absorb.new.party last c.in-Ok.ensures c.split-submitter.ensures c.split-other.ensures
+    c.split-other.new.party c.split-other.result back.1.0.party back.1.1.party back.0 c.absorb.new.party last c.in-Ok.ensures.0 c.split-submitter.ensures c.split-other.ensures
     c.run_threads-submitter.ensures.submitted c.run_threads-submitter.ensures.worked.0 c.run_threads-submitter.ensures.worked.1 c.absorb.ensures c.absorb-2.ensures in
     let left = c.close-rest.ensures ∙ map-id (reverse (held (plain last.seen))) in
     let done = c.add_all.ensures ∙ ap (λ (z : List (Element Job)). reverse back.1.1.done ++ z)

@@ -12,7 +12,7 @@ use Rattle.cordyceps_uses.proofs.tasks.schedule.Goals as goal
 pub returns-clause-schedule : goal.returns-clause-schedule
 returns-clause-schedule g c =
     let tasks = c.args.tasks in
-    let none = ap (λ (u : PartyOf (Element Task)). held (plain u.seen)) c.in-Ok.ensures in
+    let none = ap (λ (u : PartyOf (Element Task)). held (plain u.seen)) c.in-Ok.ensures.0 in
     let all = c.push_all-party.ensures.held ∙ ap (λ (z : List (Element Task)). z ++ tasks) none in
     let came = c.close-came.ensures ∙ (map-id (reverse (held (plain c.push_all-party.result.seen))) ∙ ap (λ (z : List (Element Task)). reverse z) all) in
     let stands = subst (λ (z : List (Element Task)). Represents (λ (x y : Task). nat_cmp x.rank y.rank) c.from_stack_min.result.elements z) came c.from_stack_min.ensures in
