@@ -2,7 +2,7 @@
 use Rattle.std.proofs.Common.{◌≡◌, ℕ, zero, suc, ◌≤◌, List, [], ◌∷◌, ◌++◌, length, Bool, refl, sym, ap, ◌∙◌, subst, arith}
 use mathlib.Core.Option.{some, some-injective, some-ne-none}
 use lib.ListN.{get_elem?}
-use Rattle.cordyceps_shared.specs.Shares.{Name, covers, whole}
+use Rattle.cordyceps_shared.specs.Shares.{Name, covers}
 use Rattle.cordyceps_shared.specs.Histories.{events, with_marks, plain, AllOwn}
 use Rattle.cordyceps_shared.specs.Knowing.{Known, Agrees, SharesDisjoint, AllAgree, IsPrefixOf, IsKnown, newcomer}
 use Rattle.cordyceps_shared.proofs.Counting.{tally_one}

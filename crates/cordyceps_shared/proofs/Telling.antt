@@ -177,6 +177,25 @@ module _ {X V : Type 0} (knows : V → Known X) where
       (λ l. below_without (length views) h i l o.below)
       (λ not. let t = there views i (lt_of_not-le not) in o.quiet i t.0 t.1 (only_share views h j i v t.0 o at is other t.1 (knows t.0).share refl))
 
+-- ---- what a whole party has seen
+not_last : {X : Type 0} (before : List (ℕ × X)) (x : ℕ × X) (xs : List (ℕ × X)) → NoneOf x.0 (before ++ x ∷ xs) → ⊥
+not_last [] x xs away = away.0 refl
+not_last (y ∷ before) x xs away = not_last before x xs away.1
+
+none_later : {X : Type 0} (id : ℕ) (before later : List (ℕ × X)) → NoneOf id later → ((i : ℕ) → i ≢ id → NoneOf i (before ++ later)) → later ≡ []
+none_later id before [] away others = refl
+none_later id before (x ∷ xs) away others = absurd (not_last before x xs (others x.0 away.0))
+
+module _ {X V : Type 0} (actor : X → Name) (knows : V → Known X) where
+  -- it is the whole history
+  pub whole_saw : (views : List V) (h : List (ℕ × X)) (j : ℕ) (v : V) → SharesDisjoint knows views h → AllAgree actor knows views h → get_elem? views j ≡ some v → (knows v).share ≡ whole
+      → plain (knows v).seen ≡ events h
+  whole_saw views h j v o fits at is =
+      let f = fits j v at in
+      let nothing = none_later j f.before f.later f.none (λ i ne. subst (NoneOf i) f.is (whole_without knows views h j i v o at is ne)) in
+      let all : h ≡ f.before = f.is ∙ (ap (λ (l : List (ℕ × X)). f.before ++ l) nothing ∙ append-nil f.before) in
+      ap (λ (l : List (Bool × X)). plain l) f.seen ∙ (plain_marked j f.before ∙ ap (λ (l : List (ℕ × X)). events l) (sym all))
+
 module _ {X V : Type 0} (actor : X → Name) (knows : V → Known X) where
   -- what a step keeps, and what it tells, where the party j has seen all and adds these events
   pub record Told (Legal : List X → Type 0) (views : List V) (h : List (ℕ × X)) (j : ℕ) (es : List X) (v w : V) : Type 0 where

@@ -1,5 +1,5 @@
 -- What a contract tells of a party of a shared collection. X is the type of the collection's events.
-use Rattle.std.specs.Prelude.{◌≡◌, ℕ, ◌+◌, ◌-◌, List, [], Bool}
+use Rattle.std.specs.Prelude.{◌≡◌, ℕ, ◌+◌, ◌-◌, List, [], Bool, true, false}
 use Rattle.atomic_table.specs.Seated.{TableId}
 use Rattle.cordyceps_shared.specs.Histories.{plain, AllOwn, AreDisjoint}
 use Rattle.cordyceps_shared.specs.Knowing.{Known, Grown, without_marks, merge_marks, IsPrefixOf}
@@ -37,6 +37,11 @@ module _ {X : Type 0} where
 
   abbrev pub giving : ℕ → Standing X → Standing X
   giving n u = record { table = u.table; seen = without_marks u.seen; share = gives_half u.share; rooms = n }
+
+  -- it gave n rooms to the pool, or others' rooms were there, and it is as before
+  abbrev pub GivesBack : ℕ → Bool → Standing X → Standing X → Type 0
+  GivesBack n true u w = w ≡ record u { rooms = u.rooms - n }
+  GivesBack n false u w = w ≡ u
 
   -- what every party knows: what it has seen is legal, a whole party has seen no event of another, and its names are a
   -- share

@@ -1,5 +1,5 @@
-//! What calls on parties require. In a proved build these functions do nothing. In a build without proofs a run stops at
-//! what does not hold, and their names say what that is.
+//! What calls on parties require. In a proved build these functions do nothing. In a build without proofs a run stops
+//! at what does not hold, and their names say what that is.
 ghost use Rattle.std.specs.Prelude.{◌<◌, ◌≤◌};
 
 use cordyceps_base::shared::MAX_ROOMS;

@@ -176,7 +176,7 @@ pub found : {k : ℕ} {id : TableId} {u kept other v o w : Seat} {got sent : Lis
     → Moves name_of [] got kept v → Moves name_of sent [] other o → Absorbs (λ h. Legal h) v o w
     → (w.table ≡ id) × (w.share ≡ whole) × (sent ≡ got ++ map name_of (held (plain w.seen)))
 found new split mine theirs m =
-    exchanged (λ h. map name_of (held h)) (λ h legal. all_kept name_of same_name h legal) new (omega arith) split mine theirs m
+    exchanged (λ h. map name_of (held h)) (λ h legal. all_kept name_of same_name h legal) new split mine theirs m
 
 -- those that are somewhere are those that were given
 pub all_found : (tasks woken came on_way sleeping waiting first second : List Name) → tasks ++ woken ≡ came ++ on_way

@@ -50,8 +50,8 @@ pub all_done : (id : TableId) (n : ℕ) (js done more : List (Element Job)) (u k
     → (last.table ≡ id) × (last.share ≡ whole) × Same (map ran js) (reverse more ++ (reverse (map ran (reverse (held (plain last.seen)))) ++ done))
 all_done id n js done more u kept sender one two first second third mid last new split again sent mine theirs a b =
     let share = ap (λ (z : Seat). z.share) split.0 ∙ ap (λ (z : Seat). keeps_half z.share) new in
-    let both = both_took (subst (λ names. IsShare names) (sym share) (keeps_share whole whole_share)) (omega arith) again mine.took theirs.took a in
-    let all = exchanged ran new (omega arith) split both.2 sent b in
+    let both = both_took (subst (λ names. IsShare names) (sym share) (keeps_share whole whole_share)) again mine.took theirs.took a in
+    let all = exchanged ran new split both.2 sent b in
     let left = held (plain last.seen) in (
       all.0,
       all.1,

@@ -1,13 +1,15 @@
 //! A log: many threads send records, and one stores them in batches until all senders have ended.
-ghost use Rattle.std.specs.Prelude.{◌≡◌, ◌≤◌, [], ◌++◌, length, map, IfOk};
+ghost use Rattle.std.specs.Prelude.{◌≡◌, ◌≤◌, [], ◌∷◌, ◌++◌, map, None, IfOk, IfSome};
 ghost use Rattle.std.specs.Thread.{IsSync};
-ghost use Rattle.cordyceps.specs.Parties.Sending.{how_many, Delivers, MaySend};
+ghost use Rattle.cordyceps.specs.Parties.Sending.{Delivers};
+ghost use Rattle.cordyceps.specs.Parties.Shares.{IsShare};
 ghost use Rattle.cordyceps.specs.Queues.Moves.{Moves};
 ghost use Rattle.cordyceps.specs.Queues.Sending.{Sends};
 ghost use Rattle.cordyceps_shared_uses.specs.Logger.{record_of, records};
 
-use cordyceps::mpsc_queue::{Batch, MAX_ROOMS, Party};
+use cordyceps::mpsc_queue::{Batch, Links, MAX_ROOMS, Party, TryDequeueError};
 use cordyceps::{Kind, Linked, List, MpscQueue, Node};
+use crossbeam_utils::sync::{Parker, Unparker};
 use std::alloc::{AllocError, Global};
 use std::sync::Wait;
 use std::sync::atomic::{AtomicBool, Ordering};
@@ -61,46 +63,91 @@ impl<L: Kind> Linked<L> for Producer {
     }
 }
 
-/// Sends all records of a list, in order.
-fn send_all(
+/// Sends a record, and wakes the thread that stores. While no room is free, it waits for one.
+fn send<R: Wait>(
+    rt: &R,
     queue: &MpscQueue<Record>,
+    storer: &Unparker,
+    party: &mut Party<Record>,
+    handle: Node<Record, Links<Record>>,
+)
+    requires { party.old.table ≡ queue.now.table }
+    ensures { Moves record_of (record_of handle ∷ []) [] party.old party.new }
+{
+    let mut handle = handle;
+    for _ in rt.forever() {
+        let sent = queue.try_enqueue(party, handle);
+        // a thread that stores sleeps only while the queue is empty, and then no room is missing for long
+        storer.unpark();
+        match sent {
+            Ok(()) => return,
+            Err(back) => handle = back,
+        }
+        thread::yield_now();
+    }
+    unreachable!()
+}
+
+/// Gives all rooms of a party back, together with those that others gave back meanwhile.
+fn give_all_back<R: Wait>(rt: &R, queue: &MpscQueue<Record>, party: &mut Party<Record>)
+    requires { party.old.table ≡ queue.now.table }
+    ensures moves { Moves record_of [] [] party.old party.new }
+    ensures gives { party.new.rooms ≡ 0 }
+{
+    for _ in rt.forever() {
+        let rooms = party.rooms();
+        if queue.give_back(party, rooms) {
+            return;
+        }
+        queue.refill(party);
+    }
+    unreachable!()
+}
+
+/// Sends all records of a list, in order, and gives the rooms back that the party has then.
+fn send_all<R: Wait>(
+    rt: &R,
+    queue: &MpscQueue<Record>,
+    storer: &Unparker,
     mut party: Party<Record>,
     mut records: List<Record>,
 ) -> Party<Record>
-    requires { (party.table ≡ queue.now.table) × (length records ≤ party.rooms) }
+    requires { party.table ≡ queue.now.table }
     ensures { Moves record_of (map record_of records) [] party result }
 {
     while let Some(record) = records.pop_front() {
-        queue.enqueue(&mut party, record.into_kind());
+        send(rt, queue, storer, &mut party, record.into_kind());
     }
+    give_all_back(rt, queue, &mut party);
     party
 }
 
 /// Sends the records of each producer, on a thread of its own.
-fn send_each<R: Threads + Sync>(
+fn send_each<R: Threads + Wait + Sync>(
     rt: &R,
     queue: &MpscQueue<Record>,
+    storer: &Unparker,
     mut party: Party<Record>,
     mut producers: List<Producer>,
 ) -> Party<Record>
-    requires { MaySend (records producers) queue.now.table party }
+    requires { (party.table ≡ queue.now.table) × IsShare party.share }
     ensures { Sends record_of (records producers) party result }
 {
     let Some(node) = producers.pop_front() else {
         return party;
     };
     let first = node.into_value().records;
-    let mine = queue.split(&mut party, first.len());
+    let mine = queue.split(&mut party, 0);
     let (sent, mut back) = thread::join(
         rt,
         || -> Party<Record>
-            requires { (mine.table ≡ queue.now.table) × (length first ≤ mine.rooms) }
+            requires { IsSync R.row × (mine.table ≡ queue.now.table) }
             ensures { Moves record_of (map record_of first) [] mine result }
-        { send_all(queue, mine, first) },
+        { send_all(rt, queue, storer, mine, first) },
         || -> Party<Record>
-            requires { IsSync R.row × MaySend (records producers) queue.now.table party }
+            requires { IsSync R.row × (party.table ≡ queue.now.table) × IsShare party.share }
             ensures { Sends record_of (records producers) party result }
-        { send_each(rt, queue, party, producers) },
+        { send_each(rt, queue, storer, party, producers) },
     );
     queue.absorb(&mut back, sent);
     back
@@ -116,41 +163,68 @@ fn store(log: &mut Vec<Record>, batch: Batch<Record>) -> Result<(), AllocError>
     Ok(())
 }
 
-/// What the thread that stores is left with: its party, and what it stored.
+/// Stores the records of a batch. Once memory is refused, there is no log, and batches are dropped.
+fn store_more(log: Option<Vec<Record>>, batch: Batch<Record>) -> Option<Vec<Record>>
+    ensures none { log ≡ None → result ≡ None }
+    ensures stored { IfSome result (λ after. IfSome log (λ before.
+        after.items ≡ before.items ++ map record_of batch)) }
+{
+    let mut log = log?;
+    store(&mut log, batch).ok()?;
+    Some(log)
+}
+
+/// What the thread that stores is left with: its party, and what it stored, unless memory was refused.
 #[derive(Drop)]
 struct Stored {
     party: Party<Record>,
-    log: Vec<Record>,
+    log: Option<Vec<Record>>,
 }
 
-/// Stores what comes, in batches of at most `max` records, until the senders have ended and nothing is left.
+/// Sleeps until a sender wakes this thread, if the queue was empty, and otherwise lets other threads run. No wake-up is
+/// lost: a sender wakes this thread after it has put its record in, and a wake-up before the sleep ends it at once.
+fn pause<R: Wait>(rt: &R, sleep: &Parker, why: TryDequeueError) {
+    match why {
+        TryDequeueError::Empty => sleep.park(rt),
+        _ => thread::yield_now(),
+    }
+}
+
+/// Stores what comes, in batches of at most `max` records, until the senders have ended and nothing is left. The rooms
+/// of what it stored go back at once. While the queue is empty, it sleeps.
 fn store_until_end<R: Wait>(
     rt: &R,
     alloc: Global,
     queue: &MpscQueue<Record>,
     party: Party<Record>,
+    sleep: Parker,
     have_ended: &AtomicBool,
     max: usize,
-) -> Result<Stored, AllocError>
+) -> Stored
     requires table { party.table ≡ queue.now.table }
     requires some { 1 ≤ max }
-    ensures { IfOk result (λ back. Moves record_of [] back.log.items party back.party) }
+    ensures table { result.party.table ≡ queue.now.table }
+    ensures stored { IfSome result.log (λ log. Moves record_of [] log.items party result.party) }
 {
-    let mut log = Vec::new(alloc);
+    let mut log = Some(Vec::new(alloc));
     let mut consumer = queue.consume(rt, party);
     for _ in rt.forever() {
-        // asked before the take: if all senders have ended by now, nothing comes after what it finds
+        // It is asked before the take: if all senders have ended by now, nothing comes after what the take finds.
         let is_end = have_ended.load(Ordering::SeqCst);
         match consumer.take_linked(max) {
-            Ok(batch) => store(&mut log, batch)?,
-            Err(_why) => {
+            Ok(batch) => {
+                log = store_more(log, batch);
+                let rooms = consumer.rooms();
+                consumer.give_back(rooms);
+            }
+            Err(why) => {
                 if is_end {
-                    return Ok(Stored {
+                    return Stored {
                         party: consumer.release(),
                         log,
-                    });
+                    };
                 }
-                thread::yield_now();
+                pause(rt, &sleep, why);
             }
         }
     }
@@ -160,7 +234,8 @@ fn store_until_end<R: Wait>(
 /// Logs the records of all producers, each of which sends on a thread of its own. One thread stores them, in batches of
 /// at most `max`, until all senders have ended. No record is lost or doubled, and those of each producer come in order.
 ///
-/// The queue needs a room for each record, at most `MAX_ROOMS`.
+/// The queue has `rooms` rooms, which bound how many records wait to be stored. Their rooms come back: the number of
+/// records has no bound. A sender that finds the queue full waits, and the thread that stores sleeps while it is empty.
 ///
 /// # Errors
 /// If memory is refused, the result is `AllocError`, and all records are dropped.
@@ -174,31 +249,38 @@ pub fn log_all<R: Threads + Wait + Sync>(
     rooms: usize,
     max: usize,
 ) -> Result<Vec<Record>, AllocError>
-    requires room { how_many (records producers) ≤ rooms }
+    requires room { 1 ≤ rooms }
     requires few { rooms ≤ MAX_ROOMS }
     requires some { 1 ≤ max }
     ensures { IfOk result (λ log. Delivers (records producers) log.items) }
 {
     let (queue, mut storer) = MpscQueue::new(alloc, rooms)?;
-    let sender = queue.split(&mut storer, rooms);
+    let sleep = Parker::new(alloc)?;
+    let wake = sleep.unparker().clone()?;
+    queue.give_back(&mut storer, rooms);
+    let sender = queue.split(&mut storer, 0);
     let have_ended = AtomicBool::new(false);
     let (stored, sent) = thread::join(
         rt,
-        || -> Result<Stored, AllocError>
+        || -> Stored
             requires { IsSync R.row × (storer.table ≡ queue.table) × (1 ≤ max) }
-            ensures { IfOk result (λ back. Moves record_of [] back.log.items storer back.party) }
-        { store_until_end(rt, alloc, &queue, storer, &have_ended, max) },
+            ensures table { result.party.table ≡ queue.table }
+            ensures stored { IfSome result.log (λ log. Moves record_of [] log.items storer result.party) }
+        { store_until_end(rt, alloc, &queue, storer, sleep, &have_ended, max) },
         || -> Party<Record>
-            requires { IsSync R.row × MaySend (records producers) queue.table sender }
+            requires { IsSync R.row × (sender.table ≡ queue.table) × IsShare sender.share }
             ensures { Sends record_of (records producers) sender result }
         {
-            let sent = send_each(rt, &queue, sender, producers);
+            let sent = send_each(rt, &queue, &wake, sender, producers);
             have_ended.store(true, Ordering::SeqCst);
+            wake.unpark();
             sent
         },
     );
-    let stored = stored?;
-    let (mut party, mut log) = (stored.party, stored.log);
+    let Stored { mut party, log } = stored;
+    let Some(mut log) = log else {
+        return Err(AllocError);
+    };
     queue.absorb(&mut party, sent);
     store(&mut log, queue.close(party).elements)?;
     Ok(log)

@@ -2,10 +2,10 @@
 ghost use Rattle.std.specs.Prelude.{◌≡◌, ◌<◌, ◌≤◌, List, [], length, map, reverse, true, false, is_ok, MatchResult, IfOk};
 ghost use Rattle.cordyceps_shared.specs.Histories.{plain};
 ghost use Rattle.cordyceps_shared.specs.Shares.{whole};
-ghost use Rattle.cordyceps_shared.specs.Standings.{new_party, keeping, giving, Absorbs};
+ghost use Rattle.cordyceps_shared.specs.Standings.{new_party, keeping, giving, Absorbs, GivesBack};
 ghost use Rattle.cordyceps_stack.specs.History.{held, Legal};
 ghost use Rattle.cordyceps_stack.specs.Shared.Calls.{PushesAt, PushesAllAt, Misses};
-ghost use Rattle.cordyceps_stack.specs.Shared.Calls.{Refills, GivesBack, HasAllRooms, LacksRooms};
+ghost use Rattle.cordyceps_stack.specs.Shared.Calls.{Refills, HasAllRooms, LacksRooms};
 
 use crate::local::Local;
 use cordyceps_base::linked::Linked;
@@ -103,8 +103,8 @@ impl<T: Linked<Links<T>>> FreeList<T> {
     /// Returns `true` if no block was shared just before. If there is no block, it only looks whether one is shared.
     ///
     /// # Errors
-    /// If another party put a block back, or took all, between its two steps, all blocks are returned in their order, and
-    /// the party keeps its rooms. To a whole party this never happens.
+    /// If another party put a block back, or took all, between its two steps, all blocks are returned in their order,
+    /// and the party keeps its rooms. To a whole party this never happens.
     ///
     /// # Complexity
     /// O(n), for n blocks: one load and one compare-exchange of the head, and steps on n rooms.
@@ -123,8 +123,8 @@ impl<T: Linked<Links<T>>> FreeList<T> {
         self.shared.try_push_all(party, blocks)
     }
 
-    /// Takes all rooms of the pool, which become the party's, and returns how many they are. A whole party then has each
-    /// room of the free list that has no shared block in it.
+    /// Takes all rooms of the pool, which become the party's, and returns how many they are. A whole party then has
+    /// each room of the free list that has no shared block in it.
     ///
     /// # Complexity
     /// O(1).
@@ -139,9 +139,9 @@ impl<T: Linked<Links<T>>> FreeList<T> {
         self.shared.refill(party)
     }
 
-    /// Gives `rooms` of the party's rooms to the pool, from where each party may take them, and returns `true`. If other
-    /// rooms are in the pool, it returns `false`, and the party has its rooms. So a whole party that has each room which
-    /// holds no block always gets `true`. Requires that the party has as many rooms.
+    /// Gives `rooms` of the party's rooms to the pool, from where each party may take them, and returns `true`. If
+    /// other rooms are in the pool, it returns `false`, and the party has its rooms. So a whole party that has each
+    /// room which holds no block always gets `true`. Requires that the party has as many rooms.
     ///
     /// # Complexity
     /// O(`rooms`), or O(1) if the party gives all its rooms, or finds others there.

@@ -1,6 +1,7 @@
 //! The part of a free list that one owner has.
 ghost use Rattle.std.specs.Prelude.{◌≡◌, [], ◌∷◌, false};
-ghost use Rattle.cordyceps_stack.specs.Shared.Calls.{GivesBack, LacksRooms};
+ghost use Rattle.cordyceps_shared.specs.Standings.{GivesBack};
+ghost use Rattle.cordyceps_stack.specs.Shared.Calls.{LacksRooms};
 ghost use Rattle.cordyceps_shared.specs.Shares.{whole};
 ghost use Rattle.freelist.specs.Blocks.{GetsFrom};
 
@@ -88,9 +89,9 @@ impl<'a, T: Linked<Links<T>>> Local<'a, T> {
         self.blocks.push(handle);
     }
 
-    /// Gives all rooms of the party to the pool, from where each party may take them, and returns `true`. If other rooms
-    /// are in the pool, it returns `false`, and the party has its rooms. These are the rooms of the blocks that `get`
-    /// took, besides those that the party had.
+    /// Gives all rooms of the party to the pool, from where each party may take them, and returns `true`. If other
+    /// rooms are in the pool, it returns `false`, and the party has its rooms. These are the rooms of the blocks that
+    /// `get` took, besides those that the party had.
     ///
     /// # Complexity
     /// O(1): one load and one compare-exchange.

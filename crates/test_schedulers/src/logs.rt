@@ -1,22 +1,19 @@
 //! Records that threads send, and one stores in batches.
-ghost use Rattle.std.specs.Prelude.{◌≡◌, length};
-ghost use Rattle.cordyceps.specs.Parties.Sending.{how_many};
-ghost use Rattle.cordyceps_shared_uses.specs.Logger.{records};
+ghost use Rattle.std.specs.Prelude.{◌≤◌};
 
 use crate::compared::{made, same};
 use crate::made::node;
 use cordyceps::List;
+use cordyceps::mpsc_queue::MAX_ROOMS;
 use cordyceps_shared_uses::logger::{Producer, Record, log_all};
 use std::alloc::Global;
 use std::process::Abort;
 
-/// How often the threads run with batches of one size.
-const ROUNDS: u64 = 5;
+/// How often the threads run with one number of rooms and batches of one size. All are a thousand runs.
+const ROUNDS: u64 = 63;
 
 /// Returns a producer of three records with this code, of the times 0 to 2.
-fn producer(rt: &impl Abort, alloc: Global, code: u64) -> Producer
-    ensures { length result.records ≡ 3 }
-{
+fn producer(rt: &impl Abort, alloc: Global, code: u64) -> Producer {
     let mut records = List::new();
     records.push_back(node(rt, alloc, 0, Record { time: 0, code }));
     records.push_back(node(rt, alloc, 0, Record { time: 1, code }));
@@ -25,9 +22,7 @@ fn producer(rt: &impl Abort, alloc: Global, code: u64) -> Producer
 }
 
 /// Returns a producer for each of the codes 0 to 3.
-fn four_producers(rt: &impl Abort, alloc: Global) -> List<Producer>
-    ensures { how_many (records result) ≡ 12 }
-{
+fn four_producers(rt: &impl Abort, alloc: Global) -> List<Producer> {
     let mut producers = List::new();
     producers.push_back(node(rt, alloc, 0, producer(rt, alloc, 0)));
     producers.push_back(node(rt, alloc, 0, producer(rt, alloc, 1)));
@@ -36,21 +31,30 @@ fn four_producers(rt: &impl Abort, alloc: Global) -> List<Producer>
     producers
 }
 
+/// Logs twelve records of four producers, and compares what comes of each.
+fn log_twelve(rt: &HostRuntime, rooms: usize, max: usize)
+    requires { (1 ≤ rooms) × (rooms ≤ MAX_ROOMS) × (1 ≤ max) }
+{
+    let producers = four_producers(rt, rt.alloc());
+    let log = made(rt, log_all(rt, rt.alloc(), producers, rooms, max));
+    // how many records of each code came
+    let mut came = [0u64; 4];
+    for record in log.iter() {
+        if let Some(time) = came.get_mut(record.code as usize) {
+            same(rt, record.time, *time);
+            *time = time.wrapping_add(1);
+        }
+    }
+    same(rt, (log.len(), came), (12, [3, 3, 3, 3]));
+}
+
 #[test]
-fn each_producers_records_come_in_order(rt: HostRuntime) {
-    for max in 1..5usize {
-        for _round in 0..ROUNDS {
-            let producers = four_producers(&rt, rt.alloc());
-            let log = made(&rt, log_all(&rt, rt.alloc(), producers, 12, max));
-            // how many records of each code came
-            let mut came = [0u64; 4];
-            for record in log.iter() {
-                if let Some(time) = came.get_mut(record.code as usize) {
-                    same(&rt, record.time, *time);
-                    *time = time.wrapping_add(1);
-                }
+fn each_producers_records_come_in_order_and_no_wakeup_is_lost(rt: HostRuntime) {
+    for rooms in 1..5usize {
+        for max in 1..5usize {
+            for _round in 0..ROUNDS {
+                log_twelve(&rt, rooms, max);
             }
-            same(&rt, (log.len(), came), (12, [3, 3, 3, 3]));
         }
     }
 }

@@ -1,7 +1,7 @@
 -- What each call put in and took out, and that nothing is lost.
-use Rattle.std.proofs.Common.{◌≡◌, ℕ, ◌+◌, List, [], ◌∷◌, ◌++◌, map, flat_map, length, Option, refl, sym, ap, ◌∙◌, subst, inl, inr, arith}
+use Rattle.std.proofs.Common.{◌≡◌, ℕ, List, [], ◌∷◌, ◌++◌, map, flat_map, Option, refl, sym, ap, ◌∙◌, subst, inl, inr}
 use Rattle.std.specs.Prelude.{◌⊎◌, Result, Ok, Err}
-use Rattle.std.proofs.lemmas.List.{map-append, length-map, append-nil}
+use Rattle.std.proofs.lemmas.List.{map-append, append-nil}
 use Rattle.std.proofs.lemmas.List.Concat.{flat_map-append}
 use Rattle.cordyceps_shared.specs.Shares.{Name}
 use Rattle.cordyceps_shared.specs.Standings.{name_of}
@@ -10,7 +10,7 @@ use Rattle.cordyceps_queue.specs.declared.cores.steps.TryDequeueError.{TryDequeu
 use Rattle.cordyceps_queue.specs.declared.cores.steps.TryDequeueError.TheVariants as error
 use Rattle.cordyceps_queue.specs.History.{Event, Swap, Link, Take, Busy, Look, Out, Empty, Free, came, went, held, IsLegal, actor}
 use Rattle.cordyceps_queue.specs.Shared.Batches.{outs, StopsAt, TakesLinked}
-use Rattle.cordyceps_queue.specs.Shared.Calls.{PartyOf, Legal, Adds, Enqueues, Dequeues, Consumes, TakesRight, FindsBusy, GivesRight, Retries, AtLast, MissesDequeue, try_result}
+use Rattle.cordyceps_queue.specs.Shared.Calls.{PartyOf, Legal, Adds, Enqueues, EnqueuesRefilled, Refills, Dequeues, Consumes, TakesRight, FindsBusy, GivesRight, Retries, AtLast, MissesDequeue, try_result}
 use Rattle.cordyceps_queue.specs.Shared.Moves.{put_by, got_by, Moves, got_by_try}
 use Rattle.cordyceps_queue.proofs.PartyOrder.{nothing_lost}
 
@@ -53,48 +53,54 @@ module _ {P E A : Type 0} (f : E → A) where
   outs_got p (e ∷ es) = ap (λ l. f e ∷ l) (outs_got p es)
 
 module _ {E A : Type 0} (f : E → A) where
-  moved : (u w : PartyOf E) (es : List (Event Name E)) → Adds u es w → w.rooms + length (flat_map (put_by f) es) ≡ u.rooms + length (flat_map (got_by f) es)
-      → Moves f (flat_map (put_by f) es) (flat_map (got_by f) es) u w
-  moved u w es a rooms = moves_by (put_by f) (got_by f) (λ h. Legal h) actor u w es a rooms
+  moved : (u w : PartyOf E) (es : List (Event Name E)) → Adds u es w → Moves f (flat_map (put_by f) es) (flat_map (got_by f) es) u w
+  moved u w es a = moves_by (put_by f) (got_by f) (λ h. Legal h) actor u w es a
 
   -- ---- one call
   pub moves_enqueue : (e : E) (u w : PartyOf E) → Enqueues e u w → Moves f (f e ∷ []) [] u w
-  moves_enqueue e u w c = moved u w (Swap (name_of u) e ∷ Link (name_of u) ∷ []) c.0 (omega (arith, c.1))
+  moves_enqueue e u w c = moved u w (Swap (name_of u) e ∷ Link (name_of u) ∷ []) c.0
+
+  -- one that may have taken rooms of the pool first
+  pub moves_refilled : (e : E) (u w : PartyOf E) → EnqueuesRefilled e u w → Moves f (f e ∷ []) [] u w
+  moves_refilled e u w c = moved u w (Swap (name_of u) e ∷ Link (name_of u) ∷ []) c.0
+
+  -- a party that takes rooms of the pool moves nothing
+  pub moves_refill : (n : ℕ) (u w : PartyOf E) → Refills n u w → Moves f [] [] u w
+  moves_refill n u w c = moved u w [] c.0
 
   pub moves_dequeue : (r : Result E TryDequeueError) (u w : PartyOf E) → Dequeues r u w → Moves f [] (got_by_try f r) u w
-  moves_dequeue (Ok e) u w c = let n = name_of u in moved u w (Take n ∷ Look n ∷ Out n e ∷ Free n ∷ []) c.0 (omega (arith, c.1))
-  moves_dequeue (Err error.Empty) u w c = let n = name_of u in moved u w (Take n ∷ Look n ∷ Empty n ∷ Free n ∷ []) c.0 (omega (arith, c.1))
-  moves_dequeue (Err error.Inconsistent) u w c = let n = name_of u in moved u w (Take n ∷ Look n ∷ Free n ∷ []) c.0 (omega (arith, c.1))
-  moves_dequeue (Err error.Busy) u w c = moved u w (Busy (name_of u) ∷ []) c.0 (omega (arith, c.1))
+  moves_dequeue (Ok e) u w c = let n = name_of u in moved u w (Take n ∷ Look n ∷ Out n e ∷ Free n ∷ []) c.0
+  moves_dequeue (Err error.Empty) u w c = let n = name_of u in moved u w (Take n ∷ Look n ∷ Empty n ∷ Free n ∷ []) c.0
+  moves_dequeue (Err error.Inconsistent) u w c = let n = name_of u in moved u w (Take n ∷ Look n ∷ Free n ∷ []) c.0
+  moves_dequeue (Err error.Busy) u w c = moved u w (Busy (name_of u) ∷ []) c.0
 
   pub moves_consume : (r : Result E TryDequeueError) (u w : PartyOf E) → Consumes r u w → Moves f [] (got_by_try f r) u w
-  moves_consume (Ok e) u w c = let n = name_of u in moved u w (Look n ∷ Out n e ∷ []) c.0 (omega (arith, c.1))
-  moves_consume (Err error.Empty) u w c = let n = name_of u in moved u w (Look n ∷ Empty n ∷ []) c.0 (omega (arith, c.1))
-  moves_consume (Err error.Inconsistent) u w c = moved u w (Look (name_of u) ∷ []) c.0 (omega (arith, c.1))
+  moves_consume (Ok e) u w c = let n = name_of u in moved u w (Look n ∷ Out n e ∷ []) c.0
+  moves_consume (Err error.Empty) u w c = let n = name_of u in moved u w (Look n ∷ Empty n ∷ []) c.0
+  moves_consume (Err error.Inconsistent) u w c = moved u w (Look (name_of u) ∷ []) c.0
   moves_consume (Err error.Busy) u w c = absurd c
 
   pub moves_right : (u w : PartyOf E) → TakesRight u w ⊎ (FindsBusy u w ⊎ GivesRight u w) → Moves f [] [] u w
-  moves_right u w (inl c) = moved u w (Take (name_of u) ∷ []) c.0 (omega (arith, c.1))
-  moves_right u w (inr (inl c)) = moved u w (Busy (name_of u) ∷ []) c.0 (omega (arith, c.1))
-  moves_right u w (inr (inr c)) = moved u w (Free (name_of u) ∷ []) c.0 (omega (arith, c.1))
+  moves_right u w (inl c) = moved u w (Take (name_of u) ∷ []) c.0
+  moves_right u w (inr (inl c)) = moved u w (Busy (name_of u) ∷ []) c.0
+  moves_right u w (inr (inr c)) = moved u w (Free (name_of u) ∷ []) c.0
 
   -- a batch, and what the last try added
   batch_moved : (u w : PartyOf E) (es : List E) (more : List (Event Name E)) → flat_map (put_by f) more ≡ [] → flat_map (got_by f) more ≡ [] → Adds u (outs (name_of u) es ++ more) w
-      → w.rooms ≡ u.rooms + length es → Moves f [] (map f es) u w
-  batch_moved u w es more none_in none_out a rooms =
+      → Moves f [] (map f es) u w
+  batch_moved u w es more none_in none_out a =
       let n = name_of u in
       let put = flat_map-append (put_by f) (outs n es) more ∙ (λ i. outs_put f n es i ++ none_in i) in
       let got = flat_map-append (got_by f) (outs n es) more ∙ ((λ i. outs_got f n es i ++ none_out i) ∙ append-nil (map f es)) in
-      subst (λ (z : List A × List A). Moves f z.0 z.1 u w) (λ i. (put i, got i))
-      (moved u w (outs n es ++ more) a (omega (arith, rooms, length-map es f, ap (λ (z : List A). length z) put, ap (λ (z : List A). length z) got)))
+      subst (λ (z : List A × List A). Moves f z.0 z.1 u w) (λ i. (put i, got i)) (moved u w (outs n es ++ more) a)
 
-  batch_stops : (max : ℕ) (es : List E) (u w : PartyOf E) → StopsAt max es u w → w.rooms ≡ u.rooms + length es → Moves f [] (map f es) u w
-  batch_stops max es u w (inl s) rooms = batch_moved u w es [] refl refl (subst (λ z. Adds u z w) (sym (append-nil (outs (name_of u) es))) s.1) rooms
-  batch_stops max es u w (inr (inl s)) rooms = batch_moved u w es (Look (name_of u) ∷ Empty (name_of u) ∷ []) refl refl s.1 rooms
-  batch_stops max es u w (inr (inr s)) rooms = batch_moved u w es (Look (name_of u) ∷ []) refl refl s.1 rooms
+  batch_stops : (max : ℕ) (es : List E) (u w : PartyOf E) → StopsAt max es u w → Moves f [] (map f es) u w
+  batch_stops max es u w (inl s) = batch_moved u w es [] refl refl (subst (λ z. Adds u z w) (sym (append-nil (outs (name_of u) es))) s.1)
+  batch_stops max es u w (inr (inl s)) = batch_moved u w es (Look (name_of u) ∷ Empty (name_of u) ∷ []) refl refl s.1
+  batch_stops max es u w (inr (inr s)) = batch_moved u w es (Look (name_of u) ∷ []) refl refl s.1
 
   pub moves_linked : (max : ℕ) (es : List E) (u w : PartyOf E) → TakesLinked max es u w → Moves f [] (map f es) u w
-  moves_linked max es u w t = batch_stops max es u w t.stops t.rooms
+  moves_linked max es u w t = batch_stops max es u w t.stops
 
   -- ---- a call that waits: tries that moved nothing, and the last
   pub moves_at_last : (Fails Ends : PartyOf E → PartyOf E → Type 0) (s g : List A) → ((u w : PartyOf E) → Fails u w → Moves f [] [] u w)

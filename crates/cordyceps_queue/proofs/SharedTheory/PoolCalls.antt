@@ -5,6 +5,7 @@ use Rattle.cordyceps_shared.specs.FreeChains.{end_after}
 use Rattle.cordyceps_shared.specs.Histories.{plain}
 use Rattle.cordyceps_shared.specs.Shares.{whole, first_name}
 use Rattle.cordyceps_shared.specs.Standings.{known_of, name_of}
+use Rattle.cordyceps_shared.specs.Standings as party
 use Rattle.cordyceps_shared.proofs.Telling.{grown_then}
 use Rattle.cordyceps_shared.proofs.Places.{near_drop}
 use Rattle.cordyceps_shared.specs.Slots.{Near}
@@ -55,7 +56,7 @@ module _ {E : Type 0} where
       )
 
   -- ---- rooms are given back
-  pub gives_back : (z z' : TableId) (n : ℕ) (b : Bool) (m k : SeatState E) → z' ≡ z → GivesBack n b (view_returned m.0, []) k → call.GivesBack n b (standing z m.0) (standing z' k.0)
+  pub gives_back : (z z' : TableId) (n : ℕ) (b : Bool) (m k : SeatState E) → z' ≡ z → GivesBack n b (view_returned m.0, []) k → party.GivesBack n b (standing z m.0) (standing z' k.0)
   gives_back z z' n true m k at g =
       let count : length (drop n (m.0.free ++ m.0.back)) ≡ length (m.0.back ++ m.0.free) - n = length-drop n (m.0.free ++ m.0.back) ∙ ap (λ x. x - n) (swapped m.0.free m.0.back) in
       ap (λ (q : SeatState E). standing z' q.0) g ∙ (λ i. record { table = at i; seen = m.0.known.seen; share = m.0.known.share; rooms = count i })

@@ -30,31 +30,6 @@ leads_first free chain t some_of =
     let low = f.2 in
     let e = ap (λ l. leads l chain.end) f.1 in omega arith
 
--- ---- rooms are given back
-pub fits_given : (z : TableId) (n last : ℕ) (free : FreeRooms) (chain : FreeChain) → Near z.slots chain.rooms → z.slots ≤ suc MAX_ROOMS → length chain.rooms ≤ z.slots → Tracks free chain → n ≤ free.count → n ≢ 0
-    → ((before : List ℕ) (r : ℕ) → take n chain.rooms ≡ before ++ r ∷ [] → last ≡ r) → Fits record { first = free.first; last = last; count = n }
-fits_given z n last free chain near_all many few t low some_of is =
-    let given = tracks_giving free chain n last t low is in
-    let near = near_take z.slots n chain.rooms near_all in
-    let end = last_room z.slots record { first = free.first; last = last; count = n } (first_rooms n chain) given (omega arith) near in
-    let start = first_room record { first = free.first; last = last; count = n } (first_rooms n chain) given (omega arith) in
-    let inside = near 0 (free.first - 1) (subst (λ l. ItemAt l 0 (free.first - 1)) (sym start.1) refl) in
-    let count = t.count in
-    record { first = (let s = start.2 in omega arith); last = (let e = end.2 in omega arith); count = omega arith }
-
-pub packs_given : (n last word : ℕ) (free : FreeRooms) (chain : FreeChain) → word ≡ packed record { first = free.first; last = last; count = n } → Fits record { first = free.first; last = last; count = n } → Tracks free chain → n ≤ free.count → n ≢ 0
-    → ((before : List ℕ) (r : ℕ) → take n chain.rooms ≡ before ++ r ∷ [] → last ≡ r) → Packs word (first_rooms n chain)
-packs_given n last word free chain is fits t low some_of last_is = record {
-  rooms = record { first = free.first; last = last; count = n };
-  is = is;
-  fits = fits;
-  tracks = tracks_giving free chain n last t low last_is;
-  some_of = omega arith;
-}
-
-pub not_zero : (n : ℕ) → eqb n 0 ≡ false → n ≢ 0
-not_zero n not e = cc (eq-eqb n 0 e, not)
-
 module _ {E : Type 0} where
   -- what a whole party knows of the pool does not rest on which slots are in hand
   pub lacks_returned : (slots : ℕ) (m p : SeatState E) → p ≡ (view_returned m.0, []) → LacksRooms slots p → LacksRooms slots m

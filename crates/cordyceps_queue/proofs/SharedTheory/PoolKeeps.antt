@@ -24,7 +24,7 @@ use Rattle.cordyceps_shared.proofs.FreeLinks.{links_at, links_drop, links_take}
 use Rattle.cordyceps_shared.proofs.Places.{at_either, at_end, at_take, at_drop, empty_drop, empty_take}
 use Rattle.cordyceps_shared.proofs.Pools.{none_in_pool, some_in_pool}
 use Rattle.cordyceps_shared.proofs.Seeing.{plain_marked}
-use Rattle.cordyceps_shared.proofs.Telling.{at_length, owned_same, fits_same, only_share, whole_without, tells}
+use Rattle.cordyceps_shared.proofs.Telling.{at_length, owned_same, fits_same, only_share, whole_saw, tells}
 use Rattle.cordyceps_shared.proofs.Words.{pool_set, head_beside_pool, right_beside_pool}
 use Rattle.cordyceps_queue.specs.History.{Event, held, actor}
 use Rattle.cordyceps_queue.specs.Cores.Abstract.{AbstractParty, update}
@@ -165,30 +165,14 @@ module _ {E : Type 0} (s : TableState E) (k : PlainHolds s) (id : ℕ) (v : View
   }
 
 -- ---- what a whole party knows of the pool
-not_last : {X : Type 0} (before : List (ℕ × X)) (x : ℕ × X) (xs : List (ℕ × X)) → NoneOf x.0 (before ++ x ∷ xs) → ⊥
-not_last [] x xs away = away.0 refl
-not_last (y ∷ before) x xs away = not_last before x xs away.1
-
-none_later : {X : Type 0} (id : ℕ) (before later : List (ℕ × X)) → NoneOf id later → ((i : ℕ) → i ≢ id → NoneOf i (before ++ later)) → later ≡ []
-none_later id before [] away others = refl
-none_later id before (x ∷ xs) away others = absurd (not_last before x xs (others x.0 away.0))
-
 module _ {E : Type 0} (s : TableState E) (k : PlainHolds s) (id : ℕ) (v : View E) (at : get_elem? s.views id ≡ some v) where
-  -- it has seen all
-  whole_saw : v.known.share ≡ whole → plain v.known.seen ≡ events k.history
-  whole_saw is =
-      let f = k.fits id v at in
-      let nothing = none_later id f.before f.later f.none (λ i ne. subst (NoneOf i) f.is (whole_without knows s.views k.history id i v k.owned at is ne)) in
-      let all : k.history ≡ f.before = f.is ∙ (ap (λ (l : History E). f.before ++ l) nothing ∙ append-nil f.before) in
-      ap (λ h. plain h) f.seen ∙ (plain_marked id f.before ∙ ap (λ (h : History E). events h) (sym all))
-
   -- rooms that are in the pool are neither its own nor in use
   pub lacks : k.pool.rooms ≢ [] → v.known.share ≡ whole → suc (length (held (plain v.known.seen)) + room_count v) < length s.homes
   lacks some_of is =
       let all = k.all in
       let one = tally_one (room_count {E = E}) s.views id v at in
       let long = held_length (core s k) k.chain (reverse (events k.history)) k.meets in
-      let seen = ap (λ (l : List (Event Name E)). length (held l)) (whole_saw is) in
+      let seen = ap (λ (l : List (Event Name E)). length (held l)) (whole_saw actor knows s.views k.history id v k.owned k.fits at is) in
       let back = ap (λ (l : List E). length l) (held_of (events k.history) k.meets.legal) in
       let more = some_length k.pool.rooms some_of in
       omega arith

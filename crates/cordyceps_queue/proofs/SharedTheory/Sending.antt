@@ -12,10 +12,10 @@ use Rattle.cordyceps_shared.proofs.Sending as parties
 use Rattle.cordyceps_queue.specs.declared.cores.steps.TryDequeueError.{TryDequeueError}
 use Rattle.cordyceps_queue.specs.History.{held}
 use Rattle.cordyceps_queue.specs.Shared.Batches.{StopsAt, TakesLinked}
-use Rattle.cordyceps_queue.specs.Shared.Calls.{PartyOf, Legal, same_name, Enqueues, Dequeues}
+use Rattle.cordyceps_queue.specs.Shared.Calls.{PartyOf, Legal, same_name, Enqueues, EnqueuesRefilled, Dequeues}
 use Rattle.cordyceps_queue.specs.Shared.Moves.{put_by, got_by, Moves, got_by_try}
 use Rattle.cordyceps_queue.specs.Shared.Sending.{Sends}
-use Rattle.cordyceps_queue.proofs.SharedTheory.PartyMoves.{all_kept, moves_enqueue, moves_dequeue, moves_linked}
+use Rattle.cordyceps_queue.proofs.SharedTheory.PartyMoves.{all_kept, moves_enqueue, moves_refilled, moves_dequeue, moves_linked}
 
 module _ {E : Type 0} where
   -- a consumer takes no more than it was asked for
@@ -37,6 +37,16 @@ module _ {E A : Type 0} (f : E → A) where
   enqueues_next {g} {u} xs i d e w within is before c =
       subst (λ z. Moves f z g u w) (ap (λ x. take i xs ++ x ∷ []) is ∙ sym (take_more xs i d within)) (then_enqueues e w before c)
 
+  -- an enqueue that may have taken rooms of the pool first
+  pub then_refilled : {s g : List A} {u v : PartyOf E} (e : E) (w : PartyOf E) → Moves f s g u v → EnqueuesRefilled e v w → Moves f (s ++ f e ∷ []) g u w
+  then_refilled {s} {g} {u} {v} e w before c = subst (λ z. Moves f (s ++ f e ∷ []) z u w) (append-nil g)
+      (moves_then (put_by f) (got_by f) s g (f e ∷ []) [] u v w before (moves_refilled f e v w c))
+
+  -- what moved nothing
+  pub then_nothing : {s g : List A} {u v : PartyOf E} (w : PartyOf E) → Moves f s g u v → Moves f [] [] v w → Moves f s g u w
+  then_nothing {s} {g} {u} {v} w before c = subst (λ (z : List A × List A). Moves f z.0 z.1 u w) (λ i. (append-nil s i, append-nil g i))
+      (moves_then (put_by f) (got_by f) s g [] [] u v w before c)
+
   pub then_dequeues : {s g : List A} {u v : PartyOf E} (r : Result E TryDequeueError) (w : PartyOf E) → Moves f s g u v → Dequeues r v w
       → Moves f s (g ++ got_by_try f r) u w
   then_dequeues {s} {g} {u} {v} r w before c = subst (λ z. Moves f z (g ++ got_by_try f r) u w) (append-nil s)
@@ -49,8 +59,8 @@ module _ {E A : Type 0} (f : E → A) where
 
   -- the party of a new queue gave rooms to another, which sent lists, and received meanwhile. Taken in again, it is whole, and what
   -- it received, and then what is held, is what was sent
-  pub delivered : {k n : ℕ} {id : TableId} {u kept other v o w : PartyOf E} {got : List A} {lists : List (List A)} → u ≡ new_party id k → n ≤ k
+  pub delivered : {k n : ℕ} {id : TableId} {u kept other v o w : PartyOf E} {got : List A} {lists : List (List A)} → u ≡ new_party id k
       → Splits n u kept other → Moves f [] got kept v → Sends f lists other o → Absorbs (λ h. Legal h) v o w
       → (w.table ≡ id) × (w.share ≡ whole) × Delivers lists (got ++ map f (held (plain w.seen)))
-  delivered new room split mine theirs m =
-      parties.delivered (λ h. map f (held h)) (λ h legal. all_kept f same_name h legal) new room split mine theirs m
+  delivered new split mine theirs m =
+      parties.delivered (λ h. map f (held h)) (λ h legal. all_kept f same_name h legal) new split mine theirs m

@@ -1,5 +1,5 @@
--- One bit says to which use of a room a word belongs, and the next use of the room has the other bit. How the words of a
--- queue's table spell the words of its plain machine, which have no bits.
+-- One bit says to which use of a room a word belongs, and the next use of the room has the other bit. How the words of
+-- a queue's table spell the words of its plain machine, which have no bits.
 use Rattle.std.specs.Prelude.{◌≡◌, ◌≢◌, ◌⊎◌, ℕ, zero, suc, ◌+◌, ◌*◌, ◌-◌, ◌<◌, List, [], ◌++◌, length}
 use mathlib.Core.Option.{some}
 use lib.ListN.{get_elem?}
@@ -22,7 +22,8 @@ IsLink link next to bit = (link ≡ 4 * next + 2 * to + bit) × IsBit to × IsBi
 abbrev pub IsOld : ℕ → ℕ → Type 0
 IsOld bit link = (y : ℕ) × (link ≡ 2 * y + (1 - bit)) × IsBit bit
 
--- what a link word says of a room whose use has this bit: nothing, or where it leads, and the bit of the use of that room
+-- what a link word says of a room whose use has this bit: nothing, or where it leads, and the bit of the use of that
+-- room
 abbrev pub IsRead : ℕ → ℕ → ℕ → ℕ → Type 0
 IsRead bit link zero to = IsOld bit link
 IsRead bit link (suc r) to = IsLink link (suc r) to bit

@@ -62,11 +62,6 @@ module _ {E : Type 0} where
   abbrev pub Refills : ℕ → PartyOf E → PartyOf E → Type 0
   Refills n u w = Adds u [] w × (w.rooms ≡ u.rooms + n)
 
-  -- it gave n rooms to the pool, or others' rooms were there, and it is as before
-  abbrev pub GivesBack : ℕ → Bool → PartyOf E → PartyOf E → Type 0
-  GivesBack n true u w = w ≡ record u { rooms = u.rooms - n }
-  GivesBack n false u w = w ≡ u
-
   -- each room is the party's, or has one of the elements that its history holds
   abbrev pub HasAllRooms : PartyOf E → Type 0
   HasAllRooms w = w.rooms + length (held (plain w.seen)) ≡ capacity w.table

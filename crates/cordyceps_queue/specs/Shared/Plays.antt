@@ -173,8 +173,8 @@ module _ {E : Type 0} where
   after_give st m n k = (t : ℕ) → (view m).stage ≡ Holding t → moves_to (Event.Free (name (view m)) ∷ []) Rest m k
 
   -- ---- the steps on the pool's word
-  -- a swap: the party takes the pool's rooms, whose slots are in hand, and sees all. Each room but the stub's is then with
-  -- a whole party, or has an element in it
+  -- a swap: the party takes the pool's rooms, whose slots are in hand, and sees all. Each room but the stub's is then
+  -- with a whole party, or has an element in it
   pub record FindsPool (slots found : ℕ) (m k : SeatState E) : Type 0 where
     pub leads : LeadsTo found (back_chain (view k))
     pub stage : (view k).stage ≡ Rest

@@ -50,8 +50,8 @@ module _ {E : Type 0} where
   party_of none = None
   party_of (some v) = party_if v.known.share (party v)
 
-  -- The machine that the plain words and the views spell, one of the four readings at the head of Cores/Machine. What the
-  -- rooms have is an argument, since a slot may be out with a seat.
+  -- The machine that the plain words and the views spell, one of the four readings at the head of Cores/Machine. What
+  -- the rooms have is an argument, since a slot may be out with a seat.
   abbrev pub machine_of : (ℕ → Option E) → List ℕ → List (View E) → AbstractMachine Name E
   machine_of cell words views = record {
     head = word.head words;
@@ -91,9 +91,9 @@ module _ {E : Type 0} where
     pub linked : Links words pool.rooms pool.end
     pub empty : EmptyAtHome homes pool.rooms
 
-  -- There is one history, which the machine meets, and of which each party has seen a prefix. Each room but the stub's is
-  -- in the queue, in the pool, or with a party that has a share. The words are plain here: those of the table have the
-  -- bits of the uses, too
+  -- There is one history, which the machine meets, and of which each party has seen a prefix. Each room but the stub's
+  -- is in the queue, in the pool, or with a party that has a share. The words are plain here: those of the table have
+  -- the bits of the uses, too
   pub record PlainHolds (s : TableState E) : Type 0 where
     pub uses : List (ℕ × ℕ)
     pub history : History E

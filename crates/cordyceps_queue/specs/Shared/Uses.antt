@@ -1,5 +1,5 @@
--- What each atomic step tells a party of a queue, of the words with the bits of the uses: it tells of the plain word what
--- Plays says, and the bits of the rooms that the party acts on.
+-- What each atomic step tells a party of a queue, of the words with the bits of the uses: it tells of the plain word
+-- what Plays says, and the bits of the rooms that the party acts on.
 use Rattle.std.specs.Prelude.{◌≡◌, ◌≢◌, ℕ, suc, ◌+◌, ◌*◌, ◌-◌, List, [], ◌∷◌, ◌++◌, Option}
 use Rattle.cordyceps_shared.specs.FreeChains.{leads}
 use Rattle.cordyceps_shared.specs.Slots.{TableStep, view, hand}
@@ -22,7 +22,8 @@ module _ {E : Type 0} where
 
   -- a word that leads to a use of a room: the room, and the bit, which the party then knows
   abbrev pub Finds : ℕ → SeatState E → (ℕ → Type 0) → Type 0
-  Finds found k tells = (room bit : ℕ) × (found ≡ 2 * room + bit) × IsBit bit × (bit_of (view k).bits room ≡ bit) × tells room
+  Finds found k tells =
+      (room bit : ℕ) × (found ≡ 2 * room + bit) × IsBit bit × (bit_of (view k).bits room ≡ bit) × tells room
 
   -- a link that is read by a party that knows the bit of room t
   abbrev pub Reads : ℕ → SeatState E → ℕ → SeatState E → (ℕ → Type 0) → Type 0

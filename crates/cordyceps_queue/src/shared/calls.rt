@@ -2,10 +2,10 @@
 ghost use Rattle.std.specs.Prelude.{◌≡◌, ◌<◌, ◌≤◌, map, false, Option, Some, None, MatchResult, IfOk, IfErr};
 ghost use Rattle.cordyceps_shared.specs.Histories.{plain};
 ghost use Rattle.cordyceps_shared.specs.Shares.{whole};
-ghost use Rattle.cordyceps_shared.specs.Standings.{new_party, keeping, giving, Knows, Absorbs};
+ghost use Rattle.cordyceps_shared.specs.Standings.{new_party, keeping, giving, Knows, Absorbs, GivesBack};
 ghost use Rattle.cordyceps_queue.specs.History.{held};
 ghost use Rattle.cordyceps_queue.specs.Shared.Calls.{Legal, NonePending, NoneHolds, Enqueues, Dequeues, IsCertain};
-ghost use Rattle.cordyceps_queue.specs.Shared.Calls.{capacity, Refills, GivesBack, HasAllRooms, LacksRooms};
+ghost use Rattle.cordyceps_queue.specs.Shared.Calls.{capacity, Refills, HasAllRooms, LacksRooms};
 ghost use Rattle.cordyceps_queue.specs.Shared.Calls.{EnqueuesRefilled, FindsFull};
 
 use crate::cores::steps::TryDequeueError;
@@ -26,10 +26,10 @@ use std::marker::Model;
 /// A queue that threads share without a lock: many put elements in, and one at a time takes them out.
 ///
 /// Its maker chooses the number of its rooms. A room is a unit of capacity: an enqueue uses one. Each call is made
-/// through a party of this queue, which has some of the rooms. Rooms that no party has are in the pool: `give_back` puts
-/// them there, and `refill` and `try_enqueue` take them. Calls allocate nothing, except the constructors. A handle that
-/// is put in comes out as the same element, first in, first out. A party dequeues by the right to do so, which one party
-/// has at a time.
+/// through a party of this queue, which has some of the rooms. Rooms that no party has are in the pool: `give_back`
+/// puts them there, and `refill` and `try_enqueue` take them. Calls allocate nothing, except the constructors. A handle
+/// that is put in comes out as the same element, first in, first out. A party dequeues by the right to do so, which one
+/// party has at a time.
 ///
 /// A contract sees the queue's table, by which it knows the parties of this queue: their `table` is the same; and the
 /// stub. It sees no contents; what happened to the queue is told by what its parties have seen, their observed prefix
@@ -41,8 +41,8 @@ use std::marker::Model;
 /// and is not linked yet.
 ///
 /// # Threads
-/// A call borrows its party mutably, so one thread at a time acts through a party. Calls through several parties may run
-/// at the same time:
+/// A call borrows its party mutably, so one thread at a time acts through a party. Calls through several parties may
+/// run at the same time:
 ///
 /// | call | beside any call of another party | beside a call of its own row |
 /// |---|---|---|
@@ -233,8 +233,8 @@ impl<T: Linked<Links<T>>> MpscQueue<T> {
     /// Appends an element to the queue. If the party has no room, it takes those of the pool first.
     ///
     /// # Errors
-    /// If the party has no room and the pool has none, the element is returned. Where a whole party finds that, each room
-    /// of the queue has an element.
+    /// If the party has no room and the pool has none, the element is returned. Where a whole party finds that, each
+    /// room of the queue has an element.
     ///
     /// # Complexity
     /// O(1): that of `enqueue`, and of `refill` if the party has no room.
@@ -298,9 +298,9 @@ impl<T: Linked<Links<T>>> MpscQueue<T> {
         pool::refill(&self.rooms.shared, &mut party.seat, &mut party.spare)
     }
 
-    /// Gives `rooms` of the party's rooms to the pool, from where each party may take them, and returns `true`. If other
-    /// rooms are in the pool, it returns `false`, and the party has its rooms. To a whole party that has all rooms without
-    /// an element it always returns `true`. Requires that the party has as many rooms.
+    /// Gives `rooms` of the party's rooms to the pool, from where each party may take them, and returns `true`. If
+    /// other rooms are in the pool, it returns `false`, and the party has its rooms. To a whole party that has all
+    /// rooms without an element it always returns `true`. Requires that the party has as many rooms.
     ///
     /// # Complexity
     /// O(`rooms`), or O(1) if the party gives all its rooms or none.

@@ -2,12 +2,12 @@
 ghost use Rattle.std.specs.Prelude.{◌≡◌, ◌≤◌, List, map, take, true, false, is_ok, Some, Err, MatchResult};
 ghost use Rattle.cordyceps_shared.specs.Histories.{plain};
 ghost use Rattle.cordyceps_shared.specs.Shares.{whole};
-ghost use Rattle.cordyceps_shared.specs.Standings.{Knows, name_of};
+ghost use Rattle.cordyceps_shared.specs.Standings.{Knows, GivesBack, name_of};
 ghost use Rattle.cordyceps_queue.specs.Shared.Batches.{TakesLinked};
 ghost use Rattle.cordyceps_queue.specs.History.{held, holder};
 ghost use Rattle.cordyceps_queue.specs.declared.cores.steps.TryDequeueError.TheVariants as error;
-ghost use Rattle.cordyceps_queue.specs.Shared.Calls.{Legal, NonePending, Consumes, TakesRight, FindsBusy, GivesRight, IsCertain};
-ghost use Rattle.cordyceps_queue.specs.Shared.Calls.{GivesBack, LacksRooms};
+ghost use Rattle.cordyceps_queue.specs.Shared.Calls.{Legal, NonePending, Consumes, TakesRight, FindsBusy};
+ghost use Rattle.cordyceps_queue.specs.Shared.Calls.{GivesRight, IsCertain, LacksRooms};
 
 use crate::cores::steps::TryDequeueError;
 use crate::shared::batch::Batch;
@@ -22,7 +22,8 @@ use cordyceps_shared::required;
 use crossbeam_utils::Backoff;
 use std::marker::Model;
 
-/// A pause makes at most so many calls of `Backoff::spin`. Each gives twice as many spin-loop hints as the last, up to 64.
+/// A pause makes at most so many calls of `Backoff::spin`. Each gives twice as many spin-loop hints as the last, up to
+/// 64.
 const LONGEST_PAUSE: u32 = 13;
 
 /// How a consumer keeps away from the producers.
@@ -337,8 +338,9 @@ impl<'a, T: Linked<Links<T>>> Consumer<'a, T> {
         self.right.rooms()
     }
 
-    /// Gives `rooms` of the party's rooms to the pool, from where each party may take them, and returns `true`. If other
-    /// rooms are in the pool, it returns `false`, and the party has its rooms. Requires that the party has as many rooms.
+    /// Gives `rooms` of the party's rooms to the pool, from where each party may take them, and returns `true`. If
+    /// other rooms are in the pool, it returns `false`, and the party has its rooms. Requires that the party has as
+    /// many rooms.
     ///
     /// # Complexity
     /// O(`rooms`), or O(1) if the party gives all its rooms or none.

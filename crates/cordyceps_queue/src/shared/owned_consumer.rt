@@ -3,12 +3,12 @@ ghost use Rattle.std.specs.Arc.{arc_value};
 ghost use Rattle.std.specs.Prelude.{◌≡◌, ◌≤◌, List, map, take, true, false, is_ok, Some, Err, MatchResult};
 ghost use Rattle.cordyceps_shared.specs.Histories.{plain};
 ghost use Rattle.cordyceps_shared.specs.Shares.{whole};
-ghost use Rattle.cordyceps_shared.specs.Standings.{Knows, name_of};
+ghost use Rattle.cordyceps_shared.specs.Standings.{Knows, GivesBack, name_of};
 ghost use Rattle.cordyceps_queue.specs.Shared.Batches.{TakesLinked};
 ghost use Rattle.cordyceps_queue.specs.History.{held, holder};
 ghost use Rattle.cordyceps_queue.specs.declared.cores.steps.TryDequeueError.TheVariants as error;
 ghost use Rattle.cordyceps_queue.specs.Shared.Calls.{Legal, NonePending, Consumes, TakesRight, FindsBusy, GivesRight, IsCertain};
-ghost use Rattle.cordyceps_queue.specs.Shared.Calls.{GivesBack, LacksRooms};
+ghost use Rattle.cordyceps_queue.specs.Shared.Calls.{LacksRooms};
 
 use crate::cores::steps::TryDequeueError;
 use crate::shared::batch::Batch;

@@ -61,8 +61,8 @@ pub(crate) fn refill<E: Drop>(words: &Words<E>, seat: &mut PartySeat<E>, spare: 
     taken.count
 }
 
-/// Gives the slots in hand back, and returns `true` if the pool has no room. Its contract also states that the party has
-/// no more rooms than the queue.
+/// Gives the slots in hand back, and returns `true` if the pool has no room. Its contract also states that the party
+/// has no more rooms than the queue.
 fn is_empty<E: Drop>(words: &Words<E>, seat: &mut PartySeat<E>) -> bool
     requires table { IsSeatOf seat.old.table_id words.now.table_id }
     requires hand { MayReturn words.now.table_id.slots seat.old.me }

@@ -35,8 +35,8 @@ fn clear<E: Drop, B: Chosen<E>>(
     free_link(words.load::<Clear<B>>(seat, LINKS + room))
 }
 
-/// Puts the element into the slot, makes its room the head, and returns the old head. The slot was empty, so nothing has
-/// to be dropped, and it is not read.
+/// Puts the element into the slot, makes its room the head, and returns the old head. The slot was empty, so nothing
+/// has to be dropped, and it is not read.
 fn swap_in<E: Drop>(words: &Words<E>, seat: &mut PartySeat<E>, to: RoomUse, item: E) -> RoomUse
     requires table { IsSeatOf seat.old.table_id words.now.table_id }
     requires stage { ((view seat.old.me).stage ≡ Cleared to.room) × ((view seat.old.me).item ≡ Some item)
@@ -125,8 +125,8 @@ pub(crate) fn reread<E: Drop>(
     leads_to(words.load::<Reread>(seat, LINKS + tail.room), tail.bit)
 }
 
-/// Takes the right to dequeue. The room of what it returns is 1 more than the tail's, with the bit of the tail's use, or
-/// 0 if another party has the right.
+/// Takes the right to dequeue. The room of what it returns is 1 more than the tail's, with the bit of the tail's use,
+/// or 0 if another party has the right.
 pub(crate) fn take<E: Drop>(words: &Words<E>, seat: &mut PartySeat<E>) -> RoomUse
     requires table { IsSeatOf seat.old.table_id words.now.table_id }
     requires rest { IsResting words.now.table_id.slots seat.old.me }

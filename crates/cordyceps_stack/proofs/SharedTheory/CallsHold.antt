@@ -8,7 +8,7 @@ use Rattle.cordyceps_shared.specs.Knowing.{Known, IsPrefixOf, IsKnown}
 use Rattle.cordyceps_shared.specs.Places.{ItemAt}
 use Rattle.cordyceps_shared.specs.Slots.{Near}
 use Rattle.cordyceps_shared.specs.Shares.{Name, whole, IsShare}
-use Rattle.cordyceps_shared.specs.Standings.{name_of, new_party, Absorbs}
+use Rattle.cordyceps_shared.specs.Standings.{name_of, new_party, Absorbs, GivesBack}
 use Rattle.cordyceps_shared.proofs.Adding.{keeps_not_whole, not_whole, plain_unmarked, merged_prefix, whole_adds}
 use Rattle.cordyceps_shared.proofs.Places.{near_drop, near_take, near_append}
 use Rattle.cordyceps_shared.proofs.Naming.{joined_some, joined_disjoint, keeps_some, gives_some}
@@ -22,7 +22,7 @@ use Rattle.cordyceps_stack.specs.Cores.Stages.{room_elements}
 use Rattle.cordyceps_stack.specs.Shared.Plays.{SeatState, Sees, IsResting, to_hand_out}
 use Rattle.cordyceps_stack.specs.Shared.Parting.{view_keeping, view_giving, view_absorbing}
 use Rattle.cordyceps_stack.specs.Shared.Rule.{IsTable}
-use Rattle.cordyceps_stack.specs.Shared.Calls.{PartyOf, PushesAt, PushesAllAt, Misses, Takes, Looks, Refills, GivesBack, HasAllRooms, LacksRooms, Adds, EndsLooked, pushes_of}
+use Rattle.cordyceps_stack.specs.Shared.Calls.{PartyOf, PushesAt, PushesAllAt, Misses, Takes, Looks, Refills, HasAllRooms, LacksRooms, Adds, EndsLooked, pushes_of}
 use Rattle.cordyceps_stack.specs.Shared.View.{View, newcomer, name}
 use Rattle.cordyceps_stack.specs.Shared.Order.{crosswise}
 use Rattle.cordyceps_stack.proofs.SharedTheory.OrderHolds.{order_length, order_at, tracks_new}

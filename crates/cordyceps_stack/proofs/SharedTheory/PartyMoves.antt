@@ -1,11 +1,11 @@
 -- What each call put in and took out, and that nothing is lost.
-use Rattle.std.proofs.Common.{◌≡◌, ℕ, zero, suc, ◌+◌, List, [], ◌∷◌, ◌++◌, map, flat_map, length, reverse, replicate, Bool, refl, sym, ap, ◌∙◌, subst, arith}
-use Rattle.std.proofs.lemmas.List.{map-append, length-map, append-nil, length-reverse}
+use Rattle.std.proofs.Common.{◌≡◌, ℕ, zero, suc, List, [], ◌∷◌, ◌++◌, map, flat_map, reverse, replicate, Bool, refl, sym, ap, ◌∙◌, subst}
+use Rattle.std.proofs.lemmas.List.{map-append, append-nil}
 use Rattle.cordyceps_shared.specs.Shares.{Name}
 use Rattle.cordyceps_shared.specs.Standings.{name_of}
 use Rattle.cordyceps_shared.proofs.Moving.{moves_by}
 use Rattle.cordyceps_stack.specs.History.{Event, Load, Push, Taken, pushes, taken_elements, held, Legal, actor}
-use Rattle.cordyceps_stack.specs.Shared.Calls.{PartyOf, Adds, PushesAt, PushesAllAt, Misses, Takes, Looks, pushes_of}
+use Rattle.cordyceps_stack.specs.Shared.Calls.{PartyOf, Adds, PushesAt, PushesAllAt, Misses, Takes, Looks, Refills, pushes_of}
 use Rattle.cordyceps_stack.specs.Shared.Moves.{put_by, got_by, Moves}
 use Rattle.cordyceps_stack.proofs.Histories.{nothing_lost}
 
@@ -49,30 +49,32 @@ module _ {P E A : Type 0} (f : E → A) where
 
 module _ {E A : Type 0} (f : E → A) where
   moved : (u w : PartyOf E) (es : List (Event Name E)) (sent got : List A) → Adds u es w → flat_map (put_by f) es ≡ sent → flat_map (got_by f) es ≡ got
-      → w.rooms + length sent ≡ u.rooms + length got → Moves f sent got u w
-  moved u w es sent got a put got_is rooms =
+      → Moves f sent got u w
+  moved u w es sent got a put got_is =
       subst (λ (z : List A × List A). Moves f z.0 z.1 u w) (λ i. (put i, got_is i))
-      (moves_by (put_by f) (got_by f) (λ h. Legal h) actor u w es a (omega (arith, rooms, ap (λ (z : List A). length z) put, ap (λ (z : List A). length z) got_is)))
+      (moves_by (put_by f) (got_by f) (λ h. Legal h) actor u w es a)
 
   -- ---- one call
   pub moves_push : (n : ℕ) (e : E) (first : Bool) (u w : PartyOf E) → PushesAt n e first u w → Moves f (f e ∷ []) [] u w
   moves_push n e first u w a =
       let p = name_of u in
-      moved u w (replicate n (Load p) ++ Push p e ∷ []) (f e ∷ []) [] a.0 (tries_put f n p e) (tries_got f n p e) (omega (arith, a.2))
+      moved u w (replicate n (Load p) ++ Push p e ∷ []) (f e ∷ []) [] a.0 (tries_put f n p e) (tries_got f n p e)
 
   pub moves_push_all : (n : ℕ) (es : List E) (first : Bool) (u w : PartyOf E) → PushesAllAt n es first u w → Moves f (map f (reverse es)) [] u w
   moves_push_all n es first u w a =
       let p = name_of u in
       moved u w (replicate n (Load p) ++ pushes_of p es) (map f (reverse es)) [] a.0 (pushes_put f n p (reverse es)) (pushes_got f n p (reverse es))
-      (omega (arith, a.2, length-map (reverse es) f, length-reverse es))
 
   pub moves_miss : (u w : PartyOf E) → Misses u w → Moves f [] [] u w
-  moves_miss u w a = moved u w (Load (name_of u) ∷ []) [] [] a.0 refl refl (omega (arith, a.2))
+  moves_miss u w a = moved u w (Load (name_of u) ∷ []) [] [] a.0 refl refl
 
   pub moves_look : (none : Bool) (u w : PartyOf E) → Looks none u w → Moves f [] [] u w
-  moves_look none u w a = moved u w (Load (name_of u) ∷ []) [] [] a.0 refl refl (omega (arith, a.2))
+  moves_look none u w a = moved u w (Load (name_of u) ∷ []) [] [] a.0 refl refl
+
+  -- a party that takes rooms of the pool moves nothing
+  pub moves_refill : (n : ℕ) (u w : PartyOf E) → Refills n u w → Moves f [] [] u w
+  moves_refill n u w a = moved u w [] [] [] a.0 refl refl
 
   pub moves_take : (batch : List E) (u w : PartyOf E) → Takes batch u w → Moves f [] (map f (reverse batch)) u w
   moves_take batch u w a =
       moved u w (Taken (name_of u) batch ∷ []) [] (map f (reverse batch)) a.0 refl (append-nil (map f (reverse batch)))
-      (omega (arith, a.1, length-map (reverse batch) f, length-reverse batch))

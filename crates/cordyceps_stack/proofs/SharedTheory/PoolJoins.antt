@@ -22,9 +22,6 @@ use Rattle.cordyceps_stack.specs.Shared.View.{Idle, Holding, View, held_rooms, r
 use Rattle.cordyceps_stack.proofs.SharedTheory.PartsJoin.{vacant_back, back_joins, first_or_none, tracks_rooms}
 use Rattle.cordyceps_stack.proofs.SharedTheory.SlotMoves.{vacant_append}
 
-pub not_zero : (n : ℕ) → eqb n 0 ≡ false → n ≢ 0
-not_zero n not e = cc (eq-eqb n 0 e, not)
-
 module _ {E : Type 0} where
   -- the rooms of the pool, whose slots are in hand in order, and lead to this room; what was unpacked tracks them
   pub record IsFilled (slots end : ℕ) (taken : FreeRooms) (m t : SeatState E) : Type 0 where
@@ -129,26 +126,5 @@ module _ {E : Type 0} where
       let theirs = f.tracks.count in omega arith
 
   -- ---- rooms are given back
-  pub fits_given : (z : TableId) (n last : ℕ) (free : FreeRooms) (m : SeatState E) → IsResting z.slots m → z.slots ≤ MAX_ROOMS → length m.0.free.rooms ≤ z.slots → Tracks free m.0.free → n ≤ free.count → n ≢ 0
-      → ((before : List ℕ) (r : ℕ) → take n m.0.free.rooms ≡ before ++ r ∷ [] → last ≡ r) → Fits record { first = free.first; last = last; count = n }
-  fits_given z n last free m rest many few t low some_of is =
-      let given = tracks_giving free m.0.free n last t low is in
-      let near = near_take z.slots n m.0.free.rooms rest.near in
-      let end = last_room z.slots record { first = free.first; last = last; count = n } (first_rooms n m.0.free) given (omega arith) near in
-      let start = first_room record { first = free.first; last = last; count = n } (first_rooms n m.0.free) given (omega arith) in
-      let inside = near 0 (free.first - 1) (subst (λ l. ItemAt l 0 (free.first - 1)) (sym start.1) refl) in
-      let count = t.count in
-      record { first = (let s = start.2 in omega arith); last = (let e = end.2 in omega arith); count = omega arith }
-
   pub given_last : (n last : ℕ) (m q : SeatState E) → q ≡ m → ((before : List ℕ) (r : ℕ) → take n q.0.free.rooms ≡ before ++ r ∷ [] → last ≡ r) → (before : List ℕ) (r : ℕ) → take n m.0.free.rooms ≡ before ++ r ∷ [] → last ≡ r
   given_last n last m q same is before r e = is before r (ap (λ (s : SeatState E). take n s.0.free.rooms) same ∙ e)
-
-  pub packs_given : (z : TableId) (n last word : ℕ) (free : FreeRooms) (m p : SeatState E) → IsResting z.slots m → z.slots ≤ MAX_ROOMS → length m.0.free.rooms ≤ z.slots → Tracks free m.0.free → n ≤ free.count → n ≢ 0
-      → ((before : List ℕ) (r : ℕ) → take n m.0.free.rooms ≡ before ++ r ∷ [] → last ≡ r) → word ≡ packed record { first = free.first; last = last; count = n } → p ≡ m → Packs word (first_rooms n p.0.free)
-  packs_given z n last word free m p rest many few t low some_of is word_is same = subst (λ (s : SeatState E). Packs word (first_rooms n s.0.free)) (sym same) record {
-    rooms = record { first = free.first; last = last; count = n };
-    is = word_is;
-    fits = fits_given z n last free m rest many few t low some_of is;
-    tracks = tracks_giving free m.0.free n last t low is;
-    some_of = omega arith;
-  }

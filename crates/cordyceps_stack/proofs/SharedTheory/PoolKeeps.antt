@@ -21,7 +21,7 @@ use Rattle.cordyceps_shared.proofs.Counting.{tally_set, tally_only, tally_one, t
 use Rattle.cordyceps_shared.proofs.Places.{times_some}
 use Rattle.cordyceps_shared.proofs.Pools.{not_null, none_in_pool, some_in_pool}
 use Rattle.cordyceps_shared.proofs.Seeing.{plain_marked}
-use Rattle.cordyceps_shared.proofs.Telling.{at_length, owned_same, fits_same, only_share, whole_without}
+use Rattle.cordyceps_shared.proofs.Telling.{at_length, owned_same, fits_same, only_share, whole_saw}
 use Rattle.cordyceps_shared.proofs.TrackRooms.{with_its_last}
 use Rattle.cordyceps_shared.proofs.Words.{pool_set, head_beside_pool}
 use Rattle.cordyceps_stack.specs.History.{Event, held, actor}
@@ -37,29 +37,13 @@ use Rattle.cordyceps_stack.proofs.SharedTheory.StepsKeep.{Passes, view_after, to
 use Rattle.cordyceps_stack.proofs.SharedTheory.WordsKeep.{deals}
 
 -- ---- what a whole party knows of the pool
-not_last : {X : Type 0} (before : List (ℕ × X)) (x : ℕ × X) (xs : List (ℕ × X)) → NoneOf x.0 (before ++ x ∷ xs) → ⊥
-not_last [] x xs away = away.0 refl
-not_last (y ∷ before) x xs away = not_last before x xs away.1
-
-none_later : {X : Type 0} (id : ℕ) (before later : List (ℕ × X)) → NoneOf id later → ((i : ℕ) → i ≢ id → NoneOf i (before ++ later)) → later ≡ []
-none_later id before [] away others = refl
-none_later id before (x ∷ xs) away others = absurd (not_last before x xs (others x.0 away.0))
-
 module _ {E : Type 0} where
-  -- it has seen all
-  whole_saw : (s : TableState E) (k : RuleHolds s) (id : ℕ) (v : View E) → get_elem? s.views id ≡ some v → v.known.share ≡ whole → plain v.known.seen ≡ events k.history
-  whole_saw s k id v at is =
-      let f = k.fits id v at in
-      let nothing = none_later id f.before f.later f.none (λ i ne. subst (NoneOf i) f.is (whole_without knows s.views k.history id i v k.owned at is ne)) in
-      let all : k.history ≡ f.before = f.is ∙ (ap (λ (l : History E). f.before ++ l) nothing ∙ append-nil f.before) in
-      ap (λ h. plain h) f.seen ∙ (plain_marked id f.before ∙ ap (λ (h : History E). events h) (sym all))
-
   -- rooms that are in the pool are neither its own nor in use
   lacks : (s : TableState E) (k : RuleHolds s) (id : ℕ) (v : View E) → get_elem? s.views id ≡ some v → word.pool s.words ≢ 0 → v.known.share ≡ whole → length (held (plain v.known.seen)) + room_count v < length s.homes
   lacks s k id v at some_of is =
       let all = k.all in
       let one = tally_one (room_count {E = E}) s.views id v at in
-      let seen = ap (λ (l : List (Event _ E)). length (held l)) (whole_saw s k id v at is) in
+      let seen = ap (λ (l : List (Event _ E)). length (held l)) (whole_saw actor knows s.views k.history id v k.owned k.fits at is) in
       let long = ap (λ (l : List E). length l) k.meets.holds in
       let back = length-reverse (held (events k.history)) in
       let elements = length-map k.chain (λ x. x.1) in

@@ -29,11 +29,11 @@ module _ {E A : Type 0} (f : E → A) where
 
   -- the party of a new stack gave rooms to another, which pushed, and took meanwhile. Taken in again, it is whole, and what it took,
   -- and then what is held, is what was pushed
-  pub exchanged : {k n : ℕ} {id : TableId} {u kept other v o w : PartyOf E} {got sent : List A} → u ≡ new_party id k → n ≤ k → Splits n u kept other
+  pub exchanged : {k n : ℕ} {id : TableId} {u kept other v o w : PartyOf E} {got sent : List A} → u ≡ new_party id k → Splits n u kept other
       → Moves f [] got kept v → Moves f sent [] other o → Absorbs (λ h. Legal h) v o w
       → (w.table ≡ id) × (w.share ≡ whole) × (sent ≡ got ++ map f (held (plain w.seen)))
-  exchanged new room split mine theirs m =
-      parties.exchanged (λ h. map f (held h)) (λ h legal. all_kept f h legal) new room split mine theirs m
+  exchanged new split mine theirs m =
+      parties.exchanged (λ h. map f (held h)) (λ h legal. all_kept f h legal) new split mine theirs m
 
 pub held_pushed : {E : Type 0} (e : E) (first : Bool) (u w : PartyOf E) → u.share ≡ whole → PushesAt 1 e first u w
     → held (plain w.seen) ≡ held (plain u.seen) ++ e ∷ []

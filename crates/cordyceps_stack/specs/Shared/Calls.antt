@@ -52,8 +52,8 @@ module _ {E : Type 0} where
       Adds u (replicate n (Load (name_of u)) ++ Push (name_of u) e ∷ []) w
       × EndsPushed e (IsTrue first) (name_of u) w.seen × (u.rooms ≡ suc w.rooms)
 
-  -- it pushed all es at its n-th try, which took a room each. The last was pushed first, so they are held in their order
-  -- above what was held before, and `first` tells whether that was nothing
+  -- it pushed all es at its n-th try, which took a room each. The last was pushed first, so they are held in their
+  -- order above what was held before, and `first` tells whether that was nothing
   abbrev pub PushesAllAt : ℕ → List E → Bool → PartyOf E → PartyOf E → Type 0
   PushesAllAt n es first u w =
       Adds u (replicate n (Load (name_of u)) ++ pushes_of (name_of u) es) w
@@ -70,11 +70,6 @@ module _ {E : Type 0} where
   -- it took the n rooms that were in the pool
   abbrev pub Refills : ℕ → PartyOf E → PartyOf E → Type 0
   Refills n u w = Adds u [] w × (w.rooms ≡ u.rooms + n)
-
-  -- it gave n rooms to the pool, or others' rooms were there, and it is as before
-  abbrev pub GivesBack : ℕ → Bool → PartyOf E → PartyOf E → Type 0
-  GivesBack n true u w = w ≡ record u { rooms = u.rooms - n }
-  GivesBack n false u w = w ≡ u
 
   -- each room is the party's, or has one of the elements that its history holds
   abbrev pub HasAllRooms : PartyOf E → Type 0

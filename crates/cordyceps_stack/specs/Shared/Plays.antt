@@ -194,7 +194,8 @@ module _ {E : Type 0} where
 
   -- a whole party knows that some rooms are neither its own nor in use: they are in the pool
   abbrev pub LacksRooms : ℕ → SeatState E → Type 0
-  LacksRooms slots m = (view m).known.share ≡ whole → length (held (plain (view m).known.seen)) + room_count (view m) < slots
+  LacksRooms slots m =
+      (view m).known.share ≡ whole → length (held (plain (view m).known.seen)) + room_count (view m) < slots
 
   -- a load: the party has at most as many rooms as there are
   pub record HasGlanced (slots found : ℕ) (m k : SeatState E) : Type 0 where

@@ -2,10 +2,10 @@
 ghost use Rattle.std.specs.Prelude.{◌≡◌, ◌<◌, ◌≤◌, List, length, map, reverse, true, false, is_ok, MatchResult, IfOk};
 ghost use Rattle.cordyceps_shared.specs.Histories.{plain};
 ghost use Rattle.cordyceps_shared.specs.Shares.{whole};
-ghost use Rattle.cordyceps_shared.specs.Standings.{new_party, keeping, giving, Knows, Absorbs};
+ghost use Rattle.cordyceps_shared.specs.Standings.{new_party, keeping, giving, Knows, Absorbs, GivesBack};
 ghost use Rattle.cordyceps_stack.specs.History.{held, Legal};
 ghost use Rattle.cordyceps_stack.specs.Shared.Calls.{PushesAt, PushesAllAt, Misses, Takes, Looks};
-ghost use Rattle.cordyceps_stack.specs.Shared.Calls.{Refills, GivesBack, HasAllRooms, LacksRooms};
+ghost use Rattle.cordyceps_stack.specs.Shared.Calls.{Refills, HasAllRooms, LacksRooms};
 
 use crate::shared::batch::hand_out;
 use crate::shared::table::{OwnedTable, PartySeat};
@@ -175,8 +175,8 @@ impl<T: Linked<Links<T>>> TransferStack<T> {
     /// and the party keeps its rooms. To a whole party this never happens.
     ///
     /// # Complexity
-    /// O(n), for n elements: one load and one compare-exchange of the head, a load of another word, and a step on each of
-    /// n rooms; twice that on the rooms and the other word if the elements are returned.
+    /// O(n), for n elements: one load and one compare-exchange of the head, a load of another word, and a step on each
+    /// of n rooms; twice that on the rooms and the other word if the elements are returned.
     ///
     /// # Waits
     /// Never.
@@ -244,9 +244,9 @@ impl<T: Linked<Links<T>>> TransferStack<T> {
         pool::refill(&self.rooms.shared, &mut party.seat, &mut party.free)
     }
 
-    /// Gives `rooms` of the party's rooms to the pool, from where each party may take them, and returns `true`. If other
-    /// rooms are in the pool, it returns `false`, and the party has its rooms. So a whole party that has each room which
-    /// holds no element always gets `true`. Requires that the party has as many rooms.
+    /// Gives `rooms` of the party's rooms to the pool, from where each party may take them, and returns `true`. If
+    /// other rooms are in the pool, it returns `false`, and the party has its rooms. So a whole party that has each
+    /// room which holds no element always gets `true`. Requires that the party has as many rooms.
     ///
     /// # Complexity
     /// O(`rooms`), or O(1) if the party gives all its rooms, or finds others there.

@@ -36,7 +36,8 @@ fn hold<T: Linked<Links<T>>, B: Count>(
     words.load::<Hold<B>>(seat, QUIET);
 }
 
-/// Puts an element into the first slot in hand, which is this room's and has none. Returns the room's link, which stays.
+/// Puts an element into the first slot in hand, which is this room's and has none. Returns the room's link, which
+/// stays.
 fn put<E: Drop>(words: &Words<E>, seat: &mut PartySeat<E>, room: usize, item: E) -> u64
     requires table { IsSeatOf seat.old.table_id words.now.table_id }
     requires vacant { (link : ℕ) × (others : Hand E) × (hand seat.old.me ≡ (room, vacant link) ∷ others) }
@@ -111,8 +112,8 @@ fn attempt<E: Drop>(
     }
 }
 
-/// Pushes what is in the slots in hand, by as many tries as it needs, and returns whether the stack was empty. It pauses
-/// after each failure.
+/// Pushes what is in the slots in hand, by as many tries as it needs, and returns whether the stack was empty. It
+/// pauses after each failure.
 fn settle<E: Drop, R: Wait>(
     rt: &R,
     words: &Words<E>,
@@ -171,8 +172,9 @@ pub(crate) fn try_push_all<T: Linked<Links<T>>>(
     Err(hand_out(words, seat, free, first))
 }
 
-/// Pushes all elements into the first free rooms, by as many tries as it needs, and returns whether the stack was empty.
-/// The slots stay in hand from try to try. It pauses as a push of one element does. If there is no element, it looks.
+/// Pushes all elements into the first free rooms, by as many tries as it needs, and returns whether the stack was
+/// empty. The slots stay in hand from try to try. It pauses as a push of one element does. If there is no element, it
+/// looks.
 pub(crate) fn push_all<T: Linked<Links<T>>, R: Wait>(
     rt: &R,
     words: &Words<T::Handle>,

@@ -30,12 +30,12 @@ const BLOCK: usize = SIDE * SIDE;
 /// The greatest number of rooms of a stack whose rooms are in crosswise order.
 const MAX_CROSSWISE: usize = 1 << 18;
 
-/// Returns the room at a place of the order in which a new stack's rooms are used, the last place first. The function is
-/// its own inverse: it also returns the place of a room.
+/// Returns the room at a place of the order in which a new stack's rooms are used, the last place first. The function
+/// is its own inverse: it also returns the place of a room.
 ///
 /// The order is by blocks of rooms, whose rows become columns. So rooms that are used one after another are 32 rooms
-/// apart, and in different cache lines. Next to each other, a push and the walk of a taker would take the same line from
-/// each other at each element. In a stack of more rooms the order costs one thread more than it is worth.
+/// apart, and in different cache lines. Next to each other, a push and the walk of a taker would take the same line
+/// from each other at each element. In a stack of more rooms the order costs one thread more than it is worth.
 fn crosswise(rooms: usize, place: usize) -> usize
     requires { (place < rooms) × (rooms ≤ MAX_ROOMS) }
     ensures { result ≡ spec.crosswise rooms place }

@@ -110,8 +110,8 @@ fn attempt<E: Drop>(words: &Words<E>, seat: &mut PartySeat<E>, room: usize) -> O
     }
 }
 
-/// Tries once to push an element into the first free room. Returns the link that the room had, and whether the stack was
-/// empty, or `None` if another party came between. Then the room's slot stays in hand, with the element.
+/// Tries once to push an element into the first free room. Returns the link that the room had, and whether the stack
+/// was empty, or `None` if another party came between. Then the room's slot stays in hand, with the element.
 fn first_attempt<E: Drop>(
     words: &Words<E>,
     seat: &mut PartySeat<E>,

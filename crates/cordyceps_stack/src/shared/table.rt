@@ -38,8 +38,8 @@ impl<E> TableRule<Slot<E>, SeatView<E>, usize> for Rule {
 
 /// The words and slots of the table.
 ///
-/// The word `HEAD` is 0, or 1 more than the room that was pushed last. Slot `r` has the link of room `r`, and its element
-/// if the room is in use. No other word is used.
+/// The word `HEAD` is 0, or 1 more than the room that was pushed last. Slot `r` has the link of room `r`, and its
+/// element if the room is in use. No other word is used.
 pub(crate) type Words<E> = Shared<Slot<E>, SeatView<E>, usize, Rule>;
 
 /// The table, which owns its memory.

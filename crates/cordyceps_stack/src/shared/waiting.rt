@@ -52,14 +52,14 @@ impl<T: Linked<Links<T>>> TransferStack<T> {
         )
     }
 
-    /// Pushes all elements of a stack at one step, and returns `true` if this stack was empty just before. They come out
-    /// in their order, before what was held: the element that `elements` would pop first comes out first. No element of
-    /// another party comes between them. Requires that the party has as many rooms, which they then use. If there is no
-    /// element, it only looks, as `is_empty` does.
+    /// Pushes all elements of a stack at one step, and returns `true` if this stack was empty just before. They come
+    /// out in their order, before what was held: the element that `elements` would pop first comes out first. No
+    /// element of another party comes between them. Requires that the party has as many rooms, which they then use. If
+    /// there is no element, it only looks, as `is_empty` does.
     ///
     /// # Complexity
-    /// O(n + t), for n elements and t tries: a load of another word, a step on each of n rooms, and then for each try one
-    /// load and one compare-exchange of the head.
+    /// O(n + t), for n elements and t tries: a load of another word, a step on each of n rooms, and then for each try
+    /// one load and one compare-exchange of the head.
     ///
     /// # Waits
     /// As `push`.

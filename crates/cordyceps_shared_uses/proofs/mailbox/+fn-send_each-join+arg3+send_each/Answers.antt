@@ -17,8 +17,7 @@ join-sent-requires-after_bounds g t c κs within =
 
 pub returns : goal.returns
 returns g t c =
-    let long : c.len.result ≡ length c.in-Some.first.now.items = omega (arith, c.len.ensures) in
-    sends_more (ap contents c.in-Some.ensures.cases.0) long c.requires c.split-mine.ensures
+    sends_more (ap contents c.in-Some.ensures.cases.0) c.requires.share c.split-mine.ensures
     (IfOk-at_ok _ c.in_ok-back.was c.join-sent.ensures.second)
     (IfOk-at_ok _ c.in_ok-sent.was c.join-sent.ensures.first)
     c.absorb.ensures

@@ -17,7 +17,7 @@ join-got-requires-after_bounds g c κs within =
 
 pub loop-letter-init : goal.loop-letter-init
 loop-letter-init g c =
-    let all = delivered value_of c.in_ok-queue.ensures.1 (omega arith) c.split-sender.ensures (IfOk-at_ok _ c.in_ok-inbox.was c.join-got.ensures.first).0
+    let all = delivered value_of c.in_ok-queue.ensures.1 c.split-sender.ensures (IfOk-at_ok _ c.in_ok-inbox.was c.join-got.ensures.first).0
     (IfOk-at_ok _ c.in_ok-sent.was c.join-got.ensures.second) c.absorb.ensures in
     subst (λ z. Delivers (contents c.args.lists.now) (c.in_ok-inbox.inbox.received.items ++ map value_of z))
     (sym (c.into_iter-letter-iterator.ensures.into_iter_gives ∙ (c.close-letter-items.ensures.elements ∙ map-id (held (plain c.absorb.new.party.seen)))))

@@ -1,4 +1,4 @@
-use Rattle.std.proofs.Common.{ℕ, ◌≡◌, ◌≤◌, [], ◌∷◌, ◌++◌, map, refl, ap, sym, ◌∙◌, subst, inl, arith}
+use Rattle.std.proofs.Common.{ℕ, ◌≡◌, [], ◌∷◌, ◌++◌, map, refl, ap, sym, ◌∙◌, subst, inl}
 use Rattle.std.proofs.lemmas.List.{map-id}
 use Rattle.cordyceps.specs.Parties.Seated.{TableId}
 use Rattle.cordyceps.specs.Elements.Element.{Element}
@@ -17,14 +17,14 @@ use Rattle.cordyceps_uses.proofs.Arriving.{Seat, it, taken}
 use Rattle.cordyceps_uses.proofs.tour.send.Goals as goal
 
 -- one party sent both, and was taken in by the other, which is alone then, and took the right
-came : (rooms : ℕ) (id : TableId) (v o p q w x : Seat) (a b : Element Job) → 4 ≤ rooms → v ≡ keeping 4 (new_party id rooms) → o ≡ giving 4 (new_party id rooms)
+came : (rooms : ℕ) (id : TableId) (v o p q w x : Seat) (a b : Element Job) → v ≡ keeping 4 (new_party id rooms) → o ≡ giving 4 (new_party id rooms)
     → Enqueues a o p → Enqueues b p q → Absorbs (λ h. Legal h) v q w → (w.share ≡ whole) × (TakesRight w x → (x.share ≡ whole) × (held (plain x.seen) ≡ a ∷ b ∷ []))
-came rooms id v o p q w x a b enough kept given one two met =
+came rooms id v o p q w x a b kept given one two met =
     let new : Seat = new_party id rooms in
     let mine = subst (λ (z : Seat). Moves it [] [] z v) kept (moves_none (put_by it) (got_by it) v) in
     let theirs = subst (λ (z : Seat). Moves it (a ∷ b ∷ []) [] z q) given
     (moves_then (put_by it) (got_by it) (a ∷ []) [] (b ∷ []) [] o p q (moves_enqueue it a o p one) (moves_enqueue it b p q two)) in
-    let both = moves_both (put_by it) (got_by it) (λ h. Legal h) 4 new v q w [] [] (a ∷ b ∷ []) [] whole_share enough mine theirs met in (
+    let both = moves_both (put_by it) (got_by it) (λ h. Legal h) 4 new v q w [] [] (a ∷ b ∷ []) [] whole_share mine theirs met in (
       both.4.acts.share,
       λ right.
           let more = moves_then (put_by it) (got_by it) both.0 both.1 [] [] new w x both.4 (moves_right it w x (inl right)) in
@@ -44,11 +44,10 @@ returns c =
     let id = c.in_ok-queue.queue.table in
     let count = ap (λ (z : Seat). z.rooms) c.in_ok-queue.ensures.1 in
     let new : party ≡ new_party id party.rooms = c.in_ok-queue.ensures.1 ∙ ap (λ k. new_party id k) (sym count) in
-    let enough : 4 ≤ party.rooms = omega (arith, count) in
     let kept = c.split-sender.ensures.0 ∙ ap (λ (z : Seat). keeping 4 z) new in
     let given = c.split-sender.ensures.1 ∙ ap (λ (z : Seat). giving 4 z) new in
     let x = c.in-Ok.consumer in
     let both =
-    (came party.rooms id c.split-sender.new.party c.split-sender.result c.enqueue.new.party c.enqueue-2.new.party c.absorb.new.party x a.first a.second enough kept given c.enqueue.ensures c.enqueue-2.ensures c.absorb.ensures).1
+    (came party.rooms id c.split-sender.new.party c.split-sender.result c.enqueue.new.party c.enqueue-2.new.party c.absorb.new.party x a.first a.second kept given c.enqueue.ensures c.enqueue-2.ensures c.absorb.ensures).1
     c.in-Ok.ensures.answer in
     c.ok.ensures.value ∙ taken c.take_linked.result x c.take_linked.new.self a.first a.second both.0 both.1 (c.take_linked.ensures.whole both.0) c.take_linked.ensures.answer

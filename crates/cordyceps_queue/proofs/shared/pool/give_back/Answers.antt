@@ -1,10 +1,10 @@
 use Rattle.std.proofs.Common.{◌≡◌, ◌-◌, ◌≤◌, length, take, drop, List, ◌∷◌, ◌++◌, [], ℕ, sym, ap, ◌∙◌, subst}
 use Rattle.cordyceps_shared.specs.FreeChains.{FreeChain, first_rooms, rest_rooms}
 use Rattle.cordyceps_shared.specs.Pools.{Packs}
+use Rattle.cordyceps_shared.proofs.Pools.{fits_given, packs_given}
 use Rattle.cordyceps_queue.specs.declared.shared.spare.Spare.{Spare}
 use Rattle.cordyceps_queue.specs.Shared.Parts.{TracksEnd}
 use Rattle.cordyceps_queue.specs.Shared.View.{View, free_chain, all_rooms}
-use Rattle.cordyceps_queue.proofs.SharedTheory.PoolJoins.{fits_given, packs_given}
 use Rattle.cordyceps_queue.proofs.SharedTheory.SpareRooms.{tracks_keeping}
 use Rattle.cordyceps_queue.proofs.shared.pool.give_back.Goals as goal
 
@@ -14,7 +14,7 @@ pack-requires g c =
     let e = c.is_empty-has_none.ensures in
     let view = ap (λ q. q.0) e.gathered in
     let t = c.requires.rooms in
-    fits_given c.args.words.now.table_id c.args.rooms c.pass-after.result.1 c.args.spare.now.rooms (all_rooms m.0) c.requires.hand.near c.requires.table.1.2 (subst (λ (v : View _). length v.free ≤ c.args.words.now.table_id.slots) view e.few) t.0.tracks t.1 c.if-rooms-eq0.false
+    fits_given c.args.words.now.table_id.slots c.args.rooms c.pass-after.result.1 c.args.spare.now.rooms (all_rooms m.0) c.requires.hand.near c.requires.table.1.2 (subst (λ (v : View _). length v.free ≤ c.args.words.now.table_id.slots) view e.few) t.0.tracks t.1 c.if-rooms-eq0.false
     (λ before r is. c.pass-after.ensures.last before r (ap (λ v. take c.args.rooms v.free) view ∙ is))
 
 pub put-requires-clause-bare : goal.put-requires-clause-bare
@@ -32,7 +32,7 @@ put-requires-clause-packs g c =
     let last : (before : List ℕ) (r : ℕ) → take c.args.rooms (all_rooms m.0).rooms ≡ before ++ r ∷ [] → c.pass-after.result.1 ≡ r = λ before r is. c.pass-after.ensures.last before r (ap (λ v. take c.args.rooms v.free) view ∙ is) in
     subst (λ (q : FreeChain). Packs c.pack.result (first_rooms c.args.rooms q)) (sym (ap (λ q. free_chain q.0) same))
     (packs_given c.args.rooms c.pass-after.result.1 c.pack.result c.args.spare.now.rooms (all_rooms m.0) c.pack.ensures
-    (fits_given c.args.words.now.table_id c.args.rooms c.pass-after.result.1 c.args.spare.now.rooms (all_rooms m.0) c.requires.hand.near c.requires.table.1.2 (subst (λ (v : View _). length v.free ≤ c.args.words.now.table_id.slots) view e.few) t.0.tracks t.1 c.if-rooms-eq0.false last)
+    (fits_given c.args.words.now.table_id.slots c.args.rooms c.pass-after.result.1 c.args.spare.now.rooms (all_rooms m.0) c.requires.hand.near c.requires.table.1.2 (subst (λ (v : View _). length v.free ≤ c.args.words.now.table_id.slots) view e.few) t.0.tracks t.1 c.if-rooms-eq0.false last)
     t.0.tracks t.1 c.if-rooms-eq0.false last)
 
 pub returns-clause-tracks : goal.returns-clause-tracks

@@ -1,6 +1,7 @@
 use Rattle.std.proofs.Common.{◌≤◌, length, sym, subst, rules}
+use Rattle.std.proofs.lemmas.Bool.{eqb-false}
 use Rattle.cordyceps_queue.specs.Shared.View.{View}
-use Rattle.cordyceps_queue.proofs.SharedTheory.PoolJoins.{near_back, not_zero}
+use Rattle.cordyceps_queue.proofs.SharedTheory.PoolJoins.{near_back}
 use Rattle.cordyceps_queue.proofs.SharedTheory.PoolKeeps.{glances}
 use Rattle.cordyceps_queue.proofs.shared.pool.is_empty.Goals as goal
 
@@ -11,7 +12,7 @@ load-requires g c =
     (search rules, search rules, glances _ _ _ r.carries (near_back _ _ r) r.named r.joins)
 
 pub returns-clause-lacks : goal.returns-clause-lacks
-returns-clause-lacks g c not = c.load.ensures.2.lacks (not_zero c.load.result not)
+returns-clause-lacks g c not = c.load.ensures.2.lacks (eqb-false c.load.result 0 not)
 
 pub returns-clause-gathered : goal.returns-clause-gathered
 returns-clause-gathered g c = let t = c.load.ensures.2 in λ i. (t.view_is i, t.hand i)

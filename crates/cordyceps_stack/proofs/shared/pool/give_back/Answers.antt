@@ -1,8 +1,10 @@
-use Rattle.std.proofs.Common.{◌-◌, sym, ap, ◌∙◌, subst}
-use Rattle.cordyceps_shared.specs.FreeChains.{FreeChain, Tracks, rest_rooms}
+use Rattle.std.proofs.Common.{◌-◌, sym, ap, ◌∙◌, subst, arith}
+use Rattle.cordyceps_shared.specs.FreeChains.{FreeChain, Tracks, first_rooms, rest_rooms}
+use Rattle.cordyceps_shared.specs.Pools.{Packs}
 use Rattle.cordyceps_shared.specs.declared.free.FreeRooms.{FreeRooms}
+use Rattle.cordyceps_shared.proofs.Pools.{fits_given, packs_given}
 use Rattle.cordyceps_shared.proofs.TrackRooms.{tracks_keeping}
-use Rattle.cordyceps_stack.proofs.SharedTheory.PoolJoins.{fits_given, packs_given, given_last}
+use Rattle.cordyceps_stack.proofs.SharedTheory.PoolJoins.{given_last}
 use Rattle.cordyceps_stack.proofs.shared.pool.give_back.Goals as goal
 
 pub pack-requires : goal.pack-requires
@@ -12,7 +14,9 @@ pack-requires g c =
     let last = c.pass-after.result.1 in
     let e = c.is_empty.ensures in
     let t = c.requires.rooms in
-    fits_given c.args.words.now.table_id n last c.args.free.now m c.requires.rest c.requires.table.1.1 e.few t.0 t.1 c.if-rooms-eq0.false (given_last n last m c.is_empty.new.seat.me e.same.1 c.pass-after.ensures.last)
+    let many = c.requires.table.1.1 in
+    fits_given c.args.words.now.table_id.slots n last c.args.free.now m.0.free c.requires.rest.near (omega arith) e.few t.0 t.1 c.if-rooms-eq0.false
+    (given_last n last m c.is_empty.new.seat.me e.same.1 c.pass-after.ensures.last)
 
 pub put-requires-clause-packs : goal.put-requires-clause-packs
 put-requires-clause-packs g c =
@@ -21,8 +25,12 @@ put-requires-clause-packs g c =
     let last = c.pass-after.result.1 in
     let e = c.is_empty.ensures in
     let t = c.requires.rooms in
-    packs_given c.args.words.now.table_id n last c.pack.result c.args.free.now m c.pass-after.new.seat.me c.requires.rest c.requires.table.1.1 e.few t.0 t.1 c.if-rooms-eq0.false (given_last n last m c.is_empty.new.seat.me e.same.1 c.pass-after.ensures.last) c.pack.ensures
-    (c.pass-after.ensures.seat.1 ∙ e.same.1)
+    let many = c.requires.table.1.1 in
+    let last_is = given_last n last m c.is_empty.new.seat.me e.same.1 c.pass-after.ensures.last in
+    subst (λ (q : FreeChain). Packs c.pack.result (first_rooms n q)) (sym (ap (λ q. q.0.free) (c.pass-after.ensures.seat.1 ∙ e.same.1)))
+    (packs_given n last c.pack.result c.args.free.now m.0.free c.pack.ensures
+    (fits_given c.args.words.now.table_id.slots n last c.args.free.now m.0.free c.requires.rest.near (omega arith) e.few t.0 t.1 c.if-rooms-eq0.false last_is)
+    t.0 t.1 c.if-rooms-eq0.false last_is)
 
 pub returns-clause-tracks : goal.returns-clause-tracks
 returns-clause-tracks g c =

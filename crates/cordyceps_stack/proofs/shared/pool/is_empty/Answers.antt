@@ -1,5 +1,5 @@
 use Rattle.std.proofs.Common.{rules}
-use Rattle.cordyceps_stack.proofs.SharedTheory.PoolJoins.{not_zero}
+use Rattle.std.proofs.lemmas.Bool.{eqb-false}
 use Rattle.cordyceps_stack.proofs.SharedTheory.PoolKeeps.{glances}
 use Rattle.cordyceps_stack.proofs.shared.pool.is_empty.Goals as goal
 
@@ -7,4 +7,4 @@ pub load-requires : goal.load-requires
 load-requires g c = (search rules, search rules, glances _ _ _ c.requires.rest.idle c.requires.rest.named)
 
 pub returns-clause-lacks : goal.returns-clause-lacks
-returns-clause-lacks g c not = c.load.ensures.2.lacks (not_zero c.load.result not)
+returns-clause-lacks g c not = c.load.ensures.2.lacks (eqb-false c.load.result 0 not)

@@ -1,10 +1,10 @@
 use Rattle.std.proofs.Common.{◌≡◌, refl, sym, ap, ◌∙◌, subst, rules, eq-eqb, ne_eqb}
+use Rattle.std.proofs.lemmas.Bool.{eqb-false}
 use mathlib.Core.Logic.{dite}
 use native.Mathlib.Decide.{ℕ_discrete}
 use Rattle.cordyceps_shared.specs.FreeChains.{first_rooms, rest_rooms}
 use Rattle.cordyceps_shared.specs.Pools.{Packs}
 use Rattle.cordyceps_stack.specs.Shared.Parts.{GivesBack}
-use Rattle.cordyceps_stack.proofs.SharedTheory.PoolJoins.{not_zero}
 use Rattle.cordyceps_stack.proofs.SharedTheory.PoolKeeps.{gives}
 use Rattle.cordyceps_stack.proofs.shared.pool.put.Goals as goal
 
@@ -24,4 +24,4 @@ returns-clause-gives g c =
     (λ n. subst (λ b. GivesBack c.args.rooms b m k) (sym (ne_eqb found 0 n)) (t.1 n).0)
 
 pub returns-clause-lacks : goal.returns-clause-lacks
-returns-clause-lacks g c not = (c.compare_exchange.ensures.2.1 (not_zero c.compare_exchange.result not)).1
+returns-clause-lacks g c not = (c.compare_exchange.ensures.2.1 (eqb-false c.compare_exchange.result 0 not)).1

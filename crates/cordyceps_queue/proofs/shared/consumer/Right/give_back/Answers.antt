@@ -1,6 +1,6 @@
 use Rattle.std.proofs.Common.{◌≡◌, ap, ◌∙◌, subst}
 use Rattle.cordyceps_queue.specs.Shared.Parts.{standing}
-use Rattle.cordyceps_queue.specs.Shared.Calls.{GivesBack}
+use Rattle.cordyceps_shared.specs.Standings.{GivesBack}
 use Rattle.cordyceps_queue.proofs.SharedTheory.PoolCalls.{give_back_consuming, give_back_knows, gives_back, lacks_rooms}
 use Rattle.cordyceps_queue.proofs.shared.consumer.Right.give_back.Goals as goal
 

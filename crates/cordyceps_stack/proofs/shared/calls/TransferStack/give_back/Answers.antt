@@ -1,5 +1,5 @@
 use Rattle.std.proofs.Common.{◌≡◌, ap, ◌∙◌, subst, rules}
-use Rattle.cordyceps_stack.specs.Shared.Calls.{GivesBack}
+use Rattle.cordyceps_shared.specs.Standings.{GivesBack}
 use Rattle.cordyceps_stack.specs.Shared.Parts.{standing}
 use Rattle.cordyceps_stack.proofs.SharedTheory.CallsHold.{gave_seated, gives_back, lacks_rooms}
 use Rattle.cordyceps_stack.proofs.shared.calls.TransferStack.give_back.Goals as goal

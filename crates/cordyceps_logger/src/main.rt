@@ -1,0 +1,87 @@
+//! Logs a million records of four senders through a queue of 256 rooms, by the logger of `cordyceps_shared_uses`, and
+//! prints how many were stored of each sender, and how many of these were not in its order.
+//!
+//! It prints the same whatever the order in which the threads run.
+#![tactic(auto)]
+
+use cordyceps::{List, Node};
+use cordyceps_shared_uses::logger::{Producer, Record, log_all};
+use std::alloc::{AllocError, Global};
+use std::process::ExitCode;
+
+/// How many senders there are.
+const SENDERS: u64 = 4;
+
+/// How many records each of them sends.
+const RECORDS: u64 = 250_000;
+
+/// How many records wait to be stored, at most.
+const ROOMS: usize = 256;
+
+/// How many records are stored at once, at most.
+const BATCH: usize = 64;
+
+/// Returns a producer of records with this code, whose times count up from 0.
+fn producer(alloc: Global, code: u64) -> Option<Producer> {
+    let mut records = List::new();
+    for time in 0..RECORDS {
+        records.push_back(Node::new(alloc, 0, Record { time, code }).ok()?);
+    }
+    Some(Producer { records })
+}
+
+/// Returns a producer for each sender.
+fn producers(alloc: Global) -> Option<List<Producer>> {
+    let mut producers = List::new();
+    for code in 0..SENDERS {
+        producers.push_back(Node::new(alloc, 0, producer(alloc, code)?).ok()?);
+    }
+    Some(producers)
+}
+
+/// What was stored of one sender.
+#[derive(Clone, Copy)]
+struct Stored {
+    records: u64,
+    out_of_order: u64,
+}
+
+/// Counts what was stored of the sender of this code.
+fn count(log: &[Record], code: u64) -> Stored {
+    let mut stored = Stored {
+        records: 0,
+        out_of_order: 0,
+    };
+    for record in log.iter().filter(|record| record.code == code) {
+        if record.time != stored.records {
+            stored.out_of_order = stored.out_of_order.wrapping_add(1);
+        }
+        stored.records = stored.records.wrapping_add(1);
+    }
+    stored
+}
+
+fn main(rt: HostRuntime) -> ExitCode {
+    let Some(producers) = producers(rt.alloc()) else {
+        return out_of_memory(&rt);
+    };
+    let Ok(log) = log_all(&rt, rt.alloc(), producers, ROOMS, BATCH) else {
+        return out_of_memory(&rt);
+    };
+    for code in 0..SENDERS {
+        let Stored {
+            records,
+            out_of_order,
+        } = count(&log, code);
+        if println!(rt; "sender {code}: {records} records, {out_of_order} out of order").is_err() {
+            return ExitCode::from(2);
+        }
+    }
+    ExitCode::SUCCESS
+}
+
+/// Says that memory was refused, which is a status of its own.
+fn out_of_memory(rt: &HostRuntime) -> ExitCode {
+    let _ = rt.eprintln("out of memory");
+    ExitCode::from(4)
+}
