@@ -1,5 +1,6 @@
 -- Buckets of times, and where each of them ends in a list.
-use Rattle.std.specs.Prelude.{◌≡◌, ℕ, ◌-◌, ◌<◌, ◌≤◌, ◌^◌, ◌==◌, List, [], ◌∷◌, ◌++◌, length, get_or, filter, bit_xor, Option, Some, None}
+use Rattle.std.specs.Prelude.{◌≡◌, ℕ, ◌-◌, ◌<◌, ◌≤◌, ◌^◌, ◌==◌, bit_xor, Option, Some, None}
+use Rattle.std.specs.Prelude.{List, [], ◌∷◌, ◌++◌, length, get_or, filter}
 use Rattle.std.specs.Int.Count.{count_leading_zeros}
 use Rattle.std.specs.List.{AllByRecursion}
 use denote.RawPtr.{Ptr}
@@ -56,13 +57,15 @@ module _ {X : Type 0} where
     pub parts : c ≡ first ++ others
     pub long : length first ≡ len
     pub inside : AllByRecursion (λ n. (number_at of now n ≡ k) × (least ≤ of n.1.value)) first
-    pub reached : (before : Nodes X) × (n : Ptr × Element X) × (after : Nodes X) × (first ≡ before ++ n ∷ after) × (of n.1.value ≡ least)
+    pub reached : (before : Nodes X) × (n : Ptr × Element X) × (after : Nodes X)
+        × (first ≡ before ++ n ∷ after) × (of n.1.value ≡ least)
     pub outside : AllByRecursion (λ n. k < number_at of now n) others
 
-  -- The done nodes lie in buckets up to j, and the others in buckets above it. Those to do lie between them, and in no
-  -- bucket yet; they belong into buckets up to j.
-  pub record IsSpreading (number : Ptr × Element X → ℕ) (ends : List (Option Ptr)) (c : Nodes X) (j : ℕ) (done todo others : Nodes X) : Type 0 where
-    pub parts : c ≡ done ++ (todo ++ others)
+  -- The done nodes lie in buckets up to j, and the others in buckets above it. The nodes ahead lie between them, and in
+  -- no bucket yet; they belong into buckets up to j.
+  pub record IsSpreading (number : Ptr × Element X → ℕ) (ends : List (Option Ptr)) (c : Nodes X) (j : ℕ)
+      (done ahead others : Nodes X) : Type 0 where
+    pub parts : c ≡ done ++ (ahead ++ others)
     pub kept : IsKept number ends (done ++ others)
-    pub low : AllByRecursion (λ n. number n ≤ j) todo
+    pub low : AllByRecursion (λ n. number n ≤ j) ahead
     pub high : AllByRecursion (λ n. j < number n) others

@@ -1,4 +1,5 @@
-//! A priority queue of times that never fall, whose elements are reached by their spots.
+//! A priority queue whose elements are due at times. The times at which elements come out never decrease, and each
+//! element is reached by its spot.
 ghost use Rattle.std.specs.Prelude.{◌≡◌, ℕ, ◌<◌, ◌≤◌, ◌==◌, [], ◌∷◌, ◌++◌, length, MatchOption, MatchResult, ◌⊎◌};
 ghost use Rattle.std.specs.List.Sorted.{IsPermutation};
 ghost use Rattle.std.specs.Ordering.{nat_cmp};
@@ -21,9 +22,9 @@ use cordyceps_list::list::Links;
 use cordyceps_stable::stable_list::{Spot, StableList};
 use std::marker::Model;
 
-/// A priority queue of owned nodes that are due at times, which returns a spot for each element. A contract sees the
-/// elements, each with its spot, the function that returns their times, and the clock: the time of the element that came
-/// out last. It says which arrivals the elements are.
+/// A priority queue of owned nodes that are due at times. A push returns a spot, which reaches the element while it is
+/// in the queue. A contract sees the elements with their spots, the function that returns their times, and the clock,
+/// which is the time of the element that came out last. It also says in which order the elements were pushed.
 ///
 /// The element that is due first comes out first, and of those that are due at the same time the one that was pushed
 /// first. No element is pushed that is due before the one that came out last. An element is reached and removed by its
@@ -58,7 +59,8 @@ impl<T, O: Times<T>> Model for ClockQueue<T, O> {
 }
 
 impl<T: Linked<Links<T>>, O: Times<T>> ClockQueue<T, O> {
-    /// Creates an empty queue at the time 0, whose elements are due at the times that `time` returns. Allocates nothing.
+    /// Creates an empty queue at the time 0, whose elements are due at the times that `time` returns. Allocates
+    /// nothing.
     ///
     /// # Complexity
     /// O(1).
@@ -186,7 +188,8 @@ impl<T: Linked<Links<T>>, O: Times<T>> ClockQueue<T, O> {
         ensures arrivals { (of : T → ℕ) (a : Nodes T)
             → O.computes_by self.old.time of
             → Holds (by_key nat_cmp of) self.old.nodes a
-            → (rest : Nodes T) × (IsTaken a at (T.element result) rest × Holds (by_key nat_cmp of) self.new.nodes rest) }
+            → (rest : Nodes T) × (IsTaken a at (T.element result) rest
+            × Holds (by_key nat_cmp of) self.new.nodes rest) }
         ensures now { self.new.clock ≡ self.old.clock }
         ensures time { self.new.time ≡ self.old.time }
         ensures distinct { AreDistinct (spots self.new.nodes) }

@@ -9,7 +9,8 @@ ghost use Rattle.cordyceps_base.specs.Nodes.{Nodes, spots};
 ghost use Rattle.cordyceps_base.specs.Spots.{AreDistinct};
 ghost use Rattle.cordyceps_single.specs.ByKey.{AscendsBy, by_key};
 ghost use Rattle.cordyceps_stable.specs.Arranged.{precedes};
-ghost use Rattle.cordyceps_clock.specs.Buckets.{bucket_of, number_at, AreDue, IsFirstBucket, IsPutIn, IsSpreading, IsTimed};
+ghost use Rattle.cordyceps_clock.specs.Buckets.{bucket_of, number_at};
+ghost use Rattle.cordyceps_clock.specs.Buckets.{AreDue, IsFirstBucket, IsPutIn, IsSpreading, IsTimed};
 
 use crate::buckets::{Ends, bucket, nearest_end, time_at};
 use crate::times::Times;
@@ -64,19 +65,19 @@ pub(crate) fn first_bucket<T: Linked<Links<T>>, O: Times<T>>(
     first
 }
 
-/// Moves the next of the nodes to do, which is at `at`, to the end of its bucket `k`.
+/// Moves the first of the nodes ahead, which is at `at`, to the end of its bucket `k`.
 ///
 /// # Complexity
 /// O(1).
 fn place<T: Linked<Links<T>>>(list: &mut StableList<T>, ends: &mut Ends, k: usize, at: Spot)
     requires within { k < 65 }
-    requires ready { (number : Ptr × Element T → ℕ) × (j : ℕ) × (done : Nodes T) × (e : Element T) × (todo : Nodes T)
+    requires ready { (number : Ptr × Element T → ℕ) × (j : ℕ) × (done : Nodes T) × (e : Element T) × (ahead : Nodes T)
         × (others : Nodes T) × (number (at, e) ≡ k)
-        × IsSpreading number ends.old list.old j done ((at, e) ∷ todo) others }
-    ensures placed { (number : Ptr × Element T → ℕ) (j : ℕ) (done : Nodes T) (e : Element T) (todo others : Nodes T)
+        × IsSpreading number ends.old list.old j done ((at, e) ∷ ahead) others }
+    ensures placed { (number : Ptr × Element T → ℕ) (j : ℕ) (done : Nodes T) (e : Element T) (ahead others : Nodes T)
         → number (at, e) ≡ k
-        → IsSpreading number ends.old list.old j done ((at, e) ∷ todo) others
-        → (more : Nodes T) × IsSpreading number ends.new list.new j more todo others
+        → IsSpreading number ends.old list.old j done ((at, e) ∷ ahead) others
+        → (more : Nodes T) × IsSpreading number ends.new list.new j more ahead others
         × IsPutIn number k done at e more }
     ensures distinct { AreDistinct (spots list.new) }
 {
@@ -103,16 +104,16 @@ pub(crate) fn spread<T: Linked<Links<T>>, O: Times<T>>(
 )
     requires callable { O.can_compute time.now }
     requires first { IsFirst list.old at }
-    requires ready { (of : T → ℕ) × (j : ℕ) × (todo : Nodes T) × (others : Nodes T) × O.computes_by time.now of
-        × (length todo ≡ len) × AreDue of now todo
-        × IsSpreading (number_at of now) ends.old list.old j [] todo others }
-    ensures spread { (of : T → ℕ) (j : ℕ) (todo others : Nodes T)
+    requires ready { (of : T → ℕ) × (j : ℕ) × (ahead : Nodes T) × (others : Nodes T) × O.computes_by time.now of
+        × (length ahead ≡ len) × AreDue of now ahead
+        × IsSpreading (number_at of now) ends.old list.old j [] ahead others }
+    ensures spread { (of : T → ℕ) (j : ℕ) (ahead others : Nodes T)
         → O.computes_by time.now of
-        → length todo ≡ len
-        → AreDue of now todo
-        → IsSpreading (number_at of now) ends.old list.old j [] todo others
+        → length ahead ≡ len
+        → AreDue of now ahead
+        → IsSpreading (number_at of now) ends.old list.old j [] ahead others
         → (done : Nodes T) × IsSpreading (number_at of now) ends.new list.new j done [] others
-        × IsStableBy (precedes (by_key nat_cmp of)) todo done × IsPermutation todo done }
+        × IsStableBy (precedes (by_key nat_cmp of)) ahead done × IsPermutation ahead done }
     ensures distinct { AreDistinct (spots list.new) }
 {
     let mut next = Some(at);
