@@ -1,5 +1,5 @@
 -- Buckets of times, and where each of them ends in a list.
-use Rattle.std.specs.Prelude.{◌≡◌, ℕ, ◌-◌, ◌<◌, ◌≤◌, ◌^◌, ◌==◌, bit_xor, Option, Some, None}
+use Rattle.std.specs.Prelude.{◌≡◌, ℕ, ◌-◌, ◌<◌, ◌≤◌, ◌^◌, ◌==◌, ◌⊎◌, bit_xor, Option, Some, None}
 use Rattle.std.specs.Prelude.{List, [], ◌∷◌, ◌++◌, length, get_or, filter}
 use Rattle.std.specs.Int.Count.{count_leading_zeros}
 use Rattle.std.specs.List.{AllByRecursion}
@@ -37,6 +37,16 @@ module _ {X : Type 0} (of : X → ℕ) where
   -- no node is due before now
   abbrev pub AreDue : (now : ℕ) → Nodes X → Type 0
   AreDue now c = AllByRecursion (λ n. (now ≤ of n.1.value) × (of n.1.value < 2 ^ 64)) c
+
+  -- no node is due at the time or before it
+  abbrev pub AreLater : (time : ℕ) → Nodes X → Type 0
+  AreLater time c = AllByRecursion (λ n. time < of n.1.value) c
+
+  -- the first node is due now, or now is the time `until` and no node is due by then
+  abbrev pub IsAdvanced : (now until : ℕ) → Nodes X → Type 0
+  IsAdvanced now until c =
+      ((p : Ptr) × (e : Element X) × (after : Nodes X) × (c ≡ (p, e) ∷ after) × (of e.value ≡ now))
+      ⊎ ((now ≡ until) × AreLater until c)
 
   -- no node is due before now, and the nodes lie in their buckets
   pub record IsTimed (now : ℕ) (ends : List (Option Ptr)) (c : Nodes X) : Type 0 where

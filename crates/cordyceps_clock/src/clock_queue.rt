@@ -1,6 +1,6 @@
 //! A priority queue whose elements are due at times. The times at which elements come out never decrease, and each
 //! element is reached by its spot.
-ghost use Rattle.std.specs.Prelude.{◌≡◌, ℕ, ◌<◌, ◌≤◌, ◌==◌, [], ◌∷◌, ◌++◌, length, MatchOption, MatchResult, ◌⊎◌};
+ghost use Rattle.std.specs.Prelude.{◌≡◌, ℕ, ◌<◌, ◌≤◌, ◌==◌, [], ◌∷◌, ◌++◌, length, max, MatchOption, MatchResult, ◌⊎◌};
 ghost use Rattle.std.specs.List.Sorted.{IsPermutation};
 ghost use Rattle.std.specs.Ordering.{nat_cmp};
 ghost use Rattle.std.specs.declared.cmp.Ordering.{Ordering};
@@ -12,9 +12,10 @@ ghost use Rattle.cordyceps_base.specs.Spots.{AreDistinct};
 ghost use Rattle.cordyceps_single.specs.Arrangement.{IsEarliestLeast};
 ghost use Rattle.cordyceps_single.specs.ByKey.{by_key};
 ghost use Rattle.cordyceps_stable.specs.Arranged.{precedes};
+ghost use Rattle.cordyceps_clock.specs.Buckets.{AreLater};
 ghost use Rattle.cordyceps_clock.specs.Clock.{Holds};
 
-use crate::buckets::{Ends, bucket, put, take_out};
+use crate::buckets::{Ends, bucket, put, take_out, time_at};
 use crate::spreading::advance;
 use crate::times::Times;
 use cordyceps_base::linked::Linked;
@@ -23,16 +24,17 @@ use cordyceps_stable::stable_list::{Spot, StableList};
 use std::marker::Model;
 
 /// A priority queue of owned nodes that are due at times. A push returns a spot, which reaches the element while it is
-/// in the queue. A contract sees the elements with their spots, the function that returns their times, and the clock,
-/// which is the time of the element that came out last. It also says in which order the elements were pushed.
+/// in the queue. A contract sees the elements with their spots, the function that returns their times, and the clock. It
+/// also says in which order the elements were pushed.
 ///
 /// The element that is due first comes out first, and of those that are due at the same time the one that was pushed
-/// first. No element is pushed that is due before the one that came out last. An element is reached and removed by its
-/// spot. The spot stays the same while the element is in the queue. No two elements are at one spot. Linking allocates
-/// nothing and cannot be refused.
+/// first. The clock is the latest of the times of the elements that came out and of those at which `pop_due` found none
+/// due. No element is pushed that is due before it. An element is reached and removed by its spot. The spot stays the
+/// same while the element is in the queue. No two elements are at one spot. Linking allocates nothing and cannot be
+/// refused.
 ///
-/// It is a radix heap. An element is in one of 65 buckets, by the highest bit in which its time differs from that of
-/// the element that came out last. Each time that it is moved, it comes into a lower bucket.
+/// It is a radix heap. An element is in one of 65 buckets, by the highest bit in which its time differs from the clock.
+/// Each time that it is moved, it comes into a lower bucket.
 ///
 /// Each call that asks for a time requires that the function may be called.
 ///
@@ -78,7 +80,8 @@ impl<T: Linked<Links<T>>, O: Times<T>> ClockQueue<T, O> {
         }
     }
 
-    /// Returns the time of the element that came out last, and 0 before the first.
+    /// Returns the clock: the latest of the times of the elements that came out and of those at which `pop_due` found
+    /// none due. It is 0 before the first of these.
     ///
     /// # Complexity
     /// O(1).
@@ -120,7 +123,7 @@ impl<T: Linked<Links<T>>, O: Times<T>> ClockQueue<T, O> {
     }
 
     /// Inserts an element and returns its spot. It comes out after those that are due at the same time. Requires that
-    /// it is due at `now` or later, and a length below `usize::MAX`.
+    /// it is due at the clock or later, and a length below `usize::MAX`.
     ///
     /// # Complexity
     /// O(1).
@@ -143,11 +146,11 @@ impl<T: Linked<Links<T>>, O: Times<T>> ClockQueue<T, O> {
         put(&mut self.list, &mut self.ends, k, T::from_ptr(node))
     }
 
-    /// Inserts an element as `push` does and returns its spot, if it is due at `now` or later and the length is below
-    /// `usize::MAX`.
+    /// Inserts an element as `push` does and returns its spot, if it is due at the clock or later and the length is
+    /// below `usize::MAX`.
     ///
     /// # Errors
-    /// If the element was due before `now`, or at a length of `usize::MAX`, the handle is returned, and the queue is
+    /// If the element was due before the clock, or at a length of `usize::MAX`, the handle is returned, and the queue is
     /// unchanged.
     ///
     /// # Complexity
@@ -198,7 +201,7 @@ impl<T: Linked<Links<T>>, O: Times<T>> ClockQueue<T, O> {
     }
 
     /// Removes the element that is due first and returns it, or `None` if the queue is empty. Of those that are due at
-    /// the same time it is the one that was pushed first. Its time becomes `now`.
+    /// the same time it is the one that was pushed first. Its time becomes the clock.
     ///
     /// # Complexity
     /// O(1) amortized: over its time in the queue an element is moved at most 64 times. At worst O(n), for n elements.
@@ -219,7 +222,14 @@ impl<T: Linked<Links<T>>, O: Times<T>> ClockQueue<T, O> {
     {
         self.list.spots_are_distinct();
         let at = self.list.front()?;
-        self.clock = advance(&mut self.list, &mut self.ends, &self.time, self.clock, at);
+        self.clock = advance(
+            &mut self.list,
+            &mut self.ends,
+            &self.time,
+            self.clock,
+            u64::MAX,
+            at,
+        );
         let first = self.list.front()?;
         Some(take_out(
             &mut self.list,
@@ -228,6 +238,57 @@ impl<T: Linked<Links<T>>, O: Times<T>> ClockQueue<T, O> {
             self.clock,
             first,
         ))
+    }
+
+    /// Removes the element that is due first and returns it, if it is due at `now` or before, or returns `None`. Of
+    /// those that are due at the same time it is the one that was pushed first, and its time becomes the clock. With
+    /// `None` the clock becomes `now`, unless it is later already.
+    ///
+    /// # Complexity
+    /// O(1) amortized, also where no element is due: over its time in the queue an element is moved at most 64 times. At
+    /// worst O(n), for n elements.
+    pub fn pop_due(&mut self, now: u64) -> Option<T::Handle>
+        requires callable { O.can_compute self.old.time }
+        ensures due { MatchOption result
+            ((self.new.clock ≡ max self.old.clock now) × IsPermutation self.old.nodes self.new.nodes
+            × ((of : T → ℕ)
+            → O.computes_by self.old.time of
+            → AreLater of now self.new.nodes
+            × ((a : Nodes T) → Holds (by_key nat_cmp of) self.old.nodes a → Holds (by_key nat_cmp of) self.new.nodes a)))
+            (λ h. (spot : Ptr) × ((of : T → ℕ)
+            → O.computes_by self.old.time of
+            → (self.new.clock ≡ of (T.element h).value) × (of (T.element h).value ≤ now)
+            × ((a : Nodes T)
+            → Holds (by_key nat_cmp of) self.old.nodes a
+            → (rest : Nodes T) × (IsEarliestLeast (precedes (by_key nat_cmp of)) a (spot, T.element h) rest
+            × Holds (by_key nat_cmp of) self.new.nodes rest)))
+            × IsPermutation ((spot, T.element h) ∷ self.new.nodes) self.old.nodes) }
+        ensures later { self.old.clock ≤ self.new.clock }
+        ensures time { self.new.time ≡ self.old.time }
+        ensures distinct { AreDistinct (spots self.new.nodes) }
+    {
+        self.list.spots_are_distinct();
+        if now < self.clock {
+            return None;
+        }
+        let Some(at) = self.list.front() else {
+            self.clock = now;
+            return None;
+        };
+        self.clock = advance(
+            &mut self.list,
+            &mut self.ends,
+            &self.time,
+            self.clock,
+            now,
+            at,
+        );
+        let next = self.list.front()?;
+        let due = time_at(&self.list, &self.time, next);
+        if due > now {
+            return None;
+        }
+        Some(take_out(&mut self.list, &mut self.ends, &self.time, self.clock, next))
     }
 
     /// Returns a reference to the value at `at`. Requires that `at` is valid.

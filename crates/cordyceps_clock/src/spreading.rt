@@ -10,7 +10,7 @@ ghost use Rattle.cordyceps_base.specs.Spots.{AreDistinct};
 ghost use Rattle.cordyceps_single.specs.ByKey.{AscendsBy, by_key};
 ghost use Rattle.cordyceps_stable.specs.Arranged.{precedes};
 ghost use Rattle.cordyceps_clock.specs.Buckets.{bucket_of, number_at};
-ghost use Rattle.cordyceps_clock.specs.Buckets.{AreDue, IsFirstBucket, IsPutIn, IsSpreading, IsTimed};
+ghost use Rattle.cordyceps_clock.specs.Buckets.{AreDue, IsAdvanced, IsFirstBucket, IsPutIn, IsSpreading, IsTimed};
 
 use crate::buckets::{Ends, bucket, nearest_end, time_at};
 use crate::times::Times;
@@ -131,28 +131,29 @@ pub(crate) fn spread<T: Linked<Links<T>>, O: Times<T>>(
     list.spots_are_distinct();
 }
 
-/// Makes the least time now, if no element is due now, and spreads its bucket over those below. Returns the time. The
-/// first element is at `at`.
+/// Moves the clock on from `now` to `until`, or only to the least time where that is earlier, and returns the clock. If
+/// it comes into the lowest bucket, it spreads that over the buckets below. The first element is at `at`.
 ///
 /// # Complexity
-/// O(n), for n elements of the lowest bucket, each of which comes into a lower one.
+/// O(n), for n elements of the lowest bucket, each of which comes into a lower one. O(1) where no element is moved.
 pub(crate) fn advance<T: Linked<Links<T>>, O: Times<T>>(
     list: &mut StableList<T>,
     ends: &mut Ends,
     time: &O,
     now: u64,
+    until: u64,
     at: Spot,
 ) -> u64
     requires callable { O.can_compute time.now }
     requires first { IsFirst list.old at }
+    requires later { now ≤ until }
     requires timed { (of : T → ℕ) → O.computes_by time.now of → IsTimed of now ends.old list.old }
     ensures timed { (of : T → ℕ) → O.computes_by time.now of → IsTimed of result ends.new list.new }
-    ensures first { (of : T → ℕ) → O.computes_by time.now of
-        → (p : Ptr) × (e : Element T) × (after : Nodes T) × (list.new ≡ (p, e) ∷ after) × (of e.value ≡ result) }
+    ensures due { (of : T → ℕ) → O.computes_by time.now of → IsAdvanced of result until list.new }
     ensures stable { (of : T → ℕ) → O.computes_by time.now of
         → IsStableBy (precedes (by_key nat_cmp of)) list.old list.new }
     ensures kept { IsPermutation list.old list.new }
-    ensures later { now ≤ result }
+    ensures within { (now ≤ result) × (result ≤ until) }
     ensures distinct { AreDistinct (spots list.new) }
 {
     list.spots_are_distinct();
@@ -160,8 +161,13 @@ pub(crate) fn advance<T: Linked<Links<T>>, O: Times<T>>(
     if k == 0 {
         return now;
     }
+    let to = bucket(now, until);
+    if to < k {
+        return until;
+    }
     let First { least, len } = first_bucket(list, time, now, k, at);
+    let next = least.min(until);
     ends[k] = None;
-    spread(list, ends, time, least, at, len);
-    least
+    spread(list, ends, time, next, at, len);
+    next
 }
