@@ -50,7 +50,7 @@ module _ {Y : Type 0} (f g : Ptr × Y → ℕ) where
     | inr other ↦ row_out f k x c other ∙ same_row k c h.1 ∙ sym (row_out g k x c (λ is. other (h.0 ∙ is)))
   ]
 
-module _ {X : Type 0} (of : X → ℕ) (now j : ℕ) (ends : List (Option Ptr)) (c : Nodes X) (least len : ℕ) (small : now < 2 ^ 64) (timed : IsTimed of now ends c) (b : IsFirstBucket of now (suc j) c least len) where
+module _ {X : Type 0} (of : X → ℕ) (now j : ℕ) (ends : List (Option Ptr)) (c : Nodes X) (least : ℕ) (p : Ptr) (len : ℕ) (small : now < 2 ^ 64) (timed : IsTimed of now ends c) (b : IsFirstBucket of now (suc j) c least p len) where
   abbrev InTime : Ptr × Element X → Type 0
   InTime n = (now ≤ of n.1.value) × (of n.1.value < 2 ^ 64)
 
@@ -60,7 +60,7 @@ module _ {X : Type 0} (of : X → ℕ) (now j : ℕ) (ends : List (Option Ptr)) 
   -- the node that is due at the least time
   the_least : (n : Ptr × Element X) × InTime n × (number_at of now n ≡ suc j) × (of n.1.value ≡ least)
   the_least =
-      let (before, n, after, is, due) = b.reached in
+      let (before, e, after, is, due, over) = b.reached in let n : Ptr × Element X = (p, e) in
       let inside = at_place (λ m. (number_at of now m ≡ suc j) × (least ≤ of m.1.value)) before n after (subst (AllByRecursion (λ m. (number_at of now m ≡ suc j) × (least ≤ of m.1.value))) is b.inside) in
       let time = at_place InTime before n after (subst (AllByRecursion InTime) is (all_front InTime b.first b.others times)) in
       (n, time, inside.0, due)
@@ -139,7 +139,7 @@ module _ {X : Type 0} (of : X → ℕ) (now j : ℕ) (ends : List (Option Ptr)) 
     -- the first is due now, if the clock is at the least time
     none_due : next ≡ least → (xs : Nodes X) → AllByRecursion (λ n. zero < number_at of next n) xs → IsPermutation b.first xs → ⊥
     none_due meets xs h moved =
-        let (before, n, after, is, due) = b.reached in
+        let (before, e, after, is, due, over) = b.reached in let n : Ptr × Element X = (p, e) in
         let all = permuted (λ m. zero < number_at of next m) xs b.first (IsPermutation-sym b.first xs moved) h in
         let high = at_place (λ m. zero < number_at of next m) before n after (subst (AllByRecursion (λ m. zero < number_at of next m)) is all) in
         let none = now_itself next fits in
@@ -226,22 +226,22 @@ module _ {X : Type 0} (of : X → ℕ) (now : ℕ) (ends : List (Option Ptr)) (c
     pub still : (lt : Ptr × Element X → Ptr × Element X → Bool) (last : List (Option Ptr)) (d done : Nodes X) → IsSpreading (number_at of next) last d j done [] others → IsStableBy lt first done → IsStableBy lt c d
     pub same_nodes : (last : List (Option Ptr)) (d done : Nodes X) → IsSpreading (number_at of next) last d j done [] others → IsPermutation first done → IsPermutation c d
 
-  pub opened_at : (k next least len until : ℕ) → (k ≡ 0 → ⊥) → k < 65 → length ends ≡ 65 → now ≤ until → until < 2 ^ 64 → k ≤ bucket_of now until → next ≡ min least until → IsFirstBucket of now k c least len → Opened k next len until
-  opened_at zero next least len until some within long from fits high is b = absurd (some refl)
-  opened_at (suc j) next least len until some within long from fits high is b =
+  pub opened_at : (k next least : ℕ) (p : Ptr) (len until : ℕ) → (k ≡ 0 → ⊥) → k < 65 → length ends ≡ 65 → now ≤ until → until < 2 ^ 64 → k ≤ bucket_of now until → next ≡ min least until → IsFirstBucket of now k c least p len → Opened k next len until
+  opened_at zero next least p len until some within long from fits high is b = absurd (some refl)
+  opened_at (suc j) next least p len until some within long from fits high is b =
       let new = slice_set ends (suc j) None in
-      let (since, upto, there) = reaches of now j ends c least len small timed b until next from fits high is in record {
+      let (since, upto, there) = reaches of now j ends c least p len small timed b until next from fits high is in record {
         j = j;
         first = b.first;
         others = b.others;
         long = b.long;
-        due = passed of now j ends c least len small timed b new next since upto there;
-        spreading = opened of now j ends c least len small timed b new next since upto there (get_or-set_same ends (suc j) None None (omega (arith, within, long))) (λ i other. get_or-set_other ends (suc j) i None None other);
+        due = passed of now j ends c least p len small timed b new next since upto there;
+        spreading = opened of now j ends c least p len small timed b new next since upto there (get_or-set_same ends (suc j) None None (omega (arith, within, long))) (λ i other. get_or-set_other ends (suc j) i None None other);
         later = since;
-        advanced = advanced of now j ends c least len small timed b new next since upto there;
-        reached = reached_by of now j ends c least len small timed b new next since upto there until is;
-        still = still of now j ends c least len small timed b new next since upto there;
-        same_nodes = same_nodes of now j ends c least len small timed b new next since upto there;
+        advanced = advanced of now j ends c least p len small timed b new next since upto there;
+        reached = reached_by of now j ends c least p len small timed b new next since upto there until is;
+        still = still of now j ends c least p len small timed b new next since upto there;
+        same_nodes = same_nodes of now j ends c least p len small timed b new next since upto there;
       }
 
 -- where no node is, the clock may be at any time

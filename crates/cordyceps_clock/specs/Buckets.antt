@@ -60,15 +60,16 @@ module _ {X : Type 0} where
       (low : Nodes X) × (high : Nodes X) × (c ≡ low ++ high) × (d ≡ low ++ (p, e) ∷ high)
       × AllByRecursion (λ n. k < number n) high
 
-  -- the first nodes are those of the bucket k, least is the least of their times, and there are len of them
-  pub record IsFirstBucket (of : X → ℕ) (now k : ℕ) (c : Nodes X) (least len : ℕ) : Type 0 where
+  -- the first nodes are those of the bucket k, least is the least of their times, the first of that time is at p, and
+  -- there are len of them
+  pub record IsFirstBucket (of : X → ℕ) (now k : ℕ) (c : Nodes X) (least : ℕ) (p : Ptr) (len : ℕ) : Type 0 where
     pub first : Nodes X
     pub others : Nodes X
     pub parts : c ≡ first ++ others
     pub long : length first ≡ len
     pub inside : AllByRecursion (λ n. (number_at of now n ≡ k) × (least ≤ of n.1.value)) first
-    pub reached : (before : Nodes X) × (n : Ptr × Element X) × (after : Nodes X)
-        × (first ≡ before ++ n ∷ after) × (of n.1.value ≡ least)
+    pub reached : (before : Nodes X) × (e : Element X) × (after : Nodes X)
+        × (first ≡ before ++ (p, e) ∷ after) × (of e.value ≡ least) × AllByRecursion (λ n. least < of n.1.value) before
     pub outside : AllByRecursion (λ n. k < number_at of now n) others
 
   -- The done nodes lie in buckets up to j, and the others in buckets above it. The nodes ahead lie between them, and in

@@ -11,12 +11,13 @@ ghost use Rattle.cordyceps_base.specs.Nodes.{Nodes, spots};
 ghost use Rattle.cordyceps_base.specs.Spots.{AreDistinct};
 ghost use Rattle.cordyceps_single.specs.Arrangement.{IsEarliestLeast};
 ghost use Rattle.cordyceps_single.specs.ByKey.{by_key};
+ghost use Rattle.cordyceps_stable.specs.Agreeing.{HasElementAt};
 ghost use Rattle.cordyceps_stable.specs.Arranged.{precedes};
 ghost use Rattle.cordyceps_clock.specs.Buckets.{AreLater};
 ghost use Rattle.cordyceps_clock.specs.Clock.{Holds};
 
 use crate::buckets::{Ends, bucket, put, take_out, time_at};
-use crate::spreading::advance;
+use crate::spreading::{First, advance, first_bucket};
 use crate::times::Times;
 use cordyceps_base::linked::Linked;
 use cordyceps_list::list::Links;
@@ -198,6 +199,32 @@ impl<T: Linked<Links<T>>, O: Times<T>> ClockQueue<T, O> {
         ensures distinct { AreDistinct (spots self.new.nodes) }
     {
         take_out(&mut self.list, &mut self.ends, &self.time, self.clock, at)
+    }
+
+    /// Returns the spot of the element that is due first, or `None` if the queue is empty. Of those that are due at the
+    /// same time it is the one that was pushed first.
+    ///
+    /// # Complexity
+    /// O(k), for k elements of the lowest bucket: those whose times differ from the clock in no higher bit than the
+    /// least time does.
+    pub fn front(&self) -> Option<Spot>
+        requires { O.can_compute self.now.time }
+        ensures { MatchOption result (self.now.nodes ≡ [])
+            (λ spot. (e : Element T) × HasElementAt self.now.nodes spot e
+            × ((of : T → ℕ) (a : Nodes T)
+            → O.computes_by self.now.time of
+            → Holds (by_key nat_cmp of) self.now.nodes a
+            → (rest : Nodes T) × IsEarliestLeast (precedes (by_key nat_cmp of)) a (spot, e) rest)) }
+    {
+        self.list.spots_are_distinct();
+        let at = self.list.front()?;
+        let k = bucket(self.clock, time_at(&self.list, &self.time, at));
+        let First {
+            least: _,
+            at: first,
+            len: _,
+        } = first_bucket(&self.list, &self.time, self.clock, k, at);
+        Some(first)
     }
 
     /// Removes the element that is due first and returns it, or `None` if the queue is empty. Of those that are due at

@@ -1,5 +1,5 @@
 //! The lowest bucket, spread over the buckets below it.
-ghost use Rattle.std.specs.Prelude.{◌≡◌, ℕ, ◌<◌, ◌≤◌, [], ◌∷◌, length};
+ghost use Rattle.std.specs.Prelude.{◌≡◌, ℕ, ◌+◌, ◌<◌, ◌≤◌, ◌⊎◌, [], ◌∷◌, length};
 ghost use Rattle.std.specs.List.Sorted.{IsPermutation, IsStableBy};
 ghost use Rattle.std.specs.Ordering.{nat_cmp};
 ghost use denote.RawPtr.{Ptr};
@@ -18,14 +18,42 @@ use cordyceps_base::linked::Linked;
 use cordyceps_list::list::Links;
 use cordyceps_stable::stable_list::{Spot, StableList};
 
-/// The least time of the first bucket of a list, and the number of its elements.
+/// The least time of the first bucket of a list, where the first element of that time is, and the number of the bucket's
+/// elements.
 pub(crate) struct First {
     pub(crate) least: u64,
+    pub(crate) at: Spot,
     pub(crate) len: usize,
 }
 
-/// Returns the least time of the bucket `k`, which comes first in the list, and the number of its elements. The first
-/// element is at `at`.
+/// Returns what is known of a bucket once its next element is seen, which is at `at` and due at `due`.
+fn with_next(first: First, at: Spot, due: u64) -> First
+    requires { first.len < usize.MAX }
+    ensures len { result.len ≡ first.len + 1 }
+    ensures least { ((due < first.least) × (result.least ≡ due) × (result.at ≡ at))
+        ⊎ ((first.least ≤ due) × (result.least ≡ first.least) × (result.at ≡ first.at)) }
+{
+    let First {
+        least,
+        at: before,
+        len,
+    } = first;
+    if due < least {
+        return First {
+            least: due,
+            at,
+            len: len + 1,
+        };
+    }
+    First {
+        least,
+        at: before,
+        len: len + 1,
+    }
+}
+
+/// Returns the least time of the bucket `k`, which comes first in the list, where the first element of that time is, and
+/// the number of the bucket's elements. The first element is at `at`.
 ///
 /// # Complexity
 /// O(n), for n elements of the bucket.
@@ -43,13 +71,14 @@ pub(crate) fn first_bucket<T: Linked<Links<T>>, O: Times<T>>(
         → AscendsBy (number_at of now) list.now
         → list.now ≡ (at, e) ∷ after
         → bucket_of now (of e.value) ≡ k
-        → IsFirstBucket of now k list.now result.least result.len }
+        → IsFirstBucket of now k list.now result.least result.at result.len }
 {
     list.spots_are_distinct();
     // for the proof: the number of its elements fits
     let _len = list.len();
     let mut first = First {
         least: time_at(list, time, at),
+        at,
         len: 1,
     };
     let mut next = list.next(at);
@@ -58,8 +87,7 @@ pub(crate) fn first_bucket<T: Linked<Links<T>>, O: Times<T>>(
         if bucket(now, due) != k {
             break;
         }
-        first.least = first.least.min(due);
-        first.len += 1;
+        first = with_next(first, at, due);
         next = list.next(at);
     }
     first
@@ -165,7 +193,7 @@ pub(crate) fn advance<T: Linked<Links<T>>, O: Times<T>>(
     if to < k {
         return until;
     }
-    let First { least, len } = first_bucket(list, time, now, k, at);
+    let First { least, at: _, len } = first_bucket(list, time, now, k, at);
     let next = least.min(until);
     ends[k] = None;
     spread(list, ends, time, next, at, len);
