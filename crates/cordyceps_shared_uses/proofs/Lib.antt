@@ -1,4 +1,5 @@
 mod Accounting
+mod Arranging
 mod Deadlines
 mod Scheduling
 pub mod Sharing
