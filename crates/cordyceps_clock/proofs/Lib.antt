@@ -1,6 +1,7 @@
 mod Advances
 mod Ends
 mod Firsts
+mod Fronts
 mod Numbers
 mod Pops
 mod Puts

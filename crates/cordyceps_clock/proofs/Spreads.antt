@@ -1,4 +1,4 @@
--- A step of a spread: the next of the nodes to do is moved to the end of its bucket.
+-- A step of a spread: the first of the nodes ahead is moved to the end of its bucket.
 use Rattle.std.proofs.Common.{Bool, true, false, ◌≡◌, ℕ, suc, length, MatchOption, ◌<◌, ◌≤◌, ◌^◌, List, [], ◌∷◌, ◌++◌, Option, Some, None, refl, sym, ap, ◌∙◌, subst, arith}
 use Rattle.std.specs.Cmp.{IsStrictWeakOrder, nat_cmp_total}
 use Rattle.std.specs.List.{AllByRecursion, filter}
@@ -68,9 +68,9 @@ module _ {X : Type 0} (number : Ptr × Element X → ℕ) where
       record { parts = p; mid = mid; first = first; second = second }
 
   -- the node lies among the done ones now
-  stepped : (ends new : List (Option Ptr)) (d done todo others : Nodes X) (p : Ptr) (e : Element X) (j k : ℕ) (o : Option Ptr) → k ≤ j → number (p, e) ≡ k → IsSet ends new k p → IsKept number ends (done ++ others) → AllByRecursion (λ n. number n ≤ j) todo → AllByRecursion (λ n. j < number n) others
-      → (g : Goes k done others o) → d ≡ (g.parts.low ++ (p, e) ∷ g.mid) ++ (todo ++ others) → (now : Nodes X) × IsSpreading number new d j now todo others × IsPutIn number k done p e now
-  stepped ends new d done todo others p e j k o le numbered set kept low high g is =
+  stepped : (ends new : List (Option Ptr)) (d done ahead others : Nodes X) (p : Ptr) (e : Element X) (j k : ℕ) (o : Option Ptr) → k ≤ j → number (p, e) ≡ k → IsSet ends new k p → IsKept number ends (done ++ others) → AllByRecursion (λ n. number n ≤ j) ahead → AllByRecursion (λ n. j < number n) others
+      → (g : Goes k done others o) → d ≡ (g.parts.low ++ (p, e) ∷ g.mid) ++ (ahead ++ others) → (now : Nodes X) × IsSpreading number new d j now ahead others × IsPutIn number k done p e now
+  stepped ends new d done ahead others p e j k o le numbered set kept low high g is =
       let l = g.parts.low in let now : Nodes X = l ++ (p, e) ∷ g.mid in
       let shown : now ++ others ≡ l ++ (p, e) ∷ g.parts.high = append_assoc l ((p, e) ∷ g.mid) others ∙ ap (λ s. l ++ (p, e) ∷ s) (sym g.second) in
       let put = kept_put number ends new l g.parts.high (p, e) k numbered g.parts.upto g.parts.above set.0 set.1 (subst (IsKept number ends) g.parts.is kept) in (
@@ -82,25 +82,25 @@ module _ {X : Type 0} (number : Ptr × Element X → ℕ) where
         above_mid k [] others h = tt
         above_mid k (x ∷ mid) others h = (h.0, above_mid k mid others h.1)
 
-  module _ (ends : List (Option Ptr)) (c done todo others : Nodes X) (p : Ptr) (e : Element X) (j k : ℕ) (small : k < 65) (distinct : AreDistinct (spots c))
-      (s : IsSpreading number ends c j done ((p, e) ∷ todo) others) (numbered : number (p, e) ≡ k) where
+  module _ (ends : List (Option Ptr)) (c done ahead others : Nodes X) (p : Ptr) (e : Element X) (j k : ℕ) (small : k < 65) (distinct : AreDistinct (spots c))
+      (s : IsSpreading number ends c j done ((p, e) ∷ ahead) others) (numbered : number (p, e) ≡ k) where
     le : k ≤ j
     le = omega (arith, s.low.0, numbered)
 
     -- the nearest end is another node
-    pub end_has : (to : Ptr) → IsNearest number ends k (Some to) → HasSpot (done ++ (todo ++ others)) to
+    pub end_has : (to : Ptr) → IsNearest number ends k (Some to) → HasSpot (done ++ (ahead ++ others)) to
     end_has to near =
         let g = goes ends done others j k (Some to) small le s.kept s.high near in let (front, y, low) = g.parts.end in
-        spot_is_at (done ++ (todo ++ others)) to y (
+        spot_is_at (done ++ (ahead ++ others)) to y (
           front,
-          g.mid ++ (todo ++ others),
-          ap (λ l. l ++ (todo ++ others)) (g.first ∙ ap (λ l. l ++ g.mid) low ∙ append_assoc front ((to, y) ∷ []) g.mid) ∙ append_assoc front ((to, y) ∷ g.mid) (todo ++ others),
+          g.mid ++ (ahead ++ others),
+          ap (λ l. l ++ (ahead ++ others)) (g.first ∙ ap (λ l. l ++ g.mid) low ∙ append_assoc front ((to, y) ∷ []) g.mid) ∙ append_assoc front ((to, y) ∷ g.mid) (ahead ++ others),
         )
 
     pub end_there : (to : Ptr) → IsNearest number ends k (Some to) → HasSpot c to
     end_there to near =
         let g = goes ends done others j k (Some to) small le s.kept s.high near in let (front, y, low) = g.parts.end in
-        let more : Nodes X = (p, e) ∷ (todo ++ others) in
+        let more : Nodes X = (p, e) ∷ (ahead ++ others) in
         spot_is_at c to y (
           front,
           g.mid ++ more,
@@ -109,13 +109,13 @@ module _ {X : Type 0} (number : Ptr × Element X → ℕ) where
 
     pub end_other : (to : Ptr) → IsNearest number ends k (Some to) → p ≡ to → ⊥
     end_other to near same =
-        let rest : Nodes X = done ++ (todo ++ others) in
-        taken_gone c rest p e distinct (done, todo ++ others, s.parts, refl) (subst (HasSpot rest) (sym same) (end_has to near))
+        let rest : Nodes X = done ++ (ahead ++ others) in
+        taken_gone c rest p e distinct (done, ahead ++ others, s.parts, refl) (subst (HasSpot rest) (sym same) (end_has to near))
 
-    pub placed_after : (new : List (Option Ptr)) (d : Nodes X) (to : Ptr) → IsNearest number ends k (Some to) → IsMovedAfter c p to d → IsSet ends new k p → (now : Nodes X) × IsSpreading number new d j now todo others × IsPutIn number k done p e now
+    pub placed_after : (new : List (Option Ptr)) (d : Nodes X) (to : Ptr) → IsNearest number ends k (Some to) → IsMovedAfter c p to d → IsSet ends new k p → (now : Nodes X) × IsSpreading number new d j now ahead others × IsPutIn number k done p e now
     placed_after new d to near (x, rest, taken, (before, o, after, was, is)) set =
         let g = goes ends done others j k (Some to) small le s.kept s.high near in let (front, y, low) = g.parts.end in
-        let more : Nodes X = todo ++ others in
+        let more : Nodes X = ahead ++ others in
         let left = left_is c done more rest p e x distinct s.parts taken in
         let whole : rest ≡ front ++ (to, y) ∷ (g.mid ++ more) =
         left.1 ∙ ap (λ l. l ++ more) (g.first ∙ ap (λ l. l ++ g.mid) low ∙ append_assoc front ((to, y) ∷ []) g.mid) ∙ append_assoc front ((to, y) ∷ g.mid) more in
@@ -123,16 +123,16 @@ module _ {X : Type 0} (number : Ptr × Element X → ℕ) where
         let same = unique before after front (g.mid ++ more) to o y (sym was ∙ whole) (subst (λ l. AreDistinct (spots l)) was differ) in
         let put : d ≡ (g.parts.low ++ (p, e) ∷ g.mid) ++ more =
         is ∙ (λ i. same.0 i ++ (to, same.1 i) ∷ (p, sym left.0 i) ∷ same.2 i) ∙ sym (append_assoc front ((to, y) ∷ []) ((p, e) ∷ (g.mid ++ more))) ∙ ap (λ l. l ++ (p, e) ∷ (g.mid ++ more)) (sym low) ∙ sym (append_assoc g.parts.low ((p, e) ∷ g.mid) more) in
-        stepped ends new d done todo others p e j k (Some to) le numbered set s.kept s.low.1 s.high g put
+        stepped ends new d done ahead others p e j k (Some to) le numbered set s.kept s.low.1 s.high g put
 
-    pub placed_first : (new : List (Option Ptr)) (d : Nodes X) → IsNearest number ends k None → IsMovedFront c p d → IsSet ends new k p → (now : Nodes X) × IsSpreading number new d j now todo others × IsPutIn number k done p e now
+    pub placed_first : (new : List (Option Ptr)) (d : Nodes X) → IsNearest number ends k None → IsMovedFront c p d → IsSet ends new k p → (now : Nodes X) × IsSpreading number new d j now ahead others × IsPutIn number k done p e now
     placed_first new d near (x, rest, taken, is) set =
         let g = goes ends done others j k None small le s.kept s.high near in
-        let more : Nodes X = todo ++ others in
+        let more : Nodes X = ahead ++ others in
         let left = left_is c done more rest p e x distinct s.parts taken in
         let put : d ≡ (g.parts.low ++ (p, e) ∷ g.mid) ++ more =
         is ∙ (λ i. (p, sym left.0 i) ∷ left.1 i) ∙ ap (λ l. (p, e) ∷ (l ++ more)) (g.first ∙ ap (λ l. l ++ g.mid) g.parts.end) ∙ ap (λ l. (l ++ (p, e) ∷ g.mid) ++ more) (sym g.parts.end) in
-        stepped ends new d done todo others p e j k None le numbered set s.kept s.low.1 s.high g put
+        stepped ends new d done ahead others p e j k None le numbered set s.kept s.low.1 s.high g put
 
 -- ---- the classes of equals
 module _ {A : Type 0} (lt : A → A → Bool) (o : IsStrictWeakOrder lt) where
@@ -142,25 +142,25 @@ module _ {A : Type 0} (lt : A → A → Bool) (o : IsStrictWeakOrder lt) where
       none_in (ties lt z) ys (all_weaker (λ y. lt n y ≡ true) (λ y. ties lt z y ≡ false) (λ y w. by_test (ties lt z y) (λ v. let c = o.chain n z y (tie_parts lt o z n t).1 (tie_parts lt o z y v).0 in absurd cc) (λ v. v)) ys q)
 
   -- a node goes before others that it is less than
-  passes : (high todo : List A) (n z : A) → AllByRecursion (λ y. lt n y ≡ true) high → filter (ties lt z) (n ∷ (high ++ todo)) ≡ filter (ties lt z) (high ++ n ∷ todo)
-  passes high todo n z h = let t = ties lt z in
-      let there = filter-append t high (n ∷ todo) in let here = filter-append t high todo in
+  passes : (high ahead : List A) (n z : A) → AllByRecursion (λ y. lt n y ≡ true) high → filter (ties lt z) (n ∷ (high ++ ahead)) ≡ filter (ties lt z) (high ++ n ∷ ahead)
+  passes high ahead n z h = let t = ties lt z in
+      let there = filter-append t high (n ∷ ahead) in let here = filter-append t high ahead in
       by_test (t n)
       (λ v.
       let gone = class_gone n z high v h in
-      in_class t n (high ++ todo) v ∙ ap (λ l. n ∷ l) (here ∙ ap (λ l. l ++ filter t todo) gone) ∙ sym (there ∙ (λ i. gone i ++ in_class t n todo v i)))
-      (λ f. out_of_class t n (high ++ todo) f ∙ here ∙ sym (there ∙ ap (λ l. filter t high ++ l) (out_of_class t n todo f)))
+      in_class t n (high ++ ahead) v ∙ ap (λ l. n ∷ l) (here ∙ ap (λ l. l ++ filter t ahead) gone) ∙ sym (there ∙ (λ i. gone i ++ in_class t n ahead v i)))
+      (λ f. out_of_class t n (high ++ ahead) f ∙ here ∙ sym (there ∙ ap (λ l. filter t high ++ l) (out_of_class t n ahead f)))
 
-  pub stable_put : (first low high todo : List A) (n : A) → AllByRecursion (λ y. lt n y ≡ true) high → IsStableBy lt first ((low ++ high) ++ n ∷ todo) → IsStableBy lt first ((low ++ n ∷ high) ++ todo)
-  stable_put first low high todo n h stable z = let t = ties lt z in
-      ap (filter t) (append_assoc low (n ∷ high) todo) ∙ filter-append t low (n ∷ (high ++ todo)) ∙ ap (λ l. filter t low ++ l) (passes high todo n z h) ∙ sym (filter-append t low (high ++ n ∷ todo)) ∙ ap (filter t) (sym (append_assoc low high (n ∷ todo))) ∙ stable z
+  pub stable_put : (first low high ahead : List A) (n : A) → AllByRecursion (λ y. lt n y ≡ true) high → IsStableBy lt first ((low ++ high) ++ n ∷ ahead) → IsStableBy lt first ((low ++ n ∷ high) ++ ahead)
+  stable_put first low high ahead n h stable z = let t = ties lt z in
+      ap (filter t) (append_assoc low (n ∷ high) ahead) ∙ filter-append t low (n ∷ (high ++ ahead)) ∙ ap (λ l. filter t low ++ l) (passes high ahead n z h) ∙ sym (filter-append t low (high ++ n ∷ ahead)) ∙ ap (filter t) (sym (append_assoc low high (n ∷ ahead))) ∙ stable z
 
 module _ {A : Type 0} where
-  pub moved_put : (first low high todo : List A) (n : A) → IsPermutation first ((low ++ high) ++ n ∷ todo) → IsPermutation first ((low ++ n ∷ high) ++ todo)
-  moved_put first low high todo n moved =
-      let was = (low ++ high) ++ n ∷ todo in let is = (low ++ n ∷ high) ++ todo in let mid = n ∷ ((low ++ high) ++ todo) in
-      let back : IsPermutation is mid = subst (λ (l : List A × List A). IsPermutation l.0 l.1) (λ i. (sym (append_assoc low (n ∷ high) todo) i, n ∷ sym (append_assoc low high todo) i)) (IsPermutation-middle low n (high ++ todo)) in
-      IsPermutation-trans first was is moved (IsPermutation-trans was mid is (IsPermutation-middle (low ++ high) n todo) (IsPermutation-sym is mid back))
+  pub moved_put : (first low high ahead : List A) (n : A) → IsPermutation first ((low ++ high) ++ n ∷ ahead) → IsPermutation first ((low ++ n ∷ high) ++ ahead)
+  moved_put first low high ahead n moved =
+      let was = (low ++ high) ++ n ∷ ahead in let is = (low ++ n ∷ high) ++ ahead in let mid = n ∷ ((low ++ high) ++ ahead) in
+      let back : IsPermutation is mid = subst (λ (l : List A × List A). IsPermutation l.0 l.1) (λ i. (sym (append_assoc low (n ∷ high) ahead) i, n ∷ sym (append_assoc low high ahead) i)) (IsPermutation-middle low n (high ++ ahead)) in
+      IsPermutation-trans first was is moved (IsPermutation-trans was mid is (IsPermutation-middle (low ++ high) n ahead) (IsPermutation-sym is mid back))
 
   permuted : (P : A → Type 0) (xs ys : List A) → IsPermutation xs ys → AllByRecursion P xs → AllByRecursion P ys
   permuted P xs ys h p = recursion_from_All P ys (All-permutation P xs ys h (All-from_recursion P xs p))
@@ -178,83 +178,83 @@ module _ {X : Type 0} (of : X → ℕ) where
   -- ---- where a spread stands
   pub record Stands (now : ℕ) (ends : List (Option Ptr)) (c : Nodes X) (j : ℕ) (first others : Nodes X) (at : Option Ptr) (left : ℕ) : Type 0 where
     pub done : Nodes X
-    pub todo : Nodes X
-    pub spreading : IsSpreading (number_at of now) ends c j done todo others
-    pub long : length todo ≡ left
-    pub next : MatchOption at (todo ++ others ≡ []) (λ q. IsFirst (todo ++ others) q)
-    pub stable : IsStableBy (precedes (by_key nat_cmp of)) first (done ++ todo)
-    pub moved : IsPermutation first (done ++ todo)
+    pub ahead : Nodes X
+    pub spreading : IsSpreading (number_at of now) ends c j done ahead others
+    pub long : length ahead ≡ left
+    pub next : MatchOption at (ahead ++ others ≡ []) (λ q. IsFirst (ahead ++ others) q)
+    pub stable : IsStableBy (precedes (by_key nat_cmp of)) first (done ++ ahead)
+    pub moved : IsPermutation first (done ++ ahead)
 
   module _ (now : ℕ) (ends : List (Option Ptr)) (c : Nodes X) (j : ℕ) (first others : Nodes X) where
-    -- the next one to do
+    -- the first of the nodes ahead
     pub record Turn (at : Ptr) (left : ℕ) : Type 0 where
       pub done : Nodes X
       pub e : Element X
-      pub todo : Nodes X
-      pub spreading : IsSpreading (number_at of now) ends c j done ((at, e) ∷ todo) others
-      pub long : suc (length todo) ≡ left
-      pub stable : IsStableBy (precedes (by_key nat_cmp of)) first (done ++ (at, e) ∷ todo)
-      pub moved : IsPermutation first (done ++ (at, e) ∷ todo)
+      pub ahead : Nodes X
+      pub spreading : IsSpreading (number_at of now) ends c j done ((at, e) ∷ ahead) others
+      pub long : suc (length ahead) ≡ left
+      pub stable : IsStableBy (precedes (by_key nat_cmp of)) first (done ++ (at, e) ∷ ahead)
+      pub moved : IsPermutation first (done ++ (at, e) ∷ ahead)
 
     pub turn : (at : Ptr) (left : ℕ) → 0 < left → Stands now ends c j first others (Some at) left → Turn at left
-    turn at left some s = go s.todo s.spreading s.long s.next s.stable s.moved where
-      go : (todo : Nodes X) → IsSpreading (number_at of now) ends c j s.done todo others → length todo ≡ left → IsFirst (todo ++ others) at → IsStableBy (precedes (by_key nat_cmp of)) first (s.done ++ todo) → IsPermutation first (s.done ++ todo) → Turn at left
+    turn at left some s = go s.ahead s.spreading s.long s.next s.stable s.moved where
+      go : (ahead : Nodes X) → IsSpreading (number_at of now) ends c j s.done ahead others → length ahead ≡ left → IsFirst (ahead ++ others) at → IsStableBy (precedes (by_key nat_cmp of)) first (s.done ++ ahead) → IsPermutation first (s.done ++ ahead) → Turn at left
       go [] t long next stable moved = absurd (omega (arith, some, long))
-      go (n ∷ todo) t long (e, after, is) stable moved =
+      go (n ∷ ahead) t long (e, after, is) stable moved =
           let same : n ≡ (at, e) = cc in
           record {
             done = s.done;
             e = e;
-            todo = todo;
-            spreading = subst (λ m. IsSpreading (number_at of now) ends c j s.done (m ∷ todo) others) same t;
+            ahead = ahead;
+            spreading = subst (λ m. IsSpreading (number_at of now) ends c j s.done (m ∷ ahead) others) same t;
             long = long;
-            stable = subst (λ m. IsStableBy (precedes (by_key nat_cmp of)) first (s.done ++ m ∷ todo)) same stable;
-            moved = subst (λ m. IsPermutation first (s.done ++ m ∷ todo)) same moved;
+            stable = subst (λ m. IsStableBy (precedes (by_key nat_cmp of)) first (s.done ++ m ∷ ahead)) same stable;
+            moved = subst (λ m. IsPermutation first (s.done ++ m ∷ ahead)) same moved;
           }
 
     -- what comes after it
-    pub next_is : (at : Ptr) (left : ℕ) (t : Turn at left) (o : Option Ptr) → AreDistinct (spots c) → MatchOption o (IsLast c at) (λ q. AreNext c at q) → MatchOption o (t.todo ++ others ≡ []) (λ q. IsFirst (t.todo ++ others) q)
+    pub next_is : (at : Ptr) (left : ℕ) (t : Turn at left) (o : Option Ptr) → AreDistinct (spots c) → MatchOption o (IsLast c at) (λ q. AreNext c at q) → MatchOption o (t.ahead ++ others ≡ []) (λ q. IsFirst (t.ahead ++ others) q)
     next_is at left t None distinct (front, x, is) =
-        (unique t.done (t.todo ++ others) front [] at t.e x (sym t.spreading.parts ∙ is) (subst (λ l. AreDistinct (spots l)) t.spreading.parts distinct)).2
+        (unique t.done (t.ahead ++ others) front [] at t.e x (sym t.spreading.parts ∙ is) (subst (λ l. AreDistinct (spots l)) t.spreading.parts distinct)).2
     next_is at left t (Some q) distinct (front, x, y, after, is) =
-        (y, after, (unique t.done (t.todo ++ others) front ((q, y) ∷ after) at t.e x (sym t.spreading.parts ∙ is) (subst (λ l. AreDistinct (spots l)) t.spreading.parts distinct)).2)
+        (y, after, (unique t.done (t.ahead ++ others) front ((q, y) ∷ after) at t.e x (sym t.spreading.parts ∙ is) (subst (λ l. AreDistinct (spots l)) t.spreading.parts distinct)).2)
 
     -- after its turn
     pub stands_on : (new : List (Option Ptr)) (d more : Nodes X) (at : Ptr) (left k : ℕ) (o : Option Ptr) (t : Turn at left) → now < 2 ^ 64 → AreDue of now first → number_at of now (at, t.e) ≡ k
-        → MatchOption o (t.todo ++ others ≡ []) (λ q. IsFirst (t.todo ++ others) q)
-        → IsSpreading (number_at of now) new d j more t.todo others → IsPutIn (number_at of now) k t.done at t.e more → (rest : ℕ) → suc rest ≡ left → Stands now new d j first others o rest
+        → MatchOption o (t.ahead ++ others ≡ []) (λ q. IsFirst (t.ahead ++ others) q)
+        → IsSpreading (number_at of now) new d j more t.ahead others → IsPutIn (number_at of now) k t.done at t.e more → (rest : ℕ) → suc rest ≡ left → Stands now new d j first others o rest
     stands_on new d more at left k o t small due numbered next s (low, high, was, is, above) rest one =
         let N = number_at of now in let n : Ptr × Element X = (at, t.e) in let lt = precedes (by_key nat_cmp of) in
         let InTime : Ptr × Element X → Type 0 = λ m. (now ≤ of m.1.value) × (of m.1.value < 2 ^ 64) in
-        let times = permuted InTime first (t.done ++ n ∷ t.todo) t.moved due in
-        let own : InTime n = (all_back InTime t.done (n ∷ t.todo) times).0 in
-        let highs : AllByRecursion InTime high = all_back InTime low high (subst (AllByRecursion InTime) was (all_front InTime t.done (n ∷ t.todo) times)) in
+        let times = permuted InTime first (t.done ++ n ∷ t.ahead) t.moved due in
+        let own : InTime n = (all_back InTime t.done (n ∷ t.ahead) times).0 in
+        let highs : AllByRecursion InTime high = all_back InTime low high (subst (AllByRecursion InTime) was (all_front InTime t.done (n ∷ t.ahead) times)) in
         let passed : AllByRecursion (λ m. lt n m ≡ true) high = over high above highs numbered own in
         record {
           done = more;
-          todo = t.todo;
+          ahead = t.ahead;
           spreading = s;
           long = omega (arith, t.long, one);
           next = next;
-          stable = subst (λ l. IsStableBy lt first (l ++ t.todo)) (sym is) (stable_put lt times_rank first low high t.todo n passed (subst (λ l. IsStableBy lt first (l ++ n ∷ t.todo)) was t.stable));
-          moved = subst (λ l. IsPermutation first (l ++ t.todo)) (sym is) (moved_put first low high t.todo n (subst (λ l. IsPermutation first (l ++ n ∷ t.todo)) was t.moved));
+          stable = subst (λ l. IsStableBy lt first (l ++ t.ahead)) (sym is) (stable_put lt times_rank first low high t.ahead n passed (subst (λ l. IsStableBy lt first (l ++ n ∷ t.ahead)) was t.stable));
+          moved = subst (λ l. IsPermutation first (l ++ t.ahead)) (sym is) (moved_put first low high t.ahead n (subst (λ l. IsPermutation first (l ++ n ∷ t.ahead)) was t.moved));
         } where
           over : (high : Nodes X) → AllByRecursion (λ m. k < number_at of now m) high → AllByRecursion (λ m. (now ≤ of m.1.value) × (of m.1.value < 2 ^ 64)) high → number_at of now (at, t.e) ≡ k → (now ≤ of t.e.value) × (of t.e.value < 2 ^ 64) → AllByRecursion (λ m. precedes (by_key nat_cmp of) (at, t.e) m ≡ true) high
           over [] p q e own = tt
           over (m ∷ high) p q e own = (before (at, t.e) m (earlier now (of t.e.value) (of m.1.value) small own.1 q.0.1 q.0.0 (omega (arith, p.0, e))), over high p.1 q.1 e own)
 
   module _ (now : ℕ) (ends : List (Option Ptr)) (c : Nodes X) (j : ℕ) (first others : Nodes X) (at : Option Ptr) (left : ℕ) where
-    -- none is left to do
+    -- no node is ahead
     pub ended : Stands now ends c j first others at left → left ≡ 0 → (done : Nodes X) × IsSpreading (number_at of now) ends c j done [] others × IsStableBy (precedes (by_key nat_cmp of)) first done × IsPermutation first done
-    ended s none = go s.todo s.spreading s.long s.stable s.moved where
-      go : (todo : Nodes X) → IsSpreading (number_at of now) ends c j s.done todo others → length todo ≡ left → IsStableBy (precedes (by_key nat_cmp of)) first (s.done ++ todo) → IsPermutation first (s.done ++ todo)
+    ended s none = go s.ahead s.spreading s.long s.stable s.moved where
+      go : (ahead : Nodes X) → IsSpreading (number_at of now) ends c j s.done ahead others → length ahead ≡ left → IsStableBy (precedes (by_key nat_cmp of)) first (s.done ++ ahead) → IsPermutation first (s.done ++ ahead)
           → (done : Nodes X) × IsSpreading (number_at of now) ends c j done [] others × IsStableBy (precedes (by_key nat_cmp of)) first done × IsPermutation first done
       go [] t long stable moved = (s.done, t, subst (IsStableBy (precedes (by_key nat_cmp of)) first) (append-nil s.done) stable, subst (IsPermutation first) (append-nil s.done) moved)
-      go (n ∷ todo) t long stable moved = absurd (omega (arith, long, none))
+      go (n ∷ ahead) t long stable moved = absurd (omega (arith, long, none))
 
     -- some are left, so there is a next one
     pub stuck : Stands now ends c j first others None left → 0 < left → ⊥
-    stuck s some = go s.todo s.long s.next where
-      go : (todo : Nodes X) → length todo ≡ left → todo ++ others ≡ [] → ⊥
+    stuck s some = go s.ahead s.long s.next where
+      go : (ahead : Nodes X) → length ahead ≡ left → ahead ++ others ≡ [] → ⊥
       go [] long none = absurd (omega (arith, long, some))
-      go (n ∷ todo) long none = absurd cc
+      go (n ∷ ahead) long none = absurd cc

@@ -1,5 +1,6 @@
 -- Buckets of times, and where each of them ends in a list.
-use Rattle.std.specs.Prelude.{◌≡◌, ℕ, ◌-◌, ◌<◌, ◌≤◌, ◌^◌, ◌==◌, List, [], ◌∷◌, ◌++◌, length, get_or, filter, bit_xor, Option, Some, None}
+use Rattle.std.specs.Prelude.{◌≡◌, ℕ, ◌-◌, ◌<◌, ◌≤◌, ◌^◌, ◌==◌, ◌⊎◌, bit_xor, Option, Some, None}
+use Rattle.std.specs.Prelude.{List, [], ◌∷◌, ◌++◌, length, get_or, filter}
 use Rattle.std.specs.Int.Count.{count_leading_zeros}
 use Rattle.std.specs.List.{AllByRecursion}
 use denote.RawPtr.{Ptr}
@@ -37,6 +38,16 @@ module _ {X : Type 0} (of : X → ℕ) where
   abbrev pub AreDue : (now : ℕ) → Nodes X → Type 0
   AreDue now c = AllByRecursion (λ n. (now ≤ of n.1.value) × (of n.1.value < 2 ^ 64)) c
 
+  -- no node is due at the time or before it
+  abbrev pub AreLater : (time : ℕ) → Nodes X → Type 0
+  AreLater time c = AllByRecursion (λ n. time < of n.1.value) c
+
+  -- the first node is due now, or now is the time `until` and no node is due by then
+  abbrev pub IsAdvanced : (now until : ℕ) → Nodes X → Type 0
+  IsAdvanced now until c =
+      ((p : Ptr) × (e : Element X) × (after : Nodes X) × (c ≡ (p, e) ∷ after) × (of e.value ≡ now))
+      ⊎ ((now ≡ until) × AreLater until c)
+
   -- no node is due before now, and the nodes lie in their buckets
   pub record IsTimed (now : ℕ) (ends : List (Option Ptr)) (c : Nodes X) : Type 0 where
     pub kept : IsKept (number_at now) ends c
@@ -49,20 +60,23 @@ module _ {X : Type 0} where
       (low : Nodes X) × (high : Nodes X) × (c ≡ low ++ high) × (d ≡ low ++ (p, e) ∷ high)
       × AllByRecursion (λ n. k < number n) high
 
-  -- the first nodes are those of the bucket k, least is the least of their times, and there are len of them
-  pub record IsFirstBucket (of : X → ℕ) (now k : ℕ) (c : Nodes X) (least len : ℕ) : Type 0 where
+  -- the first nodes are those of the bucket k, least is the least of their times, the first of that time is at p, and
+  -- there are len of them
+  pub record IsFirstBucket (of : X → ℕ) (now k : ℕ) (c : Nodes X) (least : ℕ) (p : Ptr) (len : ℕ) : Type 0 where
     pub first : Nodes X
     pub others : Nodes X
     pub parts : c ≡ first ++ others
     pub long : length first ≡ len
     pub inside : AllByRecursion (λ n. (number_at of now n ≡ k) × (least ≤ of n.1.value)) first
-    pub reached : (before : Nodes X) × (n : Ptr × Element X) × (after : Nodes X) × (first ≡ before ++ n ∷ after) × (of n.1.value ≡ least)
+    pub reached : (before : Nodes X) × (e : Element X) × (after : Nodes X)
+        × (first ≡ before ++ (p, e) ∷ after) × (of e.value ≡ least) × AllByRecursion (λ n. least < of n.1.value) before
     pub outside : AllByRecursion (λ n. k < number_at of now n) others
 
-  -- The done nodes lie in buckets up to j, and the others in buckets above it. Those to do lie between them, and in no
-  -- bucket yet; they belong into buckets up to j.
-  pub record IsSpreading (number : Ptr × Element X → ℕ) (ends : List (Option Ptr)) (c : Nodes X) (j : ℕ) (done todo others : Nodes X) : Type 0 where
-    pub parts : c ≡ done ++ (todo ++ others)
+  -- The done nodes lie in buckets up to j, and the others in buckets above it. The nodes ahead lie between them, and in
+  -- no bucket yet; they belong into buckets up to j.
+  pub record IsSpreading (number : Ptr × Element X → ℕ) (ends : List (Option Ptr)) (c : Nodes X) (j : ℕ)
+      (done ahead others : Nodes X) : Type 0 where
+    pub parts : c ≡ done ++ (ahead ++ others)
     pub kept : IsKept number ends (done ++ others)
-    pub low : AllByRecursion (λ n. number n ≤ j) todo
+    pub low : AllByRecursion (λ n. number n ≤ j) ahead
     pub high : AllByRecursion (λ n. j < number n) others

@@ -6,7 +6,7 @@ use Rattle.cordyceps_base.specs.Nodes.{Nodes}
 use Rattle.cordyceps_stable.specs.Arranged.{precedes}
 
 -- what a contract sees of a queue: its nodes, in an order of no meaning, the function that returns their times, and the
--- time of the node that came out last
+-- clock, before which no node is due
 pub record Clocked (X O : Type 0) : Type 0 where
   pub nodes : Nodes X
   pub time : O

@@ -1,5 +1,6 @@
-//! A priority queue of times that never fall, whose elements are reached by their spots.
-ghost use Rattle.std.specs.Prelude.{◌≡◌, ℕ, ◌<◌, ◌≤◌, ◌==◌, [], ◌∷◌, ◌++◌, length, MatchOption, MatchResult, ◌⊎◌};
+//! A priority queue whose elements are due at times. The times at which elements come out never decrease, and each
+//! element is reached by its spot.
+ghost use Rattle.std.specs.Prelude.{◌≡◌, ℕ, ◌<◌, ◌≤◌, ◌==◌, [], ◌∷◌, ◌++◌, length, max, MatchOption, MatchResult, ◌⊎◌};
 ghost use Rattle.std.specs.List.Sorted.{IsPermutation};
 ghost use Rattle.std.specs.Ordering.{nat_cmp};
 ghost use Rattle.std.specs.declared.cmp.Ordering.{Ordering};
@@ -10,28 +11,31 @@ ghost use Rattle.cordyceps_base.specs.Nodes.{Nodes, spots};
 ghost use Rattle.cordyceps_base.specs.Spots.{AreDistinct};
 ghost use Rattle.cordyceps_single.specs.Arrangement.{IsEarliestLeast};
 ghost use Rattle.cordyceps_single.specs.ByKey.{by_key};
+ghost use Rattle.cordyceps_stable.specs.Agreeing.{HasElementAt};
 ghost use Rattle.cordyceps_stable.specs.Arranged.{precedes};
+ghost use Rattle.cordyceps_clock.specs.Buckets.{AreLater};
 ghost use Rattle.cordyceps_clock.specs.Clock.{Holds};
 
-use crate::buckets::{Ends, bucket, put, take_out};
-use crate::spreading::advance;
+use crate::buckets::{Ends, bucket, put, take_out, time_at};
+use crate::spreading::{First, advance, first_bucket};
 use crate::times::Times;
 use cordyceps_base::linked::Linked;
 use cordyceps_list::list::Links;
 use cordyceps_stable::stable_list::{Spot, StableList};
 use std::marker::Model;
 
-/// A priority queue of owned nodes that are due at times, which returns a spot for each element. A contract sees the
-/// elements, each with its spot, the function that returns their times, and the clock: the time of the element that came
-/// out last. It says which arrivals the elements are.
+/// A priority queue of owned nodes that are due at times. A push returns a spot, which reaches the element while it is
+/// in the queue. A contract sees the elements with their spots, the function that returns their times, and the clock. It
+/// also says in which order the elements were pushed.
 ///
 /// The element that is due first comes out first, and of those that are due at the same time the one that was pushed
-/// first. No element is pushed that is due before the one that came out last. An element is reached and removed by its
-/// spot. The spot stays the same while the element is in the queue. No two elements are at one spot. Linking allocates
-/// nothing and cannot be refused.
+/// first. The clock is the latest of the times of the elements that came out and of those at which `pop_due` found none
+/// due. No element is pushed that is due before it. An element is reached and removed by its spot. The spot stays the
+/// same while the element is in the queue. No two elements are at one spot. Linking allocates nothing and cannot be
+/// refused.
 ///
-/// It is a radix heap. An element is in one of 65 buckets, by the highest bit in which its time differs from that of
-/// the element that came out last. Each time that it is moved, it comes into a lower bucket.
+/// It is a radix heap. An element is in one of 65 buckets, by the highest bit in which its time differs from the clock.
+/// Each time that it is moved, it comes into a lower bucket.
 ///
 /// Each call that asks for a time requires that the function may be called.
 ///
@@ -58,7 +62,8 @@ impl<T, O: Times<T>> Model for ClockQueue<T, O> {
 }
 
 impl<T: Linked<Links<T>>, O: Times<T>> ClockQueue<T, O> {
-    /// Creates an empty queue at the time 0, whose elements are due at the times that `time` returns. Allocates nothing.
+    /// Creates an empty queue at the time 0, whose elements are due at the times that `time` returns. Allocates
+    /// nothing.
     ///
     /// # Complexity
     /// O(1).
@@ -76,7 +81,8 @@ impl<T: Linked<Links<T>>, O: Times<T>> ClockQueue<T, O> {
         }
     }
 
-    /// Returns the time of the element that came out last, and 0 before the first.
+    /// Returns the clock: the latest of the times of the elements that came out and of those at which `pop_due` found
+    /// none due. It is 0 before the first of these.
     ///
     /// # Complexity
     /// O(1).
@@ -118,7 +124,7 @@ impl<T: Linked<Links<T>>, O: Times<T>> ClockQueue<T, O> {
     }
 
     /// Inserts an element and returns its spot. It comes out after those that are due at the same time. Requires that
-    /// it is due at `now` or later, and a length below `usize::MAX`.
+    /// it is due at the clock or later, and a length below `usize::MAX`.
     ///
     /// # Complexity
     /// O(1).
@@ -141,11 +147,11 @@ impl<T: Linked<Links<T>>, O: Times<T>> ClockQueue<T, O> {
         put(&mut self.list, &mut self.ends, k, T::from_ptr(node))
     }
 
-    /// Inserts an element as `push` does and returns its spot, if it is due at `now` or later and the length is below
-    /// `usize::MAX`.
+    /// Inserts an element as `push` does and returns its spot, if it is due at the clock or later and the length is
+    /// below `usize::MAX`.
     ///
     /// # Errors
-    /// If the element was due before `now`, or at a length of `usize::MAX`, the handle is returned, and the queue is
+    /// If the element was due before the clock, or at a length of `usize::MAX`, the handle is returned, and the queue is
     /// unchanged.
     ///
     /// # Complexity
@@ -186,7 +192,8 @@ impl<T: Linked<Links<T>>, O: Times<T>> ClockQueue<T, O> {
         ensures arrivals { (of : T → ℕ) (a : Nodes T)
             → O.computes_by self.old.time of
             → Holds (by_key nat_cmp of) self.old.nodes a
-            → (rest : Nodes T) × (IsTaken a at (T.element result) rest × Holds (by_key nat_cmp of) self.new.nodes rest) }
+            → (rest : Nodes T) × (IsTaken a at (T.element result) rest
+            × Holds (by_key nat_cmp of) self.new.nodes rest) }
         ensures now { self.new.clock ≡ self.old.clock }
         ensures time { self.new.time ≡ self.old.time }
         ensures distinct { AreDistinct (spots self.new.nodes) }
@@ -194,8 +201,34 @@ impl<T: Linked<Links<T>>, O: Times<T>> ClockQueue<T, O> {
         take_out(&mut self.list, &mut self.ends, &self.time, self.clock, at)
     }
 
+    /// Returns the spot of the element that is due first, or `None` if the queue is empty. Of those that are due at the
+    /// same time it is the one that was pushed first.
+    ///
+    /// # Complexity
+    /// O(k), for k elements of the lowest bucket: those whose times differ from the clock in no higher bit than the
+    /// least time does.
+    pub fn front(&self) -> Option<Spot>
+        requires { O.can_compute self.now.time }
+        ensures { MatchOption result (self.now.nodes ≡ [])
+            (λ spot. (e : Element T) × HasElementAt self.now.nodes spot e
+            × ((of : T → ℕ) (a : Nodes T)
+            → O.computes_by self.now.time of
+            → Holds (by_key nat_cmp of) self.now.nodes a
+            → (rest : Nodes T) × IsEarliestLeast (precedes (by_key nat_cmp of)) a (spot, e) rest)) }
+    {
+        self.list.spots_are_distinct();
+        let at = self.list.front()?;
+        let k = bucket(self.clock, time_at(&self.list, &self.time, at));
+        let First {
+            least: _,
+            at: first,
+            len: _,
+        } = first_bucket(&self.list, &self.time, self.clock, k, at);
+        Some(first)
+    }
+
     /// Removes the element that is due first and returns it, or `None` if the queue is empty. Of those that are due at
-    /// the same time it is the one that was pushed first. Its time becomes `now`.
+    /// the same time it is the one that was pushed first. Its time becomes the clock.
     ///
     /// # Complexity
     /// O(1) amortized: over its time in the queue an element is moved at most 64 times. At worst O(n), for n elements.
@@ -216,7 +249,14 @@ impl<T: Linked<Links<T>>, O: Times<T>> ClockQueue<T, O> {
     {
         self.list.spots_are_distinct();
         let at = self.list.front()?;
-        self.clock = advance(&mut self.list, &mut self.ends, &self.time, self.clock, at);
+        self.clock = advance(
+            &mut self.list,
+            &mut self.ends,
+            &self.time,
+            self.clock,
+            u64::MAX,
+            at,
+        );
         let first = self.list.front()?;
         Some(take_out(
             &mut self.list,
@@ -225,6 +265,57 @@ impl<T: Linked<Links<T>>, O: Times<T>> ClockQueue<T, O> {
             self.clock,
             first,
         ))
+    }
+
+    /// Removes the element that is due first and returns it, if it is due at `now` or before, or returns `None`. Of
+    /// those that are due at the same time it is the one that was pushed first, and its time becomes the clock. With
+    /// `None` the clock becomes `now`, unless it is later already.
+    ///
+    /// # Complexity
+    /// O(1) amortized, also where no element is due: over its time in the queue an element is moved at most 64 times. At
+    /// worst O(n), for n elements.
+    pub fn pop_due(&mut self, now: u64) -> Option<T::Handle>
+        requires callable { O.can_compute self.old.time }
+        ensures due { MatchOption result
+            ((self.new.clock ≡ max self.old.clock now) × IsPermutation self.old.nodes self.new.nodes
+            × ((of : T → ℕ)
+            → O.computes_by self.old.time of
+            → AreLater of now self.new.nodes
+            × ((a : Nodes T) → Holds (by_key nat_cmp of) self.old.nodes a → Holds (by_key nat_cmp of) self.new.nodes a)))
+            (λ h. (spot : Ptr) × ((of : T → ℕ)
+            → O.computes_by self.old.time of
+            → (self.new.clock ≡ of (T.element h).value) × (of (T.element h).value ≤ now)
+            × ((a : Nodes T)
+            → Holds (by_key nat_cmp of) self.old.nodes a
+            → (rest : Nodes T) × (IsEarliestLeast (precedes (by_key nat_cmp of)) a (spot, T.element h) rest
+            × Holds (by_key nat_cmp of) self.new.nodes rest)))
+            × IsPermutation ((spot, T.element h) ∷ self.new.nodes) self.old.nodes) }
+        ensures later { self.old.clock ≤ self.new.clock }
+        ensures time { self.new.time ≡ self.old.time }
+        ensures distinct { AreDistinct (spots self.new.nodes) }
+    {
+        self.list.spots_are_distinct();
+        if now < self.clock {
+            return None;
+        }
+        let Some(at) = self.list.front() else {
+            self.clock = now;
+            return None;
+        };
+        self.clock = advance(
+            &mut self.list,
+            &mut self.ends,
+            &self.time,
+            self.clock,
+            now,
+            at,
+        );
+        let next = self.list.front()?;
+        let due = time_at(&self.list, &self.time, next);
+        if due > now {
+            return None;
+        }
+        Some(take_out(&mut self.list, &mut self.ends, &self.time, self.clock, next))
     }
 
     /// Returns a reference to the value at `at`. Requires that `at` is valid.

@@ -1,4 +1,4 @@
-//! A queue of elements that are due at any time, which are reached by stable pointers, their spots.
+//! A priority queue of elements that are due at times. Each element is reached by a stable pointer, its spot.
 #![tactic(auto)]
 
 mod buckets;

@@ -1,5 +1,5 @@
 //! The lowest bucket, spread over the buckets below it.
-ghost use Rattle.std.specs.Prelude.{◌≡◌, ℕ, ◌<◌, ◌≤◌, [], ◌∷◌, length};
+ghost use Rattle.std.specs.Prelude.{◌≡◌, ℕ, ◌+◌, ◌<◌, ◌≤◌, ◌⊎◌, [], ◌∷◌, length};
 ghost use Rattle.std.specs.List.Sorted.{IsPermutation, IsStableBy};
 ghost use Rattle.std.specs.Ordering.{nat_cmp};
 ghost use denote.RawPtr.{Ptr};
@@ -9,7 +9,8 @@ ghost use Rattle.cordyceps_base.specs.Nodes.{Nodes, spots};
 ghost use Rattle.cordyceps_base.specs.Spots.{AreDistinct};
 ghost use Rattle.cordyceps_single.specs.ByKey.{AscendsBy, by_key};
 ghost use Rattle.cordyceps_stable.specs.Arranged.{precedes};
-ghost use Rattle.cordyceps_clock.specs.Buckets.{bucket_of, number_at, AreDue, IsFirstBucket, IsPutIn, IsSpreading, IsTimed};
+ghost use Rattle.cordyceps_clock.specs.Buckets.{bucket_of, number_at};
+ghost use Rattle.cordyceps_clock.specs.Buckets.{AreDue, IsAdvanced, IsFirstBucket, IsPutIn, IsSpreading, IsTimed};
 
 use crate::buckets::{Ends, bucket, nearest_end, time_at};
 use crate::times::Times;
@@ -17,14 +18,42 @@ use cordyceps_base::linked::Linked;
 use cordyceps_list::list::Links;
 use cordyceps_stable::stable_list::{Spot, StableList};
 
-/// The least time of the first bucket of a list, and the number of its elements.
+/// The least time of the first bucket of a list, where the first element of that time is, and the number of the bucket's
+/// elements.
 pub(crate) struct First {
     pub(crate) least: u64,
+    pub(crate) at: Spot,
     pub(crate) len: usize,
 }
 
-/// Returns the least time of the bucket `k`, which comes first in the list, and the number of its elements. The first
-/// element is at `at`.
+/// Returns what is known of a bucket once its next element is seen, which is at `at` and due at `due`.
+fn with_next(first: First, at: Spot, due: u64) -> First
+    requires { first.len < usize.MAX }
+    ensures len { result.len ≡ first.len + 1 }
+    ensures least { ((due < first.least) × (result.least ≡ due) × (result.at ≡ at))
+        ⊎ ((first.least ≤ due) × (result.least ≡ first.least) × (result.at ≡ first.at)) }
+{
+    let First {
+        least,
+        at: before,
+        len,
+    } = first;
+    if due < least {
+        return First {
+            least: due,
+            at,
+            len: len + 1,
+        };
+    }
+    First {
+        least,
+        at: before,
+        len: len + 1,
+    }
+}
+
+/// Returns the least time of the bucket `k`, which comes first in the list, where the first element of that time is, and
+/// the number of the bucket's elements. The first element is at `at`.
 ///
 /// # Complexity
 /// O(n), for n elements of the bucket.
@@ -42,13 +71,14 @@ pub(crate) fn first_bucket<T: Linked<Links<T>>, O: Times<T>>(
         → AscendsBy (number_at of now) list.now
         → list.now ≡ (at, e) ∷ after
         → bucket_of now (of e.value) ≡ k
-        → IsFirstBucket of now k list.now result.least result.len }
+        → IsFirstBucket of now k list.now result.least result.at result.len }
 {
     list.spots_are_distinct();
     // for the proof: the number of its elements fits
     let _len = list.len();
     let mut first = First {
         least: time_at(list, time, at),
+        at,
         len: 1,
     };
     let mut next = list.next(at);
@@ -57,26 +87,25 @@ pub(crate) fn first_bucket<T: Linked<Links<T>>, O: Times<T>>(
         if bucket(now, due) != k {
             break;
         }
-        first.least = first.least.min(due);
-        first.len += 1;
+        first = with_next(first, at, due);
         next = list.next(at);
     }
     first
 }
 
-/// Moves the next of the nodes to do, which is at `at`, to the end of its bucket `k`.
+/// Moves the first of the nodes ahead, which is at `at`, to the end of its bucket `k`.
 ///
 /// # Complexity
 /// O(1).
 fn place<T: Linked<Links<T>>>(list: &mut StableList<T>, ends: &mut Ends, k: usize, at: Spot)
     requires within { k < 65 }
-    requires ready { (number : Ptr × Element T → ℕ) × (j : ℕ) × (done : Nodes T) × (e : Element T) × (todo : Nodes T)
+    requires ready { (number : Ptr × Element T → ℕ) × (j : ℕ) × (done : Nodes T) × (e : Element T) × (ahead : Nodes T)
         × (others : Nodes T) × (number (at, e) ≡ k)
-        × IsSpreading number ends.old list.old j done ((at, e) ∷ todo) others }
-    ensures placed { (number : Ptr × Element T → ℕ) (j : ℕ) (done : Nodes T) (e : Element T) (todo others : Nodes T)
+        × IsSpreading number ends.old list.old j done ((at, e) ∷ ahead) others }
+    ensures placed { (number : Ptr × Element T → ℕ) (j : ℕ) (done : Nodes T) (e : Element T) (ahead others : Nodes T)
         → number (at, e) ≡ k
-        → IsSpreading number ends.old list.old j done ((at, e) ∷ todo) others
-        → (more : Nodes T) × IsSpreading number ends.new list.new j more todo others
+        → IsSpreading number ends.old list.old j done ((at, e) ∷ ahead) others
+        → (more : Nodes T) × IsSpreading number ends.new list.new j more ahead others
         × IsPutIn number k done at e more }
     ensures distinct { AreDistinct (spots list.new) }
 {
@@ -103,16 +132,16 @@ pub(crate) fn spread<T: Linked<Links<T>>, O: Times<T>>(
 )
     requires callable { O.can_compute time.now }
     requires first { IsFirst list.old at }
-    requires ready { (of : T → ℕ) × (j : ℕ) × (todo : Nodes T) × (others : Nodes T) × O.computes_by time.now of
-        × (length todo ≡ len) × AreDue of now todo
-        × IsSpreading (number_at of now) ends.old list.old j [] todo others }
-    ensures spread { (of : T → ℕ) (j : ℕ) (todo others : Nodes T)
+    requires ready { (of : T → ℕ) × (j : ℕ) × (ahead : Nodes T) × (others : Nodes T) × O.computes_by time.now of
+        × (length ahead ≡ len) × AreDue of now ahead
+        × IsSpreading (number_at of now) ends.old list.old j [] ahead others }
+    ensures spread { (of : T → ℕ) (j : ℕ) (ahead others : Nodes T)
         → O.computes_by time.now of
-        → length todo ≡ len
-        → AreDue of now todo
-        → IsSpreading (number_at of now) ends.old list.old j [] todo others
+        → length ahead ≡ len
+        → AreDue of now ahead
+        → IsSpreading (number_at of now) ends.old list.old j [] ahead others
         → (done : Nodes T) × IsSpreading (number_at of now) ends.new list.new j done [] others
-        × IsStableBy (precedes (by_key nat_cmp of)) todo done × IsPermutation todo done }
+        × IsStableBy (precedes (by_key nat_cmp of)) ahead done × IsPermutation ahead done }
     ensures distinct { AreDistinct (spots list.new) }
 {
     let mut next = Some(at);
@@ -130,28 +159,29 @@ pub(crate) fn spread<T: Linked<Links<T>>, O: Times<T>>(
     list.spots_are_distinct();
 }
 
-/// Makes the least time now, if no element is due now, and spreads its bucket over those below. Returns the time. The
-/// first element is at `at`.
+/// Moves the clock on from `now` to `until`, or only to the least time where that is earlier, and returns the clock. If
+/// it comes into the lowest bucket, it spreads that over the buckets below. The first element is at `at`.
 ///
 /// # Complexity
-/// O(n), for n elements of the lowest bucket, each of which comes into a lower one.
+/// O(n), for n elements of the lowest bucket, each of which comes into a lower one. O(1) where no element is moved.
 pub(crate) fn advance<T: Linked<Links<T>>, O: Times<T>>(
     list: &mut StableList<T>,
     ends: &mut Ends,
     time: &O,
     now: u64,
+    until: u64,
     at: Spot,
 ) -> u64
     requires callable { O.can_compute time.now }
     requires first { IsFirst list.old at }
+    requires later { now ≤ until }
     requires timed { (of : T → ℕ) → O.computes_by time.now of → IsTimed of now ends.old list.old }
     ensures timed { (of : T → ℕ) → O.computes_by time.now of → IsTimed of result ends.new list.new }
-    ensures first { (of : T → ℕ) → O.computes_by time.now of
-        → (p : Ptr) × (e : Element T) × (after : Nodes T) × (list.new ≡ (p, e) ∷ after) × (of e.value ≡ result) }
+    ensures due { (of : T → ℕ) → O.computes_by time.now of → IsAdvanced of result until list.new }
     ensures stable { (of : T → ℕ) → O.computes_by time.now of
         → IsStableBy (precedes (by_key nat_cmp of)) list.old list.new }
     ensures kept { IsPermutation list.old list.new }
-    ensures later { now ≤ result }
+    ensures within { (now ≤ result) × (result ≤ until) }
     ensures distinct { AreDistinct (spots list.new) }
 {
     list.spots_are_distinct();
@@ -159,8 +189,13 @@ pub(crate) fn advance<T: Linked<Links<T>>, O: Times<T>>(
     if k == 0 {
         return now;
     }
-    let First { least, len } = first_bucket(list, time, now, k, at);
+    let to = bucket(now, until);
+    if to < k {
+        return until;
+    }
+    let First { least, at: _, len } = first_bucket(list, time, now, k, at);
+    let next = least.min(until);
     ends[k] = None;
-    spread(list, ends, time, least, at, len);
-    least
+    spread(list, ends, time, next, at, len);
+    next
 }

@@ -1,5 +1,6 @@
 mod Held
 pub mod Kept
 mod Least
+mod Merged
 mod Reading
 mod Said

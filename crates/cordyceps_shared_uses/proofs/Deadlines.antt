@@ -1,19 +1,20 @@
--- What the calls of a sorted list leave of timers in order.
+-- Timers in the order of their deadlines, where one more comes among them, and which are due.
 use Rattle.std.proofs.Common.{◌≡◌, ℕ, ◌≤◌, ◌<◌, Bool, true, false, cond, nat_lt, List, [], ◌∷◌, ◌++◌, refl, ap, sym, ◌∙◌, subst, arith}
 use Rattle.std.proofs.lemmas.Bool.{le-ltb, lt-ltb, ltb-false, ltb-true}
 use Rattle.std.specs.declared.cmp.Ordering.{Ordering}
 use Rattle.std.specs.Ordering.{is_lt, nat_cmp}
-use Rattle.std.specs.Cmp.{on_total, nat_cmp_total, ranked}
+use Rattle.std.specs.Cmp.{ranked}
 use Rattle.std.proofs.lemmas.Cmp.{by_ranked}
 use Rattle.std.specs.List.{AllByRecursion}
 use denote.RawPtr.{Ptr}
-use Rattle.cordyceps.specs.Elements.Element.{Element, values}
-use Rattle.cordyceps.specs.Elements.Nodes.{Nodes, elements}
-use Rattle.cordyceps.specs.Orders.Preorder.{IsPreorder, preorder_from_total}
+use Rattle.cordyceps.specs.Elements.Element.{Element}
+use Rattle.cordyceps.specs.Elements.Nodes.{Nodes}
+use Rattle.cordyceps.specs.Orders.ByKey.{by_key}
+use Rattle.cordyceps.specs.Orders.Preorder.{IsPreorder, by_number_lawful}
 use Rattle.cordyceps.specs.Spots.Arranged.{precedes, Arranges, AllGreater, LastNotGreater}
 use Rattle.cordyceps.proofs.Orders.Arrangement.{Ascends, ascends_from_sorted, sorted_from_ascends}
 use Rattle.cordyceps.proofs.Orders.Preorder.{by_test, ranks}
-use Rattle.cordyceps.proofs.Spots.Arranged.{arranges_itself, arranges_put, same_nodes}
+use Rattle.cordyceps.proofs.Spots.Arranged.{arranges_itself, arranges_put}
 use Rattle.cordyceps.proofs.Spots.Classes.{all_weaker}
 use Rattle.cordyceps_shared_uses.specs.declared.timers.Timer.{Timer}
 use Rattle.cordyceps_shared_uses.specs.Timers.{InOrder, started, due}
@@ -29,16 +30,19 @@ not_sooner a b h = lt_is a b ∙ le-ltb a b h
 sooner : (a b : ℕ) → a < b → is_lt (nat_cmp a b) ≡ true
 sooner a b h = lt_is a b ∙ lt-ltb a b h
 
+pub sooner_is : (a b : ℕ) → is_lt (nat_cmp a b) ≡ true → a < b
+sooner_is a b t = ltb-true a b (sym (lt_is a b) ∙ t)
+
 not_later : (a b : ℕ) → is_lt (nat_cmp a b) ≡ false → b ≤ a
 not_later a b f = ltb-false a b (sym (lt_is a b) ∙ f)
 
 module _ {P : Type 0} where
   -- the order of timers
-  abbrev by_deadline : Timer P → Timer P → Ordering
-  by_deadline x y = nat_cmp x.deadline y.deadline
+  abbrev pub by_deadline : Timer P → Timer P → Ordering
+  by_deadline = by_key nat_cmp (λ (t : Timer P). t.deadline)
 
-  lawful : IsPreorder by_deadline
-  lawful = preorder_from_total (on_total (λ (t : Timer P). t.deadline) nat_cmp_total)
+  pub lawful : IsPreorder by_deadline
+  lawful = by_number_lawful (λ (t : Timer P). t.deadline)
 
   -- ---- in order of deadlines, and by the order
   abbrev NotBefore : ℕ → Nodes (Timer P) → Type 0
@@ -76,43 +80,49 @@ module _ {P : Type 0} where
     all_weaker (λ y. x.1.value.deadline ≤ y.1.value.deadline) (λ y. is_lt (by_deadline v y.1.value) ≡ true) (λ y k. sooner v.deadline y.1.value.deadline (omega (arith, less, k))) s h.0,
   )
 
-  abbrev Split : Ptr → Element (Timer P) → Nodes (Timer P) → Type 0
-  Split q t s =
-      (front : Nodes (Timer P)) × (back : Nodes (Timer P)) × (s ≡ front ++ back) × (started q t s ≡ front ++ (q, t) ∷ back)
-      × LastNotGreater by_deadline t.value front × AllGreater by_deadline t.value back
+  -- what is not later than t, and what is
+  pub record Split (q : Ptr) (t : Element (Timer P)) (s : Nodes (Timer P)) : Type 0 where
+    pub front : Nodes (Timer P)
+    pub back : Nodes (Timer P)
+    pub parts : s ≡ front ++ back
+    pub put : started q t s ≡ front ++ (q, t) ∷ back
+    pub low : LastNotGreater by_deadline t.value front
+    pub high : AllGreater by_deadline t.value back
 
   split : (q : Ptr) (t : Element (Timer P)) (s : Nodes (Timer P)) → InOrder s → Split q t s
-  split q t [] h = ([], [], refl, refl, tt, tt)
+  split q t [] h = record { front = []; back = []; parts = refl; put = refl; low = tt; high = tt }
   split q t (x ∷ s) h =
-      let test = nat_lt t.value.deadline x.1.value.deadline in
       let put : Bool → Nodes (Timer P) = λ b. cond b ((q, t) ∷ x ∷ s) (x ∷ started q t s) in
-      by_test test
-      (λ y. ([], x ∷ s, refl, ap put y, tt, all_greater t.value x s (ltb-true t.value.deadline x.1.value.deadline y) h))
-      (λ n.
-      let on = split q t s h.1 in
-      (x ∷ on.0, on.1, ap (λ l. x ∷ l) on.2, ap put n ∙ ap (λ l. x ∷ l) on.3, low_after t.value x on.0 (lt_is t.value.deadline x.1.value.deadline ∙ n) on.4, on.5))
+      by_test (nat_lt t.value.deadline x.1.value.deadline)
+      (λ y. record {
+        front = [];
+        back = x ∷ s;
+        parts = refl;
+        put = ap put y;
+        low = tt;
+        high = all_greater t.value x s (ltb-true t.value.deadline x.1.value.deadline y) h;
+      })
+      (λ n. let on = split q t s h.1 in record {
+        front = x ∷ on.front;
+        back = on.back;
+        parts = ap (λ l. x ∷ l) on.parts;
+        put = ap put n ∙ ap (λ l. x ∷ l) on.put;
+        low = low_after t.value x on.front (lt_is t.value.deadline x.1.value.deadline ∙ n) on.low;
+        high = on.high;
+      })
 
-  -- what stands for timers in order and one more is that started
-  pub is_started : (s n : Nodes (Timer P)) (q : Ptr) (t : Element (Timer P)) → InOrder s → Arranges by_deadline n (s ++ (q, t) ∷ []) → n ≡ started q t s
-  is_started s n q t h placed =
-      let on = split q t s h in
-      let put = arranges_put lawful on.0 on.1 s (q, t) on.4 on.5 (subst (λ l. Arranges by_deadline l s) on.2 (stands s h)) in
-      same_nodes lawful (s ++ (q, t) ∷ []) n (on.0 ++ (q, t) ∷ on.1) placed put ∙ sym on.3
+  -- what stands for some arrivals, with one more started, stands for these and the one
+  pub starts : (q : Ptr) (t : Element (Timer P)) (s a : Nodes (Timer P)) → Arranges by_deadline s a → Arranges by_deadline (started q t s) (a ++ (q, t) ∷ [])
+  starts q t s a h =
+      let on = split q t s (keeps_order s a h) in
+      subst (λ l. Arranges by_deadline l (a ++ (q, t) ∷ [])) (sym on.put) (arranges_put lawful on.front on.back a (q, t) on.low on.high (subst (λ l. Arranges by_deadline l a) on.parts h))
 
   -- ---- those that are due
-  pub none_due : (now : ℕ) (s : Nodes (Timer P)) → values (elements s) ≡ [] → due now s ≡ []
-  none_due now [] e = refl
-  none_due now (x ∷ s) e = absurd cc
+  pub none_due : (now : ℕ) (s : Nodes (Timer P)) → AllByRecursion (λ n. now < n.1.value.deadline) s → due now s ≡ []
+  none_due now [] h = refl
+  none_due now (x ∷ s) h = ap (λ b. cond b (due now s) (x ∷ due now s)) (lt-ltb now x.1.value.deadline h.0) ∙ none_due now s h.1
 
-  all_later : (now d : ℕ) (s : Nodes (Timer P)) → now < d → NotBefore d s → due now s ≡ []
-  all_later now d [] h all = refl
-  all_later now d (y ∷ s) h all =
-      let below : now < y.1.value.deadline = omega (arith, h, all.0) in
-      ap (λ b. cond b (due now s) (y ∷ due now s)) (lt-ltb now y.1.value.deadline below) ∙ all_later now d s h all.1
-
-  pub first_later : (now : ℕ) (s : Nodes (Timer P)) (x : Timer P) (rest : List (Timer P)) → values (elements s) ≡ x ∷ rest → now < x.deadline → InOrder s → due now s ≡ []
-  first_later now [] x rest e h o = absurd cc
-  first_later now (y ∷ s) x rest e h o =
-      let same : y.1.value ≡ x = cc in
-      let below : now < y.1.value.deadline = subst (λ (t : Timer P). now < t.deadline) (sym same) h in
-      ap (λ b. cond b (due now s) (y ∷ due now s)) (lt-ltb now y.1.value.deadline below) ∙ all_later now y.1.value.deadline s below o.0
+  pub first_later : (now : ℕ) (x : Ptr × Element (Timer P)) (s : Nodes (Timer P)) → due now (x ∷ s) ≡ [] → now < x.1.value.deadline
+  first_later now x s h =
+      by_test (nat_lt now x.1.value.deadline) (λ y. ltb-true now x.1.value.deadline y)
+      (λ n. let some = sym (ap (λ b. cond b (due now s) (x ∷ due now s)) n) ∙ h in absurd cc)

@@ -1,5 +1,6 @@
 mod Accounting
 mod Apart
+mod Arranging
 mod Deadlines
 mod Scheduling
 mod Working

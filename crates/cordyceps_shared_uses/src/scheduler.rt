@@ -1,5 +1,5 @@
 //! A scheduler: tasks sleep until they are due, wait for a worker, run, and sleep again until they are done, on four
-//! threads. Each keeps the node that it was made in, which goes from a sorted list to a queue, to a list, to a stack.
+//! threads. Each keeps the node that it was made in, which goes from timers to a queue, to a list, to a stack.
 ghost use Rattle.std.specs.Prelude.{◌≡◌, ℕ, ◌+◌, ◌≤◌, [], length, true, IfErr, IfOk};
 ghost use Rattle.std.specs.Thread.{IsSync};
 ghost use Rattle.cordyceps.specs.Parties.Counts.{tally, Same};

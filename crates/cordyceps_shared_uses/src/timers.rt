@@ -1,23 +1,38 @@
 //! Timers, the earliest deadline first, each of which can be cancelled before it is due.
-ghost use Rattle.std.specs.Prelude.{◌≡◌, ◌≤◌, ◌<◌, ℕ, [], ◌∷◌, length, IfErr, IfOk, IsOk, MatchOption, OnErr, OnOk};
+ghost use Rattle.std.specs.Prelude.{
+  ◌≡◌,
+  ◌≤◌,
+  ◌<◌,
+  ℕ,
+  max,
+  [],
+  ◌∷◌,
+  length,
+  IfErr,
+  IfOk,
+  IsOk,
+  MatchOption,
+  OnErr,
+  OnOk,
+  refl,
+  ⊤,
+};
 ghost use denote.RawPtr.{Ptr};
 ghost use Rattle.cordyceps.specs.Elements.Nodes.{spots};
 ghost use Rattle.cordyceps.specs.Spots.BySpot.{HasSpot, IsTaken};
 ghost use Rattle.cordyceps.specs.Spots.Spots.{AreDistinct};
-ghost use Rattle.cordyceps_shared_uses.specs.Timers.{started, new_timer, due, first_deadline};
+ghost use Rattle.cordyceps_shared_uses.specs.Timers.{started, new_timer, not_before, due, first_deadline};
 
+use cordyceps::clock_queue::Times;
 use cordyceps::list::Links;
-use cordyceps::sorted_list::Least;
-use cordyceps::{Kind, Linked, Node, Refused, Spot, StableSortedList};
+use cordyceps::{ClockQueue, Kind, Linked, Node, Refused, Spot};
 use std::alloc::Global;
 use std::marker::Model;
 
-/// A deadline, and what is to be done then. Timers compare by their deadlines alone.
+/// A deadline, and what is to be done then.
 #[derive(Drop)]
-#[derive_where(PartialEq, Eq, PartialOrd, Ord)]
 pub struct Timer<P> {
     pub deadline: u64,
-    #[derive_where(skip)]
     pub payload: P,
 }
 
@@ -41,33 +56,57 @@ impl<L: Kind, P: Drop> Linked<L> for Timer<P> {
 /// A timer that does not run, in a node that can be put among those that do.
 pub type Stopped<P> = Node<Timer<P>, Links<Timer<P>>>;
 
-/// Timers that run. A contract sees each with its spot, the earliest deadline first, and equals as they were started.
+/// The times of timers: their deadlines.
+#[derive(Drop)]
+struct ByDeadline;
+
+impl<P> Times<Timer<P>> for ByDeadline {
+    ghost computes_by = { λ _ of. of ≡ (λ t. t.deadline) };
+
+    ghost can_compute = { λ _. ⊤ };
+
+    ghost computes = { λ _ _. ((λ t. t.deadline), refl) };
+
+    fn time(&self, timer: &Timer<P>) -> u64 {
+        timer.deadline
+    }
+}
+
+/// Timers that run. A contract sees each with its spot, the earliest deadline first and equals as they were started,
+/// and the clock: the latest of the deadlines of those that came out when due and of the times at which none was due.
+/// A deadline before the clock counts as the clock.
 #[derive(Drop)]
 pub struct Timers<P> {
-    list: StableSortedList<Timer<P>, Least>,
+    queue: ClockQueue<Timer<P>, ByDeadline>,
 }
 
 impl<P> Model for Timers<P> {
-    ghost use Rattle.cordyceps.specs.Elements.Nodes.{Nodes, spots};
+    ghost use Rattle.cordyceps.specs.Elements.Nodes.{spots};
     ghost use Rattle.cordyceps.specs.Spots.Spots.{AreDistinct};
-    ghost use Rattle.cordyceps_shared_uses.specs.declared.timers.Timer.{Timer};
-    ghost use Rattle.cordyceps_shared_uses.specs.Timers.{InOrder};
+    ghost use Rattle.cordyceps_shared_uses.specs.Timers.{InOrder, Running, arranged};
 
-    ghost Value = { Nodes (Timer P) };
+    ghost Value = { Running P };
 
-    ghost view = { λ t. t.list.nodes };
+    ghost view = { λ t. record { nodes = arranged t.queue.nodes; clock = t.queue.clock } };
 
-    ghost invariant = { λ t. InOrder t.list.nodes × AreDistinct (spots t.list.nodes) };
+    ghost invariant = { λ t. InOrder (arranged t.queue.nodes) × AreDistinct (spots t.queue.nodes) };
 }
 
 impl<P: Drop> Timers<P> {
-    /// Makes timers of which none runs. It takes no memory.
+    /// Makes timers of which none runs, at the time 0. It takes no memory.
     pub fn new() -> Timers<P>
-        ensures { result ≡ [] }
+        ensures { result ≡ record { nodes = []; clock = 0 } }
     {
         Timers {
-            list: StableSortedList::new_min(),
+            queue: ClockQueue::new_with_times(ByDeadline),
         }
+    }
+
+    /// Returns the clock. A timer that is started with an earlier deadline is due then.
+    pub fn now(&self) -> u64
+        ensures { result ≡ self.now.clock }
+    {
+        self.queue.now()
     }
 
     /// Starts a timer after all whose deadline is not later, and returns its spot. It takes memory for one node, whose
@@ -77,12 +116,14 @@ impl<P: Drop> Timers<P> {
     /// The payload comes back where that memory is refused, or where `usize::MAX` timers run.
     ///
     /// # Complexity
-    /// O(k + 1), where k timers have a later deadline; O(1) where all have.
+    /// O(1).
     pub fn start(&mut self, alloc: Global, deadline: u64, payload: P) -> Result<Spot, Refused<P>>
-        ensures started { IfOk result (λ spot. self.new ≡ started spot (new_timer deadline payload) self.old) }
+        ensures started { IfOk result (λ spot.
+            self.new.nodes ≡ started spot (not_before self.old.clock (new_timer deadline payload)) self.old.nodes) }
+        ensures clock { self.new.clock ≡ self.old.clock }
         ensures kept { OnErr result (self.new ≡ self.old) }
         ensures returned { IfErr result (λ e. e.value ≡ payload) }
-        ensures distinct { OnOk result (AreDistinct (spots self.new)) }
+        ensures distinct { OnOk result (AreDistinct (spots self.new.nodes)) }
     {
         let node = match Node::new(alloc, deadline, Timer { deadline, payload }) {
             Ok(node) => node,
@@ -107,63 +148,78 @@ impl<P: Drop> Timers<P> {
     /// The timer comes back where `usize::MAX` timers run.
     ///
     /// # Complexity
-    /// As `start`.
+    /// O(1).
     pub fn restart(&mut self, timer: Stopped<P>) -> Result<Spot, Stopped<P>>
-        ensures started { IfOk result (λ spot. self.new ≡ started spot timer self.old) }
-        ensures succeeds { length self.old < usize.MAX → IsOk result }
+        ensures started { IfOk result (λ spot.
+            self.new.nodes ≡ started spot (not_before self.old.clock timer) self.old.nodes) }
+        ensures succeeds { length self.old.nodes < usize.MAX → IsOk result }
+        ensures clock { self.new.clock ≡ self.old.clock }
         ensures kept { OnErr result (self.new ≡ self.old) }
         ensures returned { IfErr result (λ back. back ≡ timer) }
-        ensures distinct { OnOk result (AreDistinct (spots self.new)) }
+        ensures distinct { OnOk result (AreDistinct (spots self.new.nodes)) }
     {
-        if self.list.len() == usize::MAX {
+        if self.queue.len() == usize::MAX {
             return Err(timer);
         }
-        Ok(self.list.insert(timer))
+        let mut timer = timer;
+        let deadline = timer.get().deadline.max(self.queue.now());
+        timer.get_mut().deadline = deadline;
+        Ok(self.queue.push(timer))
     }
 
     /// Takes the timer at a spot out in its node, at once, before it is due.
     pub fn cancel(&mut self, spot: Spot) -> Stopped<P>
-        requires { HasSpot self.old spot }
-        ensures taken { IsTaken self.old spot result self.new }
-        ensures distinct { AreDistinct (spots self.new) }
+        requires { HasSpot self.old.nodes spot }
+        ensures taken { IsTaken self.old.nodes spot result self.new.nodes }
+        ensures clock { self.new.clock ≡ self.old.clock }
+        ensures distinct { AreDistinct (spots self.new.nodes) }
     {
-        self.list.remove(spot)
+        self.queue.remove(spot)
     }
 
     /// Returns the earliest deadline. `None` where no timer runs.
     ///
     /// # Complexity
-    /// O(1).
+    /// O(k), for k timers whose deadlines differ from the clock in no higher bit than the earliest one does: at worst
+    /// all.
     pub fn first_deadline(&self) -> Option<u64>
-        ensures { result ≡ first_deadline self.now }
+        ensures { result ≡ first_deadline self.now.nodes }
     {
-        let first = self.list.iter().next()?;
+        let first = self.queue.get(self.queue.front()?);
         Some(first.deadline)
     }
 
     /// Takes the earliest timer out in its node, if it is due at the time `now`. `None` where none is due; all stay
-    /// then. It takes the same time whatever runs.
+    /// then, and the clock goes on to `now`, if that is later.
+    ///
+    /// # Complexity
+    /// O(1) amortized, whatever runs: a timer is moved at most 64 times before it comes out.
     pub fn stop_due(&mut self, now: u64) -> Option<Stopped<P>>
         ensures stopped { MatchOption result
-            ((self.new ≡ self.old) × (due now self.old ≡ []))
-            (λ t. (spot : Ptr) × (self.old ≡ (spot, t) ∷ self.new) × (t.value.deadline ≤ now)) }
-        ensures distinct { AreDistinct (spots self.new) }
+            ((self.new.nodes ≡ self.old.nodes) × (due now self.old.nodes ≡ []))
+            (λ t. (spot : Ptr) × (self.old.nodes ≡ (spot, t) ∷ self.new.nodes) × (t.value.deadline ≤ now)) }
+        ensures clock { MatchOption result
+            (self.new.clock ≡ max self.old.clock now)
+            (λ t. self.new.clock ≡ t.value.deadline) }
+        ensures distinct { AreDistinct (spots self.new.nodes) }
     {
-        let first = self.list.iter().next()?;
-        if first.deadline > now {
-            return None;
-        }
-        self.list.pop_front()
+        self.queue.pop_due(now)
     }
 
-    /// Takes the earliest timer out, if it is due at the time `now`. `None` where none is due; all stay then. It takes
-    /// the same time whatever runs.
+    /// Takes the earliest timer out, if it is due at the time `now`. `None` where none is due; all stay then, and the
+    /// clock goes on to `now`, if that is later.
+    ///
+    /// # Complexity
+    /// As `stop_due`.
     pub fn pop_due(&mut self, now: u64) -> Option<Timer<P>>
         ensures popped { MatchOption result
-            ((self.new ≡ self.old) × (due now self.old ≡ []))
-            (λ t. (spot : Ptr) × (id : ℕ) × (self.old ≡ (spot, record { id = id; value = t }) ∷ self.new)
+            ((self.new.nodes ≡ self.old.nodes) × (due now self.old.nodes ≡ []))
+            (λ t. (spot : Ptr) × (id : ℕ) × (self.old.nodes ≡ (spot, record { id = id; value = t }) ∷ self.new.nodes)
             × (t.deadline ≤ now)) }
-        ensures distinct { AreDistinct (spots self.new) }
+        ensures clock { MatchOption result
+            (self.new.clock ≡ max self.old.clock now)
+            (λ t. self.new.clock ≡ t.deadline) }
+        ensures distinct { AreDistinct (spots self.new.nodes) }
     {
         match self.stop_due(now) {
             Some(node) => Some(node.into_value()),

@@ -1,9 +1,11 @@
 //! A list whose elements are reached by their spots.
-ghost use Rattle.std.specs.Prelude.{◌≡◌, ◌≢◌, ◌+◌, ◌<◌, ◌≤◌, ◌==◌, [], ◌∷◌, ◌++◌, length, slice_get, MatchOption, MatchResult, Some, None};
+ghost use Rattle.std.specs.Prelude.{◌≡◌, ◌≢◌, ◌+◌, ◌<◌, ◌≤◌, ◌==◌, [], ◌∷◌, ◌++◌, length, slice_get};
+ghost use Rattle.std.specs.Prelude.{MatchOption, MatchResult, Some, None};
 ghost use Rattle.std.specs.Bool.{Decides};
 ghost use Rattle.std.specs.Borrow.{sem};
 ghost use denote.RawPtr.{Ptr};
-ghost use Rattle.cordyceps_base.specs.BySpot.{HasSpot, HoldsAt, IsTaken, IsPutBefore, IsPutAfter, IsMovedFront, IsMovedBack, IsMovedAfter, IsFirst, IsLast, AreNext};
+ghost use Rattle.cordyceps_base.specs.BySpot.{HasSpot, HoldsAt, IsTaken, IsPutBefore, IsPutAfter, IsMovedFront};
+ghost use Rattle.cordyceps_base.specs.BySpot.{IsMovedBack, IsMovedAfter, IsFirst, IsLast, AreNext};
 ghost use Rattle.cordyceps_base.specs.Element.{values};
 ghost use Rattle.cordyceps_base.specs.Nodes.{elements, spots};
 ghost use Rattle.cordyceps_base.specs.Spots.{index_of, AreDistinct};
@@ -17,8 +19,8 @@ use cordyceps_list::iter::{Iter, over};
 use cordyceps_list::list::{Links, List};
 use std::marker::Model;
 
-/// A stable pointer to an element of a `StableList`, a `StableSortedList` or a `StableHeap`. It owns nothing, and can be
-/// copied and kept anywhere.
+/// A stable pointer to an element of a `StableList`, a `StableSortedList`, a `StableHeap` or a `ClockQueue`. It owns
+/// nothing, and can be copied and kept anywhere.
 ///
 /// It is valid for the collection that has the element, as long as that has it. Each call that takes a spot requires a
 /// valid one. Nothing checks this when the program runs. Spots cannot be compared, and `Debug` prints no address.
@@ -490,8 +492,8 @@ impl<T: Linked<Links<T>>> StableList<T> {
         self.chain.keep_distinct();
     }
 
-    /// Moves the element at `at` to right after the one at `to`. It keeps its spot, and the others their order. Requires
-    /// that both spots are valid, and that they are those of two elements.
+    /// Moves the element at `at` to right after the one at `to`. It keeps its spot, and the others their order.
+    /// Requires that both spots are valid, and that they are those of two elements.
     ///
     /// # Complexity
     /// O(1).

@@ -1,4 +1,4 @@
-//! Timers that come when they are due, and timers that are cancelled.
+//! Timers that come when they are due, timers that are cancelled, and deadlines that have passed.
 ghost use Rattle.cordyceps.specs.Elements.Element.{Element};
 ghost use Rattle.cordyceps.specs.Spots.BySpot.{IsTaken};
 ghost use Rattle.cordyceps_shared_uses.specs.declared.timers.Timer.{Timer};
@@ -20,7 +20,7 @@ fn start(
     number: u64,
     drops: &Drops,
 ) -> Spot
-    ensures { (timer : Element (Timer Counted)) × IsTaken timers.new result timer timers.old }
+    ensures { (timer : Element (Timer Counted)) × IsTaken timers.new.nodes result timer timers.old.nodes }
 {
     match timers.start(alloc, deadline, counted(rt, number, drops)) {
         Ok(spot) => spot,
@@ -120,4 +120,28 @@ fn a_cancelled_timer_is_started_again(rt: HostRuntime) {
     let wanted = [(29, Some(1)), (29, None), (30, Some(2)), (30, None)];
     come(&rt, &mut timers, &wanted);
     same(&rt, drops.count(), 2);
+}
+
+#[test]
+fn a_deadline_that_has_passed_counts_as_now(rt: HostRuntime) {
+    let drops = no_drops(&rt, rt.alloc());
+    let mut timers = Timers::new();
+    same(&rt, (timers.now(), timers.first_deadline()), (0, None));
+    come(&rt, &mut timers, &[(50, None), (20, None)]);
+    same(&rt, (timers.now(), timers.first_deadline()), (50, None));
+    for (deadline, number) in [(30, 1), (70, 2), (50, 3), (0, 4)] {
+        start(&rt, &mut timers, rt.alloc(), deadline, number, &drops);
+    }
+    same(&rt, (timers.now(), timers.first_deadline()), (50, Some(50)));
+    let wanted = [
+        (49, None),
+        (50, Some(1)),
+        (50, Some(3)),
+        (51, Some(4)),
+        (69, None),
+    ];
+    come(&rt, &mut timers, &wanted);
+    same(&rt, (timers.now(), timers.first_deadline()), (69, Some(70)));
+    come(&rt, &mut timers, &[(80, Some(2)), (80, None)]);
+    same(&rt, (timers.now(), drops.count()), (80, 4));
 }

@@ -1,8 +1,12 @@
 //! The two places of the scheduler that stand under locks: where tasks sleep, and where they wait for a worker.
 ghost use Rattle.std.specs.Prelude.{
   ◌≡◌,
+  ◌+◌,
+  ◌-◌,
+  ◌^◌,
   ◌≤◌,
   ◌<◌,
+  min,
   [],
   ◌∷◌,
   ◌++◌,
@@ -52,6 +56,14 @@ impl Run for Brand {
     } };
 }
 
+/// Returns when a pause is over that begins now.
+fn end_of_pause(now: u64, pause: u32) -> u64
+    ensures is { result ≡ min (now + pause) (2 ^ 64 - 1) }
+    ensures later { now ≤ result }
+{
+    now.saturating_add(pause as u64)
+}
+
 /// Tasks that sleep, the earliest deadline first, and the time.
 #[derive(Drop)]
 pub struct Sleepers<L: Run> {
@@ -61,6 +73,7 @@ pub struct Sleepers<L: Run> {
     run: PhantomData<L>,
     ghost of: { IsOpen L.accounts account },
     ghost counted: { Holds account (asleep timers) },
+    ghost passed: { timers.clock ≤ time },
 }
 
 impl<L: Run> Sleepers<L> {
@@ -83,7 +96,7 @@ impl<L: Run> Sleepers<L> {
     /// The task comes back where `usize::MAX` tasks sleep.
     ///
     /// # Complexity
-    /// O(k + 1), where k sleepers have a later deadline; O(1) where all have.
+    /// O(1).
     pub fn sleep(
         &mut self,
         accounts: &Accounts,
@@ -95,16 +108,17 @@ impl<L: Run> Sleepers<L> {
             (λ _. mine.new ≡ after_giving (name_of task) mine.old)
             (λ _. mine.new ≡ mine.old) }
         ensures sleeps { OnOk result
-            ((spot : Ptr) × (self.new.timers ≡ started spot (paused self.old.time task) self.old.timers)) }
+            ((spot : Ptr)
+            × (self.new.timers.nodes ≡ started spot (paused self.old.time task) self.old.timers.nodes)) }
         ensures time { self.new.time ≡ self.old.time }
-        ensures succeeds { length self.old.timers < usize.MAX → IsOk result }
+        ensures succeeds { length self.old.timers.nodes < usize.MAX → IsOk result }
         ensures kept { OnErr result (self.new.timers ≡ self.old.timers) }
         ensures returned { IfErr result (λ back. back ≡ paused self.old.time task) }
     {
         let mut task = task;
         let name = Name::of(&task);
-        let pause = task.get().payload.pause as u64;
-        task.get_mut().deadline = self.time.saturating_add(pause);
+        let pause = task.get().payload.pause;
+        task.get_mut().deadline = end_of_pause(self.time, pause);
         match self.timers.restart(task) {
             Ok(_) => {
                 accounts.give(mine, &mut self.account, name);
@@ -116,17 +130,20 @@ impl<L: Run> Sleepers<L> {
 
     /// Wakes the task with the earliest deadline, if it is due, into the hands of a thread. Where none is due, the time
     /// goes on to the next deadline, if any task sleeps.
+    ///
+    /// # Complexity
+    /// O(1) amortized where a task is woken. Where none is, that of `Timers::first_deadline`.
     pub fn wake(&mut self, accounts: &Accounts, mine: &mut Account) -> Option<Stopped<Work>>
         requires { (accounts.now.table ≡ L.accounts) × IsOpen L.accounts mine.old }
         ensures mine { MatchOption result
             (mine.new ≡ mine.old)
             (λ task. mine.new ≡ after_getting (name_of task) mine.old) }
         ensures woken { MatchOption result
-            ((self.new.timers ≡ self.old.timers) × (due self.old.time self.old.timers ≡ []))
-            (λ task. (spot : Ptr) × (self.old.timers ≡ (spot, task) ∷ self.new.timers)
+            ((self.new.timers.nodes ≡ self.old.timers.nodes) × (due self.old.time self.old.timers.nodes ≡ []))
+            (λ task. (spot : Ptr) × (self.old.timers.nodes ≡ (spot, task) ∷ self.new.timers.nodes)
             × (task.value.deadline ≤ self.old.time)) }
         ensures time { MatchOption result
-            (self.new.time ≡ until_first self.old.time self.old.timers)
+            (self.new.time ≡ until_first self.old.time self.old.timers.nodes)
             (λ _. self.new.time ≡ self.old.time) }
     {
         let Some(task) = self.timers.stop_due(self.time) else {

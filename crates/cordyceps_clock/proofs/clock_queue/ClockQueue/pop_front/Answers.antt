@@ -1,15 +1,19 @@
-use Rattle.std.proofs.Common.{◌∷◌, ap, sym, subst}
+use Rattle.std.proofs.Common.{◌-◌, ◌^◌, ◌∷◌, ap, sym, subst, arith}
 use Rattle.std.specs.List.Sorted.{IsPermutation}
 use Rattle.std.specs.Ordering.{nat_cmp}
 use Rattle.cordyceps_single.specs.ByKey.{by_key}
 use Rattle.cordyceps_clock.specs.Clock.{Clocked, Holds}
-use Rattle.cordyceps_clock.proofs.Pops.{timed_taken, popped_all, popped_due, popped_holds}
+use Rattle.cordyceps_clock.proofs.Pops.{due_at_last, some_stay, timed_taken, popped_all, popped_due, popped_holds}
 use Rattle.cordyceps_clock.proofs.clock_queue.ClockQueue.pop_front.Goals as goal
 
 pub invariant_of-self-2 : goal.invariant_of-self-2
 invariant_of-self-2 g c of has =
     let timed = c.advance-self-inside.ensures.timed of has in
     timed_taken of c.advance-self-inside.result c.advance-self-inside.new.ends c.take_out.new.ends c.advance-self-inside.new.list c.take_out.new.list c.in_ok-first.first _ timed c.take_out.ensures.taken (c.take_out.ensures.kept of has timed.kept)
+
+pub returns-in_err-first-clause-taken : goal.returns-in_err-first-clause-taken
+returns-in_err-first-clause-taken g c =
+    absurd (some_stay c.self.inside.list c.advance-self-inside.new.list c.in_ok-at.at c.in_ok-at.ensures c.advance-self-inside.ensures.kept c.in_err-first.ensures)
 
 pub returns-clause-taken : goal.returns-clause-taken
 returns-clause-taken g c =
@@ -19,7 +23,7 @@ returns-clause-taken g c =
       p,
       λ of has.
           let own = subst (λ (s : Clocked g.row.T.Denot g.row.O.Denot). g.O.Times.computes_by s.time of) (sym c.self.view_is) has in
-          let timed = c.advance-self-inside.ensures.timed of own in let due = c.advance-self-inside.ensures.first of own in let stable = c.advance-self-inside.ensures.stable of own in (
+          let timed = c.advance-self-inside.ensures.timed of own in let due = due_at_last of now (2 ^ 64 - 1) c.advance-self-inside.new.ends list p c.advance-self-inside.ensures.distinct c.in_ok-first.ensures (c.advance-self-inside.ensures.due of own) timed (omega arith) in let stable = c.advance-self-inside.ensures.stable of own in (
             sym (popped_due of now c.advance-self-inside.new.ends old list new p e c.advance-self-inside.ensures.distinct c.in_ok-first.ensures c.take_out.ensures.taken timed due stable),
             λ a h. popped_holds of now c.advance-self-inside.new.ends old list new p e c.advance-self-inside.ensures.distinct c.in_ok-first.ensures c.take_out.ensures.taken timed due stable a (subst (λ l. Holds (by_key nat_cmp of) l a) (sym nodes) h),
           ),

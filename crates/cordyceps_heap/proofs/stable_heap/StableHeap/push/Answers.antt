@@ -1,4 +1,4 @@
-use Rattle.std.proofs.Common.{◌≡◌, [], ◌∷◌, ◌++◌, length, ap, sym, ◌∙◌, subst}
+use Rattle.std.proofs.Common.{◌≡◌, [], ◌∷◌, length, ap, sym, ◌∙◌, subst}
 use denote.RawPtr.{Ptr}
 use Rattle.cordyceps_base.specs.DoubleLines.{flat}
 use Rattle.cordyceps_base.specs.Element.{Element}

@@ -1,4 +1,4 @@
-use Rattle.std.proofs.Common.{length, refl, ap, sym, ◌∙◌}
+use Rattle.std.proofs.Common.{refl, ap, sym, ◌∙◌}
 use Rattle.cordyceps_base.specs.DoubleLines.{flat}
 use Rattle.cordyceps_base.proofs.Segments.{sole_element}
 use Rattle.cordyceps_heap.specs.Heap.{Heaped}

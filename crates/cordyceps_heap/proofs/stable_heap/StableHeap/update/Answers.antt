@@ -1,4 +1,4 @@
-use Rattle.std.proofs.Common.{◌≡◌, List, [], ◌∷◌, ◌++◌, length, refl, ap, sym, ◌∙◌, subst}
+use Rattle.std.proofs.Common.{◌≡◌, List, [], ◌∷◌, ◌++◌, refl, ap, sym, ◌∙◌, subst}
 use Rattle.std.specs.Fn.{FnOnceReturnsAtMut}
 use Rattle.std.specs.List.Sorted.{IsPermutation}
 use denote.RawPtr.{Ptr}
@@ -7,7 +7,7 @@ use Rattle.cordyceps_base.specs.DoubleLines.{flat}
 use Rattle.cordyceps_base.specs.Element.{Element}
 use Rattle.cordyceps_base.specs.Nodes.{Nodes}
 use Rattle.cordyceps_stable.specs.Arranged.{Arranges}
-use Rattle.cordyceps_heap.specs.Heap.{Heaped, Holds}
+use Rattle.cordyceps_heap.specs.Heap.{Heaped}
 use Rattle.cordyceps_heap.proofs.Held.{taken_flat, holds_taken}
 use Rattle.cordyceps_heap.proofs.Said.{single, out_said, only_value, same_node, taken_holds, renewed_long}
 use Rattle.cordyceps_heap.proofs.stable_heap.StableHeap.update.Goals as goal

@@ -1,0 +1,27 @@
+use Rattle.std.proofs.Common.{rules, ◌<◌, ◌^◌, ℕ, [], ap, sym, subst}
+use Rattle.std.specs.Ordering.{nat_cmp}
+use Rattle.cordyceps_single.specs.ByKey.{by_key}
+use Rattle.cordyceps_stable.specs.Agreeing.{HasElementAt}
+use Rattle.cordyceps_clock.specs.Clock.{Clocked, Holds}
+use Rattle.cordyceps_clock.proofs.Ends.{held_is}
+use Rattle.cordyceps_clock.proofs.Fronts.{front_least, front_there}
+use Rattle.cordyceps_clock.proofs.clock_queue.ClockQueue.front.Goals as goal
+
+pub returns : goal.returns
+returns g c =
+    let nodes = ap (λ (s : Clocked g.row.T.Denot g.row.O.Denot). s.nodes) c.self.view_is in
+    let list = c.self.inside.list in let now = c.self.inside.clock in let k = c.bucket-k.result in
+    let (x, after, is) = c.in_ok-at.ensures in let (v, holds, tells) = c.time_at.ensures in let first = c.first_bucket-first.result in
+    let callable = subst (λ (s : Clocked g.row.T.Denot g.row.O.Denot). g.O.Times.can_compute s.time) (sym c.self.view_is) c.requires in
+    let small : now < 2 ^ 64 = search rules in
+    let (of, own) = g.met.O.Times.computes c.self.inside.time callable in
+    let bucket = λ (f : g.row.T.Denot → ℕ) (has : g.O.Times.computes_by c.self.inside.time f).
+    c.first_bucket-first.ensures f x after has (c.self.invariant f has).kept.ascends is
+    (held_is f now k list [] after c.in_ok-at.at x v c.time_at.result c.spots_are_distinct.ensures is holds (tells f has) c.bucket-k.ensures.is) in
+    let (e, there) = front_there of now k c.self.inside.ends list first.least first.at first.len small (c.self.invariant of own) (bucket of own) in (
+      e,
+      subst (λ l. HasElementAt l first.at e) nodes there,
+      λ f a has h.
+          let asked = subst (λ (s : Clocked g.row.T.Denot g.row.O.Denot). g.O.Times.computes_by s.time f) (sym c.self.view_is) has in
+          front_least f now k c.self.inside.ends list first.least first.at first.len small (c.self.invariant f asked) (bucket f asked) e c.spots_are_distinct.ensures there a (subst (λ l. Holds (by_key nat_cmp f) l a) (sym nodes) h),
+    )
