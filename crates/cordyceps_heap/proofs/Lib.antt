@@ -1,5 +1,7 @@
+pub mod Apart
 mod Held
 pub mod Kept
 mod Least
 mod Reading
 mod Said
+mod Settled
