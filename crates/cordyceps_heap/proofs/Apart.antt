@@ -1,5 +1,5 @@
 -- No two nodes are at one spot, in whichever order they are listed.
-use Rattle.std.proofs.Common.{◌≡◌, Bool, true, false, List, [], ◌∷◌, ◌++◌, sym, ◌∙◌}
+use Rattle.std.proofs.Common.{◌≡◌, false, List, [], ◌∷◌, sym, ◌∙◌}
 use Rattle.std.proofs.lemmas.List.Sorted.{IsPermutation-map}
 use Rattle.std.proofs.lemmas.Map.Keys.{IsDistinct-IsPermutation}
 use Rattle.std.specs.List.{AllByRecursion, IsDistinct}
@@ -20,10 +20,12 @@ new_all p [] h = tt
 new_all p (q ∷ qs) h = (h.0, new_all p qs h.1)
 
 all_distinct : (ps : List Ptr) → AreDistinct ps → IsDistinct same_ptr ps
+unfolding IsDistinct
 all_distinct [] h = tt
 all_distinct (p ∷ ps) h = (all_new p ps h.0, all_distinct ps h.1)
 
 distinct_all : (ps : List Ptr) → IsDistinct same_ptr ps → AreDistinct ps
+unfolding IsDistinct
 distinct_all [] h = tt
 distinct_all (p ∷ ps) h = (new_all p ps h.0, distinct_all ps h.1)
 

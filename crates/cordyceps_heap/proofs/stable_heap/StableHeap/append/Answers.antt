@@ -1,4 +1,4 @@
-use Rattle.std.proofs.Common.{◌≡◌, [], ◌++◌, ◌+◌, length, length-append, refl, ap, sym, ◌∙◌, subst, arith}
+use Rattle.std.proofs.Common.{◌≡◌, ◌++◌, length, ap, sym, ◌∙◌, subst}
 use Rattle.std.specs.List.Sorted.{IsPermutation}
 use Rattle.std.proofs.lemmas.List.Sorted.{length_permutation, IsPermutation-trans, IsPermutation-append}
 use Rattle.cordyceps_base.specs.DoubleLines.{flat}
@@ -38,8 +38,8 @@ invariant_of-self g c =
     let now : settled c.push-2.new.self ≡ c.with_line.new.lines = none_fresh c.push-2.new.self c.with_line.new.lines c.empty-2.result c.push-2.ensures c.empty-2.ensures in
     let one = IsPermutation-trans others (flat c.settle.new.lines) all c.settle.ensures.kept c.one_line-all.ensures.kept in (
       as_long (flat c.settle-2.new.lines) (flat c.with_line.new.lines) all c.self.inside.len c.other.inside.len c.with_line.ensures.kept
-      (c.self.invariant.0 ∙ sym (length_permutation mine (flat c.settle-2.new.lines) c.settle-2.ensures.kept))
-      (c.other.invariant.0 ∙ sym (length_permutation others all one))
-      ∙ ap (λ s. length (flat s)) (sym now),
+          (c.self.invariant.0 ∙ sym (length_permutation mine (flat c.settle-2.new.lines) c.settle-2.ensures.kept))
+          (c.other.invariant.0 ∙ sym (length_permutation others all one))
+          ∙ ap (λ s. length (flat s)) (sym now),
       has_last c.push-2.new.self c.with_line.new.lines c.empty-2.result c.push-2.ensures c.with_line.ensures.room,
     )

@@ -1,7 +1,7 @@
-use Rattle.std.proofs.Common.{length, ap, sym, ◌∙◌, arith}
+use Rattle.std.proofs.Common.{ap, ◌∙◌}
 use Rattle.cordyceps_base.specs.DoubleLines.{flat}
 use Rattle.cordyceps_heap.specs.Heap.{settled}
-use Rattle.cordyceps_heap.proofs.Settled.{has_last, holds_none, none_fresh}
+use Rattle.cordyceps_heap.proofs.Settled.{holds_none, none_fresh}
 use Rattle.cordyceps_heap.proofs.stable_heap.StableHeap.new_with_order.Goals as goal
 
 pub returns-clause-nodes : goal.returns-clause-nodes

@@ -1,7 +1,6 @@
-use Rattle.std.proofs.Common.{◌≡◌, ◌∷◌, ◌<◌, length, slice_get, Some, refl, ap, sym, ◌∙◌, subst, arith}
+use Rattle.std.proofs.Common.{◌≡◌, ◌∷◌, length, refl, ap, sym, ◌∙◌, subst, arith}
 use Rattle.std.specs.List.Sorted.{IsPermutation}
 use Rattle.cordyceps_base.specs.DoubleLines.{flat}
-use Rattle.cordyceps_base.specs.Nodes.{Nodes}
 use Rattle.cordyceps_base.proofs.Segments.{sole_element}
 use Rattle.cordyceps_heap.specs.Heap.{Heaped, Holds, settled}
 use Rattle.cordyceps_heap.proofs.Held.{taken_flat}

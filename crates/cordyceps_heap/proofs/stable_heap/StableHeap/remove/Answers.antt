@@ -1,6 +1,6 @@
 use Rattle.std.proofs.Common.{refl, ap, sym, ◌∙◌, subst}
 use Rattle.cordyceps_base.specs.BySpot.{HasSpot, IsTaken}
-use Rattle.cordyceps_base.specs.DoubleLines.{flat, IsTakenOut}
+use Rattle.cordyceps_base.specs.DoubleLines.{flat}
 use Rattle.cordyceps_base.proofs.Segments.{sole_element}
 use Rattle.cordyceps_heap.specs.Heap.{Heaped, Holds, settled}
 use Rattle.cordyceps_heap.proofs.Said.{one_less, out_said}
