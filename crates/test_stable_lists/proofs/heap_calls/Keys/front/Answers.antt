@@ -10,3 +10,6 @@ get-requires c = let (e, lies, least) = c.in_ok-spot.ensures.first in spot_is_at
 
 pub invariant_of-self : goal.invariant_of-self
 invariant_of-self c = finds_permuted (get nat_eq c.self.inside.spots) (nodes_in c.self.inside.heap) (nodes_in c.front.new.self) c.self.invariant c.front.ensures.kept
+
+pub invariant_of-self-2 : goal.invariant_of-self-2
+invariant_of-self-2 c = finds_permuted (get nat_eq c.self.inside.spots) (nodes_in c.self.inside.heap) (nodes_in c.front.new.self) c.self.invariant c.front.ensures.kept
