@@ -10,7 +10,8 @@ use Rattle.cordyceps_base.specs.Element.{Element}
 use Rattle.cordyceps_base.specs.Nodes.{Nodes, spots}
 use Rattle.cordyceps_base.specs.Spots.{AreDistinct, IsNew}
 use Rattle.cordyceps_stable.specs.Agreeing.{HasElementAt, Agrees, IsUpdated}
-use Rattle.cordyceps_stable.proofs.Agreeing.{put_agrees}
+use Rattle.cordyceps_stable.proofs.Agreeing.{put_agrees, taken_agrees}
+use Rattle.cordyceps_heap.proofs.Apart.{permuted_distinct}
 use Rattle.cordyceps_stable.proofs.Holding.{has_split, spot_is_at, left_is_at, taken_or_left, taken_gone, joined_is_at, front_is_at}
 
 none_some : (o : Option Ptr) (p : Ptr) → o ≡ None → o ≡ Some p → ⊥
@@ -43,9 +44,13 @@ module _ {X : Type 0} where
   joined_keeps c more d q kept (k, at) = let (e, lies) = has_split c k q at in spot_is_at d q e (permuted_is_at (c ++ more) d q e kept (front_is_at c more q e lies))
 
   -- what `front` returns
-  pub front_has : (c : Nodes X) (o : Option Ptr) (P : Ptr → Element X → Type 0) → MatchOption o (c ≡ []) (λ p. (e : Element X) × HasElementAt c p e × P p e) → IfSome o (λ p. HasSpot c p)
-  front_has c None P h = tt
-  front_has c (Some p) P (e, lies, rest) = spot_is_at c p e lies
+  pub front_has : (c : Nodes X) (o : Option Ptr) (N : Type 0) (P : Ptr → Element X → Type 0) → MatchOption o N (λ p. (e : Element X) × HasElementAt c p e × P p e) → IfSome o (λ p. HasSpot c p)
+  front_has c None N P h = tt
+  front_has c (Some p) N P (e, lies, rest) = spot_is_at c p e lies
+
+  -- what `pop_front` removes
+  pub popped_is_at : (c d : Nodes X) (p : Ptr) (e : Element X) → IsPermutation c ((p, e) ∷ d) → HasElementAt c p e
+  popped_is_at c d p e kept = permuted_is_at ((p, e) ∷ d) c p e (IsPermutation-sym c ((p, e) ∷ d) kept) ([], d, refl)
 
   new_less : (q : Ptr) (b a : Nodes X) (n : Ptr × Element X) → IsNew q (spots (b ++ n ∷ a)) → IsNew q (spots (b ++ a))
   new_less q [] a n h = h.1
@@ -59,6 +64,19 @@ module _ {X : Type 0} where
   only_at n q o ([], a, is) = let first : n ≡ (q, o) = cc in sym first
   only_at n q o (y ∷ [], a, is) = absurd cc
   only_at n q o (y ∷ z ∷ b, a, is) = absurd cc
+
+  -- the same elements are there, in another order
+  pub permuted_agrees : (f : ℕ → Option Ptr) (c d : Nodes X) → Agrees f c → IsPermutation c d → Agrees f d
+  permuted_agrees f c d was kept = record {
+    mapped = λ k q at. let (o, key, lies) = was.mapped k q at in (o, key, permuted_is_at c d q o kept lies);
+    listed = λ q o lies. was.listed q o (permuted_is_at d c q o (IsPermutation-sym c d kept) lies);
+    distinct = permuted_distinct c d kept was.distinct;
+  }
+
+  -- the first was removed by `pop_front`
+  pub popped_agrees : (f g : ℕ → Option Ptr) (c d : Nodes X) (p : Ptr) (e : Element X) → Agrees f c → IsUpdated f e.id None g → IsPermutation c ((p, e) ∷ d) → Agrees g d
+  popped_agrees f g c d p e was up kept =
+      let whole = permuted_agrees f c ((p, e) ∷ d) was kept in taken_agrees f g ((p, e) ∷ d) d p e whole up ([], d, refl, refl) whole.distinct.1
 
   -- an element was pushed, of a number that the map did not know
   pub pushed_agrees : (f g : ℕ → Option Ptr) (c d : Nodes X) (p : Ptr) (e : Element X) → Agrees f c → f e.id ≡ None → IsUpdated f e.id (Some p) g → IsPermutation (c ++ (p, e) ∷ []) d → AreDistinct (spots d) → Agrees g d

@@ -1,6 +1,8 @@
+pub mod Apart
 mod Held
 pub mod Kept
 mod Least
 mod Merged
 mod Reading
 mod Said
+mod Settled

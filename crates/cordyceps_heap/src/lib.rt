@@ -1,6 +1,7 @@
 //! An order that is quick for many elements, which are reached by stable pointers, their spots.
 #![tactic(auto)]
 
+mod fresh;
 mod merging;
 mod ranked;
 mod renewing;

@@ -187,36 +187,34 @@ fn ask_heap(rt: &impl Abort, alloc: Global, heap: &mut StableHeap<Key, ByKey>, c
 }
 
 /// Calls of a heap that is empty at first, and how often each asks its order. The lines after a call are those before
-/// the next, each with its rank.
+/// the next, each with its rank, and the fresh elements behind them.
 ///
-/// A line of one element is merged with the last lines as long as their rank is not greater. A merge compares once for
-/// each element that goes before one line is used up. The first elements of the lines are compared with the least
-/// before them.
+/// A fresh element is sorted in by the next call that needs the order. It is then a line of rank 0, merged with the
+/// last lines as long as their rank is not greater. A merge compares once for each element that goes before one line is
+/// used up. The first elements of the lines are compared with the least before them.
 const HEAP_CALLS: [(HeapAsking, u64); 16] = [
     (HeapAsking::Front, 0),
     (HeapAsking::Push(5), 0),
-    // 5: rank 0
-    (HeapAsking::Push(3), 1),
-    // 3 5: rank 1
+    (HeapAsking::Push(3), 0),
     (HeapAsking::Push(4), 0),
-    // 3 5: rank 1, 4: rank 0
-    (HeapAsking::Push(9), 4),
+    (HeapAsking::Push(9), 0),
+    // fresh: 5 3 4 9. The 3 makes 3 5 of rank 1 with one comparison; the 9 makes 4 9 with one, and the whole with three
+    (HeapAsking::Front, 5),
     // 3 4 5 9: rank 2
-    (HeapAsking::Front, 0),
     (HeapAsking::Push(1), 0),
-    // 3 4 5 9: rank 2, 1: rank 0
     (HeapAsking::Front, 1),
+    // 3 4 5 9: rank 2, 1: rank 0
     (HeapAsking::PopFront, 1),
     // 3 4 5 9: rank 2, an empty line: rank 0
     (HeapAsking::PopFront, 0),
     // 4 5 9: rank 2, an empty line: rank 0
     (HeapAsking::Push(7), 0),
-    // 4 5 9: rank 2, 7: rank 0, since the empty line was dropped
-    (HeapAsking::Push(8), 1),
-    // 4 5 9: rank 2, 7 8: rank 1
-    (HeapAsking::PopFront, 1),
+    (HeapAsking::Push(8), 0),
+    // the empty line is dropped; 7 8 of rank 1 take one comparison, and the first elements of both lines another
+    (HeapAsking::PopFront, 2),
     // 5 9: rank 2, 7 8: rank 1
-    (HeapAsking::Append(&[(0, 6), (0, 2)]), 7),
+    // the elements of the other heap are fresh there, and take one comparison
+    (HeapAsking::Append(&[(0, 6), (0, 2)]), 8),
     // 2 5 6 7 8 9: rank 3
     (HeapAsking::Append(&[]), 0),
     // 2 5 6 7 8 9: rank 3, an empty line: rank 0

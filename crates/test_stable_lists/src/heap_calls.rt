@@ -145,7 +145,7 @@ impl Keys {
     }
 
     /// Returns the first key.
-    fn front(&self) -> Option<u64> {
+    fn front(&mut self) -> Option<u64> {
         let spot = self.heap.front()?;
         Some(self.heap.get(spot).value)
     }

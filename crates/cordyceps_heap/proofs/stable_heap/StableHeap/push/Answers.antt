@@ -1,20 +1,32 @@
-use Rattle.std.proofs.Common.{◌≡◌, [], ◌∷◌, length, ap, sym, ◌∙◌, subst}
+use Rattle.std.proofs.Common.{◌≡◌, [], ◌∷◌, ◌++◌, ap, sym, ◌∙◌, subst}
+use Rattle.std.specs.List.Sorted.{IsPermutation}
 use denote.RawPtr.{Ptr}
 use Rattle.cordyceps_base.specs.DoubleLines.{flat}
 use Rattle.cordyceps_base.specs.Element.{Element}
-use Rattle.cordyceps_stable.specs.Arranged.{Arranges}
-use Rattle.cordyceps_heap.specs.Heap.{Heaped, Holds}
-use Rattle.cordyceps_heap.proofs.Said.{single, as_long}
+use Rattle.cordyceps_heap.specs.Heap.{Heaped, Holds, settled}
+use Rattle.cordyceps_heap.proofs.Settled.{holds_more, kept_with, one_longer, settled_distinct}
 use Rattle.cordyceps_heap.proofs.stable_heap.StableHeap.push.Goals as goal
 
 pub returns-clause-arrivals : goal.returns-clause-arrivals
 returns-clause-arrivals g c = λ cmp a by h.
     let view = ap (λ (s : Heaped g.row.T.Denot g.row.O.Denot). s.lines) c.self.view_is in
-    let asked = subst (λ (s : Heaped g.row.T.Denot g.row.O.Denot). g.O.Order.compares_by s.order cmp) (sym c.self.view_is) by in
     let x : Ptr × Element g.row.T.Denot = (c.spot_at.result, g.T.Linked.element c.args.handle) in
     let line : c.one-line.result.1 ≡ x ∷ [] = c.one-line.ensures ∙ (λ i. (sym c.spot_at.ensures i, c.into_ptr.ensures i) ∷ []) in
-    c.with_line.ensures.arrivals cmp a (x ∷ []) asked (subst (λ s. Holds cmp s a) (sym view) h) (subst (λ l. Arranges cmp l (x ∷ [])) (sym line) (single cmp x))
+    holds_more cmp (settled c.self.inside.lines) (settled c.add_fresh.new.lines) c.one-line.result.1 x a c.add_fresh.ensures.added line (subst (λ s. Holds cmp s a) (sym view) h)
+
+pub returns-clause-kept : goal.returns-clause-kept
+returns-clause-kept g c =
+    let view = ap (λ (s : Heaped g.row.T.Denot g.row.O.Denot). s.lines) c.self.view_is in
+    let x : Ptr × Element g.row.T.Denot = (c.spot_at.result, g.T.Linked.element c.args.handle) in
+    let line : c.one-line.result.1 ≡ x ∷ [] = c.one-line.ensures ∙ (λ i. (sym c.spot_at.ensures i, c.into_ptr.ensures i) ∷ []) in
+    subst (λ s. IsPermutation (flat s ++ x ∷ []) (flat (settled c.add_fresh.new.lines))) view
+    (kept_with (settled c.self.inside.lines) (settled c.add_fresh.new.lines) c.one-line.result.1 x c.add_fresh.ensures.added line)
+
+pub returns-clause-distinct : goal.returns-clause-distinct
+returns-clause-distinct g c = settled_distinct c.add_fresh.new.lines c.are_distinct.ensures
 
 pub invariant_of-self : goal.invariant_of-self
-invariant_of-self g c =
-    as_long (flat c.self.inside.lines) (flat c.with_line.new.lines) c.one-line.result.1 c.self.inside.len 1 c.with_line.ensures.kept c.self.invariant (sym (ap length c.one-line.ensures))
+invariant_of-self g c = (
+  one_longer (settled c.self.inside.lines) (settled c.add_fresh.new.lines) c.one-line.result.1 _ c.self.inside.len c.add_fresh.ensures.added c.one-line.ensures c.self.invariant.0,
+  c.add_fresh.ensures.fresh,
+)

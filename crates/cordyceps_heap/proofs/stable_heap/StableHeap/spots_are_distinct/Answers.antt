@@ -1,0 +1,12 @@
+use Rattle.std.proofs.Common.{ap, subst}
+use Rattle.cordyceps_base.specs.DoubleLines.{flat}
+use Rattle.cordyceps_base.specs.Nodes.{spots}
+use Rattle.cordyceps_base.specs.Spots.{AreDistinct}
+use Rattle.cordyceps_heap.specs.Heap.{Heaped}
+use Rattle.cordyceps_heap.proofs.Settled.{settled_distinct}
+use Rattle.cordyceps_heap.proofs.stable_heap.StableHeap.spots_are_distinct.Goals as goal
+
+pub returns : goal.returns
+returns g c =
+    let view = ap (λ (s : Heaped g.row.T.Denot g.row.O.Denot). s.lines) c.self.view_is in
+    subst (λ s. AreDistinct (spots (flat s))) view (settled_distinct c.self.inside.lines c.are_distinct.ensures)
