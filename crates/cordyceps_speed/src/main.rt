@@ -79,7 +79,7 @@ enum Rows {
 }
 
 /// The words that ask for them.
-const ROWS: [(&str, Rows); 18] = [
+const ROWS: [(&str, Rows); 19] = [
     ("lists", Rows::Lists),
     ("stables", Rows::Stables),
     ("stacks", Rows::Stacks),
@@ -91,6 +91,7 @@ const ROWS: [(&str, Rows); 18] = [
     ("queues", Rows::Queues),
     ("stack", Rows::At(Meeting::Stack)),
     ("stack_back", Rows::At(Meeting::StackBack)),
+    ("stack_batches", Rows::At(Meeting::StackBatches)),
     ("queue", Rows::At(Meeting::Queue)),
     ("queue_back", Rows::At(Meeting::QueueBack)),
     ("consumer", Rows::At(Meeting::Consumer)),
