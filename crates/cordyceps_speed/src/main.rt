@@ -22,7 +22,7 @@ use cordyceps_speed_rows::free_lists::show_free_lists;
 use cordyceps_speed_rows::lists::show_lists;
 use cordyceps_speed_rows::queues::show_queues;
 use cordyceps_speed_rows::sorteds::show_sorteds;
-use cordyceps_speed_rows::stable_sorteds::{show_by_spots, show_heaps, show_inserts};
+use cordyceps_speed_rows::stable_sorteds::{show_by_spots, show_clocks, show_heaps, show_inserts};
 use cordyceps_speed_rows::stables::show_stables;
 use cordyceps_speed_rows::stacks::show_stacks;
 use cordyceps_speed_rows::table::{Shown, Table};
@@ -47,8 +47,11 @@ const ELEMENTS: usize = 10_000;
 /// How many go into a sorted list in which they walk to their places.
 const FEW: usize = 1_000;
 
-/// How many timers run where their times are shown. Where their counts are shown there are few.
-const TIMERS: usize = 100_000;
+/// How many go into heaps and queues of times, and how many timers run, where times are shown.
+const SIZES: [usize; 3] = [1_000, 10_000, 100_000];
+
+/// The same where counts are shown: few, so that the program ends soon.
+const FEW_SIZES: [usize; 1] = [FEW];
 
 /// How many rounds threads make.
 const MEETINGS: u32 = 25;
@@ -67,6 +70,8 @@ enum Rows {
     Stacks,
     Sorteds,
     Heaps,
+    Clocks,
+    Timers,
     Transfers,
     Queues,
     /// Of one collection at which threads meet.
@@ -74,16 +79,19 @@ enum Rows {
 }
 
 /// The words that ask for them.
-const ROWS: [(&str, Rows); 16] = [
+const ROWS: [(&str, Rows); 19] = [
     ("lists", Rows::Lists),
     ("stables", Rows::Stables),
     ("stacks", Rows::Stacks),
     ("sorteds", Rows::Sorteds),
     ("heaps", Rows::Heaps),
+    ("clocks", Rows::Clocks),
+    ("timers", Rows::Timers),
     ("transfers", Rows::Transfers),
     ("queues", Rows::Queues),
     ("stack", Rows::At(Meeting::Stack)),
     ("stack_back", Rows::At(Meeting::StackBack)),
+    ("stack_batches", Rows::At(Meeting::StackBatches)),
     ("queue", Rows::At(Meeting::Queue)),
     ("queue_back", Rows::At(Meeting::QueueBack)),
     ("consumer", Rows::At(Meeting::Consumer)),
@@ -186,25 +194,46 @@ fn show_owned<R: Clock + Print>(rt: &R, alloc: Global, table: Table) -> Result<u
     Ok(lists.wrapping_add(others))
 }
 
-/// How many timers run.
-fn timers(table: Table) -> usize {
+/// How many go into heaps and queues of times, and how many timers run.
+fn sizes(table: Table) -> &'static [usize] {
     match table.shown {
-        Shown::Counts => FEW,
-        Shown::Times => TIMERS,
+        Shown::Counts => &FEW_SIZES,
+        Shown::Times => &SIZES,
     }
 }
 
-/// Measures and shows sorted lists and heaps with spots, and timers in them and in others. Returns a number over what was
-/// seen.
+/// The same rounds, or fewer where many elements take long.
+fn rounds(table: Table, count: usize) -> Table {
+    match count {
+        0..=FEW => table,
+        0..=ELEMENTS => table.tenth(),
+        _ => table.tenth().tenth(),
+    }
+}
+
+/// Measures and shows heaps and queues of times, and timers in them and in others. Returns a number over what was seen.
+fn show_heaped<R: Clock + Print>(rt: &R, alloc: Global, table: Table) -> Result<u64, Fault> {
+    let mut sum: u64 = 0;
+    for count in sizes(table) {
+        let fewer = rounds(table, *count);
+        let heaps = show_heaps(rt, alloc, fewer, *count)?;
+        let clocks = show_clocks(rt, alloc, fewer, *count)?;
+        sum = sum.wrapping_add(heaps).wrapping_add(clocks);
+    }
+    for count in sizes(table) {
+        let timers = show_timers(rt, alloc, rounds(table, *count), *count)?;
+        sum = sum.wrapping_add(timers);
+    }
+    Ok(sum)
+}
+
+/// Measures and shows sorted lists, heaps and queues of times, each with spots, and timers in them and in others.
+/// Returns a number over what was seen.
 fn show_spots<R: Clock + Print>(rt: &R, alloc: Global, table: Table) -> Result<u64, Fault> {
     let inserts = show_inserts(rt, alloc, table, FEW)?;
     let by_spots = show_by_spots(rt, alloc, table, ELEMENTS)?;
-    let few = show_heaps(rt, alloc, table, FEW)?;
-    let many = show_heaps(rt, alloc, table.tenth(), ELEMENTS)?;
-    let timers = show_timers(rt, alloc, table, timers(table), FEW)?;
-    let lists = inserts.wrapping_add(by_spots);
-    let heaps = few.wrapping_add(many);
-    Ok(lists.wrapping_add(heaps).wrapping_add(timers))
+    let heaped = show_heaped(rt, alloc, table)?;
+    Ok(inserts.wrapping_add(by_spots).wrapping_add(heaped))
 }
 
 /// Measures and shows the collections that threads share, each by one party that is alone. Returns a number over what
@@ -256,6 +285,8 @@ fn show_alone<R: Clock + Print + Threads + Wait + Sync>(
         Rows::Stacks => show_stacks(rt, alloc, table, count)?,
         Rows::Sorteds => show_sorteds(rt, alloc, table, count)?,
         Rows::Heaps => show_heaps(rt, alloc, table, count)?,
+        Rows::Clocks => show_clocks(rt, alloc, table, count)?,
+        Rows::Timers => show_timers(rt, alloc, table, count)?,
         Rows::Transfers => show_transfers(rt, alloc, table, rooms)?,
         Rows::Queues => show_queues(rt, alloc, table, rooms)?,
         Rows::At(meeting) => {

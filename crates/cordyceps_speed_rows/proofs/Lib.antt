@@ -1,1 +1,2 @@
+mod Popped
 mod Tables

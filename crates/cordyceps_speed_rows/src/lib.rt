@@ -10,6 +10,7 @@ pub mod free_lists;
 pub mod lists;
 pub mod nodes;
 pub mod numbered;
+pub mod numbered_clock;
 pub mod numbered_heap;
 pub mod queues;
 pub mod sorteds;

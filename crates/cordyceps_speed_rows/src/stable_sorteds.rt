@@ -1,10 +1,11 @@
-//! Sorted lists and heaps with spots: insertions and pops, and elements that are met by their spots in an order of no
-//! kind.
+//! Sorted lists, heaps and queues of times, each with spots: insertions and pops, and elements that are met by their
+//! spots in an order of no kind.
 ghost use Rattle.std.specs.Prelude.{◌≡◌, ◌+◌, ◌<◌, ◌≤◌, [], length};
 
 use crate::fault::Fault;
 use crate::nodes::{shuffle, sum_numbers};
 use crate::numbered::{ByNumber, Numbered};
+use crate::numbered_clock::NumberedClock;
 use crate::numbered_heap::NumberedHeap;
 use crate::sorteds::{Values, elements_of};
 use crate::stables::numbers_below;
@@ -14,7 +15,7 @@ use crate::vectors::{keep, with_room};
 use std::alloc::Global;
 use std::time::{Clock, Duration};
 
-/// Kinds of call on a sorted list or a heap with spots.
+/// Kinds of call on a sorted list, a heap or a queue of times, with spots.
 #[derive(Clone, Copy)]
 enum Calls {
     /// Insertions of elements with such values.
@@ -86,7 +87,27 @@ const HEAPS: [Entry<Calls>; 4] = [
     ),
 ];
 
-/// A list or a heap whose elements are updated.
+/// Of queues of times, in which nothing walks either.
+const CLOCKS: [Entry<Calls>; 4] = [
+    (
+        "ClockQueue: try_push, random",
+        Calls::Insert(Values::Random),
+        "a push",
+    ),
+    (
+        "ClockQueue: remove, try_push, random",
+        Calls::Update,
+        "both; the spots, in a Vec, in no order",
+    ),
+    ("ClockQueue: pop_front", Calls::Pop, "a pop"),
+    (
+        "ClockQueue: remove",
+        Calls::Remove,
+        "a removal; the spots, in a Vec, in no order",
+    ),
+];
+
+/// A collection whose elements are updated.
 #[derive(Drop)]
 struct StableSorteds<C> {
     alloc: Global,
@@ -101,7 +122,7 @@ struct StableSorteds<C> {
     seen: u64,
 }
 
-/// A list or a heap of so many elements, whose values rise with their numbers.
+/// A collection of so many elements, whose values rise with their numbers.
 fn ascending<C: ByNumber>(alloc: Global, count: usize) -> Result<C, Fault> {
     let mut nodes = elements_of(alloc, count, Values::Ascending)?;
     let mut made = C::new(alloc, count)?;
@@ -122,7 +143,7 @@ impl<C: ByNumber> StableSorteds<C> {
         self.next = next;
     }
 
-    /// Measures removals of all elements from a list or a heap.
+    /// Measures removals of all elements from a collection.
     fn remove_all(&mut self, rt: &impl Clock) -> Result<Duration, Fault> {
         let count = self.order.len();
         let mut from: C = ascending(self.alloc, count)?;
@@ -227,4 +248,14 @@ pub fn show_heaps<R: Clock + Print>(
     elements: usize,
 ) -> Result<u64, Fault> {
     show::<R, NumberedHeap>(rt, alloc, table, elements, Values::Random, &HEAPS)
+}
+
+/// Measures queues of times, and shows them. Returns a number over what they held last.
+pub fn show_clocks<R: Clock + Print>(
+    rt: &R,
+    alloc: Global,
+    table: Table,
+    elements: usize,
+) -> Result<u64, Fault> {
+    show::<R, NumberedClock>(rt, alloc, table, elements, Values::Random, &CLOCKS)
 }

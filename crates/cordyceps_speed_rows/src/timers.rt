@@ -1,9 +1,11 @@
-//! Timers that are started, of which nine in ten are cancelled, and the others come out in order: in a sorted list and a
-//! heap with spots, in a map, and in a binary heap, in which the cancelled ones stay until they come out.
+//! Timers that are started, of which nine in ten are cancelled, and the others come out in order: in a sorted list, a
+//! heap and a queue of times, each with spots, in a map, and in a binary heap, in which the cancelled ones stay until
+//! they come out.
 
 use crate::fault::Fault;
 use crate::nodes::{ListNode, make_nodes, mix, shuffle};
 use crate::numbered::{ByNumber, Numbered};
+use crate::numbered_clock::NumberedClock;
 use crate::numbered_heap::NumberedHeap;
 use crate::stopwatch::Stopwatch;
 use crate::table::{Bench, Entry, Round, Table};
@@ -16,6 +18,11 @@ use std::time::{Clock, Duration};
 
 /// Timers that run. One has a deadline, which is its value, and a number.
 trait Timers {
+    /// Makes them ready for a round, in which time begins anew. None runs.
+    fn restart(&mut self) -> Result<(), Fault> {
+        Ok(())
+    }
+
     /// Starts a timer. Returns whether there was memory for it.
     fn start(&mut self, timer: Item) -> bool;
 
@@ -29,6 +36,7 @@ trait Timers {
 /// Timers in a collection with spots.
 #[derive(Drop)]
 struct WithSpots<C> {
+    alloc: Global,
     running: C,
     /// The nodes of timers that do not run.
     idle: Vec<ListNode>,
@@ -39,11 +47,20 @@ impl<C: ByNumber> WithSpots<C> {
     fn new(alloc: Global, count: usize) -> Result<WithSpots<C>, Fault> {
         let running = C::new(alloc, count)?;
         let idle = make_nodes(alloc, count)?;
-        Ok(WithSpots { running, idle })
+        Ok(WithSpots {
+            alloc,
+            running,
+            idle,
+        })
     }
 }
 
 impl<C: ByNumber> Timers for WithSpots<C> {
+    fn restart(&mut self) -> Result<(), Fault> {
+        self.running = C::new(self.alloc, self.idle.len())?;
+        Ok(())
+    }
+
     fn start(&mut self, timer: Item) -> bool {
         let Some(mut node) = self.idle.pop() else {
             return false;
@@ -189,6 +206,7 @@ impl Plan {
     /// Measures that all of the timers are started, those that are to be cancelled are cancelled, and the others taken
     /// out. Returns a number over these in their order, too.
     fn run<T: Timers>(&self, rt: &impl Clock, timers: &mut T) -> Result<(u64, Duration), Fault> {
+        timers.restart()?;
         let mut stopwatch = Stopwatch::start(rt);
         for timer in &self.started {
             if !timers.start(*timer) {
@@ -216,55 +234,59 @@ enum Calls {
     List,
     /// A heap with spots.
     Heap,
+    /// A queue of times with spots.
+    Clock,
     /// A map.
     Map,
     /// A binary heap.
     BinaryHeap,
 }
 
+/// What is counted as one with deadlines that mostly rise.
+const AFTER: &str = "a timer, due after one of four timeouts";
+
+/// What is counted as one with any deadlines.
+const ANY: &str = "a timer, due at any time";
+
 /// With deadlines that mostly rise.
-const RISING: [Entry<Calls>; 4] = [
-    (
-        "Timers: StableSortedList",
-        Calls::List,
-        "a timer, due after one of four timeouts",
-    ),
-    (
-        "Timers: StableHeap",
-        Calls::Heap,
-        "a timer, due after one of four timeouts",
-    ),
-    (
-        "Timers: BTreeMap",
-        Calls::Map,
-        "a timer, due after one of four timeouts",
-    ),
-    (
-        "Timers: BinaryHeap",
-        Calls::BinaryHeap,
-        "a timer, due after one of four timeouts",
-    ),
+const RISING: [Entry<Calls>; 5] = [
+    ("Timers: StableSortedList", Calls::List, AFTER),
+    ("Timers: StableHeap", Calls::Heap, AFTER),
+    ("Timers: ClockQueue", Calls::Clock, AFTER),
+    ("Timers: BTreeMap", Calls::Map, AFTER),
+    ("Timers: BinaryHeap", Calls::BinaryHeap, AFTER),
 ];
 
-/// With any deadlines.
-const RANDOM: [Entry<Calls>; 4] = [
-    (
-        "Timers: StableSortedList",
-        Calls::List,
-        "a timer, due at any time",
-    ),
-    (
-        "Timers: StableHeap",
-        Calls::Heap,
-        "a timer, due at any time",
-    ),
-    ("Timers: BTreeMap", Calls::Map, "a timer, due at any time"),
-    (
-        "Timers: BinaryHeap",
-        Calls::BinaryHeap,
-        "a timer, due at any time",
-    ),
+/// With any deadlines, so few that a list can walk to each.
+const RANDOM_FEW: [Entry<Calls>; 5] = [
+    ("Timers: StableSortedList", Calls::List, ANY),
+    ("Timers: StableHeap", Calls::Heap, ANY),
+    ("Timers: ClockQueue", Calls::Clock, ANY),
+    ("Timers: BTreeMap", Calls::Map, ANY),
+    ("Timers: BinaryHeap", Calls::BinaryHeap, ANY),
 ];
+
+/// With any deadlines. A list would take seconds.
+const RANDOM_MANY: [Entry<Calls>; 4] = [
+    ("Timers: StableHeap", Calls::Heap, ANY),
+    ("Timers: ClockQueue", Calls::Clock, ANY),
+    ("Timers: BTreeMap", Calls::Map, ANY),
+    ("Timers: BinaryHeap", Calls::BinaryHeap, ANY),
+];
+
+/// How many timers with any deadlines are measured in a list.
+const FEW: usize = 1_000;
+
+impl Deadlines {
+    /// What so many timers with these deadlines are measured in.
+    fn kinds(self, count: usize) -> &'static [Entry<Calls>] {
+        match self {
+            Deadlines::Timeouts => &RISING,
+            Deadlines::Random if count <= FEW => &RANDOM_FEW,
+            Deadlines::Random => &RANDOM_MANY,
+        }
+    }
+}
 
 /// Timers to start, and the collections that they go into.
 #[derive(Drop)]
@@ -272,6 +294,7 @@ struct Planned {
     plan: Plan,
     list: WithSpots<Numbered>,
     heap: WithSpots<NumberedHeap>,
+    clock: WithSpots<NumberedClock>,
     map: BTreeMap<Item, ()>,
     binary_heap: InHeap,
     /// A number over the timers that came out last.
@@ -285,6 +308,7 @@ impl Bench<Calls> for Planned {
         let ran = match calls {
             Calls::List => planned.plan.run(rt, &mut planned.list),
             Calls::Heap => planned.plan.run(rt, &mut planned.heap),
+            Calls::Clock => planned.plan.run(rt, &mut planned.clock),
             Calls::Map => planned.plan.run(rt, &mut planned.map),
             Calls::BinaryHeap => planned.plan.run(rt, &mut planned.binary_heap),
         };
@@ -310,27 +334,23 @@ fn show<R: Clock + Print>(
         plan: Plan::new(alloc, count, deadlines)?,
         list: WithSpots::new(alloc, count)?,
         heap: WithSpots::new(alloc, count)?,
+        clock: WithSpots::new(alloc, count)?,
         map: BTreeMap::new(alloc),
         binary_heap: InHeap::new(alloc, count)?,
         seen: 0,
     };
-    let kinds = match deadlines {
-        Deadlines::Timeouts => &RISING,
-        Deadlines::Random => &RANDOM,
-    };
-    table.tenth().measure(rt, planned, count, kinds)
+    table.measure(rt, planned, count, deadlines.kinds(count))
 }
 
-/// Measures so many timers with deadlines that mostly rise, and so few with any, and shows them. Returns a number over
+/// Measures so many timers with deadlines that mostly rise, and as many with any, and shows them. Returns a number over
 /// those that came out last.
 pub fn show_timers<R: Clock + Print>(
     rt: &R,
     alloc: Global,
     table: Table,
-    many: usize,
-    few: usize,
+    count: usize,
 ) -> Result<u64, Fault> {
-    let rising = show(rt, alloc, table, many, Deadlines::Timeouts)?;
-    let random = show(rt, alloc, table, few, Deadlines::Random)?;
+    let rising = show(rt, alloc, table, count, Deadlines::Timeouts)?;
+    let random = show(rt, alloc, table, count, Deadlines::Random)?;
     Ok(rising.wrapping_add(random))
 }

@@ -1,6 +1,6 @@
 //! Collections at which threads meet: one takes what one to four others put in.
 
-use crate::seats::{At, AtConsumer, AtQueue, AtStack, Channel};
+use crate::seats::{At, AtBatches, AtConsumer, AtQueue, AtStack, Channel};
 use crate::threads::{Plan, measure};
 use cordyceps_queue::mpsc_queue::MpscQueue;
 use cordyceps_speed_rows::cost::Cost;
@@ -8,7 +8,7 @@ use cordyceps_speed_rows::fault::Fault;
 use cordyceps_speed_rows::stacks::StackNode;
 use cordyceps_speed_rows::table::Table;
 use cordyceps_speed_rows::vectors::{push, with_room};
-use cordyceps_stack::stack::{MAX_ROOMS, TransferStack};
+use cordyceps_stack::stack::{MAX_ROOMS, Stack, TransferStack};
 use crossbeam_channel::unbounded;
 use crossbeam_queue::SegQueue;
 use std::alloc::Global;
@@ -23,7 +23,7 @@ const ELEMENTS: usize = 200_000;
 /// How many rooms a thread has where they come back.
 const ROOMS: usize = 256;
 
-/// How many of them come back at once.
+/// How many rooms the taker has when it gives them back.
 const QUARTER: usize = 64;
 
 /// Where each element has a room of its own.
@@ -59,6 +59,25 @@ fn at_stack<R: Threads + Wait + Clock + Sync>(
     };
     let stack = &stack;
     measure(rt, alloc, plan, AtStack { stack, party })
+}
+
+/// Measures a transfer stack to which batches are pushed.
+fn at_batches<R: Threads + Wait + Clock + Sync>(
+    rt: &R,
+    alloc: Global,
+    plan: Plan,
+) -> Result<Duration, Fault> {
+    let rooms = plan.all_rooms().min(MAX_ROOMS);
+    let Ok((stack, party)) = TransferStack::new(alloc, rooms) else {
+        return Err(Fault::Memory);
+    };
+    let stack = &stack;
+    let seat = AtBatches {
+        at: AtStack { stack, party },
+        batch: Stack::new(),
+        waiting: 0,
+    };
+    measure(rt, alloc, plan, seat)
 }
 
 /// Measures a queue.
@@ -140,11 +159,13 @@ fn at_channel<R: Threads + Wait + Clock + Sync>(
 pub enum Meeting {
     /// A transfer stack with a room for each element.
     Stack,
-    /// A transfer stack whose rooms come back.
+    /// A transfer stack whose rooms come back by its pool.
     StackBack,
+    /// A transfer stack with a room for each element, to which 64 are pushed at one step.
+    StackBatches,
     /// A queue with a room for each element.
     Queue,
-    /// A queue whose rooms come back.
+    /// A queue whose rooms come back by its pool.
     QueueBack,
     /// A queue with a room for each element, whose taker keeps the right to dequeue.
     Consumer,
@@ -164,6 +185,7 @@ impl Meeting {
         match self {
             Meeting::Stack => "TransferStack, fresh rooms",
             Meeting::StackBack => "TransferStack, rooms that come back",
+            Meeting::StackBatches => "TransferStack, batches of 64",
             Meeting::Queue => "MpscQueue, fresh rooms",
             Meeting::QueueBack => "MpscQueue, rooms that come back",
             Meeting::Consumer => "MpscQueue, the right in hand",
@@ -185,6 +207,7 @@ impl Meeting {
         match self {
             Meeting::Stack => at_stack(rt, alloc, plan),
             Meeting::StackBack => at_stack(rt, alloc, coming_back(producers)),
+            Meeting::StackBatches => at_batches(rt, alloc, plan),
             Meeting::Queue => at_queue(rt, alloc, plan),
             Meeting::QueueBack => at_queue(rt, alloc, coming_back(producers)),
             Meeting::Consumer => at_consumer(rt, alloc, plan),
@@ -197,9 +220,10 @@ impl Meeting {
 }
 
 /// The collections, in the order of their rows.
-const MEETINGS: [Meeting; 9] = [
+const MEETINGS: [Meeting; 10] = [
     Meeting::Stack,
     Meeting::StackBack,
+    Meeting::StackBatches,
     Meeting::Queue,
     Meeting::QueueBack,
     Meeting::Consumer,

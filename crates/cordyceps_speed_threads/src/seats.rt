@@ -1,5 +1,5 @@
 //! The collections at which threads meet: the library's two, and others beside them.
-ghost use Rattle.std.specs.Prelude.{◌≡◌};
+ghost use Rattle.std.specs.Prelude.{◌≡◌, length};
 
 use crate::threads::Seat;
 use cordyceps_commands::Item;
@@ -7,11 +7,15 @@ use cordyceps_queue::mpsc_queue;
 use cordyceps_queue::mpsc_queue::{Consumer, MpscQueue};
 use cordyceps_speed_rows::stacks::StackNode;
 use cordyceps_stack::stack;
-use cordyceps_stack::stack::TransferStack;
+use cordyceps_stack::stack::{Stack, TransferStack};
 use crossbeam_channel::{Receiver, Sender};
 use crossbeam_queue::SegQueue;
 use std::collections::VecDeque;
+use std::mem;
 use std::sync::{Mutex, Wait};
+
+/// How many elements are pushed at one step.
+const BATCH: usize = 64;
 
 /// A party at its stack.
 #[derive(Drop)]
@@ -22,10 +26,6 @@ pub struct AtStack<'a> {
 }
 
 impl<'a> Seat for AtStack<'a> {
-    fn rooms(&self) -> usize {
-        self.party.rooms()
-    }
-
     fn split(&mut self, rooms: usize) -> AtStack<'a> {
         let rooms = rooms.min(self.party.rooms());
         let party = self.stack.split(&mut self.party, rooms);
@@ -39,16 +39,73 @@ impl<'a> Seat for AtStack<'a> {
         self
     }
 
-    fn put<R: Wait>(&mut self, rt: &R, element: StackNode) {
-        if self.party.rooms() > 0 {
-            self.stack.push(rt, &mut self.party, element);
+    fn put<R: Wait>(&mut self, rt: &R, element: StackNode) -> Result<(), StackNode> {
+        if self.party.rooms() == 0 && self.stack.refill(&mut self.party) == 0 {
+            return Err(element);
         }
+        self.stack.push(rt, &mut self.party, element);
+        Ok(())
     }
 
     fn take<R: Wait>(&mut self, _rt: &R, taken: &mut Vec<StackNode>) {
         for node in self.stack.take_all(&mut self.party) {
             drop(taken.push(node));
         }
+    }
+
+    fn give_back(&mut self, least: usize) {
+        let rooms = self.party.rooms();
+        if rooms >= least {
+            self.stack.give_back(&mut self.party, rooms);
+        }
+    }
+}
+
+/// A party at its stack, and elements that it pushes at one step.
+#[derive(Drop)]
+pub struct AtBatches<'a> {
+    pub at: AtStack<'a>,
+    pub batch: Stack<Item>,
+    pub waiting: usize,
+    ghost counted: { length batch ≡ waiting },
+}
+
+impl<'a> Seat for AtBatches<'a> {
+    fn split(&mut self, rooms: usize) -> AtBatches<'a> {
+        AtBatches {
+            at: self.at.split(rooms),
+            batch: Stack::new(),
+            waiting: 0,
+        }
+    }
+
+    fn for_taker(self) -> AtBatches<'a> {
+        self
+    }
+
+    fn put<R: Wait>(&mut self, rt: &R, element: StackNode) -> Result<(), StackNode> {
+        if self.waiting >= self.at.party.rooms() {
+            return Err(element);
+        }
+        self.batch.push(element);
+        self.waiting += 1;
+        if self.waiting == BATCH {
+            self.flush(rt);
+        }
+        Ok(())
+    }
+
+    fn flush<R: Wait>(&mut self, rt: &R) {
+        let at = &mut self.at;
+        if self.waiting <= at.party.rooms() {
+            let batch = mem::replace(&mut self.batch, Stack::new());
+            self.waiting = 0;
+            at.stack.push_all(rt, &mut at.party, batch);
+        }
+    }
+
+    fn take<R: Wait>(&mut self, rt: &R, taken: &mut Vec<StackNode>) {
+        self.at.take(rt, taken);
     }
 }
 
@@ -61,10 +118,6 @@ pub struct AtQueue<'a> {
 }
 
 impl<'a> Seat for AtQueue<'a> {
-    fn rooms(&self) -> usize {
-        self.party.rooms()
-    }
-
     fn split(&mut self, rooms: usize) -> AtQueue<'a> {
         let rooms = rooms.min(self.party.rooms());
         let party = self.queue.split(&mut self.party, rooms);
@@ -78,15 +131,23 @@ impl<'a> Seat for AtQueue<'a> {
         self
     }
 
-    fn put<R: Wait>(&mut self, _rt: &R, element: StackNode) {
-        if self.party.rooms() > 0 {
-            self.queue.enqueue(&mut self.party, element.into_kind());
+    fn put<R: Wait>(&mut self, _rt: &R, element: StackNode) -> Result<(), StackNode> {
+        match self.queue.try_enqueue(&mut self.party, element.into_kind()) {
+            Ok(()) => Ok(()),
+            Err(back) => Err(back.into_kind()),
         }
     }
 
     fn take<R: Wait>(&mut self, _rt: &R, taken: &mut Vec<StackNode>) {
         if let Ok(node) = self.queue.try_dequeue(&mut self.party) {
             drop(taken.push(node.into_kind()));
+        }
+    }
+
+    fn give_back(&mut self, least: usize) {
+        let rooms = self.party.rooms();
+        if rooms >= least {
+            self.queue.give_back(&mut self.party, rooms);
         }
     }
 }
@@ -99,10 +160,6 @@ pub struct AtConsumer<'a> {
 }
 
 impl<'a> Seat for AtConsumer<'a> {
-    fn rooms(&self) -> usize {
-        self.at.rooms()
-    }
-
     fn split(&mut self, rooms: usize) -> AtConsumer<'a> {
         AtConsumer {
             at: self.at.split(rooms),
@@ -118,8 +175,8 @@ impl<'a> Seat for AtConsumer<'a> {
         }
     }
 
-    fn put<R: Wait>(&mut self, rt: &R, element: StackNode) {
-        self.at.put(rt, element);
+    fn put<R: Wait>(&mut self, rt: &R, element: StackNode) -> Result<(), StackNode> {
+        self.at.put(rt, element)
     }
 
     fn take<R: Wait>(&mut self, rt: &R, taken: &mut Vec<StackNode>) {
@@ -156,8 +213,9 @@ impl<'a, C: Shared> Seat for At<'a, C> {
         self
     }
 
-    fn put<R: Wait>(&mut self, rt: &R, element: StackNode) {
+    fn put<R: Wait>(&mut self, rt: &R, element: StackNode) -> Result<(), StackNode> {
         self.0.put(rt, element);
+        Ok(())
     }
 
     fn take<R: Wait>(&mut self, rt: &R, taken: &mut Vec<StackNode>) {

@@ -5,7 +5,6 @@ use cordyceps_speed_rows::nodes::make_nodes;
 use cordyceps_speed_rows::stacks::StackNode;
 use cordyceps_speed_rows::stopwatch::Stopwatch;
 use cordyceps_speed_rows::vectors::{push, with_room};
-use crossbeam_queue::ArrayQueue;
 use std::alloc::Global;
 use std::sync::Wait;
 use std::sync::atomic::{AtomicU64, Ordering};
@@ -15,22 +14,23 @@ use std::time::{Clock, Duration};
 
 /// The place of a thread at a collection.
 pub trait Seat {
-    /// How many elements it can put in. What has no rooms can always put one in.
-    fn rooms(&self) -> usize {
-        usize::MAX
-    }
-
     /// A place for another thread, with so many of the rooms, or all where there are fewer.
     fn split(&mut self, rooms: usize) -> Self;
 
     /// The same place for the thread that takes out, which may keep the right to do so.
     fn for_taker(self) -> Self;
 
-    /// Puts an element in, where there is a room.
-    fn put<R: Wait>(&mut self, rt: &R, element: StackNode);
+    /// Puts an element in. It comes back where there is no room. What has no rooms can always put one in.
+    fn put<R: Wait>(&mut self, rt: &R, element: StackNode) -> Result<(), StackNode>;
+
+    /// Puts in what waits here for more.
+    fn flush<R: Wait>(&mut self, _rt: &R) {}
 
     /// Takes out what one try gives, and puts it after the others.
     fn take<R: Wait>(&mut self, rt: &R, taken: &mut Vec<StackNode>);
+
+    /// Gives all rooms to those that have none, if they are so many at least.
+    fn give_back(&mut self, _least: usize) {}
 }
 
 /// How many threads put elements in, and how many each.
@@ -40,7 +40,7 @@ pub struct Plan {
     pub each: usize,
     /// How many rooms each of them begins with.
     pub rooms: usize,
-    /// How many rooms go back to them at once, of those that the taker has. 0 where none do.
+    /// How many rooms the taker has when it gives them back. 0 where it never does.
     pub returned: usize,
 }
 
@@ -78,17 +78,15 @@ impl Start {
 
 /// What a thread has to do at its seat.
 #[derive(Drop)]
-struct Job<'q, S> {
+struct Job<S> {
     seat: S,
-    /// Where seats with rooms wait for those that have none left.
-    rooms: &'q ArrayQueue<S>,
     elements: Vec<StackNode>,
     /// How many elements it takes out. 0 where it puts in.
     takes: usize,
     returned: usize,
 }
 
-impl<'q, S: Seat + Drop> Job<'q, S> {
+impl<S: Seat + Drop> Job<S> {
     /// Puts all of the elements in, the last first, or takes elements out. Returns how long it took since all began.
     fn run<R: Wait + Clock>(mut self, rt: &R, start: &Start) -> Duration {
         start.meet(rt);
@@ -104,11 +102,9 @@ impl<'q, S: Seat + Drop> Job<'q, S> {
     /// Puts all of the elements in, the last first.
     fn put_all<R: Wait>(&mut self, rt: &R) {
         while let Some(element) = self.elements.pop() {
-            if self.seat.rooms() == 0 {
-                self.seat = next_seat(rt, self.rooms);
-            }
-            self.seat.put(rt, element);
+            put(rt, &mut self.seat, element);
         }
+        self.seat.flush(rt);
     }
 
     /// Takes elements out until all are out. Their rooms go back meanwhile.
@@ -118,42 +114,34 @@ impl<'q, S: Seat + Drop> Job<'q, S> {
                 return;
             }
             self.seat.take(rt, &mut self.elements);
-            if self.returned > 0 && self.seat.rooms() >= self.returned && !self.rooms.is_full() {
-                let seat = self.seat.split(self.returned);
-                drop(self.rooms.push(rt, seat));
+            if self.returned > 0 {
+                self.seat.give_back(self.returned);
             }
         }
         unreachable!()
     }
 }
 
-/// Waits for a seat with rooms. Other threads go first meanwhile.
-fn next_seat<S: Drop, R: Wait>(rt: &R, rooms: &ArrayQueue<S>) -> S {
+/// Puts an element in. While there is no room other threads go first.
+fn put<S: Seat, R: Wait>(rt: &R, seat: &mut S, element: StackNode) {
+    let mut element = element;
     for _ in rt.forever() {
-        if let Some(seat) = rooms.pop(rt) {
-            return seat;
+        match seat.put(rt, element) {
+            Ok(()) => return,
+            Err(back) => element = back,
         }
         thread::yield_now();
     }
     unreachable!()
 }
 
-/// How many seats can wait for those that have no rooms left.
-const WAITING: usize = 16;
-
 /// The jobs of those that put elements in, and of the one that takes them out.
-fn jobs<'q, S: Seat + Drop>(
-    alloc: Global,
-    plan: Plan,
-    mut seat: S,
-    rooms: &'q ArrayQueue<S>,
-) -> Result<Vec<Job<'q, S>>, Fault> {
+fn jobs<S: Seat + Drop>(alloc: Global, plan: Plan, mut seat: S) -> Result<Vec<Job<S>>, Fault> {
     let mut jobs = with_room(alloc, plan.producers.saturating_add(1))?;
     for _ in 0..plan.producers {
         let elements = make_nodes(alloc, plan.each)?;
         let job = Job {
             seat: seat.split(plan.rooms),
-            rooms,
             elements,
             takes: 0,
             returned: 0,
@@ -163,7 +151,6 @@ fn jobs<'q, S: Seat + Drop>(
     let elements = with_room(alloc, plan.count())?;
     let job = Job {
         seat: seat.for_taker(),
-        rooms,
         elements,
         takes: plan.count(),
         returned: plan.returned,
@@ -174,7 +161,7 @@ fn jobs<'q, S: Seat + Drop>(
 
 /// Runs each job on a thread of its own. Returns the longest time that one took. Where a thread cannot be made the
 /// others wait for it forever.
-fn run_all<S, R>(rt: &R, jobs: Vec<Job<'_, S>>) -> Result<Duration, Fault>
+fn run_all<S, R>(rt: &R, jobs: Vec<Job<S>>) -> Result<Duration, Fault>
 where
     S: Seat + Send + Drop,
     R: Threads + Wait + Clock + Sync,
@@ -184,7 +171,7 @@ where
         threads: jobs.len() as u64,
     };
     let begin = &start;
-    let Ok(times) = thread::map_vec(rt, jobs, &|job: Job<'_, S>| job.run(rt, begin)) else {
+    let Ok(times) = thread::map_vec(rt, jobs, &|job: Job<S>| job.run(rt, begin)) else {
         return Err(Fault::Memory);
     };
     let mut longest = Duration::ZERO;
@@ -201,8 +188,5 @@ where
     S: Seat + Send + Drop,
     R: Threads + Wait + Clock + Sync,
 {
-    let Ok(rooms) = ArrayQueue::new(alloc, WAITING) else {
-        return Err(Fault::Memory);
-    };
-    run_all(rt, jobs(alloc, plan, seat, &rooms)?)
+    run_all(rt, jobs(alloc, plan, seat)?)
 }
