@@ -25,8 +25,8 @@ use cordyceps_stable::stable_list::{Spot, StableList};
 use std::marker::Model;
 
 /// A priority queue of owned nodes that are due at times. A push returns a spot, which reaches the element while it is
-/// in the queue. A contract sees the elements with their spots, the function that returns their times, and the clock. It
-/// also says in which order the elements were pushed.
+/// in the queue. A contract sees the elements with their spots, the function that returns their times, and the clock.
+/// It also says in which order the elements were pushed.
 ///
 /// The element that is due first comes out first, and of those that are due at the same time the one that was pushed
 /// first. The clock is the latest of the times of the elements that came out and of those at which `pop_due` found none
@@ -151,8 +151,8 @@ impl<T: Linked<Links<T>>, O: Times<T>> ClockQueue<T, O> {
     /// below `usize::MAX`.
     ///
     /// # Errors
-    /// If the element was due before the clock, or at a length of `usize::MAX`, the handle is returned, and the queue is
-    /// unchanged.
+    /// If the element was due before the clock, or at a length of `usize::MAX`, the handle is returned, and the queue
+    /// is unchanged.
     ///
     /// # Complexity
     /// That of `push`.
@@ -272,8 +272,8 @@ impl<T: Linked<Links<T>>, O: Times<T>> ClockQueue<T, O> {
     /// `None` the clock becomes `now`, unless it is later already.
     ///
     /// # Complexity
-    /// O(1) amortized, also where no element is due: over its time in the queue an element is moved at most 64 times. At
-    /// worst O(n), for n elements.
+    /// O(1) amortized, also where no element is due: over its time in the queue an element is moved at most 64 times.
+    /// At worst O(n), for n elements.
     pub fn pop_due(&mut self, now: u64) -> Option<T::Handle>
         requires callable { O.can_compute self.old.time }
         ensures due { MatchOption result
@@ -281,7 +281,9 @@ impl<T: Linked<Links<T>>, O: Times<T>> ClockQueue<T, O> {
             × ((of : T → ℕ)
             → O.computes_by self.old.time of
             → AreLater of now self.new.nodes
-            × ((a : Nodes T) → Holds (by_key nat_cmp of) self.old.nodes a → Holds (by_key nat_cmp of) self.new.nodes a)))
+            × ((a : Nodes T)
+            → Holds (by_key nat_cmp of) self.old.nodes a
+            → Holds (by_key nat_cmp of) self.new.nodes a)))
             (λ h. (spot : Ptr) × ((of : T → ℕ)
             → O.computes_by self.old.time of
             → (self.new.clock ≡ of (T.element h).value) × (of (T.element h).value ≤ now)

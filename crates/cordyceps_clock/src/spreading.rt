@@ -18,8 +18,8 @@ use cordyceps_base::linked::Linked;
 use cordyceps_list::list::Links;
 use cordyceps_stable::stable_list::{Spot, StableList};
 
-/// The least time of the first bucket of a list, where the first element of that time is, and the number of the bucket's
-/// elements.
+/// The least time of the first bucket of a list, where the first element of that time is, and the number of the
+/// bucket's elements.
 pub(crate) struct First {
     pub(crate) least: u64,
     pub(crate) at: Spot,
@@ -52,8 +52,8 @@ fn with_next(first: First, at: Spot, due: u64) -> First
     }
 }
 
-/// Returns the least time of the bucket `k`, which comes first in the list, where the first element of that time is, and
-/// the number of the bucket's elements. The first element is at `at`.
+/// Returns the least time of the bucket `k`, which comes first in the list, where the first element of that time is,
+/// and the number of the bucket's elements. The first element is at `at`.
 ///
 /// # Complexity
 /// O(n), for n elements of the bucket.

@@ -1,13 +1,14 @@
--- A map that finds elements of a heap does so after each call, where it is updated.
+-- A map that finds elements of a heap or a queue does so after each call, where it is updated.
 use Rattle.std.proofs.Common.{◌≡◌, ℕ, true, false, [], ◌∷◌, ◌++◌, cond, Option, Some, None, eqb, refl, sym, ap, ◌∙◌, subst, ◌⊎◌, inl, inr}
 use Rattle.std.proofs.lemmas.Bool.{eqb-true, eqb-false}
 use Rattle.std.specs.List.Sorted.{IsPermutation}
+use Rattle.std.proofs.lemmas.List.Sorted.{IsPermutation-sym}
 use denote.RawPtr.{Ptr}
 use Rattle.cordyceps_base.specs.BySpot.{HasSpot, IsTaken}
 use Rattle.cordyceps_base.specs.Element.{Element}
 use Rattle.cordyceps_base.specs.Nodes.{Nodes}
 use Rattle.cordyceps_stable.specs.Agreeing.{HasElementAt, IsUpdated}
-use Rattle.cordyceps_stable.proofs.Holding.{spot_is_at, taken_or_left, front_is_at}
+use Rattle.cordyceps_stable.proofs.Holding.{spot_is_at, taken_or_left, left_is_at, front_is_at}
 use Rattle.cordyceps_heap.proofs.Kept.{permuted_is_at}
 use Rattle.test_stable_lists.specs.Finding.{Finds}
 
@@ -63,3 +64,17 @@ module _ {X : Type 0} where
     | inl is ↦ (o, same ∙ sym (ap (λ (y : Element X). y.id) is.1) ∙ key, subst (λ s. HasElementAt d s o) (sym is.0) (permuted_is_at (rest ++ (p, o) ∷ []) d p o kept (rest, [], refl)))
     | inr on ↦ (x, key, permuted_is_at (rest ++ (p, o) ∷ []) d q x kept (front_is_at rest ((p, o) ∷ []) q x on))
   ]
+
+  pub finds_put : (f g : ℕ → Option Ptr) (c d : Nodes X) (k : ℕ) (p : Ptr) (e : Element X) → Finds f c → e.id ≡ k → IsUpdated f k (Some p) g → IsTaken d p e c → Finds g d
+  finds_put f g c d k p e was same up (low, high, is, left) n q at = elim (either_way f g k (Some p) up n) as (λ _. (o : Element X) × (o.id ≡ n) × HasElementAt d q o) [
+    | inl here ↦ let spot : p ≡ q = ap (spot_of p) (sym here.1 ∙ at) in (e, same ∙ sym here.0, subst (λ s. HasElementAt d s e) spot (low, high, is))
+    | inr other ↦ let (o, key, lies) = was n q (sym other.1 ∙ at) in (o, key, left_is_at d c p q e o (low, high, is, left) lies)
+  ]
+
+  -- where the order of the nodes has no meaning
+  pub finds_permuted : (f : ℕ → Option Ptr) (c d : Nodes X) → Finds f c → IsPermutation c d → Finds f d
+  finds_permuted f c d was kept k p at = let (e, key, lies) = was k p at in (e, key, permuted_is_at c d p e kept lies)
+
+  pub finds_popped : (f g : ℕ → Option Ptr) (c d : Nodes X) (p : Ptr) (e : Element X) → Finds f c → IsUpdated f e.id None g → IsPermutation ((p, e) ∷ d) c → Finds g d
+  finds_popped f g c d p e was up kept =
+      finds_taken f g ((p, e) ∷ d) d p e (finds_permuted f c ((p, e) ∷ d) was (IsPermutation-sym ((p, e) ∷ d) c kept)) up ([], d, refl, refl)

@@ -1,4 +1,4 @@
-//! How often a sorted list with spots, a heap and a sort ask their order, which counts in a cell.
+//! How often a sorted list with spots, a heap, a sort and a merge ask their order, which counts in a cell.
 ghost use Rattle.std.specs.Prelude.{◌≡◌, refl, ⊤};
 ghost use Rattle.std.specs.Ordering.{nat_cmp};
 ghost use Rattle.std.proofs.Common.{subst, sym};
@@ -9,9 +9,9 @@ use crate::compared::{at_most, made, same};
 use crate::heap_calls::push_all;
 use crate::keys::{Key, Pair, make, spot_at};
 use crate::sorted_calls::{LONGEST, change, insert_all};
-use crate::sorting::drawn;
+use crate::sorting::{drawn, listed};
 use cordyceps_base::steps::Steps;
-use cordyceps_heap::sorting::sort_with_order;
+use cordyceps_heap::sorting::{merge_with_order, sort_with_order};
 use cordyceps_heap::stable_heap::StableHeap;
 use cordyceps_single::sorted_list::Order;
 use cordyceps_stable::stable_sorted_list::StableSortedList;
@@ -239,4 +239,30 @@ fn a_sort_asks_at_most_n_log_n_times(rt: HostRuntime) {
     sort_with_order(&mut list, &order);
     // the base 2 logarithm of 1,000 is between 9.965 and 9.966
     same(&rt, asked.get() <= 9965, true);
+}
+
+/// Sorted lists, others, and how often a merge of both asks the order.
+const MERGES: &[(&[Pair], &[Pair], u64)] = &[
+    (&[], &[(1, 1)], 0),
+    (&[(1, 1)], &[], 0),
+    (&[(1, 1), (2, 2), (3, 3)], &[(4, 4), (5, 5)], 3),
+    (&[(1, 4), (2, 5)], &[(3, 1), (4, 2), (5, 3)], 3),
+    // once for each element but one
+    (&[(1, 1), (2, 3), (3, 5)], &[(4, 2), (5, 4), (6, 6)], 5),
+];
+
+#[test]
+fn a_merge_asks_at_most_once_for_each_element_but_one(rt: HostRuntime) {
+    let (order, asked) = not_asked(&rt, rt.alloc());
+    for (pairs, more, wanted) in MERGES {
+        let mut list = listed(&rt, rt.alloc(), pairs);
+        let mut other = listed(&rt, rt.alloc(), more);
+        sort_with_order(&mut list, &order);
+        sort_with_order(&mut other, &order);
+        asked.set(0);
+        at_most(&rt, list.len(), LONGEST);
+        at_most(&rt, other.len(), LONGEST);
+        merge_with_order(&mut list, &mut other, &order);
+        same(&rt, asked.get(), *wanted);
+    }
 }

@@ -17,6 +17,9 @@ enum Call {
     /// Pushes an element, reads its time by the spot that came back, and removes it by that spot.
     PushAndRemove(Pair),
     PopFront,
+    PopDue(u64),
+    /// Reads the time of the element that is due first.
+    Front,
 }
 
 /// What a call replies.
@@ -26,11 +29,13 @@ enum Reply {
     Out(Option<Pair>),
     /// This time was read, and then this element came out.
     Removed(u64, Option<Pair>),
+    /// This time was read, or there is none.
+    Time(Option<u64>),
 }
 
 /// The times of elements: their values.
 #[derive(Drop)]
-struct ByValue;
+pub struct ByValue;
 
 impl Times<Key> for ByValue {
     ghost use Rattle.test_stable_lists.specs.declared.keys.Key.{Key};
@@ -71,6 +76,12 @@ fn push_and_remove(queue: &mut ClockQueue<Key, ByValue>, node: Handle) -> Reply 
     }
 }
 
+/// Returns the time of the element that is due first.
+fn first_time(queue: &ClockQueue<Key, ByValue>) -> Option<u64> {
+    let spot = queue.front()?;
+    Some(queue.get(spot).value)
+}
+
 /// Makes a call, and returns its reply.
 fn make_call(
     rt: &impl Abort,
@@ -85,6 +96,8 @@ fn make_call(
         },
         Call::PushAndRemove(pair) => push_and_remove(queue, make(rt, alloc, *pair)),
         Call::PopFront => Reply::Out(parts(queue.pop_front())),
+        Call::PopDue(now) => Reply::Out(parts(queue.pop_due(*now))),
+        Call::Front => Reply::Time(first_time(queue)),
     }
 }
 
@@ -152,15 +165,62 @@ const CALLS: &[(Call, Reply, usize, u64)] = &[
     (Call::PopFront, Reply::Out(None), 0, u64::MAX),
 ];
 
+/// Calls of a queue that pop what is due by a time. The queue is empty at first.
+const POPS: &[(Call, Reply, usize, u64)] = &[
+    // an empty queue, whose clock moves, and a time before the clock
+    (Call::Front, Reply::Time(None), 0, 0),
+    (Call::PopDue(2), Reply::Out(None), 0, 2),
+    (Call::PopDue(1), Reply::Out(None), 0, 2),
+    (Call::TryPush((1, 1)), Reply::Out(Some((1, 1))), 0, 2),
+    (Call::TryPush((2, 9)), Reply::Out(None), 1, 2),
+    (Call::TryPush((3, 6)), Reply::Out(None), 2, 2),
+    (Call::TryPush((4, 9)), Reply::Out(None), 3, 2),
+    (Call::TryPush((5, 2)), Reply::Out(None), 4, 2),
+    // an element is due, at the clock
+    (Call::PopDue(1), Reply::Out(None), 4, 2),
+    (Call::PopDue(2), Reply::Out(Some((5, 2))), 3, 2),
+    (Call::PopDue(2), Reply::Out(None), 3, 2),
+    (Call::Front, Reply::Time(Some(6)), 3, 2),
+    // none is due, and the clock moves: by its lowest bit, and then into the bucket of the first element
+    (Call::PopDue(3), Reply::Out(None), 3, 3),
+    (Call::PopDue(5), Reply::Out(None), 3, 5),
+    // an element is due before the time
+    (Call::PopDue(7), Reply::Out(Some((3, 6))), 2, 6),
+    (Call::PopDue(7), Reply::Out(None), 2, 7),
+    (Call::TryPush((6, 7)), Reply::Out(None), 3, 7),
+    (Call::PopDue(8), Reply::Out(Some((6, 7))), 2, 7),
+    // equals by arrival
+    (Call::PopDue(100), Reply::Out(Some((2, 9))), 1, 9),
+    (Call::TryPush((7, 9)), Reply::Out(None), 2, 9),
+    (Call::PopDue(9), Reply::Out(Some((4, 9))), 1, 9),
+    (Call::PopDue(u64::MAX), Reply::Out(Some((7, 9))), 0, 9),
+    // the last time of all
+    (Call::PopDue(u64::MAX), Reply::Out(None), 0, u64::MAX),
+    (Call::TryPush((8, u64::MAX)), Reply::Out(None), 1, u64::MAX),
+    (Call::PopDue(0), Reply::Out(None), 1, u64::MAX),
+    (
+        Call::PopDue(u64::MAX),
+        Reply::Out(Some((8, u64::MAX))),
+        0,
+        u64::MAX,
+    ),
+];
+
+/// Makes calls of a queue that is empty at first, and asserts what they reply.
+fn replies(rt: &impl Abort, alloc: Global, calls: &[(Call, Reply, usize, u64)]) {
+    let mut queue: ClockQueue<Key, ByValue> = ClockQueue::new_with_times(ByValue);
+    same(rt, (queue.len(), queue.now()), (0, 0));
+    for (call, reply, len, now) in calls {
+        same(rt, make_call(rt, alloc, &mut queue, call), *reply);
+        same(rt, (queue.len(), queue.now()), (*len, *now));
+        same(rt, queue.is_empty(), *len == 0);
+    }
+}
+
 #[test]
 fn each_call_of_a_queue_of_times_replies(rt: HostRuntime) {
-    let mut queue: ClockQueue<Key, ByValue> = ClockQueue::new_with_times(ByValue);
-    same(&rt, (queue.len(), queue.now()), (0, 0));
-    for (call, reply, len, now) in CALLS {
-        same(&rt, make_call(&rt, rt.alloc(), &mut queue, call), *reply);
-        same(&rt, (queue.len(), queue.now()), (*len, *now));
-        same(&rt, queue.is_empty(), *len == 0);
-    }
+    replies(&rt, rt.alloc(), CALLS);
+    replies(&rt, rt.alloc(), POPS);
 }
 
 #[test]

@@ -5,6 +5,10 @@
 #[cfg(test)]
 mod asked;
 #[cfg(test)]
+mod clock_calls;
+#[cfg(test)]
+mod clock_operations;
+#[cfg(test)]
 mod clock_queues;
 #[cfg(test)]
 mod compared;

@@ -1,11 +1,14 @@
-//! Sorts of lists, by each kind of order, and lists of what a heap holds.
+//! Sorts and merges of lists, by each kind of order, and lists of what a heap holds.
 use crate::compared::{at_most, made, same};
 use crate::heap_calls::push_all;
 use crate::keys::{Key, Pair, make, parts};
 use crate::sorted_lists::{by_tens, tens_of};
-use cordyceps_heap::sorting::{sort, sort_by, sort_by_key, sort_with_order};
+use cordyceps_base::linked::Linked;
+use cordyceps_heap::sorting::{
+    merge, merge_with_order, sort, sort_by, sort_by_key, sort_with_order,
+};
 use cordyceps_heap::stable_heap::StableHeap;
-use cordyceps_list::list::List;
+use cordyceps_list::list::{Links, List};
 use cordyceps_single::sorted_list::Greatest;
 use std::alloc::Global;
 use std::process::Abort;
@@ -30,6 +33,22 @@ const LISTS: &[(&[Pair], &[Pair])] = &[
     (
         &[(1, 5), (2, 3), (3, 5), (4, 1), (5, 3)],
         &[(4, 1), (2, 3), (5, 3), (1, 5), (3, 5)],
+    ),
+];
+
+/// Sorted lists, others, and what both are once they are merged.
+const MERGES: &[(&[Pair], &[Pair], &[Pair])] = &[
+    (&[], &[], &[]),
+    (&[(1, 7)], &[], &[(1, 7)]),
+    (&[], &[(1, 7)], &[(1, 7)]),
+    // one list after the other
+    (&[(1, 2), (2, 3)], &[(3, 4)], &[(1, 2), (2, 3), (3, 4)]),
+    (&[(1, 4)], &[(2, 2), (3, 3)], &[(2, 2), (3, 3), (1, 4)]),
+    // equals of the first list come first
+    (
+        &[(1, 2), (2, 4), (3, 4)],
+        &[(4, 1), (5, 2), (6, 4), (7, 5)],
+        &[(4, 1), (1, 2), (5, 2), (2, 4), (3, 4), (6, 4), (7, 5)],
     ),
 ];
 
@@ -85,6 +104,43 @@ fn sorts_go_by_any_order(rt: HostRuntime) {
     let mut list = listed(&rt, rt.alloc(), &pairs);
     sort_by_key(&mut list, tens_of);
     holds(&rt, list, &rising);
+}
+
+/// Sorts two lists, and merges the second into the first.
+fn sort_and_merge<T: Linked<Links<T>> + Ord>(
+    rt: &impl Abort,
+    list: &mut List<T>,
+    other: &mut List<T>,
+) {
+    sort(list);
+    sort(other);
+    at_most(rt, list.len(), LONGEST);
+    at_most(rt, other.len(), LONGEST);
+    merge(list, other);
+}
+
+#[test]
+fn merges_keep_equals_in_their_order(rt: HostRuntime) {
+    for (pairs, more, wanted) in MERGES {
+        let mut list = listed(&rt, rt.alloc(), pairs);
+        let mut other = listed(&rt, rt.alloc(), more);
+        sort_and_merge(&rt, &mut list, &mut other);
+        holds(&rt, list, wanted);
+        holds(&rt, other, &[]);
+    }
+}
+
+#[test]
+fn a_merge_goes_by_any_order(rt: HostRuntime) {
+    let mut list = listed(&rt, rt.alloc(), &[(1, 5), (2, 3)]);
+    let mut other = listed(&rt, rt.alloc(), &[(3, 1), (4, 5), (5, 4)]);
+    sort_with_order(&mut list, &Greatest);
+    sort_with_order(&mut other, &Greatest);
+    at_most(&rt, list.len(), LONGEST);
+    at_most(&rt, other.len(), LONGEST);
+    merge_with_order(&mut list, &mut other, &Greatest);
+    holds(&rt, list, &[(1, 5), (4, 5), (5, 4), (2, 3), (3, 1)]);
+    holds(&rt, other, &[]);
 }
 
 #[test]

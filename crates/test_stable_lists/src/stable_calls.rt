@@ -3,7 +3,7 @@ ghost use Rattle.std.specs.Prelude.{◌<◌, length, IfSome};
 ghost use Rattle.cordyceps_base.specs.BySpot.{HasSpot};
 
 use crate::compared::{at_most, same};
-use crate::keys::{Key, Pair, Reply, Sight, make, parts, reads, spot_at};
+use crate::keys::{Handle, Key, Pair, Reply, Sight, make, parts, reads, spot_at};
 use cordyceps_list::list::List;
 use cordyceps_stable::stable_list::{Spot, StableList};
 use std::alloc::Global;
@@ -41,6 +41,10 @@ pub enum BySpot {
     Write(u64),
     MoveToFront,
     MoveToBack,
+    /// Moves the element to right after the next one, if there is one.
+    MoveAfterNext,
+    /// Pushes an element to the front, and moves the one at the spot to right after it.
+    MoveAfterNew(Pair),
     /// Reads the keys around the spot.
     Read,
 }
@@ -76,6 +80,27 @@ pub fn around(list: &StableList<Key>, spot: Spot) -> Sight
     keys
 }
 
+/// Moves an element to right after the next one, if there is one.
+fn move_after_next(list: &mut StableList<Key>, spot: Spot)
+    requires { HasSpot list.old spot }
+    ensures { HasSpot list.new spot }
+{
+    list.spots_are_distinct();
+    if let Some(next) = list.next(spot) {
+        list.move_after(spot, next);
+    }
+}
+
+/// Pushes an element to the front, and moves the one at a spot to right after it.
+fn move_after_new(list: &mut StableList<Key>, spot: Spot, handle: Handle)
+    requires there { HasSpot list.old spot }
+    requires fits { length list.old < usize.MAX }
+    ensures { HasSpot list.new spot }
+{
+    let first = list.push_front(handle);
+    list.move_after(spot, first);
+}
+
 /// Makes a call by a spot, and returns the spot of the new element, or else the same spot.
 fn by_spot(
     rt: &impl Abort,
@@ -101,6 +126,14 @@ fn by_spot(
         }
         BySpot::MoveToBack => {
             list.move_to_back(spot);
+            spot
+        }
+        BySpot::MoveAfterNext => {
+            move_after_next(list, spot);
+            spot
+        }
+        BySpot::MoveAfterNew(pair) => {
+            move_after_new(list, spot, make(rt, alloc, *pair));
             spot
         }
         BySpot::Read => spot,

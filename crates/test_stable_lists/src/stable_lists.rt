@@ -104,6 +104,25 @@ const CALLS: &[(Call, Reply)] = &[
         Call::By(2, BySpot::MoveToBack),
         Reply::At((Some(20), Some(30), None)),
     ),
+    // moves one to after another: 2 1 3, then 2 3 1, and again
+    (
+        Call::By(0, BySpot::MoveAfterNext),
+        Reply::At((Some(20), Some(10), Some(30))),
+    ),
+    (
+        Call::By(1, BySpot::MoveAfterNext),
+        Reply::At((Some(30), Some(10), None)),
+    ),
+    (
+        Call::By(2, BySpot::MoveAfterNext),
+        Reply::At((Some(30), Some(10), None)),
+    ),
+    // 9 1 2 3, and 1 2 3
+    (
+        Call::By(2, BySpot::MoveAfterNew(NINE)),
+        Reply::At((Some(90), Some(10), Some(20))),
+    ),
+    (Call::Remove(0), Reply::Out(Some(NINE))),
     // writes
     (
         Call::By(0, BySpot::Write(91)),

@@ -14,7 +14,7 @@ const KEYS: u64 = 24;
 fn drawn(draws: &mut Draws, len: usize, number: u64) -> Call {
     let pair = (number, draws.below(KEYS));
     let at = draws.place(len.saturating_sub(1));
-    match draws.below(16) {
+    match draws.below(18) {
         0 => Call::PushFront(pair),
         1 => Call::PushBack(pair),
         2 => Call::PopFront,
@@ -28,6 +28,8 @@ fn drawn(draws: &mut Draws, len: usize, number: u64) -> Call {
         11 => Call::By(at, BySpot::MoveToFront),
         12 => Call::By(at, BySpot::MoveToBack),
         13 => Call::By(at, BySpot::Read),
+        14 => Call::By(at, BySpot::MoveAfterNext),
+        15 => Call::By(at, BySpot::MoveAfterNew(pair)),
         _ => Call::By(at, BySpot::Write(pair.1)),
     }
 }
@@ -69,6 +71,13 @@ fn wanted(rt: &impl Abort, pairs: &mut Vec<Pair>, call: &Call) -> Reply {
         }
         Call::By(at, BySpot::MoveToFront) => moved(rt, pairs, *at, 0),
         Call::By(at, BySpot::MoveToBack) => moved(rt, pairs, *at, last),
+        Call::By(at, BySpot::MoveAfterNext) => {
+            moved(rt, pairs, *at, at.wrapping_add(1).min(last))
+        }
+        Call::By(at, BySpot::MoveAfterNew(pair)) => {
+            put(rt, pairs, 0, *pair);
+            moved(rt, pairs, at.wrapping_add(1), 1)
+        }
         Call::By(at, BySpot::Read) => *at,
     };
     reply_at(pairs, at)
