@@ -1,5 +1,5 @@
-use Rattle.std.proofs.Common.{◌≡◌, max, refl, ap, sym, ◌∙◌}
-use Rattle.cordyceps_shared_uses.specs.Timers.{Running, arranged, due}
+use Rattle.std.proofs.Common.{max, refl, ap, sym, ◌∙◌}
+use Rattle.cordyceps_shared_uses.specs.Timers.{Running, due}
 use Rattle.cordyceps_shared_uses.proofs.Arranging.{distinct, in_order, none_due_of, popped, so, stayed}
 use Rattle.cordyceps_shared_uses.proofs.timers.Timers.stop_due.Goals as goal
 
