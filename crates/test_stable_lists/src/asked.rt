@@ -157,6 +157,8 @@ fn asks_as_often_as_it_says(rt: HostRuntime) {
 #[derive(Drop)]
 enum HeapAsking {
     Push(u64),
+    /// Pushes, and removes what was pushed.
+    Cancel(u64),
     Front,
     PopFront,
     /// Appends a heap of these elements, which were pushed in their order.
@@ -169,6 +171,10 @@ fn ask_heap(rt: &impl Abort, alloc: Global, heap: &mut StableHeap<Key, ByKey>, c
     match call {
         HeapAsking::Push(key) => {
             heap.push(make(rt, alloc, (0, *key)));
+        }
+        HeapAsking::Cancel(key) => {
+            let spot = heap.push(make(rt, alloc, (0, *key)));
+            heap.remove(spot);
         }
         HeapAsking::Front => {
             heap.front();
@@ -192,7 +198,7 @@ fn ask_heap(rt: &impl Abort, alloc: Global, heap: &mut StableHeap<Key, ByKey>, c
 /// A fresh element is sorted in by the next call that needs the order. It is then a line of rank 0, merged with the
 /// last lines as long as their rank is not greater. A merge compares once for each element that goes before one line is
 /// used up. The first elements of the lines are compared with the least before them.
-const HEAP_CALLS: [(HeapAsking, u64); 16] = [
+const HEAP_CALLS: [(HeapAsking, u64); 17] = [
     (HeapAsking::Front, 0),
     (HeapAsking::Push(5), 0),
     (HeapAsking::Push(3), 0),
@@ -209,6 +215,7 @@ const HEAP_CALLS: [(HeapAsking, u64); 16] = [
     (HeapAsking::PopFront, 0),
     // 4 5 9: rank 2, an empty line: rank 0
     (HeapAsking::Push(7), 0),
+    (HeapAsking::Cancel(2), 0),
     (HeapAsking::Push(8), 0),
     // the empty line is dropped; 7 8 of rank 1 take one comparison, and the first elements of both lines another
     (HeapAsking::PopFront, 2),
