@@ -41,6 +41,19 @@ use std::marker::Model;
 ///
 /// # Complexity
 /// Dropping the queue frees each node once: O(n), for n elements.
+///
+/// # Examples
+/// From `timers::Timers::restart` of `cordyceps_shared_uses`:
+/// ```
+/// let deadline = timer.get().deadline.max(self.queue.now());
+/// timer.get_mut().deadline = deadline;
+/// Ok(self.queue.push(timer))
+/// ```
+///
+/// From `timers::Timers::stop_due` of `cordyceps_shared_uses`:
+/// ```
+/// self.queue.pop_due(now)
+/// ```
 #[derive(Drop)]
 pub struct ClockQueue<T, O: Times<T>> {
     list: StableList<T>,
