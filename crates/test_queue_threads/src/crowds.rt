@@ -107,75 +107,48 @@ impl Crowd {
     }
 }
 
-#[test]
-fn basically_works(rt: HostRuntime) {
-    let crowd = Crowd {
-        producers: 8,
-        each: 1000,
-        yields: false,
-        takers: 1,
-        claim: None,
-        way: Way::Try,
-    };
-    crowd.rounds(&rt, rt.alloc());
-}
+/// How many producers there are and how many elements each enqueues, whether they yield, how many take, by which call
+/// these have taken the right to dequeue, and how they dequeue.
+type Row = (u64, u64, bool, u64, Option<Claim>, Way);
 
-#[test]
-fn mpmc(rt: HostRuntime) {
-    let crowd = Crowd {
-        producers: 2,
-        each: 2,
-        yields: true,
-        takers: 2,
-        claim: None,
-        way: Way::Wait,
-    };
-    crowd.rounds(&rt, rt.alloc());
-}
+/// Crowds of one that takes, by each call.
+const ONE_TAKES: [Row; 7] = [
+    (8, 1000, false, 1, None, Way::Try),
+    (1, 250, false, 1, Some(Claim::Try), Way::Cross),
+    (4, 1000, false, 1, Some(Claim::Try), Way::Batches),
+    (4, 1000, false, 1, Some(Claim::TryOwned), Way::Batches),
+    (4, 1000, true, 1, None, Way::Wait),
+    (4, 1000, true, 1, Some(Claim::Try), Way::Wait),
+    (4, 1000, true, 1, Some(Claim::TryOwned), Way::Wait),
+];
 
-#[test]
-fn crosses_queues(rt: HostRuntime) {
-    let crowd = Crowd {
-        producers: 1,
-        each: 250,
-        yields: false,
-        takers: 1,
-        claim: Some(Claim::Try),
-        way: Way::Cross,
-    };
-    crowd.rounds(&rt, rt.alloc());
-}
+/// Crowds of several that take.
+const SEVERAL_TAKE: [Row; 2] = [
+    (2, 2, true, 2, None, Way::Wait),
+    (4, 250, false, 3, None, Way::Try),
+];
 
-#[test]
-fn three_that_take_get_each_element_once(rt: HostRuntime) {
-    let crowd = Crowd {
-        producers: 4,
-        each: 250,
-        yields: false,
-        takers: 3,
-        claim: None,
-        way: Way::Try,
-    };
-    crowd.rounds(&rt, rt.alloc());
+/// Lets crowds meet, each again and again.
+fn meet<R: Threads + Wait + Abort + Sync>(rt: &R, alloc: Global, rows: &[Row]) {
+    for (producers, each, yields, takers, claim, way) in rows {
+        let crowd = Crowd {
+            producers: *producers,
+            each: *each,
+            yields: *yields,
+            takers: *takers,
+            claim: *claim,
+            way: *way,
+        };
+        crowd.rounds(rt, alloc);
+    }
 }
 
 #[test]
 fn one_takes_by_each_call_beside_producers(rt: HostRuntime) {
-    for (claim, way) in [
-        (Some(Claim::Try), Way::Batches),
-        (Some(Claim::TryOwned), Way::Batches),
-        (None, Way::Wait),
-        (Some(Claim::Try), Way::Wait),
-        (Some(Claim::TryOwned), Way::Wait),
-    ] {
-        let crowd = Crowd {
-            producers: 4,
-            each: 1000,
-            yields: matches!(way, Way::Wait),
-            takers: 1,
-            claim,
-            way,
-        };
-        crowd.rounds(&rt, rt.alloc());
-    }
+    meet(&rt, rt.alloc(), &ONE_TAKES);
+}
+
+#[test]
+fn several_that_take_get_each_element_once(rt: HostRuntime) {
+    meet(&rt, rt.alloc(), &SEVERAL_TAKE);
 }

@@ -94,27 +94,11 @@ fn by_a_consumer(claim: Claim) -> [Line; 10] {
 }
 
 #[test]
-fn no_room_is_in_the_pool(rt: HostRuntime) {
+fn rooms_come_back(rt: HostRuntime) {
     alone(&rt, rt.alloc(), 0, 1, &[&NO_ROOM]);
-}
-
-#[test]
-fn one_room_comes_back(rt: HostRuntime) {
     alone(&rt, rt.alloc(), 1, 3, &[&ONE_ROOM]);
-}
-
-#[test]
-fn all_rooms_come_back(rt: HostRuntime) {
     alone(&rt, rt.alloc(), 3, 4, &[&ALL_ROOMS]);
-}
-
-#[test]
-fn some_rooms_come_back(rt: HostRuntime) {
     alone(&rt, rt.alloc(), 4, 5, &[&SOME_ROOMS]);
-}
-
-#[test]
-fn a_consumer_gives_rooms_back(rt: HostRuntime) {
     for claim in [Claim::Try, Claim::TryOwned] {
         alone(&rt, rt.alloc(), 2, 3, &[&by_a_consumer(claim)]);
     }

@@ -8,10 +8,9 @@ use crate::compared::{made, same};
 use crate::items::{number, number_of};
 use crate::seats::{Shared, shared};
 use cordyceps_base::node::Refused;
-use cordyceps_queue::mpsc_queue::{Closed, MpscQueue, OwnedConsumer, Party, TryDequeueError};
+use cordyceps_queue::mpsc_queue::{Closed, MpscQueue, OwnedConsumer, Party};
 use std::alloc::AllocError;
 use std::process::Abort;
-use std::sync::Arc;
 use test_support::counted::{Counted, Drops, counted_node};
 
 /// Asserts how many drops were counted.
@@ -59,23 +58,12 @@ fn owned_of(rt: &impl Abort, queue: Shared, party: Party<Counted>) -> OwnedConsu
 #[test]
 fn the_last_owner_frees_the_queue(rt: HostRuntime) {
     let drops = made(&rt, Drops::new(rt.alloc()));
-    let Whole { queue, mut party } = Whole::three_held(&rt, rt.alloc(), &drops);
-    let other = queue.split(&mut party, 0);
+    let Whole { queue, party } = Whole::three_held(&rt, rt.alloc(), &drops);
     let queue = shared(&rt, rt.alloc(), queue);
-    let share = made(&rt, Arc::try_clone(&queue));
-    let mut owned = owned_of(&rt, share, other);
+    let mut owned = owned_of(&rt, queue, party);
     same(&rt, tried(&rt, owned.try_dequeue()), Reply::Element(1));
-    let busy = Reply::Fails(TryDequeueError::Busy);
-    same(&rt, tried(&rt, queue.try_dequeue(&mut party)), busy);
-    drop(owned);
     dropped(&rt, &drops, 1);
-    same(
-        &rt,
-        tried(&rt, queue.try_dequeue(&mut party)),
-        Reply::Element(2),
-    );
-    dropped(&rt, &drops, 2);
-    drop(owned_of(&rt, queue, party));
+    drop(owned);
     dropped(&rt, &drops, 4);
 }
 
