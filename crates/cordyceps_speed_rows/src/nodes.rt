@@ -11,7 +11,7 @@ use std::alloc::Global;
 /// What goes into a list, and comes out.
 pub type ListNode = Node<Item, Links<Item>>;
 
-/// The value of the node with this number: as good as drawn, and always the same.
+/// Returns the value of the node with this number: it is pseudo-random, and always the same.
 pub fn mix(id: u64) -> u64 {
     let mut value = id.wrapping_add(0x9e37_79b9_7f4a_7c15);
     value = (value ^ (value >> 30)).wrapping_mul(0xbf58_476d_1ce4_e5b9);

@@ -18,7 +18,7 @@ pub enum Values {
     Ascending,
     /// The less, the greater the number: each goes before all others.
     Descending,
-    /// As good as drawn.
+    /// Pseudo-random.
     Random,
 }
 

@@ -20,7 +20,7 @@ use std::time::{Clock, Duration};
 enum Calls {
     /// Insertions of elements with such values.
     Insert(Values),
-    /// Pops, where the values are as good as drawn.
+    /// Pops, where the values are pseudo-random.
     Pop,
     /// Updates by spots, to the values of numbers that rise.
     Update,

@@ -152,7 +152,7 @@ impl Timers for InHeap {
 enum Deadlines {
     /// One of four timeouts after the start. From start to start the time is one more.
     Timeouts,
-    /// At times as good as drawn.
+    /// At pseudo-random times.
     Random,
 }
 
