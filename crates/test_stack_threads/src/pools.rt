@@ -110,73 +110,73 @@ fn calls_return(rt: &impl Abort, alloc: Global, rooms: usize, calls: &[(By, Call
     pair.has_all(rt, rooms);
 }
 
+/// Some rooms go to and fro between the parties, and those that are given back find others there.
+const FOUR_ROOMS: [(By, Call<'static>); 21] = [
+    (By::First, Call::GiveBack(3, true)),
+    (By::First, Call::Rooms(1)),
+    (By::First, Call::GiveBack(1, false)),
+    (By::First, Call::Rooms(1)),
+    (By::Second, Call::Refill(3)),
+    (By::Second, Call::Refill(0)),
+    (By::Second, Call::Rooms(3)),
+    (By::Second, Call::Push(true)),
+    (By::First, Call::Push(false)),
+    (By::First, Call::Rooms(0)),
+    (By::Second, Call::GiveBack(1, true)),
+    (By::First, Call::Refill(1)),
+    (By::First, Call::Push(false)),
+    (By::First, Call::Take(&[3, 2, 1])),
+    (By::First, Call::Rooms(3)),
+    (By::First, Call::GiveBack(3, true)),
+    (By::Second, Call::Refill(3)),
+    (By::Second, Call::Rooms(4)),
+    (By::Second, Call::Push(true)),
+    (By::Second, Call::Take(&[4])),
+    (By::Second, Call::GiveBack(2, true)),
+];
+
+/// A stack without rooms has none that is given back.
+const NO_ROOM: [(By, Call<'static>); 4] = [
+    (By::First, Call::GiveBack(0, true)),
+    (By::Second, Call::GiveBack(0, true)),
+    (By::Second, Call::Refill(0)),
+    (By::First, Call::Rooms(0)),
+];
+
+/// The only room goes to and fro.
+const ONE_ROOM: [(By, Call<'static>); 9] = [
+    (By::First, Call::GiveBack(1, true)),
+    (By::Second, Call::Refill(1)),
+    (By::Second, Call::Push(true)),
+    (By::First, Call::Take(&[1])),
+    (By::First, Call::GiveBack(1, true)),
+    (By::First, Call::Refill(1)),
+    (By::First, Call::Push(true)),
+    (By::First, Call::Take(&[2])),
+    (By::First, Call::GiveBack(1, true)),
+];
+
+/// As many rooms as a stack can have come back at once.
+const ALL_ROOMS: [(By, Call<'static>); 7] = [
+    (By::First, Call::GiveBack(MAX_ROOMS, true)),
+    (By::First, Call::Rooms(0)),
+    (By::Second, Call::Refill(MAX_ROOMS)),
+    (By::Second, Call::Push(true)),
+    (By::First, Call::Take(&[1])),
+    (By::First, Call::GiveBack(1, true)),
+    (By::Second, Call::GiveBack(1, false)),
+];
+
 #[test]
 fn rooms_come_back(rt: HostRuntime) {
-    let calls = [
-        (By::First, Call::GiveBack(3, true)),
-        (By::First, Call::Rooms(1)),
-        (By::First, Call::GiveBack(1, false)),
-        (By::First, Call::Rooms(1)),
-        (By::Second, Call::Refill(3)),
-        (By::Second, Call::Refill(0)),
-        (By::Second, Call::Rooms(3)),
-        (By::Second, Call::Push(true)),
-        (By::First, Call::Push(false)),
-        (By::First, Call::Rooms(0)),
-        (By::Second, Call::GiveBack(1, true)),
-        (By::First, Call::Refill(1)),
-        (By::First, Call::Push(false)),
-        (By::First, Call::Take(&[3, 2, 1])),
-        (By::First, Call::Rooms(3)),
-        (By::First, Call::GiveBack(3, true)),
-        (By::Second, Call::Refill(3)),
-        (By::Second, Call::Rooms(4)),
-        (By::Second, Call::Push(true)),
-        (By::Second, Call::Take(&[4])),
-        (By::Second, Call::GiveBack(2, true)),
-    ];
-    calls_return(&rt, rt.alloc(), 4, &calls);
+    calls_return(&rt, rt.alloc(), 4, &FOUR_ROOMS);
+    calls_return(&rt, rt.alloc(), 1, &ONE_ROOM);
+    calls_return(&rt, rt.alloc(), MAX_ROOMS, &ALL_ROOMS);
 }
 
 #[test]
 fn no_room_comes_back_as_none(rt: HostRuntime) {
-    let calls = [
-        (By::First, Call::GiveBack(0, true)),
-        (By::Second, Call::GiveBack(0, true)),
-        (By::Second, Call::Refill(0)),
-        (By::First, Call::Rooms(0)),
-    ];
-    calls_return(&rt, rt.alloc(), 0, &calls);
-}
-
-#[test]
-fn one_room_goes_to_and_fro(rt: HostRuntime) {
-    let calls = [
-        (By::First, Call::GiveBack(1, true)),
-        (By::Second, Call::Refill(1)),
-        (By::Second, Call::Push(true)),
-        (By::First, Call::Take(&[1])),
-        (By::First, Call::GiveBack(1, true)),
-        (By::First, Call::Refill(1)),
-        (By::First, Call::Push(true)),
-        (By::First, Call::Take(&[2])),
-        (By::First, Call::GiveBack(1, true)),
-    ];
-    calls_return(&rt, rt.alloc(), 1, &calls);
-}
-
-#[test]
-fn all_rooms_come_back_at_once(rt: HostRuntime) {
-    let calls = [
-        (By::First, Call::GiveBack(MAX_ROOMS, true)),
-        (By::First, Call::Rooms(0)),
-        (By::Second, Call::Refill(MAX_ROOMS)),
-        (By::Second, Call::Push(true)),
-        (By::First, Call::Take(&[1])),
-        (By::First, Call::GiveBack(1, true)),
-        (By::Second, Call::GiveBack(1, false)),
-    ];
-    calls_return(&rt, rt.alloc(), MAX_ROOMS, &calls);
+    calls_return(&rt, rt.alloc(), 0, &NO_ROOM);
 }
 
 /// How many elements each of two threads pushes, and how many rooms there are for them.

@@ -28,49 +28,49 @@ fn calls_return(
     dropped(rt, &count, drops);
 }
 
-#[test]
-fn transfer_stack_is_empty(rt: HostRuntime) {
-    let calls = [
-        Call::IsEmpty(true),
-        Call::Push(true),
-        Call::IsEmpty(false),
-        Call::Push(false),
-        Call::IsEmpty(false),
-        Call::Take(&[2, 1]),
-        Call::IsEmpty(true),
-    ];
-    calls_return(&rt, rt.alloc(), 2, (0, &[]), &calls, 2);
-}
+/// A party sees whether something is held, before and after each push and each take.
+const IS_EMPTY: [Call<'static>; 7] = [
+    Call::IsEmpty(true),
+    Call::Push(true),
+    Call::IsEmpty(false),
+    Call::Push(false),
+    Call::IsEmpty(false),
+    Call::Take(&[2, 1]),
+    Call::IsEmpty(true),
+];
+
+/// Rooms come back with what is taken.
+const ONE_PARTY: [Call<'static>; 9] = [
+    Call::Rooms(3),
+    Call::Push(true),
+    Call::Push(false),
+    Call::Rooms(1),
+    Call::Take(&[2, 1]),
+    Call::Rooms(3),
+    Call::Take(&[]),
+    Call::Push(true),
+    Call::Take(&[3]),
+];
+
+/// What a party does that is dropped, with two of four rooms.
+const DROPPED: [Call<'static>; 2] = [Call::Push(true), Call::Rooms(1)];
+
+/// The other finds the element of the party that was dropped, and gets its room.
+const LEFT: [Call<'static>; 7] = [
+    Call::IsEmpty(false),
+    Call::Push(false),
+    Call::Rooms(1),
+    Call::Take(&[2, 1]),
+    Call::Rooms(3),
+    Call::IsEmpty(true),
+    Call::Push(true),
+];
 
 #[test]
-fn one_party_pushes_and_takes(rt: HostRuntime) {
-    let calls = [
-        Call::Rooms(3),
-        Call::Push(true),
-        Call::Push(false),
-        Call::Rooms(1),
-        Call::Take(&[2, 1]),
-        Call::Rooms(3),
-        Call::Take(&[]),
-        Call::Push(true),
-        Call::Take(&[3]),
-    ];
-    calls_return(&rt, rt.alloc(), 3, (0, &[]), &calls, 3);
-}
-
-#[test]
-fn a_dropped_party_leaves_the_others(rt: HostRuntime) {
-    let others = [Call::Push(true), Call::Rooms(1)];
-    let calls = [
-        Call::IsEmpty(false),
-        Call::Push(false),
-        Call::Rooms(1),
-        Call::Take(&[2, 1]),
-        Call::Rooms(3),
-        Call::IsEmpty(true),
-        Call::Push(true),
-    ];
-    calls_return(&rt, rt.alloc(), 4, (2, &others), &calls, 2);
+fn calls_of_parties_return(rt: HostRuntime) {
+    calls_return(&rt, rt.alloc(), 2, (0, &[]), &IS_EMPTY, 2);
+    calls_return(&rt, rt.alloc(), 3, (0, &[]), &ONE_PARTY, 3);
+    calls_return(&rt, rt.alloc(), 4, (2, &DROPPED), &LEFT, 2);
 }
 
 #[test]
