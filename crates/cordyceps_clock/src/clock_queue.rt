@@ -41,6 +41,21 @@ use std::marker::Model;
 ///
 /// # Complexity
 /// Dropping the queue frees each node once: O(n), for n elements.
+///
+/// # Examples
+/// From `timers::Timers::restart` of `cordyceps_shared_uses`:
+/// ```
+/// let mut timer = timer;
+/// let deadline = timer.get().deadline.max(self.queue.now());
+/// timer.get_mut().deadline = deadline;
+/// Ok(self.queue.push(timer))
+/// ```
+///
+/// From `timers::Timers::first_deadline` of `cordyceps_shared_uses`:
+/// ```
+/// let first = self.queue.get(self.queue.front()?);
+/// Some(first.deadline)
+/// ```
 #[derive(Drop)]
 pub struct ClockQueue<T, O: Times<T>> {
     list: StableList<T>,
