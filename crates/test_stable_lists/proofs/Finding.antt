@@ -52,13 +52,6 @@ module _ {X : Type 0} where
     )
   ]
 
-  -- the same elements are there, in another order
-  pub finds_permuted : (f : ℕ → Option Ptr) (c d : Nodes X) → Finds f c → IsPermutation c d → Finds f d
-  finds_permuted f c d was kept k q at = let (e, key, lies) = was k q at in (e, key, permuted_is_at c d q e kept lies)
-
-  pub finds_popped : (f g : ℕ → Option Ptr) (c d : Nodes X) (p : Ptr) (e : Element X) → Finds f c → IsUpdated f e.id None g → IsPermutation c ((p, e) ∷ d) → Finds g d
-  finds_popped f g c d p e was up kept = finds_taken f g ((p, e) ∷ d) d p e (finds_permuted f c ((p, e) ∷ d) was kept) up ([], d, refl, refl)
-
   pub finds_changed : (f : ℕ → Option Ptr) (c d rest : Nodes X) (p : Ptr) (e o : Element X) → Finds f c → IsTaken c p e rest → o.id ≡ e.id → IsPermutation (rest ++ (p, o) ∷ []) d → Finds f d
   finds_changed f c d rest p e o was taken same kept n q at = let (x, key, lies) = was n q at in elim (taken_or_left c rest p q e x taken lies) as (λ _. (y : Element X) × (y.id ≡ n) × HasElementAt d q y) [
     | inl is ↦ (o, same ∙ sym (ap (λ (y : Element X). y.id) is.1) ∙ key, subst (λ s. HasElementAt d s o) (sym is.0) (permuted_is_at (rest ++ (p, o) ∷ []) d p o kept (rest, [], refl)))
