@@ -8,6 +8,8 @@ use cordyceps::mpsc_queue::MAX_ROOMS;
 use cordyceps_shared_uses::logger::{Producer, Record, log_all};
 use std::alloc::Global;
 use std::process::Abort;
+use std::sync::Wait;
+use std::thread::Threads;
 
 /// How often the threads run with one number of rooms and batches of one size. All are a thousand runs.
 const ROUNDS: u64 = 63;
@@ -32,11 +34,11 @@ fn four_producers(rt: &impl Abort, alloc: Global) -> List<Producer> {
 }
 
 /// Logs twelve records of four producers, and compares what comes of each.
-fn log_twelve(rt: &HostRuntime, rooms: usize, max: usize)
+fn log_twelve<R: Abort + Threads + Wait + Sync>(rt: &R, alloc: Global, rooms: usize, max: usize)
     requires { (1 ≤ rooms) × (rooms ≤ MAX_ROOMS) × (1 ≤ max) }
 {
-    let producers = four_producers(rt, rt.alloc());
-    let log = made(rt, log_all(rt, rt.alloc(), producers, rooms, max));
+    let producers = four_producers(rt, alloc);
+    let log = made(rt, log_all(rt, alloc, producers, rooms, max));
     // how many records of each code came
     let mut came = [0u64; 4];
     for record in log.iter() {
@@ -53,7 +55,7 @@ fn each_producers_records_come_in_order_and_no_wakeup_is_lost(rt: HostRuntime) {
     for rooms in 1..5usize {
         for max in 1..5usize {
             for _round in 0..ROUNDS {
-                log_twelve(&rt, rooms, max);
+                log_twelve(&rt, rt.alloc(), rooms, max);
             }
         }
     }
