@@ -1,25 +1,22 @@
 -- What the parts of a refill come to together, and of giving rooms back to the pool.
-use Rattle.std.proofs.Common.{◌≡◌, ◌≢◌, ℕ, suc, ◌+◌, ◌-◌, ◌≤◌, ◌<◌, List, [], ◌∷◌, ◌++◌, length, take, refl, sym, ap, ◌∙◌, subst, inl, inr, ⊎_elim, arith, length-append, eqb, eq-eqb, false}
-use Rattle.atomic_table.specs.Seated.{TableId}
-use Rattle.cordyceps_base.specs.declared.shared.TheConstants.{MAX_ROOMS}
-use Rattle.cordyceps_shared.specs.FreeChains.{FreeChain, Tracks, IsTied, MayJoin, leads, first_rooms}
+use Rattle.std.proofs.Common.{◌≡◌, ◌≢◌, ℕ, ◌+◌, ◌-◌, ◌≤◌, ◌<◌, List, [], ◌∷◌, ◌++◌, length, refl, sym, ap, ◌∙◌, subst, inl, inr, ⊎_elim, arith, length-append}
+use Rattle.cordyceps_shared.specs.FreeChains.{FreeChain, Tracks, IsTied, MayJoin, leads}
 use Rattle.cordyceps_shared.specs.Histories.{plain}
 use Rattle.cordyceps_shared.specs.Knowing.{Known, Grown}
 use Rattle.cordyceps_shared.specs.Places.{ItemAt}
-use Rattle.cordyceps_shared.specs.Pools.{packed, Fits, Packs}
+use Rattle.cordyceps_shared.specs.Pools.{packed, Fits}
 use Rattle.cordyceps_shared.specs.Shares.{Name}
 use Rattle.cordyceps_shared.specs.Slots.{Near}
 use Rattle.cordyceps_shared.specs.declared.free.FreeRooms.{FreeRooms}
-use Rattle.cordyceps_shared.proofs.Places.{near_append, near_take}
+use Rattle.cordyceps_shared.proofs.Places.{near_append}
 use Rattle.cordyceps_shared.proofs.Pools.{unpacked, some_in_pool}
-use Rattle.cordyceps_shared.proofs.TrackRooms.{first_room, last_room, tracks_giving}
+use Rattle.cordyceps_shared.proofs.TrackRooms.{first_room, last_room}
 use Rattle.cordyceps_queue.specs.declared.cores.stage.Stage.TheVariants.{Rest}
 use Rattle.cordyceps_queue.specs.declared.shared.spare.Spare.{Spare}
 use Rattle.cordyceps_queue.specs.History.{Event, held, actor}
 use Rattle.cordyceps_queue.specs.Shared.Parts.{TracksEnd, MayReturn, Relinked, Refills}
-use Rattle.cordyceps_queue.specs.Shared.Plays.{SeatState, LegalReversed, IsResting, IsHolding, FindsPool, LacksRooms, carry}
+use Rattle.cordyceps_queue.specs.Shared.Plays.{SeatState, LegalReversed, IsResting, FindsPool, carry}
 use Rattle.cordyceps_queue.specs.Shared.View.{View, free_chain, back_chain, view_returned, cleared_count}
-use Rattle.cordyceps_queue.proofs.SharedTheory.PartsJoin.{near_parts, may_join}
 use Rattle.cordyceps_queue.proofs.SharedTheory.SpareRooms.{tracks_joined}
 use Rattle.cordyceps_queue.proofs.SharedTheory.WordsAsMachine.{at_after}
 
@@ -31,26 +28,10 @@ leads_first free chain t some_of =
     let e = ap (λ l. leads l chain.end) f.1 in omega arith
 
 module _ {E : Type 0} where
-  -- what a whole party knows of the pool does not rest on which slots are in hand
-  pub lacks_returned : (slots : ℕ) (m p : SeatState E) → p ≡ (view_returned m.0, []) → LacksRooms slots p → LacksRooms slots m
-  lacks_returned slots m p is lacks whole_is =
-      let after = subst (λ (q : SeatState E). LacksRooms slots q) is lacks whole_is in
-      let long = length-append m.0.free m.0.back in omega arith
 
   -- ---- which slots a party may give back
   pub near_back : (slots : ℕ) (m : SeatState E) → MayReturn slots m → Near slots m.0.back
   near_back slots m r i x a = r.near (length m.0.free + i) x (at_after m.0.free m.0.back i x a)
-
-  pub rests_return : (slots : ℕ) (m : SeatState E) → IsResting slots m → MayReturn slots m
-  rests_return slots m q = record {
-    carries = q.2 ∙ ap (λ (l : List ℕ). carry l) (sym q.1);
-    named = q.3;
-    near = near_parts slots m.0.free m.0.free m.0.back refl q.1 q.4;
-    joins = may_join m.0 q.1;
-  }
-
-  pub holds_return : (slots t : ℕ) (m : SeatState E) → IsHolding slots t m → MayReturn slots m
-  holds_return slots t m q = record { carries = q.1; named = q.2; near = q.3; joins = q.5 }
 
   -- ---- a refill
   -- the party has the pool's rooms, to which its free ones lead; what was unpacked tracks them
