@@ -8,6 +8,7 @@ pub mod LinePlaces
 pub mod LineReads
 pub mod LineSpots
 pub mod LineTables
+pub mod LineWalks
 pub mod InnerNodes
 pub mod Memory
 pub mod Nodes

@@ -85,6 +85,21 @@ module _ {X : Type 0} where
   abbrev pub IsTable : List Address → ℕ → List (OwnedNode X) → Type 0
   IsTable xs n ns = (length xs ≡ 64) × (n ≤ 64) × AreLines (take n xs) ns
 
+  -- what a walk over a table has left: the address leads to what is left of a line, which the lines from `line` on
+  -- follow
+  pub record IsLeft (xs : List Address) (count line : ℕ) (at : Ptr) (ns : List (OwnedNode X)) : Type 0 where
+    pub long : length xs ≡ 64
+    pub passed : line ≤ count
+    pub within : count ≤ 64
+    pub comparable : AreNullComparable (box_addresses ns)
+    pub here : List (OwnedNode X)
+    pub others : List (List (OwnedNode X))
+    pub parts : ns ≡ here ++ flat others
+    pub prev : Ptr
+    pub last : Ptr
+    pub linked : Segment prev at here last null_ptr
+    pub led : Lead (drop line (take count xs)) others
+
   -- the node e at p was taken out of its line
   abbrev pub IsTakenOut : List (Nodes X) → Ptr → Element X → List (Nodes X) → Type 0
   IsTakenOut c p e d =

@@ -23,6 +23,10 @@ module _ {X : Type 0} where
   abbrev pub elements : Nodes X → Elements X
   elements = map (λ n. n.1)
 
+  -- where the nodes are, each with its value
+  abbrev pub entries : Nodes X → List (Ptr × X)
+  entries = map (λ n. (n.0, n.1.value))
+
   -- the same nodes with w as the k-th value
   abbrev pub with_item : Nodes X → ℕ → X → Nodes X
   with_item [] k w = []

@@ -11,6 +11,8 @@ ghost use Rattle.cordyceps_base.specs.DoubleLines.{flat, Lead, IsTable, IsMarked
 ghost use Rattle.cordyceps_base.specs.Element.{Element, values};
 ghost use Rattle.cordyceps_base.specs.Nodes.{Nodes, OwnedNode, elements, nodes_of, spots};
 
+pub mod entries;
+
 use crate::boxes::{Address, Boxes, RawBox};
 use crate::double_row::{Row, followed_by, node_of};
 use crate::list::Links;
