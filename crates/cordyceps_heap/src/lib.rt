@@ -2,6 +2,7 @@
 #![tactic(auto)]
 
 mod fresh;
+pub mod iter;
 mod merging;
 mod ranked;
 mod renewing;

@@ -27,6 +27,8 @@ pub enum Call {
     Front,
     /// Reads a key.
     Get(u64),
+    /// Visits all elements, and adds their keys up.
+    Sum,
     Remove(u64),
     /// Changes a key.
     Update(u64, u64),
@@ -39,6 +41,8 @@ pub enum Reply {
     Out(Option<Pair>),
     /// The key that was read, or that was changed, if there is one.
     Key(Option<u64>),
+    /// So many elements were visited, whose keys have this sum.
+    Sum(usize, u64),
     /// There is nothing to reply.
     Nothing,
 }
@@ -156,6 +160,17 @@ impl Keys {
         Some(self.heap.get(spot).value)
     }
 
+    /// Returns how many elements a walk meets, and the sum of their keys.
+    fn sum(&self) -> (usize, u64) {
+        let mut count = 0usize;
+        let mut sum = 0u64;
+        for (_, key) in self.heap.iter() {
+            count = count.wrapping_add(1);
+            sum = sum.wrapping_add(key.value);
+        }
+        (count, sum)
+    }
+
     /// Removes the element with a number.
     fn remove(&mut self, number: u64) -> Option<Handle> {
         let spot = *self.spots.get(&number)?;
@@ -197,6 +212,10 @@ pub fn make_call(rt: &impl Abort, alloc: Global, keys: &mut Keys, call: &Call) -
         Call::PopFront => Reply::Out(parts(keys.pop_front())),
         Call::Front => Reply::Key(keys.front()),
         Call::Get(number) => Reply::Key(keys.get(*number)),
+        Call::Sum => {
+            let (count, sum) = keys.sum();
+            Reply::Sum(count, sum)
+        }
         Call::Remove(number) => Reply::Out(parts(keys.remove(*number))),
         Call::Update(number, key) => Reply::Key(keys.update(*number, *key)),
     }

@@ -29,7 +29,8 @@ fn drawn(draws: &mut Draws, number: u64) -> Call {
         7 => Call::Append(MORE),
         8 => Call::Front,
         9 => Call::Get(other),
-        10 | 11 | 12 => Call::Update(other, key),
+        10 => Call::Sum,
+        11 | 12 => Call::Update(other, key),
         _ => Call::Remove(other),
     }
 }
@@ -51,6 +52,15 @@ fn key_of(pair: Option<Pair>) -> Option<u64> {
     Some(pair?.1)
 }
 
+/// Returns the sum of the keys of pairs.
+fn sum_of(pairs: &[Pair]) -> u64 {
+    let mut sum = 0u64;
+    for pair in pairs {
+        sum = sum.wrapping_add(pair.1);
+    }
+    sum
+}
+
 /// Does to a sorted vector what a call does to a heap, and returns the reply that is wanted.
 fn wanted(rt: &impl Abort, pairs: &mut Vec<Pair>, call: &Call) -> Reply {
     match call {
@@ -70,6 +80,7 @@ fn wanted(rt: &impl Abort, pairs: &mut Vec<Pair>, call: &Call) -> Reply {
             let at = place_of(pairs.as_slice(), *number);
             Reply::Key(key_of(pairs.get(at).copied()))
         }
+        Call::Sum => Reply::Sum(pairs.len(), sum_of(pairs.as_slice())),
         Call::Remove(number) => {
             let at = place_of(pairs.as_slice(), *number);
             Reply::Out(taken(pairs, at))
