@@ -1,2 +1,1 @@
-mod Popped
 mod Tables
