@@ -43,12 +43,6 @@ times_at r (x ∷ xs) l = dite (ℕ_discrete x r)
     (λ n. let none = one_else x r n in let t = times_at r xs (omega arith) in (suc t.0, t.1))
 
 -- ---- rooms of a table
-pub near_cons : (slots t : ℕ) (xs ys : List ℕ) → t < slots → Near slots ys → xs ≡ t ∷ ys → Near slots xs
-near_cons slots t xs ys first near same i r ir = by i (subst (λ l. ItemAt l i r) same ir)
-  where
-    by : (j : ℕ) → ItemAt (t ∷ ys) j r → r < slots
-    by zero a = subst (λ n. n < slots) (sym a) first
-    by (suc j) a = near j r a
 
 pub near_first : (slots r : ℕ) (rs xs : List ℕ) → xs ≡ r ∷ rs → Near slots xs → r < slots
 near_first slots r rs xs is near = near 0 r (subst (λ l. ItemAt l 0 r) (sym is) refl)

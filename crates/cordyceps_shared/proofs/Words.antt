@@ -13,9 +13,6 @@ head_beside_pool words n = get_or-set_other words POOL HEAD n 0 (λ e. omega ari
 pub right_beside_pool : (words : List ℕ) (n : ℕ) → right (set words POOL n) ≡ right words
 right_beside_pool words n = get_or-set_other words POOL RIGHT n 0 (λ e. omega arith)
 
-pub next_beside_pool : (words : List ℕ) (r n : ℕ) → next (set words POOL n) r ≡ next words r
-next_beside_pool words r n = get_or-set_other words POOL (LINKS + r) n 0 (λ e. omega arith)
-
 -- ---- a store to the head
 pub pool_beside_head : (words : List ℕ) (n : ℕ) → pool (set words HEAD n) ≡ pool words
 pool_beside_head words n = get_or-set_other words HEAD POOL n 0 (λ e. omega arith)

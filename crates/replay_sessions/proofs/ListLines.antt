@@ -120,10 +120,6 @@ pub came_back : (table new : Table) (block : Block) (back : Option Block) → Ca
 came_back table new block (Some back) (same, stays) = inl (rw (same, stays) refl)
 came_back table new block None is = inr (rw is refl)
 
-pub back_ready : (table new : Table) (block : Block) (back : Option Block) → CameBackOrRan table block back new → IsOpen (Some block) → IsOpen back
-back_ready table new block (Some back) (same, stays) ready = rw same ready
-back_ready table new block None is ready = tt
-
 -- what the end completes: the open block
 pub ended : (E : Type 0) (table new : Table) (block : Block) (before after : List ℕ) → Closes table (open_as block) new before after → Ends {E = E} list_machine (table, Some (open_as block)) (new, None) before after (Ok tt)
 ended E table new block before after (is, added) = (rw is refl, added ∙ ap (λ (t : List ℕ). before ++ t) (sym (append-nil _)))
