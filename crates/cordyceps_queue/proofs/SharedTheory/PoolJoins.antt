@@ -28,7 +28,6 @@ leads_first free chain t some_of =
     let e = ap (λ l. leads l chain.end) f.1 in omega arith
 
 module _ {E : Type 0} where
-
   -- ---- which slots a party may give back
   pub near_back : (slots : ℕ) (m : SeatState E) → MayReturn slots m → Near slots m.0.back
   near_back slots m r i x a = r.near (length m.0.free + i) x (at_after m.0.free m.0.back i x a)

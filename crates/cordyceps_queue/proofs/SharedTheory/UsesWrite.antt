@@ -39,7 +39,6 @@ any_link : (n : ℕ) → (next to bit : ℕ) × IsLink n next to bit
 any_link n = (n / 4, n / 2 % 2, n % 2, (omega arith, omega arith, omega arith))
 
 module _ {E : Type 0} (s : TableState E) (k : RuleHolds s) (id : ℕ) (v : View E) (at : get_elem? s.views id ≡ some v) (named : v.known.share ≢ []) where
-
   -- the head becomes room r, of which a use has begun
   head_kept : (r n : ℕ) (w : View E) (homes : Homes E) → n ≡ 2 * r + bit_of v.bits r → Knows v.stage r → Begun v.stage r → (b : Becomes (plain_table s k) k.plain v w record { words = set k.words HEAD r; homes = homes; views = set s.views id w }) → ((x : ℕ) → Begun w.stage x → ⊥)
       → RuleHolds record { words = set s.words HEAD n; homes = homes; views = set s.views id w }

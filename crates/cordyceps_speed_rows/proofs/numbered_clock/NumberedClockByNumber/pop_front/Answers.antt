@@ -15,7 +15,7 @@ index_mut-requires c =
     let left = IsPermutation-sym ((spot, node) ∷ new) old kept in
     let lay = popped_is_at old new spot node left in
     let at : number < length table =
-        inside table number spot (ap (λ n. spot_of table n) c.id-number.ensures ∙ c.self.invariant.listed spot node lay) in
+    inside table number spot (ap (λ n. spot_of table n) c.id-number.ensures ∙ c.self.invariant.listed spot node lay) in
     omega (arith, at)
 
 pub invariant_of-self-2 : goal.invariant_of-self-2
@@ -28,6 +28,6 @@ invariant_of-self-2 c =
     let left = IsPermutation-sym ((spot, node) ∷ new) old kept in
     let lay = popped_is_at old new spot node left in
     let at : number < length table =
-        inside table number spot (ap (λ n. spot_of table n) c.id-number.ensures ∙ c.self.invariant.listed spot node lay) in
+    inside table number spot (ap (λ n. spot_of table n) c.id-number.ensures ∙ c.self.invariant.listed spot node lay) in
     let up = subst (λ n. IsUpdated (spot_of table) n None after) c.id-number.ensures (written table number None at) in
     popped_agrees (spot_of table) after old new spot node c.self.invariant up left
