@@ -105,7 +105,8 @@ impl<'a, T> ExactSizeIterator for Iter<'a, T> {
     /// # Complexity
     /// O(1).
     fn len(&self) -> usize {
-        self.len
+        let Iter { len, .. } = self;
+        *len
     }
 }
 
