@@ -1,8 +1,11 @@
 -- Lemmas for users of stable lists and heaps, as the crates below prove them.
 pub use Rattle.cordyceps_base.proofs.SpotsMemory.{same_ptr_refl}
+pub use Rattle.cordyceps_heap.proofs.Apart
 pub use Rattle.cordyceps_heap.proofs.Kept
+pub use Rattle.cordyceps_heap.proofs.Standing
 pub use Rattle.cordyceps_stable.proofs.Agreeing
 pub use Rattle.cordyceps_stable.proofs.Arranged
+pub use Rattle.cordyceps_stable.proofs.Arrivals
 pub use Rattle.cordyceps_stable.proofs.Classes
 pub use Rattle.cordyceps_stable.proofs.Holding
 pub use Rattle.cordyceps_stable.proofs.Reached

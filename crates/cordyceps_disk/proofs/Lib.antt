@@ -6,3 +6,4 @@ mod Ordered
 mod Pairing
 mod Running
 mod Seeing
+mod Tickets

@@ -1,39 +1,62 @@
 -- What a request and its ticket are among the others, once both were put in.
-use Rattle.std.proofs.Common.{◌≡◌, ℕ, [], ◌∷◌, ◌++◌, Option, Some, ap, sym, ◌∙◌, subst}
+use Rattle.std.proofs.Common.{◌≡◌, ℕ, List, [], ◌∷◌, ◌++◌, Option, Some, ap, sym, ◌∙◌, subst}
 use Rattle.std.specs.Ordering.{nat_cmp}
 use denote.RawPtr.{Ptr}
 use Rattle.cordyceps.specs.Elements.Element.{Element}
 use Rattle.cordyceps.specs.Elements.Nodes.{Nodes, spots}
 use Rattle.cordyceps.specs.Spots.Arranged.{Arranges}
 use Rattle.cordyceps.specs.Spots.BySpot.{IsTaken}
+use Rattle.cordyceps.specs.Spots.DoubleLines.{flat}
+use Rattle.cordyceps.specs.Spots.Heap.{Holds}
 use Rattle.cordyceps.specs.Spots.Spots.{AreDistinct}
 use Rattle.cordyceps_disk.specs.declared.request.Ticket.{Ticket}
 use Rattle.cordyceps_disk.specs.declared.request.Waiting.{Waiting}
-use Rattle.cordyceps_disk.specs.Orders.{by_deadline_lawful, by_sector_lawful}
-use Rattle.cordyceps_disk.specs.Pairs.{Rises, deadline_of, sector_of}
+use Rattle.cordyceps_disk.specs.Orders.{by_deadline, by_deadline_lawful, by_sector_lawful}
+use Rattle.cordyceps_disk.specs.Pairs.{Rises, deadline_of, sector_of, tickets_in}
 use Rattle.cordyceps_disk.specs.Queue.{put_by}
-use Rattle.cordyceps_disk.proofs.Ordered.{is_put, itself, put_rises}
-use Rattle.cordyceps_disk.proofs.Pairing.{back_again}
-
-abbrev Deadlines : Nodes Ticket → Nodes Ticket → Type 0
-Deadlines s a = Arranges (λ x y. nat_cmp x.deadline y.deadline) s a
+use Rattle.cordyceps_disk.proofs.Ordered.{is_put, itself, put_taken}
+use Rattle.cordyceps_disk.proofs.Pairing.{back_again, same_taken}
+use Rattle.cordyceps_disk.proofs.Tickets.{changed, distinct, pushed, removed, rises, stands}
 
 -- what an insertion answers
 pub request_put : {P : Type 0} (c d : Nodes (Waiting P)) (n : Ptr × Element (Waiting P)) → Rises sector_of c
     → (Arranges (λ x y. nat_cmp x.request.sector y.request.sector) c c → Arranges (λ x y. nat_cmp x.request.sector y.request.sector) d (c ++ n ∷ [])) → d ≡ put_by sector_of n c
 request_put {P} c d n rises insert = let key : Waiting P → ℕ = λ w. w.request.sector in is_put key by_sector_lawful c d n rises (insert (itself key by_sector_lawful c rises))
 
-pub ticket_put : (t s : Nodes Ticket) (n : Ptr × Element Ticket) → Rises deadline_of t → (Deadlines t t → Deadlines s (t ++ n ∷ [])) → s ≡ put_by deadline_of n t
-ticket_put t s n rises insert = let key : Ticket → ℕ = λ w. w.deadline in is_put key by_deadline_lawful t s n rises (insert (itself key by_deadline_lawful t rises))
+-- a ticket was pushed: before there were the lines ls, and now there are ns
+module _ (ls ns : List (Nodes Ticket)) (u : Ptr) (k : Element Ticket) (was : Holds by_deadline ls (tickets_in ls)) (came : Holds by_deadline ns (tickets_in ls ++ (u, k) ∷ [])) (apart : AreDistinct (spots (flat ns))) where
+  came_last : IsTaken (tickets_in ns) u k (tickets_in ls)
+  came_last =
+      subst (λ l. IsTaken l u k (tickets_in ls)) (sym (pushed ls ns was (u, k) came))
+      (put_taken (λ (w : Ticket). w.deadline) (u, k) (tickets_in ls) (rises ls))
 
--- what a change of the ticket that came in last answers
-pub ticket_changed : (t s m : Nodes Ticket) (u : Ptr) (k e : Element Ticket) (w : Ticket) → Rises deadline_of t → AreDistinct (spots s) → s ≡ put_by deadline_of (u, k) t → IsTaken s u k t
-    → (Deadlines s s → (left : Nodes Ticket) × (IsTaken s u e left × Deadlines m (left ++ (u, record { id = e.id; value = w }) ∷ []))) → m ≡ put_by deadline_of (u, record { id = e.id; value = w }) t
-ticket_changed t s m u k e w rises distinct put others update =
-    let key : Ticket → ℕ = λ x. x.deadline in
-    let (left, (taken, arranged)) = update (itself key by_deadline_lawful s (subst (Rises deadline_of) (sym put) (put_rises deadline_of (u, k) t rises))) in
-    let same = back_again s t left u k e distinct others taken in
-    is_put key by_deadline_lawful t m (u, record { id = e.id; value = w }) rises (subst (λ l. Deadlines m (l ++ (u, record { id = e.id; value = w }) ∷ [])) same arranged)
+  held_now : Holds by_deadline ns (tickets_in ns)
+  held_now = (stands ns (tickets_in ls ++ (u, k) ∷ []) came).held
+
+  -- it was changed
+  module _ (ms : List (Nodes Ticket)) (e o : Element Ticket) (again : (a : Nodes Ticket) → Holds by_deadline ns a → (left : Nodes Ticket) × (IsTaken a u e left × Holds by_deadline ms (left ++ (u, o) ∷ []))) where
+    pub same_ticket : k ≡ e
+    same_ticket =
+        let (left, (taken, _), _) = changed ns ms held_now u e o again in
+        same_taken (tickets_in ns) (tickets_in ls) left u k e (distinct ns apart) came_last taken
+
+    pub changed_put : tickets_in ms ≡ put_by deadline_of (u, o) (tickets_in ls)
+    changed_put =
+        let (left, (taken, arranged), _) = changed ns ms held_now u e o again in
+        let same = back_again (tickets_in ns) (tickets_in ls) left u k e (distinct ns apart) came_last taken in
+        is_put (λ (w : Ticket). w.deadline) by_deadline_lawful (tickets_in ls) (tickets_in ms) (u, o) (rises ls)
+        (subst (λ l. Arranges by_deadline (tickets_in ms) (l ++ (u, o) ∷ [])) same arranged)
+
+    pub changed_held : Holds by_deadline ms (tickets_in ms)
+    changed_held = let (_, _, held) = changed ns ms held_now u e o again in held
+
+  -- it was removed again
+  module _ (ms : List (Nodes Ticket)) (e : Element Ticket) (gone : (a : Nodes Ticket) → Holds by_deadline ns a → (rest : Nodes Ticket) × (IsTaken a u e rest × Holds by_deadline ms rest)) where
+    pub nothing_left : tickets_in ms ≡ tickets_in ls
+    nothing_left = back_again (tickets_in ns) (tickets_in ls) (tickets_in ms) u k e (distinct ns apart) came_last (removed ns ms held_now u e gone).0
+
+    pub left_held : Holds by_deadline ms (tickets_in ms)
+    left_held = (removed ns ms held_now u e gone).1
 
 -- a ticket of which both parts are known
 ticket_of_parts : (w : Ticket) (d : ℕ) (o : Option Ptr) → w.deadline ≡ d → w.request ≡ o → w ≡ record { deadline = d; request = o }

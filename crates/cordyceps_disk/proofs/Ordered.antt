@@ -119,13 +119,16 @@ module _ {X : Type 0} (key : X → ℕ) where
     pub itself : (s : Nodes X) → Rises of s → Arranges (λ x y. nat_cmp (key x) (key y)) s s
     itself s h = arranges_itself o s (sorted_of s h)
 
+    -- what stands for some arrivals, with one more put in, stands for these and that one
+    pub put_arranges : (s a : Nodes X) (n : Ptr × Element X) → Rises of s → Arranges (λ x y. nat_cmp (key x) (key y)) s a → Arranges (λ x y. nat_cmp (key x) (key y)) (put_by of n s) (a ++ n ∷ [])
+    put_arranges s a n h was =
+        let (front, back, is, put, lower, higher) = put_split of n s h in
+        subst (λ l. Arranges (λ x y. nat_cmp (key x) (key y)) l (a ++ n ∷ [])) (sym put)
+        (arranges_put o front back a n (none_greater n front lower) (all_greater n back higher) (subst (λ l. Arranges (λ x y. nat_cmp (key x) (key y)) l a) is was))
+
     -- what stands for nodes in order and one more is those with that one put in
     pub is_put : (s t : Nodes X) (n : Ptr × Element X) → Rises of s → Arranges (λ x y. nat_cmp (key x) (key y)) t (s ++ n ∷ []) → t ≡ put_by of n s
-    is_put s t n h arranged =
-        let (front, back, is, put, lower, higher) = put_split of n s h in
-        let was = subst (λ l. Arranges (λ x y. nat_cmp (key x) (key y)) l s) is (itself s h) in
-        let now = arranges_put o front back s n (none_greater n front lower) (all_greater n back higher) was in
-        same_nodes o (s ++ n ∷ []) t (front ++ n ∷ back) arranged now ∙ sym put
+    is_put s t n h arranged = same_nodes o (s ++ n ∷ []) t (put_by of n s) arranged (put_arranges s s n h (itself s h))
 
   pub put_taken : (n : Ptr × Element X) (s : Nodes X) → Rises of s → IsTaken (put_by of n s) n.0 n.1 s
   put_taken n s h = let (front, back, is, put, lower, higher) = put_split of n s h in (front, back, put, is)

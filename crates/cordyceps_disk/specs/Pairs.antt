@@ -5,16 +5,24 @@ use denote.RawPtr.{Ptr, null_ptr}
 use Rattle.cordyceps.specs.Elements.Element.{Element}
 use Rattle.cordyceps.specs.Elements.Nodes.{Nodes, spots}
 use Rattle.cordyceps.specs.Spots.Agreeing.{HasElementAt}
+use Rattle.cordyceps.specs.Spots.DoubleLines.{flat}
+use Rattle.cordyceps.specs.Spots.Heap.{Holds}
 use Rattle.cordyceps.specs.Spots.Spots.{AreDistinct}
 use Rattle.cordyceps_disk.specs.declared.request.Request.{Request}
 use Rattle.cordyceps_disk.specs.declared.request.Ticket.{Ticket}
 use Rattle.cordyceps_disk.specs.declared.request.Waiting.{Waiting}
-use Rattle.cordyceps_disk.specs.Queue.{Queue, element}
+use Rattle.cordyceps_disk.specs.Orders.{by_deadline}
+use Rattle.cordyceps_disk.specs.Queue.{Queue, element, put_by}
 
 -- in the order of keys
 abbrev pub Rises : {A : Type 0} → (A → ℕ) → List A → Type 0
 Rises key [] = Unit {0}
 Rises key (x ∷ s) = AllByRecursion (λ y. key x ≤ key y) s × Rises key s
+
+-- more, one after the other, each after its equals
+abbrev pub put_all_by : {A : Type 0} → (A → ℕ) → List A → List A → List A
+put_all_by key s [] = s
+put_all_by key s (x ∷ more) = put_all_by key (put_by key x s) more
 
 abbrev pub spot_or : Option Ptr → Ptr
 spot_or None = null_ptr
@@ -22,6 +30,10 @@ spot_or (Some p) = p
 
 abbrev pub deadline_of : Ptr × Element Ticket → ℕ
 deadline_of n = n.1.value.deadline
+
+-- the tickets in the lines of a heap, by deadline
+abbrev pub tickets_in : List (Nodes Ticket) → Nodes Ticket
+tickets_in lines = put_all_by deadline_of [] (flat lines)
 
 -- what the tickets say: deadlines and spots
 abbrev pub due_of : Nodes Ticket → List (ℕ × Ptr)
@@ -58,3 +70,8 @@ module _ {P : Type 0} where
     pub request : (u : Ptr) (k : Element Ticket) → HasElementAt t u k
         → (q : Ptr) × (e : Element (Waiting P)) × HasElementAt c q e
         × (e.value.ticket ≡ u) × (k.value ≡ ticket_for q e)
+
+  -- requests, and a heap that holds their tickets as they are by deadline
+  pub record Kept (c : Nodes (Waiting P)) (lines : List (Nodes Ticket)) : Type 0 where
+    pub paired : Paired c (tickets_in lines)
+    pub held : Holds by_deadline lines (tickets_in lines)

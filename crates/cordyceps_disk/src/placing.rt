@@ -1,23 +1,26 @@
-//! Where the elevator goes on, and how a request and its ticket come in and go out together.
+//! Where the elevator goes on, and how a request and its ticket are inserted and removed together.
 ghost use Rattle.std.specs.Prelude.{◌≡◌, ◌<◌, length, if◌then◌else◌, Some, IfErr, IfOk, OnErr};
 ghost use denote.RawPtr.{Ptr};
 ghost use Rattle.cordyceps.specs.Elements.Element.{Element};
 ghost use Rattle.cordyceps.specs.Elements.Nodes.{Nodes};
 ghost use Rattle.cordyceps.specs.Spots.BySpot.{HasSpot, IsTaken};
-ghost use Rattle.cordyceps_disk.specs.Pairs.{Paired, Rises, ahead_of, sector_of, due_of};
+ghost use Rattle.cordyceps_disk.specs.Pairs.{Kept, Rises, ahead_of, sector_of, due_of, tickets_in};
 ghost use Rattle.cordyceps_disk.specs.Queue.{IsOut, put_by};
 
 use crate::request::{ByDeadline, BySector, Request, Ticket, Waiting};
-use cordyceps::{Node, Refused, Spot, StableSortedList};
+use cordyceps::{Node, Refused, Spot, StableHeap, StableSortedList};
 use std::alloc::Global;
 
 /// The requests that wait, by sector.
 pub(crate) type Requests<P> = StableSortedList<Waiting<P>, BySector>;
 
-/// Their tickets, by deadline.
-pub(crate) type Tickets = StableSortedList<Ticket, ByDeadline>;
+/// The tickets of these requests, the earliest deadline first.
+pub(crate) type Tickets = StableHeap<Ticket, ByDeadline>;
 
-/// Whether a request at a sector that comes in now is the next one at or above the head.
+/// Returns `true` if a request that is inserted now at `sector` is the first one at or above the head.
+///
+/// # Complexity
+/// O(1).
 pub(crate) fn leads<P: Drop>(
     requests: &Requests<P>,
     ahead: Option<Spot>,
@@ -39,7 +42,11 @@ pub(crate) fn leads<P: Drop>(
     }
 }
 
-/// The next one at or above the head, once the request at `at` has gone.
+/// Returns the spot of the first request at or above the head, once the request at `at` is removed. `None` if there is
+/// no such request.
+///
+/// # Complexity
+/// O(1).
 pub(crate) fn left_ahead<P: Drop>(
     requests: &Requests<P>,
     ahead: Option<Spot>,
@@ -65,9 +72,11 @@ pub(crate) fn left_ahead<P: Drop>(
     requests.next(at)
 }
 
-/// The first one at or above the sector of the request at `at`, once that has gone.
+/// Returns the spot of the first request at or above the sector of the request at `at`, once that is removed. `None` if
+/// there is no such request.
 ///
-/// It walks back over the requests at the same sector.
+/// # Complexity
+/// O(k), for k requests at the same sector that came before.
 pub(crate) fn first_above<P: Drop>(requests: &Requests<P>, at: Spot) -> Option<Spot>
     requires there { HasSpot requests.now.nodes at }
     requires order { Rises sector_of requests.now.nodes }
@@ -89,23 +98,32 @@ pub(crate) fn first_above<P: Drop>(requests: &Requests<P>, at: Spot) -> Option<S
     first
 }
 
-/// Puts a request in and a ticket for it, and returns the spot of the request. Where memory is refused it gives the
-/// request back.
+/// Inserts a request and its ticket, and returns the spot of the request. Allocates two nodes.
+///
+/// The request must know the spot of its ticket, and the ticket that of its request. So the ticket is inserted first,
+/// and is told the spot of the request by an update. The heap then inserts it anew after its equals, where it is.
+///
+/// # Errors
+/// If memory is refused, the request is returned, and no other request and no other ticket has changed.
+///
+/// # Complexity
+/// That of inserting into a sorted list: O(k), for k requests at higher sectors.
 pub(crate) fn link<P: Drop>(
     requests: &mut Requests<P>,
     tickets: &mut Tickets,
     alloc: Global,
     request: Request<P>,
 ) -> Result<Spot, Refused<Request<P>>>
-    requires paired { Paired requests.old.nodes tickets.old.nodes }
+    requires kept { Kept requests.old.nodes tickets.old.lines }
     requires fits { length requests.old.nodes < usize.MAX }
     ensures put { IfOk result (λ spot. (e : Element (Waiting P)) × (e.value.request ≡ request)
         × (requests.new.nodes ≡ put_by sector_of (spot, e) requests.old.nodes)) }
     ensures due { IfOk result (λ spot.
-        due_of tickets.new.nodes ≡ put_by (λ d. d.0) (request.deadline, spot) (due_of tickets.old.nodes)) }
-    ensures paired { Paired requests.new.nodes tickets.new.nodes }
+        due_of (tickets_in tickets.new.lines)
+        ≡ put_by (λ d. d.0) (request.deadline, spot) (due_of (tickets_in tickets.old.lines))) }
+    ensures kept { Kept requests.new.nodes tickets.new.lines }
     ensures requests_kept { OnErr result (requests.new.nodes ≡ requests.old.nodes) }
-    ensures tickets_kept { OnErr result (tickets.new.nodes ≡ tickets.old.nodes) }
+    ensures tickets_kept { OnErr result (tickets_in tickets.new.lines ≡ tickets_in tickets.old.lines) }
     ensures returned { IfErr result (λ e. e.value ≡ request) }
 {
     let (sector, deadline) = (request.sector, request.deadline);
@@ -116,7 +134,7 @@ pub(crate) fn link<P: Drop>(
     let Ok(ticket) = Node::new(alloc, deadline, ticket) else {
         return Err(Refused { value: request });
     };
-    let ticket = tickets.insert(ticket);
+    let ticket = tickets.push(ticket);
     match Node::new(alloc, sector, Waiting { request, ticket }) {
         Ok(node) => {
             let at = requests.insert(node);
@@ -140,18 +158,22 @@ pub(crate) fn link<P: Drop>(
     }
 }
 
-/// Takes a request out, and its ticket.
+/// Removes the request at `at` and its ticket, and returns the request.
+///
+/// # Complexity
+/// O(1).
 pub(crate) fn unlink<P: Drop>(
     requests: &mut Requests<P>,
     tickets: &mut Tickets,
     at: Spot,
 ) -> Request<P>
     requires there { HasSpot requests.old.nodes at }
-    requires paired { Paired requests.old.nodes tickets.old.nodes }
+    requires kept { Kept requests.old.nodes tickets.old.lines }
     ensures taken { (e : Element (Waiting P)) × (e.value.request ≡ result)
         × IsTaken requests.old.nodes at e requests.new.nodes }
-    ensures due { IsOut (due_of tickets.old.nodes) (result.deadline, at) (due_of tickets.new.nodes) }
-    ensures paired { Paired requests.new.nodes tickets.new.nodes }
+    ensures due { IsOut (due_of (tickets_in tickets.old.lines)) (result.deadline, at)
+        (due_of (tickets_in tickets.new.lines)) }
+    ensures kept { Kept requests.new.nodes tickets.new.lines }
 {
     let Waiting { request, ticket } = requests.remove(at).into_value();
     tickets.remove(ticket);

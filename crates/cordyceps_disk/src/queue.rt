@@ -8,14 +8,18 @@ ghost use Rattle.cordyceps_disk.specs.Queue.{HasLeft, IsNext, element, submitted
 
 use crate::placing::{Requests, Tickets, first_above, leads, left_ahead, link, unlink};
 use crate::request::{ByDeadline, BySector, Request};
-use cordyceps::{Refused, Spot, StableSortedList};
+use cordyceps::{Refused, Spot, StableHeap, StableSortedList};
 use std::alloc::Global;
 use std::marker::Model;
 
-/// Requests that wait for a disk. A contract sees them by sector, each with its spot, their deadlines and spots by
-/// deadline, equals in both as they came, and the sector where the head is.
+/// A queue of disk requests. A contract sees the waiting requests by sector, each with its spot, their deadlines and
+/// spots by deadline, equals in both as they came, and the sector where the head is.
 ///
-/// Each request is at its spot until it is served or cancelled. A drop frees those that wait.
+/// Each request stays at its spot until it is served or cancelled. Two requests may have the same sector or deadline.
+/// Deadlines and times are numbers of the caller's clock, in any unit. At most `usize::MAX` requests wait.
+///
+/// # Complexity
+/// Dropping the queue frees the nodes of the waiting requests: O(n), for n requests.
 #[derive(Drop)]
 pub struct DiskQueue<P> {
     requests: Requests<P>,
@@ -27,49 +31,60 @@ pub struct DiskQueue<P> {
 impl<P> Model for DiskQueue<P> {
     ghost use Rattle.std.specs.Prelude.{◌≡◌};
     ghost use Rattle.cordyceps_disk.specs.Queue.{Queue};
-    ghost use Rattle.cordyceps_disk.specs.Pairs.{Paired, ahead_of, seen};
+    ghost use Rattle.cordyceps_disk.specs.Pairs.{Kept, ahead_of, seen, tickets_in};
 
     ghost Value = { Queue P };
 
-    ghost view = { λ q. seen q.requests.nodes q.tickets.nodes q.head };
+    ghost view = { λ q. seen q.requests.nodes (tickets_in q.tickets.lines) q.head };
 
-    ghost invariant = { λ q. Paired q.requests.nodes q.tickets.nodes × (q.ahead ≡ ahead_of q.head q.requests.nodes) };
+    ghost invariant = { λ q. Kept q.requests.nodes q.tickets.lines × (q.ahead ≡ ahead_of q.head q.requests.nodes) };
 }
 
 impl<P: Drop> DiskQueue<P> {
-    /// Makes a queue without requests, with the head at the sector 0. It takes no memory.
+    /// Creates a queue without requests, with the head at the sector 0. Allocates nothing.
+    ///
+    /// # Complexity
+    /// O(1).
     pub fn new() -> DiskQueue<P>
         ensures { result ≡ record { waiting = []; due = []; head = 0 } }
     {
         DiskQueue {
             requests: StableSortedList::new_with_order(BySector),
-            tickets: StableSortedList::new_with_order(ByDeadline),
+            tickets: StableHeap::new_with_order(ByDeadline),
             ahead: None,
             head: 0,
         }
     }
 
-    /// Returns how many requests wait, at once.
+    /// Returns the number of waiting requests.
+    ///
+    /// # Complexity
+    /// O(1).
     pub fn len(&self) -> usize
         ensures { result ≡ length self.now.waiting }
     {
         self.requests.len()
     }
 
-    /// Returns whether no request waits, at once.
+    /// Returns `true` if no request waits.
+    ///
+    /// # Complexity
+    /// O(1).
     pub fn is_empty(&self) -> bool
         ensures { result ≡ (length self.now.waiting == 0) }
     {
         self.len() == 0
     }
 
-    /// Puts a request in, in both orders after its equals, and returns its spot. It takes memory for two nodes.
+    /// Inserts a request and returns its spot. In both orders it comes after its equals. Allocates two nodes.
     ///
     /// # Errors
-    /// Where memory is refused, or `usize::MAX` requests wait, the request comes back, and the queue stays as it was.
+    /// If memory is refused, or `usize::MAX` requests wait, the request is returned, and the queue is unchanged.
     ///
     /// # Complexity
-    /// It compares with each request at a higher sector, and with each later deadline twice.
+    /// O(k), for k requests at higher sectors: one comparison with each. The deadline is inserted in O(1), without a
+    /// comparison; `next` and `peek` sort it when they look for the earliest one, in O(log n) amortized, for n requests
+    /// that were submitted.
     pub fn submit(
         &mut self,
         alloc: Global,
@@ -93,7 +108,10 @@ impl<P: Drop> DiskQueue<P> {
         Ok(at)
     }
 
-    /// Takes the request at `at` out, at once. The head stays where it is.
+    /// Removes the request at `at` and returns it. The head stays where it is. Requires that `at` is valid.
+    ///
+    /// # Complexity
+    /// O(1).
     pub fn cancel(&mut self, at: Spot) -> Request<P>
         requires { HasSpot self.old.waiting at }
         ensures left { HasLeft at result self.old self.new }
@@ -104,15 +122,14 @@ impl<P: Drop> DiskQueue<P> {
         unlink(&mut self.requests, &mut self.tickets, at)
     }
 
-    /// Takes the request out that the disk is to serve at the time `now`, and moves the head to its sector. `None`
-    /// where none waits.
+    /// Removes the request that the disk is to serve at the time `now`, moves the head to its sector, and returns it.
+    /// Returns `None` if no request waits.
     ///
-    /// Where a deadline is before `now`, it is the request with the earliest one. Otherwise it is the first at or above
-    /// the head, and where there is none the lowest one. Of equals it is the one that came first.
+    /// If a deadline is before `now`, it is the request with the earliest one. Otherwise it is the first at or above
+    /// the head, or, if there is none, the one at the lowest sector. Of equals it is the one that came first.
     ///
     /// # Complexity
-    /// It walks back over the requests at the same sector that came before one overdue. Otherwise it takes the same
-    /// time whatever waits.
+    /// That of `peek`. For an overdue request also O(k), for k requests at the same sector that came before it.
     pub fn next(&mut self, now: u64) -> Option<Request<P>>
         ensures served { MatchOption result ((self.old.waiting ≡ []) × (self.new ≡ self.old))
             (λ r. (p : Ptr) × IsNext now p r self.old × HasLeft p r self.old self.new × (self.new.head ≡ r.sector)) }
@@ -125,12 +142,20 @@ impl<P: Drop> DiskQueue<P> {
         Some(request)
     }
 
-    /// Returns the spot of the request that `next` would take out, at once. `None` where none waits.
-    pub fn peek(&self, now: u64) -> Option<Spot>
-        ensures next { MatchOption result (self.now.waiting ≡ []) (λ p. (r : Request P) × IsNext now p r self.now) }
-        ensures there { IfSome result (λ p. HasSpot self.now.waiting p) }
+    /// Returns the spot of the request that `next` would return, or `None` if no request waits. The queue stays the
+    /// same. Takes `&mut self` since it sorts the deadlines that were inserted since the last look, which no contract
+    /// sees.
+    ///
+    /// # Complexity
+    /// O(log n), for n requests that were submitted: at most 64 comparisons. To sort a deadline that was inserted since
+    /// the last look takes O(log n), amortized; at worst all k of them take O(n + k log k).
+    pub fn peek(&mut self, now: u64) -> Option<Spot>
+        ensures next { MatchOption result (self.old.waiting ≡ []) (λ p. (r : Request P) × IsNext now p r self.old) }
+        ensures there { IfSome result (λ p. HasSpot self.old.waiting p) }
+        ensures same { self.new ≡ self.old }
     {
-        let first = self.tickets.get(self.tickets.front()?);
+        let earliest = self.tickets.front()?;
+        let first = self.tickets.get(earliest);
         if first.deadline < now {
             return first.request;
         }
@@ -140,7 +165,10 @@ impl<P: Drop> DiskQueue<P> {
         }
     }
 
-    /// Returns the request at `at`, at once.
+    /// Returns a reference to the request at `at`. Requires that `at` is valid.
+    ///
+    /// # Complexity
+    /// O(1).
     pub fn get(&self, at: Spot) -> &Request<P>
         requires { HasSpot self.now.waiting at }
         ensures { HoldsAt self.now.waiting at result.now }

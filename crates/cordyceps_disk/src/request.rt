@@ -1,4 +1,4 @@
-//! Requests, and the two orders in which they wait.
+//! Disk requests, and the two orders in which they wait.
 ghost use Rattle.std.specs.Prelude.{◌≡◌, refl};
 ghost use Rattle.std.specs.Ordering.{nat_cmp};
 ghost use Rattle.std.proofs.Common.{subst, sym};
@@ -10,7 +10,8 @@ use cordyceps::sorted_list::Order;
 use cordyceps::{Linked, Node, Spot};
 use std::cmp::Ordering;
 
-/// What a disk is to do at a sector, at best before its deadline.
+/// A request to a disk: what it is to do at a sector. After the deadline, a number of the caller's clock, the request
+/// is overdue.
 #[derive(Drop, Debug)]
 pub struct Request<P> {
     pub sector: u64,
@@ -18,14 +19,14 @@ pub struct Request<P> {
     pub payload: P,
 }
 
-/// A request that waits, and the spot of its ticket.
+/// A waiting request, and the spot of its ticket.
 #[derive(Drop)]
 pub(crate) struct Waiting<P> {
     pub request: Request<P>,
     pub ticket: Spot,
 }
 
-/// A request's place in the order by deadline, and the spot of the request, once it has one.
+/// The place of a request in the order by deadline, and the spot of the request, once it has one.
 #[derive(Drop)]
 pub(crate) struct Ticket {
     pub deadline: u64,
@@ -66,7 +67,7 @@ impl Linked<Links<Ticket>> for Ticket {
     }
 }
 
-/// The order of the sectors.
+/// The order of requests by sector.
 #[derive(Clone, Copy)]
 pub(crate) struct BySector;
 
@@ -82,7 +83,7 @@ impl<P> Order<Waiting<P>> for BySector {
     }
 }
 
-/// The order of the deadlines.
+/// The order of tickets by deadline.
 #[derive(Clone, Copy)]
 pub(crate) struct ByDeadline;
 

@@ -6,3 +6,4 @@ mod Merged
 mod Reading
 mod Said
 mod Settled
+pub mod Standing

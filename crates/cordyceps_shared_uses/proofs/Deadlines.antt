@@ -30,9 +30,6 @@ not_sooner a b h = lt_is a b ∙ le-ltb a b h
 sooner : (a b : ℕ) → a < b → is_lt (nat_cmp a b) ≡ true
 sooner a b h = lt_is a b ∙ lt-ltb a b h
 
-pub sooner_is : (a b : ℕ) → is_lt (nat_cmp a b) ≡ true → a < b
-sooner_is a b t = ltb-true a b (sym (lt_is a b) ∙ t)
-
 not_later : (a b : ℕ) → is_lt (nat_cmp a b) ≡ false → b ≤ a
 not_later a b f = ltb-false a b (sym (lt_is a b) ∙ f)
 
@@ -121,8 +118,3 @@ module _ {P : Type 0} where
   pub none_due : (now : ℕ) (s : Nodes (Timer P)) → AllByRecursion (λ n. now < n.1.value.deadline) s → due now s ≡ []
   none_due now [] h = refl
   none_due now (x ∷ s) h = ap (λ b. cond b (due now s) (x ∷ due now s)) (lt-ltb now x.1.value.deadline h.0) ∙ none_due now s h.1
-
-  pub first_later : (now : ℕ) (x : Ptr × Element (Timer P)) (s : Nodes (Timer P)) → due now (x ∷ s) ≡ [] → now < x.1.value.deadline
-  first_later now x s h =
-      by_test (nat_lt now x.1.value.deadline) (λ y. ltb-true now x.1.value.deadline y)
-      (λ n. let some = sym (ap (λ b. cond b (due now s) (x ∷ due now s)) n) ∙ h in absurd cc)

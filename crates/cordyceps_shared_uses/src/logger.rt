@@ -77,7 +77,7 @@ fn send<R: Wait>(
     let mut handle = handle;
     for _ in rt.forever() {
         let sent = queue.try_enqueue(party, handle);
-        // a thread that stores sleeps only while the queue is empty, and then no room is missing for long
+        // It is woken whether or not the record was accepted, since a wake-up too many does no harm.
         storer.unpark();
         match sent {
             Ok(()) => return,

@@ -1,4 +1,4 @@
-//! Timers, the earliest deadline first, each of which can be cancelled before it is due.
+//! Timers that fire by their deadlines, each of which can be cancelled before it is due.
 ghost use Rattle.std.specs.Prelude.{
   ◌≡◌,
   ◌≤◌,
@@ -29,7 +29,7 @@ use cordyceps::{ClockQueue, Kind, Linked, Node, Refused, Spot};
 use std::alloc::Global;
 use std::marker::Model;
 
-/// A deadline, and what is to be done then.
+/// A deadline, in the ticks of the caller's clock, and what is to be done then.
 #[derive(Drop)]
 pub struct Timer<P> {
     pub deadline: u64,
@@ -53,7 +53,7 @@ impl<L: Kind, P: Drop> Linked<L> for Timer<P> {
     }
 }
 
-/// A timer that does not run, in a node that can be put among those that do.
+/// A timer that does not run, in a node that `Timers::restart` starts again.
 pub type Stopped<P> = Node<Timer<P>, Links<Timer<P>>>;
 
 /// The times of timers: their deadlines.
@@ -72,9 +72,11 @@ impl<P> Times<Timer<P>> for ByDeadline {
     }
 }
 
-/// Timers that run. A contract sees each with its spot, the earliest deadline first and equals as they were started,
-/// and the clock: the latest of the deadlines of those that came out when due and of the times at which none was due.
-/// A deadline before the clock counts as the clock.
+/// Timers that run, and a clock. The clock is the latest of the deadlines of those that came out when due and of the
+/// times at which none was due. A deadline before the clock counts as the clock. At most `usize::MAX` timers run.
+///
+/// A contract sees each timer with its spot, the earliest deadline first and equals as they were started, and the
+/// clock.
 #[derive(Drop)]
 pub struct Timers<P> {
     queue: ClockQueue<Timer<P>, ByDeadline>,
@@ -93,7 +95,10 @@ impl<P> Model for Timers<P> {
 }
 
 impl<P: Drop> Timers<P> {
-    /// Makes timers of which none runs, at the time 0. It takes no memory.
+    /// Creates timers of which none runs, at the time 0. Allocates nothing.
+    ///
+    /// # Complexity
+    /// O(1).
     pub fn new() -> Timers<P>
         ensures { result ≡ record { nodes = []; clock = 0 } }
     {
@@ -103,17 +108,20 @@ impl<P: Drop> Timers<P> {
     }
 
     /// Returns the clock. A timer that is started with an earlier deadline is due then.
+    ///
+    /// # Complexity
+    /// O(1).
     pub fn now(&self) -> u64
         ensures { result ≡ self.now.clock }
     {
         self.queue.now()
     }
 
-    /// Starts a timer after all whose deadline is not later, and returns its spot. It takes memory for one node, whose
+    /// Starts a timer and returns its spot. It fires after all whose deadline is not later. Allocates one node, whose
     /// number is the deadline.
     ///
     /// # Errors
-    /// The payload comes back where that memory is refused, or where `usize::MAX` timers run.
+    /// If memory is refused, or `usize::MAX` timers run, the payload is returned, and the timers are unchanged.
     ///
     /// # Complexity
     /// O(1).
@@ -141,11 +149,11 @@ impl<P: Drop> Timers<P> {
         }
     }
 
-    /// Starts a timer in the node that it has, after all whose deadline is not later, and returns its spot. It takes
-    /// no memory.
+    /// Starts a timer in the node that it has and returns its spot. It fires after all whose deadline is not later.
+    /// Allocates nothing.
     ///
     /// # Errors
-    /// The timer comes back where `usize::MAX` timers run.
+    /// If `usize::MAX` timers run, the timer is returned, and those that run are unchanged.
     ///
     /// # Complexity
     /// O(1).
@@ -167,7 +175,10 @@ impl<P: Drop> Timers<P> {
         Ok(self.queue.push(timer))
     }
 
-    /// Takes the timer at a spot out in its node, at once, before it is due.
+    /// Removes the timer at `spot` in its node and returns it. The clock stays the same. Requires that `spot` is valid.
+    ///
+    /// # Complexity
+    /// O(1).
     pub fn cancel(&mut self, spot: Spot) -> Stopped<P>
         requires { HasSpot self.old.nodes spot }
         ensures taken { IsTaken self.old.nodes spot result self.new.nodes }
@@ -177,11 +188,11 @@ impl<P: Drop> Timers<P> {
         self.queue.remove(spot)
     }
 
-    /// Returns the earliest deadline. `None` where no timer runs.
+    /// Returns the earliest deadline, or `None` if no timer runs.
     ///
     /// # Complexity
-    /// O(k), for k timers whose deadlines differ from the clock in no higher bit than the earliest one does: at worst
-    /// all.
+    /// O(k), for k timers whose deadlines differ from the clock in no higher bit than the earliest one does; at worst
+    /// these are all timers.
     pub fn first_deadline(&self) -> Option<u64>
         ensures { result ≡ first_deadline self.now.nodes }
     {
@@ -189,11 +200,11 @@ impl<P: Drop> Timers<P> {
         Some(first.deadline)
     }
 
-    /// Takes the earliest timer out in its node, if it is due at the time `now`. `None` where none is due; all stay
-    /// then, and the clock goes on to `now`, if that is later.
+    /// Removes the earliest timer in its node and returns it, or returns `None` if none is due at the time `now`. Then
+    /// all timers stay, and the clock is set to `now`, if that is later.
     ///
     /// # Complexity
-    /// O(1) amortized, whatever runs: a timer is moved at most 64 times before it comes out.
+    /// O(1) amortized, for any number of timers: each is moved at most 64 times before it comes out.
     pub fn stop_due(&mut self, now: u64) -> Option<Stopped<P>>
         ensures stopped { MatchOption result
             ((self.new.nodes ≡ self.old.nodes) × (due now self.old.nodes ≡ []))
@@ -206,11 +217,11 @@ impl<P: Drop> Timers<P> {
         self.queue.pop_due(now)
     }
 
-    /// Takes the earliest timer out, if it is due at the time `now`. `None` where none is due; all stay then, and the
-    /// clock goes on to `now`, if that is later.
+    /// Removes the earliest timer, frees its node and returns it, or returns `None` if none is due at the time `now`.
+    /// Then all timers stay, and the clock is set to `now`, if that is later.
     ///
     /// # Complexity
-    /// As `stop_due`.
+    /// That of `stop_due`.
     pub fn pop_due(&mut self, now: u64) -> Option<Timer<P>>
         ensures popped { MatchOption result
             ((self.new.nodes ≡ self.old.nodes) × (due now self.old.nodes ≡ []))

@@ -1,5 +1,6 @@
 pub mod Agreeing
 pub mod Arranged
+pub mod Arrivals
 pub mod Classes
 pub mod Holding
 mod Parts
