@@ -48,19 +48,20 @@ module _ {X : Type 0} (of : X → ℕ) (now k : ℕ) where
       → MatchOption next (IsLast c p) (λ q. AreNext c p q) → Says c next t → t ≡ true → get_or ends k None ≡ last_spot (row N k rest)
   left_stays ends c rest p e None t small distinct kept taken numbered on says t_is = let nope : true ≡ false = sym t_is ∙ says in cc
   left_stays ends c rest p e (Some q) t small distinct kept (front, back, is, left) numbered (f, x, o, z, at) (v, holds, tells) t_is =
-      let same = parts_at c front back f ((q, o) ∷ z) p e x distinct is at in
+      let (before, own, later) = parts_at c front back f ((q, o) ∷ z) p e x distinct is at in
       let inside = said_in c (f ++ (p, x) ∷ []) z q o v t distinct (at ∙ sym (append_assoc f ((p, x) ∷ []) ((q, o) ∷ z))) holds tells t_is in
-      end_stays N ends front z (p, e) (q, o) k small numbered inside (subst (IsKept N ends) (is ∙ ap (λ l. front ++ (p, e) ∷ l) same.2) kept)
-      ∙ ap (λ l. last_spot (row N k l)) (sym (left ∙ ap (λ l. front ++ l) same.2))
+      end_stays N ends front z (p, e) (q, o) k small numbered inside (subst (IsKept N ends) (is ∙ ap (λ l. front ++ (p, e) ∷ l) later) kept)
+      ∙ ap (λ l. last_spot (row N k l)) (sym (left ∙ ap (λ l. front ++ l) later))
 
   -- no node after it is in the bucket
   none_left : (ends : List (Option Ptr)) (c front back : Nodes X) (p : Ptr) (e : Element X) (next : Option Ptr) (t : Bool) → AreDistinct (spots c) → IsKept N ends c → c ≡ front ++ (p, e) ∷ back → bucket_of now (of e.value) ≡ k
       → MatchOption next (IsLast c p) (λ q. AreNext c p q) → Says c next t → t ≡ false → row N k back ≡ []
-  none_left ends c front back p e None t distinct kept is numbered (f, x, at) says f_is = ap (row N k) (parts_at c front back f [] p e x distinct is at).2
+  none_left ends c front back p e None t distinct kept is numbered (f, x, at) says f_is =
+      let (before, own, later) = parts_at c front back f [] p e x distinct is at in ap (row N k) later
   none_left ends c front back p e (Some q) t distinct kept is numbered (f, x, o, z, at) (v, holds, tells) f_is =
-      let same = parts_at c front back f ((q, o) ∷ z) p e x distinct is at in
+      let (before, own, later) = parts_at c front back f ((q, o) ∷ z) p e x distinct is at in
       let outside = said_out c (f ++ (p, x) ∷ []) z q o v t distinct (at ∙ sym (append_assoc f ((p, x) ∷ []) ((q, o) ∷ z))) holds tells f_is in
-      ap (row N k) same.2 ∙ none_after N front z (p, e) (q, o) k numbered outside (subst (AscendsBy N) (is ∙ ap (λ l. front ++ (p, e) ∷ l) same.2) kept.ascends)
+      ap (row N k) later ∙ none_after N front z (p, e) (q, o) k numbered outside (subst (AscendsBy N) (is ∙ ap (λ l. front ++ (p, e) ∷ l) later) kept.ascends)
 
   -- the node before it is the last of the bucket, or there is none
   before_it : (ends : List (Option Ptr)) (c front back : Nodes X) (p : Ptr) (e : Element X) (prev : Option Ptr) (t : Bool) → AreDistinct (spots c) → IsKept N ends c → c ≡ front ++ (p, e) ∷ back → bucket_of now (of e.value) ≡ k

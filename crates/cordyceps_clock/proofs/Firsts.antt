@@ -45,8 +45,10 @@ module _ {X : Type 0} where
       omega (arith, s.long, ap length s.parts ∙ length-append s.seen s.left, ap length is)
 
   pub next_of : (c front back : Nodes X) (p : Ptr) (e : Element X) (o : Option Ptr) → AreDistinct (spots c) → c ≡ front ++ (p, e) ∷ back → MatchOption o (IsLast c p) (λ q. AreNext c p q) → MatchOption o (back ≡ []) (λ q. IsFirst back q)
-  next_of c front back p e None distinct is (f, x, at) = (unique front back f [] p e x (sym is ∙ at) (subst (λ l. AreDistinct (spots l)) is distinct)).2
-  next_of c front back p e (Some q) distinct is (f, x, y, after, at) = (y, after, (unique front back f ((q, y) ∷ after) p e x (sym is ∙ at) (subst (λ l. AreDistinct (spots l)) is distinct)).2)
+  next_of c front back p e None distinct is (f, x, at) =
+      let (before, own, rest) = unique front back f [] p e x (sym is ∙ at) (subst (λ l. AreDistinct (spots l)) is distinct) in rest
+  next_of c front back p e (Some q) distinct is (f, x, y, after, at) =
+      let (before, own, rest) = unique front back f ((q, y) ∷ after) p e x (sym is ∙ at) (subst (λ l. AreDistinct (spots l)) is distinct) in (y, after, rest)
 
   abbrev pub seen_first : (c : Nodes X) (p : Ptr) (o : Option Ptr) → AreDistinct (spots c) → IsFirst c p → MatchOption o (IsLast c p) (λ q. AreNext c p q) → Seen c 1 o
   seen_first c p o distinct (e, after, is) on = record { seen = (p, e) ∷ []; left = after; parts = is; long = refl; next = next_of c [] after p e o distinct is on }

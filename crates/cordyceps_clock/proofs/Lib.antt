@@ -5,5 +5,6 @@ mod Fronts
 mod Numbers
 mod Pops
 mod Puts
+mod Renewals
 mod Rows
 mod Spreads

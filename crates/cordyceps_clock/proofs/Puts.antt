@@ -3,21 +3,34 @@ use Rattle.std.proofs.Common.{true, ◌≡◌, ℕ, ◌+◌, ◌-◌, ◌<◌, �
 use Rattle.std.specs.Option.{is_some}
 use Rattle.std.proofs.lemmas.List.{append_assoc, get_or_default, get_or-set_same, get_or-set_other}
 use denote.RawPtr.{Ptr}
-use Rattle.cordyceps_base.specs.BySpot.{HasSpot, IsPutAfter}
+use Rattle.cordyceps_base.specs.BySpot.{HasSpot, IsTaken, IsPutAfter}
 use Rattle.cordyceps_base.specs.Element.{Element}
 use Rattle.cordyceps_base.specs.Nodes.{Nodes, spots}
-use Rattle.cordyceps_base.specs.Spots.{AreDistinct}
+use Rattle.cordyceps_base.specs.Spots.{AreDistinct, IsNew}
 use Rattle.cordyceps_stable.proofs.Holding.{spot_is_at, unique}
-use Rattle.cordyceps_clock.specs.Buckets.{IsKept, IsPutIn}
-use Rattle.cordyceps_clock.proofs.Rows.{IsNearest, parted, kept_put}
+use Rattle.cordyceps_clock.specs.Buckets.{IsKept, IsNearest, IsPutIn, IsSet}
+use Rattle.cordyceps_clock.proofs.Rows.{parted, kept_put}
 
 -- what a call left is what is there
 module _ {X : Type 0} (P : Ptr → Nodes X → Type 0) where
   pub shown_put : (c d : Nodes X) (p q : Ptr) → d ≡ c → q ≡ p → P p c → P q d
   shown_put c d p q is at h = subst (λ (l : Ptr × Nodes X). P l.0 l.1) (λ i. (sym at i, sym is i)) h
 
-abbrev pub IsSet : List (Option Ptr) → List (Option Ptr) → ℕ → Ptr → Type 0
-IsSet ends new k spot = (get_or new k None ≡ Some spot) × ((i : ℕ) → (i ≡ k → ⊥) → get_or new i None ≡ get_or ends i None)
+-- ---- a node less
+module _ {X : Type 0} where
+  new_less : (q : Ptr) (b a : Nodes X) (n : Ptr × Element X) → IsNew q (spots (b ++ n ∷ a)) → IsNew q (spots (b ++ a))
+  new_less q [] a n h = h.1
+  new_less q (x ∷ b) a n h = (h.0, new_less q b a n h.1)
+
+  pub distinct_less : (b a : Nodes X) (n : Ptr × Element X) → AreDistinct (spots (b ++ n ∷ a)) → AreDistinct (spots (b ++ a))
+  distinct_less [] a n h = h.1
+  distinct_less (x ∷ b) a n h = (new_less x.0 b a n h.0, distinct_less b a n h.1)
+
+  -- what a moved node leaves
+  pub left_is : (c done more rest : Nodes X) (p : Ptr) (e o : Element X) → AreDistinct (spots c) → c ≡ done ++ (p, e) ∷ more → IsTaken c p o rest → (e ≡ o) × (rest ≡ done ++ more)
+  left_is c done more rest p e o distinct is (before, after, was, left) =
+      let (front, own, back) = unique done more before after p e o (sym is ∙ was) (subst (λ l. AreDistinct (spots l)) is distinct) in
+      (own, left ∙ (λ i. sym front i ++ sym back i))
 
 -- an end that was written
 pub set_is : (ends : List (Option Ptr)) (k : ℕ) (spot : Ptr) → length ends ≡ 65 → k < 65 → IsSet ends (slice_set ends k (Some spot)) k spot
@@ -34,24 +47,24 @@ found_end ends k above r long small some within none is = go (get_or ends (above
 
 module _ {X : Type 0} (number : Ptr × Element X → ℕ) where
   -- the nearest end is where a node is
-  pub nearest_has : (ends : List (Option Ptr)) (c : Nodes X) (k : ℕ) (to : Ptr) → k < 65 → IsKept number ends c → IsNearest number ends k (Some to) → HasSpot c to
+  pub nearest_has : (ends : List (Option Ptr)) (c : Nodes X) (k : ℕ) (to : Ptr) → k < 65 → IsKept number ends c → IsNearest ends k (Some to) → HasSpot c to
   nearest_has ends c k to small kept near =
       let p = parted number ends c k (Some to) small kept near in let (front, y, low) = p.end in
       spot_is_at c to y (front, p.high, p.is ∙ ap (λ l. l ++ p.high) low ∙ append_assoc front ((to, y) ∷ []) p.high)
 
-  pub put_after : (ends new : List (Option Ptr)) (c d : Nodes X) (to spot : Ptr) (e : Element X) (k : ℕ) → k < 65 → AreDistinct (spots c) → IsKept number ends c → IsNearest number ends k (Some to) → IsPutAfter c to spot e d
+  pub put_after : (ends new : List (Option Ptr)) (c d : Nodes X) (to spot : Ptr) (e : Element X) (k : ℕ) → k < 65 → AreDistinct (spots c) → IsKept number ends c → IsNearest ends k (Some to) → IsPutAfter c to spot e d
       → number (spot, e) ≡ k → IsSet ends new k spot → IsKept number new d × IsPutIn number k c spot e d
   put_after ends new c d to spot e k small distinct kept near (before, o, after, was, is) numbered set =
       let p = parted number ends c k (Some to) small kept near in let (front, y, low) = p.end in
       let whole : c ≡ front ++ (to, y) ∷ p.high = p.is ∙ ap (λ l. l ++ p.high) low ∙ append_assoc front ((to, y) ∷ []) p.high in
-      let same = unique before after front p.high to o y (sym was ∙ whole) (subst (λ l. AreDistinct (spots l)) was distinct) in
+      let (first, own, last) = unique before after front p.high to o y (sym was ∙ whole) (subst (λ l. AreDistinct (spots l)) was distinct) in
       let put : d ≡ p.low ++ (spot, e) ∷ p.high =
-      is ∙ (λ i. same.0 i ++ (to, same.1 i) ∷ (spot, e) ∷ same.2 i) ∙ sym (append_assoc front ((to, y) ∷ []) ((spot, e) ∷ p.high)) ∙ ap (λ l. l ++ (spot, e) ∷ p.high) (sym low) in (
+      is ∙ (λ i. first i ++ (to, own i) ∷ (spot, e) ∷ last i) ∙ sym (append_assoc front ((to, y) ∷ []) ((spot, e) ∷ p.high)) ∙ ap (λ l. l ++ (spot, e) ∷ p.high) (sym low) in (
         subst (IsKept number new) (sym put) (kept_put number ends new p.low p.high (spot, e) k numbered p.upto p.above set.0 set.1 (subst (IsKept number ends) p.is kept)),
         (p.low, p.high, p.is, put, p.above),
       )
 
-  pub put_first : (ends new : List (Option Ptr)) (c d : Nodes X) (spot : Ptr) (e : Element X) (k : ℕ) → k < 65 → IsKept number ends c → IsNearest number ends k None → d ≡ (spot, e) ∷ c
+  pub put_first : (ends new : List (Option Ptr)) (c d : Nodes X) (spot : Ptr) (e : Element X) (k : ℕ) → k < 65 → IsKept number ends c → IsNearest ends k None → d ≡ (spot, e) ∷ c
       → number (spot, e) ≡ k → IsSet ends new k spot → IsKept number new d × IsPutIn number k c spot e d
   put_first ends new c d spot e k small kept near is numbered set =
       let p = parted number ends c k None small kept near in

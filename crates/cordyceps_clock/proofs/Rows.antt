@@ -7,7 +7,7 @@ use Rattle.std.proofs.lemmas.List.{append_assoc}
 use Rattle.std.proofs.lemmas.List.Elements.{filter-append}
 use denote.RawPtr.{Ptr}
 use Rattle.cordyceps_single.specs.ByKey.{AscendsBy}
-use Rattle.cordyceps_clock.specs.Buckets.{last_spot, row, IsKept}
+use Rattle.cordyceps_clock.specs.Buckets.{last_spot, row, IsKept, IsNearest}
 
 module _ {A : Type 0} where
   all_append : (Q : A → Type 0) (xs ys : List A) → AllByRecursion Q xs → AllByRecursion Q ys → AllByRecursion Q (xs ++ ys)
@@ -27,11 +27,16 @@ module _ {A : Type 0} where
   all_weaker P Q f (x ∷ xs) h = (f x h.0, all_weaker P Q f xs h.1)
 
   -- what a list ends with
-  pub ends_with : (c : List A) → (c ≡ []) ⊎ ((front : List A) × (n : A) × (c ≡ front ++ n ∷ []))
+  pub record EndsWith (c : List A) : Type 0 where
+    pub front : List A
+    pub n : A
+    pub is : c ≡ front ++ n ∷ []
+
+  pub ends_with : (c : List A) → (c ≡ []) ⊎ EndsWith c
   ends_with [] = inl refl
   ends_with (x ∷ c) = elim (ends_with c) [
-    | inl none ↦ inr ([], x, ap (λ l. x ∷ l) none)
-    | inr on ↦ inr (x ∷ on.0, on.1, ap (λ l. x ∷ l) on.2)
+    | inl none ↦ inr (record { front = []; n = x; is = ap (λ l. x ∷ l) none })
+    | inr on ↦ inr (record { front = x ∷ on.front; n = on.n; is = ap (λ l. x ∷ l) on.is })
   ]
 
   module _ (number : A → ℕ) where
@@ -113,10 +118,6 @@ module _ {Y : Type 0} (number : Ptr × Y → ℕ) where
   end_passed (x ∷ y ∷ c) d n m = end_passed (y ∷ c) d n m
 
   -- ---- the nearest end
-  abbrev pub IsNearest : List (Option Ptr) → ℕ → Option Ptr → Type 0
-  IsNearest ends k o = MatchOption o ((i : ℕ) → i ≤ k → get_or ends i None ≡ None)
-      (λ p. (j : ℕ) × (j ≤ k) × (get_or ends j None ≡ Some p) × ((i : ℕ) → j < i → i ≤ k → get_or ends i None ≡ None))
-
   -- the nodes up to a bucket and those above, and where the former end
   pub record Parted (k : ℕ) (c : Ns) (o : Option Ptr) : Type 0 where
     pub low : Ns
@@ -166,7 +167,7 @@ module _ {Y : Type 0} (number : Ptr × Y → ℕ) where
       let s = split number k c kept.ascends in
       elim (ends_with s.low) [
         | inl none ↦ nothing_low ends c s.high k o small kept (s.is ∙ ap (λ l. l ++ s.high) none) s.above near
-        | inr on ↦ something_low ends c on.0 s.high on.1 k o small kept (s.is ∙ ap (λ l. l ++ s.high) on.2) (subst (AllByRecursion (λ y. number y ≤ k)) on.2 s.upto) s.above near
+        | inr on ↦ something_low ends c on.front s.high on.n k o small kept (s.is ∙ ap (λ l. l ++ s.high) on.is) (subst (AllByRecursion (λ y. number y ≤ k)) on.is s.upto) s.above near
       ]
 
   -- ---- one more node, after those up to its bucket

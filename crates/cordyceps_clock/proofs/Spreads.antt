@@ -8,10 +8,10 @@ use Rattle.std.proofs.lemmas.List.Elements.{filter-append, All-from_recursion, r
 use Rattle.std.proofs.lemmas.List.Sorted.{All-permutation, IsPermutation-sym, IsPermutation-trans, IsPermutation-middle}
 use Rattle.std.proofs.lemmas.List.{append_assoc, append-nil}
 use denote.RawPtr.{Ptr}
-use Rattle.cordyceps_base.specs.BySpot.{HasSpot, IsTaken, IsMovedFront, IsMovedAfter, IsFirst, IsLast, AreNext}
+use Rattle.cordyceps_base.specs.BySpot.{HasSpot, IsMovedFront, IsMovedAfter, IsFirst, IsLast, AreNext}
 use Rattle.cordyceps_base.specs.Element.{Element}
 use Rattle.cordyceps_base.specs.Nodes.{Nodes, spots}
-use Rattle.cordyceps_base.specs.Spots.{AreDistinct, IsNew}
+use Rattle.cordyceps_base.specs.Spots.{AreDistinct}
 use Rattle.cordyceps_single.specs.ByKey.{by_key}
 use Rattle.cordyceps_single.specs.Preorder.{IsPreorder, by_key_lawful}
 use Rattle.cordyceps_single.proofs.Preorder.{by_test, ranks}
@@ -19,25 +19,10 @@ use Rattle.cordyceps_single.proofs.Keys.{at_most}
 use Rattle.cordyceps_stable.specs.Arranged.{precedes}
 use Rattle.cordyceps_stable.proofs.Classes.{all_weaker, all_front, all_back, in_class, out_of_class, none_in, tie_parts}
 use Rattle.cordyceps_stable.proofs.Holding.{spot_is_at, unique, taken_gone}
-use Rattle.cordyceps_clock.specs.Buckets.{number_at, AreDue, IsKept, IsPutIn, IsSpreading}
+use Rattle.cordyceps_clock.specs.Buckets.{number_at, AreDue, IsKept, IsMovedIn, IsNearest, IsPutIn, IsSet, IsSpreading}
 use Rattle.cordyceps_clock.proofs.Numbers.{earlier}
-use Rattle.cordyceps_clock.proofs.Puts.{IsSet}
-use Rattle.cordyceps_clock.proofs.Rows.{IsNearest, Parted, parted, kept_put}
-
-module _ {X : Type 0} where
-  new_less : (q : Ptr) (b a : Nodes X) (n : Ptr × Element X) → IsNew q (spots (b ++ n ∷ a)) → IsNew q (spots (b ++ a))
-  new_less q [] a n h = h.1
-  new_less q (x ∷ b) a n h = (h.0, new_less q b a n h.1)
-
-  distinct_less : (b a : Nodes X) (n : Ptr × Element X) → AreDistinct (spots (b ++ n ∷ a)) → AreDistinct (spots (b ++ a))
-  distinct_less [] a n h = h.1
-  distinct_less (x ∷ b) a n h = (new_less x.0 b a n h.0, distinct_less b a n h.1)
-
-  -- what a moved node leaves
-  left_is : (c done more rest : Nodes X) (p : Ptr) (e o : Element X) → AreDistinct (spots c) → c ≡ done ++ (p, e) ∷ more → IsTaken c p o rest → (e ≡ o) × (rest ≡ done ++ more)
-  left_is c done more rest p e o distinct is (before, after, was, left) =
-      let same = unique done more before after p e o (sym is ∙ was) (subst (λ l. AreDistinct (spots l)) is distinct) in
-      (same.1, left ∙ (λ i. sym same.0 i ++ sym same.2 i))
+use Rattle.cordyceps_clock.proofs.Puts.{distinct_less, left_is}
+use Rattle.cordyceps_clock.proofs.Rows.{Parted, parted, kept_put}
 
 module _ {X : Type 0} (number : Ptr × Element X → ℕ) where
   -- the nodes up to a bucket are all done ones, where the others lie above it
@@ -61,7 +46,7 @@ module _ {X : Type 0} (number : Ptr × Element X → ℕ) where
     first : done ≡ parts.low ++ mid
     second : parts.high ≡ mid ++ others
 
-  goes : (ends : List (Option Ptr)) (done others : Nodes X) (j k : ℕ) (o : Option Ptr) → k < 65 → k ≤ j → IsKept number ends (done ++ others) → AllByRecursion (λ n. j < number n) others → IsNearest number ends k o → Goes k done others o
+  goes : (ends : List (Option Ptr)) (done others : Nodes X) (j k : ℕ) (o : Option Ptr) → k < 65 → k ≤ j → IsKept number ends (done ++ others) → AllByRecursion (λ n. j < number n) others → IsNearest ends k o → Goes k done others o
   goes ends done others j k o small le kept high near =
       let p = parted number ends (done ++ others) k o small kept near in
       let (mid, first, second) = prefix done others p.low p.high k p.is (higher j k others le high) p.upto in
@@ -88,7 +73,7 @@ module _ {X : Type 0} (number : Ptr × Element X → ℕ) where
     le = omega (arith, s.low.0, numbered)
 
     -- the nearest end is another node
-    pub end_has : (to : Ptr) → IsNearest number ends k (Some to) → HasSpot (done ++ (ahead ++ others)) to
+    pub end_has : (to : Ptr) → IsNearest ends k (Some to) → HasSpot (done ++ (ahead ++ others)) to
     end_has to near =
         let g = goes ends done others j k (Some to) small le s.kept s.high near in let (front, y, low) = g.parts.end in
         spot_is_at (done ++ (ahead ++ others)) to y (
@@ -97,7 +82,7 @@ module _ {X : Type 0} (number : Ptr × Element X → ℕ) where
           ap (λ l. l ++ (ahead ++ others)) (g.first ∙ ap (λ l. l ++ g.mid) low ∙ append_assoc front ((to, y) ∷ []) g.mid) ∙ append_assoc front ((to, y) ∷ g.mid) (ahead ++ others),
         )
 
-    pub end_there : (to : Ptr) → IsNearest number ends k (Some to) → HasSpot c to
+    pub end_there : (to : Ptr) → IsNearest ends k (Some to) → HasSpot c to
     end_there to near =
         let g = goes ends done others j k (Some to) small le s.kept s.high near in let (front, y, low) = g.parts.end in
         let more : Nodes X = (p, e) ∷ (ahead ++ others) in
@@ -107,12 +92,12 @@ module _ {X : Type 0} (number : Ptr × Element X → ℕ) where
           s.parts ∙ ap (λ l. l ++ more) (g.first ∙ ap (λ l. l ++ g.mid) low ∙ append_assoc front ((to, y) ∷ []) g.mid) ∙ append_assoc front ((to, y) ∷ g.mid) more,
         )
 
-    pub end_other : (to : Ptr) → IsNearest number ends k (Some to) → p ≡ to → ⊥
+    pub end_other : (to : Ptr) → IsNearest ends k (Some to) → p ≡ to → ⊥
     end_other to near same =
         let rest : Nodes X = done ++ (ahead ++ others) in
         taken_gone c rest p e distinct (done, ahead ++ others, s.parts, refl) (subst (HasSpot rest) (sym same) (end_has to near))
 
-    pub placed_after : (new : List (Option Ptr)) (d : Nodes X) (to : Ptr) → IsNearest number ends k (Some to) → IsMovedAfter c p to d → IsSet ends new k p → (now : Nodes X) × IsSpreading number new d j now ahead others × IsPutIn number k done p e now
+    placed_after : (new : List (Option Ptr)) (d : Nodes X) (to : Ptr) → IsNearest ends k (Some to) → IsMovedAfter c p to d → IsSet ends new k p → (now : Nodes X) × IsSpreading number new d j now ahead others × IsPutIn number k done p e now
     placed_after new d to near (x, rest, taken, (before, o, after, was, is)) set =
         let g = goes ends done others j k (Some to) small le s.kept s.high near in let (front, y, low) = g.parts.end in
         let more : Nodes X = ahead ++ others in
@@ -120,12 +105,12 @@ module _ {X : Type 0} (number : Ptr × Element X → ℕ) where
         let whole : rest ≡ front ++ (to, y) ∷ (g.mid ++ more) =
         left.1 ∙ ap (λ l. l ++ more) (g.first ∙ ap (λ l. l ++ g.mid) low ∙ append_assoc front ((to, y) ∷ []) g.mid) ∙ append_assoc front ((to, y) ∷ g.mid) more in
         let differ : AreDistinct (spots rest) = subst (λ l. AreDistinct (spots l)) (sym left.1) (distinct_less done more (p, e) (subst (λ l. AreDistinct (spots l)) s.parts distinct)) in
-        let same = unique before after front (g.mid ++ more) to o y (sym was ∙ whole) (subst (λ l. AreDistinct (spots l)) was differ) in
+        let (first, own, last) = unique before after front (g.mid ++ more) to o y (sym was ∙ whole) (subst (λ l. AreDistinct (spots l)) was differ) in
         let put : d ≡ (g.parts.low ++ (p, e) ∷ g.mid) ++ more =
-        is ∙ (λ i. same.0 i ++ (to, same.1 i) ∷ (p, sym left.0 i) ∷ same.2 i) ∙ sym (append_assoc front ((to, y) ∷ []) ((p, e) ∷ (g.mid ++ more))) ∙ ap (λ l. l ++ (p, e) ∷ (g.mid ++ more)) (sym low) ∙ sym (append_assoc g.parts.low ((p, e) ∷ g.mid) more) in
+        is ∙ (λ i. first i ++ (to, own i) ∷ (p, sym left.0 i) ∷ last i) ∙ sym (append_assoc front ((to, y) ∷ []) ((p, e) ∷ (g.mid ++ more))) ∙ ap (λ l. l ++ (p, e) ∷ (g.mid ++ more)) (sym low) ∙ sym (append_assoc g.parts.low ((p, e) ∷ g.mid) more) in
         stepped ends new d done ahead others p e j k (Some to) le numbered set s.kept s.low.1 s.high g put
 
-    pub placed_first : (new : List (Option Ptr)) (d : Nodes X) → IsNearest number ends k None → IsMovedFront c p d → IsSet ends new k p → (now : Nodes X) × IsSpreading number new d j now ahead others × IsPutIn number k done p e now
+    placed_first : (new : List (Option Ptr)) (d : Nodes X) → IsNearest ends k None → IsMovedFront c p d → IsSet ends new k p → (now : Nodes X) × IsSpreading number new d j now ahead others × IsPutIn number k done p e now
     placed_first new d near (x, rest, taken, is) set =
         let g = goes ends done others j k None small le s.kept s.high near in
         let more : Nodes X = ahead ++ others in
@@ -133,6 +118,12 @@ module _ {X : Type 0} (number : Ptr × Element X → ℕ) where
         let put : d ≡ (g.parts.low ++ (p, e) ∷ g.mid) ++ more =
         is ∙ (λ i. (p, sym left.0 i) ∷ left.1 i) ∙ ap (λ l. (p, e) ∷ (l ++ more)) (g.first ∙ ap (λ l. l ++ g.mid) g.parts.end) ∙ ap (λ l. (l ++ (p, e) ∷ g.mid) ++ more) (sym g.parts.end) in
         stepped ends new d done ahead others p e j k None le numbered set s.kept s.low.1 s.high g put
+
+    pub placed_in : (new : List (Option Ptr)) (d : Nodes X) → IsMovedIn ends k c p d → IsSet ends new k p → (now : Nodes X) × IsSpreading number new d j now ahead others × IsPutIn number k done p e now
+    placed_in new d m set = go m.end m.nearest m.moved where
+      go : (o : Option Ptr) → IsNearest ends k o → MatchOption o (IsMovedFront c p d) (λ to. IsMovedAfter c p to d) → (now : Nodes X) × IsSpreading number new d j now ahead others × IsPutIn number k done p e now
+      go None near moved = placed_first new d near moved set
+      go (Some to) near moved = placed_after new d to near moved set
 
 -- ---- the classes of equals
 module _ {A : Type 0} (lt : A → A → Bool) (o : IsStrictWeakOrder lt) where
@@ -215,9 +206,9 @@ module _ {X : Type 0} (of : X → ℕ) where
     -- what comes after it
     pub next_is : (at : Ptr) (left : ℕ) (t : Turn at left) (o : Option Ptr) → AreDistinct (spots c) → MatchOption o (IsLast c at) (λ q. AreNext c at q) → MatchOption o (t.ahead ++ others ≡ []) (λ q. IsFirst (t.ahead ++ others) q)
     next_is at left t None distinct (front, x, is) =
-        (unique t.done (t.ahead ++ others) front [] at t.e x (sym t.spreading.parts ∙ is) (subst (λ l. AreDistinct (spots l)) t.spreading.parts distinct)).2
+        let (before, own, rest) = unique t.done (t.ahead ++ others) front [] at t.e x (sym t.spreading.parts ∙ is) (subst (λ l. AreDistinct (spots l)) t.spreading.parts distinct) in rest
     next_is at left t (Some q) distinct (front, x, y, after, is) =
-        (y, after, (unique t.done (t.ahead ++ others) front ((q, y) ∷ after) at t.e x (sym t.spreading.parts ∙ is) (subst (λ l. AreDistinct (spots l)) t.spreading.parts distinct)).2)
+        let (before, own, rest) = unique t.done (t.ahead ++ others) front ((q, y) ∷ after) at t.e x (sym t.spreading.parts ∙ is) (subst (λ l. AreDistinct (spots l)) t.spreading.parts distinct) in (y, after, rest)
 
     -- after its turn
     pub stands_on : (new : List (Option Ptr)) (d more : Nodes X) (at : Ptr) (left k : ℕ) (o : Option Ptr) (t : Turn at left) → now < 2 ^ 64 → AreDue of now first → number_at of now (at, t.e) ≡ k

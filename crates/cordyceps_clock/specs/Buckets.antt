@@ -1,16 +1,28 @@
 -- Buckets of times, and where each of them ends in a list.
-use Rattle.std.specs.Prelude.{◌≡◌, ℕ, ◌-◌, ◌<◌, ◌≤◌, ◌^◌, ◌==◌, ◌⊎◌, bit_xor, Option, Some, None}
+use Rattle.std.specs.Prelude.{◌≡◌, ℕ, ◌-◌, ◌<◌, ◌≤◌, ◌^◌, ◌==◌, ◌⊎◌, bit_xor, Option, Some, None, MatchOption}
 use Rattle.std.specs.Prelude.{List, [], ◌∷◌, ◌++◌, length, get_or, filter}
 use Rattle.std.specs.Int.Count.{count_leading_zeros}
 use Rattle.std.specs.List.{AllByRecursion}
 use denote.RawPtr.{Ptr}
+use Rattle.cordyceps_base.specs.BySpot.{IsMovedFront, IsMovedAfter}
 use Rattle.cordyceps_base.specs.Element.{Element}
 use Rattle.cordyceps_base.specs.Nodes.{Nodes}
 use Rattle.cordyceps_single.specs.ByKey.{AscendsBy}
 
--- the bucket of a time: 0 for now, otherwise one more than the highest bit in which the two differ
+-- the bucket of a time: 0 for the time now itself, and for another time one more than the highest bit in which the two
+-- differ
 abbrev pub bucket_of : (now time : ℕ) → ℕ
 bucket_of now time = 64 - count_leading_zeros 64 (bit_xor now time)
+
+-- the end of the bucket k, or where that has no node, of the nearest lower one that has; None if none of them has
+abbrev pub IsNearest : (ends : List (Option Ptr)) → ℕ → Option Ptr → Type 0
+IsNearest ends k o = MatchOption o ((i : ℕ) → i ≤ k → get_or ends i None ≡ None)
+    (λ p. (j : ℕ) × (j ≤ k) × (get_or ends j None ≡ Some p) × ((i : ℕ) → j < i → i ≤ k → get_or ends i None ≡ None))
+
+-- the bucket k ends at p now, and each other where it did
+abbrev pub IsSet : (ends new : List (Option Ptr)) → ℕ → Ptr → Type 0
+IsSet ends new k p =
+    (get_or new k None ≡ Some p) × ((i : ℕ) → (i ≡ k → ⊥) → get_or new i None ≡ get_or ends i None)
 
 module _ {Y : Type 0} where
   -- where the last of some nodes is, if there is one
@@ -59,6 +71,26 @@ module _ {X : Type 0} where
   IsPutIn number k c p e d =
       (low : Nodes X) × (high : Nodes X) × (c ≡ low ++ high) × (d ≡ low ++ (p, e) ∷ high)
       × AllByRecursion (λ n. k < number n) high
+
+  -- the node at p was moved right after the nearest end of a bucket up to k, or to the front where there is none
+  pub record IsMovedIn (ends : List (Option Ptr)) (k : ℕ) (c : Nodes X) (p : Ptr) (d : Nodes X) : Type 0 where
+    pub end : Option Ptr
+    pub nearest : IsNearest ends k end
+    pub moved : MatchOption end (IsMovedFront c p d) (λ to. IsMovedAfter c p to d)
+
+  -- the value of the node e at p was changed to w
+  pub record IsChanged (c : Nodes X) (p : Ptr) (e : Element X) (w : X) (d : Nodes X) : Type 0 where
+    pub before : Nodes X
+    pub after : Nodes X
+    pub was : c ≡ before ++ (p, e) ∷ after
+    pub is : d ≡ before ++ (p, record { id = e.id; value = w }) ∷ after
+
+  -- the node e at p was put in among the nodes of rest, at the end of the bucket of its time
+  pub record IsRenewed (of : X → ℕ) (now : ℕ) (ends : List (Option Ptr)) (rest : Nodes X) (p : Ptr) (e : Element X)
+      (d : Nodes X) : Type 0 where
+    pub fits : of e.value < 2 ^ 64
+    pub kept : IsKept (number_at of now) ends d
+    pub put : IsPutIn (number_at of now) (bucket_of now (of e.value)) rest p e d
 
   -- the first nodes are those of the bucket k, least is the least of their times, the first of that time is at p, and
   -- there are len of them

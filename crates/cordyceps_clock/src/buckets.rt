@@ -1,11 +1,12 @@
 //! Buckets of times, and where each of them ends in a list.
-ghost use Rattle.std.specs.Prelude.{◌≡◌, ℕ, ◌<◌, ◌≤◌, ◌==◌, get_or, length, false, IfSome, MatchOption, Some, None};
+ghost use Rattle.std.specs.Prelude.{◌≡◌, ◌≢◌, ℕ, ◌<◌, ◌≤◌, ◌==◌, length, false, IfSome, MatchOption, Some};
 ghost use denote.RawPtr.{Ptr};
 ghost use Rattle.cordyceps_base.specs.BySpot.{HasSpot, HoldsAt, IsTaken};
 ghost use Rattle.cordyceps_base.specs.Element.{Element};
 ghost use Rattle.cordyceps_base.specs.Nodes.{Nodes, spots};
 ghost use Rattle.cordyceps_base.specs.Spots.{AreDistinct};
-ghost use Rattle.cordyceps_clock.specs.Buckets.{bucket_of, last_spot, number_at, row, IsKept, IsPutIn};
+ghost use Rattle.cordyceps_clock.specs.Buckets.{bucket_of, last_spot, number_at, row};
+ghost use Rattle.cordyceps_clock.specs.Buckets.{IsKept, IsMovedIn, IsNearest, IsPutIn, IsSet};
 
 use crate::times::Times;
 use cordyceps_base::linked::Linked;
@@ -15,8 +16,8 @@ use cordyceps_stable::stable_list::{Spot, StableList};
 /// The spot of the last element of each bucket that has one.
 pub(crate) type Ends = [Option<Spot>; 65];
 
-/// Returns the number of the bucket of a time: 0 for now, otherwise one more than the highest bit in which the two
-/// differ.
+/// Returns the number of the bucket of a time: 0 for the time `now` itself, and for another time one more than the
+/// highest bit in which the two differ.
 pub(crate) fn bucket(now: u64, time: u64) -> usize
     ensures is { result ≡ bucket_of now time }
     ensures within { result ≤ 64 }
@@ -30,9 +31,7 @@ pub(crate) fn bucket(now: u64, time: u64) -> usize
 /// O(1): it reads at most 65 ends.
 pub(crate) fn nearest_end(ends: &Ends, k: usize) -> Option<Spot>
     requires { k < 65 }
-    ensures { MatchOption result ((i : ℕ) → i ≤ k → get_or ends.now i None ≡ None)
-        (λ p. (j : ℕ) × (j ≤ k) × (get_or ends.now j None ≡ Some p)
-        × ((i : ℕ) → j < i → i ≤ k → get_or ends.now i None ≡ None)) }
+    ensures { IsNearest ends.now k result }
 {
     let mut above = k + 1;
     while above > 0 {
@@ -139,6 +138,30 @@ fn end_without<T: Linked<Links<T>>, O: Times<T>>(
     }
 }
 
+/// Writes for the bucket of the element at `at` the end that it has without this element.
+///
+/// # Complexity
+/// O(1).
+pub(crate) fn leave_out<T: Linked<Links<T>>, O: Times<T>>(
+    list: &StableList<T>,
+    ends: &mut Ends,
+    time: &O,
+    now: u64,
+    at: Spot,
+)
+    requires callable { O.can_compute time.now }
+    requires there { HasSpot list.now at }
+    ensures { (of : T → ℕ) (e : Element T) (rest : Nodes T)
+        → O.computes_by time.now of
+        → IsKept (number_at of now) ends.old list.now
+        → IsTaken list.now at e rest
+        → IsKept (number_at of now) ends.new rest }
+{
+    list.spots_are_distinct();
+    let k = bucket(now, time_at(list, time, at));
+    ends[k] = end_without(list, ends, time, now, k, at);
+}
+
 /// Removes the element at `at` and returns it.
 ///
 /// # Complexity
@@ -159,8 +182,30 @@ pub(crate) fn take_out<T: Linked<Links<T>>, O: Times<T>>(
         → IsKept (number_at of now) ends.new list.new }
     ensures distinct { AreDistinct (spots list.new) }
 {
-    list.spots_are_distinct();
-    let k = bucket(now, time_at(list, time, at));
-    ends[k] = end_without(list, ends, time, now, k, at);
+    leave_out(list, ends, time, now, at);
     list.remove(at)
+}
+
+/// Moves the element at `at` after all of the buckets up to `k`, and ends the bucket `k` there.
+///
+/// # Complexity
+/// O(1).
+pub(crate) fn move_in<T: Linked<Links<T>>>(
+    list: &mut StableList<T>,
+    ends: &mut Ends,
+    k: usize,
+    at: Spot,
+)
+    requires within { k < 65 }
+    requires there { HasSpot list.old at }
+    requires others { (to : Ptr) → IsNearest ends.old k (Some to) → HasSpot list.old to × (at ≢ to) }
+    ensures moved { IsMovedIn ends.old k list.old at list.new }
+    ensures end { IsSet ends.old ends.new k at }
+    ensures distinct { AreDistinct (spots list.new) }
+{
+    match nearest_end(ends, k) {
+        Some(to) => list.move_after(at, to),
+        None => list.move_to_front(at),
+    }
+    ends[k] = Some(at);
 }

@@ -2,6 +2,7 @@
 //! element is reached by its spot.
 ghost use Rattle.std.specs.Prelude.{◌≡◌, ℕ, ◌<◌, ◌≤◌, ◌==◌, [], ◌∷◌, ◌++◌, length, max, MatchOption, MatchResult, ◌⊎◌};
 ghost use Rattle.std.specs.List.Sorted.{IsPermutation};
+ghost use Rattle.std.specs.Fn.{FnOnceReturnsAtMut};
 ghost use Rattle.std.specs.Ordering.{nat_cmp};
 ghost use Rattle.std.specs.declared.cmp.Ordering.{Ordering};
 ghost use denote.RawPtr.{Ptr};
@@ -17,6 +18,7 @@ ghost use Rattle.cordyceps_clock.specs.Buckets.{AreLater};
 ghost use Rattle.cordyceps_clock.specs.Clock.{Holds};
 
 use crate::buckets::{Ends, bucket, put, take_out, time_at};
+use crate::renewing::renew;
 use crate::spreading::{First, advance, first_bucket};
 use crate::times::Times;
 use cordyceps_base::linked::Linked;
@@ -30,12 +32,13 @@ use std::marker::Model;
 ///
 /// The element that is due first comes out first, and of those that are due at the same time the one that was pushed
 /// first. The clock is the latest of the times of the elements that came out and of those at which `pop_due` found none
-/// due. No element is pushed that is due before it. An element is reached and removed by its spot. The spot stays the
-/// same while the element is in the queue. No two elements are at one spot. Linking allocates nothing and cannot be
-/// refused.
+/// due. No element is pushed that is due before it. An element is reached, removed and updated by its spot. The spot
+/// stays the same while the element is in the queue. No two elements are at one spot. Linking allocates nothing and
+/// cannot be refused.
 ///
 /// It is a radix heap. An element is in one of 65 buckets, by the highest bit in which its time differs from the clock.
-/// Each time that it is moved, it comes into a lower bucket.
+/// Each time that a pop moves it, it comes into a lower bucket. An update moves it to the bucket of its new time, and
+/// no other element.
 ///
 /// Each call that asks for a time requires that the function may be called.
 ///
@@ -214,6 +217,45 @@ impl<T: Linked<Links<T>>, O: Times<T>> ClockQueue<T, O> {
         take_out(&mut self.list, &mut self.ends, &self.time, self.clock, at)
     }
 
+    /// Changes the value at `at` by a function, and moves the element to where it then belongs: after those that are
+    /// due at the same time, as if it were pushed anew. Returns the result of the function. The element keeps its
+    /// number and its spot. Requires that `at` is valid, that the function can be called on the value, and that the
+    /// value that it leaves is due at the clock or later. Allocates nothing.
+    ///
+    /// # Complexity
+    /// O(1), beside what the function takes: no other element is moved.
+    pub fn update<R, F: FnOnce(&mut T) -> R>(&mut self, at: Spot, change: F) -> R
+        requires time { O.can_compute self.old.time }
+        requires there { HasSpot self.old.nodes at }
+        requires callable { (lent : _) → HoldsAt self.old.nodes at lent.now → F.pre change lent }
+        requires due { (of : T → ℕ) (e : Element T) (r : R) (w : T)
+            → O.computes_by self.old.time of
+            → HasElementAt self.old.nodes at e
+            → FnOnceReturnsAtMut F.FnOnce change e.value r w
+            → self.old.clock ≤ of w }
+        ensures changed { (e : Element T) × (w : T) × (rest : Nodes T)
+            × FnOnceReturnsAtMut F.FnOnce change e.value result w
+            × IsTaken self.old.nodes at e rest
+            × IsTaken self.new.nodes at (record { id = e.id; value = w }) rest
+            × ((of : T → ℕ) (a : Nodes T)
+            → O.computes_by self.old.time of
+            → Holds (by_key nat_cmp of) self.old.nodes a
+            → (left : Nodes T) × (IsTaken a at e left
+            × Holds (by_key nat_cmp of) self.new.nodes (left ++ (at, record { id = e.id; value = w }) ∷ []))) }
+        ensures now { self.new.clock ≡ self.old.clock }
+        ensures time { self.new.time ≡ self.old.time }
+        ensures distinct { AreDistinct (spots self.new.nodes) }
+    {
+        renew(
+            &mut self.list,
+            &mut self.ends,
+            &self.time,
+            self.clock,
+            at,
+            change,
+        )
+    }
+
     /// Returns the spot of the element that is due first, or `None` if the queue is empty. Of those that are due at the
     /// same time it is the one that was pushed first.
     ///
@@ -244,7 +286,8 @@ impl<T: Linked<Links<T>>, O: Times<T>> ClockQueue<T, O> {
     /// the same time it is the one that was pushed first. Its time becomes the clock.
     ///
     /// # Complexity
-    /// O(1) amortized: over its time in the queue an element is moved at most 64 times. At worst O(n), for n elements.
+    /// O(1) amortized: after its push, and after each update, an element is moved at most 64 times. At worst O(n), for
+    /// n elements.
     pub fn pop_front(&mut self) -> Option<T::Handle>
         requires callable { O.can_compute self.old.time }
         ensures taken { MatchOption result ((self.old.nodes ≡ []) × (self.new ≡ self.old))
@@ -285,8 +328,8 @@ impl<T: Linked<Links<T>>, O: Times<T>> ClockQueue<T, O> {
     /// `None` the clock becomes `now`, unless it is later already.
     ///
     /// # Complexity
-    /// O(1) amortized, also where no element is due: over its time in the queue an element is moved at most 64 times.
-    /// At worst O(n), for n elements.
+    /// O(1) amortized, also where no element is due: after its push, and after each update, an element is moved at
+    /// most 64 times. At worst O(n), for n elements.
     pub fn pop_due(&mut self, now: u64) -> Option<T::Handle>
         requires callable { O.can_compute self.old.time }
         ensures due { MatchOption result

@@ -3,5 +3,6 @@
 
 mod buckets;
 pub mod clock_queue;
+mod renewing;
 mod spreading;
 pub mod times;

@@ -12,7 +12,7 @@ ghost use Rattle.cordyceps_stable.specs.Arranged.{precedes};
 ghost use Rattle.cordyceps_clock.specs.Buckets.{bucket_of, number_at};
 ghost use Rattle.cordyceps_clock.specs.Buckets.{AreDue, IsAdvanced, IsFirstBucket, IsPutIn, IsSpreading, IsTimed};
 
-use crate::buckets::{Ends, bucket, nearest_end, time_at};
+use crate::buckets::{Ends, bucket, move_in, time_at};
 use crate::times::Times;
 use cordyceps_base::linked::Linked;
 use cordyceps_list::list::Links;
@@ -110,11 +110,7 @@ fn place<T: Linked<Links<T>>>(list: &mut StableList<T>, ends: &mut Ends, k: usiz
     ensures distinct { AreDistinct (spots list.new) }
 {
     list.spots_are_distinct();
-    match nearest_end(ends, k) {
-        Some(to) => list.move_after(at, to),
-        None => list.move_to_front(at),
-    }
-    ends[k] = Some(at);
+    move_in(list, ends, k, at);
 }
 
 /// Spreads the first `len` elements of a list, of which the first is at `at`, over the buckets in which they are at the

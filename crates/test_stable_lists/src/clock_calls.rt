@@ -10,6 +10,7 @@ use cordyceps_stable::stable_list::Spot;
 use std::alloc::Global;
 use std::collections::HashMap;
 use std::marker::Model;
+use std::mem;
 use std::process::Abort;
 use test_support::counted::{Counted, Drops, counted_node};
 
@@ -36,6 +37,8 @@ pub enum Call {
     /// Reads a time.
     Get(u64),
     Remove(u64),
+    /// Changes a time.
+    Update(u64, u64),
 }
 
 /// What a call replies.
@@ -43,7 +46,7 @@ pub enum Call {
 pub enum Reply {
     /// This element came out, or came back, or none.
     Out(Option<Due>),
-    /// The time that was read, if there is one.
+    /// The time that was read, or that was changed, if there is one.
     Time(Option<u64>),
 }
 
@@ -154,6 +157,18 @@ impl Timers {
         self.spots.remove(&node.id());
         Some(node)
     }
+
+    /// Changes the time of the element with a number, where the new one is the clock or later, and returns the old one.
+    fn update(&mut self, number: u64, time: u64) -> Option<u64> {
+        let spot = *self.spots.get(&number)?;
+        if time < self.queue.now() {
+            return None;
+        }
+        Some(
+            self.queue
+                .update(spot, |counted| mem::replace(&mut counted.value, time)),
+        )
+    }
 }
 
 /// Makes a call, and returns its reply.
@@ -179,5 +194,6 @@ pub fn make_call(
         Call::RemoveFront => Reply::Out(due(timers.remove_front())),
         Call::Get(number) => Reply::Time(timers.get(*number)),
         Call::Remove(number) => Reply::Out(due(timers.remove(*number))),
+        Call::Update(number, time) => Reply::Time(timers.update(*number, *time)),
     }
 }

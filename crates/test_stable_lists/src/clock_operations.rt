@@ -11,8 +11,8 @@ use test_support::draws::Draws;
 /// How many calls a run makes.
 const CALLS: u64 = 100_000;
 
-/// What a queue should hold: the time and the number of each element, in order, and the clock. Numbers rise from push
-/// to push, so that elements that are due at the same time are in the order of their numbers.
+/// What a queue should hold: the time and the number of each element, in order, and the clock. Elements that are due at
+/// the same time are in the order in which they were pushed or last updated.
 #[derive(Drop)]
 struct Model {
     pairs: Vec<Due>,
@@ -54,16 +54,18 @@ fn drawn(draws: &mut Draws, model: &Model, most: usize, number: u64) -> Call {
         11 => Call::Remove(some),
         12 => Call::RemoveFront,
         13 => Call::Front,
+        14 => Call::Update(some, time),
         _ => Call::Get(some),
     }
 }
 
-/// Puts an element into its place, if it is due at the clock or later, or returns it.
+/// Puts an element into its place after those that are due at the same time, if it is due at the clock or later, or
+/// returns it. No element has the greatest number.
 fn put(rt: &impl Abort, model: &mut Model, due: Due) -> Option<Due> {
     if due.0 < model.now {
         return Some(due);
     }
-    let at = match model.pairs.as_slice().binary_search(&due) {
+    let at = match model.pairs.as_slice().binary_search(&(due.0, u64::MAX)) {
         Ok(at) | Err(at) => at,
     };
     at_most(rt, at, model.pairs.len());
@@ -98,6 +100,17 @@ fn pop_by(model: &mut Model, until: u64) -> Option<Due> {
     taken(&mut model.pairs, 0)
 }
 
+/// Changes the time of the element with a number, where the new one is the clock or later, and returns the old one.
+fn change(rt: &impl Abort, model: &mut Model, number: u64, time: u64) -> Option<u64> {
+    if time < model.now {
+        return None;
+    }
+    let at = place_of(model.pairs.as_slice(), number);
+    let old = taken(&mut model.pairs, at)?;
+    put(rt, model, (time, number));
+    Some(old.0)
+}
+
 /// Does to a sorted vector what a call does to a queue, and returns the reply that is wanted.
 fn wanted(rt: &impl Abort, model: &mut Model, call: &Call) -> Reply {
     match call {
@@ -120,6 +133,7 @@ fn wanted(rt: &impl Abort, model: &mut Model, call: &Call) -> Reply {
             let at = place_of(model.pairs.as_slice(), *number);
             Reply::Out(taken(&mut model.pairs, at))
         }
+        Call::Update(number, time) => Reply::Time(change(rt, model, *number, *time)),
     }
 }
 
@@ -131,9 +145,23 @@ struct Run {
     made: u64,
 }
 
+impl Run {
+    /// Returns a queue and a vector of no element.
+    fn new(alloc: Global) -> Run {
+        Run {
+            timers: Timers::new(alloc),
+            model: Model {
+                pairs: Vec::new(alloc),
+                now: 0,
+            },
+            made: 0,
+        }
+    }
+}
+
 /// Makes a call of a queue and does the same to a vector. Asserts that both reply the same, and have the same length
-/// and the same clock.
-fn agree(rt: &impl Abort, alloc: Global, drops: &Drops, run: &mut Run, call: &Call) {
+/// and the same clock, and returns the reply.
+fn agree(rt: &impl Abort, alloc: Global, drops: &Drops, run: &mut Run, call: &Call) -> Reply {
     let wanted = wanted(rt, &mut run.model, call);
     let came = make_call(rt, alloc, drops, &mut run.timers, call);
     same(rt, came, wanted);
@@ -142,6 +170,7 @@ fn agree(rt: &impl Abort, alloc: Global, drops: &Drops, run: &mut Run, call: &Ca
     if let Call::Push(_) | Call::TryPush(_) = call {
         run.made = run.made.wrapping_add(1);
     }
+    came
 }
 
 /// Makes many calls of a queue that has so many elements for most of the time. At last half of its elements come out,
@@ -149,14 +178,7 @@ fn agree(rt: &impl Abort, alloc: Global, drops: &Drops, run: &mut Run, call: &Ca
 fn many_calls(rt: &impl Abort, alloc: Global, most: usize) {
     let drops = made(rt, Drops::new(alloc));
     let mut draws = Draws::new(most as u64);
-    let mut run = Run {
-        timers: Timers::new(alloc),
-        model: Model {
-            pairs: Vec::new(alloc),
-            now: 0,
-        },
-        made: 0,
-    };
+    let mut run = Run::new(alloc);
     for number in 0..most as u64 {
         let time = drawn_time(&mut draws, 0, number);
         agree(rt, alloc, &drops, &mut run, &Call::Push((time, number)));
@@ -180,6 +202,45 @@ fn many_calls(rt: &impl Abort, alloc: Global, most: usize) {
     } = run;
     drop(timers);
     same(rt, drops.count(), pushed);
+}
+
+/// Calls of a queue that is empty at first, in which times are changed, and what they reply.
+const UPDATES: &[(Call, Reply)] = &[
+    (Call::Push((5, 1)), Reply::Out(None)),
+    (Call::Push((5, 2)), Reply::Out(None)),
+    (Call::Push((9, 3)), Reply::Out(None)),
+    (Call::Push((40, 4)), Reply::Out(None)),
+    // behind its equals, though its time stays the same
+    (Call::Update(1, 5), Reply::Time(Some(5))),
+    // before all others, and then among equals of a higher time
+    (Call::Update(4, 2), Reply::Time(Some(40))),
+    (Call::Front, Reply::Time(Some(2))),
+    (Call::Update(2, 9), Reply::Time(Some(5))),
+    (Call::PopFront, Reply::Out(Some((2, 4)))),
+    // before the clock, at the clock, and an element that is not there
+    (Call::Update(3, 1), Reply::Time(None)),
+    (Call::Update(3, 2), Reply::Time(Some(9))),
+    (Call::Update(4, 7), Reply::Time(None)),
+    (Call::Get(3), Reply::Time(Some(2))),
+    (Call::PopDue(2), Reply::Out(Some((2, 3)))),
+    (Call::PopDue(4), Reply::Out(None)),
+    (Call::PopDue(5), Reply::Out(Some((5, 1)))),
+    // the only element: at the last time of all, and at the clock
+    (Call::Update(2, u64::MAX), Reply::Time(Some(9))),
+    (Call::PopDue(100), Reply::Out(None)),
+    (Call::Update(2, 100), Reply::Time(Some(u64::MAX))),
+    (Call::PopFront, Reply::Out(Some((100, 2)))),
+    (Call::Update(2, 100), Reply::Time(None)),
+];
+
+#[test]
+fn a_queue_of_times_moves_what_is_updated(rt: HostRuntime) {
+    let drops = made(&rt, Drops::new(rt.alloc()));
+    let mut run = Run::new(rt.alloc());
+    for (call, reply) in UPDATES {
+        let came = agree(&rt, rt.alloc(), &drops, &mut run, call);
+        same(&rt, came, *reply);
+    }
 }
 
 #[test]

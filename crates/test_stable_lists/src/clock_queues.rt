@@ -7,6 +7,7 @@ use crate::keys::{Handle, Key, Pair, make, parts};
 use cordyceps_clock::clock_queue::ClockQueue;
 use cordyceps_clock::times::Times;
 use std::alloc::Global;
+use std::mem;
 use std::process::Abort;
 use test_support::counted::{Counted, Drops, counted_node};
 
@@ -229,6 +230,8 @@ fn a_queue_of_times_drops_each_element_once(rt: HostRuntime) {
     let mut queue: ClockQueue<Counted, ByValue> = ClockQueue::new_with_times(ByValue);
     let spot = queue.push(made(&rt, counted_node(rt.alloc(), 1, 7, &drops)));
     same(&rt, (queue.get(spot).value, queue.len()), (7, 1));
+    let time = queue.update(spot, |counted| mem::replace(&mut counted.value, 9));
+    same(&rt, (time, queue.get(spot).value), (7, 9));
     drops_one(&rt, queue.remove(spot), 1, &drops);
     for (number, time) in [(2u64, 6u64), (3, 2), (4, 8)] {
         let node = made(&rt, counted_node(rt.alloc(), number, time, &drops));
