@@ -1,8 +1,8 @@
 -- Where the bucket of a node ends, once the node is taken out: by the node after it and the one before it.
-use Rattle.std.proofs.Common.{◌≡◌, ℕ, ◌<◌, ◌≤◌, Bool, true, false, List, [], ◌∷◌, ◌++◌, get_or, Option, Some, None, MatchOption, refl, sym, ap, ◌∙◌, subst, arith}
+use Rattle.std.proofs.Common.{◌≡◌, ℕ, ◌<◌, ◌≤◌, Bool, true, false, List, [], ◌∷◌, ◌++◌, length, get_or, slice_set, Option, Some, None, MatchOption, refl, sym, ap, ◌∙◌, subst, arith}
 use Rattle.std.specs.Prelude.{◌==◌}
 use Rattle.std.proofs.lemmas.Bool.{eqb-true, eqb-false}
-use Rattle.std.proofs.lemmas.List.{append_assoc, append-nil}
+use Rattle.std.proofs.lemmas.List.{append_assoc, append-nil, get_or-set_same, get_or-set_other}
 use denote.RawPtr.{Ptr}
 use Rattle.cordyceps_base.specs.BySpot.{HoldsAt, IsTaken, IsFirst, IsLast, AreNext}
 use Rattle.cordyceps_base.specs.Element.{Element}
@@ -13,7 +13,7 @@ use Rattle.std.specs.List.{AllByRecursion}
 use Rattle.cordyceps_stable.proofs.Classes.{all_weaker, all_append, all_back}
 use Rattle.cordyceps_stable.proofs.Holding.{unique}
 use Rattle.cordyceps_clock.specs.Buckets.{bucket_of, last_spot, number_at, row, IsKept}
-use Rattle.cordyceps_clock.proofs.Rows.{end_is, end_stays, none_after, row_above, row_ended, row_two, upto_it}
+use Rattle.cordyceps_clock.proofs.Rows.{kept_taken, end_is, end_stays, none_after, row_above, row_ended, row_two, upto_it}
 
 module _ {X : Type 0} (of : X → ℕ) (now k : ℕ) where
   abbrev N : Ptr × Element X → ℕ
@@ -98,3 +98,12 @@ module _ {X : Type 0} (of : X → ℕ) (now k : ℕ) where
       let only : row N k rest ≡ row N k front =
       ap (row N k) left ∙ row_two N k front back ∙ ap (λ l. row N k front ++ l) (none_left ends c front back p e next t distinct kept is numbered on says f_is) ∙ append-nil (row N k front) in
       ((λ t_is. end.0 t_is ∙ ap last_spot (sym only)), (λ not. end.1 not ∙ ap last_spot (sym only)))
+
+  -- the others are kept, once the end that their bucket has was written
+  pub left_kept : (ends : List (Option Ptr)) (c rest : Nodes X) (p : Ptr) (e : Element X) (end : Option Ptr) → length ends ≡ 65 → k < 65 → IsKept N ends c → IsTaken c p e rest → bucket_of now (of e.value) ≡ k → end ≡ last_spot (row N k rest) → IsKept N (slice_set ends k end) rest
+  left_kept ends c rest p e end long small kept (low, high, was, left) numbered is =
+      subst (IsKept N (slice_set ends k end)) (sym left)
+      (kept_taken N ends (slice_set ends k end) low high (p, e) k numbered
+      (get_or-set_same ends k end None (omega (arith, small, long)) ∙ is ∙ ap (λ l. last_spot (row N k l)) left)
+      (λ i other. get_or-set_other ends k i end None other)
+      (subst (IsKept N ends) was kept))
