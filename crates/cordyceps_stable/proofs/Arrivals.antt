@@ -42,7 +42,7 @@ module _ {X : Type 0} {cmp : X → X → Ordering} (o : IsPreorder cmp) where
   first_is s x rest sorted first =
       let up = ascends_from_sorted (precedes cmp) (ranks o (λ (n : Ptr × Element X). n.1.value)) s sorted in
       let none = none_before first.before first.after x (subst (Ascends (precedes cmp)) first.arrivals up)
-          (recursion_from_All (λ y. precedes cmp x y ≡ true) first.before first.earliest) in
+      (recursion_from_All (λ y. precedes cmp x y ≡ true) first.before first.earliest) in
       first.arrivals ∙ (λ i. none i ++ x ∷ first.after)
       ∙ ap (λ l. x ∷ l) (sym (first.others ∙ (λ i. none i ++ first.after)))
 
