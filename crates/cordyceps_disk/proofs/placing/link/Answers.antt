@@ -10,8 +10,8 @@ use Rattle.cordyceps_disk.proofs.Pairing.{put_due, put_paired}
 use Rattle.cordyceps_disk.proofs.Tickets.{as_long, distinct}
 use Rattle.cordyceps_disk.proofs.placing.link.Goals as goal
 
-pub push-ticket-requires-clause-fits : goal.push-ticket-requires-clause-fits
-push-ticket-requires-clause-fits g c = omega (arith, c.requires.fits, c.requires.kept.paired.length, as_long c.args.tickets.now.lines)
+pub push-ticket-requires : goal.push-ticket-requires
+push-ticket-requires g c = omega (arith, c.requires.fits, c.requires.kept.paired.length, as_long c.args.tickets.now.lines)
 
 pub update-requires-clause-there : goal.update-requires-clause-there
 update-requires-clause-there g c = pushed_has _ _ c.push-ticket.result c.in-Ok.ticket c.push-ticket.ensures.kept
