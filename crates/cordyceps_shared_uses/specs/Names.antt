@@ -8,7 +8,12 @@ use Rattle.cordyceps_shared_uses.specs.Timers.{Running}
 
 -- what a task keeps: its node's number, its own, how many rounds it has, and how long it sleeps between two of them
 abbrev pub name_of : Element (Timer Work) → Name
-name_of e = record { id = e.id; number = e.value.payload.number; rounds = e.value.payload.rounds; pause = e.value.payload.pause }
+name_of e = record {
+  id = e.id;
+  number = e.value.payload.number;
+  rounds = e.value.payload.rounds;
+  pause = e.value.payload.pause;
+}
 
 -- the tasks of a collection
 abbrev pub names : Elements (Timer Work) → List Name

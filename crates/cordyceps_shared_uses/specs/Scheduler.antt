@@ -18,7 +18,10 @@ pub record Ran (n : ℕ) (before after : Work) : Type 0 where
 
 -- the task as it sleeps from the time now on: until its pause is over
 abbrev pub paused : ℕ → Element (Timer Work) → Element (Timer Work)
-paused now t = record { id = t.id; value = record { deadline = min (now + t.value.payload.pause) (2 ^ 64 - 1); payload = t.value.payload } }
+paused now t = record {
+  id = t.id;
+  value = record { deadline = min (now + t.value.payload.pause) (2 ^ 64 - 1); payload = t.value.payload };
+}
 
 -- each ran all its rounds, and its sum is that of all
 abbrev pub is_done : Work → Bool

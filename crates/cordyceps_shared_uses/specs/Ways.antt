@@ -41,4 +41,5 @@ pub record Settles (t : Element (Timer Work)) (a b : Entries) (before after : El
   pub table : b.table ≡ a.table
   pub parts : b.parts ≡ a.parts
   pub got : b.got ≡ a.got
-  pub gave : (f : Name → ℕ) → tally f b.gave + tally f (names after) ≡ f (name_of t) + (tally f a.gave + tally f (names before))
+  pub gave : (f : Name → ℕ)
+      → tally f b.gave + tally f (names after) ≡ f (name_of t) + (tally f a.gave + tally f (names before))

@@ -36,7 +36,8 @@ pub record TakesIdlest (c : Nodes Connection) (out : Element Connection) (left :
   pub idlest : AllActiveSince out.value.last_active left
 
 -- a connection was put in at a spot, and out went for it: none where there was room, and otherwise the idlest
-pub record Evicts (was is : OpenConnections) (out : Option (Element Connection)) (spot : Ptr) (new : Element Connection) : Type 0 where
+pub record Evicts (was is : OpenConnections) (out : Option (Element Connection)) (spot : Ptr)
+    (new : Element Connection) : Type 0 where
   pub left : Nodes Connection
   pub evicted : MatchOption out
       ((left ≡ was.nodes) × (length was.nodes < was.capacity))
@@ -49,4 +50,5 @@ pub record Renews (c : Nodes Connection) (spot : Ptr) (now : ℕ) (d : Nodes Con
   pub was : Element Connection
   pub others : Nodes Connection
   pub found : IsTaken c spot was others
-  pub renewed : IsTaken d spot (record { id = was.id; value = record { last_active = now; peer = was.value.peer } }) others
+  pub renewed :
+      IsTaken d spot (record { id = was.id; value = record { last_active = now; peer = was.value.peer } }) others

@@ -115,13 +115,15 @@ structures_of vocabularies.Queue word = option_map (λ verb. structures.Nowhere)
 -- why words after a command word are not those that it takes
 abbrev pub reason_after : Structures → List (List ℕ) → Reason
 reason_after structures words =
-    unwrap_or (first_fault_of words) (if has_great structures words then reasons.NoSuchStructure else reasons.OtherWords)
+    unwrap_or (first_fault_of words)
+    (if has_great structures words then reasons.NoSuchStructure else reasons.OtherWords)
 
 abbrev pub reason_of_words : Vocabulary → List (List ℕ) → Reason
 reason_of_words vocabulary [] = reasons.OtherWords
 reason_of_words vocabulary ([] ∷ words) = reasons.Spaces
 reason_of_words vocabulary ((byte ∷ bytes) ∷ words) =
-    unwrap_or (option_map (λ structures. reason_after structures words) (structures_of vocabulary (byte ∷ bytes))) reasons.NoSuchWord
+    unwrap_or (option_map (λ structures. reason_after structures words) (structures_of vocabulary (byte ∷ bytes)))
+    reasons.NoSuchWord
 
 -- why a line that is no command of a mode is bad
 abbrev pub reason_of : Vocabulary → List ℕ → Reason
