@@ -58,11 +58,15 @@ module _ {X : Type 0} where
     | inr on ↦ (x, key, permuted_is_at (rest ++ (p, o) ∷ []) d q x kept (front_is_at rest ((p, o) ∷ []) q x on))
   ]
 
-  pub finds_moved : (f : ℕ → Option Ptr) (c d rest : Nodes X) (p : Ptr) (e o : Element X) → Finds f c → IsTaken c p e rest → o.id ≡ e.id → IsTaken d p o rest → Finds f d
-  finds_moved f c d rest p e o was taken same (low, high, is, left) n q at = let (x, key, lies) = was n q at in elim (taken_or_left c rest p q e x taken lies) as (λ _. (y : Element X) × (y.id ≡ n) × HasElementAt d q y) [
-    | inl itself ↦ (o, same ∙ sym (ap (λ (y : Element X). y.id) itself.1) ∙ key, subst (λ s. HasElementAt d s o) (sym itself.0) (low, high, is))
-    | inr on ↦ (x, key, left_is_at d rest p q o x (low, high, is, left) on)
-  ]
+  pub finds_moved : (f : ℕ → Option Ptr) (c d rest : Nodes X) (p : Ptr) (e o : Element X) → Finds f c
+      → IsTaken c p e rest → o.id ≡ e.id → IsTaken d p o rest → Finds f d
+  finds_moved f c d rest p e o was taken same (low, high, is, left) n q at =
+      let (x, key, lies) = was n q at in
+      elim (taken_or_left c rest p q e x taken lies) as (λ _. (y : Element X) × (y.id ≡ n) × HasElementAt d q y) [
+        | inl itself ↦ let number = ap (λ (y : Element X). y.id) itself.1 in
+            (o, same ∙ sym number ∙ key, subst (λ s. HasElementAt d s o) (sym itself.0) (low, high, is))
+        | inr on ↦ (x, key, left_is_at d rest p q o x (low, high, is, left) on)
+      ]
 
   pub finds_put : (f g : ℕ → Option Ptr) (c d : Nodes X) (k : ℕ) (p : Ptr) (e : Element X) → Finds f c → e.id ≡ k → IsUpdated f k (Some p) g → IsTaken d p e c → Finds g d
   finds_put f g c d k p e was same up (low, high, is, left) n q at = elim (either_way f g k (Some p) up n) as (λ _. (o : Element X) × (o.id ≡ n) × HasElementAt d q o) [

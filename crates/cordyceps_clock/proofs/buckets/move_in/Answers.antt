@@ -8,8 +8,16 @@ pub returns-clause-moved : goal.returns-clause-moved
 returns-clause-moved g c =
     let old = c.args.list.now in let at = c.args.at in let new = c.match-nearest_end.list in
     elim c.match-nearest_end.branch [
-      | in-Some w ↦ record { end = Some w.in-Some.to; nearest = w.in-Some.ensures; moved = shown_put (λ q d. IsMovedAfter old at w.in-Some.to d) _ new at at w.list-is refl w.move_after.ensures.moved }
-      | in-None w ↦ record { end = None; nearest = w.in-None.ensures; moved = shown_put (λ q d. IsMovedFront old at d) _ new at at w.list-is refl w.move_to_front.ensures.moved }
+      | in-Some w ↦ let to = w.in-Some.to in record {
+        end = Some to;
+        nearest = w.in-Some.ensures;
+        moved = shown_put (λ q d. IsMovedAfter old at to d) _ new at at w.list-is refl w.move_after.ensures.moved;
+      }
+      | in-None w ↦ record {
+        end = None;
+        nearest = w.in-None.ensures;
+        moved = shown_put (λ q d. IsMovedFront old at d) _ new at at w.list-is refl w.move_to_front.ensures.moved;
+      }
     ]
 
 pub returns-clause-end : goal.returns-clause-end

@@ -8,27 +8,34 @@ use Rattle.cordyceps_clock.proofs.renewing.renew.Goals as goal
 
 pub time_at-due-requires-clause-there : goal.time_at-due-requires-clause-there
 time_at-due-requires-clause-there g c =
-    let (e, w, gave, o) = c.change_at-answer.ensures in spot_is_at c.change_at-answer.new.list c.args.at (record { id = e.id; value = w }) (o.before, o.after, o.is)
+    let (e, w, gave, o) = c.change_at-answer.ensures in
+    spot_is_at c.change_at-answer.new.list c.args.at (record { id = e.id; value = w }) (o.before, o.after, o.is)
 
 pub move_in-requires-clause-there : goal.move_in-requires-clause-there
 move_in-requires-clause-there g c =
-    let (e, w, gave, o) = c.change_at-answer.ensures in spot_is_at c.change_at-answer.new.list c.args.at (record { id = e.id; value = w }) (o.before, o.after, o.is)
+    let (e, w, gave, o) = c.change_at-answer.ensures in
+    spot_is_at c.change_at-answer.new.list c.args.at (record { id = e.id; value = w }) (o.before, o.after, o.is)
 
 pub move_in-requires-clause-others : goal.move_in-requires-clause-others
 move_in-requires-clause-others g c to near =
     let (of, has) = g.met.O.Times.computes c.args.time.now c.requires.time in
-    let (e, w, gave, o) = c.change_at-answer.ensures in let n : Element g.row.T.Denot = record { id = e.id; value = w } in
-    let rest = o.before ++ o.after in let list = c.change_at-answer.new.list in let ends = c.leave_out.new.ends in let small : c.bucket.result < 65 = omega (arith, c.bucket.ensures.within) in
+    let (e, w, gave, o) = c.change_at-answer.ensures in
+    let n : Element g.row.T.Denot = record { id = e.id; value = w } in
+    let rest = o.before ++ o.after in let list = c.change_at-answer.new.list in let ends = c.leave_out.new.ends in
+    let N = number_at of c.args.now in let k = c.bucket.result in let at = c.args.at in
+    let small : k < 65 = omega (arith, c.bucket.ensures.within) in let distinct = c.spots_are_distinct.ensures in
     let kept = c.leave_out.ensures of e rest has (c.requires.kept of has) (o.before, o.after, o.was, refl) in (
-      end_there list rest c.args.at n c.spots_are_distinct.ensures (o.before, o.after, o.is, refl) (number_at of c.args.now) ends c.bucket.result small kept to near,
-      end_other list rest c.args.at n c.spots_are_distinct.ensures (o.before, o.after, o.is, refl) (number_at of c.args.now) ends c.bucket.result small kept to near,
+      end_there list rest at n distinct (o.before, o.after, o.is, refl) N ends k small kept to near,
+      end_other list rest at n distinct (o.before, o.after, o.is, refl) N ends k small kept to near,
     )
 
 pub returns-clause-changed : goal.returns-clause-changed
 returns-clause-changed g c =
-    let (e, w, gave, o) = c.change_at-answer.ensures in let n : Element g.row.T.Denot = record { id = e.id; value = w } in
-    let rest = o.before ++ o.after in let list = c.change_at-answer.new.list in let ends = c.leave_out.new.ends in let now = c.args.now in let k = c.bucket.result in let at = c.args.at in
-    let small : c.bucket.result < 65 = omega (arith, c.bucket.ensures.within) in let distinct = c.spots_are_distinct.ensures in
+    let (e, w, gave, o) = c.change_at-answer.ensures in
+    let n : Element g.row.T.Denot = record { id = e.id; value = w } in
+    let rest = o.before ++ o.after in let list = c.change_at-answer.new.list in let ends = c.leave_out.new.ends in
+    let now = c.args.now in let k = c.bucket.result in let at = c.args.at in
+    let small : k < 65 = omega (arith, c.bucket.ensures.within) in let distinct = c.spots_are_distinct.ensures in
     let moved = c.move_in.ensures.moved in let (v, holds, tells) = c.time_at-due.ensures in (
       e,
       w,
@@ -38,8 +45,11 @@ returns-clause-changed g c =
       moved_taken list rest at n distinct (o.before, o.after, o.is, refl) ends k c.move_in.new.list moved,
       λ of has.
           let kept = c.leave_out.ensures of e rest has (c.requires.kept of has) (o.before, o.after, o.was, refl) in
-          let numbered = held_is of now k list o.before o.after at n v c.time_at-due.result distinct o.is holds (tells of has) c.bucket.ensures.is in
+          let due = c.time_at-due.result in let told = tells of has in
+          let numbered =
+          held_is of now k list o.before o.after at n v due distinct o.is holds told c.bucket.ensures.is in
           let value = value_is of now k list o.before o.after at n v distinct o.is holds in
-          renewed list rest at n distinct (o.before, o.after, o.is, refl) of now k ends c.move_in.new.ends c.move_in.new.list small
-          (omega (arith, c.time_at-due.type_inv, tells of has, ap of value)) numbered kept moved c.move_in.ensures.end,
+          renewed list rest at n distinct (o.before, o.after, o.is, refl) of now k ends c.move_in.new.ends
+          c.move_in.new.list small
+          (omega (arith, c.time_at-due.type_inv, told, ap of value)) numbered kept moved c.move_in.ensures.end,
     )

@@ -4,16 +4,20 @@ use Rattle.cordyceps_clock.proofs.spreading.place.Goals as goal
 
 pub move_in-requires-clause-there : goal.move_in-requires-clause-there
 move_in-requires-clause-there g c =
-    let (number, j, done, e, ahead, others, numbered, s) = c.requires.ready in spot_is_at c.args.list.now c.args.at e (done, _, s.parts)
+    let (number, j, done, e, ahead, others, numbered, s) = c.requires.ready in
+    spot_is_at c.args.list.now c.args.at e (done, _, s.parts)
 
 pub move_in-requires-clause-others : goal.move_in-requires-clause-others
 move_in-requires-clause-others g c to near =
-    let (number, j, done, e, ahead, others, numbered, s) = c.requires.ready in (
-      end_there number c.args.ends.now c.args.list.now done ahead others c.args.at e j c.args.k c.requires.within c.spots_are_distinct.ensures s numbered to near,
-      end_other number c.args.ends.now c.args.list.now done ahead others c.args.at e j c.args.k c.requires.within c.spots_are_distinct.ensures s numbered to near,
+    let (number, j, done, e, ahead, others, numbered, s) = c.requires.ready in
+    let ends = c.args.ends.now in let list = c.args.list.now in let k = c.args.k in let at = c.args.at in
+    let small = c.requires.within in let distinct = c.spots_are_distinct.ensures in (
+      end_there number ends list done ahead others at e j k small distinct s numbered to near,
+      end_other number ends list done ahead others at e j k small distinct s numbered to near,
     )
 
 pub returns-clause-placed : goal.returns-clause-placed
 returns-clause-placed g c number j done e ahead others numbered s =
     let ends = c.args.ends.now in let k = c.args.k in let at = c.args.at in
-    placed_in number ends c.args.list.now done ahead others at e j k c.requires.within c.spots_are_distinct.ensures s numbered c.move_in.new.ends c.move_in.new.list c.move_in.ensures.moved c.move_in.ensures.end
+    placed_in number ends c.args.list.now done ahead others at e j k c.requires.within c.spots_are_distinct.ensures s
+    numbered c.move_in.new.ends c.move_in.new.list c.move_in.ensures.moved c.move_in.ensures.end

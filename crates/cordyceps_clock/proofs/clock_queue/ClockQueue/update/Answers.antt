@@ -1,6 +1,7 @@
 use Rattle.std.proofs.Common.{rules, ◌≤◌, ◌<◌, ◌^◌, ap, sym, ◌∙◌, subst, arith}
 use Rattle.std.specs.Ordering.{nat_cmp}
 use Rattle.cordyceps_base.specs.BySpot.{IsTaken}
+use Rattle.cordyceps_base.specs.Element.{Element}
 use Rattle.cordyceps_single.specs.ByKey.{by_key}
 use Rattle.cordyceps_clock.specs.Clock.{Clocked, Holds}
 use Rattle.cordyceps_clock.proofs.Renewals.{holds_renewed, timed_renewed}
@@ -9,12 +10,16 @@ use Rattle.cordyceps_clock.proofs.clock_queue.ClockQueue.update.Goals as goal
 pub invariant_of-self : goal.invariant_of-self
 invariant_of-self g c of has =
     let now = c.self.inside.clock in let old = c.self.inside.list in let at = c.args.at in
-    let shown = subst (λ (s : Clocked g.row.T.Denot g.row.O.Denot). g.O.Times.computes_by s.time of) c.self.view_is has in
+    let S = Clocked g.row.T.Denot g.row.O.Denot in
+    let shown = subst (λ (s : S). g.O.Times.computes_by s.time of) c.self.view_is has in
     let clock = ap (λ (s : Clocked g.row.T.Denot g.row.O.Denot). s.clock) c.self.view_is in
     let nodes = ap (λ (s : Clocked g.row.T.Denot g.row.O.Denot). s.nodes) c.self.view_is in
     let (e, w, rest, gave, (low, high, was, left), taken, lies) = c.renew.ensures.changed in
-    let from : now ≤ of w = omega (arith, clock, c.requires.due of e c.renew.result w shown (low, high, sym nodes ∙ was) gave) in
-    timed_renewed of now c.self.inside.ends c.renew.new.ends old rest c.renew.new.list at e (record { id = e.id; value = w }) (c.self.invariant of has) (low, high, was, left) (lies of has) from
+    let later = c.requires.due of e c.renew.result w shown (low, high, sym nodes ∙ was) gave in
+    let from : now ≤ of w = omega (arith, clock, later) in
+    let n : Element g.row.T.Denot = record { id = e.id; value = w } in
+    timed_renewed of now c.self.inside.ends c.renew.new.ends old rest c.renew.new.list at e n
+    (c.self.invariant of has) (low, high, was, left) (lies of has) from
 
 pub returns-clause-changed : goal.returns-clause-changed
 returns-clause-changed g c =
@@ -29,7 +34,10 @@ returns-clause-changed g c =
       subst (λ l. IsTaken l at e rest) nodes gone,
       taken,
       λ of a has h.
-          let own = subst (λ (s : Clocked g.row.T.Denot g.row.O.Denot). g.O.Times.computes_by s.time of) (sym c.self.view_is) has in
-          holds_renewed of now c.self.inside.ends c.renew.new.ends old rest c.renew.new.list at e (record { id = e.id; value = w }) (c.self.invariant of own) gone (lies of own) small a
+          let S = Clocked g.row.T.Denot g.row.O.Denot in
+          let n : Element g.row.T.Denot = record { id = e.id; value = w } in
+          let own = subst (λ (s : S). g.O.Times.computes_by s.time of) (sym c.self.view_is) has in
+          holds_renewed of now c.self.inside.ends c.renew.new.ends old rest c.renew.new.list at e n
+          (c.self.invariant of own) gone (lies of own) small a
           (subst (λ l. Holds (by_key nat_cmp of) l a) (sym nodes) h),
     )
