@@ -1,6 +1,5 @@
 -- What a request and its ticket are among the others, once both were put in.
 use Rattle.std.proofs.Common.{◌≡◌, ℕ, List, [], ◌∷◌, ◌++◌, Option, Some, ap, sym, ◌∙◌, subst}
-use Rattle.std.specs.Ordering.{nat_cmp}
 use denote.RawPtr.{Ptr}
 use Rattle.cordyceps.specs.Elements.Element.{Element}
 use Rattle.cordyceps.specs.Elements.Nodes.{Nodes, spots}
@@ -11,7 +10,7 @@ use Rattle.cordyceps.specs.Spots.Heap.{Holds}
 use Rattle.cordyceps.specs.Spots.Spots.{AreDistinct}
 use Rattle.cordyceps_disk.specs.declared.request.Ticket.{Ticket}
 use Rattle.cordyceps_disk.specs.declared.request.Waiting.{Waiting}
-use Rattle.cordyceps_disk.specs.Orders.{by_deadline, by_deadline_lawful, by_sector_lawful}
+use Rattle.cordyceps_disk.specs.Orders.{by_deadline, by_deadline_lawful, by_sector, by_sector_lawful}
 use Rattle.cordyceps_disk.specs.Pairs.{Rises, deadline_of, sector_of, tickets_in}
 use Rattle.cordyceps_disk.specs.Queue.{put_by}
 use Rattle.cordyceps_disk.proofs.Ordered.{is_put, itself, put_taken}
@@ -20,11 +19,14 @@ use Rattle.cordyceps_disk.proofs.Tickets.{changed, distinct, pushed, removed, ri
 
 -- what an insertion answers
 pub request_put : {P : Type 0} (c d : Nodes (Waiting P)) (n : Ptr × Element (Waiting P)) → Rises sector_of c
-    → (Arranges (λ x y. nat_cmp x.request.sector y.request.sector) c c → Arranges (λ x y. nat_cmp x.request.sector y.request.sector) d (c ++ n ∷ [])) → d ≡ put_by sector_of n c
-request_put {P} c d n rises insert = let key : Waiting P → ℕ = λ w. w.request.sector in is_put key by_sector_lawful c d n rises (insert (itself key by_sector_lawful c rises))
+    → (Arranges by_sector c c → Arranges by_sector d (c ++ n ∷ [])) → d ≡ put_by sector_of n c
+request_put {P} c d n rises insert =
+    let key : Waiting P → ℕ = λ w. w.request.sector in
+    is_put key by_sector_lawful c d n rises (insert (itself key by_sector_lawful c rises))
 
 -- a ticket was pushed: before there were the lines ls, and now there are ns
-module _ (ls ns : List (Nodes Ticket)) (u : Ptr) (k : Element Ticket) (was : Holds by_deadline ls (tickets_in ls)) (came : Holds by_deadline ns (tickets_in ls ++ (u, k) ∷ [])) (apart : AreDistinct (spots (flat ns))) where
+module _ (ls ns : List (Nodes Ticket)) (u : Ptr) (k : Element Ticket) (was : Holds by_deadline ls (tickets_in ls))
+    (came : Holds by_deadline ns (tickets_in ls ++ (u, k) ∷ [])) (apart : AreDistinct (spots (flat ns))) where
   came_last : IsTaken (tickets_in ns) u k (tickets_in ls)
   came_last =
       subst (λ l. IsTaken l u k (tickets_in ls)) (sym (pushed ls ns was (u, k) came))
@@ -34,7 +36,9 @@ module _ (ls ns : List (Nodes Ticket)) (u : Ptr) (k : Element Ticket) (was : Hol
   held_now = (stands ns (tickets_in ls ++ (u, k) ∷ []) came).held
 
   -- it was changed
-  module _ (ms : List (Nodes Ticket)) (e o : Element Ticket) (again : (a : Nodes Ticket) → Holds by_deadline ns a → (left : Nodes Ticket) × (IsTaken a u e left × Holds by_deadline ms (left ++ (u, o) ∷ []))) where
+  module _ (ms : List (Nodes Ticket)) (e o : Element Ticket)
+      (again : (a : Nodes Ticket) → Holds by_deadline ns a
+      → (left : Nodes Ticket) × (IsTaken a u e left × Holds by_deadline ms (left ++ (u, o) ∷ []))) where
     pub same_ticket : k ≡ e
     same_ticket =
         let (left, (taken, _), _) = changed ns ms held_now u e o again in
@@ -51,9 +55,13 @@ module _ (ls ns : List (Nodes Ticket)) (u : Ptr) (k : Element Ticket) (was : Hol
     changed_held = let (_, _, held) = changed ns ms held_now u e o again in held
 
   -- it was removed again
-  module _ (ms : List (Nodes Ticket)) (e : Element Ticket) (gone : (a : Nodes Ticket) → Holds by_deadline ns a → (rest : Nodes Ticket) × (IsTaken a u e rest × Holds by_deadline ms rest)) where
+  module _ (ms : List (Nodes Ticket)) (e : Element Ticket)
+      (gone : (a : Nodes Ticket) → Holds by_deadline ns a
+      → (rest : Nodes Ticket) × (IsTaken a u e rest × Holds by_deadline ms rest)) where
     pub nothing_left : tickets_in ms ≡ tickets_in ls
-    nothing_left = back_again (tickets_in ns) (tickets_in ls) (tickets_in ms) u k e (distinct ns apart) came_last (removed ns ms held_now u e gone).0
+    nothing_left =
+        back_again (tickets_in ns) (tickets_in ls) (tickets_in ms) u k e (distinct ns apart) came_last
+        (removed ns ms held_now u e gone).0
 
     pub left_held : Holds by_deadline ms (tickets_in ms)
     left_held = (removed ns ms held_now u e gone).1

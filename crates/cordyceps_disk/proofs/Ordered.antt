@@ -120,11 +120,14 @@ module _ {X : Type 0} (key : X → ℕ) where
     itself s h = arranges_itself o s (sorted_of s h)
 
     -- what stands for some arrivals, with one more put in, stands for these and that one
-    pub put_arranges : (s a : Nodes X) (n : Ptr × Element X) → Rises of s → Arranges (λ x y. nat_cmp (key x) (key y)) s a → Arranges (λ x y. nat_cmp (key x) (key y)) (put_by of n s) (a ++ n ∷ [])
+    pub put_arranges : (s a : Nodes X) (n : Ptr × Element X) → Rises of s
+        → Arranges (λ x y. nat_cmp (key x) (key y)) s a
+        → Arranges (λ x y. nat_cmp (key x) (key y)) (put_by of n s) (a ++ n ∷ [])
     put_arranges s a n h was =
         let (front, back, is, put, lower, higher) = put_split of n s h in
+        let parts = subst (λ l. Arranges (λ x y. nat_cmp (key x) (key y)) l a) is was in
         subst (λ l. Arranges (λ x y. nat_cmp (key x) (key y)) l (a ++ n ∷ [])) (sym put)
-        (arranges_put o front back a n (none_greater n front lower) (all_greater n back higher) (subst (λ l. Arranges (λ x y. nat_cmp (key x) (key y)) l a) is was))
+        (arranges_put o front back a n (none_greater n front lower) (all_greater n back higher) parts)
 
     -- what stands for nodes in order and one more is those with that one put in
     pub is_put : (s t : Nodes X) (n : Ptr × Element X) → Rises of s → Arranges (λ x y. nat_cmp (key x) (key y)) t (s ++ n ∷ []) → t ≡ put_by of n s

@@ -28,24 +28,29 @@ all_rise : (more s : Nodes Ticket) → Rises deadline_of s → Rises deadline_of
 all_rise [] s h = h
 all_rise (n ∷ more) s h = all_rise more (put_by deadline_of n s) (put_rises deadline_of n s h)
 
-all_arranged : (more s a : Nodes Ticket) → Rises deadline_of s → Arranges by_deadline s a → Arranges by_deadline (put_all_by deadline_of s more) (a ++ more)
+all_arranged : (more s a : Nodes Ticket) → Rises deadline_of s → Arranges by_deadline s a
+    → Arranges by_deadline (put_all_by deadline_of s more) (a ++ more)
 all_arranged [] s a rises h = subst (Arranges by_deadline s) (sym (append-nil a)) h
 all_arranged (n ∷ more) s a rises h =
     let next : Nodes Ticket = put_by deadline_of n s in
+    let first = put_arranges (λ (w : Ticket). w.deadline) by_deadline_lawful s a n rises h in
     subst (Arranges by_deadline (put_all_by deadline_of next more)) (append_assoc a (n ∷ []) more)
-    (all_arranged more next (a ++ n ∷ []) (put_rises deadline_of n s rises) (put_arranges (λ (w : Ticket). w.deadline) by_deadline_lawful s a n rises h))
+    (all_arranged more next (a ++ n ∷ []) (put_rises deadline_of n s rises) first)
 
-one_kept : (n : Ptr × Element Ticket) (s : Nodes Ticket) → Rises deadline_of s → IsPermutation (put_by deadline_of n s) (n ∷ s)
+one_kept : (n : Ptr × Element Ticket) (s : Nodes Ticket) → Rises deadline_of s
+    → IsPermutation (put_by deadline_of n s) (n ∷ s)
 one_kept n s h =
     let (front, back, put, parts) = put_taken (λ (w : Ticket). w.deadline) n s h in
-    subst (λ (l : Nodes Ticket × Nodes Ticket). IsPermutation l.0 (n ∷ l.1)) (λ i. (sym put i, sym parts i)) (IsPermutation-middle front n back)
+    subst (λ (l : Nodes Ticket × Nodes Ticket). IsPermutation l.0 (n ∷ l.1)) (λ i. (sym put i, sym parts i))
+    (IsPermutation-middle front n back)
 
 all_kept : (more s : Nodes Ticket) → Rises deadline_of s → IsPermutation (put_all_by deadline_of s more) (s ++ more)
 all_kept [] s h = subst (IsPermutation s) (sym (append-nil s)) (IsPermutation-refl s)
 all_kept (n ∷ more) s h =
     let next : Nodes Ticket = put_by deadline_of n s in
+    let one = IsPermutation-append_left more next (n ∷ s) (one_kept n s h) in
     IsPermutation-trans _ _ _ (all_kept more next (put_rises deadline_of n s h))
-    (IsPermutation-trans _ _ _ (IsPermutation-append_left more next (n ∷ s) (one_kept n s h)) (IsPermutation-sym _ _ (IsPermutation-middle s n more)))
+    (IsPermutation-trans _ _ _ one (IsPermutation-sym _ _ (IsPermutation-middle s n more)))
 
 module _ (lines : List (Nodes Ticket)) where
   pub rises : Rises deadline_of (tickets_in lines)
@@ -64,10 +69,12 @@ module _ (lines : List (Nodes Ticket)) where
   has u h = permuted_has (tickets_in lines) (flat lines) u kept h
 
   pub distinct : AreDistinct (spots (flat lines)) → AreDistinct (spots (tickets_in lines))
-  distinct h = permuted_distinct (flat lines) (tickets_in lines) (IsPermutation-sym (tickets_in lines) (flat lines) kept) h
+  distinct h =
+      permuted_distinct (flat lines) (tickets_in lines) (IsPermutation-sym (tickets_in lines) (flat lines) kept) h
 
   -- they stand for what the heap holds
-  pub stands : (a : Nodes Ticket) → Holds by_deadline lines a → Stands by_deadline (Holds by_deadline lines) (tickets_in lines)
+  pub stands : (a : Nodes Ticket) → Holds by_deadline lines a
+      → Stands by_deadline (Holds by_deadline lines) (tickets_in lines)
   stands a h = heap_stands by_deadline lines (tickets_in lines) a arranged h
 
   pub arranges : (a : Nodes Ticket) → Holds by_deadline lines a → Arranges by_deadline (tickets_in lines) a
@@ -81,7 +88,8 @@ no_element q e ([], a, is) = absurd cc
 no_element q e (n ∷ b, a, is) = absurd cc
 
 -- no requests and no tickets
-pub none_kept : {P : Type 0} (lines : List (Nodes Ticket)) → flat lines ≡ [] → Holds by_deadline lines [] → Kept {P = P} [] lines
+pub none_kept : {P : Type 0} (lines : List (Nodes Ticket)) → flat lines ≡ [] → Holds by_deadline lines []
+    → Kept {P = P} [] lines
 none_kept {P = P} lines none h =
     let empty = sym (none_in lines none) in
     let pairs : Paired {P = P} [] [] = record {
@@ -97,35 +105,60 @@ none_kept {P = P} lines none h =
 
 -- ---- from some lines to others
 module _ (ls ms : List (Nodes Ticket)) (was : Holds by_deadline ls (tickets_in ls)) where
-  pub pushed : (n : Ptr × Element Ticket) → Holds by_deadline ms (tickets_in ls ++ n ∷ []) → tickets_in ms ≡ put_by deadline_of n (tickets_in ls)
-  pushed n h = is_put (λ (w : Ticket). w.deadline) by_deadline_lawful (tickets_in ls) (tickets_in ms) n (rises ls) (arranges ms (tickets_in ls ++ n ∷ []) h)
+  -- the tickets of these lines stand for what they hold
+  before : Stands by_deadline (Holds by_deadline ls) (tickets_in ls)
+  before = stands ls (tickets_in ls) was
 
-  pub removed : (u : Ptr) (k : Element Ticket) → ((a : Nodes Ticket) → Holds by_deadline ls a → (rest : Nodes Ticket) × (IsTaken a u k rest × Holds by_deadline ms rest)) → IsTaken (tickets_in ls) u k (tickets_in ms) × Holds by_deadline ms (tickets_in ms)
+  pub pushed : (n : Ptr × Element Ticket) → Holds by_deadline ms (tickets_in ls ++ n ∷ [])
+      → tickets_in ms ≡ put_by deadline_of n (tickets_in ls)
+  pushed n h =
+      is_put (λ (w : Ticket). w.deadline) by_deadline_lawful (tickets_in ls) (tickets_in ms) n (rises ls)
+      (arranges ms (tickets_in ls ++ n ∷ []) h)
+
+  pub removed : (u : Ptr) (k : Element Ticket)
+      → ((a : Nodes Ticket) → Holds by_deadline ls a
+      → (rest : Nodes Ticket) × (IsTaken a u k rest × Holds by_deadline ms rest))
+      → IsTaken (tickets_in ls) u k (tickets_in ms) × Holds by_deadline ms (tickets_in ms)
   removed u k h =
       let (rest, (_, held)) = h (tickets_in ls) was in
-      let left = stands ms rest held in
-      (one_less by_deadline_lawful (Holds by_deadline ls) (tickets_in ls) (stands ls (tickets_in ls) was) (Holds by_deadline ms) (tickets_in ms) left u k h, left.held)
+      let left = stands ms rest held in (
+        one_less by_deadline_lawful (Holds by_deadline ls) (tickets_in ls) before (Holds by_deadline ms)
+            (tickets_in ms) left u k h,
+        left.held,
+      )
 
-  pub changed : (u : Ptr) (k o : Element Ticket) → ((a : Nodes Ticket) → Holds by_deadline ls a → (left : Nodes Ticket) × (IsTaken a u k left × Holds by_deadline ms (left ++ (u, o) ∷ [])))
-      → (left : Nodes Ticket) × (IsTaken (tickets_in ls) u k left × Arranges by_deadline (tickets_in ms) (left ++ (u, o) ∷ [])) × Holds by_deadline ms (tickets_in ms)
+  pub changed : (u : Ptr) (k o : Element Ticket)
+      → ((a : Nodes Ticket) → Holds by_deadline ls a
+      → (left : Nodes Ticket) × (IsTaken a u k left × Holds by_deadline ms (left ++ (u, o) ∷ [])))
+      → (left : Nodes Ticket)
+      × (IsTaken (tickets_in ls) u k left × Arranges by_deadline (tickets_in ms) (left ++ (u, o) ∷ []))
+      × Holds by_deadline ms (tickets_in ms)
   changed u k o h =
       let (left, (taken, held)) = h (tickets_in ls) was in
-      (left, (taken, arranges ms (left ++ (u, o) ∷ []) held), (stands ms (left ++ (u, o) ∷ []) held).held)
+      let all : Nodes Ticket = left ++ (u, o) ∷ [] in
+      (left, (taken, arranges ms all held), (stands ms all held).held)
 
   -- the first was looked for, and the same arrivals are held
   module _ (same : (a : Nodes Ticket) → Holds by_deadline ls a → Holds by_deadline ms a) where
+    after : Stands by_deadline (Holds by_deadline ms) (tickets_in ms)
+    after = stands ms (tickets_in ls) (same (tickets_in ls) was)
+
     pub stayed : tickets_in ms ≡ tickets_in ls
     stayed =
-        all_same by_deadline_lawful (Holds by_deadline ls) (tickets_in ls) (stands ls (tickets_in ls) was) (Holds by_deadline ms) (tickets_in ms) (stands ms (tickets_in ls) (same (tickets_in ls) was)) same
+        all_same by_deadline_lawful (Holds by_deadline ls) (tickets_in ls) before (Holds by_deadline ms)
+        (tickets_in ms) after same
 
     pub still_kept : {P : Type 0} (c : Nodes (Waiting P)) → Paired c (tickets_in ls) → Kept c ms
-    still_kept c h = record { paired = subst (Paired c) (sym stayed) h; held = (stands ms (tickets_in ls) (same (tickets_in ls) was)).held }
+    still_kept c h = record { paired = subst (Paired c) (sym stayed) h; held = after.held }
 
     -- what was found is the first by deadline, and what is read there is its value
     pub found_first : (u : Ptr) (w : Ticket) → AreDistinct (spots (flat ms)) → HoldsAt (flat ms) u w
-        → (e : Element Ticket) × HasElementAt (flat ms) u e × ((a : Nodes Ticket) → Holds by_deadline ls a → (rest : Nodes Ticket) × IsEarliestLeast (precedes by_deadline) a (u, e) rest)
+        → (e : Element Ticket) × HasElementAt (flat ms) u e
+        × ((a : Nodes Ticket) → Holds by_deadline ls a
+        → (rest : Nodes Ticket) × IsEarliestLeast (precedes by_deadline) a (u, e) rest)
         → IsFirst (tickets_in ls) u × HoldsAt (tickets_in ls) u w
     found_first u w apart read (e, (b, a, lies), first) =
-        let (rest, is) = first_of by_deadline_lawful (Holds by_deadline ls) (tickets_in ls) (stands ls (tickets_in ls) was) (u, e) first in
+        let (rest, is) = first_of by_deadline_lawful (Holds by_deadline ls) (tickets_in ls) before (u, e) first in
         let value = holds_value (flat ms) b a u e w apart lies read in
-        ((e, rest, is), ([], e.id, rest, is ∙ ap (λ (v : Ticket). (u, record { id = e.id; value = v }) ∷ rest) (sym value)))
+        let all = is ∙ ap (λ (v : Ticket). (u, record { id = e.id; value = v }) ∷ rest) (sym value) in
+        ((e, rest, is), ([], e.id, rest, all))

@@ -6,7 +6,10 @@ use Rattle.cordyceps.specs.Orders.Preorder.{IsPreorder, preorder_from_total}
 use Rattle.cordyceps_disk.specs.declared.request.Ticket.{Ticket}
 use Rattle.cordyceps_disk.specs.declared.request.Waiting.{Waiting}
 
-pub by_sector_lawful : {P : Type 0} → IsPreorder (λ (x y : Waiting P). nat_cmp x.request.sector y.request.sector)
+abbrev pub by_sector : {P : Type 0} → Waiting P → Waiting P → Ordering
+by_sector x y = nat_cmp x.request.sector y.request.sector
+
+pub by_sector_lawful : {P : Type 0} → IsPreorder (by_sector {P = P})
 by_sector_lawful {P} = preorder_from_total (on_total (λ (w : Waiting P). w.request.sector) nat_cmp_total)
 
 abbrev pub by_deadline : Ticket → Ticket → Ordering

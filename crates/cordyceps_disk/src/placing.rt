@@ -100,11 +100,11 @@ pub(crate) fn first_above<P: Drop>(requests: &Requests<P>, at: Spot) -> Option<S
 
 /// Inserts a request and its ticket, and returns the spot of the request. Allocates two nodes.
 ///
-/// The request must know the spot of its ticket, and the ticket that of its request. So the ticket is inserted first,
-/// and is told the spot of the request by an update. The heap then inserts it anew after its equals, where it is.
+/// Each of the two has the spot of the other. So the ticket is inserted first, and the spot of the request is written
+/// into it once that is inserted. The heap inserts an updated element after its equals, which is where the ticket is.
 ///
 /// # Errors
-/// If memory is refused, the request is returned, and no other request and no other ticket has changed.
+/// If memory is refused, the request is returned, and the other requests and tickets stay as they were.
 ///
 /// # Complexity
 /// That of inserting into a sorted list: O(k), for k requests at higher sectors.

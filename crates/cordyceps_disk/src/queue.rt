@@ -82,9 +82,9 @@ impl<P: Drop> DiskQueue<P> {
     /// If memory is refused, or `usize::MAX` requests wait, the request is returned, and the queue is unchanged.
     ///
     /// # Complexity
-    /// O(k), for k requests at higher sectors: one comparison with each. The deadline is inserted in O(1), without a
-    /// comparison; `next` and `peek` sort it when they look for the earliest one, in O(log n) amortized, for n requests
-    /// that were submitted.
+    /// O(k), for k requests at higher sectors: it compares with each of them. The deadline is inserted in O(1), without
+    /// a comparison. It is sorted when `next` or `peek` looks for the earliest one, in O(log n) amortized, for n
+    /// requests that were submitted.
     pub fn submit(
         &mut self,
         alloc: Global,

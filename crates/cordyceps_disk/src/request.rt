@@ -1,9 +1,8 @@
 //! Disk requests, and the two orders in which they wait.
 ghost use Rattle.std.specs.Prelude.{◌≡◌, refl};
-ghost use Rattle.std.specs.Ordering.{nat_cmp};
 ghost use Rattle.std.proofs.Common.{subst, sym};
 ghost use Rattle.cordyceps.specs.Orders.Preorder.{IsPreorder};
-ghost use Rattle.cordyceps_disk.specs.Orders.{by_deadline_lawful, by_sector_lawful};
+ghost use Rattle.cordyceps_disk.specs.Orders.{by_deadline, by_deadline_lawful, by_sector, by_sector_lawful};
 
 use cordyceps::list::Links;
 use cordyceps::sorted_list::Order;
@@ -72,9 +71,9 @@ impl Linked<Links<Ticket>> for Ticket {
 pub(crate) struct BySector;
 
 impl<P> Order<Waiting<P>> for BySector {
-    ghost compares_by = { λ _ cmp. cmp ≡ (λ x y. nat_cmp x.request.sector y.request.sector) };
+    ghost compares_by = { λ _ cmp. cmp ≡ by_sector };
 
-    ghost computes = { λ _ _. ((λ x y. nat_cmp x.request.sector y.request.sector), refl) };
+    ghost computes = { λ _ _. (by_sector, refl) };
 
     ghost lawful = { λ _ cmp e. subst IsPreorder (sym e) by_sector_lawful };
 
@@ -88,9 +87,9 @@ impl<P> Order<Waiting<P>> for BySector {
 pub(crate) struct ByDeadline;
 
 impl Order<Ticket> for ByDeadline {
-    ghost compares_by = { λ _ cmp. cmp ≡ (λ x y. nat_cmp x.deadline y.deadline) };
+    ghost compares_by = { λ _ cmp. cmp ≡ by_deadline };
 
-    ghost computes = { λ _ _. ((λ x y. nat_cmp x.deadline y.deadline), refl) };
+    ghost computes = { λ _ _. (by_deadline, refl) };
 
     ghost lawful = { λ _ cmp e. subst IsPreorder (sym e) by_deadline_lawful };
 

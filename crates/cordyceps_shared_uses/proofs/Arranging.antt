@@ -42,19 +42,34 @@ module _ {P : Type 0} where
   fires c = stands_for by_deadline c (arranged c) (arranges c)
 
   module _ (c d : Nodes (Timer P)) where
-    pub pushed : (q : Ptr) (t : Element (Timer P)) → ((a : Nodes (Timer P)) → Holds by_deadline c a → Holds by_deadline d (a ++ (q, t) ∷ [])) → arranged d ≡ started q t (arranged c)
+    pub pushed : (q : Ptr) (t : Element (Timer P))
+        → ((a : Nodes (Timer P)) → Holds by_deadline c a → Holds by_deadline d (a ++ (q, t) ∷ []))
+        → arranged d ≡ started q t (arranged c)
     pushed q t h =
         let s = arranged c in let n : Ptr × Element (Timer P) = (q, t) in
-        same_nodes lawful (s ++ n ∷ []) (arranged d) (started q t s) (one_more lawful (Holds by_deadline c) s (fires c) (Holds by_deadline d) (arranged d) (fires d) n h) (starts q t s s (stands s (in_order c)))
+        same_nodes lawful (s ++ n ∷ []) (arranged d) (started q t s)
+        (one_more lawful (Holds by_deadline c) s (fires c) (Holds by_deadline d) (arranged d) (fires d) n h)
+        (starts q t s s (stands s (in_order c)))
 
-    pub removed : (p : Ptr) (t : Element (Timer P)) → ((a : Nodes (Timer P)) → Holds by_deadline c a → (rest : Nodes (Timer P)) × (IsTaken a p t rest × Holds by_deadline d rest)) → IsTaken (arranged c) p t (arranged d)
-    removed p t h = one_less lawful (Holds by_deadline c) (arranged c) (fires c) (Holds by_deadline d) (arranged d) (fires d) p t h
+    pub removed : (p : Ptr) (t : Element (Timer P))
+        → ((a : Nodes (Timer P)) → Holds by_deadline c a
+        → (rest : Nodes (Timer P)) × (IsTaken a p t rest × Holds by_deadline d rest))
+        → IsTaken (arranged c) p t (arranged d)
+    removed p t h =
+        one_less lawful (Holds by_deadline c) (arranged c) (fires c) (Holds by_deadline d) (arranged d) (fires d) p t h
 
-    pub popped : (p : Ptr) (t : Element (Timer P)) → ((a : Nodes (Timer P)) → Holds by_deadline c a → (rest : Nodes (Timer P)) × (IsEarliestLeast (precedes by_deadline) a (p, t) rest × Holds by_deadline d rest)) → arranged c ≡ (p, t) ∷ arranged d
-    popped p t h = first_less lawful (Holds by_deadline c) (arranged c) (fires c) (Holds by_deadline d) (arranged d) (fires d) (p, t) h
+    pub popped : (p : Ptr) (t : Element (Timer P))
+        → ((a : Nodes (Timer P)) → Holds by_deadline c a
+        → (rest : Nodes (Timer P))
+        × (IsEarliestLeast (precedes by_deadline) a (p, t) rest × Holds by_deadline d rest))
+        → arranged c ≡ (p, t) ∷ arranged d
+    popped p t h =
+        first_less lawful (Holds by_deadline c) (arranged c) (fires c) (Holds by_deadline d) (arranged d) (fires d)
+        (p, t) h
 
     pub stayed : ((a : Nodes (Timer P)) → Holds by_deadline c a → Holds by_deadline d a) → arranged d ≡ arranged c
-    stayed h = all_same lawful (Holds by_deadline c) (arranged c) (fires c) (Holds by_deadline d) (arranged d) (fires d) h
+    stayed h =
+        all_same lawful (Holds by_deadline c) (arranged c) (fires c) (Holds by_deadline d) (arranged d) (fires d) h
 
   -- ---- the same timers, at the same spots
   one_kept : (q : Ptr) (t : Element (Timer P)) (s : Nodes (Timer P)) → IsPermutation (started q t s) ((q, t) ∷ s)

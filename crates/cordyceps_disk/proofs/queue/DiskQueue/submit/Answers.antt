@@ -11,17 +11,21 @@ use Rattle.cordyceps_disk.proofs.queue.DiskQueue.submit.Goals as goal
 use Rattle.cordyceps_disk.proofs.queue.DiskQueue.submit.Goals.{then-is_next, else-is_next}
 
 pub returns-then-len-clause-distinct : goal.returns-then-len-clause-distinct
-returns-then-len-clause-distinct g c = seen_distinct c.args.self.now c.self.inside.requests.nodes (tickets_in c.self.inside.tickets.lines) c.self.inside.head c.self.view_is c.self.invariant.0.paired.distinct
+returns-then-len-clause-distinct g c =
+    seen_distinct c.args.self.now c.self.inside.requests.nodes (tickets_in c.self.inside.tickets.lines)
+    c.self.inside.head c.self.view_is c.self.invariant.0.paired.distinct
 
 pub returns-in_err-at-clause-distinct : goal.returns-in_err-at-clause-distinct
-returns-in_err-at-clause-distinct g c = waiting_distinct c.link.new.requests.nodes c.link.ensures.kept.paired.distinct
+returns-in_err-at-clause-distinct g c =
+    waiting_distinct c.link.new.requests.nodes c.link.ensures.kept.paired.distinct
 
 pub returns-clause-submitted : goal.returns-clause-submitted
 returns-clause-submitted g c =
     let d = c.link.new.requests.nodes in
     let s = tickets_in c.link.new.tickets.lines in
     let is : c.if-is_next.self ≡ seen d s c.self.inside.head = elim c.if-is_next.branch as (λ _. c.if-is_next.self ≡ seen d s c.self.inside.head) [ then-is_next w ↦ w.self-is | else-is_next w ↦ w.self-is ] in
-    is ∙ seen_submitted c.args.self.now c.self.inside.requests.nodes (tickets_in c.self.inside.tickets.lines) c.self.inside.head c.self.view_is d s c.in_ok-at.at c.args.request c.in_ok-at.ensures.put c.in_ok-at.ensures.due
+    is ∙ seen_submitted c.args.self.now c.self.inside.requests.nodes (tickets_in c.self.inside.tickets.lines)
+    c.self.inside.head c.self.view_is d s c.in_ok-at.at c.args.request c.in_ok-at.ensures.put c.in_ok-at.ensures.due
 
 pub returns-clause-others : goal.returns-clause-others
 returns-clause-others g c =
@@ -29,7 +33,9 @@ returns-clause-others g c =
     let s = tickets_in c.link.new.tickets.lines in
     let is : c.if-is_next.self ≡ seen d s c.self.inside.head = elim c.if-is_next.branch as (λ _. c.if-is_next.self ≡ seen d s c.self.inside.head) [ then-is_next w ↦ w.self-is | else-is_next w ↦ w.self-is ] in
     subst (λ (q : Queue _). IsTaken q.waiting c.in_ok-at.at (element c.args.request) c.args.self.now.waiting) (sym is)
-    (seen_others c.args.self.now c.self.inside.requests.nodes (tickets_in c.self.inside.tickets.lines) c.self.inside.head c.self.view_is d s c.in_ok-at.at c.args.request c.in_ok-at.ensures.put c.self.invariant.0.paired.by_sector)
+    (seen_others c.args.self.now c.self.inside.requests.nodes (tickets_in c.self.inside.tickets.lines)
+    c.self.inside.head c.self.view_is d s c.in_ok-at.at c.args.request c.in_ok-at.ensures.put
+    c.self.invariant.0.paired.by_sector)
 
 pub returns-clause-there : goal.returns-clause-there
 returns-clause-there g c = taken_has c.if-is_next.self.waiting c.args.self.now.waiting c.in_ok-at.at (element c.args.request) (returns-clause-others g c)
