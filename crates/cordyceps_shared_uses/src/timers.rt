@@ -200,8 +200,9 @@ impl<P: Drop> Timers<P> {
         Some(first.deadline)
     }
 
-    /// Removes the earliest timer in its node and returns it, or returns `None` if none is due at the time `now`. Then
-    /// all timers stay, and the clock is set to `now`, if that is later.
+    /// Removes the earliest timer in its node and returns it, if it is due at the time `now`. The clock is then at its
+    /// deadline. Returns `None` if no timer is due. All timers stay then, and the clock is set to `now`, if that is
+    /// later.
     ///
     /// # Complexity
     /// O(1) amortized, for any number of timers: each is moved at most 64 times before it comes out.
@@ -217,8 +218,9 @@ impl<P: Drop> Timers<P> {
         self.queue.pop_due(now)
     }
 
-    /// Removes the earliest timer, frees its node and returns it, or returns `None` if none is due at the time `now`.
-    /// Then all timers stay, and the clock is set to `now`, if that is later.
+    /// Removes the earliest timer, frees its node and returns it, if it is due at the time `now`. The clock is then at
+    /// its deadline. Returns `None` if no timer is due. All timers stay then, and the clock is set to `now`, if that is
+    /// later.
     ///
     /// # Complexity
     /// That of `stop_due`.
