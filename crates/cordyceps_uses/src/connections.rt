@@ -1,8 +1,8 @@
-//! Connections of a server. Any is closed at once by its spot, and the one that was idle longest makes room in a full
-//! table.
+//! A table of a server's open connections. Each can be closed in O(1) by its spot. If the table is full, a new
+//! connection evicts the one that was idle longest.
 //!
-//! The list is sorted by the time of last activity. So nothing is searched: the connection to evict is the first, and
-//! one that is renewed mostly goes last, after one comparison.
+//! The table is a list that is sorted by the time of last activity, so nothing is searched for. The connection to evict
+//! is the first one, and a connection that is renewed mostly becomes the last, after one comparison.
 ghost use Rattle.std.specs.Prelude.{◌≡◌, ◌<◌, [], length, MatchOption};
 ghost use Rattle.cordyceps.specs.Elements.Nodes.{spots};
 ghost use Rattle.cordyceps.specs.Spots.BySpot.{HasSpot, IsFirst, IsTaken};
@@ -14,11 +14,11 @@ use cordyceps::sorted_list::Least;
 use cordyceps::{Kind, Linked, Node, Spot, StableSortedList};
 use std::marker::Model;
 
-/// A connection. Connections compare by the time of their last activity alone.
+/// A connection to a peer. Connections are compared only by the time of their last activity.
 #[derive(Clone, Copy, Drop)]
 #[derive_where(Debug, PartialEq, Eq, PartialOrd, Ord)]
 pub struct Connection {
-    /// When it was last active, in ticks of any clock.
+    /// The time of the last activity, in ticks of any clock.
     pub last_active: u64,
     /// The number of the peer.
     #[derive_where(skip)]
@@ -41,11 +41,14 @@ impl<L: Kind> Linked<L> for Connection {
     }
 }
 
-/// A connection in a node, whose number is the connection's.
+/// A connection in a node. The number of the node is that of the connection.
 pub type ConnectionNode = Node<Connection, Links<Connection>>;
 
-/// Open connections, up to a number. A contract sees each with its spot, the one that was idle longest first, and the
-/// capacity.
+/// A table of open connections, up to a capacity. A contract sees each connection with its spot, the one that was idle
+/// longest first, and the capacity.
+///
+/// # Complexity
+/// Dropping the table frees the node of each connection: O(n), for n connections.
 #[derive(Drop)]
 pub struct Connections {
     list: StableSortedList<Connection, Least>,
@@ -62,12 +65,12 @@ impl Model for Connections {
     ghost invariant = { λ t. IsKept t.list.nodes t.capacity };
 }
 
-/// What `Connections::open` returns.
+/// The result of `Connections::open`.
 #[derive(Drop)]
 pub struct Opened {
     /// The spot of the new connection.
     pub spot: Spot,
-    /// The connection that was closed to make room for it.
+    /// The connection that was closed to make room, or `None` if the table was not full.
     pub evicted: Option<ConnectionNode>,
 }
 
@@ -107,11 +110,11 @@ impl Connections {
         self.list.front()
     }
 
-    /// Opens a connection and returns its spot. If the table is full, it closes the one that was idle longest and
-    /// returns that too.
+    /// Opens a connection and returns its spot. If the table is full, it first closes the connection that was idle
+    /// longest, and returns that too. Allocates nothing.
     ///
     /// # Complexity
-    /// O(k + 1), where k is the number of connections that were active later.
+    /// O(k + 1), where k is the number of connections that were active later, and O(1) if all others were.
     pub fn open(&mut self, node: ConnectionNode) -> Opened
         ensures opened { Evicts self.old self.new result.evicted result.spot node }
         ensures distinct { AreDistinct (spots self.new.nodes) }
@@ -121,7 +124,7 @@ impl Connections {
         Opened { spot, evicted }
     }
 
-    /// Closes the connection that was idle longest and returns it, if the table is full.
+    /// Closes the connection that was idle longest and returns it, or returns `None` if the table is not full.
     fn make_room(&mut self) -> Option<ConnectionNode>
         ensures evicted { MatchOption result
             ((self.new.nodes ≡ self.old.nodes) × (length self.old.nodes < self.old.capacity))
@@ -135,11 +138,11 @@ impl Connections {
         self.list.pop_front()
     }
 
-    /// Notes that the connection at `spot` was active at `now`. It keeps its number, its peer and its spot. Requires
-    /// that the spot is valid.
+    /// Sets the time of last activity of the connection at `spot` to `now`. The connection keeps its number, its peer
+    /// and its spot. Requires that `spot` is valid.
     ///
     /// # Complexity
-    /// O(k + 1), where k is the number of connections that were active later.
+    /// O(k + 1), where k is the number of connections that were active later than `now`, and O(1) if all others were.
     pub fn renew(&mut self, spot: Spot, now: u64)
         requires { HasSpot self.old.nodes spot }
         ensures renewed { Renews self.old.nodes spot now self.new.nodes }
@@ -157,7 +160,7 @@ impl Connections {
         );
     }
 
-    /// Closes the connection at `spot`, and no other, and returns it. Requires that the spot is valid.
+    /// Closes the connection at `spot` and returns it. All others stay open. Requires that `spot` is valid.
     ///
     /// # Complexity
     /// O(1).
@@ -170,8 +173,8 @@ impl Connections {
         self.list.remove(spot)
     }
 
-    /// Closes the connection that was idle longest and returns it, if it was last active before `since`. Otherwise it
-    /// returns `None`, and all were active since.
+    /// Closes the connection that was idle longest and returns it, if its last activity was before `since`. Otherwise
+    /// it returns `None`, the table is unchanged, and all connections were active at `since` or later.
     ///
     /// # Complexity
     /// O(1).

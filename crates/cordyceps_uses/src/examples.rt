@@ -1,4 +1,4 @@
-//! A few lines with cursors, filters, owned consumers, cores and counts of steps.
+//! Short examples with cursors, filters, owned consumers, cores and counts of steps.
 ghost use Rattle.std.specs.Prelude.{◌≡◌, ◌+◌, ◌<◌, ◌≤◌, [], ◌∷◌, ◌++◌, length, map, slice_get, nat_le, not, Some, Ok, Err, IfOk, IfErr, MatchOption};
 ghost use Rattle.std.specs.List.{filter};
 ghost use Rattle.std.specs.List.Sorted.{IsSortedBy};
@@ -17,7 +17,7 @@ use cordyceps::{List, MpscQueue, SortedList, Steps};
 use std::alloc::{AllocError, Global};
 use std::sync::Arc;
 
-/// Returns the ranks of the first two jobs, or `None` if there are fewer. The list is only read.
+/// Returns the ranks of the first two jobs, or `None` if the list has fewer. It only reads the list.
 ///
 /// # Complexity
 /// O(1).
@@ -34,10 +34,11 @@ pub fn first_two_ranks(jobs: &List<Job>) -> Option<(u32, u32)>
     Some((first.rank, second.rank))
 }
 
-/// Moves the jobs whose rank is at most `most` to the end of another list. All keep their order.
+/// Moves the jobs whose rank is at most `most` to the back of another list. The jobs of each list keep their order.
+/// Requires that the sum of the lengths is at most `usize::MAX`. Allocates nothing.
 ///
 /// # Complexity
-/// O(n), for n jobs. Allocates nothing.
+/// O(n), for n jobs in `jobs`.
 pub fn move_urgent(jobs: &mut List<Job>, most: u32, urgent: &mut List<Job>)
     requires { length jobs.old + length urgent.old ≤ usize.MAX }
     ensures moved { urgent.new ≡ urgent.old ++ filter (λ n. nat_le n.value.rank most) jobs.old }
@@ -50,20 +51,25 @@ pub fn move_urgent(jobs: &mut List<Job>, most: u32, urgent: &mut List<Job>)
     }
 }
 
-/// A worker that dequeues the jobs that are sent to it. It owns its consumer, and borrows nothing.
+/// A worker that dequeues the jobs that are sent to it. Its consumer shares the ownership of the queue, so a worker
+/// borrows nothing.
 #[derive(Drop)]
 pub struct Worker {
+    /// The consumer of the worker's queue.
     pub jobs: OwnedConsumer<Job>,
 }
 
-/// Sends two jobs to a worker, and returns what it takes, the oldest first. It never returns `None`, since nobody else
-/// has the right to dequeue.
+/// Sends two jobs to a worker, and returns the jobs that the worker takes, the oldest first. The result is never
+/// `None`, since no other party has the right to dequeue.
 ///
 /// # Errors
-/// If memory for the queue is refused, that is returned, and the jobs are dropped.
+/// If memory is refused, it returns `AllocError`, and the jobs are dropped.
 ///
 /// # Complexity
 /// O(1), with a fixed number of allocations.
+///
+/// # Waits
+/// Never.
 pub fn send_to_worker(
     alloc: Global,
     first: QueueJob,
@@ -83,11 +89,11 @@ pub fn send_to_worker(
     Ok(worker.jobs.take_linked(16).ok())
 }
 
-/// Pushes two jobs to a core, where the second push comes between the steps of the first, and takes both. The one that
-/// was pushed last comes first.
+/// Pushes two jobs to a core by the steps of two parties, and takes both. The push of `late` comes between the steps of
+/// the push of `early`, which therefore fails and is tried again. So `early` is pushed last and comes first.
 ///
 /// # Errors
-/// If memory is refused, it returns `Memory`.
+/// If memory is refused, it returns `Memory`, and the jobs are dropped.
 ///
 /// # Complexity
 /// O(1), with a fixed number of allocations.
@@ -111,10 +117,11 @@ pub fn push_meanwhile(alloc: Global, early: Job, late: Job) -> Result<Vec<Job>, 
     core.take_all(second)
 }
 
-/// Sends a job by the steps of a core, and returns what another party finds before the last step and after it.
+/// Enqueues a job by the steps of a core, and returns the results of two tries of another party to dequeue. The try
+/// before the last step finds `Inconsistent`, and the try after it returns the job.
 ///
 /// # Errors
-/// If memory is refused, it returns `Memory`.
+/// If memory is refused, it returns `Memory`, and the job is dropped.
 ///
 /// # Complexity
 /// O(1), with a fixed number of allocations.
@@ -138,10 +145,12 @@ pub fn dequeue_around_link(
     Ok((before, after))
 }
 
-/// Inserts a job into a sorted list, and returns how many comparisons that took.
+/// Inserts a job into a sorted list, and returns the number of comparisons that this takes. Requires a length below
+/// `usize::MAX`. Allocates nothing.
 ///
 /// # Complexity
-/// As `insert`: O(1) if the rank is not less than the last one, and otherwise O(k), for k jobs up to its place.
+/// That of `SortedList::insert`: O(1) if the rank is not less than that of the last job, and otherwise O(k), where k is
+/// the number of jobs up to the first one with a greater rank.
 pub fn insert_counted(jobs: &mut SortedList<Job, Least>, job: StackJob) -> u64
     requires { length jobs.old.elements < usize.MAX }
     ensures count { result ≡ comparisons (λ x y. nat_cmp x.rank y.rank) job.value (values jobs.old.elements) }

@@ -1,15 +1,16 @@
-//! An element type of a user's own.
+//! An element type of the user's own.
 ghost use Rattle.std.specs.Prelude.{◌≡◌};
 
 use cordyceps::{Kind, Linked, Node};
 
-/// A job, which is done the earlier the less its rank is.
+/// A job. Jobs are compared by their ranks, and the job with the least rank is to be done first.
 #[derive(Clone, Copy, Debug, PartialEq, Eq, PartialOrd, Ord)]
 pub struct Job {
+    /// The urgency of the job: the least rank is the most urgent.
     pub rank: u32,
 }
 
-/// A job can stand in each collection: its handle is a node, whatever links that has.
+/// Jobs can be linked into collections of any kind. The handle of a job is a node of that kind.
 impl<L: Kind> Linked<L> for Job {
     type Handle = Node<Job, L>;
 

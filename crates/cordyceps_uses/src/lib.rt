@@ -1,4 +1,4 @@
-//! Programs to copy: each is small, proved, and says in words of its own subject what it promises.
+//! Small, proved programs to copy. Their contracts are stated in the terms of each program's own subject.
 #![tactic(auto)]
 
 pub mod connections;

@@ -1,7 +1,7 @@
-//! A cache of bounded size that forgets what was used least recently.
+//! A cache of bounded size that evicts the entry that was used least recently.
 //!
-//! It keeps what is costly to make again, as rows that were read or names that were looked up, for as long as there is
-//! room. A map finds the spot where a key's node is, so that no call walks along the entries.
+//! It keeps what is expensive to compute or to read again, such as rows of a table or the results of lookups. A map
+//! finds the spot of a key's node, so no call walks through the entries.
 ghost use Rattle.std.specs.Prelude.{ℕ, ◌≡◌, ◌-◌, ◌<◌, ◌≤◌, [], length, take, slice_get, nat_eq, option_map, is_some, None, IsSome, IsOk, IfOk, IfErr, OnOk, OnErr};
 ghost use Rattle.std.specs.HashMap.{get, spare};
 ghost use Rattle.cordyceps.specs.Spots.Agreeing.{Agrees};
@@ -14,9 +14,10 @@ use std::collections::HashMap;
 use std::marker::Model;
 use std::mem;
 
-/// What a cache keeps for a key.
+/// The value that a cache keeps for a key. The key is the number of the entry's node.
 #[derive(Drop)]
 pub struct Entry<V> {
+    /// The value of the key.
     pub value: V,
 }
 
@@ -36,7 +37,12 @@ impl<V: Drop> Linked<Links<Entry<V>>> for Entry<V> {
     }
 }
 
-/// A cache. A contract sees its entries, the most recently used first, and its capacity.
+/// A cache of values by their keys, up to a capacity. A contract sees its entries, the most recently used first, and
+/// its capacity.
+///
+/// # Complexity
+/// A call that takes a key finds it in a hash map. This is O(1) expected, and O(n) at worst, for n entries. Dropping
+/// the cache frees the map and the node of each entry: O(n).
 #[derive(Drop)]
 pub struct Cache<V> {
     spots: HashMap<u64, Spot>,
@@ -58,7 +64,10 @@ impl<V> Model for Cache<V> {
 }
 
 impl<V: Drop> Cache<V> {
-    /// An empty cache for so many entries. It takes no memory.
+    /// Creates an empty cache for at most `capacity` entries. Requires a capacity of at least 1. Allocates nothing.
+    ///
+    /// # Complexity
+    /// O(1).
     pub fn new(alloc: Global, capacity: usize) -> Cache<V>
         requires { 0 < capacity }
         ensures entries { result.entries ≡ [] }
@@ -71,14 +80,21 @@ impl<V: Drop> Cache<V> {
         }
     }
 
-    /// How many entries there are.
+    /// Returns the number of entries.
+    ///
+    /// # Complexity
+    /// O(1).
     pub fn len(&self) -> usize
         ensures { result ≡ length self.now.entries }
     {
         self.list.len()
     }
 
-    /// Uses a key, which then is the most recently used one. Was it there?
+    /// Makes the entry of a key the most recently used one and returns `true`, or returns `false` if the key has no
+    /// entry.
+    ///
+    /// # Complexity
+    /// O(1) expected.
     pub fn touch(&mut self, key: u64) -> bool
         ensures entries { self.new.entries ≡ used key self.old.entries }
         ensures capacity { self.new.capacity ≡ self.old.capacity }
@@ -93,7 +109,11 @@ impl<V: Drop> Cache<V> {
         }
     }
 
-    /// The value of a key, which then is the most recently used one. `None` where it is not there.
+    /// Returns the value of a key, whose entry becomes the most recently used one, or returns `None` if the key has no
+    /// entry.
+    ///
+    /// # Complexity
+    /// O(1) expected.
     pub fn get(&mut self, key: u64) -> Option<V>
     where
         V: Copy,
@@ -107,9 +127,18 @@ impl<V: Drop> Cache<V> {
         Some(value)
     }
 
-    /// Gives a key a value, and returns the entry that went for it: that of the key, or the one used least recently.
+    /// Inserts a value for a key, whose entry becomes the most recently used one. Returns the entry that it displaces:
+    /// the old entry of the key, or, if a new key comes to a full cache, the entry that was used least recently.
     ///
-    /// A key that is there keeps its node. For another it takes memory, and where that is refused the value comes back.
+    /// A key that has an entry keeps its node. For a new key it allocates one node, and more memory if the map has to
+    /// grow.
+    ///
+    /// # Errors
+    /// If memory is refused, the value is returned, and the cache is unchanged. For a key that has an entry this never
+    /// happens.
+    ///
+    /// # Complexity
+    /// O(1) expected, amortized over the growth of the map.
     pub fn insert(
         &mut self,
         alloc: Global,
@@ -146,7 +175,10 @@ impl<V: Drop> Cache<V> {
         Ok(out)
     }
 
-    /// Takes a key out, and returns its value. `None` where it is not there.
+    /// Removes the entry of a key and returns its value, or returns `None` if the key has no entry.
+    ///
+    /// # Complexity
+    /// O(1) expected.
     pub fn remove(&mut self, key: u64) -> Option<V>
         ensures entries { self.new.entries ≡ others key self.old.entries }
         ensures capacity { self.new.capacity ≡ self.old.capacity }
@@ -157,7 +189,7 @@ impl<V: Drop> Cache<V> {
     }
 }
 
-/// Takes out the last entry of a full cache, and returns it.
+/// Removes the last entry of a full cache and returns it, or returns `None` if the cache is not full.
 fn make_room<V: Drop>(
     spots: &mut HashMap<u64, Spot>,
     list: &mut StableList<Entry<V>>,

@@ -1,5 +1,5 @@
-//! Tasks of one type that go through a stack, a stack that threads share, a sorted list and a list, in the nodes that
-//! they were made with.
+//! Tasks that pass through a stack, a stack that threads share, a sorted list and a list, and stay in the nodes in
+//! which they were created.
 ghost use Rattle.std.specs.Prelude.{◌≡◌, ◌<◌, ◌≤◌, [], ◌∷◌, ◌++◌, length, reverse, IfErr, IfOk};
 ghost use Rattle.cordyceps.specs.Parties.Histories.{plain};
 ghost use Rattle.cordyceps.specs.Parties.Shares.{whole};
@@ -12,7 +12,7 @@ use cordyceps::{Kind, Linked, List, Node, SortedList, Stack, TransferStack};
 use std::alloc::Global;
 use std::sync::Wait;
 
-/// Something to do. Tasks compare by their ranks alone, the least of which is the most urgent.
+/// A task. Tasks are compared only by their ranks, and the least rank is the most urgent.
 #[derive(Drop)]
 #[derive_where(PartialEq, Eq, PartialOrd, Ord)]
 pub struct Task {
@@ -21,8 +21,8 @@ pub struct Task {
     pub number: u64,
 }
 
-/// Tasks go into collections of any kind. A node of stacks goes into sorted lists too, and into those that threads share,
-/// and by `into_kind` it becomes one of lists or queues.
+/// Tasks can be linked into collections of any kind. Stacks, sorted lists and the stacks that threads share link the
+/// same kind of node. `Node::into_kind` converts it into a node for lists or queues.
 impl<L: Kind> Linked<L> for Task {
     type Handle = Node<Task, L>;
 
@@ -39,7 +39,7 @@ impl<L: Kind> Linked<L> for Task {
     }
 }
 
-/// Pushes tasks, one after the other, where nobody else does.
+/// Pushes tasks, one after the other, by a whole party: no other party pushes or takes meanwhile.
 fn push_all<R: Wait>(
     rt: &R,
     shared: &TransferStack<Task>,
@@ -59,11 +59,20 @@ fn push_all<R: Wait>(
     party
 }
 
-/// Sends tasks through a stack that threads share, and puts them in order: the least rank comes first, and equals come
-/// as they were pushed. The tasks stay in the nodes that they have.
+/// Sends tasks through a stack that threads share, and returns them sorted: the task with the least rank comes first,
+/// and equals come in the order in which they were pushed onto `tasks`. The tasks stay in the nodes that they have.
 ///
-/// The shared stack needs a room for each task, at most `MAX_ROOMS`. Where memory for it is refused, `Err` gives the
-/// tasks back.
+/// The shared stack needs a room for each task: requires that `rooms` is at least the number of tasks, and at most
+/// `MAX_ROOMS`.
+///
+/// # Errors
+/// If memory for the shared stack is refused, the tasks are returned.
+///
+/// # Complexity
+/// O(`rooms` + n^2), for n tasks: each is inserted into a sorted list, which is O(n) at worst.
+///
+/// # Waits
+/// Never. The party of the shared stack is whole, so each push succeeds at its first try.
 pub fn schedule<R: Wait>(
     rt: &R,
     alloc: Global,
@@ -83,8 +92,11 @@ pub fn schedule<R: Wait>(
     Ok(SortedList::from_stack_min(came))
 }
 
-/// Puts a task from a stack after those of a list, which has room for one more. Its node becomes one of lists: it is
-/// not freed, and no memory is taken.
+/// Appends a task that came out of a stack to a list. The task's node is converted into one for lists: nothing is
+/// allocated or freed. Requires that the list has a length below `usize::MAX`.
+///
+/// # Complexity
+/// O(1).
 pub fn move_to_list(list: &mut List<Task>, node: Node<Task, Links<Task>>)
     requires { length list.old < usize.MAX }
     ensures { list.new ≡ list.old ++ node ∷ [] }

@@ -1,6 +1,8 @@
-//! A wheel of timers, as kernels have it: each timer is started, cancelled and expired at once, however many wait.
+//! A timer wheel, as operating-system kernels have it: a timer is started and cancelled in O(1), and all timers of a
+//! tick expire in O(1), for any number of timers.
 //!
-//! Its slots represent the ticks of one turn. A timer waits in the slot of its deadline, modulo their number.
+//! The slots of the wheel represent the ticks of one turn. A timer waits in the slot whose index is its deadline modulo
+//! the number of slots.
 ghost use Rattle.std.specs.Prelude.{ℕ, ◌≡◌, ◌+◌, ◌%◌, ◌++◌, ◌<◌, ◌≤◌, [], ◌∷◌, length, replicate, IfOk, IfErr, IsOk, OnErr, All};
 ghost use Rattle.cordyceps.specs.Elements.Nodes.{Nodes, elements};
 ghost use Rattle.cordyceps.specs.Spots.BySpot.{IsTaken};
@@ -12,7 +14,7 @@ use std::alloc::{AllocError, Global};
 use std::marker::Model;
 use std::mem;
 
-/// What is to be done at a deadline, which is the number of the timer's node.
+/// What is to be done at a deadline. The deadline, in ticks, is the number of the timer's node.
 #[derive(Drop)]
 pub struct Timer<P> {
     pub payload: P,
@@ -34,17 +36,23 @@ impl<P: Drop> Linked<Links<Timer<P>>> for Timer<P> {
     }
 }
 
-/// A timer, as who starts it owns it.
+/// A timer in a node. The caller owns it before it is started, and again after it was cancelled or became due.
 pub type TimerNode<P> = Node<Timer<P>, Links<Timer<P>>>;
 
-/// Says which timer is to be cancelled. It owns nothing, and is good until that timer is cancelled or due.
+/// A ticket, by which a timer is cancelled. It owns nothing, and is valid until that timer is cancelled or due.
 #[derive(Clone, Copy)]
 pub struct Ticket {
+    /// The deadline of the timer, in ticks.
     pub deadline: u64,
+    /// The spot of the timer in its slot.
     pub spot: Spot,
 }
 
-/// A wheel. A contract sees its time, in ticks, and the timers of each slot, in the order in which they were started.
+/// A timer wheel. A contract sees its time, in ticks, and the timers of each slot, in the order in which they were
+/// started.
+///
+/// # Complexity
+/// Dropping the wheel frees the node of each timer: O(s + n), for s slots and n timers.
 #[derive(Drop)]
 pub struct TimerWheel<P> {
     slots: Vec<StableList<Timer<P>>>,
@@ -63,7 +71,14 @@ impl<P> Model for TimerWheel<P> {
 }
 
 impl<P: Drop> TimerWheel<P> {
-    /// A wheel of so many slots at the time 0. It takes memory for the slots.
+    /// Creates a wheel with `slots` slots and no timers, at the time 0. Requires at least one slot. Allocates the
+    /// slots.
+    ///
+    /// # Errors
+    /// If memory is refused, it returns `AllocError`.
+    ///
+    /// # Complexity
+    /// O(`slots`).
     pub fn new(alloc: Global, slots: usize) -> Result<TimerWheel<P>, AllocError>
         requires { 0 < slots }
         ensures { IfOk result (λ w. (w.time ≡ 0) × (w.slots ≡ replicate slots [])) }
@@ -80,10 +95,16 @@ impl<P: Drop> TimerWheel<P> {
         })
     }
 
-    /// Starts a timer, which is due at the time that its node has for a number, and returns its ticket.
+    /// Starts a timer and returns its ticket. The timer is due at the time that is the number of its node. Allocates
+    /// nothing.
     ///
-    /// It takes no memory. The timer comes back where its deadline is not in the turn that begins now, or where its
-    /// slot holds the greatest number of timers.
+    /// # Errors
+    /// If the deadline is not in the turn that begins now, or its slot has `usize::MAX` timers, the timer is returned,
+    /// and the wheel is unchanged. The turn has as many ticks as the wheel has slots, and the present tick is its
+    /// first.
+    ///
+    /// # Complexity
+    /// O(1).
     pub fn start(&mut self, timer: TimerNode<P>) -> Result<Ticket, TimerNode<P>>
         ensures started { IfOk result (λ ticket.
             self.new ≡ with_waiting timer.id (waiting timer.id self.old ++ (ticket.spot, timer) ∷ []) self.old) }
@@ -105,7 +126,10 @@ impl<P: Drop> TimerWheel<P> {
         Ok(Ticket { deadline, spot })
     }
 
-    /// Takes the timer of a ticket out, before it is due.
+    /// Removes the timer of a ticket from the wheel and returns it. Requires that the ticket is valid.
+    ///
+    /// # Complexity
+    /// O(1).
     pub fn cancel(&mut self, ticket: Ticket) -> TimerNode<P>
         requires { IsGood ticket.deadline ticket.spot self.old }
         ensures { (left : Nodes (Timer P))
@@ -116,9 +140,11 @@ impl<P: Drop> TimerWheel<P> {
         self.slots[slot].remove(ticket.spot)
     }
 
-    /// Ends the present tick, and gives the timers that were due in it, in the order in which they were started.
+    /// Ends the present tick, and returns the timers that were due in it, in the order in which they were started.
+    /// Requires that the time is below `u64::MAX`. Allocates nothing.
     ///
-    /// It takes no memory.
+    /// # Complexity
+    /// O(1), for any number of timers.
     pub fn tick(&mut self) -> List<Timer<P>>
         requires { self.old.time < u64.MAX }
         ensures expired { result ≡ elements (waiting self.old.time self.old) }
@@ -132,14 +158,17 @@ impl<P: Drop> TimerWheel<P> {
         due.into_list()
     }
 
-    /// The time, in ticks since the wheel was made.
+    /// Returns the time, in ticks since the wheel was created.
+    ///
+    /// # Complexity
+    /// O(1).
     pub fn time(&self) -> u64
         ensures { result ≡ self.now.time }
     {
         self.time
     }
 
-    /// The slot of a deadline.
+    /// Returns the index of the slot of a deadline.
     fn slot(&self, deadline: u64) -> usize
         ensures { result ≡ deadline % length self.now.slots }
     {

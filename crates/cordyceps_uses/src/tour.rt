@@ -1,4 +1,4 @@
-//! A few lines with each collection.
+//! Short examples with each collection.
 ghost use Rattle.std.specs.Prelude.{◌≡◌, ◌+◌, ◌<◌, [], ◌∷◌, ◌++◌, take, drop, length, min, option_map, Some, IfOk, IfErr, OnOk, OnErr, MatchOption};
 ghost use denote.RawPtr.{Ptr};
 ghost use Rattle.cordyceps.specs.Elements.Nodes.{spots};
@@ -19,16 +19,22 @@ use std::alloc::{AllocError, Global};
 use std::sync::ledger::{Ledger, Share};
 use std::sync::{Mutex, Wait};
 
-/// A job that can be put into a list.
+/// A job in a node for lists.
 pub type ListJob = Node<Job, list::Links<Job>>;
 
-/// A job that can be put on a stack, into a sorted list, or on a stack that threads share.
+/// A job in a node for stacks, sorted lists, free lists, and stacks that threads share.
 pub type StackJob = Node<Job, stack::Links<Job>>;
 
-/// A job that can be put into a queue that threads share.
+/// A job in a node for queues that threads share.
 pub type QueueJob = Node<Job, mpsc_queue::Links<Job>>;
 
-/// Takes the second of three jobs out of a list.
+/// Creates a list of three jobs, removes the second one and returns it. The other two are dropped.
+///
+/// # Errors
+/// If memory for a node is refused, the job for that node is returned, and the other jobs are dropped.
+///
+/// # Complexity
+/// O(1), with three allocations.
 pub fn take_the_second(alloc: Global) -> Result<Option<ListJob>, Refused<Job>>
     ensures { IfOk result (λ job. option_map (λ n. n.id) job ≡ Some 2) }
 {
@@ -42,7 +48,10 @@ pub fn take_the_second(alloc: Global) -> Result<Option<ListJob>, Refused<Job>>
     Ok(cursor.remove_current())
 }
 
-/// Puts the first job after all others.
+/// Moves the first job to the back of the list. An empty list stays empty. Requires a length below `usize::MAX`.
+///
+/// # Complexity
+/// O(1).
 pub fn rotate(jobs: &mut List<Job>)
     requires { length jobs.old < usize.MAX }
     ensures { jobs.new ≡ drop 1 jobs.old ++ take 1 jobs.old }
@@ -52,7 +61,11 @@ pub fn rotate(jobs: &mut List<Job>)
     }
 }
 
-/// Takes the job with the least rank out, and of equals the first. The others stay.
+/// Removes the job with the least rank and returns it, or returns `None` if the list is empty. Of equals it removes the
+/// first. The other jobs keep their order.
+///
+/// # Complexity
+/// O(n), for n jobs.
 pub fn take_least(jobs: &mut StableList<Job>) -> Option<ListJob>
     ensures least { MatchOption result ((jobs.old ≡ []) × (jobs.new ≡ []))
         (λ job. (spot : Ptr) × IsEarliestLeast comes_before jobs.old (spot, job) jobs.new) }
@@ -73,10 +86,14 @@ pub fn take_least(jobs: &mut StableList<Job>) -> Option<ListJob>
     Some(jobs.remove(best))
 }
 
-/// Puts a job that came out of a queue into a list which threads share, and a ticket for it into the thread's share.
+/// Appends a job that came out of a queue to a list that threads share, and adds a ticket for it to the thread's share.
+/// Requires that the share has a part of the ledger. Allocates nothing.
 ///
 /// # Errors
-/// A list of `usize::MAX` jobs hands the job back.
+/// If `usize::MAX` jobs wait, the job is returned, and no ticket is added.
+///
+/// # Complexity
+/// O(1), once it has the lock.
 ///
 /// # Waits
 /// For the lock.
@@ -96,10 +113,14 @@ pub fn submit<L: Ledger, R: Wait>(
     waiting.lock(rt).put(mine, job.into_kind())
 }
 
-/// Takes a job out of a list which threads share, for a ticket: there is one for each that the share has.
+/// Removes a job from a list that threads share and returns it, for a ticket of the thread's share. Requires that the
+/// share has a ticket: there is a job for each.
 ///
-/// It is the job that waits longest when the lock is taken, as [`Waiting::take`] promises. The contract here does not
-/// state which one: no clause can name what is under a lock.
+/// It is the job that has waited longest when the lock is taken, as [`Waiting::take`] promises. The contract here does
+/// not state which job that is, since no clause can name what is under a lock.
+///
+/// # Complexity
+/// O(1), once it has the lock.
 ///
 /// # Waits
 /// For the lock.
@@ -115,7 +136,11 @@ pub fn next_job<L: Ledger, R: Wait>(
     waiting.lock(rt).take(mine)
 }
 
-/// The least rank of two jobs.
+/// Returns the lower of the ranks of two jobs, by a stack that becomes a sorted list. The result is never `None`, and
+/// the jobs are dropped.
+///
+/// # Complexity
+/// O(1).
 pub fn least_rank(first: StackJob, second: StackJob) -> Option<u32>
     ensures { result ≡ Some (min first.value.rank second.value.rank) }
 {
@@ -127,7 +152,17 @@ pub fn least_rank(first: StackJob, second: StackJob) -> Option<u32>
     Some(jobs.iter().next()?.rank)
 }
 
-/// Hands two jobs over, and takes them at once, the one pushed last first.
+/// Pushes two jobs to a stack that threads share, takes both at once and returns them, the last pushed first.
+///
+/// # Errors
+/// If memory is refused, it returns `AllocError`, and the jobs are dropped.
+///
+/// # Complexity
+/// O(1), with a fixed number of allocations, besides the tries of `TransferStack::push`.
+///
+/// # Waits
+/// As `TransferStack::push`, which tries again while other parties come between its steps. Here no other thread has the
+/// stack, so no party does.
 pub fn hand_over<R: Wait>(
     rt: &R,
     alloc: Global,
@@ -148,7 +183,17 @@ pub fn hand_over<R: Wait>(
     Ok(shared.take_all(&mut taker))
 }
 
-/// Sends two jobs, and takes what has arrived, the oldest first.
+/// Sends two jobs through a queue, and returns those that have arrived, the oldest first. The result is never `None`,
+/// since no other party has the right to dequeue.
+///
+/// # Errors
+/// If memory is refused, it returns `AllocError`, and the jobs are dropped.
+///
+/// # Complexity
+/// O(1), with a fixed number of allocations.
+///
+/// # Waits
+/// Never.
 pub fn send(
     alloc: Global,
     first: QueueJob,
@@ -169,7 +214,17 @@ pub fn send(
     Ok(consumer.take_linked(16).ok())
 }
 
-/// Gives a block back as its owner does, and one as another thread does, and gets one again.
+/// Puts a block back as the owner of a free list does, and another as another thread does, and then gets a block. It
+/// gets `near`, which the owner put back, and `far` is dropped with the free list.
+///
+/// # Errors
+/// If memory is refused, it returns `AllocError`, and the blocks are dropped.
+///
+/// # Complexity
+/// O(1), with a fixed number of allocations.
+///
+/// # Waits
+/// Never.
 pub fn give_back(
     alloc: Global,
     near: StackJob,

@@ -1,4 +1,4 @@
-//! Jobs that wait in a list behind a lock, and who may take them.
+//! Jobs that wait in a list behind a lock, and the tickets by which threads take them.
 ghost use Rattle.std.specs.Prelude.{◌≡◌, ◌+◌, ◌<◌, [], ◌∷◌, ◌++◌, length, IfErr, OnOk, OnErr};
 
 use crate::job::Job;
@@ -6,23 +6,26 @@ use cordyceps::list::Links;
 use cordyceps::{List, Node};
 use std::sync::ledger::{Book, Ledger, Share};
 
-/// Jobs that wait, the one that came first at the front. For each there is a ticket in the share of a thread, so who has
-/// a ticket gets a job.
+/// Jobs that wait, the one that came first at the front. For each job there is a ticket in the share of a thread, so a
+/// thread that has a ticket gets a job.
 ///
-/// Threads share it in a `Mutex`. The amount of a share of the ledger `L` is the number of its tickets: these have no
-/// bytes, and are for contracts alone.
+/// Threads share it in a `Mutex`. The amount of a share of the ledger `L` is the number of its tickets. Tickets have no
+/// bytes: they exist only in contracts.
 #[derive(Drop)]
 pub struct Waiting<L: Ledger> {
     /// The jobs, in the order in which they came.
     pub jobs: List<Job>,
-    /// All tickets.
+    /// The book of all tickets.
     pub tickets: Book<L>,
-    // true whenever the lock is free
+    // This is true whenever the lock is free.
     ghost counted: { tickets.total ≡ length jobs },
 }
 
 impl<L: Ledger> Waiting<L> {
-    /// Creates an empty list, of a ledger without tickets.
+    /// Creates an empty list. Requires that the ledger has no tickets. Allocates nothing.
+    ///
+    /// # Complexity
+    /// O(1).
     pub fn new(tickets: Book<L>) -> Waiting<L>
         requires { tickets.total ≡ 0 }
         ensures { result.jobs ≡ [] }
@@ -33,7 +36,8 @@ impl<L: Ledger> Waiting<L> {
         }
     }
 
-    /// Puts a job last, and a ticket into the share.
+    /// Appends a job, and adds a ticket to the share. Requires that the share has a part of the ledger. Allocates
+    /// nothing.
     ///
     /// # Errors
     /// If `usize::MAX` jobs wait, the job is returned, and nothing changes.
@@ -58,7 +62,8 @@ impl<L: Ledger> Waiting<L> {
         Ok(())
     }
 
-    /// Takes the job that waits longest, for a ticket of the share, which has one.
+    /// Removes the job that has waited longest and returns it, for a ticket of the share. Requires that the share has a
+    /// ticket.
     ///
     /// # Complexity
     /// O(1).
@@ -68,7 +73,7 @@ impl<L: Ledger> Waiting<L> {
         ensures ticket { mine.new.amount + 1 ≡ mine.old.amount }
         ensures parts { mine.new.parts ≡ mine.old.parts }
     {
-        // there are at least as many tickets as this share has
+        // The audit proves that there are at least as many tickets as this share has, so a job waits.
         self.tickets.audit(mine);
         let Some(job) = self.jobs.pop_front() else {
             unreachable!()
@@ -77,7 +82,7 @@ impl<L: Ledger> Waiting<L> {
         job
     }
 
-    /// Returns the jobs that wait. There are as many as the whole share has tickets.
+    /// Returns the jobs that wait. Requires the whole share, which has as many tickets as there are jobs.
     ///
     /// # Complexity
     /// O(1).
