@@ -1,5 +1,5 @@
-//! Programs to copy in which threads share a collection, and timers, which one of them needs: each is small, proved,
-//! and says in words of its own subject what it promises.
+//! Small, proved programs to copy in which threads share a collection, and the timers that one of them needs. Their
+//! contracts are stated in the terms of each program's own subject.
 #![tactic(auto)]
 
 pub mod logger;

@@ -1,4 +1,4 @@
-//! A log: many threads send records, and one stores them in batches until all senders have ended.
+//! A log: many threads send records, and one thread stores them in batches until all senders have ended.
 ghost use Rattle.std.specs.Prelude.{◌≡◌, ◌≤◌, [], ◌∷◌, ◌++◌, map, None, IfOk, IfSome};
 ghost use Rattle.std.specs.Thread.{IsSync};
 ghost use Rattle.cordyceps.specs.Parties.Sending.{Delivers};
@@ -16,12 +16,12 @@ use std::sync::atomic::{AtomicBool, Ordering};
 use std::thread;
 use std::thread::Threads;
 
-/// What is logged.
+/// A record of the log.
 #[derive(Clone, Copy, Debug, PartialEq, Eq)]
 pub struct Record {
-    /// When it happened.
+    /// The time of the event, in any unit.
     pub time: u64,
-    /// What happened.
+    /// The code of the event.
     pub code: u64,
 }
 
@@ -41,9 +41,10 @@ impl<L: Kind> Linked<L> for Record {
     }
 }
 
-/// What one thread sends: its records, in order. Their nodes are made before it starts, so sending takes no memory.
+/// What one thread sends. The nodes of its records are allocated before it starts, so sending allocates nothing.
 #[derive(Drop)]
 pub struct Producer {
+    /// The records, in the order in which they are sent.
     pub records: List<Record>,
 }
 
@@ -63,7 +64,7 @@ impl<L: Kind> Linked<L> for Producer {
     }
 }
 
-/// Sends a record, and wakes the thread that stores. While no room is free, it waits for one.
+/// Sends a record, and wakes the thread that stores. While no room is free, it yields to other threads and tries again.
 fn send<R: Wait>(
     rt: &R,
     queue: &MpscQueue<Record>,
@@ -77,7 +78,8 @@ fn send<R: Wait>(
     let mut handle = handle;
     for _ in rt.forever() {
         let sent = queue.try_enqueue(party, handle);
-        // It is woken whether or not the record was accepted, since a wake-up too many does no harm.
+        // The thread that stores is woken whether or not the queue accepted the record. A superfluous wake-up does no
+        // harm.
         storer.unpark();
         match sent {
             Ok(()) => return,
@@ -88,7 +90,7 @@ fn send<R: Wait>(
     unreachable!()
 }
 
-/// Gives all rooms of a party back, together with those that others gave back meanwhile.
+/// Gives all rooms of a party to the pool, together with those that other parties gave to it meanwhile.
 fn give_all_back<R: Wait>(rt: &R, queue: &MpscQueue<Record>, party: &mut Party<Record>)
     requires { party.old.table ≡ queue.now.table }
     ensures moves { Moves record_of [] [] party.old party.new }
@@ -104,7 +106,7 @@ fn give_all_back<R: Wait>(rt: &R, queue: &MpscQueue<Record>, party: &mut Party<R
     unreachable!()
 }
 
-/// Sends all records of a list, in order, and gives the rooms back that the party has then.
+/// Sends all records of a list, in order, and then gives the rooms that the party has left to the pool.
 fn send_all<R: Wait>(
     rt: &R,
     queue: &MpscQueue<Record>,
@@ -122,7 +124,7 @@ fn send_all<R: Wait>(
     party
 }
 
-/// Sends the records of each producer, on a thread of its own.
+/// Sends the records of each producer on a thread of its own.
 fn send_each<R: Threads + Wait + Sync>(
     rt: &R,
     queue: &MpscQueue<Record>,
@@ -153,7 +155,8 @@ fn send_each<R: Threads + Wait + Sync>(
     back
 }
 
-/// Stores the records of a batch after those that are stored.
+/// Appends the records of a batch to the log. If memory is refused, it returns `AllocError`, and the rest of the batch
+/// is dropped.
 fn store(log: &mut Vec<Record>, batch: Batch<Record>) -> Result<(), AllocError>
     ensures { IfOk result (λ _. log.new.items ≡ log.old.items ++ map record_of batch) }
 {
@@ -163,7 +166,8 @@ fn store(log: &mut Vec<Record>, batch: Batch<Record>) -> Result<(), AllocError>
     Ok(())
 }
 
-/// Stores the records of a batch. Once memory is refused, there is no log, and batches are dropped.
+/// Appends the records of a batch to the log and returns it. If memory is refused or was refused before, it returns
+/// `None`, and the batch is dropped.
 fn store_more(log: Option<Vec<Record>>, batch: Batch<Record>) -> Option<Vec<Record>>
     ensures none { log ≡ None → result ≡ None }
     ensures stored { IfSome result (λ after. IfSome log (λ before.
@@ -174,15 +178,17 @@ fn store_more(log: Option<Vec<Record>>, batch: Batch<Record>) -> Option<Vec<Reco
     Some(log)
 }
 
-/// What the thread that stores is left with: its party, and what it stored, unless memory was refused.
+/// What the thread that stores returns: its party and its log. The log is `None` if memory was refused.
 #[derive(Drop)]
 struct Stored {
     party: Party<Record>,
     log: Option<Vec<Record>>,
 }
 
-/// Sleeps until a sender wakes this thread, if the queue was empty, and otherwise lets other threads run. No wake-up is
-/// lost: a sender wakes this thread after it has put its record in, and a wake-up before the sleep ends it at once.
+/// Sleeps until a sender wakes this thread, if the queue was empty, and otherwise yields to other threads.
+///
+/// No wake-up is lost: a sender wakes this thread after it has enqueued its record, and a wake-up before the sleep ends
+/// the sleep at once. This is tested, but no contract states it.
 fn pause<R: Wait>(rt: &R, sleep: &Parker, why: TryDequeueError) {
     match why {
         TryDequeueError::Empty => sleep.park(rt),
@@ -190,8 +196,8 @@ fn pause<R: Wait>(rt: &R, sleep: &Parker, why: TryDequeueError) {
     }
 }
 
-/// Stores what comes, in batches of at most `max` records, until the senders have ended and nothing is left. The rooms
-/// of what it stored go back at once. While the queue is empty, it sleeps.
+/// Stores the records that arrive, in batches of at most `max`, until all senders have ended and no record is left. It
+/// gives the rooms of the records that it has stored to the pool at once, and sleeps while the queue is empty.
 fn store_until_end<R: Wait>(
     rt: &R,
     alloc: Global,
@@ -209,7 +215,8 @@ fn store_until_end<R: Wait>(
     let mut log = Some(Vec::new(alloc));
     let mut consumer = queue.consume(rt, party);
     for _ in rt.forever() {
-        // It is asked before the take: if all senders have ended by now, nothing comes after what the take finds.
+        // The flag is read before the take. If all senders have ended by now, no record comes after those that the take
+        // finds.
         let is_end = have_ended.load(Ordering::SeqCst);
         match consumer.take_linked(max) {
             Ok(batch) => {
@@ -231,17 +238,24 @@ fn store_until_end<R: Wait>(
     unreachable!()
 }
 
-/// Logs the records of all producers, each of which sends on a thread of its own. One thread stores them, in batches of
-/// at most `max`, until all senders have ended. No record is lost or doubled, and those of each producer come in order.
+/// Logs the records of all producers and returns the log. Each producer sends on a thread of its own, and one thread
+/// stores the records, in batches of at most `max`, until all senders have ended. No record is lost or duplicated, and
+/// the records of each producer come in order.
 ///
-/// The queue has `rooms` rooms, which bound how many records wait to be stored. Their rooms come back: the number of
-/// records has no bound. A sender that finds the queue full waits, and the thread that stores sleeps while it is empty.
+/// The queue has `rooms` rooms, which bound the number of records that wait to be stored. The room of a stored record
+/// is used again, so the number of records has no bound. Requires that `rooms` is at least 1 and at most `MAX_ROOMS`,
+/// and that `max` is at least 1.
 ///
 /// # Errors
-/// If memory is refused, the result is `AllocError`, and all records are dropped.
+/// If memory is refused, it returns `AllocError`, and all records are dropped.
+///
+/// # Complexity
+/// O(`rooms` + n + p), for n records of p producers, in all threads together, besides the tries of threads that wait.
 ///
 /// # Waits
-/// For the threads that it starts.
+/// For the threads that it starts. A sender that finds the queue full tries again until a room is free. The thread that
+/// stores sleeps while the queue is empty. If no thread can be started to store the records, they are stored after all
+/// of them are sent; if there are more than `rooms` records, it then never returns.
 pub fn log_all<R: Threads + Wait + Sync>(
     rt: &R,
     alloc: Global,

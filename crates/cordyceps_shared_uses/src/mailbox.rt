@@ -1,4 +1,4 @@
-//! A mailbox: many send, each on a thread of its own, and one receives.
+//! A mailbox: many threads send messages, and one thread receives them.
 ghost use Rattle.std.specs.Prelude.{◌≡◌, ◌≤◌, [], ◌∷◌, ◌++◌, length, IfOk};
 ghost use Rattle.std.specs.Thread.{IsSync};
 ghost use Rattle.cordyceps.specs.Parties.Sending.{how_many, Delivers, MaySend};
@@ -13,12 +13,13 @@ use std::alloc::{AllocError, Global};
 use std::thread;
 use std::thread::Threads;
 
-/// What is sent.
+/// A message, which is a number.
 #[derive(Drop)]
 pub struct Message {
     pub value: u64,
 }
 
+/// A message in the node in which it is sent.
 type Letter = Node<Message, Links<Message>>;
 
 impl Linked<Links<Message>> for Message {
@@ -37,7 +38,7 @@ impl Linked<Links<Message>> for Message {
     }
 }
 
-/// A letter with this value.
+/// Creates a letter with this value. Allocates one node.
 fn letter(alloc: Global, value: u64) -> Result<Letter, AllocError>
     ensures { IfOk result (λ l. l.value.value ≡ value) }
 {
@@ -47,7 +48,7 @@ fn letter(alloc: Global, value: u64) -> Result<Letter, AllocError>
     }
 }
 
-/// Sends all of a list, in order.
+/// Sends the values of a list, in order. Allocates one node for each.
 fn send_all(
     alloc: Global,
     queue: &MpscQueue<Message>,
@@ -63,7 +64,7 @@ fn send_all(
     Ok(party)
 }
 
-/// Sends each list, on a thread of its own.
+/// Sends each list on a thread of its own.
 fn send_each<R: Threads + Sync>(
     rt: &R,
     alloc: Global,
@@ -94,7 +95,7 @@ fn send_each<R: Threads + Sync>(
     Ok(back)
 }
 
-/// Puts what a try found after what was received.
+/// Appends the message that a try found, if any, to those that were received.
 fn note(received: &mut Vec<u64>, found: Result<Letter, TryDequeueError>) -> Result<(), AllocError>
     ensures { IfOk result (λ _. received.new.items ≡ received.old.items ++ got_by_try value_of found) }
 {
@@ -105,7 +106,7 @@ fn note(received: &mut Vec<u64>, found: Result<Letter, TryDequeueError>) -> Resu
     Ok(())
 }
 
-/// What the receiver is left with: its party, what it received, and how often it tried.
+/// What the receiver returns: its party, the messages that it received, and the number of its tries.
 #[derive(Drop)]
 struct Inbox {
     party: Party<Message>,
@@ -113,7 +114,7 @@ struct Inbox {
     tries: Tries,
 }
 
-/// Receives what comes in so many turns, in each of which it tries once.
+/// Receives messages in `turns` turns, in each of which it tries once.
 fn receive(
     alloc: Global,
     queue: &MpscQueue<Message>,
@@ -136,18 +137,30 @@ fn receive(
     })
 }
 
-/// What was delivered, and how often the receiver tried while messages were sent.
+/// The messages that were delivered, and the tries of the receiver.
 #[derive(Drop)]
 pub struct Delivered {
+    /// The messages, in the order in which they were received.
     pub messages: Vec<u64>,
+    /// The number of tries while messages were sent.
     pub tries: Tries,
 }
 
-/// Delivers messages: each list is sent by a thread of its own, and one thread receives, with a try in each of so many
-/// turns; what is left is received in the end. It waits for nobody but the threads that it starts.
+/// Delivers messages and returns them in the order in which they were received. Each list is sent by a thread of its
+/// own, and one thread receives, with one try in each of `turns` turns. The messages that are left then are received at
+/// the end. The messages of each list come in order, and none is lost or duplicated.
 ///
-/// The mailbox needs a room for each message, at most `MAX_ROOMS`. It is an error where memory is refused, and then all
-/// is dropped.
+/// Each message needs a room: requires that `rooms` is at least the number of messages, and at most `MAX_ROOMS`.
+/// Allocates the queue, a node for each message, and the vector of the messages.
+///
+/// # Errors
+/// If memory is refused, it returns `AllocError`, and all messages are dropped.
+///
+/// # Complexity
+/// O(`rooms` + `turns` + l), for l lists, in all threads together.
+///
+/// # Waits
+/// For the threads that it starts, and for nothing else.
 pub fn deliver<R: Threads + Sync>(
     rt: &R,
     alloc: Global,

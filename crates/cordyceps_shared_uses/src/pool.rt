@@ -10,12 +10,13 @@ use std::alloc::{AllocError, Global};
 use std::thread;
 use std::thread::Threads;
 
-/// A piece of memory.
+/// A block of memory.
 #[derive(Drop)]
 pub struct Block {
     pub bytes: [u8; 64],
 }
 
+/// A block in its node.
 type Handle = Node<Block, Links<Block>>;
 
 impl Linked<Links<Block>> for Block {
@@ -34,7 +35,8 @@ impl Linked<Links<Block>> for Block {
     }
 }
 
-/// Takes blocks from the pool and gives some back, as the commands say, and then gives all that it has.
+/// Takes blocks from the pool and puts some back, as the commands say. Returns all blocks that are then with the user,
+/// and its party.
 fn use_pool(
     pool: &FreeList<Block>,
     blocks: Stack<Block>,
@@ -50,7 +52,7 @@ fn use_pool(
     retire(user)
 }
 
-/// Does so in two threads.
+/// Calls `use_pool` in two threads, each with its own blocks, party and commands.
 fn use_both<R: Threads>(
     rt: &R,
     pool: &FreeList<Block>,
@@ -81,11 +83,21 @@ fn use_both<R: Threads>(
     )
 }
 
-/// Makes a pool that two threads use at the same time, each by its commands. Gives the blocks that are then with the
-/// first, with the second, and in the pool: each block that the two had at the start is there once, and no other.
+/// Creates a pool that two threads use at the same time, each by its commands. Returns the blocks that are then with
+/// the first thread, with the second, and in the pool: each block that the two had at the start is there once, and no
+/// other.
 ///
-/// So many blocks of each thread can be in the pool at once. `AllocError` where memory for that is refused; the blocks
-/// are dropped then.
+/// Each thread starts with `rooms` rooms. A block that it puts back for all uses one, and the thread that takes the
+/// block gets the room. Requires that `rooms` is at most half of `MAX_ROOMS`.
+///
+/// # Errors
+/// If memory for the rooms is refused, it returns `AllocError`, and the blocks are dropped.
+///
+/// # Complexity
+/// O(`rooms`), and that of the commands.
+///
+/// # Waits
+/// For both threads.
 pub fn share<R: Threads>(
     rt: &R,
     alloc: Global,

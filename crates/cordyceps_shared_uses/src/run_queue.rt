@@ -1,4 +1,4 @@
-//! Jobs that one thread submits, and that workers run.
+//! A run queue: one thread submits jobs, and two workers run them.
 ghost use Rattle.std.specs.Prelude.{◌≡◌, ◌≤◌, ◌*◌, [], ◌++◌, length, map, reverse, IfOk, IfErr};
 ghost use Rattle.std.specs.Thread.{IsSync};
 ghost use Rattle.cordyceps.specs.Parties.Counts.{Same};
@@ -13,13 +13,16 @@ use std::sync::Wait;
 use std::thread;
 use std::thread::Threads;
 
-/// What is to be done: a number, of which the square is wanted.
+/// A job, which is to square a number.
 #[derive(Drop)]
 pub struct Job {
+    /// The number to square.
     pub number: u32,
+    /// The square of the number, once the job was run.
     pub square: u64,
 }
 
+/// A job in its node.
 type Handle = Node<Job, Links<Job>>;
 
 impl Linked<Links<Job>> for Job {
@@ -39,6 +42,7 @@ impl Linked<Links<Job>> for Job {
 }
 
 impl Job {
+    /// Computes the square.
     fn run(&mut self)
         ensures number { self.new.number ≡ self.old.number }
         ensures square { self.new.square ≡ self.old.number * self.old.number }
@@ -63,7 +67,7 @@ fn submit_all<R: Wait>(
     party
 }
 
-/// Runs jobs, and puts them on those that are done.
+/// Runs jobs, and pushes each onto those that are done.
 fn run_each(mut jobs: Stack<Job>, done: &mut Stack<Job>)
     ensures { done.new ≡ reverse (map ran jobs) ++ done.old }
 {
@@ -73,7 +77,7 @@ fn run_each(mut jobs: Stack<Job>, done: &mut Stack<Job>)
     }
 }
 
-/// What a worker is left with: its party, what it did, and how often it tried.
+/// What a worker returns: its party, the jobs that it has done, and the number of its tries.
 #[derive(Drop)]
 struct Shift {
     party: Party<Job>,
@@ -81,7 +85,7 @@ struct Shift {
     tries: Tries,
 }
 
-/// Takes jobs out of the queue so often, and runs them.
+/// Takes jobs from the queue and runs them, with one try in each of `turns` turns.
 fn work(queue: &TransferStack<Job>, mut party: Party<Job>, turns: u64) -> Shift
     requires { party.table ≡ queue.now }
     ensures worked { Worked result.done party result.party }
@@ -95,7 +99,7 @@ fn work(queue: &TransferStack<Job>, mut party: Party<Job>, turns: u64) -> Shift
     Shift { party, done, tries }
 }
 
-/// Two workers, each on a thread.
+/// Runs two workers, each on a thread.
 fn work_both<R: Threads>(
     rt: &R,
     queue: &TransferStack<Job>,
@@ -120,7 +124,7 @@ fn work_both<R: Threads>(
     )
 }
 
-/// A submitter and two workers, each on a thread.
+/// Runs a submitter and two workers, each on a thread.
 fn run_threads<R: Threads + Wait + Sync>(
     rt: &R,
     queue: &TransferStack<Job>,
@@ -150,7 +154,7 @@ fn run_threads<R: Threads + Wait + Sync>(
     )
 }
 
-/// Puts jobs on those that are done.
+/// Pushes jobs onto those that are done.
 fn add_all(done: &mut Stack<Job>, mut more: Stack<Job>)
     ensures { done.new ≡ reverse more ++ done.old }
 {
@@ -159,18 +163,30 @@ fn add_all(done: &mut Stack<Job>, mut more: Stack<Job>)
     }
 }
 
-/// Jobs that were run, and how often each of the two workers tried to take some.
+/// The result of `run_all`.
 #[derive(Drop)]
 pub struct Done {
+    /// The jobs, all of which were run.
     pub jobs: Stack<Job>,
+    /// The number of times that each of the two workers tried to take jobs.
     pub tries: (Tries, Tries),
 }
 
-/// Runs all jobs: one thread submits them, two workers take what is there, each so many times, and what they leave is
-/// run in the end. Each job is run once, and none is lost.
+/// Runs all jobs and returns them. One thread submits the jobs, and two workers take what is there and run it, with one
+/// try in each of `turns` turns. The jobs that are left then are run at the end. Each job is run once, and none is
+/// lost.
 ///
-/// The queue needs a room for each job, at most `MAX_ROOMS`. Where memory for it is refused, `Err` gives the jobs back,
-/// none of which was run.
+/// Each job needs a room of the queue: requires that `rooms` is at least the number of jobs, and at most `MAX_ROOMS`.
+/// Allocates only the queue.
+///
+/// # Errors
+/// If memory for the queue is refused, the jobs are returned, none of which was run.
+///
+/// # Complexity
+/// O(`rooms` + `turns`), in all threads together. A push is tried again at most once for each try of a worker.
+///
+/// # Waits
+/// For the threads that it starts. The one that submits tries again while a worker takes between the steps of its push.
 pub fn run_all<R: Threads + Wait + Sync>(
     rt: &R,
     alloc: Global,

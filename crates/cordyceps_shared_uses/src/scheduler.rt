@@ -1,5 +1,6 @@
-//! A scheduler: tasks sleep until they are due, wait for a worker, run, and sleep again until they are done, on four
-//! threads. Each keeps the node that it was made in, which goes from timers to a queue, to a list, to a stack.
+//! A scheduler that runs tasks on four threads. A task waits for a worker, runs a round, sleeps until it is due again,
+//! and so on until all its rounds are done. It stays in the node in which it was created, which passes through a queue,
+//! a list, timers and a stack.
 ghost use Rattle.std.specs.Prelude.{◌≡◌, ℕ, ◌+◌, ◌≤◌, [], length, true, IfErr, IfOk};
 ghost use Rattle.std.specs.Thread.{IsSync};
 ghost use Rattle.cordyceps.specs.Parties.Counts.{tally, Same};
@@ -31,24 +32,27 @@ use std::sync::{Mutex, Wait};
 use std::thread;
 use std::thread::Threads;
 
-/// Where all tasks are in the end.
+/// The places of all tasks at the end.
 #[derive(Drop)]
 pub struct Outcome {
-    /// Those that sleep.
+    /// The tasks that sleep.
     pub asleep: Timers<Work>,
-    /// Those that nobody took out of the queue, the oldest first.
+    /// The tasks that nobody took out of the queue, the oldest first.
     pub on_way: Batch<Task>,
-    /// Those that wait for a worker, the oldest first.
+    /// The tasks that wait for a worker, the oldest first.
     pub runnable: List<Task>,
-    /// Those that are done, of each worker, the last first.
+    /// The tasks that each worker has done, the last first.
     pub done: (Stack<Task>, Stack<Task>),
 }
 
-/// Makes a task: with a number, so many rounds to run, and a pause between two of them. Its node is all the memory that
-/// it takes.
+/// Creates a task with a number, the number of its rounds, and the pause between two rounds, in ticks of the
+/// scheduler's time. Allocates one node, which has the task's number.
 ///
 /// # Errors
-/// Where memory for the node is refused, the work comes back.
+/// If memory for the node is refused, the task is returned without a node.
+///
+/// # Complexity
+/// O(1).
 pub fn birth(
     alloc: Global,
     number: u32,
@@ -76,7 +80,7 @@ struct Opened {
     workers: (Account, Account),
 }
 
-/// Cuts an account of six parts into six, which got and gave nothing yet.
+/// Splits an account of six parts into six accounts, of one part and without entries each.
 fn cut(accounts: &Accounts, account: Account) -> Opened
     requires { account ≡ opened accounts.now.table 6 }
     ensures places { (result.sleepers ≡ opened accounts.now.table 1) × (result.runnable ≡ opened accounts.now.table 1) }
@@ -100,14 +104,14 @@ fn cut(accounts: &Accounts, account: Account) -> Opened
     }
 }
 
-/// What the submitter or the dispatcher has, and is left with: its party and its account.
+/// What the submitter or the dispatcher starts with, and what it returns: its party and its account.
 #[derive(Drop)]
 struct Actor {
     party: Party<Task>,
     account: Account,
 }
 
-/// Sends all tasks, and then wakes those that are due.
+/// Sends all tasks to the dispatcher, and then wakes those that are due.
 fn submit_and_wake<L: Run, R: Wait>(
     rt: &R,
     queue: &MpscQueue<Task>,
@@ -126,7 +130,7 @@ fn submit_and_wake<L: Run, R: Wait>(
     from
 }
 
-/// Dispatches, as the dispatcher's thread does.
+/// Dispatches tasks by the party and the account of the dispatcher.
 fn dispatch_all<L: Run, R: Wait>(
     rt: &R,
     queue: &MpscQueue<Task>,
@@ -142,7 +146,7 @@ fn dispatch_all<L: Run, R: Wait>(
     from
 }
 
-/// Two workers, each on a thread.
+/// Runs two workers, each on a thread.
 fn work_both<L: Run + Send + Sync, R: Threads + Wait + Sync>(
     rt: &R,
     shared: &Shared<L>,
@@ -164,7 +168,7 @@ fn work_both<L: Run + Send + Sync, R: Threads + Wait + Sync>(
     )
 }
 
-/// A dispatcher and two workers, each on a thread.
+/// Runs a dispatcher and two workers, each on a thread.
 fn run_three<L: Run + Send + Sync, R: Threads + Wait + Sync>(
     rt: &R,
     queue: &MpscQueue<Task>,
@@ -192,7 +196,7 @@ fn run_three<L: Run + Send + Sync, R: Threads + Wait + Sync>(
     )
 }
 
-/// All four threads.
+/// Runs a submitter, a dispatcher and two workers, each on a thread.
 fn run_four<L: Run + Send + Sync, R: Threads + Wait + Sync>(
     rt: &R,
     queue: &MpscQueue<Task>,
@@ -228,7 +232,8 @@ fn run_four<L: Run + Send + Sync, R: Threads + Wait + Sync>(
     )
 }
 
-/// Puts all accounts together, in which all that was got was given, and tells where all tasks are.
+/// Merges all accounts, and returns where all tasks are. In the merged account, the tasks that were got are those that
+/// were given.
 fn settle<L: Run>(
     shared: Shared<L>,
     on_way: Batch<Task>,
@@ -266,7 +271,7 @@ fn settle<L: Run>(
     }
 }
 
-/// The two places, with no tasks in them.
+/// Creates what the threads share, with no task in either place.
 fn open<L: Run>(accounts: Accounts, sleepers: Account, runnable: Account, tasks: usize) -> Shared<L>
     requires accounts { (accounts.table ≡ L.accounts) × (accounts.parts ≡ 6) }
     requires places { (sleepers ≡ opened accounts.table 1) × (runnable ≡ opened accounts.table 1) }
@@ -279,7 +284,7 @@ fn open<L: Run>(accounts: Accounts, sleepers: Account, runnable: Account, tasks:
     }
 }
 
-/// Runs tasks, with new accounts.
+/// Runs tasks by new accounts, which belong to the run `L`.
 fn run_in<L: Run + Send + Sync, R: Threads + Wait + Sync>(
     rt: &R,
     alloc: Global,
@@ -325,20 +330,26 @@ fn run_in<L: Run + Send + Sync, R: Threads + Wait + Sync>(
     Ok(settle(shared, on_way, (sent.account, came.account), done))
 }
 
-/// Runs tasks on four threads: one sends them to a dispatcher, and again when they are due after a sleep, the
-/// dispatcher hands them to two workers, and these run a round of each, until all are done. Each task is in one place
-/// in the end: those that sleep, are on their way, wait or are done are those that were given, each once. Those that
-/// are done ran all their rounds.
+/// Runs tasks on four threads, and returns where each task is at the end. The submitter sends the tasks to the
+/// dispatcher, and sends a task again when it is due after a sleep. The dispatcher hands them to two workers, which run
+/// one round of a task at a time. At the end each task that was given is in one place: it sleeps, is on its way, waits
+/// for a worker, or is done. A task that is done has run all its rounds.
 ///
-/// Each thread ends when all tasks are done, or after so many turns; the submitter also when it has no room left in the
-/// queue. The queue has so many rooms, at most `MAX_ROOMS`, and a task needs one for each of its rounds.
+/// Each thread ends when all tasks are done, or after `turns` turns. The submitter also ends when it has no room left
+/// in the queue. The queue has `rooms` rooms, and a task needs one for each of its rounds, and at least one. Requires
+/// that `rooms` is at least the number of tasks, and at most `MAX_ROOMS`.
 ///
 /// # Errors
-/// Where memory for the accounts or the queue is refused, `Err` gives the tasks back, none of which was run. No other
-/// call takes memory.
+/// If memory for the accounts or the queue is refused, the tasks are returned, none of which was run. Nothing else is
+/// allocated.
+///
+/// # Complexity
+/// O(`rooms` + n), for n tasks, and at most `turns` turns of each thread. A turn is O(1) amortized, with two
+/// exceptions. If no task is due, a turn of the submitter costs as much as `Timers::first_deadline`. If `usize::MAX`
+/// tasks sleep, a worker runs all rounds of a task in one turn.
 ///
 /// # Waits
-/// For the two locks, each of which is held for one call, and for the threads that it starts.
+/// For the threads that it starts, and for two locks. No thread waits for anything else while it holds a lock.
 pub fn run<R: Threads + Wait + Sync>(
     rt: &R,
     alloc: Global,

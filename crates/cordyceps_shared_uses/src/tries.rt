@@ -1,4 +1,4 @@
-//! Tries that are counted: nothing but a try adds to the count.
+//! A count of tries, to which only a try adds.
 ghost use Rattle.std.specs.Prelude.{◌≡◌, ◌+◌, ◌<◌, List, map};
 ghost use Rattle.cordyceps.specs.Queues.Calls.{Dequeues};
 ghost use Rattle.cordyceps.specs.Transfers.Calls.{Takes};
@@ -7,7 +7,7 @@ use cordyceps::mpsc_queue::TryDequeueError;
 use cordyceps::{Linked, MpscQueue, Stack, TransferStack, mpsc_queue, stack};
 use std::marker::Model;
 
-/// How often a thread tried to take something out of a collection.
+/// The number of times that a thread tried to take something from a collection. A contract sees this number.
 #[derive(Drop)]
 pub struct Tries {
     count: u64,
@@ -22,14 +22,20 @@ impl Model for Tries {
 }
 
 impl Tries {
-    /// Counts no try.
+    /// Creates a count of no tries.
+    ///
+    /// # Complexity
+    /// O(1).
     pub fn new() -> Tries
         ensures { result ≡ 0 }
     {
         Tries { count: 0 }
     }
 
-    /// Returns how many there were.
+    /// Returns the number of tries.
+    ///
+    /// # Complexity
+    /// O(1).
     pub fn count(&self) -> u64
         ensures { result ≡ self.now }
     {
@@ -37,10 +43,17 @@ impl Tries {
         *count
     }
 
-    /// Tries once to take the oldest element out of a queue.
+    /// Tries once to remove the oldest element of a queue and returns it, and counts the try. Requires that the count
+    /// is below `u64::MAX`.
     ///
     /// # Errors
     /// Those of `MpscQueue::try_dequeue`.
+    ///
+    /// # Complexity
+    /// O(1).
+    ///
+    /// # Waits
+    /// Never.
     pub fn try_dequeue<T: Linked<mpsc_queue::Links<T>>>(
         &mut self,
         queue: &MpscQueue<T>,
@@ -55,7 +68,14 @@ impl Tries {
         queue.try_dequeue(party)
     }
 
-    /// Takes all elements out of a stack, the last pushed first.
+    /// Takes all elements of a stack, the last pushed first, and counts the try. Requires that the count is below
+    /// `u64::MAX`.
+    ///
+    /// # Complexity
+    /// O(n), for n elements.
+    ///
+    /// # Waits
+    /// Never.
     pub fn take_all<T: Linked<stack::Links<T>>>(
         &mut self,
         stack: &TransferStack<T>,

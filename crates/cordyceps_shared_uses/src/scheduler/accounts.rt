@@ -1,8 +1,8 @@
-//! Accounts of which tasks each place and each thread got and gave. Each transfer is entered once on either side, so
-//! in all what was got is what was given, whichever way it went.
+//! Accounts of the tasks that each place and each thread got and gave. Each transfer is entered once on each side, so
+//! in all accounts together the tasks that were got are those that were given, whichever way they went.
 //!
-//! They are for contracts alone: nothing that runs depends on them. A transfer costs three loads of a word that nobody
-//! writes.
+//! Only contracts use them: nothing that the program computes depends on an account. A transfer costs three loads of a
+//! word that no thread writes.
 ghost use Rattle.std.specs.Prelude.{◌≡◌, ◌-◌, ◌<◌, [], IfOk};
 ghost use Rattle.cordyceps.specs.Parties.Counts.{Same};
 ghost use Rattle.cordyceps_shared_uses.specs.Accounts.{IsOpen, after_giving, after_getting, opened, joined, IsAtRest};
@@ -15,7 +15,7 @@ use std::alloc::{AllocError, Global};
 use std::marker::{Brand, Model, PhantomData};
 use std::mem;
 
-/// What the seat of an account knows. No value of it is made: a contract sees a `View`.
+/// What the seat of an account knows. The program creates no value of this type, and a contract sees a `View`.
 pub(crate) struct Known;
 
 impl Model for Known {
@@ -37,7 +37,7 @@ impl TableRule<(), Known, u64> for Rule {
     ghost first = { λ parts. alone (blank parts) };
 }
 
-/// What a step is about. Each call chooses it.
+/// The parameters of a step, which each call chooses.
 pub(crate) trait Chosen {
     ghost use Rattle.std.specs.Prelude.{ℕ};
     ghost use Rattle.cordyceps_shared_uses.specs.declared.scheduler.name.Name.{Name};
@@ -53,7 +53,7 @@ impl Chosen for Brand {
     ghost name = { record { id = 0; number = 0; rounds = 0; pause = 0 } };
 }
 
-/// A split, at which an account gives up `B::parts` parts.
+/// A split by which an account gives `B::parts` of its parts to a new one.
 struct Cut<B> {
     chosen: PhantomData<B>,
 }
@@ -64,7 +64,7 @@ impl<B: Chosen> Split<Known> for Cut<B> {
     ghost right = { cut B.parts };
 }
 
-/// A split off, without a part.
+/// A split by which an account without parts is created.
 struct Spare;
 
 impl Split<Known> for Spare {
@@ -73,7 +73,7 @@ impl Split<Known> for Spare {
     ghost right = { cut 0 };
 }
 
-/// A meeting of two accounts.
+/// A join by which one seat knows two accounts.
 struct Meet;
 
 impl Join<Known> for Meet {
@@ -82,7 +82,7 @@ impl Join<Known> for Meet {
     ghost spent = { alone (blank 0) };
 }
 
-/// Their parting, after the first gave `B::name` to the second.
+/// A split by which the two get seats of their own again, after the first gave `B::name` to the second.
 struct Part<B> {
     chosen: PhantomData<B>,
 }
@@ -93,7 +93,7 @@ impl<B: Chosen> Split<Known> for Part<B> {
     ghost right = { getting B.name };
 }
 
-/// An absorb.
+/// A join by which an account absorbs another.
 struct Merge;
 
 impl Join<Known> for Merge {
@@ -102,7 +102,7 @@ impl Join<Known> for Merge {
     ghost spent = { alone (blank 0) };
 }
 
-/// A load by which an account with all of `B::parts` parts learns that what was got is what was given.
+/// A load by which an account that has all `B::parts` parts learns that it got what it gave.
 struct Learn<B> {
     chosen: PhantomData<B>,
 }
@@ -111,7 +111,8 @@ impl<B: Chosen> Play<(), Known> for Learn<B> {
     ghost then = { told B.parts };
 }
 
-/// The accounts of all places and threads. A contract sees which they are, and how many parts they have.
+/// The accounts of all places and threads. A contract sees their table, by which it knows the accounts that belong to
+/// them, and the number of their parts.
 #[derive(Drop)]
 pub struct Accounts {
     table: Table<(), Known, u64, Rule, Global>,
@@ -128,7 +129,8 @@ impl Model for Accounts {
     ghost invariant = { λ a. 0 < a.table.shared.table_id.words };
 }
 
-/// One account. A contract sees which accounts it is one of, how many of their parts it has, and what it got and gave.
+/// One account. A contract sees the table of the accounts to which it belongs, how many of their parts it has, and the
+/// tasks that it got and gave, the last first.
 #[derive(Drop)]
 pub struct Account {
     seat: Seat<(), Known>,
@@ -145,10 +147,10 @@ impl Model for Account {
 }
 
 impl Accounts {
-    /// Opens accounts of so many parts, and the one that has them all.
+    /// Creates accounts of `parts` parts, and the account that has them all and no entries.
     ///
     /// # Errors
-    /// `AllocError` where memory for a word is refused.
+    /// If memory is refused, it returns `AllocError`.
     ///
     /// # Complexity
     /// O(1).
@@ -159,6 +161,7 @@ impl Accounts {
         Ok((Accounts { table }, Account { seat }))
     }
 
+    /// Splits the seat of a new account with `_parts` parts off a seat.
     fn cut<B: Chosen>(&self, seat: &mut Seat<(), Known>, _parts: u64) -> Seat<(), Known>
         requires table { seat.old.table_id ≡ self.now.table }
         requires rest { IsAtRest seat.old.me }
@@ -171,10 +174,14 @@ impl Accounts {
         self.table.shared.split_seat::<Cut<B>>(seat)
     }
 
-    /// Splits an account off another, with so many of its parts.
+    /// Splits a new account without entries off `account`, which gives it `parts` of its parts. Requires that `account`
+    /// has more parts.
     ///
     /// # Complexity
-    /// O(1): a load.
+    /// O(1): one load.
+    ///
+    /// # Waits
+    /// Never.
     pub fn split(&self, account: &mut Account, parts: u64) -> Account
         requires table { account.old.table ≡ self.now.table }
         requires parts { parts < account.old.parts }
@@ -186,6 +193,7 @@ impl Accounts {
         }
     }
 
+    /// Splits the seat of a new account without parts off a seat, which knows the same as before.
     fn spare(&self, seat: &mut Seat<(), Known>) -> Seat<(), Known>
         requires table { seat.old.table_id ≡ self.now.table }
         requires rest { IsAtRest seat.old.me }
@@ -195,6 +203,8 @@ impl Accounts {
         self.table.shared.split_seat::<Spare>(seat)
     }
 
+    /// Enters in the accounts of two seats that a task goes from the first to the second, and returns a seat for the
+    /// second.
     fn hand_over<B: Chosen>(
         &self,
         from: &mut Seat<(), Known>,
@@ -215,10 +225,14 @@ impl Accounts {
         shared.split_seat::<Part<B>>(from)
     }
 
-    /// Enters that a task goes from one to another.
+    /// Enters that a task goes from one account to another. Requires that both belong to these accounts and have one
+    /// part.
     ///
     /// # Complexity
     /// O(1): three loads.
+    ///
+    /// # Waits
+    /// Never.
     pub fn give(&self, from: &mut Account, to: &mut Account, name: Name)
         requires { IsOpen self.now.table from.old × IsOpen self.now.table to.old }
         ensures gave { from.new ≡ after_giving name from.old }
@@ -229,6 +243,7 @@ impl Accounts {
         to.seat = self.hand_over::<Brand>(&mut from.seat, other, name);
     }
 
+    /// Adds the account of another seat to that of a seat.
     fn merge(&self, seat: &mut Seat<(), Known>, other: Seat<(), Known>)
         requires tables { (seat.old.table_id ≡ self.now.table) × (other.table_id ≡ self.now.table) }
         requires rest { IsAtRest seat.old.me × IsAtRest other.me }
@@ -239,10 +254,13 @@ impl Accounts {
         self.table.shared.join_seat::<Merge>(seat, other);
     }
 
-    /// Absorbs another account.
+    /// Absorbs another account: `account` has the parts and the entries of both.
     ///
     /// # Complexity
-    /// O(1): a load.
+    /// O(1): one load.
+    ///
+    /// # Waits
+    /// Never.
     pub fn absorb(&self, account: &mut Account, other: Account)
         requires { (account.old.table ≡ self.now.table) × (other.table ≡ self.now.table) }
         ensures { account.new ≡ joined account.old other }
@@ -251,6 +269,7 @@ impl Accounts {
         self.merge(&mut account.seat, seat);
     }
 
+    /// Shows, for the seat of an account that has all parts, that the account got what it gave.
     fn learn<B: Chosen>(&self, seat: &mut Seat<(), Known>)
         requires table { seat.old.table_id ≡ self.now.table }
         requires rest { IsAtRest seat.old.me }
@@ -262,10 +281,14 @@ impl Accounts {
         self.table.shared.load::<Learn<B>>(seat, 0);
     }
 
-    /// Tells of an account with all parts that it got what it gave.
+    /// Leaves the account unchanged. Its contract states that the account got exactly the tasks that it gave. Requires
+    /// that the account has all parts.
     ///
     /// # Complexity
-    /// O(1): a load.
+    /// O(1): one load.
+    ///
+    /// # Waits
+    /// Never.
     pub fn audit(&self, account: &mut Account)
         requires { (account.old.table ≡ self.now.table) × (account.old.parts ≡ self.now.parts) }
         ensures same { account.new ≡ account.old }

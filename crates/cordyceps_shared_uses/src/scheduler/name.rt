@@ -1,4 +1,4 @@
-//! What a task keeps through all collections.
+//! The data of a task that stay the same in all collections.
 ghost use Rattle.std.specs.Prelude.{◌≡◌};
 ghost use Rattle.cordyceps_shared_uses.specs.Names.{name_of};
 
@@ -6,17 +6,24 @@ use crate::scheduler::work::Work;
 use crate::timers::Timer;
 use cordyceps::{Kind, Node};
 
-/// What a task keeps: its node's number, its own, how many rounds it has, and how long it sleeps between two of them.
+/// The data of a task that stay the same while it goes from place to place and runs.
 #[derive(Clone, Copy)]
 pub struct Name {
+    /// The number of the task's node.
     pub id: u64,
+    /// The number of the task.
     pub number: u32,
+    /// The number of its rounds.
     pub rounds: u32,
+    /// The pause between two rounds, in ticks of the scheduler's time.
     pub pause: u32,
 }
 
 impl Name {
-    /// Returns that of a task.
+    /// Returns the name of a task.
+    ///
+    /// # Complexity
+    /// O(1).
     pub fn of<K: Kind>(task: &Node<Timer<Work>, K>) -> Name
         ensures { result ≡ name_of task.now }
     {

@@ -1,4 +1,4 @@
-//! The two places of the scheduler that stand under locks: where tasks sleep, and where they wait for a worker.
+//! The two places of the scheduler that are behind locks: where tasks sleep, and where they wait for a worker.
 ghost use Rattle.std.specs.Prelude.{
   ◌≡◌,
   ◌+◌,
@@ -32,10 +32,11 @@ use crate::timers::{Stopped, Timer, Timers};
 use cordyceps::{List, Node, list};
 use std::marker::{Brand, PhantomData};
 
-/// A task: its work, and when it has to be woken. Its node is made once, and goes through all collections.
+/// A task: its work, and the deadline at which it is woken. Its node is created once and passes through all
+/// collections.
 pub type Task = Timer<Work>;
 
-/// A run of the scheduler: which accounts it has.
+/// A run of the scheduler, which says to which table its accounts belong.
 pub trait Run {
     ghost use Rattle.cordyceps.specs.Parties.Seated.{TableId};
 
@@ -56,7 +57,7 @@ impl Run for Brand {
     } };
 }
 
-/// Returns when a pause is over that begins now.
+/// Returns the time at which a pause that begins at `now` ends, or `u64::MAX` if that is later.
 fn end_of_pause(now: u64, pause: u32) -> u64
     ensures is { result ≡ min (now + pause) (2 ^ 64 - 1) }
     ensures later { now ≤ result }
@@ -64,11 +65,14 @@ fn end_of_pause(now: u64, pause: u32) -> u64
     now.saturating_add(pause as u64)
 }
 
-/// Tasks that sleep, the earliest deadline first, and the time.
+/// Tasks that sleep, the earliest deadline first, and the scheduler's time.
 #[derive(Drop)]
 pub struct Sleepers<L: Run> {
+    /// The scheduler's time, in ticks. It advances only when no task is due.
     pub time: u64,
+    /// The tasks that sleep, each until its deadline.
     pub timers: Timers<Work>,
+    /// The account of this place.
     pub account: Account,
     run: PhantomData<L>,
     ghost of: { IsOpen L.accounts account },
@@ -77,7 +81,11 @@ pub struct Sleepers<L: Run> {
 }
 
 impl<L: Run> Sleepers<L> {
-    /// No tasks, at the time 0.
+    /// Creates a place without tasks, at the time 0. Requires an account of the run that gave all tasks that it got.
+    /// Allocates nothing.
+    ///
+    /// # Complexity
+    /// O(1).
     pub fn new(account: Account) -> Sleepers<L>
         requires of { IsOpen L.accounts account }
         requires none { Holds account [] }
@@ -90,10 +98,12 @@ impl<L: Run> Sleepers<L> {
         }
     }
 
-    /// Puts a task to sleep, from the hands of a thread, until its pause from now on is over.
+    /// Puts a task of the calling thread to sleep, until the end of a pause that begins now, and enters the transfer in
+    /// both accounts. The deadline is at most `u64::MAX`. Allocates nothing.
     ///
     /// # Errors
-    /// The task comes back where `usize::MAX` tasks sleep.
+    /// If `usize::MAX` tasks sleep, the task is returned with its new deadline. The other tasks and the accounts are
+    /// unchanged.
     ///
     /// # Complexity
     /// O(1).
@@ -128,11 +138,12 @@ impl<L: Run> Sleepers<L> {
         }
     }
 
-    /// Wakes the task with the earliest deadline, if it is due, into the hands of a thread. Where none is due, the time
-    /// goes on to the next deadline, if any task sleeps.
+    /// Wakes the task with the earliest deadline and returns it, if it is due, and enters the transfer to the calling
+    /// thread in both accounts. If no task is due, it returns `None`, and the time advances to the earliest deadline,
+    /// if any task sleeps.
     ///
     /// # Complexity
-    /// O(1) amortized where a task is woken. Where none is, that of `Timers::first_deadline`.
+    /// O(1) amortized if a task is woken. Otherwise that of `Timers::first_deadline`.
     pub fn wake(&mut self, accounts: &Accounts, mine: &mut Account) -> Option<Stopped<Work>>
         requires { (accounts.now.table ≡ L.accounts) × IsOpen L.accounts mine.old }
         ensures mine { MatchOption result
@@ -156,7 +167,10 @@ impl<L: Run> Sleepers<L> {
         Some(task)
     }
 
-    /// The tasks that still sleep.
+    /// Returns the tasks that still sleep, and the account of the place.
+    ///
+    /// # Complexity
+    /// O(1).
     pub fn into_tasks(self) -> (Timers<Work>, Account)
         ensures of { IsOpen L.accounts result.1 }
         ensures held { Holds result.1 (asleep result.0) }
@@ -174,7 +188,9 @@ impl<L: Run> Sleepers<L> {
 /// Tasks that wait for a worker, in the order in which they came.
 #[derive(Drop)]
 pub struct Runnable<L: Run> {
+    /// The tasks, the one that has waited longest first.
     pub tasks: List<Task>,
+    /// The account of this place.
     pub account: Account,
     run: PhantomData<L>,
     ghost of: { IsOpen L.accounts account },
@@ -182,7 +198,11 @@ pub struct Runnable<L: Run> {
 }
 
 impl<L: Run> Runnable<L> {
-    /// No tasks.
+    /// Creates a place without tasks. Requires an account of the run that gave all tasks that it got. Allocates
+    /// nothing.
+    ///
+    /// # Complexity
+    /// O(1).
     pub fn new(account: Account) -> Runnable<L>
         requires of { IsOpen L.accounts account }
         requires none { Holds account [] }
@@ -194,14 +214,21 @@ impl<L: Run> Runnable<L> {
         }
     }
 
-    /// Whether there is room for one more in the list's length.
+    /// Returns `true` if fewer than `usize::MAX` tasks wait, so that one more can be put here.
+    ///
+    /// # Complexity
+    /// O(1).
     pub fn has_room(&self) -> bool
         ensures { result ≡ true → length self.now.tasks < usize.MAX }
     {
         self.tasks.len() < usize::MAX
     }
 
-    /// Puts a task after those that wait, from the hands of a thread.
+    /// Appends a task of the calling thread, and enters the transfer in both accounts. Requires that fewer than
+    /// `usize::MAX` tasks wait. Allocates nothing.
+    ///
+    /// # Complexity
+    /// O(1).
     pub fn put(
         &mut self,
         accounts: &Accounts,
@@ -217,7 +244,11 @@ impl<L: Run> Runnable<L> {
         self.tasks.push_back(task);
     }
 
-    /// Takes the task that waits longest, into the hands of a thread. `None` where none waits.
+    /// Removes the task that has waited longest and returns it, and enters the transfer to the calling thread in both
+    /// accounts. Returns `None` if no task waits.
+    ///
+    /// # Complexity
+    /// O(1).
     pub fn take(
         &mut self,
         accounts: &Accounts,
@@ -236,7 +267,10 @@ impl<L: Run> Runnable<L> {
         Some(next)
     }
 
-    /// The tasks that still wait.
+    /// Returns the tasks that still wait, and the account of the place.
+    ///
+    /// # Complexity
+    /// O(1).
     pub fn into_tasks(self) -> (List<Task>, Account)
         ensures of { IsOpen L.accounts result.1 }
         ensures held { Holds result.1 (names result.0) }

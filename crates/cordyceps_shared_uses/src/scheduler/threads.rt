@@ -1,4 +1,4 @@
-//! What the four threads of the scheduler do: one sends tasks and wakes them, one dispatches them, and two run them.
+//! The work of the scheduler's four threads: one sends tasks and wakes them, one dispatches them, and two run them.
 ghost use Rattle.std.specs.Prelude.{◌≡◌, ◌≤◌, ◌<◌, [], ◌∷◌, length, true};
 ghost use Rattle.cordyceps.specs.Elements.Element.{Element};
 ghost use Rattle.cordyceps_shared_uses.specs.Accounts.{Holds, IsOpen};
@@ -17,36 +17,49 @@ use std::sync::atomic::{AtomicU64, Ordering};
 use std::sync::{Mutex, Wait};
 use std::thread;
 
-/// What the threads share beside the queue: the two places, the accounts, and how many tasks are not done.
+/// What the threads share besides the queue.
 #[derive(Drop)]
 pub struct Shared<L: Run> {
+    /// The place where tasks sleep.
     pub sleepers: Mutex<Sleepers<L>>,
+    /// The place where tasks wait for a worker.
     pub runnable: Mutex<Runnable<L>>,
+    /// The accounts of the places and the threads.
     pub accounts: Accounts,
+    /// The number of tasks that are not done.
     pub unfinished: AtomicU64,
     ghost of: { accounts.table ≡ L.accounts },
     ghost six: { accounts.parts ≡ 6 },
 }
 
 impl<L: Run> Shared<L> {
-    /// Whether all tasks are done.
+    /// Returns `true` if all tasks are done.
     fn is_over(&self) -> bool {
         self.unfinished.load(Ordering::SeqCst) == 0
     }
 }
 
-/// What a worker is left with: the tasks that are done, each with all its rounds.
+/// What a worker returns.
 #[derive(Drop)]
 pub struct Worked<L: Run> {
+    /// The tasks that it has done, each with all its rounds, the last first.
     pub done: Stack<Task>,
+    /// The account of the worker.
     pub account: Account,
+    /// The run to which the account belongs.
     pub run: PhantomData<L>,
     ghost of: { IsOpen L.accounts account },
     ghost counted: { Holds account (names done) },
     ghost finished: { all_done done ≡ true },
 }
 
-/// Sends new tasks to the dispatcher, in order.
+/// Sends new tasks to the dispatcher, in order. Requires that the party has a room for each. Allocates nothing.
+///
+/// # Complexity
+/// O(n), for n tasks.
+///
+/// # Waits
+/// Never.
 pub fn submit(queue: &MpscQueue<Task>, party: &mut Party<Task>, mut tasks: List<Task>)
     requires table { party.old.table ≡ queue.now.table }
     requires room { length tasks ≤ party.old.rooms }
@@ -57,8 +70,14 @@ pub fn submit(queue: &MpscQueue<Task>, party: &mut Party<Task>, mut tasks: List<
     }
 }
 
-/// Wakes tasks that are due, one at each turn, and sends them to the dispatcher. It ends when all tasks are done, when
-/// the turns are, or when the party has no room left.
+/// Wakes tasks that are due, at most one in each of `turns` turns, and sends them to the dispatcher. It ends early if
+/// all tasks are done, or if the party has no room left.
+///
+/// # Complexity
+/// That of `turns` calls of `Sleepers::wake`.
+///
+/// # Waits
+/// For the lock of the tasks that sleep.
 pub fn wake<L: Run, R: Wait>(
     rt: &R,
     queue: &MpscQueue<Task>,
@@ -83,7 +102,8 @@ pub fn wake<L: Run, R: Wait>(
     }
 }
 
-/// Takes a task out of the queue, and puts it among those that wait for a worker. `false` where there was none to take.
+/// Takes a task from the queue and appends it to those that wait for a worker. Returns `false` if it finds no task to
+/// take, or if `usize::MAX` tasks wait.
 fn dispatch_one<L: Run, R: Wait>(
     rt: &R,
     queue: &MpscQueue<Task>,
@@ -106,7 +126,13 @@ fn dispatch_one<L: Run, R: Wait>(
     true
 }
 
-/// Dispatches tasks, one at each turn. It ends when all tasks are done, or when the turns are.
+/// Dispatches tasks, at most one in each of `turns` turns. It ends early if all tasks are done.
+///
+/// # Complexity
+/// O(`turns`).
+///
+/// # Waits
+/// For the lock of the tasks that wait for a worker.
 pub fn dispatch<L: Run, R: Wait>(
     rt: &R,
     queue: &MpscQueue<Task>,
@@ -129,7 +155,7 @@ pub fn dispatch<L: Run, R: Wait>(
     }
 }
 
-/// Runs one round of a task, where one is left.
+/// Runs one round of a task, if one is left.
 fn run_round(task: &mut Node<Task, list::Links<Task>>)
     ensures name { name_of task.new ≡ name_of task.old }
     ensures one { task.old.value.payload.ran < task.old.value.payload.rounds
@@ -142,7 +168,7 @@ fn run_round(task: &mut Node<Task, list::Links<Task>>)
     }
 }
 
-/// Runs the rounds of a task that are left.
+/// Runs all rounds of a task that are left.
 fn run_rest(task: &mut Node<Task, list::Links<Task>>)
     ensures name { name_of task.new ≡ name_of task.old }
     ensures ran { task.new.value.payload.ran ≡ task.new.value.payload.rounds }
@@ -150,7 +176,7 @@ fn run_rest(task: &mut Node<Task, list::Links<Task>>)
     task.get_mut().payload.finish();
 }
 
-/// Puts a task on those that are done.
+/// Pushes a task onto those that are done, and counts it as done.
 fn retire<L: Run>(shared: &Shared<L>, done: &mut Stack<Task>, task: Node<Task, list::Links<Task>>)
     ensures { done.new ≡ task ∷ done.old }
 {
@@ -158,7 +184,7 @@ fn retire<L: Run>(shared: &Shared<L>, done: &mut Stack<Task>, task: Node<Task, l
     shared.unfinished.fetch_sub(1, Ordering::SeqCst);
 }
 
-/// Runs the rounds of a task that are left, and retires it.
+/// Runs all rounds of a task that are left, and retires it.
 fn run_out<L: Run>(shared: &Shared<L>, done: &mut Stack<Task>, task: Node<Task, list::Links<Task>>)
     ensures { (e : Element (Timer Work)) × (done.new ≡ e ∷ done.old) × (name_of e ≡ name_of task)
         × (e.value.payload.ran ≡ e.value.payload.rounds) }
@@ -168,7 +194,8 @@ fn run_out<L: Run>(shared: &Shared<L>, done: &mut Stack<Task>, task: Node<Task, 
     retire(shared, done, awake);
 }
 
-/// Keeps a task that is done, and puts another to sleep. Where no more can sleep, it runs its other rounds at once.
+/// Retires a task that is done, and puts another one to sleep. If `usize::MAX` tasks sleep, it runs the rounds that are
+/// left at once and retires the task.
 fn settle<L: Run, R: Wait>(
     rt: &R,
     shared: &Shared<L>,
@@ -192,7 +219,7 @@ fn settle<L: Run, R: Wait>(
     run_out(shared, done, awake);
 }
 
-/// Takes a task that waits, runs a round of it, and settles it. `false` where none waited.
+/// Takes a task that waits, runs one round of it and settles it. Returns `false` if no task waits.
 fn work_one<L: Run, R: Wait>(
     rt: &R,
     shared: &Shared<L>,
@@ -214,8 +241,14 @@ fn work_one<L: Run, R: Wait>(
     true
 }
 
-/// Runs tasks, a round of one at each turn, and keeps those that are done. The others sleep until their next round. It
-/// ends when all tasks are done, or when the turns are.
+/// Runs one round of one task in each of `turns` turns, and returns the tasks that are done. The others sleep until
+/// their next round. It ends early if all tasks are done.
+///
+/// # Complexity
+/// O(`turns`), unless `usize::MAX` tasks sleep: it then runs all rounds of a task in one turn.
+///
+/// # Waits
+/// For the locks of the two places.
 pub fn work<L: Run, R: Wait>(rt: &R, shared: &Shared<L>, mine: Account, turns: u64) -> Worked<L>
     requires of { IsOpen L.accounts mine }
     requires none { Holds mine [] }

@@ -1,21 +1,28 @@
-//! What a task of the scheduler has to do.
+//! The work of a task of the scheduler.
 ghost use Rattle.std.specs.Prelude.{◌≡◌, ◌+◌, ◌*◌, ◌<◌, ◌≤◌, ◌==◌};
 
-/// What a task does: it adds its number to its sum, in so many rounds, and sleeps between two of them. Its sum is
-/// always that of the rounds that it ran, which are no more than it has.
+/// The work of a task: in each of its rounds it adds its number to its sum. Between two rounds it sleeps.
 #[derive(Drop)]
 pub struct Work {
+    /// The number that each round adds.
     pub number: u32,
+    /// The number of rounds.
     pub rounds: u32,
+    /// The pause between two rounds, in ticks of the scheduler's time.
     pub pause: u32,
+    /// The number of rounds that were run, which is at most `rounds`.
     pub ran: u32,
+    /// The sum, which is always that of the rounds that were run.
     pub sum: u64,
     ghost within: { ran ≤ rounds },
     ghost worked: { sum ≡ ran * number },
 }
 
 impl Work {
-    /// The work of a new task: its number, its rounds, and how long it sleeps between two of them.
+    /// Creates the work of a new task, with no round run.
+    ///
+    /// # Complexity
+    /// O(1).
     pub fn new(number: u32, rounds: u32, pause: u32) -> Work
         ensures number { result.number ≡ number }
         ensures rounds { result.rounds ≡ rounds }
@@ -31,7 +38,10 @@ impl Work {
         }
     }
 
-    /// Whether no round is left.
+    /// Returns `true` if no round is left.
+    ///
+    /// # Complexity
+    /// O(1).
     pub fn is_done(&self) -> bool
         ensures { result ≡ (self.now.ran == self.now.rounds) }
     {
@@ -45,7 +55,10 @@ impl Work {
         ran == rounds
     }
 
-    /// Runs one round, where one is left.
+    /// Runs one round. Requires that a round is left.
+    ///
+    /// # Complexity
+    /// O(1).
     pub fn run(&mut self)
         requires { self.old.ran < self.old.rounds }
         ensures number { self.new.number ≡ self.old.number }
@@ -66,6 +79,9 @@ impl Work {
     }
 
     /// Runs all rounds that are left, one after the other.
+    ///
+    /// # Complexity
+    /// O(k), for k rounds that are left.
     pub fn finish(&mut self)
         ensures number { self.new.number ≡ self.old.number }
         ensures rounds { self.new.rounds ≡ self.old.rounds }
