@@ -1,7 +1,7 @@
-//! Logs a million records of four senders through a queue of 256 rooms, by the logger of `cordyceps_shared_uses`, and
-//! prints how many were stored of each sender, and how many of these were not in its order.
+//! Logs a million records of four senders through a queue of 256 rooms, by the logger of `cordyceps_shared_uses`.
+//! Prints how many records of each sender were stored, and how many of these were out of order.
 //!
-//! It prints the same whatever the order in which the threads run.
+//! The output does not depend on the order in which the threads run.
 #![tactic(auto)]
 
 use cordyceps::{List, Node};
@@ -9,19 +9,19 @@ use cordyceps_shared_uses::logger::{Producer, Record, log_all};
 use std::alloc::{AllocError, Global};
 use std::process::ExitCode;
 
-/// How many senders there are.
+/// The number of senders.
 const SENDERS: u64 = 4;
 
-/// How many records each of them sends.
+/// The number of records that each sender sends.
 const RECORDS: u64 = 250_000;
 
-/// How many records wait to be stored, at most.
+/// The number of rooms of the queue, which bounds how many records wait to be stored.
 const ROOMS: usize = 256;
 
-/// How many records are stored at once, at most.
+/// The number of records that are stored at once, at most.
 const BATCH: usize = 64;
 
-/// Returns a producer of records with this code, whose times count up from 0.
+/// Returns a producer of records with this code, whose times count up from 0, or `None` if memory is refused.
 fn producer(alloc: Global, code: u64) -> Option<Producer> {
     let mut records = List::new();
     for time in 0..RECORDS {
@@ -30,7 +30,7 @@ fn producer(alloc: Global, code: u64) -> Option<Producer> {
     Some(Producer { records })
 }
 
-/// Returns a producer for each sender.
+/// Returns a producer for each sender, or `None` if memory is refused.
 fn producers(alloc: Global) -> Option<List<Producer>> {
     let mut producers = List::new();
     for code in 0..SENDERS {
@@ -39,14 +39,14 @@ fn producers(alloc: Global) -> Option<List<Producer>> {
     Some(producers)
 }
 
-/// What was stored of one sender.
+/// The number of stored records of one sender, and how many of these were out of order.
 #[derive(Clone, Copy)]
 struct Stored {
     records: u64,
     out_of_order: u64,
 }
 
-/// Counts what was stored of the sender of this code.
+/// Counts the stored records of the sender with this code.
 fn count(log: &[Record], code: u64) -> Stored {
     let mut stored = Stored {
         records: 0,
@@ -61,6 +61,7 @@ fn count(log: &[Record], code: u64) -> Stored {
     stored
 }
 
+/// Exits with 0, with 2 if the output cannot be written, or with 4 if memory is refused.
 fn main(rt: HostRuntime) -> ExitCode {
     let Some(producers) = producers(rt.alloc()) else {
         return out_of_memory(&rt);
@@ -80,7 +81,7 @@ fn main(rt: HostRuntime) -> ExitCode {
     ExitCode::SUCCESS
 }
 
-/// Says that memory was refused, which is a status of its own.
+/// Reports that memory was refused, and returns the exit code for that.
 fn out_of_memory(rt: &HostRuntime) -> ExitCode {
     let _ = rt.eprintln("out of memory");
     ExitCode::from(4)

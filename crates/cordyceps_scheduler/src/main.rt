@@ -1,8 +1,9 @@
-//! Runs ten thousand tasks, five rounds of each, on the scheduler of `cordyceps_shared_uses`, and prints where they are
-//! then.
+//! Runs ten thousand tasks of five rounds each on the scheduler of `cordyceps_shared_uses`, and prints where they are
+//! at the end.
 //!
-//! It prints the same whatever the order in which the threads run: how many tasks were submitted, how many of them
-//! sleep, are on their way to a worker, wait for one and are done, and how many rounds those that are done ran.
+//! It prints how many tasks were submitted, how many of them sleep, are on their way to a worker, wait for one and are
+//! done, and how many rounds those ran that are done. As long as no thread uses up its turns, the output does not
+//! depend on the order in which the threads run.
 #![tactic(auto)]
 
 ghost use Rattle.std.specs.Prelude.{◌≤◌, length, IfSome};
@@ -14,19 +15,19 @@ use std::alloc::Global;
 use std::io;
 use std::process::ExitCode;
 
-/// How many tasks are submitted.
+/// The number of tasks that are submitted.
 const TASKS: u32 = 10_000;
 
-/// How many rounds each of them runs.
+/// The number of rounds of each task.
 const ROUNDS: u32 = 5;
 
-/// How many rooms the queue has: one for each round of each task.
+/// The number of rooms of the queue: one for each round of each task.
 const ROOMS: usize = 50_000;
 
-/// How often each thread looks for something to do, at most.
+/// The number of turns in which a thread looks for something to do, at most.
 const TURNS: u64 = 1_000_000_000;
 
-/// The tasks, each in a node of its own. `None` where memory is refused.
+/// Creates the tasks, each in a node of its own, or returns `None` if memory is refused.
 fn births(alloc: Global) -> Option<List<Task>>
     ensures { IfSome result (λ tasks. length tasks ≤ ROOMS) }
 {
@@ -38,7 +39,7 @@ fn births(alloc: Global) -> Option<List<Task>>
     Some(tasks)
 }
 
-/// How many tasks there are, and how many rounds they ran.
+/// Returns the number of tasks, and the number of rounds that they ran in all.
 fn count(tasks: Stack<Task>) -> (u64, u64) {
     let (mut count, mut rounds) = (0u64, 0u64);
     for task in tasks {
@@ -48,7 +49,7 @@ fn count(tasks: Stack<Task>) -> (u64, u64) {
     (count, rounds)
 }
 
-/// Prints how many tasks are in each place.
+/// Prints how many tasks are in each place, and how many rounds those ran that are done.
 fn show(rt: &HostRuntime, outcome: Outcome) -> io::Result<()> {
     let Outcome {
         mut asleep,
@@ -75,6 +76,7 @@ fn show(rt: &HostRuntime, outcome: Outcome) -> io::Result<()> {
     println!(rt; "rounds {rounds}")
 }
 
+/// Exits with 0, with 2 if the output cannot be written, or with 4 if memory is refused.
 fn main(rt: HostRuntime) -> ExitCode {
     let Some(tasks) = births(rt.alloc()) else {
         return out_of_memory(&rt);
@@ -93,7 +95,7 @@ fn main(rt: HostRuntime) -> ExitCode {
     }
 }
 
-/// Says that memory was refused, which is a status of its own.
+/// Reports that memory was refused, and returns the exit code for that.
 fn out_of_memory(rt: &HostRuntime) -> ExitCode {
     let _ = rt.eprintln("out of memory");
     ExitCode::from(4)
