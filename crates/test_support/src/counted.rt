@@ -15,14 +15,23 @@ pub struct Drops {
 }
 
 impl Drops {
-    /// Returns a count of no drops.
+    /// Creates a count of no drops. Allocates the counter.
+    ///
+    /// # Errors
+    /// If memory is refused, it returns `AllocError`.
+    ///
+    /// # Complexity
+    /// O(1).
     pub fn new(alloc: Global) -> Result<Drops, AllocError> {
         Ok(Drops {
             count: Arc::new(alloc, AtomicU64::new(0))?,
         })
     }
 
-    /// Returns how many drops were counted.
+    /// Returns the number of drops.
+    ///
+    /// # Complexity
+    /// O(1).
     pub fn count(&self) -> u64 {
         self.count.load(Ordering::SeqCst)
     }
@@ -30,11 +39,13 @@ impl Drops {
 
 /// A value whose drop is counted.
 pub struct Counted {
+    /// The value, which the count does not use.
     pub value: u64,
     drops: Arc<AtomicU64, Global>,
 }
 
 impl Drop for Counted {
+    /// Adds one to the count.
     fn drop(self) {
         let Counted { value: _, drops } = self;
         drops.fetch_add(1, Ordering::SeqCst);
@@ -42,7 +53,13 @@ impl Drop for Counted {
 }
 
 impl Counted {
-    /// Returns a value that adds its drop to a count.
+    /// Creates a value that adds its drop to a count. Allocates nothing.
+    ///
+    /// # Errors
+    /// If the count has as many references as it can have, it returns `AllocError`.
+    ///
+    /// # Complexity
+    /// O(1).
     pub fn new(value: u64, drops: &Drops) -> Result<Counted, AllocError>
         ensures { IfOk result (λ made. made.value ≡ value) }
     {
@@ -69,7 +86,14 @@ impl<L: Kind> Linked<L> for Counted {
     }
 }
 
-/// Returns a node with this number, and with a value that counts its drop.
+/// Creates a node with this number and a value whose drop is counted. Allocates the node.
+///
+/// # Errors
+/// Those of `Counted::new`. If memory for the node is refused, it returns `AllocError` and drops the value, which is
+/// counted.
+///
+/// # Complexity
+/// O(1).
 pub fn counted_node<L: Kind>(
     alloc: Global,
     id: u64,

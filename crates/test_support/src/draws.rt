@@ -1,19 +1,25 @@
 //! Numbers that are drawn for runs of many operations.
 ghost use Rattle.std.specs.Prelude.{◌<◌, ◌≤◌};
 
-/// Numbers drawn one after the other, always the same from the same start.
+/// A sequence of drawn numbers, which is always the same for the same start.
 #[derive(Drop)]
 pub struct Draws {
     state: u64,
 }
 
 impl Draws {
-    /// Returns the numbers from this start on.
+    /// Creates the sequence for this start.
+    ///
+    /// # Complexity
+    /// O(1).
     pub fn new(start: u64) -> Draws {
         Draws { state: start }
     }
 
-    /// Returns a number below the bound.
+    /// Returns the next number, which is below `bound`. Requires that `bound` is at least 1.
+    ///
+    /// # Complexity
+    /// O(1).
     pub fn below(&mut self, bound: u64) -> u64
         requires { 0 < bound }
         ensures { result < bound }
@@ -25,7 +31,10 @@ impl Draws {
         (self.state >> 33) % bound
     }
 
-    /// Returns a place from 0 to the length.
+    /// Returns the next place, from 0 to `len`. Requires that `len` is below `usize::MAX`.
+    ///
+    /// # Complexity
+    /// O(1).
     pub fn place(&mut self, len: usize) -> usize
         requires { len < usize.MAX }
         ensures { result ≤ len }

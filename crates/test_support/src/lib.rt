@@ -1,5 +1,5 @@
-//! What the tests of several crates share: values that count their drops, elements of lists, nodes, drawn numbers,
-//! flags that threads set, and what can be sent and shared.
+//! Helpers that several crates of tests share: values that count their drops, elements of lists, nodes, drawn numbers,
+//! flags that threads set, and checks of what can be sent and shared.
 #![tactic(auto)]
 
 pub mod counted;
