@@ -71,7 +71,7 @@ pub fn take_least(jobs: &mut StableList<Job>) -> Option<ListJob>
         (λ job. (spot : Ptr) × IsEarliestLeast comes_before jobs.old (spot, job) jobs.new) }
     ensures distinct { AreDistinct (spots jobs.new) }
 {
-    // no two jobs are at one spot, as the proof uses
+    // The proof uses that no two jobs are at one spot.
     jobs.spots_are_distinct();
     let mut cursor = jobs.cursor_front();
     // the spot of the best job that the cursor has passed
