@@ -62,13 +62,13 @@ impl<T> Block<T> {
 /// # Examples
 /// From `tour::take_the_second` of `cordyceps_uses`:
 /// ```
-/// // a node has a number, which its maker chooses, and a value
+/// // A node has a value, and a number that the caller chooses.
 /// jobs.push_back(Node::new(alloc, 1, Job { rank: 7 })?);
 /// ```
 ///
 /// From `tour::submit` of `cordyceps_uses`:
 /// ```
-/// // the same node, for lists: it takes no memory
+/// // The node is converted into one for lists, which allocates nothing.
 /// waiting.lock(rt).put(mine, job.into_kind())
 /// ```
 #[derive(Drop)]

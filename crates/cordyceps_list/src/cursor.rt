@@ -23,7 +23,7 @@ use std::marker::Model;
 /// ```
 /// let mut cursor = jobs.cursor_front();
 /// let first = cursor.current()?;
-/// // after the last job is the null place, where `current` returns `None`
+/// // After the last job is the null place, at which `current` returns `None`.
 /// cursor.move_next();
 /// let second = cursor.current()?;
 /// Some((first.rank, second.rank))

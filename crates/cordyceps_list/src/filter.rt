@@ -18,7 +18,7 @@ use cordyceps_base::linked::Linked;
 /// From `examples::move_urgent` of `cordyceps_uses`:
 /// ```
 /// let mut out = jobs.drain_filter(move |job: &Job| job.rank <= most);
-/// // the next job that goes, past those that stay
+/// // `next` passes the jobs that stay, and returns the next one to move.
 /// while let Some(job) = out.next() {
 ///     urgent.push_back(job);
 /// }

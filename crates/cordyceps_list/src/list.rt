@@ -30,7 +30,7 @@ use std::mem;
 /// From `tour::take_the_second` of `cordyceps_uses`:
 /// ```
 /// let mut jobs: List<Job> = List::new();
-/// // a node has a number, which its maker chooses, and a value
+/// // A node has a value, and a number that the caller chooses.
 /// jobs.push_back(Node::new(alloc, 1, Job { rank: 7 })?);
 /// jobs.push_back(Node::new(alloc, 2, Job { rank: 3 })?);
 /// jobs.push_back(Node::new(alloc, 3, Job { rank: 5 })?);

@@ -18,7 +18,7 @@ use std::marker::Model;
 /// From `tour::take_least` of `cordyceps_uses`:
 /// ```
 /// let mut cursor = jobs.cursor_front();
-/// // the spot of the best job that the cursor has passed
+/// // This is the spot of the best job that the cursor has passed.
 /// let mut best = cursor.spot()?;
 /// cursor.move_next();
 /// while let Some(at) = cursor.spot() {

@@ -28,7 +28,7 @@ pub fn first_two_ranks(jobs: &List<Job>) -> Option<(u32, u32)>
 {
     let mut cursor = jobs.cursor_front();
     let first = cursor.current()?;
-    // after the last job is the null place, where `current` returns `None`
+    // After the last job is the null place, at which `current` returns `None`.
     cursor.move_next();
     let second = cursor.current()?;
     Some((first.rank, second.rank))
@@ -45,7 +45,7 @@ pub fn move_urgent(jobs: &mut List<Job>, most: u32, urgent: &mut List<Job>)
     ensures kept { jobs.new ≡ filter (λ n. not (nat_le n.value.rank most)) jobs.old }
 {
     let mut out = jobs.drain_filter(move |job: &Job| job.rank <= most);
-    // the next job that goes, past those that stay
+    // `next` passes the jobs that stay, and returns the next one to move.
     while let Some(job) = out.next() {
         urgent.push_back(job);
     }
@@ -81,7 +81,7 @@ pub fn send_to_worker(
     queue.enqueue(&mut party, first);
     queue.enqueue(&mut party, second);
     let queue = Arc::new(alloc, queue)?;
-    // the consumer owns the queue with others and borrows nothing, so a struct can keep it
+    // The consumer shares the ownership of the queue and borrows nothing, so a struct can keep it.
     let Ok(jobs) = MpscQueue::try_consume_owned(queue, party) else {
         return Ok(None);
     };
@@ -108,9 +108,9 @@ pub fn push_meanwhile(alloc: Global, early: Job, late: Job) -> Result<Vec<Job>, 
     core.add_room(second)?;
     let _ = core.step(first, TransferStep::Load(early));
     let _ = core.step(first, TransferStep::SetNext);
-    // the other party's push, all its steps
+    // The other party takes all steps of its push.
     let _ = core.push_was_empty(second, late);
-    // the head has changed, so this push fails, and is tried again
+    // The head has changed, so the exchange of the first party fails, and its push is tried again.
     if let Ok(TransferAnswer::Failed(back)) = core.step(first, TransferStep::Exchange) {
         let _ = core.push_was_empty(first, back);
     }
@@ -138,7 +138,7 @@ pub fn dequeue_around_link(
     core.add_room(sender)?;
     let _ = core.step(sender, QueueStep::Clear(Some(job)));
     let _ = core.step(sender, QueueStep::Swap);
-    // the job is in, but nothing leads to it yet: `Inconsistent`
+    // The job is in the queue, but no link leads to it yet, so this finds `Inconsistent`.
     let before = core.try_dequeue(receiver)?;
     let _ = core.step(sender, QueueStep::Link);
     let after = core.try_dequeue(receiver)?;

@@ -39,7 +39,7 @@ pub fn take_the_second(alloc: Global) -> Result<Option<ListJob>, Refused<Job>>
     ensures { IfOk result (λ job. option_map (λ n. n.id) job ≡ Some 2) }
 {
     let mut jobs: List<Job> = List::new();
-    // a node has a number, which its maker chooses, and a value
+    // A node has a value, and a number that the caller chooses.
     jobs.push_back(Node::new(alloc, 1, Job { rank: 7 })?);
     jobs.push_back(Node::new(alloc, 2, Job { rank: 3 })?);
     jobs.push_back(Node::new(alloc, 3, Job { rank: 5 })?);
@@ -74,7 +74,7 @@ pub fn take_least(jobs: &mut StableList<Job>) -> Option<ListJob>
     // The proof uses that no two jobs are at one spot.
     jobs.spots_are_distinct();
     let mut cursor = jobs.cursor_front();
-    // the spot of the best job that the cursor has passed
+    // This is the spot of the best job that the cursor has passed.
     let mut best = cursor.spot()?;
     cursor.move_next();
     while let Some(at) = cursor.spot() {
@@ -109,7 +109,7 @@ pub fn submit<L: Ledger, R: Wait>(
     ensures back { IfErr result (λ back. back ≡ job) }
     ensures parts { mine.new.parts ≡ mine.old.parts }
 {
-    // the same node, for lists: it takes no memory
+    // The node is converted into one for lists, which allocates nothing.
     waiting.lock(rt).put(mine, job.into_kind())
 }
 
@@ -147,7 +147,7 @@ pub fn least_rank(first: StackJob, second: StackJob) -> Option<u32>
     let mut arrived: Stack<Job> = Stack::new();
     arrived.push(first);
     arrived.push(second);
-    // the same nodes, in order; of equals, the one pushed last comes first
+    // The list has the same nodes, in order. Of equals, the one that was pushed last comes first.
     let jobs: SortedList<Job, Least> = SortedList::from_stack_min(arrived);
     Some(jobs.iter().next()?.rank)
 }
@@ -171,14 +171,14 @@ pub fn hand_over<R: Wait>(
 ) -> Result<Stack<Job>, AllocError>
     ensures { IfOk result (λ came. came ≡ second ∷ first ∷ []) }
 {
-    // rooms for eight jobs, and a party that has them all
+    // The stack has eight rooms, and this party has them all.
     let (shared, mut taker) = TransferStack::<Job>::new(alloc, 8)?;
-    // a party for another thread, which can push four
+    // Another thread gets a party of its own, with four rooms.
     let mut pusher = shared.split(&mut taker, 4);
-    // tries until nobody comes between; `try_push` tries once, and may hand the job back
+    // `push` tries until no other party comes between. `try_push` tries once, and may return the job.
     shared.push(rt, &mut pusher, first);
     shared.push(rt, &mut pusher, second);
-    // the other thread has ended, and what it did is the taker's
+    // When the other thread has ended, the taker absorbs its party, and has its rooms and its history.
     shared.absorb(&mut taker, pusher);
     Ok(shared.take_all(&mut taker))
 }
@@ -205,9 +205,9 @@ pub fn send(
     let mut sender = queue.split(&mut party, 4);
     queue.enqueue(&mut sender, first);
     queue.enqueue(&mut sender, second);
-    // the sender has ended, and what it did is the party's
+    // When the sender has ended, the party absorbs it, and has its rooms and its history.
     queue.absorb(&mut party, sender);
-    // the right to take jobs out, of one party at a time
+    // A consumer has the right to dequeue, which one party has at a time.
     let Ok(mut consumer) = queue.try_consume(party) else {
         return Ok(None);
     };
@@ -233,13 +233,13 @@ pub fn give_back(
     ensures { IfOk result (λ block. block ≡ Some near) }
 {
     let (blocks, mut party) = FreeList::<Job>::new(alloc, 8)?;
-    // another thread's party, and the owner's part
+    // Another thread gets a party of its own, and the owner gets the local part.
     let mut remote = blocks.split(&mut party, 8);
     let mut local = blocks.local(party);
-    // without an atomic step
+    // The owner puts a block back without an atomic step.
     local.put(near);
-    // `Err` hands the block back: try again
+    // If another party comes between, the block is returned as an `Err`, and can be put back again.
     let _ = blocks.put_remote(&mut remote, far);
-    // the last that was put, else what others put back
+    // The owner gets the block that it put back last. If it has none, it takes those that others put back.
     Ok(local.get())
 }

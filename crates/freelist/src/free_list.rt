@@ -33,14 +33,14 @@ use std::marker::Model;
 /// From `tour::give_back` of `cordyceps_uses`:
 /// ```
 /// let (blocks, mut party) = FreeList::<Job>::new(alloc, 8)?;
-/// // another thread's party, and the owner's part
+/// // Another thread gets a party of its own, and the owner gets the local part.
 /// let mut remote = blocks.split(&mut party, 8);
 /// let mut local = blocks.local(party);
-/// // without an atomic step
+/// // The owner puts a block back without an atomic step.
 /// local.put(near);
-/// // `Err` hands the block back: try again
+/// // If another party comes between, the block is returned as an `Err`, and can be put back again.
 /// let _ = blocks.put_remote(&mut remote, far);
-/// // the last that was put, else what others put back
+/// // The owner gets the block that it put back last. If it has none, it takes those that others put back.
 /// Ok(local.get())
 /// ```
 #[derive(Drop)]

@@ -21,11 +21,11 @@ use std::marker::Model;
 /// # Examples
 /// From `tour::give_back` of `cordyceps_uses`:
 /// ```
-/// // without an atomic step
+/// // The owner puts a block back without an atomic step.
 /// local.put(near);
-/// // `Err` hands the block back: try again
+/// // If another party comes between, the block is returned as an `Err`, and can be put back again.
 /// let _ = blocks.put_remote(&mut remote, far);
-/// // the last that was put, else what others put back
+/// // The owner gets the block that it put back last. If it has none, it takes those that others put back.
 /// Ok(local.get())
 /// ```
 #[derive(Drop)]

@@ -28,7 +28,7 @@ use std::marker::Model;
 /// core.add_room(sender)?;
 /// let _ = core.step(sender, QueueStep::Clear(Some(job)));
 /// let _ = core.step(sender, QueueStep::Swap);
-/// // the job is in, but nothing leads to it yet: `Inconsistent`
+/// // The job is in the queue, but no link leads to it yet, so this finds `Inconsistent`.
 /// let before = core.try_dequeue(receiver)?;
 /// let _ = core.step(sender, QueueStep::Link);
 /// let after = core.try_dequeue(receiver)?;

@@ -65,9 +65,9 @@ use std::marker::Model;
 /// let mut sender = queue.split(&mut party, 4);
 /// queue.enqueue(&mut sender, first);
 /// queue.enqueue(&mut sender, second);
-/// // the sender has ended, and what it did is the party's
+/// // When the sender has ended, the party absorbs it, and has its rooms and its history.
 /// queue.absorb(&mut party, sender);
-/// // the right to take jobs out, of one party at a time
+/// // A consumer has the right to dequeue, which one party has at a time.
 /// let Ok(mut consumer) = queue.try_consume(party) else {
 ///     return Ok(None);
 /// };
@@ -109,7 +109,7 @@ impl<T: Linked<Links<T>>> Model for MpscQueue<T> {
 /// let mut sender = queue.split(&mut party, 4);
 /// queue.enqueue(&mut sender, first);
 /// queue.enqueue(&mut sender, second);
-/// // the sender has ended, and what it did is the party's
+/// // When the sender has ended, the party absorbs it, and has its rooms and its history.
 /// queue.absorb(&mut party, sender);
 /// ```
 #[derive(Drop)]

@@ -224,7 +224,7 @@ impl<E: Drop> Right<E> {
 /// # Examples
 /// From `tour::send` of `cordyceps_uses`:
 /// ```
-/// // the right to take jobs out, of one party at a time
+/// // A consumer has the right to dequeue, which one party has at a time.
 /// let Ok(mut consumer) = queue.try_consume(party) else {
 ///     return Ok(None);
 /// };

@@ -33,7 +33,7 @@ use std::sync::Arc;
 /// From `examples::send_to_worker` of `cordyceps_uses`:
 /// ```
 /// let queue = Arc::new(alloc, queue)?;
-/// // the consumer owns the queue with others and borrows nothing, so a struct can keep it
+/// // The consumer shares the ownership of the queue and borrows nothing, so a struct can keep it.
 /// let Ok(jobs) = MpscQueue::try_consume_owned(queue, party) else {
 ///     return Ok(None);
 /// };

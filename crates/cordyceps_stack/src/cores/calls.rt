@@ -37,9 +37,9 @@ type Answered<E> = Result<TransferAnswer<E>, (StepError, Option<E>)>;
 /// core.add_room(second)?;
 /// let _ = core.step(first, TransferStep::Load(early));
 /// let _ = core.step(first, TransferStep::SetNext);
-/// // the other party's push, all its steps
+/// // The other party takes all steps of its push.
 /// let _ = core.push_was_empty(second, late);
-/// // the head has changed, so this push fails, and is tried again
+/// // The head has changed, so the exchange of the first party fails, and its push is tried again.
 /// if let Ok(TransferAnswer::Failed(back)) = core.step(first, TransferStep::Exchange) {
 ///     let _ = core.push_was_empty(first, back);
 /// }

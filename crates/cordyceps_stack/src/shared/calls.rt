@@ -36,14 +36,14 @@ use std::marker::Model;
 /// # Examples
 /// From `tour::hand_over` of `cordyceps_uses`:
 /// ```
-/// // rooms for eight jobs, and a party that has them all
+/// // The stack has eight rooms, and this party has them all.
 /// let (shared, mut taker) = TransferStack::<Job>::new(alloc, 8)?;
-/// // a party for another thread, which can push four
+/// // Another thread gets a party of its own, with four rooms.
 /// let mut pusher = shared.split(&mut taker, 4);
-/// // tries until nobody comes between; `try_push` tries once, and may hand the job back
+/// // `push` tries until no other party comes between. `try_push` tries once, and may return the job.
 /// shared.push(rt, &mut pusher, first);
 /// shared.push(rt, &mut pusher, second);
-/// // the other thread has ended, and what it did is the taker's
+/// // When the other thread has ended, the taker absorbs its party, and has its rooms and its history.
 /// shared.absorb(&mut taker, pusher);
 /// Ok(shared.take_all(&mut taker))
 /// ```
@@ -79,12 +79,12 @@ impl<T: Linked<Links<T>>> Model for TransferStack<T> {
 /// # Examples
 /// From `tour::hand_over` of `cordyceps_uses`:
 /// ```
-/// // a party for another thread, which can push four
+/// // Another thread gets a party of its own, with four rooms.
 /// let mut pusher = shared.split(&mut taker, 4);
-/// // tries until nobody comes between; `try_push` tries once, and may hand the job back
+/// // `push` tries until no other party comes between. `try_push` tries once, and may return the job.
 /// shared.push(rt, &mut pusher, first);
 /// shared.push(rt, &mut pusher, second);
-/// // the other thread has ended, and what it did is the taker's
+/// // When the other thread has ended, the taker absorbs its party, and has its rooms and its history.
 /// shared.absorb(&mut taker, pusher);
 /// ```
 #[derive(Drop)]
