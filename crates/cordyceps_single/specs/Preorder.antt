@@ -16,7 +16,8 @@ pub preorder_from_total : {X : Type 0} {cmp : X → X → Ordering} → IsTotalO
 preorder_from_total o = record { turns = o.antisymm; trans = upto o }
 
 -- so is the order by a key, where keys are in a total order, and that by a number of each value
-pub by_key_lawful : {X K : Type 0} {cmp : K → K → Ordering} → IsTotalOrder cmp → (key : X → K) → IsPreorder (by_key cmp key)
+pub by_key_lawful : {X K : Type 0} {cmp : K → K → Ordering} → IsTotalOrder cmp → (key : X → K)
+    → IsPreorder (by_key cmp key)
 by_key_lawful o key = preorder_from_total (on_total key o)
 
 pub by_number_lawful : {X : Type 0} (number : X → ℕ) → IsPreorder (by_key nat_cmp number)

@@ -1,16 +1,15 @@
 -- A map that finds the spot of each number's element does so after each call, where it is updated.
-use Rattle.std.proofs.Common.{◌≡◌, ℕ, true, false, [], ◌∷◌, ◌++◌, cond, Option, Some, None, eqb, refl, sym, ap, ◌∙◌, subst, ◌⊎◌, inl, inr}
+use Rattle.std.proofs.Common.{◌≡◌, ℕ, true, false, ◌∷◌, ◌++◌, cond, Option, Some, None, eqb, refl, sym, ap, ◌∙◌, subst, ◌⊎◌, inl, inr}
 use Rattle.std.proofs.lemmas.Bool.{eqb-true, eqb-false}
 use Rattle.std.proofs.lemmas.Map.{update_here}
-use Rattle.std.specs.Option.{option_or}
 use denote.RawPtr.{Ptr}
-use Rattle.cordyceps_base.specs.BySpot.{HasSpot, IsTaken, IsMovedFront, IsMovedBack}
+use Rattle.cordyceps_base.specs.BySpot.{HasSpot, IsTaken, IsMovedFront}
 use Rattle.cordyceps_base.specs.Element.{Element}
 use Rattle.cordyceps_base.specs.Nodes.{Nodes, spots, with_item}
 use Rattle.cordyceps_base.specs.Spots.{AreDistinct}
 use Rattle.cordyceps_base.proofs.Places.{spots-with_item}
 use Rattle.cordyceps_stable.specs.Agreeing.{HasElementAt, Agrees, IsUpdated}
-use Rattle.cordyceps_stable.proofs.Holding.{spot_is_at, unique, taken_gone, left_is_at, taken_or_left, first_taken, last_taken, moved_is_at, joined_is_at, front_is_at, back_is_at, written_lies, written_lay}
+use Rattle.cordyceps_stable.proofs.Holding.{spot_is_at, unique, taken_gone, left_is_at, taken_or_left, first_taken, moved_is_at, written_lies, written_lay}
 
 abbrev spot_or : Ptr → Option Ptr → Ptr
 spot_or q None = q
@@ -41,18 +40,6 @@ module _ {X : Type 0} where
   -- elements of one number lie at one spot
   pub keys_differ : (f : ℕ → Option Ptr) (c : Nodes X) → Agrees f c → (q r : Ptr) (e o : Element X) → HasElementAt c q e → HasElementAt c r o → e.id ≡ o.id → q ≡ r
   keys_differ f c g q r e o l m same = let one = g.listed q e l in let two = g.listed r o m in ap (spot_or q) (sym one ∙ ap f same ∙ two)
-
-  -- a map that finds nothing agrees with an empty list
-  pub empty_agrees : (f : ℕ → Option Ptr) (c : Nodes X) → ((k : ℕ) → f k ≡ None) → c ≡ [] → Agrees f c
-  empty_agrees f c none is =
-      record {
-        mapped = λ k p at. absurd (none_some (f k) p (none k) at);
-        listed = λ q e lies. absurd (none_is_at lies.0 lies.1 q e (sym is ∙ lies.2));
-        distinct = subst (λ s. AreDistinct (spots s)) (sym is) tt;
-      } where
-        none_is_at : (b a : Nodes X) (q : Ptr) (e : Element X) → [] ≡ b ++ (q, e) ∷ a → ⊥
-        none_is_at [] a q e is = cc
-        none_is_at (x ∷ b) a q e is = cc
 
   -- an element was put in, of a number that the map did not know: `first_taken` and its like tell which
   pub put_agrees : (f g : ℕ → Option Ptr) (c d : Nodes X) (p : Ptr) (e : Element X) → Agrees f c → f e.id ≡ None → IsUpdated f e.id (Some p) g → IsTaken d p e c → AreDistinct (spots d) → Agrees g d
@@ -108,9 +95,6 @@ module _ {X : Type 0} where
   pub moved_front_agrees : (f : ℕ → Option Ptr) (c d : Nodes X) (p : Ptr) → Agrees f c → IsMovedFront c p d → AreDistinct (spots d) → Agrees f d
   moved_front_agrees f c d p was (e, rest, t, is) distinct = kept_agrees f c d rest p e was t (first_taken d rest p e is) distinct
 
-  pub moved_back_agrees : (f : ℕ → Option Ptr) (c d : Nodes X) (p : Ptr) → Agrees f c → IsMovedBack c p d → AreDistinct (spots d) → Agrees f d
-  moved_back_agrees f c d p was (e, rest, t, is) distinct = kept_agrees f c d rest p e was t (last_taken d rest p e is) distinct
-
   -- a value was written, as through `get_mut`
   pub written_agrees : (f : ℕ → Option Ptr) (c : Nodes X) (k : ℕ) (w : X) → Agrees f c → Agrees f (with_item c k w)
   written_agrees f c k w was =
@@ -119,21 +103,3 @@ module _ {X : Type 0} where
         listed = λ q o lies. let (e, same, on) = written_lay c k w q o lies in ap f (sym same) ∙ was.listed q e on;
         distinct = subst AreDistinct (sym (spots-with_item c k w)) was.distinct;
       }
-
-  -- two lists were joined, whose maps know no number in common
-  pub joined_agrees : (f g h : ℕ → Option Ptr) (c d : Nodes X) → Agrees f c → Agrees g d → ((k : ℕ) → (f k ≡ None) ⊎ (g k ≡ None)) → ((k : ℕ) → h k ≡ option_or (f k) (g k)) → AreDistinct (spots (c ++ d)) → Agrees h (c ++ d)
-  joined_agrees f g h c d one two disjoint both distinct = record { mapped = mapped; listed = listed; distinct = distinct } where
-    mapped : (k : ℕ) (q : Ptr) → h k ≡ Some q → (o : Element X) × (o.id ≡ k) × HasElementAt (c ++ d) q o
-    mapped k q at = (elim (f k) as (λ w. f k ≡ w → h k ≡ option_or w (g k) → (o : Element X) × (o.id ≡ k) × HasElementAt (c ++ d) q o) [
-      | None ↦ λ none is. let (o, key, lies) = two.mapped k q (sym is ∙ at) in (o, key, back_is_at c d q o lies)
-      | Some p ↦ λ some is. let (o, key, lies) = one.mapped k q (some ∙ sym is ∙ at) in (o, key, front_is_at c d q o lies)
-    ]) refl (both k)
-
-    listed : (q : Ptr) (o : Element X) → HasElementAt (c ++ d) q o → h o.id ≡ Some q
-    listed q o lies = elim (joined_is_at c d q o lies) as (λ _. h o.id ≡ Some q) [
-      | inl on ↦ both o.id ∙ ap (λ w. option_or w (g o.id)) (one.listed q o on)
-      | inr on ↦ let known = two.listed q o on in elim (disjoint o.id) as (λ _. h o.id ≡ Some q) [
-        | inl none ↦ both o.id ∙ ap (λ w. option_or w (g o.id)) none ∙ known
-        | inr none ↦ absurd (none_some (g o.id) q none known)
-      ]
-    ]

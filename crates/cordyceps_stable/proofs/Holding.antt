@@ -114,10 +114,6 @@ module _ {X : Type 0} where
       let (same, value, after) = unique b a f g r y z (sym there ∙ held) (subst (λ s. AreDistinct (spots s)) there apart) in
       (b, (r, y) ∷ a, was, put ∙ (λ i. sym same i ++ (q, e) ∷ (r, sym value i) ∷ sym after i))
 
-  -- a replacement is a removal and an insertion
-  pub replaced_taken : (c d : Nodes X) (p q : Ptr) (o e : Element X) → IsReplaced c p o q e d → (rest : Nodes X) × IsTaken c p o rest × IsTaken d q e rest
-  replaced_taken c d p q o e (b, a, was, is) = (b ++ a, (b, a, was, refl), (b, a, is, refl))
-
   -- after a removal all others lie where they lay
   pub others_are_at : (c d : Nodes X) (p q : Ptr) (e o : Element X) → IsTaken c p e d → HasElementAt c q o → (q ≡ p → ⊥) → HasElementAt d q o
   others_are_at c d p q e o t lies other = elim (taken_or_left c d p q e o t lies) as (λ _. HasElementAt d q o) [
@@ -146,9 +142,6 @@ module _ {X : Type 0} where
 
   pub front_is_at : (c d : Nodes X) (q : Ptr) (o : Element X) → HasElementAt c q o → HasElementAt (c ++ d) q o
   front_is_at c d q o (b, a, is) = (b, a ++ d, ap (λ s. s ++ d) is ∙ append_assoc b ((q, o) ∷ a) d)
-
-  pub back_is_at : (c d : Nodes X) (q : Ptr) (o : Element X) → HasElementAt d q o → HasElementAt (c ++ d) q o
-  back_is_at c d q o (b, a, is) = (c ++ b, a, ap (λ s. c ++ s) is ∙ sym (append_assoc c b ((q, o) ∷ a)))
 
   -- a value that was written changes no number and no spot
   pub written_lies : (c : Nodes X) (k : ℕ) (w : X) (q : Ptr) (e : Element X) → HasElementAt c q e → (o : Element X) × (o.id ≡ e.id) × HasElementAt (with_item c k w) q o

@@ -1,5 +1,5 @@
 -- Which spots a list has, by what its calls say.
-use Rattle.std.proofs.Common.{append_assoc, ◌≡◌, [], ◌∷◌, ◌++◌, Option, Some, None, MatchOption, sym, ap, ◌∙◌, subst}
+use Rattle.std.proofs.Common.{append_assoc, ◌≡◌, [], ◌∷◌, ◌++◌, Option, Some, None, MatchOption, sym, ap, ◌∙◌}
 use Rattle.std.specs.Prelude.{IfSome}
 use denote.RawPtr.{Ptr}
 use Rattle.cordyceps_base.specs.BySpot.{HasSpot, IsTaken, IsPutBefore, IsPutAfter, IsMovedBack, IsFirst, IsLast, AreNext}
@@ -34,9 +34,6 @@ module _ {X : Type 0} where
   pub next_spot : (c : Nodes X) (p : Ptr) (o : Option Ptr) → MatchOption o (IsLast c p) (λ q. AreNext c p q) → IfSome o (λ q. HasSpot c q)
   next_spot c p None h = tt
   next_spot c p (Some q) h = next_has c p q h
-
-  pub next_reached : (c : Nodes X) (p q : Ptr) (o : Option Ptr) → MatchOption o (IsLast c p) (λ r. AreNext c p r) → o ≡ Some q → HasSpot c q
-  next_reached c p q o h is = next_has c p q (subst (λ s. MatchOption s (IsLast c p) (λ r. AreNext c p r)) is h)
 
   pub prev_spot : (c : Nodes X) (p : Ptr) (o : Option Ptr) → MatchOption o (IsFirst c p) (λ q. AreNext c q p) → IfSome o (λ q. HasSpot c q)
   prev_spot c p None h = tt
