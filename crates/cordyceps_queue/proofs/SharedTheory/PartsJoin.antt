@@ -15,7 +15,8 @@ use Rattle.cordyceps_queue.specs.Shared.Parts.{AsksRight, Tries, Dequeued}
 use Rattle.cordyceps_queue.specs.History.{Event, actor}
 use Rattle.cordyceps_shared.specs.Places.{ItemAt}
 use Rattle.cordyceps_shared.specs.Slots.{Near, TableStep, Hand}
-use Rattle.cordyceps_queue.specs.Shared.Plays.{SeatState, LegalReversed, carry, moves_to, hands_out, HandsOneOut, IsResting, IsHolding, IsAtStage, Blocked, after_take}
+use Rattle.cordyceps_queue.specs.Shared.Plays.{SeatState, LegalReversed, carry, moves_to, hands_out, HandsOneOut}
+use Rattle.cordyceps_queue.specs.Shared.Plays.{IsResting, Holds, IsHolding, IsAtStage, Blocked, after_take}
 use Rattle.cordyceps_queue.specs.Shared.View.{View, name, free_chain, back_chain, all_rooms}
 
 -- the free rooms are those of before, and those in hand
@@ -56,12 +57,27 @@ module _ {E : Type 0} where
 
   pub takes_by : (st : TableStep E) (m k : SeatState E) → IsResting st.slots m → (found : ℕ) → after_take st m found k → AsksRight st.slots found m k
   takes_by st m k q zero t =
-      let b = (t q.0).0 refl in
-      ((b.0, b.1, b.3, (λ e. q.3 (sym b.4.share ∙ e)), near_all st.slots m.0.free m.0.back k.0.free q.1 b.2 q.4), b)
+      let b = (t q.stage).0 refl in
+      let rests : IsResting st.slots k = record {
+        stage = b.0;
+        back = b.1;
+        hand = b.3;
+        named = λ e. q.named (sym b.4.share ∙ e);
+        near = near_all st.slots m.0.free m.0.back k.0.free q.back b.2 q.near;
+      } in
+      (rests, b)
   takes_by st m k q (suc u) t =
-      let h = (t q.0).1 u refl in
+      let h = (t q.stage).1 u refl in
       let b = h.0 in
-      ((b.0, b.3 ∙ ap (λ (l : List ℕ). carry l) (sym b.1), (λ e. q.3 (sym b.4.share ∙ e)), near_parts st.slots k.0.free k.0.free k.0.back refl b.1 (near_all st.slots m.0.free m.0.back k.0.free q.1 b.2 q.4), h.1, may_join k.0 b.1), b)
+      let near = near_all st.slots m.0.free m.0.back k.0.free q.back b.2 q.near in
+      let right : Holds st.slots u k = record {
+        stage = b.0;
+        carries = b.3 ∙ ap (λ (l : List ℕ). carry l) (sym b.1);
+        named = λ e. q.named (sym b.4.share ∙ e);
+        near = near_parts st.slots k.0.free k.0.free k.0.back refl b.1 near;
+        inside = h.1;
+      } in
+      (record { right = right; joins = may_join k.0 b.1 }, b)
 
   -- one step after another, where no slot is in hand between them
   pub moves_in_turn : (es fs : List (Event Name E)) (p q : Stage) (m k l : SeatState E) → moves_to es p m k → moves_to fs q k l → moves_to (es ++ fs) q m l
@@ -76,7 +92,14 @@ module _ {E : Type 0} where
 
   holds_still : (slots t : ℕ) (es : List (Event Name E)) (m k : SeatState E) → m.0.known.share ≢ [] → Near slots (m.0.free ++ m.0.back) → t < slots → moves_to es (Holding t) m k → IsHolding slots t k
   holds_still slots t es m k named near inside a =
-      (a.0, a.3 ∙ ap (λ (l : List ℕ). carry l) (sym a.1), (λ e. named (sym a.4.share ∙ e)), near_parts slots (m.0.free ++ m.0.back) k.0.free k.0.back a.2 a.1 near, inside, may_join k.0 a.1)
+      let right : Holds slots t k = record {
+        stage = a.0;
+        carries = a.3 ∙ ap (λ (l : List ℕ). carry l) (sym a.1);
+        named = λ e. named (sym a.4.share ∙ e);
+        near = near_parts slots (m.0.free ++ m.0.back) k.0.free k.0.back a.2 a.1 near;
+        inside = inside;
+      } in
+      record { right = right; joins = may_join k.0 a.1 }
 
   -- what a try came to, after more events
   pub tries_then : (slots : ℕ) (es fs : List (Event Name E)) (p : Stage) (m k l : SeatState E) (t : ℕ) (r : Tried E) → moves_to es p m k → Tries fs slots k l t r → Tries (es ++ fs) slots m l t r
@@ -111,7 +134,13 @@ module _ {E : Type 0} where
       let hand : o.1 ≡ carry o.0.back = ap (λ (z : SeatState E). z.1) y ∙ (ap (λ z. (t, None) ∷ rest z) h.4 ∙ ap (λ (xs : List ℕ). carry xs) (sym backs)) in
       let all : Near slots (o.0.free ++ o.0.back) = subst (Near slots) (λ j. sym frees j ++ sym backs j) (near_append slots (m.0.free ++ m.0.back) (t ∷ []) near (near_one slots t h.5)) in (
         (
-          (ap (λ (v : View E). v.stage) view ∙ h.1, hand, (λ x. named (sym h.7.share ∙ (sym (ap (λ (v : View E). v.known.share) view) ∙ x))), all, h.6),
+          record {
+            stage = ap (λ (v : View E). v.stage) view ∙ h.1;
+            carries = hand;
+            named = λ x. named (sym h.7.share ∙ (sym (ap (λ (v : View E). v.known.share) view) ∙ x));
+            near = all;
+            inside = h.6;
+          },
           backs,
           frees,
           subst (λ (z : View E × E). Grown actor LegalReversed m.0.known (fs ++ Event.Out (name m.0) z.1 ∷ []) z.0.known) (λ j. (sym view j, same j)) h.7,
@@ -136,7 +165,7 @@ module _ {E : Type 0} where
       let x = subst (λ n. Grown actor LegalReversed k.0.known (Event.Look n ∷ Event.Out n e ∷ []) l.0.known) first h.3 in
       let y = subst (λ n. Grown actor LegalReversed l.0.known (Event.Free n ∷ []) o.0.known) second b.4 in
       let n = name m.0 in
-      let same = still m k q.1 a.1 a.2 in (
+      let same = still m k q.back a.1 a.2 in (
         b.2 ∙ (λ j. (h.2 ∙ same) j ++ h.1 j),
         grown_then actor LegalReversed m.0.known k.0.known o.0.known (Event.Take n ∷ []) (Event.Look n ∷ Event.Out n e ∷ Event.Free n ∷ []) a.4 (grown_then actor LegalReversed k.0.known l.0.known o.0.known (Event.Look n ∷ Event.Out n e ∷ []) (Event.Free n ∷ []) x y),
         subst (λ (xs : List ℕ). length xs ≤ slots) (h.2 ∙ same) h.4,
@@ -148,7 +177,7 @@ module _ {E : Type 0} where
       let x = subst (λ n. Grown actor LegalReversed k.0.known (Event.Look n ∷ Event.Empty n ∷ []) l.0.known) first h.4 in
       let y = subst (λ n. Grown actor LegalReversed l.0.known (Event.Free n ∷ []) o.0.known) second b.4 in
       let n = name m.0 in (
-        three_still m k l o q.1 a.1 a.2 h.1 h.2 b.2,
+        three_still m k l o q.back a.1 a.2 h.1 h.2 b.2,
         grown_then actor LegalReversed m.0.known k.0.known o.0.known (Event.Take n ∷ []) (Event.Look n ∷ Event.Empty n ∷ Event.Free n ∷ []) a.4 (grown_then actor LegalReversed k.0.known l.0.known o.0.known (Event.Look n ∷ Event.Empty n ∷ []) (Event.Free n ∷ []) x y),
       )
   whole_try slots u t m k l o Inconsistent q a T b =
@@ -158,7 +187,7 @@ module _ {E : Type 0} where
       let x = subst (λ n. Grown actor LegalReversed k.0.known (Event.Look n ∷ []) l.0.known) first h.4 in
       let y = subst (λ n. Grown actor LegalReversed l.0.known (Event.Free n ∷ []) o.0.known) second b.4 in
       let n = name m.0 in (
-        three_still m k l o q.1 a.1 a.2 h.1 h.2 b.2,
+        three_still m k l o q.back a.1 a.2 h.1 h.2 b.2,
         (l.0, grown_then actor LegalReversed m.0.known k.0.known l.0.known (Event.Take n ∷ []) (Event.Look n ∷ []) a.4 x, T.2, y),
       )
 

@@ -47,7 +47,13 @@ tracks_new n = record { tracks = record { count = sym (length_down_from n); firs
 
 module _ {E : Type 0} where
   new_rests : (slots rooms : ℕ) → slots ≡ rooms + 1 → let first : View E = newcomer rooms in IsResting slots (first, [])
-  new_rests slots rooms is = (refl, refl, refl, (λ e. absurd (cc)), near_down_from slots rooms is)
+  new_rests slots rooms is = record {
+    stage = refl;
+    back = refl;
+    hand = refl;
+    named = λ e. absurd (cc);
+    near = near_down_from slots rooms is;
+  }
 
   pub new_seated : (z table : TableId) (rooms : ℕ) (m : SeatState E) (spare : Spare) → z ≡ table → IsTable table → table.slots ≡ rooms + 1 → m ≡ (newcomer rooms, []) → spare ≡ record { rooms = record { first = rooms + 1; last = 1; count = rooms }; end = 1 } → IsSeated z m spare
   new_seated z table rooms m spare at is wide new have = subst (λ (q : TableId × SeatState E). IsSeated q.0 q.1 spare) (λ i. (sym at i, sym new i)) record {
@@ -68,7 +74,13 @@ module _ {E : Type 0} where
   pub kept_seated : (z z' : TableId) (n : ℕ) (m k : SeatState E) (spare left : Spare) → IsSeated z m spare → z' ≡ z → k ≡ (view_keeping n m.0, []) → TracksEnd left (free_chain k.0) → IsSeated z' k left
   kept_seated z z' n m k spare left s at is have = subst (λ (q : TableId × SeatState E). IsSeated q.0 q.1 left) (λ i. (sym at i, sym is i)) record {
     table = s.table;
-    rests = (s.rests.0, s.rests.1, refl, keeps_some m.0.known.share s.rests.3, near_drop z.slots n m.0.free s.rests.4);
+    rests = record {
+      stage = s.rests.stage;
+      back = s.rests.back;
+      hand = refl;
+      named = keeps_some m.0.known.share s.rests.named;
+      near = near_drop z.slots n m.0.free s.rests.near;
+    };
     tracks = subst (λ (q : SeatState E). TracksEnd left (free_chain q.0)) is have;
     legal = s.legal;
     alone = λ e. absurd (keeps_not_whole m.0.known.share e);
@@ -80,7 +92,13 @@ module _ {E : Type 0} where
   pub given_seated : (z z' : TableId) (n : ℕ) (m k : SeatState E) (spare some_of : Spare) → IsSeated z m spare → z' ≡ z → k ≡ (view_giving n m.0, []) → TracksEnd some_of (free_chain k.0) → IsSeated z' k some_of
   given_seated z z' n m k spare some_of s at is have = subst (λ (q : TableId × SeatState E). IsSeated q.0 q.1 some_of) (λ i. (sym at i, sym is i)) record {
     table = s.table;
-    rests = (refl, refl, refl, gives_some m.0.known.share s.rests.3, near_take z.slots n m.0.free s.rests.4);
+    rests = record {
+      stage = refl;
+      back = refl;
+      hand = refl;
+      named = gives_some m.0.known.share s.rests.named;
+      near = near_take z.slots n m.0.free s.rests.near;
+    };
     tracks = subst (λ (q : SeatState E). TracksEnd some_of (free_chain q.0)) is have;
     legal = subst (λ h. Legal h) (sym (plain_unmarked m.0.known.seen)) s.legal;
     alone = λ e. absurd (not_whole m.0.known.share e);
@@ -96,13 +114,18 @@ module _ {E : Type 0} where
       let now = view_absorbing m.0 o.0 in
       let back = sym is.known in record {
         table = subst (λ q. IsTable q) (sym at) s.table;
-        rests = (
-          is.stage,
-          is.back,
-          is.hand,
-          (λ e. joined_some m.0.known.share o.0.known.share s.rests.3 (sym (ap (λ (q : Known (Event Name E)). q.share) is.known) ∙ e)),
-          subst (λ (q : TableId × List ℕ). Near q.0.slots q.1) (λ i. (sym at i, sym is.free i)) (near_append z.slots m.0.free o.0.free s.rests.4 (subst (λ (q : TableId). Near q.slots o.0.free) same other.rests.4)),
-        );
+        rests = record {
+          stage = is.stage;
+          back = is.back;
+          hand = is.hand;
+          named = λ e.
+              let named = sym (ap (λ (q : Known (Event Name E)). q.share) is.known) ∙ e in
+              joined_some m.0.known.share o.0.known.share s.rests.named named;
+          near =
+              let theirs = subst (λ (q : TableId). Near q.slots o.0.free) same other.rests.near in
+              let both = near_append z.slots m.0.free o.0.free s.rests.near theirs in
+              subst (λ (q : TableId × List ℕ). Near q.0.slots q.1) (λ i. (sym at i, sym is.free i)) both;
+        };
         tracks = have;
         legal = subst (λ (q : Known (Event Name E)). Legal (plain q.seen)) back (told_legal same_name (plain now.known.seen) known.legal);
         alone = λ e. subst (λ (q : Known (Event Name E)). AllOwn q.seen) back (known.alone (sym (ap (λ (q : Known (Event Name E)). q.share) is.known) ∙ e));

@@ -14,7 +14,7 @@ use Rattle.cordyceps_queue.specs.declared.shared.uses.RoomUse.{RoomUse}
 use Rattle.cordyceps_queue.specs.History.{held, Swap, Link, actor}
 use Rattle.cordyceps_queue.specs.Shared.Calls as call
 use Rattle.cordyceps_queue.specs.Shared.Parts.{standing, IsSeated, IsConsuming, TracksEnd, Refills, GivesBack}
-use Rattle.cordyceps_queue.specs.Shared.Plays.{SeatState, LacksRooms, IsResting}
+use Rattle.cordyceps_queue.specs.Shared.Plays.{SeatState, LacksRooms, IsResting, Holds}
 use Rattle.cordyceps_queue.specs.Shared.Uses.{HasUse}
 use Rattle.cordyceps_queue.specs.Shared.View.{View, free_chain, view_returned, bit_of}
 use Rattle.cordyceps_queue.proofs.SharedTheory.CallsHold.{adds, seated_after}
@@ -27,7 +27,7 @@ module _ {E : Type 0} where
   refill_seated z z' t n m k spare left s at there r tracks = seated_after z z' t m k spare left [] s at there r.rests tracks r.sees (λ q. (refl, refl))
 
   rooms_at_rest : (slots : ℕ) (m : SeatState E) → IsResting slots m → length (m.0.back ++ m.0.free) ≡ length m.0.free
-  rooms_at_rest slots m q = ap (λ (l : List ℕ). length (l ++ m.0.free)) q.1
+  rooms_at_rest slots m q = ap (λ (l : List ℕ). length (l ++ m.0.free)) q.back
 
   pub refills : (z z' : TableId) (slots slots_then n : ℕ) (m k : SeatState E) → IsResting slots_then m → z' ≡ z → Refills slots n m k → call.Refills n (standing z m.0) (standing z' k.0)
   refills z z' slots slots_then n m k q at r = (
@@ -82,7 +82,13 @@ module _ {E : Type 0} where
   left_seated : (z : TableId) (n : ℕ) (m : SeatState E) (spare left : Spare) → IsSeated z m spare → let v : View E = record m.0 { free = drop n m.0.free } in TracksEnd left (free_chain v) → IsSeated z (v, m.1) left
   left_seated z n m spare left s tracks = record {
     table = s.table;
-    rests = (s.rests.0, s.rests.1, s.rests.2, s.rests.3, near_drop z.slots n m.0.free s.rests.4);
+    rests = record {
+      stage = s.rests.stage;
+      back = s.rests.back;
+      hand = s.rests.hand;
+      named = s.rests.named;
+      near = near_drop z.slots n m.0.free s.rests.near;
+    };
     tracks = tracks;
     legal = s.legal;
     alone = s.alone;
@@ -92,7 +98,8 @@ module _ {E : Type 0} where
   }
 
   pub give_back_seated : (z z' : TableId) (n : ℕ) (b : Bool) (m k : SeatState E) (spare left : Spare) → IsSeated z m spare → z' ≡ z → GivesBack n b (view_returned m.0, []) k → TracksEnd left (free_chain k.0) → IsSeated z' k left
-  give_back_seated z z' n b m k spare left s at g tracks = by b (subst (λ q. GivesBack n b q k) (returned_same m s.rests.1 s.rests.2) g)
+  give_back_seated z z' n b m k spare left s at g tracks =
+      by b (subst (λ q. GivesBack n b q k) (returned_same m s.rests.back s.rests.hand) g)
     where
       by : (b : Bool) → GivesBack n b m k → IsSeated z' k left
       by true is = subst (λ (q : TableId × SeatState E). IsSeated q.0 q.1 left) (λ i. (sym at i, sym is i)) (left_seated z n m spare left s (subst (λ (q : SeatState E). TracksEnd left (free_chain q.0)) is tracks))
@@ -110,9 +117,16 @@ module _ {E : Type 0} where
   -- by a party that has the right
   still_consuming : (z : TableId) (t : ℕ) (m : SeatState E) (free : List ℕ) (end : ℕ) (spare left : Spare) → IsConsuming z t m spare → Near z.slots free → let v : View E = record m.0 { free = free; end = end; back = [] } in TracksEnd left (free_chain v) → IsConsuming z t (v, []) left
   still_consuming z t m free end spare left c near tracks =
-      let v : View E = record m.0 { free = free; end = end; back = [] } in record {
+      let v : View E = record m.0 { free = free; end = end; back = [] } in
+      let right : Holds z.slots t (v, []) = record {
+        stage = c.holds.right.stage;
+        carries = refl;
+        named = c.holds.right.named;
+        near = near_parts z.slots free free [] refl refl near;
+        inside = c.holds.right.inside;
+      } in record {
         table = c.table;
-        holds = (c.holds.0, refl, c.holds.2, near_parts z.slots free free [] refl refl near, c.holds.4, may_join v refl);
+        holds = record { right = right; joins = may_join v refl };
         tracks = subst (TracksEnd left) (sym (bare_rooms v refl)) tracks;
         legal = c.legal;
         alone = c.alone;
@@ -126,12 +140,14 @@ module _ {E : Type 0} where
       let all = m.0.free ++ m.0.back in
       let end = end_after m.0.end m.0.back m.0.to in
       subst (λ (q : TableId × SeatState E). IsConsuming q.0 t q.1 left) (λ i. (sym at i, sym g i))
-      (still_consuming z t m (drop n all) end spare left c (near_drop z.slots n all c.holds.3) (subst (λ (q : SeatState E). TracksEnd left (free_chain q.0)) g tracks))
+      (still_consuming z t m (drop n all) end spare left c (near_drop z.slots n all c.holds.right.near)
+      (subst (λ (q : SeatState E). TracksEnd left (free_chain q.0)) g tracks))
   give_back_consuming z z' t n false m k spare left c at g tracks =
       let all = m.0.free ++ m.0.back in
       let end = end_after m.0.end m.0.back m.0.to in
       subst (λ (q : TableId × SeatState E). IsConsuming q.0 t q.1 left) (λ i. (sym at i, sym g i))
-      (still_consuming z t m all end spare left c c.holds.3 (subst (λ (q : SeatState E). TracksEnd left (free_chain q.0)) g tracks))
+      (still_consuming z t m all end spare left c c.holds.right.near
+      (subst (λ (q : SeatState E). TracksEnd left (free_chain q.0)) g tracks))
 
   -- the bits of the uses are as they were
   pub give_back_knows : (n : ℕ) (b : Bool) (m k : SeatState E) (u : RoomUse) → GivesBack n b (view_returned m.0, []) k → HasUse m u → HasUse k u

@@ -75,8 +75,8 @@ module _ {E : Type 0} where
   pub filled_returns : (slots found : ℕ) (taken : FreeRooms) (m p l : SeatState E) → IsResting slots m → FindsPool slots found m p → IsFilled slots taken m p l → MayReturn slots l
   filled_returns slots found taken m p l q d f = record {
     carries = f.carries;
-    named = λ e. q.3 (sym (ap (λ (z : Known (Event Name E)). z.share) f.known ∙ d.sees.share) ∙ e);
-    near = subst (λ z. Near slots (z ++ l.0.back)) (sym f.free) (near_append slots m.0.free l.0.back q.4 f.near);
+    named = λ e. q.named (sym (ap (λ (z : Known (Event Name E)). z.share) f.known ∙ d.sees.share) ∙ e);
+    near = subst (λ z. Near slots (z ++ l.0.back)) (sym f.free) (near_append slots m.0.free l.0.back q.near f.near);
     joins = f.joins;
   }
 
@@ -91,13 +91,13 @@ module _ {E : Type 0} where
       let long = ap (λ (z : List ℕ). length z) free in
       let sum = length-append m.0.free l.0.back in
       let count = f.tracks.count in record {
-        rests = (
-          ap (λ (z : View E). z.stage) v ∙ f.stage,
-          ap (λ (z : View E). z.back) v,
-          ap (λ (z : SeatState E). z.1) g,
-          (λ e. q.3 (sym (ap (λ (z : Known (Event Name E)). z.share) known ∙ d.sees.share) ∙ e)),
-          subst (Near slots) (sym free) (near_append slots m.0.free l.0.back q.4 f.near),
-        );
+        rests = record {
+          stage = ap (λ (z : View E). z.stage) v ∙ f.stage;
+          back = ap (λ (z : View E). z.back) v;
+          hand = ap (λ (z : SeatState E). z.1) g;
+          named = λ e. q.named (sym (ap (λ (z : Known (Event Name E)). z.share) known ∙ d.sees.share) ∙ e);
+          near = subst (Near slots) (sym free) (near_append slots m.0.free l.0.back q.near f.near);
+        };
         free = omega arith;
         sees = subst (λ (z : Known (Event Name E)). Grown actor LegalReversed m.0.known [] z) (sym known) d.sees;
         all = λ is_whole.

@@ -37,25 +37,29 @@ module _ {E : Type 0} where
   -- ---- the right is taken
   pub busy_seated : (z z' t : TableId) (m k : SeatState E) (spare : Spare) → IsSeated z m spare → z' ≡ z → z ≡ t → AsksRight t.slots 0 m k → IsSeated z' k spare
   busy_seated z z' t m k spare s at there a =
-      seated_after z z' t m k spare spare (Busy (name m.0) ∷ []) s at there a.0 (subst (TracksEnd spare) (sym (moved_rooms (Busy (name m.0) ∷ []) Rest m k a.1 ∙ bare_rooms m.0 s.rests.1)) s.tracks) a.1.4 (λ q. (refl, refl))
+      seated_after z z' t m k spare spare (Busy (name m.0) ∷ []) s at there a.0
+      (subst (TracksEnd spare) (sym (moved_rooms (Busy (name m.0) ∷ []) Rest m k a.1 ∙ bare_rooms m.0 s.rests.back))
+      s.tracks) a.1.4 (λ q. (refl, refl))
 
   pub finds_busy : (z z' : TableId) (slots : ℕ) (m k : SeatState E) → z' ≡ z → AsksRight slots 0 m k → FindsBusy (standing z m.0) (standing z' k.0)
   finds_busy z z' slots m k at a = (adds z z' m.0 k.0 (Busy (name m.0) ∷ []) a.1.4 at, moved_count (Busy (name m.0) ∷ []) Rest m k a.1)
 
   pub whole_busy : (z z' : TableId) (slots : ℕ) (m k : SeatState E) (spare : Spare) → IsSeated z m spare → z' ≡ z → AsksRight slots 0 m k → m.0.known.share ≡ whole → ⊥
-  whole_busy z z' slots m k spare s at a is = whole_right z z' slots m k spare s at (a.1.2 ∙ (ap (λ l. m.0.free ++ l) s.rests.1 ∙ append-nil m.0.free), a.1.4) is
+  whole_busy z z' slots m k spare s at a is = whole_right z z' slots m k spare s at
+      (a.1.2 ∙ (ap (λ l. m.0.free ++ l) s.rests.back ∙ append-nil m.0.free), a.1.4) is
 
   pub right_taken : (z z' t : TableId) (tail : ℕ) (m k : SeatState E) (spare : Spare) → IsSeated z m spare → z' ≡ z → z ≡ t → AsksRight t.slots (suc tail) m k → IsConsuming z' tail k spare
   right_taken z z' t tail m k spare s at there a =
       let n = name m.0 in record {
         table = subst (λ q. IsTable q) (sym at) s.table;
         holds = subst (λ (q : TableId). IsHolding q.slots tail k) (sym (at ∙ there)) a.0;
-        tracks = subst (TracksEnd spare) (sym (bare_rooms k.0 a.1.1 ∙ (moved_rooms (Take n ∷ []) (Holding tail) m k a.1 ∙ bare_rooms m.0 s.rests.1))) s.tracks;
+        tracks = subst (TracksEnd spare) (sym (bare_rooms k.0 a.1.1 ∙
+            (moved_rooms (Take n ∷ []) (Holding tail) m k a.1 ∙ bare_rooms m.0 s.rests.back))) s.tracks;
         legal = told_legal same_name (plain k.0.known.seen) a.1.4.legal;
         alone = a.1.4.alone;
         share = subst (λ z. IsShare z) (sym a.1.4.share) s.share;
         linked = linked_after m.0 k.0 (Take n ∷ []) a.1.4 s.legal s.linked (λ q. refl);
-        held = held_taken m.0 k.0 a.1.4 s.legal s.unheld s.rests.3;
+        held = held_taken m.0 k.0 a.1.4 s.legal s.unheld s.rests.named;
       }
 
   pub takes_right : (z z' : TableId) (slots tail : ℕ) (m k : SeatState E) → z' ≡ z → AsksRight slots (suc tail) m k → TakesRight (standing z m.0) (standing z' k.0)
@@ -87,7 +91,7 @@ module _ {E : Type 0} where
     alone = g.alone;
     share = subst (λ z. IsShare z) (sym g.share) c.share;
     linked = linked_after m.0 k.0 es g c.legal c.linked (λ q. (neutral q).0);
-    held = held_after m.0 k.0 es g c.legal c.held c.holds.2 (λ q. (neutral q).1);
+    held = held_after m.0 k.0 es g c.legal c.held c.holds.right.named (λ q. (neutral q).1);
   }
 
   pub consuming_then : (z z' t : TableId) (tail now : ℕ) (m k : SeatState E) (spare left : Spare) (r : Tried E) → IsConsuming z tail m spare → z' ≡ z → z ≡ t → IsHolding t.slots now k → Tries (Look (name m.0) ∷ []) t.slots m k now r → TracksEnd left (all_rooms k.0) → IsConsuming z' now k left

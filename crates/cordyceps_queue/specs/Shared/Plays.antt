@@ -29,10 +29,12 @@ module _ {E : Type 0} where
   Sees v es w = Grown actor LegalReversed v.known es w.known
 
   -- the party is between two calls
-  abbrev pub IsResting : ℕ → SeatState E → Type 0
-  IsResting slots m =
-      ((view m).stage ≡ Rest) × ((view m).back ≡ []) × (hand m ≡ []) × ((view m).known.share ≢ [])
-      × Near slots (view m).free
+  pub record IsResting (slots : ℕ) (m : SeatState E) : Type 0 where
+    pub stage : (view m).stage ≡ Rest
+    pub back : (view m).back ≡ []
+    pub hand : hand m ≡ []
+    pub named : (view m).known.share ≢ []
+    pub near : Near slots (view m).free
 
   abbrev pub after_clear_for : Option E → ℕ → SeatState E → ℕ → SeatState E → Type 0
   after_clear_for item slots m found k = (r : ℕ) (rs : List ℕ) (e : E) → (view m).free ≡ r ∷ rs → item ≡ Some e
@@ -61,19 +63,19 @@ module _ {E : Type 0} where
   carry [] = []
   carry (b ∷ bs) = (b, None) ∷ carry bs
 
-  -- the party has the right, its tail is t, and it has in hand the emptied slot of what it handed out last, if any
-  abbrev pub IsHolding : ℕ → ℕ → SeatState E → Type 0
-  IsHolding slots t m =
-      ((view m).stage ≡ Holding t) × (hand m ≡ carry (view m).back) × ((view m).known.share ≢ [])
-      × Near slots ((view m).free ++ (view m).back)
-      × (t < slots) × MayJoin (free_chain (view m)) (back_chain (view m))
+  -- the party has the right, its tail is t, and it has in hand the emptied slot of what it handed out last, if any. The
+  -- last free room may not be linked to the room of that slot yet
+  pub record Holds (slots t : ℕ) (m : SeatState E) : Type 0 where
+    pub stage : (view m).stage ≡ Holding t
+    pub carries : hand m ≡ carry (view m).back
+    pub named : (view m).known.share ≢ []
+    pub near : Near slots ((view m).free ++ (view m).back)
+    pub inside : t < slots
 
-  -- the same, but the last free room may not be linked to the room in hand yet
-  abbrev pub Holds : ℕ → ℕ → SeatState E → Type 0
-  Holds slots t m =
-      ((view m).stage ≡ Holding t) × (hand m ≡ carry (view m).back) × ((view m).known.share ≢ [])
-      × Near slots ((view m).free ++ (view m).back)
-      × (t < slots)
+  -- the same, and the last free room is linked to it
+  pub record IsHolding (slots t : ℕ) (m : SeatState E) : Type 0 where
+    pub right : Holds slots t m
+    pub joins : MayJoin (free_chain (view m)) (back_chain (view m))
 
   -- the slot is given back, and the party is at this stage
   abbrev pub moves_to : List (Event Name E) → Stage → SeatState E → SeatState E → Type 0

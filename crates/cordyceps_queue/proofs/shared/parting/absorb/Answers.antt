@@ -5,14 +5,25 @@ use Rattle.cordyceps_queue.proofs.shared.parting.absorb.Goals as goal
 pub join_seat-requires : goal.join_seat-requires
 join_seat-requires g c =
     let r = c.requires.rest in
-    let view = c.append.ensures.relinked.view in
-    (search rules, search rules, search rules, search rules, joins _ _ _ _ (ap (λ v. v.stage) view ∙ r.0.0) r.1.0 (ap (λ v. v.back) view ∙ r.0.1) r.1.1 (λ e. r.0.3 (ap (λ v. v.known.share) (sym view) ∙ e)) r.1.3 c.append.ensures.joins)
+    let view = c.append.ensures.relinked.view in (
+      search rules,
+      search rules,
+      search rules,
+      search rules,
+      joins _ _ _ _ (ap (λ v. v.stage) view ∙ r.0.stage) r.1.stage
+          (ap (λ v. v.back) view ∙ r.0.back) r.1.back (λ e. r.0.named (ap (λ v. v.known.share) (sym view) ∙ e))
+          r.1.named c.append.ensures.joins,
+    )
 
 pub load-requires : goal.load-requires
 load-requires g c =
     let view = c.append.ensures.relinked.view in
-    let t = c.requires.table in
-    (search rules, search rules, learns _ _ _ c.append.new.seat.me.0 c.args.other.me.0 (ap (λ m. m.0) c.join_seat.ensures.2) (λ e. c.requires.rest.0.3 (ap (λ v. v.known.share) (sym view) ∙ e)))
+    let t = c.requires.table in (
+      search rules,
+      search rules,
+      learns _ _ _ c.append.new.seat.me.0 c.args.other.me.0 (ap (λ m. m.0) c.join_seat.ensures.2)
+          (λ e. c.requires.rest.0.named (ap (λ v. v.known.share) (sym view) ∙ e)),
+    )
 
 pub returns-clause-tracks : goal.returns-clause-tracks
 returns-clause-tracks g c = search rules

@@ -7,7 +7,7 @@ use Rattle.cordyceps_queue.proofs.shared.steps.clear.Goals as goal
 pub overflow_add-room : goal.overflow_add-room
 overflow_add-room g c =
     let r = c.requires.room in
-    let near = c.requires.rest.4 0 c.args.room (subst (λ l. ItemAt l 0 c.args.room) (sym r.1) refl) in
+    let near = c.requires.rest.near 0 c.args.room (subst (λ l. ItemAt l 0 c.args.room) (sym r.1) refl) in
     let t = c.requires.table in search rules
 
 pub load-requires : goal.load-requires
@@ -15,8 +15,12 @@ load-requires g c =
     let r = c.requires.room in
     let i = c.requires.item in
     let q = c.requires.rest in
-    let near = q.4 0 c.args.room (subst (λ l. ItemAt l 0 c.args.room) (sym r.1) refl) in
-    let t = c.requires.table in (search rules, search rules, begins _ _ _ _ c.args.room r.0 _ c.args._item.now refl i q.0 q.1 r.1 q.3)
+    let near = q.near 0 c.args.room (subst (λ l. ItemAt l 0 c.args.room) (sym r.1) refl) in
+    let t = c.requires.table in (
+      search rules,
+      search rules,
+      begins _ _ _ _ c.args.room r.0 _ c.args._item.now refl i q.stage q.back r.1 q.named,
+    )
 
 pub returns-clause-cleared : goal.returns-clause-cleared
 returns-clause-cleared g c =
@@ -30,8 +34,8 @@ returns-clause-cleared g c =
       free = r.1 ∙ ap (λ z. c.args.room ∷ z) (sym l.2);
       end = l.7;
       next_is = d.0 ∙ (l.8 ∙ (λ i. leads (sym l.2 i) (sym l.7 i)));
-      back = l.3 ∙ c.requires.rest.1;
-      hand = l.4 ∙ ap (λ z. (c.args.room, none) ∷ z) c.requires.rest.2;
+      back = l.3 ∙ c.requires.rest.back;
+      hand = l.4 ∙ ap (λ z. (c.args.room, none) ∷ z) c.requires.rest.hand;
       near = l.5;
       sees = l.6;
     }

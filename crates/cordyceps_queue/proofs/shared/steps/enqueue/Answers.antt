@@ -19,13 +19,15 @@ returns-clause-rest g c =
     let cleared = c.clear-next.ensures.cleared in
     let swapped = c.swap_in-old.ensures.swapped in
     let free = c.link.ensures.free.0 ∙ swapped.free in
-    let q = c.requires.rest in (
-      c.link.ensures.rest.0,
-      c.link.ensures.rest.1,
-      c.link.ensures.rest.2,
-      λ e. q.3 (sym (c.link.ensures.sees.share ∙ (swapped.sees.share ∙ cleared.sees.share)) ∙ e),
-      λ i r ir. q.4 (suc i) r (subst (λ l. ItemAt l (suc i) r) (sym cleared.free) (subst (λ l. ItemAt l i r) free ir)),
-    )
+    let q = c.requires.rest in
+    let rest = c.link.ensures.rest in record {
+      stage = rest.0;
+      back = rest.1;
+      hand = rest.2;
+      named = λ e. q.named (sym (c.link.ensures.sees.share ∙ (swapped.sees.share ∙ cleared.sees.share)) ∙ e);
+      near = λ i r ir.
+          q.near (suc i) r (subst (λ l. ItemAt l (suc i) r) (sym cleared.free) (subst (λ l. ItemAt l i r) free ir));
+    }
 
 pub returns-clause-tracks : goal.returns-clause-tracks
 returns-clause-tracks g c =

@@ -11,48 +11,60 @@ use Rattle.cordyceps_queue.proofs.shared.steps.look.Goals as goal
 
 pub load-link-requires : goal.load-link-requires
 load-link-requires g c =
-    let q = c.requires.holding in
-    let near = q.4 in
-    let t = c.requires.table in (search rules, search rules, reads_look _ _ _ q.1 (λ i r a. q.3 _ r (at_after _ _ i r a)) q.2 q.5 c.args.tail.room _ refl q.0 c.requires.real)
+    let h = c.requires.holding in
+    let q = h.right in
+    let near = q.inside in
+    let t = c.requires.table in (
+      search rules,
+      search rules,
+      reads_look _ _ _ q.carries (λ i r a. q.near _ r (at_after _ _ i r a)) q.named h.joins c.args.tail.room _ refl
+          q.stage c.requires.real,
+    )
 
 pub exchange-requires : goal.exchange-requires
 exchange-requires g c =
-    let q = c.requires.holding in
-    let f = reads_for c.args.seat.now.me c.load-link.new.seat.me c.args.tail c.load-link.result _ c.requires.knows (c.load-link.ensures.2.1 c.args.tail.room q.0 c.requires.real) in
+    let q = c.requires.holding.right in
+    let f = reads_for c.args.seat.now.me c.load-link.new.seat.me c.args.tail c.load-link.result _ c.requires.knows
+    (c.load-link.ensures.2.1 c.args.tail.room q.stage c.requires.real) in
     let e = c.in-Some.ensures f.0 f.1 f.2 in
-    let h = (f.4 c.args.tail.room q.0 c.requires.real).1 c.in-Some.next.room e.0 in
+    let h = (f.4 c.args.tail.room q.stage c.requires.real).1 c.in-Some.next.room e.0 in
     let t = c.requires.table in
     (search rules, (_, h.4 ∙ ap (λ z. (c.args.tail.room, Some h.0) ∷ rest z) (sym h.4)))
 
 pub unreachable-requires : goal.unreachable-requires
 unreachable-requires g c =
-    let q = c.requires.holding in
-    let f = reads_for c.args.seat.now.me c.load-link.new.seat.me c.args.tail c.load-link.result _ c.requires.knows (c.load-link.ensures.2.1 c.args.tail.room q.0 c.requires.real) in
+    let q = c.requires.holding.right in
+    let f = reads_for c.args.seat.now.me c.load-link.new.seat.me c.args.tail c.load-link.result _ c.requires.knows
+    (c.load-link.ensures.2.1 c.args.tail.room q.stage c.requires.real) in
     let e = c.in-Some.ensures f.0 f.1 f.2 in
-    let h = (f.4 c.args.tail.room q.0 c.requires.real).1 c.in-Some.next.room e.0 in
+    let h = (f.4 c.args.tail.room q.stage c.requires.real).1 c.in-Some.next.room e.0 in
     let y = c.exchange.ensures in
     c.in_default-exchange.not-Some h.0 (ap (hand_of h.0) (sym y.2 ∙ h.4))
 
 pub returns-clause-answer : goal.returns-clause-answer
 returns-clause-answer g c =
     let E = g.row.E.Denot in
-    let q = c.requires.holding in
-    let f = reads_for c.args.seat.now.me c.load-link.new.seat.me c.args.tail c.load-link.result _ c.requires.knows (c.load-link.ensures.2.1 c.args.tail.room q.0 c.requires.real) in
+    let q = c.requires.holding.right in
+    let f = reads_for c.args.seat.now.me c.load-link.new.seat.me c.args.tail c.load-link.result _ c.requires.knows
+    (c.load-link.ensures.2.1 c.args.tail.room q.stage c.requires.real) in
     let e = c.in-Some.ensures f.0 f.1 f.2 in
-    let h = (f.4 c.args.tail.room q.0 c.requires.real).1 c.in-Some.next.room e.0 in
+    let h = (f.4 c.args.tail.room q.stage c.requires.real).1 c.in-Some.next.room e.0 in
     let y = c.exchange.ensures in
     let came : c.exchange.result ≡ Some h.0 = ap (hand_of h.0) (sym y.2 ∙ h.4) in
     let is : h.0 ≡ c.in-Some-exchange.item = ap (some_or h.0) (sym came ∙ c.in-Some-exchange.is) in
     let look : Event _ E = Event.Look (name c.args.seat.now.me.0) in
-    (hands_now c.args.words.now.table_id.slots c.args.tail.room c.in-Some.next.room (look ∷ []) c.args.seat.now.me c.load-link.new.seat.me c.exchange.new.seat.me c.in-Some-exchange.item q.2 q.3 h y.3 is).0
+    (hands_now c.args.words.now.table_id.slots c.args.tail.room c.in-Some.next.room (look ∷ []) c.args.seat.now.me
+    c.load-link.new.seat.me c.exchange.new.seat.me c.in-Some-exchange.item q.named q.near h y.3 is).0
 
 pub returns-clause-rooms : goal.returns-clause-rooms
 returns-clause-rooms g c =
     let E = g.row.E.Denot in
-    let q = c.requires.holding in
-    let f = reads_for c.args.seat.now.me c.load-link.new.seat.me c.args.tail c.load-link.result _ c.requires.knows (c.load-link.ensures.2.1 c.args.tail.room q.0 c.requires.real) in
+    let q = c.requires.holding.right in
+    let f = reads_for c.args.seat.now.me c.load-link.new.seat.me c.args.tail c.load-link.result _ c.requires.knows
+    (c.load-link.ensures.2.1 c.args.tail.room q.stage c.requires.real) in
     let e = c.in-Some.ensures f.0 f.1 f.2 in
-    let h = (f.4 c.args.tail.room q.0 c.requires.real).1 c.in-Some.next.room e.0 in
+    let h = (f.4 c.args.tail.room q.stage c.requires.real).1 c.in-Some.next.room e.0 in
     let y = c.exchange.ensures in
     let look : Event _ E = Event.Look (name c.args.seat.now.me.0) in
-    (hands_now c.args.words.now.table_id.slots c.args.tail.room c.in-Some.next.room (look ∷ []) c.args.seat.now.me c.load-link.new.seat.me c.exchange.new.seat.me h.0 q.2 q.3 h y.3 refl).1
+    (hands_now c.args.words.now.table_id.slots c.args.tail.room c.in-Some.next.room (look ∷ []) c.args.seat.now.me
+    c.load-link.new.seat.me c.exchange.new.seat.me h.0 q.named q.near h y.3 refl).1

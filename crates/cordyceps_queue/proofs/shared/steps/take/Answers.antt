@@ -15,7 +15,8 @@ swap-requires g c =
     let t = c.requires.table in (
       search rules,
       search rules,
-      asks_right _ _ _ (q.2 ∙ ap (λ (l : List ℕ). carry l) (sym q.1)) (none_near _ _ q.1) q.3 (may_join c.args.seat.now.me.0 q.1) q.0,
+      asks_right _ _ _ (q.hand ∙ ap (λ (l : List ℕ). carry l) (sym q.back)) (none_near _ _ q.back) q.named
+          (may_join c.args.seat.now.me.0 q.back) q.stage,
     )
 
 pub returns-clause-took : goal.returns-clause-took

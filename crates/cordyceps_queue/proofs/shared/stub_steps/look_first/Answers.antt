@@ -8,13 +8,19 @@ use Rattle.cordyceps_queue.proofs.shared.stub_steps.look_first.Goals as goal
 
 pub load-requires : goal.load-requires
 load-requires g c =
-    let q = c.requires.holding in
-    let t = c.requires.table in (search rules, search rules, reads_stub _ _ _ q.1 (λ i r a. q.3 _ r (at_after _ _ i r a)) q.2 q.5 q.0)
+    let h = c.requires.holding in
+    let q = h.right in
+    let t = c.requires.table in (
+      search rules,
+      search rules,
+      reads_stub _ _ _ q.carries (λ i r a. q.near _ r (at_after _ _ i r a)) q.named h.joins q.stage,
+    )
 
 pub leads_to-requires : goal.leads_to-requires
 leads_to-requires g c =
     let u : RoomUse = record { room = 0; bit = c.args.bit } in
-    let f = reads_for c.args.seat.now.me c.load.new.seat.me u c.load.result _ c.requires.knows (c.load.ensures.2.1 c.requires.holding.0) in
+    let f = reads_for c.args.seat.now.me c.load.new.seat.me u c.load.result _ c.requires.knows
+    (c.load.ensures.2.1 c.requires.holding.right.stage) in
     (f.0, f.1, f.2)
 
 pub returns-clause-answer : goal.returns-clause-answer
@@ -22,8 +28,8 @@ returns-clause-answer g c =
     let m = c.args.seat.now.me in
     let k = c.load.new.seat.me in
     let u : RoomUse = record { room = 0; bit = c.args.bit } in
-    let f = reads_for m k u c.load.result _ c.requires.knows (c.load.ensures.2.1 c.requires.holding.0) in
-    let told = f.4 c.requires.holding.0 in
+    let f = reads_for m k u c.load.result _ c.requires.knows (c.load.ensures.2.1 c.requires.holding.right.stage) in
+    let told = f.4 c.requires.holding.right.stage in
     match_map c.leads_to.result (λ none. told.0 none) (λ r e. told.1 r.room e.0) (c.leads_to.ensures f.0 f.1 f.2)
 
 pub returns-clause-knows : goal.returns-clause-knows
@@ -31,8 +37,9 @@ returns-clause-knows g c =
     let m = c.args.seat.now.me in
     let k = c.load.new.seat.me in
     let u : RoomUse = record { room = 0; bit = c.args.bit } in
-    let f = reads_for m k u c.load.result _ c.requires.knows (c.load.ensures.2.1 c.requires.holding.0) in
+    let f = reads_for m k u c.load.result _ c.requires.knows (c.load.ensures.2.1 c.requires.holding.right.stage) in
     match_map c.leads_to.result
-    (λ none. still_has m k u c.load.ensures.2.0 (subst (λ l. Knows l 0) (sym c.requires.holding.0) refl) c.requires.knows)
+    (λ none. still_has m k u c.load.ensures.2.0 (subst (λ l. Knows l 0) (sym c.requires.holding.right.stage) refl)
+    c.requires.knows)
     (λ r e. f.3 r e.0 e.1)
     (c.leads_to.ensures f.0 f.1 f.2)

@@ -8,9 +8,12 @@ use Rattle.cordyceps_queue.proofs.shared.tries.attempt.Goals as goal
 pub at_end-requires-clause-stage : goal.at_end-requires-clause-stage
 at_end-requires-clause-stage g c =
     let E = g.row.E.Denot in
-    let q = c.requires.holding in
-    let look : Event _ E = Event.Look (name c.args.seat.now.me.0) in
-    (at_stage c.args.words.now.table_id.slots (look ∷ []) (Null c.args.tail.room) c.args.seat.now.me c.look.new.seat.me q.2 q.3 c.in-None.ensures.answer, q.4)
+    let q = c.requires.holding.right in
+    let look : Event _ E = Event.Look (name c.args.seat.now.me.0) in (
+      at_stage c.args.words.now.table_id.slots (look ∷ []) (Null c.args.tail.room) c.args.seat.now.me c.look.new.seat.me
+          q.named q.near c.in-None.ensures.answer,
+      q.inside,
+    )
 
 pub returns-in-None-clause-answer : goal.returns-in-None-clause-answer
 returns-in-None-clause-answer g c =

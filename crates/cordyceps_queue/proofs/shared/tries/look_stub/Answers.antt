@@ -9,10 +9,13 @@ use Rattle.cordyceps_queue.proofs.shared.tries.look_stub.Goals as goal
 pub after_stub-requires-clause-stage : goal.after_stub-requires-clause-stage
 after_stub-requires-clause-stage g c =
     let E = g.row.E.Denot in
-    let q = c.requires.holding in
+    let q = c.requires.holding.right in
     let look : Event _ E = Event.Look (name c.args.seat.now.me.0) in
-    let h = c.in-Some.ensures.answer in
-    (at_stage c.args.words.now.table_id.slots (look ∷ []) (Second (c.in-Some.next.room)) c.args.seat.now.me c.look_first.new.seat.me q.2 q.3 h.0, h.1)
+    let h = c.in-Some.ensures.answer in (
+      at_stage c.args.words.now.table_id.slots (look ∷ []) (Second (c.in-Some.next.room)) c.args.seat.now.me
+          c.look_first.new.seat.me q.named q.near h.0,
+      h.1,
+    )
 
 pub returns-in-Some-clause-answer : goal.returns-in-Some-clause-answer
 returns-in-Some-clause-answer g c =
@@ -24,31 +27,34 @@ returns-in-Some-clause-answer g c =
 pub head_of_stub-requires-clause-stage : goal.head_of_stub-requires-clause-stage
 head_of_stub-requires-clause-stage g c =
     let E = g.row.E.Denot in
-    let q = c.requires.holding in
+    let q = c.requires.holding.right in
     let look : Event _ E = Event.Look (name c.args.seat.now.me.0) in
-    at_stage c.args.words.now.table_id.slots (look ∷ []) StubNull c.args.seat.now.me c.look_first.new.seat.me q.2 q.3 (c.in_default.ensures.answer)
+    at_stage c.args.words.now.table_id.slots (look ∷ []) StubNull c.args.seat.now.me c.look_first.new.seat.me q.named
+    q.near (c.in_default.ensures.answer)
 
 pub returns-then-head_of_stub-eq0-clause-answer : goal.returns-then-head_of_stub-eq0-clause-answer
 returns-then-head_of_stub-eq0-clause-answer g c =
     let E = g.row.E.Denot in
-    let q = c.requires.holding in
+    let q = c.requires.holding.right in
     let slots = c.args.words.now.table_id.slots in
     let look : Event _ E = Event.Look (name c.args.seat.now.me.0) in
     let n = c.in_default.ensures.answer in
-    let at = at_stage slots (look ∷ []) StubNull c.args.seat.now.me c.look_first.new.seat.me q.2 q.3 n in
+    let at = at_stage slots (look ∷ []) StubNull c.args.seat.now.me c.look_first.new.seat.me q.named q.near n in
     tries_then slots (look ∷ []) [] StubNull c.args.seat.now.me c.look_first.new.seat.me c.head_of_stub.new.seat.me 0 Empty n
-    (tries_empty slots 0 c.look_first.new.seat.me c.head_of_stub.new.seat.me at.3 (stage_near _ _ c.look_first.new.seat.me at) q.4 (c.head_of_stub.ensures.stub c.if-head_of_stub-eq0.true))
+    (tries_empty slots 0 c.look_first.new.seat.me c.head_of_stub.new.seat.me at.3
+    (stage_near _ _ c.look_first.new.seat.me at) q.inside (c.head_of_stub.ensures.stub c.if-head_of_stub-eq0.true))
 
 pub returns-clause-answer : goal.returns-clause-answer
 returns-clause-answer g c =
     let E = g.row.E.Denot in
-    let q = c.requires.holding in
+    let q = c.requires.holding.right in
     let slots = c.args.words.now.table_id.slots in
     let look : Event _ E = Event.Look (name c.args.seat.now.me.0) in
     let n = c.in_default.ensures.answer in
-    let at = at_stage slots (look ∷ []) StubNull c.args.seat.now.me c.look_first.new.seat.me q.2 q.3 n in
+    let at = at_stage slots (look ∷ []) StubNull c.args.seat.now.me c.look_first.new.seat.me q.named q.near n in
     tries_then slots (look ∷ []) [] StubNull c.args.seat.now.me c.look_first.new.seat.me c.head_of_stub.new.seat.me 0 Inconsistent n
-    (tries_blocked slots 0 c.look_first.new.seat.me c.head_of_stub.new.seat.me at.3 (stage_near _ _ c.look_first.new.seat.me at) q.4 (c.head_of_stub.ensures.room c.if-head_of_stub-eq0.false))
+    (tries_blocked slots 0 c.look_first.new.seat.me c.head_of_stub.new.seat.me at.3
+    (stage_near _ _ c.look_first.new.seat.me at) q.inside (c.head_of_stub.ensures.room c.if-head_of_stub-eq0.false))
 
 pub returns-in-Some-clause-rooms : goal.returns-in-Some-clause-rooms
 returns-in-Some-clause-rooms g c =

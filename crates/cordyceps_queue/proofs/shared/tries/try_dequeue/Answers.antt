@@ -21,8 +21,11 @@ returns-then-right-eq0-clause-rest g c =
 
 pub returns-then-right-eq0-clause-answer : goal.returns-then-right-eq0-clause-answer
 returns-then-right-eq0-clause-answer g c =
-    let took = subst (λ n. AsksRight c.args.words.now.table_id.slots n c.args.seat.now.me c.take-right.new.seat.me) c.if-right-eq0.true c.take-right.ensures.took in
-    (took.1.2 ∙ (ap (λ l. c.args.seat.now.me.0.free ++ l) c.requires.rest.1 ∙ append-nil c.args.seat.now.me.0.free), took.1.4)
+    let took = subst (λ n. AsksRight c.args.words.now.table_id.slots n c.args.seat.now.me c.take-right.new.seat.me)
+    c.if-right-eq0.true c.take-right.ensures.took in (
+      took.1.2 ∙ (ap (λ l. c.args.seat.now.me.0.free ++ l) c.requires.rest.back ∙ append-nil c.args.seat.now.me.0.free),
+      took.1.4,
+    )
 
 pub advance-tried-requires-clause-table : goal.advance-tried-requires-clause-table
 advance-tried-requires-clause-table g c = (c.take-right.ensures.table ∙ c.requires.table.0, c.requires.table.1)
@@ -42,14 +45,17 @@ returns-then-right-eq0-clause-tracks g c =
     let m = c.args.seat.now.me in
     let k = c.take-right.new.seat.me in
     let took = subst (λ n. AsksRight c.args.words.now.table_id.slots n m k) c.if-right-eq0.true c.take-right.ensures.took in
-    subst (TracksEnd c.args.spare.now) (sym (moved_rooms (Event.Busy (name m.0) ∷ []) Rest m k took.1 ∙ bare_rooms m.0 c.requires.rest.1)) c.requires.tracks
+    subst (TracksEnd c.args.spare.now) (sym (moved_rooms (Event.Busy (name m.0) ∷ []) Rest m k took.1 ∙ bare_rooms m.0
+    c.requires.rest.back)) c.requires.tracks
 
 pub advance-tried-requires-clause-tracks : goal.advance-tried-requires-clause-tracks
 advance-tried-requires-clause-tracks g c =
     let m = c.args.seat.now.me in
     let k = c.take-right.new.seat.me in
     let took = subst (λ n. AsksRight c.args.words.now.table_id.slots n m k) (pred_suc c.take-right.result.room c.if-right-eq0.false) c.take-right.ensures.took in
-    subst (TracksEnd c.args.spare.now) (sym (bare_rooms k.0 took.1.1 ∙ (moved_rooms (Event.Take (name m.0) ∷ []) (Holding (c.take-right.result.room - 1)) m k took.1 ∙ bare_rooms m.0 c.requires.rest.1))) c.requires.tracks
+    subst (TracksEnd c.args.spare.now) (sym (bare_rooms k.0 took.1.1 ∙
+    (moved_rooms (Event.Take (name m.0) ∷ []) (Holding (c.take-right.result.room - 1)) m k took.1 ∙ bare_rooms m.0
+    c.requires.rest.back))) c.requires.tracks
 
 pub returns-clause-tracks : goal.returns-clause-tracks
 returns-clause-tracks g c =

@@ -15,5 +15,7 @@ pub returns : goal.returns
 returns g c =
     let e = c.absorb.ensures in
     let after = standing c.absorb.new.seat.table_id c.absorb.new.seat.me.0 in
-    let t = absorbs c.party.inside.seat.table_id c.other.inside.seat.table_id c.absorb.new.seat.table_id c.party.inside.seat.me c.other.inside.seat.me c.absorb.new.seat.me c.party.invariant.rests.1 c.other.invariant.rests.1 e.table e.absorbed e.known in
+    let t = absorbs c.party.inside.seat.table_id c.other.inside.seat.table_id c.absorb.new.seat.table_id
+    c.party.inside.seat.me c.other.inside.seat.me c.absorb.new.seat.me c.party.invariant.rests.back
+    c.other.invariant.rests.back e.table e.absorbed e.known in
     subst (λ u. Absorbs (λ h. Legal h) u c.args.other after) c.party.view_is (subst (λ o. Absorbs (λ h. Legal h) (standing c.party.inside.seat.table_id c.party.inside.seat.me.0) o after) c.other.view_is t)

@@ -13,5 +13,6 @@ invariant_of-party g c =
 pub returns : goal.returns
 returns g c =
     let e = c.enqueue.ensures in
-    let t = enqueues c.party.inside.seat.table_id c.enqueue.new.seat.table_id c.party.inside.seat.me c.enqueue.new.seat.me c.args.handle c.party.invariant.rests.1 e.rest.1 e.table e.free e.sees in
+    let t = enqueues c.party.inside.seat.table_id c.enqueue.new.seat.table_id c.party.inside.seat.me
+    c.enqueue.new.seat.me c.args.handle c.party.invariant.rests.back e.rest.back e.table e.free e.sees in
     subst (λ u. Enqueues c.args.handle u (standing c.enqueue.new.seat.table_id c.enqueue.new.seat.me.0)) c.party.view_is t

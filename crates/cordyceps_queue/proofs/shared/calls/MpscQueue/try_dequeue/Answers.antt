@@ -21,20 +21,24 @@ returns-clause-answer g c =
     let z' = c.try_dequeue.new.seat.table_id in
     let k = c.try_dequeue.new.seat.me in
     let slots = c.self.inside.rooms.shared.table_id.slots in
-    let bare = c.party.invariant.rests.1 in
+    let bare = c.party.invariant.rests.back in
     elim c.match-try_dequeue.branch [
       | in-Some-Out w ↦
           let d = subst (λ r. Dequeued slots m k r) (w.in-Some-Out.is ∙ ap Some w.in-Some-Out.field-0-is) e.answer in
-          rw w.result-is (subst (λ u. Dequeues (Ok w.in-Some-Out.item) u (standing z' k.0)) c.party.view_is (finds_one z z' slots _ m k _ bare e.rest.1 e.table d))
+          rw w.result-is (subst (λ u. Dequeues (Ok w.in-Some-Out.item) u (standing z' k.0)) c.party.view_is
+          (finds_one z z' slots _ m k _ bare e.rest.back e.table d))
       | in-Some-Empty w ↦
           let d = subst (λ r. Dequeued slots m k r) (w.in-Some-Empty.is ∙ ap Some w.in-Some-Empty.field-0-is) e.answer in
-          rw w.result-is (subst (λ u. Dequeues (Err error.Empty) u (standing z' k.0)) c.party.view_is (finds_empty z z' slots m k bare e.rest.1 e.table d))
+          rw w.result-is (subst (λ u. Dequeues (Err error.Empty) u (standing z' k.0)) c.party.view_is
+          (finds_empty z z' slots m k bare e.rest.back e.table d))
       | in-Some-Inconsistent w ↦
           let d = subst (λ r. Dequeued slots m k r) (w.in-Some-Inconsistent.is ∙ ap Some w.in-Some-Inconsistent.field-0-is) e.answer in
-          rw w.result-is (subst (λ u. Dequeues (Err error.Inconsistent) u (standing z' k.0)) c.party.view_is (finds_blocked z z' slots m k bare e.rest.1 e.table d))
+          rw w.result-is (subst (λ u. Dequeues (Err error.Inconsistent) u (standing z' k.0)) c.party.view_is
+          (finds_blocked z z' slots m k bare e.rest.back e.table d))
       | in-None w ↦
           let d = subst (λ r. Dequeued slots m k r) w.in-None.is e.answer in
-          rw w.result-is (subst (λ u. Dequeues (Err error.Busy) u (standing z' k.0)) c.party.view_is (finds_busy z z' slots m k bare e.rest.1 e.table d))
+          rw w.result-is (subst (λ u. Dequeues (Err error.Busy) u (standing z' k.0)) c.party.view_is
+          (finds_busy z z' slots m k bare e.rest.back e.table d))
     ]
 
 pub returns-clause-whole : goal.returns-clause-whole
@@ -51,7 +55,7 @@ returns-clause-whole g c is =
       | in-Some-Empty w ↦ rw w.result-is tt
       | in-Some-Inconsistent w ↦
           let d = subst (λ r. Dequeued slots m k r) (w.in-Some-Inconsistent.is ∙ ap Some w.in-Some-Inconsistent.field-0-is) e.answer in
-          absurd (whole_clear z z' slots m k _ c.party.invariant e.table c.party.invariant.rests.1 e.rest.1 d all)
+          absurd (whole_clear z z' slots m k _ c.party.invariant e.table c.party.invariant.rests.back e.rest.back d all)
       | in-None w ↦
           let d = subst (λ r. Dequeued slots m k r) w.in-None.is e.answer in
           absurd (whole_right z z' slots m k _ c.party.invariant e.table d all)
