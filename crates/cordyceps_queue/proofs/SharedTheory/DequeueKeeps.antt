@@ -24,7 +24,7 @@ use Rattle.cordyceps_queue.specs.History.{Event, actor}
 use Rattle.cordyceps_shared.specs.Places.{ItemAt}
 use Rattle.cordyceps_queue.specs.Cores.Meets.{Owner, Spare, Shared, Pooled, OwnsRooms, Chain, Owes, tail_of, AtStage, Meets, real}
 use Rattle.cordyceps_queue.specs.Past.{HasLooked, WasBlockedReversed}
-use Rattle.cordyceps_queue.specs.Shared.Plays.{SeatState, Sees, moves_to, hands_out, Blocked}
+use Rattle.cordyceps_queue.specs.Shared.Plays.{SeatState, Sees, MovesTo, HandsOut, Blocked}
 use Rattle.cordyceps_shared.specs.Slots.{Homes, EmptyAtHome}
 use Rattle.cordyceps_queue.specs.Shared.Rule.{TableState, link_of, party, machine_of, FullAtHome, PlainHolds}
 use Rattle.cordyceps_queue.specs.Shared.View.{View, name, cleared_count}
@@ -241,8 +241,16 @@ module _ {E : Type 0} (s : TableState E) (k : PlainHolds s) (id : ℕ) (v : View
         (subst (λ (ws : List ℕ). Becomes s k v out_view record { words = ws; homes = homes_out; views = set s.views id out_view }) (sym (set-get_or s.words i 0)) kept.0, kept.1)
 
   -- ---- what the steps tell
-  pub stood : (es : List (Event Name E)) (stage : Stage) → Sees v es (sees es v.free v.end v.back v.to stage) → moves_to es stage (v, []) (sees es v.free v.end v.back v.to stage, [])
-  stood es stage adds = (refl, bare, sym (ap (λ l. v.free ++ l) bare ∙ append-nil v.free), refl, adds, sym (ap (λ l. end_after v.end l v.to) bare))
+  pub stood : (es : List (Event Name E)) (stage : Stage) → Sees v es (sees es v.free v.end v.back v.to stage)
+      → MovesTo es stage (v, []) (sees es v.free v.end v.back v.to stage, [])
+  stood es stage adds = record {
+    stage = refl;
+    back = bare;
+    free = sym (ap (λ l. v.free ++ l) bare ∙ append-nil v.free);
+    hand = refl;
+    sees = adds;
+    end = sym (ap (λ l. end_after v.end l v.to) bare);
+  }
 
   pub blocked : (es : List (Event Name E)) (stage : Stage) → WasBlockedReversed (name v) (reverse es ++ out_events) → Blocked (sees es v.free v.end v.back v.to stage)
   blocked es stage was = subst (WasBlockedReversed (name v)) (sym (ap (λ z. reverse z) (plain_marked id (k.history ++ of_seat id es)) ∙ (ap (λ z. reverse z) (events_more k.history id es) ∙ reverse-append (events k.history) es))) was
@@ -259,7 +267,7 @@ module _ {E : Type 0} (s : TableState E) (k : PlainHolds s) (id : ℕ) (v : View
 
   -- with the tail's link a room: the element is handed out
   pub hands : (before : List (Event Name E)) (under : Under actor (name v) before) (M : Meets n k.chain (reverse before ++ out_events)) (t r i : ℕ) (has : tail_of v.stage ≡ Some t) (nothing : (a b : ℕ) → Owes v.stage a b → ⊥) (is_real : t ≢ 0) (linked : n.next t ≡ Some r) (slots : ℕ) → length s.homes ≡ slots
-      → Comes i (get_or s.words i 0) (λ _. hands_out before slots t r (v, []))
+      → Comes i (get_or s.words i 0) (λ _. HandsOut before slots t r (v, []))
   hands before under M t r i has nothing is_real linked slots deep =
       let first : ItemAt k.chain.rooms 0 t = (keeping n k.chain (reverse before ++ out_events) M id (party v) there t has).tail in
       let f = tail_full n k.chain (reverse before ++ out_events) M t is_real first in
@@ -271,12 +279,24 @@ module _ {E : Type 0} (s : TableState E) (k : PlainHolds s) (id : ℕ) (v : View
         takes t (Some e),
         k.full 0 t first is_real ∙ ap (λ x. some (some x)) f.3,
         o.0,
-        (e, refl, refl, sym (ap (λ l. v.free ++ l) bare ∙ append-nil v.free), refl, omega arith, omega arith, o.1, (let few = few_rooms s k id v at named in omega arith), sym (ap (λ l. end_after v.end l v.to) bare), refl),
+        record {
+          element = e;
+          stage = refl;
+          back = refl;
+          free = sym (ap (λ l. v.free ++ l) bare ∙ append-nil v.free);
+          hand = refl;
+          near = omega arith;
+          inside = omega arith;
+          sees = o.1;
+          few = let few = few_rooms s k id v at named in omega arith;
+          end = sym (ap (λ l. end_after v.end l v.to) bare);
+          to = refl;
+        },
       )
 
   -- with the tail's link null
   nulls : (before : List (Event Name E)) (under : Under actor (name v) before) (M : Meets n k.chain (reverse before ++ out_events)) (t i : ℕ) (has : tail_of v.stage ≡ Some t) (nothing : (a b : ℕ) → Owes v.stage a b → ⊥) (is_real : t ≢ 0) → HasLooked (name v) (reverse before ++ out_events) → n.next t ≡ None
-      → Comes i (get_or s.words i 0) (λ _. moves_to before (Null t) (v, []))
+      → Comes i (get_or s.words i 0) (λ _. MovesTo before (Null t) (v, []))
   nulls before under M t i has nothing is_real looked open_link =
       let h = reverse before ++ out_events in
       let met = stage_keeps n k.chain h M id (party v) there t has (Null t) refl (λ a b o. absurd (nothing a b o)) (
@@ -288,7 +308,8 @@ module _ {E : Type 0} (s : TableState E) (k : PlainHolds s) (id : ℕ) (v : View
 
   -- the read of a tail's link that is no stub
   abbrev pub ReadsTail : List (Event Name E) → ℕ → ℕ → ℕ → SeatState E → Type 0
-  ReadsTail before slots t found w = (found ≡ 0 → moves_to before (Null t) (v, []) w) × ((r : ℕ) → found ≡ suc r → hands_out before slots t r (v, []) w)
+  ReadsTail before slots t found w = (found ≡ 0 → MovesTo before (Null t) (v, []) w)
+      × ((r : ℕ) → found ≡ suc r → HandsOut before slots t r (v, []) w)
 
   pub reading : (before : List (Event Name E)) (under : Under actor (name v) before) (M : Meets n k.chain (reverse before ++ out_events)) (t i : ℕ) (has : tail_of v.stage ≡ Some t) (nothing : (a b : ℕ) → Owes v.stage a b → ⊥) (is_real : t ≢ 0) → HasLooked (name v) (reverse before ++ out_events)
       → i ≡ LINKS + t → (slots : ℕ) → length s.homes ≡ slots → (x : ℕ) → get_or s.words i 0 ≡ x → Comes i (get_or s.words i 0) (ReadsTail before slots t)
@@ -301,8 +322,17 @@ module _ {E : Type 0} (s : TableState E) (k : PlainHolds s) (id : ℕ) (v : View
       sum a = omega arith
   reading before under M t i has nothing is_real looked is slots deep (suc r) e =
       let here_is : word.next s.words t ≡ get_or s.words i 0 = ap (λ q. get_or s.words q 0) (sum is) in
-      let c = hands before under M t r i has nothing is_real (ap link_of (here_is ∙ e)) slots deep in
-      (c.0, c.1, c.2, c.3, ((λ f. absurd (suc_zero (sym e ∙ f))), λ r' f. subst (λ q. hands_out before slots t q (v, []) (c.0, carried_after [] c.1)) (suc_inj (sym e ∙ f)) c.4))
+      let c = hands before under M t r i has nothing is_real (ap link_of (here_is ∙ e)) slots deep in (
+        c.0,
+        c.1,
+        c.2,
+        c.3,
+        (
+          (λ f. absurd (suc_zero (sym e ∙ f))),
+          λ r' f. subst
+              (λ q. HandsOut before slots t q (v, []) (c.0, carried_after [] c.1)) (suc_inj (sym e ∙ f)) c.4,
+        ),
+      )
     where
       sum : i ≡ LINKS + t → LINKS + t ≡ i
       sum a = omega arith

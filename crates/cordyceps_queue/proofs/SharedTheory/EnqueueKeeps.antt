@@ -231,7 +231,17 @@ module _ {E : Type 0} where
         λ r' rs' e' free' item'.
             let p : r ∷ rs ≡ r' ∷ rs' = sym free ∙ free' in
             let q : e ≡ e' = some_inj (sym chosen ∙ item') in
-            (ap (λ (l : List ℕ). Cleared (first_or 0 l)) p, ap Some q, ap rest_from p, sym bare, ap (λ (l : List ℕ). let y : Option E = None in (first_or 0 l, y) ∷ me.1) p, subst (λ n. n < slots) (ap (first_or 0) p) near, c.1, refl, ap (λ n. get_or s.words n 0) is ∙ (linked.0 ∙ ap (λ l. leads l me.0.end) (ap rest_from p))),
+            record {
+              stage = ap (λ (l : List ℕ). Cleared (first_or 0 l)) p;
+              item = ap Some q;
+              free = ap rest_from p;
+              back = sym bare;
+              hand = ap (λ (l : List ℕ). let y : Option E = None in (first_or 0 l, y) ∷ me.1) p;
+              near = subst (λ n. n < slots) (ap (first_or 0) p) near;
+              sees = c.1;
+              end = refl;
+              next_is = ap (λ n. get_or s.words n 0) is ∙ (linked.0 ∙ ap (λ l. leads l me.0.end) (ap rest_from p));
+            },
       )
 
   pub swaps : (slots id : ℕ) (me : SeatState E) (r : ℕ) (e : E) (cs : Hand E) → me.0.stage ≡ Cleared r → me.0.item ≡ Some e → me.1 ≡ (r, Some e) ∷ cs → r < slots → me.0.known.share ≢ []
@@ -248,7 +258,15 @@ module _ {E : Type 0} where
             let p : Cleared r ≡ Cleared r' = sym ready ∙ ready' in
             let q : e ≡ e' = some_inj (sym item ∙ item') in
             let h = head_near s k in
-            (ap (λ l. Swapped (room_of l) (word.head s.words)) p, refl, refl, ap rest hand', omega arith, subst (λ x. Sees me.0 (Event.Swap (name me.0) x ∷ []) w) q c.1, refl),
+            record {
+              stage = ap (λ l. Swapped (room_of l) (word.head s.words)) p;
+              free = refl;
+              back = refl;
+              hand = ap rest hand';
+              near = omega arith;
+              sees = subst (λ x. Sees me.0 (Event.Swap (name me.0) x ∷ []) w) q c.1;
+              end = refl;
+            },
       )
 
   pub links_on : (slots id i n : ℕ) (me : SeatState E) (r old : ℕ) → i ≡ LINKS + old → n ≡ r + 1 → me.0.stage ≡ Swapped r old → old < slots → me.0.known.share ≢ []
@@ -263,7 +281,7 @@ module _ {E : Type 0} where
         keeps,
         tt,
         subst (λ (q : ℕ × ℕ). Becomes s k me.0 w record { words = set s.words q.0 q.1; homes = s.homes; views = set s.views id w }) (λ j. (same j, same_n j)) c.0,
-        λ _ _ _. (refl, refl, refl, refl, c.1, refl),
+        λ _ _ _. record { stage = refl; free = refl; back = refl; hand = refl; sees = c.1; end = refl },
       )
 
   -- the three steps in one

@@ -11,7 +11,7 @@ use Rattle.cordyceps_queue.specs.declared.cores.stage.Stage.{Stage}
 use Rattle.cordyceps_queue.specs.declared.cores.stage.Stage.TheVariants.{Rest, Holding, Second, Null}
 use Rattle.cordyceps_queue.specs.History.{Event}
 use Rattle.cordyceps_queue.specs.Cores.Meets.{Owes, tail_of, AtStage, Real, Meets}
-use Rattle.cordyceps_queue.specs.Shared.Plays.{SeatState, carry, moves_to, hands_out}
+use Rattle.cordyceps_queue.specs.Shared.Plays.{SeatState, carry, MovesTo, HandsOut}
 use Rattle.cordyceps_queue.specs.Shared.Plays as play
 use Rattle.cordyceps_queue.specs.Shared.Rule.{TableState, link_of, party, PlainHolds}
 use Rattle.cordyceps_shared.specs.FreeChains.{MayJoin}
@@ -64,7 +64,12 @@ module _ {E : Type 0} (s : TableState E) (k : PlainHolds s) (id : ℕ) (v : View
           keeps,
           tt,
           r.0,
-          λ _. ((λ f. absurd (suc_zero (sym e ∙ f))), λ t' f. subst (λ q. moves_to (x ∷ []) (Holding q) (v, []) (w, []) × (q < slots)) (suc_inj (sym e ∙ f)) (stood s k id v at named bare (x ∷ []) (Holding t) r.1, omega arith)),
+          λ _. (
+            (λ f. absurd (suc_zero (sym e ∙ f))),
+            λ t' f. subst
+                (λ q. MovesTo (x ∷ []) (Holding q) (v, []) (w, []) × (q < slots)) (suc_inj (sym e ∙ f))
+                (stood s k id v at named bare (x ∷ []) (Holding t) r.1, omega arith),
+          ),
         )
 
   -- ---- the reads of a link, and the store of the right
@@ -78,7 +83,8 @@ module _ {E : Type 0} (s : TableState E) (k : PlainHolds s) (id : ℕ) (v : View
     pub looked_on : Meets core k.chain (Event.Look (name v) ∷ gone_by)
     looked_on = tell_keeps core k.chain gone_by k.meets id (party v) is_there t has (Event.Look (name v)) holding (keeping core k.chain gone_by k.meets id (party v) is_there t has).held_by refl refl (λ q s. s) (λ q n w. w)
 
-    gives_bare : (n' : ℕ) → n' ≡ t + 1 → Comes s k id v at named bare RIGHT n' (λ _. moves_to (Event.Free (name v) ∷ []) Rest (v, []))
+    gives_bare : (n' : ℕ) → n' ≡ t + 1 → Comes s k id v at named bare RIGHT n'
+        (λ _. MovesTo (Event.Free (name v) ∷ []) Rest (v, []))
     gives_bare n' is =
         let x : Event Name E = Event.Free (name v) in
         let r = rights s k id v at named bare (x ∷ []) (refl, tt) Rest (chain_after_give core k.chain gone_by k.meets id (party v) is_there t holding) (suc t)

@@ -15,7 +15,7 @@ use Rattle.cordyceps_queue.specs.Shared.Parts.{AsksRight, Tries, Dequeued}
 use Rattle.cordyceps_queue.specs.History.{Event, actor}
 use Rattle.cordyceps_shared.specs.Places.{ItemAt}
 use Rattle.cordyceps_shared.specs.Slots.{Near, TableStep, Hand}
-use Rattle.cordyceps_queue.specs.Shared.Plays.{SeatState, LegalReversed, carry, moves_to, hands_out, HandsOneOut}
+use Rattle.cordyceps_queue.specs.Shared.Plays.{SeatState, LegalReversed, carry, MovesTo, HandsOut, HandsOneOut}
 use Rattle.cordyceps_queue.specs.Shared.Plays.{IsResting, Holds, IsHolding, IsAtStage, Blocked, after_take}
 use Rattle.cordyceps_queue.specs.Shared.View.{View, name, free_chain, back_chain, all_rooms}
 
@@ -45,11 +45,13 @@ module _ {E : Type 0} where
   pub bare_rooms : (v : View E) → v.back ≡ [] → all_rooms v ≡ free_chain v
   bare_rooms v bare = (λ i. let c : FreeChain = record { rooms = v.free ++ bare i; end = end_after v.end (bare i) v.to } in c) ∙ (λ i. let c : FreeChain = record { rooms = append-nil v.free i; end = v.end } in c)
 
-  pub moved_rooms : (es : List (Event Name E)) (p : Stage) (m k : SeatState E) → moves_to es p m k → free_chain k.0 ≡ all_rooms m.0
-  moved_rooms es p m k a i = record { rooms = a.2 i; end = a.5 i }
+  pub moved_rooms : (es : List (Event Name E)) (p : Stage) (m k : SeatState E) → MovesTo es p m k
+      → free_chain k.0 ≡ all_rooms m.0
+  moved_rooms es p m k a i = record { rooms = a.free i; end = a.end i }
 
-  pub moved_then : (es : List (Event Name E)) (p : Stage) (m k l : SeatState E) → moves_to es p m k → free_chain l.0 ≡ all_rooms k.0 → free_chain l.0 ≡ all_rooms m.0
-  moved_then es p m k l a e = e ∙ (bare_rooms k.0 a.1 ∙ moved_rooms es p m k a)
+  pub moved_then : (es : List (Event Name E)) (p : Stage) (m k l : SeatState E) → MovesTo es p m k
+      → free_chain l.0 ≡ all_rooms k.0 → free_chain l.0 ≡ all_rooms m.0
+  moved_then es p m k l a e = e ∙ (bare_rooms k.0 a.back ∙ moved_rooms es p m k a)
 
   -- the party has no slot in hand, so nothing has to be linked
   pub may_join : (v : View E) → v.back ≡ [] → MayJoin (free_chain v) (back_chain v)
@@ -59,63 +61,86 @@ module _ {E : Type 0} where
   takes_by st m k q zero t =
       let b = (t q.stage).0 refl in
       let rests : IsResting st.slots k = record {
-        stage = b.0;
-        back = b.1;
-        hand = b.3;
-        named = λ e. q.named (sym b.4.share ∙ e);
-        near = near_all st.slots m.0.free m.0.back k.0.free q.back b.2 q.near;
+        stage = b.stage;
+        back = b.back;
+        hand = b.hand;
+        named = λ e. q.named (sym b.sees.share ∙ e);
+        near = near_all st.slots m.0.free m.0.back k.0.free q.back b.free q.near;
       } in
       (rests, b)
   takes_by st m k q (suc u) t =
       let h = (t q.stage).1 u refl in
       let b = h.0 in
-      let near = near_all st.slots m.0.free m.0.back k.0.free q.back b.2 q.near in
+      let near = near_all st.slots m.0.free m.0.back k.0.free q.back b.free q.near in
       let right : Holds st.slots u k = record {
-        stage = b.0;
-        carries = b.3 ∙ ap (λ (l : List ℕ). carry l) (sym b.1);
-        named = λ e. q.named (sym b.4.share ∙ e);
-        near = near_parts st.slots k.0.free k.0.free k.0.back refl b.1 near;
+        stage = b.stage;
+        carries = b.hand ∙ ap (λ (l : List ℕ). carry l) (sym b.back);
+        named = λ e. q.named (sym b.sees.share ∙ e);
+        near = near_parts st.slots k.0.free k.0.free k.0.back refl b.back near;
         inside = h.1;
       } in
-      (record { right = right; joins = may_join k.0 b.1 }, b)
+      (record { right = right; joins = may_join k.0 b.back }, b)
 
   -- one step after another, where no slot is in hand between them
-  pub moves_in_turn : (es fs : List (Event Name E)) (p q : Stage) (m k l : SeatState E) → moves_to es p m k → moves_to fs q k l → moves_to (es ++ fs) q m l
-  moves_in_turn es fs p q m k l a b = (
-    b.0,
-    b.1,
-    b.2 ∙ (ap (λ xs. k.0.free ++ xs) a.1 ∙ (append-nil k.0.free ∙ a.2)),
-    b.3,
-    grown_then actor LegalReversed m.0.known k.0.known l.0.known es fs a.4 b.4,
-    b.5 ∙ (ap (λ xs. end_after k.0.end xs k.0.to) a.1 ∙ a.5),
-  )
+  pub moves_in_turn : (es fs : List (Event Name E)) (p q : Stage) (m k l : SeatState E) → MovesTo es p m k
+      → MovesTo fs q k l → MovesTo (es ++ fs) q m l
+  moves_in_turn es fs p q m k l a b = record {
+    stage = b.stage;
+    back = b.back;
+    free = b.free ∙ (ap (λ xs. k.0.free ++ xs) a.back ∙ (append-nil k.0.free ∙ a.free));
+    hand = b.hand;
+    sees = grown_then actor LegalReversed m.0.known k.0.known l.0.known es fs a.sees b.sees;
+    end = b.end ∙ (ap (λ xs. end_after k.0.end xs k.0.to) a.back ∙ a.end);
+  }
 
-  holds_still : (slots t : ℕ) (es : List (Event Name E)) (m k : SeatState E) → m.0.known.share ≢ [] → Near slots (m.0.free ++ m.0.back) → t < slots → moves_to es (Holding t) m k → IsHolding slots t k
+  holds_still : (slots t : ℕ) (es : List (Event Name E)) (m k : SeatState E) → m.0.known.share ≢ []
+      → Near slots (m.0.free ++ m.0.back) → t < slots → MovesTo es (Holding t) m k → IsHolding slots t k
   holds_still slots t es m k named near inside a =
       let right : Holds slots t k = record {
-        stage = a.0;
-        carries = a.3 ∙ ap (λ (l : List ℕ). carry l) (sym a.1);
-        named = λ e. named (sym a.4.share ∙ e);
-        near = near_parts slots (m.0.free ++ m.0.back) k.0.free k.0.back a.2 a.1 near;
+        stage = a.stage;
+        carries = a.hand ∙ ap (λ (l : List ℕ). carry l) (sym a.back);
+        named = λ e. named (sym a.sees.share ∙ e);
+        near = near_parts slots (m.0.free ++ m.0.back) k.0.free k.0.back a.free a.back near;
         inside = inside;
       } in
-      record { right = right; joins = may_join k.0 a.1 }
+      record { right = right; joins = may_join k.0 a.back }
 
   -- what a try came to, after more events
-  pub tries_then : (slots : ℕ) (es fs : List (Event Name E)) (p : Stage) (m k l : SeatState E) (t : ℕ) (r : Tried E) → moves_to es p m k → Tries fs slots k l t r → Tries (es ++ fs) slots m l t r
+  pub tries_then : (slots : ℕ) (es fs : List (Event Name E)) (p : Stage) (m k l : SeatState E) (t : ℕ) (r : Tried E)
+      → MovesTo es p m k → Tries fs slots k l t r → Tries (es ++ fs) slots m l t r
   tries_then slots es fs p m k l t (Out room e) a T =
       let h = T in
-      let rename = subst (λ n. Grown actor LegalReversed k.0.known (fs ++ Event.Out n e ∷ []) l.0.known) (ap first_name a.4.share) h.3 in
+      let rename = subst (λ n. Grown actor LegalReversed k.0.known (fs ++ Event.Out n e ∷ []) l.0.known)
+      (ap first_name a.sees.share) h.3 in
       let out : List (Event Name E) = Event.Out (name m.0) e ∷ [] in
-      (h.0, h.1, h.2 ∙ (ap (λ xs. k.0.free ++ xs) a.1 ∙ (append-nil k.0.free ∙ a.2)), subst (λ xs. Grown actor LegalReversed m.0.known xs l.0.known) (sym (append_assoc es fs out)) (grown_then actor LegalReversed m.0.known k.0.known l.0.known es (fs ++ out) a.4 rename), h.4, h.5)
+      let sees = grown_then actor LegalReversed m.0.known k.0.known l.0.known es (fs ++ out) a.sees rename in (
+        h.0,
+        h.1,
+        h.2 ∙ (ap (λ xs. k.0.free ++ xs) a.back ∙ (append-nil k.0.free ∙ a.free)),
+        subst (λ xs. Grown actor LegalReversed m.0.known xs l.0.known) (sym (append_assoc es fs out)) sees,
+        h.4,
+        h.5,
+      )
   tries_then slots es fs p m k l t Empty a T =
-      let end : Name → List (Event Name E) = λ n. Event.Empty n ∷ [] in
-      (T.0, subst (λ xs. moves_to xs (Holding t) m l) (sym (append_assoc es fs (end (name k.0))) ∙ ap (λ n. (es ++ fs) ++ end n) (ap first_name a.4.share)) (moves_in_turn es (fs ++ end (name k.0)) p (Holding t) m k l a T.1))
+      let end : Name → List (Event Name E) = λ n. Event.Empty n ∷ [] in (
+        T.0,
+        subst (λ xs. MovesTo xs (Holding t) m l) (sym (append_assoc es fs (end (name k.0)))
+            ∙ ap (λ n. (es ++ fs) ++ end n) (ap first_name a.sees.share))
+            (moves_in_turn es (fs ++ end (name k.0)) p (Holding t) m k l a T.1),
+      )
   tries_then slots es fs p m k l t Inconsistent a T = (T.0, moves_in_turn es fs p (Holding t) m k l a T.1, T.2)
 
   -- the stage of a party after a step
-  pub at_stage : (slots : ℕ) (es : List (Event Name E)) (p : Stage) (m k : SeatState E) → m.0.known.share ≢ [] → Near slots (m.0.free ++ m.0.back) → moves_to es p m k → IsAtStage slots p k
-  at_stage slots es p m k named near a = (a.0, a.1, a.3, (λ e. named (sym a.4.share ∙ e)), subst (Near slots) (sym a.2) near)
+  pub at_stage : (slots : ℕ) (es : List (Event Name E)) (p : Stage) (m k : SeatState E) → m.0.known.share ≢ []
+      → Near slots (m.0.free ++ m.0.back) → MovesTo es p m k
+      → IsAtStage slots p k
+  at_stage slots es p m k named near a = (
+    a.stage,
+    a.back,
+    a.hand,
+    (λ e. named (sym a.sees.share ∙ e)),
+    subst (Near slots) (sym a.free) near,
+  )
 
   -- what the next step asks, of a party at a stage
   pub stage_near : (slots : ℕ) (p : Stage) (m : SeatState E) → IsAtStage slots p m → Near slots (m.0.free ++ m.0.back)
@@ -125,27 +150,32 @@ module _ {E : Type 0} where
   stage_hand slots p m q = q.2 ∙ ap (λ (l : List ℕ). carry l) (sym q.1)
 
   -- the slot was emptied after the only step
-  pub hands_now : (slots t r : ℕ) (fs : List (Event Name E)) (m l o : SeatState E) (e : E) → m.0.known.share ≢ [] → Near slots (m.0.free ++ m.0.back) → (h : hands_out fs slots t r m l) → o ≡ (l.0, (t, None) ∷ rest l.1) → h.0 ≡ e → HandsOneOut fs slots t r e m o × (free_chain o.0 ≡ all_rooms m.0)
+  pub hands_now : (slots t r : ℕ) (fs : List (Event Name E)) (m l o : SeatState E) (e : E) → m.0.known.share ≢ []
+      → Near slots (m.0.free ++ m.0.back) → (h : HandsOut fs slots t r m l) → o ≡ (l.0, (t, None) ∷ rest l.1)
+      → h.element ≡ e → HandsOneOut fs slots t r e m o × (free_chain o.0 ≡ all_rooms m.0)
   hands_now slots t r fs m l o e named near h y same =
       let view = ap (λ (z : SeatState E). z.0) y in
-      let backs = ap (λ (v : View E). v.back) view ∙ h.2 in
-      let frees = ap (λ (v : View E). v.free) view ∙ h.3 in
-      let ends = ap (λ (v : View E). v.end) view ∙ h.9 in
-      let hand : o.1 ≡ carry o.0.back = ap (λ (z : SeatState E). z.1) y ∙ (ap (λ z. (t, None) ∷ rest z) h.4 ∙ ap (λ (xs : List ℕ). carry xs) (sym backs)) in
-      let all : Near slots (o.0.free ++ o.0.back) = subst (Near slots) (λ j. sym frees j ++ sym backs j) (near_append slots (m.0.free ++ m.0.back) (t ∷ []) near (near_one slots t h.5)) in (
+      let backs = ap (λ (v : View E). v.back) view ∙ h.back in
+      let frees = ap (λ (v : View E). v.free) view ∙ h.free in
+      let ends = ap (λ (v : View E). v.end) view ∙ h.end in
+      let hand : o.1 ≡ carry o.0.back = ap (λ (z : SeatState E). z.1) y
+      ∙ (ap (λ z. (t, None) ∷ rest z) h.hand ∙ ap (λ (xs : List ℕ). carry xs) (sym backs)) in
+      let all : Near slots (o.0.free ++ o.0.back) = subst (Near slots) (λ j. sym frees j ++ sym backs j)
+      (near_append slots (m.0.free ++ m.0.back) (t ∷ []) near (near_one slots t h.near)) in (
         (
           record {
-            stage = ap (λ (v : View E). v.stage) view ∙ h.1;
+            stage = ap (λ (v : View E). v.stage) view ∙ h.stage;
             carries = hand;
-            named = λ x. named (sym h.7.share ∙ (sym (ap (λ (v : View E). v.known.share) view) ∙ x));
+            named = λ x. named (sym h.sees.share ∙ (sym (ap (λ (v : View E). v.known.share) view) ∙ x));
             near = all;
-            inside = h.6;
+            inside = h.inside;
           },
           backs,
           frees,
-          subst (λ (z : View E × E). Grown actor LegalReversed m.0.known (fs ++ Event.Out (name m.0) z.1 ∷ []) z.0.known) (λ j. (sym view j, same j)) h.7,
-          subst (λ (z : View E). length z.free ≤ slots) (sym view) h.8,
-          ap (λ (v : View E). v.to) view ∙ h.10,
+          subst (λ (z : View E × E). Grown actor LegalReversed m.0.known (fs ++ Event.Out (name m.0) z.1 ∷ [])
+              z.0.known) (λ j. (sym view j, same j)) h.sees,
+          subst (λ (z : View E). length z.free ≤ slots) (sym view) h.few,
+          ap (λ (v : View E). v.to) view ∙ h.to,
         ),
         (λ i. let c : FreeChain = record { rooms = frees i; end = ends i } in c),
       )
@@ -157,52 +187,72 @@ module _ {E : Type 0} where
   three_still m k l o bare one to_one two to_two last = last ∙ (ap (λ z. l.0.free ++ z) two ∙ (append-nil l.0.free ∙ (to_two ∙ still m k bare one to_one)))
 
   -- a whole try
-  pub whole_try : (slots u t : ℕ) (m k l o : SeatState E) (r : Tried E) → IsResting slots m → moves_to (Event.Take (name m.0) ∷ []) (Holding u) m k → Tries (Event.Look (name k.0) ∷ []) slots k l t r → moves_to (Event.Free (name l.0) ∷ []) Rest l o → Dequeued slots m o (Some r)
+  pub whole_try : (slots u t : ℕ) (m k l o : SeatState E) (r : Tried E) → IsResting slots m
+      → MovesTo (Event.Take (name m.0) ∷ []) (Holding u) m k → Tries (Event.Look (name k.0) ∷ []) slots k l t r
+      → MovesTo (Event.Free (name l.0) ∷ []) Rest l o → Dequeued slots m o (Some r)
   whole_try slots u t m k l o (Out room e) q a T b =
       let h = T in
-      let first : name k.0 ≡ name m.0 = ap first_name a.4.share in
+      let first : name k.0 ≡ name m.0 = ap first_name a.sees.share in
       let second : name l.0 ≡ name m.0 = ap first_name h.3.share ∙ first in
       let x = subst (λ n. Grown actor LegalReversed k.0.known (Event.Look n ∷ Event.Out n e ∷ []) l.0.known) first h.3 in
-      let y = subst (λ n. Grown actor LegalReversed l.0.known (Event.Free n ∷ []) o.0.known) second b.4 in
+      let y = subst (λ n. Grown actor LegalReversed l.0.known (Event.Free n ∷ []) o.0.known) second b.sees in
       let n = name m.0 in
-      let same = still m k q.back a.1 a.2 in (
-        b.2 ∙ (λ j. (h.2 ∙ same) j ++ h.1 j),
-        grown_then actor LegalReversed m.0.known k.0.known o.0.known (Event.Take n ∷ []) (Event.Look n ∷ Event.Out n e ∷ Event.Free n ∷ []) a.4 (grown_then actor LegalReversed k.0.known l.0.known o.0.known (Event.Look n ∷ Event.Out n e ∷ []) (Event.Free n ∷ []) x y),
+      let same = still m k q.back a.back a.free in (
+        b.free ∙ (λ j. (h.2 ∙ same) j ++ h.1 j),
+        grown_then actor LegalReversed m.0.known k.0.known o.0.known (Event.Take n ∷ [])
+            (Event.Look n ∷ Event.Out n e ∷ Event.Free n ∷ []) a.sees
+            (grown_then actor LegalReversed k.0.known l.0.known o.0.known (Event.Look n ∷ Event.Out n e ∷ [])
+            (Event.Free n ∷ []) x y),
         subst (λ (xs : List ℕ). length xs ≤ slots) (h.2 ∙ same) h.4,
       )
   whole_try slots u t m k l o Empty q a T b =
       let h = T.1 in
-      let first : name k.0 ≡ name m.0 = ap first_name a.4.share in
-      let second : name l.0 ≡ name m.0 = ap first_name h.4.share ∙ first in
-      let x = subst (λ n. Grown actor LegalReversed k.0.known (Event.Look n ∷ Event.Empty n ∷ []) l.0.known) first h.4 in
-      let y = subst (λ n. Grown actor LegalReversed l.0.known (Event.Free n ∷ []) o.0.known) second b.4 in
+      let first : name k.0 ≡ name m.0 = ap first_name a.sees.share in
+      let second : name l.0 ≡ name m.0 = ap first_name h.sees.share ∙ first in
+      let x = subst (λ n. Grown actor LegalReversed k.0.known (Event.Look n ∷ Event.Empty n ∷ []) l.0.known) first
+      h.sees in
+      let y = subst (λ n. Grown actor LegalReversed l.0.known (Event.Free n ∷ []) o.0.known) second b.sees in
       let n = name m.0 in (
-        three_still m k l o q.back a.1 a.2 h.1 h.2 b.2,
-        grown_then actor LegalReversed m.0.known k.0.known o.0.known (Event.Take n ∷ []) (Event.Look n ∷ Event.Empty n ∷ Event.Free n ∷ []) a.4 (grown_then actor LegalReversed k.0.known l.0.known o.0.known (Event.Look n ∷ Event.Empty n ∷ []) (Event.Free n ∷ []) x y),
+        three_still m k l o q.back a.back a.free h.back h.free b.free,
+        grown_then actor LegalReversed m.0.known k.0.known o.0.known (Event.Take n ∷ [])
+            (Event.Look n ∷ Event.Empty n ∷ Event.Free n ∷ []) a.sees
+            (grown_then actor LegalReversed k.0.known l.0.known o.0.known (Event.Look n ∷ Event.Empty n ∷ [])
+            (Event.Free n ∷ []) x y),
       )
   whole_try slots u t m k l o Inconsistent q a T b =
       let h = T.1 in
-      let first : name k.0 ≡ name m.0 = ap first_name a.4.share in
-      let second : name l.0 ≡ name m.0 = ap first_name h.4.share ∙ first in
-      let x = subst (λ n. Grown actor LegalReversed k.0.known (Event.Look n ∷ []) l.0.known) first h.4 in
-      let y = subst (λ n. Grown actor LegalReversed l.0.known (Event.Free n ∷ []) o.0.known) second b.4 in
+      let first : name k.0 ≡ name m.0 = ap first_name a.sees.share in
+      let second : name l.0 ≡ name m.0 = ap first_name h.sees.share ∙ first in
+      let x = subst (λ n. Grown actor LegalReversed k.0.known (Event.Look n ∷ []) l.0.known) first h.sees in
+      let y = subst (λ n. Grown actor LegalReversed l.0.known (Event.Free n ∷ []) o.0.known) second b.sees in
       let n = name m.0 in (
-        three_still m k l o q.back a.1 a.2 h.1 h.2 b.2,
-        (l.0, grown_then actor LegalReversed m.0.known k.0.known l.0.known (Event.Take n ∷ []) (Event.Look n ∷ []) a.4 x, T.2, y),
+        three_still m k l o q.back a.back a.free h.back h.free b.free,
+        (
+          l.0,
+          grown_then actor LegalReversed m.0.known k.0.known l.0.known (Event.Take n ∷ []) (Event.Look n ∷ [])
+              a.sees x,
+          T.2,
+          y,
+        ),
       )
 
   -- ---- the element is taken out of the slot in hand
   same_element : (t : ℕ) (hand : Hand E) (e x : E) → hand ≡ (t, Some e) ∷ [] → hand ≡ (t, Some x) ∷ [] → e ≡ x
   same_element t hand e x a b = ap (some_or x) (ap (hand_of x) (sym a ∙ b))
 
-  pub hands_taken : (slots t r : ℕ) (fs : List (Event Name E)) (m l o : SeatState E) (x : E) → m.0.known.share ≢ [] → Near slots (m.0.free ++ m.0.back) → hands_out fs slots t r m l → l.1 ≡ (t, Some x) ∷ [] → o ≡ (l.0, (t, None) ∷ [])
+  pub hands_taken : (slots t r : ℕ) (fs : List (Event Name E)) (m l o : SeatState E) (x : E) → m.0.known.share ≢ []
+      → Near slots (m.0.free ++ m.0.back) → HandsOut fs slots t r m l → l.1 ≡ (t, Some x) ∷ []
+      → o ≡ (l.0, (t, None) ∷ [])
       → HandsOneOut fs slots t r x m o × (free_chain o.0 ≡ all_rooms m.0)
   hands_taken slots t r fs m l o x named near h came left =
-      hands_now slots t r fs m l o x named near h (left ∙ ap (λ z. (l.0, (t, None) ∷ z)) (sym (ap rest h.4))) (same_element t l.1 h.0 x h.4 came)
+      hands_now slots t r fs m l o x named near h (left ∙ ap (λ z. (l.0, (t, None) ∷ z)) (sym (ap rest h.hand)))
+      (same_element t l.1 h.element x h.hand came)
 
   -- a try that came to nothing, since its look was blocked
-  pub tries_blocked : (slots t : ℕ) (m k : SeatState E) → m.0.known.share ≢ [] → Near slots (m.0.free ++ m.0.back) → t < slots → moves_to [] (Holding t) m k × Blocked k.0 → Tries [] slots m k t Inconsistent
+  pub tries_blocked : (slots t : ℕ) (m k : SeatState E) → m.0.known.share ≢ [] → Near slots (m.0.free ++ m.0.back)
+      → t < slots → MovesTo [] (Holding t) m k × Blocked k.0 → Tries [] slots m k t Inconsistent
   tries_blocked slots t m k named near inside a = (holds_still slots t [] m k named near inside a.0, a.0, a.1)
 
-  pub tries_empty : (slots t : ℕ) (m k : SeatState E) → m.0.known.share ≢ [] → Near slots (m.0.free ++ m.0.back) → t < slots → moves_to (Event.Empty (name m.0) ∷ []) (Holding t) m k → Tries [] slots m k t Empty
+  pub tries_empty : (slots t : ℕ) (m k : SeatState E) → m.0.known.share ≢ [] → Near slots (m.0.free ++ m.0.back)
+      → t < slots → MovesTo (Event.Empty (name m.0) ∷ []) (Holding t) m k → Tries [] slots m k t Empty
   tries_empty slots t m k named near inside a = (holds_still slots t (Event.Empty (name m.0) ∷ []) m k named near inside a, a)

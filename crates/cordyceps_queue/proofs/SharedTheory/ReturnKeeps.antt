@@ -21,7 +21,7 @@ use Rattle.cordyceps_shared.specs.Shares.{Name}
 use Rattle.cordyceps_queue.specs.declared.cores.stage.Stage.{Stage}
 use Rattle.cordyceps_queue.specs.declared.cores.stage.Stage.TheVariants.{Cleared}
 use Rattle.cordyceps_queue.specs.Cores.Meets.{Spare, Meets}
-use Rattle.cordyceps_queue.specs.Shared.Plays.{SeatState, carry, moves_to, hands_out}
+use Rattle.cordyceps_queue.specs.Shared.Plays.{SeatState, carry, MovesTo, HandsOut}
 use Rattle.cordyceps_shared.specs.Slots.{Near, Homes, EmptyAtHome, Hand}
 use Rattle.cordyceps_queue.specs.Shared.Rule.{TableState, link_of, party, machine_of, PlainHolds}
 use Rattle.cordyceps_queue.specs.Shared.View.{View, knows, name, free_chain, back_chain, view_returned}
@@ -173,8 +173,29 @@ module _ {E : Type 0} where
       )
 
   -- what a step comes to from there is what it comes to from here
-  pub moved_on : (me k : SeatState E) (es : List (Event Name E)) (p : Stage) → moves_to es p (view_returned me.0, []) k → moves_to es p me k
-  moved_on me k es p a = (a.0, a.1, a.2 ∙ append-nil (me.0.free ++ me.0.back), a.3, a.4, a.5)
+  pub moved_on : (me k : SeatState E) (es : List (Event Name E)) (p : Stage) → MovesTo es p (view_returned me.0, []) k
+      → MovesTo es p me k
+  moved_on me k es p a = record {
+    stage = a.stage;
+    back = a.back;
+    free = a.free ∙ append-nil (me.0.free ++ me.0.back);
+    hand = a.hand;
+    sees = a.sees;
+    end = a.end;
+  }
 
-  pub handed_on : (me k : SeatState E) (es : List (Event Name E)) (slots t r : ℕ) → hands_out es slots t r (view_returned me.0, []) k → hands_out es slots t r me k
-  handed_on me k es slots t r h = (h.0, h.1, h.2, h.3 ∙ append-nil (me.0.free ++ me.0.back), h.4, h.5, h.6, h.7, h.8, h.9, h.10)
+  pub handed_on : (me k : SeatState E) (es : List (Event Name E)) (slots t r : ℕ)
+      → HandsOut es slots t r (view_returned me.0, []) k → HandsOut es slots t r me k
+  handed_on me k es slots t r h = record {
+    element = h.element;
+    stage = h.stage;
+    back = h.back;
+    free = h.free ∙ append-nil (me.0.free ++ me.0.back);
+    hand = h.hand;
+    near = h.near;
+    inside = h.inside;
+    sees = h.sees;
+    few = h.few;
+    end = h.end;
+    to = h.to;
+  }

@@ -15,7 +15,7 @@ use Rattle.cordyceps_queue.specs.History.{Event}
 use Rattle.cordyceps_shared.specs.Places.{ItemAt}
 use Rattle.cordyceps_queue.specs.Cores.Meets.{Pooled, Owes, tail_of, Chain, AtStage, Meets, real}
 use Rattle.cordyceps_queue.specs.Past.{WasBlockedReversed}
-use Rattle.cordyceps_queue.specs.Shared.Plays.{SeatState, Sees, carry, moves_to, hands_out, Blocked}
+use Rattle.cordyceps_queue.specs.Shared.Plays.{SeatState, Sees, carry, MovesTo, HandsOut, Blocked}
 use Rattle.cordyceps_queue.specs.Shared.Plays as play
 use Rattle.cordyceps_queue.specs.Shared.Rule.{TableState, link_of, machine_of, FullAtHome, AreLinked, party, PlainHolds}
 use Rattle.cordyceps_shared.specs.FreeChains.{MayJoin}
@@ -50,7 +50,8 @@ module _ {E : Type 0} (s : TableState E) (k : PlainHolds s) (id : ℕ) (v : View
   fits_at stage e = subst (AtStage core.head core.next core.cell k.chain.owner k.chain.keeper k.chain.rooms past id (name v)) e (k.meets.fits id (party v) is_there)
 
   -- back to Holding, with nothing handed out
-  fails : (t i : ℕ) → tail_of v.stage ≡ Some t → ((a b : ℕ) → Owes v.stage a b → ⊥) → WasBlockedReversed (name v) past → Comes s k id v at named bare i (get_or s.words i 0) (λ _ z. moves_to [] (Holding t) (v, []) z × Blocked z.0)
+  fails : (t i : ℕ) → tail_of v.stage ≡ Some t → ((a b : ℕ) → Owes v.stage a b → ⊥) → WasBlockedReversed (name v) past
+      → Comes s k id v at named bare i (get_or s.words i 0) (λ _ z. MovesTo [] (Holding t) (v, []) z × Blocked z.0)
   fails t i has nothing was =
       let met = stage_keeps core k.chain past k.meets id (party v) is_there t has (Holding t) refl (λ a b o. absurd (nothing a b o)) (keeping core k.chain past k.meets id (party v) is_there t has) in
       let r = reads s k id v at named bare [] tt (Holding t) k.chain met (same_rooms s k id v at named bare) (λ q is. cc) (none_cleared v.stage (λ q e. none_some (sym (ap tail_of e) ∙ has))) refl (λ x pooled. pooled) i in
@@ -90,7 +91,13 @@ module _ {E : Type 0} (s : TableState E) (k : PlainHolds s) (id : ℕ) (v : View
           keeps,
           tt,
           o.0,
-          λ _. ((λ f. absurd (suc_zero (sym e ∙ f))), λ r' f. subst (λ q. moves_to (look ∷ []) (Second q) (v, []) (w, []) × (q < slots) × (q ≢ 0)) (suc_inj (sym e ∙ f)) (stood s k id v at named bare (look ∷ []) (Second r) o.1, omega arith, ne)),
+          λ _. (
+            (λ f. absurd (suc_zero (sym e ∙ f))),
+            λ r' f.
+                let stood = stood s k id v at named bare (look ∷ []) (Second r) o.1 in
+                subst (λ q. play.PassesStub slots q (v, []) (w, [])) (suc_inj (sym e ∙ f))
+                record { moves = stood; near = omega arith; real = ne },
+          ),
         )
 
   -- ---- the read of head after a null link
@@ -112,7 +119,8 @@ module _ {E : Type 0} (s : TableState E) (k : PlainHolds s) (id : ℕ) (v : View
   module _ (t : ℕ) (at_null : v.stage ≡ Null t) where
     -- what the read of head tells
     HeadTells : ℕ → SeatState E → Type 0
-    HeadTells found z = (found ≡ t → moves_to [] (PutClear t) (v, []) z) × (found ≢ t → moves_to [] (Holding t) (v, []) z × Blocked z.0)
+    HeadTells found z = (found ≡ t → MovesTo [] (PutClear t) (v, []) z)
+        × (found ≢ t → MovesTo [] (Holding t) (v, []) z × Blocked z.0)
 
     heads_bare : Dec (word.head s.words ≡ t) → Comes s k id v at named bare HEAD (word.head s.words) HeadTells
     unfolding HeadTells
@@ -134,7 +142,8 @@ module _ {E : Type 0} (s : TableState E) (k : PlainHolds s) (id : ℕ) (v : View
   stores stage chain next i x linked same met full away among quiet even owners links =
       keeps_rule s k id [] v (view [] stage) (set s.words i x) s.homes k.cell chain next at named tt refl same met (length-set s.words i x) refl full (empties_same s k id (view [] stage) (k.empty id v at named)) (readies_same s k id (view [] stage) away) linked refl among (λ j y jy. inl (j, jy)) (leaves_rooms s k id v at named bare [] stage chain (set s.words i x) away quiet even owners links)
 
-  clears_stub_bare : (t : ℕ) → v.stage ≡ PutClear t → Comes s k id v at named bare LINKS 0 (λ _. moves_to [] (PutSwap t) (v, []))
+  clears_stub_bare : (t : ℕ) → v.stage ≡ PutClear t → Comes s k id v at named bare LINKS 0
+      (λ _. MovesTo [] (PutSwap t) (v, []))
   clears_stub_bare t l =
       let r = stores (PutSwap t) k.chain (clear_stub core id (party v) t) LINKS 0 (linkeds s k id 0 0 (view [] (PutSwap t)) (own_links s k id 0 0 v at named (λ mine. spare_shared mine k.meets.stub)) (λ j ne mine. spare_shared mine k.meets.stub)) spelled (clear_stub_keeps core k.chain past k.meets id (party v) is_there t l) k.full (λ q is. cc) (λ j x jx. inr (j, jx))
       (ap cleared_count l) refl (λ x pooled. pooled) (λ x pooled. next_beside_next s.words 0 x 0 (λ same. shared_pooled k.meets.stub (ap k.chain.owner (sym same) ∙ pooled))) in
@@ -150,7 +159,8 @@ module _ {E : Type 0} (s : TableState E) (k : PlainHolds s) (id : ℕ) (v : View
         party = views_put s k id v at named (view [] (PutSwap t)) named j;
       }
 
-  swaps_stub_bare : (t : ℕ) → v.stage ≡ PutSwap t → Comes s k id v at named bare HEAD 0 (λ found. moves_to [] (PutLink t found) (v, []))
+  swaps_stub_bare : (t : ℕ) → v.stage ≡ PutSwap t → Comes s k id v at named bare HEAD 0
+      (λ found. MovesTo [] (PutLink t found) (v, []))
   swaps_stub_bare t l =
       let old = word.head s.words in
       let r = stores (PutLink t old) (chain_after_stub core k.chain past k.meets id (party v) is_there t l) (swap_head core id (party v) 0 (PutLink t old)) HEAD 0 (linkeds_low s k id HEAD 0 (view [] (PutLink t old)) (omega arith) (k.linked id v at named)) spelled
@@ -174,7 +184,8 @@ module _ {E : Type 0} (s : TableState E) (k : PlainHolds s) (id : ℕ) (v : View
       full : FullAtHome s.homes k.cell (k.chain.rooms ++ 0 ∷ [])
       full i x ix ne = elim (at_split k.chain.rooms 0 i x ix) [ inl a ↦ k.full i x a ne | inr a ↦ absurd (ne a.1) ]
 
-  links_stub_bare : (t old : ℕ) → v.stage ≡ PutLink t old → old < length s.homes → Comes s k id v at named bare (LINKS + old) 1 (λ _. moves_to [] (PutRead t) (v, []))
+  links_stub_bare : (t old : ℕ) → v.stage ≡ PutLink t old → old < length s.homes → Comes s k id v at named bare
+      (LINKS + old) 1 (λ _. MovesTo [] (PutRead t) (v, []))
   links_stub_bare t old l inside =
       let f = fits_at (PutLink t old) l in
       let shared = k.meets.shared f.1.0 old f.1.1 in
@@ -195,7 +206,8 @@ module _ {E : Type 0} (s : TableState E) (k : PlainHolds s) (id : ℕ) (v : View
   -- the read after it
   module _ (t : ℕ) (at_put : v.stage ≡ PutRead t) where
     RereadTells : ℕ → ℕ → SeatState E → Type 0
-    RereadTells slots found z = (found ≡ 0 → moves_to [] (Holding t) (v, []) z × Blocked z.0) × ((r : ℕ) → found ≡ suc r → hands_out [] slots t r (v, []) z)
+    RereadTells slots found z = (found ≡ 0 → MovesTo [] (Holding t) (v, []) z × Blocked z.0)
+        × ((r : ℕ) → found ≡ suc r → HandsOut [] slots t r (v, []) z)
 
     rereads_bare : (slots : ℕ) → length s.homes ≡ slots → (i : ℕ) → i ≡ LINKS + t → (x : ℕ) → get_or s.words i 0 ≡ x → Comes s k id v at named bare i (get_or s.words i 0) (RereadTells slots)
     unfolding RereadTells
@@ -210,8 +222,18 @@ module _ {E : Type 0} (s : TableState E) (k : PlainHolds s) (id : ℕ) (v : View
         let f = fits_at (PutRead t) at_put in
         let sum : LINKS + t ≡ i = omega arith in
         let linked : core.next t ≡ Some r = ap link_of (ap (λ q. get_or s.words q 0) sum ∙ e) in
-        let c = hands s k id v at named bare [] tt k.meets t r i (ap tail_of at_put) (λ a b o. subst (λ l. Owes l a b) at_put o) f.0.is_real linked slots deep in
-        (c.0, c.1, c.2, c.3, ((λ g. absurd (suc_zero (sym e ∙ g))), λ r' g. subst (λ q. hands_out [] slots t q (v, []) (c.0, carried_after [] c.1)) (suc_inj (sym e ∙ g)) c.4))
+        let c = hands s k id v at named bare [] tt k.meets t r i (ap tail_of at_put)
+        (λ a b o. subst (λ l. Owes l a b) at_put o) f.0.is_real linked slots deep in (
+          c.0,
+          c.1,
+          c.2,
+          c.3,
+          (
+            (λ g. absurd (suc_zero (sym e ∙ g))),
+            λ r' g. subst
+                (λ q. HandsOut [] slots t q (v, []) (c.0, carried_after [] c.1)) (suc_inj (sym e ∙ g)) c.4,
+          ),
+        )
 
 same_null : {p : Stage} {t u : ℕ} → p ≡ Null t → p ≡ Null u → t ≡ u
 same_null a b = some_inj (ap tail_of (sym a ∙ b))
@@ -234,8 +256,18 @@ module _ {E : Type 0} (slots id : ℕ) (me : SeatState E) (hand : me.1 ≡ carry
       (λ s k deep at.
       let c = looks_stub_bare s k id (view_returned me.0) at named refl holding slots deep (word.next s.words 0) refl in
       let z : SeatState E = (c.0, carried_after [] c.1) in
-      let es : List (Event Name E) = Event.Look (name me.0) ∷ [] in
-      (c.0, c.1, c.2, c.3, λ stage. let t = c.4 stage in ((λ e. moved_on me z es StubNull (t.0 e)), λ r e. let h = t.1 r e in (moved_on me z es (Second r) h.0, h.1, h.2))))
+      let es : List (Event Name E) = Event.Look (name me.0) ∷ [] in (
+        c.0,
+        c.1,
+        c.2,
+        c.3,
+        λ stage. let t = c.4 stage in (
+          (λ e. moved_on me z es StubNull (t.0 e)),
+          λ r e.
+              let h = t.1 r e in
+              record { moves = moved_on me z es (Second r) h.moves; near = h.near; real = h.real },
+        ),
+      ))
 
   pub heads_stub : me.0.stage ≡ StubNull → PlainAllows slots id me HEAD (λ x. x) (play.after_head_stub (step slots HEAD 0 0 none) me)
   heads_stub at_null = returning slots id HEAD me (λ x. x) (play.after_head_stub (step slots HEAD 0 0 none) me) hand near named may
@@ -245,10 +277,12 @@ module _ {E : Type 0} (slots id : ℕ) (me : SeatState E) (hand : me.1 ≡ carry
       (c.0, c.1, c.2, c.3, λ stage. let t = c.4 stage in ((λ e. moved_on me z (Event.Empty (name me.0) ∷ []) (Holding 0) (t.0 e)), λ e. let h = t.1 e in (moved_on me z [] (Holding 0) h.0, h.1))))
 
   HeadFacts : ℕ → ℕ → SeatState E → Type 0
-  HeadFacts t found z = (found ≡ t → moves_to [] (PutClear t) me z) × (found ≢ t → moves_to [] (Holding t) me z × Blocked z.0)
+  HeadFacts t found z = (found ≡ t → MovesTo [] (PutClear t) me z)
+      × (found ≢ t → MovesTo [] (Holding t) me z × Blocked z.0)
 
   RereadFacts : ℕ → ℕ → SeatState E → Type 0
-  RereadFacts t found z = (found ≡ 0 → moves_to [] (Holding t) me z × Blocked z.0) × ((r : ℕ) → found ≡ suc r → hands_out [] slots t r me z)
+  RereadFacts t found z = (found ≡ 0 → MovesTo [] (Holding t) me z × Blocked z.0)
+      × ((r : ℕ) → found ≡ suc r → HandsOut [] slots t r me z)
 
   pub heads : (t : ℕ) → me.0.stage ≡ Null t → PlainAllows slots id me HEAD (λ x. x) (play.after_head (step slots HEAD 0 0 none) me)
   unfolding HeadTells HeadFacts
@@ -281,19 +315,41 @@ module _ {E : Type 0} (slots id : ℕ) (me : SeatState E) (hand : me.1 ≡ carry
   pub clears_stub : (t : ℕ) → me.0.stage ≡ PutClear t → PlainAllows slots id me LINKS (λ _. 0) (λ _. play.after_clear_stub (step slots LINKS 0 0 none) me 0)
   clears_stub t l = returning slots id LINKS me (λ _. 0) (λ _. play.after_clear_stub (step slots LINKS 0 0 none) me 0) hand near named may
       (λ s k deep at.
-      let c = clears_stub_bare s k id (view_returned me.0) at named refl t l in
-      (c.0, c.1, c.2, c.3, λ u stage. subst (λ q. moves_to [] (PutSwap q) me (c.0, carried_after [] c.1)) (same_clear l stage) (moved_on me (c.0, carried_after [] c.1) [] (PutSwap t) c.4)))
+      let c = clears_stub_bare s k id (view_returned me.0) at named refl t l in (
+        c.0,
+        c.1,
+        c.2,
+        c.3,
+        λ u stage. subst (λ q. MovesTo [] (PutSwap q) me (c.0, carried_after [] c.1))
+            (same_clear l stage) (moved_on me (c.0, carried_after [] c.1) [] (PutSwap t) c.4),
+      ))
 
   pub swaps_stub : (t : ℕ) → me.0.stage ≡ PutSwap t → PlainAllows slots id me HEAD (λ _. 0) (play.after_swap_stub (step slots HEAD 0 0 none) me)
   swaps_stub t l = returning slots id HEAD me (λ _. 0) (play.after_swap_stub (step slots HEAD 0 0 none) me) hand near named may
       (λ s k deep at.
       let c = swaps_stub_bare s k id (view_returned me.0) at named refl t l in
-      let h = head_near s k in
-      (c.0, c.1, c.2, c.3, λ u stage. (subst (λ q. moves_to [] (PutLink q (word.head s.words)) me (c.0, carried_after [] c.1)) (same_swap l stage) (moved_on me (c.0, carried_after [] c.1) [] (PutLink t (word.head s.words)) c.4), omega arith)))
+      let h = head_near s k in (
+        c.0,
+        c.1,
+        c.2,
+        c.3,
+        λ u stage. (
+          subst (λ q. MovesTo [] (PutLink q (word.head s.words)) me
+              (c.0, carried_after [] c.1)) (same_swap l stage) (moved_on me (c.0, carried_after [] c.1) []
+              (PutLink t (word.head s.words)) c.4),
+          omega arith,
+        ),
+      ))
 
   pub links_stub : (t old i : ℕ) → i ≡ LINKS + old → old < slots → me.0.stage ≡ PutLink t old → PlainAllows slots id me i (λ _. 1) (λ _. play.after_link_stub (step slots i 1 0 none) me 1)
   links_stub t old i is inside l = returning slots id i me (λ _. 1) (λ _. play.after_link_stub (step slots i 1 0 none) me 1) hand near named may
       (λ s k deep at.
       let c = links_stub_bare s k id (view_returned me.0) at named refl t old l (omega arith) in
-      let sum : LINKS + old ≡ i = omega arith in
-      (c.0, c.1, c.2, subst (λ (q : ℕ). Becomes s k (view_returned me.0) c.0 (stepped s q 1 id [] c.0 c.1)) sum c.3, λ u o stage. subst (λ q. moves_to [] (PutRead q) me (c.0, carried_after [] c.1)) (same_link l stage) (moved_on me (c.0, carried_after [] c.1) [] (PutRead t) c.4)))
+      let sum : LINKS + old ≡ i = omega arith in (
+        c.0,
+        c.1,
+        c.2,
+        subst (λ (q : ℕ). Becomes s k (view_returned me.0) c.0 (stepped s q 1 id [] c.0 c.1)) sum c.3,
+        λ u o stage. subst (λ q. MovesTo [] (PutRead q) me (c.0, carried_after [] c.1)) (same_link l stage)
+            (moved_on me (c.0, carried_after [] c.1) [] (PutRead t) c.4),
+      ))

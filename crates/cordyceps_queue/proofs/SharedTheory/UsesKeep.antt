@@ -22,7 +22,7 @@ use Rattle.cordyceps_queue.specs.History.{Event}
 use Rattle.cordyceps_queue.specs.Cores.Abstract.{update}
 use Rattle.cordyceps_queue.specs.Cores.Meets.{Spare, tail_of}
 use Rattle.cordyceps_queue.specs.Shared.Bits.{IsBit, IsLink, IsOld, IsRead, Spells, Knows, Begun, KeepsUse, SpellsWords}
-use Rattle.cordyceps_queue.specs.Shared.Plays.{SeatState, carry, moves_to, hands_out}
+use Rattle.cordyceps_queue.specs.Shared.Plays.{SeatState, carry, MovesTo, HandsOut}
 use Rattle.cordyceps_queue.specs.Shared.Plays as plain
 use Rattle.cordyceps_queue.specs.Shared.Uses as play
 use Rattle.cordyceps_queue.specs.Shared.Rule.{TableState, party, PlainHolds, RuleHolds}
@@ -85,7 +85,7 @@ module _ {E : Type 0} where
       let b = clears slots id i me r rs item e is chosen idle bare free named q (with_use q p r c) deep at in
       let w = b.0 in
       let tells = b.4 r rs e free chosen in
-      let stage : w.stage ≡ Cleared r = tells.0 in
+      let stage : w.stage ≡ Cleared r = tells.stage in
       let t = stepped q i 0 id me.1 w b.1 in
       let there : get_elem? t.views id ≡ some w = set_here s.views id w (at_length s.views id me.0 at) in
       let words_are : s.words ≡ set s.words i (get_or s.words i 0) = sym (set-get_or s.words i 0) in
@@ -195,13 +195,16 @@ module _ {E : Type 0} (s : TableState E) (k : RuleHolds s) (id : ℕ) (v : View 
 
 module _ {E : Type 0} where
   -- no use begins at a read of a link
-  calm_reads : (es fs : List (Event Name E)) (p : Stage) (slots t n : ℕ) (m k : SeatState E) → ((x : ℕ) → Begun p x → ⊥) → (n ≡ 0 → moves_to es p m k) → ((r : ℕ) → n ≡ suc r → hands_out fs slots t r m k) → (x : ℕ) → Begun k.0.stage x → ⊥
-  calm_reads es fs p slots t zero m k calm null next = calm_at (null refl).0 calm
-  calm_reads es fs p slots t (suc r) m k calm null next = calm_at (next r refl).1 (λ x o. o)
+  calm_reads : (es fs : List (Event Name E)) (p : Stage) (slots t n : ℕ) (m k : SeatState E) → ((x : ℕ) → Begun p x → ⊥)
+      → (n ≡ 0 → MovesTo es p m k) → ((r : ℕ) → n ≡ suc r → HandsOut fs slots t r m k) → (x : ℕ) → Begun k.0.stage x → ⊥
+  calm_reads es fs p slots t zero m k calm null next = calm_at (null refl).stage calm
+  calm_reads es fs p slots t (suc r) m k calm null next = calm_at (next r refl).stage (λ x o. o)
 
-  pub calm_moves : (es fs : List (Event Name E)) (p : Stage) (f : ℕ → Stage) (n : ℕ) (m k : SeatState E) → ((x : ℕ) → Begun p x → ⊥) → ((r x : ℕ) → Begun (f r) x → ⊥) → (n ≡ 0 → moves_to es p m k) → ((r : ℕ) → n ≡ suc r → moves_to fs (f r) m k) → (x : ℕ) → Begun k.0.stage x → ⊥
-  calm_moves es fs p f zero m k calm calms null next = calm_at (null refl).0 calm
-  calm_moves es fs p f (suc r) m k calm calms null next = calm_at (next r refl).0 (calms r)
+  pub calm_moves : (es fs : List (Event Name E)) (p : Stage) (f : ℕ → Stage) (n : ℕ) (m k : SeatState E) →
+      ((x : ℕ) → Begun p x → ⊥) → ((r x : ℕ) → Begun (f r) x → ⊥) → (n ≡ 0 → MovesTo es p m k) →
+      ((r : ℕ) → n ≡ suc r → MovesTo fs (f r) m k) → (x : ℕ) → Begun k.0.stage x → ⊥
+  calm_moves es fs p f zero m k calm calms null next = calm_at (null refl).stage calm
+  calm_moves es fs p f (suc r) m k calm calms null next = calm_at (next r refl).stage (calms r)
 
 module _ {E : Type 0} (slots id : ℕ) (me : SeatState E) (hand : me.1 ≡ carry me.0.back) (near : Near slots me.0.back) (named : me.0.known.share ≢ []) (may : MayJoin (free_chain me.0) (back_chain me.0)) where
   -- ---- the reads of a try
@@ -283,7 +286,9 @@ module _ {E : Type 0} (slots id : ℕ) (me : SeatState E) (hand : me.1 ≡ carry
         w,
         b.1,
         b.2,
-        load_kept s k id me.0 at named w LINKS (homes_after s.homes me.1 b.1) b.3 (calm_moves es es StubNull (λ r. Second r) (get_or k.words LINKS 0) me c (λ x o. o) (λ r x o. o) told.0 (λ r e. (told.1 r e).0)),
+        load_kept s k id me.0 at named w LINKS (homes_after s.homes me.1 b.1) b.3
+            (calm_moves es es StubNull (λ r. Second r) (get_or k.words LINKS 0) me c (λ x o. o) (λ r x o. o) told.0
+            (λ r e. (told.1 r e).moves)),
         (
           bits_kept s k id me.0 at named w z b.3,
           λ stage. read_tells s k at 0 0 LINKS 0 w z c (λ n. plain.after_look_stub (step slots LINKS 0 0 none) me n c) refl refl (tail_in s k id me.0 at named 0 (ap tail_of holding)) (subst (λ l. Knows l 0) (sym holding) refl) refl b.3 b.4,
@@ -301,7 +306,12 @@ module _ {E : Type 0} (slots id : ℕ) (me : SeatState E) (hand : me.1 ≡ carry
         w,
         b.1,
         b.2,
-        load_kept s k id me.0 at named w HEAD (homes_after s.homes me.1 b.1) b.3 (elim (ℕ_discrete (word.head k.words) 0) [ yes e ↦ calm_at (told.0 e).0 (λ x o. o) | no ne ↦ calm_at (told.1 ne).0.0 (λ x o. o) ]),
+        load_kept s k id me.0 at named w HEAD (homes_after s.homes me.1 b.1) b.3
+            (elim (ℕ_discrete (word.head k.words) 0) [
+              | yes e ↦ calm_at (told.0 e).stage (λ x o. o)
+              | no ne ↦ calm_at
+                  (told.1 ne).0.stage (λ x o. o)
+            ]),
         (bits_kept s k id me.0 at named w z b.3, head_tells s k w z c (λ n. plain.after_head_stub (step slots HEAD 0 0 none) me n c) refl b.3 b.4),
       )
 
@@ -315,6 +325,11 @@ module _ {E : Type 0} (slots id : ℕ) (me : SeatState E) (hand : me.1 ≡ carry
         w,
         b.1,
         b.2,
-        load_kept s k id me.0 at named w HEAD (homes_after s.homes me.1 b.1) b.3 (elim (ℕ_discrete (word.head k.words) t) [ yes e ↦ calm_at (told.0 e).0 (λ x o. o) | no ne ↦ calm_at (told.1 ne).0.0 (λ x o. o) ]),
+        load_kept s k id me.0 at named w HEAD (homes_after s.homes me.1 b.1) b.3
+            (elim (ℕ_discrete (word.head k.words) t) [
+              | yes e ↦ calm_at (told.0 e).stage (λ x o. o)
+              | no ne ↦ calm_at
+                  (told.1 ne).0.stage (λ x o. o)
+            ]),
         (bits_kept s k id me.0 at named w z b.3, head_tells s k w z c (λ n. plain.after_head (step slots HEAD 0 0 none) me n c) refl b.3 b.4),
       )

@@ -145,14 +145,15 @@ module _ {E : Type 0} where
         subst (λ (ws : List ℕ). RuleHolds record { words = ws; homes = s.homes; views = set s.views id left }) (sym (set-get_or s.words HEAD 0))
             (same_words s k (set s.views id left) s.homes (forgot_kept q k.plain id u at some_name)
             (one_set (λ _ z. z.known.share ≢ [] → KeepsUse (bit_of k.plain.uses) k.words s.words z) s.views id left (λ _. record { free = own.free; begun = own.begun; knows = own.knows }) (λ j z ne e other. k.spells.each j z e other))),
-        (
-          refl,
-          refl,
-          seats.is_known actor knows (λ z. LegalReversed z) legal_front s.views k.plain.history id u k.plain.owned k.plain.fits at k.plain.meets.legal,
-          omega arith,
-          rest_linked q k.plain id u at some_name (ap (λ (z : View E). z.stage) is),
-          rest_unheld q k.plain id u at some_name (ap (λ (z : View E). z.stage) is),
-        ),
+        record {
+          view_is = refl;
+          hand = refl;
+          known = seats.is_known actor knows (λ z. LegalReversed z) legal_front s.views k.plain.history id u
+              k.plain.owned k.plain.fits at k.plain.meets.legal;
+          few = omega arith;
+          linked = rest_linked q k.plain id u at some_name (ap (λ (z : View E). z.stage) is);
+          unheld = rest_unheld q k.plain id u at some_name (ap (λ (z : View E). z.stage) is);
+        },
       )
 
 -- ---- splitting

@@ -192,7 +192,8 @@ module _ {E : Type 0} where
         w,
         b.1,
         b.2,
-        head_kept s k id me.0 at named r n w (homes_after s.homes me.1 b.1) is (subst (λ l. Knows l r) (sym ready) refl) (subst (λ l. Begun l r) (sym ready) refl) b.3 (calm_at told.0 (λ x o. o)),
+        head_kept s k id me.0 at named r n w (homes_after s.homes me.1 b.1) is (subst (λ l. Knows l r) (sym ready) refl)
+            (subst (λ l. Begun l r) (sym ready) refl) b.3 (calm_at told.stage (λ x o. o)),
         (bits_kept s k id me.0 at named w z b.3, (h, bit_of k.plain.uses h, k.spells.head, k.spells.bits h, ap (λ l. bit_of l h) b.3.bits, b.4)),
       )
 
@@ -207,8 +208,13 @@ module _ {E : Type 0} where
       let homes = homes_after s.homes me.1 b.1 in
       let kept : RuleHolds record { words = set s.words (LINKS + old) n; homes = homes; views = set s.views id w } =
       link_kept s k id me.0 at named r old n f.0 w homes is_n (subst (λ l. Knows l r) (sym waits) (inl refl)) (subst (λ l. Knows l old) (sym waits) (inr refl)) f.1 (omega arith)
-      (subst (λ j. Becomes q k.plain me.0 w record { words = set k.words j (suc r); homes = homes; views = set s.views id w }) is b.3) (calm_at told.0 (λ x o. o))
-      (apart_same s k id me.0 at named w old f.0 told.1 told.2 f.1) in (
+      (subst (λ j. Becomes q k.plain me.0 w record {
+        words = set k.words j (suc r);
+        homes = homes;
+        views = set s.views
+            id w;
+      }) is b.3) (calm_at told.stage (λ x o. o))
+      (apart_same s k id me.0 at named w old f.0 told.free told.back f.1) in (
         w,
         b.1,
         b.2,
@@ -243,7 +249,9 @@ module _ {E : Type 0} (slots id : ℕ) (me : SeatState E) (hand : me.1 ≡ carry
         w,
         b.1,
         b.2,
-        right_kept s k id me.0 at named (suc t) n w (homes_after s.homes me.1 b.1) (is ∙ ap (λ z. 2 * suc t + z) (own.knows t (subst (λ l. Knows l t) (sym holding) refl))) b.3 (calm_at told.0 (λ x o. o)),
+        right_kept s k id me.0 at named (suc t) n w (homes_after s.homes me.1 b.1)
+            (is ∙ ap (λ z. 2 * suc t + z) (own.knows t (subst (λ l. Knows l t) (sym holding) refl))) b.3
+            (calm_at told.stage (λ x o. o)),
         b.4,
       )
 
@@ -258,7 +266,9 @@ module _ {E : Type 0} (slots id : ℕ) (me : SeatState E) (hand : me.1 ≡ carry
         w,
         b.1,
         b.2,
-        head_kept s k id me.0 at named 0 n w (homes_after s.homes me.1 b.1) is (subst (λ l. Knows l 0) (sym waits) (inr refl)) (subst (λ l. Begun l 0) (sym waits) refl) b.3 (calm_at told.0.0 (λ x o. o)),
+        head_kept s k id me.0 at named 0 n w (homes_after s.homes me.1 b.1) is
+            (subst (λ l. Knows l 0) (sym waits) (inr refl)) (subst (λ l. Begun l 0) (sym waits) refl) b.3
+            (calm_at told.0.stage (λ x o. o)),
         (bits_kept s k id me.0 at named w z b.3, (h, bit_of k.plain.uses h, k.spells.head, k.spells.bits h, ap (λ l. bit_of l h) b.3.bits, b.4)),
       )
 
@@ -273,8 +283,10 @@ module _ {E : Type 0} (slots id : ℕ) (me : SeatState E) (hand : me.1 ≡ carry
       let z = stepped q i 1 id me.1 w b.1 in
       let kept : RuleHolds record { words = set s.words (LINKS + old) n; homes = homes; views = set s.views id w } =
       link_kept s k id me.0 at named 0 old n f.1.0 w homes is_n (subst (λ l. Knows l 0) (sym waits) (inr (inl refl))) (subst (λ l. Knows l old) (sym waits) (inr (inr refl))) f.1.1 (omega arith)
-      (subst (λ j. Becomes q k.plain me.0 w record { words = set k.words j 1; homes = homes; views = set s.views id w }) is b.3) (calm_at told.0 (λ x o. o))
-      (λ j a. spare_not_in q k.plain id old f.1.0 ((rooms_of q k.plain id me.0 at named).own j old (subst (λ l. ItemAt l j old) (ap (λ l. w.free ++ l) told.1 ∙ (append-nil w.free ∙ told.2)) a)) f.1.1) in (
+      (subst (λ j. Becomes q k.plain me.0 w record { words = set k.words j 1; homes = homes; views = set s.views id w })
+      is b.3) (calm_at told.stage (λ x o. o))
+      (λ j a. spare_not_in q k.plain id old f.1.0 ((rooms_of q k.plain id me.0 at named).own j old
+      (subst (λ l. ItemAt l j old) (ap (λ l. w.free ++ l) told.back ∙ (append-nil w.free ∙ told.free)) a)) f.1.1) in (
         w,
         b.1,
         b.2,
@@ -298,7 +310,7 @@ module _ {E : Type 0} (slots id : ℕ) (me : SeatState E) (hand : me.1 ≡ carry
       let b = clears_stub slots id me hand near named may t waits q (with_use q p 0 c) deep at in
       let w = b.0 in
       let told = b.4 t waits in
-      let stage : w.stage ≡ PutSwap t = told.0 in
+      let stage : w.stage ≡ PutSwap t = told.stage in
       let z = stepped q LINKS 0 id me.1 w b.1 in
       let there : get_elem? z.views id ≡ some w = set_here s.views id w (at_length s.views id me.0 at) in
       let spelt : SpellsWords (update (bit_of p.uses) 0 c) b.3.now.chain.rooms (set k.words (LINKS + 0) 0) s.words (set s.views id w) =

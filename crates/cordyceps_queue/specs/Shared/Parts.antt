@@ -13,7 +13,7 @@ use Rattle.cordyceps_queue.specs.declared.shared.table.Tried.{Tried}
 use Rattle.cordyceps_queue.specs.declared.shared.table.Tried.TheVariants.{Out, Empty, Inconsistent}
 use Rattle.cordyceps_queue.specs.History.{Event, held, holder}
 use Rattle.cordyceps_shared.specs.Slots.{Near, view, hand}
-use Rattle.cordyceps_queue.specs.Shared.Plays.{SeatState, Sees, IsResting, IsHolding, HandsOneOut, carry, moves_to}
+use Rattle.cordyceps_queue.specs.Shared.Plays.{SeatState, Sees, IsResting, IsHolding, HandsOneOut, carry, MovesTo}
 use Rattle.cordyceps_queue.specs.Shared.Plays.{Blocked}
 use Rattle.cordyceps_queue.specs.Shared.Rule.{IsTable}
 use Rattle.cordyceps_queue.specs.Shared.Calls.{PartyOf, Legal, NonePending, NoneHolds}
@@ -72,13 +72,13 @@ module _ {E : Type 0} where
   abbrev pub Tries : List (Event Name E) → ℕ → SeatState E → SeatState E → ℕ → Tried E → Type 0
   Tries before slots m k t (Out room e) = HandsOneOut before slots room t e m k
   Tries before slots m k t Empty =
-      IsHolding slots t k × moves_to (before ++ Event.Empty (name (view m)) ∷ []) (Holding t) m k
-  Tries before slots m k t Inconsistent = IsHolding slots t k × moves_to before (Holding t) m k × Blocked (view k)
+      IsHolding slots t k × MovesTo (before ++ Event.Empty (name (view m)) ∷ []) (Holding t) m k
+  Tries before slots m k t Inconsistent = IsHolding slots t k × MovesTo before (Holding t) m k × Blocked (view k)
 
   -- the party took the right, or another party has it
   abbrev pub AsksRight : ℕ → ℕ → SeatState E → SeatState E → Type 0
-  AsksRight slots zero m k = IsResting slots k × moves_to (Event.Busy (name (view m)) ∷ []) Rest m k
-  AsksRight slots (suc t) m k = IsHolding slots t k × moves_to (Event.Take (name (view m)) ∷ []) (Holding t) m k
+  AsksRight slots zero m k = IsResting slots k × MovesTo (Event.Busy (name (view m)) ∷ []) Rest m k
+  AsksRight slots (suc t) m k = IsHolding slots t k × MovesTo (Event.Take (name (view m)) ∷ []) (Holding t) m k
 
   -- the party has the slots in hand that it has yet to give back, and the last free room leads to their rooms
   pub record MayReturn (slots : ℕ) (m : SeatState E) : Type 0 where

@@ -36,27 +36,51 @@ module _ {E : Type 0} where
     pub named : (view m).known.share ≢ []
     pub near : Near slots (view m).free
 
+  -- a load of the link of the first free room: the room is cleared for this element, and its slot is in hand
+  pub record HasCleared (slots r : ℕ) (rs : List ℕ) (e : E) (found : ℕ) (m k : SeatState E) : Type 0 where
+    pub stage : (view k).stage ≡ Cleared r
+    pub item : (view k).item ≡ Some e
+    pub free : (view k).free ≡ rs
+    pub back : (view k).back ≡ (view m).back
+    pub hand : hand k ≡ (r, None) ∷ hand m
+    pub near : r < slots
+    pub sees : Sees (view m) [] (view k)
+    pub end : (view k).end ≡ (view m).end
+    pub next_is : found ≡ leads rs (view m).end
+
   abbrev pub after_clear_for : Option E → ℕ → SeatState E → ℕ → SeatState E → Type 0
   after_clear_for item slots m found k = (r : ℕ) (rs : List ℕ) (e : E) → (view m).free ≡ r ∷ rs → item ≡ Some e
-      → ((view k).stage ≡ Cleared r) × ((view k).item ≡ Some e) × ((view k).free ≡ rs) × ((view k).back ≡ (view m).back)
-      × (hand k ≡ (r, None) ∷ hand m) × (r < slots) × Sees (view m) [] (view k) × ((view k).end ≡ (view m).end)
-      × (found ≡ leads rs (view m).end)
+      → HasCleared slots r rs e found m k
 
   abbrev pub after_clear : Option E → TableStep E → SeatState E → ℕ → SeatState E → Type 0
   after_clear item st m found k = after_clear_for item st.slots m found k
 
+  -- a swap of the head: the cleared room is the head, and its slot, which has the element, goes back
+  pub record HasSwapped (slots r : ℕ) (e : E) (cs : Hand E) (found : ℕ) (m k : SeatState E) : Type 0 where
+    pub stage : (view k).stage ≡ Swapped r found
+    pub free : (view k).free ≡ (view m).free
+    pub back : (view k).back ≡ (view m).back
+    pub hand : hand k ≡ cs
+    pub near : found < slots
+    pub sees : Sees (view m) (Event.Swap (name (view m)) e ∷ []) (view k)
+    pub end : (view k).end ≡ (view m).end
+
   abbrev pub after_swap : TableStep E → SeatState E → ℕ → SeatState E → Type 0
   after_swap st m found k =
       (r : ℕ) (e : E) (cs : Hand E) → (view m).stage ≡ Cleared r → (view m).item ≡ Some e
-      → hand m ≡ (r, Some e) ∷ cs
-      → ((view k).stage ≡ Swapped r found) × ((view k).free ≡ (view m).free) × ((view k).back ≡ (view m).back)
-      × (hand k ≡ cs) × (found < st.slots)
-      × Sees (view m) (Event.Swap (name (view m)) e ∷ []) (view k) × ((view k).end ≡ (view m).end)
+      → hand m ≡ (r, Some e) ∷ cs → HasSwapped st.slots r e cs found m k
+
+  -- a store by which the old head leads to that room
+  pub record HasLinked (m k : SeatState E) : Type 0 where
+    pub stage : (view k).stage ≡ Rest
+    pub free : (view k).free ≡ (view m).free
+    pub back : (view k).back ≡ (view m).back
+    pub hand : hand k ≡ hand m
+    pub sees : Sees (view m) (Event.Link (name (view m)) ∷ []) (view k)
+    pub end : (view k).end ≡ (view m).end
 
   abbrev pub after_link : TableStep E → SeatState E → ℕ → SeatState E → Type 0
-  after_link st m n k = (r old : ℕ) → (view m).stage ≡ Swapped r old
-      → ((view k).stage ≡ Rest) × ((view k).free ≡ (view m).free) × ((view k).back ≡ (view m).back) × (hand k ≡ hand m)
-      × Sees (view m) (Event.Link (name (view m)) ∷ []) (view k) × ((view k).end ≡ (view m).end)
+  after_link st m n k = (r old : ℕ) → (view m).stage ≡ Swapped r old → HasLinked m k
 
   -- the slots in hand, of rooms that are to be given back
   abbrev pub carry : List ℕ → Hand E
@@ -78,19 +102,27 @@ module _ {E : Type 0} where
     pub joins : MayJoin (free_chain (view m)) (back_chain (view m))
 
   -- the slot is given back, and the party is at this stage
-  abbrev pub moves_to : List (Event Name E) → Stage → SeatState E → SeatState E → Type 0
-  moves_to es stage m k =
-      ((view k).stage ≡ stage) × ((view k).back ≡ []) × ((view k).free ≡ (view m).free ++ (view m).back) × (hand k ≡ [])
-      × Sees (view m) es (view k) × ((view k).end ≡ end_after (view m).end (view m).back (view m).to)
+  pub record MovesTo (es : List (Event Name E)) (next : Stage) (m k : SeatState E) : Type 0 where
+    pub stage : (view k).stage ≡ next
+    pub back : (view k).back ≡ []
+    pub free : (view k).free ≡ (view m).free ++ (view m).back
+    pub hand : hand k ≡ []
+    pub sees : Sees (view m) es (view k)
+    pub end : (view k).end ≡ end_after (view m).end (view m).back (view m).to
 
   -- the tail's element is handed out
-  abbrev pub hands_out : List (Event Name E) → ℕ → ℕ → ℕ → SeatState E → SeatState E → Type 0
-  hands_out before slots t r m k =
-      (e : E) × ((view k).stage ≡ Holding r) × ((view k).back ≡ t ∷ [])
-      × ((view k).free ≡ (view m).free ++ (view m).back) × (hand k ≡ (t, Some e) ∷ [])
-      × (t < slots) × (r < slots) × Sees (view m) (before ++ Event.Out (name (view m)) e ∷ []) (view k)
-      × (length (view k).free ≤ slots) × ((view k).end ≡ end_after (view m).end (view m).back (view m).to)
-      × ((view k).to ≡ suc r)
+  pub record HandsOut (before : List (Event Name E)) (slots t r : ℕ) (m k : SeatState E) : Type 0 where
+    pub element : E
+    pub stage : (view k).stage ≡ Holding r
+    pub back : (view k).back ≡ t ∷ []
+    pub free : (view k).free ≡ (view m).free ++ (view m).back
+    pub hand : hand k ≡ (t, Some element) ∷ []
+    pub near : t < slots
+    pub inside : r < slots
+    pub sees : Sees (view m) (before ++ Event.Out (name (view m)) element ∷ []) (view k)
+    pub few : length (view k).free ≤ slots
+    pub end : (view k).end ≡ end_after (view m).end (view m).back (view m).to
+    pub to : (view k).to ≡ suc r
 
   -- the same, and the party holds on with the emptied slot in hand
   abbrev pub HandsOneOut : List (Event Name E) → ℕ → ℕ → ℕ → E → SeatState E → SeatState E → Type 0
@@ -121,58 +153,64 @@ module _ {E : Type 0} where
 
   abbrev pub after_take : TableStep E → SeatState E → ℕ → SeatState E → Type 0
   after_take st m found k = (view m).stage ≡ Rest
-      → (found ≡ 0 → moves_to (Event.Busy (name (view m)) ∷ []) Rest m k)
-      × ((t : ℕ) → found ≡ suc t → moves_to (Event.Take (name (view m)) ∷ []) (Holding t) m k × (t < st.slots))
+      → (found ≡ 0 → MovesTo (Event.Busy (name (view m)) ∷ []) Rest m k)
+      × ((t : ℕ) → found ≡ suc t → MovesTo (Event.Take (name (view m)) ∷ []) (Holding t) m k × (t < st.slots))
+
+  -- the stub's link led to this room, which is then the tail
+  pub record PassesStub (slots r : ℕ) (m k : SeatState E) : Type 0 where
+    pub moves : MovesTo (Event.Look (name (view m)) ∷ []) (Second r) m k
+    pub near : r < slots
+    pub real : r ≢ 0
 
   -- the first read of a try, of the stub's link
   abbrev pub after_look_stub : TableStep E → SeatState E → ℕ → SeatState E → Type 0
   after_look_stub st m found k = (view m).stage ≡ Holding 0
-      → (found ≡ 0 → moves_to (Event.Look (name (view m)) ∷ []) StubNull m k)
-      × ((r : ℕ) → found ≡ suc r → moves_to (Event.Look (name (view m)) ∷ []) (Second r) m k × (r < st.slots) × (r ≢ 0))
+      → (found ≡ 0 → MovesTo (Event.Look (name (view m)) ∷ []) StubNull m k)
+      × ((r : ℕ) → found ≡ suc r → PassesStub st.slots r m k)
 
   -- the first read of a try, of another tail's link
   abbrev pub after_look : TableStep E → SeatState E → ℕ → SeatState E → Type 0
   after_look st m found k = (t : ℕ) → (view m).stage ≡ Holding t → t ≢ 0
-      → (found ≡ 0 → moves_to (Event.Look (name (view m)) ∷ []) (Null t) m k)
-      × ((r : ℕ) → found ≡ suc r → hands_out (Event.Look (name (view m)) ∷ []) st.slots t r m k)
+      → (found ≡ 0 → MovesTo (Event.Look (name (view m)) ∷ []) (Null t) m k)
+      × ((r : ℕ) → found ≡ suc r → HandsOut (Event.Look (name (view m)) ∷ []) st.slots t r m k)
 
   -- the read after the stub was passed
   abbrev pub after_read : TableStep E → SeatState E → ℕ → SeatState E → Type 0
   after_read st m found k = (t : ℕ) → (view m).stage ≡ Second t
-      → (found ≡ 0 → moves_to [] (Null t) m k)
-      × ((r : ℕ) → found ≡ suc r → hands_out [] st.slots t r m k)
+      → (found ≡ 0 → MovesTo [] (Null t) m k)
+      × ((r : ℕ) → found ≡ suc r → HandsOut [] st.slots t r m k)
 
   -- the read after the stub was put in
   abbrev pub after_reread : TableStep E → SeatState E → ℕ → SeatState E → Type 0
   after_reread st m found k = (t : ℕ) → (view m).stage ≡ PutRead t
-      → (found ≡ 0 → moves_to [] (Holding t) m k × Blocked (view k))
-      × ((r : ℕ) → found ≡ suc r → hands_out [] st.slots t r m k)
+      → (found ≡ 0 → MovesTo [] (Holding t) m k × Blocked (view k))
+      × ((r : ℕ) → found ≡ suc r → HandsOut [] st.slots t r m k)
 
   -- the read of head after a null link of the stub
   abbrev pub after_head_stub : TableStep E → SeatState E → ℕ → SeatState E → Type 0
   after_head_stub st m found k = (view m).stage ≡ StubNull
-      → (found ≡ 0 → moves_to (Event.Empty (name (view m)) ∷ []) (Holding 0) m k)
-      × (found ≢ 0 → moves_to [] (Holding 0) m k × Blocked (view k))
+      → (found ≡ 0 → MovesTo (Event.Empty (name (view m)) ∷ []) (Holding 0) m k)
+      × (found ≢ 0 → MovesTo [] (Holding 0) m k × Blocked (view k))
 
   -- the read of head after a null link of another tail
   abbrev pub after_head : TableStep E → SeatState E → ℕ → SeatState E → Type 0
   after_head st m found k = (t : ℕ) → (view m).stage ≡ Null t
-      → (found ≡ t → moves_to [] (PutClear t) m k)
-      × (found ≢ t → moves_to [] (Holding t) m k × Blocked (view k))
+      → (found ≡ t → MovesTo [] (PutClear t) m k)
+      × (found ≢ t → MovesTo [] (Holding t) m k × Blocked (view k))
 
   -- the stub is put in: its link becomes null, it becomes the head, and the old head is linked to it
   abbrev pub after_clear_stub : TableStep E → SeatState E → ℕ → SeatState E → Type 0
-  after_clear_stub st m n k = (t : ℕ) → (view m).stage ≡ PutClear t → moves_to [] (PutSwap t) m k
+  after_clear_stub st m n k = (t : ℕ) → (view m).stage ≡ PutClear t → MovesTo [] (PutSwap t) m k
 
   abbrev pub after_swap_stub : TableStep E → SeatState E → ℕ → SeatState E → Type 0
   after_swap_stub st m found k = (t : ℕ) → (view m).stage ≡ PutSwap t
-      → moves_to [] (PutLink t found) m k × (found < st.slots)
+      → MovesTo [] (PutLink t found) m k × (found < st.slots)
 
   abbrev pub after_link_stub : TableStep E → SeatState E → ℕ → SeatState E → Type 0
-  after_link_stub st m n k = (t old : ℕ) → (view m).stage ≡ PutLink t old → moves_to [] (PutRead t) m k
+  after_link_stub st m n k = (t old : ℕ) → (view m).stage ≡ PutLink t old → MovesTo [] (PutRead t) m k
 
   abbrev pub after_give : TableStep E → SeatState E → ℕ → SeatState E → Type 0
-  after_give st m n k = (t : ℕ) → (view m).stage ≡ Holding t → moves_to (Event.Free (name (view m)) ∷ []) Rest m k
+  after_give st m n k = (t : ℕ) → (view m).stage ≡ Holding t → MovesTo (Event.Free (name (view m)) ∷ []) Rest m k
 
   -- ---- the steps on the pool's word
   -- a swap: the party takes the pool's rooms, whose slots are in hand, and sees all. Each room but the stub's is then

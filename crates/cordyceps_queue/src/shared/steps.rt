@@ -4,7 +4,7 @@ ghost use Rattle.cordyceps_queue.specs.Shared.Parts.{IsSeatOf, IsCleared, IsSwap
 ghost use Rattle.cordyceps_queue.specs.History.{Event};
 ghost use Rattle.cordyceps_queue.specs.Shared.Uses.{HasUse};
 ghost use Rattle.cordyceps_shared.specs.Slots.{view, hand};
-ghost use Rattle.cordyceps_queue.specs.Shared.Plays.{Sees, IsResting, IsHolding, IsAtStage, Blocked, HandsOneOut, moves_to, hands_out};
+ghost use Rattle.cordyceps_queue.specs.Shared.Plays.{Sees, IsResting, IsHolding, IsAtStage, Blocked, HandsOneOut, MovesTo, HandsOut};
 ghost use Rattle.cordyceps_queue.specs.Shared.View.{name, free_chain, all_rooms};
 ghost use Rattle.cordyceps_queue.specs.declared.cores.stage.Stage.TheVariants.{Cleared, Swapped, Rest, Holding, Null, PutRead};
 
@@ -102,7 +102,7 @@ pub(crate) fn give<E: Drop>(words: &Words<E>, seat: &mut PartySeat<E>, tail: Roo
     requires knows { HasUse seat.old.me tail }
     ensures table { seat.new.table_id ≡ seat.old.table_id }
     ensures rest { IsResting words.now.table_id.slots seat.new.me }
-    ensures answer { moves_to (Event.Free (name (view seat.old.me)) ∷ []) Rest seat.old.me seat.new.me }
+    ensures answer { MovesTo (Event.Free (name (view seat.old.me)) ∷ []) Rest seat.old.me seat.new.me }
 {
     words.store::<Give>(seat, RIGHT, pointer(tail) + 2);
 }
@@ -119,8 +119,8 @@ pub(crate) fn reread<E: Drop>(
     requires knows { HasUse seat.old.me tail }
     ensures table { seat.new.table_id ≡ seat.old.table_id }
     ensures answer { MatchOption result
-        (moves_to [] (Holding tail.room) seat.old.me seat.new.me × Blocked (view seat.new.me) × HasUse seat.new.me tail)
-        (λ r. hands_out [] words.now.table_id.slots tail.room r.room seat.old.me seat.new.me × HasUse seat.new.me r) }
+        (MovesTo [] (Holding tail.room) seat.old.me seat.new.me × Blocked (view seat.new.me) × HasUse seat.new.me tail)
+        (λ r. HandsOut [] words.now.table_id.slots tail.room r.room seat.old.me seat.new.me × HasUse seat.new.me r) }
 {
     leads_to(words.load::<Reread>(seat, LINKS + tail.room), tail.bit)
 }
@@ -150,7 +150,7 @@ pub(crate) fn look<E: Drop>(
     requires real { tail.room ≢ 0 }
     ensures table { seat.new.table_id ≡ seat.old.table_id }
     ensures answer { MatchOption result
-        (moves_to (Event.Look (name (view seat.old.me)) ∷ []) (Null tail.room) seat.old.me seat.new.me)
+        (MovesTo (Event.Look (name (view seat.old.me)) ∷ []) (Null tail.room) seat.old.me seat.new.me)
         (λ r. HandsOneOut (Event.Look (name (view seat.old.me)) ∷ []) words.now.table_id.slots tail.room r.0.room r.1
         seat.old.me seat.new.me) }
     ensures knows { MatchOption result (HasUse seat.new.me tail) (λ r. HasUse seat.new.me r.0) }

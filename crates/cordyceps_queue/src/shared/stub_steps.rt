@@ -1,7 +1,7 @@
 //! The atomic steps of a try to dequeue at the stub, and of putting the stub in. Each function is a part of a call.
 ghost use Rattle.std.specs.Prelude.{◌≡◌, ◌≢◌, ◌<◌, ℕ, suc, [], ◌∷◌, true, false, Some, None, MatchOption};
 ghost use Rattle.cordyceps_queue.specs.History.{Event};
-ghost use Rattle.cordyceps_queue.specs.Shared.Plays.{IsHolding, IsAtStage, Blocked, hands_out, moves_to};
+ghost use Rattle.cordyceps_queue.specs.Shared.Plays.{IsHolding, IsAtStage, PassesStub, Blocked, HandsOut, MovesTo};
 ghost use Rattle.cordyceps_queue.specs.Shared.Uses.{HasUse};
 ghost use Rattle.cordyceps_shared.specs.Slots.{view, hand};
 ghost use Rattle.cordyceps_queue.specs.Shared.Parts.{IsSeatOf};
@@ -24,9 +24,8 @@ pub(crate) fn look_first<E: Drop>(
     requires knows { HasUse seat.old.me record { room = 0; bit = bit } }
     ensures table { seat.new.table_id ≡ seat.old.table_id }
     ensures answer { MatchOption result
-        (moves_to (Event.Look (name (view seat.old.me)) ∷ []) StubNull seat.old.me seat.new.me)
-        (λ r. moves_to (Event.Look (name (view seat.old.me)) ∷ []) (Second r.room) seat.old.me seat.new.me
-        × (r.room < words.now.table_id.slots) × (r.room ≢ 0)) }
+        (MovesTo (Event.Look (name (view seat.old.me)) ∷ []) StubNull seat.old.me seat.new.me)
+        (λ r. PassesStub words.now.table_id.slots r.room seat.old.me seat.new.me) }
     ensures knows { MatchOption result (HasUse seat.new.me record { room = 0; bit = bit })
         (λ r. HasUse seat.new.me r) }
 {
@@ -39,8 +38,8 @@ pub(crate) fn head_of_stub<E: Drop>(words: &Words<E>, seat: &mut PartySeat<E>) -
     requires stage { IsAtStage words.now.table_id.slots StubNull seat.old.me }
     ensures table { seat.new.table_id ≡ seat.old.table_id }
     ensures stub { result ≡ 0
-        → moves_to (Event.Empty (name (view seat.old.me)) ∷ []) (Holding 0) seat.old.me seat.new.me }
-    ensures room { result ≢ 0 → moves_to [] (Holding 0) seat.old.me seat.new.me × Blocked (view seat.new.me) }
+        → MovesTo (Event.Empty (name (view seat.old.me)) ∷ []) (Holding 0) seat.old.me seat.new.me }
+    ensures room { result ≢ 0 → MovesTo [] (Holding 0) seat.old.me seat.new.me × Blocked (view seat.new.me) }
     ensures bit { bit_of (view seat.new.me).bits 0 ≡ bit_of (view seat.old.me).bits 0 }
 {
     pointed(words.load::<HeadStub>(seat, HEAD)).room
@@ -58,8 +57,8 @@ pub(crate) fn read_second<E: Drop>(
     requires knows { HasUse seat.old.me tail }
     ensures table { seat.new.table_id ≡ seat.old.table_id }
     ensures answer { MatchOption result
-        (moves_to [] (Null tail.room) seat.old.me seat.new.me × HasUse seat.new.me tail)
-        (λ r. hands_out [] words.now.table_id.slots tail.room r.room seat.old.me seat.new.me × HasUse seat.new.me r) }
+        (MovesTo [] (Null tail.room) seat.old.me seat.new.me × HasUse seat.new.me tail)
+        (λ r. HandsOut [] words.now.table_id.slots tail.room r.room seat.old.me seat.new.me × HasUse seat.new.me r) }
 {
     leads_to(words.load::<Read>(seat, LINKS + tail.room), tail.bit)
 }
@@ -71,9 +70,9 @@ pub(crate) fn is_head<E: Drop>(words: &Words<E>, seat: &mut PartySeat<E>, tail: 
         × (tail.room < words.now.table_id.slots) }
     requires knows { HasUse seat.old.me tail }
     ensures table { seat.new.table_id ≡ seat.old.table_id }
-    ensures alone { result ≡ true → moves_to [] (PutClear tail.room) seat.old.me seat.new.me }
+    ensures alone { result ≡ true → MovesTo [] (PutClear tail.room) seat.old.me seat.new.me }
     ensures passed { result ≡ false
-        → moves_to [] (Holding tail.room) seat.old.me seat.new.me × Blocked (view seat.new.me) }
+        → MovesTo [] (Holding tail.room) seat.old.me seat.new.me × Blocked (view seat.new.me) }
     ensures knows { HasUse seat.new.me tail }
 {
     words.load::<Head>(seat, HEAD) == pointer(tail)
@@ -85,7 +84,7 @@ fn clear_stub<E: Drop>(words: &Words<E>, seat: &mut PartySeat<E>, _tail: RoomUse
     requires stage { IsAtStage words.now.table_id.slots (PutClear _tail.room) seat.old.me }
     requires knows { HasUse seat.old.me _tail }
     ensures table { seat.new.table_id ≡ seat.old.table_id }
-    ensures answer { moves_to [] (PutSwap _tail.room) seat.old.me seat.new.me }
+    ensures answer { MovesTo [] (PutSwap _tail.room) seat.old.me seat.new.me }
     ensures knows { HasUse seat.new.me _tail × HasUse seat.new.me result × (result.room ≡ 0) }
 {
     RoomUse {
@@ -104,7 +103,7 @@ fn swap_stub<E: Drop>(
     requires stage { IsAtStage words.now.table_id.slots (PutSwap _tail.room) seat.old.me }
     requires knows { HasUse seat.old.me _tail × HasUse seat.old.me stub × (stub.room ≡ 0) }
     ensures table { seat.new.table_id ≡ seat.old.table_id }
-    ensures answer { moves_to [] (PutLink _tail.room result.room) seat.old.me seat.new.me }
+    ensures answer { MovesTo [] (PutLink _tail.room result.room) seat.old.me seat.new.me }
     ensures knows { HasUse seat.new.me _tail × HasUse seat.new.me stub × HasUse seat.new.me result }
     ensures near { result.room < words.now.table_id.slots }
 {
@@ -123,7 +122,7 @@ fn link_stub<E: Drop>(
         × (old.room < words.now.table_id.slots) }
     requires knows { HasUse seat.old.me _tail × HasUse seat.old.me stub × HasUse seat.old.me old × (stub.room ≡ 0) }
     ensures table { seat.new.table_id ≡ seat.old.table_id }
-    ensures answer { moves_to [] (PutRead _tail.room) seat.old.me seat.new.me }
+    ensures answer { MovesTo [] (PutRead _tail.room) seat.old.me seat.new.me }
     ensures knows { HasUse seat.new.me _tail }
 {
     words.store::<LinkStub>(seat, LINKS + old.room, link_to(stub, old.bit));
@@ -136,7 +135,7 @@ pub(crate) fn put_stub<E: Drop>(words: &Words<E>, seat: &mut PartySeat<E>, tail:
     requires stage { IsAtStage words.now.table_id.slots (PutClear tail.room) seat.old.me }
     requires knows { HasUse seat.old.me tail }
     ensures table { seat.new.table_id ≡ seat.old.table_id }
-    ensures answer { moves_to [] (PutRead tail.room) seat.old.me seat.new.me }
+    ensures answer { MovesTo [] (PutRead tail.room) seat.old.me seat.new.me }
     ensures knows { HasUse seat.new.me tail }
 {
     let stub = clear_stub(words, seat, tail);

@@ -29,15 +29,15 @@ returns-clause-cleared g c =
     let l = u.5 c.args.room r.0 c.args._item.now r.1 c.requires.item in
     let d = c.free_link.ensures u.0 u.1 u.2 u.3 in
     let none : Option g.row.E.Denot = None in record {
-      stage = l.0;
-      item = l.1;
-      free = r.1 ∙ ap (λ z. c.args.room ∷ z) (sym l.2);
-      end = l.7;
-      next_is = d.0 ∙ (l.8 ∙ (λ i. leads (sym l.2 i) (sym l.7 i)));
-      back = l.3 ∙ c.requires.rest.back;
-      hand = l.4 ∙ ap (λ z. (c.args.room, none) ∷ z) c.requires.rest.hand;
-      near = l.5;
-      sees = l.6;
+      stage = l.stage;
+      item = l.item;
+      free = r.1 ∙ ap (λ z. c.args.room ∷ z) (sym l.free);
+      end = l.end;
+      next_is = d.0 ∙ (l.next_is ∙ (λ i. leads (sym l.free i) (sym l.end i)));
+      back = l.back ∙ c.requires.rest.back;
+      hand = l.hand ∙ ap (λ z. (c.args.room, none) ∷ z) c.requires.rest.hand;
+      near = l.near;
+      sees = l.sees;
     }
 
 pub returns-clause-knows : goal.returns-clause-knows

@@ -31,11 +31,11 @@ pub returns-clause-rest : goal.returns-clause-rest
 returns-clause-rest g c =
     let q = c.requires.holding.right in
     let b = c.store.ensures.2 c.args.tail.room q.stage in record {
-      stage = b.0;
-      back = b.1;
-      hand = b.3;
-      named = λ e. q.named (sym b.4.share ∙ e);
-      near = λ i r a. q.near i r (subst (λ l. ItemAt l i r) b.2 a);
+      stage = b.stage;
+      back = b.back;
+      hand = b.hand;
+      named = λ e. q.named (sym b.sees.share ∙ e);
+      near = λ i r a. q.near i r (subst (λ l. ItemAt l i r) b.free a);
     }
 
 pub returns-clause-answer : goal.returns-clause-answer

@@ -29,7 +29,7 @@ exchange-requires g c =
     let e = c.in-Some.ensures f.0 f.1 f.2 in
     let h = (f.4 c.args.tail.room q.stage c.requires.real).1 c.in-Some.next.room e.0 in
     let t = c.requires.table in
-    (search rules, (_, h.4 ∙ ap (λ z. (c.args.tail.room, Some h.0) ∷ rest z) (sym h.4)))
+    (search rules, (_, h.hand ∙ ap (λ z. (c.args.tail.room, Some h.element) ∷ rest z) (sym h.hand)))
 
 pub unreachable-requires : goal.unreachable-requires
 unreachable-requires g c =
@@ -39,7 +39,7 @@ unreachable-requires g c =
     let e = c.in-Some.ensures f.0 f.1 f.2 in
     let h = (f.4 c.args.tail.room q.stage c.requires.real).1 c.in-Some.next.room e.0 in
     let y = c.exchange.ensures in
-    c.in_default-exchange.not-Some h.0 (ap (hand_of h.0) (sym y.2 ∙ h.4))
+    c.in_default-exchange.not-Some h.element (ap (hand_of h.element) (sym y.2 ∙ h.hand))
 
 pub returns-clause-answer : goal.returns-clause-answer
 returns-clause-answer g c =
@@ -50,8 +50,8 @@ returns-clause-answer g c =
     let e = c.in-Some.ensures f.0 f.1 f.2 in
     let h = (f.4 c.args.tail.room q.stage c.requires.real).1 c.in-Some.next.room e.0 in
     let y = c.exchange.ensures in
-    let came : c.exchange.result ≡ Some h.0 = ap (hand_of h.0) (sym y.2 ∙ h.4) in
-    let is : h.0 ≡ c.in-Some-exchange.item = ap (some_or h.0) (sym came ∙ c.in-Some-exchange.is) in
+    let came : c.exchange.result ≡ Some h.element = ap (hand_of h.element) (sym y.2 ∙ h.hand) in
+    let is : h.element ≡ c.in-Some-exchange.item = ap (some_or h.element) (sym came ∙ c.in-Some-exchange.is) in
     let look : Event _ E = Event.Look (name c.args.seat.now.me.0) in
     (hands_now c.args.words.now.table_id.slots c.args.tail.room c.in-Some.next.room (look ∷ []) c.args.seat.now.me
     c.load-link.new.seat.me c.exchange.new.seat.me c.in-Some-exchange.item q.named q.near h y.3 is).0
@@ -67,4 +67,4 @@ returns-clause-rooms g c =
     let y = c.exchange.ensures in
     let look : Event _ E = Event.Look (name c.args.seat.now.me.0) in
     (hands_now c.args.words.now.table_id.slots c.args.tail.room c.in-Some.next.room (look ∷ []) c.args.seat.now.me
-    c.load-link.new.seat.me c.exchange.new.seat.me h.0 q.named q.near h y.3 refl).1
+    c.load-link.new.seat.me c.exchange.new.seat.me h.element q.named q.near h y.3 refl).1

@@ -27,13 +27,14 @@ returns-clause-swapped g c =
     let item = ap (λ m. m.0.item) x ∙ c.requires.stage.1 in
     let f = finds_use c.swap.new.seat.me c.swap.result c.pointed.result _ c.swap.ensures.2.1 c.pointed.ensures in
     let s = f.1 c.args.to.room c.args.item cs ready item (ap (λ m. m.1) x) in record {
-      stage = s.0;
-      free = s.1 ∙ ap (λ m. m.0.free) x;
-      end = s.6 ∙ ap (λ m. m.0.end) x;
-      back = s.2 ∙ (ap (λ m. m.0.back) x ∙ c.requires.stage.2);
-      hand = s.3 ∙ ap rest c.requires.hand;
-      near = s.4;
-      sees = subst (λ (z : View g.row.E.Denot). Sees z (Event.Swap (name z) c.args.item ∷ []) c.swap.new.seat.me.0) (ap (λ m. m.0) x) s.5;
+      stage = s.stage;
+      free = s.free ∙ ap (λ m. m.0.free) x;
+      end = s.end ∙ ap (λ m. m.0.end) x;
+      back = s.back ∙ (ap (λ m. m.0.back) x ∙ c.requires.stage.2);
+      hand = s.hand ∙ ap rest c.requires.hand;
+      near = s.near;
+      sees = subst (λ (z : View g.row.E.Denot). Sees z (Event.Swap (name z) c.args.item ∷ []) c.swap.new.seat.me.0)
+          (ap (λ m. m.0) x) s.sees;
     }
 
 pub returns-clause-knows : goal.returns-clause-knows

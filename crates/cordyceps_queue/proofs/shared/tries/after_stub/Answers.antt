@@ -9,7 +9,7 @@ at_end-requires-clause-stage g c =
     (at_stage c.args.words.now.table_id.slots [] (Null c.args.tail.room) c.args.seat.now.me c.read_second.new.seat.me q.0.3 (stage_near _ _ c.args.seat.now.me q.0) c.in-None.ensures.answer.0, q.1)
 
 pub take_out-requires-clause-full : goal.take_out-requires-clause-full
-take_out-requires-clause-full g c = let h = c.in-Some.ensures.answer.0 in (h.0, h.4)
+take_out-requires-clause-full g c = let h = c.in-Some.ensures.answer.0 in (h.element, h.hand)
 
 pub returns-in-Some-clause-answer : goal.returns-in-Some-clause-answer
 returns-in-Some-clause-answer g c =

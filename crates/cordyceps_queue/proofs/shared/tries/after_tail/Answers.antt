@@ -4,7 +4,7 @@ use Rattle.cordyceps_queue.proofs.SharedTheory.PartsJoin.{stage_near, moved_room
 use Rattle.cordyceps_queue.proofs.shared.tries.after_tail.Goals as goal
 
 pub take_out-requires-clause-full : goal.take_out-requires-clause-full
-take_out-requires-clause-full g c = let h = c.in-Some.ensures.answer.0 in (h.0, h.4)
+take_out-requires-clause-full g c = let h = c.in-Some.ensures.answer.0 in (h.element, h.hand)
 
 pub returns-in-Some-clause-answer : goal.returns-in-Some-clause-answer
 returns-in-Some-clause-answer g c =

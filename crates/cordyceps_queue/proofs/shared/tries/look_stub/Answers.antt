@@ -13,8 +13,8 @@ after_stub-requires-clause-stage g c =
     let look : Event _ E = Event.Look (name c.args.seat.now.me.0) in
     let h = c.in-Some.ensures.answer in (
       at_stage c.args.words.now.table_id.slots (look ∷ []) (Second (c.in-Some.next.room)) c.args.seat.now.me
-          c.look_first.new.seat.me q.named q.near h.0,
-      h.1,
+          c.look_first.new.seat.me q.named q.near h.moves,
+      h.near,
     )
 
 pub returns-in-Some-clause-answer : goal.returns-in-Some-clause-answer
@@ -22,7 +22,8 @@ returns-in-Some-clause-answer g c =
     let E = g.row.E.Denot in
     let look : Event _ E = Event.Look (name c.args.seat.now.me.0) in
     let h = c.in-Some.ensures.answer in
-    tries_then c.args.words.now.table_id.slots (look ∷ []) [] (Second (c.in-Some.next.room)) c.args.seat.now.me c.look_first.new.seat.me c.after_stub.new.seat.me _ _ h.0 c.after_stub.ensures.answer
+    tries_then c.args.words.now.table_id.slots (look ∷ []) [] (Second (c.in-Some.next.room)) c.args.seat.now.me
+    c.look_first.new.seat.me c.after_stub.new.seat.me _ _ h.moves c.after_stub.ensures.answer
 
 pub head_of_stub-requires-clause-stage : goal.head_of_stub-requires-clause-stage
 head_of_stub-requires-clause-stage g c =
@@ -61,7 +62,8 @@ returns-in-Some-clause-rooms g c =
     let E = g.row.E.Denot in
     let look : Event _ E = Event.Look (name c.args.seat.now.me.0) in
     let h = c.in-Some.ensures.answer in
-    moved_then (look ∷ []) (Second (c.in-Some.next.room)) c.args.seat.now.me c.look_first.new.seat.me c.after_stub.new.seat.me h.0 c.after_stub.ensures.rooms
+    moved_then (look ∷ []) (Second (c.in-Some.next.room)) c.args.seat.now.me c.look_first.new.seat.me
+    c.after_stub.new.seat.me h.moves c.after_stub.ensures.rooms
 
 pub returns-then-head_of_stub-eq0-clause-rooms : goal.returns-then-head_of_stub-eq0-clause-rooms
 returns-then-head_of_stub-eq0-clause-rooms g c =

@@ -23,8 +23,9 @@ pub returns-then-right-eq0-clause-answer : goal.returns-then-right-eq0-clause-an
 returns-then-right-eq0-clause-answer g c =
     let took = subst (λ n. AsksRight c.args.words.now.table_id.slots n c.args.seat.now.me c.take-right.new.seat.me)
     c.if-right-eq0.true c.take-right.ensures.took in (
-      took.1.2 ∙ (ap (λ l. c.args.seat.now.me.0.free ++ l) c.requires.rest.back ∙ append-nil c.args.seat.now.me.0.free),
-      took.1.4,
+      took.1.free ∙ (ap (λ l. c.args.seat.now.me.0.free ++ l) c.requires.rest.back ∙ append-nil
+          c.args.seat.now.me.0.free),
+      took.1.sees,
     )
 
 pub advance-tried-requires-clause-table : goal.advance-tried-requires-clause-table
@@ -53,7 +54,7 @@ advance-tried-requires-clause-tracks g c =
     let m = c.args.seat.now.me in
     let k = c.take-right.new.seat.me in
     let took = subst (λ n. AsksRight c.args.words.now.table_id.slots n m k) (pred_suc c.take-right.result.room c.if-right-eq0.false) c.take-right.ensures.took in
-    subst (TracksEnd c.args.spare.now) (sym (bare_rooms k.0 took.1.1 ∙
+    subst (TracksEnd c.args.spare.now) (sym (bare_rooms k.0 took.1.back ∙
     (moved_rooms (Event.Take (name m.0) ∷ []) (Holding (c.take-right.result.room - 1)) m k took.1 ∙ bare_rooms m.0
     c.requires.rest.back))) c.requires.tracks
 
