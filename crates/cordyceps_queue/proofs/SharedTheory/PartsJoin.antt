@@ -111,16 +111,16 @@ module _ {E : Type 0} where
   tries_then slots es fs p m k l t (Out room e) a T =
       let h = T in
       let rename = subst (λ n. Grown actor LegalReversed k.0.known (fs ++ Event.Out n e ∷ []) l.0.known)
-      (ap first_name a.sees.share) h.3 in
+      (ap first_name a.sees.share) h.sees in
       let out : List (Event Name E) = Event.Out (name m.0) e ∷ [] in
-      let sees = grown_then actor LegalReversed m.0.known k.0.known l.0.known es (fs ++ out) a.sees rename in (
-        h.0,
-        h.1,
-        h.2 ∙ (ap (λ xs. k.0.free ++ xs) a.back ∙ (append-nil k.0.free ∙ a.free)),
-        subst (λ xs. Grown actor LegalReversed m.0.known xs l.0.known) (sym (append_assoc es fs out)) sees,
-        h.4,
-        h.5,
-      )
+      let sees = grown_then actor LegalReversed m.0.known k.0.known l.0.known es (fs ++ out) a.sees rename in record {
+        right = h.right;
+        back = h.back;
+        free = h.free ∙ (ap (λ xs. k.0.free ++ xs) a.back ∙ (append-nil k.0.free ∙ a.free));
+        sees = subst (λ xs. Grown actor LegalReversed m.0.known xs l.0.known) (sym (append_assoc es fs out)) sees;
+        few = h.few;
+        to = h.to;
+      }
   tries_then slots es fs p m k l t Empty a T =
       let end : Name → List (Event Name E) = λ n. Event.Empty n ∷ [] in (
         T.0,
@@ -134,20 +134,20 @@ module _ {E : Type 0} where
   pub at_stage : (slots : ℕ) (es : List (Event Name E)) (p : Stage) (m k : SeatState E) → m.0.known.share ≢ []
       → Near slots (m.0.free ++ m.0.back) → MovesTo es p m k
       → IsAtStage slots p k
-  at_stage slots es p m k named near a = (
-    a.stage,
-    a.back,
-    a.hand,
-    (λ e. named (sym a.sees.share ∙ e)),
-    subst (Near slots) (sym a.free) near,
-  )
+  at_stage slots es p m k named near a = record {
+    stage = a.stage;
+    back = a.back;
+    hand = a.hand;
+    named = λ e. named (sym a.sees.share ∙ e);
+    near = subst (Near slots) (sym a.free) near;
+  }
 
   -- what the next step asks, of a party at a stage
   pub stage_near : (slots : ℕ) (p : Stage) (m : SeatState E) → IsAtStage slots p m → Near slots (m.0.free ++ m.0.back)
-  stage_near slots p m q = near_parts slots m.0.free m.0.free m.0.back refl q.1 q.4
+  stage_near slots p m q = near_parts slots m.0.free m.0.free m.0.back refl q.back q.near
 
   pub stage_hand : (slots : ℕ) (p : Stage) (m : SeatState E) → IsAtStage slots p m → m.1 ≡ carry m.0.back
-  stage_hand slots p m q = q.2 ∙ ap (λ (l : List ℕ). carry l) (sym q.1)
+  stage_hand slots p m q = q.hand ∙ ap (λ (l : List ℕ). carry l) (sym q.back)
 
   -- the slot was emptied after the only step
   pub hands_now : (slots t r : ℕ) (fs : List (Event Name E)) (m l o : SeatState E) (e : E) → m.0.known.share ≢ []
@@ -162,21 +162,21 @@ module _ {E : Type 0} where
       ∙ (ap (λ z. (t, None) ∷ rest z) h.hand ∙ ap (λ (xs : List ℕ). carry xs) (sym backs)) in
       let all : Near slots (o.0.free ++ o.0.back) = subst (Near slots) (λ j. sym frees j ++ sym backs j)
       (near_append slots (m.0.free ++ m.0.back) (t ∷ []) near (near_one slots t h.near)) in (
-        (
-          record {
+        record {
+          right = record {
             stage = ap (λ (v : View E). v.stage) view ∙ h.stage;
             carries = hand;
             named = λ x. named (sym h.sees.share ∙ (sym (ap (λ (v : View E). v.known.share) view) ∙ x));
             near = all;
             inside = h.inside;
-          },
-          backs,
-          frees,
-          subst (λ (z : View E × E). Grown actor LegalReversed m.0.known (fs ++ Event.Out (name m.0) z.1 ∷ [])
-              z.0.known) (λ j. (sym view j, same j)) h.sees,
-          subst (λ (z : View E). length z.free ≤ slots) (sym view) h.few,
-          ap (λ (v : View E). v.to) view ∙ h.to,
-        ),
+          };
+          back = backs;
+          free = frees;
+          sees = subst (λ (z : View E × E). Grown actor LegalReversed m.0.known (fs ++ Event.Out (name m.0) z.1 ∷ [])
+              z.0.known) (λ j. (sym view j, same j)) h.sees;
+          few = subst (λ (z : View E). length z.free ≤ slots) (sym view) h.few;
+          to = ap (λ (v : View E). v.to) view ∙ h.to;
+        },
         (λ i. let c : FreeChain = record { rooms = frees i; end = ends i } in c),
       )
 
@@ -193,17 +193,18 @@ module _ {E : Type 0} where
   whole_try slots u t m k l o (Out room e) q a T b =
       let h = T in
       let first : name k.0 ≡ name m.0 = ap first_name a.sees.share in
-      let second : name l.0 ≡ name m.0 = ap first_name h.3.share ∙ first in
-      let x = subst (λ n. Grown actor LegalReversed k.0.known (Event.Look n ∷ Event.Out n e ∷ []) l.0.known) first h.3 in
+      let second : name l.0 ≡ name m.0 = ap first_name h.sees.share ∙ first in
+      let x = subst (λ n. Grown actor LegalReversed k.0.known (Event.Look n ∷ Event.Out n e ∷ []) l.0.known) first
+      h.sees in
       let y = subst (λ n. Grown actor LegalReversed l.0.known (Event.Free n ∷ []) o.0.known) second b.sees in
       let n = name m.0 in
       let same = still m k q.back a.back a.free in (
-        b.free ∙ (λ j. (h.2 ∙ same) j ++ h.1 j),
+        b.free ∙ (λ j. (h.free ∙ same) j ++ h.back j),
         grown_then actor LegalReversed m.0.known k.0.known o.0.known (Event.Take n ∷ [])
             (Event.Look n ∷ Event.Out n e ∷ Event.Free n ∷ []) a.sees
             (grown_then actor LegalReversed k.0.known l.0.known o.0.known (Event.Look n ∷ Event.Out n e ∷ [])
             (Event.Free n ∷ []) x y),
-        subst (λ (xs : List ℕ). length xs ≤ slots) (h.2 ∙ same) h.4,
+        subst (λ (xs : List ℕ). length xs ≤ slots) (h.free ∙ same) h.few,
       )
   whole_try slots u t m k l o Empty q a T b =
       let h = T.1 in

@@ -109,7 +109,8 @@ module _ {E : Type 0} where
   pub consuming_then : (z z' t : TableId) (tail now : ℕ) (m k : SeatState E) (spare left : Spare) (r : Tried E) → IsConsuming z tail m spare → z' ≡ z → z ≡ t → IsHolding t.slots now k → Tries (Look (name m.0) ∷ []) t.slots m k now r → TracksEnd left (all_rooms k.0) → IsConsuming z' now k left
   consuming_then z z' t tail now m k spare left (tried.Out room e) c at there holds a tracks =
       let n = name m.0 in
-      consuming_after z z' t tail now m k spare left (Look n ∷ Out n e ∷ []) c at there holds tracks a.3 (λ q. (refl, (refl, refl)))
+      consuming_after z z' t tail now m k spare left (Look n ∷ Out n e ∷ []) c at there holds tracks a.sees
+      (λ q. (refl, (refl, refl)))
   consuming_then z z' t tail now m k spare left tried.Empty c at there holds a tracks =
       let n = name m.0 in
       consuming_after z z' t tail now m k spare left (Look n ∷ Empty n ∷ []) c at there holds tracks a.1.sees
@@ -119,7 +120,12 @@ module _ {E : Type 0} where
       (λ q. (refl, (refl, refl)))
 
   pub consumes_one : (z z' : TableId) (slots now room : ℕ) (m k : SeatState E) (e : E) → z' ≡ z → Tries (Look (name m.0) ∷ []) slots m k now (tried.Out room e) → Consumes (Ok e) (standing z m.0) (standing z' k.0)
-  consumes_one z z' slots now room m k e at a = (adds z z' m.0 k.0 (Look (name m.0) ∷ Out (name m.0) e ∷ []) a.3 at, ap length (λ i. a.1 i ++ a.2 i) ∙ ap suc (swapped m.0.free m.0.back))
+  consumes_one z z' slots now room m k e at
+      a = (
+        adds z z' m.0 k.0 (Look (name m.0) ∷ Out (name m.0) e ∷ []) a.sees at,
+        ap length (λ i. a.back i ++ a.free i)
+            ∙ ap suc (swapped m.0.free m.0.back),
+      )
 
   pub consumes_empty : (z z' : TableId) (slots now : ℕ) (m k : SeatState E) → z' ≡ z → Tries (Look (name m.0) ∷ []) slots m k now tried.Empty → Consumes (Err error.Empty) (standing z m.0) (standing z' k.0)
   consumes_empty z z' slots now m k at a = (

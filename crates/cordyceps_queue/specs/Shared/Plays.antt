@@ -125,21 +125,25 @@ module _ {E : Type 0} where
     pub to : (view k).to ≡ suc r
 
   -- the same, and the party holds on with the emptied slot in hand
-  abbrev pub HandsOneOut : List (Event Name E) → ℕ → ℕ → ℕ → E → SeatState E → SeatState E → Type 0
-  HandsOneOut before slots t r e m k =
-      Holds slots r k × ((view k).back ≡ t ∷ []) × ((view k).free ≡ (view m).free ++ (view m).back)
-      × Sees (view m) (before ++ Event.Out (name (view m)) e ∷ []) (view k) × (length (view k).free ≤ slots)
-      × ((view k).to ≡ suc r)
+  pub record HandsOneOut (before : List (Event Name E)) (slots t r : ℕ) (e : E) (m k : SeatState E) : Type 0 where
+    pub right : Holds slots r k
+    pub back : (view k).back ≡ t ∷ []
+    pub free : (view k).free ≡ (view m).free ++ (view m).back
+    pub sees : Sees (view m) (before ++ Event.Out (name (view m)) e ∷ []) (view k)
+    pub few : length (view k).free ≤ slots
+    pub to : (view k).to ≡ suc r
 
   -- some prefix that contains the party's last look is blocked
   abbrev pub Blocked : View E → Type 0
   Blocked v = WasBlockedReversed (name v) (reverse (plain v.known.seen))
 
   -- the party is at this stage, with no slot in hand
-  abbrev pub IsAtStage : ℕ → Stage → SeatState E → Type 0
-  IsAtStage slots stage m =
-      ((view m).stage ≡ stage) × ((view m).back ≡ []) × (hand m ≡ []) × ((view m).known.share ≢ [])
-      × Near slots (view m).free
+  pub record IsAtStage (slots : ℕ) (now : Stage) (m : SeatState E) : Type 0 where
+    pub stage : (view m).stage ≡ now
+    pub back : (view m).back ≡ []
+    pub hand : hand m ≡ []
+    pub named : (view m).known.share ≢ []
+    pub near : Near slots (view m).free
 
   -- a store that links the last free room to the room in hand
   abbrev pub after_tie : TableStep E → SeatState E → ℕ → SeatState E → Type 0

@@ -7,13 +7,22 @@ use Rattle.cordyceps_queue.proofs.shared.stub_steps.clear_stub.Goals as goal
 pub load-requires : goal.load-requires
 load-requires g c =
     let q = c.requires.stage in
-    let t = c.requires.table in (search rules, search rules, stub_begins _ _ _ (stage_hand _ _ c.args.seat.now.me q) (none_near _ _ q.1) q.3 (may_join c.args.seat.now.me.0 q.1) c.args._tail.room q.0)
+    let t = c.requires.table in (
+      search rules,
+      search rules,
+      stub_begins _ _ _ (stage_hand _ _ c.args.seat.now.me q)
+          (none_near _ _ q.back) q.named (may_join c.args.seat.now.me.0 q.back) c.args._tail.room q.stage,
+    )
 
 pub returns-clause-answer : goal.returns-clause-answer
-returns-clause-answer g c = c.load.ensures.2.1.5 c.args._tail.room c.requires.stage.0
+returns-clause-answer g c = c.load.ensures.2.1.5 c.args._tail.room c.requires.stage.stage
 
 pub returns-clause-knows : goal.returns-clause-knows
 returns-clause-knows g c =
     let u = c.load.ensures.2 in
-    let d = c.free_link.ensures u.1.0 u.1.1 u.1.2 u.1.3 in
-    (still_has c.args.seat.now.me c.load.new.seat.me c.args._tail u.0 (subst (λ l. Knows l c.args._tail.room) (sym c.requires.stage.0) refl) c.requires.knows, (u.1.4 ∙ sym d.1, d.2), refl)
+    let d = c.free_link.ensures u.1.0 u.1.1 u.1.2 u.1.3 in (
+      still_has c.args.seat.now.me c.load.new.seat.me c.args._tail u.0
+          (subst (λ l. Knows l c.args._tail.room) (sym c.requires.stage.stage) refl) c.requires.knows,
+      (u.1.4 ∙ sym d.1, d.2),
+      refl,
+    )

@@ -8,7 +8,13 @@ use Rattle.cordyceps_queue.proofs.shared.stub_steps.is_head.Goals as goal
 pub load-requires : goal.load-requires
 load-requires g c =
     let q = c.requires.stage in
-    let t = c.requires.table in (search rules, search rules, heads_of _ _ _ (stage_hand _ _ c.args.seat.now.me q.0) (none_near _ _ q.0.1) q.0.3 (may_join c.args.seat.now.me.0 q.0.1) c.args.tail.room q.0.0)
+    let t = c.requires.table in (
+      search rules,
+      search rules,
+      heads_of _ _ _ (stage_hand _ _ c.args.seat.now.me q.0)
+          (none_near _ _ q.0.back) q.0.named (may_join c.args.seat.now.me.0 q.0.back) c.args.tail.room q.0.stage,
+    )
 
 pub returns-clause-knows : goal.returns-clause-knows
-returns-clause-knows g c = still_has c.args.seat.now.me c.load.new.seat.me c.args.tail c.load.ensures.2.0 (subst (λ l. Knows l c.args.tail.room) (sym c.requires.stage.0.0) refl) c.requires.knows
+returns-clause-knows g c = still_has c.args.seat.now.me c.load.new.seat.me c.args.tail c.load.ensures.2.0
+    (subst (λ l. Knows l c.args.tail.room) (sym c.requires.stage.0.stage) refl) c.requires.knows

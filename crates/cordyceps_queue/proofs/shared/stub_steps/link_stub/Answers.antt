@@ -10,11 +10,19 @@ store-requires g c =
     let near = q.1 in
     let u = c.requires.knows in
     let n = c.link_to.ensures ∙ stub_link c.args.seat.now.me c.args.stub c.args.old u.1 u.2 u.3 in
-    let t = c.requires.table in (search rules, search rules, stub_linked _ _ _ (stage_hand _ _ c.args.seat.now.me q.0) (none_near _ _ q.0.1) q.0.3 (may_join c.args.seat.now.me.0 q.0.1) c.args._tail.room c.args.old.room _ _ refl n q.1 q.0.0)
+    let t = c.requires.table in (
+      search rules,
+      search rules,
+      stub_linked _ _ _ (stage_hand _ _ c.args.seat.now.me q.0)
+          (none_near _ _ q.0.back) q.0.named (may_join c.args.seat.now.me.0 q.0.back) c.args._tail.room c.args.old.room
+          _
+          _ refl n q.1 q.0.stage,
+    )
 
 pub returns-clause-answer : goal.returns-clause-answer
-returns-clause-answer g c = c.store.ensures.2.1 c.args._tail.room c.args.old.room c.requires.stage.0.0
+returns-clause-answer g c = c.store.ensures.2.1 c.args._tail.room c.args.old.room c.requires.stage.0.stage
 
 pub returns-clause-knows : goal.returns-clause-knows
 returns-clause-knows g c =
-    still_has c.args.seat.now.me c.store.new.seat.me c.args._tail c.store.ensures.2.0 (subst (λ l. Knows l c.args._tail.room) (sym c.requires.stage.0.0) (inl refl)) c.requires.knows.0
+    still_has c.args.seat.now.me c.store.new.seat.me c.args._tail c.store.ensures.2.0
+    (subst (λ l. Knows l c.args._tail.room) (sym c.requires.stage.0.stage) (inl refl)) c.requires.knows.0

@@ -9,18 +9,24 @@ pub load-requires : goal.load-requires
 load-requires g c =
     let q = c.requires.stage in
     let near = q.1 in
-    let t = c.requires.table in (search rules, search rules, reads_second _ _ _ (stage_hand _ _ c.args.seat.now.me q.0) (none_near _ _ q.0.1) q.0.3 (may_join c.args.seat.now.me.0 q.0.1) c.args.tail.room _ refl q.0.0)
+    let t = c.requires.table in (
+      search rules,
+      search rules,
+      reads_second _ _ _ (stage_hand _ _ c.args.seat.now.me q.0)
+          (none_near _ _ q.0.back) q.0.named (may_join c.args.seat.now.me.0 q.0.back) c.args.tail.room _ refl q.0.stage,
+    )
 
 pub leads_to-requires : goal.leads_to-requires
 leads_to-requires g c =
-    let f = reads_for c.args.seat.now.me c.load.new.seat.me c.args.tail c.load.result _ c.requires.knows (c.load.ensures.2.1 c.args.tail.room c.requires.stage.0.0) in
+    let f = reads_for c.args.seat.now.me c.load.new.seat.me c.args.tail c.load.result _ c.requires.knows
+    (c.load.ensures.2.1 c.args.tail.room c.requires.stage.0.stage) in
     (f.0, f.1, f.2)
 
 pub returns-clause-answer : goal.returns-clause-answer
 returns-clause-answer g c =
     let m = c.args.seat.now.me in
     let k = c.load.new.seat.me in
-    let at = c.requires.stage.0.0 in
+    let at = c.requires.stage.0.stage in
     let f = reads_for m k c.args.tail c.load.result _ c.requires.knows (c.load.ensures.2.1 c.args.tail.room at) in
     let told = f.4 c.args.tail.room at in
     match_map c.leads_to.result

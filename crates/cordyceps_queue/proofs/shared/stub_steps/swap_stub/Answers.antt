@@ -8,22 +8,28 @@ pub swap-requires : goal.swap-requires
 swap-requires g c =
     let q = c.requires.stage in
     let t = c.requires.table in
-    let n = c.pointer.ensures ∙ stub_bits c.args.seat.now.me c.args.stub c.requires.knows.1 c.requires.knows.2 in
-    (search rules, search rules, stub_swapped _ _ _ (stage_hand _ _ c.args.seat.now.me q) (none_near _ _ q.1) q.3 (may_join c.args.seat.now.me.0 q.1) c.args._tail.room _ n q.0)
+    let n = c.pointer.ensures ∙ stub_bits c.args.seat.now.me c.args.stub c.requires.knows.1 c.requires.knows.2 in (
+      search rules,
+      search rules,
+      stub_swapped _ _ _ (stage_hand _ _ c.args.seat.now.me q) (none_near _ _ q.back) q.named
+          (may_join c.args.seat.now.me.0 q.back) c.args._tail.room _ n q.stage,
+    )
 
 pub returns-clause-answer : goal.returns-clause-answer
 returns-clause-answer g c =
-    let f = finds_use c.swap.new.seat.me c.swap.result c.pointed.result _ c.swap.ensures.2.1 c.pointed.ensures in (f.1 c.args._tail.room c.requires.stage.0).0
+    let f = finds_use c.swap.new.seat.me c.swap.result c.pointed.result _ c.swap.ensures.2.1 c.pointed.ensures in
+    (f.1 c.args._tail.room c.requires.stage.stage).0
 
 pub returns-clause-near : goal.returns-clause-near
 returns-clause-near g c =
-    let f = finds_use c.swap.new.seat.me c.swap.result c.pointed.result _ c.swap.ensures.2.1 c.pointed.ensures in (f.1 c.args._tail.room c.requires.stage.0).1
+    let f = finds_use c.swap.new.seat.me c.swap.result c.pointed.result _ c.swap.ensures.2.1 c.pointed.ensures in
+    (f.1 c.args._tail.room c.requires.stage.stage).1
 
 pub returns-clause-knows : goal.returns-clause-knows
 returns-clause-knows g c =
     let m = c.args.seat.now.me in
     let k = c.swap.new.seat.me in
-    let at = c.requires.stage.0 in
+    let at = c.requires.stage.stage in
     let f = finds_use k c.swap.result c.pointed.result _ c.swap.ensures.2.1 c.pointed.ensures in (
       still_has m k c.args._tail c.swap.ensures.2.0 (subst (λ l. Knows l c.args._tail.room) (sym at) (inl refl)) c.requires.knows.0,
       still_has m k c.args.stub c.swap.ensures.2.0 (subst (λ l. Knows l c.args.stub.room) (sym at) (inr c.requires.knows.2)) c.requires.knows.1,

@@ -14,8 +14,8 @@ add_room-requires-clause-near g c =
     let k = c.attempt-tried.new.seat.me in
     let look : Event _ E = Event.Look (name m.0) in
     let h = subst (λ r. Tries (look ∷ []) c.args.words.now.table_id.slots m k c.attempt-tried.result.0.room r) c.in-Out.is c.attempt-tried.ensures.answer in (
-      (λ i r a. h.0.near i r (at_more k.0.free k.0.back i r a)),
-      h.0.near _ c.in-Out.room
-          (at_after k.0.free k.0.back 0 c.in-Out.room (subst (λ l. ItemAt l 0 c.in-Out.room) (sym h.1) refl)),
-      h.0.inside,
+      (λ i r a. h.right.near i r (at_more k.0.free k.0.back i r a)),
+      h.right.near _ c.in-Out.room
+          (at_after k.0.free k.0.back 0 c.in-Out.room (subst (λ l. ItemAt l 0 c.in-Out.room) (sym h.back) refl)),
+      h.right.inside,
     )

@@ -9,18 +9,23 @@ take_out-requires-clause-full g c = let h = c.in-Some.ensures.answer.0 in (h.ele
 pub returns-in-Some-clause-answer : goal.returns-in-Some-clause-answer
 returns-in-Some-clause-answer g c =
     let q = c.requires.stage in
-    (hands_taken _ c.args.tail.room _ [] c.args.seat.now.me c.reread.new.seat.me c.take_out.new.seat.me c.take_out.result q.0.3 (stage_near _ _ c.args.seat.now.me q.0) c.in-Some.ensures.answer.0 c.take_out.ensures.element c.take_out.ensures.seat).0
+    (hands_taken _ c.args.tail.room _ [] c.args.seat.now.me c.reread.new.seat.me c.take_out.new.seat.me
+    c.take_out.result q.0.named (stage_near _ _ c.args.seat.now.me q.0) c.in-Some.ensures.answer.0
+    c.take_out.ensures.element c.take_out.ensures.seat).0
 
 pub returns-in-Some-clause-rooms : goal.returns-in-Some-clause-rooms
 returns-in-Some-clause-rooms g c =
     let q = c.requires.stage in
-    (hands_taken _ c.args.tail.room _ [] c.args.seat.now.me c.reread.new.seat.me c.take_out.new.seat.me c.take_out.result q.0.3 (stage_near _ _ c.args.seat.now.me q.0) c.in-Some.ensures.answer.0 c.take_out.ensures.element c.take_out.ensures.seat).1
+    (hands_taken _ c.args.tail.room _ [] c.args.seat.now.me c.reread.new.seat.me c.take_out.new.seat.me
+    c.take_out.result q.0.named (stage_near _ _ c.args.seat.now.me q.0) c.in-Some.ensures.answer.0
+    c.take_out.ensures.element c.take_out.ensures.seat).1
 
 pub returns-in-None-clause-answer : goal.returns-in-None-clause-answer
 returns-in-None-clause-answer g c =
     let q = c.requires.stage in
     let a = c.in-None.ensures.answer in
-    tries_blocked c.args.words.now.table_id.slots c.args.tail.room c.args.seat.now.me c.reread.new.seat.me q.0.3 (stage_near _ _ c.args.seat.now.me q.0) q.1 (a.0, a.1)
+    tries_blocked c.args.words.now.table_id.slots c.args.tail.room c.args.seat.now.me c.reread.new.seat.me q.0.named
+    (stage_near _ _ c.args.seat.now.me q.0) q.1 (a.0, a.1)
 
 pub returns-in-None-clause-rooms : goal.returns-in-None-clause-rooms
 returns-in-None-clause-rooms g c = moved_rooms [] (Holding c.args.tail.room) c.args.seat.now.me c.reread.new.seat.me c.in-None.ensures.answer.0

@@ -42,7 +42,7 @@ returns-then-head_of_stub-eq0-clause-answer g c =
     let n = c.in_default.ensures.answer in
     let at = at_stage slots (look ∷ []) StubNull c.args.seat.now.me c.look_first.new.seat.me q.named q.near n in
     tries_then slots (look ∷ []) [] StubNull c.args.seat.now.me c.look_first.new.seat.me c.head_of_stub.new.seat.me 0 Empty n
-    (tries_empty slots 0 c.look_first.new.seat.me c.head_of_stub.new.seat.me at.3
+    (tries_empty slots 0 c.look_first.new.seat.me c.head_of_stub.new.seat.me at.named
     (stage_near _ _ c.look_first.new.seat.me at) q.inside (c.head_of_stub.ensures.stub c.if-head_of_stub-eq0.true))
 
 pub returns-clause-answer : goal.returns-clause-answer
@@ -54,7 +54,7 @@ returns-clause-answer g c =
     let n = c.in_default.ensures.answer in
     let at = at_stage slots (look ∷ []) StubNull c.args.seat.now.me c.look_first.new.seat.me q.named q.near n in
     tries_then slots (look ∷ []) [] StubNull c.args.seat.now.me c.look_first.new.seat.me c.head_of_stub.new.seat.me 0 Inconsistent n
-    (tries_blocked slots 0 c.look_first.new.seat.me c.head_of_stub.new.seat.me at.3
+    (tries_blocked slots 0 c.look_first.new.seat.me c.head_of_stub.new.seat.me at.named
     (stage_near _ _ c.look_first.new.seat.me at) q.inside (c.head_of_stub.ensures.room c.if-head_of_stub-eq0.false))
 
 pub returns-in-Some-clause-rooms : goal.returns-in-Some-clause-rooms
