@@ -7,7 +7,7 @@ use Rattle.cordyceps_queue.specs.declared.cores.stage.Stage.TheVariants.{Rest, C
 use Rattle.cordyceps_queue.specs.Cores.Abstract.{AbstractParty, AbstractMachine, update, insert_room, add_party, add_room}
 use Rattle.cordyceps_queue.specs.Cores.Meets.{Owner, Shared, Spare, Ready, Unmade, tail_of, Chain, OwnsRooms, Joined, IsStranger, AtStage, RightIs, Meets}
 use Rattle.cordyceps_queue.specs.Cores.StepKeeps.{AddsKeep}
-use Rattle.cordyceps_queue.proofs.CoreTheory.Basics.{some_inj, none_some, put_same, put_other, put_all}
+use Rattle.cordyceps_queue.proofs.CoreTheory.Basics.{ready_with, some_inj, none_some, put_same, put_other, put_all}
 use Rattle.cordyceps_queue.proofs.CoreTheory.OtherParties.{joined_put, names_put, strange}
 use Rattle.cordyceps_queue.proofs.CoreTheory.ProducerSteps.{spare_unmade, ready_unmade, shared_unmade}
 use Rattle.cordyceps_queue.proofs.CoreTheory.ChainShrinks.{room_was, room_once}
@@ -70,7 +70,8 @@ module _ {P E : Type 0} (m : AbstractMachine P E) (c : Chain) (h : List (Event P
 
     fits_still : (j : ℕ) (q : P) (stage : Stage) → AtStage m.head m.next m.cell c.owner c.keeper c.rooms h j q stage → AtStage m.head m.next m.cell owner' c.keeper c.rooms h j q stage
     fits_still j q Rest f = f
-    fits_still j q (Cleared x) f = (f.0, kept_owner x (Ready j) f.1 (λ e. ready_unmade refl e), f.2, f.3, f.4, f.5)
+    fits_still j q (Cleared x) f = ready_with f f.settled (kept_owner x (Ready j) f.ready (λ e. ready_unmade refl e))
+        f.null f.full
     fits_still j q (Swapped x old) f = f
     fits_still j q (Holding t) f = f
     fits_still j q StubNull f = f

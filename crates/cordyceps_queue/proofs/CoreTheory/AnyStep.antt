@@ -67,11 +67,14 @@ module _ {P E : Type 0} (m : AbstractMachine P E) (c : Chain) (k : ℕ) (p : Abs
         let nothing : (a b : ℕ) → Owes p.stage a b → ⊥ = λ a b o. subst (λ l. Owes l a b) holding o in
         subst (Kept p.name h) (some_inj e) (
           c,
-          stage_keeps m c (Event.Look p.name ∷ h) M1 k p at 0 (ap tail_of holding) StubNull refl (λ a b o. nothing a b o) (
-            keeping m c (Event.Look p.name ∷ h) M1 k p at 0 (ap tail_of holding),
-            inl refl,
-            (λ far. inl (inl refl, open_blocks m c (Event.Look p.name ∷ h) M1 k p at 0 (ap tail_of holding) nothing next far)),
-          ),
+          stage_keeps m c (Event.Look p.name ∷ h) M1 k p at 0 (ap tail_of holding) StubNull refl
+              (λ a b o. nothing a b o) record {
+                keeps = keeping m c (Event.Look p.name ∷ h) M1 k p at 0 (ap tail_of holding);
+                looked = inl refl;
+                blocked = λ far.
+                    let has = ap tail_of holding in
+                    inl (inl refl, open_blocks m c (Event.Look p.name ∷ h) M1 k p at 0 has nothing next far);
+              },
           tt,
         )
     reads_stub_keep holding (Some r) next e =
@@ -99,7 +102,8 @@ module _ {P E : Type 0} (m : AbstractMachine P E) (c : Chain) (k : ℕ) (p : Abs
           none_held m c h M k p at 0 has refl (eqb-true m.head 0 same),
         )
     heads_stub_keep stage false apart e =
-        subst (Kept p.name h) (some_inj e) (fails_keep 0 (ap tail_of stage) (λ a b o. subst (λ l. Owes l a b) stage o) ((fits_at StubNull stage).2 (ne_of m.head 0 apart)))
+        subst (Kept p.name h) (some_inj e) (fails_keep 0 (ap tail_of stage) (λ a b o. subst (λ l. Owes l a b) stage o)
+        ((fits_at StubNull stage).blocked (ne_of m.head 0 apart)))
 
     heads_keep : (t : ℕ) → p.stage ≡ Null t → (b : Bool) → eqb m.head t ≡ b → heads m k p t b ≡ Some v → Kept p.name h v
     heads_keep t stage true same e =

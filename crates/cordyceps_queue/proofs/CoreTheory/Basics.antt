@@ -4,10 +4,10 @@ use native.Mathlib.Decide.{ℕ_discrete}
 use Rattle.cordyceps_shared.specs.Counts.{times, one_if}
 use Rattle.cordyceps_shared.proofs.Counting.{one_here, one_else}
 use Rattle.cordyceps_queue.specs.History.{Event, Swap, Link, Take, Busy, Look, Out, Empty, Free}
-use Rattle.cordyceps_queue.specs.Past.{held_reversed, IsOpen, IsPendingAt}
+use Rattle.cordyceps_queue.specs.Past.{held_reversed, IsSettled, IsOpen, IsPendingAt}
 use Rattle.cordyceps_queue.specs.Cores.Abstract.{update}
 use Rattle.cordyceps_shared.specs.Places.{ItemAt}
-use Rattle.cordyceps_queue.specs.Cores.Meets.{real, rank}
+use Rattle.cordyceps_queue.specs.Cores.Meets.{real, rank, Owner, Ready, HasReady, HasOpen}
 
 pub some_inj : {A : Type 0} {a b : A} → Some a ≡ Some b → a ≡ b
 some_inj {A} {a} {b} e = ap (λ (o : Option A). elim o as (λ _. A) [ Some x ↦ x | None ↦ a ]) e
@@ -164,3 +164,23 @@ times_once r (x ∷ xs) once = elim (ℕ_discrete x r) [
   | yes e ↦ omega (arith, ap (λ z. one_if (eqb z r)) e, one_here r, times_none r xs (λ i a. zero_suc (once 0 (suc i) (sym e) a)))
   | no ne ↦ omega (arith, one_else x r ne, times_once r xs (λ i j a b. suc_inj (once (suc i) (suc j) a b)))
 ]
+
+-- ---- a party at its stage, by other words, or after another history
+pub ready_with : {P E : Type 0} {next next' : ℕ → Option ℕ} {cell cell' : ℕ → Option E} {owner owner' : ℕ → Owner}
+    {h h' : List (Event P E)} {k : ℕ} {name : P} {r : ℕ} (f : HasReady next cell owner h k name r)
+    → IsSettled name h' → owner' r ≡ Ready k → next' r ≡ None → cell' r ≡ Some f.element
+    → HasReady next' cell' owner' h' k name r
+ready_with f settled ready null full =
+    record { settled = settled; ready = ready; is_real = f.is_real; null = null; element = f.element; full = full }
+
+pub open_with : {P E : Type 0} {next next' : ℕ → Option ℕ} {rooms : List ℕ} {h h' : List (Event P E)} {name : P}
+    {r old : ℕ} (f : HasOpen next rooms h name r old) → next' old ≡ None
+    → IsPendingAt name (rank rooms (suc f.at)) h' → HasOpen next' rooms h' name r old
+open_with f null pending = record {
+  at = f.at;
+  old_at = f.old_at;
+  room_at = f.room_at;
+  is_real = f.is_real;
+  null = null;
+  pending = pending;
+}

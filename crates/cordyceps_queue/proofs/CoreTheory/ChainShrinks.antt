@@ -7,7 +7,7 @@ use Rattle.cordyceps_queue.specs.declared.cores.stage.Stage.TheVariants.{Rest, C
 use Rattle.cordyceps_queue.specs.Cores.Abstract.{insert_room, AbstractMachine}
 use Rattle.cordyceps_shared.specs.Places.{ItemAt}
 use Rattle.cordyceps_queue.specs.Cores.Meets.{real, rank, Owner, Ready, tail_of, Chain, Joined, AtStage, Meets}
-use Rattle.cordyceps_queue.proofs.CoreTheory.Basics.{some_inj, some_none, zero_suc, suc_inj, at_one}
+use Rattle.cordyceps_queue.proofs.CoreTheory.Basics.{ready_with, some_inj, some_none, zero_suc, suc_inj, at_one}
 use Rattle.cordyceps_queue.proofs.CoreTheory.HolderSteps.{at_some}
 
 pub at_down : {A : Type 0} (xs : List A) (i : ℕ) (a : A) → ItemAt (drop 1 xs) i a → ItemAt xs (suc i) a
@@ -138,12 +138,21 @@ module _ {P E : Type 0} (m : AbstractMachine P E) (c : Chain) (h : List (Event P
       ((x : ℕ) (e : E) → c.owner x ≡ Ready j → m.cell x ≡ Some e → cell' x ≡ Some e) → ((x : ℕ) → c.owner x ≡ Ready j → owner' x ≡ Ready j) → (IsSettled q h → IsSettled q h') → ((i : ℕ) → IsPendingAt q (rank c.rooms (suc i)) h → IsPendingAt q (rank (drop 1 c.rooms) i) h') →
       (stage : Stage) → tail_of stage ≡ None → AtStage m.head m.next m.cell c.owner keeper c.rooms h j q stage → AtStage m.head m.next cell' owner' keeper' (drop 1 c.rooms) h' j q stage
   producer_drops cell' owner' keeper keeper' h' j q stays ready settled pending Rest e f = settled f
-  producer_drops cell' owner' keeper keeper' h' j q stays ready settled pending (Cleared x) e f = (settled f.0, ready x f.1, f.2, f.3, f.4, stays x f.4 f.1 f.5)
-  producer_drops cell' owner' keeper keeper' h' j q stays ready settled pending (Swapped x old) e f = from f.0 f.1 f.2 f.5
+  producer_drops cell' owner' keeper keeper' h' j q stays ready settled pending (Cleared x) e f =
+      ready_with f (settled f.settled) (ready x f.ready) f.null (stays x f.element f.ready f.full)
+  producer_drops cell' owner' keeper keeper' h' j q stays ready settled pending
+      (Swapped x old) e f = from f.at f.old_at f.room_at f.pending
     where
       from : (i : ℕ) → ItemAt c.rooms i old → ItemAt c.rooms (suc i) x → IsPendingAt q (rank c.rooms (suc i)) h → AtStage m.head m.next cell' owner' keeper' (drop 1 c.rooms) h' j q (Swapped x old)
-      from zero a b w = absurd (some_none (sym linked ∙ ap m.next (at_one c.rooms 0 t old first a) ∙ f.4))
-      from (suc i) a b w = (i, at_up c.rooms i old a, at_up c.rooms (suc i) x b, f.3, f.4, pending (suc i) w)
+      from zero a b w = absurd (some_none (sym linked ∙ ap m.next (at_one c.rooms 0 t old first a) ∙ f.null))
+      from (suc i) a b w = record {
+        at = i;
+        old_at = at_up c.rooms i old a;
+        room_at = at_up c.rooms (suc i) x b;
+        is_real = f.is_real;
+        null = f.null;
+        pending = pending (suc i) w;
+      }
   producer_drops cell' owner' keeper keeper' h' j q stays ready settled pending stage e f = absurd (some_none e)
 
 -- the tail's element is the oldest that is held

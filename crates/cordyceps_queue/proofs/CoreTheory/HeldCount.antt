@@ -118,7 +118,7 @@ module _ {E : Type 0} (h : List (Event ℕ E)) (m : Machine E) (was : CoreMeets 
   made : (k r : ℕ) → slice_get m.parties k ≡ Some (Cleared r) → (was.chain.owner r ≡ Ready k) × (is_some (element_in (slice_get m.rooms r)) ≡ true)
   made k r at =
       let F = was.meets.fits k _ (ap (party_at m.rooms k) at) in
-      (F.1, ap is_some F.5)
+      (F.ready, ap is_some F.full)
 
   pub room_for : length (held h) ≤ count_held m
   room_for =

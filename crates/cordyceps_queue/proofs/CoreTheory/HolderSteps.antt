@@ -8,7 +8,8 @@ use Rattle.cordyceps_queue.specs.declared.cores.stage.Stage.TheVariants.{Rest, C
 use Rattle.cordyceps_queue.specs.Cores.Abstract.{update, AbstractParty, AbstractMachine, set_stage}
 use Rattle.cordyceps_shared.specs.Places.{ItemAt}
 use Rattle.cordyceps_queue.specs.Cores.Meets.{real, rank, Owner, Owes, tail_of, Chain, IsOut, OwnsRooms, Joined, Keeps, AtStage, RightIs, Meets}
-use Rattle.cordyceps_queue.proofs.CoreTheory.Basics.{some_inj, some_none, none_some, suc_zero, put_same, put_all, at_one, at_within}
+use Rattle.cordyceps_queue.proofs.CoreTheory.Basics.{open_with, ready_with, some_inj, some_none, none_some, suc_zero}
+use Rattle.cordyceps_queue.proofs.CoreTheory.Basics.{put_same, put_all, at_one, at_within}
 use Rattle.cordyceps_queue.proofs.CoreTheory.ChainGrows.{held_length}
 use Rattle.cordyceps_queue.proofs.CoreTheory.OtherParties.{joined_put, names_put, strange, keeps_of, has_none}
 
@@ -55,8 +56,10 @@ pub producer_moves : {P E : Type 0} (head head' : ℕ) (next next' : ℕ → Opt
     ((a : ℕ) → next a ≡ None → next' a ≡ None) → (IsSettled q h → IsSettled q h') → ((n : ℕ) → IsPendingAt q n h → IsPendingAt q n h') →
     (stage : Stage) → tail_of stage ≡ None → AtStage head next cell owner keeper rooms h j q stage → AtStage head' next' cell owner keeper' rooms h' j q stage
 producer_moves head head' next next' cell owner keeper keeper' rooms h h' j q none settled pending Rest t f = settled f
-producer_moves head head' next next' cell owner keeper keeper' rooms h h' j q none settled pending (Cleared x) t f = (settled f.0, f.1, f.2, none x f.3, f.4, f.5)
-producer_moves head head' next next' cell owner keeper keeper' rooms h h' j q none settled pending (Swapped x old) t f = (f.0, f.1, f.2, f.3, none old f.4, pending (rank rooms (suc f.0)) f.5)
+producer_moves head head' next next' cell owner keeper keeper' rooms h h' j q none settled pending (Cleared x) t f =
+    ready_with f (settled f.settled) f.ready (none x f.null) f.full
+producer_moves head head' next next' cell owner keeper keeper' rooms h h' j q none settled pending (Swapped x old) t f =
+    open_with f (none old f.null) (pending (rank rooms (suc f.at)) f.pending)
 producer_moves head head' next next' cell owner keeper keeper' rooms h h' j q none settled pending stage t f = absurd (some_none t)
 
 right_zero : {P E : Type 0} (right : ℕ) (party : ℕ → Option (AbstractParty P)) (rooms : List ℕ) (h : List (Event P E)) (keeper : Option ℕ) (k : ℕ) → keeper ≡ Some k → RightIs right party rooms h keeper → right ≡ 0
@@ -130,9 +133,9 @@ module _ {P E : Type 0} (m : AbstractMachine P E) (c : Chain) (h : List (Event P
   -- another party owes the tail's link
   blocker : (j : ℕ) (q : P) (b : ℕ) (stage : Stage) → Owes stage t b → tail_of stage ≡ None → AtStage m.head m.next m.cell c.owner c.keeper c.rooms h j q stage → IsBlockedReversed h
   blocker j q b (Swapped x old) o none f =
-      let first : f.0 ≡ 0 = M.once f.0 0 old f.1 (subst (ItemAt c.rooms 0) o.0 keeping.tail) in
-      let l = rank_within c.rooms (suc f.0) in
-      (q, rank c.rooms (suc f.0), omega arith, f.5)
+      let first : f.at ≡ 0 = M.once f.at 0 old f.old_at (subst (ItemAt c.rooms 0) o.0 keeping.tail) in
+      let l = rank_within c.rooms (suc f.at) in
+      (q, rank c.rooms (suc f.at), omega arith, f.pending)
   blocker j q b Rest o none f = absurd o
   blocker j q b (Cleared x) o none f = absurd o
   blocker j q b stage o none f = absurd (some_none none)

@@ -49,12 +49,12 @@ module _ {P E : Type 0} (head : ℕ) (next : ℕ → Option ℕ) (cell : ℕ →
   keeps_of (Cleared r) t e f = absurd (none_some e)
   keeps_of (Swapped r old) t e f = absurd (none_some e)
   keeps_of (Holding u) t e f = subst (Keeps keeper rooms h k name) (some_inj e) f
-  keeps_of StubNull t e f = subst (Keeps keeper rooms h k name) (some_inj e) f.0
+  keeps_of StubNull t e f = subst (Keeps keeper rooms h k name) (some_inj e) f.keeps
   keeps_of (Second u) t e f = subst (Keeps keeper rooms h k name) (some_inj e) f.keeps
   keeps_of (Null u) t e f = subst (Keeps keeper rooms h k name) (some_inj e) f.0.keeps
   keeps_of (PutClear u) t e f = subst (Keeps keeper rooms h k name) (some_inj e) f.0.keeps
-  keeps_of (PutSwap u) t e f = subst (Keeps keeper rooms h k name) (some_inj e) f.0.keeps
-  keeps_of (PutLink u old) t e f = subst (Keeps keeper rooms h k name) (some_inj e) f.0.keeps
+  keeps_of (PutSwap u) t e f = subst (Keeps keeper rooms h k name) (some_inj e) f.has.keeps
+  keeps_of (PutLink u old) t e f = subst (Keeps keeper rooms h k name) (some_inj e) f.has.keeps
   keeps_of (PutRead u) t e f = subst (Keeps keeper rooms h k name) (some_inj e) f.0.keeps
 
   -- a party beside the one with the right has none

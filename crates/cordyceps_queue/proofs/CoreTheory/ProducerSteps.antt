@@ -8,9 +8,13 @@ use Rattle.cordyceps_queue.specs.declared.cores.stage.Stage.{Stage}
 use Rattle.cordyceps_queue.specs.declared.cores.stage.Stage.TheVariants.{Rest, Cleared, Swapped, Holding, StubNull, Second, Null, PutClear, PutSwap, PutLink, PutRead}
 use Rattle.cordyceps_queue.specs.Cores.Abstract.{update, AbstractParty, AbstractMachine, clear_room, swap_head, link_next}
 use Rattle.cordyceps_shared.specs.Places.{ItemAt}
-use Rattle.cordyceps_queue.specs.Cores.Meets.{real, rank, Owner, Shared, Spare, Ready, Pooled, Unmade, Owes, tail_of, Chain, IsOut, OwnsRooms, Owed, Joined, Keeps, Real, AtStage, RightIs, Meets}
+use Rattle.cordyceps_queue.specs.Cores.Meets.{real, rank, Owner, Shared, Spare, Ready, Pooled, Unmade, Owes, tail_of}
+use Rattle.cordyceps_queue.specs.Cores.Meets.{Chain, IsOut, OwnsRooms, Owed, Joined, Keeps, Real, HasOpen, AtStage}
+use Rattle.cordyceps_queue.specs.Cores.Meets.{RightIs, Meets}
 use Rattle.cordyceps_shared.proofs.Places.{at_end}
-use Rattle.cordyceps_queue.proofs.CoreTheory.Basics.{some_inj, some_none, suc_zero, put_same, put_other, put_all, put_none, at_one, at_within, at_more, at_split, rank_more, rank_all, real_more, map_put, pending_one, open_from}
+use Rattle.cordyceps_queue.proofs.CoreTheory.Basics.{open_with, ready_with, some_inj, some_none, suc_zero, put_same}
+use Rattle.cordyceps_queue.proofs.CoreTheory.Basics.{put_other, put_all, put_none, at_one, at_within, at_more, at_split}
+use Rattle.cordyceps_queue.proofs.CoreTheory.Basics.{rank_more, rank_all, real_more, map_put, pending_one, open_from}
 use Rattle.cordyceps_queue.proofs.CoreTheory.ChainGrows.{real_one, held_length, alone, last_more, once_more, joined_more, right_more, right_same}
 use Rattle.cordyceps_queue.proofs.CoreTheory.OtherParties.{joined_put, names_put, strange, right_put}
 
@@ -70,15 +74,24 @@ module _ {P E : Type 0} (m : AbstractMachine P E) (c : Chain) (h : List (Event P
 
     others : (j : ℕ) (q : P) (stage : Stage) → AtStage m.head m.next m.cell c.owner c.keeper c.rooms h j q stage → AtStage m.head (update m.next r None) (update m.cell r (Some e)) (update c.owner r (Ready k)) c.keeper c.rooms h j q stage
     others j q Rest f = f
-    others j q (Cleared x) f = (f.0, put_other c.owner r (Ready k) x (λ e. ready_spare f.1 (ap c.owner e ∙ mine)) ∙ f.1, f.2, put_none m.next r x f.3, f.4, put_other m.cell r (Some e) x (λ s. ready_spare f.1 (ap c.owner s ∙ mine)) ∙ f.5)
-    others j q (Swapped x old) f = (f.0, f.1, f.2, f.3, put_none m.next r old f.4, f.5)
+    others j q (Cleared x) f =
+        let apart : x ≢ r = λ s. ready_spare f.ready (ap c.owner s ∙ mine) in
+        ready_with f f.settled (put_other c.owner r (Ready k) x apart ∙ f.ready) (put_none m.next r x f.null)
+        (put_other m.cell r (Some e) x apart ∙ f.full)
+    others j q (Swapped x old) f = open_with f (put_none m.next r old f.null) f.pending
     others j q (Holding t) f = f
     others j q StubNull f = f
     others j q (Second t) f = f
     others j q (Null t) f = f
     others j q (PutClear t) f = f
-    others j q (PutSwap t) f = (f.0, f.1, put_none m.next r 0 f.2)
-    others j q (PutLink t old) f = (f.0, (f.1.0, f.1.1, f.1.2, put_none m.next r old f.1.3))
+    others j q (PutSwap t) f = record { has = f.has; out = f.out; null = put_none m.next r 0 f.null }
+    others j q (PutLink t old) f = record {
+      has = f.has;
+      at = f.at;
+      old_at = f.old_at;
+      stub_at = f.stub_at;
+      null = put_none m.next r old f.null;
+    }
     others j q (PutRead t) f = f
 
     spares : (j x : ℕ) (s : List ℕ) → ((i : ℕ) → ItemAt s i r → ⊥) → OwnsRooms c.owner j s → OwnsRooms (update c.owner r (Ready k)) j s
@@ -99,7 +112,14 @@ module _ {P E : Type 0} (m : AbstractMachine P E) (c : Chain) (h : List (Event P
       right = right_put m.party k p cleared_party at m.right c.rooms h c.keeper (ap tail_of rest) M.right;
       fits = put_all (λ j q. AtStage m.head (update m.next r None) (update m.cell r (Some e)) (update c.owner r (Ready k)) c.keeper c.rooms h j q.name q.stage) m.party k cleared_party
           (λ j q ne eq. others j q.name q.stage (M.fits j q eq))
-          (subst (AtStage m.head m.next m.cell c.owner c.keeper c.rooms h k p.name) rest (M.fits k p at), put_same c.owner r (Ready k), (λ e. away 0 M.stub (sym e)), put_same m.next r None, e, put_same m.cell r (Some e));
+          record {
+            settled = subst (AtStage m.head m.next m.cell c.owner c.keeper c.rooms h k p.name) rest (M.fits k p at);
+            ready = put_same c.owner r (Ready k);
+            is_real = λ e. away 0 M.stub (sym e);
+            null = put_same m.next r None;
+            element = e;
+            full = put_same m.cell r (Some e);
+          };
       rooms = put_all (λ j q. OwnsRooms (update c.owner r (Ready k)) j q.spare) m.party k cleared_party
           (λ j q ne eq. spares j 0 q.spare (λ i ir. ne (spare_one ((M.rooms j q eq).own i r ir) mine)) (M.rooms j q eq))
           (spares k 0 rooms (λ i ir. suc_ne (own.once (suc i) 0 r ir refl)) (record { own = λ i x ix. own.own (suc i) x ix; once = λ i j x ix jx. suc_inj (own.once (suc i) (suc j) x ix jx) }));
@@ -128,10 +148,10 @@ module _ {P E : Type 0} (m : AbstractMachine P E) (c : Chain) (h : List (Event P
     was = subst (AtStage m.head m.next m.cell c.owner c.keeper c.rooms h k p.name) ready (M.fits k p at)
 
     other_room : (x : ℕ) → c.owner x ≡ Shared → x ≢ r
-    other_room x s e = ready_shared was.1 (ap c.owner (sym e) ∙ s)
+    other_room x s e = ready_shared was.ready (ap c.owner (sym e) ∙ s)
 
     pub fresh : (i : ℕ) → ItemAt c.rooms i r → ⊥
-    fresh i ir = ready_shared was.1 (M.shared i r ir)
+    fresh i ir = ready_shared was.ready (M.shared i r ir)
 
     owes_nothing : (a b : ℕ) → Owes p.stage a b → Owes (Swapped r m.head) a b
     owes_nothing a b o = absurd (subst (λ l. Owes l a b) ready o)
@@ -149,43 +169,63 @@ module _ {P E : Type 0} (m : AbstractMachine P E) (c : Chain) (h : List (Event P
     swap_real j q t ne K = record { keeps = swap_keeper j q t ne K.keeps; is_real = K.is_real; looked = K.looked }
 
     still_out : IsOut c.rooms → IsOut (c.rooms ++ r ∷ [])
-    still_out out i at0 = elim (at_split c.rooms r i 0 at0) [ inl a ↦ out i a | inr a ↦ was.2 (sym a.1) ]
+    still_out out i at0 = elim (at_split c.rooms r i 0 at0) [ inl a ↦ out i a | inr a ↦ was.is_real (sym a.1) ]
 
     swap_others : (j : ℕ) (q : P) (stage : Stage) → j ≢ k → q ≢ p.name → AtStage m.head m.next m.cell c.owner c.keeper c.rooms h j q stage → AtStage r m.next m.cell (update c.owner r Shared) c.keeper (c.rooms ++ r ∷ []) (Event.Swap p.name e ∷ h) j q stage
     swap_others j q Rest nj ne f = (ne, f)
-    swap_others j q (Cleared x) nj ne f = ((ne, f.0), put_other c.owner r Shared x (λ s. nj (ready_one f.1 (ap c.owner s ∙ was.1))) ∙ f.1, f.2, f.3, f.4, f.5)
-    swap_others j q (Swapped x old) nj ne f = (
-      f.0,
-      at_more c.rooms (r ∷ []) f.0 old f.1,
-      at_more c.rooms (r ∷ []) (suc f.0) x f.2,
-      f.3,
-      f.4,
-      inr (ne, subst (λ n. IsPendingAt q n h) (sym (rank_more c.rooms (r ∷ []) (suc f.0) (let l = at_within c.rooms (suc f.0) x f.2 in omega arith))) f.5),
-    )
+    swap_others j q (Cleared x) nj ne f =
+        let apart : x ≢ r = λ s. nj (ready_one f.ready (ap c.owner s ∙ was.ready)) in
+        ready_with f ((ne, f.settled)) (put_other c.owner r Shared x apart ∙ f.ready) f.null f.full
+    swap_others j q (Swapped x old) nj ne f =
+        let within = at_within c.rooms (suc f.at) x f.room_at in
+        let ranks = rank_more c.rooms (r ∷ []) (suc f.at) (omega arith) in record {
+          at = f.at;
+          old_at = at_more c.rooms (r ∷ []) f.at old f.old_at;
+          room_at = at_more c.rooms (r ∷ []) (suc f.at) x f.room_at;
+          is_real = f.is_real;
+          null = f.null;
+          pending = inr (ne, subst (λ n. IsPendingAt q n h) (sym ranks) f.pending);
+        }
     swap_others j q (Holding t) nj ne f = swap_keeper j q t ne f
-    swap_others j q StubNull nj ne f = (swap_keeper j q 0 ne f.0, f.1, (λ _. newly q 0 f.0.tail f.1 f.2))
+    swap_others j q StubNull nj ne f = record {
+      keeps = swap_keeper j q 0 ne f.keeps;
+      looked = f.looked;
+      blocked = λ _. newly q 0 f.keeps.tail f.looked f.blocked;
+    }
     swap_others j q (Second t) nj ne f = swap_real j q t ne f
     swap_others j q (Null t) nj ne f = (swap_real j q t ne f.0, (λ _. newly q t f.0.keeps.tail f.0.looked f.1))
     swap_others j q (PutClear t) nj ne f = (swap_real j q t ne f.0, still_out f.1)
-    swap_others j q (PutSwap t) nj ne f = (swap_real j q t ne f.0, still_out f.1, f.2)
-    swap_others j q (PutLink t old) nj ne f = (swap_real j q t ne f.0, (f.1.0, at_more c.rooms (r ∷ []) f.1.0 old f.1.1, at_more c.rooms (r ∷ []) (suc f.1.0) 0 f.1.2, f.1.3))
+    swap_others j q (PutSwap t) nj ne f = record {
+      has = swap_real j q t ne f.has;
+      out = still_out f.out;
+      null = f.null;
+    }
+    swap_others j q (PutLink t old) nj ne f = record {
+      has = swap_real j q t ne f.has;
+      at = f.at;
+      old_at = at_more c.rooms (r ∷ []) f.at old f.old_at;
+      stub_at = at_more c.rooms (r ∷ []) (suc f.at) 0 f.stub_at;
+      null = f.null;
+    }
     swap_others j q (PutRead t) nj ne f = (swap_real j q t ne f.0, (λ s. fresh 0 (subst (ItemAt c.rooms 0) (sym s) f.0.keeps.tail)))
 
     swap_mine : AtStage r m.next m.cell (update c.owner r Shared) c.keeper (c.rooms ++ r ∷ []) (Event.Swap p.name e ∷ h) k p.name (Swapped r m.head)
-    swap_mine = (
-      M.last.0,
-      at_more c.rooms (r ∷ []) M.last.0 m.head M.last.2,
-      subst (λ i. ItemAt (c.rooms ++ r ∷ []) i r) M.last.1 (at_end c.rooms r),
-      was.2,
-      M.ends,
-      inl (refl, ap (rank (c.rooms ++ r ∷ [])) (sym M.last.1) ∙ rank_more c.rooms (r ∷ []) (length c.rooms) (omega arith) ∙ rank_all c.rooms ∙ held_length m c h M),
-    )
+    swap_mine = record {
+      at = M.last.0;
+      old_at = at_more c.rooms (r ∷ []) M.last.0 m.head M.last.2;
+      room_at = subst (λ i. ItemAt (c.rooms ++ r ∷ []) i r) M.last.1 (at_end c.rooms r);
+      is_real = was.is_real;
+      null = M.ends;
+      pending =
+          let more = rank_more c.rooms (r ∷ []) (length c.rooms) (omega arith) in
+          inl (refl, ap (rank (c.rooms ++ r ∷ [])) (sym M.last.1) ∙ more ∙ rank_all c.rooms ∙ held_length m c h M);
+    }
 
     pub swap_keeps : Meets (swap_head m k p r (Swapped r m.head)) chain_after_swap (Event.Swap p.name e ∷ h)
     swap_keeps = record {
-      legal = (was.0, M.legal);
+      legal = (was.settled, M.legal);
       last = last_more m c h M r;
-      ends = was.3;
+      ends = was.null;
       joined = joined_more m c h M k p swapped_party at r owes_nothing (refl, refl);
       once = once_more m c h M r fresh;
       shared = λ i x ix. elim (at_split c.rooms r i x ix) [
@@ -193,8 +233,10 @@ module _ {P E : Type 0} (m : AbstractMachine P E) (c : Chain) (h : List (Event P
         | inr a ↦ ap (update c.owner r Shared) a.1 ∙ put_same c.owner r Shared
       ];
       stub = put_other c.owner r Shared 0 (other_room 0 M.stub) ∙ M.stub;
-      unmade = λ x lt. put_other c.owner r Shared x (λ s. ready_unmade (ap c.owner s ∙ was.1) (M.unmade x lt)) ∙ M.unmade x lt;
-      holds = ap (map m.cell) (real_more c.rooms (r ∷ []) ∙ ap (λ l. real c.rooms ++ l) (real_one r was.2)) ∙ map-append m.cell (real c.rooms) (r ∷ [])
+      unmade = λ x lt. put_other c.owner r Shared x (λ s. ready_unmade (ap c.owner s ∙ was.ready) (M.unmade x lt))
+          ∙ M.unmade x lt;
+      holds = ap (map m.cell) (real_more c.rooms (r ∷ []) ∙ ap (λ l. real c.rooms ++ l) (real_one r was.is_real))
+          ∙ map-append m.cell (real c.rooms) (r ∷ [])
           ∙ ap (λ l. l ++ m.cell r ∷ []) M.holds ∙ ap (λ x. map Some (held_reversed h) ++ x ∷ []) full ∙ sym (map-append Some (held_reversed h) (e ∷ []));
       right = right_more m.right _ c.rooms r h (Event.Swap p.name e) c.keeper refl (right_put m.party k p swapped_party at m.right c.rooms h c.keeper (ap tail_of ready) M.right);
       fits = put_all (λ j q. AtStage r m.next m.cell (update c.owner r Shared) c.keeper (c.rooms ++ r ∷ []) (Event.Swap p.name e ∷ h) j q.name q.stage) m.party k swapped_party
@@ -206,22 +248,26 @@ module _ {P E : Type 0} (m : AbstractMachine P E) (c : Chain) (h : List (Event P
     }
       where
         swap_spares : (j : ℕ) (s : List ℕ) → OwnsRooms c.owner j s → OwnsRooms (update c.owner r Shared) j s
-        swap_spares j s R = record { own = λ i x ix. put_other c.owner r Shared x (λ s. ready_spare was.1 (ap c.owner (sym s) ∙ R.own i x ix)) ∙ R.own i x ix; once = R.once }
+        swap_spares j s R = record {
+          own = λ i x ix. put_other c.owner r Shared x
+              (λ s. ready_spare was.ready (ap c.owner (sym s) ∙ R.own i x ix)) ∙ R.own i x ix;
+          once = R.once;
+        }
 
   -- Link of an element
   module _ (r old : ℕ) (waits : p.stage ≡ Swapped r old) where
     abbrev linked_party : AbstractParty P
     linked_party = record p { stage = Rest }
 
-    link : (i : ℕ) × ItemAt c.rooms i old × ItemAt c.rooms (suc i) r × (r ≢ 0) × (m.next old ≡ None) × IsPendingAt p.name (rank c.rooms (suc i)) h
+    link : HasOpen m.next c.rooms h p.name r old
     link = subst (AtStage m.head m.next m.cell c.owner c.keeper c.rooms h k p.name) waits (M.fits k p at)
 
     old_shared : c.owner old ≡ Shared
-    old_shared = M.shared link.0 old link.1
+    old_shared = M.shared link.at old link.old_at
 
     -- a room at another place is not the old head
-    not_old : (j a : ℕ) → ItemAt c.rooms j a → j ≢ link.0 → a ≢ old
-    not_old j a ja ne same = ne (M.once j link.0 old (subst (ItemAt c.rooms j) same ja) link.1)
+    not_old : (j a : ℕ) → ItemAt c.rooms j a → j ≢ link.at → a ≢ old
+    not_old j a ja ne same = ne (M.once j link.at old (subst (ItemAt c.rooms j) same ja) link.old_at)
 
     stays_none : (a : ℕ) → a ≢ old → m.next a ≡ None → update m.next old (Some r) a ≡ None
     stays_none a ne none = put_other m.next old (Some r) a ne ∙ none
@@ -234,26 +280,43 @@ module _ {P E : Type 0} (m : AbstractMachine P E) (c : Chain) (h : List (Event P
 
     link_others : (j : ℕ) (q : P) (stage : Stage) → q ≢ p.name → AtStage m.head m.next m.cell c.owner c.keeper c.rooms h j q stage → AtStage m.head (update m.next old (Some r)) m.cell c.owner c.keeper c.rooms (Event.Link p.name ∷ h) j q stage
     link_others j q Rest ne f = inr f
-    link_others j q (Cleared x) ne f = (inr f.0, f.1, f.2, stays_none x (λ s. ready_shared f.1 (ap c.owner s ∙ old_shared)) f.3, f.4, f.5)
+    link_others j q (Cleared x) ne f =
+        let apart : x ≢ old = λ s. ready_shared f.ready (ap c.owner s ∙ old_shared) in
+        ready_with f (inr f.settled) f.ready (stays_none x apart f.null) f.full
     link_others j q (Swapped x o) ne f =
-        let apart : f.0 ≢ link.0 = λ s. ne (pending_one h q p.name (rank c.rooms (suc f.0)) f.5 (subst (λ n. IsPendingAt p.name (rank c.rooms (suc n)) h) (sym s) link.5)) in
-        (f.0, f.1, f.2, f.3, stays_none o (not_old f.0 o f.1 apart) f.4, (ne, f.5))
+        let apart : f.at ≢ link.at = λ s.
+        let mine = subst (λ n. IsPendingAt p.name (rank c.rooms (suc n)) h) (sym s) link.pending in
+        ne (pending_one h q p.name (rank c.rooms (suc f.at)) f.pending mine) in
+        open_with f (stays_none o (not_old f.at o f.old_at apart) f.null) ((ne, f.pending))
     link_others j q (Holding t) ne f = link_keeper j q t f
-    link_others j q StubNull ne f = (link_keeper j q 0 f.0, f.1, (λ s. inr (f.2 s)))
+    link_others j q StubNull ne f =
+        record { keeps = link_keeper j q 0 f.keeps; looked = f.looked; blocked = λ s. inr (f.blocked s) }
     link_others j q (Second t) ne f = link_real j q t f
     link_others j q (Null t) ne f = (link_real j q t f.0, (λ s. inr (f.1 s)))
     link_others j q (PutClear t) ne f = (link_real j q t f.0, f.1)
-    link_others j q (PutSwap t) ne f = (link_real j q t f.0, f.1, stays_none 0 (λ s. f.1 link.0 (subst (ItemAt c.rooms link.0) (sym s) link.1)) f.2)
+    link_others j q (PutSwap t) ne f =
+        let apart : 0 ≢ old = λ s. f.out link.at (subst (ItemAt c.rooms link.at) (sym s) link.old_at) in
+        record { has = link_real j q t f.has; out = f.out; null = stays_none 0 apart f.null }
     link_others j q (PutLink t o) ne f =
-        let apart : f.1.0 ≢ link.0 = λ s. link.3 (at_one c.rooms (suc link.0) r 0 link.2 (subst (λ n. ItemAt c.rooms (suc n) 0) s f.1.2)) in
-        (link_real j q t f.0, (f.1.0, f.1.1, f.1.2, stays_none o (not_old f.1.0 o f.1.1 apart) f.1.3))
+        let apart : f.at ≢ link.at = λ s.
+        let there = subst (λ n. ItemAt c.rooms (suc n) 0) s f.stub_at in
+        link.is_real (at_one c.rooms (suc link.at) r 0 link.room_at there) in
+        record {
+          has = link_real j q t f.has;
+          at = f.at;
+          old_at = f.old_at;
+          stub_at = f.stub_at;
+          null = stays_none o
+              (not_old f.at o f.old_at apart) f.null;
+        }
     link_others j q (PutRead t) ne f = (link_real j q t f.0, f.1)
 
     link_joined : (i a b : ℕ) → ItemAt c.rooms i a → ItemAt c.rooms (suc i) b → Joined (update m.next old (Some r)) (update m.party k (Some linked_party)) a b
-    link_joined i a b ia ib = elim (ℕ_discrete i link.0) [
+    link_joined i a b ia ib = elim (ℕ_discrete i link.at) [
       | yes same ↦
-          let ea : a ≡ old = at_one c.rooms link.0 a old (subst (λ n. ItemAt c.rooms n a) same ia) link.1 in
-          let eb : b ≡ r = at_one c.rooms (suc link.0) b r (subst (λ n. ItemAt c.rooms (suc n) b) same ib) link.2 in
+          let ea : a ≡ old = at_one c.rooms link.at a old (subst (λ n. ItemAt c.rooms n a) same ia) link.old_at in
+          let eb : b ≡ r = at_one c.rooms (suc link.at) b r (subst (λ n. ItemAt c.rooms (suc n) b) same ib) link.room_at
+          in
           inl (ap (update m.next old (Some r)) ea ∙ put_same m.next old (Some r) ∙ ap Some (sym eb))
       | no ne ↦
           let apart = not_old i a ia ne in
@@ -263,9 +326,10 @@ module _ {P E : Type 0} (m : AbstractMachine P E) (c : Chain) (h : List (Event P
 
     pub link_keeps : Meets (link_next m k p old r Rest) c (Event.Link p.name ∷ h)
     link_keeps = record {
-      legal = (open_from h p.name (rank c.rooms (suc link.0)) link.5, M.legal);
+      legal = (open_from h p.name (rank c.rooms (suc link.at)) link.pending, M.legal);
       last = M.last;
-      ends = stays_none m.head (not_old M.last.0 m.head M.last.2 (let l = at_within c.rooms (suc link.0) r link.2 in λ s. absurd (omega (arith, M.last.1)))) M.ends;
+      ends = stays_none m.head (not_old M.last.0 m.head M.last.2
+          (let l = at_within c.rooms (suc link.at) r link.room_at in λ s. absurd (omega (arith, M.last.1)))) M.ends;
       joined = link_joined;
       once = M.once;
       shared = M.shared;
@@ -290,15 +354,22 @@ module _ {P E : Type 0} (m : AbstractMachine P E) (c : Chain) (h : List (Event P
 
   busy_others : (j : ℕ) (q : P) (stage : Stage) → AtStage m.head m.next m.cell c.owner c.keeper c.rooms h j q stage → AtStage m.head m.next m.cell c.owner c.keeper c.rooms (Event.Busy p.name ∷ h) j q stage
   busy_others j q Rest f = f
-  busy_others j q (Cleared x) f = f
-  busy_others j q (Swapped x o) f = f
+  busy_others j q (Cleared x) f = ready_with f f.settled f.ready f.null f.full
+  busy_others j q (Swapped x o) f = open_with f f.null f.pending
   busy_others j q (Holding t) f = busy_keeper j q t f
-  busy_others j q StubNull f = (busy_keeper j q 0 f.0, f.1, (λ s. inr (f.2 s)))
+  busy_others j q StubNull f =
+      record { keeps = busy_keeper j q 0 f.keeps; looked = f.looked; blocked = λ s. inr (f.blocked s) }
   busy_others j q (Second t) f = busy_real j q t f
   busy_others j q (Null t) f = (busy_real j q t f.0, (λ s. inr (f.1 s)))
   busy_others j q (PutClear t) f = (busy_real j q t f.0, f.1)
-  busy_others j q (PutSwap t) f = (busy_real j q t f.0, f.1, f.2)
-  busy_others j q (PutLink t o) f = (busy_real j q t f.0, f.1)
+  busy_others j q (PutSwap t) f = record { has = busy_real j q t f.has; out = f.out; null = f.null }
+  busy_others j q (PutLink t o) f = record {
+    has = busy_real j q t f.has;
+    at = f.at;
+    old_at = f.old_at;
+    stub_at = f.stub_at;
+    null = f.null;
+  }
   busy_others j q (PutRead t) f = (busy_real j q t f.0, f.1)
 
   -- the right is out with another party

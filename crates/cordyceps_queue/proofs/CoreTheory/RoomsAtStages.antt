@@ -49,10 +49,12 @@ module _ {E : Type 0} where
 
     -- the old head
     pub swapped_within : (r old : ℕ) → slice_get m.parties p ≡ Some (Swapped r old) → old < length m.rooms
-    swapped_within r old at = let f = fits m p (Swapped r old) at s.1.owned s.1.chain (reverse s.0) s.1.meets in shared_within m s old (s.1.meets.shared f.0 old f.1)
+    swapped_within r old at = let f = fits m p (Swapped r old) at s.1.owned s.1.chain
+        (reverse s.0) s.1.meets in shared_within m s old (s.1.meets.shared f.at old f.old_at)
 
     pub put_link_within : (t old : ℕ) → slice_get m.parties p ≡ Some (PutLink t old) → old < length m.rooms
-    put_link_within t old at = let f = fits m p (PutLink t old) at s.1.owned s.1.chain (reverse s.0) s.1.meets in shared_within m s old (s.1.meets.shared f.1.0 old f.1.1)
+    put_link_within t old at = let f = fits m p (PutLink t old) at s.1.owned s.1.chain
+        (reverse s.0) s.1.meets in shared_within m s old (s.1.meets.shared f.at old f.old_at)
 
     -- a free room
     pub free_within : (r : ℕ) → slice_get m.parties p ≡ Some Rest → least_free p m.rooms ≡ Some r → (0 < r) × (r < length m.rooms)

@@ -186,7 +186,7 @@ module _ {E : Type 0} where
     take_follows at (Some t) = let w = stays m p Rest at owned m.head None (Holding t) in (w.0, refl, refl, w.1)
 
     swap_follows : (r : ℕ) (at : slice_get m.parties p ≡ Some (Cleared r)) (o : Option E) → element_in (slice_get m.rooms r) ≡ o → Follows m p (Cleared r) step.Swap (words.swaps (abstract_of m) p (me_of m p (Cleared r)) r o) (core.swap m p r (Swapped r m.head))
-    swap_follows r at None full = let f = fits m p (Cleared r) at owned c h M in absurd (none_some (sym full ∙ f.5))
+    swap_follows r at None full = let f = fits m p (Cleared r) at owned c h M in absurd (none_some (sym full ∙ f.full))
     swap_follows r at (Some e) full = let w = stays m p (Cleared r) at owned r m.right (Swapped r m.head) in (w.0, refl, ap (core.comes_in p) full, w.1)
 
     -- the tail of a party with the right is a room of the chain
@@ -219,7 +219,7 @@ module _ {E : Type 0} where
     acts_follow (Cleared r) at step.Swap = swap_follows r at (element_in (slice_get m.rooms r)) refl
     acts_follow (Swapped r old) at step.Link =
         let f = fits m p (Swapped r old) at owned c h M in
-        let there = made m p (Swapped r old) at owned c h M old (λ e. shared_unmade (M.shared f.0 old f.1) e) in
+        let there = made m p (Swapped r old) at owned c h M old (λ e. shared_unmade (M.shared f.at old f.old_at) e) in
         let w = links m p (Swapped r old) at owned old there.0 (Some r) Rest there.1 in
         (w.0, refl, refl, w.1)
     acts_follow (Holding t) at step.ReadNext = look_follows t at (next_in (slice_get m.rooms t)) refl
@@ -234,7 +234,7 @@ module _ {E : Type 0} where
     acts_follow (PutSwap t) at step.Swap = let w = stays m p (PutSwap t) at owned 0 m.right (PutLink t m.head) in (w.0, refl, refl, w.1)
     acts_follow (PutLink t old) at step.Link =
         let f = fits m p (PutLink t old) at owned c h M in
-        let there = made m p (PutLink t old) at owned c h M old (λ e. shared_unmade (M.shared f.1.0 old f.1.1) e) in
+        let there = made m p (PutLink t old) at owned c h M old (λ e. shared_unmade (M.shared f.at old f.old_at) e) in
         let w = links m p (PutLink t old) at owned old there.0 (Some 0) (PutRead t) there.1 in
         (w.0, refl, refl, w.1)
     acts_follow (PutRead t) at step.ReadNext = read_again_follows t at (next_in (slice_get m.rooms t))

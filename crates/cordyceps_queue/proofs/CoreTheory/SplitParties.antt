@@ -9,7 +9,7 @@ use Rattle.cordyceps_queue.specs.declared.cores.stage.Stage.TheVariants.{Rest, C
 use Rattle.cordyceps_shared.specs.Places.{ItemAt}
 use Rattle.cordyceps_queue.specs.Cores.Meets.{Owner, Shared, Spare, Ready, Unmade, Owes, tail_of, Chain, OwnsRooms, Joined, AtStage, RightIs, Meets}
 use Rattle.cordyceps_queue.specs.Cores.Abstract.{AbstractParty, AbstractMachine, update}
-use Rattle.cordyceps_queue.proofs.CoreTheory.Basics.{none_some, put_same, put_other}
+use Rattle.cordyceps_queue.proofs.CoreTheory.Basics.{ready_with, none_some, put_same, put_other}
 use Rattle.cordyceps_queue.proofs.CoreTheory.ProducerSteps.{spare_shared, ready_spare, spare_unmade}
 use Rattle.cordyceps_queue.proofs.SharedTheory.EnqueueKeeps.{spare_one}
 
@@ -80,7 +80,7 @@ deal_both owner a b xs ys ne R S = record {
 module _ {P E : Type 0} (m : AbstractMachine P E) (c : Chain) (h : List (Event P E)) (owner : ℕ → Owner) (ready : (r j : ℕ) → c.owner r ≡ Ready j → owner r ≡ Ready j) where
   pub fits_dealt : (j : ℕ) (q : P) (stage : Stage) → AtStage m.head m.next m.cell c.owner c.keeper c.rooms h j q stage → AtStage m.head m.next m.cell owner c.keeper c.rooms h j q stage
   fits_dealt j q Rest f = f
-  fits_dealt j q (Cleared x) f = (f.0, ready x j f.1, f.2, f.3, f.4, f.5)
+  fits_dealt j q (Cleared x) f = ready_with f f.settled (ready x j f.ready) f.null f.full
   fits_dealt j q (Swapped x old) f = f
   fits_dealt j q (Holding t) f = f
   fits_dealt j q StubNull f = f

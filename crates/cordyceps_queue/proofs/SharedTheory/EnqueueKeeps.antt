@@ -158,13 +158,15 @@ module _ {E : Type 0} (s : TableState E) (k : PlainHolds s) (id : ℕ) (v : View
     ]
 
     swap_empty : EmptyAtHome homes_swap v.free
-    swap_empty i x ix = set_else s.homes r x (some (Some e)) (λ same. ready_spare known.1 (ap k.chain.owner (sym same) ∙ free_spare s k id v i x at named ix)) ∙ k.empty id v at named i x ix
+    swap_empty i x ix = set_else s.homes r x (some (Some e))
+        (λ same. ready_spare known.ready (ap k.chain.owner (sym same) ∙ free_spare s k id v i x at named ix))
+        ∙ k.empty id v at named i x ix
 
     swap_kept : Becomes s k v swap_view record { words = words_swap; homes = homes_swap; views = set s.views id swap_view } × Sees v (Event.Swap (name v) e ∷ []) swap_view
     swap_kept = keeps_rule s k id (Event.Swap (name v) e ∷ []) v swap_view words_swap homes_swap k.cell (chain_after_swap m k.chain past k.meets id (party v) here r e ready has) (swap_head m id (party v) r (Swapped r found_word))
         at named (refl, tt) refl swap_machine (swap_keeps m k.chain past k.meets id (party v) here r e ready has)
         (length-set s.words HEAD r) (length-set s.homes r (some (Some e))) swap_full
-        (empties s k id r (some (Some e)) swap_view swap_empty (λ j ne mine. ready_spare known.1 mine))
+        (empties s k id r (some (Some e)) swap_view swap_empty (λ j ne mine. ready_spare known.ready mine))
         (readies_same s k id swap_view (λ q is. cc)) (linkeds_low s k id HEAD r swap_view (omega arith) (k.linked id v at named))
         refl (λ i x ix. elim (at_split k.chain.rooms r i x ix) [ inl a ↦ inr (i, a) | inr a ↦ inl (a.1 ∙ sym (head_set s.words r (let w = wide_words in omega arith))) ]) (λ i x ix. inl (i, ix))
         record {
@@ -172,13 +174,14 @@ module _ {E : Type 0} (s : TableState E) (k : PlainHolds s) (id : ℕ) (v : View
           links = λ x pooled. next_low s.words HEAD r (omega arith) x;
           slots = λ x pooled. set_else s.homes r x (some (Some e)) (not_mine x pooled);
           even =
-              let one = ap (λ (l : List ℕ). length l) (real_more k.chain.rooms (r ∷ []) ∙ ap (λ l. real k.chain.rooms ++ l) (real_one r known.2)) in
+              let one = ap (λ (l : List ℕ). length l) (real_more k.chain.rooms (r ∷ [])
+              ∙ ap (λ l. real k.chain.rooms ++ l) (real_one r known.is_real)) in
               let long = length-append (real k.chain.rooms) (r ∷ []) in
               let cleared = ap cleared_count ready in omega arith;
         }
       where
         not_mine : (x : ℕ) → k.chain.owner x ≡ Pooled → x ≢ r
-        not_mine x pooled same = ready_pooled known.1 (ap k.chain.owner (sym same) ∙ pooled)
+        not_mine x pooled same = ready_pooled known.ready (ap k.chain.owner (sym same) ∙ pooled)
 
   -- ---- the store of the link
   module _ (r old : ℕ) (waits : v.stage ≡ Swapped r old) (inside : old < length s.homes) where
@@ -199,7 +202,8 @@ module _ {E : Type 0} (s : TableState E) (k : PlainHolds s) (id : ℕ) (v : View
     }
 
     old_shared : k.chain.owner old ≡ Shared
-    old_shared = let f = subst (AtStage m.head m.next m.cell k.chain.owner k.chain.keeper k.chain.rooms past id (name v)) waits (k.meets.fits id (party v) here) in k.meets.shared f.0 old f.1
+    old_shared = let f = subst (AtStage m.head m.next m.cell k.chain.owner k.chain.keeper k.chain.rooms past id
+        (name v)) waits (k.meets.fits id (party v) here) in k.meets.shared f.at old f.old_at
 
     link_kept : Becomes s k v link_view record { words = words_link; homes = s.homes; views = set s.views id link_view } × Sees v (Event.Link (name v) ∷ []) link_view
     link_kept = keeps_rule s k id (Event.Link (name v) ∷ []) v link_view words_link s.homes k.cell k.chain (link_next m id (party v) old r Rest)

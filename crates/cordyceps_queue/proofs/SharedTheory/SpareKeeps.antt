@@ -21,7 +21,7 @@ use Rattle.cordyceps_queue.specs.Cores.Meets.{Spare, Shared, Pooled, Owed, Chain
 use Rattle.cordyceps_queue.specs.Cores.Abstract.{AbstractMachine, update}
 use Rattle.cordyceps_queue.specs.Shared.Rule.{TableState, link_of, party, party_of, machine_of, AreLinked, PlainHolds}
 use Rattle.cordyceps_queue.specs.Shared.View.{View, knows}
-use Rattle.cordyceps_queue.proofs.CoreTheory.Basics.{put_other, at_within, at_more}
+use Rattle.cordyceps_queue.proofs.CoreTheory.Basics.{open_with, ready_with, put_other, at_within, at_more}
 use Rattle.cordyceps_queue.proofs.CoreTheory.ProducerSteps.{spare_shared, spare_pooled, ready_spare}
 use Rattle.cordyceps_queue.proofs.SharedTheory.WordsAsMachine.{at_after, links_put, parties_put, core, party_at, rooms_of, free_spare, empties_same, linked_else, linkeds, linkeds_same, pool_stays, count_same, spent_else, Stays}
 use Rattle.cordyceps_queue.proofs.SharedTheory.EnqueueKeeps.{spare_one}
@@ -37,15 +37,22 @@ module _ {P E : Type 0} (m : AbstractMachine P E) (c : Chain) (h : List (Event P
 
   others : (j : ℕ) (name : P) (stage : Stage) → AtStage m.head m.next m.cell c.owner c.keeper c.rooms h j name stage → AtStage m.head (update m.next r o) m.cell c.owner c.keeper c.rooms h j name stage
   others j name Rest f = f
-  others j name (Cleared x) f = (f.0, f.1, f.2, still x (λ e. ready_spare f.1 (ap c.owner e ∙ mine)) f.3, f.4, f.5)
-  others j name (Swapped x old) f = (f.0, f.1, f.2, f.3, still old (away old (M.shared f.0 old f.1)) f.4, f.5)
+  others j name (Cleared x) f = ready_with f f.settled f.ready
+      (still x (λ e. ready_spare f.ready (ap c.owner e ∙ mine)) f.null) f.full
+  others j name (Swapped x old) f = open_with f (still old (away old (M.shared f.at old f.old_at)) f.null) f.pending
   others j name (Holding t) f = f
   others j name StubNull f = f
   others j name (Second t) f = f
   others j name (Null t) f = f
   others j name (PutClear t) f = f
-  others j name (PutSwap t) f = (f.0, f.1, still 0 (away 0 M.stub) f.2)
-  others j name (PutLink t old) f = (f.0, (f.1.0, f.1.1, f.1.2, still old (away old (M.shared f.1.0 old f.1.1)) f.1.3))
+  others j name (PutSwap t) f = record { has = f.has; out = f.out; null = still 0 (away 0 M.stub) f.null }
+  others j name (PutLink t old) f = record {
+    has = f.has;
+    at = f.at;
+    old_at = f.old_at;
+    stub_at = f.stub_at;
+    null = still old (away old (M.shared f.at old f.old_at)) f.null;
+  }
   others j name (PutRead t) f = f
 
   relink_keeps : Meets (record m { next = update m.next r o }) c h

@@ -72,11 +72,17 @@ module _ {E : Type 0} (s : TableState E) (k : PlainHolds s) (id : ℕ) (v : View
     looks_stub_bare slots deep zero e =
         let nothing : (a b : ℕ) → Owes v.stage a b → ⊥ = λ a b o. subst (λ l. Owes l a b) holding o in
         let open_link : core.next 0 ≡ None = ap link_of e in
-        let met = stage_keeps core k.chain (look ∷ past) looked id (party v) is_there 0 (ap tail_of holding) StubNull refl (λ a b o. nothing a b o) (
-          keeping core k.chain (look ∷ past) looked id (party v) is_there 0 (ap tail_of holding),
-          inl refl,
-          (λ far. inl (inl refl, open_blocks core k.chain (look ∷ past) looked id (party v) is_there 0 (ap tail_of holding) nothing open_link far)),
-        ) in
+        let met = stage_keeps core k.chain (look ∷ past) looked id (party v) is_there 0
+        (ap tail_of holding) StubNull refl (λ a b o. nothing a b o) record {
+          keeps = keeping core k.chain (look ∷ past) looked id (party v) is_there 0 (ap tail_of holding);
+          looked = inl refl;
+          blocked = λ far.
+              let has = ap tail_of holding in
+              let at_open = open_blocks core k.chain (look ∷ past) looked id
+              (party v) is_there 0 has nothing open_link far
+              in
+              inl (inl refl, at_open);
+        } in
         let r = reads s k id v at named bare (look ∷ []) (refl, tt) StubNull k.chain met (same_rooms s k id v at named bare) (λ q is. cc) (ap cleared_count holding) refl (λ x pooled. pooled) LINKS in
         (view (look ∷ []) StubNull, keeps, tt, r.0, λ _. ((λ _. stood s k id v at named bare (look ∷ []) StubNull r.1), λ r' f. absurd (zero_suc (sym e ∙ f))))
     looks_stub_bare slots deep (suc r) e =
@@ -113,7 +119,8 @@ module _ {E : Type 0} (s : TableState E) (k : PlainHolds s) (id : ℕ) (v : View
         let r = reads s k id v at named bare (x ∷ []) (refl, tt) (Holding 0) k.chain met (same_rooms s k id v at named bare) (λ q is. cc) (ap cleared_count at_null) refl (λ x pooled. pooled) HEAD in
         (view (x ∷ []) (Holding 0), keeps, tt, r.0, λ _. ((λ _. stood s k id v at named bare (x ∷ []) (Holding 0) r.1), λ ne. absurd (ne e)))
     heads_stub_bare slots (no ne) =
-        let c = fails 0 HEAD (ap tail_of at_null) (λ a b o. subst (λ l. Owes l a b) at_null o) ((fits_at StubNull at_null).2 ne) in
+        let c = fails 0 HEAD (ap tail_of at_null) (λ a b o. subst (λ l. Owes l a b) at_null o)
+        ((fits_at StubNull at_null).blocked ne) in
         (c.0, c.1, c.2, c.3, λ _. ((λ e. absurd (ne e)), λ _. c.4))
 
   module _ (t : ℕ) (at_null : v.stage ≡ Null t) where
@@ -188,7 +195,7 @@ module _ {E : Type 0} (s : TableState E) (k : PlainHolds s) (id : ℕ) (v : View
       (LINKS + old) 1 (λ _. MovesTo [] (PutRead t) (v, []))
   links_stub_bare t old l inside =
       let f = fits_at (PutLink t old) l in
-      let shared = k.meets.shared f.1.0 old f.1.1 in
+      let shared = k.meets.shared f.at old f.old_at in
       let r = stores (PutRead t) k.chain (link_next core id (party v) old 0 (PutRead t)) (LINKS + old) 1 (linkeds s k id old 1 (view [] (PutRead t)) (own_links s k id old 1 v at named (λ mine. spare_shared mine shared)) (λ j ne mine. spare_shared mine shared)) spelled (link_stub_keeps core k.chain past k.meets id (party v) is_there t old l) k.full (λ q is. cc) (λ j x jx. inr (j, jx))
       (ap cleared_count l) refl (λ x pooled. pooled) (λ x pooled. next_beside_next s.words old x 1 (λ same. shared_pooled shared (ap k.chain.owner (sym same) ∙ pooled))) in
       (view [] (PutRead t), keeps, tt, r.0, stood s k id v at named bare [] (PutRead t) r.1)

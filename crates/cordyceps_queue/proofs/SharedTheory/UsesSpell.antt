@@ -37,31 +37,40 @@ module _ {P E : Type 0} (head : ℕ) (next : ℕ → Option ℕ) (cell : ℕ →
 
   pub known_place : (stage : Stage) (x : ℕ) → AtStage head next cell owner keeper rooms h j n stage → Knows stage x → Place rooms owner keeper j x
   known_place Rest x f o = absurd o
-  known_place (Cleared r) x f o = inr (inl (ap owner o ∙ f.1))
-  known_place (Swapped r old) x f o = elim o [ inl is ↦ in_chain (suc f.0) r x f.2 is | inr is ↦ in_chain f.0 old x f.1 is ]
+  known_place (Cleared r) x f o = inr (inl (ap owner o ∙ f.ready))
+  known_place (Swapped r old) x f o = elim o [
+    | inl is ↦ in_chain (suc f.at) r x f.room_at is
+    | inr is ↦ in_chain f.at old x f.old_at is
+  ]
   known_place (Holding t) x f o = in_chain 0 t x f.tail o
-  known_place StubNull x f o = in_chain 0 0 x f.0.tail o
+  known_place StubNull x f o = in_chain 0 0 x f.keeps.tail o
   known_place (Second t) x f o = in_chain 0 t x f.keeps.tail o
   known_place (Null t) x f o = in_chain 0 t x f.0.keeps.tail o
   known_place (PutClear t) x f o = in_chain 0 t x f.0.keeps.tail o
-  known_place (PutSwap t) x f o = elim o [ inl is ↦ in_chain 0 t x f.0.keeps.tail is | inr is ↦ inr (inr (is, f.0.keeps.kept)) ]
+  known_place (PutSwap t) x f o = elim o [
+    | inl is ↦ in_chain 0 t x f.has.keeps.tail is
+    | inr is ↦ inr (inr (is, f.has.keeps.kept))
+  ]
   known_place (PutLink t old) x f o = elim o [
-    | inl is ↦ in_chain 0 t x f.0.keeps.tail is
-    | inr rest ↦ elim rest [ inl is ↦ in_chain (suc f.1.0) 0 x f.1.2 is | inr is ↦ in_chain f.1.0 old x f.1.1 is ]
+    | inl is ↦ in_chain 0 t x f.has.keeps.tail is
+    | inr rest ↦ elim rest [
+      | inl is ↦ in_chain (suc f.at) 0 x f.stub_at is
+      | inr is ↦ in_chain f.at old x f.old_at is
+    ]
   ]
   known_place (PutRead t) x f o = in_chain 0 t x f.0.keeps.tail o
 
   -- a room that a party has begun to use is not in the queue, and its link is null
   pub begun_place : (stage : Stage) (x : ℕ) → AtStage head next cell owner keeper rooms h j n stage → Begun stage x → ((owner x ≡ Ready j) ⊎ ((x ≡ 0) × (keeper ≡ Some j) × IsOut rooms)) × (next x ≡ None)
   begun_place Rest x f o = absurd o
-  begun_place (Cleared r) x f o = (inl (ap owner o ∙ f.1), ap next o ∙ f.3)
+  begun_place (Cleared r) x f o = (inl (ap owner o ∙ f.ready), ap next o ∙ f.null)
   begun_place (Swapped r old) x f o = absurd o
   begun_place (Holding t) x f o = absurd o
   begun_place StubNull x f o = absurd o
   begun_place (Second t) x f o = absurd o
   begun_place (Null t) x f o = absurd o
   begun_place (PutClear t) x f o = absurd o
-  begun_place (PutSwap t) x f o = (inr (o, f.0.keeps.kept, f.1), ap next o ∙ f.2)
+  begun_place (PutSwap t) x f o = (inr (o, f.has.keeps.kept, f.out), ap next o ∙ f.null)
   begun_place (PutLink t old) x f o = absurd o
   begun_place (PutRead t) x f o = absurd o
 

@@ -207,14 +207,15 @@ module _ {E : Type 0} where
       let f = subst (AtStage (core q k.plain).head (core q k.plain).next k.plain.cell k.plain.chain.owner k.plain.chain.keeper k.plain.chain.rooms (reverse (events k.plain.history)) id (name me.0)) waits (at_stage_of q k.plain id me.0 at named) in
       let homes = homes_after s.homes me.1 b.1 in
       let kept : RuleHolds record { words = set s.words (LINKS + old) n; homes = homes; views = set s.views id w } =
-      link_kept s k id me.0 at named r old n f.0 w homes is_n (subst (λ l. Knows l r) (sym waits) (inl refl)) (subst (λ l. Knows l old) (sym waits) (inr refl)) f.1 (omega arith)
+      link_kept s k id me.0 at named r old n f.at w homes is_n (subst (λ l. Knows l r) (sym waits) (inl refl))
+      (subst (λ l. Knows l old) (sym waits) (inr refl)) f.old_at (omega arith)
       (subst (λ j. Becomes q k.plain me.0 w record {
         words = set k.words j (suc r);
         homes = homes;
         views = set s.views
             id w;
       }) is b.3) (calm_at told.stage (λ x o. o))
-      (apart_same s k id me.0 at named w old f.0 told.free told.back f.1) in (
+      (apart_same s k id me.0 at named w old f.at told.free told.back f.old_at) in (
         w,
         b.1,
         b.2,
@@ -282,11 +283,12 @@ module _ {E : Type 0} (slots id : ℕ) (me : SeatState E) (hand : me.1 ≡ carry
       let homes = homes_after s.homes me.1 b.1 in
       let z = stepped q i 1 id me.1 w b.1 in
       let kept : RuleHolds record { words = set s.words (LINKS + old) n; homes = homes; views = set s.views id w } =
-      link_kept s k id me.0 at named 0 old n f.1.0 w homes is_n (subst (λ l. Knows l 0) (sym waits) (inr (inl refl))) (subst (λ l. Knows l old) (sym waits) (inr (inr refl))) f.1.1 (omega arith)
+      link_kept s k id me.0 at named 0 old n f.at w homes is_n (subst (λ l. Knows l 0) (sym waits) (inr (inl refl)))
+      (subst (λ l. Knows l old) (sym waits) (inr (inr refl))) f.old_at (omega arith)
       (subst (λ j. Becomes q k.plain me.0 w record { words = set k.words j 1; homes = homes; views = set s.views id w })
       is b.3) (calm_at told.stage (λ x o. o))
-      (λ j a. spare_not_in q k.plain id old f.1.0 ((rooms_of q k.plain id me.0 at named).own j old
-      (subst (λ l. ItemAt l j old) (ap (λ l. w.free ++ l) told.back ∙ (append-nil w.free ∙ told.free)) a)) f.1.1) in (
+      (λ j a. spare_not_in q k.plain id old f.at ((rooms_of q k.plain id me.0 at named).own j old
+      (subst (λ l. ItemAt l j old) (ap (λ l. w.free ++ l) told.back ∙ (append-nil w.free ∙ told.free)) a)) f.old_at) in (
         w,
         b.1,
         b.2,

@@ -249,7 +249,9 @@ module _ {E : Type 0} where
     -- the cleared room of another party, or of this one before the step, is that party's alone
     ready_owner : (j : ℕ) (u : View E) (r : ℕ) → get_elem? s.views j ≡ some u → u.known.share ≢ [] → u.stage ≡ Cleared r → k.chain.owner r ≡ Ready j
     ready_owner j u r at some_name is =
-        (subst (AtStage core.head core.next core.cell k.chain.owner k.chain.keeper k.chain.rooms (reverse (events k.history)) j (party u).name) is (k.meets.fits j (party u) (party_at j u at some_name))).1
+        (subst (AtStage core.head core.next core.cell k.chain.owner k.chain.keeper k.chain.rooms
+        (reverse (events k.history)) j (party u).name) is
+        (k.meets.fits j (party u) (party_at j u at some_name))).ready
 
     -- what rooms have changes in one room, which no other party has cleared, or in none
     pub readies : (id r : ℕ) (y : Option E) (w : View E) → ((q : ℕ) → w.stage ≡ Cleared q → update k.cell r y q ≡ w.item) → ((j : ℕ) → j ≢ id → k.chain.owner r ≡ Ready j → ⊥) → AllReady (update k.cell r y) (set s.views id w)

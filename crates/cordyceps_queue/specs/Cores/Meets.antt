@@ -92,24 +92,63 @@ pub record Real {P E : Type 0} (keeper : Option ℕ) (rooms : List ℕ) (h : Lis
   pub is_real : t ≢ 0
   pub looked : HasLooked name h
 
+-- the party k with this name has cleared room r, which has an element
+pub record HasReady {P E : Type 0} (next : ℕ → Option ℕ) (cell : ℕ → Option E) (owner : ℕ → Owner)
+    (h : List (Event P E)) (k : ℕ) (name : P) (r : ℕ) : Type 0 where
+  pub settled : IsSettled name h
+  pub ready : owner r ≡ Ready k
+  pub is_real : r ≢ 0
+  pub null : next r ≡ None
+  pub element : E
+  pub full : cell r ≡ Some element
+
+-- the party with this name has put room r in behind old, which is yet to lead to it
+pub record HasOpen {P E : Type 0} (next : ℕ → Option ℕ) (rooms : List ℕ) (h : List (Event P E)) (name : P)
+    (r old : ℕ) : Type 0 where
+  pub at : ℕ
+  pub old_at : ItemAt rooms at old
+  pub room_at : ItemAt rooms (suc at) r
+  pub is_real : r ≢ 0
+  pub null : next old ≡ None
+  pub pending : IsPendingAt name (rank rooms (suc at)) h
+
+-- the party k with this name found that the stub, which is the tail, leads to no room
+pub record HasNull {P E : Type 0} (head : ℕ) (keeper : Option ℕ) (rooms : List ℕ) (h : List (Event P E)) (k : ℕ)
+    (name : P) : Type 0 where
+  pub keeps : Keeps keeper rooms h k name 0
+  pub looked : HasLooked name h
+  pub blocked : head ≢ 0 → WasBlockedReversed name h
+
+-- the party k with this name has cleared the stub, which is in no chain
+pub record HasClearStub {P E : Type 0} (next : ℕ → Option ℕ) (keeper : Option ℕ) (rooms : List ℕ)
+    (h : List (Event P E)) (k : ℕ) (name : P) (t : ℕ) : Type 0 where
+  pub has : Real keeper rooms h k name t
+  pub out : IsOut rooms
+  pub null : next 0 ≡ None
+
+-- it has put the stub in behind old, which is yet to lead to it
+pub record HasOpenStub {P E : Type 0} (next : ℕ → Option ℕ) (keeper : Option ℕ) (rooms : List ℕ)
+    (h : List (Event P E)) (k : ℕ) (name : P) (t old : ℕ) : Type 0 where
+  pub has : Real keeper rooms h k name t
+  pub at : ℕ
+  pub old_at : ItemAt rooms at old
+  pub stub_at : ItemAt rooms (suc at) 0
+  pub null : next old ≡ None
+
 module _ {P E : Type 0} (head : ℕ) (next : ℕ → Option ℕ) (cell : ℕ → Option E) (owner : ℕ → Owner) (keeper : Option ℕ)
     (rooms : List ℕ) (h : List (Event P E)) where
   -- what holds of party k at this stage
   abbrev pub AtStage : ℕ → P → Stage → Type 0
   AtStage k name Rest = IsSettled name h
-  AtStage k name (Cleared r) =
-      IsSettled name h × (owner r ≡ Ready k) × (r ≢ 0) × (next r ≡ None) × (e : E) × (cell r ≡ Some e)
-  AtStage k name (Swapped r old) =
-      (i : ℕ) × ItemAt rooms i old × ItemAt rooms (suc i) r × (r ≢ 0) × (next old ≡ None)
-      × IsPendingAt name (rank rooms (suc i)) h
+  AtStage k name (Cleared r) = HasReady next cell owner h k name r
+  AtStage k name (Swapped r old) = HasOpen next rooms h name r old
   AtStage k name (Holding t) = Keeps keeper rooms h k name t
-  AtStage k name StubNull = Keeps keeper rooms h k name 0 × HasLooked name h × (head ≢ 0 → WasBlockedReversed name h)
+  AtStage k name StubNull = HasNull head keeper rooms h k name
   AtStage k name (Second t) = Real keeper rooms h k name t
   AtStage k name (Null t) = Real keeper rooms h k name t × (head ≢ t → WasBlockedReversed name h)
   AtStage k name (PutClear t) = Real keeper rooms h k name t × IsOut rooms
-  AtStage k name (PutSwap t) = Real keeper rooms h k name t × IsOut rooms × (next 0 ≡ None)
-  AtStage k name (PutLink t old) =
-      Real keeper rooms h k name t × ((i : ℕ) × ItemAt rooms i old × ItemAt rooms (suc i) 0 × (next old ≡ None))
+  AtStage k name (PutSwap t) = HasClearStub next keeper rooms h k name t
+  AtStage k name (PutLink t old) = HasOpenStub next keeper rooms h k name t old
   AtStage k name (PutRead t) = Real keeper rooms h k name t × (head ≢ t)
 
 -- the right is out with a party, or it is the tail's room and 1
